@@ -1,0 +1,11 @@
+//! Raw memory that a contract sees as a list of bytes.
+//!
+//! A block's length is fixed when it is made, and its bytes begin as zeros. A word is eight bytes, little-endian.
+#![tactic(auto)]
+
+mod block;
+
+pub use block::Block;
+
+#[cfg(test)]
+mod tests;

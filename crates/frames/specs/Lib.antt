@@ -1,0 +1,5 @@
+pub mod Fault
+pub mod Frames
+pub mod Fields
+pub mod Reading
+pub mod Order

@@ -1,0 +1,44 @@
+ghost use Rattle.std.specs.Prelude.{◌≡◌};
+ghost use Rattle.frames.specs.Fault.{text_of};
+
+use thiserror::Error;
+
+/// Why bytes are no frame, or no datagram.
+#[derive(Clone, Copy, Debug, PartialEq, Eq, Error)]
+#[error("{}", self.text())]
+pub enum FrameError {
+    /// There are fewer bytes than the frame has.
+    Short,
+    /// The version isn't 0.
+    Version,
+    /// The type isn't one of the table.
+    Kind,
+    /// The frame length isn't one that the type may have.
+    Length,
+    /// The flags aren't some that the type may have.
+    Flags,
+    /// The term offset isn't a multiple of 32, or a byte between a payload and the next multiple of 32 isn't 0.
+    Alignment,
+    /// The term offset is negative, or the frame ends above 16,777,216.
+    Range,
+    /// The frame can't stand at its place in a datagram, or bytes stand after a frame that must be the last.
+    Datagram,
+}
+
+impl FrameError {
+    /// The code and the name that a user sees.
+    pub fn text(self) -> &'static str
+        ensures { result.now ≡ text_of self }
+    {
+        match self {
+            FrameError::Short => "F1 short",
+            FrameError::Version => "F2 version",
+            FrameError::Kind => "F3 type",
+            FrameError::Length => "F4 length",
+            FrameError::Flags => "F5 flags",
+            FrameError::Alignment => "F6 alignment",
+            FrameError::Range => "F7 range",
+            FrameError::Datagram => "F8 datagram",
+        }
+    }
+}

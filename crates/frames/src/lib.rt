@@ -1,0 +1,21 @@
+//! The frames of the wire: what a frame is, and its bytes.
+//!
+//! A frame is read from the front of a list of bytes, checked as part of a datagram, and written into the front of a
+//! buffer. All numbers are little-endian. No call takes memory, and no payload is copied but by [`write_frame`].
+#![tactic(auto)]
+
+mod datagram;
+mod fault;
+mod fields;
+mod frame;
+mod reading;
+mod writing;
+
+pub use datagram::check_datagram;
+pub use fault::FrameError;
+pub use frame::{BEGIN, END, Frame, Header, Nak, Setup, Status, UNFRAGMENTED};
+pub use reading::read_frame;
+pub use writing::write_frame;
+
+#[cfg(test)]
+mod tests;

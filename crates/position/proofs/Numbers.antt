@@ -1,0 +1,48 @@
+-- Powers of two, and signed sums that fit.
+use Rattle.std.proofs.Common.{◌≡◌, ℕ, suc, ◌+◌, ◌≤◌, ◌<◌, ◌^◌, ◌/◌, ◌*◌, ℤ, pos, ◌+ℤ◌, ◌*ℤ◌, arith, sym, refl, ◌∙◌, subst, inl, inr, max, rules}
+use Rattle.std.proofs.lemmas.Int.{ints, to_z-of_z, fits_signed_mul, unsigned_abs-mul}
+use Rattle.std.proofs.lemmas.Bool.{cases_lt}
+use Rattle.std.proofs.Math.Pow.{pow_mono}
+use Rattle.std.proofs.Math.Nat.{two-pow-succ, mul-le-mul}
+use Rattle.std.specs.Int.{w32, w64, IsPowerOfTwo}
+use Rattle.std.specs.Int.RustNames.{FitsSigned, unsigned_abs}
+use Rattle.theory.specs.Position.{Geometry, count_of, position_of}
+use mir.Val.{to_z, of_z, SFits}
+
+magnitude : (a : ℤ) → SFits w32 a → unsigned_abs a ≤ 2 ^ 31
+magnitude a f = search (rules, f)
+
+product_bound : (a b : ℤ) → unsigned_abs a ≤ 2 ^ 31 → unsigned_abs b ≤ 2 ^ 24 → unsigned_abs (a *ℤ b) ≤ 2 ^ 31 * 2 ^ 24
+product_bound a b na nb = rw (unsigned_abs-mul a b) (mul-le-mul na nb)
+
+sum_fits : (p o : ℤ) → unsigned_abs p ≤ 2 ^ 31 * 2 ^ 24 → SFits w32 o → SFits w64 (p +ℤ o)
+sum_fits p o np fo = search rules
+
+-- computed in 64 bits, a product and a sum of numbers of 32 bits are what they are
+pub as_they_are : (a b o : ℤ) → SFits w32 a → SFits w64 b → unsigned_abs b ≤ 2 ^ 24 → SFits w32 o → to_z w64 (of_z w64 (to_z w64 (of_z w64 (to_z w64 (of_z w64 a) *ℤ to_z w64 (of_z w64 b))) +ℤ to_z w64 (of_z w64 o))) ≡ (a *ℤ b) +ℤ o
+as_they_are a b o fa b64 nb fo =
+    let a64 : SFits w64 a = search rules in
+    let o64 : SFits w64 o = search rules in
+    let p64 : SFits w64 (a *ℤ b) = fits_signed_mul w64 a b (2 ^ 31) (2 ^ 24) (magnitude a fa) nb (omega arith) in
+    let s64 : SFits w64 ((a *ℤ b) +ℤ o) = sum_fits (a *ℤ b) o (product_bound a b (magnitude a fa) nb) fo in
+    rw (to_z-of_z w64 a a64, to_z-of_z w64 b b64, to_z-of_z w64 (a *ℤ b) p64, to_z-of_z w64 o o64, to_z-of_z w64 ((a *ℤ b) +ℤ o) s64) refl
+
+power_step : (j : ℕ) → 2 ^ suc j ≡ 2 ^ j + 2 ^ j
+power_step j = two-pow-succ j
+
+-- powers that are less than twice apart are one
+pub same_power : (m n : ℕ) → IsPowerOfTwo m → IsPowerOfTwo n → n ≤ m → m / 2 < n → m ≡ n
+same_power m n (i, pm) (j, pn) le below =
+    elim (cases_lt j i) [
+      | inl h ↦
+          let more : 2 ^ suc j ≤ 2 ^ i = pow_mono h in
+          let step : 2 ^ suc j ≡ 2 ^ j + 2 ^ j = power_step j in
+          absurd (omega arith)
+      | inr h ↦
+          let less : 2 ^ i ≤ 2 ^ j = pow_mono h in
+          omega arith
+    ]
+
+-- a position, from the parts that the code multiplies and adds
+pub placed : (g : Geometry) (id offset a b o : ℤ) → a ≡ count_of g id → b ≡ pos g.term_length → o ≡ offset → (a *ℤ b) +ℤ o ≡ position_of g id offset
+placed g id offset a b o ea eb eo = rw (ea, eb, eo) refl

@@ -1,0 +1,26 @@
+ghost use Rattle.std.specs.Prelude.{◌≡◌};
+ghost use Rattle.position.specs.Fault.{text_of};
+
+use thiserror::Error;
+
+/// Why a geometry is refused.
+#[derive(Clone, Copy, Debug, PartialEq, Eq, Error)]
+#[error("{}", self.text())]
+pub enum GeometryError {
+    /// The term length isn't a power of two from 65,536 to 16,777,216.
+    TermLength,
+    /// The MTU isn't a multiple of 32 from 256 to 65,504 and at most an eighth of the term length.
+    Mtu,
+}
+
+impl GeometryError {
+    /// The code and the name that a user sees.
+    pub fn text(self) -> &'static str
+        ensures { result.now ≡ text_of self }
+    {
+        match self {
+            GeometryError::TermLength => "G1 term length",
+            GeometryError::Mtu => "G2 mtu",
+        }
+    }
+}

@@ -1,0 +1,16 @@
+//! The arithmetic of a stream's positions: terms, offsets, and what messages cover.
+//!
+//! A stream is a run of terms of one length. A position counts bytes from the start of the first term; the term id
+//! of the first term is the initial term id, and ids wrap. No call takes memory.
+#![tactic(auto)]
+
+mod fault;
+mod geometry;
+mod lengths;
+
+pub use fault::GeometryError;
+pub use geometry::{Geometry, Place};
+pub use lengths::{align32, partition_of};
+
+#[cfg(test)]
+mod tests;

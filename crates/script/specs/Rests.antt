@@ -1,0 +1,11 @@
+-- What the readers of lines and words have still to give.
+use Rattle.std.specs.Prelude.{ℕ, List, [], Option, Some, None}
+use Rattle.script.specs.declared.pieces.Lines.{Lines}
+use Rattle.script.specs.declared.pieces.Words.{Words}
+use Rattle.script.specs.Pieces.{lines, words}
+
+abbrev pub lines_left : Lines → List (List ℕ)
+lines_left reader = lines reader.rest.now
+
+abbrev pub words_left : Words → List (List ℕ)
+words_left reader = elim reader.rest [ None ↦ [] | Some rest ↦ words rest.now ]

@@ -1,0 +1,56 @@
+ghost use Rattle.std.specs.Prelude.{◌<◌};
+
+/// The number of a publisher or of a receiver: 0 to 7.
+#[derive(Clone, Copy, Debug, PartialEq, Eq)]
+pub struct Seat {
+    pub number: usize,
+    pub ghost in_range: { number < 8 },
+}
+
+/// What the log is opened with.
+#[derive(Clone, Copy, Debug, PartialEq, Eq)]
+pub struct LogLine {
+    /// The bytes of a term, as written: no geometry has been judged.
+    pub term_length: u32,
+    /// The most bytes of a datagram, as written.
+    pub mtu: u32,
+    pub initial_term_id: i32,
+    /// The position at which the stream begins, as written.
+    pub start: u64,
+    pub session: i32,
+    pub stream: i32,
+    /// How many consumers the log has beside its sender: 0 to 7.
+    pub readers: u32,
+    pub ghost readers_in_range: { readers < 8 },
+}
+
+/// What one line of a script asks for. Packets are numbered from 0 in the order in which they were printed, and
+/// moments are nanoseconds.
+#[derive(Debug, PartialEq, Eq, Drop)]
+pub enum Command {
+    /// The keeper sets the connected flag.
+    Connect,
+    /// The keeper cleans, and moves the limit.
+    Limit,
+    /// A publisher offers a message.
+    Offer { publisher: Seat, message: Vec<u8> },
+    /// The sender does one cycle.
+    Send { now: u64 },
+    /// A receiver is handed a packet.
+    Deliver { packet: u64, receiver: Seat, now: u64 },
+    /// A receiver does one cycle.
+    Tick { receiver: Seat, now: u64 },
+    /// The sender is handed a packet.
+    Reply { packet: u64, now: u64 },
+    /// A receiver's consumer reads on to the end of a message.
+    Poll { receiver: Seat },
+    /// A receiver's image tells its positions.
+    Image { receiver: Seat },
+}
+
+/// A script: how the log is opened, and the commands after that in their order.
+#[derive(Debug, PartialEq, Eq, Drop)]
+pub struct Script {
+    pub log: LogLine,
+    pub commands: Vec<Command>,
+}

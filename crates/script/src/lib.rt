@@ -1,0 +1,20 @@
+//! The script language of `mdriver sim`: its commands, and how a text is read as a script.
+//!
+//! A script is a text of lines, each ended by a line feed, which the last may lack. The words of a line are parted by
+//! single spaces. A line without any byte does nothing. The first line that isn't empty opens the log, and each later
+//! one that isn't empty is a command.
+#![tactic(auto)]
+
+mod command;
+mod fault;
+mod line;
+mod pieces;
+mod read;
+mod values;
+
+pub use command::{Command, LogLine, Script, Seat};
+pub use fault::ScriptFault;
+pub use read::read_script;
+
+#[cfg(test)]
+mod tests;
