@@ -1,9 +1,10 @@
 -- Powers of two, and signed sums that fit.
-use Rattle.std.proofs.Common.{◌≡◌, ℕ, suc, ◌+◌, ◌≤◌, ◌<◌, ◌^◌, ◌/◌, ◌*◌, ℤ, pos, ◌+ℤ◌, ◌*ℤ◌, arith, sym, refl, ◌∙◌, subst, inl, inr, max, rules}
+use Rattle.std.proofs.Common.{◌≡◌, ℕ, suc, ◌+◌, ◌-◌, ◌%◌, ap, ◌≤◌, ◌<◌, ◌^◌, ◌/◌, ◌*◌, ℤ, pos, ◌+ℤ◌, ◌*ℤ◌, arith, sym, refl, ◌∙◌, subst, inl, inr, max, rules}
 use Rattle.std.proofs.lemmas.Int.{ints, to_z-of_z, fits_signed_mul, unsigned_abs-mul}
 use Rattle.std.proofs.lemmas.Bool.{cases_lt}
-use Rattle.std.proofs.Math.Pow.{pow_mono}
-use Rattle.std.proofs.Math.Nat.{two-pow-succ, mul-le-mul}
+use Rattle.std.proofs.Math.Pow.{pow_mono, pow-lt}
+use Rattle.std.proofs.Math.Nat.{two-pow-succ, mul-le-mul, mul-le-mul_right, mul-mod_left, mul-zero, zero-mod, div-lt_iff_lt-mul, mul_comm}
+use Rattle.std.proofs.lemmas.Nat.{pow-add, mul-mod}
 use Rattle.std.specs.Int.{w32, w64, IsPowerOfTwo}
 use Rattle.std.specs.Int.RustNames.{FitsSigned, unsigned_abs}
 use Rattle.theory.specs.Position.{Geometry, count_of, position_of}
@@ -46,3 +47,30 @@ same_power m n (i, pm) (j, pn) le below =
 -- a position, from the parts that the code multiplies and adds
 pub placed : (g : Geometry) (id offset a b o : ℤ) → a ≡ count_of g id → b ≡ pos g.term_length → o ≡ offset → (a *ℤ b) +ℤ o ≡ position_of g id offset
 placed g id offset a b o ea eb eo = rw (ea, eb, eo) refl
+
+multiple : (k m d : ℕ) → m % d ≡ 0 → (k * m) % d ≡ 0
+multiple k m d h = mul-mod k m d ∙ rw (h, mul-zero) (zero-mod d)
+
+-- a power of two from 2 ^ 16 on is a multiple of it
+pub whole_power : (n : ℕ) → IsPowerOfTwo n → 65536 ≤ n → n % 65536 ≡ 0
+whole_power n (i, p) h =
+    elim (cases_lt i 16) [
+      | inl less ↦
+          let below : 2 ^ i < 2 ^ 16 = pow-lt less in
+          absurd (omega arith)
+      | inr more ↦
+          let split : 2 ^ i ≡ 2 ^ (i - 16) * 2 ^ 16 = ap (λ k. 2 ^ k) (omega arith) ∙ pow-add 2 (i - 16) 16 in
+          rw (p, split) (mul-mod_left (2 ^ (i - 16)) (2 ^ 16))
+    ]
+
+-- the start of a term is a unit
+pub unit_start : (q n : ℕ) → n % 65536 ≡ 0 → (q * n) % 32 ≡ 0
+unit_start q n h = multiple q n 32 (omega arith)
+
+-- the term of a position below the end of the last term ends in the stream
+pub term_ends : (p n : ℕ) → 0 < n → p < n * 2 ^ 31 → p / n * n + n ≤ n * 2 ^ 31
+term_ends p n positive below =
+    let fewer : p / n < 2 ^ 31 = (div-lt_iff_lt-mul positive).1 (omega (arith, mul_comm n (2 ^ 31))) in
+    let grown : suc (p / n) * n ≤ 2 ^ 31 * n = mul-le-mul_right n (omega arith) in
+    let split : suc (p / n) * n ≡ p / n * n + n = omega arith in
+    omega (arith, mul_comm n (2 ^ 31))

@@ -6,3 +6,7 @@ use Rattle.position.specs.declared.fault.GeometryError.TheVariants.{TermLength, 
 abbrev pub text_of : GeometryError → List ℕ
 text_of TermLength = codes "G1 term length"
 text_of Mtu = codes "G2 mtu"
+
+abbrev pub code_of : GeometryError → List ℕ
+code_of TermLength = codes "G1"
+code_of Mtu = codes "G2"

@@ -1,5 +1,5 @@
 ghost use Rattle.std.specs.Prelude.{◌≡◌};
-ghost use Rattle.position.specs.Fault.{text_of};
+ghost use Rattle.position.specs.Fault.{code_of, text_of};
 
 use thiserror::Error;
 
@@ -14,6 +14,16 @@ pub enum GeometryError {
 }
 
 impl GeometryError {
+    /// The code alone.
+    pub fn code(self) -> &'static str
+        ensures { result.now ≡ code_of self }
+    {
+        match self {
+            GeometryError::TermLength => "G1",
+            GeometryError::Mtu => "G2",
+        }
+    }
+
     /// The code and the name that a user sees.
     pub fn text(self) -> &'static str
         ensures { result.now ≡ text_of self }

@@ -1,4 +1,4 @@
-ghost use Rattle.std.specs.Prelude.{◌≡◌, ◌≤◌, ◌<◌, ◌^◌, ◌↔◌, pos, IsTrue, IsOk, IfOk, IsErrOf};
+ghost use Rattle.std.specs.Prelude.{◌≡◌, ◌+◌, ◌*◌, ◌/◌, ◌%◌, ◌≤◌, ◌<◌, ◌^◌, ◌↔◌, pos, IsTrue, IsOk, IfOk, IsErrOf};
 ghost use Rattle.theory.specs.Position.{IsTermLength, IsMtu, IsGeometry, max_position, max_payload, max_message, framed_length, position_of, id_of, place_of};
 ghost use Rattle.theory.specs.Position as shape;
 
@@ -70,6 +70,7 @@ impl Geometry {
     pub fn term_length(&self) -> u32
         ensures value { result ≡ self.now.term_length }
         ensures legal { IsGeometry self.now }
+        ensures whole { result % 65536 ≡ 0 }
     {
         self.term_length
     }
@@ -96,6 +97,19 @@ impl Geometry {
         ensures legal { IsGeometry self.now }
     {
         u64::from(self.term_length) << 31
+    }
+
+    /// The position at which the term of a position begins.
+    pub fn term_start(&self, position: u64) -> u64
+        requires { position < max_position self.now }
+        ensures value { result ≡ position / self.now.term_length * self.now.term_length }
+        ensures begun { result ≤ position }
+        ensures goes_on { position < result + self.now.term_length }
+        ensures in_stream { result + self.now.term_length ≤ max_position self.now }
+        ensures unit { result % 32 ≡ 0 }
+    {
+        let length = u64::from(self.term_length);
+        position / length * length
     }
 
     /// The most payload bytes of one frame.

@@ -6,10 +6,12 @@
 
 mod fault;
 mod geometry;
+mod head;
 mod lengths;
 
 pub use fault::GeometryError;
 pub use geometry::{Geometry, Place};
+pub use head::{FrameHead, FrameKind};
 pub use lengths::{align32, partition_of};
 
 #[cfg(test)]

@@ -1,0 +1,70 @@
+ghost use Rattle.std.specs.Prelude.{◌≡◌};
+ghost use Rattle.log_buffer.specs.Faults.{code_of, number_of};
+ghost use Rattle.log_buffer.specs.declared.fault.LogError.TheVariants.{Memory};
+
+use std::alloc::{AllocError, AllocFailed};
+use thiserror::Error;
+
+/// Why a log can't be opened. Nothing was made then.
+#[derive(Clone, Copy, Debug, PartialEq, Eq, Error)]
+#[error("{}", self.code())]
+pub enum LogError {
+    /// The start isn't a multiple of 32, or not below the greatest position.
+    Start,
+    /// There are fewer than one or more than eight consumers.
+    Consumers,
+    /// Memory was refused.
+    Memory,
+}
+
+impl LogError {
+    /// The code that a user sees.
+    pub fn code(self) -> &'static str
+        ensures { result.now ≡ code_of self }
+    {
+        match self {
+            LogError::Start => "L1",
+            LogError::Consumers => "L2",
+            LogError::Memory => "L3",
+        }
+    }
+}
+
+impl From<AllocError> for LogError {
+    ghost from_gives = { λ _ e. e ≡ Memory };
+
+    fn from(_error: AllocError) -> LogError {
+        LogError::Memory
+    }
+}
+
+/// Why an offer isn't accepted. No entry was added then.
+#[derive(Clone, Copy, Debug, PartialEq, Eq, Error)]
+#[error("{}", self.code())]
+pub enum Refusal {
+    /// Nobody is connected, and the tail is at the limit.
+    NotConnected,
+    /// The tail is at the limit.
+    BackPressured,
+    /// The claim doesn't fit the term; a later offer may.
+    AdminAction,
+    /// The log is closed, for good.
+    Closed,
+    /// The last term is used up, for good.
+    MaxPositionExceeded,
+}
+
+impl Refusal {
+    /// The number that a user sees, from -1 to -5.
+    pub fn code(self) -> i32
+        ensures { result ≡ number_of self }
+    {
+        match self {
+            Refusal::NotConnected => -1,
+            Refusal::BackPressured => -2,
+            Refusal::AdminAction => -3,
+            Refusal::Closed => -4,
+            Refusal::MaxPositionExceeded => -5,
+        }
+    }
+}

@@ -1,0 +1,193 @@
+ghost use Rattle.std.specs.Prelude.{◌≡◌, ◌<◌, ◌≤◌, ◌+◌, ◌^◌, IfOk};
+
+use std::alloc::{AllocError, Global};
+use std::marker::Model;
+
+/// How many publishers a log has.
+pub const PUBLISHERS: usize = 8;
+
+/// How many consumers a log has at the most.
+pub const CONSUMERS: usize = 8;
+
+/// One of the eight publishers of a log. It ends when it is handed to `close`.
+pub struct Publisher {
+    number: usize,
+}
+
+impl Model for Publisher {
+    ghost use Rattle.std.specs.Prelude.{ℕ, ◌<◌};
+
+    ghost Value = { ℕ };
+
+    ghost view = { λ p. p.number };
+
+    ghost invariant = { λ p. p.number < 8 };
+}
+
+impl Publisher {
+    pub fn new(number: usize) -> Publisher
+        requires { number < 8 }
+        ensures { result ≡ number }
+    {
+        Publisher { number }
+    }
+
+    /// Its number, 0 to 7.
+    pub fn number(&self) -> usize
+        ensures value { result ≡ self.now }
+        ensures in_range { result < 8 }
+    {
+        self.number
+    }
+
+    pub fn spend(self) -> usize
+        ensures { result ≡ self }
+    {
+        let Publisher { number } = self;
+        number
+    }
+}
+
+/// A consumer of a log, which walks its committed frames. It ends when it is handed to `close`.
+pub struct LogReader {
+    number: usize,
+    /// The place, among the entries, of the next one.
+    index: usize,
+    position: u64,
+    /// The end of the frame that was read since it last moved, or its position.
+    read_to: u64,
+}
+
+impl Model for LogReader {
+    ghost use Rattle.std.specs.Prelude.{◌*◌, ◌<◌, ◌≤◌, ◌^◌};
+    ghost use Rattle.log_buffer.specs.Reader.{Reader};
+
+    ghost Value = { Reader };
+
+    ghost view = { λ r. record { number = r.number; index = r.index; position = r.position; read_to = r.read_to } };
+
+    ghost invariant = { λ r. (r.number < 8) × (32 * r.index ≤ r.position) × (r.position ≤ r.read_to) × (r.read_to ≤ 2 ^ 55) };
+}
+
+impl LogReader {
+    pub fn new(number: usize, position: u64) -> LogReader
+        requires number { number < 8 }
+        requires position { position ≤ 2 ^ 55 }
+        ensures { result ≡ record { number = number; index = 0; position = position; read_to = position } }
+    {
+        LogReader {
+            number,
+            index: 0,
+            position,
+            read_to: position,
+        }
+    }
+
+    /// The position that it has reached, a multiple of 32.
+    pub fn position(&self) -> u64
+        ensures value { result ≡ self.now.position }
+        ensures small { result ≤ 2 ^ 55 }
+    {
+        self.position
+    }
+
+    /// Its number, 0 to 7.
+    pub fn number(&self) -> usize
+        ensures value { result ≡ self.now.number }
+        ensures in_range { result < 8 }
+    {
+        self.number
+    }
+
+    /// The place, among the entries, of the next one.
+    pub fn index(&self) -> usize
+        ensures { result ≡ self.now.index }
+    {
+        self.index
+    }
+
+    /// Notes that the frame at its position, which ends there, was read.
+    pub fn note_read(&mut self, end: u64)
+        requires further { self.old.position ≤ end }
+        requires small { end ≤ 2 ^ 55 }
+        ensures { self.new ≡ record self.old { read_to = end } }
+    {
+        self.read_to = end;
+    }
+
+    /// Moves past the frame that was read.
+    pub fn step(&mut self)
+        requires { self.old.position + 32 ≤ self.old.read_to }
+        ensures { self.new ≡ record self.old { position = self.old.read_to; index = self.old.index + 1 } }
+    {
+        self.position = self.read_to;
+        self.index += 1;
+    }
+
+    pub fn spend(self) -> u64
+        ensures { result ≡ self.position }
+    {
+        let LogReader {
+            number: _,
+            index: _,
+            position,
+            read_to: _,
+        } = self;
+        position
+    }
+}
+
+/// The one that connects, limits and closes a log. It ends when it is handed to `close`.
+pub struct Keeper {
+    of: (),
+}
+
+/// The passes of a log that was just opened.
+pub struct Parts {
+    /// Numbered from 0 to 7, in order.
+    pub publishers: Vec<Publisher>,
+    /// As many as were asked for, all at the start.
+    pub readers: Vec<LogReader>,
+    pub keeper: Keeper,
+}
+
+impl Keeper {
+    pub fn new() -> Keeper {
+        Keeper { of: () }
+    }
+
+    pub fn spend(self) {
+        let Keeper { of: () } = self;
+    }
+}
+
+impl Parts {
+    ghost use Rattle.log_buffer.specs.Reader.{AreAll};
+
+    /// Eight publishers, the readers at the start, and a keeper.
+    pub fn new(alloc: Global, start: u64, consumers: usize) -> Result<Parts, AllocError>
+        requires start { start ≤ 2 ^ 55 }
+        requires few { consumers ≤ 8 }
+        ensures { IfOk result (λ parts. AreAll parts.publishers.items) }
+    {
+        let mut readers = Vec::with_capacity(alloc, consumers)?;
+        let mut publishers = match Vec::with_capacity(alloc, PUBLISHERS) {
+            Ok(publishers) => publishers,
+            Err(error) => {
+                readers.destroy_empty();
+                return Err(error);
+            }
+        };
+        for number in 0..PUBLISHERS {
+            publishers.push(Publisher::new(number)).unwrap();
+        }
+        for number in 0..consumers {
+            readers.push(LogReader::new(number, start)).unwrap();
+        }
+        Ok(Parts {
+            publishers,
+            readers,
+            keeper: Keeper::new(),
+        })
+    }
+}

@@ -1,0 +1,70 @@
+ghost use Rattle.std.specs.Prelude.{◌≡◌, ◌+◌, ◌*◌, ◌≤◌, ◌<◌, length};
+ghost use Rattle.theory.specs.Position.{max_payload, aligned};
+
+use crate::entry::Claimed;
+use crate::fault::Refusal;
+use crate::passes::Publisher;
+use crate::state::LogState;
+use crate::words::{pair_word, payload_word};
+use position::align32;
+
+impl LogState {
+    ghost use Rattle.log_buffer.specs.Log.{IsOpen};
+
+    /// Stores the words of the header behind the first one.
+    fn store_header(&mut self, claimed: Claimed)
+        requires { IsOpen self.old claimed }
+        ensures { self.new ≡ self.old }
+    {
+        let place = self.geometry.term_of(claimed.start);
+        let offset = place.offset as i32;
+        self.store(claimed, 1, pair_word(offset, self.session));
+        self.store(claimed, 2, pair_word(self.stream, place.term_id));
+        self.store(claimed, 3, 0);
+    }
+
+    /// Stores the payload's words, the last of them with zeros up to its end.
+    fn store_payload(&mut self, claimed: Claimed, payload: &[u8])
+        requires open { IsOpen self.old claimed }
+        requires whole { length payload.now ≡ claimed.length }
+        ensures { self.new ≡ self.old }
+    {
+        for index in 0..payload.len().div_ceil(8) {
+            let at = 8 * index;
+            let end = payload.len().min(at + 8);
+            self.store(claimed, 4 + index, payload_word(&payload[at..end]));
+        }
+    }
+}
+
+/// Publishes a message as one frame, if the tail is below the limit and the frame fits the term.
+/// The answer is the position behind it. It wants no memory.
+pub fn offer(log: &mut LogState, publisher: &mut Publisher, message: &[u8]) -> Result<u64, Refusal>
+    requires { length message.now ≤ max_payload log.old.geometry }
+{
+    let limit = log.load_limit();
+    if limit.closed {
+        return Err(Refusal::Closed);
+    }
+    let tail = log.load_tail();
+    let room = log.room();
+    if room == 0 {
+        return Err(Refusal::AdminAction);
+    }
+    if tail >= limit.position {
+        return Err(if limit.connected {
+            Refusal::BackPressured
+        } else {
+            Refusal::NotConnected
+        });
+    }
+    let length = message.len() as u32;
+    if align32(32 + length) > room {
+        return Err(Refusal::AdminAction);
+    }
+    let claimed = log.claim(publisher, length);
+    log.store_header(claimed);
+    log.store_payload(claimed, message);
+    log.commit(claimed);
+    Ok(log.load_tail())
+}

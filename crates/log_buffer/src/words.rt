@@ -1,0 +1,36 @@
+ghost use Rattle.std.specs.Prelude.{◌≤◌, ◌<◌, ◌^◌, length};
+
+use crate::entry::UNFRAGMENTED;
+
+/// The first word of a DATA frame: its length, version 0, the flags and the type.
+pub fn first_word(frame_length: u32) -> u64 {
+    let length = frame_length.to_le_bytes();
+    u64::from_le_bytes([
+        length[0],
+        length[1],
+        length[2],
+        length[3],
+        0,
+        UNFRAGMENTED,
+        1,
+        0,
+    ])
+}
+
+/// The word of two fields of four bytes.
+pub fn pair_word(low: i32, high: i32) -> u64 {
+    let low = low.to_le_bytes();
+    let high = high.to_le_bytes();
+    u64::from_le_bytes([
+        low[0], low[1], low[2], low[3], high[0], high[1], high[2], high[3],
+    ])
+}
+
+/// Up to eight bytes as a word, with zeros behind them.
+pub fn payload_word(bytes: &[u8]) -> u64
+    requires { length bytes.now ≤ 8 }
+{
+    let mut word = [0; 8];
+    word[..bytes.len()].copy_from_slice(bytes);
+    u64::from_le_bytes(word)
+}
