@@ -1,0 +1,32 @@
+ghost use Rattle.std.specs.Prelude.{◌≡◌};
+ghost use Rattle.rebuilder.specs.Codes.{code_of};
+
+use thiserror::Error;
+
+/// Why an image can't be opened. Nothing was made then.
+#[derive(Clone, Copy, Debug, PartialEq, Eq, Error)]
+#[error("{}", self.code())]
+pub enum ImageError {
+    /// The join isn't a multiple of 32, or above the greatest position.
+    Join,
+    /// The window isn't a multiple of 32 from the MTU to half a term.
+    Window,
+    /// There are fewer than one or more than eight consumers.
+    Consumers,
+    /// Memory was refused.
+    Memory,
+}
+
+impl ImageError {
+    /// The code that a user sees.
+    pub fn code(self) -> &'static str
+        ensures { result.now ≡ code_of self }
+    {
+        match self {
+            ImageError::Join => "J1",
+            ImageError::Window => "J2",
+            ImageError::Consumers => "J3",
+            ImageError::Memory => "J4",
+        }
+    }
+}

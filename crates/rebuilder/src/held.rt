@@ -1,0 +1,17 @@
+ghost use Rattle.std.specs.Prelude.{◌≡◌, ◌≤◌, ◌^◌, vec_len};
+
+use position::FrameKind;
+
+/// A frame that an image holds.
+#[derive(Debug, Drop)]
+pub struct Held {
+    /// The position behind it.
+    pub end: u64,
+    pub kind: FrameKind,
+    pub flags: u8,
+    /// The bytes of header and payload, without alignment.
+    pub frame_length: u32,
+    pub payload: Vec<u8>,
+    ghost low: { end ≤ 2 ^ 56 },
+    ghost short: { vec_len payload ≤ 65472 },
+}

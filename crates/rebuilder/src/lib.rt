@@ -1,0 +1,15 @@
+//! An image: what a receiver has rebuilt of a stream, and where its consumers stand.
+//!
+//! The image holds whole frames by their positions. No two of them overlap, whatever it is given.
+#![tactic(auto)]
+
+mod answer;
+mod fault;
+mod held;
+mod image;
+mod insert;
+mod read;
+
+pub use answer::Insert;
+pub use fault::ImageError;
+pub use image::Image;
