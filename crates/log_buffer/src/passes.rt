@@ -1,4 +1,4 @@
-ghost use Rattle.std.specs.Prelude.{◌≡◌, ◌<◌, ◌≤◌, ◌+◌, ◌^◌, IfOk};
+ghost use Rattle.std.specs.Prelude.{◌≡◌, ◌<◌, ◌≤◌, ◌+◌, ◌^◌, IfOk, vec_len};
 
 use std::alloc::{AllocError, Global};
 use std::marker::Model;
@@ -168,7 +168,8 @@ impl Parts {
     pub fn new(alloc: Global, start: u64, consumers: usize) -> Result<Parts, AllocError>
         requires start { start ≤ 2 ^ 55 }
         requires few { consumers ≤ 8 }
-        ensures { IfOk result (λ parts. AreAll parts.publishers.items) }
+        ensures publishers { IfOk result (λ parts. AreAll parts.publishers.items) }
+        ensures readers { IfOk result (λ parts. vec_len parts.readers ≡ consumers) }
     {
         let mut readers = Vec::with_capacity(alloc, consumers)?;
         let mut publishers = match Vec::with_capacity(alloc, PUBLISHERS) {

@@ -41,6 +41,8 @@ impl LogState {
 /// The answer is the position behind it. It wants no memory.
 pub fn offer(log: &mut LogState, publisher: &mut Publisher, message: &[u8]) -> Result<u64, Refusal>
     requires { length message.now ≤ max_payload log.old.geometry }
+    ensures same_pass { publisher.new ≡ publisher.old }
+    ensures geometry { log.new.geometry ≡ log.old.geometry }
 {
     let limit = log.load_limit();
     if limit.closed {

@@ -34,6 +34,7 @@ pub fn next(log: &LogState, reader: &mut LogReader, block: &mut Block) -> Option
 /// Moves the reader past the frame that it read since it last moved. The answer is its new position.
 pub fn advance(log: &mut LogState, reader: &mut LogReader) -> u64
     requires { reader.old.position + 32 ≤ reader.old.read_to }
+    ensures { log.new.geometry ≡ log.old.geometry }
 {
     reader.step();
     let position = reader.position();

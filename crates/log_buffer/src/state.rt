@@ -1,4 +1,4 @@
-ghost use Rattle.std.specs.Prelude.{◌≡◌, ◌+◌, ◌*◌, ◌/◌, ◌<◌, ◌≤◌, ◌++◌, ◌∷◌, [], length, IfOk, slice_get, Some, false, true, ◌^◌};
+ghost use Rattle.std.specs.Prelude.{◌≡◌, ◌+◌, ◌*◌, ◌/◌, ◌<◌, ◌≤◌, ◌++◌, ◌∷◌, [], length, IfOk, slice_get, Some, false, true, ◌^◌, vec_len};
 ghost use Rattle.theory.specs.Position.{aligned, IsGeometry};
 ghost use Rattle.theory.specs.Position as shape;
 
@@ -52,6 +52,7 @@ pub struct Limit {
 
 impl LogState {
     ghost use Rattle.log_buffer.specs.Log.{IsOpen};
+    ghost use Rattle.log_buffer.specs.Reader.{AreAll};
 
     /// A log at a start, unconnected, with its limit at the start, and its passes.
     pub fn open(
@@ -61,7 +62,11 @@ impl LogState {
         stream: i32,
         start: u64,
         consumers: usize,
-    ) -> Result<(LogState, Parts), LogError> {
+    ) -> Result<(LogState, Parts), LogError>
+        ensures geometry { IfOk result (λ r. r.0.geometry ≡ geometry) }
+        ensures publishers { IfOk result (λ r. AreAll r.1.publishers.items) }
+        ensures readers { IfOk result (λ r. vec_len r.1.readers ≡ consumers) }
+    {
         if !start.is_multiple_of(32) || start >= geometry.max_position() {
             return Err(LogError::Start);
         }
@@ -163,6 +168,7 @@ impl LogState {
         ensures start { result.start ≡ self.old.tail }
         ensures length { result.length ≡ length }
         ensures tail { self.new.tail ≡ self.old.tail + aligned (32 + length) }
+        ensures geometry { self.new.geometry ≡ self.old.geometry }
     {
         let claimed = Claimed {
             index: self.entries.len(),
@@ -194,6 +200,8 @@ impl LogState {
     /// Stores the first word of a claim's frame, which commits it.
     pub fn commit(&mut self, claimed: Claimed)
         requires { IsOpen self.old claimed }
+        ensures geometry { self.new.geometry ≡ self.old.geometry }
+        ensures tail { self.new.tail ≡ self.old.tail }
     {
         let place = (claimed.start - self.base) as usize / 8;
         self.bytes.set_word(place, first_word(32 + claimed.length));
