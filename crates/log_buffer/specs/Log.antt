@@ -32,6 +32,7 @@ pub record IsKept (g : Geometry) (bytes : List ℕ) (base start tail limit consu
   pub in_term : tail ≤ base + g.term_length
   pub in_stream : base + g.term_length ≤ max_position g
   pub base_unit : base % 32 ≡ 0
+  pub whole_base : base % g.term_length ≡ 0
   pub tail_unit : tail % 32 ≡ 0
   pub small_limit : limit ≤ 2 ^ 56
   pub few_consumers : consumer_count ≤ 8

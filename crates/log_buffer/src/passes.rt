@@ -1,4 +1,4 @@
-ghost use Rattle.std.specs.Prelude.{◌≡◌, ◌<◌, ◌≤◌, ◌+◌, ◌^◌, IfOk, vec_len};
+ghost use Rattle.std.specs.Prelude.{◌≡◌, ◌<◌, ◌≤◌, ◌+◌, ◌^◌, IfOk, vec_len, All};
 
 use std::alloc::{AllocError, Global};
 use std::marker::Model;
@@ -170,6 +170,7 @@ impl Parts {
         requires few { consumers ≤ 8 }
         ensures publishers { IfOk result (λ parts. AreAll parts.publishers.items) }
         ensures readers { IfOk result (λ parts. vec_len parts.readers ≡ consumers) }
+        ensures at_start { IfOk result (λ parts. All (λ reader. (reader.position ≡ start) × (reader.read_to ≡ start)) parts.readers.items) }
     {
         let mut readers = Vec::with_capacity(alloc, consumers)?;
         let mut publishers = match Vec::with_capacity(alloc, PUBLISHERS) {

@@ -1,4 +1,6 @@
-ghost use Rattle.std.specs.Prelude.{◌≡◌, ◌+◌, ◌≤◌, length, OnSome};
+ghost use Rattle.std.specs.Prelude.{◌≡◌, ◌+◌, ◌≤◌, length, IfSome, IfNone};
+ghost use Rattle.theory.specs.Position.{aligned, IsGeometry};
+ghost use Rattle.log_buffer.specs.Reader.{IsWholeFrame};
 
 use crate::entry::UNFRAGMENTED;
 use crate::passes::LogReader;
@@ -11,7 +13,11 @@ use position::{FrameHead, FrameKind, align32};
 pub fn next(log: &LogState, reader: &mut LogReader, block: &mut Block) -> Option<FrameHead>
     requires { log.now.geometry.mtu ≤ length block.old }
     ensures same_length { length block.new ≡ length block.old }
-    ensures read { OnSome result (reader.new.position + 32 ≤ reader.new.read_to) }
+    ensures here { IfSome result (λ head. head.start ≡ reader.old.position) }
+    ensures head { IfSome result (IsWholeFrame log.now.geometry) }
+    ensures read { IfSome result (λ head. reader.new ≡ record reader.old { read_to = head.start + aligned head.frame_length }) }
+    ensures none { IfNone result (reader.new ≡ reader.old) }
+    ensures legal { IsGeometry log.now.geometry }
 {
     let entry = *log.entries.get(reader.index())?;
     if !entry.committed || entry.start != reader.position() {
@@ -34,7 +40,9 @@ pub fn next(log: &LogState, reader: &mut LogReader, block: &mut Block) -> Option
 /// Moves the reader past the frame that it read since it last moved. The answer is its new position.
 pub fn advance(log: &mut LogState, reader: &mut LogReader) -> u64
     requires { reader.old.position + 32 ≤ reader.old.read_to }
-    ensures { log.new.geometry ≡ log.old.geometry }
+    ensures geometry { log.new.geometry ≡ log.old.geometry }
+    ensures moved { reader.new ≡ record reader.old { position = reader.old.read_to; index = reader.old.index + 1 } }
+    ensures position { result ≡ reader.new.position }
 {
     reader.step();
     let position = reader.position();

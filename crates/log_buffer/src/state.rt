@@ -1,5 +1,5 @@
-ghost use Rattle.std.specs.Prelude.{◌≡◌, ◌+◌, ◌*◌, ◌/◌, ◌<◌, ◌≤◌, ◌++◌, ◌∷◌, [], length, IfOk, slice_get, Some, false, true, ◌^◌, vec_len};
-ghost use Rattle.theory.specs.Position.{aligned, IsGeometry};
+ghost use Rattle.std.specs.Prelude.{◌≡◌, ◌+◌, ◌*◌, ◌/◌, ◌<◌, ◌≤◌, ◌++◌, ◌∷◌, [], length, IfOk, slice_get, Some, false, true, ◌^◌, vec_len, All};
+ghost use Rattle.theory.specs.Position.{aligned, IsGeometry, max_position};
 ghost use Rattle.theory.specs.Position as shape;
 
 use crate::entry::{Claimed, Entry};
@@ -66,6 +66,8 @@ impl LogState {
         ensures geometry { IfOk result (λ r. r.0.geometry ≡ geometry) }
         ensures publishers { IfOk result (λ r. AreAll r.1.publishers.items) }
         ensures readers { IfOk result (λ r. vec_len r.1.readers ≡ consumers) }
+        ensures at_start { IfOk result (λ r. All (λ reader. (reader.position ≡ start) × (reader.read_to ≡ start)) r.1.readers.items) }
+        ensures start { IfOk result (λ r. (r.0.start ≡ start) × (start < max_position geometry)) }
     {
         if !start.is_multiple_of(32) || start >= geometry.max_position() {
             return Err(LogError::Start);

@@ -4,7 +4,7 @@ use Rattle.std.proofs.lemmas.Int.{ints, to_z-of_z, fits_signed_mul, unsigned_abs
 use Rattle.std.proofs.lemmas.Bool.{cases_lt}
 use Rattle.std.proofs.Math.Pow.{pow_mono, pow-lt}
 use Rattle.std.proofs.Math.Nat.{two-pow-succ, mul-le-mul, mul-le-mul_right, mul-mod_left, mul-zero, zero-mod, div-lt_iff_lt-mul, mul_comm}
-use Rattle.std.proofs.lemmas.Nat.{pow-add, mul-mod}
+use Rattle.std.proofs.lemmas.Nat.{pow-add, mul-mod, div-add-mod'}
 use Rattle.std.specs.Int.{w32, w64, IsPowerOfTwo}
 use Rattle.std.specs.Int.RustNames.{FitsSigned, unsigned_abs}
 use Rattle.theory.specs.Position.{Geometry, count_of, position_of}
@@ -74,3 +74,10 @@ term_ends p n positive below =
     let grown : suc (p / n) * n ≤ 2 ^ 31 * n = mul-le-mul_right n (omega arith) in
     let split : suc (p / n) * n ≡ p / n * n + n = omega arith in
     omega (arith, mul_comm n (2 ^ 31))
+
+-- a unit stands at a unit of its term
+pub unit_offset : (p n : ℕ) → n % 65536 ≡ 0 → p % 32 ≡ 0 → (p % n) % 32 ≡ 0
+unit_offset p n whole unit =
+    let start : (p / n * n) % 32 ≡ 0 = unit_start (p / n) n whole in
+    let parts : p ≡ p / n * n + p % n = sym (div-add-mod' p n) in
+    omega (arith, start, parts)

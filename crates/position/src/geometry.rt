@@ -107,6 +107,7 @@ impl Geometry {
         ensures goes_on { position < result + self.now.term_length }
         ensures in_stream { result + self.now.term_length ≤ max_position self.now }
         ensures unit { result % 32 ≡ 0 }
+        ensures whole { result % self.now.term_length ≡ 0 }
     {
         let length = u64::from(self.term_length);
         position / length * length
@@ -160,6 +161,9 @@ impl Geometry {
         requires { position ≤ max_position self.now }
         ensures term_id { result.term_id ≡ id_of self.now (place_of self.now position).count }
         ensures offset { result.offset ≡ (place_of self.now position).offset }
+        ensures low { result.offset ≤ self.now.term_length }
+        ensures unit { position % 32 ≡ 0 → result.offset % 32 ≡ 0 }
+        ensures legal { IsGeometry self.now }
     {
         let length = u64::from(self.term_length);
         let (count, offset) = if position == self.max_position() {

@@ -1,4 +1,5 @@
-ghost use Rattle.std.specs.Prelude.{◌≡◌, ◌≤◌, ◌^◌, vec_len};
+ghost use Rattle.std.specs.Prelude.{◌≡◌, ◌≤◌, ◌^◌, ◌+◌, vec_len};
+ghost use Rattle.position.specs.declared.head.FrameKind.TheVariants.{Data};
 
 use position::FrameKind;
 
@@ -14,4 +15,5 @@ pub struct Held {
     pub payload: Vec<u8>,
     ghost low: { end ≤ 2 ^ 56 },
     ghost short: { vec_len payload ≤ 65472 },
+    ghost data: { kind ≡ Data → frame_length ≡ 32 + vec_len payload },
 }

@@ -1,4 +1,4 @@
-ghost use Rattle.std.specs.Prelude.{◌≡◌, ◌≤◌, ◌^◌, IfOk};
+ghost use Rattle.std.specs.Prelude.{◌≡◌, ◌<◌, ◌≤◌, ◌^◌, IfOk};
 
 use crate::fault::ImageError;
 use crate::held::Held;
@@ -77,6 +77,14 @@ impl Image {
         ensures { result ≡ self.now.geometry }
     {
         self.geometry
+    }
+
+    /// How many consumers it has: one to eight.
+    pub fn consumers(&self) -> usize
+        ensures value { result ≡ self.now.consumers }
+        ensures some { 0 < result }
+    {
+        self.consumer_count
     }
 
     /// The position from which on it rebuilds.

@@ -83,6 +83,7 @@ impl Image {
     ) -> Result<Insert, AllocError>
         requires length { frame_length ≤ 2 ^ 24 }
         requires payload { length payload.now ≤ 65472 }
+        requires data { kind ≡ FrameKind.Data → frame_length ≡ 32 + length payload.now }
         ensures geometry { self.new.geometry ≡ self.old.geometry }
         ensures consumers { self.new.consumers ≡ self.old.consumers }
     {

@@ -1,4 +1,5 @@
-ghost use Rattle.std.specs.Prelude.{◌≡◌, ◌≤◌, ◌<◌, ◌^◌, length};
+ghost use Rattle.std.specs.Prelude.{◌≡◌, ◌≤◌, ◌<◌, length, IfSome};
+ghost use Rattle.position.specs.declared.head.FrameKind.TheVariants.{Data};
 
 use crate::held::Held;
 use crate::image::Image;
@@ -12,7 +13,8 @@ impl Image {
     pub fn read(&self, consumer: usize, block: &mut Block) -> Option<FrameHead>
         requires consumer { consumer < self.now.consumers }
         requires room { 65472 ≤ length block.old }
-        ensures { length block.new ≡ length block.old }
+        ensures same_length { length block.new ≡ length block.old }
+        ensures data { IfSome result (λ head. head.kind ≡ Data → (32 ≤ head.frame_length) × (head.frame_length ≤ 65504)) }
     {
         let frames = &self.frames;
         let start = self.consumers[consumer];
