@@ -1,5 +1,6 @@
 -- What the readers of lines and words have still to give.
 use Rattle.std.specs.Prelude.{ℕ, List, [], Option, Some, None}
+use Rattle.std.proofs.Common.{Bor}
 use Rattle.script.specs.declared.pieces.Lines.{Lines}
 use Rattle.script.specs.declared.pieces.Words.{Words}
 use Rattle.script.specs.Pieces.{lines, words}
@@ -7,5 +8,9 @@ use Rattle.script.specs.Pieces.{lines, words}
 abbrev pub lines_left : Lines → List (List ℕ)
 lines_left reader = lines reader.rest.now
 
+abbrev pub words_in : Option (Bor (List ℕ)) → List (List ℕ)
+words_in None = []
+words_in (Some rest) = words rest.now
+
 abbrev pub words_left : Words → List (List ℕ)
-words_left reader = elim reader.rest [ None ↦ [] | Some rest ↦ words rest.now ]
+words_left reader = words_in reader.rest

@@ -33,19 +33,38 @@ pub enum Command {
     /// The keeper cleans, and moves the limit.
     Limit,
     /// A publisher offers a message.
-    Offer { publisher: Seat, message: Vec<u8> },
+    Offer {
+        publisher: Seat,
+        message: Vec<u8>,
+    },
     /// The sender does one cycle.
-    Send { now: u64 },
+    Send {
+        now: u64,
+    },
     /// A receiver is handed a packet.
-    Deliver { packet: u64, receiver: Seat, now: u64 },
+    Deliver {
+        packet: u64,
+        receiver: Seat,
+        now: u64,
+    },
     /// A receiver does one cycle.
-    Tick { receiver: Seat, now: u64 },
+    Tick {
+        receiver: Seat,
+        now: u64,
+    },
     /// The sender is handed a packet.
-    Reply { packet: u64, now: u64 },
+    Reply {
+        packet: u64,
+        now: u64,
+    },
     /// A receiver's consumer reads on to the end of a message.
-    Poll { receiver: Seat },
+    Poll {
+        receiver: Seat,
+    },
     /// A receiver's image tells its positions.
-    Image { receiver: Seat },
+    Image {
+        receiver: Seat,
+    },
 }
 
 /// A script: how the log is opened, and the commands after that in their order.

@@ -1,5 +1,6 @@
 ghost use Rattle.script.specs.declared.fault.ScriptFault.TheVariants.{Memory};
-ghost use Rattle.std.specs.Prelude.{◌≡◌};
+ghost use Rattle.script.specs.Fault.{text_of};
+ghost use Rattle.std.specs.Prelude.{◌≡◌, Some};
 
 use std::alloc::{AllocError, AllocFailed};
 use std::error::Error;
@@ -15,6 +16,8 @@ pub enum ScriptFault {
 }
 
 impl fmt::Display for ScriptFault {
+    ghost output = { λ fault. Some (text_of fault) };
+
     fn fmt<W: fmt::Write>(&self, f: &mut fmt::Formatter<W>) -> fmt::Result {
         match *self {
             ScriptFault::Line(number) => write!(f, "line {number}: script"),

@@ -1,139 +1,135 @@
-use crate::command::{Command, LogLine};
+ghost use Rattle.std.specs.Prelude.{◌≡◌, ◌^◌, ◌≤◌, IfSome};
+ghost use Rattle.script.specs.Meaning.{opening, order};
+ghost use Rattle.script.specs.Reading.{Gives, GivesAt, number_at, signed_at, offer_of, send_of, deliver_of, tick_of, reply_of, poll_of, image_of, plain_of, command_of, opening_of, log_of, is_log};
+ghost use Rattle.script.specs.Rests.{words_left};
+
+use crate::command::{Command, LogLine, Seat};
 use crate::fault::ScriptFault;
 use crate::pieces::Words;
-use crate::values::{hex, number, seat, signed};
+use crate::values::{hex, number, signed};
 use std::alloc::Global;
 
-/// The greatest START that this version takes.
-const MOST_START: u64 = 0;
-
-/// The greatest READERS that this version takes.
-const MOST_READERS: u64 = 0;
-
-/// Whether the first word of the line is `log`.
-pub fn is_log_line(line: &[u8]) -> bool {
-    match Words::new(line).next() {
-        Some(word) => word == b"log".as_slice(),
-        None => false,
-    }
+/// The number that the first word spells, if it is at most `most`, and the words after it.
+#[tactic(auto, unfolding(crate::specs::Reading::number_at))]
+fn number_at(words: Words<'_>, most: u64) -> Option<(u64, Words<'_>)>
+    ensures value { Gives (λ found. (found.0, words_left found.1)) result (number_at most (words_left words.entry)) }
+    ensures bound { IfSome result (λ found. found.0 ≤ most) }
+{
+    let (word, rest) = words.first()?;
+    let value = number(word, most)?;
+    Some((value, rest))
 }
 
-/// The line that opens the log, if this is one.
-pub fn log_line(line: &[u8]) -> Option<LogLine> {
-    let mut words = Words::new(line);
-    if words.next()? != b"log".as_slice() {
-        return None;
-    }
-    let term_length = number(words.next()?, u32::MAX as u64)? as u32;
-    let mtu = number(words.next()?, u32::MAX as u64)? as u32;
-    let initial_term_id = signed(words.next()?)?;
-    let start = number(words.next()?, MOST_START)?;
-    let session = signed(words.next()?)?;
-    let stream = signed(words.next()?)?;
-    let readers = number(words.next()?, MOST_READERS)? as u32;
-    if words.next().is_some() {
-        return None;
-    }
-    Some(LogLine {
-        term_length,
-        mtu,
-        initial_term_id,
-        start,
-        session,
-        stream,
-        readers,
-    })
+/// The signed number that the first word spells, and the words after it.
+#[tactic(auto, unfolding(crate::specs::Reading::signed_at))]
+fn signed_at(words: Words<'_>) -> Option<(i32, Words<'_>)>
+    ensures { Gives (λ found. (found.0, words_left found.1)) result (signed_at (words_left words.entry)) }
+{
+    let (word, rest) = words.first()?;
+    let value = signed(word)?;
+    Some((value, rest))
 }
 
-/// No word is left.
-fn none(mut words: Words) -> Option<()> {
-    match words.next() {
-        None => Some(()),
-        Some(_) => None,
-    }
+/// The publisher or receiver that the first word names, and the words after it.
+fn seat_at(words: Words<'_>) -> Option<(Seat, Words<'_>)>
+    ensures { Gives (λ found. (found.0.number, words_left found.1)) result (number_at 7 (words_left words.entry)) }
+{
+    let (number, rest) = number_at(words, 7)?;
+    let seat = Seat {
+        number: number as usize,
+    };
+    Some((seat, rest))
 }
 
-/// The one word that is left.
-fn one<'a>(mut words: Words<'a>) -> Option<&'a [u8]> {
-    let first = words.next()?;
-    none(words)?;
-    Some(first)
-}
-
-/// The two words that are left.
-fn two<'a>(mut words: Words<'a>) -> Option<(&'a [u8], &'a [u8])> {
-    let first = words.next()?;
-    let second = one(words)?;
-    Some((first, second))
-}
-
-/// The three words that are left.
-fn three<'a>(mut words: Words<'a>) -> Option<(&'a [u8], &'a [u8], &'a [u8])> {
-    let first = words.next()?;
-    let (second, third) = two(words)?;
-    Some((first, second, third))
-}
-
-fn send(words: Words) -> Option<Command> {
-    let now = number(one(words)?, u64::MAX)?;
+#[tactic(auto, unfolding(crate::specs::Reading::send_of))]
+fn send(words: Words<'_>) -> Option<Command>
+    ensures { Gives order result (send_of (words_left words.entry)) }
+{
+    let (now, rest) = number_at(words, u64::MAX)?;
+    rest.end()?;
     Some(Command::Send { now })
 }
 
-fn deliver(words: Words) -> Option<Command> {
-    let (packet, receiver, now) = three(words)?;
-    let packet = number(packet, u64::MAX)?;
-    let receiver = seat(receiver)?;
-    let now = number(now, u64::MAX)?;
-    Some(Command::Deliver { packet, receiver, now })
+#[tactic(auto, unfolding(crate::specs::Reading::deliver_of))]
+fn deliver(words: Words<'_>) -> Option<Command>
+    ensures { Gives order result (deliver_of (words_left words.entry)) }
+{
+    let (packet, rest) = number_at(words, u64::MAX)?;
+    let (receiver, rest) = seat_at(rest)?;
+    let (now, rest) = number_at(rest, u64::MAX)?;
+    rest.end()?;
+    Some(Command::Deliver {
+        packet,
+        receiver,
+        now,
+    })
 }
 
-fn tick(words: Words) -> Option<Command> {
-    let (receiver, now) = two(words)?;
-    let receiver = seat(receiver)?;
-    let now = number(now, u64::MAX)?;
+#[tactic(auto, unfolding(crate::specs::Reading::tick_of))]
+fn tick(words: Words<'_>) -> Option<Command>
+    ensures { Gives order result (tick_of (words_left words.entry)) }
+{
+    let (receiver, rest) = seat_at(words)?;
+    let (now, rest) = number_at(rest, u64::MAX)?;
+    rest.end()?;
     Some(Command::Tick { receiver, now })
 }
 
-fn reply(words: Words) -> Option<Command> {
-    let (packet, now) = two(words)?;
-    let packet = number(packet, u64::MAX)?;
-    let now = number(now, u64::MAX)?;
+#[tactic(auto, unfolding(crate::specs::Reading::reply_of))]
+fn reply(words: Words<'_>) -> Option<Command>
+    ensures { Gives order result (reply_of (words_left words.entry)) }
+{
+    let (packet, rest) = number_at(words, u64::MAX)?;
+    let (now, rest) = number_at(rest, u64::MAX)?;
+    rest.end()?;
     Some(Command::Reply { packet, now })
 }
 
-fn poll(words: Words) -> Option<Command> {
-    let receiver = seat(one(words)?)?;
+#[tactic(auto, unfolding(crate::specs::Reading::poll_of))]
+fn poll(words: Words<'_>) -> Option<Command>
+    ensures { Gives order result (poll_of (words_left words.entry)) }
+{
+    let (receiver, rest) = seat_at(words)?;
+    rest.end()?;
     Some(Command::Poll { receiver })
 }
 
-fn image(words: Words) -> Option<Command> {
-    let receiver = seat(one(words)?)?;
+#[tactic(auto, unfolding(crate::specs::Reading::image_of))]
+fn image(words: Words<'_>) -> Option<Command>
+    ensures { Gives order result (image_of (words_left words.entry)) }
+{
+    let (receiver, rest) = seat_at(words)?;
+    rest.end()?;
     Some(Command::Image { receiver })
 }
 
-fn offer(alloc: Global, words: Words) -> Result<Option<Command>, ScriptFault> {
-    let Some((publisher, form, digits)) = three(words) else {
-        return Ok(None);
-    };
-    let Some(publisher) = seat(publisher) else {
-        return Ok(None);
-    };
+/// The words behind `offer`, of the line with this number.
+#[tactic(auto, unfolding(crate::specs::Reading::offer_of))]
+fn offer(alloc: Global, number: u64, words: Words<'_>) -> Result<Command, ScriptFault>
+    ensures { GivesAt number order result (offer_of (words_left words.entry)) }
+{
+    let fault = ScriptFault::Line(number);
+    let (publisher, rest) = seat_at(words).ok_or(fault)?;
+    let (form, rest) = rest.first().ok_or(fault)?;
     if form != b"hex".as_slice() {
-        return Ok(None);
+        return Err(fault);
     }
-    match hex(alloc, digits)? {
-        Some(message) => Ok(Some(Command::Offer { publisher, message })),
-        None => Ok(None),
-    }
+    let (digits, rest) = rest.first().ok_or(fault)?;
+    let message = hex(alloc, digits)?.ok_or(fault)?;
+    rest.end().ok_or(fault)?;
+    Ok(Command::Offer { publisher, message })
 }
 
-/// The command of this name with these words behind it, for all but `offer`.
-fn plain(name: &[u8], words: Words) -> Option<Command> {
+/// The command of this name, with the words behind it: any but `offer`.
+#[tactic(auto, unfolding(crate::specs::Reading::plain_of))]
+fn plain(name: &[u8], words: Words<'_>) -> Option<Command>
+    ensures { Gives order result (plain_of name.now (words_left words.entry)) }
+{
     if name == b"connect".as_slice() {
-        none(words)?;
+        words.end()?;
         Some(Command::Connect)
     } else if name == b"limit".as_slice() {
-        none(words)?;
+        words.end()?;
         Some(Command::Limit)
     } else if name == b"send".as_slice() {
         send(words)
@@ -152,15 +148,70 @@ fn plain(name: &[u8], words: Words) -> Option<Command> {
     }
 }
 
-/// The command of a line, if it is one.
-pub fn command(alloc: Global, line: &[u8]) -> Result<Option<Command>, ScriptFault> {
-    let mut words = Words::new(line);
-    let Some(name) = words.next() else {
-        return Ok(None);
-    };
+/// The command that a line says, which has this number.
+#[tactic(auto, unfolding(crate::specs::Reading::command_of))]
+pub fn command(alloc: Global, number: u64, line: &[u8]) -> Result<Command, ScriptFault>
+    ensures { GivesAt number order result (command_of line.now) }
+{
+    let fault = ScriptFault::Line(number);
+    let (name, rest) = Words::new(line).first().ok_or(fault)?;
     if name == b"offer".as_slice() {
-        offer(alloc, words)
+        offer(alloc, number, rest)
     } else {
-        Ok(plain(name, words))
+        plain(name, rest).ok_or(fault)
+    }
+}
+
+/// The greatest START that this version takes.
+const MOST_START: u64 = 0;
+
+/// The greatest READERS that this version takes.
+const MOST_READERS: u64 = 0;
+
+/// What stands behind `log`.
+#[tactic(auto, unfolding(crate::specs::Reading::opening_of))]
+fn log_fields(words: Words<'_>) -> Option<LogLine>
+    ensures { Gives opening result (opening_of (words_left words.entry)) }
+{
+    let (term_length, rest) = number_at(words, u32::MAX as u64)?;
+    let (mtu, rest) = number_at(rest, u32::MAX as u64)?;
+    let (initial_term_id, rest) = signed_at(rest)?;
+    let (start, rest) = number_at(rest, MOST_START)?;
+    let (session, rest) = signed_at(rest)?;
+    let (stream, rest) = signed_at(rest)?;
+    let (readers, rest) = number_at(rest, MOST_READERS)?;
+    rest.end()?;
+    Some(LogLine {
+        term_length: term_length as u32,
+        mtu: mtu as u32,
+        initial_term_id,
+        start,
+        session,
+        stream,
+        readers: readers as u32,
+    })
+}
+
+/// How the log is opened, if the line says so.
+#[tactic(auto, unfolding(crate::specs::Reading::log_of))]
+pub fn log_line(line: &[u8]) -> Option<LogLine>
+    ensures { Gives opening result (log_of line.now) }
+{
+    let (name, rest) = Words::new(line).first()?;
+    if name == b"log".as_slice() {
+        log_fields(rest)
+    } else {
+        None
+    }
+}
+
+/// Whether the first word of the line is `log`.
+#[tactic(auto, unfolding(crate::specs::Reading::is_log))]
+pub fn is_log_line(line: &[u8]) -> bool
+    ensures { result ≡ is_log line.now }
+{
+    match Words::new(line).first() {
+        Some((name, _)) => name == b"log".as_slice(),
+        None => false,
     }
 }

@@ -1,6 +1,7 @@
 ghost use Rattle.std.specs.Prelude.{◌≡◌};
 ghost use Rattle.std.specs.Iterator.{YieldsFirstRef, item_count};
 ghost use Rattle.script.specs.Pieces.{lines, words};
+ghost use Rattle.script.specs.Reading.{Gives, word_at, end_of};
 ghost use Rattle.script.specs.Rests.{lines_left, words_left};
 
 /// The lines of a text.
@@ -42,8 +43,8 @@ impl<'a> Iterator for Lines<'a> {
     }
 }
 
-/// The words of a line.
-#[derive(Drop)]
+/// The words of a line that haven't been read.
+#[derive(Clone, Copy)]
 pub struct Words<'a> {
     rest: Option<&'a [u8]>,
 }
@@ -54,26 +55,30 @@ impl<'a> Words<'a> {
     {
         Words { rest: Some(line) }
     }
-}
 
-impl<'a> Iterator for Words<'a> {
-    type Item = &'a [u8];
-
-    ghost next_gives = { YieldsFirstRef words_left };
-
-    ghost remaining = { item_count words_left };
-
-    fn next(&mut self) -> Option<&'a [u8]> {
-        let rest = self.rest?;
-        match rest.iter().position(|byte| *byte == b' ') {
+    /// The first word, and the words after it.
+    pub fn first(self) -> Option<(&'a [u8], Words<'a>)>
+        ensures { Gives (λ found. (found.0.now, words_left found.1)) result (word_at (words_left self.entry)) }
+    {
+        let line = self.rest?;
+        match line.iter().position(|byte| *byte == b' ') {
             Some(end) => {
-                self.rest = Some(&rest[end + 1..]);
-                Some(&rest[..end])
+                let after = Words {
+                    rest: Some(&line[end + 1..]),
+                };
+                Some((&line[..end], after))
             }
-            None => {
-                self.rest = None;
-                Some(rest)
-            }
+            None => Some((line, Words { rest: None })),
+        }
+    }
+
+    /// Nothing, if no word is left.
+    pub fn end(self) -> Option<()>
+        ensures { Gives (λ _. tt) result (end_of (words_left self.entry)) }
+    {
+        match self.rest {
+            None => Some(()),
+            Some(_) => None,
         }
     }
 }

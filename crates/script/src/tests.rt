@@ -36,7 +36,10 @@ fn texts(rt: HostRuntime) -> Result<(), Fail> {
         (" log 65536 1408 7 0 1 1001 0\nconnect\nlimit\n", 3),
         ("logs 65536 1408 7 0 1 1001 0\n\n", 2),
         ("LOG 65536 1408 7 0 1 1001 0\nconnect", 2),
-        ("log 65536 1408 7 0 1 1001 0\nlog 65536 1408 7 0 1 1001 0\n", 2),
+        (
+            "log 65536 1408 7 0 1 1001 0\nlog 65536 1408 7 0 1 1001 0\n",
+            2,
+        ),
         ("log 65536 1408 7 0 1 1001 0\nconnect\n\nlog\n", 4),
         ("log 65536 1408 7 0 1 1001 0\r\nconnect\r\n", 1),
         ("log 65536 1408 7 0 1 1001 0\rconnect\r", 1),
@@ -56,7 +59,10 @@ fn log_lines(rt: HostRuntime) -> Result<(), Fail> {
     for (line, fits) in [
         ("log 65536 1408 7 0 1 1001 0", true),
         ("log 0 0 0 0 0 0 0", true),
-        ("log 4294967295 4294967295 -2147483648 0 2147483647 -2147483648 0", true),
+        (
+            "log 4294967295 4294967295 -2147483648 0 2147483647 -2147483648 0",
+            true,
+        ),
         ("log 4294967296 1408 7 0 1 1001 0", false),
         ("log 65536 4294967296 7 0 1 1001 0", false),
         ("log 65536 1408 2147483648 0 1 1001 0", false),
@@ -71,7 +77,10 @@ fn log_lines(rt: HostRuntime) -> Result<(), Fail> {
         ("log -0 1408 7 0 1 1001 0", false),
         ("log 65536 1408 7 -0 1 1001 0", false),
         ("log 65536 1408 7 0 1 1001 -0", false),
-        ("log 00000000000000000000000000000065536 01408 7 00 1 1001 000", true),
+        (
+            "log 00000000000000000000000000000065536 01408 7 00 1 1001 000",
+            true,
+        ),
         ("log 65536 1408 7 1 1 1001 0", false),
         ("log 65536 1408 7 0 1 1001 1", false),
         ("log 65536 1408 7 0 1 1001 8", false),
@@ -117,7 +126,10 @@ fn commands(rt: HostRuntime) -> Result<(), Fail> {
         ("send 0", true),
         ("send 18446744073709551615", true),
         ("send 18446744073709551616", false),
-        ("send 99999999999999999999999999999999999999999999999999", false),
+        (
+            "send 99999999999999999999999999999999999999999999999999",
+            false,
+        ),
         ("send 00000000000000000000000018446744073709551615", true),
         ("send -0", false),
         ("send -1", false),
@@ -163,16 +175,26 @@ fn commands(rt: HostRuntime) -> Result<(), Fail> {
 #[test]
 fn no_text(rt: HostRuntime) -> Result<(), Fail> {
     assert_eq!(rt; fault_line(&rt, b"\xff\xfe\n\x00")?, 2);
-    assert_eq!(rt; fault_line(&rt, b"log 65536 1408 7 0 1 1001 0\n\n\xffsend 0\n")?, 3);
-    assert_eq!(rt; fault_line(&rt, b"log 65536 1408 7 0 1 1001 0\nsend \x00\n")?, 2);
-    assert_eq!(rt; fault_line(&rt, b"log 65536 1408 7 0 1 1001 0\nsend 0\xb2\n")?, 2);
+    assert_eq!(rt;
+        fault_line(&rt, b"log 65536 1408 7 0 1 1001 0\n\n\xffsend 0\n")?,
+        3
+    );
+    assert_eq!(rt;
+        fault_line(&rt, b"log 65536 1408 7 0 1 1001 0\nsend \x00\n")?,
+        2
+    );
+    assert_eq!(rt;
+        fault_line(&rt, b"log 65536 1408 7 0 1 1001 0\nsend 0\xb2\n")?,
+        2
+    );
     Ok(())
 }
 
 /// What the lines say.
 #[test]
 fn a_script(rt: HostRuntime) -> Result<(), Fail> {
-    let text = "\nlog 65536 1408 -7 0 2147483647 -2147483648 0\n\nconnect\nlimit\noffer 3 hex 00fFA09b\n\nsend 5\n\
+    let text =
+        "\nlog 65536 1408 -7 0 2147483647 -2147483648 0\n\nconnect\nlimit\noffer 3 hex 00fFA09b\n\nsend 5\n\
         deliver 1 2 3\ntick 4 18446744073709551615\nreply 6 7\npoll 7\nimage 0";
     let script = read_script(rt.alloc(), text.as_bytes())?;
     let log = LogLine {
@@ -188,13 +210,27 @@ fn a_script(rt: HostRuntime) -> Result<(), Fail> {
     let commands = vec![in rt.alloc();
         Command::Connect,
         Command::Limit,
-        Command::Offer { publisher: Seat { number: 3 }, message: vec![in rt.alloc(); 0, 255, 160, 155]? },
+        Command::Offer {
+            publisher: Seat { number: 3 },
+            message: vec![in rt.alloc(); 0, 255, 160, 155]?
+        },
         Command::Send { now: 5 },
-        Command::Deliver { packet: 1, receiver: Seat { number: 2 }, now: 3 },
-        Command::Tick { receiver: Seat { number: 4 }, now: u64::MAX },
+        Command::Deliver {
+            packet: 1,
+            receiver: Seat { number: 2 },
+            now: 3
+        },
+        Command::Tick {
+            receiver: Seat { number: 4 },
+            now: u64::MAX
+        },
         Command::Reply { packet: 6, now: 7 },
-        Command::Poll { receiver: Seat { number: 7 } },
-        Command::Image { receiver: Seat { number: 0 } },
+        Command::Poll {
+            receiver: Seat { number: 7 }
+        },
+        Command::Image {
+            receiver: Seat { number: 0 }
+        },
     ]?;
     assert_eq!(rt; script.commands, commands);
     Ok(())

@@ -1,9 +1,15 @@
-use crate::command::Seat;
-use crate::fault::ScriptFault;
-use std::alloc::Global;
+ghost use Rattle.std.specs.Prelude.{◌≡◌, ◌^◌, ◌<◌, ◌≤◌, IfOk, IfSome, option_map};
+ghost use Rattle.std.specs.Str.Parse.{starts_with_minus};
+ghost use Rattle.script.specs.Reading.{Gives};
+ghost use Rattle.script.specs.Values.{number_of, signed_of, hex_digit_of, byte_of, hex_of};
+
+use std::alloc::{AllocError, Global};
 
 /// The number that the digits spell, if it is at most `most`.
-pub fn number(digits: &[u8], most: u64) -> Option<u64> {
+pub fn number(digits: &[u8], most: u64) -> Option<u64>
+    ensures value { result ≡ number_of most digits.now }
+    ensures bound { IfSome result (λ n. n ≤ most) }
+{
     if digits.is_empty() {
         return None;
     }
@@ -12,30 +18,39 @@ pub fn number(digits: &[u8], most: u64) -> Option<u64> {
         if !digit.is_ascii_digit() {
             return None;
         }
-        value = value.checked_mul(10)?.checked_add(u64::from(*digit - b'0'))?;
+        value = value
+            .checked_mul(10)?
+            .checked_add(u64::from(*digit - b'0'))?;
     }
     if value <= most { Some(value) } else { None }
 }
 
+fn is_negative(word: &[u8]) -> bool
+    ensures { result ≡ starts_with_minus word.now }
+{
+    !word.is_empty() && word[0] == b'-'
+}
+
 /// The number that an optional minus sign and digits spell, if it is one of 32 bits.
-pub fn signed(word: &[u8]) -> Option<i32> {
-    match word.split_first() {
-        Some((b'-', digits)) => {
-            let size = number(digits, 1 << 31)?;
-            Some((-(size as i64)) as i32)
-        }
-        _ => Some(number(word, i32::MAX as u64)? as i32),
+#[tactic(auto, using(crate::proofs::Digits::minus, crate::proofs::Digits::plus), unfolding(crate::specs::Values::signed_of))]
+pub fn signed(word: &[u8]) -> Option<i32>
+    ensures { result ≡ signed_of word.now }
+{
+    if is_negative(word) {
+        let size = number(&word[1..], 1 << 31)?;
+        Some((-(size as i64)) as i32)
+    } else {
+        let size = number(word, i32::MAX as u64)?;
+        Some(size as i32)
     }
 }
 
-/// The publisher or receiver of this number.
-pub fn seat(word: &[u8]) -> Option<Seat> {
-    let number = number(word, 7)? as usize;
-    Some(Seat { number })
-}
-
 /// What a hexadecimal digit stands for.
-fn hex_digit(digit: u8) -> Option<u8> {
+#[tactic(auto, unfolding(crate::specs::Values::hex_digit_of))]
+fn hex_digit(digit: u8) -> Option<u8>
+    ensures value { result ≡ hex_digit_of digit }
+    ensures small { IfSome result (λ n. n < 16) }
+{
     match digit {
         b'0'..=b'9' => Some(digit - b'0'),
         b'a'..=b'f' => Some(digit - b'a' + 10),
@@ -44,19 +59,36 @@ fn hex_digit(digit: u8) -> Option<u8> {
     }
 }
 
+/// The byte that two hexadecimal digits spell.
+#[tactic(auto, unfolding(crate::specs::Values::byte_of))]
+fn hex_byte(high: u8, low: u8) -> Option<u8>
+    ensures { result ≡ byte_of high low }
+{
+    let high = hex_digit(high)?;
+    let low = hex_digit(low)?;
+    Some(high * 16 + low)
+}
+
 /// The bytes that the digits spell, two digits a byte.
-pub fn hex(alloc: Global, digits: &[u8]) -> Result<Option<Vec<u8>>, ScriptFault> {
-    if digits.is_empty() || digits.len() % 2 != 0 {
+pub fn hex(alloc: Global, digits: &[u8]) -> Result<Option<Vec<u8>>, AllocError>
+    ensures { IfOk result (λ found. option_map (λ bytes. bytes.items) found ≡ hex_of digits.now) }
+{
+    if digits.is_empty() {
         return Ok(None);
     }
     let mut bytes = Vec::with_capacity(alloc, digits.len() / 2)?;
-    let mut at = 0;
-    while at + 1 < digits.len() {
-        let (Some(high), Some(low)) = (hex_digit(digits[at]), hex_digit(digits[at + 1])) else {
+    let mut rest = digits;
+    while rest.len() >= 2 {
+        let (pair, after) = rest.split_at(2);
+        let Some(byte) = hex_byte(pair[0], pair[1]) else {
             return Ok(None);
         };
-        bytes.push(high * 16 + low)?;
-        at += 2;
+        bytes.push(byte)?;
+        rest = after;
     }
-    Ok(Some(bytes))
+    if rest.is_empty() {
+        Ok(Some(bytes))
+    } else {
+        Ok(None)
+    }
 }

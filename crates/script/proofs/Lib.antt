@@ -1,0 +1,11 @@
+pub mod Cuts
+pub mod Digits
+pub mod Pairs
+pub mod Whole
+pub mod Options
+pub mod Words
+pub mod Orders
+pub mod Laws
+pub mod Faults
+pub mod Fields
+pub mod Openings

@@ -1,0 +1,173 @@
+-- The commands of lines: reading one, and being said, are the same.
+use Rattle.std.proofs.Common.{◌≡◌, ℕ, true, cond, List, [], ◌∷◌, Option, Some, None, inl, inr, sym, ap, subst, ◌∙◌}
+use Rattle.std.specs.Prelude.{bytes_eq, codes}
+use Rattle.script.specs.Meaning.{Order, Connect, Limit, Offer, Send, Deliver, Tick, Reply, Poll, Image}
+use Rattle.script.specs.Pieces.{words}
+use Rattle.script.specs.Values.{◌>>=◌, hex_of}
+use Rattle.script.specs.Reading.{word_at, number_at, most_moment, whole, offer_of, send_of, deliver_of, tick_of, reply_of, poll_of, image_of, plain_of, command_of}
+use Rattle.script.specs.Language.{SayOrder, Says}
+use Rattle.script.proofs.Options.{bind_some, some_bind, chosen, guarded_step}
+use Rattle.script.proofs.Words.{hex_found, hex_only}
+use Rattle.script.proofs.Fields.{same_name, word_found, number_at_found, number_at_only, whole_found, whole_only}
+
+send_found : (ws : List (List ℕ)) (o : Order) → send_of ws ≡ Some o → SayOrder (codes "send" ∷ ws) o
+unfolding send_of
+send_found ws o e =
+    let now = bind_some (number_at most_moment ws) (λ now. whole (Send now.0) now.1) o e in
+    let a = number_at_found most_moment ws now.0 now.1 in
+    let end = whole_found (Send now.0.0) now.0.1 o now.2 in
+    subst (SayOrder (codes "send" ∷ ws)) end.1 (a.0, ap (λ rest. codes "send" ∷ rest) (a.1 ∙ ap (λ rest. a.0 ∷ rest) end.0), a.2)
+
+poll_found : (ws : List (List ℕ)) (o : Order) → poll_of ws ≡ Some o → SayOrder (codes "poll" ∷ ws) o
+unfolding poll_of
+poll_found ws o e =
+    let r = bind_some (number_at 7 ws) (λ r. whole (Poll r.0) r.1) o e in
+    let a = number_at_found 7 ws r.0 r.1 in
+    let end = whole_found (Poll r.0.0) r.0.1 o r.2 in
+    subst (SayOrder (codes "poll" ∷ ws)) end.1 (a.0, ap (λ rest. codes "poll" ∷ rest) (a.1 ∙ ap (λ rest. a.0 ∷ rest) end.0), a.2)
+
+image_found : (ws : List (List ℕ)) (o : Order) → image_of ws ≡ Some o → SayOrder (codes "image" ∷ ws) o
+unfolding image_of
+image_found ws o e =
+    let r = bind_some (number_at 7 ws) (λ r. whole (Image r.0) r.1) o e in
+    let a = number_at_found 7 ws r.0 r.1 in
+    let end = whole_found (Image r.0.0) r.0.1 o r.2 in
+    subst (SayOrder (codes "image" ∷ ws)) end.1 (a.0, ap (λ rest. codes "image" ∷ rest) (a.1 ∙ ap (λ rest. a.0 ∷ rest) end.0), a.2)
+
+tick_found : (ws : List (List ℕ)) (o : Order) → tick_of ws ≡ Some o → SayOrder (codes "tick" ∷ ws) o
+unfolding tick_of
+tick_found ws o e =
+    let r = bind_some (number_at 7 ws) (λ r. number_at most_moment r.1 >>= λ now. whole (Tick r.0 now.0) now.1) o e in
+    let a = number_at_found 7 ws r.0 r.1 in
+    let now = bind_some (number_at most_moment r.0.1) (λ now. whole (Tick r.0.0 now.0) now.1) o r.2 in
+    let b = number_at_found most_moment r.0.1 now.0 now.1 in
+    let end = whole_found (Tick r.0.0 now.0.0) now.0.1 o now.2 in
+    subst (SayOrder (codes "tick" ∷ ws)) end.1
+    (a.0, b.0, ap (λ rest. codes "tick" ∷ rest) (a.1 ∙ ap (λ rest. a.0 ∷ rest) (b.1 ∙ ap (λ rest. b.0 ∷ rest) end.0)), a.2, b.2)
+
+reply_found : (ws : List (List ℕ)) (o : Order) → reply_of ws ≡ Some o → SayOrder (codes "reply" ∷ ws) o
+unfolding reply_of
+reply_found ws o e =
+    let k = bind_some (number_at most_moment ws) (λ k. number_at most_moment k.1 >>= λ now. whole (Reply k.0 now.0) now.1) o e in
+    let a = number_at_found most_moment ws k.0 k.1 in
+    let now = bind_some (number_at most_moment k.0.1) (λ now. whole (Reply k.0.0 now.0) now.1) o k.2 in
+    let b = number_at_found most_moment k.0.1 now.0 now.1 in
+    let end = whole_found (Reply k.0.0 now.0.0) now.0.1 o now.2 in
+    subst (SayOrder (codes "reply" ∷ ws)) end.1
+    (a.0, b.0, ap (λ rest. codes "reply" ∷ rest) (a.1 ∙ ap (λ rest. a.0 ∷ rest) (b.1 ∙ ap (λ rest. b.0 ∷ rest) end.0)), a.2, b.2)
+
+deliver_found : (ws : List (List ℕ)) (o : Order) → deliver_of ws ≡ Some o → SayOrder (codes "deliver" ∷ ws) o
+unfolding deliver_of
+deliver_found ws o e =
+    let k = bind_some (number_at most_moment ws) (λ k. number_at 7 k.1 >>= λ r. number_at most_moment r.1 >>= λ now. whole (Deliver k.0 r.0 now.0) now.1) o e in
+    let a = number_at_found most_moment ws k.0 k.1 in
+    let r = bind_some (number_at 7 k.0.1) (λ r. number_at most_moment r.1 >>= λ now. whole (Deliver k.0.0 r.0 now.0) now.1) o k.2 in
+    let b = number_at_found 7 k.0.1 r.0 r.1 in
+    let now = bind_some (number_at most_moment r.0.1) (λ now. whole (Deliver k.0.0 r.0.0 now.0) now.1) o r.2 in
+    let c = number_at_found most_moment r.0.1 now.0 now.1 in
+    let end = whole_found (Deliver k.0.0 r.0.0 now.0.0) now.0.1 o now.2 in
+    subst (SayOrder (codes "deliver" ∷ ws)) end.1
+    (a.0, b.0, c.0, ap (λ rest. codes "deliver" ∷ rest) (a.1 ∙ ap (λ rest. a.0 ∷ rest) (b.1 ∙ ap (λ rest. b.0 ∷ rest) (c.1 ∙ ap (λ rest. c.0 ∷ rest) end.0))), a.2, b.2, c.2)
+
+offer_found : (ws : List (List ℕ)) (o : Order) → offer_of ws ≡ Some o → SayOrder (codes "offer" ∷ ws) o
+unfolding offer_of
+offer_found ws o e =
+    let p = bind_some (number_at 7 ws) (λ p. word_at p.1 >>= λ form. cond (bytes_eq form.0 (codes "hex")) (word_at form.1 >>= λ digits. hex_of digits.0 >>= λ message. whole (Offer p.0 message) digits.1) None) o e in
+    let a = number_at_found 7 ws p.0 p.1 in
+    let form = bind_some (word_at p.0.1) (λ form. cond (bytes_eq form.0 (codes "hex")) (word_at form.1 >>= λ digits. hex_of digits.0 >>= λ message. whole (Offer p.0.0 message) digits.1) None) o p.2 in
+    let hex = guarded_step (bytes_eq form.0.0 (codes "hex")) (word_at form.0.1 >>= λ digits. hex_of digits.0 >>= λ message. whole (Offer p.0.0 message) digits.1) o form.2 in
+    let digits = bind_some (word_at form.0.1) (λ digits. hex_of digits.0 >>= λ message. whole (Offer p.0.0 message) digits.1) o hex.1 in
+    let message = bind_some (hex_of digits.0.0) (λ message. whole (Offer p.0.0 message) digits.0.1) o digits.2 in
+    let end = whole_found (Offer p.0.0 message.0) digits.0.1 o message.2 in
+    let named : p.0.1 ≡ codes "hex" ∷ form.0.1 = word_found p.0.1 form.0 form.1 ∙ ap (λ w. w ∷ form.0.1) (same_name form.0.0 (codes "hex") hex.0) in
+    let last : form.0.1 ≡ digits.0.0 ∷ [] = word_found form.0.1 digits.0 digits.1 ∙ ap (λ rest. digits.0.0 ∷ rest) end.0 in
+    subst (SayOrder (codes "offer" ∷ ws)) end.1
+    (a.0, digits.0.0, ap (λ rest. codes "offer" ∷ rest) (a.1 ∙ ap (λ rest. a.0 ∷ rest) (named ∙ ap (λ rest. codes "hex" ∷ rest) last)), a.2, hex_found digits.0.0 message.0 message.1)
+
+-- a name that passes a test is that name
+named_says : (name : List ℕ) (word : List ℕ) (ws : List (List ℕ)) (o : Order) → bytes_eq name word ≡ true → SayOrder (word ∷ ws) o → SayOrder (name ∷ ws) o
+named_says name word ws o e says = subst (λ n. SayOrder (n ∷ ws) o) (sym (same_name name word e)) says
+
+connect_found : (ws : List (List ℕ)) (o : Order) → whole Connect ws ≡ Some o → SayOrder (codes "connect" ∷ ws) o
+connect_found ws o e =
+    let end = whole_found Connect ws o e in
+    subst (SayOrder (codes "connect" ∷ ws)) end.1 (ap (λ rest. codes "connect" ∷ rest) end.0)
+
+limit_found : (ws : List (List ℕ)) (o : Order) → whole Limit ws ≡ Some o → SayOrder (codes "limit" ∷ ws) o
+limit_found ws o e =
+    let end = whole_found Limit ws o e in
+    subst (SayOrder (codes "limit" ∷ ws)) end.1 (ap (λ rest. codes "limit" ∷ rest) end.0)
+
+plain_found : (name : List ℕ) (ws : List (List ℕ)) (o : Order) → plain_of name ws ≡ Some o → SayOrder (name ∷ ws) o
+unfolding plain_of
+plain_found name ws o e = elim (chosen (bytes_eq name (codes "connect")) _ _ _ e) [
+  | inl h ↦ named_says name (codes "connect") ws o h.0 (connect_found ws o h.1)
+  | inr f1 ↦ elim (chosen (bytes_eq name (codes "limit")) _ _ _ f1.1) [
+    | inl h ↦ named_says name (codes "limit") ws o h.0 (limit_found ws o h.1)
+    | inr f2 ↦ elim (chosen (bytes_eq name (codes "send")) _ _ _ f2.1) [
+      | inl h ↦ named_says name (codes "send") ws o h.0 (send_found ws o h.1)
+      | inr f3 ↦ elim (chosen (bytes_eq name (codes "deliver")) _ _ _ f3.1) [
+        | inl h ↦ named_says name (codes "deliver") ws o h.0 (deliver_found ws o h.1)
+        | inr f4 ↦ elim (chosen (bytes_eq name (codes "tick")) _ _ _ f4.1) [
+          | inl h ↦ named_says name (codes "tick") ws o h.0 (tick_found ws o h.1)
+          | inr f5 ↦ elim (chosen (bytes_eq name (codes "reply")) _ _ _ f5.1) [
+            | inl h ↦ named_says name (codes "reply") ws o h.0 (reply_found ws o h.1)
+            | inr f6 ↦ elim (chosen (bytes_eq name (codes "poll")) _ _ _ f6.1) [
+              | inl h ↦ named_says name (codes "poll") ws o h.0 (poll_found ws o h.1)
+              | inr f7 ↦
+                  let h = guarded_step (bytes_eq name (codes "image")) (image_of ws) o f7.1 in
+                  named_says name (codes "image") ws o h.0 (image_found ws o h.1)
+            ]
+          ]
+        ]
+      ]
+    ]
+  ]
+]
+
+pub command_found : (line : List ℕ) (order : Order) → command_of line ≡ Some order → Says line order
+unfolding command_of
+command_found line order e =
+    let name = bind_some (word_at (words line)) (λ name. cond (bytes_eq name.0 (codes "offer")) (offer_of name.1) (plain_of name.0 name.1)) order e in
+    let whole : words line ≡ name.0.0 ∷ name.0.1 = word_found (words line) name.0 name.1 in
+    let says : SayOrder (name.0.0 ∷ name.0.1) order = elim (chosen (bytes_eq name.0.0 (codes "offer")) _ _ _ name.2) [
+      | inl h ↦ named_says name.0.0 (codes "offer") name.0.1 order h.0 (offer_found name.0.1 order h.1)
+      | inr h ↦ plain_found name.0.0 name.0.1 order h.1
+    ] in
+    subst (λ ws. SayOrder ws order) (sym whole) says
+
+-- the command that words say
+read_words : List (List ℕ) → Option Order
+read_words ws = word_at ws >>= λ name. cond (bytes_eq name.0 (codes "offer")) (offer_of name.1) (plain_of name.0 name.1)
+
+words_only : (ws : List (List ℕ)) (order : Order) → SayOrder ws order → read_words ws ≡ Some order
+unfolding read_words word_at plain_of offer_of send_of deliver_of tick_of reply_of poll_of image_of
+words_only ws Connect is = ap read_words is ∙ whole_only Connect
+words_only ws Limit is = ap read_words is ∙ whole_only Limit
+words_only ws (Offer p m) (a, b, is, is_a, is_b) =
+    ap read_words is
+    ∙ some_bind (number_at 7 (a ∷ codes "hex" ∷ b ∷ [])) _ (p, codes "hex" ∷ b ∷ []) (number_at_only 7 a (codes "hex" ∷ b ∷ []) p is_a)
+    ∙ some_bind (hex_of b) _ m (hex_only b m is_b) ∙ whole_only (Offer p m)
+words_only ws (Send now) (a, is, is_a) =
+    ap read_words is ∙ some_bind (number_at most_moment (a ∷ [])) _ (now, []) (number_at_only most_moment a [] now is_a) ∙ whole_only (Send now)
+words_only ws (Deliver k r now) (a, b, c, is, is_a, is_b, is_c) =
+    ap read_words is
+    ∙ some_bind (number_at most_moment (a ∷ b ∷ c ∷ [])) _ (k, b ∷ c ∷ []) (number_at_only most_moment a (b ∷ c ∷ []) k is_a)
+    ∙ some_bind (number_at 7 (b ∷ c ∷ [])) _ (r, c ∷ []) (number_at_only 7 b (c ∷ []) r is_b)
+    ∙ some_bind (number_at most_moment (c ∷ [])) _ (now, []) (number_at_only most_moment c [] now is_c) ∙ whole_only (Deliver k r now)
+words_only ws (Tick r now) (a, b, is, is_a, is_b) =
+    ap read_words is
+    ∙ some_bind (number_at 7 (a ∷ b ∷ [])) _ (r, b ∷ []) (number_at_only 7 a (b ∷ []) r is_a)
+    ∙ some_bind (number_at most_moment (b ∷ [])) _ (now, []) (number_at_only most_moment b [] now is_b) ∙ whole_only (Tick r now)
+words_only ws (Reply k now) (a, b, is, is_a, is_b) =
+    ap read_words is
+    ∙ some_bind (number_at most_moment (a ∷ b ∷ [])) _ (k, b ∷ []) (number_at_only most_moment a (b ∷ []) k is_a)
+    ∙ some_bind (number_at most_moment (b ∷ [])) _ (now, []) (number_at_only most_moment b [] now is_b) ∙ whole_only (Reply k now)
+words_only ws (Poll r) (a, is, is_a) =
+    ap read_words is ∙ some_bind (number_at 7 (a ∷ [])) _ (r, []) (number_at_only 7 a [] r is_a) ∙ whole_only (Poll r)
+words_only ws (Image r) (a, is, is_a) =
+    ap read_words is ∙ some_bind (number_at 7 (a ∷ [])) _ (r, []) (number_at_only 7 a [] r is_a) ∙ whole_only (Image r)
+
+pub command_only : (line : List ℕ) (order : Order) → Says line order → command_of line ≡ Some order
+unfolding command_of read_words
+command_only line order says = words_only (words line) order says

@@ -1,0 +1,75 @@
+-- Whole scripts, line after line.
+use Rattle.std.proofs.Common.{◌≡◌, ℕ, ◌+◌, ◌<◌, ◌≤◌, Bool, true, false, cond, List, [], ◌∷◌, ◌++◌, length, Option, Some, None, Ok, Err, refl, sym, ap, ◌∙◌, arith, append_assoc}
+use Rattle.std.specs.Prelude.{Result, ◌==◌}
+use Rattle.std.proofs.lemmas.List.{append-nil}
+use Rattle.std.specs.List.{list_any}
+use Rattle.std.proofs.Common.{max}
+use Rattle.std.proofs.lemmas.Bool.{cond-true, cond-false}
+use Rattle.script.specs.declared.fault.ScriptFault.{ScriptFault}
+use Rattle.script.specs.declared.fault.ScriptFault.TheVariants.{Line, Memory}
+use Rattle.script.specs.Meaning.{Opening, Order}
+use Rattle.script.specs.Pieces.{with_first, lines}
+use Rattle.script.specs.Reading.{with_front, behind, FailsAt, FaultIs, finished, is_log, script_of, script_from, log_of, command_of, GoesOn}
+
+-- no text has more lines than bytes
+more_lines : (x : ℕ) (ls : List (List ℕ)) (n : ℕ) → length ls ≤ n → length (with_first x ls) ≤ n + 1
+more_lines x [] n h = omega arith
+more_lines x (l ∷ ls) n h = omega arith
+
+one_more : (x : ℕ) (ls : List (List ℕ)) (n : ℕ) (t : Bool) → length ls ≤ n → length (cond t ([] ∷ ls) (with_first x ls)) ≤ n + 1
+one_more x ls n true h = omega arith
+one_more x ls n false h = more_lines x ls n h
+
+pub lines_few : (xs : List ℕ) → length (lines xs) ≤ length xs
+unfolding lines
+lines_few [] = omega arith
+lines_few (x ∷ xs) = omega (arith, one_more x (lines xs) (length xs) (x == 10) (lines_few xs))
+
+-- an empty line does nothing
+pub empty_line : (number : ℕ) (line : List ℕ) (log : Option Opening) (orders : List Order) → length line ≡ 0 → GoesOn number line log orders log orders
+unfolding script_from
+empty_line number [] log orders none rest = refl
+empty_line number (byte ∷ line) log orders none rest = absurd (omega arith)
+
+pub log_refused : (number : ℕ) (line : List ℕ) (rest : List (List ℕ)) → 0 < length line → log_of line ≡ None → script_from number None (line ∷ rest) ≡ Err number
+unfolding script_from
+log_refused number [] rest some refused = absurd (omega arith)
+log_refused number (byte ∷ line) rest some refused = ap (λ found. behind number found (λ log. script_from (number + 1) (Some log) rest)) refused
+
+pub log_opened : (number : ℕ) (line : List ℕ) (log : Opening) (orders : List Order) → 0 < length line → log_of line ≡ Some log → GoesOn number line None orders (Some log) orders
+unfolding script_from
+log_opened number [] log orders some read rest = absurd (omega arith)
+log_opened number (byte ∷ line) log orders some read rest = sym (ap (λ found. with_front orders (behind number found (λ l. script_from (number + 1) (Some l) rest))) read)
+
+pub command_refused : (number : ℕ) (line : List ℕ) (log : Opening) (rest : List (List ℕ)) → 0 < length line → command_of line ≡ None → script_from number (Some log) (line ∷ rest) ≡ Err number
+unfolding script_from
+command_refused number [] log rest some refused = absurd (omega arith)
+command_refused number (byte ∷ line) log rest some refused = ap (λ found. behind number found (λ order. with_front (order ∷ []) (script_from (number + 1) (Some log) rest))) refused
+
+put_first : (orders : List Order) (order : Order) (read : Result (Option Opening × List Order) ℕ) → with_front (orders ++ order ∷ []) read ≡ with_front orders (with_front (order ∷ []) read)
+put_first orders order (Err number) = refl
+put_first orders order (Ok (log, rest)) = ap (λ os. Ok (log, os)) (append_assoc orders (order ∷ []) rest)
+
+pub command_added : (number : ℕ) (line : List ℕ) (log : Opening) (orders : List Order) (order : Order) → 0 < length line → command_of line ≡ Some order → GoesOn number line (Some log) orders (Some log) (orders ++ order ∷ [])
+unfolding script_from
+command_added number [] log orders order some read rest = absurd (omega arith)
+command_added number (byte ∷ line) log orders order some read rest =
+    put_first orders order (script_from (number + 1) (Some log) rest)
+    ∙ sym (ap (λ found. with_front orders (behind number found (λ o. with_front (o ∷ []) (script_from (number + 1) (Some log) rest)))) read)
+
+pub command_fails : (number : ℕ) (line : List ℕ) (log : Opening) (fault : ScriptFault) → 0 < length line → FailsAt number fault (command_of line) → (rest : List (List ℕ)) → FaultIs fault (script_from number (Some log) (line ∷ rest))
+command_fails number line log (Line n) some (same, refused) rest = command_refused number line log rest some refused ∙ ap Err (sym same)
+command_fails number line log Memory some fails rest = tt
+
+-- behind the last line
+pub at_end : (number : ℕ) (log : Option Opening) (orders : List Order) → with_front orders (script_from number log []) ≡ Ok (log, orders)
+unfolding script_from
+at_end number log orders = ap (λ os. Ok (log, os)) (append-nil orders)
+
+pub no_log : (xs : List ℕ) → list_any is_log (lines xs) ≡ false → script_of xs ≡ Err (max 1 (length (lines xs)))
+unfolding script_of
+no_log xs none = cond-false _ _ _ none
+
+pub with_log : (xs : List ℕ) → list_any is_log (lines xs) ≡ true → script_of xs ≡ finished (script_from 1 None (lines xs))
+unfolding script_of
+with_log xs some = cond-true _ _ _ some

@@ -1,0 +1,32 @@
+use Rattle.std.proofs.Common.{◌≡◌, ◌<◌, ◌++◌, ◌∷◌, [], length, arith}
+use Rattle.std.proofs.lemmas.Bool.Decides.{nat_tests}
+use Rattle.std.proofs.lemmas.List.{map_push}
+use Rattle.std.proofs.lemmas.Result.{err_from_is_err_and}
+use Rattle.script.specs.Meaning.{opened, order, orders, opening}
+use Rattle.script.proofs.Whole.{empty_line, log_refused, log_opened, command_fails, command_added}
+use Rattle.script.proofs.read.read_line.Goals as goal
+
+pub returns-then-is_empty-clause-ok : goal.returns-then-is_empty-clause-ok
+returns-then-is_empty-clause-ok c = empty_line c.args.number c.args.line.now (opened c.args.log.now) (orders c.args.commands.now.items) (grind (arith, nat_tests))
+
+pub returns-in_default-clause-err : goal.returns-in_default-clause-err
+returns-in_default-clause-err c = λ rest.
+    let some : 0 < length c.args.line.now = grind (arith, nat_tests) in
+    rw c.in-None.is (log_refused c.args.number c.args.line.now rest some c.in_default.ensures)
+
+pub returns-in_err-next-in-Some-clause-err : goal.returns-in_err-next-in-Some-clause-err
+returns-in_err-next-in-Some-clause-err c =
+    let some : 0 < length c.args.line.now = grind (arith, nat_tests) in
+    let p = err_from_is_err_and c.from_residual.result c.from_residual.ensures.1 in
+    rw (p.1, p.2, c.in-Some.is) (command_fails c.args.number c.args.line.now (opening c.in-Some.field-0) c.in_err-next-in-Some.field-0.0 some c.in_err-next-in-Some.ensures)
+
+pub returns-in-Some-log_line-clause-ok : goal.returns-in-Some-log_line-clause-ok
+returns-in-Some-log_line-clause-ok c = λ rest.
+    let some : 0 < length c.args.line.now = grind (arith, nat_tests) in
+    rw c.in-None.is (log_opened c.args.number c.args.line.now (opening c.in-Some-log_line.opening) (orders c.args.commands.now.items) some c.in-Some-log_line.ensures rest)
+
+pub returns-in_ok-push-in-Some-clause-ok : goal.returns-in_ok-push-in-Some-clause-ok
+returns-in_ok-push-in-Some-clause-ok c = λ rest.
+    let some : 0 < length c.args.line.now = grind (arith, nat_tests) in
+    let pushed : orders c.push.new.self.items ≡ orders c.args.commands.now.items ++ order c.in_ok-next-in-Some.next ∷ [] = rw c.in_ok-push-in-Some.ensures.items (map_push _ c.args.commands.now.items c.in_ok-next-in-Some.next) in
+    rw (pushed, c.in-Some.is) (command_added c.args.number c.args.line.now (opening c.in-Some.field-0) (orders c.args.commands.now.items) (order c.in_ok-next-in-Some.next) some c.in_ok-next-in-Some.ensures rest)

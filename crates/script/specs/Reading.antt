@@ -1,0 +1,139 @@
+-- Reading from the first line to the last, and in a line from the first word to the last.
+use Rattle.std.specs.Prelude.{◌≡◌, ℕ, ◌+◌, ◌-◌, ◌^◌, ℤ, Bool, false, List, [], ◌∷◌, ◌++◌, length, max, Option, Some, None, Result, Ok, Err, if◌then◌else◌, codes, bytes_eq}
+use Rattle.std.specs.List.{list_any}
+use Rattle.script.specs.declared.fault.ScriptFault.{ScriptFault}
+use Rattle.script.specs.declared.fault.ScriptFault.TheVariants as faults
+use Rattle.script.specs.Meaning.{Opening, Order, Told, Connect, Limit, Offer, Send, Deliver, Tick, Reply, Poll, Image}
+use Rattle.script.specs.Pieces.{lines, words}
+use Rattle.script.specs.Values.{◌>>=◌, number_of, signed_of, hex_of}
+
+-- What was returned, seen by `view`, is what reading gives.
+abbrev pub Gives : {X Y : Type 0} → (X → Y) → Option X → Option Y → Type 0
+Gives view (Some x) read = read ≡ Some (view x)
+Gives view None read = read ≡ None
+
+-- The same of a line with this number, unless memory runs out.
+abbrev pub FailsAt : {Y : Type 0} → ℕ → ScriptFault → Option Y → Type 0
+FailsAt number (faults.Line n) read = (n ≡ number) × (read ≡ None)
+FailsAt number faults.Memory read = Unit {0}
+
+abbrev pub GivesAt : {X Y : Type 0} → ℕ → (X → Y) → Result X ScriptFault → Option Y → Type 0
+GivesAt number view (Ok x) read = read ≡ Some (view x)
+GivesAt number view (Err fault) read = FailsAt number fault read
+
+-- A field is a value and the words after it.
+unfoldable pub word_at : List (List ℕ) → Option (List ℕ × List (List ℕ))
+word_at [] = None
+word_at (word ∷ rest) = Some (word, rest)
+
+unfoldable pub number_at : ℕ → List (List ℕ) → Option (ℕ × List (List ℕ))
+number_at most ws = word_at ws >>= λ w. number_of most w.0 >>= λ n. Some (n, w.1)
+
+unfoldable pub signed_at : List (List ℕ) → Option (ℤ × List (List ℕ))
+signed_at ws = word_at ws >>= λ w. signed_of w.0 >>= λ n. Some (n, w.1)
+
+abbrev pub most_moment : ℕ
+most_moment = 2 ^ 64 - 1
+
+-- nothing, if no word is left
+unfoldable pub end_of : List (List ℕ) → Option (Unit {0})
+end_of [] = Some tt
+end_of (word ∷ rest) = None
+
+-- a value, if no word is left
+abbrev pub whole : {A : Type 0} → A → List (List ℕ) → Option A
+whole x ws = end_of ws >>= λ _. Some x
+
+-- what stands behind the name of each command
+unfoldable pub offer_of : List (List ℕ) → Option Order
+offer_of ws = number_at 7 ws >>= λ p. word_at p.1 >>= λ form. (if bytes_eq form.0 (codes "hex") then (word_at form.1 >>= λ digits. hex_of digits.0 >>= λ message. whole (Offer p.0 message) digits.1) else None)
+
+unfoldable pub send_of : List (List ℕ) → Option Order
+send_of ws = number_at most_moment ws >>= λ now. whole (Send now.0) now.1
+
+unfoldable pub deliver_of : List (List ℕ) → Option Order
+deliver_of ws = number_at most_moment ws >>= λ packet. number_at 7 packet.1 >>= λ receiver. number_at most_moment receiver.1 >>= λ now. whole (Deliver packet.0 receiver.0 now.0) now.1
+
+unfoldable pub tick_of : List (List ℕ) → Option Order
+tick_of ws = number_at 7 ws >>= λ receiver. number_at most_moment receiver.1 >>= λ now. whole (Tick receiver.0 now.0) now.1
+
+unfoldable pub reply_of : List (List ℕ) → Option Order
+reply_of ws = number_at most_moment ws >>= λ packet. number_at most_moment packet.1 >>= λ now. whole (Reply packet.0 now.0) now.1
+
+unfoldable pub poll_of : List (List ℕ) → Option Order
+poll_of ws = number_at 7 ws >>= λ receiver. whole (Poll receiver.0) receiver.1
+
+unfoldable pub image_of : List (List ℕ) → Option Order
+image_of ws = number_at 7 ws >>= λ receiver. whole (Image receiver.0) receiver.1
+
+-- the command of a name, and of what stands behind it
+unfoldable pub plain_of : List ℕ → List (List ℕ) → Option Order
+plain_of name ws =
+    if bytes_eq name (codes "connect") then whole Connect ws
+    else (if bytes_eq name (codes "limit") then whole Limit ws
+    else (if bytes_eq name (codes "send") then send_of ws
+    else (if bytes_eq name (codes "deliver") then deliver_of ws
+    else (if bytes_eq name (codes "tick") then tick_of ws
+    else (if bytes_eq name (codes "reply") then reply_of ws
+    else (if bytes_eq name (codes "poll") then poll_of ws
+    else (if bytes_eq name (codes "image") then image_of ws else None)))))))
+
+unfoldable pub command_of : List ℕ → Option Order
+command_of line = word_at (words line) >>= λ name. (if bytes_eq name.0 (codes "offer") then offer_of name.1 else plain_of name.0 name.1)
+
+-- the fields of the line that opens the log
+unfoldable pub opening_of : List (List ℕ) → Option Opening
+opening_of ws =
+    number_at (2 ^ 32 - 1) ws >>= λ term_length. number_at (2 ^ 32 - 1) term_length.1 >>= λ mtu. signed_at mtu.1 >>= λ initial.
+    number_at 0 initial.1 >>= λ start. signed_at start.1 >>= λ session. signed_at session.1 >>= λ stream. number_at 0 stream.1 >>= λ readers.
+    whole (record { term_length = term_length.0; mtu = mtu.0; initial_term_id = initial.0; start = start.0; session = session.0; stream = stream.0; readers = readers.0 }) readers.1
+
+unfoldable pub log_of : List ℕ → Option Opening
+log_of line = word_at (words line) >>= λ name. (if bytes_eq name.0 (codes "log") then opening_of name.1 else None)
+
+abbrev pub is_log_name : Option (List ℕ × List (List ℕ)) → Bool
+is_log_name None = false
+is_log_name (Some name) = bytes_eq name.0 (codes "log")
+
+-- the first word is `log`
+unfoldable pub is_log : List ℕ → Bool
+is_log line = is_log_name (word_at (words line))
+
+-- the pieces in front of what reading gives
+abbrev pub with_front : List Order → Result (Option Opening × List Order) ℕ → Result (Option Opening × List Order) ℕ
+with_front front (Ok x) = Ok (x.0, front ++ x.1)
+with_front front (Err number) = Err number
+
+-- what comes after a value, or the number of the line that lacks it
+abbrev pub behind : {A B : Type 0} → ℕ → Option A → (A → Result B ℕ) → Result B ℕ
+behind number None next = Err number
+behind number (Some x) next = next x
+
+-- what the lines from this number on say, once the log is opened or not; an error is the number of a line that doesn't fit
+unfoldable pub script_from : ℕ → Option Opening → List (List ℕ) → Result (Option Opening × List Order) ℕ
+script_from number log [] = Ok (log, [])
+script_from number log ([] ∷ rest) = script_from (number + 1) log rest
+script_from number None ((byte ∷ line) ∷ rest) = behind number (log_of (byte ∷ line)) (λ log. script_from (number + 1) (Some log) rest)
+script_from number (Some log) ((byte ∷ line) ∷ rest) = behind number (command_of (byte ∷ line)) (λ order. with_front (order ∷ []) (script_from (number + 1) (Some log) rest))
+
+-- a line on, the rest says the same
+abbrev pub GoesOn : ℕ → List ℕ → Option Opening → List Order → Option Opening → List Order → Type 0
+GoesOn number line log orders next_log next_orders = (rest : List (List ℕ)) → with_front next_orders (script_from (number + 1) next_log rest) ≡ with_front orders (script_from number log (line ∷ rest))
+
+abbrev pub finished : Result (Option Opening × List Order) ℕ → Result Told ℕ
+finished (Err number) = Err number
+finished (Ok (None, orders)) = Err 1
+finished (Ok (Some log, orders)) = Ok (record { log = log; orders = orders })
+
+-- the script that a text is, or the number of the line of its fault
+unfoldable pub script_of : List ℕ → Result Told ℕ
+script_of bytes = if list_any is_log (lines bytes) then finished (script_from 1 None (lines bytes)) else Err (max 1 (length (lines bytes)))
+
+-- What was returned is what reading gives, unless memory runs out.
+abbrev pub FaultIs : {Y : Type 0} → ScriptFault → Result Y ℕ → Type 0
+FaultIs (faults.Line number) read = read ≡ Err number
+FaultIs faults.Memory read = Unit {0}
+
+abbrev pub GivesScript : {X Y : Type 0} → (X → Y) → Result X ScriptFault → Result Y ℕ → Type 0
+GivesScript view (Ok x) read = read ≡ Ok (view x)
+GivesScript view (Err fault) read = FaultIs fault read
