@@ -1,0 +1,66 @@
+-- How far a sender may send to a group of receivers.
+use Rattle.std.specs.Prelude.{ℕ, zero, suc, ◌+◌, Bool, true, false, ◌&&◌, min, max, nat_eq, nat_le, List, [], ◌∷◌, if◌then◌else◌, ℤ, pos, ◌+ℤ◌, Option, None, Some, negsuc, nat_lt}
+use Rattle.std.specs.List.{list_any}
+use Rattle.theory.specs.FlowLimit.{Said, clipped}
+
+pub data Heard : Type 0 where
+  StatusCame : (receiver : ℤ) (position : ℤ) (window : ℤ) (now : ℕ) → Heard
+  Ticked : (now : ℕ) → Heard
+
+abbrev pub moment_of : Heard → ℕ
+moment_of (StatusCame r p w now) = now
+moment_of (Ticked now) = now
+
+abbrev pub is_same : ℤ → ℕ → Bool
+is_same (pos n) r = nat_eq n r
+is_same other r = false
+
+abbrev pub is_of : ℕ → Heard → Bool
+is_of r (StatusCame id p w now) = is_same id r
+is_of r (Ticked now) = false
+
+abbrev pub reach_of : Heard → ℕ
+reach_of (StatusCame id p w now) = clipped (p +ℤ w)
+reach_of (Ticked now) = 0
+
+abbrev pub best : ℕ → List Heard → ℕ
+best r [] = 0
+best r (t ∷ ts) = if is_of r t then max (reach_of t) (best r ts) else best r ts
+
+abbrev pub is_live : ℕ → ℕ → List Heard → Bool
+is_live now r ts = list_any (λ t. is_of r t && nat_le now (moment_of t + 5000000000)) ts
+
+-- of the first n numbers
+abbrev pub all_heard : ℕ → List Heard → Bool
+all_heard zero ts = true
+all_heard (suc n) ts = list_any (is_of n) ts && all_heard n ts
+
+abbrev pub least_or : ℕ → Option ℕ → Option ℕ
+least_or p None = Some p
+least_or p (Some q) = Some (min p q)
+
+abbrev pub candidate : ℕ → ℕ → List Heard → Option ℕ
+candidate zero now ts = None
+candidate (suc n) now ts = if is_live now n ts then least_or (best n ts) (candidate n now ts) else candidate n now ts
+
+abbrev pub at_least : Option ℕ → ℕ → ℕ
+at_least None limit = limit
+at_least (Some p) limit = max p limit
+
+-- a tick, or a status message of a receiver of the group; others are as if they hadn't come
+abbrev pub is_inside : ℕ → Heard → Bool
+is_inside group (StatusCame (pos n) p w now) = nat_lt n group
+is_inside group (StatusCame (negsuc n) p w now) = false
+is_inside group (Ticked now) = true
+
+-- the greatest of the start and of the candidates, one at each moment from which all are heard
+abbrev pub group_limit : ℕ → ℕ → List Heard → ℕ
+group_limit group start [] = start
+group_limit group start (t ∷ ts) =
+    if is_inside group t && all_heard group (t ∷ ts) then at_least (candidate group (moment_of t) (t ∷ ts)) (group_limit group start ts) else group_limit group start ts
+
+-- what was heard, as a single receiver's status messages
+abbrev pub said_of : List Heard → List Said
+said_of [] = []
+said_of (StatusCame r p w now ∷ ts) = record { position = p; window = w } ∷ said_of ts
+said_of (Ticked now ∷ ts) = said_of ts

@@ -1,0 +1,51 @@
+-- Laws on images, whatever frames they are given.
+use Rattle.std.specs.Prelude.{◌≡◌, ℕ, ◌+◌, ◌*◌, ◌/◌, ◌%◌, ◌<◌, ◌≤◌, ◌⊎◌, List, map, nat_le}
+use Rattle.std.specs.List.{AllByRecursion, filter}
+use Rattle.theory.specs.Position.{Geometry}
+use Rattle.theory.specs.Placed.{Among, IsReached, Placed, covered, end_of}
+use Rattle.theory.specs.Units.{IsContiguous, contiguous}
+use Rattle.theory.specs.Gap.{IsFirstGap}
+use Rattle.theory.specs.Insert.{AreApart, Head, head_of, insert_answer}
+use Rattle.theory.specs.Image.{Image, ImageEvent, ImageRun, image_at}
+
+-- it holds of every image after every list of events, whatever frames were given
+abbrev pub ImageAlways : (Geometry → Image → Type 0) → Type 0
+ImageAlways Holds = (g : Geometry) (given : List Placed) (join window consumers : ℕ) (events : List ImageEvent) (i : Image) → ImageRun g given (image_at join window consumers) events i → Holds g i
+
+-- the stored frames never overlap
+abbrev pub IsApart : Geometry → Image → Type 0
+IsApart g i = AreApart (map head_of i.stored)
+
+-- no frame lies on both sides of m
+abbrev pub AreParted : ℕ → List Placed → Type 0
+AreParted m frames = AllByRecursion (λ t. t.at < m → end_of t ≤ m) frames
+
+-- a position that a consumer reached lies inside no stored frame
+abbrev pub IsParted : Geometry → Image → Type 0
+IsParted g i = (m : ℕ) → IsReached i.stored i.join m → AreParted m i.stored
+
+-- the mark is the join, the end of a stored frame, or within three quarters of a term above each consumer; and nothing stored is above it
+pub record IsMarked (g : Geometry) (i : Image) : Type 0 where
+  pub above : AllByRecursion (λ s. end_of s ≤ i.high) i.stored
+  pub from : i.join ≤ i.high
+  pub reached : (i.high ≡ i.join) ⊎ (((s : Placed) × Among s i.stored × (i.high ≡ end_of s)) ⊎ AllByRecursion (λ r. i.high ≤ r.at + 3 * g.term_length / 4) i.consumers)
+
+-- the frames from m on
+abbrev pub held : ℕ → List Placed → List Placed
+held m frames = filter (λ t. nat_le m t.at) frames
+
+-- frames below a position that lies inside none of them may be forgotten: what insert answers is the same
+abbrev pub AnswersWithout : Type 0
+AnswersWithout = (g : Geometry) (frames : List Placed) (m window : ℕ) (h : Head) → AreParted m frames → insert_answer g (map head_of frames) m window h ≡ insert_answer g (map head_of (held m frames)) m window h
+
+-- and so is the contiguous end, counted from there
+abbrev pub ReachesWithout : Type 0
+ReachesWithout = (frames : List Placed) (j q m passed : ℕ) → m ≡ j + 32 * passed → m ≤ q → AreParted m frames → IsContiguous frames j q → IsContiguous (held m frames) m q
+
+-- the end that is computed is the contiguous one, and the only one
+abbrev pub ComputesContiguous : Type 0
+ComputesContiguous = (frames : List Placed) (j high : ℕ) → AllByRecursion (λ s. end_of s ≤ high) frames → IsContiguous frames j (contiguous frames j high) × ((q : ℕ) → IsContiguous frames j q → q ≡ contiguous frames j high)
+
+-- the gap that is computed there is the first one
+abbrev pub ComputesGap : Type 0
+ComputesGap = (term : ℕ) (frames : List Placed) (high j q : ℕ) → 0 < term → j % 32 ≡ 0 → q ≤ high → AllByRecursion (λ s. (s.at % 32 ≡ 0) × (0 < covered s)) frames → IsContiguous frames j q → IsFirstGap term frames high q
