@@ -12,3 +12,13 @@ text_of Flags = codes "F5 flags"
 text_of Alignment = codes "F6 alignment"
 text_of Range = codes "F7 range"
 text_of Datagram = codes "F8 datagram"
+
+abbrev pub code_of : FrameError → List ℕ
+code_of Short = codes "F1"
+code_of Version = codes "F2"
+code_of Kind = codes "F3"
+code_of Length = codes "F4"
+code_of Flags = codes "F5"
+code_of Alignment = codes "F6"
+code_of Range = codes "F7"
+code_of Datagram = codes "F8"

@@ -1,5 +1,7 @@
 pub mod Fault
 pub mod Frames
 pub mod Fields
-pub mod Reading
+pub mod Fronts
 pub mod Order
+pub mod Reading
+pub mod Datagrams

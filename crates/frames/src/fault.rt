@@ -1,5 +1,5 @@
 ghost use Rattle.std.specs.Prelude.{◌≡◌};
-ghost use Rattle.frames.specs.Fault.{text_of};
+ghost use Rattle.frames.specs.Fault.{code_of, text_of};
 
 use thiserror::Error;
 
@@ -26,6 +26,22 @@ pub enum FrameError {
 }
 
 impl FrameError {
+    /// The code alone.
+    pub fn code(self) -> &'static str
+        ensures { result.now ≡ code_of self }
+    {
+        match self {
+            FrameError::Short => "F1",
+            FrameError::Version => "F2",
+            FrameError::Kind => "F3",
+            FrameError::Length => "F4",
+            FrameError::Flags => "F5",
+            FrameError::Alignment => "F6",
+            FrameError::Range => "F7",
+            FrameError::Datagram => "F8",
+        }
+    }
+
     /// The code and the name that a user sees.
     pub fn text(self) -> &'static str
         ensures { result.now ≡ text_of self }

@@ -1,4 +1,5 @@
-ghost use Rattle.std.specs.Prelude.{◌≡◌, length};
+ghost use Rattle.std.specs.Prelude.{◌≡◌, ◌+◌, length};
+ghost use Rattle.theory.specs.Position.{aligned};
 ghost use Rattle.theory.specs.Wire.{spelling};
 ghost use Rattle.frames.specs.Frames.{wire};
 
@@ -77,7 +78,9 @@ pub enum Frame<'a> {
         frame_length: u32,
     },
     /// A sender's sign of life, which names its position.
-    Heartbeat { header: Header },
+    Heartbeat {
+        header: Header,
+    },
     Nak(Nak),
     Status {
         /// Whether a SETUP is asked for.
@@ -93,11 +96,18 @@ impl Frame<'_> {
         ensures { result ≡ length (spelling (wire self.now)) }
     {
         match *self {
-            Frame::Data { payload, .. } => (32 + payload.len()).next_multiple_of(32),
+            Frame::Data { payload, .. } => covered(payload),
             Frame::Pad { .. } | Frame::Heartbeat { .. } => 32,
             Frame::Nak(_) => 28,
             Frame::Status { .. } => 36,
             Frame::Setup(_) => 40,
         }
     }
+}
+
+/// The bytes of a DATA frame with this payload.
+fn covered(payload: &[u8]) -> usize
+    ensures { result ≡ aligned (32 + length payload.now) }
+{
+    (32 + payload.len()).next_multiple_of(32)
 }

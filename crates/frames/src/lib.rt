@@ -11,7 +11,7 @@ mod frame;
 mod reading;
 mod writing;
 
-pub use datagram::check_datagram;
+pub use datagram::{check_datagram, one_reading, one_spelling};
 pub use fault::FrameError;
 pub use frame::{BEGIN, END, Frame, Header, Nak, Setup, Status, UNFRAGMENTED};
 pub use reading::read_frame;

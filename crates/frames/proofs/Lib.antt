@@ -1,0 +1,10 @@
+pub mod Puts
+pub mod Numbers
+pub mod Guards
+pub mod Again
+pub mod Found
+pub mod Written
+pub mod Laws
+pub mod Faults
+pub mod Together
+pub mod OneFault

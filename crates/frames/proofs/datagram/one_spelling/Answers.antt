@@ -1,0 +1,5 @@
+use Rattle.frames.proofs.Laws.{one_spelling}
+use Rattle.frames.proofs.datagram.one_spelling.Goals as goal
+
+pub returns : goal.returns
+returns c = one_spelling

@@ -1,0 +1,42 @@
+//! One command line, carried out.
+
+use crate::choice::Options;
+use crate::command_line::{OptionsFault, options};
+use crate::fault::Fault;
+use crate::sim::sim;
+use clap::Error;
+use std::alloc::Global;
+use std::io::{Read, Write};
+
+/// Carries out a command line over a reader and two writers, and gives the status: 0 where all was done, 1 at a fault,
+/// 2 for a refused command line.
+pub fn command<'a, R: Read, W: Write, E: Write>(
+    alloc: Global,
+    words: &'a [&'a str],
+    input: &mut R,
+    output: &mut W,
+    errors: &mut E,
+) -> u8 {
+    let done = match options(alloc, words) {
+        Ok(Options::Sim) => sim(alloc, input, output),
+        Err(OptionsFault::Memory) => Err(Fault::Memory),
+        Err(OptionsFault::Shown(error)) if error.use_stderr() => {
+            let _ = write!(errors, "{error}");
+            return 2;
+        }
+        Err(OptionsFault::Shown(help)) => shown(output, &help),
+    };
+    match done {
+        Ok(()) => 0,
+        Err(fault) => {
+            let _ = writeln!(errors, "error: {fault}");
+            1
+        }
+    }
+}
+
+/// Prints the help that was asked for.
+fn shown<W: Write>(output: &mut W, help: &Error) -> Result<(), Fault> {
+    write!(output, "{help}").map_err(|_| Fault::Write)?;
+    output.flush().map_err(|_| Fault::Write)
+}

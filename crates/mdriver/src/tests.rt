@@ -1,0 +1,181 @@
+use super::*;
+use std::alloc::Global;
+use std::io::{Error, ErrorKind, Read, Write};
+use std::test::*;
+
+const SIM: &[&str] = &["mdriver", "sim"];
+
+/// Scripts, and what they print.
+const PLAYED: &[(&str, &str)] = &[
+    // one message, from the offer to the poll
+    (
+        "log 65536 1408 7 0 1 1001 0\nconnect\nlimit\noffer 0 hex 616263\nsend 0\ndeliver 0 0 0\ntick 0 0\nreply 1 0\nsend 0\ndeliver 2 0 0\npoll 0\nimage 0\n",
+        "open\nok\nlimit 32768\nposition 64\npacket 0 28000000000005000000000001000000e90300000700000007000000000001008005000000000000\nopened 0\npacket 1 240000000000030001000000e90300000700000000000000008000000000000000000000\nstatus 32768\npacket 2 2300000000c001000000000001000000e90300000700000000000000000000006162630000000000000000000000000000000000000000000000000000000000\nI1\nmessage 616263\nimage least 64 rebuilt 64 high 64\nbook 0 64 64 0 0 0 0 0 0 0\n",
+    ),
+    // empty lines, and no line feed at the end
+    (
+        "log 65536 1408 7 0 1 1001 0\n\nconnect\n\nlimit\n\noffer 0 hex 616263\n\nsend 0\n\ndeliver 0 0 0\n\ntick 0 0\n\nreply 1 0\n\nsend 0\n\ndeliver 2 0 0\n\npoll 0\n\nimage 0",
+        "open\nok\nlimit 32768\nposition 64\npacket 0 28000000000005000000000001000000e90300000700000007000000000001008005000000000000\nopened 0\npacket 1 240000000000030001000000e90300000700000000000000008000000000000000000000\nstatus 32768\npacket 2 2300000000c001000000000001000000e90300000700000000000000000000006162630000000000000000000000000000000000000000000000000000000000\nI1\nmessage 616263\nimage least 64 rebuilt 64 high 64\nbook 0 64 64 0 0 0 0 0 0 0\n",
+    ),
+    // nobody is connected
+    (
+        "log 65536 1408 7 0 1 1001 0\noffer 0 hex 616263\n",
+        "open\nrefused -1\nbook 0 0 0 0 0 0 0 0 0 0\n",
+    ),
+    // a receiver without an image asks
+    (
+        "log 65536 1408 7 0 1 1001 0\nconnect\nlimit\noffer 0 hex 616263\nsend 0\ndeliver 0 0 0\ntick 0 0\nreply 1 0\nsend 0\ndeliver 2 0 0\npoll 0\nimage 0\ndeliver 2 1 0\ntick 1 0\ntick 1 0\nreply 3 0\n",
+        "open\nok\nlimit 32768\nposition 64\npacket 0 28000000000005000000000001000000e90300000700000007000000000001008005000000000000\nopened 0\npacket 1 240000000000030001000000e90300000700000000000000008000000000000000000000\nstatus 32768\npacket 2 2300000000c001000000000001000000e90300000700000000000000000000006162630000000000000000000000000000000000000000000000000000000000\nI1\nmessage 616263\nimage least 64 rebuilt 64 high 64\nasked\npacket 3 240000000080030001000000e90300000700000000000000000000000100000000000000\nnothing\nasked\npacket 4 28000000000005004000000001000000e90300000700000007000000000001008005000000000000\nbook 0 64 64 0 0 0 0 0 0 0\n",
+    ),
+    // repeated packets
+    (
+        "log 65536 1408 7 0 1 1001 0\nconnect\nlimit\noffer 0 hex 616263\nsend 0\ndeliver 0 0 0\ntick 0 0\nreply 1 0\nsend 0\ndeliver 2 0 0\npoll 0\nimage 0\ndeliver 2 0 0\ndeliver 0 0 0\ndeliver 1 0 0\nreply 0 0\npoll 0\ntick 0 199999999\ntick 0 200000000\n",
+        "open\nok\nlimit 32768\nposition 64\npacket 0 28000000000005000000000001000000e90300000700000007000000000001008005000000000000\nopened 0\npacket 1 240000000000030001000000e90300000700000000000000008000000000000000000000\nstatus 32768\npacket 2 2300000000c001000000000001000000e90300000700000000000000000000006162630000000000000000000000000000000000000000000000000000000000\nI1\nmessage 616263\nimage least 64 rebuilt 64 high 64\nI3\nkept\nother\nother\nnone\nnothing\npacket 3 240000000000030001000000e90300000700000040000000008000000000000000000000\nbook 0 64 64 0 0 0 0 0 0 0\n",
+    ),
+    // what isn't there
+    (
+        "log 65536 1408 7 0 1 1001 0\ndeliver 0 0 0\nreply 18446744073709551615 0\npoll 7\nimage 0\n",
+        "open\nbad\nbad\nbad\nbad\nbook 0 0 0 0 0 0 0 0 0 0\n",
+    ),
+    // a term length
+    ("log 1000 1408 7 0 1 1001 0\n", "G1\n"),
+    // an MTU
+    ("log 65536 1400 7 0 1 1001 0\n", "G2\n"),
+];
+
+/// Scripts that can't be read, and what is told.
+const REFUSED: &[(&str, &str)] = &[
+    ("", "error: line 1: script\n"),
+    ("\n\n", "error: line 2: script\n"),
+    ("log 65536 1408 7 0 1 1001 0\r\n", "error: line 1: script\n"),
+    (
+        "log 65536 1408 7 0 1 1001 0\nsend\t0\n",
+        "error: line 2: script\n",
+    ),
+    (
+        "log 65536 1408 7 0 1 1001 0\nsend  0\n",
+        "error: line 2: script\n",
+    ),
+    (
+        "connect\nlog 65536 1408 7 0 1 1001 0\n",
+        "error: line 1: script\n",
+    ),
+    (
+        "log 65536 1408 7 0 1 1001 0\n\nlog 65536 1408 7 0 1 1001 0\n",
+        "error: line 3: script\n",
+    ),
+    (
+        "log 65536 1408 7 0 1 1001 0\nclose\n",
+        "error: line 2: script\n",
+    ),
+    (
+        "log 65536 1408 7 0 1 1001 0\noffer 0 hex 616\n",
+        "error: line 2: script\n",
+    ),
+    ("log 65536 1408 7 32 1 1001 0\n", "error: line 1: script\n"),
+    ("log 65536 1408 7 0 1 1001 1\n", "error: line 1: script\n"),
+    (
+        "log 65536 1408 7 0 1 1001 0\nsend 18446744073709551616\n",
+        "error: line 2: script\n",
+    ),
+];
+
+/// What a command line prints and tells, and its status.
+#[derive(Drop)]
+struct Done {
+    output: Vec<u8>,
+    errors: Vec<u8>,
+    status: u8,
+}
+
+fn run_over(alloc: Global, words: &[&str], mut input: &[u8]) -> Done {
+    let mut output = Vec::new(alloc);
+    let mut errors = Vec::new(alloc);
+    let status = command(alloc, words, &mut input, &mut output, &mut errors);
+    Done {
+        output,
+        errors,
+        status,
+    }
+}
+
+#[test]
+fn scripts(rt: HostRuntime) {
+    for (script, lines) in PLAYED {
+        let done = run_over(rt.alloc(), SIM, script.as_bytes());
+        assert_eq!(rt; done.output.as_slice(), lines.as_bytes());
+        assert_eq!(rt; done.errors.len(), 0);
+        assert_eq!(rt; done.status, 0);
+    }
+    for (script, told) in REFUSED {
+        let done = run_over(rt.alloc(), SIM, script.as_bytes());
+        assert_eq!(rt; done.output.len(), 0);
+        assert_eq!(rt; done.errors.as_slice(), told.as_bytes());
+        assert_eq!(rt; done.status, 1);
+    }
+}
+
+/// A script of 1 MiB is played, and one of a byte more isn't.
+#[test]
+fn longest_script(rt: HostRuntime) -> Result<(), Fail> {
+    let mut script = Vec::from_slice(rt.alloc(), b"log 65536 1408 7 0 1 1001 0\n")?;
+    script.resize(1_048_576, b'\n')?;
+    let done = run_over(rt.alloc(), SIM, &script);
+    assert_eq!(rt;
+        done.output.as_slice(),
+        b"open\nbook 0 0 0 0 0 0 0 0 0 0\n".as_slice()
+    );
+    script.push(b'\n')?;
+    let done = run_over(rt.alloc(), SIM, &script);
+    assert_eq!(rt; done.errors.as_slice(), b"error: input\n".as_slice());
+    assert_eq!(rt; done.status, 1);
+    Ok(())
+}
+
+/// A stream that always fails.
+#[derive(Drop)]
+struct Broken;
+
+impl Read for Broken {
+    fn read(&mut self, _buffer: &mut [u8]) -> io::Result<usize> {
+        Err(Error::from(ErrorKind::Other))
+    }
+}
+
+impl Write for Broken {
+    fn write(&mut self, _bytes: &[u8]) -> io::Result<usize> {
+        Err(Error::from(ErrorKind::Other))
+    }
+
+    fn flush(&mut self) -> io::Result<()> {
+        Err(Error::from(ErrorKind::Other))
+    }
+}
+
+#[test]
+fn broken_streams(rt: HostRuntime) {
+    let mut output = Vec::new(rt.alloc());
+    let mut errors = Vec::new(rt.alloc());
+    let status = command(rt.alloc(), SIM, &mut Broken, &mut output, &mut errors);
+    assert_eq!(rt; errors.as_slice(), b"error: read\n".as_slice());
+    assert_eq!(rt; status, 1);
+    let mut input: &[u8] = b"log 65536 1408 7 0 1 1001 0\n";
+    let mut errors = Vec::new(rt.alloc());
+    let status = command(rt.alloc(), SIM, &mut input, &mut Broken, &mut errors);
+    assert_eq!(rt; errors.as_slice(), b"error: write\n".as_slice());
+    assert_eq!(rt; status, 1);
+}
+
+#[test]
+fn command_lines(rt: HostRuntime) {
+    for words in [["mdriver", "fly"].as_slice(), ["mdriver"].as_slice()] {
+        let done = run_over(rt.alloc(), words, b"");
+        assert_eq!(rt; done.status, 2);
+        assert_eq!(rt; done.output.len(), 0);
+        assert_ne!(rt; done.errors.len(), 0);
+    }
+    let done = run_over(rt.alloc(), &["mdriver", "--help"], b"");
+    assert_eq!(rt; done.status, 0);
+    assert_eq!(rt; done.errors.len(), 0);
+    assert_ne!(rt; done.output.len(), 0);
+}
