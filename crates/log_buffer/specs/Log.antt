@@ -1,5 +1,5 @@
 -- What a contract sees of a log, and what holds of each log's parts.
-use Rattle.std.specs.Prelude.{◌≡◌, ℕ, ◌+◌, ◌-◌, ◌*◌, ◌/◌, ◌%◌, ◌<◌, ◌≤◌, ◌^◌, Bool, false, List, length, All, Some, slice_get}
+use Rattle.std.specs.Prelude.{◌≡◌, ℕ, ◌+◌, ◌-◌, ◌*◌, ◌%◌, ◌<◌, ◌≤◌, ◌^◌, Bool, false, List, length, All, Some, slice_get}
 use Rattle.theory.specs.Position.{Geometry, IsGeometry, aligned, max_position}
 use Rattle.log_buffer.specs.declared.entry.Entry.{Entry}
 use Rattle.log_buffer.specs.declared.entry.Claimed.{Claimed}

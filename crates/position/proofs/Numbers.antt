@@ -1,12 +1,12 @@
 -- Powers of two, and signed sums that fit.
-use Rattle.std.proofs.Common.{◌≡◌, ℕ, suc, ◌+◌, ◌-◌, ◌%◌, ap, ◌≤◌, ◌<◌, ◌^◌, ◌/◌, ◌*◌, ℤ, pos, ◌+ℤ◌, ◌*ℤ◌, arith, sym, refl, ◌∙◌, subst, inl, inr, max, rules}
-use Rattle.std.proofs.lemmas.Int.{ints, to_z-of_z, fits_signed_mul, unsigned_abs-mul}
+use Rattle.std.proofs.Common.{◌≡◌, ℕ, suc, ◌+◌, ◌-◌, ◌%◌, ap, ◌≤◌, ◌<◌, ◌^◌, ◌/◌, ◌*◌, ℤ, pos, ◌+ℤ◌, ◌*ℤ◌, arith, sym, refl, ◌∙◌, inl, inr, rules}
+use Rattle.std.proofs.lemmas.Int.{to_z-of_z, fits_signed_mul, unsigned_abs-mul}
 use Rattle.std.proofs.lemmas.Bool.{cases_lt}
 use Rattle.std.proofs.Math.Pow.{pow_mono, pow-lt}
 use Rattle.std.proofs.Math.Nat.{two-pow-succ, mul-le-mul, mul-le-mul_right, mul-mod_left, mul-zero, zero-mod, div-lt_iff_lt-mul, mul_comm}
 use Rattle.std.proofs.lemmas.Nat.{pow-add, mul-mod, div-add-mod'}
 use Rattle.std.specs.Int.{w32, w64, IsPowerOfTwo}
-use Rattle.std.specs.Int.RustNames.{FitsSigned, unsigned_abs}
+use Rattle.std.specs.Int.RustNames.{unsigned_abs}
 use Rattle.theory.specs.Position.{Geometry, count_of, position_of}
 use mir.Val.{to_z, of_z, SFits}
 

@@ -1,4 +1,4 @@
-use Rattle.std.proofs.Common.{arith, rules, refl, subst, ◌≡◌, ◌≤◌, ◌+◌, ◌%◌, ◌<◌}
+use Rattle.std.proofs.Common.{arith, rules, refl, subst, ◌+◌}
 use Rattle.log_buffer.specs.Log.{Log, IsInside}
 use Rattle.log_buffer.specs.Reader.{IsWholeFrame}
 use Rattle.log_buffer.proofs.Terms.{offset_in_term}

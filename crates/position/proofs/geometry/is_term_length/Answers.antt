@@ -1,6 +1,5 @@
-use Rattle.std.proofs.Common.{◌≡◌, ◌≤◌, ◌<◌, arith, sym, subst, eq-eqb, rules}
+use Rattle.std.proofs.Common.{◌≡◌, ◌≤◌, arith, subst, rules}
 use Rattle.std.specs.Int.{IsPowerOfTwo}
-use Rattle.std.proofs.lemmas.Bool.{eqb-true}
 use Rattle.position.proofs.Numbers.{same_power}
 use Rattle.position.proofs.geometry.is_term_length.Goals as goal
 

@@ -1,4 +1,3 @@
-use Rattle.std.proofs.Common.{arith}
 use Rattle.position.proofs.Numbers.{whole_power}
 use Rattle.position.proofs.geometry.Geometry.term_length.Goals as goal
 

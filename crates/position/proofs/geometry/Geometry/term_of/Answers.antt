@@ -1,4 +1,4 @@
-use Rattle.std.proofs.Common.{arith, ◌≡◌, ◌%◌, rules}
+use Rattle.std.proofs.Common.{arith, ◌≡◌, ◌%◌}
 use Rattle.position.proofs.Numbers.{whole_power, unit_offset}
 use Rattle.position.proofs.geometry.Geometry.term_of.Goals.{then-position-max_position, else-position-max_position}
 use Rattle.position.proofs.geometry.Geometry.term_of.Goals as goal
