@@ -1,14 +1,14 @@
 //! The receiver's core: datagrams and moments in, outcomes and replies out.
 
-ghost use Rattle.std.specs.Prelude.{◌≡◌, ◌≤◌, ◌^◌, ◌+◌, length};
-ghost use Rattle.position.specs.declared.head.FrameKind.TheVariants.{Data};
+ghost use Rattle.std.specs.Prelude.{◌≤◌};
+ghost use Rattle.rebuilder.specs.Stored.{IsOfStream};
 ghost use Rattle.theory.specs.Position.{max_position};
 ghost use Rattle.theory.specs.Wire.{IsFrame};
 ghost use Rattle.frames.specs.Frames.{wire};
 
 use crate::setup::{SetupError, judge};
 use frames::{Frame, FrameError, Header, Setup, Status, check_datagram, read_frame};
-use position::{FrameKind, Geometry};
+use position::Geometry;
 use rebuilder::{Image, Insert};
 use std::alloc::{AllocError, Global};
 
@@ -128,26 +128,18 @@ impl ReceiverCore {
         requires { IsFrame (wire frame.now) }
     {
         match *frame {
-            Frame::Data {
-                header,
-                flags,
-                payload,
-            } if self.is_mine(header.session, header.stream) => {
-                let length = payload.len() as u32 + 32;
-                self.on_stored(&header, FrameKind::Data, flags, length, payload)
+            Frame::Data { header, .. } if self.is_mine(header.session, header.stream) => {
+                self.on_stored(&header, frame)
             }
-            Frame::Pad {
-                header,
-                frame_length,
-            } if self.is_mine(header.session, header.stream) => {
-                self.on_stored(&header, FrameKind::Pad, PAD_FLAGS, frame_length, &[])
+            Frame::Pad { header, .. } if self.is_mine(header.session, header.stream) => {
+                self.on_stored(&header, frame)
             }
             Frame::Heartbeat { header } if self.is_mine(header.session, header.stream) => {
                 Ok(self.on_heartbeat(&header))
             }
-            Frame::Setup(setup) if self.is_mine(setup.session, setup.stream) => self.on_setup(
-                &setup,
-            ),
+            Frame::Setup(setup) if self.is_mine(setup.session, setup.stream) => {
+                self.on_setup(&setup)
+            }
             _ => Ok(Outcome::Other),
         }
     }
@@ -156,27 +148,18 @@ impl ReceiverCore {
         session == self.session && stream == self.stream
     }
 
-    fn on_stored(
-        &mut self,
-        header: &Header,
-        kind: FrameKind,
-        flags: u8,
-        frame_length: u32,
-        payload: &[u8],
-    ) -> Result<Outcome, AllocError>
-        requires length { frame_length ≤ 2 ^ 24 }
-        requires payload { length payload.now ≤ 65472 }
-        requires data { kind ≡ Data → frame_length ≡ 32 + length payload.now }
+    /// Hands a DATA frame or a padding with this header to the image.
+    fn on_stored(&mut self, header: &Header, frame: &Frame<'_>) -> Result<Outcome, AllocError>
+        requires frame { IsFrame (wire frame.now) }
+        requires stored { IsOfStream frame.now }
     {
         let Some(image) = &mut self.image else {
             self.unmet = Some(*header);
             return Ok(Outcome::Asked);
         };
-        let position = image
-            .geometry()
-            .position(header.term_id, header.term_offset.cast_signed());
-        let answer = image.insert_parts(position, kind, flags, frame_length, payload)?;
-        Ok(Outcome::Inserted(answer))
+        let offset = header.term_offset.cast_signed();
+        let position = image.geometry().position(header.term_id, offset);
+        Ok(Outcome::Inserted(image.insert(position, frame)?))
     }
 
     fn on_heartbeat(&mut self, header: &Header) -> Outcome {
@@ -265,6 +248,3 @@ impl ReceiverCore {
         }
     }
 }
-
-/// The flags of a padding.
-const PAD_FLAGS: u8 = 0xc0;

@@ -1,9 +1,13 @@
 ghost use Rattle.std.specs.Prelude.{◌≡◌, ◌≤◌, ◌<◌, ◌^◌, ◌+◌, length, OnOk, OnErr, pos, ◌≤ℤ◌};
 ghost use Rattle.theory.specs.Position.{aligned};
+ghost use Rattle.theory.specs.Wire.{IsFrame};
+ghost use Rattle.frames.specs.Frames.{wire};
+ghost use Rattle.rebuilder.specs.Stored.{IsOfStream};
 
 use crate::answer::Insert;
 use crate::held::Held;
 use crate::image::Image;
+use frames::{Frame, UNFRAGMENTED};
 use position::{FrameKind, align32};
 use std::alloc::AllocError;
 
@@ -72,8 +76,27 @@ impl Image {
         self.rebuilt = rebuilt;
     }
 
-    /// Takes a frame of this length at a position, with its payload's bytes; a padding has none.
-    pub fn insert_parts(
+    /// Takes a DATA frame or a padding at a position, which is below every image where it is negative. At an error
+    /// nothing has changed, and the frame may be handed in again.
+    pub fn insert(&mut self, position: i64, frame: &Frame<'_>) -> Result<Insert, AllocError>
+        requires frame { IsFrame (wire frame.now) }
+        requires stored { IsOfStream frame.now }
+        ensures geometry { self.new.geometry ≡ self.old.geometry }
+        ensures consumers { self.new.consumers ≡ self.old.consumers }
+    {
+        match *frame {
+            Frame::Data { flags, payload, .. } => {
+                let length = payload.len() as u32 + 32;
+                self.insert_parts(position, FrameKind::Data, flags, length, payload)
+            }
+            Frame::Pad { frame_length, .. } => {
+                self.insert_parts(position, FrameKind::Pad, UNFRAGMENTED, frame_length, &[])
+            }
+            _ => unreachable!(),
+        }
+    }
+
+    fn insert_parts(
         &mut self,
         position: i64,
         kind: FrameKind,
