@@ -25,7 +25,7 @@ impl Model for Publisher {
 }
 
 impl Publisher {
-    pub fn new(number: usize) -> Publisher
+    pub(crate) fn new(number: usize) -> Publisher
         requires { number < 8 }
         ensures { result ≡ number }
     {
@@ -40,7 +40,7 @@ impl Publisher {
         self.number
     }
 
-    pub fn spend(self) -> usize
+    pub(crate) fn spend(self) -> usize
         ensures { result ≡ self }
     {
         let Publisher { number } = self;
@@ -70,7 +70,7 @@ impl Model for LogReader {
 }
 
 impl LogReader {
-    pub fn new(number: usize, position: u64) -> LogReader
+    pub(crate) fn new(number: usize, position: u64) -> LogReader
         requires number { number < 8 }
         requires position { position ≤ 2 ^ 55 }
         ensures { result ≡ record { number = number; index = 0; position = position; read_to = position } }
@@ -100,14 +100,14 @@ impl LogReader {
     }
 
     /// The place, among the entries, of the next one.
-    pub fn index(&self) -> usize
+    pub(crate) fn index(&self) -> usize
         ensures { result ≡ self.now.index }
     {
         self.index
     }
 
     /// Notes that the frame at its position, which ends there, was read.
-    pub fn note_read(&mut self, end: u64)
+    pub(crate) fn note_read(&mut self, end: u64)
         requires further { self.old.position ≤ end }
         requires small { end ≤ 2 ^ 55 }
         ensures { self.new ≡ record self.old { read_to = end } }
@@ -116,7 +116,7 @@ impl LogReader {
     }
 
     /// Moves past the frame that was read.
-    pub fn step(&mut self)
+    pub(crate) fn step(&mut self)
         requires { self.old.position + 32 ≤ self.old.read_to }
         ensures { self.new ≡ record self.old { position = self.old.read_to; index = self.old.index + 1 } }
     {
@@ -124,7 +124,7 @@ impl LogReader {
         self.index += 1;
     }
 
-    pub fn spend(self) -> u64
+    pub(crate) fn spend(self) -> u64
         ensures { result ≡ self.position }
     {
         let LogReader {
@@ -152,11 +152,11 @@ pub struct Parts {
 }
 
 impl Keeper {
-    pub fn new() -> Keeper {
+    pub(crate) fn new() -> Keeper {
         Keeper { of: () }
     }
 
-    pub fn spend(self) {
+    pub(crate) fn spend(self) {
         let Keeper { of: () } = self;
     }
 }
@@ -165,7 +165,7 @@ impl Parts {
     ghost use Rattle.log_buffer.specs.Reader.{AreAll};
 
     /// Eight publishers, the readers at the start, and a keeper.
-    pub fn new(alloc: Global, start: u64, consumers: usize) -> Result<Parts, AllocError>
+    pub(crate) fn new(alloc: Global, start: u64, consumers: usize) -> Result<Parts, AllocError>
         requires start { start ≤ 2 ^ 55 }
         requires few { consumers ≤ 8 }
         ensures publishers { IfOk result (λ parts. AreAll parts.publishers.items) }

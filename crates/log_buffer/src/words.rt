@@ -3,7 +3,7 @@ ghost use Rattle.std.specs.Prelude.{◌≤◌, ◌<◌, ◌^◌, length};
 use crate::entry::UNFRAGMENTED;
 
 /// The first word of a DATA frame: its length, version 0, the flags and the type.
-pub fn first_word(frame_length: u32) -> u64 {
+pub(crate) fn first_word(frame_length: u32) -> u64 {
     let length = frame_length.to_le_bytes();
     u64::from_le_bytes([
         length[0],
@@ -18,7 +18,7 @@ pub fn first_word(frame_length: u32) -> u64 {
 }
 
 /// The word of two fields of four bytes.
-pub fn pair_word(low: i32, high: i32) -> u64 {
+pub(crate) fn pair_word(low: i32, high: i32) -> u64 {
     let low = low.to_le_bytes();
     let high = high.to_le_bytes();
     u64::from_le_bytes([
@@ -27,7 +27,7 @@ pub fn pair_word(low: i32, high: i32) -> u64 {
 }
 
 /// Up to eight bytes as a word, with zeros behind them.
-pub fn payload_word(bytes: &[u8]) -> u64
+pub(crate) fn payload_word(bytes: &[u8]) -> u64
     requires { length bytes.now ≤ 8 }
 {
     let mut word = [0; 8];

@@ -1,6 +1,6 @@
 //! One log with its sender, eight receivers, and every packet that they gave out: a handler for each line of a script.
 
-ghost use Rattle.std.specs.Prelude.{◌≡◌, ◌<◌, ◌≤◌, vec_len, length, IfSome};
+ghost use Rattle.std.specs.Prelude.{◌≡◌, ◌<◌, ◌≤◌, vec_len, vec_capacity, length, IfSome};
 ghost use Rattle.position.specs.declared.head.FrameKind.TheVariants.{Data};
 ghost use Rattle.log_buffer.specs.Reader.{AreAll};
 
@@ -46,6 +46,7 @@ pub struct World {
     /// Each packet that was given out, in order.
     pub packets: Vec<Vec<u8>>,
     pub ghost all: { AreAll publishers.items },
+    pub ghost room: { vec_len readers < vec_capacity readers },
     pub ghost same: { log.geometry ≡ sender.geometry },
     pub ghost eight: { vec_len subscribers ≡ 8 },
 }
@@ -58,11 +59,10 @@ pub fn close_with(
     reader: LogReader,
     keeper: Keeper,
 ) -> Book
-    requires { AreAll publishers.items }
+    requires all { AreAll publishers.items }
+    requires room { vec_len readers < vec_capacity readers }
 {
-    if let Err(kept) = readers.push(reader) {
-        let _ = kept.value.spend();
-    }
+    readers.push(reader).unwrap();
     close(log, publishers, readers, keeper)
 }
 
