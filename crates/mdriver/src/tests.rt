@@ -166,16 +166,27 @@ fn broken_streams(rt: HostRuntime) {
     assert_eq!(rt; status, 1);
 }
 
+const HELP: &str =
+    "A media driver with concurrent publications\n\nUsage: mdriver <COMMAND>\n\nCommands:\n  sim   Play the script on standard input\n  help  Print this message or the help of the given subcommand(s)\n\nOptions:\n  -h, --help  Print help\n";
+
+const NO_COMMAND: &str =
+    "error: 'mdriver' requires a subcommand but one was not provided\n  [subcommands: sim, help]\n\nUsage: mdriver <COMMAND>\n\nFor more information, try '--help'.\n";
+
+const ONE_MORE: &str =
+    "error: unexpected argument 'more' found\n\nUsage: mdriver sim\n\nFor more information, try '--help'.\n";
+
+/// Command lines that are refused or ask for help: what is printed and told, and the status.
 #[test]
 fn command_lines(rt: HostRuntime) {
-    for words in [["mdriver", "fly"].as_slice(), ["mdriver"].as_slice()] {
+    for (words, output, errors, status) in [
+        (["mdriver"].as_slice(), "", NO_COMMAND, 2),
+        (["mdriver", "sim", "more"].as_slice(), "", ONE_MORE, 2),
+        (["mdriver", "--help"].as_slice(), HELP, "", 0),
+        (["mdriver", "help"].as_slice(), HELP, "", 0),
+    ] {
         let done = run_over(rt.alloc(), words, b"");
-        assert_eq!(rt; done.status, 2);
-        assert_eq!(rt; done.output.len(), 0);
-        assert_ne!(rt; done.errors.len(), 0);
+        assert_eq!(rt; done.output.as_slice(), output.as_bytes());
+        assert_eq!(rt; done.errors.as_slice(), errors.as_bytes());
+        assert_eq!(rt; done.status, status);
     }
-    let done = run_over(rt.alloc(), &["mdriver", "--help"], b"");
-    assert_eq!(rt; done.status, 0);
-    assert_eq!(rt; done.errors.len(), 0);
-    assert_ne!(rt; done.output.len(), 0);
 }
