@@ -1,0 +1,25 @@
+ghost use Rattle.std.specs.Prelude.{◌≡◌, ◌≤◌, ℕ, max, pos, ◌+ℤ◌};
+ghost use Rattle.theory.specs.FlowLimit.{clipped};
+
+/// What a sender asks before it sends. The limit never falls, and is never above what status messages have allowed.
+pub trait FlowControl {
+    ghost reached: { Self → ℕ };
+
+    ghost allowed: { Self → ℕ };
+
+    /// Takes a status message that doesn't ask for a SETUP: a consumer's position and its window in bytes, any numbers,
+    /// the id of the receiver, and the moment in nanoseconds.
+    fn on_status(&mut self, position: i64, window: i32, receiver: i64, now: u64)
+        ensures never_falls { reached self.old ≤ reached self.new }
+        ensures allows { allowed self.new ≤ max (clipped (position +ℤ window)) (allowed self.old) };
+
+    /// The position that no frame may pass.
+    fn limit(&self) -> i64
+        ensures value { result ≡ pos (reached self.now) }
+        ensures within { reached self.now ≤ allowed self.now };
+
+    /// Takes a moment, in nanoseconds.
+    fn tick(&mut self, now: u64)
+        ensures never_falls { reached self.old ≤ reached self.new }
+        ensures allows { allowed self.new ≤ allowed self.old };
+}
