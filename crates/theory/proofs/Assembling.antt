@@ -2,9 +2,9 @@
 use Rattle.std.proofs.Common.{◌≡◌, ℕ, ◌⊎◌, inl, inr, ⊎_elim, List, [], ◌∷◌, ◌++◌, true, false, cond, Option, None, Some, refl, sym, ap, ◌∙◌, append_assoc, append-nil}
 use Rattle.std.specs.List.{AllByRecursion, flat_map}
 use Rattle.std.specs.Prelude.{nat_eq}
-use Rattle.std.proofs.lemmas.Bool.{cases_Bool, eqb-true, cond-false}
+use Rattle.std.proofs.lemmas.Bool.{cases_Bool, eqb-true, cond-true, cond-false}
 use Rattle.theory.specs.Assembly.{Heard, on_frame, heard_more}
-use Rattle.theory.specs.Completion.{Piece, begun_after, Ends, Completes, GivesWhole}
+use Rattle.theory.specs.Completion.{Piece, begun_after, left_by, IsMiddle, Ends, Completes, GivesWhole}
 
 abbrev Flagged : Piece → Type 0
 Flagged x = (x.flags ≡ 0) ⊎ ((x.flags ≡ 64) ⊎ ((x.flags ≡ 128) ⊎ (x.flags ≡ 192)))
@@ -16,18 +16,19 @@ record IsBegun (before : List Piece) (y : List ℕ) : Type 0 where
   middles : List Piece
   parts : before ≡ earlier ++ first ∷ middles
   begins : first.flags ≡ 128
-  between : AllByRecursion (λ (x : Piece). x.flags ≡ 0) middles
+  taken : first.refused ≡ false
+  between : AllByRecursion IsMiddle middles
   joined : y ≡ first.payload ++ flat_map (λ (x : Piece). x.payload) middles
 
 -- the pieces are all middles of what was begun before them
 record GoesOn (b : Option (List ℕ)) (before : List Piece) (y : List ℕ) : Type 0 where
   front : List ℕ
   was : b ≡ Some front
-  between : AllByRecursion (λ (x : Piece). x.flags ≡ 0) before
+  between : AllByRecursion IsMiddle before
   joined : y ≡ front ++ flat_map (λ (x : Piece). x.payload) before
 
-at_flags : (b : Option (List ℕ)) (p : Piece) (flags : ℕ) → p.flags ≡ flags → (on_frame b p.flags p.payload).begun ≡ (on_frame b flags p.payload).begun
-at_flags b p flags e = ap (λ f. (on_frame b f p.payload).begun) e
+at_flags : (b : Option (List ℕ)) (p : Piece) (flags : ℕ) → p.refused ≡ false → p.flags ≡ flags → left_by b p ≡ (on_frame b flags p.payload).begun
+at_flags b p flags taken e = cond-false p.refused None (on_frame b p.flags p.payload).begun taken ∙ ap (λ f. (on_frame b f p.payload).begun) e
 
 middle_begun : (b : Option (List ℕ)) (payload x : List ℕ) → (on_frame b 0 payload).begun ≡ Some x → (z : List ℕ) × (b ≡ Some z) × (x ≡ z ++ payload)
 middle_begun None payload x e = absurd (cc)
@@ -41,34 +42,38 @@ begun_from : (b : Option (List ℕ)) (before : List Piece) (y : List ℕ) → Al
 begun_from b [] y f e = inr (record { front = y; was = e; between = tt; joined = sym (append-nil y) })
 begun_from b (p ∷ ps) y f e =
     ⊎_elim
-    (λ (i : IsBegun ps y). inl (record { earlier = p ∷ i.earlier; first = i.first; middles = i.middles; parts = ap (λ x. p ∷ x) i.parts; begins = i.begins; between = i.between; joined = i.joined }))
-    (λ (g : GoesOn (on_frame b p.flags p.payload).begun ps y). by_flags g f.0)
-    (begun_from (on_frame b p.flags p.payload).begun ps y f.1 e)
+    (λ (i : IsBegun ps y). inl (record { earlier = p ∷ i.earlier; first = i.first; middles = i.middles; parts = ap (λ x. p ∷ x) i.parts; begins = i.begins; taken = i.taken; between = i.between; joined = i.joined }))
+    (λ (g : GoesOn (left_by b p) ps y).
+    ⊎_elim
+    (λ (r : p.refused ≡ true). let none : None ≡ Some g.front = sym (cond-true p.refused None (on_frame b p.flags p.payload).begun r) ∙ g.was in absurd (cc))
+    (λ (t : p.refused ≡ false). by_flags t g f.0)
+    (cases_Bool p.refused))
+    (begun_from (left_by b p) ps y f.1 e)
   where
-    by_flags : GoesOn (on_frame b p.flags p.payload).begun ps y → Flagged p → IsBegun (p ∷ ps) y ⊎ GoesOn b (p ∷ ps) y
-    by_flags g (inl zero_flags) =
-        let m = middle_begun b p.payload g.front (sym (at_flags b p 0 zero_flags) ∙ g.was) in
-        inr (record { front = m.0; was = m.1; between = (zero_flags, g.between); joined = g.joined ∙ ap (λ x. x ++ flat_map (λ (x : Piece). x.payload) ps) m.2 ∙ append_assoc m.0 p.payload (flat_map (λ (x : Piece). x.payload) ps) })
-    by_flags g (inr (inl ends)) = let none : None ≡ Some g.front = sym (end_begun b p.payload) ∙ sym (at_flags b p 64 ends) ∙ g.was in absurd (cc)
-    by_flags g (inr (inr (inl begins))) =
-        let same : Some p.payload ≡ Some g.front = sym (at_flags b p 128 begins) ∙ g.was in
+    by_flags : p.refused ≡ false → GoesOn (left_by b p) ps y → Flagged p → IsBegun (p ∷ ps) y ⊎ GoesOn b (p ∷ ps) y
+    by_flags t g (inl zero_flags) =
+        let m = middle_begun b p.payload g.front (sym (at_flags b p 0 t zero_flags) ∙ g.was) in
+        inr (record { front = m.0; was = m.1; between = ((zero_flags, t), g.between); joined = g.joined ∙ ap (λ x. x ++ flat_map (λ (x : Piece). x.payload) ps) m.2 ∙ append_assoc m.0 p.payload (flat_map (λ (x : Piece). x.payload) ps) })
+    by_flags t g (inr (inl ends)) = let none : None ≡ Some g.front = sym (end_begun b p.payload) ∙ sym (at_flags b p 64 t ends) ∙ g.was in absurd (cc)
+    by_flags t g (inr (inr (inl begins))) =
+        let same : Some p.payload ≡ Some g.front = sym (at_flags b p 128 t begins) ∙ g.was in
         let payload : p.payload ≡ g.front = cc in
-        inl (record { earlier = []; first = p; middles = ps; parts = refl; begins = begins; between = g.between; joined = g.joined ∙ ap (λ x. x ++ flat_map (λ (x : Piece). x.payload) ps) (sym payload) })
-    by_flags g (inr (inr (inr single))) = let none : None ≡ Some g.front = sym (at_flags b p 192 single) ∙ g.was in absurd (cc)
+        inl (record { earlier = []; first = p; middles = ps; parts = refl; begins = begins; taken = t; between = g.between; joined = g.joined ∙ ap (λ x. x ++ flat_map (λ (x : Piece). x.payload) ps) (sym payload) })
+    by_flags t g (inr (inr (inr single))) = let none : None ≡ Some g.front = sym (at_flags b p 192 t single) ∙ g.was in absurd (cc)
 
 begun-append : (b : Option (List ℕ)) (xs ys : List Piece) → begun_after b (xs ++ ys) ≡ begun_after (begun_after b xs) ys
 begun-append b [] ys = refl
-begun-append b (x ∷ xs) ys = begun-append (on_frame b x.flags x.payload).begun xs ys
+begun-append b (x ∷ xs) ys = begun-append (left_by b x) xs ys
 
-goes_on : (front : List ℕ) (middles : List Piece) → AllByRecursion (λ (x : Piece). x.flags ≡ 0) middles → begun_after (Some front) middles ≡ Some (front ++ flat_map (λ (x : Piece). x.payload) middles)
+goes_on : (front : List ℕ) (middles : List Piece) → AllByRecursion IsMiddle middles → begun_after (Some front) middles ≡ Some (front ++ flat_map (λ (x : Piece). x.payload) middles)
 goes_on front [] h = ap Some (sym (append-nil front))
 goes_on front (p ∷ ps) h =
-    ap (λ b. begun_after b ps) (at_flags (Some front) p 0 h.0) ∙ goes_on (front ++ p.payload) ps h.1 ∙ ap Some (append_assoc front p.payload (flat_map (λ (x : Piece). x.payload) ps))
+    ap (λ b. begun_after b ps) (at_flags (Some front) p 0 h.0.1 h.0.0) ∙ goes_on (front ++ p.payload) ps h.1 ∙ ap Some (append_assoc front p.payload (flat_map (λ (x : Piece). x.payload) ps))
 
 begun_to : (before : List Piece) (y : List ℕ) → IsBegun before y → begun_after None before ≡ Some y
 begun_to before y i =
     ap (begun_after None) i.parts ∙ begun-append None i.earlier (i.first ∷ i.middles)
-    ∙ ap (λ b. begun_after b i.middles) (at_flags (begun_after None i.earlier) i.first 128 i.begins)
+    ∙ ap (λ b. begun_after b i.middles) (at_flags (begun_after None i.earlier) i.first 128 i.taken i.begins)
     ∙ goes_on i.first.payload i.middles i.between ∙ ap Some (sym i.joined)
 
 -- ---- what is given
@@ -93,6 +98,7 @@ ends_from before p z message f is b e =
       middles = i.middles;
       parts = i.parts;
       begins = i.begins;
+      taken = i.taken;
       between = i.between;
       joined = e ∙ ap (λ x. x ++ p.payload) i.joined;
     })
@@ -134,7 +140,7 @@ completes_then : (before : List Piece) (p : Piece) (message : List ℕ) → Comp
 completes_then before p message (inl c) = ap (λ x. (on_frame (begun_after None before) x p.payload).message) c.0 ∙ ap Some (sym c.1)
 completes_then before p message (inr c) =
     let y = c.first.payload ++ flat_map (λ (x : Piece). x.payload) c.middles in
-    let b : begun_after None before ≡ Some y = begun_to before y (record { earlier = c.earlier; first = c.first; middles = c.middles; parts = c.parts; begins = c.begins; between = c.between; joined = refl }) in
+    let b : begun_after None before ≡ Some y = begun_to before y (record { earlier = c.earlier; first = c.first; middles = c.middles; parts = c.parts; begins = c.begins; taken = c.taken; between = c.between; joined = refl }) in
     ap (λ x. (on_frame (begun_after None before) x p.payload).message) c.is_end ∙ ap (λ x. (on_frame x 64 p.payload).message) b ∙ ap Some (sym c.joined)
 
 pub gives_whole : GivesWhole

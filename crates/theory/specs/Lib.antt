@@ -23,6 +23,7 @@ pub mod Control
 pub mod Words
 pub mod Refusal
 pub mod Log
+pub mod Loss
 pub mod Sender
 pub mod World
 pub mod Headline

@@ -1,0 +1,3 @@
+pub mod Injecting
+pub mod Texts
+pub mod Verdicts

@@ -1,0 +1,59 @@
+ghost use Rattle.std.specs.Prelude.{◌≡◌, None, map, IfOk, IfErr};
+ghost use Rattle.loss_injector.specs.Injecting.{Gives};
+
+use crate::rates::{Rates, Verdict, decide};
+use std::alloc::{AllocError, Global};
+use std::marker::Model;
+
+/// Drops, repeats and holds back datagrams. At most one is held.
+#[derive(Drop)]
+pub struct Injector {
+    alloc: Global,
+    rates: Rates,
+    held: Option<Vec<u8>>,
+}
+
+impl Model for Injector {
+    ghost use Rattle.std.specs.Option.{option_map};
+    ghost use Rattle.loss_injector.specs.Injecting.{Injecting};
+
+    ghost Value = { Injecting };
+
+    ghost view = { λ i. record { rates = i.rates; held = option_map (λ d. d.items) i.held } };
+}
+
+impl Injector {
+    /// An injector that holds nothing.
+    pub fn new(alloc: Global, rates: Rates) -> Injector
+        ensures { result ≡ record { rates = rates; held = None } }
+    {
+        Injector {
+            alloc,
+            rates,
+            held: None,
+        }
+    }
+
+    /// Takes a datagram and a random word, and gives what goes on its way now, in order. After an error the held
+    /// datagram stays, and the one handed in is given to nobody.
+    pub fn push(&mut self, datagram: Vec<u8>, word: u32) -> Result<Vec<Vec<u8>>, AllocError>
+        ensures given { IfOk result (λ out. Gives self.old word datagram.items (map (λ d. d.items) out.items) self.new) }
+        ensures refused { IfErr result (λ _. self.new ≡ self.old) }
+    {
+        let mut out = Vec::with_capacity(self.alloc, 3)?;
+        match decide(word, &self.rates) {
+            Verdict::Drop => return Ok(out),
+            Verdict::Hold if self.held.is_none() => {
+                self.held = Some(datagram);
+                return Ok(out);
+            }
+            Verdict::Repeat => out.push(Vec::from_slice(self.alloc, &datagram)?).unwrap(),
+            Verdict::Hold | Verdict::Pass => {}
+        }
+        out.push(datagram).unwrap();
+        if let Some(held) = self.held.take() {
+            out.push(held).unwrap();
+        }
+        Ok(out)
+    }
+}
