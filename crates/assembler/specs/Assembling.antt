@@ -1,5 +1,5 @@
 -- What a contract sees of an assembler.
-use Rattle.std.specs.Prelude.{ℕ, Bool, ◌||◌, List, [], ◌++◌, nat_eq, if◌then◌else◌, Option, None, Some}
+use Rattle.std.specs.Prelude.{ℕ, ◌||◌, List, [], ◌++◌, nat_eq, if◌then◌else◌, Option, None, Some}
 
 -- the most bytes of a message, and what is begun
 pub record Assembling : Type 0 where

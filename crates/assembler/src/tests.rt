@@ -24,24 +24,27 @@ fn joins(rt: HostRuntime) -> Result<(), Fail> {
 #[test]
 fn memory_refused(rt: HostRuntime) -> Result<(), Fail> {
     let pieces = [(0x80, [1; 40]), (0, [2; 40]), (0x40, [3; 40])];
-    let mut refused = [0; 3];
-    let mut whole = 0;
+    let mut refused = [false; 3];
+    let mut whole = false;
     for size in 0..64 {
         let heap = LocalHeap::new(rt.alloc(), 16 * size)?;
         let mut assembler = Assembler::new(&heap, 1000);
         for (place, (flags, payload)) in pieces.iter().enumerate() {
             match assembler.on_frame(*flags, payload) {
                 Ok(None) => {}
-                Ok(Some(message)) => whole += message.bytes.len(),
+                Ok(Some(message)) => {
+                    assert_eq!(rt; message.bytes.len(), 120);
+                    whole = true;
+                }
                 Err(_) => {
-                    refused[place] += 1;
+                    refused[place] = true;
                     assert!(rt; assembler.on_frame(0x40, b"")?.is_none());
                     break;
                 }
             }
         }
     }
-    assert!(rt; refused.iter().all(|count| *count > 0));
-    assert!(rt; whole > 0 && whole.is_multiple_of(120));
+    assert_eq!(rt; refused, [true; 3]);
+    assert!(rt; whole);
     Ok(())
 }

@@ -1,8 +1,10 @@
 -- What is asked for again, and what is sent again.
 use Rattle.std.specs.Prelude.{◌≡◌, ◌<◌, ◌≤◌, ℕ, ◌+◌, ◌-◌, ◌*◌, ◌/◌, Bool, true, false, not, ◌&&◌, ◌||◌, List, [], ◌∷◌, length, min, max, nat_eq, nat_le, nat_lt, if◌then◌else◌, ℤ, pos, negsuc, Option, None, Some, map}
-use Rattle.std.specs.List.{list_any, filter, AllByRecursion}
+use Rattle.std.specs.List.{list_any, find, filter, AllByRecursion}
+use Rattle.std.specs.Option.{option_map}
 use Rattle.theory.specs.Position.{Geometry}
 use Rattle.theory.specs.Placed.{Among, Placed}
+use Rattle.theory.specs.Gap.{Gap}
 use Rattle.theory.specs.Datagrams.{frames_of, resend_datagrams}
 use Rattle.theory.specs.Timing.{deadline}
 
@@ -35,22 +37,37 @@ first_due (a ∷ rest) = or_due (first_due rest) a
 abbrev pub first_resent : Geometry → ℕ → ℕ → ℕ
 first_resent g s p = max p (s - 3 * g.term_length / 4)
 
-abbrev pub nak_answer_at : Geometry → ℕ → ℕ → List Placed → List Action → ℕ → NakAnswer
-nak_answer_at g start s sent actions p =
+-- by a test that says where frames start
+abbrev pub nak_answer_at : Geometry → ℕ → ℕ → (ℕ → Bool) → List Action → ℕ → NakAnswer
+nak_answer_at g start s starts_at actions p =
     if nat_lt p start || nat_lt p (s - 3 * g.term_length / 4) || nat_le s p then OutOfRange
-    else (if not (list_any (λ f. nat_eq f.at p) sent) then NotAFrameStart
+    else (if not (starts_at p) then NotAFrameStart
     else (if list_any (λ a. nat_eq a.at p) actions then Lingering
     else (if nat_le 16 (length actions) then Full
     else Taken)))
 
+abbrev pub nak_answer_by : Geometry → ℕ → ℕ → (ℕ → Bool) → List Action → ℤ → ℤ → NakAnswer
+nak_answer_by g start s starts_at actions (pos p) (pos n) = if nat_eq n 0 then OutOfRange else nak_answer_at g start s starts_at actions p
+nak_answer_by g start s starts_at actions (pos p) (negsuc n) = OutOfRange
+nak_answer_by g start s starts_at actions (negsuc p) n = OutOfRange
+
 abbrev pub nak_answer : Geometry → ℕ → ℕ → List Placed → List Action → ℤ → ℤ → NakAnswer
-nak_answer g start s sent actions (pos p) (pos n) = if nat_eq n 0 then OutOfRange else nak_answer_at g start s sent actions p
-nak_answer g start s sent actions (pos p) (negsuc n) = OutOfRange
-nak_answer g start s sent actions (negsuc p) n = OutOfRange
+nak_answer g start s sent = nak_answer_by g start s (λ p. list_any (λ f. nat_eq f.at p) sent)
+
+-- where the range of an action ends: what was asked for, the sender's position or the end of the term, whichever comes first
+abbrev pub range_end : Geometry → ℕ → Action → ℕ
+range_end g s a = min (min (a.at + a.length) s) (a.at / g.term_length * g.term_length + g.term_length)
+
+abbrev pub is_in_range : Geometry → ℕ → Action → ℕ → Bool
+is_in_range g s a p = nat_le (first_resent g s a.at) p && nat_lt p (range_end g s a)
+
+-- the range from the first frame start in it; starts are in ascending order
+abbrev pub resend_range : Geometry → ℕ → List ℕ → Action → Option Gap
+resend_range g s starts a = option_map (λ p. record { start = p; length = range_end g s a - p }) (find (is_in_range g s a) starts)
 
 -- the frames that a resend may send are those that start in this range
 abbrev pub is_resent : Geometry → ℕ → Action → Placed → Bool
-is_resent g s a f = nat_le (first_resent g s a.at) f.at && nat_lt f.at (min (min (a.at + a.length) s) (a.at / g.term_length * g.term_length + g.term_length))
+is_resent g s a f = is_in_range g s a f.at
 
 -- what a resend of this action sends, the sender standing at s
 abbrev pub resent : Geometry → ℕ → List Placed → Action → List Placed

@@ -1,0 +1,4 @@
+pub mod Seats
+pub mod Submitting
+pub mod Moves
+pub mod Rows
