@@ -130,9 +130,10 @@ module _ (again : Bool) (rows : List Row) (pending : Option (Text × List Text))
   no_chars [] none = record { name = refl; fault = refl; met = refl }
   no_chars (y ∷ ys) none = ⊎_elim (λ dash. absurd (dash_is_one ys (subst (λ z. chars (z ∷ ys) ≡ []) dash none)))
       (λ other. record {
-      name = rw (other) refl;
-      fault = subst (λ (l : Option (Text × Option Text)). flag_word_fault taking again l (45 ∷ y ∷ ys) h ≡ []) (sym (long_none y ys other)) (none_fault (45 ∷ y ∷ ys) (y ∷ ys) (short_some y ys other) none);
-      met = subst (λ (l : Option (Text × Option Text)). long_or_other taking idle (45 ∷ y ∷ ys) l h ≡ (h, value)) (sym (long_none y ys other)) (none_value (45 ∷ y ∷ ys) (y ∷ ys) (short_some y ys other) none) }) (dash_or_other y)
+        name = rw (other) refl;
+        fault = subst (λ (l : Option (Text × Option Text)). flag_word_fault taking again l (45 ∷ y ∷ ys) h ≡ []) (sym (long_none y ys other)) (none_fault (45 ∷ y ∷ ys) (y ∷ ys) (short_some y ys other) none);
+        met = subst (λ (l : Option (Text × Option Text)). long_or_other taking idle (45 ∷ y ∷ ys) l h ≡ (h, value)) (sym (long_none y ys other)) (none_value (45 ∷ y ∷ ys) (y ∷ ys) (short_some y ys other) none);
+      }) (dash_or_other y)
 
   plain_is : (word : Text) → IsPlainWord word → IsValue word
   plain_is [] p = record { name = refl; fault = refl; met = refl }

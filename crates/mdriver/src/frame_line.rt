@@ -27,7 +27,10 @@ impl fmt::Display for FrameLine<'_> {
                 let fields = HeaderFields(header);
                 let length = frame_length(payload);
                 let text = Hexadecimal(payload);
-                write!(f, "DATA flags={flags} {fields} length={length} payload={text}")
+                write!(
+                    f,
+                    "DATA flags={flags} {fields} length={length} payload={text}"
+                )
             }
             Frame::Pad {
                 header,
@@ -86,7 +89,10 @@ impl fmt::Display for HeaderFields {
             term_id,
             reserved,
         } = self.0;
-        write!(f, "term={term_id} offset={term_offset} session={session} stream={stream} reserved={reserved}")
+        write!(
+            f,
+            "term={term_id} offset={term_offset} session={session} stream={stream} reserved={reserved}"
+        )
     }
 }
 
@@ -104,7 +110,10 @@ impl fmt::Display for NakFields {
             term_offset,
             length,
         } = self.0;
-        write!(f, "session={session} stream={stream} term={term_id} offset={term_offset} length={length}")
+        write!(
+            f,
+            "session={session} stream={stream} term={term_id} offset={term_offset} length={length}"
+        )
     }
 }
 
@@ -123,7 +132,10 @@ impl fmt::Display for StatusFields {
             window,
             receiver,
         } = self.0;
-        write!(f, "session={session} stream={stream} term={term_id} offset={term_offset} window={window} receiver={receiver}")
+        write!(
+            f,
+            "session={session} stream={stream} term={term_id} offset={term_offset} window={window} receiver={receiver}"
+        )
     }
 }
 
@@ -142,7 +154,10 @@ impl fmt::Display for SetupFields {
             ..
         } = self.0;
         let lengths = SetupLengths(self.0);
-        write!(f, "session={session} stream={stream} initial={initial_term_id} active={active_term_id} {lengths}")
+        write!(
+            f,
+            "session={session} stream={stream} initial={initial_term_id} active={active_term_id} {lengths}"
+        )
     }
 }
 
@@ -160,6 +175,9 @@ impl fmt::Display for SetupLengths {
             ttl,
             ..
         } = self.0;
-        write!(f, "offset={term_offset} term-length={term_length} mtu={mtu} ttl={ttl}")
+        write!(
+            f,
+            "offset={term_offset} term-length={term_length} mtu={mtu} ttl={ttl}"
+        )
     }
 }

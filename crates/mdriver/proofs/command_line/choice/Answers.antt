@@ -20,8 +20,8 @@ returns-in-Some c =
     let f = found_of c.in-Some.decode.now in
     record {
       decode = λ rows word met first.
-      let same : rows_of f ≡ rows = (let e : Some (rows_of f) ≡ Some rows = sym c.in-Some.ensures.rows ∙ ap (option_map (λ p. p.1)) met in cc) in
-      let text : first_value f (codes "HEX") ≡ Some word = first_value-rows f (codes "HEX") ∙ ap (first_of (codes "HEX")) same ∙ first in
-      one_word c.get_str.result _ c.unwrap_or.result word (c.get_str.ensures ∙ text) c.unwrap_or.ensures;
+          let same : rows_of f ≡ rows = (let e : Some (rows_of f) ≡ Some rows = sym c.in-Some.ensures.rows ∙ ap (option_map (λ p. p.1)) met in cc) in
+          let text : first_value f (codes "HEX") ≡ Some word = first_value-rows f (codes "HEX") ∙ ap (first_of (codes "HEX")) same ∙ first in
+          one_word c.get_str.result _ c.unwrap_or.result word (c.get_str.ensures ∙ text) c.unwrap_or.ensures;
       sim = λ other. absurd (other (twice (λ p. p.0) _ _ ∙ c.in-Some.ensures.found.0 refl));
     }
