@@ -253,7 +253,10 @@ fn hexadecimal_digits(rt: HostRuntime) -> Result<(), Fail> {
         ("", &[]),
         ("00", &[0]),
         ("fFA09b", &[0xff, 0xa0, 0x9b]),
-        ("0123456789abcdef", &[0x01, 0x23, 0x45, 0x67, 0x89, 0xab, 0xcd, 0xef]),
+        (
+            "0123456789abcdef",
+            &[0x01, 0x23, 0x45, 0x67, 0x89, 0xab, 0xcd, 0xef],
+        ),
     ];
     for (digits, bytes) in spelled {
         let read = hexadecimal(rt.alloc(), digits.as_bytes())?;
