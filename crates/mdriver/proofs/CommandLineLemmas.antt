@@ -1,4 +1,4 @@
--- Which words the program's command takes.
+-- What the program's command refuses, and which lines that begin with `sim` it takes.
 use Rattle.std.proofs.Common.{◌≡◌, ◌∙◌, ◌⊎◌, ℕ, Bool, cond, codes, true, false, zero, suc, refl, sym, ap, subst, List, [], ◌∷◌, length, drop, Option, Some, None, inl, inr, ⊎_elim, true≢false}
 use Rattle.std.specs.Prelude.{slice_get}
 use Rattle.std.specs.Str.{bytes_eq, chars}
@@ -7,17 +7,13 @@ use Rattle.std.proofs.lemmas.Slice.Eq.{bytes_eq-Decides}
 use Rattle.clap.specs.Lexer.{long_of, short_of}
 use Rattle.clap.specs.Walk.{bundle_step, has_long, has_short, Held, Names, Rule, Step, Text, Walk, after_flag, bundle_met, idle, long_or_other, nothing_held, plain, subcommand_met, walk_from, walked}
 use Rattle.clap.specs.Simple.{App, Shape, built, filled, with_index, filled_from, help_rule, names_of, new_shape}
-use Rattle.clap.specs.Kinds.{HasKind, IsAmong, Kinds, or_else}
-use Rattle.clap.specs.Faults.{built_fault, bundle_step_fault, defaults_fault, entered_fault, fault_of, flag_word_fault, flags_fault, is_simple_and_free, level_fault, long_fault, short_fault, step_fault, stray_fault, turn_fault, walk_fault}
-use Rattle.clap.specs.Values.{kind_of}
-use Rattle.clap.specs.declared.error.Error.{Error}
-use Rattle.clap.specs.declared.error.kind.ErrorKind.TheVariants.{OutOfMemory}
-use Rattle.clap.proofs.OnLiterals.{clap_on_literals}
+use Rattle.clap.specs.Kinds.{Kinds, or_else}
+use Rattle.clap.specs.Faults.{built_fault, bundle_step_fault, defaults_fault, entered_fault, flag_word_fault, flags_fault, level_fault, long_fault, short_fault, step_fault, stray_fault, turn_fault, walk_fault}
 use Rattle.clap.proofs.WalkLemmas.{walk_stopped}
-use Rattle.mdriver.specs.CommandLines.{AsksForSim, driver_app}
+use Rattle.mdriver.specs.CommandLines.{driver_app}
 
 -- the comparison of texts, the other way round
-eq_turned : (word : Text) → bytes_eq (codes "--") word ≡ false → bytes_eq word (codes "--") ≡ false
+pub eq_turned : (word : Text) → bytes_eq (codes "--") word ≡ false → bytes_eq word (codes "--") ≡ false
 eq_turned word e = false_from_ne_true _ (λ t. true≢false (sym ((bytes_eq-Decides (codes "--") word).1 (sym ((bytes_eq-Decides word (codes "--")).0 t))) ∙ e))
 
 -- the kinds are those of a refusal
@@ -46,10 +42,10 @@ abbrev pub with_bare : Shape → Shape
 with_bare s = record s { rules = bare }
 
 -- the `--help` of a built command
-abbrev help : Rule
+abbrev pub help : Rule
 help = with_index 1 (filled help_rule)
 
-abbrev help_if : Bool → Option Rule
+abbrev pub help_if : Bool → Option Rule
 help_if b = cond b (Some help) None
 
 -- a long flag is unknown, has a value too many, or asks for help
@@ -95,19 +91,19 @@ module _ (s : Shape) where
   flag_refuses word None (Some flags) e = rw (e) (bundle_refuses word flags (length flags))
 
   -- a word that names no subcommand, and is not `--`, is refused
-  turn_refuses : (names : Names) (word : Text) → subcommand_met names idle word ≡ None → bytes_eq word (45 ∷ 45 ∷ []) ≡ false
+  pub turn_refuses : (names : Names) (word : Text) → subcommand_met names idle word ≡ None → bytes_eq word (45 ∷ 45 ∷ []) ≡ false
       → Refuses (turn_fault (with_bare s) names (walk_from nothing_held) word)
   turn_refuses names word none other = rw (none, other) (flag_refuses word (long_of word) (short_of word) refl)
 
 -- the program's command as the parser builds it
-abbrev app : App
+abbrev pub app : App
 app = built driver_app
 
 abbrev sim_shape : Shape
 sim_shape = with_bare (record (new_shape (codes "sim")) { is_built = true; disable_help_subcommand = true })
 
 -- a line with no word lacks its subcommand
-nothing_refuses : Refuses (built_fault app nothing_held [])
+pub nothing_refuses : Refuses (built_fault app nothing_held [])
 unfolding walk_fault defaults_fault
 nothing_refuses = tt
 
@@ -127,11 +123,11 @@ sim_refuses rest h =
 
 -- the word, if it is `--`, and if it is not
 module _ {P : Type 0} where
-  by_word : (name word : Text) → (name ≡ word → P) → (bytes_eq name word ≡ false → P) → P
+  pub by_word : (name word : Text) → (name ≡ word → P) → (bytes_eq name word ≡ false → P) → P
   by_word name word same other = ⊎_elim (λ e. same ((bytes_eq-Decides name word).0 e)) other (cases_Bool (bytes_eq name word))
 
 -- kinds that are no refusal are none
-passes : (ks : Kinds) → (Refuses ks → ⊥) → ks ≡ []
+pub passes : (ks : Kinds) → (Refuses ks → ⊥) → ks ≡ []
 passes [] h = refl
 passes (k ∷ ks) h = absurd (h tt)
 
@@ -154,63 +150,20 @@ after_sim (word ∷ rest) e = by_word (codes "--") word
     (λ same. subst (λ (w : Text). below (w ∷ rest) ≡ [] → EndsAtOnce (w ∷ rest)) same (after_dashes rest) e)
     (λ other. absurd (refused _ (other_after_sim word rest other) e))
 
-abbrev IsSimLine : List Text → Type 0
+abbrev pub IsSimLine : List Text → Type 0
 IsSimLine words = (words ≡ codes "sim" ∷ []) ⊎ (words ≡ codes "sim" ∷ codes "--" ∷ [])
 
-sim_first : (rest : List Text) → built_fault app nothing_held (codes "sim" ∷ rest) ≡ [] → IsSimLine (codes "sim" ∷ rest)
+pub sim_first : (rest : List Text) → built_fault app nothing_held (codes "sim" ∷ rest) ≡ [] → IsSimLine (codes "sim" ∷ rest)
 sim_first rest e = ⊎_elim (λ r. inl (ap (λ (xs : List Text). codes "sim" ∷ xs) r)) (λ r. inr (ap (λ (xs : List Text). codes "sim" ∷ xs) r))
     (after_sim rest (passes (below rest) (λ h. refused _ (sim_refuses rest h) e)))
 
 -- `help` answers with help, or refuses what follows it
-help_first : (rest : List Text) → Refuses (built_fault app nothing_held (codes "help" ∷ rest))
+pub help_first : (rest : List Text) → Refuses (built_fault app nothing_held (codes "help" ∷ rest))
 unfolding walk_fault
 help_first rest = tt
 
 -- after `--` no word is a subcommand
-dashes_first : (rest : List Text) → Refuses (built_fault app nothing_held (codes "--" ∷ rest))
+pub dashes_first : (rest : List Text) → Refuses (built_fault app nothing_held (codes "--" ∷ rest))
 unfolding walked walk_fault defaults_fault
 dashes_first [] = tt
 dashes_first (word ∷ rest) = tt
-
--- any other first word is refused
-other_first : (word : Text) (rest : List Text) → bytes_eq (codes "sim") word ≡ false → bytes_eq (codes "help") word ≡ false → bytes_eq (codes "--") word ≡ false
-    → Refuses (built_fault app nothing_held (word ∷ rest))
-unfolding walk_fault
-other_first word rest a b other =
-    let none : subcommand_met (names_of app) idle word ≡ None = rw (a, b) refl in
-    first_refuses _ _ (first_refuses _ _ (turn_refuses app.top (names_of app) word none (eq_turned word other)))
-
-only_sim : (words : List Text) → built_fault app nothing_held words ≡ [] → IsSimLine words
-only_sim [] e = absurd (refused _ nothing_refuses e)
-only_sim (word ∷ rest) e = by_word (codes "sim") word
-    (λ same. subst (λ (w : Text). built_fault app nothing_held (w ∷ rest) ≡ [] → IsSimLine (w ∷ rest)) same (sim_first rest) e)
-    (λ a. by_word (codes "help") word
-    (λ same. absurd (refused _ (subst (λ (w : Text). Refuses (built_fault app nothing_held (w ∷ rest))) same (help_first rest)) e))
-    (λ b. by_word (codes "--") word
-    (λ same. absurd (refused _ (subst (λ (w : Text). Refuses (built_fault app nothing_held (w ∷ rest))) same (dashes_first rest)) e))
-    (λ other. absurd (refused _ (other_first word rest a b other) e))))
-
--- the command is one whose refusals the parser states
-pub is_free : is_simple_and_free driver_app ≡ true
-is_free = refl
-
--- a line that the parser takes asks for the simulation
-pub only_asks : (words : List Text) → fault_of driver_app words ≡ [] → AsksForSim words
-only_asks words e = only_sim (drop 1 words) e
-
-sim_passes : built_fault app nothing_held (codes "sim" ∷ []) ≡ []
-unfolding clap_on_literals
-sim_passes = refl
-
-sim_dashes_pass : built_fault app nothing_held (codes "sim" ∷ codes "--" ∷ []) ≡ []
-unfolding clap_on_literals
-sim_dashes_pass = refl
-
--- a line that asks for the simulation is taken
-pub asked_passes : (words : List Text) → AsksForSim words → fault_of driver_app words ≡ []
-asked_passes words (inl e) = subst (λ (ws : List Text). built_fault app nothing_held ws ≡ []) (sym e) sim_passes
-asked_passes words (inr e) = subst (λ (ws : List Text). built_fault app nothing_held ws ≡ []) (sym e) sim_dashes_pass
-
--- where the words pass, only memory fails
-pub by_memory : (ks : Kinds) (e : Error) → ks ≡ [] → HasKind ks e → kind_of e ≡ OutOfMemory
-by_memory ks e none h = ⊎_elim (λ m. m) (λ among. absurd (subst (IsAmong (kind_of e)) none among)) h

@@ -1,11 +1,14 @@
 -- The fault texts.
 use Rattle.std.specs.Prelude.{ℕ, List, ◌++◌, codes, decimal}
+use Rattle.frames.specs.Fault.{text_of}
 use Rattle.mdriver.specs.declared.fault.Fault.{Fault}
-use Rattle.mdriver.specs.declared.fault.Fault.TheVariants.{Line, Input, Memory, Read, Write}
+use Rattle.mdriver.specs.declared.fault.Fault.TheVariants.{Line, Input, Memory, Hex, Frame, Read, Write}
 
 abbrev pub shown_fault : Fault → List ℕ
 shown_fault (Line n) = codes "line " ++ decimal n ++ codes ": script"
 shown_fault Input = codes "input"
 shown_fault Memory = codes "memory"
+shown_fault Hex = codes "hex"
+shown_fault (Frame error) = text_of error
 shown_fault Read = codes "read"
 shown_fault Write = codes "write"

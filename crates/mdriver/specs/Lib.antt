@@ -1,2 +1,4 @@
 pub mod CommandLines
+pub mod Decoding
 pub mod Faults
+pub mod FrameLines

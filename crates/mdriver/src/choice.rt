@@ -2,7 +2,9 @@
 
 /// What a command line asks for.
 #[derive(Clone, Copy, Debug, PartialEq, Eq)]
-pub enum Options {
+pub enum Options<'a> {
     /// Play the script that the standard input holds.
     Sim,
+    /// Print the frames of the datagram that this word spells.
+    Decode(&'a str),
 }

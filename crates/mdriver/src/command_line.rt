@@ -1,12 +1,12 @@
 //! Reading the command line.
 
-ghost use Rattle.std.specs.Prelude.{◌≡◌, true, map, IfOk, IfErr, Err};
-ghost use Rattle.clap.specs.Words.{FailsBy, IsAmong, app_of, fault_of as clap_faults, is_simple_and_free, kind_of};
-ghost use Rattle.mdriver.specs.CommandLines.{AsksForSim, driver_app};
+ghost use Rattle.std.specs.Prelude.{◌≡◌, ℕ, List, true, map, IfOk, IfErr, Err};
+ghost use Rattle.clap.specs.Words.{FailsBy, IsAmong, app_of, fault_of as clap_faults, is_simple, is_simple_and_free, kind_of, subcommand_of, subcommand_rows_of};
+ghost use Rattle.mdriver.specs.CommandLines.{AsksFor, AsksForDecode, AsksForSim, IsChoice, driver_app};
 
 use crate::choice::Options;
 use clap::error::ErrorKind;
-use clap::{Command, Error};
+use clap::{Arg, ArgMatches, Command, Error};
 use std::alloc::{AllocError, Global};
 
 /// Why a command line isn't carried out.
@@ -20,13 +20,15 @@ pub enum OptionsFault {
 
 /// What the words of a command line ask for; the first one is the program's name.
 ///
-/// Only `sim`, alone or before a `--` that ends the options, is taken. Any other line is `Shown`,
-/// and so is a request for help.
-pub fn options<'a>(alloc: Global, words: &'a [&'a str]) -> Result<Options, OptionsFault>
+/// Taken are `sim`, alone or before a `--` that ends the options, and `decode` with one word: a word that doesn't begin
+/// with a hyphen or is a hyphen alone, perhaps before a `--`, or any word behind a `--`. Any other line is `Shown`, and so
+/// is a request for help.
+pub fn options<'a>(alloc: Global, words: &'a [&'a str]) -> Result<Options<'a>, OptionsFault>
     ensures taken { AsksForSim (map (λ s. s.now) words.entry.now)
         → IfErr result (λ e. e ≡ OptionsFault.Memory) }
-    ensures only { IfOk result (λ o. (o ≡ Options.Sim)
-        × AsksForSim (map (λ s. s.now) words.entry.now)) }
+    ensures decode_taken { (word : List ℕ) → AsksForDecode (map (λ s. s.now) words.entry.now) word
+        → IfErr result (λ e. e ≡ OptionsFault.Memory) }
+    ensures only { IfOk result (λ o. AsksFor o (map (λ s. s.now) words.entry.now)) }
     ensures shown { (e : Error) → result ≡ Err (OptionsFault.Shown e)
         → kind_of e ≡ ErrorKind.OutOfMemory → ⊥ }
     ensures kind { (e : Error) → result ≡ Err (OptionsFault.Shown e)
@@ -42,13 +44,24 @@ pub fn options<'a>(alloc: Global, words: &'a [&'a str]) -> Result<Options, Optio
     }
 }
 
-fn parsed<'a>(command: Command<'a>, words: &'a [&'a str]) -> Result<Options, Error>
-    ensures sim { IfOk result (λ o. o ≡ Options.Sim) }
+fn parsed<'a>(command: Command<'a>, words: &'a [&'a str]) -> Result<Options<'a>, Error>
+    ensures choice { IfOk result (λ o. is_simple (app_of command.entry) ≡ true
+        → IsChoice (subcommand_of (app_of command.entry) (map (λ s. s.now) words.entry.now)) o) }
     ensures kinds { is_simple_and_free (app_of command.entry) ≡ true
         → FailsBy (clap_faults (app_of command.entry) (map (λ s. s.now) words.entry.now)) result }
 {
-    let _matches = command.try_get_matches_from(words)?;
-    Ok(Options::Sim)
+    let matches = command.try_get_matches_from(words)?;
+    Ok(choice(&matches))
+}
+
+/// What the subcommand that was met asks for.
+fn choice<'a>(matches: &ArgMatches<'a>) -> Options<'a>
+    ensures { IsChoice (subcommand_rows_of matches.now) result }
+{
+    match matches.subcommand_matches("decode") {
+        Some(decode) => Options::Decode(decode.get_str("HEX").unwrap_or("")),
+        None => Options::Sim,
+    }
 }
 
 fn fault_of(error: Error) -> OptionsFault
@@ -67,9 +80,16 @@ fn whole<'a>(alloc: Global) -> Result<Command<'a>, AllocError>
     ensures { IfOk result (λ r. app_of r ≡ driver_app) }
 {
     let sim = Command::new(alloc, "sim").about("Play the script on standard input");
+    let hex = Arg::new(alloc, "HEX")
+        .help("The datagram in hexadecimal")
+        .required(true);
+    let decode = Command::new(alloc, "decode")
+        .about("Print the frames of a datagram")
+        .arg(hex)?;
     Command::new(alloc, "mdriver")
         .bin_name("mdriver")?
         .about("A media driver with concurrent publications")
         .subcommand_required(true)
-        .subcommand(sim)
+        .subcommand(sim)?
+        .subcommand(decode)
 }

@@ -2,6 +2,7 @@
 
 use crate::choice::Options;
 use crate::command_line::{OptionsFault, options};
+use crate::decode::decode;
 use crate::fault::Fault;
 use crate::sim::sim;
 use clap::Error;
@@ -19,6 +20,7 @@ pub fn command<'a, R: Read, W: Write, E: Write>(
 ) -> u8 {
     let done = match options(alloc, words) {
         Ok(Options::Sim) => sim(alloc, input, output),
+        Ok(Options::Decode(word)) => decode(alloc, word, output),
         Err(OptionsFault::Memory) => Err(Fault::Memory),
         Err(OptionsFault::Shown(error)) if error.use_stderr() => {
             let _ = write!(errors, "{error}");

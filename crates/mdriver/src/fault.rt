@@ -1,8 +1,10 @@
 //! What a user reads where the program gives up.
 
-ghost use Rattle.std.specs.Prelude.{Some};
+ghost use Rattle.std.specs.Prelude.{◌≡◌, Some};
 ghost use Rattle.mdriver.specs.Faults.{shown_fault};
+ghost use Rattle.mdriver.specs.declared.fault.Fault.TheVariants.{Frame, Memory};
 
+use frames::FrameError;
 use script::ScriptFault;
 use std::alloc::AllocError;
 use std::error::Error;
@@ -17,6 +19,10 @@ pub enum Fault {
     Input,
     /// Memory was refused.
     Memory,
+    /// The word isn't an even number of hexadecimal digits, at most 131,072.
+    Hex,
+    /// The bytes are no datagram.
+    Frame(FrameError),
     /// The standard input failed.
     Read,
     /// The standard output failed.
@@ -31,6 +37,8 @@ impl fmt::Display for Fault {
             Fault::Line(number) => write!(f, "line {number}: script"),
             Fault::Input => write!(f, "input"),
             Fault::Memory => write!(f, "memory"),
+            Fault::Hex => write!(f, "hex"),
+            Fault::Frame(error) => f.write_str(error.text()),
             Fault::Read => write!(f, "read"),
             Fault::Write => write!(f, "write"),
         }
@@ -40,8 +48,18 @@ impl fmt::Display for Fault {
 impl Error for Fault {}
 
 impl From<AllocError> for Fault {
+    ghost from_gives = { λ _ fault. fault ≡ Memory };
+
     fn from(_error: AllocError) -> Fault {
         Fault::Memory
+    }
+}
+
+impl From<FrameError> for Fault {
+    ghost from_gives = { λ error fault. fault ≡ Frame error };
+
+    fn from(error: FrameError) -> Fault {
+        Fault::Frame(error)
     }
 }
 

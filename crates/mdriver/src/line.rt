@@ -1,6 +1,7 @@
 //! The lines that a script prints.
 
 use crate::assembler::{AssemblyError, Message};
+use crate::hexadecimal::Hexadecimal;
 use crate::receiver::Outcome;
 use crate::sender::SenderAnswer;
 use log_buffer::{Book, LogError, Refusal};
@@ -33,19 +34,6 @@ pub enum Line {
     /// The line names what isn't there.
     Bad,
     Book(Book),
-}
-
-/// Bytes in hexadecimal, two small digits each.
-#[derive(Clone, Copy)]
-struct Hexadecimal<'a>(&'a [u8]);
-
-impl fmt::Display for Hexadecimal<'_> {
-    fn fmt<W: fmt::Write>(&self, f: &mut fmt::Formatter<W>) -> fmt::Result {
-        for byte in self.0 {
-            write!(f, "{byte:02x}")?;
-        }
-        Ok(())
-    }
 }
 
 impl fmt::Display for Outcome {

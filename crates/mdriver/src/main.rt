@@ -1,12 +1,16 @@
-//! The media driver's program: `mdriver sim` plays a script from offer to poll.
+//! The media driver's program: `mdriver sim` plays a script from offer to poll, and `mdriver decode` prints the frames of
+//! a datagram.
 #![tactic(auto)]
 
 mod assembler;
 mod choice;
 mod command_line;
 mod commands;
+mod decode;
 mod fault;
 mod flow;
+mod frame_line;
+mod hexadecimal;
 mod line;
 mod outbox;
 mod play;

@@ -132,6 +132,138 @@ fn longest_script(rt: HostRuntime) -> Result<(), Fail> {
     Ok(())
 }
 
+/// Datagrams in hexadecimal, and their lines.
+const DECODED: &[(&str, &str)] = &[
+    // the message `abc`
+    (
+        "2300000000c001000000000001000000e90300000700000000000000000000006162630000000000000000000000000000000000000000000000000000000000",
+        "DATA flags=c0 term=7 offset=0 session=1 stream=1001 reserved=0 length=35 payload=616263\n",
+    ),
+    // a SETUP at the start
+    (
+        "28000000000005000000000001000000e90300000700000007000000000001008005000000000000",
+        "SETUP session=1 stream=1001 initial=7 active=7 offset=0 term-length=65536 mtu=1408 ttl=0\n",
+    ),
+    // a status message
+    (
+        "240000000000030001000000e90300000700000000000000008000002a00000000000000",
+        "SM flags=00 session=1 stream=1001 term=7 offset=0 window=32768 receiver=42\n",
+    ),
+    // one that asks for a SETUP
+    (
+        "240000000080030001000000e90300000700000040000000000000002a00000000000000",
+        "SM flags=80 session=1 stream=1001 term=7 offset=64 window=0 receiver=42\n",
+    ),
+    // a NAK
+    (
+        "1c0000000000020001000000e9030000070000004000000040000000",
+        "NAK session=1 stream=1001 term=7 offset=64 length=64\n",
+    ),
+    // a padding
+    (
+        "a020000000c0000060df000001000000e9030000070000000000000000000000",
+        "PAD term=7 offset=57184 session=1 stream=1001 reserved=0 length=8352\n",
+    ),
+    // a heartbeat
+    (
+        "0000000000c001004000000001000000e9030000070000000000000000000000",
+        "HEARTBEAT term=7 offset=64 session=1 stream=1001 reserved=0\n",
+    ),
+    // large digits, negative numbers, an empty payload, and a padding behind it
+    (
+        "200000000080010000000000FFFFFFFFFEFFFFFFFDFFFFFF0000000000000080A020000000C000002000000001000000E9030000070000000000000000000000",
+        "DATA flags=80 term=-3 offset=0 session=-1 stream=-2 reserved=-9223372036854775808 length=32 payload=\nPAD term=7 offset=32 session=1 stream=1001 reserved=0 length=8352\n",
+    ),
+];
+
+/// Words that `decode` refuses, and what is told.
+const NOT_DECODED: &[(&str, &str)] = &[
+    // nothing
+    ("", "error: F1 short\n"),
+    // the message without its 29 alignment bytes
+    (
+        "2300000000c001000000000001000000e9030000070000000000000000000000616263",
+        "error: F1 short\n",
+    ),
+    // its first 31 bytes
+    (
+        "2300000000c001000000000001000000e90300000700000000000000000000",
+        "error: F1 short\n",
+    ),
+    // another version
+    ("0000000001000200", "error: F2 version\n"),
+    // another type
+    ("0000000000000600", "error: F3 type\n"),
+    // a NAK of another length
+    (
+        "1d0000000000020001000000e9030000070000004000000040000000",
+        "error: F4 length\n",
+    ),
+    // a flag too many
+    (
+        "2300000000e001000000000001000000e90300000700000000000000000000006162630000000000000000000000000000000000000000000000000000000000",
+        "error: F5 flags\n",
+    ),
+    // an alignment byte that isn't zero
+    (
+        "2300000000c001000000000001000000e90300000700000000000000000000006162630000000000000000000000000000000000000000000000000000000001",
+        "error: F6 alignment\n",
+    ),
+    // a negative term offset
+    (
+        "0000000000c00100e0ffffff01000000e9030000070000000000000000000000",
+        "error: F7 range\n",
+    ),
+    // two NAKs
+    (
+        "1c0000000000020001000000e90300000700000040000000400000001c0000000000020001000000e9030000070000004000000040000000",
+        "error: F8 datagram\n",
+    ),
+    // an odd number of digits, and what isn't one
+    ("0", "error: hex\n"),
+    ("1c0", "error: hex\n"),
+    ("0g", "error: hex\n"),
+    ("0x1c", "error: hex\n"),
+    ("-", "error: hex\n"),
+    (" ", "error: hex\n"),
+];
+
+#[test]
+fn datagrams(rt: HostRuntime) {
+    for (word, lines) in DECODED {
+        let words = ["mdriver", "decode", *word];
+        let done = run_over(rt.alloc(), &words, b"");
+        assert_eq!(rt; done.output.as_slice(), lines.as_bytes());
+        assert_eq!(rt; done.errors.len(), 0);
+        assert_eq!(rt; done.status, 0);
+    }
+    for (word, told) in NOT_DECODED {
+        let words = ["mdriver", "decode", *word];
+        let done = run_over(rt.alloc(), &words, b"");
+        assert_eq!(rt; done.output.len(), 0);
+        assert_eq!(rt; done.errors.as_slice(), told.as_bytes());
+        assert_eq!(rt; done.status, 1);
+    }
+}
+
+/// A word of 131,072 digits is read, and one of two more isn't.
+#[test]
+fn longest_word(rt: HostRuntime) -> Result<(), Fail> {
+    let mut digits = String::new(rt.alloc());
+    for _digit in 0..131_072 {
+        digits.push('0')?;
+    }
+    let words = ["mdriver", "decode", digits.as_str()];
+    let done = run_over(rt.alloc(), &words, b"");
+    assert_eq!(rt; done.errors.as_slice(), b"error: F4 length\n".as_slice());
+    digits.push_str("00")?;
+    let words = ["mdriver", "decode", digits.as_str()];
+    let done = run_over(rt.alloc(), &words, b"");
+    assert_eq!(rt; done.errors.as_slice(), b"error: hex\n".as_slice());
+    assert_eq!(rt; done.status, 1);
+    Ok(())
+}
+
 /// A stream that always fails.
 #[derive(Drop)]
 struct Broken;
@@ -167,13 +299,22 @@ fn broken_streams(rt: HostRuntime) {
 }
 
 const HELP: &str =
-    "A media driver with concurrent publications\n\nUsage: mdriver <COMMAND>\n\nCommands:\n  sim   Play the script on standard input\n  help  Print this message or the help of the given subcommand(s)\n\nOptions:\n  -h, --help  Print help\n";
+    "A media driver with concurrent publications\n\nUsage: mdriver <COMMAND>\n\nCommands:\n  sim     Play the script on standard input\n  decode  Print the frames of a datagram\n  help    Print this message or the help of the given subcommand(s)\n\nOptions:\n  -h, --help  Print help\n";
 
 const NO_COMMAND: &str =
-    "error: 'mdriver' requires a subcommand but one was not provided\n  [subcommands: sim, help]\n\nUsage: mdriver <COMMAND>\n\nFor more information, try '--help'.\n";
+    "error: 'mdriver' requires a subcommand but one was not provided\n  [subcommands: sim, decode, help]\n\nUsage: mdriver <COMMAND>\n\nFor more information, try '--help'.\n";
 
 const ONE_MORE: &str =
     "error: unexpected argument 'more' found\n\nUsage: mdriver sim\n\nFor more information, try '--help'.\n";
+
+const NO_WORD: &str =
+    "error: the following required arguments were not provided:\n  <HEX>\n\nUsage: mdriver decode <HEX>\n\nFor more information, try '--help'.\n";
+
+const TWO_WORDS: &str =
+    "error: unexpected argument '00' found\n\nUsage: mdriver decode <HEX>\n\nFor more information, try '--help'.\n";
+
+const HELP_OF_DECODE: &str =
+    "Print the frames of a datagram\n\nUsage: mdriver decode <HEX>\n\nArguments:\n  <HEX>  The datagram in hexadecimal\n\nOptions:\n  -h, --help  Print help\n";
 
 /// Command lines that are refused or ask for help: what is printed and told, and the status.
 #[test]
@@ -181,6 +322,19 @@ fn command_lines(rt: HostRuntime) {
     for (words, output, errors, status) in [
         (["mdriver"].as_slice(), "", NO_COMMAND, 2),
         (["mdriver", "sim", "more"].as_slice(), "", ONE_MORE, 2),
+        (["mdriver", "decode"].as_slice(), "", NO_WORD, 2),
+        (
+            ["mdriver", "decode", "ff", "00"].as_slice(),
+            "",
+            TWO_WORDS,
+            2,
+        ),
+        (
+            ["mdriver", "help", "decode"].as_slice(),
+            HELP_OF_DECODE,
+            "",
+            0,
+        ),
         (["mdriver", "--help"].as_slice(), HELP, "", 0),
         (["mdriver", "help"].as_slice(), HELP, "", 0),
     ] {

@@ -7,6 +7,10 @@ abbrev pub with_front : List ℕ → Option (List ℕ) → Option (List ℕ)
 with_front front None = None
 with_front front (Some bytes) = Some (front ++ bytes)
 
+pub none_before : (read : Option (List ℕ)) → with_front [] read ≡ read
+none_before None = refl
+none_before (Some bytes) = refl
+
 put_first : (front : List ℕ) (b : ℕ) (read : Option (List ℕ)) → with_front (front ++ b ∷ []) read ≡ with_front front (read >>= λ bytes. Some (b ∷ bytes))
 put_first front b None = refl
 put_first front b (Some bytes) = ap Some (append_assoc front (b ∷ []) bytes)

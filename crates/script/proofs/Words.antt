@@ -110,7 +110,7 @@ digit_only c n (inr (inr (low, high, is))) =
     let value : c - 55 ≡ n = omega arith in
     cond-false _ _ _ (above 47 58 c (omega arith)) ∙ cond-false _ _ _ (below 96 103 c (omega arith)) ∙ cond-true _ _ _ (inside 64 71 c (omega arith) (omega arith)) ∙ ap Some value
 
-bytes_found : (text bytes : List ℕ) → pairs_of text ≡ Some bytes → SpellsBytes text bytes
+pub bytes_found : (text bytes : List ℕ) → pairs_of text ≡ Some bytes → SpellsBytes text bytes
 unfolding pairs_of byte_of
 bytes_found [] bytes e =
     let none : [] ≡ bytes = cc in
@@ -125,7 +125,7 @@ bytes_found (high ∷ low ∷ text) bytes e =
     let value : first.0 ≡ h.0 * 16 + l.0 = cc in
     subst (SpellsBytes (high ∷ low ∷ text)) whole ((h.0, l.0, digit_found high h.0 h.1, digit_found low l.0 l.1, value), bytes_found text others.0 others.1)
 
-bytes_only : (text bytes : List ℕ) → SpellsBytes text bytes → pairs_of text ≡ Some bytes
+pub bytes_only : (text bytes : List ℕ) → SpellsBytes text bytes → pairs_of text ≡ Some bytes
 unfolding pairs_of byte_of
 bytes_only [] [] spells = refl
 bytes_only [] (byte ∷ bytes) spells = absurd spells

@@ -15,6 +15,7 @@ mod values;
 pub use command::{Command, LogLine, Script, Seat};
 pub use fault::ScriptFault;
 pub use read::read_script;
+pub use values::hexadecimal;
 
 #[cfg(test)]
 mod tests;

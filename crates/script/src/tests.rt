@@ -245,3 +245,25 @@ fn fault_texts(rt: HostRuntime) -> Result<(), Fail> {
     assert_eq!(rt; memory.as_str(), "memory");
     Ok(())
 }
+
+/// Digits that spell bytes, and those that don't.
+#[test]
+fn hexadecimal_digits(rt: HostRuntime) -> Result<(), Fail> {
+    let spelled: [(&str, &[u8]); 4] = [
+        ("", &[]),
+        ("00", &[0]),
+        ("fFA09b", &[0xff, 0xa0, 0x9b]),
+        (
+            "0123456789abcdef",
+            &[0x01, 0x23, 0x45, 0x67, 0x89, 0xab, 0xcd, 0xef],
+        ),
+    ];
+    for (digits, bytes) in spelled {
+        let read = hexadecimal(rt.alloc(), digits.as_bytes())?;
+        assert_eq!(rt; read.as_deref(), Some(bytes));
+    }
+    for digits in ["0", "123", "0g", " 0", "0x", "é"] {
+        assert!(rt; hexadecimal(rt.alloc(), digits.as_bytes())?.is_none());
+    }
+    Ok(())
+}

@@ -1,7 +1,8 @@
-ghost use Rattle.std.specs.Prelude.{◌≡◌, ◌^◌, ◌<◌, ◌≤◌, IfOk, IfSome, option_map};
+ghost use Rattle.std.specs.Prelude.{◌≡◌, ◌^◌, ◌<◌, ◌≤◌, ℕ, List, IfOk, IfSome, Some, option_map};
 ghost use Rattle.std.specs.Str.Parse.{starts_with_minus};
+ghost use Rattle.script.specs.Language.{SpellsBytes};
 ghost use Rattle.script.specs.Reading.{Gives};
-ghost use Rattle.script.specs.Values.{number_of, signed_of, hex_digit_of, byte_of, hex_of};
+ghost use Rattle.script.specs.Values.{number_of, signed_of, hex_digit_of, byte_of, pairs_of, hex_of};
 
 use std::alloc::{AllocError, Global};
 
@@ -69,13 +70,10 @@ fn hex_byte(high: u8, low: u8) -> Option<u8>
     Some(high * 16 + low)
 }
 
-/// The bytes that the digits spell, two digits a byte.
-pub fn hex(alloc: Global, digits: &[u8]) -> Result<Option<Vec<u8>>, AllocError>
-    ensures { IfOk result (λ found. option_map (λ bytes. bytes.items) found ≡ hex_of digits.now) }
+/// The bytes that pairs of digits spell.
+fn pairs(alloc: Global, digits: &[u8]) -> Result<Option<Vec<u8>>, AllocError>
+    ensures { IfOk result (λ found. option_map (λ bytes. bytes.items) found ≡ pairs_of digits.now) }
 {
-    if digits.is_empty() {
-        return Ok(None);
-    }
     let mut bytes = Vec::with_capacity(alloc, digits.len() / 2)?;
     let mut rest = digits;
     while rest.len() >= 2 {
@@ -91,4 +89,26 @@ pub fn hex(alloc: Global, digits: &[u8]) -> Result<Option<Vec<u8>>, AllocError>
     } else {
         Ok(None)
     }
+}
+
+/// The bytes that the digits spell, two digits a byte, at least one byte.
+pub fn hex(alloc: Global, digits: &[u8]) -> Result<Option<Vec<u8>>, AllocError>
+    ensures { IfOk result (λ found. option_map (λ bytes. bytes.items) found ≡ hex_of digits.now) }
+{
+    if digits.is_empty() {
+        return Ok(None);
+    }
+    pairs(alloc, digits)
+}
+
+/// The bytes that hexadecimal digits spell, two digits a byte, large or small; no digits spell no bytes. There are
+/// none where the text is of an odd length or has another byte than a digit.
+pub fn hexadecimal(alloc: Global, digits: &[u8]) -> Result<Option<Vec<u8>>, AllocError>
+    // What is read is spelled so.
+    ensures found { IfOk result (λ found. IfSome found (λ bytes. SpellsBytes digits.now bytes.items)) }
+    // What is spelled so is read, unless memory runs out.
+    ensures only { (bytes : List ℕ) → SpellsBytes digits.now bytes
+        → IfOk result (λ found. option_map (λ read. read.items) found ≡ Some bytes) }
+{
+    pairs(alloc, digits)
 }

@@ -1,7 +1,7 @@
 use Rattle.std.proofs.Common.{◌≡◌, length}
 use Rattle.script.specs.Values.{pairs_of}
 use Rattle.script.proofs.Pairs.{with_front}
-use Rattle.script.proofs.values.hex.Given as goal
+use Rattle.script.proofs.values.pairs.Given as goal
 
 -- the bytes so far, and those that the rest spells
 abbrev pub invariant-loop-rest : goal.invariant-loop-rest
