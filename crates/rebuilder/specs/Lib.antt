@@ -1,3 +1,5 @@
 pub mod Codes
-pub mod Seen
+pub mod Kinds
 pub mod Stored
+pub mod Held
+pub mod Seen

@@ -6,6 +6,7 @@
 mod answer;
 mod fault;
 mod held;
+mod held_frames;
 mod image;
 mod insert;
 mod read;

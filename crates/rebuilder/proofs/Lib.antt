@@ -1,0 +1,6 @@
+pub mod Lists
+pub mod Order
+pub mod Entries
+pub mod Reach
+pub mod Kept
+pub mod Fronts
