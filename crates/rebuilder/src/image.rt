@@ -1,6 +1,6 @@
 ghost use Rattle.std.specs.Prelude.{◌≡◌, ◌↔◌, ◌<◌, ◌≤◌, ◌^◌, [], length, replicate, slice_index, IfOk, IsErrOf, IsTrue, ℕ};
 ghost use Rattle.std.specs.List.{AllByRecursion};
-ghost use Rattle.theory.specs.Position.{max_position};
+ghost use Rattle.theory.specs.Position.{IsGeometry, max_position};
 ghost use Rattle.theory.specs.Image.{IsWindow};
 ghost use Rattle.theory.specs.Units.{HasUnit, IsContiguous};
 ghost use Rattle.rebuilder.specs.Held.{IsStart};
@@ -97,7 +97,8 @@ impl Image {
 
     /// The shape of the stream.
     pub fn geometry(&self) -> Geometry
-        ensures { result ≡ self.now.geometry }
+        ensures value { result ≡ self.now.geometry }
+        ensures legal { IsGeometry result }
     {
         self.geometry
     }

@@ -14,3 +14,6 @@ mod read;
 pub use answer::Insert;
 pub use fault::ImageError;
 pub use image::Image;
+
+#[cfg(test)]
+mod tests;
