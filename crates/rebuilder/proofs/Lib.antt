@@ -4,3 +4,4 @@ pub mod Entries
 pub mod Reach
 pub mod Kept
 pub mod Fronts
+pub mod Units

@@ -3,3 +3,4 @@ pub mod Kinds
 pub mod Stored
 pub mod Held
 pub mod Seen
+pub mod Laws
