@@ -1,8 +1,8 @@
 //! The receiver's core: datagrams and moments in, outcomes and replies out.
 
-ghost use Rattle.std.specs.Prelude.{◌≤◌};
-ghost use Rattle.rebuilder.specs.Stored.{IsOfStream};
-ghost use Rattle.theory.specs.Position.{max_position};
+ghost use Rattle.std.specs.Prelude.{◌≡◌, ◌≤◌, ◌%◌};
+ghost use Rattle.rebuilder.specs.Stored.{IsOfStream, IsUnit};
+ghost use Rattle.theory.specs.Position.{IsGeometry, max_position};
 ghost use Rattle.theory.specs.Wire.{IsFrame};
 ghost use Rattle.frames.specs.Frames.{wire};
 
@@ -65,6 +65,16 @@ pub struct ReceiverCore {
     told: Option<Told>,
     /// The greatest moment that it has seen.
     clock: u64,
+}
+
+/// The position that a header names.
+fn position_in(geometry: &Geometry, header: &Header) -> i64
+    requires legal { IsGeometry geometry.now }
+    requires unit { header.now.term_offset % 32 ≡ 0 }
+    requires low { header.now.term_offset ≤ 16777216 }
+    ensures { IsUnit result }
+{
+    geometry.position(header.term_id, header.term_offset.cast_signed())
 }
 
 impl ReceiverCore {
@@ -150,6 +160,8 @@ impl ReceiverCore {
 
     /// Hands a DATA frame or a padding with this header to the image.
     fn on_stored(&mut self, header: &Header, frame: &Frame<'_>) -> Result<Outcome, AllocError>
+        requires unit { header.now.term_offset % 32 ≡ 0 }
+        requires low { header.now.term_offset ≤ 16777216 }
         requires frame { IsFrame (wire frame.now) }
         requires stored { IsOfStream frame.now }
     {
@@ -157,19 +169,19 @@ impl ReceiverCore {
             self.unmet = Some(*header);
             return Ok(Outcome::Asked);
         };
-        let offset = header.term_offset.cast_signed();
-        let position = image.geometry().position(header.term_id, offset);
+        let position = position_in(&image.geometry(), header);
         Ok(Outcome::Inserted(image.insert(position, frame)?))
     }
 
-    fn on_heartbeat(&mut self, header: &Header) -> Outcome {
+    fn on_heartbeat(&mut self, header: &Header) -> Outcome
+        requires unit { header.now.term_offset % 32 ≡ 0 }
+        requires low { header.now.term_offset ≤ 16777216 }
+    {
         let Some(image) = &mut self.image else {
             self.unmet = Some(*header);
             return Outcome::Asked;
         };
-        let position = image
-            .geometry()
-            .position(header.term_id, header.term_offset.cast_signed());
+        let position = position_in(&image.geometry(), header);
         let _ = image.heartbeat(position);
         Outcome::Heartbeat
     }

@@ -1,3 +1,6 @@
 pub mod Codes
-pub mod Seen
+pub mod Kinds
 pub mod Stored
+pub mod Held
+pub mod Seen
+pub mod Laws

@@ -1,10 +1,15 @@
-ghost use Rattle.std.specs.Prelude.{◌≡◌, ◌<◌, ◌≤◌, ◌^◌, IfOk};
+ghost use Rattle.std.specs.Prelude.{◌≡◌, ◌↔◌, ◌<◌, ◌≤◌, ◌^◌, [], length, replicate, slice_index, IfOk, IsErrOf, IsTrue, ℕ};
+ghost use Rattle.std.specs.List.{AllByRecursion};
+ghost use Rattle.theory.specs.Position.{IsGeometry, max_position};
+ghost use Rattle.theory.specs.Image.{IsWindow};
+ghost use Rattle.theory.specs.Units.{HasUnit, IsContiguous};
+ghost use Rattle.rebuilder.specs.Held.{IsStart};
+ghost use Rattle.rebuilder.specs.Seen.{IsCount, IsJoin, least};
 
 use crate::fault::ImageError;
-use crate::held::Held;
+use crate::held_frames::HeldFrames;
 use position::Geometry;
 use std::alloc::Global;
-use std::collections::BTreeMap;
 use std::marker::Model;
 
 /// How many consumers an image has at the most.
@@ -20,10 +25,10 @@ pub struct Image {
     /// The end of what was stored without a gap.
     pub(crate) rebuilt: u64,
     pub(crate) high_water: u64,
-    pub(crate) consumer_count: usize,
-    pub(crate) consumers: [u64; CONSUMERS],
-    /// The frames from the least consumer on, by their starts.
-    pub(crate) frames: BTreeMap<u64, Held>,
+    /// Where the consumers stand.
+    pub(crate) consumers: Vec<u64>,
+    /// The frames from the least consumer on.
+    pub(crate) frames: HeldFrames,
 }
 
 impl Model for Image {
@@ -32,13 +37,26 @@ impl Model for Image {
 
     ghost Value = { seen.Image };
 
-    ghost view = { λ i. record { geometry = i.geometry; join = i.join; window = i.window; rebuilt = i.rebuilt; high_water = i.high_water; consumers = i.consumer_count } };
+    ghost view = { λ i. record { geometry = i.geometry; join = i.join; window = i.window; held = i.frames; high = i.high_water; consumers = i.consumers.items } };
 
-    ghost invariant = { λ i. IsKept i.geometry i.window i.rebuilt i.high_water i.consumer_count i.consumers };
+    ghost invariant = { λ i. IsKept (record { geometry = i.geometry; join = i.join; window = i.window; held = i.frames; high = i.high_water; consumers = i.consumers.items }) i.rebuilt };
+}
+
+/// The least of some positions.
+pub(crate) fn least_of(positions: &[u64]) -> u64
+    requires { 0 < length positions.now }
+    ensures { result ≡ least positions.now }
+{
+    let mut lowest = positions[0];
+    for position in &positions[1..] {
+        lowest = lowest.min(*position);
+    }
+    lowest
 }
 
 impl Image {
-    /// An image with all its consumers at the join.
+    /// An image that holds nothing, with all its consumers at the join. Only [`ImageError::Memory`] has no cause that
+    /// the arguments show.
     pub fn open(
         alloc: Global,
         geometry: Geometry,
@@ -46,8 +64,11 @@ impl Image {
         window: u32,
         consumers: usize,
     ) -> Result<Image, ImageError>
-        ensures geometry { IfOk result (λ i. i.geometry ≡ geometry) }
-        ensures consumers { IfOk result (λ i. i.consumers ≡ consumers) }
+        ensures opened { IfOk result (λ i. i ≡ record { geometry = geometry; join = join; window = window; held = []; high = join; consumers = replicate consumers join }) }
+        ensures legal { IfOk result (λ i. IsJoin geometry join × IsWindow geometry.term_length geometry.mtu window × IsCount consumers) }
+        ensures bad_join { IsErrOf result ImageError.Join ↔ (¬ IsJoin geometry join) }
+        ensures bad_window { IsErrOf result ImageError.Window ↔ (IsJoin geometry join × (¬ IsWindow geometry.term_length geometry.mtu window)) }
+        ensures bad_count { IsErrOf result ImageError.Consumers ↔ (IsJoin geometry join × IsWindow geometry.term_length geometry.mtu window × (¬ IsCount consumers)) }
     {
         if !join.is_multiple_of(32) || join > geometry.max_position() {
             return Err(ImageError::Join);
@@ -59,6 +80,9 @@ impl Image {
         if consumers == 0 || consumers > CONSUMERS {
             return Err(ImageError::Consumers);
         }
+        let Ok(consumers) = vec![in alloc; join; consumers] else {
+            return Err(ImageError::Memory);
+        };
         Ok(Image {
             alloc,
             geometry,
@@ -66,25 +90,33 @@ impl Image {
             window,
             rebuilt: join,
             high_water: join,
-            consumer_count: consumers,
-            consumers: [join; CONSUMERS],
-            frames: BTreeMap::new(alloc),
+            consumers,
+            frames: HeldFrames::new(alloc),
         })
     }
 
     /// The shape of the stream.
     pub fn geometry(&self) -> Geometry
-        ensures { result ≡ self.now.geometry }
+        ensures value { result ≡ self.now.geometry }
+        ensures legal { IsGeometry result }
     {
         self.geometry
     }
 
     /// How many consumers it has: one to eight.
     pub fn consumers(&self) -> usize
-        ensures value { result ≡ self.now.consumers }
-        ensures some { 0 < result }
+        ensures value { result ≡ length self.now.consumers }
+        ensures some { IsCount result }
     {
-        self.consumer_count
+        self.consumers.len()
+    }
+
+    /// Where a consumer stands.
+    pub fn position(&self, consumer: usize) -> u64
+        requires { consumer < length self.now.consumers }
+        ensures { result ≡ slice_index self.now.consumers consumer }
+    {
+        self.consumers[consumer]
     }
 
     /// The position from which on it rebuilds.
@@ -96,50 +128,35 @@ impl Image {
 
     /// The bytes above the least consumer that it takes.
     pub fn window(&self) -> u32
-        ensures { result ≡ self.now.window }
+        ensures value { result ≡ self.now.window }
+        ensures legal { IsWindow self.now.geometry.term_length self.now.geometry.mtu result }
     {
         self.window
     }
 
-    /// The end of what was stored without a gap from the join on.
+    /// The end of what was stored without a gap. No consumer is above it, and a frame is held at each that is below.
     pub fn rebuilt(&self) -> u64
-        ensures value { result ≡ self.now.rebuilt }
-        ensures low { result ≤ 2 ^ 56 }
+        ensures value { IsContiguous self.now.held (least self.now.consumers) result }
+        ensures marked { result ≤ self.now.high }
+        ensures behind { AllByRecursion (λ p. p ≤ result) self.now.consumers }
+        ensures waiting { AllByRecursion (λ p. p < result → IsStart self.now.held p) self.now.consumers }
     {
         self.rebuilt
     }
 
     /// The greatest end of a stored frame or position of an accepted heartbeat, or the join.
     pub fn high_water(&self) -> u64
-        ensures value { result ≡ self.now.high_water }
-        ensures low { result ≤ 2 ^ 56 }
+        ensures value { result ≡ self.now.high }
+        ensures low { result ≤ max_position self.now.geometry }
     {
         self.high_water
     }
 
     /// The position of the consumer that is furthest behind.
     pub fn least(&self) -> u64
-        ensures { result ≤ 2 ^ 56 }
+        ensures value { result ≡ least self.now.consumers }
+        ensures low { result ≤ max_position self.now.geometry }
     {
-        let mut least = self.consumers[0];
-        for position in &self.consumers[..self.consumer_count] {
-            least = least.min(*position);
-        }
-        least
-    }
-
-    /// Takes a sender's position, a multiple of 32. It is accepted, and raises the high-water mark, if it is above the
-    /// mark and at most three quarters of a term above the least consumer. No frame is stored.
-    pub fn heartbeat(&mut self, position: i64) -> bool
-        ensures geometry { self.new.geometry ≡ self.old.geometry }
-        ensures consumers { self.new.consumers ≡ self.old.consumers }
-    {
-        let ahead = u64::from(self.geometry.term_length()) * 3 / 4;
-        let greatest = (self.least() + ahead).min(self.geometry.max_position());
-        if position < 0 || position as u64 <= self.high_water || position as u64 > greatest {
-            return false;
-        }
-        self.high_water = position as u64;
-        true
+        least_of(&self.consumers)
     }
 }

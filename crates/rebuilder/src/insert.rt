@@ -1,13 +1,17 @@
-ghost use Rattle.std.specs.Prelude.{◌≡◌, ◌≤◌, ◌<◌, ◌^◌, ◌+◌, length, OnOk, OnErr, pos, ◌≤ℤ◌};
+ghost use Rattle.std.specs.Prelude.{◌≡◌, ◌≤◌, ◌<◌, ◌^◌, ◌&&◌, ℕ, Bool, false, true, pos, map, nat_lt, IfOk, OnOk, OnErr, if◌then◌else◌};
+ghost use Rattle.theory.specs.Insert.{head_of, insert_answer, insert_answer_at};
+ghost use Rattle.theory.specs.Placed.{Placed, frame_length, is_padding};
 ghost use Rattle.theory.specs.Position.{aligned};
 ghost use Rattle.theory.specs.Wire.{IsFrame};
 ghost use Rattle.frames.specs.Frames.{wire};
-ghost use Rattle.rebuilder.specs.Stored.{IsOfStream};
+ghost use Rattle.rebuilder.specs.Kinds.{is_pad};
+ghost use Rattle.rebuilder.specs.Seen.{MayHold, accepts, crosses, least, with_frame};
+ghost use Rattle.rebuilder.specs.Stored.{IsOfStream, IsUnit, meant, stream_frame};
 
 use crate::answer::Insert;
-use crate::held::Held;
+use crate::held::{Held, measure};
 use crate::image::Image;
-use frames::{Frame, UNFRAGMENTED};
+use frames::Frame;
 use position::{FrameKind, align32};
 use std::alloc::AllocError;
 
@@ -15,30 +19,18 @@ impl Image {
     /// Whether the frame would pass the end of its term, whose offsets are counted from 0 up.
     fn crosses_term(&self, position: i64, covered: u32) -> bool
         requires { covered ≤ 2 ^ 24 }
+        ensures { result ≡ crosses self.now.geometry.term_length position covered }
     {
         let length = i64::from(self.geometry.term_length());
         position.rem_euclid(length) + i64::from(covered) > length
     }
 
-    /// Whether a held frame starts there, of this kind and length.
-    fn holds(&self, start: u64, kind: FrameKind, frame_length: u32) -> bool {
-        self.frames.get(&start).is_some_and(|held| held.kind == kind
-            && held.frame_length == frame_length)
-    }
-
-    /// Whether a held frame has a byte in the range: the last one that starts below its end would.
-    fn overlaps(&self, start: u64, end: u64) -> bool {
-        match self.frames.range(..end).next_back() {
-            Some((_, held)) => held.end > start,
-            None => false,
-        }
-    }
-
-    /// What becomes of a frame at a position from 0 on.
-    fn judge(&self, start: u64, kind: FrameKind, frame_length: u32) -> Insert
+    /// What becomes of a frame at a position from 0 on that doesn't pass the end of its term.
+    fn judge_inside(&self, start: u64, kind: FrameKind, frame_length: u32) -> Insert
         requires start { start < 2 ^ 63 }
         requires length { frame_length ≤ 2 ^ 24 }
-        ensures { result ≡ Insert.Stored → start + aligned frame_length ≤ 2 ^ 56 }
+        requires inside { crosses self.now.geometry.term_length (pos start) (aligned frame_length) ≡ false }
+        ensures { meant result ≡ insert_answer self.now.geometry (map head_of self.now.held) (least self.now.consumers) self.now.window (record { at = start; padding = is_pad kind; length = frame_length }) }
     {
         let least = self.least();
         if start < least {
@@ -52,88 +44,77 @@ impl Image {
         let reach = (least + u64::from(self.window)).min(self.geometry.max_position());
         if needed > reach {
             Insert::OverWindow
-        } else if self.holds(start, kind, frame_length) {
+        } else if self.frames.has_like(start, kind, frame_length) {
             Insert::Duplicate
-        } else if self.overlaps(start, end) {
+        } else if self.frames.meets(start, end) {
             Insert::Overlap
         } else {
             Insert::Stored
         }
     }
 
-    /// Moves the rebuilt position over the frames that follow it without a gap.
-    fn extend(&mut self)
-        ensures geometry { self.new.geometry ≡ self.old.geometry }
-        ensures consumers { self.new.consumers ≡ self.old.consumers }
+    /// What becomes of a frame.
+    fn judge(&self, position: i64, kind: FrameKind, frame_length: u32) -> Insert
+        requires { frame_length ≤ 2 ^ 24 }
+        ensures { meant result ≡ insert_answer_at self.now.geometry (map head_of self.now.held) (least self.now.consumers) self.now.window position (is_pad kind) frame_length }
     {
-        let mut rebuilt = self.rebuilt;
-        for (start, held) in self.frames.range(rebuilt..) {
-            if *start != rebuilt {
-                break;
-            }
-            rebuilt = held.end;
-        }
-        self.rebuilt = rebuilt;
-    }
-
-    /// Takes a DATA frame or a padding at a position, which is below every image where it is negative. At an error
-    /// nothing has changed, and the frame may be handed in again.
-    pub fn insert(&mut self, position: i64, frame: &Frame<'_>) -> Result<Insert, AllocError>
-        requires frame { IsFrame (wire frame.now) }
-        requires stored { IsOfStream frame.now }
-        ensures geometry { self.new.geometry ≡ self.old.geometry }
-        ensures consumers { self.new.consumers ≡ self.old.consumers }
-    {
-        match *frame {
-            Frame::Data { flags, payload, .. } => {
-                let length = payload.len() as u32 + 32;
-                self.insert_parts(position, FrameKind::Data, flags, length, payload)
-            }
-            Frame::Pad { frame_length, .. } => {
-                self.insert_parts(position, FrameKind::Pad, UNFRAGMENTED, frame_length, &[])
-            }
-            _ => unreachable!(),
-        }
-    }
-
-    fn insert_parts(
-        &mut self,
-        position: i64,
-        kind: FrameKind,
-        flags: u8,
-        frame_length: u32,
-        payload: &[u8],
-    ) -> Result<Insert, AllocError>
-        requires length { frame_length ≤ 2 ^ 24 }
-        requires payload { length payload.now ≤ 65472 }
-        requires data { kind ≡ FrameKind.Data → frame_length ≡ 32 + length payload.now }
-        ensures geometry { self.new.geometry ≡ self.old.geometry }
-        ensures consumers { self.new.consumers ≡ self.old.consumers }
-    {
-        let covered = align32(frame_length);
-        if self.crosses_term(position, covered) {
-            return Ok(Insert::CrossesTerm);
+        if self.crosses_term(position, align32(frame_length)) {
+            return Insert::CrossesTerm;
         }
         if position < 0 {
-            return Ok(Insert::Below);
+            return Insert::Below;
         }
-        let start = position as u64;
-        let answer = self.judge(start, kind, frame_length);
+        self.judge_inside(position as u64, kind, frame_length)
+    }
+
+    /// Holds one more frame.
+    fn store(&mut self, start: u64, held: Held) -> Result<(), AllocError>
+        requires { MayHold self.old (record { at = start; frame = held }) }
+        ensures stored { OnOk result (self.new ≡ with_frame self.old (record { at = start; frame = held })) }
+        ensures refused { OnErr result (self.new ≡ self.old) }
+    {
+        let end = start + held.covered();
+        self.frames.put(start, held)?;
+        self.high_water = self.high_water.max(end);
+        self.rebuilt = self.frames.run_end(self.rebuilt);
+        Ok(())
+    }
+
+    /// Takes a DATA frame or a padding at a position, which is below every image where it is negative. The answer is
+    /// the first that applies, and the frame is held from now on only where it is [`Insert::Stored`]. At an error
+    /// memory was refused: nothing has changed, and the frame may be handed in again.
+    pub fn insert(&mut self, position: i64, frame: &Frame<'_>) -> Result<Insert, AllocError>
+        requires unit { IsUnit position }
+        requires frame { IsFrame (wire frame.now) }
+        requires of_stream { IsOfStream frame.now }
+        ensures answer { IfOk result (λ a. meant a ≡ insert_answer_at self.old.geometry (map head_of self.old.held) (least self.old.consumers) self.old.window position (is_padding (stream_frame frame.now)) (frame_length (stream_frame frame.now))) }
+        ensures stored { IfOk result (λ a. a ≡ Insert.Stored → (p : ℕ) → position ≡ pos p → self.new ≡ with_frame self.old (record { at = p; frame = stream_frame frame.now })) }
+        ensures others { IfOk result (λ a. (a ≡ Insert.Stored → ⊥) → self.new ≡ self.old) }
+        ensures refused { OnErr result (self.new ≡ self.old) }
+    {
+        let (kind, frame_length) = measure(frame);
+        let answer = self.judge(position, kind, frame_length);
         if answer == Insert::Stored {
-            let end = start + u64::from(covered);
-            let held = Held {
-                end,
-                kind,
-                flags,
-                frame_length,
-                payload: Vec::from_slice(self.alloc, payload)?,
-            };
-            self.frames.insert(start, held)?;
-            self.high_water = self.high_water.max(end);
-            if start == self.rebuilt {
-                self.extend();
-            }
+            let held = Held::new(self.alloc, frame)?;
+            self.store(position as u64, held)?;
         }
         Ok(answer)
+    }
+
+    /// Takes a sender's position, a multiple of 32. It is accepted, and raises the high-water mark, if it is above the
+    /// mark and at most three quarters of a term above the least consumer. No frame is stored.
+    pub fn heartbeat(&mut self, position: i64) -> bool
+        requires unit { IsUnit position }
+        ensures answer { result ≡ accepts self.old.geometry self.old.high (least self.old.consumers) position }
+        ensures raised { result ≡ true → (p : ℕ) → position ≡ pos p → self.new ≡ record self.old { high = p } }
+        ensures refused { result ≡ false → self.new ≡ self.old }
+    {
+        let ahead = u64::from(self.geometry.term_length()) * 3 / 4;
+        let greatest = (self.least() + ahead).min(self.geometry.max_position());
+        if position < 0 || position as u64 <= self.high_water || position as u64 > greatest {
+            return false;
+        }
+        self.high_water = position as u64;
+        true
     }
 }

@@ -6,10 +6,16 @@
 mod answer;
 mod fault;
 mod held;
+mod held_frames;
 mod image;
 mod insert;
+mod laws;
 mod read;
 
 pub use answer::Insert;
 pub use fault::ImageError;
-pub use image::Image;
+pub use image::{CONSUMERS, Image};
+pub use laws::units_grow;
+
+#[cfg(test)]
+mod tests;

@@ -1,59 +1,73 @@
-ghost use Rattle.std.specs.Prelude.{◌≡◌, ◌≤◌, ◌<◌, length, IfSome};
+ghost use Rattle.std.specs.Prelude.{◌≡◌, ◌≤◌, ◌<◌, ◌++◌, ℕ, drop, length, slice_index, IfSome, MatchOption};
 ghost use Rattle.position.specs.declared.head.FrameKind.TheVariants.{Data};
+ghost use Rattle.block.specs.Bytes.{with_front};
+ghost use Rattle.theory.specs.Placed.{Among, Placed, end_of};
+ghost use Rattle.theory.specs.Units.{HasUnit, IsContiguous};
+ghost use Rattle.rebuilder.specs.Held.{IsStart};
+ghost use Rattle.rebuilder.specs.Seen.{IsNextUnit, IsShown, least, with_consumer};
 
-use crate::held::Held;
-use crate::image::Image;
+use crate::image::{Image, least_of};
 use block::Block;
 use position::FrameHead;
-use std::collections::BTreeMap;
+
+/// Writes bytes over the front of others.
+fn put_front(bytes: &mut [u8], front: &[u8])
+    requires { length front.now ≤ length bytes.old }
+    ensures { bytes.new ≡ front.now ++ drop (length front.now) bytes.old }
+{
+    bytes[..front.len()].copy_from_slice(front);
+}
+
+/// Writes bytes over a block's front.
+#[tactic(auto, using(crate::proofs::Fronts::front_again))]
+fn write_front(block: &mut Block, front: &[u8])
+    requires { length front.now ≤ length block.old }
+    ensures { block.new ≡ with_front block.old front.now }
+{
+    put_front(block.bytes_mut(), front);
+}
 
 impl Image {
     /// Reads the frame at a consumer's position: its payload is copied to the block's front, and the consumer stays.
-    /// There is none exactly where the consumer stands at the rebuilt position.
+    /// There is none exactly where the consumer stands at the rebuilt position; the block is then as it was.
     pub fn read(&self, consumer: usize, block: &mut Block) -> Option<FrameHead>
-        requires consumer { consumer < self.now.consumers }
+        requires consumer { consumer < length self.now.consumers }
         requires room { 65472 ≤ length block.old }
-        ensures same_length { length block.new ≡ length block.old }
+        ensures shown { MatchOption result (IsContiguous self.now.held (least self.now.consumers) (slice_index self.now.consumers consumer) × (block.new ≡ block.old)) (λ head. IsShown self.now.held (slice_index self.now.consumers consumer) block.old head block.new) }
         ensures data { IfSome result (λ head. head.kind ≡ Data → (32 ≤ head.frame_length) × (head.frame_length ≤ 65504)) }
     {
-        let frames = &self.frames;
         let start = self.consumers[consumer];
-        let held = frames.get(&start)?;
-        let length = held.payload.len();
-        block.bytes_mut()[..length].copy_from_slice(&held.payload);
-        Some(FrameHead {
-            start,
-            kind: held.kind,
-            flags: held.flags,
-            frame_length: held.frame_length,
-        })
+        match self.frames.get(start) {
+            Some(held) => {
+                write_front(block, held.payload());
+                Some(held.head(start))
+            }
+            None => None,
+        }
     }
 
-    /// Moves a consumer past the frame at its position. The answer is its new position.
+    /// Moves a consumer past the frame at its position, where one is held: `read` shows it, and there is one below the
+    /// rebuilt position. The answer is its new position. Frames below all consumers are forgotten.
     pub fn advance(&mut self, consumer: usize) -> u64
-        requires { consumer < self.old.consumers }
-        ensures geometry { self.new.geometry ≡ self.old.geometry }
-        ensures consumers { self.new.consumers ≡ self.old.consumers }
+        requires consumer { consumer < length self.old.consumers }
+        requires waiting { IsStart self.old.held (slice_index self.old.consumers consumer) }
+        ensures past { (s : Placed) × Among s self.old.held × (s.at ≡ slice_index self.old.consumers consumer) × (result ≡ end_of s) }
+        ensures moved { self.new ≡ with_consumer self.old consumer result }
     {
-        let frames = &self.frames;
-        let position = self.consumers[consumer];
-        let Some(held) = frames.get(&position) else {
-            return position;
+        let start = self.consumers[consumer];
+        let Some(held) = self.frames.get(start) else {
+            unreachable!()
         };
-        let end = held.end;
+        let end = start + held.covered();
         self.consumers[consumer] = end;
-        let least = self.least();
-        forget_below(&mut self.frames, least);
+        self.frames.forget_below(least_of(&self.consumers));
         end
     }
-}
 
-/// Lets go of the frames that start below a position.
-fn forget_below(frames: &mut BTreeMap<u64, Held>, position: u64) {
-    while let Some((start, _)) = frames.first_key_value() {
-        if *start >= position {
-            break;
-        }
-        let _ = frames.pop_first();
+    /// The least position above the rebuilt one at which something is held.
+    pub fn next_held(&self) -> Option<u64>
+        ensures { (c : ℕ) → IsContiguous self.now.held (least self.now.consumers) c → MatchOption result ((p : ℕ) → c ≤ p → HasUnit self.now.held p → ⊥) (IsNextUnit self.now.held c) }
+    {
+        self.frames.next_from(self.rebuilt)
     }
 }

@@ -1,0 +1,36 @@
+ghost use Rattle.std.specs.Prelude.{ℕ};
+ghost use Rattle.theory.specs.Gap.{IsAnswer};
+ghost use Rattle.theory.specs.Units.{IsContiguous};
+ghost use Rattle.rebuilder.specs.Seen.{least};
+ghost use Rattle.loss_detector.specs.Gaps.{gap_of};
+
+use rebuilder::Image;
+
+/// A range of a stream that an image misses.
+#[derive(Clone, Copy, Debug, PartialEq, Eq)]
+pub struct Gap {
+    /// The position at which it begins: where the image was rebuilt to.
+    pub start: u64,
+    /// In bytes, more than 0.
+    pub length: u64,
+}
+
+/// The first gap of an image: from the contiguous end to the next position that holds something, the high-water mark
+/// or the end of the term, whichever comes first. There is none where the contiguous end is the mark.
+pub fn first_gap(image: &Image) -> Option<Gap>
+    ensures { (c : ℕ) × IsContiguous image.now.held (least image.now.consumers) c × IsAnswer image.now.geometry.term_length image.now.held image.now.high c (gap_of result) }
+{
+    let start = image.rebuilt();
+    let high = image.high_water();
+    if start == high {
+        return None;
+    }
+    let geometry = image.geometry();
+    let term_end = geometry.term_start(start) + u64::from(geometry.term_length());
+    let bound = high.min(term_end);
+    let end = image.next_held().unwrap_or(bound).min(bound);
+    Some(Gap {
+        start,
+        length: end - start,
+    })
+}

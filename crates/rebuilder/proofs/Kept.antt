@@ -1,0 +1,261 @@
+-- What holds of each image, and that it holds again after each call.
+use Rattle.std.proofs.Common.{◌≡◌, ℕ, zero, suc, ◌+◌, ◌-◌, ◌*◌, ◌/◌, ◌%◌, ◌^◌, ◌<◌, ◌≤◌, ◌⊎◌, inl, inr, ⊎_elim, List, [], ◌∷◌, map, length, min, max, Bool, true, false, cond, Option, None, Some, refl, sym, ap, ◌∙◌, subst, arith, length-set}
+use Rattle.std.specs.Prelude.{slice_index, slice_set, replicate, MatchOption, ℤ, pos, negsuc, nat_lt, ◌&&◌}
+use Rattle.std.specs.List.{AllByRecursion, list_any}
+use Rattle.std.proofs.Math.Nat.{mul-le-mul_left, div-lt_iff_lt-mul}
+use Rattle.std.proofs.lemmas.Bool.{cases_lt, cases_Bool, ltb-true, ltb-false, lt-ltb, le-ltb, and_cases, or_parts}
+use Rattle.theory.specs.Position.{Geometry, IsGeometry, max_position, aligned}
+use lib.IntN.{nat_abs}
+use Rattle.theory.specs.Placed.{AllAmong, Among, Chain, Frame, IsReached, Placed, covered, end_of, frame_length, is_padding}
+use Rattle.rebuilder.specs.Stored.{IsUnit}
+use Rattle.theory.specs.Units.{HasUnit, IsContiguous}
+use Rattle.theory.specs.Insert.{Head, Insert, CrossesTerm, Below, OverWindow, Duplicate, Overlap, Stored, head_end, head_of, insert_answer, insert_answer_at, is_duplicate, overlaps, window_end}
+use Rattle.theory.specs.Image.{IsWindow}
+use Rattle.theory.specs.ImageLaws.{held}
+use Rattle.rebuilder.specs.Held.{AreInOrder, AreLaid, IsNextStart, IsRunEnd, IsStart, put}
+use Rattle.rebuilder.specs.Seen.{Image, IsBehind, IsCount, IsFit, IsJoin, IsKept, IsNextUnit, MayHold, least, with_consumer, with_frame}
+use Rattle.rebuilder.proofs.Lists.{all_at, all_from, all_index, all_least, all_replicate, all_set, all_weaker, least_each, least_replicate, length_replicate}
+use Rattle.rebuilder.proofs.Order.{all_held, all_put, among_held, among_put, lower, order_held, order_put, put_has, put_keeps, raise}
+use Rattle.rebuilder.proofs.Reach.{AreFull, is_contiguous, one_end, reached_here, reached_held, reached_in, reached_le, reached_more, reached_tail, unit_above, unit_at}
+
+-- ---- what follows
+
+pub full : (i : Image) (r : ℕ) → IsKept i r → AreFull i.held
+full i r k =
+    let covers : (s : Placed) → IsFit i.geometry.term_length i.high s → 0 < covered s = λ s f. let long : 32 ≤ frame_length s.frame = f.long in omega arith in
+    all_weaker (IsFit i.geometry.term_length i.high) (λ s. 0 < covered s) covers i.held k.fit
+
+pub laid : (i : Image) (r : ℕ) → IsKept i r → AreLaid i.held
+laid i r k = record { order = lower (least i.consumers) 0 i.held (omega arith) k.order; full = full i r k }
+
+pub reached : (i : Image) (r : ℕ) → IsKept i r → IsReached i.held (least i.consumers) r
+reached i r k = (all_least (IsBehind i.held i.join r) i.consumers k.count.0 k.behind).reached
+
+pub contiguous : (i : Image) (r : ℕ) → IsKept i r → IsContiguous i.held (least i.consumers) r
+contiguous i r k = is_contiguous i.held (least i.consumers) r k.order (full i r k) (reached i r k) k.stops
+
+pub greatest : (g : Geometry) → IsGeometry g → max_position g ≤ 2 ^ 55
+greatest g legal = let short : g.term_length ≤ 16777216 = legal.term.greatest in omega arith
+
+pub low_high : (i : Image) (r : ℕ) → IsKept i r → i.high ≤ 2 ^ 55
+low_high i r k = let h : i.high ≤ max_position i.geometry = k.high in let g : max_position i.geometry ≤ 2 ^ 55 = greatest i.geometry k.geometry in omega arith
+
+pub low_ends : (i : Image) (r : ℕ) → IsKept i r → AllByRecursion (λ s. end_of s ≤ 2 ^ 56) i.held
+low_ends i r k =
+    let h : i.high ≤ 2 ^ 55 = low_high i r k in
+    let low : (s : Placed) → IsFit i.geometry.term_length i.high s → end_of s ≤ 2 ^ 56 = λ s f. let m : end_of s ≤ i.high = f.marked in omega arith in
+    all_weaker (IsFit i.geometry.term_length i.high) (λ s. end_of s ≤ 2 ^ 56) low i.held k.fit
+
+pub behind : (i : Image) (r : ℕ) → IsKept i r → AllByRecursion (λ p. p ≤ r) i.consumers
+behind i r k = all_weaker (IsBehind i.held i.join r) (λ p. p ≤ r) (λ p b. reached_le i.held p r b.reached) i.consumers k.behind
+
+pub low_least : (i : Image) (r : ℕ) → IsKept i r → least i.consumers ≤ max_position i.geometry
+low_least i r k =
+    let l : least i.consumers ≤ r = reached_le i.held (least i.consumers) r (reached i r k) in
+    let m : r ≤ i.high = k.mark in
+    let h : i.high ≤ max_position i.geometry = k.high in
+    omega arith
+
+pub waiting : (i : Image) (r : ℕ) → IsKept i r → AllByRecursion (λ p. p < r → IsStart i.held p) i.consumers
+waiting i r k = all_weaker (IsBehind i.held i.join r) (λ p. p < r → IsStart i.held p) (λ p b l. first p b.reached.read b.reached.chain b.reached.among l) i.consumers k.behind
+  where
+    first : (p : ℕ) (read : List Placed) → Chain p r read → AllAmong i.held read → p < r → IsStart i.held p
+    first p [] c m l = let e : r ≡ p = c in absurd (omega arith)
+    first p (s ∷ ss) c m l = (s, m.0, c.0)
+
+pub next_unit : (i : Image) (r : ℕ) (o : Option ℕ) → IsKept i r → MatchOption o ((s : Placed) → Among s i.held → s.at < r) (IsNextStart i.held r) → (c : ℕ) → IsContiguous i.held (least i.consumers) c → MatchOption o ((p : ℕ) → c ≤ p → HasUnit i.held p → ⊥) (IsNextUnit i.held c)
+next_unit i r None k h c end =
+    let same : c ≡ r = one_end i.held (least i.consumers) c r end (contiguous i r k) in
+    λ p l u.
+    let above : (r ≤ u.frame.at) × (u.frame.at ≤ p) = unit_above i.held (least i.consumers) r p k.order (full i r k) (reached i r k) (omega arith) u in
+    let below : u.frame.at < r = h u.frame u.among in
+    let from : r ≤ u.frame.at = above.0 in
+    absurd (omega arith)
+next_unit i r (Some q) k h c end =
+    let same : c ≡ r = one_end i.held (least i.consumers) c r end (contiguous i r k) in
+    let from : r ≤ q = h.from in
+    let start : IsStart i.held q = h.start in
+    record {
+      above = ⊎_elim (λ (l : r < q). omega arith) (λ (l : q ≤ r). let e : q ≡ r = omega arith in absurd (k.stops (subst (IsStart i.held) e start))) (cases_lt r q);
+      unit = subst (λ x. HasUnit i.held x) start.2 (unit_at i.held start.0 (full i r k) start.1);
+      empty = λ p l b u.
+          let above : (r ≤ u.frame.at) × (u.frame.at ≤ p) = unit_above i.held (least i.consumers) r p k.order (full i r k) (reached i r k) (omega arith) u in
+          let lower_q : q ≤ u.frame.at = h.least u.frame u.among above.0 in
+          let le : u.frame.at ≤ p = above.1 in
+          absurd (omega arith);
+    }
+
+-- ---- it holds again
+
+pub opened : (g : Geometry) (join window n : ℕ) → IsGeometry g → IsJoin g join → IsWindow g.term_length g.mtu window → IsCount n → IsKept (record { geometry = g; join = join; window = window; held = []; high = join; consumers = replicate n join }) join
+opened g join window n legal joined wide count =
+    record {
+      geometry = legal;
+      joined = joined;
+      window = wide;
+      count = subst IsCount (sym (length_replicate n join)) count;
+      order = tt;
+      fit = tt;
+      mark = omega arith;
+      high = joined.within;
+      behind = all_replicate (IsBehind [] join join) n join (record { joined = omega arith; reached = reached_here [] join });
+      stops = λ h. absurd h.1;
+    }
+
+pub beaten : (i : Image) (r p : ℕ) → IsKept i r → i.high < p → p ≤ max_position i.geometry → IsKept (record i { high = p }) r
+beaten i r p k above low =
+    let m : r ≤ i.high = k.mark in
+    record {
+      geometry = k.geometry;
+      joined = k.joined;
+      window = k.window;
+      count = k.count;
+      order = k.order;
+      fit = all_weaker (IsFit i.geometry.term_length i.high) (IsFit i.geometry.term_length p) (λ s f. let e : end_of s ≤ i.high = f.marked in record { unit = f.unit; long = f.long; in_term = f.in_term; marked = omega arith }) i.held k.fit;
+      mark = omega arith;
+      high = low;
+      behind = k.behind;
+      stops = k.stops;
+    }
+
+chain_marked : (frames read : List Placed) (j q h : ℕ) → j ≤ h → AllByRecursion (λ s. end_of s ≤ h) frames → Chain j q read → AllAmong frames read → q ≤ h
+chain_marked frames [] j q h l all c m = let e : q ≡ j = c in omega arith
+chain_marked frames (s ∷ ss) j q h l all c m = chain_marked frames ss (end_of s) q h (all_at (λ (x : Placed). end_of x ≤ h) s frames all m.0) all c.1 m.1
+
+any_false : (test : Head → Bool) (frames : List Placed) (t : Placed) → list_any test (map head_of frames) ≡ false → Among t frames → test (head_of t) ≡ false
+any_false test [] t h a = absurd a
+any_false test (u ∷ us) t h (inl e) = subst (λ (x : Placed). test (head_of x) ≡ false) (sym e) (or_parts (test (head_of u)) (list_any test (map head_of us)) h).0
+any_false test (u ∷ us) t h (inr a) = any_false test us t (or_parts (test (head_of u)) (list_any test (map head_of us)) h).1 a
+
+pub stored : (i : Image) (r next : ℕ) (s : Placed) → IsKept i r → MayHold i s → IsRunEnd (put s i.held) r next → IsKept (with_frame i s) next
+stored i r next s k may run =
+    let long : 32 ≤ frame_length s.frame = may.long in
+    let covers : 0 < covered s = omega arith in
+    let free : (t : Placed) → Among t i.held → (end_of t ≤ s.at) ⊎ (end_of s ≤ t.at) = λ t a. ⊎_elim (λ (h : nat_lt s.at (end_of t) ≡ false). inl (ltb-false s.at (end_of t) h)) (λ (h : nat_lt t.at (end_of s) ≡ false). inr (ltb-false t.at (end_of s) h)) (and_cases (nat_lt s.at (end_of t)) (nat_lt t.at (end_of s)) (any_false (overlaps (head_of s)) i.held t may.free a)) in
+    let mark : r ≤ i.high = k.mark in
+    let high : i.high ≤ max_position i.geometry = k.high in
+    let low : end_of s ≤ max_position i.geometry = may.low in
+    let top : ℕ = max i.high (end_of s) in
+    let fit : AllByRecursion (IsFit i.geometry.term_length top) (put s i.held) = all_put (IsFit i.geometry.term_length top) s i.held (record { unit = may.unit; long = may.long; in_term = may.in_term; marked = omega arith }) (all_weaker (IsFit i.geometry.term_length i.high) (IsFit i.geometry.term_length top) (λ t f. let e : end_of t ≤ i.high = f.marked in record { unit = f.unit; long = f.long; in_term = f.in_term; marked = omega arith }) i.held k.fit) in
+    record {
+      geometry = k.geometry;
+      joined = k.joined;
+      window = k.window;
+      count = k.count;
+      order = order_put (least i.consumers) s i.held covers may.from free k.order;
+      fit = fit;
+      mark = chain_marked (put s i.held) run.reached.read r next top (omega arith) (all_weaker (IsFit i.geometry.term_length top) (λ t. end_of t ≤ top) (λ t f. f.marked) (put s i.held) fit) run.reached.chain run.reached.among;
+      high = omega arith;
+      behind = all_weaker (IsBehind i.held i.join r) (IsBehind (put s i.held) i.join next) (λ p b. record { joined = b.joined; reached = reached_more (put s i.held) p r next (reached_in i.held (put s i.held) p r (λ t a. put_keeps s t i.held a) b.reached) run.reached }) i.consumers k.behind;
+      stops = run.stops;
+    }
+
+pub moved : (i : Image) (r consumer : ℕ) (s : Placed) → IsKept i r → consumer < length i.consumers → Among s i.held → s.at ≡ slice_index i.consumers consumer → IsKept (with_consumer i consumer (end_of s)) r
+moved i r consumer s k l a e =
+    let cs : List ℕ = slice_set i.consumers consumer (end_of s) in
+    let m : ℕ = least cs in
+    let was : IsBehind i.held i.join r (slice_index i.consumers consumer) = all_index (IsBehind i.held i.join r) i.consumers consumer l k.behind in
+    let at : IsBehind i.held i.join r s.at = subst (IsBehind i.held i.join r) (sym e) was in
+    let joined : i.join ≤ s.at = at.joined in
+    let is : IsBehind i.held i.join r (end_of s) = record { joined = omega arith; reached = reached_tail (least i.consumers) i.held s r k.order (full i r k) a (λ d. k.stops (s, a, sym d)) at.reached } in
+    let all : AllByRecursion (IsBehind i.held i.join r) cs = all_set (IsBehind i.held i.join r) i.consumers consumer (end_of s) is k.behind in
+    record {
+      geometry = k.geometry;
+      joined = k.joined;
+      window = k.window;
+      count = subst IsCount (sym (length-set i.consumers consumer (end_of s))) k.count;
+      order = raise (least i.consumers) m (held m i.held) (λ t b. (among_held m i.held t b).1) (order_held (least i.consumers) m i.held k.order);
+      fit = all_held (IsFit i.geometry.term_length i.high) m i.held k.fit;
+      mark = k.mark;
+      high = k.high;
+      behind = all_from (IsBehind (held m i.held) i.join r) cs (λ p b. let old : IsBehind i.held i.join r p = all_at (IsBehind i.held i.join r) p cs all b in record { joined = old.joined; reached = reached_held i.held m p r (all_at (λ q. m ≤ q) p cs (least_each cs) b) old.reached });
+      stops = λ h. k.stops (h.0, (among_held m i.held h.0 h.1).0, h.2);
+    }
+
+-- ---- what the answer Stored says
+
+abbrev IsStored : Insert → Type 0
+IsStored CrossesTerm = ⊥
+IsStored Below = ⊥
+IsStored OverWindow = ⊥
+IsStored Duplicate = ⊥
+IsStored Overlap = ⊥
+IsStored Stored = Unit {0}
+
+all_false : (crosses below over dup meets : Bool) → IsStored (cond crosses CrossesTerm (cond below Below (cond over OverWindow (cond dup Duplicate (cond meets Overlap Stored))))) → (crosses ≡ false) × (below ≡ false) × (over ≡ false) × (meets ≡ false)
+all_false true below over dup meets h = absurd h
+all_false false true over dup meets h = absurd h
+all_false false false true dup meets h = absurd h
+all_false false false false true meets h = absurd h
+all_false false false false false true h = absurd h
+all_false false false false false false h = (refl, refl, refl, refl)
+
+not_negative : (c : Bool) → IsStored (cond c CrossesTerm Below) → ⊥
+not_negative true h = h
+not_negative false h = h
+
+ends_within : (t p n : ℕ) → 0 < t → p % t + n ≤ t → p + 32 ≤ t * 2 ^ 31 → p + n ≤ t * 2 ^ 31
+ends_within t p n some inside low =
+    let q : ℕ = p / t in
+    let least_q : q < 2 ^ 31 = (div-lt_iff_lt-mul some).1 (omega arith) in
+    let whole : t * (q + 1) ≤ t * 2 ^ 31 = mul-le-mul_left t (omega arith) in
+    let parts : t * (p / t) + p % t ≡ p = omega arith in
+    omega arith
+
+pub may_hold : (i : Image) (r : ℕ) (s : Placed) → IsKept i r → s.at % 32 ≡ 0 → 32 ≤ frame_length s.frame → insert_answer i.geometry (map head_of i.held) (least i.consumers) i.window (head_of s) ≡ Stored → MayHold i s
+may_hold i r s k unit long e =
+    let h : Head = head_of s in
+    let g : Geometry = i.geometry in
+    let m : ℕ = least i.consumers in
+    let f = all_false (nat_lt g.term_length (h.at % g.term_length + aligned h.length)) (nat_lt h.at m) (nat_lt (min (m + i.window) (max_position g)) (window_end h)) (list_any (is_duplicate h) (map head_of i.held)) (list_any (overlaps h) (map head_of i.held)) (subst IsStored (sym e) tt) in
+    let in_term : s.at % g.term_length + covered s ≤ g.term_length = ltb-false g.term_length (h.at % g.term_length + aligned h.length) f.0 in
+    let from : m ≤ s.at = ltb-false h.at m f.1 in
+    let reach : window_end h ≤ min (m + i.window) (max_position g) = ltb-false (min (m + i.window) (max_position g)) (window_end h) f.2 in
+    let header : s.at + 32 ≤ window_end h = head_within h.padding in
+    let some : 65536 ≤ g.term_length = k.geometry.term.least in
+    let low : end_of s ≤ max_position g = ends_within g.term_length s.at (covered s) (omega arith) in_term (omega arith) in
+    let small : max_position g ≤ 2 ^ 55 = greatest g k.geometry in
+    record { unit = unit; long = long; in_term = in_term; from = from; low = low; small = omega arith; free = f.3 }
+  where
+    head_within : (b : Bool) → s.at + 32 ≤ cond b (s.at + 32) (end_of s)
+    head_within true = omega arith
+    head_within false = omega arith
+
+-- a frame that may be held starts where none does
+pub starts_anew : (i : Image) (r : ℕ) (s : Placed) → IsKept i r → MayHold i s → IsStart i.held s.at → ⊥
+starts_anew i r s k may (t, a, e) =
+    let long : 32 ≤ frame_length s.frame = may.long in
+    let full_t : 0 < covered t = all_at (λ (x : Placed). 0 < covered x) t i.held (full i r k) a in
+    ⊎_elim
+    (λ (h : nat_lt s.at (end_of t) ≡ false). let l : end_of t ≤ s.at = ltb-false s.at (end_of t) h in omega arith)
+    (λ (h : nat_lt t.at (end_of s) ≡ false). let l : end_of s ≤ t.at = ltb-false t.at (end_of s) h in omega arith)
+    (and_cases (nat_lt s.at (end_of t)) (nat_lt t.at (end_of s)) (any_false (overlaps (head_of s)) i.held t may.free a))
+
+pub overlapped : (crosses below over dup meets : Bool) → crosses ≡ false → below ≡ false → over ≡ false → dup ≡ false → meets ≡ true → Overlap ≡ cond crosses CrossesTerm (cond below Below (cond over OverWindow (cond dup Duplicate (cond meets Overlap Stored))))
+overlapped crosses below over dup meets a b c d e =
+    subst (λ x. Overlap ≡ cond x CrossesTerm (cond below Below (cond over OverWindow (cond dup Duplicate (cond meets Overlap Stored))))) (sym a)
+    (subst (λ x. Overlap ≡ cond x Below (cond over OverWindow (cond dup Duplicate (cond meets Overlap Stored)))) (sym b)
+    (subst (λ x. Overlap ≡ cond x OverWindow (cond dup Duplicate (cond meets Overlap Stored))) (sym c)
+    (subst (λ x. Overlap ≡ cond x Duplicate (cond meets Overlap Stored)) (sym d)
+    (subst (λ x. Overlap ≡ cond x Overlap Stored) (sym e) refl))))
+
+-- a consumer at which no frame starts stands at the contiguous end
+pub stands_at_end : (i : Image) (r consumer : ℕ) → IsKept i r → consumer < length i.consumers → (IsStart i.held (slice_index i.consumers consumer) → ⊥) → IsContiguous i.held (least i.consumers) (slice_index i.consumers consumer)
+stands_at_end i r consumer k l none =
+    let p : ℕ = slice_index i.consumers consumer in
+    let le : p ≤ r = all_index (λ q. q ≤ r) i.consumers consumer l (behind i r k) in
+    let waits : p < r → IsStart i.held p = all_index (λ q. q < r → IsStart i.held q) i.consumers consumer l (waiting i r k) in
+    let same : r ≡ p = ⊎_elim (λ (h : p < r). absurd (none (waits h))) (λ (h : r ≤ p). omega arith) (cases_lt p r) in
+    subst (λ q. IsContiguous i.held (least i.consumers) q) same (contiguous i r k)
+
+-- where the answer at a position is Stored, the frame may be held
+pub may_store : (i : Image) (r : ℕ) (z w : ℤ) (b : Bool) (n : ℕ) (f : Frame) → IsKept i r → w ≡ z → IsUnit z → b ≡ is_padding f → n ≡ frame_length f → 32 ≤ n → insert_answer_at i.geometry (map head_of i.held) (least i.consumers) i.window w b n ≡ Stored → MayHold i (record { at = nat_abs w; frame = f })
+may_store i r (pos p) w b n f k e unit eb en long h =
+    let s : Placed = record { at = p; frame = f } in
+    let here : insert_answer_at i.geometry (map head_of i.held) (least i.consumers) i.window (pos p) b n ≡ Stored = subst (λ x. insert_answer_at i.geometry (map head_of i.held) (least i.consumers) i.window x b n ≡ Stored) e h in
+    let kind : insert_answer i.geometry (map head_of i.held) (least i.consumers) i.window (record { at = p; padding = is_padding f; length = n }) ≡ Stored = subst (λ x. insert_answer i.geometry (map head_of i.held) (least i.consumers) i.window (record { at = p; padding = x; length = n }) ≡ Stored) eb here in
+    let same : insert_answer i.geometry (map head_of i.held) (least i.consumers) i.window (head_of s) ≡ Stored = subst (λ x. insert_answer i.geometry (map head_of i.held) (least i.consumers) i.window (record { at = p; padding = is_padding f; length = x }) ≡ Stored) en kind in
+    subst (λ x. MayHold i (record { at = nat_abs x; frame = f })) (sym e) (may_hold i r s k unit (omega arith) same)
+may_store i r (negsuc m) w b n f k e unit eb en long h =
+    let here : insert_answer_at i.geometry (map head_of i.held) (least i.consumers) i.window (negsuc m) b n ≡ Stored = subst (λ x. insert_answer_at i.geometry (map head_of i.held) (least i.consumers) i.window x b n ≡ Stored) e h in
+    absurd (not_negative (nat_lt i.geometry.term_length (i.geometry.term_length - 1 - m % i.geometry.term_length + aligned n)) (subst IsStored (sym here) tt))

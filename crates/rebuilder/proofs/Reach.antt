@@ -1,0 +1,158 @@
+-- Frames that lead from one position to another, and the contiguous end.
+use Rattle.std.proofs.Common.{◌≡◌, ℕ, ◌+◌, ◌-◌, ◌*◌, ◌/◌, ◌%◌, ◌<◌, ◌≤◌, ◌⊎◌, inl, inr, ⊎_elim, List, [], ◌∷◌, ◌++◌, refl, sym, ap, ◌∙◌, subst, arith}
+use Rattle.std.specs.List.{AllByRecursion}
+use Rattle.std.proofs.lemmas.Bool.{cases_lt, cases_eq, cases_order}
+use Rattle.theory.specs.Placed.{AllAmong, Among, Chain, IsReached, Placed, covered, end_of, frame_length}
+use Rattle.theory.specs.Units.{HasUnit, IsContiguous}
+use Rattle.theory.specs.ImageLaws.{held}
+use Rattle.rebuilder.specs.Held.{AreInOrder, IsNextStart, IsStart}
+use Rattle.rebuilder.proofs.Lists.{all_at, all_from, all_weaker}
+use Rattle.rebuilder.proofs.Order.{apart, at_least, held_among}
+
+abbrev pub AreFull : List Placed → Type 0
+AreFull frames = AllByRecursion (λ s. 0 < covered s) frames
+
+chain_append : (j p q : ℕ) (xs ys : List Placed) → Chain j p xs → Chain p q ys → Chain j q (xs ++ ys)
+chain_append j p q [] ys c d = subst (λ x. Chain x q ys) c d
+chain_append j p q (s ∷ xs) ys c d = (c.0, chain_append (end_of s) p q xs ys c.1 d)
+
+all_append : (P : Placed → Type 0) (xs ys : List Placed) → AllByRecursion P xs → AllByRecursion P ys → AllByRecursion P (xs ++ ys)
+all_append P [] ys h k = k
+all_append P (x ∷ xs) ys h k = (h.0, all_append P xs ys h.1 k)
+
+pub reached_here : (frames : List Placed) (p : ℕ) → IsReached frames p p
+reached_here frames p = record { read = []; chain = refl; among = tt }
+
+pub reached_more : (frames : List Placed) (j p q : ℕ) → IsReached frames j p → IsReached frames p q → IsReached frames j q
+reached_more frames j p q a b = record { read = a.read ++ b.read; chain = chain_append j p q a.read b.read a.chain b.chain; among = all_append (λ s. Among s frames) a.read b.read a.among b.among }
+
+-- past a frame that starts there
+pub reached_past : (frames : List Placed) (j : ℕ) (s : Placed) → Among s frames → IsReached frames j s.at → IsReached frames j (end_of s)
+reached_past frames j s a r = reached_more frames j s.at (end_of s) r (record { read = s ∷ []; chain = (refl, refl); among = (a, tt) })
+
+pub reached_in : (a b : List Placed) (p q : ℕ) → ((s : Placed) → Among s a → Among s b) → IsReached a p q → IsReached b p q
+reached_in a b p q f r = record { read = r.read; chain = r.chain; among = all_weaker (λ s. Among s a) (λ s. Among s b) f r.read r.among }
+
+chain_le : (j q : ℕ) (read : List Placed) → Chain j q read → j ≤ q
+chain_le j q [] c = let e : q ≡ j = c in omega arith
+chain_le j q (s ∷ ss) c =
+    let first : s.at ≡ j = c.0 in
+    let later : end_of s ≤ q = chain_le (end_of s) q ss c.1 in
+    omega arith
+
+pub reached_le : (frames : List Placed) (p q : ℕ) → IsReached frames p q → p ≤ q
+reached_le frames p q r = chain_le p q r.read r.chain
+
+chain_from : (j q : ℕ) (read : List Placed) → Chain j q read → AllByRecursion (λ s. j ≤ s.at) read
+chain_from j q [] c = tt
+chain_from j q (s ∷ ss) c =
+    let first : s.at ≡ j = c.0 in
+    let more : (t : Placed) → end_of s ≤ t.at → j ≤ t.at = λ t l. omega arith in
+    (omega arith, all_weaker (λ t. end_of s ≤ t.at) (λ t. j ≤ t.at) more ss (chain_from (end_of s) q ss c.1))
+
+-- frames below the start aren't needed
+pub reached_held : (frames : List Placed) (m p q : ℕ) → m ≤ p → IsReached frames p q → IsReached (held m frames) p q
+reached_held frames m p q l r =
+    record {
+      read = r.read;
+      chain = r.chain;
+      among = all_from (λ s. Among s (held m frames)) r.read (λ s a. let from : p ≤ s.at = all_at (λ (x : Placed). p ≤ x.at) s r.read (chain_from p q r.read r.chain) a in held_among m frames s (all_at (λ (x : Placed). Among x frames) s r.read r.among a) (omega arith));
+    }
+
+-- the frames that lead on begin with the one that starts there
+pub reached_tail : (low : ℕ) (frames : List Placed) (s : Placed) (q : ℕ) → AreInOrder low frames → AreFull frames → Among s frames → (q ≡ s.at → ⊥) → IsReached frames s.at q → IsReached frames (end_of s) q
+reached_tail low frames s q order full a n r = tail r.read r.chain r.among
+  where
+    tail : (read : List Placed) → Chain s.at q read → AllAmong frames read → IsReached frames (end_of s) q
+    tail [] c m = absurd (n c)
+    tail (u ∷ us) c m =
+        let here : u.at ≡ s.at = c.0 in
+        let full_u : 0 < covered u = all_at (λ (x : Placed). 0 < covered x) u frames full m.0 in
+        let full_s : 0 < covered s = all_at (λ (x : Placed). 0 < covered x) s frames full a in
+        ⊎_elim
+        (λ (e : u ≡ s). record { read = us; chain = subst (λ (x : Placed). Chain (end_of x) q us) e c.1; among = m.1 })
+        (λ (o : (end_of u ≤ s.at) ⊎ (end_of s ≤ u.at)). ⊎_elim (λ (h : end_of u ≤ s.at). absurd (omega arith)) (λ (h : end_of s ≤ u.at). absurd (omega arith)) o)
+        (apart low frames u s order m.0 a)
+
+-- ---- units
+
+-- every unit from j to q is there
+record IsFilled (frames : List Placed) (j q : ℕ) : Type 0 where
+  units : ℕ
+  end : q ≡ j + 32 * units
+  all : (k : ℕ) → k < units → HasUnit frames (j + 32 * k)
+
+filled : (frames read : List Placed) (j q : ℕ) → Chain j q read → AllAmong frames read → IsFilled frames j q
+filled frames [] j q c m = let e : q ≡ j = c in record { units = 0; end = omega arith; all = λ k l. absurd (omega arith) }
+filled frames (s ∷ ss) j q c m =
+    let first : s.at ≡ j = c.0 in
+    let rest = filled frames ss (end_of s) q c.1 m.1 in
+    let own : ℕ = (frame_length s.frame + 31) / 32 in
+    let e : q ≡ end_of s + 32 * rest.units = rest.end in
+    let covers : covered s ≡ own * 32 = refl in
+    record {
+      units = own + rest.units;
+      end = omega arith;
+      all = λ k l. ⊎_elim
+          (λ (h : k < own). record { frame = s; among = m.0; unit = k; inside = omega arith; here = omega arith })
+          (λ (h : own ≤ k). let same : end_of s + 32 * (k - own) ≡ j + 32 * k = omega arith in subst (λ x. HasUnit frames x) same (rest.all (k - own) (omega arith)))
+          (cases_lt k own);
+    }
+
+-- a frame that starts before the end of frames that follow each other ends there or before
+pub not_inside : (low : ℕ) (frames read : List Placed) (j q : ℕ) (t : Placed) → AreInOrder low frames → AreFull frames → Chain j q read → AllAmong frames read → Among t frames → j ≤ t.at → t.at < q → end_of t ≤ q
+not_inside low frames [] j q t order full c m a from below = let e : q ≡ j = c in absurd (omega arith)
+not_inside low frames (s ∷ ss) j q t order full c m a from below =
+    let first : s.at ≡ j = c.0 in
+    let full_t : 0 < covered t = all_at (λ (x : Placed). 0 < covered x) t frames full a in
+    ⊎_elim
+    (λ (e : s ≡ t). subst (λ (x : Placed). end_of x ≤ q) e (chain_le (end_of s) q ss c.1))
+    (λ (o : (end_of s ≤ t.at) ⊎ (end_of t ≤ s.at)). ⊎_elim (λ (h : end_of s ≤ t.at). not_inside low frames ss (end_of s) q t order full c.1 m.1 a h below) (λ (h : end_of t ≤ s.at). absurd (omega arith)) o)
+    (apart low frames s t order m.0 a)
+
+pub is_contiguous : (frames : List Placed) (j q : ℕ) → AreInOrder j frames → AreFull frames → IsReached frames j q → (IsStart frames q → ⊥) → IsContiguous frames j q
+is_contiguous frames j q order full r stops =
+    let f = filled frames r.read j q r.chain r.among in
+    record {
+      units = f.units;
+      end = f.end;
+      all = f.all;
+      next = λ u.
+          let inside : 32 * u.unit < covered u.frame = u.inside in
+          let here : q ≡ u.frame.at + 32 * u.unit = u.here in
+          let from : j ≤ u.frame.at = at_least j frames u.frame order u.among in
+          ⊎_elim
+          (λ (below : u.frame.at < q). let ends : end_of u.frame ≤ q = not_inside j frames r.read j q u.frame order full r.chain r.among u.among from below in absurd (omega arith))
+          (λ (l : q ≤ u.frame.at). let e : u.frame.at ≡ q = omega arith in stops (u.frame, u.among, e))
+          (cases_lt u.frame.at q);
+    }
+
+-- there is one contiguous end
+pub one_end : (frames : List Placed) (j p q : ℕ) → IsContiguous frames j p → IsContiguous frames j q → p ≡ q
+one_end frames j p q a b =
+    let ea : p ≡ j + 32 * a.units = a.end in
+    let eb : q ≡ j + 32 * b.units = b.end in
+    ⊎_elim
+    (λ (e : a.units ≡ b.units). omega arith)
+    (λ (o : (a.units < b.units) ⊎ (b.units < a.units)). ⊎_elim (λ (l : a.units < b.units). absurd (a.next (subst (λ x. HasUnit frames x) (sym ea) (b.all a.units l)))) (λ (l : b.units < a.units). absurd (b.next (subst (λ x. HasUnit frames x) (sym eb) (a.all b.units l)))) o)
+    (cases_order a.units b.units)
+
+-- ---- what comes above the contiguous end
+
+pub unit_at : (frames : List Placed) (s : Placed) → AreFull frames → Among s frames → HasUnit frames s.at
+unit_at frames s full a =
+    let full_s : 0 < covered s = all_at (λ (x : Placed). 0 < covered x) s frames full a in
+    record { frame = s; among = a; unit = 0; inside = omega arith; here = omega arith }
+
+-- a unit from the end on is of a frame from the end on
+pub unit_above : (frames : List Placed) (j q p : ℕ) → AreInOrder j frames → AreFull frames → IsReached frames j q → q ≤ p → (u : HasUnit frames p) → (q ≤ u.frame.at) × (u.frame.at ≤ p)
+unit_above frames j q p order full r l u =
+    let inside : 32 * u.unit < covered u.frame = u.inside in
+    let here : p ≡ u.frame.at + 32 * u.unit = u.here in
+    let from : j ≤ u.frame.at = at_least j frames u.frame order u.among in (
+      ⊎_elim
+          (λ (below : u.frame.at < q). let ends : end_of u.frame ≤ q = not_inside j frames r.read j q u.frame order full r.chain r.among u.among from below in absurd (omega arith))
+          (λ (h : q ≤ u.frame.at). h)
+          (cases_lt u.frame.at q),
+      omega arith,
+    )
