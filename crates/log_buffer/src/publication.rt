@@ -50,6 +50,7 @@ pub fn offer(log: &mut LogState, publisher: &mut Publisher, message: &[u8]) -> R
     ensures answer { result ≡ answer_of log.old (length message.now) }
     ensures accepted { IfOk result (λ _. log.new ≡ with_message log.old publisher.old message.now) }
     ensures refused { OnErr result (log.new ≡ log.old) }
+    ensures identity { log.new.identity ≡ log.old.identity }
     ensures same_pass { publisher.new ≡ publisher.old }
     ensures readers { (r : Reader) → IsAt log.old r → IsAt log.new r }
 {

@@ -55,6 +55,7 @@ fn copy_front(bytes: &mut [u8], front: &[u8])
 pub fn advance(log: &mut LogState, reader: &mut LogReader) -> u64
     requires { reader.old.position + 32 ≤ reader.old.read_to }
     ensures log { log.new ≡ record log.old { consumers = slice_set log.old.consumers reader.old.number reader.old.read_to } }
+    ensures identity { log.new.identity ≡ log.old.identity }
     ensures moved { reader.new ≡ record reader.old { position = reader.old.read_to; index = reader.old.index + 1 } }
     ensures position { result ≡ reader.new.position }
     ensures stands { IsAt log.old reader.old → IsAt log.new reader.new }

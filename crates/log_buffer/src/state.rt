@@ -73,6 +73,7 @@ impl LogState {
         consumers: usize,
     ) -> Result<(LogState, Parts), LogError>
         ensures log { IfOk result (λ r. r.0 ≡ fresh (record { geometry = geometry; session = session; stream = stream }) start consumers) }
+        ensures below { IfOk result (λ r. r.0.start < max_position r.0.identity.geometry) }
         ensures publishers { IfOk result (λ r. AreAll r.1.publishers.items) }
         ensures readers { IfOk result (λ r. AreReaders r.1.readers.items start consumers) }
         ensures count { IfOk result (λ r. vec_len r.1.readers ≡ consumers) }
