@@ -77,7 +77,7 @@ impl LogState {
         ensures publishers { IfOk result (λ r. AreAll r.1.publishers.items) }
         ensures readers { IfOk result (λ r. AreReaders r.1.readers.items start consumers) }
         ensures count { IfOk result (λ r. vec_len r.1.readers ≡ consumers) }
-        ensures at_start { IfOk result (λ r. All (λ reader. (reader.position ≡ start) × (reader.read_to ≡ start)) r.1.readers.items) }
+        ensures at_start { IfOk result (λ r. All (λ reader. (reader.position ≡ r.0.start) × (reader.read_to ≡ r.0.start)) r.1.readers.items) }
         ensures stand { IfOk result (λ r. All (IsAt r.0) r.1.readers.items) }
         ensures start { IsErrOf result LogError.Start ↔ (¬ ((start % 32 ≡ 0) × (start < max_position geometry))) }
         ensures consumers { IsErrOf result LogError.Consumers ↔ ((start % 32 ≡ 0) × (start < max_position geometry) × (¬ ((1 ≤ consumers) × (consumers ≤ 8)))) }
