@@ -42,8 +42,8 @@ opened base bytes slots c h =
     let low : c.index < length slots = omega (arith, slice_get_within (entries_of base bytes slots) c.index (claim_of c.start c.owner c.length) h, length-map slots (λ s. entry_of s (range base bytes s))) in
     let s : Slot = get_or slots c.index none in
     let same : entry_of (get_or slots c.index none) (range base bytes (get_or slots c.index none)) ≡ claim_of c.start c.owner c.length =
-        sym (get_or-map (λ s. entry_of s (range base bytes s)) slots c.index none (claim_of c.start c.owner c.length) low)
-        ∙ get_or_from_slice_get (entries_of base bytes slots) c.index (claim_of c.start c.owner c.length) (claim_of c.start c.owner c.length) h in
+    sym (get_or-map (λ s. entry_of s (range base bytes s)) slots c.index none (claim_of c.start c.owner c.length) low)
+    ∙ get_or_from_slice_get (entries_of base bytes slots) c.index (claim_of c.start c.owner c.length) (claim_of c.start c.owner c.length) h in
     let first : 32 + (get_or slots c.index none).length ≡ 32 + c.length = ap (λ (e : Entry). get_or e.cuts 0 0) same in
     record {
       slot = get_or slots c.index none;
@@ -96,10 +96,10 @@ stored_drafts base old new slots c o i w others here size =
     ap (drafts_of base new) (sym (same_slot slots c o))
     ∙ map_others (λ s. rest_in s (range base old s)) (λ s. rest_in s (range base new s)) slots c.index o.slot (λ k d h ne. ap (rest_in (get_or slots k d)) (others k d h ne))
     ∙ ap (set (drafts_of base old slots) c.index)
-      (rest_unset o.slot (range base new o.slot) o.unset
-      ∙ ap (drop 8) here
-      ∙ rest_of_word (range base old o.slot) i w size
-      ∙ ap (λ (r : List ℕ). with_word r i w) (sym (draft_is base old slots c o)))
+    (rest_unset o.slot (range base new o.slot) o.unset
+    ∙ ap (drop 8) here
+    ∙ rest_of_word (range base old o.slot) i w size
+    ∙ ap (λ (r : List ℕ). with_word r i w) (sym (draft_is base old slots c o)))
 
 pub stored_written : (id : Identity) (base : ℕ) (old new : List ℕ) (slots : List Slot) (c : Claimed) (o : Opened slots c) (i w : ℕ) → LeavesOthers base old new slots c.index → range base new o.slot ≡ with_word (range base old o.slot) (1 + i) w → 8 ≤ length (range base old o.slot) → All (λ s. IsWritten id s (range base old s)) slots → All (λ s. IsWritten id s (range base new s)) slots
 stored_written id base old new slots c o i w others here size all =
@@ -129,6 +129,7 @@ committed_entries base old new slots c o others rest long =
   where
     payload : payload_in o.slot (range base new o.slot) ≡ take c.length (drop 24 (get_or (drafts_of base old slots) c.index []))
     payload = ap (λ n. take n (drop 32 (range base new o.slot))) o.size ∙ ap (take c.length) (sym (drop-drop 24 8 (range base new o.slot)) ∙ ap (drop 24) (rest ∙ sym (draft_is base old slots c o)))
+
     shown : (r p : List ℕ) → payload_in o.slot r ≡ p → length p ≡ c.length → entry_of (set_committed o.slot) r ≡ published c.start c.owner p
     shown r p e n =
         ap (λ x. record { start = x; owner = o.slot.owner; padding = false; cuts = (32 + o.slot.length) ∷ []; frames = Data 192 (payload_in o.slot r) ∷ [] }) o.start
@@ -145,12 +146,14 @@ committed_written id base old new slots c o p others here is long spelled all =
     all_others (λ s. IsWritten id s (range base old s)) (λ s. IsWritten id s (range base new s)) slots c.index (set_committed o.slot)
     (λ k d h ne was. subst (IsWritten id (get_or slots k d)) (sym (others k d h ne)) was)
     all
-    (record { image = λ t. image; unset = λ u. absurd (false≢true (sym u)); })
+    (record { image = λ t. image; unset = λ u. absurd (false≢true (sym u)) })
   where
     rest : drop 8 (range base new o.slot) ≡ drop 8 (range base old o.slot)
     rest = ap (drop 8) here
+
     payload : payload_in o.slot (range base new o.slot) ≡ p
     payload = ap (λ n. take n (drop 32 (range base new o.slot))) o.size ∙ ap (take c.length) (sym (drop-drop 24 8 (range base new o.slot)) ∙ ap (drop 24) (rest ∙ sym (draft_is base old slots c o))) ∙ sym is
+
     image : range base new o.slot ≡ bytes_of id (record { at = o.slot.start; frame = Data 192 (payload_in o.slot (range base new o.slot)) })
     image =
         here

@@ -38,20 +38,25 @@ filled_more header padded size i w three long room word =
   where
     at : 4 + i - 1 ≡ 3 + i
     at = omega arith
+
     front : length (take (8 * i) padded) ≡ 8 * i
     front = length-take-le (8 * i) padded (omega arith)
+
     left : drop {A = ℕ} 8 (replicate (size - 8 * i) 0) ≡ replicate (size - 8 * (i + 1)) 0
     left = drop-replicate 8 (size - 8 * i) 0 ∙ ap (λ n. replicate n 0) (fewer)
       where
         fewer : size - 8 * i - 8 ≡ size - 8 * (i + 1)
         fewer = omega arith
+
     more : take (8 * i) padded ++ to_le_bytes w64 w ≡ take (8 * (i + 1)) padded
     more = ap (λ (t : List ℕ). take (8 * i) padded ++ t) word ∙ take_more_words (8 * i) 8 padded ∙ ap (λ n. take n padded) next
       where
         next : 8 * i + 8 ≡ 8 * (i + 1)
         next = omega arith
+
     same : i + 0 ≡ i
     same = omega arith
+
     rest : with_word (take (8 * i) padded ++ replicate (size - 8 * i) 0) i w ≡ take (8 * (i + 1)) padded ++ replicate (size - 8 * (i + 1)) 0
     rest =
         ap (λ n. with_word (take (8 * i) padded ++ replicate (size - 8 * i) 0) n w) (sym same)
@@ -93,8 +98,10 @@ filled_all header payload zeros size q is enough within =
   where
     at : 8 * q ≡ length payload + (8 * q - length payload)
     at = omega arith
+
     left : zeros - (8 * q - length payload) ≡ size - 8 * q
     left = omega arith
+
     rest : drop (8 * q) (payload ++ replicate zeros 0) ≡ replicate (size - 8 * q) 0
     rest =
         ap (λ n. drop n (payload ++ replicate zeros 0)) at
@@ -156,8 +163,8 @@ pub payload_end : (l m : Log) (c : Claimed) (i : Identity) (payload : List ℕ) 
 payload_end l m c i payload index done was =
     was
     ∙ ap (with_draft l c)
-      (filled_all (header_rest i c.start) payload (aligned (32 + length payload) - (32 + length payload)) (aligned (32 + length payload) - 32) index (omega arith) (omega arith) (omega arith)
-      ∙ rest_is i c.start payload)
+    (filled_all (header_rest i c.start) payload (aligned (32 + length payload) - (32 + length payload)) (aligned (32 + length payload) - 32) index (omega arith) (omega arith) (omega arith)
+    ∙ rest_is i c.start payload)
 
 -- the words of the header
 pub header_words : (i : Identity) (start : ℕ) (a b z : List ℕ) (offset session stream term : ℤ) → a ≡ le32 offset ++ le32 session → b ≡ le32 stream ++ le32 term → z ≡ to_le_bytes w64 0 → cast_unsigned w32 offset ≡ (place_of i.geometry start).offset → session ≡ i.session → stream ≡ i.stream → term ≡ id_of i.geometry (place_of i.geometry start).count → a ++ (b ++ z) ≡ header_rest i start

@@ -175,6 +175,7 @@ counted_more shares slots tail size owner eight few counted k low =
   where
     pushed : share_of k (map outline (slots ++ claimed_slot tail size owner ∷ [])) ≡ share_of k (map outline slots) + cond (owner == k) (aligned (32 + size) + 0) 0
     pushed = ap (share_of k) (map_push outline slots (claimed_slot tail size owner)) ∙ share_push k (map outline slots) (outline (claimed_slot tail size owner))
+
     weight : (b : Bool) → (owner == k) ≡ b → cond (owner == k) (aligned (32 + size) + 0) 0 ≡ cond b (aligned (32 + size) + 0) 0
     weight b e = ap (λ c. cond c (aligned (32 + size) + 0) 0) e
 
@@ -207,10 +208,13 @@ kept_claim {i} {bytes} {base} {start} {tail} {limit} {count} {consumers} {shares
   where
     further : (s : Slot) → IsInside i base tail s → IsInside i base (tail + aligned (32 + size)) s
     further s h = record { low = h.low; unit = h.unit; high = omega (arith, h.high); short = h.short; owner = h.owner }
+
     whole : tail + (aligned (32 + size) + 0) ≡ tail + aligned (32 + size)
     whole = omega arith
+
     in_one : InOneTerm i.geometry.term_length tail (tail + (aligned (32 + size) + 0))
     in_one = omega (arith, room, term_base base i.geometry.term_length tail k.whole_base (omega (arith, k.low, k.started)) (omega (arith, room)))
+
     from_tail : drop (tail + aligned (32 + size) - base) bytes ≡ replicate (base + i.geometry.term_length - (tail + aligned (32 + size))) 0
     from_tail =
         let at : tail + aligned (32 + size) - base ≡ (tail - base) + aligned (32 + size) = omega (arith, k.low, k.started) in

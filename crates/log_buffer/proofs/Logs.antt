@@ -106,8 +106,10 @@ at_commit l m claimed payload r i s c e unset h = record {
         (λ (low : claimed.index < r.index). absurd (false≢true (of_first (λ x. is_whole x ≡ true) l.entries r.index claimed.index (claim_of claimed.start claimed.owner claimed.length) h.whole unset low)))
         (λ (high : r.index ≤ claimed.index). high)
         (cases_lt claimed.index r.index)
+
     first : take r.index m.entries ≡ take r.index l.entries
     first = ap (take r.index) e ∙ take-set-le r.index l.entries claimed.index (published claimed.start claimed.owner payload) behind_it
+
     apart : (f : HasRead l r) → r.index ≡ claimed.index → ⊥
     apart f same =
         let other : Some (published r.position f.owner f.payload) ≡ Some (claim_of claimed.start claimed.owner claimed.length) = sym f.entry ∙ ap (slice_get l.entries) same ∙ unset in
@@ -124,8 +126,8 @@ at_next l m r q kept far e f h =
     moved was =
         let within : r.index < length l.entries = slice_get_within l.entries r.index (published r.position was.owner was.payload) was.entry in
         let more : take (r.index + 1) l.entries ≡ take r.index l.entries ++ published r.position was.owner was.payload ∷ [] =
-            take_more l.entries r.index (published r.position was.owner was.payload) within
-            ∙ ap (λ (x : Entry). take r.index l.entries ++ x ∷ []) (get_or_from_slice_get l.entries r.index (published r.position was.owner was.payload) (published r.position was.owner was.payload) was.entry) in
+        take_more l.entries r.index (published r.position was.owner was.payload) within
+        ∙ ap (λ (x : Entry). take r.index l.entries ++ x ∷ []) (get_or_from_slice_get l.entries r.index (published r.position was.owner was.payload) (published r.position was.owner was.payload) was.entry) in
         let end : entry_end (published r.position was.owner was.payload) ≡ r.read_to = omega (arith, was.end) in
         record {
           number = omega (arith, h.number, length-set l.consumers r.number r.read_to);

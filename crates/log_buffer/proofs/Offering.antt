@@ -59,10 +59,13 @@ offer_blank l s0 s1 who message c same claimed e0 e1 =
   where
     first : draft_of (with_claim l who (length message)) (claim_for l who (length message)) ≡ replicate (aligned (32 + length message) - 8) 0
     first = get_or_at l.drafts (replicate (aligned (32 + length message) - 8) 0) [] [] (length l.entries) same
+
     left : aligned (32 + length message) - 8 - 24 ≡ aligned (32 + length message) - 32
     left = omega arith
+
     rest : drop 24 (draft_of (with_claim l who (length message)) (claim_for l who (length message))) ≡ replicate (aligned (32 + length message) - 32) 0
     rest = ap (drop 24) first ∙ drop-replicate 24 (aligned (32 + length message) - 8) 0 ∙ ap (λ n. replicate n 0) left
+
     blank : draft_of (with_draft (with_claim l who (length message)) (claim_for l who (length message)) (header_rest l.identity l.tail ++ drop 24 (draft_of (with_claim l who (length message)) (claim_for l who (length message))))) (claim_for l who (length message)) ≡ header_rest l.identity l.tail ++ replicate (aligned (32 + length message) - 32) 0
     blank =
         draft_set (with_claim l who (length message)) (claim_for l who (length message)) (header_rest l.identity l.tail ++ drop 24 (draft_of (with_claim l who (length message)) (claim_for l who (length message)))) (omega (arith, same, length_push l.drafts (replicate (aligned (32 + length message) - 8) 0)))

@@ -42,6 +42,7 @@ opening i bytes base start count slots capacity legal fits blank is low high in_
   where
     left : i.geometry.term_length - (start - base) ≡ base + i.geometry.term_length - start
     left = omega arith
+
     small : (k d : ℕ) → k < length (replicate 8 start) → get_or (replicate 8 start) k d ≤ 2 ^ 55
     small k d h = let here : get_or (replicate 8 start) k d ≡ start = get_or-replicate 8 k start d h in omega (arith, legal.term.greatest)
 

@@ -131,9 +131,9 @@ pub entry_at : (base : ℕ) (bytes : List ℕ) (slots : List Slot) (i : ℕ) (s 
 entry_at base bytes slots i s low here t long =
     slice_get-get_or (entries_of base bytes slots) i (entry_of s (range base bytes s)) (omega (arith, low, length-map slots (λ x. entry_of x (range base bytes x))))
     ∙ ap Some
-      (get_or-map (λ x. entry_of x (range base bytes x)) slots i s (entry_of s (range base bytes s)) low
-      ∙ ap (λ x. entry_of x (range base bytes x)) (sym here)
-      ∙ entry_read s (range base bytes s) t long)
+    (get_or-map (λ x. entry_of x (range base bytes x)) slots i s (entry_of s (range base bytes s)) low
+    ∙ ap (λ x. entry_of x (range base bytes x)) (sym here)
+    ∙ entry_read s (range base bytes s) t long)
 
 pub among_at : (base : ℕ) (bytes : List ℕ) (slots : List Slot) (i : ℕ) (s : Slot) (p : ℕ) → i < length slots → s ≡ get_or slots i s → s.committed ≡ true → s.start ≡ p → Among (record { at = p; frame = Data 192 (payload_in s (range base bytes s)) }) (committed (entries_of base bytes slots))
 among_at base bytes slots i s p low here t at =

@@ -76,8 +76,10 @@ is_entry base bytes s owner low high = record {
   where
     long : length (range base bytes s) ≡ aligned (32 + s.length)
     long = length-take-le (aligned (32 + s.length)) (drop (s.start - base) bytes) (omega (arith, length-drop (s.start - base) bytes))
+
     size : length (payload_in s (range base bytes s)) ≡ s.length
     size = length-take-le s.length (drop 32 (range base bytes s)) (omega (arith, length-drop 32 (range base bytes s), long))
+
     pieces : (c : Bool) → ArePieces true ((32 + s.length) ∷ []) (if c then Data 192 (payload_in s (range base bytes s)) ∷ [] else [])
     pieces true = ((refl, ap (λ n. 32 + n) size), tt)
     pieces false = tt

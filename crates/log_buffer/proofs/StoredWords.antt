@@ -15,10 +15,13 @@ word_behind front rest m i w size =
   where
     at : 8 * (m + i) ≡ length front + 8 * i
     at = omega (arith, size)
+
     at_end : 8 * (m + i) + 8 ≡ length front + (8 * i + 8)
     at_end = omega (arith, size)
+
     taken : take (8 * (m + i)) (front ++ rest) ≡ front ++ take (8 * i) rest
     taken = ap (λ n. take n (front ++ rest)) at ∙ take-append-add front rest (8 * i)
+
     left : drop (8 * (m + i) + 8) (front ++ rest) ≡ drop (8 * i + 8) rest
     left = ap (λ n. drop n (front ++ rest)) at_end ∙ drop-append-add front rest (8 * i + 8)
 
@@ -46,12 +49,16 @@ part_here bytes from n m i w unit inside fits =
   where
     front_long : length (take from bytes) ≡ from
     front_long = length-take-le from bytes (omega arith)
+
     part_long : length (take n (drop from bytes)) ≡ n
     part_long = length-take-le n (drop from bytes) (omega (arith, length-drop from bytes))
+
     split : bytes ≡ take from bytes ++ (take n (drop from bytes) ++ drop n (drop from bytes))
     split = sym (take-append-drop from bytes) ∙ ap (λ (r : List ℕ). take from bytes ++ r) (sym (take-append-drop n (drop from bytes)))
+
     long : length (with_word (take n (drop from bytes)) i w) ≡ n
     long = word_size (take n (drop from bytes)) i w (omega (arith, part_long)) ∙ part_long
+
     written : with_word bytes (m + i) w ≡ take from bytes ++ (with_word (take n (drop from bytes)) i w ++ drop n (drop from bytes))
     written =
         ap (λ (b : List ℕ). with_word b (m + i) w) split
@@ -62,9 +69,9 @@ pub part_below : (bytes : List ℕ) (from n j w : ℕ) → from + n ≤ 8 * j �
 part_below bytes from n j w below fits =
     let long : length (take (8 * j) bytes) ≡ 8 * j = length-take-le (8 * j) bytes (omega arith) in
     let same : take (from + n) (with_word bytes j w) ≡ take (from + n) bytes =
-        take-append-le (from + n) (take (8 * j) bytes ++ to_le_bytes w64 w) (drop (8 * j + 8) bytes) (omega (arith, front_size bytes j w fits))
-        ∙ take-append-le (from + n) (take (8 * j) bytes) (to_le_bytes w64 w) (omega (arith, long))
-        ∙ take-take (from + n) (8 * j) bytes below in
+    take-append-le (from + n) (take (8 * j) bytes ++ to_le_bytes w64 w) (drop (8 * j + 8) bytes) (omega (arith, front_size bytes j w fits))
+    ∙ take-append-le (from + n) (take (8 * j) bytes) (to_le_bytes w64 w) (omega (arith, long))
+    ∙ take-take (from + n) (8 * j) bytes below in
     sym (drop-take from n (with_word bytes j w)) ∙ ap (drop from) same ∙ drop-take from n bytes
 
 pub part_above : (bytes : List ℕ) (from j w : ℕ) → 8 * j + 8 ≤ from → 8 * j + 8 ≤ length bytes → drop from (with_word bytes j w) ≡ drop from bytes
@@ -75,14 +82,14 @@ pub rest_of_word : (xs : List ℕ) (i w : ℕ) → 8 ≤ length xs → drop 8 (w
 rest_of_word xs i w size =
     let long : length (take 8 xs) ≡ 8 = length-take-le 8 xs size in
     let split : with_word xs (1 + i) w ≡ take 8 xs ++ with_word (drop 8 xs) i w =
-        ap (λ (b : List ℕ). with_word b (1 + i) w) (sym (take-append-drop 8 xs)) ∙ word_behind (take 8 xs) (drop 8 xs) 1 i w long in
+    ap (λ (b : List ℕ). with_word b (1 + i) w) (sym (take-append-drop 8 xs)) ∙ word_behind (take 8 xs) (drop 8 xs) 1 i w long in
     ap (drop 8) split ∙ drop_at (take 8 xs) (with_word (drop 8 xs) i w) 8 long
 
 pub first_of_word : (xs : List ℕ) (i w : ℕ) → 8 ≤ length xs → take 8 (with_word xs (1 + i) w) ≡ take 8 xs
 first_of_word xs i w size =
     let long : length (take 8 xs) ≡ 8 = length-take-le 8 xs size in
     let split : with_word xs (1 + i) w ≡ take 8 xs ++ with_word (drop 8 xs) i w =
-        ap (λ (b : List ℕ). with_word b (1 + i) w) (sym (take-append-drop 8 xs)) ∙ word_behind (take 8 xs) (drop 8 xs) 1 i w long in
+    ap (λ (b : List ℕ). with_word b (1 + i) w) (sym (take-append-drop 8 xs)) ∙ word_behind (take 8 xs) (drop 8 xs) 1 i w long in
     ap (take 8) split ∙ take_at (take 8 xs) (with_word (drop 8 xs) i w) 8 long
 
 pub word_first : (xs : List ℕ) (w : ℕ) → with_word xs 0 w ≡ to_le_bytes w64 w ++ drop 8 xs

@@ -64,10 +64,13 @@ store_view {i} {bytes} {base} {start} {tail} {limit} {count} {consumers} {shares
   where
     next : index ≡ 1 + (index - 1)
     next = omega arith
+
     long : 8 ≤ length (range base bytes o.slot)
     long = let s : Stands base bytes o.slot c = stands k c o in omega (arith, s.long)
+
     entries : entries_of base (with_word bytes ((c.start - base) / 8 + index) w) slots ≡ entries_of base bytes slots
     entries = stored_entries base bytes (with_word bytes ((c.start - base) / 8 + index) w) slots c o (others k c o index w inside)
+
     drafts : drafts_of base (with_word bytes ((c.start - base) / 8 + index) w) slots ≡ set (drafts_of base bytes slots) c.index (with_word (get_or (drafts_of base bytes slots) c.index []) (index - 1) w)
     drafts = stored_drafts base bytes (with_word bytes ((c.start - base) / 8 + index) w) slots c o (index - 1) w (others k c o index w inside) (here k c o index w inside ∙ ap (λ n. with_word (range base bytes o.slot) n w) next) long
 
@@ -92,14 +95,19 @@ commit_view {i} {bytes} {base} {start} {tail} {limit} {count} {consumers} {share
   where
     zero_more : (c.start - base) / 8 + 0 ≡ (c.start - base) / 8
     zero_more = omega arith
+
     written : new ≡ with_word bytes ((c.start - base) / 8 + 0) w
     written = e ∙ ap (λ n. with_word bytes n w) (sym zero_more)
+
     apart : (k : ℕ) (d : Slot) → k < length slots → (k ≡ c.index → ⊥) → range base (with_word bytes ((c.start - base) / 8 + 0) w) (get_or slots k d) ≡ range base bytes (get_or slots k d)
     apart = others k c o 0 w (omega arith)
+
     rest : drop 8 (range base (with_word bytes ((c.start - base) / 8 + 0) w) o.slot) ≡ drop 8 (range base bytes o.slot)
     rest = ap (drop 8) (here k c o 0 w (omega arith))
+
     entries : entries_of base (with_word bytes ((c.start - base) / 8 + 0) w) (set slots c.index (set_committed o.slot)) ≡ set (entries_of base bytes slots) c.index (published c.start c.owner (take c.length (drop 24 (get_or (drafts_of base bytes slots) c.index []))))
     entries = committed_entries base bytes (with_word bytes ((c.start - base) / 8 + 0) w) slots c o apart rest (payload_size k c o)
+
     drafts : drafts_of base (with_word bytes ((c.start - base) / 8 + 0) w) (set slots c.index (set_committed o.slot)) ≡ set (drafts_of base bytes slots) c.index []
     drafts = committed_drafts base bytes (with_word bytes ((c.start - base) / 8 + 0) w) slots c o apart
 

@@ -28,9 +28,9 @@ returns-then-not-slot-clause-nothing c = λ h s among at.
     let here : c.in_ok-slot.field-0.now ≡ get_or c.log.inside.slots.items c.args.reader.now.index c.in_ok-slot.field-0.now = search rules in
     let its : IsAt _ c.args.reader.now = subst (λ (l : Log). IsAt l c.args.reader.now) (sym c.log.view_is) h in
     elim c.then-not-slot.branch [
-      then-not-slot-via-then-not-slot w ↦ none_open c.log.invariant c.log.inside.connected c.log.inside.closed (take c.log.inside.consumer_count c.log.inside.consumers) c.args.reader.now c.in_ok-slot.field-0.now low (ap (λ (x : Slot). x.committed) (sym here) ∙ w.if-not-slot.true) its s (subst (λ (l : Log). Among s (committed l.entries)) (sym c.log.view_is) among) at
-    | then-not-slot-via-else-not-slot+then-slot-position w ↦
-      w.if-slot-position.true (ap (λ (x : Slot). x.start) here ∙ start_behind c.log.inside.geometry.term_length c.log.inside.start c.log.inside.tail c.args.reader.now.position c.log.inside.slots.items c.args.reader.now.index c.in_ok-slot.field-0.now c.log.invariant.tiles (outlines_first c.log.inside.geometry.term_length c.log.inside.start c.args.reader.now.position c.log.inside.base c.log.inside.bytes c.log.inside.slots.items c.args.reader.now.index its.behind) low ∙ sym w.position.ensures.value)
+      | then-not-slot-via-then-not-slot w ↦ none_open c.log.invariant c.log.inside.connected c.log.inside.closed (take c.log.inside.consumer_count c.log.inside.consumers) c.args.reader.now c.in_ok-slot.field-0.now low (ap (λ (x : Slot). x.committed) (sym here) ∙ w.if-not-slot.true) its s (subst (λ (l : Log). Among s (committed l.entries)) (sym c.log.view_is) among) at
+      | then-not-slot-via-else-not-slot+then-slot-position w ↦
+          w.if-slot-position.true (ap (λ (x : Slot). x.start) here ∙ start_behind c.log.inside.geometry.term_length c.log.inside.start c.log.inside.tail c.args.reader.now.position c.log.inside.slots.items c.args.reader.now.index c.in_ok-slot.field-0.now c.log.invariant.tiles (outlines_first c.log.inside.geometry.term_length c.log.inside.start c.args.reader.now.position c.log.inside.base c.log.inside.bytes c.log.inside.slots.items c.args.reader.now.index its.behind) low ∙ sym w.position.ensures.value)
     ]
 
 pub returns-clause-head : goal.returns-clause-head

@@ -22,4 +22,4 @@ invariant_of-self c =
 pub returns : goal.returns
 returns c =
     let o : Opened c.self.inside.slots.items c.args.claimed = opened_in c.self.inside.base c.self.inside.bytes c.self.inside.slots.items c.args.self.now c.args.claimed (ap (λ (l : Log). l.entries) c.self.view_is) c.requires.unset in
-    record { stored = store_view c.self.invariant _ _ _ c.args.self.now c.self.view_is c.args.claimed o c.args.index c.args.word c.requires.behind c.requires.inside _ c.set_word.ensures.stored; }
+    record { stored = store_view c.self.invariant _ _ _ c.args.self.now c.self.view_is c.args.claimed o c.args.index c.args.word c.requires.behind c.requires.inside _ c.set_word.ensures.stored }

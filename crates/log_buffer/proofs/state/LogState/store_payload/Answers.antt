@@ -9,9 +9,9 @@ pub loop-index-init : goal.loop-index-init
 loop-index-init c =
     sym (draft_kept c.args.self.now c.args.claimed)
     ∙ ap (with_draft c.args.self.now c.args.claimed)
-      (c.requires.blank
-      ∙ ap (λ n. header_rest c.args.self.now.identity c.args.claimed.start ++ replicate (aligned (32 + n) - 32) 0) (sym c.requires.whole)
-      ∙ none_filled (header_rest c.args.self.now.identity c.args.claimed.start) (c.args.payload.now ++ zeros_after (32 + length c.args.payload.now)) (aligned (32 + length c.args.payload.now) - 32))
+    (c.requires.blank
+    ∙ ap (λ n. header_rest c.args.self.now.identity c.args.claimed.start ++ replicate (aligned (32 + n) - 32) 0) (sym c.requires.whole)
+    ∙ none_filled (header_rest c.args.self.now.identity c.args.claimed.start) (c.args.payload.now ++ zeros_after (32 + length c.args.payload.now)) (aligned (32 + length c.args.payload.now) - 32))
 
 pub loop-index-preserved : goal.loop-index-preserved
 loop-index-preserved c =
