@@ -1,1 +1,15 @@
+pub mod StoredWords
+pub mod Slots
+pub mod Shares
+pub mod Changes
 pub mod Terms
+pub mod Keeps
+pub mod Shown
+pub mod Logs
+pub mod Views
+pub mod Books
+pub mod Fills
+pub mod Offering
+pub mod Reading
+pub mod Opening
+pub mod PaddedWords

@@ -1,8 +1,8 @@
 ghost use Rattle.log_buffer.specs.Reader.{AreAll};
+ghost use Rattle.log_buffer.specs.Books.{ShowsBook};
 
 use crate::passes::{Keeper, LogReader, PUBLISHERS, Publisher};
 use crate::state::LogState;
-use position::align32;
 
 /// What a closed log held: from where to where, and how many bytes of that each publisher claimed.
 #[derive(Clone, Copy, Debug, PartialEq, Eq)]
@@ -20,6 +20,7 @@ pub fn close(
     keeper: Keeper,
 ) -> Book
     requires { AreAll publishers.items }
+    ensures { ShowsBook log result }
 {
     while let Some(publisher) = publishers.pop() {
         let _ = publisher.spend();
@@ -34,15 +35,13 @@ pub fn close(
 }
 
 impl LogState {
-    fn book(&self) -> Book {
-        let mut shares = [0; PUBLISHERS];
-        for entry in &self.entries {
-            shares[entry.owner] += u64::from(align32(32 + entry.length));
-        }
+    fn book(&self) -> Book
+        ensures { ShowsBook self.now result }
+    {
         Book {
             start: self.start,
             tail: self.tail,
-            shares,
+            shares: self.shares,
         }
     }
 }

@@ -1,6 +1,6 @@
 /// A claimed range of the stream: one frame, and whether it is committed.
 #[derive(Clone, Copy, Debug, PartialEq, Eq)]
-pub struct Entry {
+pub(crate) struct Slot {
     /// The position at which it begins, a multiple of 32.
     pub start: u64,
     /// The bytes of its message.
@@ -20,6 +20,8 @@ pub struct Claimed {
     pub start: u64,
     /// The bytes of its message.
     pub length: u32,
+    /// The number of its publisher, 0 to 7.
+    pub owner: usize,
 }
 
 /// The flags of a frame that is a whole message.

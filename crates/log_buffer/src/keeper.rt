@@ -1,4 +1,6 @@
-ghost use Rattle.std.specs.Prelude.{◌≡◌};
+ghost use Rattle.std.specs.Prelude.{◌≡◌, true};
+ghost use Rattle.log_buffer.specs.Limits.{raised};
+ghost use Rattle.log_buffer.specs.Reader.{IsAt, Reader};
 
 use crate::passes::Keeper;
 use crate::state::LogState;
@@ -6,14 +8,16 @@ use crate::state::LogState;
 impl Keeper {
     /// Says whether somebody receives the stream.
     pub fn set_connected(&mut self, log: &mut LogState, connected: bool)
-        ensures { log.new.geometry ≡ log.old.geometry }
+        ensures set { log.new ≡ record log.old { connected = connected } }
+        ensures readers { (r : Reader) → IsAt log.old r → IsAt log.new r }
     {
         log.connected = connected;
     }
 
     /// Closes the log, for good.
     pub fn set_closed(&mut self, log: &mut LogState)
-        ensures { log.new.geometry ≡ log.old.geometry }
+        ensures set { log.new ≡ record log.old { closed = true } }
+        ensures readers { (r : Reader) → IsAt log.old r → IsAt log.new r }
     {
         log.closed = true;
     }
@@ -21,7 +25,9 @@ impl Keeper {
     /// Raises the limit to half a term above the least consumer, if the log is connected and not closed. The answer
     /// is the limit.
     pub fn clean_and_limit(&mut self, log: &mut LogState) -> u64
-        ensures { log.new.geometry ≡ log.old.geometry }
+        ensures set { log.new ≡ record log.old { limit = raised log.old } }
+        ensures limit { result ≡ raised log.old }
+        ensures readers { (r : Reader) → IsAt log.old r → IsAt log.new r }
     {
         if log.connected && !log.closed {
             let half = u64::from(log.geometry.term_length() / 2);

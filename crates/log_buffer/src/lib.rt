@@ -16,7 +16,7 @@ mod state;
 mod words;
 
 pub use book::{Book, close};
-pub use entry::{Claimed, Entry, UNFRAGMENTED};
+pub use entry::{Claimed, UNFRAGMENTED};
 pub use fault::{LogError, Refusal};
 pub use passes::{Keeper, LogReader, PUBLISHERS, Parts, Publisher};
 pub use publication::offer;

@@ -162,14 +162,15 @@ impl Keeper {
 }
 
 impl Parts {
-    ghost use Rattle.log_buffer.specs.Reader.{AreAll};
+    ghost use Rattle.log_buffer.specs.Reader.{AreAll, AreReaders};
 
     /// Eight publishers, the readers at the start, and a keeper.
     pub(crate) fn new(alloc: Global, start: u64, consumers: usize) -> Result<Parts, AllocError>
         requires start { start ≤ 2 ^ 55 }
         requires few { consumers ≤ 8 }
         ensures publishers { IfOk result (λ parts. AreAll parts.publishers.items) }
-        ensures readers { IfOk result (λ parts. vec_len parts.readers ≡ consumers) }
+        ensures readers { IfOk result (λ parts. AreReaders parts.readers.items start consumers) }
+        ensures count { IfOk result (λ parts. vec_len parts.readers ≡ consumers) }
         ensures at_start { IfOk result (λ parts. All (λ reader. (reader.position ≡ start) × (reader.read_to ≡ start)) parts.readers.items) }
     {
         let mut readers = Vec::with_capacity(alloc, consumers)?;

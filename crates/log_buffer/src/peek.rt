@@ -7,7 +7,7 @@ impl LogState {
     /// A word of the log's table, for tests: the bytes of the three terms, the limit with its flags, the active count,
     /// the three raw tails, the eight consumer positions. Nothing is promised of its value.
     pub fn peek(&self, index: usize) -> u64
-        requires { index < 3 * (self.now.geometry.term_length / 8) + 13 }
+        requires { index < 3 * (self.now.identity.geometry.term_length / 8) + 13 }
     {
         let words = self.geometry.term_length() as usize / 8;
         let count = (self.base / u64::from(self.geometry.term_length())) as u32;

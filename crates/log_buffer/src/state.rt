@@ -1,10 +1,10 @@
-ghost use Rattle.std.specs.Prelude.{◌≡◌, ◌+◌, ◌*◌, ◌/◌, ◌<◌, ◌≤◌, ◌++◌, ◌∷◌, [], length, IfOk, slice_get, Some, false, true, ◌^◌, vec_len, All};
+ghost use Rattle.std.specs.Prelude.{◌≡◌, ◌+◌, ◌-◌, ◌*◌, ◌/◌, ◌%◌, ◌<◌, ◌≤◌, ◌↔◌, length, IfOk, IsOk, IsErrOf, slice_index, slice_get, Some, ◌^◌, vec_len};
 ghost use Rattle.theory.specs.Position.{aligned, IsGeometry, max_position};
 ghost use Rattle.theory.specs.Position as shape;
 
-use crate::entry::{Claimed, Entry};
+use crate::entry::{Claimed, Slot};
 use crate::fault::LogError;
-use crate::passes::{CONSUMERS, Parts, Publisher};
+use crate::passes::{CONSUMERS, PUBLISHERS, Parts, Publisher};
 use crate::words::first_word;
 use block::Block;
 use position::{Geometry, align32};
@@ -26,19 +26,23 @@ pub struct LogState {
     pub(crate) closed: bool,
     pub(crate) consumer_count: usize,
     pub(crate) consumers: [u64; CONSUMERS],
-    pub(crate) entries: Vec<Entry>,
+    /// How many bytes each publisher claimed.
+    pub(crate) shares: [u64; PUBLISHERS],
+    pub(crate) slots: Vec<Slot>,
     pub(crate) bytes: Block,
 }
 
 impl Model for LogState {
-    ghost use Rattle.std.specs.Prelude.{vec_capacity};
-    ghost use Rattle.log_buffer.specs.Log.{Log, IsKept};
+    ghost use Rattle.std.specs.Prelude.{take, vec_capacity};
+    ghost use Rattle.log_buffer.specs.Log.{Log};
 
     ghost Value = { Log };
 
-    ghost view = { λ s. record { geometry = s.geometry; base = s.base; start = s.start; tail = s.tail; limit = s.limit; connected = s.connected; closed = s.closed; entries = s.entries.items } };
+    ghost use Rattle.log_buffer.specs.Slots.{entries_of, drafts_of, IsKept};
 
-    ghost invariant = { λ s. IsKept s.geometry s.bytes s.base s.start s.tail s.limit s.consumer_count s.consumers s.entries.items (vec_capacity s.entries) };
+    ghost view = { λ s. record { identity = record { geometry = s.geometry; session = s.session; stream = s.stream }; start = s.start; tail = s.tail; limit = s.limit; connected = s.connected; closed = s.closed; consumers = take s.consumer_count s.consumers; entries = entries_of s.base s.bytes s.slots.items; drafts = drafts_of s.base s.bytes s.slots.items } };
+
+    ghost invariant = { λ s. IsKept (record { geometry = s.geometry; session = s.session; stream = s.stream }) s.bytes s.base s.start s.tail s.limit s.consumer_count s.consumers s.shares s.slots.items (vec_capacity s.slots) };
 }
 
 /// What the limit word of a log says.
@@ -51,10 +55,15 @@ pub struct Limit {
 }
 
 impl LogState {
-    ghost use Rattle.log_buffer.specs.Log.{IsOpen};
-    ghost use Rattle.log_buffer.specs.Reader.{AreAll};
+    ghost use Rattle.std.specs.Prelude.{All};
+    ghost use Rattle.std.specs.Int.{to_le_bytes};
+    ghost use Rattle.block.specs.Bytes.{with_word};
+    ghost use Rattle.log_buffer.specs.Log.{IsOpen, IsDrafted, IsLog, fresh, term_end, with_claim, with_draft, with_commit, draft_of, drafted};
+    ghost use Rattle.log_buffer.specs.Limits.{least};
+    ghost use Rattle.log_buffer.specs.Reader.{AreAll, AreReaders, IsAt, Reader};
 
-    /// A log at a start, unconnected, with its limit at the start, and its passes.
+    /// A log at a start, unconnected, with its limit at the start, and its passes. The start is judged first, then
+    /// the number of consumers; then memory is asked for.
     pub fn open(
         alloc: Global,
         geometry: Geometry,
@@ -63,11 +72,17 @@ impl LogState {
         start: u64,
         consumers: usize,
     ) -> Result<(LogState, Parts), LogError>
-        ensures geometry { IfOk result (λ r. r.0.geometry ≡ geometry) }
+        ensures log { IfOk result (λ r. r.0 ≡ fresh (record { geometry = geometry; session = session; stream = stream }) start consumers) }
+        ensures below { IfOk result (λ r. r.0.start < max_position r.0.identity.geometry) }
         ensures publishers { IfOk result (λ r. AreAll r.1.publishers.items) }
-        ensures readers { IfOk result (λ r. vec_len r.1.readers ≡ consumers) }
-        ensures at_start { IfOk result (λ r. All (λ reader. (reader.position ≡ start) × (reader.read_to ≡ start)) r.1.readers.items) }
-        ensures start { IfOk result (λ r. (r.0.start ≡ start) × (start < max_position geometry)) }
+        ensures readers { IfOk result (λ r. AreReaders r.1.readers.items start consumers) }
+        ensures count { IfOk result (λ r. vec_len r.1.readers ≡ consumers) }
+        ensures at_start { IfOk result (λ r. All (λ reader. (reader.position ≡ r.0.start) × (reader.read_to ≡ r.0.start)) r.1.readers.items) }
+        ensures stand { IfOk result (λ r. All (IsAt r.0) r.1.readers.items) }
+        ensures start { IsErrOf result LogError.Start ↔ (¬ ((start % 32 ≡ 0) × (start < max_position geometry))) }
+        ensures consumers { IsErrOf result LogError.Consumers ↔ ((start % 32 ≡ 0) × (start < max_position geometry) × (¬ ((1 ≤ consumers) × (consumers ≤ 8)))) }
+        ensures in_range { IfOk result (λ _. (start % 32 ≡ 0) × (start < max_position geometry) × (1 ≤ consumers) × (consumers ≤ 8)) }
+        ensures memory { IsErrOf result LogError.Memory → (start % 32 ≡ 0) × (start < max_position geometry) × (1 ≤ consumers) × (consumers ≤ 8) }
     {
         if !start.is_multiple_of(32) || start >= geometry.max_position() {
             return Err(LogError::Start);
@@ -76,7 +91,7 @@ impl LogState {
             return Err(LogError::Consumers);
         }
         let term_length = geometry.term_length() as usize;
-        let entries = Vec::with_capacity(alloc, term_length / 32)?;
+        let slots = Vec::with_capacity(alloc, term_length / 32)?;
         let bytes = Block::new(alloc, term_length)?;
         let parts = Parts::new(alloc, start, consumers)?;
         let state = LogState {
@@ -91,7 +106,8 @@ impl LogState {
             closed: false,
             consumer_count: consumers,
             consumers: [start; CONSUMERS],
-            entries,
+            shares: [0; PUBLISHERS],
+            slots,
             bytes,
         };
         Ok((state, parts))
@@ -99,19 +115,23 @@ impl LogState {
 
     /// The shape of the stream.
     pub fn geometry(&self) -> Geometry
-        ensures value { result ≡ self.now.geometry }
+        ensures value { result ≡ self.now.identity.geometry }
         ensures legal { IsGeometry result }
     {
         self.geometry
     }
 
     /// The session id of each of its frames.
-    pub fn session(&self) -> i32 {
+    pub fn session(&self) -> i32
+        ensures { result ≡ self.now.identity.session }
+    {
         self.session
     }
 
     /// The stream id of each of its frames.
-    pub fn stream(&self) -> i32 {
+    pub fn stream(&self) -> i32
+        ensures { result ≡ self.now.identity.stream }
+    {
         self.stream
     }
 
@@ -137,14 +157,16 @@ impl LogState {
 
     /// Loads the end of what was claimed.
     pub fn load_tail(&self) -> u64
-        ensures { result ≡ self.now.tail }
+        ensures value { result ≡ self.now.tail }
+        ensures tiled { IsLog self.now }
     {
         self.tail
     }
 
-    /// The least position of the consumers that are there.
+    /// The least position of the consumers.
     pub fn least_consumer(&self) -> u64
-        ensures { result ≤ 2 ^ 55 }
+        ensures value { result ≡ least self.now.consumers }
+        ensures small { result ≤ 2 ^ 55 }
     {
         let mut least = self.consumers[0];
         for position in &self.consumers[..self.consumer_count] {
@@ -155,58 +177,61 @@ impl LogState {
 
     /// The bytes that are left in the term.
     pub fn room(&self) -> u32
-        ensures value { result + self.now.tail ≡ self.now.base + self.now.geometry.term_length }
-        ensures legal { IsGeometry self.now.geometry }
+        ensures value { result + self.now.tail ≡ term_end self.now }
+        ensures legal { IsGeometry self.now.identity.geometry }
     {
         let end = self.base + u64::from(self.geometry.term_length());
         (end - self.tail) as u32
     }
 
-    /// Takes the next bytes of the stream for a message of `length` bytes.
-    pub fn claim(&mut self, publisher: &Publisher, length: u32) -> Claimed
-        requires short { 32 + length ≤ self.old.geometry.mtu }
-        requires room { self.old.tail + aligned (32 + length) ≤ self.old.base + self.old.geometry.term_length }
-        ensures open { IsOpen self.new result }
-        ensures start { result.start ≡ self.old.tail }
-        ensures length { result.length ≡ length }
-        ensures tail { self.new.tail ≡ self.old.tail + aligned (32 + length) }
-        ensures geometry { self.new.geometry ≡ self.old.geometry }
+    /// Takes the next bytes of the stream for a message of `size` bytes. They are zero.
+    pub fn claim(&mut self, publisher: &Publisher, size: u32) -> Claimed
+        requires short { 32 + size ≤ self.old.identity.geometry.mtu }
+        requires room { self.old.tail + aligned (32 + size) ≤ term_end self.old }
+        ensures taken { self.new ≡ with_claim self.old publisher.now size }
+        ensures claimed { result ≡ record { index = length self.old.entries; start = self.old.tail; length = size; owner = publisher.now } }
+        ensures unset { IsOpen self.new result }
+        ensures readers { (r : Reader) → IsAt self.old r → IsAt self.new r }
     {
         let claimed = Claimed {
-            index: self.entries.len(),
+            index: self.slots.len(),
             start: self.tail,
-            length,
-        };
-        let entry = Entry {
-            start: self.tail,
-            length,
+            length: size,
             owner: publisher.number(),
+        };
+        let slot = Slot {
+            start: self.tail,
+            length: size,
+            owner: claimed.owner,
             committed: false,
         };
-        self.entries.push(entry).unwrap();
-        self.tail += u64::from(align32(32 + length));
+        let covered = u64::from(align32(32 + size));
+        self.slots.push(slot).unwrap();
+        self.tail += covered;
+        self.shares[claimed.owner] += covered;
         claimed
     }
 
     /// Stores a word of a claim's frame: any but the first one.
     pub fn store(&mut self, claimed: Claimed, index: usize, word: u64)
-        requires open { IsOpen self.old claimed }
+        requires unset { IsOpen self.old claimed }
         requires behind { 0 < index }
         requires inside { 8 * index < aligned (32 + claimed.length) }
-        ensures { self.new ≡ self.old }
+        ensures stored { self.new ≡ with_draft self.old claimed (with_word (draft_of self.old claimed) (index - 1) word) }
     {
         let place = (claimed.start - self.base) as usize / 8;
         self.bytes.set_word(place + index, word);
     }
 
-    /// Stores the first word of a claim's frame, which commits it.
+    /// Stores the first word of a claim's frame, which commits it. The other words have been stored.
     pub fn commit(&mut self, claimed: Claimed)
-        requires { IsOpen self.old claimed }
-        ensures geometry { self.new.geometry ≡ self.old.geometry }
-        ensures tail { self.new.tail ≡ self.old.tail }
+        requires unset { IsOpen self.old claimed }
+        requires written { IsDrafted self.old claimed }
+        ensures committed { self.new ≡ with_commit self.old claimed (drafted self.old claimed) }
+        ensures readers { (r : Reader) → IsAt self.old r → IsAt self.new r }
     {
         let place = (claimed.start - self.base) as usize / 8;
         self.bytes.set_word(place, first_word(32 + claimed.length));
-        self.entries[claimed.index].committed = true;
+        self.slots[claimed.index].committed = true;
     }
 }

@@ -1,9 +1,13 @@
-ghost use Rattle.std.specs.Prelude.{◌≤◌, ◌<◌, ◌^◌, length};
+ghost use Rattle.std.specs.Prelude.{◌≡◌, ◌+◌, ◌-◌, ◌≤◌, ◌<◌, ◌^◌, ◌++◌, length, replicate};
+ghost use Rattle.std.specs.Int.{w64, to_le_bytes};
+ghost use Rattle.theory.specs.Wire.{front, le32};
 
 use crate::entry::UNFRAGMENTED;
 
 /// The first word of a DATA frame: its length, version 0, the flags and the type.
-pub(crate) fn first_word(frame_length: u32) -> u64 {
+pub(crate) fn first_word(frame_length: u32) -> u64
+    ensures { to_le_bytes w64 result ≡ front frame_length 192 1 }
+{
     let length = frame_length.to_le_bytes();
     u64::from_le_bytes([
         length[0],
@@ -18,7 +22,9 @@ pub(crate) fn first_word(frame_length: u32) -> u64 {
 }
 
 /// The word of two fields of four bytes.
-pub(crate) fn pair_word(low: i32, high: i32) -> u64 {
+pub(crate) fn pair_word(low: i32, high: i32) -> u64
+    ensures { to_le_bytes w64 result ≡ le32 low ++ le32 high }
+{
     let low = low.to_le_bytes();
     let high = high.to_le_bytes();
     u64::from_le_bytes([
@@ -29,8 +35,16 @@ pub(crate) fn pair_word(low: i32, high: i32) -> u64 {
 /// Up to eight bytes as a word, with zeros behind them.
 pub(crate) fn payload_word(bytes: &[u8]) -> u64
     requires { length bytes.now ≤ 8 }
+    ensures { to_le_bytes w64 result ≡ bytes.now ++ replicate (8 - length bytes.now) 0 }
+{
+    u64::from_le_bytes(padded(bytes))
+}
+
+fn padded(bytes: &[u8]) -> [u8; 8]
+    requires { length bytes.now ≤ 8 }
+    ensures { result ≡ bytes.now ++ replicate (8 - length bytes.now) 0 }
 {
     let mut word = [0; 8];
     word[..bytes.len()].copy_from_slice(bytes);
-    u64::from_le_bytes(word)
+    word
 }

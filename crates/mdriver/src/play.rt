@@ -77,7 +77,7 @@ fn run(
     requires readers { 0 < vec_len parts.readers }
     requires subscribers { vec_len subscribers ≡ 8 }
     requires at_start { All (λ reader. (reader.position ≡ log.start) × (reader.read_to ≡ log.start)) parts.readers.items }
-    requires start { log.start < max_position log.geometry }
+    requires start { log.start < max_position log.identity.geometry }
 {
     let Parts {
         publishers,

@@ -112,8 +112,8 @@ impl<F: FlowControl + Drop> SenderCore<F> {
         now: u64,
         outbox: &mut Outbox,
     ) -> SenderAnswer
-        requires { log.old.geometry ≡ self.old.geometry }
-        ensures log { log.new.geometry ≡ log.old.geometry }
+        requires { log.old.identity.geometry ≡ self.old.geometry }
+        ensures log { log.new.identity.geometry ≡ log.old.identity.geometry }
         ensures geometry { self.new.geometry ≡ self.old.geometry }
     {
         outbox.clear();
@@ -132,8 +132,8 @@ impl<F: FlowControl + Drop> SenderCore<F> {
 
     /// A SETUP if it is due, and the next frame if there is one below the flow limit.
     fn cycle(&mut self, log: &mut LogState, outbox: &mut Outbox)
-        requires { log.old.geometry ≡ self.old.geometry }
-        ensures log { log.new.geometry ≡ log.old.geometry }
+        requires { log.old.identity.geometry ≡ self.old.geometry }
+        ensures log { log.new.identity.geometry ≡ log.old.identity.geometry }
         ensures geometry { self.new.geometry ≡ self.old.geometry }
     {
         self.flow.tick(self.clock);

@@ -47,7 +47,7 @@ pub struct World {
     pub packets: Vec<Vec<u8>>,
     pub ghost all: { AreAll publishers.items },
     pub ghost room: { vec_len readers < vec_capacity readers },
-    pub ghost same: { log.geometry ≡ sender.geometry },
+    pub ghost same: { log.identity.geometry ≡ sender.geometry },
     pub ghost eight: { vec_len subscribers ≡ 8 },
 }
 

@@ -1,4 +1,5 @@
-use Rattle.std.proofs.Common.{◌≡◌, ℕ, ◌<◌, ◌≤◌, [], slice_index, All, vec_len, vec_capacity}
+use Rattle.std.proofs.Common.{◌≡◌, ℕ, ◌<◌, ◌≤◌, [], Some, slice_index, All, vec_len, vec_capacity}
+use Rattle.std.specs.List.{slice_get}
 use Rattle.log_buffer.proofs.passes.Parts.new.Given as goal
 
 abbrev pub invariant-loop-number : goal.invariant-loop-number
@@ -13,6 +14,7 @@ invariant-loop-number l = record {
 abbrev pub invariant-loop-number-2 : goal.invariant-loop-number-2
 invariant-loop-number-2 l = record {
   count : vec_len l.readers ≡ l.number;
+  each : (k : ℕ) → k < l.number → slice_get l.readers.items k ≡ Some (record { number = k; index = 0; position = l.fn.start; read_to = l.fn.start });
   at_start : All (λ r. (r.position ≡ l.fn.start) × (r.read_to ≡ l.fn.start)) l.readers.items;
   room : l.fn.consumers ≤ vec_capacity l.readers;
 }

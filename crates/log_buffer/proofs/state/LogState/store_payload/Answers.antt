@@ -1,0 +1,25 @@
+use Rattle.std.proofs.Common.{◌≡◌, ℕ, ◌+◌, ◌-◌, ◌*◌, ◌++◌, length, take, drop, replicate, sym, ap, ◌∙◌, arith}
+use Rattle.theory.specs.Position.{aligned}
+use Rattle.theory.specs.Wire.{zeros_after}
+use Rattle.log_buffer.specs.Log.{header_rest, with_draft}
+use Rattle.log_buffer.proofs.Fills.{draft_kept, draft_within, none_filled, payload_end, payload_step}
+use Rattle.log_buffer.proofs.state.LogState.store_payload.Goals as goal
+
+pub loop-index-init : goal.loop-index-init
+loop-index-init c =
+    sym (draft_kept c.args.self.now c.args.claimed)
+    ∙ ap (with_draft c.args.self.now c.args.claimed)
+    (c.requires.blank
+    ∙ ap (λ n. header_rest c.args.self.now.identity c.args.claimed.start ++ replicate (aligned (32 + n) - 32) 0) (sym c.requires.whole)
+    ∙ none_filled (header_rest c.args.self.now.identity c.args.claimed.start) (c.args.payload.now ++ zeros_after (32 + length c.args.payload.now)) (aligned (32 + length c.args.payload.now) - 32))
+
+pub loop-index-preserved : goal.loop-index-preserved
+loop-index-preserved c =
+    payload_step c.args.self.now c.loop-index.self c.store.new.self c.args.claimed c.args.self.now.identity c.args.payload.now (take (c.min-end.result - 8 * c.loop-index.index) (drop (8 * c.loop-index.index) c.args.payload.now)) c.loop-index.index c.payload_word.result
+    (draft_within c.args.self.now c.args.claimed c.args.self.now.identity c.args.claimed.start _ c.requires.blank)
+    (omega arith) c.loop-index.invariant c.store.ensures.stored c.payload_word.ensures
+    (ap (λ n. take (n - 8 * c.loop-index.index) (drop (8 * c.loop-index.index) c.args.payload.now)) c.min-end.ensures)
+
+pub returns : goal.returns
+returns c =
+    payload_end c.args.self.now c.loop-index.self c.args.claimed c.args.self.now.identity c.args.payload.now c.loop-index.index (omega arith) c.loop-index.invariant
