@@ -1,15 +1,16 @@
 //! The lines that a script prints.
 
-use crate::assembler::{AssemblyError, Message};
 use crate::hexadecimal::Hexadecimal;
 use crate::receiver::Outcome;
 use crate::sender::SenderAnswer;
+use assembler::{AssemblyError, Message};
 use log_buffer::{Book, LogError, Refusal};
 use position::GeometryError;
+use std::alloc::Global;
 use std::fmt;
 
 /// One line of output.
-#[derive(Debug, PartialEq, Eq, Drop)]
+#[derive(Debug, Drop)]
 pub enum Line {
     Open,
     /// The log can't be opened with this geometry; the script ends.
@@ -26,7 +27,7 @@ pub enum Line {
     Nothing,
     Receiver(Outcome),
     Sender(SenderAnswer),
-    Message(Message),
+    Message(Message<Global>),
     /// There was no frame left to read.
     NoMessage,
     Assembly(AssemblyError),
@@ -114,7 +115,10 @@ fn show_packet<W: fmt::Write>(f: &mut fmt::Formatter<W>, number: u64, bytes: &[u
     write!(f, "packet {number} {text}")
 }
 
-fn show_message<W: fmt::Write>(f: &mut fmt::Formatter<W>, message: &Message) -> fmt::Result {
+fn show_message<W: fmt::Write>(
+    f: &mut fmt::Formatter<W>,
+    message: &Message<Global>,
+) -> fmt::Result {
     let text = Hexadecimal(&message.bytes);
     write!(f, "message {text}")
 }

@@ -2,13 +2,11 @@
 //! a datagram.
 #![tactic(auto)]
 
-mod assembler;
 mod choice;
 mod command_line;
 mod commands;
 mod decode;
 mod fault;
-mod flow;
 mod frame_line;
 mod hexadecimal;
 mod line;
@@ -16,7 +14,6 @@ mod outbox;
 mod play;
 mod receiver;
 mod sender;
-mod setup;
 mod sim;
 mod world;
 

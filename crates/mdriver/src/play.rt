@@ -4,12 +4,12 @@ ghost use Rattle.std.specs.Prelude.{◌≡◌, ◌<◌, vec_len, IfOk, All};
 ghost use Rattle.theory.specs.Position.{max_position};
 ghost use Rattle.log_buffer.specs.Reader.{AreAll};
 
-use crate::flow::UnicastFlow;
 use crate::line::Line;
 use crate::outbox::Outbox;
 use crate::receiver::ReceiverCore;
 use crate::sender::{Denied, SenderCore};
 use crate::world::{RECEIVERS, Subscriber, World, close_with};
+use flow_control::UnicastFlow;
 use log_buffer::{LogError, LogState, Parts};
 use position::Geometry;
 use script::{LogLine, Script};
@@ -88,7 +88,7 @@ fn run(
         unreachable!()
     };
     let geometry = log.geometry();
-    let flow = UnicastFlow::new(log.start() as i64);
+    let flow = UnicastFlow::new(log.start());
     match SenderCore::new(alloc, geometry, log.session(), log.stream(), reader, flow) {
         Ok(sender) => {
             let mut world = World {

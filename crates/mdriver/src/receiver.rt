@@ -6,10 +6,10 @@ ghost use Rattle.theory.specs.Position.{IsGeometry, max_position};
 ghost use Rattle.theory.specs.Wire.{IsFrame};
 ghost use Rattle.frames.specs.Frames.{wire};
 
-use crate::setup::{SetupError, judge};
 use frames::{Frame, FrameError, Header, Setup, Status, check_datagram, read_frame};
 use position::Geometry;
 use rebuilder::{Image, Insert};
+use setup::{SetupError, judge};
 use std::alloc::{AllocError, Global};
 
 /// Nanoseconds after which a status message goes out again.

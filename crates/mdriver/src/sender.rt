@@ -7,13 +7,13 @@ ghost use Rattle.theory.specs.Wire.{IsFrame};
 ghost use Rattle.log_buffer.specs.Reader.{IsWholeFrame};
 ghost use Rattle.frames.specs.Frames.{wire};
 
-use crate::flow::FlowControl;
 use crate::outbox::Outbox;
-use crate::setup::SenderSetup;
 use block::Block;
+use flow_control::FlowControl;
 use frames::{Frame, FrameError, Header, Setup, Status, check_datagram, read_frame};
 use log_buffer::{LogReader, LogState, advance, next};
 use position::{FrameHead, Geometry, align32};
+use setup::SenderSetup;
 use std::alloc::Global;
 
 /// What happens to a sender.

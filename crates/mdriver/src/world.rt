@@ -4,13 +4,13 @@ ghost use Rattle.std.specs.Prelude.{◌≡◌, ◌<◌, ◌≤◌, vec_len, vec_
 ghost use Rattle.position.specs.declared.head.FrameKind.TheVariants.{Data};
 ghost use Rattle.log_buffer.specs.Reader.{AreAll};
 
-use crate::assembler::{Assembler, AssemblyError, Message};
-use crate::flow::UnicastFlow;
 use crate::line::Line;
 use crate::outbox::Outbox;
 use crate::receiver::{Outcome, ReceiverCore};
 use crate::sender::{SenderCore, SenderEvent};
+use assembler::{Assembler, AssemblyError, Message};
 use block::Block;
+use flow_control::UnicastFlow;
 use frames::{Frame, Status, write_frame};
 use log_buffer::{Book, Keeper, LogReader, LogState, Publisher, close, offer};
 use position::{FrameHead, FrameKind};
@@ -27,7 +27,7 @@ const GREATEST_PAYLOAD: usize = 65_472;
 #[derive(Drop)]
 pub struct Subscriber {
     core: ReceiverCore,
-    assembler: Assembler,
+    assembler: Assembler<Global>,
     block: Block,
     ghost room: { 65472 ≤ length block },
 }
@@ -112,7 +112,7 @@ impl Subscriber {
     }
 
     /// Hands the payload that was read last to the assembler.
-    fn assemble(&mut self, head: &FrameHead) -> Result<Option<Message>, AssemblyError>
+    fn assemble(&mut self, head: &FrameHead) -> Result<Option<Message<Global>>, AssemblyError>
         requires long { 32 ≤ head.now.frame_length }
         requires short { head.now.frame_length ≤ 65504 }
     {
