@@ -1,15 +1,15 @@
 -- Which lines that begin with `decode` the program's command takes, and the word that the parser finds in them.
-use Rattle.std.proofs.Common.{◌≡◌, ◌∙◌, ◌⊎◌, ◌++◌, ℕ, Bool, codes, true, false, zero, suc, refl, sym, ap, ap₂, subst, List, [], ◌∷◌, length, drop, Option, Some, None, inl, inr, ⊎_elim, true≢false, arith}
-use Rattle.std.specs.Prelude.{◌≢◌, ◌==◌, fold, is_some, slice_get}
+use Rattle.std.proofs.Common.{◌≡◌, ◌∙◌, ◌⊎◌, ◌++◌, ℕ, Bool, codes, true, false, zero, suc, refl, sym, ap, ap₂, subst, List, [], ◌∷◌, length, Option, Some, None, inl, inr, ⊎_elim, true≢false}
+use Rattle.std.specs.Prelude.{◌≢◌, ◌==◌, is_some}
 use Rattle.std.specs.Str.{bytes_eq, chars}
-use Rattle.std.proofs.lemmas.Bool.Decides.{eqb_tells, nat_tests}
+use Rattle.std.proofs.lemmas.Bool.Decides.{eqb_tells}
 use Rattle.clap.specs.Lexer.{long_of, name_and_value, short_of}
 use Rattle.clap.specs.Walk.{Held, Outcome, Row, after_flag, plain, Rule, Text, Walk, first_of, has_long, has_short, idle, long_or_other, nothing_held, bundle_met, rows_after, settled, finished, value, walk, walk_from, walked}
-use Rattle.clap.specs.Simple.{Shape, entered, filled_from, help_rule, names_of, new_shape, subcommand_of}
+use Rattle.clap.specs.Simple.{Shape, entered, filled_from, help_rule, names_of, new_shape}
 use Rattle.clap.specs.Kinds.{Kinds, or_else}
 use Rattle.clap.specs.Faults.{built_fault, check_fault, defaults_fault, entered_fault, flag_word_fault, flags_fault, level_fault, long_fault, settle_fault, short_fault, turn_fault, walk_fault}
 use Rattle.clap.proofs.WalkLemmas.{walk_stopped}
-use Rattle.mdriver.specs.CommandLines.{GiveWord, IsPlainWord, driver_app, hex_rule}
+use Rattle.mdriver.specs.CommandLines.{GiveWord, IsPlainWord, hex_rule}
 use Rattle.mdriver.proofs.CommandLineLemmas.{Refuses, app, bare, by_word, eq_turned, first_refuses, help, help_if, passes, refused, second_refuses}
 
 -- the rules of the command's argument and of `--help`

@@ -1,5 +1,5 @@
 -- Which lines the program's command takes, and what they ask for.
-use Rattle.std.proofs.Common.{◌≡◌, ◌∙◌, ◌⊎◌, codes, true, false, refl, sym, ap, subst, List, [], ◌∷◌, drop, Option, Some, None, inl, inr, ⊎_elim, true≢false}
+use Rattle.std.proofs.Common.{◌≡◌, ◌∙◌, ◌⊎◌, codes, true, false, refl, sym, subst, List, [], ◌∷◌, drop, Option, Some, None, inl, inr, ⊎_elim}
 use Rattle.std.specs.Prelude.{option_map}
 use Rattle.std.specs.Str.{bytes_eq}
 use Rattle.clap.specs.Walk.{Text, idle, nothing_held, rows_after, subcommand_met}

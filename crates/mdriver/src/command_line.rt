@@ -58,6 +58,7 @@ fn parsed<'a>(command: Command<'a>, words: &'a [&'a str]) -> Result<Options<'a>,
 fn choice<'a>(matches: &ArgMatches<'a>) -> Options<'a>
     ensures { IsChoice (subcommand_rows_of matches.now) result }
 {
+    // The word is required, so a parse that succeeds has it.
     match matches.subcommand_matches("decode") {
         Some(decode) => Options::Decode(decode.get_str("HEX").unwrap_or("")),
         None => Options::Sim,

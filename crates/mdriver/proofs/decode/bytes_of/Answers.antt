@@ -1,9 +1,8 @@
 use Rattle.std.proofs.Common.{◌≡◌, ℕ, List, Option, Some, None, inr, refl, rules, sym, subst}
-use Rattle.std.specs.Prelude.{◌⊎◌, IfErr, Result, option_map}
+use Rattle.std.specs.Prelude.{◌⊎◌, IfErr, option_map}
 use Rattle.std.specs.Option.{ok_or}
 use Rattle.script.specs.Language.{SpellsBytes}
 use Rattle.mdriver.specs.Decoding.{SpellsWord}
-use Rattle.mdriver.specs.declared.fault.Fault.{Fault}
 use Rattle.mdriver.specs.declared.fault.Fault.TheVariants.{Hex, Memory}
 use Rattle.mdriver.proofs.decode.bytes_of.Goals as goal
 

@@ -1,9 +1,8 @@
-use Rattle.std.proofs.Common.{◌≡◌, ℕ, List, length, take, drop}
+use Rattle.std.proofs.Common.{◌≡◌, List, length, take, drop}
 use Rattle.std.specs.List.{flat_map}
 use Rattle.std.specs.Io.KnownBytes.{Appends}
 use Rattle.theory.specs.Wire.{Wire, SpellsDatagram, spelling}
 use Rattle.mdriver.specs.FrameLines.{frame_lines}
-use Rattle.mdriver.proofs.DatagramSteps.{FrameAt}
 use Rattle.mdriver.proofs.decode.print_frames.Given as goal
 
 -- the frames so far are printed, and the others are left

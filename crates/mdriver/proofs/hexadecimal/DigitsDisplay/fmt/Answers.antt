@@ -1,5 +1,5 @@
-use Rattle.std.proofs.Common.{◌≡◌, ℕ, ◌<◌, Some, false, refl, rules}
-use Rattle.std.specs.Fmt.{digits, digits_output, format_spec, styled_digits_output}
+use Rattle.std.proofs.Common.{◌≡◌, ◌<◌, Some, false, refl, rules}
+use Rattle.std.specs.Fmt.{styled_digits_output}
 use Rattle.std.proofs.Output.{displays_on_ok_of_eq}
 use Rattle.std.proofs.lemmas.Fmt.{hex_byte}
 use Rattle.mdriver.specs.FrameLines.{two_digits}

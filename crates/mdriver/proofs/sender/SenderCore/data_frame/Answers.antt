@@ -1,4 +1,4 @@
-use Rattle.std.proofs.Common.{arith, rules, inl, inr, ◌≡◌, ◌%◌, ◌+◌, ◌≤◌, ◌*◌, ◌^◌}
+use Rattle.std.proofs.Common.{arith, rules, inr}
 use Rattle.mdriver.proofs.Bytes.{offset_below}
 use Rattle.mdriver.proofs.sender.SenderCore.data_frame.Goals as goal
 
