@@ -23,7 +23,7 @@ is_gap term frames high c bound end (Some q) above inside b next e =
       one_term = omega arith;
       empty = λ p unit l below u. next.empty p l (omega arith) u;
       ends = ⊎_elim
-        (λ (l : q < bound). let same : q ≡ end = omega arith in inl (subst (λ x. HasUnit frames x) same next.unit))
-        (λ (l : bound ≤ q). at_bound frames high (c / term * term + term) end (omega arith))
-        (cases_lt q bound);
+          (λ (l : q < bound). let same : q ≡ end = omega arith in inl (subst (λ x. HasUnit frames x) same next.unit))
+          (λ (l : bound ≤ q). at_bound frames high (c / term * term + term) end (omega arith))
+          (cases_lt q bound);
     }

@@ -1,21 +1,21 @@
 -- What holds of each image, and that it holds again after each call.
-use Rattle.std.proofs.Common.{◌≡◌, ℕ, zero, suc, ◌+◌, ◌-◌, ◌*◌, ◌/◌, ◌%◌, ◌^◌, ◌<◌, ◌≤◌, ◌⊎◌, inl, inr, ⊎_elim, List, [], ◌∷◌, map, length, min, max, Bool, true, false, cond, Option, None, Some, refl, sym, ap, ◌∙◌, subst, arith, length-set}
-use Rattle.std.specs.Prelude.{slice_index, slice_set, replicate, MatchOption, ℤ, pos, negsuc, nat_lt, ◌&&◌}
+use Rattle.std.proofs.Common.{◌≡◌, ℕ, ◌+◌, ◌-◌, ◌*◌, ◌/◌, ◌%◌, ◌^◌, ◌<◌, ◌≤◌, ◌⊎◌, inl, inr, ⊎_elim, List, [], ◌∷◌, map, length, min, max, Bool, true, false, cond, Option, None, Some, refl, sym, subst, arith, length-set}
+use Rattle.std.specs.Prelude.{slice_index, slice_set, replicate, MatchOption, ℤ, pos, negsuc, nat_lt}
 use Rattle.std.specs.List.{AllByRecursion, list_any}
 use Rattle.std.proofs.Math.Nat.{mul-le-mul_left, div-lt_iff_lt-mul}
-use Rattle.std.proofs.lemmas.Bool.{cases_lt, cases_Bool, ltb-true, ltb-false, lt-ltb, le-ltb, and_cases, and_right, or_parts}
+use Rattle.std.proofs.lemmas.Bool.{cases_lt, ltb-false, le-ltb, and_cases, and_right, or_parts}
 use Rattle.theory.specs.Position.{Geometry, IsGeometry, max_position, aligned}
 use lib.IntN.{nat_abs}
 use Rattle.theory.specs.Placed.{AllAmong, Among, Chain, Frame, IsReached, Placed, covered, end_of, frame_length, is_padding}
 use Rattle.rebuilder.specs.Stored.{IsUnit}
 use Rattle.theory.specs.Units.{HasUnit, IsContiguous}
-use Rattle.theory.specs.Insert.{AreApart, Head, Insert, CrossesTerm, Below, OverWindow, Duplicate, Overlap, Stored, head_end, head_of, insert_answer, insert_answer_at, is_duplicate, overlaps, window_end}
+use Rattle.theory.specs.Insert.{AreApart, Head, Insert, CrossesTerm, Below, OverWindow, Duplicate, Overlap, Stored, head_of, insert_answer, insert_answer_at, is_duplicate, overlaps, window_end}
 use Rattle.theory.specs.Image.{IsWindow}
 use Rattle.theory.specs.ImageLaws.{held}
 use Rattle.rebuilder.specs.Held.{AreInOrder, AreLaid, IsNextStart, IsRunEnd, IsStart, put}
 use Rattle.rebuilder.specs.Seen.{Image, IsBehind, IsCount, IsFit, IsJoin, IsKept, IsNextUnit, MayHold, least, with_consumer, with_frame}
-use Rattle.rebuilder.proofs.Lists.{all_at, all_from, all_index, all_least, all_replicate, all_set, all_weaker, none_here, least_each, least_replicate, length_replicate}
-use Rattle.rebuilder.proofs.Order.{at_least, all_held, all_put, among_held, among_put, lower, order_held, order_put, put_has, put_keeps, raise}
+use Rattle.rebuilder.proofs.Lists.{all_at, all_from, all_index, all_least, all_replicate, all_set, all_weaker, none_here, least_each, length_replicate}
+use Rattle.rebuilder.proofs.Order.{at_least, all_held, all_put, among_held, lower, order_held, order_put, put_keeps, raise}
 use Rattle.rebuilder.proofs.Reach.{AreFull, is_contiguous, one_end, reached_here, reached_held, reached_in, reached_le, reached_more, reached_tail, unit_above, unit_at}
 
 -- ---- what follows

@@ -1,4 +1,4 @@
-use Rattle.std.proofs.Common.{◌<◌, ◌≤◌, List, subst}
+use Rattle.std.proofs.Common.{◌<◌, ◌≤◌, subst}
 use Rattle.std.specs.List.{AllByRecursion}
 use Rattle.theory.specs.Units.{IsContiguous}
 use Rattle.rebuilder.specs.Held.{IsStart}
