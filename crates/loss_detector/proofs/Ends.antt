@@ -1,5 +1,5 @@
 -- Where the first gap ends.
-use Rattle.std.proofs.Common.{◌≡◌, ℕ, ◌+◌, ◌*◌, ◌/◌, ◌<◌, ◌≤◌, ◌⊎◌, inl, inr, ⊎_elim, List, min, Option, None, Some, sym, subst, arith}
+use Rattle.std.proofs.Common.{◌≡◌, ℕ, ◌+◌, ◌*◌, ◌/◌, ◌<◌, ◌≤◌, ◌⊎◌, inl, inr, ⊎_elim, List, min, Option, None, Some, subst, arith}
 use Rattle.std.specs.Prelude.{MatchOption, unwrap_or}
 use Rattle.std.proofs.lemmas.Bool.{cases_lt}
 use Rattle.theory.specs.Placed.{Placed}
@@ -23,7 +23,7 @@ is_gap term frames high c bound end (Some q) above inside b next e =
       one_term = omega arith;
       empty = λ p unit l below u. next.empty p l (omega arith) u;
       ends = ⊎_elim
-        (λ (l : q < bound). let same : q ≡ end = omega arith in inl (subst (λ x. HasUnit frames x) same next.unit))
-        (λ (l : bound ≤ q). at_bound frames high (c / term * term + term) end (omega arith))
-        (cases_lt q bound);
+          (λ (l : q < bound). let same : q ≡ end = omega arith in inl (subst (λ x. HasUnit frames x) same next.unit))
+          (λ (l : bound ≤ q). at_bound frames high (c / term * term + term) end (omega arith))
+          (cases_lt q bound);
     }

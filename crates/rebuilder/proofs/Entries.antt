@@ -1,21 +1,19 @@
 -- The entries of a map as frames: what is found, what is put in, and what lies below an end.
-use Rattle.std.proofs.Common.{◌≡◌, ℕ, ◌+◌, ◌-◌, ◌<◌, ◌≤◌, ◌⊎◌, inl, inr, ⊎_elim, List, [], ◌∷◌, ◌++◌, map, Bor, Bool, true, false, Option, None, Some, refl, sym, ap, ◌∙◌, subst, arith, rules}
-use Rattle.std.specs.Prelude.{nat_le, nat_lt, nat_eq, ◌&&◌, IsSome, MatchOption}
-use Rattle.std.specs.List.{AllByRecursion, list_any}
+use Rattle.std.proofs.Common.{◌≡◌, ℕ, ◌-◌, ◌<◌, ◌≤◌, ◌⊎◌, inl, inr, ⊎_elim, List, [], ◌∷◌, map, Bor, Bool, true, false, Option, None, Some, refl, sym, ap, ◌∙◌, subst, arith, rules}
+use Rattle.std.specs.Prelude.{nat_lt, nat_eq, ◌&&◌, IsSome, MatchOption}
+use Rattle.std.specs.List.{list_any}
 use Rattle.std.specs.Map.{lookup}
 use Rattle.std.specs.BTreeMap.{BTreeMap, get, is_at, insert_entry, IsLowerBound}
-use Rattle.std.specs.BTreeMap.Range.{IsInRange, IsLtBy, IsRangeOf}
+use Rattle.std.specs.BTreeMap.Range.{IsInRange, IsRangeOf}
 use Rattle.std.specs.Option.{option_copied}
-use Rattle.std.specs.declared.ops.Bound.{Bound}
 use Rattle.std.specs.declared.ops.Bound.TheVariants.{Included, Excluded, Unbounded}
 use Rattle.std.proofs.lemmas.Map.Keys.{le_from_not_gt, ge_from_not_lt}
 use Rattle.std.specs.Ordering.{nat_cmp, is_eq, is_gt, is_lt, match_ordering}
-use Rattle.std.specs.declared.cmp.Ordering.{Ordering}
 use Rattle.std.specs.declared.cmp.Ordering.TheVariants.{Less, Equal, Greater}
-use Rattle.std.proofs.lemmas.Bool.{cases_Bool, cases_lt, cases_eq, cases_order, cond_both, cond-true, cond-false, ltb-true, ltb-false, lt-ltb, le-ltb, eq-eqb, ne_eqb, and_from, and_left, and_right, and_parts, both_ways}
+use Rattle.std.proofs.lemmas.Bool.{cases_Bool, cases_lt, cases_eq, cases_order, cond_both, cond-true, cond-false, lt-ltb, le-ltb, eq-eqb, ne_eqb, and_from, and_left, and_right, and_parts, both_ways}
 use Rattle.theory.specs.Placed.{Among, Frame, Placed, covered, end_of, frame_length, is_padding}
 use Rattle.theory.specs.Insert.{Head, head_end, head_of, is_duplicate, same_kind}
-use Rattle.rebuilder.specs.Held.{AreInOrder, AreLaid, IsNextStart, IsStart, all_placed, placed, put}
+use Rattle.rebuilder.specs.Held.{AreLaid, IsNextStart, IsStart, all_placed, placed, put}
 use Rattle.rebuilder.proofs.Lists.{all_at, any_here, none_here}
 use Rattle.rebuilder.proofs.Order.{apart}
 

@@ -1,21 +1,21 @@
 -- What holds of each image, and that it holds again after each call.
-use Rattle.std.proofs.Common.{◌≡◌, ℕ, zero, suc, ◌+◌, ◌-◌, ◌*◌, ◌/◌, ◌%◌, ◌^◌, ◌<◌, ◌≤◌, ◌⊎◌, inl, inr, ⊎_elim, List, [], ◌∷◌, map, length, min, max, Bool, true, false, cond, Option, None, Some, refl, sym, ap, ◌∙◌, subst, arith, length-set}
-use Rattle.std.specs.Prelude.{slice_index, slice_set, replicate, MatchOption, ℤ, pos, negsuc, nat_lt, ◌&&◌}
+use Rattle.std.proofs.Common.{◌≡◌, ℕ, ◌+◌, ◌-◌, ◌*◌, ◌/◌, ◌%◌, ◌^◌, ◌<◌, ◌≤◌, ◌⊎◌, inl, inr, ⊎_elim, List, [], ◌∷◌, map, length, min, max, Bool, true, false, cond, Option, None, Some, refl, sym, subst, arith, length-set}
+use Rattle.std.specs.Prelude.{slice_index, slice_set, replicate, MatchOption, ℤ, pos, negsuc, nat_lt}
 use Rattle.std.specs.List.{AllByRecursion, list_any}
 use Rattle.std.proofs.Math.Nat.{mul-le-mul_left, div-lt_iff_lt-mul}
-use Rattle.std.proofs.lemmas.Bool.{cases_lt, cases_Bool, ltb-true, ltb-false, lt-ltb, le-ltb, and_cases, or_parts}
+use Rattle.std.proofs.lemmas.Bool.{cases_lt, ltb-false, le-ltb, and_cases, and_right, or_parts}
 use Rattle.theory.specs.Position.{Geometry, IsGeometry, max_position, aligned}
 use lib.IntN.{nat_abs}
 use Rattle.theory.specs.Placed.{AllAmong, Among, Chain, Frame, IsReached, Placed, covered, end_of, frame_length, is_padding}
 use Rattle.rebuilder.specs.Stored.{IsUnit}
 use Rattle.theory.specs.Units.{HasUnit, IsContiguous}
-use Rattle.theory.specs.Insert.{Head, Insert, CrossesTerm, Below, OverWindow, Duplicate, Overlap, Stored, head_end, head_of, insert_answer, insert_answer_at, is_duplicate, overlaps, window_end}
+use Rattle.theory.specs.Insert.{AreApart, Head, Insert, CrossesTerm, Below, OverWindow, Duplicate, Overlap, Stored, head_of, insert_answer, insert_answer_at, is_duplicate, overlaps, window_end}
 use Rattle.theory.specs.Image.{IsWindow}
 use Rattle.theory.specs.ImageLaws.{held}
 use Rattle.rebuilder.specs.Held.{AreInOrder, AreLaid, IsNextStart, IsRunEnd, IsStart, put}
 use Rattle.rebuilder.specs.Seen.{Image, IsBehind, IsCount, IsFit, IsJoin, IsKept, IsNextUnit, MayHold, least, with_consumer, with_frame}
-use Rattle.rebuilder.proofs.Lists.{all_at, all_from, all_index, all_least, all_replicate, all_set, all_weaker, least_each, least_replicate, length_replicate}
-use Rattle.rebuilder.proofs.Order.{all_held, all_put, among_held, among_put, lower, order_held, order_put, put_has, put_keeps, raise}
+use Rattle.rebuilder.proofs.Lists.{all_at, all_from, all_index, all_least, all_replicate, all_set, all_weaker, none_here, least_each, length_replicate}
+use Rattle.rebuilder.proofs.Order.{at_least, all_held, all_put, among_held, lower, order_held, order_put, put_keeps, raise}
 use Rattle.rebuilder.proofs.Reach.{AreFull, is_contiguous, one_end, reached_here, reached_held, reached_in, reached_le, reached_more, reached_tail, unit_above, unit_at}
 
 -- ---- what follows
@@ -46,8 +46,8 @@ low_ends i r k =
     let low : (s : Placed) → IsFit i.geometry.term_length i.high s → end_of s ≤ 2 ^ 56 = λ s f. let m : end_of s ≤ i.high = f.marked in omega arith in
     all_weaker (IsFit i.geometry.term_length i.high) (λ s. end_of s ≤ 2 ^ 56) low i.held k.fit
 
-pub behind : (i : Image) (r : ℕ) → IsKept i r → AllByRecursion (λ p. p ≤ r) i.consumers
-behind i r k = all_weaker (IsBehind i.held i.join r) (λ p. p ≤ r) (λ p b. reached_le i.held p r b.reached) i.consumers k.behind
+pub behind : (i : Image) (r : ℕ) → IsKept i r → AllByRecursion (λ p. (i.join ≤ p) × (p ≤ r)) i.consumers
+behind i r k = all_weaker (IsBehind i.held i.join r) (λ p. (i.join ≤ p) × (p ≤ r)) (λ p b. (b.joined, reached_le i.held p r b.reached)) i.consumers k.behind
 
 pub low_least : (i : Image) (r : ℕ) → IsKept i r → least i.consumers ≤ max_position i.geometry
 low_least i r k =
@@ -243,7 +243,7 @@ overlapped crosses below over dup meets a b c d e =
 pub stands_at_end : (i : Image) (r consumer : ℕ) → IsKept i r → consumer < length i.consumers → (IsStart i.held (slice_index i.consumers consumer) → ⊥) → IsContiguous i.held (least i.consumers) (slice_index i.consumers consumer)
 stands_at_end i r consumer k l none =
     let p : ℕ = slice_index i.consumers consumer in
-    let le : p ≤ r = all_index (λ q. q ≤ r) i.consumers consumer l (behind i r k) in
+    let le : p ≤ r = (all_index (λ q. (i.join ≤ q) × (q ≤ r)) i.consumers consumer l (behind i r k)).1 in
     let waits : p < r → IsStart i.held p = all_index (λ q. q < r → IsStart i.held q) i.consumers consumer l (waiting i r k) in
     let same : r ≡ p = ⊎_elim (λ (h : p < r). absurd (none (waits h))) (λ (h : r ≤ p). omega arith) (cases_lt p r) in
     subst (λ q. IsContiguous i.held (least i.consumers) q) same (contiguous i r k)
@@ -259,3 +259,15 @@ may_store i r (pos p) w b n f k e unit eb en long h =
 may_store i r (negsuc m) w b n f k e unit eb en long h =
     let here : insert_answer_at i.geometry (map head_of i.held) (least i.consumers) i.window (negsuc m) b n ≡ Stored = subst (λ x. insert_answer_at i.geometry (map head_of i.held) (least i.consumers) i.window x b n ≡ Stored) e h in
     absurd (not_negative (nat_lt i.geometry.term_length (i.geometry.term_length - 1 - m % i.geometry.term_length + aligned n)) (subst IsStored (sym here) tt))
+
+-- ---- what a caller may know
+
+apart_heads : (low : ℕ) (ss : List Placed) → AreInOrder low ss → AreApart (map head_of ss)
+apart_heads low [] o = tt
+apart_heads low (s ∷ ss) o = (none_here (overlaps (head_of s)) head_of ss (λ t a. and_right (nat_lt s.at (end_of t)) (nat_lt t.at (end_of s)) (le-ltb t.at (end_of s) (at_least (end_of s) ss t o.1 a))), apart_heads (end_of s) ss o.1)
+
+pub held_apart : (i : Image) (r : ℕ) → IsKept i r → AreApart (map head_of i.held)
+held_apart i r k = apart_heads (least i.consumers) i.held k.order
+
+pub held_from : (i : Image) (r : ℕ) → IsKept i r → AllByRecursion (λ s. least i.consumers ≤ s.at) i.held
+held_from i r k = all_from (λ (s : Placed). least i.consumers ≤ s.at) i.held (λ s a. at_least (least i.consumers) i.held s k.order a)

@@ -1,8 +1,8 @@
 -- Elements of lists, and what holds of each.
-use Rattle.std.proofs.Common.{◌≡◌, ℕ, zero, suc, ◌+◌, ◌<◌, ◌≤◌, ◌⊎◌, inl, inr, ⊎_elim, List, [], ◌∷◌, map, min, length, refl, sym, ap, subst, arith}
-use Rattle.std.specs.Prelude.{Bool, true, false, slice_set, slice_index, replicate, ◌||◌}
+use Rattle.std.proofs.Common.{◌≡◌, ℕ, zero, suc, ◌<◌, ◌≤◌, inl, inr, ⊎_elim, List, [], ◌∷◌, map, min, length, refl, sym, ap, subst, arith}
+use Rattle.std.specs.Prelude.{Bool, true, false, slice_set, slice_index, replicate}
 use Rattle.std.specs.List.{AllByRecursion, fold, list_any}
-use Rattle.std.proofs.lemmas.Bool.{cases_lt, or_parts, or_left, or_right, or_from}
+use Rattle.std.proofs.lemmas.Bool.{cases_lt, or_left, or_right, or_from}
 use Rattle.theory.specs.Placed.{Among}
 use Rattle.rebuilder.specs.Seen.{least}
 

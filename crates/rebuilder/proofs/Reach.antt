@@ -1,11 +1,11 @@
 -- Frames that lead from one position to another, and the contiguous end.
-use Rattle.std.proofs.Common.{◌≡◌, ℕ, ◌+◌, ◌-◌, ◌*◌, ◌/◌, ◌%◌, ◌<◌, ◌≤◌, ◌⊎◌, inl, inr, ⊎_elim, List, [], ◌∷◌, ◌++◌, refl, sym, ap, ◌∙◌, subst, arith}
+use Rattle.std.proofs.Common.{◌≡◌, ℕ, ◌+◌, ◌-◌, ◌*◌, ◌/◌, ◌<◌, ◌≤◌, ◌⊎◌, ⊎_elim, List, [], ◌∷◌, ◌++◌, refl, sym, subst, arith}
 use Rattle.std.specs.List.{AllByRecursion}
-use Rattle.std.proofs.lemmas.Bool.{cases_lt, cases_eq, cases_order}
+use Rattle.std.proofs.lemmas.Bool.{cases_lt, cases_order}
 use Rattle.theory.specs.Placed.{AllAmong, Among, Chain, IsReached, Placed, covered, end_of, frame_length}
 use Rattle.theory.specs.Units.{HasUnit, IsContiguous}
 use Rattle.theory.specs.ImageLaws.{held}
-use Rattle.rebuilder.specs.Held.{AreInOrder, IsNextStart, IsStart}
+use Rattle.rebuilder.specs.Held.{AreInOrder, IsStart}
 use Rattle.rebuilder.proofs.Lists.{all_at, all_from, all_weaker}
 use Rattle.rebuilder.proofs.Order.{apart, at_least, held_among}
 

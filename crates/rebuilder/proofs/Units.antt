@@ -1,8 +1,8 @@
 -- What the laws on units say.
-use Rattle.std.proofs.Common.{◌≡◌, ℕ, ◌+◌, ◌*◌, ◌<◌, ◌≤◌, ◌⊎◌, inl, inr, ⊎_elim, List, [], ◌∷◌, refl, sym, subst, arith}
+use Rattle.std.proofs.Common.{◌≡◌, ℕ, ◌+◌, ◌*◌, ◌<◌, ◌≤◌, inl, inr, ⊎_elim, List, [], ◌∷◌, sym, subst, arith}
 use Rattle.std.proofs.lemmas.Bool.{cases_lt}
 use Rattle.theory.specs.Placed.{Among, Placed}
-use Rattle.theory.specs.Units.{HasUnit, IsContiguous}
+use Rattle.theory.specs.Units.{HasUnit}
 use Rattle.rebuilder.specs.Held.{put}
 use Rattle.rebuilder.specs.Laws.{MoreUnitsReachFurther, PutAddsUnits}
 use Rattle.rebuilder.proofs.Order.{among_put, put_has, put_keeps}

@@ -1,6 +1,6 @@
 -- The frames of the code as frames of a stream, and what a reader is shown of one.
 use Rattle.std.specs.Prelude.{◌≡◌, ℕ, ◌+◌, ◌≤◌, ◌^◌, Bool, true, false, List, [], length}
-use Rattle.theory.specs.Placed.{Placed, Frame, Data, Pad}
+use Rattle.theory.specs.Placed.{Frame, Data, Pad}
 use Rattle.position.specs.declared.head.FrameKind.{FrameKind}
 use Rattle.position.specs.declared.head.FrameKind.TheVariants as kinds
 use Rattle.position.specs.declared.head.FrameHead.{FrameHead}

@@ -1,5 +1,5 @@
 -- Which frames an image takes, and at which positions.
-use Rattle.std.specs.Prelude.{◌≡◌, ℕ, ◌%◌, ⊤, ℤ, pos, negsuc}
+use Rattle.std.specs.Prelude.{◌≡◌, ◌%◌, ⊤, ℤ, pos, negsuc}
 use Rattle.theory.specs.Placed as placed
 use Rattle.theory.specs.Insert as meaning
 use Rattle.frames.specs.declared.frame.Frame.{Frame}

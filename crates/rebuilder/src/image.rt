@@ -1,10 +1,11 @@
-ghost use Rattle.std.specs.Prelude.{◌≡◌, ◌↔◌, ◌<◌, ◌≤◌, ◌^◌, [], length, replicate, slice_index, IfOk, IsErrOf, IsTrue, ℕ};
+ghost use Rattle.std.specs.Prelude.{◌≡◌, ◌↔◌, ◌<◌, ◌≤◌, ◌^◌, [], length, map, replicate, slice_index, IfOk, IsErrOf, IsTrue, ℕ};
 ghost use Rattle.std.specs.List.{AllByRecursion};
 ghost use Rattle.theory.specs.Position.{IsGeometry, max_position};
 ghost use Rattle.theory.specs.Image.{IsWindow};
+ghost use Rattle.theory.specs.Insert.{AreApart, head_of};
 ghost use Rattle.theory.specs.Units.{HasUnit, IsContiguous};
 ghost use Rattle.rebuilder.specs.Held.{IsStart};
-ghost use Rattle.rebuilder.specs.Seen.{IsCount, IsJoin, least};
+ghost use Rattle.rebuilder.specs.Seen.{IsCount, IsFit, IsJoin, least};
 
 use crate::fault::ImageError;
 use crate::held_frames::HeldFrames;
@@ -138,7 +139,7 @@ impl Image {
     pub fn rebuilt(&self) -> u64
         ensures value { IsContiguous self.now.held (least self.now.consumers) result }
         ensures marked { result ≤ self.now.high }
-        ensures behind { AllByRecursion (λ p. p ≤ result) self.now.consumers }
+        ensures behind { AllByRecursion (λ p. (self.now.join ≤ p) × (p ≤ result)) self.now.consumers }
         ensures waiting { AllByRecursion (λ p. p < result → IsStart self.now.held p) self.now.consumers }
     {
         self.rebuilt
@@ -150,6 +151,16 @@ impl Image {
         ensures low { result ≤ max_position self.now.geometry }
     {
         self.high_water
+    }
+
+    /// Does nothing, and says what holds of each image, whatever it was handed: its frames don't overlap, each starts in
+    /// whole units at or above the least consumer, and ends within its term and at or below the high-water mark.
+    pub fn held_apart(&self)
+        ensures apart { AreApart (map head_of self.now.held) }
+        ensures fit { AllByRecursion (IsFit self.now.geometry.term_length self.now.high) self.now.held }
+        ensures from { AllByRecursion (λ s. least self.now.consumers ≤ s.at) self.now.held }
+    {
+        let _ = &self.frames;
     }
 
     /// The position of the consumer that is furthest behind.

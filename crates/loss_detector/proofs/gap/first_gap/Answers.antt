@@ -1,4 +1,4 @@
-use Rattle.std.proofs.Common.{◌≡◌, ℕ, ◌+◌, ◌-◌, ◌*◌, ◌/◌, ◌<◌, min, refl, sym, ap, ◌∙◌, subst, arith}
+use Rattle.std.proofs.Common.{◌≡◌, ℕ, ◌+◌, ◌-◌, ◌*◌, ◌/◌, ◌<◌, min, refl, ap, ◌∙◌, subst, arith}
 use Rattle.theory.specs.Position.{Geometry}
 use Rattle.theory.specs.Gap.{IsGap}
 use Rattle.loss_detector.proofs.Ends.{is_gap}

@@ -1,4 +1,4 @@
-use Rattle.std.proofs.Common.{sym, ◌∙◌, ◌≤◌, arith}
+use Rattle.std.proofs.Common.{sym, ◌∙◌, arith}
 use Rattle.rebuilder.specs.Held.{all_placed}
 use Rattle.rebuilder.proofs.Entries.{all_from_first}
 use Rattle.rebuilder.proofs.Order.{held_all}

@@ -1,4 +1,4 @@
-use Rattle.std.proofs.Common.{sym, ap, ◌∙◌, refl}
+use Rattle.std.proofs.Common.{◌∙◌, refl}
 use Rattle.theory.specs.Placed.{Placed}
 use Rattle.rebuilder.specs.Kinds.{is_pad}
 use Rattle.rebuilder.proofs.Entries.{like_none, like_found}

@@ -1,4 +1,4 @@
-use Rattle.std.proofs.Common.{◌≡◌, ◌≤◌, ◌^◌, ◌-◌}
+use Rattle.std.proofs.Common.{◌^◌, ◌-◌}
 use Rattle.theory.specs.Placed.{IsReached}
 use Rattle.rebuilder.proofs.held_frames.HeldFrames.run_end.Given as goal
 

@@ -1,7 +1,7 @@
 use Rattle.std.proofs.Common.{◌≡◌, ℕ, ◌+◌, ◌<◌, ◌≤◌, ◌^◌, List, length, sym, ap, ◌∙◌, subst, arith}
 use Rattle.std.specs.Prelude.{slice_index, slice_set}
 use Rattle.std.proofs.lemmas.List.{get_or_read}
-use Rattle.theory.specs.Placed.{Among, Placed, covered, end_of}
+use Rattle.theory.specs.Placed.{Among, Placed, end_of}
 use Rattle.theory.specs.ImageLaws.{held}
 use Rattle.rebuilder.specs.Seen.{Image, IsKept, least}
 use Rattle.rebuilder.proofs.Lists.{all_at}

@@ -1,7 +1,7 @@
 use lib.IntN.{nat_abs}
 use mir.Syntax.{w64}
 use mir.Val.{to_z, of_z}
-use Rattle.std.proofs.Common.{◌≡◌, map, sym, ap, ◌∙◌, subst, arith, rules}
+use Rattle.std.proofs.Common.{◌≡◌, map, sym, ap, ◌∙◌, subst, rules}
 use Rattle.std.proofs.lemmas.Int.{to_z-of_z}
 use Rattle.theory.specs.Placed.{is_padding, frame_length}
 use Rattle.rebuilder.specs.declared.answer.Insert.TheVariants as answers

@@ -1,4 +1,4 @@
-use Rattle.std.proofs.Common.{◌<◌, ◌≤◌, List, subst}
+use Rattle.std.proofs.Common.{◌<◌, ◌≤◌, subst}
 use Rattle.std.specs.List.{AllByRecursion}
 use Rattle.theory.specs.Units.{IsContiguous}
 use Rattle.rebuilder.specs.Held.{IsStart}
@@ -10,7 +10,7 @@ pub returns-clause-value : goal.returns-clause-value
 returns-clause-value c = subst (λ (i : Image). IsContiguous i.held (least i.consumers) c.self.inside.rebuilt) c.self.view_is (contiguous _ _ c.self.invariant)
 
 pub returns-clause-behind : goal.returns-clause-behind
-returns-clause-behind c = subst (λ (i : Image). AllByRecursion (λ p. p ≤ c.self.inside.rebuilt) i.consumers) c.self.view_is (behind _ _ c.self.invariant)
+returns-clause-behind c = subst (λ (i : Image). AllByRecursion (λ p. (i.join ≤ p) × (p ≤ c.self.inside.rebuilt)) i.consumers) c.self.view_is (behind _ _ c.self.invariant)
 
 pub returns-clause-waiting : goal.returns-clause-waiting
 returns-clause-waiting c = subst (λ (i : Image). AllByRecursion (λ p. p < c.self.inside.rebuilt → IsStart i.held p) i.consumers) c.self.view_is (waiting _ _ c.self.invariant)
