@@ -5,11 +5,13 @@
 #![tactic(auto)]
 
 mod fault;
+mod gap;
 mod geometry;
 mod head;
 mod lengths;
 
 pub use fault::GeometryError;
+pub use gap::Gap;
 pub use geometry::{Geometry, Place};
 pub use head::{FrameHead, FrameKind};
 pub use lengths::{align32, partition_of};

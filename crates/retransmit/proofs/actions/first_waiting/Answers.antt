@@ -1,0 +1,22 @@
+use Rattle.std.proofs.Common.{◌≡◌, ◌+◌, ◌++◌, ◌∷◌, [], Some, false, map, take, get_or, sym, ap, ◌∙◌}
+use Rattle.std.specs.Option.{option_map}
+use Rattle.std.proofs.lemmas.List.{map_more}
+use Rattle.theory.specs.Resend.{first_due}
+use Rattle.retransmit.specs.declared.action.Action.{Action}
+use Rattle.retransmit.specs.Handler.{meaning}
+use Rattle.retransmit.proofs.Due.{due_of_first, due_of_others}
+use Rattle.retransmit.proofs.actions.first_waiting.Goals as goal
+use Rattle.retransmit.proofs.actions.first_waiting.Goals.{then-not-action, else-not-action}
+
+abbrev none : Action
+none = record { at = 0; length = 0; lingers = false; until = 0 }
+
+pub loop-action-preserved : goal.loop-action-preserved
+loop-action-preserved c =
+    let i = c.loop-action.action-index in
+    let xs = c.args.actions.now in
+    let a = meaning (get_or xs i none) in
+    let more = ap first_due (map_more meaning xs i none c.loop-action-test.true) in
+    elim c.if-not-action.branch
+    [ then-not-action w ↦ ap (option_map meaning) w.first-is ∙ sym (more ∙ due_of_first (map meaning (take i xs)) a w.if-not-action.true)
+    | else-not-action w ↦ ap (option_map meaning) w.first-is ∙ c.loop-action.invariant ∙ sym (more ∙ due_of_others (map meaning (take i xs)) a w.if-not-action.false) ]

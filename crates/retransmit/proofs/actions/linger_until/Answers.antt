@@ -1,0 +1,21 @@
+use Rattle.std.proofs.Common.{◌≡◌, ◌<◌, length, false, get_or, arith}
+use Rattle.retransmit.specs.declared.action.Action.{Action}
+use Rattle.retransmit.specs.Handler.{meaning, lingering_until}
+use Rattle.retransmit.proofs.Due.{written, written_rest}
+use Rattle.retransmit.proofs.actions.linger_until.Goals as goal
+
+abbrev none : Action
+none = record { at = 0; length = 0; lingers = false; until = 0 }
+
+pub loop-action-preserved : goal.loop-action-preserved
+loop-action-preserved c =
+    let i = c.loop-action.action-index in
+    let xs = c.loop-action.actions in
+    let ys = c.args.actions.now in
+    let same = c.loop-action.auto.actions in
+    let lx : i < length xs = omega (arith, same, c.loop-action-test.true) in
+    let ly : i < length ys = omega (arith, same, c.loop-action-test.true) in
+    record {
+      done = written meaning (lingering_until c.args.at c.args.until) xs ys i c.lingering.result none lx ly c.loop-action.invariant.done c.loop-action.invariant.rest c.lingering.ensures;
+      rest = written_rest xs ys i c.lingering.result none lx ly c.loop-action.invariant.rest
+    }
