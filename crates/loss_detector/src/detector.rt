@@ -1,8 +1,8 @@
 ghost use Rattle.std.specs.Prelude.{◌≡◌, None};
 ghost use Rattle.theory.specs.Timing.{scan};
-ghost use Rattle.loss_detector.specs.Gaps.{gap_of};
+ghost use Rattle.position.specs.Gaps.{gap_of};
 
-use crate::gap::Gap;
+use position::Gap;
 use std::marker::Model;
 
 /// Nanoseconds for which a gap is watched before it is told.

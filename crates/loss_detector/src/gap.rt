@@ -2,18 +2,10 @@ ghost use Rattle.std.specs.Prelude.{ℕ};
 ghost use Rattle.theory.specs.Gap.{IsAnswer};
 ghost use Rattle.theory.specs.Units.{IsContiguous};
 ghost use Rattle.rebuilder.specs.Seen.{least};
-ghost use Rattle.loss_detector.specs.Gaps.{gap_of};
+ghost use Rattle.position.specs.Gaps.{gap_of};
 
+use position::Gap;
 use rebuilder::Image;
-
-/// A range of a stream that an image misses.
-#[derive(Clone, Copy, Debug, PartialEq, Eq)]
-pub struct Gap {
-    /// The position at which it begins: where the image was rebuilt to.
-    pub start: u64,
-    /// In bytes, more than 0.
-    pub length: u64,
-}
 
 /// The first gap of an image: from the contiguous end to the next position that holds something, the high-water mark
 /// or the end of the term, whichever comes first. There is none where the contiguous end is the mark.

@@ -8,7 +8,7 @@ mod detector;
 mod gap;
 
 pub use detector::LossDetector;
-pub use gap::{Gap, first_gap};
+pub use gap::first_gap;
 
 #[cfg(test)]
 mod tests;

@@ -1,6 +1,6 @@
 use super::*;
 use frames::{Frame, read_frame};
-use position::Geometry;
+use position::{Gap, Geometry};
 use rebuilder::{Image, Insert};
 use std::process::Abort;
 use std::test::*;
