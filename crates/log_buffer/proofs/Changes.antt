@@ -1,25 +1,22 @@
 -- What a claim, a store and a commit leave of the slots.
-use Rattle.std.proofs.Common.{◌≡◌, ℕ, zero, suc, ◌+◌, ◌-◌, ◌*◌, ◌<◌, ◌≤◌, ⊎_elim, inl, inr, Bool, true, false, List, [], ◌∷◌, ◌++◌, length, map, take, drop, replicate, get_or, set, Some, refl, sym, ap, ◌∙◌, subst, All, append_assoc, length-append, length-drop, length-set, arith}
+use Rattle.std.proofs.Common.{◌≡◌, ℕ, zero, suc, ◌+◌, ◌<◌, ◌≤◌, ⊎_elim, Bool, true, false, List, [], ◌∷◌, ◌++◌, length, map, take, drop, get_or, set, Some, refl, sym, ap, ◌∙◌, subst, All, arith}
 use Rattle.std.specs.Prelude.{if◌then◌else◌}
 use Rattle.std.specs.List.{slice_get}
-use Rattle.std.specs.Int.{w64, to_le_bytes}
 use Rattle.std.proofs.lemmas.Bool.{cases_eq}
 use Rattle.std.proofs.lemmas.Bool.{false≢true}
 use Rattle.std.proofs.lemmas.Option.{slice_get_within, get_or_from_slice_get}
-use Rattle.std.proofs.lemmas.List.{set-get_or, get_or-map, map_push, length-map, length-take-le, take-replicate, drop-replicate, drop-drop, drop_at, length-replicate}
+use Rattle.std.proofs.lemmas.List.{set-get_or, get_or-map, length-map, drop-drop}
 use Rattle.std.proofs.Math.Seq.{map-set_same}
 use Rattle.block.specs.Bytes.{with_word}
-use Rattle.theory.specs.Position.{aligned}
 use Rattle.theory.specs.Placed.{Data, Frame}
 use Rattle.theory.specs.Entry.{Entry}
-use Rattle.theory.specs.Tiling.{Tiles}
 use Rattle.theory.specs.Wire.{front}
 use Rattle.theory.specs.Bytes.{Identity, bytes_of}
 use Rattle.log_buffer.specs.Log.{claim_of, published, rest_of}
 use Rattle.log_buffer.specs.Slots.{IsWritten, drafts_of, entries_of, entry_of, outline, payload_in, range, rest_in}
 use Rattle.log_buffer.specs.declared.entry.Claimed.{Claimed}
 use Rattle.log_buffer.specs.declared.entry.Slot.{Slot}
-use Rattle.log_buffer.proofs.StoredWords.{part_here, rest_of_word, first_of_word, word_first, word_size}
+use Rattle.log_buffer.proofs.StoredWords.{rest_of_word, first_of_word}
 use Rattle.log_buffer.proofs.Slots.{map_same, map_others, all_others}
 
 -- the slot of an open claim

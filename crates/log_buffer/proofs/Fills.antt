@@ -1,13 +1,13 @@
 -- The words of a frame behind its first one.
-use Rattle.std.proofs.Common.{◌≡◌, ℕ, ℤ, zero, suc, ◌+◌, ◌-◌, ◌*◌, ◌/◌, ◌%◌, ◌<◌, ◌≤◌, ⊎_elim, List, [], ◌∷◌, ◌++◌, length, take, drop, replicate, get_or, set, min, refl, sym, ap, ◌∙◌, subst, append_assoc, length-append, length-drop, length-set, get_or-set_same, arith}
+use Rattle.std.proofs.Common.{◌≡◌, ℕ, ℤ, ◌+◌, ◌-◌, ◌*◌, ◌/◌, ◌<◌, ◌≤◌, ⊎_elim, List, [], ◌++◌, length, take, drop, replicate, min, refl, sym, ap, ◌∙◌, append_assoc, length-append, length-drop, get_or-set_same, arith}
 use Rattle.std.specs.Int.{w32, w64, cast_unsigned, to_le_bytes}
 use Rattle.std.proofs.lemmas.Bool.{cases_lt}
-use Rattle.std.proofs.lemmas.List.{take-append-drop, take-append-le, take-take, drop-take, drop-drop, drop_all, drop-append-le, take_all, append-nil, length-take-le, length-replicate, take-replicate, drop-replicate, set-set, set-get_or, get_or_past}
+use Rattle.std.proofs.lemmas.List.{take-append-drop, take-append-le, take-take, drop-take, drop-drop, drop-append-le, take_all, append-nil, length-take-le, length-replicate, take-replicate, drop-replicate, set-set, set-get_or, get_or_past}
 use Rattle.std.proofs.Math.Seq.{take-append-add, drop-append-add}
 use Rattle.block.specs.Bytes.{with_word}
 use Rattle.theory.specs.Position.{aligned, id_of, place_of}
-use Rattle.theory.specs.Wire.{header_bytes, le32, le64, zeros_after}
-use Rattle.theory.specs.Bytes.{Identity, header_at}
+use Rattle.theory.specs.Wire.{le32, zeros_after}
+use Rattle.theory.specs.Bytes.{Identity}
 use Rattle.log_buffer.specs.Log.{Log, draft_of, header_rest, rest_of, with_draft}
 use Rattle.log_buffer.specs.declared.entry.Claimed.{Claimed}
 use Rattle.log_buffer.proofs.StoredWords.{word_behind}

@@ -1,16 +1,15 @@
 -- What holds of a log's parts goes on holding.
-use Rattle.std.proofs.Common.{◌≡◌, ℕ, zero, suc, ◌+◌, ◌-◌, ◌*◌, ◌/◌, ◌%◌, ◌<◌, ◌≤◌, ⊎_elim, Bool, true, false, cond, List, [], ◌∷◌, ◌++◌, length, map, take, drop, replicate, get_or, set, refl, sym, ap, ◌∙◌, subst, All, length-append, length-drop, length-set, get_or-set_same, get_or-set_other, arith}
+use Rattle.std.proofs.Common.{◌≡◌, ℕ, ◌+◌, ◌-◌, ◌*◌, ◌/◌, ◌%◌, ◌<◌, ◌≤◌, ⊎_elim, Bool, true, false, cond, List, [], ◌∷◌, ◌++◌, length, map, take, drop, replicate, get_or, set, refl, sym, ap, ◌∙◌, subst, length-drop, length-set, get_or-set_same, get_or-set_other, arith}
 use Rattle.std.specs.Prelude.{◌==◌, slice_index}
 use Rattle.std.specs.List.{sum_by}
 use Rattle.std.specs.Int.{w64, to_le_bytes}
-use Rattle.std.proofs.lemmas.Bool.{cases_eq, cases_Bool, false≢true, eq-eqb, ne_eqb}
+use Rattle.std.proofs.lemmas.Bool.{cases_eq, false≢true, eq-eqb, ne_eqb}
 use Rattle.std.proofs.lemmas.List.{length_push, map_push, length-take-le, take-replicate, drop-replicate, drop-drop}
 use Rattle.std.proofs.lemmas.List.Sums.{sum_by-cons}
 use Rattle.std.proofs.lemmas.Nat.{div-add-mod'}
 use Rattle.block.specs.Bytes.{with_word}
 use Rattle.theory.specs.Position.{aligned}
-use Rattle.theory.specs.Placed.{Data}
-use Rattle.theory.specs.Entry.{Entry, entry_end, length_of}
+use Rattle.theory.specs.Entry.{Entry, length_of}
 use Rattle.theory.specs.Tiling.{InOneTerm, Tiles, share_of}
 use Rattle.theory.specs.Wire.{front}
 use Rattle.theory.specs.Bytes.{Identity}
@@ -18,7 +17,7 @@ use Rattle.log_buffer.specs.Log.{rest_of}
 use Rattle.log_buffer.specs.Slots.{IsInside, IsKept, IsWritten, drafts_of, outline, range}
 use Rattle.log_buffer.specs.declared.entry.Claimed.{Claimed}
 use Rattle.log_buffer.specs.declared.entry.Slot.{Slot}
-use Rattle.log_buffer.proofs.StoredWords.{part_here, part_above, word_size, word_first}
+use Rattle.log_buffer.proofs.StoredWords.{part_here, part_above, word_size}
 use Rattle.log_buffer.proofs.Slots.{all_others, all_push, range_apart}
 use Rattle.log_buffer.proofs.Shares.{share_cons, share_push, tiles_push, total}
 use Rattle.log_buffer.proofs.Changes.{LeavesOthers, Opened, draft_is, committed_outlines, committed_written, set_committed, stored_written}

@@ -1,19 +1,18 @@
 -- What holds of every log, and which readers stand where they did.
-use Rattle.std.proofs.Common.{◌≡◌, ℕ, zero, suc, ◌+◌, ◌-◌, ◌*◌, ◌<◌, ◌≤◌, ◌⊎◌, ⊎_elim, inl, inr, Bool, true, false, List, [], ◌∷◌, ◌++◌, length, map, take, drop, get_or, set, Some, refl, sym, ap, ◌∙◌, subst, All, length-append, length-set, arith}
+use Rattle.std.proofs.Common.{◌≡◌, ℕ, zero, suc, ◌+◌, ◌<◌, ◌≤◌, ⊎_elim, inl, inr, Bool, true, List, [], ◌∷◌, ◌++◌, length, take, get_or, set, Some, refl, sym, ap, ◌∙◌, subst, length-append, length-set, arith}
 use Rattle.std.specs.List.{AllByRecursion, slice_get}
-use Rattle.std.specs.Prelude.{slice_index, if◌then◌else◌}
+use Rattle.std.specs.Prelude.{slice_index}
 use Rattle.std.proofs.lemmas.Bool.{cases_lt, false≢true}
 use Rattle.std.proofs.lemmas.Option.{get_or_from_slice_get, slice_get_within}
 use Rattle.std.proofs.lemmas.List.{take-append-le, take-set-le, take_more, get_or-set_same, get_or-set_other, length-map}
 use Rattle.theory.specs.Position.{aligned}
-use Rattle.theory.specs.Placed.{Among, Data, Placed}
-use Rattle.theory.specs.Entry.{Entry, IsEntry, committed, entry_end}
+use Rattle.theory.specs.Entry.{Entry, entry_end}
 use Rattle.theory.specs.Messages.{is_whole}
 use Rattle.theory.specs.Tiling.{InOneTerm, Tiles}
 use Rattle.theory.specs.Bytes.{Identity}
 use Rattle.log_buffer.specs.Log.{IsLog, IsOpen, Log, claim_of, published, term_of}
 use Rattle.log_buffer.specs.Reader.{HasRead, IsAt, Reader}
-use Rattle.log_buffer.specs.Slots.{IsInside, IsKept, drafts_of, entries_of, entry_of, outline, range, rest_in}
+use Rattle.log_buffer.specs.Slots.{IsInside, IsKept, drafts_of, entries_of, entry_of, range, rest_in}
 use Rattle.log_buffer.specs.declared.entry.Claimed.{Claimed}
 use Rattle.log_buffer.specs.declared.entry.Slot.{Slot}
 use Rattle.log_buffer.proofs.Shown.{shown_log}

@@ -1,12 +1,12 @@
 -- A log that was just opened, and its readers.
-use Rattle.std.proofs.Common.{◌≡◌, ℕ, ◌+◌, ◌-◌, ◌*◌, ◌/◌, ◌%◌, ◌<◌, ◌≤◌, ◌^◌, inl, Bool, false, List, [], ◌∷◌, length, map, take, drop, replicate, get_or, refl, sym, ap, ◌∙◌, subst, All, arith}
+use Rattle.std.proofs.Common.{◌≡◌, ℕ, ◌+◌, ◌-◌, ◌*◌, ◌/◌, ◌%◌, ◌<◌, ◌≤◌, ◌^◌, inl, false, List, [], length, take, replicate, get_or, refl, sym, ap, ◌∙◌, subst, All, arith}
 use Rattle.std.proofs.lemmas.List.{drop-replicate, get_or-replicate, length-replicate, take-replicate}
 use Rattle.std.proofs.lemmas.Option.{get_or_from_slice_get}
 use Rattle.theory.specs.Position.{IsGeometry, max_position}
 use Rattle.theory.specs.Bytes.{Identity, IsIdentity}
 use Rattle.log_buffer.specs.Log.{Log, fresh}
 use Rattle.log_buffer.specs.Reader.{AreReaders, IsAt, Reader}
-use Rattle.log_buffer.specs.Slots.{IsKept, drafts_of, entries_of}
+use Rattle.log_buffer.specs.Slots.{IsKept}
 use Rattle.log_buffer.specs.declared.entry.Slot.{Slot}
 use Rattle.log_buffer.proofs.Shown.{shown_log}
 

@@ -1,18 +1,18 @@
 -- What a reader finds at its position.
-use Rattle.std.proofs.Common.{◌≡◌, ℕ, zero, suc, ◌+◌, ◌-◌, ◌*◌, ◌<◌, ◌≤◌, ◌⊎◌, ⊎_elim, inl, inr, Bool, true, false, List, [], ◌∷◌, ◌++◌, length, map, take, drop, get_or, set, Some, refl, sym, ap, ◌∙◌, subst, All, length-append, length-drop, arith}
-use Rattle.std.specs.List.{AllByRecursion, slice_get}
+use Rattle.std.proofs.Common.{◌≡◌, ℕ, zero, suc, ◌+◌, ◌-◌, ◌<◌, ◌≤◌, ◌⊎◌, ⊎_elim, inl, inr, Bool, true, false, List, [], ◌∷◌, ◌++◌, length, map, take, drop, get_or, Some, refl, sym, ap, ◌∙◌, subst, length-append, length-drop, arith}
+use Rattle.std.specs.List.{slice_get}
 use Rattle.std.specs.Prelude.{if◌then◌else◌}
-use Rattle.std.proofs.lemmas.Bool.{cases_Bool, cases_lt, cases_order, false≢true}
-use Rattle.std.proofs.lemmas.Option.{slice_get-get_or, slice_get_within}
+use Rattle.std.proofs.lemmas.Bool.{cases_order, false≢true}
+use Rattle.std.proofs.lemmas.Option.{slice_get-get_or}
 use Rattle.std.proofs.lemmas.List.{append-nil, drop-drop, drop-take, drop_all, get_or-map, length-map, length-take-le, take-take, take_all}
 use Rattle.block.specs.Bytes.{with_front}
 use Rattle.theory.specs.Position.{aligned}
 use Rattle.theory.specs.Placed.{Among, Data, Placed, place_all}
-use Rattle.theory.specs.Entry.{Entry, committed, entry_end}
+use Rattle.theory.specs.Entry.{committed, entry_end}
 use Rattle.theory.specs.Tiling.{Tiles}
 use Rattle.theory.specs.Bytes.{Identity}
-use Rattle.log_buffer.specs.Log.{Log, published, term_of}
-use Rattle.log_buffer.specs.Reader.{HasRead, IsAt, Reader}
+use Rattle.log_buffer.specs.Log.{Log, published}
+use Rattle.log_buffer.specs.Reader.{IsAt, Reader}
 use Rattle.log_buffer.specs.Slots.{IsInside, IsKept, entries_of, entry_of, outline, payload_in, range}
 use Rattle.log_buffer.specs.declared.entry.Slot.{Slot}
 use Rattle.log_buffer.proofs.Shares.{tiles_entries, total}

@@ -1,5 +1,5 @@
 -- What the calls on an open claim show.
-use Rattle.std.proofs.Common.{◌≡◌, ℕ, zero, suc, ◌+◌, ◌-◌, ◌*◌, ◌/◌, ◌<◌, ◌≤◌, Bool, true, List, [], ◌∷◌, ◌++◌, length, map, take, drop, replicate, get_or, set, Some, refl, sym, ap, ◌∙◌, subst, length-append, length-drop, arith}
+use Rattle.std.proofs.Common.{◌≡◌, ℕ, ◌+◌, ◌-◌, ◌*◌, ◌/◌, ◌<◌, ◌≤◌, Bool, true, List, [], ◌∷◌, ◌++◌, length, take, drop, replicate, get_or, set, Some, refl, sym, ap, ◌∙◌, subst, arith}
 use Rattle.std.specs.List.{slice_get}
 use Rattle.std.specs.Prelude.{slice_index}
 use Rattle.std.specs.Int.{w64, to_le_bytes}
@@ -13,10 +13,9 @@ use Rattle.log_buffer.specs.Log.{IsDrafted, IsOpen, Log, claim_of, draft_of, dra
 use Rattle.log_buffer.specs.Slots.{IsInside, IsKept, drafts_of, entries_of, entry_of, range, rest_in}
 use Rattle.log_buffer.specs.declared.entry.Claimed.{Claimed}
 use Rattle.log_buffer.specs.declared.entry.Slot.{Slot}
-use Rattle.log_buffer.proofs.StoredWords.{word_first}
-use Rattle.log_buffer.proofs.Changes.{Opened, committed_drafts, committed_entries, draft_is, opened, set_committed, stored_drafts, stored_entries}
+use Rattle.log_buffer.proofs.Changes.{Opened, committed_drafts, committed_entries, opened, set_committed, stored_drafts, stored_entries}
 use Rattle.log_buffer.proofs.Shown.{shown_log}
-use Rattle.log_buffer.proofs.Keeps.{Stands, claimed_slot, here, kept_claim, kept_commit, kept_store, new_range, others, payload_size, draft_size, stands}
+use Rattle.log_buffer.proofs.Keeps.{Stands, claimed_slot, here, kept_claim, kept_commit, kept_store, new_range, others, payload_size, stands}
 
 abbrev whole_log : Identity → ℕ → ℕ → ℕ → Bool → Bool → List ℕ → List Entry → List (List ℕ) → Log
 whole_log i start tail limit on off positions entries drafts = record {

@@ -1,8 +1,8 @@
 -- What a contract sees of a log, and how its calls change it.
-use Rattle.std.specs.Prelude.{◌≡◌, ℕ, ◌+◌, ◌-◌, ◌*◌, ◌/◌, ◌<◌, Bool, false, List, [], ◌∷◌, ◌++◌, length, take, drop, replicate, Some, slice_get, slice_index_or, slice_set}
+use Rattle.std.specs.Prelude.{◌≡◌, ℕ, ◌+◌, ◌-◌, ◌*◌, ◌/◌, Bool, false, List, [], ◌∷◌, ◌++◌, length, take, drop, replicate, Some, slice_get, slice_index_or, slice_set}
 use Rattle.std.specs.List.{AllByRecursion}
 use Rattle.theory.specs.Position.{aligned, IsGeometry}
-use Rattle.theory.specs.Placed.{Data, Frame, Placed}
+use Rattle.theory.specs.Placed.{Data}
 use Rattle.theory.specs.Entry.{Entry, IsEntry}
 use Rattle.theory.specs.Tiling.{Tiles, all_shares}
 use Rattle.theory.specs.Wire.{header_bytes}

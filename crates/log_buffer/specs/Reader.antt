@@ -2,7 +2,7 @@
 use Rattle.std.specs.Prelude.{◌≡◌, ℕ, ◌+◌, ◌%◌, ◌<◌, ◌≤◌, ◌⊎◌, List, ◌++◌, true, length, take, drop, Some, slice_get, slice_index}
 use Rattle.std.specs.List.{AllByRecursion}
 use Rattle.theory.specs.Position.{Geometry, aligned, max_position}
-use Rattle.theory.specs.Placed.{Among, Data, Placed}
+use Rattle.theory.specs.Placed.{Among, Data}
 use Rattle.theory.specs.Entry.{committed}
 use Rattle.theory.specs.Messages.{is_whole}
 use Rattle.theory.specs.Tiling.{Tiles}

@@ -1,8 +1,8 @@
-use Rattle.std.proofs.Common.{◌≡◌, ◌++◌, ◌∷◌, [], length, drop, replicate, ap, sym, subst, refl, ◌∙◌, arith, rules}
+use Rattle.std.proofs.Common.{◌∷◌, [], sym, subst, refl, ◌∙◌}
 use Rattle.log_buffer.specs.Log.{Log, published, with_message}
 use Rattle.log_buffer.specs.Reader.{IsAt}
 use Rattle.log_buffer.proofs.Logs.{at_more}
-use Rattle.log_buffer.proofs.Offering.{claim_for, offer_blank, offer_drafted, offer_published, offer_written}
+use Rattle.log_buffer.proofs.Offering.{offer_blank, offer_drafted, offer_published, offer_written}
 use Rattle.log_buffer.proofs.publication.offer.Goals as goal
 
 pub store_payload-requires-clause-blank : goal.store_payload-requires-clause-blank

@@ -1,7 +1,7 @@
-use Rattle.std.proofs.Common.{◌≡◌, ℕ, ◌+◌, ◌-◌, ◌*◌, ◌<◌, ◌≤◌, ◌++◌, List, length, take, drop, get_or, true, false, Some, ap, sym, subst, refl, ◌∙◌, arith, rules}
+use Rattle.std.proofs.Common.{◌≡◌, ◌+◌, ◌<◌, ◌≤◌, List, length, take, get_or, Some, ap, sym, subst, refl, ◌∙◌, arith, rules}
 use Rattle.std.specs.List.{slice_get}
 use Rattle.log_buffer.specs.Log.{Log, published}
-use Rattle.log_buffer.specs.Reader.{IsWholeFrame, Reads}
+use Rattle.log_buffer.specs.Reader.{IsWholeFrame}
 use Rattle.log_buffer.specs.Slots.{IsInside}
 use Rattle.log_buffer.specs.declared.entry.Slot.{Slot}
 use Rattle.theory.specs.Position.{aligned}

@@ -1,6 +1,5 @@
-use Rattle.std.proofs.Common.{◌≡◌, ◌+◌, ◌++◌, ◌∷◌, [], ◌≤◌, length, ap, sym, subst, refl, arith, rules}
+use Rattle.std.proofs.Common.{◌≡◌, ◌+◌, ◌++◌, ◌∷◌, [], length, ap, sym, subst, refl, arith, rules}
 use Rattle.theory.specs.Position.{aligned}
-use Rattle.theory.specs.Entry.{Entry}
 use Rattle.log_buffer.specs.Log.{IsOpen, Log, claim_of, with_claim}
 use Rattle.log_buffer.specs.declared.entry.Claimed.{Claimed}
 use Rattle.log_buffer.specs.Reader.{IsAt}

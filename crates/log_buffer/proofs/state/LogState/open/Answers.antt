@@ -1,8 +1,6 @@
-use Rattle.std.proofs.Common.{◌≡◌, ◌≤◌, ◌*◌, ℤ, [], replicate, ap, sym, subst, ◌∙◌, arith, rules}
+use Rattle.std.proofs.Common.{◌≡◌, replicate, ap, ◌∙◌, arith, rules}
 use Rattle.std.specs.Int.{w32, cast_signed, cast_unsigned}
 use Rattle.std.proofs.lemmas.Int.{to_z-of_z}
-use Rattle.theory.specs.Bytes.{Identity, IsIdentity}
-use Rattle.log_buffer.specs.Log.{Log}
 use Rattle.log_buffer.proofs.Opening.{fresh_readers, opened_fresh, opening}
 use Rattle.log_buffer.proofs.state.LogState.open.Goals as goal
 

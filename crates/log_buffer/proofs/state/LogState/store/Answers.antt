@@ -1,4 +1,4 @@
-use Rattle.std.proofs.Common.{ap, arith}
+use Rattle.std.proofs.Common.{ap}
 use Rattle.log_buffer.specs.Log.{Log}
 use Rattle.log_buffer.proofs.Changes.{Opened}
 use Rattle.log_buffer.proofs.Views.{opened_in, placed, store_kept, store_view}
