@@ -218,6 +218,7 @@ impl LogState {
         requires behind { 0 < index }
         requires inside { 8 * index < aligned (32 + claimed.length) }
         ensures stored { self.new ≡ with_draft self.old claimed (with_word (draft_of self.old claimed) (index - 1) word) }
+        ensures readers { (r : Reader) → IsAt self.old r → IsAt self.new r }
     {
         let place = (claimed.start - self.base) as usize / 8;
         self.bytes.set_word(place + index, word);
