@@ -1,4 +1,4 @@
-ghost use Rattle.std.specs.Prelude.{◌≡◌, ◌≤◌, ◌<◌, ◌%◌, ◌^◌, ◌&&◌, nat_eq, length, IfOk};
+ghost use Rattle.std.specs.Prelude.{◌≡◌, ◌≤◌, ◌^◌, ◌&&◌, nat_eq, length, IfOk};
 ghost use Rattle.theory.specs.Placed.{frame_length, is_padding, payload_of};
 ghost use Rattle.theory.specs.Position.{aligned};
 ghost use Rattle.theory.specs.Wire.{IsFrame};

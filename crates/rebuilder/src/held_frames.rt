@@ -1,4 +1,4 @@
-ghost use Rattle.std.specs.Prelude.{◌≡◌, ◌+◌, ◌≤◌, ◌<◌, ◌^◌, ◌&&◌, nat_lt, map, [], OnOk, OnErr, MatchOption};
+ghost use Rattle.std.specs.Prelude.{◌≡◌, ◌≤◌, ◌<◌, ◌^◌, ◌&&◌, nat_lt, map, [], OnOk, OnErr, MatchOption};
 ghost use Rattle.std.specs.List.{AllByRecursion, list_any};
 ghost use Rattle.theory.specs.Placed.{Among, Placed, covered, end_of};
 ghost use Rattle.theory.specs.Insert.{Head, head_end, head_of, is_duplicate};

@@ -1,9 +1,9 @@
-ghost use Rattle.std.specs.Prelude.{◌≡◌, ◌↔◌, ◌<◌, ◌≤◌, ◌^◌, [], length, map, replicate, slice_index, IfOk, IsErrOf, IsTrue, ℕ};
+ghost use Rattle.std.specs.Prelude.{◌≡◌, ◌↔◌, ◌<◌, ◌≤◌, [], length, map, replicate, slice_index, IfOk, IsErrOf};
 ghost use Rattle.std.specs.List.{AllByRecursion};
 ghost use Rattle.theory.specs.Position.{IsGeometry, max_position};
 ghost use Rattle.theory.specs.Image.{IsWindow};
 ghost use Rattle.theory.specs.Insert.{AreApart, head_of};
-ghost use Rattle.theory.specs.Units.{HasUnit, IsContiguous};
+ghost use Rattle.theory.specs.Units.{IsContiguous};
 ghost use Rattle.rebuilder.specs.Held.{IsStart};
 ghost use Rattle.rebuilder.specs.Seen.{IsCount, IsFit, IsJoin, least};
 
