@@ -21,5 +21,5 @@ still_kept g start at end room room' places xs ys actions k far within e same =
       in_stream = within;
       spaced = subst (AreSpaced (max start (end - reach)) end) (sym (e ∙ same_near reach end (xs ++ at ∷ []))) (still_spaced start at end reach xs begun far k.spaced);
       starts_fit = subst (λ (r : ℕ). 3 * g.term_length / 4 ≤ 32 * r) (sym same) fits;
-      actions_fit = k.actions_fit
+      actions_fit = k.actions_fit;
     }
