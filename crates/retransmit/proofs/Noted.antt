@@ -1,6 +1,6 @@
 -- What holds of a handler's parts once a frame more is noted.
-use Rattle.std.proofs.Common.{◌≡◌, ℕ, ◌+◌, ◌-◌, ◌*◌, ◌/◌, ◌≤◌, List, [], ◌∷◌, ◌++◌, filter, max, nat_le, arith, subst, sym, ap, ◌∙◌}
-use Rattle.theory.specs.Position.{Geometry, IsGeometry, max_position}
+use Rattle.std.proofs.Common.{◌≡◌, ℕ, ◌+◌, ◌-◌, ◌*◌, ◌/◌, ◌≤◌, List, [], ◌∷◌, ◌++◌, filter, max, nat_le, arith, subst, sym, ◌∙◌}
+use Rattle.theory.specs.Position.{Geometry, max_position}
 use Rattle.retransmit.specs.declared.action.Action.{Action}
 use Rattle.retransmit.specs.Handler.{IsKept, is_near}
 use Rattle.retransmit.specs.Spaced.{AreSpaced}

@@ -1,4 +1,4 @@
-use Rattle.std.proofs.Common.{◌≡◌, ◌+◌, ◌++◌, ◌∷◌, [], Some, false, map, take, get_or, sym, ap, ◌∙◌}
+use Rattle.std.proofs.Common.{false, map, take, get_or, sym, ap, ◌∙◌}
 use Rattle.std.specs.Option.{option_map}
 use Rattle.std.proofs.lemmas.List.{map_more}
 use Rattle.theory.specs.Resend.{first_due}

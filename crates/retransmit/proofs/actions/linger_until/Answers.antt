@@ -1,4 +1,4 @@
-use Rattle.std.proofs.Common.{◌≡◌, ◌<◌, length, false, get_or, arith}
+use Rattle.std.proofs.Common.{◌<◌, length, false, arith}
 use Rattle.retransmit.specs.declared.action.Action.{Action}
 use Rattle.retransmit.specs.Handler.{meaning, lingering_until}
 use Rattle.retransmit.proofs.Due.{written, written_rest}

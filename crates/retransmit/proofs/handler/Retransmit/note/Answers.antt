@@ -1,5 +1,4 @@
-use Rattle.std.proofs.Common.{◌≡◌, ℕ, ◌+◌, ◌-◌, ◌*◌, ◌/◌, ◌≤◌, ◌<◌, List, [], ◌∷◌, ◌++◌, map, filter, max, nat_le, arith, subst, sym, ap, ◌∙◌}
-use Rattle.std.specs.VecDeque.{deque_capacity}
+use Rattle.std.proofs.Common.{◌≡◌, ℕ, ◌-◌, ◌*◌, ◌/◌, ◌≤◌, List, [], ◌∷◌, ◌++◌, map, filter, max, nat_le, arith, subst, sym, ap, ◌∙◌}
 use Rattle.theory.specs.Position.{max_position}
 use Rattle.retransmit.specs.Handler.{Handler, meaning, is_near, after_note}
 use Rattle.retransmit.specs.Spaced.{AreSpaced}
