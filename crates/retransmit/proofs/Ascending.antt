@@ -1,9 +1,9 @@
 -- Ascending frame starts.
 use Rattle.std.proofs.Common.{MatchOption, MatchResult, Result, Ok, Err, HoldsAt, Bor, option_copied}
 use Rattle.std.proofs.lemmas.Option.{slice_get_past, slice_get-get_or}
-use Rattle.std.proofs.Common.{◌≡◌, ℕ, zero, suc, ◌+◌, ◌-◌, ◌*◌, ◌<◌, ◌≤◌, ◌⊎◌, ⊎_elim, List, [], ◌∷◌, ◌++◌, length, get_or, true, false, nat_le, nat_lt, nat_eq, ◌&&◌, ◌≢◌, eq-eqb, ne_eqb, slice_get, append-nil, sym, refl, ap, ◌∙◌, arith, Option, Some, None, find, filter, Bool, cond, subst}
+use Rattle.std.proofs.Common.{◌≡◌, ℕ, zero, suc, ◌+◌, ◌-◌, ◌*◌, ◌<◌, ◌≤◌, ⊎_elim, List, [], ◌∷◌, ◌++◌, length, get_or, true, false, nat_le, nat_lt, nat_eq, ◌&&◌, ◌≢◌, eq-eqb, ne_eqb, slice_get, append-nil, sym, refl, ap, ◌∙◌, arith, Option, Some, None, find, filter, Bool, subst}
 use Rattle.std.specs.List.{list_any}
-use Rattle.std.specs.List.Sorted.{IsNonDecreasingBy, IsPartitionPoint}
+use Rattle.std.specs.List.Sorted.{IsNonDecreasingBy}
 use Rattle.std.proofs.lemmas.Bool.{cases_Bool, cond-true, cond-false, leb-true, leb-false, le-leb, lt-leb, le-ltb, lt-ltb, or_right, eqb-true, ltb-false}
 use Rattle.std.proofs.lemmas.List.Elements.{filter-append}
 use Rattle.retransmit.specs.Spaced.{AreSpaced, Parts, begins_below}

@@ -1,6 +1,6 @@
 -- What holds of a handler's parts once a frame more is noted.
-use Rattle.std.proofs.Common.{◌≡◌, ℕ, ◌+◌, ◌-◌, ◌*◌, ◌/◌, ◌≤◌, List, [], ◌∷◌, ◌++◌, filter, max, nat_le, arith, subst, sym, ap, ◌∙◌}
-use Rattle.theory.specs.Position.{Geometry, IsGeometry, max_position}
+use Rattle.std.proofs.Common.{◌≡◌, ℕ, ◌+◌, ◌-◌, ◌*◌, ◌/◌, ◌≤◌, List, [], ◌∷◌, ◌++◌, filter, max, nat_le, arith, subst, sym, ◌∙◌}
+use Rattle.theory.specs.Position.{Geometry, max_position}
 use Rattle.retransmit.specs.declared.action.Action.{Action}
 use Rattle.retransmit.specs.Handler.{IsKept, is_near}
 use Rattle.retransmit.specs.Spaced.{AreSpaced}
@@ -21,5 +21,5 @@ still_kept g start at end room room' places xs ys actions k far within e same =
       in_stream = within;
       spaced = subst (AreSpaced (max start (end - reach)) end) (sym (e ∙ same_near reach end (xs ++ at ∷ []))) (still_spaced start at end reach xs begun far k.spaced);
       starts_fit = subst (λ (r : ℕ). 3 * g.term_length / 4 ≤ 32 * r) (sym same) fits;
-      actions_fit = k.actions_fit
+      actions_fit = k.actions_fit;
     }

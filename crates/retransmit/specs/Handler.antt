@@ -1,5 +1,5 @@
 -- What a contract sees of a handler, and how its calls change it.
-use Rattle.std.specs.Prelude.{◌≡◌, ℕ, ◌+◌, ◌-◌, ◌*◌, ◌/◌, ◌≤◌, Bool, true, if◌then◌else◌, List, [], ◌∷◌, ◌++◌, map, max, nat_eq, nat_le, Option, None, Some, ℤ}
+use Rattle.std.specs.Prelude.{ℕ, ◌+◌, ◌-◌, ◌*◌, ◌/◌, ◌≤◌, Bool, true, if◌then◌else◌, List, [], ◌∷◌, ◌++◌, max, nat_eq, nat_le, Option, None, Some, ℤ}
 use Rattle.std.specs.List.{list_any, filter}
 use Rattle.std.specs.Option.{option_and_then}
 use Rattle.theory.specs.Position.{Geometry, IsGeometry, max_position}

@@ -1,4 +1,4 @@
-use Rattle.std.proofs.Common.{◌≡◌, ◌+◌, ◌++◌, ◌∷◌, [], Some, false, map, take, get_or, sym, ap, ◌∙◌}
+use Rattle.std.proofs.Common.{false, map, take, get_or, sym, ap, ◌∙◌}
 use Rattle.std.specs.Option.{option_map}
 use Rattle.std.proofs.lemmas.List.{map_more}
 use Rattle.theory.specs.Resend.{first_due}
@@ -17,6 +17,7 @@ loop-action-preserved c =
     let xs = c.args.actions.now in
     let a = meaning (get_or xs i none) in
     let more = ap first_due (map_more meaning xs i none c.loop-action-test.true) in
-    elim c.if-not-action.branch
-    [ then-not-action w ↦ ap (option_map meaning) w.first-is ∙ sym (more ∙ due_of_first (map meaning (take i xs)) a w.if-not-action.true)
-    | else-not-action w ↦ ap (option_map meaning) w.first-is ∙ c.loop-action.invariant ∙ sym (more ∙ due_of_others (map meaning (take i xs)) a w.if-not-action.false) ]
+    elim c.if-not-action.branch [
+      | then-not-action w ↦ ap (option_map meaning) w.first-is ∙ sym (more ∙ due_of_first (map meaning (take i xs)) a w.if-not-action.true)
+      | else-not-action w ↦ ap (option_map meaning) w.first-is ∙ c.loop-action.invariant ∙ sym (more ∙ due_of_others (map meaning (take i xs)) a w.if-not-action.false)
+    ]

@@ -1,4 +1,4 @@
-use Rattle.std.proofs.Common.{◌≡◌, ◌<◌, length, false, get_or, arith}
+use Rattle.std.proofs.Common.{◌<◌, length, false, arith}
 use Rattle.retransmit.specs.declared.action.Action.{Action}
 use Rattle.retransmit.specs.Handler.{meaning, lingering_until}
 use Rattle.retransmit.proofs.Due.{written, written_rest}
@@ -17,5 +17,5 @@ loop-action-preserved c =
     let ly : i < length ys = omega (arith, same, c.loop-action-test.true) in
     record {
       done = written meaning (lingering_until c.args.at c.args.until) xs ys i c.lingering.result none lx ly c.loop-action.invariant.done c.loop-action.invariant.rest c.lingering.ensures;
-      rest = written_rest xs ys i c.lingering.result none lx ly c.loop-action.invariant.rest
+      rest = written_rest xs ys i c.lingering.result none lx ly c.loop-action.invariant.rest;
     }

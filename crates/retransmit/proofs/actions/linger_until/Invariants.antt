@@ -1,4 +1,4 @@
-use Rattle.std.proofs.Common.{◌≡◌, map, take, drop, length}
+use Rattle.std.proofs.Common.{◌≡◌, map, take, drop}
 use Rattle.retransmit.specs.Handler.{meaning, lingering_until}
 use Rattle.retransmit.proofs.actions.linger_until.Given as goal
 

@@ -1,4 +1,4 @@
-use Rattle.std.proofs.Common.{◌≡◌, ◌∙◌}
+use Rattle.std.proofs.Common.{◌∙◌}
 use Rattle.retransmit.proofs.Ascending.{found_at, item_at}
 use Rattle.retransmit.proofs.starts.first_from.Goals as goal
 

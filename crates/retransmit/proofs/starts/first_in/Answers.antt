@@ -1,4 +1,4 @@
-use Rattle.std.proofs.Common.{◌≡◌, sym, ◌∙◌, Some, None}
+use Rattle.std.proofs.Common.{sym, Some, None}
 use Rattle.retransmit.proofs.Ascending.{first_in}
 use Rattle.retransmit.proofs.starts.first_in.Goals as goal
 

@@ -1,4 +1,4 @@
-use Rattle.std.proofs.Common.{◌≡◌, sym, ◌∙◌}
+use Rattle.std.proofs.Common.{sym, ◌∙◌}
 use Rattle.retransmit.proofs.Ascending.{kept_from_first}
 use Rattle.retransmit.proofs.starts.forget_below.Goals as goal
 

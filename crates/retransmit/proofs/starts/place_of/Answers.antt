@@ -1,6 +1,5 @@
-use Rattle.std.proofs.Common.{◌≡◌, MatchResult, subst, ap, sym, Ok, Err}
+use Rattle.std.proofs.Common.{Ok, Err}
 use Rattle.std.proofs.lemmas.List.Sorted.{searched}
-use Rattle.retransmit.specs.Spaced.{Parts}
 use Rattle.retransmit.proofs.Ascending.{parts_at, sorted}
 use Rattle.retransmit.proofs.starts.place_of.Goals as goal
 

@@ -1,4 +1,4 @@
-use Rattle.std.proofs.Common.{rules, ◌≡◌, ◌<◌, length, arith, ◌∙◌}
+use Rattle.std.proofs.Common.{rules, ◌∙◌}
 use Rattle.retransmit.proofs.Ascending.{has_room, one_more_near, one_more_far}
 use Rattle.retransmit.proofs.starts.slide.Goals as goal
 
