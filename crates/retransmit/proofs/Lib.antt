@@ -1,3 +1,4 @@
 pub mod Ascending
 pub mod Due
 pub mod Noted
+pub mod Near

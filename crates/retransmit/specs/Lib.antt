@@ -1,3 +1,4 @@
 pub mod Answers
 pub mod Handler
+pub mod Laws
 pub mod Spaced

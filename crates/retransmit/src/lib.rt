@@ -4,6 +4,8 @@
 //! taken by `new`.
 #![tactic(auto)]
 
+ghost use Rattle.retransmit.specs.Laws.{NearAreEnough, NearStayNear};
+
 mod action;
 mod actions;
 mod answer;
@@ -12,6 +14,12 @@ mod starts;
 
 pub use answer::NakResult;
 pub use handler::Retransmit;
+
+/// The starts that a handler keeps are enough: by them it answers what all frames that were sent would make it answer.
+pub fn near_starts_suffice()
+    ensures answers { NearAreEnough }
+    ensures later { NearStayNear }
+{}
 
 #[cfg(test)]
 mod tests;

@@ -1,0 +1,5 @@
+use Rattle.retransmit.proofs.Near.{near_are_enough, near_stay_near}
+use Rattle.retransmit.proofs.near_starts_suffice.Goals as goal
+
+pub returns : goal.returns
+returns c = record { answers = near_are_enough; later = near_stay_near }
