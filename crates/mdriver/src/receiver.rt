@@ -228,7 +228,7 @@ impl ReceiverCore {
     fn status_due(&mut self) -> Option<Status> {
         let image = self.image.as_ref()?;
         let geometry = image.geometry();
-        let position = image.least().min(geometry.max_position());
+        let position = image.least();
         let due = match self.told {
             None => true,
             Some(told) => {
