@@ -1,4 +1,4 @@
-//! Raw memory that a contract sees as a list of bytes.
+//! A run of bytes that a contract sees as a list.
 //!
 //! A block's length is fixed when it is made, and its bytes begin as zeros. A word is eight bytes, little-endian.
 #![tactic(auto)]
