@@ -119,122 +119,120 @@ fn openings(rt: HostRuntime) {
     }
 }
 
-/// A gap, and the frame that fills it, twice.
-#[test]
-fn gap_is_filled(rt: HostRuntime) -> Result<(), Fail> {
-    let mut image = opened(rt.alloc(), 0, 32_768, 1)?;
-    assert_eq!(rt; image.join(), 0);
-    assert_eq!(rt; image.window(), 32_768);
-    assert_eq!(rt; insert(&rt, &mut image, DATA, 0, 64)?, Insert::Stored);
-    assert_eq!(rt; insert(&rt, &mut image, DATA, 128, 64)?, Insert::Stored);
-    assert_eq!(rt; shown(&image), (64, 192, 0, Some(128)));
-    assert_eq!(rt; insert(&rt, &mut image, DATA, 64, 64)?, Insert::Stored);
-    assert_eq!(rt; insert(&rt, &mut image, DATA, 64, 64)?, Insert::Duplicate);
-    assert_eq!(rt; shown(&image), (192, 192, 0, None));
+/// What is done, and what is answered.
+#[derive(Clone, Copy, Debug, PartialEq, Eq)]
+enum Step {
+    /// An image is opened at a join, with a window of half a term and one consumer.
+    Open(u64),
+    /// A frame of a kind is given: its position and length, and the byte that fills it.
+    Give(FrameKind, i64, u32, u8, Insert),
+    /// A heartbeat is given, and accepted or not.
+    Beat(i64, bool),
+    /// The consumer reads a frame that starts there, and moves past it; or there is none.
+    Pass(Option<u64>),
+    /// A word of what was read last.
+    Word(usize, u64),
+    /// The rebuilt position, the high-water mark, the least position and the next start above the rebuilt position.
+    Show(u64, u64, u64, Option<u64>),
+}
+
+fn carry_out(
+    rt: &impl Abort,
+    alloc: Global,
+    image: &mut Image,
+    block: &mut Block,
+    step: Step,
+) -> Result<(), Fail> {
+    match step {
+        Step::Open(join) => *image = opened(alloc, join, 32_768, 1)?,
+        Step::Give(kind, position, length, byte, answer) => {
+            assert_eq!(rt;
+                filled(rt, image, kind, position, length, byte)?,
+                answer,
+                "{step:?}"
+            );
+        }
+        Step::Beat(position, accepted) => {
+            assert_eq!(rt; heartbeat(rt, image, position), accepted, "{step:?}");
+        }
+        Step::Pass(start) => {
+            assert_eq!(rt;
+                pass(rt, image, 0, block).map(|head| head.start),
+                start,
+                "{step:?}"
+            );
+        }
+        Step::Word(index, word) => {
+            assert!(rt; index < block.len() / 8);
+            assert_eq!(rt; block.word(index), word, "{step:?}");
+        }
+        Step::Show(rebuilt, high, least, next) => {
+            assert_eq!(rt; shown(image), (rebuilt, high, least, next), "{step:?}");
+        }
+    }
     Ok(())
 }
 
-/// A frame over a held one, before and after the consumer has passed it.
 #[test]
-fn overlap_then_below(rt: HostRuntime) -> Result<(), Fail> {
+fn images(rt: HostRuntime) -> Result<(), Fail> {
     let mut image = opened(rt.alloc(), 0, 32_768, 1)?;
     let mut block = Block::new(rt.alloc(), 65_472)?;
-    assert_eq!(rt; insert(&rt, &mut image, DATA, 0, 64)?, Insert::Stored);
-    assert_eq!(rt; insert(&rt, &mut image, DATA, 32, 64)?, Insert::Overlap);
-    assert!(rt; pass(&rt, &mut image, 0, &mut block).is_some());
-    assert_eq!(rt; insert(&rt, &mut image, DATA, 32, 64)?, Insert::Below);
-    assert_eq!(rt; insert(&rt, &mut image, DATA, 0, 64)?, Insert::Below);
-    assert_eq!(rt; shown(&image), (64, 64, 64, None));
-    Ok(())
-}
-
-/// At a term's end: what passes it, what the window doesn't reach, and a padding, of which the header counts.
-#[test]
-fn end_of_term(rt: HostRuntime) -> Result<(), Fail> {
-    let mut image = opened(rt.alloc(), 32_736, 32_768, 1)?;
-    assert_eq!(rt;
-        insert(&rt, &mut image, DATA, 32_736, 32_736)?,
-        Insert::Stored
-    );
-    assert_eq!(rt; shown(&image), (65_472, 65_472, 32_736, None));
-    assert_eq!(rt;
-        insert(&rt, &mut image, DATA, 65_472, 96)?,
-        Insert::CrossesTerm
-    );
-    assert_eq!(rt;
-        insert(&rt, &mut image, DATA, 65_472, 64)?,
-        Insert::OverWindow
-    );
-    assert_eq!(rt; insert(&rt, &mut image, PAD, 65_472, 64)?, Insert::Stored);
-    assert_eq!(rt; shown(&image), (65_536, 65_536, 32_736, None));
-    Ok(())
-}
-
-/// Positions of heartbeats, and which are accepted.
-#[test]
-fn heartbeats(rt: HostRuntime) -> Result<(), Fail> {
-    let mut image = opened(rt.alloc(), 0, 32_768, 1)?;
-    assert_eq!(rt; insert(&rt, &mut image, DATA, 0, 64)?, Insert::Stored);
-    assert!(rt; heartbeat(&rt, &mut image, 128));
-    assert_eq!(rt; shown(&image), (64, 128, 0, None));
-    for (position, accepted) in [
-        (49_184, false),
-        (49_152, true),
-        (49_152, false),
-        (-32, false),
+    for step in [
+        // A gap, and the frame that fills it, twice.
+        Step::Open(0),
+        Step::Give(DATA, 0, 64, 0x61, Insert::Stored),
+        Step::Give(DATA, 128, 64, 0x61, Insert::Stored),
+        Step::Show(64, 192, 0, Some(128)),
+        Step::Give(DATA, 64, 64, 0x61, Insert::Stored),
+        Step::Give(DATA, 64, 64, 0x61, Insert::Duplicate),
+        Step::Show(192, 192, 0, None),
+        // A frame over a held one, before and after the consumer has passed it.
+        Step::Open(0),
+        Step::Give(DATA, 0, 64, 0x61, Insert::Stored),
+        Step::Give(DATA, 32, 64, 0x61, Insert::Overlap),
+        Step::Pass(Some(0)),
+        Step::Give(DATA, 32, 64, 0x61, Insert::Below),
+        Step::Give(DATA, 0, 64, 0x61, Insert::Below),
+        Step::Show(64, 64, 64, None),
+        // At a term's end: what passes it, what the window doesn't reach, and a padding, of which the header counts.
+        Step::Open(32_736),
+        Step::Give(DATA, 32_736, 32_736, 0x61, Insert::Stored),
+        Step::Show(65_472, 65_472, 32_736, None),
+        Step::Give(DATA, 65_472, 96, 0x61, Insert::CrossesTerm),
+        Step::Give(DATA, 65_472, 64, 0x61, Insert::OverWindow),
+        Step::Give(PAD, 65_472, 64, 0, Insert::Stored),
+        Step::Show(65_536, 65_536, 32_736, None),
+        // Heartbeats.
+        Step::Open(0),
+        Step::Give(DATA, 0, 64, 0x61, Insert::Stored),
+        Step::Beat(128, true),
+        Step::Show(64, 128, 0, None),
+        Step::Beat(49_184, false),
+        Step::Beat(49_152, true),
+        Step::Beat(49_152, false),
+        Step::Beat(-32, false),
+        Step::Show(64, 49_152, 0, None),
+        // Frames that would overlap, pass an end or come again with another payload: the first payload stays.
+        Step::Open(0),
+        Step::Give(DATA, 32_704, 64, 0x61, Insert::Stored),
+        Step::Give(PAD, 32_736, 32_800, 0, Insert::Overlap),
+        Step::Give(PAD, 32_768, 32_768, 0, Insert::OverWindow),
+        Step::Give(DATA, 32_736, 64, 0x61, Insert::OverWindow),
+        Step::Give(DATA, -64, 64, 0x61, Insert::Below),
+        Step::Give(DATA, -32, 64, 0x61, Insert::CrossesTerm),
+        Step::Give(DATA, 32_704, 33, 0x61, Insert::Overlap),
+        Step::Give(DATA, 32_704, 64, 0x62, Insert::Duplicate),
+        Step::Give(DATA, 65_536, 64, 0x61, Insert::OverWindow),
+        Step::Give(DATA, 0, 32_704, 0x63, Insert::Stored),
+        Step::Show(32_768, 32_768, 0, None),
+        Step::Pass(Some(0)),
+        Step::Pass(Some(32_704)),
+        Step::Pass(None),
+        Step::Word(3, 0x6161_6161_6161_6161),
+        Step::Word(4, 0x6363_6363_6363_6363),
     ] {
-        assert_eq!(rt;
-            heartbeat(&rt, &mut image, position),
-            accepted,
-            "{position}"
-        );
+        carry_out(&rt, rt.alloc(), &mut image, &mut block, step)?;
     }
-    assert_eq!(rt; shown(&image), (64, 49_152, 0, None));
-    Ok(())
-}
-
-/// Frames that would overlap, pass an end or come again with another payload: the first payload stays.
-#[test]
-fn hostile_frames(rt: HostRuntime) -> Result<(), Fail> {
-    let mut image = opened(rt.alloc(), 0, 32_768, 1)?;
-    for (kind, position, length, byte, answer) in [
-        (DATA, 32_704, 64, 0x61, Insert::Stored),
-        (PAD, 32_736, 32_800, 0, Insert::Overlap),
-        (PAD, 32_768, 32_768, 0, Insert::OverWindow),
-        (DATA, 32_736, 64, 0x61, Insert::OverWindow),
-        (DATA, -64, 64, 0x61, Insert::Below),
-        (DATA, -32, 64, 0x61, Insert::CrossesTerm),
-        (DATA, 32_704, 33, 0x61, Insert::Overlap),
-        (DATA, 32_704, 64, 0x62, Insert::Duplicate),
-        (DATA, 65_536, 64, 0x61, Insert::OverWindow),
-        (DATA, 0, 32_704, 0x63, Insert::Stored),
-    ] {
-        assert_eq!(rt;
-            filled(&rt, &mut image, kind, position, length, byte)?,
-            answer,
-            "{position} {length}"
-        );
-    }
-    assert_eq!(rt; shown(&image), (32_768, 32_768, 0, None));
-    let mut block = Block::new(rt.alloc(), 65_472)?;
-    let long = FrameHead {
-        start: 0,
-        kind: DATA,
-        flags: 0xc0,
-        frame_length: 32_704,
-    };
-    let short = FrameHead {
-        start: 32_704,
-        kind: DATA,
-        flags: 0xc0,
-        frame_length: 64,
-    };
-    assert_eq!(rt; pass(&rt, &mut image, 0, &mut block), Some(long));
-    assert_eq!(rt; pass(&rt, &mut image, 0, &mut block), Some(short));
-    assert_eq!(rt; pass(&rt, &mut image, 0, &mut block), None);
-    assert!(rt; block.len() >= 64);
-    assert_eq!(rt; block.word(3), 0x6161_6161_6161_6161);
-    assert_eq!(rt; block.word(4), 0x6363_6363_6363_6363);
     Ok(())
 }
 
