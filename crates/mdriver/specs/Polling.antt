@@ -1,0 +1,104 @@
+-- What a poll reads of an image, and what it prints.
+use Rattle.std.specs.Prelude.{◌≡◌, ◌⊎◌, ℕ, true, false, Option, None, Some, List, [], ◌∷◌, ◌++◌, map}
+use Rattle.theory.specs.Placed.{AllAmong, Chain, Placed, is_padding}
+use Rattle.theory.specs.Units.{IsContiguous}
+use Rattle.theory.specs.Assembly.{after_all}
+use Rattle.theory.specs.Consumer.{Consumer, least_of, moved, passed_by}
+use Rattle.theory.specs.Image.{Image}
+use Rattle.mdriver.specs.Prints.{Print, Open, BadGeometry, BadLog, Done, Limit, Position, Refused, Packet, Nothing, OfReceiver, OfSender, Message, NoMessage, Unassembled, Positions, Bad, Shares}
+use Rattle.mdriver.specs.Receiving.{Opened, Receiver}
+
+-- the consumer reads these frames, one after the other, from its position on
+pub record Reads (i : Image) (c : Consumer) (frames : List Placed) (to : ℕ) : Type 0 where
+  pub chain : Chain c.at to frames
+  pub among : AllAmong i.stored frames
+
+-- and its assembler hears each
+abbrev pub moved_all : Consumer → List Placed → Consumer
+moved_all c [] = c
+moved_all c (s ∷ ss) = moved_all (moved c s) ss
+
+-- or it is lost already
+abbrev pub passed_all : Consumer → List Placed → Consumer
+passed_all c [] = c
+passed_all c (s ∷ ss) = passed_all (passed_by c s) ss
+
+-- the messages that its assembler gives of these frames
+abbrev pub gives : Consumer → List Placed → List (List ℕ)
+gives c frames = (after_all (record { begun = c.assembly.begun; given = [] }) (map (λ s. s.frame) frames)).given
+
+-- the frames up to the first that completes a message
+pub record PollsMessage (i : Image) (c : Consumer) (message : List ℕ) (d : Consumer) : Type 0 where
+  pub earlier : List Placed
+  pub last : Placed
+  pub reads : Reads i c (earlier ++ last ∷ []) d.at
+  pub nothing : gives c earlier ≡ []
+  pub message_given : gives c (earlier ++ last ∷ []) ≡ message ∷ []
+  pub after : d ≡ moved_all c (earlier ++ last ∷ [])
+
+-- all frames that are there, none of which completes a message
+pub record PollsNothing (i : Image) (c d : Consumer) : Type 0 where
+  pub frames : List Placed
+  pub reads : Reads i c frames d.at
+  pub nothing : gives c frames ≡ []
+  pub no_more : IsContiguous i.stored i.join d.at
+  pub after : d ≡ moved_all c frames
+
+-- the frames up to a DATA frame that the assembler refuses
+pub record PollsFault (i : Image) (c d : Consumer) : Type 0 where
+  pub earlier : List Placed
+  pub last : Placed
+  pub reads : Reads i c (earlier ++ last ∷ []) d.at
+  pub nothing : gives c earlier ≡ []
+  pub not_padding : is_padding last.frame ≡ false
+  pub after : d ≡ passed_by (moved_all c earlier) last
+
+-- a consumer whose assembler has refused a frame goes on; of what it gives then nothing is said
+pub record PollsOn (i : Image) (c d : Consumer) : Type 0 where
+  pub frames : List Placed
+  pub reads : Reads i c frames d.at
+  pub after : d ≡ passed_all c frames
+
+-- a consumer that has lost nothing
+abbrev pub PollsWhole : Image → Consumer → Print → Consumer → Type 0
+PollsWhole i c Open d = ⊥
+PollsWhole i c (BadGeometry fault) d = ⊥
+PollsWhole i c (BadLog fault) d = ⊥
+PollsWhole i c Done d = ⊥
+PollsWhole i c (Limit limit) d = ⊥
+PollsWhole i c (Position end) d = ⊥
+PollsWhole i c (Refused refusal) d = ⊥
+PollsWhole i c (Packet number bytes) d = ⊥
+PollsWhole i c Nothing d = ⊥
+PollsWhole i c (OfReceiver outcome) d = ⊥
+PollsWhole i c (OfSender answer) d = ⊥
+PollsWhole i c (Message bytes) d = PollsMessage i c bytes d
+PollsWhole i c NoMessage d = PollsNothing i c d
+PollsWhole i c (Unassembled fault) d = PollsFault i c d
+PollsWhole i c (Positions least rebuilt high) d = ⊥
+PollsWhole i c Bad d = ⊥
+PollsWhole i c (Shares start end shares) d = ⊥
+
+abbrev pub PollsImage : Image → Consumer → Print → Consumer → Type 0
+PollsImage i c print d = ((c.lost ≡ false) × PollsWhole i c print d) ⊎ ((c.lost ≡ true) × PollsOn i c d)
+
+-- ---- by a receiver with one consumer
+
+abbrev pub with_consumer : Opened → Consumer → Opened
+with_consumer o d = record o { image = record o.image { consumers = d ∷ [] } }
+
+abbrev pub PollsOf : Option Opened → Receiver → Print → Receiver → Type 0
+PollsOf None r print s = (print ≡ Bad) × (s ≡ r)
+PollsOf (Some o) r print s =
+    (c : Consumer) × (d : Consumer) × (o.image.consumers ≡ c ∷ []) × PollsImage o.image c print d × (s ≡ record r { image = Some (with_consumer o d) })
+
+abbrev pub Polls : Receiver → Print → Receiver → Type 0
+Polls r print s = PollsOf r.image r print s
+
+-- the positions that an image tells
+abbrev pub TellsOf : Option Opened → Print → Type 0
+TellsOf None print = print ≡ Bad
+TellsOf (Some o) print = (q : ℕ) × IsContiguous o.image.stored o.image.join q × (print ≡ Positions (least_of o.image.consumers) q o.image.high)
+
+abbrev pub TellsPositions : Receiver → Print → Type 0
+TellsPositions r print = TellsOf r.image print
