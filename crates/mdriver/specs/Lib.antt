@@ -1,8 +1,12 @@
+pub mod Answers
 pub mod CommandLines
 pub mod Cycling
 pub mod Decoding
 pub mod Faults
 pub mod FrameLines
+pub mod Plays
 pub mod Polling
 pub mod Prints
+pub mod Published
 pub mod Receiving
+pub mod Scene

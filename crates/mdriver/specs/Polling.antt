@@ -5,7 +5,7 @@ use Rattle.theory.specs.Units.{IsContiguous}
 use Rattle.theory.specs.Assembly.{after_all}
 use Rattle.theory.specs.Consumer.{Consumer, least_of, moved, passed_by}
 use Rattle.theory.specs.Image.{Image}
-use Rattle.mdriver.specs.Prints.{Print, Open, BadGeometry, BadLog, Done, Limit, Position, Refused, Packet, Nothing, OfReceiver, OfSender, Message, NoMessage, Unassembled, Positions, Bad, Shares}
+use Rattle.mdriver.specs.Prints.{Print, Message, NoMessage, Unassembled, Positions, Bad}
 use Rattle.mdriver.specs.Receiving.{Opened, Receiver}
 
 -- the consumer reads these frames, one after the other, from its position on
@@ -61,23 +61,10 @@ pub record PollsOn (i : Image) (c d : Consumer) : Type 0 where
 
 -- a consumer that has lost nothing
 abbrev pub PollsWhole : Image → Consumer → Print → Consumer → Type 0
-PollsWhole i c Open d = ⊥
-PollsWhole i c (BadGeometry fault) d = ⊥
-PollsWhole i c (BadLog fault) d = ⊥
-PollsWhole i c Done d = ⊥
-PollsWhole i c (Limit limit) d = ⊥
-PollsWhole i c (Position end) d = ⊥
-PollsWhole i c (Refused refusal) d = ⊥
-PollsWhole i c (Packet number bytes) d = ⊥
-PollsWhole i c Nothing d = ⊥
-PollsWhole i c (OfReceiver outcome) d = ⊥
-PollsWhole i c (OfSender answer) d = ⊥
 PollsWhole i c (Message bytes) d = PollsMessage i c bytes d
 PollsWhole i c NoMessage d = PollsNothing i c d
 PollsWhole i c (Unassembled fault) d = PollsFault i c d
-PollsWhole i c (Positions least rebuilt high) d = ⊥
-PollsWhole i c Bad d = ⊥
-PollsWhole i c (Shares start end shares) d = ⊥
+PollsWhole i c line d = ⊥
 
 abbrev pub PollsImage : Image → Consumer → Print → Consumer → Type 0
 PollsImage i c print d = ((c.lost ≡ false) × PollsWhole i c print d) ⊎ ((c.lost ≡ true) × PollsOn i c d)

@@ -1,0 +1,153 @@
+-- What each line of a script prints, and the scene after it.
+use Rattle.std.specs.Prelude.{◌≡◌, ◌⊎◌, ◌<◌, ◌≤◌, ℕ, suc, pos, Bool, true, List, [], ◌∷◌, ◌++◌, map, length, Option, None, Some, Result, Ok, Err, slice_get, slice_set, if◌then◌else◌}
+use Rattle.theory.specs.Position.{max_payload, position_of}
+use Rattle.theory.specs.Wire.{Status, Wire}
+use Rattle.theory.specs.Placed.{Placed, end_of}
+use Rattle.theory.specs.Entry.{committed}
+use Rattle.theory.specs.Control.{setup_at}
+use Rattle.theory.specs.FlowLimit.{flow_limit}
+use Rattle.theory.specs.Sender.{Sender}
+use Rattle.theory.specs.Timing.{seen}
+use Rattle.log_buffer.specs.Limits.{raised}
+use Rattle.log_buffer.specs.Log.{Log, with_message}
+use Rattle.log_buffer.specs.Offers.{answer_of}
+use Rattle.log_buffer.specs.declared.fault.Refusal.{Refusal}
+use Rattle.setup.specs.Naming.{after_due, is_due}
+use Rattle.script.specs.Meaning as orders
+use Rattle.script.specs.Meaning.{Order}
+use Rattle.mdriver.specs.declared.receiver.Outcome.{Outcome}
+use Rattle.mdriver.specs.declared.sender.SenderAnswer.TheVariants as answers
+use Rattle.mdriver.specs.Cycling.{Cycle, IsNews, IsNextSent, News, Says, AsksSetup, TellsNothing, Unreadable, datagrams, sent_wires}
+use Rattle.mdriver.specs.Polling.{Polls, TellsPositions}
+use Rattle.mdriver.specs.Prints.{Print, Done, Limit, Position, Refused, Packet, Nothing, OfReceiver, OfSender, Bad}
+use Rattle.mdriver.specs.Receiving.{Hears, Receiver, replies, ticked}
+use Rattle.mdriver.specs.Scene.{Scene}
+
+abbrev pub with_log : Scene → Log → Scene
+with_log s l = record s { log = l }
+
+abbrev pub with_receiver : Scene → ℕ → Receiver → Scene
+with_receiver s i r = record s { receivers = slice_set s.receivers i r }
+
+-- ---- packets
+
+-- their lines, numbered from here
+abbrev pub packet_lines : ℕ → List (List ℕ) → List Print
+packet_lines k [] = []
+packet_lines k (bytes ∷ rest) = Packet k bytes ∷ packet_lines (suc k) rest
+
+abbrev pub lines_of : Scene → List Wire → List Print
+lines_of s wires = packet_lines (length s.packets) (datagrams wires)
+
+abbrev pub given_out : Scene → List Wire → Scene
+given_out s wires = record s { packets = s.packets ++ datagrams wires }
+
+abbrev pub or_nothing : List Print → List Print
+or_nothing [] = Nothing ∷ []
+or_nothing (line ∷ lines) = line ∷ lines
+
+-- no packet has this number, and nothing changes
+abbrev pub IsMissing : Scene → ℕ → List Print → Scene → Type 0
+IsMissing old k lines new = (length old.packets ≤ k) × (lines ≡ Bad ∷ []) × (new ≡ old)
+
+-- ---- offers
+
+abbrev pub Offered : Scene → ℕ → List ℕ → Result ℕ Refusal → List Print → Scene → Type 0
+Offered old by message (Ok end) lines new = (lines ≡ Position end ∷ []) × (new ≡ with_log old (with_message old.log by message))
+Offered old by message (Err refusal) lines new = (lines ≡ Refused refusal ∷ []) × (new ≡ old)
+
+-- a message that no frame can hold
+abbrev pub IsTooLong : Scene → List ℕ → List Print → Scene → Type 0
+IsTooLong old message lines new = (max_payload old.log.identity.geometry < length message) × (lines ≡ Bad ∷ []) × (new ≡ old)
+
+-- ---- the sender
+
+abbrev pub with_sender : Scene → Sender → Scene
+with_sender s x = record s { sender = x }
+
+abbrev pub clock_at : Scene → ℕ → ℕ
+clock_at s now = seen s.sender.clock now
+
+-- how far status messages let it send
+abbrev pub limit_of : Log → Sender → ℕ
+limit_of l x = flow_limit l.start x.said
+
+abbrev pub IsCycle : Scene → ℕ → Cycle → Type 0
+IsCycle old now y =
+    (y.setup ≡ is_due old.naming (clock_at old now))
+    × IsNextSent (committed old.log.entries) old.sender.at (limit_of old.log old.sender) y.frame
+
+-- its SETUP went out
+abbrev pub named : Sender → Bool → Sender
+named x due = if due then record x { setups = x.at ∷ x.setups } else x
+
+-- a frame went out
+abbrev pub sent_on : Sender → Option Placed → Sender
+sent_on x None = x
+sent_on x (Some s) = record x { at = end_of s; passed = x.passed ++ s ∷ []; sent = s ∷ x.sent }
+
+abbrev pub cycled : Scene → ℕ → Cycle → Sender
+cycled old now y = sent_on (named (record old.sender { clock = clock_at old now }) y.setup) y.frame
+
+-- the log's one consumer is the sender
+abbrev pub after_cycle : Scene → ℕ → Cycle → Scene
+after_cycle old now y = record (given_out old (sent_wires old.log.identity old.sender.at y)) {
+  log = record old.log { consumers = (cycled old now y).at ∷ [] };
+  sender = cycled old now y;
+  naming = after_due old.naming (clock_at old now);
+}
+
+-- a status message raises the limit
+abbrev pub heard : Scene → ℕ → Status → Sender
+heard old now f = record old.sender {
+  clock = clock_at old now;
+  said = record { position = position_of old.log.identity.geometry f.term_id f.term_offset; window = f.window } ∷ old.sender.said;
+}
+
+abbrev pub woken : Scene → ℕ → Sender
+woken old now = record old.sender { clock = clock_at old now }
+
+abbrev pub SenderHears : Scene → ℕ → News → List Print → Scene → Type 0
+SenderHears old now (Says f) lines new =
+    (lines ≡ OfSender (answers.Status (pos (limit_of old.log (heard old now f)))) ∷ [])
+    × (new ≡ record old { sender = heard old now f; naming = record old.naming { heard = true } })
+SenderHears old now AsksSetup lines new =
+    let out = setup_at old.log.identity old.sender.at ∷ [] in
+    (lines ≡ OfSender answers.Asked ∷ lines_of old out) × (new ≡ with_sender (given_out old out) (named (woken old now) true))
+SenderHears old now TellsNothing lines new = (lines ≡ OfSender answers.Other ∷ []) × (new ≡ with_sender old (woken old now))
+SenderHears old now (Unreadable fault) lines new = (lines ≡ OfSender (answers.Refused fault) ∷ []) × (new ≡ with_sender old (woken old now))
+
+abbrev pub Replied : Scene → ℕ → ℕ → List Print → Scene → Type 0
+Replied old k now lines new = (bytes : List ℕ) × (news : News) × (slice_get old.packets k ≡ Some bytes) × IsNews old.log.identity bytes news × SenderHears old now news lines new
+
+-- ---- the receivers
+
+abbrev pub Delivered : Scene → ℕ → ℕ → ℕ → List Print → Scene → Type 0
+Delivered old k i now lines new =
+    (bytes : List ℕ) × (outs : List Outcome) × (r : Receiver) × (s : Receiver) × (slice_get old.packets k ≡ Some bytes) × (slice_get old.receivers i ≡ Some r)
+    × Hears r now bytes outs s × (lines ≡ map OfReceiver outs) × (new ≡ with_receiver old i s)
+
+abbrev pub Ticks : Scene → ℕ → ℕ → List Print → Scene → Type 0
+Ticks old i now lines new =
+    (r : Receiver) × (slice_get old.receivers i ≡ Some r) × (lines ≡ or_nothing (lines_of old (replies r now))) × (new ≡ with_receiver (given_out old (replies r now)) i (ticked r now))
+
+abbrev pub PollsBy : Scene → ℕ → List Print → Scene → Type 0
+PollsBy old i lines new = (line : Print) × (r : Receiver) × (s : Receiver) × (slice_get old.receivers i ≡ Some r) × Polls r line s × (lines ≡ line ∷ []) × (new ≡ with_receiver old i s)
+
+abbrev pub TellsBy : Scene → ℕ → List Print → Scene → Type 0
+TellsBy old i lines new = (line : Print) × (r : Receiver) × (slice_get old.receivers i ≡ Some r) × TellsPositions r line × (lines ≡ line ∷ []) × (new ≡ old)
+
+-- ---- a line of a script
+
+abbrev pub Answers : Scene → Order → List Print → Scene → Type 0
+Answers old orders.Connect lines new = (lines ≡ Done ∷ []) × (new ≡ with_log old (record old.log { connected = true }))
+Answers old orders.Limit lines new = (lines ≡ Limit (raised old.log) ∷ []) × (new ≡ with_log old (record old.log { limit = raised old.log }))
+Answers old (orders.Offer by message) lines new =
+    IsTooLong old message lines new
+    ⊎ ((length message ≤ max_payload old.log.identity.geometry) × Offered old by message (answer_of old.log (length message)) lines new)
+Answers old (orders.Send now) lines new = (y : Cycle) × IsCycle old now y × (lines ≡ or_nothing (lines_of old (sent_wires old.log.identity old.sender.at y))) × (new ≡ after_cycle old now y)
+Answers old (orders.Deliver k i now) lines new = IsMissing old k lines new ⊎ Delivered old k i now lines new
+Answers old (orders.Tick i now) lines new = Ticks old i now lines new
+Answers old (orders.Reply k now) lines new = IsMissing old k lines new ⊎ Replied old k now lines new
+Answers old (orders.Poll i) lines new = PollsBy old i lines new
+Answers old (orders.Image i) lines new = TellsBy old i lines new

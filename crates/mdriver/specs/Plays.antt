@@ -1,0 +1,60 @@
+-- What a script prints.
+use Rattle.std.specs.Prelude.{◌≡◌, ◌⊎◌, ◌<◌, ◌+◌, ◌%◌, ℕ, List, [], ◌∷◌, ◌++◌, map, length, slice_index, sum}
+use Rattle.std.specs.List.{flat_map}
+use Rattle.theory.specs.Position.{Geometry, IsGeometry, IsMtu, IsTermLength, max_position}
+use Rattle.theory.specs.Bytes.{Identity}
+use Rattle.theory.specs.Tiling.{share_of}
+use Rattle.position.specs.declared.fault.GeometryError.{GeometryError}
+use Rattle.position.specs.declared.fault.GeometryError.TheVariants.{TermLength, Mtu}
+use Rattle.log_buffer.specs.Log.{Log}
+use Rattle.log_buffer.specs.declared.fault.LogError.TheVariants.{Start}
+use Rattle.script.specs.Meaning.{Opening, Told}
+use Rattle.mdriver.specs.Answers.{Answers}
+use Rattle.mdriver.specs.Prints.{Print, Open, BadGeometry, BadLog, Shares}
+use Rattle.mdriver.specs.Published.{Played, PolledPrefix}
+use Rattle.mdriver.specs.Scene.{Scene, opened_scene}
+
+-- the lines one after the other
+abbrev pub AnswersAll : Scene → List Played → Scene → Type 0
+AnswersAll old [] new = new ≡ old
+AnswersAll old (p ∷ ps) new = (mid : Scene) × Answers old p.order p.lines mid × AnswersAll mid ps new
+
+abbrev pub geometry_of : Opening → Geometry
+geometry_of o = record { term_length = o.term_length; mtu = o.mtu; initial_term_id = o.initial_term_id }
+
+abbrev pub identity_of : Opening → Identity
+identity_of o = record { geometry = geometry_of o; session = o.session; stream = o.stream }
+
+abbrev pub IsStart : Opening → Type 0
+IsStart o = (o.start % 32 ≡ 0) × (o.start < max_position (geometry_of o))
+
+-- the start, the end, and each publisher's bytes, which are all that was claimed
+pub record ShowsBook (l : Log) (line : Print) : Type 0 where
+  pub shares : List ℕ
+  pub eight : length shares ≡ 8
+  pub each : (k : ℕ) → k < 8 → slice_index shares k ≡ share_of k l.entries
+  pub whole : l.start + sum shares ≡ l.tail
+  pub shown : line ≡ Shares l.start l.tail shares
+
+-- the log opens: each line of the script is answered in turn, and the book ends the output. After each line, what the polls of a receiver printed is what was published between its join and its position
+pub record PlaysOn (script : Told) (lines : List Print) : Type 0 where
+  pub legal : IsGeometry (geometry_of script.log)
+  pub starts : IsStart script.log
+  pub played : List Played
+  pub orders : map (λ p. p.order) played ≡ script.orders
+  pub last : Scene
+  pub answered : AnswersAll (opened_scene (identity_of script.log) script.log.start) played last
+  pub book : Print
+  pub shown : ShowsBook last.log book
+  pub printed : lines ≡ Open ∷ (flat_map (λ p. p.lines) played ++ book ∷ [])
+  pub polled : (done later : List Played) → played ≡ done ++ later → PolledPrefix done
+
+-- the log can't be opened, and its fault is the only line
+abbrev pub HasFault : Opening → List Print → Type 0
+HasFault o lines =
+    ((¬ IsTermLength o.term_length) × (lines ≡ BadGeometry TermLength ∷ []))
+    ⊎ ((IsTermLength o.term_length × (¬ IsMtu o.term_length o.mtu) × (lines ≡ BadGeometry Mtu ∷ []))
+    ⊎ (IsGeometry (geometry_of o) × (¬ IsStart o) × (lines ≡ BadLog Start ∷ [])))
+
+abbrev pub Plays : Told → List Print → Type 0
+Plays script lines = HasFault script.log lines ⊎ PlaysOn script lines

@@ -1,0 +1,56 @@
+-- What a script plays on, as its lines tell it.
+use Rattle.std.specs.Prelude.{ℕ, ◌/◌, pos, false, List, [], ◌∷◌, map, replicate, Option, None}
+use Rattle.std.specs.Option.{option_map}
+use Rattle.theory.specs.Bytes.{Identity}
+use Rattle.theory.specs.Image.{Image}
+use Rattle.theory.specs.Log as stream
+use Rattle.theory.specs.Sender.{Sender}
+use Rattle.theory.specs.World.{World, opened_sender}
+use Rattle.log_buffer.specs.Log.{Log, fresh}
+use Rattle.setup.specs.Naming.{Naming}
+use Rattle.mdriver.specs.Receiving.{Receiver, listening}
+
+-- a log and its sender, eight receivers by their numbers, and the bytes of each packet that these gave out, in order
+pub record Scene : Type 0 where
+  pub log : Log
+  pub sender : Sender
+  -- when the sender last sent a SETUP, and whether a status message has come
+  pub naming : Naming
+  pub receivers : List Receiver
+  pub packets : List (List ℕ)
+
+-- the log as a stream of entries: between two lines nobody is armed, and nothing is cleaned
+abbrev pub stream_of : Log → stream.Log
+stream_of l = record {
+  identity = l.identity;
+  start = l.start;
+  tail = l.tail;
+  entries = l.entries;
+  armed = replicate 8 false;
+  limit = l.limit;
+  connected = l.connected;
+  closed = l.closed;
+  cleaned = l.start;
+  readers = [];
+}
+
+abbrev pub image_of : Receiver → Option Image
+image_of r = option_map (λ o. o.image) r.image
+
+-- the scene without its packets and moments
+abbrev pub world_of : Scene → World
+world_of s = record { log = stream_of s.log; sender = s.sender; images = map image_of s.receivers }
+
+-- a receiver of the log's session and stream, with half a term as its window and one consumer
+abbrev pub listening_at : Identity → ℕ → Receiver
+listening_at i number = listening i.session i.stream (i.geometry.term_length / 2) (pos number) 1
+
+-- a log that was just opened at this start
+abbrev pub opened_scene : Identity → ℕ → Scene
+opened_scene i start = record {
+  log = fresh i start 1;
+  sender = opened_sender start;
+  naming = record { clock = 0; last = None; heard = false };
+  receivers = map (listening_at i) (0 ∷ 1 ∷ 2 ∷ 3 ∷ 4 ∷ 5 ∷ 6 ∷ 7 ∷ []);
+  packets = [];
+}
