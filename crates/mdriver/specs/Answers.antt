@@ -1,7 +1,8 @@
 -- What each line of a script prints, and the scene after it.
 use Rattle.std.specs.Prelude.{◌≡◌, ◌⊎◌, ◌<◌, ◌≤◌, ℕ, suc, pos, Bool, true, List, [], ◌∷◌, ◌++◌, map, length, Option, None, Some, Result, Ok, Err, slice_get, slice_set, if◌then◌else◌}
+use Rattle.std.specs.List.{AllByRecursion}
 use Rattle.theory.specs.Position.{max_payload, position_of}
-use Rattle.theory.specs.Wire.{Status, Wire}
+use Rattle.theory.specs.Wire.{IsFrame, Status, Wire}
 use Rattle.theory.specs.Placed.{Placed, end_of}
 use Rattle.theory.specs.Entry.{committed}
 use Rattle.theory.specs.Control.{setup_at}
@@ -50,7 +51,17 @@ or_nothing (line ∷ lines) = line ∷ lines
 abbrev pub IsMissing : Scene → ℕ → List Print → Scene → Type 0
 IsMissing old k lines new = (length old.packets ≤ k) × (lines ≡ Bad ∷ []) × (new ≡ old)
 
+-- each of them is a frame that can be written
+abbrev pub AreFrames : List Wire → Type 0
+AreFrames wires = AllByRecursion IsFrame wires
+
 -- ---- offers
+
+-- one of eight publishers', a message that a frame can hold
+pub record MayOffer (l : Log) (by : ℕ) (message : List ℕ) : Type 0 where
+  pub publisher : by < 8
+  pub bytes : AllByRecursion (λ b. b < 256) message
+  pub short : length message ≤ max_payload l.identity.geometry
 
 abbrev pub Offered : Scene → ℕ → List ℕ → Result ℕ Refusal → List Print → Scene → Type 0
 Offered old by message (Ok end) lines new = (lines ≡ Position end ∷ []) × (new ≡ with_log old (with_message old.log by message))
@@ -72,6 +83,7 @@ clock_at s now = seen s.sender.clock now
 abbrev pub limit_of : Log → Sender → ℕ
 limit_of l x = flow_limit l.start x.said
 
+-- what goes out in a cycle
 abbrev pub IsCycle : Scene → ℕ → Cycle → Type 0
 IsCycle old now y =
     (y.setup ≡ is_due old.naming (clock_at old now))
@@ -97,6 +109,12 @@ after_cycle old now y = record (given_out old (sent_wires old.log.identity old.s
   naming = after_due old.naming (clock_at old now);
 }
 
+abbrev pub wires_of : Scene → Cycle → List Wire
+wires_of old y = sent_wires old.log.identity old.sender.at y
+
+abbrev pub Sends : Scene → ℕ → List Print → Scene → Type 0
+Sends old now lines new = (y : Cycle) × IsCycle old now y × AreFrames (wires_of old y) × (lines ≡ or_nothing (lines_of old (wires_of old y))) × (new ≡ after_cycle old now y)
+
 -- a status message raises the limit
 abbrev pub heard : Scene → ℕ → Status → Sender
 heard old now f = record old.sender {
@@ -113,7 +131,7 @@ SenderHears old now (Says f) lines new =
     × (new ≡ record old { sender = heard old now f; naming = record old.naming { heard = true } })
 SenderHears old now AsksSetup lines new =
     let out = setup_at old.log.identity old.sender.at ∷ [] in
-    (lines ≡ OfSender answers.Asked ∷ lines_of old out) × (new ≡ with_sender (given_out old out) (named (woken old now) true))
+    AreFrames out × (lines ≡ OfSender answers.Asked ∷ lines_of old out) × (new ≡ with_sender (given_out old out) (named (woken old now) true))
 SenderHears old now TellsNothing lines new = (lines ≡ OfSender answers.Other ∷ []) × (new ≡ with_sender old (woken old now))
 SenderHears old now (Unreadable fault) lines new = (lines ≡ OfSender (answers.Refused fault) ∷ []) × (new ≡ with_sender old (woken old now))
 
@@ -129,7 +147,8 @@ Delivered old k i now lines new =
 
 abbrev pub Ticks : Scene → ℕ → ℕ → List Print → Scene → Type 0
 Ticks old i now lines new =
-    (r : Receiver) × (slice_get old.receivers i ≡ Some r) × (lines ≡ or_nothing (lines_of old (replies r now))) × (new ≡ with_receiver (given_out old (replies r now)) i (ticked r now))
+    (r : Receiver) × (slice_get old.receivers i ≡ Some r) × AreFrames (replies r now) × (lines ≡ or_nothing (lines_of old (replies r now)))
+    × (new ≡ with_receiver (given_out old (replies r now)) i (ticked r now))
 
 abbrev pub PollsBy : Scene → ℕ → List Print → Scene → Type 0
 PollsBy old i lines new = (line : Print) × (r : Receiver) × (s : Receiver) × (slice_get old.receivers i ≡ Some r) × Polls r line s × (lines ≡ line ∷ []) × (new ≡ with_receiver old i s)
@@ -144,8 +163,8 @@ Answers old orders.Connect lines new = (lines ≡ Done ∷ []) × (new ≡ with_
 Answers old orders.Limit lines new = (lines ≡ Limit (raised old.log) ∷ []) × (new ≡ with_log old (record old.log { limit = raised old.log }))
 Answers old (orders.Offer by message) lines new =
     IsTooLong old message lines new
-    ⊎ ((length message ≤ max_payload old.log.identity.geometry) × Offered old by message (answer_of old.log (length message)) lines new)
-Answers old (orders.Send now) lines new = (y : Cycle) × IsCycle old now y × (lines ≡ or_nothing (lines_of old (sent_wires old.log.identity old.sender.at y))) × (new ≡ after_cycle old now y)
+    ⊎ (MayOffer old.log by message × Offered old by message (answer_of old.log (length message)) lines new)
+Answers old (orders.Send now) lines new = Sends old now lines new
 Answers old (orders.Deliver k i now) lines new = IsMissing old k lines new ⊎ Delivered old k i now lines new
 Answers old (orders.Tick i now) lines new = Ticks old i now lines new
 Answers old (orders.Reply k now) lines new = IsMissing old k lines new ⊎ Replied old k now lines new

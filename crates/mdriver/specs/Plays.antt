@@ -2,7 +2,7 @@
 use Rattle.std.specs.Prelude.{◌≡◌, ◌⊎◌, ◌<◌, ◌+◌, ◌%◌, ℕ, List, [], ◌∷◌, ◌++◌, map, length, slice_index, sum}
 use Rattle.std.specs.List.{flat_map}
 use Rattle.theory.specs.Position.{Geometry, IsGeometry, IsMtu, IsTermLength, max_position}
-use Rattle.theory.specs.Bytes.{Identity}
+use Rattle.theory.specs.Bytes.{Identity, IsIdentity}
 use Rattle.theory.specs.Tiling.{share_of}
 use Rattle.position.specs.declared.fault.GeometryError.{GeometryError}
 use Rattle.position.specs.declared.fault.GeometryError.TheVariants.{TermLength, Mtu}
@@ -58,3 +58,9 @@ HasFault o lines =
 
 abbrev pub Plays : Told → List Print → Type 0
 Plays script lines = HasFault script.log lines ⊎ PlaysOn script lines
+
+-- whatever is answered, after each line what was polled is what was published
+abbrev pub AlwaysPolled : Type 0
+AlwaysPolled =
+    (o : Opening) (played : List Played) (last : Scene) → IsGeometry (geometry_of o) → IsIdentity (identity_of o) → IsStart o →
+    AnswersAll (opened_scene (identity_of o) o.start) played last → (done later : List Played) → played ≡ done ++ later → PolledPrefix done

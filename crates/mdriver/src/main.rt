@@ -15,7 +15,7 @@ mod play;
 mod receiver;
 mod sender;
 mod sim;
-mod world;
+mod stage;
 
 use commands::command;
 use fault::Fault;

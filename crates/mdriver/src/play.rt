@@ -3,17 +3,21 @@
 ghost use Rattle.std.specs.Prelude.{◌≡◌, ◌<◌, vec_len, IfOk, All};
 ghost use Rattle.theory.specs.Position.{max_position};
 ghost use Rattle.log_buffer.specs.Reader.{AreAll};
+ghost use Rattle.mdriver.specs.Plays.{AlwaysPolled};
 
 use crate::line::Line;
 use crate::outbox::Outbox;
 use crate::receiver::ReceiverCore;
 use crate::sender::{Denied, SenderCore};
-use crate::world::{RECEIVERS, Subscriber, World, close_with};
+use crate::stage::{RECEIVERS, Stage, Subscriber, close_with};
 use flow_control::UnicastFlow;
+use frames::one_reading;
 use log_buffer::{LogError, LogState, Parts};
 use position::Geometry;
 use script::{LogLine, Script};
 use std::alloc::{AllocError, Global};
+use theory::names_place;
+use world::every_run;
 
 /// The lines that a script prints, or that memory was refused.
 pub fn play(alloc: Global, script: &Script) -> Result<Vec<Line>, AllocError> {
@@ -91,7 +95,7 @@ fn run(
     let flow = UnicastFlow::new(log.start());
     match SenderCore::new(alloc, geometry, log.session(), log.stream(), reader, flow) {
         Ok(sender) => {
-            let mut world = World {
+            let mut stage = Stage {
                 alloc,
                 log,
                 publishers,
@@ -102,8 +106,8 @@ fn run(
                 subscribers,
                 packets: Vec::new(alloc),
             };
-            let played = world.play_all(&script.commands);
-            let book = world.end();
+            let played = stage.play_all(&script.commands);
+            let book = stage.end();
             let mut lines = played?;
             lines.push(Line::Book(book))?;
             Ok(lines)
@@ -114,4 +118,14 @@ fn run(
             Err(AllocError)
         }
     }
+}
+
+/// Does nothing, and says of each script that can be answered line by line: what the polls of a receiver printed is
+/// what was published between its join and its position.
+fn polls_a_prefix()
+    ensures { AlwaysPolled }
+{
+    every_run();
+    names_place();
+    one_reading();
 }

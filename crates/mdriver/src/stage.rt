@@ -33,7 +33,7 @@ pub struct Subscriber {
 }
 
 /// What a script plays on.
-pub struct World {
+pub struct Stage {
     pub alloc: Global,
     pub log: LogState,
     pub publishers: Vec<Publisher>,
@@ -132,7 +132,7 @@ impl Subscriber {
     }
 }
 
-impl World {
+impl Stage {
     /// Plays all commands, and gives their lines behind the first one.
     pub fn play_all(&mut self, commands: &[Command]) -> Result<Vec<Line>, AllocError> {
         let mut lines = Vec::new(self.alloc);
@@ -145,7 +145,7 @@ impl World {
 
     /// Ends the log.
     pub fn end(self) -> Book {
-        let World {
+        let Stage {
             alloc: _,
             log,
             publishers,

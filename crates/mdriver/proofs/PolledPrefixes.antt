@@ -1,0 +1,136 @@
+-- After each line of a script, what was polled is what was published.
+use Rattle.std.proofs.Common.{◌≡◌, ◌⊎◌, ℕ, zero, suc, ◌+◌, ◌*◌, ◌/◌, ◌<◌, ◌≤◌, List, [], ◌∷◌, ◌++◌, map, Option, None, Some, inl, inr, refl, sym, ap, ◌∙◌, subst, arith, append-nil, append_assoc}
+use Rattle.std.specs.Prelude.{slice_get}
+use Rattle.std.specs.List.{AllByRecursion}
+use Rattle.std.specs.Option.{option_map}
+use Rattle.std.proofs.Math.Nat.{lt-div-mul-add}
+use Rattle.theory.specs.Position.{IsGeometry}
+use Rattle.theory.specs.Bytes.{Identity, IsIdentity}
+use Rattle.theory.specs.Consumer.{Consumer, least_of}
+use Rattle.theory.specs.Headline.{HasPolled}
+use Rattle.theory.specs.Messages.{messages}
+use Rattle.theory.proofs.Lists.{each_get}
+use Rattle.script.specs.Meaning as orders
+use Rattle.script.specs.Meaning.{Order}
+use Rattle.mdriver.specs.Answers.{Answers}
+use Rattle.mdriver.specs.Plays.{AlwaysPolled, AnswersAll, IsStart, geometry_of, identity_of}
+use Rattle.mdriver.specs.Polling.{TellsOf}
+use Rattle.mdriver.specs.Prints.{Print, Positions, Bad}
+use Rattle.mdriver.specs.Published.{AllWhole, LastTold, Played, PolledNothing, PolledPrefix, PolledTo, between, joins, polled, published}
+use Rattle.mdriver.specs.Receiving.{Opened, Receiver}
+use Rattle.mdriver.specs.Scene.{Scene, image_of, listening_at, opened_scene, world_of}
+use Rattle.mdriver.proofs.ReceiverRuns.{Follows, FollowsImage, IsFollowed}
+use Rattle.mdriver.proofs.Runs.{map_get, stays}
+use Rattle.mdriver.proofs.Sound.{Begins, HasFollowed, IsSound, Laws, and_line, opened}
+use Rattle.mdriver.proofs.SoundLines.{connect_line, limit_line, offer_line, reply_line, send_line}
+use Rattle.mdriver.proofs.SoundReceivers.{deliver_line, image_line, poll_line, tick_line}
+
+line : Laws → (i : Identity) (start : ℕ) (played : List Played) (order : Order) (lines : List Print) (s t : Scene) → Begins i start → IsSound i start played s → Answers s order lines t → IsSound i start (and_line played order lines) t
+line laws i start played orders.Connect lines s t b h m = subst (λ x. IsSound i start (and_line played orders.Connect lines) x) (sym m.1) (connect_line i start played lines s h)
+line laws i start played orders.Limit lines s t b h m = subst (λ x. IsSound i start (and_line played orders.Limit lines) x) (sym m.1) (limit_line laws i start played lines s b h)
+line laws i start played (orders.Offer by message) lines s t b h m = offer_line laws i start played s t by message lines b h m
+line laws i start played (orders.Send now) lines s t b h m = send_line laws i start played s t now lines b h m
+line laws i start played (orders.Deliver k n now) lines s t b h m = deliver_line laws i start played k n now lines s t h m
+line laws i start played (orders.Tick n now) lines s t b h m = tick_line i start played n now lines s t h m
+line laws i start played (orders.Reply k now) lines s t b h m = reply_line laws i start played k now lines s t b h m
+line laws i start played (orders.Poll n) lines s t b h m = poll_line i start played n lines s t h m
+line laws i start played (orders.Image n) lines s t b h m = image_line i start played n lines s t h m
+
+goes_on : Laws → (i : Identity) (start : ℕ) (done rest : List Played) (s last : Scene) → Begins i start → IsSound i start done s → AnswersAll s rest last → IsSound i start (done ++ rest) last
+goes_on laws i start done [] s last b h m = subst (λ x. IsSound i start (done ++ []) x) (sym m) (subst (λ ps. IsSound i start ps s) (sym (append-nil done)) h)
+goes_on laws i start done (p ∷ ps) s last b h m =
+    subst (λ qs. IsSound i start qs last) (append_assoc done (p ∷ []) ps)
+    (goes_on laws i start (done ++ p ∷ []) ps m.0 last b (line laws i start done p.order p.lines s m.0 b h m.1) m.2)
+
+-- ---- where it begins
+
+listens : (i : Identity) (k : ℕ) → k < 8 → slice_get (map (listening_at i) (0 ∷ 1 ∷ 2 ∷ 3 ∷ 4 ∷ 5 ∷ 6 ∷ 7 ∷ [])) k ≡ Some (listening_at i k)
+listens i zero h = refl
+listens i (suc zero) h = refl
+listens i (suc (suc zero)) h = refl
+listens i (suc (suc (suc zero))) h = refl
+listens i (suc (suc (suc (suc zero)))) h = refl
+listens i (suc (suc (suc (suc (suc zero))))) h = refl
+listens i (suc (suc (suc (suc (suc (suc zero)))))) h = refl
+listens i (suc (suc (suc (suc (suc (suc (suc zero))))))) h = refl
+listens i (suc (suc (suc (suc (suc (suc (suc (suc k)))))))) h = absurd (omega (arith, h))
+
+begins : (i : Identity) (start : ℕ) → Begins i start → IsSound i start [] (opened_scene i start)
+begins i start b = record {
+  runs = stays (world_of (opened_scene i start)) (world_of (opened_scene i start)) refl;
+  identity = refl;
+  start_is = refl;
+  low = omega (arith, lt-div-mul-add {a = start} {b = i.geometry.term_length} (omega (arith, b.geometry.term.least)));
+  one = refl;
+  unit = b.unit;
+  sending = record { legal = b.geometry; sent = tt; setups = tt };
+  honest = tt;
+  messages_are = λ j q. refl;
+  eight = refl;
+  receivers = λ k low. (listening_at i k, listens i k low, record { consumers = refl; image = (refl, refl) });
+}
+
+-- ---- what was polled
+
+has_polled : Laws → (i : Identity) (start : ℕ) (played : List Played) (s : Scene) (k : ℕ) (r : Receiver) (o : Opened) (c : Consumer) → Begins i start → IsSound i start played s → slice_get s.receivers k ≡ Some r → r.image ≡ Some o → o.image.consumers ≡ c ∷ [] → HasPolled s.log.entries c
+has_polled laws i start played s k r o c b h there was one =
+    let law = laws.prefixes (world_of (opened_scene i start)) (world_of s) h.runs.0 (opened i start b) h.runs.1 in
+    let found : slice_get (world_of s).images k ≡ Some (Some o.image) = map_get image_of s.receivers k r there ∙ ap Some (ap (option_map (λ x. x.image)) was) in
+    let all = each_get (λ x. AllByRecursion (λ c. HasPolled s.log.entries c × (c.join ≡ x.join)) x.consumers) (world_of s).images k o.image found law.1 in
+    (subst (λ cs. AllByRecursion (λ c. HasPolled s.log.entries c × (c.join ≡ o.image.join)) cs) one all).0.0
+
+answers_split : (a b : Scene) (xs ys : List Played) → AnswersAll a (xs ++ ys) b → (m : Scene) × AnswersAll a xs m × AnswersAll m ys b
+answers_split a b [] ys h = (a, refl, h)
+answers_split a b (x ∷ xs) ys h =
+    let rest = answers_split h.0 b xs ys h.2 in
+    (rest.0, (h.0, h.1, rest.1), rest.2)
+
+told_least : (o : Opened) (c : Consumer) (least rebuilt high : ℕ) (print : Print) → o.image.consumers ≡ c ∷ [] → TellsOf (Some o) print → Positions least rebuilt high ≡ print → c.at ≡ least
+told_least o c least rebuilt high print one tells e =
+    let same : Positions least rebuilt high ≡ Positions (least_of o.image.consumers) tells.0 o.image.high = e ∙ tells.2 in
+    let at : least ≡ least_of o.image.consumers = cc in
+    sym (at ∙ ap least_of one)
+
+last_told : (i : Identity) (start : ℕ) (played : List Played) (last : Scene) (k : ℕ) (r : Receiver) (o : Opened) (c : Consumer) (least : ℕ) → AnswersAll (opened_scene i start) played last → slice_get last.receivers k ≡ Some r → r.image ≡ Some o → o.image.consumers ≡ c ∷ [] → LastTold k least played → c.at ≡ least
+last_told i start played last k r o c least all there was one told =
+    let rebuilt = told.1 in
+    let high = told.2 in
+    let lines = Positions least rebuilt high ∷ [] in
+    let parts = answers_split (opened_scene i start) last told.0 (record { order = orders.Image k; lines = lines } ∷ []) (subst (λ ps. AnswersAll (opened_scene i start) ps last) told.3 all) in
+    let m = parts.2.1 in
+    let print : Print = m.0 in
+    let same_scene : last ≡ parts.0 = parts.2.2 ∙ m.5 in
+    let found : Some m.1 ≡ Some r = sym m.2 ∙ ap (λ x. slice_get x.receivers k) (sym same_scene) ∙ there in
+    let same : m.1 ≡ r = cc in
+    let heads : Positions least rebuilt high ∷ [] ≡ print ∷ [] = m.4 in
+    let head : Positions least rebuilt high ≡ print = cc in
+    told_least o c least rebuilt high print one (subst (λ x. TellsOf x print) (ap (λ x. x.image) same ∙ was) m.3) head
+
+polled_to : Laws → (i : Identity) (start : ℕ) (played : List Played) (last : Scene) (k : ℕ) (r : Receiver) (o : Opened) → Begins i start → IsSound i start played last → AnswersAll (opened_scene i start) played last → slice_get last.receivers k ≡ Some r → r.image ≡ Some o → IsFollowed i o (joins k played) (polled k played) (AllWhole k played) → AllWhole k played → PolledTo k played
+polled_to laws i start played last k r o b h all there was f whole =
+    let c = f.consumer in
+    let law = has_polled laws i start played last k r o c b h there was f.one in
+    let heard = f.heard whole in
+    let to : c.heard_to ≡ c.at = law.whole heard.0 in (
+      c.join,
+      c.at,
+      f.joined,
+      sym heard.1 ∙ law.given ∙ ap (λ q. messages c.join q last.log.entries) to ∙ h.messages_are c.join c.at,
+      λ least told. last_told i start played last k r o c least all there was f.one told,
+    )
+
+of_image : Laws → (i : Identity) (start : ℕ) (played : List Played) (last : Scene) (k : ℕ) (r : Receiver) (image : Option Opened) → Begins i start → IsSound i start played last → AnswersAll (opened_scene i start) played last → slice_get last.receivers k ≡ Some r → r.image ≡ image → FollowsImage image i (joins k played) (polled k played) (AllWhole k played) → AllWhole k played → PolledNothing k played ⊎ PolledTo k played
+of_image laws i start played last k r None b h all there was f whole = inl f
+of_image laws i start played last k r (Some o) b h all there was f whole = inr (polled_to laws i start played last k r o b h all there was f whole)
+
+prefix : Laws → (i : Identity) (start : ℕ) (played : List Played) (last : Scene) → Begins i start → AnswersAll (opened_scene i start) played last → PolledPrefix played
+prefix laws i start played last b all k low whole =
+    let h = goes_on laws i start [] played (opened_scene i start) last b (begins i start b) all in
+    let r = h.receivers k low in
+    of_image laws i start played last k r.0 r.0.image b h all r.1 refl r.2.image whole
+
+pub always_polled : Laws → AlwaysPolled
+always_polled laws o played last legal identity starts all done later parts =
+    let i = identity_of o in
+    let split = answers_split (opened_scene i o.start) last done later (subst (λ ps. AnswersAll (opened_scene i o.start) ps last) parts all) in
+    prefix laws i o.start done split.0 (record { geometry = legal; identity = identity; unit = starts.0; below = starts.1 }) split.1

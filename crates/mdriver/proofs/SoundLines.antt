@@ -1,0 +1,289 @@
+-- Each line of a script leaves a sound scene.
+use Rattle.std.proofs.Common.{◌≡◌, ◌⊎◌, ℕ, ◌+◌, ◌*◌, ◌/◌, ◌%◌, ◌^◌, ◌<◌, ◌≤◌, List, [], ◌∷◌, ◌++◌, map, length, Bool, true, false, cond, Option, None, Some, inl, inr, ⊎_elim, refl, sym, ap, ◌∙◌, subst, arith, append-nil}
+use Rattle.std.specs.Prelude.{nat_eq, slice_get, slice_set, Result, Ok, Err}
+use Rattle.std.specs.Option.{option_to_list}
+use Rattle.std.specs.List.{AllByRecursion, flat_map}
+use Rattle.std.proofs.lemmas.Bool.{cases_eq, cond-true, cond-false, eq-eqb, ne_eqb}
+use Rattle.theory.specs.Position.{IsGeometry, aligned, max_position}
+use Rattle.theory.specs.Placed.{Among, Placed, end_of, frame_length}
+use Rattle.theory.specs.Entry.{Entry, committed}
+use Rattle.theory.specs.Bytes.{Identity, IsIdentity}
+use Rattle.theory.specs.Control.{MayBeGiven, setup_at}
+use Rattle.theory.specs.Messages.{messages}
+use Rattle.theory.specs.Sender.{Sender}
+use Rattle.theory.specs.Wire.{Wire, SpellsDatagram}
+use Rattle.theory.specs.World.{World}
+use Rattle.theory.proofs.Lists.{all_append, all_get}
+use Rattle.log_buffer.specs.Limits.{raised}
+use Rattle.log_buffer.specs.Log.{Log, published, term_end, with_message}
+use Rattle.log_buffer.specs.Offers.{answer_of}
+use Rattle.log_buffer.specs.declared.fault.Refusal.{Refusal}
+use Rattle.script.specs.Meaning as orders
+use Rattle.script.specs.Meaning.{Order}
+use Rattle.mdriver.specs.declared.receiver.Outcome.{Outcome}
+use Rattle.mdriver.specs.declared.receiver.Outcome.TheVariants as outcomes
+use Rattle.mdriver.specs.Answers.{AreFrames, Delivered, IsCycle, IsMissing, IsTooLong, MayOffer, Offered, PollsBy, Replied, SenderHears, Sends, TellsBy, Ticks, after_cycle, clock_at, cycled, given_out, heard, limit_of, lines_of, named, or_nothing, sent_on, wires_of, with_log, with_receiver, with_sender, woken}
+use Rattle.setup.specs.Naming.{Naming, after_due}
+use Rattle.mdriver.specs.Cycling.{AsksSetup, Cycle, IsNextSent, News, Says, TellsNothing, Unreadable, datagrams, sent_wires}
+use Rattle.mdriver.specs.Polling.{Polls}
+use Rattle.mdriver.specs.Prints.{Print, OfReceiver, OfSender, Position, Bad, Refused}
+use Rattle.mdriver.specs.Published as visible
+use Rattle.mdriver.specs.Published.{AllWhole, IsWhole, Played, between, is_fault, joined_by, joins, joins_in, joins_of, messages_in, placed_at, polled, polled_by, published_by}
+use Rattle.mdriver.specs.Receiving.{Hears, Meets, MeetsAll, Receiver, at_moment, replies, ticked}
+use Rattle.mdriver.specs.Scene.{Scene, image_of, opened_scene, world_of}
+use Rattle.mdriver.proofs.Honest.{AreHonest, IsHonest, cycle_given, honest_more, honest_wires, named_more, one_frame, replies_given, sent_more}
+use Rattle.mdriver.proofs.OfferRuns.{IsAccepted, accepted, between_more, messages_more, offers, one_more}
+use Rattle.mdriver.proofs.PollFollows.{PollMet, StillWhole, polls_met}
+use Rattle.mdriver.proofs.ReceiverRuns.{At, Follows, IsSending, Met, meets, met_nothing, unchanged}
+use Rattle.mdriver.proofs.Runs.{Goes, goes_on}
+use Rattle.mdriver.proofs.SenderRuns.{SenderHolds, asked, connects, cycles, hears, limits, named_at, sees}
+use Rattle.mdriver.proofs.Sound.{Begins, HasFollowed, IsQuiet, IsSound, Laws, and_line, at_number, end_in_stream, follows_as, holds, joins_more, polled_more, published_more, receiver_moves, receivers_stay, sender_below, whole_parts}
+
+-- ---- lines after which only the log or the sender is another
+
+-- nothing is published by the line
+pub messages_stay : (played : List Played) (order : Order) (lines : List Print) (xs : List Entry) → published_by order lines ≡ [] → ((j q : ℕ) → messages j q xs ≡ between j q (visible.published played)) → (j q : ℕ) → messages j q xs ≡ between j q (visible.published (and_line played order lines))
+messages_stay played order lines xs none h j q =
+    h j q ∙ ap (λ ms. between j q ms) (sym (published_more played order lines ∙ ap (λ ms. visible.published played ++ ms) none ∙ append-nil (visible.published played)))
+
+-- nothing has changed
+pub same_scene : (i : Identity) (start : ℕ) (played : List Played) (order : Order) (lines : List Print) (s t : Scene) → IsQuiet order lines → published_by order lines ≡ [] → t ≡ s → IsSound i start played s → IsSound i start (and_line played order lines) t
+same_scene i start played order lines s t quiet none same h =
+    subst (λ x. IsSound i start (and_line played order lines) x) (sym same) (record {
+      runs = h.runs;
+      identity = h.identity;
+      start_is = h.start_is;
+      low = h.low;
+      one = h.one;
+      unit = h.unit;
+      sending = h.sending;
+      honest = h.honest;
+      messages_are = messages_stay played order lines s.log.entries none h.messages_are;
+      eight = h.eight;
+      receivers = receivers_stay i played order lines s s quiet refl h.receivers;
+    })
+
+-- the log took another limit or a flag
+abbrev flagged : Scene → ℕ → Bool → Scene
+flagged s limit connected = with_log s (record s.log { limit = limit; connected = connected })
+
+flag_line : (i : Identity) (start : ℕ) (played : List Played) (order : Order) (lines : List Print) (s : Scene) (limit : ℕ) (connected : Bool) → IsQuiet order lines → published_by order lines ≡ [] → Goes (world_of s) (world_of (flagged s limit connected)) → IsSound i start played s → IsSound i start (and_line played order lines) (flagged s limit connected)
+flag_line i start played order lines s limit connected quiet none goes h = record {
+  runs = goes_on (world_of (opened_scene i start)) (world_of s) (world_of (flagged s limit connected)) h.runs goes;
+  identity = h.identity;
+  start_is = h.start_is;
+  low = h.low;
+  one = h.one;
+  unit = h.unit;
+  sending = record { legal = h.sending.legal; sent = h.sending.sent; setups = h.sending.setups };
+  honest = h.honest;
+  messages_are = messages_stay played order lines s.log.entries none h.messages_are;
+  eight = h.eight;
+  receivers = receivers_stay i played order lines s (flagged s limit connected) quiet refl h.receivers;
+}
+
+pub connect_line : (i : Identity) (start : ℕ) (played : List Played) (lines : List Print) (s : Scene) → IsSound i start played s → IsSound i start (and_line played orders.Connect lines) (with_log s (record s.log { connected = true }))
+connect_line i start played lines s h = flag_line i start played orders.Connect lines s s.log.limit true (record { joins = λ k. refl; polls = λ k. refl }) refl (connects s) h
+
+pub limit_line : Laws → (i : Identity) (start : ℕ) (played : List Played) (lines : List Print) (s : Scene) → Begins i start → IsSound i start played s → IsSound i start (and_line played orders.Limit lines) (with_log s (record s.log { limit = raised s.log }))
+limit_line laws i start played lines s b h =
+    let sender : SenderHolds s.log s.sender = record { one = h.one; unit = h.unit; below = sender_below laws i start s b h.runs } in
+    flag_line i start played orders.Limit lines s (raised s.log) s.log.connected (record { joins = λ k. refl; polls = λ k. refl }) refl (limits s (omega (arith, h.sending.legal.term.least)) sender h.low) h
+
+-- ---- an offer
+
+quiet_offer : (by : ℕ) (message : List ℕ) (lines : List Print) → IsQuiet (orders.Offer by message) lines
+quiet_offer by message lines = record { joins = λ k. refl; polls = λ k. refl }
+
+taken_line : Laws → (i : Identity) (start : ℕ) (played : List Played) (s : Scene) (by : ℕ) (message : List ℕ) (end : ℕ) → Begins i start → IsSound i start played s → MayOffer s.log by message → answer_of s.log (length message) ≡ Ok end → IsSound i start (and_line played (orders.Offer by message) (Position end ∷ [])) (with_log s (with_message s.log by message))
+taken_line laws i start played s by message end b h may answer =
+    let a = accepted s.log (length message) end answer in
+    let order = orders.Offer by message in
+    let lines = Position end ∷ [] in
+    let t = with_log s (with_message s.log by message) in
+    record {
+      runs = goes_on (world_of (opened_scene i start)) (world_of s) (world_of t) h.runs (offers s by message end (holds laws i start played s b h) may a);
+      identity = h.identity;
+      start_is = h.start_is;
+      low = a.fits;
+      one = h.one;
+      unit = h.unit;
+      sending = record { legal = h.sending.legal; sent = h.sending.sent; setups = h.sending.setups };
+      honest = h.honest;
+      messages_are = λ j q.
+          messages_more j q s.log.entries (published s.log.tail by message ∷ [])
+          ∙ ap (λ ms. ms ++ messages j q (published s.log.tail by message ∷ [])) (h.messages_are j q)
+          ∙ ap (λ ms. between j q (visible.published played) ++ ms) (one_more j q s.log.tail by message end a.end_is)
+          ∙ sym (ap (λ ms. between j q ms) (published_more played order lines) ∙ between_more j q (visible.published played) (placed_at message end ∷ []));
+      eight = h.eight;
+      receivers = receivers_stay i played order lines s t (quiet_offer by message lines) refl h.receivers;
+    }
+
+offered : Laws → (i : Identity) (start : ℕ) (played : List Played) (s t : Scene) (by : ℕ) (message : List ℕ) (lines : List Print) (answer : Result ℕ Refusal) → Begins i start → IsSound i start played s → MayOffer s.log by message → answer_of s.log (length message) ≡ answer → Offered s by message answer lines t → IsSound i start (and_line played (orders.Offer by message) lines) t
+offered laws i start played s t by message lines (Ok end) b h may is o =
+    subst (λ x. IsSound i start (and_line played (orders.Offer by message) lines) x) (sym o.1)
+    (subst (λ ls. IsSound i start (and_line played (orders.Offer by message) ls) (with_log s (with_message s.log by message))) (sym o.0) (taken_line laws i start played s by message end b h may is))
+offered laws i start played s t by message lines (Err refusal) b h may is o =
+    same_scene i start played (orders.Offer by message) lines s t (quiet_offer by message lines) (ap (λ ls. published_by (orders.Offer by message) ls) o.0) o.1 h
+
+pub offer_line : Laws → (i : Identity) (start : ℕ) (played : List Played) (s t : Scene) (by : ℕ) (message : List ℕ) (lines : List Print) → Begins i start → IsSound i start played s → IsTooLong s message lines t ⊎ (MayOffer s.log by message × Offered s by message (answer_of s.log (length message)) lines t) → IsSound i start (and_line played (orders.Offer by message) lines) t
+offer_line laws i start played s t by message lines b h (inl long) = same_scene i start played (orders.Offer by message) lines s t (quiet_offer by message lines) (ap (λ ls. published_by (orders.Offer by message) ls) long.1) long.2 h
+offer_line laws i start played s t by message lines b h (inr o) = offered laws i start played s t by message lines (answer_of s.log (length message)) b h o.0 refl o.1
+
+-- ---- the sender
+
+-- another sender with its packets, which sent and named no less, and no position above the end of the stream
+record IsSenderNext (i : Identity) (s t : Scene) (x : Sender) (wires : List Wire) : Type 0 where
+  goes : Goes (world_of s) (world_of t)
+  more : (p : Placed) → Among p s.sender.sent → Among p x.sent
+  named : (p : ℕ) → Among p s.sender.setups → Among p x.setups
+  given : AllByRecursion (λ w. MayBeGiven i x.sent x.setups w) wires
+  frames : AreFrames wires
+  unit : x.at % 32 ≡ 0
+  sent : AllByRecursion (λ p. p.at ≤ max_position i.geometry) x.sent
+  setups : AllByRecursion (λ p. p ≤ max_position i.geometry) x.setups
+
+-- the scene with another sender, more packets, and what the sender remembers of its SETUPs
+abbrev sender_scene : Scene → Sender → Naming → List Wire → Scene
+sender_scene s x naming wires = record (given_out s wires) { log = record s.log { consumers = x.at ∷ [] }; sender = x; naming = naming }
+
+sender_line : (i : Identity) (start : ℕ) (played : List Played) (order : Order) (lines : List Print) (s : Scene) (x : Sender) (naming : Naming) (wires : List Wire) → IsQuiet order lines → published_by order lines ≡ [] → IsSenderNext i s (sender_scene s x naming wires) x wires → IsSound i start played s → IsSound i start (and_line played order lines) (sender_scene s x naming wires)
+sender_line i start played order lines s x naming wires quiet none n h =
+    let t = sender_scene s x naming wires in
+    record {
+      runs = goes_on (world_of (opened_scene i start)) (world_of s) (world_of t) h.runs n.goes;
+      identity = h.identity;
+      start_is = h.start_is;
+      low = h.low;
+      one = refl;
+      unit = n.unit;
+      sending = record {
+        legal = h.sending.legal;
+        sent = subst (λ y. AllByRecursion (λ p. p.at ≤ max_position y.geometry) x.sent) (sym h.identity) n.sent;
+        setups = subst (λ y. AllByRecursion (λ p. p ≤ max_position y.geometry) x.setups) (sym h.identity) n.setups;
+      };
+      honest = all_append (IsHonest i x) s.packets (datagrams wires) (honest_more i s.sender x s.packets n.more n.named h.honest) (honest_wires i x wires n.frames n.given);
+      messages_are = messages_stay played order lines s.log.entries none h.messages_are;
+      eight = h.eight;
+      receivers = receivers_stay i played order lines s t quiet refl h.receivers;
+    }
+
+low_at : Laws → (i : Identity) (start : ℕ) (played : List Played) (s : Scene) → Begins i start → IsSound i start played s → s.sender.at ≤ max_position i.geometry
+low_at laws i start played s b h =
+    let high : s.log.tail ≤ max_position s.log.identity.geometry = omega (arith, h.low, end_in_stream s.log (holds laws i start played s b h)) in
+    let same : max_position s.log.identity.geometry ≡ max_position i.geometry = ap (λ x. max_position x.geometry) h.identity in
+    omega (arith, high, same, sender_below laws i start s b h.runs)
+
+sent_unit : (x : Sender) (limit : ℕ) (frames : List Placed) (frame : Option Placed) → IsNextSent frames x.at limit frame → x.at % 32 ≡ 0 → (sent_on x frame).at % 32 ≡ 0
+sent_unit x limit frames None next unit = unit
+sent_unit x limit frames (Some s) next unit = omega (arith, unit, next.1)
+
+sent_low : (x : Sender) (limit most : ℕ) (frames : List Placed) (frame : Option Placed) → IsNextSent frames x.at limit frame → x.at ≤ most → AllByRecursion (λ p. p.at ≤ most) x.sent → AllByRecursion (λ p. p.at ≤ most) (sent_on x frame).sent
+sent_low x limit most frames None next low all = all
+sent_low x limit most frames (Some s) next low all = (omega (arith, low, next.1), all)
+
+named_low : (x : Sender) (due : Bool) (most : ℕ) → x.at ≤ most → AllByRecursion (λ p. p ≤ most) x.setups → AllByRecursion (λ p. p ≤ most) (named x due).setups
+named_low x true most low all = (low, all)
+named_low x false most low all = all
+
+named_sent : (x : Sender) (due : Bool) → (named x due).sent ≡ x.sent
+named_sent x true = refl
+named_sent x false = refl
+
+setups_on : (x : Sender) (frame : Option Placed) → (sent_on x frame).setups ≡ x.setups
+setups_on x None = refl
+setups_on x (Some s) = refl
+
+cycle_next : Laws → (i : Identity) (start : ℕ) (played : List Played) (s : Scene) (now : ℕ) (y : Cycle) → Begins i start → IsSound i start played s → IsCycle s now y → AreFrames (wires_of s y) → IsSenderNext i s (after_cycle s now y) (cycled s now y) (wires_of s y)
+cycle_next laws i start played s now y b h c frames =
+    let z = woken s now in
+    let x = named z y.setup in
+    let most = max_position i.geometry in
+    let low : s.sender.at ≤ most = low_at laws i start played s b h in
+    let at : x.at ≡ s.sender.at = named_at z y.setup in
+    let next : IsNextSent (committed s.log.entries) x.at (limit_of s.log s.sender) y.frame = subst (λ p. IsNextSent (committed s.log.entries) p (limit_of s.log s.sender) y.frame) (sym at) c.1 in
+    let low_sent : AllByRecursion (λ p. p.at ≤ most) s.sender.sent = subst (λ k. AllByRecursion (λ p. p.at ≤ max_position k.geometry) s.sender.sent) h.identity h.sending.sent in
+    let low_setups : AllByRecursion (λ p. p ≤ most) s.sender.setups = subst (λ k. AllByRecursion (λ p. p ≤ max_position k.geometry) s.sender.setups) h.identity h.sending.setups in
+    record {
+      goes = cycles s now y c;
+      more = λ p a. sent_more z y.setup y.frame p a;
+      named = λ p a. named_more z y.setup y.frame p a;
+      given = subst (λ k. AllByRecursion (λ w. MayBeGiven k (cycled s now y).sent (cycled s now y).setups w) (wires_of s y)) h.identity (cycle_given s.log.identity z y);
+      frames = frames;
+      unit = sent_unit x (limit_of s.log s.sender) (committed s.log.entries) y.frame next (omega (arith, at, h.unit));
+      sent = sent_low x (limit_of s.log s.sender) most (committed s.log.entries) y.frame next (omega (arith, at, low)) (subst (λ xs. AllByRecursion (λ p. p.at ≤ most) xs) (sym (named_sent z y.setup)) low_sent);
+      setups = subst (λ xs. AllByRecursion (λ p. p ≤ most) xs) (sym (setups_on x y.frame)) (named_low z y.setup most low low_setups);
+    }
+
+pub send_line : Laws → (i : Identity) (start : ℕ) (played : List Played) (s t : Scene) (now : ℕ) (lines : List Print) → Begins i start → IsSound i start played s → Sends s now lines t → IsSound i start (and_line played (orders.Send now) lines) t
+send_line laws i start played s t now lines b h m =
+    let y = m.0 in
+    subst (λ x. IsSound i start (and_line played (orders.Send now) lines) x) (sym m.4)
+    (sender_line i start played (orders.Send now) lines s (cycled s now y) (after_due s.naming (clock_at s now)) (wires_of s y) (record { joins = λ k. refl; polls = λ k. refl }) refl (cycle_next laws i start played s now y b h m.1 m.2) h)
+
+-- ---- what the sender is told
+
+-- the sender stands where it stood
+told_scene : (s : Scene) (x : Sender) (naming : Naming) (wires : List Wire) → s.log.consumers ≡ x.at ∷ [] → sender_scene s x naming wires ≡ record (given_out s wires) { sender = x; naming = naming }
+told_scene s x naming wires one = ap (λ xs. record (given_out s wires) { log = record s.log { consumers = xs }; sender = x; naming = naming }) (sym one)
+
+-- it has sent and named what it had
+record IsAsBefore (s : Scene) (x : Sender) : Type 0 where
+  at : x.at ≡ s.sender.at
+  sent : x.sent ≡ s.sender.sent
+  setups : x.setups ≡ s.sender.setups
+
+told_line : (i : Identity) (start : ℕ) (played : List Played) (k now : ℕ) (lines : List Print) (s : Scene) (x : Sender) (naming : Naming) → IsAsBefore s x → Goes (world_of s) (world_of (record s { sender = x })) → IsSound i start played s → IsSound i start (and_line played (orders.Reply k now) lines) (record s { sender = x; naming = naming })
+told_line i start played k now lines s x naming same goes h =
+    let t = record s { sender = x; naming = naming } in
+    record {
+      runs = goes_on (world_of (opened_scene i start)) (world_of s) (world_of t) h.runs goes;
+      identity = h.identity;
+      start_is = h.start_is;
+      low = h.low;
+      one = h.one ∙ ap (λ p. p ∷ []) (sym same.at);
+      unit = omega (arith, same.at, h.unit);
+      sending = record {
+        legal = h.sending.legal;
+        sent = subst (λ xs. AllByRecursion (λ p. p.at ≤ max_position s.log.identity.geometry) xs) (sym same.sent) h.sending.sent;
+        setups = subst (λ xs. AllByRecursion (λ p. p ≤ max_position s.log.identity.geometry) xs) (sym same.setups) h.sending.setups;
+      };
+      honest = honest_more i s.sender x s.packets (λ p a. subst (λ xs. Among p xs) (sym same.sent) a) (λ p a. subst (λ xs. Among p xs) (sym same.setups) a) h.honest;
+      messages_are = messages_stay played (orders.Reply k now) lines s.log.entries refl h.messages_are;
+      eight = h.eight;
+      receivers = receivers_stay i played (orders.Reply k now) lines s t (record { joins = λ n. refl; polls = λ n. refl }) refl h.receivers;
+    }
+
+asked_line : Laws → (i : Identity) (start : ℕ) (played : List Played) (k now : ℕ) (lines : List Print) (s : Scene) → Begins i start → IsSound i start played s → AreFrames (setup_at s.log.identity s.sender.at ∷ []) → IsSound i start (and_line played (orders.Reply k now) lines) (with_sender (given_out s (setup_at s.log.identity s.sender.at ∷ [])) (named (woken s now) true))
+asked_line laws i start played k now lines s b h frames =
+    let x = named (woken s now) true in
+    let wires = setup_at s.log.identity s.sender.at ∷ [] in
+    let low = low_at laws i start played s b h in
+    subst (λ t. IsSound i start (and_line played (orders.Reply k now) lines) t) (told_scene s x s.naming wires h.one)
+    (sender_line i start played (orders.Reply k now) lines s x s.naming wires (record { joins = λ n. refl; polls = λ n. refl }) refl (record {
+      goes = asked s now;
+      more = λ p a. a;
+      named = λ p a. inr a;
+      given = ((s.sender.at, inl refl, ap (λ y. setup_at y s.sender.at) h.identity), tt);
+      frames = frames;
+      unit = h.unit;
+      sent = subst (λ y. AllByRecursion (λ p. p.at ≤ max_position y.geometry) s.sender.sent) h.identity h.sending.sent;
+      setups = (low, subst (λ y. AllByRecursion (λ p. p ≤ max_position y.geometry) s.sender.setups) h.identity h.sending.setups);
+    }) h)
+
+hears_line : Laws → (i : Identity) (start : ℕ) (played : List Played) (k now : ℕ) (lines : List Print) (s t : Scene) (news : News) → Begins i start → IsSound i start played s → SenderHears s now news lines t → IsSound i start (and_line played (orders.Reply k now) lines) t
+hears_line laws i start played k now lines s t (Says f) b h m =
+    subst (λ x. IsSound i start (and_line played (orders.Reply k now) lines) x) (sym m.1) (told_line i start played k now lines s (heard s now f) (record s.naming { heard = true }) (record { at = refl; sent = refl; setups = refl }) (hears s now f) h)
+hears_line laws i start played k now lines s t AsksSetup b h m =
+    subst (λ x. IsSound i start (and_line played (orders.Reply k now) lines) x) (sym m.2) (asked_line laws i start played k now lines s b h m.0)
+hears_line laws i start played k now lines s t TellsNothing b h m =
+    subst (λ x. IsSound i start (and_line played (orders.Reply k now) lines) x) (sym m.1) (told_line i start played k now lines s (woken s now) s.naming (record { at = refl; sent = refl; setups = refl }) (sees (world_of s) now) h)
+hears_line laws i start played k now lines s t (Unreadable fault) b h m =
+    subst (λ x. IsSound i start (and_line played (orders.Reply k now) lines) x) (sym m.1) (told_line i start played k now lines s (woken s now) s.naming (record { at = refl; sent = refl; setups = refl }) (sees (world_of s) now) h)
+
+pub missing_line : (i : Identity) (start : ℕ) (played : List Played) (order : Order) (k : ℕ) (lines : List Print) (s t : Scene) → IsQuiet order lines → published_by order lines ≡ [] → IsSound i start played s → IsMissing s k lines t → IsSound i start (and_line played order lines) t
+missing_line i start played order k lines s t quiet none h m = same_scene i start played order lines s t quiet none m.2 h
+
+pub reply_line : Laws → (i : Identity) (start : ℕ) (played : List Played) (k now : ℕ) (lines : List Print) (s t : Scene) → Begins i start → IsSound i start played s → IsMissing s k lines t ⊎ Replied s k now lines t → IsSound i start (and_line played (orders.Reply k now) lines) t
+reply_line laws i start played k now lines s t b h (inl m) = missing_line i start played (orders.Reply k now) k lines s t (record { joins = λ n. refl; polls = λ n. refl }) refl h m
+reply_line laws i start played k now lines s t b h (inr m) = hears_line laws i start played k now lines s t m.1 b h m.4

@@ -1,0 +1,12 @@
+use Rattle.mdriver.proofs.PolledPrefixes.{always_polled}
+use Rattle.mdriver.proofs.play.polls_a_prefix.Goals as goal
+
+pub returns : goal.returns
+returns c = always_polled (record {
+  tiles = c.every_run.ensures.tiles;
+  bounds = c.every_run.ensures.bounds;
+  prefixes = c.every_run.ensures.polled;
+  entries = c.every_run.ensures.entries;
+  places = record { place = c.names_place.ensures.place; header = c.names_place.ensures.header };
+  reading = λ a b bytes. c.one_reading.ensures bytes a b;
+})
