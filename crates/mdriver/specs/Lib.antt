@@ -2,7 +2,11 @@ pub mod CommandLines
 pub mod Cycling
 pub mod Decoding
 pub mod Faults
+pub mod FirstNews
 pub mod FrameLines
+pub mod OutboxSlots
+pub mod Outgoing
 pub mod Polling
 pub mod Prints
 pub mod Receiving
+pub mod Sending
