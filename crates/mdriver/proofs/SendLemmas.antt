@@ -1,9 +1,9 @@
 -- What is sent: nothing, or the frame that was read.
 use Rattle.std.proofs.Common.{◌≡◌, ◌∙◌, ℕ, ◌+◌, ◌-◌, ◌<◌, ◌≤◌, List, [], ◌∷◌, ◌++◌, length, take, drop, sym, ap, subst, refl, inl, inr, arith, append-nil}
 use Rattle.std.proofs.Math.Seq.{take-append_seam}
-use Rattle.std.specs.Prelude.{Option, None, Some, slice_set, ◌⊎◌, true}
+use Rattle.std.specs.Prelude.{ℤ, Option, None, Some, slice_set, true}
 use Rattle.std.specs.List.{AllByRecursion}
-use Rattle.theory.specs.Position.{aligned}
+use Rattle.theory.specs.Position.{Geometry, aligned}
 use Rattle.theory.specs.Placed.{Among, Data, Frame, Placed, covered, end_of, frame_length, place_all}
 use Rattle.theory.specs.Entry.{Entry, IsEntry, committed}
 use Rattle.theory.specs.Wire.{Wire, spelling}
@@ -109,3 +109,11 @@ sends_frame l m r n q o p limit head old new h below read log moved out =
         moved ∙ ap (λ (x : Reader). record x { position = x.read_to; index = x.index + 1 }) noted
       );
     }
+
+-- ---- identities
+
+pub same_identity : (i : Identity) (g : Geometry) (s t : ℤ) → g ≡ i.geometry → s ≡ i.session → t ≡ i.stream → i ≡ record { geometry = g; session = s; stream = t }
+same_identity i g s t eg es et =
+    ap (λ (x : Geometry). record { geometry = x; session = i.session; stream = i.stream }) (sym eg)
+    ∙ ap (λ (x : ℤ). record { geometry = g; session = x; stream = i.stream }) (sym es)
+    ∙ ap (λ (x : ℤ). record { geometry = g; session = s; stream = x }) (sym et)

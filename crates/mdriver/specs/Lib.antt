@@ -10,3 +10,4 @@ pub mod Polling
 pub mod Prints
 pub mod Receiving
 pub mod Sending
+pub mod Stands
