@@ -1,4 +1,4 @@
-ghost use Rattle.std.specs.Prelude.{◌≡◌, ◌≤◌, ℕ, max, pos, ◌+ℤ◌};
+ghost use Rattle.std.specs.Prelude.{◌≡◌, ◌≤◌, ℕ, ℤ, max, pos, ◌+ℤ◌};
 ghost use Rattle.theory.specs.FlowLimit.{clipped};
 
 /// What a sender asks before it sends. The limit never falls, and is never above what status messages have allowed.
@@ -7,9 +7,16 @@ pub trait FlowControl {
 
     ghost allowed: { Self → ℕ };
 
+    /// What a status message makes of it: by its position, its window, its receiver's id and the moment.
+    ghost after_status: { Self → ℤ → ℤ → ℤ → ℕ → Self };
+
+    /// What a moment makes of it.
+    ghost after_tick: { Self → ℕ → Self };
+
     /// Takes a status message that doesn't ask for a SETUP: a consumer's position and its window in bytes, any numbers,
     /// the id of the receiver, and the moment in nanoseconds.
     fn on_status(&mut self, position: i64, window: i32, receiver: i64, now: u64)
+        ensures state { self.new ≡ after_status self.old position window receiver now }
         ensures never_falls { reached self.old ≤ reached self.new }
         ensures allows { allowed self.new ≤ max (clipped (position +ℤ window)) (allowed self.old) };
 
@@ -20,6 +27,7 @@ pub trait FlowControl {
 
     /// Takes a moment, in nanoseconds.
     fn tick(&mut self, now: u64)
+        ensures state { self.new ≡ after_tick self.old now }
         ensures never_falls { reached self.old ≤ reached self.new }
         ensures allows { allowed self.new ≤ allowed self.old };
 }

@@ -38,10 +38,14 @@ impl FlowControl for UnicastFlow {
 
     ghost allowed = { λ f. f };
 
+    ghost after_status = { λ f position window receiver now. max (clipped (position +ℤ window)) f };
+
+    ghost after_tick = { λ f now. f };
+
     fn on_status(&mut self, position: i64, window: i32, _receiver: i64, _now: u64)
         ensures never_falls { self.old ≤ self.new }
         ensures allows { self.new ≤ max (clipped (position +ℤ window)) self.old }
-        ensures value { self.new ≡ max (clipped (position +ℤ window)) self.old }
+        ensures state { self.new ≡ max (clipped (position +ℤ window)) self.old }
     {
         let told = position.saturating_add(i64::from(window)).max(0);
         self.limit = self.limit.max(told as u64);
@@ -57,6 +61,6 @@ impl FlowControl for UnicastFlow {
     fn tick(&mut self, _now: u64)
         ensures never_falls { self.old ≤ self.new }
         ensures allows { self.new ≤ self.old }
-        ensures value { self.new ≡ self.old }
+        ensures state { self.new ≡ self.old }
     {}
 }

@@ -3,10 +3,15 @@ pub mod CommandLines
 pub mod Cycling
 pub mod Decoding
 pub mod Faults
+pub mod FirstNews
 pub mod FrameLines
+pub mod OutboxSlots
+pub mod Outgoing
 pub mod Plays
 pub mod Polling
 pub mod Prints
 pub mod Published
 pub mod Receiving
 pub mod Scene
+pub mod Sending
+pub mod Stands

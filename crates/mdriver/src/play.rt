@@ -2,7 +2,7 @@
 
 ghost use Rattle.std.specs.Prelude.{◌≡◌, ◌<◌, vec_len, IfOk, All};
 ghost use Rattle.theory.specs.Position.{max_position};
-ghost use Rattle.log_buffer.specs.Reader.{AreAll};
+ghost use Rattle.log_buffer.specs.Reader.{AreAll, IsAt};
 ghost use Rattle.mdriver.specs.Plays.{AlwaysPolled};
 
 use crate::line::Line;
@@ -82,6 +82,8 @@ fn run(
     requires subscribers { vec_len subscribers ≡ 8 }
     requires at_start { All (λ reader. (reader.position ≡ log.start) × (reader.read_to ≡ log.start)) parts.readers.items }
     requires start { log.start < max_position log.identity.geometry }
+    requires stand { All (IsAt log) parts.readers.items }
+    requires size { outbox.mtu ≡ log.identity.geometry.mtu }
 {
     let Parts {
         publishers,

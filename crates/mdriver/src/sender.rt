@@ -1,20 +1,23 @@
 //! The sender's core: a log's frames, status messages and moments in, datagrams out.
 
-ghost use Rattle.std.specs.Prelude.{◌≡◌, ◌≤◌, ◌<◌, length, IfOk};
-ghost use Rattle.std.specs.List.{AllByRecursion};
-ghost use Rattle.theory.specs.Position.{max_position};
-ghost use Rattle.theory.specs.Wire.{IsFrame};
-ghost use Rattle.log_buffer.specs.Reader.{IsWholeFrame};
-ghost use Rattle.frames.specs.Frames.{wire};
+ghost use Rattle.std.specs.Prelude.{◌≡◌, ◌≤◌, ◌<◌, ◌+◌, [], true, length, pos, IfOk, IfErr};
+ghost use Rattle.theory.specs.Position.{max_position, position_of};
+ghost use Rattle.log_buffer.specs.Reader.{IsAt, Reader};
+ghost use Rattle.setup.specs.Naming.{after_due, is_due};
+ghost use Rattle.mdriver.specs.Cycling.{setups};
 
+use crate::identity::Identity;
+use crate::news::{Heard, read_news};
+use crate::next_frame::send_next;
 use crate::outbox::Outbox;
 use block::Block;
 use flow_control::FlowControl;
-use frames::{Frame, FrameError, Header, Setup, Status, check_datagram, read_frame};
-use log_buffer::{LogReader, LogState, advance, next};
-use position::{FrameHead, Geometry, align32};
+use frames::{FrameError, Status};
+use log_buffer::{LogReader, LogState};
+use position::Geometry;
 use setup::SenderSetup;
 use std::alloc::Global;
+use std::marker::Model;
 
 /// What happens to a sender.
 #[derive(Clone, Copy, Debug)]
@@ -45,23 +48,34 @@ pub struct Denied<F> {
 
 /// Sends the committed frames of one log, and its SETUPs.
 pub struct SenderCore<F> {
-    pub geometry: Geometry,
-    session: i32,
-    stream: i32,
+    identity: Identity,
     reader: LogReader,
     flow: F,
     setup: SenderSetup,
     /// The payload of the frame at the sender's position.
     block: Block,
-    /// The greatest moment that it has seen.
+    /// The greatest moment that it has seen, in nanoseconds.
     clock: u64,
-    ghost room: { geometry.mtu ≤ length block },
-    ghost here: { reader.position ≤ max_position geometry },
-    ghost read: { reader.read_to ≤ max_position geometry },
+}
+
+impl<F> Model for SenderCore<F> {
+    ghost use Rattle.std.specs.Prelude.{length, ◌≤◌};
+    ghost use Rattle.theory.specs.Position.{max_position};
+    ghost use Rattle.mdriver.specs.Sending.{Sending};
+
+    ghost Value = { Sending F };
+
+    ghost view = { λ s. record { identity = s.identity; reader = s.reader; flow = s.flow; naming = s.setup; clock = s.clock } };
+
+    ghost invariant = { λ s. (s.identity.geometry.mtu ≤ length s.block) × (s.reader.position ≤ max_position s.identity.geometry) };
 }
 
 impl<F: FlowControl + Drop> SenderCore<F> {
-    /// A sender of a log with this geometry and ids, which reads by this pass.
+    ghost use Rattle.mdriver.specs.Outgoing.{emptied};
+    ghost use Rattle.mdriver.specs.Sending.{Cycles, HearsDatagram, SendsNext, Steps, at_moment, begun, told, with_wires};
+
+    /// A sender of a log with this geometry and ids, which reads by this pass. Where memory was refused, the pass and
+    /// the flow control come back as they were.
     pub fn new(
         alloc: Global,
         geometry: Geometry,
@@ -70,17 +84,15 @@ impl<F: FlowControl + Drop> SenderCore<F> {
         reader: LogReader,
         flow: F,
     ) -> Result<SenderCore<F>, Denied<F>>
-        requires here { reader.position ≤ max_position geometry }
-        requires read { reader.read_to ≤ max_position geometry }
-        ensures { IfOk result (λ sender. sender.geometry ≡ geometry) }
+        requires { reader.position ≤ max_position geometry }
+        ensures made { IfOk result (λ s. s ≡ begun (record { geometry = geometry; session = session; stream = stream }) reader flow) }
+        ensures denied { IfErr result (λ d. d ≡ record { reader = reader; flow = flow }) }
     {
         let Ok(block) = Block::new(alloc, geometry.mtu() as usize) else {
             return Err(Denied { reader, flow });
         };
         Ok(SenderCore {
-            geometry,
-            session,
-            stream,
+            identity: Identity::new(geometry, session, stream),
             reader,
             flow,
             setup: SenderSetup::new(),
@@ -90,11 +102,11 @@ impl<F: FlowControl + Drop> SenderCore<F> {
     }
 
     /// Gives the pass back.
-    pub fn into_reader(self) -> LogReader {
+    pub fn into_reader(self) -> LogReader
+        ensures { result ≡ self.reader }
+    {
         let SenderCore {
-            geometry: _,
-            session: _,
-            stream: _,
+            identity: _,
             reader,
             flow: _,
             setup: _,
@@ -104,7 +116,7 @@ impl<F: FlowControl + Drop> SenderCore<F> {
         reader
     }
 
-    /// Does what an event asks for. The outbox is emptied, and then holds what goes out.
+    /// Does what an event asks for, at a moment in nanoseconds. The outbox is emptied, and then holds what goes out.
     pub fn step(
         &mut self,
         log: &mut LogState,
@@ -112,114 +124,126 @@ impl<F: FlowControl + Drop> SenderCore<F> {
         now: u64,
         outbox: &mut Outbox,
     ) -> SenderAnswer
-        requires { log.old.identity.geometry ≡ self.old.geometry }
-        ensures log { log.new.identity.geometry ≡ log.old.identity.geometry }
-        ensures geometry { self.new.geometry ≡ self.old.geometry }
+        requires same { log.old.identity ≡ self.old.identity }
+        requires stands { IsAt log.old self.old.reader }
+        requires size { outbox.old.mtu ≡ log.old.identity.geometry.mtu }
+        ensures step { Steps F.after_status F.after_tick F.reached (at_moment self.old now) event.entry log.old log.new result self.new outbox.new.datagrams }
+        ensures stands { IsAt log.new self.new.reader }
+        ensures others { (r : Reader) → IsAt log.old r → (r.number ≡ self.old.reader.number → ⊥) → IsAt log.new r }
+        ensures log { log.new.identity ≡ log.old.identity }
+        ensures identity { self.new.identity ≡ self.old.identity }
+        ensures size { outbox.new.mtu ≡ outbox.old.mtu }
     {
         outbox.clear();
-        self.clock = self.clock.max(now);
+        self.see(now);
         match event {
             SenderEvent::Tick => {
                 self.cycle(log, outbox);
                 SenderAnswer::Ticked
             }
-            SenderEvent::Datagram(bytes) => match check_datagram(bytes) {
-                Err(error) => SenderAnswer::Refused(error),
-                Ok(_) => self.on_datagram(bytes, outbox),
-            },
+            SenderEvent::Datagram(bytes) => self.hear(bytes, outbox),
         }
+    }
+
+    /// Sees a moment.
+    fn see(&mut self, now: u64)
+        ensures { self.new ≡ at_moment self.old now }
+    {
+        self.clock = self.clock.max(now);
     }
 
     /// A SETUP if it is due, and the next frame if there is one below the flow limit.
     fn cycle(&mut self, log: &mut LogState, outbox: &mut Outbox)
-        requires { log.old.identity.geometry ≡ self.old.geometry }
-        ensures log { log.new.identity.geometry ≡ log.old.identity.geometry }
-        ensures geometry { self.new.geometry ≡ self.old.geometry }
+        requires same { log.old.identity ≡ self.old.identity }
+        requires stands { IsAt log.old self.old.reader }
+        requires empty { outbox.old.datagrams ≡ [] }
+        requires size { outbox.old.mtu ≡ log.old.identity.geometry.mtu }
+        ensures cycle { Cycles F.after_tick F.reached self.old log.old log.new self.new outbox.new.datagrams }
+        ensures stands { IsAt log.new self.new.reader }
+        ensures others { (r : Reader) → IsAt log.old r → (r.number ≡ self.old.reader.number → ⊥) → IsAt log.new r }
+        ensures log { log.new.identity ≡ log.old.identity }
+        ensures size { outbox.new.mtu ≡ outbox.old.mtu }
+    {
+        self.tick();
+        self.name_stream(outbox);
+        self.send(log, outbox);
+    }
+
+    /// Tells the flow control the moment.
+    fn tick(&mut self)
+        ensures { self.new ≡ record self.old { flow = F.after_tick self.old.flow self.old.clock } }
     {
         self.flow.tick(self.clock);
+    }
+
+    /// Gives out a SETUP, if it is due.
+    fn name_stream(&mut self, outbox: &mut Outbox)
+        requires space { length outbox.old.datagrams < 32 }
+        requires size { outbox.old.mtu ≡ self.old.identity.geometry.mtu }
+        ensures state { self.new ≡ record self.old { naming = after_due self.old.naming self.old.clock } }
+        ensures sent { outbox.new ≡ with_wires outbox.old (setups self.old.identity self.old.reader.position (is_due self.old.naming self.old.clock)) }
+        ensures few { length outbox.new.datagrams ≤ length outbox.old.datagrams + 1 }
+    {
         if self.setup.due(self.clock) {
-            outbox.push(&self.setup_frame());
+            self.give_setup(outbox);
         }
-        let Some(head) = next(log, &mut self.reader, &mut self.block) else {
-            return;
-        };
-        let end = head.start + u64::from(align32(head.frame_length));
-        if end as i64 > self.flow.limit() {
-            return;
-        }
-        outbox.push(&self.data_frame(&head));
-        let _ = advance(log, &mut self.reader);
     }
 
-    fn on_datagram(&mut self, bytes: &[u8], outbox: &mut Outbox) -> SenderAnswer
-        ensures { self.new.geometry ≡ self.old.geometry }
+    /// Gives out the frame at its position, if it may go.
+    fn send(&mut self, log: &mut LogState, outbox: &mut Outbox)
+        requires same { log.old.identity ≡ self.old.identity }
+        requires stands { IsAt log.old self.old.reader }
+        requires space { length outbox.old.datagrams < 32 }
+        requires size { outbox.old.mtu ≡ log.old.identity.geometry.mtu }
+        ensures sends { SendsNext log.old self.old.reader outbox.old (F.reached self.old.flow) log.new self.new.reader outbox.new }
+        ensures state { self.new ≡ record self.old { reader = self.new.reader } }
+        ensures stands { IsAt log.new self.new.reader }
+        ensures others { (r : Reader) → IsAt log.old r → (r.number ≡ self.old.reader.number → ⊥) → IsAt log.new r }
+        ensures log { log.new.identity ≡ log.old.identity }
     {
-        match read_frame(bytes) {
-            Ok((Frame::Status { asks, status }, _))
-                if status.session == self.session && status.stream == self.stream => {
-                if asks {
-                    outbox.push(&self.setup_frame());
-                    return SenderAnswer::Asked;
-                }
-                self.on_status(&status)
+        let limit = self.flow.limit() as u64;
+        send_next(log, &mut self.reader, &mut self.block, limit, outbox);
+    }
+
+    /// Takes a datagram.
+    fn hear(&mut self, bytes: &[u8], outbox: &mut Outbox) -> SenderAnswer
+        requires empty { outbox.old.datagrams ≡ [] }
+        requires size { outbox.old.mtu ≡ self.old.identity.geometry.mtu }
+        ensures hears { HearsDatagram F.after_status F.reached self.old bytes.now result self.new outbox.new.datagrams }
+        ensures reader { self.new.reader ≡ self.old.reader }
+        ensures identity { self.new.identity ≡ self.old.identity }
+        ensures size { outbox.new.mtu ≡ outbox.old.mtu }
+    {
+        match read_news(bytes, &self.identity) {
+            Heard::Says(status) => self.on_status(&status),
+            Heard::AsksSetup => {
+                self.give_setup(outbox);
+                SenderAnswer::Asked
             }
-            _ => SenderAnswer::Other,
+            Heard::TellsNothing => SenderAnswer::Other,
+            Heard::Unreadable(error) => SenderAnswer::Refused(error),
         }
     }
 
+    /// Takes a status message that doesn't ask.
     fn on_status(&mut self, status: &Status) -> SenderAnswer
-        ensures { self.new.geometry ≡ self.old.geometry }
+        ensures state { self.new ≡ told F.after_status self.old (position_of self.old.identity.geometry status.now.term_id status.now.term_offset) status.now.window status.now.receiver }
+        ensures answer { result ≡ SenderAnswer.Status (pos (F.reached self.new.flow)) }
     {
-        let position = self.geometry.position(status.term_id, status.term_offset);
+        let geometry = self.identity.geometry();
+        let position = geometry.position(status.term_id, status.term_offset);
         self.flow
             .on_status(position, status.window, status.receiver, self.clock);
         self.setup.on_status();
         SenderAnswer::Status(self.flow.limit())
     }
 
-    fn setup_frame(&self) -> Frame<'static>
-        ensures { IsFrame (wire result) }
+    /// Gives out the SETUP of its position.
+    fn give_setup(&self, outbox: &mut Outbox)
+        requires space { length outbox.old.datagrams < 32 }
+        requires size { outbox.old.mtu ≡ self.now.identity.geometry.mtu }
+        ensures { outbox.new ≡ with_wires outbox.old (setups self.now.identity self.now.reader.position true) }
     {
-        let place = self.geometry.term_of(self.reader.position());
-        Frame::Setup(Setup {
-            term_offset: place.offset.cast_signed(),
-            session: self.session,
-            stream: self.stream,
-            initial_term_id: self.geometry.initial_term_id(),
-            active_term_id: place.term_id,
-            term_length: self.geometry.term_length().cast_signed(),
-            mtu: self.geometry.mtu().cast_signed(),
-            ttl: 0,
-        })
+        outbox.push(&self.identity.setup_frame(self.reader.position()));
     }
-
-    /// The frame with the payload that was read last.
-    fn data_frame(&self, head: &FrameHead) -> Frame<'_>
-        requires { IsWholeFrame self.now.geometry head.now }
-        ensures { IsFrame (wire result) }
-    {
-        let place = self.geometry.term_of(head.start);
-        let header = Header {
-            term_offset: place.offset,
-            session: self.session,
-            stream: self.stream,
-            term_id: place.term_id,
-            reserved: 0,
-        };
-        let payload = front_of(self.block.bytes(), head.frame_length as usize - 32);
-        Frame::Data {
-            header,
-            flags: head.flags,
-            payload,
-        }
-    }
-}
-
-/// The first of these bytes.
-fn front_of(bytes: &[u8], size: usize) -> &[u8]
-    requires { size ≤ length bytes.now }
-    ensures size { length result.now ≡ size }
-    ensures bytes { AllByRecursion (λ b. b < 256) result.now }
-{
-    &bytes[..size]
 }

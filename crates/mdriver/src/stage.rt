@@ -2,7 +2,8 @@
 
 ghost use Rattle.std.specs.Prelude.{◌≡◌, ◌<◌, ◌≤◌, vec_len, vec_capacity, length, IfSome};
 ghost use Rattle.position.specs.declared.head.FrameKind.TheVariants.{Data};
-ghost use Rattle.log_buffer.specs.Reader.{AreAll};
+ghost use Rattle.log_buffer.specs.Reader.{AreAll, IsAt};
+ghost use Rattle.mdriver.specs.Stands.{IsAt_prop};
 
 use crate::line::Line;
 use crate::outbox::Outbox;
@@ -47,7 +48,9 @@ pub struct Stage {
     pub packets: Vec<Vec<u8>>,
     pub ghost all: { AreAll publishers.items },
     pub ghost room: { vec_len readers < vec_capacity readers },
-    pub ghost same: { log.identity.geometry ≡ sender.geometry },
+    pub ghost same: { log.identity ≡ sender.identity },
+    pub ghost stands: { IsAt log sender.reader } by { IsAt_prop log sender.reader },
+    pub ghost size: { outbox.mtu ≡ log.identity.geometry.mtu },
     pub ghost eight: { vec_len subscribers ≡ 8 },
 }
 

@@ -1,0 +1,13 @@
+-- What an outbox holds.
+use Rattle.std.specs.Prelude.{ℕ, List, [], ◌∷◌, ◌++◌}
+
+-- datagrams in the order in which they go out, each at most of MTU bytes
+pub record Outgoing : Type 0 where
+  pub mtu : ℕ
+  pub datagrams : List (List ℕ)
+
+abbrev pub emptied : Outgoing → Outgoing
+emptied o = record o { datagrams = [] }
+
+abbrev pub with_datagram : Outgoing → List ℕ → Outgoing
+with_datagram o bytes = record o { datagrams = o.datagrams ++ bytes ∷ [] }
