@@ -14,6 +14,7 @@ mod line;
 mod news;
 mod next_frame;
 mod outbox;
+mod packets;
 mod play;
 mod receiver;
 mod sender;

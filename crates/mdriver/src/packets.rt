@@ -1,0 +1,91 @@
+//! The packets that a script's parts have given out, by their numbers.
+
+ghost use Rattle.std.specs.Prelude.{◌≡◌, ◌++◌, ◌∷◌, [], ◌<◌, length, slice_get, OnOk, IfOk};
+ghost use Rattle.std.specs.Option.{option_copied};
+ghost use Rattle.theory.specs.Wire.{IsFrame, spelling};
+ghost use Rattle.frames.specs.Frames.{wire};
+ghost use Rattle.mdriver.specs.Answers.{packet_lines};
+ghost use Rattle.mdriver.specs.Prints.{Packet, prints};
+
+use crate::line::Line;
+use crate::outbox::Outbox;
+use frames::{Frame, Status, write_frame};
+use std::alloc::{AllocError, Global};
+use std::marker::Model;
+
+/// Each packet that was given out, in order; the first has number 0.
+#[derive(Drop)]
+pub struct Packets {
+    alloc: Global,
+    packets: Vec<Vec<u8>>,
+}
+
+impl Model for Packets {
+    ghost use Rattle.std.specs.Prelude.{ℕ, List, map};
+
+    ghost Value = { List (List ℕ) };
+
+    ghost view = { λ p. map (λ v. v.items) p.packets.items };
+}
+
+impl Packets {
+    /// No packet yet.
+    pub fn new(alloc: Global) -> Packets
+        ensures { result ≡ [] }
+    {
+        Packets {
+            alloc,
+            packets: Vec::new(alloc),
+        }
+    }
+
+    /// The packet with this number, if it was given out.
+    pub fn get(&self, number: u64) -> Option<&[u8]>
+        ensures { option_copied result ≡ slice_get self.now number }
+    {
+        let index = usize::try_from(number).ok()?;
+        Some(self.packets.get(index)?.as_slice())
+    }
+
+    /// Gives a packet the next number, and adds its line. At an error memory was refused, and the packet may have a
+    /// number without a line.
+    pub fn give(&mut self, datagram: &[u8], lines: &mut Vec<Line>) -> Result<(), AllocError>
+        ensures given { OnOk result (self.new ≡ self.old ++ datagram.now ∷ []) }
+        ensures line { OnOk result (prints lines.new.items ≡ prints lines.old.items ++ Packet (length self.old) datagram.now ∷ []) }
+    {
+        let number = self.packets.len() as u64;
+        self.packets.push(Vec::from_slice(self.alloc, datagram)?)?;
+        let bytes = Vec::from_slice(self.alloc, datagram)?;
+        lines.push(Line::Packet { number, bytes })?;
+        Ok(())
+    }
+
+    /// Gives each datagram of the outbox the next number.
+    pub fn give_all(&mut self, outbox: &Outbox, lines: &mut Vec<Line>) -> Result<(), AllocError>
+        ensures given { OnOk result (self.new ≡ self.old ++ outbox.now.datagrams) }
+        ensures line { OnOk result (prints lines.new.items ≡ prints lines.old.items ++ packet_lines (length self.old) outbox.now.datagrams) }
+    {
+        for index in 0..outbox.len() {
+            if let Some(datagram) = outbox.datagram(index) {
+                self.give(datagram, lines)?;
+            }
+        }
+        Ok(())
+    }
+
+    /// Gives a status message the next number.
+    pub fn give_status(
+        &mut self,
+        asks: bool,
+        status: Status,
+        lines: &mut Vec<Line>,
+    ) -> Result<(), AllocError>
+        requires { IsFrame (wire (Frame.Status asks status)) }
+        ensures given { OnOk result (self.new ≡ self.old ++ spelling (wire (Frame.Status asks status)) ∷ []) }
+        ensures line { OnOk result (prints lines.new.items ≡ prints lines.old.items ++ Packet (length self.old) (spelling (wire (Frame.Status asks status))) ∷ []) }
+    {
+        let mut buffer = [0; 36];
+        let size = write_frame(&Frame::Status { asks, status }, &mut buffer);
+        self.give(&buffer[..size], lines)
+    }
+}
