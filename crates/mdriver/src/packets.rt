@@ -1,6 +1,6 @@
 //! The packets that a script's parts have given out, by their numbers.
 
-ghost use Rattle.std.specs.Prelude.{◌≡◌, ◌++◌, ◌∷◌, [], ◌<◌, length, slice_get, OnOk, IfOk};
+ghost use Rattle.std.specs.Prelude.{◌≡◌, ◌++◌, ◌∷◌, [], ◌≤◌, length, slice_get, OnOk};
 ghost use Rattle.std.specs.Option.{option_copied};
 ghost use Rattle.theory.specs.Wire.{IsFrame, spelling};
 ghost use Rattle.frames.specs.Frames.{wire};
@@ -9,7 +9,7 @@ ghost use Rattle.mdriver.specs.Prints.{Packet, prints};
 
 use crate::line::Line;
 use crate::outbox::Outbox;
-use frames::{Frame, Status, write_frame};
+use frames::{Frame, write_frame};
 use std::alloc::{AllocError, Global};
 use std::marker::Model;
 
@@ -66,26 +66,32 @@ impl Packets {
         ensures line { OnOk result (prints lines.new.items ≡ prints lines.old.items ++ packet_lines (length self.old) outbox.now.datagrams) }
     {
         for index in 0..outbox.len() {
-            if let Some(datagram) = outbox.datagram(index) {
-                self.give(datagram, lines)?;
-            }
+            let Some(datagram) = outbox.datagram(index) else {
+                unreachable!()
+            };
+            self.give(datagram, lines)?;
         }
         Ok(())
     }
 
-    /// Gives a status message the next number.
-    pub fn give_status(
-        &mut self,
-        asks: bool,
-        status: Status,
-        lines: &mut Vec<Line>,
-    ) -> Result<(), AllocError>
-        requires { IsFrame (wire (Frame.Status asks status)) }
-        ensures given { OnOk result (self.new ≡ self.old ++ spelling (wire (Frame.Status asks status)) ∷ []) }
-        ensures line { OnOk result (prints lines.new.items ≡ prints lines.old.items ++ Packet (length self.old) (spelling (wire (Frame.Status asks status))) ∷ []) }
+    /// Gives a frame of at most 40 bytes, as its spelling, the next number.
+    pub fn give_frame(&mut self, frame: &Frame<'_>, lines: &mut Vec<Line>) -> Result<(), AllocError>
+        requires frame { IsFrame (wire frame.now) }
+        requires short { length (spelling (wire frame.now)) ≤ 40 }
+        ensures given { OnOk result (self.new ≡ self.old ++ spelling (wire frame.now) ∷ []) }
+        ensures line { OnOk result (prints lines.new.items ≡ prints lines.old.items ++ Packet (length self.old) (spelling (wire frame.now)) ∷ []) }
     {
-        let mut buffer = [0; 36];
-        let size = write_frame(&Frame::Status { asks, status }, &mut buffer);
-        self.give(&buffer[..size], lines)
+        let mut buffer = [0; 40];
+        self.give(spelled(frame, &mut buffer), lines)
     }
+}
+
+/// The frame's spelling, written to the buffer's front.
+fn spelled<'a>(frame: &Frame<'_>, buffer: &'a mut [u8]) -> &'a [u8]
+    requires frame { IsFrame (wire frame.now) }
+    requires room { length (spelling (wire frame.now)) ≤ length buffer.old }
+    ensures { result.now ≡ spelling (wire frame.now) }
+{
+    let size = write_frame(frame, buffer);
+    &buffer[..size]
 }

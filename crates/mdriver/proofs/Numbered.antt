@@ -1,0 +1,61 @@
+-- Packets that get the next numbers, one after the other.
+use Rattle.std.proofs.Common.{◌≡◌, ℕ, zero, suc, ◌+◌, ◌<◌, ◌≤◌, List, [], ◌∷◌, ◌++◌, length, take, Option, None, Some, refl, sym, ap, ◌∙◌, subst, arith, append-nil, append_assoc, length-append}
+use Rattle.std.specs.Prelude.{slice_get}
+use Rattle.mdriver.specs.Answers.{packet_lines}
+use Rattle.mdriver.specs.Prints.{Packet, Print}
+
+lines_snoc : (k : ℕ) (xs : List (List ℕ)) (b : List ℕ) → packet_lines k (xs ++ b ∷ []) ≡ packet_lines k xs ++ Packet (k + length xs) b ∷ []
+lines_snoc k [] b = ap (λ n. Packet n b ∷ []) (omega arith)
+lines_snoc k (x ∷ xs) b = ap (λ ls. Packet k x ∷ ls) (lines_snoc (suc k) xs b ∙ ap (λ n. packet_lines (suc k) xs ++ Packet n b ∷ []) (omega arith))
+
+take_one : (xs : List (List ℕ)) (i : ℕ) (b : List ℕ) → slice_get xs i ≡ Some b → take (suc i) xs ≡ take i xs ++ b ∷ []
+take_one [] i b h = absurd (cc)
+take_one (x ∷ xs) zero b h = let same : x ≡ b = cc in ap (λ y. y ∷ []) same
+take_one (x ∷ xs) (suc i) b h = ap (λ ys. x ∷ ys) (take_one xs i b h)
+
+length_take : (xs : List (List ℕ)) (i : ℕ) (b : List ℕ) → slice_get xs i ≡ Some b → length (take i xs) ≡ i
+length_take [] i b h = absurd (cc)
+length_take (x ∷ xs) zero b h = refl
+length_take (x ∷ xs) (suc i) b h = ap suc (length_take xs i b h)
+
+take_all : (xs : List (List ℕ)) (i : ℕ) → length xs ≤ i → take i xs ≡ xs
+take_all [] zero h = refl
+take_all [] (suc i) h = refl
+take_all (x ∷ xs) zero h = absurd (omega (arith, h))
+take_all (x ∷ xs) (suc i) h = ap (λ ys. x ∷ ys) (take_all xs i (omega (arith, h)))
+
+not_there : (xs : List (List ℕ)) (i : ℕ) → i < length xs → slice_get xs i ≡ None → ⊥
+not_there [] i h e = absurd (omega (arith, h))
+not_there (x ∷ xs) zero h e = absurd (cc)
+not_there (x ∷ xs) (suc i) h e = not_there xs i (omega (arith, h)) e
+
+-- the packets, and the lines, after the first so many
+pub record Given (old new all : List (List ℕ)) (before after : List Print) (i : ℕ) : Type 0 where
+  pub packets : new ≡ old ++ take i all
+  pub lines : after ≡ before ++ packet_lines (length old) (take i all)
+
+pub given_none : (old all : List (List ℕ)) (before : List Print) → Given old old all before before 0
+given_none old all before = record { packets = sym (append-nil old); lines = sym (append-nil before) }
+
+pub given_next : (old mid new all : List (List ℕ)) (before between after : List Print) (i : ℕ) (b : List ℕ) → Given old mid all before between i → slice_get all i ≡ Some b → new ≡ mid ++ b ∷ [] → after ≡ between ++ Packet (length mid) b ∷ [] → Given old new all before after (i + 1)
+given_next old mid new all before between after i b h found packets lines =
+    let next : i + 1 ≡ suc i = omega arith in
+    let more : take (i + 1) all ≡ take i all ++ b ∷ [] = ap (λ k. take k all) next ∙ take_one all i b found in
+    let long : length mid ≡ length old + length (take i all) = ap length h.packets ∙ length-append old (take i all) in
+    record {
+      packets = packets ∙ ap (λ xs. xs ++ b ∷ []) h.packets ∙ append_assoc old (take i all) (b ∷ []) ∙ ap (λ xs. old ++ xs) (sym more);
+      lines =
+        lines
+        ∙ ap (λ ls. ls ++ Packet (length mid) b ∷ []) h.lines
+        ∙ append_assoc before (packet_lines (length old) (take i all)) (Packet (length mid) b ∷ [])
+        ∙ ap (λ n. before ++ (packet_lines (length old) (take i all) ++ Packet n b ∷ [])) long
+        ∙ ap (λ ls. before ++ ls) (sym (lines_snoc (length old) (take i all) b) ∙ ap (packet_lines (length old)) (sym more));
+    }
+
+pub given_nothing : (old new all : List (List ℕ)) (before after : List Print) (i : ℕ) → i < length all → slice_get all i ≡ None → Given old new all before after (i + 1)
+given_nothing old new all before after i low e = absurd (not_there all i low e)
+
+pub all_given : (old new all : List (List ℕ)) (before after : List Print) (i : ℕ) → Given old new all before after i → length all ≤ i → (new ≡ old ++ all) × (after ≡ before ++ packet_lines (length old) all)
+all_given old new all before after i h high =
+    let whole = take_all all i high in
+    (h.packets ∙ ap (λ xs. old ++ xs) whole, h.lines ∙ ap (λ xs. before ++ packet_lines (length old) xs) whole)

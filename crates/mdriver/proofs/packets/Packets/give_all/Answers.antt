@@ -1,0 +1,11 @@
+use Rattle.std.proofs.Common.{◌≡◌, Some, ap, sym, ◌∙◌, arith, rules}
+use Rattle.std.specs.Prelude.{slice_get}
+use Rattle.mdriver.specs.Prints.{prints}
+use Rattle.mdriver.proofs.Numbered.{given_next}
+use Rattle.mdriver.proofs.packets.Packets.give_all.Goals as goal
+
+pub loop-index-preserved : goal.loop-index-preserved
+loop-index-preserved c =
+    let all = c.args.outbox.now.datagrams in
+    let found : slice_get all c.loop-index.index ≡ Some c.in-Some.datagram.now = search rules in
+    given_next c.args.self.now c.loop-index.self c.give.new.self all (prints c.args.lines.now.items) (prints c.loop-index.lines.items) (prints c.give.new.lines.items) c.loop-index.index c.in-Some.datagram.now c.loop-index.invariant found c.in_ok-give.ensures.given c.in_ok-give.ensures.line
