@@ -6,3 +6,4 @@ pub mod FrameLines
 pub mod Polling
 pub mod Prints
 pub mod Receiving
+pub mod Showing
