@@ -182,7 +182,7 @@ stored_shown v o s h e =
 
 -- ---- the answer to a frame, and what it makes of the image
 
-not_stored : (c : Bool) → cond c CrossesTerm Below ≡ Stored → ⊥
+pub not_stored : (c : Bool) → cond c CrossesTerm Below ≡ Stored → ⊥
 not_stored true e = cc
 not_stored false e = cc
 

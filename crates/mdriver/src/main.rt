@@ -10,6 +10,7 @@ mod fault;
 mod frame_line;
 mod hexadecimal;
 mod line;
+mod opened;
 mod outbox;
 mod play;
 mod receiver;
