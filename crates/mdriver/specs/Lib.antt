@@ -7,6 +7,7 @@ pub mod FirstNews
 pub mod FrameLines
 pub mod OutboxSlots
 pub mod Outgoing
+pub mod Packed
 pub mod Plays
 pub mod Polling
 pub mod Prints
@@ -14,4 +15,7 @@ pub mod Published
 pub mod Receiving
 pub mod Scene
 pub mod Sending
+pub mod Showing
+pub mod Staged
 pub mod Stands
+pub mod Subscribing

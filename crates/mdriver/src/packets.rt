@@ -4,12 +4,17 @@ ghost use Rattle.std.specs.Prelude.{◌≡◌, ◌++◌, ◌∷◌, [], ◌≤�
 ghost use Rattle.std.specs.Option.{option_copied};
 ghost use Rattle.theory.specs.Wire.{IsFrame, spelling};
 ghost use Rattle.frames.specs.Frames.{wire};
-ghost use Rattle.mdriver.specs.Answers.{packet_lines};
+ghost use Rattle.mdriver.specs.Answers.{or_nothing, packet_lines};
+ghost use Rattle.mdriver.specs.Cycling.{datagrams};
+ghost use Rattle.mdriver.specs.Packed.{status_wires};
+ghost use Rattle.mdriver.specs.Receiving.{replied};
+ghost use Rattle.std.specs.List.{AllByRecursion};
 ghost use Rattle.mdriver.specs.Prints.{Packet, prints};
 
 use crate::line::Line;
 use crate::outbox::Outbox;
-use frames::{Frame, write_frame};
+use crate::receiver::Replies;
+use frames::{Frame, Status, write_frame};
 use std::alloc::{AllocError, Global};
 use std::marker::Model;
 
@@ -72,6 +77,53 @@ impl Packets {
             self.give(datagram, lines)?;
         }
         Ok(())
+    }
+
+    /// Gives each datagram of the outbox the next number, or says that there is none.
+    pub fn tell_all(&mut self, outbox: &Outbox, lines: &mut Vec<Line>) -> Result<(), AllocError>
+        ensures given { OnOk result (self.new ≡ self.old ++ outbox.now.datagrams) }
+        ensures line { OnOk result (prints lines.new.items ≡ prints lines.old.items ++ or_nothing (packet_lines (length self.old) outbox.now.datagrams)) }
+    {
+        if outbox.len() == 0 {
+            lines.push(Line::Nothing)?;
+            return Ok(());
+        }
+        self.give_all(outbox, lines)
+    }
+
+    /// Gives a status message, if there is one, the next number.
+    fn give_status(
+        &mut self,
+        asks: bool,
+        status: Option<Status>,
+        lines: &mut Vec<Line>,
+    ) -> Result<(), AllocError>
+        requires { AllByRecursion IsFrame (status_wires asks status) }
+        ensures given { OnOk result (self.new ≡ self.old ++ datagrams (status_wires asks status)) }
+        ensures line { OnOk result (prints lines.new.items ≡ prints lines.old.items ++ packet_lines (length self.old) (datagrams (status_wires asks status))) }
+    {
+        match status {
+            None => Ok(()),
+            Some(status) => self.give_frame(&Frame::Status { asks, status }, lines),
+        }
+    }
+
+    /// Gives what a tick sends the next numbers, or says that it sends nothing.
+    pub fn tell_replies(
+        &mut self,
+        replies: &Replies,
+        lines: &mut Vec<Line>,
+    ) -> Result<(), AllocError>
+        requires { AllByRecursion IsFrame (replied replies.now) }
+        ensures given { OnOk result (self.new ≡ self.old ++ datagrams (replied replies.now)) }
+        ensures line { OnOk result (prints lines.new.items ≡ prints lines.old.items ++ or_nothing (packet_lines (length self.old) (datagrams (replied replies.now)))) }
+    {
+        if replies.asking.is_none() && replies.status.is_none() {
+            lines.push(Line::Nothing)?;
+            return Ok(());
+        }
+        self.give_status(true, replies.asking, lines)?;
+        self.give_status(false, replies.status, lines)
     }
 
     /// Gives a frame of at most 40 bytes, as its spelling, the next number.

@@ -1,26 +1,36 @@
 //! A script, played from its first line to the book.
 
-ghost use Rattle.std.specs.Prelude.{◌≡◌, ◌<◌, vec_len, IfOk, All};
+ghost use Rattle.std.specs.Prelude.{◌≡◌, ◌<◌, vec_len, IfOk, OnOk, OnErr, All};
 ghost use Rattle.theory.specs.Position.{max_position};
-ghost use Rattle.log_buffer.specs.Reader.{AreAll, IsAt};
-ghost use Rattle.mdriver.specs.Plays.{AlwaysPolled};
+ghost use Rattle.log_buffer.specs.Log.{fresh};
+ghost use Rattle.log_buffer.specs.Reader.{AreAll, AreReaders, IsAt};
+ghost use Rattle.mdriver.specs.Scene.{listening_at, opened_scene};
+ghost use Rattle.mdriver.specs.Subscribing.{ShowsSubscriber};
+ghost use Rattle.mdriver.specs.Plays.{AlwaysPolled, Plays};
+ghost use Rattle.mdriver.specs.Prints.{prints};
+ghost use Rattle.mdriver.specs.Staged.{AreListening, Continues, ContinuesOpen, RunsTo, ShowsScene};
+ghost use Rattle.script.specs.Meaning as meaning;
 
 use crate::line::Line;
 use crate::outbox::Outbox;
+use crate::packets::Packets;
 use crate::receiver::ReceiverCore;
 use crate::sender::{Denied, SenderCore};
-use crate::stage::{RECEIVERS, Stage, Subscriber, close_with};
+use crate::stage::{RECEIVERS, Stage, close_with};
+use crate::subscriber::Subscriber;
 use flow_control::UnicastFlow;
 use frames::one_reading;
 use log_buffer::{LogError, LogState, Parts};
 use position::Geometry;
-use script::{LogLine, Script};
+use script::{Command, LogLine, Script};
 use std::alloc::{AllocError, Global};
 use theory::names_place;
 use world::every_run;
 
 /// The lines that a script prints, or that memory was refused.
-pub fn play(alloc: Global, script: &Script) -> Result<Vec<Line>, AllocError> {
+pub fn play(alloc: Global, script: &Script) -> Result<Vec<Line>, AllocError>
+    ensures { IfOk result (λ lines. Plays (meaning.told script.now) (prints lines.items)) }
+{
     let mut lines = Vec::new(alloc);
     let log = &script.log;
     let geometry = match Geometry::new(log.term_length, log.mtu, log.initial_term_id) {
@@ -32,16 +42,11 @@ pub fn play(alloc: Global, script: &Script) -> Result<Vec<Line>, AllocError> {
     };
     let outbox = Outbox::new(alloc, geometry.mtu())?;
     let subscribers = subscribers(alloc, log, &geometry)?;
-    let consumers = log.readers as usize + 1;
-    match LogState::open(
-        alloc,
-        geometry,
-        log.session,
-        log.stream,
-        log.start,
-        consumers,
-    ) {
-        Ok((state, parts)) => run(alloc, script, state, parts, outbox, subscribers),
+    match LogState::open(alloc, geometry, log.session, log.stream, log.start, 1) {
+        Ok((state, parts)) => {
+            let stage = stage(alloc, state, parts, outbox, subscribers)?;
+            run(stage, &script.commands, lines)
+        }
         Err(LogError::Memory) => Err(AllocError),
         Err(error) => {
             lines.push(Line::BadLog(error))?;
@@ -49,41 +54,53 @@ pub fn play(alloc: Global, script: &Script) -> Result<Vec<Line>, AllocError> {
         }
     }
 }
+/// A receiver with half a term as its window, and its subscriber.
+fn subscriber(
+    alloc: Global,
+    log: &LogLine,
+    geometry: &Geometry,
+    number: usize,
+) -> Result<Subscriber, AllocError>
+    ensures { IfOk result (λ s. ShowsSubscriber s (listening_at (record { geometry = geometry.now; session = log.now.session; stream = log.now.stream }) number)) }
+{
+    let window = geometry.term_length() / 2;
+    let core = ReceiverCore::new(alloc, log.session, log.stream, window, number as i64, 1);
+    Subscriber::new(alloc, core, geometry.max_message() as usize)
+}
 
-/// The eight receivers, each with half a term as its window.
+/// The eight receivers.
 fn subscribers(
     alloc: Global,
     log: &LogLine,
     geometry: &Geometry,
 ) -> Result<Vec<Subscriber>, AllocError>
-    ensures { IfOk result (λ subscribers. vec_len subscribers ≡ 8) }
+    ensures listening { IfOk result (λ subscribers. AreListening (record { geometry = geometry.now; session = log.now.session; stream = log.now.stream }) subscribers.items) }
+    ensures eight { IfOk result (λ subscribers. vec_len subscribers ≡ 8) }
 {
-    let window = geometry.term_length() / 2;
-    let greatest = geometry.max_message() as usize;
     let mut subscribers = Vec::with_capacity(alloc, RECEIVERS)?;
-    for receiver in 0..RECEIVERS {
-        let core = ReceiverCore::new(alloc, log.session, log.stream, window, receiver as i64, 1);
-        subscribers.push(Subscriber::new(alloc, core, greatest)?)?;
+    for number in 0..RECEIVERS {
+        subscribers.push(subscriber(alloc, log, geometry, number)?)?;
     }
     Ok(subscribers)
 }
 
-/// Plays the commands on an opened log, and ends it.
-fn run(
+/// The stage of a log that was just opened.
+fn stage(
     alloc: Global,
-    script: &Script,
     log: LogState,
     parts: Parts,
     outbox: Outbox,
     subscribers: Vec<Subscriber>,
-) -> Result<Vec<Line>, AllocError>
+) -> Result<Stage, AllocError>
     requires publishers { AreAll parts.publishers.items }
-    requires readers { 0 < vec_len parts.readers }
-    requires subscribers { vec_len subscribers ≡ 8 }
-    requires at_start { All (λ reader. (reader.position ≡ log.start) × (reader.read_to ≡ log.start)) parts.readers.items }
-    requires start { log.start < max_position log.identity.geometry }
+    requires readers { AreReaders parts.readers.items log.start 1 }
     requires stand { All (IsAt log) parts.readers.items }
+    requires opened { log ≡ fresh log.identity log.start 1 }
+    requires start { log.start < max_position log.identity.geometry }
     requires size { outbox.mtu ≡ log.identity.geometry.mtu }
+    requires eight { vec_len subscribers ≡ 8 }
+    requires listening { AreListening log.identity subscribers.items }
+    ensures { IfOk result (λ s. ShowsScene s (opened_scene log.identity log.start)) }
 {
     let Parts {
         publishers,
@@ -96,30 +113,64 @@ fn run(
     let geometry = log.geometry();
     let flow = UnicastFlow::new(log.start());
     match SenderCore::new(alloc, geometry, log.session(), log.stream(), reader, flow) {
-        Ok(sender) => {
-            let mut stage = Stage {
-                alloc,
-                log,
-                publishers,
-                readers,
-                keeper,
-                sender,
-                outbox,
-                subscribers,
-                packets: Vec::new(alloc),
-            };
-            let played = stage.play_all(&script.commands);
-            let book = stage.end();
-            let mut lines = played?;
-            lines.push(Line::Book(book))?;
-            Ok(lines)
-        }
+        Ok(sender) => Ok(Stage {
+            log,
+            publishers,
+            readers,
+            keeper,
+            sender,
+            outbox,
+            subscribers,
+            packets: Packets::new(alloc),
+        }),
         Err(denied) => {
             let Denied { reader, flow: _ } = denied;
             let _ = close_with(log, publishers, readers, reader, keeper);
             Err(AllocError)
         }
     }
+}
+
+/// Adds the line of an opened log, and then those of the commands, one after the other.
+fn play_open(
+    stage: &mut Stage,
+    commands: &[Command],
+    lines: &mut Vec<Line>,
+) -> Result<(), AllocError>
+    ensures { OnOk result (ContinuesOpen stage.old (meaning.orders commands.now) lines.old.items lines.new.items stage.new) }
+{
+    lines.push(Line::Open)?;
+    play_all(stage, commands, lines)
+}
+
+/// Plays the commands one after the other, and adds their lines.
+fn play_all(
+    stage: &mut Stage,
+    commands: &[Command],
+    lines: &mut Vec<Line>,
+) -> Result<(), AllocError>
+    ensures { OnOk result (Continues stage.old (meaning.orders commands.now) lines.old.items lines.new.items stage.new) }
+{
+    for command in commands {
+        stage.play(command, lines)?;
+    }
+    Ok(())
+}
+
+/// Plays the commands from the opened log on, and ends it.
+fn run(
+    mut stage: Stage,
+    commands: &[Command],
+    mut lines: Vec<Line>,
+) -> Result<Vec<Line>, AllocError>
+    requires { ShowsScene stage (opened_scene stage.log.identity stage.log.start) }
+    ensures { IfOk result (λ after. RunsTo stage.log.identity stage.log.start (meaning.orders commands.now) (prints lines.items) (prints after.items)) }
+{
+    let played = play_open(&mut stage, commands, &mut lines);
+    let book = stage.end();
+    played?;
+    lines.push(Line::Book(book))?;
+    Ok(lines)
 }
 
 /// Does nothing, and says of each script that can be answered line by line: what the polls of a receiver printed is

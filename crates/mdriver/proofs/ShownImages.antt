@@ -1,0 +1,111 @@
+-- What an image shows answers as the image does, and shows what becomes of it.
+use Rattle.std.proofs.Common.{◌≡◌, ℕ, zero, suc, ◌+◌, ◌-◌, ◌*◌, ◌<◌, ◌≤◌, ◌⊎◌, inl, inr, ⊎_elim, List, [], ◌∷◌, ◌++◌, map, length, min, max, Bool, true, false, cond, refl, sym, ap, ap₂, ◌∙◌, subst, arith}
+use Rattle.std.specs.Prelude.{◌↔◌, ◌||◌, slice_get, slice_index, slice_set, replicate, Option, Some, None, nat_le, ℤ, pos, negsuc}
+use Rattle.std.specs.List.{AllByRecursion, fold, list_any}
+use Rattle.std.proofs.lemmas.Bool.{cases_Bool, cases_lt, cond-true, cond-false, le-leb, leb-true, ltb-false, and_cases, or_parts, both_ways, or_right, or_left}
+use Rattle.theory.specs.Position.{Geometry}
+use Rattle.theory.specs.Placed.{AllAmong, Among, Chain, Frame, IsReached, Placed, covered, end_of, frame_length, is_padding}
+use Rattle.theory.specs.Units.{HasUnit, IsContiguous}
+use Rattle.theory.specs.Consumer.{Consumer, consumer_at, least_from, least_of}
+use Rattle.theory.specs.ImageLaws.{AreParted, held}
+use Rattle.theory.specs.Insert.{Head, head_of, insert_answer, insert_answer_at, overlaps}
+use Rattle.theory.proofs.Lists.{all_at, all_from, all_replicate, all_set, all_weaker}
+use Rattle.theory.proofs.Held.{answer_held}
+use Rattle.theory.proofs.Follow.{Chain-push, chain_bound, chain_units, passed_along, passed_more}
+use Rattle.rebuilder.specs.Seen.{least}
+use Rattle.mdriver.specs.Showing.{AreOneWhereMet, ShowsImage}
+use Rattle.mdriver.specs.Receiving.{Opened}
+
+-- ---- the least consumer
+
+least_along : (p : ℕ) (rs : List Consumer) → fold min p (map (λ (c : Consumer). c.at) rs) ≡ least_from p rs
+least_along p [] = refl
+least_along p (r ∷ rs) = least_along (min p r.at) rs ∙ swapped p r.at rs
+  where
+    swapped : (p q : ℕ) (rs : List Consumer) → least_from (min p q) rs ≡ min q (least_from p rs)
+    swapped p q [] = omega arith
+    swapped p q (s ∷ ss) = let h : least_from (min p q) ss ≡ min q (least_from p ss) = swapped p q ss in omega arith
+
+pub least_is : (rs : List Consumer) → least (map (λ (c : Consumer). c.at) rs) ≡ least_of rs
+least_is [] = refl
+least_is (r ∷ rs) = least_along r.at rs
+
+least_among : (P : ℕ → Type 0) (p : ℕ) (rs : List Consumer) → P p → AllByRecursion (λ c. P c.at) rs → P (least_from p rs)
+least_among P p [] h all = h
+least_among P p (r ∷ rs) h all =
+    ⊎_elim
+    (λ (l : r.at < least_from p rs). let e : r.at ≡ min r.at (least_from p rs) = omega arith in subst P e all.0)
+    (λ (l : least_from p rs ≤ r.at). let e : least_from p rs ≡ min r.at (least_from p rs) = omega arith in subst P e (least_among P p rs h all.1))
+    (cases_lt r.at (least_from p rs))
+
+-- what holds of each consumer's position holds of the least
+pub at_least : (P : ℕ → Type 0) (rs : List Consumer) → 0 < length rs → AllByRecursion (λ c. P c.at) rs → P (least_of rs)
+at_least P [] l all = absurd (omega arith)
+at_least P (r ∷ rs) l all = least_among P r.at rs all.0 all.1
+
+least_low : (p : ℕ) (rs : List Consumer) → (least_from p rs ≤ p) × AllByRecursion (λ c. least_from p rs ≤ c.at) rs
+least_low p [] = (omega arith, tt)
+least_low p (r ∷ rs) =
+    let h = least_low p rs in
+    let l : least_from p rs ≤ p = h.0 in
+    (omega arith, (omega arith, all_weaker (λ (c : Consumer). least_from p rs ≤ c.at) (λ (c : Consumer). least_from p (r ∷ rs) ≤ c.at) (λ c g. omega arith) rs h.1))
+
+pub least_below : (rs : List Consumer) → AllByRecursion (λ c. least_of rs ≤ c.at) rs
+least_below [] = tt
+least_below (r ∷ rs) = least_low r.at rs
+
+-- ---- what is held
+
+pub held_from : (m : ℕ) (frames : List Placed) (s : Placed) → Among s (held m frames) → Among s frames × (m ≤ s.at)
+held_from m [] s a = absurd a
+held_from m (u ∷ us) s a =
+    ⊎_elim
+    (λ (y : nat_le m u.at ≡ true). ⊎_elim (λ (e : s ≡ u). let l : m ≤ u.at = leb-true m u.at y in (inl e, subst (λ (x : Placed). m ≤ x.at) (sym e) l)) (λ (b : Among s (held m us)). let h = held_from m us s b in (inr h.0, h.1)) (subst (Among s) (cond-true (nat_le m u.at) (u ∷ held m us) (held m us) y) a))
+    (λ (n : nat_le m u.at ≡ false). let h = held_from m us s (subst (Among s) (cond-false (nat_le m u.at) (u ∷ held m us) (held m us) n) a) in (inr h.0, h.1))
+    (cases_Bool (nat_le m u.at))
+
+pub held_of : (m : ℕ) (frames : List Placed) (s : Placed) → Among s frames → m ≤ s.at → Among s (held m frames)
+held_of m [] s a l = absurd a
+held_of m (u ∷ us) s (inl e) l = let at : s.at ≡ u.at = ap (λ (x : Placed). x.at) e in subst (Among s) (sym (cond-true (nat_le m u.at) (u ∷ held m us) (held m us) (le-leb m u.at (omega arith)))) (inl e)
+held_of m (u ∷ us) s (inr a) l =
+    ⊎_elim
+    (λ (y : nat_le m u.at ≡ true). subst (Among s) (sym (cond-true (nat_le m u.at) (u ∷ held m us) (held m us) y)) (inr (held_of m us s a l)))
+    (λ (n : nat_le m u.at ≡ false). subst (Among s) (sym (cond-false (nat_le m u.at) (u ∷ held m us) (held m us) n)) (held_of m us s a l))
+    (cases_Bool (nat_le m u.at))
+
+-- ---- no stored frame lies on both sides of a position that was reached
+
+record IsCovered (read : List Placed) (p q : ℕ) : Type 0 where
+  frame : Placed
+  among : Among frame read
+  begins : frame.at ≤ p
+  goes_on : p < end_of frame
+  ends : end_of frame ≤ q
+
+chain_le : (j q : ℕ) (ss : List Placed) → Chain j q ss → j ≤ q
+chain_le j q [] c = let e : q ≡ j = c in omega arith
+chain_le j q (s ∷ ss) c = let e : s.at ≡ j = c.0 in let l : end_of s ≤ q = chain_le (end_of s) q ss c.1 in omega arith
+
+is_covered : (j q p : ℕ) (read : List Placed) → Chain j q read → j ≤ p → p < q → IsCovered read p q
+is_covered j q p [] c l m = let e : q ≡ j = c in absurd (omega arith)
+is_covered j q p (s ∷ ss) c l m =
+    let at : s.at ≡ j = c.0 in
+    ⊎_elim
+    (λ (k : p < end_of s). record { frame = s; among = inl refl; begins = omega arith; goes_on = k; ends = chain_le (end_of s) q ss c.1 })
+    (λ (k : end_of s ≤ p). let r : IsCovered ss p q = is_covered (end_of s) q p ss c.1 k m in record { frame = r.frame; among = inr r.among; begins = r.begins; goes_on = r.goes_on; ends = r.ends })
+    (cases_lt p (end_of s))
+
+pub reached_parts : (frames : List Placed) (join m : ℕ) → AreOneWhereMet frames → AllByRecursion (λ s. join ≤ s.at) frames → IsReached frames join m → AreParted m frames
+reached_parts frames join m met from reached = all_from (λ (t : Placed). t.at < m → end_of t ≤ m) frames at
+  where
+    at : (t : Placed) → Among t frames → t.at < m → end_of t ≤ m
+    at t a l =
+        let low : join ≤ t.at = all_at (λ (x : Placed). join ≤ x.at) t frames from a in
+        let c : IsCovered reached.read t.at m = is_covered join m t.at reached.read reached.chain low l in
+        let ends : end_of c.frame ≤ m = c.ends in
+        let begins : c.frame.at ≤ t.at = c.begins in
+        let goes_on : t.at < end_of c.frame = c.goes_on in
+        ⊎_elim
+        (λ (k : t.at < end_of t). subst (λ (x : Placed). end_of x ≤ m) (met c.frame t (all_at (λ (x : Placed). Among x frames) c.frame reached.read reached.among c.among) a (omega arith) goes_on) ends)
+        (λ (k : end_of t ≤ t.at). omega arith)
+        (cases_lt t.at (end_of t))

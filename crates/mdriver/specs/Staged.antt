@@ -1,0 +1,81 @@
+-- Which scenes a stage shows, and what a line makes of them.
+use Rattle.std.specs.Prelude.{◌≡◌, ℕ, ⊤, List, [], ◌∷◌, ◌++◌, map}
+use Rattle.theory.specs.Bytes.{Identity}
+use Rattle.script.specs.Meaning.{Order}
+use Rattle.mdriver.specs.declared.line.Line.{Line}
+use Rattle.mdriver.specs.declared.stage.Stage.{Stage}
+use Rattle.std.specs.List.{flat_map}
+use Rattle.mdriver.specs.Answers.{Answers, limit_of}
+use Rattle.mdriver.specs.Plays.{AnswersAll, ShowsBook}
+use Rattle.mdriver.specs.Published.{Played}
+use Rattle.mdriver.specs.Prints.{Open, Print, prints}
+use Rattle.mdriver.specs.Receiving.{Receiver}
+use Rattle.mdriver.specs.Scene.{Scene, listening_at, opened_scene}
+use Rattle.mdriver.specs.Sending.{Sending}
+use Rattle.mdriver.specs.Subscribing.{ShowsSubscriber, Subscribing}
+
+-- each subscriber shows the receiver of its number
+abbrev pub AllShow : List Subscribing → List Receiver → Type 0
+AllShow [] [] = ⊤
+AllShow [] (r ∷ rs) = ⊥
+AllShow (v ∷ vs) [] = ⊥
+AllShow (v ∷ vs) (r ∷ rs) = ShowsSubscriber v r × AllShow vs rs
+
+pub record ShowsSender (v : Sending ℕ) (s : Scene) : Type 0 where
+  pub at : v.reader.position ≡ s.sender.at
+  pub number : v.reader.number ≡ 0
+  pub flow : v.flow ≡ limit_of s.log s.sender
+  pub naming : v.naming ≡ s.naming
+  pub clock : v.clock ≡ s.sender.clock
+
+pub record ShowsScene (v : Stage) (s : Scene) : Type 0 where
+  pub log : s.log ≡ v.log
+  pub sender : ShowsSender v.sender s
+  pub one : v.log.consumers ≡ s.sender.at ∷ []
+  pub receivers : AllShow v.subscribers.items s.receivers
+  pub packets : s.packets ≡ v.packets
+
+-- the line printed this, and the stage shows the scene after it
+pub record Answered (old : Scene) (order : Order) (before after : List Print) (new : Stage) : Type 0 where
+  pub lines : List Print
+  pub scene : Scene
+  pub answers : Answers old order lines scene
+  pub printed : after ≡ before ++ lines
+  pub shows : ShowsScene new scene
+
+-- whatever scene the stage showed
+abbrev pub IsAnswered : Stage → Order → List Line → List Line → Stage → Type 0
+IsAnswered old order before after new = (s : Scene) → ShowsScene old s → Answered s order (prints before) (prints after) new
+
+-- lines of a script one after the other
+pub record Continued (old : Scene) (orders : List Order) (before after : List Print) (new : Stage) : Type 0 where
+  pub played : List Played
+  pub scene : Scene
+  pub of_orders : map (λ p. p.order) played ≡ orders
+  pub answered : AnswersAll old played scene
+  pub printed : after ≡ before ++ flat_map (λ p. p.lines) played
+  pub shows : ShowsScene new scene
+
+abbrev pub Continues : Stage → List Order → List Line → List Line → Stage → Type 0
+Continues old orders before after new = (s : Scene) → ShowsScene old s → Continued s orders (prints before) (prints after) new
+
+-- the same behind the line of an opened log
+abbrev pub ContinuesOpen : Stage → List Order → List Line → List Line → Stage → Type 0
+ContinuesOpen old orders before after new = (s : Scene) → ShowsScene old s → Continued s orders (prints before ++ Open ∷ []) (prints after) new
+
+-- the eight receivers of a log that was just opened
+abbrev pub numbers : List ℕ
+numbers = 0 ∷ 1 ∷ 2 ∷ 3 ∷ 4 ∷ 5 ∷ 6 ∷ 7 ∷ []
+
+abbrev pub AreListening : Identity → List Subscribing → Type 0
+AreListening i vs = AllShow vs (map (listening_at i) numbers)
+
+-- the lines of a script from the opened log on, and the book
+pub record RunsTo (i : Identity) (start : ℕ) (orders : List Order) (before after : List Print) : Type 0 where
+  pub played : List Played
+  pub last : Scene
+  pub of_orders : map (λ p. p.order) played ≡ orders
+  pub answered : AnswersAll (opened_scene i start) played last
+  pub book : Print
+  pub shown : ShowsBook last.log book
+  pub printed : after ≡ before ++ (Open ∷ (flat_map (λ p. p.lines) played ++ book ∷ []))
