@@ -13,7 +13,7 @@ unit_by : (z : ℤ) → ((p : ℕ) → z ≡ pos p → p % 32 ≡ 0) → IsUnit 
 unit_by (pos p) f = f p refl
 unit_by (negsuc n) f = tt
 
-whole_power : (n : ℕ) → IsPowerOfTwo n → 32 ≤ n → n % 32 ≡ 0
+pub whole_power : (n : ℕ) → IsPowerOfTwo n → 32 ≤ n → n % 32 ≡ 0
 whole_power n (i, p) h =
     elim (cases_lt i 5) [
       | inl less ↦
@@ -24,7 +24,7 @@ whole_power n (i, p) h =
           omega (arith, p, split)
     ]
 
-whole_times : (a n : ℕ) → n % 32 ≡ 0 → (a * n) % 32 ≡ 0
+pub whole_times : (a n : ℕ) → n % 32 ≡ 0 → (a * n) % 32 ≡ 0
 whole_times a n h =
     let parts : n ≡ 32 * (n / 32) = omega arith in
     let product : a * n ≡ a * (32 * (n / 32)) = ap (λ x. a * x) parts in

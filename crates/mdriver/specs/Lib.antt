@@ -7,3 +7,4 @@ pub mod Polling
 pub mod Prints
 pub mod Receiving
 pub mod Showing
+pub mod Subscribing

@@ -1,5 +1,5 @@
 -- Which receivers the code of a receiver shows: those of its numbers whose image holds what is held from the least consumer on.
-use Rattle.std.specs.Prelude.{◌≡◌, ◌↔◌, ℕ, ◌<◌, ◌≤◌, ℤ, ⊤, List, map, length, slice_get, slice_index, slice_set, Option, None, Some}
+use Rattle.std.specs.Prelude.{◌≡◌, ◌↔◌, ℕ, ◌<◌, ◌≤◌, ℤ, ⊤, List, ◌++◌, map, length, slice_get, slice_index, slice_set, Option, None, Some}
 use Rattle.std.specs.List.{AllByRecursion}
 use Rattle.std.specs.Option.{ForSome}
 use Rattle.block.specs.Bytes.{with_front}
@@ -11,13 +11,14 @@ use Rattle.theory.specs.Image.{after_heartbeat}
 use Rattle.theory.specs.ImageLaws.{held}
 use Rattle.theory.specs.Control.{named_by}
 use Rattle.theory.specs.Timing.{Told}
-use Rattle.theory.specs.Wire.{Header, IsHeader}
+use Rattle.theory.specs.Wire.{Header, IsHeader, Wire}
 use Rattle.rebuilder.specs.Kinds.{head_at}
 use Rattle.rebuilder.specs.Seen as seen
 use Rattle.rebuilder.specs.Stored.{meant}
 use Rattle.rebuilder.specs.declared.answer.Insert.{Insert}
 use Rattle.mdriver.specs.declared.receiver.Told.{Told as Said}
-use Rattle.mdriver.specs.Receiving.{Opened, Receiver, answer_at, given_at}
+use Rattle.mdriver.specs.Receiving.{MeetsAll, Opened, Receiver, answer_at, given_at}
+use Rattle.mdriver.specs.declared.receiver.Outcome.{Outcome}
 
 -- what a contract sees of a receiver's core
 pub record Core : Type 0 where
@@ -87,6 +88,10 @@ pub record Shows (v : Core) (r : Receiver) : Type 0 where
 abbrev pub Becomes : Core → Core → (Receiver → Receiver → Type 0) → Type 0
 Becomes old new Step = (r : Receiver) → Shows old r → (s : Receiver) × Step r s × Shows new s
 
+-- some of these frames were taken, the first ones
+abbrev pub MeetsFirst : List Wire → Receiver → Receiver → Type 0
+MeetsFirst frames r s = (taken : List Wire) × (left : List Wire) × (outs : List Outcome) × (frames ≡ taken ++ left) × MeetsAll r taken outs s
+
 -- ---- of an image alone
 
 -- the answer to a frame with this header, and what it has then
@@ -127,10 +132,9 @@ abbrev pub HasNoFrame : Option Opened → ℕ → Type 0
 HasNoFrame None k = ⊤
 HasNoFrame (Some o) k = IsAtEnd o k
 
-pub record PassesFrame (r : Receiver) (k : ℕ) (before : List ℕ) (head : FrameHead) (after : List ℕ) (new : Core) : Type 0 where
-  pub opened : Opened
-  pub is : r.image ≡ Some opened
-  pub reads : ReadsPast opened k before head after (λ o. Shows new (record r { image = Some o }))
+abbrev pub PassesFrame : Option Opened → Receiver → ℕ → List ℕ → FrameHead → List ℕ → Core → Type 0
+PassesFrame None r k before head after new = ⊥
+PassesFrame (Some o) r k before head after new = ReadsPast o k before head after (λ p. Shows new (record r { image = Some p }))
 
 -- where the consumer with this number stands
 abbrev pub place_in : Option seen.Image → ℕ → ℕ

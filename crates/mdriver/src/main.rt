@@ -16,6 +16,7 @@ mod play;
 mod receiver;
 mod sender;
 mod sim;
+mod subscriber;
 mod world;
 
 use commands::command;

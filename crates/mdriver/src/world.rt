@@ -1,36 +1,20 @@
 //! One log with its sender, eight receivers, and every packet that they gave out: a handler for each line of a script.
 
-ghost use Rattle.std.specs.Prelude.{◌≡◌, ◌<◌, ◌≤◌, vec_len, vec_capacity, length, IfSome};
-ghost use Rattle.position.specs.declared.head.FrameKind.TheVariants.{Data};
+ghost use Rattle.std.specs.Prelude.{◌≡◌, ◌<◌, vec_len, vec_capacity};
 ghost use Rattle.log_buffer.specs.Reader.{AreAll};
 
 use crate::line::Line;
 use crate::outbox::Outbox;
-use crate::receiver::{Outcome, ReceiverCore};
 use crate::sender::{SenderCore, SenderEvent};
-use assembler::{Assembler, AssemblyError, Message};
-use block::Block;
+use crate::subscriber::Subscriber;
 use flow_control::UnicastFlow;
 use frames::{Frame, Status, write_frame};
 use log_buffer::{Book, Keeper, LogReader, LogState, Publisher, close, offer};
-use position::{FrameHead, FrameKind};
 use script::{Command, Seat};
 use std::alloc::{AllocError, Global};
 
 /// How many receivers there are.
 pub const RECEIVERS: usize = 8;
-
-/// The bytes of the greatest payload of a frame.
-const GREATEST_PAYLOAD: usize = 65_472;
-
-/// A receiver and the one subscriber that reads its image.
-#[derive(Drop)]
-pub struct Subscriber {
-    core: ReceiverCore,
-    assembler: Assembler<Global>,
-    block: Block,
-    ghost room: { 65472 ≤ length block },
-}
 
 /// What a script plays on.
 pub struct World {
@@ -64,72 +48,6 @@ pub fn close_with(
 {
     readers.push(reader).unwrap();
     close(log, publishers, readers, keeper)
-}
-
-impl Subscriber {
-    pub fn new(
-        alloc: Global,
-        core: ReceiverCore,
-        greatest: usize,
-    ) -> Result<Subscriber, AllocError> {
-        Ok(Subscriber {
-            core,
-            assembler: Assembler::new(alloc, greatest),
-            block: Block::new(alloc, GREATEST_PAYLOAD)?,
-        })
-    }
-
-    /// Reads on until a message is complete or no frame is left.
-    fn poll(&mut self) -> Line {
-        if self.core.image().is_none() {
-            return Line::Bad;
-        }
-        for _ in 0..u64::MAX {
-            let Some(head) = self.next_frame() else {
-                break;
-            };
-            if head.kind == FrameKind::Pad {
-                continue;
-            }
-            match self.assemble(&head) {
-                Ok(Some(message)) => return Line::Message(message),
-                Ok(None) => {}
-                Err(error) => return Line::Assembly(error),
-            }
-        }
-        Line::NoMessage
-    }
-
-    /// Reads the frame at the subscriber's position, and moves past it.
-    fn next_frame(&mut self) -> Option<FrameHead>
-        ensures { IfSome result (λ head. head.kind ≡ Data → (32 ≤ head.frame_length) × (head.frame_length ≤ 65504)) }
-    {
-        let image = self.core.image_mut()?;
-        let _ = image.consumers();
-        let head = image.read(0, &mut self.block)?;
-        let _ = image.advance(0);
-        Some(head)
-    }
-
-    /// Hands the payload that was read last to the assembler.
-    fn assemble(&mut self, head: &FrameHead) -> Result<Option<Message<Global>>, AssemblyError>
-        requires long { 32 ≤ head.now.frame_length }
-        requires short { head.now.frame_length ≤ 65504 }
-    {
-        let payload = &self.block.bytes()[..head.frame_length as usize - 32];
-        self.assembler.on_frame(head.flags, payload)
-    }
-
-    fn image(&self) -> Line {
-        match self.core.image() {
-            None => Line::Bad,
-            Some(image) => Line::Image {
-                least: image.least(),
-                rebuilt: image.rebuilt(),
-                high: image.high_water(),
-            },
-        }
-    }
 }
 
 impl World {
@@ -245,14 +163,14 @@ impl World {
             return Ok(());
         };
         let subscriber = &mut self.subscribers[receiver.number];
-        for outcome in subscriber.core.on_datagram(bytes, now)? {
+        for outcome in subscriber.on_datagram(bytes, now)? {
             lines.push(Line::Receiver(outcome))?;
         }
         Ok(())
     }
 
     fn tick(&mut self, receiver: Seat, now: u64, lines: &mut Vec<Line>) -> Result<(), AllocError> {
-        let replies = self.subscribers[receiver.number].core.tick(now);
+        let replies = self.subscribers[receiver.number].tick(now);
         if replies.asking.is_none() && replies.status.is_none() {
             lines.push(Line::Nothing)?;
         }
