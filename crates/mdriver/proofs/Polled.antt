@@ -1,10 +1,10 @@
 -- Frames that a poll reads, one after the other.
-use Rattle.std.proofs.Common.{◌≡◌, ℕ, ◌⊎◌, inl, inr, ⊎_elim, List, [], ◌∷◌, ◌++◌, Bool, true, false, Option, Some, None, refl, sym, ap, ap₂, ◌∙◌, subst, append-nil}
-use Rattle.std.specs.Prelude.{map, slice_get, zero}
+use Rattle.std.proofs.Common.{◌≡◌, ℕ, ◌⊎◌, inl, inr, ⊎_elim, List, [], ◌∷◌, ◌++◌, arith, Bool, true, false, Option, Some, None, refl, sym, ap, ap₂, ◌∙◌, subst, append-nil}
+use Rattle.std.specs.Prelude.{is_some, map, slice_get}
 use Rattle.std.specs.Option.{option_to_list}
 use Rattle.std.specs.List.{AllByRecursion}
 use Rattle.std.proofs.lemmas.Bool.{cases_Bool, both_ways}
-use Rattle.theory.specs.Placed.{Among, Chain, Data, Frame, Pad, Placed, end_of, is_padding}
+use Rattle.theory.specs.Placed.{Among, Chain, Data, Frame, IsReached, Pad, Placed, end_of, is_padding}
 use Rattle.theory.specs.Units.{IsContiguous}
 use Rattle.theory.specs.Assembly.{Assembly, after, after_all}
 use Rattle.theory.specs.Consumer.{Consumer, moved, passed_by}
@@ -12,11 +12,15 @@ use Rattle.theory.specs.Image.{Image}
 use Rattle.theory.proofs.Lists.{all_append}
 use Rattle.theory.proofs.Follow.{Chain-push}
 use Rattle.assembler.specs.Assembling.{Assembling}
-use Rattle.mdriver.specs.Polling.{PollsImage, PollsOf, PollsWhole, Reads, gives, moved_all, passed_all, with_consumer}
-use Rattle.mdriver.specs.Prints.{Print, Message, NoMessage, Unassembled, Bad}
+use Rattle.mdriver.specs.Polling.{PollsImage, PollsOf, PollsWhole, Reads, TellsOf, TellsPositions, gives, moved_all, passed_all, with_consumer}
+use Rattle.mdriver.specs.Prints.{Print, Bad, Message, NoMessage, Positions, Unassembled}
 use Rattle.assembler.specs.declared.fault.AssemblyError.{AssemblyError}
 use Rattle.mdriver.specs.Receiving.{Opened, Receiver}
-use Rattle.mdriver.specs.Showing.{Core, HasNoFrame, Shows, with_reader}
+use Rattle.mdriver.specs.Showing.{Core, HasNoFrame, Shows, ShowsImage, ShowsOpened, with_reader}
+use Rattle.mdriver.proofs.Meeting.{shown_none, shown_some}
+use Rattle.mdriver.proofs.ShownSteps.{end_shown, least_shown}
+use Rattle.rebuilder.specs.Seen as seen
+use Rattle.std.proofs.lemmas.Option.{same_Some}
 use Rattle.mdriver.specs.Subscribing.{AssemblesFor, HasRead, HearsFrame, IsPolling, PassesOn, RefusesFrame, ShowsSubscriber, Subscribing, heard_of}
 
 -- ---- a frame more
@@ -74,6 +78,25 @@ reads_more i c frames at s h a e = record { chain = Chain-push c.at at frames s 
 
 -- ---- the start of a poll
 
+-- another consumer at the same place is shown as well
+seat_shown : (v : seen.Image) (o : Opened) (c d : Consumer) → o.image.consumers ≡ c ∷ [] → d.at ≡ c.at → ShowsImage v o → ShowsImage v (with_consumer o d)
+seat_shown v o c d one at h = record {
+  geometry = h.geometry;
+  join = h.join;
+  window = h.window;
+  high = h.high;
+  consumers = h.consumers ∙ ap (λ rs. map (λ (x : Consumer). x.at) rs) one ∙ ap (λ p. p ∷ []) (sym at);
+  some = omega arith;
+  frames = h.frames;
+  met = h.met;
+  from = h.from;
+  reached = (subst (IsReached o.image.stored o.image.join) (sym at) (subst (λ rs. AllByRecursion (λ (x : Consumer). IsReached o.image.stored o.image.join x.at) rs) one h.reached).0, tt);
+}
+
+opened_shown : (i : Option seen.Image) (o : Opened) (c d : Consumer) → o.image.consumers ≡ c ∷ [] → d.at ≡ c.at → ShowsOpened i (Some o) → ShowsOpened i (Some (with_consumer o d))
+opened_shown None o c d one at h = h
+opened_shown (Some v) o c d one at h = seat_shown v o c d one at h
+
 pub poll_starts : (v : Subscribing) (o : Option Opened) (r : Receiver) → r.image ≡ o → (o ≡ None → ⊥) → ShowsSubscriber v r → IsPolling o r v
 poll_starts v None r is some h = some refl
 poll_starts v (Some o) r is some h = reading (subst (AssemblesFor v.assembler.begun) is h.begun)
@@ -85,7 +108,160 @@ poll_starts v (Some o) r is some h = reading (subst (AssemblesFor v.assembler.be
       frames = [];
       at = c.at;
       reads = record { chain = refl; among = tt };
-      shown = λ d e. ?;
+      shown = λ d e. record { numbers = ap (λ (x : Receiver). record x { image = Some (with_consumer o d) }) h.core.numbers; image = opened_shown v.core.image o c d one e (subst (ShowsOpened v.core.image) is h.core.image) };
       nothing = λ l. refl;
       begun = begun;
     }
+
+pub some_shows : (i : Option seen.Image) (o : Option Opened) → is_some i ≡ true → ShowsOpened i o → o ≡ None → ⊥
+some_shows None o e h n = absurd (cc)
+some_shows (Some v) None e h n = h
+some_shows (Some v) (Some o) e h n = absurd (cc)
+
+-- ---- one frame more is heard
+
+-- the consumer stands where it has read to
+abbrev pub stood : Consumer → ℕ → Consumer
+stood c at = record c { at = at }
+
+abbrev pub now_at : Opened → Receiver → Consumer → ℕ → Receiver
+now_at o r c at = record r { image = Some (with_consumer o (stood c at)) }
+
+passed_here : (o : Opened) (r : Receiver) (c : Consumer) (at : ℕ) (s : Placed) (w : Core) → PassesOn (with_consumer o (stood c at)) (now_at o r c at) s w → s.at ≡ at
+passed_here o r c at s w h =
+    let same : stood c at ≡ h.consumer = same_Some (stood c at) h.consumer h.which in
+    h.here ∙ ap (λ (x : Consumer). x.at) (sym same)
+
+pub hears_on : (o : Opened) (r : Receiver) (v w : Subscribing) (h : HasRead o r v) → HearsFrame (Some (with_consumer o (stood h.consumer h.at))) (now_at o r h.consumer h.at) v.assembler None w → HasRead o r w
+hears_on o r v w h (s, passes, state, message) =
+    let c = h.consumer in
+    let begun : w.assembler.begun ≡ (heard_of v.assembler.begun s.frame).begun = ap (λ (x : Assembling). x.begun) state in
+    record {
+      consumer = c;
+      one = h.one;
+      frames = h.frames ++ s ∷ [];
+      at = end_of s;
+      reads = reads_more o.image c h.frames h.at s h.reads passes.among (passed_here o r c h.at s w.core passes);
+      shown = passes.shown;
+      nothing = λ l. gives_more c h.frames s ∙ ap₂ (λ (xs ys : List (List ℕ)). xs ++ ys) (h.nothing l) (ap (λ b. option_to_list (heard_of b s.frame).message) (sym (h.begun l)) ∙ ap option_to_list (sym message));
+      begun = λ l. begun ∙ ap (λ b. (heard_of b s.frame).begun) (h.begun l) ∙ sym (moved_begun c h.frames s);
+    }
+
+-- ---- the end of a poll
+
+abbrev pub Polled : Option Opened → Receiver → Print → Subscribing → Type 0
+Polled o r print w = (x : Receiver) × PollsOf o r print x × ShowsSubscriber w x
+
+-- where the consumer stands then, if it has lost nothing
+record Whole (o : Opened) (c : Consumer) (print : Print) (at : ℕ) (w : Subscribing) : Type 0 where
+  after : Consumer
+  polls : PollsWhole o.image c print after
+  here : after.at ≡ at
+  begun : after.lost ≡ false → w.assembler.begun ≡ after.assembly.begun
+
+finish : (o : Opened) (r : Receiver) (w : Subscribing) (print : Print) (c : Consumer) (frames : List Placed) (at : ℕ) → r.consumers ≡ 1 → o.image.consumers ≡ c ∷ [] → Reads o.image c frames at
+    → ((d : Consumer) → d.at ≡ at → Shows w.core (record r { image = Some (with_consumer o d) })) → (c.lost ≡ false → Whole o c print at w) → Polled (Some o) r print w
+finish o r w print c frames at seats one reads shown whole =
+    ⊎_elim
+    (λ (lost : c.lost ≡ true).
+    let d = passed_all c frames in
+    let here : d.at ≡ at = passed_at c frames at reads.chain in
+    (record r { image = Some (with_consumer o d) }, (c, d, one, inr (lost, record { frames = frames; reads = subst (Reads o.image c frames) (sym here) reads; after = refl }), refl),
+    record { core = shown d here; one = seats; begun = (d, refl, λ l. absurd (both_ways d.lost l (passed_lost c frames lost))) }))
+    (λ (kept : c.lost ≡ false).
+    let h = whole kept in
+    (record r { image = Some (with_consumer o h.after) }, (c, h.after, one, inl (kept, h.polls), refl),
+    record { core = shown h.after h.here; one = seats; begun = (h.after, refl, h.begun) }))
+    (cases_Bool c.lost)
+
+pub polls_none : (o : Opened) (r : Receiver) (v : Subscribing) (h : HasRead o r v) → r.consumers ≡ 1 → HasNoFrame (Some (with_consumer o (stood h.consumer h.at))) 0 → Polled (Some o) r NoMessage v
+polls_none o r v h seats end =
+    let c = h.consumer in
+    let d = moved_all c h.frames in
+    let here : d.at ≡ h.at = moved_at c h.frames h.at h.reads.chain in
+    let same : stood c h.at ≡ end.consumer = same_Some (stood c h.at) end.consumer end.which in
+    let stops : IsContiguous o.image.stored o.image.join h.at = subst (λ (x : Consumer). IsContiguous o.image.stored o.image.join x.at) (sym same) end.end in
+    finish o r v NoMessage c h.frames h.at seats h.one h.reads h.shown
+    (λ kept. record {
+      after = d;
+      polls = record { frames = h.frames; reads = subst (Reads o.image c h.frames) (sym here) h.reads; nothing = h.nothing kept; no_more = subst (λ p. IsContiguous o.image.stored o.image.join p) (sym here) stops; after = refl };
+      here = here;
+      begun = λ l. h.begun kept;
+    })
+
+pub polls_message : (o : Opened) (r : Receiver) (v w : Subscribing) (bytes : List ℕ) (h : HasRead o r v) → r.consumers ≡ 1 → HearsFrame (Some (with_consumer o (stood h.consumer h.at))) (now_at o r h.consumer h.at) v.assembler (Some bytes) w → Polled (Some o) r (Message bytes) w
+polls_message o r v w bytes h seats (s, passes, state, message) =
+    let c = h.consumer in
+    let frames = h.frames ++ s ∷ [] in
+    let d = moved_all c frames in
+    let reads : Reads o.image c frames (end_of s) = reads_more o.image c h.frames h.at s h.reads passes.among (passed_here o r c h.at s w.core passes) in
+    let here : d.at ≡ end_of s = moved_at c frames (end_of s) reads.chain in
+    let begun : w.assembler.begun ≡ (heard_of v.assembler.begun s.frame).begun = ap (λ (x : Assembling). x.begun) state in
+    finish o r w (Message bytes) c frames (end_of s) seats h.one reads passes.shown
+    (λ kept. record {
+      after = d;
+      polls = record {
+        earlier = h.frames;
+        last = s;
+        reads = subst (Reads o.image c frames) (sym here) reads;
+        nothing = h.nothing kept;
+        message_given = gives_more c h.frames s ∙ ap₂ (λ (xs ys : List (List ℕ)). xs ++ ys) (h.nothing kept) (ap (λ b. option_to_list (heard_of b s.frame).message) (sym (h.begun kept)) ∙ ap option_to_list (sym message));
+        after = refl;
+      };
+      here = here;
+      begun = λ l. begun ∙ ap (λ b. (heard_of b s.frame).begun) (h.begun kept) ∙ sym (moved_begun c h.frames s);
+    })
+
+pub polls_fault : (o : Opened) (r : Receiver) (v w : Subscribing) (fault : AssemblyError) (h : HasRead o r v) → r.consumers ≡ 1 → RefusesFrame (Some (with_consumer o (stood h.consumer h.at))) (now_at o r h.consumer h.at) w → Polled (Some o) r (Unassembled fault) w
+polls_fault o r v w fault h seats (s, passes, of_data) =
+    let c = h.consumer in
+    let frames = h.frames ++ s ∷ [] in
+    let reads : Reads o.image c frames (end_of s) = reads_more o.image c h.frames h.at s h.reads passes.among (passed_here o r c h.at s w.core passes) in
+    finish o r w (Unassembled fault) c frames (end_of s) seats h.one reads passes.shown
+    (λ kept. record {
+      after = passed_by (moved_all c h.frames) s;
+      polls = record { earlier = h.frames; last = s; reads = reads; nothing = h.nothing kept; not_padding = of_data; after = refl };
+      here = refl;
+      begun = λ l. absurd (both_ways true l refl);
+    })
+
+-- ---- the same, with the image that the receiver has
+
+pub polls_bad : (v : Subscribing) (r : Receiver) → v.core.image ≡ None → ShowsSubscriber v r → Polled r.image r Bad v
+polls_bad v r none h = (r, subst (λ x. PollsOf x r Bad r) (sym (shown_none v.core.image r.image none h.core.image)) (refl, refl), h)
+
+-- the receiver as it stands in the course of a poll
+abbrev pub standing : (o : Option Opened) (r : Receiver) (v : Subscribing) → IsPolling o r v → Receiver
+standing None r v h = r
+standing (Some o) r v h = now_at o r h.consumer h.at
+
+pub standing_shown : (o : Option Opened) (r : Receiver) (v : Subscribing) (h : IsPolling o r v) → Shows v.core (standing o r v h)
+standing_shown None r v h = absurd h
+standing_shown (Some o) r v h = h.shown (stood h.consumer h.at) refl
+
+pub goes_on : (o : Option Opened) (r : Receiver) (v w : Subscribing) (h : IsPolling o r v) → HearsFrame (standing o r v h).image (standing o r v h) v.assembler None w → IsPolling o r w
+goes_on None r v w h heard = absurd h
+goes_on (Some o) r v w h heard = hears_on o r v w h heard
+
+pub ends_none : (o : Option Opened) (r : Receiver) (v : Subscribing) (h : IsPolling o r v) → r.consumers ≡ 1 → HasNoFrame (standing o r v h).image 0 → Polled o r NoMessage v
+ends_none None r v h seats end = absurd h
+ends_none (Some o) r v h seats end = polls_none o r v h seats end
+
+pub ends_message : (o : Option Opened) (r : Receiver) (v w : Subscribing) (bytes : List ℕ) (h : IsPolling o r v) → r.consumers ≡ 1 → HearsFrame (standing o r v h).image (standing o r v h) v.assembler (Some bytes) w → Polled o r (Message bytes) w
+ends_message None r v w bytes h seats heard = absurd h
+ends_message (Some o) r v w bytes h seats heard = polls_message o r v w bytes h seats heard
+
+pub ends_fault : (o : Option Opened) (r : Receiver) (v w : Subscribing) (fault : AssemblyError) (h : IsPolling o r v) → r.consumers ≡ 1 → RefusesFrame (standing o r v h).image (standing o r v h) w → Polled o r (Unassembled fault) w
+ends_fault None r v w fault h seats refused = absurd h
+ends_fault (Some o) r v w fault h seats refused = polls_fault o r v w fault h seats refused
+
+-- ---- what the image tells
+
+pub tells : (v : Subscribing) (i : seen.Image) (least q high : ℕ) (r : Receiver) → v.core.image ≡ Some i → least ≡ seen.least i.consumers → IsContiguous i.held (seen.least i.consumers) q → high ≡ i.high → ShowsSubscriber v r → TellsPositions r (Positions least q high)
+tells v i least q high r some is end mark h =
+    let w = shown_some i v.core.image r.image some h.core.image in
+    subst (λ x. TellsOf x (Positions least q high)) (sym w.is) (q, end_shown i w.opened q w.shown end, ap₂ (λ l m. Positions l q m) (is ∙ least_shown i w.opened w.shown) (mark ∙ w.shown.high))
+
+-- a core without an image
+pub subscribes : (v : Subscribing) (r : Receiver) → v.core.image ≡ None → v.core.consumers ≡ 1 → v.assembler.begun ≡ None → Shows v.core r → ShowsSubscriber v r
+subscribes v r none one begun h = record { core = h; one = ap (λ (x : Receiver). x.consumers) h.numbers ∙ one; begun = subst (AssemblesFor v.assembler.begun) (sym (shown_none v.core.image r.image none h.image)) begun }
