@@ -1,5 +1,5 @@
 -- What holds of each of some readers holds of the last.
-use Rattle.std.proofs.Common.{◌≡◌, ℕ, ◌<◌, List, [], ◌∷◌, ◌++◌, length, refl, subst, arith, length-append}
+use Rattle.std.proofs.Common.{◌≡◌, ◌<◌, List, [], ◌∷◌, ◌++◌, length, refl, subst, arith, length-append}
 use Rattle.std.specs.Prelude.{All, slice_index_or}
 
 at_end : {X : Type 0} (ys : List X) (x d : X) → slice_index_or (ys ++ x ∷ []) (length ys) d ≡ x

@@ -1,8 +1,8 @@
 -- What a datagram tells, by its first frame.
-use Rattle.std.proofs.Common.{◌≡◌, ◌∙◌, ℕ, List, [], ◌∷◌, ◌++◌, take, drop, sym, ap, subst, inl, refl}
+use Rattle.std.proofs.Common.{◌≡◌, ◌∙◌, ℕ, List, [], ◌∷◌, ◌++◌, drop, sym, ap, subst, inl, refl}
 use Rattle.std.proofs.lemmas.List.{take-append-drop}
 use Rattle.std.specs.List.{flat_map}
-use Rattle.std.specs.Prelude.{Option, Some}
+use Rattle.std.specs.Prelude.{Some}
 use Rattle.theory.specs.Wire.{Wire, Status, SM, SpellsDatagram, spelling}
 use Rattle.theory.specs.Bytes.{Identity}
 use Rattle.theory.proofs.Spelled.{one_spelling}
@@ -10,7 +10,7 @@ use Rattle.frames.specs.declared.fault.FrameError.{FrameError}
 use Rattle.frames.specs.Fronts.{FrontSpells}
 use Rattle.frames.specs.Order.{first_fault}
 use Rattle.frames.specs.Datagrams.{IsDatagramFault}
-use Rattle.mdriver.specs.Cycling.{IsNews, IsOwn, News, Says, AsksSetup, TellsNothing, Unreadable}
+use Rattle.mdriver.specs.Cycling.{IsNews, News, Says, AsksSetup, TellsNothing, Unreadable}
 use Rattle.mdriver.specs.FirstNews.{FirstTells}
 
 record Starts (frames : List Wire) (w : Wire) : Type 0 where

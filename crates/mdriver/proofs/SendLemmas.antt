@@ -1,7 +1,7 @@
 -- What is sent: nothing, or the frame that was read.
-use Rattle.std.proofs.Common.{◌≡◌, ◌∙◌, ℕ, ◌+◌, ◌-◌, ◌<◌, ◌≤◌, List, [], ◌∷◌, ◌++◌, length, take, drop, sym, ap, subst, refl, inl, inr, arith, append-nil}
+use Rattle.std.proofs.Common.{◌≡◌, ◌∙◌, ℕ, ◌+◌, ◌-◌, ◌<◌, ◌≤◌, List, [], ◌∷◌, length, take, drop, sym, ap, subst, refl, inl, inr, arith, append-nil}
 use Rattle.std.proofs.Math.Seq.{take-append_seam}
-use Rattle.std.specs.Prelude.{ℤ, Option, None, Some, slice_set, true}
+use Rattle.std.specs.Prelude.{ℤ, None, Some, slice_set, true}
 use Rattle.std.specs.List.{AllByRecursion}
 use Rattle.theory.specs.Position.{Geometry, aligned}
 use Rattle.theory.specs.Placed.{Among, Data, Frame, Placed, covered, end_of, frame_length, place_all}
@@ -10,7 +10,7 @@ use Rattle.theory.specs.Wire.{Wire, spelling}
 use Rattle.theory.specs.Bytes.{Identity, wire_at}
 use Rattle.theory.specs.Control.{setup_at}
 use Rattle.theory.specs.Datagrams.{MayBeSent}
-use Rattle.theory.proofs.Lists.{all_append, all_at}
+use Rattle.theory.proofs.Lists.{all_append}
 use Rattle.theory.proofs.Frames.{AreCut, InOrder, are_cut, committed_in_order, in_order_from}
 use Rattle.position.specs.declared.head.FrameHead.{FrameHead}
 use Rattle.log_buffer.specs.Log.{IsLog, Log, term_of}
@@ -80,8 +80,8 @@ held_back l r q o limit head old new is h above e =
     record {
       frame = None;
       next = λ s a at may.
-        let allowed : MayBeSent limit here = subst (MayBeSent limit) (only_one l s here is a h.among at) may in
-        absurd (omega (arith, allowed, end, above));
+          let allowed : MayBeSent limit here = subst (MayBeSent limit) (only_one l s here is a h.among at) may in
+          absurd (omega (arith, allowed, end, above));
       sent = ap (λ d. record o { datagrams = d }) (sym (append-nil o.datagrams));
       behind = (refl, (head.start + aligned head.frame_length, e));
     }
@@ -106,7 +106,7 @@ sends_frame l m r n q o p limit head old new h below read log moved out =
       sent = out ∙ ap (λ (x : ℕ). with_datagram o (spelling (wire_at l.identity x (Data 192 (take (head.frame_length - 32) new))))) start ∙ ap (λ (x : List ℕ). with_datagram o (spelling (wire_at l.identity r.position (Data 192 x)))) (payload_read l r head old new h);
       behind = (
         log ∙ ap (λ (x : Reader). record l { consumers = slice_set l.consumers x.number x.read_to }) noted,
-        moved ∙ ap (λ (x : Reader). record x { position = x.read_to; index = x.index + 1 }) noted
+        moved ∙ ap (λ (x : Reader). record x { position = x.read_to; index = x.index + 1 }) noted,
       );
     }
 

@@ -1,5 +1,5 @@
 -- That a reader stands in a log has one proof.
-use Rattle.std.specs.Prelude.{◌≡◌, ◌≤◌, ℕ, ◌+◌, List, [], ◌∷◌, ◌⊎◌, Option, None, Some, true, length, slice_get}
+use Rattle.std.specs.Prelude.{◌≡◌, ℕ, ◌+◌, List, [], ◌∷◌, ◌⊎◌, Option, None, Some, true, length, slice_get}
 use Rattle.std.proofs.Common.{arith, sym, ap, ◌∙◌, subst, inl, inr}
 use Rattle.std.proofs.Props.{props}
 use Rattle.std.specs.List.{AllByRecursion}
@@ -8,7 +8,7 @@ use Rattle.theory.specs.Placed.{Frame, payload_of}
 use Rattle.theory.specs.Entry.{Entry, entry_end}
 use Rattle.theory.specs.Messages.{is_whole}
 use Rattle.theory.specs.Tiling.{Tiles}
-use Rattle.log_buffer.specs.Log.{Log, published, term_of}
+use Rattle.log_buffer.specs.Log.{Log, published}
 use Rattle.log_buffer.specs.Reader.{HasRead, IsAt, Reader}
 
 tiles_prop : (term p q : ℕ) (es : List Entry) → IsProp (Tiles term p q es)

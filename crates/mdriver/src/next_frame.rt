@@ -1,6 +1,6 @@
 //! The next frame of a log, given out as a datagram.
 
-ghost use Rattle.std.specs.Prelude.{◌≡◌, ◌+◌, ◌-◌, ◌≤◌, ◌<◌, length, take};
+ghost use Rattle.std.specs.Prelude.{◌≡◌, ◌+◌, ◌-◌, ◌≤◌, ◌<◌, length, slice_set, take};
 ghost use Rattle.std.specs.List.{AllByRecursion};
 ghost use Rattle.theory.specs.Position.{max_position};
 ghost use Rattle.theory.specs.Placed.{Data};
@@ -45,7 +45,30 @@ pub fn send_next(
     if end > limit {
         return;
     }
-    give_out(log, &head, block, outbox);
+    give_and_pass(log, reader, &head, block, outbox);
+}
+
+/// Gives out the frame that was read, and moves the reader behind it.
+fn give_and_pass(
+    log: &mut LogState,
+    reader: &mut LogReader,
+    head: &FrameHead,
+    block: &Block,
+    outbox: &mut Outbox,
+)
+    requires room { log.old.identity.geometry.mtu ≤ length block.now }
+    requires whole { IsWholeFrame log.old.identity.geometry head.now }
+    requires read { reader.old.position + 32 ≤ reader.old.read_to }
+    requires space { length outbox.old.datagrams < 32 }
+    requires size { outbox.old.mtu ≡ log.old.identity.geometry.mtu }
+    ensures sent { outbox.new ≡ with_datagram outbox.old (spelling (wire_at log.old.identity head.now.start (Data 192 (take (head.now.frame_length - 32) block.now)))) }
+    ensures log { log.new ≡ record log.old { consumers = slice_set log.old.consumers reader.old.number reader.old.read_to } }
+    ensures identity { log.new.identity ≡ log.old.identity }
+    ensures moved { reader.new ≡ record reader.old { position = reader.old.read_to; index = reader.old.index + 1 } }
+    ensures stands { IsAt log.old reader.old → IsAt log.new reader.new }
+    ensures others { (r : Reader) → IsAt log.old r → (r.number ≡ reader.old.number → ⊥) → IsAt log.new r }
+{
+    give_out(log, head, block, outbox);
     let _ = advance(log, reader);
 }
 

@@ -216,10 +216,7 @@ impl<F: FlowControl + Drop> SenderCore<F> {
     {
         match read_news(bytes, &self.identity) {
             Heard::Says(status) => self.on_status(&status),
-            Heard::AsksSetup => {
-                self.give_setup(outbox);
-                SenderAnswer::Asked
-            }
+            Heard::AsksSetup => self.on_asking(outbox),
             Heard::TellsNothing => SenderAnswer::Other,
             Heard::Unreadable(error) => SenderAnswer::Refused(error),
         }
@@ -236,6 +233,17 @@ impl<F: FlowControl + Drop> SenderCore<F> {
             .on_status(position, status.window, status.receiver, self.clock);
         self.setup.on_status();
         SenderAnswer::Status(self.flow.limit())
+    }
+
+    /// Takes a status message that asks.
+    fn on_asking(&self, outbox: &mut Outbox) -> SenderAnswer
+        requires space { length outbox.old.datagrams < 32 }
+        requires size { outbox.old.mtu ≡ self.now.identity.geometry.mtu }
+        ensures sent { outbox.new ≡ with_wires outbox.old (setups self.now.identity self.now.reader.position true) }
+        ensures answer { result ≡ SenderAnswer.Asked }
+    {
+        self.give_setup(outbox);
+        SenderAnswer::Asked
     }
 
     /// Gives out the SETUP of its position.

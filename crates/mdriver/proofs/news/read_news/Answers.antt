@@ -1,4 +1,3 @@
-use Rattle.std.proofs.Common.{◌≡◌}
 use Rattle.frames.specs.Frames.{wire}
 use Rattle.mdriver.specs.FirstNews.{news_of}
 use Rattle.mdriver.proofs.NewsLemmas.{told_first, front_fault}

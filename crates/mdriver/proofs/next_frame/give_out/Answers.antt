@@ -1,4 +1,4 @@
-use Rattle.std.proofs.Common.{◌≡◌, ℕ, ◌-◌, ◌∙◌, List, ap, take}
+use Rattle.std.proofs.Common.{ℕ, ◌-◌, ◌∙◌, List, ap, take}
 use Rattle.theory.specs.Placed.{Data}
 use Rattle.theory.specs.Bytes.{wire_at}
 use Rattle.frames.specs.Frames.{wire}

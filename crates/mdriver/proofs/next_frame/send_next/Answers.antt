@@ -1,5 +1,4 @@
-use Rattle.std.proofs.Common.{◌≡◌, ◌+◌, ◌≤◌, ◌<◌, arith}
-use Rattle.theory.specs.Position.{aligned}
+use Rattle.std.proofs.Common.{arith}
 use Rattle.mdriver.proofs.SendLemmas.{sends_nothing, held_back, sends_frame}
 use Rattle.mdriver.proofs.next_frame.send_next.Goals as goal
 
@@ -13,4 +12,4 @@ returns-then-end-limit-clause-sends c =
 
 pub returns-clause-sends : goal.returns-clause-sends
 returns-clause-sends c =
-    sends_frame c.args.log.now c.advance.new.log c.args.reader.now c.next.new.reader c.advance.new.reader c.args.outbox.now c.give_out.new.outbox c.args.limit c.in-Some.head c.args.block.now c.next.new.block c.in-Some.ensures.frame (omega (arith, c.if-end-limit.false, c.align32.ensures, c.from.ensures)) c.in-Some.ensures.read c.advance.ensures.log c.advance.ensures.moved c.give_out.ensures
+    sends_frame c.args.log.now c.give_and_pass.new.log c.args.reader.now c.next.new.reader c.give_and_pass.new.reader c.args.outbox.now c.give_and_pass.new.outbox c.args.limit c.in-Some.head c.args.block.now c.next.new.block c.in-Some.ensures.frame (omega (arith, c.if-end-limit.false, c.align32.ensures, c.from.ensures)) c.in-Some.ensures.read c.give_and_pass.ensures.log c.give_and_pass.ensures.moved c.give_and_pass.ensures.sent

@@ -1,4 +1,4 @@
-use Rattle.std.proofs.Common.{rules, ◌≡◌, ap, sym, subst, ◌∙◌, w32, to_z, of_z, FitsSigned}
+use Rattle.std.proofs.Common.{rules, ap, sym, subst, ◌∙◌, w32, to_z, of_z, FitsSigned}
 use Rattle.std.proofs.lemmas.Int.{to_z-of_z}
 use Rattle.log_buffer.specs.Reader.{IsAt}
 use Rattle.mdriver.proofs.LastReader.{last_of}

@@ -1,4 +1,3 @@
-use Rattle.std.proofs.Common.{ap, ◌∙◌}
 use Rattle.mdriver.proofs.CycleLemmas.{cycled}
 use Rattle.mdriver.proofs.sender.SenderCore.cycle.Goals as goal
 
