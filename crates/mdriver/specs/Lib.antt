@@ -16,4 +16,6 @@ pub mod Receiving
 pub mod Scene
 pub mod Sending
 pub mod Showing
+pub mod Staged
+pub mod Stands
 pub mod Subscribing
