@@ -1,7 +1,7 @@
 -- Packets that get the next numbers, one after the other.
 use Rattle.std.proofs.Common.{◌≡◌, ℕ, zero, suc, ◌+◌, ◌<◌, ◌≤◌, List, [], ◌∷◌, ◌++◌, length, take, Option, None, Some, refl, sym, ap, ◌∙◌, subst, arith, append-nil, append_assoc, length-append}
 use Rattle.std.specs.Prelude.{slice_get}
-use Rattle.mdriver.specs.Answers.{packet_lines}
+use Rattle.mdriver.specs.Answers.{or_nothing, packet_lines}
 use Rattle.mdriver.specs.Prints.{Packet, Print}
 
 lines_snoc : (k : ℕ) (xs : List (List ℕ)) (b : List ℕ) → packet_lines k (xs ++ b ∷ []) ≡ packet_lines k xs ++ Packet (k + length xs) b ∷ []
@@ -59,3 +59,7 @@ pub all_given : (old new all : List (List ℕ)) (before after : List Print) (i :
 all_given old new all before after i h high =
     let whole = take_all all i high in
     (h.packets ∙ ap (λ xs. old ++ xs) whole, h.lines ∙ ap (λ xs. before ++ packet_lines (length old) xs) whole)
+
+pub not_nothing : (k : ℕ) (ds : List (List ℕ)) → 0 < length ds → or_nothing (packet_lines k ds) ≡ packet_lines k ds
+not_nothing k [] h = absurd (omega (arith, h))
+not_nothing k (d ∷ ds) h = refl

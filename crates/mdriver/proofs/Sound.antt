@@ -10,7 +10,7 @@ use Rattle.theory.specs.Entry.{IsEntry}
 use Rattle.std.specs.Option.{option_map}
 use Rattle.mdriver.specs.Prints.{Print}
 use Rattle.theory.specs.Bytes.{Identity, IsIdentity}
-use Rattle.theory.specs.Headline.{Always, IsTiled, IsBounded, IsPrefixPolled, ArePublished, IsPublished}
+use Rattle.theory.specs.Headline.{Always, IsTiled, IsBounded, IsPrefixPolled, ArePublished, AreSpelled, IsPublished}
 use Rattle.theory.specs.Laws.{HasOneReading}
 use Rattle.theory.specs.Messages.{messages}
 use Rattle.theory.specs.Sender.{Sender}
@@ -35,6 +35,7 @@ pub record Laws : Type 0 where
   pub bounds : Always IsBounded
   pub prefixes : Always IsPrefixPolled
   pub entries : Always ArePublished
+  pub spelled : Always AreSpelled
   pub places : Places
   pub reading : HasOneReading
 

@@ -3,15 +3,19 @@ use Rattle.std.proofs.Common.{◌≡◌, ◌⊎◌, ℕ, ◌+◌, ◌*◌, ◌/�
 use Rattle.std.specs.Prelude.{nat_eq, slice_get, slice_set, Result, Ok, Err}
 use Rattle.std.specs.Option.{option_to_list}
 use Rattle.std.specs.List.{AllByRecursion, flat_map}
-use Rattle.std.proofs.lemmas.Bool.{cases_eq, cond-true, cond-false, eq-eqb, ne_eqb}
-use Rattle.theory.specs.Position.{IsGeometry, aligned, max_position}
+use Rattle.std.proofs.lemmas.Bool.{cases_Bool, cases_eq, cond-true, cond-false, eq-eqb, ne_eqb}
+use Rattle.std.specs.Prelude.{nat_le, pos, ℤ, FitsSigned}
+use Rattle.std.specs.Int.{w32, cast_unsigned}
+use mir.ValLaws.{to_z-Fits}
+use Rattle.std.proofs.Math.Nat.{mod-lt}
+use Rattle.theory.specs.Position.{Geometry, IsGeometry, aligned, Place, max_position, place_of}
 use Rattle.theory.specs.Placed.{Among, Placed, end_of, frame_length}
 use Rattle.theory.specs.Entry.{Entry, committed}
-use Rattle.theory.specs.Bytes.{Identity, IsIdentity}
+use Rattle.theory.specs.Bytes.{Identity, IsIdentity, wire_at}
 use Rattle.theory.specs.Control.{MayBeGiven, setup_at}
 use Rattle.theory.specs.Messages.{messages}
 use Rattle.theory.specs.Sender.{Sender}
-use Rattle.theory.specs.Wire.{Wire, SpellsDatagram}
+use Rattle.theory.specs.Wire.{IsFrame, Wire, SpellsDatagram}
 use Rattle.theory.specs.World.{World}
 use Rattle.theory.proofs.Lists.{all_append, all_get}
 use Rattle.log_buffer.specs.Limits.{raised}
@@ -24,7 +28,7 @@ use Rattle.mdriver.specs.declared.receiver.Outcome.{Outcome}
 use Rattle.mdriver.specs.declared.receiver.Outcome.TheVariants as outcomes
 use Rattle.mdriver.specs.Answers.{AreFrames, Delivered, IsCycle, IsMissing, IsTooLong, MayOffer, Offered, PollsBy, Replied, SenderHears, Sends, TellsBy, Ticks, after_cycle, clock_at, cycled, given_out, heard, limit_of, lines_of, named, or_nothing, sent_on, wires_of, with_log, with_receiver, with_sender, woken}
 use Rattle.setup.specs.Naming.{Naming, after_due}
-use Rattle.mdriver.specs.Cycling.{AsksSetup, Cycle, IsNextSent, News, Says, TellsNothing, Unreadable, datagrams, sent_wires}
+use Rattle.mdriver.specs.Cycling.{AsksSetup, Cycle, IsNextSent, News, Says, TellsNothing, Unreadable, datagrams, sent_wires, setups}
 use Rattle.mdriver.specs.Polling.{Polls}
 use Rattle.mdriver.specs.Prints.{Print, OfReceiver, OfSender, Position, Bad, Refused}
 use Rattle.mdriver.specs.Published as visible
@@ -37,7 +41,7 @@ use Rattle.mdriver.proofs.PollFollows.{PollMet, StillWhole, polls_met}
 use Rattle.mdriver.proofs.ReceiverRuns.{At, Follows, IsSending, Met, meets, met_nothing, unchanged}
 use Rattle.mdriver.proofs.Runs.{Goes, goes_on}
 use Rattle.mdriver.proofs.SenderRuns.{SenderHolds, asked, connects, cycles, hears, limits, named_at, sees}
-use Rattle.mdriver.proofs.Sound.{Begins, HasFollowed, IsQuiet, IsSound, Laws, and_line, at_number, end_in_stream, follows_as, holds, joins_more, polled_more, published_more, receiver_moves, receivers_stay, sender_below, whole_parts}
+use Rattle.mdriver.proofs.Sound.{Begins, opened, HasFollowed, IsQuiet, IsSound, Laws, and_line, at_number, end_in_stream, follows_as, holds, joins_more, polled_more, published_more, receiver_moves, receivers_stay, sender_below, whole_parts}
 
 -- ---- lines after which only the log or the sender is another
 
@@ -194,6 +198,52 @@ setups_on : (x : Sender) (frame : Option Placed) → (sent_on x frame).setups �
 setups_on x None = refl
 setups_on x (Some s) = refl
 
+-- ---- what goes out is of the grammar
+
+offset_low : (g : Geometry) (p : ℕ) → 0 < g.term_length → (place_of g p).offset ≤ g.term_length
+offset_low g p some =
+    ⊎_elim
+    (λ (t : nat_le (max_position g) p ≡ true). omega (arith, ap (λ (x : Place). x.offset) (cond-true (nat_le (max_position g) p) (record { count = 2147483647; offset = g.term_length }) (record { count = p / g.term_length; offset = p % g.term_length }) t)))
+    (λ (f : nat_le (max_position g) p ≡ false). omega (arith, ap (λ (x : Place). x.offset) (cond-false (nat_le (max_position g) p) (record { count = 2147483647; offset = g.term_length }) (record { count = p / g.term_length; offset = p % g.term_length }) f), mod-lt p some))
+    (cases_Bool (nat_le (max_position g) p))
+
+small : (n : ℕ) → n < 2147483648 → FitsSigned w32 (pos n)
+small n h = record { sfits = omega (arith, h) }
+
+setup_framed : (i : Identity) (p : ℕ) → IsGeometry i.geometry → IsIdentity i → IsFrame (setup_at i p)
+setup_framed i p legal is =
+    let g = i.geometry in
+    let offset : (place_of g p).offset ≤ g.term_length = offset_low g p (omega (arith, legal.term.least)) in
+    (
+      small (place_of g p).offset (omega (arith, offset, legal.term.greatest)),
+      is.session,
+      is.stream,
+      legal.initial,
+      to_z-Fits w32 ((cast_unsigned w32 g.initial_term_id + (place_of g p).count) % 2 ^ 32) (record { fits = omega arith }),
+      small g.term_length (omega (arith, legal.term.greatest)),
+      small g.mtu (omega (arith, legal.mtu.greatest)),
+      small 0 (omega arith),
+    )
+
+setups_framed : (i : Identity) (p : ℕ) (due : Bool) → IsGeometry i.geometry → IsIdentity i → AreFrames (setups i p due)
+setups_framed i p true legal is = (setup_framed i p legal is, tt)
+setups_framed i p false legal is = tt
+
+-- it was sent, and each frame that was sent has a spelling
+frame_framed : (i : Identity) (x : Sender) (frame : Option Placed) → AllByRecursion (λ s. IsFrame (wire_at i s.at s.frame)) (sent_on x frame).sent → AreFrames (map (λ s. wire_at i s.at s.frame) (option_to_list frame))
+frame_framed i x None all = tt
+frame_framed i x (Some s) all = (all.0, tt)
+
+cycle_framed : Laws → (i : Identity) (start : ℕ) (s : Scene) (now : ℕ) (y : Cycle) → Begins i start → IsCycle s now y → Goes (world_of (opened_scene i start)) (world_of s) → s.log.identity ≡ i → AreFrames (wires_of s y)
+cycle_framed laws i start s now y b c runs same =
+    let z = named (woken s now) y.setup in
+    let all = goes_on (world_of (opened_scene i start)) (world_of s) (world_of (after_cycle s now y)) runs (cycles s now y c) in
+    let spelled = laws.spelled (world_of (opened_scene i start)) (world_of (after_cycle s now y)) all.0 (opened i start b) all.1 in
+    let legal : IsGeometry s.log.identity.geometry = subst (λ k. IsGeometry k.geometry) (sym same) b.geometry in
+    all_append IsFrame (setups s.log.identity s.sender.at y.setup) (map (λ t. wire_at s.log.identity t.at t.frame) (option_to_list y.frame))
+    (setups_framed s.log.identity s.sender.at y.setup legal (subst IsIdentity (sym same) b.identity))
+    (frame_framed s.log.identity z y.frame spelled)
+
 cycle_next : Laws → (i : Identity) (start : ℕ) (played : List Played) (s : Scene) (now : ℕ) (y : Cycle) → Begins i start → IsSound i start played s → IsCycle s now y → AreFrames (wires_of s y) → IsSenderNext i s (after_cycle s now y) (cycled s now y) (wires_of s y)
 cycle_next laws i start played s now y b h c frames =
     let z = woken s now in
@@ -218,8 +268,9 @@ cycle_next laws i start played s now y b h c frames =
 pub send_line : Laws → (i : Identity) (start : ℕ) (played : List Played) (s t : Scene) (now : ℕ) (lines : List Print) → Begins i start → IsSound i start played s → Sends s now lines t → IsSound i start (and_line played (orders.Send now) lines) t
 send_line laws i start played s t now lines b h m =
     let y = m.0 in
-    subst (λ x. IsSound i start (and_line played (orders.Send now) lines) x) (sym m.4)
-    (sender_line i start played (orders.Send now) lines s (cycled s now y) (after_due s.naming (clock_at s now)) (wires_of s y) (record { joins = λ k. refl; polls = λ k. refl }) refl (cycle_next laws i start played s now y b h m.1 m.2) h)
+    let frames = cycle_framed laws i start s now y b m.1 h.runs h.identity in
+    subst (λ x. IsSound i start (and_line played (orders.Send now) lines) x) (sym m.3)
+    (sender_line i start played (orders.Send now) lines s (cycled s now y) (after_due s.naming (clock_at s now)) (wires_of s y) (record { joins = λ k. refl; polls = λ k. refl }) refl (cycle_next laws i start played s now y b h m.1 frames) h)
 
 -- ---- what the sender is told
 
@@ -275,7 +326,7 @@ hears_line : Laws → (i : Identity) (start : ℕ) (played : List Played) (k now
 hears_line laws i start played k now lines s t (Says f) b h m =
     subst (λ x. IsSound i start (and_line played (orders.Reply k now) lines) x) (sym m.1) (told_line i start played k now lines s (heard s now f) (record s.naming { heard = true }) (record { at = refl; sent = refl; setups = refl }) (hears s now f) h)
 hears_line laws i start played k now lines s t AsksSetup b h m =
-    subst (λ x. IsSound i start (and_line played (orders.Reply k now) lines) x) (sym m.2) (asked_line laws i start played k now lines s b h m.0)
+    subst (λ x. IsSound i start (and_line played (orders.Reply k now) lines) x) (sym m.1) (asked_line laws i start played k now lines s b h (setup_framed s.log.identity s.sender.at h.sending.legal (subst IsIdentity (sym h.identity) b.identity), tt))
 hears_line laws i start played k now lines s t TellsNothing b h m =
     subst (λ x. IsSound i start (and_line played (orders.Reply k now) lines) x) (sym m.1) (told_line i start played k now lines s (woken s now) s.naming (record { at = refl; sent = refl; setups = refl }) (sees (world_of s) now) h)
 hears_line laws i start played k now lines s t (Unreadable fault) b h m =

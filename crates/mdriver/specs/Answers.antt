@@ -113,7 +113,7 @@ abbrev pub wires_of : Scene → Cycle → List Wire
 wires_of old y = sent_wires old.log.identity old.sender.at y
 
 abbrev pub Sends : Scene → ℕ → List Print → Scene → Type 0
-Sends old now lines new = (y : Cycle) × IsCycle old now y × AreFrames (wires_of old y) × (lines ≡ or_nothing (lines_of old (wires_of old y))) × (new ≡ after_cycle old now y)
+Sends old now lines new = (y : Cycle) × IsCycle old now y × (lines ≡ or_nothing (lines_of old (wires_of old y))) × (new ≡ after_cycle old now y)
 
 -- a status message raises the limit
 abbrev pub heard : Scene → ℕ → Status → Sender
@@ -131,7 +131,7 @@ SenderHears old now (Says f) lines new =
     × (new ≡ record old { sender = heard old now f; naming = record old.naming { heard = true } })
 SenderHears old now AsksSetup lines new =
     let out = setup_at old.log.identity old.sender.at ∷ [] in
-    AreFrames out × (lines ≡ OfSender answers.Asked ∷ lines_of old out) × (new ≡ with_sender (given_out old out) (named (woken old now) true))
+    (lines ≡ OfSender answers.Asked ∷ lines_of old out) × (new ≡ with_sender (given_out old out) (named (woken old now) true))
 SenderHears old now TellsNothing lines new = (lines ≡ OfSender answers.Other ∷ []) × (new ≡ with_sender old (woken old now))
 SenderHears old now (Unreadable fault) lines new = (lines ≡ OfSender (answers.Refused fault) ∷ []) × (new ≡ with_sender old (woken old now))
 

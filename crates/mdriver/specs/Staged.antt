@@ -1,6 +1,9 @@
 -- Which scenes a stage shows, and what a line makes of them.
 use Rattle.std.specs.Prelude.{◌≡◌, ℕ, ⊤, List, [], ◌∷◌, ◌++◌, map}
 use Rattle.theory.specs.Bytes.{Identity}
+use Rattle.std.specs.Prelude.{Result, Ok, Err}
+use Rattle.log_buffer.specs.Log.{Log, with_message}
+use Rattle.log_buffer.specs.declared.fault.Refusal.{Refusal}
 use Rattle.script.specs.Meaning.{Order}
 use Rattle.mdriver.specs.declared.line.Line.{Line}
 use Rattle.mdriver.specs.declared.stage.Stage.{Stage}
@@ -8,7 +11,7 @@ use Rattle.std.specs.List.{flat_map}
 use Rattle.mdriver.specs.Answers.{Answers, limit_of}
 use Rattle.mdriver.specs.Plays.{AnswersAll, ShowsBook}
 use Rattle.mdriver.specs.Published.{Played}
-use Rattle.mdriver.specs.Prints.{Open, Print, prints}
+use Rattle.mdriver.specs.Prints.{Open, Position, Print, Refused, prints}
 use Rattle.mdriver.specs.Receiving.{Receiver}
 use Rattle.mdriver.specs.Scene.{Scene, listening_at, opened_scene}
 use Rattle.mdriver.specs.Sending.{Sending}
@@ -79,3 +82,8 @@ pub record RunsTo (i : Identity) (start : ℕ) (orders : List Order) (before aft
   pub book : Print
   pub shown : ShowsBook last.log book
   pub printed : after ≡ before ++ (Open ∷ (flat_map (λ p. p.lines) played ++ book ∷ []))
+
+-- what an offer prints, and the log after it
+abbrev pub OfferedLine : Log → ℕ → List ℕ → Result ℕ Refusal → Print → Log → Type 0
+OfferedLine old by message (Ok end) line new = (line ≡ Position end) × (new ≡ with_message old by message)
+OfferedLine old by message (Err refusal) line new = (line ≡ Refused refusal) × (new ≡ old)

@@ -1,26 +1,45 @@
 //! What each line of a script does, and what it prints.
 
-ghost use Rattle.std.specs.Prelude.{◌≡◌, ◌++◌, OnOk, map};
-ghost use Rattle.mdriver.specs.Prints.{OfReceiver, prints};
-ghost use Rattle.mdriver.specs.Staged.{IsAnswered};
+ghost use Rattle.std.specs.Prelude.{◌≡◌, ◌≤◌, ◌<◌, ◌++◌, length, OnOk, map};
+ghost use Rattle.std.specs.List.{AllByRecursion};
+ghost use Rattle.theory.specs.Position.{max_payload};
+ghost use Rattle.log_buffer.specs.Offers.{answer_of};
+ghost use Rattle.log_buffer.specs.Reader.{IsAt, Reader};
+ghost use Rattle.mdriver.specs.Prints.{OfReceiver, print_of, prints};
+ghost use Rattle.mdriver.specs.Staged.{IsAnswered, OfferedLine};
 ghost use Rattle.script.specs.Meaning as orders;
 
 use crate::line::Line;
 use crate::receiver::Outcome;
 use crate::sender::SenderEvent;
 use crate::stage::Stage;
-use log_buffer::offer;
+use log_buffer::{LogState, Publisher, offer};
 use script::{Command, Seat};
 use std::alloc::AllocError;
 
 /// Adds the lines of what became of a datagram's frames.
-fn tell(lines: &mut Vec<Line>, outcomes: Vec<Outcome>) -> Result<(), AllocError>
-    ensures { OnOk result (prints lines.new.items ≡ prints lines.old.items ++ map OfReceiver outcomes.items) }
+fn tell(lines: &mut Vec<Line>, outcomes: &[Outcome]) -> Result<(), AllocError>
+    ensures { OnOk result (prints lines.new.items ≡ prints lines.old.items ++ map OfReceiver outcomes.now) }
 {
     for outcome in outcomes {
-        lines.push(Line::Receiver(outcome))?;
+        lines.push(Line::Receiver(*outcome))?;
     }
     Ok(())
+}
+
+/// Offers a message, and says what came of it.
+fn offer_line(log: &mut LogState, publisher: &mut Publisher, message: &[u8]) -> Line
+    requires { length message.now ≤ max_payload log.old.identity.geometry }
+    ensures line { OfferedLine log.old publisher.old message.now (answer_of log.old (length message.now)) (print_of result) log.new }
+    ensures pass { publisher.new ≡ publisher.old }
+    ensures identity { log.new.identity ≡ log.old.identity }
+    ensures readers { (r : Reader) → IsAt log.old r → IsAt log.new r }
+    ensures bytes { AllByRecursion (λ b. b < 256) message.now }
+{
+    match offer(log, publisher, message) {
+        Ok(position) => Line::Position(position),
+        Err(refusal) => Line::Refused(refusal),
+    }
 }
 
 impl Stage {
@@ -74,11 +93,7 @@ impl Stage {
             return Ok(());
         }
         let pass = &mut self.publishers[publisher.number];
-        let line = match offer(&mut self.log, pass, message) {
-            Ok(position) => Line::Position(position),
-            Err(refusal) => Line::Refused(refusal),
-        };
-        lines.push(line)?;
+        lines.push(offer_line(&mut self.log, pass, message))?;
         Ok(())
     }
 
@@ -120,7 +135,7 @@ impl Stage {
             return Ok(());
         };
         let outcomes = self.subscribers[receiver.number].on_datagram(bytes, now)?;
-        tell(lines, outcomes)
+        tell(lines, &outcomes)
     }
 
     fn tick(&mut self, receiver: Seat, now: u64, lines: &mut Vec<Line>) -> Result<(), AllocError>

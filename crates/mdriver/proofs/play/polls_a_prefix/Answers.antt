@@ -7,6 +7,7 @@ returns c = always_polled (record {
   bounds = c.every_run.ensures.bounds;
   prefixes = c.every_run.ensures.polled;
   entries = c.every_run.ensures.entries;
+  spelled = c.every_run.ensures.spelled;
   places = record { place = c.names_place.ensures.place; header = c.names_place.ensures.header };
   reading = λ a b bytes. c.one_reading.ensures bytes a b;
 })
