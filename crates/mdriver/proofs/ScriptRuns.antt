@@ -1,17 +1,19 @@
 -- Lines of a script, one after the other.
-use Rattle.std.proofs.Common.{◌≡◌, ◌∙◌, ℕ, ◌+◌, List, [], ◌∷◌, ◌++◌, map, sym, ap, subst, refl, append_assoc, append-nil, length}
+use Rattle.std.proofs.Common.{◌≡◌, ◌∙◌, ℕ, ◌<◌, get_or, inr, ◌+◌, List, [], ◌∷◌, ◌++◌, map, sym, ap, subst, refl, append_assoc, append-nil, length, arith, take}
 use Rattle.std.proofs.lemmas.List.{map-append}
 use Rattle.std.proofs.lemmas.Grind.{flat_map-append}
 use Rattle.std.specs.List.{flat_map}
-use Rattle.std.specs.Prelude.{sum}
-use Rattle.theory.specs.Bytes.{Identity}
+use Rattle.std.specs.Prelude.{suc, sum}
+use Rattle.std.proofs.Math.Seq.{take-suc}
+use Rattle.theory.specs.Bytes.{Identity, IsIdentity}
+use Rattle.theory.specs.Position.{IsGeometry}
 use Rattle.log_buffer.specs.Books as books
 use Rattle.log_buffer.specs.Log.{Log}
 use Rattle.log_buffer.specs.declared.book.Book.{Book}
-use Rattle.script.specs.Meaning.{Order, order, orders}
+use Rattle.script.specs.Meaning.{Order, Told, order, orders}
 use Rattle.script.specs.declared.command.Command.{Command}
 use Rattle.mdriver.specs.Answers.{Answers}
-use Rattle.mdriver.specs.Plays.{AnswersAll, ShowsBook}
+use Rattle.mdriver.specs.Plays.{AlwaysPolled, AnswersAll, IsStart, Plays, PlaysOn, ShowsBook, geometry_of, identity_of}
 use Rattle.mdriver.specs.Prints.{Open, Print, Shares, print_of, prints}
 use Rattle.mdriver.specs.Published.{Played}
 use Rattle.mdriver.specs.Scene.{Scene, opened_scene}
@@ -22,7 +24,7 @@ use Rattle.mdriver.specs.declared.stage.Stage.{Stage}
 
 answers_snoc : (old mid new : Scene) (ps : List Played) (p : Played) → AnswersAll old ps mid → Answers mid p.order p.lines new → AnswersAll old (ps ++ p ∷ []) new
 answers_snoc old mid new [] p h k = (new, subst (λ (s : Scene). Answers s p.order p.lines new) h k, refl)
-answers_snoc old mid new (q ∷ ps) p h k = (h.0, h.1.0, answers_snoc h.0 mid new ps p h.1.1 k)
+answers_snoc old mid new (q ∷ ps) p h k = (h.0, h.1, answers_snoc h.0 mid new ps p h.2 k)
 
 abbrev lines_in : List Played → List Print
 lines_in played = flat_map (λ p. p.lines) played
@@ -86,3 +88,49 @@ runs_to old new i start os before there after b eight shows h book e =
           ∙ ap (λ (ls : List Print). ls ++ Shares b.start b.tail b.shares ∷ []) k.printed
           ∙ all_printed (prints before) (lines_in k.played) (Shares b.start b.tail b.shares ∷ []);
     }
+
+one_more_command : (cs : List Command) (k : ℕ) (c : Command) → k < length cs → c ≡ get_or cs k c → take (k + 1) cs ≡ take k cs ++ c ∷ []
+one_more_command cs k c below e =
+    let next : k + 1 ≡ suc k = omega arith in
+    ap (λ (n : ℕ). take n cs) next
+    ∙ take-suc cs k c below
+    ∙ ap (λ (x : Command). take k cs ++ x ∷ []) (sym e)
+
+pub next_played : (old mid new : Stage) (cs : List Command) (k : ℕ) (c : Command) (before there after : List Line) → k < length cs → c ≡ get_or cs k c → Continues old (orders (take k cs)) before there mid → IsAnswered mid (order c) there after new → Continues old (orders (take (k + 1) cs)) before after new
+next_played old mid new cs k c before there after below e h step =
+    subst (λ (xs : List Command). Continues old (orders xs) before after new) (sym (one_more_command cs k c below e))
+    (one_more_played old mid new (take k cs) c before there after h step)
+
+-- ---- the whole script
+
+pub own_scene : (v : Stage) (i : Identity) (start : ℕ) → ShowsScene v (opened_scene i start) → ShowsScene v (opened_scene v.log.identity v.log.start)
+own_scene v i start h =
+    let same : i ≡ v.log.identity = ap (λ l. l.identity) h.log in
+    let there : start ≡ v.log.start = ap (λ l. l.start) h.log in
+    subst (λ (j : Identity). ShowsScene v (opened_scene j v.log.start)) same (subst (λ (n : ℕ). ShowsScene v (opened_scene i n)) there h)
+
+runs_from : (v : Stage) (i : Identity) (start : ℕ) (os : List Order) (before after : List Print) → ShowsScene v (opened_scene i start) → RunsTo v.log.identity v.log.start os before after → RunsTo i start os before after
+runs_from v i start os before after h k =
+    let same : i ≡ v.log.identity = ap (λ l. l.identity) h.log in
+    let there : start ≡ v.log.start = ap (λ l. l.start) h.log in
+    subst (λ (j : Identity). RunsTo j start os before after) (sym same) (subst (λ (n : ℕ). RunsTo v.log.identity n os before after) (sym there) k)
+
+plays_on : (script : Told) (after : List Print) → IsGeometry (geometry_of script.log) → IsStart script.log → IsIdentity (identity_of script.log) → AlwaysPolled → RunsTo (identity_of script.log) script.log.start script.orders [] after → PlaysOn script after
+plays_on script after legal starts identity always h = record {
+  legal = legal;
+  starts = starts;
+  played = h.played;
+  orders = h.of_orders;
+  last = h.last;
+  answered = h.answered;
+  book = h.book;
+  shown = h.shown;
+  printed = h.printed;
+  polled = always script.log h.played h.last legal identity starts h.answered;
+}
+
+pub stage_plays : (script : Told) (v : Stage) (j : Identity) (start : ℕ) (after : List Print) → j ≡ identity_of script.log → start ≡ script.log.start → IsGeometry (geometry_of script.log) → IsStart script.log → IsIdentity (identity_of script.log) → AlwaysPolled → ShowsScene v (opened_scene j start) → RunsTo v.log.identity v.log.start script.orders [] after → Plays script after
+stage_plays script v j start after same there legal starts identity always shows runs =
+    let here : ShowsScene v (opened_scene (identity_of script.log) script.log.start) =
+        subst (λ (i : Identity). ShowsScene v (opened_scene i script.log.start)) same (subst (λ (n : ℕ). ShowsScene v (opened_scene j n)) there shows) in
+    inr (plays_on script after legal starts identity always (runs_from v (identity_of script.log) script.log.start script.orders [] after here runs))

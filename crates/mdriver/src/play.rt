@@ -44,6 +44,7 @@ pub fn play(alloc: Global, script: &Script) -> Result<Vec<Line>, AllocError>
     let subscribers = subscribers(alloc, log, &geometry)?;
     match LogState::open(alloc, geometry, log.session, log.stream, log.start, 1) {
         Ok((state, parts)) => {
+            polls_a_prefix();
             let stage = stage(alloc, state, parts, outbox, subscribers)?;
             run(stage, &script.commands, lines)
         }
