@@ -48,11 +48,12 @@ pub fn play(alloc: Global, script: &Script) -> Result<Vec<Line>, AllocError>
             let stage = stage(alloc, state, parts, outbox, subscribers)?;
             run(stage, &script.commands, lines)
         }
-        Err(LogError::Memory) => Err(AllocError),
-        Err(error) => {
-            lines.push(Line::BadLog(error))?;
+        Err(LogError::Start) => {
+            lines.push(Line::BadLog(LogError::Start))?;
             Ok(lines)
         }
+        Err(LogError::Consumers) => unreachable!(),
+        Err(LogError::Memory) => Err(AllocError),
     }
 }
 /// A receiver with half a term as its window, and its subscriber.
