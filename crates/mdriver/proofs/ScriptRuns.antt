@@ -1,12 +1,13 @@
 -- Lines of a script, one after the other.
-use Rattle.std.proofs.Common.{◌≡◌, ◌∙◌, ℕ, ◌<◌, get_or, inr, ◌+◌, List, [], ◌∷◌, ◌++◌, map, sym, ap, subst, refl, append_assoc, append-nil, length, arith, take}
+use Rattle.std.proofs.Common.{◌≡◌, ◌∙◌, ℕ, ◌<◌, get_or, inl, inr, ◌+◌, List, [], ◌∷◌, ◌++◌, map, sym, ap, subst, refl, append_assoc, append-nil, length, arith, take}
 use Rattle.std.proofs.lemmas.List.{map-append}
 use Rattle.std.proofs.lemmas.Grind.{flat_map-append}
 use Rattle.std.specs.List.{flat_map}
-use Rattle.std.specs.Prelude.{suc, sum}
+use Rattle.std.specs.Prelude.{◌%◌, suc, sum}
 use Rattle.std.proofs.Math.Seq.{take-suc}
 use Rattle.theory.specs.Bytes.{Identity, IsIdentity}
-use Rattle.theory.specs.Position.{IsGeometry}
+use Rattle.theory.specs.Position.{Geometry, IsGeometry, max_position}
+use Rattle.log_buffer.specs.declared.fault.LogError.TheVariants.{Start}
 use Rattle.log_buffer.specs.Books as books
 use Rattle.log_buffer.specs.Log.{Log}
 use Rattle.log_buffer.specs.declared.book.Book.{Book}
@@ -132,5 +133,14 @@ plays_on script after legal starts identity always h = record {
 pub stage_plays : (script : Told) (v : Stage) (j : Identity) (start : ℕ) (after : List Print) → j ≡ identity_of script.log → start ≡ script.log.start → IsGeometry (geometry_of script.log) → IsStart script.log → IsIdentity (identity_of script.log) → AlwaysPolled → ShowsScene v (opened_scene j start) → RunsTo v.log.identity v.log.start script.orders [] after → Plays script after
 stage_plays script v j start after same there legal starts identity always shows runs =
     let here : ShowsScene v (opened_scene (identity_of script.log) script.log.start) =
-        subst (λ (i : Identity). ShowsScene v (opened_scene i script.log.start)) same (subst (λ (n : ℕ). ShowsScene v (opened_scene j n)) there shows) in
+    subst (λ (i : Identity). ShowsScene v (opened_scene i script.log.start)) same (subst (λ (n : ℕ). ShowsScene v (opened_scene j n)) there shows) in
     inr (plays_on script after legal starts identity always (runs_from v (identity_of script.log) script.log.start script.orders [] after here runs))
+
+-- the log can't be opened at its start
+pub refused_start : (script : Told) (g : Geometry) (before after : List Line) → g ≡ geometry_of script.log → IsGeometry g → ((script.log.start % 32 ≡ 0) × (script.log.start < max_position g) → ⊥) → before ≡ [] → after ≡ before ++ lines.BadLog Start ∷ [] → Plays script (prints after)
+refused_start script g before after made legal refused none e =
+    inl (inr (inr (
+      subst IsGeometry made legal,
+      subst (λ (h : Geometry). (script.log.start % 32 ≡ 0) × (script.log.start < max_position h) → ⊥) made refused,
+      ap prints (e ∙ ap (λ (ls : List Line). ls ++ lines.BadLog Start ∷ []) none),
+    )))

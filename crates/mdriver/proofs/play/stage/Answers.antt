@@ -10,16 +10,16 @@ invariant_of-result c =
     let session : FitsSigned w32 c.session.result = search rules in
     let stream : FitsSigned w32 c.stream.result = search rules in
     let same = same_identity c.args.log.identity c.geometry-geometry.result (to_z w32 (of_z w32 c.session.result)) (to_z w32 (of_z w32 c.stream.result))
-        c.geometry-geometry.ensures.value
-        (to_z-of_z w32 c.session.result session ∙ c.session.ensures)
-        (to_z-of_z w32 c.stream.result stream ∙ c.stream.ensures)
-        ∙ sym (ap (λ s. s.identity) c.in-Ok.ensures.made) in
+    c.geometry-geometry.ensures.value
+    (to_z-of_z w32 c.session.result session ∙ c.session.ensures)
+    (to_z-of_z w32 c.stream.result stream ∙ c.stream.ensures)
+    ∙ sym (ap (λ s. s.identity) c.in-Ok.ensures.made) in
     let here = last_of (IsAt c.args.log) c.args.parts.readers.items c.pop.new.self.items c.in-Some.reader c.in-Some.ensures.items c.requires.stand in
     record {
-        all = c.requires.publishers;
-        room = search rules;
-        same = same;
-        stands = subst (IsAt c.args.log) (sym (ap (λ s. s.reader) c.in-Ok.ensures.made)) here;
-        size = c.requires.size;
-        eight = c.requires.eight;
+      all = c.requires.publishers;
+      room = search rules;
+      same = same;
+      stands = subst (IsAt c.args.log) (sym (ap (λ s. s.reader) c.in-Ok.ensures.made)) here;
+      size = c.requires.size;
+      eight = c.requires.eight;
     }

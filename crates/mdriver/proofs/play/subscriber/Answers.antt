@@ -12,10 +12,10 @@ returns c =
     let number : FitsSigned w64 c.from.result = search rules in
     IfOk-weaker c.new.result _ _
     (λ s h. h _
-        (shows_listening _ _ _ _ _ _ _ _ _
-        (to_z-of_z w32 c.args.log.now.session session)
-        (to_z-of_z w32 c.args.log.now.stream stream)
-        (ap (λ (w : ℕ). w / 2) c.term_length-window.ensures.value)
-        (to_z-of_z w64 c.from.result number ∙ c.from.ensures)
-        c.new-core.ensures.shown))
+    (shows_listening _ _ _ _ _ _ _ _ _
+    (to_z-of_z w32 c.args.log.now.session session)
+    (to_z-of_z w32 c.args.log.now.stream stream)
+    (ap (λ (w : ℕ). w / 2) c.term_length-window.ensures.value)
+    (to_z-of_z w64 c.from.result number ∙ c.from.ensures)
+    c.new-core.ensures.shown))
     c.new.ensures.shown
