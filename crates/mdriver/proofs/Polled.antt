@@ -165,17 +165,13 @@ finish o r w print c frames at seats one reads shown whole =
     ⊎_elim
     (λ (lost : c.lost ≡ true).
     let d = passed_all c frames in
-    let here : d.at ≡ at = passed_at c frames at reads.chain in (
-      record r { image = Some (with_consumer o d) },
-      (c, d, one, inr (lost, record { frames = frames; reads = subst (Reads o.image c frames) (sym here) reads; after = refl }), refl),
-      record { core = shown d here; one = seats; begun = (d, refl, λ l. absurd (both_ways d.lost l (passed_lost c frames lost))) },
-    ))
+    let here : d.at ≡ at = passed_at c frames at reads.chain in
+    (record r { image = Some (with_consumer o d) }, (c, d, one, inr (lost, record { frames = frames; reads = subst (Reads o.image c frames) (sym here) reads; after = refl }), refl),
+    record { core = shown d here; one = seats; begun = (d, refl, λ l. absurd (both_ways d.lost l (passed_lost c frames lost))) }))
     (λ (kept : c.lost ≡ false).
-    let h = whole kept in (
-      record r { image = Some (with_consumer o h.after) },
-      (c, h.after, one, inl (kept, h.polls), refl),
-      record { core = shown h.after h.here; one = seats; begun = (h.after, refl, h.begun) },
-    ))
+    let h = whole kept in
+    (record r { image = Some (with_consumer o h.after) }, (c, h.after, one, inl (kept, h.polls), refl),
+    record { core = shown h.after h.here; one = seats; begun = (h.after, refl, h.begun) }))
     (cases_Bool c.lost)
 
 pub polls_none : (o : Opened) (r : Receiver) (v : Subscribing) (h : HasRead o r v) → r.consumers ≡ 1 → HasNoFrame (Some (with_consumer o (stood h.consumer h.at))) 0 → Polled (Some o) r NoMessage v

@@ -223,10 +223,9 @@ beaten_shown v w o (pos p) b h is raised refused =
 -- ---- a consumer moves
 
 held_later : (m n : ℕ) (t : Placed) (some all : List Placed) → m ≤ n → ((u : Placed) → Among u some ↔ Among u (held m all)) → Among t (held n some) ↔ Among t (held n all)
-held_later m n t some all rises same = (
-  λ a. let h = held_from n some t a in held_of n all t (held_from m all t ((same t).0 h.0)).0 h.1,
-  λ a. let h = held_from n all t a in let l : n ≤ t.at = h.1 in held_of n some t ((same t).1 (held_of m all t h.0 (omega arith))) l,
-)
+held_later m n t some all rises same =
+    (λ a. let h = held_from n some t a in held_of n all t (held_from m all t ((same t).0 h.0)).0 h.1,
+    λ a. let h = held_from n all t a in let l : n ≤ t.at = h.1 in held_of n some t ((same t).1 (held_of m all t h.0 (omega arith))) l)
 
 map_set : (rs : List Consumer) (k : ℕ) (d : Consumer) → slice_set (map (λ (c : Consumer). c.at) rs) k d.at ≡ map (λ (c : Consumer). c.at) (slice_set rs k d)
 map_set [] k d = refl
