@@ -44,14 +44,16 @@ pub fn play(alloc: Global, script: &Script) -> Result<Vec<Line>, AllocError>
     let subscribers = subscribers(alloc, log, &geometry)?;
     match LogState::open(alloc, geometry, log.session, log.stream, log.start, 1) {
         Ok((state, parts)) => {
+            polls_a_prefix();
             let stage = stage(alloc, state, parts, outbox, subscribers)?;
             run(stage, &script.commands, lines)
         }
-        Err(LogError::Memory) => Err(AllocError),
-        Err(error) => {
-            lines.push(Line::BadLog(error))?;
+        Err(LogError::Start) => {
+            lines.push(Line::BadLog(LogError::Start))?;
             Ok(lines)
         }
+        Err(LogError::Consumers) => unreachable!(),
+        Err(LogError::Memory) => Err(AllocError),
     }
 }
 /// A receiver with half a term as its window, and its subscriber.
@@ -59,12 +61,12 @@ fn subscriber(
     alloc: Global,
     log: &LogLine,
     geometry: &Geometry,
-    number: usize,
+    number: u32,
 ) -> Result<Subscriber, AllocError>
     ensures { IfOk result (λ s. ShowsSubscriber s (listening_at (record { geometry = geometry.now; session = log.now.session; stream = log.now.stream }) number)) }
 {
     let window = geometry.term_length() / 2;
-    let core = ReceiverCore::new(alloc, log.session, log.stream, window, number as i64, 1);
+    let core = ReceiverCore::new(alloc, log.session, log.stream, window, i64::from(number), 1);
     Subscriber::new(alloc, core, geometry.max_message() as usize)
 }
 
@@ -79,7 +81,7 @@ fn subscribers(
 {
     let mut subscribers = Vec::with_capacity(alloc, RECEIVERS)?;
     for number in 0..RECEIVERS {
-        subscribers.push(subscriber(alloc, log, geometry, number)?)?;
+        subscribers.push(subscriber(alloc, log, geometry, number as u32)?)?;
     }
     Ok(subscribers)
 }

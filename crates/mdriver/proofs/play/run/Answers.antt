@@ -1,21 +1,8 @@
-use Rattle.std.proofs.Common.{rules, ap, sym, subst, ◌∙◌, w32, to_z, of_z, FitsSigned}
-use Rattle.std.proofs.lemmas.Int.{to_z-of_z}
-use Rattle.log_buffer.specs.Reader.{IsAt}
-use Rattle.mdriver.proofs.LastReader.{last_of}
-use Rattle.mdriver.proofs.SendLemmas.{same_identity}
+use Rattle.std.proofs.Common.{◌≡◌, length, rules}
+use Rattle.mdriver.proofs.ScriptRuns.{runs_to}
 use Rattle.mdriver.proofs.play.run.Goals as goal
 
-pub invariant_of-stage-clause-same : goal.invariant_of-stage-clause-same
-invariant_of-stage-clause-same c =
-    let session : FitsSigned w32 c.session.result = search rules in
-    let stream : FitsSigned w32 c.stream.result = search rules in
-    same_identity c.args.log.identity c.geometry-geometry.result (to_z w32 (of_z w32 c.session.result)) (to_z w32 (of_z w32 c.stream.result))
-    c.geometry-geometry.ensures.value
-    (to_z-of_z w32 c.session.result session ∙ c.session.ensures)
-    (to_z-of_z w32 c.stream.result stream ∙ c.stream.ensures)
-    ∙ sym (ap (λ s. s.identity) c.in-Ok.ensures.made)
-
-pub invariant_of-stage-clause-stands : goal.invariant_of-stage-clause-stands
-invariant_of-stage-clause-stands c =
-    let here = last_of (IsAt c.args.log) c.args.parts.readers.items c.pop.new.self.items c.in-Some.reader c.in-Some.ensures.items c.requires.stand in
-    subst (IsAt c.args.log) (sym (ap (λ s. s.reader) c.in-Ok.ensures.made)) here
+pub returns : goal.returns
+returns c =
+    let eight : length c.end-book.result.shares ≡ 8 = search rules in
+    runs_to _ _ _ _ _ _ _ _ c.end-book.result eight c.requires c.in_ok-played.ensures c.end-book.ensures c.in_ok-push.ensures.items

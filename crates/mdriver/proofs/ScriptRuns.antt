@@ -1,0 +1,146 @@
+-- Lines of a script, one after the other.
+use Rattle.std.proofs.Common.{◌≡◌, ◌∙◌, ℕ, ◌<◌, get_or, inl, inr, ◌+◌, List, [], ◌∷◌, ◌++◌, map, sym, ap, subst, refl, append_assoc, append-nil, length, arith, take}
+use Rattle.std.proofs.lemmas.List.{map-append}
+use Rattle.std.proofs.lemmas.Grind.{flat_map-append}
+use Rattle.std.specs.List.{flat_map}
+use Rattle.std.specs.Prelude.{◌%◌, suc, sum}
+use Rattle.std.proofs.Math.Seq.{take-suc}
+use Rattle.theory.specs.Bytes.{Identity, IsIdentity}
+use Rattle.theory.specs.Position.{Geometry, IsGeometry, max_position}
+use Rattle.log_buffer.specs.declared.fault.LogError.TheVariants.{Start}
+use Rattle.log_buffer.specs.Books as books
+use Rattle.log_buffer.specs.Log.{Log}
+use Rattle.log_buffer.specs.declared.book.Book.{Book}
+use Rattle.script.specs.Meaning.{Order, Told, order, orders}
+use Rattle.script.specs.declared.command.Command.{Command}
+use Rattle.mdriver.specs.Answers.{Answers}
+use Rattle.mdriver.specs.Plays.{AlwaysPolled, AnswersAll, IsStart, Plays, PlaysOn, ShowsBook, geometry_of, identity_of}
+use Rattle.mdriver.specs.Prints.{Open, Print, Shares, print_of, prints}
+use Rattle.mdriver.specs.Published.{Played}
+use Rattle.mdriver.specs.Scene.{Scene, opened_scene}
+use Rattle.mdriver.specs.Staged.{Answered, Continued, Continues, ContinuesOpen, IsAnswered, RunsTo, ShowsScene}
+use Rattle.mdriver.specs.declared.line.Line.{Line}
+use Rattle.mdriver.specs.declared.line.Line.TheVariants as lines
+use Rattle.mdriver.specs.declared.stage.Stage.{Stage}
+
+answers_snoc : (old mid new : Scene) (ps : List Played) (p : Played) → AnswersAll old ps mid → Answers mid p.order p.lines new → AnswersAll old (ps ++ p ∷ []) new
+answers_snoc old mid new [] p h k = (new, subst (λ (s : Scene). Answers s p.order p.lines new) h k, refl)
+answers_snoc old mid new (q ∷ ps) p h k = (h.0, h.1, answers_snoc h.0 mid new ps p h.2 k)
+
+abbrev lines_in : List Played → List Print
+lines_in played = flat_map (λ p. p.lines) played
+
+lines_snoc : (ps : List Played) (p : Played) → lines_in (ps ++ p ∷ []) ≡ lines_in ps ++ p.lines
+lines_snoc ps p = flat_map-append (λ (q : Played). q.lines) ps (p ∷ []) ∙ ap (λ (ls : List Print). lines_in ps ++ ls) (append-nil p.lines)
+
+continued_snoc : (old : Scene) (os : List Order) (o : Order) (before mid after : List Print) (there new : Stage) → Continued old os before mid there → ((s : Scene) → ShowsScene there s → Answered s o mid after new) → Continued old (os ++ o ∷ []) before after new
+continued_snoc old os o before mid after there new h step =
+    let k = step h.scene h.shows in
+    let p : Played = record { order = o; lines = k.lines } in
+    record {
+      played = h.played ++ p ∷ [];
+      scene = k.scene;
+      of_orders = map-append (λ (q : Played). q.order) h.played (p ∷ []) ∙ ap (λ (xs : List Order). xs ++ o ∷ []) h.of_orders;
+      answered = answers_snoc old h.scene k.scene h.played p h.answered k.answers;
+      printed = k.printed ∙ ap (λ (ls : List Print). ls ++ k.lines) h.printed ∙ append_assoc before (lines_in h.played) k.lines ∙ ap (λ (ls : List Print). before ++ ls) (sym (lines_snoc h.played p));
+      shows = k.shows;
+    }
+
+pub none_played : (stage : Stage) (ls : List Line) → Continues stage [] ls ls stage
+none_played stage ls s h = record { played = []; scene = s; of_orders = refl; answered = refl; printed = sym (append-nil (prints ls)); shows = h }
+
+pub one_more_played : (old mid new : Stage) (cs : List Command) (c : Command) (before there after : List Line) → Continues old (orders cs) before there mid → IsAnswered mid (order c) there after new → Continues old (orders (cs ++ c ∷ [])) before after new
+one_more_played old mid new cs c before there after h step s shows =
+    subst (λ (os : List Order). Continued s os (prints before) (prints after) new) (sym (map-append order cs (c ∷ [])))
+    (continued_snoc s (orders cs) (order c) (prints before) (prints there) (prints after) mid new (h s shows) step)
+
+-- behind the line of an opened log
+pub behind_open : (old new : Stage) (os : List Order) (before there after : List Line) → there ≡ before ++ lines.Open ∷ [] → Continues old os there after new → ContinuesOpen old os before after new
+behind_open old new os before there after e h s shows =
+    subst (λ (ls : List Print). Continued s os ls (prints after) new) (ap prints e ∙ map-append print_of before (lines.Open ∷ [])) (h s shows)
+
+-- ---- the book
+
+shows_book : (l : Log) (b : Book) → length b.shares ≡ 8 → books.ShowsBook l b → ShowsBook l (Shares b.start b.tail b.shares)
+shows_book l b eight h = record {
+  shares = b.shares;
+  eight = eight;
+  each = h.shares;
+  whole = ap (λ (n : ℕ). n + sum b.shares) (sym h.start) ∙ h.whole ∙ h.tail;
+  shown = ap (λ (n : ℕ). Shares n b.tail b.shares) h.start ∙ ap (λ (n : ℕ). Shares l.start n b.shares) h.tail;
+}
+
+all_printed : (before played book : List Print) → ((before ++ Open ∷ []) ++ played) ++ book ≡ before ++ Open ∷ (played ++ book)
+all_printed before played book = append_assoc (before ++ Open ∷ []) played book ∙ append_assoc before (Open ∷ []) (played ++ book)
+
+pub runs_to : (old new : Stage) (i : Identity) (start : ℕ) (os : List Order) (before there after : List Line) (b : Book) → length b.shares ≡ 8 → ShowsScene old (opened_scene i start) → ContinuesOpen old os before there new → books.ShowsBook new.log b → after ≡ there ++ lines.Book b ∷ [] → RunsTo i start os (prints before) (prints after)
+runs_to old new i start os before there after b eight shows h book e =
+    let k = h (opened_scene i start) shows in
+    record {
+      played = k.played;
+      last = k.scene;
+      of_orders = k.of_orders;
+      answered = k.answered;
+      book = Shares b.start b.tail b.shares;
+      shown = subst (λ (l : Log). ShowsBook l (Shares b.start b.tail b.shares)) (sym k.shows.log) (shows_book new.log b eight book);
+      printed =
+          ap prints e
+          ∙ map-append print_of there (lines.Book b ∷ [])
+          ∙ ap (λ (ls : List Print). ls ++ Shares b.start b.tail b.shares ∷ []) k.printed
+          ∙ all_printed (prints before) (lines_in k.played) (Shares b.start b.tail b.shares ∷ []);
+    }
+
+one_more_command : (cs : List Command) (k : ℕ) (c : Command) → k < length cs → c ≡ get_or cs k c → take (k + 1) cs ≡ take k cs ++ c ∷ []
+one_more_command cs k c below e =
+    let next : k + 1 ≡ suc k = omega arith in
+    ap (λ (n : ℕ). take n cs) next
+    ∙ take-suc cs k c below
+    ∙ ap (λ (x : Command). take k cs ++ x ∷ []) (sym e)
+
+pub next_played : (old mid new : Stage) (cs : List Command) (k : ℕ) (c : Command) (before there after : List Line) → k < length cs → c ≡ get_or cs k c → Continues old (orders (take k cs)) before there mid → IsAnswered mid (order c) there after new → Continues old (orders (take (k + 1) cs)) before after new
+next_played old mid new cs k c before there after below e h step =
+    subst (λ (xs : List Command). Continues old (orders xs) before after new) (sym (one_more_command cs k c below e))
+    (one_more_played old mid new (take k cs) c before there after h step)
+
+-- ---- the whole script
+
+pub own_scene : (v : Stage) (i : Identity) (start : ℕ) → ShowsScene v (opened_scene i start) → ShowsScene v (opened_scene v.log.identity v.log.start)
+own_scene v i start h =
+    let same : i ≡ v.log.identity = ap (λ l. l.identity) h.log in
+    let there : start ≡ v.log.start = ap (λ l. l.start) h.log in
+    subst (λ (j : Identity). ShowsScene v (opened_scene j v.log.start)) same (subst (λ (n : ℕ). ShowsScene v (opened_scene i n)) there h)
+
+runs_from : (v : Stage) (i : Identity) (start : ℕ) (os : List Order) (before after : List Print) → ShowsScene v (opened_scene i start) → RunsTo v.log.identity v.log.start os before after → RunsTo i start os before after
+runs_from v i start os before after h k =
+    let same : i ≡ v.log.identity = ap (λ l. l.identity) h.log in
+    let there : start ≡ v.log.start = ap (λ l. l.start) h.log in
+    subst (λ (j : Identity). RunsTo j start os before after) (sym same) (subst (λ (n : ℕ). RunsTo v.log.identity n os before after) (sym there) k)
+
+plays_on : (script : Told) (after : List Print) → IsGeometry (geometry_of script.log) → IsStart script.log → IsIdentity (identity_of script.log) → AlwaysPolled → RunsTo (identity_of script.log) script.log.start script.orders [] after → PlaysOn script after
+plays_on script after legal starts identity always h = record {
+  legal = legal;
+  starts = starts;
+  played = h.played;
+  orders = h.of_orders;
+  last = h.last;
+  answered = h.answered;
+  book = h.book;
+  shown = h.shown;
+  printed = h.printed;
+  polled = always script.log h.played h.last legal identity starts h.answered;
+}
+
+pub stage_plays : (script : Told) (v : Stage) (j : Identity) (start : ℕ) (after : List Print) → j ≡ identity_of script.log → start ≡ script.log.start → IsGeometry (geometry_of script.log) → IsStart script.log → IsIdentity (identity_of script.log) → AlwaysPolled → ShowsScene v (opened_scene j start) → RunsTo v.log.identity v.log.start script.orders [] after → Plays script after
+stage_plays script v j start after same there legal starts identity always shows runs =
+    let here : ShowsScene v (opened_scene (identity_of script.log) script.log.start) =
+    subst (λ (i : Identity). ShowsScene v (opened_scene i script.log.start)) same (subst (λ (n : ℕ). ShowsScene v (opened_scene j n)) there shows) in
+    inr (plays_on script after legal starts identity always (runs_from v (identity_of script.log) script.log.start script.orders [] after here runs))
+
+-- the log can't be opened at its start
+pub refused_start : (script : Told) (g : Geometry) (before after : List Line) → g ≡ geometry_of script.log → IsGeometry g → ((script.log.start % 32 ≡ 0) × (script.log.start < max_position g) → ⊥) → before ≡ [] → after ≡ before ++ lines.BadLog Start ∷ [] → Plays script (prints after)
+refused_start script g before after made legal refused none e =
+    inl (inr (inr (
+      subst IsGeometry made legal,
+      subst (λ (h : Geometry). (script.log.start % 32 ≡ 0) × (script.log.start < max_position h) → ⊥) made refused,
+      ap prints (e ∙ ap (λ (ls : List Line). ls ++ lines.BadLog Start ∷ []) none),
+    )))

@@ -1,0 +1,51 @@
+use Rattle.std.proofs.Common.{◌≡◌, ◌∙◌, ◌<◌, List, [], ℕ, rules, ap, sym, subst, FitsSigned, w32, to_z, of_z}
+use Rattle.std.specs.Prelude.{ℤ, Err}
+use Rattle.log_buffer.specs.declared.fault.LogError.TheVariants.{Start}
+use Rattle.std.proofs.lemmas.Int.{to_z-of_z}
+use Rattle.std.proofs.lemmas.Result.{IfOk-weaker}
+use Rattle.theory.specs.Bytes.{Identity}
+use Rattle.theory.specs.Position.{Geometry, IsGeometry, max_position}
+use Rattle.script.specs.Meaning.{opening, orders, told}
+use Rattle.script.specs.declared.command.Command.{Command}
+use Rattle.mdriver.specs.declared.line.Line.{Line}
+use Rattle.mdriver.specs.Plays.{geometry_of, identity_of}
+use Rattle.mdriver.specs.Prints.{prints}
+use Rattle.mdriver.specs.Staged.{RunsTo}
+use Rattle.mdriver.proofs.ScriptRuns.{refused_start, stage_plays}
+use Rattle.mdriver.proofs.SendLemmas.{same_identity}
+use Rattle.mdriver.proofs.play.play.Goals as goal
+
+pub returns-in_ok-stage-in-Ok-open : goal.returns-in_ok-stage-in-Ok-open
+returns-in_ok-stage-in-Ok-open c =
+    let log = c.args.script.now.log in
+    let script = told c.args.script.now in
+    let session : FitsSigned w32 c.args.script.now.log.session = search rules in
+    let stream : FitsSigned w32 c.args.script.now.log.stream = search rules in
+    let initial : FitsSigned w32 c.args.script.now.log.initial_term_id = search rules in
+    let made : c.in-Ok.geometry ≡ geometry_of script.log =
+    c.in-Ok.ensures.made ∙ ap (λ (z : ℤ). record { term_length = log.term_length; mtu = log.mtu; initial_term_id = z }) (to_z-of_z w32 log.initial_term_id initial) in
+    let named = same_identity (identity_of script.log) c.in-Ok.geometry (to_z w32 (of_z w32 log.session)) (to_z w32 (of_z w32 log.stream)) made (to_z-of_z w32 log.session session) (to_z-of_z w32 log.stream stream) in
+    let stage = c.in_ok-stage-in-Ok-open.stage in
+    IfOk-weaker c.run.result _ _
+    (λ after runs.
+    stage_plays script stage c.in-Ok-open.state.identity c.in-Ok-open.state.start (prints after.items)
+    (ap (λ l. l.identity) c.in-Ok-open.ensures.log ∙ sym named)
+    (ap (λ l. l.start) c.in-Ok-open.ensures.log)
+    (subst IsGeometry made c.in-Ok.ensures.legal)
+    (c.in-Ok-open.ensures.in_range.0, subst (λ (g : Geometry). log.start < max_position g) made c.in-Ok-open.ensures.in_range.1)
+    (record { session = session; stream = stream })
+    c.polls_a_prefix.ensures
+    c.in_ok-stage-in-Ok-open.ensures
+    (subst (λ (cs : List Command). RunsTo stage.log.identity stage.log.start (orders cs) [] (prints after.items)) c.deref.ensures.value
+    (subst (λ (ls : List Line). RunsTo stage.log.identity stage.log.start (orders c.deref.result.now) (prints ls) (prints after.items)) c.new-lines.ensures.items runs)))
+    c.run.ensures
+
+pub returns-in_ok-push-in-Err-Start : goal.returns-in_ok-push-in-Err-Start
+returns-in_ok-push-in-Err-Start c =
+    let log = c.args.script.now.log in
+    let initial : FitsSigned w32 c.args.script.now.log.initial_term_id = search rules in
+    let made : c.in-Ok.geometry ≡ geometry_of (opening log) =
+    c.in-Ok.ensures.made ∙ ap (λ (z : ℤ). record { term_length = log.term_length; mtu = log.mtu; initial_term_id = z }) (to_z-of_z w32 log.initial_term_id initial) in
+    let which : c.in-Err-Start.field-0 ≡ Start = search rules in
+    refused_start (told c.args.script.now) c.in-Ok.geometry c.new-lines.result.items c.push-in-Err-Start.new.self.items made c.in-Ok.ensures.legal
+    (c.open.ensures.start.0 (c.in-Err-Start.is ∙ ap Err which)) c.new-lines.ensures.items c.in_ok-push-in-Err-Start.ensures.items
