@@ -1,10 +1,10 @@
 -- A SETUP names a position at which an image may open.
-use Rattle.std.proofs.Common.{◌≡◌, ℕ, ◌+◌, ◌-◌, ◌*◌, ◌%◌, ◌^◌, ◌<◌, ◌≤◌, ◌⊎◌, inl, inr, ⊎_elim, refl, sym, ap, ◌∙◌, subst, arith, ℤ, pos, FitsSigned, Fits}
-use Rattle.std.specs.Int.{w32, cast_signed, cast_unsigned}
+use Rattle.std.proofs.Common.{◌≡◌, ℕ, ◌+◌, ◌-◌, ◌*◌, ◌%◌, ◌^◌, ◌<◌, ◌≤◌, ⊎_elim, subst, arith, ℤ, pos, FitsSigned, Fits}
+use Rattle.std.specs.Int.{w32, cast_unsigned}
 use Rattle.std.proofs.Math.Nat.{mul-le-mul_right}
 use Rattle.std.proofs.lemmas.Int.{ints}
 use Rattle.std.proofs.Math.Facts.{sfits_to_z}
-use Rattle.theory.specs.Position.{Geometry, IsGeometry, count_of, max_position}
+use Rattle.theory.specs.Position.{Geometry, IsGeometry, count_of}
 use Rattle.theory.specs.Setup.{NamesPosition, OpensAt}
 use Rattle.theory.specs.Wire.{Setup}
 use Rattle.rebuilder.specs.Seen.{IsJoin}

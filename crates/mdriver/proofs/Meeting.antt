@@ -1,11 +1,11 @@
 -- What becomes of a receiver's core, told of the receivers that it shows.
-use Rattle.std.proofs.Common.{◌≡◌, ℕ, zero, suc, ◌+◌, ◌<◌, ◌≤◌, ◌⊎◌, inl, inr, ⊎_elim, List, [], ◌∷◌, ◌++◌, map, Option, Some, None, refl, sym, ap, ap₂, ◌∙◌, subst, arith}
+use Rattle.std.proofs.Common.{◌≡◌, ℕ, ◌<◌, inl, inr, List, [], ◌∷◌, ◌++◌, map, Option, Some, None, refl, sym, ap, ap₂, ◌∙◌, subst}
 use Rattle.std.specs.Prelude.{ℤ, Result, Ok, Err, IfOk, OnErr, Bool, true, false, max, replicate, option_map}
 use Rattle.std.specs.Option.{option_to_list}
 use Rattle.std.proofs.lemmas.Bool.{cond-true, cond-false}
 use Rattle.theory.specs.Position.{Geometry}
-use Rattle.theory.specs.Placed.{Frame, Placed, end_of}
-use Rattle.theory.specs.Consumer.{Consumer, least_of}
+use Rattle.theory.specs.Placed.{Frame}
+use Rattle.theory.specs.Consumer.{least_of}
 use Rattle.theory.specs.Control.{asking_at, named_by, status_at}
 use Rattle.theory.specs.Timing.{Told, is_status_due}
 use Rattle.frames.specs.Frames.{status_of}
@@ -20,9 +20,9 @@ use Rattle.mdriver.specs.declared.receiver.Outcome.{Outcome}
 use Rattle.mdriver.specs.declared.receiver.Outcome.TheVariants as outcomes
 use Rattle.frames.specs.Datagrams.{IsDatagramFault}
 use Rattle.frames.specs.declared.fault.FrameError.{FrameError}
-use Rattle.mdriver.specs.Receiving.{BreaksOff, Hears, IfOurs, IsOurs, Meets, MeetsAll, MeetsFrame, MeetsHeartbeat, MeetsSetup, Opened, PassesBy, Receiver, asking, at_moment, given_at, is_due, replied, replies, telling, ticked, told_after}
+use Rattle.mdriver.specs.Receiving.{BreaksOff, Hears, Meets, MeetsAll, MeetsFrame, MeetsHeartbeat, MeetsSetup, Opened, Receiver, asking, at_moment, given_at, is_due, replied, replies, telling, ticked, told_after}
 use Rattle.mdriver.specs.declared.receiver.Replies.{Replies}
-use Rattle.mdriver.specs.Showing.{Becomes, Core, HasNoFrame, HearsBeat, Inserts, IsAtEnd, MeetsFirst, PassesFrame, ReadsPast, Shows, ShowsImage, ShowsOpened, beaten_at, with_image, with_reader}
+use Rattle.mdriver.specs.Showing.{Becomes, Core, HasNoFrame, HearsBeat, Inserts, IsAtEnd, MeetsFirst, PassesFrame, ReadsPast, Shows, ShowsImage, ShowsOpened, beaten_at, with_reader}
 use Rattle.mdriver.proofs.ShownSteps.{least_shown, opened_shown}
 
 -- ---- whether there is an image
@@ -91,9 +91,11 @@ setup_met v f g p i none some opens is = λ r s.
     let width : v.window ≡ r.window = sym (ap (λ (x : Receiver). x.window) s.numbers) in
     let seats : v.consumers ≡ r.consumers = sym (ap (λ (x : Receiver). x.consumers) s.numbers) in
     let o : Opened = record { geometry = g; image = image_at p r.window r.consumers } in
-    let shown : ShowsImage i o = subst (λ x. ShowsImage x o) (sym (is ∙ ap (λ w. fresh g p w v.consumers) width ∙ ap (λ n. fresh g p r.window n) seats)) (opened_shown g p r.window r.consumers (subst (λ n. 0 < n) seats some)) in
-    (record r { image = Some o; unmet = None }, subst (λ x. MeetsSetup x r f (outcomes.Opened p) (record r { image = Some o; unmet = None })) (sym (shown_none v.image r.image none s.image)) (inl (g, p, subst (λ w. OpensAt f w g p) width opens, refl, refl)),
-    record { numbers = ap (λ (x : Receiver). record x { image = Some o; unmet = None }) s.numbers; image = shown })
+    let shown : ShowsImage i o = subst (λ x. ShowsImage x o) (sym (is ∙ ap (λ w. fresh g p w v.consumers) width ∙ ap (λ n. fresh g p r.window n) seats)) (opened_shown g p r.window r.consumers (subst (λ n. 0 < n) seats some)) in (
+      record r { image = Some o; unmet = None },
+      subst (λ x. MeetsSetup x r f (outcomes.Opened p) (record r { image = Some o; unmet = None })) (sym (shown_none v.image r.image none s.image)) (inl (g, p, subst (λ w. OpensAt f w g p) width opens, refl, refl)),
+      record { numbers = ap (λ (x : Receiver). record x { image = Some o; unmet = None }) s.numbers; image = shown },
+    )
 
 -- ---- reading past a frame
 
@@ -148,9 +150,10 @@ not_told v i b some is early r s =
     let w = shown_some i v.image r.image some s.image in
     let o = w.opened in
     let due : is_due r o ≡ false = due_is v i o r s w.shown ∙ sym is ∙ early in
-    let said : List Wire = status_at (record { geometry = o.geometry; session = r.session; stream = r.stream }) (least_of o.image.consumers) r.window r.id ∷ [] in
-    (subst (λ x. [] ≡ telling x r) (sym w.is) (sym (cond-false (is_due r o) said [] due)),
-    subst (λ x. Shows v (record r { told = told_after x r })) (sym w.is) (subst (λ x. Shows v (record r { told = x })) (sym (cond-false (is_due r o) (Some (record { now = r.clock; position = least_of o.image.consumers })) r.told due)) s))
+    let said : List Wire = status_at (record { geometry = o.geometry; session = r.session; stream = r.stream }) (least_of o.image.consumers) r.window r.id ∷ [] in (
+      subst (λ x. [] ≡ telling x r) (sym w.is) (sym (cond-false (is_due r o) said [] due)),
+      subst (λ x. Shows v (record r { told = told_after x r })) (sym w.is) (subst (λ x. Shows v (record r { told = x })) (sym (cond-false (is_due r o) (Some (record { now = r.clock; position = least_of o.image.consumers })) r.told due)) s),
+    )
 
 -- it said where it stands
 abbrev pub told_at : Core → ℕ → Core
@@ -170,12 +173,13 @@ told_now v i b m some width is now message r s =
     let from : m ≡ status_at (record { geometry = o.geometry; session = v.session; stream = v.stream }) p v.window v.id = message ∙ ap (λ g. status_at (record { geometry = g; session = v.session; stream = v.stream }) (least i.consumers) i.window v.id) w.shown.geometry ∙ ap (λ q. status_at (record { geometry = o.geometry; session = v.session; stream = v.stream }) q i.window v.id) same ∙ ap (λ n. status_at (record { geometry = o.geometry; session = v.session; stream = v.stream }) p n v.id) width in
     let to : m ≡ status_at (record { geometry = o.geometry; session = r.session; stream = r.stream }) p r.window r.id = from ∙ sym (ap (λ (x : Receiver). status_at (record { geometry = o.geometry; session = x.session; stream = x.stream }) p x.window x.id) s.numbers) in
     let noted_then : Option Told = Some (record { now = r.clock; position = p }) in
-    let noted : Some (record { now = v.clock; position = least i.consumers }) ≡ noted_then = ap (λ q. Some (record { now = v.clock; position = q })) same ∙ ap (λ (x : Receiver). Some (record { now = x.clock; position = p })) (sym s.numbers) in
-    (subst (λ x. m ∷ [] ≡ telling x r) (sym w.is) (ap (λ x. x ∷ []) to ∙ sym (cond-true (is_due r o) said [] due)),
-    subst (λ x. Shows (record v { told = Some (record { now = v.clock; position = least i.consumers }) }) (record r { told = told_after x r })) (sym w.is)
-    (subst (λ x. Shows (record v { told = Some (record { now = v.clock; position = least i.consumers }) }) (record r { told = x })) (sym (cond-true (is_due r o) noted_then r.told due))
-    (subst (λ x. Shows (record v { told = Some (record { now = v.clock; position = least i.consumers }) }) (record r { told = x })) noted
-    (record { numbers = ap (λ (x : Receiver). record x { told = Some (record { now = v.clock; position = least i.consumers }) }) s.numbers; image = s.image }))))
+    let noted : Some (record { now = v.clock; position = least i.consumers }) ≡ noted_then = ap (λ q. Some (record { now = v.clock; position = q })) same ∙ ap (λ (x : Receiver). Some (record { now = x.clock; position = p })) (sym s.numbers) in (
+      subst (λ x. m ∷ [] ≡ telling x r) (sym w.is) (ap (λ x. x ∷ []) to ∙ sym (cond-true (is_due r o) said [] due)),
+      subst (λ x. Shows (record v { told = Some (record { now = v.clock; position = least i.consumers }) }) (record r { told = told_after x r })) (sym w.is)
+          (subst (λ x. Shows (record v { told = Some (record { now = v.clock; position = least i.consumers }) }) (record r { told = x })) (sym (cond-true (is_due r o) noted_then r.told due))
+          (subst (λ x. Shows (record v { told = Some (record { now = v.clock; position = least i.consumers }) }) (record r { told = x })) noted
+          (record { numbers = ap (λ (x : Receiver). record x { told = Some (record { now = v.clock; position = least i.consumers }) }) s.numbers; image = s.image }))),
+    )
 
 map_option : {X Y : Type 0} (f : X → Y) (o : Option X) → map f (option_to_list o) ≡ option_to_list (option_map f o)
 map_option f None = refl

@@ -1,15 +1,15 @@
 -- What the calls of an image promise, told of the images that it shows.
-use Rattle.std.proofs.Common.{◌≡◌, ℕ, zero, suc, ◌+◌, ◌*◌, ◌/◌, ◌^◌, ◌<◌, ◌≤◌, List, [], ◌∷◌, map, length, Bool, true, false, cond, Result, Ok, Err, refl, sym, ap, ◌∙◌, subst, arith, length-set}
+use Rattle.std.proofs.Common.{◌≡◌, ℕ, zero, suc, ◌+◌, ◌^◌, ◌<◌, ◌≤◌, List, [], ◌∷◌, map, length, Bool, true, false, Result, Ok, Err, refl, sym, ap, ◌∙◌, subst, arith}
 use Rattle.std.specs.Prelude.{slice_index, slice_set, IfOk, OnErr, ℤ, pos, negsuc}
 use Rattle.std.specs.List.{AllByRecursion}
 use Rattle.std.specs.declared.alloc.AllocError.{AllocError}
-use Rattle.theory.specs.Position.{IsGeometry, aligned, max_position}
-use Rattle.theory.specs.Placed.{Among, Frame, Placed, covered, end_of, frame_length, is_padding}
+use Rattle.theory.specs.Position.{IsGeometry, max_position}
+use Rattle.theory.specs.Placed.{Among, Frame, Placed, end_of, frame_length, is_padding}
 use Rattle.theory.specs.Units.{IsContiguous}
 use Rattle.theory.specs.Consumer.{Consumer, least_of}
 use Rattle.theory.specs.Control.{named_by}
 use Rattle.theory.specs.Image.{after_heartbeat}
-use Rattle.theory.specs.Insert.{CrossesTerm, Below, Stored, head_of, insert_answer_at}
+use Rattle.theory.specs.Insert.{Stored, head_of, insert_answer_at}
 use Rattle.theory.specs.Wire.{Header}
 use Rattle.theory.proofs.Lists.{all_at}
 use Rattle.position.specs.declared.head.FrameHead.{FrameHead}

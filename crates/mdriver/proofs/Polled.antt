@@ -1,10 +1,10 @@
 -- Frames that a poll reads, one after the other.
-use Rattle.std.proofs.Common.{◌≡◌, ℕ, ◌⊎◌, inl, inr, ⊎_elim, List, [], ◌∷◌, ◌++◌, arith, Bool, true, false, Option, Some, None, refl, sym, ap, ap₂, ◌∙◌, subst, append-nil}
-use Rattle.std.specs.Prelude.{is_some, map, slice_get}
+use Rattle.std.proofs.Common.{◌≡◌, ℕ, inl, inr, ⊎_elim, List, [], ◌∷◌, ◌++◌, arith, true, false, Option, Some, None, refl, sym, ap, ap₂, ◌∙◌, subst, append-nil}
+use Rattle.std.specs.Prelude.{is_some, map}
 use Rattle.std.specs.Option.{option_to_list}
 use Rattle.std.specs.List.{AllByRecursion}
 use Rattle.std.proofs.lemmas.Bool.{cases_Bool, both_ways}
-use Rattle.theory.specs.Placed.{Among, Chain, Data, Frame, IsReached, Pad, Placed, end_of, is_padding}
+use Rattle.theory.specs.Placed.{Among, Chain, Data, Frame, IsReached, Pad, Placed, end_of}
 use Rattle.theory.specs.Units.{IsContiguous}
 use Rattle.theory.specs.Assembly.{Assembly, after, after_all}
 use Rattle.theory.specs.Consumer.{Consumer, moved, passed_by}
@@ -12,11 +12,11 @@ use Rattle.theory.specs.Image.{Image}
 use Rattle.theory.proofs.Lists.{all_append}
 use Rattle.theory.proofs.Follow.{Chain-push}
 use Rattle.assembler.specs.Assembling.{Assembling}
-use Rattle.mdriver.specs.Polling.{PollsImage, PollsOf, PollsWhole, Reads, TellsOf, TellsPositions, gives, moved_all, passed_all, with_consumer}
+use Rattle.mdriver.specs.Polling.{PollsOf, PollsWhole, Reads, TellsOf, TellsPositions, gives, moved_all, passed_all, with_consumer}
 use Rattle.mdriver.specs.Prints.{Print, Bad, Message, NoMessage, Positions, Unassembled}
 use Rattle.assembler.specs.declared.fault.AssemblyError.{AssemblyError}
 use Rattle.mdriver.specs.Receiving.{Opened, Receiver}
-use Rattle.mdriver.specs.Showing.{Core, HasNoFrame, Shows, ShowsImage, ShowsOpened, with_reader}
+use Rattle.mdriver.specs.Showing.{Core, HasNoFrame, Shows, ShowsImage, ShowsOpened}
 use Rattle.mdriver.proofs.Meeting.{shown_none, shown_some}
 use Rattle.mdriver.proofs.ShownSteps.{end_shown, least_shown}
 use Rattle.rebuilder.specs.Seen as seen
@@ -165,13 +165,17 @@ finish o r w print c frames at seats one reads shown whole =
     ⊎_elim
     (λ (lost : c.lost ≡ true).
     let d = passed_all c frames in
-    let here : d.at ≡ at = passed_at c frames at reads.chain in
-    (record r { image = Some (with_consumer o d) }, (c, d, one, inr (lost, record { frames = frames; reads = subst (Reads o.image c frames) (sym here) reads; after = refl }), refl),
-    record { core = shown d here; one = seats; begun = (d, refl, λ l. absurd (both_ways d.lost l (passed_lost c frames lost))) }))
+    let here : d.at ≡ at = passed_at c frames at reads.chain in (
+      record r { image = Some (with_consumer o d) },
+      (c, d, one, inr (lost, record { frames = frames; reads = subst (Reads o.image c frames) (sym here) reads; after = refl }), refl),
+      record { core = shown d here; one = seats; begun = (d, refl, λ l. absurd (both_ways d.lost l (passed_lost c frames lost))) },
+    ))
     (λ (kept : c.lost ≡ false).
-    let h = whole kept in
-    (record r { image = Some (with_consumer o h.after) }, (c, h.after, one, inl (kept, h.polls), refl),
-    record { core = shown h.after h.here; one = seats; begun = (h.after, refl, h.begun) }))
+    let h = whole kept in (
+      record r { image = Some (with_consumer o h.after) },
+      (c, h.after, one, inl (kept, h.polls), refl),
+      record { core = shown h.after h.here; one = seats; begun = (h.after, refl, h.begun) },
+    ))
     (cases_Bool c.lost)
 
 pub polls_none : (o : Opened) (r : Receiver) (v : Subscribing) (h : HasRead o r v) → r.consumers ≡ 1 → HasNoFrame (Some (with_consumer o (stood h.consumer h.at))) 0 → Polled (Some o) r NoMessage v

@@ -1,19 +1,19 @@
 -- What frames make of a receiver leaves its consumer and the assembler that it has.
-use Rattle.std.proofs.Common.{◌≡◌, ℕ, ◌⊎◌, inl, inr, ⊎_elim, List, [], ◌∷◌, ◌++◌, false, Option, Some, None, refl, sym, ap, ◌∙◌, subst}
-use Rattle.std.specs.Prelude.{ℤ, pos, negsuc, Bool, true, if◌then◌else◌}
+use Rattle.std.proofs.Common.{◌≡◌, ℕ, inl, inr, ⊎_elim, List, [], ◌∷◌, false, Option, Some, None, refl, sym, ap, ◌∙◌, subst}
+use Rattle.std.specs.Prelude.{ℤ, pos, negsuc, true}
 use Rattle.std.proofs.lemmas.Bool.{cases_Bool, cond-true, cond-false}
 use Rattle.theory.specs.Placed as placed
-use Rattle.theory.specs.Consumer.{Consumer, consumer_at, least_of}
+use Rattle.theory.specs.Consumer.{consumer_at, least_of}
 use Rattle.theory.specs.Control.{named_by}
 use Rattle.theory.specs.Image.{Image, after_heartbeat, after_insert, image_at, is_accepted}
 use Rattle.theory.specs.Insert.{Insert, CrossesTerm, Below, OverWindow, Duplicate, Overlap, Stored}
 use Rattle.theory.specs.Wire.{Header, Setup, Wire, DATA, PAD, HEARTBEAT, NAK, SM, SETUP}
 use Rattle.assembler.specs.Assembling.{Assembling}
 use Rattle.mdriver.specs.declared.receiver.Outcome.{Outcome}
-use Rattle.mdriver.specs.Receiving.{BreaksOff, Hears, IfOurs, IsOurs, Meets, MeetsAll, MeetsFrame, MeetsHeartbeat, MeetsSetup, Opened, PassesBy, Receiver, answer_at, at_moment, given_at}
+use Rattle.mdriver.specs.Receiving.{BreaksOff, Hears, IfOurs, Meets, MeetsAll, MeetsFrame, MeetsHeartbeat, MeetsSetup, Opened, Receiver, answer_at, at_moment, given_at}
 use Rattle.mdriver.specs.Showing as core
 use Rattle.mdriver.specs.Showing.{Shows, beaten_at}
-use Rattle.mdriver.specs.Subscribing.{AssemblesFor, Becomes, ShowsSubscriber, Subscribing}
+use Rattle.mdriver.specs.Subscribing.{AssemblesFor, Becomes, Subscribing}
 
 -- it is to have one consumer, for which this is begun
 pub record IsSeated (begun : Option (List ℕ)) (r : Receiver) : Type 0 where

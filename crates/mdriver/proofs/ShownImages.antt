@@ -1,20 +1,14 @@
 -- What an image shows answers as the image does, and shows what becomes of it.
-use Rattle.std.proofs.Common.{◌≡◌, ℕ, zero, suc, ◌+◌, ◌-◌, ◌*◌, ◌<◌, ◌≤◌, ◌⊎◌, inl, inr, ⊎_elim, List, [], ◌∷◌, ◌++◌, map, length, min, max, Bool, true, false, cond, refl, sym, ap, ap₂, ◌∙◌, subst, arith}
-use Rattle.std.specs.Prelude.{◌↔◌, ◌||◌, slice_get, slice_index, slice_set, replicate, Option, Some, None, nat_le, ℤ, pos, negsuc}
-use Rattle.std.specs.List.{AllByRecursion, fold, list_any}
-use Rattle.std.proofs.lemmas.Bool.{cases_Bool, cases_lt, cond-true, cond-false, le-leb, leb-true, ltb-false, and_cases, or_parts, both_ways, or_right, or_left}
-use Rattle.theory.specs.Position.{Geometry}
-use Rattle.theory.specs.Placed.{AllAmong, Among, Chain, Frame, IsReached, Placed, covered, end_of, frame_length, is_padding}
-use Rattle.theory.specs.Units.{HasUnit, IsContiguous}
-use Rattle.theory.specs.Consumer.{Consumer, consumer_at, least_from, least_of}
+use Rattle.std.proofs.Common.{◌≡◌, ℕ, ◌<◌, ◌≤◌, inl, inr, ⊎_elim, List, [], ◌∷◌, map, length, min, true, false, refl, sym, ap, ◌∙◌, subst, arith}
+use Rattle.std.specs.Prelude.{nat_le}
+use Rattle.std.specs.List.{AllByRecursion, fold}
+use Rattle.std.proofs.lemmas.Bool.{cases_Bool, cases_lt, cond-true, cond-false, le-leb, leb-true}
+use Rattle.theory.specs.Placed.{Among, Chain, IsReached, Placed, end_of}
+use Rattle.theory.specs.Consumer.{Consumer, least_from, least_of}
 use Rattle.theory.specs.ImageLaws.{AreParted, held}
-use Rattle.theory.specs.Insert.{Head, head_of, insert_answer, insert_answer_at, overlaps}
-use Rattle.theory.proofs.Lists.{all_at, all_from, all_replicate, all_set, all_weaker}
-use Rattle.theory.proofs.Held.{answer_held}
-use Rattle.theory.proofs.Follow.{Chain-push, chain_bound, chain_units, passed_along, passed_more}
+use Rattle.theory.proofs.Lists.{all_at, all_from, all_weaker}
 use Rattle.rebuilder.specs.Seen.{least}
-use Rattle.mdriver.specs.Showing.{AreOneWhereMet, ShowsImage}
-use Rattle.mdriver.specs.Receiving.{Opened}
+use Rattle.mdriver.specs.Showing.{AreOneWhereMet}
 
 -- ---- the least consumer
 

@@ -1,16 +1,16 @@
 -- What an image shows: its answers, what a frame, a heartbeat and a consumer's move make of it, and its contiguous end.
-use Rattle.std.proofs.Common.{◌≡◌, ℕ, zero, suc, ◌+◌, ◌-◌, ◌*◌, ◌/◌, ◌%◌, ◌<◌, ◌≤◌, ◌⊎◌, inl, inr, ⊎_elim, List, [], ◌∷◌, ◌++◌, map, length, min, max, Bool, true, false, cond, refl, sym, ap, ap₂, ◌∙◌, subst, arith, length-set}
-use Rattle.std.specs.Prelude.{◌↔◌, ◌||◌, slice_get, slice_index, slice_set, replicate, Option, Some, None, nat_le, nat_lt, ℤ, pos, negsuc}
+use Rattle.std.proofs.Common.{◌≡◌, ℕ, zero, suc, ◌+◌, ◌-◌, ◌*◌, ◌/◌, ◌%◌, ◌<◌, ◌≤◌, ◌⊎◌, inl, inr, ⊎_elim, List, [], ◌∷◌, map, length, min, max, Bool, true, false, cond, refl, sym, ap, ap₂, ◌∙◌, subst, arith, length-set}
+use Rattle.std.specs.Prelude.{◌↔◌, ◌||◌, slice_get, slice_index, slice_set, replicate, Some, nat_lt, ℤ, pos, negsuc}
 use Rattle.std.specs.List.{AllByRecursion, list_any}
 use Rattle.std.proofs.lemmas.Bool.{cases_Bool, cases_lt, cond-true, cond-false, ltb-false, and_cases, both_ways, or_right, or_left}
 use Rattle.theory.specs.Position.{Geometry, aligned, max_position}
-use Rattle.theory.specs.Placed.{AllAmong, Among, Chain, Frame, IsReached, Placed, covered, end_of, frame_length, is_padding}
+use Rattle.theory.specs.Placed.{Among, Chain, Frame, IsReached, Placed, covered, end_of, frame_length, is_padding}
 use Rattle.theory.specs.Units.{HasUnit, IsContiguous}
 use Rattle.theory.specs.Consumer.{Consumer, consumer_at, least_of}
 use Rattle.theory.specs.Image.{Image, after_heartbeat, after_insert, image_at, is_accepted}
 use Rattle.theory.specs.ImageLaws.{AreParted, held}
 use Rattle.theory.specs.Insert.{Head, Insert, CrossesTerm, Below, OverWindow, Duplicate, Overlap, Stored, head_of, insert_answer, insert_answer_at, is_duplicate, overlaps, window_end}
-use Rattle.theory.proofs.Lists.{all_at, all_from, all_get, all_replicate, all_set, all_weaker}
+use Rattle.theory.proofs.Lists.{all_at, all_get, all_replicate, all_set, all_weaker}
 use Rattle.theory.proofs.Held.{answer_held, stored_apart}
 use Rattle.theory.proofs.Follow.{chain_units, passed_along, passed_more}
 use Rattle.rebuilder.specs.Held.{put}
@@ -223,9 +223,10 @@ beaten_shown v w o (pos p) b h is raised refused =
 -- ---- a consumer moves
 
 held_later : (m n : ℕ) (t : Placed) (some all : List Placed) → m ≤ n → ((u : Placed) → Among u some ↔ Among u (held m all)) → Among t (held n some) ↔ Among t (held n all)
-held_later m n t some all rises same =
-    (λ a. let h = held_from n some t a in held_of n all t (held_from m all t ((same t).0 h.0)).0 h.1,
-    λ a. let h = held_from n all t a in let l : n ≤ t.at = h.1 in held_of n some t ((same t).1 (held_of m all t h.0 (omega arith))) l)
+held_later m n t some all rises same = (
+  λ a. let h = held_from n some t a in held_of n all t (held_from m all t ((same t).0 h.0)).0 h.1,
+  λ a. let h = held_from n all t a in let l : n ≤ t.at = h.1 in held_of n some t ((same t).1 (held_of m all t h.0 (omega arith))) l,
+)
 
 map_set : (rs : List Consumer) (k : ℕ) (d : Consumer) → slice_set (map (λ (c : Consumer). c.at) rs) k d.at ≡ map (λ (c : Consumer). c.at) (slice_set rs k d)
 map_set [] k d = refl

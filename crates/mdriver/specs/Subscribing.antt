@@ -1,5 +1,5 @@
 -- Which receivers a subscriber shows, and what it makes of a frame.
-use Rattle.std.specs.Prelude.{◌≡◌, ℕ, Bool, false, List, [], ◌∷◌, Option, None, Some, slice_get}
+use Rattle.std.specs.Prelude.{◌≡◌, ℕ, false, List, [], ◌∷◌, Option, None, Some, slice_get}
 use Rattle.theory.specs.Placed.{Among, Data, Frame, Pad, Placed, end_of, is_padding}
 use Rattle.theory.specs.Assembly.{Heard, on_frame}
 use Rattle.theory.specs.Consumer.{Consumer}

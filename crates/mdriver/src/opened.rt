@@ -49,11 +49,7 @@ pub fn open(
 }
 
 /// Hands a DATA frame or a padding with this header to an image. At an error memory was refused, and nothing changed.
-pub fn insert(
-    image: &mut Image,
-    header: &Header,
-    frame: &Frame<'_>,
-) -> Result<Insert, AllocError>
+pub fn insert(image: &mut Image, header: &Header, frame: &Frame<'_>) -> Result<Insert, AllocError>
     requires header { IsHeader (header_of header.now) }
     requires frame { IsFrame (wire frame.now) }
     requires of_stream { IsOfStream frame.now }

@@ -72,11 +72,7 @@ impl Subscriber {
 
     /// A subscriber to what this core will receive: one that has no image yet and will have one consumer. Messages are
     /// of at most `greatest` bytes. The error comes only where memory was refused.
-    pub fn new(
-        alloc: Global,
-        core: ReceiverCore,
-        greatest: usize,
-    ) -> Result<Subscriber, AllocError>
+    pub fn new(alloc: Global, core: ReceiverCore, greatest: usize) -> Result<Subscriber, AllocError>
         requires image { core.image ≡ None }
         requires consumers { core.consumers ≡ 1 }
         ensures shown { IfOk result (λ s. (r : Receiver) → Shows core r → ShowsSubscriber s r) }

@@ -1,9 +1,7 @@
-use Rattle.std.proofs.Common.{◌≡◌, sym, ap, ap₂, ◌∙◌, subst, arith, rules, ℤ, pos, FitsSigned, to_z, of_z, w32, w64}
+use Rattle.std.proofs.Common.{◌≡◌, sym, ap₂, ◌∙◌, subst, arith, rules, pos, FitsSigned, to_z, of_z, w32, w64}
 use Rattle.std.proofs.lemmas.Int.{ints, to_z-of_z}
 use Rattle.rebuilder.specs.Stored.{IsUnit}
-use Rattle.theory.specs.Control.{named_by}
 use Rattle.theory.specs.Position.{position_of}
-use Rattle.frames.specs.Frames.{header_of}
 use Rattle.mdriver.proofs.Units.{unit_position}
 use Rattle.mdriver.proofs.opened.position_in.Goals as goal
 

@@ -1,6 +1,6 @@
-use Rattle.std.proofs.Common.{◌≡◌, ◌+◌, ◌≤◌, ◌^◌, arith, subst, sym}
+use Rattle.std.proofs.Common.{◌+◌, ◌≤◌, ◌^◌, subst, sym}
 use Rattle.std.specs.Prelude.{slice_index}
-use Rattle.theory.specs.Position.{Geometry, IsGeometry, max_position}
+use Rattle.theory.specs.Position.{IsGeometry, max_position}
 use Rattle.mdriver.proofs.OpenedSteps.{at_end, end_low, forward, place_after, reads_past}
 use Rattle.mdriver.proofs.opened.read_past.Goals as goal
 

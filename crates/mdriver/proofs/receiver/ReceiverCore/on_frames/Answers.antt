@@ -1,13 +1,13 @@
-use Rattle.std.proofs.Common.{◌≡◌, ◌∙◌, ◌++◌, ◌∷◌, ◌<◌, ◌≤◌, ◌+◌, [], zero, suc, ℕ, List, Result, Ok, Err, length, drop, take, arith, ap, ap₂, subst, sym, refl}
+use Rattle.std.proofs.Common.{◌≡◌, ◌∙◌, ◌++◌, ◌∷◌, ◌<◌, ◌≤◌, ◌+◌, [], zero, suc, ℕ, List, Result, Ok, Err, length, drop, take, arith, ap, subst, sym, refl}
 use Rattle.std.specs.Prelude.{OnErr}
 use Rattle.std.specs.List.{AllByRecursion, flat_map}
 use Rattle.frames.specs.Fronts.{FrontSpells}
 use Rattle.theory.specs.Wire.{IsFrame, Wire, spelling}
 use Rattle.frames.specs.Frames.{wire}
-use Rattle.mdriver.specs.Receiving.{Meets, MeetsAll}
+use Rattle.mdriver.specs.Receiving.{MeetsAll}
 use Rattle.mdriver.specs.Showing.{Becomes, MeetsFirst}
 use Rattle.mdriver.proofs.DatagramSteps.{frame_at, frame_first, front_spells, next_first, slice_to_end}
-use Rattle.mdriver.proofs.Meeting.{becomes_more, becomes_none, first_taken}
+use Rattle.mdriver.proofs.Meeting.{becomes_more, first_taken}
 use Rattle.mdriver.proofs.receiver.ReceiverCore.on_frames.Goals as goal
 
 pub unreachable-requires : goal.unreachable-requires
@@ -42,11 +42,12 @@ loop-turn-preserved c = record {
       let i = c.loop-turn._turn in
       let before = c.loop-turn.invariant.taken frames spells counted in
       let below : i < length frames = omega (arith, counted, c.loop-turn-test.true) in
-      let next = next_is frames i c.loop-turn.rest.now (wire c.in-Ok.frame) c.in-Ok.size spells.1 below before.0 c.in-Ok.ensures.only in
-      (slice_to_end c.loop-turn.rest.now c.in-Ok.size ∙ next.dropped,
-      subst (λ ws. Becomes c.args.self.now c.on_frame.new.self (λ r s. MeetsAll r ws c.push.new.self.items s)) next.taken
-      (subst (λ outs. Becomes c.args.self.now c.on_frame.new.self (λ r s. MeetsAll r (take i frames ++ wire c.in-Ok.frame ∷ []) outs s)) (sym c.in_ok-push.ensures.items)
-      (becomes_more c.args.self.now c.loop-turn.self c.on_frame.new.self (take i frames) c.loop-turn.outcomes.items (wire c.in-Ok.frame) c.in_ok-outcome.outcome before.1 c.in_ok-outcome.ensures.met)));
+      let next = next_is frames i c.loop-turn.rest.now (wire c.in-Ok.frame) c.in-Ok.size spells.1 below before.0 c.in-Ok.ensures.only in (
+        slice_to_end c.loop-turn.rest.now c.in-Ok.size ∙ next.dropped,
+        subst (λ ws. Becomes c.args.self.now c.on_frame.new.self (λ r s. MeetsAll r ws c.push.new.self.items s)) next.taken
+            (subst (λ outs. Becomes c.args.self.now c.on_frame.new.self (λ r s. MeetsAll r (take i frames ++ wire c.in-Ok.frame ∷ []) outs s)) (sym c.in_ok-push.ensures.items)
+            (becomes_more c.args.self.now c.loop-turn.self c.on_frame.new.self (take i frames) c.loop-turn.outcomes.items (wire c.in-Ok.frame) c.in_ok-outcome.outcome before.1 c.in_ok-outcome.ensures.met)),
+      );
   consumers = c.in_ok-outcome.ensures.consumers ∙ c.loop-turn.invariant.consumers;
 }
 

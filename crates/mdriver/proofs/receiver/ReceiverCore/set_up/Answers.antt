@@ -1,4 +1,4 @@
-use Rattle.std.proofs.Common.{◌≡◌, None, arith, rules}
+use Rattle.std.proofs.Common.{◌≡◌, None, rules}
 use Rattle.frames.specs.Frames.{setup_of}
 use Rattle.mdriver.proofs.Joins.{opens_join}
 use Rattle.mdriver.proofs.Meeting.{setup_met}

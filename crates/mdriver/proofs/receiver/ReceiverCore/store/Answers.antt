@@ -1,4 +1,3 @@
-use Rattle.std.proofs.Common.{sym}
 use Rattle.frames.specs.Frames.{header_of}
 use Rattle.rebuilder.specs.Stored.{stream_frame}
 use Rattle.mdriver.proofs.Meeting.{frame_met, frame_missed}

@@ -1,15 +1,12 @@
-use Rattle.std.proofs.Common.{◌≡◌, Option, Some, arith, rules, sym, subst, ap, ◌∙◌, FitsSigned, w32, w64}
+use Rattle.std.proofs.Common.{rules, sym, subst, ap, ◌∙◌, FitsSigned, w32, w64}
 use Rattle.std.specs.Option.{option_map, option_to_list}
 use Rattle.std.proofs.lemmas.Int.{to_z-of_z}
 use Rattle.theory.specs.Timing.{is_status_due}
 use Rattle.mdriver.specs.Receiving.{told_after}
 use Rattle.mdriver.specs.Showing.{Shows, told_of}
 use Rattle.mdriver.specs.contracts.receiver.ReceiverCore.{the_view}
-use Rattle.theory.specs.Control as control
 use Rattle.theory.specs.Wire.{SM}
 use Rattle.frames.specs.Frames.{status_of}
-use Rattle.rebuilder.specs.Seen as seen
-use Rattle.rebuilder.specs.Seen.{least}
 use Rattle.mdriver.proofs.Meeting.{not_told, status_same, told_at, told_now}
 use Rattle.mdriver.proofs.receiver.ReceiverCore.tell.Goals as goal
 

@@ -1,4 +1,4 @@
-use Rattle.std.proofs.Common.{ap, ◌∙◌}
+use Rattle.std.proofs.Common.{ap}
 use Rattle.assembler.specs.Assembling.{Assembling}
 use Rattle.mdriver.proofs.Polled.{subscribes}
 use Rattle.mdriver.proofs.subscriber.Subscriber.new.Goals as goal
