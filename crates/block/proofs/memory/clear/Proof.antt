@@ -1,0 +1,68 @@
+-- `clear` writes the last byte that is not written yet, until none is left.
+use mathlib.Core.Path.{◌≡◌, refl, sym, subst}
+use mathlib.Core.List.{List, [], ◌∷◌}
+use mathlib.Core.WellFounded.InvImage
+use Prim.Native.Nat.{ℕ, zero, suc, ◌+◌, ◌-◌, ◌<◌, ◌^◌}
+use native.Mathlib.Omega.{arith}
+use seplogic.Ra.Ura.{Ura}
+use lib.Dec.{lit<, ltb→lt, nltb→le}
+use lib.ListN.{replicate}
+use lib.WfN.{lt-wf_rel}
+use base.Fraction.{full_share}
+use base.Fml.{Fml, ftrue, froom, fat}
+use base.Logic.{SProp, ent, sep, id⊢}
+use mir.Syntax.{Ty, Body, w8, w64, ty_int, ty_array}
+use mir.Val.{Val, vunit, vint, vptr}
+use prog.Model.{Model}
+use prog.Wp.{Env, Out, Wp, WpFn, Tables, at_return, after_seq, after_block, after_turn}
+use types.Logic.{Logic, sem}
+use contract.Running.{Running, tables, tables_of}
+use types.Kit.{Item, Sq, any_q, runs, ‵, raw, at_ret, prop, ◌$◌, ◌∵◌, !, qed, by, move, keep, drop, use1, use2, join, split, rewrite, regoal, feq_i, group, suffices, done}
+use types.Run.{stop, lit, bin, unit_lit, of_opd, init, assigns_last, first, blocks, skips, jumps, branches, exec, returns, enter, loops, again, Below}
+use types.ByLocal.{alloc_all, pass_all, free_all, look_at, get, through, sets, env, holding, forget_but}
+use denote.Array.{Array}
+use denote.Builtin.{usize, u8}
+use denote.Exit.{yes}
+use denote.Memory.{part_at}
+use denote.Plain.{uint_vals, uint_Tells}
+use denote.RawPtr.{Ptr, RawPtr, block_ptr, ptr_val, in_a_block, rawptr_vals, rawptr_Tells}
+use denote.Signature.{plain}
+use denote.Steps.{nothing}
+use denote.Triple.Entry.{on_entry}
+use denote.Triple.Walked.{Stays, stay_dropped, walk_of, ends_at, Goes-dropped}
+use Rattle.std.proofs.raw_atomic.Walks.{proved}
+use Rattle.std.proofs.VecSteps.Shapes.{after}
+use Rattle.block.specs.Raw.{written, unwritten}
+use Rattle.block.proofs.Bytes.{zeros, last_room, one_more_zero, all_zeros}
+use Rattle.block.specs.contracts.memory.clear as f
+use Rattle.block.proofs.memory.clear.Statement.{statement}
+use Rattle.block.proofs.memory.clear.Code as code
+
+abbrev stayed : Stays f.ended.signature.params f.ended.kept
+stayed = (stay_dropped _ yes, (stay_dropped _ yes, tt))
+
+-- `left` bytes are room, and `done` are zeros
+abbrev Cleared : ℕ → Type 0
+Cleared n = (left : ℕ) × (done : ℕ) × (left + done ≡ n)
+
+pub clear_spec : {M : Type 1} → statement M
+unfolding tables_of
+clear_spec 𝓤 𝓛 𝓜 𝓡 wired =
+    let c = f.clauses 𝓛 𝓜.mem 𝓡.returns in let W = walk_of 𝓛 f.ended stayed c in let 𝓣 = tables_of 𝓤 𝓛.H 𝓜 (tables 𝓤 𝓛.H 𝓜 𝓡 𝓡.env) in
+    proved 𝓛 f.ended stayed c 𝓜 𝓡 (Goes-dropped 𝓛 0 (plain (λ _. RawPtr)) yes (λ κs x w. refl), (Goes-dropped 𝓛 0 (plain (λ _. usize)) yes (λ κs x w. refl), tt))
+    f.Key.name code.function (code.unfolded 𝓤 𝓛.H 𝓜 𝓡 wired)
+    (λ κs. (rawptr_vals, (uint_vals w64, tt))) (λ κs. (rawptr_Tells, (uint_Tells w64, tt))) (λ κs qs bounds a g are.
+    let n = a.1.0 in
+    let y : Ptr → W.Ghost = λ p. ((κs, qs, bounds, (p, (n, tt)), (rawptr_vals p, (uint_vals w64 n, tt))), tt) in
+    qed 𝓛 (raw (on_entry 𝓛 f.signature κs qs a (y a.0).0.4) ∷ ‵ (unwritten a.0 n) ∷ []) ∵ drop ! $
+    in_a_block ! a.0 (λ p. unwritten p n) (id⊢ 𝓤 _) (λ b o e.
+    regoal ! (λ p. prop (WpFn 𝓤 𝓛.H 𝓣.C 𝓣.Λ code.function (ptr_val p ∷ vint w64 n ∷ []) (W.post (y p)))) e refl $
+    enter ! _ _ _ _ _ $ alloc_all ! (λ l. pass_all ! refl ((tt, tt), ((tt, record { fits = are.1.0.1 }), tt)) $
+    let En = env code.Mir.locals l in
+    let Now : Cleared n → List (Item 𝓤) = λ t. ‵ (froom (ty_array (ty_int w8) t.0) b o) ∷ ‵ (zeros t.1 b (t.0 + o)) ∷ holding 𝓛 En ((1, vptr b o) ∷ (2, vint w64 n) ∷ (3, vint w64 t.0) ∷ []) in
+    let Fewer : Cleared n → Cleared n → Type 0 = λ t u. t.0 < u.0 in
+    sets ! (of_opd ! (get ! refl)) refl (tt, record { fits = are.1.0.1 }) $
+    nothing ! $ move ! (1 ∷ 0 ∷ []) $ first ! $ blocks ! $ loops ! 𝓣 Fewer (InvImage.wf (λ (t : Cleared n). t.0) lt-wf_rel.wf) Now (λ t.
+    sets ! (bin ! (lit ! tt) (get ! refl) tt) refl (tt, tt) $ first ! $ branches ! (get ! refl)
+    (λ some. skips ! $ exec ! 𝓣.C 𝓣.Λ En (after 2 code.Mir.turn-1) _ $ ?)
+    (λ none. jumps ! $ ?)) (n, 0, omega arith))))
