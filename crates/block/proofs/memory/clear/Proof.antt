@@ -17,7 +17,7 @@ use prog.Model.{Model}
 use prog.Wp.{Env, Out, Wp, WpFn, Tables, at_return, after_seq, after_block, after_turn}
 use types.Logic.{Logic, sem}
 use contract.Running.{Running, tables, tables_of}
-use types.Kit.{Item, Sq, any_q, runs, ‵, raw, at_ret, prop, ◌$◌, ◌∵◌, !, qed, by, move, keep, drop, use1, use2, join, split, rewrite, regoal, feq_i, group, suffices, done}
+use types.Kit.{Item, Sq, any_q, runs, ‵, raw, ◌⊛◌, at_ret, prop, ◌$◌, ◌∵◌, !, qed, by, move, keep, drop, use1, use2, join, split, rewrite, regoal, feq_i, group, suffices, done}
 use types.Run.{stop, lit, bin, unit_lit, of_opd, init, assigns_last, first, blocks, skips, jumps, branches, exec, returns, enter, loops, again, Below}
 use types.ByLocal.{alloc_all, pass_all, free_all, look_at, get, through, sets, env, holding, forget_but}
 use denote.Array.{Array}
@@ -46,7 +46,7 @@ abbrev Cleared : ℕ → Type 0
 Cleared n = (left : ℕ) × (done : ℕ) × (left + done ≡ n)
 
 pub clear_spec : {M : Type 1} → statement M
-unfolding tables_of
+unfolding tables_of after_turn
 clear_spec 𝓤 𝓛 𝓜 𝓡 wired =
     let c = f.clauses 𝓛 𝓜.mem 𝓡.returns in let W = walk_of 𝓛 f.ended stayed c in let 𝓣 = tables_of 𝓤 𝓛.H 𝓜 (tables 𝓤 𝓛.H 𝓜 𝓡 𝓡.env) in
     proved 𝓛 f.ended stayed c 𝓜 𝓡 (Goes-dropped 𝓛 0 (plain (λ _. RawPtr)) yes (λ κs x w. refl), (Goes-dropped 𝓛 0 (plain (λ _. usize)) yes (λ κs x w. refl), tt))
@@ -61,8 +61,24 @@ clear_spec 𝓤 𝓛 𝓜 𝓡 wired =
     let En = env code.Mir.locals l in
     let Now : Cleared n → List (Item 𝓤) = λ t. ‵ (froom (ty_array (ty_int w8) t.0) b o) ∷ ‵ (zeros t.1 b (t.0 + o)) ∷ holding 𝓛 En ((1, vptr b o) ∷ (2, vint w64 n) ∷ (3, vint w64 t.0) ∷ []) in
     let Fewer : Cleared n → Cleared n → Type 0 = λ t u. t.0 < u.0 in
+    let Turned : Cleared n → Out → SProp 𝓤 = λ t. after_turn 𝓤 𝓛.H (Below 𝓛 Fewer Now t) (after_block 𝓤 𝓛.H (after_seq 𝓤 𝓛.H (Wp 𝓤 𝓛.H 𝓣.C 𝓣.Λ En code.Mir.t-3 (at_return 𝓤 𝓛.H En (W.post (y (block_ptr b o))))) (at_return 𝓤 𝓛.H En (W.post (y (block_ptr b o)))))) in
     sets ! (of_opd ! (get ! refl)) refl (tt, record { fits = are.1.0.1 }) $
     nothing ! $ move ! (1 ∷ 0 ∷ []) $ first ! $ blocks ! $ loops ! 𝓣 Fewer (InvImage.wf (λ (t : Cleared n). t.0) lt-wf_rel.wf) Now (λ t.
     sets ! (bin ! (lit ! tt) (get ! refl) tt) refl (tt, tt) $ first ! $ branches ! (get ! refl)
-    (λ some. skips ! $ exec ! 𝓣.C 𝓣.Λ En (after 2 code.Mir.turn-1) _ $ ?)
-    (λ none. jumps ! $ ?)) (n, 0, omega arith))))
+    (λ some. let pos : 0 < t.0 = ltb→lt 0 t.0 some in let k = t.0 - 1 in let one : t.0 ≡ k + 1 = omega arith in let fits : k < 2 ^ 64 = omega (arith, are.1.0.1) in
+    skips ! $ exec ! 𝓣.C 𝓣.Λ En (after 2 code.Mir.turn-1) (any_q (Turned t)) $
+    sets ! (bin ! (get ! refl) (lit ! tt) pos) refl (tt, record { fits = fits }) $
+    blocks ! $ sets ! (bin ! (get ! refl) (get ! refl) tt) refl (tt, tt) $
+    rewrite ! 0 (λ (z : ℕ). ‵ (froom (ty_array (ty_int w8) z) b o)) one refl $
+    use1 𝓛 (‵ (froom (ty_int w8) b (k + o)) ⊛ ‵ (froom (ty_array (ty_int w8) k) b o)) (last_room 𝓛 k b o) $ split ! $
+    assigns_last ! (of_opd ! (lit ! tt)) (through ! refl (stop !)) (init ! 0 refl (tt, record { fits = lit< tt })) $
+    rewrite ! 2 (λ (z : ℕ). ‵ (zeros t.1 b (z + o))) one refl $ move ! (0 ∷ 2 ∷ []) $
+    use2 𝓛 (‵ (zeros (suc t.1) b (k + o))) (one_more_zero 𝓛 k t.1 b o) $ move ! (1 ∷ 0 ∷ []) $
+    forget_but ! En (1 ∷ 2 ∷ 3 ∷ []) refl $ again ! Fewer Now t (k, suc t.1, omega (arith, t.2)) (omega arith))
+    (λ none. let first_byte : t.0 + o ≡ o = omega (arith, nltb→le 0 t.0 none) in let all : t.1 ≡ n = omega (arith, t.2) in
+    jumps ! $ exec ! 𝓣.C 𝓣.Λ En code.Mir.t-3 (at_ret En (W.post (y (block_ptr b o)))) $
+    drop ! $ rewrite ! 0 (λ (z : ℕ). ‵ (zeros t.1 b z)) first_byte refl $ rewrite ! 0 (λ (z : ℕ). ‵ (zeros z b o)) all refl $
+    use1 𝓛 (‵ (written (block_ptr b o) n (replicate n 0))) (all_zeros 𝓛 n b o) $
+    sets ! (of_opd ! (unit_lit !)) refl (tt, tt) $ returns ! (look_at ! 0 refl) $ free_all ! refl $
+    suffices ! _ (ends_at 𝓛 f.ended stayed c (y (block_ptr b o)) vunit tt (tt, (tt, tt)) (tt, (tt, tt))) $
+    feq_i ! _ (vunit ∷ []) _ refl $ nothing ! $ nothing ! $ join ! $ nothing ! $ join ! $ nothing ! $ group ! 3 $ done !)) (n, 0, omega arith))))
