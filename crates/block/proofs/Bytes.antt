@@ -1,6 +1,6 @@
 -- Zeros that stand behind the room that is not written yet.
-use mathlib.Core.Path.{◌≡◌, refl, sym, subst}
-use mathlib.Core.List.{List, [], ◌∷◌}
+use mathlib.Core.Path.{◌≡◌, refl, ap, subst, ◌∙◌}
+use mathlib.Core.List.{List, [], ◌∷◌, ◌++◌}
 use Prim.Native.Nat.{ℕ, zero, suc, ◌+◌}
 use native.Mathlib.Omega.{arith}
 use native.Mathlib.Nat.{add_comm}
@@ -19,7 +19,10 @@ use denote.Index.{row}
 use denote.Memory.{part_at}
 use denote.Plain.{uint_in}
 use denote.RawPtr.Room.{past, past_bytes, room_cut}
-use lib.ListN.{length, replicate, length-replicate}
+use lib.ListN.{length, replicate, take, drop, length-replicate}
+use Rattle.std.proofs.Common.{drop_of_length-le}
+use Rattle.std.proofs.lemmas.List.{append-nil, take_all}
+use Rattle.block.specs.Bytes.{with_front}
 
 abbrev byte : Ty
 byte = ty_int w8
@@ -47,3 +50,9 @@ module _ {M : Type 1} {𝓤 : Ura M} (𝓛 : Logic 𝓤) where
   pub all_zeros : (n b o : ℕ) → ent 𝓤 (sem 𝓛 (zeros n b o)) (sem 𝓛 (part_at (Array u8 n) full_share (replicate n 0) b o))
   all_zeros n b o =
       qed 𝓛 (‵ (zeros n b o) ∷ []) ∵ feq_i ! ℕ (length (replicate n 0)) n (length-replicate n 0) $ fjoin ! $ by ! (Array-whole 𝓛 u8 full_share n (replicate n 0) b o)
+
+-- as many bytes as there are take the place of all
+pub with_front-whole : (bytes front : List ℕ) → length front ≡ length bytes → with_front bytes front ≡ front
+with_front-whole bytes front same =
+    let none : drop (length front) bytes ≡ [] = drop_of_length-le bytes (omega (arith, same)) in
+    ap (λ (rest : List ℕ). take (length bytes) (front ++ rest)) none ∙ ap (take (length bytes)) (append-nil front) ∙ take_all (length bytes) front (omega (arith, same))
