@@ -1,5 +1,5 @@
 -- What contracts read of a `Memory`, and what is written through its bytes.
-use Rattle.std.specs.Prelude.{◌≡◌, ℕ, List, length}
+use Rattle.std.specs.Prelude.{ℕ, List}
 use Rattle.std.specs.Borrow.{Lends, MutBor, Fml, u8, Array}
 use mathlib.Core.Path.{sym, ◌∙◌}
 use Rattle.block.specs.Bytes.{with_front, length-with_front}
@@ -9,15 +9,9 @@ use Rattle.block.specs.declared.memory.Memory.{Memory}
 abbrev pub memory_bytes : Memory → List ℕ
 memory_bytes m = m.bytes
 
-abbrev pub memory_count : Memory → ℕ
-memory_count m = m.count
-
-abbrev pub memory_counted : (m : Memory) → memory_count m ≡ length (memory_bytes m)
-memory_counted m = m.counted
-
 -- the memory with other bytes over its front
 abbrev pub with_bytes : Memory → List ℕ → Memory
-with_bytes m front = record { start = m.start; count = m.count; heap = m.heap; bytes = with_front m.bytes front; counted = m.counted ∙ sym (length-with_front m.bytes front); small = m.small }
+with_bytes m front = record { start = m.start; count = m.count; bytes = with_front m.bytes front; counted = m.counted ∙ sym (length-with_front m.bytes front); small = m.small }
 
 abbrev pub LendsMemory : MutBor Memory → MutBor (List ℕ) → Fml
 LendsMemory memory bytes = Lends the_row (Array u8 0) memory bytes (with_bytes memory.now)

@@ -7,7 +7,7 @@ use base.Fml.{Lft, fsep}
 use denote.Array.{Array}
 use denote.RawPtr.{room_for}
 use denote.Struct.Lending.{lent_at}
-use mir.Syntax.{Ty}
+use Rattle.libc.specs.Heap.{chunk}
 
 -- these bytes, from this address on
 abbrev pub written : Ptr → ℕ → List ℕ → Fml
@@ -17,9 +17,10 @@ written start count bytes = lies_at (Array u8 count) full_share start bytes
 abbrev pub unwritten : Ptr → ℕ → Fml
 unwritten start count = room_for (array_of u8 count) start
 
--- the bytes, and the right, by this token, to free the block that they fill
-abbrev pub owned_bytes : (Ty → Ptr → Fml) → Ptr → ℕ → List ℕ → Fml
-owned_bytes token start count bytes = fsep (written start count bytes) (token (array_of u8 count) start)
+-- the bytes, and the right to free the block that they fill
+abbrev pub owned_bytes : Ptr → ℕ → List ℕ → Fml
+owned_bytes start count bytes = fsep (written start count bytes) (chunk (array_of u8 count) start)
 
+-- what a `&` to the bytes holds
 abbrev pub lent_bytes : Ptr → ℕ → List ℕ → Lft → Fml
 lent_bytes start count bytes κ = lent_at (Array u8 count) start bytes κ

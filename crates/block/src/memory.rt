@@ -7,55 +7,54 @@ use std::alloc::{AllocError, Allocator, Global};
 use std::marker::Model;
 use std::slice::{from_raw_parts, from_raw_parts_mut};
 
-/// Bytes at an address, and the right to free them.
+/// Bytes at an address, and the right to free them. It has no `Drop`: `free` is its only end.
 pub(crate) struct Memory {
     start: *mut u8,
     count: usize,
-    heap: Global,
     pub(crate) ghost bytes: { List ℕ },
     ghost counted: { count ≡ length bytes },
     ghost small: { count < 2 ^ 63 },
 }
 
 impl Model for Memory {
-    ghost use Rattle.std.specs.contracts.impls.GlobalAllocator.TheImpl.{ghosts};
     ghost use Rattle.block.specs.Raw.{owned_bytes, lent_bytes};
 
-    ghost also_owns = { λ m. owned_bytes (ghosts.dealloc_token m.heap) m.start m.count m.bytes };
+    ghost also_owns = { λ m. owned_bytes m.start m.count m.bytes };
 
     ghost also_shares = { λ m _ κ. lent_bytes m.start m.count m.bytes κ };
 }
 
-impl Drop for Memory {
-    fn drop(self) {
-        let Memory { start, count, heap } = self;
-        unsafe { heap.deallocate(start, count, 1) };
-    }
-}
-
 impl Memory {
-    ghost use Rattle.block.specs.Held.{memory_bytes, memory_count, LendsMemory};
+    ghost use Rattle.block.specs.Held.{memory_bytes, LendsMemory};
 
     /// `count` zeros. The error comes only where memory was refused.
-    pub(crate) fn zeroed(heap: Global, count: usize) -> Result<Memory, AllocError>
+    pub(crate) fn zeroed(heap: &Global, count: usize) -> Result<Memory, AllocError>
         requires { count < 2 ^ 63 }
         ensures { IfOk result (λ m. memory_bytes m ≡ replicate count 0) }
     {
         match heap.allocate(count, 1) {
             Ok(start) => {
                 unsafe { clear(start, count) };
-                Ok(Memory { start, count, heap })
+                Ok(Memory { start, count })
             }
             Err(error) => Err(error),
         }
     }
 
+    /// Gives the memory back.
+    pub(crate) fn free(self, heap: &Global) {
+        let Memory { start, count } = self;
+        unsafe { heap.deallocate(start, count, 1) };
+    }
+
+    /// The bytes.
     pub(crate) fn bytes(&self) -> &[u8]
         ensures { result.now ≡ memory_bytes self.now }
     {
         unsafe { from_raw_parts(self.start, self.count) }
     }
 
+    /// The bytes, to be written.
     pub(crate) fn bytes_mut(&mut self) -> &mut [u8]
         ensures* writes_back { sem 𝓛 (LendsMemory self.entry result) }
         ensures value { result.now ≡ memory_bytes self.old }

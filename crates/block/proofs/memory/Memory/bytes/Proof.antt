@@ -34,7 +34,6 @@ use denote.Struct.Struct.{Struct}
 use denote.Triple.Walked.{Stays, stay_dropped, walk_of, says, ends_at, Goes-dropped}
 use Rattle.std.proofs.raw_atomic.Walks.{proved}
 use Rattle.std.proofs.Words.{word_in, word_out, pointer_in, pointer_out}
-use Rattle.std.specs.contracts.alloc.Global
 use Rattle.block.specs.Raw.{lent_bytes}
 use Rattle.block.specs.contracts.memory.Memory as C
 use Rattle.block.specs.contracts.memory.Memory.bytes as f
@@ -67,7 +66,7 @@ bytes_spec 𝓤 𝓛 𝓜 𝓡 wired =
     split ! $ split ! $ move ! (2 ∷ []) $ split ! $ keep ! (0 ∷ 2 ∷ []) $
     enter ! _ _ _ _ _ $ alloc_all ! (λ l. pass_all ! refl ((tt, tt), tt) $
     fsplit ! $ drop ! $
-    use1 𝓛 (‵ (hidden_shr Words κ fields b o) ⊛ ‵ (fhide (lent_bytes m.start m.count m.bytes κ))) (lent_out 𝓛 C.struct (C.the_codes (Global.the_row).coded) C.the_heap C.the_lent κ m b o) $ split ! $
+    use1 𝓛 (‵ (hidden_shr Words κ fields b o) ⊛ ‵ (fhide (lent_bytes m.start m.count m.bytes κ))) (lent_out 𝓛 C.struct C.the_codes C.the_heap C.the_lent κ m b o) $ split ! $
     move ! (1 ∷ []) $ unhide ! $ fsplit ! $ use1 𝓛 (raw (fact 𝓤 (InBlock m.start))) (in_block_says 𝓛 m.start) $ heard ! _ (λ inside.
     fsplit ! $ drop ! $ hide ! $ move ! (1 ∷ []) $ unhide ! $ fsplit ! $ fsplit ! $ hide ! $ move ! (1 ∷ []) $ fsplit ! $ hide ! $ move ! (2 ∷ 5 ∷ []) $
     -- [the address; the token; the count; two parts of no use; the bytes; ..]

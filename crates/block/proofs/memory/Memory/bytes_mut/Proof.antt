@@ -37,7 +37,7 @@ use denote.Struct.Struct.{Struct}
 use denote.Triple.Walked.{Stays, stay_dropped, walk_of, says, ends_at, Goes-spent_ref}
 use Rattle.std.proofs.raw_atomic.Walks.{proved}
 use Rattle.std.specs.Allocator.{array_of}
-use Rattle.std.specs.contracts.impls.GlobalAllocator.TheImpl.{ghosts}
+use Rattle.libc.specs.Heap.{chunk}
 use Rattle.block.specs.Raw.{written, owned_bytes}
 use Rattle.block.specs.Bytes.{with_front}
 use Rattle.block.specs.Held.{with_bytes}
@@ -58,7 +58,7 @@ Words = Struct (shape C.the_type)
 module _ {M : Type 1} {𝓤 : Ura M} (𝓛 : Logic 𝓤) (m : Memory) (b o b' o' : ℕ) (us : List Val) where
   -- the memory but for its bytes
   abbrev Rest : Fml
-  Rest = fsep (ghosts.dealloc_token m.heap (array_of u8 m.count) m.start) (fsep (Words.own_val (to C.the_type m) us) (cell_at full_share (C.the_row).mir us b o))
+  Rest = fsep (chunk (array_of u8 m.count) m.start) (fsep (Words.own_val (to C.the_type m) us) (cell_at full_share (C.the_row).mir us b o))
 
   bytes_out : (xs : List ℕ) → ent 𝓤 (sem 𝓛 (part_at (Array u8 m.count) full_share xs b' o')) (sem 𝓛 (cells (mem u8) xs b' o'))
   bytes_out xs =
