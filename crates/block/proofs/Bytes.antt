@@ -1,7 +1,7 @@
 -- Zeros that stand behind the room that is not written yet.
 use mathlib.Core.Path.{◌≡◌, refl, ap, subst, ◌∙◌}
 use mathlib.Core.List.{List, [], ◌∷◌, ◌++◌}
-use Prim.Native.Nat.{ℕ, zero, suc, ◌+◌}
+use Prim.Native.Nat.{ℕ, suc, ◌+◌}
 use native.Mathlib.Omega.{arith}
 use native.Mathlib.Nat.{add_comm}
 use seplogic.Ra.Ura.{Ura}

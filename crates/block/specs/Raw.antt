@@ -1,7 +1,7 @@
 -- Bytes in memory: what is owned of them, and what is lent.
 use Rattle.std.specs.Prelude.{ℕ, List}
 use Rattle.std.specs.Borrow.{Fml, full_share, u8}
-use Rattle.std.specs.Ptr.{Ptr, lies_at, room_at}
+use Rattle.std.specs.Ptr.{Ptr, lies_at}
 use Rattle.std.specs.Allocator.{array_of}
 use base.Fml.{Lft, fsep}
 use denote.Array.{Array}

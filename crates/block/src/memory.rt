@@ -4,7 +4,7 @@ ghost use Rattle.std.specs.Borrow.{sem};
 ghost use Rattle.block.specs.Raw.{written, unwritten};
 
 use std::alloc::{AllocError, Allocator, Global};
-use std::marker::Model;
+use std::marker::{Model, Send, Sync};
 use std::slice::{from_raw_parts, from_raw_parts_mut};
 
 /// Bytes at an address, and the right to free them. It has no `Drop`: `free` is its only end.
@@ -23,6 +23,12 @@ impl Model for Memory {
 
     ghost also_shares = { λ m _ κ. lent_bytes m.start m.count m.bytes κ };
 }
+
+// The bytes are owned, and the C library's heap frees a block from any thread.
+unsafe impl Send for Memory {}
+
+// A `&` only reads the bytes.
+unsafe impl Sync for Memory {}
 
 impl Memory {
     ghost use Rattle.block.specs.Held.{memory_bytes, LendsMemory};

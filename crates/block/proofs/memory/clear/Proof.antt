@@ -1,29 +1,23 @@
 -- `clear` writes the last byte that is not written yet, until none is left.
-use mathlib.Core.Path.{◌≡◌, refl, sym, subst}
+use mathlib.Core.Path.{◌≡◌, refl}
 use mathlib.Core.List.{List, [], ◌∷◌}
 use mathlib.Core.WellFounded.InvImage
-use Prim.Native.Nat.{ℕ, zero, suc, ◌+◌, ◌-◌, ◌<◌, ◌^◌}
+use Prim.Native.Nat.{ℕ, suc, ◌+◌, ◌-◌, ◌<◌, ◌^◌}
 use native.Mathlib.Omega.{arith}
-use seplogic.Ra.Ura.{Ura}
 use lib.Dec.{lit<, ltb→lt, nltb→le}
 use lib.ListN.{replicate}
 use lib.WfN.{lt-wf_rel}
-use base.Fraction.{full_share}
-use base.Fml.{Fml, ftrue, froom, fat}
-use base.Logic.{SProp, ent, sep, id⊢}
-use mir.Syntax.{Ty, Body, w8, w64, ty_int, ty_array}
-use mir.Val.{Val, vunit, vint, vptr}
-use prog.Model.{Model}
-use prog.Wp.{Env, Out, Wp, WpFn, Tables, at_return, after_seq, after_block, after_turn}
-use types.Logic.{Logic, sem}
-use contract.Running.{Running, tables, tables_of}
-use types.Kit.{Item, Sq, any_q, runs, ‵, raw, ◌⊛◌, at_ret, prop, ◌$◌, ◌∵◌, !, qed, by, move, keep, drop, use1, use2, join, split, rewrite, regoal, feq_i, group, suffices, done}
+use base.Fml.{froom}
+use base.Logic.{SProp, id⊢}
+use mir.Syntax.{w8, w64, ty_int, ty_array}
+use mir.Val.{vunit, vint, vptr}
+use prog.Wp.{Out, Wp, WpFn, at_return, after_seq, after_block, after_turn}
+use contract.Running.{tables, tables_of}
+use types.Kit.{Item, any_q, ‵, raw, ◌⊛◌, at_ret, prop, ◌$◌, ◌∵◌, !, qed, move, drop, use1, use2, join, split, rewrite, regoal, feq_i, group, suffices, done}
 use types.Run.{stop, lit, bin, unit_lit, of_opd, init, assigns_last, first, blocks, skips, jumps, branches, exec, returns, enter, loops, again, Below}
 use types.ByLocal.{alloc_all, pass_all, free_all, look_at, get, through, sets, env, holding, forget_but}
-use denote.Array.{Array}
-use denote.Builtin.{usize, u8}
+use denote.Builtin.{usize}
 use denote.Exit.{yes}
-use denote.Memory.{part_at}
 use denote.Plain.{uint_vals, uint_Tells}
 use denote.RawPtr.{Ptr, RawPtr, block_ptr, ptr_val, in_a_block, rawptr_vals, rawptr_Tells}
 use denote.Signature.{plain}

@@ -1,5 +1,4 @@
 -- A `&` to a memory is made where one to its bytes is: the right to free them stays behind.
-use mathlib.Core.List.{[], ◌++◌}
 use base.Fraction.{full_share}
 use contract.BorrowLft.{⊑_static}
 use denote.Array.{Array, Array-row_laws}

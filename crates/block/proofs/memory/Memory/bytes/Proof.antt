@@ -1,22 +1,21 @@
 -- `bytes` reads the address and the count through the `&`, and lends the bytes that lie there.
-use mathlib.Core.Path.{◌≡◌, refl, sym, ap, subst}
+use mathlib.Core.Path.{refl, ap}
 use mathlib.Core.List.{List, [], ◌∷◌}
-use Prim.Native.Nat.{ℕ, ◌+◌, ◌*◌, ◌<◌, ◌^◌}
+use Prim.Native.Nat.{ℕ, ◌+◌, ◌*◌, ◌^◌}
 use native.Mathlib.Omega.{arith}
 use lib.ListN.{length}
 use seplogic.Ra.Ura.{Ura}
 use base.Logic.{ent, sep}
-use base.Fml.{Lft, Fml, ftrue, fhide, flft}
+use base.Fml.{Lft, ftrue, fhide, flft}
 use mir.Syntax.{named, w64}
-use mir.Val.{Val, vptr}
+use mir.Val.{Val}
 use types.Logic.{Logic, sem}
 use contract.Monad.{fact}
 use contract.Running.{tables}
-use types.Kit.{‵, raw, ◌⊛◌, at_ret, ◌$◌, ◌∵◌, !, qed, move, keep, drop, use1, split, join, fsplit, fjoin, feq_i, flt_i, suffices, frame, group, done}
+use types.Kit.{‵, raw, ◌⊛◌, at_ret, ◌$◌, ◌∵◌, !, qed, move, keep, drop, use1, split, join, fsplit, fjoin, feq_i, flt_i, suffices, group, done}
 use types.Part.{agg}
 use types.Run.{stop, fld, look, load, and_then, no_more, of_opd, first, blocks, exec, returns, enter}
 use types.ByLocal.{alloc_all, pass_all, free_all, look_at, get, through, sets, sets_last, env}
-use denote.Array.{Array}
 use denote.Builtin.{usize, RefOf}
 use denote.Exit.{yes}
 use denote.Memory.{hidden_shr}
@@ -26,7 +25,7 @@ use denote.RattleType.{RattleType}
 use denote.RawPtr.{RawPtr, block_of, count_of, InBlock, ptr_row_laws}
 use denote.Ref.{ShrRef, shr_vals, shr_Tells}
 use denote.Signature.{plain}
-use denote.Slice.{slice_val, elements_shared}
+use denote.Slice.{slice_val}
 use denote.Steps.{heard, nothing}
 use denote.Struct.Lending.{in_block_says, lent_out}
 use denote.Struct.Owning.{shape, to}

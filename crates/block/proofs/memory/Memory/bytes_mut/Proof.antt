@@ -1,15 +1,15 @@
 -- `bytes_mut` opens the borrow of the memory, and lends the bytes on: what is written there is the memory's.
-use mathlib.Core.Path.{◌≡◌, refl, sym, ap, subst, ◌∙◌}
+use mathlib.Core.Path.{◌≡◌, refl, sym, ap, ◌∙◌}
 use mathlib.Core.List.{List, [], ◌∷◌}
-use Prim.Native.Nat.{ℕ, ◌+◌, ◌*◌, ◌<◌, ◌^◌}
+use Prim.Native.Nat.{ℕ}
 use native.Mathlib.Omega.{arith}
 use lib.ListN.{length}
 use seplogic.Ra.Ura.{Ura}
 use base.Fraction.{full_share}
-use base.Logic.{SProp, ent, sep, id⊢}
-use base.Fml.{Lft, GName, Fml, ftrue, fsep, feq, flft}
+use base.Logic.{ent, sep, id⊢}
+use base.Fml.{GName, Fml, ftrue, fsep, feq, flft}
 use mir.Syntax.{named}
-use mir.Val.{Val, vptr}
+use mir.Val.{Val}
 use types.Logic.{Logic, sem}
 use contract.Running.{tables}
 use types.Kit.{‵, raw, ◌⊛◌, some, later, at_ret, ◌$◌, ◌∵◌, !, qed, move, keep, drop, use1, split, split3, join, pick, await, rewrite, fsplit, fsplit3, fjoin, fpack, feq_i, suffices, frame, group, done}
@@ -38,7 +38,7 @@ use denote.Triple.Walked.{Stays, stay_dropped, walk_of, says, ends_at, Goes-spen
 use Rattle.std.proofs.raw_atomic.Walks.{proved}
 use Rattle.std.specs.Allocator.{array_of}
 use Rattle.libc.specs.Heap.{chunk}
-use Rattle.block.specs.Raw.{written, owned_bytes}
+use Rattle.block.specs.Raw.{written}
 use Rattle.block.specs.Bytes.{with_front}
 use Rattle.block.specs.Held.{with_bytes}
 use Rattle.block.proofs.Bytes.{with_front-whole}

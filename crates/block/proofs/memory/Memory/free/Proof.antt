@@ -1,9 +1,8 @@
 -- `free` turns the bytes into room, and hands the room to the allocator with the right to free it.
-use mathlib.Core.Path.{◌≡◌, refl, sym, ap, subst, ◌∙◌}
+use mathlib.Core.Path.{refl, sym, ap, subst, ◌∙◌}
 use mathlib.Core.List.{List, [], ◌∷◌}
-use Prim.Native.Nat.{ℕ, ◌+◌, ◌*◌, ◌<◌, ◌^◌}
+use Prim.Native.Nat.{◌<◌, ◌^◌}
 use native.Mathlib.Omega.{arith}
-use seplogic.Ra.Ura.{Ura}
 use lib.Dec.{T, lit<}
 use base.Logic.{sep, ex, emp, never, id⊢, fst∗}
 use prog.Wp.{WpFn}
@@ -13,12 +12,12 @@ use native.Mathlib.Nat.{mul-one}
 use contract.Monad.{fact, fact_i}
 use Rattle.std.specs.Allocator.{HasLayout}
 use denote.Array.{Array}
-use base.Fml.{Fml, ftrue, fsep, froom, flft}
-use mir.Syntax.{named, w8, w64, ty_int, ty_unit, ty_array}
+use base.Fml.{ftrue, froom, flft}
+use mir.Syntax.{named, w64, ty_unit}
 use mir.Val.{Val, has_ty, WT, vunit, vint, vptr}
-use types.Logic.{Logic, sem}
+use types.Logic.{sem}
 use contract.Running.{tables}
-use types.Kit.{‵, raw, prop, regoal, use0, split3, flt_i, ◌⊛◌, some, later, at_ret, ◌$◌, ◌∵◌, !, qed, move, keep, drop, use1, use2, split, join, pick, await, rewrite, fsplit, fjoin, feq_i, feq_l, suffices, group, done}
+use types.Kit.{‵, raw, prop, regoal, use0, split3, flt_i, ◌⊛◌, some, later, at_ret, ◌$◌, ◌∵◌, !, qed, move, keep, drop, use1, use2, split, join, pick, await, fsplit, fjoin, feq_i, feq_l, suffices, group, done}
 use types.Part.{whole, sub}
 use types.Run.{stop, fld, lit, unit_lit, and_then, no_more, of_opd, first, blocks, exec, returns, enter}
 use types.ByLocal.{alloc_all, pass_all, free_all, look_at, get, get_in, sets, lands_last, env}

@@ -2,16 +2,16 @@
 use mathlib.Core.Path.{◌≡◌, refl, sym, ap, subst, ◌∙◌}
 use mathlib.Core.Bool.{true, false}
 use mathlib.Core.List.{List, [], ◌∷◌}
-use Prim.Native.Nat.{ℕ, ◌*◌, ◌<◌, ◌^◌}
+use Prim.Native.Nat.{ℕ, ◌<◌, ◌^◌}
 use native.Mathlib.Nat.{mul-one}
 use native.Mathlib.Omega.{arith}
 use lib.Dec.{T, lit<}
 use lib.ListN.{replicate, length-replicate}
 use seplogic.Ra.Ura.{Ura}
-use base.Logic.{SProp, ent, emp, never, id⊢, fst∗}
-use base.Fml.{Fml, ftrue, fsep, froom, flft}
+use base.Logic.{ent, emp, never, id⊢, fst∗}
+use base.Fml.{ftrue, flft}
 use mir.Syntax.{Ty, named, w64, ty_unit}
-use mir.Val.{Val, vunit, vint, vptr, vstruct, vcons, vnil, of_list, has_ty, WT}
+use mir.Val.{Val, vint, vptr, vstruct, vnil, of_list, has_ty, WT}
 use prog.Capped.{capped_is}
 use prog.Memory.{capped}
 use prog.Wp.{Wp, after_seq, at_return}
