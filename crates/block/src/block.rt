@@ -2,13 +2,14 @@ ghost use Rattle.std.specs.Prelude.{◌≡◌, ◌+◌, ◌*◌, ◌/◌, ◌%�
 ghost use Rattle.std.specs.Borrow.{sem};
 ghost use Rattle.block.specs.Bytes.{word_at, with_word};
 
+use crate::memory::Memory;
 use std::alloc::{AllocError, Global};
 use std::marker::Model;
 
 /// A run of bytes of a fixed length, a multiple of eight.
-#[derive(Drop)]
 pub struct Block {
-    bytes: Vec<u8>,
+    memory: Memory,
+    heap: Global,
 }
 
 impl Model for Block {
@@ -16,9 +17,16 @@ impl Model for Block {
 
     ghost Value = { List ℕ };
 
-    ghost view = { λ b. b.bytes.items };
+    ghost view = { λ b. b.memory.bytes };
 
-    ghost invariant = { λ b. length b.bytes.items % 8 ≡ 0 };
+    ghost invariant = { λ b. length b.memory.bytes % 8 ≡ 0 };
+}
+
+impl Drop for Block {
+    fn drop(self) {
+        let Block { memory, heap } = self;
+        memory.free(&heap);
+    }
 }
 
 impl Block {
@@ -29,8 +37,13 @@ impl Block {
         requires { length % 8 ≡ 0 }
         ensures { IfOk result (λ b. b ≡ replicate length 0) }
     {
+        if length > isize::MAX as usize {
+            return Err(AllocError);
+        }
+        let memory = Memory::zeroed(&alloc, length)?;
         Ok(Block {
-            bytes: vec![in alloc; 0; length]?,
+            memory,
+            heap: alloc,
         })
     }
 
@@ -40,21 +53,21 @@ impl Block {
         ensures whole { length self.now % 8 ≡ 0 }
         ensures small { result < 2 ^ 63 }
     {
-        self.bytes.len()
+        self.memory.bytes().len()
     }
 
     /// Whether it has no byte.
     pub fn is_empty(&self) -> bool
         ensures { IsTrue result ↔ (self.now ≡ []) }
     {
-        self.bytes.is_empty()
+        self.memory.bytes().is_empty()
     }
 
     /// The bytes.
     pub fn bytes(&self) -> &[u8]
         ensures { result.now ≡ self.now }
     {
-        self.bytes.as_slice()
+        self.memory.bytes()
     }
 
     /// The bytes, to be written.
@@ -62,7 +75,7 @@ impl Block {
         ensures* writes_back { sem 𝓛 (LendsBytes self.entry result) }
         ensures value { result.now ≡ self.old }
     {
-        self.bytes.as_mut_slice()
+        self.memory.bytes_mut()
     }
 
     /// The word of the eight bytes from `8 * index` on.
@@ -70,7 +83,7 @@ impl Block {
         requires { index < length self.now / 8 }
         ensures { result ≡ word_at self.now index }
     {
-        let bytes = self.bytes.as_slice();
+        let bytes = self.memory.bytes();
         let at = 8 * index;
         u64::from_le_bytes([
             bytes[at],
@@ -90,7 +103,7 @@ impl Block {
         ensures stored { self.new ≡ with_word self.old index word }
         ensures same_length { length self.new ≡ length self.old }
     {
-        let bytes = self.bytes.as_mut_slice();
+        let bytes = self.memory.bytes_mut();
         let at = 8 * index;
         bytes[at..at + 8].copy_from_slice(&word.to_le_bytes());
     }

@@ -4,6 +4,7 @@
 #![tactic(auto)]
 
 mod block;
+mod memory;
 
 pub use block::Block;
 
