@@ -45,11 +45,11 @@ given_next old mid new all before between after i b h found packets lines =
     record {
       packets = packets ∙ ap (λ xs. xs ++ b ∷ []) h.packets ∙ append_assoc old (take i all) (b ∷ []) ∙ ap (λ xs. old ++ xs) (sym more);
       lines =
-        lines
-        ∙ ap (λ ls. ls ++ Packet (length mid) b ∷ []) h.lines
-        ∙ append_assoc before (packet_lines (length old) (take i all)) (Packet (length mid) b ∷ [])
-        ∙ ap (λ n. before ++ (packet_lines (length old) (take i all) ++ Packet n b ∷ [])) long
-        ∙ ap (λ ls. before ++ ls) (sym (lines_snoc (length old) (take i all) b) ∙ ap (packet_lines (length old)) (sym more));
+          lines
+          ∙ ap (λ ls. ls ++ Packet (length mid) b ∷ []) h.lines
+          ∙ append_assoc before (packet_lines (length old) (take i all)) (Packet (length mid) b ∷ [])
+          ∙ ap (λ n. before ++ (packet_lines (length old) (take i all) ++ Packet n b ∷ [])) long
+          ∙ ap (λ ls. before ++ ls) (sym (lines_snoc (length old) (take i all) b) ∙ ap (packet_lines (length old)) (sym more));
     }
 
 pub given_nothing : (old new all : List (List ℕ)) (before after : List Print) (i : ℕ) → i < length all → slice_get all i ≡ None → Given old new all before after (i + 1)

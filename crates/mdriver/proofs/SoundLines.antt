@@ -213,8 +213,7 @@ small n h = record { sfits = omega (arith, h) }
 setup_framed : (i : Identity) (p : ℕ) → IsGeometry i.geometry → IsIdentity i → IsFrame (setup_at i p)
 setup_framed i p legal is =
     let g = i.geometry in
-    let offset : (place_of g p).offset ≤ g.term_length = offset_low g p (omega (arith, legal.term.least)) in
-    (
+    let offset : (place_of g p).offset ≤ g.term_length = offset_low g p (omega (arith, legal.term.least)) in (
       small (place_of g p).offset (omega (arith, offset, legal.term.greatest)),
       is.session,
       is.stream,

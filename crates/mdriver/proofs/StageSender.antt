@@ -144,9 +144,9 @@ reply_news old new s k now bytes (Says f) answer t sent before after h same pack
     let clock : seen old.sender.clock now ≡ clock_at s now = ap (λ c. seen c now) h.sender.clock in
     let x = heard s now f in
     let flow : t.flow ≡ limit_of s.log x =
-        ap (λ y. y.flow) hears.0
-        ∙ ap (λ i. max (clipped (position_of i.geometry f.term_id f.term_offset +ℤ f.window)) old.sender.flow) identity
-        ∙ ap (λ n. max (clipped (position_of s.log.identity.geometry f.term_id f.term_offset +ℤ f.window)) n) h.sender.flow in
+    ap (λ y. y.flow) hears.0
+    ∙ ap (λ i. max (clipped (position_of i.geometry f.term_id f.term_offset +ℤ f.window)) old.sender.flow) identity
+    ∙ ap (λ n. max (clipped (position_of s.log.identity.geometry f.term_id f.term_offset +ℤ f.window)) n) h.sender.flow in
     let naming = record s.naming { heard = true } in
     record {
       lines = OfSender (answers.Status (pos (limit_of s.log x))) ∷ [];
