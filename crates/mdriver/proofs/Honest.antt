@@ -1,13 +1,13 @@
 -- Packets that the sender and the receivers gave out.
-use Rattle.std.proofs.Common.{◌≡◌, ℕ, ◌<◌, ◌≤◌, List, [], ◌∷◌, ◌++◌, map, Bool, true, false, Option, None, Some, inl, inr, refl, sym, ap, ◌∙◌, subst, append-nil}
-use Rattle.std.specs.List.{AllByRecursion, flat_map}
+use Rattle.std.proofs.Common.{◌≡◌, ℕ, List, [], ◌∷◌, map, Bool, true, false, Option, None, Some, inl, inr, refl, sym, ◌∙◌, subst, append-nil}
+use Rattle.std.specs.List.{AllByRecursion}
 use Rattle.theory.specs.Wire.{Header, Wire, DATA, PAD, HEARTBEAT, NAK, SM, SETUP, IsFrame, SpellsDatagram, StandTogether, spelling}
 use Rattle.theory.specs.Placed.{Among, Data, Pad, Frame, Placed}
 use Rattle.theory.specs.Bytes.{Identity, wire_at}
 use Rattle.std.proofs.Common.{cond}
 use Rattle.std.specs.Option.{option_to_list}
 use Rattle.theory.specs.Consumer.{least_of}
-use Rattle.theory.specs.Control.{MayBeGiven, asking_at, setup_at, status_at}
+use Rattle.theory.specs.Control.{MayBeGiven, asking_at, status_at}
 use Rattle.theory.specs.Laws.{HasOneReading}
 use Rattle.theory.specs.Sender.{Sender}
 use Rattle.theory.proofs.Lists.{all_append, all_weaker}

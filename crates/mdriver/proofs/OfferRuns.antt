@@ -1,14 +1,14 @@
 -- An offer as events of the log: a publisher is armed, adds one entry, and commits its frame.
-use Rattle.std.proofs.Common.{◌≡◌, ℕ, zero, suc, ◌+◌, ◌-◌, ◌*◌, ◌/◌, ◌%◌, ◌^◌, ◌<◌, ◌≤◌, inl, inr, List, [], ◌∷◌, ◌++◌, map, length, Bool, true, false, cond, not, Option, None, Some, refl, sym, ap, ◌∙◌, subst, arith, append-nil}
-use Rattle.std.specs.Prelude.{nat_eq, nat_le, ◌&&◌, replicate, slice_get, slice_set, Result, Ok, Err}
-use Rattle.std.specs.List.{AllByRecursion, filter, flat_map}
-use Rattle.std.proofs.lemmas.Bool.{cases_Bool, cond-true, cond-false, eq-eqb, le-leb, leb-true, leb-false, ne_eqb, not_from_true}
+use Rattle.std.proofs.Common.{◌≡◌, ℕ, zero, suc, ◌+◌, ◌-◌, ◌*◌, ◌/◌, ◌%◌, ◌^◌, ◌<◌, ◌≤◌, inl, List, [], ◌∷◌, ◌++◌, map, length, Bool, true, false, cond, not, Some, refl, sym, ap, ◌∙◌, arith, append-nil}
+use Rattle.std.specs.Prelude.{nat_eq, nat_le, ◌&&◌, replicate, slice_get, slice_set, Ok, Err}
+use Rattle.std.specs.List.{AllByRecursion, filter}
+use Rattle.std.proofs.lemmas.Bool.{cond-true, cond-false, eq-eqb, le-leb, leb-true, leb-false, ne_eqb, not_from_true}
 use Rattle.std.proofs.lemmas.List.{map-append}
 use Rattle.std.proofs.lemmas.List.Elements.{filter-append}
-use Rattle.std.proofs.Math.Nat.{div-mul-le_self, div-lt_iff_lt-mul, mul-le-mul_right, lt-div-mul-add}
+use Rattle.std.proofs.Math.Nat.{div-mul-le_self, div-lt_iff_lt-mul, mul-le-mul_right}
 use Rattle.std.proofs.lemmas.Nat.{mod-mul-add}
 use Rattle.theory.specs.Position.{Geometry, IsGeometry, aligned, cuts_of, max_message, max_payload, max_position, span}
-use Rattle.theory.specs.Placed.{Among, Data, Frame}
+use Rattle.theory.specs.Placed.{Data, Frame}
 use Rattle.theory.specs.Entry.{Entry, IsEntry, entry_end}
 use Rattle.theory.specs.Tiling.{Tiles}
 use Rattle.theory.specs.Messages.{is_between, message_of, messages}
@@ -17,7 +17,6 @@ use Rattle.theory.specs.Log.{Add, Arm, Commit, LogEvent, LogStep, MayCommit, ent
 use Rattle.theory.specs.World.{World, AtLog}
 use Rattle.theory.proofs.Lists.{among_right}
 use Rattle.log_buffer.specs.Log.{Log, claim_of, published, term_end, with_message}
-use Rattle.log_buffer.specs.Log as text
 use Rattle.log_buffer.specs.Offers.{answer_of, limited}
 use Rattle.log_buffer.specs.declared.fault.Refusal.{Refusal}
 use Rattle.log_buffer.specs.declared.fault.Refusal.TheVariants.{AdminAction, Closed}

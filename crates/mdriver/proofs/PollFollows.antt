@@ -1,23 +1,21 @@
 -- A poll goes on with the world, and gives what its line prints.
-use Rattle.std.proofs.Common.{◌≡◌, ℕ, ◌<◌, ◌≤◌, List, [], ◌∷◌, ◌++◌, map, Bool, true, false, Option, None, Some, inl, inr, ⊎_elim, refl, sym, ap, ◌∙◌, subst, arith, append-nil}
-use Rattle.std.specs.Prelude.{slice_get, slice_set}
+use Rattle.std.proofs.Common.{◌≡◌, ℕ, ◌≤◌, List, [], ◌∷◌, ◌++◌, Bool, true, false, Option, None, Some, inl, inr, refl, sym, ap, ◌∙◌, subst, arith}
+use Rattle.std.specs.Prelude.{slice_set}
 use Rattle.std.specs.Option.{option_map}
-use Rattle.std.specs.List.{AllByRecursion}
 use Rattle.theory.specs.Placed.{AllAmong, Among, Chain, Placed, end_of}
-use Rattle.theory.specs.Bytes.{Identity}
-use Rattle.theory.specs.Consumer.{Consumer, MayMove, moved, passed_by}
+use Rattle.theory.specs.Consumer.{Consumer, moved, passed_by}
 use Rattle.theory.specs.Image.{Image, Lose}
 use Rattle.theory.specs.World.{World, AtImage}
 use Rattle.theory.proofs.Lists.{all_at, all_from, among_left, among_right}
 use Rattle.theory.proofs.Messages.{chain_le}
 use Rattle.mdriver.specs.Answers.{with_receiver}
-use Rattle.mdriver.specs.Polling.{PollsFault, PollsImage, PollsMessage, PollsNothing, PollsOf, PollsOn, PollsWhole, Polls, Reads, gives, moved_all, passed_all, with_consumer}
-use Rattle.mdriver.specs.Prints.{Print, Message, NoMessage, Unassembled, Bad}
+use Rattle.mdriver.specs.Polling.{PollsFault, PollsImage, PollsOf, PollsOn, PollsWhole, Polls, Reads, gives, moved_all}
+use Rattle.mdriver.specs.Prints.{Print, Message, NoMessage, Unassembled}
 use Rattle.mdriver.specs.Published.{is_fault, messages_in}
 use Rattle.mdriver.specs.Receiving.{Opened, Receiver}
 use Rattle.mdriver.specs.Scene.{Scene, image_of, world_of}
-use Rattle.mdriver.proofs.PollRuns.{MovedPast, Stands, loses_one, moved_past, moves, passed_join, passes, stands_after, with_one}
-use Rattle.mdriver.proofs.ReceiverRuns.{At, Follows, FollowsImage, HasImage, IsFollowed, set_image, unchanged}
+use Rattle.mdriver.proofs.PollRuns.{Stands, loses_one, moved_past, moves, passed_join, passes, stands_after, with_one}
+use Rattle.mdriver.proofs.ReceiverRuns.{At, Follows, FollowsImage, IsFollowed, set_image, unchanged}
 use Rattle.mdriver.proofs.Runs.{Goes, goes_on, goes_one, image_again, with_image}
 
 -- ---- chains

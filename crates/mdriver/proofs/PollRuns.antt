@@ -1,11 +1,11 @@
 -- A poll as events of its image.
-use Rattle.std.proofs.Common.{◌≡◌, ℕ, ◌<◌, ◌≤◌, List, [], ◌∷◌, ◌++◌, map, true, false, Option, None, Some, refl, sym, ap, ◌∙◌, subst, arith, append_assoc, append-nil}
+use Rattle.std.proofs.Common.{◌≡◌, ℕ, List, [], ◌∷◌, ◌++◌, map, true, false, Option, Some, refl, sym, ap, ◌∙◌, subst, append_assoc, append-nil}
 use Rattle.std.specs.Prelude.{slice_get, slice_set}
 use Rattle.std.specs.Option.{option_to_list}
-use Rattle.theory.specs.Placed.{AllAmong, Chain, Frame, Data, Pad, Placed, end_of}
-use Rattle.theory.specs.Assembly.{Assembly, after, after_all, on_frame}
+use Rattle.theory.specs.Placed.{AllAmong, Chain, Frame, Data, Pad, Placed}
+use Rattle.theory.specs.Assembly.{after_all, on_frame}
 use Rattle.theory.specs.Consumer.{Consumer, MayMove, moved, passed_by}
-use Rattle.theory.specs.Image.{Image, Poll, Lose, ImageStep}
+use Rattle.theory.specs.Image.{Image, Poll, Lose}
 use Rattle.theory.specs.World.{World, AtImage, Step}
 use Rattle.mdriver.specs.Polling.{moved_all, passed_all, gives}
 use Rattle.mdriver.proofs.Runs.{Goes, stays, goes_one, goes_on, with_image, image_kept, image_there, image_again}

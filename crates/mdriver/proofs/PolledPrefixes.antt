@@ -1,11 +1,10 @@
 -- After each line of a script, what was polled is what was published.
-use Rattle.std.proofs.Common.{◌≡◌, ◌⊎◌, ℕ, zero, suc, ◌+◌, ◌*◌, ◌/◌, ◌<◌, ◌≤◌, List, [], ◌∷◌, ◌++◌, map, Option, None, Some, inl, inr, refl, sym, ap, ◌∙◌, subst, arith, append-nil, append_assoc}
+use Rattle.std.proofs.Common.{◌≡◌, ◌⊎◌, ℕ, zero, suc, ◌<◌, List, [], ◌∷◌, ◌++◌, map, Option, None, Some, inl, inr, refl, sym, ap, ◌∙◌, subst, arith, append-nil, append_assoc}
 use Rattle.std.specs.Prelude.{slice_get}
 use Rattle.std.specs.List.{AllByRecursion}
 use Rattle.std.specs.Option.{option_map}
 use Rattle.std.proofs.Math.Nat.{lt-div-mul-add}
-use Rattle.theory.specs.Position.{IsGeometry}
-use Rattle.theory.specs.Bytes.{Identity, IsIdentity}
+use Rattle.theory.specs.Bytes.{Identity}
 use Rattle.theory.specs.Consumer.{Consumer, least_of}
 use Rattle.theory.specs.Headline.{HasPolled}
 use Rattle.theory.specs.Messages.{messages}
@@ -13,15 +12,15 @@ use Rattle.theory.proofs.Lists.{each_get}
 use Rattle.script.specs.Meaning as orders
 use Rattle.script.specs.Meaning.{Order}
 use Rattle.mdriver.specs.Answers.{Answers}
-use Rattle.mdriver.specs.Plays.{AlwaysPolled, AnswersAll, IsStart, geometry_of, identity_of}
+use Rattle.mdriver.specs.Plays.{AlwaysPolled, AnswersAll, identity_of}
 use Rattle.mdriver.specs.Polling.{TellsOf}
-use Rattle.mdriver.specs.Prints.{Print, Positions, Bad}
-use Rattle.mdriver.specs.Published.{AllWhole, LastTold, Played, PolledNothing, PolledPrefix, PolledTo, between, joins, polled, published}
+use Rattle.mdriver.specs.Prints.{Print, Positions}
+use Rattle.mdriver.specs.Published.{AllWhole, LastTold, Played, PolledNothing, PolledPrefix, PolledTo, joins, polled}
 use Rattle.mdriver.specs.Receiving.{Opened, Receiver}
 use Rattle.mdriver.specs.Scene.{Scene, image_of, listening_at, opened_scene, world_of}
-use Rattle.mdriver.proofs.ReceiverRuns.{Follows, FollowsImage, IsFollowed}
+use Rattle.mdriver.proofs.ReceiverRuns.{FollowsImage, IsFollowed}
 use Rattle.mdriver.proofs.Runs.{map_get, stays}
-use Rattle.mdriver.proofs.Sound.{Begins, HasFollowed, IsSound, Laws, and_line, opened}
+use Rattle.mdriver.proofs.Sound.{Begins, IsSound, Laws, and_line, opened}
 use Rattle.mdriver.proofs.SoundLines.{connect_line, limit_line, offer_line, reply_line, send_line}
 use Rattle.mdriver.proofs.SoundReceivers.{deliver_line, image_line, poll_line, tick_line}
 

@@ -1,21 +1,21 @@
 -- A frame that meets a receiver as an event of its image.
-use Rattle.std.proofs.Common.{◌≡◌, ℕ, ◌+◌, ◌*◌, ◌^◌, ◌<◌, ◌≤◌, List, [], ◌∷◌, ◌++◌, map, length, Bool, true, false, cond, Option, None, Some, inl, inr, ⊎_elim, refl, sym, ap, ◌∙◌, subst, arith, append-nil}
+use Rattle.std.proofs.Common.{◌≡◌, ℕ, ◌+◌, ◌*◌, ◌≤◌, List, [], ◌∷◌, ◌++◌, map, true, false, Option, None, Some, inl, inr, ⊎_elim, refl, sym, ap, ◌∙◌, subst, arith, append-nil}
 use Rattle.std.specs.Prelude.{replicate, slice_get, slice_set, ℤ, pos, negsuc, ◌+ℤ◌, ◌*ℤ◌}
 use Rattle.std.specs.Option.{option_map}
 use Rattle.std.specs.List.{AllByRecursion}
 use Rattle.std.proofs.lemmas.Bool.{cases_Bool, cond-true, cond-false}
-use Rattle.theory.specs.Position.{Geometry, IsGeometry, NamesPlace, count_of, id_of, max_position, place_of, position_of}
+use Rattle.theory.specs.Position.{Geometry, IsGeometry, NamesPlace, count_of, id_of, max_position, place_of}
 use Rattle.theory.specs.Wire.{Header, Wire, DATA, PAD, HEARTBEAT, NAK, SM, SETUP, Setup}
-use Rattle.theory.specs.Placed.{Among, Data, Pad, Frame, Placed, end_of}
+use Rattle.theory.specs.Placed.{Among, Data, Pad, Frame, Placed}
 use Rattle.theory.specs.Bytes.{Identity, header_at, wire_at}
 use Rattle.theory.specs.Consumer.{Consumer, consumer_at, least_of}
-use Rattle.theory.specs.Control.{MayBeGiven, named_by, setup_at, setup_fields}
+use Rattle.theory.specs.Control.{MayBeGiven, named_by, setup_fields}
 use Rattle.theory.specs.Image.{Image, ImageEvent, ImageStep, Inserted, Heartbeat, IsLeast, IsWindow, after_heartbeat, after_insert, image_at, is_accepted}
 use Rattle.theory.specs.Insert as meaning
 use Rattle.theory.specs.Insert.{Insert, head_of, insert_answer}
 use Rattle.theory.specs.Laws.{HeaderNamesPlace}
-use Rattle.theory.specs.Setup.{NamesGeometry, NamesPosition, OpensAt}
-use Rattle.theory.specs.World.{World, AtImage, Open}
+use Rattle.theory.specs.Setup.{NamesGeometry, NamesPosition}
+use Rattle.theory.specs.World.{AtImage, Open}
 use Rattle.theory.proofs.Lists.{all_at}
 use Rattle.mdriver.specs.declared.receiver.Outcome.{Outcome}
 use Rattle.mdriver.specs.declared.receiver.Outcome.TheVariants.{Asked}

@@ -1,8 +1,8 @@
 -- Runs of the world one after the other, and lists of seats.
-use Rattle.std.proofs.Common.{◌≡◌, ℕ, zero, suc, ◌<◌, List, [], ◌∷◌, ◌++◌, map, Option, None, Some, refl, sym, ap, ◌∙◌, subst, arith}
+use Rattle.std.proofs.Common.{◌≡◌, ℕ, zero, suc, List, [], ◌∷◌, ◌++◌, map, Some, refl, sym, ap, subst}
 use Rattle.std.specs.Prelude.{slice_get, slice_set}
-use Rattle.theory.specs.Image.{Image, ImageEvent}
-use Rattle.theory.specs.World.{World, Event, AtImage, Step, Run}
+use Rattle.theory.specs.Image.{Image}
+use Rattle.theory.specs.World.{World, Event, Step, Run}
 
 pub run_append : (a b c : World) (es fs : List Event) → Run a es b → Run b fs c → Run a (es ++ fs) c
 run_append a b c [] fs h k = subst (λ w. Run w fs c) h k

@@ -1,8 +1,7 @@
 -- A sender's cycle, and what it is told, as its events.
-use Rattle.std.proofs.Common.{◌≡◌, ℕ, ◌+◌, ◌*◌, ◌/◌, ◌%◌, ◌<◌, ◌≤◌, List, [], ◌∷◌, ◌++◌, Bool, true, false, cond, Option, None, Some, refl, sym, ap, ◌∙◌, subst, arith}
+use Rattle.std.proofs.Common.{◌≡◌, ℕ, ◌+◌, ◌*◌, ◌/◌, ◌%◌, ◌<◌, ◌≤◌, [], ◌∷◌, Bool, true, false, Option, None, Some, refl, sym, ap, ◌∙◌, subst, arith}
 use Rattle.std.specs.Prelude.{max, not, ◌&&◌}
-use Rattle.std.specs.List.{AllByRecursion}
-use Rattle.std.proofs.lemmas.Bool.{and_parts, cases_Bool, cond-true, cond-false}
+use Rattle.std.proofs.lemmas.Bool.{and_parts, cond-true, cond-false}
 use Rattle.theory.specs.Placed.{Placed, end_of}
 use Rattle.theory.specs.Entry.{committed}
 use Rattle.theory.specs.FlowLimit.{flow_limit}
@@ -10,14 +9,14 @@ use Rattle.theory.specs.Datagrams.{sent_end}
 use Rattle.theory.specs.Position.{position_of}
 use Rattle.theory.specs.Wire.{Status}
 use Rattle.std.proofs.Math.Nat.{div-mul-le_self}
-use Rattle.theory.specs.Log.{LogEvent, LogStep, Raise, Connect}
+use Rattle.theory.specs.Log.{Raise, Connect}
 use Rattle.theory.specs.Sender.{Sender, SenderEvent, SenderStep, See, Send, SendSetup, HearStatus}
 use Rattle.theory.specs.World.{World, AtLog, AtSender}
 use Rattle.log_buffer.specs.Limits.{least, raised}
 use Rattle.log_buffer.specs.Log.{Log, term_end}
-use Rattle.mdriver.specs.Answers.{IsCycle, after_cycle, clock_at, cycled, heard, limit_of, named, sent_on, with_log, woken}
+use Rattle.mdriver.specs.Answers.{IsCycle, after_cycle, heard, limit_of, named, sent_on, with_log, woken}
 use Rattle.mdriver.specs.Cycling.{Cycle, IsNextSent}
-use Rattle.mdriver.specs.Scene.{Scene, stream_of, world_of}
+use Rattle.mdriver.specs.Scene.{Scene, world_of}
 use Rattle.mdriver.proofs.Runs.{Goes, goes_one, goes_on, stays}
 
 -- the world with another sender

@@ -1,11 +1,9 @@
 -- What holds of the scene after each line of a script.
-use Rattle.std.proofs.Common.{◌≡◌, ℕ, ◌+◌, ◌*◌, ◌/◌, ◌%◌, ◌^◌, ◌<◌, ◌≤◌, List, [], ◌∷◌, ◌++◌, map, length, Bool, true, false, cond, Option, None, Some, inl, inr, ⊎_elim, refl, sym, ap, ◌∙◌, subst, arith, append-nil}
-use Rattle.std.specs.Prelude.{nat_eq, slice_get, slice_set, Result, Ok, Err}
-use Rattle.std.specs.List.{AllByRecursion, flat_map}
-use Rattle.std.proofs.lemmas.Bool.{cases_Bool, cases_eq, cond-true, cond-false, eq-eqb, ne_eqb}
+use Rattle.std.proofs.Common.{◌≡◌, ℕ, ◌%◌, ◌<◌, ◌≤◌, List, [], ◌∷◌, ◌++◌, length, Option, None, Some, ⊎_elim, refl, sym, ap, ◌∙◌, subst, arith, append-nil}
+use Rattle.std.specs.Prelude.{slice_get, slice_set}
+use Rattle.std.proofs.lemmas.Bool.{cases_eq}
 use Rattle.std.proofs.lemmas.Grind.{flat_map-append}
 use Rattle.theory.specs.Position.{IsGeometry, max_position}
-use Rattle.theory.specs.Placed.{Placed, end_of}
 use Rattle.theory.specs.Entry.{IsEntry}
 use Rattle.std.specs.Option.{option_map}
 use Rattle.mdriver.specs.Prints.{Print}
@@ -13,21 +11,17 @@ use Rattle.theory.specs.Bytes.{Identity, IsIdentity}
 use Rattle.theory.specs.Headline.{Always, IsTiled, IsBounded, IsPrefixPolled, ArePublished, AreSpelled, IsPublished}
 use Rattle.theory.specs.Laws.{HasOneReading}
 use Rattle.theory.specs.Messages.{messages}
-use Rattle.theory.specs.Sender.{Sender}
-use Rattle.theory.specs.Wire.{Wire}
-use Rattle.theory.specs.World.{World, IsOpened}
-use Rattle.theory.proofs.Lists.{all_append, all_get, all_weaker}
+use Rattle.theory.specs.World.{IsOpened}
+use Rattle.theory.proofs.Lists.{all_weaker}
 use Rattle.log_buffer.specs.Log.{Log, term_end}
 use Rattle.script.specs.Meaning.{Order}
-use Rattle.mdriver.specs.Answers.{with_log, with_receiver}
 use Rattle.mdriver.specs.Published.{AllWhole, IsWhole, Played, between, joined_by, joins, polled, polled_by, published, published_by}
 use Rattle.mdriver.specs.Receiving.{Opened, Receiver}
 use Rattle.mdriver.specs.Scene.{Scene, image_of, opened_scene, world_of}
 use Rattle.mdriver.proofs.Honest.{AreHonest}
 use Rattle.mdriver.proofs.OfferRuns.{LogHolds, in_stream}
-use Rattle.mdriver.proofs.ReceiverRuns.{At, Follows, FollowsImage, HasImage, IsFollowed, IsSending, Places}
-use Rattle.mdriver.proofs.Runs.{Goes, goes_on, get_set, get_other, map_get}
-use Rattle.mdriver.proofs.SenderRuns.{SenderHolds}
+use Rattle.mdriver.proofs.ReceiverRuns.{At, Follows, FollowsImage, IsSending, Places}
+use Rattle.mdriver.proofs.Runs.{Goes, get_set, get_other, map_get}
 
 -- the laws that the crates below hand over
 pub record Laws : Type 0 where

@@ -1,47 +1,40 @@
 -- Each line of a script leaves a sound scene.
-use Rattle.std.proofs.Common.{◌≡◌, ◌⊎◌, ℕ, ◌+◌, ◌*◌, ◌/◌, ◌%◌, ◌^◌, ◌<◌, ◌≤◌, List, [], ◌∷◌, ◌++◌, map, length, Bool, true, false, cond, Option, None, Some, inl, inr, ⊎_elim, refl, sym, ap, ◌∙◌, subst, arith, append-nil}
-use Rattle.std.specs.Prelude.{nat_eq, slice_get, slice_set, Result, Ok, Err}
+use Rattle.std.proofs.Common.{◌≡◌, ◌⊎◌, ℕ, ◌+◌, ◌/◌, ◌%◌, ◌^◌, ◌<◌, ◌≤◌, List, [], ◌∷◌, ◌++◌, map, length, Bool, true, false, Option, None, Some, inl, inr, ⊎_elim, refl, sym, ap, ◌∙◌, subst, arith, append-nil}
+use Rattle.std.specs.Prelude.{Result, Ok, Err}
 use Rattle.std.specs.Option.{option_to_list}
-use Rattle.std.specs.List.{AllByRecursion, flat_map}
-use Rattle.std.proofs.lemmas.Bool.{cases_Bool, cases_eq, cond-true, cond-false, eq-eqb, ne_eqb}
-use Rattle.std.specs.Prelude.{nat_le, pos, ℤ, FitsSigned}
+use Rattle.std.specs.List.{AllByRecursion}
+use Rattle.std.proofs.lemmas.Bool.{cases_Bool, cond-true, cond-false}
+use Rattle.std.specs.Prelude.{nat_le, pos, FitsSigned}
 use Rattle.std.specs.Int.{w32, cast_unsigned}
 use mir.ValLaws.{to_z-Fits}
 use Rattle.std.proofs.Math.Nat.{mod-lt}
-use Rattle.theory.specs.Position.{Geometry, IsGeometry, aligned, Place, max_position, place_of}
-use Rattle.theory.specs.Placed.{Among, Placed, end_of, frame_length}
+use Rattle.theory.specs.Position.{Geometry, IsGeometry, Place, max_position, place_of}
+use Rattle.theory.specs.Placed.{Among, Placed}
 use Rattle.theory.specs.Entry.{Entry, committed}
 use Rattle.theory.specs.Bytes.{Identity, IsIdentity, wire_at}
 use Rattle.theory.specs.Control.{MayBeGiven, setup_at}
 use Rattle.theory.specs.Messages.{messages}
 use Rattle.theory.specs.Sender.{Sender}
-use Rattle.theory.specs.Wire.{IsFrame, Wire, SpellsDatagram}
-use Rattle.theory.specs.World.{World}
-use Rattle.theory.proofs.Lists.{all_append, all_get}
+use Rattle.theory.specs.Wire.{IsFrame, Wire}
+use Rattle.theory.proofs.Lists.{all_append}
 use Rattle.log_buffer.specs.Limits.{raised}
-use Rattle.log_buffer.specs.Log.{Log, published, term_end, with_message}
+use Rattle.log_buffer.specs.Log.{published, with_message}
 use Rattle.log_buffer.specs.Offers.{answer_of}
 use Rattle.log_buffer.specs.declared.fault.Refusal.{Refusal}
 use Rattle.script.specs.Meaning as orders
 use Rattle.script.specs.Meaning.{Order}
-use Rattle.mdriver.specs.declared.receiver.Outcome.{Outcome}
-use Rattle.mdriver.specs.declared.receiver.Outcome.TheVariants as outcomes
-use Rattle.mdriver.specs.Answers.{AreFrames, Delivered, IsCycle, IsMissing, IsTooLong, MayOffer, Offered, PollsBy, Replied, SenderHears, Sends, TellsBy, Ticks, after_cycle, clock_at, cycled, given_out, heard, limit_of, lines_of, named, or_nothing, sent_on, wires_of, with_log, with_receiver, with_sender, woken}
+use Rattle.mdriver.specs.Answers.{AreFrames, IsCycle, IsMissing, IsTooLong, MayOffer, Offered, Replied, SenderHears, Sends, after_cycle, clock_at, cycled, given_out, heard, limit_of, named, sent_on, wires_of, with_log, with_sender, woken}
 use Rattle.setup.specs.Naming.{Naming, after_due}
-use Rattle.mdriver.specs.Cycling.{AsksSetup, Cycle, IsNextSent, News, Says, TellsNothing, Unreadable, datagrams, sent_wires, setups}
-use Rattle.mdriver.specs.Polling.{Polls}
-use Rattle.mdriver.specs.Prints.{Print, OfReceiver, OfSender, Position, Bad, Refused}
+use Rattle.mdriver.specs.Cycling.{AsksSetup, Cycle, IsNextSent, News, Says, TellsNothing, Unreadable, datagrams, setups}
+use Rattle.mdriver.specs.Prints.{Print, Position}
 use Rattle.mdriver.specs.Published as visible
 use Rattle.mdriver.specs.Published.{AllWhole, IsWhole, Played, between, is_fault, joined_by, joins, joins_in, joins_of, messages_in, placed_at, polled, polled_by, published_by}
-use Rattle.mdriver.specs.Receiving.{Hears, Meets, MeetsAll, Receiver, at_moment, replies, ticked}
-use Rattle.mdriver.specs.Scene.{Scene, image_of, opened_scene, world_of}
-use Rattle.mdriver.proofs.Honest.{AreHonest, IsHonest, cycle_given, honest_more, honest_wires, named_more, one_frame, replies_given, sent_more}
-use Rattle.mdriver.proofs.OfferRuns.{IsAccepted, accepted, between_more, messages_more, offers, one_more}
-use Rattle.mdriver.proofs.PollFollows.{PollMet, StillWhole, polls_met}
-use Rattle.mdriver.proofs.ReceiverRuns.{At, Follows, IsSending, Met, meets, met_nothing, unchanged}
+use Rattle.mdriver.specs.Scene.{Scene, opened_scene, world_of}
+use Rattle.mdriver.proofs.Honest.{IsHonest, cycle_given, honest_more, honest_wires, named_more, sent_more}
+use Rattle.mdriver.proofs.OfferRuns.{accepted, between_more, messages_more, offers, one_more}
 use Rattle.mdriver.proofs.Runs.{Goes, goes_on}
 use Rattle.mdriver.proofs.SenderRuns.{SenderHolds, asked, connects, cycles, hears, limits, named_at, sees}
-use Rattle.mdriver.proofs.Sound.{Begins, opened, HasFollowed, IsQuiet, IsSound, Laws, and_line, at_number, end_in_stream, follows_as, holds, joins_more, polled_more, published_more, receiver_moves, receivers_stay, sender_below, whole_parts}
+use Rattle.mdriver.proofs.Sound.{Begins, opened, IsQuiet, IsSound, Laws, and_line, end_in_stream, holds, published_more, receivers_stay, sender_below}
 
 -- ---- lines after which only the log or the sender is another
 

@@ -1,27 +1,26 @@
 -- Each line of a receiver leaves a sound scene.
-use Rattle.std.proofs.Common.{◌≡◌, ◌⊎◌, ℕ, zero, suc, ◌<◌, ◌≤◌, List, [], ◌∷◌, ◌++◌, map, length, Bool, true, false, cond, Option, None, Some, inl, inr, ⊎_elim, refl, sym, ap, ◌∙◌, subst, arith, append-nil}
+use Rattle.std.proofs.Common.{◌≡◌, ◌⊎◌, ℕ, zero, suc, ◌<◌, List, [], ◌∷◌, ◌++◌, map, length, Bool, true, false, cond, Some, inl, inr, refl, sym, ap, ◌∙◌, subst, arith, append-nil}
 use Rattle.std.specs.Prelude.{nat_eq, slice_get, slice_set}
 use Rattle.std.specs.List.{AllByRecursion, flat_map}
 use Rattle.std.proofs.lemmas.Bool.{cond-true, cond-false, eq-eqb, ne_eqb}
 use Rattle.theory.specs.Bytes.{Identity}
 use Rattle.theory.specs.Control.{MayBeGiven}
-use Rattle.theory.specs.Wire.{Wire, SpellsDatagram}
 use Rattle.theory.proofs.Lists.{all_append, all_get}
 use Rattle.script.specs.Meaning as orders
 use Rattle.script.specs.Meaning.{Order}
 use Rattle.mdriver.specs.declared.receiver.Outcome.{Outcome}
 use Rattle.mdriver.specs.declared.receiver.Outcome.TheVariants as outcomes
-use Rattle.mdriver.specs.Answers.{Delivered, IsMissing, PollsBy, TellsBy, Ticks, given_out, with_receiver}
+use Rattle.mdriver.specs.Answers.{Delivered, IsMissing, PollsBy, TellsBy, Ticks, with_receiver}
 use Rattle.mdriver.specs.Cycling.{datagrams}
 use Rattle.mdriver.specs.Prints.{Print, OfReceiver}
-use Rattle.mdriver.specs.Published.{AllWhole, IsWhole, Played, is_fault, joined_by, joins, joins_in, joins_of, messages_in, polled, polled_by, published_by}
+use Rattle.mdriver.specs.Published.{AllWhole, Played, is_fault, joined_by, joins, joins_in, joins_of, messages_in, polled, polled_by, published_by}
 use Rattle.mdriver.specs.Receiving.{Hears, MeetsAll, MeetsDatagram, Receiver, RefusesDatagram, at_moment, replies, ticked}
 use Rattle.mdriver.specs.Scene.{Scene, image_of, opened_scene, world_of}
 use Rattle.mdriver.proofs.Honest.{AreHonest, IsHonest, honest_wires, one_frame, replies_given}
 use Rattle.mdriver.proofs.PollFollows.{StillWhole, polls_met}
 use Rattle.mdriver.proofs.ReceiverRuns.{At, Follows, Met, meets, met_nothing, unchanged}
 use Rattle.mdriver.proofs.Runs.{Goes, goes_on, map_get}
-use Rattle.mdriver.proofs.Sound.{IsQuiet, IsSound, Laws, and_line, at_number, follows_as, follows_quiet, joins_more, polled_more, receiver_moves, whole_parts}
+use Rattle.mdriver.proofs.Sound.{IsSound, Laws, and_line, at_number, follows_as, follows_quiet, joins_more, polled_more, receiver_moves, whole_parts}
 use Rattle.mdriver.proofs.SoundLines.{messages_stay, missing_line, same_scene}
 
 set_length : {X : Type 0} (xs : List X) (k : ℕ) (x : X) → length (slice_set xs k x) ≡ length xs

@@ -1,7 +1,6 @@
 -- What a sender's step left is a step of the scenes that the stage shows.
-use Rattle.std.proofs.Common.{◌≡◌, ◌⊎◌, ℕ, zero, suc, ◌+◌, ◌<◌, ◌≤◌, List, [], ◌∷◌, ◌++◌, map, length, Bool, true, false, Option, None, Some, inl, inr, refl, sym, ap, ◌∙◌, subst, arith, append-nil, append_assoc}
+use Rattle.std.proofs.Common.{◌≡◌, ℕ, List, [], ◌∷◌, ◌++◌, length, Bool, true, false, Option, None, Some, inr, refl, sym, ap, ◌∙◌, subst, append-nil, append_assoc}
 use Rattle.std.specs.Prelude.{slice_get, slice_set, ℤ, pos, max, ◌+ℤ◌}
-use Rattle.theory.specs.Bytes.{Identity}
 use Rattle.theory.specs.Control.{setup_at}
 use Rattle.theory.specs.Entry.{committed}
 use Rattle.theory.specs.FlowLimit.{clipped, flow_limit}
@@ -19,9 +18,9 @@ use Rattle.mdriver.specs.declared.line.Line.TheVariants as lines
 use Rattle.mdriver.specs.declared.sender.SenderAnswer.{SenderAnswer}
 use Rattle.mdriver.specs.declared.sender.SenderAnswer.TheVariants as answers
 use Rattle.mdriver.specs.declared.stage.Stage.{Stage}
-use Rattle.mdriver.specs.Answers.{IsCycle, after_cycle, clock_at, cycled, given_out, heard, limit_of, lines_of, named, or_nothing, packet_lines, sent_on, wires_of, with_sender, woken}
-use Rattle.mdriver.specs.Cycling.{AsksSetup, Cycle, IsNews, IsNextSent, News, Says, TellsNothing, Unreadable, datagrams, sent_wires, setups}
-use Rattle.mdriver.specs.Prints.{OfSender, Print, print_of, prints}
+use Rattle.mdriver.specs.Answers.{after_cycle, clock_at, cycled, given_out, heard, limit_of, lines_of, named, or_nothing, packet_lines, sent_on, wires_of, with_sender, woken}
+use Rattle.mdriver.specs.Cycling.{AsksSetup, IsNews, IsNextSent, News, Says, TellsNothing, Unreadable, datagrams, sent_wires, setups}
+use Rattle.mdriver.specs.Prints.{OfSender, prints}
 use Rattle.mdriver.specs.Scene.{Scene}
 use Rattle.mdriver.specs.Sending.{AreBehind, Cycles, Hears, HearsDatagram, Sending, at_moment}
 use Rattle.mdriver.proofs.Stages.{one_line}

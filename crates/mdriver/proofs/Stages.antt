@@ -1,8 +1,7 @@
 -- What the calls of a line's handler left is a step of the scenes that the stage shows.
-use Rattle.std.proofs.Common.{◌≡◌, ◌⊎◌, ℕ, zero, suc, ◌+◌, ◌<◌, ◌≤◌, List, [], ◌∷◌, ◌++◌, map, length, Option, None, Some, inl, inr, refl, sym, ap, ◌∙◌, subst, arith, append-nil}
+use Rattle.std.proofs.Common.{◌≡◌, ℕ, zero, suc, ◌<◌, ◌≤◌, List, [], ◌∷◌, ◌++◌, map, length, None, Some, inl, inr, refl, sym, ap, ◌∙◌, subst, arith}
 use Rattle.std.specs.Prelude.{slice_get, slice_set, slice_index_or, Result, Ok, Err, OnOk}
 use Rattle.std.proofs.lemmas.List.{map-append}
-use Rattle.std.specs.List.{AllByRecursion}
 use Rattle.theory.specs.Position.{max_payload}
 use Rattle.log_buffer.specs.Log.{Log, with_message}
 use Rattle.log_buffer.specs.Offers.{answer_of}
@@ -14,10 +13,10 @@ use Rattle.mdriver.specs.declared.line.Line.{Line}
 use Rattle.mdriver.specs.declared.stage.Stage.{Stage}
 use Rattle.theory.specs.Wire.{Wire}
 use Rattle.mdriver.specs.declared.receiver.Outcome.{Outcome}
-use Rattle.mdriver.specs.Answers.{Answers, AreFrames, IsTooLong, MayOffer, Offered, given_out, limit_of, lines_of, or_nothing, packet_lines, with_log, with_receiver}
+use Rattle.mdriver.specs.Answers.{AreFrames, MayOffer, Offered, given_out, limit_of, lines_of, or_nothing, packet_lines, with_log, with_receiver}
 use Rattle.mdriver.specs.Cycling.{datagrams}
 use Rattle.mdriver.specs.Polling.{Polls, TellsPositions}
-use Rattle.mdriver.specs.Prints.{Print, Bad, OfReceiver, print_of, prints}
+use Rattle.mdriver.specs.Prints.{Bad, OfReceiver, print_of, prints}
 use Rattle.mdriver.specs.Receiving.{Hears, Receiver, replies, ticked}
 use Rattle.mdriver.specs.Scene.{Scene}
 use Rattle.mdriver.specs.Staged.{AllShow, Answered, IsAnswered, OfferedLine, ShowsScene, ShowsSender}

@@ -1,6 +1,5 @@
 -- What a sender's cycle sends, and what a datagram tells a sender.
-use Rattle.std.specs.Prelude.{◌≡◌, ℕ, ℤ, Bool, true, List, [], ◌∷◌, ◌++◌, map, Option, None, Some, if◌then◌else◌}
-use Rattle.std.specs.List.{flat_map}
+use Rattle.std.specs.Prelude.{◌≡◌, ℕ, Bool, List, [], ◌∷◌, ◌++◌, map, Option, None, Some, if◌then◌else◌}
 use Rattle.std.specs.Option.{option_to_list}
 use Rattle.theory.specs.Wire.{Wire, Status, SM, SpellsDatagram, spelling}
 use Rattle.theory.specs.Placed.{Among, Placed}

@@ -4,7 +4,6 @@ use Rattle.std.specs.List.{flat_map}
 use Rattle.theory.specs.Position.{Geometry, IsGeometry, IsMtu, IsTermLength, max_position}
 use Rattle.theory.specs.Bytes.{Identity, IsIdentity}
 use Rattle.theory.specs.Tiling.{share_of}
-use Rattle.position.specs.declared.fault.GeometryError.{GeometryError}
 use Rattle.position.specs.declared.fault.GeometryError.TheVariants.{TermLength, Mtu}
 use Rattle.log_buffer.specs.Log.{Log}
 use Rattle.log_buffer.specs.declared.fault.LogError.TheVariants.{Start}

@@ -1,9 +1,8 @@
-use Rattle.std.proofs.Common.{◌≡◌, ◌∙◌, ◌<◌, List, [], ℕ, rules, ap, sym, subst, FitsSigned, w32, to_z, of_z}
+use Rattle.std.proofs.Common.{◌≡◌, ◌∙◌, ◌<◌, List, [], rules, ap, sym, subst, FitsSigned, w32, to_z, of_z}
 use Rattle.std.specs.Prelude.{ℤ, Err}
 use Rattle.log_buffer.specs.declared.fault.LogError.TheVariants.{Start}
 use Rattle.std.proofs.lemmas.Int.{to_z-of_z}
 use Rattle.std.proofs.lemmas.Result.{IfOk-weaker}
-use Rattle.theory.specs.Bytes.{Identity}
 use Rattle.theory.specs.Position.{Geometry, IsGeometry, max_position}
 use Rattle.script.specs.Meaning.{opening, orders, told}
 use Rattle.script.specs.declared.command.Command.{Command}

@@ -1,6 +1,4 @@
-use Rattle.std.proofs.Common.{◌≡◌, ◌∙◌, refl, rules, subst, take, arith, length}
-use Rattle.std.specs.Prelude.{slice_index_or}
-use Rattle.std.proofs.Math.Seq.{take-length}
+use Rattle.std.proofs.Common.{◌≡◌, ◌∙◌, refl, rules, subst, length}
 use Rattle.log_buffer.specs.Offers.{answer_of}
 use Rattle.mdriver.specs.Prints.{print_of}
 use Rattle.mdriver.specs.Staged.{OfferedLine}

@@ -1,4 +1,4 @@
-use Rattle.std.proofs.Common.{◌≡◌, ◌∙◌, refl, rules}
+use Rattle.std.proofs.Common.{refl, rules}
 use Rattle.mdriver.proofs.Stages.{poll_answered, seat_at}
 use Rattle.mdriver.proofs.stage.Stage.poll.Goals as goal
 

@@ -1,4 +1,4 @@
-use Rattle.std.proofs.Common.{refl, rules}
+use Rattle.std.proofs.Common.{refl}
 use Rattle.mdriver.proofs.StageSender.{send_answered}
 use Rattle.mdriver.proofs.Stages.{on_both}
 use Rattle.mdriver.proofs.stage.Stage.send.Goals as goal
