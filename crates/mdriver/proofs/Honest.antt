@@ -57,7 +57,7 @@ frame_given : (i : Identity) (x : Sender) (frame : Option Placed) → AllByRecur
 frame_given i x None = tt
 frame_given i x (Some s) = (placed_given i (sent_on x (Some s)) s.at s.frame (inl refl), tt)
 
-setups_on : (x : Sender) (frame : Option Placed) → (sent_on x frame).setups ≡ x.setups
+pub setups_on : (x : Sender) (frame : Option Placed) → (sent_on x frame).setups ≡ x.setups
 setups_on x None = refl
 setups_on x (Some s) = refl
 

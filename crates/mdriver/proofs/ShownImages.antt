@@ -6,6 +6,7 @@ use Rattle.std.proofs.lemmas.Bool.{cases_Bool, cases_lt, cond-true, cond-false, 
 use Rattle.theory.specs.Placed.{Among, Chain, IsReached, Placed, end_of}
 use Rattle.theory.specs.Consumer.{Consumer, least_from, least_of}
 use Rattle.theory.specs.ImageLaws.{AreParted, held}
+use Rattle.theory.proofs.Messages.{chain_le}
 use Rattle.theory.proofs.Lists.{all_at, all_from, all_weaker}
 use Rattle.rebuilder.specs.Seen.{least}
 use Rattle.mdriver.specs.Showing.{AreOneWhereMet}
@@ -75,10 +76,6 @@ record IsCovered (read : List Placed) (p q : ℕ) : Type 0 where
   begins : frame.at ≤ p
   goes_on : p < end_of frame
   ends : end_of frame ≤ q
-
-chain_le : (j q : ℕ) (ss : List Placed) → Chain j q ss → j ≤ q
-chain_le j q [] c = let e : q ≡ j = c in omega arith
-chain_le j q (s ∷ ss) c = let e : s.at ≡ j = c.0 in let l : end_of s ≤ q = chain_le (end_of s) q ss c.1 in omega arith
 
 is_covered : (j q p : ℕ) (read : List Placed) → Chain j q read → j ≤ p → p < q → IsCovered read p q
 is_covered j q p [] c l m = let e : q ≡ j = c in absurd (omega arith)

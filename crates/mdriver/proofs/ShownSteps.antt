@@ -10,6 +10,7 @@ use Rattle.theory.specs.Consumer.{Consumer, consumer_at, least_of}
 use Rattle.theory.specs.Image.{Image, after_heartbeat, after_insert, image_at, is_accepted}
 use Rattle.theory.specs.ImageLaws.{AreParted, held}
 use Rattle.theory.specs.Insert.{Head, Insert, CrossesTerm, Below, OverWindow, Duplicate, Overlap, Stored, head_of, insert_answer, insert_answer_at, is_duplicate, overlaps, window_end}
+use Rattle.theory.proofs.Messages.{chain_le}
 use Rattle.theory.proofs.Lists.{all_at, all_get, all_replicate, all_set, all_weaker}
 use Rattle.theory.proofs.Held.{answer_held, stored_apart}
 use Rattle.theory.proofs.Follow.{chain_units, passed_along, passed_more}
@@ -153,10 +154,6 @@ one_more s frames free met x y (inl d) (inl e) l m = d ∙ sym e
 one_more s frames free met x y (inr a) (inr b) l m = met x y a b l m
 one_more s frames free met x y (inl d) (inr b) l m = absurd (no_overlap s frames free y b (subst (λ (u : Placed). u.at < end_of y) d l) (subst (λ (u : Placed). y.at < end_of u) d m))
 one_more s frames free met x y (inr a) (inl e) l m = absurd (no_overlap s frames free x a (subst (λ (u : Placed). u.at < end_of x) e m) (subst (λ (u : Placed). x.at < end_of u) e l))
-
-chain_le : (j q : ℕ) (read : List Placed) → Chain j q read → j ≤ q
-chain_le j q [] c = let e : q ≡ j = c in omega arith
-chain_le j q (t ∷ ts) c = let e : t.at ≡ j = c.0 in let l : end_of t ≤ q = chain_le (end_of t) q ts c.1 in omega arith
 
 pub stored_shown : (v : seen.Image) (o : Opened) (s : Placed) → ShowsImage v o → insert_answer o.geometry (map head_of o.image.stored) (least_of o.image.consumers) o.image.window (head_of s) ≡ Stored
     → ShowsImage (with_frame v s) (record o { image = record o.image { stored = s ∷ o.image.stored; high = max o.image.high (end_of s) } })

@@ -30,7 +30,7 @@ use Rattle.mdriver.specs.Prints.{Print, Position}
 use Rattle.mdriver.specs.Published as visible
 use Rattle.mdriver.specs.Published.{AllWhole, IsWhole, Played, between, is_fault, joined_by, joins, joins_in, joins_of, messages_in, placed_at, polled, polled_by, published_by}
 use Rattle.mdriver.specs.Scene.{Scene, opened_scene, world_of}
-use Rattle.mdriver.proofs.Honest.{IsHonest, cycle_given, honest_more, honest_wires, named_more, sent_more}
+use Rattle.mdriver.proofs.Honest.{IsHonest, cycle_given, honest_more, honest_wires, named_more, sent_more, setups_on}
 use Rattle.mdriver.proofs.OfferRuns.{accepted, between_more, messages_more, offers, one_more}
 use Rattle.mdriver.proofs.Runs.{Goes, goes_on}
 use Rattle.mdriver.proofs.SenderRuns.{SenderHolds, asked, connects, cycles, hears, limits, named_at, sees}
@@ -186,10 +186,6 @@ named_low x false most low all = all
 named_sent : (x : Sender) (due : Bool) → (named x due).sent ≡ x.sent
 named_sent x true = refl
 named_sent x false = refl
-
-setups_on : (x : Sender) (frame : Option Placed) → (sent_on x frame).setups ≡ x.setups
-setups_on x None = refl
-setups_on x (Some s) = refl
 
 -- ---- what goes out is of the grammar
 

@@ -23,6 +23,7 @@ use Rattle.mdriver.specs.Cycling.{AsksSetup, IsNews, IsNextSent, News, Says, Tel
 use Rattle.mdriver.specs.Prints.{OfSender, prints}
 use Rattle.mdriver.specs.Scene.{Scene}
 use Rattle.mdriver.specs.Sending.{AreBehind, Cycles, Hears, HearsDatagram, Sending, at_moment}
+use Rattle.mdriver.proofs.SenderRuns.{named_at, named_said}
 use Rattle.mdriver.proofs.Stages.{one_line}
 use Rattle.mdriver.specs.Staged.{AllShow, Answered, IsAnswered, ShowsScene, ShowsSender}
 
@@ -36,14 +37,6 @@ pub record OnlySender (old new : Stage) (log : Log) (sender : Sending ℕ) (sent
   pub sender_is : new.sender ≡ sender
   pub subscribers : new.subscribers.items ≡ old.subscribers.items
   pub packets : new.packets ≡ old.packets ++ sent
-
-named_at : (x : Sender) (due : Bool) → (named x due).at ≡ x.at
-named_at x true = refl
-named_at x false = refl
-
-named_said : (x : Sender) (due : Bool) → (named x due).said ≡ x.said
-named_said x true = refl
-named_said x false = refl
 
 named_clock : (x : Sender) (due : Bool) → (named x due).clock ≡ x.clock
 named_clock x true = refl
