@@ -1,0 +1,223 @@
+ghost use Rattle.std.specs.Prelude.{◌≡◌, ℕ, ◌+◌, ◌-◌, ◌*◌, ◌/◌, ◌%◌, ◌<◌, ◌≤◌, ◌^◌, true, false, length, IfOk};
+ghost use Rattle.theory.specs.Position.{aligned, max_position};
+ghost use Rattle.theory.specs.Position as shape;
+
+use crate::claimed::{Claimed, Slot};
+use crate::words::first_word;
+use block::Block;
+use position::{Geometry, align32};
+use std::alloc::{AllocError, Global};
+use std::collections::VecDeque;
+use std::marker::Model;
+
+/// How many publishers a log has.
+pub const PUBLISHERS: usize = 8;
+
+/// The entries that a log keeps, in order, and the bytes of its three terms.
+#[derive(Drop)]
+pub struct TermBuffer {
+    pub(crate) geometry: Geometry,
+    pub(crate) session: i32,
+    pub(crate) stream: i32,
+    pub(crate) start: u64,
+    pub(crate) tail: u64,
+    /// How many bytes each publisher claimed.
+    pub(crate) shares: [u64; PUBLISHERS],
+    pub(crate) cleaned: u64,
+    /// How many entries are forgotten.
+    pub(crate) gone: u64,
+    /// The end of the last of them.
+    pub(crate) first: u64,
+    pub(crate) slots: VecDeque<Slot>,
+    pub(crate) bytes: Block,
+}
+
+impl Model for TermBuffer {
+    ghost use Rattle.std.specs.VecDeque.{deque_capacity};
+    ghost use Rattle.term_buffer.specs.Kept.{Kept};
+
+    ghost Value = { Kept };
+
+    ghost use Rattle.term_buffer.specs.Slots.{entries_of, drafts_of, IsBuffer};
+
+    ghost view = { λ b. record { identity = record { geometry = b.geometry; session = b.session; stream = b.stream }; start = b.start; tail = b.tail; shares = b.shares; cleaned = b.cleaned; gone = b.gone; first = b.first; entries = entries_of b.geometry.term_length b.bytes b.slots.items; drafts = drafts_of b.geometry.term_length b.bytes b.slots.items } };
+
+    ghost invariant = { λ b. IsBuffer (record { geometry = b.geometry; session = b.session; stream = b.stream }) b.bytes b.start b.tail b.cleaned b.first b.gone b.shares b.slots.items (deque_capacity b.slots) };
+}
+
+impl TermBuffer {
+    ghost use Rattle.std.specs.Int.{to_le_bytes};
+    ghost use Rattle.block.specs.Bytes.{with_word};
+    ghost use Rattle.term_buffer.specs.Kept.{Cleans, IsDrafted, IsKeptLog, IsOpen, MayClean, draft_of, drafted, fresh, term_of, with_claim, with_commit, with_draft};
+
+    /// A buffer without an entry, from a position on. The error comes only where memory was refused.
+    pub fn open(
+        alloc: Global,
+        geometry: Geometry,
+        session: i32,
+        stream: i32,
+        start: u64,
+    ) -> Result<TermBuffer, AllocError>
+        requires unit { start % 32 ≡ 0 }
+        requires below { start < max_position geometry }
+        ensures { IfOk result (λ b. b ≡ fresh (record { geometry = geometry; session = session; stream = stream }) start) }
+    {
+        let length = 3 * geometry.term_length() as usize;
+        let slots = VecDeque::with_capacity(alloc, length / 32)?;
+        let bytes = Block::new(alloc, length)?;
+        Ok(TermBuffer {
+            geometry,
+            session,
+            stream,
+            start,
+            tail: start,
+            shares: [0; PUBLISHERS],
+            cleaned: start,
+            gone: 0,
+            first: start,
+            slots,
+            bytes,
+        })
+    }
+
+    /// The shape of the stream.
+    pub fn geometry(&self) -> Geometry
+        ensures { result ≡ self.now.identity.geometry }
+    {
+        self.geometry
+    }
+
+    /// The session id of each of its frames.
+    pub fn session(&self) -> i32
+        ensures { result ≡ self.now.identity.session }
+    {
+        self.session
+    }
+
+    /// The stream id of each of its frames.
+    pub fn stream(&self) -> i32
+        ensures { result ≡ self.now.identity.stream }
+    {
+        self.stream
+    }
+
+    /// The position at which it was opened.
+    pub fn start(&self) -> u64
+        ensures { result ≡ self.now.start }
+    {
+        self.start
+    }
+
+    /// The end of the last entry.
+    pub fn tail(&self) -> u64
+        ensures value { result ≡ self.now.tail }
+        ensures legal { IsKeptLog self.now }
+    {
+        self.tail
+    }
+
+    /// How many bytes each publisher claimed, in forgotten entries too.
+    pub fn shares(&self) -> [u64; PUBLISHERS]
+        ensures { result ≡ self.now.shares }
+    {
+        self.shares
+    }
+
+    /// The position up to which the bytes are zero again.
+    pub fn cleaned(&self) -> u64
+        ensures { result ≡ self.now.cleaned }
+    {
+        self.cleaned
+    }
+
+    /// A word of the three terms.
+    pub fn word(&self, index: usize) -> u64
+        requires { index < 3 * term_of self.now / 8 }
+    {
+        self.bytes.word(index)
+    }
+
+    /// Adds an entry of an owner at the tail, for a frame of this length. Its bytes are zero.
+    pub fn claim(&mut self, owner: usize, padding: bool, frame_length: u32) -> Claimed
+        requires owner { owner < 8 }
+        requires long { 32 ≤ frame_length }
+        requires short { padding ≡ false → frame_length ≤ self.old.identity.geometry.mtu }
+        requires whole { padding ≡ true → frame_length % 32 ≡ 0 }
+        requires in_term { self.old.tail % term_of self.old + aligned frame_length ≤ term_of self.old }
+        requires room { self.old.tail + aligned frame_length ≤ self.old.cleaned + 3 * term_of self.old }
+        requires below { self.old.tail < max_position self.old.identity.geometry }
+        ensures taken { self.new ≡ with_claim self.old owner padding frame_length }
+        ensures claimed { result ≡ record { number = self.old.gone + length self.old.entries; start = self.old.tail; frame_length = frame_length; owner = owner; padding = padding } }
+        ensures unset { IsOpen self.new result }
+    {
+        let claimed = Claimed {
+            number: self.gone + self.slots.len() as u64,
+            start: self.tail,
+            frame_length,
+            owner,
+            padding,
+        };
+        let slot = Slot {
+            start: self.tail,
+            frame_length,
+            owner,
+            padding,
+            committed: false,
+        };
+        let covered = u64::from(align32(frame_length));
+        self.slots.push_back_reserved(slot);
+        self.tail += covered;
+        self.shares[owner] += covered;
+        claimed
+    }
+
+    /// Stores a word of a claim's frame: any but the first one.
+    pub fn store(&mut self, claimed: Claimed, index: usize, word: u64)
+        requires unset { IsOpen self.old claimed }
+        requires behind { 0 < index }
+        requires inside { 8 * index < aligned claimed.frame_length }
+        ensures stored { self.new ≡ with_draft self.old claimed (with_word (draft_of self.old claimed) (index - 1) word) }
+    {
+        let place = self.word_of(claimed.start);
+        self.bytes.set_word(place + index, word);
+    }
+
+    /// Stores the first word of a claim's frame, which commits it. The other words have been stored.
+    pub fn commit(&mut self, claimed: Claimed)
+        requires unset { IsOpen self.old claimed }
+        requires written { IsDrafted self.old claimed }
+        ensures committed { self.new ≡ with_commit self.old claimed (drafted self.old claimed) }
+    {
+        let place = self.word_of(claimed.start);
+        let first = first_word(claimed.padding, claimed.frame_length);
+        self.bytes.set_word(place, first);
+        let index = (claimed.number - self.gone) as usize;
+        if let Some(slot) = self.slots.get_mut(index) {
+            slot.committed = true;
+        }
+    }
+
+    /// Stores zero in the next word to be cleaned, and forgets the entry that begins there.
+    pub fn clean(&mut self)
+        requires { MayClean self.old }
+        ensures { Cleans self.old (self.old.cleaned + 8) self.new }
+    {
+        if self.cleaned == self.first {
+            if let Some(slot) = self.slots.pop_front() {
+                self.first += u64::from(align32(slot.frame_length));
+                self.gone += 1;
+            }
+        }
+        let place = self.word_of(self.cleaned);
+        self.bytes.set_word(place, 0);
+        self.cleaned += 8;
+    }
+
+    /// The word at a position, a multiple of 8.
+    fn word_of(&self, position: u64) -> usize
+        requires { position % 8 ≡ 0 }
+        ensures { 8 * result ≡ position % (3 * term_of self.now) }
+    {
+        (position % (3 * u64::from(self.geometry.term_length()))) as usize / 8
+    }
+}
