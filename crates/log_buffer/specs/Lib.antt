@@ -2,6 +2,6 @@ pub mod Books
 pub mod Faults
 pub mod Limits
 pub mod Log
-pub mod Offers
+pub mod Passes
 pub mod Reader
-pub mod Slots
+pub mod States

@@ -1,8 +1,9 @@
-ghost use Rattle.log_buffer.specs.Reader.{AreAll};
+ghost use Rattle.log_buffer.specs.Passes.{AreAll};
 ghost use Rattle.log_buffer.specs.Books.{ShowsBook};
 
-use crate::passes::{Keeper, LogReader, PUBLISHERS, Publisher};
+use crate::passes::{Keeper, LogReader, Publisher};
 use crate::state::LogState;
+use term_buffer::PUBLISHERS;
 
 /// What a closed log held: from where to where, and how many bytes of that each publisher claimed.
 #[derive(Clone, Copy, Debug, PartialEq, Eq)]
@@ -39,9 +40,9 @@ impl LogState {
         ensures { ShowsBook self.now result }
     {
         Book {
-            start: self.start,
-            tail: self.tail,
-            shares: self.shares,
+            start: self.buffer.start(),
+            tail: self.buffer.tail(),
+            shares: self.buffer.shares(),
         }
     }
 }

@@ -1,5 +1,5 @@
 ghost use Rattle.std.specs.Prelude.{◌≡◌};
-ghost use Rattle.log_buffer.specs.Faults.{code_of, number_of};
+ghost use Rattle.log_buffer.specs.Faults.{code_of};
 ghost use Rattle.log_buffer.specs.declared.fault.LogError.TheVariants.{Memory};
 
 use std::alloc::{AllocError, AllocFailed};
@@ -35,36 +35,5 @@ impl From<AllocError> for LogError {
 
     fn from(_error: AllocError) -> LogError {
         LogError::Memory
-    }
-}
-
-/// Why an offer isn't accepted. No entry was added then.
-#[derive(Clone, Copy, Debug, PartialEq, Eq, Error)]
-#[error("{}", self.code())]
-pub enum Refusal {
-    /// Nobody is connected, and the tail is at the limit.
-    NotConnected,
-    /// The tail is at the limit.
-    BackPressured,
-    /// The claim doesn't fit the term; a later offer may.
-    AdminAction,
-    /// The log is closed, for good.
-    Closed,
-    /// The last term is used up, for good.
-    MaxPositionExceeded,
-}
-
-impl Refusal {
-    /// The number that a user sees, from -1 to -5.
-    pub fn code(self) -> i32
-        ensures { result ≡ number_of self }
-    {
-        match self {
-            Refusal::NotConnected => -1,
-            Refusal::BackPressured => -2,
-            Refusal::AdminAction => -3,
-            Refusal::Closed => -4,
-            Refusal::MaxPositionExceeded => -5,
-        }
     }
 }

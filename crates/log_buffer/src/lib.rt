@@ -1,27 +1,29 @@
-//! A log: what publishers claim, write and commit in one stream, as a list of entries and a row of bytes.
+//! A log: what publishers claim, write and commit in one stream of cyclic terms.
 //!
-//! Each thing that happens to a log is one call of its state. `open` takes all the memory that a log ever needs.
-//! At this stage a log has one term, messages of one frame, and a claim that would pass the term's end is refused.
+//! Each operation on one word of a log is one call of its state, and each of a publisher's is noted in its pass. `open`
+//! takes all the memory that a log ever needs.
 #![tactic(auto)]
 
 mod book;
-mod entry;
+mod consumers;
 mod fault;
-mod keeper;
 mod passes;
 mod peek;
-mod publication;
 mod reader;
 mod state;
-mod words;
+mod step;
+mod turns;
+mod writes;
 
 pub use book::{Book, close};
-pub use entry::{Claimed, UNFRAGMENTED};
-pub use fault::{LogError, Refusal};
-pub use passes::{Keeper, LogReader, PUBLISHERS, Parts, Publisher};
-pub use publication::offer;
+pub use fault::LogError;
+pub use passes::{CONSUMERS, Keeper, LogReader, MOST_STEPS, Parts, Publisher};
+pub use raw_tails::RawTail;
 pub use reader::{advance, next};
-pub use state::{Limit, LogState};
+pub use state::LogState;
+pub use step::Step;
+pub use turns::{Added, Limit};
+pub use term_buffer::{Claimed, PUBLISHERS};
 
 #[cfg(test)]
 mod tests;

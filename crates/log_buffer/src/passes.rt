@@ -1,49 +1,81 @@
-ghost use Rattle.std.specs.Prelude.{◌≡◌, ◌<◌, ◌≤◌, ◌+◌, ◌^◌, IfOk, vec_len, All};
+ghost use Rattle.std.specs.Prelude.{◌≡◌, ◌<◌, ◌≤◌, ◌+◌, ◌^◌, ◌++◌, [], IfOk, vec_len, All, length};
 
+use crate::step::Step;
 use std::alloc::{AllocError, Global};
 use std::marker::Model;
-
-/// How many publishers a log has.
-pub const PUBLISHERS: usize = 8;
+use term_buffer::PUBLISHERS;
 
 /// How many consumers a log has at the most.
 pub const CONSUMERS: usize = 8;
 
-/// One of the eight publishers of a log. It ends when it is handed to `close`.
+/// How many word calls a publisher's call makes at the most, beyond the words that it stores.
+pub const MOST_STEPS: usize = 7;
+
+/// One of the eight publishers of a log. It keeps the word calls of the call that it makes or made last. It ends when
+/// it is handed to `close`.
 pub struct Publisher {
     number: usize,
+    count: usize,
+    steps: [Step; MOST_STEPS],
 }
 
 impl Model for Publisher {
-    ghost use Rattle.std.specs.Prelude.{ℕ, ◌<◌};
+    ghost use Rattle.std.specs.Prelude.{◌<◌, ◌≤◌, take};
+    ghost use Rattle.log_buffer.specs.Passes.{Pass};
 
-    ghost Value = { ℕ };
+    ghost Value = { Pass };
 
-    ghost view = { λ p. p.number };
+    ghost view = { λ p. record { number = p.number; steps = take p.count p.steps } };
 
-    ghost invariant = { λ p. p.number < 8 };
+    ghost invariant = { λ p. (p.number < 8) × (p.count ≤ 7) };
 }
 
 impl Publisher {
+    ghost use Rattle.log_buffer.specs.Passes.{with_step};
+
     pub(crate) fn new(number: usize) -> Publisher
         requires { number < 8 }
-        ensures { result ≡ number }
+        ensures { result ≡ record { number = number; steps = [] } }
     {
-        Publisher { number }
+        Publisher {
+            number,
+            count: 0,
+            steps: [Step::Count(0); MOST_STEPS],
+        }
     }
 
     /// Its number, 0 to 7.
     pub fn number(&self) -> usize
-        ensures value { result ≡ self.now }
+        ensures value { result ≡ self.now.number }
         ensures in_range { result < 8 }
     {
         self.number
     }
 
-    pub(crate) fn spend(self) -> usize
-        ensures { result ≡ self }
+    /// Begins a call.
+    pub fn begin(&mut self)
+        ensures { self.new ≡ record self.old { steps = [] } }
     {
-        let Publisher { number } = self;
+        self.count = 0;
+    }
+
+    /// Notes a word call.
+    pub(crate) fn note(&mut self, step: Step)
+        requires { length self.old.steps < 7 }
+        ensures { self.new ≡ with_step self.old step }
+    {
+        self.steps[self.count] = step;
+        self.count += 1;
+    }
+
+    pub(crate) fn spend(self) -> usize
+        ensures { result ≡ self.number }
+    {
+        let Publisher {
+            number,
+            count: _,
+            steps: _,
+        } = self;
         number
     }
 }
@@ -51,8 +83,8 @@ impl Publisher {
 /// A consumer of a log, which walks its committed frames. It ends when it is handed to `close`.
 pub struct LogReader {
     number: usize,
-    /// The place, among the entries, of the next one.
-    index: usize,
+    /// How many entries it has passed.
+    index: u64,
     position: u64,
     /// The end of the frame that was read since it last moved, or its position.
     read_to: u64,
@@ -99,8 +131,8 @@ impl LogReader {
         self.number
     }
 
-    /// The place, among the entries, of the next one.
-    pub(crate) fn index(&self) -> usize
+    /// How many entries it has passed.
+    pub(crate) fn index(&self) -> u64
         ensures { result ≡ self.now.index }
     {
         self.index
@@ -137,7 +169,7 @@ impl LogReader {
     }
 }
 
-/// The one that connects, limits and closes a log. It ends when it is handed to `close`.
+/// The one that connects, cleans, limits and closes a log. It ends when it is handed to `close`.
 pub struct Keeper {
     of: (),
 }
@@ -162,7 +194,8 @@ impl Keeper {
 }
 
 impl Parts {
-    ghost use Rattle.log_buffer.specs.Reader.{AreAll, AreReaders};
+    ghost use Rattle.log_buffer.specs.Passes.{AreAll};
+    ghost use Rattle.log_buffer.specs.Reader.{AreReaders};
 
     /// Eight publishers, the readers at the start, and a keeper.
     pub(crate) fn new(alloc: Global, start: u64, consumers: usize) -> Result<Parts, AllocError>

@@ -1,7 +1,6 @@
-ghost use Rattle.std.specs.Prelude.{◌≡◌, ◌+◌, ◌*◌, ◌/◌, ◌<◌};
+ghost use Rattle.std.specs.Prelude.{◌*◌, ◌/◌, ◌+◌, ◌<◌};
 
 use crate::state::LogState;
-use position::partition_of;
 
 impl LogState {
     /// A word of the log's table, for tests: the bytes of the three terms, the limit with its flags, the active count,
@@ -9,34 +8,24 @@ impl LogState {
     pub fn peek(&self, index: usize) -> u64
         requires { index < 3 * (self.now.identity.geometry.term_length / 8) + 13 }
     {
-        let words = self.geometry.term_length() as usize / 8;
-        let count = (self.base / u64::from(self.geometry.term_length())) as u32;
-        if index < 3 * words {
-            return if index / words == partition_of(count) as usize {
-                self.bytes.word(index % words)
-            } else {
-                0
-            };
+        let words = 3 * (self.buffer.geometry().term_length() as usize / 8);
+        if index < words {
+            return self.buffer.word(index);
         }
-        match index - 3 * words {
-            0 => self.limit + u64::from(self.connected) + 2 * u64::from(self.closed),
-            1 => u64::from(count),
-            place @ 2..=4 => self.raw_tail(count, place as u32 - 2),
-            place => self.consumers[place - 5],
+        match index - words {
+            0 => self.limit_word(),
+            1 => u64::from(self.tails.active()),
+            place @ 2..=4 => self.tails.tail(place as u32 - 2).word(),
+            place => self.consumer_word(place - 5),
         }
     }
 
-    /// The raw tail of a partition: the term id in the high half, the offset in the low one.
-    fn raw_tail(&self, count: u32, partition: u32) -> u64
-        requires { partition < 3 }
-    {
-        let first = self.geometry.initial_term_id().cast_unsigned();
-        let ahead = (partition + 3 - partition_of(count)) % 3;
-        let (id, offset) = match ahead {
-            0 => (first.wrapping_add(count), self.tail - self.base),
-            1 => (first.wrapping_add(count).wrapping_sub(2), 0),
-            _ => (first.wrapping_add(count).wrapping_sub(1), 0),
-        };
-        u64::from(id) << 32 | offset
+    /// The position of a consumer, or 0 where the log has none with this number.
+    fn consumer_word(&self, number: usize) -> u64 {
+        if number < self.consumer_count {
+            self.consumers[number]
+        } else {
+            0
+        }
     }
 }

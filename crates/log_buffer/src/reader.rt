@@ -1,64 +1,44 @@
-ghost use Rattle.std.specs.Prelude.{◌≡◌, ◌+◌, ◌*◌, ◌≤◌, ◌++◌, drop, length, IfSome, IfNone, slice_set};
+ghost use Rattle.std.specs.Prelude.{◌≡◌, ◌+◌, ◌*◌, ◌≤◌, length, IfSome, IfNone, slice_set};
 ghost use Rattle.theory.specs.Position.{aligned, IsGeometry};
 ghost use Rattle.theory.specs.Placed.{Among, Placed};
 ghost use Rattle.theory.specs.Entry.{committed};
-ghost use Rattle.log_buffer.specs.Reader.{IsAt, IsWholeFrame, Reader, Reads};
+ghost use Rattle.term_buffer.specs.Heads.{IsStreamFrame};
+ghost use Rattle.log_buffer.specs.Reader.{IsAt, Reader, Reads};
 
-use crate::entry::UNFRAGMENTED;
 use crate::passes::LogReader;
 use crate::state::LogState;
 use block::Block;
-use position::{FrameHead, FrameKind, align32};
+use position::{FrameHead, align32};
 
 /// Reads the committed frame at the reader's position: its payload is copied to the block's front, and the reader
 /// stays. There is none where the next frame isn't committed.
 pub fn next(log: &LogState, reader: &mut LogReader, block: &mut Block) -> Option<FrameHead>
-    requires { log.now.identity.geometry.mtu ≤ length block.old }
+    requires room { log.now.identity.geometry.mtu ≤ length block.old }
+    requires at { IsAt log.now reader.old }
     ensures same_length { length block.new ≡ length block.old }
     ensures here { IfSome result (λ head. head.start ≡ reader.old.position) }
-    ensures head { IfSome result (IsWholeFrame log.now.identity.geometry) }
+    ensures head { IfSome result (IsStreamFrame log.now.identity.geometry) }
     ensures frame { IfSome result (λ head. Reads log.now reader.old head block.old block.new) }
     ensures read { IfSome result (λ head. reader.new ≡ record reader.old { read_to = head.start + aligned head.frame_length }) }
-    ensures stays { IsAt log.now reader.old → IsAt log.now reader.new }
+    ensures stays { IsAt log.now reader.new }
     ensures none { IfNone result (reader.new ≡ reader.old) }
     ensures untouched { IfNone result (block.new ≡ block.old) }
-    ensures nothing { IfNone result (IsAt log.now reader.old → (s : Placed) → Among s (committed log.now.entries) → s.at ≡ reader.old.position → ⊥) }
+    ensures nothing { IfNone result ((s : Placed) → Among s (committed log.now.entries) → s.at ≡ reader.old.position → ⊥) }
     ensures legal { IsGeometry log.now.identity.geometry }
 {
-    let slot = *log.slots.get(reader.index())?;
-    if !slot.committed || slot.start != reader.position() {
-        return None;
-    }
-    let frame_length = 32 + slot.length;
-    let from = (slot.start - log.base) as usize + 32;
-    let length = slot.length as usize;
-    let payload = &log.bytes.bytes()[from..from + length];
-    copy_front(block.bytes_mut(), payload);
-    reader.note_read(slot.start + u64::from(align32(frame_length)));
-    Some(FrameHead {
-        start: slot.start,
-        kind: FrameKind::Data,
-        flags: UNFRAGMENTED,
-        frame_length,
-    })
-}
-
-/// Writes some bytes over the front of others.
-fn copy_front(bytes: &mut [u8], front: &[u8])
-    requires { length front.now ≤ length bytes.old }
-    ensures { bytes.new ≡ front.now ++ drop (length front.now) bytes.old }
-{
-    bytes[..front.len()].copy_from_slice(front);
+    let head = log.buffer.read(reader.index(), block)?;
+    reader.note_read(head.start + u64::from(align32(head.frame_length)));
+    Some(head)
 }
 
 /// Moves the reader past the frame that it read since it last moved. The answer is its new position.
 pub fn advance(log: &mut LogState, reader: &mut LogReader) -> u64
-    requires { reader.old.position + 32 ≤ reader.old.read_to }
+    requires at { IsAt log.old reader.old }
+    requires read { reader.old.position + 32 ≤ reader.old.read_to }
     ensures log { log.new ≡ record log.old { consumers = slice_set log.old.consumers reader.old.number reader.old.read_to } }
-    ensures identity { log.new.identity ≡ log.old.identity }
     ensures moved { reader.new ≡ record reader.old { position = reader.old.read_to; index = reader.old.index + 1 } }
     ensures position { result ≡ reader.new.position }
-    ensures stands { IsAt log.old reader.old → IsAt log.new reader.new }
+    ensures stands { IsAt log.new reader.new }
     ensures others { (r : Reader) → IsAt log.old r → (r.number ≡ reader.old.number → ⊥) → IsAt log.new r }
 {
     reader.step();

@@ -29,7 +29,7 @@ impl Model for RawTails {
 }
 
 impl RawTails {
-    ghost use Rattle.raw_tails.specs.Tails.{IsTails, added, behind, counted, end_of, exchanged, offset_of, opened_at, term_of, word_of};
+    ghost use Rattle.raw_tails.specs.Tails.{IsTails, added, behind, counted, end_of, exchanged, offset_of, opened_at, term_of, turned, word_of};
 
     /// The tails of a log that opens at a position.
     pub fn open(geometry: Geometry, start: u64) -> RawTails
@@ -124,11 +124,21 @@ impl RawTails {
     {
         let partition = partition_of(count + 1);
         let before = self.tail(partition);
-        if before == loaded {
-            self.newest = count + 1;
-            self.offsets[partition as usize] = 0;
+        if before.word() == loaded.word() {
+            self.turn();
         }
         before
+    }
+
+    /// Begins the next term: its partition is the one behind the newest term's, which is used up.
+    fn turn(&mut self)
+        requires last { self.old.newest + 1 < 2 ^ 31 }
+        requires finished { term_of self.old ≤ offset_of self.old self.old.newest }
+        ensures turned { self.new ≡ turned self.old }
+        ensures stays { end_of self.new ≡ end_of self.old }
+    {
+        self.newest += 1;
+        self.offsets[partition_of(self.newest) as usize] = 0;
     }
 
     /// Exchanges the active count to the one behind it, if it is still this one. The answer is the count that was there.
