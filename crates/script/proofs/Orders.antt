@@ -1,5 +1,5 @@
 -- The commands of lines: reading one, and being said, are the same.
-use Rattle.std.proofs.Common.{◌≡◌, ℕ, true, cond, List, [], ◌∷◌, Option, Some, None, inl, inr, sym, ap, subst, ◌∙◌}
+use Rattle.std.proofs.Common.{◌≡◌, ℕ, true, cond, List, [], ◌∷◌, Option, Some, inl, inr, sym, ap, subst, ◌∙◌}
 use Rattle.std.specs.Prelude.{bytes_eq, codes}
 use Rattle.script.specs.Meaning.{Order, Connect, Disconnect, Close, Limit, Offer, OfferSize, Send, Deliver, Tick, Reply, Poll, Image}
 use Rattle.script.specs.Pieces.{words}
