@@ -15,7 +15,7 @@ pub record Opening : Type 0 where
   pub stream : ℤ
   pub readers : ℕ
 
--- what one line asks for; a message is its bytes, a publisher or receiver its number
+-- what one line asks for; a message is its bytes or how many they are, a publisher or receiver its number
 pub data Order : Type 0 where
   Connect : Order
   Disconnect : Order
