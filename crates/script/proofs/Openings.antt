@@ -4,7 +4,7 @@ use Rattle.std.specs.Prelude.{bytes_eq, codes}
 use Rattle.script.specs.Meaning.{Opening}
 use Rattle.script.specs.Pieces.{words}
 use Rattle.script.specs.Values.{◌>>=◌}
-use Rattle.script.specs.Reading.{word_at, number_at, signed_at, opening_of, log_of, is_log, is_log_name}
+use Rattle.script.specs.Reading.{word_at, number_at, signed_at, most_wide, opening_of, log_of, is_log, is_log_name}
 use Rattle.script.specs.Language.{AreLogWords, SayLog, Opens, BeginsLog}
 use Rattle.script.proofs.Options.{bind_some, some_bind, guarded_step}
 use Rattle.script.proofs.Fields.{same_name, word_found, number_at_found, number_at_only, signed_at_found, signed_at_only, whole_found, whole_only}
@@ -18,14 +18,14 @@ opening_found ws log h =
     let x1 = bind_some (number_at (2 ^ 32 - 1) ws) _ log h in
     let x2 = bind_some (number_at (2 ^ 32 - 1) x1.0.1) _ log x1.2 in
     let x3 = bind_some (signed_at x2.0.1) _ log x2.2 in
-    let x4 = bind_some (number_at 0 x3.0.1) _ log x3.2 in
+    let x4 = bind_some (number_at most_wide x3.0.1) _ log x3.2 in
     let x5 = bind_some (signed_at x4.0.1) _ log x4.2 in
     let x6 = bind_some (signed_at x5.0.1) _ log x5.2 in
     let x7 = bind_some (number_at 0 x6.0.1) _ log x6.2 in
     let a = number_at_found (2 ^ 32 - 1) ws x1.0 x1.1 in
     let b = number_at_found (2 ^ 32 - 1) x1.0.1 x2.0 x2.1 in
     let c = signed_at_found x2.0.1 x3.0 x3.1 in
-    let d = number_at_found 0 x3.0.1 x4.0 x4.1 in
+    let d = number_at_found most_wide x3.0.1 x4.0 x4.1 in
     let e = signed_at_found x4.0.1 x5.0 x5.1 in
     let f = signed_at_found x5.0.1 x6.0 x6.1 in
     let g = number_at_found 0 x6.0.1 x7.0 x7.1 in
@@ -40,7 +40,7 @@ opening_only log a b c d e f g ws are =
     some_bind _ _ _ (number_at_only (2 ^ 32 - 1) a (b ∷ c ∷ d ∷ e ∷ f ∷ g ∷ []) log.term_length are.term_length_is)
     ∙ some_bind _ _ _ (number_at_only (2 ^ 32 - 1) b (c ∷ d ∷ e ∷ f ∷ g ∷ []) log.mtu are.mtu_is)
     ∙ some_bind _ _ _ (signed_at_only c (d ∷ e ∷ f ∷ g ∷ []) log.initial_term_id are.initial_is)
-    ∙ some_bind _ _ _ (number_at_only 0 d (e ∷ f ∷ g ∷ []) log.start are.start_is)
+    ∙ some_bind _ _ _ (number_at_only most_wide d (e ∷ f ∷ g ∷ []) log.start are.start_is)
     ∙ some_bind _ _ _ (signed_at_only e (f ∷ g ∷ []) log.session are.session_is)
     ∙ some_bind _ _ _ (signed_at_only f (g ∷ []) log.stream are.stream_is)
     ∙ some_bind _ _ _ (number_at_only 0 g [] log.readers are.readers_is)

@@ -1,11 +1,11 @@
 -- The commands of lines: reading one, and being said, are the same.
-use Rattle.std.proofs.Common.{◌≡◌, ℕ, true, cond, List, [], ◌∷◌, Option, Some, None, inl, inr, sym, ap, subst, ◌∙◌}
+use Rattle.std.proofs.Common.{◌≡◌, ℕ, true, cond, List, [], ◌∷◌, Option, Some, inl, inr, sym, ap, subst, ◌∙◌}
 use Rattle.std.specs.Prelude.{bytes_eq, codes}
-use Rattle.script.specs.Meaning.{Order, Connect, Limit, Offer, Send, Deliver, Tick, Reply, Poll, Image}
+use Rattle.script.specs.Meaning.{Order, Connect, Disconnect, Close, Limit, Offer, OfferSize, Send, Deliver, Tick, Reply, Poll, Image}
 use Rattle.script.specs.Pieces.{words}
 use Rattle.script.specs.Values.{◌>>=◌, hex_of}
-use Rattle.script.specs.Reading.{word_at, number_at, most_moment, whole, offer_of, send_of, deliver_of, tick_of, reply_of, poll_of, image_of, plain_of, command_of}
-use Rattle.script.specs.Language.{SayOrder, Says}
+use Rattle.script.specs.Reading.{word_at, number_at, most_wide, whole, offer_hex_of, offer_size_of, form_of, offer_of, send_of, deliver_of, tick_of, reply_of, poll_of, image_of, plain_of, command_of}
+use Rattle.script.specs.Language.{IsSeat, IsWide, IsHex, SayOrder, Says}
 use Rattle.script.proofs.Options.{bind_some, some_bind, chosen, guarded_step}
 use Rattle.script.proofs.Words.{hex_found, hex_only}
 use Rattle.script.proofs.Fields.{same_name, word_found, number_at_found, number_at_only, whole_found, whole_only}
@@ -13,8 +13,8 @@ use Rattle.script.proofs.Fields.{same_name, word_found, number_at_found, number_
 send_found : (ws : List (List ℕ)) (o : Order) → send_of ws ≡ Some o → SayOrder (codes "send" ∷ ws) o
 unfolding send_of
 send_found ws o e =
-    let now = bind_some (number_at most_moment ws) (λ now. whole (Send now.0) now.1) o e in
-    let a = number_at_found most_moment ws now.0 now.1 in
+    let now = bind_some (number_at most_wide ws) (λ now. whole (Send now.0) now.1) o e in
+    let a = number_at_found most_wide ws now.0 now.1 in
     let end = whole_found (Send now.0.0) now.0.1 o now.2 in
     subst (SayOrder (codes "send" ∷ ws)) end.1 (a.0, ap (λ rest. codes "send" ∷ rest) (a.1 ∙ ap (λ rest. a.0 ∷ rest) end.0), a.2)
 
@@ -37,10 +37,10 @@ image_found ws o e =
 tick_found : (ws : List (List ℕ)) (o : Order) → tick_of ws ≡ Some o → SayOrder (codes "tick" ∷ ws) o
 unfolding tick_of
 tick_found ws o e =
-    let r = bind_some (number_at 7 ws) (λ r. number_at most_moment r.1 >>= λ now. whole (Tick r.0 now.0) now.1) o e in
+    let r = bind_some (number_at 7 ws) (λ r. number_at most_wide r.1 >>= λ now. whole (Tick r.0 now.0) now.1) o e in
     let a = number_at_found 7 ws r.0 r.1 in
-    let now = bind_some (number_at most_moment r.0.1) (λ now. whole (Tick r.0.0 now.0) now.1) o r.2 in
-    let b = number_at_found most_moment r.0.1 now.0 now.1 in
+    let now = bind_some (number_at most_wide r.0.1) (λ now. whole (Tick r.0.0 now.0) now.1) o r.2 in
+    let b = number_at_found most_wide r.0.1 now.0 now.1 in
     let end = whole_found (Tick r.0.0 now.0.0) now.0.1 o now.2 in
     subst (SayOrder (codes "tick" ∷ ws)) end.1
     (a.0, b.0, ap (λ rest. codes "tick" ∷ rest) (a.1 ∙ ap (λ rest. a.0 ∷ rest) (b.1 ∙ ap (λ rest. b.0 ∷ rest) end.0)), a.2, b.2)
@@ -48,10 +48,10 @@ tick_found ws o e =
 reply_found : (ws : List (List ℕ)) (o : Order) → reply_of ws ≡ Some o → SayOrder (codes "reply" ∷ ws) o
 unfolding reply_of
 reply_found ws o e =
-    let k = bind_some (number_at most_moment ws) (λ k. number_at most_moment k.1 >>= λ now. whole (Reply k.0 now.0) now.1) o e in
-    let a = number_at_found most_moment ws k.0 k.1 in
-    let now = bind_some (number_at most_moment k.0.1) (λ now. whole (Reply k.0.0 now.0) now.1) o k.2 in
-    let b = number_at_found most_moment k.0.1 now.0 now.1 in
+    let k = bind_some (number_at most_wide ws) (λ k. number_at most_wide k.1 >>= λ now. whole (Reply k.0 now.0) now.1) o e in
+    let a = number_at_found most_wide ws k.0 k.1 in
+    let now = bind_some (number_at most_wide k.0.1) (λ now. whole (Reply k.0.0 now.0) now.1) o k.2 in
+    let b = number_at_found most_wide k.0.1 now.0 now.1 in
     let end = whole_found (Reply k.0.0 now.0.0) now.0.1 o now.2 in
     subst (SayOrder (codes "reply" ∷ ws)) end.1
     (a.0, b.0, ap (λ rest. codes "reply" ∷ rest) (a.1 ∙ ap (λ rest. a.0 ∷ rest) (b.1 ∙ ap (λ rest. b.0 ∷ rest) end.0)), a.2, b.2)
@@ -59,30 +59,57 @@ reply_found ws o e =
 deliver_found : (ws : List (List ℕ)) (o : Order) → deliver_of ws ≡ Some o → SayOrder (codes "deliver" ∷ ws) o
 unfolding deliver_of
 deliver_found ws o e =
-    let k = bind_some (number_at most_moment ws) (λ k. number_at 7 k.1 >>= λ r. number_at most_moment r.1 >>= λ now. whole (Deliver k.0 r.0 now.0) now.1) o e in
-    let a = number_at_found most_moment ws k.0 k.1 in
-    let r = bind_some (number_at 7 k.0.1) (λ r. number_at most_moment r.1 >>= λ now. whole (Deliver k.0.0 r.0 now.0) now.1) o k.2 in
+    let k = bind_some (number_at most_wide ws) (λ k. number_at 7 k.1 >>= λ r. number_at most_wide r.1 >>= λ now. whole (Deliver k.0 r.0 now.0) now.1) o e in
+    let a = number_at_found most_wide ws k.0 k.1 in
+    let r = bind_some (number_at 7 k.0.1) (λ r. number_at most_wide r.1 >>= λ now. whole (Deliver k.0.0 r.0 now.0) now.1) o k.2 in
     let b = number_at_found 7 k.0.1 r.0 r.1 in
-    let now = bind_some (number_at most_moment r.0.1) (λ now. whole (Deliver k.0.0 r.0.0 now.0) now.1) o r.2 in
-    let c = number_at_found most_moment r.0.1 now.0 now.1 in
+    let now = bind_some (number_at most_wide r.0.1) (λ now. whole (Deliver k.0.0 r.0.0 now.0) now.1) o r.2 in
+    let c = number_at_found most_wide r.0.1 now.0 now.1 in
     let end = whole_found (Deliver k.0.0 r.0.0 now.0.0) now.0.1 o now.2 in
     subst (SayOrder (codes "deliver" ∷ ws)) end.1
     (a.0, b.0, c.0, ap (λ rest. codes "deliver" ∷ rest) (a.1 ∙ ap (λ rest. a.0 ∷ rest) (b.1 ∙ ap (λ rest. b.0 ∷ rest) (c.1 ∙ ap (λ rest. c.0 ∷ rest) end.0))), a.2, b.2, c.2)
 
+-- the words of an offer, whose form passes a test
+offered : (a form name b : List ℕ) (ws : List (List ℕ)) → bytes_eq form name ≡ true → ws ≡ b ∷ [] → codes "offer" ∷ a ∷ form ∷ ws ≡ codes "offer" ∷ a ∷ name ∷ b ∷ []
+offered a form name b ws e last = ap (λ f. codes "offer" ∷ a ∷ f ∷ ws) (same_name form name e) ∙ ap (λ rest. codes "offer" ∷ a ∷ name ∷ rest) last
+
+hex_offered : (p : ℕ) (ws : List (List ℕ)) (o : Order) → offer_hex_of p ws ≡ Some o → (b : List ℕ) × (m : List ℕ) × (ws ≡ b ∷ []) × IsHex b m × (Offer p m ≡ o)
+unfolding offer_hex_of
+hex_offered p ws o e =
+    let digits = bind_some (word_at ws) (λ digits. hex_of digits.0 >>= λ message. whole (Offer p message) digits.1) o e in
+    let message = bind_some (hex_of digits.0.0) (λ message. whole (Offer p message) digits.0.1) o digits.2 in
+    let end = whole_found (Offer p message.0) digits.0.1 o message.2 in
+    (digits.0.0, message.0, word_found ws digits.0 digits.1 ∙ ap (λ rest. digits.0.0 ∷ rest) end.0, hex_found digits.0.0 message.0 message.1, end.1)
+
+size_offered : (p : ℕ) (ws : List (List ℕ)) (o : Order) → offer_size_of p ws ≡ Some o → (b : List ℕ) × (n : ℕ) × (ws ≡ b ∷ []) × IsWide b n × (OfferSize p n ≡ o)
+unfolding offer_size_of
+size_offered p ws o e =
+    let size = bind_some (number_at most_wide ws) (λ size. whole (OfferSize p size.0) size.1) o e in
+    let b = number_at_found most_wide ws size.0 size.1 in
+    let end = whole_found (OfferSize p size.0.0) size.0.1 o size.2 in
+    (b.0, size.0.0, b.1 ∙ ap (λ rest. b.0 ∷ rest) end.0, b.2, end.1)
+
+-- an offer, behind its publisher
+form_found : (a : List ℕ) (p : ℕ) (form : List ℕ) (ws : List (List ℕ)) (o : Order) → IsSeat a p → form_of p form ws ≡ Some o → SayOrder (codes "offer" ∷ a ∷ form ∷ ws) o
+unfolding form_of
+form_found a p form ws o is_a e = elim (chosen (bytes_eq form (codes "hex")) _ _ _ e) [
+  | inl h ↦
+      let b = hex_offered p ws o h.1 in
+      subst (SayOrder (codes "offer" ∷ a ∷ form ∷ ws)) b.4 (a, b.0, offered a form (codes "hex") b.0 ws h.0 b.2, is_a, b.3)
+  | inr other ↦
+      let h = guarded_step (bytes_eq form (codes "size")) (offer_size_of p ws) o other.1 in
+      let b = size_offered p ws o h.1 in
+      subst (SayOrder (codes "offer" ∷ a ∷ form ∷ ws)) b.4 (a, b.0, offered a form (codes "size") b.0 ws h.0 b.2, is_a, b.3)
+]
+
 offer_found : (ws : List (List ℕ)) (o : Order) → offer_of ws ≡ Some o → SayOrder (codes "offer" ∷ ws) o
 unfolding offer_of
 offer_found ws o e =
-    let p = bind_some (number_at 7 ws) (λ p. word_at p.1 >>= λ form. cond (bytes_eq form.0 (codes "hex")) (word_at form.1 >>= λ digits. hex_of digits.0 >>= λ message. whole (Offer p.0 message) digits.1) None) o e in
+    let p = bind_some (number_at 7 ws) (λ p. word_at p.1 >>= λ form. form_of p.0 form.0 form.1) o e in
     let a = number_at_found 7 ws p.0 p.1 in
-    let form = bind_some (word_at p.0.1) (λ form. cond (bytes_eq form.0 (codes "hex")) (word_at form.1 >>= λ digits. hex_of digits.0 >>= λ message. whole (Offer p.0.0 message) digits.1) None) o p.2 in
-    let hex = guarded_step (bytes_eq form.0.0 (codes "hex")) (word_at form.0.1 >>= λ digits. hex_of digits.0 >>= λ message. whole (Offer p.0.0 message) digits.1) o form.2 in
-    let digits = bind_some (word_at form.0.1) (λ digits. hex_of digits.0 >>= λ message. whole (Offer p.0.0 message) digits.1) o hex.1 in
-    let message = bind_some (hex_of digits.0.0) (λ message. whole (Offer p.0.0 message) digits.0.1) o digits.2 in
-    let end = whole_found (Offer p.0.0 message.0) digits.0.1 o message.2 in
-    let named : p.0.1 ≡ codes "hex" ∷ form.0.1 = word_found p.0.1 form.0 form.1 ∙ ap (λ w. w ∷ form.0.1) (same_name form.0.0 (codes "hex") hex.0) in
-    let last : form.0.1 ≡ digits.0.0 ∷ [] = word_found form.0.1 digits.0 digits.1 ∙ ap (λ rest. digits.0.0 ∷ rest) end.0 in
-    subst (SayOrder (codes "offer" ∷ ws)) end.1
-    (a.0, digits.0.0, ap (λ rest. codes "offer" ∷ rest) (a.1 ∙ ap (λ rest. a.0 ∷ rest) (named ∙ ap (λ rest. codes "hex" ∷ rest) last)), a.2, hex_found digits.0.0 message.0 message.1)
+    let form = bind_some (word_at p.0.1) (λ form. form_of p.0.0 form.0 form.1) o p.2 in
+    let whole : ws ≡ a.0 ∷ form.0.0 ∷ form.0.1 = a.1 ∙ ap (λ rest. a.0 ∷ rest) (word_found p.0.1 form.0 form.1) in
+    subst (λ ws. SayOrder (codes "offer" ∷ ws) o) (sym whole) (form_found a.0 p.0.0 form.0.0 form.0.1 o a.2 form.2)
 
 -- a name that passes a test is that name
 named_says : (name : List ℕ) (word : List ℕ) (ws : List (List ℕ)) (o : Order) → bytes_eq name word ≡ true → SayOrder (word ∷ ws) o → SayOrder (name ∷ ws) o
@@ -93,6 +120,16 @@ connect_found ws o e =
     let end = whole_found Connect ws o e in
     subst (SayOrder (codes "connect" ∷ ws)) end.1 (ap (λ rest. codes "connect" ∷ rest) end.0)
 
+disconnect_found : (ws : List (List ℕ)) (o : Order) → whole Disconnect ws ≡ Some o → SayOrder (codes "disconnect" ∷ ws) o
+disconnect_found ws o e =
+    let end = whole_found Disconnect ws o e in
+    subst (SayOrder (codes "disconnect" ∷ ws)) end.1 (ap (λ rest. codes "disconnect" ∷ rest) end.0)
+
+close_found : (ws : List (List ℕ)) (o : Order) → whole Close ws ≡ Some o → SayOrder (codes "close" ∷ ws) o
+close_found ws o e =
+    let end = whole_found Close ws o e in
+    subst (SayOrder (codes "close" ∷ ws)) end.1 (ap (λ rest. codes "close" ∷ rest) end.0)
+
 limit_found : (ws : List (List ℕ)) (o : Order) → whole Limit ws ≡ Some o → SayOrder (codes "limit" ∷ ws) o
 limit_found ws o e =
     let end = whole_found Limit ws o e in
@@ -102,21 +139,27 @@ plain_found : (name : List ℕ) (ws : List (List ℕ)) (o : Order) → plain_of 
 unfolding plain_of
 plain_found name ws o e = elim (chosen (bytes_eq name (codes "connect")) _ _ _ e) [
   | inl h ↦ named_says name (codes "connect") ws o h.0 (connect_found ws o h.1)
-  | inr f1 ↦ elim (chosen (bytes_eq name (codes "limit")) _ _ _ f1.1) [
-    | inl h ↦ named_says name (codes "limit") ws o h.0 (limit_found ws o h.1)
-    | inr f2 ↦ elim (chosen (bytes_eq name (codes "send")) _ _ _ f2.1) [
-      | inl h ↦ named_says name (codes "send") ws o h.0 (send_found ws o h.1)
-      | inr f3 ↦ elim (chosen (bytes_eq name (codes "deliver")) _ _ _ f3.1) [
-        | inl h ↦ named_says name (codes "deliver") ws o h.0 (deliver_found ws o h.1)
-        | inr f4 ↦ elim (chosen (bytes_eq name (codes "tick")) _ _ _ f4.1) [
-          | inl h ↦ named_says name (codes "tick") ws o h.0 (tick_found ws o h.1)
-          | inr f5 ↦ elim (chosen (bytes_eq name (codes "reply")) _ _ _ f5.1) [
-            | inl h ↦ named_says name (codes "reply") ws o h.0 (reply_found ws o h.1)
-            | inr f6 ↦ elim (chosen (bytes_eq name (codes "poll")) _ _ _ f6.1) [
-              | inl h ↦ named_says name (codes "poll") ws o h.0 (poll_found ws o h.1)
-              | inr f7 ↦
-                  let h = guarded_step (bytes_eq name (codes "image")) (image_of ws) o f7.1 in
-                  named_says name (codes "image") ws o h.0 (image_found ws o h.1)
+  | inr f1 ↦ elim (chosen (bytes_eq name (codes "disconnect")) _ _ _ f1.1) [
+    | inl h ↦ named_says name (codes "disconnect") ws o h.0 (disconnect_found ws o h.1)
+    | inr f2 ↦ elim (chosen (bytes_eq name (codes "close")) _ _ _ f2.1) [
+      | inl h ↦ named_says name (codes "close") ws o h.0 (close_found ws o h.1)
+      | inr f3 ↦ elim (chosen (bytes_eq name (codes "limit")) _ _ _ f3.1) [
+        | inl h ↦ named_says name (codes "limit") ws o h.0 (limit_found ws o h.1)
+        | inr f4 ↦ elim (chosen (bytes_eq name (codes "send")) _ _ _ f4.1) [
+          | inl h ↦ named_says name (codes "send") ws o h.0 (send_found ws o h.1)
+          | inr f5 ↦ elim (chosen (bytes_eq name (codes "deliver")) _ _ _ f5.1) [
+            | inl h ↦ named_says name (codes "deliver") ws o h.0 (deliver_found ws o h.1)
+            | inr f6 ↦ elim (chosen (bytes_eq name (codes "tick")) _ _ _ f6.1) [
+              | inl h ↦ named_says name (codes "tick") ws o h.0 (tick_found ws o h.1)
+              | inr f7 ↦ elim (chosen (bytes_eq name (codes "reply")) _ _ _ f7.1) [
+                | inl h ↦ named_says name (codes "reply") ws o h.0 (reply_found ws o h.1)
+                | inr f8 ↦ elim (chosen (bytes_eq name (codes "poll")) _ _ _ f8.1) [
+                  | inl h ↦ named_says name (codes "poll") ws o h.0 (poll_found ws o h.1)
+                  | inr f9 ↦
+                      let h = guarded_step (bytes_eq name (codes "image")) (image_of ws) o f9.1 in
+                      named_says name (codes "image") ws o h.0 (image_found ws o h.1)
+                ]
+              ]
             ]
           ]
         ]
@@ -141,28 +184,34 @@ read_words : List (List ℕ) → Option Order
 read_words ws = word_at ws >>= λ name. cond (bytes_eq name.0 (codes "offer")) (offer_of name.1) (plain_of name.0 name.1)
 
 words_only : (ws : List (List ℕ)) (order : Order) → SayOrder ws order → read_words ws ≡ Some order
-unfolding read_words word_at plain_of offer_of send_of deliver_of tick_of reply_of poll_of image_of
+unfolding read_words word_at plain_of offer_of form_of offer_hex_of offer_size_of send_of deliver_of tick_of reply_of poll_of image_of
 words_only ws Connect is = ap read_words is ∙ whole_only Connect
+words_only ws Disconnect is = ap read_words is ∙ whole_only Disconnect
+words_only ws Close is = ap read_words is ∙ whole_only Close
 words_only ws Limit is = ap read_words is ∙ whole_only Limit
 words_only ws (Offer p m) (a, b, is, is_a, is_b) =
     ap read_words is
     ∙ some_bind (number_at 7 (a ∷ codes "hex" ∷ b ∷ [])) _ (p, codes "hex" ∷ b ∷ []) (number_at_only 7 a (codes "hex" ∷ b ∷ []) p is_a)
     ∙ some_bind (hex_of b) _ m (hex_only b m is_b) ∙ whole_only (Offer p m)
+words_only ws (OfferSize p n) (a, b, is, is_a, is_b) =
+    ap read_words is
+    ∙ some_bind (number_at 7 (a ∷ codes "size" ∷ b ∷ [])) _ (p, codes "size" ∷ b ∷ []) (number_at_only 7 a (codes "size" ∷ b ∷ []) p is_a)
+    ∙ some_bind (number_at most_wide (b ∷ [])) _ (n, []) (number_at_only most_wide b [] n is_b) ∙ whole_only (OfferSize p n)
 words_only ws (Send now) (a, is, is_a) =
-    ap read_words is ∙ some_bind (number_at most_moment (a ∷ [])) _ (now, []) (number_at_only most_moment a [] now is_a) ∙ whole_only (Send now)
+    ap read_words is ∙ some_bind (number_at most_wide (a ∷ [])) _ (now, []) (number_at_only most_wide a [] now is_a) ∙ whole_only (Send now)
 words_only ws (Deliver k r now) (a, b, c, is, is_a, is_b, is_c) =
     ap read_words is
-    ∙ some_bind (number_at most_moment (a ∷ b ∷ c ∷ [])) _ (k, b ∷ c ∷ []) (number_at_only most_moment a (b ∷ c ∷ []) k is_a)
+    ∙ some_bind (number_at most_wide (a ∷ b ∷ c ∷ [])) _ (k, b ∷ c ∷ []) (number_at_only most_wide a (b ∷ c ∷ []) k is_a)
     ∙ some_bind (number_at 7 (b ∷ c ∷ [])) _ (r, c ∷ []) (number_at_only 7 b (c ∷ []) r is_b)
-    ∙ some_bind (number_at most_moment (c ∷ [])) _ (now, []) (number_at_only most_moment c [] now is_c) ∙ whole_only (Deliver k r now)
+    ∙ some_bind (number_at most_wide (c ∷ [])) _ (now, []) (number_at_only most_wide c [] now is_c) ∙ whole_only (Deliver k r now)
 words_only ws (Tick r now) (a, b, is, is_a, is_b) =
     ap read_words is
     ∙ some_bind (number_at 7 (a ∷ b ∷ [])) _ (r, b ∷ []) (number_at_only 7 a (b ∷ []) r is_a)
-    ∙ some_bind (number_at most_moment (b ∷ [])) _ (now, []) (number_at_only most_moment b [] now is_b) ∙ whole_only (Tick r now)
+    ∙ some_bind (number_at most_wide (b ∷ [])) _ (now, []) (number_at_only most_wide b [] now is_b) ∙ whole_only (Tick r now)
 words_only ws (Reply k now) (a, b, is, is_a, is_b) =
     ap read_words is
-    ∙ some_bind (number_at most_moment (a ∷ b ∷ [])) _ (k, b ∷ []) (number_at_only most_moment a (b ∷ []) k is_a)
-    ∙ some_bind (number_at most_moment (b ∷ [])) _ (now, []) (number_at_only most_moment b [] now is_b) ∙ whole_only (Reply k now)
+    ∙ some_bind (number_at most_wide (a ∷ b ∷ [])) _ (k, b ∷ []) (number_at_only most_wide a (b ∷ []) k is_a)
+    ∙ some_bind (number_at most_wide (b ∷ [])) _ (now, []) (number_at_only most_wide b [] now is_b) ∙ whole_only (Reply k now)
 words_only ws (Poll r) (a, is, is_a) =
     ap read_words is ∙ some_bind (number_at 7 (a ∷ [])) _ (r, []) (number_at_only 7 a [] r is_a) ∙ whole_only (Poll r)
 words_only ws (Image r) (a, is, is_a) =

@@ -3,7 +3,7 @@ use Rattle.std.specs.Prelude.{◌≡◌, ℕ, ◌+◌, ◌-◌, ◌*◌, ◌^◌
 use Rattle.std.specs.List.{AllPass, Any, filter}
 use Rattle.std.specs.Char.{is_ascii_digit}
 use Rattle.std.specs.Str.Parse.{digits_value}
-use Rattle.script.specs.Meaning.{Opening, Order, Told, Connect, Limit, Offer, Send, Deliver, Tick, Reply, Poll, Image}
+use Rattle.script.specs.Meaning.{Opening, Order, Told, Connect, Disconnect, Close, Limit, Offer, OfferSize, Send, Deliver, Tick, Reply, Poll, Image}
 use Rattle.script.specs.Pieces.{lines, words}
 
 -- the word is a number, in decimal digits, with any leading zeros
@@ -19,7 +19,7 @@ IsUpTo most word n = IsNumber word n × (n ≤ most)
 abbrev pub IsSeat : List ℕ → ℕ → Type 0
 IsSeat word n = IsUpTo 7 word n
 
--- a number of 64 bits, as packets and moments have
+-- a number of 64 bits, as sizes, packets, moments and starts are
 abbrev pub IsWide : List ℕ → ℕ → Type 0
 IsWide word n = IsUpTo (2 ^ 64 - 1) word n
 
@@ -48,8 +48,11 @@ IsHex word bytes = (0 < length bytes) × SpellsBytes word bytes
 -- words that say a command
 abbrev pub SayOrder : List (List ℕ) → Order → Type 0
 SayOrder ws Connect = ws ≡ codes "connect" ∷ []
+SayOrder ws Disconnect = ws ≡ codes "disconnect" ∷ []
+SayOrder ws Close = ws ≡ codes "close" ∷ []
 SayOrder ws Limit = ws ≡ codes "limit" ∷ []
 SayOrder ws (Offer publisher message) = (a : List ℕ) × (b : List ℕ) × (ws ≡ codes "offer" ∷ a ∷ codes "hex" ∷ b ∷ []) × IsSeat a publisher × IsHex b message
+SayOrder ws (OfferSize publisher size) = (a : List ℕ) × (b : List ℕ) × (ws ≡ codes "offer" ∷ a ∷ codes "size" ∷ b ∷ []) × IsSeat a publisher × IsWide b size
 SayOrder ws (Send now) = (a : List ℕ) × (ws ≡ codes "send" ∷ a ∷ []) × IsWide a now
 SayOrder ws (Deliver packet receiver now) = (a : List ℕ) × (b : List ℕ) × (c : List ℕ) × (ws ≡ codes "deliver" ∷ a ∷ b ∷ c ∷ []) × IsWide a packet × IsSeat b receiver × IsWide c now
 SayOrder ws (Tick receiver now) = (a : List ℕ) × (b : List ℕ) × (ws ≡ codes "tick" ∷ a ∷ b ∷ []) × IsSeat a receiver × IsWide b now
@@ -63,7 +66,7 @@ pub record AreLogWords (ws : List (List ℕ)) (log : Opening) (term_length mtu i
   pub term_length_is : IsUpTo (2 ^ 32 - 1) term_length log.term_length
   pub mtu_is : IsUpTo (2 ^ 32 - 1) mtu log.mtu
   pub initial_is : IsSigned initial log.initial_term_id
-  pub start_is : IsUpTo 0 start log.start
+  pub start_is : IsWide start log.start
   pub session_is : IsSigned session log.session
   pub stream_is : IsSigned stream log.stream
   pub readers_is : IsUpTo 0 readers log.readers

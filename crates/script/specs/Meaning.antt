@@ -15,11 +15,14 @@ pub record Opening : Type 0 where
   pub stream : ℤ
   pub readers : ℕ
 
--- what one line asks for; a message is its bytes, a publisher or receiver its number
+-- what one line asks for; a message is its bytes or how many they are, a publisher or receiver its number
 pub data Order : Type 0 where
   Connect : Order
+  Disconnect : Order
+  Close : Order
   Limit : Order
   Offer : ℕ → List ℕ → Order
+  OfferSize : ℕ → ℕ → Order
   Send : ℕ → Order
   Deliver : ℕ → ℕ → ℕ → Order
   Tick : ℕ → ℕ → Order
@@ -41,8 +44,11 @@ opened (Some log) = Some (opening log)
 
 abbrev pub order : Command → Order
 order commands.Connect = Connect
+order commands.Disconnect = Disconnect
+order commands.Close = Close
 order commands.Limit = Limit
 order (commands.Offer publisher message) = Offer publisher.number message.items
+order (commands.OfferSize publisher size) = OfferSize publisher.number size
 order (commands.Send now) = Send now
 order (commands.Deliver packet receiver now) = Deliver packet receiver.number now
 order (commands.Tick receiver now) = Tick receiver.number now

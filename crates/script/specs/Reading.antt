@@ -3,7 +3,7 @@ use Rattle.std.specs.Prelude.{◌≡◌, ℕ, ◌+◌, ◌-◌, ◌^◌, ℤ, Bo
 use Rattle.std.specs.List.{list_any}
 use Rattle.script.specs.declared.fault.ScriptFault.{ScriptFault}
 use Rattle.script.specs.declared.fault.ScriptFault.TheVariants as faults
-use Rattle.script.specs.Meaning.{Opening, Order, Told, Connect, Limit, Offer, Send, Deliver, Tick, Reply, Poll, Image}
+use Rattle.script.specs.Meaning.{Opening, Order, Told, Connect, Disconnect, Close, Limit, Offer, OfferSize, Send, Deliver, Tick, Reply, Poll, Image}
 use Rattle.script.specs.Pieces.{lines, words}
 use Rattle.script.specs.Values.{◌>>=◌, number_of, signed_of, hex_of}
 
@@ -32,8 +32,9 @@ number_at most ws = word_at ws >>= λ w. number_of most w.0 >>= λ n. Some (n, w
 unfoldable pub signed_at : List (List ℕ) → Option (ℤ × List (List ℕ))
 signed_at ws = word_at ws >>= λ w. signed_of w.0 >>= λ n. Some (n, w.1)
 
-abbrev pub most_moment : ℕ
-most_moment = 2 ^ 64 - 1
+-- the greatest number of 64 bits
+abbrev pub most_wide : ℕ
+most_wide = 2 ^ 64 - 1
 
 -- nothing, if no word is left
 unfoldable pub end_of : List (List ℕ) → Option (Unit {0})
@@ -44,21 +45,33 @@ end_of (word ∷ rest) = None
 abbrev pub whole : {A : Type 0} → A → List (List ℕ) → Option A
 whole x ws = end_of ws >>= λ _. Some x
 
+-- what stands behind the form of an offer
+unfoldable pub offer_hex_of : ℕ → List (List ℕ) → Option Order
+offer_hex_of publisher ws = word_at ws >>= λ digits. hex_of digits.0 >>= λ message. whole (Offer publisher message) digits.1
+
+unfoldable pub offer_size_of : ℕ → List (List ℕ) → Option Order
+offer_size_of publisher ws = number_at most_wide ws >>= λ size. whole (OfferSize publisher size.0) size.1
+
+unfoldable pub form_of : ℕ → List ℕ → List (List ℕ) → Option Order
+form_of publisher form ws =
+    if bytes_eq form (codes "hex") then offer_hex_of publisher ws
+    else (if bytes_eq form (codes "size") then offer_size_of publisher ws else None)
+
 -- what stands behind the name of each command
 unfoldable pub offer_of : List (List ℕ) → Option Order
-offer_of ws = number_at 7 ws >>= λ p. word_at p.1 >>= λ form. (if bytes_eq form.0 (codes "hex") then (word_at form.1 >>= λ digits. hex_of digits.0 >>= λ message. whole (Offer p.0 message) digits.1) else None)
+offer_of ws = number_at 7 ws >>= λ p. word_at p.1 >>= λ form. form_of p.0 form.0 form.1
 
 unfoldable pub send_of : List (List ℕ) → Option Order
-send_of ws = number_at most_moment ws >>= λ now. whole (Send now.0) now.1
+send_of ws = number_at most_wide ws >>= λ now. whole (Send now.0) now.1
 
 unfoldable pub deliver_of : List (List ℕ) → Option Order
-deliver_of ws = number_at most_moment ws >>= λ packet. number_at 7 packet.1 >>= λ receiver. number_at most_moment receiver.1 >>= λ now. whole (Deliver packet.0 receiver.0 now.0) now.1
+deliver_of ws = number_at most_wide ws >>= λ packet. number_at 7 packet.1 >>= λ receiver. number_at most_wide receiver.1 >>= λ now. whole (Deliver packet.0 receiver.0 now.0) now.1
 
 unfoldable pub tick_of : List (List ℕ) → Option Order
-tick_of ws = number_at 7 ws >>= λ receiver. number_at most_moment receiver.1 >>= λ now. whole (Tick receiver.0 now.0) now.1
+tick_of ws = number_at 7 ws >>= λ receiver. number_at most_wide receiver.1 >>= λ now. whole (Tick receiver.0 now.0) now.1
 
 unfoldable pub reply_of : List (List ℕ) → Option Order
-reply_of ws = number_at most_moment ws >>= λ packet. number_at most_moment packet.1 >>= λ now. whole (Reply packet.0 now.0) now.1
+reply_of ws = number_at most_wide ws >>= λ packet. number_at most_wide packet.1 >>= λ now. whole (Reply packet.0 now.0) now.1
 
 unfoldable pub poll_of : List (List ℕ) → Option Order
 poll_of ws = number_at 7 ws >>= λ receiver. whole (Poll receiver.0) receiver.1
@@ -70,13 +83,15 @@ image_of ws = number_at 7 ws >>= λ receiver. whole (Image receiver.0) receiver.
 unfoldable pub plain_of : List ℕ → List (List ℕ) → Option Order
 plain_of name ws =
     if bytes_eq name (codes "connect") then whole Connect ws
+    else (if bytes_eq name (codes "disconnect") then whole Disconnect ws
+    else (if bytes_eq name (codes "close") then whole Close ws
     else (if bytes_eq name (codes "limit") then whole Limit ws
     else (if bytes_eq name (codes "send") then send_of ws
     else (if bytes_eq name (codes "deliver") then deliver_of ws
     else (if bytes_eq name (codes "tick") then tick_of ws
     else (if bytes_eq name (codes "reply") then reply_of ws
     else (if bytes_eq name (codes "poll") then poll_of ws
-    else (if bytes_eq name (codes "image") then image_of ws else None)))))))
+    else (if bytes_eq name (codes "image") then image_of ws else None)))))))))
 
 unfoldable pub command_of : List ℕ → Option Order
 command_of line = word_at (words line) >>= λ name. (if bytes_eq name.0 (codes "offer") then offer_of name.1 else plain_of name.0 name.1)
@@ -85,7 +100,7 @@ command_of line = word_at (words line) >>= λ name. (if bytes_eq name.0 (codes "
 unfoldable pub opening_of : List (List ℕ) → Option Opening
 opening_of ws =
     number_at (2 ^ 32 - 1) ws >>= λ term_length. number_at (2 ^ 32 - 1) term_length.1 >>= λ mtu. signed_at mtu.1 >>= λ initial.
-    number_at 0 initial.1 >>= λ start. signed_at start.1 >>= λ session. signed_at session.1 >>= λ stream. number_at 0 stream.1 >>= λ readers.
+    number_at most_wide initial.1 >>= λ start. signed_at start.1 >>= λ session. signed_at session.1 >>= λ stream. number_at 0 stream.1 >>= λ readers.
     whole (record { term_length = term_length.0; mtu = mtu.0; initial_term_id = initial.0; start = start.0; session = session.0; stream = stream.0; readers = readers.0 }) readers.1
 
 unfoldable pub log_of : List ℕ → Option Opening

@@ -30,12 +30,21 @@ pub struct LogLine {
 pub enum Command {
     /// The keeper sets the connected flag.
     Connect,
+    /// The keeper clears the connected flag.
+    Disconnect,
+    /// The keeper sets the closed flag.
+    Close,
     /// The keeper cleans, and moves the limit.
     Limit,
     /// A publisher offers a message.
     Offer {
         publisher: Seat,
         message: Vec<u8>,
+    },
+    /// A publisher offers a message of this many bytes 61.
+    OfferSize {
+        publisher: Seat,
+        size: u64,
     },
     /// The sender does one cycle.
     Send {

@@ -1,6 +1,6 @@
 ghost use Rattle.std.specs.Prelude.{◌≡◌, ◌^◌, ◌≤◌, IfSome};
 ghost use Rattle.script.specs.Meaning.{opening, order};
-ghost use Rattle.script.specs.Reading.{Gives, GivesAt, number_at, signed_at, offer_of, send_of, deliver_of, tick_of, reply_of, poll_of, image_of, plain_of, command_of, opening_of, log_of, is_log};
+ghost use Rattle.script.specs.Reading.{Gives, GivesAt, number_at, signed_at, offer_hex_of, offer_size_of, form_of, offer_of, send_of, deliver_of, tick_of, reply_of, poll_of, image_of, plain_of, command_of, opening_of, log_of, is_log};
 ghost use Rattle.script.specs.Rests.{words_left};
 
 use crate::command::{Command, LogLine, Seat};
@@ -103,6 +103,53 @@ fn image(words: Words<'_>) -> Option<Command>
     Some(Command::Image { receiver })
 }
 
+/// The words behind `hex` of a publisher's offer, of the line with this number.
+#[tactic(auto, unfolding(crate::specs::Reading::offer_hex_of))]
+fn offer_hex(
+    alloc: Global,
+    number: u64,
+    publisher: Seat,
+    words: Words<'_>,
+) -> Result<Command, ScriptFault>
+    ensures { GivesAt number order result (offer_hex_of publisher.number (words_left words.entry)) }
+{
+    let fault = ScriptFault::Line(number);
+    let (digits, rest) = words.first().ok_or(fault)?;
+    let message = hex(alloc, digits)?.ok_or(fault)?;
+    rest.end().ok_or(fault)?;
+    Ok(Command::Offer { publisher, message })
+}
+
+/// The words behind `size` of a publisher's offer.
+#[tactic(auto, unfolding(crate::specs::Reading::offer_size_of))]
+fn offer_size(publisher: Seat, words: Words<'_>) -> Option<Command>
+    ensures { Gives order result (offer_size_of publisher.number (words_left words.entry)) }
+{
+    let (size, rest) = number_at(words, u64::MAX)?;
+    rest.end()?;
+    Some(Command::OfferSize { publisher, size })
+}
+
+/// A publisher's offer in this form, with the words behind it, of the line with this number.
+#[tactic(auto, unfolding(crate::specs::Reading::form_of))]
+fn offer_in_form(
+    alloc: Global,
+    number: u64,
+    publisher: Seat,
+    form: &[u8],
+    words: Words<'_>,
+) -> Result<Command, ScriptFault>
+    ensures { GivesAt number order result (form_of publisher.number form.now (words_left words.entry)) }
+{
+    if form == b"hex".as_slice() {
+        offer_hex(alloc, number, publisher, words)
+    } else if form == b"size".as_slice() {
+        offer_size(publisher, words).ok_or(ScriptFault::Line(number))
+    } else {
+        Err(ScriptFault::Line(number))
+    }
+}
+
 /// The words behind `offer`, of the line with this number.
 #[tactic(auto, unfolding(crate::specs::Reading::offer_of))]
 fn offer(alloc: Global, number: u64, words: Words<'_>) -> Result<Command, ScriptFault>
@@ -111,13 +158,7 @@ fn offer(alloc: Global, number: u64, words: Words<'_>) -> Result<Command, Script
     let fault = ScriptFault::Line(number);
     let (publisher, rest) = seat_at(words).ok_or(fault)?;
     let (form, rest) = rest.first().ok_or(fault)?;
-    if form != b"hex".as_slice() {
-        return Err(fault);
-    }
-    let (digits, rest) = rest.first().ok_or(fault)?;
-    let message = hex(alloc, digits)?.ok_or(fault)?;
-    rest.end().ok_or(fault)?;
-    Ok(Command::Offer { publisher, message })
+    offer_in_form(alloc, number, publisher, form, rest)
 }
 
 /// The command of this name, with the words behind it: any but `offer`.
@@ -128,6 +169,12 @@ fn plain(name: &[u8], words: Words<'_>) -> Option<Command>
     if name == b"connect".as_slice() {
         words.end()?;
         Some(Command::Connect)
+    } else if name == b"disconnect".as_slice() {
+        words.end()?;
+        Some(Command::Disconnect)
+    } else if name == b"close".as_slice() {
+        words.end()?;
+        Some(Command::Close)
     } else if name == b"limit".as_slice() {
         words.end()?;
         Some(Command::Limit)
@@ -162,9 +209,6 @@ pub fn command(alloc: Global, number: u64, line: &[u8]) -> Result<Command, Scrip
     }
 }
 
-/// The greatest START that this version takes.
-const MOST_START: u64 = 0;
-
 /// The greatest READERS that this version takes.
 const MOST_READERS: u64 = 0;
 
@@ -176,7 +220,7 @@ fn log_fields(words: Words<'_>) -> Option<LogLine>
     let (term_length, rest) = number_at(words, u32::MAX as u64)?;
     let (mtu, rest) = number_at(rest, u32::MAX as u64)?;
     let (initial_term_id, rest) = signed_at(rest)?;
-    let (start, rest) = number_at(rest, MOST_START)?;
+    let (start, rest) = number_at(rest, u64::MAX)?;
     let (session, rest) = signed_at(rest)?;
     let (stream, rest) = signed_at(rest)?;
     let (readers, rest) = number_at(rest, MOST_READERS)?;

@@ -81,7 +81,11 @@ fn log_lines(rt: HostRuntime) -> Result<(), Fail> {
             "log 00000000000000000000000000000065536 01408 7 00 1 1001 000",
             true,
         ),
-        ("log 65536 1408 7 1 1 1001 0", false),
+        ("log 65536 1408 7 1 1 1001 0", true),
+        ("log 65536 1408 7 18446744073709551615 1 1001 0", true),
+        ("log 65536 1408 7 18446744073709551616 1 1001 0", false),
+        ("log 65536 1408 7 00000018446744073709551615 1 1001 0", true),
+        ("log 65536 1408 7 -1 1 1001 0", false),
         ("log 65536 1408 7 0 1 1001 1", false),
         ("log 65536 1408 7 0 1 1001 8", false),
         ("log 65536 1408 7 0 1 1001", false),
@@ -107,6 +111,15 @@ fn commands(rt: HostRuntime) -> Result<(), Fail> {
         ("connect ", false),
         ("connect 0", false),
         ("Connect", false),
+        ("disconnect", true),
+        ("disconnect x", false),
+        ("disconnect ", false),
+        ("Disconnect", false),
+        ("dis connect", false),
+        ("close", true),
+        ("close 0", false),
+        ("close ", false),
+        ("closed", false),
         ("limit", true),
         ("limit 7", false),
         ("offer 0 hex 616263", true),
@@ -121,7 +134,25 @@ fn commands(rt: HostRuntime) -> Result<(), Fail> {
         ("offer 0 hex 0x61", false),
         ("offer 0 hex 61 62", false),
         ("offer 0 Hex 61", false),
-        ("offer 0 size 3", false),
+        ("offer 0 size 3", true),
+        ("offer 7 size 0", true),
+        ("offer 007 size 00018446744073709551615", true),
+        ("offer 0 size 18446744073709551615", true),
+        ("offer 0 size 18446744073709551616", false),
+        ("offer 8 size 3", false),
+        ("offer 0 size", false),
+        ("offer 0 size ", false),
+        ("offer 0 size -1", false),
+        ("offer 0 size -0", false),
+        ("offer 0 size +1", false),
+        ("offer 0 size ff", false),
+        ("offer 0 size 0x3", false),
+        ("offer 0 size 3 3", false),
+        ("offer 0 size 3 ", false),
+        ("offer size 3", false),
+        ("offer 0 Size 3", false),
+        ("offer 0 sizes 3", false),
+        ("offer 0 3", false),
         ("offer 18446744073709551616 hex 61", false),
         ("send 0", true),
         ("send 18446744073709551615", true),
@@ -152,8 +183,6 @@ fn commands(rt: HostRuntime) -> Result<(), Fail> {
         ("image 007", true),
         ("image 4294967296", false),
         ("image -0", false),
-        ("disconnect", false),
-        ("close", false),
         ("claim 1 100", false),
         ("commit 1", false),
         ("abort 1", false),
@@ -194,14 +223,15 @@ fn no_text(rt: HostRuntime) -> Result<(), Fail> {
 #[test]
 fn a_script(rt: HostRuntime) -> Result<(), Fail> {
     let text =
-        "\nlog 65536 1408 -7 0 2147483647 -2147483648 0\n\nconnect\nlimit\noffer 3 hex 00fFA09b\n\nsend 5\n\
-        deliver 1 2 3\ntick 4 18446744073709551615\nreply 6 7\npoll 7\nimage 0";
+        "\nlog 65536 1408 -7 9223372036854775904 2147483647 -2147483648 0\n\nconnect\ndisconnect\nclose\nlimit\n\
+        offer 3 hex 00fFA09b\noffer 5 size 10\n\nsend 5\ndeliver 1 2 3\n\
+        tick 4 18446744073709551615\nreply 6 7\npoll 7\nimage 0";
     let script = read_script(rt.alloc(), text.as_bytes())?;
     let log = LogLine {
         term_length: 65_536,
         mtu: 1408,
         initial_term_id: -7,
-        start: 0,
+        start: 9_223_372_036_854_775_904,
         session: i32::MAX,
         stream: i32::MIN,
         readers: 0,
@@ -209,10 +239,16 @@ fn a_script(rt: HostRuntime) -> Result<(), Fail> {
     assert_eq!(rt; script.log, log);
     let commands = vec![in rt.alloc();
         Command::Connect,
+        Command::Disconnect,
+        Command::Close,
         Command::Limit,
         Command::Offer {
             publisher: Seat { number: 3 },
             message: vec![in rt.alloc(); 0, 255, 160, 155]?
+        },
+        Command::OfferSize {
+            publisher: Seat { number: 5 },
+            size: 10
         },
         Command::Send { now: 5 },
         Command::Deliver {
