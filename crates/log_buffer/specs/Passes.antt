@@ -1,5 +1,5 @@
 -- What a contract sees of a publisher: its number, and the word calls since its call began.
-use Rattle.std.specs.Prelude.{◌≡◌, ℕ, ◌+◌, ◌%◌, ◌^◌, ◌<◌, ◌≤◌, ◌⊎◌, List, [], ◌∷◌, ◌++◌, length, slice_index}
+use Rattle.std.specs.Prelude.{◌≡◌, ℕ, ◌+◌, ◌%◌, ◌^◌, ◌<◌, ◌≤◌, ◌⊎◌, List, [], ◌∷◌, ◌++◌, length, map, slice_index}
 use Rattle.std.specs.List.{flat_map}
 use Rattle.theory.specs.Position.{Geometry, id_of}
 use Rattle.theory.specs.Placed.{Among}
@@ -19,7 +19,7 @@ with_step p s = record p { steps = p.steps ++ s ∷ [] }
 -- the eight publishers, in their order; none is in a call
 pub record AreAll (passes : List Pass) : Type 0 where
   pub eight : length passes ≡ 8
-  pub each : (k : ℕ) → k < 8 → (slice_index passes k).number ≡ k
+  pub each : (k : ℕ) → k < 8 → slice_index (map (λ p. p.number) passes) k ≡ k
 
 -- what a word call saw
 abbrev pub sights_in : Step → List Sight
