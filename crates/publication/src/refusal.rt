@@ -1,0 +1,36 @@
+ghost use Rattle.std.specs.Prelude.{◌≡◌};
+ghost use Rattle.publication.specs.Refusals.{number_of};
+
+use thiserror::Error;
+
+/// Why an offer isn't accepted. No entry was added then but, where the message didn't fit the rest of its term, a
+/// padding up to the term's end, which is counted to the publisher.
+#[derive(Clone, Copy, Debug, PartialEq, Eq, Error)]
+#[error("{}", self.code())]
+pub enum Refusal {
+    /// Nobody is connected, and the tail is at the limit.
+    NotConnected,
+    /// The tail is at the limit.
+    BackPressured,
+    /// A term came to its end; a later offer may be accepted.
+    AdminAction,
+    /// The log is closed, for good.
+    Closed,
+    /// The last term is used up, for good.
+    MaxPositionExceeded,
+}
+
+impl Refusal {
+    /// The number that a user sees, from -1 to -5.
+    pub fn code(self) -> i32
+        ensures { result ≡ number_of self }
+    {
+        match self {
+            Refusal::NotConnected => -1,
+            Refusal::BackPressured => -2,
+            Refusal::AdminAction => -3,
+            Refusal::Closed => -4,
+            Refusal::MaxPositionExceeded => -5,
+        }
+    }
+}

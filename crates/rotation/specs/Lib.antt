@@ -1,0 +1,3 @@
+pub mod Limited
+pub mod Rotated
+pub mod Turning

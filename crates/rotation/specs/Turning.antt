@@ -1,0 +1,32 @@
+-- What a rotation adds to a pass's word calls.
+use Rattle.std.specs.Prelude.{◌≡◌, ℕ, ◌≤◌, List, [], ◌∷◌, ◌++◌, length}
+use Rattle.std.specs.List.{filter}
+use Rattle.theory.specs.Refusal.{Sight}
+use Rattle.log_buffer.specs.Passes.{Pass}
+use Rattle.log_buffer.specs.declared.step.Step.{Step}
+use Rattle.log_buffer.specs.declared.step.Step.TheVariants as steps
+use Rattle.std.specs.Prelude.{Bool, true, false}
+
+abbrev pub exchanges_tail : Step → Bool
+exchanges_tail (steps.TailExchange partition word) = true
+exchanges_tail other = false
+
+abbrev pub exchanges_count : Step → Bool
+exchanges_count (steps.CountExchange count) = true
+exchanges_count other = false
+
+-- how often a tail, and the count, was to be exchanged
+abbrev pub tail_exchanges : List Step → ℕ
+tail_exchanges taken = length (filter exchanges_tail taken)
+
+abbrev pub count_exchanges : List Step → ℕ
+count_exchanges taken = length (filter exchanges_count taken)
+
+-- three word calls at the most, of which each exchange is one at the most
+pub record Turns (old new : Pass) : Type 0 where
+  pub number : new.number ≡ old.number
+  pub more : List Step
+  pub steps : new.steps ≡ old.steps ++ more
+  pub few : length more ≤ 3
+  pub one_tail : tail_exchanges more ≤ 1
+  pub one_count : count_exchanges more ≤ 1
