@@ -1,5 +1,5 @@
 -- What each line of a script prints, and the scene after it.
-use Rattle.std.specs.Prelude.{◌≡◌, ◌⊎◌, ◌<◌, ◌≤◌, ℕ, suc, pos, Bool, true, List, [], ◌∷◌, ◌++◌, map, length, Option, None, Some, Result, Ok, Err, slice_get, slice_set, if◌then◌else◌}
+use Rattle.std.specs.Prelude.{◌≡◌, ◌⊎◌, ◌<◌, ◌≤◌, ℕ, suc, pos, Bool, true, false, List, [], ◌∷◌, ◌++◌, map, length, replicate, Option, None, Some, Result, Ok, Err, slice_get, slice_set, if◌then◌else◌}
 use Rattle.std.specs.List.{AllByRecursion}
 use Rattle.theory.specs.Position.{max_payload, position_of}
 use Rattle.theory.specs.Wire.{IsFrame, Status, Wire}
@@ -9,10 +9,10 @@ use Rattle.theory.specs.Control.{setup_at}
 use Rattle.theory.specs.FlowLimit.{flow_limit}
 use Rattle.theory.specs.Sender.{Sender}
 use Rattle.theory.specs.Timing.{seen}
-use Rattle.log_buffer.specs.Limits.{raised}
-use Rattle.log_buffer.specs.Log.{Log, with_message}
-use Rattle.log_buffer.specs.Offers.{answer_of}
-use Rattle.log_buffer.specs.declared.fault.Refusal.{Refusal}
+use Rattle.log_buffer.specs.Log.{IsLog, Log}
+use Rattle.rotation.specs.Limited.{CleansAndLimits, raised}
+use Rattle.publication.specs.Offers.{after_offer, answer_of}
+use Rattle.publication.specs.declared.refusal.Refusal.{Refusal}
 use Rattle.setup.specs.Naming.{after_due, is_due}
 use Rattle.script.specs.Meaning as orders
 use Rattle.script.specs.Meaning.{Order}
@@ -59,17 +59,31 @@ AreFrames wires = AllByRecursion IsFrame wires
 
 -- one of eight publishers', a message that a frame can hold
 pub record MayOffer (l : Log) (by : ℕ) (message : List ℕ) : Type 0 where
+  pub legal : IsLog l
   pub publisher : by < 8
   pub bytes : AllByRecursion (λ b. b < 256) message
   pub short : length message ≤ max_payload l.identity.geometry
 
 abbrev pub Offered : Scene → ℕ → List ℕ → Result ℕ Refusal → List Print → Scene → Type 0
-Offered old by message (Ok end) lines new = (lines ≡ Position end ∷ []) × (new ≡ with_log old (with_message old.log by message))
-Offered old by message (Err refusal) lines new = (lines ≡ Refused refusal ∷ []) × (new ≡ old)
+Offered old by message (Ok end) lines new = (lines ≡ Position end ∷ []) × (new ≡ with_log old (after_offer old.log by message))
+Offered old by message (Err refusal) lines new = (lines ≡ Refused refusal ∷ []) × (new ≡ with_log old (after_offer old.log by message))
 
--- a message that no frame can hold
-abbrev pub IsTooLong : Scene → List ℕ → List Print → Scene → Type 0
-IsTooLong old message lines new = (max_payload old.log.identity.geometry < length message) × (lines ≡ Bad ∷ []) × (new ≡ old)
+-- a message of so many bytes, which no frame can hold
+abbrev pub IsTooLong : Scene → ℕ → List Print → Scene → Type 0
+IsTooLong old size lines new = (max_payload old.log.identity.geometry < size) × (lines ≡ Bad ∷ []) × (new ≡ old)
+
+abbrev pub OffersMessage : Scene → ℕ → List ℕ → List Print → Scene → Type 0
+OffersMessage old by message lines new = MayOffer old.log by message × Offered old by message (answer_of old.log (length message)) lines new
+
+-- ---- the keeper
+
+-- the entries that are forgotten are remembered here
+pub record Limits (old : Scene) (lines : List Print) (new : Scene) : Type 0 where
+  pub legal : IsLog old.log
+  pub log : Log
+  pub done : CleansAndLimits old.log log
+  pub shown : lines ≡ Limit (raised old.log) ∷ []
+  pub new_is : new ≡ record old { log = log; past = old.past ++ done.cleans.past }
 
 -- ---- the sender
 
@@ -160,10 +174,11 @@ TellsBy old i lines new = (line : Print) × (r : Receiver) × (slice_get old.rec
 
 abbrev pub Answers : Scene → Order → List Print → Scene → Type 0
 Answers old orders.Connect lines new = (lines ≡ Done ∷ []) × (new ≡ with_log old (record old.log { connected = true }))
-Answers old orders.Limit lines new = (lines ≡ Limit (raised old.log) ∷ []) × (new ≡ with_log old (record old.log { limit = raised old.log }))
-Answers old (orders.Offer by message) lines new =
-    IsTooLong old message lines new
-    ⊎ (MayOffer old.log by message × Offered old by message (answer_of old.log (length message)) lines new)
+Answers old orders.Disconnect lines new = (lines ≡ Done ∷ []) × (new ≡ with_log old (record old.log { connected = false }))
+Answers old orders.Close lines new = (lines ≡ Done ∷ []) × (new ≡ with_log old (record old.log { closed = true }))
+Answers old orders.Limit lines new = Limits old lines new
+Answers old (orders.Offer by message) lines new = IsTooLong old (length message) lines new ⊎ OffersMessage old by message lines new
+Answers old (orders.OfferSize by size) lines new = IsTooLong old size lines new ⊎ OffersMessage old by (replicate size 97) lines new
 Answers old (orders.Send now) lines new = Sends old now lines new
 Answers old (orders.Deliver k i now) lines new = IsMissing old k lines new ⊎ Delivered old k i now lines new
 Answers old (orders.Tick i now) lines new = Ticks old i now lines new

@@ -5,13 +5,12 @@ use Rattle.theory.specs.Position.{Geometry, IsGeometry, IsMtu, IsTermLength, max
 use Rattle.theory.specs.Bytes.{Identity, IsIdentity}
 use Rattle.theory.specs.Tiling.{share_of}
 use Rattle.position.specs.declared.fault.GeometryError.TheVariants.{TermLength, Mtu}
-use Rattle.log_buffer.specs.Log.{Log}
 use Rattle.log_buffer.specs.declared.fault.LogError.TheVariants.{Start}
 use Rattle.script.specs.Meaning.{Opening, Told}
 use Rattle.mdriver.specs.Answers.{Answers}
 use Rattle.mdriver.specs.Prints.{Print, Open, BadGeometry, BadLog, Shares}
 use Rattle.mdriver.specs.Published.{Played, PolledPrefix}
-use Rattle.mdriver.specs.Scene.{Scene, opened_scene}
+use Rattle.mdriver.specs.Scene.{Scene, entries_of, opened_scene}
 
 -- the lines one after the other
 abbrev pub AnswersAll : Scene → List Played → Scene → Type 0
@@ -28,12 +27,12 @@ abbrev pub IsStart : Opening → Type 0
 IsStart o = (o.start % 32 ≡ 0) × (o.start < max_position (geometry_of o))
 
 -- the start, the end, and each publisher's bytes, which are all that was claimed
-pub record ShowsBook (l : Log) (line : Print) : Type 0 where
+pub record ShowsBook (s : Scene) (line : Print) : Type 0 where
   pub shares : List ℕ
   pub eight : length shares ≡ 8
-  pub each : (k : ℕ) → k < 8 → slice_index shares k ≡ share_of k l.entries
-  pub whole : l.start + sum shares ≡ l.tail
-  pub shown : line ≡ Shares l.start l.tail shares
+  pub each : (k : ℕ) → k < 8 → slice_index shares k ≡ share_of k (entries_of s)
+  pub whole : s.log.start + sum shares ≡ s.log.tail
+  pub shown : line ≡ Shares s.log.start s.log.tail shares
 
 -- the log opens: each line of the script is answered in turn, and the book ends the output. After each line, what the polls of a receiver printed is what was published between its join and its position
 pub record PlaysOn (script : Told) (lines : List Print) : Type 0 where
@@ -44,7 +43,7 @@ pub record PlaysOn (script : Told) (lines : List Print) : Type 0 where
   pub last : Scene
   pub answered : AnswersAll (opened_scene (identity_of script.log) script.log.start) played last
   pub book : Print
-  pub shown : ShowsBook last.log book
+  pub shown : ShowsBook last book
   pub printed : lines ≡ Open ∷ (flat_map (λ p. p.lines) played ++ book ∷ [])
   pub polled : (done later : List Played) → played ≡ done ++ later → PolledPrefix done
 
@@ -57,6 +56,11 @@ HasFault o lines =
 
 abbrev pub Plays : Told → List Print → Type 0
 Plays script lines = HasFault script.log lines ⊎ PlaysOn script lines
+
+-- whatever is answered, the shares are those of all entries
+abbrev pub AlwaysCounted : Type 0
+AlwaysCounted =
+    (o : Opening) (played : List Played) (last : Scene) → AnswersAll (opened_scene (identity_of o) o.start) played last → (k : ℕ) → k < 8 → slice_index last.log.shares k ≡ share_of k (entries_of last)
 
 -- whatever is answered, after each line what was polled is what was published
 abbrev pub AlwaysPolled : Type 0

@@ -2,7 +2,7 @@
 use Rattle.std.specs.Prelude.{ℕ, List, map}
 use Rattle.position.specs.declared.fault.GeometryError.{GeometryError}
 use Rattle.log_buffer.specs.declared.fault.LogError.{LogError}
-use Rattle.log_buffer.specs.declared.fault.Refusal.{Refusal}
+use Rattle.publication.specs.declared.refusal.Refusal.{Refusal}
 use Rattle.assembler.specs.declared.fault.AssemblyError.{AssemblyError}
 use Rattle.mdriver.specs.declared.receiver.Outcome.{Outcome}
 use Rattle.mdriver.specs.declared.sender.SenderAnswer.{SenderAnswer}

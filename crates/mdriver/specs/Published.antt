@@ -1,5 +1,5 @@
 -- What a reader of a script and its output sees of messages, positions and joins, and nothing else.
-use Rattle.std.specs.Prelude.{◌≡◌, ◌⊎◌, ◌<◌, ◌+◌, ◌-◌, ℕ, Bool, ⊤, true, false, ◌&&◌, List, [], ◌∷◌, ◌++◌, map, length, nat_eq, nat_le, if◌then◌else◌}
+use Rattle.std.specs.Prelude.{◌≡◌, ◌⊎◌, ◌<◌, ◌+◌, ◌-◌, ℕ, Bool, ⊤, true, false, ◌&&◌, List, [], ◌∷◌, ◌++◌, map, length, replicate, nat_eq, nat_le, if◌then◌else◌}
 use Rattle.std.specs.List.{filter, flat_map, AllByRecursion}
 use Rattle.theory.specs.Position.{aligned}
 use Rattle.script.specs.Meaning as orders
@@ -46,6 +46,7 @@ joins_in line = []
 
 abbrev pub published_by : Order → List Print → List Published
 published_by (orders.Offer by message) lines = map (placed_at message) (flat_map ends_of lines)
+published_by (orders.OfferSize by size) lines = map (placed_at (replicate size 97)) (flat_map ends_of lines)
 published_by order lines = []
 
 -- what is said of a receiver where the line is one of its own

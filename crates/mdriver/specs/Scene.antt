@@ -1,7 +1,8 @@
 -- What a script plays on, as its lines tell it.
-use Rattle.std.specs.Prelude.{ℕ, ◌/◌, pos, false, List, [], ◌∷◌, map, replicate, Option, None}
+use Rattle.std.specs.Prelude.{ℕ, ◌/◌, pos, Bool, true, false, List, [], ◌∷◌, ◌++◌, map, Option, None, Some}
 use Rattle.std.specs.Option.{option_map}
 use Rattle.theory.specs.Bytes.{Identity}
+use Rattle.theory.specs.Entry.{Entry}
 use Rattle.theory.specs.Image.{Image}
 use Rattle.theory.specs.Log as stream
 use Rattle.theory.specs.Sender.{Sender}
@@ -13,24 +14,34 @@ use Rattle.mdriver.specs.Receiving.{Receiver, listening}
 -- a log and its sender, eight receivers by their numbers, and the bytes of each packet that these gave out, in order
 pub record Scene : Type 0 where
   pub log : Log
+  -- the entries that the log has forgotten
+  pub past : List Entry
   pub sender : Sender
   -- when the sender last sent a SETUP, and whether a status message has come
   pub naming : Naming
   pub receivers : List Receiver
   pub packets : List (List ℕ)
 
--- the log as a stream of entries: between two lines nobody is armed, and nothing is cleaned
-abbrev pub stream_of : Log → stream.Log
-stream_of l = record {
+-- all entries ever added
+abbrev pub entries_of : Scene → List Entry
+entries_of s = s.past ++ s.log.entries
+
+abbrev pub is_armed : Option ℕ → Bool
+is_armed None = false
+is_armed (Some partition) = true
+
+-- the log as a stream of all entries ever added; these were forgotten
+abbrev pub stream_of : List Entry → Log → stream.Log
+stream_of past l = record {
   identity = l.identity;
   start = l.start;
   tail = l.tail;
-  entries = l.entries;
-  armed = replicate 8 false;
+  entries = past ++ l.entries;
+  armed = map is_armed l.armed;
   limit = l.limit;
   connected = l.connected;
   closed = l.closed;
-  cleaned = l.start;
+  cleaned = l.cleaned;
   readers = [];
 }
 
@@ -39,7 +50,7 @@ image_of r = option_map (λ o. o.image) r.image
 
 -- the scene without its packets and moments
 abbrev pub world_of : Scene → World
-world_of s = record { log = stream_of s.log; sender = s.sender; images = map image_of s.receivers }
+world_of s = record { log = stream_of s.past s.log; sender = s.sender; images = map image_of s.receivers }
 
 -- a receiver of the log's session and stream, with half a term as its window and one consumer
 abbrev pub listening_at : Identity → ℕ → Receiver
@@ -49,6 +60,7 @@ listening_at i number = listening i.session i.stream (i.geometry.term_length / 2
 abbrev pub opened_scene : Identity → ℕ → Scene
 opened_scene i start = record {
   log = fresh i start 1;
+  past = [];
   sender = opened_sender start;
   naming = record { clock = 0; last = None; heard = false };
   receivers = map (listening_at i) (0 ∷ 1 ∷ 2 ∷ 3 ∷ 4 ∷ 5 ∷ 6 ∷ 7 ∷ []);

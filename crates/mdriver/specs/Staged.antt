@@ -2,8 +2,9 @@
 use Rattle.std.specs.Prelude.{◌≡◌, ℕ, ⊤, List, [], ◌∷◌, ◌++◌, map}
 use Rattle.theory.specs.Bytes.{Identity}
 use Rattle.std.specs.Prelude.{Result, Ok, Err}
-use Rattle.log_buffer.specs.Log.{Log, with_message}
-use Rattle.log_buffer.specs.declared.fault.Refusal.{Refusal}
+use Rattle.log_buffer.specs.Log.{Log}
+use Rattle.publication.specs.Offers.{after_offer}
+use Rattle.publication.specs.declared.refusal.Refusal.{Refusal}
 use Rattle.script.specs.Meaning.{Order}
 use Rattle.mdriver.specs.declared.line.Line.{Line}
 use Rattle.mdriver.specs.declared.stage.Stage.{Stage}
@@ -80,10 +81,10 @@ pub record RunsTo (i : Identity) (start : ℕ) (orders : List Order) (before aft
   pub of_orders : map (λ p. p.order) played ≡ orders
   pub answered : AnswersAll (opened_scene i start) played last
   pub book : Print
-  pub shown : ShowsBook last.log book
+  pub shown : ShowsBook last book
   pub printed : after ≡ before ++ (Open ∷ (flat_map (λ p. p.lines) played ++ book ∷ []))
 
 -- what an offer prints, and the log after it
 abbrev pub OfferedLine : Log → ℕ → List ℕ → Result ℕ Refusal → Print → Log → Type 0
-OfferedLine old by message (Ok end) line new = (line ≡ Position end) × (new ≡ with_message old by message)
-OfferedLine old by message (Err refusal) line new = (line ≡ Refused refusal) × (new ≡ old)
+OfferedLine old by message (Ok end) line new = (line ≡ Position end) × (new ≡ after_offer old by message)
+OfferedLine old by message (Err refusal) line new = (line ≡ Refused refusal) × (new ≡ after_offer old by message)
