@@ -1,7 +1,6 @@
 -- What a rotation adds to a pass's word calls.
 use Rattle.std.specs.Prelude.{◌≡◌, ℕ, ◌≤◌, List, [], ◌∷◌, ◌++◌, length}
 use Rattle.std.specs.List.{filter}
-use Rattle.theory.specs.Refusal.{Sight}
 use Rattle.log_buffer.specs.Passes.{Pass}
 use Rattle.log_buffer.specs.declared.step.Step.{Step}
 use Rattle.log_buffer.specs.declared.step.Step.TheVariants as steps
@@ -22,11 +21,15 @@ tail_exchanges taken = length (filter exchanges_tail taken)
 abbrev pub count_exchanges : List Step → ℕ
 count_exchanges taken = length (filter exchanges_count taken)
 
--- three word calls at the most, of which each exchange is one at the most
-pub record Turns (old new : Pass) : Type 0 where
+-- the pass has made so many more word calls at the most, and of them so many exchanges
+pub record Adds (most tails counts : ℕ) (old new : Pass) : Type 0 where
   pub number : new.number ≡ old.number
   pub more : List Step
   pub steps : new.steps ≡ old.steps ++ more
-  pub few : length more ≤ 3
-  pub one_tail : tail_exchanges more ≤ 1
-  pub one_count : count_exchanges more ≤ 1
+  pub few : length more ≤ most
+  pub few_tails : tail_exchanges more ≤ tails
+  pub few_counts : count_exchanges more ≤ counts
+
+-- three word calls at the most, of which each exchange is one at the most
+abbrev pub Turns : Pass → Pass → Type 0
+Turns old new = Adds 3 1 1 old new

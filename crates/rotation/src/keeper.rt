@@ -1,5 +1,5 @@
-ghost use Rattle.std.specs.Prelude.{◌≡◌, true};
-ghost use Rattle.log_buffer.specs.Log.{Cleans, IsLeast, clean_end};
+ghost use Rattle.std.specs.Prelude.{◌≡◌, ◌≤◌, ◌%◌, true};
+ghost use Rattle.log_buffer.specs.Log.{Cleans, IsLeast, IsLog, clean_end};
 ghost use Rattle.log_buffer.specs.Reader.{IsAt, Reader};
 ghost use Rattle.rotation.specs.Limited.{CleansAndLimits, raised};
 
@@ -34,21 +34,37 @@ pub fn clean_and_limit(log: &mut LogState, _keeper: &mut Keeper) -> u64
     ensures readers { (r : Reader) → IsAt log.old r → IsAt log.new r }
 {
     let least = log.least_consumer();
-    let length = u64::from(log.geometry().term_length());
-    let end = log.start().max(least.saturating_sub(length));
-    clean_to(log, least, end);
+    clean_below(log, least);
+    let half = u64::from(log.geometry().term_length()) / 2;
     let mut limit = log.limit();
     if limit.connected && !limit.closed {
-        limit.position = limit.position.max(least + length / 2);
+        limit.position = limit.position.max(least + half);
         log.store_limit(limit);
     }
     limit.position
+}
+
+/// Cleans all that is a term or more below the least consumer's position.
+fn clean_below(log: &mut LogState, least: u64)
+    requires lowest { IsLeast log.old.consumers least }
+    requires unit { least % 32 ≡ 0 }
+    requires readable { log.old.cleaned ≤ clean_end log.old least }
+    requires legal { IsLog log.old }
+    ensures cleaned { Cleans log.old (clean_end log.old least) log.new }
+    ensures readers { (r : Reader) → IsAt log.old r → IsAt log.new r }
+{
+    let length = u64::from(log.geometry().term_length());
+    let end = log.start().max(least.saturating_sub(length));
+    clean_to(log, least, end);
 }
 
 /// Cleans word after word up to a position. No consumer is below the least one.
 fn clean_to(log: &mut LogState, least: u64, end: u64)
     requires lowest { IsLeast log.old.consumers least }
     requires end { end ≡ clean_end log.old least }
+    requires whole { end % 8 ≡ 0 }
+    requires further { log.old.cleaned ≤ end }
+    requires legal { IsLog log.old }
     ensures cleaned { Cleans log.old end log.new }
     ensures readers { (r : Reader) → IsAt log.old r → IsAt log.new r }
 {

@@ -3,6 +3,7 @@
 //! No call takes memory. The stream's end and its entries stay as they are, but for whole entries that cleaning forgets.
 #![tactic(auto)]
 
+mod ids;
 mod keeper;
 mod turn;
 

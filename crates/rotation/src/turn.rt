@@ -1,10 +1,11 @@
-ghost use Rattle.std.specs.Prelude.{◌≡◌, ℕ, ◌+◌, ◌≤◌, length};
-ghost use Rattle.log_buffer.specs.Log.{IsFinished};
+ghost use Rattle.std.specs.Prelude.{◌≡◌, ℕ, ◌+◌, ◌<◌, ◌≤◌, ◌↔◌, IsTrue, length};
+ghost use Rattle.log_buffer.specs.Log.{IsFinished, counted};
 ghost use Rattle.log_buffer.specs.Passes.{HasSeenEnd};
 ghost use Rattle.log_buffer.specs.Reader.{IsAt, Reader};
-ghost use Rattle.rotation.specs.Rotated.{rotated};
-ghost use Rattle.rotation.specs.Turning.{Turns};
+ghost use Rattle.rotation.specs.Rotated.{rotated, with_next};
+ghost use Rattle.rotation.specs.Turning.{Adds, Turns};
 
+use crate::ids::{shows_next, shows_two_before};
 use log_buffer::{LogState, Publisher};
 
 /// Turns from the term with this count, which is used up, to the next: exchanges the raw tail of the next partition and
@@ -17,18 +18,26 @@ pub fn rotate(log: &mut LogState, publisher: &mut Publisher, count: u32)
     ensures turns { Turns publisher.old publisher.new }
     ensures readers { (r : Reader) → IsAt log.old r → IsAt log.new r }
 {
-    let geometry = log.geometry();
-    let first = geometry.initial_term_id();
-    let next_id = first.wrapping_add((count + 1).cast_signed());
-    let old_id = first.wrapping_add(count.cast_signed()).wrapping_sub(2);
-    let mut next = log.load_next_tail(publisher, count);
-    let mut turned = next.term_id == next_id;
-    if next.term_id == old_id {
-        let loaded = next;
-        next = log.exchange_tail(publisher, count, loaded);
-        turned = next == loaded || next.term_id == next_id;
-    }
-    if turned {
+    if begin_next(log, publisher, count) {
         let _ = log.exchange_count(publisher, count);
     }
+}
+
+/// Begins the next term, if nobody has. Whether its partition still shows its id.
+fn begin_next(log: &mut LogState, publisher: &mut Publisher, count: u32) -> bool
+    requires few { length publisher.old.steps ≤ 4 }
+    requires finished { IsFinished log.old count }
+    ensures begun { log.new ≡ with_next log.old count }
+    ensures further { count < log.new.newest }
+    ensures shown { IsTrue result ↔ (log.new.newest ≤ count + 3) }
+    ensures adds { Adds 2 1 0 publisher.old publisher.new }
+    ensures readers { (r : Reader) → IsAt log.old r → IsAt log.new r }
+{
+    let geometry = log.geometry();
+    let loaded = log.load_next_tail(publisher, count);
+    if !shows_two_before(loaded, &geometry, count) {
+        return shows_next(loaded, &geometry, count);
+    }
+    let before = log.exchange_tail(publisher, count, loaded);
+    before.word() == loaded.word()
 }

@@ -1,0 +1,18 @@
+use Rattle.std.proofs.Common.{rules, arith, ap, ◌∙◌, ◌≡◌, ◌≤◌, ◌%◌, true, ℕ, ◌+◌, ◌-◌, ◌*◌, ◌<◌, length, ◌/◌, Bool, false, nat_eq, nat_lt, List, [], ◌∷◌, ◌++◌, slice_index_or, slice_set, bit_and, bit_or, Fits, w8, w32, w64, Bor, MutBor}
+use Rattle.theory.specs.Position.{Geometry}
+use Rattle.log_buffer.specs.Log.{Cleans, IsLeast, IsLog, clean_end}
+use Rattle.log_buffer.specs.Reader.{IsAt, Reader}
+use Rattle.rotation.specs.Limited.{CleansAndLimits, raised}
+use Rattle.rotation.proofs.Cleaning.{limit_fits}
+use Rattle.rotation.proofs.keeper.clean_and_limit.Goals as goal
+
+half : (c : goal.After-store_limit-arg-1) → c.from-half.result ≡ c.clean_below.new.log.identity.geometry.term_length
+half c = c.from-half.ensures ∙ c.term_length.ensures.value ∙ ap (λ (g : Geometry). g.term_length) c.geometry.ensures.value
+
+-- src/keeper.rt:42:9
+pub store_limit-requires-clause-clean : goal.store_limit-requires-clause-clean
+store_limit-requires-clause-clean c = limit_fits c.args.log.now c.clean_below.new.log c.least_consumer-least.result c.max.result c.limit-limit.ensures.legal c.limit-limit.ensures.legal.clean c.clean_below.ensures.cleaned (omega (arith, c.max.ensures, c.limit-limit.ensures.position, half c))
+
+-- src/keeper.rt:31:1
+pub returns-then-not-limit-clause-readers : goal.returns-then-not-limit-clause-readers
+returns-then-not-limit-clause-readers c = λ r x. c.store_limit.ensures.readers r (c.clean_below.ensures.readers r x)

@@ -1,0 +1,14 @@
+use Rattle.std.proofs.Common.{rules, arith, ◌≡◌, ◌≤◌, ◌%◌, true, ℕ, ◌+◌, ◌-◌, ◌*◌, ◌<◌, length, ◌/◌, Bool, false, nat_eq, nat_lt, List, [], ◌∷◌, ◌++◌, slice_index_or, slice_set, bit_and, bit_or, Fits, w8, w32, w64, Bor, MutBor}
+use Rattle.log_buffer.specs.Log.{Cleans, IsLeast, IsLog, clean_end}
+use Rattle.log_buffer.specs.Reader.{IsAt, Reader}
+use Rattle.rotation.specs.Limited.{CleansAndLimits, raised}
+use Rattle.rotation.proofs.Cleaning.{cleans_on, nothing_cleaned}
+use Rattle.rotation.proofs.keeper.clean_to.Goals as goal
+
+-- src/keeper.rt:58:5
+pub loop-log-init : goal.loop-log-init
+loop-log-init c = record { cleans = nothing_cleaned c.args.log.now c.requires.legal; below = c.requires.further; readers = λ r x. x }
+
+-- src/keeper.rt:58:5
+pub loop-log-preserved : goal.loop-log-preserved
+loop-log-preserved c = cleans_on c.args.log.now c.loop-log.log c.clean.new.self c.args.end c.loop-log.invariant c.clean.ensures.cleaned (omega (arith, c.loop-log-test.true, c.cleaned.ensures.value, c.cleaned.ensures.word, c.requires.whole)) c.clean.ensures.readers

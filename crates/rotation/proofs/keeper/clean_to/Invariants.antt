@@ -1,0 +1,12 @@
+use Rattle.std.proofs.Common.{◌≡◌, true, ℕ, ◌+◌, ◌-◌, ◌*◌, ◌<◌, ◌≤◌, ◌%◌, length}
+use Rattle.log_buffer.specs.Log.{Cleans, IsLeast, IsLog, clean_end}
+use Rattle.log_buffer.specs.Reader.{IsAt, Reader}
+use Rattle.rotation.specs.Limited.{CleansAndLimits, raised}
+use Rattle.rotation.proofs.Cleaning.{IsCleaning}
+use Rattle.rotation.proofs.keeper.clean_to.Given as goal
+
+abbrev pub invariant-loop-log : goal.invariant-loop-log
+invariant-loop-log l = IsCleaning l.initial.log l.end l.log
+
+abbrev pub decreases-loop-log : goal.decreases-loop-log
+decreases-loop-log l = l.end - l.log.cleaned
