@@ -42,7 +42,7 @@ impl Model for TermBuffer {
 
     ghost view = { λ b. record { identity = record { geometry = b.geometry; session = b.session; stream = b.stream }; start = b.start; tail = b.tail; shares = b.shares; cleaned = b.cleaned; gone = b.gone; first = b.first; entries = entries_of b.geometry.term_length b.bytes b.slots.items; drafts = drafts_of b.geometry.term_length b.bytes b.slots.items } };
 
-    ghost invariant = { λ b. IsBuffer (record { geometry = b.geometry; session = b.session; stream = b.stream }) b.bytes b.start b.tail b.cleaned b.first b.gone b.shares b.slots.items (deque_capacity b.slots) };
+    ghost invariant = { λ b. IsBuffer (record { identity = record { geometry = b.geometry; session = b.session; stream = b.stream }; bytes = b.bytes; start = b.start; tail = b.tail; cleaned = b.cleaned; first = b.first; gone = b.gone; shares = b.shares; slots = b.slots.items; capacity = deque_capacity b.slots }) };
 }
 
 impl TermBuffer {
