@@ -1,2 +1,5 @@
+pub mod Logs
 pub mod Ring
+pub mod Shares
+pub mod Slots
 pub mod StoredWords

@@ -1,7 +1,8 @@
 -- A word stored among bytes.
-use Rattle.std.proofs.Common.{◌≡◌, ℕ, ◌+◌, ◌*◌, ◌≤◌, List, ◌++◌, length, take, drop, refl, sym, ap, ◌∙◌, append_assoc, length-append, length-drop, arith}
+use Rattle.std.proofs.Common.{◌≡◌, ℕ, zero, suc, ◌+◌, ◌-◌, ◌*◌, ◌<◌, ◌≤◌, ◌⊎◌, ⊎_elim, inl, inr, List, ◌++◌, length, take, drop, get_or, refl, sym, ap, ◌∙◌, append_assoc, length-append, length-drop, arith}
 use Rattle.std.specs.Int.{w64, to_le_bytes}
-use Rattle.std.proofs.lemmas.List.{take-append-drop, take-append-le, drop-append-le, take-take, take_at, drop_at, drop-take, length-take-le}
+use Rattle.std.proofs.lemmas.Bool.{cases_lt}
+use Rattle.std.proofs.lemmas.List.{get_or-take, get_or-drop, get_or_append_left, get_or-append_right, take-append-drop, take-append-le, drop-append-le, take-take, take_at, drop_at, drop-take, length-take-le}
 use Rattle.std.proofs.Math.Seq.{take-append-add, drop-append-add}
 use Rattle.std.proofs.lemmas.Slice.{drop-append-drop}
 use Rattle.block.specs.Bytes.{with_word}
@@ -94,3 +95,50 @@ first_of_word xs i w size =
 
 pub word_first : (xs : List ℕ) (w : ℕ) → with_word xs 0 w ≡ to_le_bytes w64 w ++ drop 8 xs
 word_first xs w = refl
+
+-- a byte below the word, above it, or in it where the word is zero
+pub byte_below : (bytes : List ℕ) (j w k : ℕ) → k < 8 * j → 8 * j + 8 ≤ length bytes → get_or (with_word bytes j w) k 0 ≡ get_or bytes k 0
+byte_below bytes j w k below fits =
+    let long : length (take (8 * j) bytes) ≡ 8 * j = length-take-le (8 * j) bytes (omega arith) in
+    ap (λ (b : List ℕ). get_or b k 0) (append_assoc (take (8 * j) bytes) (to_le_bytes w64 w) (drop (8 * j + 8) bytes))
+    ∙ get_or_append_left (take (8 * j) bytes) (to_le_bytes w64 w ++ drop (8 * j + 8) bytes) 0 k (omega arith)
+    ∙ get_or-take (8 * j) bytes k 0 below
+
+pub byte_above : (bytes : List ℕ) (j w k : ℕ) → 8 * j + 8 ≤ k → 8 * j + 8 ≤ length bytes → get_or (with_word bytes j w) k 0 ≡ get_or bytes k 0
+byte_above bytes j w k above fits =
+    let at : 8 * j + 8 + (k - (8 * j + 8)) ≡ k = omega arith in
+    ap (λ n. get_or (with_word bytes j w) n 0) (sym at)
+    ∙ sym (get_or-drop (8 * j + 8) (with_word bytes j w) (k - (8 * j + 8)) 0)
+    ∙ ap (λ (b : List ℕ). get_or b (k - (8 * j + 8)) 0) (part_above bytes (8 * j + 8) j w (omega arith) fits)
+    ∙ get_or-drop (8 * j + 8) bytes (k - (8 * j + 8)) 0
+    ∙ ap (λ n. get_or bytes n 0) at
+
+pub byte_in : (bytes : List ℕ) (j k : ℕ) → 8 * j ≤ k → k < 8 * j + 8 → 8 * j + 8 ≤ length bytes → get_or (with_word bytes j 0) k 0 ≡ 0
+byte_in bytes j k low high fits =
+    let long : length (take (8 * j) bytes) ≡ 8 * j = length-take-le (8 * j) bytes (omega arith) in
+    ap (λ (b : List ℕ). get_or b k 0) (append_assoc (take (8 * j) bytes) (to_le_bytes w64 0) (drop (8 * j + 8) bytes))
+    ∙ get_or-append_right (take (8 * j) bytes) (to_le_bytes w64 0 ++ drop (8 * j + 8) bytes) (8 * j) k 0 long low
+    ∙ eight (drop (8 * j + 8) bytes) (k - 8 * j) (omega arith)
+  where
+    eight : (rest : List ℕ) (n : ℕ) → n < 8 → get_or (to_le_bytes w64 0 ++ rest) n 0 ≡ 0
+    eight rest zero h = refl
+    eight rest (suc zero) h = refl
+    eight rest (suc (suc zero)) h = refl
+    eight rest (suc (suc (suc zero))) h = refl
+    eight rest (suc (suc (suc (suc zero)))) h = refl
+    eight rest (suc (suc (suc (suc (suc zero))))) h = refl
+    eight rest (suc (suc (suc (suc (suc (suc zero)))))) h = refl
+    eight rest (suc (suc (suc (suc (suc (suc (suc zero))))))) h = refl
+    eight rest (suc (suc (suc (suc (suc (suc (suc (suc n)))))))) h = absurd (omega arith)
+
+-- a zero word leaves zeros
+pub zero_stays : (bytes : List ℕ) (j k : ℕ) → 8 * j + 8 ≤ length bytes → get_or bytes k 0 ≡ 0 → get_or (with_word bytes j 0) k 0 ≡ 0
+zero_stays bytes j k fits was =
+    ⊎_elim
+    (λ (below : k < 8 * j). byte_below bytes j 0 k below fits ∙ was)
+    (λ (low : 8 * j ≤ k).
+    ⊎_elim
+    (λ (high : k < 8 * j + 8). byte_in bytes j k low high fits)
+    (λ (above : 8 * j + 8 ≤ k). byte_above bytes j 0 k above fits ∙ was)
+    (cases_lt k (8 * j + 8)))
+    (cases_lt k (8 * j))
