@@ -9,7 +9,7 @@ use Rattle.theory.specs.Position.{aligned, max_position}
 use Rattle.theory.specs.Entry.{Entry}
 use Rattle.theory.specs.Wire.{front}
 use Rattle.theory.specs.Bytes.{Identity}
-use Rattle.term_buffer.specs.Kept.{IsDrafted, IsOpen, Kept, claim_of, draft_of, drafted, frame_of, place_of, rest_of, term_of, with_claim, with_commit, with_draft}
+use Rattle.term_buffer.specs.Kept.{IsDrafted, IsOpen, Kept, claim_of, draft_of, drafted, frame_of, place_of, rest_of, term_of, with_claim, with_commit, with_draft, with_share}
 use Rattle.term_buffer.specs.Slots.{IsBuffer, IsInside, Parts, drafts_of, entries_of, entry_of, range, rest_in, term_in}
 use Rattle.term_buffer.specs.declared.claimed.Claimed.{Claimed}
 use Rattle.term_buffer.specs.declared.claimed.Slot.{Slot}
@@ -171,3 +171,15 @@ claim_opens l c number start = record {
 
 pub entries_shown : (p : Parts) (l : Kept) → shown p ≡ l → p.gone + length p.slots ≡ l.gone + length l.entries
 entries_shown p l v = subst (λ (x : Kept). p.gone + length p.slots ≡ x.gone + length x.entries) v (omega (arith, length-map p.slots (λ s. entry_of s (range (term_in p) p.bytes s))))
+
+pub claim_kept : (p : Parts) (k : IsBuffer p) (c : Claimed) → Fits p c → (covered : ℕ) → covered ≡ aligned c.frame_length → (more : List Slot) → more ≡ p.slots ++ slot_of c false ∷ [] → (room : ℕ) → room ≡ p.capacity → IsBuffer (record p { tail = p.tail + covered; shares = with_share p.shares c.owner covered; slots = more; capacity = room })
+claim_kept p k c f covered e more g room h =
+    subst (λ n. IsBuffer (record p { tail = p.tail + n; shares = with_share p.shares c.owner n; slots = more; capacity = room })) (sym e)
+    (subst (λ (ss : List Slot). IsBuffer (record p { tail = p.tail + aligned c.frame_length; shares = with_share p.shares c.owner (aligned c.frame_length); slots = ss; capacity = room })) (sym g)
+    (subst (λ n. IsBuffer (record (claimed_parts p c) { capacity = n })) (sym h) (kept_claim p k c f)))
+
+pub claim_shown : (p : Parts) (k : IsBuffer p) (l : Kept) → shown p ≡ l → (c : Claimed) → Fits p c → (covered : ℕ) → covered ≡ aligned c.frame_length → (more : List Slot) → more ≡ p.slots ++ slot_of c false ∷ [] → (room : ℕ) → shown (record p { tail = p.tail + covered; shares = with_share p.shares c.owner covered; slots = more; capacity = room }) ≡ with_claim l c.owner c.padding c.frame_length
+claim_shown p k l v c f covered e more g room =
+    subst (λ n. shown (record p { tail = p.tail + n; shares = with_share p.shares c.owner n; slots = more; capacity = room }) ≡ with_claim l c.owner c.padding c.frame_length) (sym e)
+    (subst (λ (ss : List Slot). shown (record p { tail = p.tail + aligned c.frame_length; shares = with_share p.shares c.owner (aligned c.frame_length); slots = ss; capacity = room }) ≡ with_claim l c.owner c.padding c.frame_length) (sym g)
+    (claim_view p k l v c f))

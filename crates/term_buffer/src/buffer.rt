@@ -192,9 +192,7 @@ impl TermBuffer {
         let first = first_word(claimed.padding, claimed.frame_length);
         self.bytes.set_word(place, first);
         let index = (claimed.number - self.gone) as usize;
-        if let Some(slot) = self.slots.get_mut(index) {
-            slot.committed = true;
-        }
+        self.slots[index].committed = true;
     }
 
     /// Stores zero in the next word to be cleaned, and forgets the entry that begins there.
