@@ -1,4 +1,5 @@
 pub mod Changes
+pub mod Cleaning
 pub mod Keeps
 pub mod Logs
 pub mod Ring

@@ -48,6 +48,7 @@ impl Model for TermBuffer {
 impl TermBuffer {
     ghost use Rattle.std.specs.Int.{to_le_bytes};
     ghost use Rattle.block.specs.Bytes.{with_word};
+    ghost use Rattle.term_buffer.specs.Forgets.{ForgetsFirst};
     ghost use Rattle.term_buffer.specs.Kept.{Cleans, IsDrafted, IsKeptLog, IsOpen, MayClean, draft_of, drafted, fresh, term_of, with_claim, with_commit, with_draft};
 
     /// A buffer without an entry, from a position on. The error comes only where memory was refused.
@@ -201,11 +202,28 @@ impl TermBuffer {
         ensures { Cleans self.old (self.old.cleaned + 8) self.new }
     {
         if self.cleaned == self.first {
-            if let Some(slot) = self.slots.pop_front() {
-                self.first += u64::from(align32(slot.frame_length));
-                self.gone += 1;
-            }
+            self.forget_first();
         }
+        self.clear_word();
+    }
+
+    /// Forgets the first entry that is kept. Its bytes stay as they are.
+    fn forget_first(&mut self)
+        requires { self.old.first < self.old.tail }
+        ensures { ForgetsFirst self.old self.new }
+    {
+        let covered = u64::from(align32(self.slots[0].frame_length));
+        self.slots.pop_front();
+        self.first += covered;
+        self.gone += 1;
+    }
+
+    /// Stores zero in the next word to be cleaned, which no kept entry covers.
+    fn clear_word(&mut self)
+        requires { self.old.cleaned < self.old.first }
+        ensures cleared { self.new ≡ record self.old { cleaned = self.old.cleaned + 8 } }
+        ensures legal { IsKeptLog self.new }
+    {
         let place = self.word_of(self.cleaned);
         self.bytes.set_word(place, 0);
         self.cleaned += 8;
