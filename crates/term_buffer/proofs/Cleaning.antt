@@ -4,7 +4,7 @@ use Rattle.std.specs.List.{AllByRecursion}
 use Rattle.std.proofs.lemmas.List.{append-nil}
 use Rattle.block.specs.Bytes.{with_word}
 use Rattle.theory.specs.Position.{aligned}
-use Rattle.theory.specs.Entry.{Entry, entry_end}
+use Rattle.theory.specs.Entry.{Entry, IsEntry, entry_end, length_of}
 use Rattle.theory.specs.Tiling.{InOneTerm, Tiles}
 use Rattle.theory.specs.Messages.{is_whole}
 use Rattle.term_buffer.specs.Forgets.{ForgetsFirst}
@@ -128,3 +128,11 @@ cleans_first old mid new may at f e legal =
 
     is : new ≡ record old { cleaned = old.cleaned + 8; gone = old.gone + 1; first = mid.first; entries = mid.entries; drafts = drop 1 old.drafts }
     is = e ∙ ap (λ (x : Kept). record x { cleaned = x.cleaned + 8 }) f.new_is
+
+-- behind a forgotten entry there is a word to be cleared
+pub forgets_past : (old mid : Kept) → IsKeptLog old → ForgetsFirst old mid → old.cleaned ≡ old.first → mid.cleaned < mid.first
+forgets_past old mid k f at =
+    let entries : AllByRecursion IsEntry (f.entry ∷ mid.entries) = subst (AllByRecursion IsEntry) f.parts k.entries in
+    let same : mid.cleaned ≡ old.cleaned = ap (λ (x : Kept). x.cleaned) f.new_is in
+    let long : 0 < length_of f.entry = entries.0.long in
+    omega (arith, same, at, long, f.tiles.0, f.tiles.2)
