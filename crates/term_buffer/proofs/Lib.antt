@@ -2,6 +2,7 @@ pub mod Changes
 pub mod Cleaning
 pub mod Keeps
 pub mod Logs
+pub mod ReadEntries
 pub mod Ring
 pub mod Shares
 pub mod Slots
