@@ -281,10 +281,10 @@ kept_clean p k place at below = record {
   tiles = k.tiles;
   written = λ j d h. subst (IsWritten p.identity (get_or p.slots j d)) (sym (clean_leaves p k place at below j d h)) (k.written j d h);
   ahead = λ q low high.
-    ⊎_elim
-    (λ (was : q < p.cleaned + 3 * term_in p). zero_stays p.bytes place (q % (3 * term_in p)) (word_cleaned p k place at) (k.ahead q low was))
-    (λ (now : p.cleaned + 3 * term_in p ≤ q). cleared q now high)
-    (cases_lt q (p.cleaned + 3 * term_in p));
+      ⊎_elim
+      (λ (was : q < p.cleaned + 3 * term_in p). zero_stays p.bytes place (q % (3 * term_in p)) (word_cleaned p k place at) (k.ahead q low was))
+      (λ (now : p.cleaned + 3 * term_in p ≤ q). cleared q now high)
+      (cases_lt q (p.cleaned + 3 * term_in p));
 }
   where
     cleared : (q : ℕ) → p.cleaned + 3 * term_in p ≤ q → q < p.cleaned + 8 + 3 * term_in p → get_or (with_word p.bytes place 0) (q % (3 * term_in p)) 0 ≡ 0

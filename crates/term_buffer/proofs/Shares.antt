@@ -27,7 +27,6 @@ pub total : (term p tail : ℕ) (es : List Entry) → Tiles term p tail es → p
 total term p tail [] h = omega (arith, h)
 total term p tail (e ∷ es) h = omega (arith, sum_by-cons length_of e es, total term (entry_end e) tail es h.2, h.0)
 
-
 -- the bytes of a slot that lies in one term
 pub range_long : (t first tail : ℕ) (i : Identity) (bytes : List ℕ) (s : Slot) → t ≡ i.geometry.term_length → 0 < t → length bytes ≡ 3 * t → IsInside i first tail s → length (range t bytes s) ≡ aligned s.frame_length
 range_long t first tail i bytes s is some size h =
