@@ -159,9 +159,9 @@ impl TermBuffer {
             padding,
         };
         let slot = Slot {
-            start: self.tail,
+            start: claimed.start,
             frame_length,
-            owner,
+            owner: claimed.owner,
             padding,
             committed: false,
         };
