@@ -51,7 +51,8 @@ impl TermBuffer {
     ghost use Rattle.term_buffer.specs.Forgets.{ForgetsFirst};
     ghost use Rattle.term_buffer.specs.Kept.{Cleans, IsDrafted, IsKeptLog, IsOpen, MayClean, draft_of, drafted, fresh, term_of, with_claim, with_commit, with_draft};
 
-    /// A buffer without an entry, from a position on. The error comes only where memory was refused.
+    /// A buffer without an entry, from a position on: a multiple of 32, below the greatest position. It takes all the
+    /// memory that is ever needed, and the error comes only where that was refused.
     pub fn open(
         alloc: Global,
         geometry: Geometry,
@@ -109,7 +110,7 @@ impl TermBuffer {
         self.start
     }
 
-    /// The end of the last entry.
+    /// The end of the last entry, where the next one begins.
     pub fn tail(&self) -> u64
         ensures value { result ≡ self.now.tail }
         ensures legal { IsKeptLog self.now }
@@ -124,21 +125,23 @@ impl TermBuffer {
         self.shares
     }
 
-    /// The position up to which the bytes are zero again.
+    /// The position up to which the bytes are zero again, a multiple of 8.
     pub fn cleaned(&self) -> u64
         ensures { result ≡ self.now.cleaned }
     {
         self.cleaned
     }
 
-    /// A word of the three terms.
+    /// A word of the three terms, counted in words of eight bytes. Nothing is promised of its value.
     pub fn word(&self, index: usize) -> u64
         requires { index < 3 * term_of self.now / 8 }
     {
         self.bytes.word(index)
     }
 
-    /// Adds an entry of an owner at the tail, for a frame of this length. Its bytes are zero.
+    /// Adds an entry of an owner, 0 to 7, at the tail, for a frame of `frame_length` bytes: a message's, of 32 bytes to
+    /// the MTU, or a padding, a multiple of 32. It lies in one term, and ends at most three terms behind the cleaned
+    /// position. Its bytes are zero.
     pub fn claim(&mut self, owner: usize, padding: bool, frame_length: u32) -> Claimed
         requires owner { owner < 8 }
         requires long { 32 ≤ frame_length }
@@ -172,7 +175,7 @@ impl TermBuffer {
         claimed
     }
 
-    /// Stores a word of a claim's frame: any but the first one.
+    /// Stores a word of a claim's frame: any but the first one. `index` counts words of eight bytes from the frame's begin.
     pub fn store(&mut self, claimed: Claimed, index: usize, word: u64)
         requires unset { IsOpen self.old claimed }
         requires behind { 0 < index }
@@ -196,7 +199,7 @@ impl TermBuffer {
         self.slots[index].committed = true;
     }
 
-    /// Stores zero in the next word to be cleaned, and forgets the entry that begins there.
+    /// Stores zero in the next word to be cleaned, and forgets the entry that begins there, which is committed.
     pub fn clean(&mut self)
         requires { MayClean self.old }
         ensures { Cleans self.old (self.old.cleaned + 8) self.new }

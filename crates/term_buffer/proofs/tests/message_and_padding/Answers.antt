@@ -9,16 +9,8 @@ use Rattle.theory.specs.Messages.{is_whole}
 use Rattle.theory.specs.Tiling.{Tiles}
 use Rattle.term_buffer.specs.Kept.{Cleans, IsDrafted, Kept, MayClean, draft_of, drafted, fresh, header_rest, with_claim, with_commit, with_draft}
 use Rattle.term_buffer.specs.declared.claimed.Claimed.{Claimed}
+use Rattle.term_buffer.proofs.TestSteps.{claimed_is, committed, committed_is, first_past, identity, next_claim, shape, stored, stored_is}
 use Rattle.term_buffer.proofs.tests.message_and_padding.Goals as goal
-
-abbrev stored : Kept → Claimed → ℕ → ℕ → Kept
-stored l c index word = with_draft l c (with_word (draft_of l c) (index - 1) word)
-
-abbrev shape : Geometry
-shape = record { term_length = 65536; mtu = 1408; initial_term_id = pos 7 }
-
-abbrev identity : Identity
-identity = record { geometry = shape; session = pos 1; stream = pos 1001 }
 
 abbrev message : Claimed
 message = record { number = 0; start = 196544; frame_length = 35; owner = 2; padding = false }
@@ -29,24 +21,8 @@ padding = record { number = 1; start = 196608; frame_length = 64; owner = 3; pad
 abbrev with_message : Kept
 with_message = stored (stored (stored (with_claim (fresh identity 196544) 2 false 35) message 1 4295032768) message 2 38654706665) message 4 6513249
 
-abbrev committed : Kept → Claimed → Kept
-committed l c = with_commit l c (drafted l c)
-
 abbrev with_padding : Kept
 with_padding = stored (stored (with_claim (committed with_message message) 3 true 64) padding 1 4294967296) padding 2 42949673961
-
-stored_is : (l m n : Kept) (c d : Claimed) (index word : ℕ) → m ≡ stored l c index word → l ≡ n → c ≡ d → m ≡ stored n d index word
-stored_is l m n c d index word h e f = h ∙ ap (λ (x : Kept). stored x c index word) e ∙ ap (λ (x : Claimed). stored n x index word) f
-
-committed_is : (l m n : Kept) (c d : Claimed) → m ≡ committed l c → l ≡ n → c ≡ d → m ≡ committed n d
-committed_is l m n c d h e f = h ∙ ap (λ (x : Kept). committed x c) e ∙ ap (λ (x : Claimed). committed n x) f
-
--- the claim that a buffer gives next
-abbrev next_claim : Kept → ℕ → Bool → ℕ → Claimed
-next_claim l owner padding frame_length = record { number = l.gone + length l.entries; start = l.tail; frame_length = frame_length; owner = owner; padding = padding }
-
-claimed_is : (l n : Kept) (c : Claimed) (owner : ℕ) (padding : Bool) (frame_length : ℕ) → c ≡ next_claim l owner padding frame_length → l ≡ n → c ≡ next_claim n owner padding frame_length
-claimed_is l n c owner padding frame_length h e = h ∙ ap (λ (x : Kept). next_claim x owner padding frame_length) e
 
 message_drafted : (l : Kept) (c : Claimed) → l ≡ with_message → c ≡ message → IsDrafted l c
 message_drafted l c e f = subst (λ (x : Kept). IsDrafted x c) (sym e) (subst (λ (x : Claimed). IsDrafted with_message x) (sym f) refl)
@@ -59,19 +35,6 @@ padding_drafted : (l : Kept) (c : Claimed) → l ≡ with_padding → c ≡ padd
 padding_drafted l c e f = subst (λ (x : Kept). IsDrafted x c) (sym e) (subst (λ (x : Claimed). IsDrafted with_padding x) (sym f) padding_is)
 
 -- ---- the first word is cleaned
-
-grows : (t start tail : ℕ) (es : List Entry) → Tiles t start tail es → start ≤ tail
-grows t start tail [] h = omega (arith, h)
-grows t start tail (e ∷ es) h = omega (arith, h.0, grows t (entry_end e) tail es h.2)
-
-same_head : (e x : Entry) (es xs : List Entry) → e ∷ es ≡ x ∷ xs → e ≡ x
-same_head e x es xs h = cc
-
--- the first entry is past, and the buffer goes on behind it
-first_past : (e : Entry) (es past rest : List Entry) (to first : ℕ) → e ∷ es ≡ past ++ rest → e.start < to → AllByRecursion (λ x. to ≤ x.start) rest → Tiles 65536 e.start first past → entry_end e ≤ first
-first_past e es [] rest to first parts below from tiles = let all : AllByRecursion (λ x. to ≤ x.start) (e ∷ es) = subst (AllByRecursion (λ x. to ≤ x.start)) (sym parts) from in absurd (omega (arith, all.0))
-first_past e es (x ∷ past) rest to first parts below from tiles =
-    subst (λ (y : Entry). entry_end y ≤ first) (sym (same_head e x es (past ++ rest) parts)) (grows 65536 (entry_end x) first past tiles.2)
 
 cleans_on : (new : Kept) → Cleans (committed with_padding padding) 196552 new → MayClean new
 cleans_on new h =
