@@ -1,5 +1,5 @@
 -- What a claim, a store and a commit leave of the slots.
-use Rattle.std.proofs.Common.{◌≡◌, ℕ, zero, suc, ◌+◌, ◌-◌, ◌*◌, ◌%◌, ◌<◌, ◌≤◌, ⊎_elim, Bool, true, false, List, [], ◌∷◌, ◌++◌, length, map, take, drop, replicate, get_or, set, Some, refl, sym, ap, ◌∙◌, subst, All, length-append, arith}
+use Rattle.std.proofs.Common.{◌≡◌, ℕ, zero, suc, ◌+◌, ◌-◌, ◌<◌, ◌≤◌, ⊎_elim, Bool, true, false, List, [], ◌∷◌, ◌++◌, length, map, take, drop, replicate, get_or, set, Some, refl, sym, ap, ◌∙◌, subst, All, length-append, arith}
 use Rattle.std.specs.Prelude.{if◌then◌else◌}
 use Rattle.std.specs.List.{slice_get}
 use Rattle.std.proofs.lemmas.Bool.{cases_eq, false≢true}
@@ -10,8 +10,8 @@ use Rattle.block.specs.Bytes.{with_word}
 use Rattle.theory.specs.Position.{aligned}
 use Rattle.theory.specs.Placed.{Data, Frame, Pad}
 use Rattle.theory.specs.Entry.{Entry}
-use Rattle.theory.specs.Wire.{front, header_bytes, zeros_after}
-use Rattle.theory.specs.Bytes.{Identity, bytes_of, header_at}
+use Rattle.theory.specs.Wire.{front, zeros_after}
+use Rattle.theory.specs.Bytes.{Identity, bytes_of}
 use Rattle.term_buffer.specs.Kept.{claim_of, frame_of, header_rest, rest_of}
 use Rattle.term_buffer.specs.Slots.{IsWritten, drafts_of, entries_of, entry_of, frame_in, image_of, outline, range, rest_in}
 use Rattle.term_buffer.specs.declared.claimed.Claimed.{Claimed}

@@ -1,18 +1,16 @@
 -- What cleaning a word shows.
-use Rattle.std.proofs.Common.{◌≡◌, ℕ, ◌+◌, ◌-◌, ◌*◌, ◌/◌, ◌%◌, ◌<◌, ◌≤◌, List, [], ◌∷◌, ◌++◌, true, length, map, drop, get_or, refl, sym, ap, ◌∙◌, subst, arith}
+use Rattle.std.proofs.Common.{◌≡◌, ℕ, ◌+◌, ◌*◌, ◌/◌, ◌%◌, ◌<◌, ◌≤◌, List, [], ◌∷◌, length, map, drop, get_or, refl, sym, ap, ◌∙◌, subst, arith}
 use Rattle.std.specs.List.{AllByRecursion}
-use Rattle.std.proofs.lemmas.List.{append-nil}
 use Rattle.block.specs.Bytes.{with_word}
 use Rattle.theory.specs.Position.{aligned}
 use Rattle.theory.specs.Entry.{Entry, IsEntry, entry_end, length_of}
-use Rattle.theory.specs.Tiling.{InOneTerm, Tiles}
-use Rattle.theory.specs.Messages.{is_whole}
+use Rattle.theory.specs.Tiling.{Tiles}
 use Rattle.term_buffer.specs.Forgets.{ForgetsFirst}
 use Rattle.term_buffer.specs.Kept.{Cleans, IsKeptLog, Kept, MayClean, term_of}
-use Rattle.term_buffer.specs.Slots.{IsBuffer, IsInside, Parts, drafts_of, entries_of, entry_of, outline, range, rest_in, term_in}
+use Rattle.term_buffer.specs.Slots.{IsBuffer, Parts, drafts_of, entries_of, entry_of, outline, range, rest_in, term_in}
 use Rattle.term_buffer.specs.declared.claimed.Slot.{Slot}
 use Rattle.term_buffer.proofs.Keeps.{clean_leaves, cleaned_parts, forgotten_parts, kept_clean, kept_forget, word_cleaned}
-use Rattle.term_buffer.proofs.Logs.{is_kept_log, shown}
+use Rattle.term_buffer.proofs.Logs.{shown}
 use Rattle.term_buffer.proofs.Slots.{map_same}
 
 -- ---- the first slot goes

@@ -1,17 +1,15 @@
 -- What holds of a buffer's parts goes on holding.
-use Rattle.std.proofs.Common.{◌≡◌, ℕ, zero, suc, ◌+◌, ◌-◌, ◌*◌, ◌/◌, ◌%◌, ◌<◌, ◌≤◌, ◌^◌, ⊎_elim, Bool, true, false, List, [], ◌∷◌, ◌++◌, length, map, take, drop, replicate, get_or, set, sum, refl, sym, ap, ◌∙◌, subst, All, length-drop, length-set, arith}
+use Rattle.std.proofs.Common.{◌≡◌, ℕ, zero, suc, ◌+◌, ◌-◌, ◌*◌, ◌/◌, ◌%◌, ◌<◌, ◌≤◌, ⊎_elim, true, false, List, [], ◌∷◌, ◌++◌, length, map, take, drop, replicate, get_or, set, sum, refl, sym, ap, ◌∙◌, subst, All, length-drop, length-set, arith}
 use Rattle.std.specs.Prelude.{if◌then◌else◌, slice_index}
 use Rattle.std.specs.Int.{w64, to_le_bytes}
 use Rattle.std.proofs.lemmas.Bool.{cases_lt, false≢true}
-use Rattle.std.proofs.lemmas.List.{length_push, map_push, length-take-le, take-replicate, drop-replicate, get_or-drop}
+use Rattle.std.proofs.lemmas.List.{length_push, map_push, length-take-le, take-replicate, get_or-drop}
 use Rattle.std.proofs.lemmas.List.Sums.{sum_by-set}
 use Rattle.std.proofs.lemmas.Nat.{div-add-mod'}
 use Rattle.block.specs.Bytes.{with_word}
 use Rattle.theory.specs.Position.{aligned, max_position}
-use Rattle.theory.specs.Entry.{Entry}
 use Rattle.theory.specs.Tiling.{InOneTerm, Tiles}
 use Rattle.theory.specs.Wire.{front}
-use Rattle.theory.specs.Bytes.{Identity}
 use Rattle.term_buffer.specs.Kept.{frame_of, rest_of, with_share}
 use Rattle.term_buffer.specs.Slots.{IsBuffer, IsInside, IsWritten, IsZeroAhead, Parts, drafts_of, outline, range, term_in}
 use Rattle.term_buffer.specs.declared.claimed.Claimed.{Claimed}

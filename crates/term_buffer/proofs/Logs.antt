@@ -1,8 +1,7 @@
 -- What holds of every buffer.
-use Rattle.std.proofs.Common.{◌≡◌, ℕ, ◌+◌, ◌*◌, ◌<◌, ◌≤◌, List, length, get_or, sym, ap, refl, ◌∙◌, arith}
+use Rattle.std.proofs.Common.{◌≡◌, ◌<◌, length, get_or, sym, refl, ◌∙◌, arith}
 use Rattle.std.proofs.lemmas.List.{length-map}
 use Rattle.theory.specs.Position.{aligned}
-use Rattle.theory.specs.Bytes.{Identity}
 use Rattle.term_buffer.specs.Kept.{IsKeptLog, Kept}
 use Rattle.term_buffer.specs.Slots.{IsBuffer, IsInside, Parts, drafts_of, entries_of, entry_of, range, rest_in, term_in}
 use Rattle.term_buffer.specs.declared.claimed.Slot.{Slot}

@@ -6,10 +6,9 @@ use Rattle.std.proofs.lemmas.List.{append-nil, drop-drop, drop-take, drop_all, g
 use Rattle.block.specs.Bytes.{with_front}
 use Rattle.theory.specs.Position.{aligned}
 use Rattle.theory.specs.Placed.{Data, Frame, Pad, payload_of}
-use Rattle.theory.specs.Entry.{Entry}
 use Rattle.position.specs.declared.head.FrameHead.{FrameHead}
 use Rattle.position.specs.declared.head.FrameKind.TheVariants as kinds
-use Rattle.term_buffer.specs.Kept.{Kept, place_of}
+use Rattle.term_buffer.specs.Kept.{Kept}
 use Rattle.term_buffer.specs.Heads.{ReadsEntry, head_of}
 use Rattle.term_buffer.specs.Slots.{IsBuffer, IsInside, Parts, entries_of, entry_of, frame_in, outline, range, term_in}
 use Rattle.term_buffer.specs.declared.claimed.Slot.{Slot}

@@ -1,16 +1,15 @@
 -- The entries of slots tile the stream as the slots do.
-use Rattle.std.proofs.Common.{◌≡◌, ℕ, zero, suc, ◌+◌, ◌-◌, ◌*◌, ◌%◌, ◌<◌, ◌≤◌, ⊎_elim, Bool, true, false, cond, List, [], ◌∷◌, ◌++◌, length, map, take, drop, refl, sym, ap, ◌∙◌, subst, All, length-drop, arith}
-use Rattle.std.specs.List.{AllByRecursion, sum_by, filter}
-use Rattle.std.specs.Prelude.{◌==◌, if◌then◌else◌}
-use Rattle.std.proofs.lemmas.Bool.{cases_Bool}
+use Rattle.std.proofs.Common.{◌≡◌, ℕ, suc, ◌+◌, ◌-◌, ◌*◌, ◌%◌, ◌<◌, ◌≤◌, Bool, true, false, List, [], ◌∷◌, ◌++◌, length, map, take, drop, refl, sym, ◌∙◌, subst, All, length-drop, arith}
+use Rattle.std.specs.List.{AllByRecursion, sum_by}
+use Rattle.std.specs.Prelude.{if◌then◌else◌}
 use Rattle.std.proofs.lemmas.List.{length-take-le}
 use Rattle.std.proofs.lemmas.List.Sums.{sum_by-cons}
 use Rattle.theory.specs.Position.{aligned}
 use Rattle.theory.specs.Placed.{Data, Pad}
 use Rattle.theory.specs.Bytes.{Identity}
 use Rattle.theory.specs.Entry.{HaveFrames, Entry, IsEntry, length_of, entry_end}
-use Rattle.theory.specs.Tiling.{Tiles, InOneTerm, share_of, all_shares}
-use Rattle.term_buffer.specs.Slots.{entries_of, entry_of, outline, range, frame_in, rest_in, IsInside, IsBuffer, Parts, term_in}
+use Rattle.theory.specs.Tiling.{Tiles, InOneTerm}
+use Rattle.term_buffer.specs.Slots.{entries_of, entry_of, outline, range, IsInside}
 use Rattle.term_buffer.specs.declared.claimed.Slot.{Slot}
 use Rattle.term_buffer.proofs.Ring.{in_ring}
 

@@ -1,5 +1,5 @@
 -- Steps of the tests: the buffers that they show.
-use Rattle.std.proofs.Common.{◌≡◌, ℕ, pos, Bool, ◌+◌, ◌-◌, ◌*◌, ◌/◌, ◌%◌, ◌<◌, ◌≤◌, List, [], ◌∷◌, ◌++◌, length, sym, ap, ◌∙◌, subst, arith}
+use Rattle.std.proofs.Common.{◌≡◌, ℕ, pos, Bool, ◌+◌, ◌-◌, ◌<◌, ◌≤◌, List, [], ◌∷◌, ◌++◌, length, sym, ap, ◌∙◌, subst, arith}
 use Rattle.std.specs.List.{AllByRecursion}
 use Rattle.block.specs.Bytes.{with_word}
 use Rattle.theory.specs.Position.{Geometry}

@@ -1,5 +1,5 @@
 -- What the calls show of a buffer.
-use Rattle.std.proofs.Common.{◌≡◌, ℕ, ◌+◌, ◌-◌, ◌*◌, ◌/◌, ◌%◌, ◌<◌, ◌≤◌, Bool, true, false, List, [], ◌∷◌, ◌++◌, length, map, take, drop, replicate, get_or, set, Some, refl, sym, ap, ◌∙◌, subst, arith}
+use Rattle.std.proofs.Common.{◌≡◌, ℕ, ◌+◌, ◌-◌, ◌*◌, ◌/◌, ◌%◌, ◌<◌, ◌≤◌, Bool, true, false, List, [], ◌∷◌, ◌++◌, length, drop, replicate, get_or, set, Some, refl, sym, ap, ◌∙◌, subst, arith}
 use Rattle.std.specs.List.{slice_get}
 use Rattle.std.specs.Prelude.{if◌then◌else◌}
 use Rattle.std.specs.Int.{w64, to_le_bytes}
@@ -8,9 +8,8 @@ use Rattle.block.specs.Bytes.{with_word}
 use Rattle.theory.specs.Position.{aligned, max_position}
 use Rattle.theory.specs.Entry.{Entry}
 use Rattle.theory.specs.Wire.{front}
-use Rattle.theory.specs.Bytes.{Identity}
 use Rattle.term_buffer.specs.Kept.{IsDrafted, IsOpen, Kept, claim_of, draft_of, drafted, frame_of, place_of, rest_of, term_of, with_claim, with_commit, with_draft, with_share}
-use Rattle.term_buffer.specs.Slots.{IsBuffer, IsInside, Parts, drafts_of, entries_of, entry_of, range, rest_in, term_in}
+use Rattle.term_buffer.specs.Slots.{IsBuffer, Parts, drafts_of, entries_of, entry_of, range, rest_in, term_in}
 use Rattle.term_buffer.specs.declared.claimed.Claimed.{Claimed}
 use Rattle.term_buffer.specs.declared.claimed.Slot.{Slot}
 use Rattle.term_buffer.proofs.Changes.{LeavesOthers, Opened, committed_drafts, committed_entries, opened, slot_of, stored_drafts, stored_entries}

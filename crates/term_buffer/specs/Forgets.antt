@@ -1,5 +1,5 @@
 -- What is left of a buffer when its first entry is forgotten.
-use Rattle.std.specs.Prelude.{◌≡◌, ◌+◌, List, [], ◌∷◌, drop}
+use Rattle.std.specs.Prelude.{◌≡◌, ◌+◌, [], ◌∷◌, drop}
 use Rattle.theory.specs.Entry.{Entry}
 use Rattle.theory.specs.Tiling.{Tiles}
 use Rattle.term_buffer.specs.Kept.{Kept, term_of}

@@ -1,5 +1,5 @@
 -- How the parts of a term buffer show its entries, and what holds of them between two calls.
-use Rattle.std.specs.Prelude.{◌≡◌, ℕ, ◌+◌, ◌-◌, ◌*◌, ◌%◌, ◌<◌, ◌≤◌, Bool, true, false, List, [], ◌∷◌, ◌++◌, length, map, take, drop, replicate, if◌then◌else◌, All, slice_index, sum}
+use Rattle.std.specs.Prelude.{◌≡◌, ℕ, ◌+◌, ◌-◌, ◌*◌, ◌%◌, ◌<◌, ◌≤◌, true, false, List, [], ◌∷◌, ◌++◌, length, map, take, drop, replicate, if◌then◌else◌, All, slice_index, sum}
 use Rattle.theory.specs.Position.{IsGeometry, aligned, max_position}
 use Rattle.theory.specs.Placed.{Data, Frame, Pad}
 use Rattle.theory.specs.Entry.{Entry}

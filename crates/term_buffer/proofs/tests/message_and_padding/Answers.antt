@@ -1,13 +1,6 @@
-use Rattle.std.proofs.Common.{◌≡◌, ℕ, pos, Bool, ◌+◌, ◌-◌, ◌*◌, ◌/◌, ◌%◌, ◌<◌, ◌≤◌, true, false, List, [], ◌∷◌, ◌++◌, length, drop, refl, sym, ap, ◌∙◌, subst, arith}
-use Rattle.std.specs.List.{AllByRecursion}
-use Rattle.block.specs.Bytes.{with_word}
+use Rattle.std.proofs.Common.{◌≡◌, pos, ◌+◌, ◌≤◌, true, false, refl, sym, ap, ◌∙◌, subst, arith}
 use Rattle.theory.specs.Position.{Geometry}
-use Rattle.theory.specs.Placed.{Data}
-use Rattle.theory.specs.Bytes.{Identity}
-use Rattle.theory.specs.Entry.{Entry, entry_end}
-use Rattle.theory.specs.Messages.{is_whole}
-use Rattle.theory.specs.Tiling.{Tiles}
-use Rattle.term_buffer.specs.Kept.{Cleans, IsDrafted, Kept, MayClean, draft_of, drafted, fresh, header_rest, with_claim, with_commit, with_draft}
+use Rattle.term_buffer.specs.Kept.{Cleans, IsDrafted, Kept, MayClean, fresh, header_rest, with_claim}
 use Rattle.term_buffer.specs.declared.claimed.Claimed.{Claimed}
 use Rattle.term_buffer.proofs.TestSteps.{claimed_is, committed, committed_is, first_past, identity, next_claim, shape, stored, stored_is}
 use Rattle.term_buffer.proofs.tests.message_and_padding.Goals as goal

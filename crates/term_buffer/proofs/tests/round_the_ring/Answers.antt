@@ -1,8 +1,6 @@
-use Rattle.std.proofs.Common.{◌≡◌, ℕ, pos, ◌+◌, ◌-◌, ◌*◌, ◌/◌, ◌%◌, ◌<◌, ◌≤◌, true, false, List, [], ◌∷◌, ◌++◌, length, drop, refl, sym, ap, ◌∙◌, subst, arith}
+use Rattle.std.proofs.Common.{◌≡◌, ℕ, pos, ◌+◌, ◌<◌, ◌≤◌, true, false, refl, sym, ap, ◌∙◌, subst, arith}
 use Rattle.theory.specs.Position.{Geometry}
-use Rattle.theory.specs.Bytes.{Identity}
-use Rattle.theory.specs.Entry.{Entry}
-use Rattle.term_buffer.specs.Kept.{Cleans, IsDrafted, Kept, MayClean, fresh, header_rest, term_of, with_claim}
+use Rattle.term_buffer.specs.Kept.{Cleans, IsDrafted, Kept, MayClean, fresh, term_of, with_claim}
 use Rattle.term_buffer.specs.declared.claimed.Claimed.{Claimed}
 use Rattle.term_buffer.proofs.TestSteps.{claimed_is, committed, committed_is, first_past, grows, identity, next_claim, shape, stored, stored_is}
 use Rattle.term_buffer.proofs.tests.round_the_ring.Goals as goal

@@ -1,8 +1,6 @@
-use Rattle.std.proofs.Common.{◌≡◌, ◌+◌, ◌++◌, ◌∷◌, [], true, false, length, ap, sym, subst, ◌∙◌, arith, rules}
-use Rattle.theory.specs.Position.{aligned}
+use Rattle.std.proofs.Common.{◌≡◌, ◌+◌, length, ap, sym, subst, ◌∙◌, rules}
 use Rattle.term_buffer.specs.Kept.{IsOpen, Kept}
 use Rattle.term_buffer.specs.declared.claimed.Claimed.{Claimed}
-use Rattle.term_buffer.proofs.Changes.{slot_of}
 use Rattle.term_buffer.proofs.Keeps.{Fits}
 use Rattle.term_buffer.proofs.Logs.{parts_of}
 use Rattle.term_buffer.proofs.Views.{claim_fits, claim_kept, claim_opens, claim_shown, entries_shown}

@@ -1,5 +1,5 @@
 use Rattle.std.proofs.Common.{◌≡◌, ◌+◌, ◌<◌, ◌∙◌, ap, sym, subst, arith}
-use Rattle.term_buffer.specs.Kept.{Cleans, IsKeptLog, Kept}
+use Rattle.term_buffer.specs.Kept.{IsKeptLog, Kept}
 use Rattle.term_buffer.specs.Forgets.{ForgetsFirst}
 use Rattle.term_buffer.proofs.Cleaning.{cleans_first, cleans_word, forgets_past}
 use Rattle.term_buffer.proofs.Logs.{is_kept_log, parts_of}

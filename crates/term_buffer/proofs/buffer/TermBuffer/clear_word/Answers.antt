@@ -1,5 +1,4 @@
 use Rattle.std.proofs.Common.{◌+◌}
-use Rattle.term_buffer.specs.Kept.{IsKeptLog, Kept}
 use Rattle.term_buffer.proofs.Cleaning.{clear_fits, clear_kept, clear_shown}
 use Rattle.term_buffer.proofs.Logs.{is_kept_log, parts_of}
 use Rattle.term_buffer.proofs.buffer.TermBuffer.clear_word.Goals as goal

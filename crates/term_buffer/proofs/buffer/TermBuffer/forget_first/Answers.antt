@@ -1,4 +1,4 @@
-use Rattle.std.proofs.Common.{◌≡◌, ◌<◌, length, get_or, ◌∙◌, rules}
+use Rattle.std.proofs.Common.{◌≡◌, get_or, ◌∙◌, rules}
 use Rattle.term_buffer.proofs.Cleaning.{forget_kept, forget_shown, some_slot}
 use Rattle.term_buffer.proofs.Logs.{parts_of}
 use Rattle.term_buffer.proofs.buffer.TermBuffer.forget_first.Goals as goal

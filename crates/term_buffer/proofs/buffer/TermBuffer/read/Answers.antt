@@ -1,4 +1,4 @@
-use Rattle.std.proofs.Common.{◌≡◌, ◌-◌, ◌<◌, ◌∙◌, true, false, length, get_or, sym, arith, rules}
+use Rattle.std.proofs.Common.{◌≡◌, ◌-◌, ◌<◌, ◌∙◌, length, get_or, sym, rules}
 use Rattle.std.proofs.lemmas.Bool.{false≢true}
 use Rattle.term_buffer.proofs.Logs.{parts_of}
 use Rattle.term_buffer.proofs.ReadEntries.{message_copied, reads_message, reads_padding}
