@@ -42,7 +42,6 @@ same_slots s c start size owner padding unset =
 
 pub opened : (t : ℕ) (bytes : List ℕ) (slots : List Slot) (n : ℕ) (c : Claimed) → slice_get (entries_of t bytes slots) n ≡ Some (claim_of c.start c.owner c.padding c.frame_length) → Opened slots n c
 opened t bytes slots n c h =
-    let none : Slot = slot_of c false in
     let low : n < length slots = omega (arith, slice_get_within (entries_of t bytes slots) n (claim_of c.start c.owner c.padding c.frame_length) h, length-map slots (λ s. entry_of s (range t bytes s))) in
     let same : entry_of (get_or slots n (slot_of c false)) (range t bytes (get_or slots n (slot_of c false))) ≡ claim_of c.start c.owner c.padding c.frame_length =
     sym (get_or-map (λ s. entry_of s (range t bytes s)) slots n (slot_of c false) (claim_of c.start c.owner c.padding c.frame_length) low)

@@ -26,9 +26,6 @@ front_and_rest : (ss : List Slot) (d : Slot) → 0 < length ss → ss ≡ get_or
 front_and_rest [] d h = absurd (omega arith)
 front_and_rest (s ∷ ss) d h = refl
 
-pub short_front : (p : Parts) (k : IsBuffer p) (s : Slot) → 0 < length p.slots → s ≡ get_or p.slots 0 s → s.start + aligned s.frame_length ≤ p.tail
-short_front p k s some e = subst (λ (x : Slot). x.start + aligned x.frame_length ≤ p.tail) (sym e) ((k.inside 0 s some).high)
-
 pub forget_kept : (p : Parts) (k : IsBuffer p) (s : Slot) → 0 < length p.slots → s ≡ get_or p.slots 0 s → (covered : ℕ) → covered ≡ aligned s.frame_length → (ss : List Slot) → ss ≡ drop 1 p.slots → (room : ℕ) → room ≡ p.capacity → IsBuffer (record p { first = p.first + covered; gone = p.gone + 1; slots = ss; capacity = room })
 forget_kept p k s some e covered f ss g room h =
     let split : p.slots ≡ s ∷ drop 1 p.slots = front_and_rest p.slots s some ∙ ap (λ (x : Slot). x ∷ drop 1 p.slots) (sym e) in

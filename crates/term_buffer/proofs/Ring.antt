@@ -41,19 +41,17 @@ apart m x n y k some before after =
 pub apart_back : (m x n y k : ℕ) → Apart m x n y k → Apart m y k x n
 apart_back m x n y k h = ⊎_elim (λ (a : x % m + n ≤ y % m). inr a) (λ (b : y % m + k ≤ x % m). inl b) h
 
-three : (s t : ℕ) → s < 3 → s * t ≤ 2 * t
-three s t h = ⊎_elim (λ (a : s < 1). let e : s ≡ 0 = omega arith in omega (arith, ap (λ z. z * t) e)) (λ (b : 1 ≤ s). ⊎_elim (λ (a : s < 2). let e : s ≡ 1 = omega arith in omega (arith, ap (λ z. z * t) e)) (λ (c : 2 ≤ s). let e : s ≡ 2 = omega arith in omega (arith, ap (λ z. z * t) e)) (cases_lt s 2)) (cases_lt s 1)
+third_of : (s t : ℕ) → s < 3 → s * t ≤ 2 * t
+third_of s t h = mul-le-mul_right t (omega arith)
 
 -- what lies in one term lies in one piece of the ring
 pub in_ring : (t p n : ℕ) → 0 < t → InOneTerm t p (p + n) → p % (3 * t) + n ≤ 3 * t
 in_ring t p n some one =
-    let q : ℕ = p / t in
-    let r : ℕ = p % t in
     let parts : p / t * t + p % t ≡ p = div-add-mod' p t in
     let turns : p / t / 3 * 3 + p / t % 3 ≡ p / t = div-add-mod' (p / t) 3 in
     let grown : (p / t / 3 * 3 + p / t % 3) * t ≡ p / t * t = ap (λ z. z * t) turns in
     let third : p / t % 3 < 3 = omega arith in
-    let most : p / t % 3 * t ≤ 2 * t = three (p / t % 3) t third in
+    let most : p / t % 3 * t ≤ 2 * t = third_of (p / t % 3) t third in
     let split : p ≡ p / t / 3 * (3 * t) + (p / t % 3 * t + p % t) = omega (arith, parts, grown) in
     let low : p / t % 3 * t + p % t < 3 * t = omega (arith, most) in
     let at : p % (3 * t) ≡ p / t % 3 * t + p % t = ap (λ z. z % (3 * t)) split ∙ mod-mul-add (p / t / 3) (3 * t) (p / t % 3 * t + p % t) low in
@@ -62,7 +60,6 @@ in_ring t p n some one =
 -- a word of the stream is a word of the ring
 pub whole_word : (t p : ℕ) → t % 65536 ≡ 0 → p % 8 ≡ 0 → p % (3 * t) % 8 ≡ 0
 whole_word t p whole word =
-    let u : ℕ = t / 65536 in
     let unit : t ≡ 65536 * (t / 65536) = omega arith in
     let parts : p / (3 * t) * (3 * t) + p % (3 * t) ≡ p = div-add-mod' p (3 * t) in
     let even : p / (3 * t) * (3 * t) ≡ p / (3 * t) * (3 * (65536 * (t / 65536))) = ap (λ z. p / (3 * t) * (3 * z)) unit in

@@ -93,9 +93,6 @@ first_of_word xs i w size =
     ap (λ (b : List ℕ). with_word b (1 + i) w) (sym (take-append-drop 8 xs)) ∙ word_behind (take 8 xs) (drop 8 xs) 1 i w long in
     ap (take 8) split ∙ take_at (take 8 xs) (with_word (drop 8 xs) i w) 8 long
 
-pub word_first : (xs : List ℕ) (w : ℕ) → with_word xs 0 w ≡ to_le_bytes w64 w ++ drop 8 xs
-word_first xs w = refl
-
 -- a byte below the word, above it, or in it where the word is zero
 pub byte_below : (bytes : List ℕ) (j w k : ℕ) → k < 8 * j → 8 * j + 8 ≤ length bytes → get_or (with_word bytes j w) k 0 ≡ get_or bytes k 0
 byte_below bytes j w k below fits =

@@ -61,9 +61,6 @@ store_view p k l v c h place index w at behind inside new e =
     (ap (λ (es : List Entry). whole_kept p es (drafts_of (term_in p) (with_word p.bytes (place + index) w) p.slots)) entries
     ∙ ap (whole_kept p (entries_of (term_in p) p.bytes p.slots)) drafts))
   where
-    n : ℕ
-    n = c.number - p.gone
-
     o : Opened p.slots (c.number - p.gone) c
     o = opened_in p l c v h
 
