@@ -175,7 +175,7 @@ impl TermBuffer {
         claimed
     }
 
-    /// Stores a word of a claim's frame: any but the first one. `index` counts words of eight bytes from the frame's begin.
+    /// Stores a word of a claim's frame: any but the first one. `index` counts words of eight bytes from the frame's start.
     pub fn store(&mut self, claimed: Claimed, index: usize, word: u64)
         requires unset { IsOpen self.old claimed }
         requires behind { 0 < index }
