@@ -1,9 +1,9 @@
 -- What a contract sees of the entries that a log keeps, and how its calls change them.
-use Rattle.std.specs.Prelude.{◌≡◌, ℕ, ◌+◌, ◌-◌, ◌*◌, ◌%◌, ◌<◌, ◌≤◌, Bool, true, false, List, [], ◌∷◌, ◌++◌, length, take, drop, map, replicate, Option, None, Some, slice_get, slice_index, slice_index_or, slice_set, ◌⊎◌, sum}
+use Rattle.std.specs.Prelude.{◌≡◌, ℕ, ◌+◌, ◌-◌, ◌*◌, ◌%◌, ◌<◌, ◌≤◌, Bool, true, false, List, [], ◌∷◌, ◌++◌, length, take, drop, replicate, Some, slice_get, slice_index, slice_index_or, slice_set, sum}
 use Rattle.std.specs.List.{AllByRecursion}
 use Rattle.theory.specs.Position.{aligned, IsGeometry, max_position}
-use Rattle.theory.specs.Placed.{Data, Frame, Pad, payload_of}
-use Rattle.theory.specs.Entry.{Entry, IsEntry, entry_end, length_of}
+use Rattle.theory.specs.Placed.{Data, Frame, Pad}
+use Rattle.theory.specs.Entry.{Entry, IsEntry}
 use Rattle.theory.specs.Messages.{is_whole}
 use Rattle.theory.specs.Tiling.{Tiles}
 use Rattle.theory.specs.Wire.{header_bytes}

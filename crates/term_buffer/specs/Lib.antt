@@ -1,3 +1,4 @@
+pub mod Forgets
 pub mod Heads
 pub mod Kept
 pub mod Slots

@@ -1,5 +1,5 @@
 -- How the parts of a term buffer show its entries, and what holds of them between two calls.
-use Rattle.std.specs.Prelude.{◌≡◌, ℕ, ◌+◌, ◌-◌, ◌*◌, ◌%◌, ◌<◌, ◌≤◌, Bool, true, false, List, [], ◌∷◌, ◌++◌, length, map, take, drop, replicate, if◌then◌else◌, All, slice_index, sum}
+use Rattle.std.specs.Prelude.{◌≡◌, ℕ, ◌+◌, ◌-◌, ◌*◌, ◌%◌, ◌<◌, ◌≤◌, true, false, List, [], ◌∷◌, ◌++◌, length, map, take, drop, replicate, if◌then◌else◌, All, slice_index, sum}
 use Rattle.theory.specs.Position.{IsGeometry, aligned, max_position}
 use Rattle.theory.specs.Placed.{Data, Frame, Pad}
 use Rattle.theory.specs.Entry.{Entry}
@@ -58,25 +58,42 @@ pub record IsInside (i : Identity) (first end : ℕ) (s : Slot) : Type 0 where
 abbrev pub IsZeroAhead : ℕ → List ℕ → ℕ → ℕ → Type 0
 IsZeroAhead term bytes end cleaned = (p : ℕ) → end ≤ p → p < cleaned + 3 * term → slice_index bytes (p % (3 * term)) ≡ 0
 
+-- the parts of a buffer
+pub record Parts : Type 0 where
+  pub identity : Identity
+  pub bytes : List ℕ
+  pub start : ℕ
+  pub tail : ℕ
+  pub cleaned : ℕ
+  pub first : ℕ
+  pub gone : ℕ
+  pub shares : List ℕ
+  pub slots : List Slot
+  pub capacity : ℕ
+
+abbrev pub term_in : Parts → ℕ
+term_in p = p.identity.geometry.term_length
+
 -- what holds of a buffer's parts between two calls
-pub record IsBuffer (i : Identity) (bytes : List ℕ) (start end cleaned first gone : ℕ) (shares : List ℕ) (slots : List Slot) (capacity : ℕ) : Type 0 where
-  pub geometry : IsGeometry i.geometry
-  pub identity : IsIdentity i
-  pub ring : length bytes ≡ 3 * i.geometry.term_length
-  pub begun : start ≤ cleaned
-  pub first_cleaned : cleaned ≤ first
-  pub last : first ≤ end
-  pub within : end ≤ cleaned + 3 * i.geometry.term_length
-  pub in_stream : end ≤ max_position i.geometry
-  pub unit : end % 32 ≡ 0
-  pub first_unit : first % 32 ≡ 0
-  pub word : cleaned % 8 ≡ 0
-  pub eight : length shares ≡ 8
-  pub counted : start + sum shares ≡ end
-  pub few : 32 * (gone + length slots) ≤ end - start
-  pub few_kept : 32 * length slots ≤ end - first
-  pub room : 3 * i.geometry.term_length ≤ 32 * capacity
-  pub inside : All (IsInside i first end) slots
-  pub tiles : Tiles i.geometry.term_length first end (map outline slots)
-  pub written : All (λ s. IsWritten i s (range i.geometry.term_length bytes s)) slots
-  pub ahead : IsZeroAhead i.geometry.term_length bytes end cleaned
+pub record IsBuffer (p : Parts) : Type 0 where
+  pub geometry : IsGeometry p.identity.geometry
+  pub identity : IsIdentity p.identity
+  pub whole_term : term_in p % 65536 ≡ 0
+  pub ring : length p.bytes ≡ 3 * term_in p
+  pub begun : p.start ≤ p.cleaned
+  pub first_cleaned : p.cleaned ≤ p.first
+  pub last : p.first ≤ p.tail
+  pub within : p.tail ≤ p.cleaned + 3 * term_in p
+  pub in_stream : p.tail ≤ max_position p.identity.geometry
+  pub unit : p.tail % 32 ≡ 0
+  pub first_unit : p.first % 32 ≡ 0
+  pub word : p.cleaned % 8 ≡ 0
+  pub eight : length p.shares ≡ 8
+  pub counted : p.start + sum p.shares ≡ p.tail
+  pub few : 32 * (p.gone + length p.slots) ≤ p.tail - p.start
+  pub few_kept : 32 * length p.slots ≤ p.tail - p.first
+  pub room : 3 * term_in p ≤ 32 * p.capacity
+  pub inside : All (IsInside p.identity p.first p.tail) p.slots
+  pub tiles : Tiles (term_in p) p.first p.tail (map outline p.slots)
+  pub written : All (λ s. IsWritten p.identity s (range (term_in p) p.bytes s)) p.slots
+  pub ahead : IsZeroAhead (term_in p) p.bytes p.tail p.cleaned

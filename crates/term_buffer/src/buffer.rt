@@ -42,15 +42,17 @@ impl Model for TermBuffer {
 
     ghost view = { λ b. record { identity = record { geometry = b.geometry; session = b.session; stream = b.stream }; start = b.start; tail = b.tail; shares = b.shares; cleaned = b.cleaned; gone = b.gone; first = b.first; entries = entries_of b.geometry.term_length b.bytes b.slots.items; drafts = drafts_of b.geometry.term_length b.bytes b.slots.items } };
 
-    ghost invariant = { λ b. IsBuffer (record { geometry = b.geometry; session = b.session; stream = b.stream }) b.bytes b.start b.tail b.cleaned b.first b.gone b.shares b.slots.items (deque_capacity b.slots) };
+    ghost invariant = { λ b. IsBuffer (record { identity = record { geometry = b.geometry; session = b.session; stream = b.stream }; bytes = b.bytes; start = b.start; tail = b.tail; cleaned = b.cleaned; first = b.first; gone = b.gone; shares = b.shares; slots = b.slots.items; capacity = deque_capacity b.slots }) };
 }
 
 impl TermBuffer {
     ghost use Rattle.std.specs.Int.{to_le_bytes};
     ghost use Rattle.block.specs.Bytes.{with_word};
+    ghost use Rattle.term_buffer.specs.Forgets.{ForgetsFirst};
     ghost use Rattle.term_buffer.specs.Kept.{Cleans, IsDrafted, IsKeptLog, IsOpen, MayClean, draft_of, drafted, fresh, term_of, with_claim, with_commit, with_draft};
 
-    /// A buffer without an entry, from a position on. The error comes only where memory was refused.
+    /// A buffer without an entry, from a position on: a multiple of 32, below the greatest position. It takes all the
+    /// memory that is ever needed, and the error comes only where that was refused.
     pub fn open(
         alloc: Global,
         geometry: Geometry,
@@ -108,7 +110,7 @@ impl TermBuffer {
         self.start
     }
 
-    /// The end of the last entry.
+    /// The end of the last entry, where the next one begins.
     pub fn tail(&self) -> u64
         ensures value { result ≡ self.now.tail }
         ensures legal { IsKeptLog self.now }
@@ -123,21 +125,23 @@ impl TermBuffer {
         self.shares
     }
 
-    /// The position up to which the bytes are zero again.
+    /// The position up to which the bytes are zero again, a multiple of 8.
     pub fn cleaned(&self) -> u64
         ensures { result ≡ self.now.cleaned }
     {
         self.cleaned
     }
 
-    /// A word of the three terms.
+    /// A word of the three terms, counted in words of eight bytes. Nothing is promised of its value.
     pub fn word(&self, index: usize) -> u64
         requires { index < 3 * term_of self.now / 8 }
     {
         self.bytes.word(index)
     }
 
-    /// Adds an entry of an owner at the tail, for a frame of this length. Its bytes are zero.
+    /// Adds an entry of an owner, 0 to 7, at the tail, for a frame of `frame_length` bytes: a message's, of 32 bytes to
+    /// the MTU, or a padding, a multiple of 32. It lies in one term, and ends at most three terms behind the cleaned
+    /// position. Its bytes are zero.
     pub fn claim(&mut self, owner: usize, padding: bool, frame_length: u32) -> Claimed
         requires owner { owner < 8 }
         requires long { 32 ≤ frame_length }
@@ -158,9 +162,9 @@ impl TermBuffer {
             padding,
         };
         let slot = Slot {
-            start: self.tail,
+            start: claimed.start,
             frame_length,
-            owner,
+            owner: claimed.owner,
             padding,
             committed: false,
         };
@@ -171,7 +175,7 @@ impl TermBuffer {
         claimed
     }
 
-    /// Stores a word of a claim's frame: any but the first one.
+    /// Stores a word of a claim's frame: any but the first one. `index` counts words of eight bytes from the frame's start.
     pub fn store(&mut self, claimed: Claimed, index: usize, word: u64)
         requires unset { IsOpen self.old claimed }
         requires behind { 0 < index }
@@ -192,22 +196,37 @@ impl TermBuffer {
         let first = first_word(claimed.padding, claimed.frame_length);
         self.bytes.set_word(place, first);
         let index = (claimed.number - self.gone) as usize;
-        if let Some(slot) = self.slots.get_mut(index) {
-            slot.committed = true;
-        }
+        self.slots[index].committed = true;
     }
 
-    /// Stores zero in the next word to be cleaned, and forgets the entry that begins there.
+    /// Stores zero in the next word to be cleaned, and forgets the entry that begins there, which is committed.
     pub fn clean(&mut self)
         requires { MayClean self.old }
         ensures { Cleans self.old (self.old.cleaned + 8) self.new }
     {
         if self.cleaned == self.first {
-            if let Some(slot) = self.slots.pop_front() {
-                self.first += u64::from(align32(slot.frame_length));
-                self.gone += 1;
-            }
+            self.forget_first();
         }
+        self.clear_word();
+    }
+
+    /// Forgets the first entry that is kept. Its bytes stay as they are.
+    fn forget_first(&mut self)
+        requires { self.old.first < self.old.tail }
+        ensures { ForgetsFirst self.old self.new }
+    {
+        let covered = u64::from(align32(self.slots[0].frame_length));
+        self.slots.pop_front();
+        self.first += covered;
+        self.gone += 1;
+    }
+
+    /// Stores zero in the next word to be cleaned, which no kept entry covers.
+    fn clear_word(&mut self)
+        requires { self.old.cleaned < self.old.first }
+        ensures cleared { self.new ≡ record self.old { cleaned = self.old.cleaned + 8 } }
+        ensures legal { IsKeptLog self.new }
+    {
         let place = self.word_of(self.cleaned);
         self.bytes.set_word(place, 0);
         self.cleaned += 8;

@@ -1,7 +1,9 @@
 //! The entries of a stream that a log keeps, and the bytes of its three terms.
 //!
-//! The byte of a position stands at the position modulo three terms. Bytes that were cleaned are zero, and with the
-//! first of its bytes an entry is forgotten. `open` takes all the memory that is ever needed.
+//! The byte of a position stands at the position modulo three terms. An entry is one frame in one term: a message, or a
+//! padding. It is claimed at the tail by one of eight publishers, its words are stored, and its first word commits it.
+//! Cleaning goes on a word at a time behind the entries that are read: with the first of its words an entry is
+//! forgotten, and bytes that were cleaned are zero, so that they can be claimed again, three terms further on.
 #![tactic(auto)]
 
 mod buffer;

@@ -9,7 +9,8 @@ use position::{FrameHead, FrameKind};
 pub(crate) const UNFRAGMENTED: u8 = 0xc0;
 
 impl TermBuffer {
-    /// Reads the frame of the entry with this number, if it is committed: its payload is copied to the block's front.
+    /// Reads the frame of the entry with this number, where it is committed: a message's payload is copied to the block's
+    /// front, and a padding has none. Entries are numbered from 0, the forgotten ones too.
     pub fn read(&self, number: u64, block: &mut Block) -> Option<FrameHead>
         requires kept { self.now.gone ≤ number }
         requires room { self.now.identity.geometry.mtu ≤ length block.old }

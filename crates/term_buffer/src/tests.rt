@@ -1,1 +1,97 @@
 use super::*;
+use block::Block;
+use position::{FrameHead, FrameKind, Geometry};
+use std::test::*;
+
+/// A message of three bytes at the end of the third term, and a padding behind it, where the ring begins again.
+#[test]
+fn message_and_padding(rt: HostRuntime) -> Result<(), Fail> {
+    let geometry = Geometry::new(65_536, 1408, 7)?;
+    let mut block = Block::new(rt.alloc(), 1408)?;
+    let mut buffer = TermBuffer::open(rt.alloc(), geometry, 1, 1001, 196_544)?;
+    let message = buffer.claim(2, false, 35);
+    buffer.store(message, 1, 0x0000_0001_0000_ffc0);
+    buffer.store(message, 2, 0x0000_0009_0000_03e9);
+    buffer.store(message, 4, 0x0000_0000_0063_6261);
+    let before = buffer.read(0, &mut block);
+    buffer.commit(message);
+    let head = buffer.read(0, &mut block);
+    let padding = buffer.claim(3, true, 64);
+    buffer.store(padding, 1, 0x0000_0001_0000_0000);
+    buffer.store(padding, 2, 0x0000_000a_0000_03e9);
+    buffer.commit(padding);
+    let behind = buffer.read(1, &mut block);
+    let words = [buffer.word(24_568), buffer.word(24_569), buffer.word(0)];
+    buffer.clean();
+    buffer.clean();
+    let cleared = [buffer.word(24_568), buffer.word(24_569), buffer.word(0)];
+    assert_eq!(rt; buffer.geometry(), geometry);
+    assert_eq!(rt; [buffer.session(), buffer.stream()], [1, 1001]);
+    assert!(rt; before.is_none());
+    assert_eq!(rt;
+        head,
+        Some(FrameHead {
+            start: 196_544,
+            kind: FrameKind::Data,
+            flags: 0xc0,
+            frame_length: 35,
+        })
+    );
+    assert_eq!(rt;
+        behind,
+        Some(FrameHead {
+            start: 196_608,
+            kind: FrameKind::Pad,
+            flags: 0xc0,
+            frame_length: 64,
+        })
+    );
+    assert_eq!(rt; &block.bytes()[..4], b"abc\0".as_slice());
+    assert_eq!(rt;
+        words,
+        [
+            0x0001_c000_0000_0023,
+            0x0000_0001_0000_ffc0,
+            0x0000_c000_0000_0040
+        ]
+    );
+    assert_eq!(rt; cleared, [0, 0, 0x0000_c000_0000_0040]);
+    assert_eq!(rt;
+        [buffer.start(), buffer.cleaned(), buffer.tail()],
+        [196_544, 196_560, 196_672]
+    );
+    assert_eq!(rt; buffer.shares(), [0, 0, 64, 64, 0, 0, 0, 0]);
+    Ok(())
+}
+
+/// Three terms full of entries, of which the first is cleaned, and a claim of the bytes that it covered.
+#[test]
+fn round_the_ring(rt: HostRuntime) -> Result<(), Fail> {
+    let geometry = Geometry::new(65_536, 1408, 7)?;
+    let mut block = Block::new(rt.alloc(), 1408)?;
+    let mut buffer = TermBuffer::open(rt.alloc(), geometry, 1, 1001, 0)?;
+    let message = buffer.claim(0, false, 32);
+    buffer.store(message, 1, 0x0000_0001_0000_0000);
+    buffer.store(message, 2, 0x0000_0007_0000_03e9);
+    buffer.commit(message);
+    buffer.claim(1, true, 65_504);
+    buffer.claim(1, true, 65_536);
+    buffer.claim(1, true, 65_536);
+    let full = [buffer.cleaned(), buffer.tail(), buffer.word(1)];
+    buffer.clean();
+    buffer.clean();
+    buffer.clean();
+    buffer.clean();
+    let again = buffer.claim(2, false, 32);
+    let blank = [buffer.word(0), buffer.word(1)];
+    buffer.store(again, 1, 0x0000_0001_0000_0000);
+    let read = buffer.read(again.number, &mut block);
+    assert_eq!(rt; full, [0, 196_608, 0x0000_0001_0000_0000]);
+    assert_eq!(rt; [again.number, again.start], [4, 196_608]);
+    assert_eq!(rt; blank, [0, 0]);
+    assert_eq!(rt; buffer.word(1), 0x0000_0001_0000_0000);
+    assert!(rt; read.is_none());
+    assert_eq!(rt; [buffer.cleaned(), buffer.tail()], [32, 196_640]);
+    assert_eq!(rt; buffer.shares(), [32, 196_576, 32, 0, 0, 0, 0, 0]);
+    Ok(())
+}

@@ -1,0 +1,11 @@
+pub mod Changes
+pub mod Cleaning
+pub mod Keeps
+pub mod Logs
+pub mod ReadEntries
+pub mod Ring
+pub mod Shares
+pub mod Slots
+pub mod StoredWords
+pub mod TestSteps
+pub mod Views
