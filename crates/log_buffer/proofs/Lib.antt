@@ -1,0 +1,4 @@
+pub mod Armed
+pub mod Keeps
+pub mod Readers
+pub mod Spans

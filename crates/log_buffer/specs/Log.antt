@@ -241,5 +241,9 @@ pub record IsLog (l : Log) : Type 0 where
   pub room : l.tail + greatest_claim l.identity.geometry * armed_count l.armed ≤ l.limit + 8 * greatest_claim l.identity.geometry
   pub clean : l.limit + 8 * greatest_claim l.identity.geometry ≤ l.cleaned + 3 * term_of l
   pub limit_unit : l.limit % 32 ≡ 0
+  pub tail_unit : l.tail % 32 ≡ 0
+  pub word : l.cleaned % 8 ≡ 0
+  pub consumer_units : AllByRecursion (λ p. p % 32 ≡ 0) l.consumers
+  pub consumers_behind : AllByRecursion (λ p. p ≤ l.tail) l.consumers
   -- nothing is cleaned that a consumer may read, or a resend within three quarters of a term
   pub readable : AllByRecursion (λ p. l.cleaned ≤ clean_end l p) l.consumers

@@ -26,8 +26,10 @@ pub record AreReaders (readers : List Reader) (start count : ℕ) : Type 0 where
 pub record HasRead (l : Log) (r : Reader) : Type 0 where
   pub entry : Entry
   pub here : slice_get l.entries (r.index - l.gone) ≡ Some entry
+  pub at : entry.start ≡ r.position
   pub whole : is_whole entry ≡ true
   pub end : r.read_to ≡ entry_end entry
+  pub further : r.position + 32 ≤ r.read_to
 
 -- a reader of this log: it stands behind entries that are forgotten, and the first of the kept ones, which are committed
 pub record IsAt (l : Log) (r : Reader) : Type 0 where

@@ -4,7 +4,7 @@ ghost use Rattle.std.specs.Prelude.{◌≡◌, ℕ, ◌+◌, ◌-◌, ◌*◌, �
 ghost use Rattle.theory.specs.Position.{aligned, greatest_claim, id_of};
 ghost use Rattle.theory.specs.Refusal.{is_closed, is_connected, limit_in};
 ghost use Rattle.theory.specs.Words.{id_before, id_in, offset_in, tail_word};
-ghost use Rattle.log_buffer.specs.Log.{IsFinished, IsOpen, after_add, claimed_of, counted, exchanged, limit_word_of, looked, may_arm, raw_tail, taken_of, term_of};
+ghost use Rattle.log_buffer.specs.Log.{IsFinished, IsLog, IsOpen, after_add, claimed_of, counted, exchanged, limit_word_of, looked, may_arm, raw_tail, taken_of, term_of};
 ghost use Rattle.log_buffer.specs.Passes.{with_step};
 ghost use Rattle.log_buffer.specs.Reader.{IsAt, Reader};
 ghost use Rattle.log_buffer.specs.declared.step.Step.TheVariants as steps;
@@ -67,6 +67,7 @@ impl LogState {
         requires { length publisher.old.steps < 7 }
         ensures count { result ≡ self.now.active }
         ensures small { result < 2 ^ 31 }
+        ensures legal { IsLog self.now }
         ensures step { publisher.new ≡ with_step publisher.old (steps.Count self.now.active) }
     {
         let count = self.tails.active();
