@@ -1,13 +1,12 @@
-use Rattle.std.proofs.Common.{rules, ◌≡◌, ℕ, ◌+◌, ◌-◌, ◌*◌, ◌/◌, ◌%◌, ◌<◌, ◌≤◌, ◌↔◌, ◌^◌, Some, length, slice_get, slice_index, Bool, true, false, nat_eq, nat_lt, List, [], ◌∷◌, ◌++◌, slice_index_or, slice_set, bit_and, bit_or, Fits, w8, w32, w64, Bor, MutBor}
-use Rattle.theory.specs.Position.{aligned, greatest_claim, id_of}
-use Rattle.theory.specs.Refusal.{is_closed, is_connected, limit_in}
-use Rattle.theory.specs.Words.{id_before, id_in, offset_in, tail_word}
-use Rattle.log_buffer.specs.Log.{IsFinished, IsOpen, after_add, claimed_of, counted, exchanged, limit_word_of, looked, may_arm, raw_tail, taken_of, term_of}
-use Rattle.log_buffer.specs.Passes.{with_step}
-use Rattle.log_buffer.specs.Reader.{IsAt, Reader}
-use Rattle.log_buffer.specs.declared.step.Step.TheVariants as steps
+use Rattle.std.proofs.Common.{◌<◌, subst, sym}
+use Rattle.std.specs.Prelude.{nat_eq}
+use Rattle.std.proofs.lemmas.Bool.{eqb-true}
+use Rattle.log_buffer.specs.contracts.state.LogState.{the_view}
+use Rattle.log_buffer.proofs.Keeps.{kept_active}
+use Rattle.log_buffer.proofs.Rotations.{active_in}
 use Rattle.log_buffer.proofs.state.LogState.exchange_count.Goals as goal
 
--- src/turns.rt:188:5
 pub invariant_of-self : goal.invariant_of-self
-invariant_of-self c = ?
+invariant_of-self c =
+    let bounds = active_in (nat_eq c.self.inside.tails.active c.args.count) _ c.self.inside.tails.active c.self.inside.tails.newest c.args.count (eqb-true c.self.inside.tails.active c.args.count) c.self.invariant.log.opened c.self.invariant.log.active (subst (λ l. c.args.count < l.newest) (sym c.self.view_is) c.requires.turned) in
+    rw c.exchange_count-before.ensures.counted (kept_active (the_view c.self.inside) c.self.inside.tails c.self.inside.consumer_count _ c.self.invariant bounds.0 bounds.1)

@@ -1,14 +1,13 @@
-use Rattle.log_buffer.proofs.Armed.{count_most}
-use Rattle.log_buffer.proofs.Readers.{at_same}
+use Rattle.std.proofs.Common.{◌+◌, ◌-◌, ◌*◌, ◌≤◌, length, subst, sym, ◌∙◌, arith}
+use Rattle.log_buffer.specs.Log.{IsOpen, draft_of}
+use Rattle.log_buffer.specs.contracts.state.LogState.{the_view}
+use Rattle.log_buffer.proofs.Frames.{word_size}
 use Rattle.log_buffer.proofs.Keeps.{kept_draft, open_draft}
-use Rattle.log_buffer.proofs.Spans.{some_is}
-use Rattle.std.proofs.Common.{rules, ◌≡◌, ◌*◌, ◌-◌, ◌<◌, ℕ, ◌+◌, ◌≤◌, length, ◌/◌, ◌%◌, Bool, true, false, nat_eq, nat_lt, List, [], ◌∷◌, ◌++◌, slice_index_or, slice_set, bit_and, bit_or, Fits, w8, w32, w64, Bor, MutBor}
-use Rattle.theory.specs.Position.{aligned}
-use Rattle.block.specs.Bytes.{with_word}
-use Rattle.log_buffer.specs.Log.{IsDrafted, IsOpen, draft_of, drafted, with_commit, with_draft}
-use Rattle.log_buffer.specs.Reader.{IsAt, Reader}
 use Rattle.log_buffer.proofs.state.LogState.store.Goals as goal
 
--- src/writes.rt:14:5
 pub invariant_of-self : goal.invariant_of-self
-invariant_of-self c = ?
+invariant_of-self c =
+    let unset : IsOpen (the_view c.self.inside) c.args.claimed = subst (λ l. IsOpen l c.args.claimed) (sym c.self.view_is) c.requires.unset in
+    let was = open_draft (the_view c.self.inside) c.self.inside.tails c.self.inside.consumer_count c.args.claimed c.self.invariant unset in
+    let room : 8 * (c.args.index - 1) + 8 ≤ length (draft_of (the_view c.self.inside) c.args.claimed) = omega (arith, was.1, c.requires.behind, c.requires.inside) in
+    rw c.store.ensures.stored (kept_draft (the_view c.self.inside) c.self.inside.tails c.self.inside.consumer_count c.args.claimed _ c.self.invariant unset (word_size (draft_of (the_view c.self.inside) c.args.claimed) (c.args.index - 1) c.args.word room ∙ was.1) was.0)
