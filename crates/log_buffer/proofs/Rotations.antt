@@ -31,11 +31,11 @@ word_id l t n p k h = id_of_word (id_before l.identity.geometry l.newest (behind
 pub next_is : (l : Log) (t : Tails) (n count : ℕ) (id : ℤ) → IsState l t n → IsFinished l count → id ≡ id_before l.identity.geometry l.newest (behind l.newest ((count + 1) % 3)) → (id ≡ id_of l.identity.geometry (count + 1)) ↔ ((count < l.newest) × (l.newest ≤ count + 3))
 next_is l t n count id k f e = (
   (λ same.
-    let back : l.newest ≡ count + 1 + behind l.newest ((count + 1) % 3) = next_from l.identity.geometry l.newest (behind l.newest ((count + 1) % 3)) count k.log.geometry.initial k.log.newest (omega arith) (omega (arith, f.2.2.0)) (sym e ∙ same) in
+    let back : l.newest ≡ count + 1 + behind l.newest ((count + 1) % 3) = next_from l.identity.geometry l.newest (behind l.newest ((count + 1) % 3)) count k.log.geometry.initial k.log.newest (omega arith) (omega (arith, f.2)) (sym e ∙ same) in
     (omega arith, omega arith)),
   (λ near.
     let back : l.newest ≡ count + 1 + behind l.newest ((count + 1) % 3) = omega (arith, near.0, near.1) in
-    e ∙ next_to l.identity.geometry l.newest (behind l.newest ((count + 1) % 3)) count k.log.geometry.initial k.log.newest (omega arith) (omega (arith, f.2.2.0)) back)
+    e ∙ next_to l.identity.geometry l.newest (behind l.newest ((count + 1) % 3)) count k.log.geometry.initial k.log.newest (omega arith) (omega (arith, f.2)) back)
 )
 
 exchange : (b : Bool) (t : Tails) (buffer : Kept) (limit n : ℕ) (on off : Bool) (ps : List ℕ) (armed : List (Option ℕ)) → IsState (log_of t buffer limit on off ps armed) t n → (b ≡ true → (t.newest + 1 < 2 ^ 31) × (term_of (log_of t buffer limit on off ps armed) ≤ offset_of (log_of t buffer limit on off ps armed) t.newest)) → IsState (log_of (if b then tails_turned t else t) buffer limit on off ps armed) (if b then tails_turned t else t) n
@@ -48,6 +48,6 @@ kept_exchange t buffer limit n on off ps armed count id offset k f e back =
     let word : word_of t ((count + 1) % 3) ≡ tail_word id offset = eqb-true (word_of t ((count + 1) % 3)) (tail_word id offset) b in
     let shown : word_of t ((count + 1) % 3) ≡ tail_word (id_before buffer.identity.geometry t.newest (behind t.newest ((count + 1) % 3))) (slice_index t.offsets ((count + 1) % 3)) = ap (λ g. tail_word (id_before g t.newest (behind t.newest ((count + 1) % 3))) (slice_index t.offsets ((count + 1) % 3))) k.geometry in
     let ids : id_before buffer.identity.geometry t.newest (behind t.newest ((count + 1) % 3)) ≡ id_before buffer.identity.geometry count 2 = sym (word_id (log_of t buffer limit on off ps armed) t n ((count + 1) % 3) k (omega arith)) ∙ ap id_in (sym shown ∙ word) ∙ back ∙ e in
-    let same : t.newest ≡ count = two_from buffer.identity.geometry t.newest (behind t.newest ((count + 1) % 3)) count k.log.geometry.initial k.log.newest (omega arith) f.2.0 ids in
-    let full : term_of (log_of t buffer limit on off ps armed) ≤ offset_of (log_of t buffer limit on off ps armed) count = f.2.2.1 same in
-    (omega (arith, same, f.2.2.0), subst (λ x. term_of (log_of t buffer limit on off ps armed) ≤ offset_of (log_of t buffer limit on off ps armed) x) (sym same) full))
+    let same : t.newest ≡ count = two_from buffer.identity.geometry t.newest (behind t.newest ((count + 1) % 3)) count k.log.geometry.initial k.log.newest (omega arith) f.1 ids in
+    let full : term_of (log_of t buffer limit on off ps armed) ≤ offset_of (log_of t buffer limit on off ps armed) count = f.3 same in
+    (omega (arith, same, f.2), subst (λ x. term_of (log_of t buffer limit on off ps armed) ≤ offset_of (log_of t buffer limit on off ps armed) x) (sym same) full))
