@@ -2,6 +2,7 @@ pub mod Armed
 pub mod Frames
 pub mod Ids
 pub mod Keeps
+pub mod Leasts
 pub mod Readers
 pub mod Rotations
 pub mod Spans

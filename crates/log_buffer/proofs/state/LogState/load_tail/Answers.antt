@@ -1,13 +1,15 @@
-use Rattle.std.proofs.Common.{rules, ◌≡◌, ℕ, ◌+◌, ◌-◌, ◌*◌, ◌/◌, ◌%◌, ◌<◌, ◌≤◌, ◌↔◌, ◌^◌, Some, length, slice_get, slice_index, Bool, true, false, nat_eq, nat_lt, List, [], ◌∷◌, ◌++◌, slice_index_or, slice_set, bit_and, bit_or, Fits, w8, w32, w64, Bor, MutBor}
-use Rattle.theory.specs.Position.{aligned, greatest_claim, id_of}
-use Rattle.theory.specs.Refusal.{is_closed, is_connected, limit_in}
-use Rattle.theory.specs.Words.{id_before, id_in, offset_in, tail_word}
-use Rattle.log_buffer.specs.Log.{IsFinished, IsOpen, after_add, claimed_of, counted, exchanged, limit_word_of, looked, may_arm, raw_tail, taken_of, term_of}
-use Rattle.log_buffer.specs.Passes.{with_step}
-use Rattle.log_buffer.specs.Reader.{IsAt, Reader}
-use Rattle.log_buffer.specs.declared.step.Step.TheVariants as steps
+use Rattle.std.proofs.Common.{◌≡◌, ◌%◌, ◌<◌, ◌≤◌, ap, subst, sym, ◌∙◌, arith, rules}
+use Rattle.std.specs.Prelude.{slice_index}
+use Rattle.log_buffer.specs.Log.{Log, term_of}
+use Rattle.log_buffer.specs.contracts.state.LogState.{the_view}
+use Rattle.log_buffer.proofs.Keeps.{kept_armed}
 use Rattle.log_buffer.proofs.state.LogState.load_tail.Goals as goal
 
--- src/turns.rt:99:9
 pub invariant_of-self : goal.invariant_of-self
-invariant_of-self c = ?
+invariant_of-self c =
+    let newest : c.args.count ≡ c.self.inside.tails.newest = search rules in
+    let place : c.partition_of-partition.result ≡ c.self.inside.tails.newest % 3 = c.partition_of-partition.ensures.value ∙ ap (λ n. n % 3) newest in
+    let low : slice_index c.self.inside.tails.offsets c.partition_of-partition.result < term_of (the_view c.self.inside) = search rules in
+    let limit : c.args.limit ≤ c.self.inside.limit = subst (λ l. c.args.limit ≤ l.limit) (sym c.self.view_is) c.requires.limit in
+    let within : c.self.inside.buffer.tail < c.args.limit = search rules in
+    kept_armed (the_view c.self.inside) c.self.inside.tails c.self.inside.consumer_count c.number.result c.partition_of-partition.result c.self.invariant place low (omega arith)
