@@ -122,6 +122,7 @@ impl LogState {
         ensures readers { (r : Reader) → IsAt self.old r → IsAt self.new r }
     {
         let partition = partition_of(count);
+        let length = self.buffer.geometry().term_length();
         let covered = align32(frame_length);
         let before = self.tails.add(partition, covered);
         publisher.note(Step::Addition {
@@ -131,7 +132,6 @@ impl LogState {
         });
         let owner = publisher.number();
         self.armed[owner] = None;
-        let length = self.buffer.geometry().term_length();
         let claimed = if before.offset >= length {
             None
         } else if before.offset + covered <= length {
