@@ -1,3 +1,4 @@
+pub mod Adds
 pub mod Armed
 pub mod Frames
 pub mod Ids
