@@ -1,6 +1,7 @@
 pub mod Adds
 pub mod Armed
 pub mod Frames
+pub mod Heads
 pub mod Ids
 pub mod Keeps
 pub mod Leasts

@@ -12,7 +12,7 @@ use Rattle.theory.specs.Tiling.{InOneTerm, Tiles}
 use Rattle.theory.proofs.Tiling.{Tiles-push}
 use Rattle.log_buffer.specs.Log.{Cleans, IsLeast, IsLog, Log, term_of}
 use Rattle.log_buffer.specs.Reader.{HasRead, IsAt, Reader}
-use Rattle.log_buffer.proofs.Spans.{all_index, all_pushed, all_taken, got_behind, got_more, got_other, got_within, index_other, index_set, length-set, of_first, some_is, start_at, term_at, tiles_split, tiles_taken}
+use Rattle.log_buffer.proofs.Spans.{all_index, all_pushed, all_taken, got_behind, got_more, got_other, got_within, index_other, index_set, length-set, of_first, some_is, start_at, take_of_set, term_at, tiles_split, tiles_taken}
 
 -- a log that holds the same entries and positions
 pub at_same : (l m : Log) (r : Reader) → m.identity ≡ l.identity → m.consumers ≡ l.consumers → m.gone ≡ l.gone → m.first ≡ l.first → m.entries ≡ l.entries → IsAt l r → IsAt m r
@@ -152,3 +152,10 @@ at_other l m n p r e ne h =
       whole = h.whole;
       read = ⊎_elim (λ (f : r.read_to ≡ r.position). inl f) (λ (f : HasRead l r). inr (record { entry = f.entry; at = f.at; further = f.further; here = f.here; whole = f.whole; end = f.end })) h.read;
     })
+
+-- a position that is written where a consumer's stands
+pub moved_on : (ps : List ℕ) (count n p : ℕ) (r q : Reader) → q ≡ record r { position = r.read_to; index = r.index + 1 } → n ≡ q.number → p ≡ q.position → take count (slice_set ps n p) ≡ slice_set (take count ps) r.number r.read_to
+moved_on ps count n p r q moved who at =
+    take_of_set ps count n p
+    ∙ ap (λ m. slice_set (take count ps) m p) (who ∙ ap (λ (x : Reader). x.number) moved)
+    ∙ ap (slice_set (take count ps) r.number) (at ∙ ap (λ (x : Reader). x.position) moved)
