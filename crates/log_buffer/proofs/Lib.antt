@@ -5,6 +5,7 @@ pub mod Heads
 pub mod Ids
 pub mod Keeps
 pub mod Leasts
+pub mod Openings
 pub mod Readers
 pub mod Rotations
 pub mod Spans

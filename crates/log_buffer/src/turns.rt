@@ -1,6 +1,6 @@
 //! The word calls of a publisher: loads, additions and exchanges of the limit, the count and the raw tails.
 
-ghost use Rattle.std.specs.Prelude.{◌≡◌, ℕ, ◌+◌, ◌-◌, ◌*◌, ◌/◌, ◌%◌, ◌<◌, ◌≤◌, ◌↔◌, ◌^◌, Some, length, slice_get, slice_index};
+ghost use Rattle.std.specs.Prelude.{◌≡◌, IfSome, ℕ, ◌+◌, ◌-◌, ◌*◌, ◌/◌, ◌%◌, ◌<◌, ◌≤◌, ◌↔◌, ◌^◌, Some, length, slice_get, slice_index};
 ghost use Rattle.theory.specs.Position.{aligned, greatest_claim, id_of};
 ghost use Rattle.theory.specs.Refusal.{is_closed, is_connected, limit_in};
 ghost use Rattle.theory.specs.Words.{id_before, id_in, offset_in, tail_word};
@@ -119,6 +119,8 @@ impl LogState {
         ensures step { publisher.new ≡ with_step publisher.old (steps.Addition (count % 3) (aligned frame_length) (raw_tail self.old (count % 3))) }
         ensures added { self.new ≡ after_add self.old publisher.old.number (count % 3) frame_length }
         ensures claimed { result.claimed ≡ claimed_of self.old publisher.old.number (taken_of self.old (count % 3) frame_length) }
+        ensures unset { IfSome result.claimed (λ claimed. IsOpen self.new claimed) }
+        ensures legal { IsLog self.new }
         ensures readers { (r : Reader) → IsAt self.old r → IsAt self.new r }
     {
         let partition = partition_of(count);

@@ -145,3 +145,35 @@ pub returns-else-before-covered-clause-readers : goal.returns-else-before-covere
 returns-else-before-covered-clause-readers c = λ r h.
     let was : IsAt (the_view c.self.inside) r = subst (λ l. IsAt l r) (sym c.self.view_is) h in
     rw c.claim-else-before-covered.ensures.taken (at_more (the_view c.self.inside) _ _ r refl refl refl refl refl was)
+
+pub returns-then-before-length-clause-legal : goal.returns-then-before-length-clause-legal
+returns-then-before-length-clause-legal c =
+    let got : slice_get c.self.inside.armed c.number-owner.result ≡ Some (Some c.partition_of-partition.result) = armed_with c.self.inside.armed c.args.publisher.now.number c.number-owner.result c.args.count c.partition_of-partition.result (subst (λ l. slice_get l.armed c.args.publisher.now.number ≡ Some (Some (c.args.count % 3))) (sym c.self.view_is) c.requires.armed) (search rules) c.partition_of-partition.ensures.value in
+    let short : aligned c.args.frame_length ≤ greatest_claim c.self.inside.buffer.identity.geometry = frame_claim c.self.inside.buffer.identity.geometry c.args.frame_length c.self.invariant.log.geometry (subst (λ l. c.args.frame_length ≤ l.identity.geometry.mtu) (sym c.self.view_is) c.requires.short) in
+    let most : c.align32-covered.result ≤ greatest_claim c.self.inside.buffer.identity.geometry = rw c.align32-covered.ensures short in
+    let full : term_of (the_view c.self.inside) ≤ slice_index c.self.inside.tails.offsets c.partition_of-partition.result = search rules in
+    rw c.add-before.ensures.added (kept_passed (the_view c.self.inside) c.self.inside.tails c.self.inside.consumer_count c.number-owner.result c.partition_of-partition.result c.align32-covered.result c.self.invariant got most full).log
+
+pub returns-then-before-covered-clause-legal : goal.returns-then-before-covered-clause-legal
+returns-then-before-covered-clause-legal c =
+    let got : slice_get c.self.inside.armed c.number-owner.result ≡ Some (Some c.partition_of-partition.result) = armed_with c.self.inside.armed c.args.publisher.now.number c.number-owner.result c.args.count c.partition_of-partition.result (subst (λ l. slice_get l.armed c.args.publisher.now.number ≡ Some (Some (c.args.count % 3))) (sym c.self.view_is) c.requires.armed) (search rules) c.partition_of-partition.ensures.value in
+    let short : aligned c.args.frame_length ≤ greatest_claim c.self.inside.buffer.identity.geometry = frame_claim c.self.inside.buffer.identity.geometry c.args.frame_length c.self.invariant.log.geometry (subst (λ l. c.args.frame_length ≤ l.identity.geometry.mtu) (sym c.self.view_is) c.requires.short) in
+    let most : c.align32-covered.result ≤ greatest_claim c.self.inside.buffer.identity.geometry = rw c.align32-covered.ensures short in
+    let term : c.term_length-length.result ≡ c.self.inside.buffer.identity.geometry.term_length = c.term_length-length.ensures.value ∙ ap (λ g. g.term_length) c.geometry.ensures in
+    let low : c.add-before.result.offset < c.self.inside.buffer.identity.geometry.term_length = omega (arith, term, c.if-before-length.false) in
+    let inside : c.add-before.result.offset + aligned c.args.frame_length ≤ c.self.inside.buffer.identity.geometry.term_length = omega (arith, term, c.align32-covered.ensures, c.if-before-covered.true) in
+    let inside_too : c.add-before.result.offset + c.align32-covered.result ≤ c.self.inside.buffer.identity.geometry.term_length = omega (arith, term, c.if-before-covered.true) in
+    let takes : Takes (the_view c.self.inside) c.partition_of-partition.result c.align32-covered.result false c.args.frame_length = takes_frame (the_view c.self.inside) c.partition_of-partition.result c.add-before.result.offset c.align32-covered.result c.args.frame_length c.add-before.ensures.offset low c.align32-covered.ensures inside_too c.requires.long in
+    rw (c.claim.ensures.taken, c.add-before.ensures.added) (kept_taken (the_view c.self.inside) c.self.inside.tails c.self.inside.consumer_count c.number-owner.result c.partition_of-partition.result c.align32-covered.result false c.args.frame_length c.self.invariant got (search rules) most takes).log
+
+pub returns-else-before-covered-clause-legal : goal.returns-else-before-covered-clause-legal
+returns-else-before-covered-clause-legal c =
+    let got : slice_get c.self.inside.armed c.number-owner.result ≡ Some (Some c.partition_of-partition.result) = armed_with c.self.inside.armed c.args.publisher.now.number c.number-owner.result c.args.count c.partition_of-partition.result (subst (λ l. slice_get l.armed c.args.publisher.now.number ≡ Some (Some (c.args.count % 3))) (sym c.self.view_is) c.requires.armed) (search rules) c.partition_of-partition.ensures.value in
+    let short : aligned c.args.frame_length ≤ greatest_claim c.self.inside.buffer.identity.geometry = frame_claim c.self.inside.buffer.identity.geometry c.args.frame_length c.self.invariant.log.geometry (subst (λ l. c.args.frame_length ≤ l.identity.geometry.mtu) (sym c.self.view_is) c.requires.short) in
+    let most : c.align32-covered.result ≤ greatest_claim c.self.inside.buffer.identity.geometry = rw c.align32-covered.ensures short in
+    let term : c.term_length-length.result ≡ c.self.inside.buffer.identity.geometry.term_length = c.term_length-length.ensures.value ∙ ap (λ g. g.term_length) c.geometry.ensures in
+    let low : c.add-before.result.offset < c.self.inside.buffer.identity.geometry.term_length = omega (arith, term, c.if-before-length.false) in
+    let r : Rest (the_view c.self.inside) c.add-before.result.offset = rest (the_view c.self.inside) c.self.inside.tails c.self.inside.consumer_count c.number-owner.result c.partition_of-partition.result c.add-before.result.offset c.self.invariant got c.add-before.ensures.offset low in
+    let past : c.self.inside.buffer.identity.geometry.term_length < c.add-before.result.offset + c.align32-covered.result = omega (arith, term, c.if-before-covered.false) in
+    let takes : Takes (the_view c.self.inside) c.partition_of-partition.result c.align32-covered.result true (c.self.inside.buffer.identity.geometry.term_length - c.add-before.result.offset) = takes_rest (the_view c.self.inside) c.partition_of-partition.result c.add-before.result.offset c.align32-covered.result r c.add-before.ensures.offset low past in
+    rw (c.claim-else-before-covered.ensures.taken, c.add-before.ensures.added, term) (kept_taken (the_view c.self.inside) c.self.inside.tails c.self.inside.consumer_count c.number-owner.result c.partition_of-partition.result c.align32-covered.result true (c.self.inside.buffer.identity.geometry.term_length - c.add-before.result.offset) c.self.invariant got (search rules) most takes).log

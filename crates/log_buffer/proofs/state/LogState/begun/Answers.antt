@@ -1,0 +1,7 @@
+use Rattle.log_buffer.proofs.state.LogState.begun.Goals as goal
+
+pub invariant_of-result : goal.invariant_of-result
+invariant_of-result c = ?
+
+pub returns : goal.returns
+returns c = ?
