@@ -13,7 +13,7 @@ use Rattle.theory.specs.Messages.{is_whole}
 use Rattle.theory.specs.Bytes.{Identity, IsIdentity}
 use Rattle.theory.proofs.Lists.{all_replicate}
 use Rattle.theory.proofs.Claims.{claim_bounded}
-use Rattle.raw_tails.specs.Tails.{opened_at}
+use Rattle.raw_tails.specs.Tails.{Tails, opened_at}
 use Rattle.term_buffer.specs.Kept.{Kept, fresh as kept_fresh}
 use Rattle.log_buffer.specs.Log.{Log, armed_count, clean_end, fresh}
 use Rattle.log_buffer.specs.Reader.{AreReaders, IsAt, Reader}
@@ -21,7 +21,10 @@ use Rattle.log_buffer.specs.States.{IsState, armed_on, log_of}
 use Rattle.log_buffer.proofs.Armed.{count_most, on_most, room_armed}
 use Rattle.log_buffer.proofs.Spans.{index_other, index_set, length-set}
 
-none_armed : (n k p : ℕ) → slice_get (replicate n (None {A = ℕ})) k ≡ Some (Some p) → ⊥
+abbrev nobody : ℕ → List (Option ℕ)
+nobody n = replicate n None
+
+none_armed : (n k p : ℕ) → slice_get (nobody n) k ≡ Some (Some p) → ⊥
 none_armed zero k p h = cc
 none_armed (suc n) zero p h = cc
 none_armed (suc n) (suc k) p h = none_armed n k p h
@@ -112,10 +115,16 @@ opening i start count g is term_unit unit low some few = record {
         (cases_eq p (start / i.geometry.term_length % 3)))
 
 -- the parts that show it
-pub opened_fresh : (b : Kept) (start count : ℕ) → b ≡ kept_fresh b.identity start → count ≤ 8 → log_of (opened_at b.identity.geometry start) b start false false (take count (replicate 8 start)) (replicate 8 None) ≡ fresh b.identity start count
-opened_fresh b start count e few =
-    ap (λ x. log_of (opened_at b.identity.geometry start) x start false false (take count (replicate 8 start)) (replicate 8 None)) e
+pub opened_fresh : (b : Kept) (t : Tails) (start tail count : ℕ) → t ≡ opened_at b.identity.geometry start → tail ≡ start → b ≡ kept_fresh b.identity start → count ≤ 8 → log_of t b tail false false (take count (replicate 8 tail)) (replicate 8 None) ≡ fresh b.identity start count
+opened_fresh b t start tail count e f h few =
+    ap (λ x. log_of x b tail false false (take count (replicate 8 tail)) (replicate 8 None)) e
+    ∙ ap (λ n. log_of (opened_at b.identity.geometry start) b n false false (take count (replicate 8 n)) (replicate 8 None)) f
+    ∙ ap (λ x. log_of (opened_at b.identity.geometry start) x start false false (take count (replicate 8 start)) (replicate 8 None)) h
     ∙ ap (λ ps. log_of (opened_at b.identity.geometry start) (kept_fresh b.identity start) start false false ps (replicate 8 None)) (take-replicate count 8 start few)
+
+pub opened_state : (b : Kept) (t : Tails) (start tail count : ℕ) → t ≡ opened_at b.identity.geometry start → tail ≡ start → b ≡ kept_fresh b.identity start → count ≤ 8 → IsState (fresh b.identity start count) (opened_at b.identity.geometry start) count → IsState (log_of t b tail false false (take count (replicate 8 tail)) (replicate 8 None)) t count
+opened_state b t start tail count e f h few k =
+    subst (λ x. IsState x t count) (sym (opened_fresh b t start tail count e f h few)) (subst (λ x. IsState (fresh b.identity start count) x count) (sym e) k)
 
 pub fresh_readers : (l : Log) (j : Identity) (start count : ℕ) (readers : List Reader) → l ≡ fresh j start count → AreReaders readers start count → All (IsAt l) readers
 fresh_readers l j start count readers e all = λ k d h.

@@ -46,6 +46,7 @@ impl LogState {
         ensures shows_limit { limit_in (limit_word_of self.now) ≡ self.now.limit }
         ensures shows_connected { is_connected (limit_word_of self.now) ≡ self.now.connected }
         ensures shows_closed { is_closed (limit_word_of self.now) ≡ self.now.closed }
+        ensures legal { IsLog self.now }
     {
         publisher.note(Step::Limit(self.limit_word()));
         Limit {
@@ -89,6 +90,7 @@ impl LogState {
         ensures shows_offset { offset_in (raw_tail self.old (count % 3)) ≡ result.offset }
         ensures step { publisher.new ≡ with_step publisher.old (steps.Tail (count % 3) (raw_tail self.old (count % 3))) }
         ensures looked { self.new ≡ looked self.old publisher.old.number count limit }
+        ensures legal { IsLog self.new }
         ensures readers { (r : Reader) → IsAt self.old r → IsAt self.new r }
     {
         let partition = partition_of(count);
