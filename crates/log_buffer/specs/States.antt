@@ -1,7 +1,8 @@
 -- What holds of a log's parts between two calls.
-use Rattle.std.specs.Prelude.{◌≡◌, ℕ, ◌+◌, ◌-◌, ◌*◌, ◌/◌, ◌^◌, ◌<◌, ◌≤◌, Bool, true, List, [], ◌∷◌, length, take, map, All, Option, None, Some, nat_eq, if◌then◌else◌, slice_get, slice_index}
+use Rattle.std.specs.Prelude.{◌≡◌, ℕ, ◌+◌, ◌-◌, ◌*◌, ◌/◌, ◌%◌, ◌^◌, ◌<◌, ◌≤◌, ⊤, Bool, true, List, [], ◌∷◌, length, take, map, All, Option, None, Some, nat_eq, if◌then◌else◌, slice_get, slice_index}
 use Rattle.std.specs.List.{AllByRecursion}
-use Rattle.theory.specs.Position.{greatest_claim}
+use Rattle.theory.specs.Position.{aligned, greatest_claim}
+use Rattle.theory.specs.Entry.{Entry}
 use Rattle.theory.specs.Messages.{is_whole}
 use Rattle.raw_tails.specs.Tails.{Tails, behind}
 use Rattle.term_buffer.specs.Kept.{Kept}
@@ -39,6 +40,15 @@ armed_on p (Some q ∷ rest) = (if nat_eq p q then 1 else 0) + armed_on p rest
 abbrev pub IsUsed : Log → ℕ → Type 0
 IsUsed l p = l.start / term_of l + behind l.newest p ≤ l.newest
 
+-- an open entry of one cut has a frame's length, and its draft is as long as that frame behind its first word
+abbrev pub IsUnset : Entry → List ℕ → Type 0
+IsUnset e draft = (cut : ℕ) → e.cuts ≡ cut ∷ [] → e.frames ≡ [] → (32 ≤ cut) × (length draft ≡ aligned cut - 8)
+
+abbrev pub AreUnset : List Entry → List (List ℕ) → Type 0
+AreUnset [] drafts = ⊤
+AreUnset (e ∷ es) [] = ⊥
+AreUnset (e ∷ es) (d ∷ ds) = IsUnset e d × AreUnset es ds
+
 pub record IsState (l : Log) (t : Tails) (consumer_count : ℕ) : Type 0 where
   pub log : IsLog l
   pub geometry : t.geometry ≡ l.identity.geometry
@@ -47,9 +57,10 @@ pub record IsState (l : Log) (t : Tails) (consumer_count : ℕ) : Type 0 where
   pub few_consumers : consumer_count ≤ 8
   pub counted : length l.consumers ≡ consumer_count
   pub small_limit : l.limit ≤ 2 ^ 56
+  pub term_unit : term_of l % 32 ≡ 0
   -- no addition can carry into the id of a raw tail
   pub overshoot : (p : ℕ) → p < 3 → slice_index l.offsets p + greatest_claim l.identity.geometry * armed_on p l.armed ≤ term_of l + 8 * greatest_claim l.identity.geometry
   pub used : (k p : ℕ) → slice_get l.armed k ≡ Some (Some p) → (p < 3) × IsUsed l p
   -- what a consumer has passed is committed
   pub passed : AllByRecursion (λ p. AllByRecursion (λ e. e.start < p → is_whole e ≡ true) l.entries) l.consumers
-  pub within : AllByRecursion (λ p. p ≤ l.tail) l.consumers
+  pub unset : AreUnset l.entries l.drafts

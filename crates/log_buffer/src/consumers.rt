@@ -23,7 +23,8 @@ impl LogState {
         ensures value { result ≡ slice_index self.now.consumers number }
         ensures small { result ≤ 2 ^ 55 }
     {
-        self.consumers[number]
+        let positions = &self.consumers[..self.consumer_count];
+        positions[number]
     }
 
     /// The least position of the consumers, each loaded once.

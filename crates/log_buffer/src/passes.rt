@@ -54,7 +54,8 @@ impl Publisher {
 
     /// Begins a call.
     pub fn begin(&mut self)
-        ensures { self.new ≡ record self.old { steps = [] } }
+        ensures begun { self.new ≡ record self.old { steps = [] } }
+        ensures in_range { self.new.number < 8 }
     {
         self.count = 0;
     }

@@ -84,14 +84,15 @@ impl LogState {
         requires empty { buffer ≡ term_fresh buffer.identity start }
         ensures { result ≡ fresh buffer.identity start consumers }
     {
+        let tail = buffer.tail();
         LogState {
             tails: RawTails::open(buffer.geometry(), start),
             buffer,
-            limit: start,
+            limit: tail,
             connected: false,
             closed: false,
             consumer_count: consumers,
-            consumers: [start; CONSUMERS],
+            consumers: [tail; CONSUMERS],
             armed: [None; PUBLISHERS],
         }
     }

@@ -1,6 +1,6 @@
 //! The word calls of a publisher: loads, additions and exchanges of the limit, the count and the raw tails.
 
-ghost use Rattle.std.specs.Prelude.{◌≡◌, ℕ, ◌+◌, ◌-◌, ◌*◌, ◌/◌, ◌%◌, ◌<◌, ◌≤◌, ◌↔◌, ◌^◌, Some, length, slice_get, slice_index};
+ghost use Rattle.std.specs.Prelude.{◌≡◌, IfSome, ℕ, ◌+◌, ◌-◌, ◌*◌, ◌/◌, ◌%◌, ◌<◌, ◌≤◌, ◌↔◌, ◌^◌, Some, length, slice_get, slice_index};
 ghost use Rattle.theory.specs.Position.{aligned, greatest_claim, id_of};
 ghost use Rattle.theory.specs.Refusal.{is_closed, is_connected, limit_in};
 ghost use Rattle.theory.specs.Words.{id_before, id_in, offset_in, tail_word};
@@ -46,6 +46,7 @@ impl LogState {
         ensures shows_limit { limit_in (limit_word_of self.now) ≡ self.now.limit }
         ensures shows_connected { is_connected (limit_word_of self.now) ≡ self.now.connected }
         ensures shows_closed { is_closed (limit_word_of self.now) ≡ self.now.closed }
+        ensures legal { IsLog self.now }
     {
         publisher.note(Step::Limit(self.limit_word()));
         Limit {
@@ -89,6 +90,7 @@ impl LogState {
         ensures shows_offset { offset_in (raw_tail self.old (count % 3)) ≡ result.offset }
         ensures step { publisher.new ≡ with_step publisher.old (steps.Tail (count % 3) (raw_tail self.old (count % 3))) }
         ensures looked { self.new ≡ looked self.old publisher.old.number count limit }
+        ensures legal { IsLog self.new }
         ensures readers { (r : Reader) → IsAt self.old r → IsAt self.new r }
     {
         let partition = partition_of(count);
@@ -119,9 +121,12 @@ impl LogState {
         ensures step { publisher.new ≡ with_step publisher.old (steps.Addition (count % 3) (aligned frame_length) (raw_tail self.old (count % 3))) }
         ensures added { self.new ≡ after_add self.old publisher.old.number (count % 3) frame_length }
         ensures claimed { result.claimed ≡ claimed_of self.old publisher.old.number (taken_of self.old (count % 3) frame_length) }
+        ensures unset { IfSome result.claimed (λ claimed. IsOpen self.new claimed) }
+        ensures legal { IsLog self.new }
         ensures readers { (r : Reader) → IsAt self.old r → IsAt self.new r }
     {
         let partition = partition_of(count);
+        let length = self.buffer.geometry().term_length();
         let covered = align32(frame_length);
         let before = self.tails.add(partition, covered);
         publisher.note(Step::Addition {
@@ -131,7 +136,6 @@ impl LogState {
         });
         let owner = publisher.number();
         self.armed[owner] = None;
-        let length = self.buffer.geometry().term_length();
         let claimed = if before.offset >= length {
             None
         } else if before.offset + covered <= length {

@@ -1,0 +1,682 @@
+-- What each call keeps of a log's state.
+use Rattle.std.proofs.Common.{◌≡◌, ℕ, zero, suc, ◌+◌, ◌-◌, ◌*◌, ◌/◌, ◌%◌, ◌^◌, ◌<◌, ◌≤◌, ◌⊎◌, ⊎_elim, inl, inr, Bool, true, false, cond, List, [], ◌∷◌, ◌++◌, length, take, drop, replicate, Option, None, Some, refl, sym, ap, ◌∙◌, subst, min, max, length-append, arith}
+use Rattle.std.specs.Prelude.{if◌then◌else◌, nat_eq, slice_get, slice_set, slice_index, slice_index_or, sum}
+use Rattle.std.specs.List.{AllByRecursion}
+use Rattle.std.proofs.Math.Nat.{mul-le-mul_right}
+use Rattle.std.proofs.lemmas.Nat.{same_from_place, div-add-mod'}
+use Rattle.std.proofs.lemmas.Bool.{cases_eq, cases_lt}
+use Rattle.std.proofs.lemmas.List.{length-replicate, length-drop}
+use Rattle.theory.specs.Position.{aligned, greatest_claim, max_position, span}
+use Rattle.theory.specs.Placed.{Data, Frame, Pad}
+use Rattle.theory.specs.Entry.{Entry, HaveFrames, IsEntry, entry_end}
+use Rattle.theory.specs.Messages.{is_whole}
+use Rattle.theory.specs.Tiling.{InOneTerm, Tiles}
+use Rattle.theory.proofs.Lists.{all_get, all_set, all_weaker}
+use Rattle.theory.proofs.Tiling.{Tiles-push}
+use Rattle.theory.proofs.Frames.{tiles_le}
+use Rattle.theory.proofs.LogSteps.{span_unit}
+use Rattle.raw_tails.specs.Tails.{Tails, behind}
+use Rattle.raw_tails.specs.Tails.{added as tails_added, turned as tails_turned}
+use Rattle.term_buffer.specs.Kept.{claim_of, with_share}
+use Rattle.term_buffer.specs.declared.claimed.Claimed.{Claimed}
+use Rattle.log_buffer.specs.Log.{Cleans, IsLeast, IsLog, IsOpen, Log, added, armed_count, clean_end, offset_of, place_of, term_of, turned, with_claim, with_commit, with_draft}
+use Rattle.log_buffer.specs.Reader.{IsAt, Reader}
+use Rattle.log_buffer.specs.States.{AreUnset, IsState, IsUnset, IsUsed, armed_on}
+use Rattle.log_buffer.proofs.Armed.{count_disarmed, count_most, on_disarmed, on_left, on_most, on_other, room_armed, room_fewer, room_left, room_taken, small_claim}
+use Rattle.log_buffer.proofs.Readers.{Moves, moved_behind, moved_whole, moves}
+use Rattle.log_buffer.proofs.Spans.{all_behind, all_index, all_pushed, end_within, got_set, got_unset, got_within, index_other, index_set, length-set, passed_front, some_is, sum_set, tiles_set, tiles_split, unset_at, unset_behind, unset_both, unset_draft, unset_pushed}
+
+-- ---- loads
+
+pub kept_armed : (l : Log) (t : Tails) (n by p : ℕ) → IsState l t n → p ≡ l.newest % 3 → slice_index l.offsets p < term_of l → l.tail ≤ l.limit → IsState (record l { armed = slice_set l.armed by (Some p) }) t n
+kept_armed l t n by p k here low within = record {
+  log = record {
+    geometry = k.log.geometry;
+    identity = k.log.identity;
+    unit = k.log.unit;
+    below = k.log.below;
+    tiles = k.log.tiles;
+    entries = k.log.entries;
+    eight = k.log.eight;
+    shares = k.log.shares;
+    drafts = k.log.drafts;
+    begun = k.log.begun;
+    first = k.log.first;
+    last = k.log.last;
+    few = k.log.few;
+    opened = k.log.opened;
+    active = k.log.active;
+    newest = k.log.newest;
+    three = k.log.three;
+    shown = k.log.shown;
+    finished = k.log.finished;
+    all_armed = length-set l.armed by (Some p) ∙ k.log.all_armed;
+    room = room_armed (greatest_claim l.identity.geometry) l.tail l.limit (armed_count (slice_set l.armed by (Some p))) (omega (arith, count_most (slice_set l.armed by (Some p)), all)) within;
+    clean = k.log.clean;
+    limit_unit = k.log.limit_unit;
+    tail_unit = k.log.tail_unit;
+    word = k.log.word;
+    consumer_units = k.log.consumer_units;
+    consumers_behind = k.log.consumers_behind;
+    readable = k.log.readable;
+  };
+  geometry = k.geometry;
+  opened = k.opened;
+  some_consumer = k.some_consumer;
+  few_consumers = k.few_consumers;
+  counted = k.counted;
+  small_limit = k.small_limit;
+  term_unit = k.term_unit;
+  overshoot = λ q small. ⊎_elim
+      (λ (e : q ≡ p). room_armed (greatest_claim l.identity.geometry) (slice_index l.offsets q) (term_of l) (armed_on q (slice_set l.armed by (Some p))) (omega (arith, on_most q (slice_set l.armed by (Some p)), all)) (lower q e))
+      (λ (ne : q ≡ p → ⊥). room_fewer (greatest_claim l.identity.geometry) (slice_index l.offsets q) (term_of l) (armed_on q (slice_set l.armed by (Some p))) (armed_on q l.armed) (on_other q l.armed by p ne) (k.overshoot q small))
+      (cases_eq q p);
+  used = λ j q got. ⊎_elim (λ (e : j ≡ by). same j q e got) (λ (ne : j ≡ by → ⊥). k.used j q (got_unset l.armed j by (Some q) (Some p) ne got)) (cases_eq j by);
+  passed = k.passed;
+  unset = k.unset;
+}
+  where
+    all : length (slice_set l.armed by (Some p)) ≡ 8
+    all = length-set l.armed by (Some p) ∙ k.log.all_armed
+
+    lower : (q : ℕ) → q ≡ p → slice_index l.offsets q ≤ term_of l
+    lower q e = let at : slice_index l.offsets q ≡ slice_index l.offsets p = ap (slice_index l.offsets) e in omega arith
+
+    is_used : (q : ℕ) → q ≡ l.newest % 3 → (q < 3) × IsUsed l q
+    is_used q e = (omega arith, omega (arith, k.log.opened, k.log.active))
+
+    same : (j q : ℕ) → j ≡ by → slice_get (slice_set l.armed by (Some p)) j ≡ Some (Some q) → (q < 3) × IsUsed l q
+    same j q e got = is_used q (some_is q p (got_set l.armed by (Some q) (Some p) (ap (slice_get (slice_set l.armed by (Some p))) (sym e) ∙ got)) ∙ here)
+
+-- ---- additions
+
+-- a tail below the term's end is that of the newest term
+pub is_newest : (l : Log) (t : Tails) (n k p : ℕ) → IsState l t n → slice_get l.armed k ≡ Some (Some p) → slice_index l.offsets p < term_of l → p ≡ l.newest % 3
+is_newest l t n k p s got low =
+    let u : (p < 3) × IsUsed l p = s.used k p got in
+    let m : ℕ = l.newest - behind l.newest p in
+    ⊎_elim
+    (λ (later : m < l.newest).
+    let place : m % 3 ≡ p = omega (arith, u.0, u.1) in
+    let full : term_of l ≤ slice_index l.offsets (m % 3) = s.log.finished m (omega (arith, u.1)) later (omega arith) in
+    let same : slice_index l.offsets (m % 3) ≡ slice_index l.offsets p = ap (slice_index l.offsets) place in
+    absurd (omega arith))
+    (λ (last : l.newest ≤ m). omega (arith, u.0, u.1))
+    (cases_lt m l.newest)
+
+pub armed_some : (l : Log) (k p : ℕ) → slice_get l.armed k ≡ Some (Some p) → 1 ≤ armed_count l.armed
+armed_some l k p got = omega (arith, count_disarmed l.armed k p got)
+
+-- an addition stays far below the id
+pub small_add : (l : Log) (t : Tails) (n k p covered : ℕ) → IsState l t n → slice_get l.armed k ≡ Some (Some p) → covered ≤ greatest_claim l.identity.geometry → slice_index l.offsets p + covered < 4294967296
+small_add l t n k p covered s got short =
+    let left : slice_index l.offsets p + covered ≤ term_of l + 8 * greatest_claim l.identity.geometry = room_left (greatest_claim l.identity.geometry) (slice_index l.offsets p) (term_of l) (armed_on p (slice_set l.armed k None)) (armed_on p l.armed) covered (on_disarmed l.armed k p got) short (s.overshoot p (s.used k p got).0) in
+    bound (greatest_claim l.identity.geometry) (term_of l) (slice_index l.offsets p + covered) left (small_claim l.identity.geometry s.log.geometry)
+  where
+    bound : (claim term x : ℕ) → x ≤ term + 8 * claim → 8 * claim + term < 4294967296 → x < 4294967296
+    bound claim term x h j = omega arith
+
+-- there is room for what is taken
+pub add_room : (l : Log) (t : Tails) (n k p taken : ℕ) → IsState l t n → slice_get l.armed k ≡ Some (Some p) → taken ≤ greatest_claim l.identity.geometry → l.tail + taken ≤ l.cleaned + 3 * term_of l
+add_room l t n k p taken s got short =
+    let left : l.tail + taken ≤ l.limit + 8 * greatest_claim l.identity.geometry = room_left (greatest_claim l.identity.geometry) l.tail l.limit (armed_count (slice_set l.armed k None)) (armed_count l.armed) taken (count_disarmed l.armed k p got) short s.log.room in
+    bound l.limit (greatest_claim l.identity.geometry) (l.tail + taken) (l.cleaned + 3 * term_of l) left s.log.clean
+  where
+    bound : (limit claim x y : ℕ) → x ≤ limit + 8 * claim → limit + 8 * claim ≤ y → x ≤ y
+    bound limit claim x y h j = omega arith
+
+-- where the tail stands in its term
+pub record Stands (l : Log) (offset : ℕ) : Type 0 where
+  pub shown : l.tail ≡ l.newest * term_of l + offset
+  pub rest : l.tail % term_of l ≡ offset
+  pub count : l.tail / term_of l ≡ l.newest
+  pub below : l.tail < max_position l.identity.geometry
+  pub unit : offset % 32 ≡ 0
+
+stands_at : (newest term offset tail : ℕ) → tail ≡ newest * term + offset → offset < term → (tail / term ≡ newest) × (tail % term ≡ offset)
+stands_at newest term offset tail e low =
+    let parts : tail / term * term + tail % term ≡ newest * term + offset = div-add-mod' tail term ∙ e in
+    same_from_place (tail / term) (tail % term) newest offset term (omega arith) low parts
+
+unit_rest : (newest term offset : ℕ) → term % 32 ≡ 0 → (newest * term + offset) % 32 ≡ 0 → offset % 32 ≡ 0
+unit_rest newest term offset u v =
+    let parts : term ≡ 32 * (term / 32) = omega arith in
+    let product : newest * term ≡ newest * (32 * (term / 32)) = ap (λ x. newest * x) parts in
+    omega arith
+
+pub stands : (l : Log) (t : Tails) (n offset : ℕ) → IsState l t n → offset ≡ offset_of l l.newest → offset < term_of l → Stands l offset
+stands l t n offset k e low =
+    let shown : l.tail ≡ l.newest * term_of l + offset = omega (arith, k.log.shown) in
+    let place = stands_at l.newest (term_of l) offset l.tail shown low in
+    record {
+      shown = shown;
+      rest = place.1;
+      count = place.0;
+      below = last l.newest (term_of l) offset l.tail shown low k.log.newest;
+      unit = unit_rest l.newest (term_of l) offset k.term_unit (subst (λ x. x % 32 ≡ 0) shown k.log.tail_unit);
+    }
+  where
+    last : (newest term offset tail : ℕ) → tail ≡ newest * term + offset → offset < term → newest < 2147483648 → tail < term * 2147483648
+    last newest term offset tail e low small =
+        let next : newest + 1 ≤ 2147483648 = omega arith in
+        let most : (newest + 1) * term ≤ 2147483648 * term = mul-le-mul_right term next in
+        omega arith
+
+more_finished : (l : Log) (p covered : ℕ) → length l.offsets ≡ 3 → (n : ℕ) → term_of l ≤ offset_of l n → term_of l ≤ slice_index (slice_set l.offsets p (slice_index l.offsets p + covered)) (n % 3)
+more_finished l p covered three n full =
+    ⊎_elim
+    (λ (e : n % 3 ≡ p).
+    let within : p < length l.offsets = omega (arith, three) in
+    let same : slice_index l.offsets (n % 3) ≡ slice_index l.offsets p = ap (slice_index l.offsets) e in
+    let here : slice_index (slice_set l.offsets p (slice_index l.offsets p + covered)) (n % 3) ≡ slice_index l.offsets p + covered = ap (slice_index (slice_set l.offsets p (slice_index l.offsets p + covered))) e ∙ index_set l.offsets p (slice_index l.offsets p + covered) within in
+    omega arith)
+    (λ (ne : n % 3 ≡ p → ⊥). subst (λ x. term_of l ≤ x) (sym (index_other l.offsets (n % 3) p (slice_index l.offsets p + covered) ne)) full)
+    (cases_eq (n % 3) p)
+
+more_overshoot : (l : Log) (t : Tails) (n by p covered : ℕ) → IsState l t n → slice_get l.armed by ≡ Some (Some p) → covered ≤ greatest_claim l.identity.geometry → (q : ℕ) → q < 3 → slice_index (slice_set l.offsets p (slice_index l.offsets p + covered)) q + greatest_claim l.identity.geometry * armed_on q (slice_set l.armed by None) ≤ term_of l + 8 * greatest_claim l.identity.geometry
+more_overshoot l t n by p covered k got short q small =
+    ⊎_elim
+    (λ (e : q ≡ p). subst (λ x. slice_index (slice_set l.offsets p (slice_index l.offsets p + covered)) x + greatest_claim l.identity.geometry * armed_on x (slice_set l.armed by None) ≤ term_of l + 8 * greatest_claim l.identity.geometry) (sym e) here)
+    (λ (ne : q ≡ p → ⊥).
+    subst (λ x. x + greatest_claim l.identity.geometry * armed_on q (slice_set l.armed by None) ≤ term_of l + 8 * greatest_claim l.identity.geometry) (sym (index_other l.offsets q p (slice_index l.offsets p + covered) ne))
+    (room_fewer (greatest_claim l.identity.geometry) (slice_index l.offsets q) (term_of l) (armed_on q (slice_set l.armed by None)) (armed_on q l.armed) (on_left q l.armed by) (k.overshoot q small)))
+    (cases_eq q p)
+  where
+    here : slice_index (slice_set l.offsets p (slice_index l.offsets p + covered)) p + greatest_claim l.identity.geometry * armed_on p (slice_set l.armed by None) ≤ term_of l + 8 * greatest_claim l.identity.geometry
+    here =
+        let within : p < length l.offsets = omega (arith, (k.used by p got).0, k.log.three) in
+        subst (λ x. x + greatest_claim l.identity.geometry * armed_on p (slice_set l.armed by None) ≤ term_of l + 8 * greatest_claim l.identity.geometry) (sym (index_set l.offsets p (slice_index l.offsets p + covered) within))
+        (room_taken (greatest_claim l.identity.geometry) (slice_index l.offsets p) (term_of l) (armed_on p (slice_set l.armed by None)) (armed_on p l.armed) covered (on_disarmed l.armed by p got) short (k.overshoot p (k.used by p got).0))
+
+less_used : (l : Log) (t : Tails) (n by : ℕ) → IsState l t n → (j q : ℕ) → slice_get (slice_set l.armed by None) j ≡ Some (Some q) → (q < 3) × IsUsed l q
+less_used l t n by k j q got =
+    ⊎_elim
+    (λ (e : j ≡ by). let none : Some q ≡ None = got_set l.armed by (Some q) None (ap (slice_get (slice_set l.armed by None)) (sym e) ∙ got) in absurd (cc))
+    (λ (ne : j ≡ by → ⊥). k.used j q (got_unset l.armed j by (Some q) None ne got))
+    (cases_eq j by)
+
+-- the term is used up: nothing is taken
+pub kept_passed : (l : Log) (t : Tails) (n by p covered : ℕ) → IsState l t n → slice_get l.armed by ≡ Some (Some p) → covered ≤ greatest_claim l.identity.geometry → term_of l ≤ slice_index l.offsets p → IsState (added l by p covered) (tails_added t p covered) n
+kept_passed l t n by p covered k got short full = record {
+  log = record {
+    geometry = k.log.geometry;
+    identity = k.log.identity;
+    unit = k.log.unit;
+    below = k.log.below;
+    tiles = k.log.tiles;
+    entries = k.log.entries;
+    eight = k.log.eight;
+    shares = k.log.shares;
+    drafts = k.log.drafts;
+    begun = k.log.begun;
+    first = k.log.first;
+    last = k.log.last;
+    few = k.log.few;
+    opened = k.log.opened;
+    active = k.log.active;
+    newest = k.log.newest;
+    three = length-set l.offsets p (slice_index l.offsets p + covered) ∙ k.log.three;
+    shown = shown;
+    finished = λ m low less near. more_finished l p covered k.log.three m (k.log.finished m low less near);
+    all_armed = length-set l.armed by None ∙ k.log.all_armed;
+    room = room_fewer (greatest_claim l.identity.geometry) l.tail l.limit (armed_count (slice_set l.armed by None)) (armed_count l.armed) (omega (arith, count_disarmed l.armed by p got)) k.log.room;
+    clean = k.log.clean;
+    limit_unit = k.log.limit_unit;
+    tail_unit = k.log.tail_unit;
+    word = k.log.word;
+    consumer_units = k.log.consumer_units;
+    consumers_behind = k.log.consumers_behind;
+    readable = k.log.readable;
+  };
+  geometry = k.geometry;
+  opened = k.opened;
+  some_consumer = k.some_consumer;
+  few_consumers = k.few_consumers;
+  counted = k.counted;
+  small_limit = k.small_limit;
+  term_unit = k.term_unit;
+  overshoot = more_overshoot l t n by p covered k got short;
+  used = less_used l t n by k;
+  passed = k.passed;
+  unset = k.unset;
+}
+  where
+    shown : l.tail ≡ l.newest * term_of l + min (slice_index (slice_set l.offsets p (slice_index l.offsets p + covered)) (l.newest % 3)) (term_of l)
+    shown =
+        ⊎_elim
+        (λ (e : l.newest % 3 ≡ p).
+        let same : slice_index l.offsets (l.newest % 3) ≡ slice_index l.offsets p = ap (slice_index l.offsets) e in
+        let more : term_of l ≤ slice_index (slice_set l.offsets p (slice_index l.offsets p + covered)) (l.newest % 3) = more_finished l p covered k.log.three l.newest (omega arith) in
+        let old : min (slice_index l.offsets (l.newest % 3)) (term_of l) ≡ term_of l = omega arith in
+        let new : min (slice_index (slice_set l.offsets p (slice_index l.offsets p + covered)) (l.newest % 3)) (term_of l) ≡ term_of l = omega arith in
+        k.log.shown ∙ ap (λ x. l.newest * term_of l + x) (old ∙ sym new))
+        (λ (ne : l.newest % 3 ≡ p → ⊥). k.log.shown ∙ ap (λ x. l.newest * term_of l + min x (term_of l)) (sym (index_other l.offsets (l.newest % 3) p (slice_index l.offsets p + covered) ne)))
+        (cases_eq (l.newest % 3) p)
+
+-- what an addition below the term's end takes
+pub record Takes (l : Log) (p covered : ℕ) (padding : Bool) (frame_length : ℕ) : Type 0 where
+  pub below : slice_index l.offsets p < term_of l
+  pub taken : slice_index l.offsets p + aligned frame_length ≡ min (slice_index l.offsets p + covered) (term_of l)
+  pub long : 32 ≤ frame_length
+
+unstarted : (padding : Bool) (frame_length : ℕ) → HaveFrames padding (frame_length ∷ []) []
+unstarted true frame_length = tt
+unstarted false frame_length = tt
+
+pub kept_taken : (l : Log) (t : Tails) (n by p covered : ℕ) (padding : Bool) (frame_length : ℕ) → IsState l t n → slice_get l.armed by ≡ Some (Some p) → by < 8 → covered ≤ greatest_claim l.identity.geometry → Takes l p covered padding frame_length → IsState (with_claim (added l by p covered) by padding frame_length) (tails_added t p covered) n
+kept_taken l t n by p covered padding frame_length k got few short x = record {
+  log = record {
+    geometry = k.log.geometry;
+    identity = k.log.identity;
+    unit = k.log.unit;
+    below = k.log.below;
+    tiles = subst (λ e. Tiles (term_of l) l.first e (l.entries ++ claim_of l.tail by padding frame_length ∷ [])) ends (Tiles-push (term_of l) l.first l.tail l.entries (claim_of l.tail by padding frame_length) k.log.tiles refl in_one);
+    entries = all_pushed IsEntry l.entries (claim_of l.tail by padding frame_length) k.log.entries (record { owner = few; cuts = (omega (arith, x.long), tt); long = omega (arith, x.long); frames = unstarted padding frame_length });
+    eight = length-set l.shares by (slice_index l.shares by + aligned frame_length) ∙ k.log.eight;
+    shares = omega (arith, k.log.shares, sum_set l.shares by (aligned frame_length) (omega (arith, k.log.eight)));
+    drafts = omega (arith, k.log.drafts, length-append l.drafts (replicate (aligned frame_length - 8) 0 ∷ []), length-append l.entries (claim_of l.tail by padding frame_length ∷ []));
+    begun = k.log.begun;
+    first = k.log.first;
+    last = omega (arith, k.log.last);
+    few = omega (arith, k.log.few, k.log.begun, k.log.first, k.log.last, x.long, length-append l.entries (claim_of l.tail by padding frame_length ∷ []));
+    opened = k.log.opened;
+    active = k.log.active;
+    newest = k.log.newest;
+    three = length-set l.offsets p (slice_index l.offsets p + covered) ∙ k.log.three;
+    shown = shown;
+    finished = λ m low less near. more_finished l p covered k.log.three m (k.log.finished m low less near);
+    all_armed = length-set l.armed by None ∙ k.log.all_armed;
+    room = room_taken (greatest_claim l.identity.geometry) l.tail l.limit (armed_count (slice_set l.armed by None)) (armed_count l.armed) (aligned frame_length) (count_disarmed l.armed by p got) (omega (arith, taken_most)) k.log.room;
+    clean = k.log.clean;
+    limit_unit = k.log.limit_unit;
+    tail_unit = omega (arith, k.log.tail_unit);
+    word = k.log.word;
+    consumer_units = k.log.consumer_units;
+    consumers_behind = all_weaker (λ q. q ≤ l.tail) (λ q. q ≤ l.tail + aligned frame_length) (λ q h. omega arith) l.consumers k.log.consumers_behind;
+    readable = k.log.readable;
+  };
+  geometry = k.geometry;
+  opened = k.opened;
+  some_consumer = k.some_consumer;
+  few_consumers = k.few_consumers;
+  counted = k.counted;
+  small_limit = k.small_limit;
+  term_unit = k.term_unit;
+  overshoot = more_overshoot l t n by p covered k got short;
+  used = less_used l t n by k;
+  passed = none_passed l.consumers k.log.consumers_behind k.passed;
+  unset = unset_pushed l.entries l.drafts (claim_of l.tail by padding frame_length) (replicate (aligned frame_length - 8) 0) k.unset k.log.drafts unset;
+}
+  where
+    newest : p ≡ l.newest % 3
+    newest = is_newest l t n by p k got x.below
+
+    at : Stands l (slice_index l.offsets p)
+    at = stands l t n (slice_index l.offsets p) k (ap (slice_index l.offsets) newest) x.below
+
+    taken_most : aligned frame_length ≤ covered
+    taken_most = omega (arith, x.taken)
+
+    ends : l.tail + (aligned frame_length + 0) ≡ l.tail + aligned frame_length
+    ends = omega arith
+
+    in_one : InOneTerm (term_of l) l.tail (l.tail + (aligned frame_length + 0))
+    in_one =
+        let whole : l.tail / term_of l * term_of l ≡ l.newest * term_of l = ap (λ y. y * term_of l) at.count in
+        omega (arith, whole, at.shown, x.taken)
+
+    shown : l.tail + aligned frame_length ≡ l.newest * term_of l + min (slice_index (slice_set l.offsets p (slice_index l.offsets p + covered)) (l.newest % 3)) (term_of l)
+    shown =
+        let within : p < length l.offsets = omega (arith, (k.used by p got).0, k.log.three) in
+        let here : slice_index (slice_set l.offsets p (slice_index l.offsets p + covered)) (l.newest % 3) ≡ slice_index l.offsets p + covered = ap (slice_index (slice_set l.offsets p (slice_index l.offsets p + covered))) (sym newest) ∙ index_set l.offsets p (slice_index l.offsets p + covered) within in
+        let least : min (slice_index (slice_set l.offsets p (slice_index l.offsets p + covered)) (l.newest % 3)) (term_of l) ≡ slice_index l.offsets p + aligned frame_length = ap (λ y. min y (term_of l)) here ∙ sym x.taken in
+        omega (arith, at.shown, least)
+
+    unset : IsUnset (claim_of l.tail by padding frame_length) (replicate (aligned frame_length - 8) 0)
+    unset = λ cut e no. let same : frame_length ≡ cut = cc in subst (λ y. (32 ≤ y) × (length {A = ℕ} (replicate (aligned frame_length - 8) 0) ≡ aligned y - 8)) same (x.long, length-replicate (aligned frame_length - 8) 0)
+
+    none_passed : (ps : List ℕ) → AllByRecursion (λ q. q ≤ l.tail) ps → AllByRecursion (λ q. AllByRecursion (λ e. e.start < q → is_whole e ≡ true) l.entries) ps → AllByRecursion (λ q. AllByRecursion (λ e. e.start < q → is_whole e ≡ true) (l.entries ++ claim_of l.tail by padding frame_length ∷ [])) ps
+    none_passed [] b h = tt
+    none_passed (q ∷ ps) b h = (all_pushed (λ e. e.start < q → is_whole e ≡ true) l.entries (claim_of l.tail by padding frame_length) h.0 (λ low. absurd (omega (arith, b.0))), none_passed ps b.1 h.1)
+
+-- ---- rotation
+
+pub kept_active : (l : Log) (t : Tails) (n a : ℕ) → IsState l t n → l.start / term_of l ≤ a → a ≤ l.newest → IsState (record l { active = a }) (record t { active = a }) n
+kept_active l t n a k low high = record {
+  log = record {
+    geometry = k.log.geometry;
+    identity = k.log.identity;
+    unit = k.log.unit;
+    below = k.log.below;
+    tiles = k.log.tiles;
+    entries = k.log.entries;
+    eight = k.log.eight;
+    shares = k.log.shares;
+    drafts = k.log.drafts;
+    begun = k.log.begun;
+    first = k.log.first;
+    last = k.log.last;
+    few = k.log.few;
+    opened = low;
+    active = high;
+    newest = k.log.newest;
+    three = k.log.three;
+    shown = k.log.shown;
+    finished = k.log.finished;
+    all_armed = k.log.all_armed;
+    room = k.log.room;
+    clean = k.log.clean;
+    limit_unit = k.log.limit_unit;
+    tail_unit = k.log.tail_unit;
+    word = k.log.word;
+    consumer_units = k.log.consumer_units;
+    consumers_behind = k.log.consumers_behind;
+    readable = k.log.readable;
+  };
+  geometry = k.geometry;
+  opened = k.opened;
+  some_consumer = k.some_consumer;
+  few_consumers = k.few_consumers;
+  counted = k.counted;
+  small_limit = k.small_limit;
+  term_unit = k.term_unit;
+  overshoot = k.overshoot;
+  used = k.used;
+  passed = k.passed;
+  unset = k.unset;
+}
+
+pub kept_turned : (l : Log) (t : Tails) (n : ℕ) → IsState l t n → l.newest + 1 < 2 ^ 31 → term_of l ≤ offset_of l l.newest → IsState (turned l) (tails_turned t) n
+kept_turned l t n k last full = record {
+  log = record {
+    geometry = k.log.geometry;
+    identity = k.log.identity;
+    unit = k.log.unit;
+    below = k.log.below;
+    tiles = k.log.tiles;
+    entries = k.log.entries;
+    eight = k.log.eight;
+    shares = k.log.shares;
+    drafts = k.log.drafts;
+    begun = k.log.begun;
+    first = k.log.first;
+    last = k.log.last;
+    few = k.log.few;
+    opened = k.log.opened;
+    active = omega (arith, k.log.active);
+    newest = last;
+    three = length-set l.offsets ((l.newest + 1) % 3) 0 ∙ k.log.three;
+    shown = shown;
+    finished = finished;
+    all_armed = k.log.all_armed;
+    room = k.log.room;
+    clean = k.log.clean;
+    limit_unit = k.log.limit_unit;
+    tail_unit = k.log.tail_unit;
+    word = k.log.word;
+    consumer_units = k.log.consumer_units;
+    consumers_behind = k.log.consumers_behind;
+    readable = k.log.readable;
+  };
+  geometry = k.geometry;
+  opened = k.opened;
+  some_consumer = k.some_consumer;
+  few_consumers = k.few_consumers;
+  counted = k.counted;
+  small_limit = k.small_limit;
+  term_unit = k.term_unit;
+  overshoot = overshoot;
+  used = λ j q got. let u : (q < 3) × IsUsed l q = k.used j q got in (u.0, omega (arith, u.0, u.1, k.log.opened, k.log.active));
+  passed = k.passed;
+  unset = k.unset;
+}
+  where
+    within : (l.newest + 1) % 3 < length l.offsets
+    within = omega (arith, k.log.three)
+
+    here : slice_index (slice_set l.offsets ((l.newest + 1) % 3) 0) ((l.newest + 1) % 3) ≡ 0
+    here = index_set l.offsets ((l.newest + 1) % 3) 0 within
+
+    shown : l.tail ≡ (l.newest + 1) * term_of l + min (slice_index (slice_set l.offsets ((l.newest + 1) % 3) 0) ((l.newest + 1) % 3)) (term_of l)
+    shown = omega (arith, here, k.log.shown)
+
+    old : (m : ℕ) → (m % 3 ≡ (l.newest + 1) % 3 → ⊥) → term_of l ≤ offset_of l m → term_of l ≤ slice_index (slice_set l.offsets ((l.newest + 1) % 3) 0) (m % 3)
+    old m ne h = subst (λ y. term_of l ≤ y) (sym (index_other l.offsets (m % 3) ((l.newest + 1) % 3) 0 ne)) h
+
+    finished : (m : ℕ) → l.start / term_of l ≤ m → m < l.newest + 1 → l.newest + 1 ≤ m + 2 → term_of l ≤ slice_index (slice_set l.offsets ((l.newest + 1) % 3) 0) (m % 3)
+    finished m low less near =
+        ⊎_elim
+        (λ (before : m < l.newest). old m (λ e. omega arith) (k.log.finished m low before (omega arith)))
+        (λ (not_before : l.newest ≤ m). let same : l.newest ≡ m = omega arith in old m (λ e. omega arith) (subst (λ y. term_of l ≤ offset_of l y) same full))
+        (cases_lt m l.newest)
+
+    overshoot : (q : ℕ) → q < 3 → slice_index (slice_set l.offsets ((l.newest + 1) % 3) 0) q + greatest_claim l.identity.geometry * armed_on q l.armed ≤ term_of l + 8 * greatest_claim l.identity.geometry
+    overshoot q small =
+        ⊎_elim
+        (λ (e : q ≡ (l.newest + 1) % 3).
+        let none : slice_index (slice_set l.offsets ((l.newest + 1) % 3) 0) q ≡ 0 = ap (slice_index (slice_set l.offsets ((l.newest + 1) % 3) 0)) e ∙ here in
+        room_armed (greatest_claim l.identity.geometry) (slice_index (slice_set l.offsets ((l.newest + 1) % 3) 0) q) (term_of l) (armed_on q l.armed) (omega (arith, on_most q l.armed, k.log.all_armed)) (omega arith))
+        (λ (ne : q ≡ (l.newest + 1) % 3 → ⊥). subst (λ y. y + greatest_claim l.identity.geometry * armed_on q l.armed ≤ term_of l + 8 * greatest_claim l.identity.geometry) (sym (index_other l.offsets q ((l.newest + 1) % 3) 0 ne)) (k.overshoot q small))
+        (cases_eq q ((l.newest + 1) % 3))
+
+-- ---- stores
+
+pub kept_draft : (l : Log) (t : Tails) (n : ℕ) (c : Claimed) (d : List ℕ) → IsState l t n → IsOpen l c → length d ≡ aligned c.frame_length - 8 → 32 ≤ c.frame_length → IsState (with_draft l c d) t n
+kept_draft l t n c d k unset size long = record {
+  log = record {
+    geometry = k.log.geometry;
+    identity = k.log.identity;
+    unit = k.log.unit;
+    below = k.log.below;
+    tiles = k.log.tiles;
+    entries = k.log.entries;
+    eight = k.log.eight;
+    shares = k.log.shares;
+    drafts = length-set l.drafts (place_of l c.number) d ∙ k.log.drafts;
+    begun = k.log.begun;
+    first = k.log.first;
+    last = k.log.last;
+    few = k.log.few;
+    opened = k.log.opened;
+    active = k.log.active;
+    newest = k.log.newest;
+    three = k.log.three;
+    shown = k.log.shown;
+    finished = k.log.finished;
+    all_armed = k.log.all_armed;
+    room = k.log.room;
+    clean = k.log.clean;
+    limit_unit = k.log.limit_unit;
+    tail_unit = k.log.tail_unit;
+    word = k.log.word;
+    consumer_units = k.log.consumer_units;
+    consumers_behind = k.log.consumers_behind;
+    readable = k.log.readable;
+  };
+  geometry = k.geometry;
+  opened = k.opened;
+  some_consumer = k.some_consumer;
+  few_consumers = k.few_consumers;
+  counted = k.counted;
+  small_limit = k.small_limit;
+  term_unit = k.term_unit;
+  overshoot = k.overshoot;
+  used = k.used;
+  passed = k.passed;
+  unset = unset_draft l.entries l.drafts (place_of l c.number) (claim_of c.start c.owner c.padding c.frame_length) d k.unset unset.entry (λ cut e no. let same : c.frame_length ≡ cut = cc in subst (λ y. (32 ≤ y) × (length d ≡ aligned y - 8)) same (long, size));
+}
+
+-- an open claim's draft
+pub open_draft : (l : Log) (t : Tails) (n : ℕ) (c : Claimed) → IsState l t n → IsOpen l c → (32 ≤ c.frame_length) × (length (slice_index_or l.drafts (place_of l c.number) []) ≡ aligned c.frame_length - 8)
+open_draft l t n c k unset = unset_at l.entries l.drafts (place_of l c.number) (claim_of c.start c.owner c.padding c.frame_length) k.unset unset.entry c.frame_length refl refl
+
+pub kept_commit : (l : Log) (t : Tails) (n : ℕ) (c : Claimed) (f : Frame) → IsState l t n → IsOpen l c → HaveFrames c.padding (c.frame_length ∷ []) (f ∷ []) → IsState (with_commit l c f) t n
+kept_commit l t n c f k unset frames = record {
+  log = record {
+    geometry = k.log.geometry;
+    identity = k.log.identity;
+    unit = k.log.unit;
+    below = k.log.below;
+    tiles = tiles_set (term_of l) l.first l.tail (place_of l c.number) l.entries (claim_of c.start c.owner c.padding c.frame_length) entry unset.entry refl refl k.log.tiles;
+    entries = all_set IsEntry l.entries (place_of l c.number) entry (record { owner = was.owner; cuts = was.cuts; long = was.long; frames = frames }) k.log.entries;
+    eight = k.log.eight;
+    shares = k.log.shares;
+    drafts = length-set l.drafts (place_of l c.number) [] ∙ k.log.drafts ∙ sym (length-set l.entries (place_of l c.number) entry);
+    begun = k.log.begun;
+    first = k.log.first;
+    last = k.log.last;
+    few = subst (λ y. 32 * (l.gone + y) ≤ l.tail - l.start) (sym (length-set l.entries (place_of l c.number) entry)) k.log.few;
+    opened = k.log.opened;
+    active = k.log.active;
+    newest = k.log.newest;
+    three = k.log.three;
+    shown = k.log.shown;
+    finished = k.log.finished;
+    all_armed = k.log.all_armed;
+    room = k.log.room;
+    clean = k.log.clean;
+    limit_unit = k.log.limit_unit;
+    tail_unit = k.log.tail_unit;
+    word = k.log.word;
+    consumer_units = k.log.consumer_units;
+    consumers_behind = k.log.consumers_behind;
+    readable = k.log.readable;
+  };
+  geometry = k.geometry;
+  opened = k.opened;
+  some_consumer = k.some_consumer;
+  few_consumers = k.few_consumers;
+  counted = k.counted;
+  small_limit = k.small_limit;
+  term_unit = k.term_unit;
+  overshoot = k.overshoot;
+  used = k.used;
+  passed = all_weaker (λ q. AllByRecursion (λ e. e.start < q → is_whole e ≡ true) l.entries) (λ q. AllByRecursion (λ e. e.start < q → is_whole e ≡ true) (slice_set l.entries (place_of l c.number) entry)) (λ q h. all_set (λ e. e.start < q → is_whole e ≡ true) l.entries (place_of l c.number) entry (λ _. refl) h) l.consumers k.passed;
+  unset = unset_both l.entries l.drafts (place_of l c.number) entry [] k.unset (λ cut e no. absurd (cc));
+}
+  where
+    entry : Entry
+    entry = record { start = c.start; owner = c.owner; padding = c.padding; cuts = c.frame_length ∷ []; frames = f ∷ [] }
+
+    was : IsEntry (claim_of c.start c.owner c.padding c.frame_length)
+    was = all_get IsEntry l.entries (place_of l c.number) (claim_of c.start c.owner c.padding c.frame_length) unset.entry k.log.entries
+
+-- ---- cleaning
+
+pub kept_clean : (l m : Log) (t : Tails) (n lowest : ℕ) → IsState l t n → Cleans l (l.cleaned + 8) m → IsLeast l.consumers lowest → l.cleaned + 8 + term_of l ≤ lowest → lowest ≤ l.tail → IsState m t n
+kept_clean l m t n lowest k x least far near =
+    subst (λ y. IsState y t n) (sym x.new_is) (record {
+      log = record {
+        geometry = k.log.geometry;
+        identity = k.log.identity;
+        unit = k.log.unit;
+        below = k.log.below;
+        tiles = tiles;
+        entries = all_behind IsEntry x.past m.entries (subst (AllByRecursion IsEntry) x.parts k.log.entries);
+        eight = k.log.eight;
+        shares = k.log.shares;
+        drafts = omega (arith, length-drop (length x.past) l.drafts, size, k.log.drafts);
+        begun = omega (arith, k.log.begun);
+        first = first m.entries x.from tiles;
+        last = tiles_le (term_of l) m.first l.tail m.entries tiles;
+        few = omega (arith, k.log.few, size);
+        opened = k.log.opened;
+        active = k.log.active;
+        newest = k.log.newest;
+        three = k.log.three;
+        shown = k.log.shown;
+        finished = k.log.finished;
+        all_armed = k.log.all_armed;
+        room = k.log.room;
+        clean = cleaner l.limit (greatest_claim l.identity.geometry) l.cleaned (term_of l) k.log.clean;
+        limit_unit = k.log.limit_unit;
+        tail_unit = k.log.tail_unit;
+        word = omega (arith, k.log.word);
+        consumer_units = k.log.consumer_units;
+        consumers_behind = k.log.consumers_behind;
+        readable = all_weaker (λ q. lowest ≤ q) (λ q. l.cleaned + 8 ≤ clean_end l q) (λ q h. omega arith) l.consumers least;
+      };
+      geometry = k.geometry;
+      opened = k.opened;
+      some_consumer = k.some_consumer;
+      few_consumers = k.few_consumers;
+      counted = k.counted;
+      small_limit = k.small_limit;
+      term_unit = k.term_unit;
+      overshoot = k.overshoot;
+      used = k.used;
+      passed = all_weaker (λ q. AllByRecursion (λ e. e.start < q → is_whole e ≡ true) l.entries) (λ q. AllByRecursion (λ e. e.start < q → is_whole e ≡ true) m.entries) (λ q h. all_behind (λ e. e.start < q → is_whole e ≡ true) x.past m.entries (subst (AllByRecursion (λ e. e.start < q → is_whole e ≡ true)) x.parts h)) l.consumers k.passed;
+      unset = unset_behind x.past m.entries l.drafts (subst (λ es. AreUnset es l.drafts) x.parts k.unset);
+    })
+  where
+    tiles : Tiles (term_of l) m.first l.tail m.entries
+    tiles = tiles_split (term_of l) l.first m.first l.tail x.past m.entries (subst (Tiles (term_of l) l.first l.tail) x.parts k.log.tiles) x.tiles
+
+    size : length l.entries ≡ length x.past + length m.entries
+    size = ap length x.parts ∙ length-append x.past m.entries
+
+    first : (es : List Entry) → AllByRecursion (λ e. l.cleaned + 8 ≤ e.start) es → Tiles (term_of l) m.first l.tail es → l.cleaned + 8 ≤ m.first
+    first [] b h = omega (arith, h)
+    first (e ∷ es) b h = omega (arith, h.0, b.0)
+
+    cleaner : (limit claim cleaned term : ℕ) → limit + 8 * claim ≤ cleaned + 3 * term → limit + 8 * claim ≤ cleaned + 8 + 3 * term
+    cleaner limit claim cleaned term h = omega arith
+
+-- ---- consumers
+
+pub kept_moved : (l : Log) (t : Tails) (n : ℕ) (r : Reader) → IsState l t n → IsAt l r → r.position + 32 ≤ r.read_to → IsState (record l { consumers = slice_set l.consumers r.number r.read_to }) t n
+kept_moved l t n r k h far = record {
+  log = record {
+    geometry = k.log.geometry;
+    identity = k.log.identity;
+    unit = k.log.unit;
+    below = k.log.below;
+    tiles = k.log.tiles;
+    entries = k.log.entries;
+    eight = k.log.eight;
+    shares = k.log.shares;
+    drafts = k.log.drafts;
+    begun = k.log.begun;
+    first = k.log.first;
+    last = k.log.last;
+    few = k.log.few;
+    opened = k.log.opened;
+    active = k.log.active;
+    newest = k.log.newest;
+    three = k.log.three;
+    shown = k.log.shown;
+    finished = k.log.finished;
+    all_armed = k.log.all_armed;
+    room = k.log.room;
+    clean = k.log.clean;
+    limit_unit = k.log.limit_unit;
+    tail_unit = k.log.tail_unit;
+    word = k.log.word;
+    consumer_units = all_set (λ q. q % 32 ≡ 0) l.consumers r.number r.read_to (omega (arith, end_is.0, end_is.1, at_unit)) k.log.consumer_units;
+    consumers_behind = all_set (λ q. q ≤ l.tail) l.consumers r.number r.read_to (omega (arith, x.end, end_within (term_of l) l.first l.tail (r.index - l.gone) l.entries x.entry k.log.tiles x.here)) k.log.consumers_behind;
+    readable = all_set (λ q. l.cleaned ≤ clean_end l q) l.consumers r.number r.read_to (omega (arith, readable)) k.log.readable;
+  };
+  geometry = k.geometry;
+  opened = k.opened;
+  some_consumer = k.some_consumer;
+  few_consumers = k.few_consumers;
+  counted = length-set l.consumers r.number r.read_to ∙ k.counted;
+  small_limit = k.small_limit;
+  term_unit = k.term_unit;
+  overshoot = k.overshoot;
+  used = k.used;
+  passed = all_set (λ q. AllByRecursion (λ e. e.start < q → is_whole e ≡ true) l.entries) l.consumers r.number r.read_to (passed_front (term_of l) l.first l.tail r.read_to (suc (r.index - l.gone)) l.entries k.log.tiles (moved_behind l r k.log h x) (moved_whole l r h x)) k.passed;
+  unset = k.unset;
+}
+  where
+    x : Moves l r
+    x = moves l r h far
+
+    at_unit : r.position % 32 ≡ 0
+    at_unit = subst (λ q. q % 32 ≡ 0) h.here (all_index (λ q. q % 32 ≡ 0) l.consumers r.number h.number k.log.consumer_units)
+
+    readable : l.cleaned ≤ clean_end l r.position
+    readable = subst (λ q. l.cleaned ≤ clean_end l q) h.here (all_index (λ q. l.cleaned ≤ clean_end l q) l.consumers r.number h.number k.log.readable)
+
+    end_is : (r.read_to ≡ r.position + span x.entry.cuts) × (span x.entry.cuts % 32 ≡ 0)
+    end_is = (omega (arith, x.end, x.start), span_unit x.entry.cuts)

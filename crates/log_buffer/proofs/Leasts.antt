@@ -1,0 +1,97 @@
+-- The consumers' positions, and the least of them.
+use Rattle.std.proofs.Common.{◌≡◌, ℕ, zero, suc, ◌+◌, ◌-◌, ◌*◌, ◌/◌, ◌%◌, ◌^◌, ◌<◌, ◌≤◌, ⊎_elim, Bool, true, List, [], ◌∷◌, length, take, fold, min, max, refl, sym, ap, ◌∙◌, subst, arith}
+use Rattle.std.specs.Prelude.{slice_index}
+use Rattle.std.specs.List.{AllByRecursion}
+use Rattle.std.proofs.Math.Nat.{mul-le-mul_right}
+use Rattle.std.proofs.lemmas.Bool.{cases_lt}
+use Rattle.theory.specs.Position.{IsGeometry, max_position}
+use Rattle.theory.specs.Entry.{Entry}
+use Rattle.theory.specs.Messages.{is_whole}
+use Rattle.theory.specs.Tiling.{Tiles}
+use Rattle.raw_tails.specs.Tails.{Tails}
+use Rattle.log_buffer.specs.Limits.{least}
+use Rattle.log_buffer.specs.Log.{IsLeast, IsLog, Log, clean_end, term_of}
+use Rattle.log_buffer.specs.States.{IsState}
+use Rattle.log_buffer.proofs.Spans.{all_index}
+
+pub index_taken : (xs : List ℕ) (n i : ℕ) → i < n → slice_index (take n xs) i ≡ slice_index xs i
+index_taken xs zero i h = absurd (omega arith)
+index_taken [] (suc n) i h = refl
+index_taken (x ∷ xs) (suc n) zero h = refl
+index_taken (x ∷ xs) (suc n) (suc i) h = index_taken xs n i (omega arith)
+
+-- ---- where positions are
+
+tail_bound : (newest term rest tail : ℕ) → tail ≡ newest * term + rest → rest ≤ term → newest < 2147483648 → term ≤ 16777216 → tail ≤ 36028797018963968
+tail_bound newest term rest tail e low small most =
+    let next : newest + 1 ≤ 2147483648 = omega arith in
+    let whole : (newest + 1) * term ≤ 2147483648 * term = mul-le-mul_right term next in
+    omega arith
+
+pub tail_small : (l : Log) → IsLog l → l.tail ≤ 36028797018963968
+tail_small l k = tail_bound l.newest (term_of l) (min (slice_index l.offsets (l.newest % 3)) (term_of l)) l.tail k.shown (omega arith) k.newest k.geometry.term.greatest
+
+pub consumer_small : (l : Log) (i : ℕ) → IsLog l → i < length l.consumers → slice_index l.consumers i ≤ 36028797018963968
+consumer_small l i k h = let low : slice_index l.consumers i ≤ l.tail = all_index (λ p. p ≤ l.tail) l.consumers i h k.consumers_behind in omega (arith, tail_small l k)
+
+-- ---- the least
+
+fold_all : (P : ℕ → Type 0) → ((a b : ℕ) → P a → P b → P (min a b)) → (a : ℕ) (ps : List ℕ) → P a → AllByRecursion P ps → P (fold min a ps)
+fold_all P both a [] h all = h
+fold_all P both a (p ∷ ps) h all = fold_all P both (min a p) ps (both a p h all.0) all.1
+
+pub least_all : (P : ℕ → Type 0) → ((a b : ℕ) → P a → P b → P (min a b)) → (ps : List ℕ) → 0 < length ps → AllByRecursion P ps → P (least ps)
+least_all P both ps some all = fold_all P both (slice_index ps 0) ps (all_index P ps 0 some all) all
+
+fold_first : (a : ℕ) (ps : List ℕ) → fold min a ps ≤ a
+fold_first a [] = omega arith
+fold_first a (p ∷ ps) = omega (arith, fold_first (min a p) ps)
+
+fold_each : (a : ℕ) (ps : List ℕ) → AllByRecursion (λ p. fold min a ps ≤ p) ps
+fold_each a [] = tt
+fold_each a (p ∷ ps) = (omega (arith, fold_first (min a p) ps), fold_each (min a p) ps)
+
+pub least_lowest : (ps : List ℕ) → IsLeast ps (least ps)
+least_lowest ps = fold_each (slice_index ps 0) ps
+
+pub least_unit : (l : Log) → IsLog l → 0 < length l.consumers → least l.consumers % 32 ≡ 0
+least_unit l k some = least_all (λ p. p % 32 ≡ 0) (λ a b x y. omega arith) l.consumers some k.consumer_units
+
+pub least_behind : (l : Log) → IsLog l → 0 < length l.consumers → least l.consumers ≤ l.tail
+least_behind l k some = least_all (λ p. p ≤ l.tail) (λ a b x y. omega arith) l.consumers some k.consumers_behind
+
+pub least_readable : (l : Log) → IsLog l → 0 < length l.consumers → l.cleaned ≤ clean_end l (least l.consumers)
+least_readable l k some = least_all (λ p. l.cleaned ≤ clean_end l p) (λ a b x y. omega arith) l.consumers some k.readable
+
+-- ---- what may be cleaned below them
+
+pub record Clean (l : Log) (lowest : ℕ) : Type 0 where
+  pub far : l.cleaned + 8 + term_of l ≤ lowest
+  pub near : lowest ≤ l.tail
+  pub below : l.cleaned < l.tail
+  pub committed : (e : Entry) (es : List Entry) → l.entries ≡ e ∷ es → l.cleaned ≡ l.first → is_whole e ≡ true
+
+pub cleanable : (l : Log) (t : Tails) (n lowest : ℕ) → IsState l t n → IsLeast l.consumers lowest → l.cleaned + 8 ≤ clean_end l lowest → Clean l lowest
+cleanable l t n lowest k lows below = record {
+  far = far;
+  near = omega (arith, first_low, first_near);
+  below = omega (arith, first_low, first_near, far);
+  committed = committed;
+}
+  where
+    some : 0 < length l.consumers
+    some = omega (arith, k.counted, k.some_consumer)
+
+    far : l.cleaned + 8 + term_of l ≤ lowest
+    far = omega (arith, below, k.log.begun)
+
+    first_low : lowest ≤ slice_index l.consumers 0
+    first_low = all_index (λ p. lowest ≤ p) l.consumers 0 some lows
+
+    first_near : slice_index l.consumers 0 ≤ l.tail
+    first_near = all_index (λ p. p ≤ l.tail) l.consumers 0 some k.log.consumers_behind
+
+    committed : (e : Entry) (es : List Entry) → l.entries ≡ e ∷ es → l.cleaned ≡ l.first → is_whole e ≡ true
+    committed e es parts here =
+        let tiles = subst (Tiles (term_of l) l.first l.tail) parts k.log.tiles in
+        (subst (AllByRecursion (λ x. x.start < slice_index l.consumers 0 → is_whole x ≡ true)) parts (all_index (λ p. AllByRecursion (λ x. x.start < p → is_whole x ≡ true) l.entries) l.consumers 0 some k.passed)).0 (omega (arith, tiles.0, first_low, far))

@@ -1,0 +1,11 @@
+pub mod Adds
+pub mod Armed
+pub mod Frames
+pub mod Heads
+pub mod Ids
+pub mod Keeps
+pub mod Leasts
+pub mod Openings
+pub mod Readers
+pub mod Rotations
+pub mod Spans
