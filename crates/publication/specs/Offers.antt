@@ -59,3 +59,17 @@ after l by message other = l
 
 abbrev pub after_offer : Log → ℕ → List ℕ → Log
 after_offer l by message = after l by message (course_of l (length message))
+
+-- ---- an addition to the tail of an open term, and what follows from it
+
+abbrev pub added_course : Log → ℕ → ℕ → Course
+added_course l count bytes = if nat_le (covered bytes) (room_in l (count % 3)) then Fits else Trips
+
+abbrev pub after_course : Log → ℕ → ℕ → List ℕ → Course → Log
+after_course l by count message Fits = with_message (added l by (count % 3) (covered (length message))) by message
+after_course l by count message Trips = turned_from (with_padding (added l by (count % 3) (covered (length message))) by (room_in l (count % 3))) count
+after_course l by count message other = l
+
+abbrev pub answer_at : Log → ℕ → ℕ → Course → Result ℕ Refusal
+answer_at l count bytes Fits = Ok (l.tail + covered bytes)
+answer_at l count bytes other = Err (is_last count)

@@ -1,10 +1,11 @@
 //! The words of a frame, stored into its claim.
 
 ghost use Rattle.std.specs.Prelude.{◌≡◌, ◌+◌, ◌-◌, ◌++◌, ◌≤◌, true, false, length, replicate, drop};
-ghost use Rattle.theory.specs.Position.{aligned};
+ghost use Rattle.theory.specs.Position.{aligned, max_position};
+ghost use Rattle.theory.specs.Bytes.{IsIdentity};
 ghost use Rattle.theory.specs.Placed.{Data, Pad};
 ghost use Rattle.term_buffer.specs.Kept.{header_rest, rest_of};
-ghost use Rattle.log_buffer.specs.Log.{IsOpen, draft_of, with_commit, with_draft};
+ghost use Rattle.log_buffer.specs.Log.{IsLog, IsOpen, draft_of, with_commit, with_draft};
 ghost use Rattle.log_buffer.specs.Reader.{IsAt, Reader};
 
 use crate::words::{pair_word, payload_word};
@@ -14,6 +15,9 @@ use log_buffer::{Claimed, LogState};
 fn store_header(log: &mut LogState, claimed: Claimed)
     requires unset { IsOpen log.old claimed }
     requires long { 32 ≤ claimed.frame_length }
+    requires in_stream { claimed.start ≤ max_position log.old.identity.geometry }
+    requires drafts { length log.old.drafts ≡ length log.old.entries }
+    requires identity { IsIdentity log.old.identity }
     ensures stored { log.new ≡ with_draft log.old claimed (header_rest log.old.identity claimed.start ++ drop 24 (draft_of log.old claimed)) }
     ensures readers { (r : Reader) → IsAt log.old r → IsAt log.new r }
 {
@@ -45,6 +49,8 @@ fn store_payload(log: &mut LogState, claimed: Claimed, payload: &[u8])
 pub(crate) fn write_message(log: &mut LogState, claimed: Claimed, message: &[u8])
     requires unset { IsOpen log.old claimed }
     requires message { claimed.padding ≡ false }
+    requires in_stream { claimed.start ≤ max_position log.old.identity.geometry }
+    requires legal { IsLog log.old }
     requires whole { 32 + length message.now ≡ claimed.frame_length }
     requires blank { draft_of log.old claimed ≡ replicate (aligned claimed.frame_length - 8) 0 }
     ensures committed { log.new ≡ with_commit log.old claimed (Data 192 message.now) }
@@ -59,6 +65,8 @@ pub(crate) fn write_message(log: &mut LogState, claimed: Claimed, message: &[u8]
 pub(crate) fn write_padding(log: &mut LogState, claimed: Claimed)
     requires unset { IsOpen log.old claimed }
     requires padding { claimed.padding ≡ true }
+    requires in_stream { claimed.start ≤ max_position log.old.identity.geometry }
+    requires legal { IsLog log.old }
     requires long { 32 ≤ claimed.frame_length }
     requires blank { draft_of log.old claimed ≡ replicate (aligned claimed.frame_length - 8) 0 }
     ensures committed { log.new ≡ with_commit log.old claimed (Pad claimed.frame_length) }

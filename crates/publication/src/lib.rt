@@ -4,6 +4,7 @@
 #![tactic(auto)]
 
 mod frame;
+mod looking;
 mod offers;
 mod refusal;
 mod words;

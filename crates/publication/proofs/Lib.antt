@@ -1,0 +1,6 @@
+pub mod Courses
+pub mod Fills
+pub mod Frames
+pub mod Justified
+pub mod PaddedWords
+pub mod StoredWords

@@ -1,0 +1,19 @@
+use Rattle.std.proofs.Common.{◌<◌, length, arith, sym, ◌∙◌}
+use Rattle.std.proofs.lemmas.Option.{slice_get_within}
+use Rattle.theory.specs.Placed.{Data, Pad}
+use Rattle.log_buffer.specs.Log.{place_of}
+use Rattle.publication.proofs.Frames.{frame_committed, frame_written, padding_filled, padding_rest}
+use Rattle.publication.proofs.frame.write_padding.Goals as goal
+
+pub commit-requires-clause-written : goal.commit-requires-clause-written
+commit-requires-clause-written c =
+    let within : place_of c.args.log.now c.args.claimed.number < length c.args.log.now.drafts = omega (arith, slice_get_within c.args.log.now.entries (place_of c.args.log.now c.args.claimed.number) _ c.requires.unset.entry, c.requires.legal.drafts) in
+    frame_written c.args.log.now c.store_header.new.log c.args.claimed (Pad c.args.claimed.frame_length) within (padding_rest c.args.log.now c.args.claimed c.requires.padding) (padding_filled c.args.log.now c.store_header.new.log c.args.claimed within c.requires.blank c.store_header.ensures.stored)
+
+pub returns-clause-committed : goal.returns-clause-committed
+returns-clause-committed c =
+    let within : place_of c.args.log.now c.args.claimed.number < length c.args.log.now.drafts = omega (arith, slice_get_within c.args.log.now.entries (place_of c.args.log.now c.args.claimed.number) _ c.requires.unset.entry, c.requires.legal.drafts) in
+    frame_committed c.args.log.now c.store_header.new.log c.commit.new.self c.args.claimed (Pad c.args.claimed.frame_length) within (padding_rest c.args.log.now c.args.claimed c.requires.padding) (padding_filled c.args.log.now c.store_header.new.log c.args.claimed within c.requires.blank c.store_header.ensures.stored) c.commit.ensures.committed
+
+pub returns-clause-readers : goal.returns-clause-readers
+returns-clause-readers c = λ r h. c.commit.ensures.readers r (c.store_header.ensures.readers r h)
