@@ -149,6 +149,13 @@ same_limited l a b p q xs ys e f g =
     ∙ ap (λ z. record l { cleaned = b; limit = z; entries = xs }) f
     ∙ ap (λ z. record l { cleaned = b; limit = q; entries = z }) g
 
+-- the entries that it forgets are remembered
+pub limit_entries : (past : List Entry) (old new : Log) → (h : CleansAndLimits old new) → (past ++ h.cleans.past) ++ new.entries ≡ past ++ old.entries
+limit_entries past old new h =
+    append_assoc past h.cleans.past new.entries
+    ∙ ap (λ (es : List Entry). past ++ (h.cleans.past ++ es)) (ap (λ (m : Log). m.entries) h.limits)
+    ∙ ap (λ (es : List Entry). past ++ es) (sym h.cleans.parts)
+
 -- a log of which the sender is the one consumer, after its keeper's call
 pub limits : (s : Scene) (new : Log) → IsLog s.log → s.log.consumers ≡ s.sender.at ∷ [] → (h : CleansAndLimits s.log new) → Goes (world_of s) (record (world_of s) { log = stream_of (s.past ++ h.cleans.past) new })
 limits s new legal one h =
@@ -166,7 +173,8 @@ limits s new legal one h =
     let raise : raised s.log ≡ raised_in cleaned may = ap (λ p. cond may (max s.log.limit (p + t / 2)) s.log.limit) least_is in
     let after = record s.log { cleaned = clean_end s.log (least s.log.consumers); limit = raised s.log; gone = s.log.gone + length h.cleans.past; first = h.middle.first; entries = h.middle.entries; drafts = drop (length h.cleans.past) s.log.drafts } in
     let new_is : new ≡ after = h.limits ∙ ap (λ (m : Log). record m { limit = raised s.log }) h.cleans.new_is in
-    let entries : (s.past ++ h.cleans.past) ++ h.middle.entries ≡ s.past ++ s.log.entries = append_assoc s.past h.cleans.past h.middle.entries ∙ ap (λ (es : List Entry). s.past ++ es) (sym h.cleans.parts) in
+    let kept : new.entries ≡ h.middle.entries = ap (λ (m : Log). m.entries) h.limits in
+    let entries : (s.past ++ h.cleans.past) ++ h.middle.entries ≡ s.past ++ s.log.entries = ap (λ (es : List Entry). (s.past ++ h.cleans.past) ++ es) (sym kept) ∙ limit_entries s.past s.log new h in
     let log : stream_of (s.past ++ h.cleans.past) new ≡ record w.log { cleaned = to; limit = raised_in cleaned may } =
     ap (stream_of (s.past ++ h.cleans.past)) new_is
     ∙ same_limited w.log (clean_end s.log (least s.log.consumers)) to (raised s.log) (raised_in cleaned may) ((s.past ++ h.cleans.past) ++ h.middle.entries) (s.past ++ s.log.entries) (ap (clean_end s.log) least_is) raise entries in
