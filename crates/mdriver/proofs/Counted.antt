@@ -1,17 +1,16 @@
 -- After each line of a script, the shares of the log are those of all its entries.
-use Rattle.std.proofs.Common.{◌≡◌, ◌⊎◌, ℕ, zero, suc, ◌+◌, ◌<◌, List, [], ◌∷◌, ◌++◌, length, get_or, Bool, true, false, cond, inl, inr, ⊎_elim, refl, sym, ap, ◌∙◌, subst, arith, append_assoc}
+use Rattle.std.proofs.Common.{◌≡◌, ◌⊎◌, ℕ, zero, suc, ◌+◌, ◌<◌, List, [], ◌∷◌, ◌++◌, length, true, false, cond, inl, inr, ⊎_elim, refl, sym, ap, ◌∙◌, subst, arith, append_assoc}
 use Rattle.std.specs.Prelude.{◌%◌, ◌==◌, replicate, slice_index, slice_set}
 use Rattle.std.proofs.lemmas.Bool.{cases_Bool, eqb-true, eqb-false}
 use Rattle.theory.specs.Entry.{Entry, length_of}
-use Rattle.theory.specs.Position.{aligned}
 use Rattle.theory.specs.Tiling.{share_of}
 use Rattle.theory.proofs.Tiling.{share-cons}
 use Rattle.term_buffer.specs.Kept.{padded, published, with_share}
-use Rattle.log_buffer.specs.Log.{Log, added, room_in, with_message, with_padding}
+use Rattle.log_buffer.specs.Log.{Log, added, room_in, with_padding}
 use Rattle.publication.specs.Offers.{Course, IsClosed, IsStale, IsUsedUp, IsLimited, Fits, Trips, after, answer, course_of, covered, turned_from}
 use Rattle.script.specs.Meaning as orders
 use Rattle.script.specs.Meaning.{Order}
-use Rattle.mdriver.specs.Answers.{Answers, IsMissing, IsTooLong, Limits, OffersMessage, Offered, Replied, SenderHears, with_log}
+use Rattle.mdriver.specs.Answers.{Answers, IsTooLong, Limits, OffersMessage, Offered, SenderHears, with_log}
 use Rattle.mdriver.specs.Cycling.{AsksSetup, News, Says, TellsNothing, Unreadable}
 use Rattle.mdriver.specs.Plays.{AlwaysCounted, AnswersAll, identity_of}
 use Rattle.mdriver.specs.Prints.{Print}

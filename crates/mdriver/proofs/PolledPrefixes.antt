@@ -19,7 +19,7 @@ use Rattle.mdriver.specs.Receiving.{Opened, Receiver}
 use Rattle.mdriver.specs.Scene.{Scene, entries_of, image_of, listening_at, opened_scene, world_of}
 use Rattle.mdriver.proofs.ReceiverRuns.{FollowsImage, IsFollowed}
 use Rattle.mdriver.proofs.Runs.{map_get, stays}
-use Rattle.mdriver.proofs.Sound.{Begins, IsQuiet, IsSound, Laws, and_line, opened}
+use Rattle.mdriver.proofs.Sound.{Begins, IsSound, Laws, and_line, opened}
 use Rattle.mdriver.proofs.SoundLines.{close_line, connect_line, limit_line, offer_line, reply_line, send_line}
 use Rattle.mdriver.proofs.SoundReceivers.{deliver_line, image_line, poll_line, tick_line}
 
