@@ -164,8 +164,8 @@ fits_one past l by m h who short bytes e =
       within = tail_below l n true h k;
       below = k.below;
       entry = same_entry l.tail by (not (nat_le (span cuts) (room (stream_of past l)))) false (cond (nat_le (span cuts) (room (stream_of past l))) cuts (room (stream_of past l) ∷ [])) ((32 + n) ∷ [])
-      (not_from_true (nat_le (span cuts) (room (stream_of past l))) t)
-      (cond-true (nat_le (span cuts) (room (stream_of past l))) cuts (room (stream_of past l) ∷ []) t ∙ cuts_one l.identity.geometry n short ∙ ap (λ x. x ∷ []) (omega arith));
+          (not_from_true (nat_le (span cuts) (room (stream_of past l))) t)
+          (cond-true (nat_le (span cuts) (room (stream_of past l))) cuts (room (stream_of past l) ∷ []) t ∙ cuts_one l.identity.geometry n short ∙ ap (λ x. x ∷ []) (omega arith));
       frames = ((refl, refl), tt);
       bytes = bytes;
     }
@@ -183,8 +183,8 @@ trips_one past l by m h who short e =
       within = tail_below l n false h k;
       below = k.below;
       entry = same_entry l.tail by (not (nat_le (span cuts) (room (stream_of past l)))) true (cond (nat_le (span cuts) (room (stream_of past l))) cuts (room (stream_of past l) ∷ [])) (room_in l (l.active % 3) ∷ [])
-      (ap not t)
-      (cond-false (nat_le (span cuts) (room (stream_of past l))) cuts (room (stream_of past l) ∷ []) t ∙ ap (λ x. x ∷ []) (room_is past l n false k));
+          (ap not t)
+          (cond-false (nat_le (span cuts) (room (stream_of past l))) cuts (room (stream_of past l) ∷ []) t ∙ ap (λ x. x ∷ []) (room_is past l n false k));
       frames = refl;
       bytes = tt;
     }
@@ -244,7 +244,7 @@ claims past l by size padding cut f h others =
       h.short,
       h.within,
       same_claim (stream_of past l) (disarmed l by) (slice_set (armed_by l by) by false) (all ++ claim_of l.tail by padding cut ∷ []) (all ++ entry_for armed by size ∷ []) (l.tail + aligned cut) (entry_end (entry_for armed by size))
-      (sym (disarms l by)) (ap (λ e. all ++ e ∷ []) (sym h.entry)) ends,
+          (sym (disarms l by)) (ap (λ e. all ++ e ∷ []) (sym h.entry)) ends,
     )
 
 committed_is : (tail by : ℕ) (padding : Bool) (cut : ℕ) (f : Frame) → with_frame tail f (claim_of tail by padding cut) ≡ filled tail by padding cut f
