@@ -1,9 +1,8 @@
 -- After each line of a script, what was polled is what was published.
-use Rattle.std.proofs.Common.{◌≡◌, ◌⊎◌, ℕ, zero, suc, ◌<◌, List, [], ◌∷◌, ◌++◌, map, Option, None, Some, inl, inr, refl, sym, ap, ◌∙◌, subst, arith, append-nil, append_assoc}
-use Rattle.std.specs.Prelude.{slice_get}
+use Rattle.std.proofs.Common.{◌≡◌, ◌⊎◌, ℕ, zero, suc, ◌<◌, List, [], ◌∷◌, ◌++◌, map, length, true, false, Option, None, Some, inl, inr, refl, sym, ap, ◌∙◌, subst, arith, append-nil, append_assoc}
+use Rattle.std.specs.Prelude.{replicate, slice_get}
 use Rattle.std.specs.List.{AllByRecursion}
 use Rattle.std.specs.Option.{option_map}
-use Rattle.std.proofs.Math.Nat.{lt-div-mul-add}
 use Rattle.theory.specs.Bytes.{Identity}
 use Rattle.theory.specs.Consumer.{Consumer, least_of}
 use Rattle.theory.specs.Headline.{HasPolled}
@@ -17,17 +16,20 @@ use Rattle.mdriver.specs.Polling.{TellsOf}
 use Rattle.mdriver.specs.Prints.{Print, Positions}
 use Rattle.mdriver.specs.Published.{AllWhole, LastTold, Played, PolledNothing, PolledPrefix, PolledTo, joins, polled}
 use Rattle.mdriver.specs.Receiving.{Opened, Receiver}
-use Rattle.mdriver.specs.Scene.{Scene, image_of, listening_at, opened_scene, world_of}
+use Rattle.mdriver.specs.Scene.{Scene, entries_of, image_of, listening_at, opened_scene, world_of}
 use Rattle.mdriver.proofs.ReceiverRuns.{FollowsImage, IsFollowed}
 use Rattle.mdriver.proofs.Runs.{map_get, stays}
 use Rattle.mdriver.proofs.Sound.{Begins, IsSound, Laws, and_line, opened}
-use Rattle.mdriver.proofs.SoundLines.{connect_line, limit_line, offer_line, reply_line, send_line}
+use Rattle.mdriver.proofs.SoundLines.{close_line, connect_line, limit_line, offer_line, reply_line, send_line}
 use Rattle.mdriver.proofs.SoundReceivers.{deliver_line, image_line, poll_line, tick_line}
 
 line : Laws → (i : Identity) (start : ℕ) (played : List Played) (order : Order) (lines : List Print) (s t : Scene) → Begins i start → IsSound i start played s → Answers s order lines t → IsSound i start (and_line played order lines) t
-line laws i start played orders.Connect lines s t b h m = subst (λ x. IsSound i start (and_line played orders.Connect lines) x) (sym m.1) (connect_line i start played lines s h)
-line laws i start played orders.Limit lines s t b h m = subst (λ x. IsSound i start (and_line played orders.Limit lines) x) (sym m.1) (limit_line laws i start played lines s b h)
-line laws i start played (orders.Offer by message) lines s t b h m = offer_line laws i start played s t by message lines b h m
+line laws i start played orders.Connect lines s t b h m = subst (λ x. IsSound i start (and_line played orders.Connect lines) x) (sym m.1) (connect_line i start played orders.Connect lines s true (record { joins = λ k. refl; polls = λ k. refl }) refl h)
+line laws i start played orders.Disconnect lines s t b h m = subst (λ x. IsSound i start (and_line played orders.Disconnect lines) x) (sym m.1) (connect_line i start played orders.Disconnect lines s false (record { joins = λ k. refl; polls = λ k. refl }) refl h)
+line laws i start played orders.Close lines s t b h m = subst (λ x. IsSound i start (and_line played orders.Close lines) x) (sym m.1) (close_line i start played lines s h)
+line laws i start played orders.Limit lines s t b h m = limit_line i start played lines s t h m
+line laws i start played (orders.Offer by message) lines s t b h m = offer_line laws i start played s t by (length message) message (orders.Offer by message) lines b (record { joins = λ k. refl; polls = λ k. refl }) refl h m
+line laws i start played (orders.OfferSize by size) lines s t b h m = offer_line laws i start played s t by size (replicate size 97) (orders.OfferSize by size) lines b (record { joins = λ k. refl; polls = λ k. refl }) refl h m
 line laws i start played (orders.Send now) lines s t b h m = send_line laws i start played s t now lines b h m
 line laws i start played (orders.Deliver k n now) lines s t b h m = deliver_line laws i start played k n now lines s t h m
 line laws i start played (orders.Tick n now) lines s t b h m = tick_line i start played n now lines s t h m
@@ -59,7 +61,6 @@ begins i start b = record {
   runs = stays (world_of (opened_scene i start)) (world_of (opened_scene i start)) refl;
   identity = refl;
   start_is = refl;
-  low = omega (arith, lt-div-mul-add {a = start} {b = i.geometry.term_length} (omega (arith, b.geometry.term.least)));
   one = refl;
   unit = b.unit;
   sending = record { legal = b.geometry; sent = tt; setups = tt };
@@ -71,12 +72,12 @@ begins i start b = record {
 
 -- ---- what was polled
 
-has_polled : Laws → (i : Identity) (start : ℕ) (played : List Played) (s : Scene) (k : ℕ) (r : Receiver) (o : Opened) (c : Consumer) → Begins i start → IsSound i start played s → slice_get s.receivers k ≡ Some r → r.image ≡ Some o → o.image.consumers ≡ c ∷ [] → HasPolled s.log.entries c
+has_polled : Laws → (i : Identity) (start : ℕ) (played : List Played) (s : Scene) (k : ℕ) (r : Receiver) (o : Opened) (c : Consumer) → Begins i start → IsSound i start played s → slice_get s.receivers k ≡ Some r → r.image ≡ Some o → o.image.consumers ≡ c ∷ [] → HasPolled (entries_of s) c
 has_polled laws i start played s k r o c b h there was one =
     let law = laws.prefixes (world_of (opened_scene i start)) (world_of s) h.runs.0 (opened i start b) h.runs.1 in
     let found : slice_get (world_of s).images k ≡ Some (Some o.image) = map_get image_of s.receivers k r there ∙ ap Some (ap (option_map (λ x. x.image)) was) in
-    let all = each_get (λ x. AllByRecursion (λ c. HasPolled s.log.entries c × (c.join ≡ x.join)) x.consumers) (world_of s).images k o.image found law.1 in
-    (subst (λ cs. AllByRecursion (λ c. HasPolled s.log.entries c × (c.join ≡ o.image.join)) cs) one all).0.0
+    let all = each_get (λ x. AllByRecursion (λ c. HasPolled (entries_of s) c × (c.join ≡ x.join)) x.consumers) (world_of s).images k o.image found law.1 in
+    (subst (λ cs. AllByRecursion (λ c. HasPolled (entries_of s) c × (c.join ≡ o.image.join)) cs) one all).0.0
 
 answers_split : (a b : Scene) (xs ys : List Played) → AnswersAll a (xs ++ ys) b → (m : Scene) × AnswersAll a xs m × AnswersAll m ys b
 answers_split a b [] ys h = (a, refl, h)
@@ -114,7 +115,7 @@ polled_to laws i start played last k r o b h all there was f whole =
       c.join,
       c.at,
       f.joined,
-      sym heard.1 ∙ law.given ∙ ap (λ q. messages c.join q last.log.entries) to ∙ h.messages_are c.join c.at,
+      sym heard.1 ∙ law.given ∙ ap (λ q. messages c.join q (entries_of last)) to ∙ h.messages_are c.join c.at,
       λ least told. last_told i start played last k r o c least all there was f.one told,
     )
 

@@ -3,25 +3,27 @@ use Rattle.std.proofs.Common.{◌≡◌, ◌∙◌, ℕ, ◌<◌, get_or, inl, i
 use Rattle.std.proofs.lemmas.List.{map-append}
 use Rattle.std.proofs.lemmas.Grind.{flat_map-append}
 use Rattle.std.specs.List.{flat_map}
-use Rattle.std.specs.Prelude.{◌%◌, suc, sum}
+use Rattle.std.specs.Prelude.{◌%◌, slice_index, suc, sum}
 use Rattle.std.proofs.Math.Seq.{take-suc}
 use Rattle.theory.specs.Bytes.{Identity, IsIdentity}
 use Rattle.theory.specs.Position.{Geometry, IsGeometry, max_position}
+use Rattle.theory.specs.Tiling.{share_of}
 use Rattle.log_buffer.specs.declared.fault.LogError.TheVariants.{Start}
 use Rattle.log_buffer.specs.Books as books
 use Rattle.log_buffer.specs.Log.{Log}
 use Rattle.log_buffer.specs.declared.book.Book.{Book}
-use Rattle.script.specs.Meaning.{Order, Told, order, orders}
+use Rattle.script.specs.Meaning.{Opening, Order, Told, order, orders}
 use Rattle.script.specs.declared.command.Command.{Command}
 use Rattle.mdriver.specs.Answers.{Answers}
 use Rattle.mdriver.specs.Plays.{AlwaysPolled, AnswersAll, IsStart, Plays, PlaysOn, ShowsBook, geometry_of, identity_of}
 use Rattle.mdriver.specs.Prints.{Open, Print, Shares, print_of, prints}
 use Rattle.mdriver.specs.Published.{Played}
-use Rattle.mdriver.specs.Scene.{Scene, opened_scene}
+use Rattle.mdriver.specs.Scene.{Scene, entries_of, opened_scene}
 use Rattle.mdriver.specs.Staged.{Answered, Continued, Continues, ContinuesOpen, IsAnswered, RunsTo, ShowsScene}
 use Rattle.mdriver.specs.declared.line.Line.{Line}
 use Rattle.mdriver.specs.declared.line.Line.TheVariants as lines
 use Rattle.mdriver.specs.declared.stage.Stage.{Stage}
+use Rattle.mdriver.proofs.Counted.{always_counted}
 
 answers_snoc : (old mid new : Scene) (ps : List Played) (p : Played) → AnswersAll old ps mid → Answers mid p.order p.lines new → AnswersAll old (ps ++ p ∷ []) new
 answers_snoc old mid new [] p h k = (new, subst (λ (s : Scene). Answers s p.order p.lines new) h k, refl)
@@ -61,13 +63,17 @@ behind_open old new os before there after e h s shows =
 
 -- ---- the book
 
-shows_book : (l : Log) (b : Book) → length b.shares ≡ 8 → books.ShowsBook l b → ShowsBook l (Shares b.start b.tail b.shares)
-shows_book l b eight h = record {
+-- a log that is opened so
+abbrev opening_of : Identity → ℕ → Opening
+opening_of i start = record { term_length = i.geometry.term_length; mtu = i.geometry.mtu; initial_term_id = i.geometry.initial_term_id; start = start; session = i.session; stream = i.stream; readers = 0 }
+
+shows_book : (s : Scene) (b : Book) → length b.shares ≡ 8 → ((k : ℕ) → k < 8 → slice_index s.log.shares k ≡ share_of k (entries_of s)) → books.ShowsBook s.log b → ShowsBook s (Shares b.start b.tail b.shares)
+shows_book s b eight counted h = record {
   shares = b.shares;
   eight = eight;
-  each = h.shares;
+  each = λ k low. ap (λ (xs : List ℕ). slice_index xs k) h.shares ∙ counted k low;
   whole = ap (λ (n : ℕ). n + sum b.shares) (sym h.start) ∙ h.whole ∙ h.tail;
-  shown = ap (λ (n : ℕ). Shares n b.tail b.shares) h.start ∙ ap (λ (n : ℕ). Shares l.start n b.shares) h.tail;
+  shown = ap (λ (n : ℕ). Shares n b.tail b.shares) h.start ∙ ap (λ (n : ℕ). Shares s.log.start n b.shares) h.tail;
 }
 
 all_printed : (before played book : List Print) → ((before ++ Open ∷ []) ++ played) ++ book ≡ before ++ Open ∷ (played ++ book)
@@ -82,7 +88,7 @@ runs_to old new i start os before there after b eight shows h book e =
       of_orders = k.of_orders;
       answered = k.answered;
       book = Shares b.start b.tail b.shares;
-      shown = subst (λ (l : Log). ShowsBook l (Shares b.start b.tail b.shares)) (sym k.shows.log) (shows_book new.log b eight book);
+      shown = shows_book k.scene b eight (always_counted (opening_of i start) k.played k.scene k.answered) (subst (λ (l : Log). books.ShowsBook l b) (sym k.shows.log) book);
       printed =
           ap prints e
           ∙ map-append print_of there (lines.Book b ∷ [])

@@ -1,23 +1,24 @@
 -- What is sent: nothing, or the frame that was read.
-use Rattle.std.proofs.Common.{◌≡◌, ◌∙◌, ℕ, ◌+◌, ◌-◌, ◌<◌, ◌≤◌, List, [], ◌∷◌, length, take, drop, sym, ap, subst, refl, inl, inr, arith, append-nil}
+use Rattle.std.proofs.Common.{◌≡◌, ◌∙◌, ℕ, ◌+◌, ◌-◌, ◌<◌, ◌≤◌, List, [], ◌∷◌, ◌++◌, length, take, drop, sym, ap, subst, refl, inl, inr, arith, append-nil}
 use Rattle.std.proofs.Math.Seq.{take-append_seam}
 use Rattle.std.specs.Prelude.{ℤ, None, Some, slice_set, true}
 use Rattle.std.specs.List.{AllByRecursion}
 use Rattle.theory.specs.Position.{Geometry, aligned}
-use Rattle.theory.specs.Placed.{Among, Data, Frame, Placed, covered, end_of, frame_length, place_all}
+use Rattle.theory.specs.Placed.{Among, Data, Frame, Pad, Placed, covered, end_of, frame_length, payload_of, place_all}
 use Rattle.theory.specs.Entry.{Entry, IsEntry, committed}
 use Rattle.theory.specs.Wire.{Wire, spelling}
 use Rattle.theory.specs.Bytes.{Identity, wire_at}
 use Rattle.theory.specs.Control.{setup_at}
-use Rattle.theory.specs.Datagrams.{MayBeSent}
+use Rattle.theory.specs.Datagrams.{MayBeSent, sent_end}
 use Rattle.theory.proofs.Lists.{all_append}
 use Rattle.theory.proofs.Frames.{AreCut, InOrder, are_cut, committed_in_order, in_order_from}
 use Rattle.position.specs.declared.head.FrameHead.{FrameHead}
+use Rattle.term_buffer.specs.Heads.{head_of}
 use Rattle.log_buffer.specs.Log.{IsLog, Log, term_of}
 use Rattle.log_buffer.specs.Reader.{Reader, Reads}
 use Rattle.mdriver.specs.Cycling.{setups}
 use Rattle.mdriver.specs.Outgoing.{Outgoing, with_datagram}
-use Rattle.mdriver.specs.Sending.{SendsNext, with_wires}
+use Rattle.mdriver.specs.Sending.{SendsNext, frame_in, with_wires}
 
 -- ---- one frame stands at a position
 
@@ -46,7 +47,7 @@ one_there low (u ∷ us) s t h k (inr a) (inl y) e = let later : end_of u ≤ s.
 one_there low (u ∷ us) s t h k (inr a) (inr b) e = one_there (end_of u) us s t h.1 k.1 a b e
 
 only_one : (l : Log) (s t : Placed) → IsLog l → Among s (committed l.entries) → Among t (committed l.entries) → s.at ≡ t.at → s ≡ t
-only_one l s t is a b e = one_there l.start (committed l.entries) s t (committed_in_order (term_of l) l.start l.tail l.entries is.tiles is.entries) (long_committed l.entries is.entries) a b e
+only_one l s t is a b e = one_there l.first (committed l.entries) s t (committed_in_order (term_of l) l.first l.tail l.entries is.tiles is.entries) (long_committed l.entries is.entries) a b e
 
 -- ---- the outbox
 
@@ -60,10 +61,23 @@ setup_given o p v i j a b e f same there = given o p v (setup_at j b) e (f ∙ a
 
 -- the frame that was read
 abbrev read_frame : {l : Log} {r : Reader} {head : FrameHead} {old new : List ℕ} → Reads l r head old new → Placed
-read_frame {r = r} h = record { at = r.position; frame = Data 192 h.payload }
+read_frame {r = r} h = record { at = r.position; frame = h.frame }
 
-ends : (l : Log) (r : Reader) (head : FrameHead) (old new : List ℕ) (h : Reads l r head old new) → head.start + aligned head.frame_length ≡ end_of (record { at = r.position; frame = Data 192 h.payload })
-ends l r head old new h = ap (λ (x : FrameHead). x.start + aligned x.frame_length) h.shown
+length_in : (start : ℕ) (f : Frame) → (head_of start f).frame_length ≡ frame_length f
+length_in start (Data flags payload) = refl
+length_in start (Pad n) = refl
+
+start_in : (start : ℕ) (f : Frame) → (head_of start f).start ≡ start
+start_in start (Data flags payload) = refl
+start_in start (Pad n) = refl
+
+starts : (l : Log) (r : Reader) (head : FrameHead) (old new : List ℕ) (h : Reads l r head old new) → head.start ≡ r.position
+starts l r head old new h = ap (λ (x : FrameHead). x.start) h.shown ∙ start_in r.position h.frame
+
+ends : (l : Log) (r : Reader) (head : FrameHead) (old new : List ℕ) (h : Reads l r head old new) → head.start + aligned head.frame_length ≡ end_of (read_frame h)
+ends l r head old new h =
+    ap (λ (n : ℕ). n + aligned head.frame_length) (starts l r head old new h)
+    ∙ ap (λ (n : ℕ). r.position + aligned n) (ap (λ (x : FrameHead). x.frame_length) h.shown ∙ length_in r.position h.frame)
 
 pub sends_nothing : (l : Log) (r q : Reader) (o : Outgoing) (limit : ℕ) → q ≡ r → ((s : Placed) → Among s (committed l.entries) → s.at ≡ r.position → ⊥) → SendsNext l r o limit l q o
 sends_nothing l r q o limit e none = record {
@@ -73,10 +87,14 @@ sends_nothing l r q o limit e none = record {
   behind = (refl, (r.read_to, e));
 }
 
-pub held_back : (l : Log) (r q : Reader) (o : Outgoing) (limit : ℕ) (head : FrameHead) (old new : List ℕ) → IsLog l → Reads l r head old new → limit < head.start + aligned head.frame_length → q ≡ record r { read_to = head.start + aligned head.frame_length } → SendsNext l r o limit l q o
-held_back l r q o limit head old new is h above e =
-    let here : Placed = record { at = r.position; frame = Data 192 h.payload } in
-    let end : head.start + aligned head.frame_length ≡ end_of here = ends l r head old new h in
+-- where what goes out of this head's frame ends
+abbrev IsSentTo : FrameHead → ℕ → Type 0
+IsSentTo head to = (at : ℕ) (frame : Frame) → head ≡ head_of at frame → to ≡ sent_end (record { at = at; frame = frame }) frame
+
+pub held_back : (l : Log) (r q : Reader) (o : Outgoing) (limit to : ℕ) (head : FrameHead) (old new : List ℕ) → IsLog l → Reads l r head old new → IsSentTo head to → limit < to → q ≡ record r { read_to = head.start + aligned head.frame_length } → SendsNext l r o limit l q o
+held_back l r q o limit to head old new is h sent above e =
+    let here : Placed = read_frame h in
+    let end : to ≡ sent_end here here.frame = sent r.position h.frame h.shown in
     record {
       frame = None;
       next = λ s a at may.
@@ -86,24 +104,34 @@ held_back l r q o limit head old new is h above e =
       behind = (refl, (head.start + aligned head.frame_length, e));
     }
 
-payload_read : (l : Log) (r : Reader) (head : FrameHead) (old new : List ℕ) (h : Reads l r head old new) → take (head.frame_length - 32) new ≡ h.payload
-payload_read l r head old new h =
-    let size : 32 + length h.payload - 32 ≡ length h.payload = omega arith in
-    ap (λ (x : FrameHead). take (x.frame_length - 32) new) h.shown
-    ∙ ap (λ (n : ℕ). take n new) size
-    ∙ ap (take (length h.payload)) h.copied
-    ∙ take-append_seam h.payload (drop (length h.payload) old)
+-- the head and the block's front tell the frame
+frame_again : (at : ℕ) (f : Frame) (old : List ℕ) → (head_of at f).flags ≡ 192 → frame_in (head_of at f).kind (head_of at f).frame_length (payload_of f ++ drop (length (payload_of f)) old) ≡ f
+frame_again at (Data flags payload) old e =
+    let size : 32 + length payload - 32 ≡ length payload = omega arith in
+    ap (λ (n : ℕ). Data 192 (take n (payload ++ drop (length payload) old))) size
+    ∙ ap (Data 192) (take-append_seam payload (drop (length payload) old))
+    ∙ ap (λ (n : ℕ). Data n payload) (sym e)
+frame_again at (Pad n) old e = refl
 
-pub sends_frame : (l m : Log) (r n q : Reader) (o p : Outgoing) (limit : ℕ) (head : FrameHead) (old new : List ℕ) → Reads l r head old new → head.start + aligned head.frame_length ≤ limit → n ≡ record r { read_to = head.start + aligned head.frame_length } → m ≡ record l { consumers = slice_set l.consumers n.number n.read_to } → q ≡ record n { position = n.read_to; index = n.index + 1 } → p ≡ with_datagram o (spelling (wire_at l.identity head.start (Data 192 (take (head.frame_length - 32) new)))) → SendsNext l r o limit m q p
-sends_frame l m r n q o p limit head old new h below read log moved out =
-    let here : Placed = record { at = r.position; frame = Data 192 h.payload } in
+frame_read : (l : Log) (r : Reader) (head : FrameHead) (old new : List ℕ) (h : Reads l r head old new) → head.flags ≡ 192 → frame_in head.kind head.frame_length new ≡ h.frame
+frame_read l r head old new h whole =
+    ap (λ (x : FrameHead). frame_in x.kind x.frame_length new) h.shown
+    ∙ ap (frame_in (head_of r.position h.frame).kind (head_of r.position h.frame).frame_length) h.copied
+    ∙ frame_again r.position h.frame old (ap (λ (x : FrameHead). x.flags) (sym h.shown) ∙ whole)
+
+pub sends_frame : (l m : Log) (r n q : Reader) (o p : Outgoing) (limit to : ℕ) (head : FrameHead) (old new : List ℕ) → Reads l r head old new → head.flags ≡ 192 → IsSentTo head to → to ≤ limit → n ≡ record r { read_to = head.start + aligned head.frame_length } → m ≡ record l { consumers = slice_set l.consumers n.number n.read_to } → q ≡ record n { position = n.read_to; index = n.index + 1 } → p ≡ with_datagram o (spelling (wire_at l.identity head.start (frame_in head.kind head.frame_length new))) → SendsNext l r o limit m q p
+sends_frame l m r n q o p limit to head old new h whole sent below read log moved out =
+    let here : Placed = read_frame h in
     let end : head.start + aligned head.frame_length ≡ end_of here = ends l r head old new h in
     let noted : n ≡ record r { read_to = end_of here } = read ∙ ap (λ (x : ℕ). record r { read_to = x }) end in
-    let start : head.start ≡ r.position = ap (λ (x : FrameHead). x.start) h.shown in
+    let allowed : to ≡ sent_end here here.frame = sent r.position h.frame h.shown in
     record {
       frame = Some here;
-      next = (h.among, refl, omega (arith, end, below));
-      sent = out ∙ ap (λ (x : ℕ). with_datagram o (spelling (wire_at l.identity x (Data 192 (take (head.frame_length - 32) new))))) start ∙ ap (λ (x : List ℕ). with_datagram o (spelling (wire_at l.identity r.position (Data 192 x)))) (payload_read l r head old new h);
+      next = (h.among, refl, omega (arith, allowed, below));
+      sent =
+          out
+          ∙ ap (λ (x : ℕ). with_datagram o (spelling (wire_at l.identity x (frame_in head.kind head.frame_length new)))) (starts l r head old new h)
+          ∙ ap (λ (f : Frame). with_datagram o (spelling (wire_at l.identity r.position f))) (frame_read l r head old new h whole);
       behind = (
         log ∙ ap (λ (x : Reader). record l { consumers = slice_set l.consumers x.number x.read_to }) noted,
         moved ∙ ap (λ (x : Reader). record x { position = x.read_to; index = x.index + 1 }) noted,

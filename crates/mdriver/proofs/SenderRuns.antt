@@ -1,23 +1,30 @@
--- A sender's cycle, and what it is told, as its events.
-use Rattle.std.proofs.Common.{◌≡◌, ℕ, ◌+◌, ◌*◌, ◌/◌, ◌%◌, ◌<◌, ◌≤◌, [], ◌∷◌, Bool, true, false, Option, None, Some, refl, sym, ap, ◌∙◌, subst, arith}
+-- A sender's cycle, what it is told, and its keeper's calls, as events.
+use Rattle.std.proofs.Common.{◌≡◌, ℕ, zero, suc, ◌+◌, ◌-◌, ◌*◌, ◌/◌, ◌%◌, ◌≤◌, List, [], ◌∷◌, ◌++◌, length, drop, Bool, true, false, cond, Option, None, Some, refl, sym, ap, ◌∙◌, subst, arith, append_assoc}
 use Rattle.std.specs.Prelude.{max, not, ◌&&◌}
-use Rattle.std.proofs.lemmas.Bool.{and_parts, cond-true, cond-false}
-use Rattle.theory.specs.Placed.{Placed, end_of}
-use Rattle.theory.specs.Entry.{committed}
+use Rattle.std.specs.List.{AllByRecursion}
+use Rattle.std.proofs.lemmas.Bool.{and_parts}
+use Rattle.std.proofs.lemmas.Grind.{flat_map-append}
+use Rattle.theory.specs.Placed.{Among, Placed, end_of, place_all}
+use Rattle.theory.specs.Consumer.{Consumer}
+use Rattle.theory.specs.Entry.{Entry, committed}
 use Rattle.theory.specs.FlowLimit.{flow_limit}
 use Rattle.theory.specs.Datagrams.{sent_end}
 use Rattle.theory.specs.Position.{position_of}
+use Rattle.theory.specs.Seats.{Each}
 use Rattle.theory.specs.Wire.{Status}
-use Rattle.std.proofs.Math.Nat.{div-mul-le_self}
-use Rattle.theory.specs.Log.{Raise, Connect}
+use Rattle.theory.specs.Log as stream
+use Rattle.theory.specs.Log.{Clean, Close, Connect, IsLowest, Raise}
 use Rattle.theory.specs.Sender.{Sender, SenderEvent, SenderStep, See, Send, SendSetup, HearStatus}
 use Rattle.theory.specs.World.{World, AtLog, AtSender}
-use Rattle.log_buffer.specs.Limits.{least, raised}
-use Rattle.log_buffer.specs.Log.{Log, term_end}
+use Rattle.theory.proofs.Lists.{among_right}
+use Rattle.log_buffer.specs.Limits.{least}
+use Rattle.log_buffer.specs.Log.{IsLog, Log, clean_end}
+use Rattle.rotation.specs.Limited.{CleansAndLimits, raised}
 use Rattle.mdriver.specs.Answers.{IsCycle, after_cycle, heard, limit_of, named, sent_on, with_log, woken}
 use Rattle.mdriver.specs.Cycling.{Cycle, IsNextSent}
-use Rattle.mdriver.specs.Scene.{Scene, world_of}
+use Rattle.mdriver.specs.Scene.{Scene, stream_of, world_of}
 use Rattle.mdriver.proofs.Runs.{Goes, goes_one, goes_on, stays}
+use Rattle.mdriver.proofs.Units.{whole_power}
 
 -- the world with another sender
 abbrev pub with_sender : World → Sender → World
@@ -48,9 +55,15 @@ pub names : (w : World) (due : Bool) → Goes w (with_sender w (named w.sender d
 names w true = at_sender w SendSetup (named w.sender true) refl
 names w false = stays w w refl
 
-pub sends : (w : World) (limit : ℕ) (frame : Option Placed) → limit ≡ limit_in w → IsNextSent (committed w.log.entries) w.sender.at limit frame → Goes w (with_sender w (sent_on w.sender frame))
-sends w limit None l next = stays w w refl
-sends w limit (Some s) l next = at_sender w (Send (s ∷ []) (end_of s)) (sent_on w.sender (Some s)) ((next.1, refl), (next.0, tt), (subst (λ x. sent_end s s.frame ≤ x) l next.2, tt), refl)
+committed_more : (past es : List Entry) (s : Placed) → Among s (committed es) → Among s (committed (past ++ es))
+committed_more past es s h = subst (λ xs. Among s xs) (sym (flat_map-append (λ e. place_all e.start e.frames) past es)) (among_right s (committed past) (committed es) h)
+
+-- the next of the entries that are kept
+pub sends : (w : World) (past es : List Entry) (limit : ℕ) (frame : Option Placed) → w.log.entries ≡ past ++ es → limit ≡ limit_in w → IsNextSent (committed es) w.sender.at limit frame → Goes w (with_sender w (sent_on w.sender frame))
+sends w past es limit None parts l next = stays w w refl
+sends w past es limit (Some s) parts l next =
+    let among : Among s (committed w.log.entries) = subst (λ xs. Among s (committed xs)) (sym parts) (committed_more past es s next.0) in
+    at_sender w (Send (s ∷ []) (end_of s)) (sent_on w.sender (Some s)) ((next.1, refl), (among, tt), (subst (λ x. sent_end s s.frame ≤ x) l next.2, tt), refl)
 
 -- a cycle
 pub cycles : (s : Scene) (now : ℕ) (y : Cycle) → IsCycle s now y → Goes (world_of s) (world_of (after_cycle s now y))
@@ -60,7 +73,7 @@ cycles s now y h =
     let b = with_sender w (named (woken s now) y.setup) in
     let still : (due : Bool) → (named (woken s now) due).at ≡ s.sender.at = named_at (woken s now) in
     let said : (due : Bool) → (named (woken s now) due).said ≡ s.sender.said = named_said (woken s now) in
-    goes_on w a (world_of (after_cycle s now y)) (sees w now) (goes_on a b (world_of (after_cycle s now y)) (names a y.setup) (sends b (limit_of s.log s.sender) y.frame (ap (λ x. flow_limit s.log.start x) (sym (said y.setup))) (subst (λ p. IsNextSent (committed s.log.entries) p (limit_of s.log s.sender) y.frame) (sym (still y.setup)) h.1)))
+    goes_on w a (world_of (after_cycle s now y)) (sees w now) (goes_on a b (world_of (after_cycle s now y)) (names a y.setup) (sends b s.past s.log.entries (limit_of s.log s.sender) y.frame refl (ap (λ x. flow_limit s.log.start x) (sym (said y.setup))) (subst (λ p. IsNextSent (committed s.log.entries) p (limit_of s.log s.sender) y.frame) (sym (still y.setup)) h.1)))
 
 -- a status message
 pub hears : (s : Scene) (now : ℕ) (f : Status) → Goes (world_of s) (with_sender (world_of s) (heard s now f))
@@ -77,32 +90,93 @@ asked s now =
 
 -- ---- the keeper
 
-pub connects : (s : Scene) → Goes (world_of s) (world_of (with_log s (record s.log { connected = true })))
-connects s =
+pub connects : (s : Scene) (on : Bool) → Goes (world_of s) (world_of (with_log s (record s.log { connected = on })))
+connects s on =
     let w = world_of s in
-    let l = record w.log { connected = true } in
-    goes_one w (record w { log = l }) (AtLog (Connect true)) (l, refl, refl)
+    let l = record w.log { connected = on } in
+    goes_one w (record w { log = l }) (AtLog (Connect on)) (l, refl, refl)
 
--- what holds of the sender's position
-pub record SenderHolds (l : Log) (x : Sender) : Type 0 where
-  pub one : l.consumers ≡ x.at ∷ []
-  pub unit : x.at % 32 ≡ 0
-  pub below : x.at ≤ l.tail
-
-limits_on : (s : Scene) → 0 < s.log.identity.geometry.term_length → SenderHolds s.log s.sender → s.log.tail ≤ term_end s.log → s.log.start / s.log.identity.geometry.term_length * s.log.identity.geometry.term_length ≤ s.log.start → (b : Bool) → (s.log.connected && not s.log.closed) ≡ b → Goes (world_of s) (world_of (with_log s (record s.log { limit = raised s.log })))
-limits_on s some h low base false e =
-    let kept : raised s.log ≡ s.log.limit = cond-false (s.log.connected && not s.log.closed) (max s.log.limit (least s.log.consumers + s.log.identity.geometry.term_length / 2)) s.log.limit e in
-    stays (world_of s) (world_of (with_log s (record s.log { limit = raised s.log }))) (ap (λ x. world_of (with_log s (record s.log { limit = x }))) kept)
-limits_on s some h low base true e =
+pub closes : (s : Scene) → Goes (world_of s) (world_of (with_log s (record s.log { closed = true })))
+closes s =
     let w = world_of s in
-    let p = s.sender.at in
+    let l = record w.log { closed = true } in
+    goes_one w (record w { log = l }) (AtLog Close) (l, refl, refl)
+
+-- ---- cleaning
+
+-- the world's log is cleaned up to here
+abbrev cleaned_to : World → ℕ → World
+cleaned_to w to = record w { log = record w.log { cleaned = to } }
+
+-- no reader but the sender is there
+sender_lowest : (w : World) → w.log.readers ≡ [] → IsLowest (w.sender.at ∷ []) w.log w.sender.at
+sender_lowest w none = record {
+  others_above = (omega arith, tt);
+  readers_above = subst (λ (rs : List (Option Consumer)). Each (λ r. w.sender.at ≤ r.at) rs) (sym none) tt;
+}
+
+-- word by word
+cleans_on : (n : ℕ) (w : World) (to : ℕ) → w.log.readers ≡ [] → to ≡ w.log.cleaned + 8 * n → to ≤ max w.log.start (w.sender.at - w.log.identity.geometry.term_length) → Goes w (cleaned_to w to)
+cleans_on zero w to none is low = stays w (cleaned_to w to) (ap (cleaned_to w) (omega (arith, is)))
+cleans_on (suc n) w to none is low =
+    let next = cleaned_to w (w.log.cleaned + 8) in
+    let step : Goes w next = goes_one w next (AtLog (Clean w.sender.at)) (next.log, (sender_lowest w none, omega (arith, is, low), refl), refl) in
+    goes_on w next (cleaned_to w to) step (cleans_on n next to none (omega (arith, is)) low)
+
+abbrev limited_to : World → ℕ → World
+limited_to w limit = record w { log = record w.log { limit = limit } }
+
+abbrev raised_in : World → Bool → ℕ
+raised_in w may = cond may (max w.log.limit (w.sender.at + w.log.identity.geometry.term_length / 2)) w.log.limit
+
+raises_on : (w : World) (may : Bool) → w.log.readers ≡ [] → w.sender.at % 32 ≡ 0 → max w.log.start (w.sender.at - w.log.identity.geometry.term_length) ≤ w.log.cleaned → (w.log.connected && not w.log.closed) ≡ may → Goes w (limited_to w (raised_in w may))
+raises_on w false none unit low e = stays w w refl
+raises_on w true none unit low e =
+    let flags = and_parts w.log.connected (not w.log.closed) e in
+    let l = record w.log { limit = raised_in w true } in
+    goes_one w (record w { log = l }) (AtLog (Raise w.sender.at)) (l, (unit, sender_lowest w none, low, flags.0, not_true w.log.closed flags.1, refl), refl)
+
+-- whole words are cleaned
+words : (from to : ℕ) → from ≤ to → from % 8 ≡ 0 → to % 8 ≡ 0 → to ≡ from + 8 * ((to - from) / 8)
+words from to low a b = omega (arith, low, a, b)
+
+end_words : (start at term : ℕ) → start % 32 ≡ 0 → at % 32 ≡ 0 → term % 32 ≡ 0 → max start (at - term) % 8 ≡ 0
+end_words start at term a b c = omega (arith, a, b, c)
+
+same_limited : (l : stream.Log) (a b p q : ℕ) (xs ys : List Entry) → a ≡ b → p ≡ q → xs ≡ ys → record l { cleaned = a; limit = p; entries = xs } ≡ record l { cleaned = b; limit = q; entries = ys }
+same_limited l a b p q xs ys e f g =
+    ap (λ z. record l { cleaned = z; limit = p; entries = xs }) e
+    ∙ ap (λ z. record l { cleaned = b; limit = z; entries = xs }) f
+    ∙ ap (λ z. record l { cleaned = b; limit = q; entries = z }) g
+
+-- the entries that it forgets are remembered
+pub limit_entries : (past : List Entry) (old new : Log) → (h : CleansAndLimits old new) → (past ++ h.cleans.past) ++ new.entries ≡ past ++ old.entries
+limit_entries past old new h =
+    append_assoc past h.cleans.past new.entries
+    ∙ ap (λ (es : List Entry). past ++ (h.cleans.past ++ es)) (ap (λ (m : Log). m.entries) h.limits)
+    ∙ ap (λ (es : List Entry). past ++ es) (sym h.cleans.parts)
+
+-- a log of which the sender is the one consumer, after its keeper's call
+pub limits : (s : Scene) (new : Log) → IsLog s.log → s.log.consumers ≡ s.sender.at ∷ [] → (h : CleansAndLimits s.log new) → Goes (world_of s) (record (world_of s) { log = stream_of (s.past ++ h.cleans.past) new })
+limits s new legal one h =
+    let w = world_of s in
     let t = s.log.identity.geometry.term_length in
-    let one : least s.log.consumers ≡ p = ap least h.one ∙ (omega arith) in
-    let raise : raised s.log ≡ max s.log.limit (p + t / 2) =
-    cond-true (s.log.connected && not s.log.closed) (max s.log.limit (least s.log.consumers + t / 2)) s.log.limit e ∙ ap (λ x. max s.log.limit (x + t / 2)) one in
-    let flags = and_parts s.log.connected (not s.log.closed) e in
-    let l = record w.log { limit = raised s.log } in
-    goes_one w (record w { log = l }) (AtLog (Raise p)) (l, (h.unit, record { others_above = (omega arith, tt); readers_above = tt }, omega (arith, base, low, h.below), flags.0, not_true s.log.closed flags.1, ap (λ x. record w.log { limit = x }) raise), refl)
-
-pub limits : (s : Scene) → 0 < s.log.identity.geometry.term_length → SenderHolds s.log s.sender → s.log.tail ≤ term_end s.log → Goes (world_of s) (world_of (with_log s (record s.log { limit = raised s.log })))
-limits s some h low = limits_on s some h low (div-mul-le_self s.log.start s.log.identity.geometry.term_length) (s.log.connected && not s.log.closed) refl
+    let at = s.sender.at in
+    let to = clean_end s.log at in
+    let least_is : least s.log.consumers ≡ at = ap least one ∙ (omega arith) in
+    let unit : AllByRecursion (λ p. p % 32 ≡ 0) (at ∷ []) = subst (λ (ps : List ℕ). AllByRecursion (λ p. p % 32 ≡ 0) ps) one legal.consumer_units in
+    let readable : AllByRecursion (λ p. s.log.cleaned ≤ clean_end s.log p) (at ∷ []) = subst (λ (ps : List ℕ). AllByRecursion (λ p. s.log.cleaned ≤ clean_end s.log p) ps) one legal.readable in
+    let term : t % 32 ≡ 0 = whole_power t legal.geometry.term.power (omega (arith, legal.geometry.term.least)) in
+    let is : to ≡ s.log.cleaned + 8 * ((to - s.log.cleaned) / 8) = words s.log.cleaned to readable.0 legal.word (end_words s.log.start at t legal.unit unit.0 term) in
+    let cleaned = cleaned_to w to in
+    let may = s.log.connected && not s.log.closed in
+    let raise : raised s.log ≡ raised_in cleaned may = ap (λ p. cond may (max s.log.limit (p + t / 2)) s.log.limit) least_is in
+    let after = record s.log { cleaned = clean_end s.log (least s.log.consumers); limit = raised s.log; gone = s.log.gone + length h.cleans.past; first = h.middle.first; entries = h.middle.entries; drafts = drop (length h.cleans.past) s.log.drafts } in
+    let new_is : new ≡ after = h.limits ∙ ap (λ (m : Log). record m { limit = raised s.log }) h.cleans.new_is in
+    let kept : new.entries ≡ h.middle.entries = ap (λ (m : Log). m.entries) h.limits in
+    let entries : (s.past ++ h.cleans.past) ++ h.middle.entries ≡ s.past ++ s.log.entries = ap (λ (es : List Entry). (s.past ++ h.cleans.past) ++ es) (sym kept) ∙ limit_entries s.past s.log new h in
+    let log : stream_of (s.past ++ h.cleans.past) new ≡ record w.log { cleaned = to; limit = raised_in cleaned may } =
+    ap (stream_of (s.past ++ h.cleans.past)) new_is
+    ∙ same_limited w.log (clean_end s.log (least s.log.consumers)) to (raised s.log) (raised_in cleaned may) ((s.past ++ h.cleans.past) ++ h.middle.entries) (s.past ++ s.log.entries) (ap (clean_end s.log) least_is) raise entries in
+    subst (λ l. Goes w (record w { log = l })) (sym log)
+    (goes_on w cleaned (limited_to cleaned (raised_in cleaned may)) (cleans_on ((to - s.log.cleaned) / 8) w to refl is (omega arith)) (raises_on cleaned may refl unit.0 (omega arith) refl))

@@ -13,13 +13,12 @@ use Rattle.theory.specs.Laws.{HasOneReading}
 use Rattle.theory.specs.Messages.{messages}
 use Rattle.theory.specs.World.{IsOpened}
 use Rattle.theory.proofs.Lists.{all_weaker}
-use Rattle.log_buffer.specs.Log.{Log, term_end}
 use Rattle.script.specs.Meaning.{Order}
 use Rattle.mdriver.specs.Published.{AllWhole, IsWhole, Played, between, joined_by, joins, polled, polled_by, published, published_by}
 use Rattle.mdriver.specs.Receiving.{Opened, Receiver}
-use Rattle.mdriver.specs.Scene.{Scene, image_of, opened_scene, world_of}
+use Rattle.mdriver.specs.Scene.{Scene, entries_of, image_of, opened_scene, world_of}
 use Rattle.mdriver.proofs.Honest.{AreHonest}
-use Rattle.mdriver.proofs.OfferRuns.{LogHolds, in_stream}
+use Rattle.mdriver.proofs.OfferRuns.{LogHolds, tail_in_stream}
 use Rattle.mdriver.proofs.ReceiverRuns.{At, Follows, FollowsImage, IsSending, Places}
 use Rattle.mdriver.proofs.Runs.{Goes, get_set, get_other, map_get}
 
@@ -41,12 +40,11 @@ pub record IsSound (i : Identity) (start : ℕ) (played : List Played) (s : Scen
   pub runs : Goes (world_of (opened_scene i start)) (world_of s)
   pub identity : s.log.identity ≡ i
   pub start_is : s.log.start ≡ start
-  pub low : s.log.tail ≤ term_end s.log
   pub one : s.log.consumers ≡ s.sender.at ∷ []
   pub unit : s.sender.at % 32 ≡ 0
   pub sending : IsSending s
   pub honest : AreHonest i s.sender s.packets
-  pub messages_are : (j q : ℕ) → messages j q s.log.entries ≡ between j q (published played)
+  pub messages_are : (j q : ℕ) → messages j q (entries_of s) ≡ between j q (published played)
   pub eight : length s.receivers ≡ 8
   pub receivers : (k : ℕ) → k < 8 → HasFollowed i played s k
 
@@ -77,7 +75,7 @@ opened i start b = record {
 
 -- ---- what the laws say of a sound scene
 
-pub holds : Laws → (i : Identity) (start : ℕ) (played : List Played) (s : Scene) → Begins i start → IsSound i start played s → LogHolds s.log
+pub holds : Laws → (i : Identity) (start : ℕ) (played : List Played) (s : Scene) → Begins i start → IsSound i start played s → LogHolds s.past s.log
 holds laws i start played s b h =
     let tiled = laws.tiles (world_of (opened_scene i start)) (world_of s) h.runs.0 (opened i start b) h.runs.1 in
     let entries = laws.entries (world_of (opened_scene i start)) (world_of s) h.runs.0 (opened i start b) h.runs.1 in
@@ -85,7 +83,8 @@ holds laws i start played s b h =
       geometry = h.sending.legal;
       start = subst (λ x. s.log.start < max_position x.geometry) (sym h.identity) (subst (λ p. p < max_position i.geometry) (sym h.start_is) b.below);
       tiles = tiled.0;
-      entries = all_weaker (IsPublished s.log.identity.geometry) IsEntry (λ e x. x.entry) s.log.entries entries;
+      entries = all_weaker (IsPublished s.log.identity.geometry) IsEntry (λ e x. x.entry) (entries_of s) entries;
+      published = entries;
     }
 
 -- wherever the world goes to
@@ -94,8 +93,12 @@ sender_below laws i start s b runs =
     let bounded = laws.bounds (world_of (opened_scene i start)) (world_of s) runs.0 (opened i start b) runs.1 in
     omega (arith, bounded.0.2, bounded.0.3.0)
 
-pub end_in_stream : (l : Log) → LogHolds l → term_end l ≤ max_position l.identity.geometry
-end_in_stream l h = in_stream l.identity.geometry.term_length l.start (omega (arith, h.geometry.term.least)) h.start
+pub tail_low : Laws → (i : Identity) (start : ℕ) (played : List Played) (s : Scene) → Begins i start → IsSound i start played s → s.log.tail ≤ max_position i.geometry
+tail_low laws i start played s b h =
+    let k = holds laws i start played s b h in
+    let low : s.log.tail ≤ max_position s.log.identity.geometry = tail_in_stream s.log.identity.geometry s.log.start s.log.tail (entries_of s) (omega (arith, k.geometry.term.least)) (omega (arith, k.start)) k.tiles k.published in
+    let same : max_position s.log.identity.geometry ≡ max_position i.geometry = ap (λ (x : Identity). max_position x.geometry) h.identity in
+    omega (arith, low, same)
 
 -- ---- one line more
 

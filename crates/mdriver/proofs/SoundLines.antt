@@ -1,15 +1,14 @@
 -- Each line of a script leaves a sound scene.
-use Rattle.std.proofs.Common.{◌≡◌, ◌⊎◌, ℕ, ◌+◌, ◌/◌, ◌%◌, ◌^◌, ◌<◌, ◌≤◌, List, [], ◌∷◌, ◌++◌, map, length, Bool, true, false, Option, None, Some, inl, inr, ⊎_elim, refl, sym, ap, ◌∙◌, subst, arith, append-nil}
-use Rattle.std.specs.Prelude.{Result, Ok, Err}
+use Rattle.std.proofs.Common.{◌≡◌, ◌⊎◌, ℕ, ◌+◌, ◌/◌, ◌%◌, ◌^◌, ◌<◌, ◌≤◌, List, [], ◌∷◌, ◌++◌, map, length, Bool, true, false, Option, None, Some, inl, inr, ⊎_elim, refl, sym, ap, ◌∙◌, subst, arith, append-nil, append_assoc}
 use Rattle.std.specs.Option.{option_to_list}
-use Rattle.std.specs.List.{AllByRecursion}
+use Rattle.std.specs.List.{AllByRecursion, flat_map}
 use Rattle.std.proofs.lemmas.Bool.{cases_Bool, cond-true, cond-false}
 use Rattle.std.specs.Prelude.{nat_le, pos, FitsSigned}
 use Rattle.std.specs.Int.{w32, cast_unsigned}
 use mir.ValLaws.{to_z-Fits}
 use Rattle.std.proofs.Math.Nat.{mod-lt}
 use Rattle.theory.specs.Position.{Geometry, IsGeometry, Place, max_position, place_of}
-use Rattle.theory.specs.Placed.{Among, Placed}
+use Rattle.theory.specs.Placed.{Among, Data, Pad, Placed}
 use Rattle.theory.specs.Entry.{Entry, committed}
 use Rattle.theory.specs.Bytes.{Identity, IsIdentity, wire_at}
 use Rattle.theory.specs.Control.{MayBeGiven, setup_at}
@@ -17,24 +16,23 @@ use Rattle.theory.specs.Messages.{messages}
 use Rattle.theory.specs.Sender.{Sender}
 use Rattle.theory.specs.Wire.{IsFrame, Wire}
 use Rattle.theory.proofs.Lists.{all_append}
-use Rattle.log_buffer.specs.Limits.{raised}
-use Rattle.log_buffer.specs.Log.{published, with_message}
-use Rattle.log_buffer.specs.Offers.{answer_of}
-use Rattle.log_buffer.specs.declared.fault.Refusal.{Refusal}
+use Rattle.term_buffer.specs.Kept.{padded, published}
+use Rattle.log_buffer.specs.Log.{Log, added, room_in, with_message, with_padding}
+use Rattle.publication.specs.Offers.{Course, IsClosed, IsStale, IsUsedUp, IsLimited, Fits, Trips, after, after_offer, answer, course_of, covered, turned_from}
 use Rattle.script.specs.Meaning as orders
 use Rattle.script.specs.Meaning.{Order}
-use Rattle.mdriver.specs.Answers.{AreFrames, IsCycle, IsMissing, IsTooLong, MayOffer, Offered, Replied, SenderHears, Sends, after_cycle, clock_at, cycled, given_out, heard, limit_of, named, sent_on, wires_of, with_log, with_sender, woken}
+use Rattle.mdriver.specs.Answers.{AreFrames, IsCycle, IsMissing, IsTooLong, Limits, MayOffer, Offered, OffersMessage, Replied, SenderHears, Sends, after_cycle, clock_at, cycled, given_out, heard, limit_of, named, sent_on, wires_of, with_log, with_sender, woken}
 use Rattle.setup.specs.Naming.{Naming, after_due}
 use Rattle.mdriver.specs.Cycling.{AsksSetup, Cycle, IsNextSent, News, Says, TellsNothing, Unreadable, datagrams, setups}
-use Rattle.mdriver.specs.Prints.{Print, Position}
+use Rattle.mdriver.specs.Prints.{Print}
 use Rattle.mdriver.specs.Published as visible
-use Rattle.mdriver.specs.Published.{AllWhole, IsWhole, Played, between, is_fault, joined_by, joins, joins_in, joins_of, messages_in, placed_at, polled, polled_by, published_by}
-use Rattle.mdriver.specs.Scene.{Scene, opened_scene, world_of}
+use Rattle.mdriver.specs.Published.{Played, Published, between, ends_of, placed_at, published_by}
+use Rattle.mdriver.specs.Scene.{Scene, entries_of, opened_scene, stream_of, world_of}
 use Rattle.mdriver.proofs.Honest.{IsHonest, cycle_given, honest_more, honest_wires, named_more, sent_more, setups_on}
-use Rattle.mdriver.proofs.OfferRuns.{accepted, between_more, messages_more, offers, one_more}
-use Rattle.mdriver.proofs.Runs.{Goes, goes_on}
-use Rattle.mdriver.proofs.SenderRuns.{SenderHolds, asked, connects, cycles, hears, limits, named_at, sees}
-use Rattle.mdriver.proofs.Sound.{Begins, opened, IsQuiet, IsSound, Laws, and_line, end_in_stream, holds, published_more, receivers_stay, sender_below}
+use Rattle.mdriver.proofs.OfferRuns.{between_more, fits_one, messages_more, none_more, one_more, takes, trips_one, turned_same}
+use Rattle.mdriver.proofs.Runs.{Goes, goes_on, stays}
+use Rattle.mdriver.proofs.SenderRuns.{asked, closes, connects, cycles, hears, limit_entries, limits, named_at, sees}
+use Rattle.mdriver.proofs.Sound.{Begins, opened, IsQuiet, IsSound, Laws, and_line, holds, published_more, receivers_stay, sender_below, tail_low}
 
 -- ---- lines after which only the log or the sender is another
 
@@ -50,82 +48,147 @@ same_scene i start played order lines s t quiet none same h =
       runs = h.runs;
       identity = h.identity;
       start_is = h.start_is;
-      low = h.low;
       one = h.one;
       unit = h.unit;
       sending = h.sending;
       honest = h.honest;
-      messages_are = messages_stay played order lines s.log.entries none h.messages_are;
+      messages_are = messages_stay played order lines (entries_of s) none h.messages_are;
       eight = h.eight;
       receivers = receivers_stay i played order lines s s quiet refl h.receivers;
     })
 
--- the log took another limit or a flag
-abbrev flagged : Scene → ℕ → Bool → Scene
-flagged s limit connected = with_log s (record s.log { limit = limit; connected = connected })
+-- the log is another one, which may have forgotten more
+abbrev with_stream : Scene → List Entry → Log → Scene
+with_stream s past l = record s { log = l; past = past }
 
-flag_line : (i : Identity) (start : ℕ) (played : List Played) (order : Order) (lines : List Print) (s : Scene) (limit : ℕ) (connected : Bool) → IsQuiet order lines → published_by order lines ≡ [] → Goes (world_of s) (world_of (flagged s limit connected)) → IsSound i start played s → IsSound i start (and_line played order lines) (flagged s limit connected)
-flag_line i start played order lines s limit connected quiet none goes h = record {
-  runs = goes_on (world_of (opened_scene i start)) (world_of s) (world_of (flagged s limit connected)) h.runs goes;
-  identity = h.identity;
-  start_is = h.start_is;
-  low = h.low;
-  one = h.one;
-  unit = h.unit;
-  sending = record { legal = h.sending.legal; sent = h.sending.sent; setups = h.sending.setups };
-  honest = h.honest;
-  messages_are = messages_stay played order lines s.log.entries none h.messages_are;
-  eight = h.eight;
-  receivers = receivers_stay i played order lines s (flagged s limit connected) quiet refl h.receivers;
-}
+record IsLogNext (s : Scene) (past : List Entry) (l : Log) : Type 0 where
+  goes : Goes (world_of s) (world_of (with_stream s past l))
+  identity : l.identity ≡ s.log.identity
+  start : l.start ≡ s.log.start
+  consumers : l.consumers ≡ s.log.consumers
 
-pub connect_line : (i : Identity) (start : ℕ) (played : List Played) (lines : List Print) (s : Scene) → IsSound i start played s → IsSound i start (and_line played orders.Connect lines) (with_log s (record s.log { connected = true }))
-connect_line i start played lines s h = flag_line i start played orders.Connect lines s s.log.limit true (record { joins = λ k. refl; polls = λ k. refl }) refl (connects s) h
+log_line : (i : Identity) (start : ℕ) (played : List Played) (order : Order) (lines : List Print) (s : Scene) (past : List Entry) (l : Log) → IsQuiet order lines → IsLogNext s past l → ((j q : ℕ) → messages j q (past ++ l.entries) ≡ between j q (visible.published (and_line played order lines))) → IsSound i start played s → IsSound i start (and_line played order lines) (with_stream s past l)
+log_line i start played order lines s past l quiet n all h =
+    let t = with_stream s past l in
+    record {
+      runs = goes_on (world_of (opened_scene i start)) (world_of s) (world_of t) h.runs n.goes;
+      identity = n.identity ∙ h.identity;
+      start_is = n.start ∙ h.start_is;
+      one = n.consumers ∙ h.one;
+      unit = h.unit;
+      sending = record {
+        legal = subst (λ (x : Identity). IsGeometry x.geometry) (sym n.identity) h.sending.legal;
+        sent = subst (λ (x : Identity). AllByRecursion (λ p. p.at ≤ max_position x.geometry) s.sender.sent) (sym n.identity) h.sending.sent;
+        setups = subst (λ (x : Identity). AllByRecursion (λ p. p ≤ max_position x.geometry) s.sender.setups) (sym n.identity) h.sending.setups;
+      };
+      honest = h.honest;
+      messages_are = all;
+      eight = h.eight;
+      receivers = receivers_stay i played order lines s t quiet refl h.receivers;
+    }
 
-pub limit_line : Laws → (i : Identity) (start : ℕ) (played : List Played) (lines : List Print) (s : Scene) → Begins i start → IsSound i start played s → IsSound i start (and_line played orders.Limit lines) (with_log s (record s.log { limit = raised s.log }))
-limit_line laws i start played lines s b h =
-    let sender : SenderHolds s.log s.sender = record { one = h.one; unit = h.unit; below = sender_below laws i start s b h.runs } in
-    flag_line i start played orders.Limit lines s (raised s.log) s.log.connected (record { joins = λ k. refl; polls = λ k. refl }) refl (limits s (omega (arith, h.sending.legal.term.least)) sender h.low) h
+pub connect_line : (i : Identity) (start : ℕ) (played : List Played) (order : Order) (lines : List Print) (s : Scene) (on : Bool) → IsQuiet order lines → published_by order lines ≡ [] → IsSound i start played s → IsSound i start (and_line played order lines) (with_log s (record s.log { connected = on }))
+connect_line i start played order lines s on quiet none h =
+    log_line i start played order lines s s.past (record s.log { connected = on }) quiet (record { goes = connects s on; identity = refl; start = refl; consumers = refl }) (messages_stay played order lines (entries_of s) none h.messages_are) h
+
+pub close_line : (i : Identity) (start : ℕ) (played : List Played) (lines : List Print) (s : Scene) → IsSound i start played s → IsSound i start (and_line played orders.Close lines) (with_log s (record s.log { closed = true }))
+close_line i start played lines s h =
+    log_line i start played orders.Close lines s s.past (record s.log { closed = true }) (record { joins = λ k. refl; polls = λ k. refl }) (record { goes = closes s; identity = refl; start = refl; consumers = refl }) (messages_stay played orders.Close lines (entries_of s) refl h.messages_are) h
+
+pub limit_line : (i : Identity) (start : ℕ) (played : List Played) (lines : List Print) (s t : Scene) → IsSound i start played s → Limits s lines t → IsSound i start (and_line played orders.Limit lines) t
+limit_line i start played lines s t h m =
+    let past = s.past ++ m.done.cleans.past in
+    let entries : past ++ m.log.entries ≡ entries_of s = limit_entries s.past s.log m.log m.done in
+    subst (λ x. IsSound i start (and_line played orders.Limit lines) x) (sym m.new_is)
+    (log_line i start played orders.Limit lines s past m.log (record { joins = λ k. refl; polls = λ k. refl }) (record {
+      goes = limits s m.log m.legal h.one m.done;
+      identity = ap (λ (l : Log). l.identity) m.done.limits ∙ ap (λ (l : Log). l.identity) m.done.cleans.new_is;
+      start = ap (λ (l : Log). l.start) m.done.limits ∙ ap (λ (l : Log). l.start) m.done.cleans.new_is;
+      consumers = ap (λ (l : Log). l.consumers) m.done.limits ∙ ap (λ (l : Log). l.consumers) m.done.cleans.new_is;
+    }) (messages_stay played orders.Limit lines (past ++ m.log.entries) refl (λ j q. ap (messages j q) entries ∙ h.messages_are j q)) h)
 
 -- ---- an offer
 
-quiet_offer : (by : ℕ) (message : List ℕ) (lines : List Print) → IsQuiet (orders.Offer by message) lines
-quiet_offer by message lines = record { joins = λ k. refl; polls = λ k. refl }
+-- what is published by an offer that goes so
+abbrev published_so : Log → List ℕ → Course → List Published
+published_so l m Fits = placed_at m (l.tail + covered (length m)) ∷ []
+published_so l m other = []
 
-taken_line : Laws → (i : Identity) (start : ℕ) (played : List Played) (s : Scene) (by : ℕ) (message : List ℕ) (end : ℕ) → Begins i start → IsSound i start played s → MayOffer s.log by message → answer_of s.log (length message) ≡ Ok end → IsSound i start (and_line played (orders.Offer by message) (Position end ∷ [])) (with_log s (with_message s.log by message))
-taken_line laws i start played s by message end b h may answer =
-    let a = accepted s.log (length message) end answer in
-    let order = orders.Offer by message in
-    let lines = Position end ∷ [] in
-    let t = with_log s (with_message s.log by message) in
-    record {
-      runs = goes_on (world_of (opened_scene i start)) (world_of s) (world_of t) h.runs (offers s by message end (holds laws i start played s b h) may a);
-      identity = h.identity;
-      start_is = h.start_is;
-      low = a.fits;
-      one = h.one;
-      unit = h.unit;
-      sending = record { legal = h.sending.legal; sent = h.sending.sent; setups = h.sending.setups };
-      honest = h.honest;
-      messages_are = λ j q.
-          messages_more j q s.log.entries (published s.log.tail by message ∷ [])
-          ∙ ap (λ ms. ms ++ messages j q (published s.log.tail by message ∷ [])) (h.messages_are j q)
-          ∙ ap (λ ms. between j q (visible.published played) ++ ms) (one_more j q s.log.tail by message end a.end_is)
-          ∙ sym (ap (λ ms. between j q ms) (published_more played order lines) ∙ between_more j q (visible.published played) (placed_at message end ∷ []));
-      eight = h.eight;
-      receivers = receivers_stay i played order lines s t (quiet_offer by message lines) refl h.receivers;
-    }
+published_on : (i : Identity) (start : ℕ) (played : List Played) (order : Order) (lines : List Print) (s : Scene) (more : List Entry) (new : List Published) → published_by order lines ≡ new → ((j q : ℕ) → messages j q more ≡ between j q new) → IsSound i start played s → (j q : ℕ) → messages j q (s.past ++ (s.log.entries ++ more)) ≡ between j q (visible.published (and_line played order lines))
+published_on i start played order lines s more new line same h j q =
+    ap (messages j q) (sym (append_assoc s.past s.log.entries more))
+    ∙ messages_more j q (entries_of s) more
+    ∙ ap (λ ms. ms ++ messages j q more) (h.messages_are j q)
+    ∙ ap (λ ms. between j q (visible.published played) ++ ms) (same j q)
+    ∙ sym (ap (λ ms. between j q ms) (published_more played order lines ∙ ap (λ ms. visible.published played ++ ms) line) ∙ between_more j q (visible.published played) new)
 
-offered : Laws → (i : Identity) (start : ℕ) (played : List Played) (s t : Scene) (by : ℕ) (message : List ℕ) (lines : List Print) (answer : Result ℕ Refusal) → Begins i start → IsSound i start played s → MayOffer s.log by message → answer_of s.log (length message) ≡ answer → Offered s by message answer lines t → IsSound i start (and_line played (orders.Offer by message) lines) t
-offered laws i start played s t by message lines (Ok end) b h may is o =
-    subst (λ x. IsSound i start (and_line played (orders.Offer by message) lines) x) (sym o.1)
-    (subst (λ ls. IsSound i start (and_line played (orders.Offer by message) ls) (with_log s (with_message s.log by message))) (sym o.0) (taken_line laws i start played s by message end b h may is))
-offered laws i start played s t by message lines (Err refusal) b h may is o =
-    same_scene i start played (orders.Offer by message) lines s t (quiet_offer by message lines) (ap (λ ls. published_by (orders.Offer by message) ls) o.0) o.1 h
+-- the log turns to its next term, or not
+turned_next : (s : Scene) (l : Log) (count : ℕ) → IsLogNext s s.past l → IsLogNext s s.past (turned_from l count)
+turned_next s l count n = record {
+  goes = subst (λ x. Goes (world_of s) (record (world_of s) { log = x })) (sym (turned_same (stream_of s.past) (λ k x y z. refl) l count)) n.goes;
+  identity = turned_same (λ k. k.identity) (λ k x y z. refl) l count ∙ n.identity;
+  start = turned_same (λ k. k.start) (λ k x y z. refl) l count ∙ n.start;
+  consumers = turned_same (λ k. k.consumers) (λ k x y z. refl) l count ∙ n.consumers;
+}
 
-pub offer_line : Laws → (i : Identity) (start : ℕ) (played : List Played) (s t : Scene) (by : ℕ) (message : List ℕ) (lines : List Print) → Begins i start → IsSound i start played s → IsTooLong s message lines t ⊎ (MayOffer s.log by message × Offered s by message (answer_of s.log (length message)) lines t) → IsSound i start (and_line played (orders.Offer by message) lines) t
-offer_line laws i start played s t by message lines b h (inl long) = same_scene i start played (orders.Offer by message) lines s t (quiet_offer by message lines) (ap (λ ls. published_by (orders.Offer by message) ls) long.1) long.2 h
-offer_line laws i start played s t by message lines b h (inr o) = offered laws i start played s t by message lines (answer_of s.log (length message)) b h o.0 refl o.1
+turned_entries : (l : Log) (count : ℕ) → (turned_from l count).entries ≡ l.entries
+turned_entries l count = turned_same (λ k. k.entries) (λ k x y z. refl) l count
+
+taken_line : Laws → (i : Identity) (start : ℕ) (played : List Played) (s : Scene) (by : ℕ) (m : List ℕ) (order : Order) (lines : List Print) (c : Course) → Begins i start → IsQuiet order lines → IsSound i start played s → MayOffer s.log by m → course_of s.log (length m) ≡ c → published_by order lines ≡ published_so s.log m c → IsSound i start (and_line played order lines) (with_log s (after s.log by m c))
+taken_line laws i start played s by m order lines IsClosed b quiet h may e none = same_scene i start played order lines s s quiet none refl h
+taken_line laws i start played s by m order lines IsStale b quiet h may e none = same_scene i start played order lines s s quiet none refl h
+taken_line laws i start played s by m order lines IsLimited b quiet h may e none = same_scene i start played order lines s s quiet none refl h
+taken_line laws i start played s by m order lines IsUsedUp b quiet h may e none =
+    let l = turned_from s.log s.log.active in
+    let same : entries_of (with_log s l) ≡ entries_of s = ap (λ es. s.past ++ es) (turned_entries s.log s.log.active) in
+    log_line i start played order lines s s.past l quiet (turned_next s s.log s.log.active (record { goes = stays (world_of s) (world_of s) refl; identity = refl; start = refl; consumers = refl }))
+    (messages_stay played order lines (entries_of (with_log s l)) none (λ j q. ap (messages j q) same ∙ h.messages_are j q)) h
+taken_line laws i start played s by m order lines Fits b quiet h may e new =
+    let l = with_message (added s.log by (s.log.active % 3) (covered (length m))) by m in
+    let one = fits_one s.past s.log by m may.legal may.publisher may.short may.bytes e in
+    let end = s.log.tail + covered (length m) in
+    log_line i start played order lines s s.past l quiet (record {
+      goes = takes s by (length m) false (32 + length m) (Data 192 m) (holds laws i start played s b h) one;
+      identity = refl;
+      start = refl;
+      consumers = refl;
+    }) (published_on i start played order lines s (published s.log.tail by m ∷ []) (placed_at m end ∷ []) new (λ j q. one_more j q s.log.tail by m end refl) h) h
+taken_line laws i start played s by m order lines Trips b quiet h may e none =
+    let size = room_in s.log (s.log.active % 3) in
+    let l = with_padding (added s.log by (s.log.active % 3) (covered (length m))) by size in
+    let one = trips_one s.past s.log by m may.legal may.publisher may.short e in
+    let next : IsLogNext s s.past l = record {
+      goes = takes s by (length m) true size (Pad size) (holds laws i start played s b h) one;
+      identity = refl;
+      start = refl;
+      consumers = refl;
+    } in
+    let all = published_on i start played order lines s (padded s.log.tail by size ∷ []) [] none (λ j q. none_more j q s.log.tail by size) h in
+    log_line i start played order lines s s.past (turned_from l s.log.active) quiet (turned_next s l s.log.active next)
+    (λ j q. ap (λ es. messages j q (s.past ++ es)) (turned_entries l s.log.active) ∙ all j q) h
+
+-- what the line of an offer that goes so says
+record OfferSays (s : Scene) (by : ℕ) (m : List ℕ) (lines : List Print) (c : Course) (t : Scene) : Type 0 where
+  made : map (placed_at m) (flat_map ends_of lines) ≡ published_so s.log m c
+  after : t ≡ with_log s (after_offer s.log by m)
+
+offer_says : (s t : Scene) (by : ℕ) (m : List ℕ) (lines : List Print) (c : Course) → Offered s by m (answer s.log (length m) c) lines t → OfferSays s by m lines c t
+offer_says s t by m lines IsClosed o = record { made = ap (λ ls. map (placed_at m) (flat_map ends_of ls)) o.0; after = o.1 }
+offer_says s t by m lines IsStale o = record { made = ap (λ ls. map (placed_at m) (flat_map ends_of ls)) o.0; after = o.1 }
+offer_says s t by m lines IsUsedUp o = record { made = ap (λ ls. map (placed_at m) (flat_map ends_of ls)) o.0; after = o.1 }
+offer_says s t by m lines IsLimited o = record { made = ap (λ ls. map (placed_at m) (flat_map ends_of ls)) o.0; after = o.1 }
+offer_says s t by m lines Fits o = record { made = ap (λ ls. map (placed_at m) (flat_map ends_of ls)) o.0; after = o.1 }
+offer_says s t by m lines Trips o = record { made = ap (λ ls. map (placed_at m) (flat_map ends_of ls)) o.0; after = o.1 }
+
+-- an order that offers this message
+pub offer_line : Laws → (i : Identity) (start : ℕ) (played : List Played) (s t : Scene) (by size : ℕ) (m : List ℕ) (order : Order) (lines : List Print) → Begins i start → IsQuiet order lines → published_by order lines ≡ map (placed_at m) (flat_map ends_of lines) → IsSound i start played s → IsTooLong s size lines t ⊎ OffersMessage s by m lines t → IsSound i start (and_line played order lines) t
+offer_line laws i start played s t by size m order lines b quiet line h (inl long) =
+    same_scene i start played order lines s t quiet (line ∙ ap (λ ls. map (placed_at m) (flat_map ends_of ls)) long.1) long.2 h
+offer_line laws i start played s t by size m order lines b quiet line h (inr o) =
+    let c = course_of s.log (length m) in
+    let says = offer_says s t by m lines c o.1 in
+    subst (λ x. IsSound i start (and_line played order lines) x) (sym says.after)
+    (taken_line laws i start played s by m order lines c b quiet h o.0 refl (line ∙ says.made))
 
 -- ---- the sender
 
@@ -151,7 +214,6 @@ sender_line i start played order lines s x naming wires quiet none n h =
       runs = goes_on (world_of (opened_scene i start)) (world_of s) (world_of t) h.runs n.goes;
       identity = h.identity;
       start_is = h.start_is;
-      low = h.low;
       one = refl;
       unit = n.unit;
       sending = record {
@@ -160,16 +222,13 @@ sender_line i start played order lines s x naming wires quiet none n h =
         setups = subst (λ y. AllByRecursion (λ p. p ≤ max_position y.geometry) x.setups) (sym h.identity) n.setups;
       };
       honest = all_append (IsHonest i x) s.packets (datagrams wires) (honest_more i s.sender x s.packets n.more n.named h.honest) (honest_wires i x wires n.frames n.given);
-      messages_are = messages_stay played order lines s.log.entries none h.messages_are;
+      messages_are = messages_stay played order lines (entries_of s) none h.messages_are;
       eight = h.eight;
       receivers = receivers_stay i played order lines s t quiet refl h.receivers;
     }
 
 low_at : Laws → (i : Identity) (start : ℕ) (played : List Played) (s : Scene) → Begins i start → IsSound i start played s → s.sender.at ≤ max_position i.geometry
-low_at laws i start played s b h =
-    let high : s.log.tail ≤ max_position s.log.identity.geometry = omega (arith, h.low, end_in_stream s.log (holds laws i start played s b h)) in
-    let same : max_position s.log.identity.geometry ≡ max_position i.geometry = ap (λ x. max_position x.geometry) h.identity in
-    omega (arith, high, same, sender_below laws i start s b h.runs)
+low_at laws i start played s b h = omega (arith, tail_low laws i start played s b h, sender_below laws i start s b h.runs)
 
 sent_unit : (x : Sender) (limit : ℕ) (frames : List Placed) (frame : Option Placed) → IsNextSent frames x.at limit frame → x.at % 32 ≡ 0 → (sent_on x frame).at % 32 ≡ 0
 sent_unit x limit frames None next unit = unit
@@ -279,7 +338,6 @@ told_line i start played k now lines s x naming same goes h =
       runs = goes_on (world_of (opened_scene i start)) (world_of s) (world_of t) h.runs goes;
       identity = h.identity;
       start_is = h.start_is;
-      low = h.low;
       one = h.one ∙ ap (λ p. p ∷ []) (sym same.at);
       unit = omega (arith, same.at, h.unit);
       sending = record {
@@ -288,7 +346,7 @@ told_line i start played k now lines s x naming same goes h =
         setups = subst (λ xs. AllByRecursion (λ p. p ≤ max_position s.log.identity.geometry) xs) (sym same.setups) h.sending.setups;
       };
       honest = honest_more i s.sender x s.packets (λ p a. subst (λ xs. Among p xs) (sym same.sent) a) (λ p a. subst (λ xs. Among p xs) (sym same.setups) a) h.honest;
-      messages_are = messages_stay played (orders.Reply k now) lines s.log.entries refl h.messages_are;
+      messages_are = messages_stay played (orders.Reply k now) lines (entries_of s) refl h.messages_are;
       eight = h.eight;
       receivers = receivers_stay i played (orders.Reply k now) lines s t (record { joins = λ n. refl; polls = λ n. refl }) refl h.receivers;
     }

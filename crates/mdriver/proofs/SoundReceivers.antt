@@ -15,7 +15,7 @@ use Rattle.mdriver.specs.Cycling.{datagrams}
 use Rattle.mdriver.specs.Prints.{Print, OfReceiver}
 use Rattle.mdriver.specs.Published.{AllWhole, Played, is_fault, joined_by, joins, joins_in, joins_of, messages_in, polled, polled_by, published_by}
 use Rattle.mdriver.specs.Receiving.{Hears, MeetsAll, MeetsDatagram, Receiver, RefusesDatagram, at_moment, replies, ticked}
-use Rattle.mdriver.specs.Scene.{Scene, image_of, opened_scene, world_of}
+use Rattle.mdriver.specs.Scene.{Scene, entries_of, image_of, opened_scene, world_of}
 use Rattle.mdriver.proofs.Honest.{AreHonest, IsHonest, honest_wires, one_frame, replies_given}
 use Rattle.mdriver.proofs.PollFollows.{StillWhole, polls_met}
 use Rattle.mdriver.proofs.ReceiverRuns.{At, Follows, Met, meets, met_nothing, unchanged}
@@ -48,12 +48,11 @@ receiver_line i start played order lines s n r mid packets there goes honest oth
       runs = goes_on (world_of (opened_scene i start)) (world_of s) (world_of t) h.runs goes;
       identity = h.identity;
       start_is = h.start_is;
-      low = h.low;
       one = h.one;
       unit = h.unit;
       sending = record { legal = h.sending.legal; sent = h.sending.sent; setups = h.sending.setups };
       honest = honest;
-      messages_are = messages_stay played order lines s.log.entries none h.messages_are;
+      messages_are = messages_stay played order lines (entries_of s) none h.messages_are;
       eight = set_length s.receivers n mid ∙ h.eight;
       receivers = receiver_moves i played order lines s t n r mid there refl others now h.receivers;
     }

@@ -1,26 +1,30 @@
 -- What the calls of a line's handler left is a step of the scenes that the stage shows.
 use Rattle.std.proofs.Common.{◌≡◌, ℕ, zero, suc, ◌<◌, ◌≤◌, List, [], ◌∷◌, ◌++◌, map, length, None, Some, inl, inr, refl, sym, ap, ◌∙◌, subst, arith}
-use Rattle.std.specs.Prelude.{slice_get, slice_set, slice_index_or, Result, Ok, Err, OnOk}
+use Rattle.std.specs.Prelude.{◌%◌, slice_get, slice_set, slice_index, slice_index_or, Result, Ok, Err, OnOk}
 use Rattle.std.proofs.lemmas.List.{map-append}
+use Rattle.theory.specs.Entry.{Entry}
+use Rattle.theory.specs.FlowLimit.{flow_limit}
 use Rattle.theory.specs.Position.{max_payload}
-use Rattle.log_buffer.specs.Log.{Log, with_message}
-use Rattle.log_buffer.specs.Offers.{answer_of}
-use Rattle.log_buffer.specs.declared.fault.Refusal.{Refusal}
-use Rattle.log_buffer.specs.Reader.{AreAll}
+use Rattle.log_buffer.specs.Log.{IsLog, Log, added, room_in, with_padding}
+use Rattle.log_buffer.specs.Passes.{AreAll, Pass}
+use Rattle.rotation.specs.Limited.{CleansAndLimits, raised}
+use Rattle.publication.specs.Offers.{Course, IsClosed, IsStale, IsUsedUp, IsLimited, Fits, Trips, after, after_offer, answer_of, course_of, covered}
+use Rattle.publication.specs.declared.refusal.Refusal.{Refusal}
 use Rattle.script.specs.Meaning as orders
 use Rattle.script.specs.Meaning.{Order}
 use Rattle.mdriver.specs.declared.line.Line.{Line}
 use Rattle.mdriver.specs.declared.stage.Stage.{Stage}
 use Rattle.theory.specs.Wire.{Wire}
 use Rattle.mdriver.specs.declared.receiver.Outcome.{Outcome}
-use Rattle.mdriver.specs.Answers.{AreFrames, MayOffer, Offered, given_out, limit_of, lines_of, or_nothing, packet_lines, with_log, with_receiver}
+use Rattle.mdriver.specs.Answers.{AreFrames, MayOffer, Offered, given_out, lines_of, or_nothing, packet_lines, with_log, with_receiver}
 use Rattle.mdriver.specs.Cycling.{datagrams}
 use Rattle.mdriver.specs.Polling.{Polls, TellsPositions}
-use Rattle.mdriver.specs.Prints.{Bad, OfReceiver, print_of, prints}
+use Rattle.mdriver.specs.Prints.{Bad, Limit, OfReceiver, Print, print_of, prints}
 use Rattle.mdriver.specs.Receiving.{Hears, Receiver, replies, ticked}
 use Rattle.mdriver.specs.Scene.{Scene}
-use Rattle.mdriver.specs.Staged.{AllShow, Answered, IsAnswered, OfferedLine, ShowsScene, ShowsSender}
+use Rattle.mdriver.specs.Staged.{AllShow, Answered, IsAnswered, IsOffered, OfferedLine, ShowsScene, ShowsSender}
 use Rattle.mdriver.specs.Subscribing.{Becomes, ShowsSubscriber, Subscribing}
+use Rattle.mdriver.proofs.OfferRuns.{turned_same}
 
 -- ---- lines
 
@@ -51,66 +55,95 @@ pub record OnlyLog (old new : Stage) (log : Log) : Type 0 where
   pub subscribers : new.subscribers.items ≡ old.subscribers.items
   pub packets : new.packets ≡ old.packets
 
-with_log_shown : (old new : Stage) (s : Scene) (log : Log) → ShowsScene old s → OnlyLog old new log → log.consumers ≡ old.log.consumers → limit_of log s.sender ≡ limit_of s.log s.sender → ShowsScene new (with_log s log)
-with_log_shown old new s log h o one limit =
+-- with these entries forgotten
+log_shown : (old new : Stage) (s : Scene) (log : Log) (past : List Entry) → ShowsScene old s → OnlyLog old new log → log.consumers ≡ old.log.consumers → log.start ≡ s.log.start → ShowsScene new (record s { log = log; past = past })
+log_shown old new s log past h o one start =
+    let scene : Scene = record s { log = log; past = past } in
     record {
       log = sym o.log_is;
-      sender = subst (λ v. ShowsSender v (with_log s log)) (sym o.sender) (record { at = h.sender.at; number = h.sender.number; flow = h.sender.flow ∙ sym limit; naming = h.sender.naming; clock = h.sender.clock });
+      sender = subst (λ v. ShowsSender v scene) (sym o.sender) (record { at = h.sender.at; number = h.sender.number; flow = h.sender.flow ∙ ap (λ n. flow_limit n s.sender.said) (sym start); naming = h.sender.naming; clock = h.sender.clock });
       one = ap (λ l. l.consumers) o.log_is ∙ one ∙ h.one;
       receivers = subst (λ vs. AllShow vs s.receivers) (sym o.subscribers) h.receivers;
       packets = h.packets ∙ sym o.packets;
     }
 
-offered : (old new : Stage) (s : Scene) (by : ℕ) (message : List ℕ) (answer : Result ℕ Refusal) (line : Line) (before after : List Line) → ShowsScene old s → MayOffer old.log by message → answer_of old.log (length message) ≡ answer → OfferedLine old.log by message answer (print_of line) new.log → OnlyLog old new new.log → after ≡ before ++ line ∷ [] → Answered s (orders.Offer by message) (prints before) (prints after) new
-offered old new s by message (Ok end) line before after h may is o same told =
-    let next = with_message s.log by message in
-    let log : new.log ≡ next = o.1 ∙ ap (λ l. with_message l by message) (sym h.log) in
+-- what an offer doesn't change
+abbrev KeptByOffers : Log → List ℕ × ℕ
+KeptByOffers l = (l.consumers, l.start)
+
+course_keeps : (l : Log) (by : ℕ) (m : List ℕ) (c : Course) → KeptByOffers (after l by m c) ≡ KeptByOffers l
+course_keeps l by m IsClosed = refl
+course_keeps l by m IsStale = refl
+course_keeps l by m IsUsedUp = turned_same KeptByOffers (λ k x y z. refl) l l.active
+course_keeps l by m IsLimited = refl
+course_keeps l by m Fits = refl
+course_keeps l by m Trips = turned_same KeptByOffers (λ k x y z. refl) (with_padding (added l by (l.active % 3) (covered (length m))) by (room_in l (l.active % 3))) l.active
+
+offer_keeps : (l : Log) (by : ℕ) (m : List ℕ) → KeptByOffers (after_offer l by m) ≡ KeptByOffers l
+offer_keeps l by m = course_keeps l by m (course_of l (length m))
+
+offered_log : (old new : Log) (by : ℕ) (m : List ℕ) (answer : Result ℕ Refusal) (line : Print) → OfferedLine old by m answer line new → new ≡ after_offer old by m
+offered_log old new by m (Ok end) line o = o.1
+offered_log old new by m (Err refusal) line o = o.1
+
+offered : (s : Scene) (new : Log) (by : ℕ) (m : List ℕ) (answer : Result ℕ Refusal) (line : Print) → OfferedLine s.log by m answer line new → Offered s by m answer (line ∷ []) (with_log s (after_offer s.log by m))
+offered s new by m (Ok end) line o = (ap (λ x. x ∷ []) o.0, refl)
+offered s new by m (Err refusal) line o = (ap (λ x. x ∷ []) o.0, refl)
+
+pub offer_answered : (old new : Stage) (by : ℕ) (message : List ℕ) (line : Line) (before after : List Line) → MayOffer old.log by message → OfferedLine old.log by message (answer_of old.log (length message)) (print_of line) new.log → OnlyLog old new new.log → after ≡ before ++ line ∷ [] → IsOffered old by message before after new
+offer_answered old new by message line before after may o same told = λ order means s h.
+    let next = after_offer s.log by message in
+    let line_is : OfferedLine s.log by message (answer_of s.log (length message)) (print_of line) new.log = subst (λ l. OfferedLine l by message (answer_of l (length message)) (print_of line) new.log) (sym h.log) o in
+    let log : new.log ≡ next = offered_log s.log new.log by message (answer_of s.log (length message)) (print_of line) line_is in
     record {
       lines = print_of line ∷ [];
       scene = with_log s next;
-      answers = inr (subst (λ l. MayOffer l by message) (sym h.log) may, subst (λ a. Offered s by message a (print_of line ∷ []) (with_log s next)) (sym (ap (λ l. answer_of l (length message)) h.log ∙ is)) (ap (λ x. x ∷ []) o.0, refl));
+      answers = means s (with_log s next) (print_of line ∷ []) (subst (λ l. MayOffer l by message) (sym h.log) may, offered s new.log by message (answer_of s.log (length message)) (print_of line) line_is);
       printed = one_line before after line told;
-      shows = with_log_shown old new s next h (record { log_is = log; sender = same.sender; subscribers = same.subscribers; packets = same.packets }) (ap (λ l. l.consumers) h.log) refl;
+      shows = log_shown old new s next s.past h (record { log_is = log; sender = same.sender; subscribers = same.subscribers; packets = same.packets }) (ap (λ x. x.0) (offer_keeps s.log by message) ∙ ap (λ l. l.consumers) h.log) (ap (λ x. x.1) (offer_keeps s.log by message));
     }
-offered old new s by message (Err refusal) line before after h may is o same told =
-    let log : new.log ≡ s.log = o.1 ∙ sym h.log in
+
+-- ---- the keeper
+
+pub limit_answered : (old new : Stage) (line : Line) (before after : List Line) → IsLog old.log → CleansAndLimits old.log new.log → print_of line ≡ Limit (raised old.log) → OnlyLog old new new.log → after ≡ before ++ line ∷ [] → IsAnswered old orders.Limit before after new
+limit_answered old new line before after legal done shown same told = λ s h.
+    let kept : CleansAndLimits s.log new.log = subst (λ l. CleansAndLimits l new.log) (sym h.log) done in
     record {
       lines = print_of line ∷ [];
-      scene = s;
-      answers = inr (subst (λ l. MayOffer l by message) (sym h.log) may, subst (λ a. Offered s by message a (print_of line ∷ []) s) (sym (ap (λ l. answer_of l (length message)) h.log ∙ is)) (ap (λ x. x ∷ []) o.0, refl));
+      scene = record s { log = new.log; past = s.past ++ kept.cleans.past };
+      answers = record { legal = subst IsLog (sym h.log) legal; log = new.log; done = kept; shown = ap (λ x. x ∷ []) shown ∙ ap (λ l. Limit (raised l) ∷ []) (sym h.log); new_is = refl };
       printed = one_line before after line told;
-      shows = with_log_shown old new s s.log h (record { log_is = log; sender = same.sender; subscribers = same.subscribers; packets = same.packets }) (ap (λ l. l.consumers) h.log) refl;
+      shows = log_shown old new s new.log (s.past ++ kept.cleans.past) h same (ap (λ l. l.consumers) done.limits ∙ ap (λ l. l.consumers) done.cleans.new_is) (ap (λ l. l.start) kept.limits ∙ ap (λ l. l.start) kept.cleans.new_is);
     }
-
-pub offer_answered : (old new : Stage) (by : ℕ) (message : List ℕ) (line : Line) (before after : List Line) → MayOffer old.log by message → OfferedLine old.log by message (answer_of old.log (length message)) (print_of line) new.log → OnlyLog old new new.log → after ≡ before ++ line ∷ [] → IsAnswered old (orders.Offer by message) before after new
-offer_answered old new by message line before after may o same told = λ s h. offered old new s by message (answer_of old.log (length message)) line before after h may refl o same told
-
-pub too_long : (old : Stage) (by : ℕ) (message : List ℕ) (line : Line) (before after : List Line) → max_payload old.log.identity.geometry < length message → print_of line ≡ Bad → after ≡ before ++ line ∷ [] → IsAnswered old (orders.Offer by message) before after old
-too_long old by message line before after long bad told = λ s h. record {
-  lines = print_of line ∷ [];
-  scene = s;
-  answers = inl (subst (λ l. max_payload l.identity.geometry < length message) (sym h.log) long, ap (λ x. x ∷ []) bad, refl);
-  printed = one_line before after line told;
-  shows = h;
-}
 
 -- ---- passes
 
-set_index : (xs : List ℕ) (k x d : ℕ) → x ≡ slice_index_or xs k d → k < length xs → slice_set xs k x ≡ xs
-set_index [] k x d e h = absurd (omega (arith, h))
-set_index (y ∷ ys) zero x d e h = ap (λ z. z ∷ ys) e
-set_index (y ∷ ys) (suc k) x d e h = ap (λ zs. y ∷ zs) (set_index ys k x d e (omega (arith, h)))
+length_set : (xs : List Pass) (k : ℕ) (x : Pass) → length (slice_set xs k x) ≡ length xs
+length_set [] k x = refl
+length_set (y ∷ ys) zero x = refl
+length_set (y ∷ ys) (suc k) x = ap suc (length_set ys k x)
 
-pub all_again : (xs : List ℕ) (k x d : ℕ) → AreAll xs → k < 8 → x ≡ slice_index_or xs k d → AreAll (slice_set xs k x)
-all_again xs k x d h low e = subst AreAll (sym (set_index xs k x d e (omega (arith, low, h.eight)))) h
+abbrev numbers_of : List Pass → List ℕ
+numbers_of passes = map (λ p. p.number) passes
 
-any_default : (xs : List ℕ) (k d e : ℕ) → k < length xs → slice_index_or xs k d ≡ slice_index_or xs k e
-any_default [] k d e h = absurd (omega (arith, h))
-any_default (x ∷ xs) zero d e h = refl
-any_default (x ∷ xs) (suc k) d e h = any_default xs k d e (omega (arith, h))
+set_numbers : (xs : List Pass) (k : ℕ) (x d : Pass) → x.number ≡ (slice_index_or xs k d).number → numbers_of (slice_set xs k x) ≡ numbers_of xs
+set_numbers [] k x d e = refl
+set_numbers (y ∷ ys) zero x d e = ap (λ n. n ∷ numbers_of ys) e
+set_numbers (y ∷ ys) (suc k) x d e = ap (λ ns. y.number ∷ ns) (set_numbers ys k x d e)
 
-pub number_is : (xs : List ℕ) (k d : ℕ) → AreAll xs → k < 8 → slice_index_or xs k d ≡ k
-number_is xs k d h low = any_default xs k d 0 (omega (arith, low, h.eight)) ∙ h.each k low
+pub all_again : (xs : List Pass) (k : ℕ) (x d : Pass) → AreAll xs → x.number ≡ (slice_index_or xs k d).number → AreAll (slice_set xs k x)
+all_again xs k x d h e = record {
+  eight = length_set xs k x ∙ h.eight;
+  each = λ n low. ap (λ ns. slice_index ns n) (set_numbers xs k x d e) ∙ h.each n low;
+}
+
+number_in : (xs : List Pass) (k : ℕ) (d : Pass) (e : ℕ) → k < length xs → (slice_index_or xs k d).number ≡ slice_index_or (numbers_of xs) k e
+number_in [] k d e h = absurd (omega (arith, h))
+number_in (x ∷ xs) zero d e h = refl
+number_in (x ∷ xs) (suc k) d e h = number_in xs k d e (omega (arith, h))
+
+pub number_is : (xs : List Pass) (k : ℕ) (d : Pass) → AreAll xs → k < 8 → (slice_index_or xs k d).number ≡ k
+number_is xs k d h low = number_in xs k d 0 (omega (arith, low, h.eight)) ∙ h.each k low
 
 -- ---- another receiver
 
@@ -164,7 +197,7 @@ packet_missing old s k h none = ap_none s.packets k (ap (λ ps. slice_get ps k) 
     ap_none (p ∷ ps) (suc k) e = omega (arith, ap_none ps k e)
 
 same_shown : (old new : Stage) (s : Scene) → ShowsScene old s → OnlyLog old new old.log → ShowsScene new s
-same_shown old new s h o = with_log_shown old new s s.log h (record { log_is = o.log_is ∙ sym h.log; sender = o.sender; subscribers = o.subscribers; packets = o.packets }) (ap (λ l. l.consumers) h.log) refl
+same_shown old new s h o = log_shown old new s s.log s.past h (record { log_is = o.log_is ∙ sym h.log; sender = o.sender; subscribers = o.subscribers; packets = o.packets }) (ap (λ l. l.consumers) h.log) refl
 
 pub missing_deliver : (old new : Stage) (k n now : ℕ) (line : Line) (before after : List Line) → slice_get old.packets k ≡ None → print_of line ≡ Bad → OnlyLog old new old.log → after ≡ before ++ line ∷ [] → IsAnswered old (orders.Deliver k n now) before after new
 missing_deliver old new k n now line before after none bad o told = λ s h. record {

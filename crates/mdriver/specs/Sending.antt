@@ -1,8 +1,10 @@
 -- What a contract sees of a sender, and what becomes of it by a tick and by a datagram.
-use Rattle.std.specs.Prelude.{◌≡◌, ℕ, ◌+◌, ℤ, pos, true, false, List, [], ◌++◌, map, Option, None, Some, slice_set}
+use Rattle.std.specs.Prelude.{◌≡◌, ℕ, ◌+◌, ◌-◌, ℤ, pos, true, false, List, [], ◌++◌, map, take, Option, None, Some, slice_set}
 use Rattle.std.specs.Option.{option_to_list}
 use Rattle.theory.specs.Position.{position_of}
-use Rattle.theory.specs.Placed.{Placed, end_of}
+use Rattle.theory.specs.Placed.{Data, Frame, Pad, Placed, end_of}
+use Rattle.position.specs.declared.head.FrameKind.{FrameKind}
+use Rattle.position.specs.declared.head.FrameKind.TheVariants as kinds
 use Rattle.theory.specs.Wire.{Wire}
 use Rattle.theory.specs.Entry.{committed}
 use Rattle.theory.specs.Bytes.{Identity, wire_at}
@@ -54,6 +56,11 @@ frame_wires i frame = map (λ s. wire_at i s.at s.frame) (option_to_list frame)
 
 abbrev pub with_wires : Outgoing → List Wire → Outgoing
 with_wires o wires = record o { datagrams = o.datagrams ++ datagrams wires }
+
+-- the frame of this kind and length whose payload stands in the block's front
+abbrev pub frame_in : FrameKind → ℕ → List ℕ → Frame
+frame_in kinds.Data frame_length block = Data 192 (take (frame_length - 32) block)
+frame_in kinds.Pad frame_length block = Pad frame_length
 
 -- the next frame goes out, if it may
 pub record SendsNext (l : Log) (r : Reader) (o : Outgoing) (limit : ℕ) (m : Log) (q : Reader) (p : Outgoing) : Type 0 where

@@ -9,7 +9,7 @@ use Rattle.script.specs.Meaning.{Order}
 use Rattle.mdriver.specs.declared.line.Line.{Line}
 use Rattle.mdriver.specs.declared.stage.Stage.{Stage}
 use Rattle.std.specs.List.{flat_map}
-use Rattle.mdriver.specs.Answers.{Answers, limit_of}
+use Rattle.mdriver.specs.Answers.{Answers, OffersMessage, limit_of}
 use Rattle.mdriver.specs.Plays.{AnswersAll, ShowsBook}
 use Rattle.mdriver.specs.Published.{Played}
 use Rattle.mdriver.specs.Prints.{Open, Position, Print, Refused, prints}
@@ -50,6 +50,11 @@ pub record Answered (old : Scene) (order : Order) (before after : List Print) (n
 -- whatever scene the stage showed
 abbrev pub IsAnswered : Stage → Order → List Line → List Line → Stage → Type 0
 IsAnswered old order before after new = (s : Scene) → ShowsScene old s → Answered s order (prints before) (prints after) new
+
+-- a message that a frame can hold was offered: what orders so much is answered
+abbrev pub IsOffered : Stage → ℕ → List ℕ → List Line → List Line → Stage → Type 0
+IsOffered old by message before after new =
+    (order : Order) → ((s t : Scene) (lines : List Print) → OffersMessage s by message lines t → Answers s order lines t) → IsAnswered old order before after new
 
 -- lines of a script one after the other
 pub record Continued (old : Scene) (orders : List Order) (before after : List Print) (new : Stage) : Type 0 where

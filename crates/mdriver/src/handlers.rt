@@ -1,21 +1,23 @@
 //! What each line of a script does, and what it prints.
 
-ghost use Rattle.std.specs.Prelude.{◌≡◌, ◌≤◌, ◌<◌, ◌++◌, length, OnOk, map};
-ghost use Rattle.std.specs.List.{AllByRecursion};
+ghost use Rattle.std.specs.Prelude.{◌≡◌, ◌≤◌, ◌<◌, ◌++◌, length, IfOk, OnOk, map, replicate};
 ghost use Rattle.theory.specs.Position.{max_payload};
-ghost use Rattle.log_buffer.specs.Offers.{answer_of};
 ghost use Rattle.log_buffer.specs.Reader.{IsAt, Reader};
+ghost use Rattle.publication.specs.Offers.{answer_of};
+ghost use Rattle.mdriver.specs.Answers.{MayOffer};
 ghost use Rattle.mdriver.specs.Prints.{OfReceiver, print_of, prints};
-ghost use Rattle.mdriver.specs.Staged.{IsAnswered, OfferedLine};
+ghost use Rattle.mdriver.specs.Staged.{IsAnswered, IsOffered, OfferedLine};
 ghost use Rattle.script.specs.Meaning as orders;
 
 use crate::line::Line;
 use crate::receiver::Outcome;
 use crate::sender::SenderEvent;
 use crate::stage::Stage;
-use log_buffer::{LogState, Publisher, offer};
+use log_buffer::{LogState, Publisher};
+use publication::offer;
+use rotation::{clean_and_limit, set_closed, set_connected};
 use script::{Command, Seat};
-use std::alloc::AllocError;
+use std::alloc::{AllocError, Global};
 
 /// Adds the lines of what became of a datagram's frames.
 fn tell(lines: &mut Vec<Line>, outcomes: &[Outcome]) -> Result<(), AllocError>
@@ -27,15 +29,24 @@ fn tell(lines: &mut Vec<Line>, outcomes: &[Outcome]) -> Result<(), AllocError>
     Ok(())
 }
 
+/// So many bytes 61. The error comes only where memory was refused.
+fn letters(alloc: Global, size: usize) -> Result<Vec<u8>, AllocError>
+    ensures { IfOk result (λ letters. letters.items ≡ replicate size 97) }
+{
+    vec![in alloc; b'a'; size]
+}
+
 /// Offers a message, and says what came of it.
 fn offer_line(log: &mut LogState, publisher: &mut Publisher, message: &[u8]) -> Line
     requires { length message.now ≤ max_payload log.old.identity.geometry }
-    ensures line { OfferedLine log.old publisher.old message.now (answer_of log.old (length message.now)) (print_of result) log.new }
-    ensures pass { publisher.new ≡ publisher.old }
+    ensures line { OfferedLine log.old publisher.old.number message.now (answer_of log.old (length message.now)) (print_of result) log.new }
+    ensures may { MayOffer log.old publisher.old.number message.now }
+    ensures pass { publisher.new.number ≡ publisher.old.number }
     ensures identity { log.new.identity ≡ log.old.identity }
     ensures readers { (r : Reader) → IsAt log.old r → IsAt log.new r }
-    ensures bytes { AllByRecursion (λ b. b < 256) message.now }
 {
+    let _ = log.tail();
+    let _ = publisher.number();
     match offer(log, publisher, message) {
         Ok(position) => Line::Position(position),
         Err(refusal) => Line::Refused(refusal),
@@ -49,8 +60,11 @@ impl Stage {
     {
         match command {
             Command::Connect => self.connect(lines),
+            Command::Disconnect => self.disconnect(lines),
+            Command::Close => self.close(lines),
             Command::Limit => self.limit(lines),
             Command::Offer { publisher, message } => self.offer(*publisher, message, lines),
+            Command::OfferSize { publisher, size } => self.offer_size(*publisher, *size, lines),
             Command::Send { now } => self.send(*now, lines),
             Command::Deliver {
                 packet,
@@ -67,7 +81,23 @@ impl Stage {
     fn connect(&mut self, lines: &mut Vec<Line>) -> Result<(), AllocError>
         ensures { OnOk result (IsAnswered self.old orders.Connect lines.old.items lines.new.items self.new) }
     {
-        self.keeper.set_connected(&mut self.log, true);
+        set_connected(&mut self.log, &mut self.keeper, true);
+        lines.push(Line::Done)?;
+        Ok(())
+    }
+
+    fn disconnect(&mut self, lines: &mut Vec<Line>) -> Result<(), AllocError>
+        ensures { OnOk result (IsAnswered self.old orders.Disconnect lines.old.items lines.new.items self.new) }
+    {
+        set_connected(&mut self.log, &mut self.keeper, false);
+        lines.push(Line::Done)?;
+        Ok(())
+    }
+
+    fn close(&mut self, lines: &mut Vec<Line>) -> Result<(), AllocError>
+        ensures { OnOk result (IsAnswered self.old orders.Close lines.old.items lines.new.items self.new) }
+    {
+        set_closed(&mut self.log, &mut self.keeper);
         lines.push(Line::Done)?;
         Ok(())
     }
@@ -75,7 +105,8 @@ impl Stage {
     fn limit(&mut self, lines: &mut Vec<Line>) -> Result<(), AllocError>
         ensures { OnOk result (IsAnswered self.old orders.Limit lines.old.items lines.new.items self.new) }
     {
-        let limit = self.keeper.clean_and_limit(&mut self.log);
+        let _ = self.log.tail();
+        let limit = clean_and_limit(&mut self.log, &mut self.keeper);
         lines.push(Line::Limit(limit))?;
         Ok(())
     }
@@ -92,6 +123,35 @@ impl Stage {
             lines.push(Line::Bad)?;
             return Ok(());
         }
+        self.offer_short(publisher, message, lines)
+    }
+
+    fn offer_size(
+        &mut self,
+        publisher: Seat,
+        size: u64,
+        lines: &mut Vec<Line>,
+    ) -> Result<(), AllocError>
+        ensures { OnOk result (IsAnswered self.old (orders.OfferSize publisher.number size) lines.old.items lines.new.items self.new) }
+    {
+        if size > u64::from(self.log.geometry().max_payload()) {
+            lines.push(Line::Bad)?;
+            return Ok(());
+        }
+        let message = letters(*lines.allocator(), size as usize)?;
+        self.offer_short(publisher, &message, lines)
+    }
+
+    /// Offers a message that a frame can hold, and adds its line.
+    fn offer_short(
+        &mut self,
+        publisher: Seat,
+        message: &[u8],
+        lines: &mut Vec<Line>,
+    ) -> Result<(), AllocError>
+        requires { length message.now ≤ max_payload self.old.log.identity.geometry }
+        ensures { OnOk result (IsOffered self.old publisher.number message.now lines.old.items lines.new.items self.new) }
+    {
         let pass = &mut self.publishers[publisher.number];
         lines.push(offer_line(&mut self.log, pass, message))?;
         Ok(())

@@ -4,8 +4,9 @@ use crate::hexadecimal::Hexadecimal;
 use crate::receiver::Outcome;
 use crate::sender::SenderAnswer;
 use assembler::{AssemblyError, Message};
-use log_buffer::{Book, LogError, Refusal};
+use log_buffer::{Book, LogError};
 use position::GeometryError;
+use publication::Refusal;
 use std::alloc::Global;
 use std::fmt;
 

@@ -3,7 +3,8 @@
 ghost use Rattle.std.specs.Prelude.{◌≡◌, ◌<◌, vec_len, IfOk, OnOk, OnErr, All};
 ghost use Rattle.theory.specs.Position.{max_position};
 ghost use Rattle.log_buffer.specs.Log.{fresh};
-ghost use Rattle.log_buffer.specs.Reader.{AreAll, AreReaders, IsAt};
+ghost use Rattle.log_buffer.specs.Passes.{AreAll};
+ghost use Rattle.log_buffer.specs.Reader.{AreReaders, IsAt};
 ghost use Rattle.mdriver.specs.Scene.{listening_at, opened_scene};
 ghost use Rattle.mdriver.specs.Subscribing.{ShowsSubscriber};
 ghost use Rattle.mdriver.specs.Plays.{AlwaysPolled, Plays};

@@ -2,7 +2,8 @@
 
 ghost use Rattle.std.specs.Prelude.{◌≡◌, ◌<◌, vec_len, vec_capacity};
 ghost use Rattle.log_buffer.specs.Books.{ShowsBook};
-ghost use Rattle.log_buffer.specs.Reader.{AreAll, IsAt};
+ghost use Rattle.log_buffer.specs.Passes.{AreAll};
+ghost use Rattle.log_buffer.specs.Reader.{IsAt};
 ghost use Rattle.mdriver.specs.Stands.{IsAt_prop};
 
 use crate::outbox::Outbox;

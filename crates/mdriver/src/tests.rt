@@ -47,6 +47,45 @@ const PLAYED: &[(&str, &str)] = &[
         "log 65536 1408 7 0 1 1001 0\noffer 3 hex 6f6e65\nconnect\noffer 3 hex 6f6e65\nlimit\noffer 3 hex 6f6e65\noffer 0 hex 74776f\noffer 7 hex 000102030405060708090a0b0c0d0e0f101112131415161718191a1b1c1d1e1f20\nsend 0\nsend 0\ndeliver 0 0 0\ntick 0 0\nreply 1 0\nsend 0\nsend 0\nsend 0\nlimit\ndeliver 2 0 0\ndeliver 3 0 0\ndeliver 4 0 0\npoll 0\npoll 0\npoll 0\npoll 0\nimage 0\n",
         "open\nrefused -1\nok\nrefused -2\nlimit 32768\nposition 64\nposition 128\nposition 224\npacket 0 28000000000005000000000001000000e90300000700000007000000000001008005000000000000\nnothing\nopened 0\npacket 1 240000000000030001000000e90300000700000000000000008000000000000000000000\nstatus 32768\npacket 2 2300000000c001000000000001000000e90300000700000000000000000000006f6e650000000000000000000000000000000000000000000000000000000000\npacket 3 2300000000c001004000000001000000e903000007000000000000000000000074776f0000000000000000000000000000000000000000000000000000000000\npacket 4 4100000000c001008000000001000000e9030000070000000000000000000000000102030405060708090a0b0c0d0e0f101112131415161718191a1b1c1d1e1f2000000000000000000000000000000000000000000000000000000000000000\nlimit 32992\nI1\nI1\nI1\nmessage 6f6e65\nmessage 74776f\nmessage 000102030405060708090a0b0c0d0e0f101112131415161718191a1b1c1d1e1f20\nnone\nimage least 224 rebuilt 224 high 224\nbook 0 224 64 0 0 64 0 0 0 96\n",
     ),
+    // a message that just fits the term, a term that is used up, and a log that is closed
+    (
+        "log 65536 1408 7 65408 1 1001 0\nconnect\nlimit\noffer 0 size 96\noffer 0 hex 616263\noffer 0 hex 616263\noffer 1 size 1376\nclose\noffer 0 hex 616263\n",
+        "open\nok\nlimit 98176\nposition 65536\nrefused -3\nposition 65600\nposition 67008\nok\nrefused -4\nbook 65408 67008 192 1408 0 0 0 0 0 0\n",
+    ),
+    // a message that doesn't fit the term leaves a padding
+    (
+        "log 65536 1408 7 65472 1 1001 0\nconnect\nlimit\noffer 0 size 33\noffer 0 size 33\n",
+        "open\nok\nlimit 98240\nrefused -3\nposition 65632\nbook 65472 65632 160 0 0 0 0 0 0 0\n",
+    ),
+    // a padding goes out as its header, and a poll passes it
+    (
+        "log 65536 1408 7 65472 1 1001 0\nconnect\nlimit\nsend 0\ndeliver 0 0 0\ntick 0 0\nreply 1 0\noffer 0 size 33\noffer 1 hex 616263\nsend 0\nsend 0\ndeliver 2 0 0\npoll 0\nimage 0\ndeliver 3 0 0\npoll 0\npoll 0\nimage 0\n",
+        "open\nok\nlimit 98240\npacket 0 2800000000000500c0ff000001000000e90300000700000007000000000001008005000000000000\nopened 65472\npacket 1 240000000000030001000000e903000007000000c0ff0000008000000000000000000000\nstatus 98240\nrefused -3\nposition 65600\npacket 2 4000000000c00000c0ff000001000000e9030000070000000000000000000000\npacket 3 2300000000c001000000000001000000e90300000800000000000000000000006162630000000000000000000000000000000000000000000000000000000000\nI1\nnone\nimage least 65536 rebuilt 65536 high 65536\nI1\nmessage 616263\nnone\nimage least 65600 rebuilt 65600 high 65600\nbook 65472 65600 64 64 0 0 0 0 0 0\n",
+    ),
+    // up to the limit and past it, and then without a receiver
+    (
+        "log 65536 1408 7 0 1 1001 0\nconnect\nlimit\noffer 0 size 1376\noffer 0 size 1376\noffer 0 size 1376\noffer 0 size 1376\noffer 0 size 1376\noffer 0 size 1376\noffer 0 size 1376\noffer 0 size 1376\noffer 0 size 1376\noffer 0 size 1376\noffer 0 size 1376\noffer 0 size 1376\noffer 0 size 1376\noffer 0 size 1376\noffer 0 size 1376\noffer 0 size 1376\noffer 0 size 1376\noffer 0 size 1376\noffer 0 size 1376\noffer 0 size 1376\noffer 0 size 1376\noffer 0 size 1376\noffer 0 size 1376\noffer 0 size 320\noffer 0 size 100\noffer 0 size 100\ndisconnect\noffer 0 hex 616263\nlimit\nclose\nconnect\nlimit\noffer 0 hex 616263\n",
+        "open\nok\nlimit 32768\nposition 1408\nposition 2816\nposition 4224\nposition 5632\nposition 7040\nposition 8448\nposition 9856\nposition 11264\nposition 12672\nposition 14080\nposition 15488\nposition 16896\nposition 18304\nposition 19712\nposition 21120\nposition 22528\nposition 23936\nposition 25344\nposition 26752\nposition 28160\nposition 29568\nposition 30976\nposition 32384\nposition 32736\nposition 32896\nrefused -2\nok\nrefused -1\nlimit 32768\nok\nok\nlimit 32768\nrefused -4\nbook 0 32896 32896 0 0 0 0 0 0 0\n",
+    ),
+    // the last term is used up
+    (
+        "log 65536 1408 7 140737488355264 1 1001 0\nconnect\nlimit\noffer 0 size 33\noffer 0 size 33\n",
+        "open\nok\nlimit 140737488388032\nrefused -5\nrefused -5\nbook 140737488355264 140737488355328 64 0 0 0 0 0 0 0\n",
+    ),
+    // nobody was ever connected: the limit stays
+    (
+        "log 65536 1408 7 32 1 1001 0\nlimit\noffer 0 hex 616263\ndisconnect\noffer 7 size 0\n",
+        "open\nlimit 32\nrefused -1\nok\nrefused -1\nbook 32 32 0 0 0 0 0 0 0 0\n",
+    ),
+    // messages that no frame can hold
+    (
+        "log 65536 1408 7 0 1 1001 0\noffer 0 size 1377\noffer 0 size 18446744073709551615\nconnect\nlimit\noffer 0 size 1377\noffer 0 size 0\n",
+        "open\nbad\nbad\nok\nlimit 32768\nbad\nposition 32\nbook 0 32 32 0 0 0 0 0 0 0\n",
+    ),
+    // starts that no stream has
+    ("log 65536 1408 7 1 1 1001 0\n", "L1\n"),
+    ("log 65536 1408 7 140737488355328 1 1001 0\n", "L1\n"),
+    ("log 65536 1408 7 18446744073709551615 1 1001 0\n", "L1\n"),
     // what isn't there
     (
         "log 65536 1408 7 0 1 1001 0\ndeliver 0 0 0\nreply 18446744073709551615 0\npoll 7\nimage 0\n",
@@ -80,14 +119,9 @@ const REFUSED: &[(&str, &str)] = &[
         "error: line 3: script\n",
     ),
     (
-        "log 65536 1408 7 0 1 1001 0\nclose\n",
-        "error: line 2: script\n",
-    ),
-    (
         "log 65536 1408 7 0 1 1001 0\noffer 0 hex 616\n",
         "error: line 2: script\n",
     ),
-    ("log 65536 1408 7 32 1 1001 0\n", "error: line 1: script\n"),
     ("log 65536 1408 7 0 1 1001 1\n", "error: line 1: script\n"),
     (
         "log 65536 1408 7 0 1 1001 0\nsend 18446744073709551616\n",
@@ -144,6 +178,28 @@ fn longest_script(rt: HostRuntime) -> Result<(), Fail> {
     let done = run_over(rt.alloc(), SIM, &script);
     assert_eq!(rt; done.errors.as_slice(), b"error: input\n".as_slice());
     assert_eq!(rt; done.status, 1);
+    Ok(())
+}
+
+/// A log turns round its three terms: 46 messages and a padding fill each.
+#[test]
+fn four_terms(rt: HostRuntime) -> Result<(), Fail> {
+    let mut script = Vec::from_slice(
+        rt.alloc(),
+        b"log 65536 1408 7 0 1 1001 0\nconnect\nsend 0\ndeliver 0 0 0\ntick 0 0\nreply 1 0\n",
+    )?;
+    for round in 0..200_u64 {
+        let frame = 2 * round + 2;
+        let status = 2 * round + 3;
+        let now = 200_000_000 * (round + 1);
+        write!(
+            &mut script,
+            "limit\noffer 0 size 1376\nsend {now}\ndeliver {frame} 0 {now}\npoll 0\ntick 0 {now}\nreply {status} {now}\n"
+        )?;
+    }
+    let done = run_over(rt.alloc(), SIM, &script);
+    let last = b"\nstatus 311808\nbook 0 279040 279040 0 0 0 0 0 0 0\n".as_slice();
+    assert!(rt; done.output.ends_with(last));
     Ok(())
 }
 
