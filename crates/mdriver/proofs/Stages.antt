@@ -4,7 +4,6 @@ use Rattle.std.specs.Prelude.{◌%◌, slice_get, slice_set, slice_index, slice_
 use Rattle.std.proofs.lemmas.List.{map-append}
 use Rattle.theory.specs.Entry.{Entry}
 use Rattle.theory.specs.FlowLimit.{flow_limit}
-use Rattle.theory.specs.Position.{max_payload}
 use Rattle.log_buffer.specs.Log.{IsLog, Log, added, room_in, with_padding}
 use Rattle.log_buffer.specs.Passes.{AreAll, Pass}
 use Rattle.rotation.specs.Limited.{CleansAndLimits, raised}
@@ -22,7 +21,7 @@ use Rattle.mdriver.specs.Polling.{Polls, TellsPositions}
 use Rattle.mdriver.specs.Prints.{Bad, Limit, OfReceiver, Print, print_of, prints}
 use Rattle.mdriver.specs.Receiving.{Hears, Receiver, replies, ticked}
 use Rattle.mdriver.specs.Scene.{Scene}
-use Rattle.mdriver.specs.Staged.{AllShow, Answered, IsAnswered, IsOffered, OfferedLine, ShowsScene, ShowsSender}
+use Rattle.mdriver.specs.Staged.{AllShow, IsAnswered, IsOffered, OfferedLine, ShowsScene, ShowsSender}
 use Rattle.mdriver.specs.Subscribing.{Becomes, ShowsSubscriber, Subscribing}
 use Rattle.mdriver.proofs.OfferRuns.{turned_same}
 

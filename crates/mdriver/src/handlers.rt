@@ -1,6 +1,6 @@
 //! What each line of a script does, and what it prints.
 
-ghost use Rattle.std.specs.Prelude.{◌≡◌, ◌≤◌, ◌<◌, ◌++◌, length, IfOk, OnOk, map, replicate};
+ghost use Rattle.std.specs.Prelude.{◌≡◌, ◌≤◌, ◌++◌, length, IfOk, OnOk, map, replicate};
 ghost use Rattle.theory.specs.Position.{max_payload};
 ghost use Rattle.log_buffer.specs.Reader.{IsAt, Reader};
 ghost use Rattle.publication.specs.Offers.{answer_of};

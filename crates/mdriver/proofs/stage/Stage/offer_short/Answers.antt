@@ -1,4 +1,4 @@
-use Rattle.std.proofs.Common.{◌≡◌, ◌∙◌, ap, refl, rules, subst, length}
+use Rattle.std.proofs.Common.{◌≡◌, ◌∙◌, ap, refl, subst, length}
 use Rattle.publication.specs.Offers.{answer_of}
 use Rattle.mdriver.specs.Answers.{MayOffer}
 use Rattle.mdriver.specs.Prints.{print_of}
