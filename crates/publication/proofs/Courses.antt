@@ -13,10 +13,10 @@ use Rattle.log_buffer.specs.Passes.{HasSeenEnd}
 use Rattle.log_buffer.specs.declared.step.Step.{Step}
 use Rattle.log_buffer.specs.declared.step.Step.TheVariants as steps
 use Rattle.term_buffer.specs.declared.claimed.Claimed.{Claimed}
-use Rattle.theory.specs.Placed.{Pad}
+use Rattle.theory.specs.Placed.{Data, Pad}
 use Rattle.theory.specs.Entry.{Entry}
-use Rattle.term_buffer.specs.Kept.{claim_of, padded}
-use Rattle.log_buffer.specs.Log.{IsFinished, added, after_add, with_claim, with_commit, with_padding, with_taken, IsLog, Log, claimed_of, looked, may_arm, offset_of, raw_tail, room_in, taken_of, term_of}
+use Rattle.term_buffer.specs.Kept.{claim_of, padded, published}
+use Rattle.log_buffer.specs.Log.{IsFinished, added, after_add, with_claim, with_commit, with_message, with_padding, with_taken, IsLog, Log, claimed_of, looked, may_arm, offset_of, raw_tail, room_in, taken_of, term_of}
 use Rattle.publication.specs.Looks.{IsOpenBelow}
 
 -- the active term, which has room, is the newest
@@ -177,3 +177,43 @@ is_older l Same to other =
     (λ (h : l.active + 2 < l.newest). h)
     (λ (h : l.newest ≤ l.active + 2). absurd (other (to h)))
     (cases_lt (l.active + 2) l.newest)
+
+-- ---- the message
+
+abbrev gave_message : ℕ → Option (Bool × ℕ)
+gave_message frame_length = Some (false, frame_length)
+
+message_taken : (l : Log) (by frame_length room : ℕ) (c : Claimed) (none fits : Bool) → claimed_of l by (gave none fits frame_length room) ≡ Some c → c.padding ≡ false → (gave none fits frame_length room ≡ gave_message frame_length) × (fits ≡ true)
+message_taken l by frame_length room c true fits e p = absurd (cc)
+message_taken l by frame_length room c false true e p = (refl, refl)
+message_taken l by frame_length room c false false e p = absurd (false≢true (sym (ap padding_of e ∙ p)))
+  where
+    padding_of : Option Claimed → Bool
+    padding_of None = true
+    padding_of (Some d) = d.padding
+
+abbrev pub message_claim : Log → ℕ → ℕ → Claimed
+message_claim l by frame_length = record { number = l.gone + length l.entries; start = l.tail; frame_length = frame_length; owner = by; padding = false }
+
+pub message_fits : (l : Log) (by partition frame_length : ℕ) (c : Claimed) → claimed_of l by (taken_of l partition frame_length) ≡ Some c → c.padding ≡ false → (taken_of l partition frame_length ≡ gave_message frame_length) × (nat_le (aligned frame_length) (room_in l partition) ≡ true)
+message_fits l by partition frame_length c e p =
+    message_taken l by frame_length (room_in l partition) c (nat_eq (room_in l partition) 0) (nat_le (aligned frame_length) (room_in l partition)) e p
+
+the_message_claim : (l : Log) (by partition frame_length : ℕ) (c : Claimed) → claimed_of l by (taken_of l partition frame_length) ≡ Some c → c.padding ≡ false → c ≡ message_claim l by frame_length
+the_message_claim l by partition frame_length c e p =
+    let is : Some (message_claim l by frame_length) ≡ Some c = sym (ap (claimed_of l by) (message_fits l by partition frame_length c e p).0) ∙ e in cc
+
+committed_message : (l : Log) (by : ℕ) (message : List ℕ) → length l.drafts ≡ length l.entries → with_commit (with_claim l by false (32 + length message)) (message_claim l by (32 + length message)) (Data 192 message) ≡ with_message l by message
+committed_message l by message drafts =
+    let here : l.gone + length l.entries - l.gone ≡ length l.entries = omega arith in
+    ap (λ (n : ℕ). record (with_message l by message) { entries = slice_set (l.entries ++ claim_of l.tail by false (32 + length message) ∷ []) n (published l.tail by message); drafts = slice_set (l.drafts ++ replicate (aligned (32 + length message) - 8) 0 ∷ []) n [] }) here
+    ∙ ap (λ (es : List Entry). record (with_message l by message) { entries = es; drafts = slice_set (l.drafts ++ replicate (aligned (32 + length message) - 8) 0 ∷ []) (length l.entries) [] }) (set_at l.entries (claim_of l.tail by false (32 + length message)) [] (published l.tail by message) (length l.entries) refl)
+    ∙ ap (λ (ds : List (List ℕ)). record (with_message l by message) { drafts = ds }) (set_at l.drafts (replicate (aligned (32 + length message) - 8) 0) [] [] (length l.entries) drafts)
+
+-- an addition that fits, and its commit
+pub message_log : (l a w : Log) (by partition : ℕ) (message : List ℕ) (c : Claimed) → length l.drafts ≡ length l.entries → claimed_of l by (taken_of l partition (32 + length message)) ≡ Some c → c.padding ≡ false → a ≡ after_add l by partition (32 + length message) → w ≡ with_commit a c (Data 192 message) → w ≡ with_message (added l by partition (aligned (32 + length message))) by message
+message_log l a w by partition message c drafts e p is was =
+    was
+    ∙ ap (λ (x : Log). with_commit x c (Data 192 message)) (is ∙ ap (with_taken (added l by partition (aligned (32 + length message))) by) (message_fits l by partition (32 + length message) c e p).0)
+    ∙ ap (λ (d : Claimed). with_commit (with_claim (added l by partition (aligned (32 + length message))) by false (32 + length message)) d (Data 192 message)) (the_message_claim l by partition (32 + length message) c e p)
+    ∙ committed_message (added l by partition (aligned (32 + length message))) by message drafts

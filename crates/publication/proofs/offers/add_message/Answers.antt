@@ -1,4 +1,4 @@
-use Rattle.std.proofs.Common.{rules, arith, ap, sym, ◌∙◌, nat_le, ◌≡◌, ℕ, ◌+◌, ◌/◌, ◌%◌, ◌<◌, ◌≤◌, ◌^◌, Some, length, slice_get, IfErr, if◌then◌else◌, ◌-◌, ◌*◌, Bool, true, false, nat_eq, nat_lt, List, [], ◌∷◌, ◌++◌, slice_index_or, slice_set, bit_and, bit_or, Fits, w8, w32, w64, Bor, MutBor}
+use Rattle.std.proofs.Common.{rules, arith, append-nil, ap, sym, ◌∙◌, nat_le, ◌≡◌, ℕ, ◌+◌, ◌/◌, ◌%◌, ◌<◌, ◌≤◌, ◌^◌, Some, length, slice_get, IfErr, if◌then◌else◌, ◌-◌, ◌*◌, Bool, true, false, nat_eq, nat_lt, List, [], ◌∷◌, ◌++◌, slice_index_or, slice_set, bit_and, bit_or, Fits, w8, w32, w64, Bor, MutBor}
 use Rattle.theory.specs.Position.{id_of, max_payload}
 use Rattle.theory.specs.Refusal.{IsJustified}
 use Rattle.theory.specs.Words.{id_in, offset_in}
@@ -11,11 +11,11 @@ use Rattle.publication.specs.Offers.{added_course, after_course, after_offer, an
 use Rattle.publication.specs.Refusals.{why_of}
 use Rattle.theory.specs.Position.{max_position}
 use Rattle.theory.specs.Placed.{Pad}
-use Rattle.std.proofs.lemmas.Bool.{cond-false, leb-false}
+use Rattle.std.proofs.lemmas.Bool.{cond-false, cond-true, leb-false}
 use Rattle.log_buffer.specs.Log.{Log, added, after_add, claimed_of, room_in, taken_of, with_padding}
 use Rattle.publication.specs.Offers as offers
 use Rattle.log_buffer.specs.declared.step.Step.TheVariants as steps
-use Rattle.publication.proofs.Courses.{finished_there, padded_log, past_end, seen_past, tail_in_stream, trips}
+use Rattle.publication.proofs.Courses.{finished_there, message_fits, message_log, padded_log, past_end, seen_past, tail_in_stream, trips}
 use Rattle.publication.proofs.offers.add_message.Goals as goal
 
 -- src/offers.rt:98:13
@@ -71,3 +71,27 @@ returns-in-Some-2-clause-after c =
 
 pub returns-in-Some-2-clause-readers : goal.returns-in-Some-2-clause-readers
 returns-in-Some-2-clause-readers c = λ r h. c.turn_from.ensures.readers r (c.write_padding.ensures.readers r (c.add-added.ensures.readers r h))
+
+pub returns-in-Some-clause-after : goal.returns-in-Some-clause-after
+returns-in-Some-clause-after c =
+    let is : claimed_of c.args.log.now c.args.publisher.now.number (taken_of c.args.log.now (c.args.count % 3) (32 + length c.args.message.now)) ≡ Some c.in-Some.claimed = search rules in
+    let message : c.in-Some.claimed.padding ≡ false = search rules in
+    let made : c.add-added.new.self ≡ after_add c.args.log.now c.args.publisher.now.number (c.args.count % 3) (32 + length c.args.message.now) = search rules in
+    let course : added_course c.args.log.now c.args.count (length c.args.message.now) ≡ offers.Fits = cond-true (nat_le (covered (length c.args.message.now)) (room_in c.args.log.now (c.args.count % 3))) offers.Fits offers.Trips (message_fits c.args.log.now c.args.publisher.now.number (c.args.count % 3) (32 + length c.args.message.now) c.in-Some.claimed is message).1 in
+    message_log c.args.log.now c.add-added.new.self c.write_message.new.log c.args.publisher.now.number (c.args.count % 3) c.args.message.now c.in-Some.claimed c.requires.legal.drafts is message made c.write_message.ensures.committed
+    ∙ sym (ap (after_course c.args.log.now c.args.publisher.now.number c.args.count c.args.message.now) course)
+
+pub returns-in-Some-clause-steps : goal.returns-in-Some-clause-steps
+returns-in-Some-clause-steps c =
+    let stepped : c.add-added.new.publisher.steps ≡ c.args.publisher.now.steps ++ steps.Addition (c.args.count % 3) (covered (length c.args.message.now)) (raw_tail c.args.log.now (c.args.count % 3)) ∷ [] = search rules in
+    record {
+      number = search rules;
+      more = [];
+      steps = stepped ∙ sym (append-nil (c.args.publisher.now.steps ++ steps.Addition (c.args.count % 3) (covered (length c.args.message.now)) (raw_tail c.args.log.now (c.args.count % 3)) ∷ []));
+      few = omega arith;
+      few_tails = omega arith;
+      few_counts = omega arith;
+    }
+
+pub returns-in-Some-clause-readers : goal.returns-in-Some-clause-readers
+returns-in-Some-clause-readers c = λ r h. c.write_message.ensures.readers r (c.add-added.ensures.readers r h)
