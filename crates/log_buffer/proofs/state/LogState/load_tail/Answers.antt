@@ -13,3 +13,12 @@ invariant_of-self c =
     let limit : c.args.limit ≤ c.self.inside.limit = subst (λ l. c.args.limit ≤ l.limit) (sym c.self.view_is) c.requires.limit in
     let within : c.self.inside.buffer.tail < c.args.limit = search rules in
     kept_armed (the_view c.self.inside) c.self.inside.tails c.self.inside.consumer_count c.number.result c.partition_of-partition.result c.self.invariant place low (omega arith)
+
+pub returns-then-tail-limit-clause-legal : goal.returns-then-tail-limit-clause-legal
+returns-then-tail-limit-clause-legal c =
+    let newest : c.args.count ≡ c.self.inside.tails.newest = search rules in
+    let place : c.partition_of-partition.result ≡ c.self.inside.tails.newest % 3 = c.partition_of-partition.ensures.value ∙ ap (λ n. n % 3) newest in
+    let low : slice_index c.self.inside.tails.offsets c.partition_of-partition.result < term_of (the_view c.self.inside) = search rules in
+    let limit : c.args.limit ≤ c.self.inside.limit = subst (λ l. c.args.limit ≤ l.limit) (sym c.self.view_is) c.requires.limit in
+    let within : c.self.inside.buffer.tail < c.args.limit = search rules in
+    (kept_armed (the_view c.self.inside) c.self.inside.tails c.self.inside.consumer_count c.number.result c.partition_of-partition.result c.self.invariant place low (omega arith)).log
