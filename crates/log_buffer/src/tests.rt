@@ -30,7 +30,11 @@ fn refuses(rt: HostRuntime) -> Result<(), Fail> {
         (0, 9, Some(LogError::Consumers)),
         (140_737_488_355_296, 8, None),
     ] {
-        assert_eq!(rt; refusal(rt.alloc(), geometry, start, consumers), want, "at {start}");
+        assert_eq!(rt;
+            refusal(rt.alloc(), geometry, start, consumers),
+            want,
+            "at {start}"
+        );
     }
     assert_eq!(rt; LogError::Memory.code(), "L3");
     Ok(())
@@ -87,9 +91,22 @@ fn opens(rt: HostRuntime) -> Result<(), Fail> {
             0
         ]
     );
-    assert_eq!(rt; limit, Limit { position: 57_184, connected: false, closed: false });
+    assert_eq!(rt;
+        limit,
+        Limit {
+            position: 57_184,
+            connected: false,
+            closed: false
+        }
+    );
     assert_eq!(rt; count, 0);
-    assert_eq!(rt; tail, RawTail { term_id: 7, offset: 57_184 });
+    assert_eq!(rt;
+        tail,
+        RawTail {
+            term_id: 7,
+            offset: 57_184
+        }
+    );
     assert!(rt; head.is_none());
     assert_eq!(rt; places, [57_184; 6]);
     assert_eq!(rt; [book.start, book.tail], [57_184, 57_184]);
