@@ -1,12 +1,11 @@
 -- The parts of an addition.
-use Rattle.std.proofs.Common.{◌≡◌, ℕ, ◌+◌, ◌-◌, ◌*◌, ◌/◌, ◌%◌, ◌<◌, ◌≤◌, Bool, true, false, List, Option, Some, refl, sym, ap, ◌∙◌, subst, min, arith}
+use Rattle.std.proofs.Common.{◌≡◌, ℕ, ◌+◌, ◌-◌, ◌*◌, ◌%◌, ◌<◌, ◌≤◌, true, false, List, Option, Some, sym, ap, ◌∙◌, subst, min, arith}
 use Rattle.std.specs.Prelude.{slice_get, slice_index}
 use Rattle.theory.specs.Position.{aligned, greatest_claim, max_position}
 use Rattle.raw_tails.specs.Tails.{Tails}
-use Rattle.log_buffer.specs.Log.{Log, offset_of, term_of}
+use Rattle.log_buffer.specs.Log.{Log, term_of}
 use Rattle.log_buffer.specs.States.{IsState}
-use Rattle.log_buffer.proofs.Armed.{frame_claim}
-use Rattle.log_buffer.proofs.Keeps.{Stands, Takes, add_room, is_newest, small_add, stands}
+use Rattle.log_buffer.proofs.Keeps.{Stands, Takes, add_room, is_newest, stands}
 
 -- the publisher's partition
 pub armed_with : (armed : List (Option ℕ)) (k j count p : ℕ) → slice_get armed k ≡ Some (Some (count % 3)) → j ≡ k → p ≡ count % 3 → slice_get armed j ≡ Some (Some p)

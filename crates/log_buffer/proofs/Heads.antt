@@ -1,9 +1,9 @@
 -- What a reader finds at its position.
-use Rattle.std.proofs.Common.{◌≡◌, ℕ, ◌+◌, ◌-◌, ◌<◌, ◌≤◌, true, List, [], ◌∷◌, ◌++◌, length, take, drop, Some, inr, refl, sym, ap, ◌∙◌, subst, arith}
+use Rattle.std.proofs.Common.{◌≡◌, ℕ, ◌+◌, ◌-◌, ◌≤◌, true, List, [], ◌∷◌, ◌++◌, length, drop, Some, inr, refl, sym, ap, ◌∙◌, subst, arith}
 use Rattle.std.specs.Prelude.{nat_eq, slice_get}
 use Rattle.theory.specs.Position.{aligned, span}
 use Rattle.theory.specs.Placed.{Among, Data, Frame, Pad, Placed, payload_of}
-use Rattle.theory.specs.Entry.{Entry, committed, entry_end}
+use Rattle.theory.specs.Entry.{Entry, committed}
 use Rattle.theory.specs.Messages.{is_whole}
 use Rattle.position.specs.declared.head.FrameHead.{FrameHead}
 use Rattle.term_buffer.specs.Heads.{head_of}

@@ -13,7 +13,6 @@ back_is (suc zero) h = refl
 back_is (suc (suc zero)) h = refl
 back_is (suc (suc (suc back))) h = absurd (omega arith)
 
-
 here_is : (g : Geometry) (count : ℕ) → FitsSigned w32 g.initial_term_id → count < 2147483648 → cast_unsigned w32 (id_of g count) ≡ (cast_unsigned w32 g.initial_term_id + count) % 4294967296
 here_is g count f l =
     let u : ℕ = cast_unsigned w32 g.initial_term_id in

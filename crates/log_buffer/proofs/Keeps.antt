@@ -1,14 +1,14 @@
 -- What each call keeps of a log's state.
-use Rattle.std.proofs.Common.{◌≡◌, ℕ, zero, suc, ◌+◌, ◌-◌, ◌*◌, ◌/◌, ◌%◌, ◌^◌, ◌<◌, ◌≤◌, ◌⊎◌, ⊎_elim, inl, inr, Bool, true, false, cond, List, [], ◌∷◌, ◌++◌, length, take, drop, replicate, Option, None, Some, refl, sym, ap, ◌∙◌, subst, min, max, length-append, arith}
-use Rattle.std.specs.Prelude.{if◌then◌else◌, nat_eq, slice_get, slice_set, slice_index, slice_index_or, sum}
+use Rattle.std.proofs.Common.{◌≡◌, ℕ, suc, ◌+◌, ◌-◌, ◌*◌, ◌/◌, ◌%◌, ◌^◌, ◌<◌, ◌≤◌, ⊎_elim, Bool, true, false, List, [], ◌∷◌, ◌++◌, length, replicate, None, Some, refl, sym, ap, ◌∙◌, subst, min, length-append, arith}
+use Rattle.std.specs.Prelude.{slice_get, slice_set, slice_index, slice_index_or}
 use Rattle.std.specs.List.{AllByRecursion}
 use Rattle.std.proofs.Math.Nat.{mul-le-mul_right}
 use Rattle.std.proofs.lemmas.Nat.{same_from_place, div-add-mod'}
 use Rattle.std.proofs.lemmas.Bool.{cases_eq, cases_lt}
 use Rattle.std.proofs.lemmas.List.{length-replicate, length-drop}
 use Rattle.theory.specs.Position.{aligned, greatest_claim, max_position, span}
-use Rattle.theory.specs.Placed.{Data, Frame, Pad}
-use Rattle.theory.specs.Entry.{Entry, HaveFrames, IsEntry, entry_end}
+use Rattle.theory.specs.Placed.{Frame}
+use Rattle.theory.specs.Entry.{Entry, HaveFrames, IsEntry}
 use Rattle.theory.specs.Messages.{is_whole}
 use Rattle.theory.specs.Tiling.{InOneTerm, Tiles}
 use Rattle.theory.proofs.Lists.{all_get, all_set, all_weaker}
@@ -17,14 +17,14 @@ use Rattle.theory.proofs.Frames.{tiles_le}
 use Rattle.theory.proofs.LogSteps.{span_unit}
 use Rattle.raw_tails.specs.Tails.{Tails, behind}
 use Rattle.raw_tails.specs.Tails.{added as tails_added, turned as tails_turned}
-use Rattle.term_buffer.specs.Kept.{claim_of, with_share}
+use Rattle.term_buffer.specs.Kept.{claim_of}
 use Rattle.term_buffer.specs.declared.claimed.Claimed.{Claimed}
-use Rattle.log_buffer.specs.Log.{Cleans, IsLeast, IsLog, IsOpen, Log, added, armed_count, clean_end, offset_of, place_of, term_of, turned, with_claim, with_commit, with_draft}
+use Rattle.log_buffer.specs.Log.{Cleans, IsLeast, IsOpen, Log, added, armed_count, clean_end, offset_of, place_of, term_of, turned, with_claim, with_commit, with_draft}
 use Rattle.log_buffer.specs.Reader.{IsAt, Reader}
 use Rattle.log_buffer.specs.States.{AreUnset, IsState, IsUnset, IsUsed, armed_on}
 use Rattle.log_buffer.proofs.Armed.{count_disarmed, count_most, on_disarmed, on_left, on_most, on_other, room_armed, room_fewer, room_left, room_taken, small_claim}
 use Rattle.log_buffer.proofs.Readers.{Moves, moved_behind, moved_whole, moves}
-use Rattle.log_buffer.proofs.Spans.{all_behind, all_index, all_pushed, end_within, got_set, got_unset, got_within, index_other, index_set, length-set, passed_front, some_is, sum_set, tiles_set, tiles_split, unset_at, unset_behind, unset_both, unset_draft, unset_pushed}
+use Rattle.log_buffer.proofs.Spans.{all_behind, all_index, all_pushed, end_within, got_set, got_unset, index_other, index_set, length-set, passed_front, some_is, sum_set, tiles_set, tiles_split, unset_at, unset_behind, unset_both, unset_draft, unset_pushed}
 
 -- ---- loads
 

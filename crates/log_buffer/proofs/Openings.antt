@@ -1,21 +1,20 @@
 -- A log that was just opened, and its readers.
-use Rattle.std.proofs.Common.{◌≡◌, ℕ, zero, suc, ◌+◌, ◌-◌, ◌*◌, ◌/◌, ◌%◌, ◌<◌, ◌≤◌, ◌^◌, ⊎_elim, inl, false, true, List, [], ◌∷◌, length, take, replicate, get_or, Option, None, Some, min, max, refl, sym, ap, ◌∙◌, subst, All, arith}
-use Rattle.std.specs.Prelude.{slice_get, slice_set, slice_index, sum}
+use Rattle.std.proofs.Common.{◌≡◌, ℕ, zero, suc, ◌+◌, ◌-◌, ◌*◌, ◌/◌, ◌%◌, ◌<◌, ◌≤◌, ⊎_elim, inl, false, true, List, [], ◌∷◌, take, replicate, get_or, Option, None, Some, min, max, refl, sym, ap, ◌∙◌, subst, All, arith}
+use Rattle.std.specs.Prelude.{slice_get, slice_set, slice_index}
 use Rattle.std.specs.List.{AllByRecursion}
 use Rattle.std.proofs.Math.Nat.{mul-le-mul_right}
 use Rattle.std.proofs.lemmas.Nat.{div-add-mod'}
 use Rattle.std.proofs.lemmas.Bool.{cases_eq, cases_lt}
 use Rattle.std.proofs.lemmas.List.{get_or-replicate, length-replicate, take-replicate}
 use Rattle.std.proofs.lemmas.Option.{get_or_from_slice_get}
-use Rattle.theory.specs.Position.{Geometry, IsGeometry, greatest_claim, max_position}
-use Rattle.theory.specs.Entry.{Entry}
+use Rattle.theory.specs.Position.{IsGeometry, greatest_claim, max_position}
 use Rattle.theory.specs.Messages.{is_whole}
 use Rattle.theory.specs.Bytes.{Identity, IsIdentity}
 use Rattle.theory.proofs.Lists.{all_replicate}
 use Rattle.theory.proofs.Claims.{claim_bounded}
 use Rattle.raw_tails.specs.Tails.{Tails, opened_at}
 use Rattle.term_buffer.specs.Kept.{Kept, fresh as kept_fresh}
-use Rattle.log_buffer.specs.Log.{Log, armed_count, clean_end, fresh}
+use Rattle.log_buffer.specs.Log.{Log, armed_count, fresh}
 use Rattle.log_buffer.specs.Reader.{AreReaders, IsAt, Reader}
 use Rattle.log_buffer.specs.States.{IsState, armed_on, log_of}
 use Rattle.log_buffer.proofs.Armed.{count_most, on_most, room_armed}

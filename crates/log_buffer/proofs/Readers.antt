@@ -1,18 +1,16 @@
 -- Which readers stand where they did.
-use Rattle.std.proofs.Common.{◌≡◌, ℕ, zero, suc, ◌+◌, ◌-◌, ◌%◌, ◌<◌, ◌≤◌, ◌⊎◌, ⊎_elim, inl, inr, Bool, true, false, List, [], ◌∷◌, ◌++◌, length, take, drop, Some, refl, sym, ap, ◌∙◌, subst, length-append, arith}
-use Rattle.std.specs.Prelude.{slice_get, slice_set, slice_index}
+use Rattle.std.proofs.Common.{◌≡◌, ℕ, zero, suc, ◌+◌, ◌-◌, ◌<◌, ◌≤◌, ⊎_elim, inl, inr, true, false, List, [], ◌∷◌, ◌++◌, length, take, Some, refl, sym, ap, ◌∙◌, subst, length-append, arith}
+use Rattle.std.specs.Prelude.{slice_get, slice_set}
 use Rattle.std.specs.List.{AllByRecursion}
 use Rattle.std.proofs.lemmas.Bool.{cases_lt, false≢true}
-use Rattle.std.proofs.lemmas.List.{take-append-le, take-set-le, take_more}
-use Rattle.std.proofs.lemmas.Option.{get_or_from_slice_get}
-use Rattle.theory.specs.Position.{span}
+use Rattle.std.proofs.lemmas.List.{take-append-le, take-set-le}
 use Rattle.theory.specs.Entry.{Entry, entry_end}
 use Rattle.theory.specs.Messages.{is_whole}
 use Rattle.theory.specs.Tiling.{InOneTerm, Tiles}
 use Rattle.theory.proofs.Tiling.{Tiles-push}
-use Rattle.log_buffer.specs.Log.{Cleans, IsLeast, IsLog, Log, term_of}
+use Rattle.log_buffer.specs.Log.{Cleans, IsLog, Log, term_of}
 use Rattle.log_buffer.specs.Reader.{HasRead, IsAt, Reader}
-use Rattle.log_buffer.proofs.Spans.{all_index, all_pushed, all_taken, got_behind, got_more, got_other, got_within, index_other, index_set, length-set, of_first, some_is, start_at, take_of_set, term_at, tiles_split, tiles_taken}
+use Rattle.log_buffer.proofs.Spans.{all_index, all_pushed, all_taken, got_behind, got_more, got_other, got_within, index_other, index_set, length-set, of_first, some_is, take_of_set, term_at, tiles_taken}
 
 -- a log that holds the same entries and positions
 pub at_same : (l m : Log) (r : Reader) → m.identity ≡ l.identity → m.consumers ≡ l.consumers → m.gone ≡ l.gone → m.first ≡ l.first → m.entries ≡ l.entries → IsAt l r → IsAt m r

@@ -1,7 +1,7 @@
 -- The exchanges of the active count and of a tail.
-use Rattle.std.proofs.Common.{◌≡◌, ℕ, ◌+◌, ◌-◌, ◌*◌, ◌/◌, ◌%◌, ◌^◌, ◌<◌, ◌≤◌, ⊎_elim, Bool, true, false, List, Option, refl, sym, ap, ◌∙◌, subst, arith}
+use Rattle.std.proofs.Common.{◌≡◌, ℕ, ◌+◌, ◌*◌, ◌%◌, ◌^◌, ◌<◌, ◌≤◌, Bool, true, false, List, Option, refl, sym, ap, ◌∙◌, subst, arith}
 use Rattle.std.specs.Prelude.{if◌then◌else◌, nat_eq, slice_index, ◌↔◌, ℤ}
-use Rattle.std.proofs.lemmas.Bool.{cases_Bool, eqb-true}
+use Rattle.std.proofs.lemmas.Bool.{eqb-true}
 use Rattle.theory.specs.Position.{id_of}
 use Rattle.theory.specs.Words.{id_before, id_in, tail_word}
 use Rattle.raw_tails.specs.Tails.{Tails, behind, word_of}
@@ -31,11 +31,11 @@ word_id l t n p k h = id_of_word (id_before l.identity.geometry l.newest (behind
 pub next_is : (l : Log) (t : Tails) (n count : ℕ) (id : ℤ) → IsState l t n → IsFinished l count → id ≡ id_before l.identity.geometry l.newest (behind l.newest ((count + 1) % 3)) → (id ≡ id_of l.identity.geometry (count + 1)) ↔ ((count < l.newest) × (l.newest ≤ count + 3))
 next_is l t n count id k f e = (
   (λ same.
-    let back : l.newest ≡ count + 1 + behind l.newest ((count + 1) % 3) = next_from l.identity.geometry l.newest (behind l.newest ((count + 1) % 3)) count k.log.geometry.initial k.log.newest (omega arith) (omega (arith, f.2)) (sym e ∙ same) in
-    (omega arith, omega arith)),
+      let back : l.newest ≡ count + 1 + behind l.newest ((count + 1) % 3) = next_from l.identity.geometry l.newest (behind l.newest ((count + 1) % 3)) count k.log.geometry.initial k.log.newest (omega arith) (omega (arith, f.2)) (sym e ∙ same) in
+      (omega arith, omega arith)),
   (λ near.
-    let back : l.newest ≡ count + 1 + behind l.newest ((count + 1) % 3) = omega (arith, near.0, near.1) in
-    e ∙ next_to l.identity.geometry l.newest (behind l.newest ((count + 1) % 3)) count k.log.geometry.initial k.log.newest (omega arith) (omega (arith, f.2)) back)
+      let back : l.newest ≡ count + 1 + behind l.newest ((count + 1) % 3) = omega (arith, near.0, near.1) in
+      e ∙ next_to l.identity.geometry l.newest (behind l.newest ((count + 1) % 3)) count k.log.geometry.initial k.log.newest (omega arith) (omega (arith, f.2)) back),
 )
 
 exchange : (b : Bool) (t : Tails) (buffer : Kept) (limit n : ℕ) (on off : Bool) (ps : List ℕ) (armed : List (Option ℕ)) → IsState (log_of t buffer limit on off ps armed) t n → (b ≡ true → (t.newest + 1 < 2 ^ 31) × (term_of (log_of t buffer limit on off ps armed) ≤ offset_of (log_of t buffer limit on off ps armed) t.newest)) → IsState (log_of (if b then tails_turned t else t) buffer limit on off ps armed) (if b then tails_turned t else t) n

@@ -1,15 +1,14 @@
 -- Entries of a tiled stream: where each stands, and what a part of them leaves.
-use Rattle.std.proofs.Common.{◌≡◌, ℕ, zero, suc, ◌+◌, ◌-◌, ◌*◌, ◌%◌, ◌<◌, ◌≤◌, ◌⊎◌, inl, inr, ⊎_elim, Bool, true, false, List, [], ◌∷◌, ◌++◌, length, take, drop, Some, refl, sym, ap, ◌∙◌, subst, arith}
+use Rattle.std.proofs.Common.{◌≡◌, ℕ, zero, suc, ◌+◌, ◌<◌, ◌≤◌, inl, ⊎_elim, true, List, [], ◌∷◌, ◌++◌, length, take, drop, Some, refl, sym, ap, ◌∙◌, subst, arith}
 use Rattle.std.specs.Prelude.{slice_get, slice_set, slice_index_or, sum, slice_index}
 use Rattle.std.specs.List.{AllByRecursion}
 use Rattle.std.proofs.lemmas.List.Sums.{sum_by-set}
 use Rattle.theory.specs.Position.{aligned, span}
 use Rattle.theory.specs.Placed.{Among, Frame, Placed, frame_length, place_all}
-use Rattle.theory.specs.Entry.{Entry, IsEntry, committed, entry_end, length_of}
+use Rattle.theory.specs.Entry.{Entry, IsEntry, committed, entry_end}
 use Rattle.theory.specs.Messages.{is_whole}
 use Rattle.theory.specs.Tiling.{InOneTerm, Tiles}
 use Rattle.theory.proofs.Lists.{all_at, all_weaker, among_cases, among_left, among_right}
-use Rattle.theory.proofs.Tiling.{tail_is}
 use Rattle.theory.proofs.Frames.{AreCut, are_cut, committed_in_order, in_order_from, tiles_le}
 use Rattle.log_buffer.specs.States.{AreUnset, IsUnset}
 

@@ -1,5 +1,5 @@
 -- What the book of a log says.
-use Rattle.std.specs.Prelude.{◌≡◌, ℕ, ◌+◌, sum}
+use Rattle.std.specs.Prelude.{◌≡◌, ◌+◌, sum}
 use Rattle.log_buffer.specs.Log.{Log}
 use Rattle.log_buffer.specs.declared.book.Book.{Book}
 

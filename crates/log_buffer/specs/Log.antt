@@ -1,8 +1,8 @@
 -- What a contract sees of a log, and how its calls change it.
-use Rattle.std.specs.Prelude.{◌≡◌, ℕ, ◌+◌, ◌-◌, ◌*◌, ◌/◌, ◌%◌, ◌^◌, ◌<◌, ◌≤◌, ◌⊎◌, Bool, true, false, List, [], ◌∷◌, ◌++◌, length, take, drop, replicate, min, max, nat_eq, nat_le, nat_lt, ◌&&◌, if◌then◌else◌, Option, None, Some, slice_get, slice_index, slice_index_or, slice_set, sum}
+use Rattle.std.specs.Prelude.{◌≡◌, ℕ, ◌+◌, ◌-◌, ◌*◌, ◌/◌, ◌%◌, ◌^◌, ◌<◌, ◌≤◌, Bool, true, false, List, [], ◌∷◌, ◌++◌, length, drop, replicate, min, max, nat_eq, nat_le, nat_lt, ◌&&◌, if◌then◌else◌, Option, None, Some, slice_get, slice_index, slice_index_or, slice_set, sum}
 use Rattle.std.specs.List.{AllByRecursion}
-use Rattle.theory.specs.Position.{Geometry, IsGeometry, aligned, greatest_claim, max_position}
-use Rattle.theory.specs.Placed.{Data, Frame, Pad}
+use Rattle.theory.specs.Position.{IsGeometry, aligned, greatest_claim, max_position}
+use Rattle.theory.specs.Placed.{Frame}
 use Rattle.theory.specs.Entry.{Entry, IsEntry}
 use Rattle.theory.specs.Messages.{is_whole}
 use Rattle.theory.specs.Tiling.{Tiles}

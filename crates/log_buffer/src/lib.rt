@@ -22,8 +22,8 @@ pub use raw_tails::RawTail;
 pub use reader::{advance, next};
 pub use state::LogState;
 pub use step::Step;
-pub use turns::{Added, Limit};
 pub use term_buffer::{Claimed, PUBLISHERS};
+pub use turns::{Added, Limit};
 
 #[cfg(test)]
 mod tests;

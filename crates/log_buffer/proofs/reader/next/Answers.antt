@@ -1,6 +1,6 @@
-use Rattle.std.proofs.Common.{◌≡◌, ◌+◌, ◌-◌, ◌≤◌, ℕ, [], Some, ap, refl, subst, sym, ◌∙◌, arith, rules}
+use Rattle.std.proofs.Common.{◌≡◌, ◌+◌, ◌-◌, Some, ap, subst, sym, ◌∙◌, arith}
 use Rattle.std.specs.Prelude.{slice_get}
-use Rattle.theory.specs.Entry.{Entry, committed}
+use Rattle.theory.specs.Entry.{committed}
 use Rattle.theory.specs.Placed.{Among}
 use Rattle.term_buffer.specs.Heads.{IsStreamFrame, ReadsEntry, ReadsNone}
 use Rattle.log_buffer.specs.Reader.{IsAt, Reads}

@@ -1,4 +1,4 @@
-use Rattle.std.proofs.Common.{◌≡◌, ◌+◌, ◌≤◌, ap, subst, sym, arith, take}
+use Rattle.std.proofs.Common.{◌+◌, ◌≤◌, ap, subst, sym, arith, take}
 use Rattle.log_buffer.specs.Log.{Cleans, IsLeast, clean_end}
 use Rattle.log_buffer.specs.Reader.{IsAt}
 use Rattle.log_buffer.specs.contracts.state.LogState.{the_view}

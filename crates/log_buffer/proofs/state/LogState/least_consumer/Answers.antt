@@ -1,8 +1,8 @@
-use Rattle.std.proofs.Common.{◌≡◌, ◌+◌, ◌%◌, ◌<◌, ◌≤◌, ◌^◌, length, ap, subst, sym, ◌∙◌, arith, take, fold, min}
+use Rattle.std.proofs.Common.{◌≡◌, ◌<◌, ◌≤◌, length, ap, subst, sym, ◌∙◌, arith, take, fold, min}
 use Rattle.std.proofs.lemmas.List.{take_all}
 use Rattle.std.specs.Prelude.{slice_index}
 use Rattle.log_buffer.specs.Limits.{least}
-use Rattle.log_buffer.specs.Log.{IsLeast, IsLog, clean_end}
+use Rattle.log_buffer.specs.Log.{IsLeast, clean_end}
 use Rattle.log_buffer.specs.contracts.state.LogState.{the_view}
 use Rattle.log_buffer.proofs.Leasts.{consumer_small, index_taken, least_behind, least_lowest, least_readable, least_unit, tail_small}
 use Rattle.log_buffer.proofs.state.LogState.least_consumer.Goals as goal

@@ -1,6 +1,6 @@
 use Rattle.std.proofs.Common.{◌≡◌, ◌%◌, ◌<◌, ◌≤◌, ap, subst, sym, ◌∙◌, arith, rules}
 use Rattle.std.specs.Prelude.{slice_index}
-use Rattle.log_buffer.specs.Log.{Log, term_of}
+use Rattle.log_buffer.specs.Log.{term_of}
 use Rattle.log_buffer.specs.contracts.state.LogState.{the_view}
 use Rattle.log_buffer.proofs.Keeps.{kept_armed}
 use Rattle.log_buffer.proofs.state.LogState.load_tail.Goals as goal

@@ -1,5 +1,3 @@
-use Rattle.std.proofs.Common.{◌≡◌, rules}
-use Rattle.log_buffer.specs.Log.{fresh}
 use Rattle.log_buffer.proofs.Openings.{fresh_readers}
 use Rattle.log_buffer.proofs.state.LogState.open.Goals as goal
 
