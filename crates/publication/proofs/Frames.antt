@@ -9,7 +9,6 @@ use Rattle.term_buffer.specs.declared.claimed.Claimed.{Claimed}
 use Rattle.log_buffer.specs.Log.{IsDrafted, Log, draft_of, drafted, place_of, with_commit, with_draft}
 use Rattle.publication.proofs.Fills.{draft_set, draft_twice}
 
-
 pub message_rest : (l : Log) (c : Claimed) (message : List ℕ) → c.padding ≡ false → 32 + length message ≡ c.frame_length → frame_of c.padding c.frame_length (rest_of l.identity c.start (Data 192 message)) ≡ Data 192 message
 message_rest l c message of_data whole =
     ap (λ (b : Bool). frame_of b c.frame_length (rest_of l.identity c.start (Data 192 message))) of_data

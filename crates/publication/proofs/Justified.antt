@@ -20,13 +20,19 @@ use Rattle.publication.specs.declared.refusal.Refusal.TheVariants as refusals
 
 pub stale : (l : Log) (taken : ℕ) (seen : List Step) → seen ≡ all_seen l → ShowsLimit l → l.closed ≡ false → (id_in (tail_word_seen l) ≡ id_of l.identity.geometry l.active → ⊥) → IsJustified l.identity.geometry taken (sights seen) whys.AdminAction
 stale l taken seen e shows not_closed other =
-    subst (λ (xs : List Step). IsJustified l.identity.geometry taken (sights xs) whys.AdminAction) (sym e)
-    (limit_word_of l, inl refl, (shows.closed ∙ not_closed, inl (record {
-      count = l.active;
-      word = tail_word_seen l;
-      order = record { front = SawLimit (limit_word_of l) ∷ []; middle = []; back = []; parts = refl };
-      other = other;
-    })))
+    subst (λ (xs : List Step). IsJustified l.identity.geometry taken (sights xs) whys.AdminAction) (sym e) (
+      limit_word_of l,
+      inl refl,
+      (
+        shows.closed ∙ not_closed,
+        inl (record {
+          count = l.active;
+          word = tail_word_seen l;
+          order = record { front = SawLimit (limit_word_of l) ∷ []; middle = []; back = []; parts = refl };
+          other = other;
+        }),
+      ),
+    )
 
 not_last : (n : ℕ) → nat_eq n (2 ^ 31 - 1) ≡ false → n < 2 ^ 31 → n < 2 ^ 31 - 1
 not_last n h low =
@@ -37,24 +43,37 @@ not_last n h low =
 
 -- the term's end was loaded
 used_up_by : (l : Log) (taken : ℕ) (more : List Step) (last : Bool) → nat_eq l.active (2 ^ 31 - 1) ≡ last → l.active < 2 ^ 31 → ShowsLimit l → l.closed ≡ false → ShowsActive l → term_of l ≤ offset_of l l.active → IsJustified l.identity.geometry taken (sights (all_seen l ++ more)) (why_of (if last then refusals.MaxPositionExceeded else refusals.AdminAction))
-used_up_by l taken more true e small shows not_closed active over =
-    (limit_word_of l, inl refl, (shows.closed ∙ not_closed, inl (record {
+used_up_by l taken more true e small shows not_closed active over = (
+  limit_word_of l,
+  inl refl,
+  (
+    shows.closed ∙ not_closed,
+    inl (record {
       count = l.active;
       word = tail_word_seen l;
       order = record { front = SawLimit (limit_word_of l) ∷ []; middle = []; back = sights more; parts = refl };
       id = active.id;
       over = omega (arith, over, active.offset);
       which = eqb-true l.active (2 ^ 31 - 1) e;
-    })))
-used_up_by l taken more false e small shows not_closed active over =
-    (limit_word_of l, inl refl, (shows.closed ∙ not_closed, inr (inl (record {
+    }),
+  ),
+)
+used_up_by l taken more false e small shows not_closed active over = (
+  limit_word_of l,
+  inl refl,
+  (
+    shows.closed ∙ not_closed,
+    inr (inl (record {
       count = l.active;
       word = tail_word_seen l;
       order = record { front = SawLimit (limit_word_of l) ∷ []; middle = []; back = sights more; parts = refl };
       id = active.id;
       over = omega (arith, over, active.offset);
       which = not_last l.active e small;
-    }))))
+    })),
+  ),
+)
+
 pub used_up : (l : Log) (taken count : ℕ) (refusal : Refusal) (seen more : List Step) → seen ≡ all_seen l ++ more → count ≡ l.active → refusal ≡ is_last count → l.active < 2 ^ 31 → ShowsLimit l → l.closed ≡ false → ShowsActive l → term_of l ≤ offset_of l l.active → IsJustified l.identity.geometry taken (sights seen) (why_of refusal)
 used_up l taken count refusal seen more e is why small shows not_closed active over =
     subst (λ (xs : List Step). IsJustified l.identity.geometry taken (sights xs) (why_of refusal)) (sym e)
@@ -63,24 +82,38 @@ used_up l taken count refusal seen more e is why small shows not_closed active o
 
 -- the tail is at the limit
 limited_by : (l : Log) (taken : ℕ) (connected : Bool) → l.connected ≡ connected → ShowsLimit l → l.closed ≡ false → ShowsActive l → offset_of l l.active < term_of l → l.limit ≤ l.tail → l.tail ≡ l.active * term_of l + offset_of l l.active → IsJustified l.identity.geometry taken (sights (all_seen l)) (why_of (if connected then refusals.BackPressured else refusals.NotConnected))
-limited_by l taken true e shows not_closed active inside reached at =
-    (limit_word_of l, inl refl, (shows.closed ∙ not_closed, shows.connected ∙ e, record {
+limited_by l taken true e shows not_closed active inside reached at = (
+  limit_word_of l,
+  inl refl,
+  (
+    shows.closed ∙ not_closed,
+    shows.connected ∙ e,
+    record {
       count = l.active;
       word = tail_word_seen l;
       order = record { front = SawLimit (limit_word_of l) ∷ []; middle = []; back = []; parts = refl };
       id = active.id;
       below = omega (arith, inside, active.offset);
       reached = omega (arith, shows.position, reached, at, active.offset);
-    }))
-limited_by l taken false e shows not_closed active inside reached at =
-    (limit_word_of l, inl refl, (shows.closed ∙ not_closed, shows.connected ∙ e, record {
+    },
+  ),
+)
+limited_by l taken false e shows not_closed active inside reached at = (
+  limit_word_of l,
+  inl refl,
+  (
+    shows.closed ∙ not_closed,
+    shows.connected ∙ e,
+    record {
       count = l.active;
       word = tail_word_seen l;
       order = record { front = SawLimit (limit_word_of l) ∷ []; middle = []; back = []; parts = refl };
       id = active.id;
       below = omega (arith, inside, active.offset);
       reached = omega (arith, shows.position, reached, at, active.offset);
-    }))
+    },
+  ),
+)
 
 pub limited_refusal : (l : Log) (taken : ℕ) (connected : Bool) (refusal : Refusal) (seen : List Step) → seen ≡ all_seen l → refusal ≡ (if connected then refusals.BackPressured else refusals.NotConnected) → connected ≡ l.connected → ShowsLimit l → l.closed ≡ false → ShowsActive l → offset_of l l.active < term_of l → l.limit ≤ l.tail → l.tail ≡ l.active * term_of l + offset_of l l.active → IsJustified l.identity.geometry taken (sights seen) (why_of refusal)
 limited_refusal l taken connected refusal seen e why same shows not_closed active inside reached at =
@@ -90,8 +123,12 @@ limited_refusal l taken connected refusal seen e why same shows not_closed activ
 
 -- an addition passed the term's end
 tripped_by : (l : Log) (taken : ℕ) (more : List Step) (last : Bool) → nat_eq l.active (2 ^ 31 - 1) ≡ last → l.active < 2 ^ 31 → IsLog l → ShowsLimit l → l.closed ≡ false → ShowsActive l → term_of l < offset_of l l.active + taken → IsJustified l.identity.geometry taken (sights ((all_seen l ++ steps.Addition (l.active % 3) taken (tail_word_seen l) ∷ []) ++ more)) (why_of (if last then refusals.MaxPositionExceeded else refusals.AdminAction))
-tripped_by l taken more true e small legal shows not_closed active over =
-    (limit_word_of l, inl refl, (shows.closed ∙ not_closed, inr (record {
+tripped_by l taken more true e small legal shows not_closed active over = (
+  limit_word_of l,
+  inl refl,
+  (
+    shows.closed ∙ not_closed,
+    inr (record {
       partition = l.active % 3;
       word = tail_word_seen l;
       count = l.active;
@@ -99,9 +136,15 @@ tripped_by l taken more true e small legal shows not_closed active over =
       id = ap (count_of l.identity.geometry) active.id ∙ counts l.identity.geometry l.active legal.geometry.initial small;
       over = omega (arith, over, active.offset);
       which = eqb-true l.active (2 ^ 31 - 1) e;
-    })))
-tripped_by l taken more false e small legal shows not_closed active over =
-    (limit_word_of l, inl refl, (shows.closed ∙ not_closed, inr (inr (record {
+    }),
+  ),
+)
+tripped_by l taken more false e small legal shows not_closed active over = (
+  limit_word_of l,
+  inl refl,
+  (
+    shows.closed ∙ not_closed,
+    inr (inr (record {
       partition = l.active % 3;
       word = tail_word_seen l;
       count = l.active;
@@ -109,7 +152,9 @@ tripped_by l taken more false e small legal shows not_closed active over =
       id = ap (count_of l.identity.geometry) active.id ∙ counts l.identity.geometry l.active legal.geometry.initial small;
       over = omega (arith, over, active.offset);
       which = not_last l.active e small;
-    }))))
+    })),
+  ),
+)
 
 -- ---- an open term
 

@@ -48,10 +48,10 @@ cleans_more a b c x y more h k =
       from = k.from;
       tiles = tiles_append (term_of a) a.first b.first c.first h.past k.past h.tiles (subst (λ t. Tiles t b.first c.first k.past) same_term k.tiles);
       new_is =
-        k.new_is
-        ∙ ap (λ (n : ℕ). record b { cleaned = y; gone = n; first = c.first; entries = c.entries; drafts = drop (length k.past) b.drafts }) (omega (arith, gone, all))
-        ∙ ap (λ (xs : List (List ℕ)). record b { cleaned = y; gone = a.gone + length (h.past ++ k.past); first = c.first; entries = c.entries; drafts = xs }) dropped
-        ∙ ap (λ (l : Log). record l { cleaned = y; gone = a.gone + length (h.past ++ k.past); first = c.first; entries = c.entries; drafts = drop (length (h.past ++ k.past)) a.drafts }) h.new_is;
+          k.new_is
+          ∙ ap (λ (n : ℕ). record b { cleaned = y; gone = n; first = c.first; entries = c.entries; drafts = drop (length k.past) b.drafts }) (omega (arith, gone, all))
+          ∙ ap (λ (xs : List (List ℕ)). record b { cleaned = y; gone = a.gone + length (h.past ++ k.past); first = c.first; entries = c.entries; drafts = xs }) dropped
+          ∙ ap (λ (l : Log). record l { cleaned = y; gone = a.gone + length (h.past ++ k.past); first = c.first; entries = c.entries; drafts = drop (length (h.past ++ k.past)) a.drafts }) h.new_is;
     }
 
 -- a cleaned log shows how far
