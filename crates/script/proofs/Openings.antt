@@ -21,14 +21,14 @@ opening_found ws log h =
     let x4 = bind_some (number_at most_wide x3.0.1) _ log x3.2 in
     let x5 = bind_some (signed_at x4.0.1) _ log x4.2 in
     let x6 = bind_some (signed_at x5.0.1) _ log x5.2 in
-    let x7 = bind_some (number_at 0 x6.0.1) _ log x6.2 in
+    let x7 = bind_some (number_at 7 x6.0.1) _ log x6.2 in
     let a = number_at_found (2 ^ 32 - 1) ws x1.0 x1.1 in
     let b = number_at_found (2 ^ 32 - 1) x1.0.1 x2.0 x2.1 in
     let c = signed_at_found x2.0.1 x3.0 x3.1 in
     let d = number_at_found most_wide x3.0.1 x4.0 x4.1 in
     let e = signed_at_found x4.0.1 x5.0 x5.1 in
     let f = signed_at_found x5.0.1 x6.0 x6.1 in
-    let g = number_at_found 0 x6.0.1 x7.0 x7.1 in
+    let g = number_at_found 7 x6.0.1 x7.0 x7.1 in
     let end = whole_found _ x7.0.1 log x7.2 in
     let whole = joined ws x1.0.1 x2.0.1 x3.0.1 x4.0.1 x5.0.1 x6.0.1 x7.0.1 a.0 b.0 c.0 d.0 e.0 f.0 g.0 a.1 b.1 c.1 d.1 e.1 f.1 g.1 end.0 in
     subst (SayLog (codes "log" ∷ ws)) end.1
@@ -43,7 +43,7 @@ opening_only log a b c d e f g ws are =
     ∙ some_bind _ _ _ (number_at_only most_wide d (e ∷ f ∷ g ∷ []) log.start are.start_is)
     ∙ some_bind _ _ _ (signed_at_only e (f ∷ g ∷ []) log.session are.session_is)
     ∙ some_bind _ _ _ (signed_at_only f (g ∷ []) log.stream are.stream_is)
-    ∙ some_bind _ _ _ (number_at_only 0 g [] log.readers are.readers_is)
+    ∙ some_bind _ _ _ (number_at_only 7 g [] log.readers are.readers_is)
     ∙ whole_only log
 
 -- what the words of a line open

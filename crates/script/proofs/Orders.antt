@@ -1,10 +1,11 @@
 -- The commands of lines: reading one, and being said, are the same.
-use Rattle.std.proofs.Common.{◌≡◌, ℕ, true, cond, List, [], ◌∷◌, Option, Some, inl, inr, sym, ap, subst, ◌∙◌}
-use Rattle.std.specs.Prelude.{bytes_eq, codes}
-use Rattle.script.specs.Meaning.{Order, Connect, Disconnect, Close, Limit, Offer, OfferSize, Send, Deliver, Tick, Reply, Poll, Image}
+use Rattle.std.proofs.Common.{◌≡◌, ℕ, true, cond, List, [], ◌∷◌, Option, Some, None, inl, inr, sym, ap, subst, ◌∙◌}
+use Rattle.std.specs.Prelude.{bytes_eq, codes, nat_lt}
+use Rattle.std.proofs.lemmas.Bool.{cond-true, ltb-true, lt-ltb}
+use Rattle.script.specs.Meaning.{Order, Connect, Disconnect, Close, Limit, Offer, OfferSize, Claim, Commit, Abort, Read, Send, Deliver, Tick, Reply, Poll, Image}
 use Rattle.script.specs.Pieces.{words}
 use Rattle.script.specs.Values.{◌>>=◌, hex_of}
-use Rattle.script.specs.Reading.{word_at, number_at, most_wide, whole, offer_hex_of, offer_size_of, form_of, offer_of, send_of, deliver_of, tick_of, reply_of, poll_of, image_of, plain_of, command_of}
+use Rattle.script.specs.Reading.{word_at, number_at, most_wide, whole, offer_hex_of, offer_size_of, form_of, offer_of, claim_of, commit_of, abort_of, reader_of, read_of, send_of, deliver_of, tick_of, reply_of, poll_of, image_of, plain_of, command_of}
 use Rattle.script.specs.Language.{IsSeat, IsWide, IsHex, SayOrder, Says}
 use Rattle.script.proofs.Options.{bind_some, some_bind, chosen, guarded_step}
 use Rattle.script.proofs.Words.{hex_found, hex_only}
@@ -68,6 +69,42 @@ deliver_found ws o e =
     let end = whole_found (Deliver k.0.0 r.0.0 now.0.0) now.0.1 o now.2 in
     subst (SayOrder (codes "deliver" ∷ ws)) end.1
     (a.0, b.0, c.0, ap (λ rest. codes "deliver" ∷ rest) (a.1 ∙ ap (λ rest. a.0 ∷ rest) (b.1 ∙ ap (λ rest. b.0 ∷ rest) (c.1 ∙ ap (λ rest. c.0 ∷ rest) end.0))), a.2, b.2, c.2)
+
+commit_found : (ws : List (List ℕ)) (o : Order) → commit_of ws ≡ Some o → SayOrder (codes "commit" ∷ ws) o
+unfolding commit_of
+commit_found ws o e =
+    let r = bind_some (number_at 7 ws) (λ r. whole (Commit r.0) r.1) o e in
+    let a = number_at_found 7 ws r.0 r.1 in
+    let end = whole_found (Commit r.0.0) r.0.1 o r.2 in
+    subst (SayOrder (codes "commit" ∷ ws)) end.1 (a.0, ap (λ rest. codes "commit" ∷ rest) (a.1 ∙ ap (λ rest. a.0 ∷ rest) end.0), a.2)
+
+abort_found : (ws : List (List ℕ)) (o : Order) → abort_of ws ≡ Some o → SayOrder (codes "abort" ∷ ws) o
+unfolding abort_of
+abort_found ws o e =
+    let r = bind_some (number_at 7 ws) (λ r. whole (Abort r.0) r.1) o e in
+    let a = number_at_found 7 ws r.0 r.1 in
+    let end = whole_found (Abort r.0.0) r.0.1 o r.2 in
+    subst (SayOrder (codes "abort" ∷ ws)) end.1 (a.0, ap (λ rest. codes "abort" ∷ rest) (a.1 ∙ ap (λ rest. a.0 ∷ rest) end.0), a.2)
+
+claim_found : (ws : List (List ℕ)) (o : Order) → claim_of ws ≡ Some o → SayOrder (codes "claim" ∷ ws) o
+unfolding claim_of
+claim_found ws o e =
+    let r = bind_some (number_at 7 ws) (λ r. number_at most_wide r.1 >>= λ n. whole (Claim r.0 n.0) n.1) o e in
+    let a = number_at_found 7 ws r.0 r.1 in
+    let n = bind_some (number_at most_wide r.0.1) (λ n. whole (Claim r.0.0 n.0) n.1) o r.2 in
+    let b = number_at_found most_wide r.0.1 n.0 n.1 in
+    let end = whole_found (Claim r.0.0 n.0.0) n.0.1 o n.2 in
+    subst (SayOrder (codes "claim" ∷ ws)) end.1
+    (a.0, b.0, ap (λ rest. codes "claim" ∷ rest) (a.1 ∙ ap (λ rest. a.0 ∷ rest) (b.1 ∙ ap (λ rest. b.0 ∷ rest) end.0)), a.2, b.2)
+
+read_found : (ws : List (List ℕ)) (o : Order) → read_of ws ≡ Some o → SayOrder (codes "read" ∷ ws) o
+unfolding read_of
+read_found ws o e =
+    let r = bind_some (number_at 7 ws) (λ r. reader_of r.0 r.1) o e in
+    let a = number_at_found 7 ws r.0 r.1 in
+    let h = guarded_step (nat_lt 0 r.0.0) (whole (Read r.0.0) r.0.1) o r.2 in
+    let end = whole_found (Read r.0.0) r.0.1 o h.1 in
+    subst (SayOrder (codes "read" ∷ ws)) end.1 (a.0, ap (λ rest. codes "read" ∷ rest) (a.1 ∙ ap (λ rest. a.0 ∷ rest) end.0), (a.2, ltb-true 0 r.0.0 h.0))
 
 -- the words of an offer, whose form passes a test
 offered : (a form name b : List ℕ) (ws : List (List ℕ)) → bytes_eq form name ≡ true → ws ≡ b ∷ [] → codes "offer" ∷ a ∷ form ∷ ws ≡ codes "offer" ∷ a ∷ name ∷ b ∷ []
@@ -135,8 +172,31 @@ limit_found ws o e =
     let end = whole_found Limit ws o e in
     subst (SayOrder (codes "limit" ∷ ws)) end.1 (ap (λ rest. codes "limit" ∷ rest) end.0)
 
+-- what stands behind the names of the claims and the readers
+later_of : List ℕ → List (List ℕ) → Option Order
+later_of name ws =
+    cond (bytes_eq name (codes "claim")) (claim_of ws)
+    (cond (bytes_eq name (codes "commit")) (commit_of ws)
+    (cond (bytes_eq name (codes "abort")) (abort_of ws)
+    (cond (bytes_eq name (codes "read")) (read_of ws) None)))
+
+named_later : (name : List ℕ) (ws : List (List ℕ)) (o : Order) → later_of name ws ≡ Some o → SayOrder (name ∷ ws) o
+unfolding later_of
+named_later name ws o e = elim (chosen (bytes_eq name (codes "claim")) _ _ _ e) [
+  | inl h ↦ named_says name (codes "claim") ws o h.0 (claim_found ws o h.1)
+  | inr f1 ↦ elim (chosen (bytes_eq name (codes "commit")) _ _ _ f1.1) [
+    | inl h ↦ named_says name (codes "commit") ws o h.0 (commit_found ws o h.1)
+    | inr f2 ↦ elim (chosen (bytes_eq name (codes "abort")) _ _ _ f2.1) [
+      | inl h ↦ named_says name (codes "abort") ws o h.0 (abort_found ws o h.1)
+      | inr f3 ↦
+          let h = guarded_step (bytes_eq name (codes "read")) (read_of ws) o f3.1 in
+          named_says name (codes "read") ws o h.0 (read_found ws o h.1)
+    ]
+  ]
+]
+
 plain_found : (name : List ℕ) (ws : List (List ℕ)) (o : Order) → plain_of name ws ≡ Some o → SayOrder (name ∷ ws) o
-unfolding plain_of
+unfolding plain_of later_of
 plain_found name ws o e = elim (chosen (bytes_eq name (codes "connect")) _ _ _ e) [
   | inl h ↦ named_says name (codes "connect") ws o h.0 (connect_found ws o h.1)
   | inr f1 ↦ elim (chosen (bytes_eq name (codes "disconnect")) _ _ _ f1.1) [
@@ -155,9 +215,10 @@ plain_found name ws o e = elim (chosen (bytes_eq name (codes "connect")) _ _ _ e
                 | inl h ↦ named_says name (codes "reply") ws o h.0 (reply_found ws o h.1)
                 | inr f8 ↦ elim (chosen (bytes_eq name (codes "poll")) _ _ _ f8.1) [
                   | inl h ↦ named_says name (codes "poll") ws o h.0 (poll_found ws o h.1)
-                  | inr f9 ↦
-                      let h = guarded_step (bytes_eq name (codes "image")) (image_of ws) o f9.1 in
-                      named_says name (codes "image") ws o h.0 (image_found ws o h.1)
+                  | inr f9 ↦ elim (chosen (bytes_eq name (codes "image")) _ _ _ f9.1) [
+                    | inl h ↦ named_says name (codes "image") ws o h.0 (image_found ws o h.1)
+                    | inr f10 ↦ named_later name ws o f10.1
+                  ]
                 ]
               ]
             ]
@@ -184,7 +245,7 @@ read_words : List (List ℕ) → Option Order
 read_words ws = word_at ws >>= λ name. cond (bytes_eq name.0 (codes "offer")) (offer_of name.1) (plain_of name.0 name.1)
 
 words_only : (ws : List (List ℕ)) (order : Order) → SayOrder ws order → read_words ws ≡ Some order
-unfolding read_words word_at plain_of offer_of form_of offer_hex_of offer_size_of send_of deliver_of tick_of reply_of poll_of image_of
+unfolding read_words word_at plain_of offer_of form_of offer_hex_of offer_size_of claim_of commit_of abort_of read_of send_of deliver_of tick_of reply_of poll_of image_of
 words_only ws Connect is = ap read_words is ∙ whole_only Connect
 words_only ws Disconnect is = ap read_words is ∙ whole_only Disconnect
 words_only ws Close is = ap read_words is ∙ whole_only Close
@@ -197,6 +258,17 @@ words_only ws (OfferSize p n) (a, b, is, is_a, is_b) =
     ap read_words is
     ∙ some_bind (number_at 7 (a ∷ codes "size" ∷ b ∷ [])) _ (p, codes "size" ∷ b ∷ []) (number_at_only 7 a (codes "size" ∷ b ∷ []) p is_a)
     ∙ some_bind (number_at most_wide (b ∷ [])) _ (n, []) (number_at_only most_wide b [] n is_b) ∙ whole_only (OfferSize p n)
+words_only ws (Claim p n) (a, b, is, is_a, is_b) =
+    ap read_words is
+    ∙ some_bind (number_at 7 (a ∷ b ∷ [])) _ (p, b ∷ []) (number_at_only 7 a (b ∷ []) p is_a)
+    ∙ some_bind (number_at most_wide (b ∷ [])) _ (n, []) (number_at_only most_wide b [] n is_b) ∙ whole_only (Claim p n)
+words_only ws (Commit p) (a, is, is_a) =
+    ap read_words is ∙ some_bind (number_at 7 (a ∷ [])) _ (p, []) (number_at_only 7 a [] p is_a) ∙ whole_only (Commit p)
+words_only ws (Abort p) (a, is, is_a) =
+    ap read_words is ∙ some_bind (number_at 7 (a ∷ [])) _ (p, []) (number_at_only 7 a [] p is_a) ∙ whole_only (Abort p)
+words_only ws (Read r) (a, is, (is_a, above)) =
+    ap read_words is ∙ some_bind (number_at 7 (a ∷ [])) _ (r, []) (number_at_only 7 a [] r is_a)
+    ∙ cond-true (nat_lt 0 r) (whole (Read r) []) None (lt-ltb 0 r above) ∙ whole_only (Read r)
 words_only ws (Send now) (a, is, is_a) =
     ap read_words is ∙ some_bind (number_at most_wide (a ∷ [])) _ (now, []) (number_at_only most_wide a [] now is_a) ∙ whole_only (Send now)
 words_only ws (Deliver k r now) (a, b, c, is, is_a, is_b, is_c) =

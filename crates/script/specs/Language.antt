@@ -3,7 +3,7 @@ use Rattle.std.specs.Prelude.{◌≡◌, ℕ, ◌+◌, ◌-◌, ◌*◌, ◌^◌
 use Rattle.std.specs.List.{AllPass, Any, filter}
 use Rattle.std.specs.Char.{is_ascii_digit}
 use Rattle.std.specs.Str.Parse.{digits_value}
-use Rattle.script.specs.Meaning.{Opening, Order, Told, Connect, Disconnect, Close, Limit, Offer, OfferSize, Send, Deliver, Tick, Reply, Poll, Image}
+use Rattle.script.specs.Meaning.{Opening, Order, Told, Connect, Disconnect, Close, Limit, Offer, OfferSize, Claim, Commit, Abort, Read, Send, Deliver, Tick, Reply, Poll, Image}
 use Rattle.script.specs.Pieces.{lines, words}
 
 -- the word is a number, in decimal digits, with any leading zeros
@@ -18,6 +18,10 @@ IsUpTo most word n = IsNumber word n × (n ≤ most)
 -- the number of a publisher or of a receiver
 abbrev pub IsSeat : List ℕ → ℕ → Type 0
 IsSeat word n = IsUpTo 7 word n
+
+-- the number of a reader beside the sender
+abbrev pub IsReader : List ℕ → ℕ → Type 0
+IsReader word n = IsUpTo 7 word n × (0 < n)
 
 -- a number of 64 bits, as sizes, packets, moments and starts are
 abbrev pub IsWide : List ℕ → ℕ → Type 0
@@ -53,6 +57,10 @@ SayOrder ws Close = ws ≡ codes "close" ∷ []
 SayOrder ws Limit = ws ≡ codes "limit" ∷ []
 SayOrder ws (Offer publisher message) = (a : List ℕ) × (b : List ℕ) × (ws ≡ codes "offer" ∷ a ∷ codes "hex" ∷ b ∷ []) × IsSeat a publisher × IsHex b message
 SayOrder ws (OfferSize publisher size) = (a : List ℕ) × (b : List ℕ) × (ws ≡ codes "offer" ∷ a ∷ codes "size" ∷ b ∷ []) × IsSeat a publisher × IsWide b size
+SayOrder ws (Claim publisher size) = (a : List ℕ) × (b : List ℕ) × (ws ≡ codes "claim" ∷ a ∷ b ∷ []) × IsSeat a publisher × IsWide b size
+SayOrder ws (Commit publisher) = (a : List ℕ) × (ws ≡ codes "commit" ∷ a ∷ []) × IsSeat a publisher
+SayOrder ws (Abort publisher) = (a : List ℕ) × (ws ≡ codes "abort" ∷ a ∷ []) × IsSeat a publisher
+SayOrder ws (Read reader) = (a : List ℕ) × (ws ≡ codes "read" ∷ a ∷ []) × IsReader a reader
 SayOrder ws (Send now) = (a : List ℕ) × (ws ≡ codes "send" ∷ a ∷ []) × IsWide a now
 SayOrder ws (Deliver packet receiver now) = (a : List ℕ) × (b : List ℕ) × (c : List ℕ) × (ws ≡ codes "deliver" ∷ a ∷ b ∷ c ∷ []) × IsWide a packet × IsSeat b receiver × IsWide c now
 SayOrder ws (Tick receiver now) = (a : List ℕ) × (b : List ℕ) × (ws ≡ codes "tick" ∷ a ∷ b ∷ []) × IsSeat a receiver × IsWide b now
@@ -69,7 +77,7 @@ pub record AreLogWords (ws : List (List ℕ)) (log : Opening) (term_length mtu i
   pub start_is : IsWide start log.start
   pub session_is : IsSigned session log.session
   pub stream_is : IsSigned stream log.stream
-  pub readers_is : IsUpTo 0 readers log.readers
+  pub readers_is : IsUpTo 7 readers log.readers
 
 abbrev pub SayLog : List (List ℕ) → Opening → Type 0
 SayLog ws log = (a : List ℕ) × (b : List ℕ) × (c : List ℕ) × (d : List ℕ) × (e : List ℕ) × (f : List ℕ) × (g : List ℕ) × AreLogWords ws log a b c d e f g

@@ -15,7 +15,7 @@ pub record Opening : Type 0 where
   pub stream : ℤ
   pub readers : ℕ
 
--- what one line asks for; a message is its bytes or how many they are, a publisher or receiver its number
+-- what one line asks for; a message is its bytes or how many they are, a publisher, reader or receiver its number
 pub data Order : Type 0 where
   Connect : Order
   Disconnect : Order
@@ -23,6 +23,10 @@ pub data Order : Type 0 where
   Limit : Order
   Offer : ℕ → List ℕ → Order
   OfferSize : ℕ → ℕ → Order
+  Claim : ℕ → ℕ → Order
+  Commit : ℕ → Order
+  Abort : ℕ → Order
+  Read : ℕ → Order
   Send : ℕ → Order
   Deliver : ℕ → ℕ → ℕ → Order
   Tick : ℕ → ℕ → Order
@@ -49,6 +53,10 @@ order commands.Close = Close
 order commands.Limit = Limit
 order (commands.Offer publisher message) = Offer publisher.number message.items
 order (commands.OfferSize publisher size) = OfferSize publisher.number size
+order (commands.Claim publisher size) = Claim publisher.number size
+order (commands.Commit publisher) = Commit publisher.number
+order (commands.Abort publisher) = Abort publisher.number
+order (commands.Read reader) = Read reader.number
 order (commands.Send now) = Send now
 order (commands.Deliver packet receiver now) = Deliver packet receiver.number now
 order (commands.Tick receiver now) = Tick receiver.number now

@@ -1,9 +1,9 @@
 -- Reading from the first line to the last, and in a line from the first word to the last.
-use Rattle.std.specs.Prelude.{◌≡◌, ℕ, ◌+◌, ◌-◌, ◌^◌, ℤ, Bool, false, List, [], ◌∷◌, ◌++◌, length, max, Option, Some, None, Result, Ok, Err, if◌then◌else◌, codes, bytes_eq}
+use Rattle.std.specs.Prelude.{◌≡◌, ℕ, ◌+◌, ◌-◌, ◌^◌, ℤ, Bool, false, nat_lt, List, [], ◌∷◌, ◌++◌, length, max, Option, Some, None, Result, Ok, Err, if◌then◌else◌, codes, bytes_eq}
 use Rattle.std.specs.List.{list_any}
 use Rattle.script.specs.declared.fault.ScriptFault.{ScriptFault}
 use Rattle.script.specs.declared.fault.ScriptFault.TheVariants as faults
-use Rattle.script.specs.Meaning.{Opening, Order, Told, Connect, Disconnect, Close, Limit, Offer, OfferSize, Send, Deliver, Tick, Reply, Poll, Image}
+use Rattle.script.specs.Meaning.{Opening, Order, Told, Connect, Disconnect, Close, Limit, Offer, OfferSize, Claim, Commit, Abort, Read, Send, Deliver, Tick, Reply, Poll, Image}
 use Rattle.script.specs.Pieces.{lines, words}
 use Rattle.script.specs.Values.{◌>>=◌, number_of, signed_of, hex_of}
 
@@ -61,6 +61,22 @@ form_of publisher form ws =
 unfoldable pub offer_of : List (List ℕ) → Option Order
 offer_of ws = number_at 7 ws >>= λ p. word_at p.1 >>= λ form. form_of p.0 form.0 form.1
 
+unfoldable pub claim_of : List (List ℕ) → Option Order
+claim_of ws = number_at 7 ws >>= λ publisher. number_at most_wide publisher.1 >>= λ size. whole (Claim publisher.0 size.0) size.1
+
+unfoldable pub commit_of : List (List ℕ) → Option Order
+commit_of ws = number_at 7 ws >>= λ publisher. whole (Commit publisher.0) publisher.1
+
+unfoldable pub abort_of : List (List ℕ) → Option Order
+abort_of ws = number_at 7 ws >>= λ publisher. whole (Abort publisher.0) publisher.1
+
+-- reader 0 is the sender, which no line names
+abbrev pub reader_of : ℕ → List (List ℕ) → Option Order
+reader_of reader ws = if nat_lt 0 reader then whole (Read reader) ws else None
+
+unfoldable pub read_of : List (List ℕ) → Option Order
+read_of ws = number_at 7 ws >>= λ reader. reader_of reader.0 reader.1
+
 unfoldable pub send_of : List (List ℕ) → Option Order
 send_of ws = number_at most_wide ws >>= λ now. whole (Send now.0) now.1
 
@@ -91,7 +107,11 @@ plain_of name ws =
     else (if bytes_eq name (codes "tick") then tick_of ws
     else (if bytes_eq name (codes "reply") then reply_of ws
     else (if bytes_eq name (codes "poll") then poll_of ws
-    else (if bytes_eq name (codes "image") then image_of ws else None)))))))))
+    else (if bytes_eq name (codes "image") then image_of ws
+    else (if bytes_eq name (codes "claim") then claim_of ws
+    else (if bytes_eq name (codes "commit") then commit_of ws
+    else (if bytes_eq name (codes "abort") then abort_of ws
+    else (if bytes_eq name (codes "read") then read_of ws else None)))))))))))))
 
 unfoldable pub command_of : List ℕ → Option Order
 command_of line = word_at (words line) >>= λ name. (if bytes_eq name.0 (codes "offer") then offer_of name.1 else plain_of name.0 name.1)
@@ -100,7 +120,7 @@ command_of line = word_at (words line) >>= λ name. (if bytes_eq name.0 (codes "
 unfoldable pub opening_of : List (List ℕ) → Option Opening
 opening_of ws =
     number_at (2 ^ 32 - 1) ws >>= λ term_length. number_at (2 ^ 32 - 1) term_length.1 >>= λ mtu. signed_at mtu.1 >>= λ initial.
-    number_at most_wide initial.1 >>= λ start. signed_at start.1 >>= λ session. signed_at session.1 >>= λ stream. number_at 0 stream.1 >>= λ readers.
+    number_at most_wide initial.1 >>= λ start. signed_at start.1 >>= λ session. signed_at session.1 >>= λ stream. number_at 7 stream.1 >>= λ readers.
     whole (record { term_length = term_length.0; mtu = mtu.0; initial_term_id = initial.0; start = start.0; session = session.0; stream = stream.0; readers = readers.0 }) readers.1
 
 unfoldable pub log_of : List ℕ → Option Opening

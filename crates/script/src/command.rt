@@ -1,6 +1,6 @@
 ghost use Rattle.std.specs.Prelude.{◌<◌};
 
-/// The number of a publisher or of a receiver: 0 to 7.
+/// The number of a publisher, a reader or a receiver: 0 to 7.
 #[derive(Clone, Copy, Debug, PartialEq, Eq)]
 pub struct Seat {
     pub number: usize,
@@ -45,6 +45,23 @@ pub enum Command {
     OfferSize {
         publisher: Seat,
         size: u64,
+    },
+    /// A publisher claims a range for a message of this many bytes.
+    Claim {
+        publisher: Seat,
+        size: u64,
+    },
+    /// A publisher fills its open claim with bytes 61, and commits it.
+    Commit {
+        publisher: Seat,
+    },
+    /// A publisher makes its open claim a padding.
+    Abort {
+        publisher: Seat,
+    },
+    /// A reader beside the sender reads the frame where it stands, and moves past it.
+    Read {
+        reader: Seat,
     },
     /// The sender does one cycle.
     Send {

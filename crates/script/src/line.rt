@@ -1,6 +1,6 @@
 ghost use Rattle.std.specs.Prelude.{◌≡◌, ◌^◌, ◌≤◌, IfSome};
 ghost use Rattle.script.specs.Meaning.{opening, order};
-ghost use Rattle.script.specs.Reading.{Gives, GivesAt, number_at, signed_at, offer_hex_of, offer_size_of, form_of, offer_of, send_of, deliver_of, tick_of, reply_of, poll_of, image_of, plain_of, command_of, opening_of, log_of, is_log};
+ghost use Rattle.script.specs.Reading.{Gives, GivesAt, number_at, signed_at, offer_hex_of, offer_size_of, form_of, offer_of, claim_of, commit_of, abort_of, read_of, send_of, deliver_of, tick_of, reply_of, poll_of, image_of, plain_of, command_of, opening_of, log_of, is_log};
 ghost use Rattle.script.specs.Rests.{words_left};
 
 use crate::command::{Command, LogLine, Seat};
@@ -39,6 +39,46 @@ fn seat_at(words: Words<'_>) -> Option<(Seat, Words<'_>)>
         number: number as usize,
     };
     Some((seat, rest))
+}
+
+#[tactic(auto, unfolding(crate::specs::Reading::claim_of))]
+fn claim(words: Words<'_>) -> Option<Command>
+    ensures { Gives order result (claim_of (words_left words.entry)) }
+{
+    let (publisher, rest) = seat_at(words)?;
+    let (size, rest) = number_at(rest, u64::MAX)?;
+    rest.end()?;
+    Some(Command::Claim { publisher, size })
+}
+
+#[tactic(auto, unfolding(crate::specs::Reading::commit_of))]
+fn commit(words: Words<'_>) -> Option<Command>
+    ensures { Gives order result (commit_of (words_left words.entry)) }
+{
+    let (publisher, rest) = seat_at(words)?;
+    rest.end()?;
+    Some(Command::Commit { publisher })
+}
+
+#[tactic(auto, unfolding(crate::specs::Reading::abort_of))]
+fn abort(words: Words<'_>) -> Option<Command>
+    ensures { Gives order result (abort_of (words_left words.entry)) }
+{
+    let (publisher, rest) = seat_at(words)?;
+    rest.end()?;
+    Some(Command::Abort { publisher })
+}
+
+#[tactic(auto, unfolding(crate::specs::Reading::read_of))]
+fn read(words: Words<'_>) -> Option<Command>
+    ensures { Gives order result (read_of (words_left words.entry)) }
+{
+    let (reader, rest) = seat_at(words)?;
+    if reader.number == 0 {
+        return None;
+    }
+    rest.end()?;
+    Some(Command::Read { reader })
 }
 
 #[tactic(auto, unfolding(crate::specs::Reading::send_of))]
@@ -190,6 +230,14 @@ fn plain(name: &[u8], words: Words<'_>) -> Option<Command>
         poll(words)
     } else if name == b"image".as_slice() {
         image(words)
+    } else if name == b"claim".as_slice() {
+        claim(words)
+    } else if name == b"commit".as_slice() {
+        commit(words)
+    } else if name == b"abort".as_slice() {
+        abort(words)
+    } else if name == b"read".as_slice() {
+        read(words)
     } else {
         None
     }
@@ -209,8 +257,8 @@ pub fn command(alloc: Global, number: u64, line: &[u8]) -> Result<Command, Scrip
     }
 }
 
-/// The greatest READERS that this version takes.
-const MOST_READERS: u64 = 0;
+/// The greatest READERS.
+const MOST_READERS: u64 = 7;
 
 /// What stands behind `log`.
 #[tactic(auto, unfolding(crate::specs::Reading::opening_of))]

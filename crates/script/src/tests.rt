@@ -86,7 +86,8 @@ fn log_lines(rt: HostRuntime) -> Result<(), Fail> {
         ("log 65536 1408 7 18446744073709551616 1 1001 0", false),
         ("log 65536 1408 7 00000018446744073709551615 1 1001 0", true),
         ("log 65536 1408 7 -1 1 1001 0", false),
-        ("log 65536 1408 7 0 1 1001 1", false),
+        ("log 65536 1408 7 0 1 1001 1", true),
+        ("log 65536 1408 7 0 1 1001 7", true),
         ("log 65536 1408 7 0 1 1001 8", false),
         ("log 65536 1408 7 0 1 1001", false),
         ("log 65536 1408 7 0 1 1001 0 0", false),
@@ -122,6 +123,27 @@ fn commands(rt: HostRuntime) -> Result<(), Fail> {
         ("closed", false),
         ("limit", true),
         ("limit 7", false),
+        ("claim 0 0", true),
+        ("claim 7 18446744073709551615", true),
+        ("claim 7 18446744073709551616", false),
+        ("claim 8 1", false),
+        ("claim 0", false),
+        ("claim 0 hex 61", false),
+        ("claim 0 1 1", false),
+        ("commit 7", true),
+        ("commit 8", false),
+        ("commit", false),
+        ("commit 0 0", false),
+        ("abort 0", true),
+        ("abort 8", false),
+        ("abort -1", false),
+        ("read 1", true),
+        ("read 7", true),
+        ("read 007", true),
+        ("read 0", false),
+        ("read 8", false),
+        ("read", false),
+        ("read 1 1", false),
         ("offer 0 hex 616263", true),
         ("offer 7 hex 00", true),
         ("offer 8 hex 00", false),
@@ -183,10 +205,6 @@ fn commands(rt: HostRuntime) -> Result<(), Fail> {
         ("image 007", true),
         ("image 4294967296", false),
         ("image -0", false),
-        ("claim 1 100", false),
-        ("commit 1", false),
-        ("abort 1", false),
-        ("read 1", false),
         ("raw 0 0 61", false),
         ("rawback 0 61", false),
         ("group 1", false),
@@ -223,8 +241,8 @@ fn no_text(rt: HostRuntime) -> Result<(), Fail> {
 #[test]
 fn a_script(rt: HostRuntime) -> Result<(), Fail> {
     let text =
-        "\nlog 65536 1408 -7 9223372036854775904 2147483647 -2147483648 0\n\nconnect\ndisconnect\nclose\nlimit\n\
-        offer 3 hex 00fFA09b\noffer 5 size 10\n\nsend 5\ndeliver 1 2 3\n\
+        "\nlog 65536 1408 -7 9223372036854775904 2147483647 -2147483648 7\n\nconnect\ndisconnect\nclose\nlimit\n\
+        offer 3 hex 00fFA09b\noffer 5 size 10\nclaim 6 100\ncommit 6\nabort 0\nread 7\n\nsend 5\ndeliver 1 2 3\n\
         tick 4 18446744073709551615\nreply 6 7\npoll 7\nimage 0";
     let script = read_script(rt.alloc(), text.as_bytes())?;
     let log = LogLine {
@@ -234,7 +252,7 @@ fn a_script(rt: HostRuntime) -> Result<(), Fail> {
         start: 9_223_372_036_854_775_904,
         session: i32::MAX,
         stream: i32::MIN,
-        readers: 0,
+        readers: 7,
     };
     assert_eq!(rt; script.log, log);
     let commands = vec![in rt.alloc();
@@ -249,6 +267,19 @@ fn a_script(rt: HostRuntime) -> Result<(), Fail> {
         Command::OfferSize {
             publisher: Seat { number: 5 },
             size: 10
+        },
+        Command::Claim {
+            publisher: Seat { number: 6 },
+            size: 100
+        },
+        Command::Commit {
+            publisher: Seat { number: 6 }
+        },
+        Command::Abort {
+            publisher: Seat { number: 0 }
+        },
+        Command::Read {
+            reader: Seat { number: 7 }
         },
         Command::Send { now: 5 },
         Command::Deliver {
