@@ -139,64 +139,63 @@ impl TermBuffer {
         self.bytes.word(index)
     }
 
-    /// Adds an entry of an owner, 0 to 7, at the tail, for a frame of `frame_length` bytes: a message's, of 32 bytes to
-    /// the MTU, or a padding, a multiple of 32. It lies in one term, and ends at most three terms behind the cleaned
-    /// position. Its bytes are zero.
-    pub fn claim(&mut self, owner: usize, padding: bool, frame_length: u32) -> Claimed
+    /// Adds an entry of an owner, 0 to 7, at the tail: for a message of `size` bytes, up to the greatest, or a padding
+    /// whose frame has that length, a multiple of 32 up to the term's. It lies in one term, and ends at most three terms
+    /// behind the cleaned position. Its bytes are zero.
+    pub fn claim(&mut self, owner: usize, padding: bool, size: u32) -> Claimed
         requires owner { owner < 8 }
-        requires long { 32 ≤ frame_length }
-        requires short { padding ≡ false → frame_length ≤ self.old.identity.geometry.mtu }
-        requires whole { padding ≡ true → frame_length % 32 ≡ 0 }
-        requires in_term { self.old.tail % term_of self.old + aligned frame_length ≤ term_of self.old }
-        requires room { self.old.tail + aligned frame_length ≤ self.old.cleaned + 3 * term_of self.old }
+        requires short { padding ≡ false → size ≤ max_message self.old.identity.geometry }
+        requires long { padding ≡ true → 32 ≤ size }
+        requires whole { padding ≡ true → size % 32 ≡ 0 }
+        requires in_term { self.old.tail % term_of self.old + span (cuts_for self.old.identity.geometry padding size) ≤ term_of self.old }
+        requires room { self.old.tail + span (cuts_for self.old.identity.geometry padding size) ≤ self.old.cleaned + 3 * term_of self.old }
         requires below { self.old.tail < max_position self.old.identity.geometry }
-        ensures taken { self.new ≡ with_claim self.old owner padding frame_length }
-        ensures claimed { result ≡ record { number = self.old.gone + length self.old.entries; start = self.old.tail; frame_length = frame_length; owner = owner; padding = padding } }
+        ensures taken { self.new ≡ with_claim self.old owner padding size }
+        ensures claimed { result ≡ record { number = self.old.gone + length self.old.entries; start = self.old.tail; size = size; owner = owner; padding = padding; frame = 0 } }
         ensures unset { IsOpen self.new result }
     {
         let claimed = Claimed {
             number: self.gone + self.slots.len() as u64,
             start: self.tail,
-            frame_length,
+            size,
             owner,
             padding,
+            frame: 0,
         };
-        let slot = Slot {
-            start: claimed.start,
-            frame_length,
-            owner: claimed.owner,
-            padding,
-            committed: false,
-        };
-        let covered = u64::from(align32(frame_length));
-        self.slots.push_back_reserved(slot);
-        self.tail += covered;
-        self.shares[owner] += covered;
-        claimed
+        todo
     }
 
-    /// Stores a word of a claim's frame: any but the first one. `index` counts words of eight bytes from the frame's start.
+    /// Stores a word of a claim's next frame: any but the first one. `index` counts words of eight bytes from the frame's
+    /// start.
     pub fn store(&mut self, claimed: Claimed, index: usize, word: u64)
         requires unset { IsOpen self.old claimed }
         requires behind { 0 < index }
-        requires inside { 8 * index < aligned claimed.frame_length }
+        requires inside { 8 * index < aligned (next_length self.old.identity.geometry claimed) }
         ensures stored { self.new ≡ with_draft self.old claimed (with_word (draft_of self.old claimed) (index - 1) word) }
     {
-        let place = self.word_of(claimed.start);
-        self.bytes.set_word(place + index, word);
+        todo
     }
 
-    /// Stores the first word of a claim's frame, which commits it. The other words have been stored.
-    pub fn commit(&mut self, claimed: Claimed)
+    /// Stores the first word of a claim's next frame, which commits it. The other words have been stored. The answer is
+    /// the claim for the frame behind it, where there is one.
+    pub fn commit(&mut self, claimed: Claimed) -> Option<Claimed>
         requires unset { IsOpen self.old claimed }
         requires written { IsDrafted self.old claimed }
         ensures committed { self.new ≡ with_commit self.old claimed (drafted self.old claimed) }
+        ensures next { result ≡ after_next self.old.identity.geometry claimed }
+        ensures still { IfSome result (IsOpen self.new) }
     {
-        let place = self.word_of(claimed.start);
-        let first = first_word(claimed.padding, claimed.frame_length);
-        self.bytes.set_word(place, first);
-        let index = (claimed.number - self.gone) as usize;
-        self.slots[index].committed = true;
+        todo
+    }
+
+    /// Stores a padding's first word in a message's claim of one frame, which makes it a padding of the same range. The
+    /// padding's other words have been stored.
+    pub fn abort(&mut self, claimed: Claimed)
+        requires may { MayAbort self.old claimed }
+        requires written { IsAborted self.old claimed }
+        ensures aborted { self.new ≡ with_abort self.old claimed }
+    {
+        todo
     }
 
     /// Stores zero in the next word to be cleaned, and forgets the entry that begins there, which is committed.
