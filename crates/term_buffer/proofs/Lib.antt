@@ -1,11 +1,7 @@
-pub mod Changes
-pub mod Cleaning
-pub mod Keeps
+pub mod Cutting
 pub mod Logs
-pub mod ReadEntries
+pub mod Pieces
 pub mod Ring
 pub mod Shares
 pub mod Slots
 pub mod StoredWords
-pub mod TestSteps
-pub mod Views

@@ -1,5 +1,5 @@
 -- What is read of a frame that is committed.
-use Rattle.std.specs.Prelude.{◌≡◌, ℕ, ◌+◌, ◌%◌, ◌<◌, ◌≤◌, ◌⊎◌, ⊥, List, ◌++◌, length, drop}
+use Rattle.std.specs.Prelude.{◌≡◌, ℕ, ◌+◌, ◌%◌, ◌<◌, ◌≤◌, ◌⊎◌, List, ◌++◌, length, drop}
 use Rattle.theory.specs.Position.{Geometry, aligned, max_position}
 use Rattle.theory.specs.Placed.{Among, Data, Frame, Pad, Placed, payload_of}
 use Rattle.theory.specs.Entry.{committed}

@@ -8,7 +8,9 @@
 
 mod buffer;
 mod claimed;
+mod cuts;
 mod reading;
+mod search;
 mod words;
 
 pub use buffer::{PUBLISHERS, TermBuffer};
