@@ -1,4 +1,6 @@
+pub mod Changes
 pub mod Cutting
+pub mod Keeps
 pub mod Logs
 pub mod Pieces
 pub mod Ring
