@@ -1,4 +1,5 @@
 pub mod Changes
+pub mod Cleaning
 pub mod Cutting
 pub mod Keeps
 pub mod Logs
@@ -7,3 +8,4 @@ pub mod Ring
 pub mod Shares
 pub mod Slots
 pub mod StoredWords
+pub mod Views
