@@ -3,7 +3,7 @@ use Rattle.std.proofs.Common.{◌≡◌, ℕ, zero, suc, ◌+◌, ◌-◌, ◌*�
 use Rattle.std.specs.List.{AllByRecursion, sum_by}
 use Rattle.theory.specs.Position.{Geometry, IsGeometry, aligned, max_message, max_payload, cuts_of, framed_length, span}
 use Rattle.theory.proofs.Claims.{covers_framed}
-use Rattle.theory.proofs.Cuts.{AreFull, full_cuts, last_cut, span_before}
+use Rattle.theory.proofs.Cuts.{AreFull, cut_before, full_cuts, last_cut, span_before}
 use Rattle.theory.proofs.Holds.{holds_bytes}
 use Rattle.theory.proofs.LogSteps.{long_cuts}
 use Rattle.theory.proofs.Wired.{cut_short, cut_units}
@@ -45,9 +45,6 @@ for_long g is b n long = omega (arith, many_units (cuts_for g b n) (for_units g 
 pub for_offset : (g : Geometry) → IsGeometry g → (b : Bool) (n k : ℕ) → k < length (cuts_for g b n) → span (take k (cuts_for g b n)) ≡ k * g.mtu
 for_offset g is b n k low = span_before g.mtu (cuts_for g b n) k (let unit : g.mtu % 32 ≡ 0 = is.mtu.unit in omega arith) (for_full g b n) low
 
-pub for_framed : (g : Geometry) → IsGeometry g → (n : ℕ) → span (cuts_for g false n) ≡ framed_length g n
-for_framed g is n = covers_framed g n is
-
 -- the last frame of a message
 pub for_last : (g : Geometry) → IsGeometry g → (n k : ℕ) → k + 1 ≡ length (cuts_of g n) → get_or (cuts_of g n) k 0 + k * (g.mtu - 32) ≡ n + 32
 for_last g is n k end = last_cut g.mtu (cuts_of g n) k (full_cuts g n) (cut_units g n (omega (arith, is.mtu.least))) end ∙ ap (λ x. x + 32) (holds_bytes g n is)
@@ -67,3 +64,18 @@ pub span_within : (cuts : List ℕ) (k : ℕ) → k < length cuts → span (take
 span_within [] k low = absurd (omega arith)
 span_within (cut ∷ cuts) zero low = omega arith
 span_within (cut ∷ cuts) (suc k) low = omega (arith, span_within cuts k (omega arith))
+
+-- what a message covers, and how long its last frame is
+pub message_covers : (g : Geometry) → IsGeometry g → (b : Bool) (n : ℕ) → b ≡ false → span (cuts_for g b n) ≡ framed_length g n
+message_covers g is true n e = absurd (cc)
+message_covers g is false n e = covers_framed g n is
+
+pub message_last : (g : Geometry) → IsGeometry g → (b : Bool) (n k : ℕ) → b ≡ false → k < length (cuts_for g b n) → length (cuts_for g b n) ≤ k + 1 → get_or (cuts_for g b n) k 0 ≡ n - k * max_payload g + 32
+message_last g is true n k e low high = absurd (cc)
+message_last g is false n k e low high =
+    let whole : get_or (cuts_of g n) k 0 + k * max_payload g ≡ n + 32 = for_last g is n k (omega arith) in
+    let long : 32 ≤ get_or (cuts_of g n) k 0 = at_units (cuts_of g n) k (cut_units g n (omega (arith, is.mtu.least))) low in
+    omega (arith, whole, long)
+
+pub message_before : (g : Geometry) (b : Bool) (n k : ℕ) → k + 1 < length (cuts_for g b n) → get_or (cuts_for g b n) k 0 ≡ g.mtu
+message_before g b n k low = cut_before g.mtu (cuts_for g b n) k (for_full g b n) low

@@ -1,6 +1,6 @@
 //! A message's frames, one by one. All but the last are as long as the MTU.
 ghost use Rattle.std.specs.Prelude.{◌≡◌, ◌+◌, ◌<◌, ◌≤◌, ◌^◌, drop, length, nat_eq, slice_index, take, true, false};
-ghost use Rattle.theory.specs.Position.{max_message, span};
+ghost use Rattle.theory.specs.Position.{IsGeometry, max_message, span};
 ghost use Rattle.theory.specs.Entry.{flags_of};
 ghost use Rattle.term_buffer.specs.Kept.{after_next, cuts_for};
 
@@ -26,6 +26,7 @@ pub(crate) fn frame_count(geometry: Geometry, padding: bool, size: u32) -> u32
 
 /// What the frames cover together.
 pub(crate) fn covered(geometry: Geometry, padding: bool, size: u32) -> u32
+    requires shape { IsGeometry geometry }
     requires short { padding ≡ false → size ≤ max_message geometry }
     requires long { padding ≡ true → size ≤ 2 ^ 31 }
     ensures { result ≡ span (cuts_for geometry padding size) }
