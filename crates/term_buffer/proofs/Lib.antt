@@ -1,6 +1,7 @@
 pub mod Changes
 pub mod Cleaning
 pub mod Cutting
+pub mod Finding
 pub mod Keeps
 pub mod Logs
 pub mod Pieces

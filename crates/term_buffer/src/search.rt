@@ -1,6 +1,6 @@
 //! The slot that a position lies in, found by halving.
 ghost use Rattle.std.specs.Prelude.{IfSome, IfNone};
-ghost use Rattle.theory.specs.Position.{span};
+ghost use Rattle.std.specs.List.Sorted.{IsNonDecreasingBy};
 ghost use Rattle.term_buffer.specs.Search.{AreApart, HasFrame, HasNoFrame, StartBelow};
 
 use crate::claimed::Slot;
@@ -14,7 +14,7 @@ pub(crate) fn head_at(geometry: Geometry, slots: &VecDeque<Slot>, position: u64)
     ensures found { IfSome result (HasFrame geometry slots.now.items position) }
     ensures nothing { IfNone result (HasNoFrame geometry slots.now.items position) }
 {
-    let count = starts_below(geometry, slots, position);
+    let count = starts_below(slots, position);
     if count == 0 {
         return None;
     }
@@ -39,8 +39,8 @@ pub(crate) fn head_at(geometry: Geometry, slots: &VecDeque<Slot>, position: u64)
 }
 
 /// How many slots start at or below a position.
-fn starts_below(geometry: Geometry, slots: &VecDeque<Slot>, position: u64) -> usize
-    requires { AreApart geometry slots.now.items }
+fn starts_below(slots: &VecDeque<Slot>, position: u64) -> usize
+    requires { IsNonDecreasingBy (λ (s : Slot). s.start) slots.now.items }
     ensures { StartBelow slots.now.items position result }
 {
     slots.partition_point(|slot| slot.start <= position)
