@@ -5,6 +5,7 @@ pub mod Finding
 pub mod Keeps
 pub mod Logs
 pub mod Pieces
+pub mod ReadFrames
 pub mod Ring
 pub mod Shares
 pub mod Slots
