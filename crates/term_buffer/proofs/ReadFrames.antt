@@ -181,7 +181,7 @@ ring_place p k position head f =
     let fits : f.slot.start % (3 * term_in p) + span (slot_cuts (geometry_in p) f.slot) ≤ 3 * term_in p = in_ring (term_in p) f.slot.start (span (slot_cuts (geometry_in p) f.slot)) (some_term p k) f.inside.in_term in
     ap (λ x. x % (3 * term_in p)) f.at ∙ no_wrap (3 * term_in p) f.slot.start (span (take f.frame (slot_cuts (geometry_in p) f.slot))) (omega (arith, fits, f.part, f.some))
 
-pub ring_fits : (p : Parts) (k : IsBuffer p) (position : ℕ) (head : FrameHead) → Found p position head → position % (3 * term_in p) + aligned head.frame_length ≤ length p.bytes
+ring_fits : (p : Parts) (k : IsBuffer p) (position : ℕ) (head : FrameHead) → Found p position head → position % (3 * term_in p) + aligned head.frame_length ≤ length p.bytes
 ring_fits p k position head f =
     let fits : f.slot.start % (3 * term_in p) + span (slot_cuts (geometry_in p) f.slot) ≤ 3 * term_in p = in_ring (term_in p) f.slot.start (span (slot_cuts (geometry_in p) f.slot)) (some_term p k) f.inside.in_term in
     let size : aligned head.frame_length ≡ aligned (get_or (slot_cuts (geometry_in p) f.slot) f.frame 0) = ap aligned f.size in
@@ -323,3 +323,9 @@ message_copied p k l v position head f kind given buffer old written new t term 
 
     copied : written ≡ payload_found p position head f ++ drop (length (payload_found p position head f)) old
     copied = is ∙ ap (λ (r : List ℕ). r ++ drop (length r) buffer) part ∙ ap (λ (b : List ℕ). payload_found p position head f ++ drop (length (payload_found p position head f)) b) was
+
+pub found_long : (p : Parts) (position : ℕ) (head : FrameHead) → Found p position head → 32 ≤ head.frame_length
+found_long p position head f = omega (arith, f.size, f.some)
+
+pub copy_inside : (p : Parts) (k : IsBuffer p) (position : ℕ) (head : FrameHead) → Found p position head → position % (3 * term_in p) + 32 + (head.frame_length - 32) ≤ length p.bytes
+copy_inside p k position head f = omega (arith, ring_fits p k position head f, found_long p position head f)
