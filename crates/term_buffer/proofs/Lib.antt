@@ -10,4 +10,5 @@ pub mod Ring
 pub mod Shares
 pub mod Slots
 pub mod StoredWords
+pub mod TestSteps
 pub mod Views
