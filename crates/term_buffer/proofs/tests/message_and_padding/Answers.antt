@@ -59,19 +59,19 @@ padding_stored c d l4 l5 l6 l7 l8 was e5 e6 is e7 e8 =
     let second = stored_is l6 l7 _ d padding 1 4294967296 e7 first claim in
     (stored_is l7 l8 _ d padding 2 42949673961 e8 second claim, claim)
 
-pub commit-requires-clause-written : goal.commit-requires-clause-written
-commit-requires-clause-written g c =
+pub commit-next-requires-clause-written : goal.commit-next-requires-clause-written
+commit-next-requires-clause-written g c =
     let was = message_stored c.in_ok-geometry.geometry c.claim-message.result c.in_ok-buffer.buffer _ _ _ c.store-3.new.self c.in_ok-geometry.ensures.made c.in_ok-buffer.ensures c.claim-message.ensures.taken c.claim-message.ensures.claimed c.store.ensures.stored c.store-2.ensures.stored c.store-3.ensures.stored in
     message_drafted c.store-3.new.self c.claim-message.result was.0 was.1
 
-pub commit-requires-2-clause-written : goal.commit-requires-2-clause-written
-commit-requires-2-clause-written g c =
+pub commit-requires-clause-written : goal.commit-requires-clause-written
+commit-requires-clause-written g c =
     let was = message_stored c.in_ok-geometry.geometry c.claim-message.result c.in_ok-buffer.buffer _ _ _ c.store-3.new.self c.in_ok-geometry.ensures.made c.in_ok-buffer.ensures c.claim-message.ensures.taken c.claim-message.ensures.claimed c.store.ensures.stored c.store-2.ensures.stored c.store-3.ensures.stored in
-    let now = padding_stored c.claim-message.result c.claim-padding.result c.store-3.new.self _ _ _ c.store-5.new.self was c.commit.ensures.committed c.claim-padding.ensures.taken c.claim-padding.ensures.claimed c.store-4.ensures.stored c.store-5.ensures.stored in
+    let now = padding_stored c.claim-message.result c.claim-padding.result c.store-3.new.self _ _ _ c.store-5.new.self was c.commit-next.ensures.committed c.claim-padding.ensures.taken c.claim-padding.ensures.claimed c.store-4.ensures.stored c.store-5.ensures.stored in
     padding_drafted c.store-5.new.self c.claim-padding.result now.0 now.1
 
 pub clean-requires-2 : goal.clean-requires-2
 clean-requires-2 g c =
     let was = message_stored c.in_ok-geometry.geometry c.claim-message.result c.in_ok-buffer.buffer _ _ _ c.store-3.new.self c.in_ok-geometry.ensures.made c.in_ok-buffer.ensures c.claim-message.ensures.taken c.claim-message.ensures.claimed c.store.ensures.stored c.store-2.ensures.stored c.store-3.ensures.stored in
-    let now = padding_stored c.claim-message.result c.claim-padding.result c.store-3.new.self _ _ _ c.store-5.new.self was c.commit.ensures.committed c.claim-padding.ensures.taken c.claim-padding.ensures.claimed c.store-4.ensures.stored c.store-5.ensures.stored in
-    more_to_clean c.commit-2.new.self c.clean.new.self (committed_is c.store-5.new.self c.commit-2.new.self with_padding c.claim-padding.result padding c.commit-2.ensures.committed now.0 now.1) c.clean.ensures
+    let now = padding_stored c.claim-message.result c.claim-padding.result c.store-3.new.self _ _ _ c.store-5.new.self was c.commit-next.ensures.committed c.claim-padding.ensures.taken c.claim-padding.ensures.claimed c.store-4.ensures.stored c.store-5.ensures.stored in
+    more_to_clean c.commit.new.self c.clean.new.self (committed_is c.store-5.new.self c.commit.new.self with_padding c.claim-padding.result padding c.commit.ensures.committed now.0 now.1) c.clean.ensures
