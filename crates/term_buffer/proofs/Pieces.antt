@@ -56,10 +56,11 @@ only_word (cut ∷ cuts) (suc k) bytes m i w low size at inside =
     let within : span (take k cuts) + aligned (get_or cuts k 0) ≤ span cuts = span_within cuts k (omega arith) in
     let unit : aligned cut ≡ 8 * ((cut + 31) / 32 * 4) = omega arith in
     let left : span (take k cuts) ≡ 8 * (m - (cut + 31) / 32 * 4) = omega (arith, at) in
-    let split : m + i ≡ (cut + 31) / 32 * 4 + (m - (cut + 31) / 32 * 4 + i) = omega (arith, at) in
-    (part_below bytes 0 (aligned cut) (m + i) w (omega (arith, at)) (omega (arith, at, within, inside, size)),
-    subst (OnlyPiece k cuts (drop (aligned cut) bytes)) (sym (drop_word bytes (aligned cut) ((cut + 31) / 32 * 4) (m + i) (m - (cut + 31) / 32 * 4 + i) w unit split (omega (arith, size))))
-    (only_word cuts k (drop (aligned cut) bytes) (m - (cut + 31) / 32 * 4) i w (omega arith) (omega (arith, size, length-drop (aligned cut) bytes)) left inside))
+    let split : m + i ≡ (cut + 31) / 32 * 4 + (m - (cut + 31) / 32 * 4 + i) = omega (arith, at) in (
+      part_below bytes 0 (aligned cut) (m + i) w (omega (arith, at)) (omega (arith, at, within, inside, size)),
+      subst (OnlyPiece k cuts (drop (aligned cut) bytes)) (sym (drop_word bytes (aligned cut) ((cut + 31) / 32 * 4) (m + i) (m - (cut + 31) / 32 * 4 + i) w unit split (omega (arith, size))))
+          (only_word cuts k (drop (aligned cut) bytes) (m - (cut + 31) / 32 * 4) i w (omega arith) (omega (arith, size, length-drop (aligned cut) bytes)) left inside),
+    )
 
 -- ---- the frames
 
@@ -111,17 +112,19 @@ pub written_stored : (i : Identity) (b first : Bool) (at k : ℕ) (cuts old new 
 written_stored i b first at zero [] old new only same was = tt
 written_stored i b first at (suc k) [] old new only same was = tt
 written_stored i b first at zero (cut ∷ cuts) old new only same was = (same ∙ was.0, only ∙ was.1)
-written_stored i b first at (suc k) (cut ∷ cuts) old new only same was =
-    (subst (λ (x : List ℕ). x ≡ image_of i at (aligned cut) (frame_of b (flags_of first cuts) cut (drop 8 x))) (sym only.0) was.0,
-    written_stored i b false (at + aligned cut) k cuts (drop (aligned cut) old) (drop (aligned cut) new) only.1 same was.1)
+written_stored i b first at (suc k) (cut ∷ cuts) old new only same was = (
+  subst (λ (x : List ℕ). x ≡ image_of i at (aligned cut) (frame_of b (flags_of first cuts) cut (drop 8 x))) (sym only.0) was.0,
+  written_stored i b false (at + aligned cut) k cuts (drop (aligned cut) old) (drop (aligned cut) new) only.1 same was.1,
+)
 
 pub zeros_written : (i : Identity) (b first : Bool) (at : ℕ) (cuts : List ℕ) → AllByRecursion (λ cut. 32 ≤ cut) cuts → AreWritten i b first at zero cuts (replicate (span cuts) 0)
 zeros_written i b first at [] all = tt
 zeros_written i b first at (cut ∷ cuts) all =
     let long : 32 ≤ cut = all.0 in
-    let rest : aligned cut + span cuts - aligned cut ≡ span cuts = omega arith in
-    (ap (take 8) (take-replicate (aligned cut) (aligned cut + span cuts) 0 (omega arith)) ∙ take-replicate 8 (aligned cut) 0 (omega arith),
-    drop-replicate (aligned cut) (aligned cut + span cuts) 0 ∙ ap (λ n. replicate n 0) rest)
+    let rest : aligned cut + span cuts - aligned cut ≡ span cuts = omega arith in (
+      ap (take 8) (take-replicate (aligned cut) (aligned cut + span cuts) 0 (omega arith)) ∙ take-replicate 8 (aligned cut) 0 (omega arith),
+      drop-replicate (aligned cut) (aligned cut + span cuts) 0 ∙ ap (λ n. replicate n 0) rest,
+    )
 
 pub blank_piece : (cuts : List ℕ) → drop 8 (piece_in zero cuts (replicate (span cuts) 0)) ≡ blank_for cuts
 blank_piece [] = refl
@@ -130,15 +133,17 @@ blank_piece (cut ∷ cuts) = ap (drop 8) (take-replicate (aligned cut) (aligned 
 pub written_next : (i : Identity) (b first : Bool) (at k : ℕ) (cuts old new : List ℕ) → k < length cuts → AllByRecursion (λ cut. 32 ≤ cut) cuts → OnlyPiece k cuts old new → piece_in k cuts new ≡ image_of i (at + span (take k cuts)) (aligned (get_or cuts k 0)) (frame_in b first k cuts new) → AreWritten i b first at k cuts old → AreWritten i b first at (suc k) cuts new
 written_next i b first at k [] old new low all only image was = absurd (omega arith)
 written_next i b first at zero (cut ∷ cuts) old new low all only image was =
-    let here : at + span [] ≡ at = omega arith in
-    (subst (λ p. take (aligned cut) new ≡ image_of i p (aligned cut) (frame_of b (flags_of first cuts) cut (drop 8 (take (aligned cut) new)))) here image,
-    subst (AreWritten i b false (at + aligned cut) zero cuts) (sym (only ∙ was.1)) (zeros_written i b false (at + aligned cut) cuts all.1))
+    let here : at + span [] ≡ at = omega arith in (
+      subst (λ p. take (aligned cut) new ≡ image_of i p (aligned cut) (frame_of b (flags_of first cuts) cut (drop 8 (take (aligned cut) new)))) here image,
+      subst (AreWritten i b false (at + aligned cut) zero cuts) (sym (only ∙ was.1)) (zeros_written i b false (at + aligned cut) cuts all.1),
+    )
 written_next i b first at (suc k) (cut ∷ cuts) old new low all only image was =
-    let further : at + (aligned cut + span (take k cuts)) ≡ at + aligned cut + span (take k cuts) = omega arith in
-    (subst (λ (x : List ℕ). x ≡ image_of i at (aligned cut) (frame_of b (flags_of first cuts) cut (drop 8 x))) (sym only.0) was.0,
-    written_next i b false (at + aligned cut) k cuts (drop (aligned cut) old) (drop (aligned cut) new) (omega arith) all.1 only.1
-    (subst (λ p. piece_in k cuts (drop (aligned cut) new) ≡ image_of i p (aligned (get_or cuts k 0)) (frame_in b false k cuts (drop (aligned cut) new))) further image)
-    was.1)
+    let further : at + (aligned cut + span (take k cuts)) ≡ at + aligned cut + span (take k cuts) = omega arith in (
+      subst (λ (x : List ℕ). x ≡ image_of i at (aligned cut) (frame_of b (flags_of first cuts) cut (drop 8 x))) (sym only.0) was.0,
+      written_next i b false (at + aligned cut) k cuts (drop (aligned cut) old) (drop (aligned cut) new) (omega arith) all.1 only.1
+          (subst (λ p. piece_in k cuts (drop (aligned cut) new) ≡ image_of i p (aligned (get_or cuts k 0)) (frame_in b false k cuts (drop (aligned cut) new))) further image)
+          was.1,
+    )
 
 pub blank_next : (i : Identity) (b first : Bool) (at k : ℕ) (cuts old new : List ℕ) → k < length cuts → OnlyPiece k cuts old new → AreWritten i b first at k cuts old → drop 8 (piece_in (suc k) cuts new) ≡ blank_for (drop (suc k) cuts)
 blank_next i b first at k [] old new low only was = absurd (omega arith)

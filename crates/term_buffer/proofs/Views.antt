@@ -99,9 +99,6 @@ store_shown p k n c o place index w at behind inside is =
     subst (λ j. shown (record p { bytes = with_word p.bytes (place + index) w }) ≡ whole_kept p (entries_of (geometry_in p) p.bytes p.slots) (set (drafts_of (geometry_in p) p.bytes p.slots) j (with_word (get_or (drafts_of (geometry_in p) p.bytes p.slots) j []) (index - 1) w))) is
     (both_kept p (entries_of (geometry_in p) (with_word p.bytes (place + index) w) p.slots) (entries_of (geometry_in p) p.bytes p.slots) (drafts_of (geometry_in p) (with_word p.bytes (place + index) w) p.slots) (set (drafts_of (geometry_in p) p.bytes p.slots) n (with_word (get_or (drafts_of (geometry_in p) p.bytes p.slots) n []) (index - 1) w)) entries drafts)
   where
-    old : List ℕ
-    old = range (geometry_in p) p.bytes (slot_of c c.frame)
-
     next : index ≡ 1 + (index - 1)
     next = omega arith
 
@@ -218,11 +215,6 @@ slot_set p k l v c h s d e =
     let o : Opened (geometry_in p) p.slots (slot_place p c) c = opened_in p k l c v h in
     ap (λ (x : Slot). record x { committed = c.frame + 1 }) (e ∙ o.here d)
 
-pub slot_within : (p : Parts) (k : IsBuffer p) (l : Kept) (v : shown p ≡ l) (c : Claimed) → IsOpen l c → slot_place p c < length p.slots
-slot_within p k l v c h =
-    let o : Opened (geometry_in p) p.slots (slot_place p c) c = opened_in p k l c v h in
-    o.within
-
 -- the claim for the next frame is open
 got_set : (es : List Entry) (n : ℕ) (e d : Entry) → n < length es → slice_get (set es n e) n ≡ Some e
 got_set es n e d low = slice_get-get_or (set es n e) n d (omega (arith, length-set es n e)) ∙ ap Some (get_or-set_same es n e d low)
@@ -263,6 +255,12 @@ abort_kept p k l v c h place w at by new e ss f =
     subst (λ (xs : List Slot). IsBuffer (record p { bytes = new; slots = xs })) (sym f)
     (subst (λ (b : List ℕ). IsBuffer (record p { bytes = b; slots = set p.slots (slot_place p c) (aborted_slot c) })) (ap (λ i. with_word p.bytes i w) zero_more ∙ sym e)
     (kept_abort p k (slot_place p c) c (opened_in p k l c v h) place w (place_in p l v c place at) by))
+
+-- the slot that becomes a padding is the claim's
+pub slot_aborted : (p : Parts) (k : IsBuffer p) (l : Kept) (v : shown p ≡ l) (c : Claimed) → IsOpen l c → (s d : Slot) → s ≡ get_or p.slots (slot_place p c) d → record s { size = c.size + 32; padding = true; committed = 1 } ≡ aborted_slot c
+slot_aborted p k l v c h s d e =
+    let o : Opened (geometry_in p) p.slots (slot_place p c) c = opened_in p k l c v h in
+    ap (λ (x : Slot). record x { size = c.size + 32; padding = true; committed = 1 }) (e ∙ o.here d)
 
 abort_shown : (p : Parts) (k : IsBuffer p) (n : ℕ) (c : Claimed) (o : Opened (geometry_in p) p.slots n c) (place w : ℕ) → IsNextPlace p c place → n ≡ slot_place p c → shown (record p { bytes = with_word p.bytes (place + 0) w; slots = set p.slots n (aborted_slot c) }) ≡ with_abort (shown p) c
 abort_shown p k n c o place w at is =

@@ -221,15 +221,13 @@ impl TermBuffer {
     {
         let place = self.next_place(claimed);
         let size = claimed.size + 32;
-        self.bytes.set_word(place, first_word(true, UNFRAGMENTED, size));
+        self.bytes
+            .set_word(place, first_word(true, UNFRAGMENTED, size));
         let index = (claimed.number - self.gone) as usize;
-        self.slots[index] = Slot {
-            start: claimed.start,
-            size,
-            owner: claimed.owner,
-            padding: true,
-            committed: 1,
-        };
+        let slot = &mut self.slots[index];
+        slot.size = size;
+        slot.padding = true;
+        slot.committed = 1;
     }
 
     /// Stores zero in the next word to be cleaned, and forgets the entry that begins there, which is committed.

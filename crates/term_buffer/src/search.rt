@@ -9,7 +9,11 @@ use position::{FrameHead, FrameKind, Geometry};
 use std::collections::VecDeque;
 
 /// The head of the frame that is committed at a position.
-pub(crate) fn head_at(geometry: Geometry, slots: &VecDeque<Slot>, position: u64) -> Option<FrameHead>
+pub(crate) fn head_at(
+    geometry: Geometry,
+    slots: &VecDeque<Slot>,
+    position: u64,
+) -> Option<FrameHead>
     requires { AreApart geometry slots.now.items }
     ensures found { IfSome result (HasFrame geometry slots.now.items position) }
     ensures nothing { IfNone result (HasNoFrame geometry slots.now.items position) }

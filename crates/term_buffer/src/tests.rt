@@ -110,6 +110,7 @@ fn three_frames(rt: HostRuntime) -> Result<(), Fail> {
     let unset = buffer.read(0, &mut block);
     let second = buffer.commit(first).expect(&rt, "a second frame");
     let begin = buffer.read(0, &mut block);
+    let front = block.word(0);
     let next = buffer.read(1408, &mut block);
     buffer.store(second, 1, 0x0000_0001_0000_0580);
     buffer.store(second, 2, 0x0000_0007_0000_03e9);
@@ -125,6 +126,7 @@ fn three_frames(rt: HostRuntime) -> Result<(), Fail> {
     assert!(rt; done.is_none());
     assert_eq!(rt; [second.frame, third.frame], [1, 2]);
     assert_eq!(rt; begin, data_head(0, 0x80, 1408));
+    assert_eq!(rt; front, 0x6867_6665_6463_6261);
     assert_eq!(rt; middle, data_head(1408, 0, 1408));
     assert_eq!(rt; end, data_head(2816, 0x40, 280));
     assert_eq!(rt; buffer.word(0), 0x0001_8000_0000_0580);

@@ -9,13 +9,6 @@ pub(crate) fn first_word(padding: bool, flags: u8, frame_length: u32) -> u64
     let length = frame_length.to_le_bytes();
     let kind = if padding { 0 } else { 1 };
     u64::from_le_bytes([
-        length[0],
-        length[1],
-        length[2],
-        length[3],
-        0,
-        flags,
-        kind,
-        0,
+        length[0], length[1], length[2], length[3], 0, flags, kind, 0,
     ])
 }
