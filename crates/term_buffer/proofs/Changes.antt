@@ -1,18 +1,17 @@
 -- What a store, a commit and an abort leave of the slots.
-use Rattle.std.proofs.Common.{◌≡◌, ℕ, zero, suc, ◌+◌, ◌-◌, ◌*◌, ◌<◌, ◌≤◌, ⊎_elim, Bool, true, false, List, [], ◌∷◌, ◌++◌, length, map, take, drop, replicate, get_or, set, Some, refl, sym, ap, ◌∙◌, subst, All, length-append, arith}
+use Rattle.std.proofs.Common.{◌≡◌, ℕ, zero, suc, ◌+◌, ◌-◌, ◌<◌, ◌≤◌, Bool, true, false, List, [], ◌∷◌, ◌++◌, length, map, take, drop, replicate, get_or, set, Some, refl, sym, ap, ◌∙◌, subst, All, length-append, arith}
 use Rattle.std.specs.Prelude.{if◌then◌else◌}
 use Rattle.std.specs.List.{slice_get}
 use Rattle.std.proofs.lemmas.Option.{slice_get_within, get_or_from_slice_get}
-use Rattle.std.proofs.lemmas.List.{append-nil, set-get_or, get_or-map, length-map, length-replicate, length-take-le}
+use Rattle.std.proofs.lemmas.List.{append-nil, set-get_or, get_or-map, length-map, length-replicate}
 use Rattle.std.proofs.Math.Seq.{map-set_same}
-use Rattle.block.specs.Bytes.{with_word}
-use Rattle.theory.specs.Position.{Geometry, IsGeometry, aligned, span}
+use Rattle.theory.specs.Position.{Geometry, IsGeometry, aligned}
 use Rattle.theory.specs.Placed.{Data, Frame, Pad}
 use Rattle.theory.specs.Entry.{Entry}
 use Rattle.theory.specs.Wire.{front, zeros_after}
 use Rattle.theory.specs.Bytes.{Identity, bytes_of}
 use Rattle.term_buffer.specs.Kept.{cuts_for, cuts_in, entry_with, frame_of, header_rest, rest_of}
-use Rattle.term_buffer.specs.Slots.{IsWritten, drafts_of, entries_of, entry_of, frames_in, image_of, outline, piece_in, range, rest_in, slot_cuts}
+use Rattle.term_buffer.specs.Slots.{IsWritten, drafts_of, entries_of, entry_of, image_of, outline, piece_in, range, rest_in, slot_cuts}
 use Rattle.term_buffer.specs.declared.claimed.Claimed.{Claimed}
 use Rattle.term_buffer.specs.declared.claimed.Slot.{Slot}
 use Rattle.term_buffer.proofs.Cutting.{for_same}

@@ -1,7 +1,7 @@
 -- The frame lengths of a message or of a padding.
 use Rattle.std.proofs.Common.{◌≡◌, ℕ, zero, suc, ◌+◌, ◌-◌, ◌*◌, ◌%◌, ◌<◌, ◌≤◌, Bool, true, false, List, [], ◌∷◌, length, take, get_or, refl, sym, ap, ◌∙◌, arith}
 use Rattle.std.specs.List.{AllByRecursion, sum_by}
-use Rattle.theory.specs.Position.{Geometry, IsGeometry, aligned, max_message, max_payload, cuts_of, framed_length, span}
+use Rattle.theory.specs.Position.{Geometry, IsGeometry, aligned, max_payload, cuts_of, framed_length, span}
 use Rattle.theory.proofs.Claims.{covers_framed}
 use Rattle.theory.proofs.Cuts.{AreFull, cut_before, full_cuts, last_cut, span_before}
 use Rattle.theory.proofs.Holds.{holds_bytes}

@@ -8,7 +8,7 @@ use Rattle.std.proofs.lemmas.List.{length_push, map_push, length-take-le, get_or
 use Rattle.std.proofs.lemmas.List.Sums.{sum_by-set}
 use Rattle.std.proofs.lemmas.Nat.{div-add-mod'}
 use Rattle.block.specs.Bytes.{with_word}
-use Rattle.theory.specs.Position.{Geometry, IsGeometry, aligned, max_message, max_payload, max_position, span}
+use Rattle.theory.specs.Position.{Geometry, aligned, max_message, max_payload, max_position, span}
 use Rattle.theory.specs.Entry.{flags_of}
 use Rattle.theory.specs.Tiling.{InOneTerm, Tiles}
 use Rattle.theory.specs.Wire.{front}
@@ -20,7 +20,7 @@ use Rattle.term_buffer.specs.Kept.{cuts_for, cuts_in, frame_of, rest_of, with_sh
 use Rattle.term_buffer.specs.Slots.{AreWritten, IsBuffer, IsInside, IsWritten, IsZeroAhead, Parts, drafts_of, geometry_in, image_of, outline, piece_in, range, slot_cuts, term_in}
 use Rattle.term_buffer.specs.declared.claimed.Claimed.{Claimed}
 use Rattle.term_buffer.specs.declared.claimed.Slot.{Slot}
-use Rattle.term_buffer.proofs.Cutting.{at_units, for_long, for_some, for_units, span_within}
+use Rattle.term_buffer.proofs.Cutting.{at_units, for_long, for_units, span_within}
 use Rattle.term_buffer.proofs.Pieces.{OnlyPiece, flags_in, flags_next, frame_in, only_word, piece_long, piece_word, written_next, written_stored, zeros_written}
 use Rattle.term_buffer.proofs.Ring.{Apart, apart, in_ring, no_wrap, once_round, term_ends}
 use Rattle.term_buffer.proofs.StoredWords.{byte_in, first_of_word, part_here, word_size, zero_stays}

@@ -3,7 +3,7 @@ use Rattle.std.proofs.Common.{◌≡◌, ℕ, zero, suc, ◌+◌, ◌-◌, ◌*�
 use Rattle.std.specs.List.{AllByRecursion}
 use Rattle.std.specs.Prelude.{⊤, nat_eq}
 use Rattle.std.proofs.lemmas.Bool.{eq-eqb, ne_eqb}
-use Rattle.std.proofs.lemmas.List.{drop-drop, drop_at, drop-replicate, length-take-le, take-append-drop, take-replicate, take-take}
+use Rattle.std.proofs.lemmas.List.{drop-drop, drop_at, drop-replicate, length-take-le, take-append-drop, take-replicate}
 use Rattle.block.specs.Bytes.{with_word}
 use Rattle.theory.specs.Position.{aligned, span}
 use Rattle.theory.specs.Placed.{Frame}
@@ -12,7 +12,7 @@ use Rattle.theory.specs.Bytes.{Identity}
 use Rattle.term_buffer.specs.Kept.{blank_for, frame_of}
 use Rattle.term_buffer.specs.Slots.{AreWritten, frames_in, image_of, piece_in}
 use Rattle.term_buffer.proofs.Cutting.{span_within}
-use Rattle.term_buffer.proofs.StoredWords.{part_above, part_below, part_here, word_behind, word_size}
+use Rattle.term_buffer.proofs.StoredWords.{part_above, part_below, part_here, word_behind}
 
 -- ---- where a frame's bytes stand
 

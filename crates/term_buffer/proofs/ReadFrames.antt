@@ -1,11 +1,11 @@
 -- What is read of a slot's frame.
-use Rattle.std.proofs.Common.{◌≡◌, ℕ, zero, suc, ◌+◌, ◌-◌, ◌*◌, ◌/◌, ◌%◌, ◌<◌, ◌≤◌, ◌⊎◌, inl, inr, ⊎_elim, Bool, true, false, List, [], ◌∷◌, ◌++◌, length, map, take, drop, get_or, refl, sym, ap, ◌∙◌, subst, All, length-append, length-drop, arith}
+use Rattle.std.proofs.Common.{◌≡◌, ℕ, zero, suc, ◌+◌, ◌-◌, ◌*◌, ◌/◌, ◌%◌, ◌<◌, ◌≤◌, ◌⊎◌, inl, inr, ⊎_elim, Bool, true, false, List, [], ◌∷◌, ◌++◌, length, take, drop, get_or, refl, sym, ap, ◌∙◌, subst, All, length-append, length-drop, arith}
 use Rattle.std.specs.List.{AllByRecursion}
 use Rattle.std.specs.Prelude.{if◌then◌else◌, nat_eq}
 use Rattle.std.proofs.lemmas.List.{append-nil, drop-drop, drop-take, drop_all, get_or-map, length-map, length-take-le, take-take, take_all}
 use Rattle.std.proofs.lemmas.Nat.{div-add-mod', mod-mul-add}
 use Rattle.block.specs.Bytes.{with_front}
-use Rattle.theory.specs.Position.{Geometry, IsGeometry, aligned, max_position, span}
+use Rattle.theory.specs.Position.{Geometry, aligned, max_position, span}
 use Rattle.theory.specs.Placed.{Among, Data, Frame, Pad, Placed, frame_length, payload_of, place_all}
 use Rattle.theory.specs.Entry.{Entry, committed, flags_of}
 use Rattle.theory.specs.Tiling.{InOneTerm}
@@ -14,12 +14,11 @@ use Rattle.theory.proofs.LogSteps.{span_unit}
 use Rattle.position.specs.declared.head.FrameHead.{FrameHead}
 use Rattle.position.specs.declared.head.FrameKind.{FrameKind}
 use Rattle.position.specs.declared.head.FrameKind.TheVariants as kinds
-use Rattle.term_buffer.specs.Kept.{Kept, cuts_for, frame_of}
+use Rattle.term_buffer.specs.Kept.{Kept, frame_of}
 use Rattle.term_buffer.specs.Heads.{IsStreamFrame, ReadsFrame, ReadsNone, head_of}
 use Rattle.term_buffer.specs.Search.{AreApart, HasFrame, HasNoFrame, head_in}
 use Rattle.term_buffer.specs.Slots.{IsBuffer, IsInside, Parts, entries_of, entry_of, frames_in, geometry_in, piece_in, range, slot_cuts, term_in}
 use Rattle.term_buffer.specs.declared.claimed.Slot.{Slot}
-use Rattle.term_buffer.proofs.Changes.{any_default}
 use Rattle.term_buffer.proofs.Cutting.{at_short, at_units, for_short, for_units, span_within}
 use Rattle.term_buffer.proofs.Keeps.{pad_flags}
 use Rattle.term_buffer.proofs.Logs.{long_range, shown, some_term}

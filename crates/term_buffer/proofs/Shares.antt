@@ -1,10 +1,9 @@
 -- The entries of slots tile the stream as the slots do.
-use Rattle.std.proofs.Common.{◌≡◌, ℕ, zero, suc, ◌+◌, ◌-◌, ◌*◌, ◌%◌, ◌<◌, ◌≤◌, Bool, true, false, List, [], ◌∷◌, ◌++◌, length, map, take, drop, refl, sym, ◌∙◌, subst, All, length-drop, arith}
-use Rattle.std.specs.List.{AllByRecursion, sum_by}
+use Rattle.std.proofs.Common.{◌≡◌, ℕ, zero, suc, ◌+◌, ◌-◌, ◌*◌, ◌%◌, ◌<◌, ◌≤◌, Bool, true, false, List, [], ◌∷◌, ◌++◌, length, map, take, drop, refl, ◌∙◌, subst, All, length-drop, arith}
+use Rattle.std.specs.List.{AllByRecursion}
 use Rattle.std.proofs.lemmas.List.{length-take-le}
-use Rattle.std.proofs.lemmas.List.Sums.{sum_by-cons}
 use Rattle.theory.specs.Position.{Geometry, IsGeometry, aligned, span}
-use Rattle.theory.specs.Entry.{ArePieces, HaveFrames, Entry, IsEntry, flags_of, length_of, entry_end}
+use Rattle.theory.specs.Entry.{ArePieces, HaveFrames, Entry, IsEntry, entry_end}
 use Rattle.theory.specs.Tiling.{Tiles, InOneTerm}
 use Rattle.theory.specs.Bytes.{Identity}
 use Rattle.theory.proofs.Lists.{all_weaker}

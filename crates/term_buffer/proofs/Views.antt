@@ -1,5 +1,5 @@
 -- What the calls show of a buffer.
-use Rattle.std.proofs.Common.{◌≡◌, ℕ, suc, ◌+◌, ◌-◌, ◌*◌, ◌/◌, ◌%◌, ◌<◌, ◌≤◌, ⊎_elim, Bool, true, false, List, [], ◌∷◌, ◌++◌, length, take, drop, replicate, get_or, set, Option, None, Some, refl, sym, ap, ◌∙◌, subst, get_or-set_same, length-append, length-set, arith}
+use Rattle.std.proofs.Common.{◌≡◌, ℕ, suc, ◌+◌, ◌-◌, ◌*◌, ◌/◌, ◌%◌, ◌<◌, ◌≤◌, ⊎_elim, Bool, true, false, List, [], ◌∷◌, ◌++◌, length, take, drop, get_or, set, Option, None, Some, refl, sym, ap, ◌∙◌, subst, get_or-set_same, length-append, length-set, arith}
 use Rattle.std.specs.List.{slice_get}
 use Rattle.std.specs.Prelude.{IfSome, if◌then◌else◌, nat_eq, nat_lt}
 use Rattle.std.specs.Int.{w64, to_le_bytes}
@@ -11,16 +11,16 @@ use Rattle.theory.specs.Position.{IsGeometry, aligned, max_message, max_position
 use Rattle.theory.specs.Placed.{Frame, Pad}
 use Rattle.theory.specs.Entry.{Entry, flags_of}
 use Rattle.theory.specs.Wire.{front}
-use Rattle.term_buffer.specs.Kept.{IsAborted, IsDrafted, IsOpen, Kept, MayAbort, after_next, blank_for, claim_of, cuts_for, cuts_in, draft_of, drafted, entry_with, frame_of, next_flags, next_length, next_start, no_entry, place_of, rest_of, term_of, with_abort, with_claim, with_commit, with_draft, with_next, with_share}
+use Rattle.term_buffer.specs.Kept.{IsAborted, IsDrafted, IsOpen, Kept, MayAbort, after_next, blank_for, claim_of, cuts_for, cuts_in, draft_of, drafted, entry_with, frame_of, next_flags, next_length, no_entry, place_of, rest_of, term_of, with_abort, with_claim, with_commit, with_draft, with_next, with_share}
 use Rattle.term_buffer.specs.Places.{NextPlace}
 use Rattle.term_buffer.specs.Slots.{IsBuffer, Parts, drafts_of, entries_of, entry_of, frames_in, geometry_in, piece_in, range, rest_in, term_in}
 use Rattle.term_buffer.specs.declared.claimed.Claimed.{Claimed}
 use Rattle.term_buffer.specs.declared.claimed.Slot.{Slot}
 use Rattle.term_buffer.proofs.Changes.{Opened, draft_is, drafts_set, entries_set, entry_is, opened, same_slot, slot_of}
 use Rattle.term_buffer.proofs.Cutting.{for_some}
-use Rattle.term_buffer.proofs.Keeps.{AbortsWith, CommitsWith, Fits, IsNextPlace, IsNextWord, Stands, aborted_slot, claimed_parts, kept_abort, kept_claim, kept_commit, kept_store, new_range, only, others, piece, piece_size, stands, was_written, word_in}
+use Rattle.term_buffer.proofs.Keeps.{AbortsWith, CommitsWith, Fits, IsNextPlace, IsNextWord, Stands, aborted_slot, claimed_parts, kept_abort, kept_claim, kept_commit, kept_store, new_range, only, others, piece, piece_size, stands, was_written}
 use Rattle.term_buffer.proofs.Logs.{shown}
-use Rattle.term_buffer.proofs.Pieces.{blank_next, blank_piece, flags_in, flags_next, frame_in, frames_next, frames_same}
+use Rattle.term_buffer.proofs.Pieces.{blank_next, blank_piece, flags_next, frame_in, frames_next, frames_same}
 use Rattle.term_buffer.proofs.StoredWords.{rest_of_word}
 
 -- the parts' entries and drafts, others

@@ -5,7 +5,7 @@ use Rattle.std.specs.Prelude.{nat_le, nat_eq, replicate, ⊤}
 use Rattle.std.proofs.lemmas.Bool.{cases_Bool, leb-true, leb-false, le-leb, lt-leb, eq-eqb, ne_eqb, cond-true, cond-false}
 use Rattle.std.proofs.lemmas.List.{length-replicate}
 use Rattle.std.proofs.lemmas.List.Sums.{sum_by-cons}
-use Rattle.theory.specs.Position.{Geometry, IsGeometry, aligned, max_payload, cuts_of, rest_cut, span}
+use Rattle.theory.specs.Position.{Geometry, aligned, max_payload, cuts_of, rest_cut, span}
 use Rattle.theory.specs.Entry.{flags_of}
 
 -- all but the last have this length

@@ -1,4 +1,4 @@
-use Rattle.std.proofs.Common.{◌≡◌, ◌*◌, ◌∙◌, ap, sym}
+use Rattle.std.proofs.Common.{◌*◌, ◌∙◌, ap, sym}
 use Rattle.term_buffer.proofs.Cutting.{for_offset}
 use Rattle.term_buffer.proofs.cuts.frame_offset.Goals as goal
 

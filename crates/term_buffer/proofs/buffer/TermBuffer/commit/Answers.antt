@@ -1,4 +1,4 @@
-use Rattle.std.proofs.Common.{◌≡◌, ◌+◌, ◌-◌, ap, set, subst, sym, ◌∙◌}
+use Rattle.std.proofs.Common.{◌-◌, ap, set, subst, sym, ◌∙◌}
 use Rattle.std.specs.Prelude.{IfSome}
 use Rattle.term_buffer.specs.Kept.{IsOpen, Kept, after_next, drafted}
 use Rattle.term_buffer.proofs.Logs.{parts_of}

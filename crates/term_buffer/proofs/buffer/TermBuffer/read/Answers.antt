@@ -2,7 +2,6 @@ use Rattle.std.proofs.Common.{◌≡◌, ◌+◌, ◌-◌, ◌*◌, ◌%◌, ◌
 use Rattle.std.specs.Prelude.{IfNone}
 use Rattle.std.proofs.lemmas.Bool.{false≢true}
 use denote.Enum.Bare.{sameb, same_true}
-use Rattle.theory.specs.Position.{aligned}
 use Rattle.position.specs.contracts.head.FrameKind.{the_type}
 use Rattle.position.specs.declared.head.FrameHead.{FrameHead}
 use Rattle.position.specs.declared.head.FrameKind.{FrameKind}
