@@ -2,12 +2,12 @@
 use Rattle.std.proofs.Common.{◌≡◌, ℕ, ◌+◌, ◌*◌, ◌/◌, ◌%◌, ◌<◌, ◌≤◌, List, [], ◌∷◌, length, map, drop, get_or, refl, sym, ap, ◌∙◌, subst, arith}
 use Rattle.std.specs.List.{AllByRecursion}
 use Rattle.block.specs.Bytes.{with_word}
-use Rattle.theory.specs.Position.{aligned}
+use Rattle.theory.specs.Position.{span}
 use Rattle.theory.specs.Entry.{Entry, IsEntry, entry_end, length_of}
 use Rattle.theory.specs.Tiling.{Tiles}
 use Rattle.term_buffer.specs.Forgets.{ForgetsFirst}
 use Rattle.term_buffer.specs.Kept.{Cleans, IsKeptLog, Kept, MayClean, term_of}
-use Rattle.term_buffer.specs.Slots.{IsBuffer, Parts, drafts_of, entries_of, entry_of, outline, range, rest_in, term_in}
+use Rattle.term_buffer.specs.Slots.{IsBuffer, Parts, drafts_of, entries_of, entry_of, geometry_in, outline, range, rest_in, slot_cuts, term_in}
 use Rattle.term_buffer.specs.declared.claimed.Slot.{Slot}
 use Rattle.term_buffer.proofs.Keeps.{clean_leaves, cleaned_parts, forgotten_parts, kept_clean, kept_forget, word_cleaned}
 use Rattle.term_buffer.proofs.Logs.{shown}
@@ -18,7 +18,7 @@ use Rattle.term_buffer.proofs.Slots.{map_same}
 pub some_slot : (p : Parts) (k : IsBuffer p) (l : Kept) → shown p ≡ l → l.first < l.tail → 0 < length p.slots
 some_slot p k l v some = not_none p.slots (k.tiles) (subst (λ (x : Kept). x.first < x.tail) (sym v) some)
   where
-    not_none : (ss : List Slot) → Tiles (term_in p) p.first p.tail (map outline ss) → p.first < p.tail → 0 < length ss
+    not_none : (ss : List Slot) → Tiles (term_in p) p.first p.tail (map (outline (geometry_in p)) ss) → p.first < p.tail → 0 < length ss
     not_none [] h low = absurd (omega (arith, h))
     not_none (s ∷ ss) h low = omega arith
 
@@ -26,29 +26,29 @@ front_and_rest : (ss : List Slot) (d : Slot) → 0 < length ss → ss ≡ get_or
 front_and_rest [] d h = absurd (omega arith)
 front_and_rest (s ∷ ss) d h = refl
 
-pub forget_kept : (p : Parts) (k : IsBuffer p) (s : Slot) → 0 < length p.slots → s ≡ get_or p.slots 0 s → (covered : ℕ) → covered ≡ aligned s.frame_length → (ss : List Slot) → ss ≡ drop 1 p.slots → (room : ℕ) → room ≡ p.capacity → IsBuffer (record p { first = p.first + covered; gone = p.gone + 1; slots = ss; capacity = room })
+pub forget_kept : (p : Parts) (k : IsBuffer p) (s : Slot) → 0 < length p.slots → s ≡ get_or p.slots 0 s → (covered : ℕ) → covered ≡ span (slot_cuts (geometry_in p) s) → (ss : List Slot) → ss ≡ drop 1 p.slots → (room : ℕ) → room ≡ p.capacity → IsBuffer (record p { first = p.first + covered; gone = p.gone + 1; slots = ss; capacity = room })
 forget_kept p k s some e covered f ss g room h =
     let split : p.slots ≡ s ∷ drop 1 p.slots = front_and_rest p.slots s some ∙ ap (λ (x : Slot). x ∷ drop 1 p.slots) (sym e) in
     subst (λ n. IsBuffer (record p { first = p.first + n; gone = p.gone + 1; slots = ss; capacity = room })) (sym f)
-    (subst (λ (xs : List Slot). IsBuffer (record p { first = p.first + aligned s.frame_length; gone = p.gone + 1; slots = xs; capacity = room })) (sym g)
+    (subst (λ (xs : List Slot). IsBuffer (record p { first = p.first + span (slot_cuts (geometry_in p) s); gone = p.gone + 1; slots = xs; capacity = room })) (sym g)
     (subst (λ n. IsBuffer (record (forgotten_parts p s (drop 1 p.slots)) { capacity = n })) (sym h) (kept_forget p k s (drop 1 p.slots) split)))
 
 forgets : (p : Parts) (k : IsBuffer p) (s : Slot) (ss : List Slot) → p.slots ≡ s ∷ ss → ForgetsFirst (shown p) (shown (forgotten_parts p s ss))
 forgets p k s ss e =
-    let tiled : Tiles (term_in p) p.first p.tail (map outline (s ∷ ss)) = subst (λ (xs : List Slot). Tiles (term_in p) p.first p.tail (map outline xs)) e k.tiles in
+    let tiled : Tiles (term_in p) p.first p.tail (map (outline (geometry_in p)) (s ∷ ss)) = subst (λ (xs : List Slot). Tiles (term_in p) p.first p.tail (map (outline (geometry_in p)) xs)) e k.tiles in
     record {
-      entry = entry_of s (range (term_in p) p.bytes s);
-      parts = ap (entries_of (term_in p) p.bytes) e;
+      entry = entry_of (geometry_in p) s (range (geometry_in p) p.bytes s);
+      parts = ap (entries_of (geometry_in p) p.bytes) e;
       tiles = (tiled.0, tiled.1, omega (arith, tiled.0));
-      new_is = ap (λ (ds : List (List ℕ)). record (shown (forgotten_parts p s ss)) { drafts = ds }) (ap (λ (xs : List Slot). drop 1 (drafts_of (term_in p) p.bytes xs)) (sym e));
+      new_is = ap (λ (ds : List (List ℕ)). record (shown (forgotten_parts p s ss)) { drafts = ds }) (ap (λ (xs : List Slot). drop 1 (drafts_of (geometry_in p) p.bytes xs)) (sym e));
     }
 
-pub forget_shown : (p : Parts) (k : IsBuffer p) (l : Kept) → shown p ≡ l → (s : Slot) → 0 < length p.slots → s ≡ get_or p.slots 0 s → (covered : ℕ) → covered ≡ aligned s.frame_length → (ss : List Slot) → ss ≡ drop 1 p.slots → (room : ℕ) → ForgetsFirst l (shown (record p { first = p.first + covered; gone = p.gone + 1; slots = ss; capacity = room }))
+pub forget_shown : (p : Parts) (k : IsBuffer p) (l : Kept) → shown p ≡ l → (s : Slot) → 0 < length p.slots → s ≡ get_or p.slots 0 s → (covered : ℕ) → covered ≡ span (slot_cuts (geometry_in p) s) → (ss : List Slot) → ss ≡ drop 1 p.slots → (room : ℕ) → ForgetsFirst l (shown (record p { first = p.first + covered; gone = p.gone + 1; slots = ss; capacity = room }))
 forget_shown p k l v s some e covered f ss g room =
     let split : p.slots ≡ s ∷ drop 1 p.slots = front_and_rest p.slots s some ∙ ap (λ (x : Slot). x ∷ drop 1 p.slots) (sym e) in
     subst (λ (x : Kept). ForgetsFirst x (shown (record p { first = p.first + covered; gone = p.gone + 1; slots = ss; capacity = room }))) v
     (subst (λ n. ForgetsFirst (shown p) (shown (record p { first = p.first + n; gone = p.gone + 1; slots = ss; capacity = room }))) (sym f)
-    (subst (λ (xs : List Slot). ForgetsFirst (shown p) (shown (record p { first = p.first + aligned s.frame_length; gone = p.gone + 1; slots = xs; capacity = room }))) (sym g)
+    (subst (λ (xs : List Slot). ForgetsFirst (shown p) (shown (record p { first = p.first + span (slot_cuts (geometry_in p) s); gone = p.gone + 1; slots = xs; capacity = room }))) (sym g)
     (forgets p k s (drop 1 p.slots) split)))
 
 -- ---- a word is cleared
@@ -69,14 +69,14 @@ clear_shown p k l v below place at new e =
     (ap (λ (es : List Entry). record (shown (cleaned_parts p place)) { entries = es }) entries
     ∙ ap (λ (ds : List (List ℕ)). record (shown p) { cleaned = p.cleaned + 8; drafts = ds }) drafts))
   where
-    leaves : (j : ℕ) (d : Slot) → j < length p.slots → range (term_in p) (with_word p.bytes place 0) (get_or p.slots j d) ≡ range (term_in p) p.bytes (get_or p.slots j d)
+    leaves : (j : ℕ) (d : Slot) → j < length p.slots → range (geometry_in p) (with_word p.bytes place 0) (get_or p.slots j d) ≡ range (geometry_in p) p.bytes (get_or p.slots j d)
     leaves = clean_leaves p k place (subst (λ (x : Kept). 8 * place ≡ p.cleaned % (3 * term_of x)) (sym v) at) (subst (λ (x : Kept). x.cleaned < x.first) (sym v) below)
 
-    entries : entries_of (term_in p) (with_word p.bytes place 0) p.slots ≡ entries_of (term_in p) p.bytes p.slots
-    entries = map_same (λ s. entry_of s (range (term_in p) p.bytes s)) (λ s. entry_of s (range (term_in p) (with_word p.bytes place 0) s)) p.slots (λ j d h. ap (entry_of (get_or p.slots j d)) (leaves j d h))
+    entries : entries_of (geometry_in p) (with_word p.bytes place 0) p.slots ≡ entries_of (geometry_in p) p.bytes p.slots
+    entries = map_same (λ s. entry_of (geometry_in p) s (range (geometry_in p) p.bytes s)) (λ s. entry_of (geometry_in p) s (range (geometry_in p) (with_word p.bytes place 0) s)) p.slots (λ j d h. ap (entry_of (geometry_in p) (get_or p.slots j d)) (leaves j d h))
 
-    drafts : drafts_of (term_in p) (with_word p.bytes place 0) p.slots ≡ drafts_of (term_in p) p.bytes p.slots
-    drafts = map_same (λ s. rest_in s (range (term_in p) p.bytes s)) (λ s. rest_in s (range (term_in p) (with_word p.bytes place 0) s)) p.slots (λ j d h. ap (rest_in (get_or p.slots j d)) (leaves j d h))
+    drafts : drafts_of (geometry_in p) (with_word p.bytes place 0) p.slots ≡ drafts_of (geometry_in p) p.bytes p.slots
+    drafts = map_same (λ s. rest_in (geometry_in p) s (range (geometry_in p) p.bytes s)) (λ s. rest_in (geometry_in p) s (range (geometry_in p) (with_word p.bytes place 0) s)) p.slots (λ j d h. ap (rest_in (geometry_in p) (get_or p.slots j d)) (leaves j d h))
 
 -- ---- both
 

@@ -1,8 +1,11 @@
 pub mod Changes
 pub mod Cleaning
+pub mod Cutting
+pub mod Finding
 pub mod Keeps
 pub mod Logs
-pub mod ReadEntries
+pub mod Pieces
+pub mod ReadFrames
 pub mod Ring
 pub mod Shares
 pub mod Slots

@@ -1,16 +1,16 @@
 -- The entries of slots tile the stream as the slots do.
-use Rattle.std.proofs.Common.{◌≡◌, ℕ, suc, ◌+◌, ◌-◌, ◌*◌, ◌%◌, ◌<◌, ◌≤◌, Bool, true, false, List, [], ◌∷◌, ◌++◌, length, map, take, drop, refl, sym, ◌∙◌, subst, All, length-drop, arith}
-use Rattle.std.specs.List.{AllByRecursion, sum_by}
-use Rattle.std.specs.Prelude.{if◌then◌else◌}
+use Rattle.std.proofs.Common.{◌≡◌, ℕ, zero, suc, ◌+◌, ◌-◌, ◌*◌, ◌%◌, ◌<◌, ◌≤◌, Bool, true, false, List, [], ◌∷◌, ◌++◌, length, map, take, drop, refl, ◌∙◌, subst, All, length-drop, arith}
+use Rattle.std.specs.List.{AllByRecursion}
 use Rattle.std.proofs.lemmas.List.{length-take-le}
-use Rattle.std.proofs.lemmas.List.Sums.{sum_by-cons}
-use Rattle.theory.specs.Position.{aligned}
-use Rattle.theory.specs.Placed.{Data, Pad}
-use Rattle.theory.specs.Bytes.{Identity}
-use Rattle.theory.specs.Entry.{HaveFrames, Entry, IsEntry, length_of, entry_end}
+use Rattle.theory.specs.Position.{Geometry, IsGeometry, aligned, span}
+use Rattle.theory.specs.Entry.{ArePieces, HaveFrames, Entry, IsEntry, entry_end}
 use Rattle.theory.specs.Tiling.{Tiles, InOneTerm}
-use Rattle.term_buffer.specs.Slots.{entries_of, entry_of, outline, range, IsInside}
+use Rattle.theory.specs.Bytes.{Identity}
+use Rattle.theory.proofs.Lists.{all_weaker}
+use Rattle.term_buffer.specs.Kept.{cuts_for}
+use Rattle.term_buffer.specs.Slots.{entries_of, entry_of, frames_in, outline, range, slot_cuts, IsInside}
 use Rattle.term_buffer.specs.declared.claimed.Slot.{Slot}
+use Rattle.term_buffer.proofs.Cutting.{for_long, for_units}
 use Rattle.term_buffer.proofs.Ring.{in_ring}
 
 pub tiles_push : (term p tail : ℕ) (es : List Entry) (e : Entry) → Tiles term p tail es → e.start ≡ tail → InOneTerm term tail (entry_end e) → Tiles term p (entry_end e) (es ++ e ∷ [])
@@ -18,49 +18,56 @@ tiles_push term p tail [] e h s k = (s ∙ h, subst (λ x. InOneTerm term x (ent
 tiles_push term p tail (d ∷ es) e h s k = (h.0, h.1, tiles_push term (entry_end d) tail es e h.2 s k)
 
 -- the tiling doesn't ask what is committed
-pub tiles_entries : (term start tail : ℕ) (bytes : List ℕ) (slots : List Slot) → Tiles term start tail (map outline slots) → Tiles term start tail (entries_of term bytes slots)
-tiles_entries term start tail bytes [] h = h
-tiles_entries term start tail bytes (s ∷ ss) h = (h.0, h.1, tiles_entries term (entry_end (outline s)) tail bytes ss h.2)
-
-pub total : (term p tail : ℕ) (es : List Entry) → Tiles term p tail es → p + sum_by length_of es ≡ tail
-total term p tail [] h = omega (arith, h)
-total term p tail (e ∷ es) h = omega (arith, sum_by-cons length_of e es, total term (entry_end e) tail es h.2, h.0)
+pub tiles_entries : (g : Geometry) (term start tail : ℕ) (bytes : List ℕ) (slots : List Slot) → Tiles term start tail (map (outline g) slots) → Tiles term start tail (entries_of g bytes slots)
+tiles_entries g term start tail bytes [] h = h
+tiles_entries g term start tail bytes (s ∷ ss) h = (h.0, h.1, tiles_entries g term (entry_end (outline g s)) tail bytes ss h.2)
 
 -- the bytes of a slot that lies in one term
-pub range_long : (t first tail : ℕ) (i : Identity) (bytes : List ℕ) (s : Slot) → t ≡ i.geometry.term_length → 0 < t → length bytes ≡ 3 * t → IsInside i first tail s → length (range t bytes s) ≡ aligned s.frame_length
-range_long t first tail i bytes s is some size h =
-    let one : InOneTerm t s.start (s.start + aligned s.frame_length) = subst (λ x. InOneTerm x s.start (s.start + aligned s.frame_length)) (sym is) h.in_term in
-    let fits : s.start % (3 * t) + aligned s.frame_length ≤ 3 * t = in_ring t s.start (aligned s.frame_length) some one in
-    length-take-le (aligned s.frame_length) (drop (s.start % (3 * t)) bytes) (omega (arith, length-drop (s.start % (3 * t)) bytes))
+pub range_long : (first tail : ℕ) (i : Identity) (bytes : List ℕ) (s : Slot) → 0 < i.geometry.term_length → length bytes ≡ 3 * i.geometry.term_length → IsInside i first tail s → length (range i.geometry bytes s) ≡ span (slot_cuts i.geometry s)
+range_long first tail i bytes s some size h = long i.geometry.term_length (span (slot_cuts i.geometry s)) some size h.in_term
+  where
+    long : (t n : ℕ) → 0 < t → length bytes ≡ 3 * t → InOneTerm t s.start (s.start + n) → length (take n (drop (s.start % (3 * t)) bytes)) ≡ n
+    long t n above whole one =
+        let fits : s.start % (3 * t) + n ≤ 3 * t = in_ring t s.start n above one in
+        length-take-le n (drop (s.start % (3 * t)) bytes) (omega (arith, length-drop (s.start % (3 * t)) bytes))
+
+-- the frames of a message are its pieces
+are_pieces : (first : Bool) (k : ℕ) (cuts bytes : List ℕ) → AllByRecursion (λ cut. 32 ≤ cut) cuts → span cuts ≤ length bytes → ArePieces first cuts (frames_in false first k cuts bytes)
+are_pieces first zero cuts bytes all size = tt
+are_pieces first (suc k) [] bytes all size = tt
+are_pieces first (suc k) (cut ∷ cuts) bytes all size = ((refl, whole), are_pieces false k cuts (drop (aligned cut) bytes) all.1 (omega (arith, length-drop (aligned cut) bytes)))
+  where
+    piece : length (take (aligned cut) bytes) ≡ aligned cut
+    piece = length-take-le (aligned cut) bytes (omega arith)
+
+    payload : length (take (cut - 32) (drop 24 (drop 8 (take (aligned cut) bytes)))) ≡ cut - 32
+    payload = length-take-le (cut - 32) (drop 24 (drop 8 (take (aligned cut) bytes))) (omega (arith, length-drop 24 (drop 8 (take (aligned cut) bytes)), length-drop 8 (take (aligned cut) bytes), piece))
+
+    whole : 32 + length (take (cut - 32) (drop 24 (drop 8 (take (aligned cut) bytes)))) ≡ cut
+    whole = omega (arith, payload, all.0)
+
+have_frames : (g : Geometry) → IsGeometry g → (b : Bool) (n k : ℕ) (bytes : List ℕ) → (b ≡ true → 32 ≤ n) → k ≤ length (cuts_for g b n) → span (cuts_for g b n) ≤ length bytes → HaveFrames b (cuts_for g b n) (frames_in b true k (cuts_for g b n) bytes)
+have_frames g is false n k bytes long low size = are_pieces true k (cuts_for g false n) bytes (for_units g is false n long) size
+have_frames g is true n zero bytes long low size = tt
+have_frames g is true n (suc zero) bytes long low size = refl
+have_frames g is true n (suc (suc k)) bytes long low size = absurd (omega arith)
 
 -- each is an entry
-is_entry : (s : Slot) (covered : List ℕ) → s.owner < 8 → 32 ≤ s.frame_length → length covered ≡ aligned s.frame_length → IsEntry (entry_of s covered)
-is_entry s covered owner low long = record {
+pub is_entry : (g : Geometry) → IsGeometry g → (s : Slot) (bytes : List ℕ) → s.owner < 8 → (s.padding ≡ true → 32 ≤ s.size) → s.committed ≤ length (slot_cuts g s) → length bytes ≡ span (slot_cuts g s) → IsEntry (entry_of g s bytes)
+is_entry g is s bytes owner long low size = record {
   owner = owner;
-  cuts = (omega arith, tt);
-  long = omega arith;
-  frames = pieces s.committed s.padding;
+  cuts = all_weaker (λ cut. 32 ≤ cut) (λ cut. 0 < cut) (λ cut h. omega arith) (slot_cuts g s) (for_units g is s.padding s.size long);
+  long = omega (arith, for_long g is s.padding s.size long);
+  frames = have_frames g is s.padding s.size s.committed bytes long low (omega (arith, size));
 }
-  where
-    size : length (take (s.frame_length - 32) (drop 32 covered)) ≡ s.frame_length - 32
-    size = length-take-le (s.frame_length - 32) (drop 32 covered) (omega (arith, length-drop 32 covered))
 
-    whole : 32 + length (take (s.frame_length - 32) (drop 32 covered)) ≡ s.frame_length
-    whole = omega (arith, size)
-
-    pieces : (c b : Bool) → HaveFrames b (s.frame_length ∷ []) (if c then (if b then Pad s.frame_length else Data 192 (take (s.frame_length - 32) (drop 32 covered))) ∷ [] else [])
-    pieces true true = refl
-    pieces true false = ((refl, whole), tt)
-    pieces false true = tt
-    pieces false false = tt
-
-pub are_entries : (t : ℕ) (bytes : List ℕ) (slots : List Slot) → All (λ s. (s.owner < 8) × (32 ≤ s.frame_length) × (length (range t bytes s) ≡ aligned s.frame_length)) slots → AllByRecursion IsEntry (entries_of t bytes slots)
-are_entries t bytes [] h = tt
-are_entries t bytes (s ∷ ss) h = (is_entry s (range t bytes s) (h 0 s (omega arith)).0 (h 0 s (omega arith)).1 (h 0 s (omega arith)).2, are_entries t bytes ss (λ k d l. h (suc k) d (omega arith)))
+pub are_entries : (g : Geometry) (bytes : List ℕ) (slots : List Slot) → All (λ s. IsEntry (entry_of g s (range g bytes s))) slots → AllByRecursion IsEntry (entries_of g bytes slots)
+are_entries g bytes [] h = tt
+are_entries g bytes (s ∷ ss) h = (h 0 s (omega arith), are_entries g bytes ss (λ k d l. h (suc k) d (omega arith)))
 
 -- each takes 32 bytes or more
-pub few_slots : (t first tail : ℕ) (slots : List Slot) → All (λ s. 32 ≤ s.frame_length) slots → Tiles t first tail (map outline slots) → first + 32 * length slots ≤ tail
-few_slots t first tail [] all h = omega (arith, h)
-few_slots t first tail (s ∷ ss) all h =
-    let long : 32 ≤ s.frame_length = all 0 s (omega arith) in
-    omega (arith, h.0, few_slots t (entry_end (outline s)) tail ss (λ k d l. all (suc k) d (omega arith)) h.2)
+pub few_slots : (g : Geometry) (t first tail : ℕ) (slots : List Slot) → All (λ s. 32 ≤ span (slot_cuts g s)) slots → Tiles t first tail (map (outline g) slots) → first + 32 * length slots ≤ tail
+few_slots g t first tail [] all h = omega (arith, h)
+few_slots g t first tail (s ∷ ss) all h =
+    let long : 32 ≤ span (slot_cuts g s) = all 0 s (omega arith) in
+    omega (arith, h.0, few_slots g t (entry_end (outline g s)) tail ss (λ k d l. all (suc k) d (omega arith)) h.2)

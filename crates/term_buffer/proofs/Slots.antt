@@ -3,9 +3,9 @@ use Rattle.std.proofs.Common.{◌≡◌, ℕ, zero, suc, ◌+◌, ◌*◌, ◌%�
 use Rattle.std.proofs.lemmas.Bool.{cases_eq, cases_lt}
 use Rattle.std.proofs.lemmas.List.{get_or_append_left, get_or_push, length_push}
 use Rattle.block.specs.Bytes.{with_word}
-use Rattle.theory.specs.Position.{aligned}
+use Rattle.theory.specs.Position.{Geometry, span}
 use Rattle.theory.specs.Tiling.{Tiles}
-use Rattle.term_buffer.specs.Slots.{outline}
+use Rattle.term_buffer.specs.Slots.{outline, slot_cuts}
 use Rattle.term_buffer.specs.declared.claimed.Slot.{Slot}
 use Rattle.term_buffer.proofs.StoredWords.{byte_above, byte_below, part_above, part_below}
 use Rattle.term_buffer.proofs.Ring.{Apart, apart, apart_back}
@@ -41,18 +41,22 @@ all_push P xs y all here = λ k d h.
     subst P (sym (get_or_append_left xs (y ∷ []) d k within)) (all k d within))
     (cases_eq k (length xs))
 
+-- where a slot ends
+abbrev pub slot_end : Geometry → Slot → ℕ
+slot_end g s = s.start + span (slot_cuts g s)
+
 -- no slot starts before the first
-pub slots_above : (t start tail : ℕ) (slots : List Slot) (i : ℕ) (d : Slot) → Tiles t start tail (map outline slots) → i < length slots → start ≤ (get_or slots i d).start
-slots_above t start tail [] i d h low = absurd (omega arith)
-slots_above t start tail (s ∷ ss) zero d h low = omega (arith, h.0)
-slots_above t start tail (s ∷ ss) (suc i) d h low = omega (arith, h.0, slots_above t (s.start + (aligned s.frame_length + 0)) tail ss i d h.2 (omega arith))
+pub slots_above : (g : Geometry) (t start tail : ℕ) (slots : List Slot) (i : ℕ) (d : Slot) → Tiles t start tail (map (outline g) slots) → i < length slots → start ≤ (get_or slots i d).start
+slots_above g t start tail [] i d h low = absurd (omega arith)
+slots_above g t start tail (s ∷ ss) zero d h low = omega (arith, h.0)
+slots_above g t start tail (s ∷ ss) (suc i) d h low = omega (arith, h.0, slots_above g t (slot_end g s) tail ss i d h.2 (omega arith))
 
 -- each slot ends before a later one
-pub slots_order : (t start tail : ℕ) (slots : List Slot) (k i : ℕ) (d : Slot) → Tiles t start tail (map outline slots) → k < i → i < length slots → (get_or slots k d).start + aligned (get_or slots k d).frame_length ≤ (get_or slots i d).start
-slots_order t start tail [] k i d h before low = absurd (omega arith)
-slots_order t start tail (s ∷ ss) k zero d h before low = absurd (omega arith)
-slots_order t start tail (s ∷ ss) zero (suc i) d h before low = omega (arith, slots_above t (s.start + (aligned s.frame_length + 0)) tail ss i d h.2 (omega arith))
-slots_order t start tail (s ∷ ss) (suc k) (suc i) d h before low = slots_order t (s.start + (aligned s.frame_length + 0)) tail ss k i d h.2 (omega arith) (omega arith)
+pub slots_order : (g : Geometry) (t start tail : ℕ) (slots : List Slot) (k i : ℕ) (d : Slot) → Tiles t start tail (map (outline g) slots) → k < i → i < length slots → slot_end g (get_or slots k d) ≤ (get_or slots i d).start
+slots_order g t start tail [] k i d h before low = absurd (omega arith)
+slots_order g t start tail (s ∷ ss) k zero d h before low = absurd (omega arith)
+slots_order g t start tail (s ∷ ss) zero (suc i) d h before low = omega (arith, slots_above g t (slot_end g s) tail ss i d h.2 (omega arith))
+slots_order g t start tail (s ∷ ss) (suc k) (suc i) d h before low = slots_order g t (slot_end g s) tail ss k i d h.2 (omega arith) (omega arith)
 
 -- a word stored in one piece of the ring leaves the bytes of another
 pub piece_apart : (m : ℕ) (bytes : List ℕ) (x n y k j w : ℕ) → length bytes ≡ m → Apart m x n y k → x % m ≤ 8 * j → 8 * j + 8 ≤ x % m + n → x % m + n ≤ m → take k (drop (y % m) (with_word bytes j w)) ≡ take k (drop (y % m) bytes)
@@ -73,18 +77,22 @@ differ : (a b : ℕ) → (a ≡ b → ⊥) → (a < b) ⊎ (b < a)
 differ a b apart = ⊎_elim (λ (h : a < b). inl h) (λ (h : b ≤ a). inr (omega arith)) (cases_lt a b)
 
 -- two slots of a window that is no longer than the ring
-pub slots_apart : (t m start tail : ℕ) (slots : List Slot) (i k : ℕ) (d : Slot) → 0 < m → tail ≤ start + m → Tiles t start tail (map outline slots) → ((n : ℕ) (e : Slot) → n < length slots → (get_or slots n e).start + aligned (get_or slots n e).frame_length ≤ tail) → i < length slots → k < length slots → (k ≡ i → ⊥) → Apart m (get_or slots i d).start (aligned (get_or slots i d).frame_length) (get_or slots k d).start (aligned (get_or slots k d).frame_length)
-slots_apart t m start tail slots i k d some window tiles ends here there ne =
-    let first : start ≤ (get_or slots i d).start = slots_above t start tail slots i d tiles here in
-    let second : start ≤ (get_or slots k d).start = slots_above t start tail slots k d tiles there in
-    let first_end : (get_or slots i d).start + aligned (get_or slots i d).frame_length ≤ tail = ends i d here in
-    let second_end : (get_or slots k d).start + aligned (get_or slots k d).frame_length ≤ tail = ends k d there in
-    ⊎_elim
-    (λ (before : k < i).
-    let order : (get_or slots k d).start + aligned (get_or slots k d).frame_length ≤ (get_or slots i d).start = slots_order t start tail slots k i d tiles before here in
-    apart_back m (get_or slots k d).start (aligned (get_or slots k d).frame_length) (get_or slots i d).start (aligned (get_or slots i d).frame_length)
-    (apart m (get_or slots k d).start (aligned (get_or slots k d).frame_length) (get_or slots i d).start (aligned (get_or slots i d).frame_length) some order (omega arith)))
-    (λ (behind : i < k).
-    let order : (get_or slots i d).start + aligned (get_or slots i d).frame_length ≤ (get_or slots k d).start = slots_order t start tail slots i k d tiles behind there in
-    apart m (get_or slots i d).start (aligned (get_or slots i d).frame_length) (get_or slots k d).start (aligned (get_or slots k d).frame_length) some order (omega arith))
-    (differ k i ne)
+pub slots_apart : (g : Geometry) (t m start tail : ℕ) (slots : List Slot) (i k : ℕ) (d : Slot) → 0 < m → tail ≤ start + m → Tiles t start tail (map (outline g) slots) → ((n : ℕ) (e : Slot) → n < length slots → slot_end g (get_or slots n e) ≤ tail) → i < length slots → k < length slots → (k ≡ i → ⊥) → Apart m (get_or slots i d).start (span (slot_cuts g (get_or slots i d))) (get_or slots k d).start (span (slot_cuts g (get_or slots k d)))
+slots_apart g t m start tail slots i k d some window tiles ends here there ne =
+    two (get_or slots i d) (get_or slots k d)
+    (slots_above g t start tail slots i d tiles here)
+    (slots_above g t start tail slots k d tiles there)
+    (ends i d here) (ends k d there)
+    (λ (before : k < i). slots_order g t start tail slots k i d tiles before here)
+    (λ (behind : i < k). slots_order g t start tail slots i k d tiles behind there)
+  where
+    two : (x y : Slot) → start ≤ x.start → start ≤ y.start → slot_end g x ≤ tail → slot_end g y ≤ tail → (k < i → slot_end g y ≤ x.start) → (i < k → slot_end g x ≤ y.start) → Apart m x.start (span (slot_cuts g x)) y.start (span (slot_cuts g y))
+    two x y x_low y_low x_high y_high before behind =
+        ⊎_elim
+        (λ (h : k < i).
+        let order : slot_end g y ≤ x.start = before h in
+        apart_back m y.start (span (slot_cuts g y)) x.start (span (slot_cuts g x)) (apart m y.start (span (slot_cuts g y)) x.start (span (slot_cuts g x)) some order (omega arith)))
+        (λ (h : i < k).
+        let order : slot_end g x ≤ y.start = behind h in
+        apart m x.start (span (slot_cuts g x)) y.start (span (slot_cuts g y)) some order (omega arith))
+        (differ k i ne)

@@ -1,12 +1,13 @@
 -- Steps of the tests: the buffers that they show.
-use Rattle.std.proofs.Common.{◌≡◌, ℕ, pos, Bool, ◌+◌, ◌-◌, ◌<◌, ◌≤◌, List, [], ◌∷◌, ◌++◌, length, sym, ap, ◌∙◌, subst, arith}
+use Rattle.std.proofs.Common.{◌≡◌, ℕ, pos, Bool, ◌+◌, ◌-◌, ◌<◌, ◌≤◌, Option, Some, List, [], ◌∷◌, ◌++◌, length, sym, ap, ◌∙◌, subst, arith}
 use Rattle.std.specs.List.{AllByRecursion}
+use Rattle.std.specs.Prelude.{unwrap_or}
 use Rattle.block.specs.Bytes.{with_word}
 use Rattle.theory.specs.Position.{Geometry}
 use Rattle.theory.specs.Bytes.{Identity}
 use Rattle.theory.specs.Entry.{Entry, entry_end}
 use Rattle.theory.specs.Tiling.{Tiles}
-use Rattle.term_buffer.specs.Kept.{Kept, draft_of, drafted, with_commit, with_draft}
+use Rattle.term_buffer.specs.Kept.{Kept, after_next, draft_of, drafted, with_commit, with_draft}
 use Rattle.term_buffer.specs.declared.claimed.Claimed.{Claimed}
 
 abbrev pub shape : Geometry
@@ -29,10 +30,15 @@ committed_is l m n c d h e f = h ∙ ap (λ (x : Kept). committed x c) e ∙ ap 
 
 -- the claim that a buffer gives next
 abbrev pub next_claim : Kept → ℕ → Bool → ℕ → Claimed
-next_claim l owner padding frame_length = record { number = l.gone + length l.entries; start = l.tail; frame_length = frame_length; owner = owner; padding = padding }
+next_claim l owner padding size = record { number = l.gone + length l.entries; start = l.tail; size = size; owner = owner; padding = padding; frame = 0 }
 
-pub claimed_is : (l n : Kept) (c : Claimed) (owner : ℕ) (padding : Bool) (frame_length : ℕ) → c ≡ next_claim l owner padding frame_length → l ≡ n → c ≡ next_claim n owner padding frame_length
-claimed_is l n c owner padding frame_length h e = h ∙ ap (λ (x : Kept). next_claim x owner padding frame_length) e
+pub claimed_is : (l n : Kept) (c : Claimed) (owner : ℕ) (padding : Bool) (size : ℕ) → c ≡ next_claim l owner padding size → l ≡ n → c ≡ next_claim n owner padding size
+claimed_is l n c owner padding size h e = h ∙ ap (λ (x : Kept). next_claim x owner padding size) e
+
+-- the claim for the next frame
+pub next_is : (g : Geometry) (c d e f : Claimed) (r : Option Claimed) → r ≡ after_next g c → r ≡ Some e → g ≡ shape → c ≡ d → after_next shape d ≡ Some f → e ≡ f
+next_is g c d e f r next some same was is =
+    ap (λ o. unwrap_or o e) (sym some ∙ next ∙ ap (λ x. after_next x c) same ∙ ap (λ x. after_next shape x) was ∙ is)
 
 pub grows : (t start tail : ℕ) (es : List Entry) → Tiles t start tail es → start ≤ tail
 grows t start tail [] h = omega (arith, h)

@@ -1,58 +1,74 @@
 -- How the parts of a term buffer show its entries, and what holds of them between two calls.
-use Rattle.std.specs.Prelude.{◌≡◌, ℕ, ◌+◌, ◌-◌, ◌*◌, ◌%◌, ◌<◌, ◌≤◌, true, false, List, [], ◌∷◌, ◌++◌, length, map, take, drop, replicate, if◌then◌else◌, All, slice_index, sum}
-use Rattle.theory.specs.Position.{IsGeometry, aligned, max_position}
-use Rattle.theory.specs.Placed.{Data, Frame, Pad}
-use Rattle.theory.specs.Entry.{Entry}
+use Rattle.std.specs.Prelude.{◌≡◌, ℕ, zero, suc, ◌+◌, ◌-◌, ◌*◌, ◌%◌, ◌<◌, ◌≤◌, ⊤, Bool, true, false, List, [], ◌∷◌, ◌++◌, length, map, take, drop, replicate, All, slice_index, sum}
+use Rattle.theory.specs.Position.{Geometry, IsGeometry, aligned, max_message, max_position, span}
+use Rattle.theory.specs.Placed.{Frame}
+use Rattle.theory.specs.Entry.{Entry, flags_of}
 use Rattle.theory.specs.Tiling.{Tiles, InOneTerm}
 use Rattle.theory.specs.Bytes.{Identity, IsIdentity, bytes_of}
-use Rattle.term_buffer.specs.Kept.{claim_of}
+use Rattle.term_buffer.specs.Kept.{cuts_for, frame_of}
 use Rattle.term_buffer.specs.declared.claimed.Slot.{Slot}
 
+-- the frame lengths of a slot
+abbrev pub slot_cuts : Geometry → Slot → List ℕ
+slot_cuts g s = cuts_for g s.padding s.size
+
 -- the bytes that a slot covers, in a ring of three terms
-abbrev pub range : ℕ → List ℕ → Slot → List ℕ
-range term bytes s = take (aligned s.frame_length) (drop (s.start % (3 * term)) bytes)
+abbrev pub range : Geometry → List ℕ → Slot → List ℕ
+range g bytes s = take (span (slot_cuts g s)) (drop (s.start % (3 * g.term_length)) bytes)
 
--- the frame of a committed slot
-abbrev pub frame_in : Slot → List ℕ → Frame
-frame_in s covered = if s.padding then Pad s.frame_length else Data 192 (take (s.frame_length - 32) (drop 32 covered))
+-- the bytes that the k-th of these frames covers
+abbrev pub piece_in : ℕ → List ℕ → List ℕ → List ℕ
+piece_in k [] bytes = []
+piece_in zero (cut ∷ cuts) bytes = take (aligned cut) bytes
+piece_in (suc k) (cut ∷ cuts) bytes = piece_in k cuts (drop (aligned cut) bytes)
 
--- the slot, whatever is written
-abbrev pub outline : Slot → Entry
-outline s = claim_of s.start s.owner s.padding s.frame_length
+-- the first k frames
+abbrev pub frames_in : Bool → Bool → ℕ → List ℕ → List ℕ → List Frame
+frames_in padding first zero cuts bytes = []
+frames_in padding first (suc k) [] bytes = []
+frames_in padding first (suc k) (cut ∷ cuts) bytes = frame_of padding (flags_of first cuts) cut (drop 8 (take (aligned cut) bytes)) ∷ frames_in padding false k cuts (drop (aligned cut) bytes)
+
+-- what a slot covers, whatever is written
+abbrev pub outline : Geometry → Slot → Entry
+outline g s = record { start = s.start; owner = s.owner; padding = false; cuts = slot_cuts g s; frames = [] }
 
 -- the entry of a slot with these bytes
-abbrev pub entry_of : Slot → List ℕ → Entry
-entry_of s covered = record (outline s) { frames = if s.committed then frame_in s covered ∷ [] else [] }
+abbrev pub entry_of : Geometry → Slot → List ℕ → Entry
+entry_of g s covered = record { start = s.start; owner = s.owner; padding = s.padding; cuts = slot_cuts g s; frames = frames_in s.padding true s.committed (slot_cuts g s) covered }
 
--- what an open slot holds behind its first word
-abbrev pub rest_in : Slot → List ℕ → List ℕ
-rest_in s covered = if s.committed then [] else drop 8 covered
+-- what a slot's next frame holds behind its first word
+abbrev pub rest_in : Geometry → Slot → List ℕ → List ℕ
+rest_in g s covered = drop 8 (piece_in s.committed (slot_cuts g s) covered)
 
-abbrev pub entries_of : ℕ → List ℕ → List Slot → List Entry
-entries_of term bytes slots = map (λ s. entry_of s (range term bytes s)) slots
+abbrev pub entries_of : Geometry → List ℕ → List Slot → List Entry
+entries_of g bytes slots = map (λ s. entry_of g s (range g bytes s)) slots
 
-abbrev pub drafts_of : ℕ → List ℕ → List Slot → List (List ℕ)
-drafts_of term bytes slots = map (λ s. rest_in s (range term bytes s)) slots
+abbrev pub drafts_of : Geometry → List ℕ → List Slot → List (List ℕ)
+drafts_of g bytes slots = map (λ s. rest_in g s (range g bytes s)) slots
 
 -- a frame's bytes, and zeros up to what it covers
 abbrev pub image_of : Identity → ℕ → ℕ → Frame → List ℕ
 image_of i start covered f = bytes_of i (record { at = start; frame = f }) ++ replicate (covered - length (bytes_of i (record { at = start; frame = f }))) 0
 
--- a committed slot holds its frame's image, and the first word of an open one is zero
-pub record IsWritten (i : Identity) (s : Slot) (covered : List ℕ) : Type 0 where
-  pub image : s.committed ≡ true → covered ≡ image_of i s.start (aligned s.frame_length) (frame_in s covered)
-  pub unset : s.committed ≡ false → take 8 covered ≡ replicate 8 0
+-- the first k frames, from this position on, are written; the first word of the next one is zero, and so is all behind it
+abbrev pub AreWritten : Identity → Bool → Bool → ℕ → ℕ → List ℕ → List ℕ → Type 0
+AreWritten i padding first at k [] bytes = ⊤
+AreWritten i padding first at zero (cut ∷ cuts) bytes = (take 8 (take (aligned cut) bytes) ≡ replicate 8 0) × (drop (aligned cut) bytes ≡ replicate (span cuts) 0)
+AreWritten i padding first at (suc k) (cut ∷ cuts) bytes = (take (aligned cut) bytes ≡ image_of i at (aligned cut) (frame_of padding (flags_of first cuts) cut (drop 8 (take (aligned cut) bytes)))) × AreWritten i padding false (at + aligned cut) k cuts (drop (aligned cut) bytes)
+
+abbrev pub IsWritten : Identity → Slot → List ℕ → Type 0
+IsWritten i s covered = AreWritten i s.padding true s.start s.committed (slot_cuts i.geometry s) covered
 
 -- a slot lies between the first kept entry and the tail, in one term, and starts at a unit
 pub record IsInside (i : Identity) (first end : ℕ) (s : Slot) : Type 0 where
   pub low : first ≤ s.start
   pub unit : s.start % 32 ≡ 0
-  pub high : s.start + aligned s.frame_length ≤ end
-  pub in_term : InOneTerm i.geometry.term_length s.start (s.start + aligned s.frame_length)
-  pub long : 32 ≤ s.frame_length
-  pub short : s.padding ≡ false → s.frame_length ≤ i.geometry.mtu
-  pub whole : s.padding ≡ true → s.frame_length % 32 ≡ 0
+  pub high : s.start + span (slot_cuts i.geometry s) ≤ end
+  pub in_term : InOneTerm i.geometry.term_length s.start (s.start + span (slot_cuts i.geometry s))
+  pub long : s.padding ≡ true → 32 ≤ s.size
+  pub short : s.padding ≡ false → s.size ≤ max_message i.geometry
   pub owner : s.owner < 8
+  pub count : s.committed ≤ length (slot_cuts i.geometry s)
 
 -- the bytes from the tail on are zero, as far as is cleaned
 abbrev pub IsZeroAhead : ℕ → List ℕ → ℕ → ℕ → Type 0
@@ -70,6 +86,9 @@ pub record Parts : Type 0 where
   pub shares : List ℕ
   pub slots : List Slot
   pub capacity : ℕ
+
+abbrev pub geometry_in : Parts → Geometry
+geometry_in p = p.identity.geometry
 
 abbrev pub term_in : Parts → ℕ
 term_in p = p.identity.geometry.term_length
@@ -94,6 +113,6 @@ pub record IsBuffer (p : Parts) : Type 0 where
   pub few_kept : 32 * length p.slots ≤ p.tail - p.first
   pub room : 3 * term_in p ≤ 32 * p.capacity
   pub inside : All (IsInside p.identity p.first p.tail) p.slots
-  pub tiles : Tiles (term_in p) p.first p.tail (map outline p.slots)
-  pub written : All (λ s. IsWritten p.identity s (range (term_in p) p.bytes s)) p.slots
+  pub tiles : Tiles (term_in p) p.first p.tail (map (outline (geometry_in p)) p.slots)
+  pub written : All (λ s. IsWritten p.identity s (range (geometry_in p) p.bytes s)) p.slots
   pub ahead : IsZeroAhead (term_in p) p.bytes p.tail p.cleaned

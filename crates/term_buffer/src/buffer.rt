@@ -1,17 +1,21 @@
-ghost use Rattle.std.specs.Prelude.{◌≡◌, ℕ, ◌+◌, ◌-◌, ◌*◌, ◌/◌, ◌%◌, ◌<◌, ◌≤◌, ◌^◌, true, false, length, IfOk};
-ghost use Rattle.theory.specs.Position.{aligned, max_position};
+ghost use Rattle.std.specs.Prelude.{◌≡◌, ℕ, ◌+◌, ◌-◌, ◌*◌, ◌/◌, ◌%◌, ◌<◌, ◌≤◌, ◌^◌, true, false, length, IfOk, IfSome};
+ghost use Rattle.theory.specs.Position.{aligned, max_message, max_position, span};
 ghost use Rattle.theory.specs.Position as shape;
 
 use crate::claimed::{Claimed, Slot};
+use crate::cuts::{after, covered, frame_flags, frame_length, frame_offset};
 use crate::words::first_word;
 use block::Block;
-use position::{Geometry, align32};
+use position::Geometry;
 use std::alloc::{AllocError, Global};
 use std::collections::VecDeque;
 use std::marker::Model;
 
 /// How many publishers a log has.
 pub const PUBLISHERS: usize = 8;
+
+/// The flags of a frame that is a whole message, and of a padding.
+const UNFRAGMENTED: u8 = 0xc0;
 
 /// The entries that a log keeps, in order, and the bytes of its three terms.
 #[derive(Drop)]
@@ -40,7 +44,7 @@ impl Model for TermBuffer {
 
     ghost use Rattle.term_buffer.specs.Slots.{entries_of, drafts_of, IsBuffer};
 
-    ghost view = { λ b. record { identity = record { geometry = b.geometry; session = b.session; stream = b.stream }; start = b.start; tail = b.tail; shares = b.shares; cleaned = b.cleaned; gone = b.gone; first = b.first; entries = entries_of b.geometry.term_length b.bytes b.slots.items; drafts = drafts_of b.geometry.term_length b.bytes b.slots.items } };
+    ghost view = { λ b. record { identity = record { geometry = b.geometry; session = b.session; stream = b.stream }; start = b.start; tail = b.tail; shares = b.shares; cleaned = b.cleaned; gone = b.gone; first = b.first; entries = entries_of b.geometry b.bytes b.slots.items; drafts = drafts_of b.geometry b.bytes b.slots.items } };
 
     ghost invariant = { λ b. IsBuffer (record { identity = record { geometry = b.geometry; session = b.session; stream = b.stream }; bytes = b.bytes; start = b.start; tail = b.tail; cleaned = b.cleaned; first = b.first; gone = b.gone; shares = b.shares; slots = b.slots.items; capacity = deque_capacity b.slots }) };
 }
@@ -49,7 +53,8 @@ impl TermBuffer {
     ghost use Rattle.std.specs.Int.{to_le_bytes};
     ghost use Rattle.block.specs.Bytes.{with_word};
     ghost use Rattle.term_buffer.specs.Forgets.{ForgetsFirst};
-    ghost use Rattle.term_buffer.specs.Kept.{Cleans, IsDrafted, IsKeptLog, IsOpen, MayClean, draft_of, drafted, fresh, term_of, with_claim, with_commit, with_draft};
+    ghost use Rattle.term_buffer.specs.Places.{NextPlace};
+    ghost use Rattle.term_buffer.specs.Kept.{Cleans, IsAborted, IsDrafted, IsKeptLog, IsOpen, MayAbort, MayClean, after_next, cuts_for, draft_of, drafted, fresh, next_length, term_of, with_abort, with_claim, with_commit, with_draft};
 
     /// A buffer without an entry, from a position on: a multiple of 32, below the greatest position. It takes all the
     /// memory that is ever needed, and the error comes only where that was refused.
@@ -139,64 +144,90 @@ impl TermBuffer {
         self.bytes.word(index)
     }
 
-    /// Adds an entry of an owner, 0 to 7, at the tail, for a frame of `frame_length` bytes: a message's, of 32 bytes to
-    /// the MTU, or a padding, a multiple of 32. It lies in one term, and ends at most three terms behind the cleaned
-    /// position. Its bytes are zero.
-    pub fn claim(&mut self, owner: usize, padding: bool, frame_length: u32) -> Claimed
+    /// Adds an entry of an owner, 0 to 7, at the tail: for a message of `size` bytes, up to the greatest, or a padding
+    /// whose frame has that length, a multiple of 32 up to the term's. It lies in one term, and ends at most three terms
+    /// behind the cleaned position. Its bytes are zero.
+    pub fn claim(&mut self, owner: usize, padding: bool, size: u32) -> Claimed
         requires owner { owner < 8 }
-        requires long { 32 ≤ frame_length }
-        requires short { padding ≡ false → frame_length ≤ self.old.identity.geometry.mtu }
-        requires whole { padding ≡ true → frame_length % 32 ≡ 0 }
-        requires in_term { self.old.tail % term_of self.old + aligned frame_length ≤ term_of self.old }
-        requires room { self.old.tail + aligned frame_length ≤ self.old.cleaned + 3 * term_of self.old }
+        requires short { padding ≡ false → size ≤ max_message self.old.identity.geometry }
+        requires long { padding ≡ true → 32 ≤ size }
+        requires whole { padding ≡ true → size % 32 ≡ 0 }
+        requires in_term { self.old.tail % term_of self.old + span (cuts_for self.old.identity.geometry padding size) ≤ term_of self.old }
+        requires room { self.old.tail + span (cuts_for self.old.identity.geometry padding size) ≤ self.old.cleaned + 3 * term_of self.old }
         requires below { self.old.tail < max_position self.old.identity.geometry }
-        ensures taken { self.new ≡ with_claim self.old owner padding frame_length }
-        ensures claimed { result ≡ record { number = self.old.gone + length self.old.entries; start = self.old.tail; frame_length = frame_length; owner = owner; padding = padding } }
+        ensures taken { self.new ≡ with_claim self.old owner padding size }
+        ensures claimed { result ≡ record { number = self.old.gone + length self.old.entries; start = self.old.tail; size = size; owner = owner; padding = padding; frame = 0 } }
         ensures unset { IsOpen self.new result }
     {
         let claimed = Claimed {
             number: self.gone + self.slots.len() as u64,
             start: self.tail,
-            frame_length,
+            size,
             owner,
             padding,
+            frame: 0,
         };
         let slot = Slot {
             start: claimed.start,
-            frame_length,
+            size,
             owner: claimed.owner,
             padding,
-            committed: false,
+            committed: 0,
         };
-        let covered = u64::from(align32(frame_length));
+        let covered = u64::from(covered(self.geometry, padding, size));
         self.slots.push_back_reserved(slot);
         self.tail += covered;
         self.shares[owner] += covered;
         claimed
     }
 
-    /// Stores a word of a claim's frame: any but the first one. `index` counts words of eight bytes from the frame's start.
+    /// Stores a word of a claim's next frame: any but the first one. `index` counts words of eight bytes from the frame's
+    /// start.
     pub fn store(&mut self, claimed: Claimed, index: usize, word: u64)
         requires unset { IsOpen self.old claimed }
         requires behind { 0 < index }
-        requires inside { 8 * index < aligned claimed.frame_length }
+        requires inside { 8 * index < aligned (next_length self.old.identity.geometry claimed) }
         ensures stored { self.new ≡ with_draft self.old claimed (with_word (draft_of self.old claimed) (index - 1) word) }
     {
-        let place = self.word_of(claimed.start);
+        let place = self.next_place(claimed);
         self.bytes.set_word(place + index, word);
     }
 
-    /// Stores the first word of a claim's frame, which commits it. The other words have been stored.
-    pub fn commit(&mut self, claimed: Claimed)
+    /// Stores the first word of a claim's next frame, which commits it. The other words have been stored. The answer is
+    /// the claim for the frame behind it, where there is one.
+    pub fn commit(&mut self, claimed: Claimed) -> Option<Claimed>
         requires unset { IsOpen self.old claimed }
         requires written { IsDrafted self.old claimed }
         ensures committed { self.new ≡ with_commit self.old claimed (drafted self.old claimed) }
+        ensures next { result ≡ after_next self.old.identity.geometry claimed }
+        ensures still { IfSome result (IsOpen self.new) }
     {
-        let place = self.word_of(claimed.start);
-        let first = first_word(claimed.padding, claimed.frame_length);
+        let place = self.next_place(claimed);
+        let length = frame_length(self.geometry, claimed.padding, claimed.size, claimed.frame);
+        let flags = frame_flags(self.geometry, claimed.padding, claimed.size, claimed.frame);
+        let first = first_word(claimed.padding, flags, length);
         self.bytes.set_word(place, first);
         let index = (claimed.number - self.gone) as usize;
-        self.slots[index].committed = true;
+        self.slots[index].committed = claimed.frame + 1;
+        after(self.geometry, claimed)
+    }
+
+    /// Stores a padding's first word in a message's claim of one frame, which makes it a padding of the same range. The
+    /// padding's other words have been stored.
+    pub fn abort(&mut self, claimed: Claimed)
+        requires may { MayAbort self.old claimed }
+        requires written { IsAborted self.old claimed }
+        ensures aborted { self.new ≡ with_abort self.old claimed }
+    {
+        let place = self.next_place(claimed);
+        let size = claimed.size + 32;
+        self.bytes
+            .set_word(place, first_word(true, UNFRAGMENTED, size));
+        let index = (claimed.number - self.gone) as usize;
+        let slot = &mut self.slots[index];
+        slot.size = size;
+        slot.padding = true;
+        slot.committed = 1;
     }
 
     /// Stores zero in the next word to be cleaned, and forgets the entry that begins there, which is committed.
@@ -215,7 +246,8 @@ impl TermBuffer {
         requires { self.old.first < self.old.tail }
         ensures { ForgetsFirst self.old self.new }
     {
-        let covered = u64::from(align32(self.slots[0].frame_length));
+        let slot = self.slots[0];
+        let covered = u64::from(covered(self.geometry, slot.padding, slot.size));
         self.slots.pop_front();
         self.first += covered;
         self.gone += 1;
@@ -230,6 +262,15 @@ impl TermBuffer {
         let place = self.word_of(self.cleaned);
         self.bytes.set_word(place, 0);
         self.cleaned += 8;
+    }
+
+    /// The first word of a claim's next frame.
+    fn next_place(&self, claimed: Claimed) -> usize
+        requires { IsOpen self.now claimed }
+        ensures { NextPlace self.now claimed result }
+    {
+        let offset = frame_offset(self.geometry, claimed.padding, claimed.size, claimed.frame);
+        self.word_of(claimed.start) + offset as usize / 8
     }
 
     /// The word at a position, a multiple of 8.

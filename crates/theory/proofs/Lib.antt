@@ -35,3 +35,4 @@ pub mod Groups
 pub mod Fresh
 pub mod RefusalRows
 pub mod Asked
+pub mod Cuts

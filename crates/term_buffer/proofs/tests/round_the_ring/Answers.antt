@@ -6,13 +6,13 @@ use Rattle.term_buffer.proofs.TestSteps.{claimed_is, committed, committed_is, fi
 use Rattle.term_buffer.proofs.tests.round_the_ring.Goals as goal
 
 abbrev message : Claimed
-message = record { number = 0; start = 0; frame_length = 32; owner = 0; padding = false }
+message = record { number = 0; start = 0; size = 0; owner = 0; padding = false; frame = 0 }
 
 abbrev with_message : Kept
-with_message = stored (stored (with_claim (fresh identity 0) 0 false 32) message 1 4294967296) message 2 30064772073
+with_message = stored (stored (with_claim (fresh identity 0) 0 false 0) message 1 4294967296) message 2 30064772073
 
 abbrev padded : Kept → ℕ → Kept
-padded l frame_length = with_claim l 1 true frame_length
+padded l size = with_claim l 1 true size
 
 abbrev full : Kept
 full = padded (padded (padded (committed with_message message) 65504) 65536) 65536
@@ -20,11 +20,11 @@ full = padded (padded (padded (committed with_message message) 65504) 65536) 655
 message_drafted : (l : Kept) (c : Claimed) → l ≡ with_message → c ≡ message → IsDrafted l c
 message_drafted l c e f = subst (λ (x : Kept). IsDrafted x c) (sym e) (subst (λ (x : Claimed). IsDrafted with_message x) (sym f) refl)
 
-message_stored : (g : Geometry) (c : Claimed) (l0 l1 l2 l3 : Kept) → g ≡ shape → l0 ≡ fresh (record { geometry = g; session = pos 1; stream = pos 1001 }) 0 → l1 ≡ with_claim l0 0 false 32 → c ≡ next_claim l0 0 false 32 → l2 ≡ stored l1 c 1 4294967296 → l3 ≡ stored l2 c 2 30064772073 → (l3 ≡ with_message) × (c ≡ message)
+message_stored : (g : Geometry) (c : Claimed) (l0 l1 l2 l3 : Kept) → g ≡ shape → l0 ≡ fresh (record { geometry = g; session = pos 1; stream = pos 1001 }) 0 → l1 ≡ with_claim l0 0 false 0 → c ≡ next_claim l0 0 false 0 → l2 ≡ stored l1 c 1 4294967296 → l3 ≡ stored l2 c 2 30064772073 → (l3 ≡ with_message) × (c ≡ message)
 message_stored g c l0 l1 l2 l3 made e0 e1 is e2 e3 =
     let opened : l0 ≡ fresh identity 0 = e0 ∙ ap (λ (x : Geometry). fresh (record { geometry = x; session = pos 1; stream = pos 1001 }) 0) made in
-    let claim : c ≡ message = claimed_is l0 (fresh identity 0) c 0 false 32 is opened in
-    let first = e1 ∙ ap (λ (x : Kept). with_claim x 0 false 32) opened in
+    let claim : c ≡ message = claimed_is l0 (fresh identity 0) c 0 false 0 is opened in
+    let first = e1 ∙ ap (λ (x : Kept). with_claim x 0 false 0) opened in
     let second = stored_is l1 l2 _ c message 1 4294967296 e2 first claim in
     (stored_is l2 l3 _ c message 2 30064772073 e3 second claim, claim)
 
