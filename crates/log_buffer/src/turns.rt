@@ -1,6 +1,6 @@
 //! The word calls of a publisher: loads, additions and exchanges of the limit, the count and the raw tails.
 
-ghost use Rattle.std.specs.Prelude.{◌≡◌, IfSome, ℕ, ◌+◌, ◌-◌, ◌*◌, ◌/◌, ◌%◌, ◌<◌, ◌≤◌, ◌↔◌, ◌^◌, Some, length, slice_get, slice_index};
+ghost use Rattle.std.specs.Prelude.{◌≡◌, false, IfSome, ℕ, ◌+◌, ◌-◌, ◌*◌, ◌/◌, ◌%◌, ◌<◌, ◌≤◌, ◌↔◌, ◌^◌, Some, length, slice_get, slice_index};
 ghost use Rattle.theory.specs.Position.{framed_length, greatest_claim, id_of, max_message};
 ghost use Rattle.theory.specs.Refusal.{is_closed, is_connected, limit_in};
 ghost use Rattle.theory.specs.Words.{id_before, id_in, offset_in, tail_word};
