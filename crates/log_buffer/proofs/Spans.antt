@@ -50,6 +50,10 @@ pub all_pushed : {X : Type 0} (P : X → Type 0) (xs : List X) (x : X) → AllBy
 all_pushed P [] x all here = (here, tt)
 all_pushed P (z ∷ xs) x all here = (all.0, all_pushed P xs x all.1 here)
 
+pub all_front : {X : Type 0} (P : X → Type 0) (xs ys : List X) → AllByRecursion P (xs ++ ys) → AllByRecursion P xs
+all_front P [] ys all = tt
+all_front P (x ∷ xs) ys all = (all.0, all_front P xs ys all.1)
+
 pub all_behind : {X : Type 0} (P : X → Type 0) (xs ys : List X) → AllByRecursion P (xs ++ ys) → AllByRecursion P ys
 all_behind P [] ys all = all
 all_behind P (x ∷ xs) ys all = all_behind P xs ys all.1

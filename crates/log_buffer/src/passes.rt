@@ -1,6 +1,7 @@
 ghost use Rattle.std.specs.Prelude.{◌≡◌, ◌<◌, ◌≤◌, ◌+◌, ◌%◌, ◌^◌, ◌++◌, [], ℕ, IfOk, vec_len, vec_capacity, All, length};
 ghost use Rattle.std.specs.Borrow.{sem};
 ghost use Rattle.log_buffer.specs.Passes.{AreAll, HaveBlocks};
+ghost use Rattle.log_buffer.specs.Reader.{AreReaders};
 
 use crate::step::Step;
 use block::Block;
@@ -204,8 +205,6 @@ impl Keeper {
 }
 
 impl Parts {
-    ghost use Rattle.log_buffer.specs.Reader.{AreReaders};
-
     /// Eight publishers with blocks of so many bytes, the readers at the start, and a keeper.
     pub(crate) fn new(
         alloc: Global,
@@ -231,15 +230,28 @@ impl Parts {
                 return Err(error);
             }
         };
-        for number in 0..consumers {
-            readers.push(LogReader::new(number, start)).unwrap();
-        }
         Ok(Parts {
             publishers,
-            readers,
+            readers: line_up(readers, start, consumers),
             keeper: Keeper::new(),
         })
     }
+}
+
+/// So many readers at the start.
+fn line_up(mut readers: Vec<LogReader>, start: u64, consumers: usize) -> Vec<LogReader>
+    requires start { start ≤ 2 ^ 55 }
+    requires few { consumers ≤ 8 }
+    requires none { readers.items ≡ [] }
+    requires room { consumers ≤ vec_capacity readers }
+    ensures all { AreReaders result.items start consumers }
+    ensures count { vec_len result ≡ consumers }
+    ensures at_start { All (λ reader. (reader.position ≡ start) × (reader.read_to ≡ start)) result.items }
+{
+    for number in 0..consumers {
+        readers.push(LogReader::new(number, start)).unwrap();
+    }
+    readers
 }
 
 /// Eight blocks of so many bytes.
@@ -249,7 +261,7 @@ fn blocks(alloc: Global, mtu: usize) -> Result<Vec<Block>, AllocError>
     ensures long { IfOk result (λ blocks. All (λ block. length block ≡ mtu) blocks.items) }
 {
     let mut blocks = Vec::with_capacity(alloc, PUBLISHERS)?;
-    for _ in 0..PUBLISHERS {
+    for number in 0..PUBLISHERS {
         blocks.push(Block::new(alloc, mtu)?)?;
     }
     Ok(blocks)
