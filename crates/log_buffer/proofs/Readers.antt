@@ -1,10 +1,8 @@
 -- Which readers stand where they did.
-use Rattle.std.proofs.Common.{◌≡◌, ℕ, ◌+◌, ◌%◌, ◌<◌, ◌≤◌, List, [], ◌∷◌, ◌++◌, length, take, refl, sym, ap, ◌∙◌, subst, arith}
+use Rattle.std.proofs.Common.{◌≡◌, ℕ, ◌%◌, ◌≤◌, List, [], ◌∷◌, take, refl, sym, ap, ◌∙◌, subst, arith}
 use Rattle.std.specs.Prelude.{slice_index, slice_set}
-use Rattle.std.specs.List.{AllByRecursion}
-use Rattle.theory.specs.Placed.{Among, Chain, IsReached, Placed, end_of}
-use Rattle.theory.specs.Entry.{Entry, IsEntry, committed}
-use Rattle.theory.specs.Tiling.{Tiles}
+use Rattle.theory.specs.Placed.{Among, IsReached, Placed, end_of}
+use Rattle.theory.specs.Entry.{committed}
 use Rattle.theory.proofs.Lists.{all_at}
 use Rattle.theory.proofs.Follow.{passed_along}
 use Rattle.theory.proofs.Frames.{committed_below}

@@ -1,7 +1,7 @@
 -- What a contract sees of a log, and how its calls change it.
-use Rattle.std.specs.Prelude.{◌≡◌, ℕ, ◌+◌, ◌-◌, ◌*◌, ◌/◌, ◌%◌, ◌^◌, ◌<◌, ◌≤◌, Bool, true, false, List, [], ◌∷◌, ◌++◌, length, drop, replicate, min, max, nat_eq, nat_le, nat_lt, ◌&&◌, if◌then◌else◌, Option, None, Some, slice_get, slice_index, slice_index_or, slice_set, sum}
+use Rattle.std.specs.Prelude.{◌≡◌, ℕ, ◌+◌, ◌-◌, ◌*◌, ◌/◌, ◌%◌, ◌^◌, ◌<◌, ◌≤◌, Bool, true, false, List, [], ◌∷◌, ◌++◌, length, drop, replicate, min, max, nat_eq, nat_le, nat_lt, ◌&&◌, if◌then◌else◌, Option, None, Some, slice_index, slice_set, sum}
 use Rattle.std.specs.List.{AllByRecursion}
-use Rattle.theory.specs.Position.{IsGeometry, aligned, framed_length, greatest_claim, max_payload, max_position}
+use Rattle.theory.specs.Position.{IsGeometry, aligned, framed_length, greatest_claim, max_position}
 use Rattle.theory.specs.Placed.{Frame, IsReached}
 use Rattle.theory.specs.Entry.{Entry, IsEntry, committed, length_of}
 use Rattle.theory.specs.Messages.{is_whole}

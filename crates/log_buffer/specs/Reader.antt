@@ -1,10 +1,10 @@
 -- What a contract sees of a reader, and where it stands.
-use Rattle.std.specs.Prelude.{◌≡◌, ℕ, ◌+◌, ◌*◌, ◌/◌, ◌<◌, ◌≤◌, ◌⊎◌, List, ◌++◌, length, drop, Some, slice_get, slice_index}
+use Rattle.std.specs.Prelude.{◌≡◌, ℕ, ◌+◌, ◌<◌, ◌≤◌, List, ◌++◌, length, drop, Some, slice_get, slice_index}
 use Rattle.theory.specs.Placed.{Among, Frame, Placed, end_of, payload_of}
 use Rattle.theory.specs.Entry.{committed}
 use Rattle.position.specs.declared.head.FrameHead.{FrameHead}
 use Rattle.term_buffer.specs.Heads.{head_of}
-use Rattle.log_buffer.specs.Log.{Log, term_of}
+use Rattle.log_buffer.specs.Log.{Log}
 
 pub record Reader : Type 0 where
   pub number : ℕ

@@ -1,5 +1,5 @@
 -- What holds of a log's parts between two calls.
-use Rattle.std.specs.Prelude.{◌≡◌, ℕ, ◌+◌, ◌-◌, ◌*◌, ◌/◌, ◌%◌, ◌^◌, ◌<◌, ◌≤◌, ⊤, Bool, List, [], ◌∷◌, length, drop, Option, None, Some, nat_eq, if◌then◌else◌, slice_get, slice_index}
+use Rattle.std.specs.Prelude.{◌≡◌, ℕ, ◌+◌, ◌*◌, ◌/◌, ◌%◌, ◌^◌, ◌<◌, ◌≤◌, ⊤, Bool, List, [], ◌∷◌, length, drop, Option, None, Some, nat_eq, if◌then◌else◌, slice_get, slice_index}
 use Rattle.std.specs.List.{AllByRecursion}
 use Rattle.theory.specs.Position.{greatest_claim}
 use Rattle.theory.specs.Entry.{Entry}

@@ -1,5 +1,5 @@
 -- A reader that moves past what it read.
-use Rattle.std.proofs.Common.{◌≡◌, ◌+◌, ◌<◌, ◌≤◌, sym, subst, arith}
+use Rattle.std.proofs.Common.{◌≡◌, ◌+◌, ◌≤◌, sym, subst, arith}
 use Rattle.log_buffer.specs.Log.{Log}
 use Rattle.log_buffer.specs.Reader.{HasRead, IsAt, Moves, Reader, before_move}
 

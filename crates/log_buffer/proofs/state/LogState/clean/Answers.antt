@@ -1,7 +1,6 @@
-use Rattle.std.proofs.Common.{◌+◌, ◌≤◌, ap, subst, sym, take}
-use Rattle.log_buffer.specs.Log.{Cleans, IsHeld, IsLeast, clean_end}
+use Rattle.std.proofs.Common.{◌+◌, ◌≤◌, subst, sym, take}
+use Rattle.log_buffer.specs.Log.{IsHeld, IsLeast, clean_end}
 use Rattle.log_buffer.specs.Reader.{IsAt}
-use Rattle.log_buffer.specs.States.{log_of}
 use Rattle.log_buffer.specs.contracts.state.LogState.{the_view}
 use Rattle.log_buffer.proofs.Held.{held_clean}
 use Rattle.log_buffer.proofs.Keeps.{at_clean, kept_clean}

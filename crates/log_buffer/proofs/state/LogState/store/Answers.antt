@@ -1,8 +1,7 @@
-use Rattle.std.proofs.Common.{◌≡◌, ◌+◌, ◌-◌, ◌*◌, ◌<◌, ◌≤◌, length, subst, sym, ◌∙◌, arith}
+use Rattle.std.proofs.Common.{◌≡◌, ◌+◌, ◌-◌, ◌*◌, ◌<◌, ◌≤◌, length, subst, sym, arith}
 use Rattle.theory.specs.Position.{aligned}
-use Rattle.term_buffer.specs.Kept.{blank_for, cuts_in, entry_with, next_length}
+use Rattle.term_buffer.specs.Kept.{next_length}
 use Rattle.log_buffer.specs.Log.{IsOpen, draft_of}
-use Rattle.log_buffer.specs.States.{IsUnset}
 use Rattle.log_buffer.specs.contracts.state.LogState.{the_view}
 use Rattle.log_buffer.proofs.Frames.{open_size, word_size}
 use Rattle.log_buffer.proofs.Keeps.{kept_draft}
