@@ -1,9 +1,9 @@
 -- How many publishers may add to a tail, and what they may still take.
-use Rattle.std.proofs.Common.{◌≡◌, ℕ, zero, suc, ◌+◌, ◌*◌, ◌/◌, ◌%◌, ◌<◌, ◌≤◌, Bool, true, false, List, [], ◌∷◌, length, Option, None, Some, refl, ap, ◌∙◌, subst, arith}
-use Rattle.std.specs.Prelude.{if◌then◌else◌, nat_eq, nat_le, slice_get, slice_set}
+use Rattle.std.proofs.Common.{◌≡◌, ℕ, zero, suc, ◌+◌, ◌*◌, ◌/◌, ◌<◌, ◌≤◌, Bool, true, false, List, [], ◌∷◌, length, Option, None, Some, refl, ap, ◌∙◌, arith}
+use Rattle.std.specs.Prelude.{if◌then◌else◌, nat_eq, slice_get, slice_set}
 use Rattle.std.proofs.Math.Nat.{mul-le-mul_left}
-use Rattle.std.proofs.lemmas.Bool.{cond-true, eq-eqb, le-leb, ne_eqb}
-use Rattle.theory.specs.Position.{Geometry, IsGeometry, aligned, framed_length, greatest_claim, max_message, max_payload, rest_length}
+use Rattle.std.proofs.lemmas.Bool.{eq-eqb, ne_eqb}
+use Rattle.theory.specs.Position.{Geometry, IsGeometry, greatest_claim}
 use Rattle.theory.proofs.Claims.{claim_bounded}
 use Rattle.log_buffer.specs.Log.{armed_count}
 use Rattle.log_buffer.specs.States.{armed_on}
@@ -80,22 +80,6 @@ pub room_left : (claim tail limit less count taken : ℕ) → less + 1 ≡ count
 room_left claim tail limit less count taken one short room =
     let parts : claim * (less + 1) ≡ claim * count = ap (λ x. claim * x) one in
     omega arith
-
--- ---- a frame is within the greatest claim
-
-whole_frame : (g : Geometry) → IsGeometry g → g.mtu ≤ greatest_claim g
-whole_frame g is =
-    let most : max_payload g ≤ max_message g = omega (arith, is.mtu.within, is.mtu.greatest) in
-    let within : framed_length g (max_payload g) ≤ greatest_claim g = (claim_bounded g (max_payload g) is most).0 in
-    let one : framed_length g (max_payload g) ≡ aligned (max_payload g + 32) = cond-true (nat_le (max_payload g) (max_payload g)) (aligned (max_payload g + 32)) (max_payload g / max_payload g * g.mtu + rest_length (max_payload g % max_payload g)) (le-leb (max_payload g) (max_payload g) (omega arith)) in
-    let long : aligned (max_payload g + 32) ≡ g.mtu = omega (arith, is.mtu.unit, is.mtu.least) in
-    subst (λ x. x ≤ greatest_claim g) (one ∙ long) within
-
-below_claim : (mtu claim n : ℕ) → mtu % 32 ≡ 0 → n ≤ mtu → mtu ≤ claim → aligned n ≤ claim
-below_claim mtu claim n unit short most = omega arith
-
-pub frame_claim : (g : Geometry) (n : ℕ) → IsGeometry g → n ≤ g.mtu → aligned n ≤ greatest_claim g
-frame_claim g n is short = below_claim g.mtu (greatest_claim g) n is.mtu.unit short (whole_frame g is)
 
 claim_small : (claim term : ℕ) → claim ≤ term / 7 + 63 → term ≤ 16777216 → 8 * claim + term < 4294967296
 claim_small claim term most small = omega arith

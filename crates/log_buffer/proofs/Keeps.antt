@@ -1,30 +1,30 @@
 -- What each call keeps of a log's state.
-use Rattle.std.proofs.Common.{◌≡◌, ℕ, suc, ◌+◌, ◌-◌, ◌*◌, ◌/◌, ◌%◌, ◌^◌, ◌<◌, ◌≤◌, ⊎_elim, Bool, true, false, List, [], ◌∷◌, ◌++◌, length, replicate, None, Some, refl, sym, ap, ◌∙◌, subst, min, length-append, arith}
+use Rattle.std.proofs.Common.{◌≡◌, ℕ, ◌+◌, ◌-◌, ◌*◌, ◌/◌, ◌%◌, ◌^◌, ◌<◌, ◌≤◌, ⊎_elim, Bool, true, false, List, [], ◌∷◌, ◌++◌, length, drop, None, Some, refl, sym, ap, ◌∙◌, subst, max, min, length-append, length-drop, arith}
 use Rattle.std.specs.Prelude.{slice_get, slice_set, slice_index, slice_index_or}
 use Rattle.std.specs.List.{AllByRecursion}
 use Rattle.std.proofs.Math.Nat.{mul-le-mul_right}
 use Rattle.std.proofs.lemmas.Nat.{same_from_place, div-add-mod'}
 use Rattle.std.proofs.lemmas.Bool.{cases_eq, cases_lt}
-use Rattle.std.proofs.lemmas.List.{length-replicate, length-drop}
-use Rattle.theory.specs.Position.{aligned, greatest_claim, max_position, span}
-use Rattle.theory.specs.Placed.{Frame}
-use Rattle.theory.specs.Entry.{Entry, HaveFrames, IsEntry}
-use Rattle.theory.specs.Messages.{is_whole}
+use Rattle.theory.specs.Position.{Geometry, greatest_claim, max_position, span}
+use Rattle.theory.specs.Placed.{Among, IsReached, Placed}
+use Rattle.theory.specs.Entry.{Entry, HaveFrames, IsEntry, committed, entry_end, length_of}
 use Rattle.theory.specs.Tiling.{InOneTerm, Tiles}
+use Rattle.theory.proofs.Claims.{claim_bounded}
+use Rattle.theory.proofs.Follow.{passed_more}
 use Rattle.theory.proofs.Lists.{all_get, all_set, all_weaker}
 use Rattle.theory.proofs.Tiling.{Tiles-push}
-use Rattle.theory.proofs.Frames.{tiles_le}
+use Rattle.theory.proofs.Frames.{Kept-push, tiles_le}
 use Rattle.theory.proofs.LogSteps.{span_unit}
 use Rattle.raw_tails.specs.Tails.{Tails, behind}
 use Rattle.raw_tails.specs.Tails.{added as tails_added, turned as tails_turned}
-use Rattle.term_buffer.specs.Kept.{claim_of}
-use Rattle.term_buffer.specs.declared.claimed.Claimed.{Claimed}
-use Rattle.log_buffer.specs.Log.{Cleans, IsLeast, IsOpen, Log, added, armed_count, clean_end, offset_of, place_of, term_of, turned, with_claim, with_commit, with_draft}
-use Rattle.log_buffer.specs.Reader.{IsAt, Reader}
+use Rattle.term_buffer.specs.Kept.{blank_for, claim_of, cuts_for}
+use Rattle.log_buffer.specs.Log.{Cleans, IsLeast, Log, added, armed_count, clean_end, offset_of, term_of, turned, with_claim}
+use Rattle.log_buffer.specs.Reader.{IsAt, Moves, Reader, before_move}
 use Rattle.log_buffer.specs.States.{AreUnset, IsState, IsUnset, IsUsed, armed_on}
 use Rattle.log_buffer.proofs.Armed.{count_disarmed, count_most, on_disarmed, on_left, on_most, on_other, room_armed, room_fewer, room_left, room_taken, small_claim}
-use Rattle.log_buffer.proofs.Readers.{Moves, moved_behind, moved_whole, moves}
-use Rattle.log_buffer.proofs.Spans.{all_behind, all_index, all_pushed, end_within, got_set, got_unset, index_other, index_set, length-set, passed_front, some_is, sum_set, tiles_set, tiles_split, unset_at, unset_behind, unset_both, unset_draft, unset_pushed}
+use Rattle.log_buffer.proofs.Chains.{among_behind, among_set, frames_of, reached_behind}
+use Rattle.log_buffer.proofs.Readers.{Moved, at_kept, moved}
+use Rattle.log_buffer.proofs.Spans.{all_behind, all_front, all_index, all_pushed, got_set, got_unset, index_other, index_set, length-set, some_is, sum_set, tiles_near, tiles_set, tiles_split, unset_at, unset_behind, unset_both, unset_draft, unset_pushed}
 
 -- ---- loads
 
@@ -58,7 +58,10 @@ kept_armed l t n by p k here low within = record {
     word = k.log.word;
     consumer_units = k.log.consumer_units;
     consumers_behind = k.log.consumers_behind;
+    reached = k.log.reached;
     readable = k.log.readable;
+    short = k.log.short;
+    resent = k.log.resent;
   };
   geometry = k.geometry;
   opened = k.opened;
@@ -72,7 +75,6 @@ kept_armed l t n by p k here low within = record {
       (λ (ne : q ≡ p → ⊥). room_fewer (greatest_claim l.identity.geometry) (slice_index l.offsets q) (term_of l) (armed_on q (slice_set l.armed by (Some p))) (armed_on q l.armed) (on_other q l.armed by p ne) (k.overshoot q small))
       (cases_eq q p);
   used = λ j q got. ⊎_elim (λ (e : j ≡ by). same j q e got) (λ (ne : j ≡ by → ⊥). k.used j q (got_unset l.armed j by (Some q) (Some p) ne got)) (cases_eq j by);
-  passed = k.passed;
   unset = k.unset;
 }
   where
@@ -226,7 +228,10 @@ kept_passed l t n by p covered k got short full = record {
     word = k.log.word;
     consumer_units = k.log.consumer_units;
     consumers_behind = k.log.consumers_behind;
+    reached = k.log.reached;
     readable = k.log.readable;
+    short = k.log.short;
+    resent = k.log.resent;
   };
   geometry = k.geometry;
   opened = k.opened;
@@ -237,7 +242,6 @@ kept_passed l t n by p covered k got short full = record {
   term_unit = k.term_unit;
   overshoot = more_overshoot l t n by p covered k got short;
   used = less_used l t n by k;
-  passed = k.passed;
   unset = k.unset;
 }
   where
@@ -254,31 +258,32 @@ kept_passed l t n by p covered k got short full = record {
         (cases_eq (l.newest % 3) p)
 
 -- what an addition below the term's end takes
-pub record Takes (l : Log) (p covered : ℕ) (padding : Bool) (frame_length : ℕ) : Type 0 where
+pub record Takes (l : Log) (p covered : ℕ) (padding : Bool) (size : ℕ) : Type 0 where
   pub below : slice_index l.offsets p < term_of l
-  pub taken : slice_index l.offsets p + aligned frame_length ≡ min (slice_index l.offsets p + covered) (term_of l)
-  pub long : 32 ≤ frame_length
+  pub taken : slice_index l.offsets p + span (cuts_for l.identity.geometry padding size) ≡ min (slice_index l.offsets p + covered) (term_of l)
+  pub long : 0 < span (cuts_for l.identity.geometry padding size)
+  pub units : AllByRecursion (λ cut. 32 ≤ cut) (cuts_for l.identity.geometry padding size)
 
-unstarted : (padding : Bool) (frame_length : ℕ) → HaveFrames padding (frame_length ∷ []) []
-unstarted true frame_length = tt
-unstarted false frame_length = tt
+unstarted : (g : Geometry) (padding : Bool) (size : ℕ) → HaveFrames padding (cuts_for g padding size) []
+unstarted g true size = tt
+unstarted g false size = tt
 
-pub kept_taken : (l : Log) (t : Tails) (n by p covered : ℕ) (padding : Bool) (frame_length : ℕ) → IsState l t n → slice_get l.armed by ≡ Some (Some p) → by < 8 → covered ≤ greatest_claim l.identity.geometry → Takes l p covered padding frame_length → IsState (with_claim (added l by p covered) by padding frame_length) (tails_added t p covered) n
-kept_taken l t n by p covered padding frame_length k got few short x = record {
+pub kept_taken : (l : Log) (t : Tails) (n by p covered : ℕ) (padding : Bool) (size : ℕ) → IsState l t n → slice_get l.armed by ≡ Some (Some p) → by < 8 → covered ≤ greatest_claim l.identity.geometry → Takes l p covered padding size → IsState (with_claim (added l by p covered) by padding size) (tails_added t p covered) n
+kept_taken l t n by p covered padding size k got few short x = record {
   log = record {
     geometry = k.log.geometry;
     identity = k.log.identity;
     unit = k.log.unit;
     below = k.log.below;
-    tiles = subst (λ e. Tiles (term_of l) l.first e (l.entries ++ claim_of l.tail by padding frame_length ∷ [])) ends (Tiles-push (term_of l) l.first l.tail l.entries (claim_of l.tail by padding frame_length) k.log.tiles refl in_one);
-    entries = all_pushed IsEntry l.entries (claim_of l.tail by padding frame_length) k.log.entries (record { owner = few; cuts = (omega (arith, x.long), tt); long = omega (arith, x.long); frames = unstarted padding frame_length });
-    eight = length-set l.shares by (slice_index l.shares by + aligned frame_length) ∙ k.log.eight;
-    shares = omega (arith, k.log.shares, sum_set l.shares by (aligned frame_length) (omega (arith, k.log.eight)));
-    drafts = omega (arith, k.log.drafts, length-append l.drafts (replicate (aligned frame_length - 8) 0 ∷ []), length-append l.entries (claim_of l.tail by padding frame_length ∷ []));
+    tiles = Tiles-push (term_of l) l.first l.tail l.entries entry k.log.tiles refl in_one;
+    entries = all_pushed IsEntry l.entries entry k.log.entries (record { owner = few; cuts = all_weaker (λ cut. 32 ≤ cut) (λ cut. 0 < cut) (λ cut h. omega arith) entry.cuts x.units; long = x.long; frames = unstarted l.identity.geometry padding size });
+    eight = length-set l.shares by (slice_index l.shares by + span entry.cuts) ∙ k.log.eight;
+    shares = omega (arith, k.log.shares, sum_set l.shares by (span entry.cuts) (omega (arith, k.log.eight)));
+    drafts = omega (arith, k.log.drafts, length-append l.drafts (blank_for entry.cuts ∷ []), length-append l.entries (entry ∷ []));
     begun = k.log.begun;
     first = k.log.first;
     last = omega (arith, k.log.last);
-    few = omega (arith, k.log.few, k.log.begun, k.log.first, k.log.last, x.long, length-append l.entries (claim_of l.tail by padding frame_length ∷ []));
+    few = omega (arith, k.log.few, k.log.begun, k.log.first, k.log.last, x.long, span_unit entry.cuts, length-append l.entries (entry ∷ []));
     opened = k.log.opened;
     active = k.log.active;
     newest = k.log.newest;
@@ -286,14 +291,17 @@ kept_taken l t n by p covered padding frame_length k got few short x = record {
     shown = shown;
     finished = λ m low less near. more_finished l p covered k.log.three m (k.log.finished m low less near);
     all_armed = length-set l.armed by None ∙ k.log.all_armed;
-    room = room_taken (greatest_claim l.identity.geometry) l.tail l.limit (armed_count (slice_set l.armed by None)) (armed_count l.armed) (aligned frame_length) (count_disarmed l.armed by p got) (omega (arith, taken_most)) k.log.room;
+    room = room_taken (greatest_claim l.identity.geometry) l.tail l.limit (armed_count (slice_set l.armed by None)) (armed_count l.armed) (span entry.cuts) (count_disarmed l.armed by p got) most k.log.room;
     clean = k.log.clean;
     limit_unit = k.log.limit_unit;
-    tail_unit = omega (arith, k.log.tail_unit);
+    tail_unit = omega (arith, k.log.tail_unit, span_unit entry.cuts);
     word = k.log.word;
     consumer_units = k.log.consumer_units;
-    consumers_behind = all_weaker (λ q. q ≤ l.tail) (λ q. q ≤ l.tail + aligned frame_length) (λ q h. omega arith) l.consumers k.log.consumers_behind;
+    consumers_behind = all_weaker (λ q. q ≤ l.tail) (λ q. q ≤ l.tail + span entry.cuts) (λ q h. omega arith) l.consumers k.log.consumers_behind;
+    reached = all_weaker (IsReached (committed l.entries) l.first) (IsReached (committed (l.entries ++ entry ∷ [])) l.first) (passed_more (committed l.entries) (committed (l.entries ++ entry ∷ [])) (Kept-push l.entries entry) l.first) l.consumers k.log.reached;
     readable = k.log.readable;
+    short = all_pushed (λ e. length_of e ≤ greatest_claim l.identity.geometry) l.entries entry k.log.short most;
+    resent = k.log.resent;
   };
   geometry = k.geometry;
   opened = k.opened;
@@ -304,40 +312,35 @@ kept_taken l t n by p covered padding frame_length k got few short x = record {
   term_unit = k.term_unit;
   overshoot = more_overshoot l t n by p covered k got short;
   used = less_used l t n by k;
-  passed = none_passed l.consumers k.log.consumers_behind k.passed;
-  unset = unset_pushed l.entries l.drafts (claim_of l.tail by padding frame_length) (replicate (aligned frame_length - 8) 0) k.unset k.log.drafts unset;
+  unset = unset_pushed l.entries l.drafts entry (blank_for entry.cuts) k.unset k.log.drafts (record { units = x.units; size = refl });
 }
   where
+    entry : Entry
+    entry = claim_of l.identity.geometry l.tail by padding size
+
     newest : p ≡ l.newest % 3
     newest = is_newest l t n by p k got x.below
 
     at : Stands l (slice_index l.offsets p)
     at = stands l t n (slice_index l.offsets p) k (ap (slice_index l.offsets) newest) x.below
 
-    taken_most : aligned frame_length ≤ covered
-    taken_most = omega (arith, x.taken)
+    most : span entry.cuts ≤ greatest_claim l.identity.geometry
+    most = least_of (slice_index l.offsets p) (span entry.cuts) covered (term_of l) (greatest_claim l.identity.geometry) x.taken short
+      where
+        least_of : (offset taken covered term claim : ℕ) → offset + taken ≡ min (offset + covered) term → covered ≤ claim → taken ≤ claim
+        least_of offset taken covered term claim e h = omega arith
 
-    ends : l.tail + (aligned frame_length + 0) ≡ l.tail + aligned frame_length
-    ends = omega arith
-
-    in_one : InOneTerm (term_of l) l.tail (l.tail + (aligned frame_length + 0))
+    in_one : InOneTerm (term_of l) l.tail (entry_end entry)
     in_one =
         let whole : l.tail / term_of l * term_of l ≡ l.newest * term_of l = ap (λ y. y * term_of l) at.count in
         omega (arith, whole, at.shown, x.taken)
 
-    shown : l.tail + aligned frame_length ≡ l.newest * term_of l + min (slice_index (slice_set l.offsets p (slice_index l.offsets p + covered)) (l.newest % 3)) (term_of l)
+    shown : l.tail + span entry.cuts ≡ l.newest * term_of l + min (slice_index (slice_set l.offsets p (slice_index l.offsets p + covered)) (l.newest % 3)) (term_of l)
     shown =
         let within : p < length l.offsets = omega (arith, (k.used by p got).0, k.log.three) in
         let here : slice_index (slice_set l.offsets p (slice_index l.offsets p + covered)) (l.newest % 3) ≡ slice_index l.offsets p + covered = ap (slice_index (slice_set l.offsets p (slice_index l.offsets p + covered))) (sym newest) ∙ index_set l.offsets p (slice_index l.offsets p + covered) within in
-        let least : min (slice_index (slice_set l.offsets p (slice_index l.offsets p + covered)) (l.newest % 3)) (term_of l) ≡ slice_index l.offsets p + aligned frame_length = ap (λ y. min y (term_of l)) here ∙ sym x.taken in
+        let least : min (slice_index (slice_set l.offsets p (slice_index l.offsets p + covered)) (l.newest % 3)) (term_of l) ≡ slice_index l.offsets p + span entry.cuts = ap (λ y. min y (term_of l)) here ∙ sym x.taken in
         omega (arith, at.shown, least)
-
-    unset : IsUnset (claim_of l.tail by padding frame_length) (replicate (aligned frame_length - 8) 0)
-    unset = λ cut e no. let same : frame_length ≡ cut = cc in subst (λ y. (32 ≤ y) × (length {A = ℕ} (replicate (aligned frame_length - 8) 0) ≡ aligned y - 8)) same (x.long, length-replicate (aligned frame_length - 8) 0)
-
-    none_passed : (ps : List ℕ) → AllByRecursion (λ q. q ≤ l.tail) ps → AllByRecursion (λ q. AllByRecursion (λ e. e.start < q → is_whole e ≡ true) l.entries) ps → AllByRecursion (λ q. AllByRecursion (λ e. e.start < q → is_whole e ≡ true) (l.entries ++ claim_of l.tail by padding frame_length ∷ [])) ps
-    none_passed [] b h = tt
-    none_passed (q ∷ ps) b h = (all_pushed (λ e. e.start < q → is_whole e ≡ true) l.entries (claim_of l.tail by padding frame_length) h.0 (λ low. absurd (omega (arith, b.0))), none_passed ps b.1 h.1)
 
 -- ---- rotation
 
@@ -371,7 +374,10 @@ kept_active l t n a k low high = record {
     word = k.log.word;
     consumer_units = k.log.consumer_units;
     consumers_behind = k.log.consumers_behind;
+    reached = k.log.reached;
     readable = k.log.readable;
+    short = k.log.short;
+    resent = k.log.resent;
   };
   geometry = k.geometry;
   opened = k.opened;
@@ -382,7 +388,6 @@ kept_active l t n a k low high = record {
   term_unit = k.term_unit;
   overshoot = k.overshoot;
   used = k.used;
-  passed = k.passed;
   unset = k.unset;
 }
 
@@ -416,7 +421,10 @@ kept_turned l t n k last full = record {
     word = k.log.word;
     consumer_units = k.log.consumer_units;
     consumers_behind = k.log.consumers_behind;
+    reached = k.log.reached;
     readable = k.log.readable;
+    short = k.log.short;
+    resent = k.log.resent;
   };
   geometry = k.geometry;
   opened = k.opened;
@@ -427,7 +435,6 @@ kept_turned l t n k last full = record {
   term_unit = k.term_unit;
   overshoot = overshoot;
   used = λ j q got. let u : (q < 3) × IsUsed l q = k.used j q got in (u.0, omega (arith, u.0, u.1, k.log.opened, k.log.active));
-  passed = k.passed;
   unset = k.unset;
 }
   where
@@ -461,8 +468,8 @@ kept_turned l t n k last full = record {
 
 -- ---- stores
 
-pub kept_draft : (l : Log) (t : Tails) (n : ℕ) (c : Claimed) (d : List ℕ) → IsState l t n → IsOpen l c → length d ≡ aligned c.frame_length - 8 → 32 ≤ c.frame_length → IsState (with_draft l c d) t n
-kept_draft l t n c d k unset size long = record {
+pub kept_draft : (l : Log) (t : Tails) (n place : ℕ) (e : Entry) (d : List ℕ) → IsState l t n → slice_get l.entries place ≡ Some e → length d ≡ length (slice_index_or l.drafts place []) → IsState (record l { drafts = slice_set l.drafts place d }) t n
+kept_draft l t n place e d k got size = record {
   log = record {
     geometry = k.log.geometry;
     identity = k.log.identity;
@@ -472,7 +479,7 @@ kept_draft l t n c d k unset size long = record {
     entries = k.log.entries;
     eight = k.log.eight;
     shares = k.log.shares;
-    drafts = length-set l.drafts (place_of l c.number) d ∙ k.log.drafts;
+    drafts = length-set l.drafts place d ∙ k.log.drafts;
     begun = k.log.begun;
     first = k.log.first;
     last = k.log.last;
@@ -491,7 +498,10 @@ kept_draft l t n c d k unset size long = record {
     word = k.log.word;
     consumer_units = k.log.consumer_units;
     consumers_behind = k.log.consumers_behind;
+    reached = k.log.reached;
     readable = k.log.readable;
+    short = k.log.short;
+    resent = k.log.resent;
   };
   geometry = k.geometry;
   opened = k.opened;
@@ -502,30 +512,36 @@ kept_draft l t n c d k unset size long = record {
   term_unit = k.term_unit;
   overshoot = k.overshoot;
   used = k.used;
-  passed = k.passed;
-  unset = unset_draft l.entries l.drafts (place_of l c.number) (claim_of c.start c.owner c.padding c.frame_length) d k.unset unset.entry (λ cut e no. let same : c.frame_length ≡ cut = cc in subst (λ y. (32 ≤ y) × (length d ≡ aligned y - 8)) same (long, size));
+  unset = unset_draft l.entries l.drafts place e d k.unset got (record { units = was.units; size = size ∙ was.size });
 }
+  where
+    was : IsUnset e (slice_index_or l.drafts place [])
+    was = unset_at l.entries l.drafts place e k.unset got
 
--- an open claim's draft
-pub open_draft : (l : Log) (t : Tails) (n : ℕ) (c : Claimed) → IsState l t n → IsOpen l c → (32 ≤ c.frame_length) × (length (slice_index_or l.drafts (place_of l c.number) []) ≡ aligned c.frame_length - 8)
-open_draft l t n c k unset = unset_at l.entries l.drafts (place_of l c.number) (claim_of c.start c.owner c.padding c.frame_length) k.unset unset.entry c.frame_length refl refl
+-- an open entry becomes another of the same range, and keeps its frames
+pub record Becomes (e d : Entry) (draft : List ℕ) : Type 0 where
+  pub start : d.start ≡ e.start
+  pub cuts : d.cuts ≡ e.cuts
+  pub is : IsEntry d
+  pub keeps : (s : Placed) → Among s (frames_of e) → Among s (frames_of d)
+  pub size : length draft ≡ length (blank_for (drop (length d.frames) d.cuts))
 
-pub kept_commit : (l : Log) (t : Tails) (n : ℕ) (c : Claimed) (f : Frame) → IsState l t n → IsOpen l c → HaveFrames c.padding (c.frame_length ∷ []) (f ∷ []) → IsState (with_commit l c f) t n
-kept_commit l t n c f k unset frames = record {
+pub kept_entry : (l : Log) (t : Tails) (n place : ℕ) (e d : Entry) (draft : List ℕ) → IsState l t n → slice_get l.entries place ≡ Some e → Becomes e d draft → IsState (record l { entries = slice_set l.entries place d; drafts = slice_set l.drafts place draft }) t n
+kept_entry l t n place e d draft k got x = record {
   log = record {
     geometry = k.log.geometry;
     identity = k.log.identity;
     unit = k.log.unit;
     below = k.log.below;
-    tiles = tiles_set (term_of l) l.first l.tail (place_of l c.number) l.entries (claim_of c.start c.owner c.padding c.frame_length) entry unset.entry refl refl k.log.tiles;
-    entries = all_set IsEntry l.entries (place_of l c.number) entry (record { owner = was.owner; cuts = was.cuts; long = was.long; frames = frames }) k.log.entries;
+    tiles = tiles_set (term_of l) l.first l.tail place l.entries e d got x.start end k.log.tiles;
+    entries = all_set IsEntry l.entries place d x.is k.log.entries;
     eight = k.log.eight;
     shares = k.log.shares;
-    drafts = length-set l.drafts (place_of l c.number) [] ∙ k.log.drafts ∙ sym (length-set l.entries (place_of l c.number) entry);
+    drafts = length-set l.drafts place draft ∙ k.log.drafts ∙ sym (length-set l.entries place d);
     begun = k.log.begun;
     first = k.log.first;
     last = k.log.last;
-    few = subst (λ y. 32 * (l.gone + y) ≤ l.tail - l.start) (sym (length-set l.entries (place_of l c.number) entry)) k.log.few;
+    few = subst (λ y. 32 * (l.gone + y) ≤ l.tail - l.start) (sym (length-set l.entries place d)) k.log.few;
     opened = k.log.opened;
     active = k.log.active;
     newest = k.log.newest;
@@ -540,7 +556,10 @@ kept_commit l t n c f k unset frames = record {
     word = k.log.word;
     consumer_units = k.log.consumer_units;
     consumers_behind = k.log.consumers_behind;
+    reached = all_weaker (IsReached (committed l.entries) l.first) (IsReached (committed (slice_set l.entries place d)) l.first) (passed_more (committed l.entries) (committed (slice_set l.entries place d)) (among_set l.entries place e d got x.keeps) l.first) l.consumers k.log.reached;
     readable = k.log.readable;
+    short = all_set (λ y. length_of y ≤ greatest_claim l.identity.geometry) l.entries place d (subst (λ cuts. span cuts ≤ greatest_claim l.identity.geometry) (sym x.cuts) (all_get (λ y. length_of y ≤ greatest_claim l.identity.geometry) l.entries place e got k.log.short)) k.log.short;
+    resent = k.log.resent;
   };
   geometry = k.geometry;
   opened = k.opened;
@@ -551,15 +570,14 @@ kept_commit l t n c f k unset frames = record {
   term_unit = k.term_unit;
   overshoot = k.overshoot;
   used = k.used;
-  passed = all_weaker (λ q. AllByRecursion (λ e. e.start < q → is_whole e ≡ true) l.entries) (λ q. AllByRecursion (λ e. e.start < q → is_whole e ≡ true) (slice_set l.entries (place_of l c.number) entry)) (λ q h. all_set (λ e. e.start < q → is_whole e ≡ true) l.entries (place_of l c.number) entry (λ _. refl) h) l.consumers k.passed;
-  unset = unset_both l.entries l.drafts (place_of l c.number) entry [] k.unset (λ cut e no. absurd (cc));
+  unset = unset_both l.entries l.drafts place d draft k.unset (record { units = subst (AllByRecursion (λ cut. 32 ≤ cut)) (sym x.cuts) was.units; size = x.size });
 }
   where
-    entry : Entry
-    entry = record { start = c.start; owner = c.owner; padding = c.padding; cuts = c.frame_length ∷ []; frames = f ∷ [] }
+    end : entry_end d ≡ entry_end e
+    end = ap (λ s. s + span d.cuts) x.start ∙ ap (λ cuts. e.start + span cuts) x.cuts
 
-    was : IsEntry (claim_of c.start c.owner c.padding c.frame_length)
-    was = all_get IsEntry l.entries (place_of l c.number) (claim_of c.start c.owner c.padding c.frame_length) unset.entry k.log.entries
+    was : IsUnset e (slice_index_or l.drafts place [])
+    was = unset_at l.entries l.drafts place e k.unset got
 
 -- ---- cleaning
 
@@ -572,12 +590,12 @@ kept_clean l m t n lowest k x least far near =
         unit = k.log.unit;
         below = k.log.below;
         tiles = tiles;
-        entries = all_behind IsEntry x.past m.entries (subst (AllByRecursion IsEntry) x.parts k.log.entries);
+        entries = all_behind IsEntry x.past m.entries entries;
         eight = k.log.eight;
         shares = k.log.shares;
         drafts = omega (arith, length-drop (length x.past) l.drafts, size, k.log.drafts);
         begun = omega (arith, k.log.begun);
-        first = first m.entries x.from tiles;
+        first = begins m.entries x.from tiles;
         last = tiles_le (term_of l) m.first l.tail m.entries tiles;
         few = omega (arith, k.log.few, size);
         opened = k.log.opened;
@@ -594,7 +612,10 @@ kept_clean l m t n lowest k x least far near =
         word = omega (arith, k.log.word);
         consumer_units = k.log.consumer_units;
         consumers_behind = k.log.consumers_behind;
+        reached = reached l.consumers least k.log.reached k.log.resent;
         readable = all_weaker (λ q. lowest ≤ q) (λ q. l.cleaned + 8 ≤ clean_end l q) (λ q h. omega arith) l.consumers least;
+        short = all_behind (λ e. length_of e ≤ greatest_claim l.identity.geometry) x.past m.entries short;
+        resent = resent l.consumers least k.log.resent;
       };
       geometry = k.geometry;
       opened = k.opened;
@@ -605,27 +626,85 @@ kept_clean l m t n lowest k x least far near =
       term_unit = k.term_unit;
       overshoot = k.overshoot;
       used = k.used;
-      passed = all_weaker (λ q. AllByRecursion (λ e. e.start < q → is_whole e ≡ true) l.entries) (λ q. AllByRecursion (λ e. e.start < q → is_whole e ≡ true) m.entries) (λ q h. all_behind (λ e. e.start < q → is_whole e ≡ true) x.past m.entries (subst (AllByRecursion (λ e. e.start < q → is_whole e ≡ true)) x.parts h)) l.consumers k.passed;
       unset = unset_behind x.past m.entries l.drafts (subst (λ es. AreUnset es l.drafts) x.parts k.unset);
     })
   where
+    whole : Tiles (term_of l) l.first l.tail (x.past ++ m.entries)
+    whole = subst (Tiles (term_of l) l.first l.tail) x.parts k.log.tiles
+
     tiles : Tiles (term_of l) m.first l.tail m.entries
-    tiles = tiles_split (term_of l) l.first m.first l.tail x.past m.entries (subst (Tiles (term_of l) l.first l.tail) x.parts k.log.tiles) x.tiles
+    tiles = tiles_split (term_of l) l.first m.first l.tail x.past m.entries whole x.tiles
+
+    entries : AllByRecursion IsEntry (x.past ++ m.entries)
+    entries = subst (AllByRecursion IsEntry) x.parts k.log.entries
+
+    short : AllByRecursion (λ e. length_of e ≤ greatest_claim l.identity.geometry) (x.past ++ m.entries)
+    short = subst (AllByRecursion (λ e. length_of e ≤ greatest_claim l.identity.geometry)) x.parts k.log.short
 
     size : length l.entries ≡ length x.past + length m.entries
     size = ap length x.parts ∙ length-append x.past m.entries
 
-    first : (es : List Entry) → AllByRecursion (λ e. l.cleaned + 8 ≤ e.start) es → Tiles (term_of l) m.first l.tail es → l.cleaned + 8 ≤ m.first
-    first [] b h = omega (arith, h)
-    first (e ∷ es) b h = omega (arith, h.0, b.0)
+    begins : (es : List Entry) → AllByRecursion (λ e. l.cleaned + 8 ≤ e.start) es → Tiles (term_of l) m.first l.tail es → l.cleaned + 8 ≤ m.first
+    begins [] b h = omega (arith, h)
+    begins (e ∷ es) b h = omega (arith, h.0, b.0)
+
+    ends : m.first ≤ max l.first (l.cleaned + 8 + greatest_claim l.identity.geometry)
+    ends = tiles_near (term_of l) l.first m.first (l.cleaned + 8) (greatest_claim l.identity.geometry) x.past x.tiles x.below (all_front (λ e. length_of e ≤ greatest_claim l.identity.geometry) x.past m.entries short)
+
+    within : (start first cleaned claim term lowest q b : ℕ) → b ≤ max first (cleaned + 8 + claim) → claim ≤ term / 7 + 63 → 65536 ≤ term → cleaned + 8 + term ≤ lowest → lowest ≤ q → first ≤ max start (q - 3 * term / 4) → b ≤ max start (q - 3 * term / 4)
+    within start first cleaned claim term lowest q b h small long far low old = omega arith
+
+    resent_at : (q : ℕ) → lowest ≤ q → l.first ≤ max l.start (q - 3 * term_of l / 4) → m.first ≤ max l.start (q - 3 * term_of l / 4)
+    resent_at q low h = within l.start l.first l.cleaned (greatest_claim l.identity.geometry) (term_of l) lowest q m.first ends (claim_bounded l.identity.geometry 0 k.log.geometry (omega arith)).1 k.log.geometry.term.least far low h
+
+    resent : (ps : List ℕ) → AllByRecursion (λ q. lowest ≤ q) ps → AllByRecursion (λ q. l.first ≤ max l.start (q - 3 * term_of l / 4)) ps → AllByRecursion (λ q. m.first ≤ max l.start (q - 3 * term_of l / 4)) ps
+    resent [] b h = tt
+    resent (q ∷ ps) b h = (resent_at q b.0 h.0, resent ps b.1 h.1)
+
+    reached_at : (q : ℕ) → lowest ≤ q → l.first ≤ max l.start (q - 3 * term_of l / 4) → IsReached (committed l.entries) l.first q → IsReached (committed m.entries) m.first q
+    reached_at q low h r =
+        let close : m.first ≤ max l.start (q - 3 * term_of l / 4) = resent_at q low h in
+        reached_behind (term_of l) l.first m.first l.tail q x.past m.entries x.tiles whole entries (omega (arith, close, far, k.log.begun, low)) (subst (λ es. IsReached (committed es) l.first q) x.parts r)
+
+    reached : (ps : List ℕ) → AllByRecursion (λ q. lowest ≤ q) ps → AllByRecursion (IsReached (committed l.entries) l.first) ps → AllByRecursion (λ q. l.first ≤ max l.start (q - 3 * term_of l / 4)) ps → AllByRecursion (IsReached (committed m.entries) m.first) ps
+    reached [] b r h = tt
+    reached (q ∷ ps) b r h = (reached_at q b.0 h.0 r.0, reached ps b.1 r.1 h.1)
 
     cleaner : (limit claim cleaned term : ℕ) → limit + 8 * claim ≤ cleaned + 3 * term → limit + 8 * claim ≤ cleaned + 8 + 3 * term
     cleaner limit claim cleaned term h = omega arith
 
+-- a reader stands where it did
+pub at_clean : (l m : Log) (t : Tails) (n lowest : ℕ) (r : Reader) → IsState l t n → Cleans l (l.cleaned + 8) m → IsLeast l.consumers lowest → l.cleaned + 8 + term_of l ≤ lowest → lowest ≤ l.tail → IsAt l r → IsAt m r
+at_clean l m t n lowest r k x least far near h =
+    at_kept l m r consumers
+    (λ s at a. among_behind (term_of l) l.first m.first x.past m.entries s x.tiles (all_front IsEntry x.past m.entries (subst (AllByRecursion IsEntry) x.parts k.log.entries)) (omega (arith, close, here, start, begun, low, far, at)) (subst (λ es. Among s (committed es)) x.parts a))
+    h
+  where
+    consumers : m.consumers ≡ l.consumers
+    consumers = ap (λ (y : Log). y.consumers) x.new_is
+
+    low : lowest ≤ r.position
+    low = subst (λ p. lowest ≤ p) h.here (all_index (λ p. lowest ≤ p) l.consumers r.number h.number least)
+
+    new : IsState m t n
+    new = kept_clean l m t n lowest k x least far near
+
+    close : m.first ≤ max m.start (slice_index m.consumers r.number - 3 * term_of m / 4)
+    close = all_index (λ q. m.first ≤ max m.start (q - 3 * term_of m / 4)) m.consumers r.number (subst (λ (ps : List ℕ). r.number < length ps) (sym consumers) h.number) new.log.resent
+
+    here : slice_index m.consumers r.number ≡ r.position
+    here = ap (λ ps. slice_index ps r.number) consumers ∙ h.here
+
+    start : m.start ≡ l.start
+    start = ap (λ (y : Log). y.start) x.new_is
+
+    begun : l.start ≤ l.cleaned
+    begun = k.log.begun
+
 -- ---- consumers
 
-pub kept_moved : (l : Log) (t : Tails) (n : ℕ) (r : Reader) → IsState l t n → IsAt l r → r.position + 32 ≤ r.read_to → IsState (record l { consumers = slice_set l.consumers r.number r.read_to }) t n
-kept_moved l t n r k h far = record {
+pub kept_moved : (l : Log) (t : Tails) (n : ℕ) (r : Reader) → IsState l t n → IsAt l (before_move l r) → Moves l (before_move l r) r.position → IsState (record l { consumers = slice_set l.consumers r.number r.position }) t n
+kept_moved l t n r k h m = record {
   log = record {
     geometry = k.log.geometry;
     identity = k.log.identity;
@@ -652,31 +731,30 @@ kept_moved l t n r k h far = record {
     limit_unit = k.log.limit_unit;
     tail_unit = k.log.tail_unit;
     word = k.log.word;
-    consumer_units = all_set (λ q. q % 32 ≡ 0) l.consumers r.number r.read_to (omega (arith, end_is.0, end_is.1, at_unit)) k.log.consumer_units;
-    consumers_behind = all_set (λ q. q ≤ l.tail) l.consumers r.number r.read_to (omega (arith, x.end, end_within (term_of l) l.first l.tail (r.index - l.gone) l.entries x.entry k.log.tiles x.here)) k.log.consumers_behind;
-    readable = all_set (λ q. l.cleaned ≤ clean_end l q) l.consumers r.number r.read_to (omega (arith, readable)) k.log.readable;
+    consumer_units = all_set (λ q. q % 32 ≡ 0) l.consumers r.number r.position x.unit k.log.consumer_units;
+    consumers_behind = all_set (λ q. q ≤ l.tail) l.consumers r.number r.position x.behind k.log.consumers_behind;
+    reached = all_set (IsReached (committed l.entries) l.first) l.consumers r.number r.position x.reached k.log.reached;
+    readable = all_set (λ q. l.cleaned ≤ clean_end l q) l.consumers r.number r.position (omega (arith, readable, x.more, x.was_is)) k.log.readable;
+    short = k.log.short;
+    resent = all_set (λ q. l.first ≤ max l.start (q - 3 * term_of l / 4)) l.consumers r.number r.position (omega (arith, resent, x.more, x.was_is)) k.log.resent;
   };
   geometry = k.geometry;
   opened = k.opened;
   some_consumer = k.some_consumer;
   few_consumers = k.few_consumers;
-  counted = length-set l.consumers r.number r.read_to ∙ k.counted;
+  counted = length-set l.consumers r.number r.position ∙ k.counted;
   small_limit = k.small_limit;
   term_unit = k.term_unit;
   overshoot = k.overshoot;
   used = k.used;
-  passed = all_set (λ q. AllByRecursion (λ e. e.start < q → is_whole e ≡ true) l.entries) l.consumers r.number r.read_to (passed_front (term_of l) l.first l.tail r.read_to (suc (r.index - l.gone)) l.entries k.log.tiles (moved_behind l r k.log h x) (moved_whole l r h x)) k.passed;
   unset = k.unset;
 }
   where
-    x : Moves l r
-    x = moves l r h far
+    x : Moved l r
+    x = moved l r k.log h m
 
-    at_unit : r.position % 32 ≡ 0
-    at_unit = subst (λ q. q % 32 ≡ 0) h.here (all_index (λ q. q % 32 ≡ 0) l.consumers r.number h.number k.log.consumer_units)
+    readable : l.cleaned ≤ clean_end l (slice_index l.consumers r.number)
+    readable = all_index (λ q. l.cleaned ≤ clean_end l q) l.consumers r.number h.number k.log.readable
 
-    readable : l.cleaned ≤ clean_end l r.position
-    readable = subst (λ q. l.cleaned ≤ clean_end l q) h.here (all_index (λ q. l.cleaned ≤ clean_end l q) l.consumers r.number h.number k.log.readable)
-
-    end_is : (r.read_to ≡ r.position + span x.entry.cuts) × (span x.entry.cuts % 32 ≡ 0)
-    end_is = (omega (arith, x.end, x.start), span_unit x.entry.cuts)
+    resent : l.first ≤ max l.start (slice_index l.consumers r.number - 3 * term_of l / 4)
+    resent = all_index (λ q. l.first ≤ max l.start (q - 3 * term_of l / 4)) l.consumers r.number h.number k.log.resent

@@ -1,15 +1,21 @@
 -- The consumers' positions, and the least of them.
-use Rattle.std.proofs.Common.{◌≡◌, ℕ, zero, suc, ◌+◌, ◌*◌, ◌%◌, ◌<◌, ◌≤◌, true, List, [], ◌∷◌, length, take, fold, min, refl, subst, arith}
+use Rattle.std.proofs.Common.{◌≡◌, ℕ, zero, suc, ◌+◌, ◌*◌, ◌/◌, ◌%◌, ◌<◌, ◌≤◌, Bool, true, List, [], ◌∷◌, length, take, fold, Option, min, refl, ap, subst, arith}
 use Rattle.std.specs.Prelude.{slice_index}
 use Rattle.std.specs.List.{AllByRecursion}
 use Rattle.std.proofs.Math.Nat.{mul-le-mul_right}
-use Rattle.theory.specs.Entry.{Entry}
+use Rattle.theory.specs.Position.{greatest_claim}
+use Rattle.theory.specs.Placed.{IsReached}
+use Rattle.theory.specs.Entry.{Entry, IsEntry, committed, length_of}
 use Rattle.theory.specs.Messages.{is_whole}
 use Rattle.theory.specs.Tiling.{Tiles}
+use Rattle.theory.proofs.Claims.{claim_bounded}
 use Rattle.raw_tails.specs.Tails.{Tails}
 use Rattle.log_buffer.specs.Limits.{least}
-use Rattle.log_buffer.specs.Log.{IsLeast, IsLog, Log, clean_end, term_of}
-use Rattle.log_buffer.specs.States.{IsState}
+use Rattle.term_buffer.specs.Kept as kept
+use Rattle.term_buffer.specs.Kept.{Kept}
+use Rattle.log_buffer.specs.Log.{Cleans, IsLeast, IsLog, Log, clean_end, term_of}
+use Rattle.log_buffer.specs.States.{IsState, log_of}
+use Rattle.log_buffer.proofs.Chains.{first_whole}
 use Rattle.log_buffer.proofs.Spans.{all_index}
 
 pub index_taken : (xs : List ℕ) (n i : ℕ) → i < n → slice_index (take n xs) i ≡ slice_index xs i
@@ -74,7 +80,7 @@ cleanable l t n lowest k lows below = record {
   far = far;
   near = omega (arith, first_low, first_near);
   below = omega (arith, first_low, first_near, far);
-  committed = committed;
+  committed = whole;
 }
   where
     some : 0 < length l.consumers
@@ -89,7 +95,25 @@ cleanable l t n lowest k lows below = record {
     first_near : slice_index l.consumers 0 ≤ l.tail
     first_near = all_index (λ p. p ≤ l.tail) l.consumers 0 some k.log.consumers_behind
 
-    committed : (e : Entry) (es : List Entry) → l.entries ≡ e ∷ es → l.cleaned ≡ l.first → is_whole e ≡ true
-    committed e es parts here =
-        let tiles = subst (Tiles (term_of l) l.first l.tail) parts k.log.tiles in
-        (subst (AllByRecursion (λ x. x.start < slice_index l.consumers 0 → is_whole x ≡ true)) parts (all_index (λ p. AllByRecursion (λ x. x.start < p → is_whole x ≡ true) l.entries) l.consumers 0 some k.passed)).0 (omega (arith, tiles.0, first_low, far))
+    reached : IsReached (committed l.entries) l.first (slice_index l.consumers 0)
+    reached = all_index (IsReached (committed l.entries) l.first) l.consumers 0 some k.log.reached
+
+    whole : (e : Entry) (es : List Entry) → l.entries ≡ e ∷ es → l.cleaned ≡ l.first → is_whole e ≡ true
+    whole e es parts here =
+        let tiles : Tiles (term_of l) l.first l.tail (e ∷ es) = subst (Tiles (term_of l) l.first l.tail) parts k.log.tiles in
+        let short : AllByRecursion (λ x. length_of x ≤ greatest_claim l.identity.geometry) (e ∷ es) = subst (AllByRecursion (λ x. length_of x ≤ greatest_claim l.identity.geometry)) parts k.log.short in
+        let bound : greatest_claim l.identity.geometry ≤ term_of l / 7 + 63 = (claim_bounded l.identity.geometry 0 k.log.geometry (omega arith)).1 in
+        first_whole (term_of l) l.first l.tail (slice_index l.consumers 0) e es tiles (subst (AllByRecursion IsEntry) parts k.log.entries) (subst (λ xs. IsReached (committed xs) l.first (slice_index l.consumers 0)) parts reached)
+        (omega (arith, tiles.0, short.0, bound, first_low, far, k.log.geometry.term.least))
+
+-- what the buffer forgets, the log does
+pub shows_clean : (t : Tails) (old new : Kept) (limit : ℕ) (connected closed : Bool) (consumers : List ℕ) (armed : List (Option ℕ)) (to : ℕ) → kept.Cleans old to new → Cleans (log_of t old limit connected closed consumers armed) to (log_of t new limit connected closed consumers armed)
+shows_clean t old new limit connected closed consumers armed to k = record {
+  past = k.past;
+  parts = k.parts;
+  committed = k.committed;
+  below = k.below;
+  from = k.from;
+  tiles = k.tiles;
+  new_is = ap (λ b. log_of t b limit connected closed consumers armed) k.new_is;
+}

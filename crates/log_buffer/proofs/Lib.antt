@@ -1,7 +1,8 @@
 pub mod Adds
 pub mod Armed
+pub mod Chains
 pub mod Frames
-pub mod Heads
+pub mod Held
 pub mod Ids
 pub mod Keeps
 pub mod Leasts

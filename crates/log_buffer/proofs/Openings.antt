@@ -1,14 +1,13 @@
 -- A log that was just opened, and its readers.
-use Rattle.std.proofs.Common.{◌≡◌, ℕ, zero, suc, ◌+◌, ◌-◌, ◌*◌, ◌/◌, ◌%◌, ◌<◌, ◌≤◌, ⊎_elim, inl, false, true, List, [], ◌∷◌, take, replicate, get_or, Option, None, Some, min, max, refl, sym, ap, ◌∙◌, subst, All, arith}
+use Rattle.std.proofs.Common.{◌≡◌, ℕ, zero, suc, ◌+◌, ◌-◌, ◌*◌, ◌/◌, ◌%◌, ◌<◌, ◌≤◌, ⊎_elim, false, List, [], ◌∷◌, take, replicate, get_or, Option, None, Some, min, max, refl, sym, ap, ◌∙◌, subst, All, arith}
 use Rattle.std.specs.Prelude.{slice_get, slice_set, slice_index}
-use Rattle.std.specs.List.{AllByRecursion}
 use Rattle.std.proofs.Math.Nat.{mul-le-mul_right}
 use Rattle.std.proofs.lemmas.Nat.{div-add-mod'}
 use Rattle.std.proofs.lemmas.Bool.{cases_eq, cases_lt}
 use Rattle.std.proofs.lemmas.List.{get_or-replicate, length-replicate, take-replicate}
 use Rattle.std.proofs.lemmas.Option.{get_or_from_slice_get}
 use Rattle.theory.specs.Position.{IsGeometry, greatest_claim, max_position}
-use Rattle.theory.specs.Messages.{is_whole}
+use Rattle.theory.specs.Placed.{IsReached}
 use Rattle.theory.specs.Bytes.{Identity, IsIdentity}
 use Rattle.theory.proofs.Lists.{all_replicate}
 use Rattle.theory.proofs.Claims.{claim_bounded}
@@ -79,7 +78,10 @@ opening i start count g is term_unit unit low some few = record {
     word = omega arith;
     consumer_units = all_replicate (λ p. p % 32 ≡ 0) count start unit;
     consumers_behind = all_replicate (λ p. p ≤ start) count start (omega arith);
+    reached = all_replicate (IsReached [] start) count start (record { read = []; chain = refl; among = tt });
     readable = all_replicate (λ p. start ≤ max start (p - i.geometry.term_length)) count start (omega arith);
+    short = tt;
+    resent = all_replicate (λ p. start ≤ max start (p - 3 * i.geometry.term_length / 4)) count start (omega arith);
   };
   geometry = refl;
   opened = refl;
@@ -90,7 +92,6 @@ opening i start count g is term_unit unit low some few = record {
   term_unit = term_unit;
   overshoot = overshoot;
   used = λ k p h. absurd (none_armed 8 k p h);
-  passed = all_replicate (λ p. AllByRecursion (λ e. e.start < p → is_whole e ≡ true) []) count start tt;
   unset = tt;
 }
   where
@@ -129,13 +130,9 @@ pub fresh_readers : (l : Log) (j : Identity) (start count : ℕ) (readers : List
 fresh_readers l j start count readers e all = λ k d h.
     let low : k < count = omega (arith, all.all) in
     subst (λ (x : Log). IsAt x (get_or readers k d)) (sym e)
-    (subst (IsAt (fresh j start count)) (sym (get_or_from_slice_get readers k (record { number = k; index = 0; position = start; read_to = start }) d (all.each k low)))
+    (subst (IsAt (fresh j start count)) (sym (get_or_from_slice_get readers k (record { number = k; position = start; read_to = start }) d (all.each k low)))
     (record {
       number = omega (arith, low, length-replicate count start);
       here = get_or-replicate count k start 0 low;
-      kept = omega arith;
-      index = omega arith;
-      behind = refl;
-      whole = tt;
-      read = inl refl;
+      read = λ far. absurd (omega arith);
     }))

@@ -1,15 +1,10 @@
 -- Entries of a tiled stream: where each stands, and what a part of them leaves.
-use Rattle.std.proofs.Common.{◌≡◌, ℕ, zero, suc, ◌+◌, ◌<◌, ◌≤◌, inl, ⊎_elim, true, List, [], ◌∷◌, ◌++◌, length, take, drop, Some, refl, sym, ap, ◌∙◌, subst, arith}
+use Rattle.std.proofs.Common.{◌≡◌, ℕ, zero, suc, ◌+◌, ◌<◌, ◌≤◌, List, [], ◌∷◌, ◌++◌, length, take, drop, Some, max, refl, sym, ap, ◌∙◌, subst, arith}
 use Rattle.std.specs.Prelude.{slice_get, slice_set, slice_index_or, sum, slice_index}
 use Rattle.std.specs.List.{AllByRecursion}
 use Rattle.std.proofs.lemmas.List.Sums.{sum_by-set}
-use Rattle.theory.specs.Position.{aligned, span}
-use Rattle.theory.specs.Placed.{Among, Frame, Placed, frame_length, place_all}
-use Rattle.theory.specs.Entry.{Entry, IsEntry, committed, entry_end}
-use Rattle.theory.specs.Messages.{is_whole}
+use Rattle.theory.specs.Entry.{Entry, entry_end, length_of}
 use Rattle.theory.specs.Tiling.{InOneTerm, Tiles}
-use Rattle.theory.proofs.Lists.{all_at, all_weaker, among_cases, among_left, among_right}
-use Rattle.theory.proofs.Frames.{AreCut, are_cut, committed_in_order, in_order_from, tiles_le}
 use Rattle.log_buffer.specs.States.{AreUnset, IsUnset}
 
 pub some_is : {X : Type 0} (a b : X) → Some a ≡ Some b → a ≡ b
@@ -51,24 +46,17 @@ got_unset (z ∷ xs) zero (suc j) x y ne h = h
 got_unset (z ∷ xs) (suc i) zero x y ne h = h
 got_unset (z ∷ xs) (suc i) (suc j) x y ne h = got_unset xs i j x y (λ e. ne (ap suc e)) h
 
-pub of_first : {X : Type 0} (P : X → Type 0) (xs : List X) (n i : ℕ) (x : X) → AllByRecursion P (take n xs) → slice_get xs i ≡ Some x → i < n → P x
-of_first P [] n i x all h low = absurd (cc)
-of_first P (z ∷ xs) zero i x all h low = absurd (omega arith)
-of_first P (z ∷ xs) (suc n) zero x all h low = subst P (some_is z x h) all.0
-of_first P (z ∷ xs) (suc n) (suc i) x all h low = of_first P xs n i x all.1 h (omega arith)
-
 pub all_pushed : {X : Type 0} (P : X → Type 0) (xs : List X) (x : X) → AllByRecursion P xs → P x → AllByRecursion P (xs ++ x ∷ [])
 all_pushed P [] x all here = (here, tt)
 all_pushed P (z ∷ xs) x all here = (all.0, all_pushed P xs x all.1 here)
 
+pub all_front : {X : Type 0} (P : X → Type 0) (xs ys : List X) → AllByRecursion P (xs ++ ys) → AllByRecursion P xs
+all_front P [] ys all = tt
+all_front P (x ∷ xs) ys all = (all.0, all_front P xs ys all.1)
+
 pub all_behind : {X : Type 0} (P : X → Type 0) (xs ys : List X) → AllByRecursion P (xs ++ ys) → AllByRecursion P ys
 all_behind P [] ys all = all
 all_behind P (x ∷ xs) ys all = all_behind P xs ys all.1
-
-pub all_taken : {X : Type 0} (P : X → Type 0) (n m : ℕ) (xs ys : List X) → n ≡ length xs + m → AllByRecursion P (take n (xs ++ ys)) → AllByRecursion P (take m ys)
-all_taken P n m [] ys l all = let same : n ≡ m = omega (arith, l) in subst (λ k. AllByRecursion P (take k ys)) same all
-all_taken P zero m (x ∷ xs) ys l all = absurd (omega arith)
-all_taken P (suc n) m (x ∷ xs) ys l all = all_taken P n m xs ys (omega arith) all.1
 
 pub all_index : (P : ℕ → Type 0) (xs : List ℕ) (i : ℕ) → i < length xs → AllByRecursion P xs → P (slice_index xs i)
 all_index P [] i l all = absurd (omega arith)
@@ -103,42 +91,24 @@ index_other (x ∷ xs) zero (suc j) v ne = refl
 index_other (x ∷ xs) (suc i) zero v ne = refl
 index_other (x ∷ xs) (suc i) (suc j) v ne = index_other xs i j v (λ e. ne (ap suc e))
 
+pub index_or_other : {X : Type 0} (xs : List X) (i j : ℕ) (x d : X) → (i ≡ j → ⊥) → slice_index_or (slice_set xs j x) i d ≡ slice_index_or xs i d
+index_or_other [] i j x d ne = refl
+index_or_other (z ∷ xs) zero zero x d ne = absurd (ne refl)
+index_or_other (z ∷ xs) zero (suc j) x d ne = refl
+index_or_other (z ∷ xs) (suc i) zero x d ne = refl
+index_or_other (z ∷ xs) (suc i) (suc j) x d ne = index_or_other xs i j x d (λ e. ne (ap suc e))
+
+pub index_or_drop : {X : Type 0} (n i j : ℕ) (xs : List X) (d : X) → j ≡ n + i → slice_index_or (drop n xs) i d ≡ slice_index_or xs j d
+index_or_drop zero i j xs d e = let same : i ≡ j = omega arith in ap (λ k. slice_index_or xs k d) same
+index_or_drop (suc n) i j [] d e = refl
+index_or_drop (suc n) i zero (x ∷ xs) d e = absurd (omega arith)
+index_or_drop (suc n) i (suc j) (x ∷ xs) d e = index_or_drop n i j xs d (omega arith)
+
 -- ---- tiles
 
 pub tiles_split : (t a b c : ℕ) (xs ys : List Entry) → Tiles t a c (xs ++ ys) → Tiles t a b xs → Tiles t b c ys
 tiles_split t a b c [] ys h k = subst (λ x. Tiles t x c ys) (sym k) h
 tiles_split t a b c (x ∷ xs) ys h k = tiles_split t (entry_end x) b c xs ys h.2 k.2
-
-pub tiles_taken : (t a b q n m : ℕ) (xs ys : List Entry) → n ≡ length xs + m → Tiles t a q (take n (xs ++ ys)) → Tiles t a b xs → Tiles t b q (take m ys)
-tiles_taken t a b q n m [] ys l h k = let same : n ≡ m = omega (arith, l) in subst (λ x. Tiles t x q (take m ys)) (sym k) (subst (λ x. Tiles t a q (take x ys)) same h)
-tiles_taken t a b q zero m (x ∷ xs) ys l h k = absurd (omega arith)
-tiles_taken t a b q (suc n) m (x ∷ xs) ys l h k = tiles_taken t (entry_end x) b q n m xs ys (omega arith) h.2 k.2
-
-pub tiles_from : (t p tail : ℕ) (es : List Entry) → Tiles t p tail es → AllByRecursion (λ e. p ≤ e.start) es
-tiles_from t p tail [] h = tt
-tiles_from t p tail (e ∷ es) h = (omega (arith, h.0), all_weaker (λ x. entry_end e ≤ x.start) (λ x. p ≤ x.start) (λ x b. omega (arith, h.0)) es (tiles_from t (entry_end e) tail es h.2))
-
--- where the entry behind the first ones stands
-pub start_at : (t p tail q n : ℕ) (es : List Entry) (e : Entry) → Tiles t p tail es → Tiles t p q (take n es) → slice_get es n ≡ Some e → e.start ≡ q
-start_at t p tail q n [] e h k g = absurd (cc)
-start_at t p tail q zero (d ∷ es) e h k g = let same : d ≡ e = some_is d e g in ap (λ x. x.start) (sym same) ∙ h.0 ∙ sym k
-start_at t p tail q (suc n) (d ∷ es) e h k g = start_at t (entry_end d) tail q n es e h.2 k.2 g
-
-pub term_at : (t p tail n : ℕ) (es : List Entry) (e : Entry) → Tiles t p tail es → slice_get es n ≡ Some e → InOneTerm t e.start (entry_end e)
-term_at t p tail n [] e h g = absurd (cc)
-term_at t p tail zero (d ∷ es) e h g = subst (λ x. InOneTerm t x.start (entry_end x)) (some_is d e g) (subst (λ s. InOneTerm t s (entry_end d)) (sym h.0) h.1)
-term_at t p tail (suc n) (d ∷ es) e h g = term_at t (entry_end d) tail n es e h.2 g
-
-pub end_within : (t p tail n : ℕ) (es : List Entry) (e : Entry) → Tiles t p tail es → slice_get es n ≡ Some e → entry_end e ≤ tail
-end_within t p tail n [] e h g = absurd (cc)
-end_within t p tail zero (d ∷ es) e h g = subst (λ x. entry_end x ≤ tail) (some_is d e g) (tiles_le t (entry_end d) tail es h.2)
-end_within t p tail (suc n) (d ∷ es) e h g = end_within t (entry_end d) tail n es e h.2 g
-
--- the entries that were passed are those below
-pub passed_front : (t p tail q n : ℕ) (es : List Entry) → Tiles t p tail es → Tiles t p q (take n es) → AllByRecursion (λ e. is_whole e ≡ true) (take n es) → AllByRecursion (λ e. e.start < q → is_whole e ≡ true) es
-passed_front t p tail q n [] h k w = tt
-passed_front t p tail q zero (e ∷ es) h k w = all_weaker (λ x. p ≤ x.start) (λ x. x.start < q → is_whole x ≡ true) (λ x b l. absurd (omega (arith, k))) (e ∷ es) (tiles_from t p tail (e ∷ es) h)
-passed_front t p tail q (suc n) (e ∷ es) h k w = ((λ _. w.0), passed_front t (entry_end e) tail q n es h.2 k.2 w.1)
 
 -- one entry is changed at its place
 pub tiles_set : (t p tail n : ℕ) (es : List Entry) (e f : Entry) → slice_get es n ≡ Some e → f.start ≡ e.start → entry_end f ≡ entry_end e → Tiles t p tail es → Tiles t p tail (slice_set es n f)
@@ -150,47 +120,10 @@ tiles_set t p tail zero (d ∷ es) e f g s x h =
     (start ∙ h.0, subst (λ y. InOneTerm t p y) (sym end) h.1, subst (λ y. Tiles t y tail es) (sym end) h.2)
 tiles_set t p tail (suc n) (d ∷ es) e f g s x h = (h.0, h.1, tiles_set t (entry_end d) tail n es e f g s x h.2)
 
--- ---- committed frames
-
-pub frame_among : (es : List Entry) (n : ℕ) (e : Entry) (f : Frame) → slice_get es n ≡ Some e → e.frames ≡ f ∷ [] → Among (record { at = e.start; frame = f }) (committed es)
-frame_among [] n e f g h = absurd (cc)
-frame_among (d ∷ es) zero e f g h =
-    let same : e ≡ d = sym (some_is d e g) in
-    let frames : d.frames ≡ f ∷ [] = ap (λ x. x.frames) (sym same) ∙ h in
-    let start : e.start ≡ d.start = ap (λ x. x.start) same in
-    among_left (record { at = e.start; frame = f }) (place_all d.start d.frames) (committed es)
-    (subst (λ fs. Among (record { at = e.start; frame = f }) (place_all d.start fs)) (sym frames) (inl (ap (λ x. record { at = x; frame = f }) start)))
-frame_among (d ∷ es) (suc n) e f g h = among_right (record { at = e.start; frame = f }) (place_all d.start d.frames) (committed es) (frame_among es n e f g h)
-
--- a frame begins below the end of its entry
-begins_below : (p : ℕ) (cuts : List ℕ) (fs : List Frame) → AreCut cuts fs → AllByRecursion (λ cut. 0 < cut) cuts → AllByRecursion (λ s. s.at < p + span cuts) (place_all p fs)
-begins_below p cuts [] h k = tt
-begins_below p [] (f ∷ fs) h k = absurd h
-begins_below p (cut ∷ cuts) (f ∷ fs) h k =
-    let same : aligned (frame_length f) ≡ aligned cut = ap aligned h.0 in
-    let rest : AllByRecursion (λ s. s.at < p + aligned (frame_length f) + span cuts) (place_all (p + aligned (frame_length f)) fs) = begins_below (p + aligned (frame_length f)) cuts fs h.1 k.1 in
-    let ends : p + aligned (frame_length f) + span cuts ≡ p + (aligned cut + span cuts) = omega (arith, same) in
-    (omega (arith, k.0), subst (λ x. AllByRecursion (λ s. s.at < x) (place_all (p + aligned (frame_length f)) fs)) ends rest)
-
--- no frame stands where the next entry is open, or behind the last one
-pub none_at : (t p tail q n : ℕ) (es : List Entry) → Tiles t p tail es → AllByRecursion IsEntry es → Tiles t p q (take n es) → ((e : Entry) → slice_get es n ≡ Some e → e.frames ≡ []) → (s : Placed) → Among s (committed es) → s.at ≡ q → ⊥
-none_at t p tail q n [] h a k unset s m at = absurd m
-none_at t p tail q zero (e ∷ es) h a k unset s m at =
-    let none : e.frames ≡ [] = unset e refl in
-    ⊎_elim
-    (λ (here : Among s (place_all e.start e.frames)). absurd (subst (λ fs. Among s (place_all e.start fs)) none here))
-    (λ (later : Among s (committed es)).
-    let above : entry_end e ≤ s.at = in_order_from (entry_end e) (committed es) s (committed_in_order t (entry_end e) tail es h.2 a.1) later in
-    absurd (omega (arith, a.0.long, h.0, k)))
-    (among_cases s (place_all e.start e.frames) (committed es) m)
-none_at t p tail q (suc n) (e ∷ es) h a k unset s m at =
-    let far : entry_end e ≤ q = tiles_le t (entry_end e) q (take n es) k.2 in
-    ⊎_elim
-    (λ (here : Among s (place_all e.start e.frames)).
-    let low : s.at < entry_end e = all_at (λ x. x.at < entry_end e) s (place_all e.start e.frames) (begins_below e.start e.cuts e.frames (are_cut e.padding e.cuts e.frames a.0.frames) a.0.cuts) here in
-    absurd (omega arith))
-    (λ (later : Among s (committed es)). none_at t (entry_end e) tail q n es h.2 a.1 k.2 unset s later at)
-    (among_cases s (place_all e.start e.frames) (committed es) m)
+-- entries that begin below a position and are no longer than this end near it
+pub tiles_near : (t a b to long : ℕ) (es : List Entry) → Tiles t a b es → AllByRecursion (λ e. e.start < to) es → AllByRecursion (λ e. length_of e ≤ long) es → b ≤ max a (to + long)
+tiles_near t a b to long [] h low short = omega (arith, h)
+tiles_near t a b to long (e ∷ es) h low short = omega (arith, low.0, short.0, tiles_near t (entry_end e) b to long es h.2 low.1 short.1)
 
 -- ---- drafts
 

@@ -1,5 +1,6 @@
 pub mod Books
 pub mod Faults
+pub mod Lending
 pub mod Limits
 pub mod Log
 pub mod Passes

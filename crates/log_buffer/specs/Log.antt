@@ -1,15 +1,16 @@
 -- What a contract sees of a log, and how its calls change it.
-use Rattle.std.specs.Prelude.{◌≡◌, ℕ, ◌+◌, ◌-◌, ◌*◌, ◌/◌, ◌%◌, ◌^◌, ◌<◌, ◌≤◌, Bool, true, false, List, [], ◌∷◌, ◌++◌, length, drop, replicate, min, max, nat_eq, nat_le, nat_lt, ◌&&◌, if◌then◌else◌, Option, None, Some, slice_get, slice_index, slice_index_or, slice_set, sum}
+use Rattle.std.specs.Prelude.{◌≡◌, ℕ, ◌+◌, ◌-◌, ◌*◌, ◌/◌, ◌%◌, ◌^◌, ◌<◌, ◌≤◌, Bool, true, false, List, [], ◌∷◌, ◌++◌, length, drop, replicate, min, max, nat_eq, nat_le, nat_lt, ◌&&◌, if◌then◌else◌, Option, None, Some, slice_index, slice_set, sum}
 use Rattle.std.specs.List.{AllByRecursion}
-use Rattle.theory.specs.Position.{IsGeometry, aligned, greatest_claim, max_position}
-use Rattle.theory.specs.Placed.{Frame}
-use Rattle.theory.specs.Entry.{Entry, IsEntry}
+use Rattle.theory.specs.Position.{IsGeometry, aligned, framed_length, greatest_claim, max_position}
+use Rattle.theory.specs.Placed.{Frame, IsReached}
+use Rattle.theory.specs.Entry.{Entry, IsEntry, committed, length_of}
 use Rattle.theory.specs.Messages.{is_whole}
 use Rattle.theory.specs.Tiling.{Tiles}
 use Rattle.theory.specs.Bytes.{Identity, IsIdentity}
 use Rattle.theory.specs.Words.{id_before, tail_word}
 use Rattle.raw_tails.specs.Tails.{behind}
-use Rattle.term_buffer.specs.Kept.{claim_of, frame_of, padded, published, rest_of, with_share}
+use Rattle.term_buffer.specs.Kept as kept
+use Rattle.term_buffer.specs.Kept.{Kept, blank_for, cuts_in, padded, published, with_share}
 use Rattle.term_buffer.specs.declared.claimed.Claimed.{Claimed}
 
 pub record Log : Type 0 where
@@ -36,7 +37,7 @@ pub record Log : Type 0 where
   pub first : ℕ
   -- those that are kept
   pub entries : List Entry
-  -- for each of them what its frame holds behind its first word, as long as it is open; nothing once it is committed
+  -- for each of them what its first open frame holds behind its first word; nothing once all are committed
   pub drafts : List (List ℕ)
 
 abbrev pub term_of : Log → ℕ
@@ -64,6 +65,31 @@ fresh identity start consumers = record {
   drafts = [];
 }
 
+-- its entries and their bytes
+abbrev pub kept_of : Log → Kept
+kept_of l = record {
+  identity = l.identity;
+  start = l.start;
+  tail = l.tail;
+  shares = l.shares;
+  cleaned = l.cleaned;
+  gone = l.gone;
+  first = l.first;
+  entries = l.entries;
+  drafts = l.drafts;
+}
+
+abbrev pub with_kept : Log → Kept → Log
+with_kept l k = record l {
+  tail = k.tail;
+  shares = k.shares;
+  cleaned = k.cleaned;
+  gone = k.gone;
+  first = k.first;
+  entries = k.entries;
+  drafts = k.drafts;
+}
+
 -- ---- words
 
 -- the limit, and 1 where the log is connected, and 2 where it is closed
@@ -88,14 +114,9 @@ may_arm l count limit = nat_eq count l.newest && nat_lt (offset_of l count) (ter
 abbrev pub looked : Log → ℕ → ℕ → ℕ → Log
 looked l by count limit = if may_arm l count limit then record l { armed = slice_set l.armed by (Some (count % 3)) } else l
 
--- an entry of one frame at the tail
+-- an entry at the tail, for a message of this many bytes or a padding of this frame length
 abbrev pub with_claim : Log → ℕ → Bool → ℕ → Log
-with_claim l by padding frame_length = record l {
-  tail = l.tail + aligned frame_length;
-  shares = with_share l.shares by (aligned frame_length);
-  entries = l.entries ++ claim_of l.tail by padding frame_length ∷ [];
-  drafts = l.drafts ++ replicate (aligned frame_length - 8) 0 ∷ [];
-}
+with_claim l by padding size = with_kept l (kept.with_claim (kept_of l) by padding size)
 
 -- a publisher has added to the tail of a partition, and may add no more
 abbrev pub added : Log → ℕ → ℕ → ℕ → Log
@@ -105,23 +126,23 @@ added l by partition covered = record l { offsets = slice_set l.offsets partitio
 abbrev pub room_in : Log → ℕ → ℕ
 room_in l partition = term_of l - slice_index l.offsets partition
 
--- what an addition for a frame of this length takes: that frame's bytes, or the rest of the term for a padding, or nothing
+-- what an addition for a message of this many bytes takes: its frames' bytes, or the rest of the term for a padding, or nothing
 abbrev pub taken_of : Log → ℕ → ℕ → Option (Bool × ℕ)
-taken_of l partition frame_length =
+taken_of l partition bytes =
     if nat_eq (room_in l partition) 0 then None
-    else (if nat_le (aligned frame_length) (room_in l partition) then Some (false, frame_length) else Some (true, room_in l partition))
+    else (if nat_le (framed_length l.identity.geometry bytes) (room_in l partition) then Some (false, bytes) else Some (true, room_in l partition))
 
 abbrev pub with_taken : Log → ℕ → Option (Bool × ℕ) → Log
 with_taken l by None = l
 with_taken l by (Some taken) = with_claim l by taken.0 taken.1
 
 abbrev pub after_add : Log → ℕ → ℕ → ℕ → Log
-after_add l by partition frame_length = with_taken (added l by partition (aligned frame_length)) by (taken_of l partition frame_length)
+after_add l by partition bytes = with_taken (added l by partition (framed_length l.identity.geometry bytes)) by (taken_of l partition bytes)
 
 -- the claim of what was taken
 abbrev pub claimed_of : Log → ℕ → Option (Bool × ℕ) → Option Claimed
 claimed_of l by None = None
-claimed_of l by (Some taken) = Some (record { number = l.gone + length l.entries; start = l.tail; frame_length = taken.1; owner = by; padding = taken.0 })
+claimed_of l by (Some taken) = Some (record { number = l.gone + length l.entries; start = l.tail; size = taken.1; owner = by; padding = taken.0; frame = 0 })
 
 -- ---- rotation
 
@@ -141,36 +162,48 @@ exchanged l count seen = if nat_eq (raw_tail l ((count + 1) % 3)) seen then turn
 abbrev pub counted : Log → ℕ → Log
 counted l count = record l { active = if nat_eq l.active count then count + 1 else l.active }
 
--- ---- a claim that isn't committed
+-- ---- a claim with frames that aren't committed
 
--- the place, among the kept entries, of the entry with this number
-abbrev pub place_of : Log → ℕ → ℕ
-place_of l number = number - l.gone
+-- as many of its frames as it says are committed, and one more isn't
+abbrev pub IsOpen : Log → Claimed → Type 0
+IsOpen l c = kept.IsOpen (kept_of l) c
 
-pub record IsOpen (l : Log) (c : Claimed) : Type 0 where
-  pub kept : l.gone ≤ c.number
-  pub entry : slice_get l.entries (place_of l c.number) ≡ Some (claim_of c.start c.owner c.padding c.frame_length)
-
--- what its frame holds behind the first word
+-- what its next frame holds behind the first word
 abbrev pub draft_of : Log → Claimed → List ℕ
-draft_of l c = slice_index_or l.drafts (place_of l c.number) []
+draft_of l c = kept.draft_of (kept_of l) c
 
 abbrev pub with_draft : Log → Claimed → List ℕ → Log
-with_draft l c draft = record l { drafts = slice_set l.drafts (place_of l c.number) draft }
+with_draft l c draft = with_kept l (kept.with_draft (kept_of l) c draft)
 
 -- the frame that it becomes
 abbrev pub drafted : Log → Claimed → Frame
-drafted l c = frame_of c.padding c.frame_length (draft_of l c)
+drafted l c = kept.drafted (kept_of l) c
 
 -- the frame is written, but for its first word
 abbrev pub IsDrafted : Log → Claimed → Type 0
-IsDrafted l c = draft_of l c ≡ rest_of l.identity c.start (drafted l c)
+IsDrafted l c = kept.IsDrafted (kept_of l) c
 
 abbrev pub with_commit : Log → Claimed → Frame → Log
-with_commit l c f = record l {
-  entries = slice_set l.entries (place_of l c.number) (record (claim_of c.start c.owner c.padding c.frame_length) { frames = f ∷ [] });
-  drafts = slice_set l.drafts (place_of l c.number) [];
-}
+with_commit l c f = with_kept l (kept.with_commit (kept_of l) c f)
+
+-- nothing of it is committed, and it has one frame
+abbrev pub MayAbort : Log → Claimed → Type 0
+MayAbort l c = kept.MayAbort (kept_of l) c
+
+-- a padding's words stand behind its first one
+abbrev pub IsAborted : Log → Claimed → Type 0
+IsAborted l c = kept.IsAborted (kept_of l) c
+
+abbrev pub with_abort : Log → Claimed → Log
+with_abort l c = with_kept l (kept.with_abort (kept_of l) c)
+
+-- a message's claim of which nothing is stored
+pub record IsHeld (l : Log) (c : Claimed) : Type 0 where
+  pub unset : IsOpen l c
+  pub message : c.padding ≡ false
+  pub first : c.frame ≡ 0
+  pub in_stream : c.start < max_position l.identity.geometry
+  pub blank : draft_of l c ≡ blank_for (cuts_in l.identity.geometry c)
 
 -- an entry that is committed whole
 abbrev pub with_entry : Log → Entry → ℕ → Log
@@ -182,7 +215,7 @@ with_entry l e covered = record l {
 }
 
 abbrev pub with_message : Log → ℕ → List ℕ → Log
-with_message l by payload = with_entry l (published l.tail by payload) (aligned (32 + length payload))
+with_message l by message = with_entry l (published l.identity.geometry l.tail by message) (framed_length l.identity.geometry (length message))
 
 abbrev pub with_padding : Log → ℕ → ℕ → Log
 with_padding l by frame_length = with_entry l (padded l.tail by frame_length) (aligned frame_length)
@@ -245,5 +278,10 @@ pub record IsLog (l : Log) : Type 0 where
   pub word : l.cleaned % 8 ≡ 0
   pub consumer_units : AllByRecursion (λ p. p % 32 ≡ 0) l.consumers
   pub consumers_behind : AllByRecursion (λ p. p ≤ l.tail) l.consumers
-  -- nothing is cleaned that a consumer may read, or a resend within three quarters of a term
+  -- committed frames lead to where each consumer stands, and none is passed that isn't committed
+  pub reached : AllByRecursion (λ p. IsReached (committed l.entries) l.first p) l.consumers
+  -- nothing is cleaned that a consumer may read
   pub readable : AllByRecursion (λ p. l.cleaned ≤ clean_end l p) l.consumers
+  -- and no entry is forgotten that a frame lies in within three quarters of a term below a consumer
+  pub short : AllByRecursion (λ e. length_of e ≤ greatest_claim l.identity.geometry) l.entries
+  pub resent : AllByRecursion (λ p. l.first ≤ max l.start (p - 3 * term_of l / 4)) l.consumers

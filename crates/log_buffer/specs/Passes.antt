@@ -1,5 +1,5 @@
 -- What a contract sees of a publisher: its number, and the word calls since its call began.
-use Rattle.std.specs.Prelude.{◌≡◌, ℕ, ◌+◌, ◌%◌, ◌<◌, ◌≤◌, ◌⊎◌, List, [], ◌∷◌, ◌++◌, length, map, slice_index}
+use Rattle.std.specs.Prelude.{◌≡◌, ℕ, ◌+◌, ◌%◌, ◌<◌, ◌≤◌, ◌⊎◌, List, [], ◌∷◌, ◌++◌, length, map, All, slice_index}
 use Rattle.std.specs.List.{flat_map}
 use Rattle.theory.specs.Position.{Geometry, id_of}
 use Rattle.theory.specs.Placed.{Among}
@@ -12,6 +12,8 @@ pub record Pass : Type 0 where
   pub number : ℕ
   -- the word calls of the call that it makes, in order
   pub steps : List Step
+  -- the bytes of its block, for claims
+  pub bytes : List ℕ
 
 abbrev pub with_step : Pass → Step → Pass
 with_step p s = record p { steps = p.steps ++ s ∷ [] }
@@ -20,6 +22,10 @@ with_step p s = record p { steps = p.steps ++ s ∷ [] }
 pub record AreAll (passes : List Pass) : Type 0 where
   pub eight : length passes ≡ 8
   pub each : (k : ℕ) → k < 8 → slice_index (map (λ p. p.number) passes) k ≡ k
+
+-- each of them has a block of so many bytes
+abbrev pub HaveBlocks : ℕ → List Pass → Type 0
+HaveBlocks mtu passes = All (λ p. length p.bytes ≡ mtu) passes
 
 -- what a word call saw
 abbrev pub sights_in : Step → List Sight

@@ -1,11 +1,10 @@
 -- What holds of a log's parts between two calls.
-use Rattle.std.specs.Prelude.{◌≡◌, ℕ, ◌+◌, ◌-◌, ◌*◌, ◌/◌, ◌%◌, ◌^◌, ◌<◌, ◌≤◌, ⊤, Bool, true, List, [], ◌∷◌, length, Option, None, Some, nat_eq, if◌then◌else◌, slice_get, slice_index}
+use Rattle.std.specs.Prelude.{◌≡◌, ℕ, ◌+◌, ◌*◌, ◌/◌, ◌%◌, ◌^◌, ◌<◌, ◌≤◌, ⊤, Bool, List, [], ◌∷◌, length, drop, Option, None, Some, nat_eq, if◌then◌else◌, slice_get, slice_index}
 use Rattle.std.specs.List.{AllByRecursion}
-use Rattle.theory.specs.Position.{aligned, greatest_claim}
+use Rattle.theory.specs.Position.{greatest_claim}
 use Rattle.theory.specs.Entry.{Entry}
-use Rattle.theory.specs.Messages.{is_whole}
 use Rattle.raw_tails.specs.Tails.{Tails, behind}
-use Rattle.term_buffer.specs.Kept.{Kept}
+use Rattle.term_buffer.specs.Kept.{Kept, blank_for}
 use Rattle.log_buffer.specs.Log.{IsLog, Log, term_of}
 
 -- the log that the parts show
@@ -40,9 +39,10 @@ armed_on p (Some q ∷ rest) = (if nat_eq p q then 1 else 0) + armed_on p rest
 abbrev pub IsUsed : Log → ℕ → Type 0
 IsUsed l p = l.start / term_of l + behind l.newest p ≤ l.newest
 
--- an open entry of one cut has a frame's length, and its draft is as long as that frame behind its first word
-abbrev pub IsUnset : Entry → List ℕ → Type 0
-IsUnset e draft = (cut : ℕ) → e.cuts ≡ cut ∷ [] → e.frames ≡ [] → (32 ≤ cut) × (length draft ≡ aligned cut - 8)
+-- its frames have the lengths of headers at least, and the draft is as long as the next one behind its first word
+pub record IsUnset (e : Entry) (draft : List ℕ) : Type 0 where
+  pub units : AllByRecursion (λ cut. 32 ≤ cut) e.cuts
+  pub size : length draft ≡ length (blank_for (drop (length e.frames) e.cuts))
 
 abbrev pub AreUnset : List Entry → List (List ℕ) → Type 0
 AreUnset [] drafts = ⊤
@@ -61,6 +61,4 @@ pub record IsState (l : Log) (t : Tails) (consumer_count : ℕ) : Type 0 where
   -- no addition can carry into the id of a raw tail
   pub overshoot : (p : ℕ) → p < 3 → slice_index l.offsets p + greatest_claim l.identity.geometry * armed_on p l.armed ≤ term_of l + 8 * greatest_claim l.identity.geometry
   pub used : (k p : ℕ) → slice_get l.armed k ≡ Some (Some p) → (p < 3) × IsUsed l p
-  -- what a consumer has passed is committed
-  pub passed : AllByRecursion (λ p. AllByRecursion (λ e. e.start < p → is_whole e ≡ true) l.entries) l.consumers
   pub unset : AreUnset l.entries l.drafts

@@ -3,11 +3,12 @@
 ghost use Rattle.std.specs.Prelude.{◌≡◌, ◌+◌, ◌*◌, ◌%◌, ◌<◌, ◌≤◌, ◌^◌, true, length, slice_index};
 ghost use Rattle.theory.specs.Position.{greatest_claim};
 ghost use Rattle.log_buffer.specs.Limits.{least};
-ghost use Rattle.log_buffer.specs.Log.{Cleans, IsLeast, IsLog, clean_end, term_of};
+ghost use Rattle.log_buffer.specs.Log.{Cleans, IsHeld, IsLeast, IsLog, clean_end, term_of};
 ghost use Rattle.log_buffer.specs.Reader.{IsAt, Reader};
 
 use crate::state::LogState;
 use crate::turns::Limit;
+use term_buffer::Claimed;
 
 impl LogState {
     /// How many consumers the log has, 1 to 8.
@@ -60,6 +61,7 @@ impl LogState {
         requires below { self.old.cleaned + 8 ≤ clean_end self.old lowest }
         ensures cleaned { Cleans self.old (self.old.cleaned + 8) self.new }
         ensures readers { (r : Reader) → IsAt self.old r → IsAt self.new r }
+        ensures claims { (c : Claimed) → IsHeld self.old c → IsHeld self.new c }
     {
         self.buffer.clean();
     }
@@ -86,6 +88,7 @@ impl LogState {
         requires for_good { self.old.closed ≡ true → limit.closed ≡ true }
         ensures stored { self.new ≡ record self.old { limit = limit.position; connected = limit.connected; closed = limit.closed } }
         ensures readers { (r : Reader) → IsAt self.old r → IsAt self.new r }
+        ensures claims { (c : Claimed) → IsHeld self.old c → IsHeld self.new c }
     {
         self.limit = limit.position;
         self.connected = limit.connected;

@@ -19,7 +19,6 @@ pub use book::{Book, close};
 pub use fault::LogError;
 pub use passes::{CONSUMERS, Keeper, LogReader, MOST_STEPS, Parts, Publisher};
 pub use raw_tails::RawTail;
-pub use reader::{advance, next};
 pub use state::LogState;
 pub use step::Step;
 pub use term_buffer::{Claimed, PUBLISHERS};

@@ -1,48 +1,43 @@
-ghost use Rattle.std.specs.Prelude.{◌≡◌, ◌+◌, ◌*◌, ◌≤◌, length, IfSome, IfNone, slice_set};
-ghost use Rattle.theory.specs.Position.{aligned, IsGeometry};
-ghost use Rattle.theory.specs.Placed.{Among, Placed};
-ghost use Rattle.theory.specs.Entry.{committed};
+//! The word calls of a reader: a frame's words, and its own position.
+
+ghost use Rattle.std.specs.Prelude.{◌≡◌, ◌<◌, ◌≤◌, length, IfSome, IfNone, slice_set};
+ghost use Rattle.theory.specs.Position.{IsGeometry};
 ghost use Rattle.term_buffer.specs.Heads.{IsStreamFrame};
-ghost use Rattle.log_buffer.specs.Reader.{IsAt, Reader, Reads};
+ghost use Rattle.log_buffer.specs.Log.{IsHeld, IsLog};
+ghost use Rattle.log_buffer.specs.Reader.{IsAt, Moves, Reader, Reads, ReadsNone, before_move};
 
 use crate::passes::LogReader;
 use crate::state::LogState;
 use block::Block;
-use position::{FrameHead, align32};
+use position::FrameHead;
+use term_buffer::Claimed;
 
-/// Reads the committed frame at the reader's position: its payload is copied to the block's front, and the reader
-/// stays. There is none where the next frame isn't committed.
-pub fn next(log: &LogState, reader: &mut LogReader, block: &mut Block) -> Option<FrameHead>
-    requires room { log.now.identity.geometry.mtu ≤ length block.old }
-    requires at { IsAt log.now reader.old }
-    ensures same_length { length block.new ≡ length block.old }
-    ensures here { IfSome result (λ head. head.start ≡ reader.old.position) }
-    ensures head { IfSome result (IsStreamFrame log.now.identity.geometry) }
-    ensures frame { IfSome result (λ head. Reads log.now reader.old head block.old block.new) }
-    ensures read { IfSome result (λ head. reader.new ≡ record reader.old { read_to = head.start + aligned head.frame_length }) }
-    ensures stays { IsAt log.now reader.new }
-    ensures none { IfNone result (reader.new ≡ reader.old) }
-    ensures untouched { IfNone result (block.new ≡ block.old) }
-    ensures nothing { IfNone result ((s : Placed) → Among s (committed log.now.entries) → s.at ≡ reader.old.position → ⊥) }
-    ensures legal { IsGeometry log.now.identity.geometry }
-{
-    let head = log.buffer.read(reader.index(), block)?;
-    reader.note_read(head.start + u64::from(align32(head.frame_length)));
-    Some(head)
-}
+impl LogState {
+    /// Loads the frame that is committed at a position: a message's part is copied to the block's front. There is none
+    /// where no frame is committed that begins there.
+    pub fn load_frame(&self, position: u64, block: &mut Block) -> Option<FrameHead>
+        requires room { self.now.identity.geometry.mtu ≤ length block.old }
+        ensures same_length { length block.new ≡ length block.old }
+        ensures here { IfSome result (λ head. head.start ≡ position) }
+        ensures head { IfSome result (IsStreamFrame self.now.identity.geometry) }
+        ensures frame { IfSome result (λ head. Reads self.now position head block.old block.new) }
+        ensures untouched { IfNone result (block.new ≡ block.old) }
+        ensures nothing { IfNone result (ReadsNone self.now position) }
+        ensures legal { IsLog self.now }
+    {
+        self.buffer.read(position, block)
+    }
 
-/// Moves the reader past the frame that it read since it last moved. The answer is its new position.
-pub fn advance(log: &mut LogState, reader: &mut LogReader) -> u64
-    requires at { IsAt log.old reader.old }
-    requires read { reader.old.position + 32 ≤ reader.old.read_to }
-    ensures log { log.new ≡ record log.old { consumers = slice_set log.old.consumers reader.old.number reader.old.read_to } }
-    ensures moved { reader.new ≡ record reader.old { position = reader.old.read_to; index = reader.old.index + 1 } }
-    ensures position { result ≡ reader.new.position }
-    ensures stands { IsAt log.new reader.new }
-    ensures others { (r : Reader) → IsAt log.old r → (r.number ≡ reader.old.number → ⊥) → IsAt log.new r }
-{
-    reader.step();
-    let position = reader.position();
-    log.consumers[reader.number()] = position;
-    position
+    /// Stores the position of a reader that has moved past one committed frame.
+    pub fn store_consumer(&mut self, reader: &LogReader)
+        requires at { IsAt self.old (before_move self.old reader.now) }
+        requires moves { Moves self.old (before_move self.old reader.now) reader.now.position }
+        requires settled { reader.now.read_to ≡ reader.now.position }
+        ensures log { self.new ≡ record self.old { consumers = slice_set self.old.consumers reader.now.number reader.now.position } }
+        ensures stands { IsAt self.new reader.now }
+        ensures others { (r : Reader) → IsAt self.old r → (r.number ≡ reader.now.number → ⊥) → IsAt self.new r }
+        ensures claims { (c : Claimed) → IsHeld self.old c → IsHeld self.new c }
+    {
+        self.consumers[reader.number()] = reader.position();
+    }
 }

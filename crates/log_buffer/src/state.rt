@@ -39,7 +39,7 @@ impl Model for LogState {
 
 impl LogState {
     ghost use Rattle.log_buffer.specs.Log.{IsLog, fresh};
-    ghost use Rattle.log_buffer.specs.Passes.{AreAll};
+    ghost use Rattle.log_buffer.specs.Passes.{AreAll, HaveBlocks};
     ghost use Rattle.log_buffer.specs.Reader.{AreReaders, IsAt};
 
     /// A log at a start, unconnected, with its limit at the start, and its passes. The start is judged first, then
@@ -55,6 +55,7 @@ impl LogState {
         ensures log { IfOk result (λ r. r.0 ≡ fresh (record { geometry = geometry; session = session; stream = stream }) start consumers) }
         ensures below { IfOk result (λ r. r.0.start < max_position r.0.identity.geometry) }
         ensures publishers { IfOk result (λ r. AreAll r.1.publishers.items) }
+        ensures blocks { IfOk result (λ r. HaveBlocks geometry.mtu r.1.publishers.items) }
         ensures readers { IfOk result (λ r. AreReaders r.1.readers.items start consumers) }
         ensures count { IfOk result (λ r. vec_len r.1.readers ≡ consumers) }
         ensures at_start { IfOk result (λ r. All (λ reader. (reader.position ≡ r.0.start) × (reader.read_to ≡ r.0.start)) r.1.readers.items) }
@@ -71,7 +72,7 @@ impl LogState {
             return Err(LogError::Consumers);
         }
         let buffer = TermBuffer::open(alloc, geometry, session, stream, start)?;
-        let parts = Parts::new(alloc, start, consumers)?;
+        let parts = Parts::new(alloc, geometry.mtu() as usize, start, consumers)?;
         Ok((LogState::begun(buffer, start, consumers), parts))
     }
 

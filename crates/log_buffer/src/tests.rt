@@ -67,7 +67,7 @@ fn opens(rt: HostRuntime) -> Result<(), Fail> {
     let limit = log.load_limit(&mut publishers[3]);
     let count = log.load_count(&mut publishers[3]);
     let tail = log.load_tail(&mut publishers[3], count, limit.position);
-    let head = next(&log, &mut readers[1], &mut block);
+    let head = log.load_frame(readers[1].position(), &mut block);
     let places = [
         log.start(),
         log.tail(),

@@ -1,10 +1,10 @@
 //! The word calls of a publisher: loads, additions and exchanges of the limit, the count and the raw tails.
 
-ghost use Rattle.std.specs.Prelude.{◌≡◌, IfSome, ℕ, ◌+◌, ◌-◌, ◌*◌, ◌/◌, ◌%◌, ◌<◌, ◌≤◌, ◌↔◌, ◌^◌, Some, length, slice_get, slice_index};
-ghost use Rattle.theory.specs.Position.{aligned, greatest_claim, id_of};
+ghost use Rattle.std.specs.Prelude.{◌≡◌, false, IfSome, ℕ, ◌+◌, ◌-◌, ◌*◌, ◌/◌, ◌%◌, ◌<◌, ◌≤◌, ◌↔◌, ◌^◌, Some, length, slice_get, slice_index};
+ghost use Rattle.theory.specs.Position.{framed_length, greatest_claim, id_of, max_message};
 ghost use Rattle.theory.specs.Refusal.{is_closed, is_connected, limit_in};
 ghost use Rattle.theory.specs.Words.{id_before, id_in, offset_in, tail_word};
-ghost use Rattle.log_buffer.specs.Log.{IsFinished, IsLog, IsOpen, after_add, claimed_of, counted, exchanged, limit_word_of, looked, may_arm, raw_tail, taken_of, term_of};
+ghost use Rattle.log_buffer.specs.Log.{IsFinished, IsHeld, IsLog, IsOpen, after_add, claimed_of, counted, exchanged, limit_word_of, looked, may_arm, raw_tail, taken_of, term_of};
 ghost use Rattle.log_buffer.specs.Passes.{with_step};
 ghost use Rattle.log_buffer.specs.Reader.{IsAt, Reader};
 ghost use Rattle.log_buffer.specs.declared.step.Step.TheVariants as steps;
@@ -12,7 +12,7 @@ ghost use Rattle.log_buffer.specs.declared.step.Step.TheVariants as steps;
 use crate::passes::Publisher;
 use crate::state::LogState;
 use crate::step::Step;
-use position::{align32, partition_of};
+use position::partition_of;
 use raw_tails::RawTail;
 use term_buffer::Claimed;
 
@@ -30,7 +30,7 @@ pub struct Limit {
 pub struct Added {
     /// The raw tail before it.
     pub before: RawTail,
-    /// What it claimed: the frame that was asked for, or where that didn't fit a padding up to the term's end, or
+    /// What it claimed: the message that was asked for, or where that didn't fit a padding up to the term's end, or
     /// nothing where the term was used up.
     pub claimed: Option<Claimed>,
 }
@@ -92,6 +92,7 @@ impl LogState {
         ensures looked { self.new ≡ looked self.old publisher.old.number count limit }
         ensures legal { IsLog self.new }
         ensures readers { (r : Reader) → IsAt self.old r → IsAt self.new r }
+        ensures claims { (c : Claimed) → IsHeld self.old c → IsHeld self.new c }
     {
         let partition = partition_of(count);
         let tail = self.tails.tail(partition);
@@ -108,26 +109,28 @@ impl LogState {
         tail
     }
 
-    /// Adds what a frame of this length covers to the raw tail of a count's partition, to which the publisher may add.
-    pub fn add(&mut self, publisher: &mut Publisher, count: u32, frame_length: u32) -> Added
+    /// Adds what a message of this many bytes covers to the raw tail of a count's partition, to which the publisher may
+    /// add.
+    pub fn add(&mut self, publisher: &mut Publisher, count: u32, size: u32) -> Added
         requires few { length publisher.old.steps < 7 }
         requires armed { slice_get self.old.armed publisher.old.number ≡ Some (Some (count % 3)) }
-        requires long { 32 ≤ frame_length }
-        requires short { frame_length ≤ self.old.identity.geometry.mtu }
+        requires short { size ≤ max_message self.old.identity.geometry }
         ensures before { tail_word result.before.term_id result.before.offset ≡ raw_tail self.old (count % 3) }
         ensures offset { result.before.offset ≡ slice_index self.old.offsets (count % 3) }
         ensures shows_id { id_in (raw_tail self.old (count % 3)) ≡ result.before.term_id }
         ensures shows_offset { offset_in (raw_tail self.old (count % 3)) ≡ result.before.offset }
-        ensures step { publisher.new ≡ with_step publisher.old (steps.Addition (count % 3) (aligned frame_length) (raw_tail self.old (count % 3))) }
-        ensures added { self.new ≡ after_add self.old publisher.old.number (count % 3) frame_length }
-        ensures claimed { result.claimed ≡ claimed_of self.old publisher.old.number (taken_of self.old (count % 3) frame_length) }
+        ensures step { publisher.new ≡ with_step publisher.old (steps.Addition (count % 3) (framed_length self.old.identity.geometry size) (raw_tail self.old (count % 3))) }
+        ensures added { self.new ≡ after_add self.old publisher.old.number (count % 3) size }
+        ensures claimed { result.claimed ≡ claimed_of self.old publisher.old.number (taken_of self.old (count % 3) size) }
         ensures unset { IfSome result.claimed (λ claimed. IsOpen self.new claimed) }
+        ensures held { IfSome result.claimed (λ claimed. claimed.padding ≡ false → IsHeld self.new claimed) }
         ensures legal { IsLog self.new }
         ensures readers { (r : Reader) → IsAt self.old r → IsAt self.new r }
+        ensures claims { (c : Claimed) → IsHeld self.old c → IsHeld self.new c }
     {
         let partition = partition_of(count);
         let length = self.buffer.geometry().term_length();
-        let covered = align32(frame_length);
+        let covered = self.buffer.geometry().framed_length(size);
         let before = self.tails.add(partition, covered);
         publisher.note(Step::Addition {
             partition,
@@ -139,7 +142,7 @@ impl LogState {
         let claimed = if before.offset >= length {
             None
         } else if before.offset + covered <= length {
-            Some(self.buffer.claim(owner, false, frame_length))
+            Some(self.buffer.claim(owner, false, size))
         } else {
             Some(self.buffer.claim(owner, true, length - before.offset))
         };
@@ -180,6 +183,7 @@ impl LogState {
         ensures exchanged { self.new ≡ exchanged self.old count (tail_word loaded.term_id loaded.offset) }
         ensures step { publisher.new ≡ with_step publisher.old (steps.TailExchange ((count + 1) % 3) (raw_tail self.old ((count + 1) % 3))) }
         ensures readers { (r : Reader) → IsAt self.old r → IsAt self.new r }
+        ensures claims { (c : Claimed) → IsHeld self.old c → IsHeld self.new c }
     {
         let before = self.tails.exchange_tail(count, loaded);
         publisher.note(Step::TailExchange {
@@ -197,6 +201,7 @@ impl LogState {
         ensures counted { self.new ≡ counted self.old count }
         ensures step { publisher.new ≡ with_step publisher.old (steps.CountExchange self.old.active) }
         ensures readers { (r : Reader) → IsAt self.old r → IsAt self.new r }
+        ensures claims { (c : Claimed) → IsHeld self.old c → IsHeld self.new c }
     {
         let before = self.tails.exchange_count(count);
         publisher.note(Step::CountExchange(before));

@@ -1,11 +1,10 @@
-use Rattle.std.proofs.Common.{◌≡◌, ℕ, zero, suc, [], ◌∷◌, ◌<◌, Bool, true, false, List, get_or, length, map, refl, sym, ap, ◌∙◌, subst, arith, ⊎_elim}
+use Rattle.std.proofs.Common.{◌≡◌, ℕ, zero, suc, [], ◌∷◌, ◌<◌, Bool, true, false, List, get_or, length, map, refl, sym, ap, ◌∙◌, arith, ⊎_elim}
 use Rattle.std.specs.Prelude.{if◌then◌else◌, slice_set, slice_index, Option}
 use Rattle.std.proofs.lemmas.Bool.{cases_eq}
 use Rattle.std.proofs.lemmas.List.{get_or-map, length-map, length-replicate}
 use Rattle.theory.specs.Bytes.{Identity}
 use Rattle.log_buffer.specs.Log.{Log}
 use Rattle.log_buffer.specs.Passes.{AreAll, Pass}
-use Rattle.log_buffer.specs.Reader.{IsAt}
 use Rattle.log_buffer.proofs.Spans.{index_other, index_set, length-set}
 use Rattle.log_buffer.proofs.tests.opens.Goals as goal
 
@@ -32,19 +31,14 @@ again ps k q low all e = record {
       (cases_eq j k);
 }
 
-pub next-head-requires-clause-room : goal.next-head-requires-clause-room
-next-head-requires-clause-room = λ c d.
+pub load_frame-head-requires : goal.load_frame-head-requires
+load_frame-head-requires = λ c d.
     let same : d.load_tail-tail.new.self.identity ≡ d.in_ok-log.log.identity = ap (λ (l : Log). l.identity) d.load_tail-tail.ensures.looked ∙ same_identity _ d.in_ok-log.log _ in
     let opened : d.in_ok-log.log.identity.geometry.mtu ≡ d.in_ok-geometry.geometry.mtu = ap (λ (l : Log). l.identity.geometry.mtu) d.in_ok-log.ensures.log in
     let made : d.in_ok-geometry.geometry.mtu ≡ 1408 = ap (λ g. g.mtu) d.in_ok-geometry.ensures.made in
     let size : length d.in_ok-block.block ≡ 1408 = ap (λ (bs : List ℕ). length bs) d.in_ok-block.ensures ∙ length-replicate {A = ℕ} 1408 0 in
     let all : d.load_tail-tail.new.self.identity.geometry.mtu ≡ 1408 = ap (λ (i : Identity). i.geometry.mtu) same ∙ opened ∙ made in
     omega (arith, all, size)
-
-pub next-head-requires-clause-at : goal.next-head-requires-clause-at
-next-head-requires-clause-at = λ c d.
-    d.load_tail-tail.ensures.readers d.index_mut-5.result.now
-    (subst (IsAt d.in_ok-log.log) (sym d.index_mut-5.ensures.value) (d.in_ok-log.ensures.stand 1 d.index_mut-5.result.now (omega (arith, d.in_ok-log.ensures.count))))
 
 pub load_consumer-requires : goal.load_consumer-requires
 load_consumer-requires = λ c d.
