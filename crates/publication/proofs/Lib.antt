@@ -1,6 +1,2 @@
-pub mod Courses
-pub mod Fills
-pub mod Frames
-pub mod Justified
 pub mod PaddedWords
 pub mod StoredWords

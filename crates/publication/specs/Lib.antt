@@ -1,3 +1,6 @@
+pub mod Claims
+pub mod Lending
 pub mod Looks
 pub mod Offers
 pub mod Refusals
+pub mod Writes

@@ -53,6 +53,7 @@ Saw l by (looks.Open count) seen new =
 -- a pass made one addition to the tail of this count, and then three word calls at the most, of which each exchange is one at the most
 pub record AddsThen (l : Log) (count taken : ℕ) (old new : Pass) : Type 0 where
   pub number : new.number ≡ old.number
+  pub bytes : new.bytes ≡ old.bytes
   pub more : List Step
   pub steps : new.steps ≡ (old.steps ++ steps.Addition (count % 3) taken (raw_tail l (count % 3)) ∷ []) ++ more
   pub few : length more ≤ 3

@@ -1,5 +1,5 @@
 -- Entries: what one addition took of the stream, and the frames of it that are committed.
-use Rattle.std.specs.Prelude.{◌≡◌, ℕ, ◌+◌, ◌<◌, ⊤, Bool, true, false, List, [], ◌∷◌, length, if◌then◌else◌}
+use Rattle.std.specs.Prelude.{◌≡◌, ℕ, ◌+◌, ◌-◌, ◌<◌, ⊤, Bool, true, false, List, [], ◌∷◌, length, take, drop, if◌then◌else◌}
 use Rattle.std.specs.List.{flat_map, AllByRecursion}
 use Rattle.theory.specs.Position.{span}
 use Rattle.theory.specs.Placed.{Data, Frame, Pad, Placed, place_all}
@@ -26,6 +26,11 @@ flags_of first (cut ∷ later) = if first then 128 else 0
 abbrev pub IsPiece : ℕ → ℕ → Frame → Type 0
 IsPiece cut flags (Data f payload) = (f ≡ flags) × (32 + length payload ≡ cut)
 IsPiece cut flags (Pad n) = ⊥
+
+-- a message's frames: its bytes, cut by these frame lengths
+abbrev pub pieces_of : Bool → List ℕ → List ℕ → List Frame
+pieces_of first [] message = []
+pieces_of first (cut ∷ cuts) message = Data (flags_of first cuts) (take (cut - 32) message) ∷ pieces_of false cuts (drop (cut - 32) message)
 
 -- these are the first frames of a message with these cuts
 abbrev pub ArePieces : Bool → List ℕ → List Frame → Type 0
