@@ -1,2 +1,7 @@
+pub mod Added
+pub mod Courses
+pub mod Fills
+pub mod Frames
+pub mod Justified
 pub mod PaddedWords
 pub mod StoredWords

@@ -1,5 +1,4 @@
 pub mod Claims
-pub mod Lending
 pub mod Looks
 pub mod Offers
 pub mod Refusals
