@@ -5,3 +5,4 @@ pub mod Frames
 pub mod Justified
 pub mod PaddedWords
 pub mod StoredWords
+pub mod Writing

@@ -1,48 +1,45 @@
-use Rattle.std.proofs.Common.{rules, ◌≡◌, ◌+◌, ◌-◌, ◌++◌, ◌<◌, ◌≤◌, true, false, IfSome, length, replicate, drop, ℕ, ◌*◌, ◌/◌, ◌%◌, Bool, nat_eq, nat_lt, List, [], ◌∷◌, slice_index_or, slice_set, bit_and, bit_or, Fits, w8, w32, w64, Bor, MutBor}
-use Rattle.theory.specs.Position.{aligned, framed_length, max_payload, max_position}
-use Rattle.theory.specs.Placed.{Data, Pad}
-use Rattle.term_buffer.specs.Kept.{after_next, cuts_in, header_rest, next_flags, next_length, next_start, rest_of}
-use Rattle.log_buffer.specs.Log.{IsHeld, IsOpen, draft_of, with_abort, with_commit, with_draft}
-use Rattle.log_buffer.specs.Reader.{IsAt, Reader}
-use Rattle.publication.specs.Writes.{place_of, with_whole}
+use Rattle.std.proofs.Common.{◌≡◌, ◌<◌, ◌+◌, ℕ, List, length, min, take, drop, Option, subst, ap, ◌∙◌, arith}
+use Rattle.std.proofs.lemmas.Option.{slice_get_within}
+use Rattle.theory.specs.Position.{Geometry, IsGeometry, max_payload}
+use Rattle.term_buffer.specs.declared.claimed.Claimed.{Claimed}
+use Rattle.publication.specs.Writes.{place_of}
+use Rattle.publication.proofs.Writing.{IsWriting, Writes, held_inside, next_blank, next_in_stream, next_length_is, writes_on, writing_begins}
 use Rattle.publication.proofs.frame.write_message.Goals as goal
 
--- src/frame.rt:87:5
+legal : (c : goal.After-write_frame-arg-1) → IsGeometry c.args.log.now.identity.geometry
+legal c = subst (λ (g : Geometry). IsGeometry g) c.geometry.ensures.value c.geometry.ensures.legal
+
+-- how much of what is left the next frame takes
+taken : (c : goal.After-write_frame-arg-1) → c.min.result ≡ min (length c.loop-next.rest.now) (max_payload c.args.log.now.identity.geometry)
+taken c = c.min.ensures ∙ ap (λ (n : ℕ). min (length c.loop-next.rest.now) n) (c.max_payload-most.ensures.value ∙ ap max_payload c.geometry.ensures.value)
+
+writing : (c : goal.After-write_frame-arg-1) → IsWriting c.args.log.now c.args.claimed c.args.message.now c.loop-next.log c.loop-next.rest.now c.in-Some.claimed
+writing c = subst (λ (o : Option Claimed). Writes c.args.log.now c.args.claimed c.args.message.now c.loop-next.log c.loop-next.rest.now o) c.in-Some.is c.loop-next.invariant.writes
+
 pub loop-next-init : goal.loop-next-init
-loop-next-init c = ?
+loop-next-init c = record { writes = writing_begins c.args.log.now c.args.claimed c.args.message.now c.requires.held c.requires.whole; readers = λ r h. h }
 
--- src/frame.rt:89:9
-pub write_frame-next-requires-clause-unset : goal.write_frame-next-requires-clause-unset
-write_frame-next-requires-clause-unset c = ?
-
--- src/frame.rt:89:9
-pub write_frame-next-requires-clause-message : goal.write_frame-next-requires-clause-message
-write_frame-next-requires-clause-message c = ?
-
--- src/frame.rt:89:9
 pub write_frame-next-requires-clause-in_stream : goal.write_frame-next-requires-clause-in_stream
-write_frame-next-requires-clause-in_stream c = ?
+write_frame-next-requires-clause-in_stream c = next_in_stream c.args.log.now c.loop-next.log c.args.claimed c.in-Some.claimed c.args.message.now c.loop-next.rest.now (legal c) c.requires.held.message c.requires.in_stream (writing c)
 
--- src/frame.rt:89:9
 pub write_frame-next-requires-clause-whole : goal.write_frame-next-requires-clause-whole
-write_frame-next-requires-clause-whole c = ?
+write_frame-next-requires-clause-whole c = omega (arith, next_length_is c.args.log.now c.loop-next.log c.args.claimed c.in-Some.claimed c.args.message.now c.loop-next.rest.now (legal c) (writing c), c.split_at.ensures.front_len, taken c)
 
--- src/frame.rt:89:9
 pub write_frame-next-requires-clause-blank : goal.write_frame-next-requires-clause-blank
-write_frame-next-requires-clause-blank c = ?
+write_frame-next-requires-clause-blank c = next_blank c.args.log.now c.loop-next.log c.args.claimed c.in-Some.claimed c.args.message.now c.loop-next.rest.now (legal c) (held_inside c.args.log.now c.args.claimed c.args.message.now (legal c) c.requires.held c.requires.whole) (writing c)
 
--- src/frame.rt:87:5
-pub loop-next-smaller : goal.loop-next-smaller
-loop-next-smaller c = ?
-
--- src/frame.rt:87:5
 pub loop-next-preserved : goal.loop-next-preserved
-loop-next-preserved c = ?
-
--- src/frame.rt:77:1
-pub returns-clause-committed : goal.returns-clause-committed
-returns-clause-committed c = ?
-
--- src/frame.rt:77:1
-pub returns-clause-readers : goal.returns-clause-readers
-returns-clause-readers c = ?
+loop-next-preserved c =
+    let within : place_of c.args.log.now c.args.claimed < length c.args.log.now.entries = slice_get_within c.args.log.now.entries (place_of c.args.log.now c.args.claimed) _ c.requires.held.unset.entry in
+    let same : IsGeometry c.args.log.now.identity.geometry = subst (λ (g : Geometry). IsGeometry g) c.geometry.ensures.value c.geometry.ensures.legal in
+    let size : c.min.result ≡ min (length c.loop-next.rest.now) (max_payload c.args.log.now.identity.geometry) = c.min.ensures ∙ ap (λ (n : ℕ). min (length c.loop-next.rest.now) n) (c.max_payload-most.ensures.value ∙ ap max_payload c.geometry.ensures.value) in
+    let so_far : IsWriting c.args.log.now c.args.claimed c.args.message.now c.loop-next.log c.loop-next.rest.now c.in-Some.claimed = subst (λ (o : Option Claimed). Writes c.args.log.now c.args.claimed c.args.message.now c.loop-next.log c.loop-next.rest.now o) c.in-Some.is c.loop-next.invariant.writes in
+    record {
+      writes =
+          writes_on c.args.log.now c.loop-next.log c.write_frame-next.new.log c.args.claimed c.in-Some.claimed c.args.message.now c.loop-next.rest.now c.split_at.result.0.now c.split_at.result.1.now c.write_frame-next.result
+          same within so_far
+          (c.split_at.ensures.front ∙ ap (λ (n : ℕ). take n c.loop-next.rest.now) size)
+          (c.split_at.ensures.back ∙ ap (λ (n : ℕ). drop n c.loop-next.rest.now) size)
+          c.write_frame-next.ensures.committed c.write_frame-next.ensures.next c.write_frame-next.ensures.still;
+      readers = λ r h. c.write_frame-next.ensures.readers r (c.loop-next.invariant.readers r h);
+    }
