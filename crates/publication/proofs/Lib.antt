@@ -1,4 +1,5 @@
 pub mod Added
+pub mod Apart
 pub mod Courses
 pub mod Fills
 pub mod Frames

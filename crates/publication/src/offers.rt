@@ -123,6 +123,7 @@ fn add_range(
     ensures claimed { IfOk result (λ claimed. (answer_at log.old count size (added_course log.old count size) ≡ Ok (claimed.start + covered log.old size)) × (claimed ≡ claim_at log.old publisher.old.number size)) }
     ensures held { IfOk result (λ claimed. IsHeld log.new claimed) }
     ensures legal_claimed { IfOk result (λ claimed. IsLog log.new) }
+    ensures in_stream { IfOk result (λ claimed. claimed.start + covered log.old size ≤ max_position log.old.identity.geometry) }
     ensures refused { IfErr result (λ refusal. answer_at log.old count size (added_course log.old count size) ≡ Err refusal) }
     ensures after { log.new ≡ after_course log.old publisher.old.number count size (added_course log.old count size) }
     ensures steps { AddsThen log.old count (covered log.old size) publisher.old publisher.new }
