@@ -1,16 +1,16 @@
 -- What an addition to a tail gave, and what is made of it.
-use Rattle.std.specs.Prelude.{◌≡◌, ℕ, ◌+◌, ◌-◌, ◌<◌, ◌≤◌, Bool, true, false, List, [], ◌∷◌, ◌++◌, length, nat_eq, nat_le, replicate, slice_get, slice_index_or, slice_set, Option, Some, None, if◌then◌else◌}
+use Rattle.std.specs.Prelude.{◌≡◌, ℕ, ◌+◌, ◌-◌, Bool, true, false, List, [], ◌∷◌, ◌++◌, length, nat_eq, nat_le, replicate, slice_index_or, slice_set, Option, Some, None, if◌then◌else◌}
 use Rattle.std.proofs.Common.{arith, refl, sym, ap, ◌∙◌, subst}
 use Rattle.std.proofs.Math.Seq.{get_or-append_seam}
 use Rattle.std.proofs.lemmas.List.{set_at}
 use Rattle.std.proofs.lemmas.Bool.{false≢true}
-use Rattle.theory.specs.Position.{Geometry, IsGeometry, aligned, cuts_of, framed_length, span}
+use Rattle.theory.specs.Position.{IsGeometry, aligned, cuts_of, framed_length, span}
 use Rattle.theory.specs.Placed.{Frame, Pad}
-use Rattle.theory.specs.Entry.{Entry, pieces_of}
+use Rattle.theory.specs.Entry.{Entry}
 use Rattle.theory.proofs.Claims.{covers_framed}
-use Rattle.term_buffer.specs.Kept.{blank_for, claim_of, cuts_for, no_entry, padded, published, with_next, with_share}
+use Rattle.term_buffer.specs.Kept.{blank_for, claim_of, cuts_for, no_entry, padded, published, with_next}
 use Rattle.term_buffer.specs.declared.claimed.Claimed.{Claimed}
-use Rattle.log_buffer.specs.Log.{IsLog, Log, added, after_add, claimed_of, draft_of, room_in, taken_of, with_claim, with_commit, with_entry, with_message, with_padding, with_taken}
+use Rattle.log_buffer.specs.Log.{Log, added, after_add, claimed_of, draft_of, room_in, taken_of, with_claim, with_commit, with_entry, with_message, with_padding, with_taken}
 use Rattle.publication.specs.Claims.{claim_at}
 use Rattle.publication.specs.Offers.{covered}
 use Rattle.publication.specs.Writes.{with_whole}

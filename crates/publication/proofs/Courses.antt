@@ -1,10 +1,10 @@
 -- What an active tail with room says of its log.
-use Rattle.std.specs.Prelude.{◌≡◌, ℕ, ◌+◌, ◌-◌, ◌*◌, ◌/◌, ◌%◌, ◌^◌, ◌<◌, ◌≤◌, Bool, true, false, ◌&&◌, List, [], ◌∷◌, ◌++◌, min, nat_eq, nat_le, nat_lt, length, replicate, slice_index, Option, Some, None, if◌then◌else◌, slice_set}
+use Rattle.std.specs.Prelude.{◌≡◌, ℕ, ◌+◌, ◌*◌, ◌/◌, ◌%◌, ◌^◌, ◌<◌, ◌≤◌, Bool, true, false, ◌&&◌, List, [], ◌∷◌, ◌++◌, min, nat_eq, nat_le, nat_lt, length, slice_index, Some, if◌then◌else◌, slice_set}
 use Rattle.std.proofs.Common.{arith, refl, sym, ap, ◌∙◌, subst, ⊎_elim, inl, inr}
 use Rattle.std.proofs.Math.Nat.{mul-le-mul_right}
 use Rattle.theory.specs.Position.{max_position}
-use Rattle.std.proofs.lemmas.List.{get_or-set_same, set_at}
-use Rattle.std.proofs.lemmas.Bool.{false≢true, cases_lt, cond-true, cond-false, eq-eqb, leb-false, le-ltb, lt-ltb, ne_eqb}
+use Rattle.std.proofs.lemmas.List.{get_or-set_same}
+use Rattle.std.proofs.lemmas.Bool.{cases_lt, cond-true, cond-false, eq-eqb, leb-false, le-ltb, lt-ltb, ne_eqb}
 use Rattle.theory.specs.Position.{Geometry, id_of}
 use Rattle.theory.specs.Placed.{Among}
 use Rattle.theory.specs.Words.{id_in, offset_in}

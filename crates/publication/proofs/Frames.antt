@@ -1,5 +1,5 @@
 -- A claim whose draft is written is committed as its frame.
-use Rattle.std.proofs.Common.{◌≡◌, ℕ, zero, suc, ◌+◌, ◌-◌, ◌*◌, ◌<◌, ◌≤◌, ⊎_elim, Bool, true, false, List, [], ◌∷◌, ◌++◌, length, take, drop, replicate, set, get_or, refl, sym, ap, ◌∙◌, subst, arith}
+use Rattle.std.proofs.Common.{◌≡◌, ℕ, zero, suc, ◌+◌, ◌-◌, ◌*◌, ◌<◌, ◌≤◌, ⊎_elim, Bool, true, false, List, [], ◌∷◌, ◌++◌, length, take, drop, replicate, get_or, refl, sym, ap, ◌∙◌, subst, arith}
 use Rattle.std.proofs.lemmas.Bool.{cases_lt}
 use Rattle.std.proofs.lemmas.List.{drop-replicate, get_or_past, length-replicate, set-set, take_at}
 use Rattle.theory.specs.Position.{Geometry, IsGeometry, aligned, max_payload, span}
@@ -9,7 +9,7 @@ use Rattle.theory.specs.Bytes.{Identity}
 use Rattle.theory.proofs.Cuts.{full_cuts, short_cuts, span_before}
 use Rattle.term_buffer.specs.Kept.{blank_for, cuts_for, cuts_in, frame_of, header_rest, next_flags, next_length, next_start, rest_of}
 use Rattle.term_buffer.specs.declared.claimed.Claimed.{Claimed}
-use Rattle.log_buffer.specs.Log.{IsAborted, IsDrafted, IsHeld, IsOpen, Log, MayAbort, draft_of, drafted, with_abort, with_commit, with_draft}
+use Rattle.log_buffer.specs.Log.{IsAborted, IsDrafted, IsHeld, Log, MayAbort, draft_of, drafted, with_abort, with_commit, with_draft}
 use Rattle.publication.specs.Writes.{place_of}
 use Rattle.publication.proofs.Fills.{draft_set, draft_twice, open_drafted}
 

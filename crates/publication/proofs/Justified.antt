@@ -1,19 +1,19 @@
 -- What a publisher saw justifies what it answers.
-use Rattle.std.specs.Prelude.{◌≡◌, ℕ, zero, suc, ◌+◌, ◌-◌, ◌*◌, ◌/◌, ◌%◌, ◌^◌, ◌<◌, ◌≤◌, Bool, true, false, List, [], ◌∷◌, ◌++◌, length, nat_eq, nat_le, nat_lt, Option, Some, None, if◌then◌else◌, slice_get, slice_set, pos, Result, Ok, Err, IfErr, IfOk}
+use Rattle.std.specs.Prelude.{◌≡◌, ℕ, zero, suc, ◌+◌, ◌-◌, ◌*◌, ◌/◌, ◌%◌, ◌^◌, ◌<◌, ◌≤◌, Bool, true, false, List, [], ◌∷◌, ◌++◌, length, nat_eq, nat_le, nat_lt, Option, Some, None, if◌then◌else◌, slice_get, slice_set, Result, Ok, Err, IfErr, IfOk}
 use Rattle.std.proofs.Common.{arith, refl, sym, ap, ◌∙◌, subst, inl, inr, ⊎_elim}
-use Rattle.std.proofs.lemmas.Bool.{cases_lt, eq-eqb, false≢true, eqb-true, ne_eqb, cond-true, cond-false, le-ltb, leb-false, lt-leb, lt-ltb, le-leb}
+use Rattle.std.proofs.lemmas.Bool.{cases_lt, eq-eqb, false≢true, eqb-true, cond-false, le-ltb, leb-false, lt-leb}
 use Rattle.std.proofs.lemmas.List.{set-set}
-use Rattle.theory.specs.Position.{Geometry, aligned, count_of, id_of}
+use Rattle.theory.specs.Position.{count_of, id_of}
 use Rattle.theory.specs.Refusal.{IsCause, IsJustified, SawCount, SawLimit, SawTail, AddedTo, is_closed}
 use Rattle.theory.specs.Refusal as whys
-use Rattle.theory.specs.Words.{id_in, offset_in}
+use Rattle.theory.specs.Words.{id_in}
 use Rattle.theory.proofs.Named.{counts}
-use Rattle.log_buffer.specs.Log.{IsFinished, IsLog, Log, added, limit_word_of, offset_of, room_in, term_of, with_claim, with_padding}
+use Rattle.log_buffer.specs.Log.{IsFinished, IsLog, Log, added, limit_word_of, offset_of, room_in, term_of, with_claim, with_message, with_padding}
 use Rattle.log_buffer.specs.Passes.{sights}
 use Rattle.log_buffer.specs.declared.step.Step.{Step}
 use Rattle.log_buffer.specs.declared.step.Step.TheVariants as steps
 use Rattle.publication.specs.Looks.{IsOpenBelow, ShowsActive, ShowsLimit, all_seen, tail_word_seen}
-use Rattle.publication.specs.Offers.{Course, Fits, Trips, IsClosed, IsLimited, IsStale, IsUsedUp, added_course, after, after_claim, after_course, answer, answer_at, answer_of, course_of, covered, is_last, turned_from}
+use Rattle.publication.specs.Offers.{Course, Fits, Trips, IsClosed, IsLimited, IsStale, IsUsedUp, added_course, after, after_claim, after_course, after_offer, answer, answer_at, answer_of, course_of, covered, is_last, turned_from}
 use Rattle.publication.specs.Refusals.{why_of}
 use Rattle.publication.specs.declared.refusal.Refusal.{Refusal}
 use Rattle.publication.specs.declared.refusal.Refusal.TheVariants as refusals
@@ -243,3 +243,38 @@ pub get_put : {X : Type 0} (xs : List X) (k : ℕ) (x : X) → k < length xs →
 get_put [] k x h = absurd (omega (arith, h))
 get_put (y ∷ ys) zero x h = refl
 get_put (y ∷ ys) (suc k) x h = get_put ys k x (omega (arith, h))
+
+-- an offer that is answered by a position fits
+answered_fits : (l : Log) (bytes n : ℕ) (c : Course) → answer l bytes c ≡ Ok n → c ≡ Fits
+answered_fits l bytes n IsClosed e = absurd (cc)
+answered_fits l bytes n IsStale e = absurd (cc)
+answered_fits l bytes n IsUsedUp e = absurd (cc)
+answered_fits l bytes n IsLimited e = absurd (cc)
+answered_fits l bytes n Fits e = refl
+answered_fits l bytes n Trips e = absurd (cc)
+
+pub course_fits : (l : Log) (bytes n : ℕ) → answer_of l bytes ≡ Ok n → course_of l bytes ≡ Fits
+course_fits l bytes n e = answered_fits l bytes n (course_of l bytes) e
+
+-- an offer that is refused leaves what a claim leaves
+refused_same : (l x y : Log) (by bytes : ℕ) (r : Refusal) (c : Course) → answer l bytes c ≡ Err r → after l by bytes c x ≡ after l by bytes c y
+refused_same l x y by bytes r IsClosed e = refl
+refused_same l x y by bytes r IsStale e = refl
+refused_same l x y by bytes r IsUsedUp e = refl
+refused_same l x y by bytes r IsLimited e = refl
+refused_same l x y by bytes r Fits e = absurd (cc)
+refused_same l x y by bytes r Trips e = refl
+
+pub refused_offer : (l n : Log) (by : ℕ) (message : List ℕ) (r : Refusal) → answer_of l (length message) ≡ Err r → n ≡ after_claim l by (length message) → n ≡ after_offer l by message
+refused_offer l n by message r e is =
+    is ∙ refused_same l (with_claim (added l by (l.active % 3) (covered l (length message))) by false (length message)) (with_message (added l by (l.active % 3) (covered l (length message))) by message) by (length message) r (course_of l (length message)) e
+
+-- a claim that is open
+pub fitting_claim : (l n : Log) (by bytes end : ℕ) → answer_of l bytes ≡ Ok end → n ≡ after_claim l by bytes → n ≡ with_claim (added l by (l.active % 3) (covered l bytes)) by false bytes
+fitting_claim l n by bytes end e is =
+    is ∙ ap (λ (c : Course). after l by bytes c (with_claim (added l by (l.active % 3) (covered l bytes)) by false bytes)) (course_fits l bytes end e)
+
+-- and its message
+pub fitting_offer : (l : Log) (by end : ℕ) (message : List ℕ) → answer_of l (length message) ≡ Ok end → after_offer l by message ≡ with_message (added l by (l.active % 3) (covered l (length message))) by message
+fitting_offer l by end message e =
+    ap (λ (c : Course). after l by (length message) c (with_message (added l by (l.active % 3) (covered l (length message))) by message)) (course_fits l (length message) end e)

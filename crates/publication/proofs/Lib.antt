@@ -1,5 +1,6 @@
 pub mod Added
 pub mod Apart
+pub mod Cleared
 pub mod Courses
 pub mod Fills
 pub mod Frames

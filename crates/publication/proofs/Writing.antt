@@ -1,9 +1,8 @@
 -- A message's frames, written one after the other.
 use Rattle.std.specs.Prelude.{◌≡◌, ℕ, zero, suc, ◌+◌, ◌-◌, ◌<◌, ◌≤◌, min, Bool, true, false, List, [], ◌∷◌, ◌++◌, length, take, drop, replicate, nat_eq, nat_lt, slice_get, slice_index_or, slice_set, Option, Some, None, IfSome, if◌then◌else◌}
-use Rattle.std.proofs.Common.{arith, refl, sym, ap, ◌∙◌, subst, ⊎_elim, append_assoc, append-nil, get_or, get_or-set_same, length-drop, drop-drop}
-use Rattle.std.proofs.lemmas.Bool.{cases_lt, cases_Bool, ltb-true, cond-true, cond-false, lt-ltb, le-ltb, ne_eqb, eq-eqb}
-use Rattle.std.proofs.lemmas.List.{set-set, set-get_or, take_all, drop_all}
-use Rattle.std.proofs.lemmas.Option.{slice_get_within}
+use Rattle.std.proofs.Common.{arith, refl, sym, ap, ◌∙◌, subst, ⊎_elim, append_assoc, append-nil, get_or, get_or-set_same, length-drop}
+use Rattle.std.proofs.lemmas.Bool.{cases_lt, cond-true, cond-false, lt-ltb, le-ltb, ne_eqb}
+use Rattle.std.proofs.lemmas.List.{set-set, set-get_or}
 use Rattle.theory.specs.Position.{Geometry, IsGeometry, aligned, cuts_of, framed_length, max_payload, max_position, span}
 use Rattle.theory.specs.Placed.{Data, Frame}
 use Rattle.theory.specs.Entry.{Entry, flags_of, pieces_of}

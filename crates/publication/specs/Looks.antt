@@ -1,5 +1,5 @@
 -- What a publisher sees of a log before it adds.
-use Rattle.std.specs.Prelude.{◌≡◌, ℕ, ◌+◌, ◌*◌, ◌%◌, ◌<◌, ◌≤◌, Bool, true, false, List, [], ◌∷◌, ◌++◌, length, Some, slice_set}
+use Rattle.std.specs.Prelude.{◌≡◌, ℕ, ◌+◌, ◌*◌, ◌%◌, ◌<◌, ◌≤◌, true, false, List, [], ◌∷◌, ◌++◌, length, Some, slice_set}
 use Rattle.theory.specs.Position.{id_of}
 use Rattle.theory.specs.Refusal.{is_closed, is_connected, limit_in}
 use Rattle.theory.specs.Words.{id_in, offset_in}

@@ -75,7 +75,10 @@ fn clear(publisher: &mut Publisher, count: usize)
     requires { count ≤ length publisher.old.bytes }
     ensures { publisher.new ≡ record publisher.old { bytes = with_front publisher.old.bytes (replicate count 0) } }
 {
-    publisher.bytes_mut()[..count].fill(0);
+    let bytes = publisher.bytes_mut();
+    for index in 0..count {
+        bytes[index] = 0;
+    }
 }
 
 impl Claim {

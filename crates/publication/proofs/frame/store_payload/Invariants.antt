@@ -2,7 +2,7 @@ use Rattle.std.proofs.Common.{◌≡◌, ◌+◌, ◌-◌, ◌++◌, length}
 use Rattle.theory.specs.Position.{aligned}
 use Rattle.theory.specs.Wire.{zeros_after}
 use Rattle.term_buffer.specs.Kept.{header_rest, next_start}
-use Rattle.log_buffer.specs.Log.{IsOpen, with_draft}
+use Rattle.log_buffer.specs.Log.{with_draft}
 use Rattle.log_buffer.specs.Reader.{IsAt, Reader}
 use Rattle.publication.proofs.Fills.{filled}
 use Rattle.publication.proofs.frame.store_payload.Given as goal

@@ -1,7 +1,5 @@
-use Rattle.std.proofs.Common.{◌≡◌, ◌<◌, ℕ, ◌+◌, ◌-◌, length, arith}
+use Rattle.std.proofs.Common.{◌+◌, ◌-◌, arith}
 use Rattle.theory.specs.Position.{aligned}
-use Rattle.log_buffer.specs.Log.{Log}
-use Rattle.publication.specs.Writes.{place_of}
 use Rattle.publication.proofs.Frames.{abort_is, abort_written, draft_inside, held_blank, may_abort, one_length, padding_filled, padding_start}
 use Rattle.publication.proofs.frame.write_abort.Goals as goal
 

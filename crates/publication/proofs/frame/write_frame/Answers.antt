@@ -1,9 +1,6 @@
-use Rattle.std.proofs.Common.{◌≡◌, ◌<◌, ℕ, ◌-◌, length, arith}
-use Rattle.theory.specs.Position.{aligned}
+use Rattle.std.proofs.Common.{arith}
 use Rattle.theory.specs.Placed.{Data}
 use Rattle.term_buffer.specs.Kept.{next_flags, next_length, next_start}
-use Rattle.publication.specs.Writes.{place_of}
-use Rattle.publication.proofs.Fills.{open_drafted}
 use Rattle.publication.proofs.Frames.{blank_behind, draft_inside, frame_committed, frame_written, part_filled, part_rest}
 use Rattle.publication.proofs.frame.write_frame.Goals as goal
 

@@ -1,4 +1,4 @@
-use Rattle.std.specs.Prelude.{◌≡◌, length}
+use Rattle.std.specs.Prelude.{length}
 use Rattle.term_buffer.specs.Kept.{cuts_in}
 use Rattle.log_buffer.specs.Reader.{IsAt, Reader}
 use Rattle.publication.proofs.Writing.{Writes, frames_left}

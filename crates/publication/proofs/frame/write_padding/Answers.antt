@@ -1,7 +1,6 @@
-use Rattle.std.proofs.Common.{◌≡◌, ◌<◌, ℕ, ◌-◌, length, arith}
+use Rattle.std.proofs.Common.{◌-◌, arith}
 use Rattle.theory.specs.Position.{aligned}
 use Rattle.theory.specs.Placed.{Pad}
-use Rattle.publication.specs.Writes.{place_of}
 use Rattle.publication.proofs.Fills.{open_drafted}
 use Rattle.publication.proofs.Frames.{draft_inside, frame_committed, frame_written, padding_filled, padding_length, padding_rest, padding_start}
 use Rattle.publication.proofs.frame.write_padding.Goals as goal

@@ -1,16 +1,15 @@
-use Rattle.std.proofs.Common.{rules, arith, append-nil, ap, sym, ◌∙◌, ◌≡◌, ℕ, ◌+◌, ◌%◌, ◌<◌, ◌≤◌, Some, length, Bool, true, false, List, [], ◌∷◌, ◌++◌, subst}
+use Rattle.std.proofs.Common.{rules, arith, append-nil, ap, sym, ◌∙◌, ◌≡◌, ◌+◌, ◌%◌, ◌<◌, ◌≤◌, Some, length, true, false, [], ◌∷◌, ◌++◌}
 use Rattle.std.specs.Prelude.{slice_set, nat_le}
-use Rattle.std.proofs.lemmas.Bool.{cond-false, cond-true, leb-false}
-use Rattle.theory.specs.Position.{Geometry, cuts_of, framed_length, max_position, span}
+use Rattle.std.proofs.lemmas.Bool.{cond-false, leb-false}
+use Rattle.theory.specs.Position.{cuts_of, max_position, span}
 use Rattle.theory.specs.Placed.{Pad}
 use Rattle.theory.proofs.Claims.{covers_framed}
 use Rattle.term_buffer.specs.declared.claimed.Claimed.{Claimed}
-use Rattle.log_buffer.specs.Log.{IsHeld, Log, added, after_add, claimed_of, offset_of, raw_tail, room_in, taken_of, term_of, with_claim, with_padding}
+use Rattle.log_buffer.specs.Log.{Log, added, after_add, claimed_of, offset_of, raw_tail, room_in, taken_of, term_of, with_claim, with_padding}
 use Rattle.log_buffer.specs.declared.step.Step.TheVariants as steps
-use Rattle.publication.specs.Claims.{claim_at}
 use Rattle.publication.specs.Offers as offers
 use Rattle.publication.specs.Offers.{added_course, after_course, covered, turned_from}
-use Rattle.publication.proofs.Added.{IsSame, add_keeps, claimed_log, commit_keeps, gave_room, gave_whole, padded_log, padding_blank, room_claim, whole_claim}
+use Rattle.publication.proofs.Added.{IsSame, add_keeps, claimed_log, commit_keeps, gave_room, padded_log, padding_blank, room_claim, whole_claim}
 use Rattle.publication.proofs.Apart.{held_before, held_commit}
 use Rattle.publication.proofs.Courses.{finished_there, past_end, seen_past, tail_in_stream}
 use Rattle.publication.proofs.offers.add_range.Goals as goal

@@ -1,6 +1,6 @@
-use Rattle.std.proofs.Common.{rules, arith, ap, ◌∙◌, sym, ◌≡◌, ℕ, ◌+◌, ◌%◌, ◌<◌, ◌≤◌, Some, length, List, [], ◌∷◌, ◌++◌, subst, refl}
-use Rattle.std.specs.Prelude.{slice_get, slice_set, Ok, Err, Result, IfErr, IfOk}
-use Rattle.theory.specs.Position.{Geometry, max_message, max_payload, max_position}
+use Rattle.std.proofs.Common.{arith, ap, ◌∙◌, sym, ◌≡◌, ℕ, ◌+◌, ◌%◌, ◌≤◌, Some, List, [], ◌∷◌, ◌++◌, subst}
+use Rattle.std.specs.Prelude.{slice_get, slice_set, Ok, Err}
+use Rattle.theory.specs.Position.{max_message, max_position}
 use Rattle.theory.specs.Refusal.{IsJustified}
 use Rattle.term_buffer.specs.declared.claimed.Claimed.{Claimed}
 use Rattle.log_buffer.specs.Log.{Log, raw_tail}
