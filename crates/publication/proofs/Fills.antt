@@ -1,17 +1,18 @@
 -- The words of a frame behind its first one.
-use Rattle.std.proofs.Common.{◌≡◌, ℕ, ℤ, ◌+◌, ◌-◌, ◌*◌, ◌/◌, ◌<◌, ◌≤◌, ⊎_elim, List, [], ◌++◌, length, take, drop, replicate, min, refl, sym, ap, ◌∙◌, append_assoc, length-append, length-drop, get_or-set_same, arith}
+use Rattle.std.proofs.Common.{◌≡◌, ℕ, ℤ, ◌+◌, ◌-◌, ◌*◌, ◌/◌, ◌<◌, ◌≤◌, ⊎_elim, List, [], ◌++◌, length, take, drop, replicate, min, refl, sym, ap, ◌∙◌, subst, append_assoc, length-append, length-drop, get_or-set_same, arith}
 use Rattle.std.specs.Int.{w32, w64, cast_unsigned, to_le_bytes}
 use Rattle.std.proofs.lemmas.Bool.{cases_lt}
 use Rattle.std.proofs.lemmas.List.{take-append-drop, take-append-le, take-take, drop-take, drop-drop, drop-append-le, take_all, append-nil, length-take-le, length-replicate, take-replicate, drop-replicate, set-set, set-get_or, get_or_past}
 use Rattle.std.proofs.Math.Seq.{take-append-add, drop-append-add}
 use Rattle.block.specs.Bytes.{with_word}
-use Rattle.theory.specs.Position.{aligned, id_of, place_of}
+use Rattle.theory.specs.Position.{aligned, id_of, place_of as place_at}
 use Rattle.theory.specs.Wire.{le32, zeros_after}
 use Rattle.theory.specs.Bytes.{Identity}
 use Rattle.theory.specs.Placed.{Data}
 use Rattle.term_buffer.specs.Kept.{header_rest, rest_of}
 use Rattle.term_buffer.specs.declared.claimed.Claimed.{Claimed}
-use Rattle.log_buffer.specs.Log.{Log, draft_of, place_of as kept_at, with_draft}
+use Rattle.log_buffer.specs.Log.{IsOpen, Log, draft_of, with_draft}
+use Rattle.publication.specs.Writes.{place_of}
 use Rattle.publication.proofs.StoredWords.{word_behind}
 
 -- the first three words of a run
@@ -112,29 +113,29 @@ filled_all header payload zeros size q is enough within =
         ∙ ap (λ n. replicate n 0) left
 
 -- the whole rest of the frame
-pub rest_is : (i : Identity) (start : ℕ) (payload : List ℕ) → header_rest i start ++ (payload ++ zeros_after (32 + length payload)) ≡ rest_of i start (Data 192 payload)
+pub rest_is : (i : Identity) (start flags : ℕ) (payload : List ℕ) → header_rest i start ++ (payload ++ zeros_after (32 + length payload)) ≡ rest_of i start (Data flags payload)
 unfolding header_rest
-rest_is i start payload = refl
+rest_is i start flags payload = refl
 
 pub none_filled : (header padded : List ℕ) (size : ℕ) → header ++ replicate size 0 ≡ filled header padded size 0
 none_filled header padded size = let same : size ≡ size - 0 = omega arith in ap (λ n. header ++ replicate n 0) same
 
 -- drafts that replace one another
 pub draft_twice : (l : Log) (c : Claimed) (x y : List ℕ) → with_draft (with_draft l c x) c y ≡ with_draft l c y
-draft_twice l c x y = ap (λ (ds : List (List ℕ)). record l { drafts = ds }) (set-set l.drafts (kept_at l c.number) x y)
+draft_twice l c x y = ap (λ (ds : List (List ℕ)). record l { drafts = ds }) (set-set l.drafts (place_of l c) x y)
 
 pub draft_kept : (l : Log) (c : Claimed) → with_draft l c (draft_of l c) ≡ l
-draft_kept l c = ap (λ (ds : List (List ℕ)). record l { drafts = ds }) (set-get_or l.drafts (kept_at l c.number) [])
+draft_kept l c = ap (λ (ds : List (List ℕ)). record l { drafts = ds }) (set-get_or l.drafts (place_of l c) [])
 
-pub draft_set : (l : Log) (c : Claimed) (x : List ℕ) → kept_at l c.number < length l.drafts → draft_of (with_draft l c x) c ≡ x
-draft_set l c x h = get_or-set_same l.drafts (kept_at l c.number) x [] h
+pub draft_set : (l : Log) (c : Claimed) (x : List ℕ) → place_of l c < length l.drafts → draft_of (with_draft l c x) c ≡ x
+draft_set l c x h = get_or-set_same l.drafts (place_of l c) x [] h
 
 pub header_size : (i : Identity) (start : ℕ) → length (header_rest i start) ≡ 24
 unfolding header_rest
 header_size i start = refl
 
 -- a draft changed in a step is that change of the first one
-pub draft_step : (l m n : Log) (c : Claimed) (d e : List ℕ) (k w : ℕ) → kept_at l c.number < length l.drafts → m ≡ with_draft l c d → n ≡ with_draft m c (with_word (draft_of m c) k w) → with_word d k w ≡ e → n ≡ with_draft l c e
+pub draft_step : (l m n : Log) (c : Claimed) (d e : List ℕ) (k w : ℕ) → place_of l c < length l.drafts → m ≡ with_draft l c d → n ≡ with_draft m c (with_word (draft_of m c) k w) → with_word d k w ≡ e → n ≡ with_draft l c e
 draft_step l m n c d e k w h was step is =
     step
     ∙ ap (λ (x : Log). with_draft x c (with_word (draft_of x c) k w)) was
@@ -143,46 +144,51 @@ draft_step l m n c d e k w h was step is =
     ∙ ap (with_draft l c) is
 
 -- a draft that isn't empty is one of the drafts
-pub draft_within : (l : Log) (c : Claimed) (i : Identity) (start : ℕ) (rest : List ℕ) → draft_of l c ≡ header_rest i start ++ rest → kept_at l c.number < length l.drafts
+pub draft_within : (l : Log) (c : Claimed) (i : Identity) (start : ℕ) (rest : List ℕ) → draft_of l c ≡ header_rest i start ++ rest → place_of l c < length l.drafts
 draft_within l c i start rest e =
     ⊎_elim
-    (λ (low : kept_at l c.number < length l.drafts). low)
-    (λ (past : length l.drafts ≤ kept_at l c.number). absurd (omega (arith, ap (λ (x : List ℕ). length x) (sym (get_or_past l.drafts (kept_at l c.number) [] past) ∙ e), length-append (header_rest i start) rest, header_size i start)))
-    (cases_lt (kept_at l c.number) (length l.drafts))
+    (λ (low : place_of l c < length l.drafts). low)
+    (λ (past : length l.drafts ≤ place_of l c). absurd (omega (arith, ap (λ (x : List ℕ). length x) (sym (get_or_past l.drafts (place_of l c) [] past) ∙ e), length-append (header_rest i start) rest, header_size i start)))
+    (cases_lt (place_of l c) (length l.drafts))
 
 -- a turn of the payload's loop
-pub payload_step : (l m n : Log) (c : Claimed) (i : Identity) (payload part : List ℕ) (index w : ℕ) → kept_at l c.number < length l.drafts → index < (length payload + 7) / 8 → m ≡ with_draft l c (filled (header_rest i c.start) (payload ++ zeros_after (32 + length payload)) (aligned (32 + length payload) - 32) index) → n ≡ with_draft m c (with_word (draft_of m c) (4 + index - 1) w) → to_le_bytes w64 w ≡ part ++ replicate (8 - length part) 0 → part ≡ take (min (length payload) (8 * index + 8) - 8 * index) (drop (8 * index) payload) → n ≡ with_draft l c (filled (header_rest i c.start) (payload ++ zeros_after (32 + length payload)) (aligned (32 + length payload) - 32) (index + 1))
-payload_step l m n c i payload part index w h low was step word is =
-    draft_step l m n c (filled (header_rest i c.start) (payload ++ zeros_after (32 + length payload)) (aligned (32 + length payload) - 32) index) (filled (header_rest i c.start) (payload ++ zeros_after (32 + length payload)) (aligned (32 + length payload) - 32) (index + 1)) (4 + index - 1) w h was step
-    (filled_more (header_rest i c.start) (payload ++ zeros_after (32 + length payload)) (aligned (32 + length payload) - 32) index w (header_size i c.start) long (omega arith)
+pub payload_step : (l m n : Log) (c : Claimed) (i : Identity) (start : ℕ) (payload part : List ℕ) (index w : ℕ) → place_of l c < length l.drafts → index < (length payload + 7) / 8 → m ≡ with_draft l c (filled (header_rest i start) (payload ++ zeros_after (32 + length payload)) (aligned (32 + length payload) - 32) index) → n ≡ with_draft m c (with_word (draft_of m c) (4 + index - 1) w) → to_le_bytes w64 w ≡ part ++ replicate (8 - length part) 0 → part ≡ take (min (length payload) (8 * index + 8) - 8 * index) (drop (8 * index) payload) → n ≡ with_draft l c (filled (header_rest i start) (payload ++ zeros_after (32 + length payload)) (aligned (32 + length payload) - 32) (index + 1))
+payload_step l m n c i start payload part index w h low was step word is =
+    draft_step l m n c (filled (header_rest i start) (payload ++ zeros_after (32 + length payload)) (aligned (32 + length payload) - 32) index) (filled (header_rest i start) (payload ++ zeros_after (32 + length payload)) (aligned (32 + length payload) - 32) (index + 1)) (4 + index - 1) w h was step
+    (filled_more (header_rest i start) (payload ++ zeros_after (32 + length payload)) (aligned (32 + length payload) - 32) index w (header_size i start) long (omega arith)
     (word ∙ ap (λ (p : List ℕ). p ++ replicate (8 - length p) 0) is ∙ payload_part payload (aligned (32 + length payload) - (32 + length payload)) (8 * index) (omega arith) (omega arith)))
   where
     long : length (payload ++ zeros_after (32 + length payload)) ≡ aligned (32 + length payload) - 32
     long = omega (arith, length-append payload (zeros_after (32 + length payload)), length-replicate {A = ℕ} (aligned (32 + length payload) - (32 + length payload)) 0)
 
 -- the loop's end
-pub payload_end : (l m : Log) (c : Claimed) (i : Identity) (payload : List ℕ) (index : ℕ) → index ≡ (length payload + 7) / 8 → m ≡ with_draft l c (filled (header_rest i c.start) (payload ++ zeros_after (32 + length payload)) (aligned (32 + length payload) - 32) index) → m ≡ with_draft l c (rest_of i c.start (Data 192 payload))
-payload_end l m c i payload index done was =
+pub payload_end : (l m : Log) (c : Claimed) (i : Identity) (start flags : ℕ) (payload : List ℕ) (index : ℕ) → index ≡ (length payload + 7) / 8 → m ≡ with_draft l c (filled (header_rest i start) (payload ++ zeros_after (32 + length payload)) (aligned (32 + length payload) - 32) index) → m ≡ with_draft l c (rest_of i start (Data flags payload))
+payload_end l m c i start flags payload index done was =
     was
     ∙ ap (with_draft l c)
-    (filled_all (header_rest i c.start) payload (aligned (32 + length payload) - (32 + length payload)) (aligned (32 + length payload) - 32) index (omega arith) (omega arith) (omega arith)
-    ∙ rest_is i c.start payload)
+    (filled_all (header_rest i start) payload (aligned (32 + length payload) - (32 + length payload)) (aligned (32 + length payload) - 32) index (omega arith) (omega arith) (omega arith)
+    ∙ rest_is i start flags payload)
 
 -- the words of the header
-pub header_words : (i : Identity) (start : ℕ) (a b z : List ℕ) (offset session stream term : ℤ) → a ≡ le32 offset ++ le32 session → b ≡ le32 stream ++ le32 term → z ≡ to_le_bytes w64 0 → cast_unsigned w32 offset ≡ (place_of i.geometry start).offset → session ≡ i.session → stream ≡ i.stream → term ≡ id_of i.geometry (place_of i.geometry start).count → a ++ (b ++ z) ≡ header_rest i start
+pub header_words : (i : Identity) (start : ℕ) (a b z : List ℕ) (offset session stream term : ℤ) → a ≡ le32 offset ++ le32 session → b ≡ le32 stream ++ le32 term → z ≡ to_le_bytes w64 0 → cast_unsigned w32 offset ≡ (place_at i.geometry start).offset → session ≡ i.session → stream ≡ i.stream → term ≡ id_of i.geometry (place_at i.geometry start).count → a ++ (b ++ z) ≡ header_rest i start
 unfolding header_rest
 header_words i start a b z offset session stream term ea eb ez at of in_stream id =
     ap (λ (x : List ℕ). x ++ (b ++ z)) ea
     ∙ ap (λ (x : List ℕ). (le32 offset ++ le32 session) ++ (x ++ z)) eb
     ∙ ap (λ (x : List ℕ). (le32 offset ++ le32 session) ++ ((le32 stream ++ le32 term) ++ x)) ez
     ∙ ap (λ n. (to_le_bytes w32 n ++ le32 session) ++ ((le32 stream ++ le32 term) ++ to_le_bytes w64 0)) at
-    ∙ ap (λ n. (to_le_bytes w32 (place_of i.geometry start).offset ++ le32 n) ++ ((le32 stream ++ le32 term) ++ to_le_bytes w64 0)) of
-    ∙ ap (λ n. (to_le_bytes w32 (place_of i.geometry start).offset ++ le32 i.session) ++ ((le32 n ++ le32 term) ++ to_le_bytes w64 0)) in_stream
-    ∙ ap (λ n. (to_le_bytes w32 (place_of i.geometry start).offset ++ le32 i.session) ++ ((le32 i.stream ++ le32 n) ++ to_le_bytes w64 0)) id
+    ∙ ap (λ n. (to_le_bytes w32 (place_at i.geometry start).offset ++ le32 n) ++ ((le32 stream ++ le32 term) ++ to_le_bytes w64 0)) of
+    ∙ ap (λ n. (to_le_bytes w32 (place_at i.geometry start).offset ++ le32 i.session) ++ ((le32 n ++ le32 term) ++ to_le_bytes w64 0)) in_stream
+    ∙ ap (λ n. (to_le_bytes w32 (place_at i.geometry start).offset ++ le32 i.session) ++ ((le32 i.stream ++ le32 n) ++ to_le_bytes w64 0)) id
 
-pub header_stored : (l l1 l2 l3 : Log) (c : Claimed) (a b z : ℕ) (i : Identity) (start : ℕ) → kept_at l c.number < length l.drafts → l1 ≡ with_draft l c (with_word (draft_of l c) 0 a) → l2 ≡ with_draft l1 c (with_word (draft_of l1 c) 1 b) → l3 ≡ with_draft l2 c (with_word (draft_of l2 c) 2 z) → to_le_bytes w64 a ++ (to_le_bytes w64 b ++ to_le_bytes w64 z) ≡ header_rest i start → l3 ≡ with_draft l c (header_rest i start ++ drop 24 (draft_of l c))
+pub header_stored : (l l1 l2 l3 : Log) (c : Claimed) (a b z : ℕ) (i : Identity) (start : ℕ) → place_of l c < length l.drafts → l1 ≡ with_draft l c (with_word (draft_of l c) 0 a) → l2 ≡ with_draft l1 c (with_word (draft_of l1 c) 1 b) → l3 ≡ with_draft l2 c (with_word (draft_of l2 c) 2 z) → to_le_bytes w64 a ++ (to_le_bytes w64 b ++ to_le_bytes w64 z) ≡ header_rest i start → l3 ≡ with_draft l c (header_rest i start ++ drop 24 (draft_of l c))
 header_stored l l1 l2 l3 c a b z i start h e1 e2 e3 words =
     draft_step l l2 l3 c (with_word (with_word (draft_of l c) 0 a) 1 b) (header_rest i start ++ drop 24 (draft_of l c)) 2 z h
     (draft_step l l1 l2 c (with_word (draft_of l c) 0 a) (with_word (with_word (draft_of l c) 0 a) 1 b) 1 b h e1 e2 refl)
     e3
     (three_words (draft_of l c) a b z ∙ ap (λ (r : List ℕ). r ++ drop 24 (draft_of l c)) words)
+
+-- a claim stays open while its draft changes
+pub open_drafted : (l m : Log) (c : Claimed) (d : List ℕ) → m ≡ with_draft l c d → IsOpen l c → IsOpen m c
+open_drafted l m c d e h =
+    subst (λ (x : Log). IsOpen x c) (sym e) (record { kept = h.kept; frames = h.frames; entry = h.entry; count = h.count; more = h.more })

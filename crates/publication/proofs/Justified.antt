@@ -1,19 +1,19 @@
 -- What a publisher saw justifies what it answers.
-use Rattle.std.specs.Prelude.{◌≡◌, ℕ, zero, suc, ◌+◌, ◌-◌, ◌*◌, ◌/◌, ◌%◌, ◌^◌, ◌<◌, ◌≤◌, Bool, true, false, List, [], ◌∷◌, ◌++◌, length, nat_eq, nat_le, nat_lt, Option, Some, None, if◌then◌else◌, slice_get, slice_set, pos, Result, Ok, Err, IfErr}
+use Rattle.std.specs.Prelude.{◌≡◌, ℕ, zero, suc, ◌+◌, ◌-◌, ◌*◌, ◌/◌, ◌%◌, ◌^◌, ◌<◌, ◌≤◌, Bool, true, false, List, [], ◌∷◌, ◌++◌, length, nat_eq, nat_le, nat_lt, Option, Some, None, if◌then◌else◌, slice_get, slice_set, Result, Ok, Err, IfErr, IfOk}
 use Rattle.std.proofs.Common.{arith, refl, sym, ap, ◌∙◌, subst, inl, inr, ⊎_elim}
-use Rattle.std.proofs.lemmas.Bool.{cases_lt, eq-eqb, false≢true, eqb-true, ne_eqb, cond-true, cond-false, le-ltb, leb-false, lt-leb, lt-ltb, le-leb}
+use Rattle.std.proofs.lemmas.Bool.{cases_lt, eq-eqb, false≢true, eqb-true, cond-false, le-ltb, leb-false, lt-leb}
 use Rattle.std.proofs.lemmas.List.{set-set}
-use Rattle.theory.specs.Position.{Geometry, aligned, count_of, id_of}
+use Rattle.theory.specs.Position.{count_of, id_of}
 use Rattle.theory.specs.Refusal.{IsCause, IsJustified, SawCount, SawLimit, SawTail, AddedTo, is_closed}
 use Rattle.theory.specs.Refusal as whys
-use Rattle.theory.specs.Words.{id_in, offset_in}
+use Rattle.theory.specs.Words.{id_in}
 use Rattle.theory.proofs.Named.{counts}
-use Rattle.log_buffer.specs.Log.{IsFinished, IsLog, Log, added, limit_word_of, offset_of, room_in, term_of, with_message, with_padding}
+use Rattle.log_buffer.specs.Log.{IsFinished, IsLog, Log, added, limit_word_of, offset_of, room_in, term_of, with_claim, with_message, with_padding}
 use Rattle.log_buffer.specs.Passes.{sights}
 use Rattle.log_buffer.specs.declared.step.Step.{Step}
 use Rattle.log_buffer.specs.declared.step.Step.TheVariants as steps
 use Rattle.publication.specs.Looks.{IsOpenBelow, ShowsActive, ShowsLimit, all_seen, tail_word_seen}
-use Rattle.publication.specs.Offers.{Course, Fits, Trips, IsClosed, IsLimited, IsStale, IsUsedUp, added_course, after, after_course, answer_at, course_of, covered, is_last, turned_from}
+use Rattle.publication.specs.Offers.{Course, Fits, Trips, IsClosed, IsLimited, IsStale, IsUsedUp, added_course, after, after_claim, after_course, after_offer, answer, answer_at, answer_of, course_of, covered, is_last, turned_from}
 use Rattle.publication.specs.Refusals.{why_of}
 use Rattle.publication.specs.declared.refusal.Refusal.{Refusal}
 use Rattle.publication.specs.declared.refusal.Refusal.TheVariants as refusals
@@ -176,30 +176,56 @@ armed_as l armed = record l { armed = armed }
 added_again : (l : Log) (by p taken : ℕ) (x : Option ℕ) → added (armed_as l (slice_set l.armed by x)) by p taken ≡ added l by p taken
 added_again l by p taken x = ap (λ (a : List (Option ℕ)). record (added l by p taken) { armed = a }) (set-set l.armed by x None)
 
-after_cases : (l : Log) (by : ℕ) (message : List ℕ) (x : Option ℕ) (fits : Bool) → after_course (armed_as l (slice_set l.armed by x)) by l.active message (if fits then Fits else Trips) ≡ after l by message (if fits then Fits else Trips)
-after_cases l by message x true = ap (λ (m : Log). with_message m by message) (added_again l by (l.active % 3) (covered (length message)) x)
-after_cases l by message x false = ap (λ (m : Log). turned_from (with_padding m by (room_in l (l.active % 3))) l.active) (added_again l by (l.active % 3) (covered (length message)) x)
+after_cases : (l : Log) (by bytes : ℕ) (x : Option ℕ) (fits : Bool) → after_course (armed_as l (slice_set l.armed by x)) by l.active bytes (if fits then Fits else Trips) ≡ after l by bytes (if fits then Fits else Trips) (with_claim (added l by (l.active % 3) (covered l bytes)) by false bytes)
+after_cases l by bytes x true = ap (λ (m : Log). with_claim m by false bytes) (added_again l by (l.active % 3) (covered l bytes) x)
+after_cases l by bytes x false = ap (λ (m : Log). turned_from (with_padding m by (room_in l (l.active % 3))) l.active) (added_again l by (l.active % 3) (covered l bytes) x)
 
-pub after_is : (l m n : Log) (by count : ℕ) (message : List ℕ) (x : Option ℕ) → IsOpenBelow l → l.closed ≡ false → m ≡ armed_as l (slice_set l.armed by x) → count ≡ l.active → n ≡ after_course m by count message (added_course m count (length message)) → n ≡ after l by message (course_of l (length message))
-after_is l m n by count message x h not_closed e is was =
+pub after_is : (l m n : Log) (by count bytes : ℕ) (x : Option ℕ) → IsOpenBelow l → l.closed ≡ false → m ≡ armed_as l (slice_set l.armed by x) → count ≡ l.active → n ≡ after_course m by count bytes (added_course m count bytes) → n ≡ after_claim l by bytes
+after_is l m n by count bytes x h not_closed e is was =
     was
-    ∙ ap (λ (k : ℕ). after_course m by k message (added_course m k (length message))) is
-    ∙ ap (λ (k : Log). after_course k by l.active message (added_course k l.active (length message))) e
-    ∙ after_cases l by message x (nat_le (covered (length message)) (room_in l (l.active % 3)))
-    ∙ ap (after l by message) (sym (course_is l (length message) h not_closed))
+    ∙ ap (λ (k : ℕ). after_course m by k bytes (added_course m k bytes)) is
+    ∙ ap (λ (k : Log). after_course k by l.active bytes (added_course k l.active bytes)) e
+    ∙ after_cases l by bytes x (nat_le (covered l bytes) (room_in l (l.active % 3)))
+    ∙ ap (λ (c : Course). after l by bytes c (with_claim (added l by (l.active % 3) (covered l bytes)) by false bytes)) (sym (course_is l bytes h not_closed))
+
+answer_cases : (l : Log) (a : List (Option ℕ)) (bytes : ℕ) (fits : Bool) → answer_at (armed_as l a) l.active bytes (if fits then Fits else Trips) ≡ answer l bytes (if fits then Fits else Trips)
+answer_cases l a bytes true = refl
+answer_cases l a bytes false = refl
+
+-- what an offer in an open term is answered
+pub answer_is : (l m : Log) (a : List (Option ℕ)) (count bytes : ℕ) → IsOpenBelow l → l.closed ≡ false → m ≡ armed_as l a → count ≡ l.active → answer_at m count bytes (added_course m count bytes) ≡ answer_of l bytes
+answer_is l m a count bytes h not_closed e is =
+    ap (λ (k : ℕ). answer_at m k bytes (added_course m k bytes)) is
+    ∙ ap (λ (k : Log). answer_at k l.active bytes (added_course k l.active bytes)) e
+    ∙ answer_cases l a bytes (nat_le (covered l bytes) (room_in l (l.active % 3)))
+    ∙ ap (answer l bytes) (sym (course_is l bytes h not_closed))
 
 -- of an addition that is refused
-open_cases : (l m : Log) (by count : ℕ) (seen more : List Step) (message : List ℕ) (fits : Bool) → nat_le (covered (length message)) (room_in l (l.active % 3)) ≡ fits → m.tail ≡ l.tail → count ≡ l.active → seen ≡ (all_seen l ++ steps.Addition (l.active % 3) (covered (length message)) (tail_word_seen l) ∷ []) ++ more → l.active < 2 ^ 31 → IsLog l → ShowsLimit l → l.closed ≡ false → ShowsActive l → IsOpenBelow l → IfErr (answer_at m count (length message) (if fits then Fits else Trips)) (λ refusal. IsJustified l.identity.geometry (covered (length message)) (sights seen) (why_of refusal))
-open_cases l m by count seen more message true f same is e small legal shows not_closed active h = tt
-open_cases l m by count seen more message false f same is e small legal shows not_closed active h =
-    subst (λ (xs : List Step). IsJustified l.identity.geometry (covered (length message)) (sights xs) (why_of (is_last count))) (sym e)
-    (subst (λ (k : ℕ). IsJustified l.identity.geometry (covered (length message)) (sights ((all_seen l ++ steps.Addition (l.active % 3) (covered (length message)) (tail_word_seen l) ∷ []) ++ more)) (why_of (is_last k))) (sym is)
-    (tripped_by l (covered (length message)) more (nat_eq l.active (2 ^ 31 - 1)) refl small legal shows not_closed active (omega (arith, leb-false (covered (length message)) (room_in l (l.active % 3)) f, h.inside))))
+open_cases : (l m : Log) (count bytes : ℕ) (seen more : List Step) (refusal : Refusal) (fits : Bool) → nat_le (covered l bytes) (room_in l (l.active % 3)) ≡ fits → answer_at m count bytes (if fits then Fits else Trips) ≡ Err refusal → count ≡ l.active → seen ≡ (all_seen l ++ steps.Addition (l.active % 3) (covered l bytes) (tail_word_seen l) ∷ []) ++ more → l.active < 2 ^ 31 → IsLog l → ShowsLimit l → l.closed ≡ false → ShowsActive l → IsOpenBelow l → IsJustified l.identity.geometry (covered l bytes) (sights seen) (why_of refusal)
+open_cases l m count bytes seen more refusal true f answered is e small legal shows not_closed active h = absurd (cc)
+open_cases l m count bytes seen more refusal false f answered is e small legal shows not_closed active h =
+    let last : is_last count ≡ refusal = cc in
+    subst (λ (r : Refusal). IsJustified l.identity.geometry (covered l bytes) (sights seen) (why_of r)) last
+    (subst (λ (xs : List Step). IsJustified l.identity.geometry (covered l bytes) (sights xs) (why_of (is_last count))) (sym e)
+    (subst (λ (k : ℕ). IsJustified l.identity.geometry (covered l bytes) (sights ((all_seen l ++ steps.Addition (l.active % 3) (covered l bytes) (tail_word_seen l) ∷ []) ++ more)) (why_of (is_last k))) (sym is)
+    (tripped_by l (covered l bytes) more (nat_eq l.active (2 ^ 31 - 1)) refl small legal shows not_closed active (omega (arith, leb-false (covered l bytes) (room_in l (l.active % 3)) f, h.inside)))))
 
-pub open_justified : (l m : Log) (by count : ℕ) (seen more : List Step) (message : List ℕ) (answer : Result ℕ Refusal) → answer ≡ answer_at m count (length message) (added_course m count (length message)) → room_in m (count % 3) ≡ room_in l (l.active % 3) → m.tail ≡ l.tail → count ≡ l.active → seen ≡ (all_seen l ++ steps.Addition (l.active % 3) (covered (length message)) (tail_word_seen l) ∷ []) ++ more → l.active < 2 ^ 31 → IsLog l → ShowsLimit l → l.closed ≡ false → ShowsActive l → IsOpenBelow l → IfErr answer (λ refusal. IsJustified l.identity.geometry (covered (length message)) (sights seen) (why_of refusal))
-open_justified l m by count seen more message answer answered room same is e small legal shows not_closed active h =
-    subst (λ (a : Result ℕ Refusal). IfErr a (λ refusal. IsJustified l.identity.geometry (covered (length message)) (sights seen) (why_of refusal))) (sym (answered ∙ ap (λ (n : ℕ). answer_at m count (length message) (if nat_le (covered (length message)) n then Fits else Trips)) room))
-    (open_cases l m by count seen more message (nat_le (covered (length message)) (room_in l (l.active % 3))) refl same is e small legal shows not_closed active h)
+pub open_justified : (l m : Log) (a : List (Option ℕ)) (count bytes : ℕ) (seen more : List Step) (refusal : Refusal) → answer_at m count bytes (added_course m count bytes) ≡ Err refusal → m ≡ armed_as l a → count ≡ l.active → seen ≡ (all_seen l ++ steps.Addition (l.active % 3) (covered l bytes) (tail_word_seen l) ∷ []) ++ more → l.active < 2 ^ 31 → IsLog l → ShowsLimit l → l.closed ≡ false → ShowsActive l → IsOpenBelow l → IsJustified l.identity.geometry (covered l bytes) (sights seen) (why_of refusal)
+open_justified l m a count bytes seen more refusal answered armed is e small legal shows not_closed active h =
+    let room : room_in m (count % 3) ≡ room_in l (l.active % 3) = ap (λ (k : Log). room_in k (count % 3)) armed ∙ ap (λ (n : ℕ). room_in l (n % 3)) is in
+    let same : covered m bytes ≡ covered l bytes = ap (λ (k : Log). covered k bytes) armed in
+    open_cases l m count bytes seen more refusal (nat_le (covered l bytes) (room_in l (l.active % 3))) refl
+    (sym (ap (λ (n : ℕ). answer_at m count bytes (if nat_le n (room_in m (count % 3)) then Fits else Trips)) same ∙ ap (λ (n : ℕ). answer_at m count bytes (if nat_le (covered l bytes) n then Fits else Trips)) room) ∙ answered)
+    is e small legal shows not_closed active h
+
+-- a fact of each answer that follows from another
+pub on_ok : {X E : Type 0} (P Q : X → Type 0) (r : Result X E) → ((x : X) → P x → Q x) → IfOk r P → IfOk r Q
+on_ok P Q (Ok x) f h = f x h
+on_ok P Q (Err e) f h = tt
+
+pub on_err : {X E : Type 0} (P Q : E → Type 0) (r : Result X E) → ((e : E) → P e → Q e) → IfErr r P → IfErr r Q
+on_err P Q (Ok x) f h = tt
+on_err P Q (Err e) f h = f e h
 
 -- ---- what calls require
 
@@ -217,3 +243,38 @@ pub get_put : {X : Type 0} (xs : List X) (k : ℕ) (x : X) → k < length xs →
 get_put [] k x h = absurd (omega (arith, h))
 get_put (y ∷ ys) zero x h = refl
 get_put (y ∷ ys) (suc k) x h = get_put ys k x (omega (arith, h))
+
+-- an offer that is answered by a position fits
+answered_fits : (l : Log) (bytes n : ℕ) (c : Course) → answer l bytes c ≡ Ok n → c ≡ Fits
+answered_fits l bytes n IsClosed e = absurd (cc)
+answered_fits l bytes n IsStale e = absurd (cc)
+answered_fits l bytes n IsUsedUp e = absurd (cc)
+answered_fits l bytes n IsLimited e = absurd (cc)
+answered_fits l bytes n Fits e = refl
+answered_fits l bytes n Trips e = absurd (cc)
+
+pub course_fits : (l : Log) (bytes n : ℕ) → answer_of l bytes ≡ Ok n → course_of l bytes ≡ Fits
+course_fits l bytes n e = answered_fits l bytes n (course_of l bytes) e
+
+-- an offer that is refused leaves what a claim leaves
+refused_same : (l x y : Log) (by bytes : ℕ) (r : Refusal) (c : Course) → answer l bytes c ≡ Err r → after l by bytes c x ≡ after l by bytes c y
+refused_same l x y by bytes r IsClosed e = refl
+refused_same l x y by bytes r IsStale e = refl
+refused_same l x y by bytes r IsUsedUp e = refl
+refused_same l x y by bytes r IsLimited e = refl
+refused_same l x y by bytes r Fits e = absurd (cc)
+refused_same l x y by bytes r Trips e = refl
+
+pub refused_offer : (l n : Log) (by : ℕ) (message : List ℕ) (r : Refusal) → answer_of l (length message) ≡ Err r → n ≡ after_claim l by (length message) → n ≡ after_offer l by message
+refused_offer l n by message r e is =
+    is ∙ refused_same l (with_claim (added l by (l.active % 3) (covered l (length message))) by false (length message)) (with_message (added l by (l.active % 3) (covered l (length message))) by message) by (length message) r (course_of l (length message)) e
+
+-- a claim that is open
+pub fitting_claim : (l n : Log) (by bytes end : ℕ) → answer_of l bytes ≡ Ok end → n ≡ after_claim l by bytes → n ≡ with_claim (added l by (l.active % 3) (covered l bytes)) by false bytes
+fitting_claim l n by bytes end e is =
+    is ∙ ap (λ (c : Course). after l by bytes c (with_claim (added l by (l.active % 3) (covered l bytes)) by false bytes)) (course_fits l bytes end e)
+
+-- and its message
+pub fitting_offer : (l : Log) (by end : ℕ) (message : List ℕ) → answer_of l (length message) ≡ Ok end → after_offer l by message ≡ with_message (added l by (l.active % 3) (covered l (length message))) by message
+fitting_offer l by end message e =
+    ap (λ (c : Course). after l by (length message) c (with_message (added l by (l.active % 3) (covered l (length message))) by message)) (course_fits l (length message) end e)

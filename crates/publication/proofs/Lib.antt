@@ -1,6 +1,10 @@
+pub mod Added
+pub mod Apart
+pub mod Cleared
 pub mod Courses
 pub mod Fills
 pub mod Frames
 pub mod Justified
 pub mod PaddedWords
 pub mod StoredWords
+pub mod Writing

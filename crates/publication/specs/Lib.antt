@@ -1,3 +1,5 @@
+pub mod Claims
 pub mod Looks
 pub mod Offers
 pub mod Refusals
+pub mod Writes

@@ -1,5 +1,5 @@
 -- What a publisher sees of a log before it adds.
-use Rattle.std.specs.Prelude.{◌≡◌, ℕ, ◌+◌, ◌*◌, ◌%◌, ◌<◌, ◌≤◌, Bool, true, false, List, [], ◌∷◌, ◌++◌, length, Some, slice_set}
+use Rattle.std.specs.Prelude.{◌≡◌, ℕ, ◌+◌, ◌*◌, ◌%◌, ◌<◌, ◌≤◌, true, false, List, [], ◌∷◌, ◌++◌, length, Some, slice_set}
 use Rattle.theory.specs.Position.{id_of}
 use Rattle.theory.specs.Refusal.{is_closed, is_connected, limit_in}
 use Rattle.theory.specs.Words.{id_in, offset_in}
@@ -53,6 +53,7 @@ Saw l by (looks.Open count) seen new =
 -- a pass made one addition to the tail of this count, and then three word calls at the most, of which each exchange is one at the most
 pub record AddsThen (l : Log) (count taken : ℕ) (old new : Pass) : Type 0 where
   pub number : new.number ≡ old.number
+  pub bytes : new.bytes ≡ old.bytes
   pub more : List Step
   pub steps : new.steps ≡ (old.steps ++ steps.Addition (count % 3) taken (raw_tail l (count % 3)) ∷ []) ++ more
   pub few : length more ≤ 3

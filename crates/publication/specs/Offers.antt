@@ -1,13 +1,13 @@
 -- What an offer is answered, and what it changes.
-use Rattle.std.specs.Prelude.{ℕ, ◌+◌, ◌-◌, ◌%◌, ◌^◌, List, length, nat_eq, nat_le, nat_lt, if◌then◌else◌, Result, Ok, Err}
-use Rattle.theory.specs.Position.{aligned}
-use Rattle.log_buffer.specs.Log.{Log, added, offset_of, room_in, term_of, with_message, with_padding}
+use Rattle.std.specs.Prelude.{ℕ, false, ◌+◌, ◌-◌, ◌%◌, ◌^◌, List, length, nat_eq, nat_le, nat_lt, if◌then◌else◌, Result, Ok, Err}
+use Rattle.theory.specs.Position.{framed_length}
+use Rattle.log_buffer.specs.Log.{Log, added, offset_of, room_in, term_of, with_claim, with_message, with_padding}
 use Rattle.rotation.specs.Rotated.{rotated}
 use Rattle.publication.specs.declared.refusal.Refusal.{Refusal}
 use Rattle.publication.specs.declared.refusal.Refusal.TheVariants.{NotConnected, BackPressured, AdminAction, Closed, MaxPositionExceeded}
 
 -- how an offer goes: the log is closed; the active count's partition has a later term; the active term is used up; the
--- tail is at the limit; the frame fits; it doesn't fit the rest of the term
+-- tail is at the limit; the message fits; it doesn't fit the rest of the term
 pub data Course : Type 0 where
   IsClosed : Course
   IsStale : Course
@@ -16,9 +16,9 @@ pub data Course : Type 0 where
   Fits : Course
   Trips : Course
 
--- what a message of this many bytes covers, as one frame
-abbrev pub covered : ℕ → ℕ
-covered bytes = aligned (32 + bytes)
+-- what a message of this many bytes covers
+abbrev pub covered : Log → ℕ → ℕ
+covered l bytes = framed_length l.identity.geometry bytes
 
 abbrev pub course_of : Log → ℕ → Course
 course_of l bytes =
@@ -26,7 +26,7 @@ course_of l bytes =
     else (if nat_lt (l.active + 2) l.newest then IsStale
     else (if nat_le (term_of l) (offset_of l l.active) then IsUsedUp
     else (if nat_le l.limit l.tail then IsLimited
-    else (if nat_le (covered bytes) (room_in l (l.active % 3)) then Fits else Trips))))
+    else (if nat_le (covered l bytes) (room_in l (l.active % 3)) then Fits else Trips))))
 
 -- no more is to be taken: the tail is at the limit
 abbrev pub limited : Log → Refusal
@@ -35,13 +35,13 @@ limited l = if l.connected then BackPressured else NotConnected
 abbrev pub is_last : ℕ → Refusal
 is_last count = if nat_eq count (2 ^ 31 - 1) then MaxPositionExceeded else AdminAction
 
--- the position behind the frame, or the refusal
+-- the position behind the message, or the refusal
 abbrev pub answer : Log → ℕ → Course → Result ℕ Refusal
 answer l bytes IsClosed = Err Closed
 answer l bytes IsStale = Err AdminAction
 answer l bytes IsUsedUp = Err (is_last l.active)
 answer l bytes IsLimited = Err (limited l)
-answer l bytes Fits = Ok (l.tail + covered bytes)
+answer l bytes Fits = Ok (l.tail + covered l bytes)
 answer l bytes Trips = Err (is_last l.active)
 
 abbrev pub answer_of : Log → ℕ → Result ℕ Refusal
@@ -51,25 +51,31 @@ answer_of l bytes = answer l bytes (course_of l bytes)
 abbrev pub turned_from : Log → ℕ → Log
 turned_from l count = if nat_eq count (2 ^ 31 - 1) then l else rotated l count
 
-abbrev pub after : Log → ℕ → List ℕ → Course → Log
-after l by message IsUsedUp = turned_from l l.active
-after l by message Fits = with_message (added l by (l.active % 3) (covered (length message))) by message
-after l by message Trips = turned_from (with_padding (added l by (l.active % 3) (covered (length message))) by (room_in l (l.active % 3))) l.active
-after l by message other = l
+-- the log behind an addition of this many bytes by a course; the last argument is the log where the message fits
+abbrev pub after : Log → ℕ → ℕ → Course → Log → Log
+after l by bytes IsUsedUp fitting = turned_from l l.active
+after l by bytes Fits fitting = fitting
+after l by bytes Trips fitting = turned_from (with_padding (added l by (l.active % 3) (covered l bytes)) by (room_in l (l.active % 3))) l.active
+after l by bytes other fitting = l
 
+-- a message that fits is committed whole
 abbrev pub after_offer : Log → ℕ → List ℕ → Log
-after_offer l by message = after l by message (course_of l (length message))
+after_offer l by message = after l by (length message) (course_of l (length message)) (with_message (added l by (l.active % 3) (covered l (length message))) by message)
+
+-- a claim that fits is open
+abbrev pub after_claim : Log → ℕ → ℕ → Log
+after_claim l by bytes = after l by bytes (course_of l bytes) (with_claim (added l by (l.active % 3) (covered l bytes)) by false bytes)
 
 -- ---- an addition to the tail of an open term, and what follows from it
 
 abbrev pub added_course : Log → ℕ → ℕ → Course
-added_course l count bytes = if nat_le (covered bytes) (room_in l (count % 3)) then Fits else Trips
+added_course l count bytes = if nat_le (covered l bytes) (room_in l (count % 3)) then Fits else Trips
 
-abbrev pub after_course : Log → ℕ → ℕ → List ℕ → Course → Log
-after_course l by count message Fits = with_message (added l by (count % 3) (covered (length message))) by message
-after_course l by count message Trips = turned_from (with_padding (added l by (count % 3) (covered (length message))) by (room_in l (count % 3))) count
-after_course l by count message other = l
+abbrev pub after_course : Log → ℕ → ℕ → ℕ → Course → Log
+after_course l by count bytes Fits = with_claim (added l by (count % 3) (covered l bytes)) by false bytes
+after_course l by count bytes Trips = turned_from (with_padding (added l by (count % 3) (covered l bytes)) by (room_in l (count % 3))) count
+after_course l by count bytes other = l
 
 abbrev pub answer_at : Log → ℕ → ℕ → Course → Result ℕ Refusal
-answer_at l count bytes Fits = Ok (l.tail + covered bytes)
+answer_at l count bytes Fits = Ok (l.tail + covered l bytes)
 answer_at l count bytes other = Err (is_last count)

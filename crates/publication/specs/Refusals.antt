@@ -1,5 +1,5 @@
 -- Why an offer is refused, and what its publisher saw.
-use Rattle.std.specs.Prelude.{ℕ, ℤ, negsuc}
+use Rattle.std.specs.Prelude.{ℤ, negsuc}
 use Rattle.theory.specs.Refusal as whys
 use Rattle.theory.specs.Refusal.{Why}
 use Rattle.publication.specs.declared.refusal.Refusal.{Refusal}

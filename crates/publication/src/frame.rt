@@ -1,27 +1,37 @@
-//! The words of a frame, stored into its claim.
+//! The words of frames, stored into their claim.
 
-ghost use Rattle.std.specs.Prelude.{◌≡◌, ◌+◌, ◌-◌, ◌++◌, ◌≤◌, true, false, length, replicate, drop};
-ghost use Rattle.theory.specs.Position.{aligned, max_position};
-ghost use Rattle.theory.specs.Bytes.{IsIdentity};
+ghost use Rattle.std.specs.Prelude.{◌≡◌, ◌+◌, ◌-◌, ◌++◌, ◌<◌, ◌≤◌, true, false, IfSome, length, replicate, drop};
+ghost use Rattle.theory.specs.Position.{aligned, framed_length, max_payload, max_position};
 ghost use Rattle.theory.specs.Placed.{Data, Pad};
-ghost use Rattle.term_buffer.specs.Kept.{header_rest, rest_of};
-ghost use Rattle.log_buffer.specs.Log.{IsLog, IsOpen, draft_of, with_commit, with_draft};
+ghost use Rattle.term_buffer.specs.Kept.{after_next, cuts_in, header_rest, next_flags, next_length, next_start, rest_of};
+ghost use Rattle.log_buffer.specs.Log.{IsHeld, IsOpen, draft_of, with_abort, with_commit, with_draft};
 ghost use Rattle.log_buffer.specs.Reader.{IsAt, Reader};
+ghost use Rattle.publication.specs.Writes.{place_of, with_whole};
 
 use crate::words::{pair_word, payload_word};
 use log_buffer::{Claimed, LogState};
+use position::Geometry;
 
-/// Stores the words of the header behind the first one.
+/// Where a claim's next frame begins.
+fn frame_start(geometry: &Geometry, claimed: Claimed) -> u64
+    requires more { claimed.frame < length (cuts_in geometry.now claimed) }
+    requires in_stream { claimed.start ≤ max_position geometry.now }
+    ensures { result ≡ next_start geometry.now claimed }
+{
+    claimed.start + u64::from(claimed.frame) * u64::from(geometry.mtu())
+}
+
+/// Stores the words of the next frame's header behind the first one.
 fn store_header(log: &mut LogState, claimed: Claimed)
     requires unset { IsOpen log.old claimed }
-    requires long { 32 ≤ claimed.frame_length }
-    requires in_stream { claimed.start ≤ max_position log.old.identity.geometry }
-    requires drafts { length log.old.drafts ≡ length log.old.entries }
-    requires identity { IsIdentity log.old.identity }
-    ensures stored { log.new ≡ with_draft log.old claimed (header_rest log.old.identity claimed.start ++ drop 24 (draft_of log.old claimed)) }
+    requires long { 32 ≤ next_length log.old.identity.geometry claimed }
+    requires in_stream { next_start log.old.identity.geometry claimed ≤ max_position log.old.identity.geometry }
+    requires drafts { place_of log.old claimed < length log.old.drafts }
+    ensures stored { log.new ≡ with_draft log.old claimed (header_rest log.old.identity (next_start log.old.identity.geometry claimed) ++ drop 24 (draft_of log.old claimed)) }
     ensures readers { (r : Reader) → IsAt log.old r → IsAt log.new r }
 {
-    let place = log.geometry().term_of(claimed.start);
+    let geometry = log.geometry();
+    let place = geometry.term_of(frame_start(&geometry, claimed));
     let offset = place.offset.cast_signed();
     let first = pair_word(offset, log.session());
     let second = pair_word(log.stream(), place.term_id);
@@ -33,9 +43,9 @@ fn store_header(log: &mut LogState, claimed: Claimed)
 /// Stores the payload's words, the last of them with zeros up to its end. The words behind the header are zero.
 fn store_payload(log: &mut LogState, claimed: Claimed, payload: &[u8])
     requires unset { IsOpen log.old claimed }
-    requires whole { 32 + length payload.now ≡ claimed.frame_length }
-    requires blank { draft_of log.old claimed ≡ header_rest log.old.identity claimed.start ++ replicate (aligned claimed.frame_length - 32) 0 }
-    ensures stored { log.new ≡ with_draft log.old claimed (rest_of log.old.identity claimed.start (Data 192 payload.now)) }
+    requires whole { 32 + length payload.now ≡ next_length log.old.identity.geometry claimed }
+    requires blank { draft_of log.old claimed ≡ header_rest log.old.identity (next_start log.old.identity.geometry claimed) ++ replicate (aligned (next_length log.old.identity.geometry claimed) - 32) 0 }
+    ensures stored { log.new ≡ with_draft log.old claimed (rest_of log.old.identity (next_start log.old.identity.geometry claimed) (Data (next_flags log.old.identity.geometry claimed) payload.now)) }
     ensures readers { (r : Reader) → IsAt log.old r → IsAt log.new r }
 {
     for index in 0..payload.len().div_ceil(8) {
@@ -45,33 +55,64 @@ fn store_payload(log: &mut LogState, claimed: Claimed, payload: &[u8])
     }
 }
 
-/// Writes and commits a message's frame into its claim, of which nothing is written.
-pub(crate) fn write_message(log: &mut LogState, claimed: Claimed, message: &[u8])
+/// Writes and commits the next frame of a message's claim, of which nothing is written. The answer is the claim for the
+/// frame behind it, where there is one.
+pub(crate) fn write_frame(log: &mut LogState, claimed: Claimed, part: &[u8]) -> Option<Claimed>
     requires unset { IsOpen log.old claimed }
     requires message { claimed.padding ≡ false }
-    requires in_stream { claimed.start ≤ max_position log.old.identity.geometry }
-    requires legal { IsLog log.old }
-    requires whole { 32 + length message.now ≡ claimed.frame_length }
-    requires blank { draft_of log.old claimed ≡ replicate (aligned claimed.frame_length - 8) 0 }
-    ensures committed { log.new ≡ with_commit log.old claimed (Data 192 message.now) }
+    requires in_stream { next_start log.old.identity.geometry claimed ≤ max_position log.old.identity.geometry }
+    requires whole { 32 + length part.now ≡ next_length log.old.identity.geometry claimed }
+    requires blank { draft_of log.old claimed ≡ replicate (aligned (next_length log.old.identity.geometry claimed) - 8) 0 }
+    ensures committed { log.new ≡ with_commit log.old claimed (Data (next_flags log.old.identity.geometry claimed) part.now) }
+    ensures next { result ≡ after_next log.old.identity.geometry claimed }
+    ensures still { IfSome result (λ next. IsOpen log.new next) }
     ensures readers { (r : Reader) → IsAt log.old r → IsAt log.new r }
 {
     store_header(log, claimed);
-    store_payload(log, claimed, message);
-    log.commit(claimed);
+    store_payload(log, claimed, part);
+    log.commit(claimed)
+}
+
+/// Writes and commits a message's frames into its claim, from the first to the last.
+pub(crate) fn write_message(log: &mut LogState, claimed: Claimed, message: &[u8])
+    requires held { IsHeld log.old claimed }
+    requires in_stream { claimed.start + framed_length log.old.identity.geometry claimed.size ≤ max_position log.old.identity.geometry }
+    requires whole { length message.now ≡ claimed.size }
+    ensures committed { log.new ≡ with_whole log.old claimed message.now }
+    ensures readers { (r : Reader) → IsAt log.old r → IsAt log.new r }
+{
+    let most = log.geometry().max_payload() as usize;
+    let mut rest = message;
+    let mut next = Some(claimed);
+    while let Some(claimed) = next {
+        let (part, behind) = rest.split_at(rest.len().min(most));
+        next = write_frame(log, claimed, part);
+        rest = behind;
+    }
 }
 
 /// Writes and commits a padding into its claim, of which nothing is written.
 pub(crate) fn write_padding(log: &mut LogState, claimed: Claimed)
     requires unset { IsOpen log.old claimed }
     requires padding { claimed.padding ≡ true }
+    requires first { claimed.frame ≡ 0 }
     requires in_stream { claimed.start ≤ max_position log.old.identity.geometry }
-    requires legal { IsLog log.old }
-    requires long { 32 ≤ claimed.frame_length }
-    requires blank { draft_of log.old claimed ≡ replicate (aligned claimed.frame_length - 8) 0 }
-    ensures committed { log.new ≡ with_commit log.old claimed (Pad claimed.frame_length) }
+    requires long { 32 ≤ claimed.size }
+    requires blank { draft_of log.old claimed ≡ replicate (aligned claimed.size - 8) 0 }
+    ensures committed { log.new ≡ with_commit log.old claimed (Pad claimed.size) }
     ensures readers { (r : Reader) → IsAt log.old r → IsAt log.new r }
 {
     store_header(log, claimed);
     log.commit(claimed);
+}
+
+/// Makes a message's claim of one frame, of which nothing is written, a padding of the same range.
+pub(crate) fn write_abort(log: &mut LogState, claimed: Claimed)
+    requires held { IsHeld log.old claimed }
+    requires short { claimed.size ≤ max_payload log.old.identity.geometry }
+    ensures aborted { log.new ≡ with_abort log.old claimed }
+    ensures readers { (r : Reader) → IsAt log.old r → IsAt log.new r }
+{
+    store_header(log, claimed);
+    log.abort(claimed);
 }

@@ -1,14 +1,18 @@
 //! The publishing side of a log: messages in, frames and refusals out.
 //!
-//! An offer wants no memory, and makes at most seven word calls beyond the words that it stores.
+//! An offer publishes a message whole, as the frames that its length wants. A claim is a range for a message of one frame,
+//! whose bytes are written before it is committed or aborted. Both want no memory, and make at most seven word calls
+//! beyond the words that they store.
 #![tactic(auto)]
 
+mod claim;
 mod frame;
 mod looking;
 mod offers;
 mod refusal;
 mod words;
 
+pub use claim::{Claim, Denied, try_claim};
 pub use offers::offer;
 pub use refusal::Refusal;
 

@@ -2,11 +2,11 @@
 
 ghost use Rattle.std.specs.Prelude.{◌≡◌, ℕ, ◌≤◌, ◌<◌, ◌+◌, ◌*◌, ◌^◌, ◌↔◌, [], IsTrue};
 ghost use Rattle.theory.specs.Position.{id_of};
-ghost use Rattle.log_buffer.specs.Log.{IsLog};
+ghost use Rattle.log_buffer.specs.Log.{IsHeld, IsLog};
 ghost use Rattle.log_buffer.specs.Reader.{IsAt, Reader};
 ghost use Rattle.publication.specs.Looks.{Saw, ShowsLimit};
 
-use log_buffer::{Limit, LogState, Publisher, RawTail};
+use log_buffer::{Claimed, Limit, LogState, Publisher, RawTail};
 use position::Geometry;
 
 /// What the limit word, the active count and its raw tail say.
@@ -33,7 +33,9 @@ pub(crate) fn look_at(log: &mut LogState, publisher: &mut Publisher) -> Look
     ensures legal { IsLog log.new }
     ensures counted { log.old.active < 2 ^ 31 }
     ensures number { publisher.new.number ≡ publisher.old.number }
+    ensures bytes { publisher.new.bytes ≡ publisher.old.bytes }
     ensures readers { (r : Reader) → IsAt log.old r → IsAt log.new r }
+    ensures claims { (c : Claimed) → IsHeld log.old c → IsHeld log.new c }
 {
     let limit = log.load_limit(publisher);
     if limit.closed {

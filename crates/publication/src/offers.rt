@@ -1,34 +1,67 @@
-ghost use Rattle.std.specs.Prelude.{◌≡◌, ℕ, ◌+◌, ◌/◌, ◌%◌, ◌<◌, ◌≤◌, ◌^◌, Some, length, slice_get, IfErr, if◌then◌else◌};
-ghost use Rattle.theory.specs.Position.{id_of, max_payload};
+ghost use Rattle.std.specs.Prelude.{◌≡◌, ℕ, ◌+◌, ◌/◌, ◌%◌, ◌<◌, ◌≤◌, ◌^◌, Some, Ok, Err, IfErr, IfOk, length, max, slice_get, if◌then◌else◌};
+ghost use Rattle.theory.specs.Position.{id_of, max_message, max_payload, max_position};
 ghost use Rattle.theory.specs.Refusal.{IsJustified};
 ghost use Rattle.theory.specs.Words.{id_in, offset_in};
-ghost use Rattle.log_buffer.specs.Log.{IsFinished, IsLog, offset_of, raw_tail, term_of};
+ghost use Rattle.log_buffer.specs.Log.{IsFinished, IsHeld, IsLog, offset_of, raw_tail, term_of};
 ghost use Rattle.log_buffer.specs.Passes.{HasSeenEnd, sights};
 ghost use Rattle.log_buffer.specs.Reader.{IsAt, Reader};
 ghost use Rattle.rotation.specs.Turning.{Adds, count_exchanges, tail_exchanges};
+ghost use Rattle.publication.specs.Claims.{IsBrief, claim_at};
 ghost use Rattle.publication.specs.Looks.{AddsThen};
-ghost use Rattle.publication.specs.Offers.{added_course, after_course, after_offer, answer_at, answer_of, covered, is_last, turned_from};
+ghost use Rattle.publication.specs.Offers.{added_course, after_claim, after_course, after_offer, answer_at, answer_of, covered, is_last, turned_from};
 ghost use Rattle.publication.specs.Refusals.{why_of};
 
 use crate::frame::{write_message, write_padding};
 use crate::looking::{Look, look_at};
 use crate::refusal::Refusal;
-use log_buffer::{Limit, LogState, Publisher};
+use log_buffer::{Claimed, Limit, LogState, Publisher};
 use rotation::rotate;
 
-/// Publishes a message as one frame. It is accepted if the log isn't closed, the active term isn't used up, the tail is
-/// below the limit and the frame fits the rest of the term; the answer is then the position behind it. A message that
-/// doesn't fit leaves a padding up to the term's end, and the log turns to the next term. It wants no memory.
+/// Publishes a message of up to the greatest length, as one frame or as several. It is accepted if the log isn't closed,
+/// the active term isn't used up, the tail is below the limit and the frames fit the rest of the term; the answer is then
+/// the position behind them. A message that doesn't fit leaves a padding up to the term's end, and the log turns to the
+/// next term. It wants no memory.
 pub fn offer(log: &mut LogState, publisher: &mut Publisher, message: &[u8]) -> Result<u64, Refusal>
-    requires { length message.now ≤ max_payload log.old.identity.geometry }
+    requires { length message.now ≤ max_message log.old.identity.geometry }
     ensures answer { result ≡ answer_of log.old (length message.now) }
     ensures after { log.new ≡ after_offer log.old publisher.old.number message.now }
-    ensures justified { IfErr result (λ refusal. IsJustified log.old.identity.geometry (covered (length message.now)) (sights publisher.new.steps) (why_of refusal)) }
+    ensures justified { IfErr result (λ refusal. IsJustified log.old.identity.geometry (covered log.old (length message.now)) (sights publisher.new.steps) (why_of refusal)) }
     ensures few { length publisher.new.steps ≤ 7 }
     ensures one_tail { tail_exchanges publisher.new.steps ≤ 1 }
     ensures one_count { count_exchanges publisher.new.steps ≤ 1 }
     ensures same_pass { publisher.new.number ≡ publisher.old.number }
+    ensures pass { publisher.old.number < 8 }
+    ensures same_bytes { publisher.new.bytes ≡ publisher.old.bytes }
+    ensures legal { IsLog log.old }
     ensures readers { (r : Reader) → IsAt log.old r → IsAt log.new r }
+    ensures claims { (c : Claimed) → IsHeld log.old c → IsHeld log.new c }
+{
+    let claimed = claim_range(log, publisher, message.len() as u32)?;
+    let covered = log.geometry().framed_length(claimed.size);
+    write_message(log, claimed, message);
+    Ok(claimed.start + u64::from(covered))
+}
+
+/// Claims a range for a message of `size` bytes at the tail, or says why there is none.
+pub(crate) fn claim_range(
+    log: &mut LogState,
+    publisher: &mut Publisher,
+    size: u32,
+) -> Result<Claimed, Refusal>
+    requires short { size ≤ max (max_message log.old.identity.geometry) (max_payload log.old.identity.geometry) }
+    ensures claimed { IfOk result (λ claimed. (answer_of log.old size ≡ Ok (claimed.start + covered log.old size)) × (claimed ≡ claim_at log.old publisher.old.number size)) }
+    ensures held { IfOk result (λ claimed. IsHeld log.new claimed) }
+    ensures legal_claimed { IfOk result (λ claimed. IsLog log.new) }
+    ensures in_stream { IfOk result (λ claimed. claimed.start + covered log.old size ≤ max_position log.old.identity.geometry) }
+    ensures refused { IfErr result (λ refusal. answer_of log.old size ≡ Err refusal) }
+    ensures after { log.new ≡ after_claim log.old publisher.old.number size }
+    ensures justified { IfErr result (λ refusal. IsJustified log.old.identity.geometry (covered log.old size) (sights publisher.new.steps) (why_of refusal)) }
+    ensures brief { IsBrief publisher.old publisher.new }
+    ensures pass { publisher.old.number < 8 }
+    ensures same_bytes { publisher.new.bytes ≡ publisher.old.bytes }
+    ensures legal { IsLog log.old }
+    ensures readers { (r : Reader) → IsAt log.old r → IsAt log.new r }
+    ensures claims { (c : Claimed) → IsHeld log.old c → IsHeld log.new c }
 {
     publisher.begin();
     match look_at(log, publisher) {
@@ -36,7 +69,7 @@ pub fn offer(log: &mut LogState, publisher: &mut Publisher, message: &[u8]) -> R
         Look::Stale => Err(Refusal::AdminAction),
         Look::UsedUp(count) => Err(turn_from(log, publisher, count)),
         Look::Limited(limit) => Err(refused_at(limit)),
-        Look::Open(count) => add_message(log, publisher, count, message),
+        Look::Open(count) => add_range(log, publisher, count, size),
     }
 }
 
@@ -61,6 +94,7 @@ fn turn_from(log: &mut LogState, publisher: &mut Publisher, count: u32) -> Refus
     ensures turned { log.new ≡ turned_from log.old count }
     ensures adds { Adds 3 1 1 publisher.old publisher.new }
     ensures readers { (r : Reader) → IsAt log.old r → IsAt log.new r }
+    ensures claims { (c : Claimed) → IsHeld log.old c → IsHeld log.new c }
 {
     if count == i32::MAX as u32 {
         return Refusal::MaxPositionExceeded;
@@ -69,14 +103,14 @@ fn turn_from(log: &mut LogState, publisher: &mut Publisher, count: u32) -> Refus
     Refusal::AdminAction
 }
 
-/// Adds a message's frame to the tail of the term with this count, and commits what it gave.
-fn add_message(
+/// Adds a message's range to the tail of the term with this count. A padding that came instead of it is committed.
+fn add_range(
     log: &mut LogState,
     publisher: &mut Publisher,
     count: u32,
-    message: &[u8],
-) -> Result<u64, Refusal>
-    requires short { length message.now ≤ max_payload log.old.identity.geometry }
+    size: u32,
+) -> Result<Claimed, Refusal>
+    requires short { size ≤ max_message log.old.identity.geometry }
     requires few { length publisher.old.steps ≤ 3 }
     requires last { count < 2 ^ 31 }
     requires armed { slice_get log.old.armed publisher.old.number ≡ Some (Some (count % 3)) }
@@ -86,18 +120,19 @@ fn add_message(
     requires opened { log.old.start / term_of log.old ≤ count }
     requires shows_id { id_in (raw_tail log.old (count % 3)) ≡ id_of log.old.identity.geometry count }
     requires shows_offset { offset_in (raw_tail log.old (count % 3)) ≡ offset_of log.old count }
-    ensures answer { result ≡ answer_at log.old count (length message.now) (added_course log.old count (length message.now)) }
-    ensures after { log.new ≡ after_course log.old publisher.old.number count message.now (added_course log.old count (length message.now)) }
-    ensures steps { AddsThen log.old count (covered (length message.now)) publisher.old publisher.new }
+    ensures claimed { IfOk result (λ claimed. (answer_at log.old count size (added_course log.old count size) ≡ Ok (claimed.start + covered log.old size)) × (claimed ≡ claim_at log.old publisher.old.number size)) }
+    ensures held { IfOk result (λ claimed. IsHeld log.new claimed) }
+    ensures legal_claimed { IfOk result (λ claimed. IsLog log.new) }
+    ensures in_stream { IfOk result (λ claimed. claimed.start + covered log.old size ≤ max_position log.old.identity.geometry) }
+    ensures refused { IfErr result (λ refusal. answer_at log.old count size (added_course log.old count size) ≡ Err refusal) }
+    ensures after { log.new ≡ after_course log.old publisher.old.number count size (added_course log.old count size) }
+    ensures steps { AddsThen log.old count (covered log.old size) publisher.old publisher.new }
     ensures readers { (r : Reader) → IsAt log.old r → IsAt log.new r }
+    ensures claims { (c : Claimed) → IsHeld log.old c → IsHeld log.new c }
 {
-    let frame_length = 32 + message.len() as u32;
-    let added = log.add(publisher, count, frame_length);
+    let added = log.add(publisher, count, size);
     match added.claimed {
-        Some(claimed) if !claimed.padding => {
-            write_message(log, claimed, message);
-            Ok(log.tail())
-        }
+        Some(claimed) if !claimed.padding => Ok(claimed),
         Some(claimed) => {
             write_padding(log, claimed);
             Err(turn_from(log, publisher, count))

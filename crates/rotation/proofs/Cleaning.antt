@@ -8,7 +8,7 @@ use Rattle.theory.specs.Tiling.{Tiles}
 use Rattle.theory.specs.Position.{greatest_claim}
 use Rattle.theory.proofs.Claims.{claim_bounded}
 use Rattle.theory.proofs.Lists.{all_append, all_weaker}
-use Rattle.log_buffer.specs.Log.{Cleans, IsLog, Log, clean_end, term_of}
+use Rattle.log_buffer.specs.Log.{Cleans, IsHeld, IsLog, Log, clean_end, term_of}
 use Rattle.log_buffer.specs.Reader.{IsAt, Reader}
 
 pub tiles_append : (term p q r : ℕ) (es fs : List Entry) → Tiles term p q es → Tiles term q r fs → Tiles term p r (es ++ fs)
@@ -63,15 +63,17 @@ pub record IsCleaning (old : Log) (end : ℕ) (now : Log) : Type 0 where
   pub cleans : Cleans old now.cleaned now
   pub below : now.cleaned ≤ end
   pub readers : (r : Reader) → IsAt old r → IsAt now r
+  pub claims : (c : _) → IsHeld old c → IsHeld now c
 
 -- one word more
-pub cleans_on : (old b c : Log) (end : ℕ) → IsCleaning old end b → Cleans b (b.cleaned + 8) c → b.cleaned + 8 ≤ end → ((r : Reader) → IsAt b r → IsAt c r) → IsCleaning old end c
-cleans_on old b c end h k below readers =
+pub cleans_on : (old b c : Log) (end : ℕ) → IsCleaning old end b → Cleans b (b.cleaned + 8) c → b.cleaned + 8 ≤ end → ((r : Reader) → IsAt b r → IsAt c r) → ((d : _) → IsHeld b d → IsHeld c d) → IsCleaning old end c
+cleans_on old b c end h k below readers claims =
     let at : c.cleaned ≡ b.cleaned + 8 = cleaned_is b c (b.cleaned + 8) k in
     record {
       cleans = subst (λ (x : ℕ). Cleans old x c) (sym at) (cleans_more old b c b.cleaned (b.cleaned + 8) (omega arith) h.cleans k);
       below = omega (arith, at, below);
       readers = λ r x. readers r (h.readers r x);
+      claims = λ d x. claims d (h.claims d x);
     }
 
 -- ---- the limit

@@ -24,6 +24,7 @@ count_exchanges taken = length (filter exchanges_count taken)
 -- the pass has made so many more word calls at the most, and of them so many exchanges
 pub record Adds (most tails counts : ℕ) (old new : Pass) : Type 0 where
   pub number : new.number ≡ old.number
+  pub bytes : new.bytes ≡ old.bytes
   pub more : List Step
   pub steps : new.steps ≡ old.steps ++ more
   pub few : length more ≤ most

@@ -1,14 +1,15 @@
 ghost use Rattle.std.specs.Prelude.{◌≡◌, ◌≤◌, ◌%◌, true};
-ghost use Rattle.log_buffer.specs.Log.{Cleans, IsLeast, IsLog, clean_end};
+ghost use Rattle.log_buffer.specs.Log.{Cleans, IsHeld, IsLeast, IsLog, clean_end};
 ghost use Rattle.log_buffer.specs.Reader.{IsAt, Reader};
 ghost use Rattle.rotation.specs.Limited.{CleansAndLimits, raised};
 
-use log_buffer::{Keeper, Limit, LogState};
+use log_buffer::{Claimed, Keeper, Limit, LogState};
 
 /// Says whether somebody receives the stream.
 pub fn set_connected(log: &mut LogState, _keeper: &mut Keeper, connected: bool)
     ensures set { log.new ≡ record log.old { connected = connected } }
     ensures readers { (r : Reader) → IsAt log.old r → IsAt log.new r }
+    ensures claims { (c : Claimed) → IsHeld log.old c → IsHeld log.new c }
 {
     let limit = log.limit();
     log.store_limit(Limit { connected, ..limit });
@@ -18,6 +19,7 @@ pub fn set_connected(log: &mut LogState, _keeper: &mut Keeper, connected: bool)
 pub fn set_closed(log: &mut LogState, _keeper: &mut Keeper)
     ensures set { log.new ≡ record log.old { closed = true } }
     ensures readers { (r : Reader) → IsAt log.old r → IsAt log.new r }
+    ensures claims { (c : Claimed) → IsHeld log.old c → IsHeld log.new c }
 {
     let limit = log.limit();
     log.store_limit(Limit {
@@ -31,7 +33,9 @@ pub fn set_closed(log: &mut LogState, _keeper: &mut Keeper)
 pub fn clean_and_limit(log: &mut LogState, _keeper: &mut Keeper) -> u64
     ensures done { CleansAndLimits log.old log.new }
     ensures limit { result ≡ raised log.old }
+    ensures legal { IsLog log.old }
     ensures readers { (r : Reader) → IsAt log.old r → IsAt log.new r }
+    ensures claims { (c : Claimed) → IsHeld log.old c → IsHeld log.new c }
 {
     let least = log.least_consumer();
     clean_below(log, least);
@@ -52,6 +56,7 @@ fn clean_below(log: &mut LogState, least: u64)
     requires legal { IsLog log.old }
     ensures cleaned { Cleans log.old (clean_end log.old least) log.new }
     ensures readers { (r : Reader) → IsAt log.old r → IsAt log.new r }
+    ensures claims { (c : Claimed) → IsHeld log.old c → IsHeld log.new c }
 {
     let length = u64::from(log.geometry().term_length());
     let end = log.start().max(least.saturating_sub(length));
@@ -67,6 +72,7 @@ fn clean_to(log: &mut LogState, least: u64, end: u64)
     requires legal { IsLog log.old }
     ensures cleaned { Cleans log.old end log.new }
     ensures readers { (r : Reader) → IsAt log.old r → IsAt log.new r }
+    ensures claims { (c : Claimed) → IsHeld log.old c → IsHeld log.new c }
 {
     while log.cleaned() < end {
         log.clean(least);

@@ -1,12 +1,12 @@
 ghost use Rattle.std.specs.Prelude.{◌≡◌, ℕ, ◌+◌, ◌<◌, ◌≤◌, ◌↔◌, IsTrue, length};
-ghost use Rattle.log_buffer.specs.Log.{IsFinished, counted};
+ghost use Rattle.log_buffer.specs.Log.{IsFinished, IsHeld, counted};
 ghost use Rattle.log_buffer.specs.Passes.{HasSeenEnd};
 ghost use Rattle.log_buffer.specs.Reader.{IsAt, Reader};
 ghost use Rattle.rotation.specs.Rotated.{rotated, with_next};
 ghost use Rattle.rotation.specs.Turning.{Adds, Turns};
 
 use crate::ids::{shows_next, shows_two_before};
-use log_buffer::{LogState, Publisher};
+use log_buffer::{Claimed, LogState, Publisher};
 
 /// Turns from the term with this count, which is used up, to the next: exchanges the raw tail of the next partition and
 /// then the active count, each once at the most. Another publisher's turn is helped on.
@@ -17,6 +17,7 @@ pub fn rotate(log: &mut LogState, publisher: &mut Publisher, count: u32)
     ensures rotated { log.new ≡ rotated log.old count }
     ensures turns { Turns publisher.old publisher.new }
     ensures readers { (r : Reader) → IsAt log.old r → IsAt log.new r }
+    ensures claims { (c : Claimed) → IsHeld log.old c → IsHeld log.new c }
 {
     if begin_next(log, publisher, count) {
         let _ = log.exchange_count(publisher, count);
@@ -32,6 +33,7 @@ fn begin_next(log: &mut LogState, publisher: &mut Publisher, count: u32) -> bool
     ensures shown { IsTrue result ↔ (log.new.newest ≤ count + 3) }
     ensures adds { Adds 2 1 0 publisher.old publisher.new }
     ensures readers { (r : Reader) → IsAt log.old r → IsAt log.new r }
+    ensures claims { (c : Claimed) → IsHeld log.old c → IsHeld log.new c }
 {
     let geometry = log.geometry();
     let loaded = log.load_next_tail(publisher, count);

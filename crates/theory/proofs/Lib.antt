@@ -11,11 +11,13 @@ pub mod Room
 pub mod Behind
 pub mod Held
 pub mod Spelled
+pub mod Cuts
 pub mod Datagrams
 pub mod Wired
 pub mod Gaps
 pub mod Named
 pub mod Opens
+pub mod Pieces
 pub mod Shares
 pub mod WorldGaps
 pub mod Rows
@@ -35,4 +37,3 @@ pub mod Groups
 pub mod Fresh
 pub mod RefusalRows
 pub mod Asked
-pub mod Cuts

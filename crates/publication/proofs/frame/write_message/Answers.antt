@@ -1,20 +1,45 @@
-use Rattle.std.proofs.Common.{◌<◌, length, arith, sym, ◌∙◌}
+use Rattle.std.proofs.Common.{◌≡◌, ◌<◌, ℕ, length, min, take, drop, Option, subst, ap, ◌∙◌, arith}
 use Rattle.std.proofs.lemmas.Option.{slice_get_within}
-use Rattle.theory.specs.Placed.{Data, Pad}
-use Rattle.log_buffer.specs.Log.{place_of}
-use Rattle.publication.proofs.Frames.{blank_behind, frame_committed, frame_written, message_filled, message_rest}
+use Rattle.theory.specs.Position.{Geometry, IsGeometry, max_payload}
+use Rattle.term_buffer.specs.declared.claimed.Claimed.{Claimed}
+use Rattle.publication.specs.Writes.{place_of}
+use Rattle.publication.proofs.Writing.{IsWriting, Writes, held_inside, next_blank, next_in_stream, next_length_is, writes_on, writing_begins}
 use Rattle.publication.proofs.frame.write_message.Goals as goal
 
-pub store_payload-requires-clause-blank : goal.store_payload-requires-clause-blank
-store_payload-requires-clause-blank c =
-    let within : place_of c.args.log.now c.args.claimed.number < length c.args.log.now.drafts = omega (arith, slice_get_within c.args.log.now.entries (place_of c.args.log.now c.args.claimed.number) _ c.requires.unset.entry, c.requires.legal.drafts) in
-    blank_behind c.args.log.now c.store_header.new.log c.args.claimed within c.requires.blank c.store_header.ensures.stored
+legal : (c : goal.After-write_frame-arg-1) → IsGeometry c.args.log.now.identity.geometry
+legal c = subst (λ (g : Geometry). IsGeometry g) c.geometry.ensures.value c.geometry.ensures.legal
 
-pub returns-clause-committed : goal.returns-clause-committed
-returns-clause-committed c =
-    let within : place_of c.args.log.now c.args.claimed.number < length c.args.log.now.drafts = omega (arith, slice_get_within c.args.log.now.entries (place_of c.args.log.now c.args.claimed.number) _ c.requires.unset.entry, c.requires.legal.drafts) in
-    frame_committed c.args.log.now c.store_payload.new.log c.commit.new.self c.args.claimed (Data 192 c.args.message.now) within (message_rest c.args.log.now c.args.claimed c.args.message.now c.requires.message c.requires.whole)
-    (message_filled c.args.log.now c.store_header.new.log c.store_payload.new.log c.args.claimed c.args.message.now _ c.store_header.ensures.stored c.store_payload.ensures.stored) c.commit.ensures.committed
+-- how much of what is left the next frame takes
+taken : (c : goal.After-write_frame-arg-1) → c.min.result ≡ min (length c.loop-next.rest.now) (max_payload c.args.log.now.identity.geometry)
+taken c = c.min.ensures ∙ ap (λ (n : ℕ). min (length c.loop-next.rest.now) n) (c.max_payload-most.ensures.value ∙ ap max_payload c.geometry.ensures.value)
 
-pub returns-clause-readers : goal.returns-clause-readers
-returns-clause-readers c = λ r h. c.commit.ensures.readers r (c.store_payload.ensures.readers r (c.store_header.ensures.readers r h))
+writing : (c : goal.After-write_frame-arg-1) → IsWriting c.args.log.now c.args.claimed c.args.message.now c.loop-next.log c.loop-next.rest.now c.in-Some.claimed
+writing c = subst (λ (o : Option Claimed). Writes c.args.log.now c.args.claimed c.args.message.now c.loop-next.log c.loop-next.rest.now o) c.in-Some.is c.loop-next.invariant.writes
+
+pub loop-next-init : goal.loop-next-init
+loop-next-init c = record { writes = writing_begins c.args.log.now c.args.claimed c.args.message.now c.requires.held c.requires.whole; readers = λ r h. h }
+
+pub write_frame-next-requires-clause-in_stream : goal.write_frame-next-requires-clause-in_stream
+write_frame-next-requires-clause-in_stream c = next_in_stream c.args.log.now c.loop-next.log c.args.claimed c.in-Some.claimed c.args.message.now c.loop-next.rest.now (legal c) c.requires.held.message c.requires.in_stream (writing c)
+
+pub write_frame-next-requires-clause-whole : goal.write_frame-next-requires-clause-whole
+write_frame-next-requires-clause-whole c = omega (arith, next_length_is c.args.log.now c.loop-next.log c.args.claimed c.in-Some.claimed c.args.message.now c.loop-next.rest.now (legal c) (writing c), c.split_at.ensures.front_len, taken c)
+
+pub write_frame-next-requires-clause-blank : goal.write_frame-next-requires-clause-blank
+write_frame-next-requires-clause-blank c = next_blank c.args.log.now c.loop-next.log c.args.claimed c.in-Some.claimed c.args.message.now c.loop-next.rest.now (legal c) (held_inside c.args.log.now c.args.claimed c.args.message.now (legal c) c.requires.held c.requires.whole) (writing c)
+
+pub loop-next-preserved : goal.loop-next-preserved
+loop-next-preserved c =
+    let within : place_of c.args.log.now c.args.claimed < length c.args.log.now.entries = slice_get_within c.args.log.now.entries (place_of c.args.log.now c.args.claimed) _ c.requires.held.unset.entry in
+    let same : IsGeometry c.args.log.now.identity.geometry = subst (λ (g : Geometry). IsGeometry g) c.geometry.ensures.value c.geometry.ensures.legal in
+    let size : c.min.result ≡ min (length c.loop-next.rest.now) (max_payload c.args.log.now.identity.geometry) = c.min.ensures ∙ ap (λ (n : ℕ). min (length c.loop-next.rest.now) n) (c.max_payload-most.ensures.value ∙ ap max_payload c.geometry.ensures.value) in
+    let so_far : IsWriting c.args.log.now c.args.claimed c.args.message.now c.loop-next.log c.loop-next.rest.now c.in-Some.claimed = subst (λ (o : Option Claimed). Writes c.args.log.now c.args.claimed c.args.message.now c.loop-next.log c.loop-next.rest.now o) c.in-Some.is c.loop-next.invariant.writes in
+    record {
+      writes =
+          writes_on c.args.log.now c.loop-next.log c.write_frame-next.new.log c.args.claimed c.in-Some.claimed c.args.message.now c.loop-next.rest.now c.split_at.result.0.now c.split_at.result.1.now c.write_frame-next.result
+          same within so_far
+          (c.split_at.ensures.front ∙ ap (λ (n : ℕ). take n c.loop-next.rest.now) size)
+          (c.split_at.ensures.back ∙ ap (λ (n : ℕ). drop n c.loop-next.rest.now) size)
+          c.write_frame-next.ensures.committed c.write_frame-next.ensures.next c.write_frame-next.ensures.still;
+      readers = λ r h. c.write_frame-next.ensures.readers r (c.loop-next.invariant.readers r h);
+    }

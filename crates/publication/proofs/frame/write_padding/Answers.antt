@@ -1,19 +1,33 @@
-use Rattle.std.proofs.Common.{◌<◌, length, arith, sym, ◌∙◌}
-use Rattle.std.proofs.lemmas.Option.{slice_get_within}
-use Rattle.theory.specs.Placed.{Data, Pad}
-use Rattle.log_buffer.specs.Log.{place_of}
-use Rattle.publication.proofs.Frames.{frame_committed, frame_written, padding_filled, padding_rest}
+use Rattle.std.proofs.Common.{◌-◌, arith}
+use Rattle.theory.specs.Position.{aligned}
+use Rattle.theory.specs.Placed.{Pad}
+use Rattle.publication.proofs.Fills.{open_drafted}
+use Rattle.publication.proofs.Frames.{draft_inside, frame_committed, frame_written, padding_filled, padding_length, padding_rest, padding_start}
 use Rattle.publication.proofs.frame.write_padding.Goals as goal
+
+pub store_header-requires-clause-drafts : goal.store_header-requires-clause-drafts
+store_header-requires-clause-drafts c = draft_inside c.args.log.now c.args.claimed (aligned c.args.claimed.size - 8) c.requires.blank (omega (arith, c.requires.long))
+
+pub store_header-requires-clause-long : goal.store_header-requires-clause-long
+store_header-requires-clause-long c = omega (arith, padding_length c.args.log.now.identity.geometry c.args.claimed c.requires.padding c.requires.first, c.requires.long)
+
+pub store_header-requires-clause-in_stream : goal.store_header-requires-clause-in_stream
+store_header-requires-clause-in_stream c = omega (arith, padding_start c.args.log.now.identity.geometry c.args.claimed c.requires.first, c.requires.in_stream)
+
+pub commit-requires-clause-unset : goal.commit-requires-clause-unset
+commit-requires-clause-unset c = open_drafted c.args.log.now c.store_header.new.log c.args.claimed _ c.store_header.ensures.stored c.requires.unset
 
 pub commit-requires-clause-written : goal.commit-requires-clause-written
 commit-requires-clause-written c =
-    let within : place_of c.args.log.now c.args.claimed.number < length c.args.log.now.drafts = omega (arith, slice_get_within c.args.log.now.entries (place_of c.args.log.now c.args.claimed.number) _ c.requires.unset.entry, c.requires.legal.drafts) in
-    frame_written c.args.log.now c.store_header.new.log c.args.claimed (Pad c.args.claimed.frame_length) within (padding_rest c.args.log.now c.args.claimed c.requires.padding) (padding_filled c.args.log.now c.store_header.new.log c.args.claimed within c.requires.blank c.store_header.ensures.stored)
+    frame_written c.args.log.now c.store_header.new.log c.args.claimed (Pad c.args.claimed.size)
+    (draft_inside c.args.log.now c.args.claimed (aligned c.args.claimed.size - 8) c.requires.blank (omega (arith, c.requires.long)))
+    (padding_rest c.args.log.now c.args.claimed c.requires.padding c.requires.first)
+    (padding_filled c.args.log.now c.store_header.new.log c.args.claimed c.args.claimed.size c.requires.blank c.store_header.ensures.stored)
 
 pub returns-clause-committed : goal.returns-clause-committed
 returns-clause-committed c =
-    let within : place_of c.args.log.now c.args.claimed.number < length c.args.log.now.drafts = omega (arith, slice_get_within c.args.log.now.entries (place_of c.args.log.now c.args.claimed.number) _ c.requires.unset.entry, c.requires.legal.drafts) in
-    frame_committed c.args.log.now c.store_header.new.log c.commit.new.self c.args.claimed (Pad c.args.claimed.frame_length) within (padding_rest c.args.log.now c.args.claimed c.requires.padding) (padding_filled c.args.log.now c.store_header.new.log c.args.claimed within c.requires.blank c.store_header.ensures.stored) c.commit.ensures.committed
-
-pub returns-clause-readers : goal.returns-clause-readers
-returns-clause-readers c = λ r h. c.commit.ensures.readers r (c.store_header.ensures.readers r h)
+    frame_committed c.args.log.now c.store_header.new.log c.commit.new.self c.args.claimed (Pad c.args.claimed.size)
+    (draft_inside c.args.log.now c.args.claimed (aligned c.args.claimed.size - 8) c.requires.blank (omega (arith, c.requires.long)))
+    (padding_rest c.args.log.now c.args.claimed c.requires.padding c.requires.first)
+    (padding_filled c.args.log.now c.store_header.new.log c.args.claimed c.args.claimed.size c.requires.blank c.store_header.ensures.stored)
+    c.commit.ensures.committed

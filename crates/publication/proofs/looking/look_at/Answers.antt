@@ -1,7 +1,7 @@
-use Rattle.std.proofs.Common.{rules, arith, ◌≡◌, ℕ, ◌+◌, ◌*◌, ◌%◌, ◌<◌, ◌≤◌, sym, ap, ◌∙◌, subst, refl, true, false, List, [], ◌∷◌, ℤ}
+use Rattle.std.proofs.Common.{rules, arith, ◌≡◌, ℕ, ◌+◌, ◌*◌, ◌%◌, ◌<◌, ◌≤◌, sym, ap, ◌∙◌}
 use Rattle.theory.specs.Position.{Geometry, id_of}
 use Rattle.theory.specs.Words.{id_in, offset_in}
-use Rattle.log_buffer.specs.Log.{IsLog, Log, looked, offset_of, raw_tail, term_of}
+use Rattle.log_buffer.specs.Log.{Log, looked, offset_of, raw_tail, term_of}
 use Rattle.publication.specs.Looks.{IsOpenBelow, ShowsActive, all_seen, tail_word_seen}
 use Rattle.publication.proofs.Courses.{armed_there, is_older, looked_identity, open_below, tail_is, unarmed_at_end, unarmed_at_limit, unarmed_before}
 use Rattle.std.proofs.lemmas.Bool.{false≢true}

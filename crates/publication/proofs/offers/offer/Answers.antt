@@ -1,90 +1,50 @@
-use Rattle.std.proofs.Common.{rules, arith, ap, ◌∙◌, sym, ◌≡◌, ℕ, ◌+◌, ◌/◌, ◌%◌, ◌<◌, ◌≤◌, ◌^◌, Some, length, slice_get, IfErr, if◌then◌else◌, ◌-◌, ◌*◌, Bool, true, false, nat_eq, nat_lt, List, [], ◌∷◌, ◌++◌, slice_index_or, slice_set, bit_and, bit_or, Fits, w8, w32, w64, Bor, MutBor}
-use Rattle.theory.specs.Position.{id_of, max_payload}
-use Rattle.theory.specs.Refusal.{IsJustified}
-use Rattle.theory.specs.Words.{id_in, offset_in}
-use Rattle.log_buffer.specs.Log.{IsFinished, IsLog, offset_of, raw_tail, term_of}
-use Rattle.log_buffer.specs.Passes.{HasSeenEnd, sights}
-use Rattle.log_buffer.specs.Reader.{IsAt, Reader}
-use Rattle.rotation.specs.Turning.{Adds, count_exchanges, tail_exchanges}
-use Rattle.publication.specs.Looks.{AddsThen}
-use Rattle.publication.specs.Offers.{added_course, after_course, after_offer, answer_at, answer_of, covered, is_last, turned_from}
-use Rattle.publication.specs.Refusals.{why_of}
-use Rattle.log_buffer.specs.Log.{Log, room_in}
-use Rattle.log_buffer.specs.Passes.{Pass}
-use Rattle.log_buffer.specs.declared.step.Step.{Step}
-use Rattle.log_buffer.specs.declared.step.Step.TheVariants as steps
-use Rattle.publication.specs.Looks.{all_seen, tail_word_seen}
-use Rattle.publication.proofs.Justified.{after_is, finished_at, get_put, limited_refusal, open_justified, opened_before, stale, used_up}
+use Rattle.std.proofs.Common.{arith, ap, ◌∙◌, sym, subst, ◌≡◌, ℕ, ◌+◌, ◌%◌, ◌≤◌, length}
+use Rattle.std.specs.Prelude.{Ok, false, []}
+use Rattle.theory.specs.Position.{Geometry, framed_length, max_position}
+use Rattle.term_buffer.specs.declared.claimed.Claimed.{Claimed}
+use Rattle.log_buffer.specs.Log.{Log, added, with_claim}
+use Rattle.publication.specs.Offers.{covered}
+use Rattle.publication.specs.Writes.{with_whole}
+use Rattle.publication.proofs.Added.{whole_log}
+use Rattle.publication.proofs.Apart.{held_before, held_frames}
+use Rattle.publication.proofs.Justified.{fitting_claim, fitting_offer}
 use Rattle.publication.proofs.offers.offer.Goals as goal
 
--- src/offers.rt:37:36
-pub turn_from-requires-clause-last : goal.turn_from-requires-clause-last
-turn_from-requires-clause-last c = let s = c.in-UsedUp.ensures in omega (arith, s.saw.1, s.counted)
+pub write_message-requires-clause-in_stream : goal.write_message-requires-clause-in_stream
+write_message-requires-clause-in_stream c =
+    let s = c.in_ok-claimed.ensures in
+    let now : c.claim_range.new.log ≡ with_claim (added c.args.log.now c.args.publisher.now.number (c.args.log.now.active % 3) (covered c.args.log.now (length c.args.message.now))) c.args.publisher.now.number false (length c.args.message.now) = fitting_claim c.args.log.now c.claim_range.new.log c.args.publisher.now.number (length c.args.message.now) _ s.claimed.0 s.after in
+    let geometry : c.claim_range.new.log.identity.geometry ≡ c.args.log.now.identity.geometry = ap (λ (l : Log). l.identity.geometry) now in
+    let size : c.in_ok-claimed.claimed.size ≡ length c.args.message.now = ap (λ (d : Claimed). d.size) s.claimed.1 in
+    subst (λ (n : ℕ). c.in_ok-claimed.claimed.start + framed_length c.claim_range.new.log.identity.geometry n ≤ max_position c.claim_range.new.log.identity.geometry) (sym size)
+    (subst (λ (g : Geometry). c.in_ok-claimed.claimed.start + framed_length g (length c.args.message.now) ≤ max_position g) (sym geometry) s.in_stream)
 
--- src/offers.rt:37:36
-pub turn_from-requires-clause-finished : goal.turn_from-requires-clause-finished
-turn_from-requires-clause-finished c = let s = c.in-UsedUp.ensures in λ last. finished_at c.args.log.now c.look_at.new.log c.in-UsedUp.count s.saw.5 s.legal_old s.saw.1 s.saw.3 last
+pub returns-clause-answer : goal.returns-clause-answer
+returns-clause-answer c =
+    let s = c.in_ok-claimed.ensures in
+    let now : c.claim_range.new.log ≡ with_claim (added c.args.log.now c.args.publisher.now.number (c.args.log.now.active % 3) (covered c.args.log.now (length c.args.message.now))) c.args.publisher.now.number false (length c.args.message.now) = fitting_claim c.args.log.now c.claim_range.new.log c.args.publisher.now.number (length c.args.message.now) _ s.claimed.0 s.after in
+    let geometry : c.geometry.result ≡ c.args.log.now.identity.geometry = c.geometry.ensures.value ∙ ap (λ (l : Log). l.identity.geometry) now in
+    let size : c.in_ok-claimed.claimed.size ≡ length c.args.message.now = ap (λ (d : Claimed). d.size) s.claimed.1 in
+    let long : c.from.result ≡ covered c.args.log.now (length c.args.message.now) = c.from.ensures ∙ c.framed_length-covered.ensures ∙ ap (λ (n : ℕ). framed_length c.geometry.result n) size ∙ ap (λ (g : Geometry). framed_length g (length c.args.message.now)) geometry in
+    ap (λ (n : ℕ). Ok (c.in_ok-claimed.claimed.start + n)) long ∙ sym s.claimed.0
 
--- src/offers.rt:39:30
-pub add_message-requires-clause-last : goal.add_message-requires-clause-last
-add_message-requires-clause-last c = let s = c.in-Open.ensures in omega (arith, s.saw.1, s.counted)
+pub returns-clause-after : goal.returns-clause-after
+returns-clause-after c =
+    let s = c.in_ok-claimed.ensures in
+    let now : c.claim_range.new.log ≡ with_claim (added c.args.log.now c.args.publisher.now.number (c.args.log.now.active % 3) (covered c.args.log.now (length c.args.message.now))) c.args.publisher.now.number false (length c.args.message.now) = fitting_claim c.args.log.now c.claim_range.new.log c.args.publisher.now.number (length c.args.message.now) _ s.claimed.0 s.after in
+    c.write_message.ensures.committed
+    ∙ ap (λ (l : Log). with_whole l c.in_ok-claimed.claimed c.args.message.now) now
+    ∙ ap (λ (d : Claimed). with_whole (with_claim (added c.args.log.now c.args.publisher.now.number (c.args.log.now.active % 3) (covered c.args.log.now (length c.args.message.now))) c.args.publisher.now.number false (length c.args.message.now)) d c.args.message.now) s.claimed.1
+    ∙ whole_log (added c.args.log.now c.args.publisher.now.number (c.args.log.now.active % 3) (covered c.args.log.now (length c.args.message.now))) c.args.publisher.now.number c.args.message.now s.legal.geometry s.legal.drafts
+    ∙ sym (fitting_offer c.args.log.now c.args.publisher.now.number _ c.args.message.now s.claimed.0)
 
--- src/offers.rt:39:30
-pub add_message-requires-clause-armed : goal.add_message-requires-clause-armed
-add_message-requires-clause-armed c =
-    let s = c.in-Open.ensures in
-    ap (λ (l : Log). slice_get l.armed c.look_at.new.publisher.number) s.saw.5
-    ∙ ap (λ (k : ℕ). slice_get (slice_set c.args.log.now.armed c.begin.new.self.number (Some (c.args.log.now.active % 3))) k) s.number
-    ∙ get_put c.args.log.now.armed c.begin.new.self.number (Some (c.args.log.now.active % 3)) (omega (arith, s.legal_old.all_armed, c.begin.ensures.in_range))
-    ∙ ap (λ (n : ℕ). Some (Some (n % 3))) (sym s.saw.1)
+pub returns-clause-readers : goal.returns-clause-readers
+returns-clause-readers c = λ r h. c.write_message.ensures.readers r (c.claim_range.ensures.readers r h)
 
--- src/offers.rt:39:30
-pub add_message-requires-clause-legal : goal.add_message-requires-clause-legal
-add_message-requires-clause-legal c = c.in-Open.ensures.legal
-
--- src/offers.rt:39:30
-pub add_message-requires-clause-opened : goal.add_message-requires-clause-opened
-add_message-requires-clause-opened c = let s = c.in-Open.ensures in opened_before c.args.log.now c.look_at.new.log c.in-Open.count _ s.saw.5 s.legal_old s.saw.1
-
--- src/offers.rt:22:1
-pub returns-in-Stale-clause-justified : goal.returns-in-Stale-clause-justified
-returns-in-Stale-clause-justified c = let s = c.in-Stale.ensures in stale c.args.log.now (covered (length c.args.message.now)) c.look_at.new.publisher.steps s.saw.3 s.limit s.saw.0 s.saw.2
-
--- src/offers.rt:22:1
-pub returns-in-UsedUp-clause-justified : goal.returns-in-UsedUp-clause-justified
-returns-in-UsedUp-clause-justified c = let s = c.in-UsedUp.ensures in used_up c.args.log.now (covered (length c.args.message.now)) c.in-UsedUp.count c.turn_from.result c.turn_from.new.publisher.steps c.turn_from.ensures.adds.more (c.turn_from.ensures.adds.steps ∙ ap (λ xs. xs ++ c.turn_from.ensures.adds.more) s.saw.4) s.saw.1 c.turn_from.ensures.refusal s.counted s.limit s.saw.0 s.saw.2 s.saw.3
-
--- src/offers.rt:22:1
-pub returns-in-Limited-clause-justified : goal.returns-in-Limited-clause-justified
-returns-in-Limited-clause-justified c = let s = c.in-Limited.ensures in limited_refusal c.args.log.now (covered (length c.args.message.now)) c.in-Limited.limit.connected c.refused_at.result c.look_at.new.publisher.steps s.saw.6 c.refused_at.ensures s.saw.1 s.limit s.saw.0 s.saw.2 s.saw.3 s.saw.4 s.saw.5
-
--- src/offers.rt:22:1
-pub returns-in-Open-clause-after : goal.returns-in-Open-clause-after
-returns-in-Open-clause-after c =
-    let s = c.in-Open.ensures in
-    let number : c.look_at.new.publisher.number ≡ c.begin.new.self.number = s.number in
-    let begun : c.begin.new.self.number ≡ c.args.publisher.now.number = ap (λ (x : Pass). x.number) c.begin.ensures.begun in
-    after_is c.args.log.now c.look_at.new.log c.add_message.new.log c.begin.new.self.number c.in-Open.count c.args.message.now (Some (c.args.log.now.active % 3)) s.saw.3 s.saw.0 s.saw.5 s.saw.1
-    (c.add_message.ensures.after ∙ ap (λ (k : ℕ). after_course c.look_at.new.log k c.in-Open.count c.args.message.now (added_course c.look_at.new.log c.in-Open.count (length c.args.message.now))) number)
-    ∙ ap (λ (k : ℕ). after_offer c.args.log.now k c.args.message.now) begun
-
--- src/offers.rt:22:1
-pub returns-in-Open-clause-justified : goal.returns-in-Open-clause-justified
-returns-in-Open-clause-justified c =
-    let s = c.in-Open.ensures in
-    let word : raw_tail c.look_at.new.log (c.in-Open.count % 3) ≡ tail_word_seen c.args.log.now = ap (λ (l : Log). raw_tail l (c.in-Open.count % 3)) s.saw.5 ∙ ap (λ (n : ℕ). raw_tail c.args.log.now (n % 3)) s.saw.1 in
-    open_justified c.args.log.now c.look_at.new.log c.begin.new.self.number c.in-Open.count c.add_message.new.publisher.steps c.add_message.ensures.steps.more c.args.message.now c.add_message.result c.add_message.ensures.answer
-    (ap (λ (l : Log). room_in l (c.in-Open.count % 3)) s.saw.5 ∙ ap (λ (n : ℕ). room_in c.args.log.now (n % 3)) s.saw.1)
-    (ap (λ (l : Log). l.tail) s.saw.5) s.saw.1
-    (c.add_message.ensures.steps.steps
-    ∙ ap (λ (xs : List Step). (xs ++ steps.Addition (c.in-Open.count % 3) (covered (length c.args.message.now)) (raw_tail c.look_at.new.log (c.in-Open.count % 3)) ∷ []) ++ c.add_message.ensures.steps.more) s.saw.4
-    ∙ ap (λ (w : ℕ). (all_seen c.args.log.now ++ steps.Addition (c.in-Open.count % 3) (covered (length c.args.message.now)) w ∷ []) ++ c.add_message.ensures.steps.more) word
-    ∙ ap (λ (n : ℕ). (all_seen c.args.log.now ++ steps.Addition (n % 3) (covered (length c.args.message.now)) (tail_word_seen c.args.log.now) ∷ []) ++ c.add_message.ensures.steps.more) s.saw.1)
-    s.counted s.legal_old s.limit s.saw.0 s.saw.2 s.saw.3
-
--- src/offers.rt:22:1
-pub returns-in-Open-clause-readers : goal.returns-in-Open-clause-readers
-returns-in-Open-clause-readers c = λ r h. c.add_message.ensures.readers r (c.look_at.ensures.readers r h)
-
-pub returns-in-UsedUp-clause-readers : goal.returns-in-UsedUp-clause-readers
-returns-in-UsedUp-clause-readers c = λ r h. c.turn_from.ensures.readers r (c.look_at.ensures.readers r h)
+pub returns-clause-claims : goal.returns-clause-claims
+returns-clause-claims c =
+    let s = c.in_ok-claimed.ensures in
+    let now : c.claim_range.new.log ≡ with_claim (added c.args.log.now c.args.publisher.now.number (c.args.log.now.active % 3) (covered c.args.log.now (length c.args.message.now))) c.args.publisher.now.number false (length c.args.message.now) = fitting_claim c.args.log.now c.claim_range.new.log c.args.publisher.now.number (length c.args.message.now) _ s.claimed.0 s.after in
+    let gone : c.claim_range.new.log.gone ≡ c.args.log.now.gone = ap (λ (l : Log). l.gone) now in
+    let number : c.in_ok-claimed.claimed.number ≡ c.args.log.now.gone + length c.args.log.now.entries = ap (λ (d : Claimed). d.number) s.claimed.1 in
+    λ d h. held_frames c.claim_range.new.log c.write_message.new.log d c.in_ok-claimed.claimed _ [] (omega (arith, gone, number)) (λ (same : d.number ≡ c.in_ok-claimed.claimed.number). omega (arith, same, number, held_before c.args.log.now d h)) c.write_message.ensures.committed (s.claims d h)

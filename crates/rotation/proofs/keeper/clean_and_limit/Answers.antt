@@ -16,3 +16,6 @@ store_limit-requires-clause-clean c = limit_fits c.args.log.now c.clean_below.ne
 -- src/keeper.rt:31:1
 pub returns-then-not-limit-clause-readers : goal.returns-then-not-limit-clause-readers
 returns-then-not-limit-clause-readers c = λ r x. c.store_limit.ensures.readers r (c.clean_below.ensures.readers r x)
+
+pub returns-then-not-limit-clause-claims : goal.returns-then-not-limit-clause-claims
+returns-then-not-limit-clause-claims c = λ d x. c.store_limit.ensures.claims d (c.clean_below.ensures.claims d x)
