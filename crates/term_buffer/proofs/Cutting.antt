@@ -3,7 +3,7 @@ use Rattle.std.proofs.Common.{◌≡◌, ℕ, zero, suc, ◌+◌, ◌-◌, ◌*�
 use Rattle.std.specs.List.{AllByRecursion, sum_by}
 use Rattle.theory.specs.Position.{Geometry, IsGeometry, aligned, max_payload, cuts_of, framed_length, span}
 use Rattle.theory.proofs.Claims.{covers_framed}
-use Rattle.theory.proofs.Cuts.{AreFull, cut_before, full_cuts, last_cut, span_before}
+use Rattle.theory.proofs.Cuts.{AreFull, full_cuts, last_cut, span_before}
 use Rattle.theory.proofs.Holds.{holds_bytes}
 use Rattle.theory.proofs.LogSteps.{long_cuts}
 use Rattle.theory.proofs.Wired.{cut_short, cut_units}
@@ -76,6 +76,3 @@ message_last g is false n k e low high =
     let whole : get_or (cuts_of g n) k 0 + k * max_payload g ≡ n + 32 = for_last g is n k (omega arith) in
     let long : 32 ≤ get_or (cuts_of g n) k 0 = at_units (cuts_of g n) k (cut_units g n (omega (arith, is.mtu.least))) low in
     omega (arith, whole, long)
-
-pub message_before : (g : Geometry) (b : Bool) (n k : ℕ) → k + 1 < length (cuts_for g b n) → get_or (cuts_for g b n) k 0 ≡ g.mtu
-message_before g b n k low = cut_before g.mtu (cuts_for g b n) k (for_full g b n) low

@@ -52,9 +52,6 @@ last_below g is slots a position count b k j d low done at =
     cases_lt' : (x y : ℕ) → (y ≤ x) ⊎ (x < y)
     cases_lt' x y = ⊎_elim (λ (h : x < y). inr h) (λ (h : y ≤ x). inl h) (cases_lt x y)
 
-pub none_below : (g : Geometry) → IsGeometry g → (slots : List Slot) → AreApart g slots → (position count : ℕ) → StartBelow slots position count → count ≡ 0 → HasNoFrame g slots position
-none_below g is slots a position count b none k j d low done at = absurd (omega (arith, none, last_below g is slots a position count b k j d low done at))
-
 pub not_there : (g : Geometry) → IsGeometry g → (slots : List Slot) → AreApart g slots → (position count : ℕ) → StartBelow slots position count → (s : Slot) → s ≡ get_or slots (count - 1) s → ((position - s.start) % g.mtu ≡ 0 → (position - s.start) / g.mtu < s.committed → ⊥) → HasNoFrame g slots position
 not_there g is slots a position count b s here cannot k j d low done at =
     let last : k + 1 ≡ count = last_below g is slots a position count b k j d low done at in
