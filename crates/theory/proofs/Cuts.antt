@@ -1,12 +1,10 @@
 -- The frame lengths of a message: all but the last are full, and where each frame begins.
-use Rattle.std.proofs.Common.{◌≡◌, ℕ, zero, suc, ◌+◌, ◌-◌, ◌*◌, ◌/◌, ◌%◌, ◌<◌, ◌≤◌, ⊎_elim, List, [], ◌∷◌, ◌++◌, length, take, drop, get_or, Bool, true, false, cond, refl, sym, ap, ◌∙◌, subst, length-append, length-drop, arith}
+use Rattle.std.proofs.Common.{◌≡◌, ℕ, zero, suc, ◌+◌, ◌-◌, ◌*◌, ◌/◌, ◌%◌, ◌<◌, ◌≤◌, ⊎_elim, List, [], ◌∷◌, ◌++◌, length, take, get_or, true, false, cond, refl, sym, ap, ◌∙◌, subst, arith}
 use Rattle.std.specs.List.{AllByRecursion, sum_by}
 use Rattle.std.specs.Prelude.{nat_le, nat_eq, replicate, ⊤}
-use Rattle.std.proofs.lemmas.Bool.{cases_Bool, leb-true, leb-false, le-leb, lt-leb, eq-eqb, ne_eqb, cond-true, cond-false}
-use Rattle.std.proofs.lemmas.List.{length-replicate}
+use Rattle.std.proofs.lemmas.Bool.{cases_Bool, leb-true, leb-false, le-leb, lt-leb, cond-true, cond-false}
 use Rattle.std.proofs.lemmas.List.Sums.{sum_by-cons}
-use Rattle.theory.specs.Position.{Geometry, IsGeometry, aligned, max_payload, cuts_of, rest_cut, span}
-use Rattle.theory.specs.Entry.{flags_of}
+use Rattle.theory.specs.Position.{Geometry, aligned, max_payload, cuts_of, rest_cut, span}
 
 -- all but the last have this length
 abbrev pub AreFull : ℕ → List ℕ → Type 0
@@ -21,12 +19,6 @@ copies_full full zero (x ∷ y ∷ more) few = absurd (omega arith)
 copies_full full (suc zero) [] few = tt
 copies_full full (suc zero) (x ∷ more) few = (refl, copies_full full zero (x ∷ more) few)
 copies_full full (suc (suc n)) more few = (refl, copies_full full (suc n) more few)
-
-rest_even : (rest : ℕ) → rest ≡ 0 → rest_cut rest ≡ []
-rest_even rest e = cond-true (nat_eq rest 0) [] ((rest + 32) ∷ []) (eq-eqb rest 0 e)
-
-rest_odd : (rest : ℕ) → (rest ≡ 0 → ⊥) → rest_cut rest ≡ (rest + 32) ∷ []
-rest_odd rest ne = cond-false (nat_eq rest 0) [] ((rest + 32) ∷ []) (ne_eqb rest 0 ne)
 
 one_rest : (rest : ℕ) → length (rest_cut rest) ≤ 1
 one_rest rest =
@@ -49,20 +41,6 @@ full_cuts g m =
     (λ (f : nat_le m (max_payload g) ≡ false). subst (AreFull g.mtu) (sym (long_parts g m (leb-false m (max_payload g) f))) (copies_full g.mtu (m / max_payload g) (rest_cut (m % max_payload g)) (one_rest (m % max_payload g))))
     (cases_Bool (nat_le m (max_payload g)))
 
--- how many frames there are
-pub one_frame : (g : Geometry) (m : ℕ) → m ≤ max_payload g → length (cuts_of g m) ≡ 1
-one_frame g m low = ap (λ (cuts : List ℕ). length cuts) (short_cuts g m low)
-
-pub even_frames : (g : Geometry) (m : ℕ) → max_payload g < m → m % max_payload g ≡ 0 → length (cuts_of g m) ≡ m / max_payload g
-even_frames g m high even =
-    ap (λ (cuts : List ℕ). length cuts) (long_parts g m high ∙ ap (λ (more : List ℕ). replicate (m / max_payload g) g.mtu ++ more) (rest_even (m % max_payload g) even))
-    ∙ omega (arith, length-append (replicate (m / max_payload g) g.mtu) [], length-replicate {A = ℕ} (m / max_payload g) g.mtu)
-
-pub odd_frames : (g : Geometry) (m : ℕ) → max_payload g < m → (m % max_payload g ≡ 0 → ⊥) → length (cuts_of g m) ≡ m / max_payload g + 1
-odd_frames g m high odd =
-    ap (λ (cuts : List ℕ). length cuts) (long_parts g m high ∙ ap (λ (more : List ℕ). replicate (m / max_payload g) g.mtu ++ more) (rest_odd (m % max_payload g) odd))
-    ∙ omega (arith, length-append (replicate (m / max_payload g) g.mtu) ((m % max_payload g + 32) ∷ []), length-replicate {A = ℕ} (m / max_payload g) g.mtu)
-
 -- where a frame begins, and how long it is
 pub span_before : (full : ℕ) (cuts : List ℕ) (k : ℕ) → aligned full ≡ full → AreFull full cuts → k < length cuts → span (take k cuts) ≡ k * full
 span_before full [] k unit all low = absurd (omega arith)
@@ -72,12 +50,6 @@ span_before full (cut ∷ next ∷ cuts) (suc k) unit all low =
     let same : aligned cut ≡ full = ap aligned all.0 ∙ unit in
     omega (arith, same, span_before full (next ∷ cuts) k unit all.1 (omega arith))
 
-pub cut_before : (full : ℕ) (cuts : List ℕ) (k : ℕ) → AreFull full cuts → k + 1 < length cuts → get_or cuts k 0 ≡ full
-cut_before full [] k all low = absurd (omega arith)
-cut_before full (cut ∷ []) k all low = absurd (omega arith)
-cut_before full (cut ∷ next ∷ cuts) zero all low = all.0
-cut_before full (cut ∷ next ∷ cuts) (suc k) all low = cut_before full (next ∷ cuts) k all.1 (omega arith)
-
 pub last_cut : (full : ℕ) (cuts : List ℕ) (k : ℕ) → AreFull full cuts → AllByRecursion (λ cut. 32 ≤ cut) cuts → k + 1 ≡ length cuts → get_or cuts k 0 + k * (full - 32) ≡ sum_by (λ cut. cut - 32) cuts + 32
 last_cut full [] k all units end = absurd (omega arith)
 last_cut full (cut ∷ []) zero all units end = let none : sum_by (λ x. x - 32) [] ≡ 0 = refl in omega (arith, units.0, sum_by-cons (λ x. x - 32) cut [], none)
@@ -86,18 +58,3 @@ last_cut full (cut ∷ next ∷ cuts) zero all units end = absurd (omega arith)
 last_cut full (cut ∷ next ∷ cuts) (suc k) all units end =
     let same : cut - 32 ≡ full - 32 = ap (λ x. x - 32) all.0 in
     omega (arith, same, sum_by-cons (λ x. x - 32) cut (next ∷ cuts), last_cut full (next ∷ cuts) k all.1 units.1 (omega arith))
-
--- the flags of a frame behind which there are others, or none
-pub flags_before : (first : Bool) (cuts : List ℕ) (k : ℕ) → k + 1 < length cuts → flags_of first (drop (k + 1) cuts) ≡ cond first 128 0
-flags_before first cuts k low = some first (drop (k + 1) cuts) (omega (arith, length-drop (k + 1) cuts))
-  where
-    some : (b : Bool) (xs : List ℕ) → 0 < length xs → flags_of b xs ≡ cond b 128 0
-    some b [] h = absurd (omega arith)
-    some b (x ∷ xs) h = refl
-
-pub flags_last : (first : Bool) (cuts : List ℕ) (k : ℕ) → length cuts ≤ k + 1 → flags_of first (drop (k + 1) cuts) ≡ cond first 192 64
-flags_last first cuts k high = none first (drop (k + 1) cuts) (omega (arith, length-drop (k + 1) cuts))
-  where
-    none : (b : Bool) (xs : List ℕ) → length xs ≤ 0 → flags_of b xs ≡ cond b 192 64
-    none b [] h = refl
-    none b (x ∷ xs) h = absurd (omega arith)

@@ -50,14 +50,14 @@ rest_short rest mtu l =
     (λ (f : nat_eq rest 0 ≡ false). subst (λ b. AllByRecursion (λ cut. cut ≤ mtu) (cond b [] ((rest + 32) ∷ []))) (sym f) (l, tt))
     (cases_Bool (nat_eq rest 0))
 
-cut_units : (g : Geometry) (m : ℕ) → 32 ≤ g.mtu → AllByRecursion (λ cut. 32 ≤ cut) (cuts_of g m)
+pub cut_units : (g : Geometry) (m : ℕ) → 32 ≤ g.mtu → AllByRecursion (λ cut. 32 ≤ cut) (cuts_of g m)
 cut_units g m l =
     ⊎_elim
     (λ (t : nat_le m (max_payload g) ≡ true). subst (λ b. AllByRecursion (λ cut. 32 ≤ cut) (cond b ((m + 32) ∷ []) (replicate (m / max_payload g) g.mtu ++ rest_cut (m % max_payload g)))) (sym t) (omega arith, tt))
     (λ (f : nat_le m (max_payload g) ≡ false). subst (λ b. AllByRecursion (λ cut. 32 ≤ cut) (cond b ((m + 32) ∷ []) (replicate (m / max_payload g) g.mtu ++ rest_cut (m % max_payload g)))) (sym f) (all_append (λ cut. 32 ≤ cut) (replicate (m / max_payload g) g.mtu) (rest_cut (m % max_payload g)) (all_replicate (λ cut. 32 ≤ cut) (m / max_payload g) g.mtu l) (rest_units (m % max_payload g))))
     (cases_Bool (nat_le m (max_payload g)))
 
-cut_short : (g : Geometry) (m : ℕ) → 256 ≤ g.mtu → AllByRecursion (λ cut. cut ≤ g.mtu) (cuts_of g m)
+pub cut_short : (g : Geometry) (m : ℕ) → 256 ≤ g.mtu → AllByRecursion (λ cut. cut ≤ g.mtu) (cuts_of g m)
 cut_short g m l =
     ⊎_elim
     (λ (t : nat_le m (max_payload g) ≡ true). let within : m ≤ max_payload g = leb-true m (max_payload g) t in subst (λ b. AllByRecursion (λ cut. cut ≤ g.mtu) (cond b ((m + 32) ∷ []) (replicate (m / max_payload g) g.mtu ++ rest_cut (m % max_payload g)))) (sym t) (omega arith, tt))
