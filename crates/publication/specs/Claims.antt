@@ -1,5 +1,5 @@
 -- What a contract sees of a claim that its publisher fills.
-use Rattle.std.specs.Prelude.{◌≡◌, ℕ, ◌+◌, ◌≤◌, false, List, ◌++◌, length, take, drop}
+use Rattle.std.specs.Prelude.{◌≡◌, ℕ, ◌+◌, ◌≤◌, false, List, length, take}
 use Rattle.theory.specs.Position.{aligned, max_payload}
 use Rattle.theory.specs.Placed.{Data}
 use Rattle.term_buffer.specs.declared.claimed.Claimed.{Claimed}
@@ -15,10 +15,6 @@ pub record Filling : Type 0 where
 -- the bytes that were claimed
 abbrev pub bytes_of : Filling → List ℕ
 bytes_of f = take f.claimed.size f.pass.bytes
-
--- other bytes from an offset on
-abbrev pub with_part : Filling → ℕ → List ℕ → Filling
-with_part f offset part = record f { pass = record f.pass { bytes = take offset f.pass.bytes ++ (part ++ drop (offset + length part) f.pass.bytes) } }
 
 abbrev pub end_of : Filling → ℕ
 end_of f = f.claimed.start + aligned (f.claimed.size + 32)

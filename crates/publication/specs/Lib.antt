@@ -1,4 +1,6 @@
 pub mod Claims
+pub mod Fronts
+pub mod Lending
 pub mod Looks
 pub mod Offers
 pub mod Refusals

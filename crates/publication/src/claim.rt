@@ -1,15 +1,17 @@
 ghost use Rattle.std.specs.Prelude.{◌≡◌, ◌+◌, ◌<◌, ◌≤◌, Ok, Err, IfOk, IfErr, length, replicate};
+ghost use Rattle.std.specs.Borrow.{sem};
 ghost use Rattle.theory.specs.Position.{max_payload};
 ghost use Rattle.theory.specs.Refusal.{IsJustified};
 ghost use Rattle.block.specs.Bytes.{with_front};
 ghost use Rattle.log_buffer.specs.Log.{IsHeld, IsLog};
 ghost use Rattle.log_buffer.specs.Passes.{sights};
 ghost use Rattle.log_buffer.specs.Reader.{IsAt, Reader};
-ghost use Rattle.publication.specs.Claims.{IsBrief, IsClaimOf, after_abort, after_commit, bytes_of, claim_at, end_of, with_part};
+ghost use Rattle.publication.specs.Claims.{IsBrief, IsClaimOf, after_abort, after_commit, bytes_of, claim_at, end_of};
 ghost use Rattle.publication.specs.Offers.{after_claim, answer_of, covered};
 ghost use Rattle.publication.specs.Refusals.{why_of};
 
 use crate::frame::{write_abort, write_frame};
+use crate::front::block_front;
 use crate::offers::claim_range;
 use crate::refusal::Refusal;
 use log_buffer::{Claimed, LogState, Publisher};
@@ -82,6 +84,8 @@ fn clear(publisher: &mut Publisher, count: usize)
 }
 
 impl Claim {
+    ghost use Rattle.publication.specs.Lending.{LendsClaim};
+
     /// The position at which it begins.
     pub fn start(&self) -> u64
         ensures { result ≡ self.now.claimed.start }
@@ -103,12 +107,14 @@ impl Claim {
         &self.publisher.bytes()[..self.claimed.size as usize]
     }
 
-    /// Writes bytes into the message's, from an offset on.
-    pub fn write(&mut self, offset: usize, part: &[u8])
-        requires { offset + length part.now ≤ self.old.claimed.size }
-        ensures { self.new ≡ with_part self.old offset part.now }
+    /// The message's bytes, to be written.
+    pub fn bytes_mut(&mut self) -> &mut [u8]
+        ensures* writes_back { sem 𝓛 (LendsClaim self.entry result) }
+        ensures value { result.now ≡ bytes_of self.old }
+        ensures long { length result.now ≡ self.old.claimed.size }
     {
-        self.publisher.bytes_mut()[offset..offset + part.len()].copy_from_slice(part);
+        let size = self.claimed.size as usize;
+        block_front(&mut self.publisher, size)
     }
 
     /// Commits the message. The answer is its publisher and the position behind it.

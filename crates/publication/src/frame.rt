@@ -33,8 +33,10 @@ fn store_header(log: &mut LogState, claimed: Claimed)
     let geometry = log.geometry();
     let place = geometry.term_of(frame_start(&geometry, claimed));
     let offset = place.offset.cast_signed();
-    let first = pair_word(offset, log.session());
-    let second = pair_word(log.stream(), place.term_id);
+    let session = log.session();
+    let stream = log.stream();
+    let first = pair_word(offset, session);
+    let second = pair_word(stream, place.term_id);
     log.store(claimed, 1, first);
     log.store(claimed, 2, second);
     log.store(claimed, 3, 0);

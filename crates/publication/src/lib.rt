@@ -7,6 +7,7 @@
 
 mod claim;
 mod frame;
+mod front;
 mod looking;
 mod offers;
 mod refusal;

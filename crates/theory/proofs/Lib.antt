@@ -11,13 +11,11 @@ pub mod Room
 pub mod Behind
 pub mod Held
 pub mod Spelled
-pub mod Cuts
 pub mod Datagrams
 pub mod Wired
 pub mod Gaps
 pub mod Named
 pub mod Opens
-pub mod Pieces
 pub mod Shares
 pub mod WorldGaps
 pub mod Rows
@@ -37,3 +35,5 @@ pub mod Groups
 pub mod Fresh
 pub mod RefusalRows
 pub mod Asked
+pub mod Cuts
+pub mod Pieces
