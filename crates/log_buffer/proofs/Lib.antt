@@ -10,3 +10,4 @@ pub mod Openings
 pub mod Readers
 pub mod Rotations
 pub mod Spans
+pub mod TestPasses

@@ -113,3 +113,26 @@ fn opens(rt: HostRuntime) -> Result<(), Fail> {
     assert_eq!(rt; book.shares, [0; PUBLISHERS]);
     Ok(())
 }
+
+/// What is written into a publisher's block is read from it.
+#[test]
+fn lends_bytes(rt: HostRuntime) -> Result<(), Fail> {
+    let geometry = Geometry::new(65_536, 1408, 7)?;
+    let (log, parts) = LogState::open(rt.alloc(), geometry, 1, 1001, 0, 1)?;
+    let Parts {
+        mut publishers,
+        readers,
+        keeper,
+    } = parts;
+    if let Some(byte) = publishers[2].bytes_mut().first_mut() {
+        *byte = 9;
+    }
+    let size = publishers[2].bytes().len();
+    let written = publishers[2].bytes().first().copied();
+    let beside = publishers[3].bytes().first().copied();
+    let _ = close(log, publishers, readers, keeper);
+    assert_eq!(rt; size, 1408);
+    assert_eq!(rt; written, Some(9));
+    assert_eq!(rt; beside, Some(0));
+    Ok(())
+}

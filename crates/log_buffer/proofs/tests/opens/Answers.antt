@@ -1,11 +1,10 @@
-use Rattle.std.proofs.Common.{◌≡◌, ℕ, zero, suc, [], ◌∷◌, ◌<◌, Bool, true, false, List, get_or, length, map, refl, sym, ap, ◌∙◌, arith, ⊎_elim}
-use Rattle.std.specs.Prelude.{if◌then◌else◌, slice_set, slice_index, Option}
-use Rattle.std.proofs.lemmas.Bool.{cases_eq}
-use Rattle.std.proofs.lemmas.List.{get_or-map, length-map, length-replicate}
+use Rattle.std.proofs.Common.{◌≡◌, ℕ, ◌<◌, Bool, true, false, List, length, refl, ap, ◌∙◌, arith}
+use Rattle.std.specs.Prelude.{if◌then◌else◌, Option}
+use Rattle.std.proofs.lemmas.List.{length-replicate}
 use Rattle.theory.specs.Bytes.{Identity}
 use Rattle.log_buffer.specs.Log.{Log}
-use Rattle.log_buffer.specs.Passes.{AreAll, Pass}
-use Rattle.log_buffer.proofs.Spans.{index_other, index_set, length-set}
+use Rattle.log_buffer.specs.Passes.{Pass}
+use Rattle.log_buffer.proofs.TestPasses.{again, number_at}
 use Rattle.log_buffer.proofs.tests.opens.Goals as goal
 
 same_identity : (b : Bool) (l : Log) (armed : List (Option ℕ)) → (if b then record l { armed = armed } else l).identity ≡ l.identity
@@ -15,21 +14,6 @@ same_identity false l armed = refl
 same_consumers : (b : Bool) (l : Log) (armed : List (Option ℕ)) → (if b then record l { armed = armed } else l).consumers ≡ l.consumers
 same_consumers true l armed = refl
 same_consumers false l armed = refl
-
-numbers_set : (ps : List Pass) (k : ℕ) (q : Pass) → map (λ (p : Pass). p.number) (slice_set ps k q) ≡ slice_set (map (λ (p : Pass). p.number) ps) k q.number
-numbers_set [] k q = refl
-numbers_set (p ∷ ps) zero q = refl
-numbers_set (p ∷ ps) (suc k) q = ap (λ ns. p.number ∷ ns) (numbers_set ps k q)
-
--- the passes, one of which made a call
-again : (ps : List Pass) (k : ℕ) (q : Pass) → k < 8 → AreAll ps → q.number ≡ k → AreAll (slice_set ps k q)
-again ps k q low all e = record {
-  eight = length-set ps k q ∙ all.eight;
-  each = λ j h. ⊎_elim
-      (λ (same : j ≡ k). ap (λ ns. slice_index ns j) (numbers_set ps k q) ∙ ap (slice_index (slice_set (map (λ (p : Pass). p.number) ps) k q.number)) same ∙ index_set (map (λ (p : Pass). p.number) ps) k q.number (omega (arith, all.eight, length-map ps (λ (p : Pass). p.number))) ∙ e ∙ sym same)
-      (λ (ne : j ≡ k → ⊥). ap (λ ns. slice_index ns j) (numbers_set ps k q) ∙ index_other (map (λ (p : Pass). p.number) ps) j k q.number ne ∙ all.each j h)
-      (cases_eq j k);
-}
 
 pub load_frame-head-requires : goal.load_frame-head-requires
 load_frame-head-requires = λ c d.
@@ -46,9 +30,6 @@ load_consumer-requires = λ c d.
     let opened : length d.in_ok-log.log.consumers ≡ 2 = ap (λ (l : Log). length l.consumers) d.in_ok-log.ensures.log in
     let all : length d.load_tail-tail.new.self.consumers ≡ 2 = ap (λ (ps : List ℕ). length ps) same ∙ opened in
     omega (arith, all)
-
-number_at : (ps : List Pass) (k : ℕ) (q : Pass) → AreAll ps → k < 8 → q ≡ get_or ps k q → q.number ≡ k
-number_at ps k q all low e = ap (λ (p : Pass). p.number) e ∙ sym (get_or-map (λ (p : Pass). p.number) ps k q 0 (omega (arith, all.eight))) ∙ all.each k low
 
 pub close-book-requires : goal.close-book-requires
 close-book-requires = λ c d.
