@@ -1,4 +1,4 @@
-ghost use Rattle.std.specs.Prelude.{◌≡◌, ◌+◌, ◌≤◌, length, IfSome, IfNone, slice_set};
+ghost use Rattle.std.specs.Prelude.{◌≡◌, ◌+◌, ◌<◌, ◌≤◌, length, IfSome, IfNone, slice_index, slice_set};
 ghost use Rattle.theory.specs.Position.{aligned};
 ghost use Rattle.term_buffer.specs.Heads.{IsStreamFrame};
 ghost use Rattle.log_buffer.specs.Log.{IsHeld, IsLog};
@@ -12,13 +12,14 @@ use position::{FrameHead, align32};
 /// reader stays. There is none where the frame that begins there isn't committed.
 pub fn next(log: &LogState, reader: &mut LogReader, block: &mut Block) -> Option<FrameHead>
     requires room { log.now.identity.geometry.mtu ≤ length block.old }
-    requires at { IsAt log.now reader.old }
+    requires number { reader.old.number < length log.now.consumers }
+    requires stands { slice_index log.now.consumers reader.old.number ≡ reader.old.position }
     ensures same_length { length block.new ≡ length block.old }
     ensures here { IfSome result (λ head. head.start ≡ reader.old.position) }
     ensures head { IfSome result (IsStreamFrame log.now.identity.geometry) }
     ensures frame { IfSome result (λ head. Reads log.now reader.old.position head block.old block.new) }
     ensures read { IfSome result (λ head. reader.new ≡ record reader.old { read_to = head.start + aligned head.frame_length }) }
-    ensures stays { IsAt log.now reader.new }
+    ensures stays { IfSome result (λ head. IsAt log.now reader.new) }
     ensures none { IfNone result (reader.new ≡ reader.old) }
     ensures untouched { IfNone result (block.new ≡ block.old) }
     ensures nothing { IfNone result (ReadsNone log.now reader.old.position) }

@@ -1,23 +1,31 @@
 -- After each line of a script, the shares of the log are those of all its entries.
-use Rattle.std.proofs.Common.{◌≡◌, ◌⊎◌, ℕ, zero, suc, ◌+◌, ◌<◌, List, [], ◌∷◌, ◌++◌, length, true, false, cond, inl, inr, ⊎_elim, refl, sym, ap, ◌∙◌, subst, arith, append_assoc}
-use Rattle.std.specs.Prelude.{◌%◌, ◌==◌, replicate, slice_index, slice_set}
+use Rattle.std.proofs.Common.{◌≡◌, ◌⊎◌, ℕ, zero, suc, ◌+◌, ◌-◌, ◌<◌, List, [], ◌∷◌, ◌++◌, length, true, false, cond, Option, Some, inl, inr, ⊎_elim, refl, sym, ap, ◌∙◌, subst, arith, append_assoc}
+use Rattle.std.specs.Prelude.{◌%◌, ◌==◌, replicate, slice_get, slice_index, slice_index_or, slice_set}
 use Rattle.std.proofs.lemmas.Bool.{cases_Bool, eqb-true, eqb-false}
+use Rattle.theory.specs.Position.{max_message, max_payload, span}
+use Rattle.theory.specs.Placed.{Data}
 use Rattle.theory.specs.Entry.{Entry, length_of}
 use Rattle.theory.specs.Tiling.{share_of}
+use Rattle.theory.proofs.Claims.{covers_framed}
 use Rattle.theory.proofs.Tiling.{share-cons}
-use Rattle.term_buffer.specs.Kept.{padded, published, with_share}
-use Rattle.log_buffer.specs.Log.{Log, added, room_in, with_padding}
-use Rattle.publication.specs.Offers.{Course, IsClosed, IsStale, IsUsedUp, IsLimited, Fits, Trips, after, answer, course_of, covered, turned_from}
+use Rattle.term_buffer.specs.Kept.{claim_of, no_entry, padded, published, with_next, with_share}
+use Rattle.term_buffer.specs.declared.claimed.Claimed.{Claimed}
+use Rattle.log_buffer.specs.Log.{Log, added, room_in, with_claim, with_message, with_padding}
+use Rattle.publication.specs.Claims.{claim_at}
+use Rattle.publication.specs.Offers.{Course, IsClosed, IsStale, IsUsedUp, IsLimited, Fits, Trips, after, after_claim, after_offer, answer, course_of, covered, turned_from}
 use Rattle.script.specs.Meaning as orders
 use Rattle.script.specs.Meaning.{Order}
-use Rattle.mdriver.specs.Answers.{Answers, IsTooLong, Limits, OffersMessage, Offered, SenderHears, with_log}
+use Rattle.mdriver.specs.Answers.{AbortsClaim, Answers, Claims, ClaimsRange, CommitsClaim, HasClaim, HasNoClaim, Limits, MayNotTake, OffersMessage, Offered, SenderHears, with_log}
 use Rattle.mdriver.specs.Cycling.{AsksSetup, News, Says, TellsNothing, Unreadable}
 use Rattle.mdriver.specs.Plays.{AlwaysCounted, AnswersAll, identity_of}
 use Rattle.mdriver.specs.Prints.{Print}
 use Rattle.mdriver.specs.Published.{Played}
 use Rattle.mdriver.specs.Scene.{Scene, entries_of, opened_scene}
+use Rattle.theory.proofs.Commits.{index_get}
 use Rattle.mdriver.proofs.OfferRuns.{turned_same}
+use Rattle.mdriver.proofs.Ranges.{one_cut}
 use Rattle.mdriver.proofs.SenderRuns.{limit_entries}
+use Rattle.mdriver.proofs.SoundLines.{kept_claim}
 
 -- ---- one entry more
 
@@ -62,28 +70,27 @@ counts_more shares past es e eight who h k low =
     ∙ sym (share_push k (past ++ es) e)
     ∙ ap (share_of k) (append_assoc past es (e ∷ []))
 
--- ---- an offer
+-- ---- an offer or a claim
 
 turned_counts : (past : List Entry) (l : Log) (count : ℕ) → Counts l.shares (past ++ l.entries) → Counts (turned_from l count).shares (past ++ (turned_from l count).entries)
 turned_counts past l count h =
     subst (λ xs. Counts xs (past ++ (turned_from l count).entries)) (sym (turned_same (λ k. k.shares) (λ k x y z. refl) l count))
     (subst (λ es. Counts l.shares (past ++ es)) (sym (turned_same (λ k. k.entries) (λ k x y z. refl) l count)) h)
 
-offer_counts : (past : List Entry) (l : Log) (by : ℕ) (m : List ℕ) (c : Course) → length l.shares ≡ 8 → by < 8 → Counts l.shares (past ++ l.entries) → Counts (after l by m c).shares (past ++ (after l by m c).entries)
-offer_counts past l by m IsClosed eight who h = h
-offer_counts past l by m IsStale eight who h = h
-offer_counts past l by m IsLimited eight who h = h
-offer_counts past l by m IsUsedUp eight who h = turned_counts past l l.active h
-offer_counts past l by m Fits eight who h =
-    let e = published l.tail by m in
-    subst (λ n. Counts (with_share l.shares by n) (past ++ (l.entries ++ e ∷ []))) (omega arith) (counts_more l.shares past l.entries e eight who h)
-offer_counts past l by m Trips eight who h =
-    let size = room_in l (l.active % 3) in
-    let e = padded l.tail by size in
-    turned_counts past (with_padding (added l by (l.active % 3) (covered (length m))) by size) l.active
+-- where it fits, the log is this one
+course_counts : (past : List Entry) (l : Log) (by size : ℕ) (c : Course) (fitting : Log) → length l.shares ≡ 8 → by < 8 → Counts l.shares (past ++ l.entries) → Counts fitting.shares (past ++ fitting.entries) → Counts (after l by size c fitting).shares (past ++ (after l by size c fitting).entries)
+course_counts past l by size IsClosed fitting eight who h fits = h
+course_counts past l by size IsStale fitting eight who h fits = h
+course_counts past l by size IsLimited fitting eight who h fits = h
+course_counts past l by size IsUsedUp fitting eight who h fits = turned_counts past l l.active h
+course_counts past l by size Fits fitting eight who h fits = fits
+course_counts past l by size Trips fitting eight who h fits =
+    let n = room_in l (l.active % 3) in
+    let e = padded l.tail by n in
+    turned_counts past (with_padding (added l by (l.active % 3) (covered l size)) by n) l.active
     (subst (λ n. Counts (with_share l.shares by n) (past ++ (l.entries ++ e ∷ []))) (omega arith) (counts_more l.shares past l.entries e eight who h))
 
-offered_scene : (s t : Scene) (by : ℕ) (m : List ℕ) (lines : List Print) (c : Course) → Offered s by m (answer s.log (length m) c) lines t → t ≡ with_log s (after s.log by m (course_of s.log (length m)))
+offered_scene : (s t : Scene) (by : ℕ) (m : List ℕ) (lines : List Print) (c : Course) → Offered s by m (answer s.log (length m) c) lines t → t ≡ with_log s (after_offer s.log by m)
 offered_scene s t by m lines IsClosed o = o.1
 offered_scene s t by m lines IsStale o = o.1
 offered_scene s t by m lines IsUsedUp o = o.1
@@ -91,11 +98,68 @@ offered_scene s t by m lines IsLimited o = o.1
 offered_scene s t by m lines Fits o = o.1
 offered_scene s t by m lines Trips o = o.1
 
-offer_line : (s t : Scene) (by size : ℕ) (m : List ℕ) (lines : List Print) → IsTooLong s size lines t ⊎ OffersMessage s by m lines t → IsCounted s → IsCounted t
-offer_line s t by size m lines (inl long) h = subst IsCounted (sym long.2) h
-offer_line s t by size m lines (inr o) h =
-    let c = course_of s.log (length m) in
-    subst IsCounted (sym (offered_scene s t by m lines c o.1)) (offer_counts s.past s.log by m c o.0.legal.eight o.0.publisher h)
+offer_line : (s t : Scene) (by most size : ℕ) (m : List ℕ) (lines : List Print) → MayNotTake s by most size lines t ⊎ OffersMessage s by m lines t → IsCounted s → IsCounted t
+offer_line s t by most size m lines (inl bad) h = subst IsCounted (sym bad.1.1) h
+offer_line s t by most size m lines (inr o) h =
+    let l = s.log in
+    let n = length m in
+    let e = published l.identity.geometry l.tail by m in
+    let fitting = with_message (added l by (l.active % 3) (covered l n)) by m in
+    let fits : Counts fitting.shares (s.past ++ fitting.entries) =
+    subst (λ x. Counts (with_share l.shares by x) (s.past ++ (l.entries ++ e ∷ []))) (covers_framed l.identity.geometry n o.0.legal.geometry) (counts_more l.shares s.past l.entries e o.0.legal.eight o.0.publisher h) in
+    subst IsCounted (sym (offered_scene s t by m lines (course_of l n) o.2)) (course_counts s.past l by n (course_of l n) fitting o.0.legal.eight o.0.publisher h fits)
+
+claimed_scene : (s t : Scene) (by size : ℕ) (lines : List Print) (c : Course) → Claims s by size (answer s.log size c) lines t → (claims : List (Option Claimed)) × (t ≡ record (with_log s (after_claim s.log by size)) { claims = claims })
+claimed_scene s t by size lines IsClosed o = (s.claims, o.1)
+claimed_scene s t by size lines IsStale o = (s.claims, o.1)
+claimed_scene s t by size lines IsUsedUp o = (s.claims, o.1)
+claimed_scene s t by size lines IsLimited o = (s.claims, o.1)
+claimed_scene s t by size lines Fits o = (slice_set s.claims by (Some (claim_at s.log by size)), o.1)
+claimed_scene s t by size lines Trips o = (s.claims, o.1)
+
+claim_line : (s t : Scene) (by most size : ℕ) (lines : List Print) → MayNotTake s by most size lines t ⊎ ClaimsRange s by size lines t → IsCounted s → IsCounted t
+claim_line s t by most size lines (inl bad) h = subst IsCounted (sym bad.1.1) h
+claim_line s t by most size lines (inr o) h =
+    let l = s.log in
+    let e = claim_of l.identity.geometry l.tail by false size in
+    let fitting = with_claim (added l by (l.active % 3) (covered l size)) by false size in
+    subst IsCounted (sym (claimed_scene s t by size lines (course_of l size) o.2).1)
+    (course_counts s.past l by size (course_of l size) fitting o.0.legal.eight o.0.publisher h (counts_more l.shares s.past l.entries e o.0.legal.eight o.0.publisher h))
+
+-- ---- a claim's commit or abort
+
+-- an entry in the place of one with the same owner and length
+share_put : (k : ℕ) (es : List Entry) (n : ℕ) (old new : Entry) → slice_get es n ≡ Some old → new.owner ≡ old.owner → length_of new ≡ length_of old → share_of k (slice_set es n new) ≡ share_of k es
+share_put k [] n old new there owner long = refl
+share_put k (e ∷ es) zero old new there owner long =
+    let same : e ≡ old = cc in
+    share-cons k new es
+    ∙ ap (λ o. cond (o == k) (length_of new) 0 + share_of k es) (owner ∙ ap (λ x. x.owner) (sym same))
+    ∙ ap (λ x. cond (e.owner == k) x 0 + share_of k es) (long ∙ ap (λ x. length_of x) (sym same))
+    ∙ sym (share-cons k e es)
+share_put k (e ∷ es) (suc n) old new there owner long =
+    omega (arith, share-cons k e (slice_set es n new), share_put k es n old new there owner long, share-cons k e es)
+
+share_behind : (k : ℕ) (past es others : List Entry) → share_of k others ≡ share_of k es → share_of k (past ++ others) ≡ share_of k (past ++ es)
+share_behind k [] es others same = same
+share_behind k (e ∷ past) es others same = omega (arith, share-cons k e (past ++ others), share_behind k past es others same, share-cons k e (past ++ es))
+
+put_counts : (s : Scene) (by : ℕ) (c : Claimed) (e : Entry) → HasClaim s by c → e.owner ≡ c.owner → e.cuts ≡ (c.size + 32) ∷ [] → IsCounted s → Counts s.log.shares (s.past ++ slice_set s.log.entries (c.number - s.log.gone) e)
+put_counts s by c e m owner cuts h k low =
+    let n = c.number - s.log.gone in
+    h k low ∙ sym (share_behind k s.past s.log.entries (slice_set s.log.entries n e) (share_put k s.log.entries n (one_cut c.start c.owner c.size []) e (kept_claim s by c m) owner (ap span cuts)))
+
+commit_line : (s t : Scene) (by : ℕ) (lines : List Print) → HasNoClaim s by lines t ⊎ CommitsClaim s by lines t → IsCounted s → IsCounted t
+commit_line s t by lines (inl bad) h = subst IsCounted (sym bad.1.1) h
+commit_line s t by lines (inr m) h =
+    let c = m.0 in
+    let e = with_next (Data 192 (replicate c.size 97)) (slice_index_or s.log.entries (c.number - s.log.gone) no_entry) in
+    let was = index_get s.log.entries (c.number - s.log.gone) (one_cut c.start c.owner c.size []) no_entry (kept_claim s by c m.1) in
+    subst IsCounted (sym m.3) (put_counts s by c e m.1 (ap (λ x. x.owner) was) (ap (λ x. x.cuts) was) h)
+
+abort_line : (s t : Scene) (by : ℕ) (lines : List Print) → HasNoClaim s by lines t ⊎ AbortsClaim s by lines t → IsCounted s → IsCounted t
+abort_line s t by lines (inl bad) h = subst IsCounted (sym bad.1.1) h
+abort_line s t by lines (inr m) h = subst IsCounted (sym m.3) (put_counts s by m.0 (padded m.0.start m.0.owner (m.0.size + 32)) m.1 refl refl h)
 
 -- ---- the other lines
 
@@ -117,8 +181,14 @@ line_counts s t orders.Connect lines m h = subst IsCounted (sym m.1) h
 line_counts s t orders.Disconnect lines m h = subst IsCounted (sym m.1) h
 line_counts s t orders.Close lines m h = subst IsCounted (sym m.1) h
 line_counts s t orders.Limit lines m h = limit_line s t lines m h
-line_counts s t (orders.Offer by message) lines m h = offer_line s t by (length message) message lines m h
-line_counts s t (orders.OfferSize by size) lines m h = offer_line s t by size (replicate size 97) lines m h
+line_counts s t (orders.Offer by message) lines m h = offer_line s t by (max_message s.log.identity.geometry) (length message) message lines m h
+line_counts s t (orders.OfferSize by size) lines m h = offer_line s t by (max_message s.log.identity.geometry) size (replicate size 97) lines m h
+line_counts s t (orders.Claim by size) lines m h = claim_line s t by (max_payload s.log.identity.geometry) size lines m h
+line_counts s t (orders.Commit by) lines m h = commit_line s t by lines m h
+line_counts s t (orders.Abort by) lines m h = abort_line s t by lines m h
+line_counts s t (orders.Read r) lines (inl m) h = subst IsCounted (sym m.1.1) h
+line_counts s t (orders.Read r) lines (inr (inl m)) h = subst IsCounted (sym m.4) h
+line_counts s t (orders.Read r) lines (inr (inr m)) h = subst IsCounted (sym m.6) h
 line_counts s t (orders.Send now) lines m h = subst IsCounted (sym m.3) h
 line_counts s t (orders.Deliver k i now) lines (inl m) h = subst IsCounted (sym m.2) h
 line_counts s t (orders.Deliver k i now) lines (inr m) h = subst IsCounted (sym m.8) h
@@ -145,4 +215,4 @@ none_yet (suc (suc (suc (suc (suc (suc (suc zero))))))) h = refl
 none_yet (suc (suc (suc (suc (suc (suc (suc (suc k)))))))) h = absurd (omega (arith, h))
 
 pub always_counted : AlwaysCounted
-always_counted o played last m = all_count (opened_scene (identity_of o) o.start) last played m none_yet
+always_counted o played last m = all_count (opened_scene (identity_of o) o.start o.readers) last played m none_yet

@@ -1,29 +1,28 @@
--- An offer as events of the log: a publisher is armed, adds one entry, and commits its frame.
-use Rattle.std.proofs.Common.{◌≡◌, ℕ, zero, suc, ◌+◌, ◌-◌, ◌*◌, ◌/◌, ◌%◌, ◌^◌, ◌<◌, ◌≤◌, inl, ⊎_elim, List, [], ◌∷◌, ◌++◌, map, length, Bool, true, false, cond, not, Some, None, refl, sym, ap, ◌∙◌, arith, append-nil, append_assoc}
-use Rattle.std.specs.Prelude.{nat_eq, nat_le, nat_lt, ◌&&◌, slice_get, slice_set}
-use Rattle.std.specs.List.{AllByRecursion, filter}
-use Rattle.std.proofs.lemmas.Bool.{cond-true, cond-false, eq-eqb, cases_lt, le-leb, leb-false, ltb-false, ne_eqb, not_from_true}
+-- An offer or a claim as events of the log: a publisher is armed and adds one entry, and a message's frames are committed one by one.
+use Rattle.std.proofs.Common.{◌≡◌, ℕ, zero, suc, ◌+◌, ◌-◌, ◌*◌, ◌/◌, ◌%◌, ◌^◌, ◌<◌, ◌≤◌, inl, ⊎_elim, List, [], ◌∷◌, ◌++◌, map, length, Bool, true, false, cond, not, Some, None, refl, sym, ap, ◌∙◌, subst, arith, append-nil, append_assoc}
+use Rattle.std.specs.Prelude.{nat_eq, nat_le, nat_lt, slice_get, slice_set}
+use Rattle.std.specs.List.{AllByRecursion}
+use Rattle.std.proofs.lemmas.Bool.{cond-true, cond-false, eq-eqb, cases_lt, leb-false, ltb-false, ne_eqb, not_from_true}
 use Rattle.std.proofs.lemmas.List.{map-append}
-use Rattle.std.proofs.lemmas.List.Elements.{filter-append}
 use Rattle.std.proofs.Math.Nat.{div-lt_iff_lt-mul, mul-le-mul_right}
 use Rattle.std.proofs.lemmas.Nat.{mod-mul-add}
-use Rattle.theory.specs.Position.{Geometry, IsGeometry, aligned, cuts_of, max_message, max_payload, max_position, span}
-use Rattle.theory.specs.Placed.{Data, Frame, Pad, payload_of}
-use Rattle.theory.specs.Entry.{Entry, HaveFrames, IsEntry, entry_end}
+use Rattle.theory.specs.Position.{Geometry, IsGeometry, aligned, cuts_of, framed_length, max_message, max_payload, max_position, span}
+use Rattle.theory.specs.Placed.{Frame, Pad}
+use Rattle.theory.specs.Consumer.{Consumer}
+use Rattle.theory.specs.Entry.{Entry, IsEntry, entry_end, pieces_of}
 use Rattle.theory.specs.Headline.{IsPublished}
 use Rattle.theory.specs.Tiling.{Tiles}
-use Rattle.theory.specs.Messages.{is_between, message_of, messages}
 use Rattle.theory.specs.Log as stream
 use Rattle.theory.specs.Log.{Add, Arm, Commit, LogEvent, LogStep, MayCommit, entry_for, room, with_frame}
 use Rattle.theory.specs.World.{World, AtLog}
+use Rattle.theory.proofs.Claims.{covers_framed}
 use Rattle.theory.proofs.Lists.{among_right}
-use Rattle.term_buffer.specs.Kept.{claim_of, padded, published}
 use Rattle.log_buffer.specs.Log.{IsLog, Log, counted, offset_of, room_in, term_of, turned}
 use Rattle.rotation.specs.Rotated.{rotated, with_next}
 use Rattle.publication.specs.Offers.{Course, IsClosed, IsStale, IsUsedUp, IsLimited, Fits, Trips, course_of, covered, turned_from}
-use Rattle.mdriver.specs.Published.{Published, between, placed_at}
 use Rattle.mdriver.specs.Scene.{Scene, is_armed, stream_of, world_of}
-use Rattle.mdriver.proofs.Runs.{Goes, goes_one, goes_on, map_set, set_again}
+use Rattle.theory.proofs.Commits.{AreBytes, HaveAll, have_pieces, pieces_are, pieces_bytes}
+use Rattle.mdriver.proofs.Runs.{Goes, goes_one, goes_on, map_set, set_again, stays}
 
 -- ---- what an offer knows that takes an entry
 
@@ -50,11 +49,11 @@ pub record IsTaken (l : Log) (size : ℕ) (fits : Bool) : Type 0 where
   pub offset : offset_of l l.active < term_of l
   pub below : l.tail < l.limit
   pub tail : l.tail ≡ l.newest * term_of l + offset_of l l.active
-  pub fitting : nat_le (covered size) (room_in l (l.active % 3)) ≡ fits
+  pub fitting : nat_le (covered l size) (room_in l (l.active % 3)) ≡ fits
 
 taken : (l : Log) (size : ℕ) (fits : Bool) → IsLog l → course_of l size ≡ taking fits → IsTaken l size fits
 taken l size fits h e =
-    let parts = taken_only l.closed (nat_lt (l.active + 2) l.newest) (nat_le (term_of l) (offset_of l l.active)) (nat_le l.limit l.tail) (nat_le (covered size) (room_in l (l.active % 3))) fits e in
+    let parts = taken_only l.closed (nat_lt (l.active + 2) l.newest) (nat_le (term_of l) (offset_of l l.active)) (nat_le l.limit l.tail) (nat_le (covered l size) (room_in l (l.active % 3))) fits e in
     let late : l.newest ≤ l.active + 2 = ltb-false (l.active + 2) l.newest parts.0 in
     let offset : offset_of l l.active < term_of l = leb-false (term_of l) (offset_of l l.active) parts.1 in
     let newest : l.newest ≤ l.active = ⊎_elim (λ (less : l.active < l.newest). let done : term_of l ≤ offset_of l l.active = h.finished l.active h.opened less late in absurd (omega (arith, done, offset))) (λ (no : l.newest ≤ l.active). no) (cases_lt l.active l.newest) in
@@ -69,12 +68,9 @@ taken l size fits h e =
 
 -- ---- the entry
 
-cuts_one : (g : Geometry) (n : ℕ) → n ≤ max_payload g → cuts_of g n ≡ (n + 32) ∷ []
-cuts_one g n h = cond-true (nat_le n (max_payload g)) ((n + 32) ∷ []) _ (le-leb n (max_payload g) h)
-
 -- the room of the stream is what the newest term has left
-room_is : (past : List Entry) (l : Log) (size : ℕ) (fits : Bool) → IsTaken l size fits → room (stream_of past l) ≡ room_in l (l.active % 3)
-room_is past l size fits k =
+room_is : (past : List Entry) (readers : List Consumer) (l : Log) (size : ℕ) (fits : Bool) → IsTaken l size fits → room (stream_of past readers l) ≡ room_in l (l.active % 3)
+room_is past readers l size fits k =
     let t = term_of l in
     let rest : l.tail % t ≡ offset_of l l.active = ap (λ n. n % t) k.tail ∙ mod-mul-add l.newest t (offset_of l l.active) k.offset in
     ap (λ n. t - n) rest
@@ -124,72 +120,60 @@ tail_in_stream g p tail (e ∷ es) some low tiles all =
     let start : p < g.term_length * 2 ^ 31 = omega (arith, all.0.below, tiles.0) in
     tail_in_stream g (entry_end e) tail es some (omega (arith, tiles.1, in_stream g.term_length p some start)) tiles.2 all.1
 
--- what an offer adds: one frame with this cut, of a message or a padding
-pub record TakesOne (past : List Entry) (l : Log) (by size : ℕ) (padding : Bool) (cut : ℕ) (f : Frame) : Type 0 where
+abbrev pub open_entry : ℕ → ℕ → Bool → List ℕ → List Frame → Entry
+open_entry start by padding cuts frames = record { start = start; owner = by; padding = padding; cuts = cuts; frames = frames }
+
+-- what an offer or a claim adds
+pub record TakesOne (past : List Entry) (readers : List Consumer) (l : Log) (by size : ℕ) (padding : Bool) (cuts : List ℕ) : Type 0 where
   pub publisher : by < 8
   pub eight : length l.armed ≡ 8
   pub short : size ≤ max_message l.identity.geometry
   pub within : l.tail < max_position l.identity.geometry
   pub below : l.tail < l.limit
-  pub entry : entry_for (stream_of past l) by size ≡ claim_of l.tail by padding cut
-  pub frames : HaveFrames padding (cut ∷ []) (f ∷ [])
-  pub bytes : AllByRecursion (λ b. b < 256) (payload_of f)
+  pub entry : entry_for (stream_of past readers l) by size ≡ open_entry l.tail by padding cuts []
 
-abbrev open_entry : ℕ → ℕ → Bool → List ℕ → Entry
-open_entry start by padding cuts = record { start = start; owner = by; padding = padding; cuts = cuts; frames = [] }
+same_entry : (start by : ℕ) (a b : Bool) (xs ys : List ℕ) → a ≡ b → xs ≡ ys → open_entry start by a xs [] ≡ open_entry start by b ys []
+same_entry start by a b xs ys e f = ap (λ p. open_entry start by p xs []) e ∙ ap (λ zs. open_entry start by b zs []) f
 
-same_entry : (start by : ℕ) (a b : Bool) (xs ys : List ℕ) → a ≡ b → xs ≡ ys → open_entry start by a xs ≡ open_entry start by b ys
-same_entry start by a b xs ys e f = ap (λ p. open_entry start by p xs) e ∙ ap (λ zs. open_entry start by b zs) f
+tested : (past : List Entry) (readers : List Consumer) (l : Log) (size : ℕ) (fits : Bool) → IsLog l → IsTaken l size fits → nat_le (span (cuts_of l.identity.geometry size)) (room (stream_of past readers l)) ≡ fits
+tested past readers l size fits h k =
+    ap (λ n. nat_le n (room (stream_of past readers l))) (covers_framed l.identity.geometry size h.geometry) ∙ ap (λ n. nat_le (covered l size) n) (room_is past readers l size fits k) ∙ k.fitting
 
-abbrev one_span : Log → ℕ → ℕ
-one_span l size = span (cuts_of l.identity.geometry size)
-
-span_one : (l : Log) (size : ℕ) → size ≤ max_payload l.identity.geometry → one_span l size ≡ covered size
-span_one l size short = ap span (cuts_one l.identity.geometry size short) ∙ (omega arith)
-
-tested : (past : List Entry) (l : Log) (size : ℕ) (fits : Bool) → IsTaken l size fits → size ≤ max_payload l.identity.geometry → nat_le (one_span l size) (room (stream_of past l)) ≡ fits
-tested past l size fits k short =
-    ap (λ n. nat_le n (room (stream_of past l))) (span_one l size short) ∙ ap (λ n. nat_le (covered size) n) (room_is past l size fits k) ∙ k.fitting
-
-pub fits_one : (past : List Entry) (l : Log) (by : ℕ) (m : List ℕ) → IsLog l → by < 8 → length m ≤ max_payload l.identity.geometry → AllByRecursion (λ b. b < 256) m → course_of l (length m) ≡ Fits → TakesOne past l by (length m) false (32 + length m) (Data 192 m)
-fits_one past l by m h who short bytes e =
-    let k = taken l (length m) true h e in
-    let t = tested past l (length m) true k short in
-    let n = length m in
-    let cuts = cuts_of l.identity.geometry n in
+pub fits_one : (past : List Entry) (readers : List Consumer) (l : Log) (by size : ℕ) → IsLog l → by < 8 → size ≤ max_message l.identity.geometry → course_of l size ≡ Fits → TakesOne past readers l by size false (cuts_of l.identity.geometry size)
+fits_one past readers l by size h who short e =
+    let k = taken l size true h e in
+    let t = tested past readers l size true h k in
+    let cuts = cuts_of l.identity.geometry size in
+    let left = room (stream_of past readers l) in
     record {
       publisher = who;
       eight = h.all_armed;
-      short = message_short l.identity.geometry n h.geometry short;
-      within = tail_below l n true h k;
+      short = short;
+      within = tail_below l size true h k;
       below = k.below;
-      entry = same_entry l.tail by (not (nat_le (span cuts) (room (stream_of past l)))) false (cond (nat_le (span cuts) (room (stream_of past l))) cuts (room (stream_of past l) ∷ [])) ((32 + n) ∷ [])
-          (not_from_true (nat_le (span cuts) (room (stream_of past l))) t)
-          (cond-true (nat_le (span cuts) (room (stream_of past l))) cuts (room (stream_of past l) ∷ []) t ∙ cuts_one l.identity.geometry n short ∙ ap (λ x. x ∷ []) (omega arith));
-      frames = ((refl, refl), tt);
-      bytes = bytes;
+      entry = same_entry l.tail by (not (nat_le (span cuts) left)) false (cond (nat_le (span cuts) left) cuts (left ∷ [])) cuts
+          (not_from_true (nat_le (span cuts) left) t)
+          (cond-true (nat_le (span cuts) left) cuts (left ∷ []) t);
     }
 
-pub trips_one : (past : List Entry) (l : Log) (by : ℕ) (m : List ℕ) → IsLog l → by < 8 → length m ≤ max_payload l.identity.geometry → course_of l (length m) ≡ Trips → TakesOne past l by (length m) true (room_in l (l.active % 3)) (Pad (room_in l (l.active % 3)))
-trips_one past l by m h who short e =
-    let k = taken l (length m) false h e in
-    let t = tested past l (length m) false k short in
-    let n = length m in
-    let cuts = cuts_of l.identity.geometry n in
+pub trips_one : (past : List Entry) (readers : List Consumer) (l : Log) (by size : ℕ) → IsLog l → by < 8 → size ≤ max_message l.identity.geometry → course_of l size ≡ Trips → TakesOne past readers l by size true (room_in l (l.active % 3) ∷ [])
+trips_one past readers l by size h who short e =
+    let k = taken l size false h e in
+    let t = tested past readers l size false h k in
+    let cuts = cuts_of l.identity.geometry size in
+    let left = room (stream_of past readers l) in
     record {
       publisher = who;
       eight = h.all_armed;
-      short = message_short l.identity.geometry n h.geometry short;
-      within = tail_below l n false h k;
+      short = short;
+      within = tail_below l size false h k;
       below = k.below;
-      entry = same_entry l.tail by (not (nat_le (span cuts) (room (stream_of past l)))) true (cond (nat_le (span cuts) (room (stream_of past l))) cuts (room (stream_of past l) ∷ [])) (room_in l (l.active % 3) ∷ [])
+      entry = same_entry l.tail by (not (nat_le (span cuts) left)) true (cond (nat_le (span cuts) left) cuts (left ∷ [])) (room_in l (l.active % 3) ∷ [])
           (ap not t)
-          (cond-false (nat_le (span cuts) (room (stream_of past l))) cuts (room (stream_of past l) ∷ []) t ∙ ap (λ x. x ∷ []) (room_is past l n false k));
-      frames = refl;
-      bytes = tt;
+          (cond-false (nat_le (span cuts) left) cuts (left ∷ []) t ∙ ap (λ x. x ∷ []) (room_is past readers l size false k));
     }
 
--- ---- the three events
+-- ---- the events
 
 get_after : {X : Type 0} (xs : List X) (k : ℕ) (x : X) → k < length xs → slice_get (slice_set xs k x) k ≡ Some x
 get_after [] k x h = absurd (omega (arith, h))
@@ -212,77 +196,110 @@ disarmed l by = map is_armed (slice_set l.armed by None)
 disarms : (l : Log) (by : ℕ) → slice_set (armed_by l by) by false ≡ disarmed l by
 disarms l by = set_again (armed_of l) by true false ∙ sym (map_set is_armed l.armed by None)
 
-abbrev armed_stream : List Entry → Log → ℕ → stream.Log
-armed_stream past l by = record (stream_of past l) { armed = armed_by l by }
+abbrev armed_stream : List Entry → List Consumer → Log → ℕ → stream.Log
+armed_stream past readers l by = record (stream_of past readers l) { armed = armed_by l by }
 
-abbrev claimed_stream : List Entry → Log → ℕ → Bool → ℕ → stream.Log
-claimed_stream past l by padding cut = record (stream_of past l) { armed = disarmed l by; entries = (past ++ l.entries) ++ claim_of l.tail by padding cut ∷ []; tail = l.tail + aligned cut }
+-- the log with one entry more
+abbrev pub added_stream : List Entry → List Consumer → Log → ℕ → Entry → ℕ → stream.Log
+added_stream past readers l by e to = record (stream_of past readers l) { armed = disarmed l by; entries = past ++ (l.entries ++ e ∷ []); tail = to }
 
--- the entry is there, with its frame
-abbrev filled : ℕ → ℕ → Bool → ℕ → Frame → Entry
-filled tail by padding cut f = record (claim_of tail by padding cut) { frames = f ∷ [] }
-
-abbrev pub taken_stream : List Entry → Log → ℕ → Bool → ℕ → Frame → stream.Log
-taken_stream past l by padding cut f = record (stream_of past l) { armed = disarmed l by; entries = past ++ (l.entries ++ filled l.tail by padding cut f ∷ []); tail = l.tail + aligned cut }
-
-same_claim : (l : stream.Log) (a b : List Bool) (xs ys : List Entry) (p q : ℕ) → a ≡ b → xs ≡ ys → p ≡ q → record l { armed = a; entries = xs; tail = p } ≡ record l { armed = b; entries = ys; tail = q }
-same_claim l a b xs ys p q e f g =
+same_added : (l : stream.Log) (a b : List Bool) (xs ys : List Entry) (p q : ℕ) → a ≡ b → xs ≡ ys → p ≡ q → record l { armed = a; entries = xs; tail = p } ≡ record l { armed = b; entries = ys; tail = q }
+same_added l a b xs ys p q e f g =
     ap (λ z. record l { armed = z; entries = xs; tail = p }) e
     ∙ ap (λ z. record l { armed = b; entries = z; tail = p }) f
     ∙ ap (λ z. record l { armed = b; entries = ys; tail = z }) g
 
-arms : (past : List Entry) (l : Log) (by size : ℕ) (padding : Bool) (cut : ℕ) (f : Frame) → TakesOne past l by size padding cut f → (others : List ℕ) → LogStep others (stream_of past l) (Arm by l.limit) (armed_stream past l by)
-arms past l by size padding cut f h others = (h.publisher, omega arith, h.below, refl)
+pub at_log : (w : World) (e : LogEvent) (l : stream.Log) → LogStep (w.sender.at ∷ []) w.log e l → Goes w (record w { log = l })
+at_log w e l step = goes_one w (record w { log = l }) (AtLog e) (l, step, refl)
 
-claims : (past : List Entry) (l : Log) (by size : ℕ) (padding : Bool) (cut : ℕ) (f : Frame) → TakesOne past l by size padding cut f → (others : List ℕ) → LogStep others (armed_stream past l by) (Add by size) (claimed_stream past l by padding cut)
-claims past l by size padding cut f h others =
-    let armed = armed_stream past l by in
-    let ends : l.tail + aligned cut ≡ entry_end (entry_for armed by size) = sym (ap entry_end h.entry ∙ (omega arith)) in
+arms : (past : List Entry) (readers : List Consumer) (l : Log) (by size : ℕ) (padding : Bool) (cuts : List ℕ) → TakesOne past readers l by size padding cuts → (others : List ℕ) → LogStep others (stream_of past readers l) (Arm by l.limit) (armed_stream past readers l by)
+arms past readers l by size padding cuts h others = (h.publisher, omega arith, h.below, refl)
+
+adds : (past : List Entry) (readers : List Consumer) (l : Log) (by size : ℕ) (padding : Bool) (cuts : List ℕ) (to : ℕ) → TakesOne past readers l by size padding cuts → to ≡ l.tail + span cuts → (others : List ℕ) → LogStep others (armed_stream past readers l by) (Add by size) (added_stream past readers l by (open_entry l.tail by padding cuts []) to)
+adds past readers l by size padding cuts to h is others =
+    let armed = armed_stream past readers l by in
+    let claim = open_entry l.tail by padding cuts [] in
+    let new = entry_for armed by size in
+    let ends : to ≡ entry_end new = is ∙ sym (ap entry_end h.entry) in
     let all = past ++ l.entries in (
       h.publisher,
       get_after (armed_of l) by true (omega (arith, h.publisher, h.eight, length_map is_armed l.armed)),
       h.short,
       h.within,
-      same_claim (stream_of past l) (disarmed l by) (slice_set (armed_by l by) by false) (all ++ claim_of l.tail by padding cut ∷ []) (all ++ entry_for armed by size ∷ []) (l.tail + aligned cut) (entry_end (entry_for armed by size))
-          (sym (disarms l by)) (ap (λ e. all ++ e ∷ []) (sym h.entry)) ends,
+      same_added (stream_of past readers l) (disarmed l by) (slice_set (armed_by l by) by false) (past ++ (l.entries ++ claim ∷ [])) (all ++ new ∷ []) to (entry_end new)
+          (sym (disarms l by)) (sym (append_assoc past l.entries (claim ∷ [])) ∙ ap (λ e. all ++ e ∷ []) (sym h.entry)) ends,
     )
 
-committed_is : (tail by : ℕ) (padding : Bool) (cut : ℕ) (f : Frame) → with_frame tail f (claim_of tail by padding cut) ≡ filled tail by padding cut f
-committed_is tail by padding cut f = ap (λ fs. record (claim_of tail by padding cut) { frames = fs }) (cond-true (nat_eq tail tail) (f ∷ []) [] (eq-eqb tail tail refl))
-
-commits : (past : List Entry) (l : Log) (by size : ℕ) (padding : Bool) (cut : ℕ) (f : Frame) → LogHolds past l → TakesOne past l by size padding cut f → (others : List ℕ) → LogStep others (claimed_stream past l by padding cut) (Commit l.tail f) (taken_stream past l by padding cut f)
-commits past l by size padding cut f h k others =
-    let claim = claim_of l.tail by padding cut in
-    let all = past ++ l.entries in
-    let mapped : map (with_frame l.tail f) (all ++ claim ∷ []) ≡ past ++ (l.entries ++ filled l.tail by padding cut f ∷ []) =
-    map-append (with_frame l.tail f) all (claim ∷ [])
-    ∙ ap (λ xs. xs ++ with_frame l.tail f claim ∷ []) (others_stay l.tail f all (starts_below l.identity.geometry.term_length l.start l.tail all h.tiles h.entries))
-    ∙ ap (λ e. all ++ e ∷ []) (committed_is l.tail by padding cut f)
-    ∙ append_assoc past l.entries (filled l.tail by padding cut f ∷ []) in (
-      record {
-        entry = claim;
-        among = among_right claim all (claim ∷ []) (inl refl);
-        here = refl;
-        frames = k.frames;
-        bytes = k.bytes;
-      },
-      ap (λ xs. record (claimed_stream past l by padding cut) { entries = xs }) (sym mapped),
-    )
-
-pub at_log : (w : World) (e : LogEvent) (l : stream.Log) → LogStep (w.sender.at ∷ []) w.log e l → Goes w (record w { log = l })
-at_log w e l step = goes_one w (record w { log = l }) (AtLog e) (l, step, refl)
-
-pub takes : (s : Scene) (by size : ℕ) (padding : Bool) (cut : ℕ) (f : Frame) → LogHolds s.past s.log → TakesOne s.past s.log by size padding cut f → Goes (world_of s) (record (world_of s) { log = taken_stream s.past s.log by padding cut f })
-takes s by size padding cut f h k =
+-- a claim that stays open
+pub claims : (s : Scene) (by size : ℕ) (padding : Bool) (cuts : List ℕ) (to : ℕ) → TakesOne s.past s.readers s.log by size padding cuts → to ≡ s.log.tail + span cuts → Goes (world_of s) (record (world_of s) { log = added_stream s.past s.readers s.log by (open_entry s.log.tail by padding cuts []) to })
+claims s by size padding cuts to h is =
     let w = world_of s in
     let others = s.sender.at ∷ [] in
-    let arm = armed_stream s.past s.log by in
-    let claim = claimed_stream s.past s.log by padding cut in
-    let done = taken_stream s.past s.log by padding cut f in
-    let first = at_log w (Arm by s.log.limit) arm (arms s.past s.log by size padding cut f k others) in
-    let second = at_log (record w { log = arm }) (Add by size) claim (claims s.past s.log by size padding cut f k others) in
-    let third = at_log (record w { log = claim }) (Commit s.log.tail f) done (commits s.past s.log by size padding cut f h k others) in
-    goes_on w (record w { log = arm }) (record w { log = done }) first (goes_on (record w { log = arm }) (record w { log = claim }) (record w { log = done }) second third)
+    let arm = armed_stream s.past s.readers s.log by in
+    let done = added_stream s.past s.readers s.log by (open_entry s.log.tail by padding cuts []) to in
+    goes_on w (record w { log = arm }) (record w { log = done })
+    (at_log w (Arm by s.log.limit) arm (arms s.past s.readers s.log by size padding cuts h others))
+    (at_log (record w { log = arm }) (Add by size) done (adds s.past s.readers s.log by size padding cuts to h is others))
+
+abbrev with_entries : World → List Entry → World
+with_entries w es = record w { log = record w.log { entries = es } }
+
+pub frame_put : (start by : ℕ) (padding : Bool) (cuts : List ℕ) (done : List Frame) (f : Frame) → with_frame start f (open_entry start by padding cuts done) ≡ open_entry start by padding cuts (done ++ f ∷ [])
+frame_put start by padding cuts done f = ap (λ fs. open_entry start by padding cuts fs) (cond-true (nat_eq start start) (done ++ f ∷ []) done (eq-eqb start start refl))
+
+-- the frames of the last entry, one by one
+commits : (w : World) (all : List Entry) (start by : ℕ) (padding : Bool) (cuts : List ℕ) (done more : List Frame) → AllByRecursion (λ e. e.start < start) all → HaveAll padding cuts done more → Goes (with_entries w (all ++ open_entry start by padding cuts done ∷ [])) (with_entries w (all ++ open_entry start by padding cuts (done ++ more) ∷ []))
+commits w all start by padding cuts done [] low h =
+    stays (with_entries w (all ++ open_entry start by padding cuts done ∷ [])) (with_entries w (all ++ open_entry start by padding cuts (done ++ []) ∷ [])) (ap (λ fs. with_entries w (all ++ open_entry start by padding cuts fs ∷ [])) (append-nil done))
+commits w all start by padding cuts done (f ∷ fs) low h =
+    let before = open_entry start by padding cuts done in
+    let after = open_entry start by padding cuts (done ++ f ∷ []) in
+    let old = with_entries w (all ++ before ∷ []) in
+    let mid = with_entries w (all ++ after ∷ []) in
+    let mapped : map (with_frame start f) (all ++ before ∷ []) ≡ all ++ after ∷ [] =
+    map-append (with_frame start f) all (before ∷ [])
+    ∙ ap (λ xs. xs ++ with_frame start f before ∷ []) (others_stay start f all low)
+    ∙ ap (λ e. all ++ e ∷ []) (frame_put start by padding cuts done f) in
+    let step : LogStep (w.sender.at ∷ []) old.log (Commit start f) mid.log = (
+      record {
+        entry = before;
+        among = among_right before all (before ∷ []) (inl refl);
+        here = refl;
+        frames = h.0.0;
+        bytes = h.0.1;
+      },
+      ap (λ xs. record w.log { entries = xs }) (sym mapped),
+    ) in
+    goes_on old mid (with_entries w (all ++ open_entry start by padding cuts (done ++ f ∷ fs) ∷ []))
+    (at_log old (Commit start f) mid.log step)
+    (subst (λ xs. Goes mid (with_entries w (all ++ open_entry start by padding cuts xs ∷ []))) (append_assoc done (f ∷ []) fs) (commits w all start by padding cuts (done ++ f ∷ []) fs low h.1))
+
+-- and of one that was just added
+pub takes : (s : Scene) (by size : ℕ) (padding : Bool) (cuts : List ℕ) (frames : List Frame) (to : ℕ) → LogHolds s.past s.log → TakesOne s.past s.readers s.log by size padding cuts → HaveAll padding cuts [] frames → to ≡ s.log.tail + span cuts → Goes (world_of s) (record (world_of s) { log = added_stream s.past s.readers s.log by (open_entry s.log.tail by padding cuts frames) to })
+takes s by size padding cuts frames to h k fill is =
+    let w = world_of s in
+    let all = s.past ++ s.log.entries in
+    let open_claim = open_entry s.log.tail by padding cuts [] in
+    let full = open_entry s.log.tail by padding cuts frames in
+    let claimed = record w { log = added_stream s.past s.readers s.log by open_claim to } in
+    let done = record w { log = added_stream s.past s.readers s.log by full to } in
+    let low = starts_below s.log.identity.geometry.term_length s.log.start s.log.tail all h.tiles h.entries in
+    goes_on w claimed done (claims s by size padding cuts to k is)
+    (subst (λ es. Goes (with_entries claimed es) (with_entries claimed (s.past ++ (s.log.entries ++ full ∷ [])))) (append_assoc s.past s.log.entries (open_claim ∷ []))
+    (subst (λ es. Goes (with_entries claimed (all ++ open_claim ∷ [])) (with_entries claimed es)) (append_assoc s.past s.log.entries (full ∷ []))
+    (commits claimed all s.log.tail by padding cuts [] frames low fill)))
+
+-- a message that is committed whole
+pub offers : (s : Scene) (by : ℕ) (m : List ℕ) (to : ℕ) → LogHolds s.past s.log → TakesOne s.past s.readers s.log by (length m) false (cuts_of s.log.identity.geometry (length m)) → AreBytes m → to ≡ s.log.tail + framed_length s.log.identity.geometry (length m) → Goes (world_of s) (record (world_of s) { log = added_stream s.past s.readers s.log by (open_entry s.log.tail by false (cuts_of s.log.identity.geometry (length m)) (pieces_of true (cuts_of s.log.identity.geometry (length m)) m)) to })
+offers s by m to h k bytes is =
+    let g = s.log.identity.geometry in
+    let cuts = cuts_of g (length m) in
+    let frames = pieces_of true cuts m in
+    takes s by (length m) false cuts frames to h k (have_pieces cuts [] frames (pieces_are g m h.geometry) (pieces_bytes true cuts m bytes)) (omega (arith, is, covers_framed g (length m) h.geometry))
+
+-- a padding
+pub trips : (s : Scene) (by size n to : ℕ) → LogHolds s.past s.log → TakesOne s.past s.readers s.log by size true (n ∷ []) → to ≡ s.log.tail + aligned n → Goes (world_of s) (record (world_of s) { log = added_stream s.past s.readers s.log by (open_entry s.log.tail by true (n ∷ []) (Pad n ∷ [])) to })
+trips s by size n to h k is = takes s by size true (n ∷ []) (Pad n ∷ []) to h k ((refl, tt), tt) (omega (arith, is))
 
 -- ---- the next term's turn
 
@@ -297,30 +314,3 @@ turned_same f blind l count =
     let first : f next ≡ f l = both_same f (nat_eq l.newest count) (turned l) l l (blind l (turned l).newest l.active (turned l).offsets) refl in
     let second : f (rotated l count) ≡ f l = both_same f (nat_le next.newest (count + 3)) (counted next count) next l (blind next next.newest (counted next count).active next.offsets ∙ first) first in
     both_same f (nat_eq count (2 ^ 31 - 1)) l (rotated l count) l refl second
-
--- ---- what is published then
-
-one_tested : (b : Bool) (e : Entry) (p : Published) → message_of e ≡ p.message → map message_of (cond b (e ∷ []) []) ≡ map (λ x. x.message) (cond b (p ∷ []) [])
-one_tested true e p h = ap (λ m. m ∷ []) h
-one_tested false e p h = refl
-
--- a padding is no message
-pub none_more : (j q tail by cut : ℕ) → messages j q (padded tail by cut ∷ []) ≡ []
-none_more j q tail by cut = refl
-
-pub one_more : (j q tail by : ℕ) (m : List ℕ) (end : ℕ) → end ≡ tail + aligned (32 + length m) → messages j q (published tail by m ∷ []) ≡ between j q (placed_at m end ∷ [])
-one_more j q tail by m end e =
-    let size = aligned (32 + length m) in
-    let from : tail ≡ end - size = omega (arith, e) in
-    let to : tail + (size + 0) ≡ end = omega (arith, e) in
-    let entry = published tail by m in
-    ap (λ b. map message_of (cond b (entry ∷ []) [])) (ap (λ p. nat_le j p && nat_le (tail + (size + 0)) q) from ∙ ap (λ p. nat_le j (end - size) && nat_le p q) to)
-    ∙ one_tested (nat_le j (end - size) && nat_le end q) entry (placed_at m end) (append-nil m)
-
-pub messages_more : (j q : ℕ) (es more : List Entry) → messages j q (es ++ more) ≡ messages j q es ++ messages j q more
-messages_more j q es more = ap (map message_of) (filter-append (is_between j q) es more) ∙ map-append message_of (filter (is_between j q) es) (filter (is_between j q) more)
-
-pub between_more : (j q : ℕ) (ms more : List Published) → between j q (ms ++ more) ≡ between j q ms ++ between j q more
-between_more j q ms more =
-    let test = λ (m : Published). nat_le j m.start && nat_le m.end q in
-    ap (map (λ m. m.message)) (filter-append test ms more) ∙ map-append (λ m. m.message) (filter test ms) (filter test more)

@@ -1,5 +1,5 @@
 -- Runs of the world one after the other, and lists of seats.
-use Rattle.std.proofs.Common.{◌≡◌, ℕ, zero, suc, List, [], ◌∷◌, ◌++◌, map, Some, refl, sym, ap, subst}
+use Rattle.std.proofs.Common.{◌≡◌, ℕ, zero, suc, ◌<◌, List, [], ◌∷◌, ◌++◌, map, length, Some, refl, sym, ap, subst, arith}
 use Rattle.std.specs.Prelude.{slice_get, slice_set}
 use Rattle.theory.specs.Image.{Image}
 use Rattle.theory.specs.World.{World, Event, Step, Run}
@@ -54,6 +54,16 @@ get_other (z ∷ zs) zero zero y other = absurd (other refl)
 get_other (z ∷ zs) zero (suc j) y other = refl
 get_other (z ∷ zs) (suc k) zero y other = refl
 get_other (z ∷ zs) (suc k) (suc j) y other = get_other zs k j y (λ e. other (ap suc e))
+
+pub set_length : {X : Type 0} (xs : List X) (k : ℕ) (x : X) → length (slice_set xs k x) ≡ length xs
+set_length [] k x = refl
+set_length (y ∷ ys) zero x = refl
+set_length (y ∷ ys) (suc k) x = ap suc (set_length ys k x)
+
+pub below_length : {X : Type 0} (xs : List X) (k : ℕ) (x : X) → slice_get xs k ≡ Some x → k < length xs
+below_length [] k x h = absurd (cc)
+below_length (y ∷ ys) zero x h = omega arith
+below_length (y ∷ ys) (suc k) x h = omega (arith, below_length ys k x h)
 
 -- ---- one image of a world
 

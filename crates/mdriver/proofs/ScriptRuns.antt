@@ -1,16 +1,18 @@
 -- Lines of a script, one after the other.
-use Rattle.std.proofs.Common.{◌≡◌, ◌∙◌, ℕ, ◌<◌, get_or, inl, inr, ◌+◌, List, [], ◌∷◌, ◌++◌, sym, ap, subst, refl, append_assoc, append-nil, length, arith, take}
-use Rattle.std.proofs.lemmas.List.{map-append}
+use Rattle.std.proofs.Common.{◌≡◌, ◌∙◌, ℕ, ◌<◌, get_or, inl, inr, ◌+◌, List, [], ◌∷◌, ◌++◌, sym, ap, subst, refl, append_assoc, append-nil, length, map, arith, take}
+use Rattle.std.proofs.lemmas.List.{length-map, length-replicate, map-append}
 use Rattle.std.proofs.lemmas.Grind.{flat_map-append}
 use Rattle.std.specs.List.{flat_map}
-use Rattle.std.specs.Prelude.{◌%◌, slice_index, suc, sum}
+use Rattle.std.specs.Prelude.{◌%◌, replicate, slice_index, suc, sum}
 use Rattle.std.proofs.Math.Seq.{take-suc}
 use Rattle.theory.specs.Bytes.{Identity, IsIdentity}
+use Rattle.theory.specs.Consumer.{Consumer, consumer_at}
 use Rattle.theory.specs.Position.{Geometry, IsGeometry, max_position}
 use Rattle.theory.specs.Tiling.{share_of}
 use Rattle.log_buffer.specs.declared.fault.LogError.TheVariants.{Start}
 use Rattle.log_buffer.specs.Books as books
 use Rattle.log_buffer.specs.Log.{Log}
+use Rattle.log_buffer.specs.Reader.{Reader}
 use Rattle.log_buffer.specs.declared.book.Book.{Book}
 use Rattle.script.specs.Meaning.{Opening, Order, Told, order, orders}
 use Rattle.script.specs.declared.command.Command.{Command}
@@ -64,8 +66,8 @@ behind_open old new os before there after e h s shows =
 -- ---- the book
 
 -- a log that is opened so
-abbrev opening_of : Identity → ℕ → Opening
-opening_of i start = record { term_length = i.geometry.term_length; mtu = i.geometry.mtu; initial_term_id = i.geometry.initial_term_id; start = start; session = i.session; stream = i.stream; readers = 0 }
+abbrev opening_of : Identity → ℕ → ℕ → Opening
+opening_of i start readers = record { term_length = i.geometry.term_length; mtu = i.geometry.mtu; initial_term_id = i.geometry.initial_term_id; start = start; session = i.session; stream = i.stream; readers = readers }
 
 shows_book : (s : Scene) (b : Book) → length b.shares ≡ 8 → ((k : ℕ) → k < 8 → slice_index s.log.shares k ≡ share_of k (entries_of s)) → books.ShowsBook s.log b → ShowsBook s (Shares b.start b.tail b.shares)
 shows_book s b eight counted h = record {
@@ -79,16 +81,16 @@ shows_book s b eight counted h = record {
 all_printed : (before played book : List Print) → ((before ++ Open ∷ []) ++ played) ++ book ≡ before ++ Open ∷ (played ++ book)
 all_printed before played book = append_assoc (before ++ Open ∷ []) played book ∙ append_assoc before (Open ∷ []) (played ++ book)
 
-pub runs_to : (old new : Stage) (i : Identity) (start : ℕ) (os : List Order) (before there after : List Line) (b : Book) → length b.shares ≡ 8 → ShowsScene old (opened_scene i start) → ContinuesOpen old os before there new → books.ShowsBook new.log b → after ≡ there ++ lines.Book b ∷ [] → RunsTo i start os (prints before) (prints after)
-runs_to old new i start os before there after b eight shows h book e =
-    let k = h (opened_scene i start) shows in
+pub runs_to : (old new : Stage) (i : Identity) (start readers : ℕ) (os : List Order) (before there after : List Line) (b : Book) → length b.shares ≡ 8 → ShowsScene old (opened_scene i start readers) → ContinuesOpen old os before there new → books.ShowsBook new.log b → after ≡ there ++ lines.Book b ∷ [] → RunsTo i start readers os (prints before) (prints after)
+runs_to old new i start readers os before there after b eight shows h book e =
+    let k = h (opened_scene i start readers) shows in
     record {
       played = k.played;
       last = k.scene;
       of_orders = k.of_orders;
       answered = k.answered;
       book = Shares b.start b.tail b.shares;
-      shown = shows_book k.scene b eight (always_counted (opening_of i start) k.played k.scene k.answered) (subst (λ (l : Log). books.ShowsBook l b) (sym k.shows.log) book);
+      shown = shows_book k.scene b eight (always_counted (opening_of i start readers) k.played k.scene k.answered) (subst (λ (l : Log). books.ShowsBook l b) (sym k.shows.log) book);
       printed =
           ap prints e
           ∙ map-append print_of there (lines.Book b ∷ [])
@@ -110,19 +112,30 @@ next_played old mid new cs k c before there after below e h step =
 
 -- ---- the whole script
 
-pub own_scene : (v : Stage) (i : Identity) (start : ℕ) → ShowsScene v (opened_scene i start) → ShowsScene v (opened_scene v.log.identity v.log.start)
-own_scene v i start h =
+-- how many readers the stage has
+stage_readers : (v : Stage) (i : Identity) (start readers : ℕ) → ShowsScene v (opened_scene i start readers) → readers ≡ length v.readers.items
+stage_readers v i start readers h =
+    sym (length-replicate readers (consumer_at start))
+    ∙ sym (length-map (replicate readers (consumer_at start)) (λ (c : Consumer). c.at))
+    ∙ ap (λ (ps : List ℕ). length ps) (sym h.readers)
+    ∙ length-map v.readers.items (λ (r : Reader). r.position)
+
+pub own_scene : (v : Stage) (i : Identity) (start readers : ℕ) → ShowsScene v (opened_scene i start readers) → ShowsScene v (opened_scene v.log.identity v.log.start (length v.readers.items))
+own_scene v i start readers h =
     let same : i ≡ v.log.identity = ap (λ l. l.identity) h.log in
     let there : start ≡ v.log.start = ap (λ l. l.start) h.log in
-    subst (λ (j : Identity). ShowsScene v (opened_scene j v.log.start)) same (subst (λ (n : ℕ). ShowsScene v (opened_scene i n)) there h)
+    subst (λ (k : ℕ). ShowsScene v (opened_scene v.log.identity v.log.start k)) (stage_readers v i start readers h)
+    (subst (λ (j : Identity). ShowsScene v (opened_scene j v.log.start readers)) same (subst (λ (n : ℕ). ShowsScene v (opened_scene i n readers)) there h))
 
-runs_from : (v : Stage) (i : Identity) (start : ℕ) (os : List Order) (before after : List Print) → ShowsScene v (opened_scene i start) → RunsTo v.log.identity v.log.start os before after → RunsTo i start os before after
-runs_from v i start os before after h k =
+runs_from : (v : Stage) (i : Identity) (start readers : ℕ) (os : List Order) (before after : List Print) → ShowsScene v (opened_scene i start readers) → RunsTo v.log.identity v.log.start (length v.readers.items) os before after → RunsTo i start readers os before after
+runs_from v i start readers os before after h k =
     let same : i ≡ v.log.identity = ap (λ l. l.identity) h.log in
     let there : start ≡ v.log.start = ap (λ l. l.start) h.log in
-    subst (λ (j : Identity). RunsTo j start os before after) (sym same) (subst (λ (n : ℕ). RunsTo v.log.identity n os before after) (sym there) k)
+    subst (λ (j : Identity). RunsTo j start readers os before after) (sym same)
+    (subst (λ (n : ℕ). RunsTo v.log.identity n readers os before after) (sym there)
+    (subst (λ (n : ℕ). RunsTo v.log.identity v.log.start n os before after) (sym (stage_readers v i start readers h)) k))
 
-plays_on : (script : Told) (after : List Print) → IsGeometry (geometry_of script.log) → IsStart script.log → IsIdentity (identity_of script.log) → AlwaysPolled → RunsTo (identity_of script.log) script.log.start script.orders [] after → PlaysOn script after
+plays_on : (script : Told) (after : List Print) → IsGeometry (geometry_of script.log) → IsStart script.log → IsIdentity (identity_of script.log) → AlwaysPolled → RunsTo (identity_of script.log) script.log.start script.log.readers script.orders [] after → PlaysOn script after
 plays_on script after legal starts identity always h = record {
   legal = legal;
   starts = starts;
@@ -133,14 +146,16 @@ plays_on script after legal starts identity always h = record {
   book = h.book;
   shown = h.shown;
   printed = h.printed;
-  polled = always script.log h.played h.last legal identity starts h.answered;
+  polled = λ done later parts. (always script.log h.played h.last legal identity starts h.answered done later parts).0;
+  read = λ done later parts. (always script.log h.played h.last legal identity starts h.answered done later parts).1;
 }
 
-pub stage_plays : (script : Told) (v : Stage) (j : Identity) (start : ℕ) (after : List Print) → j ≡ identity_of script.log → start ≡ script.log.start → IsGeometry (geometry_of script.log) → IsStart script.log → IsIdentity (identity_of script.log) → AlwaysPolled → ShowsScene v (opened_scene j start) → RunsTo v.log.identity v.log.start script.orders [] after → Plays script after
-stage_plays script v j start after same there legal starts identity always shows runs =
-    let here : ShowsScene v (opened_scene (identity_of script.log) script.log.start) =
-    subst (λ (i : Identity). ShowsScene v (opened_scene i script.log.start)) same (subst (λ (n : ℕ). ShowsScene v (opened_scene j n)) there shows) in
-    inr (plays_on script after legal starts identity always (runs_from v (identity_of script.log) script.log.start script.orders [] after here runs))
+pub stage_plays : (script : Told) (v : Stage) (j : Identity) (start readers : ℕ) (after : List Print) → j ≡ identity_of script.log → start ≡ script.log.start → readers ≡ script.log.readers → IsGeometry (geometry_of script.log) → IsStart script.log → IsIdentity (identity_of script.log) → AlwaysPolled → ShowsScene v (opened_scene j start readers) → RunsTo v.log.identity v.log.start (length v.readers.items) script.orders [] after → Plays script after
+stage_plays script v j start readers after same there many legal starts identity always shows runs =
+    let here : ShowsScene v (opened_scene (identity_of script.log) script.log.start script.log.readers) =
+    subst (λ (i : Identity). ShowsScene v (opened_scene i script.log.start script.log.readers)) same
+    (subst (λ (n : ℕ). ShowsScene v (opened_scene j n script.log.readers)) there (subst (λ (n : ℕ). ShowsScene v (opened_scene j start n)) many shows)) in
+    inr (plays_on script after legal starts identity always (runs_from v (identity_of script.log) script.log.start script.log.readers script.orders [] after here runs))
 
 -- the log can't be opened at its start
 pub refused_start : (script : Told) (g : Geometry) (before after : List Line) → g ≡ geometry_of script.log → IsGeometry g → ((script.log.start % 32 ≡ 0) × (script.log.start < max_position g) → ⊥) → before ≡ [] → after ≡ before ++ lines.BadLog Start ∷ [] → Plays script (prints after)

@@ -60,8 +60,8 @@ setup_given o p v i j a b e f same there = given o p v (setup_at j b) e (f ∙ a
 -- ---- the next frame
 
 -- the frame that was read
-abbrev read_frame : {l : Log} {r : Reader} {head : FrameHead} {old new : List ℕ} → Reads l r head old new → Placed
-read_frame {r = r} h = record { at = r.position; frame = h.frame }
+abbrev pub read_frame : {l : Log} {p : ℕ} {head : FrameHead} {old new : List ℕ} → Reads l p head old new → Placed
+read_frame {p = p} h = record { at = p; frame = h.frame }
 
 length_in : (start : ℕ) (f : Frame) → (head_of start f).frame_length ≡ frame_length f
 length_in start (Data flags payload) = refl
@@ -71,10 +71,10 @@ start_in : (start : ℕ) (f : Frame) → (head_of start f).start ≡ start
 start_in start (Data flags payload) = refl
 start_in start (Pad n) = refl
 
-starts : (l : Log) (r : Reader) (head : FrameHead) (old new : List ℕ) (h : Reads l r head old new) → head.start ≡ r.position
+pub starts : (l : Log) (r : Reader) (head : FrameHead) (old new : List ℕ) (h : Reads l r.position head old new) → head.start ≡ r.position
 starts l r head old new h = ap (λ (x : FrameHead). x.start) h.shown ∙ start_in r.position h.frame
 
-ends : (l : Log) (r : Reader) (head : FrameHead) (old new : List ℕ) (h : Reads l r head old new) → head.start + aligned head.frame_length ≡ end_of (read_frame h)
+pub ends : (l : Log) (r : Reader) (head : FrameHead) (old new : List ℕ) (h : Reads l r.position head old new) → head.start + aligned head.frame_length ≡ end_of (read_frame h)
 ends l r head old new h =
     ap (λ (n : ℕ). n + aligned head.frame_length) (starts l r head old new h)
     ∙ ap (λ (n : ℕ). r.position + aligned n) (ap (λ (x : FrameHead). x.frame_length) h.shown ∙ length_in r.position h.frame)
@@ -91,7 +91,7 @@ sends_nothing l r q o limit e none = record {
 abbrev IsSentTo : FrameHead → ℕ → Type 0
 IsSentTo head to = (at : ℕ) (frame : Frame) → head ≡ head_of at frame → to ≡ sent_end (record { at = at; frame = frame }) frame
 
-pub held_back : (l : Log) (r q : Reader) (o : Outgoing) (limit to : ℕ) (head : FrameHead) (old new : List ℕ) → IsLog l → Reads l r head old new → IsSentTo head to → limit < to → q ≡ record r { read_to = head.start + aligned head.frame_length } → SendsNext l r o limit l q o
+pub held_back : (l : Log) (r q : Reader) (o : Outgoing) (limit to : ℕ) (head : FrameHead) (old new : List ℕ) → IsLog l → Reads l r.position head old new → IsSentTo head to → limit < to → q ≡ record r { read_to = head.start + aligned head.frame_length } → SendsNext l r o limit l q o
 held_back l r q o limit to head old new is h sent above e =
     let here : Placed = read_frame h in
     let end : to ≡ sent_end here here.frame = sent r.position h.frame h.shown in
@@ -105,22 +105,21 @@ held_back l r q o limit to head old new is h sent above e =
     }
 
 -- the head and the block's front tell the frame
-frame_again : (at : ℕ) (f : Frame) (old : List ℕ) → (head_of at f).flags ≡ 192 → frame_in (head_of at f).kind (head_of at f).frame_length (payload_of f ++ drop (length (payload_of f)) old) ≡ f
-frame_again at (Data flags payload) old e =
+frame_again : (at : ℕ) (f : Frame) (old : List ℕ) → frame_in (head_of at f).kind (head_of at f).flags (head_of at f).frame_length (payload_of f ++ drop (length (payload_of f)) old) ≡ f
+frame_again at (Data flags payload) old =
     let size : 32 + length payload - 32 ≡ length payload = omega arith in
-    ap (λ (n : ℕ). Data 192 (take n (payload ++ drop (length payload) old))) size
-    ∙ ap (Data 192) (take-append_seam payload (drop (length payload) old))
-    ∙ ap (λ (n : ℕ). Data n payload) (sym e)
-frame_again at (Pad n) old e = refl
+    ap (λ (n : ℕ). Data flags (take n (payload ++ drop (length payload) old))) size
+    ∙ ap (Data flags) (take-append_seam payload (drop (length payload) old))
+frame_again at (Pad n) old = refl
 
-frame_read : (l : Log) (r : Reader) (head : FrameHead) (old new : List ℕ) (h : Reads l r head old new) → head.flags ≡ 192 → frame_in head.kind head.frame_length new ≡ h.frame
-frame_read l r head old new h whole =
-    ap (λ (x : FrameHead). frame_in x.kind x.frame_length new) h.shown
-    ∙ ap (frame_in (head_of r.position h.frame).kind (head_of r.position h.frame).frame_length) h.copied
-    ∙ frame_again r.position h.frame old (ap (λ (x : FrameHead). x.flags) (sym h.shown) ∙ whole)
+pub frame_read : (l : Log) (p : ℕ) (head : FrameHead) (old new : List ℕ) (h : Reads l p head old new) → frame_in head.kind head.flags head.frame_length new ≡ h.frame
+frame_read l p head old new h =
+    ap (λ (x : FrameHead). frame_in x.kind x.flags x.frame_length new) h.shown
+    ∙ ap (frame_in (head_of p h.frame).kind (head_of p h.frame).flags (head_of p h.frame).frame_length) h.copied
+    ∙ frame_again p h.frame old
 
-pub sends_frame : (l m : Log) (r n q : Reader) (o p : Outgoing) (limit to : ℕ) (head : FrameHead) (old new : List ℕ) → Reads l r head old new → head.flags ≡ 192 → IsSentTo head to → to ≤ limit → n ≡ record r { read_to = head.start + aligned head.frame_length } → m ≡ record l { consumers = slice_set l.consumers n.number n.read_to } → q ≡ record n { position = n.read_to; index = n.index + 1 } → p ≡ with_datagram o (spelling (wire_at l.identity head.start (frame_in head.kind head.frame_length new))) → SendsNext l r o limit m q p
-sends_frame l m r n q o p limit to head old new h whole sent below read log moved out =
+pub sends_frame : (l m : Log) (r n q : Reader) (o p : Outgoing) (limit to : ℕ) (head : FrameHead) (old new : List ℕ) → Reads l r.position head old new → IsSentTo head to → to ≤ limit → n ≡ record r { read_to = head.start + aligned head.frame_length } → m ≡ record l { consumers = slice_set l.consumers n.number n.read_to } → q ≡ record n { position = n.read_to } → p ≡ with_datagram o (spelling (wire_at l.identity head.start (frame_in head.kind head.flags head.frame_length new))) → SendsNext l r o limit m q p
+sends_frame l m r n q o p limit to head old new h sent below read log moved out =
     let here : Placed = read_frame h in
     let end : head.start + aligned head.frame_length ≡ end_of here = ends l r head old new h in
     let noted : n ≡ record r { read_to = end_of here } = read ∙ ap (λ (x : ℕ). record r { read_to = x }) end in
@@ -130,11 +129,11 @@ sends_frame l m r n q o p limit to head old new h whole sent below read log move
       next = (h.among, refl, omega (arith, allowed, below));
       sent =
           out
-          ∙ ap (λ (x : ℕ). with_datagram o (spelling (wire_at l.identity x (frame_in head.kind head.frame_length new)))) (starts l r head old new h)
-          ∙ ap (λ (f : Frame). with_datagram o (spelling (wire_at l.identity r.position f))) (frame_read l r head old new h whole);
+          ∙ ap (λ (x : ℕ). with_datagram o (spelling (wire_at l.identity x (frame_in head.kind head.flags head.frame_length new)))) (starts l r head old new h)
+          ∙ ap (λ (f : Frame). with_datagram o (spelling (wire_at l.identity r.position f))) (frame_read l r.position head old new h);
       behind = (
         log ∙ ap (λ (x : Reader). record l { consumers = slice_set l.consumers x.number x.read_to }) noted,
-        moved ∙ ap (λ (x : Reader). record x { position = x.read_to; index = x.index + 1 }) noted,
+        moved ∙ ap (λ (x : Reader). record x { position = x.read_to }) noted,
       );
     }
 

@@ -1,8 +1,8 @@
 -- A sender's cycle, what it is told, and its keeper's calls, as events.
-use Rattle.std.proofs.Common.{◌≡◌, ℕ, zero, suc, ◌+◌, ◌-◌, ◌*◌, ◌/◌, ◌%◌, ◌≤◌, List, [], ◌∷◌, ◌++◌, length, drop, Bool, true, false, cond, Option, None, Some, refl, sym, ap, ◌∙◌, subst, arith, append_assoc}
-use Rattle.std.specs.Prelude.{max, not, ◌&&◌}
-use Rattle.std.specs.List.{AllByRecursion}
-use Rattle.std.proofs.lemmas.Bool.{and_parts}
+use Rattle.std.proofs.Common.{◌≡◌, ℕ, zero, suc, ◌+◌, ◌-◌, ◌*◌, ◌/◌, ◌%◌, ◌<◌, ◌≤◌, ⊎_elim, List, [], ◌∷◌, ◌++◌, map, length, drop, Bool, true, false, cond, Option, None, Some, refl, sym, ap, ◌∙◌, subst, arith, append_assoc}
+use Rattle.std.specs.Prelude.{max, min, not, ◌&&◌}
+use Rattle.std.specs.List.{AllByRecursion, fold}
+use Rattle.std.proofs.lemmas.Bool.{and_parts, cases_lt}
 use Rattle.std.proofs.lemmas.Grind.{flat_map-append}
 use Rattle.theory.specs.Placed.{Among, Placed, end_of, place_all}
 use Rattle.theory.specs.Consumer.{Consumer}
@@ -55,14 +55,14 @@ pub names : (w : World) (due : Bool) → Goes w (with_sender w (named w.sender d
 names w true = at_sender w SendSetup (named w.sender true) refl
 names w false = stays w w refl
 
-committed_more : (past es : List Entry) (s : Placed) → Among s (committed es) → Among s (committed (past ++ es))
-committed_more past es s h = subst (λ xs. Among s xs) (sym (flat_map-append (λ e. place_all e.start e.frames) past es)) (among_right s (committed past) (committed es) h)
+pub among_kept : (past es : List Entry) (s : Placed) → Among s (committed es) → Among s (committed (past ++ es))
+among_kept past es s h = subst (λ xs. Among s xs) (sym (flat_map-append (λ e. place_all e.start e.frames) past es)) (among_right s (committed past) (committed es) h)
 
 -- the next of the entries that are kept
 pub sends : (w : World) (past es : List Entry) (limit : ℕ) (frame : Option Placed) → w.log.entries ≡ past ++ es → limit ≡ limit_in w → IsNextSent (committed es) w.sender.at limit frame → Goes w (with_sender w (sent_on w.sender frame))
 sends w past es limit None parts l next = stays w w refl
 sends w past es limit (Some s) parts l next =
-    let among : Among s (committed w.log.entries) = subst (λ xs. Among s (committed xs)) (sym parts) (committed_more past es s next.0) in
+    let among : Among s (committed w.log.entries) = subst (λ xs. Among s (committed xs)) (sym parts) (among_kept past es s next.0) in
     at_sender w (Send (s ∷ []) (end_of s)) (sent_on w.sender (Some s)) ((next.1, refl), (among, tt), (subst (λ x. sent_end s s.frame ≤ x) l next.2, tt), refl)
 
 -- a cycle
@@ -108,33 +108,55 @@ closes s =
 abbrev cleaned_to : World → ℕ → World
 cleaned_to w to = record w { log = record w.log { cleaned = to } }
 
--- no reader but the sender is there
-sender_lowest : (w : World) → w.log.readers ≡ [] → IsLowest (w.sender.at ∷ []) w.log w.sender.at
-sender_lowest w none = record {
-  others_above = (omega arith, tt);
-  readers_above = subst (λ (rs : List (Option Consumer)). Each (λ r. w.sender.at ≤ r.at) rs) (sym none) tt;
-}
+abbrev Lowest : World → ℕ → Type 0
+Lowest w m = IsLowest (w.sender.at ∷ []) w.log m
+
+-- the least of some positions is one of them, and no other is below it
+least_one : (P : ℕ → Type 0) (a : ℕ) (ps : List ℕ) → P a → AllByRecursion P ps → P (fold min a ps)
+least_one P a [] h all = h
+least_one P a (p ∷ ps) h all =
+    let less : P (min a p) = ⊎_elim (λ (l : a < p). let same : a ≡ min a p = omega (arith, l) in subst P same h) (λ (l : p ≤ a). let same : p ≡ min a p = omega (arith, l) in subst P same all.0) (cases_lt a p) in
+    least_one P (min a p) ps less all.1
+
+least_low : (a : ℕ) (ps : List ℕ) → (fold min a ps ≤ a) × AllByRecursion (λ p. fold min a ps ≤ p) ps
+least_low a [] = (omega arith, tt)
+least_low a (p ∷ ps) =
+    let rest = least_low (min a p) ps in
+    (omega (arith, rest.0), (omega (arith, rest.0), rest.1))
+
+each_above : (m : ℕ) (rs : List Consumer) → AllByRecursion (λ p. m ≤ p) (map (λ r. r.at) rs) → Each (λ r. m ≤ r.at) (map Some rs)
+each_above m [] h = tt
+each_above m (r ∷ rs) h = (h.0, each_above m rs h.1)
+
+-- no consumer is below the least position
+all_above : (s : Scene) → s.log.consumers ≡ s.sender.at ∷ map (λ c. c.at) s.readers → Lowest (world_of s) (least s.log.consumers)
+all_above s are =
+    let ps = s.sender.at ∷ map (λ c. c.at) s.readers in
+    let low = (least_low s.sender.at ps).1 in
+    let same : least s.log.consumers ≡ fold min s.sender.at ps = ap least are in
+    let all : AllByRecursion (λ p. least s.log.consumers ≤ p) ps = subst (λ m. AllByRecursion (λ p. m ≤ p) ps) (sym same) low in
+    record { others_above = (all.0, tt); readers_above = each_above (least s.log.consumers) s.readers all.1 }
 
 -- word by word
-cleans_on : (n : ℕ) (w : World) (to : ℕ) → w.log.readers ≡ [] → to ≡ w.log.cleaned + 8 * n → to ≤ max w.log.start (w.sender.at - w.log.identity.geometry.term_length) → Goes w (cleaned_to w to)
-cleans_on zero w to none is low = stays w (cleaned_to w to) (ap (cleaned_to w) (omega (arith, is)))
-cleans_on (suc n) w to none is low =
+cleans_on : (n : ℕ) (w : World) (m to : ℕ) → Lowest w m → to ≡ w.log.cleaned + 8 * n → to ≤ max w.log.start (m - w.log.identity.geometry.term_length) → Goes w (cleaned_to w to)
+cleans_on zero w m to lowest is low = stays w (cleaned_to w to) (ap (cleaned_to w) (omega (arith, is)))
+cleans_on (suc n) w m to lowest is low =
     let next = cleaned_to w (w.log.cleaned + 8) in
-    let step : Goes w next = goes_one w next (AtLog (Clean w.sender.at)) (next.log, (sender_lowest w none, omega (arith, is, low), refl), refl) in
-    goes_on w next (cleaned_to w to) step (cleans_on n next to none (omega (arith, is)) low)
+    let step : Goes w next = goes_one w next (AtLog (Clean m)) (next.log, (lowest, omega (arith, is, low), refl), refl) in
+    goes_on w next (cleaned_to w to) step (cleans_on n next m to (record { others_above = lowest.others_above; readers_above = lowest.readers_above }) (omega (arith, is)) low)
 
 abbrev limited_to : World → ℕ → World
 limited_to w limit = record w { log = record w.log { limit = limit } }
 
-abbrev raised_in : World → Bool → ℕ
-raised_in w may = cond may (max w.log.limit (w.sender.at + w.log.identity.geometry.term_length / 2)) w.log.limit
+abbrev raised_in : World → ℕ → Bool → ℕ
+raised_in w m may = cond may (max w.log.limit (m + w.log.identity.geometry.term_length / 2)) w.log.limit
 
-raises_on : (w : World) (may : Bool) → w.log.readers ≡ [] → w.sender.at % 32 ≡ 0 → max w.log.start (w.sender.at - w.log.identity.geometry.term_length) ≤ w.log.cleaned → (w.log.connected && not w.log.closed) ≡ may → Goes w (limited_to w (raised_in w may))
-raises_on w false none unit low e = stays w w refl
-raises_on w true none unit low e =
+raises_on : (w : World) (m : ℕ) (may : Bool) → Lowest w m → m % 32 ≡ 0 → max w.log.start (m - w.log.identity.geometry.term_length) ≤ w.log.cleaned → (w.log.connected && not w.log.closed) ≡ may → Goes w (limited_to w (raised_in w m may))
+raises_on w m false lowest unit low e = stays w w refl
+raises_on w m true lowest unit low e =
     let flags = and_parts w.log.connected (not w.log.closed) e in
-    let l = record w.log { limit = raised_in w true } in
-    goes_one w (record w { log = l }) (AtLog (Raise w.sender.at)) (l, (unit, sender_lowest w none, low, flags.0, not_true w.log.closed flags.1, refl), refl)
+    let l = record w.log { limit = raised_in w m true } in
+    goes_one w (record w { log = l }) (AtLog (Raise m)) (l, (unit, lowest, low, flags.0, not_true w.log.closed flags.1, refl), refl)
 
 -- whole words are cleaned
 words : (from to : ℕ) → from ≤ to → from % 8 ≡ 0 → to % 8 ≡ 0 → to ≡ from + 8 * ((to - from) / 8)
@@ -156,27 +178,33 @@ limit_entries past old new h =
     ∙ ap (λ (es : List Entry). past ++ (h.cleans.past ++ es)) (ap (λ (m : Log). m.entries) h.limits)
     ∙ ap (λ (es : List Entry). past ++ es) (sym h.cleans.parts)
 
--- a log of which the sender is the one consumer, after its keeper's call
-pub limits : (s : Scene) (new : Log) → IsLog s.log → s.log.consumers ≡ s.sender.at ∷ [] → (h : CleansAndLimits s.log new) → Goes (world_of s) (record (world_of s) { log = stream_of (s.past ++ h.cleans.past) new })
-limits s new legal one h =
+-- what holds of each consumer holds of the least
+least_holds : (P : ℕ → Type 0) (at : ℕ) (ps qs : List ℕ) → ps ≡ at ∷ qs → AllByRecursion P ps → P (least ps)
+least_holds P at ps qs are all =
+    let each : AllByRecursion P (at ∷ qs) = subst (AllByRecursion P) are all in
+    subst (λ xs. P (least xs)) (sym are) (least_one P at (at ∷ qs) each.0 each)
+
+-- a log of which the sender and the readers are the consumers, after its keeper's call
+pub limits : (s : Scene) (new : Log) → IsLog s.log → s.log.consumers ≡ s.sender.at ∷ map (λ c. c.at) s.readers → (h : CleansAndLimits s.log new) → Goes (world_of s) (record (world_of s) { log = stream_of (s.past ++ h.cleans.past) s.readers new })
+limits s new legal are h =
     let w = world_of s in
     let t = s.log.identity.geometry.term_length in
-    let at = s.sender.at in
-    let to = clean_end s.log at in
-    let least_is : least s.log.consumers ≡ at = ap least one ∙ (omega arith) in
-    let unit : AllByRecursion (λ p. p % 32 ≡ 0) (at ∷ []) = subst (λ (ps : List ℕ). AllByRecursion (λ p. p % 32 ≡ 0) ps) one legal.consumer_units in
-    let readable : AllByRecursion (λ p. s.log.cleaned ≤ clean_end s.log p) (at ∷ []) = subst (λ (ps : List ℕ). AllByRecursion (λ p. s.log.cleaned ≤ clean_end s.log p) ps) one legal.readable in
+    let m = least s.log.consumers in
+    let to = clean_end s.log m in
+    let positions = map (λ (c : Consumer). c.at) s.readers in
+    let unit : m % 32 ≡ 0 = least_holds (λ p. p % 32 ≡ 0) s.sender.at s.log.consumers positions are legal.consumer_units in
+    let readable : s.log.cleaned ≤ clean_end s.log m = least_holds (λ p. s.log.cleaned ≤ clean_end s.log p) s.sender.at s.log.consumers positions are legal.readable in
+    let lowest : Lowest w m = all_above s are in
     let term : t % 32 ≡ 0 = whole_power t legal.geometry.term.power (omega (arith, legal.geometry.term.least)) in
-    let is : to ≡ s.log.cleaned + 8 * ((to - s.log.cleaned) / 8) = words s.log.cleaned to readable.0 legal.word (end_words s.log.start at t legal.unit unit.0 term) in
+    let is : to ≡ s.log.cleaned + 8 * ((to - s.log.cleaned) / 8) = words s.log.cleaned to readable legal.word (end_words s.log.start m t legal.unit unit term) in
     let cleaned = cleaned_to w to in
     let may = s.log.connected && not s.log.closed in
-    let raise : raised s.log ≡ raised_in cleaned may = ap (λ p. cond may (max s.log.limit (p + t / 2)) s.log.limit) least_is in
-    let after = record s.log { cleaned = clean_end s.log (least s.log.consumers); limit = raised s.log; gone = s.log.gone + length h.cleans.past; first = h.middle.first; entries = h.middle.entries; drafts = drop (length h.cleans.past) s.log.drafts } in
-    let new_is : new ≡ after = h.limits ∙ ap (λ (m : Log). record m { limit = raised s.log }) h.cleans.new_is in
-    let kept : new.entries ≡ h.middle.entries = ap (λ (m : Log). m.entries) h.limits in
+    let after = record s.log { cleaned = to; limit = raised s.log; gone = s.log.gone + length h.cleans.past; first = h.middle.first; entries = h.middle.entries; drafts = drop (length h.cleans.past) s.log.drafts } in
+    let new_is : new ≡ after = h.limits ∙ ap (λ (k : Log). record k { limit = raised s.log }) h.cleans.new_is in
+    let kept : new.entries ≡ h.middle.entries = ap (λ (k : Log). k.entries) h.limits in
     let entries : (s.past ++ h.cleans.past) ++ h.middle.entries ≡ s.past ++ s.log.entries = ap (λ (es : List Entry). (s.past ++ h.cleans.past) ++ es) (sym kept) ∙ limit_entries s.past s.log new h in
-    let log : stream_of (s.past ++ h.cleans.past) new ≡ record w.log { cleaned = to; limit = raised_in cleaned may } =
-    ap (stream_of (s.past ++ h.cleans.past)) new_is
-    ∙ same_limited w.log (clean_end s.log (least s.log.consumers)) to (raised s.log) (raised_in cleaned may) ((s.past ++ h.cleans.past) ++ h.middle.entries) (s.past ++ s.log.entries) (ap (clean_end s.log) least_is) raise entries in
+    let log : stream_of (s.past ++ h.cleans.past) s.readers new ≡ record w.log { cleaned = to; limit = raised_in cleaned m may } =
+    ap (stream_of (s.past ++ h.cleans.past) s.readers) new_is
+    ∙ same_limited w.log to to (raised s.log) (raised_in cleaned m may) ((s.past ++ h.cleans.past) ++ h.middle.entries) (s.past ++ s.log.entries) refl refl entries in
     subst (λ l. Goes w (record w { log = l })) (sym log)
-    (goes_on w cleaned (limited_to cleaned (raised_in cleaned may)) (cleans_on ((to - s.log.cleaned) / 8) w to refl is (omega arith)) (raises_on cleaned may refl unit.0 (omega arith) refl))
+    (goes_on w cleaned (limited_to cleaned (raised_in cleaned m may)) (cleans_on ((to - s.log.cleaned) / 8) w m to lowest is (omega arith)) (raises_on cleaned m may (record { others_above = lowest.others_above; readers_above = lowest.readers_above }) unit (omega arith) refl))

@@ -1,5 +1,5 @@
 -- What a sender's step left is a step of the scenes that the stage shows.
-use Rattle.std.proofs.Common.{◌≡◌, ℕ, List, [], ◌∷◌, ◌++◌, length, Bool, true, false, Option, None, Some, inr, refl, sym, ap, ◌∙◌, subst, append-nil, append_assoc}
+use Rattle.std.proofs.Common.{◌≡◌, map, ℕ, List, [], ◌∷◌, ◌++◌, length, Bool, true, false, Option, None, Some, inr, refl, sym, ap, ◌∙◌, subst, append-nil, append_assoc}
 use Rattle.std.specs.Prelude.{slice_get, slice_set, ℤ, pos, max, ◌+ℤ◌}
 use Rattle.theory.specs.Control.{setup_at}
 use Rattle.theory.specs.Entry.{committed}
@@ -24,7 +24,7 @@ use Rattle.mdriver.specs.Prints.{OfSender, prints}
 use Rattle.mdriver.specs.Scene.{Scene}
 use Rattle.mdriver.specs.Sending.{AreBehind, Cycles, Hears, HearsDatagram, Sending, at_moment}
 use Rattle.mdriver.proofs.SenderRuns.{named_at, named_said}
-use Rattle.mdriver.proofs.Stages.{one_line}
+use Rattle.mdriver.proofs.Stages.{claims_of, one_line}
 use Rattle.mdriver.specs.Staged.{AllShow, Answered, IsAnswered, ShowsScene, ShowsSender}
 
 -- what the flow control of one receiver becomes
@@ -37,6 +37,8 @@ pub record OnlySender (old new : Stage) (log : Log) (sender : Sending ℕ) (sent
   pub sender_is : new.sender ≡ sender
   pub subscribers : new.subscribers.items ≡ old.subscribers.items
   pub packets : new.packets ≡ old.packets ++ sent
+  pub claims : claims_of new ≡ claims_of old
+  pub readers : new.readers.items ≡ old.readers.items
 
 named_clock : (x : Sender) (due : Bool) → (named x due).clock ≡ x.clock
 named_clock x true = refl
@@ -51,19 +53,19 @@ sent_clock x None = refl
 sent_clock x (Some s) = refl
 
 -- the reader and the log behind the frame that went out
-pub record Behind (l : Log) (x : Sender) (r : Reader) (frame : Option Placed) (m : Log) (q : Reader) : Type 0 where
-  pub log : m ≡ record l { consumers = (sent_on x frame).at ∷ [] }
+pub record Behind (others : List ℕ) (l : Log) (x : Sender) (r : Reader) (frame : Option Placed) (m : Log) (q : Reader) : Type 0 where
+  pub log : m ≡ record l { consumers = (sent_on x frame).at ∷ others }
   pub at : q.position ≡ (sent_on x frame).at
   pub number : q.number ≡ 0
 
-behind_is : (l m : Log) (r q : Reader) (x : Sender) (frame : Option Placed) → l.consumers ≡ x.at ∷ [] → r.position ≡ x.at → r.number ≡ 0 → AreBehind l r frame m q → Behind l x r frame m q
-behind_is l m r q x None one here zeroth b = record {
+behind_is : (others : List ℕ) (l m : Log) (r q : Reader) (x : Sender) (frame : Option Placed) → l.consumers ≡ x.at ∷ others → r.position ≡ x.at → r.number ≡ 0 → AreBehind l r frame m q → Behind others l x r frame m q
+behind_is others l m r q x None one here zeroth b = record {
   log = b.0 ∙ ap (λ cs. record l { consumers = cs }) one;
   at = ap (λ y. y.position) b.1.1 ∙ here;
   number = ap (λ y. y.number) b.1.1 ∙ zeroth;
 }
-behind_is l m r q x (Some s) one here zeroth b =
-    let set : slice_set l.consumers r.number (end_of s) ≡ end_of s ∷ [] = ap (λ cs. slice_set cs r.number (end_of s)) one ∙ ap (λ n. slice_set (x.at ∷ []) n (end_of s)) zeroth in
+behind_is others l m r q x (Some s) one here zeroth b =
+    let set : slice_set l.consumers r.number (end_of s) ≡ end_of s ∷ others = ap (λ cs. slice_set cs r.number (end_of s)) one ∙ ap (λ n. slice_set (x.at ∷ others) n (end_of s)) zeroth in
     record {
       log = b.0 ∙ ap (λ cs. record l { consumers = cs }) set;
       at = ap (λ y. y.position) b.1;
@@ -80,7 +82,7 @@ send_answered old new now m t sent before after same c o told = λ s h.
     let due : y.setup ≡ is_due s.naming (clock_at s now) = c.setup ∙ ap (λ n. is_due n (seen v.clock now)) h.sender.naming ∙ ap (is_due s.naming) clock in
     let next : IsNextSent (committed s.log.entries) s.sender.at (limit_of s.log s.sender) y.frame = subst (λ l. IsNextSent (committed l.entries) s.sender.at (limit_of s.log s.sender) y.frame) (sym h.log) (subst (λ p. IsNextSent (committed old.log.entries) p (limit_of s.log s.sender) y.frame) h.sender.at (subst (λ f. IsNextSent (committed old.log.entries) v.reader.position f y.frame) h.sender.flow c.next)) in
     let wires : sent ≡ datagrams (wires_of s y) = c.sends ∙ ap (λ i. datagrams (sent_wires i v.reader.position y)) (sym same) ∙ ap (λ l. datagrams (sent_wires l.identity v.reader.position y)) (sym h.log) ∙ ap (λ p. datagrams (sent_wires s.log.identity p y)) h.sender.at in
-    let behind = behind_is old.log m v.reader t.reader z y.frame (h.one ∙ ap (λ p. p ∷ []) (sym at)) (h.sender.at ∙ sym at) h.sender.number c.behind in
+    let behind = behind_is (map (λ c. c.at) s.readers) old.log m v.reader t.reader z y.frame (h.consumers ∙ ap (λ p. p ∷ map (λ c. c.at) s.readers) (sym at)) (h.sender.at ∙ sym at) h.sender.number c.behind in
     let state = ap (λ x. x.naming) c.state in
     let scene = after_cycle s now y in
     record {
@@ -89,7 +91,7 @@ send_answered old new now m t sent before after same c o told = λ s h.
       answers = (y, (due, next), refl, refl);
       printed = told ∙ ap (λ ws. prints before ++ or_nothing (packet_lines (length old.packets) ws)) wires ∙ ap (λ ps. prints before ++ or_nothing (packet_lines (length ps) (datagrams (wires_of s y)))) (sym h.packets);
       shows = record {
-        log = ap (λ (l : Log). record l { consumers = (cycled s now y).at ∷ [] }) h.log ∙ sym (o.log_is ∙ behind.log);
+        log = ap (λ (l : Log). record l { consumers = (cycled s now y).at ∷ map (λ c. c.at) s.readers }) h.log ∙ sym (o.log_is ∙ behind.log);
         sender = subst (λ x. ShowsSender x scene) (sym o.sender_is) (record {
           at = behind.at;
           number = behind.number;
@@ -97,7 +99,9 @@ send_answered old new now m t sent before after same c o told = λ s h.
           naming = state ∙ ap (λ n. after_due n (seen v.clock now)) h.sender.naming ∙ ap (after_due s.naming) clock;
           clock = ap (λ x. x.clock) c.state ∙ clock ∙ sym (sent_clock z y.frame ∙ named_clock (woken s now) y.setup);
         });
-        one = ap (λ l. l.consumers) (o.log_is ∙ behind.log);
+        consumers = ap (λ l. l.consumers) (o.log_is ∙ behind.log);
+        claims = h.claims ∙ sym o.claims;
+        readers = ap (map (λ r. r.position)) o.readers ∙ h.readers;
         receivers = subst (λ vs. AllShow vs s.receivers) (sym o.subscribers) h.receivers;
         packets = ap (λ ps. ps ++ datagrams (wires_of s y)) h.packets ∙ ap (λ ws. old.packets ++ ws) (sym wires) ∙ sym o.packets;
       };
@@ -118,7 +122,9 @@ heard_shown old new s x naming t wires sent h o at reader flow name clock out =
         naming = name;
         clock = clock;
       });
-      one = ap (λ l. l.consumers) o.log_is ∙ h.one ∙ ap (λ p. p ∷ []) (sym at);
+      consumers = ap (λ l. l.consumers) o.log_is ∙ h.consumers ∙ ap (λ p. p ∷ map (λ c. c.at) s.readers) (sym at);
+      claims = h.claims ∙ sym o.claims;
+      readers = ap (map (λ r. r.position)) o.readers ∙ h.readers;
       receivers = subst (λ vs. AllShow vs s.receivers) (sym o.subscribers) h.receivers;
       packets = ap (λ ps. ps ++ datagrams wires) h.packets ∙ ap (λ ws. old.packets ++ ws) (sym out) ∙ sym o.packets;
     }

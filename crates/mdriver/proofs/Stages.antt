@@ -1,13 +1,17 @@
 -- What the calls of a line's handler left is a step of the scenes that the stage shows.
-use Rattle.std.proofs.Common.{◌≡◌, ℕ, zero, suc, ◌<◌, ◌≤◌, List, [], ◌∷◌, ◌++◌, map, length, None, Some, inl, inr, refl, sym, ap, ◌∙◌, subst, arith}
+use Rattle.std.proofs.Common.{◌≡◌, ◌⊎◌, ℕ, zero, suc, ◌+◌, ◌-◌, ◌<◌, ◌≤◌, drop, List, [], ◌∷◌, ◌++◌, map, length, Option, None, Some, inl, inr, refl, sym, ap, ◌∙◌, subst, arith}
 use Rattle.std.specs.Prelude.{◌%◌, slice_get, slice_set, slice_index, slice_index_or, Result, Ok, Err, OnOk}
 use Rattle.std.proofs.lemmas.List.{map-append}
-use Rattle.theory.specs.Entry.{Entry}
+use Rattle.theory.specs.Entry.{Entry, committed}
 use Rattle.theory.specs.FlowLimit.{flow_limit}
-use Rattle.log_buffer.specs.Log.{IsLog, Log, added, room_in, with_padding}
-use Rattle.log_buffer.specs.Passes.{AreAll, Pass}
+use Rattle.log_buffer.specs.Log.{IsLog, Log, added, room_in, with_abort, with_commit, with_padding}
+use Rattle.theory.specs.Placed.{Among, Data, Placed, end_of}
+use Rattle.theory.specs.Consumer.{Consumer, moved}
+use Rattle.log_buffer.specs.Reader.{Reader}
+use Rattle.mdriver.specs.Reading.{ReadsLine}
+use Rattle.std.specs.Prelude.{replicate}
 use Rattle.rotation.specs.Limited.{CleansAndLimits, raised}
-use Rattle.publication.specs.Offers.{Course, IsClosed, IsStale, IsUsedUp, IsLimited, Fits, Trips, after, after_offer, answer_of, course_of, covered}
+use Rattle.publication.specs.Offers.{Course, IsClosed, IsStale, IsUsedUp, IsLimited, Fits, Trips, after, after_claim, after_offer, answer_of, course_of, covered}
 use Rattle.publication.specs.declared.refusal.Refusal.{Refusal}
 use Rattle.script.specs.Meaning as orders
 use Rattle.script.specs.Meaning.{Order}
@@ -15,13 +19,23 @@ use Rattle.mdriver.specs.declared.line.Line.{Line}
 use Rattle.mdriver.specs.declared.stage.Stage.{Stage}
 use Rattle.theory.specs.Wire.{Wire}
 use Rattle.mdriver.specs.declared.receiver.Outcome.{Outcome}
-use Rattle.mdriver.specs.Answers.{AreFrames, MayOffer, Offered, given_out, lines_of, or_nothing, packet_lines, with_log, with_receiver}
+use Rattle.mdriver.specs.Answers.{Answers, AreFrames, Claims, HasClaim, MayClaim, MayOffer, Offered, claim_by, reader_at, with_claim, with_reader, given_out, lines_of, or_nothing, packet_lines, with_log, with_receiver}
 use Rattle.mdriver.specs.Cycling.{datagrams}
 use Rattle.mdriver.specs.Polling.{Polls, TellsPositions}
 use Rattle.mdriver.specs.Prints.{Bad, Limit, OfReceiver, Print, print_of, prints}
 use Rattle.mdriver.specs.Receiving.{Hears, Receiver, replies, ticked}
 use Rattle.mdriver.specs.Scene.{Scene}
-use Rattle.mdriver.specs.Staged.{AllShow, IsAnswered, IsOffered, OfferedLine, ShowsScene, ShowsSender}
+use Rattle.mdriver.specs.Staged.{AllShow, Answered, IsAnswered, IsOffered, MayBeOffered, OfferedLine, ShowsScene, ShowsSender}
+use Rattle.mdriver.specs.Stands.{AreWriters, WriterHolds, claim_in, pass_of}
+use Rattle.mdriver.specs.Writing as writing
+use Rattle.mdriver.specs.Writing.{Claimed_by, Rewrites}
+use Rattle.mdriver.specs.declared.writer.Writer.{Writer}
+use Rattle.mdriver.specs.declared.writer.Writer.TheVariants as writers
+use Rattle.mdriver.proofs.Standing.{claim_at_place, claims_set, found, is_held}
+use Rattle.log_buffer.specs.Passes.{Pass}
+use Rattle.publication.specs.Claims.{Filling, claim_at}
+use Rattle.theory.specs.Position.{max_payload}
+use Rattle.term_buffer.specs.declared.claimed.Claimed.{Claimed}
 use Rattle.mdriver.specs.Subscribing.{Becomes, ShowsSubscriber, Subscribing}
 use Rattle.mdriver.proofs.OfferRuns.{turned_same}
 
@@ -47,12 +61,17 @@ shows_set (w ∷ ws) (q ∷ rs) (suc k) v r h s = (h.0, shows_set ws rs k v r h.
 
 -- ---- offers
 
+abbrev pub claims_of : Stage → List (Option Claimed)
+claims_of v = map claim_in v.writers.items
+
 -- the stage is as it was, but for its log, which is this one now
 pub record OnlyLog (old new : Stage) (log : Log) : Type 0 where
   pub log_is : new.log ≡ log
   pub sender : new.sender ≡ old.sender
   pub subscribers : new.subscribers.items ≡ old.subscribers.items
   pub packets : new.packets ≡ old.packets
+  pub claims : claims_of new ≡ claims_of old
+  pub readers : new.readers.items ≡ old.readers.items
 
 -- with these entries forgotten
 log_shown : (old new : Stage) (s : Scene) (log : Log) (past : List Entry) → ShowsScene old s → OnlyLog old new log → log.consumers ≡ old.log.consumers → log.start ≡ s.log.start → ShowsScene new (record s { log = log; past = past })
@@ -61,7 +80,9 @@ log_shown old new s log past h o one start =
     record {
       log = sym o.log_is;
       sender = subst (λ v. ShowsSender v scene) (sym o.sender) (record { at = h.sender.at; number = h.sender.number; flow = h.sender.flow ∙ ap (λ n. flow_limit n s.sender.said) (sym start); naming = h.sender.naming; clock = h.sender.clock });
-      one = ap (λ l. l.consumers) o.log_is ∙ one ∙ h.one;
+      consumers = ap (λ l. l.consumers) o.log_is ∙ one ∙ h.consumers;
+      claims = h.claims ∙ sym o.claims;
+      readers = ap (map (λ r. r.position)) o.readers ∙ h.readers;
       receivers = subst (λ vs. AllShow vs s.receivers) (sym o.subscribers) h.receivers;
       packets = h.packets ∙ sym o.packets;
     }
@@ -70,16 +91,28 @@ log_shown old new s log past h o one start =
 abbrev KeptByOffers : Log → List ℕ × ℕ
 KeptByOffers l = (l.consumers, l.start)
 
-course_keeps : (l : Log) (by : ℕ) (m : List ℕ) (c : Course) → KeptByOffers (after l by m c) ≡ KeptByOffers l
-course_keeps l by m IsClosed = refl
-course_keeps l by m IsStale = refl
-course_keeps l by m IsUsedUp = turned_same KeptByOffers (λ k x y z. refl) l l.active
-course_keeps l by m IsLimited = refl
-course_keeps l by m Fits = refl
-course_keeps l by m Trips = turned_same KeptByOffers (λ k x y z. refl) (with_padding (added l by (l.active % 3) (covered (length m))) by (room_in l (l.active % 3))) l.active
+pub course_same : {X : Type 0} (f : Log → X) → ((l : Log) (newest active : ℕ) (offsets : List ℕ) → f (record l { newest = newest; active = active; offsets = offsets }) ≡ f l) → (l : Log) (by bytes : ℕ) (c : Course) (fitting : Log) → f fitting ≡ f l → f (with_padding (added l by (l.active % 3) (covered l bytes)) by (room_in l (l.active % 3))) ≡ f l → f (after l by bytes c fitting) ≡ f l
+course_same f blind l by bytes IsClosed fitting h k = refl
+course_same f blind l by bytes IsStale fitting h k = refl
+course_same f blind l by bytes IsUsedUp fitting h k = turned_same f blind l l.active
+course_same f blind l by bytes IsLimited fitting h k = refl
+course_same f blind l by bytes Fits fitting h k = h
+course_same f blind l by bytes Trips fitting h k = turned_same f blind (with_padding (added l by (l.active % 3) (covered l bytes)) by (room_in l (l.active % 3))) l.active ∙ k
+
+course_keeps : (l : Log) (by bytes : ℕ) (c : Course) (fitting : Log) → KeptByOffers fitting ≡ KeptByOffers l → KeptByOffers (after l by bytes c fitting) ≡ KeptByOffers l
+course_keeps l by bytes c fitting h = course_same KeptByOffers (λ k x y z. refl) l by bytes c fitting h refl
+
+pub offer_identity : (l : Log) (by : ℕ) (m : List ℕ) → (after_offer l by m).identity ≡ l.identity
+offer_identity l by m = course_same (λ k. k.identity) (λ k x y z. refl) l by (length m) (course_of l (length m)) _ refl refl
+
+pub claim_identity : (l : Log) (by size : ℕ) → (after_claim l by size).identity ≡ l.identity
+claim_identity l by size = course_same (λ k. k.identity) (λ k x y z. refl) l by size (course_of l size) _ refl refl
 
 offer_keeps : (l : Log) (by : ℕ) (m : List ℕ) → KeptByOffers (after_offer l by m) ≡ KeptByOffers l
-offer_keeps l by m = course_keeps l by m (course_of l (length m))
+offer_keeps l by m = course_keeps l by (length m) (course_of l (length m)) _ refl
+
+claim_keeps : (l : Log) (by size : ℕ) → KeptByOffers (after_claim l by size) ≡ KeptByOffers l
+claim_keeps l by size = course_keeps l by size (course_of l size) _ refl
 
 offered_log : (old new : Log) (by : ℕ) (m : List ℕ) (answer : Result ℕ Refusal) (line : Print) → OfferedLine old by m answer line new → new ≡ after_offer old by m
 offered_log old new by m (Ok end) line o = o.1
@@ -88,19 +121,6 @@ offered_log old new by m (Err refusal) line o = o.1
 offered : (s : Scene) (new : Log) (by : ℕ) (m : List ℕ) (answer : Result ℕ Refusal) (line : Print) → OfferedLine s.log by m answer line new → Offered s by m answer (line ∷ []) (with_log s (after_offer s.log by m))
 offered s new by m (Ok end) line o = (ap (λ x. x ∷ []) o.0, refl)
 offered s new by m (Err refusal) line o = (ap (λ x. x ∷ []) o.0, refl)
-
-pub offer_answered : (old new : Stage) (by : ℕ) (message : List ℕ) (line : Line) (before after : List Line) → MayOffer old.log by message → OfferedLine old.log by message (answer_of old.log (length message)) (print_of line) new.log → OnlyLog old new new.log → after ≡ before ++ line ∷ [] → IsOffered old by message before after new
-offer_answered old new by message line before after may o same told = λ order means s h.
-    let next = after_offer s.log by message in
-    let line_is : OfferedLine s.log by message (answer_of s.log (length message)) (print_of line) new.log = subst (λ l. OfferedLine l by message (answer_of l (length message)) (print_of line) new.log) (sym h.log) o in
-    let log : new.log ≡ next = offered_log s.log new.log by message (answer_of s.log (length message)) (print_of line) line_is in
-    record {
-      lines = print_of line ∷ [];
-      scene = with_log s next;
-      answers = means s (with_log s next) (print_of line ∷ []) (subst (λ l. MayOffer l by message) (sym h.log) may, offered s new.log by message (answer_of s.log (length message)) (print_of line) line_is);
-      printed = one_line before after line told;
-      shows = log_shown old new s next s.past h (record { log_is = log; sender = same.sender; subscribers = same.subscribers; packets = same.packets }) (ap (λ x. x.0) (offer_keeps s.log by message) ∙ ap (λ l. l.consumers) h.log) (ap (λ x. x.1) (offer_keeps s.log by message));
-    }
 
 -- ---- the keeper
 
@@ -115,35 +135,6 @@ limit_answered old new line before after legal done shown same told = λ s h.
       shows = log_shown old new s new.log (s.past ++ kept.cleans.past) h same (ap (λ l. l.consumers) done.limits ∙ ap (λ l. l.consumers) done.cleans.new_is) (ap (λ l. l.start) kept.limits ∙ ap (λ l. l.start) kept.cleans.new_is);
     }
 
--- ---- passes
-
-length_set : (xs : List Pass) (k : ℕ) (x : Pass) → length (slice_set xs k x) ≡ length xs
-length_set [] k x = refl
-length_set (y ∷ ys) zero x = refl
-length_set (y ∷ ys) (suc k) x = ap suc (length_set ys k x)
-
-abbrev numbers_of : List Pass → List ℕ
-numbers_of passes = map (λ p. p.number) passes
-
-set_numbers : (xs : List Pass) (k : ℕ) (x d : Pass) → x.number ≡ (slice_index_or xs k d).number → numbers_of (slice_set xs k x) ≡ numbers_of xs
-set_numbers [] k x d e = refl
-set_numbers (y ∷ ys) zero x d e = ap (λ n. n ∷ numbers_of ys) e
-set_numbers (y ∷ ys) (suc k) x d e = ap (λ ns. y.number ∷ ns) (set_numbers ys k x d e)
-
-pub all_again : (xs : List Pass) (k : ℕ) (x d : Pass) → AreAll xs → x.number ≡ (slice_index_or xs k d).number → AreAll (slice_set xs k x)
-all_again xs k x d h e = record {
-  eight = length_set xs k x ∙ h.eight;
-  each = λ n low. ap (λ ns. slice_index ns n) (set_numbers xs k x d e) ∙ h.each n low;
-}
-
-number_in : (xs : List Pass) (k : ℕ) (d : Pass) (e : ℕ) → k < length xs → (slice_index_or xs k d).number ≡ slice_index_or (numbers_of xs) k e
-number_in [] k d e h = absurd (omega (arith, h))
-number_in (x ∷ xs) zero d e h = refl
-number_in (x ∷ xs) (suc k) d e h = number_in xs k d e (omega (arith, h))
-
-pub number_is : (xs : List Pass) (k : ℕ) (d : Pass) → AreAll xs → k < 8 → (slice_index_or xs k d).number ≡ k
-number_is xs k d h low = number_in xs k d 0 (omega (arith, low, h.eight)) ∙ h.each k low
-
 -- ---- another receiver
 
 -- the stage is as it was, but for one subscriber
@@ -152,12 +143,16 @@ pub record OnlySubscriber (old new : Stage) (k : ℕ) (v : Subscribing) : Type 0
   pub sender : new.sender ≡ old.sender
   pub subscribers : new.subscribers.items ≡ slice_set old.subscribers.items k v
   pub packets : new.packets ≡ old.packets
+  pub claims : claims_of new ≡ claims_of old
+  pub readers : new.readers.items ≡ old.readers.items
 
 subscriber_shown : (old new : Stage) (s : Scene) (k : ℕ) (v : Subscribing) (r : Receiver) → ShowsScene old s → OnlySubscriber old new k v → ShowsSubscriber v r → ShowsScene new (with_receiver s k r)
 subscriber_shown old new s k v r h o shown = record {
   log = h.log ∙ sym o.log;
   sender = subst (λ x. ShowsSender x (with_receiver s k r)) (sym o.sender) (record { at = h.sender.at; number = h.sender.number; flow = h.sender.flow; naming = h.sender.naming; clock = h.sender.clock });
-  one = ap (λ l. l.consumers) o.log ∙ h.one;
+  consumers = ap (λ l. l.consumers) o.log ∙ h.consumers;
+  claims = h.claims ∙ sym o.claims;
+  readers = ap (map (λ r. r.position)) o.readers ∙ h.readers;
   receivers = subst (λ vs. AllShow vs (slice_set s.receivers k r)) (sym o.subscribers) (shows_set old.subscribers.items s.receivers k v r h.receivers shown);
   packets = h.packets ∙ sym o.packets;
 }
@@ -196,7 +191,7 @@ packet_missing old s k h none = ap_none s.packets k (ap (λ ps. slice_get ps k) 
     ap_none (p ∷ ps) (suc k) e = omega (arith, ap_none ps k e)
 
 same_shown : (old new : Stage) (s : Scene) → ShowsScene old s → OnlyLog old new old.log → ShowsScene new s
-same_shown old new s h o = log_shown old new s s.log s.past h (record { log_is = o.log_is ∙ sym h.log; sender = o.sender; subscribers = o.subscribers; packets = o.packets }) (ap (λ l. l.consumers) h.log) refl
+same_shown old new s h o = log_shown old new s s.log s.past h (record { log_is = o.log_is ∙ sym h.log; sender = o.sender; subscribers = o.subscribers; packets = o.packets; claims = o.claims; readers = o.readers }) (ap (λ l. l.consumers) h.log) refl
 
 pub missing_deliver : (old new : Stage) (k n now : ℕ) (line : Line) (before after : List Line) → slice_get old.packets k ≡ None → print_of line ≡ Bad → OnlyLog old new old.log → after ≡ before ++ line ∷ [] → IsAnswered old (orders.Deliver k n now) before after new
 missing_deliver old new k n now line before after none bad o told = λ s h. record {
@@ -234,13 +229,15 @@ pub record TickedTo (old new : Stage) (k : ℕ) (w : Subscribing) (packets : Lis
   pub sender : new.sender ≡ old.sender
   pub subscribers : new.subscribers.items ≡ slice_set old.subscribers.items k w
   pub packets_are : new.packets ≡ old.packets ++ packets
+  pub claims : claims_of new ≡ claims_of old
+  pub readers : new.readers.items ≡ old.readers.items
 
 pub tick_answered : (old new : Stage) (n now : ℕ) (v w : Subscribing) (wires : List Wire) (before after : List Line) → slice_get old.subscribers.items n ≡ Some v → ((r : Receiver) → ShowsSubscriber v r → wires ≡ replies r now) → ((r : Receiver) → ShowsSubscriber v r → ShowsSubscriber w (ticked r now)) → AreFrames wires → TickedTo old new n w (datagrams wires) → prints after ≡ prints before ++ or_nothing (packet_lines (length old.packets) (datagrams wires)) → IsAnswered old (orders.Tick n now) before after new
 tick_answered old new n now v w wires before after there out next frames o told = λ s h.
     let found = shows_at old.subscribers.items s.receivers n v h.receivers there in
     let r = found.0 in
     let sent : wires ≡ replies r now = out r found.2 in
-    let base : ShowsScene (record new { packets = old.packets }) (with_receiver s n (ticked r now)) = subscriber_shown old (record new { packets = old.packets }) s n w (ticked r now) h (record { log = o.log; sender = o.sender; subscribers = o.subscribers; packets = refl }) (next r found.2) in
+    let base : ShowsScene (record new { packets = old.packets }) (with_receiver s n (ticked r now)) = subscriber_shown old (record new { packets = old.packets }) s n w (ticked r now) h (record { log = o.log; sender = o.sender; subscribers = o.subscribers; packets = refl; claims = o.claims; readers = o.readers }) (next r found.2) in
     record {
       lines = or_nothing (lines_of s (replies r now));
       scene = with_receiver (given_out s (replies r now)) n (ticked r now);
@@ -249,7 +246,9 @@ tick_answered old new n now v w wires before after there out next frames o told 
       shows = record {
         log = base.log;
         sender = record { at = base.sender.at; number = base.sender.number; flow = base.sender.flow; naming = base.sender.naming; clock = base.sender.clock };
-        one = base.one;
+        consumers = base.consumers;
+        claims = base.claims;
+        readers = base.readers;
         receivers = base.receivers;
         packets = ap (λ ps. ps ++ datagrams (replies r now)) h.packets ∙ ap (λ ws. old.packets ++ datagrams ws) (sym sent) ∙ sym o.packets_are;
       };
@@ -263,3 +262,281 @@ seat_at (w ∷ ws) (suc k) v d e h = seat_at ws k v d e (omega (arith, h))
 pub on_both : {X E : Type 0} (r : Result X E) (P Q R : Type 0) → OnOk r P → OnOk r Q → (P → Q → R) → OnOk r R
 on_both (Ok x) P Q R h k f = f h k
 on_both (Err e) P Q R h k f = tt
+
+-- ---- claims
+
+-- the stage is as it was, but for its log and its writers' claims
+pub record OnlyClaims (old new : Stage) : Type 0 where
+  pub sender : new.sender ≡ old.sender
+  pub subscribers : new.subscribers.items ≡ old.subscribers.items
+  pub packets : new.packets ≡ old.packets
+  pub readers : new.readers.items ≡ old.readers.items
+
+claim_shown : (old new : Stage) (s : Scene) (log : Log) (claims : List (Option Claimed)) → ShowsScene old s → OnlyClaims old new → new.log ≡ log → claims_of new ≡ claims → log.consumers ≡ s.log.consumers → log.start ≡ s.log.start → ShowsScene new (record s { log = log; claims = claims })
+claim_shown old new s log claims h o is held one start =
+    let scene : Scene = record s { log = log; claims = claims } in
+    record {
+      log = sym is;
+      sender = subst (λ v. ShowsSender v scene) (sym o.sender) (record { at = h.sender.at; number = h.sender.number; flow = h.sender.flow ∙ ap (λ n. flow_limit n s.sender.said) (sym start); naming = h.sender.naming; clock = h.sender.clock });
+      consumers = ap (λ l. l.consumers) is ∙ one ∙ ap (λ l. l.consumers) h.log ∙ h.consumers;
+      claims = sym held;
+      readers = ap (map (λ r. r.position)) o.readers ∙ h.readers;
+      receivers = subst (λ vs. AllShow vs s.receivers) (sym o.subscribers) h.receivers;
+      packets = h.packets ∙ sym o.packets;
+    }
+
+set_same : (xs : List (Option Claimed)) (k : ℕ) (x : Option Claimed) → slice_index_or xs k None ≡ x → slice_set xs k x ≡ xs
+set_same [] k x e = refl
+set_same (y ∷ ys) zero x e = ap (λ z. z ∷ ys) (sym e)
+set_same (y ∷ ys) (suc k) x e = ap (λ zs. y ∷ zs) (set_same ys k x e)
+
+-- what the scene has of a writer's claim
+record At (old new : Stage) (s : Scene) (by : ℕ) (w v : Writer) : Type 0 where
+  before : claim_by s by ≡ claim_in w
+  after : claims_of new ≡ slice_set s.claims by (claim_in v)
+
+at_writer : (old new : Stage) (s : Scene) (by : ℕ) (w v : Writer) → ShowsScene old s → slice_get old.writers.items by ≡ Some w → new.writers.items ≡ slice_set old.writers.items by v → At old new s by w v
+at_writer old new s by w v h here there = record {
+  before = ap (λ cs. slice_index_or cs by None) h.claims ∙ claim_at_place old.writers.items by w here;
+  after = ap (map claim_in) there ∙ claims_set old.writers.items by v ∙ ap (λ cs. slice_set cs by (claim_in v)) (sym h.claims);
+}
+
+-- a line that changes nothing is shown by the scene that was
+bad_shown : (old new : Stage) (s : Scene) (by : ℕ) (w v : Writer) → ShowsScene old s → OnlyClaims old new → new.log ≡ s.log → v ≡ w → At old new s by w v → ShowsScene new s
+bad_shown old new s by w v h o is same at =
+    claim_shown old new s s.log s.claims h o is (at.after ∙ ap (λ x. slice_set s.claims by (claim_in x)) same ∙ set_same s.claims by (claim_in w) at.before) refl refl
+
+none_before : (s : Scene) (by : ℕ) (p : Pass) → claim_by s by ≡ claim_in (writers.Free p) → claim_by s by ≡ None
+none_before s by p e = e
+
+claimed_free : (old new : Stage) (s : Scene) (by size : ℕ) (p : Pass) (v : Writer) (line : Print) (before after : List Print) (answer : Result ℕ Refusal) → ShowsScene old s → OnlyClaims old new → MayClaim s.log by size → At old new s by (writers.Free p) v → answer_of s.log size ≡ answer → Claimed_by s.log by size answer new.log v line → after ≡ before ++ line ∷ [] → Answered s (orders.Claim by size) before after new
+claimed_free old new s by size p v line before after (Ok end) h o may at e step told =
+    let held : Option Claimed = Some (claim_at s.log by size) in
+    let t = with_claim (with_log s (after_claim s.log by size)) by held in
+    record {
+      lines = line ∷ [];
+      scene = t;
+      answers = inr (may, at.before, subst (λ a. Claims s by size a (line ∷ []) t) (sym e) (ap (λ x. x ∷ []) step.2, refl));
+      printed = told;
+      shows = claim_shown old new s (after_claim s.log by size) (slice_set s.claims by held) h o step.0 (at.after ∙ ap (slice_set s.claims by) step.1) (ap (λ x. x.0) (claim_keeps s.log by size)) (ap (λ x. x.1) (claim_keeps s.log by size));
+    }
+claimed_free old new s by size p v line before after (Err refusal) h o may at e step told =
+    let t = with_log s (after_claim s.log by size) in
+    record {
+      lines = line ∷ [];
+      scene = t;
+      answers = inr (may, at.before, subst (λ a. Claims s by size a (line ∷ []) t) (sym e) (ap (λ x. x ∷ []) step.2, refl));
+      printed = told;
+      shows = claim_shown old new s (after_claim s.log by size) s.claims h o step.0 (at.after ∙ ap (slice_set s.claims by) step.1 ∙ set_same s.claims by None at.before) (ap (λ x. x.0) (claim_keeps s.log by size)) (ap (λ x. x.1) (claim_keeps s.log by size));
+    }
+
+claimed : (old new : Stage) (s : Scene) (by size : ℕ) (w v : Writer) (line : Print) (before after : List Print) → by < 8 → size ≤ max_payload s.log.identity.geometry → (pass_of w).number ≡ by → ShowsScene old s → OnlyClaims old new → At old new s by w v → writing.Claims s.log w size new.log v line → after ≡ before ++ line ∷ [] → Answered s (orders.Claim by size) before after new
+claimed old new s by size (writers.Holding claim) v line before after low short number h o at step told = record {
+  lines = line ∷ [];
+  scene = s;
+  answers = inl (inr (claim.claimed, at.before), (ap (λ x. x ∷ []) step.2, refl));
+  printed = told;
+  shows = bad_shown old new s by (writers.Holding claim) v h o step.0 step.1 at;
+}
+claimed old new s by size (writers.Free p) v line before after low short number h o at step told =
+    claimed_free old new s by size p v line before after (answer_of s.log size) h o (record { legal = step.0; publisher = low; short = short }) at refl (subst (λ n. Claimed_by s.log n size (answer_of s.log size) new.log v line) number step.1) told
+
+pub claim_answered : (old new : Stage) (by size : ℕ) (line : Line) (before after : List Line) → by < 8 → size ≤ max_payload old.log.identity.geometry → AreWriters old.log 0 old.writers.items → Rewrites old.writers.items new.writers.items by (λ w v. writing.Claims old.log w size new.log v (print_of line)) → OnlyClaims old new → after ≡ before ++ line ∷ [] → IsAnswered old (orders.Claim by size) before after new
+claim_answered old new by size line before after low short each r o told = λ s h.
+    claimed old new s by size r.before r.after (print_of line) (prints before) (prints after) low (subst (λ l. size ≤ max_payload l.identity.geometry) (sym h.log) short) (omega (arith, (found old.log 0 by old.writers.items r.before each r.here).0)) h o (at_writer old new s by r.before r.after h r.here r.there) (subst (λ l. writing.Claims l r.before size new.log r.after (print_of line)) (sym h.log) r.step) (one_line before after line told)
+
+-- an offer of a publisher, unless it has a claim open
+offered_line : (old new : Stage) (s : Scene) (by : ℕ) (message : List ℕ) (w v : Writer) (line : Print) (before after : List Print) (order : Order) → ((s t : Scene) (lines : List Print) → MayBeOffered s by message lines t → Answers s order lines t) → (pass_of w).number ≡ by → ShowsScene old s → OnlyClaims old new → At old new s by w v → writing.Offers s.log w message new.log v line → after ≡ before ++ line ∷ [] → Answered s order before after new
+offered_line old new s by message (writers.Holding claim) v line before after order means number h o at step told = record {
+  lines = line ∷ [];
+  scene = s;
+  answers = means s s (line ∷ []) (inl ((claim.claimed, at.before), (ap (λ x. x ∷ []) step.2, refl)));
+  printed = told;
+  shows = bad_shown old new s by (writers.Holding claim) v h o step.0 step.1 at;
+}
+offered_line old new s by message (writers.Free p) v line before after order means number h o at step told =
+    let next = after_offer s.log by message in
+    let said : OfferedLine s.log by message (answer_of s.log (length message)) line new.log = subst (λ n. OfferedLine s.log n message (answer_of s.log (length message)) line new.log) number step.1 in
+    let may : MayOffer s.log by message = subst (λ n. MayOffer s.log n message) number step.0 in
+    record {
+      lines = line ∷ [];
+      scene = with_log s next;
+      answers = means s (with_log s next) (line ∷ []) (inr (may, at.before, offered s new.log by message (answer_of s.log (length message)) line said));
+      printed = told;
+      shows = claim_shown old new s next s.claims h o (offered_log s.log new.log by message (answer_of s.log (length message)) line said) (at.after ∙ ap (slice_set s.claims by) step.2 ∙ set_same s.claims by None at.before) (ap (λ x. x.0) (offer_keeps s.log by message)) (ap (λ x. x.1) (offer_keeps s.log by message));
+    }
+
+pub offer_answered : (old new : Stage) (by : ℕ) (message : List ℕ) (line : Line) (before after : List Line) → AreWriters old.log 0 old.writers.items → Rewrites old.writers.items new.writers.items by (λ w v. writing.Offers old.log w message new.log v (print_of line)) → OnlyClaims old new → after ≡ before ++ line ∷ [] → IsOffered old by message before after new
+offer_answered old new by message line before after each r o told = λ order means s h.
+    offered_line old new s by message r.before r.after (print_of line) (prints before) (prints after) order means (omega (arith, (found old.log 0 by old.writers.items r.before each r.here).0)) h o (at_writer old new s by r.before r.after h r.here r.there) (subst (λ l. writing.Offers l r.before message new.log r.after (print_of line)) (sym h.log) r.step) (one_line before after line told)
+
+-- ---- a claim's end
+
+-- it is held in the scene's log
+has_claim : (old : Stage) (s : Scene) (by : ℕ) (claim : Filling) (v : Writer) (new : Stage) → by < 8 → IsLog s.log → ShowsScene old s → ((pass_of (writers.Holding claim)).number ≡ by) → WriterHolds s.log (writers.Holding claim) → At old new s by (writers.Holding claim) v → HasClaim s by claim.claimed
+has_claim old s by claim v new low legal h number holds at = record {
+  legal = legal;
+  publisher = low;
+  open_claim = at.before;
+  owner = holds.0 ∙ number;
+  held = is_held s.log claim.claimed holds.1;
+  short = holds.1.short;
+}
+
+committed_line : (old new : Stage) (s : Scene) (by : ℕ) (w v : Writer) (line : Print) (before after : List Print) → by < 8 → (pass_of w).number ≡ by → WriterHolds s.log w → ShowsScene old s → OnlyClaims old new → At old new s by w v → writing.Commits s.log w new.log v line → after ≡ before ++ line ∷ [] → Answered s (orders.Commit by) before after new
+committed_line old new s by (writers.Free p) v line before after low number holds h o at step told = record {
+  lines = line ∷ [];
+  scene = s;
+  answers = inl (at.before, (ap (λ x. x ∷ []) step.2, refl));
+  printed = told;
+  shows = bad_shown old new s by (writers.Free p) v h o step.0 step.1 at;
+}
+committed_line old new s by (writers.Holding claim) v line before after low number holds h o at step told =
+    let log = with_commit s.log claim.claimed (Data 192 (replicate claim.claimed.size 97)) in
+    record {
+      lines = line ∷ [];
+      scene = with_claim (with_log s log) by None;
+      answers = inr (claim.claimed, has_claim old s by claim v new low step.0 h number holds at, ap (λ x. x ∷ []) step.3, refl);
+      printed = told;
+      shows = claim_shown old new s log (slice_set s.claims by None) h o step.1 (at.after ∙ ap (slice_set s.claims by) step.2) refl refl;
+    }
+
+pub commit_answered : (old new : Stage) (by : ℕ) (line : Line) (before after : List Line) → by < 8 → AreWriters old.log 0 old.writers.items → Rewrites old.writers.items new.writers.items by (λ w v. writing.Commits old.log w new.log v (print_of line)) → OnlyClaims old new → after ≡ before ++ line ∷ [] → IsAnswered old (orders.Commit by) before after new
+commit_answered old new by line before after low each r o told = λ s h.
+    let there = found old.log 0 by old.writers.items r.before each r.here in
+    committed_line old new s by r.before r.after (print_of line) (prints before) (prints after) low (omega (arith, there.0)) (subst (λ l. WriterHolds l r.before) (sym h.log) there.1) h o (at_writer old new s by r.before r.after h r.here r.there) (subst (λ l. writing.Commits l r.before new.log r.after (print_of line)) (sym h.log) r.step) (one_line before after line told)
+
+aborted_line : (old new : Stage) (s : Scene) (by : ℕ) (w v : Writer) (line : Print) (before after : List Print) → by < 8 → (pass_of w).number ≡ by → WriterHolds s.log w → ShowsScene old s → OnlyClaims old new → At old new s by w v → writing.Aborts s.log w new.log v line → after ≡ before ++ line ∷ [] → Answered s (orders.Abort by) before after new
+aborted_line old new s by (writers.Free p) v line before after low number holds h o at step told = record {
+  lines = line ∷ [];
+  scene = s;
+  answers = inl (at.before, (ap (λ x. x ∷ []) step.2, refl));
+  printed = told;
+  shows = bad_shown old new s by (writers.Free p) v h o step.0 step.1 at;
+}
+aborted_line old new s by (writers.Holding claim) v line before after low number holds h o at step told =
+    let log = with_abort s.log claim.claimed in
+    record {
+      lines = line ∷ [];
+      scene = with_claim (with_log s log) by None;
+      answers = inr (claim.claimed, has_claim old s by claim v new low step.0 h number holds at, ap (λ x. x ∷ []) step.3, refl);
+      printed = told;
+      shows = claim_shown old new s log (slice_set s.claims by None) h o step.1 (at.after ∙ ap (slice_set s.claims by) step.2) refl refl;
+    }
+
+pub abort_answered : (old new : Stage) (by : ℕ) (line : Line) (before after : List Line) → by < 8 → AreWriters old.log 0 old.writers.items → Rewrites old.writers.items new.writers.items by (λ w v. writing.Aborts old.log w new.log v (print_of line)) → OnlyClaims old new → after ≡ before ++ line ∷ [] → IsAnswered old (orders.Abort by) before after new
+abort_answered old new by line before after low each r o told = λ s h.
+    let there = found old.log 0 by old.writers.items r.before each r.here in
+    aborted_line old new s by r.before r.after (print_of line) (prints before) (prints after) low (omega (arith, there.0)) (subst (λ l. WriterHolds l r.before) (sym h.log) there.1) h o (at_writer old new s by r.before r.after h r.here r.there) (subst (λ l. writing.Aborts l r.before new.log r.after (print_of line)) (sym h.log) r.step) (one_line before after line told)
+
+-- ---- a reader
+
+-- the stage is as it was, but for its log and its readers
+pub record OnlyReaders (old new : Stage) : Type 0 where
+  pub sender : new.sender ≡ old.sender
+  pub subscribers : new.subscribers.items ≡ old.subscribers.items
+  pub packets : new.packets ≡ old.packets
+  pub claims : claims_of new ≡ claims_of old
+
+consumer_at_place : (rs : List Reader) (cs : List Consumer) (j : ℕ) (r : Reader) → map (λ q. q.position) rs ≡ map (λ c. c.at) cs → slice_get rs j ≡ Some r → (c : Consumer) × (slice_get cs j ≡ Some c) × (c.at ≡ r.position)
+consumer_at_place [] cs j r e h = absurd (cc)
+consumer_at_place (q ∷ qs) [] j r e h = absurd (cc)
+consumer_at_place (q ∷ qs) (c ∷ cs) zero r e h =
+    let same : q ≡ r = cc in
+    let at : q.position ≡ c.at = ap (λ xs. slice_index xs 0) e in
+    (c, refl, sym at ∙ ap (λ (x : Reader). x.position) same)
+consumer_at_place (q ∷ qs) (c ∷ cs) (suc j) r e h = consumer_at_place qs cs j r (ap (λ xs. drop 1 xs) e) h
+
+positions_set : (rs : List Reader) (j : ℕ) (q : Reader) → map (λ r. r.position) (slice_set rs j q) ≡ slice_set (map (λ r. r.position) rs) j q.position
+positions_set [] j q = refl
+positions_set (r ∷ rs) zero q = refl
+positions_set (r ∷ rs) (suc j) q = ap (λ xs. r.position ∷ xs) (positions_set rs j q)
+
+places_set : (cs : List Consumer) (j : ℕ) (d : Consumer) → map (λ c. c.at) (slice_set cs j d) ≡ slice_set (map (λ c. c.at) cs) j d.at
+places_set [] j d = refl
+places_set (c ∷ cs) zero d = refl
+places_set (c ∷ cs) (suc j) d = ap (λ xs. c.at ∷ xs) (places_set cs j d)
+
+pub no_reader : (old new : Stage) (k : ℕ) (line : Line) (before after : List Line) → (k ≡ 0) ⊎ (length old.readers.items < k) → print_of line ≡ Bad → OnlyLog old new old.log → after ≡ before ++ line ∷ [] → IsAnswered old (orders.Read k) before after new
+no_reader old new k line before after none bad o told = λ s h. record {
+  lines = print_of line ∷ [];
+  scene = s;
+  answers = inl (missing s k (readers_long old s h none), (ap (λ x. x ∷ []) bad, refl));
+  printed = one_line before after line told;
+  shows = same_shown old new s h o;
+}
+  where
+    long_map : {X Y : Type 0} (f : X → Y) (xs : List X) → length (map f xs) ≡ length xs
+    long_map f [] = refl
+    long_map f (x ∷ xs) = ap suc (long_map f xs)
+
+    readers_long : (old : Stage) (s : Scene) → ShowsScene old s → (k ≡ 0) ⊎ (length old.readers.items < k) → (k ≡ 0) ⊎ (length s.readers < k)
+    readers_long old s h (inl e) = inl e
+    readers_long old s h (inr more) = inr (omega (arith, more, long_map (λ (r : Reader). r.position) old.readers.items, long_map (λ (c : Consumer). c.at) s.readers, ap (λ (xs : List ℕ). length xs) h.readers))
+
+    past_end : (cs : List Consumer) (j : ℕ) → length cs ≤ j → slice_get cs j ≡ None
+    past_end [] j e = refl
+    past_end (c ∷ cs) zero e = absurd (omega (arith, e))
+    past_end (c ∷ cs) (suc j) e = past_end cs j (omega (arith, e))
+
+    missing : (s : Scene) (k : ℕ) → (k ≡ 0) ⊎ (length s.readers < k) → reader_at s k ≡ None
+    missing s zero e = refl
+    missing s (suc j) (inl e) = absurd (omega (arith, e))
+    missing s (suc j) (inr e) = past_end s.readers j (omega (arith, e))
+
+-- the reader's consumer in the scene, and behind a frame
+passed_by_reader : (old new : Stage) (s : Scene) (j : ℕ) (r q : Reader) (c : Consumer) (p : Placed) → ShowsScene old s → OnlyReaders old new → slice_get s.readers j ≡ Some c → new.readers.items ≡ slice_set old.readers.items j q → r.number ≡ suc j → new.log ≡ record old.log { consumers = slice_set old.log.consumers r.number (end_of p) } → q.position ≡ end_of p → ShowsScene new (with_reader s (suc j) (moved c p))
+passed_by_reader old new s j r q c p h o there readers number log to =
+    let scene : Scene = with_reader s (suc j) (moved c p) in
+    let consumers : slice_set old.log.consumers r.number (end_of p) ≡ slice_set s.log.consumers (suc j) (end_of p) = ap (λ n. slice_set old.log.consumers n (end_of p)) number ∙ ap (λ l. slice_set l.consumers (suc j) (end_of p)) (sym h.log) in
+    let places : map (λ (x : Consumer). x.at) (slice_set s.readers j (moved c p)) ≡ slice_set (map (λ (x : Consumer). x.at) s.readers) j (end_of p) = places_set s.readers j (moved c p) in
+    let index : suc j - 1 ≡ j = omega arith in
+    record {
+      log = ap (λ (l : Log). record l { consumers = slice_set s.log.consumers (suc j) (end_of p) }) h.log ∙ ap (λ (cs : List ℕ). record old.log { consumers = cs }) (sym consumers) ∙ sym log;
+      sender = subst (λ v. ShowsSender v scene) (sym o.sender) (record { at = h.sender.at; number = h.sender.number; flow = h.sender.flow; naming = h.sender.naming; clock = h.sender.clock });
+      consumers = ap (λ l. l.consumers) log ∙ ap (λ n. slice_set old.log.consumers n (end_of p)) number ∙ ap (λ cs. slice_set cs (suc j) (end_of p)) h.consumers ∙ ap (λ xs. s.sender.at ∷ xs) (sym places ∙ ap (λ n. map (λ (x : Consumer). x.at) (slice_set s.readers n (moved c p))) (sym index));
+      claims = h.claims ∙ sym o.claims;
+      readers = ap (map (λ (x : Reader). x.position)) readers ∙ positions_set old.readers.items j q ∙ ap (λ xs. slice_set xs j q.position) h.readers ∙ ap (slice_set (map (λ (x : Consumer). x.at) s.readers) j) to ∙ sym places ∙ ap (λ n. map (λ (x : Consumer). x.at) (slice_set s.readers n (moved c p))) (sym index);
+      receivers = subst (λ vs. AllShow vs s.receivers) (sym o.subscribers) h.receivers;
+      packets = h.packets ∙ sym o.packets;
+    }
+
+stays_shown : (old new : Stage) (s : Scene) (j : ℕ) (r q : Reader) → ShowsScene old s → OnlyReaders old new → slice_get old.readers.items j ≡ Some r → new.readers.items ≡ slice_set old.readers.items j q → new.log ≡ old.log → q.position ≡ r.position → ShowsScene new s
+stays_shown old new s j r q h o here readers log stay = record {
+  log = h.log ∙ sym log;
+  sender = subst (λ v. ShowsSender v s) (sym o.sender) h.sender;
+  consumers = ap (λ l. l.consumers) log ∙ h.consumers;
+  claims = h.claims ∙ sym o.claims;
+  readers = ap (map (λ (x : Reader). x.position)) readers ∙ positions_set old.readers.items j q ∙ ap (slice_set (map (λ (x : Reader). x.position) old.readers.items) j) stay ∙ again old.readers.items j r here ∙ h.readers;
+  receivers = subst (λ vs. AllShow vs s.receivers) (sym o.subscribers) h.receivers;
+  packets = h.packets ∙ sym o.packets;
+}
+  where
+    again : (rs : List Reader) (j : ℕ) (r : Reader) → slice_get rs j ≡ Some r → slice_set (map (λ (x : Reader). x.position) rs) j r.position ≡ map (λ (x : Reader). x.position) rs
+    again [] j r e = refl
+    again (x ∷ xs) zero r e = let same : x ≡ r = cc in ap (λ y. y.position ∷ map (λ (z : Reader). z.position) xs) (sym same)
+    again (x ∷ xs) (suc j) r e = ap (λ ys. x.position ∷ ys) (again xs j r e)
+
+read_so : (old new : Stage) (s : Scene) (j : ℕ) (r q : Reader) (line : Print) (before after : List Print) → ShowsScene old s → OnlyReaders old new → slice_get old.readers.items j ≡ Some r → new.readers.items ≡ slice_set old.readers.items j q → r.number ≡ suc j → ReadsLine old.log r line new.log q → after ≡ before ++ line ∷ [] → Answered s (orders.Read (suc j)) before after new
+read_so old new s j r q line before after h o here readers number (inl n) told =
+    let c = consumer_at_place old.readers.items s.readers j r h.readers here in
+    record {
+      lines = line ∷ [];
+      scene = s;
+      answers = inr (inl (c.0, c.1, (λ p a e. n.0 p (subst (λ l. Among p (committed l.entries)) h.log a) (e ∙ c.2)), ap (λ x. x ∷ []) n.1, refl));
+      printed = told;
+      shows = stays_shown old new s j r q h o here readers n.2 n.3;
+    }
+read_so old new s j r q line before after h o here readers number (inr m) told =
+    let c = consumer_at_place old.readers.items s.readers j r h.readers here in
+    record {
+      lines = line ∷ [];
+      scene = with_reader s (suc j) (moved c.0 m.0);
+      answers = inr (inr (c.0, m.0, c.1, subst (λ l. Among m.0 (committed l.entries)) (sym h.log) m.1, m.2 ∙ sym c.2, ap (λ x. x ∷ []) m.3, refl));
+      printed = told;
+      shows = passed_by_reader old new s j r q c.0 m.0 h o c.1 readers number m.4 m.5;
+    }
+
+pub read_answered : (old new : Stage) (k j : ℕ) (r q : Reader) (line : Line) (before after : List Line) → k ≡ suc j → slice_get old.readers.items j ≡ Some r → new.readers.items ≡ slice_set old.readers.items j q → r.number ≡ suc j → ReadsLine old.log r (print_of line) new.log q → OnlyReaders old new → after ≡ before ++ line ∷ [] → IsAnswered old (orders.Read k) before after new
+read_answered old new k j r q line before after is here readers number reads o told =
+    subst (λ n. IsAnswered old (orders.Read n) before after new) (sym is) (λ s h. read_so old new s j r q (print_of line) (prints before) (prints after) h o here readers number reads (one_line before after line told))

@@ -1,17 +1,20 @@
 -- What each line of a script prints, and the scene after it.
-use Rattle.std.specs.Prelude.{◌≡◌, ◌⊎◌, ◌<◌, ◌≤◌, ℕ, suc, pos, Bool, true, false, List, [], ◌∷◌, ◌++◌, map, length, replicate, Option, None, Some, Result, Ok, Err, slice_get, slice_set, if◌then◌else◌}
+use Rattle.std.specs.Prelude.{◌≡◌, ◌⊎◌, ◌<◌, ◌≤◌, ◌+◌, ◌-◌, ℕ, zero, suc, pos, Bool, true, false, List, [], ◌∷◌, ◌++◌, map, length, replicate, Option, None, Some, Result, Ok, Err, slice_get, slice_index_or, slice_set, if◌then◌else◌}
 use Rattle.std.specs.List.{AllByRecursion}
-use Rattle.theory.specs.Position.{max_payload, position_of}
+use Rattle.theory.specs.Position.{aligned, max_message, max_payload, position_of}
 use Rattle.theory.specs.Wire.{IsFrame, Status, Wire}
-use Rattle.theory.specs.Placed.{Placed, end_of}
+use Rattle.theory.specs.Placed.{Among, Data, Frame, Pad, Placed, end_of}
+use Rattle.theory.specs.Consumer.{Consumer, moved}
 use Rattle.theory.specs.Entry.{committed}
 use Rattle.theory.specs.Control.{setup_at}
 use Rattle.theory.specs.FlowLimit.{flow_limit}
 use Rattle.theory.specs.Sender.{Sender}
 use Rattle.theory.specs.Timing.{seen}
-use Rattle.log_buffer.specs.Log.{IsLog, Log}
+use Rattle.term_buffer.specs.declared.claimed.Claimed.{Claimed}
+use Rattle.log_buffer.specs.Log.{IsHeld, IsLog, Log, with_abort, with_commit}
 use Rattle.rotation.specs.Limited.{CleansAndLimits, raised}
-use Rattle.publication.specs.Offers.{after_offer, answer_of}
+use Rattle.publication.specs.Claims.{claim_at}
+use Rattle.publication.specs.Offers.{after_claim, after_offer, answer_of}
 use Rattle.publication.specs.declared.refusal.Refusal.{Refusal}
 use Rattle.setup.specs.Naming.{after_due, is_due}
 use Rattle.script.specs.Meaning as orders
@@ -20,7 +23,8 @@ use Rattle.mdriver.specs.declared.receiver.Outcome.{Outcome}
 use Rattle.mdriver.specs.declared.sender.SenderAnswer.TheVariants as answers
 use Rattle.mdriver.specs.Cycling.{Cycle, IsNews, IsNextSent, News, Says, AsksSetup, TellsNothing, Unreadable, datagrams, sent_wires}
 use Rattle.mdriver.specs.Polling.{Polls, TellsPositions}
-use Rattle.mdriver.specs.Prints.{Print, Done, Limit, Position, Refused, Packet, Nothing, OfReceiver, OfSender, Bad}
+use Rattle.mdriver.specs.Prints as prints
+use Rattle.mdriver.specs.Prints.{Print, Done, Limit, Position, FrameData, FramePad, Refused, Packet, Nothing, NoMessage, OfReceiver, OfSender, Bad}
 use Rattle.mdriver.specs.Receiving.{Hears, Receiver, replies, ticked}
 use Rattle.mdriver.specs.Scene.{Scene}
 
@@ -57,23 +61,102 @@ AreFrames wires = AllByRecursion IsFrame wires
 
 -- ---- offers
 
--- one of eight publishers', a message that a frame can hold
+-- the claim that a publisher has open
+abbrev pub claim_by : Scene → ℕ → Option Claimed
+claim_by s by = slice_index_or s.claims by None
+
+abbrev pub with_claim : Scene → ℕ → Option Claimed → Scene
+with_claim s by c = record s { claims = slice_set s.claims by c }
+
+-- a line that can't be had, and nothing changes
+abbrev pub IsBad : Scene → List Print → Scene → Type 0
+IsBad old lines new = (lines ≡ Bad ∷ []) × (new ≡ old)
+
+-- one of eight publishers', a message that the log can hold
 pub record MayOffer (l : Log) (by : ℕ) (message : List ℕ) : Type 0 where
   pub legal : IsLog l
   pub publisher : by < 8
   pub bytes : AllByRecursion (λ b. b < 256) message
-  pub short : length message ≤ max_payload l.identity.geometry
+  pub short : length message ≤ max_message l.identity.geometry
 
 abbrev pub Offered : Scene → ℕ → List ℕ → Result ℕ Refusal → List Print → Scene → Type 0
 Offered old by message (Ok end) lines new = (lines ≡ Position end ∷ []) × (new ≡ with_log old (after_offer old.log by message))
 Offered old by message (Err refusal) lines new = (lines ≡ Refused refusal ∷ []) × (new ≡ with_log old (after_offer old.log by message))
 
--- a message of so many bytes, which no frame can hold
-abbrev pub IsTooLong : Scene → ℕ → List Print → Scene → Type 0
-IsTooLong old size lines new = (max_payload old.log.identity.geometry < size) × (lines ≡ Bad ∷ []) × (new ≡ old)
+-- a message of so many bytes is too long, or its publisher has a claim open
+abbrev pub MayNotTake : Scene → ℕ → ℕ → ℕ → List Print → Scene → Type 0
+MayNotTake old by most size lines new = ((most < size) ⊎ ((c : Claimed) × (claim_by old by ≡ Some c))) × IsBad old lines new
 
 abbrev pub OffersMessage : Scene → ℕ → List ℕ → List Print → Scene → Type 0
-OffersMessage old by message lines new = MayOffer old.log by message × Offered old by message (answer_of old.log (length message)) lines new
+OffersMessage old by message lines new = MayOffer old.log by message × (claim_by old by ≡ None) × Offered old by message (answer_of old.log (length message)) lines new
+
+-- ---- claims
+
+-- one of eight publishers, and a message that one frame can hold
+pub record MayClaim (l : Log) (by size : ℕ) : Type 0 where
+  pub legal : IsLog l
+  pub publisher : by < 8
+  pub short : size ≤ max_payload l.identity.geometry
+
+abbrev pub Claims : Scene → ℕ → ℕ → Result ℕ Refusal → List Print → Scene → Type 0
+Claims old by size (Ok end) lines new =
+    (lines ≡ prints.Claimed old.log.tail end ∷ []) × (new ≡ with_claim (with_log old (after_claim old.log by size)) by (Some (claim_at old.log by size)))
+Claims old by size (Err refusal) lines new = (lines ≡ Refused refusal ∷ []) × (new ≡ with_log old (after_claim old.log by size))
+
+abbrev pub ClaimsRange : Scene → ℕ → ℕ → List Print → Scene → Type 0
+ClaimsRange old by size lines new = MayClaim old.log by size × (claim_by old by ≡ None) × Claims old by size (answer_of old.log size) lines new
+
+-- a publisher's open claim: nothing of it is stored, and one frame can hold its message
+pub record HasClaim (s : Scene) (by : ℕ) (c : Claimed) : Type 0 where
+  pub legal : IsLog s.log
+  pub publisher : by < 8
+  pub open_claim : claim_by s by ≡ Some c
+  pub owner : c.owner ≡ by
+  pub held : IsHeld s.log c
+  pub short : c.size ≤ max_payload s.log.identity.geometry
+
+abbrev pub claim_end : Claimed → ℕ
+claim_end c = c.start + aligned (c.size + 32)
+
+abbrev pub HasNoClaim : Scene → ℕ → List Print → Scene → Type 0
+HasNoClaim old by lines new = (claim_by old by ≡ None) × IsBad old lines new
+
+-- it is filled with bytes 61 and committed
+abbrev pub CommitsClaim : Scene → ℕ → List Print → Scene → Type 0
+CommitsClaim old by lines new =
+    (c : Claimed) × HasClaim old by c × (lines ≡ Position (claim_end c) ∷ []) × (new ≡ with_claim (with_log old (with_commit old.log c (Data 192 (replicate c.size 97)))) by None)
+
+-- it becomes a padding
+abbrev pub AbortsClaim : Scene → ℕ → List Print → Scene → Type 0
+AbortsClaim old by lines new = (c : Claimed) × HasClaim old by c × (lines ≡ Position (claim_end c) ∷ []) × (new ≡ with_claim (with_log old (with_abort old.log c)) by None)
+
+-- ---- readers
+
+-- the reader of a number, 1 or above
+abbrev pub reader_at : Scene → ℕ → Option Consumer
+reader_at s zero = None
+reader_at s (suc k) = slice_get s.readers k
+
+abbrev pub HasNoReader : Scene → ℕ → List Print → Scene → Type 0
+HasNoReader old r lines new = (reader_at old r ≡ None) × IsBad old lines new
+
+abbrev pub frame_line : ℕ → Frame → Print
+frame_line at (Data flags payload) = FrameData at flags payload
+frame_line at (Pad n) = FramePad at n
+
+-- the reader past a frame
+abbrev pub with_reader : Scene → ℕ → Consumer → Scene
+with_reader s r c = record s { log = record s.log { consumers = slice_set s.log.consumers r c.at }; readers = slice_set s.readers (r - 1) c }
+
+-- no frame is committed where it stands
+abbrev pub ReadsNothing : Scene → ℕ → List Print → Scene → Type 0
+ReadsNothing old r lines new =
+    (c : Consumer) × (reader_at old r ≡ Some c) × ((s : Placed) → Among s (committed old.log.entries) → s.at ≡ c.at → ⊥) × (lines ≡ NoMessage ∷ []) × (new ≡ old)
+
+-- the committed frame where it stands
+abbrev pub ReadsFrame : Scene → ℕ → List Print → Scene → Type 0
+ReadsFrame old r lines new =
+    (c : Consumer) × (s : Placed) × (reader_at old r ≡ Some c) × Among s (committed old.log.entries) × (s.at ≡ c.at) × (lines ≡ frame_line s.at s.frame ∷ []) × (new ≡ with_reader old r (moved c s))
 
 -- ---- the keeper
 
@@ -115,10 +198,10 @@ sent_on x (Some s) = record x { at = end_of s; passed = x.passed ++ s ∷ []; se
 abbrev pub cycled : Scene → ℕ → Cycle → Sender
 cycled old now y = sent_on (named (record old.sender { clock = clock_at old now }) y.setup) y.frame
 
--- the log's one consumer is the sender
+-- the log's first consumer is the sender
 abbrev pub after_cycle : Scene → ℕ → Cycle → Scene
 after_cycle old now y = record (given_out old (sent_wires old.log.identity old.sender.at y)) {
-  log = record old.log { consumers = (cycled old now y).at ∷ [] };
+  log = record old.log { consumers = (cycled old now y).at ∷ map (λ c. c.at) old.readers };
   sender = cycled old now y;
   naming = after_due old.naming (clock_at old now);
 }
@@ -177,8 +260,12 @@ Answers old orders.Connect lines new = (lines ≡ Done ∷ []) × (new ≡ with_
 Answers old orders.Disconnect lines new = (lines ≡ Done ∷ []) × (new ≡ with_log old (record old.log { connected = false }))
 Answers old orders.Close lines new = (lines ≡ Done ∷ []) × (new ≡ with_log old (record old.log { closed = true }))
 Answers old orders.Limit lines new = Limits old lines new
-Answers old (orders.Offer by message) lines new = IsTooLong old (length message) lines new ⊎ OffersMessage old by message lines new
-Answers old (orders.OfferSize by size) lines new = IsTooLong old size lines new ⊎ OffersMessage old by (replicate size 97) lines new
+Answers old (orders.Offer by message) lines new = MayNotTake old by (max_message old.log.identity.geometry) (length message) lines new ⊎ OffersMessage old by message lines new
+Answers old (orders.OfferSize by size) lines new = MayNotTake old by (max_message old.log.identity.geometry) size lines new ⊎ OffersMessage old by (replicate size 97) lines new
+Answers old (orders.Claim by size) lines new = MayNotTake old by (max_payload old.log.identity.geometry) size lines new ⊎ ClaimsRange old by size lines new
+Answers old (orders.Commit by) lines new = HasNoClaim old by lines new ⊎ CommitsClaim old by lines new
+Answers old (orders.Abort by) lines new = HasNoClaim old by lines new ⊎ AbortsClaim old by lines new
+Answers old (orders.Read r) lines new = HasNoReader old r lines new ⊎ (ReadsNothing old r lines new ⊎ ReadsFrame old r lines new)
 Answers old (orders.Send now) lines new = Sends old now lines new
 Answers old (orders.Deliver k i now) lines new = IsMissing old k lines new ⊎ Delivered old k i now lines new
 Answers old (orders.Tick i now) lines new = Ticks old i now lines new

@@ -12,6 +12,7 @@ pub mod Plays
 pub mod Polling
 pub mod Prints
 pub mod Published
+pub mod Reading
 pub mod Receiving
 pub mod Scene
 pub mod Sending
@@ -19,3 +20,4 @@ pub mod Showing
 pub mod Staged
 pub mod Stands
 pub mod Subscribing
+pub mod Writing

@@ -9,7 +9,7 @@ use Rattle.log_buffer.specs.declared.fault.LogError.TheVariants.{Start}
 use Rattle.script.specs.Meaning.{Opening, Told}
 use Rattle.mdriver.specs.Answers.{Answers}
 use Rattle.mdriver.specs.Prints.{Print, Open, BadGeometry, BadLog, Shares}
-use Rattle.mdriver.specs.Published.{Played, PolledPrefix}
+use Rattle.mdriver.specs.Published.{Played, PolledPrefix, ReadPrefix}
 use Rattle.mdriver.specs.Scene.{Scene, entries_of, opened_scene}
 
 -- the lines one after the other
@@ -34,18 +34,19 @@ pub record ShowsBook (s : Scene) (line : Print) : Type 0 where
   pub whole : s.log.start + sum shares ≡ s.log.tail
   pub shown : line ≡ Shares s.log.start s.log.tail shares
 
--- the log opens: each line of the script is answered in turn, and the book ends the output. After each line, what the polls of a receiver printed is what was published between its join and its position
+-- the log opens: each line of the script is answered in turn, and the book ends the output. After each line, what the polls of a receiver printed is what was published between its join and its position, and what an assembler gives of the frames that a reader showed is what was published up to its position
 pub record PlaysOn (script : Told) (lines : List Print) : Type 0 where
   pub legal : IsGeometry (geometry_of script.log)
   pub starts : IsStart script.log
   pub played : List Played
   pub orders : map (λ p. p.order) played ≡ script.orders
   pub last : Scene
-  pub answered : AnswersAll (opened_scene (identity_of script.log) script.log.start) played last
+  pub answered : AnswersAll (opened_scene (identity_of script.log) script.log.start script.log.readers) played last
   pub book : Print
   pub shown : ShowsBook last book
   pub printed : lines ≡ Open ∷ (flat_map (λ p. p.lines) played ++ book ∷ [])
-  pub polled : (done later : List Played) → played ≡ done ++ later → PolledPrefix done
+  pub polled : (done later : List Played) → played ≡ done ++ later → PolledPrefix (geometry_of script.log) done
+  pub read : (done later : List Played) → played ≡ done ++ later → ReadPrefix (geometry_of script.log) script.log.start script.log.readers done
 
 -- the log can't be opened, and its fault is the only line
 abbrev pub HasFault : Opening → List Print → Type 0
@@ -60,10 +61,10 @@ Plays script lines = HasFault script.log lines ⊎ PlaysOn script lines
 -- whatever is answered, the shares are those of all entries
 abbrev pub AlwaysCounted : Type 0
 AlwaysCounted =
-    (o : Opening) (played : List Played) (last : Scene) → AnswersAll (opened_scene (identity_of o) o.start) played last → (k : ℕ) → k < 8 → slice_index last.log.shares k ≡ share_of k (entries_of last)
+    (o : Opening) (played : List Played) (last : Scene) → AnswersAll (opened_scene (identity_of o) o.start o.readers) played last → (k : ℕ) → k < 8 → slice_index last.log.shares k ≡ share_of k (entries_of last)
 
--- whatever is answered, after each line what was polled is what was published
+-- whatever is answered, after each line what was polled and what was read is what was published
 abbrev pub AlwaysPolled : Type 0
 AlwaysPolled =
     (o : Opening) (played : List Played) (last : Scene) → IsGeometry (geometry_of o) → IsIdentity (identity_of o) → IsStart o →
-    AnswersAll (opened_scene (identity_of o) o.start) played last → (done later : List Played) → played ≡ done ++ later → PolledPrefix done
+    AnswersAll (opened_scene (identity_of o) o.start o.readers) played last → (done later : List Played) → played ≡ done ++ later → PolledPrefix (geometry_of o) done × ReadPrefix (geometry_of o) o.start o.readers done

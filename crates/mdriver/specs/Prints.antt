@@ -16,6 +16,9 @@ pub data Print : Type 0 where
   Done : Print
   Limit : (limit : ℕ) → Print
   Position : (end : ℕ) → Print
+  Claimed : (start end : ℕ) → Print
+  FrameData : (start flags : ℕ) (bytes : List ℕ) → Print
+  FramePad : (start frame_length : ℕ) → Print
   Refused : (refusal : Refusal) → Print
   Packet : (number : ℕ) (bytes : List ℕ) → Print
   Nothing : Print
@@ -35,6 +38,9 @@ print_of (lines.BadLog fault) = BadLog fault
 print_of lines.Done = Done
 print_of (lines.Limit limit) = Limit limit
 print_of (lines.Position end) = Position end
+print_of (lines.Claimed start end) = Claimed start end
+print_of (lines.FrameData start flags bytes) = FrameData start flags bytes.items
+print_of (lines.FramePad start frame_length) = FramePad start frame_length
 print_of (lines.Refused refusal) = Refused refusal
 print_of (lines.Packet number bytes) = Packet number bytes.items
 print_of lines.Nothing = Nothing

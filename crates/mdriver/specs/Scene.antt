@@ -1,12 +1,14 @@
 -- What a script plays on, as its lines tell it.
-use Rattle.std.specs.Prelude.{ℕ, ◌/◌, pos, Bool, true, false, List, [], ◌∷◌, ◌++◌, map, Option, None, Some}
+use Rattle.std.specs.Prelude.{ℕ, suc, ◌/◌, pos, Bool, true, false, List, [], ◌∷◌, ◌++◌, map, replicate, Option, None, Some}
 use Rattle.std.specs.Option.{option_map}
 use Rattle.theory.specs.Bytes.{Identity}
 use Rattle.theory.specs.Entry.{Entry}
+use Rattle.theory.specs.Consumer.{Consumer, consumer_at}
 use Rattle.theory.specs.Image.{Image}
 use Rattle.theory.specs.Log as stream
 use Rattle.theory.specs.Sender.{Sender}
 use Rattle.theory.specs.World.{World, opened_sender}
+use Rattle.term_buffer.specs.declared.claimed.Claimed.{Claimed}
 use Rattle.log_buffer.specs.Log.{Log, fresh}
 use Rattle.setup.specs.Naming.{Naming}
 use Rattle.mdriver.specs.Receiving.{Receiver, listening}
@@ -16,6 +18,10 @@ pub record Scene : Type 0 where
   pub log : Log
   -- the entries that the log has forgotten
   pub past : List Entry
+  -- the claims that are open, by their publishers' numbers
+  pub claims : List (Option Claimed)
+  -- the readers beside the sender, from number 1 on; an assembler hears each frame that one passes
+  pub readers : List Consumer
   pub sender : Sender
   -- when the sender last sent a SETUP, and whether a status message has come
   pub naming : Naming
@@ -30,9 +36,9 @@ abbrev pub is_armed : Option ℕ → Bool
 is_armed None = false
 is_armed (Some partition) = true
 
--- the log as a stream of all entries ever added; these were forgotten
-abbrev pub stream_of : List Entry → Log → stream.Log
-stream_of past l = record {
+-- the log as a stream of all entries ever added; these were forgotten, and these are its readers beside the sender
+abbrev pub stream_of : List Entry → List Consumer → Log → stream.Log
+stream_of past readers l = record {
   identity = l.identity;
   start = l.start;
   tail = l.tail;
@@ -42,7 +48,7 @@ stream_of past l = record {
   connected = l.connected;
   closed = l.closed;
   cleaned = l.cleaned;
-  readers = [];
+  readers = map Some readers;
 }
 
 abbrev pub image_of : Receiver → Option Image
@@ -50,17 +56,19 @@ image_of r = option_map (λ o. o.image) r.image
 
 -- the scene without its packets and moments
 abbrev pub world_of : Scene → World
-world_of s = record { log = stream_of s.past s.log; sender = s.sender; images = map image_of s.receivers }
+world_of s = record { log = stream_of s.past s.readers s.log; sender = s.sender; images = map image_of s.receivers }
 
 -- a receiver of the log's session and stream, with half a term as its window and one consumer
 abbrev pub listening_at : Identity → ℕ → Receiver
 listening_at i number = listening i.session i.stream (i.geometry.term_length / 2) (pos number) 1
 
--- a log that was just opened at this start
-abbrev pub opened_scene : Identity → ℕ → Scene
-opened_scene i start = record {
-  log = fresh i start 1;
+-- a log that was just opened at this start, with so many readers beside the sender
+abbrev pub opened_scene : Identity → ℕ → ℕ → Scene
+opened_scene i start readers = record {
+  log = fresh i start (suc readers);
   past = [];
+  claims = replicate 8 None;
+  readers = replicate readers (consumer_at start);
   sender = opened_sender start;
   naming = record { clock = 0; last = None; heard = false };
   receivers = map (listening_at i) (0 ∷ 1 ∷ 2 ∷ 3 ∷ 4 ∷ 5 ∷ 6 ∷ 7 ∷ []);

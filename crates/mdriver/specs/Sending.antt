@@ -49,7 +49,7 @@ abbrev pub AreBehind : Log → Reader → Option Placed → Log → Reader → T
 AreBehind l r None m q = (m ≡ l) × ((to : ℕ) × (q ≡ record r { read_to = to }))
 AreBehind l r (Some s) m q =
     (m ≡ record l { consumers = slice_set l.consumers r.number (end_of s) })
-    × (q ≡ record r { index = r.index + 1; position = end_of s; read_to = end_of s })
+    × (q ≡ record r { position = end_of s; read_to = end_of s })
 
 abbrev pub frame_wires : Identity → Option Placed → List Wire
 frame_wires i frame = map (λ s. wire_at i s.at s.frame) (option_to_list frame)
@@ -57,10 +57,10 @@ frame_wires i frame = map (λ s. wire_at i s.at s.frame) (option_to_list frame)
 abbrev pub with_wires : Outgoing → List Wire → Outgoing
 with_wires o wires = record o { datagrams = o.datagrams ++ datagrams wires }
 
--- the frame of this kind and length whose payload stands in the block's front
-abbrev pub frame_in : FrameKind → ℕ → List ℕ → Frame
-frame_in kinds.Data frame_length block = Data 192 (take (frame_length - 32) block)
-frame_in kinds.Pad frame_length block = Pad frame_length
+-- the frame of this kind, with these flags and this length, whose payload stands in the block's front
+abbrev pub frame_in : FrameKind → ℕ → ℕ → List ℕ → Frame
+frame_in kinds.Data flags frame_length block = Data flags (take (frame_length - 32) block)
+frame_in kinds.Pad flags frame_length block = Pad frame_length
 
 -- the next frame goes out, if it may
 pub record SendsNext (l : Log) (r : Reader) (o : Outgoing) (limit : ℕ) (m : Log) (q : Reader) (p : Outgoing) : Type 0 where

@@ -9,13 +9,19 @@ use Rattle.script.specs.Meaning.{Order}
 use Rattle.mdriver.specs.declared.line.Line.{Line}
 use Rattle.mdriver.specs.declared.stage.Stage.{Stage}
 use Rattle.std.specs.List.{flat_map}
-use Rattle.mdriver.specs.Answers.{Answers, OffersMessage, limit_of}
+use Rattle.mdriver.specs.Answers.{Answers, IsBad, OffersMessage, claim_by, limit_of}
+use Rattle.term_buffer.specs.declared.claimed.Claimed.{Claimed}
+use Rattle.std.specs.Prelude.{◌⊎◌, Some}
 use Rattle.mdriver.specs.Plays.{AnswersAll, ShowsBook}
 use Rattle.mdriver.specs.Published.{Played}
 use Rattle.mdriver.specs.Prints.{Open, Position, Print, Refused, prints}
 use Rattle.mdriver.specs.Receiving.{Receiver}
 use Rattle.mdriver.specs.Scene.{Scene, listening_at, opened_scene}
 use Rattle.mdriver.specs.Sending.{Sending}
+use Rattle.mdriver.specs.Stands.{claim_in}
+use Rattle.log_buffer.specs.Passes.{Pass}
+use Rattle.mdriver.specs.declared.writer.Writer.{Writer}
+use Rattle.mdriver.specs.declared.writer.Writer.TheVariants as writers
 use Rattle.mdriver.specs.Subscribing.{ShowsSubscriber, Subscribing}
 
 -- each subscriber shows the receiver of its number
@@ -35,7 +41,9 @@ pub record ShowsSender (v : Sending ℕ) (s : Scene) : Type 0 where
 pub record ShowsScene (v : Stage) (s : Scene) : Type 0 where
   pub log : s.log ≡ v.log
   pub sender : ShowsSender v.sender s
-  pub one : v.log.consumers ≡ s.sender.at ∷ []
+  pub consumers : v.log.consumers ≡ s.sender.at ∷ map (λ c. c.at) s.readers
+  pub claims : s.claims ≡ map claim_in v.writers.items
+  pub readers : map (λ r. r.position) v.readers.items ≡ map (λ c. c.at) s.readers
   pub receivers : AllShow v.subscribers.items s.receivers
   pub packets : s.packets ≡ v.packets
 
@@ -51,10 +59,14 @@ pub record Answered (old : Scene) (order : Order) (before after : List Print) (n
 abbrev pub IsAnswered : Stage → Order → List Line → List Line → Stage → Type 0
 IsAnswered old order before after new = (s : Scene) → ShowsScene old s → Answered s order (prints before) (prints after) new
 
--- a message that a frame can hold was offered: what orders so much is answered
+-- a message that the log can hold is offered by a publisher, or can't be, as that has a claim open
+abbrev pub MayBeOffered : Scene → ℕ → List ℕ → List Print → Scene → Type 0
+MayBeOffered s by message lines t = (((c : Claimed) × (claim_by s by ≡ Some c)) × IsBad s lines t) ⊎ OffersMessage s by message lines t
+
+-- what orders so much is answered
 abbrev pub IsOffered : Stage → ℕ → List ℕ → List Line → List Line → Stage → Type 0
 IsOffered old by message before after new =
-    (order : Order) → ((s t : Scene) (lines : List Print) → OffersMessage s by message lines t → Answers s order lines t) → IsAnswered old order before after new
+    (order : Order) → ((s t : Scene) (lines : List Print) → MayBeOffered s by message lines t → Answers s order lines t) → IsAnswered old order before after new
 
 -- lines of a script one after the other
 pub record Continued (old : Scene) (orders : List Order) (before after : List Print) (new : Stage) : Type 0 where
@@ -80,11 +92,11 @@ abbrev pub AreListening : Identity → List Subscribing → Type 0
 AreListening i vs = AllShow vs (map (listening_at i) numbers)
 
 -- the lines of a script from the opened log on, and the book
-pub record RunsTo (i : Identity) (start : ℕ) (orders : List Order) (before after : List Print) : Type 0 where
+pub record RunsTo (i : Identity) (start readers : ℕ) (orders : List Order) (before after : List Print) : Type 0 where
   pub played : List Played
   pub last : Scene
   pub of_orders : map (λ p. p.order) played ≡ orders
-  pub answered : AnswersAll (opened_scene i start) played last
+  pub answered : AnswersAll (opened_scene i start readers) played last
   pub book : Print
   pub shown : ShowsBook last book
   pub printed : after ≡ before ++ (Open ∷ (flat_map (λ p. p.lines) played ++ book ∷ []))
@@ -93,3 +105,7 @@ pub record RunsTo (i : Identity) (start : ℕ) (orders : List Order) (before aft
 abbrev pub OfferedLine : Log → ℕ → List ℕ → Result ℕ Refusal → Print → Log → Type 0
 OfferedLine old by message (Ok end) line new = (line ≡ Position end) × (new ≡ after_offer old by message)
 OfferedLine old by message (Err refusal) line new = (line ≡ Refused refusal) × (new ≡ after_offer old by message)
+
+-- publishers as writers, none with a claim
+abbrev pub AreFree : List Pass → List Writer → Type 0
+AreFree passes ws = ws ≡ map writers.Free passes

@@ -1,53 +1,64 @@
--- That a reader stands in a log has one proof.
-use Rattle.std.specs.Prelude.{◌≡◌, ℕ, ◌+◌, ◌-◌, ◌≤◌, List, [], ◌∷◌, ◌⊎◌, Option, None, Some, true, slice_get}
-use Rattle.std.proofs.Common.{arith, sym, ap, ◌∙◌, subst, inl, inr}
+-- Where a reader stands in a log, and which claims are open in it.
+use Rattle.std.specs.Prelude.{◌≡◌, ℕ, zero, suc, ◌+◌, ◌-◌, ◌<◌, ◌≤◌, ⊤, false, List, [], ◌∷◌, length, map, Option, None, Some, slice_get, slice_index}
+use Rattle.theory.specs.Position.{max_payload, max_position}
 use Rattle.std.proofs.Props.{props}
-use Rattle.std.specs.List.{AllByRecursion}
-use Rattle.theory.specs.Entry.{Entry, entry_end}
-use Rattle.theory.specs.Messages.{is_whole}
-use Rattle.theory.specs.Tiling.{Tiles}
-use Rattle.log_buffer.specs.Log.{Log}
-use Rattle.log_buffer.specs.Reader.{HasRead, IsAt, Reader}
+use Rattle.term_buffer.specs.Kept.{blank_for, claim_of, cuts_in}
+use Rattle.term_buffer.specs.declared.claimed.Claimed.{Claimed}
+use Rattle.log_buffer.specs.Log.{Log, draft_of}
+use Rattle.log_buffer.specs.Passes.{Pass}
+use Rattle.log_buffer.specs.Reader.{Reader}
+use Rattle.publication.specs.Claims.{Filling}
+use Rattle.mdriver.specs.declared.writer.Writer.{Writer}
+use Rattle.mdriver.specs.declared.writer.Writer.TheVariants as writers
 
-tiles_prop : (term p q : ℕ) (es : List Entry) → IsProp (Tiles term p q es)
-tiles_prop term p q [] = hlevel props
-tiles_prop term p q (e ∷ es) = hlevel (props, tiles_prop term (entry_end e) q es)
+-- the log has the reader's position
+pub record Stands (l : Log) (r : Reader) : Type 0 where
+  pub number : r.number < length l.consumers
+  pub here : slice_index l.consumers r.number ≡ r.position
 
-whole_prop : (es : List Entry) → IsProp (AllByRecursion (λ e. is_whole e ≡ true) es)
-whole_prop [] = hlevel props
-whole_prop (e ∷ es) = hlevel (props, whole_prop es)
+-- readers in the order of their numbers, the first with this one
+abbrev pub AllStand : Log → ℕ → List Reader → Type 0
+AllStand l number [] = ⊤
+AllStand l number (r ∷ rs) = ((r.number ≡ number) × Stands l r) × AllStand l (suc number) rs
 
-abbrev entry_of : Entry → Option Entry → Entry
-entry_of e None = e
-entry_of e (Some d) = d
+-- an open claim of one frame, of which nothing is stored
+pub record Holds (l : Log) (c : Claimed) : Type 0 where
+  pub kept : l.gone ≤ c.number
+  pub entry : slice_get l.entries (c.number - l.gone) ≡ Some (claim_of l.identity.geometry c.start c.owner c.padding c.size)
+  pub message : c.padding ≡ false
+  pub first : c.frame ≡ 0
+  pub in_stream : c.start < max_position l.identity.geometry
+  pub blank : draft_of l c ≡ blank_for (cuts_in l.identity.geometry c)
+  pub short : c.size ≤ max_payload l.identity.geometry
 
--- this entry was read
-abbrev ReadEntry : Log → Reader → Entry → Type 0
-ReadEntry l r e = (slice_get l.entries (r.index - l.gone) ≡ Some e) × (e.start ≡ r.position) × (is_whole e ≡ true) × (r.read_to ≡ entry_end e) × (r.position + 32 ≤ r.read_to)
+abbrev pub pass_of : Writer → Pass
+pass_of (writers.Free publisher) = publisher
+pass_of (writers.Holding claim) = claim.pass
 
-abbrev of_entry : (l : Log) (r : Reader) (e : Entry) → ReadEntry l r e → HasRead l r
-of_entry l r e h = record { entry = e; here = h.0; at = h.1; whole = h.2; end = h.3; further = h.4 }
+abbrev pub claim_in : Writer → Option Claimed
+claim_in (writers.Free publisher) = None
+claim_in (writers.Holding claim) = Some claim.claimed
 
-read_entry_prop : (l : Log) (r : Reader) (e : Entry) → IsProp (ReadEntry l r e)
-read_entry_prop l r e = hlevel props
+-- a claim is its own publisher's, and open in the log
+abbrev pub WriterHolds : Log → Writer → Type 0
+WriterHolds l (writers.Free publisher) = ⊤
+WriterHolds l (writers.Holding claim) = (claim.claimed.owner ≡ claim.pass.number) × Holds l claim.claimed
 
-read_alike : (l : Log) (r : Reader) (d e : Entry) → d ≡ e → (h : ReadEntry l r d) (k : ReadEntry l r e) → of_entry l r d h ≡ of_entry l r e k
-read_alike l r d e same h = subst (λ (x : Entry). (k : ReadEntry l r x) → of_entry l r d h ≡ of_entry l r x k) same (λ k. ap (of_entry l r d) (read_entry_prop l r d h k))
+-- each has the number of its place, from this one on, and a block of so many bytes
+abbrev pub AreWriters : Log → ℕ → List Writer → Type 0
+AreWriters l number [] = ⊤
+AreWriters l number (w ∷ ws) = (((pass_of w).number ≡ number) × (length (pass_of w).bytes ≡ l.identity.geometry.mtu) × WriterHolds l w) × AreWriters l (suc number) ws
 
-read_prop : (l : Log) (r : Reader) → IsProp (HasRead l r)
-read_prop l r h k =
-    let same : h.entry ≡ k.entry = ap (entry_of h.entry) (sym h.here ∙ k.here) in
-    read_alike l r h.entry k.entry same (h.here, h.at, h.whole, h.end, h.further) (k.here, k.at, k.whole, k.end, k.further)
+-- ---- each of these is a fact that has one proof
 
--- a reader that has read isn't where it was
-apart : (l : Log) (r : Reader) → r.read_to ≡ r.position → HasRead l r → ⊥
-apart l r e h = absurd (omega (arith, e, h.further))
+pub AllStand_prop : (l : Log) (number : ℕ) (rs : List Reader) → IsProp (AllStand l number rs)
+AllStand_prop l number [] = hlevel props
+AllStand_prop l number (r ∷ rs) = hlevel (props, AllStand_prop l (suc number) rs)
 
-read_or_not_prop : (l : Log) (r : Reader) → IsProp ((r.read_to ≡ r.position) ⊎ HasRead l r)
-read_or_not_prop l r (inl a) (inl b) = let same : IsProp (r.read_to ≡ r.position) = hlevel props in ap inl (same a b)
-read_or_not_prop l r (inl a) (inr b) = absurd (apart l r a b)
-read_or_not_prop l r (inr a) (inl b) = absurd (apart l r b a)
-read_or_not_prop l r (inr a) (inr b) = ap inr (read_prop l r a b)
+WriterHolds_prop : (l : Log) (w : Writer) → IsProp (WriterHolds l w)
+WriterHolds_prop l (writers.Free publisher) = hlevel props
+WriterHolds_prop l (writers.Holding claim) = hlevel props
 
-pub IsAt_prop : (l : Log) (r : Reader) → IsProp (IsAt l r)
-IsAt_prop l r = hlevel (props, tiles_prop, whole_prop, read_or_not_prop l r)
+pub AreWriters_prop : (l : Log) (number : ℕ) (ws : List Writer) → IsProp (AreWriters l number ws)
+AreWriters_prop l number [] = hlevel props
+AreWriters_prop l number (w ∷ ws) = hlevel (props, WriterHolds_prop l w, AreWriters_prop l (suc number) ws)

@@ -1,20 +1,24 @@
 //! What each line of a script does, and what it prints.
 
-ghost use Rattle.std.specs.Prelude.{◌≡◌, ◌≤◌, ◌++◌, length, IfOk, OnOk, map, replicate};
-ghost use Rattle.theory.specs.Position.{max_payload};
-ghost use Rattle.log_buffer.specs.Reader.{IsAt, Reader};
-ghost use Rattle.publication.specs.Offers.{answer_of};
-ghost use Rattle.mdriver.specs.Answers.{MayOffer};
+ghost use Rattle.std.specs.Prelude.{◌≡◌, ◌≤◌, ◌++◌, length, IfOk, OnErr, OnOk, map, replicate};
+ghost use Rattle.theory.specs.Position.{max_message, max_payload};
+ghost use Rattle.log_buffer.specs.Reader.{Reader};
 ghost use Rattle.mdriver.specs.Prints.{OfReceiver, print_of, prints};
-ghost use Rattle.mdriver.specs.Staged.{IsAnswered, IsOffered, OfferedLine};
+ghost use Rattle.mdriver.specs.Stands.{Holds, Stands};
+ghost use Rattle.mdriver.specs.Reading.{ReadsLine, shown_frame};
+ghost use Rattle.mdriver.specs.Sending.{frame_in};
+ghost use Rattle.mdriver.specs.Staged.{IsAnswered, IsOffered};
 ghost use Rattle.script.specs.Meaning as orders;
 
 use crate::line::Line;
 use crate::receiver::Outcome;
 use crate::sender::SenderEvent;
 use crate::stage::Stage;
-use log_buffer::{LogState, Publisher};
-use publication::offer;
+use crate::writer::{abort_by, claim_by, commit_by, offer_by};
+use block::Block;
+use log_buffer::{Claimed, LogReader, LogState};
+use log_reader::{advance, next};
+use position::{FrameHead, FrameKind};
 use rotation::{clean_and_limit, set_closed, set_connected};
 use script::{Command, Seat};
 use std::alloc::{AllocError, Global};
@@ -36,21 +40,50 @@ fn letters(alloc: Global, size: usize) -> Result<Vec<u8>, AllocError>
     vec![in alloc; b'a'; size]
 }
 
-/// Offers a message, and says what came of it.
-fn offer_line(log: &mut LogState, publisher: &mut Publisher, message: &[u8]) -> Line
-    requires { length message.now ≤ max_payload log.old.identity.geometry }
-    ensures line { OfferedLine log.old publisher.old.number message.now (answer_of log.old (length message.now)) (print_of result) log.new }
-    ensures may { MayOffer log.old publisher.old.number message.now }
-    ensures pass { publisher.new.number ≡ publisher.old.number }
-    ensures identity { log.new.identity ≡ log.old.identity }
-    ensures readers { (r : Reader) → IsAt log.old r → IsAt log.new r }
+/// A committed frame, a message's payload in the block's front. The error comes only where memory was refused.
+fn frame_line(alloc: Global, head: &FrameHead, block: &Block) -> Result<Line, AllocError>
+    requires long { 32 ≤ head.now.frame_length }
+    requires short { head.now.kind ≡ FrameKind.Data → head.now.frame_length ≤ length block.now }
+    ensures { IfOk result (λ line. print_of line ≡ shown_frame head.now.start (frame_in head.now.kind head.now.flags head.now.frame_length block.now)) }
 {
-    let _ = log.tail();
-    let _ = publisher.number();
-    match offer(log, publisher, message) {
-        Ok(position) => Line::Position(position),
-        Err(refusal) => Line::Refused(refusal),
+    match head.kind {
+        FrameKind::Pad => Ok(Line::FramePad {
+            start: head.start,
+            frame_length: head.frame_length,
+        }),
+        FrameKind::Data => Ok(Line::FrameData {
+            start: head.start,
+            flags: head.flags,
+            bytes: block.bytes()[..head.frame_length as usize - 32].to_vec(alloc)?,
+        }),
     }
+}
+
+/// Reads the frame at a reader's position, moves the reader past it, and says what it is. At an error memory was refused,
+/// and the reader stays.
+fn read_line(
+    alloc: Global,
+    log: &mut LogState,
+    reader: &mut LogReader,
+    block: &mut Block,
+) -> Result<Line, AllocError>
+    requires room { log.old.identity.geometry.mtu ≤ length block.old }
+    requires stands { Stands log.old reader.old }
+    ensures same_length { length block.new ≡ length block.old }
+    ensures reads { IfOk result (λ line. ReadsLine log.old reader.old (print_of line) log.new reader.new) }
+    ensures stays { OnErr result ((log.new ≡ log.old) × (reader.new.position ≡ reader.old.position)) }
+    ensures number { reader.new.number ≡ reader.old.number }
+    ensures identity { log.new.identity ≡ log.old.identity }
+    ensures stands { Stands log.new reader.new }
+    ensures others { (r : Reader) → Stands log.old r → (r.number ≡ reader.old.number → ⊥) → Stands log.new r }
+    ensures claims { (c : Claimed) → Holds log.old c → Holds log.new c }
+{
+    let Some(head) = next(log, reader, block) else {
+        return Ok(Line::NoMessage);
+    };
+    let line = frame_line(alloc, &head, block)?;
+    let _ = advance(log, reader);
+    Ok(line)
 }
 
 impl Stage {
@@ -65,6 +98,10 @@ impl Stage {
             Command::Limit => self.limit(lines),
             Command::Offer { publisher, message } => self.offer(*publisher, message, lines),
             Command::OfferSize { publisher, size } => self.offer_size(*publisher, *size, lines),
+            Command::Claim { publisher, size } => self.claim(*publisher, *size, lines),
+            Command::Commit { publisher } => self.commit(*publisher, lines),
+            Command::Abort { publisher } => self.abort(*publisher, lines),
+            Command::Read { reader } => self.read(*reader, lines),
             Command::Send { now } => self.send(*now, lines),
             Command::Deliver {
                 packet,
@@ -105,7 +142,6 @@ impl Stage {
     fn limit(&mut self, lines: &mut Vec<Line>) -> Result<(), AllocError>
         ensures { OnOk result (IsAnswered self.old orders.Limit lines.old.items lines.new.items self.new) }
     {
-        let _ = self.log.tail();
         let limit = clean_and_limit(&mut self.log, &mut self.keeper);
         lines.push(Line::Limit(limit))?;
         Ok(())
@@ -119,7 +155,7 @@ impl Stage {
     ) -> Result<(), AllocError>
         ensures { OnOk result (IsAnswered self.old (orders.Offer publisher.number message.now) lines.old.items lines.new.items self.new) }
     {
-        if message.len() > self.log.geometry().max_payload() as usize {
+        if message.len() > self.log.geometry().max_message() as usize {
             lines.push(Line::Bad)?;
             return Ok(());
         }
@@ -134,7 +170,7 @@ impl Stage {
     ) -> Result<(), AllocError>
         ensures { OnOk result (IsAnswered self.old (orders.OfferSize publisher.number size) lines.old.items lines.new.items self.new) }
     {
-        if size > u64::from(self.log.geometry().max_payload()) {
+        if size > u64::from(self.log.geometry().max_message()) {
             lines.push(Line::Bad)?;
             return Ok(());
         }
@@ -142,18 +178,78 @@ impl Stage {
         self.offer_short(publisher, &message, lines)
     }
 
-    /// Offers a message that a frame can hold, and adds its line.
+    /// Offers a message that the log can hold, and adds its line.
     fn offer_short(
         &mut self,
         publisher: Seat,
         message: &[u8],
         lines: &mut Vec<Line>,
     ) -> Result<(), AllocError>
-        requires { length message.now ≤ max_payload self.old.log.identity.geometry }
+        requires { length message.now ≤ max_message self.old.log.identity.geometry }
         ensures { OnOk result (IsOffered self.old publisher.number message.now lines.old.items lines.new.items self.new) }
     {
-        let pass = &mut self.publishers[publisher.number];
-        lines.push(offer_line(&mut self.log, pass, message))?;
+        let line = offer_by(&mut self.log, &mut self.writers, publisher.number, message);
+        lines.push(line)?;
+        Ok(())
+    }
+
+    fn claim(
+        &mut self,
+        publisher: Seat,
+        size: u64,
+        lines: &mut Vec<Line>,
+    ) -> Result<(), AllocError>
+        ensures { OnOk result (IsAnswered self.old (orders.Claim publisher.number size) lines.old.items lines.new.items self.new) }
+    {
+        if size > u64::from(self.log.geometry().max_payload()) {
+            lines.push(Line::Bad)?;
+            return Ok(());
+        }
+        self.claim_short(publisher, size as u32, lines)
+    }
+
+    /// Claims a range for a message that a frame can hold, and adds its line.
+    fn claim_short(
+        &mut self,
+        publisher: Seat,
+        size: u32,
+        lines: &mut Vec<Line>,
+    ) -> Result<(), AllocError>
+        requires { size ≤ max_payload self.old.log.identity.geometry }
+        ensures { OnOk result (IsAnswered self.old (orders.Claim publisher.number size) lines.old.items lines.new.items self.new) }
+    {
+        let line = claim_by(&mut self.log, &mut self.writers, publisher.number, size);
+        lines.push(line)?;
+        Ok(())
+    }
+
+    fn commit(&mut self, publisher: Seat, lines: &mut Vec<Line>) -> Result<(), AllocError>
+        ensures { OnOk result (IsAnswered self.old (orders.Commit publisher.number) lines.old.items lines.new.items self.new) }
+    {
+        let line = commit_by(&mut self.log, &mut self.writers, publisher.number);
+        lines.push(line)?;
+        Ok(())
+    }
+
+    fn abort(&mut self, publisher: Seat, lines: &mut Vec<Line>) -> Result<(), AllocError>
+        ensures { OnOk result (IsAnswered self.old (orders.Abort publisher.number) lines.old.items lines.new.items self.new) }
+    {
+        let line = abort_by(&mut self.log, &mut self.writers, publisher.number);
+        lines.push(line)?;
+        Ok(())
+    }
+
+    fn read(&mut self, reader: Seat, lines: &mut Vec<Line>) -> Result<(), AllocError>
+        ensures { OnOk result (IsAnswered self.old (orders.Read reader.number) lines.old.items lines.new.items self.new) }
+    {
+        if reader.number == 0 || reader.number > self.readers.len() {
+            lines.push(Line::Bad)?;
+            return Ok(());
+        }
+        let alloc = *lines.allocator();
+        let pass = &mut self.readers[reader.number - 1];
+        let line = read_line(alloc, &mut self.log, pass, &mut self.block)?;
+        lines.push(line)?;
         Ok(())
     }
 

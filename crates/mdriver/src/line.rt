@@ -20,8 +20,14 @@ pub enum Line {
     BadLog(LogError),
     Done,
     Limit(u64),
-    /// An offer was accepted: the position behind it.
+    /// An offer was accepted, or a claim ended: the position behind it.
     Position(u64),
+    /// A range was claimed.
+    Claimed { start: u64, end: u64 },
+    /// A reader passed a message's frame.
+    FrameData { start: u64, flags: u8, bytes: Vec<u8> },
+    /// A reader passed a padding.
+    FramePad { start: u64, frame_length: u32 },
     Refused(Refusal),
     Packet { number: u64, bytes: Vec<u8> },
     /// No packet went out.
@@ -87,6 +93,16 @@ impl fmt::Display for Line {
             Line::Done => f.write_str("ok"),
             Line::Limit(limit) => write!(f, "limit {limit}"),
             Line::Position(position) => write!(f, "position {position}"),
+            Line::Claimed { start, end } => write!(f, "claimed {start} {end}"),
+            Line::FrameData {
+                start,
+                flags,
+                bytes,
+            } => show_frame(f, *start, *flags, bytes),
+            Line::FramePad {
+                start,
+                frame_length,
+            } => { write!(f, "pad {start} {frame_length}") }
             Line::Refused(refusal) => show_refusal(f, *refusal),
             Line::Packet { number, bytes } => show_packet(f, *number, bytes),
             Line::Nothing => f.write_str("nothing"),
@@ -109,6 +125,18 @@ impl fmt::Display for Line {
 fn show_refusal<W: fmt::Write>(f: &mut fmt::Formatter<W>, refusal: Refusal) -> fmt::Result {
     let code = refusal.code();
     write!(f, "refused {code}")
+}
+
+fn show_frame<W: fmt::Write>(
+    f: &mut fmt::Formatter<W>,
+    start: u64,
+    flags: u8,
+    bytes: &[u8],
+) -> fmt::Result {
+    let flags = [flags];
+    let flags = Hexadecimal(&flags);
+    let text = Hexadecimal(bytes);
+    write!(f, "data {start} {flags} {text}")
 }
 
 fn show_packet<W: fmt::Write>(f: &mut fmt::Formatter<W>, number: u64, bytes: &[u8]) -> fmt::Result {

@@ -23,6 +23,7 @@ mod sender;
 mod sim;
 mod stage;
 mod subscriber;
+mod writer;
 
 use commands::command;
 use fault::Fault;

@@ -9,6 +9,7 @@ ghost use Rattle.theory.specs.Wire.{IsFrame, IsHeader, spelling};
 ghost use Rattle.theory.specs.Bytes.{header_at, wire_at};
 ghost use Rattle.term_buffer.specs.Heads.{IsStreamFrame, head_of};
 ghost use Rattle.log_buffer.specs.Reader.{IsAt, Reader};
+ghost use Rattle.mdriver.specs.Stands.{Holds, Stands};
 ghost use Rattle.frames.specs.Frames.{header_of, wire};
 ghost use Rattle.mdriver.specs.Outgoing.{with_datagram};
 ghost use Rattle.mdriver.specs.Sending.{SendsNext, frame_in};
@@ -16,7 +17,8 @@ ghost use Rattle.mdriver.specs.Sending.{SendsNext, frame_in};
 use crate::outbox::Outbox;
 use block::Block;
 use frames::{Frame, Header};
-use log_buffer::{LogReader, LogState, advance, next};
+use log_buffer::{Claimed, LogReader, LogState};
+use log_reader::{advance, next};
 use position::{FrameHead, FrameKind, align32};
 
 /// Gives out the frame at the reader's position, if one is committed there and what goes out of it ends at or below the
@@ -29,17 +31,18 @@ pub fn send_next(
     outbox: &mut Outbox,
 )
     requires room { log.old.identity.geometry.mtu ≤ length block.old }
-    requires stands { IsAt log.old reader.old }
+    requires stands { Stands log.old reader.old }
     requires space { length outbox.old.datagrams < 32 }
     requires size { outbox.old.mtu ≡ log.old.identity.geometry.mtu }
     ensures sends { SendsNext log.old reader.old outbox.old limit log.new reader.new outbox.new }
-    ensures stands { IsAt log.new reader.new }
-    ensures others { (r : Reader) → IsAt log.old r → (r.number ≡ reader.old.number → ⊥) → IsAt log.new r }
+    ensures stands { Stands log.new reader.new }
+    ensures others { (r : Reader) → Stands log.old r → (r.number ≡ reader.old.number → ⊥) → Stands log.new r }
+    ensures claims { (c : Claimed) → Holds log.old c → Holds log.new c }
     ensures identity { log.new.identity ≡ log.old.identity }
+    ensures number { reader.new.number ≡ reader.old.number }
     ensures same_length { length block.new ≡ length block.old }
     ensures in_stream { reader.old.position ≤ max_position log.old.identity.geometry → reader.new.position ≤ max_position log.old.identity.geometry }
 {
-    let _ = log.tail();
     let Some(head) = next(log, reader, block) else {
         return;
     };
@@ -76,12 +79,13 @@ fn give_and_pass(
     requires read { reader.old.position + 32 ≤ reader.old.read_to }
     requires space { length outbox.old.datagrams < 32 }
     requires size { outbox.old.mtu ≡ log.old.identity.geometry.mtu }
-    ensures sent { outbox.new ≡ with_datagram outbox.old (spelling (wire_at log.old.identity head.now.start (frame_in head.now.kind head.now.frame_length block.now))) }
+    ensures sent { outbox.new ≡ with_datagram outbox.old (spelling (wire_at log.old.identity head.now.start (frame_in head.now.kind head.now.flags head.now.frame_length block.now))) }
     ensures log { log.new ≡ record log.old { consumers = slice_set log.old.consumers reader.old.number reader.old.read_to } }
     ensures identity { log.new.identity ≡ log.old.identity }
-    ensures moved { reader.new ≡ record reader.old { position = reader.old.read_to; index = reader.old.index + 1 } }
-    ensures stands { IsAt log.new reader.new }
-    ensures others { (r : Reader) → IsAt log.old r → (r.number ≡ reader.old.number → ⊥) → IsAt log.new r }
+    ensures moved { reader.new ≡ record reader.old { position = reader.old.read_to } }
+    ensures stands { Stands log.new reader.new }
+    ensures others { (r : Reader) → Stands log.old r → (r.number ≡ reader.old.number → ⊥) → Stands log.new r }
+    ensures claims { (c : Claimed) → Holds log.old c → Holds log.new c }
 {
     give_out(log, head, block, outbox);
     let _ = advance(log, reader);
@@ -93,7 +97,7 @@ fn give_out(log: &LogState, head: &FrameHead, block: &Block, outbox: &mut Outbox
     requires head { IsStreamFrame log.now.identity.geometry head.now }
     requires space { length outbox.old.datagrams < 32 }
     requires size { outbox.old.mtu ≡ log.now.identity.geometry.mtu }
-    ensures { outbox.new ≡ with_datagram outbox.old (spelling (wire_at log.now.identity head.now.start (frame_in head.now.kind head.now.frame_length block.now))) }
+    ensures { outbox.new ≡ with_datagram outbox.old (spelling (wire_at log.now.identity head.now.start (frame_in head.now.kind head.now.flags head.now.frame_length block.now))) }
 {
     match head.kind {
         FrameKind::Pad => outbox.push(&padding(log, head)),
@@ -141,7 +145,7 @@ fn data_frame<'a>(log: &LogState, head: &FrameHead, payload: &'a [u8]) -> Frame<
     requires payload { head.now.frame_length ≡ 32 + length payload.now }
     requires short { head.now.frame_length ≤ log.now.identity.geometry.mtu }
     requires bytes { AllByRecursion (λ b. b < 256) payload.now }
-    ensures frame { wire result ≡ wire_at log.now.identity head.now.start (Data 192 payload.now) }
+    ensures frame { wire result ≡ wire_at log.now.identity head.now.start (Data head.now.flags payload.now) }
     ensures legal { IsFrame (wire result) }
     ensures short { length (spelling (wire result)) ≤ log.now.identity.geometry.mtu }
 {

@@ -1,15 +1,15 @@
 //! A script, played from its first line to the book.
 
-ghost use Rattle.std.specs.Prelude.{◌≡◌, ◌<◌, vec_len, IfOk, OnOk, OnErr, All};
+ghost use Rattle.std.specs.Prelude.{◌≡◌, ◌<◌, ◌≤◌, ◌-◌, [], length, vec_len, vec_capacity, IfOk, OnOk, OnErr, All};
 ghost use Rattle.theory.specs.Position.{max_position};
 ghost use Rattle.log_buffer.specs.Log.{fresh};
-ghost use Rattle.log_buffer.specs.Passes.{AreAll};
+ghost use Rattle.log_buffer.specs.Passes.{AreAll, HaveBlocks};
 ghost use Rattle.log_buffer.specs.Reader.{AreReaders, IsAt};
 ghost use Rattle.mdriver.specs.Scene.{listening_at, opened_scene};
 ghost use Rattle.mdriver.specs.Subscribing.{ShowsSubscriber};
 ghost use Rattle.mdriver.specs.Plays.{AlwaysPolled, Plays};
 ghost use Rattle.mdriver.specs.Prints.{prints};
-ghost use Rattle.mdriver.specs.Staged.{AreListening, Continues, ContinuesOpen, RunsTo, ShowsScene};
+ghost use Rattle.mdriver.specs.Staged.{AreFree, AreListening, Continues, ContinuesOpen, RunsTo, ShowsScene};
 ghost use Rattle.script.specs.Meaning as meaning;
 
 use crate::line::Line;
@@ -21,7 +21,9 @@ use crate::stage::{RECEIVERS, Stage, close_with};
 use crate::subscriber::Subscriber;
 use flow_control::UnicastFlow;
 use frames::one_reading;
-use log_buffer::{LogError, LogState, Parts};
+use crate::writer::Writer;
+use block::Block;
+use log_buffer::{LogError, LogState, PUBLISHERS, Parts, Publisher, close};
 use position::Geometry;
 use script::{Command, LogLine, Script};
 use std::alloc::{AllocError, Global};
@@ -42,11 +44,13 @@ pub fn play(alloc: Global, script: &Script) -> Result<Vec<Line>, AllocError>
         }
     };
     let outbox = Outbox::new(alloc, geometry.mtu())?;
+    let block = Block::new(alloc, geometry.mtu() as usize)?;
     let subscribers = subscribers(alloc, log, &geometry)?;
-    match LogState::open(alloc, geometry, log.session, log.stream, log.start, 1) {
+    let consumers = log.readers as usize + 1;
+    match LogState::open(alloc, geometry, log.session, log.stream, log.start, consumers) {
         Ok((state, parts)) => {
             polls_a_prefix();
-            let stage = stage(alloc, state, parts, outbox, subscribers)?;
+            let stage = stage(alloc, state, parts, outbox, subscribers, block)?;
             run(stage, &script.commands, lines)
         }
         Err(LogError::Start) => {
@@ -87,6 +91,20 @@ fn subscribers(
     Ok(subscribers)
 }
 
+/// The publishers of a log that was just opened, none with a claim. They leave room for as many.
+fn free(publishers: &mut Vec<Publisher>, writers: &mut Vec<Writer>)
+    requires all { AreAll publishers.old.items }
+    requires empty { writers.old.items ≡ [] }
+    requires room { 8 ≤ vec_capacity writers.old }
+    ensures none { publishers.new.items ≡ [] }
+    ensures room { 8 ≤ vec_capacity publishers.new }
+    ensures free { AreFree publishers.old.items writers.new.items }
+{
+    while !publishers.is_empty() {
+        writers.push(Writer::Free(publishers.remove(0))).unwrap();
+    }
+}
+
 /// The stage of a log that was just opened.
 fn stage(
     alloc: Global,
@@ -94,40 +112,51 @@ fn stage(
     parts: Parts,
     outbox: Outbox,
     subscribers: Vec<Subscriber>,
+    block: Block,
 ) -> Result<Stage, AllocError>
     requires publishers { AreAll parts.publishers.items }
-    requires readers { AreReaders parts.readers.items log.start 1 }
-    requires stand { All (IsAt log) parts.readers.items }
-    requires opened { log ≡ fresh log.identity log.start 1 }
+    requires blocks { HaveBlocks log.identity.geometry.mtu parts.publishers.items }
+    requires readers { AreReaders parts.readers.items log.start (vec_len parts.readers) }
+    requires some { 0 < vec_len parts.readers }
+    requires opened { log ≡ fresh log.identity log.start (vec_len parts.readers) }
     requires start { log.start < max_position log.identity.geometry }
     requires size { outbox.mtu ≡ log.identity.geometry.mtu }
+    requires block { log.identity.geometry.mtu ≤ length block }
     requires eight { vec_len subscribers ≡ 8 }
     requires listening { AreListening log.identity subscribers.items }
-    ensures { IfOk result (λ s. ShowsScene s (opened_scene log.identity log.start)) }
+    ensures { IfOk result (λ s. ShowsScene s (opened_scene log.identity log.start (vec_len parts.readers - 1))) }
 {
     let Parts {
-        publishers,
+        mut publishers,
         mut readers,
         keeper,
     } = parts;
-    let Some(reader) = readers.pop() else {
-        unreachable!()
+    let Ok(mut writers) = Vec::with_capacity(alloc, PUBLISHERS) else {
+        let _ = close(log, publishers, readers, keeper);
+        return Err(AllocError);
     };
+    let reader = readers.remove(0);
     let geometry = log.geometry();
     let flow = UnicastFlow::new(log.start());
     match SenderCore::new(alloc, geometry, log.session(), log.stream(), reader, flow) {
-        Ok(sender) => Ok(Stage {
-            log,
-            publishers,
-            readers,
-            keeper,
-            sender,
-            outbox,
-            subscribers,
-            packets: Packets::new(alloc),
-        }),
+        Ok(sender) => {
+            free(&mut publishers, &mut writers);
+            Ok(Stage {
+                log,
+                writers,
+                readers,
+                keeper,
+                publishers,
+                block,
+                sender,
+                outbox,
+                subscribers,
+                packets: Packets::new(alloc),
+            })
+        }
         Err(denied) => {
             let Denied { reader, flow: _ } = denied;
+            writers.destroy_empty();
             let _ = close_with(log, publishers, readers, reader, keeper);
             Err(AllocError)
         }
@@ -166,8 +195,8 @@ fn run(
     commands: &[Command],
     mut lines: Vec<Line>,
 ) -> Result<Vec<Line>, AllocError>
-    requires { ShowsScene stage (opened_scene stage.log.identity stage.log.start) }
-    ensures { IfOk result (λ after. RunsTo stage.log.identity stage.log.start (meaning.orders commands.now) (prints lines.items) (prints after.items)) }
+    requires { ShowsScene stage (opened_scene stage.log.identity stage.log.start (vec_len stage.readers)) }
+    ensures { IfOk result (λ after. RunsTo stage.log.identity stage.log.start (vec_len stage.readers) (meaning.orders commands.now) (prints lines.items) (prints after.items)) }
 {
     let played = play_open(&mut stage, commands, &mut lines);
     let book = stage.end();

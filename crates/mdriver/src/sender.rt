@@ -2,7 +2,8 @@
 
 ghost use Rattle.std.specs.Prelude.{◌≡◌, ◌≤◌, ◌<◌, ◌+◌, [], true, length, pos, IfOk, IfErr};
 ghost use Rattle.theory.specs.Position.{max_position, position_of};
-ghost use Rattle.log_buffer.specs.Reader.{IsAt, Reader};
+ghost use Rattle.log_buffer.specs.Reader.{Reader};
+ghost use Rattle.mdriver.specs.Stands.{Holds, Stands};
 ghost use Rattle.setup.specs.Naming.{after_due, is_due};
 ghost use Rattle.mdriver.specs.Cycling.{setups};
 
@@ -13,7 +14,7 @@ use crate::outbox::Outbox;
 use block::Block;
 use flow_control::FlowControl;
 use frames::{FrameError, Status};
-use log_buffer::{LogReader, LogState};
+use log_buffer::{Claimed, LogReader, LogState};
 use position::Geometry;
 use setup::SenderSetup;
 use std::alloc::Global;
@@ -125,12 +126,14 @@ impl<F: FlowControl + Drop> SenderCore<F> {
         outbox: &mut Outbox,
     ) -> SenderAnswer
         requires same { log.old.identity ≡ self.old.identity }
-        requires stands { IsAt log.old self.old.reader }
+        requires stands { Stands log.old self.old.reader }
         requires size { outbox.old.mtu ≡ log.old.identity.geometry.mtu }
         ensures step { Steps F.after_status F.after_tick F.reached (at_moment self.old now) event.entry log.old log.new result self.new outbox.new.datagrams }
-        ensures stands { IsAt log.new self.new.reader }
-        ensures others { (r : Reader) → IsAt log.old r → (r.number ≡ self.old.reader.number → ⊥) → IsAt log.new r }
+        ensures stands { Stands log.new self.new.reader }
+        ensures others { (r : Reader) → Stands log.old r → (r.number ≡ self.old.reader.number → ⊥) → Stands log.new r }
+        ensures claims { (c : Claimed) → Holds log.old c → Holds log.new c }
         ensures log { log.new.identity ≡ log.old.identity }
+        ensures number { self.new.reader.number ≡ self.old.reader.number }
         ensures identity { self.new.identity ≡ self.old.identity }
         ensures size { outbox.new.mtu ≡ outbox.old.mtu }
     {
@@ -155,13 +158,15 @@ impl<F: FlowControl + Drop> SenderCore<F> {
     /// A SETUP if it is due, and the next frame if there is one below the flow limit.
     fn cycle(&mut self, log: &mut LogState, outbox: &mut Outbox)
         requires same { log.old.identity ≡ self.old.identity }
-        requires stands { IsAt log.old self.old.reader }
+        requires stands { Stands log.old self.old.reader }
         requires empty { outbox.old.datagrams ≡ [] }
         requires size { outbox.old.mtu ≡ log.old.identity.geometry.mtu }
         ensures cycle { Cycles F.after_tick F.reached self.old log.old log.new self.new outbox.new.datagrams }
-        ensures stands { IsAt log.new self.new.reader }
-        ensures others { (r : Reader) → IsAt log.old r → (r.number ≡ self.old.reader.number → ⊥) → IsAt log.new r }
+        ensures stands { Stands log.new self.new.reader }
+        ensures others { (r : Reader) → Stands log.old r → (r.number ≡ self.old.reader.number → ⊥) → Stands log.new r }
+        ensures claims { (c : Claimed) → Holds log.old c → Holds log.new c }
         ensures log { log.new.identity ≡ log.old.identity }
+        ensures number { self.new.reader.number ≡ self.old.reader.number }
         ensures size { outbox.new.mtu ≡ outbox.old.mtu }
     {
         self.tick();
@@ -192,14 +197,16 @@ impl<F: FlowControl + Drop> SenderCore<F> {
     /// Gives out the frame at its position, if it may go.
     fn send(&mut self, log: &mut LogState, outbox: &mut Outbox)
         requires same { log.old.identity ≡ self.old.identity }
-        requires stands { IsAt log.old self.old.reader }
+        requires stands { Stands log.old self.old.reader }
         requires space { length outbox.old.datagrams < 32 }
         requires size { outbox.old.mtu ≡ log.old.identity.geometry.mtu }
         ensures sends { SendsNext log.old self.old.reader outbox.old (F.reached self.old.flow) log.new self.new.reader outbox.new }
         ensures state { self.new ≡ record self.old { reader = self.new.reader } }
-        ensures stands { IsAt log.new self.new.reader }
-        ensures others { (r : Reader) → IsAt log.old r → (r.number ≡ self.old.reader.number → ⊥) → IsAt log.new r }
+        ensures stands { Stands log.new self.new.reader }
+        ensures others { (r : Reader) → Stands log.old r → (r.number ≡ self.old.reader.number → ⊥) → Stands log.new r }
+        ensures claims { (c : Claimed) → Holds log.old c → Holds log.new c }
         ensures log { log.new.identity ≡ log.old.identity }
+        ensures number { self.new.reader.number ≡ self.old.reader.number }
     {
         let limit = self.flow.limit() as u64;
         send_next(log, &mut self.reader, &mut self.block, limit, outbox);

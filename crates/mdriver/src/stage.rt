@@ -1,15 +1,16 @@
 //! One log with its sender, eight subscribers, and every packet that they gave out.
 
-ghost use Rattle.std.specs.Prelude.{◌≡◌, ◌<◌, vec_len, vec_capacity};
+ghost use Rattle.std.specs.Prelude.{◌≡◌, ◌<◌, ◌≤◌, [], length, vec_len, vec_capacity};
 ghost use Rattle.log_buffer.specs.Books.{ShowsBook};
 ghost use Rattle.log_buffer.specs.Passes.{AreAll};
-ghost use Rattle.log_buffer.specs.Reader.{IsAt};
-ghost use Rattle.mdriver.specs.Stands.{IsAt_prop};
+ghost use Rattle.mdriver.specs.Stands.{AllStand, AllStand_prop, AreWriters, AreWriters_prop, Stands};
 
 use crate::outbox::Outbox;
 use crate::packets::Packets;
 use crate::sender::SenderCore;
 use crate::subscriber::Subscriber;
+use crate::writer::{Writer, end_claims};
+use block::Block;
 use flow_control::UnicastFlow;
 use log_buffer::{Book, Keeper, LogReader, LogState, Publisher, close};
 
@@ -19,23 +20,34 @@ pub const RECEIVERS: usize = 8;
 /// What a script plays on.
 pub struct Stage {
     pub log: LogState,
-    pub publishers: Vec<Publisher>,
-    /// Those beside the sender's.
+    /// By the publishers' numbers.
+    pub writers: Vec<Writer>,
+    /// Those beside the sender's, from number 1 on.
     pub readers: Vec<LogReader>,
     pub keeper: Keeper,
+    /// Where the publishers are put at the end.
+    pub publishers: Vec<Publisher>,
+    /// A reader's frame.
+    pub block: Block,
     pub sender: SenderCore<UnicastFlow>,
     pub outbox: Outbox,
     pub subscribers: Vec<Subscriber>,
     pub packets: Packets,
-    pub ghost all: { AreAll publishers.items },
+    pub ghost all: { vec_len writers ≡ 8 },
+    pub ghost empty: { publishers.items ≡ [] },
+    pub ghost space: { 8 ≤ vec_capacity publishers },
+    pub ghost block_size: { log.identity.geometry.mtu ≤ length block },
+    pub ghost each: { AreWriters log 0 writers.items } by { AreWriters_prop log 0 writers.items },
     pub ghost room: { vec_len readers < vec_capacity readers },
     pub ghost same: { log.identity ≡ sender.identity },
-    pub ghost stands: { IsAt log sender.reader } by { IsAt_prop log sender.reader },
+    pub ghost first: { sender.reader.number ≡ 0 },
+    pub ghost stands: { Stands log sender.reader },
+    pub ghost reading: { AllStand log 1 readers.items } by { AllStand_prop log 1 readers.items },
     pub ghost size: { outbox.mtu ≡ log.identity.geometry.mtu },
     pub ghost eight: { vec_len subscribers ≡ 8 },
 }
 
-/// Ends a log, its last reader among the others.
+/// Ends a log, the sender's reader among the others.
 pub fn close_with(
     log: LogState,
     publishers: Vec<Publisher>,
@@ -52,20 +64,23 @@ pub fn close_with(
 }
 
 impl Stage {
-    /// Ends the log.
+    /// Ends the log. Claims that are open become paddings, which the book doesn't show.
     pub fn end(self) -> Book
         ensures { ShowsBook self.log result }
     {
         let Stage {
-            log,
-            publishers,
+            mut log,
+            writers,
             readers,
             keeper,
+            mut publishers,
+            block: _,
             sender,
             outbox: _,
             subscribers: _,
             packets: _,
         } = self;
+        end_claims(&mut log, writers, &mut publishers);
         close_with(log, publishers, readers, sender.into_reader(), keeper)
     }
 }

@@ -77,10 +77,100 @@ const PLAYED: &[(&str, &str)] = &[
         "log 65536 1408 7 32 1 1001 0\nlimit\noffer 0 hex 616263\ndisconnect\noffer 7 size 0\n",
         "open\nlimit 32\nrefused -1\nok\nrefused -1\nbook 32 32 0 0 0 0 0 0 0 0\n",
     ),
-    // messages that no frame can hold
+    // a claim that is aborted, and a reader that waits for it
     (
-        "log 65536 1408 7 0 1 1001 0\noffer 0 size 1377\noffer 0 size 18446744073709551615\nconnect\nlimit\noffer 0 size 1377\noffer 0 size 0\n",
-        "open\nbad\nbad\nok\nlimit 32768\nbad\nposition 32\nbook 0 32 32 0 0 0 0 0 0 0\n",
+        "log 65536 1408 7 0 1 1001 1\noffer 0 hex 616263\nconnect\nlimit\noffer 0 hex 616263\nclaim 1 100\noffer 2 size 0\nread 1\nread 1\nabort 1\nread 1\nread 1\nsend 0\ndeliver 0 0 0\ntick 0 0\nreply 1 0\nsend 0\ndeliver 2 0 0\ndeliver 2 0 0\nimage 0\npoll 0\npoll 0\nimage 0\ndeliver 2 0 0\noffer 1 size 8193\n",
+        "open\nrefused -1\nok\nlimit 32768\nposition 64\nclaimed 64 224\nposition 256\ndata 0 c0 616263\nnone\nposition 224\npad 64 132\ndata 224 c0 \npacket 0 28000000000005000000000001000000e90300000700000007000000000001008005000000000000\nopened 0\npacket 1 240000000000030001000000e90300000700000000000000008000000000000000000000\nstatus 32768\npacket 2 2300000000c001000000000001000000e90300000700000000000000000000006162630000000000000000000000000000000000000000000000000000000000\nI1\nI2\nimage least 0 rebuilt 64 high 64\nmessage 616263\nnone\nimage least 64 rebuilt 64 high 64\nI3\nbad\nbook 0 256 64 160 32 0 0 0 0 0\n",
+    ),
+    // the greatest message doesn't fit its term: a padding of many frames' room, which a reader passes
+    (
+        "log 65536 1408 7 57184 1 1001 1\nconnect\nlimit\noffer 0 size 8192\noffer 0 size 8192\nread 1\n",
+        "open\nok\nlimit 89952\nrefused -3\nposition 73920\npad 57184 8352\nbook 57184 73920 16736 0 0 0 0 0 0 0\n",
+    ),
+    // the greatest message just fits the term, and the next offer finds it used up
+    (
+        "log 65536 1408 7 57152 1 1001 0\nconnect\nlimit\noffer 0 size 8192\noffer 0 hex 616263\noffer 0 hex 616263\n",
+        "open\nok\nlimit 89920\nposition 65536\nrefused -3\nposition 65600\nbook 57152 65600 8448 0 0 0 0 0 0 0\n",
+    ),
+    // messages about one frame, about two, and about the greatest; claims about one frame
+    (
+        "log 65536 1408 7 0 1 1001 0\nconnect\nlimit\noffer 0 size 1376\noffer 0 size 1377\noffer 0 size 2752\noffer 0 size 2753\noffer 0 size 8192\noffer 0 size 8193\nclaim 0 1377\nclaim 0 1376\nabort 0\noffer 0 size 18446744073709551615\nclaim 0 18446744073709551615\n",
+        "open\nok\nlimit 32768\nposition 1408\nposition 2880\nposition 5696\nposition 8576\nposition 16960\nbad\nbad\nclaimed 16960 18368\nposition 18368\nbad\nbad\nbook 0 18368 18368 0 0 0 0 0 0 0\n",
+    ),
+    // a reader waits at an open claim, though what is behind it is committed
+    (
+        "log 65536 1408 7 0 1 1001 1\nconnect\nlimit\nclaim 0 100\noffer 1 hex 616263\nread 1\nabort 0\nread 1\nread 1\nread 1\n",
+        "open\nok\nlimit 32768\nclaimed 0 160\nposition 224\nnone\nposition 160\npad 0 132\ndata 160 c0 616263\nnone\nbook 0 224 160 64 0 0 0 0 0 0\n",
+    ),
+    // readers that aren't there
+    (
+        "log 65536 1408 7 0 1 1001 0\nread 1\nread 7\n",
+        "open\nbad\nbad\nbook 0 0 0 0 0 0 0 0 0 0\n",
+    ),
+    // two readers, each at its own place, and one that isn't there
+    (
+        "log 65536 1408 7 0 1 1001 2\nconnect\nlimit\noffer 0 hex 61\noffer 0 hex 62\nread 1\nread 1\nread 2\nread 3\nread 1\nread 2\nread 2\n",
+        "open\nok\nlimit 32768\nposition 64\nposition 128\ndata 0 c0 61\ndata 64 c0 62\ndata 0 c0 61\nbad\nnone\ndata 64 c0 62\nnone\nbook 0 128 128 0 0 0 0 0 0 0\n",
+    ),
+    // seven readers
+    (
+        "log 65536 1408 7 0 1 1001 7\nconnect\nlimit\noffer 0 hex 61\nread 7\nread 1\nread 7\n",
+        "open\nok\nlimit 32768\nposition 64\ndata 0 c0 61\ndata 0 c0 61\nnone\nbook 0 64 64 0 0 0 0 0 0 0\n",
+    ),
+    // the limit goes by the slowest of the sender and the readers
+    (
+        "log 65536 1408 7 0 1 1001 2\nconnect\nlimit\noffer 0 hex 61\nsend 0\ndeliver 0 0 0\ntick 0 0\nreply 1 0\nsend 0\nlimit\nread 2\nlimit\nread 1\nlimit\n",
+        "open\nok\nlimit 32768\nposition 64\npacket 0 28000000000005000000000001000000e90300000700000007000000000001008005000000000000\nopened 0\npacket 1 240000000000030001000000e90300000700000000000000008000000000000000000000\nstatus 32768\npacket 2 2100000000c001000000000001000000e90300000700000000000000000000006100000000000000000000000000000000000000000000000000000000000000\nlimit 32768\ndata 0 c0 61\nlimit 32768\ndata 0 c0 61\nlimit 32832\nbook 0 64 64 0 0 0 0 0 0 0\n",
+    ),
+    // no claim is open, or no longer
+    (
+        "log 65536 1408 7 0 1 1001 0\ncommit 0\nabort 7\nconnect\nlimit\nclaim 0 3\ncommit 1\nabort 1\ncommit 0\ncommit 0\nabort 0\nclaim 0 0\nabort 0\nabort 0\n",
+        "open\nbad\nbad\nok\nlimit 32768\nclaimed 0 64\nbad\nbad\nposition 64\nbad\nbad\nclaimed 64 96\nposition 96\nbad\nbook 0 96 96 0 0 0 0 0 0 0\n",
+    ),
+    // a publisher whose claim is open neither offers nor claims; another one does
+    (
+        "log 65536 1408 7 0 1 1001 0\nconnect\nlimit\nclaim 3 10\noffer 3 hex 61\noffer 3 size 1\nclaim 3 10\noffer 4 hex 61\nclaim 4 10\ncommit 4\ncommit 3\noffer 3 hex 61\n",
+        "open\nok\nlimit 32768\nclaimed 0 64\nbad\nbad\nbad\nposition 128\nclaimed 128 192\nposition 192\nposition 64\nposition 256\nbook 0 256 0 0 0 128 128 0 0 0\n",
+    ),
+    // a claim that is committed holds bytes 61, one of no bytes holds none
+    (
+        "log 65536 1408 7 0 1 1001 1\nconnect\nlimit\nclaim 5 3\nclaim 6 0\ncommit 6\nread 1\ncommit 5\nread 1\nread 1\n",
+        "open\nok\nlimit 32768\nclaimed 0 64\nclaimed 64 96\nposition 96\nnone\nposition 64\ndata 0 c0 616161\ndata 64 c0 \nbook 0 96 0 0 0 0 0 64 32 0\n",
+    ),
+    // claims that are refused: nobody is connected, no limit yet, and a closed log, which still takes the commit of an open one
+    (
+        "log 65536 1408 7 0 1 1001 0\nclaim 0 100\nconnect\nclaim 0 100\nlimit\nclaim 0 100\nclose\nclaim 1 100\ncommit 0\noffer 0 hex 61\n",
+        "open\nrefused -1\nok\nrefused -2\nlimit 32768\nclaimed 0 160\nok\nrefused -4\nposition 160\nrefused -4\nbook 0 160 160 0 0 0 0 0 0 0\n",
+    ),
+    // a claim that doesn't fit its term leaves a padding
+    (
+        "log 65536 1408 7 65472 1 1001 1\nconnect\nlimit\nclaim 2 33\ncommit 2\nread 1\nclaim 2 33\nread 1\ncommit 2\nread 1\n",
+        "open\nok\nlimit 98240\nrefused -3\nbad\npad 65472 64\nclaimed 65536 65632\nnone\nposition 65632\ndata 65536 c0 616161616161616161616161616161616161616161616161616161616161616161\nbook 65472 65632 0 0 160 0 0 0 0 0\n",
+    ),
+    // a claim in the last term
+    (
+        "log 65536 1408 7 140737488355264 1 1001 0\nconnect\nlimit\nclaim 0 33\nclaim 0 32\n",
+        "open\nok\nlimit 140737488388032\nrefused -5\nrefused -5\nbook 140737488355264 140737488355328 64 0 0 0 0 0 0 0\n",
+    ),
+    // claims that are open at the end are in the book
+    (
+        "log 65536 1408 7 0 1 1001 1\nconnect\nlimit\nclaim 0 100\noffer 1 hex 616263\nclaim 7 1376\nread 1\n",
+        "open\nok\nlimit 32768\nclaimed 0 160\nposition 224\nclaimed 224 1632\nnone\nbook 0 1632 160 64 0 0 0 0 0 1408\n",
+    ),
+    // the sender waits at an open claim; a claim goes out as it was committed, an aborted one as a padding's header
+    (
+        "log 65536 1408 7 0 1 1001 0\nconnect\nlimit\nsend 0\ndeliver 0 0 0\ntick 0 0\nreply 1 0\nclaim 0 3\noffer 1 hex 62\nclaim 2 100\noffer 1 hex 63\nsend 0\ncommit 0\nsend 0\nsend 0\nsend 0\nabort 2\nsend 0\nsend 0\ndeliver 2 0 0\ndeliver 3 0 0\ndeliver 5 0 0\npoll 0\npoll 0\npoll 0\nimage 0\ndeliver 4 0 0\npoll 0\npoll 0\nimage 0\n",
+        "open\nok\nlimit 32768\npacket 0 28000000000005000000000001000000e90300000700000007000000000001008005000000000000\nopened 0\npacket 1 240000000000030001000000e90300000700000000000000008000000000000000000000\nstatus 32768\nclaimed 0 64\nposition 128\nclaimed 128 288\nposition 352\nnothing\nposition 64\npacket 2 2300000000c001000000000001000000e90300000700000000000000000000006161610000000000000000000000000000000000000000000000000000000000\npacket 3 2100000000c001004000000001000000e90300000700000000000000000000006200000000000000000000000000000000000000000000000000000000000000\nnothing\nposition 288\npacket 4 8400000000c000008000000001000000e9030000070000000000000000000000\npacket 5 2100000000c001002001000001000000e90300000700000000000000000000006300000000000000000000000000000000000000000000000000000000000000\nI1\nI1\nI1\nmessage 616161\nmessage 62\nnone\nimage least 128 rebuilt 128 high 352\nI1\nmessage 63\nnone\nimage least 352 rebuilt 352 high 352\nbook 0 352 64 128 160 0 0 0 0 0\n",
+    ),
+    // a message of three frames: one packet each, one message at the poll, whatever order they come in
+    (
+        "log 65536 256 7 0 1 1001 0\nconnect\nlimit\nsend 0\ndeliver 0 0 0\ntick 0 0\nreply 1 0\noffer 0 size 500\noffer 1 hex 62\nsend 0\nsend 0\nsend 0\nsend 0\nsend 0\ndeliver 4 0 0\ndeliver 2 0 0\npoll 0\nimage 0\ndeliver 3 0 0\ndeliver 3 0 0\npoll 0\npoll 0\ndeliver 5 0 0\npoll 0\nimage 0\n",
+        "open\nok\nlimit 32768\npacket 0 28000000000005000000000001000000e90300000700000007000000000001000001000000000000\nopened 0\npacket 1 240000000000030001000000e90300000700000000000000008000000000000000000000\nstatus 32768\nposition 608\nposition 672\npacket 2 00010000008001000000000001000000e90300000700000000000000000000006161616161616161616161616161616161616161616161616161616161616161616161616161616161616161616161616161616161616161616161616161616161616161616161616161616161616161616161616161616161616161616161616161616161616161616161616161616161616161616161616161616161616161616161616161616161616161616161616161616161616161616161616161616161616161616161616161616161616161616161616161616161616161616161616161616161616161616161616161616161616161616161616161616161616161\npacket 3 00010000000001000001000001000000e90300000700000000000000000000006161616161616161616161616161616161616161616161616161616161616161616161616161616161616161616161616161616161616161616161616161616161616161616161616161616161616161616161616161616161616161616161616161616161616161616161616161616161616161616161616161616161616161616161616161616161616161616161616161616161616161616161616161616161616161616161616161616161616161616161616161616161616161616161616161616161616161616161616161616161616161616161616161616161616161\npacket 4 54000000004001000002000001000000e903000007000000000000000000000061616161616161616161616161616161616161616161616161616161616161616161616161616161616161616161616161616161000000000000000000000000\npacket 5 2100000000c001006002000001000000e90300000700000000000000000000006200000000000000000000000000000000000000000000000000000000000000\nnothing\nI1\nI1\nnone\nimage least 256 rebuilt 256 high 608\nI1\nI2\nmessage 6161616161616161616161616161616161616161616161616161616161616161616161616161616161616161616161616161616161616161616161616161616161616161616161616161616161616161616161616161616161616161616161616161616161616161616161616161616161616161616161616161616161616161616161616161616161616161616161616161616161616161616161616161616161616161616161616161616161616161616161616161616161616161616161616161616161616161616161616161616161616161616161616161616161616161616161616161616161616161616161616161616161616161616161616161616161616161616161616161616161616161616161616161616161616161616161616161616161616161616161616161616161616161616161616161616161616161616161616161616161616161616161616161616161616161616161616161616161616161616161616161616161616161616161616161616161616161616161616161616161616161616161616161616161616161616161616161616161616161616161616161616161616161616161616161616161616161616161616161616161616161616161616161616161616161616161616161616161616161616161616161616161616161616161616161616161616161\nnone\nI1\nmessage 62\nimage least 672 rebuilt 672 high 672\nbook 0 672 608 64 0 0 0 0 0 0\n",
+    ),
+    // a receiver that joins in the middle of a message begins with the next one
+    (
+        "log 65536 256 7 0 1 1001 0\nconnect\nlimit\nsend 0\ndeliver 0 0 0\ntick 0 0\nreply 1 0\noffer 0 size 300\noffer 1 hex 62\nsend 0\ndeliver 2 1 0\ntick 1 0\nreply 3 0\ndeliver 4 1 0\nsend 0\nsend 0\ndeliver 5 1 0\ndeliver 6 1 0\npoll 1\npoll 1\nimage 1\n",
+        "open\nok\nlimit 32768\npacket 0 28000000000005000000000001000000e90300000700000007000000000001000001000000000000\nopened 0\npacket 1 240000000000030001000000e90300000700000000000000008000000000000000000000\nstatus 32768\nposition 384\nposition 448\npacket 2 00010000008001000000000001000000e90300000700000000000000000000006161616161616161616161616161616161616161616161616161616161616161616161616161616161616161616161616161616161616161616161616161616161616161616161616161616161616161616161616161616161616161616161616161616161616161616161616161616161616161616161616161616161616161616161616161616161616161616161616161616161616161616161616161616161616161616161616161616161616161616161616161616161616161616161616161616161616161616161616161616161616161616161616161616161616161\nasked\npacket 3 240000000080030001000000e90300000700000000000000000000000100000000000000\nasked\npacket 4 28000000000005000001000001000000e90300000700000007000000000001000001000000000000\nopened 256\npacket 5 6c000000004001000001000001000000e9030000070000000000000000000000616161616161616161616161616161616161616161616161616161616161616161616161616161616161616161616161616161616161616161616161616161616161616161616161616161610000000000000000000000000000000000000000\npacket 6 2100000000c001008001000001000000e90300000700000000000000000000006200000000000000000000000000000000000000000000000000000000000000\nI1\nI1\nmessage 62\nnone\nimage least 448 rebuilt 448 high 448\nbook 0 448 384 64 0 0 0 0 0 0\n",
     ),
     // starts that no stream has
     ("log 65536 1408 7 1 1 1001 0\n", "L1\n"),
@@ -122,7 +212,15 @@ const REFUSED: &[(&str, &str)] = &[
         "log 65536 1408 7 0 1 1001 0\noffer 0 hex 616\n",
         "error: line 2: script\n",
     ),
-    ("log 65536 1408 7 0 1 1001 1\n", "error: line 1: script\n"),
+    ("log 65536 1408 7 0 1 1001 8\n", "error: line 1: script\n"),
+    (
+        "log 65536 1408 7 0 1 1001 1\nread 0\n",
+        "error: line 2: script\n",
+    ),
+    (
+        "log 65536 1408 7 0 1 1001 1\nclaim 8 1\n",
+        "error: line 2: script\n",
+    ),
     (
         "log 65536 1408 7 0 1 1001 0\nsend 18446744073709551616\n",
         "error: line 2: script\n",
@@ -200,6 +298,34 @@ fn four_terms(rt: HostRuntime) -> Result<(), Fail> {
     let done = run_over(rt.alloc(), SIM, &script);
     let last = b"\nstatus 311808\nbook 0 279040 279040 0 0 0 0 0 0 0\n".as_slice();
     assert!(rt; done.output.ends_with(last));
+    Ok(())
+}
+
+/// Adds so many bytes 61 in hexadecimal, and a line feed.
+fn push_letters(lines: &mut String, count: usize) -> Result<(), Fail> {
+    for _letter in 0..count {
+        lines.push_str("61")?;
+    }
+    lines.push('\n')?;
+    Ok(())
+}
+
+/// A message of 3000 bytes lies in the log as three frames, which a reader passes one by one.
+#[test]
+fn frames_of_a_message(rt: HostRuntime) -> Result<(), Fail> {
+    let script =
+        "log 65536 1408 7 0 1 1001 1\nconnect\nlimit\noffer 0 size 3000\nread 1\nread 1\nread 1\nread 1\n";
+    let mut lines = String::new(rt.alloc());
+    lines.push_str("open\nok\nlimit 32768\nposition 3104\ndata 0 80 ")?;
+    push_letters(&mut lines, 1376)?;
+    lines.push_str("data 1408 00 ")?;
+    push_letters(&mut lines, 1376)?;
+    lines.push_str("data 2816 40 ")?;
+    push_letters(&mut lines, 248)?;
+    lines.push_str("none\nbook 0 3104 3104 0 0 0 0 0 0 0\n")?;
+    let done = run_over(rt.alloc(), SIM, script.as_bytes());
+    assert_eq!(rt; done.output.as_slice(), lines.as_bytes());
+    assert_eq!(rt; done.status, 0);
     Ok(())
 }
 

@@ -30,7 +30,7 @@ fn signed_at(words: Words<'_>) -> Option<(i32, Words<'_>)>
     Some((value, rest))
 }
 
-/// The publisher or receiver that the first word names, and the words after it.
+/// The publisher, reader or receiver that the first word names, and the words after it.
 fn seat_at(words: Words<'_>) -> Option<(Seat, Words<'_>)>
     ensures { Gives (λ found. (found.0.number, words_left found.1)) result (number_at 7 (words_left words.entry)) }
 {

@@ -35,5 +35,6 @@ pub mod Groups
 pub mod Fresh
 pub mod RefusalRows
 pub mod Asked
+pub mod Commits
 pub mod Cuts
 pub mod Pieces

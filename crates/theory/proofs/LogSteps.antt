@@ -41,7 +41,7 @@ pub record Grows (old new : Log) : Type 0 where
 
 -- ---- entries with one start are one
 
-entry_from : (term p tail : ℕ) (es : List Entry) (a : Entry) → Tiles term p tail es → Among a es → p ≤ a.start
+pub entry_from : (term p tail : ℕ) (es : List Entry) (a : Entry) → Tiles term p tail es → Among a es → p ≤ a.start
 entry_from term p tail [] a t h = absurd h
 entry_from term p tail (e ∷ es) a t (inl s) = let same : a.start ≡ e.start = ap (λ x. x.start) s in omega (arith, t.0)
 entry_from term p tail (e ∷ es) a t (inr h) = omega (arith, entry_from term (entry_end e) tail es a t.2 h, t.0)

@@ -6,7 +6,7 @@ use Rattle.mdriver.proofs.Stages.{deliver_answered, missing_deliver, seat_at}
 use Rattle.mdriver.proofs.stage.Stage.deliver.Goals as goal
 
 pub returns-in_default : goal.returns-in_default
-returns-in_default c = missing_deliver c.args.self.now _ c.args.packet c.args.receiver.number c.args.now _ c.args.lines.now.items c.push.new.self.items (search rules) refl (record { log_is = refl; sender = refl; subscribers = refl; packets = refl }) c.in_ok-push.ensures.items
+returns-in_default c = missing_deliver c.args.self.now _ c.args.packet c.args.receiver.number c.args.now _ c.args.lines.now.items c.push.new.self.items (search rules) refl (record { log_is = refl; sender = refl; subscribers = refl; packets = refl; claims = refl; readers = refl }) c.in_ok-push.ensures.items
 
 pub returns : goal.returns
 returns c =
@@ -14,4 +14,4 @@ returns c =
     let n = c.args.receiver.number in
     let packet : slice_get old.packets c.args.packet ≡ Some c.in-Some.bytes.now = search rules in
     let there = seat_at old.subscribers.items n c.index_mut.result.now _ c.index_mut.ensures.value (search rules) in
-    on_ok_weaker c.tell.result (λ told. deliver_answered old _ c.args.packet n c.args.now c.in-Some.bytes.now c.index_mut.result.now c.on_datagram.new.self c.in_ok-outcomes.outcomes.items c.args.lines.now.items c.tell.new.lines.items packet there c.in_ok-outcomes.ensures.heard (record { log = refl; sender = refl; subscribers = refl; packets = refl }) (told ∙ ap (λ xs. prints c.args.lines.now.items ++ map OfReceiver xs) c.deref.ensures.value)) c.tell.ensures
+    on_ok_weaker c.tell.result (λ told. deliver_answered old _ c.args.packet n c.args.now c.in-Some.bytes.now c.index_mut.result.now c.on_datagram.new.self c.in_ok-outcomes.outcomes.items c.args.lines.now.items c.tell.new.lines.items packet there c.in_ok-outcomes.ensures.heard (record { log = refl; sender = refl; subscribers = refl; packets = refl; claims = refl; readers = refl }) (told ∙ ap (λ xs. prints c.args.lines.now.items ++ map OfReceiver xs) c.deref.ensures.value)) c.tell.ensures

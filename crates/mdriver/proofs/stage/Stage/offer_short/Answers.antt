@@ -1,25 +1,33 @@
-use Rattle.std.proofs.Common.{◌≡◌, ◌∙◌, ap, refl, subst, length}
-use Rattle.publication.specs.Offers.{answer_of}
-use Rattle.mdriver.specs.Answers.{MayOffer}
-use Rattle.mdriver.specs.Prints.{print_of}
-use Rattle.mdriver.specs.Staged.{OfferedLine}
-use Rattle.mdriver.proofs.Stages.{all_again, number_is, offer_answered}
+use Rattle.std.proofs.Common.{◌≡◌, ◌∙◌, ◌≤◌, ◌<◌, ◌+◌, ◌-◌, ap, arith, length, subst, sym, refl, inl, inr, rules, suc}
+use Rattle.theory.specs.Bytes.{Identity}
+use Rattle.mdriver.proofs.Standing.{all_stand, are_writers, holds_on, stands_on}
+use Rattle.mdriver.proofs.Stages.{offer_answered}
 use Rattle.mdriver.proofs.stage.Stage.offer_short.Goals as goal
 
-pub invariant_of-self-clause-all : goal.invariant_of-self-clause-all
-invariant_of-self-clause-all c = all_again c.args.self.now.publishers.items c.args.publisher.number c.offer_line.new.publisher _ c.args.self.now.all (c.offer_line.ensures.pass ∙ ap (λ p. p.number) c.index_mut-pass.ensures.value)
-
-pub invariant_of-self-clause-stands : goal.invariant_of-self-clause-stands
-invariant_of-self-clause-stands c = c.offer_line.ensures.readers c.args.self.now.sender.reader c.args.self.now.stands
+pub invariant_of-self : goal.invariant_of-self
+invariant_of-self c =
+    let old = c.args.self.now in
+    let l = old.log in
+    let m = c.offer_by-line.new.log in
+    let same : m.identity ≡ l.identity = c.offer_by-line.ensures.identity in
+    record {
+      all = c.offer_by-line.ensures.eight;
+      empty = old.empty;
+      space = old.space;
+      block_size = subst (λ (i : Identity). i.geometry.mtu ≤ length old.block) (sym same) old.block_size;
+      each = c.offer_by-line.ensures.each;
+      room = old.room;
+      same = same ∙ old.same;
+      first = old.first;
+      stands = stands_on l m c.offer_by-line.ensures.readers old.sender.reader old.stands;
+      reading = all_stand l m 1 old.readers.items (λ r low. stands_on l m c.offer_by-line.ensures.readers r) old.reading;
+      size = old.size ∙ ap (λ (i : Identity). i.geometry.mtu) (sym same);
+      eight = old.eight;
+    }
 
 pub returns : goal.returns
 returns c =
     let old = c.args.self.now in
-    let by = c.args.publisher.number in
-    let m = c.args.message.now in
-    let who : c.index_mut-pass.result.now.number ≡ by = ap (λ p. p.number) c.index_mut-pass.ensures.value ∙ number_is old.publishers.items by _ old.all c.args.publisher.in_range in
-    offer_answered old _ by m c.offer_line.result c.args.lines.now.items c.push.new.self.items
-    (subst (λ k. MayOffer old.log k m) who c.offer_line.ensures.may)
-    (subst (λ k. OfferedLine old.log k m (answer_of old.log (length m)) (print_of c.offer_line.result) c.offer_line.new.log) who c.offer_line.ensures.line)
-    (record { log_is = refl; sender = refl; subscribers = refl; packets = refl })
+    offer_answered old _ c.args.publisher.number c.args.message.now c.offer_by-line.result c.args.lines.now.items c.push.new.self.items old.each c.offer_by-line.ensures.line
+    (record { sender = refl; subscribers = refl; packets = refl; readers = refl })
     c.in_ok-push.ensures.items

@@ -9,5 +9,5 @@ returns c =
     poll_answered old _ k c.index_mut.result.now c.poll-line.new.self c.poll-line.result c.args.lines.now.items c.push.new.self.items
     (seat_at old.subscribers.items k c.index_mut.result.now _ c.index_mut.ensures.value (search rules))
     c.poll-line.ensures.polled
-    (record { log = refl; sender = refl; subscribers = refl; packets = refl })
+    (record { log = refl; sender = refl; subscribers = refl; packets = refl; claims = refl; readers = refl })
     c.in_ok-push.ensures.items

@@ -1,0 +1,97 @@
+-- The stage of a log that was just opened.
+use Rattle.std.proofs.Common.{◌≡◌, ◌∙◌, ℕ, zero, suc, ◌+◌, ◌-◌, ◌<◌, ◌≤◌, List, [], ◌∷◌, length, map, Option, None, Some, refl, sym, ap, subst, arith}
+use Rattle.std.specs.List.{remove}
+use Rattle.std.specs.Prelude.{All, replicate, slice_get, slice_index, slice_index_or}
+use Rattle.theory.specs.Consumer.{Consumer, consumer_at}
+use Rattle.term_buffer.specs.declared.claimed.Claimed.{Claimed}
+use Rattle.log_buffer.specs.Log.{Log}
+use Rattle.log_buffer.specs.Passes.{AreAll, HaveBlocks, Pass}
+use Rattle.log_buffer.specs.Reader.{AreReaders, Reader}
+use Rattle.mdriver.specs.declared.writer.Writer.{Writer}
+use Rattle.mdriver.specs.declared.writer.Writer.TheVariants as writers
+use Rattle.mdriver.specs.Stands.{AllStand, AreWriters, Stands, claim_in}
+
+-- ---- publishers
+
+free_from : (l : Log) (from : ℕ) (ps : List Pass) → ((k : ℕ) → k < length ps → slice_index (map (λ p. p.number) ps) k ≡ from + k) → HaveBlocks l.identity.geometry.mtu ps → AreWriters l from (map writers.Free ps)
+free_from l from [] h b = tt
+free_from l from (p ∷ ps) h b = (
+  (h 0 (omega arith) ∙ omega arith, b 0 p (omega arith), tt),
+  free_from l (suc from) ps (λ k low. h (suc k) (omega (arith, low)) ∙ omega arith) (λ k d low. b (suc k) d (omega (arith, low))),
+)
+
+pub free_writers : (l : Log) (ps : List Pass) (ws : List Writer) → AreAll ps → HaveBlocks l.identity.geometry.mtu ps → ws ≡ map writers.Free ps → AreWriters l 0 ws
+free_writers l ps ws all blocks is = subst (AreWriters l 0) (sym is) (free_from l 0 ps (λ k low. all.each k (omega (arith, low, all.eight)) ∙ omega arith) blocks)
+
+no_claims : (ps : List Pass) → replicate (length ps) None ≡ map claim_in (map writers.Free ps)
+no_claims [] = refl
+no_claims (p ∷ ps) = ap (λ xs. None ∷ xs) (no_claims ps)
+
+pub none_claimed : (ps : List Pass) (ws : List Writer) → AreAll ps → ws ≡ map writers.Free ps → replicate 8 None ≡ map claim_in ws
+none_claimed ps ws all is = ap (λ n. replicate n None) (sym all.eight) ∙ no_claims ps ∙ ap (map claim_in) (sym is)
+
+-- ---- readers
+
+begun : ℕ → ℕ → Reader
+begun start k = record { number = k; position = start; read_to = start }
+
+index_replicate : (count k start : ℕ) → k < count → slice_index (replicate count start) k ≡ start
+index_replicate zero k start h = absurd (omega (arith, h))
+index_replicate (suc n) zero start h = refl
+index_replicate (suc n) (suc k) start h = index_replicate n k start (omega (arith, h))
+
+length_replicate : (count start : ℕ) → length (replicate count start) ≡ count
+length_replicate zero start = refl
+length_replicate (suc n) start = ap suc (length_replicate n start)
+
+stands_begun : (l : Log) (start count : ℕ) (r : Reader) → l.consumers ≡ replicate count start → r.position ≡ start → r.number < count → Stands l r
+stands_begun l start count r e at low = record {
+  number = omega (arith, low, length_replicate count start, ap (λ (cs : List ℕ). length cs) e);
+  here = ap (λ cs. slice_index cs r.number) e ∙ index_replicate count r.number start low ∙ sym at;
+}
+
+stand_from : (l : Log) (start count from : ℕ) (rs : List Reader) → l.consumers ≡ replicate count start → from + length rs ≡ count → ((k : ℕ) → k < length rs → slice_get rs k ≡ Some (record { number = from + k; position = start; read_to = start })) → AllStand l from rs
+stand_from l start count from [] e size h = tt
+stand_from l start count from (r ∷ rs) e size h =
+    let first : Some r ≡ Some (record { number = from + 0; position = start; read_to = start }) = h 0 (omega arith) in
+    let is : r ≡ record { number = from + 0; position = start; read_to = start } = cc in
+    let number : r.number ≡ from = ap (λ (x : Reader). x.number) is ∙ omega arith in
+    (
+      (number, stands_begun l start count r e (ap (λ (x : Reader). x.position) is) (omega (arith, number, size))),
+      stand_from l start count (suc from) rs e (omega (arith, size)) (λ k low. h (suc k) (omega (arith, low)) ∙ ap (λ (n : ℕ). Some (record { number = n; position = start; read_to = start })) (omega arith)),
+    )
+
+-- the first of them, and the others
+pub record Opens (l : Log) (start count : ℕ) (r : Reader) (rest : List Reader) : Type 0 where
+  pub first : r ≡ record { number = 0; position = start; read_to = start }
+  pub stands : Stands l r
+  pub others : AllStand l 1 rest
+  pub count_is : suc (length rest) ≡ count
+  pub positions : map (λ q. q.position) rest ≡ replicate (length rest) start
+
+positions_of : (start from : ℕ) (rs : List Reader) → ((k : ℕ) → k < length rs → slice_get rs k ≡ Some (record { number = from + k; position = start; read_to = start })) → map (λ q. q.position) rs ≡ replicate (length rs) start
+positions_of start from [] h = refl
+positions_of start from (r ∷ rs) h =
+    let first : Some r ≡ Some (record { number = from + 0; position = start; read_to = start }) = h 0 (omega arith) in
+    let is : r ≡ record { number = from + 0; position = start; read_to = start } = cc in
+    ap (λ (n : ℕ). n ∷ map (λ (q : Reader). q.position) rs) (ap (λ (x : Reader). x.position) is)
+    ∙ ap (λ (ns : List ℕ). start ∷ ns) (positions_of start (suc from) rs (λ k low. h (suc k) (omega (arith, low)) ∙ ap (λ (n : ℕ). Some (record { number = n; position = start; read_to = start })) (omega arith)))
+
+pub opens : (l : Log) (start count : ℕ) (rs rest : List Reader) (r d : Reader) → l.consumers ≡ replicate count start → AreReaders rs start count → 0 < count → r ≡ slice_index_or rs 0 d → rest ≡ remove rs 0 → Opens l start count r rest
+opens l start count [] rest r d e are some here out = absurd (omega (arith, are.all, some))
+opens l start count (x ∷ xs) rest r d e are some here out =
+    let first : Some x ≡ Some (record { number = 0; position = start; read_to = start }) = are.each 0 some in
+    let is : x ≡ record { number = 0; position = start; read_to = start } = cc in
+    let same : r ≡ record { number = 0; position = start; read_to = start } = here ∙ is in
+    let later : (k : ℕ) → k < length xs → slice_get xs k ≡ Some (record { number = 1 + k; position = start; read_to = start }) = λ k low. are.each (suc k) (omega (arith, low, are.all)) ∙ ap (λ (n : ℕ). Some (record { number = n; position = start; read_to = start })) (omega arith) in
+    record {
+      first = same;
+      stands = stands_begun l start count r e (ap (λ (y : Reader). y.position) same) (omega (arith, ap (λ (y : Reader). y.number) same, some));
+      others = subst (AllStand l 1) (sym out) (stand_from l start count 1 xs e (omega (arith, are.all)) later);
+      count_is = ap (λ (ys : List Reader). suc (length ys)) out ∙ are.all;
+      positions = ap (map (λ (q : Reader). q.position)) out ∙ positions_of start 1 xs later ∙ ap (λ (ys : List Reader). replicate (length ys) start) (sym out);
+    }
+
+pub places_begun : (count start : ℕ) → replicate count start ≡ map (λ c. c.at) (replicate count (consumer_at start))
+places_begun zero start = refl
+places_begun (suc n) start = ap (λ ns. start ∷ ns) (places_begun n start)
