@@ -19,7 +19,7 @@ use Rattle.mdriver.specs.declared.line.Line.{Line}
 use Rattle.mdriver.specs.declared.stage.Stage.{Stage}
 use Rattle.theory.specs.Wire.{Wire}
 use Rattle.mdriver.specs.declared.receiver.Outcome.{Outcome}
-use Rattle.mdriver.specs.Answers.{Answers, AreFrames, Claims, HasClaim, MayClaim, MayOffer, Offered, claim_by, reader_at, with_claim, with_reader, given_out, lines_of, or_nothing, packet_lines, with_log, with_receiver}
+use Rattle.mdriver.specs.Answers.{Answers, AreFrames, Claims, HasClaim, MayNotTake, OffersMessage, MayClaim, MayOffer, Offered, claim_by, reader_at, with_claim, with_reader, given_out, lines_of, or_nothing, packet_lines, with_log, with_receiver}
 use Rattle.mdriver.specs.Cycling.{datagrams}
 use Rattle.mdriver.specs.Polling.{Polls, TellsPositions}
 use Rattle.mdriver.specs.Prints.{Bad, Limit, OfReceiver, Print, print_of, prints}
@@ -34,7 +34,7 @@ use Rattle.mdriver.specs.declared.writer.Writer.TheVariants as writers
 use Rattle.mdriver.proofs.Standing.{claim_at_place, claims_set, found, is_held}
 use Rattle.log_buffer.specs.Passes.{Pass}
 use Rattle.publication.specs.Claims.{Filling, claim_at}
-use Rattle.theory.specs.Position.{max_payload}
+use Rattle.theory.specs.Position.{max_message, max_payload}
 use Rattle.term_buffer.specs.declared.claimed.Claimed.{Claimed}
 use Rattle.mdriver.specs.Subscribing.{Becomes, ShowsSubscriber, Subscribing}
 use Rattle.mdriver.proofs.OfferRuns.{turned_same}
@@ -540,3 +540,13 @@ read_so old new s j r q line before after h o here readers number (inr m) told =
 pub read_answered : (old new : Stage) (k j : ℕ) (r q : Reader) (line : Line) (before after : List Line) → k ≡ suc j → slice_get old.readers.items j ≡ Some r → new.readers.items ≡ slice_set old.readers.items j q → r.number ≡ suc j → ReadsLine old.log r (print_of line) new.log q → OnlyReaders old new → after ≡ before ++ line ∷ [] → IsAnswered old (orders.Read k) before after new
 read_answered old new k j r q line before after is here readers number reads o told =
     subst (λ n. IsAnswered old (orders.Read n) before after new) (sym is) (λ s h. read_so old new s j r q (print_of line) (prints before) (prints after) h o here readers number reads (one_line before after line told))
+
+-- ---- offers, by what orders them
+
+pub may_offer : (s t : Scene) (by : ℕ) (message : List ℕ) (lines : List Print) → MayBeOffered s by message lines t → MayNotTake s by (max_message s.log.identity.geometry) (length message) lines t ⊎ OffersMessage s by message lines t
+may_offer s t by message lines (inl x) = inl (inr x.0, x.1)
+may_offer s t by message lines (inr x) = inr x
+
+pub may_offer_size : (s t : Scene) (by size : ℕ) (lines : List Print) → MayBeOffered s by (replicate size 97) lines t → MayNotTake s by (max_message s.log.identity.geometry) size lines t ⊎ OffersMessage s by (replicate size 97) lines t
+may_offer_size s t by size lines (inl x) = inl (inr x.0, x.1)
+may_offer_size s t by size lines (inr x) = inr x

@@ -99,6 +99,7 @@ fn free(publishers: &mut Vec<Publisher>, writers: &mut Vec<Writer>)
     ensures none { publishers.new.items ≡ [] }
     ensures room { 8 ≤ vec_capacity publishers.new }
     ensures free { AreFree publishers.old.items writers.new.items }
+    ensures eight { vec_len writers.new ≡ 8 }
 {
     while !publishers.is_empty() {
         writers.push(Writer::Free(publishers.remove(0))).unwrap();

@@ -1,4 +1,4 @@
-use Rattle.std.proofs.Common.{◌≡◌, ◌∙◌, ◌<◌, ◌-◌, arith, length, List, [], rules, ap, sym, subst, FitsSigned, w32, to_z, of_z}
+use Rattle.std.proofs.Common.{◌≡◌, ◌∙◌, ◌<◌, ◌-◌, arith, vec_len, List, [], rules, ap, sym, subst, FitsSigned, w32, to_z, of_z}
 use Rattle.std.specs.Prelude.{ℤ, Err}
 use Rattle.log_buffer.specs.declared.fault.LogError.TheVariants.{Start}
 use Rattle.std.proofs.lemmas.Int.{to_z-of_z}
@@ -27,7 +27,7 @@ returns-in_ok-stage-in-Ok-open c =
     let stage = c.in_ok-stage-in-Ok-open.stage in
     IfOk-weaker c.run.result _ _
     (λ after runs.
-    stage_plays script stage c.in-Ok-open.state.identity c.in-Ok-open.state.start (length c.in-Ok-open.parts.readers.items - 1) (prints after.items)
+    stage_plays script stage c.in-Ok-open.state.identity c.in-Ok-open.state.start (vec_len c.in-Ok-open.parts.readers - 1) (prints after.items)
     (ap (λ l. l.identity) c.in-Ok-open.ensures.log ∙ sym named)
     (ap (λ l. l.start) c.in-Ok-open.ensures.log)
     (omega (arith, c.in-Ok-open.ensures.count))
@@ -36,8 +36,8 @@ returns-in_ok-stage-in-Ok-open c =
     (record { session = session; stream = stream })
     c.polls_a_prefix.ensures
     c.in_ok-stage-in-Ok-open.ensures
-    (subst (λ (cs : List Command). RunsTo stage.log.identity stage.log.start (length stage.readers.items) (orders cs) [] (prints after.items)) c.deref.ensures.value
-    (subst (λ (ls : List Line). RunsTo stage.log.identity stage.log.start (length stage.readers.items) (orders c.deref.result.now) (prints ls) (prints after.items)) c.new-lines.ensures.items runs)))
+    (subst (λ (cs : List Command). RunsTo stage.log.identity stage.log.start (vec_len stage.readers) (orders cs) [] (prints after.items)) c.deref.ensures.value
+    (subst (λ (ls : List Line). RunsTo stage.log.identity stage.log.start (vec_len stage.readers) (orders c.deref.result.now) (prints ls) (prints after.items)) c.new-lines.ensures.items runs)))
     c.run.ensures
 
 pub returns-in_ok-push-in-Err-Start : goal.returns-in_ok-push-in-Err-Start

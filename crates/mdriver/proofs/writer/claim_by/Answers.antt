@@ -21,3 +21,6 @@ returns-clause-each c =
     let same : m.identity ≡ l.identity = c.claim_line-writer.ensures.identity in
     subst (AreWriters m 0) (sym (put_is ws c.remove-writer.new.self.items c.put_back.new.writers.items k v (omega (arith, c.requires.number, c.requires.eight)) c.remove-writer.ensures.items c.put_back.ensures.items))
     (writers_set l m 0 k ws v same (λ d apart. c.claim_line-writer.ensures.others d) (c.claim_line-writer.ensures.same_pass.0 ∙ number) (c.claim_line-writer.ensures.same_pass.1 ∙ found.1.1 ∙ ap (λ i. i.geometry.mtu) (sym same)) c.claim_line-writer.ensures.holds c.requires.each)
+
+pub claim_line-writer-requires-clause-block : goal.claim_line-writer-requires-clause-block
+claim_line-writer-requires-clause-block c = (writer_at c.args.log.now 0 c.args.number c.args.writers.now.items c.remove-writer.result _ c.requires.each c.remove-writer.ensures.value (omega (arith, c.requires.number, c.requires.eight))).1.1
