@@ -1,4 +1,4 @@
-use Rattle.std.proofs.Common.{◌≡◌, ◌∙◌, ◌<◌, ◌-◌, arith, vec_len, List, [], rules, ap, sym, subst, FitsSigned, w32, to_z, of_z}
+use Rattle.std.proofs.Common.{◌≡◌, ◌∙◌, ◌<◌, ◌-◌, ℕ, arith, length, vec_len, List, [], rules, ap, sym, subst, FitsSigned, w32, to_z, of_z}
 use Rattle.std.specs.Prelude.{ℤ, Err}
 use Rattle.log_buffer.specs.declared.fault.LogError.TheVariants.{Start}
 use Rattle.std.proofs.lemmas.Int.{to_z-of_z}
@@ -25,6 +25,7 @@ returns-in_ok-stage-in-Ok-open c =
     c.in-Ok.ensures.made ∙ ap (λ (z : ℤ). record { term_length = log.term_length; mtu = log.mtu; initial_term_id = z }) (to_z-of_z w32 log.initial_term_id initial) in
     let named = same_identity (identity_of script.log) c.in-Ok.geometry (to_z w32 (of_z w32 log.session)) (to_z w32 (of_z w32 log.stream)) made (to_z-of_z w32 log.session session) (to_z-of_z w32 log.stream stream) in
     let stage = c.in_ok-stage-in-Ok-open.stage in
+    let many : vec_len stage.readers ≡ length stage.readers.items = omega arith in
     IfOk-weaker c.run.result _ _
     (λ after runs.
     stage_plays script stage c.in-Ok-open.state.identity c.in-Ok-open.state.start (vec_len c.in-Ok-open.parts.readers - 1) (prints after.items)
@@ -36,8 +37,9 @@ returns-in_ok-stage-in-Ok-open c =
     (record { session = session; stream = stream })
     c.polls_a_prefix.ensures
     c.in_ok-stage-in-Ok-open.ensures
+    (subst (λ (n : ℕ). RunsTo stage.log.identity stage.log.start n script.orders [] (prints after.items)) many
     (subst (λ (cs : List Command). RunsTo stage.log.identity stage.log.start (vec_len stage.readers) (orders cs) [] (prints after.items)) c.deref.ensures.value
-    (subst (λ (ls : List Line). RunsTo stage.log.identity stage.log.start (vec_len stage.readers) (orders c.deref.result.now) (prints ls) (prints after.items)) c.new-lines.ensures.items runs)))
+    (subst (λ (ls : List Line). RunsTo stage.log.identity stage.log.start (vec_len stage.readers) (orders c.deref.result.now) (prints ls) (prints after.items)) c.new-lines.ensures.items runs))))
     c.run.ensures
 
 pub returns-in_ok-push-in-Err-Start : goal.returns-in_ok-push-in-Err-Start
