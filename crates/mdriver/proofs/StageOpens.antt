@@ -55,8 +55,7 @@ stand_from l start count from [] e size h = tt
 stand_from l start count from (r ∷ rs) e size h =
     let first : Some r ≡ Some (record { number = from + 0; position = start; read_to = start }) = h 0 (omega arith) in
     let is : r ≡ record { number = from + 0; position = start; read_to = start } = cc in
-    let number : r.number ≡ from = ap (λ (x : Reader). x.number) is ∙ omega arith in
-    (
+    let number : r.number ≡ from = ap (λ (x : Reader). x.number) is ∙ omega arith in (
       (number, stands_begun l start count r e (ap (λ (x : Reader). x.position) is) (omega (arith, number, size))),
       stand_from l start count (suc from) rs e (omega (arith, size)) (λ k low. h (suc k) (omega (arith, low)) ∙ ap (λ (n : ℕ). Some (record { number = n; position = start; read_to = start })) (omega arith)),
     )

@@ -193,12 +193,7 @@ impl Stage {
         Ok(())
     }
 
-    fn claim(
-        &mut self,
-        publisher: Seat,
-        size: u64,
-        lines: &mut Vec<Line>,
-    ) -> Result<(), AllocError>
+    fn claim(&mut self, publisher: Seat, size: u64, lines: &mut Vec<Line>) -> Result<(), AllocError>
         ensures { OnOk result (IsAnswered self.old (orders.Claim publisher.number size) lines.old.items lines.new.items self.new) }
     {
         if size > u64::from(self.log.geometry().max_payload()) {

@@ -23,13 +23,26 @@ pub enum Line {
     /// An offer was accepted, or a claim ended: the position behind it.
     Position(u64),
     /// A range was claimed.
-    Claimed { start: u64, end: u64 },
+    Claimed {
+        start: u64,
+        end: u64,
+    },
     /// A reader passed a message's frame.
-    FrameData { start: u64, flags: u8, bytes: Vec<u8> },
+    FrameData {
+        start: u64,
+        flags: u8,
+        bytes: Vec<u8>,
+    },
     /// A reader passed a padding.
-    FramePad { start: u64, frame_length: u32 },
+    FramePad {
+        start: u64,
+        frame_length: u32,
+    },
     Refused(Refusal),
-    Packet { number: u64, bytes: Vec<u8> },
+    Packet {
+        number: u64,
+        bytes: Vec<u8>,
+    },
     /// No packet went out.
     Nothing,
     Receiver(Outcome),
@@ -38,7 +51,11 @@ pub enum Line {
     /// There was no frame left to read.
     NoMessage,
     Assembly(AssemblyError),
-    Image { least: u64, rebuilt: u64, high: u64 },
+    Image {
+        least: u64,
+        rebuilt: u64,
+        high: u64,
+    },
     /// The line names what isn't there.
     Bad,
     Book(Book),

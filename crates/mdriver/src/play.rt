@@ -19,10 +19,10 @@ use crate::receiver::ReceiverCore;
 use crate::sender::{Denied, SenderCore};
 use crate::stage::{RECEIVERS, Stage, close_with};
 use crate::subscriber::Subscriber;
-use flow_control::UnicastFlow;
-use frames::one_reading;
 use crate::writer::Writer;
 use block::Block;
+use flow_control::UnicastFlow;
+use frames::one_reading;
 use log_buffer::{LogError, LogState, PUBLISHERS, Parts, Publisher, close};
 use position::Geometry;
 use script::{Command, LogLine, Script};
@@ -47,7 +47,14 @@ pub fn play(alloc: Global, script: &Script) -> Result<Vec<Line>, AllocError>
     let block = Block::new(alloc, geometry.mtu() as usize)?;
     let subscribers = subscribers(alloc, log, &geometry)?;
     let consumers = log.readers as usize + 1;
-    match LogState::open(alloc, geometry, log.session, log.stream, log.start, consumers) {
+    match LogState::open(
+        alloc,
+        geometry,
+        log.session,
+        log.stream,
+        log.start,
+        consumers,
+    ) {
         Ok((state, parts)) => {
             polls_a_prefix();
             let stage = stage(alloc, state, parts, outbox, subscribers, block)?;
