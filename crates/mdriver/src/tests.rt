@@ -5,7 +5,7 @@ use std::test::*;
 
 const SIM: &[&str] = &["mdriver", "sim"];
 
-/// Scripts, and what they print.
+/// Scripts of offers and packets, and what they print.
 const PLAYED: &[(&str, &str)] = &[
     // one message, from the offer to the poll
     (
@@ -77,6 +77,23 @@ const PLAYED: &[(&str, &str)] = &[
         "log 65536 1408 7 32 1 1001 0\nlimit\noffer 0 hex 616263\ndisconnect\noffer 7 size 0\n",
         "open\nlimit 32\nrefused -1\nok\nrefused -1\nbook 32 32 0 0 0 0 0 0 0 0\n",
     ),
+    // starts that no stream has
+    ("log 65536 1408 7 1 1 1001 0\n", "L1\n"),
+    ("log 65536 1408 7 140737488355328 1 1001 0\n", "L1\n"),
+    ("log 65536 1408 7 18446744073709551615 1 1001 0\n", "L1\n"),
+    // what isn't there
+    (
+        "log 65536 1408 7 0 1 1001 0\ndeliver 0 0 0\nreply 18446744073709551615 0\npoll 7\nimage 0\n",
+        "open\nbad\nbad\nbad\nbad\nbook 0 0 0 0 0 0 0 0 0 0\n",
+    ),
+    // a term length
+    ("log 1000 1408 7 0 1 1001 0\n", "G1\n"),
+    // an MTU
+    ("log 65536 1400 7 0 1 1001 0\n", "G2\n"),
+];
+
+/// Scripts of readers, and of messages about the greatest lengths.
+const READ: &[(&str, &str)] = &[
     // a claim that is aborted, and a reader that waits for it
     (
         "log 65536 1408 7 0 1 1001 1\noffer 0 hex 616263\nconnect\nlimit\noffer 0 hex 616263\nclaim 1 100\noffer 2 size 0\nread 1\nread 1\nabort 1\nread 1\nread 1\nsend 0\ndeliver 0 0 0\ntick 0 0\nreply 1 0\nsend 0\ndeliver 2 0 0\ndeliver 2 0 0\nimage 0\npoll 0\npoll 0\nimage 0\ndeliver 2 0 0\noffer 1 size 8193\n",
@@ -122,6 +139,10 @@ const PLAYED: &[(&str, &str)] = &[
         "log 65536 1408 7 0 1 1001 2\nconnect\nlimit\noffer 0 hex 61\nsend 0\ndeliver 0 0 0\ntick 0 0\nreply 1 0\nsend 0\nlimit\nread 2\nlimit\nread 1\nlimit\n",
         "open\nok\nlimit 32768\nposition 64\npacket 0 28000000000005000000000001000000e90300000700000007000000000001008005000000000000\nopened 0\npacket 1 240000000000030001000000e90300000700000000000000008000000000000000000000\nstatus 32768\npacket 2 2100000000c001000000000001000000e90300000700000000000000000000006100000000000000000000000000000000000000000000000000000000000000\nlimit 32768\ndata 0 c0 61\nlimit 32768\ndata 0 c0 61\nlimit 32832\nbook 0 64 64 0 0 0 0 0 0 0\n",
     ),
+];
+
+/// Scripts of claims, and of messages of several frames.
+const CLAIMED: &[(&str, &str)] = &[
     // no claim is open, or no longer
     (
         "log 65536 1408 7 0 1 1001 0\ncommit 0\nabort 7\nconnect\nlimit\nclaim 0 3\ncommit 1\nabort 1\ncommit 0\ncommit 0\nabort 0\nclaim 0 0\nabort 0\nabort 0\n",
@@ -172,19 +193,6 @@ const PLAYED: &[(&str, &str)] = &[
         "log 65536 256 7 0 1 1001 0\nconnect\nlimit\nsend 0\ndeliver 0 0 0\ntick 0 0\nreply 1 0\noffer 0 size 300\noffer 1 hex 62\nsend 0\ndeliver 2 1 0\ntick 1 0\nreply 3 0\ndeliver 4 1 0\nsend 0\nsend 0\ndeliver 5 1 0\ndeliver 6 1 0\npoll 1\npoll 1\nimage 1\n",
         "open\nok\nlimit 32768\npacket 0 28000000000005000000000001000000e90300000700000007000000000001000001000000000000\nopened 0\npacket 1 240000000000030001000000e90300000700000000000000008000000000000000000000\nstatus 32768\nposition 384\nposition 448\npacket 2 00010000008001000000000001000000e90300000700000000000000000000006161616161616161616161616161616161616161616161616161616161616161616161616161616161616161616161616161616161616161616161616161616161616161616161616161616161616161616161616161616161616161616161616161616161616161616161616161616161616161616161616161616161616161616161616161616161616161616161616161616161616161616161616161616161616161616161616161616161616161616161616161616161616161616161616161616161616161616161616161616161616161616161616161616161616161\nasked\npacket 3 240000000080030001000000e90300000700000000000000000000000100000000000000\nasked\npacket 4 28000000000005000001000001000000e90300000700000007000000000001000001000000000000\nopened 256\npacket 5 6c000000004001000001000001000000e9030000070000000000000000000000616161616161616161616161616161616161616161616161616161616161616161616161616161616161616161616161616161616161616161616161616161616161616161616161616161610000000000000000000000000000000000000000\npacket 6 2100000000c001008001000001000000e90300000700000000000000000000006200000000000000000000000000000000000000000000000000000000000000\nI1\nI1\nmessage 62\nnone\nimage least 448 rebuilt 448 high 448\nbook 0 448 384 64 0 0 0 0 0 0\n",
     ),
-    // starts that no stream has
-    ("log 65536 1408 7 1 1 1001 0\n", "L1\n"),
-    ("log 65536 1408 7 140737488355328 1 1001 0\n", "L1\n"),
-    ("log 65536 1408 7 18446744073709551615 1 1001 0\n", "L1\n"),
-    // what isn't there
-    (
-        "log 65536 1408 7 0 1 1001 0\ndeliver 0 0 0\nreply 18446744073709551615 0\npoll 7\nimage 0\n",
-        "open\nbad\nbad\nbad\nbad\nbook 0 0 0 0 0 0 0 0 0 0\n",
-    ),
-    // a term length
-    ("log 1000 1408 7 0 1 1001 0\n", "G1\n"),
-    // an MTU
-    ("log 65536 1400 7 0 1 1001 0\n", "G2\n"),
 ];
 
 /// Scripts that can't be read, and what is told.
@@ -254,6 +262,30 @@ fn scripts(rt: HostRuntime) {
         assert_eq!(rt; done.errors.len(), 0);
         assert_eq!(rt; done.status, 0);
     }
+}
+
+#[test]
+fn readers(rt: HostRuntime) {
+    for (script, lines) in READ {
+        let done = run_over(rt.alloc(), SIM, script.as_bytes());
+        assert_eq!(rt; done.output.as_slice(), lines.as_bytes());
+        assert_eq!(rt; done.errors.len(), 0);
+        assert_eq!(rt; done.status, 0);
+    }
+}
+
+#[test]
+fn claims(rt: HostRuntime) {
+    for (script, lines) in CLAIMED {
+        let done = run_over(rt.alloc(), SIM, script.as_bytes());
+        assert_eq!(rt; done.output.as_slice(), lines.as_bytes());
+        assert_eq!(rt; done.errors.len(), 0);
+        assert_eq!(rt; done.status, 0);
+    }
+}
+
+#[test]
+fn refused_scripts(rt: HostRuntime) {
     for (script, told) in REFUSED {
         let done = run_over(rt.alloc(), SIM, script.as_bytes());
         assert_eq!(rt; done.output.len(), 0);
