@@ -1,6 +1,6 @@
-ghost use Rattle.std.specs.Prelude.{◌≡◌, ◌<◌, ◌≤◌, ◌↔◌, None, Some, length, IfOk, IfErr, IsErrOf, MatchOption, ◌++◌};
+ghost use Rattle.std.specs.Prelude.{◌≡◌, ◌<◌, ◌≤◌, ◌↔◌, None, Some, true, length, IsOk, IfOk, IfErr, IsErrOf, MatchOption, ◌++◌};
 ghost use Rattle.theory.specs.Assembly.{on_frame};
-ghost use Rattle.assembler.specs.Assembling.{held_with};
+ghost use Rattle.assembler.specs.Assembling.{held_with, is_dropped};
 
 use crate::fault::AssemblyError;
 use frames::{BEGIN, END, UNFRAGMENTED};
@@ -43,7 +43,8 @@ impl<A: Allocator + Copy> Assembler<A> {
     }
 
     /// Takes a DATA frame's flags and payload, and gives the message that it completes. A whole frame or a begin drops
-    /// what was begun; a middle or an end with nothing begun is dropped. After an error nothing is begun.
+    /// what was begun; a middle or an end with nothing begun is dropped, which wants no memory. After an error nothing is
+    /// begun.
     pub fn on_frame(
         &mut self,
         flags: u8,
@@ -52,6 +53,7 @@ impl<A: Allocator + Copy> Assembler<A> {
         ensures message { IfOk result (λ m. MatchOption m ((on_frame self.old.begun flags payload.now).message ≡ None) (λ m. (on_frame self.old.begun flags payload.now).message ≡ Some m.bytes.items)) }
         ensures state { IfOk result (λ _. self.new ≡ record self.old { begun = (on_frame self.old.begun flags payload.now).begun }) }
         ensures refused { IfErr result (λ _. self.new ≡ record self.old { begun = None }) }
+        ensures dropped { is_dropped self.old.begun flags ≡ true → IsOk result }
         ensures too_long { IsErrOf result AssemblyError.TooLong ↔ (self.old.greatest < length (held_with self.old.begun flags payload.now)) }
     {
         let front = match self.begun.take() {

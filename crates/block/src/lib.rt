@@ -4,9 +4,11 @@
 #![tactic(auto)]
 
 mod block;
+mod front;
 mod memory;
 
 pub use block::Block;
+pub use front::front_mut;
 
 #[cfg(test)]
 mod tests;

@@ -54,7 +54,8 @@ impl Conductor {
         Ok((Conductor { line }, clients, Taker { seat }))
     }
 
-    /// Hands a command to the queue. It is given back only where the queue was full at one moment of the call.
+    /// Hands a command to the queue. It is given back where the queue was full at one moment of the call, which this
+    /// client alone can't refute.
     pub fn submit<R: Wait>(
         &self,
         rt: &R,

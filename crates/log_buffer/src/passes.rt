@@ -152,6 +152,13 @@ impl LogReader {
         self.number
     }
 
+    /// The end of the frame that was read since it last moved, or its position.
+    pub fn read_to(&self) -> u64
+        ensures { result ≡ self.now.read_to }
+    {
+        self.read_to
+    }
+
     /// Notes that the frame at its position, which ends there, was read.
     pub fn note_read(&mut self, end: u64)
         requires further { self.old.position ≤ end }

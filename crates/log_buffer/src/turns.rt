@@ -1,10 +1,10 @@
 //! The word calls of a publisher: loads, additions and exchanges of the limit, the count and the raw tails.
 
-ghost use Rattle.std.specs.Prelude.{◌≡◌, false, IfSome, ℕ, ◌+◌, ◌-◌, ◌*◌, ◌/◌, ◌%◌, ◌<◌, ◌≤◌, ◌↔◌, ◌^◌, Some, length, slice_get, slice_index};
+ghost use Rattle.std.specs.Prelude.{◌≡◌, false, IfSome, IsTrue, ℕ, ◌+◌, ◌-◌, ◌*◌, ◌/◌, ◌%◌, ◌<◌, ◌≤◌, ◌↔◌, ◌^◌, Some, length, slice_get, slice_index};
 ghost use Rattle.theory.specs.Position.{framed_length, greatest_claim, id_of, max_message};
 ghost use Rattle.theory.specs.Refusal.{is_closed, is_connected, limit_in};
 ghost use Rattle.theory.specs.Words.{id_before, id_in, offset_in, tail_word};
-ghost use Rattle.log_buffer.specs.Log.{IsFinished, IsHeld, IsLog, IsOpen, after_add, claimed_of, counted, exchanged, limit_word_of, looked, may_arm, raw_tail, taken_of, term_of};
+ghost use Rattle.log_buffer.specs.Log.{IsFinished, IsHeld, IsLog, IsOpen, after_add, claimed_of, counted, exchanged, limit_word_of, looked, may_arm, offset_of, raw_tail, taken_of, term_of};
 ghost use Rattle.log_buffer.specs.Passes.{with_step};
 ghost use Rattle.log_buffer.specs.Reader.{IsAt, Reader};
 ghost use Rattle.log_buffer.specs.declared.step.Step.TheVariants as steps;
@@ -147,6 +147,25 @@ impl LogState {
             Some(self.buffer.claim(owner, true, length - before.offset))
         };
         Added { before, claimed }
+    }
+
+    /// Whether the term with this count is used up, and not the last one.
+    pub fn is_finished(&self, count: u32) -> bool
+        ensures { IsTrue result ↔ IsFinished self.now count }
+    {
+        let length = u64::from(self.buffer.geometry().term_length());
+        let newest = self.tails.newest();
+        self.buffer.start() / length <= u64::from(count)
+            && count <= newest
+            && count < i32::MAX as u32
+            && (newest != count || self.is_at_end(count))
+    }
+
+    /// Whether the raw tail of a count's partition is at a term's end or above.
+    fn is_at_end(&self, count: u32) -> bool
+        ensures { IsTrue result ↔ (term_of self.now ≤ offset_of self.now count) }
+    {
+        self.tails.tail(partition_of(count)).offset >= self.buffer.geometry().term_length()
     }
 
     /// Loads the raw tail of the partition behind a count's.

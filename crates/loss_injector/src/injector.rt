@@ -1,4 +1,6 @@
-ghost use Rattle.std.specs.Prelude.{◌≡◌, None, map, IfOk, IfErr};
+ghost use Rattle.std.specs.Prelude.{◌≡◌, None, map, IsOk, IfOk, IfErr};
+ghost use Rattle.theory.specs.Loss.{IsVerdict};
+ghost use Rattle.theory.specs.Loss as meant;
 ghost use Rattle.loss_injector.specs.Injecting.{Gives};
 
 use crate::rates::{Rates, Verdict, decide};
@@ -34,21 +36,25 @@ impl Injector {
         }
     }
 
-    /// Takes a datagram and a random word, and gives what goes on its way now, in order. After an error the held
-    /// datagram stays, and the one handed in is given to nobody.
+    /// Takes a datagram and a random word, and gives what goes on its way now, in order. Where nothing does, no memory
+    /// is wanted. After an error the held datagram stays, and the one handed in is given to nobody.
     pub fn push(&mut self, datagram: Vec<u8>, word: u32) -> Result<Vec<Vec<u8>>, AllocError>
         ensures given { IfOk result (λ out. Gives self.old word datagram.items (map (λ d. d.items) out.items) self.new) }
+        ensures dropped { IsVerdict self.old.rates word meant.Drop → IsOk result }
+        ensures held_back { IsVerdict self.old.rates word meant.Hold → self.old.held ≡ None → IsOk result }
         ensures refused { IfErr result (λ _. self.new ≡ self.old) }
     {
+        let verdict = decide(word, &self.rates);
+        if verdict == Verdict::Drop {
+            return Ok(Vec::new(self.alloc));
+        }
+        if verdict == Verdict::Hold && self.held.is_none() {
+            self.held = Some(datagram);
+            return Ok(Vec::new(self.alloc));
+        }
         let mut out = Vec::with_capacity(self.alloc, 3)?;
-        match decide(word, &self.rates) {
-            Verdict::Drop => return Ok(out),
-            Verdict::Hold if self.held.is_none() => {
-                self.held = Some(datagram);
-                return Ok(out);
-            }
-            Verdict::Repeat => out.push(Vec::from_slice(self.alloc, &datagram)?).unwrap(),
-            Verdict::Hold | Verdict::Pass => {}
+        if verdict == Verdict::Repeat {
+            out.push(Vec::from_slice(self.alloc, &datagram)?).unwrap();
         }
         out.push(datagram).unwrap();
         if let Some(held) = self.held.take() {

@@ -47,9 +47,9 @@ one_more i k vs ws v below h s e =
     subst (FirstListen i (k + 1)) (sym e)
     (subst (λ (n : ℕ). FirstListen i n (vs ++ v ∷ [])) next (next_listens i k vs v below h s))
 
-pub shows_listening : (v : Core) (s t a b : ℤ) (w x : ℕ) (n m : ℤ) → s ≡ a → t ≡ b → w ≡ x → n ≡ m → Shows v (listening s t w n 1) → Shows v (listening a b x m 1)
-shows_listening v s t a b w x n m es et ew en h =
-    subst (λ (z : ℤ). Shows v (listening a b x z 1)) en
-    (subst (λ (z : ℕ). Shows v (listening a b z n 1)) ew
-    (subst (λ (z : ℤ). Shows v (listening a z w n 1)) et
-    (subst (λ (z : ℤ). Shows v (listening z t w n 1)) es h)))
+pub shows_listening : (v : Core) (s t a b : ℤ) (w x : ℕ) (n m : ℤ) (g : ℕ) → s ≡ a → t ≡ b → w ≡ x → n ≡ m → Shows v (listening s t w n 1 g) → Shows v (listening a b x m 1 g)
+shows_listening v s t a b w x n m g es et ew en h =
+    subst (λ (z : ℤ). Shows v (listening a b x z 1 g)) en
+    (subst (λ (z : ℕ). Shows v (listening a b z n 1 g)) ew
+    (subst (λ (z : ℤ). Shows v (listening a z w n 1 g)) et
+    (subst (λ (z : ℤ). Shows v (listening z t w n 1 g)) es h)))

@@ -8,6 +8,7 @@ use Rattle.theory.specs.Image.{Image, Lose}
 use Rattle.theory.specs.World.{World, AtImage}
 use Rattle.theory.proofs.Lists.{all_at, all_from, among_left, among_right}
 use Rattle.theory.proofs.Messages.{chain_le}
+use Rattle.assembler.specs.declared.fault.AssemblyError.{AssemblyError}
 use Rattle.mdriver.specs.Answers.{with_receiver}
 use Rattle.mdriver.specs.Polling.{PollsFault, PollsImage, PollsOf, PollsOn, PollsWhole, Polls, Reads, gives, moved_all}
 use Rattle.mdriver.specs.Prints.{Print, Message, NoMessage, Unassembled}
@@ -60,8 +61,8 @@ whole_poll w k i c d frames given more Whole h heard known reads after all = rec
   heard = λ whole. heard_of c d frames given more after all heard (known whole).1;
 }
 
-fault_poll : (w : World) (k : ℕ) (i : Image) (c d : Consumer) (given more : List (List ℕ)) (Whole : Type 0) → Stands w k i c → c.lost ≡ false → (Whole → ⊥) → PollsFault i c d → Polled w k i c d given more Whole
-fault_poll w k i c d given more Whole h heard never p =
+fault_poll : (w : World) (k : ℕ) (i : Image) (c d : Consumer) (g : ℕ) (fault : AssemblyError) (given more : List (List ℕ)) (Whole : Type 0) → Stands w k i c → c.lost ≡ false → (Whole → ⊥) → PollsFault g i c fault d → Polled w k i c d given more Whole
+fault_poll w k i c d g fault given more Whole h heard never p =
     let parts = chain_split c.at d.at p.earlier (p.last ∷ []) p.reads.chain in
     let e = moved_all c p.earlier in
     let v = with_image w k (with_one i e) in
@@ -77,8 +78,8 @@ fault_poll w k i c d given more Whole h heard never p =
       heard = λ whole. absurd (never whole);
     }
 
-lost_poll : (w : World) (k : ℕ) (i : Image) (c d : Consumer) (given more : List (List ℕ)) (Whole : Type 0) → Stands w k i c → (Whole → ⊥) → PollsOn i c d → Polled w k i c d given more Whole
-lost_poll w k i c d given more Whole h never p = record {
+lost_poll : (w : World) (k : ℕ) (i : Image) (c d : Consumer) (line : Print) (given more : List (List ℕ)) (Whole : Type 0) → Stands w k i c → (Whole → ⊥) → PollsOn i c line d → Polled w k i c d given more Whole
+lost_poll w k i c d line given more Whole h never p = record {
   goes = subst (λ x. Goes w (with_image w k (with_one i x))) (sym p.after) (passes w k i c d.at p.frames h p.reads.chain p.reads.among);
   further = chain_le c.at d.at p.frames p.reads.chain;
   join = ap (λ x. x.join) p.after ∙ passed_join c p.frames;
@@ -92,15 +93,15 @@ true_false false h k = absurd (cc)
 abbrev pub StillWhole : Type 0 → Print → Type 0
 StillWhole Whole line = Whole × (is_fault line ≡ false)
 
-whole_line : (w : World) (k : ℕ) (i : Image) (c d : Consumer) (line : Print) (given : List (List ℕ)) (Whole : Type 0) → Stands w k i c → c.lost ≡ false → (Whole → (c.lost ≡ false) × (c.assembly.given ≡ given)) → PollsWhole i c line d → Polled w k i c d given (messages_in line) (StillWhole Whole line)
-whole_line w k i c d (Message bytes) given Whole h heard known p = whole_poll w k i c d (p.earlier ++ p.last ∷ []) given (bytes ∷ []) (StillWhole Whole (Message bytes)) h heard (λ x. known x.0) p.reads p.after p.message_given
-whole_line w k i c d NoMessage given Whole h heard known p = whole_poll w k i c d p.frames given [] (StillWhole Whole NoMessage) h heard (λ x. known x.0) p.reads p.after p.nothing
-whole_line w k i c d (Unassembled fault) given Whole h heard known p = fault_poll w k i c d given [] (StillWhole Whole (Unassembled fault)) h heard (λ x. true_false true refl x.1) p
-whole_line w k i c d line given Whole h heard known p = absurd p
+whole_line : (w : World) (k : ℕ) (i : Image) (c d : Consumer) (g : ℕ) (line : Print) (given : List (List ℕ)) (Whole : Type 0) → Stands w k i c → c.lost ≡ false → (Whole → (c.lost ≡ false) × (c.assembly.given ≡ given)) → PollsWhole g i c line d → Polled w k i c d given (messages_in line) (StillWhole Whole line)
+whole_line w k i c d g (Message bytes) given Whole h heard known p = whole_poll w k i c d (p.earlier ++ p.last ∷ []) given (bytes ∷ []) (StillWhole Whole (Message bytes)) h heard (λ x. known x.0) p.reads p.after p.message_given
+whole_line w k i c d g NoMessage given Whole h heard known p = whole_poll w k i c d p.frames given [] (StillWhole Whole NoMessage) h heard (λ x. known x.0) p.reads p.after p.nothing
+whole_line w k i c d g (Unassembled fault) given Whole h heard known p = fault_poll w k i c d g fault given [] (StillWhole Whole (Unassembled fault)) h heard (λ x. true_false true refl x.1) p
+whole_line w k i c d g line given Whole h heard known p = absurd p
 
-image_line : (w : World) (k : ℕ) (i : Image) (c d : Consumer) (line : Print) (given : List (List ℕ)) (Whole : Type 0) → Stands w k i c → (Whole → (c.lost ≡ false) × (c.assembly.given ≡ given)) → PollsImage i c line d → Polled w k i c d given (messages_in line) (StillWhole Whole line)
-image_line w k i c d line given Whole h known (inl p) = whole_line w k i c d line given Whole h p.0 known p.1
-image_line w k i c d line given Whole h known (inr p) = lost_poll w k i c d given (messages_in line) (StillWhole Whole line) h (λ x. true_false c.lost p.0 (known x.0).0) p.1
+image_line : (w : World) (k : ℕ) (i : Image) (c d : Consumer) (g : ℕ) (line : Print) (given : List (List ℕ)) (Whole : Type 0) → Stands w k i c → (Whole → (c.lost ≡ false) × (c.assembly.given ≡ given)) → PollsImage g i c line d → Polled w k i c d given (messages_in line) (StillWhole Whole line)
+image_line w k i c d g line given Whole h known (inl p) = whole_line w k i c d g line given Whole h p.0 known p.1
+image_line w k i c d g line given Whole h known (inr p) = lost_poll w k i c d line given (messages_in line) (StillWhole Whole line) h (λ x. true_false c.lost p.0 (known x.0).0) p.1
 
 -- ---- of a receiver
 
@@ -127,7 +128,7 @@ polls_of s k r mid (Some o) line joins given Whole a was m =
     let same_list : before.consumer ∷ [] ≡ c ∷ [] = sym before.one ∙ m.2 in
     let same : before.consumer ≡ c = cc in
     let stands : Stands w k o.image c = record { image = a.there ∙ ap Some (ap (option_map (λ x. x.image)) was); one = m.2 } in
-    let polled = image_line w k o.image c d line given Whole stands (λ whole. let h = before.heard whole in (ap (λ x. x.lost) (sym same) ∙ h.0, ap (λ x. x.assembly.given) (sym same) ∙ h.1)) m.3 in
+    let polled = image_line w k o.image c d r.greatest line given Whole stands (λ whole. let h = before.heard whole in (ap (λ x. x.lost) (sym same) ∙ h.0, ap (λ x. x.assembly.given) (sym same) ∙ h.1)) m.3 in
     let is : image_of mid ≡ Some (with_one o.image d) = ap (λ x. image_of x) m.4 in
     record {
       goes = subst (λ v. Goes w v) (ap (λ x. record w { images = slice_set w.images k x }) (sym is) ∙ sym (set_image s k mid)) polled.goes;

@@ -1,10 +1,10 @@
 -- Frames that a poll reads, one after the other.
-use Rattle.std.proofs.Common.{◌≡◌, ℕ, inl, inr, ⊎_elim, List, [], ◌∷◌, ◌++◌, arith, true, false, Option, Some, None, refl, sym, ap, ap₂, ◌∙◌, subst, append-nil}
+use Rattle.std.proofs.Common.{◌≡◌, ◌↔◌, ℕ, inl, inr, ⊎_elim, List, [], ◌∷◌, ◌++◌, arith, true, false, Option, Some, None, refl, sym, ap, ap₂, ◌∙◌, subst, append-nil}
 use Rattle.std.specs.Prelude.{is_some, map}
 use Rattle.std.specs.Option.{option_to_list}
 use Rattle.std.specs.List.{AllByRecursion}
 use Rattle.std.proofs.lemmas.Bool.{cases_Bool, both_ways}
-use Rattle.theory.specs.Placed.{Among, Chain, Data, Frame, IsReached, Pad, Placed, end_of}
+use Rattle.theory.specs.Placed.{Among, Chain, Data, Frame, IsReached, Pad, Placed, end_of, is_padding}
 use Rattle.theory.specs.Units.{IsContiguous}
 use Rattle.theory.specs.Assembly.{Assembly, after, after_all}
 use Rattle.theory.specs.Consumer.{Consumer, moved, passed_by}
@@ -12,9 +12,10 @@ use Rattle.theory.specs.Image.{Image}
 use Rattle.theory.proofs.Lists.{all_append}
 use Rattle.theory.proofs.Follow.{Chain-push}
 use Rattle.assembler.specs.Assembling.{Assembling}
-use Rattle.mdriver.specs.Polling.{PollsOf, PollsWhole, Reads, TellsOf, TellsPositions, gives, moved_all, passed_all, with_consumer}
+use Rattle.mdriver.specs.Polling.{IsTooLong, PollsOf, PollsWhole, Reads, StaysShort, StopsAt, TellsOf, TellsPositions, gives, moved_all, passed_all, with_consumer}
 use Rattle.mdriver.specs.Prints.{Print, Bad, Message, NoMessage, Positions, Unassembled}
 use Rattle.assembler.specs.declared.fault.AssemblyError.{AssemblyError}
+use Rattle.assembler.specs.declared.fault.AssemblyError.TheVariants.{TooLong}
 use Rattle.mdriver.specs.Receiving.{Opened, Receiver}
 use Rattle.mdriver.specs.Showing.{Core, HasNoFrame, Shows, ShowsImage, ShowsOpened}
 use Rattle.mdriver.proofs.Meeting.{shown_none, shown_some}
@@ -76,6 +77,14 @@ gives_more c frames s =
 reads_more : (i : Image) (c : Consumer) (frames : List Placed) (at : ℕ) (s : Placed) → Reads i c frames at → Among s i.stored → s.at ≡ at → Reads i c (frames ++ s ∷ []) (end_of s)
 reads_more i c frames at s h a e = record { chain = Chain-push c.at at frames s h.chain e; among = all_append (λ x. Among x i.stored) frames (s ∷ []) h.among (a, tt) }
 
+short_more : (g : ℕ) (c : Consumer) (frames : List Placed) (s : Placed) → StaysShort g c frames → (IsTooLong g (moved_all c frames).assembly.begun s.frame → ⊥) → StaysShort g c (frames ++ s ∷ [])
+short_more g c [] s h k = (k, tt)
+short_more g c (t ∷ ts) s h k = (h.0, short_more g (moved c t) ts s h.1 k)
+
+-- of an assembler that shows what is begun
+short_with : (g : ℕ) (c : Consumer) (frames : List Placed) (s : Placed) (a : Assembling) → a.greatest ≡ g → a.begun ≡ (moved_all c frames).assembly.begun → StaysShort g c frames → (IsTooLong a.greatest a.begun s.frame → ⊥) → StaysShort g c (frames ++ s ∷ [])
+short_with g c frames s a most begun h k = short_more g c frames s h (λ t. k (subst (λ n. IsTooLong n a.begun s.frame) (sym most) (subst (λ b. IsTooLong g b s.frame) (sym begun) t)))
+
 -- ---- the start of a poll
 
 -- another consumer at the same place is shown as well
@@ -110,7 +119,9 @@ poll_starts v (Some o) r is some h = reading (subst (AssemblesFor v.assembler.be
       reads = record { chain = refl; among = tt };
       shown = λ d e. record { numbers = ap (λ (x : Receiver). record x { image = Some (with_consumer o d) }) h.core.numbers; image = opened_shown v.core.image o c d one e (subst (ShowsOpened v.core.image) is h.core.image) };
       nothing = λ l. refl;
+      short = λ l. tt;
       begun = begun;
+      greatest = h.greatest;
     }
 
 pub some_shows : (i : Option seen.Image) (o : Option Opened) → is_some i ≡ true → ShowsOpened i o → o ≡ None → ⊥
@@ -133,7 +144,7 @@ passed_here o r c at s w h =
     h.here ∙ ap (λ (x : Consumer). x.at) (sym same)
 
 pub hears_on : (o : Opened) (r : Receiver) (v w : Subscribing) (h : HasRead o r v) → HearsFrame (Some (with_consumer o (stood h.consumer h.at))) (now_at o r h.consumer h.at) v.assembler None w → HasRead o r w
-hears_on o r v w h (s, passes, state, message) =
+hears_on o r v w h (s, passes, state, message, fits) =
     let c = h.consumer in
     let begun : w.assembler.begun ≡ (heard_of v.assembler.begun s.frame).begun = ap (λ (x : Assembling). x.begun) state in
     record {
@@ -144,7 +155,9 @@ hears_on o r v w h (s, passes, state, message) =
       reads = reads_more o.image c h.frames h.at s h.reads passes.among (passed_here o r c h.at s w.core passes);
       shown = passes.shown;
       nothing = λ l. gives_more c h.frames s ∙ ap₂ (λ (xs ys : List (List ℕ)). xs ++ ys) (h.nothing l) (ap (λ b. option_to_list (heard_of b s.frame).message) (sym (h.begun l)) ∙ ap option_to_list (sym message));
+      short = λ l. short_with r.greatest c h.frames s v.assembler h.greatest (h.begun l) (h.short l) fits;
       begun = λ l. begun ∙ ap (λ b. (heard_of b s.frame).begun) (h.begun l) ∙ sym (moved_begun c h.frames s);
+      greatest = ap (λ (x : Assembling). x.greatest) state ∙ h.greatest;
     }
 
 -- ---- the end of a poll
@@ -153,28 +166,28 @@ abbrev pub Polled : Option Opened → Receiver → Print → Subscribing → Typ
 Polled o r print w = (x : Receiver) × PollsOf o r print x × ShowsSubscriber w x
 
 -- where the consumer stands then, if it has lost nothing
-record Whole (o : Opened) (c : Consumer) (print : Print) (at : ℕ) (w : Subscribing) : Type 0 where
+record Whole (greatest : ℕ) (o : Opened) (c : Consumer) (print : Print) (at : ℕ) (w : Subscribing) : Type 0 where
   after : Consumer
-  polls : PollsWhole o.image c print after
+  polls : PollsWhole greatest o.image c print after
   here : after.at ≡ at
   begun : after.lost ≡ false → w.assembler.begun ≡ after.assembly.begun
 
 finish : (o : Opened) (r : Receiver) (w : Subscribing) (print : Print) (c : Consumer) (frames : List Placed) (at : ℕ) → r.consumers ≡ 1 → o.image.consumers ≡ c ∷ [] → Reads o.image c frames at
-    → ((d : Consumer) → d.at ≡ at → Shows w.core (record r { image = Some (with_consumer o d) })) → (c.lost ≡ false → Whole o c print at w) → Polled (Some o) r print w
-finish o r w print c frames at seats one reads shown whole =
+    → ((d : Consumer) → d.at ≡ at → Shows w.core (record r { image = Some (with_consumer o d) })) → w.assembler.greatest ≡ r.greatest → StopsAt o.image frames print at → (c.lost ≡ false → Whole r.greatest o c print at w) → Polled (Some o) r print w
+finish o r w print c frames at seats one reads shown most stops whole =
     ⊎_elim
     (λ (lost : c.lost ≡ true).
     let d = passed_all c frames in
     let here : d.at ≡ at = passed_at c frames at reads.chain in (
       record r { image = Some (with_consumer o d) },
-      (c, d, one, inr (lost, record { frames = frames; reads = subst (Reads o.image c frames) (sym here) reads; after = refl }), refl),
-      record { core = shown d here; one = seats; begun = (d, refl, λ l. absurd (both_ways d.lost l (passed_lost c frames lost))) },
+      (c, d, one, inr (lost, record { frames = frames; reads = subst (Reads o.image c frames) (sym here) reads; stops = subst (StopsAt o.image frames print) (sym here) stops; after = refl }), refl),
+      record { core = shown d here; one = seats; begun = (d, refl, λ l. absurd (both_ways d.lost l (passed_lost c frames lost))); greatest = most },
     ))
     (λ (kept : c.lost ≡ false).
     let h = whole kept in (
       record r { image = Some (with_consumer o h.after) },
       (c, h.after, one, inl (kept, h.polls), refl),
-      record { core = shown h.after h.here; one = seats; begun = (h.after, refl, h.begun) },
+      record { core = shown h.after h.here; one = seats; begun = (h.after, refl, h.begun); greatest = most },
     ))
     (cases_Bool c.lost)
 
@@ -185,23 +198,28 @@ polls_none o r v h seats end =
     let here : d.at ≡ h.at = moved_at c h.frames h.at h.reads.chain in
     let same : stood c h.at ≡ end.consumer = same_Some (stood c h.at) end.consumer end.which in
     let stops : IsContiguous o.image.stored o.image.join h.at = subst (λ (x : Consumer). IsContiguous o.image.stored o.image.join x.at) (sym same) end.end in
-    finish o r v NoMessage c h.frames h.at seats h.one h.reads h.shown
+    finish o r v NoMessage c h.frames h.at seats h.one h.reads h.shown h.greatest stops
     (λ kept. record {
       after = d;
-      polls = record { frames = h.frames; reads = subst (Reads o.image c h.frames) (sym here) h.reads; nothing = h.nothing kept; no_more = subst (λ p. IsContiguous o.image.stored o.image.join p) (sym here) stops; after = refl };
+      polls = record { frames = h.frames; reads = subst (Reads o.image c h.frames) (sym here) h.reads; nothing = h.nothing kept; short = h.short kept; no_more = subst (λ p. IsContiguous o.image.stored o.image.join p) (sym here) stops; after = refl };
       here = here;
       begun = λ l. h.begun kept;
     })
 
+-- a padding completes no message
+gives_data : (begun : Option (List ℕ)) (f : Frame) (bytes : List ℕ) → (heard_of begun f).message ≡ Some bytes → is_padding f ≡ false
+gives_data begun (Data flags payload) bytes e = refl
+gives_data begun (Pad n) bytes e = absurd (cc)
+
 pub polls_message : (o : Opened) (r : Receiver) (v w : Subscribing) (bytes : List ℕ) (h : HasRead o r v) → r.consumers ≡ 1 → HearsFrame (Some (with_consumer o (stood h.consumer h.at))) (now_at o r h.consumer h.at) v.assembler (Some bytes) w → Polled (Some o) r (Message bytes) w
-polls_message o r v w bytes h seats (s, passes, state, message) =
+polls_message o r v w bytes h seats (s, passes, state, message, fits) =
     let c = h.consumer in
     let frames = h.frames ++ s ∷ [] in
     let d = moved_all c frames in
     let reads : Reads o.image c frames (end_of s) = reads_more o.image c h.frames h.at s h.reads passes.among (passed_here o r c h.at s w.core passes) in
     let here : d.at ≡ end_of s = moved_at c frames (end_of s) reads.chain in
     let begun : w.assembler.begun ≡ (heard_of v.assembler.begun s.frame).begun = ap (λ (x : Assembling). x.begun) state in
-    finish o r w (Message bytes) c frames (end_of s) seats h.one reads passes.shown
+    finish o r w (Message bytes) c frames (end_of s) seats h.one reads passes.shown (ap (λ (x : Assembling). x.greatest) state ∙ h.greatest) (h.frames, s, refl, gives_data v.assembler.begun s.frame bytes (sym message))
     (λ kept. record {
       after = d;
       polls = record {
@@ -210,21 +228,25 @@ polls_message o r v w bytes h seats (s, passes, state, message) =
         reads = subst (Reads o.image c frames) (sym here) reads;
         nothing = h.nothing kept;
         message_given = gives_more c h.frames s ∙ ap₂ (λ (xs ys : List (List ℕ)). xs ++ ys) (h.nothing kept) (ap (λ b. option_to_list (heard_of b s.frame).message) (sym (h.begun kept)) ∙ ap option_to_list (sym message));
+        short = short_with r.greatest c h.frames s v.assembler h.greatest (h.begun kept) (h.short kept) fits;
         after = refl;
       };
       here = here;
       begun = λ l. begun ∙ ap (λ b. (heard_of b s.frame).begun) (h.begun kept) ∙ sym (moved_begun c h.frames s);
     })
 
-pub polls_fault : (o : Opened) (r : Receiver) (v w : Subscribing) (fault : AssemblyError) (h : HasRead o r v) → r.consumers ≡ 1 → RefusesFrame (Some (with_consumer o (stood h.consumer h.at))) (now_at o r h.consumer h.at) w → Polled (Some o) r (Unassembled fault) w
-polls_fault o r v w fault h seats (s, passes, of_data) =
+named_with : (g : ℕ) (c : Consumer) (frames : List Placed) (s : Placed) (a : Assembling) (fault : AssemblyError) → a.greatest ≡ g → a.begun ≡ (moved_all c frames).assembly.begun → ((fault ≡ TooLong) ↔ IsTooLong a.greatest a.begun s.frame) → (fault ≡ TooLong) ↔ IsTooLong g (moved_all c frames).assembly.begun s.frame
+named_with g c frames s a fault most begun h = subst (λ n. (fault ≡ TooLong) ↔ IsTooLong n (moved_all c frames).assembly.begun s.frame) most (subst (λ b. (fault ≡ TooLong) ↔ IsTooLong a.greatest b s.frame) begun h)
+
+pub polls_fault : (o : Opened) (r : Receiver) (v w : Subscribing) (fault : AssemblyError) (h : HasRead o r v) → r.consumers ≡ 1 → RefusesFrame (Some (with_consumer o (stood h.consumer h.at))) (now_at o r h.consumer h.at) v.assembler fault w → Polled (Some o) r (Unassembled fault) w
+polls_fault o r v w fault h seats (s, passes, state, of_data, named) =
     let c = h.consumer in
     let frames = h.frames ++ s ∷ [] in
     let reads : Reads o.image c frames (end_of s) = reads_more o.image c h.frames h.at s h.reads passes.among (passed_here o r c h.at s w.core passes) in
-    finish o r w (Unassembled fault) c frames (end_of s) seats h.one reads passes.shown
+    finish o r w (Unassembled fault) c frames (end_of s) seats h.one reads passes.shown (ap (λ (x : Assembling). x.greatest) state ∙ h.greatest) (h.frames, s, refl, of_data)
     (λ kept. record {
       after = passed_by (moved_all c h.frames) s;
-      polls = record { earlier = h.frames; last = s; reads = reads; nothing = h.nothing kept; not_padding = of_data; after = refl };
+      polls = record { earlier = h.frames; last = s; reads = reads; nothing = h.nothing kept; not_padding = of_data; short = h.short kept; named = named_with r.greatest c h.frames s v.assembler fault h.greatest (h.begun kept) named; after = refl };
       here = refl;
       begun = λ l. absurd (both_ways true l refl);
     })
@@ -255,7 +277,7 @@ pub ends_message : (o : Option Opened) (r : Receiver) (v w : Subscribing) (bytes
 ends_message None r v w bytes h seats heard = absurd h
 ends_message (Some o) r v w bytes h seats heard = polls_message o r v w bytes h seats heard
 
-pub ends_fault : (o : Option Opened) (r : Receiver) (v w : Subscribing) (fault : AssemblyError) (h : IsPolling o r v) → r.consumers ≡ 1 → RefusesFrame (standing o r v h).image (standing o r v h) w → Polled o r (Unassembled fault) w
+pub ends_fault : (o : Option Opened) (r : Receiver) (v w : Subscribing) (fault : AssemblyError) (h : IsPolling o r v) → r.consumers ≡ 1 → RefusesFrame (standing o r v h).image (standing o r v h) v.assembler fault w → Polled o r (Unassembled fault) w
 ends_fault None r v w fault h seats refused = absurd h
 ends_fault (Some o) r v w fault h seats refused = polls_fault o r v w fault h seats refused
 
@@ -267,5 +289,5 @@ tells v i least q high r some is end mark h =
     subst (λ x. TellsOf x (Positions least q high)) (sym w.is) (q, end_shown i w.opened q w.shown end, ap₂ (λ l m. Positions l q m) (is ∙ least_shown i w.opened w.shown) (mark ∙ w.shown.high))
 
 -- a core without an image
-pub subscribes : (v : Subscribing) (r : Receiver) → v.core.image ≡ None → v.core.consumers ≡ 1 → v.assembler.begun ≡ None → Shows v.core r → ShowsSubscriber v r
-subscribes v r none one begun h = record { core = h; one = ap (λ (x : Receiver). x.consumers) h.numbers ∙ one; begun = subst (AssemblesFor v.assembler.begun) (sym (shown_none v.core.image r.image none h.image)) begun }
+pub subscribes : (v : Subscribing) (r : Receiver) → v.core.image ≡ None → v.core.consumers ≡ 1 → v.assembler.begun ≡ None → v.assembler.greatest ≡ r.greatest → Shows v.core r → ShowsSubscriber v r
+subscribes v r none one begun most h = record { core = h; one = ap (λ (x : Receiver). x.consumers) h.numbers ∙ one; begun = subst (AssemblesFor v.assembler.begun) (sym (shown_none v.core.image r.image none h.image)) begun; greatest = most }

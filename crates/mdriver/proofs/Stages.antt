@@ -102,12 +102,6 @@ course_same f blind l by bytes Trips fitting h k = turned_same f blind (with_pad
 course_keeps : (l : Log) (by bytes : ℕ) (c : Course) (fitting : Log) → KeptByOffers fitting ≡ KeptByOffers l → KeptByOffers (after l by bytes c fitting) ≡ KeptByOffers l
 course_keeps l by bytes c fitting h = course_same KeptByOffers (λ k x y z. refl) l by bytes c fitting h refl
 
-pub offer_identity : (l : Log) (by : ℕ) (m : List ℕ) → (after_offer l by m).identity ≡ l.identity
-offer_identity l by m = course_same (λ k. k.identity) (λ k x y z. refl) l by (length m) (course_of l (length m)) _ refl refl
-
-pub claim_identity : (l : Log) (by size : ℕ) → (after_claim l by size).identity ≡ l.identity
-claim_identity l by size = course_same (λ k. k.identity) (λ k x y z. refl) l by size (course_of l size) _ refl refl
-
 offer_keeps : (l : Log) (by : ℕ) (m : List ℕ) → KeptByOffers (after_offer l by m) ≡ KeptByOffers l
 offer_keeps l by m = course_keeps l by (length m) (course_of l (length m)) _ refl
 

@@ -1,6 +1,8 @@
 -- The fault texts.
 use Rattle.std.specs.Prelude.{ℕ, List, ◌++◌, codes, decimal}
 use Rattle.frames.specs.Fault.{text_of}
+use Rattle.script.specs.declared.fault.ScriptFault.{ScriptFault}
+use Rattle.script.specs.declared.fault.ScriptFault.TheVariants as script
 use Rattle.mdriver.specs.declared.fault.Fault.{Fault}
 use Rattle.mdriver.specs.declared.fault.Fault.TheVariants.{Line, Input, Memory, Hex, Frame, Read, Write}
 
@@ -12,3 +14,8 @@ shown_fault Hex = codes "hex"
 shown_fault (Frame error) = text_of error
 shown_fault Read = codes "read"
 shown_fault Write = codes "write"
+
+-- a script's fault as the program's
+abbrev pub of_script : ScriptFault → Fault
+of_script (script.Line n) = Line n
+of_script script.Memory = Memory

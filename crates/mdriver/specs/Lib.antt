@@ -15,6 +15,7 @@ pub mod Published
 pub mod Reading
 pub mod Receiving
 pub mod Scene
+pub mod Scripting
 pub mod Sending
 pub mod Showing
 pub mod Staged

@@ -1,10 +1,13 @@
 -- What a poll reads of an image, and what it prints.
-use Rattle.std.specs.Prelude.{◌≡◌, ◌⊎◌, ℕ, true, false, Option, None, Some, List, [], ◌∷◌, ◌++◌, map}
-use Rattle.theory.specs.Placed.{AllAmong, Chain, Placed, is_padding}
+use Rattle.std.specs.Prelude.{◌≡◌, ◌⊎◌, ◌↔◌, ◌<◌, ℕ, ⊤, length, true, false, Option, None, Some, List, [], ◌∷◌, ◌++◌, map}
+use Rattle.theory.specs.Placed.{AllAmong, Chain, Data, Frame, Pad, Placed, is_padding}
 use Rattle.theory.specs.Units.{IsContiguous}
 use Rattle.theory.specs.Assembly.{after_all}
 use Rattle.theory.specs.Consumer.{Consumer, least_of, moved, passed_by}
 use Rattle.theory.specs.Image.{Image}
+use Rattle.assembler.specs.Assembling.{held_with}
+use Rattle.assembler.specs.declared.fault.AssemblyError.{AssemblyError}
+use Rattle.assembler.specs.declared.fault.AssemblyError.TheVariants.{TooLong}
 use Rattle.mdriver.specs.Prints.{Print, Message, NoMessage, Unassembled, Positions, Bad}
 use Rattle.mdriver.specs.Receiving.{Opened, Receiver}
 
@@ -27,47 +30,73 @@ passed_all c (s ∷ ss) = passed_all (passed_by c s) ss
 abbrev pub gives : Consumer → List Placed → List (List ℕ)
 gives c frames = (after_all (record { begun = c.assembly.begun; given = [] }) (map (λ s. s.frame) frames)).given
 
+-- with this frame the message that is begun is longer than the greatest
+abbrev pub IsTooLong : ℕ → Option (List ℕ) → Frame → Type 0
+IsTooLong greatest begun (Data flags payload) = greatest < length (held_with begun flags payload)
+IsTooLong greatest begun (Pad n) = ⊥
+
+-- with none of these frames, one after the other
+abbrev pub StaysShort : ℕ → Consumer → List Placed → Type 0
+StaysShort greatest c [] = ⊤
+StaysShort greatest c (s ∷ ss) = (IsTooLong greatest c.assembly.begun s.frame → ⊥) × StaysShort greatest (moved c s) ss
+
 -- the frames up to the first that completes a message
-pub record PollsMessage (i : Image) (c : Consumer) (message : List ℕ) (d : Consumer) : Type 0 where
+pub record PollsMessage (greatest : ℕ) (i : Image) (c : Consumer) (message : List ℕ) (d : Consumer) : Type 0 where
   pub earlier : List Placed
   pub last : Placed
   pub reads : Reads i c (earlier ++ last ∷ []) d.at
   pub nothing : gives c earlier ≡ []
   pub message_given : gives c (earlier ++ last ∷ []) ≡ message ∷ []
+  pub short : StaysShort greatest c (earlier ++ last ∷ [])
   pub after : d ≡ moved_all c (earlier ++ last ∷ [])
 
 -- all frames that are there, none of which completes a message
-pub record PollsNothing (i : Image) (c d : Consumer) : Type 0 where
+pub record PollsNothing (greatest : ℕ) (i : Image) (c d : Consumer) : Type 0 where
   pub frames : List Placed
   pub reads : Reads i c frames d.at
   pub nothing : gives c frames ≡ []
+  pub short : StaysShort greatest c frames
   pub no_more : IsContiguous i.stored i.join d.at
   pub after : d ≡ moved_all c frames
 
--- the frames up to a DATA frame that the assembler refuses
-pub record PollsFault (i : Image) (c d : Consumer) : Type 0 where
+-- the frames up to a DATA frame that the assembler refuses: as too long exactly where the message is longer than the greatest with it, else for want of memory
+pub record PollsFault (greatest : ℕ) (i : Image) (c : Consumer) (fault : AssemblyError) (d : Consumer) : Type 0 where
   pub earlier : List Placed
   pub last : Placed
   pub reads : Reads i c (earlier ++ last ∷ []) d.at
   pub nothing : gives c earlier ≡ []
   pub not_padding : is_padding last.frame ≡ false
+  pub short : StaysShort greatest c earlier
+  pub named : (fault ≡ TooLong) ↔ IsTooLong greatest (moved_all c earlier).assembly.begun last.frame
   pub after : d ≡ passed_by (moved_all c earlier) last
 
--- a consumer whose assembler has refused a frame goes on; of what it gives then nothing is said
-pub record PollsOn (i : Image) (c d : Consumer) : Type 0 where
+-- the last of these frames is a message's
+abbrev pub EndInData : List Placed → Type 0
+EndInData frames = (earlier : List Placed) × (last : Placed) × (frames ≡ earlier ++ last ∷ []) × (is_padding last.frame ≡ false)
+
+-- where a poll may stop that prints this
+abbrev pub StopsAt : Image → List Placed → Print → ℕ → Type 0
+StopsAt i frames (Message bytes) q = EndInData frames
+StopsAt i frames NoMessage q = IsContiguous i.stored i.join q
+StopsAt i frames (Unassembled fault) q = EndInData frames
+StopsAt i frames line q = ⊥
+
+-- a consumer whose assembler has refused a frame goes on; of which message it gives then, and where, nothing is said
+pub record PollsOn (i : Image) (c : Consumer) (print : Print) (d : Consumer) : Type 0 where
   pub frames : List Placed
   pub reads : Reads i c frames d.at
+  pub stops : StopsAt i frames print d.at
   pub after : d ≡ passed_all c frames
 
 -- a consumer that has lost nothing
-abbrev pub PollsWhole : Image → Consumer → Print → Consumer → Type 0
-PollsWhole i c (Message bytes) d = PollsMessage i c bytes d
-PollsWhole i c NoMessage d = PollsNothing i c d
-PollsWhole i c (Unassembled fault) d = PollsFault i c d
-PollsWhole i c line d = ⊥
+abbrev pub PollsWhole : ℕ → Image → Consumer → Print → Consumer → Type 0
+PollsWhole greatest i c (Message bytes) d = PollsMessage greatest i c bytes d
+PollsWhole greatest i c NoMessage d = PollsNothing greatest i c d
+PollsWhole greatest i c (Unassembled fault) d = PollsFault greatest i c fault d
+PollsWhole greatest i c line d = ⊥
 
-abbrev pub PollsImage : Image → Consumer → Print → Consumer → Type 0
-PollsImage i c print d = ((c.lost ≡ false) × PollsWhole i c print d) ⊎ ((c.lost ≡ true) × PollsOn i c d)
+abbrev pub PollsImage : ℕ → Image → Consumer → Print → Consumer → Type 0
+PollsImage greatest i c print d = ((c.lost ≡ false) × PollsWhole greatest i c print d) ⊎ ((c.lost ≡ true) × PollsOn i c print d)
 
 -- ---- by a receiver with one consumer
 
@@ -77,7 +106,7 @@ with_consumer o d = record o { image = record o.image { consumers = d ∷ [] } }
 abbrev pub PollsOf : Option Opened → Receiver → Print → Receiver → Type 0
 PollsOf None r print s = (print ≡ Bad) × (s ≡ r)
 PollsOf (Some o) r print s =
-    (c : Consumer) × (d : Consumer) × (o.image.consumers ≡ c ∷ []) × PollsImage o.image c print d × (s ≡ record r { image = Some (with_consumer o d) })
+    (c : Consumer) × (d : Consumer) × (o.image.consumers ≡ c ∷ []) × PollsImage r.greatest o.image c print d × (s ≡ record r { image = Some (with_consumer o d) })
 
 abbrev pub Polls : Receiver → Print → Receiver → Type 0
 Polls r print s = PollsOf r.image r print s

@@ -33,6 +33,8 @@ pub record Receiver : Type 0 where
   pub id : ℤ
   -- how many consumers its image is to have
   pub consumers : ℕ
+  -- the most bytes of a message that one of them puts together
+  pub greatest : ℕ
   pub image : Option Opened
   -- the header of the last frame that met no image since the last tick
   pub unmet : Option Header
@@ -42,13 +44,14 @@ pub record Receiver : Type 0 where
   pub clock : ℕ
 
 -- it has met nothing yet
-abbrev pub listening : ℤ → ℤ → ℕ → ℤ → ℕ → Receiver
-listening session stream window id consumers = record {
+abbrev pub listening : ℤ → ℤ → ℕ → ℤ → ℕ → ℕ → Receiver
+listening session stream window id consumers greatest = record {
   session = session;
   stream = stream;
   window = window;
   id = id;
   consumers = consumers;
+  greatest = greatest;
   image = None;
   unmet = None;
   told = None;

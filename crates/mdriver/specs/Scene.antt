@@ -2,6 +2,7 @@
 use Rattle.std.specs.Prelude.{ℕ, suc, ◌/◌, pos, Bool, true, false, List, [], ◌∷◌, ◌++◌, map, replicate, Option, None, Some}
 use Rattle.std.specs.Option.{option_map}
 use Rattle.theory.specs.Bytes.{Identity}
+use Rattle.theory.specs.Position.{max_message}
 use Rattle.theory.specs.Entry.{Entry}
 use Rattle.theory.specs.Consumer.{Consumer, consumer_at}
 use Rattle.theory.specs.Image.{Image}
@@ -58,9 +59,9 @@ image_of r = option_map (λ o. o.image) r.image
 abbrev pub world_of : Scene → World
 world_of s = record { log = stream_of s.past s.readers s.log; sender = s.sender; images = map image_of s.receivers }
 
--- a receiver of the log's session and stream, with half a term as its window and one consumer
+-- a receiver of the log's session and stream, with half a term as its window, one consumer, and the log's greatest message
 abbrev pub listening_at : Identity → ℕ → Receiver
-listening_at i number = listening i.session i.stream (i.geometry.term_length / 2) (pos number) 1
+listening_at i number = listening i.session i.stream (i.geometry.term_length / 2) (pos number) 1 (max_message i.geometry)
 
 -- a log that was just opened at this start, with so many readers beside the sender
 abbrev pub opened_scene : Identity → ℕ → ℕ → Scene

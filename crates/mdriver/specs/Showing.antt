@@ -42,14 +42,15 @@ pub record IsCore (v : Core) : Type 0 where
   pub seats : ForSome v.image (λ (i : seen.Image). length i.consumers ≡ v.consumers)
   pub unmet : ForSome v.unmet IsHeader
 
--- the core's numbers, with this image
-abbrev pub with_image : Core → Option Opened → Receiver
-with_image v image = record {
+-- the core's numbers, with this image; the core knows of no messages, and so not of the greatest
+abbrev pub with_image : Core → ℕ → Option Opened → Receiver
+with_image v greatest image = record {
   session = v.session;
   stream = v.stream;
   window = v.window;
   id = v.id;
   consumers = v.consumers;
+  greatest = greatest;
   image = image;
   unmet = v.unmet;
   told = v.told;
@@ -81,7 +82,7 @@ ShowsOpened (Some v) None = ⊥
 ShowsOpened (Some v) (Some o) = ShowsImage v o
 
 pub record Shows (v : Core) (r : Receiver) : Type 0 where
-  pub numbers : r ≡ with_image v r.image
+  pub numbers : r ≡ with_image v r.greatest r.image
   pub image : ShowsOpened v.image r.image
 
 -- whatever receiver the old state shows becomes one by this step that the new state shows

@@ -1,10 +1,12 @@
 -- Which receivers a subscriber shows, and what it makes of a frame.
-use Rattle.std.specs.Prelude.{◌≡◌, ℕ, false, List, [], ◌∷◌, Option, None, Some, slice_get}
+use Rattle.std.specs.Prelude.{◌≡◌, ◌↔◌, ℕ, false, List, [], ◌∷◌, Option, None, Some, slice_get}
 use Rattle.theory.specs.Placed.{Among, Data, Frame, Pad, Placed, end_of, is_padding}
 use Rattle.theory.specs.Assembly.{Heard, on_frame}
 use Rattle.theory.specs.Consumer.{Consumer}
 use Rattle.assembler.specs.Assembling.{Assembling}
-use Rattle.mdriver.specs.Polling.{Reads, gives, moved_all, with_consumer}
+use Rattle.assembler.specs.declared.fault.AssemblyError.{AssemblyError}
+use Rattle.assembler.specs.declared.fault.AssemblyError.TheVariants.{TooLong}
+use Rattle.mdriver.specs.Polling.{IsTooLong, Reads, StaysShort, gives, moved_all, with_consumer}
 use Rattle.mdriver.specs.Receiving.{Opened, Receiver}
 use Rattle.mdriver.specs.Showing.{Core, Shows, with_reader}
 
@@ -22,6 +24,7 @@ pub record ShowsSubscriber (v : Subscribing) (r : Receiver) : Type 0 where
   pub core : Shows v.core r
   pub one : r.consumers ≡ 1
   pub begun : AssemblesFor v.assembler.begun r.image
+  pub greatest : v.assembler.greatest ≡ r.greatest
 
 -- whatever receiver the old state shows becomes one by this step that the new state shows
 abbrev pub Becomes : Subscribing → Subscribing → (Receiver → Receiver → Type 0) → Type 0
@@ -45,11 +48,13 @@ abbrev pub HearsFrame : Option Opened → Receiver → Assembling → Option (Li
 HearsFrame None r before message new = ⊥
 HearsFrame (Some o) r before message new =
     (s : Placed) × PassesOn o r s new.core × (new.assembler ≡ record before { begun = (heard_of before.begun s.frame).begun }) × (message ≡ (heard_of before.begun s.frame).message)
+    × (IsTooLong before.greatest before.begun s.frame → ⊥)
 
--- or refused
-abbrev pub RefusesFrame : Option Opened → Receiver → Subscribing → Type 0
-RefusesFrame None r new = ⊥
-RefusesFrame (Some o) r new = (s : Placed) × PassesOn o r s new.core × (is_padding s.frame ≡ false)
+-- or refused; nothing is begun then
+abbrev pub RefusesFrame : Option Opened → Receiver → Assembling → AssemblyError → Subscribing → Type 0
+RefusesFrame None r before fault new = ⊥
+RefusesFrame (Some o) r before fault new =
+    (s : Placed) × PassesOn o r s new.core × (new.assembler ≡ record before { begun = None }) × (is_padding s.frame ≡ false) × ((fault ≡ TooLong) ↔ IsTooLong before.greatest before.begun s.frame)
 
 -- ---- in the course of a poll
 
@@ -62,7 +67,9 @@ pub record HasRead (o : Opened) (r : Receiver) (v : Subscribing) : Type 0 where
   pub reads : Reads o.image consumer frames at
   pub shown : (d : Consumer) → d.at ≡ at → Shows v.core (record r { image = Some (with_consumer o d) })
   pub nothing : consumer.lost ≡ false → gives consumer frames ≡ []
+  pub short : consumer.lost ≡ false → StaysShort r.greatest consumer frames
   pub begun : consumer.lost ≡ false → v.assembler.begun ≡ (moved_all consumer frames).assembly.begun
+  pub greatest : v.assembler.greatest ≡ r.greatest
 
 abbrev pub IsPolling : Option Opened → Receiver → Subscribing → Type 0
 IsPolling None r v = ⊥

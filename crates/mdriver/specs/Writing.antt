@@ -36,6 +36,11 @@ abbrev pub Aborts : Log → Writer → Log → Writer → Print → Type 0
 Aborts old (writers.Free publisher) new after line = (new ≡ old) × (after ≡ writers.Free publisher) × (line ≡ Bad)
 Aborts old (writers.Holding claim) new after line = IsLog old × (new ≡ with_abort old claim.claimed) × (claim_in after ≡ None) × (line ≡ Position (claim_end claim.claimed))
 
+-- an open claim becomes a padding
+abbrev pub Clears : Log → Writer → Log → Type 0
+Clears old (writers.Free publisher) new = new ≡ old
+Clears old (writers.Holding claim) new = new ≡ with_abort old claim.claimed
+
 -- the stream, and what each publisher claimed of it, stay
 pub record Ends (old new : Log) : Type 0 where
   pub start : new.start ≡ old.start

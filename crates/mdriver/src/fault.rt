@@ -1,7 +1,7 @@
 //! What a user reads where the program gives up.
 
 ghost use Rattle.std.specs.Prelude.{◌≡◌, Some};
-ghost use Rattle.mdriver.specs.Faults.{shown_fault};
+ghost use Rattle.mdriver.specs.Faults.{of_script, shown_fault};
 ghost use Rattle.mdriver.specs.declared.fault.Fault.TheVariants.{Frame, Memory};
 
 use frames::FrameError;
@@ -64,6 +64,8 @@ impl From<FrameError> for Fault {
 }
 
 impl From<ScriptFault> for Fault {
+    ghost from_gives = { λ from fault. fault ≡ of_script from };
+
     fn from(fault: ScriptFault) -> Fault {
         match fault {
             ScriptFault::Line(number) => Fault::Line(number),

@@ -104,7 +104,7 @@ impl ReceiverCore {
         consumers: usize,
     ) -> ReceiverCore
         requires { IsCount consumers }
-        ensures shown { Shows result (listening session stream window receiver consumers) }
+        ensures shown { (greatest : ℕ) → Shows result (listening session stream window receiver consumers greatest) }
         ensures image { result.image ≡ None }
         ensures consumers { result.consumers ≡ consumers }
     {

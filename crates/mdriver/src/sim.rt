@@ -1,5 +1,9 @@
 //! A script from a reader, its lines to a writer.
 
+ghost use Rattle.std.specs.Prelude.{◌≡◌, ◌≤◌, ◌⊎◌, length, vec_len, IfErr, IfOk, IfSome, OnOk};
+ghost use Rattle.std.specs.Io.KnownBytes.{Keeps};
+ghost use Rattle.mdriver.specs.Scripting.{ExplainsInput, ExplainsScript, HoldsScript};
+
 use crate::fault::Fault;
 use crate::play::play;
 use script::read_script;
@@ -9,8 +13,16 @@ use std::io::{ErrorKind, Read, Write};
 /// The most bytes of a script: 1 MiB.
 const GREATEST_INPUT: usize = 1_048_576;
 
-/// Plays the script that the input holds. A script that can't be read does nothing.
-pub fn sim<R: Read, W: Write>(alloc: Global, input: &mut R, output: &mut W) -> Result<(), Fault> {
+/// Plays the script that the input holds, and writes its lines. At any fault but `Write` nothing was written.
+///
+/// What was written isn't promised: no contract says how a line is spelled.
+pub fn sim<R: Read, W: Write>(alloc: Global, input: &mut R, output: &mut W) -> Result<(), Fault>
+    ensures done { OnOk result (IfSome (R.remaining input.old) (λ bytes. HoldsScript bytes)) }
+    // A fault has its reason in the input.
+    ensures fault { IfErr result (λ fault. IfSome (R.remaining input.old) (λ bytes. ExplainsScript bytes fault)) }
+    ensures kept { IfErr result (λ fault. (fault ≡ Fault.Write)
+        ⊎ Keeps (W.contents output.old) (W.contents output.new)) }
+{
     let text = text_of(alloc, input)?;
     let script = read_script(alloc, &text)?;
     let lines = play(alloc, &script)?;
@@ -20,8 +32,13 @@ pub fn sim<R: Read, W: Write>(alloc: Global, input: &mut R, output: &mut W) -> R
     output.flush().map_err(|_| Fault::Write)
 }
 
-/// All of the input, unless it is too long.
-fn text_of<R: Read>(alloc: Global, input: &mut R) -> Result<Vec<u8>, Fault> {
+/// All of the input, unless it is longer than 1 MiB. The fault is `Input` then, `Read` where the input fails, or want of
+/// memory.
+fn text_of<R: Read>(alloc: Global, input: &mut R) -> Result<Vec<u8>, Fault>
+    ensures whole { IfOk result (λ text. IfSome (R.remaining input.old) (λ bytes. text.items ≡ bytes)) }
+    ensures short { IfOk result (λ text. vec_len text ≤ 1048576) }
+    ensures fault { IfErr result (λ fault. IfSome (R.remaining input.old) (λ bytes. ExplainsInput bytes fault)) }
+{
     let mut text = Vec::new(alloc);
     let mut buffer = [0; 4096];
     for _turn in 0..u64::MAX {
@@ -38,5 +55,5 @@ fn text_of<R: Read>(alloc: Global, input: &mut R) -> Result<Vec<u8>, Fault> {
         }
         text.extend_from_slice(&buffer[..count])?;
     }
-    Ok(text)
+    Err(Fault::Read)
 }

@@ -1,12 +1,13 @@
 //! A receiver and the one subscriber that reads its image.
 
-ghost use Rattle.std.specs.Prelude.{◌≡◌, ◌≤◌, ◌<◌, ◌^◌, ◌+◌, ℕ, List, None, Some, false, length, option_map, IfErr, IfNone, IfOk, IfSome, OnErr, OnSome};
+ghost use Rattle.std.specs.Prelude.{◌≡◌, ◌≤◌, ◌<◌, ◌^◌, ◌+◌, ◌↔◌, ℕ, List, None, Some, false, length, option_map, IfErr, IfNone, IfOk, IfSome, OnErr, OnSome};
 ghost use Rattle.std.specs.List.{AllByRecursion};
 ghost use Rattle.block.specs.Bytes.{with_front};
 ghost use Rattle.position.specs.declared.head.FrameKind.TheVariants.{Data};
 ghost use Rattle.theory.specs.Placed.{Placed, is_padding, payload_of};
 ghost use Rattle.theory.specs.Wire.{IsFrame};
 ghost use Rattle.rebuilder.specs.Kinds.{head_at};
+ghost use Rattle.mdriver.specs.Polling.{IsTooLong};
 ghost use Rattle.mdriver.specs.Subscribing.{heard_of};
 
 use crate::line::Line;
@@ -39,7 +40,9 @@ impl Model for Subscriber {
     ghost invariant = { λ s. (s.core.consumers ≡ 1) × (65472 ≤ length s.block) };
 }
 
-/// Hands a frame to the assembler: its head, and the block that has its payload in front. A padding is passed over.
+/// Hands a frame to the assembler: its head, and the block that has its payload in front. A padding is passed over. It is
+/// too long exactly where the message would be longer than the greatest; any other error is that memory was refused. After
+/// an error nothing is begun.
 fn assemble(
     assembler: &mut Assembler<Global>,
     head: &FrameHead,
@@ -51,7 +54,12 @@ fn assemble(
         → assembler.new ≡ record assembler.old { begun = (heard_of assembler.old.begun s.frame).begun }) }
     ensures message { IfOk result (λ m. (s : Placed) (before : List ℕ) → head.now ≡ head_at s.at s.frame → block.now ≡ with_front before (payload_of s.frame)
         → option_map (λ x. x.bytes.items) m ≡ (heard_of assembler.old.begun s.frame).message) }
+    ensures short { IfOk result (λ _. (s : Placed) (before : List ℕ) → head.now ≡ head_at s.at s.frame → block.now ≡ with_front before (payload_of s.frame)
+        → IsTooLong assembler.old.greatest assembler.old.begun s.frame → ⊥) }
     ensures refused { IfErr result (λ _. (s : Placed) → head.now ≡ head_at s.at s.frame → is_padding s.frame ≡ false) }
+    ensures named { IfErr result (λ fault. (s : Placed) (before : List ℕ) → head.now ≡ head_at s.at s.frame → block.now ≡ with_front before (payload_of s.frame)
+        → ((fault ≡ AssemblyError.TooLong) ↔ IsTooLong assembler.old.greatest assembler.old.begun s.frame)) }
+    ensures dropped { IfErr result (λ _. assembler.new ≡ record assembler.old { begun = None }) }
     ensures greatest { assembler.new.greatest ≡ assembler.old.greatest }
 {
     match head.kind {
@@ -75,7 +83,7 @@ impl Subscriber {
     pub fn new(alloc: Global, core: ReceiverCore, greatest: usize) -> Result<Subscriber, AllocError>
         requires image { core.image ≡ None }
         requires consumers { core.consumers ≡ 1 }
-        ensures shown { IfOk result (λ s. (r : Receiver) → Shows core r → ShowsSubscriber s r) }
+        ensures shown { IfOk result (λ s. (r : Receiver) → Shows core r → r.greatest ≡ greatest → ShowsSubscriber s r) }
         ensures greatest { IfOk result (λ s. s.assembler.greatest ≡ greatest) }
     {
         Ok(Subscriber {
@@ -105,7 +113,8 @@ impl Subscriber {
         self.core.tick(now)
     }
 
-    /// Reads on until a message is complete or no frame is left.
+    /// Reads on until a message is complete, the assembler refuses a frame, or no frame is left. The fault is `A2` exactly
+    /// where the message would be longer than the greatest.
     pub fn poll(&mut self) -> Line
         ensures polled { Becomes self.old self.new (λ r s. Polls r (print_of result) s) }
         ensures greatest { self.new.assembler.greatest ≡ self.old.assembler.greatest }
@@ -128,7 +137,7 @@ impl Subscriber {
         ensures none { IfNone result (self.new ≡ self.old) }
         ensures end { IfNone result ((r : Receiver) → Shows self.old.core r → HasNoFrame r.image 0) }
         ensures heard { IfSome result (λ step. IfOk step (λ m. (r : Receiver) → Shows self.old.core r → HearsFrame r.image r self.old.assembler (option_map (λ x. x.bytes.items) m) self.new)) }
-        ensures refused { IfSome result (λ step. IfErr step (λ _. (r : Receiver) → Shows self.old.core r → RefusesFrame r.image r self.new)) }
+        ensures refused { IfSome result (λ step. IfErr step (λ fault. (r : Receiver) → Shows self.old.core r → RefusesFrame r.image r self.old.assembler fault self.new)) }
         ensures greatest { self.new.assembler.greatest ≡ self.old.assembler.greatest }
         ensures forward { OnSome result (place_in self.old.core.image 0 + 32 ≤ place_in self.new.core.image 0) }
         ensures low { OnSome result (place_in self.new.core.image 0 ≤ 2 ^ 55) }

@@ -527,6 +527,45 @@ fn broken_streams(rt: HostRuntime) {
     assert_eq!(rt; status, 1);
 }
 
+/// A writer that counts what it was given, and what of it was flushed.
+#[derive(Drop)]
+struct Counted {
+    written: usize,
+    flushed: usize,
+}
+
+impl Write for Counted {
+    fn write(&mut self, bytes: &[u8]) -> io::Result<usize> {
+        self.written = self.written.saturating_add(bytes.len());
+        Ok(bytes.len())
+    }
+
+    fn flush(&mut self) -> io::Result<()> {
+        self.flushed = self.written;
+        Ok(())
+    }
+}
+
+/// Whether a command line that is carried out writes something, and flushes all of it.
+fn is_flushed<'a>(alloc: Global, words: &'a [&'a str]) -> bool {
+    let mut input: &[u8] = b"log 65536 1408 7 0 1 1001 0\n";
+    let mut output = Counted {
+        written: 0,
+        flushed: 0,
+    };
+    let mut errors = Vec::new(alloc);
+    let status = command(alloc, words, &mut input, &mut output, &mut errors);
+    status == 0 && output.written > 0 && output.flushed == output.written
+}
+
+#[test]
+fn flushes(rt: HostRuntime) {
+    let word = "1c0000000000020001000000e9030000070000004000000040000000";
+    assert!(rt; is_flushed(rt.alloc(), SIM));
+    assert!(rt; is_flushed(rt.alloc(), &["mdriver", "decode", word]));
+    assert!(rt; is_flushed(rt.alloc(), &["mdriver", "--help"]));
+}
+
 const HELP: &str =
     "A media driver with concurrent publications\n\nUsage: mdriver <COMMAND>\n\nCommands:\n  sim     Play the script on standard input\n  decode  Print the frames of a datagram\n  help    Print this message or the help of the given subcommand(s)\n\nOptions:\n  -h, --help  Print help\n";
 

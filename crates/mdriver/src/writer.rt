@@ -10,7 +10,7 @@ ghost use Rattle.log_buffer.specs.Reader.{IsAt, Reader};
 ghost use Rattle.mdriver.specs.Prints.{print_of};
 ghost use Rattle.log_buffer.specs.Passes.{AreAll};
 ghost use Rattle.mdriver.specs.Stands.{AreWriters, Holds, WriterHolds, pass_of};
-ghost use Rattle.mdriver.specs.Writing.{Aborts, Claims, Commits, Ends, Offers, Rewrites};
+ghost use Rattle.mdriver.specs.Writing.{Aborts, Claims, Clears, Commits, Ends, Offers, Rewrites};
 
 use crate::line::Line;
 use log_buffer::{Claimed, LogState, Publisher};
@@ -100,7 +100,6 @@ fn commit_line(log: &mut LogState, writer: Writer) -> (Writer, Line)
     match writer {
         Writer::Free(publisher) => (Writer::Free(publisher), Line::Bad),
         Writer::Holding(mut claim) => {
-            let _ = log.tail();
             claim.bytes_mut().fill(b'a');
             let (publisher, end) = claim.commit(log);
             (Writer::Free(publisher), Line::Position(end))
@@ -121,7 +120,6 @@ fn abort_line(log: &mut LogState, writer: Writer) -> (Writer, Line)
     match writer {
         Writer::Free(publisher) => (Writer::Free(publisher), Line::Bad),
         Writer::Holding(claim) => {
-            let _ = log.tail();
             let (publisher, end) = claim.abort(log);
             (Writer::Free(publisher), Line::Position(end))
         }
@@ -131,6 +129,7 @@ fn abort_line(log: &mut LogState, writer: Writer) -> (Writer, Line)
 /// The publisher; an open claim of it becomes a padding.
 fn ended(log: &mut LogState, writer: Writer) -> Publisher
     requires holds { WriterHolds log.old writer }
+    ensures clears { Clears log.old writer log.new }
     ensures ends { Ends log.old log.new }
     ensures identity { log.new.identity ≡ log.old.identity }
     ensures number { result.number ≡ (pass_of writer).number }

@@ -3,6 +3,6 @@
 pub struct Gap {
     /// The position at which it begins.
     pub start: u64,
-    /// In bytes, more than 0.
+    /// In bytes; a gap that is told, and a range that is due, have some.
     pub length: u64,
 }

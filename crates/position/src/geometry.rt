@@ -91,6 +91,14 @@ impl Geometry {
         self.initial_term_id
     }
 
+    /// The id of the term with this count, below 2^31.
+    pub fn id_of(&self, count: u32) -> i32
+        requires { count < 2 ^ 31 }
+        ensures { result ≡ id_of self.now count }
+    {
+        self.initial_term_id.wrapping_add(count.cast_signed())
+    }
+
     /// The end of the last term, which no stream passes.
     pub fn max_position(&self) -> u64
         ensures value { result ≡ max_position self.now }

@@ -60,22 +60,22 @@ whole_claim l by partition bytes c e p =
 
 -- what an addition leaves as it was
 pub record IsSame (l a : Log) : Type 0 where
-  pub geometry : a.identity.geometry ≡ l.identity.geometry
+  pub identity : a.identity ≡ l.identity
   pub gone : a.gone ≡ l.gone
   pub start : a.start ≡ l.start
   pub newest : a.newest ≡ l.newest
 
 taken_keeps : (m : Log) (by : ℕ) (t : Option (Bool × ℕ)) → IsSame m (with_taken m by t)
-taken_keeps m by None = record { geometry = refl; gone = refl; start = refl; newest = refl }
-taken_keeps m by (Some t) = record { geometry = refl; gone = refl; start = refl; newest = refl }
+taken_keeps m by None = record { identity = refl; gone = refl; start = refl; newest = refl }
+taken_keeps m by (Some t) = record { identity = refl; gone = refl; start = refl; newest = refl }
 
 pub add_keeps : (l a : Log) (by partition bytes : ℕ) → a ≡ after_add l by partition bytes → IsSame l a
 add_keeps l a by partition bytes made =
     let same = taken_keeps (added l by partition (covered l bytes)) by (taken_of l partition bytes) in
-    subst (λ (x : Log). IsSame l x) (sym made) (record { geometry = same.geometry; gone = same.gone; start = same.start; newest = same.newest })
+    subst (λ (x : Log). IsSame l x) (sym made) (record { identity = same.identity; gone = same.gone; start = same.start; newest = same.newest })
 
 pub commit_keeps : (l a w : Log) (c : Claimed) (f : Frame) → IsSame l a → w ≡ with_commit a c f → IsSame l w
-commit_keeps l a w c f same is = subst (λ (x : Log). IsSame l x) (sym is) (record { geometry = same.geometry; gone = same.gone; start = same.start; newest = same.newest })
+commit_keeps l a w c f same is = subst (λ (x : Log). IsSame l x) (sym is) (record { identity = same.identity; gone = same.gone; start = same.start; newest = same.newest })
 
 -- ---- the padding
 

@@ -1,26 +1,17 @@
 -- A claim whose draft is written is committed as its frame.
-use Rattle.std.proofs.Common.{◌≡◌, ℕ, zero, suc, ◌+◌, ◌-◌, ◌*◌, ◌<◌, ◌≤◌, ⊎_elim, Bool, true, false, List, [], ◌∷◌, ◌++◌, length, take, drop, replicate, get_or, refl, sym, ap, ◌∙◌, subst, arith}
+use Rattle.std.proofs.Common.{◌≡◌, ℕ, ◌+◌, ◌-◌, ◌<◌, ◌≤◌, ⊎_elim, Bool, true, false, List, [], ◌∷◌, ◌++◌, length, take, drop, replicate, get_or, refl, sym, ap, ◌∙◌, subst, arith}
 use Rattle.std.proofs.lemmas.Bool.{cases_lt}
 use Rattle.std.proofs.lemmas.List.{drop-replicate, get_or_past, length-replicate, set-set, take_at}
-use Rattle.theory.specs.Position.{Geometry, IsGeometry, aligned, max_payload, span}
+use Rattle.theory.specs.Position.{Geometry, aligned, max_payload, span}
 use Rattle.theory.specs.Placed.{Data, Frame, Pad}
 use Rattle.theory.specs.Wire.{zeros_after}
 use Rattle.theory.specs.Bytes.{Identity}
-use Rattle.theory.proofs.Cuts.{full_cuts, short_cuts, span_before}
+use Rattle.theory.proofs.Cuts.{short_cuts}
 use Rattle.term_buffer.specs.Kept.{blank_for, cuts_for, cuts_in, frame_of, header_rest, next_flags, next_length, next_start, rest_of}
 use Rattle.term_buffer.specs.declared.claimed.Claimed.{Claimed}
 use Rattle.log_buffer.specs.Log.{IsAborted, IsDrafted, IsHeld, Log, MayAbort, draft_of, drafted, with_abort, with_commit, with_draft}
 use Rattle.publication.specs.Writes.{place_of}
 use Rattle.publication.proofs.Fills.{draft_set, draft_twice, open_drafted}
-
--- where the next frame of a claim begins
-before_frame : (g : Geometry) (size frame : ℕ) (padding : Bool) → IsGeometry g → frame < length (cuts_for g padding size) → span (take frame (cuts_for g padding size)) ≡ frame * g.mtu
-before_frame g size zero true legal low = omega arith
-before_frame g size (suc frame) true legal low = absurd (omega arith)
-before_frame g size frame false legal low = span_before g.mtu (cuts_for g false size) frame (omega (arith, legal.mtu.unit)) (full_cuts g size) low
-
-pub starts_at : (g : Geometry) (c : Claimed) → IsGeometry g → c.frame < length (cuts_in g c) → c.start + c.frame * g.mtu ≡ next_start g c
-starts_at g c legal low = ap (λ (n : ℕ). c.start + n) (sym (before_frame g c.size c.frame c.padding legal low))
 
 -- a padding's frame, and a message's that has one
 pub padding_start : (g : Geometry) (c : Claimed) → c.frame ≡ 0 → next_start g c ≡ c.start

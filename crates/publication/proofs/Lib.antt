@@ -4,6 +4,7 @@ pub mod Cleared
 pub mod Courses
 pub mod Fills
 pub mod Frames
+pub mod Granted
 pub mod Justified
 pub mod PaddedWords
 pub mod StoredWords

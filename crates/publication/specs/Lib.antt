@@ -1,5 +1,6 @@
 pub mod Claims
 pub mod Fronts
+pub mod Grants
 pub mod Lending
 pub mod Looks
 pub mod Offers

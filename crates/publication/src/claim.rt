@@ -7,6 +7,7 @@ ghost use Rattle.log_buffer.specs.Log.{IsHeld, IsLog};
 ghost use Rattle.log_buffer.specs.Passes.{sights};
 ghost use Rattle.log_buffer.specs.Reader.{IsAt, Reader};
 ghost use Rattle.publication.specs.Claims.{IsBrief, IsClaimOf, after_abort, after_commit, bytes_of, claim_at, end_of};
+ghost use Rattle.publication.specs.Grants.{IsGranted};
 ghost use Rattle.publication.specs.Offers.{after_claim, answer_of, covered};
 ghost use Rattle.publication.specs.Refusals.{why_of};
 
@@ -26,14 +27,14 @@ pub struct Claim {
 }
 
 impl Model for Claim {
-    ghost use Rattle.std.specs.Prelude.{◌≡◌, ◌≤◌, ◌^◌, false, length};
+    ghost use Rattle.std.specs.Prelude.{◌≡◌, ◌<◌, ◌≤◌, ◌^◌, false, length};
     ghost use Rattle.publication.specs.Claims.{Filling};
 
     ghost Value = { Filling };
 
     ghost view = { λ c. record { claimed = c.claimed; pass = c.publisher } };
 
-    ghost invariant = { λ c. (c.claimed.size ≤ length c.publisher.bytes) × (c.claimed.size ≤ 65504) × (c.claimed.start ≤ 2 ^ 55) × (c.claimed.padding ≡ false) × (c.claimed.frame ≡ 0) × (c.claimed.owner ≡ c.publisher.number) };
+    ghost invariant = { λ c. (c.claimed.size ≤ length c.publisher.bytes) × (c.claimed.size ≤ 65504) × (c.claimed.start ≤ 2 ^ 55) × (c.claimed.padding ≡ false) × (c.claimed.frame ≡ 0) × (c.claimed.owner ≡ c.publisher.number) × (c.claimed.owner < 8) };
 }
 
 /// A claim that was refused, and the publisher that asked for it.
@@ -52,7 +53,9 @@ pub fn try_claim(log: &mut LogState, publisher: Publisher, size: u32) -> Result<
     ensures held { IfOk result (λ claim. IsClaimOf log.new claim) }
     ensures denied { IfErr result (λ denied. answer_of log.old size ≡ Err denied.refusal) }
     ensures after { log.new ≡ after_claim log.old publisher.number size }
+    ensures identity { log.new.identity ≡ log.old.identity }
     ensures justified { IfErr result (λ denied. IsJustified log.old.identity.geometry (covered log.old size) (sights denied.publisher.steps) (why_of denied.refusal)) }
+    ensures granted { IfOk result (λ claim. IsGranted log.old.identity.geometry (covered log.old size) claim.pass.steps (end_of claim)) }
     ensures few { IfOk result (λ claim. IsBrief publisher claim.pass) }
     ensures few_denied { IfErr result (λ denied. IsBrief publisher denied.publisher) }
     ensures block_cleared { IfOk result (λ claim. claim.pass.bytes ≡ with_front publisher.bytes (replicate size 0)) }
@@ -85,6 +88,15 @@ fn clear(publisher: &mut Publisher, count: usize)
 
 impl Claim {
     ghost use Rattle.publication.specs.Lending.{LendsClaim};
+
+    /// The range that was claimed, and whose it is.
+    pub fn claimed(&self) -> Claimed
+        ensures value { result ≡ self.now.claimed }
+        ensures owner { result.owner ≡ self.now.pass.number }
+        ensures in_range { result.owner < 8 }
+    {
+        self.claimed
+    }
 
     /// The position at which it begins.
     pub fn start(&self) -> u64
@@ -121,6 +133,7 @@ impl Claim {
     pub fn commit(self, log: &mut LogState) -> (Publisher, u64)
         requires { IsClaimOf log.old self }
         ensures committed { log.new ≡ after_commit log.old self }
+        ensures legal { IsLog log.old }
         ensures end { result.1 ≡ end_of self }
         ensures pass { result.0 ≡ self.pass }
         ensures readers { (r : Reader) → IsAt log.old r → IsAt log.new r }
@@ -137,6 +150,7 @@ impl Claim {
     pub fn abort(self, log: &mut LogState) -> (Publisher, u64)
         requires { IsClaimOf log.old self }
         ensures aborted { log.new ≡ after_abort log.old self }
+        ensures legal { IsLog log.old }
         ensures end { result.1 ≡ end_of self }
         ensures pass { result.0 ≡ self.pass }
         ensures readers { (r : Reader) → IsAt log.old r → IsAt log.new r }

@@ -4,22 +4,12 @@ ghost use Rattle.std.specs.Prelude.{◌≡◌, ◌+◌, ◌-◌, ◌++◌, ◌<�
 ghost use Rattle.theory.specs.Position.{aligned, framed_length, max_payload, max_position};
 ghost use Rattle.theory.specs.Placed.{Data, Pad};
 ghost use Rattle.term_buffer.specs.Kept.{after_next, cuts_in, header_rest, next_flags, next_length, next_start, rest_of};
-ghost use Rattle.log_buffer.specs.Log.{IsHeld, IsOpen, draft_of, with_abort, with_commit, with_draft};
+ghost use Rattle.log_buffer.specs.Log.{IsHeld, IsLog, IsOpen, draft_of, with_abort, with_commit, with_draft};
 ghost use Rattle.log_buffer.specs.Reader.{IsAt, Reader};
 ghost use Rattle.publication.specs.Writes.{place_of, with_whole};
 
 use crate::words::{pair_word, payload_word};
 use log_buffer::{Claimed, LogState};
-use position::Geometry;
-
-/// Where a claim's next frame begins.
-fn frame_start(geometry: &Geometry, claimed: Claimed) -> u64
-    requires more { claimed.frame < length (cuts_in geometry.now claimed) }
-    requires in_stream { claimed.start ≤ max_position geometry.now }
-    ensures { result ≡ next_start geometry.now claimed }
-{
-    claimed.start + u64::from(claimed.frame) * u64::from(geometry.mtu())
-}
 
 /// Stores the words of the next frame's header behind the first one.
 fn store_header(log: &mut LogState, claimed: Claimed)
@@ -27,11 +17,12 @@ fn store_header(log: &mut LogState, claimed: Claimed)
     requires long { 32 ≤ next_length log.old.identity.geometry claimed }
     requires in_stream { next_start log.old.identity.geometry claimed ≤ max_position log.old.identity.geometry }
     requires drafts { place_of log.old claimed < length log.old.drafts }
+    ensures legal { IsLog log.old }
     ensures stored { log.new ≡ with_draft log.old claimed (header_rest log.old.identity (next_start log.old.identity.geometry claimed) ++ drop 24 (draft_of log.old claimed)) }
     ensures readers { (r : Reader) → IsAt log.old r → IsAt log.new r }
 {
     let geometry = log.geometry();
-    let place = geometry.term_of(frame_start(&geometry, claimed));
+    let place = geometry.term_of(claimed.next_start(geometry));
     let offset = place.offset.cast_signed();
     let session = log.session();
     let stream = log.stream();
@@ -68,6 +59,7 @@ pub(crate) fn write_frame(log: &mut LogState, claimed: Claimed, part: &[u8]) -> 
     ensures committed { log.new ≡ with_commit log.old claimed (Data (next_flags log.old.identity.geometry claimed) part.now) }
     ensures next { result ≡ after_next log.old.identity.geometry claimed }
     ensures still { IfSome result (λ next. IsOpen log.new next) }
+    ensures legal { IsLog log.old }
     ensures readers { (r : Reader) → IsAt log.old r → IsAt log.new r }
 {
     store_header(log, claimed);
@@ -113,6 +105,7 @@ pub(crate) fn write_abort(log: &mut LogState, claimed: Claimed)
     requires held { IsHeld log.old claimed }
     requires short { claimed.size ≤ max_payload log.old.identity.geometry }
     ensures aborted { log.new ≡ with_abort log.old claimed }
+    ensures legal { IsLog log.old }
     ensures readers { (r : Reader) → IsAt log.old r → IsAt log.new r }
 {
     store_header(log, claimed);

@@ -61,15 +61,7 @@ fn is_of(tail: RawTail, geometry: &Geometry, count: u32) -> bool
     requires { count < 2 ^ 31 }
     ensures { IsTrue result ↔ (tail.term_id ≡ id_of geometry.now count) }
 {
-    tail.term_id == id_of_term(geometry, count)
-}
-
-/// The id of the term with this count.
-fn id_of_term(geometry: &Geometry, count: u32) -> i32
-    requires { count < 2 ^ 31 }
-    ensures { result ≡ id_of geometry.now count }
-{
-    geometry.initial_term_id().wrapping_add(count.cast_signed())
+    tail.term_id == geometry.id_of(count)
 }
 
 /// The position of a tail in the term with this count.

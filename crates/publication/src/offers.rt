@@ -7,6 +7,7 @@ ghost use Rattle.log_buffer.specs.Passes.{HasSeenEnd, sights};
 ghost use Rattle.log_buffer.specs.Reader.{IsAt, Reader};
 ghost use Rattle.rotation.specs.Turning.{Adds, count_exchanges, tail_exchanges};
 ghost use Rattle.publication.specs.Claims.{IsBrief, claim_at};
+ghost use Rattle.publication.specs.Grants.{IsGranted};
 ghost use Rattle.publication.specs.Looks.{AddsThen};
 ghost use Rattle.publication.specs.Offers.{added_course, after_claim, after_course, after_offer, answer_at, answer_of, covered, is_last, turned_from};
 ghost use Rattle.publication.specs.Refusals.{why_of};
@@ -25,11 +26,10 @@ pub fn offer(log: &mut LogState, publisher: &mut Publisher, message: &[u8]) -> R
     requires { length message.now ≤ max_message log.old.identity.geometry }
     ensures answer { result ≡ answer_of log.old (length message.now) }
     ensures after { log.new ≡ after_offer log.old publisher.old.number message.now }
+    ensures identity { log.new.identity ≡ log.old.identity }
+    ensures granted { IfOk result (IsGranted log.old.identity.geometry (covered log.old (length message.now)) publisher.new.steps) }
     ensures justified { IfErr result (λ refusal. IsJustified log.old.identity.geometry (covered log.old (length message.now)) (sights publisher.new.steps) (why_of refusal)) }
-    ensures few { length publisher.new.steps ≤ 7 }
-    ensures one_tail { tail_exchanges publisher.new.steps ≤ 1 }
-    ensures one_count { count_exchanges publisher.new.steps ≤ 1 }
-    ensures same_pass { publisher.new.number ≡ publisher.old.number }
+    ensures brief { IsBrief publisher.old publisher.new }
     ensures pass { publisher.old.number < 8 }
     ensures same_bytes { publisher.new.bytes ≡ publisher.old.bytes }
     ensures legal { IsLog log.old }
@@ -53,8 +53,10 @@ pub(crate) fn claim_range(
     ensures held { IfOk result (λ claimed. IsHeld log.new claimed) }
     ensures legal_claimed { IfOk result (λ claimed. IsLog log.new) }
     ensures in_stream { IfOk result (λ claimed. claimed.start + covered log.old size ≤ max_position log.old.identity.geometry) }
+    ensures granted { IfOk result (λ claimed. IsGranted log.old.identity.geometry (covered log.old size) publisher.new.steps (claimed.start + covered log.old size)) }
     ensures refused { IfErr result (λ refusal. answer_of log.old size ≡ Err refusal) }
     ensures after { log.new ≡ after_claim log.old publisher.old.number size }
+    ensures identity { log.new.identity ≡ log.old.identity }
     ensures justified { IfErr result (λ refusal. IsJustified log.old.identity.geometry (covered log.old size) (sights publisher.new.steps) (why_of refusal)) }
     ensures brief { IsBrief publisher.old publisher.new }
     ensures pass { publisher.old.number < 8 }
@@ -92,6 +94,7 @@ fn turn_from(log: &mut LogState, publisher: &mut Publisher, count: u32) -> Refus
     requires finished { count + 1 < 2 ^ 31 → IsFinished log.old count }
     ensures refusal { result ≡ is_last count }
     ensures turned { log.new ≡ turned_from log.old count }
+    ensures identity { log.new.identity ≡ log.old.identity }
     ensures adds { Adds 3 1 1 publisher.old publisher.new }
     ensures readers { (r : Reader) → IsAt log.old r → IsAt log.new r }
     ensures claims { (c : Claimed) → IsHeld log.old c → IsHeld log.new c }
@@ -126,6 +129,7 @@ fn add_range(
     ensures in_stream { IfOk result (λ claimed. claimed.start + covered log.old size ≤ max_position log.old.identity.geometry) }
     ensures refused { IfErr result (λ refusal. answer_at log.old count size (added_course log.old count size) ≡ Err refusal) }
     ensures after { log.new ≡ after_course log.old publisher.old.number count size (added_course log.old count size) }
+    ensures identity { log.new.identity ≡ log.old.identity }
     ensures steps { AddsThen log.old count (covered log.old size) publisher.old publisher.new }
     ensures readers { (r : Reader) → IsAt log.old r → IsAt log.new r }
     ensures claims { (c : Claimed) → IsHeld log.old c → IsHeld log.new c }

@@ -14,7 +14,8 @@ use Rattle.std.proofs.lemmas.Bool.{cases_Bool, cases_lt, cases_eq, cases_order, 
 use Rattle.theory.specs.Placed.{Among, Frame, Placed, covered, end_of, frame_length, is_padding}
 use Rattle.theory.specs.Insert.{Head, head_end, head_of, is_duplicate, same_kind}
 use Rattle.rebuilder.specs.Held.{AreLaid, IsNextStart, IsStart, all_placed, placed, put}
-use Rattle.rebuilder.proofs.Lists.{all_at, any_here, none_here}
+use Rattle.theory.proofs.Lists.{all_at}
+use Rattle.rebuilder.proofs.Lists.{any_here, none_here}
 use Rattle.rebuilder.proofs.Order.{apart}
 
 pub is_less : (a b : ℕ) → a < b → nat_cmp a b ≡ Less

@@ -14,9 +14,11 @@ use Rattle.theory.specs.Image.{IsWindow}
 use Rattle.theory.specs.ImageLaws.{held}
 use Rattle.rebuilder.specs.Held.{AreInOrder, AreLaid, IsNextStart, IsRunEnd, IsStart, put}
 use Rattle.rebuilder.specs.Seen.{Image, IsBehind, IsCount, IsFit, IsJoin, IsKept, IsNextUnit, MayHold, least, with_consumer, with_frame}
-use Rattle.rebuilder.proofs.Lists.{all_at, all_from, all_index, all_least, all_replicate, all_set, all_weaker, none_here, least_each, length_replicate}
+use Rattle.theory.proofs.Lists.{all_at, all_from, all_replicate, all_set, all_weaker}
+use Rattle.theory.proofs.Follow.{one_end}
+use Rattle.rebuilder.proofs.Lists.{all_index, all_least, none_here, least_each, length_replicate}
 use Rattle.rebuilder.proofs.Order.{at_least, all_held, all_put, among_held, lower, order_held, order_put, put_keeps, raise}
-use Rattle.rebuilder.proofs.Reach.{AreFull, is_contiguous, one_end, reached_here, reached_held, reached_in, reached_le, reached_more, reached_tail, unit_above, unit_at}
+use Rattle.rebuilder.proofs.Reach.{AreFull, is_contiguous, reached_here, reached_held, reached_in, reached_le, reached_more, reached_tail, unit_above, unit_at}
 
 -- ---- what follows
 

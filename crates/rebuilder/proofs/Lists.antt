@@ -1,33 +1,11 @@
--- Elements of lists, and what holds of each.
+-- Tests over lists, and the least of some numbers.
 use Rattle.std.proofs.Common.{◌≡◌, ℕ, zero, suc, ◌<◌, ◌≤◌, inl, inr, ⊎_elim, List, [], ◌∷◌, map, min, length, refl, sym, ap, subst, arith}
-use Rattle.std.specs.Prelude.{Bool, true, false, slice_set, slice_index, replicate}
+use Rattle.std.specs.Prelude.{Bool, true, false, slice_index, replicate}
 use Rattle.std.specs.List.{AllByRecursion, fold, list_any}
 use Rattle.std.proofs.lemmas.Bool.{cases_lt, or_left, or_right, or_from}
 use Rattle.theory.specs.Placed.{Among}
+use Rattle.theory.proofs.Lists.{all_replicate}
 use Rattle.rebuilder.specs.Seen.{least}
-
--- what holds of each element holds of one of them
-pub all_at : {X : Type 0} (P : X → Type 0) (x : X) (xs : List X) → AllByRecursion P xs → Among x xs → P x
-all_at P x [] all h = absurd h
-all_at P x (y ∷ xs) all (inl e) = subst P (sym e) all.0
-all_at P x (y ∷ xs) all (inr h) = all_at P x xs all.1 h
-
-pub all_from : {X : Type 0} (P : X → Type 0) (xs : List X) → ((x : X) → Among x xs → P x) → AllByRecursion P xs
-all_from P [] h = tt
-all_from P (x ∷ xs) h = (h x (inl refl), all_from P xs (λ y a. h y (inr a)))
-
-pub all_weaker : {X : Type 0} (P Q : X → Type 0) → ((x : X) → P x → Q x) → (xs : List X) → AllByRecursion P xs → AllByRecursion Q xs
-all_weaker P Q f [] h = tt
-all_weaker P Q f (x ∷ xs) h = (f x h.0, all_weaker P Q f xs h.1)
-
-pub all_set : {X : Type 0} (P : X → Type 0) (xs : List X) (k : ℕ) (x : X) → P x → AllByRecursion P xs → AllByRecursion P (slice_set xs k x)
-all_set P [] k x p h = tt
-all_set P (y ∷ xs) zero x p h = (p, h.1)
-all_set P (y ∷ xs) (suc k) x p h = (h.0, all_set P xs k x p h.1)
-
-pub all_replicate : {X : Type 0} (P : X → Type 0) (n : ℕ) (x : X) → P x → AllByRecursion P (replicate n x)
-all_replicate P zero x p = tt
-all_replicate P (suc n) x p = (p, all_replicate P n x p)
 
 pub all_index : (P : ℕ → Type 0) (xs : List ℕ) (k : ℕ) → k < length xs → AllByRecursion P xs → P (slice_index xs k)
 all_index P [] k l h = absurd (omega arith)

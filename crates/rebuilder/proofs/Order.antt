@@ -6,7 +6,7 @@ use Rattle.std.proofs.lemmas.Bool.{cond_both, ltb-true, ltb-false, leb-true, le-
 use Rattle.theory.specs.Placed.{Among, Placed, covered, end_of}
 use Rattle.theory.specs.ImageLaws.{held}
 use Rattle.rebuilder.specs.Held.{AreInOrder, put}
-use Rattle.rebuilder.proofs.Lists.{all_at, all_from}
+use Rattle.theory.proofs.Lists.{all_at, all_from}
 
 pub at_least : (low : ℕ) (ss : List Placed) (s : Placed) → AreInOrder low ss → Among s ss → low ≤ s.at
 at_least low [] s o a = absurd a

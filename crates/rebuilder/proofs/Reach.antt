@@ -1,30 +1,24 @@
 -- Frames that lead from one position to another, and the contiguous end.
-use Rattle.std.proofs.Common.{◌≡◌, ℕ, ◌+◌, ◌-◌, ◌*◌, ◌/◌, ◌<◌, ◌≤◌, ◌⊎◌, ⊎_elim, List, [], ◌∷◌, ◌++◌, refl, sym, subst, arith}
+use Rattle.std.proofs.Common.{◌≡◌, ℕ, ◌+◌, ◌-◌, ◌*◌, ◌/◌, ◌<◌, ◌≤◌, ◌⊎◌, ⊎_elim, List, [], ◌∷◌, ◌++◌, refl, subst, arith}
 use Rattle.std.specs.List.{AllByRecursion}
-use Rattle.std.proofs.lemmas.Bool.{cases_lt, cases_order}
+use Rattle.std.proofs.lemmas.Bool.{cases_lt}
 use Rattle.theory.specs.Placed.{AllAmong, Among, Chain, IsReached, Placed, covered, end_of, frame_length}
 use Rattle.theory.specs.Units.{HasUnit, IsContiguous}
 use Rattle.theory.specs.ImageLaws.{held}
 use Rattle.rebuilder.specs.Held.{AreInOrder, IsStart}
-use Rattle.rebuilder.proofs.Lists.{all_at, all_from, all_weaker}
+use Rattle.theory.proofs.Lists.{all_append, all_at, all_from, all_weaker}
+use Rattle.theory.proofs.Follow.{Chain-append}
+use Rattle.theory.proofs.Messages.{chain_le}
 use Rattle.rebuilder.proofs.Order.{apart, at_least, held_among}
 
 abbrev pub AreFull : List Placed → Type 0
 AreFull frames = AllByRecursion (λ s. 0 < covered s) frames
 
-chain_append : (j p q : ℕ) (xs ys : List Placed) → Chain j p xs → Chain p q ys → Chain j q (xs ++ ys)
-chain_append j p q [] ys c d = subst (λ x. Chain x q ys) c d
-chain_append j p q (s ∷ xs) ys c d = (c.0, chain_append (end_of s) p q xs ys c.1 d)
-
-all_append : (P : Placed → Type 0) (xs ys : List Placed) → AllByRecursion P xs → AllByRecursion P ys → AllByRecursion P (xs ++ ys)
-all_append P [] ys h k = k
-all_append P (x ∷ xs) ys h k = (h.0, all_append P xs ys h.1 k)
-
 pub reached_here : (frames : List Placed) (p : ℕ) → IsReached frames p p
 reached_here frames p = record { read = []; chain = refl; among = tt }
 
 pub reached_more : (frames : List Placed) (j p q : ℕ) → IsReached frames j p → IsReached frames p q → IsReached frames j q
-reached_more frames j p q a b = record { read = a.read ++ b.read; chain = chain_append j p q a.read b.read a.chain b.chain; among = all_append (λ s. Among s frames) a.read b.read a.among b.among }
+reached_more frames j p q a b = record { read = a.read ++ b.read; chain = Chain-append j p q a.read b.read a.chain b.chain; among = all_append (λ s. Among s frames) a.read b.read a.among b.among }
 
 -- past a frame that starts there
 pub reached_past : (frames : List Placed) (j : ℕ) (s : Placed) → Among s frames → IsReached frames j s.at → IsReached frames j (end_of s)
@@ -32,13 +26,6 @@ reached_past frames j s a r = reached_more frames j s.at (end_of s) r (record { 
 
 pub reached_in : (a b : List Placed) (p q : ℕ) → ((s : Placed) → Among s a → Among s b) → IsReached a p q → IsReached b p q
 reached_in a b p q f r = record { read = r.read; chain = r.chain; among = all_weaker (λ s. Among s a) (λ s. Among s b) f r.read r.among }
-
-chain_le : (j q : ℕ) (read : List Placed) → Chain j q read → j ≤ q
-chain_le j q [] c = let e : q ≡ j = c in omega arith
-chain_le j q (s ∷ ss) c =
-    let first : s.at ≡ j = c.0 in
-    let later : end_of s ≤ q = chain_le (end_of s) q ss c.1 in
-    omega arith
 
 pub reached_le : (frames : List Placed) (p q : ℕ) → IsReached frames p q → p ≤ q
 reached_le frames p q r = chain_le p q r.read r.chain
@@ -126,16 +113,6 @@ is_contiguous frames j q order full r stops =
           (λ (l : q ≤ u.frame.at). let e : u.frame.at ≡ q = omega arith in stops (u.frame, u.among, e))
           (cases_lt u.frame.at q);
     }
-
--- there is one contiguous end
-pub one_end : (frames : List Placed) (j p q : ℕ) → IsContiguous frames j p → IsContiguous frames j q → p ≡ q
-one_end frames j p q a b =
-    let ea : p ≡ j + 32 * a.units = a.end in
-    let eb : q ≡ j + 32 * b.units = b.end in
-    ⊎_elim
-    (λ (e : a.units ≡ b.units). omega arith)
-    (λ (o : (a.units < b.units) ⊎ (b.units < a.units)). ⊎_elim (λ (l : a.units < b.units). absurd (a.next (subst (λ x. HasUnit frames x) (sym ea) (b.all a.units l)))) (λ (l : b.units < a.units). absurd (b.next (subst (λ x. HasUnit frames x) (sym eb) (a.all b.units l)))) o)
-    (cases_order a.units b.units)
 
 -- ---- what comes above the contiguous end
 

@@ -82,7 +82,7 @@ impl Image {
 
     /// Takes a DATA frame or a padding at a position, which is below every image where it is negative. The answer is
     /// the first that applies, and the frame is held from now on only where it is [`Insert::Stored`]. At an error
-    /// memory was refused: nothing has changed, and the frame may be handed in again.
+    /// memory was refused for a frame that would be stored: nothing has changed, and it may be handed in again.
     pub fn insert(&mut self, position: i64, frame: &Frame<'_>) -> Result<Insert, AllocError>
         requires unit { IsUnit position }
         requires frame { IsFrame (wire frame.now) }
@@ -90,6 +90,7 @@ impl Image {
         ensures answer { IfOk result (λ a. meant a ≡ insert_answer_at self.old.geometry (map head_of self.old.held) (least self.old.consumers) self.old.window position (is_padding (stream_frame frame.now)) (frame_length (stream_frame frame.now))) }
         ensures stored { IfOk result (λ a. a ≡ Insert.Stored → (p : ℕ) → position ≡ pos p → self.new ≡ with_frame self.old (record { at = p; frame = stream_frame frame.now })) }
         ensures others { IfOk result (λ a. (a ≡ Insert.Stored → ⊥) → self.new ≡ self.old) }
+        ensures wanted { OnErr result (meant Insert.Stored ≡ insert_answer_at self.old.geometry (map head_of self.old.held) (least self.old.consumers) self.old.window position (is_padding (stream_frame frame.now)) (frame_length (stream_frame frame.now))) }
         ensures refused { OnErr result (self.new ≡ self.old) }
     {
         let (kind, frame_length) = measure(frame);

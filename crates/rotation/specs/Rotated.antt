@@ -1,5 +1,5 @@
 -- A log after a rotation.
-use Rattle.std.specs.Prelude.{ℕ, ◌+◌, ◌&&◌, nat_eq, nat_le, if◌then◌else◌}
+use Rattle.std.specs.Prelude.{ℕ, ◌+◌, nat_eq, nat_le, if◌then◌else◌}
 use Rattle.log_buffer.specs.Log.{Log, counted, turned}
 
 -- the next term has begun

@@ -1,5 +1,5 @@
 -- What a rotation adds to a pass's word calls.
-use Rattle.std.specs.Prelude.{◌≡◌, ℕ, ◌≤◌, List, [], ◌∷◌, ◌++◌, length}
+use Rattle.std.specs.Prelude.{◌≡◌, ℕ, ◌≤◌, List, ◌++◌, length}
 use Rattle.std.specs.List.{filter}
 use Rattle.log_buffer.specs.Passes.{Pass}
 use Rattle.log_buffer.specs.declared.step.Step.{Step}

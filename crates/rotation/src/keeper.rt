@@ -33,6 +33,7 @@ pub fn set_closed(log: &mut LogState, _keeper: &mut Keeper)
 pub fn clean_and_limit(log: &mut LogState, _keeper: &mut Keeper) -> u64
     ensures done { CleansAndLimits log.old log.new }
     ensures limit { result ≡ raised log.old }
+    ensures unit { result % 32 ≡ 0 }
     ensures legal { IsLog log.old }
     ensures readers { (r : Reader) → IsAt log.old r → IsAt log.new r }
     ensures claims { (c : Claimed) → IsHeld log.old c → IsHeld log.new c }

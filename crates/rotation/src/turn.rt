@@ -15,6 +15,7 @@ pub fn rotate(log: &mut LogState, publisher: &mut Publisher, count: u32)
     requires seen { HasSeenEnd log.old.identity.geometry publisher.old.steps count }
     requires finished { IsFinished log.old count }
     ensures rotated { log.new ≡ rotated log.old count }
+    ensures identity { log.new.identity ≡ log.old.identity }
     ensures turns { Turns publisher.old publisher.new }
     ensures readers { (r : Reader) → IsAt log.old r → IsAt log.new r }
     ensures claims { (c : Claimed) → IsHeld log.old c → IsHeld log.new c }
@@ -29,6 +30,7 @@ fn begin_next(log: &mut LogState, publisher: &mut Publisher, count: u32) -> bool
     requires few { length publisher.old.steps ≤ 4 }
     requires finished { IsFinished log.old count }
     ensures begun { log.new ≡ with_next log.old count }
+    ensures identity { log.new.identity ≡ log.old.identity }
     ensures further { count < log.new.newest }
     ensures shown { IsTrue result ↔ (log.new.newest ≤ count + 3) }
     ensures adds { Adds 2 1 0 publisher.old publisher.new }

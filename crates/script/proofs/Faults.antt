@@ -94,7 +94,7 @@ finished_err (Err m) n e = inl (let same : m ≡ n = cc in ap Err same)
 finished_err (Ok (None, orders)) n e = inr (orders, refl)
 finished_err (Ok (Some log, orders)) n e = absurd (cc)
 
-begun : (ls : List (List ℕ)) → list_any is_log ls ≡ true → Any BeginsLog ls
+pub begun : (ls : List (List ℕ)) → list_any is_log ls ≡ true → Any BeginsLog ls
 begun ls some =
     let any = Any-from_list_any is_log ls some in
     (any.0, any.1, any.2, any.3, begins_found any.1 any.4)

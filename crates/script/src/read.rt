@@ -1,6 +1,6 @@
-ghost use Rattle.std.specs.Prelude.{ℕ, List, ◌≡◌, ◌∷◌, length, None, OnOk, IfOk, IfErr, MatchResult, IsErrOf};
-ghost use Rattle.std.specs.List.{list_any};
-ghost use Rattle.script.specs.Language.{IsScript, IsFaultLine};
+ghost use Rattle.std.specs.Prelude.{ℕ, List, ◌≡◌, ◌∷◌, true, length, None, OnOk, IfOk, IfErr, MatchResult, IsErrOf};
+ghost use Rattle.std.specs.List.{Any, list_any};
+ghost use Rattle.script.specs.Language.{BeginsLog, IsScript, IsFaultLine};
 ghost use Rattle.script.specs.Meaning.{Told, opened, orders, told};
 ghost use Rattle.script.specs.Pieces.{lines};
 ghost use Rattle.script.specs.Reading.{FaultIs, GivesScript, GoesOn, is_log, finished, script_from, script_of};
@@ -77,7 +77,8 @@ fn line_count(bytes: &[u8]) -> u64
 
 /// The script of a text, unless memory runs out.
 fn read(alloc: Global, bytes: &[u8]) -> Result<Script, ScriptFault>
-    ensures { GivesScript told result (script_of bytes.now) }
+    ensures given { GivesScript told result (script_of bytes.now) }
+    ensures memory { IsErrOf result ScriptFault.Memory → list_any is_log (lines bytes.now) ≡ true }
 {
     if has_log(bytes) {
         read_lines(alloc, bytes)
@@ -96,6 +97,8 @@ pub fn read_script(alloc: Global, bytes: &[u8]) -> Result<Script, ScriptFault>
     ensures found { IfOk result (λ script. IsScript bytes.now (told script)) }
     // What the text says is read, unless memory runs out.
     ensures only { (meant : Told) → IsScript bytes.now meant → MatchResult result (λ script. told script ≡ meant) (λ fault. fault ≡ ScriptFault.Memory) }
+    // Memory is wanted only for a text with a line that begins with `log`.
+    ensures memory { IsErrOf result ScriptFault.Memory → Any BeginsLog (lines bytes.now) }
     // A fault names the line of the text's fault.
     ensures fault { (number : ℕ) → IsErrOf result (ScriptFault.Line number) → IsFaultLine bytes.now number }
 {

@@ -151,7 +151,6 @@ impl TermBuffer {
         requires owner { owner < 8 }
         requires short { padding ≡ false → size ≤ max_message self.old.identity.geometry }
         requires long { padding ≡ true → 32 ≤ size }
-        requires whole { padding ≡ true → size % 32 ≡ 0 }
         requires in_term { self.old.tail % term_of self.old + span (cuts_for self.old.identity.geometry padding size) ≤ term_of self.old }
         requires room { self.old.tail + span (cuts_for self.old.identity.geometry padding size) ≤ self.old.cleaned + 3 * term_of self.old }
         requires below { self.old.tail < max_position self.old.identity.geometry }

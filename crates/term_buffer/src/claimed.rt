@@ -1,3 +1,10 @@
+ghost use Rattle.std.specs.Prelude.{◌≡◌, ◌<◌, ◌≤◌, length};
+ghost use Rattle.theory.specs.Position.{max_position};
+ghost use Rattle.term_buffer.specs.Kept.{cuts_in, next_start};
+
+use crate::cuts::frame_offset;
+use position::Geometry;
+
 /// A claimed range of the stream: a message's frames or a padding, of which the first ones are committed.
 #[derive(Clone, Copy, Debug, PartialEq, Eq)]
 pub(crate) struct Slot {
@@ -28,4 +35,15 @@ pub struct Claimed {
     pub padding: bool,
     /// How many of its frames are committed; the next one has this number.
     pub frame: u32,
+}
+
+impl Claimed {
+    /// The position at which its next frame begins.
+    pub fn next_start(self, geometry: Geometry) -> u64
+        requires more { self.frame < length (cuts_in geometry self) }
+        requires in_stream { self.start ≤ max_position geometry }
+        ensures { result ≡ next_start geometry self }
+    {
+        self.start + frame_offset(geometry, self.padding, self.size, self.frame)
+    }
 }

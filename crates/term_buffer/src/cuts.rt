@@ -41,7 +41,8 @@ pub(crate) fn covered(geometry: Geometry, padding: bool, size: u32) -> u32
 /// Where a frame begins, from the first one's start on.
 pub(crate) fn frame_offset(geometry: Geometry, padding: bool, size: u32, frame: u32) -> u64
     requires { frame < length (cuts_for geometry padding size) }
-    ensures { result ≡ span (take frame (cuts_for geometry padding size)) }
+    ensures value { result ≡ span (take frame (cuts_for geometry padding size)) }
+    ensures small { result ≤ 2 ^ 48 }
 {
     u64::from(frame) * u64::from(geometry.mtu())
 }

@@ -1,4 +1,4 @@
-use Rattle.std.proofs.Common.{◌∙◌, ap, rules, FitsSigned, w32, w64}
+use Rattle.std.proofs.Common.{◌∙◌, ap, sym, rules, FitsSigned, w32, w64}
 use Rattle.std.specs.Prelude.{ℕ, ◌/◌}
 use Rattle.std.proofs.lemmas.Int.{to_z-of_z}
 use Rattle.std.proofs.lemmas.Result.{IfOk-weaker}
@@ -12,10 +12,11 @@ returns c =
     let number : FitsSigned w64 c.from.result = search rules in
     IfOk-weaker c.new.result _ _
     (λ s h. h _
-    (shows_listening _ _ _ _ _ _ _ _ _
+    (shows_listening _ _ _ _ _ _ _ _ _ _
     (to_z-of_z w32 c.args.log.now.session session)
     (to_z-of_z w32 c.args.log.now.stream stream)
     (ap (λ (w : ℕ). w / 2) c.term_length-window.ensures.value)
     (to_z-of_z w64 c.from.result number ∙ c.from.ensures)
-    c.new-core.ensures.shown))
+    (c.new-core.ensures.shown _))
+    (sym c.max_message.ensures.value))
     c.new.ensures.shown

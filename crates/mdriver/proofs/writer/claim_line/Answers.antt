@@ -1,6 +1,5 @@
 use Rattle.std.proofs.Common.{◌≡◌, ◌∙◌, ap, refl, sym, subst, Ok, Err}
 use Rattle.std.specs.Prelude.{Some}
-use Rattle.mdriver.proofs.Stages.{claim_identity}
 use Rattle.mdriver.proofs.Standing.{holds_on}
 use Rattle.mdriver.proofs.Writers.{claimed_line, denied_line}
 use Rattle.mdriver.specs.Writing.{Claims}
@@ -13,14 +12,11 @@ returns-in-Ok-clause-claims c =
     claimed_line c.args.log.now c.try_claim.new.log c.args.writer c.in-Free.publisher c.args.size c.in-Ok.claim c.start-start.result c.end-end.result c.in-Free.is c.try_claim.ensures.legal c.in-Ok.ensures.claimed.0 c.in-Ok.ensures.claimed.1 c.try_claim.ensures.after c.start-start.ensures c.end-end.ensures
 
 pub returns-in-Ok-clause-others : goal.returns-in-Ok-clause-others
-returns-in-Ok-clause-others c = λ d h. holds_on c.args.log.now c.try_claim.new.log (ap (λ l. l.identity) c.try_claim.ensures.after ∙ claim_identity c.args.log.now c.in-Free.publisher.number c.args.size) d (c.try_claim.ensures.claims d) h
+returns-in-Ok-clause-others c = λ d h. holds_on c.args.log.now c.try_claim.new.log c.try_claim.ensures.identity d (c.try_claim.ensures.claims d) h
 
 pub returns-in-Err-clause-claims : goal.returns-in-Err-clause-claims
 returns-in-Err-clause-claims c =
     denied_line c.args.log.now c.try_claim.new.log c.args.writer c.in-Free.publisher c.in-Err.denied.publisher c.args.size c.in-Err.denied.refusal c.in-Free.is c.try_claim.ensures.legal c.in-Err.ensures.denied c.try_claim.ensures.after
 
 pub returns-in-Err-clause-others : goal.returns-in-Err-clause-others
-returns-in-Err-clause-others c = λ d h. holds_on c.args.log.now c.try_claim.new.log (ap (λ l. l.identity) c.try_claim.ensures.after ∙ claim_identity c.args.log.now c.in-Free.publisher.number c.args.size) d (c.try_claim.ensures.claims d) h
-
-pub returns-in-Err-clause-identity : goal.returns-in-Err-clause-identity
-returns-in-Err-clause-identity c = ap (λ l. l.identity) c.try_claim.ensures.after ∙ claim_identity c.args.log.now c.in-Free.publisher.number c.args.size
+returns-in-Err-clause-others c = λ d h. holds_on c.args.log.now c.try_claim.new.log c.try_claim.ensures.identity d (c.try_claim.ensures.claims d) h

@@ -23,10 +23,10 @@ returns-clause-stored c =
     c.requires.drafts
     c.store.ensures.stored c.store-2.ensures.stored c.store-3.ensures.stored
     (header_words l.identity (next_start c.args.log.now.identity.geometry c.args.claimed) _ _ _ offset session stream term c.pair_word-first.ensures c.pair_word-second.ensures refl
-    (ap (cast_unsigned w32) (same_offset ∙ c.cast_signed-offset.ensures) ∙ back ∙ c.term_of-place.ensures.offset ∙ ap (λ (n : ℕ). (place_of c.geometry-geometry.result n).offset) c.frame_start.ensures ∙ ap (λ (g : Geometry). (place_of g (next_start g c.args.claimed)).offset) c.geometry-geometry.ensures.value)
+    (ap (cast_unsigned w32) (same_offset ∙ c.cast_signed-offset.ensures) ∙ back ∙ c.term_of-place.ensures.offset ∙ ap (λ (n : ℕ). (place_of c.geometry-geometry.result n).offset) c.next_start.ensures ∙ ap (λ (g : Geometry). (place_of g (next_start g c.args.claimed)).offset) c.geometry-geometry.ensures.value)
     (same_session ∙ c.session-session.ensures)
     (same_stream ∙ c.stream-stream.ensures)
-    (same_term ∙ c.term_of-place.ensures.term_id ∙ ap (λ (n : ℕ). id_of c.geometry-geometry.result (place_of c.geometry-geometry.result n).count) c.frame_start.ensures ∙ ap (λ (g : Geometry). id_of g (place_of g (next_start g c.args.claimed)).count) c.geometry-geometry.ensures.value))
+    (same_term ∙ c.term_of-place.ensures.term_id ∙ ap (λ (n : ℕ). id_of c.geometry-geometry.result (place_of c.geometry-geometry.result n).count) c.next_start.ensures ∙ ap (λ (g : Geometry). id_of g (place_of g (next_start g c.args.claimed)).count) c.geometry-geometry.ensures.value))
 
 pub returns-clause-readers : goal.returns-clause-readers
 returns-clause-readers c = λ r h. c.store-3.ensures.readers r (c.store-2.ensures.readers r (c.store.ensures.readers r h))

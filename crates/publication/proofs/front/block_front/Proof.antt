@@ -38,8 +38,8 @@ use Rattle.log_buffer.specs.Lending.{with_bytes}
 use Rattle.log_buffer.specs.contracts.passes.Publisher as P
 use Rattle.log_buffer.specs.contracts.passes.Publisher.bytes_mut as bytes
 use Rattle.log_buffer.proofs.passes.Publisher.bytes_mut.Met as bytes_met
-use Rattle.publication.specs.contracts.front.front_mut as front
-use Rattle.publication.proofs.front.front_mut.Met as front_met
+use Rattle.block.specs.contracts.front_mut as front
+use Rattle.block.proofs.front_mut.Met as front_met
 use Rattle.publication.specs.contracts.front.block_front as f
 use Rattle.publication.proofs.front.block_front.Statement.{statement}
 use Rattle.publication.proofs.front.block_front.Code as code
@@ -90,7 +90,7 @@ block_front_spec 𝓤 𝓛 𝓜 𝓡 wired =
     let z' : K.Ghost = ((κs, qs, bounds, (s, (m, tt)), (mut_slice_vals s, (vint w64 m ∷ [], tt))), tt) in
     move ! (0 ∷ 3 ∷ []) $ join ! $ move ! (1 ∷ 0 ∷ []) $ join ! $
     use0 𝓛 (raw (fact 𝓤 (m ≤ length s.now))) (fact_i 𝓤 _ (emp 𝓤) within) $ move ! (1 ∷ 0 ∷ []) $ use2 𝓛 (raw (K.pre z')) (id⊢ 𝓤 _) $
-    calls_at ! (framed 𝓤 𝓛.H 𝓜 (tables 𝓤 𝓛.H 𝓜 𝓡 𝓡.env)) K (front_met.met 𝓤 𝓛 𝓜 𝓡 (code.calls-publication::front::front_mut 𝓡.env wired)) z'
+    calls_at ! (framed 𝓤 𝓛.H 𝓜 (tables 𝓤 𝓛.H 𝓜 𝓡 𝓡.env)) K (front_met.met 𝓤 𝓛 𝓜 𝓡 (code.calls-block::front_mut 𝓡.env wired)) z'
     (and_then ! (get ! refl) (and_then ! (get ! refl) (no_more !))) (λ v'.
     use1 𝓛 (later (some (λ (t : MutBor (List ℕ)). ((‵ (flft κ q) ⊛ ‵ ftrue) ⊛ ‵ ((MutSlice (named 0) κ u8).own_val t (v' ∷ []))) ⊛
     some (λ (ws' : Unit {0} × (Unit {0} × Unit {0})). ‵ (lasts front.ended κs (s, (m, tt)) ws') ⊛ (‵ (follows (Array u8 0) (Array u8 0) s.ghost_name t.ghost_name (with_front s.now)) ⊛ raw (fact 𝓤 (t.now ≡ take m s.now))))))) (id⊢ 𝓤 _) $

@@ -2,6 +2,7 @@ use Rattle.std.proofs.Common.{rules, arith, append-nil, ap, sym, ◌∙◌, ◌�
 use Rattle.std.specs.Prelude.{slice_set, nat_le}
 use Rattle.std.proofs.lemmas.Bool.{cond-false, leb-false}
 use Rattle.theory.specs.Position.{cuts_of, max_position, span}
+use Rattle.theory.specs.Bytes.{Identity}
 use Rattle.theory.specs.Placed.{Pad}
 use Rattle.theory.proofs.Claims.{covers_framed}
 use Rattle.term_buffer.specs.declared.claimed.Claimed.{Claimed}
@@ -19,7 +20,7 @@ write_padding-requires-clause-in_stream c =
     let at : c.in-Some-2.claimed.start ≡ c.args.log.now.tail = search rules in
     let made : c.add-added.new.self ≡ after_add c.args.log.now c.args.publisher.now.number (c.args.count % 3) c.args.size = search rules in
     let kept : IsSame c.args.log.now c.add-added.new.self = add_keeps c.args.log.now c.add-added.new.self c.args.publisher.now.number (c.args.count % 3) c.args.size made in
-    omega (arith, at, tail_in_stream c.args.log.now c.requires.legal, ap max_position kept.geometry)
+    omega (arith, at, tail_in_stream c.args.log.now c.requires.legal, ap max_position (ap (λ (i : Identity). i.geometry) kept.identity))
 
 pub write_padding-requires-clause-blank : goal.write_padding-requires-clause-blank
 write_padding-requires-clause-blank c =
@@ -47,7 +48,7 @@ keeps c =
 pub turn_from-requires-clause-seen : goal.turn_from-requires-clause-seen
 turn_from-requires-clause-seen c =
     let steps : c.add-added.new.publisher.steps ≡ c.args.publisher.now.steps ++ steps.Addition (c.args.count % 3) (covered c.args.log.now c.args.size) (raw_tail c.args.log.now (c.args.count % 3)) ∷ [] = search rules in
-    let same : c.write_padding.new.log.identity.geometry ≡ c.args.log.now.identity.geometry = (keeps c).geometry in
+    let same : c.write_padding.new.log.identity.geometry ≡ c.args.log.now.identity.geometry = (ap (λ (i : Identity). i.geometry) (keeps c).identity) in
     seen_past c.args.log.now c.write_padding.new.log.identity.geometry c.args.publisher.now.steps c.add-added.new.publisher.steps c.args.count (covered c.args.log.now c.args.size) (is_short c) steps same c.requires.shows_id c.requires.shows_offset
 
 pub turn_from-requires-clause-finished : goal.turn_from-requires-clause-finished
@@ -55,7 +56,7 @@ turn_from-requires-clause-finished c =
     let offsets : c.write_padding.new.log.offsets ≡ slice_set c.args.log.now.offsets (c.args.count % 3) (offset_of c.args.log.now c.args.count + covered c.args.log.now c.args.size) = search rules in
     let room : room_in c.args.log.now (c.args.count % 3) < covered c.args.log.now c.args.size = leb-false (covered c.args.log.now c.args.size) (room_in c.args.log.now (c.args.count % 3)) (is_short c) in
     let past : term_of c.args.log.now ≤ offset_of c.write_padding.new.log c.args.count = past_end c.args.log.now c.write_padding.new.log.offsets (c.args.count % 3) (covered c.args.log.now c.args.size) c.requires.legal.three (omega arith) room offsets in
-    λ last. finished_there c.args.log.now c.write_padding.new.log c.args.count (keeps c).geometry (keeps c).start (keeps c).newest c.requires.opened c.requires.newest past last
+    λ last. finished_there c.args.log.now c.write_padding.new.log c.args.count (ap (λ (i : Identity). i.geometry) (keeps c).identity) (keeps c).start (keeps c).newest c.requires.opened c.requires.newest past last
 
 pub returns-in-Some-2-clause-after : goal.returns-in-Some-2-clause-after
 returns-in-Some-2-clause-after c =
@@ -105,3 +106,10 @@ returns-in-Some-clause-steps c =
       few_tails = omega arith;
       few_counts = omega arith;
     }
+
+pub returns-in-Some-2-clause-identity : goal.returns-in-Some-2-clause-identity
+returns-in-Some-2-clause-identity c =
+    let made : c.add-added.new.self ≡ after_add c.args.log.now c.args.publisher.now.number (c.args.count % 3) c.args.size = search rules in
+    let kept : IsSame c.args.log.now c.add-added.new.self = add_keeps c.args.log.now c.add-added.new.self c.args.publisher.now.number (c.args.count % 3) c.args.size made in
+    let padded : IsSame c.args.log.now c.write_padding.new.log = commit_keeps c.args.log.now c.add-added.new.self c.write_padding.new.log c.in-Some-2.claimed (Pad c.in-Some-2.claimed.size) kept c.write_padding.ensures.committed in
+    c.turn_from.ensures.identity ∙ padded.identity

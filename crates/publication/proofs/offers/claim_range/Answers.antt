@@ -8,10 +8,12 @@ use Rattle.log_buffer.specs.Passes.{Pass, sights}
 use Rattle.log_buffer.specs.declared.step.Step.{Step}
 use Rattle.log_buffer.specs.declared.step.Step.TheVariants as steps
 use Rattle.publication.specs.Claims.{claim_at}
+use Rattle.publication.specs.Grants.{IsGranted}
 use Rattle.publication.specs.Looks.{all_seen, tail_word_seen}
 use Rattle.publication.specs.Offers.{added_course, after_claim, after_course, answer_at, answer_of, covered}
 use Rattle.publication.specs.Refusals.{why_of}
 use Rattle.publication.specs.declared.refusal.Refusal.{Refusal}
+use Rattle.publication.proofs.Granted.{open_granted}
 use Rattle.publication.proofs.Justified.{after_is, answer_is, finished_at, get_put, limited_refusal, on_err, on_ok, open_justified, opened_before, stale, used_up}
 use Rattle.publication.proofs.offers.claim_range.Goals as goal
 
@@ -95,20 +97,33 @@ returns-in-Open-clause-after c =
     (c.add_range.ensures.after ∙ ap (λ (k : ℕ). after_course c.look_at.new.log k c.in-Open.count c.args.size (added_course c.look_at.new.log c.in-Open.count c.args.size)) number)
     ∙ ap (λ (k : ℕ). after_claim c.args.log.now k c.args.size) begun
 
-pub returns-in-Open-clause-justified : goal.returns-in-Open-clause-justified
-returns-in-Open-clause-justified c =
+-- what the pass saw up to the addition
+steps_are : (c : goal.After-add_range) → c.add_range.new.publisher.steps ≡ (all_seen c.args.log.now ++ steps.Addition (c.args.log.now.active % 3) (covered c.args.log.now c.args.size) (tail_word_seen c.args.log.now) ∷ []) ++ c.add_range.ensures.steps.more
+steps_are c =
     let s = c.in-Open.ensures in
     let word : raw_tail c.look_at.new.log (c.in-Open.count % 3) ≡ tail_word_seen c.args.log.now = ap (λ (l : Log). raw_tail l (c.in-Open.count % 3)) s.saw.5 ∙ ap (λ (n : ℕ). raw_tail c.args.log.now (n % 3)) s.saw.1 in
     let same : covered c.look_at.new.log c.args.size ≡ covered c.args.log.now c.args.size = ap (λ (l : Log). covered l c.args.size) s.saw.5 in
-    on_err (λ (r : Refusal). answer_at c.look_at.new.log c.in-Open.count c.args.size (added_course c.look_at.new.log c.in-Open.count c.args.size) ≡ Err r)
-    (λ (r : Refusal). IsJustified c.args.log.now.identity.geometry (covered c.args.log.now c.args.size) (sights c.add_range.new.publisher.steps) (why_of r)) c.add_range.result
-    (λ r h. open_justified c.args.log.now c.look_at.new.log _ c.in-Open.count c.args.size c.add_range.new.publisher.steps c.add_range.ensures.steps.more r h s.saw.5 s.saw.1
-    (c.add_range.ensures.steps.steps
+    c.add_range.ensures.steps.steps
     ∙ ap (λ (xs : List Step). (xs ++ steps.Addition (c.in-Open.count % 3) (covered c.look_at.new.log c.args.size) (raw_tail c.look_at.new.log (c.in-Open.count % 3)) ∷ []) ++ c.add_range.ensures.steps.more) s.saw.4
     ∙ ap (λ (w : ℕ). (all_seen c.args.log.now ++ steps.Addition (c.in-Open.count % 3) (covered c.look_at.new.log c.args.size) w ∷ []) ++ c.add_range.ensures.steps.more) word
     ∙ ap (λ (n : ℕ). (all_seen c.args.log.now ++ steps.Addition (c.in-Open.count % 3) n (tail_word_seen c.args.log.now) ∷ []) ++ c.add_range.ensures.steps.more) same
-    ∙ ap (λ (n : ℕ). (all_seen c.args.log.now ++ steps.Addition (n % 3) (covered c.args.log.now c.args.size) (tail_word_seen c.args.log.now) ∷ []) ++ c.add_range.ensures.steps.more) s.saw.1)
-    s.counted s.legal_old s.limit s.saw.0 s.saw.2 s.saw.3)
+    ∙ ap (λ (n : ℕ). (all_seen c.args.log.now ++ steps.Addition (n % 3) (covered c.args.log.now c.args.size) (tail_word_seen c.args.log.now) ∷ []) ++ c.add_range.ensures.steps.more) s.saw.1
+
+pub returns-in-Open-clause-granted : goal.returns-in-Open-clause-granted
+returns-in-Open-clause-granted c =
+    let s = c.in-Open.ensures in
+    on_ok (λ (d : Claimed). (answer_at c.look_at.new.log c.in-Open.count c.args.size (added_course c.look_at.new.log c.in-Open.count c.args.size) ≡ Ok (d.start + covered c.look_at.new.log c.args.size)) × (d ≡ claim_at c.look_at.new.log c.look_at.new.publisher.number c.args.size))
+    (λ (d : Claimed). IsGranted c.args.log.now.identity.geometry (covered c.args.log.now c.args.size) c.add_range.new.publisher.steps (d.start + covered c.args.log.now c.args.size)) c.add_range.result
+    (λ d h. subst (λ (l : Log). IsGranted c.args.log.now.identity.geometry (covered c.args.log.now c.args.size) c.add_range.new.publisher.steps (d.start + covered l c.args.size)) s.saw.5
+    (open_granted c.args.log.now c.look_at.new.log _ c.in-Open.count c.args.size (d.start + covered c.look_at.new.log c.args.size) c.add_range.new.publisher.steps c.add_range.ensures.steps.more h.0 s.saw.5 s.saw.1 (steps_are c) s.limit s.saw.0 s.saw.2 s.saw.3))
+    c.add_range.ensures.claimed
+
+pub returns-in-Open-clause-justified : goal.returns-in-Open-clause-justified
+returns-in-Open-clause-justified c =
+    let s = c.in-Open.ensures in
+    on_err (λ (r : Refusal). answer_at c.look_at.new.log c.in-Open.count c.args.size (added_course c.look_at.new.log c.in-Open.count c.args.size) ≡ Err r)
+    (λ (r : Refusal). IsJustified c.args.log.now.identity.geometry (covered c.args.log.now c.args.size) (sights c.add_range.new.publisher.steps) (why_of r)) c.add_range.result
+    (λ r h. open_justified c.args.log.now c.look_at.new.log _ c.in-Open.count c.args.size c.add_range.new.publisher.steps c.add_range.ensures.steps.more r h s.saw.5 s.saw.1 (steps_are c) s.counted s.legal_old s.limit s.saw.0 s.saw.2 s.saw.3)
     c.add_range.ensures.refused
 
 pub returns-in-Open-clause-readers : goal.returns-in-Open-clause-readers

@@ -1,8 +1,5 @@
-use Rattle.std.proofs.Common.{rules, arith, ap, ◌∙◌, ◌≡◌, ◌≤◌, ◌%◌, true, ℕ, ◌+◌, ◌-◌, ◌*◌, ◌<◌, length, ◌/◌, Bool, false, nat_eq, nat_lt, List, [], ◌∷◌, ◌++◌, slice_index_or, slice_set, bit_and, bit_or, Fits, w8, w32, w64, Bor, MutBor}
+use Rattle.std.proofs.Common.{arith, ap, ◌∙◌, ◌≡◌}
 use Rattle.theory.specs.Position.{Geometry}
-use Rattle.log_buffer.specs.Log.{Cleans, IsLeast, IsLog, clean_end}
-use Rattle.log_buffer.specs.Reader.{IsAt, Reader}
-use Rattle.rotation.specs.Limited.{CleansAndLimits, raised}
 use Rattle.rotation.proofs.Cleaning.{limit_fits}
 use Rattle.rotation.proofs.keeper.clean_and_limit.Goals as goal
 

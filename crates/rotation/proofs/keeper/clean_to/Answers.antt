@@ -1,7 +1,4 @@
-use Rattle.std.proofs.Common.{rules, arith, ◌≡◌, ◌≤◌, ◌%◌, true, ℕ, ◌+◌, ◌-◌, ◌*◌, ◌<◌, length, ◌/◌, Bool, false, nat_eq, nat_lt, List, [], ◌∷◌, ◌++◌, slice_index_or, slice_set, bit_and, bit_or, Fits, w8, w32, w64, Bor, MutBor}
-use Rattle.log_buffer.specs.Log.{Cleans, IsLeast, IsLog, clean_end}
-use Rattle.log_buffer.specs.Reader.{IsAt, Reader}
-use Rattle.rotation.specs.Limited.{CleansAndLimits, raised}
+use Rattle.std.proofs.Common.{arith}
 use Rattle.rotation.proofs.Cleaning.{cleans_on, nothing_cleaned}
 use Rattle.rotation.proofs.keeper.clean_to.Goals as goal
 

@@ -1,7 +1,4 @@
-use Rattle.std.proofs.Common.{◌≡◌, true, ℕ, ◌+◌, ◌-◌, ◌*◌, ◌<◌, ◌≤◌, ◌%◌, length}
-use Rattle.log_buffer.specs.Log.{Cleans, IsLeast, IsLog, clean_end}
-use Rattle.log_buffer.specs.Reader.{IsAt, Reader}
-use Rattle.rotation.specs.Limited.{CleansAndLimits, raised}
+use Rattle.std.proofs.Common.{◌-◌}
 use Rattle.rotation.proofs.Cleaning.{IsCleaning}
 use Rattle.rotation.proofs.keeper.clean_to.Given as goal
 

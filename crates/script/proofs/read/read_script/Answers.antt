@@ -5,9 +5,10 @@ use Rattle.script.specs.declared.fault.ScriptFault.{ScriptFault}
 use Rattle.script.specs.declared.fault.ScriptFault.TheVariants.{Line, Memory}
 use Rattle.script.specs.Language.{IsScript, IsFaultLine}
 use Rattle.script.specs.Meaning.{Told, told}
+use Rattle.script.specs.Pieces.{lines}
 use Rattle.script.specs.Reading.{GivesScript, script_of}
 use Rattle.script.proofs.Laws.{found, only}
-use Rattle.script.proofs.Faults.{fault}
+use Rattle.script.proofs.Faults.{begun, fault}
 use Rattle.script.proofs.read.read_script.Goals as goal
 
 is_found : (read : Result Script ScriptFault) (text : List ℕ) → GivesScript told read (script_of text) → IfOk read (λ script. IsScript text (told script))
@@ -27,10 +28,13 @@ is_fault (Err (Line n)) text gives number is =
     subst (IsFaultLine text) same (fault text n gives)
 
 pub returns-clause-found : goal.returns-clause-found
-returns-clause-found c = is_found c.read.result c.args.bytes.now c.read.ensures
+returns-clause-found c = is_found c.read.result c.args.bytes.now c.read.ensures.given
 
 pub returns-clause-only : goal.returns-clause-only
-returns-clause-only c = is_only c.read.result c.args.bytes.now c.read.ensures
+returns-clause-only c = is_only c.read.result c.args.bytes.now c.read.ensures.given
+
+pub returns-clause-memory : goal.returns-clause-memory
+returns-clause-memory c = λ wants. begun (lines c.args.bytes.now) (c.read.ensures.memory wants)
 
 pub returns-clause-fault : goal.returns-clause-fault
-returns-clause-fault c = is_fault c.read.result c.args.bytes.now c.read.ensures
+returns-clause-fault c = is_fault c.read.result c.args.bytes.now c.read.ensures.given

@@ -73,14 +73,6 @@ claim-requires-else-before-covered-clause-long c =
     let r : Rest (the_view c.self.inside) c.add-before.result.offset = rest (the_view c.self.inside) c.self.inside.tails c.self.inside.consumer_count c.number-owner.result c.partition_of-partition.result c.add-before.result.offset c.framed_length-covered.result c.self.invariant h in
     λ _. rw term r.long
 
-pub claim-requires-else-before-covered-clause-whole : goal.claim-requires-else-before-covered-clause-whole
-claim-requires-else-before-covered-clause-whole c =
-    let a : Asks (the_view c.self.inside) c.self.inside.tails c.number-owner.result c.partition_of-partition.result c.framed_length-covered.result c.args.size = asks (the_view c.self.inside) c.args.self.now c.self.inside.tails c.self.inside.consumer_count c.args.publisher.now.number c.number-owner.result c.args.count c.partition_of-partition.result c.framed_length-covered.result c.args.size c.self.invariant c.self.view_is c.requires.armed c.requires.short (search rules) c.partition_of-partition.ensures.value (c.framed_length-covered.ensures ∙ ap (λ g. framed_length g c.args.size) c.geometry-2.ensures) in
-    let term : c.term_length-length.result ≡ c.self.inside.buffer.identity.geometry.term_length = c.term_length-length.ensures.value ∙ ap (λ g. g.term_length) c.geometry.ensures in
-    let h : Here (the_view c.self.inside) c.self.inside.tails c.number-owner.result c.partition_of-partition.result c.add-before.result.offset c.framed_length-covered.result = here (the_view c.self.inside) c.self.inside.tails c.number-owner.result c.partition_of-partition.result c.add-before.result.offset c.framed_length-covered.result c.args.size c.term_length-length.result a c.add-before.ensures.offset c.if-before-length.false term in
-    let r : Rest (the_view c.self.inside) c.add-before.result.offset = rest (the_view c.self.inside) c.self.inside.tails c.self.inside.consumer_count c.number-owner.result c.partition_of-partition.result c.add-before.result.offset c.framed_length-covered.result c.self.invariant h in
-    λ _. rw term r.unit
-
 pub claim-requires-else-before-covered-clause-in_term : goal.claim-requires-else-before-covered-clause-in_term
 claim-requires-else-before-covered-clause-in_term c =
     let a : Asks (the_view c.self.inside) c.self.inside.tails c.number-owner.result c.partition_of-partition.result c.framed_length-covered.result c.args.size = asks (the_view c.self.inside) c.args.self.now c.self.inside.tails c.self.inside.consumer_count c.args.publisher.now.number c.number-owner.result c.args.count c.partition_of-partition.result c.framed_length-covered.result c.args.size c.self.invariant c.self.view_is c.requires.armed c.requires.short (search rules) c.partition_of-partition.ensures.value (c.framed_length-covered.ensures ∙ ap (λ g. framed_length g c.args.size) c.geometry-2.ensures) in

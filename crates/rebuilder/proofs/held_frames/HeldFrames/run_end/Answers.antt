@@ -1,6 +1,6 @@
 use Rattle.std.proofs.Common.{◌+◌, ◌≤◌, ◌^◌, arith, sym, ap, subst}
 use Rattle.theory.specs.Placed.{Placed, IsReached, end_of}
-use Rattle.rebuilder.proofs.Lists.{all_at}
+use Rattle.theory.proofs.Lists.{all_at}
 use Rattle.rebuilder.proofs.Reach.{reached_past}
 use Rattle.rebuilder.proofs.held_frames.HeldFrames.run_end.Goals as goal
 

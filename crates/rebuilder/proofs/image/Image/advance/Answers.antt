@@ -4,7 +4,7 @@ use Rattle.std.proofs.lemmas.List.{get_or_read}
 use Rattle.theory.specs.Placed.{Among, Placed, end_of}
 use Rattle.theory.specs.ImageLaws.{held}
 use Rattle.rebuilder.specs.Seen.{Image, IsKept, least}
-use Rattle.rebuilder.proofs.Lists.{all_at}
+use Rattle.theory.proofs.Lists.{all_at}
 use Rattle.rebuilder.proofs.Kept.{low_ends, moved}
 use Rattle.rebuilder.proofs.image.Image.advance.Goals as goal
 

@@ -36,9 +36,9 @@ use Rattle.std.proofs.Math.Seq.{drop-append_seam}
 use Rattle.std.proofs.lemmas.List.{take_all}
 use Rattle.std.proofs.raw_atomic.Walks.{proved}
 use Rattle.block.specs.Bytes.{with_front, length-with_front}
-use Rattle.publication.specs.contracts.front.front_mut as f
-use Rattle.publication.proofs.front.front_mut.Statement.{statement}
-use Rattle.publication.proofs.front.front_mut.Code as code
+use Rattle.block.specs.contracts.front.front_mut as f
+use Rattle.block.proofs.front.front_mut.Statement.{statement}
+use Rattle.block.proofs.front.front_mut.Code as code
 
 -- as many other bytes over a front
 front_over : (front back ws : List ℕ) → length ws ≡ length front → with_front (front ++ back) ws ≡ ws ++ back

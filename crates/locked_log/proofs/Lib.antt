@@ -1,0 +1,5 @@
+pub mod Equal
+pub mod Passes
+pub mod Results
+pub mod Starts
+pub mod Tables

@@ -1,0 +1,30 @@
+-- Why the script on an input isn't played, where the input's bytes are known.
+use Rattle.std.specs.Prelude.{◌≤◌, ◌<◌, ℕ, List, length, ⊤}
+use Rattle.script.specs.Language.{IsFaultLine, IsScript}
+use Rattle.script.specs.Meaning.{Told}
+use Rattle.mdriver.specs.declared.fault.Fault.{Fault}
+use Rattle.mdriver.specs.declared.fault.Fault.TheVariants.{Line, Input, Memory, Hex, Frame, Read, Write}
+
+-- it is a script, of at most 1 MiB
+abbrev pub HoldsScript : List ℕ → Type 0
+HoldsScript bytes = (length bytes ≤ 1048576) × ((script : Told) × IsScript bytes script)
+
+-- why not all of it is taken; for want of memory, or where the input fails, any may be refused
+abbrev pub ExplainsInput : List ℕ → Fault → Type 0
+ExplainsInput bytes (Line n) = ⊥
+ExplainsInput bytes Input = 1048576 < length bytes
+ExplainsInput bytes Memory = ⊤
+ExplainsInput bytes Hex = ⊥
+ExplainsInput bytes (Frame fault) = ⊥
+ExplainsInput bytes Read = ⊤
+ExplainsInput bytes Write = ⊥
+
+-- why it isn't played to its end
+abbrev pub ExplainsScript : List ℕ → Fault → Type 0
+ExplainsScript bytes (Line n) = (length bytes ≤ 1048576) × IsFaultLine bytes n
+ExplainsScript bytes Input = 1048576 < length bytes
+ExplainsScript bytes Memory = ⊤
+ExplainsScript bytes Hex = ⊥
+ExplainsScript bytes (Frame fault) = ⊥
+ExplainsScript bytes Read = ⊤
+ExplainsScript bytes Write = HoldsScript bytes
