@@ -11,8 +11,8 @@ ghost use Rattle.publication.specs.Claims.{IsBrief, bytes_of, end_of};
 ghost use Rattle.publication.specs.Grants.{IsGranted};
 ghost use Rattle.publication.specs.Refusals.{why_of};
 
-use crate::stream::{Elsewhere, Stream};
 use crate::shared::Shared;
+use crate::stream::{Elsewhere, Stream};
 use block::Block;
 use log_buffer::{Book, Keeper, LogError, LogReader, Parts, Publisher};
 use position::{FrameHead, Geometry};

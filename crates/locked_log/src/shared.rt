@@ -21,8 +21,8 @@ ghost use Rattle.publication.specs.Offers.{after_claim, after_offer, answer_of};
 ghost use Rattle.publication.specs.Refusals.{why_of};
 ghost use Rattle.locked_log.specs.Shared.{Holds, IsOf, moved, opened, standing_of, with_claim, with_reader, without_claim};
 
-use crate::stream::{Elsewhere, Stream};
 use crate::standing::Standing;
+use crate::stream::{Elsewhere, Stream};
 use block::Block;
 use log_buffer::{
     Book, CONSUMERS, Claimed, Keeper, LogError, LogReader, LogState, PUBLISHERS, Parts, Publisher,
