@@ -8,7 +8,8 @@ use Rattle.theory.specs.Placed.{Placed}
 use Rattle.theory.specs.Resend.{Action, first_resent, is_resent, resent}
 use Rattle.theory.specs.Datagrams.{grouped}
 use Rattle.theory.specs.SenderLaws.{IsAskedFor, ResendsAsked}
-use Rattle.theory.proofs.Datagrams.{grouped_is, front_of, all_front}
+use Rattle.theory.proofs.Datagrams.{grouped_is, front_of}
+use Rattle.theory.proofs.Lists.{all_front}
 
 asked : (g : Geometry) (s : ℕ) (a : Action) (f : Placed) → is_resent g s a f ≡ true → IsAskedFor g s a f
 asked g s a f t =

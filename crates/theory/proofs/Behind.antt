@@ -1,7 +1,6 @@
 -- What a consumer may still read isn't cleaned.
 use Rattle.std.proofs.Common.{◌≡◌, ℕ, ◌+◌, ◌-◌, ◌/◌, ◌%◌, ◌≤◌, List, [], ◌∷◌, Some, sym, ap, subst, arith}
 use Rattle.std.specs.Prelude.{max, slice_get, slice_set, Option}
-use Rattle.theory.specs.Placed.{Placed, end_of, Chain}
 use Rattle.theory.specs.Entry.{committed}
 use Rattle.theory.specs.Seats.{Each}
 use Rattle.theory.specs.Consumer.{Consumer, moved, passed_by, consumer_at}
@@ -10,6 +9,7 @@ use Rattle.theory.specs.Sender.{Sender, SenderStep, SenderEvent, Send, Resend, S
 use Rattle.theory.specs.World.{World, Event, AtLog, AtSender, AtImage, Open, Step, Run, IsOpened}
 use Rattle.theory.specs.Headline.{IsReadable}
 use Rattle.theory.proofs.Lists.{each_weaker, each_get, each_set, each_leave}
+use Rattle.theory.proofs.Messages.{chain_le}
 
 abbrev Behind : ℕ → ℕ → ℕ → ℕ → Type 0
 Behind start cleaned term at = cleaned ≤ max start (at - term)
@@ -65,10 +65,6 @@ log_behind n old (Pass which past) new k h =
     let here : past.at ≡ h.0.at = h.2.here in
     subst (IsKeptBehind n) (sym h.3) (moves_on n old which h.0 (passed_by h.0 past) h.1 (omega arith) k)
 log_behind n old (Retire a b) new k h = subst (IsKeptBehind n) (sym h.2) k
-
-chain_le : (j q : ℕ) (ss : List Placed) → Chain j q ss → j ≤ q
-chain_le j q [] c = omega (arith, c)
-chain_le j q (s ∷ ss) c = let more : end_of s ≤ q = chain_le (end_of s) q ss c.1 in omega (arith, c.0)
 
 sender_on : (l : Log) (old : Sender) (e : SenderEvent) (new : Sender) → SenderStep l.identity.geometry l.start (committed l.entries) old e new → old.at ≤ new.at
 sender_on l old (Send frames to) new h = subst (λ (s : Sender). old.at ≤ s.at) (sym h.3) (chain_le old.at to frames h.0)

@@ -1,36 +1,19 @@
 -- Commits and aborts of entries by their starts, and the pieces of a message.
-use Rattle.std.proofs.Common.{◌≡◌, ℕ, zero, suc, ◌+◌, ◌-◌, ◌/◌, ◌%◌, ◌<◌, ◌≤◌, inl, inr, ⊎_elim, List, [], ◌∷◌, ◌++◌, map, length, take, drop, Bool, true, false, cond, Some, refl, sym, ap, ◌∙◌, subst, arith, append_assoc, length-take, length-drop}
-use Rattle.std.specs.Prelude.{nat_eq, nat_le, replicate, slice_get, slice_index_or, slice_set, ⊤}
+use Rattle.std.proofs.Common.{◌≡◌, ℕ, zero, suc, ◌+◌, ◌-◌, ◌<◌, ◌≤◌, inl, inr, List, [], ◌∷◌, ◌++◌, map, length, take, drop, Bool, true, false, Some, refl, sym, ap, ◌∙◌, subst, arith, append_assoc, length-take, length-drop}
+use Rattle.std.specs.Prelude.{slice_get, slice_index_or, slice_set, ⊤}
 use Rattle.std.specs.List.{AllByRecursion, sum_by}
-use Rattle.std.proofs.lemmas.Bool.{cases_Bool, leb-true, leb-false}
 use Rattle.std.proofs.lemmas.List.Sums.{sum_by-cons}
-use Rattle.theory.specs.Position.{Geometry, IsGeometry, cuts_of, max_payload, rest_cut}
+use Rattle.theory.specs.Position.{Geometry, IsGeometry, cuts_of}
 use Rattle.theory.specs.Placed.{Among, Frame, payload_of}
 use Rattle.theory.specs.Entry.{ArePieces, Entry, HaveFrames, IsEntry, entry_end, pieces_of}
 use Rattle.theory.specs.Tiling.{Tiles}
-use Rattle.theory.proofs.Cuts.{long_parts, short_cuts}
+use Rattle.theory.proofs.Cuts.{cut_units}
 use Rattle.theory.proofs.Holds.{holds_bytes}
 use Rattle.theory.proofs.LogSteps.{entry_from}
-use Rattle.theory.proofs.Lists.{all_append, all_at, all_replicate, among_right}
+use Rattle.theory.proofs.Lists.{all_at, among_right}
 use Rattle.theory.proofs.Pieces.{payload_in}
 
 -- ---- the pieces of a message
-
-large_rest : (r : ℕ) → AllByRecursion (λ cut. 32 ≤ cut) (rest_cut r)
-large_rest r = either (nat_eq r 0)
-  where
-    either : (b : Bool) → AllByRecursion (λ cut. 32 ≤ cut) (cond b [] ((r + 32) ∷ []))
-    either true = tt
-    either false = (omega arith, tt)
-
-large_cuts : (g : Geometry) (n : ℕ) → 32 ≤ g.mtu → AllByRecursion (λ cut. 32 ≤ cut) (cuts_of g n)
-large_cuts g n low =
-    ⊎_elim
-    (λ (t : nat_le n (max_payload g) ≡ true). subst (λ cuts. AllByRecursion (λ cut. 32 ≤ cut) cuts) (sym (short_cuts g n (leb-true n (max_payload g) t))) (omega arith, tt))
-    (λ (f : nat_le n (max_payload g) ≡ false).
-    subst (λ cuts. AllByRecursion (λ cut. 32 ≤ cut) cuts) (sym (long_parts g n (leb-false n (max_payload g) f)))
-    (all_append (λ cut. 32 ≤ cut) (replicate (n / max_payload g) g.mtu) (rest_cut (n % max_payload g)) (all_replicate (λ cut. 32 ≤ cut) (n / max_payload g) g.mtu low) (large_rest (n % max_payload g))))
-    (cases_Bool (nat_le n (max_payload g)))
 
 payload_sum : (cuts : List ℕ) → payload_in cuts ≡ sum_by (λ cut. cut - 32) cuts
 payload_sum [] = refl
@@ -47,7 +30,7 @@ pieces_fit first (cut ∷ cuts) m large full =
     ((refl, omega (arith, length-take (cut - 32) m, large.0, sum)), pieces_fit false cuts (drop (cut - 32) m) large.1 (omega (arith, length-drop (cut - 32) m, sum)))
 
 pub pieces_are : (g : Geometry) (m : List ℕ) → IsGeometry g → ArePieces true (cuts_of g (length m)) (pieces_of true (cuts_of g (length m)) m)
-pieces_are g m legal = pieces_fit true (cuts_of g (length m)) m (large_cuts g (length m) (omega (arith, legal.mtu.least))) (payload_cuts g (length m) legal)
+pieces_are g m legal = pieces_fit true (cuts_of g (length m)) m (cut_units g (length m) (omega (arith, legal.mtu.least))) (payload_cuts g (length m) legal)
 
 pub pieces_length : (first : Bool) (cuts m : List ℕ) → length (pieces_of first cuts m) ≡ length cuts
 pieces_length first [] m = refl

@@ -5,6 +5,7 @@ use Rattle.std.specs.Prelude.{nat_le, nat_eq, replicate, ⊤}
 use Rattle.std.proofs.lemmas.Bool.{cases_Bool, leb-true, leb-false, le-leb, lt-leb, cond-true, cond-false}
 use Rattle.std.proofs.lemmas.List.Sums.{sum_by-cons}
 use Rattle.theory.specs.Position.{Geometry, aligned, max_payload, cuts_of, rest_cut, span}
+use Rattle.theory.proofs.Lists.{all_append, all_replicate}
 
 -- all but the last have this length
 abbrev pub AreFull : ℕ → List ℕ → Type 0
@@ -58,3 +59,18 @@ last_cut full (cut ∷ next ∷ cuts) zero all units end = absurd (omega arith)
 last_cut full (cut ∷ next ∷ cuts) (suc k) all units end =
     let same : cut - 32 ≡ full - 32 = ap (λ x. x - 32) all.0 in
     omega (arith, same, sum_by-cons (λ x. x - 32) cut (next ∷ cuts), last_cut full (next ∷ cuts) k all.1 units.1 (omega arith))
+
+-- each frame has its header
+rest_units : (rest : ℕ) → AllByRecursion (λ cut. 32 ≤ cut) (rest_cut rest)
+rest_units rest =
+    ⊎_elim
+    (λ (t : nat_eq rest 0 ≡ true). subst (λ b. AllByRecursion (λ cut. 32 ≤ cut) (cond b [] ((rest + 32) ∷ []))) (sym t) tt)
+    (λ (f : nat_eq rest 0 ≡ false). subst (λ b. AllByRecursion (λ cut. 32 ≤ cut) (cond b [] ((rest + 32) ∷ []))) (sym f) (omega arith, tt))
+    (cases_Bool (nat_eq rest 0))
+
+pub cut_units : (g : Geometry) (m : ℕ) → 32 ≤ g.mtu → AllByRecursion (λ cut. 32 ≤ cut) (cuts_of g m)
+cut_units g m l =
+    ⊎_elim
+    (λ (t : nat_le m (max_payload g) ≡ true). subst (λ b. AllByRecursion (λ cut. 32 ≤ cut) (cond b ((m + 32) ∷ []) (replicate (m / max_payload g) g.mtu ++ rest_cut (m % max_payload g)))) (sym t) (omega arith, tt))
+    (λ (f : nat_le m (max_payload g) ≡ false). subst (λ b. AllByRecursion (λ cut. 32 ≤ cut) (cond b ((m + 32) ∷ []) (replicate (m / max_payload g) g.mtu ++ rest_cut (m % max_payload g)))) (sym f) (all_append (λ cut. 32 ≤ cut) (replicate (m / max_payload g) g.mtu) (rest_cut (m % max_payload g)) (all_replicate (λ cut. 32 ≤ cut) (m / max_payload g) g.mtu l) (rest_units (m % max_payload g))))
+    (cases_Bool (nat_le m (max_payload g)))

@@ -9,6 +9,7 @@ use Rattle.theory.specs.Placed.{is_padding, Frame, Data, Pad, Placed, end_of, Am
 use Rattle.theory.specs.Bytes.{Identity, wire_at}
 use Rattle.theory.specs.Datagrams.{fits_in, grouped_behind, grouped, sent_end, MayBeSent, sendable, cycle_datagrams, wire_size, size_of, frames_of, wires}
 use Rattle.theory.specs.SenderLaws.{MaySend, CycleMaySend, ResendsFirst}
+use Rattle.theory.proofs.Lists.{all_front}
 
 -- ---- the datagrams are the frames, in order
 
@@ -38,10 +39,6 @@ sendable_front limit (s ∷ ss) =
     (λ (t : nat_le (sent_end s s.frame) limit ≡ true). subst (λ (x : List Placed). (rest : List Placed) × (s ∷ ss ≡ x ++ rest) × AllByRecursion (MayBeSent limit) x) (sym (cond-true (nat_le (sent_end s s.frame) limit) (s ∷ sendable limit ss) [] t)) (r.0, ap (λ x. s ∷ x) r.1, (leb-true (sent_end s s.frame) limit t, r.2)))
     (λ (f : nat_le (sent_end s s.frame) limit ≡ false). subst (λ (x : List Placed). (rest : List Placed) × (s ∷ ss ≡ x ++ rest) × AllByRecursion (MayBeSent limit) x) (sym (cond-false (nat_le (sent_end s s.frame) limit) (s ∷ sendable limit ss) [] f)) (s ∷ ss, refl, tt))
     (cases_Bool (nat_le (sent_end s s.frame) limit))
-
-pub all_front : (P : Placed → Type 0) (xs ys : List Placed) → AllByRecursion P (xs ++ ys) → AllByRecursion P xs
-all_front P [] ys h = tt
-all_front P (x ∷ xs) ys h = (h.0, all_front P xs ys h.1)
 
 chain_front : (j q : ℕ) (xs ys : List Placed) → Chain j q (xs ++ ys) → (m : ℕ) × Chain j m xs
 chain_front j q [] ys h = (j, refl)

@@ -2,7 +2,7 @@
 use Rattle.std.proofs.Common.{◌≡◌, ℕ, ◌+◌, ◌-◌, ◌*◌, ◌%◌, ◌<◌, ◌≤◌, ◌⊎◌, inl, inr, ⊎_elim, List, [], ◌∷◌, Bool, true, false, cond, refl, sym, ap, ◌∙◌, subst, min, arith}
 use Rattle.std.specs.List.{AllByRecursion, list_any}
 use Rattle.std.specs.Prelude.{nat_le, nat_lt, nat_eq, ◌||◌, ◌&&◌, map, ℤ, pos, negsuc}
-use Rattle.std.proofs.lemmas.Bool.{cases_Bool, cases_lt, ltb-true, ltb-false, eqb-true, cond-true, cond-false, le-leb, and_parts, false_from_ne_true, both_ways}
+use Rattle.std.proofs.lemmas.Bool.{cases_Bool, cases_lt, ltb-true, ltb-false, eqb-true, cond-true, cond-false, le-leb, and_parts, false_from_ne_true, both_ways, leb-true}
 use Rattle.theory.specs.Position.{Geometry, max_position, aligned}
 use Rattle.theory.specs.Wire.{spelling}
 use Rattle.theory.specs.Placed.{Frame, Data, Pad, Placed, covered, end_of, Among, is_padding, frame_length}
@@ -54,7 +54,8 @@ answer_held g frames m window s parted =
 
 -- ---- the contiguous end, counted from m
 
-held_among : (m : ℕ) (frames : List Placed) (t : Placed) → Among t frames → m ≤ t.at → Among t (held m frames)
+-- the frames from m on are the frames that begin there
+pub held_among : (m : ℕ) (frames : List Placed) (t : Placed) → Among t frames → m ≤ t.at → Among t (held m frames)
 held_among m [] t a l = absurd a
 held_among m (u ∷ us) t (inl e) l =
     let at : t.at ≡ u.at = ap (λ x. x.at) e in
@@ -65,12 +66,16 @@ held_among m (u ∷ us) t (inr a) l =
     (λ (n : nat_le m u.at ≡ false). subst (Among t) (sym (cond-false (nat_le m u.at) (u ∷ held m us) (held m us) n)) (held_among m us t a l))
     (cases_Bool (nat_le m u.at))
 
-among_held : (m : ℕ) (frames : List Placed) (t : Placed) → Among t (held m frames) → Among t frames
+pub among_held : (m : ℕ) (frames : List Placed) (t : Placed) → Among t (held m frames) → Among t frames × (m ≤ t.at)
 among_held m [] t a = absurd a
 among_held m (u ∷ us) t a =
     ⊎_elim
-    (λ (y : nat_le m u.at ≡ true). ⊎_elim (λ (e : t ≡ u). inl e) (λ (b : Among t (held m us)). inr (among_held m us t b)) (subst (Among t) (cond-true (nat_le m u.at) (u ∷ held m us) (held m us) y) a))
-    (λ (n : nat_le m u.at ≡ false). inr (among_held m us t (subst (Among t) (cond-false (nat_le m u.at) (u ∷ held m us) (held m us) n) a)))
+    (λ (y : nat_le m u.at ≡ true).
+    ⊎_elim
+    (λ (e : t ≡ u). (inl e, subst (λ (x : Placed). m ≤ x.at) (sym e) (leb-true m u.at y)))
+    (λ (b : Among t (held m us)). let h = among_held m us t b in (inr h.0, h.1))
+    (subst (Among t) (cond-true (nat_le m u.at) (u ∷ held m us) (held m us) y) a))
+    (λ (n : nat_le m u.at ≡ false). let h = among_held m us t (subst (Among t) (cond-false (nat_le m u.at) (u ∷ held m us) (held m us) n) a) in (inr h.0, h.1))
     (cases_Bool (nat_le m u.at))
 
 unit_held : (m p : ℕ) (frames : List Placed) → AreParted m frames → m ≤ p → HasUnit frames p → HasUnit (held m frames) p
@@ -89,7 +94,7 @@ contiguous_held frames j q passed m e le parted c =
       units = c.units - passed;
       end = omega arith;
       all = λ k l. let same : j + 32 * (passed + k) ≡ m + 32 * k = omega arith in subst (λ x. HasUnit (held m frames) x) same (unit_held m (j + 32 * (passed + k)) frames parted (omega arith) (c.all (passed + k) (omega arith)));
-      next = λ u. c.next (record { frame = u.frame; among = among_held m frames u.frame u.among; unit = u.unit; inside = u.inside; here = u.here });
+      next = λ u. c.next (record { frame = u.frame; among = (among_held m frames u.frame u.among).0; unit = u.unit; inside = u.inside; here = u.here });
     }
 
 -- ---- whatever frames come, those that are stored lie apart

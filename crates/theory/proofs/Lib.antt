@@ -38,3 +38,7 @@ pub mod Asked
 pub mod Commits
 pub mod Cuts
 pub mod Pieces
+pub mod Leasts
+pub mod Lengths
+pub mod Places
+pub mod Tables

@@ -1,7 +1,8 @@
 -- Elements of lists, and what holds of each.
-use Rattle.std.proofs.Common.{◌≡◌, ℕ, zero, suc, ◌+◌, ◌<◌, ◌⊎◌, inl, inr, ⊎_elim, List, [], ◌∷◌, ◌++◌, map, Option, None, Some, refl, sym, ap, subst, take, drop, arith}
+use Rattle.std.proofs.Common.{◌≡◌, ℕ, zero, suc, ◌+◌, ◌<◌, ◌⊎◌, inl, inr, ⊎_elim, List, [], ◌∷◌, ◌++◌, map, Bool, true, false, Option, None, Some, refl, sym, ap, subst, take, drop, arith}
 use Rattle.std.specs.Prelude.{slice_get, slice_set, replicate}
-use Rattle.std.specs.List.{AllByRecursion}
+use Rattle.std.specs.List.{AllByRecursion, list_any}
+use Rattle.std.proofs.lemmas.Bool.{or_left, or_right, or_parts}
 use Rattle.theory.specs.Placed.{Among}
 use Rattle.theory.specs.Seats.{IfThere, Each}
 
@@ -36,6 +37,17 @@ all_weaker P Q f (x ∷ xs) h = (f x h.0, all_weaker P Q f xs h.1)
 pub all_append : {X : Type 0} (P : X → Type 0) (xs ys : List X) → AllByRecursion P xs → AllByRecursion P ys → AllByRecursion P (xs ++ ys)
 all_append P [] ys h k = k
 all_append P (x ∷ xs) ys h k = (h.0, all_append P xs ys h.1 k)
+
+pub all_pushed : {X : Type 0} (P : X → Type 0) (xs : List X) (x : X) → AllByRecursion P xs → P x → AllByRecursion P (xs ++ x ∷ [])
+all_pushed P xs x all here = all_append P xs (x ∷ []) all (here, tt)
+
+pub all_front : {X : Type 0} (P : X → Type 0) (xs ys : List X) → AllByRecursion P (xs ++ ys) → AllByRecursion P xs
+all_front P [] ys all = tt
+all_front P (x ∷ xs) ys all = (all.0, all_front P xs ys all.1)
+
+pub all_behind : {X : Type 0} (P : X → Type 0) (xs ys : List X) → AllByRecursion P (xs ++ ys) → AllByRecursion P ys
+all_behind P [] ys all = all
+all_behind P (x ∷ xs) ys all = all_behind P xs ys all.1
 
 pub all_map : {X : Type 0} (P : X → Type 0) (g : X → X) (xs : List X) → ((x : X) → Among x xs → P x → P (g x)) → AllByRecursion P xs → AllByRecursion P (map g xs)
 all_map P g [] f h = tt
@@ -85,3 +97,17 @@ each_set P seats k x p h = all_set (IfThere P) seats k (Some x) p h
 
 pub each_leave : {X : Type 0} (P : X → Type 0) (seats : List (Option X)) (k : ℕ) → Each P seats → Each P (slice_set seats k None)
 each_leave P seats k h = all_set (IfThere P) seats k None tt h
+
+-- ---- tests
+
+-- a test that holds of one element
+pub any_here : {A X : Type 0} (test : A → Bool) (f : X → A) (x : X) (xs : List X) → Among x xs → test (f x) ≡ true → list_any test (map f xs) ≡ true
+any_here test f x [] h e = absurd h
+any_here test f x (y ∷ xs) (inl d) e = or_left (test (f y)) (list_any test (map f xs)) (subst (λ z. test (f z) ≡ true) d e)
+any_here test f x (y ∷ xs) (inr h) e = or_right (test (f y)) (list_any test (map f xs)) (any_here test f x xs h e)
+
+-- a test that holds of none
+pub any_false : {A X : Type 0} (test : A → Bool) (f : X → A) (x : X) (xs : List X) → list_any test (map f xs) ≡ false → Among x xs → test (f x) ≡ false
+any_false test f x [] e h = absurd h
+any_false test f x (y ∷ xs) e (inl d) = subst (λ z. test (f z) ≡ false) (sym d) (or_parts (test (f y)) (list_any test (map f xs)) e).0
+any_false test f x (y ∷ xs) e (inr h) = any_false test f x xs (or_parts (test (f y)) (list_any test (map f xs)) e).1 h

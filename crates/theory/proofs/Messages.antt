@@ -35,7 +35,7 @@ later_only front frames read c q before chain among =
     (λ (there : Among s frames). there)
     (among_cases s front frames (all_at (λ x. Among x (front ++ frames)) s read among a)))
 
-placed_before : (p : ℕ) (cuts : List ℕ) (fs : List Frame) → AreCut cuts fs → AllByRecursion (λ cut. 0 < cut) cuts → AllByRecursion (λ s. s.at < p + span cuts) (place_all p fs)
+pub placed_before : (p : ℕ) (cuts : List ℕ) (fs : List Frame) → AreCut cuts fs → AllByRecursion (λ cut. 0 < cut) cuts → AllByRecursion (λ s. s.at < p + span cuts) (place_all p fs)
 placed_before p cuts [] h k = tt
 placed_before p [] (f ∷ fs) h k = absurd h
 placed_before p (cut ∷ cuts) (f ∷ fs) h k =

@@ -10,6 +10,7 @@ use Rattle.theory.specs.Image.{is_accepted, Image, after_insert, after_heartbeat
 use Rattle.theory.specs.ImageLaws.{ImageAlways, IsApart, IsParted, AreParted}
 use Rattle.theory.proofs.Lists.{all_at, all_from}
 use Rattle.theory.proofs.Held.{apart_always, beat_stores}
+use Rattle.theory.proofs.Messages.{chain_le}
 
 -- ---- frames are stored from the join on
 
@@ -26,7 +27,7 @@ not_below true below over dup meets h = absurd h
 not_below false true over dup meets h = absurd h
 not_below false false over dup meets h = refl
 
-stored_from : (g : Geometry) (frames : List Head) (m window : ℕ) (s : Head) → insert_answer g frames m window s ≡ Stored → m ≤ s.at
+pub stored_from : (g : Geometry) (frames : List Head) (m window : ℕ) (s : Head) → insert_answer g frames m window s ≡ Stored → m ≤ s.at
 stored_from g frames m window s e =
     ltb-false s.at m (not_below (nat_lt g.term_length (s.at % g.term_length + aligned s.length)) (nat_lt s.at m) (nat_lt (min (m + window) (max_position g)) (window_end s)) (list_any (is_duplicate s) frames) (list_any (overlaps s) frames) (subst IsStored (sym e) tt))
 
@@ -83,18 +84,14 @@ one_frame (u ∷ us) s t apart (inr a) (inr b) l m = one_frame us s t apart.1 a 
 
 -- ---- what was read covers each position
 
-record IsCovered (read : List Placed) (p q : ℕ) : Type 0 where
-  frame : Placed
-  among : Among frame read
-  from : frame.at ≤ p
-  to : p < end_of frame
-  end : end_of frame ≤ q
+pub record IsCovered (read : List Placed) (p q : ℕ) : Type 0 where
+  pub frame : Placed
+  pub among : Among frame read
+  pub from : frame.at ≤ p
+  pub to : p < end_of frame
+  pub end : end_of frame ≤ q
 
-chain_le : (j q : ℕ) (ss : List Placed) → Chain j q ss → j ≤ q
-chain_le j q [] c = omega (arith, c)
-chain_le j q (s ∷ ss) c = omega (arith, c.0, chain_le (end_of s) q ss c.1)
-
-is_covered : (j q p : ℕ) (read : List Placed) → Chain j q read → j ≤ p → p < q → IsCovered read p q
+pub is_covered : (j q p : ℕ) (read : List Placed) → Chain j q read → j ≤ p → p < q → IsCovered read p q
 is_covered j q p [] c l m = absurd (omega (arith, c))
 is_covered j q p (s ∷ ss) c l m =
     let at : s.at ≡ j = c.0 in

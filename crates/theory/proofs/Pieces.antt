@@ -1,13 +1,13 @@
 -- The frames of a message, one by one.
-use Rattle.std.proofs.Common.{◌≡◌, ℕ, zero, suc, ◌+◌, ◌-◌, ◌*◌, ◌/◌, ◌%◌, ◌<◌, ◌≤◌, ⊎_elim, List, [], ◌∷◌, ◌++◌, length, take, drop, Bool, true, false, refl, sym, ap, ◌∙◌, subst, length-append, length-drop, length-take, append_assoc, arith}
+use Rattle.std.proofs.Common.{◌≡◌, ℕ, zero, suc, ◌+◌, ◌-◌, ◌*◌, ◌/◌, ◌%◌, ◌<◌, ◌≤◌, ⊎_elim, List, [], ◌∷◌, ◌++◌, length, take, drop, Bool, true, false, refl, sym, ap, ◌∙◌, length-drop, length-take, arith}
 use Rattle.std.specs.List.{AllByRecursion, flat_map}
 use Rattle.std.specs.Prelude.{nat_eq, replicate}
 use Rattle.std.proofs.lemmas.Bool.{cases_lt, cond-true, cond-false, eq-eqb, ne_eqb}
 use Rattle.std.proofs.lemmas.List.{take-append-drop}
 use Rattle.std.proofs.lemmas.Nat.{same_from_place, div-add-mod'}
 use Rattle.theory.specs.Position.{Geometry, max_payload, cuts_of, rest_cut}
-use Rattle.theory.specs.Placed.{Data, Frame, payload_of}
-use Rattle.theory.specs.Entry.{ArePieces, flags_of, pieces_of}
+use Rattle.theory.specs.Placed.{payload_of}
+use Rattle.theory.specs.Entry.{ArePieces, pieces_of}
 use Rattle.theory.proofs.Cuts.{short_cuts, long_parts}
 
 no_rest : (rest : ℕ) → rest ≡ 0 → rest_cut rest ≡ []

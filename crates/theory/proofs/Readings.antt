@@ -18,13 +18,13 @@ spelled (NAK f) more = tt
 spelled (SM asks f) more = tt
 spelled (SETUP f) more = tt
 
-same : (a b : List Wire) → AllByRecursion IsFrame a → AllByRecursion IsFrame b → flat_map spelling a ≡ flat_map spelling b → a ≡ b
-same [] [] f g e = refl
-same [] (w ∷ ws) f g e = absurd (subst IsSome (sym e) (spelled w (flat_map spelling ws)))
-same (v ∷ vs) [] f g e = absurd (subst IsSome e (spelled v (flat_map spelling vs)))
-same (v ∷ vs) (w ∷ ws) f g e =
+pub same_frames : (a b : List Wire) → AllByRecursion IsFrame a → AllByRecursion IsFrame b → flat_map spelling a ≡ flat_map spelling b → a ≡ b
+same_frames [] [] f g e = refl
+same_frames [] (w ∷ ws) f g e = absurd (subst IsSome (sym e) (spelled w (flat_map spelling ws)))
+same_frames (v ∷ vs) [] f g e = absurd (subst IsSome e (spelled v (flat_map spelling vs)))
+same_frames (v ∷ vs) (w ∷ ws) f g e =
     let parts = one_spelling v w (flat_map spelling vs) (flat_map spelling ws) f.0 g.0 e in
-    ap (λ x. x ∷ vs) parts.0 ∙ ap (λ x. w ∷ x) (same vs ws f.1 g.1 parts.1)
+    ap (λ x. x ∷ vs) parts.0 ∙ ap (λ x. w ∷ x) (same_frames vs ws f.1 g.1 parts.1)
 
 pub one_reading : HasOneReading
-one_reading a b bytes f g = same a b f.1 g.1 (sym f.2 ∙ g.2)
+one_reading a b bytes f g = same_frames a b f.1 g.1 (sym f.2 ∙ g.2)

@@ -9,7 +9,7 @@ use Rattle.std.proofs.Common.{⊎_elim, refl, Bool, true, false}
 use Rattle.std.proofs.lemmas.Bool.{cases_Bool, eqb-true, eqb-false, ne_eqb}
 use Rattle.theory.proofs.Tiling.{share-cons}
 
-share-push : (o : ℕ) (es : List Entry) (e : Entry) → share_of o (es ++ e ∷ []) ≡ share_of o es + cond (e.owner == o) (length_of e) 0
+pub share-push : (o : ℕ) (es : List Entry) (e : Entry) → share_of o (es ++ e ∷ []) ≡ share_of o es + cond (e.owner == o) (length_of e) 0
 share-push o [] e = share-cons o e [] ∙ omega arith
 share-push o (x ∷ xs) e = omega (arith, share-cons o x (xs ++ e ∷ []), share-push o xs e, share-cons o x xs)
 

@@ -20,6 +20,15 @@ pub Tiles-push : (term p tail : ℕ) (es : List Entry) (e : Entry) → Tiles ter
 Tiles-push term p tail [] e h s k = (s ∙ h, subst (λ x. InOneTerm term x (entry_end e)) h k, refl)
 Tiles-push term p tail (d ∷ es) e h s k = (h.0, h.1, Tiles-push term (entry_end d) tail es e h.2 s k)
 
+-- two parts
+pub tiles_append : (term p q r : ℕ) (es fs : List Entry) → Tiles term p q es → Tiles term q r fs → Tiles term p r (es ++ fs)
+tiles_append term p q r [] fs h k = subst (λ x. Tiles term x r fs) h k
+tiles_append term p q r (e ∷ es) fs h k = (h.0, h.1, tiles_append term (entry_end e) q r es fs h.2 k)
+
+pub tiles_split : (term p q r : ℕ) (es fs : List Entry) → Tiles term p r (es ++ fs) → Tiles term p q es → Tiles term q r fs
+tiles_split term p q r [] fs h k = subst (λ x. Tiles term x r fs) (sym k) h
+tiles_split term p q r (e ∷ es) fs h k = tiles_split term (entry_end e) q r es fs h.2 k.2
+
 pub tail_is : (term p tail : ℕ) (es : List Entry) → Tiles term p tail es → p + sum_by length_of es ≡ tail
 tail_is term p tail [] h = omega (arith, h)
 tail_is term p tail (e ∷ es) h = omega (arith, sum_by-cons length_of e es, tail_is term (entry_end e) tail es h.2, h.0)

@@ -3,11 +3,11 @@ use Rattle.std.proofs.Common.{◌≡◌, ℕ, ◌+◌, ◌-◌, ◌*◌, ◌/◌
 use Rattle.std.specs.List.{AllByRecursion}
 use Rattle.std.specs.Prelude.{nat_le, nat_eq, replicate, ⊤}
 use Rattle.std.specs.Int.{w32, cast_unsigned}
-use Rattle.std.proofs.lemmas.Bool.{cases_Bool, cases_lt, leb-true, cond-false, lt-leb}
+use Rattle.std.proofs.lemmas.Bool.{cases_Bool, cases_lt, leb-true}
 use Rattle.std.proofs.lemmas.Nat.{same_from_place, div-add-mod'}
 use Rattle.std.proofs.Math.Nat.{mul-le-mul_right}
 use mir.ValLaws.{to_z-Fits}
-use Rattle.theory.specs.Position.{Geometry, IsGeometry, aligned, max_position, max_payload, max_message, cuts_of, rest_cut, span, place_of, Place}
+use Rattle.theory.specs.Position.{Geometry, IsGeometry, aligned, max_position, max_payload, max_message, cuts_of, rest_cut, span, place_of}
 use Rattle.theory.specs.Wire.{IsHeader, IsFrame, IsDataFlags}
 use Rattle.theory.specs.Placed.{Frame, Data, Pad, frame_length, payload_of, Placed, covered, end_of, Among, place_all}
 use Rattle.theory.specs.Entry.{Entry, IsEntry, HaveFrames, ArePieces, ArePadding, IsPiece, IsPadFrame, flags_of, entry_end, committed}
@@ -20,6 +20,8 @@ use Rattle.theory.proofs.Lists.{all_at, all_weaker, all_append, all_map, all_rep
 use Rattle.theory.proofs.Frames.{pieces_cut, padding_cut}
 use Rattle.theory.proofs.LogSteps.{IsKeptLog, room_unit, room_long, mod_unit, span_unit}
 use Rattle.theory.proofs.WorldSteps.{KeptWorld, step, opened}
+use Rattle.theory.proofs.Cuts.{cut_units}
+use Rattle.theory.proofs.Places.{offset_is}
 
 abbrev IsPayload : Frame → Type 0
 IsPayload f = AllByRecursion (λ b. b < 256) (payload_of f)
@@ -36,26 +38,12 @@ pub record IsWired (g : Geometry) (e : Entry) : Type 0 where
 
 -- ---- what each event keeps
 
-rest_units : (rest : ℕ) → AllByRecursion (λ cut. 32 ≤ cut) (rest_cut rest)
-rest_units rest =
-    ⊎_elim
-    (λ (t : nat_eq rest 0 ≡ true). subst (λ b. AllByRecursion (λ cut. 32 ≤ cut) (cond b [] ((rest + 32) ∷ []))) (sym t) tt)
-    (λ (f : nat_eq rest 0 ≡ false). subst (λ b. AllByRecursion (λ cut. 32 ≤ cut) (cond b [] ((rest + 32) ∷ []))) (sym f) (omega arith, tt))
-    (cases_Bool (nat_eq rest 0))
-
 rest_short : (rest mtu : ℕ) → rest + 32 ≤ mtu → AllByRecursion (λ cut. cut ≤ mtu) (rest_cut rest)
 rest_short rest mtu l =
     ⊎_elim
     (λ (t : nat_eq rest 0 ≡ true). subst (λ b. AllByRecursion (λ cut. cut ≤ mtu) (cond b [] ((rest + 32) ∷ []))) (sym t) tt)
     (λ (f : nat_eq rest 0 ≡ false). subst (λ b. AllByRecursion (λ cut. cut ≤ mtu) (cond b [] ((rest + 32) ∷ []))) (sym f) (l, tt))
     (cases_Bool (nat_eq rest 0))
-
-pub cut_units : (g : Geometry) (m : ℕ) → 32 ≤ g.mtu → AllByRecursion (λ cut. 32 ≤ cut) (cuts_of g m)
-cut_units g m l =
-    ⊎_elim
-    (λ (t : nat_le m (max_payload g) ≡ true). subst (λ b. AllByRecursion (λ cut. 32 ≤ cut) (cond b ((m + 32) ∷ []) (replicate (m / max_payload g) g.mtu ++ rest_cut (m % max_payload g)))) (sym t) (omega arith, tt))
-    (λ (f : nat_le m (max_payload g) ≡ false). subst (λ b. AllByRecursion (λ cut. 32 ≤ cut) (cond b ((m + 32) ∷ []) (replicate (m / max_payload g) g.mtu ++ rest_cut (m % max_payload g)))) (sym f) (all_append (λ cut. 32 ≤ cut) (replicate (m / max_payload g) g.mtu) (rest_cut (m % max_payload g)) (all_replicate (λ cut. 32 ≤ cut) (m / max_payload g) g.mtu l) (rest_units (m % max_payload g))))
-    (cases_Bool (nat_le m (max_payload g)))
 
 pub cut_short : (g : Geometry) (m : ℕ) → 256 ≤ g.mtu → AllByRecursion (λ cut. cut ≤ g.mtu) (cuts_of g m)
 cut_short g m l =
@@ -156,9 +144,6 @@ in_term t low p n long l u end =
     let split : p ≡ low / t * t + (p - low / t * t) = omega arith in
     let same = same_from_place (p / t) (p % t) (low / t) (p - low / t * t) t (omega arith) (omega arith) (parts ∙ split) in
     omega (arith, same.1)
-
-offset_is : (g : Geometry) (p : ℕ) → p < max_position g → (place_of g p).offset ≡ p % g.term_length
-offset_is g p l = ap (λ (x : Place). x.offset) (cond-false (nat_le (max_position g) p) (record { count = 2 ^ 31 - 1; offset = g.term_length }) (record { count = p / g.term_length; offset = p % g.term_length }) (lt-leb (max_position g) p l))
 
 spells : (i : Identity) (s : Placed) → (i.geometry.term_length ≤ 16777216) → IsIdentity i → (place_of i.geometry s.at).offset % 32 ≡ 0 → (place_of i.geometry s.at).offset + covered s ≤ 16777216 → IsHeader (header_at i s.at)
 spells i s t is unit end = record {

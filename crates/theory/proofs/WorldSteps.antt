@@ -23,8 +23,8 @@ use Rattle.theory.specs.Sender.{Sender, SenderEvent, Send, Resend, SendSetup, He
 use Rattle.theory.specs.World.{World, Event, AtLog, AtSender, AtImage, Open, Step, Run, IsOpened}
 use Rattle.theory.specs.Headline.{IsTiled, HasLogBytes, IsRebuiltRight, StayWithin, IsBounded, HasPolled, IsPrefixPolled}
 use Rattle.std.specs.List.{filter}
-use Rattle.theory.proofs.Datagrams.{grouped_is, front_of, all_front}
-use Rattle.theory.proofs.Lists.{among_right, all_at, all_weaker, all_append, all_get, all_set, all_replicate, slice_get-take, slice_get-drop, each_weaker, each_get, each_set}
+use Rattle.theory.proofs.Datagrams.{grouped_is, front_of}
+use Rattle.theory.proofs.Lists.{among_right, all_at, all_weaker, all_append, all_get, all_set, all_replicate, slice_get-take, slice_get-drop, each_weaker, each_get, each_set, all_front}
 use Rattle.theory.proofs.Tiling.{tail_is, all_shares_are}
 use Rattle.theory.proofs.Frames.{AllBelow, tiles_le, committed_below, committed_in_order, cell_found}
 use Rattle.theory.proofs.Follow.{Follows, passed_more, follows_more, follows_moved, follows_passed, passed_along, chain_bound, contiguous_is, end_below, bounded, follows_joined, seats_bound}

@@ -1,5 +1,5 @@
 -- What a network that loses, repeats and holds back datagrams does with one, by a random word.
-use Rattle.std.specs.Prelude.{◌≡◌, ℕ, ◌+◌, ◌%◌, ◌<◌, ◌≤◌, ◌⊎◌, List, [], ◌∷◌, ◌++◌, Option, None, Some}
+use Rattle.std.specs.Prelude.{ℕ, ◌+◌, ◌%◌, ◌<◌, ◌≤◌, List, [], ◌∷◌, Option, None, Some}
 use Rattle.std.specs.Option.{option_to_list}
 
 -- how many of a thousand words drop, repeat and hold a datagram
