@@ -9,7 +9,7 @@ pub const BEGIN: u8 = 0x80;
 /// The flag of a DATA frame that ends a message.
 pub const END: u8 = 0x40;
 
-/// The flags of a DATA frame that is a whole message: begin and end.
+/// The flags of a DATA frame that is a whole message, begin and end, and of a padding.
 pub const UNFRAGMENTED: u8 = 0xc0;
 
 /// The fields that a DATA frame, a padding and a heartbeat have in common.

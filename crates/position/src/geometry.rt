@@ -1,6 +1,7 @@
 ghost use Rattle.std.specs.Prelude.{◌≡◌, ◌+◌, ◌*◌, ◌/◌, ◌%◌, ◌≤◌, ◌<◌, ◌^◌, ◌↔◌, pos, IsTrue, IsOk, IfOk, IsErrOf};
 ghost use Rattle.theory.specs.Position.{IsTermLength, IsMtu, IsGeometry, max_position, max_payload, max_message, framed_length, position_of, id_of, place_of};
 ghost use Rattle.theory.specs.Position as shape;
+ghost use Rattle.theory.specs.Image.{IsWindow};
 
 use crate::fault::GeometryError;
 use crate::lengths::align32;
@@ -81,6 +82,13 @@ impl Geometry {
         ensures legal { IsGeometry self.now }
     {
         self.mtu
+    }
+
+    /// Whether a receiver may have a window of so many bytes: a multiple of 32 from the MTU to half a term.
+    pub fn is_window(&self, window: u32) -> bool
+        ensures { IsTrue result ↔ IsWindow self.now.term_length self.now.mtu window }
+    {
+        window.is_multiple_of(32) && window >= self.mtu && window <= self.term_length / 2
     }
 
     /// The id of the first term.

@@ -74,8 +74,7 @@ impl Image {
         if !join.is_multiple_of(32) || join > geometry.max_position() {
             return Err(ImageError::Join);
         }
-        let greatest = geometry.term_length() / 2;
-        if !window.is_multiple_of(32) || window < geometry.mtu() || window > greatest {
+        if !geometry.is_window(window) {
             return Err(ImageError::Window);
         }
         if consumers == 0 || consumers > CONSUMERS {

@@ -1,6 +1,5 @@
 ghost use Rattle.std.specs.Prelude.{◌≡◌, IfOk, IfErr, IfSome, IfNone, IsTrue, ◌↔◌, ℕ};
 ghost use Rattle.theory.specs.Position.{Geometry as Shape, IsGeometry};
-ghost use Rattle.theory.specs.Image.{IsWindow};
 ghost use Rattle.theory.specs.Setup.{NamesGeometry, NamesPosition, OpensAt, HasSetupFault};
 ghost use Rattle.frames.specs.Frames.{setup_of};
 ghost use Rattle.setup.specs.Faults.{fault_of};
@@ -17,7 +16,7 @@ pub fn judge(setup: &Setup, window: u32) -> Result<(Geometry, u64), SetupError>
 {
     let geometry = geometry_of(setup).ok_or(SetupError::Geometry)?;
     let position = position_of(&geometry, setup).ok_or(SetupError::Position)?;
-    if !is_window(&geometry, window) {
+    if !geometry.is_window(window) {
         return Err(SetupError::Window);
     }
     Ok((geometry, position))
@@ -47,10 +46,4 @@ fn position_of(geometry: &Geometry, setup: &Setup) -> Option<u64>
         return None;
     }
     Some(u64::from(count) * u64::from(length) + u64::from(offset))
-}
-
-fn is_window(geometry: &Geometry, window: u32) -> bool
-    ensures { IsTrue result ↔ IsWindow geometry.now.term_length geometry.now.mtu window }
-{
-    window.is_multiple_of(32) && window >= geometry.mtu() && window <= geometry.term_length() / 2
 }

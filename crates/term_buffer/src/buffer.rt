@@ -6,6 +6,7 @@ use crate::claimed::{Claimed, Slot};
 use crate::cuts::{after, covered, frame_flags, frame_length, frame_offset};
 use crate::words::first_word;
 use block::Block;
+use frames::UNFRAGMENTED;
 use position::Geometry;
 use std::alloc::{AllocError, Global};
 use std::collections::VecDeque;
@@ -13,9 +14,6 @@ use std::marker::Model;
 
 /// How many publishers a log has.
 pub const PUBLISHERS: usize = 8;
-
-/// The flags of a frame that is a whole message, and of a padding.
-const UNFRAGMENTED: u8 = 0xc0;
 
 /// The entries that a log keeps, in order, and the bytes of its three terms.
 #[derive(Drop)]
