@@ -1,5 +1,5 @@
 -- A consumer has passed frames that follow each other, and so is within what stands without a gap.
-use Rattle.std.proofs.Common.{◌≡◌, ℕ, zero, suc, ◌+◌, ◌-◌, ◌*◌, ◌/◌, ◌%◌, ◌<◌, ◌≤◌, inl, inr, ⊎_elim, List, [], ◌∷◌, ◌++◌, map, Option, None, Some, Bool, true, false, cond, refl, sym, ap, ◌∙◌, subst, arith}
+use Rattle.std.proofs.Common.{◌≡◌, ℕ, zero, suc, ◌+◌, ◌-◌, ◌*◌, ◌/◌, ◌%◌, ◌<◌, ◌≤◌, inl, inr, ⊎_elim, List, [], ◌∷◌, ◌++◌, map, Option, None, Some, Bool, true, false, refl, sym, ap, ◌∙◌, subst, arith}
 use Rattle.std.specs.List.{AllByRecursion}
 use Rattle.std.specs.Prelude.{nat_le, nat_lt, nat_eq, ◌&&◌}
 use Rattle.std.proofs.lemmas.Bool.{cases_Bool, cases_lt, leb-true, ltb-true, eqb-true, cond-true, cond-false, le-leb, lt-ltb, eq-eqb, and_from, and_parts, or_cases, or_left, or_right, both_ways}
@@ -137,9 +137,6 @@ heard-push : (a : Assembly) (read : List Placed) (s : Placed) → heard a (read 
 heard-push a [] s = refl
 heard-push a (t ∷ ts) s = heard-push (after a t.frame) ts s
 
-true_false : true ≡ false → ⊥
-true_false x = subst (λ b. cond b (Unit {0}) ⊥) x tt
-
 -- the consumer has passed frames of the list, and handed each to its assembler
 pub record Follows (frames : List Placed) (start : ℕ) (r : Consumer) : Type 0 where
   pub read : List Placed
@@ -181,7 +178,7 @@ follows_passed frames start r s f a e = record {
   kept_among = f.kept_among;
   heard_all = f.heard_all;
   behind = omega (arith, f.behind, e);
-  same = λ x. absurd (true_false x);
+  same = λ x. absurd (cc);
 }
 
 pub passed_along : (frames : List Placed) (start at to : ℕ) (more : List Placed) → IsReached frames start at → Chain at to more → AllAmong frames more → IsReached frames start to

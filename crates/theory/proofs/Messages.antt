@@ -4,6 +4,7 @@ use Rattle.std.specs.List.{AllByRecursion, flat_map, filter}
 use Rattle.std.specs.Option.{option_to_list}
 use Rattle.std.specs.Prelude.{nat_le, nat_eq, ◌&&◌}
 use Rattle.std.proofs.lemmas.Bool.{cases_Bool, cases_lt, cases_eq, leb-true, cond-true, cond-false, le-leb, lt-leb, eq-eqb, ne_eqb, and_parts, and_right, false_from_ne_true}
+use Rattle.std.proofs.Math.Bool.{and-true}
 use Rattle.theory.specs.Position.{aligned, span}
 use Rattle.theory.specs.Placed.{Frame, Data, Pad, frame_length, payload_of, Placed, end_of, Among, place_all, Chain, AllAmong}
 use Rattle.theory.specs.Entry.{Entry, IsEntry, HaveFrames, ArePieces, ArePadding, flags_of, entry_end, committed}
@@ -232,16 +233,12 @@ padding_read x (cut ∷ []) (Pad n ∷ []) s h (inr a) = absurd a
 
 -- ---- the whole list
 
-and_true : (b : Bool) → (b && true) ≡ b
-and_true true = refl
-and_true false = refl
-
 -- an entry that is a message and starts at c
 between_at : (c q : ℕ) (e : Entry) → e.padding ≡ false → c ≤ e.start → is_between c q e ≡ (is_whole e && nat_le (entry_end e) q)
 between_at c q e p l =
     ap (λ b. not b && is_whole e && nat_le c e.start && nat_le (entry_end e) q) p
     ∙ ap (λ b. is_whole e && b && nat_le (entry_end e) q) (le-leb c e.start l)
-    ∙ ap (λ b. b && nat_le (entry_end e) q) (and_true (is_whole e))
+    ∙ ap (λ b. b && nat_le (entry_end e) q) (and-true (is_whole e))
 
 padding_between : (c q : ℕ) (e : Entry) → e.padding ≡ true → is_between c q e ≡ false
 padding_between c q e p = ap (λ b. not b && is_whole e && nat_le c e.start && nat_le (entry_end e) q) p
