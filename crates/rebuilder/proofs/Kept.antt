@@ -1,9 +1,9 @@
 -- What holds of each image, and that it holds again after each call.
-use Rattle.std.proofs.Common.{◌≡◌, ℕ, ◌+◌, ◌-◌, ◌*◌, ◌/◌, ◌%◌, ◌^◌, ◌<◌, ◌≤◌, ◌⊎◌, inl, inr, ⊎_elim, List, [], ◌∷◌, map, length, min, max, Bool, true, false, cond, Option, None, Some, refl, sym, subst, arith, length-set}
+use Rattle.std.proofs.Common.{◌≡◌, ℕ, ◌+◌, ◌-◌, ◌*◌, ◌%◌, ◌^◌, ◌<◌, ◌≤◌, ◌⊎◌, inl, inr, ⊎_elim, List, [], ◌∷◌, map, length, min, max, Bool, true, false, cond, Option, None, Some, refl, sym, subst, arith, length-set}
 use Rattle.std.specs.Prelude.{slice_index, slice_set, replicate, MatchOption, ℤ, pos, negsuc, nat_lt}
 use Rattle.std.specs.List.{AllByRecursion}
-use Rattle.std.proofs.Math.Nat.{mul-le-mul_left, div-lt_iff_lt-mul}
 use Rattle.std.proofs.lemmas.List.{length-replicate}
+use Rattle.std.proofs.lemmas.Nat.{div-add-mod'}
 use Rattle.std.proofs.lemmas.Bool.{cases_lt, ltb-false, le-ltb, and_cases, and_right}
 use Rattle.theory.specs.Position.{Geometry, IsGeometry, max_position, aligned}
 use lib.IntN.{nat_abs}
@@ -17,8 +17,9 @@ use Rattle.rebuilder.specs.Held.{AreInOrder, AreLaid, IsNextStart, IsRunEnd, IsS
 use Rattle.rebuilder.specs.Seen.{Image, IsBehind, IsCount, IsFit, IsJoin, IsKept, IsNextUnit, MayHold, least, with_consumer, with_frame}
 use Rattle.theory.proofs.Lists.{all_at, all_from, all_replicate, all_set, all_weaker, any_false}
 use Rattle.theory.proofs.Tables.{all_index}
+use Rattle.theory.proofs.Places.{term_ends}
 use Rattle.theory.proofs.Follow.{one_end, passed_along, passed_more}
-use Rattle.theory.proofs.Held.{among_held, stored_only}
+use Rattle.theory.proofs.Held.{among_held, not_stored, stored_only}
 use Rattle.rebuilder.proofs.Lists.{all_least, none_here, least_each}
 use Rattle.rebuilder.proofs.Order.{at_least, all_held, all_put, lower, order_held, order_put, put_among, raise}
 use Rattle.rebuilder.proofs.Reach.{AreFull, is_contiguous, reached_here, reached_held, reached_le, reached_tail, unit_above, unit_at}
@@ -174,17 +175,8 @@ moved i r consumer s k l a e =
 
 -- ---- what the answer Stored says
 
-not_negative : (c : Bool) → cond c CrossesTerm Below ≡ Stored → ⊥
-not_negative true h = cc
-not_negative false h = cc
-
 ends_within : (t p n : ℕ) → 0 < t → p % t + n ≤ t → p + 32 ≤ t * 2 ^ 31 → p + n ≤ t * 2 ^ 31
-ends_within t p n some inside low =
-    let q : ℕ = p / t in
-    let least_q : q < 2 ^ 31 = (div-lt_iff_lt-mul some).1 (omega arith) in
-    let whole : t * (q + 1) ≤ t * 2 ^ 31 = mul-le-mul_left t (omega arith) in
-    let parts : t * (p / t) + p % t ≡ p = omega arith in
-    omega arith
+ends_within t p n some inside low = omega (arith, term_ends p t some (omega arith), div-add-mod' p t)
 
 pub may_hold : (i : Image) (r : ℕ) (s : Placed) → IsKept i r → s.at % 32 ≡ 0 → 32 ≤ frame_length s.frame → insert_answer i.geometry (map head_of i.held) (least i.consumers) i.window (head_of s) ≡ Stored → MayHold i s
 may_hold i r s k unit long e =
@@ -242,7 +234,7 @@ may_store i r (pos p) w b n f k e unit eb en long h =
     subst (λ x. MayHold i (record { at = nat_abs x; frame = f })) (sym e) (may_hold i r s k unit (omega arith) same)
 may_store i r (negsuc m) w b n f k e unit eb en long h =
     let here : insert_answer_at i.geometry (map head_of i.held) (least i.consumers) i.window (negsuc m) b n ≡ Stored = subst (λ x. insert_answer_at i.geometry (map head_of i.held) (least i.consumers) i.window x b n ≡ Stored) e h in
-    absurd (not_negative (nat_lt i.geometry.term_length (i.geometry.term_length - 1 - m % i.geometry.term_length + aligned n)) here)
+    absurd (not_stored (nat_lt i.geometry.term_length (i.geometry.term_length - 1 - m % i.geometry.term_length + aligned n)) here)
 
 -- ---- what a caller may know
 

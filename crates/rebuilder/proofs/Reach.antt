@@ -1,13 +1,13 @@
 -- Frames that lead from one position to another, and the contiguous end.
-use Rattle.std.proofs.Common.{◌≡◌, ℕ, ◌+◌, ◌*◌, ◌/◌, ◌<◌, ◌≤◌, ◌⊎◌, ⊎_elim, List, [], ◌∷◌, refl, subst, arith}
+use Rattle.std.proofs.Common.{◌≡◌, ℕ, ◌+◌, ◌*◌, ◌<◌, ◌≤◌, ◌⊎◌, ⊎_elim, List, [], ◌∷◌, refl, subst, arith}
 use Rattle.std.specs.List.{AllByRecursion}
 use Rattle.std.proofs.lemmas.Bool.{cases_lt}
-use Rattle.theory.specs.Placed.{AllAmong, Among, Chain, IsReached, Placed, covered, end_of, frame_length}
+use Rattle.theory.specs.Placed.{AllAmong, Among, Chain, IsReached, Placed, covered, end_of}
 use Rattle.theory.specs.Units.{HasUnit, IsContiguous}
 use Rattle.theory.specs.ImageLaws.{held}
 use Rattle.rebuilder.specs.Held.{AreInOrder, IsStart}
 use Rattle.theory.proofs.Lists.{all_at, all_from}
-use Rattle.theory.proofs.Follow.{chain_units, passed_along}
+use Rattle.theory.proofs.Follow.{chain_span, chain_units, passed_along}
 use Rattle.theory.proofs.Held.{held_among}
 use Rattle.theory.proofs.Messages.{chain_from, chain_le}
 use Rattle.rebuilder.proofs.Order.{apart, at_least}
@@ -50,11 +50,6 @@ reached_tail low frames s q order full a n r = tail r.read r.chain r.among
         (apart low frames u s order m.0 a)
 
 -- ---- units
-
--- frames that follow each other take whole units
-chain_span : (j q : ℕ) (read : List Placed) → Chain j q read → (n : ℕ) × (q ≡ j + 32 * n)
-chain_span j q [] c = (0, omega (arith, c))
-chain_span j q (s ∷ ss) c = let rest = chain_span (end_of s) q ss c.1 in ((frame_length s.frame + 31) / 32 + rest.0, omega (arith, c.0, rest.1))
 
 -- a frame that starts before the end of frames that follow each other ends there or before
 pub not_inside : (low : ℕ) (frames read : List Placed) (j q : ℕ) (t : Placed) → AreInOrder low frames → AreFull frames → Chain j q read → AllAmong frames read → Among t frames → j ≤ t.at → t.at < q → end_of t ≤ q

@@ -113,6 +113,11 @@ chain_units frames j q (s ∷ ss) c a k h =
     subst (λ x. HasUnit frames x) same rest)
     (cases_lt (32 * k) (covered s))
 
+-- frames that follow each other take whole units
+pub chain_span : (j q : ℕ) (read : List Placed) → Chain j q read → (n : ℕ) × (q ≡ j + 32 * n)
+chain_span j q [] c = (0, omega (arith, c))
+chain_span j q (s ∷ ss) c = let rest = chain_span (end_of s) q ss c.1 in ((frame_length s.frame + 31) / 32 + rest.0, omega (arith, c.0, rest.1))
+
 pub chain_bound : (frames : List Placed) (j q c : ℕ) (read : List Placed) → IsContiguous frames j q → Chain j c read → AllAmong frames read → c ≤ q
 chain_bound frames j q c read end chain among =
     ⊎_elim

@@ -112,6 +112,11 @@ stored_only g frames m window s e =
     none false false false false true h = absurd (cc)
     none false false false false false h = (refl, refl, refl, refl, refl)
 
+-- what starts before position 0 is never stored
+pub not_stored : (c : Bool) → cond c CrossesTerm Below ≡ Stored → ⊥
+not_stored true e = cc
+not_stored false e = cc
+
 pub stored_apart : (g : Geometry) (frames : List Head) (m window : ℕ) (s : Head) → insert_answer g frames m window s ≡ Stored → list_any (overlaps s) frames ≡ false
 stored_apart g frames m window s e = (stored_only g frames m window s e).4
 
