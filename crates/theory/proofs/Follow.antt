@@ -5,7 +5,7 @@ use Rattle.std.specs.Prelude.{nat_le, nat_lt, nat_eq, ◌&&◌}
 use Rattle.std.proofs.lemmas.Bool.{cases_Bool, cases_lt, leb-true, ltb-true, eqb-true, cond-true, cond-false, le-leb, lt-ltb, eq-eqb, and_from, and_parts, or_cases, or_left, or_right, both_ways}
 use Rattle.theory.specs.Placed.{IsReached, frame_length, Placed, covered, end_of, Among, Chain, AllAmong}
 use Rattle.theory.specs.Bytes.{covers}
-use Rattle.theory.specs.Assembly.{Assembly, nothing_heard, after}
+use Rattle.theory.specs.Assembly.{Assembly, nothing_heard, after, after_all}
 use Rattle.theory.specs.Units.{HasUnit, IsContiguous, has_unit, reach, contiguous}
 use Rattle.theory.specs.Consumer.{consumer_at, Consumer, moved, passed_by}
 use Rattle.theory.specs.ImageLaws.{ComputesContiguous}
@@ -135,8 +135,7 @@ Chain-append j q r (t ∷ ts) more c d = (c.0, Chain-append (end_of t) q r ts mo
 
 -- what an assembler has after these frames
 abbrev pub heard : Assembly → List Placed → Assembly
-heard a [] = a
-heard a (s ∷ ss) = heard (after a s.frame) ss
+heard a read = after_all a (map (λ s. s.frame) read)
 
 heard-push : (a : Assembly) (read : List Placed) (s : Placed) → heard a (read ++ s ∷ []) ≡ after (heard a read) s.frame
 heard-push a [] s = refl

@@ -11,7 +11,7 @@ use Rattle.theory.specs.Entry.{Entry, IsEntry, HaveFrames, ArePieces, ArePadding
 use Rattle.theory.specs.Tiling.{Tiles}
 use Rattle.theory.specs.Messages.{is_whole, is_between, message_of, messages}
 use Rattle.theory.specs.Laws.{GivesMessages}
-use Rattle.theory.specs.Assembly.{after_all, nothing_heard, Assembly, after}
+use Rattle.theory.specs.Assembly.{nothing_heard, Assembly, after}
 use Rattle.theory.proofs.Lists.{among_cases, all_at, all_from, all_weaker}
 use Rattle.theory.proofs.Frames.{AreCut, are_cut, InOrder, InOrder-append, in_order_from, placed_below, placed_in_order, pieces_cut, committed_in_order}
 use Rattle.theory.proofs.Follow.{heard}
@@ -294,10 +294,5 @@ makes term p tail q (e ∷ es) t k c (s ∷ ss) a b chain among =
     makes term (entry_end e) tail q es t.2 k.1 c (s ∷ ss) a b chain among' ∙ ap (λ m. a.given ++ m) (sym (messages_skip c q e es (not_between c q e (λ low high. omega (arith, k.0.long))))))
     (among_cases s (place_all e.start e.frames) (committed es) among.0)
 
-heard_is : (a : Assembly) (read : List Placed) → after_all a (map (λ s. s.frame) read) ≡ heard a read
-heard_is a [] = refl
-heard_is a (s ∷ ss) = heard_is (after a s.frame) ss
-
 pub gives_messages : GivesMessages
-gives_messages term start tail j q es read t k chain among =
-    ap (λ (a : Assembly). a.given) (heard_is nothing_heard read) ∙ makes term start tail q es t k j read nothing_heard refl chain among
+gives_messages term start tail j q es read t k chain among = makes term start tail q es t k j read nothing_heard refl chain among
