@@ -1,6 +1,6 @@
 -- Each move of a pass keeps the rule.
-use Rattle.std.proofs.Common.{◌≡◌, ◌≢◌, ℕ, ◌+◌, ◌<◌, ◌≤◌, ◌⊎◌, List, [], ◌∷◌, ◌++◌, length, set, true, false, nat_eq, if◌then◌else◌, sym, refl, ap, ◌∙◌, subst, inl, inr, ⊎_elim, append_assoc, append-nil, arith, true≢false, eq-eqb, ne_eqb}
-use Rattle.std.proofs.lemmas.Bool.{cases_Bool, eqb-true, cond-true, cond-false}
+use Rattle.std.proofs.Common.{◌≡◌, ◌≢◌, ℕ, ◌+◌, ◌<◌, ◌≤◌, List, [], ◌∷◌, ◌++◌, length, set, true, false, nat_eq, if◌then◌else◌, sym, refl, ap, ◌∙◌, subst, ⊎_elim, append_assoc, append-nil, arith, true≢false, eq-eqb, ne_eqb}
+use Rattle.std.proofs.lemmas.Bool.{cases_eq, cond-true, cond-false}
 use mathlib.Core.Option.{some, some-ne-none}
 use lib.ListN.{get_elem?}
 use Rattle.crossbeam_queue.specs.Fifo.{Pushes, Pops, Forks, Merges, Learns}
@@ -226,10 +226,6 @@ hears port v other w items views h at apart at' =
       each = each_set F (set views port (after_hearing v w)) other nobody (fits_nobody h.reader h.made h.left h.seat h.sent h.taken other) (λ j u _ e. each_set F views port (after_hearing v w) now (λ i y _ e'. h.each i y e') j u e);
     }
 
-same_or_not : (a b : ℕ) → (a ≡ b) ⊎ (a ≢ b)
-same_or_not a b =
-    ⊎_elim (λ (t : nat_eq a b ≡ true). inl (eqb-true a b t)) (λ (f : nat_eq a b ≡ false). inr (λ e. true≢false (sym (eq-eqb a b e) ∙ f))) (cases_Bool (nat_eq a b))
-
 -- what is known once the last client that is left has ended
 pub known_then : (left : ℕ) (sent : ℕ → List Command) (known : List Submitted) (q : ℕ) (put : List Command) → left ≡ q + 1 → put ≡ sent q → ((p : ℕ) → left ≤ p → of p known ≡ sent p) → ((p : ℕ) → p < left → of p known ≡ [])
     → (p : ℕ) → q ≤ p → of p (known ++ as_submitted q put) ≡ sent p
@@ -240,7 +236,7 @@ known_then left sent known q put is all ended unknown p le =
     let P : ℕ → Type 0 = λ x. of x known ++ of x (as_submitted q put) ≡ sent x in
     subst P (sym e) (ap (λ l. l ++ of q (as_submitted q put)) (unknown q (omega (arith, is))) ∙ of-own q put ∙ all))
     (λ (ne : p ≢ q). ap (λ l. of p known ++ l) (of-other q p put (λ e. ne (sym e))) ∙ append-nil (of p known) ∙ ended p (omega (arith, is, le, ne)))
-    (same_or_not p q)
+    (cases_eq p q)
 
 pub unknown_then : (left : ℕ) (known : List Submitted) (q : ℕ) (put : List Command) → left ≡ q + 1 → ((p : ℕ) → p < left → of p known ≡ []) → (p : ℕ) → p < q → of p (known ++ as_submitted q put) ≡ []
 unknown_then left known q put is unknown p lt =

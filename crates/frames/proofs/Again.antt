@@ -7,6 +7,7 @@ use Rattle.std.proofs.lemmas.Bool.{le-ltb, ne_eqb}
 use Rattle.std.proofs.lemmas.List.{take_at, drop_at, length-append, length-replicate}
 use Rattle.theory.specs.Position.{aligned}
 use Rattle.theory.specs.Wire.{Wire, DATA, PAD, HEARTBEAT, NAK, SM, SETUP, Header, Nak, Status, Setup, front, header_bytes, zeros_after, spelling, IsHeader, IsNak, IsStatus, IsSetup, IsFrame}
+use Rattle.theory.proofs.Lengths.{data_size, payload_length}
 use Rattle.frames.specs.declared.fault.FrameError.{FrameError}
 use Rattle.frames.specs.Fields.{u16_at, u32_at, i32_at, i64_at}
 use Rattle.frames.specs.Reading.{nak_at, status_at, setup_at, pad_at, heartbeat_at, data_at, data_or_heartbeat_at, kind_at, reading, header_at, nak_fields, status_fields, setup_fields}
@@ -111,20 +112,8 @@ heartbeat_again h bytes rest fits e =
 data_parts : (h : Header) (flags : ℕ) (payload rest : List ℕ) → spelling (DATA h flags payload) ++ rest ≡ ((front (32 + length payload) flags 1 ++ header_bytes h) ++ payload) ++ (zeros_after (32 + length payload) ++ rest)
 data_parts h flags payload rest = append_assoc ((front (32 + length payload) flags 1 ++ header_bytes h) ++ payload) (zeros_after (32 + length payload)) rest
 
-pub payload_length : (h : Header) (n flags : ℕ) (payload : List ℕ) → length ((front n flags 1 ++ header_bytes h) ++ payload) ≡ 32 + length payload
-payload_length h n flags payload = omega (arith, length-append (front n flags 1 ++ header_bytes h) payload)
-
 data_length : (h : Header) (flags : ℕ) (payload rest : List ℕ) → length (spelling (DATA h flags payload) ++ rest) ≡ aligned (32 + length payload) + length rest
-data_length h flags payload rest =
-    let parts = ap length (data_parts h flags payload rest) in
-    let all = length-append ((front (32 + length payload) flags 1 ++ header_bytes h) ++ payload) (zeros_after (32 + length payload) ++ rest) in
-    let begin = payload_length h (32 + length payload) flags payload in
-    let end = length-append (zeros_after (32 + length payload)) rest in
-    let zeros = length-replicate {A = ℕ} (aligned (32 + length payload) - (32 + length payload)) 0 in
-    omega (arith, parts, all, begin, end, zeros)
-
-pub data_size : (h : Header) (flags : ℕ) (payload : List ℕ) → length (spelling (DATA h flags payload)) ≡ aligned (32 + length payload)
-data_size h flags payload = omega (arith, data_length h flags payload [], length-append (spelling (DATA h flags payload)) [])
+data_length h flags payload rest = omega (arith, length-append (spelling (DATA h flags payload)) rest, data_size h flags payload)
 
 data_payload : (h : Header) (flags : ℕ) (payload rest : List ℕ) → slice_range (spelling (DATA h flags payload) ++ rest) 32 (32 + length payload) ≡ payload
 data_payload h flags payload rest =

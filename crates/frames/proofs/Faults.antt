@@ -2,6 +2,7 @@
 use Rattle.std.proofs.Common.{◌≡◌, ℕ, ◌+◌, ◌%◌, ◌≤◌, ◌||◌, Bool, true, false, cond, not, eqb, ltb, List, length, Option, Some, None, Result, Ok, Err, refl, sym, ap, subst, ◌∙◌, inl, inr, arith}
 use Rattle.std.specs.Prelude.{slice_index}
 use Rattle.std.specs.Result.{result_err}
+use Rattle.std.proofs.Math.Bool.{not-not, or-false}
 use Rattle.std.proofs.lemmas.Bool.{eqb-true, le-ltb, ltb-false, cases_Bool}
 use Rattle.theory.specs.Position.{aligned}
 use Rattle.theory.specs.Wire.{Wire}
@@ -29,14 +30,6 @@ both : (a b : Bool) (d : FrameError) (r : Out) (o : Option FrameError) → resul
 both true b d r o rest = refl
 both false true d r o rest = refl
 both false false d r o rest = rest
-
-twice : (b : Bool) → b ≡ not (not b)
-twice true = refl
-twice false = refl
-
-alone : (b : Bool) → b ≡ (b || false)
-alone true = refl
-alone false = refl
 
 -- what the tests find, for a version and a type that were read
 abbrev found : List ℕ → ℕ → Option FrameError
@@ -67,9 +60,9 @@ pad_order bytes long =
     let o : ℕ = u32_at bytes 8 in
     skip (ltb (length bytes) 8) Short (pad_at bytes) _ (le-ltb _ _ long)
     (step (ltb (length bytes) 32) _ Short _ _ refl
-    (step (ltb n 32 || ltb 16777216 n) _ Length _ _ (twice (ltb n 32 || ltb 16777216 n))
+    (step (ltb n 32 || ltb 16777216 n) _ Length _ _ (sym (not-not (ltb n 32 || ltb 16777216 n)))
     (step (not (eqb (slice_index bytes 5) 192)) _ Flags _ _ refl
-    (step (not (eqb (o % 32) 0)) _ Alignment _ _ (alone (not (eqb (o % 32) 0)))
+    (step (not (eqb (o % 32) 0)) _ Alignment _ _ (sym (or-false (not (eqb (o % 32) 0))))
     (step (ltb 16777216 (o + aligned n)) _ Range _ None refl refl)))))
 
 -- a heartbeat is told by its frame length
@@ -87,7 +80,7 @@ heartbeat_order bytes long =
     (skip (ltb (length bytes) 32) Short (heartbeat_at bytes) _ (le-ltb _ _ long)
     (step (not (eqb (slice_index bytes 5) 192)) _ Flags _ _ refl
     (skip (ltb (length bytes) 0) Short _ _ (le-ltb _ _ (omega arith))
-    (step (not (eqb (o % 32) 0)) _ Alignment _ _ (alone (not (eqb (o % 32) 0)))
+    (step (not (eqb (o % 32) 0)) _ Alignment _ _ (sym (or-false (not (eqb (o % 32) 0))))
     (step (ltb 16777216 o) (ltb 16777216 (o + 0)) Range _ None (ap (ltb 16777216) (plus_zero o)) refl)))))
 
 data_order : (bytes : List ℕ) (n : ℕ) → 32 ≤ length bytes → eqb n 0 ≡ false → result_err (cond (ltb n 32 || ltb 65504 n) (Err Length) (data_at bytes n)) ≡ found_or_heartbeat bytes n
@@ -96,7 +89,7 @@ data_order bytes n long some =
     let o : ℕ = u32_at bytes 8 in
     rw some (skip (ltb (length bytes) 8) Short _ _ (le-ltb _ _ (omega arith))
     (skip (ltb (length bytes) 32) Short _ _ (le-ltb _ _ long)
-    (step (ltb n 32 || ltb 65504 n) _ Length _ _ (twice (ltb n 32 || ltb 65504 n))
+    (step (ltb n 32 || ltb 65504 n) _ Length _ _ (sym (not-not (ltb n 32 || ltb 65504 n)))
     (step _ _ Flags _ _ refl
     (step (ltb (length bytes) (aligned n)) _ Short _ _ refl
     (both (not (eqb (o % 32) 0)) (not (is_padded bytes n)) Alignment _ _

@@ -12,7 +12,7 @@ use Rattle.frames.specs.Reading.{nak_at, status_at, setup_at, pad_at, heartbeat_
 use Rattle.frames.specs.Order.{is_padded, is_data_flags}
 use Rattle.frames.proofs.Numbers.{IsBytes, IsBytes-drop, IsBytes-take, fills16, fills32, fills64, unsigned_found, signed_found, signed_fits}
 use Rattle.frames.proofs.Guards.{guard, chosen, ok_is, no_ok, equal_from, zeros_found, bytes_all, flags_found}
-use Rattle.frames.proofs.Again.{data_size}
+use Rattle.theory.proofs.Lengths.{data_size}
 use mir.Val.{SFits}
 
 -- the frame stands at the front of the bytes, and takes n of them

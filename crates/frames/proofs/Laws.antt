@@ -1,8 +1,8 @@
 -- The laws of reading from the front, for what the code returns.
 use Rattle.std.proofs.Common.{◌≡◌, ℕ, List, ◌++◌, length, take, drop, Result, Ok, Err, sym, ap, ◌∙◌, arith}
 use Rattle.std.specs.Prelude.{IfOk, IsOkAnd}
-use Rattle.std.proofs.lemmas.List.{take_at, append_cancel_left, take-append-drop, length-append, length-take-le}
-use Rattle.theory.specs.Wire.{Wire, spelling, IsFrame}
+use Rattle.std.proofs.lemmas.List.{take_at, take-append-drop, length-append, length-take-le}
+use Rattle.theory.specs.Wire.{Wire, spelling}
 use Rattle.frames.specs.declared.fault.FrameError.{FrameError}
 use Rattle.frames.specs.declared.frame.Frame.{Frame}
 use Rattle.frames.specs.Frames.{wire}
@@ -37,10 +37,3 @@ is_only bytes (Ok f) w n given h =
     let same : (wire f.0, f.1) ≡ (w, n) = ok_is (wire f.0, f.1) (w, n) (sym given ∙ front_read bytes w n h) in
     (ap (λ (p : Wire × ℕ). p.0) same, ap (λ (p : Wire × ℕ). p.1) same)
 is_only bytes (Err e) w n given h = absurd (no_ok e (w, n) (sym given ∙ front_read bytes w n h))
-
--- a spelling is of one frame, and begins no other
-pub one_spelling : (a b : Wire) (x y : List ℕ) → IsFrame a → IsFrame b → spelling a ++ x ≡ spelling b ++ y → (a ≡ b) × (x ≡ y)
-one_spelling a b x y fa fb e =
-    let same : (a, length (spelling a)) ≡ (b, length (spelling b)) = ok_is (a, length (spelling a)) (b, length (spelling b)) (sym (reading_again a x fa) ∙ ap reading e ∙ reading_again b y fb) in
-    let one : a ≡ b = ap (λ (p : Wire × ℕ). p.0) same in
-    (one, append_cancel_left (spelling a) x y (e ∙ ap (λ (w : Wire). spelling w ++ y) (sym one)))

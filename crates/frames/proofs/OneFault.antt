@@ -3,11 +3,12 @@ use Rattle.std.proofs.Common.{◌≡◌, ◌⊎◌, List, [], ◌∷◌, ◌++�
 use Rattle.std.specs.Prelude.{IfOk, IfErr}
 use Rattle.std.specs.List.{flat_map, AllByRecursion}
 use Rattle.theory.specs.Wire.{Wire, spelling, IsFrame, SpellsDatagram}
+use Rattle.theory.proofs.Spelled.{one_spelling}
 use Rattle.frames.specs.declared.fault.FrameError.{FrameError}
 use Rattle.frames.specs.declared.fault.FrameError.TheVariants.{Datagram}
 use Rattle.frames.specs.Order.{first_fault}
 use Rattle.frames.specs.Datagrams.{IsData, IsUnreadable, IsMisplaced, IsDatagramFault}
-use Rattle.frames.proofs.Laws.{front_parts, one_spelling}
+use Rattle.frames.proofs.Laws.{front_parts}
 use Rattle.frames.proofs.Together.{readable, no_fault, no_datagram}
 
 abbrev Stops : List Wire → List ℕ → FrameError → Type 0

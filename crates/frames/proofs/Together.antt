@@ -1,45 +1,21 @@
--- Frames of a datagram: one reading, and either frames or a fault.
+-- Frames of a datagram: what stands together, and either frames or a fault.
 use Rattle.std.proofs.Common.{◌≡◌, ◌≢◌, ◌⊎◌, ℕ, ◌+◌, ◌<◌, Bool, true, false, ◌&&◌, eqb, List, [], ◌∷◌, ◌++◌, length, drop, Option, Some, None, Result, Ok, Err, refl, sym, ap, subst, ◌∙◌, append_assoc, inl, inr, arith}
 use Rattle.std.specs.Prelude.{IfOk, IfErr}
 use Rattle.std.specs.Result.{result_err}
 use Rattle.std.proofs.lemmas.Bool.{eqb-true, eqb-false, ne_eqb}
 use Rattle.std.specs.List.{flat_map, AllByRecursion}
-use Rattle.std.proofs.lemmas.List.{append-nil, length-append, length-drop, length-take, nil_from_length, length_push, flat_map_more}
+use Rattle.std.proofs.lemmas.List.{append-nil, length-drop, length-take, nil_from_length, length_push, flat_map_more}
 use Rattle.theory.specs.Wire.{Wire, DATA, PAD, HEARTBEAT, NAK, SM, SETUP, spelling, IsFrame, MayFollow, StandTogether, SpellsDatagram}
+use Rattle.theory.proofs.Lists.{all_pushed}
+use Rattle.theory.proofs.Readings.{not_empty, one_reading, some_bytes, stands_alone}
+use Rattle.theory.proofs.Spelled.{one_spelling}
 use Rattle.frames.specs.declared.fault.FrameError.{FrameError}
 use Rattle.frames.specs.Fronts.{FrontSpells}
 use Rattle.frames.specs.Order.{first_fault}
 use Rattle.frames.specs.Datagrams.{IsData, IsPad, may_stand, DataThen, IsUnreadable, IsMisplaced, IsDatagramFault}
 use Rattle.frames.proofs.Again.{reading_again}
 use Rattle.frames.proofs.Faults.{reading_order}
-use Rattle.frames.proofs.Laws.{front_parts, one_spelling}
-
--- ---- spellings are never empty
-
-pub some_bytes : (w : Wire) → 0 < length (spelling w)
-some_bytes (DATA h flags payload) = omega arith
-some_bytes (PAD h n) = omega arith
-some_bytes (HEARTBEAT h) = omega arith
-some_bytes (NAK f) = omega arith
-some_bytes (SM asks f) = omega arith
-some_bytes (SETUP f) = omega arith
-
-not_empty : (w : Wire) (rest : List ℕ) → [] ≡ spelling w ++ rest → ⊥
-not_empty w rest e = absurd (omega (arith, some_bytes w, ap length e, length-append (spelling w) rest))
-
--- ---- one reading
-
-pub same_frames : (a b : List Wire) → AllByRecursion IsFrame a → AllByRecursion IsFrame b → flat_map spelling a ≡ flat_map spelling b → a ≡ b
-same_frames [] [] fa fb e = refl
-same_frames [] (w ∷ b) fa fb e = absurd (not_empty w (flat_map spelling b) e)
-same_frames (w ∷ a) [] fa fb e = absurd (not_empty w (flat_map spelling a) (sym e))
-same_frames (v ∷ a) (w ∷ b) fa fb e =
-    let p = one_spelling v w (flat_map spelling a) (flat_map spelling b) fa.0 fb.0 e in
-    let rest = same_frames a b fa.1 fb.1 p.1 in
-    ap (λ (x : Wire). x ∷ a) p.0 ∙ ap (λ (xs : List Wire). w ∷ xs) rest
-
-pub same_datagram : (bytes : List ℕ) (a b : List Wire) → SpellsDatagram a bytes → SpellsDatagram b bytes → a ≡ b
-same_datagram bytes a b p q = same_frames a b p.1 q.1 (sym p.2 ∙ q.2)
+use Rattle.frames.proofs.Laws.{front_parts}
 
 -- frames in front are the first of a datagram's frames
 pub record Split (before frames : List Wire) (rest : List ℕ) : Type 0 where
@@ -78,20 +54,12 @@ follows (NAK f ∷ before) w kinds e = absurd kinds.0
 follows (SM asks f ∷ before) w kinds e = absurd kinds.0
 follows (SETUP f ∷ before) w kinds e = absurd kinds.0
 
-single : (w : Wire) → StandTogether (w ∷ [])
-single (DATA h flags payload) = tt
-single (PAD h n) = refl
-single (HEARTBEAT h) = refl
-single (NAK f) = refl
-single (SM asks f) = refl
-single (SETUP f) = refl
-
 abbrev pub is_none : List Wire → Bool
 is_none [] = true
 is_none (w ∷ ws) = false
 
 pub together : (before : List Wire) (w : Wire) → AllByRecursion IsData before → may_stand w (is_none before) true ≡ true → StandTogether (before ++ w ∷ [])
-together [] w kinds e = single w
+together [] w kinds e = stands_alone w
 together (DATA h flags payload ∷ before) w kinds e = follows before w kinds.1 e
 together (PAD h n ∷ before) w kinds e = absurd kinds.0
 together (HEARTBEAT h ∷ before) w kinds e = absurd kinds.0
@@ -183,7 +151,7 @@ abbrev counted : ℕ → Result ℕ FrameError
 counted n = Ok n
 
 pub is_only_datagram : (bytes : List ℕ) (r : Result ℕ FrameError) (frames : List Wire) → IfOk r (λ n. (read : List Wire) × SpellsDatagram read bytes × (length read ≡ n)) → IfErr r (λ fault. IsDatagramFault bytes fault) → SpellsDatagram frames bytes → r ≡ Ok (length frames)
-is_only_datagram bytes (Ok n) frames found fault d = ap (λ (k : ℕ). counted k) (sym found.2 ∙ ap length (same_datagram bytes found.0 frames found.1 d))
+is_only_datagram bytes (Ok n) frames found fault d = ap (λ (k : ℕ). counted k) (sym found.2 ∙ ap length (one_reading found.0 frames bytes found.1 d))
 is_only_datagram bytes (Err e) frames found fault d = absurd (no_datagram bytes frames e d fault)
 
 -- data frames were read, and bytes are left unless none was
@@ -193,10 +161,6 @@ Begun bytes rest count = (before : List Wire) × DataThen bytes before rest × (
 none_counted : (before : List Wire) → is_none before ≡ eqb (length before) 0
 none_counted [] = refl
 none_counted (w ∷ before) = sym (ne_eqb (length (w ∷ before)) 0 (λ e. omega arith))
-
-all_and : (P : Wire → Type 0) (before : List Wire) (w : Wire) → AllByRecursion P before → P w → AllByRecursion P (before ++ w ∷ [])
-all_and P [] w h p = (p, tt)
-all_and P (v ∷ before) w h p = (h.0, all_and P before w h.1 p)
 
 parts_and : (bytes rest : List ℕ) (before : List Wire) (w : Wire) (size : ℕ) → DataThen bytes before rest → FrontSpells rest w size → bytes ≡ flat_map spelling (before ++ w ∷ []) ++ drop size rest
 parts_and bytes rest before w size d f =
@@ -211,7 +175,7 @@ accepted bytes rest cut w size count stands last begun f cut-is left is fine end
     let legal : may_stand w (is_none before) true ≡ true = ap (λ b. may_stand w b true) first ∙ ap (may_stand w (eqb count 0)) (sym end) ∙ sym is ∙ fine in
     let nothing : drop size rest ≡ [] = sym cut-is ∙ nil_from_length cut (eqb-true _ _ (sym left ∙ end)) in
     let whole : bytes ≡ flat_map spelling (before ++ w ∷ []) = parts_and bytes rest before w size begun.1 f ∙ ap (λ (r : List ℕ). flat_map spelling (before ++ w ∷ []) ++ r) nothing ∙ append-nil (flat_map spelling (before ++ w ∷ [])) in
-    (before ++ w ∷ [], (together before w begun.1.kinds legal, all_and IsFrame before w begun.1.frames f.spelled.0, whole), omega (arith, length_push before w, begun.2))
+    (before ++ w ∷ [], (together before w begun.1.kinds legal, all_pushed IsFrame before w begun.1.frames f.spelled.0, whole), omega (arith, length_push before w, begun.2))
 
 never : (first : Bool) → (first && false) ≡ true → ⊥
 never true e = cc
@@ -231,7 +195,7 @@ goes_on bytes rest cut w size count stands last begun f cut-is left is fine more
     let kind : IsData w = only_data w (eqb count 0) (ap (may_stand w (eqb count 0)) (sym more) ∙ sym is ∙ fine) in
     let some : cut ≢ [] = λ e. eqb-false (length cut) 0 (sym left ∙ more) (ap length e) in
     let parts : bytes ≡ flat_map spelling (before ++ w ∷ []) ++ cut = parts_and bytes rest before w size begun.1 f ∙ ap (λ (r : List ℕ). flat_map spelling (before ++ w ∷ []) ++ r) (sym cut-is) in
-    (before ++ w ∷ [], record { frames = all_and IsFrame before w begun.1.frames f.spelled.0; kinds = all_and IsData before w begun.1.kinds kind; parts = parts }, omega (arith, length_push before w, begun.2), inr some)
+    (before ++ w ∷ [], record { frames = all_pushed IsFrame before w begun.1.frames f.spelled.0; kinds = all_pushed IsData before w begun.1.kinds kind; parts = parts }, omega (arith, length_push before w, begun.2), inr some)
 
 -- a frame takes some of the bytes that there are
 pub takes_some : (rest cut : List ℕ) (w : Wire) (size : ℕ) → FrontSpells rest w size → cut ≡ drop size rest → length cut < length rest

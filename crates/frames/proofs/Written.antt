@@ -3,7 +3,7 @@ use Rattle.std.proofs.Common.{◌≡◌, ℕ, ◌+◌, ◌-◌, List, ◌++◌, 
 use Rattle.std.proofs.lemmas.List.{length-replicate}
 use Rattle.theory.specs.Position.{aligned}
 use Rattle.theory.specs.Wire.{DATA, Header, front, header_bytes, zeros_after, spelling}
-use Rattle.frames.proofs.Again.{data_size, payload_length}
+use Rattle.theory.proofs.Lengths.{data_size, payload_length}
 use Rattle.frames.proofs.Puts.{put_behind}
 
 pub data_written : (h : Header) (flags : ℕ) (payload old first second third head zeros : List ℕ) → head ≡ front (32 + length payload) flags 1 ++ header_bytes h → first ≡ take 0 old ++ (head ++ drop (0 + length head) old)

@@ -9,23 +9,24 @@ use Rattle.std.specs.Option.{option_copied}
 use Rattle.std.specs.declared.ops.Bound.TheVariants.{Included, Excluded, Unbounded}
 use Rattle.std.proofs.lemmas.Map.Keys.{le_from_not_gt, ge_from_not_lt}
 use Rattle.std.specs.Ordering.{nat_cmp, is_eq, is_gt, is_lt, match_ordering}
+use Rattle.std.specs.Cmp.{nat_cmp_is, ranked}
 use Rattle.std.specs.declared.cmp.Ordering.TheVariants.{Less, Equal, Greater}
 use Rattle.std.proofs.lemmas.Bool.{cases_Bool, cases_lt, cases_eq, cases_order, cond_both, cond-true, cond-false, lt-ltb, le-ltb, eq-eqb, ne_eqb, and_from, and_left, and_right, and_parts, both_ways}
 use Rattle.theory.specs.Placed.{Among, Frame, Placed, covered, end_of, frame_length, is_padding}
 use Rattle.theory.specs.Insert.{Head, head_end, head_of, is_duplicate, same_kind}
 use Rattle.rebuilder.specs.Held.{AreLaid, IsNextStart, IsStart, all_placed, placed, put}
-use Rattle.theory.proofs.Lists.{all_at}
-use Rattle.rebuilder.proofs.Lists.{any_here, none_here}
+use Rattle.theory.proofs.Lists.{all_at, any_here}
+use Rattle.rebuilder.proofs.Lists.{none_here}
 use Rattle.rebuilder.proofs.Order.{apart}
 
 pub is_less : (a b : ℕ) → a < b → nat_cmp a b ≡ Less
-is_less a b l = cond-true (nat_lt a b) Less _ (lt-ltb a b l)
+is_less a b l = sym (nat_cmp_is a b Less l)
 
 pub is_equal : (a b : ℕ) → a ≡ b → nat_cmp a b ≡ Equal
-is_equal a b e = cond-false (nat_lt a b) Less _ (le-ltb a b (omega arith)) ∙ cond-true (nat_eq a b) Equal Greater (eq-eqb a b e)
+is_equal a b e = sym (nat_cmp_is a b Equal e)
 
 pub is_greater : (a b : ℕ) → b < a → nat_cmp a b ≡ Greater
-is_greater a b l = cond-false (nat_lt a b) Less _ (le-ltb a b (omega arith)) ∙ cond-false (nat_eq a b) Equal Greater (ne_eqb a b (λ e. omega arith))
+is_greater a b l = sym (nat_cmp_is a b Greater l)
 
 at_self : (q k : ℕ) → q ≡ k → is_at (nat_cmp q) k ≡ true
 at_self q k e = ap is_eq (is_equal q k e)
@@ -139,10 +140,7 @@ like_found start padding n ss s laid a e =
 -- ---- what the map's calls give
 
 pub from_less : (a b : ℕ) → nat_cmp a b ≡ Less → a < b
-from_less a b h =
-    ⊎_elim (λ (e : a ≡ b). let other : nat_cmp a b ≡ Equal = is_equal a b e in absurd (cc))
-    (λ (o : (a < b) ⊎ (b < a)). ⊎_elim (λ (l : a < b). l) (λ (l : b < a). let other : nat_cmp a b ≡ Greater = is_greater a b l in absurd (cc)) o)
-    (cases_order a b)
+from_less a b h = ranked a b Less (sym h)
 
 not_greater : (a b : ℕ) → a ≤ b → is_gt (nat_cmp a b) ≡ false
 not_greater a b l = ⊎_elim (λ (h : a < b). ap is_gt (is_less a b h)) (λ (h : b ≤ a). ap is_gt (is_equal a b (omega arith))) (cases_lt a b)

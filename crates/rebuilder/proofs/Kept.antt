@@ -1,24 +1,28 @@
 -- What holds of each image, and that it holds again after each call.
-use Rattle.std.proofs.Common.{◌≡◌, ℕ, ◌+◌, ◌-◌, ◌*◌, ◌/◌, ◌%◌, ◌^◌, ◌<◌, ◌≤◌, ◌⊎◌, inl, inr, ⊎_elim, List, [], ◌∷◌, map, length, min, max, Bool, true, false, cond, Option, None, Some, refl, sym, subst, arith, length-set}
+use Rattle.std.proofs.Common.{◌≡◌, ℕ, ◌+◌, ◌-◌, ◌*◌, ◌%◌, ◌^◌, ◌<◌, ◌≤◌, ◌⊎◌, inl, inr, ⊎_elim, List, [], ◌∷◌, map, length, min, max, Bool, true, false, cond, Option, None, Some, refl, sym, subst, arith, length-set}
 use Rattle.std.specs.Prelude.{slice_index, slice_set, replicate, MatchOption, ℤ, pos, negsuc, nat_lt}
-use Rattle.std.specs.List.{AllByRecursion, list_any}
-use Rattle.std.proofs.Math.Nat.{mul-le-mul_left, div-lt_iff_lt-mul}
-use Rattle.std.proofs.lemmas.Bool.{cases_lt, ltb-false, le-ltb, and_cases, and_right, or_parts}
+use Rattle.std.specs.List.{AllByRecursion}
+use Rattle.std.proofs.lemmas.List.{length-replicate}
+use Rattle.std.proofs.lemmas.Nat.{div-add-mod'}
+use Rattle.std.proofs.lemmas.Bool.{cases_lt, ltb-false, le-ltb, and_cases, and_right}
 use Rattle.theory.specs.Position.{Geometry, IsGeometry, max_position, aligned}
 use lib.IntN.{nat_abs}
 use Rattle.theory.specs.Placed.{AllAmong, Among, Chain, Frame, IsReached, Placed, covered, end_of, frame_length, is_padding}
 use Rattle.rebuilder.specs.Stored.{IsUnit}
 use Rattle.theory.specs.Units.{HasUnit, IsContiguous}
-use Rattle.theory.specs.Insert.{AreApart, Head, Insert, CrossesTerm, Below, OverWindow, Duplicate, Overlap, Stored, head_of, insert_answer, insert_answer_at, is_duplicate, overlaps, window_end}
+use Rattle.theory.specs.Insert.{AreApart, Head, CrossesTerm, Below, OverWindow, Duplicate, Overlap, Stored, head_of, insert_answer, insert_answer_at, overlaps, window_end}
 use Rattle.theory.specs.Image.{IsWindow}
 use Rattle.theory.specs.ImageLaws.{held}
 use Rattle.rebuilder.specs.Held.{AreInOrder, AreLaid, IsNextStart, IsRunEnd, IsStart, put}
 use Rattle.rebuilder.specs.Seen.{Image, IsBehind, IsCount, IsFit, IsJoin, IsKept, IsNextUnit, MayHold, least, with_consumer, with_frame}
-use Rattle.theory.proofs.Lists.{all_at, all_from, all_replicate, all_set, all_weaker}
-use Rattle.theory.proofs.Follow.{one_end}
-use Rattle.rebuilder.proofs.Lists.{all_index, all_least, none_here, least_each, length_replicate}
-use Rattle.rebuilder.proofs.Order.{at_least, all_held, all_put, among_held, lower, order_held, order_put, put_keeps, raise}
-use Rattle.rebuilder.proofs.Reach.{AreFull, is_contiguous, reached_here, reached_held, reached_in, reached_le, reached_more, reached_tail, unit_above, unit_at}
+use Rattle.theory.proofs.Lists.{all_at, all_from, all_replicate, all_set, all_weaker, any_false}
+use Rattle.theory.proofs.Tables.{all_index}
+use Rattle.theory.proofs.Places.{term_ends}
+use Rattle.theory.proofs.Follow.{one_end, passed_along, passed_more}
+use Rattle.theory.proofs.Held.{among_held, not_stored, stored_only}
+use Rattle.rebuilder.proofs.Lists.{all_least, none_here, least_each}
+use Rattle.rebuilder.proofs.Order.{at_least, all_held, all_put, lower, order_held, order_put, put_among, raise}
+use Rattle.rebuilder.proofs.Reach.{AreFull, is_contiguous, reached_here, reached_held, reached_le, reached_tail, unit_above, unit_at}
 
 -- ---- what follows
 
@@ -95,7 +99,7 @@ opened g join window n legal joined wide count =
       geometry = legal;
       joined = joined;
       window = wide;
-      count = subst IsCount (sym (length_replicate n join)) count;
+      count = subst IsCount (sym (length-replicate n join)) count;
       order = tt;
       fit = tt;
       mark = omega arith;
@@ -124,16 +128,11 @@ chain_marked : (frames read : List Placed) (j q h : ℕ) → j ≤ h → AllByRe
 chain_marked frames [] j q h l all c m = let e : q ≡ j = c in omega arith
 chain_marked frames (s ∷ ss) j q h l all c m = chain_marked frames ss (end_of s) q h (all_at (λ (x : Placed). end_of x ≤ h) s frames all m.0) all c.1 m.1
 
-any_false : (test : Head → Bool) (frames : List Placed) (t : Placed) → list_any test (map head_of frames) ≡ false → Among t frames → test (head_of t) ≡ false
-any_false test [] t h a = absurd a
-any_false test (u ∷ us) t h (inl e) = subst (λ (x : Placed). test (head_of x) ≡ false) (sym e) (or_parts (test (head_of u)) (list_any test (map head_of us)) h).0
-any_false test (u ∷ us) t h (inr a) = any_false test us t (or_parts (test (head_of u)) (list_any test (map head_of us)) h).1 a
-
 pub stored : (i : Image) (r next : ℕ) (s : Placed) → IsKept i r → MayHold i s → IsRunEnd (put s i.held) r next → IsKept (with_frame i s) next
 stored i r next s k may run =
     let long : 32 ≤ frame_length s.frame = may.long in
     let covers : 0 < covered s = omega arith in
-    let free : (t : Placed) → Among t i.held → (end_of t ≤ s.at) ⊎ (end_of s ≤ t.at) = λ t a. ⊎_elim (λ (h : nat_lt s.at (end_of t) ≡ false). inl (ltb-false s.at (end_of t) h)) (λ (h : nat_lt t.at (end_of s) ≡ false). inr (ltb-false t.at (end_of s) h)) (and_cases (nat_lt s.at (end_of t)) (nat_lt t.at (end_of s)) (any_false (overlaps (head_of s)) i.held t may.free a)) in
+    let free : (t : Placed) → Among t i.held → (end_of t ≤ s.at) ⊎ (end_of s ≤ t.at) = λ t a. ⊎_elim (λ (h : nat_lt s.at (end_of t) ≡ false). inl (ltb-false s.at (end_of t) h)) (λ (h : nat_lt t.at (end_of s) ≡ false). inr (ltb-false t.at (end_of s) h)) (and_cases (nat_lt s.at (end_of t)) (nat_lt t.at (end_of s)) (any_false (overlaps (head_of s)) head_of t i.held may.free a)) in
     let mark : r ≤ i.high = k.mark in
     let high : i.high ≤ max_position i.geometry = k.high in
     let low : end_of s ≤ max_position i.geometry = may.low in
@@ -148,7 +147,7 @@ stored i r next s k may run =
       fit = fit;
       mark = chain_marked (put s i.held) run.reached.read r next top (omega arith) (all_weaker (IsFit i.geometry.term_length top) (λ t. end_of t ≤ top) (λ t f. f.marked) (put s i.held) fit) run.reached.chain run.reached.among;
       high = omega arith;
-      behind = all_weaker (IsBehind i.held i.join r) (IsBehind (put s i.held) i.join next) (λ p b. record { joined = b.joined; reached = reached_more (put s i.held) p r next (reached_in i.held (put s i.held) p r (λ t a. put_keeps s t i.held a) b.reached) run.reached }) i.consumers k.behind;
+      behind = all_weaker (IsBehind i.held i.join r) (IsBehind (put s i.held) i.join next) (λ p b. record { joined = b.joined; reached = passed_along (put s i.held) p r next run.reached.read (passed_more i.held (put s i.held) (λ t a. put_among s t i.held (inr a)) p r b.reached) run.reached.chain run.reached.among }) i.consumers k.behind;
       stops = run.stops;
     }
 
@@ -176,40 +175,15 @@ moved i r consumer s k l a e =
 
 -- ---- what the answer Stored says
 
-abbrev IsStored : Insert → Type 0
-IsStored CrossesTerm = ⊥
-IsStored Below = ⊥
-IsStored OverWindow = ⊥
-IsStored Duplicate = ⊥
-IsStored Overlap = ⊥
-IsStored Stored = Unit {0}
-
-all_false : (crosses below over dup meets : Bool) → IsStored (cond crosses CrossesTerm (cond below Below (cond over OverWindow (cond dup Duplicate (cond meets Overlap Stored))))) → (crosses ≡ false) × (below ≡ false) × (over ≡ false) × (meets ≡ false)
-all_false true below over dup meets h = absurd h
-all_false false true over dup meets h = absurd h
-all_false false false true dup meets h = absurd h
-all_false false false false true meets h = absurd h
-all_false false false false false true h = absurd h
-all_false false false false false false h = (refl, refl, refl, refl)
-
-not_negative : (c : Bool) → IsStored (cond c CrossesTerm Below) → ⊥
-not_negative true h = h
-not_negative false h = h
-
 ends_within : (t p n : ℕ) → 0 < t → p % t + n ≤ t → p + 32 ≤ t * 2 ^ 31 → p + n ≤ t * 2 ^ 31
-ends_within t p n some inside low =
-    let q : ℕ = p / t in
-    let least_q : q < 2 ^ 31 = (div-lt_iff_lt-mul some).1 (omega arith) in
-    let whole : t * (q + 1) ≤ t * 2 ^ 31 = mul-le-mul_left t (omega arith) in
-    let parts : t * (p / t) + p % t ≡ p = omega arith in
-    omega arith
+ends_within t p n some inside low = omega (arith, term_ends p t some (omega arith), div-add-mod' p t)
 
 pub may_hold : (i : Image) (r : ℕ) (s : Placed) → IsKept i r → s.at % 32 ≡ 0 → 32 ≤ frame_length s.frame → insert_answer i.geometry (map head_of i.held) (least i.consumers) i.window (head_of s) ≡ Stored → MayHold i s
 may_hold i r s k unit long e =
     let h : Head = head_of s in
     let g : Geometry = i.geometry in
     let m : ℕ = least i.consumers in
-    let f = all_false (nat_lt g.term_length (h.at % g.term_length + aligned h.length)) (nat_lt h.at m) (nat_lt (min (m + i.window) (max_position g)) (window_end h)) (list_any (is_duplicate h) (map head_of i.held)) (list_any (overlaps h) (map head_of i.held)) (subst IsStored (sym e) tt) in
+    let f = stored_only g (map head_of i.held) m i.window h e in
     let in_term : s.at % g.term_length + covered s ≤ g.term_length = ltb-false g.term_length (h.at % g.term_length + aligned h.length) f.0 in
     let from : m ≤ s.at = ltb-false h.at m f.1 in
     let reach : window_end h ≤ min (m + i.window) (max_position g) = ltb-false (min (m + i.window) (max_position g)) (window_end h) f.2 in
@@ -217,7 +191,7 @@ may_hold i r s k unit long e =
     let some : 65536 ≤ g.term_length = k.geometry.term.least in
     let low : end_of s ≤ max_position g = ends_within g.term_length s.at (covered s) (omega arith) in_term (omega arith) in
     let small : max_position g ≤ 2 ^ 55 = greatest g k.geometry in
-    record { unit = unit; long = long; in_term = in_term; from = from; low = low; small = omega arith; free = f.3 }
+    record { unit = unit; long = long; in_term = in_term; from = from; low = low; small = omega arith; free = f.4 }
   where
     head_within : (b : Bool) → s.at + 32 ≤ cond b (s.at + 32) (end_of s)
     head_within true = omega arith
@@ -231,7 +205,7 @@ starts_anew i r s k may (t, a, e) =
     ⊎_elim
     (λ (h : nat_lt s.at (end_of t) ≡ false). let l : end_of t ≤ s.at = ltb-false s.at (end_of t) h in omega arith)
     (λ (h : nat_lt t.at (end_of s) ≡ false). let l : end_of s ≤ t.at = ltb-false t.at (end_of s) h in omega arith)
-    (and_cases (nat_lt s.at (end_of t)) (nat_lt t.at (end_of s)) (any_false (overlaps (head_of s)) i.held t may.free a))
+    (and_cases (nat_lt s.at (end_of t)) (nat_lt t.at (end_of s)) (any_false (overlaps (head_of s)) head_of t i.held may.free a))
 
 pub overlapped : (crosses below over dup meets : Bool) → crosses ≡ false → below ≡ false → over ≡ false → dup ≡ false → meets ≡ true → Overlap ≡ cond crosses CrossesTerm (cond below Below (cond over OverWindow (cond dup Duplicate (cond meets Overlap Stored))))
 overlapped crosses below over dup meets a b c d e =
@@ -260,7 +234,7 @@ may_store i r (pos p) w b n f k e unit eb en long h =
     subst (λ x. MayHold i (record { at = nat_abs x; frame = f })) (sym e) (may_hold i r s k unit (omega arith) same)
 may_store i r (negsuc m) w b n f k e unit eb en long h =
     let here : insert_answer_at i.geometry (map head_of i.held) (least i.consumers) i.window (negsuc m) b n ≡ Stored = subst (λ x. insert_answer_at i.geometry (map head_of i.held) (least i.consumers) i.window x b n ≡ Stored) e h in
-    absurd (not_negative (nat_lt i.geometry.term_length (i.geometry.term_length - 1 - m % i.geometry.term_length + aligned n)) (subst IsStored (sym here) tt))
+    absurd (not_stored (nat_lt i.geometry.term_length (i.geometry.term_length - 1 - m % i.geometry.term_length + aligned n)) here)
 
 -- ---- what a caller may know
 

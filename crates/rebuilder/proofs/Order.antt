@@ -2,10 +2,11 @@
 use Rattle.std.proofs.Common.{◌≡◌, ℕ, ◌<◌, ◌≤◌, ◌⊎◌, inl, inr, ⊎_elim, List, [], ◌∷◌, refl, sym, ap, ◌∙◌, subst, arith}
 use Rattle.std.specs.Prelude.{nat_le, nat_lt}
 use Rattle.std.specs.List.{AllByRecursion}
-use Rattle.std.proofs.lemmas.Bool.{cond_both, ltb-true, ltb-false, leb-true, le-leb, cond-true}
+use Rattle.std.proofs.lemmas.Bool.{cond_both, ltb-true, ltb-false, le-leb, cond-true}
 use Rattle.theory.specs.Placed.{Among, Placed, covered, end_of}
 use Rattle.theory.specs.ImageLaws.{held}
 use Rattle.rebuilder.specs.Held.{AreInOrder, put}
+use Rattle.theory.proofs.Held.{among_held}
 use Rattle.theory.proofs.Lists.{all_at, all_from}
 
 pub at_least : (low : ℕ) (ss : List Placed) (s : Placed) → AreInOrder low ss → Among s ss → low ≤ s.at
@@ -45,16 +46,12 @@ among_put s t (u ∷ us) a =
     (λ n b. ⊎_elim (λ (e : t ≡ u). inr (inl e)) (λ (d : Among t (put s us)). ⊎_elim (λ (e : t ≡ s). inl e) (λ (f : Among t us). inr (inr f)) (among_put s t us d)) b)
     a
 
-pub put_has : (s : Placed) (ss : List Placed) → Among s (put s ss)
-put_has s [] = inl refl
-put_has s (u ∷ us) = cond_both (nat_lt s.at u.at) (s ∷ u ∷ us) (u ∷ put s us) (λ x. Among s x) (λ y. inl refl) (λ n. inr (put_has s us))
-
-pub put_keeps : (s t : Placed) (ss : List Placed) → Among t ss → Among t (put s ss)
-put_keeps s t [] a = absurd a
-put_keeps s t (u ∷ us) a =
+pub put_among : (s t : Placed) (ss : List Placed) → (t ≡ s) ⊎ Among t ss → Among t (put s ss)
+put_among s t [] a = a
+put_among s t (u ∷ us) a =
     cond_both (nat_lt s.at u.at) (s ∷ u ∷ us) (u ∷ put s us) (λ x. Among t x)
-    (λ y. inr a)
-    (λ n. ⊎_elim (λ (e : t ≡ u). inl e) (λ (b : Among t us). inr (put_keeps s t us b)) a)
+    (λ y. a)
+    (λ n. ⊎_elim (λ (e : t ≡ s). inr (put_among s t us (inl e))) (λ (b : Among t (u ∷ us)). ⊎_elim (λ (e : t ≡ u). inl e) (λ (c : Among t us). inr (put_among s t us (inr c))) b) a)
 
 pub order_put : (low : ℕ) (s : Placed) (ss : List Placed) → 0 < covered s → low ≤ s.at → ((t : Placed) → Among t ss → (end_of t ≤ s.at) ⊎ (end_of s ≤ t.at)) → AreInOrder low ss → AreInOrder low (put s ss)
 order_put low s [] p l f o = (l, tt)
@@ -74,22 +71,6 @@ all_put P s [] h all = (h, tt)
 all_put P s (u ∷ us) h all = cond_both (nat_lt s.at u.at) (s ∷ u ∷ us) (u ∷ put s us) (λ x. AllByRecursion P x) (λ y. (h, all)) (λ n. (all.0, all_put P s us h all.1))
 
 -- ---- the frames from m on
-
-pub among_held : (m : ℕ) (ss : List Placed) (t : Placed) → Among t (held m ss) → Among t ss × (m ≤ t.at)
-among_held m [] t a = absurd a
-among_held m (u ∷ us) t a =
-    cond_both (nat_le m u.at) (u ∷ held m us) (held m us) (λ x. Among t x → Among t (u ∷ us) × (m ≤ t.at))
-    (λ y b. ⊎_elim (λ (e : t ≡ u). (inl e, subst (λ (x : Placed). m ≤ x.at) (sym e) (leb-true m u.at y))) (λ (d : Among t (held m us)). let r : Among t us × (m ≤ t.at) = among_held m us t d in (inr r.0, r.1)) b)
-    (λ n b. let r : Among t us × (m ≤ t.at) = among_held m us t b in (inr r.0, r.1))
-    a
-
-pub held_among : (m : ℕ) (ss : List Placed) (t : Placed) → Among t ss → m ≤ t.at → Among t (held m ss)
-held_among m [] t a l = absurd a
-held_among m (u ∷ us) t (inl e) l =
-    let at : t.at ≡ u.at = ap (λ (x : Placed). x.at) e in
-    subst (Among t) (sym (cond-true (nat_le m u.at) (u ∷ held m us) (held m us) (le-leb m u.at (omega arith)))) (inl e)
-held_among m (u ∷ us) t (inr a) l =
-    cond_both (nat_le m u.at) (u ∷ held m us) (held m us) (λ x. Among t x) (λ y. inr (held_among m us t a l)) (λ n. held_among m us t a l)
 
 pub order_held : (low m : ℕ) (ss : List Placed) → AreInOrder low ss → AreInOrder low (held m ss)
 order_held low m [] o = tt

@@ -1,15 +1,16 @@
 -- Frames that lead from one position to another, and the contiguous end.
-use Rattle.std.proofs.Common.{◌≡◌, ℕ, ◌+◌, ◌-◌, ◌*◌, ◌/◌, ◌<◌, ◌≤◌, ◌⊎◌, ⊎_elim, List, [], ◌∷◌, ◌++◌, refl, subst, arith}
+use Rattle.std.proofs.Common.{◌≡◌, ℕ, ◌+◌, ◌*◌, ◌<◌, ◌≤◌, ◌⊎◌, ⊎_elim, List, [], ◌∷◌, refl, subst, arith}
 use Rattle.std.specs.List.{AllByRecursion}
 use Rattle.std.proofs.lemmas.Bool.{cases_lt}
-use Rattle.theory.specs.Placed.{AllAmong, Among, Chain, IsReached, Placed, covered, end_of, frame_length}
+use Rattle.theory.specs.Placed.{AllAmong, Among, Chain, IsReached, Placed, covered, end_of}
 use Rattle.theory.specs.Units.{HasUnit, IsContiguous}
 use Rattle.theory.specs.ImageLaws.{held}
 use Rattle.rebuilder.specs.Held.{AreInOrder, IsStart}
-use Rattle.theory.proofs.Lists.{all_append, all_at, all_from, all_weaker}
-use Rattle.theory.proofs.Follow.{Chain-append}
-use Rattle.theory.proofs.Messages.{chain_le}
-use Rattle.rebuilder.proofs.Order.{apart, at_least, held_among}
+use Rattle.theory.proofs.Lists.{all_at, all_from}
+use Rattle.theory.proofs.Follow.{chain_span, chain_units, passed_along}
+use Rattle.theory.proofs.Held.{held_among}
+use Rattle.theory.proofs.Messages.{chain_from, chain_le}
+use Rattle.rebuilder.proofs.Order.{apart, at_least}
 
 abbrev pub AreFull : List Placed → Type 0
 AreFull frames = AllByRecursion (λ s. 0 < covered s) frames
@@ -17,25 +18,12 @@ AreFull frames = AllByRecursion (λ s. 0 < covered s) frames
 pub reached_here : (frames : List Placed) (p : ℕ) → IsReached frames p p
 reached_here frames p = record { read = []; chain = refl; among = tt }
 
-pub reached_more : (frames : List Placed) (j p q : ℕ) → IsReached frames j p → IsReached frames p q → IsReached frames j q
-reached_more frames j p q a b = record { read = a.read ++ b.read; chain = Chain-append j p q a.read b.read a.chain b.chain; among = all_append (λ s. Among s frames) a.read b.read a.among b.among }
-
 -- past a frame that starts there
 pub reached_past : (frames : List Placed) (j : ℕ) (s : Placed) → Among s frames → IsReached frames j s.at → IsReached frames j (end_of s)
-reached_past frames j s a r = reached_more frames j s.at (end_of s) r (record { read = s ∷ []; chain = (refl, refl); among = (a, tt) })
-
-pub reached_in : (a b : List Placed) (p q : ℕ) → ((s : Placed) → Among s a → Among s b) → IsReached a p q → IsReached b p q
-reached_in a b p q f r = record { read = r.read; chain = r.chain; among = all_weaker (λ s. Among s a) (λ s. Among s b) f r.read r.among }
+reached_past frames j s a r = passed_along frames j s.at (end_of s) (s ∷ []) r (refl, refl) (a, tt)
 
 pub reached_le : (frames : List Placed) (p q : ℕ) → IsReached frames p q → p ≤ q
 reached_le frames p q r = chain_le p q r.read r.chain
-
-chain_from : (j q : ℕ) (read : List Placed) → Chain j q read → AllByRecursion (λ s. j ≤ s.at) read
-chain_from j q [] c = tt
-chain_from j q (s ∷ ss) c =
-    let first : s.at ≡ j = c.0 in
-    let more : (t : Placed) → end_of s ≤ t.at → j ≤ t.at = λ t l. omega arith in
-    (omega arith, all_weaker (λ t. end_of s ≤ t.at) (λ t. j ≤ t.at) more ss (chain_from (end_of s) q ss c.1))
 
 -- frames below the start aren't needed
 pub reached_held : (frames : List Placed) (m p q : ℕ) → m ≤ p → IsReached frames p q → IsReached (held m frames) p q
@@ -43,7 +31,7 @@ reached_held frames m p q l r =
     record {
       read = r.read;
       chain = r.chain;
-      among = all_from (λ s. Among s (held m frames)) r.read (λ s a. let from : p ≤ s.at = all_at (λ (x : Placed). p ≤ x.at) s r.read (chain_from p q r.read r.chain) a in held_among m frames s (all_at (λ (x : Placed). Among x frames) s r.read r.among a) (omega arith));
+      among = all_from (λ s. Among s (held m frames)) r.read (λ s a. let from : p ≤ s.at = chain_from p q r.read s r.chain a in held_among m frames s (all_at (λ (x : Placed). Among x frames) s r.read r.among a) (omega arith));
     }
 
 -- the frames that lead on begin with the one that starts there
@@ -63,29 +51,6 @@ reached_tail low frames s q order full a n r = tail r.read r.chain r.among
 
 -- ---- units
 
--- every unit from j to q is there
-record IsFilled (frames : List Placed) (j q : ℕ) : Type 0 where
-  units : ℕ
-  end : q ≡ j + 32 * units
-  all : (k : ℕ) → k < units → HasUnit frames (j + 32 * k)
-
-filled : (frames read : List Placed) (j q : ℕ) → Chain j q read → AllAmong frames read → IsFilled frames j q
-filled frames [] j q c m = let e : q ≡ j = c in record { units = 0; end = omega arith; all = λ k l. absurd (omega arith) }
-filled frames (s ∷ ss) j q c m =
-    let first : s.at ≡ j = c.0 in
-    let rest = filled frames ss (end_of s) q c.1 m.1 in
-    let own : ℕ = (frame_length s.frame + 31) / 32 in
-    let e : q ≡ end_of s + 32 * rest.units = rest.end in
-    let covers : covered s ≡ own * 32 = refl in
-    record {
-      units = own + rest.units;
-      end = omega arith;
-      all = λ k l. ⊎_elim
-          (λ (h : k < own). record { frame = s; among = m.0; unit = k; inside = omega arith; here = omega arith })
-          (λ (h : own ≤ k). let same : end_of s + 32 * (k - own) ≡ j + 32 * k = omega arith in subst (λ x. HasUnit frames x) same (rest.all (k - own) (omega arith)))
-          (cases_lt k own);
-    }
-
 -- a frame that starts before the end of frames that follow each other ends there or before
 pub not_inside : (low : ℕ) (frames read : List Placed) (j q : ℕ) (t : Placed) → AreInOrder low frames → AreFull frames → Chain j q read → AllAmong frames read → Among t frames → j ≤ t.at → t.at < q → end_of t ≤ q
 not_inside low frames [] j q t order full c m a from below = let e : q ≡ j = c in absurd (omega arith)
@@ -99,11 +64,11 @@ not_inside low frames (s ∷ ss) j q t order full c m a from below =
 
 pub is_contiguous : (frames : List Placed) (j q : ℕ) → AreInOrder j frames → AreFull frames → IsReached frames j q → (IsStart frames q → ⊥) → IsContiguous frames j q
 is_contiguous frames j q order full r stops =
-    let f = filled frames r.read j q r.chain r.among in
+    let f = chain_span j q r.read r.chain in
     record {
-      units = f.units;
-      end = f.end;
-      all = f.all;
+      units = f.0;
+      end = f.1;
+      all = λ k l. chain_units frames j q r.read r.chain r.among k (omega (arith, f.1));
       next = λ u.
           let inside : 32 * u.unit < covered u.frame = u.inside in
           let here : q ≡ u.frame.at + 32 * u.unit = u.here in

@@ -4,7 +4,7 @@ use Rattle.std.proofs.lemmas.Option.{slice_get_past, slice_get-get_or}
 use Rattle.std.proofs.Common.{◌≡◌, ℕ, zero, suc, ◌+◌, ◌-◌, ◌*◌, ◌<◌, ◌≤◌, ⊎_elim, List, [], ◌∷◌, ◌++◌, length, get_or, true, false, nat_le, nat_lt, nat_eq, ◌&&◌, ◌≢◌, eq-eqb, ne_eqb, slice_get, append-nil, sym, refl, ap, ◌∙◌, arith, Option, Some, None, find, filter, Bool, subst}
 use Rattle.std.specs.List.{list_any}
 use Rattle.std.specs.List.Sorted.{IsNonDecreasingBy}
-use Rattle.std.proofs.lemmas.Bool.{cases_Bool, cond-true, cond-false, leb-true, leb-false, le-leb, lt-leb, le-ltb, lt-ltb, or_right, eqb-true, ltb-false}
+use Rattle.std.proofs.lemmas.Bool.{cases_Bool, and_right, cond-true, cond-false, leb-true, leb-false, le-leb, lt-leb, le-ltb, lt-ltb, or_right, eqb-true, ltb-false}
 use Rattle.std.proofs.lemmas.List.Elements.{filter-append}
 use Rattle.retransmit.specs.Spaced.{AreSpaced, Parts, begins_below}
 
@@ -90,12 +90,8 @@ none_past : (lower upper end : ℕ) (T : ℕ → Bool) (xs : List ℕ) → AreSp
 none_past lower upper end T [] h le = refl
 none_past lower upper end T (x ∷ xs) h le =
     let first = h.0 in
-    let f : (T x && nat_lt x end) ≡ false = and_false_right (T x) (nat_lt x end) (le-ltb x end (omega (arith, first, le))) in
+    let f : (T x && nat_lt x end) ≡ false = and_right (T x) (nat_lt x end) (le-ltb x end (omega (arith, first, le))) in
     cond-false (T x && nat_lt x end) (Some x) (find (λ q. T q && nat_lt q end) xs) f ∙ none_past (x + 32) upper end T xs h.1 (omega (arith, first, le))
-  where
-    and_false_right : (a b : Bool) → b ≡ false → (a && b) ≡ false
-    and_false_right true b e = e
-    and_false_right false b e = refl
 
 -- the first in a range is the first from its beginning on, where that is below its end
 pub first_in : (lower upper from end : ℕ) (xs : List ℕ) (o : Option ℕ) → AreSpaced lower upper xs → o ≡ find (λ q. nat_le from q) xs

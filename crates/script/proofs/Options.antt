@@ -17,10 +17,6 @@ pub chosen : {A : Type 0} (test : Bool) (x y z : A) → cond test x y ≡ z → 
 chosen true x y z e = inl (refl, e)
 chosen false x y z e = inr (refl, e)
 
-pub guarded : {A : Type 0} (test : Bool) (x y : A) → cond test (Some x) None ≡ Some y → (test ≡ true) × (x ≡ y)
-guarded true x y e = (refl, cc)
-guarded false x y e = absurd (cc)
-
 pub guarded_step : {A : Type 0} (test : Bool) (x : Option A) (y : A) → cond test x None ≡ Some y → (test ≡ true) × (x ≡ Some y)
 guarded_step true x y e = (refl, e)
 guarded_step false x y e = absurd (cc)

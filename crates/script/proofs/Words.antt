@@ -7,15 +7,16 @@ use Rattle.std.specs.Str.Parse.{digits_value, starts_with_minus}
 use Rattle.std.specs.Prelude.{nat_lt, ◌==◌}
 use Rattle.std.proofs.lemmas.Bool.{and_left, and_right, cond-true, cond-false, and_parts, and_from, le-ltb, lt-ltb, ltb-true, eqb-true}
 use Rattle.std.proofs.lemmas.List.Sums.{AllPass-from_list_all, list_all-from_AllPass}
+use Rattle.std.proofs.lemmas.Option.{cond_some}
 use Rattle.script.specs.Values.{◌>>=◌, is_number, number_of, signed_of, hex_digit_of, byte_of, pairs_of, hex_of}
 use Rattle.script.specs.Language.{IsUpTo, IsSigned, IsHexDigit, SpellsBytes, IsHex}
-use Rattle.script.proofs.Options.{bind_some, some_bind, chosen, guarded}
+use Rattle.script.proofs.Options.{bind_some, some_bind, chosen}
 use Rattle.script.proofs.Digits.{a_number}
 
 pub number_found : (most : ℕ) (word : List ℕ) (n : ℕ) → number_of most word ≡ Some n → IsUpTo most word n
 unfolding number_of
 number_found most word n e =
-    let parts = guarded (is_number most word) (digits_value 10 word) n e in
+    let parts = cond_some (is_number most word) (digits_value 10 word) n e in
     let first = and_parts _ _ parts.0 in
     let second = and_parts _ _ first.1 in
     let small : digits_value 10 word < most + 1 = ltb-true _ _ second.1 in
@@ -91,7 +92,7 @@ digit_found c n e = elim (chosen (nat_lt 47 c && nat_lt c 58) _ _ _ e) [
         let value : c - 87 ≡ n = cc in
         inr (inl (omega arith, omega arith, omega arith))
     | inr third ↦
-        let last = guarded (nat_lt 64 c && nat_lt c 71) (c - 55) n third.1 in
+        let last = cond_some (nat_lt 64 c && nat_lt c 71) (c - 55) n third.1 in
         let bounds = within 64 71 c last.0 in
         let value : c - 55 ≡ n = last.1 in
         inr (inr (omega arith, omega arith, omega arith))

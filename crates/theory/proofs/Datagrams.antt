@@ -1,5 +1,5 @@
 -- A cycle's datagrams: they stand in the grammar, and what they send is what a sender may send.
-use Rattle.std.proofs.Common.{◌≡◌, ℕ, zero, suc, ◌+◌, ◌/◌, ◌≤◌, length, ⊎_elim, List, [], ◌∷◌, ◌++◌, take, true, false, not, refl, sym, ap, ◌∙◌, subst, append_assoc, arith}
+use Rattle.std.proofs.Common.{◌≡◌, ℕ, zero, suc, ◌+◌, ◌/◌, ⊎_elim, List, [], ◌∷◌, ◌++◌, take, true, false, not, refl, sym, ap, ◌∙◌, subst, append_assoc, length-take, arith}
 use Rattle.std.specs.List.{AllByRecursion, list_any}
 use Rattle.std.specs.Prelude.{nat_le, nat_eq, ◌&&◌}
 use Rattle.std.proofs.lemmas.Bool.{cases_Bool, leb-true, cond-true, cond-false, and_parts, or_parts, not-true}
@@ -10,6 +10,7 @@ use Rattle.theory.specs.Bytes.{Identity, wire_at}
 use Rattle.theory.specs.Datagrams.{fits_in, grouped_behind, grouped, sent_end, MayBeSent, sendable, cycle_datagrams, wire_size, size_of, frames_of, wires}
 use Rattle.theory.specs.SenderLaws.{MaySend, CycleMaySend, ResendsFirst}
 use Rattle.theory.proofs.Lists.{all_front}
+use Rattle.theory.proofs.Readings.{stands_alone}
 
 -- ---- the datagrams are the frames, in order
 
@@ -77,10 +78,6 @@ data_stands : (i : Identity) (p : ℕ) (f : Frame) (ws : List Wire) → is_paddi
 data_stands i p (Data flags payload) ws e h = h
 data_stands i p (Pad n) ws e h = absurd (cc)
 
-one_stands : (i : Identity) (p : ℕ) (f : Frame) → StandTogether (wire_at i p f ∷ [])
-one_stands i p (Data flags payload) = tt
-one_stands i p (Pad n) = refl
-
 follow_data : (i : Identity) (ts : List Placed) (s : Placed) → NoPadding ts → MayFollow (wires i (ts ++ s ∷ []))
 follow_data i [] s h = last_follows i s.at s.frame
 follow_data i (t ∷ ts) s h =
@@ -103,21 +100,16 @@ behind_stand i g t ts (s ∷ ss) h =
     (behind_stand i g t (ts ++ s ∷ []) ss (pushed_stands i g t ts s y)))
     (λ (n : fits_in g (t ∷ ts) s ≡ false).
     subst (AllByRecursion (λ d. StandTogether (wires i d))) (sym (cond-false (fits_in g (t ∷ ts) s) (grouped_behind g ((t ∷ ts) ++ s ∷ []) ss) ((t ∷ ts) ∷ grouped_behind g (s ∷ []) ss) n))
-    (h, behind_stand i g s [] ss (one_stands i s.at s.frame)))
+    (h, behind_stand i g s [] ss (stands_alone (wire_at i s.at s.frame))))
     (cases_Bool (fits_in g (t ∷ ts) s))
 
 -- each of these datagrams has data frames and at its end at most one padding
 pub grouped_stand : (i : Identity) (g : Geometry) (ss : List Placed) → AllByRecursion (λ d. StandTogether (wires i d)) (grouped g ss)
 grouped_stand i g [] = tt
-grouped_stand i g (s ∷ ss) = behind_stand i g s [] ss (one_stands i s.at s.frame)
-
-taken_most : {X : Type 0} (n : ℕ) (xs : List X) → length (take n xs) ≤ n
-taken_most zero xs = omega arith
-taken_most (suc n) [] = omega arith
-taken_most (suc n) (x ∷ xs) = omega (arith, taken_most n xs)
+grouped_stand i g (s ∷ ss) = behind_stand i g s [] ss (stands_alone (wire_at i s.at s.frame))
 
 pub cycle_may_send : CycleMaySend
-cycle_may_send g frames reads at q limit chain among = (cycle_sends g frames at q limit reads chain among, taken_most 16 (grouped g (sendable limit reads)))
+cycle_may_send g frames reads at q limit chain among = (cycle_sends g frames at q limit reads chain among, omega (arith, length-take 16 (grouped g (sendable limit reads))))
 
 pub resends_first : ResendsFirst
-resends_first g frames = let f = front_of 15 (grouped g frames) in (taken_most 15 (grouped g frames), (f.0, sym (grouped_is g frames) ∙ f.1))
+resends_first g frames = let f = front_of 15 (grouped g frames) in (omega (arith, length-take 15 (grouped g frames)), (f.0, sym (grouped_is g frames) ∙ f.1))

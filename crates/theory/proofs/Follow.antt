@@ -1,11 +1,11 @@
 -- A consumer has passed frames that follow each other, and so is within what stands without a gap.
-use Rattle.std.proofs.Common.{◌≡◌, ℕ, zero, suc, ◌+◌, ◌-◌, ◌*◌, ◌/◌, ◌%◌, ◌<◌, ◌≤◌, inl, inr, ⊎_elim, List, [], ◌∷◌, ◌++◌, map, Option, None, Some, Bool, true, false, cond, refl, sym, ap, ◌∙◌, subst, arith}
+use Rattle.std.proofs.Common.{◌≡◌, ℕ, zero, suc, ◌+◌, ◌-◌, ◌*◌, ◌/◌, ◌%◌, ◌<◌, ◌≤◌, inl, inr, ⊎_elim, List, [], ◌∷◌, ◌++◌, map, Option, None, Some, Bool, true, false, refl, sym, ap, ◌∙◌, subst, arith}
 use Rattle.std.specs.List.{AllByRecursion}
 use Rattle.std.specs.Prelude.{nat_le, nat_lt, nat_eq, ◌&&◌}
 use Rattle.std.proofs.lemmas.Bool.{cases_Bool, cases_lt, leb-true, ltb-true, eqb-true, cond-true, cond-false, le-leb, lt-ltb, eq-eqb, and_from, and_parts, or_cases, or_left, or_right, both_ways}
 use Rattle.theory.specs.Placed.{IsReached, frame_length, Placed, covered, end_of, Among, Chain, AllAmong}
 use Rattle.theory.specs.Bytes.{covers}
-use Rattle.theory.specs.Assembly.{Assembly, nothing_heard, after}
+use Rattle.theory.specs.Assembly.{Assembly, nothing_heard, after, after_all}
 use Rattle.theory.specs.Units.{HasUnit, IsContiguous, has_unit, reach, contiguous}
 use Rattle.theory.specs.Consumer.{consumer_at, Consumer, moved, passed_by}
 use Rattle.theory.specs.ImageLaws.{ComputesContiguous}
@@ -113,6 +113,11 @@ chain_units frames j q (s ∷ ss) c a k h =
     subst (λ x. HasUnit frames x) same rest)
     (cases_lt (32 * k) (covered s))
 
+-- frames that follow each other take whole units
+pub chain_span : (j q : ℕ) (read : List Placed) → Chain j q read → (n : ℕ) × (q ≡ j + 32 * n)
+chain_span j q [] c = (0, omega (arith, c))
+chain_span j q (s ∷ ss) c = let rest = chain_span (end_of s) q ss c.1 in ((frame_length s.frame + 31) / 32 + rest.0, omega (arith, c.0, rest.1))
+
 pub chain_bound : (frames : List Placed) (j q c : ℕ) (read : List Placed) → IsContiguous frames j q → Chain j c read → AllAmong frames read → c ≤ q
 chain_bound frames j q c read end chain among =
     ⊎_elim
@@ -130,15 +135,11 @@ Chain-append j q r (t ∷ ts) more c d = (c.0, Chain-append (end_of t) q r ts mo
 
 -- what an assembler has after these frames
 abbrev pub heard : Assembly → List Placed → Assembly
-heard a [] = a
-heard a (s ∷ ss) = heard (after a s.frame) ss
+heard a read = after_all a (map (λ s. s.frame) read)
 
 heard-push : (a : Assembly) (read : List Placed) (s : Placed) → heard a (read ++ s ∷ []) ≡ after (heard a read) s.frame
 heard-push a [] s = refl
 heard-push a (t ∷ ts) s = heard-push (after a t.frame) ts s
-
-true_false : true ≡ false → ⊥
-true_false x = subst (λ b. cond b (Unit {0}) ⊥) x tt
 
 -- the consumer has passed frames of the list, and handed each to its assembler
 pub record Follows (frames : List Placed) (start : ℕ) (r : Consumer) : Type 0 where
@@ -181,7 +182,7 @@ follows_passed frames start r s f a e = record {
   kept_among = f.kept_among;
   heard_all = f.heard_all;
   behind = omega (arith, f.behind, e);
-  same = λ x. absurd (true_false x);
+  same = λ x. absurd (cc);
 }
 
 pub passed_along : (frames : List Placed) (start at to : ℕ) (more : List Placed) → IsReached frames start at → Chain at to more → AllAmong frames more → IsReached frames start to

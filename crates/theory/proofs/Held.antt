@@ -99,25 +99,26 @@ contiguous_held frames j q passed m e le parted c =
 
 -- ---- whatever frames come, those that are stored lie apart
 
-abbrev IsStored : Insert → Type 0
-IsStored CrossesTerm = ⊥
-IsStored Below = ⊥
-IsStored OverWindow = ⊥
-IsStored Duplicate = ⊥
-IsStored Overlap = ⊥
-IsStored Stored = Unit {0}
+-- what the answer Stored says of each test
+pub stored_only : (g : Geometry) (frames : List Head) (m window : ℕ) (s : Head) → insert_answer g frames m window s ≡ Stored → (nat_lt g.term_length (s.at % g.term_length + aligned s.length) ≡ false) × (nat_lt s.at m ≡ false) × (nat_lt (min (m + window) (max_position g)) (window_end s) ≡ false) × (list_any (is_duplicate s) frames ≡ false) × (list_any (overlaps s) frames ≡ false)
+stored_only g frames m window s e =
+    none (nat_lt g.term_length (s.at % g.term_length + aligned s.length)) (nat_lt s.at m) (nat_lt (min (m + window) (max_position g)) (window_end s)) (list_any (is_duplicate s) frames) (list_any (overlaps s) frames) e
+  where
+    none : (crosses below over dup meets : Bool) → cond crosses CrossesTerm (cond below Below (cond over OverWindow (cond dup Duplicate (cond meets Overlap Stored)))) ≡ Stored → (crosses ≡ false) × (below ≡ false) × (over ≡ false) × (dup ≡ false) × (meets ≡ false)
+    none true below over dup meets h = absurd (cc)
+    none false true over dup meets h = absurd (cc)
+    none false false true dup meets h = absurd (cc)
+    none false false false true meets h = absurd (cc)
+    none false false false false true h = absurd (cc)
+    none false false false false false h = (refl, refl, refl, refl, refl)
 
-answer_apart : (crosses below over dup meets : Bool) → IsStored (cond crosses CrossesTerm (cond below Below (cond over OverWindow (cond dup Duplicate (cond meets Overlap Stored))))) → meets ≡ false
-answer_apart true below over dup meets h = absurd h
-answer_apart false true over dup meets h = absurd h
-answer_apart false false true dup meets h = absurd h
-answer_apart false false false true meets h = absurd h
-answer_apart false false false false true h = absurd h
-answer_apart false false false false false h = refl
+-- what starts before position 0 is never stored
+pub not_stored : (c : Bool) → cond c CrossesTerm Below ≡ Stored → ⊥
+not_stored true e = cc
+not_stored false e = cc
 
 pub stored_apart : (g : Geometry) (frames : List Head) (m window : ℕ) (s : Head) → insert_answer g frames m window s ≡ Stored → list_any (overlaps s) frames ≡ false
-stored_apart g frames m window s e =
-    answer_apart (nat_lt g.term_length (s.at % g.term_length + aligned s.length)) (nat_lt s.at m) (nat_lt (min (m + window) (max_position g)) (window_end s)) (list_any (is_duplicate s) frames) (list_any (overlaps s) frames) (subst IsStored (sym e) tt)
+stored_apart g frames m window s e = (stored_only g frames m window s e).4
 
 abbrev pub AreStoredApart : Image → Type 0
 AreStoredApart i = AreApart (map head_of i.stored)

@@ -11,7 +11,8 @@ use Rattle.theory.specs.Bytes.{Identity}
 use Rattle.theory.specs.Seats.{Each}
 use Rattle.theory.specs.Consumer.{Consumer, moved, passed_by, MayMove, consumer_at}
 use Rattle.theory.specs.Log.{Log, LogStep, LogEvent, Look, Arm, Add, Miss, Store, Commit, Abort, Rotate, Clean, Raise, Connect, Close, Join, Leave, Move, Pass, Retire, MayCommit, MayAbort, with_frame, aborted_at, entry_for, room, term_of}
-use Rattle.theory.proofs.Lists.{all_append, all_map, all_replicate, each_weaker, each_get, each_set, each_leave}
+use Rattle.theory.proofs.Cuts.{cut_units}
+use Rattle.theory.proofs.Lists.{all_append, all_map, all_weaker, each_weaker, each_get, each_set, each_leave}
 use Rattle.theory.proofs.Tiling.{Tiles-map, Tiles-push}
 use Rattle.theory.proofs.Frames.{Kept-map, Kept-push, placed_front}
 use Rattle.theory.proofs.Follow.{Follows, follows_more, follows_joined, follows_moved, follows_passed}
@@ -197,20 +198,7 @@ long_cuts g m p =
     (cases_Bool (nat_le m (max_payload g)))
 
 pub positive_cuts : (g : Geometry) (m : ℕ) → 0 < max_payload g → AllByRecursion (λ cut. 0 < cut) (cuts_of g m)
-positive_cuts g m p =
-    ⊎_elim
-    (λ (t : nat_le m (max_payload g) ≡ true). subst (λ b. AllByRecursion (λ cut. 0 < cut) (cond b ((m + 32) ∷ []) (replicate (m / max_payload g) g.mtu ++ rest_cut (m % max_payload g)))) (sym t) (omega arith, tt))
-    (λ (f : nat_le m (max_payload g) ≡ false).
-    let parts : AllByRecursion (λ cut. 0 < cut) (replicate (m / max_payload g) g.mtu ++ rest_cut (m % max_payload g)) = all_append (λ cut. 0 < cut) (replicate (m / max_payload g) g.mtu) (rest_cut (m % max_payload g)) (all_replicate (λ cut. 0 < cut) (m / max_payload g) g.mtu (omega arith)) (positive_rest (m % max_payload g)) in
-    subst (λ b. AllByRecursion (λ cut. 0 < cut) (cond b ((m + 32) ∷ []) (replicate (m / max_payload g) g.mtu ++ rest_cut (m % max_payload g)))) (sym f) parts)
-    (cases_Bool (nat_le m (max_payload g)))
-  where
-    positive_rest : (rest : ℕ) → AllByRecursion (λ cut. 0 < cut) (rest_cut rest)
-    positive_rest rest =
-        ⊎_elim
-        (λ (t : nat_eq rest 0 ≡ true). subst (λ b. AllByRecursion (λ cut. 0 < cut) (cond b [] ((rest + 32) ∷ []))) (sym t) tt)
-        (λ (f : nat_eq rest 0 ≡ false). subst (λ b. AllByRecursion (λ cut. 0 < cut) (cond b [] ((rest + 32) ∷ []))) (sym f) (omega arith, tt))
-        (cases_Bool (nat_eq rest 0))
+positive_cuts g m p = all_weaker (λ cut. 32 ≤ cut) (λ cut. 0 < cut) (λ cut l. omega arith) (cuts_of g m) (cut_units g m (omega arith))
 
 pub span_unit : (cuts : List ℕ) → span cuts % 32 ≡ 0
 span_unit [] = refl

@@ -4,13 +4,14 @@ use Rattle.std.specs.List.{AllByRecursion, flat_map, filter}
 use Rattle.std.specs.Option.{option_to_list}
 use Rattle.std.specs.Prelude.{nat_le, nat_eq, ◌&&◌}
 use Rattle.std.proofs.lemmas.Bool.{cases_Bool, cases_lt, cases_eq, leb-true, cond-true, cond-false, le-leb, lt-leb, eq-eqb, ne_eqb, and_parts, and_right, false_from_ne_true}
+use Rattle.std.proofs.Math.Bool.{and-true}
 use Rattle.theory.specs.Position.{aligned, span}
 use Rattle.theory.specs.Placed.{Frame, Data, Pad, frame_length, payload_of, Placed, end_of, Among, place_all, Chain, AllAmong}
 use Rattle.theory.specs.Entry.{Entry, IsEntry, HaveFrames, ArePieces, ArePadding, flags_of, entry_end, committed}
 use Rattle.theory.specs.Tiling.{Tiles}
 use Rattle.theory.specs.Messages.{is_whole, is_between, message_of, messages}
 use Rattle.theory.specs.Laws.{GivesMessages}
-use Rattle.theory.specs.Assembly.{after_all, nothing_heard, Assembly, after}
+use Rattle.theory.specs.Assembly.{nothing_heard, Assembly, after}
 use Rattle.theory.proofs.Lists.{among_cases, all_at, all_from, all_weaker}
 use Rattle.theory.proofs.Frames.{AreCut, are_cut, InOrder, InOrder-append, in_order_from, placed_below, placed_in_order, pieces_cut, committed_in_order}
 use Rattle.theory.proofs.Follow.{heard}
@@ -232,16 +233,12 @@ padding_read x (cut ∷ []) (Pad n ∷ []) s h (inr a) = absurd a
 
 -- ---- the whole list
 
-and_true : (b : Bool) → (b && true) ≡ b
-and_true true = refl
-and_true false = refl
-
 -- an entry that is a message and starts at c
 between_at : (c q : ℕ) (e : Entry) → e.padding ≡ false → c ≤ e.start → is_between c q e ≡ (is_whole e && nat_le (entry_end e) q)
 between_at c q e p l =
     ap (λ b. not b && is_whole e && nat_le c e.start && nat_le (entry_end e) q) p
     ∙ ap (λ b. is_whole e && b && nat_le (entry_end e) q) (le-leb c e.start l)
-    ∙ ap (λ b. b && nat_le (entry_end e) q) (and_true (is_whole e))
+    ∙ ap (λ b. b && nat_le (entry_end e) q) (and-true (is_whole e))
 
 padding_between : (c q : ℕ) (e : Entry) → e.padding ≡ true → is_between c q e ≡ false
 padding_between c q e p = ap (λ b. not b && is_whole e && nat_le c e.start && nat_le (entry_end e) q) p
@@ -297,10 +294,5 @@ makes term p tail q (e ∷ es) t k c (s ∷ ss) a b chain among =
     makes term (entry_end e) tail q es t.2 k.1 c (s ∷ ss) a b chain among' ∙ ap (λ m. a.given ++ m) (sym (messages_skip c q e es (not_between c q e (λ low high. omega (arith, k.0.long))))))
     (among_cases s (place_all e.start e.frames) (committed es) among.0)
 
-heard_is : (a : Assembly) (read : List Placed) → after_all a (map (λ s. s.frame) read) ≡ heard a read
-heard_is a [] = refl
-heard_is a (s ∷ ss) = heard_is (after a s.frame) ss
-
 pub gives_messages : GivesMessages
-gives_messages term start tail j q es read t k chain among =
-    ap (λ (a : Assembly). a.given) (heard_is nothing_heard read) ∙ makes term start tail q es t k j read nothing_heard refl chain among
+gives_messages term start tail j q es read t k chain among = makes term start tail q es t k j read nothing_heard refl chain among

@@ -1,35 +1,21 @@
 -- A position that a consumer reached lies inside no stored frame.
-use Rattle.std.proofs.Common.{◌≡◌, ℕ, ◌+◌, ◌%◌, ◌<◌, ◌≤◌, inl, inr, ⊎_elim, List, [], ◌∷◌, Bool, true, false, cond, refl, sym, ap, ◌∙◌, subst, arith}
+use Rattle.std.proofs.Common.{◌≡◌, ℕ, ◌<◌, ◌≤◌, inl, inr, ⊎_elim, List, [], ◌∷◌, true, false, refl, sym, ap, ◌∙◌, subst, arith}
 use Rattle.std.specs.List.{AllByRecursion, list_any}
-use Rattle.std.specs.Prelude.{nat_lt, min, map, ℤ, pos, negsuc}
-use Rattle.std.proofs.lemmas.Bool.{cases_Bool, cond-true, cond-false, cases_lt, ltb-false, lt-ltb, and_from, or_left, or_right, both_ways}
-use Rattle.theory.specs.Position.{Geometry, aligned, max_position}
+use Rattle.std.specs.Prelude.{nat_lt, map, ℤ, pos, negsuc}
+use Rattle.std.proofs.lemmas.Bool.{cases_Bool, cond-true, cond-false, cases_lt, ltb-false, lt-ltb, and_from, both_ways}
+use Rattle.theory.specs.Position.{Geometry}
 use Rattle.theory.specs.Placed.{Placed, end_of, Among, Chain, IsReached}
-use Rattle.theory.specs.Insert.{Head, head_of, Insert, CrossesTerm, Below, OverWindow, Duplicate, Overlap, Stored, insert_answer, is_duplicate, overlaps, window_end, AreApart}
+use Rattle.theory.specs.Insert.{Head, head_of, Insert, CrossesTerm, Below, OverWindow, Duplicate, Overlap, Stored, insert_answer, overlaps, AreApart}
 use Rattle.theory.specs.Image.{is_accepted, Image, after_insert, after_heartbeat, ImageEvent, Inserted, Heartbeat, Poll, Lose, ImageStep, ImageRun, image_at}
 use Rattle.theory.specs.ImageLaws.{ImageAlways, IsApart, IsParted, AreParted}
-use Rattle.theory.proofs.Lists.{all_at, all_from}
-use Rattle.theory.proofs.Held.{apart_always, beat_stores}
+use Rattle.theory.proofs.Lists.{all_at, all_from, any_here}
+use Rattle.theory.proofs.Held.{apart_always, beat_stores, stored_only}
 use Rattle.theory.proofs.Messages.{chain_le}
 
 -- ---- frames are stored from the join on
 
-abbrev IsStored : Insert → Type 0
-IsStored CrossesTerm = ⊥
-IsStored Below = ⊥
-IsStored OverWindow = ⊥
-IsStored Duplicate = ⊥
-IsStored Overlap = ⊥
-IsStored Stored = Unit {0}
-
-not_below : (crosses below over dup meets : Bool) → IsStored (cond crosses CrossesTerm (cond below Below (cond over OverWindow (cond dup Duplicate (cond meets Overlap Stored))))) → below ≡ false
-not_below true below over dup meets h = absurd h
-not_below false true over dup meets h = absurd h
-not_below false false over dup meets h = refl
-
 pub stored_from : (g : Geometry) (frames : List Head) (m window : ℕ) (s : Head) → insert_answer g frames m window s ≡ Stored → m ≤ s.at
-stored_from g frames m window s e =
-    ltb-false s.at m (not_below (nat_lt g.term_length (s.at % g.term_length + aligned s.length)) (nat_lt s.at m) (nat_lt (min (m + window) (max_position g)) (window_end s)) (list_any (is_duplicate s) frames) (list_any (overlaps s) frames) (subst IsStored (sym e) tt))
+stored_from g frames m window s e = ltb-false s.at m (stored_only g frames m window s e).1
 
 abbrev From : ℕ → List Placed → Type 0
 From join frames = AllByRecursion (λ t. join ≤ t.at) frames
@@ -67,19 +53,14 @@ from_run g given (e ∷ es) old new k h = from_run g given es h.0 new (from_step
 
 -- ---- frames that meet are one
 
-meets_some : (h : Head) (us : List Placed) (t : Placed) → Among t us → overlaps h (head_of t) ≡ true → list_any (overlaps h) (map head_of us) ≡ true
-meets_some h [] t a o = absurd a
-meets_some h (u ∷ us) t (inl e) o = or_left (overlaps h (head_of u)) (list_any (overlaps h) (map head_of us)) (subst (λ x. overlaps h (head_of x) ≡ true) e o)
-meets_some h (u ∷ us) t (inr a) o = or_right (overlaps h (head_of u)) (list_any (overlaps h) (map head_of us)) (meets_some h us t a o)
-
 overlap : (s t : Placed) → s.at < end_of t → t.at < end_of s → overlaps (head_of s) (head_of t) ≡ true
 overlap s t l m = and_from (nat_lt s.at (end_of t)) (nat_lt t.at (end_of s)) (lt-ltb s.at (end_of t) l) (lt-ltb t.at (end_of s) m)
 
 one_frame : (frames : List Placed) (s t : Placed) → AreApart (map head_of frames) → Among s frames → Among t frames → s.at < end_of t → t.at < end_of s → s ≡ t
 one_frame [] s t apart a b l m = absurd a
 one_frame (u ∷ us) s t apart (inl e) (inl f) l m = e ∙ sym f
-one_frame (u ∷ us) s t apart (inl e) (inr b) l m = absurd (both_ways (list_any (overlaps (head_of u)) (map head_of us)) apart.0 (meets_some (head_of u) us t b (subst (λ x. overlaps (head_of x) (head_of t) ≡ true) e (overlap s t l m))))
-one_frame (u ∷ us) s t apart (inr a) (inl f) l m = absurd (both_ways (list_any (overlaps (head_of u)) (map head_of us)) apart.0 (meets_some (head_of u) us s a (subst (λ x. overlaps (head_of x) (head_of s) ≡ true) f (overlap t s m l))))
+one_frame (u ∷ us) s t apart (inl e) (inr b) l m = absurd (both_ways (list_any (overlaps (head_of u)) (map head_of us)) apart.0 (any_here (overlaps (head_of u)) head_of t us b (subst (λ x. overlaps (head_of x) (head_of t) ≡ true) e (overlap s t l m))))
+one_frame (u ∷ us) s t apart (inr a) (inl f) l m = absurd (both_ways (list_any (overlaps (head_of u)) (map head_of us)) apart.0 (any_here (overlaps (head_of u)) head_of s us a (subst (λ x. overlaps (head_of x) (head_of s) ≡ true) f (overlap t s m l))))
 one_frame (u ∷ us) s t apart (inr a) (inr b) l m = one_frame us s t apart.1 a b l m
 
 -- ---- what was read covers each position

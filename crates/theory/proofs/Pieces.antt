@@ -1,13 +1,13 @@
 -- The frames of a message, one by one.
-use Rattle.std.proofs.Common.{◌≡◌, ℕ, zero, suc, ◌+◌, ◌-◌, ◌*◌, ◌/◌, ◌%◌, ◌<◌, ◌≤◌, ⊎_elim, List, [], ◌∷◌, ◌++◌, length, take, drop, Bool, true, false, refl, sym, ap, ◌∙◌, length-drop, length-take, arith}
-use Rattle.std.specs.List.{AllByRecursion, flat_map}
+use Rattle.std.proofs.Common.{◌≡◌, ℕ, suc, ◌+◌, ◌-◌, ◌*◌, ◌/◌, ◌%◌, ◌<◌, ◌≤◌, ⊎_elim, List, [], ◌∷◌, ◌++◌, length, take, drop, Bool, false, refl, sym, ap, ◌∙◌, length-drop, arith}
+use Rattle.std.specs.List.{flat_map}
 use Rattle.std.specs.Prelude.{nat_eq, replicate}
 use Rattle.std.proofs.lemmas.Bool.{cases_lt, cond-true, cond-false, eq-eqb, ne_eqb}
 use Rattle.std.proofs.lemmas.List.{take-append-drop}
 use Rattle.std.proofs.lemmas.Nat.{same_from_place, div-add-mod'}
 use Rattle.theory.specs.Position.{Geometry, max_payload, cuts_of, rest_cut}
 use Rattle.theory.specs.Placed.{payload_of}
-use Rattle.theory.specs.Entry.{ArePieces, pieces_of}
+use Rattle.theory.specs.Entry.{pieces_of}
 use Rattle.theory.proofs.Cuts.{short_cuts, long_parts}
 
 no_rest : (rest : ℕ) → rest ≡ 0 → rest_cut rest ≡ []
@@ -64,38 +64,3 @@ pieces_join first [] (x ∷ xs) room = absurd (omega arith)
 pieces_join first (cut ∷ cuts) message room =
     ap (λ xs. take (cut - 32) message ++ xs) (pieces_join false cuts (drop (cut - 32) message) (omega (arith, length-drop (cut - 32) message, room)))
     ∙ take-append-drop (cut - 32) message
-
-payload_copies : (n cut : ℕ) (cuts : List ℕ) → payload_in (replicate n cut ++ cuts) ≡ n * (cut - 32) + payload_in cuts
-payload_copies zero cut cuts = omega arith
-payload_copies (suc n) cut cuts = omega (arith, payload_copies n cut cuts)
-
-payload_rest : (rest : ℕ) → payload_in (rest_cut rest) ≡ rest
-payload_rest rest =
-    ⊎_elim
-    (λ (more : 0 < rest). let one : payload_in ((rest + 32) ∷ []) ≡ rest = omega arith in ap payload_in (some_rest rest more) ∙ one)
-    (λ (none : rest ≤ 0). let nothing : 0 ≡ rest = omega (arith, none) in ap payload_in (no_rest rest (sym nothing)) ∙ nothing)
-    (cases_lt 0 rest)
-
--- a message's cuts hold as many bytes as it has
-pub payload_is : (g : Geometry) (n : ℕ) → payload_in (cuts_of g n) ≡ n
-payload_is g n =
-    ⊎_elim
-    (λ (long : max_payload g < n).
-    ap payload_in (long_parts g n long)
-    ∙ payload_copies (n / max_payload g) g.mtu (rest_cut (n % max_payload g))
-    ∙ ap (λ (x : ℕ). n / max_payload g * max_payload g + x) (payload_rest (n % max_payload g))
-    ∙ div-add-mod' n (max_payload g))
-    (λ (short : n ≤ max_payload g). let one : payload_in ((n + 32) ∷ []) ≡ n = omega arith in ap payload_in (short_cuts g n short) ∙ one)
-    (cases_lt (max_payload g) n)
-
--- the frames of a message hold it
-pub message_is : (g : Geometry) (message : List ℕ) → flat_map payload_of (pieces_of true (cuts_of g (length message)) message) ≡ message
-message_is g message = pieces_join true (cuts_of g (length message)) message (omega (arith, payload_is g (length message)))
-
--- and are its pieces
-pub pieces_are : (first : Bool) (cuts message : List ℕ) → AllByRecursion (λ cut. 32 ≤ cut) cuts → length message ≡ payload_in cuts → ArePieces first cuts (pieces_of first cuts message)
-pieces_are first [] message long size = tt
-pieces_are first (cut ∷ cuts) message long size = (
-  (refl, omega (arith, length-take (cut - 32) message, size, long.0)),
-  pieces_are false cuts (drop (cut - 32) message) long.1 (omega (arith, length-drop (cut - 32) message, size)),
-)

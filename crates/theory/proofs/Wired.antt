@@ -3,9 +3,8 @@ use Rattle.std.proofs.Common.{◌≡◌, ℕ, ◌+◌, ◌-◌, ◌*◌, ◌/◌
 use Rattle.std.specs.List.{AllByRecursion}
 use Rattle.std.specs.Prelude.{nat_le, nat_eq, replicate, ⊤}
 use Rattle.std.specs.Int.{w32, cast_unsigned}
-use Rattle.std.proofs.lemmas.Bool.{cases_Bool, cases_lt, leb-true}
+use Rattle.std.proofs.lemmas.Bool.{cases_Bool, leb-true}
 use Rattle.std.proofs.lemmas.Nat.{same_from_place, div-add-mod'}
-use Rattle.std.proofs.Math.Nat.{mul-le-mul_right}
 use mir.ValLaws.{to_z-Fits}
 use Rattle.theory.specs.Position.{Geometry, IsGeometry, aligned, max_position, max_payload, max_message, cuts_of, rest_cut, span, place_of}
 use Rattle.theory.specs.Wire.{IsHeader, IsFrame, IsDataFlags}
@@ -21,7 +20,7 @@ use Rattle.theory.proofs.Frames.{pieces_cut, padding_cut}
 use Rattle.theory.proofs.LogSteps.{IsKeptLog, room_unit, room_long, mod_unit, span_unit}
 use Rattle.theory.proofs.WorldSteps.{KeptWorld, step, opened}
 use Rattle.theory.proofs.Cuts.{cut_units}
-use Rattle.theory.proofs.Places.{offset_is}
+use Rattle.theory.proofs.Places.{offset_is, term_ends}
 
 abbrev IsPayload : Frame → Type 0
 IsPayload f = AllByRecursion (λ b. b < 256) (payload_of f)
@@ -170,15 +169,6 @@ pad_framed : (i : Identity) (p : ℕ) (f : Frame) (cut : ℕ) → IsPadFrame cut
 pad_framed i p (Data g payload) cut h l header end = absurd h
 pad_framed i p (Pad n) cut h l header end = (header, omega (arith, h), end)
 
--- the end of a term below the greatest position is at most that
-term_end : (g : Geometry) (low : ℕ) → 0 < g.term_length → low < max_position g → low / g.term_length * g.term_length + g.term_length ≤ max_position g
-term_end g low long l =
-    let base : low / g.term_length * g.term_length + low % g.term_length ≡ low = div-add-mod' low g.term_length in
-    ⊎_elim
-    (λ (a : low / g.term_length < 2 ^ 31). let next : (low / g.term_length + 1) * g.term_length ≤ 2 ^ 31 * g.term_length = mul-le-mul_right g.term_length (omega arith) in omega arith)
-    (λ (a : 2 ^ 31 ≤ low / g.term_length). let past : 2 ^ 31 * g.term_length ≤ low / g.term_length * g.term_length = mul-le-mul_right g.term_length a in absurd (omega arith))
-    (cases_lt (low / g.term_length) (2 ^ 31))
-
 -- what a frame in one term has
 record IsPlaced (i : Identity) (s : Placed) : Type 0 where
   header : IsHeader (header_at i s.at)
@@ -189,7 +179,7 @@ placed_frame i low s g tu is l from unit long end =
     let t = i.geometry.term_length in
     let positive : 0 < t = omega (arith, g.term.least) in
     let most : t ≤ 16777216 = g.term.greatest in
-    let last : low / t * t + t ≤ max_position i.geometry = term_end i.geometry low positive l in
+    let last : low / t * t + t ≤ max_position i.geometry = term_ends low t positive l in
     let offset : (place_of i.geometry s.at).offset ≡ s.at % t = offset_is i.geometry s.at (omega arith) in
     let within : s.at % t + covered s ≤ t = in_term t low s.at (covered s) positive from (omega arith) end in
     let units : (s.at % t) % 32 ≡ 0 = mod_unit s.at t positive tu unit in

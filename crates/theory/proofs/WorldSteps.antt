@@ -218,14 +218,7 @@ power_half t (k, e) h =
     (cases_lt k 6)
 
 pub power_unit : (t : ℕ) → IsPowerOfTwo t → 65536 ≤ t → t % 32 ≡ 0
-power_unit t (k, e) h =
-    ⊎_elim
-    (λ (l : k < 5). let small : 2 ^ k < 2 ^ 5 = pow_below k 5 l in absurd (omega arith))
-    (λ (l : 5 ≤ k).
-    let parts : k ≡ (k - 5) + 5 = omega arith in
-    let product : t ≡ 2 ^ (k - 5) * 2 ^ 5 = e ∙ ap (λ x. 2 ^ x) parts ∙ pow-add 2 (k - 5) 5 in
-    omega arith)
-    (cases_lt k 5)
+power_unit t p h = omega (arith, power_half t p h)
 
 opened_log : (w : World) → IsOpened w → IsKeptLog w.log
 opened_log w o = record {

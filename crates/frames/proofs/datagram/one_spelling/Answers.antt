@@ -1,4 +1,4 @@
-use Rattle.frames.proofs.Laws.{one_spelling}
+use Rattle.theory.proofs.Spelled.{one_spelling}
 use Rattle.frames.proofs.datagram.one_spelling.Goals as goal
 
 pub returns : goal.returns
