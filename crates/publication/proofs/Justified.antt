@@ -239,11 +239,6 @@ opened_before l m count armed e h is =
     let same : m.start / term_of m ≡ l.start / term_of l = ap (λ (x : Log). x.start / term_of x) e in
     omega (arith, same, h.opened, is)
 
-pub get_put : {X : Type 0} (xs : List X) (k : ℕ) (x : X) → k < length xs → slice_get (slice_set xs k x) k ≡ Some x
-get_put [] k x h = absurd (omega (arith, h))
-get_put (y ∷ ys) zero x h = refl
-get_put (y ∷ ys) (suc k) x h = get_put ys k x (omega (arith, h))
-
 -- an offer that is answered by a position fits
 answered_fits : (l : Log) (bytes n : ℕ) (c : Course) → answer l bytes c ≡ Ok n → c ≡ Fits
 answered_fits l bytes n IsClosed e = absurd (cc)
