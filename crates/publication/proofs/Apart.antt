@@ -1,6 +1,6 @@
 -- What is done to one entry leaves the claims of the others as they are.
-use Rattle.std.specs.Prelude.{◌≡◌, ℕ, zero, suc, ◌+◌, ◌-◌, ◌<◌, ◌≤◌, List, [], ◌∷◌, length, drop, slice_get, slice_index_or, slice_set, Some}
-use Rattle.std.proofs.Common.{arith, refl, sym, ap, ◌∙◌, subst}
+use Rattle.std.specs.Prelude.{◌≡◌, ℕ, ◌+◌, ◌-◌, ◌<◌, ◌≤◌, List, [], length, drop, slice_get, slice_index_or, slice_set, Some}
+use Rattle.std.proofs.Common.{arith, sym, ap, ◌∙◌, subst}
 use Rattle.std.proofs.lemmas.Option.{slice_get_within}
 use Rattle.std.proofs.lemmas.List.{get_or-set_other}
 use Rattle.theory.specs.Placed.{Frame}

@@ -1,7 +1,6 @@
 -- A claim whose draft is written is committed as its frame.
-use Rattle.std.proofs.Common.{◌≡◌, ℕ, ◌+◌, ◌-◌, ◌<◌, ◌≤◌, ⊎_elim, Bool, true, false, List, [], ◌∷◌, ◌++◌, length, take, drop, replicate, get_or, refl, sym, ap, ◌∙◌, subst, arith}
-use Rattle.std.proofs.lemmas.Bool.{cases_lt}
-use Rattle.std.proofs.lemmas.List.{drop-replicate, get_or_past, length-replicate, set-set, take_at}
+use Rattle.std.proofs.Common.{◌≡◌, ℕ, ◌+◌, ◌-◌, ◌<◌, ◌≤◌, Bool, true, false, List, [], ◌∷◌, ◌++◌, length, take, drop, replicate, get_or, refl, sym, ap, ◌∙◌, subst, arith}
+use Rattle.std.proofs.lemmas.List.{drop-replicate, length-replicate, set-set, take_at}
 use Rattle.theory.specs.Position.{Geometry, aligned, max_payload, span}
 use Rattle.theory.specs.Placed.{Data, Frame, Pad}
 use Rattle.theory.specs.Wire.{zeros_after}

@@ -1,8 +1,7 @@
 -- `block_front` takes the bytes of the publisher's block, and then their front: what is written there stands in the block.
 use mathlib.Core.Path.{◌≡◌, refl, sym, ap, subst, ◌∙◌}
-use mathlib.Core.List.{List, [], ◌∷◌, ◌++◌}
+use mathlib.Core.List.{List, [], ◌∷◌}
 use Prim.Native.Nat.{ℕ, ◌≤◌, ◌<◌, ◌^◌}
-use native.Mathlib.Omega.{arith}
 use lib.ListN.{length, take}
 use base.Logic.{id⊢, emp}
 use base.Fml.{ftrue, flft}
@@ -29,8 +28,6 @@ use denote.Triple.Clauses.{lasts}
 use denote.Triple.Spec.{triple_of}
 use denote.Triple.Table.{framed}
 use denote.Triple.Walked.{Stays, stay_dropped, walk_of, needs, says, ends_at, Goes-dropped, Goes-spent_ref}
-use Rattle.std.proofs.Common.{drop_of_length-le}
-use Rattle.std.proofs.lemmas.List.{append-nil, take_all}
 use Rattle.std.proofs.raw_atomic.Walks.{proved}
 use Rattle.block.specs.Bytes.{with_front, length-with_front}
 use Rattle.block.proofs.Bytes.{with_front-whole}
