@@ -1,1 +1,2 @@
-mod Bytes
+pub mod Bytes
+pub mod Words

@@ -2,21 +2,18 @@
 use Rattle.std.proofs.Common.{◌≡◌, ℕ, zero, suc, Bool, true, false, not, List, [], ◌∷◌, get_or, Option, None, Some, refl, ap, ◌∙◌}
 use Rattle.std.specs.Prelude.{slice_get}
 use Rattle.std.specs.Bool.{Decides}
+use Rattle.std.specs.Cmp.{booleans_Decides}
 use Rattle.std.specs.Option.{option_eq}
-use mathlib.Core.Bool.{beq}
-use Rattle.std.proofs.lemmas.Option.{get_or_from_slice_get}
+use Rattle.std.proofs.lemmas.Option.{get_or_from_slice_get, same_Some}
 use Rattle.std.proofs.lemmas.Bool.Decides.{Decides-like, Decides-and, Decides-eqb}
 use Rattle.term_buffer.specs.declared.claimed.Claimed.{Claimed}
 use Rattle.term_buffer.specs.contracts.claimed.ClaimedPartialEq.TheImpl as claimed
 use Rattle.locked_log.specs.declared.standing.Standing.{Standing}
 use Rattle.locked_log.specs.contracts.standing.StandingPartialEq.TheImpl as standing
 
-some_is : {X : Type 0} (a b : X) → Some a ≡ Some b → a ≡ b
-some_is a b e = cc
-
 option_same : {X : Type 0} (E : X → X → Bool) → ((x y : X) → Decides (E x y) (x ≡ y)) → (o : Option X) (y : X) → Decides (option_eq E o (Some y)) (o ≡ Some y)
 option_same E same None y = (λ e. absurd (cc), λ e. absurd (cc))
-option_same E same (Some x) y = (λ e. ap Some ((same x y).0 e), λ e. (same x y).1 (some_is x y e))
+option_same E same (Some x) y = (λ e. ap Some ((same x y).0 e), λ e. (same x y).1 (same_Some x y e))
 
 pub got_some : {X : Type 0} (xs : List (Option X)) (n : ℕ) (x : X) → get_or xs n None ≡ Some x → slice_get xs n ≡ Some (Some x)
 got_some [] n x e = absurd (cc)
@@ -41,12 +38,6 @@ standings x y =
     (λ (e : x ≡ y). (ap (λ (s : Standing). s.position) e, ap (λ (s : Standing). s.read_to) e))
     (Decides-and _ _ (Decides-eqb x.position y.position) (Decides-eqb x.read_to y.read_to))
 
-flags : (x y : Bool) → Decides (beq x y) (x ≡ y)
-flags true true = (λ _. refl, λ _. refl)
-flags true false = (λ e. absurd (cc), λ e. absurd (cc))
-flags false true = (λ e. absurd (cc), λ e. absurd (cc))
-flags false false = (λ _. refl, λ _. refl)
-
 abbrev claimed_at : ℕ → ℕ → ℕ → ℕ → Bool → ℕ → Claimed
 claimed_at number start size owner padding frame = record { number = number; start = start; size = size; owner = owner; padding = padding; frame = frame }
 
@@ -65,7 +56,7 @@ claims x y =
     (Decides-and _ _ (Decides-eqb x.start y.start)
     (Decides-and _ _ (Decides-eqb x.size y.size)
     (Decides-and _ _ (Decides-eqb x.owner y.owner)
-    (Decides-and _ _ (flags x.padding y.padding) (Decides-eqb x.frame y.frame))))))
+    (Decides-and _ _ (booleans_Decides x.padding y.padding) (Decides-eqb x.frame y.frame))))))
 
 pub stands_at : (xs : List (Option Standing)) (n : ℕ) (x : Standing) → Decides (option_eq standing.eq-value.it (get_or xs n None) (Some x)) (slice_get xs n ≡ Some (Some x))
 stands_at = place_same standing.eq-value.it standings

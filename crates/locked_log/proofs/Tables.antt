@@ -1,9 +1,11 @@
 -- The tables of held claims and standing readers, as a log and they change.
-use Rattle.std.proofs.Common.{◌≡◌, ℕ, ◌≤◌, zero, suc, List, [], ◌∷◌, Option, None, Some, ⊎_elim, refl, sym, ap, ◌∙◌, subst}
+use Rattle.std.proofs.Common.{◌≡◌, ℕ, ◌≤◌, List, Option, None, Some, ⊎_elim, refl, sym, ap, ◌∙◌, subst}
 use Rattle.std.specs.Prelude.{IfNone, IfSome, slice_get, slice_set}
 use Rattle.std.proofs.lemmas.Bool.{cases_eq}
+use Rattle.std.proofs.lemmas.Option.{same_Some}
 use Rattle.theory.specs.Position.{max_payload}
 use Rattle.theory.specs.Bytes.{Identity}
+use Rattle.theory.proofs.Tables.{got_set, got_unset, set_same}
 use Rattle.term_buffer.specs.declared.claimed.Claimed.{Claimed}
 use Rattle.log_buffer.specs.Log.{IsHeld, Log}
 use Rattle.log_buffer.specs.Reader.{IsAt, Reader}
@@ -11,23 +13,6 @@ use Rattle.publication.specs.Claims.{IsClaimOf, Filling}
 use Rattle.locked_log.specs.declared.standing.Standing.{Standing}
 use Rattle.locked_log.specs.Shared.{AreAt, AreHeld, Holds, IsHeldBy, IsOf, Shared, reader_of, standing_of, without_claim}
 use Rattle.position.specs.declared.head.FrameHead.{FrameHead}
-
--- ---- elements
-
-some_is : {X : Type 0} (a b : X) → Some a ≡ Some b → a ≡ b
-some_is a b e = cc
-
-got_set : {X : Type 0} (xs : List X) (i : ℕ) (x y : X) → slice_get (slice_set xs i y) i ≡ Some x → x ≡ y
-got_set [] i x y h = absurd (cc)
-got_set (z ∷ xs) zero x y h = some_is x y (sym h)
-got_set (z ∷ xs) (suc i) x y h = got_set xs i x y h
-
-got_unset : {X : Type 0} (xs : List X) (i j : ℕ) (x y : X) → (i ≡ j → ⊥) → slice_get (slice_set xs j y) i ≡ Some x → slice_get xs i ≡ Some x
-got_unset [] i j x y ne h = h
-got_unset (z ∷ xs) zero zero x y ne h = absurd (ne refl)
-got_unset (z ∷ xs) zero (suc j) x y ne h = h
-got_unset (z ∷ xs) (suc i) zero x y ne h = h
-got_unset (z ∷ xs) (suc i) (suc j) x y ne h = got_unset xs i j x y (λ e. ne (ap suc e)) h
 
 -- a fact of each element of a table, where one place is set
 at_set : {X : Type 0} (P : ℕ → X → Type 0) (xs : List X) (i : ℕ) (y : X) → ((k : ℕ) (x : X) → (k ≡ i → ⊥) → slice_get xs k ≡ Some x → P k x) → P i y → (k : ℕ) (x : X) → slice_get (slice_set xs i y) k ≡ Some x → P k x
@@ -51,7 +36,7 @@ pub held_noted : (l m : Log) (held : List (Option Claimed)) (n : ℕ) (c : Claim
 held_noted l m held n c i keep here all = λ k d got.
     at_set (λ (j : ℕ) (o : Option Claimed). (e : Claimed) → o ≡ Some e → IsHeldBy m j e) held n (Some c)
     (λ (j : ℕ) (o : Option Claimed) (ne : j ≡ n → ⊥) (is : slice_get held j ≡ Some o). λ e same. held_by l m j e i (keep e) (all j e (is ∙ ap Some same)))
-    (λ e same. subst (IsHeldBy m n) (some_is c e same) here)
+    (λ e same. subst (IsHeldBy m n) (same_Some c e same) here)
     k (Some d) got d refl
 
 -- where its publisher holds none any more
@@ -85,19 +70,13 @@ pub at_noted : (l m : Log) (readers : List (Option Standing)) (r : Reader) → (
 at_noted l m readers r keep here all = λ k s got.
     at_set (λ (j : ℕ) (o : Option Standing). (t : Standing) → o ≡ Some t → IsAt m (reader_of j t)) readers r.number (Some (standing_of r))
     (λ (j : ℕ) (o : Option Standing) (ne : j ≡ r.number → ⊥) (is : slice_get readers j ≡ Some o). λ t same. keep (reader_of j t) (all j t (is ∙ ap Some same)) ne)
-    (λ t same. subst (λ (u : Standing). IsAt m (reader_of r.number u)) (some_is (standing_of r) t same) here)
+    (λ t same. subst (λ (u : Standing). IsAt m (reader_of r.number u)) (same_Some (standing_of r) t same) here)
     k (Some s) got s refl
 
 -- what a reader has read, or has not, leaves it where it stands
 pub at_read : (l : Log) (r q : Reader) (found : Option FrameHead) → IfSome found (λ _. IsAt l q) → IfNone found (q ≡ r) → IsAt l r → IsAt l q
 at_read l r q None some none at = subst (IsAt l) (sym none) at
 at_read l r q (Some head) some none at = some
-
--- where a place holds what it is set to, nothing changes
-pub set_same : {X : Type 0} (xs : List X) (i : ℕ) (x : X) → slice_get xs i ≡ Some x → slice_set xs i x ≡ xs
-set_same [] i x h = refl
-set_same (z ∷ xs) zero x h = ap (λ y. y ∷ xs) (sym (some_is z x h))
-set_same (z ∷ xs) (suc i) x h = ap (λ ys. z ∷ ys) (set_same xs i x h)
 
 -- ---- all of it
 

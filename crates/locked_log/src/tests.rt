@@ -207,14 +207,17 @@ const EACH: usize = 100;
 
 const LENGTH: usize = 500;
 
-/// Publishes all messages of a publisher, each again where it was refused.
+/// How often a thread tries, of which it yields each time that nothing went on.
+const TRIES: usize = 2_000_000;
+
+/// Publishes all messages of a publisher, each again where it was refused, as far as its tries go.
 fn publish_all<R: Wait>(rt: &R, log: &Log<Brand>, publisher: &mut Publisher)
     ensures { publisher.new.number ≡ publisher.old.number }
 {
     let number = publisher.number() as u8;
     let mut message = [number; LENGTH];
     let mut sent: usize = 0;
-    for _ in rt.forever() {
+    for _ in 0..TRIES {
         if sent >= EACH {
             break;
         }
@@ -264,7 +267,7 @@ fn count_message(payload: &[u8], counts: &mut [usize; 8]) -> bool {
     }
 }
 
-/// Reads all messages, and says whether each publisher's came in its order.
+/// Reads all messages, and says whether they came within its tries, each publisher's in its order.
 fn read_all<R: Wait>(
     rt: &R,
     log: &Log<Brand>,
@@ -277,7 +280,7 @@ fn read_all<R: Wait>(
     let mut counts = [0_usize; 8];
     let mut in_order = true;
     log.set_connected(rt, keeper, true);
-    for _ in rt.forever() {
+    for _ in 0..TRIES {
         if !in_order || counts.iter().all(|count| *count == EACH) {
             break;
         }
@@ -299,7 +302,7 @@ fn read_all<R: Wait>(
             Err(_) => in_order = false,
         }
     }
-    in_order
+    in_order && counts.iter().all(|count| *count == EACH)
 }
 
 #[test]

@@ -3,11 +3,11 @@ use Rattle.std.proofs.Common.{◌≡◌, ℕ, zero, suc, ◌+◌, ◌*◌, ◌/�
 use Rattle.std.specs.Prelude.{if◌then◌else◌, nat_eq, slice_get, slice_set}
 use Rattle.std.proofs.Math.Nat.{mul-le-mul_left}
 use Rattle.std.proofs.lemmas.Bool.{eq-eqb, ne_eqb}
+use Rattle.std.proofs.lemmas.Option.{same_Some}
 use Rattle.theory.specs.Position.{Geometry, IsGeometry, greatest_claim}
 use Rattle.theory.proofs.Claims.{claim_bounded}
 use Rattle.log_buffer.specs.Log.{armed_count}
 use Rattle.log_buffer.specs.States.{armed_on}
-use Rattle.log_buffer.proofs.Spans.{some_is}
 
 abbrev one_if : Bool → ℕ
 one_if b = if b then 1 else 0
@@ -43,7 +43,7 @@ pub on_disarmed : (xs : List (Option ℕ)) (k p : ℕ) → slice_get xs k ≡ So
 on_disarmed [] k p h = absurd (cc)
 on_disarmed (None ∷ xs) zero p h = absurd (cc)
 on_disarmed (Some q ∷ xs) zero p h =
-    let same : q ≡ p = some_is q p (some_is (Some q) (Some p) h) in
+    let same : q ≡ p = same_Some q p (same_Some (Some q) (Some p) h) in
     let one : one_if (nat_eq p q) ≡ 1 = ap (λ x. one_if (nat_eq p x)) same ∙ one_here p in
     omega (arith, one)
 on_disarmed (None ∷ xs) (suc k) p h = on_disarmed xs k p h

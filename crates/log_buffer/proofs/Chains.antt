@@ -3,6 +3,7 @@ use Rattle.std.proofs.Common.{◌≡◌, ℕ, zero, suc, ◌+◌, ◌<◌, ◌�
 use Rattle.std.specs.Prelude.{slice_get, slice_set}
 use Rattle.std.specs.List.{AllByRecursion}
 use Rattle.std.proofs.lemmas.Bool.{cases_Bool, cases_lt, eqb-false}
+use Rattle.std.proofs.lemmas.Option.{same_Some}
 use Rattle.theory.specs.Position.{aligned, span}
 use Rattle.theory.specs.Placed.{AllAmong, Among, Chain, Frame, IsReached, Placed, end_of, frame_length, place_all}
 use Rattle.theory.specs.Entry.{Entry, IsEntry, committed, entry_end}
@@ -10,26 +11,16 @@ use Rattle.theory.specs.Messages.{is_whole}
 use Rattle.theory.specs.Tiling.{Tiles}
 use Rattle.theory.proofs.Lists.{all_at, all_from, among_cases, among_left, among_right}
 use Rattle.theory.proofs.Frames.{AllBelow, AreCut, are_cut, committed_in_order, in_order_from, placed_below, tiles_le}
-use Rattle.theory.proofs.Messages.{chain_from}
-use Rattle.log_buffer.proofs.Spans.{some_is}
+use Rattle.theory.proofs.Messages.{chain_from, placed_before}
 
 -- ---- where frames are
-
--- a frame begins below the end of its entry
-begins_below : (p : ℕ) (cuts : List ℕ) (fs : List Frame) → AreCut cuts fs → AllByRecursion (λ cut. 0 < cut) cuts → AllByRecursion (λ s. s.at < p + span cuts) (place_all p fs)
-begins_below p cuts [] h k = tt
-begins_below p [] (f ∷ fs) h k = absurd h
-begins_below p (cut ∷ cuts) (f ∷ fs) h k =
-    let same : aligned (frame_length f) ≡ aligned cut = ap aligned h.0 in
-    let rest : AllByRecursion (λ s. s.at < p + aligned (frame_length f) + span cuts) (place_all (p + aligned (frame_length f)) fs) = begins_below (p + aligned (frame_length f)) cuts fs h.1 k.1 in
-    let ends : p + aligned (frame_length f) + span cuts ≡ p + (aligned cut + span cuts) = omega (arith, same) in
-    (omega (arith, k.0), subst (λ x. AllByRecursion (λ s. s.at < x) (place_all (p + aligned (frame_length f)) fs)) ends rest)
 
 abbrev pub frames_of : Entry → List Placed
 frames_of e = place_all e.start e.frames
 
+-- a frame begins below the end of its entry
 starts_in : (e : Entry) → IsEntry e → AllByRecursion (λ s. s.at < entry_end e) (frames_of e)
-starts_in e is = begins_below e.start e.cuts e.frames (are_cut e.padding e.cuts e.frames is.frames) is.cuts
+starts_in e is = placed_before e.start e.cuts e.frames (are_cut e.padding e.cuts e.frames is.frames) is.cuts
 
 ends_in : (e : Entry) → IsEntry e → AllBelow (entry_end e) (frames_of e)
 ends_in e is = placed_below e.start e.cuts e.frames (are_cut e.padding e.cuts e.frames is.frames)
@@ -52,7 +43,7 @@ pub among_set : (es : List Entry) (n : ℕ) (e d : Entry) → slice_get es n ≡
 among_set [] n e d g keeps s a = absurd a
 among_set (x ∷ es) zero e d g keeps s a =
     ⊎_elim
-    (λ (here : Among s (frames_of x)). among_left s (frames_of d) (committed es) (keeps s (subst (λ y. Among s (frames_of y)) (some_is x e g) here)))
+    (λ (here : Among s (frames_of x)). among_left s (frames_of d) (committed es) (keeps s (subst (λ y. Among s (frames_of y)) (same_Some x e g) here)))
     (λ (later : Among s (committed es)). among_right s (frames_of d) (committed es) later)
     (among_cases s (frames_of x) (committed es) a)
 among_set (x ∷ es) (suc n) e d g keeps s a =

@@ -1,20 +1,19 @@
 -- A claim's draft, the frame that it becomes, and what its entry becomes then.
-use Rattle.std.proofs.Common.{◌≡◌, ℕ, zero, suc, ◌+◌, ◌-◌, ◌*◌, ◌<◌, ◌≤◌, Bool, true, false, List, [], ◌∷◌, ◌++◌, length, take, drop, refl, sym, ap, ◌∙◌, subst, length-append, length-drop, length-take, arith}
+use Rattle.std.proofs.Common.{◌≡◌, ℕ, zero, suc, ◌+◌, ◌-◌, ◌<◌, ◌≤◌, Bool, true, false, List, [], ◌∷◌, ◌++◌, length, take, drop, refl, sym, ap, ◌∙◌, subst, length-append, length-drop, length-take, arith}
 use Rattle.std.specs.Prelude.{nat_eq, slice_index, slice_index_or}
-use Rattle.std.specs.Int.{w64, to_le_bytes}
 use Rattle.std.specs.List.{AllByRecursion}
 use Rattle.std.proofs.lemmas.Bool.{ne_eqb}
-use Rattle.std.proofs.lemmas.List.{length-replicate, length-take-le}
+use Rattle.std.proofs.lemmas.List.{length-replicate, nil_from_length}
 use Rattle.std.proofs.lemmas.Option.{get_or_from_slice_get}
-use Rattle.block.specs.Bytes.{with_word}
 use Rattle.theory.specs.Position.{aligned, span}
 use Rattle.theory.specs.Entry.{ArePadding, ArePieces, Entry, HaveFrames, IsEntry, IsPiece, flags_of}
 use Rattle.theory.specs.Placed.{Among, Data, Frame, Pad, place_all}
-use Rattle.theory.specs.Wire.{DATA, Header, front, header_bytes, spelling, zeros_after}
+use Rattle.theory.specs.Wire.{DATA, spelling}
 use Rattle.theory.specs.Bytes.{Identity, header_at}
 use Rattle.theory.proofs.Cuts.{short_cuts}
 use Rattle.theory.proofs.Frames.{placed_front}
 use Rattle.theory.proofs.Lists.{all_get}
+use Rattle.theory.proofs.Lengths.{data_size}
 use Rattle.raw_tails.specs.Tails.{Tails}
 use Rattle.term_buffer.specs.Kept.{blank_for, cuts_for, cuts_in, entry_with, frame_of, next_length, next_start, no_entry, padded, rest_of, with_next}
 use Rattle.term_buffer.specs.declared.claimed.Claimed.{Claimed}
@@ -22,20 +21,6 @@ use Rattle.log_buffer.specs.Log.{IsDrafted, IsOpen, Log, MayAbort, draft_of, dra
 use Rattle.log_buffer.specs.States.{IsState, IsUnset}
 use Rattle.log_buffer.proofs.Keeps.{Becomes}
 use Rattle.log_buffer.proofs.Spans.{unset_at}
-
-front_size : (xs : List ℕ) (i w : ℕ) → 8 * i + 8 ≤ length xs → length (take (8 * i) xs ++ to_le_bytes w64 w) ≡ 8 * i + 8
-front_size xs i w size = length-append (take (8 * i) xs) (to_le_bytes w64 w) ∙ ap (λ n. n + 8) (length-take-le (8 * i) xs (omega arith))
-
-pub word_size : (xs : List ℕ) (i w : ℕ) → 8 * i + 8 ≤ length xs → length (with_word xs i w) ≡ length xs
-word_size xs i w size = omega (arith, length-append (take (8 * i) xs ++ to_le_bytes w64 w) (drop (8 * i + 8) xs), front_size xs i w size, length-drop (8 * i + 8) xs)
-
-payload_length : (h : Header) (n flags : ℕ) (payload : List ℕ) → length ((front n flags 1 ++ header_bytes h) ++ payload) ≡ 32 + length payload
-payload_length h n flags payload = omega (arith, length-append (front n flags 1 ++ header_bytes h) payload)
-
-data_size : (h : Header) (flags : ℕ) (payload : List ℕ) → length (spelling (DATA h flags payload)) ≡ aligned (32 + length payload)
-data_size h flags payload =
-    let all : length (spelling (DATA h flags payload)) ≡ length ((front (32 + length payload) flags 1 ++ header_bytes h) ++ payload) + length (zeros_after (32 + length payload)) = length-append ((front (32 + length payload) flags 1 ++ header_bytes h) ++ payload) (zeros_after (32 + length payload)) in
-    omega (arith, all, payload_length h (32 + length payload) flags payload, length-replicate {A = ℕ} (aligned (32 + length payload) - (32 + length payload)) 0)
 
 payload_size : (i : Identity) (start flags cut : ℕ) (draft : List ℕ) → 32 ≤ cut → length draft ≡ aligned cut - 8 → draft ≡ rest_of i start (Data flags (take (cut - 32) (drop 24 draft))) → 32 + length (take (cut - 32) (drop 24 draft)) ≡ cut
 payload_size i start flags cut draft long size written =
@@ -147,8 +132,4 @@ becomes_padding l c all may = record {
     is = all_get IsEntry l.entries (c.number - l.gone) (entry_with l.identity.geometry c may.unset.frames) may.unset.entry all
 
     none : may.unset.frames ≡ []
-    none = empty may.unset.frames (may.unset.count ∙ may.first)
-      where
-        empty : (fs : List Frame) → length fs ≡ 0 → fs ≡ []
-        empty [] e = refl
-        empty (f ∷ fs) e = absurd (omega arith)
+    none = nil_from_length may.unset.frames (may.unset.count ∙ may.first)

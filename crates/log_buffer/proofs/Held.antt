@@ -3,15 +3,17 @@ use Rattle.std.proofs.Common.{◌≡◌, ℕ, zero, suc, ◌+◌, ◌-◌, ◌<�
 use Rattle.std.specs.Prelude.{slice_get, slice_index_or, slice_set}
 use Rattle.std.specs.List.{AllByRecursion}
 use Rattle.std.proofs.lemmas.Bool.{cases_lt, eqb-true}
-use Rattle.std.proofs.lemmas.List.{get_or_append_left}
+use Rattle.std.proofs.lemmas.List.{get_or_append_left, get_or-drop, get_or-set_other}
+use Rattle.std.proofs.lemmas.Option.{same_Some, slice_get_within}
 use Rattle.std.proofs.Math.Seq.{get_or-append_seam}
 use Rattle.theory.specs.Position.{max_position}
 use Rattle.theory.specs.Entry.{Entry}
 use Rattle.theory.specs.Messages.{is_whole}
+use Rattle.theory.proofs.Tables.{got_other}
 use Rattle.term_buffer.specs.Kept.{blank_for, cuts_for, cuts_in, entry_with}
 use Rattle.term_buffer.specs.declared.claimed.Claimed.{Claimed}
 use Rattle.log_buffer.specs.Log.{Cleans, IsHeld, IsOpen, Log, draft_of, with_claim}
-use Rattle.log_buffer.proofs.Spans.{got_behind, got_more, got_other, got_within, index_or_drop, index_or_other, some_is}
+use Rattle.log_buffer.proofs.Spans.{got_behind, got_more}
 
 -- a log with the claim's entry and draft at its place
 pub held_at : (l m : Log) (c : Claimed) → m.identity ≡ l.identity → (h : IsHeld l c) → m.gone ≤ c.number → slice_get m.entries (c.number - m.gone) ≡ Some (entry_with l.identity.geometry c h.unset.frames) → slice_index_or m.drafts (c.number - m.gone) [] ≡ slice_index_or l.drafts (c.number - l.gone) [] → IsHeld m c
@@ -36,7 +38,7 @@ held_same l m c i g e d h = held_at l m c i h (rw g h.unset.kept) (rw (g, e) h.u
 -- a log with one more entry
 pub held_more : (l m : Log) (c : Claimed) (d : Entry) (draft : List ℕ) → m.identity ≡ l.identity → m.gone ≡ l.gone → m.entries ≡ l.entries ++ d ∷ [] → m.drafts ≡ l.drafts ++ draft ∷ [] → length l.drafts ≡ length l.entries → IsHeld l c → IsHeld m c
 held_more l m c d draft i g e f all h =
-    let within : c.number - l.gone < length l.entries = got_within l.entries (c.number - l.gone) _ h.unset.entry in
+    let within : c.number - l.gone < length l.entries = slice_get_within l.entries (c.number - l.gone) _ h.unset.entry in
     held_at l m c i h (rw g h.unset.kept)
     (rw (g, e) (got_more l.entries (d ∷ []) (c.number - l.gone) _ h.unset.entry))
     (rw (g, f) (get_or_append_left l.drafts (draft ∷ []) [] (c.number - l.gone) (omega arith)))
@@ -60,24 +62,24 @@ held_new l c d by size e f all low open_now = record {
 -- a log of which another publisher's entry was changed
 pub held_other : (l m : Log) (c : Claimed) (place : ℕ) (d e : Entry) (draft : List ℕ) → m.identity ≡ l.identity → m.gone ≡ l.gone → m.entries ≡ slice_set l.entries place d → m.drafts ≡ slice_set l.drafts place draft → slice_get l.entries place ≡ Some e → (c.owner ≡ e.owner → ⊥) → IsHeld l c → IsHeld m c
 held_other l m c place d e draft i g x y got other h =
-    let apart : c.number - l.gone ≡ place → ⊥ = λ same. other (ap (λ (z : Entry). z.owner) (some_is _ e (sym h.unset.entry ∙ ap (slice_get l.entries) same ∙ got))) in
+    let apart : c.number - l.gone ≡ place → ⊥ = λ same. other (ap (λ (z : Entry). z.owner) (same_Some _ e (sym h.unset.entry ∙ ap (slice_get l.entries) same ∙ got))) in
     held_at l m c i h (rw g h.unset.kept)
     (rw (g, x) (got_other l.entries (c.number - l.gone) place _ d apart h.unset.entry))
-    (rw (g, y) (index_or_other l.drafts (c.number - l.gone) place draft [] apart))
+    (rw (g, y) (get_or-set_other l.drafts place (c.number - l.gone) draft [] apart))
 
 -- a log of which another publisher's draft was changed
 pub held_draft : (l m : Log) (c : Claimed) (place : ℕ) (e : Entry) (draft : List ℕ) → m.identity ≡ l.identity → m.gone ≡ l.gone → m.entries ≡ l.entries → m.drafts ≡ slice_set l.drafts place draft → slice_get l.entries place ≡ Some e → (c.owner ≡ e.owner → ⊥) → IsHeld l c → IsHeld m c
 held_draft l m c place e draft i g x y got other h =
-    let apart : c.number - l.gone ≡ place → ⊥ = λ same. other (ap (λ (z : Entry). z.owner) (some_is _ e (sym h.unset.entry ∙ ap (slice_get l.entries) same ∙ got))) in
+    let apart : c.number - l.gone ≡ place → ⊥ = λ same. other (ap (λ (z : Entry). z.owner) (same_Some _ e (sym h.unset.entry ∙ ap (slice_get l.entries) same ∙ got))) in
     held_at l m c i h (rw g h.unset.kept)
     (rw (g, x) h.unset.entry)
-    (rw (g, y) (index_or_other l.drafts (c.number - l.gone) place draft [] apart))
+    (rw (g, y) (get_or-set_other l.drafts place (c.number - l.gone) draft [] apart))
 
 -- ---- cleaning
 
 of_front : {X : Type 0} (P : X → Type 0) (xs ys : List X) (i : ℕ) (x : X) → AllByRecursion P xs → slice_get (xs ++ ys) i ≡ Some x → i < length xs → P x
 of_front P [] ys i x all h low = absurd (omega arith)
-of_front P (z ∷ xs) ys zero x all h low = subst P (some_is z x h) all.0
+of_front P (z ∷ xs) ys zero x all h low = subst P (same_Some z x h) all.0
 of_front P (z ∷ xs) ys (suc i) x all h low = of_front P xs ys i x all.1 h (omega arith)
 
 -- a log of which entries that are committed were forgotten
@@ -87,7 +89,7 @@ held_clean l m to c k h =
     (held_at l (record l { cleaned = to; gone = l.gone + length k.past; first = m.first; entries = m.entries; drafts = drop (length k.past) l.drafts }) c refl h
     (omega (arith, behind, h.unset.kept))
     (got_behind k.past m.entries (c.number - l.gone) (c.number - (l.gone + length k.past)) _ place got)
-    (index_or_drop (length k.past) (c.number - (l.gone + length k.past)) (c.number - l.gone) l.drafts [] place))
+    (get_or-drop (length k.past) l.drafts (c.number - (l.gone + length k.past)) [] ∙ ap (λ n. slice_index_or l.drafts n []) (sym place)))
   where
     got : slice_get (k.past ++ m.entries) (c.number - l.gone) ≡ Some (entry_with l.identity.geometry c h.unset.frames)
     got = subst (λ es. slice_get es (c.number - l.gone) ≡ Some (entry_with l.identity.geometry c h.unset.frames)) k.parts h.unset.entry

@@ -5,16 +5,19 @@ use Rattle.std.specs.List.{AllByRecursion}
 use Rattle.std.proofs.Math.Nat.{mul-le-mul_right}
 use Rattle.std.proofs.lemmas.Nat.{same_from_place, div-add-mod'}
 use Rattle.std.proofs.lemmas.Bool.{cases_eq, cases_lt}
+use Rattle.std.proofs.lemmas.List.{get_or-set_other, get_or-set_same, length-set}
+use Rattle.std.proofs.lemmas.Option.{same_Some}
 use Rattle.theory.specs.Position.{Geometry, greatest_claim, max_position, span}
 use Rattle.theory.specs.Placed.{Among, IsReached, Placed}
 use Rattle.theory.specs.Entry.{Entry, HaveFrames, IsEntry, committed, entry_end, length_of}
 use Rattle.theory.specs.Tiling.{InOneTerm, Tiles}
 use Rattle.theory.proofs.Claims.{claim_bounded}
 use Rattle.theory.proofs.Follow.{passed_more}
-use Rattle.theory.proofs.Lists.{all_get, all_set, all_weaker}
-use Rattle.theory.proofs.Tiling.{Tiles-push}
+use Rattle.theory.proofs.Lists.{all_get, all_set, all_weaker, all_behind, all_front, all_pushed}
+use Rattle.theory.proofs.Tiling.{Tiles-push, tiles_split}
 use Rattle.theory.proofs.Frames.{Kept-push, tiles_le}
 use Rattle.theory.proofs.LogSteps.{span_unit}
+use Rattle.theory.proofs.Tables.{all_index, got_set, got_unset, sum_set}
 use Rattle.raw_tails.specs.Tails.{Tails, behind}
 use Rattle.raw_tails.specs.Tails.{added as tails_added, turned as tails_turned}
 use Rattle.term_buffer.specs.Kept.{blank_for, claim_of, cuts_for}
@@ -24,7 +27,7 @@ use Rattle.log_buffer.specs.States.{AreUnset, IsState, IsUnset, IsUsed, armed_on
 use Rattle.log_buffer.proofs.Armed.{count_disarmed, count_most, on_disarmed, on_left, on_most, on_other, room_armed, room_fewer, room_left, room_taken, small_claim}
 use Rattle.log_buffer.proofs.Chains.{among_behind, among_set, frames_of, reached_behind}
 use Rattle.log_buffer.proofs.Readers.{Moved, at_kept, moved}
-use Rattle.log_buffer.proofs.Spans.{all_behind, all_front, all_index, all_pushed, got_set, got_unset, index_other, index_set, length-set, some_is, sum_set, tiles_near, tiles_set, tiles_split, unset_at, unset_behind, unset_both, unset_draft, unset_pushed}
+use Rattle.log_buffer.proofs.Spans.{tiles_near, tiles_set, unset_at, unset_behind, unset_both, unset_draft, unset_pushed}
 
 -- ---- loads
 
@@ -88,7 +91,7 @@ kept_armed l t n by p k here low within = record {
     is_used q e = (omega arith, omega (arith, k.log.opened, k.log.active))
 
     same : (j q : ℕ) → j ≡ by → slice_get (slice_set l.armed by (Some p)) j ≡ Some (Some q) → (q < 3) × IsUsed l q
-    same j q e got = is_used q (some_is q p (got_set l.armed by (Some q) (Some p) (ap (slice_get (slice_set l.armed by (Some p))) (sym e) ∙ got)) ∙ here)
+    same j q e got = is_used q (same_Some q p (got_set l.armed by (Some q) (Some p) (ap (slice_get (slice_set l.armed by (Some p))) (sym e) ∙ got)) ∙ here)
 
 -- ---- additions
 
@@ -170,9 +173,9 @@ more_finished l p covered three n full =
     (λ (e : n % 3 ≡ p).
     let within : p < length l.offsets = omega (arith, three) in
     let same : slice_index l.offsets (n % 3) ≡ slice_index l.offsets p = ap (slice_index l.offsets) e in
-    let here : slice_index (slice_set l.offsets p (slice_index l.offsets p + covered)) (n % 3) ≡ slice_index l.offsets p + covered = ap (slice_index (slice_set l.offsets p (slice_index l.offsets p + covered))) e ∙ index_set l.offsets p (slice_index l.offsets p + covered) within in
+    let here : slice_index (slice_set l.offsets p (slice_index l.offsets p + covered)) (n % 3) ≡ slice_index l.offsets p + covered = ap (slice_index (slice_set l.offsets p (slice_index l.offsets p + covered))) e ∙ get_or-set_same l.offsets p (slice_index l.offsets p + covered) 0 within in
     omega arith)
-    (λ (ne : n % 3 ≡ p → ⊥). subst (λ x. term_of l ≤ x) (sym (index_other l.offsets (n % 3) p (slice_index l.offsets p + covered) ne)) full)
+    (λ (ne : n % 3 ≡ p → ⊥). subst (λ x. term_of l ≤ x) (sym (get_or-set_other l.offsets p (n % 3) (slice_index l.offsets p + covered) 0 ne)) full)
     (cases_eq (n % 3) p)
 
 more_overshoot : (l : Log) (t : Tails) (n by p covered : ℕ) → IsState l t n → slice_get l.armed by ≡ Some (Some p) → covered ≤ greatest_claim l.identity.geometry → (q : ℕ) → q < 3 → slice_index (slice_set l.offsets p (slice_index l.offsets p + covered)) q + greatest_claim l.identity.geometry * armed_on q (slice_set l.armed by None) ≤ term_of l + 8 * greatest_claim l.identity.geometry
@@ -180,14 +183,14 @@ more_overshoot l t n by p covered k got short q small =
     ⊎_elim
     (λ (e : q ≡ p). subst (λ x. slice_index (slice_set l.offsets p (slice_index l.offsets p + covered)) x + greatest_claim l.identity.geometry * armed_on x (slice_set l.armed by None) ≤ term_of l + 8 * greatest_claim l.identity.geometry) (sym e) here)
     (λ (ne : q ≡ p → ⊥).
-    subst (λ x. x + greatest_claim l.identity.geometry * armed_on q (slice_set l.armed by None) ≤ term_of l + 8 * greatest_claim l.identity.geometry) (sym (index_other l.offsets q p (slice_index l.offsets p + covered) ne))
+    subst (λ x. x + greatest_claim l.identity.geometry * armed_on q (slice_set l.armed by None) ≤ term_of l + 8 * greatest_claim l.identity.geometry) (sym (get_or-set_other l.offsets p q (slice_index l.offsets p + covered) 0 ne))
     (room_fewer (greatest_claim l.identity.geometry) (slice_index l.offsets q) (term_of l) (armed_on q (slice_set l.armed by None)) (armed_on q l.armed) (on_left q l.armed by) (k.overshoot q small)))
     (cases_eq q p)
   where
     here : slice_index (slice_set l.offsets p (slice_index l.offsets p + covered)) p + greatest_claim l.identity.geometry * armed_on p (slice_set l.armed by None) ≤ term_of l + 8 * greatest_claim l.identity.geometry
     here =
         let within : p < length l.offsets = omega (arith, (k.used by p got).0, k.log.three) in
-        subst (λ x. x + greatest_claim l.identity.geometry * armed_on p (slice_set l.armed by None) ≤ term_of l + 8 * greatest_claim l.identity.geometry) (sym (index_set l.offsets p (slice_index l.offsets p + covered) within))
+        subst (λ x. x + greatest_claim l.identity.geometry * armed_on p (slice_set l.armed by None) ≤ term_of l + 8 * greatest_claim l.identity.geometry) (sym (get_or-set_same l.offsets p (slice_index l.offsets p + covered) 0 within))
         (room_taken (greatest_claim l.identity.geometry) (slice_index l.offsets p) (term_of l) (armed_on p (slice_set l.armed by None)) (armed_on p l.armed) covered (on_disarmed l.armed by p got) short (k.overshoot p (k.used by p got).0))
 
 less_used : (l : Log) (t : Tails) (n by : ℕ) → IsState l t n → (j q : ℕ) → slice_get (slice_set l.armed by None) j ≡ Some (Some q) → (q < 3) × IsUsed l q
@@ -254,7 +257,7 @@ kept_passed l t n by p covered k got short full = record {
         let old : min (slice_index l.offsets (l.newest % 3)) (term_of l) ≡ term_of l = omega arith in
         let new : min (slice_index (slice_set l.offsets p (slice_index l.offsets p + covered)) (l.newest % 3)) (term_of l) ≡ term_of l = omega arith in
         k.log.shown ∙ ap (λ x. l.newest * term_of l + x) (old ∙ sym new))
-        (λ (ne : l.newest % 3 ≡ p → ⊥). k.log.shown ∙ ap (λ x. l.newest * term_of l + min x (term_of l)) (sym (index_other l.offsets (l.newest % 3) p (slice_index l.offsets p + covered) ne)))
+        (λ (ne : l.newest % 3 ≡ p → ⊥). k.log.shown ∙ ap (λ x. l.newest * term_of l + min x (term_of l)) (sym (get_or-set_other l.offsets p (l.newest % 3) (slice_index l.offsets p + covered) 0 ne)))
         (cases_eq (l.newest % 3) p)
 
 -- what an addition below the term's end takes
@@ -338,7 +341,7 @@ kept_taken l t n by p covered padding size k got few short x = record {
     shown : l.tail + span entry.cuts ≡ l.newest * term_of l + min (slice_index (slice_set l.offsets p (slice_index l.offsets p + covered)) (l.newest % 3)) (term_of l)
     shown =
         let within : p < length l.offsets = omega (arith, (k.used by p got).0, k.log.three) in
-        let here : slice_index (slice_set l.offsets p (slice_index l.offsets p + covered)) (l.newest % 3) ≡ slice_index l.offsets p + covered = ap (slice_index (slice_set l.offsets p (slice_index l.offsets p + covered))) (sym newest) ∙ index_set l.offsets p (slice_index l.offsets p + covered) within in
+        let here : slice_index (slice_set l.offsets p (slice_index l.offsets p + covered)) (l.newest % 3) ≡ slice_index l.offsets p + covered = ap (slice_index (slice_set l.offsets p (slice_index l.offsets p + covered))) (sym newest) ∙ get_or-set_same l.offsets p (slice_index l.offsets p + covered) 0 within in
         let least : min (slice_index (slice_set l.offsets p (slice_index l.offsets p + covered)) (l.newest % 3)) (term_of l) ≡ slice_index l.offsets p + span entry.cuts = ap (λ y. min y (term_of l)) here ∙ sym x.taken in
         omega (arith, at.shown, least)
 
@@ -442,13 +445,13 @@ kept_turned l t n k last full = record {
     within = omega (arith, k.log.three)
 
     here : slice_index (slice_set l.offsets ((l.newest + 1) % 3) 0) ((l.newest + 1) % 3) ≡ 0
-    here = index_set l.offsets ((l.newest + 1) % 3) 0 within
+    here = get_or-set_same l.offsets ((l.newest + 1) % 3) 0 0 within
 
     shown : l.tail ≡ (l.newest + 1) * term_of l + min (slice_index (slice_set l.offsets ((l.newest + 1) % 3) 0) ((l.newest + 1) % 3)) (term_of l)
     shown = omega (arith, here, k.log.shown)
 
     old : (m : ℕ) → (m % 3 ≡ (l.newest + 1) % 3 → ⊥) → term_of l ≤ offset_of l m → term_of l ≤ slice_index (slice_set l.offsets ((l.newest + 1) % 3) 0) (m % 3)
-    old m ne h = subst (λ y. term_of l ≤ y) (sym (index_other l.offsets (m % 3) ((l.newest + 1) % 3) 0 ne)) h
+    old m ne h = subst (λ y. term_of l ≤ y) (sym (get_or-set_other l.offsets ((l.newest + 1) % 3) (m % 3) 0 0 ne)) h
 
     finished : (m : ℕ) → l.start / term_of l ≤ m → m < l.newest + 1 → l.newest + 1 ≤ m + 2 → term_of l ≤ slice_index (slice_set l.offsets ((l.newest + 1) % 3) 0) (m % 3)
     finished m low less near =
@@ -463,7 +466,7 @@ kept_turned l t n k last full = record {
         (λ (e : q ≡ (l.newest + 1) % 3).
         let none : slice_index (slice_set l.offsets ((l.newest + 1) % 3) 0) q ≡ 0 = ap (slice_index (slice_set l.offsets ((l.newest + 1) % 3) 0)) e ∙ here in
         room_armed (greatest_claim l.identity.geometry) (slice_index (slice_set l.offsets ((l.newest + 1) % 3) 0) q) (term_of l) (armed_on q l.armed) (omega (arith, on_most q l.armed, k.log.all_armed)) (omega arith))
-        (λ (ne : q ≡ (l.newest + 1) % 3 → ⊥). subst (λ y. y + greatest_claim l.identity.geometry * armed_on q l.armed ≤ term_of l + 8 * greatest_claim l.identity.geometry) (sym (index_other l.offsets q ((l.newest + 1) % 3) 0 ne)) (k.overshoot q small))
+        (λ (ne : q ≡ (l.newest + 1) % 3 → ⊥). subst (λ y. y + greatest_claim l.identity.geometry * armed_on q l.armed ≤ term_of l + 8 * greatest_claim l.identity.geometry) (sym (get_or-set_other l.offsets ((l.newest + 1) % 3) q 0 0 ne)) (k.overshoot q small))
         (cases_eq q ((l.newest + 1) % 3))
 
 -- ---- stores

@@ -1,5 +1,5 @@
 -- The consumers' positions, and the least of them.
-use Rattle.std.proofs.Common.{◌≡◌, ℕ, zero, suc, ◌+◌, ◌*◌, ◌/◌, ◌%◌, ◌<◌, ◌≤◌, Bool, true, List, [], ◌∷◌, length, take, fold, Option, min, refl, ap, subst, arith}
+use Rattle.std.proofs.Common.{◌≡◌, ℕ, ◌+◌, ◌*◌, ◌/◌, ◌%◌, ◌<◌, ◌≤◌, Bool, true, List, ◌∷◌, length, Option, min, ap, subst, arith}
 use Rattle.std.specs.Prelude.{slice_index}
 use Rattle.std.specs.List.{AllByRecursion}
 use Rattle.std.proofs.Math.Nat.{mul-le-mul_right}
@@ -9,6 +9,8 @@ use Rattle.theory.specs.Entry.{Entry, IsEntry, committed, length_of}
 use Rattle.theory.specs.Messages.{is_whole}
 use Rattle.theory.specs.Tiling.{Tiles}
 use Rattle.theory.proofs.Claims.{claim_bounded}
+use Rattle.theory.proofs.Leasts.{fold_each, fold_keeps}
+use Rattle.theory.proofs.Tables.{all_index}
 use Rattle.raw_tails.specs.Tails.{Tails}
 use Rattle.log_buffer.specs.Limits.{least}
 use Rattle.term_buffer.specs.Kept as kept
@@ -16,13 +18,6 @@ use Rattle.term_buffer.specs.Kept.{Kept}
 use Rattle.log_buffer.specs.Log.{Cleans, IsLeast, IsLog, Log, clean_end, term_of}
 use Rattle.log_buffer.specs.States.{IsState, log_of}
 use Rattle.log_buffer.proofs.Chains.{first_whole}
-use Rattle.log_buffer.proofs.Spans.{all_index}
-
-pub index_taken : (xs : List ℕ) (n i : ℕ) → i < n → slice_index (take n xs) i ≡ slice_index xs i
-index_taken xs zero i h = absurd (omega arith)
-index_taken [] (suc n) i h = refl
-index_taken (x ∷ xs) (suc n) zero h = refl
-index_taken (x ∷ xs) (suc n) (suc i) h = index_taken xs n i (omega arith)
 
 -- ---- where positions are
 
@@ -40,32 +35,20 @@ consumer_small l i k h = let low : slice_index l.consumers i ≤ l.tail = all_in
 
 -- ---- the least
 
-fold_all : (P : ℕ → Type 0) → ((a b : ℕ) → P a → P b → P (min a b)) → (a : ℕ) (ps : List ℕ) → P a → AllByRecursion P ps → P (fold min a ps)
-fold_all P both a [] h all = h
-fold_all P both a (p ∷ ps) h all = fold_all P both (min a p) ps (both a p h all.0) all.1
-
-pub least_all : (P : ℕ → Type 0) → ((a b : ℕ) → P a → P b → P (min a b)) → (ps : List ℕ) → 0 < length ps → AllByRecursion P ps → P (least ps)
-least_all P both ps some all = fold_all P both (slice_index ps 0) ps (all_index P ps 0 some all) all
-
-fold_first : (a : ℕ) (ps : List ℕ) → fold min a ps ≤ a
-fold_first a [] = omega arith
-fold_first a (p ∷ ps) = omega (arith, fold_first (min a p) ps)
-
-fold_each : (a : ℕ) (ps : List ℕ) → AllByRecursion (λ p. fold min a ps ≤ p) ps
-fold_each a [] = tt
-fold_each a (p ∷ ps) = (omega (arith, fold_first (min a p) ps), fold_each (min a p) ps)
+pub least_all : (P : ℕ → Type 0) (ps : List ℕ) → 0 < length ps → AllByRecursion P ps → P (least ps)
+least_all P ps some all = fold_keeps P (slice_index ps 0) ps (all_index P ps 0 some all) all
 
 pub least_lowest : (ps : List ℕ) → IsLeast ps (least ps)
 least_lowest ps = fold_each (slice_index ps 0) ps
 
 pub least_unit : (l : Log) → IsLog l → 0 < length l.consumers → least l.consumers % 32 ≡ 0
-least_unit l k some = least_all (λ p. p % 32 ≡ 0) (λ a b x y. omega arith) l.consumers some k.consumer_units
+least_unit l k some = least_all (λ p. p % 32 ≡ 0) l.consumers some k.consumer_units
 
 pub least_behind : (l : Log) → IsLog l → 0 < length l.consumers → least l.consumers ≤ l.tail
-least_behind l k some = least_all (λ p. p ≤ l.tail) (λ a b x y. omega arith) l.consumers some k.consumers_behind
+least_behind l k some = least_all (λ p. p ≤ l.tail) l.consumers some k.consumers_behind
 
 pub least_readable : (l : Log) → IsLog l → 0 < length l.consumers → l.cleaned ≤ clean_end l (least l.consumers)
-least_readable l k some = least_all (λ p. l.cleaned ≤ clean_end l p) (λ a b x y. omega arith) l.consumers some k.readable
+least_readable l k some = least_all (λ p. l.cleaned ≤ clean_end l p) l.consumers some k.readable
 
 -- ---- what may be cleaned below them
 

@@ -4,7 +4,7 @@ use Rattle.std.specs.Prelude.{slice_get, slice_set, slice_index}
 use Rattle.std.proofs.Math.Nat.{mul-le-mul_right}
 use Rattle.std.proofs.lemmas.Nat.{div-add-mod'}
 use Rattle.std.proofs.lemmas.Bool.{cases_eq, cases_lt}
-use Rattle.std.proofs.lemmas.List.{get_or-replicate, length-replicate, take-replicate}
+use Rattle.std.proofs.lemmas.List.{get_or-replicate, length-replicate, take-replicate, get_or-set_other, get_or-set_same, length-set}
 use Rattle.std.proofs.lemmas.Option.{get_or_from_slice_get}
 use Rattle.theory.specs.Position.{IsGeometry, greatest_claim, max_position}
 use Rattle.theory.specs.Placed.{IsReached}
@@ -17,7 +17,6 @@ use Rattle.log_buffer.specs.Log.{Log, armed_count, fresh}
 use Rattle.log_buffer.specs.Reader.{AreReaders, IsAt, Reader}
 use Rattle.log_buffer.specs.States.{IsState, armed_on, log_of}
 use Rattle.log_buffer.proofs.Armed.{count_most, on_most, room_armed}
-use Rattle.log_buffer.proofs.Spans.{index_other, index_set, length-set}
 
 abbrev nobody : ℕ → List (Option ℕ)
 nobody n = replicate n None
@@ -96,7 +95,7 @@ opening i start count g is term_unit unit low some few = record {
 }
   where
     offset : slice_index (slice_set (0 ∷ 0 ∷ 0 ∷ []) (start / i.geometry.term_length % 3) (start % i.geometry.term_length)) (start / i.geometry.term_length % 3) ≡ start % i.geometry.term_length
-    offset = index_set (0 ∷ 0 ∷ 0 ∷ []) (start / i.geometry.term_length % 3) (start % i.geometry.term_length) (omega arith)
+    offset = get_or-set_same (0 ∷ 0 ∷ 0 ∷ []) (start / i.geometry.term_length % 3) (start % i.geometry.term_length) 0 (omega arith)
 
     rest : start % i.geometry.term_length < i.geometry.term_length
     rest = let long : 0 < i.geometry.term_length = omega (arith, g.term.least) in omega arith
@@ -111,7 +110,7 @@ opening i start count g is term_unit unit low some few = record {
         room_armed (greatest_claim i.geometry) (slice_index (slice_set (0 ∷ 0 ∷ 0 ∷ []) (start / i.geometry.term_length % 3) (start % i.geometry.term_length)) p) i.geometry.term_length (armed_on p (replicate 8 None)) (on_most p (replicate 8 None))
         (⊎_elim
         (λ (e : p ≡ start / i.geometry.term_length % 3). let here : slice_index (slice_set (0 ∷ 0 ∷ 0 ∷ []) (start / i.geometry.term_length % 3) (start % i.geometry.term_length)) p ≡ start % i.geometry.term_length = ap (slice_index (slice_set (0 ∷ 0 ∷ 0 ∷ []) (start / i.geometry.term_length % 3) (start % i.geometry.term_length))) e ∙ offset in omega (arith, here, rest))
-        (λ (ne : p ≡ start / i.geometry.term_length % 3 → ⊥). let none : slice_index (slice_set (0 ∷ 0 ∷ 0 ∷ []) (start / i.geometry.term_length % 3) (start % i.geometry.term_length)) p ≡ 0 = index_other (0 ∷ 0 ∷ 0 ∷ []) p (start / i.geometry.term_length % 3) (start % i.geometry.term_length) ne ∙ no_offset p in omega (arith, none))
+        (λ (ne : p ≡ start / i.geometry.term_length % 3 → ⊥). let none : slice_index (slice_set (0 ∷ 0 ∷ 0 ∷ []) (start / i.geometry.term_length % 3) (start % i.geometry.term_length)) p ≡ 0 = get_or-set_other (0 ∷ 0 ∷ 0 ∷ []) (start / i.geometry.term_length % 3) p (start % i.geometry.term_length) 0 ne ∙ no_offset p in omega (arith, none))
         (cases_eq p (start / i.geometry.term_length % 3)))
 
 -- the parts that show it

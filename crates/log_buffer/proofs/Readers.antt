@@ -1,14 +1,16 @@
 -- Which readers stand where they did.
 use Rattle.std.proofs.Common.{◌≡◌, ℕ, ◌%◌, ◌≤◌, List, [], ◌∷◌, take, refl, sym, ap, ◌∙◌, subst, arith}
+use Rattle.std.proofs.lemmas.List.{get_or-set_other, get_or-set_same, length-set}
 use Rattle.std.specs.Prelude.{slice_index, slice_set}
 use Rattle.theory.specs.Placed.{Among, IsReached, Placed, end_of}
 use Rattle.theory.specs.Entry.{committed}
 use Rattle.theory.proofs.Lists.{all_at}
 use Rattle.theory.proofs.Follow.{passed_along}
 use Rattle.theory.proofs.Frames.{committed_below}
+use Rattle.theory.proofs.Tables.{all_index}
 use Rattle.log_buffer.specs.Log.{IsLog, Log, term_of}
 use Rattle.log_buffer.specs.Reader.{HasRead, IsAt, Moves, Reader, before_move}
-use Rattle.log_buffer.proofs.Spans.{all_index, index_other, index_set, length-set, take_of_set}
+use Rattle.log_buffer.proofs.Spans.{take_of_set}
 
 -- a log with the same positions, in which the frames at a reader's are still committed
 pub at_kept : (l m : Log) (r : Reader) → m.consumers ≡ l.consumers → ((s : Placed) → s.at ≡ r.position → Among s (committed l.entries) → Among s (committed m.entries)) → IsAt l r → IsAt m r
@@ -28,14 +30,14 @@ at_same l m r c e h = at_kept l m r c (λ s _ a. rw e a) h
 pub at_next : (l : Log) (r : Reader) → IsAt l (before_move l r) → r.read_to ≡ r.position → IsAt (record l { consumers = slice_set l.consumers r.number r.position }) r
 at_next l r h settled = record {
   number = omega (arith, h.number, length-set l.consumers r.number r.position);
-  here = index_set l.consumers r.number r.position h.number;
+  here = get_or-set_same l.consumers r.number r.position 0 h.number;
   read = λ far. absurd (omega arith);
 }
 
 pub at_other : (l : Log) (n p : ℕ) (r : Reader) → (r.number ≡ n → ⊥) → IsAt l r → IsAt (record l { consumers = slice_set l.consumers n p }) r
 at_other l n p r ne h = record {
   number = omega (arith, h.number, length-set l.consumers n p);
-  here = index_other l.consumers r.number n p ne ∙ h.here;
+  here = get_or-set_other l.consumers n r.number p 0 ne ∙ h.here;
   read = λ far. let x : HasRead l r = h.read far in record { frame = x.frame; among = x.among; end = x.end; further = x.further };
 }
 

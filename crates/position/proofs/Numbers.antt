@@ -3,7 +3,7 @@ use Rattle.std.proofs.Common.{◌≡◌, ℕ, suc, ◌+◌, ◌-◌, ◌%◌, ap
 use Rattle.std.proofs.lemmas.Int.{to_z-of_z, fits_signed_mul, unsigned_abs-mul}
 use Rattle.std.proofs.lemmas.Bool.{cases_lt}
 use Rattle.std.proofs.Math.Pow.{pow_mono, pow-lt}
-use Rattle.std.proofs.Math.Nat.{two-pow-succ, mul-le-mul, mul-le-mul_right, mul-mod_left, mul-zero, zero-mod, div-lt_iff_lt-mul, mul_comm}
+use Rattle.std.proofs.Math.Nat.{two-pow-succ, mul-le-mul, mul-mod_left, mul-zero, zero-mod}
 use Rattle.std.proofs.lemmas.Nat.{pow-add, mul-mod, div-add-mod'}
 use Rattle.std.specs.Int.{w32, w64, IsPowerOfTwo}
 use Rattle.std.specs.Int.RustNames.{unsigned_abs}
@@ -66,14 +66,6 @@ whole_power n (i, p) h =
 -- the start of a term is a unit
 pub unit_start : (q n : ℕ) → n % 65536 ≡ 0 → (q * n) % 32 ≡ 0
 unit_start q n h = multiple q n 32 (omega arith)
-
--- the term of a position below the end of the last term ends in the stream
-pub term_ends : (p n : ℕ) → 0 < n → p < n * 2 ^ 31 → p / n * n + n ≤ n * 2 ^ 31
-term_ends p n positive below =
-    let fewer : p / n < 2 ^ 31 = (div-lt_iff_lt-mul positive).1 (omega (arith, mul_comm n (2 ^ 31))) in
-    let grown : suc (p / n) * n ≤ 2 ^ 31 * n = mul-le-mul_right n (omega arith) in
-    let split : suc (p / n) * n ≡ p / n * n + n = omega arith in
-    omega (arith, mul_comm n (2 ^ 31))
 
 -- a unit stands at a unit of its term
 pub unit_offset : (p n : ℕ) → n % 65536 ≡ 0 → p % 32 ≡ 0 → (p % n) % 32 ≡ 0

@@ -1,27 +1,15 @@
 -- What is done to one entry leaves the claims of the others as they are.
-use Rattle.std.specs.Prelude.{◌≡◌, ℕ, zero, suc, ◌+◌, ◌-◌, ◌<◌, ◌≤◌, List, [], ◌∷◌, length, drop, slice_get, slice_index_or, slice_set, Some}
-use Rattle.std.proofs.Common.{arith, refl, sym, ap, ◌∙◌, subst}
+use Rattle.std.specs.Prelude.{◌≡◌, ℕ, ◌+◌, ◌-◌, ◌<◌, ◌≤◌, List, [], length, drop, slice_get, slice_index_or, slice_set, Some}
+use Rattle.std.proofs.Common.{arith, sym, ap, ◌∙◌, subst}
 use Rattle.std.proofs.lemmas.Option.{slice_get_within}
+use Rattle.std.proofs.lemmas.List.{get_or-set_other}
 use Rattle.theory.specs.Placed.{Frame}
 use Rattle.theory.specs.Entry.{Entry}
+use Rattle.theory.proofs.Tables.{get_other}
 use Rattle.term_buffer.specs.Kept.{blank_for, cuts_in, entry_with, no_entry, with_next}
 use Rattle.term_buffer.specs.declared.claimed.Claimed.{Claimed}
 use Rattle.log_buffer.specs.Log.{IsHeld, IsOpen, Log, with_abort, with_commit}
 use Rattle.publication.specs.Writes.{place_of, with_frames}
-
-get_other : {X : Type 0} (xs : List X) (n k : ℕ) (x : X) → (k ≡ n → ⊥) → slice_get (slice_set xs n x) k ≡ slice_get xs k
-get_other [] n k x apart = refl
-get_other (y ∷ ys) zero zero x apart = absurd (apart refl)
-get_other (y ∷ ys) zero (suc k) x apart = refl
-get_other (y ∷ ys) (suc n) zero x apart = refl
-get_other (y ∷ ys) (suc n) (suc k) x apart = get_other ys n k x (λ e. apart (ap (λ (m : ℕ). suc m) e))
-
-index_other : {X : Type 0} (xs : List X) (n k : ℕ) (x d : X) → (k ≡ n → ⊥) → slice_index_or (slice_set xs n x) k d ≡ slice_index_or xs k d
-index_other [] n k x d apart = refl
-index_other (y ∷ ys) zero zero x d apart = absurd (apart refl)
-index_other (y ∷ ys) zero (suc k) x d apart = refl
-index_other (y ∷ ys) (suc n) zero x d apart = refl
-index_other (y ∷ ys) (suc n) (suc k) x d apart = index_other ys n k x d (λ e. apart (ap (λ (m : ℕ). suc m) e))
 
 -- another entry is replaced
 held_kept : (l m : Log) (c : Claimed) (n : ℕ) (e : Entry) (draft : List ℕ) → (place_of l c ≡ n → ⊥) → m ≡ record l { entries = slice_set l.entries n e; drafts = slice_set l.drafts n draft } → IsHeld l c → IsHeld m c
@@ -37,7 +25,7 @@ held_kept l m c n e draft apart is h =
       message = h.message;
       first = h.first;
       in_stream = h.in_stream;
-      blank = index_other l.drafts n (place_of l c) draft [] apart ∙ h.blank;
+      blank = get_or-set_other l.drafts n (place_of l c) draft [] apart ∙ h.blank;
     })
 
 places_apart : (l : Log) (c d : Claimed) → l.gone ≤ c.number → l.gone ≤ d.number → (c.number ≡ d.number → ⊥) → place_of l c ≡ place_of l d → ⊥

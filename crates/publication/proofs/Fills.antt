@@ -5,6 +5,7 @@ use Rattle.std.proofs.lemmas.Bool.{cases_lt}
 use Rattle.std.proofs.lemmas.List.{take-append-drop, take-append-le, take-take, drop-take, drop-drop, drop-append-le, take_all, append-nil, length-take-le, length-replicate, take-replicate, drop-replicate, set-set, set-get_or, get_or_past}
 use Rattle.std.proofs.Math.Seq.{take-append-add, drop-append-add}
 use Rattle.block.specs.Bytes.{with_word}
+use Rattle.block.proofs.Words.{word_behind}
 use Rattle.theory.specs.Position.{aligned, id_of, place_of as place_at}
 use Rattle.theory.specs.Wire.{le32, zeros_after}
 use Rattle.theory.specs.Bytes.{Identity}
@@ -13,7 +14,6 @@ use Rattle.term_buffer.specs.Kept.{header_rest, rest_of}
 use Rattle.term_buffer.specs.declared.claimed.Claimed.{Claimed}
 use Rattle.log_buffer.specs.Log.{IsOpen, Log, draft_of, with_draft}
 use Rattle.publication.specs.Writes.{place_of}
-use Rattle.publication.proofs.StoredWords.{word_behind}
 
 -- the first three words of a run
 pub three_words : (d : List ℕ) (a b z : ℕ) → with_word (with_word (with_word d 0 a) 1 b) 2 z ≡ (to_le_bytes w64 a ++ (to_le_bytes w64 b ++ to_le_bytes w64 z)) ++ drop 24 d
@@ -144,12 +144,15 @@ draft_step l m n c d e k w h was step is =
     ∙ ap (with_draft l c) is
 
 -- a draft that isn't empty is one of the drafts
-pub draft_within : (l : Log) (c : Claimed) (i : Identity) (start : ℕ) (rest : List ℕ) → draft_of l c ≡ header_rest i start ++ rest → place_of l c < length l.drafts
-draft_within l c i start rest e =
+pub draft_some : (l : Log) (c : Claimed) → 0 < length (draft_of l c) → place_of l c < length l.drafts
+draft_some l c some =
     ⊎_elim
     (λ (low : place_of l c < length l.drafts). low)
-    (λ (past : length l.drafts ≤ place_of l c). absurd (omega (arith, ap (λ (x : List ℕ). length x) (sym (get_or_past l.drafts (place_of l c) [] past) ∙ e), length-append (header_rest i start) rest, header_size i start)))
+    (λ (past : length l.drafts ≤ place_of l c). absurd (omega (arith, some, ap (λ (x : List ℕ). length x) (get_or_past l.drafts (place_of l c) [] past))))
     (cases_lt (place_of l c) (length l.drafts))
+
+pub draft_within : (l : Log) (c : Claimed) (i : Identity) (start : ℕ) (rest : List ℕ) → draft_of l c ≡ header_rest i start ++ rest → place_of l c < length l.drafts
+draft_within l c i start rest e = draft_some l c (omega (arith, ap (λ (x : List ℕ). length x) e, length-append (header_rest i start) rest, header_size i start))
 
 -- a turn of the payload's loop
 pub payload_step : (l m n : Log) (c : Claimed) (i : Identity) (start : ℕ) (payload part : List ℕ) (index w : ℕ) → place_of l c < length l.drafts → index < (length payload + 7) / 8 → m ≡ with_draft l c (filled (header_rest i start) (payload ++ zeros_after (32 + length payload)) (aligned (32 + length payload) - 32) index) → n ≡ with_draft m c (with_word (draft_of m c) (4 + index - 1) w) → to_le_bytes w64 w ≡ part ++ replicate (8 - length part) 0 → part ≡ take (min (length payload) (8 * index + 8) - 8 * index) (drop (8 * index) payload) → n ≡ with_draft l c (filled (header_rest i start) (payload ++ zeros_after (32 + length payload)) (aligned (32 + length payload) - 32) (index + 1))

@@ -1,7 +1,6 @@
 -- A claim whose draft is written is committed as its frame.
-use Rattle.std.proofs.Common.{◌≡◌, ℕ, ◌+◌, ◌-◌, ◌<◌, ◌≤◌, ⊎_elim, Bool, true, false, List, [], ◌∷◌, ◌++◌, length, take, drop, replicate, get_or, refl, sym, ap, ◌∙◌, subst, arith}
-use Rattle.std.proofs.lemmas.Bool.{cases_lt}
-use Rattle.std.proofs.lemmas.List.{drop-replicate, get_or_past, length-replicate, set-set, take_at}
+use Rattle.std.proofs.Common.{◌≡◌, ℕ, ◌+◌, ◌-◌, ◌<◌, ◌≤◌, Bool, true, false, List, [], ◌∷◌, ◌++◌, length, take, drop, replicate, get_or, refl, sym, ap, ◌∙◌, subst, arith}
+use Rattle.std.proofs.lemmas.List.{drop-replicate, length-replicate, set-set, take_at}
 use Rattle.theory.specs.Position.{Geometry, aligned, max_payload, span}
 use Rattle.theory.specs.Placed.{Data, Frame, Pad}
 use Rattle.theory.specs.Wire.{zeros_after}
@@ -11,7 +10,7 @@ use Rattle.term_buffer.specs.Kept.{blank_for, cuts_for, cuts_in, frame_of, heade
 use Rattle.term_buffer.specs.declared.claimed.Claimed.{Claimed}
 use Rattle.log_buffer.specs.Log.{IsAborted, IsDrafted, IsHeld, Log, MayAbort, draft_of, drafted, with_abort, with_commit, with_draft}
 use Rattle.publication.specs.Writes.{place_of}
-use Rattle.publication.proofs.Fills.{draft_set, draft_twice, open_drafted}
+use Rattle.publication.proofs.Fills.{draft_set, draft_twice, open_drafted, draft_some}
 
 -- a padding's frame, and a message's that has one
 pub padding_start : (g : Geometry) (c : Claimed) → c.frame ≡ 0 → next_start g c ≡ c.start
@@ -31,13 +30,9 @@ one_length g c message first short = ap (λ (cuts : List ℕ). get_or cuts c.fra
 
 -- ---- drafts
 
--- a draft that isn't empty is one of the drafts
+-- zeros that aren't none are one of the drafts
 pub draft_inside : (l : Log) (c : Claimed) (n : ℕ) → draft_of l c ≡ replicate n 0 → 0 < n → place_of l c < length l.drafts
-draft_inside l c n e long =
-    ⊎_elim
-    (λ (low : place_of l c < length l.drafts). low)
-    (λ (past : length l.drafts ≤ place_of l c). absurd (omega (arith, long, ap (λ (x : List ℕ). length x) (sym (get_or_past l.drafts (place_of l c) [] past) ∙ e), length-replicate {A = ℕ} n 0)))
-    (cases_lt (place_of l c) (length l.drafts))
+draft_inside l c n e long = draft_some l c (omega (arith, long, ap (λ (x : List ℕ). length x) e, length-replicate {A = ℕ} n 0))
 
 pub part_rest : (i : Identity) (c : Claimed) (start flags n : ℕ) (part : List ℕ) → c.padding ≡ false → 32 + length part ≡ n → frame_of c.padding flags n (rest_of i start (Data flags part)) ≡ Data flags part
 part_rest i c start flags n part of_data whole =

@@ -1,5 +1,5 @@
 -- What a publisher saw justifies what it answers.
-use Rattle.std.specs.Prelude.{◌≡◌, ℕ, zero, suc, ◌+◌, ◌-◌, ◌*◌, ◌/◌, ◌%◌, ◌^◌, ◌<◌, ◌≤◌, Bool, true, false, List, [], ◌∷◌, ◌++◌, length, nat_eq, nat_le, nat_lt, Option, Some, None, if◌then◌else◌, slice_get, slice_set, Result, Ok, Err, IfErr, IfOk}
+use Rattle.std.specs.Prelude.{◌≡◌, ℕ, ◌+◌, ◌-◌, ◌*◌, ◌/◌, ◌%◌, ◌^◌, ◌<◌, ◌≤◌, Bool, true, false, List, [], ◌∷◌, ◌++◌, length, nat_eq, nat_le, nat_lt, Option, None, if◌then◌else◌, slice_set, Result, Ok, Err, IfErr, IfOk}
 use Rattle.std.proofs.Common.{arith, refl, sym, ap, ◌∙◌, subst, inl, inr, ⊎_elim}
 use Rattle.std.proofs.lemmas.Bool.{cases_lt, eq-eqb, false≢true, eqb-true, cond-false, le-ltb, leb-false, lt-leb}
 use Rattle.std.proofs.lemmas.List.{set-set}
@@ -238,11 +238,6 @@ pub opened_before : (l m : Log) (count : ℕ) (armed : List (Option ℕ)) → m 
 opened_before l m count armed e h is =
     let same : m.start / term_of m ≡ l.start / term_of l = ap (λ (x : Log). x.start / term_of x) e in
     omega (arith, same, h.opened, is)
-
-pub get_put : {X : Type 0} (xs : List X) (k : ℕ) (x : X) → k < length xs → slice_get (slice_set xs k x) k ≡ Some x
-get_put [] k x h = absurd (omega (arith, h))
-get_put (y ∷ ys) zero x h = refl
-get_put (y ∷ ys) (suc k) x h = get_put ys k x (omega (arith, h))
 
 -- an offer that is answered by a position fits
 answered_fits : (l : Log) (bytes n : ℕ) (c : Course) → answer l bytes c ≡ Ok n → c ≡ Fits

@@ -7,5 +7,4 @@ pub mod Frames
 pub mod Granted
 pub mod Justified
 pub mod PaddedWords
-pub mod StoredWords
 pub mod Writing

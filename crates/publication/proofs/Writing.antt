@@ -2,13 +2,14 @@
 use Rattle.std.specs.Prelude.{◌≡◌, ℕ, zero, suc, ◌+◌, ◌-◌, ◌<◌, ◌≤◌, min, Bool, true, false, List, [], ◌∷◌, ◌++◌, length, take, drop, replicate, nat_eq, nat_lt, slice_get, slice_index_or, slice_set, Option, Some, None, IfSome, if◌then◌else◌}
 use Rattle.std.proofs.Common.{arith, refl, sym, ap, ◌∙◌, subst, ⊎_elim, append_assoc, append-nil, get_or, get_or-set_same, length-drop}
 use Rattle.std.proofs.lemmas.Bool.{cases_lt, cond-true, cond-false, lt-ltb, le-ltb, ne_eqb}
-use Rattle.std.proofs.lemmas.List.{set-set, set-get_or}
+use Rattle.std.proofs.lemmas.List.{set-set, set-get_or, nil_from_length}
 use Rattle.theory.specs.Position.{Geometry, IsGeometry, aligned, cuts_of, framed_length, max_payload, max_position, span}
 use Rattle.theory.specs.Placed.{Data, Frame}
 use Rattle.theory.specs.Entry.{Entry, flags_of, pieces_of}
 use Rattle.theory.proofs.Claims.{covers_framed}
 use Rattle.theory.proofs.Cuts.{short_cuts}
 use Rattle.theory.proofs.Pieces.{cuts_behind}
+use Rattle.theory.proofs.Tables.{set_same}
 use Rattle.term_buffer.specs.Kept.{after_next, blank_for, cuts_for, cuts_in, entry_with, next_flags, next_length, next_start, no_entry, with_next}
 use Rattle.term_buffer.specs.declared.claimed.Claimed.{Claimed}
 use Rattle.log_buffer.specs.Log.{IsHeld, IsOpen, Log, draft_of, with_commit}
@@ -73,19 +74,10 @@ held_inside l c message legal h size =
 
 -- ---- the beginning
 
-put_same : {X : Type 0} (xs : List X) (k : ℕ) (x : X) → slice_get xs k ≡ Some x → slice_set xs k x ≡ xs
-put_same [] k x e = refl
-put_same (y ∷ ys) zero x e = let same : y ≡ x = cc in ap (λ z. z ∷ ys) (sym same)
-put_same (y ∷ ys) (suc k) x e = ap (λ zs. y ∷ zs) (put_same ys k x e)
-
-none_yet : (frames : List Frame) → length frames ≡ 0 → frames ≡ []
-none_yet [] e = refl
-none_yet (f ∷ frames) e = absurd (omega (arith, e))
-
 none_written : (l : Log) (c : Claimed) → IsHeld l c → l ≡ with_frames l c [] (cuts_at l c)
 none_written l c h =
-    let entry : slice_get l.entries (place_of l c) ≡ Some (entry_with l.identity.geometry c []) = h.unset.entry ∙ ap (λ (fs : List Frame). Some (entry_with l.identity.geometry c fs)) (none_yet h.unset.frames (h.unset.count ∙ h.first)) in
-    let entries : slice_set l.entries (place_of l c) (entry_with l.identity.geometry c []) ≡ l.entries = put_same l.entries (place_of l c) (entry_with l.identity.geometry c []) entry in
+    let entry : slice_get l.entries (place_of l c) ≡ Some (entry_with l.identity.geometry c []) = h.unset.entry ∙ ap (λ (fs : List Frame). Some (entry_with l.identity.geometry c fs)) (nil_from_length h.unset.frames (h.unset.count ∙ h.first)) in
+    let entries : slice_set l.entries (place_of l c) (entry_with l.identity.geometry c []) ≡ l.entries = set_same l.entries (place_of l c) (entry_with l.identity.geometry c []) entry in
     let drafts : slice_set l.drafts (place_of l c) (blank_for (cuts_at l c)) ≡ l.drafts = ap (slice_set l.drafts (place_of l c)) (sym h.blank) ∙ set-get_or l.drafts (place_of l c) [] in
     ap (λ (es : List Entry). record l { entries = es }) (sym entries)
     ∙ ap (λ (ds : List (List ℕ)). record l { entries = slice_set l.entries (place_of l c) (entry_with l.identity.geometry c []); drafts = ds }) (sym drafts)
@@ -221,10 +213,6 @@ following l now c d message rest legal h =
       none = λ no_more. cond-false (nat_lt (d.frame + 1) (length (cuts_in now.identity.geometry d))) (Some (record d { frame = d.frame + 1 })) None (le-ltb (d.frame + 1) (length (cuts_in now.identity.geometry d)) (omega (arith, all, no_more)));
     }
 
-nothing_in : (xs : List ℕ) → length xs ≡ 0 → xs ≡ []
-nothing_in [] e = refl
-nothing_in (x ∷ xs) e = absurd (omega (arith, e))
-
 -- there is more of the message behind a frame behind which there are frames
 cuts_left : (g : Geometry) (later rest behind : List ℕ) → later ≡ (if nat_lt (max_payload g) (length rest) then cuts_of g (length rest - max_payload g) else []) → behind ≡ drop (min (length rest) (max_payload g)) rest → 0 < length later → later ≡ cuts_of g (length behind)
 cuts_left g later rest behind is behind_is more =
@@ -271,5 +259,5 @@ writes_on l now new c d message rest part behind next legal within h is behind_i
     let dropped : drop (d.frame + 1) (cuts_at l c) ≡ cut.later = (first_dropped (cuts_at l c) d.frame (32 + min (length rest) (max_payload l.identity.geometry)) cut.later cut.parts).1 in
     ⊎_elim
     (λ (more : 0 < length cut.later). writes_more l now new c d message behind cut.later next h.same dropped (cuts_left l.identity.geometry cut.later rest behind cut.behind behind_is more) goes (next_is ∙ follows.some more) still)
-    (λ (few : length cut.later ≤ 0). writes_last l new c message behind cut.later d.frame next (nothing_in cut.later (omega (arith, few))) goes (next_is ∙ follows.none (omega (arith, few))))
+    (λ (few : length cut.later ≤ 0). writes_last l new c message behind cut.later d.frame next (nil_from_length cut.later (omega (arith, few))) goes (next_is ∙ follows.none (omega (arith, few))))
     (cases_lt 0 (length cut.later))

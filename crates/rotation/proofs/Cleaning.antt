@@ -8,12 +8,9 @@ use Rattle.theory.specs.Tiling.{Tiles}
 use Rattle.theory.specs.Position.{greatest_claim}
 use Rattle.theory.proofs.Claims.{claim_bounded}
 use Rattle.theory.proofs.Lists.{all_append, all_weaker}
+use Rattle.theory.proofs.Tiling.{tiles_append}
 use Rattle.log_buffer.specs.Log.{Cleans, IsHeld, IsLog, Log, clean_end, term_of}
 use Rattle.log_buffer.specs.Reader.{IsAt, Reader}
-
-pub tiles_append : (term p q r : ℕ) (es fs : List Entry) → Tiles term p q es → Tiles term q r fs → Tiles term p r (es ++ fs)
-tiles_append term p q r [] fs h k = subst (λ x. Tiles term x r fs) h k
-tiles_append term p q r (e ∷ es) fs h k = (h.0, h.1, tiles_append term (entry_end e) q r es fs h.2 k)
 
 -- tiled entries begin at the start or behind it
 pub all_from : (term p q : ℕ) (es : List Entry) → Tiles term p q es → AllByRecursion (λ e. p ≤ e.start) es

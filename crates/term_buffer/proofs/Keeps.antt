@@ -1,13 +1,13 @@
 -- What holds of a buffer's parts goes on holding.
-use Rattle.std.proofs.Common.{◌≡◌, ℕ, zero, suc, ◌+◌, ◌-◌, ◌*◌, ◌/◌, ◌%◌, ◌<◌, ◌≤◌, ⊎_elim, Bool, true, false, List, [], ◌∷◌, ◌++◌, length, map, take, drop, replicate, get_or, set, sum, refl, sym, ap, ◌∙◌, subst, All, length-drop, length-set, arith}
+use Rattle.std.proofs.Common.{◌≡◌, ℕ, zero, suc, ◌+◌, ◌-◌, ◌*◌, ◌/◌, ◌%◌, ◌<◌, ◌≤◌, ⊎_elim, Bool, true, false, List, [], ◌∷◌, ◌++◌, length, map, take, drop, replicate, get_or, set, refl, sym, ap, ◌∙◌, subst, All, length-drop, length-set, arith}
 use Rattle.std.specs.Prelude.{if◌then◌else◌, nat_eq, slice_index}
 use Rattle.std.specs.Int.{w64, to_le_bytes}
 use Rattle.std.specs.List.{AllByRecursion}
 use Rattle.std.proofs.lemmas.Bool.{cases_lt, false≢true}
 use Rattle.std.proofs.lemmas.List.{length_push, map_push, length-take-le, get_or-drop}
-use Rattle.std.proofs.lemmas.List.Sums.{sum_by-set}
 use Rattle.std.proofs.lemmas.Nat.{div-add-mod'}
 use Rattle.block.specs.Bytes.{with_word}
+use Rattle.block.proofs.Words.{word_size}
 use Rattle.theory.specs.Position.{Geometry, aligned, max_message, max_payload, max_position, span}
 use Rattle.theory.specs.Entry.{flags_of}
 use Rattle.theory.specs.Tiling.{InOneTerm, Tiles}
@@ -16,16 +16,19 @@ use Rattle.theory.specs.Placed.{Pad}
 use Rattle.theory.specs.Bytes.{Identity}
 use Rattle.theory.proofs.Cuts.{short_cuts}
 use Rattle.theory.proofs.LogSteps.{span_unit}
+use Rattle.theory.proofs.Places.{term_ends}
+use Rattle.theory.proofs.Tiling.{Tiles-push}
+use Rattle.theory.proofs.Tables.{sum_set}
 use Rattle.term_buffer.specs.Kept.{cuts_for, cuts_in, frame_of, rest_of, with_share}
 use Rattle.term_buffer.specs.Slots.{AreWritten, IsBuffer, IsInside, IsWritten, IsZeroAhead, Parts, drafts_of, geometry_in, image_of, outline, piece_in, range, slot_cuts, term_in}
 use Rattle.term_buffer.specs.declared.claimed.Claimed.{Claimed}
 use Rattle.term_buffer.specs.declared.claimed.Slot.{Slot}
 use Rattle.term_buffer.proofs.Cutting.{at_units, for_long, for_units, span_within}
 use Rattle.term_buffer.proofs.Pieces.{OnlyPiece, flags_in, flags_next, frame_in, only_word, piece_long, piece_word, written_next, written_stored, zeros_written}
-use Rattle.term_buffer.proofs.Ring.{Apart, apart, in_ring, no_wrap, once_round, term_ends}
-use Rattle.term_buffer.proofs.StoredWords.{byte_in, first_of_word, part_here, word_size, zero_stays}
+use Rattle.term_buffer.proofs.Ring.{Apart, apart, in_ring, no_wrap, once_round}
+use Rattle.term_buffer.proofs.StoredWords.{byte_in, first_of_word, part_here, zero_stays}
 use Rattle.term_buffer.proofs.Slots.{all_others, all_push, byte_apart, piece_apart, slots_above, slots_apart}
-use Rattle.term_buffer.proofs.Shares.{few_slots, tiles_push}
+use Rattle.term_buffer.proofs.Shares.{few_slots}
 use Rattle.term_buffer.proofs.Changes.{LeavesOthers, Opened, draft_is, image_is, same_outlines, same_slot, slot_of, written_set}
 use Rattle.term_buffer.proofs.Logs.{long_range, some_term}
 
@@ -296,9 +299,6 @@ new_range p k c f = zeros (span (cuts_in (geometry_in p) c)) (in_ring (term_in p
         ∙ ap (λ n. get_or p.bytes n 0) (sym (no_wrap (3 * term_in p) c.start i (omega (arith, fits))))
         ∙ k.ahead (c.start + i) (omega (arith, f.start)) (omega (arith, f.start, room)))
 
-sum_set : (xs : List ℕ) (i n : ℕ) → i < length xs → sum (set xs i (get_or xs i 0 + n)) ≡ sum xs + n
-sum_set xs i n h = omega (arith, sum_by-set (λ (x : ℕ). x) xs i (get_or xs i 0 + n) 0 h)
-
 -- the parts after a claim
 abbrev pub claimed_parts : Parts → Claimed → Parts
 claimed_parts p c = record p { tail = p.tail + span (cuts_in (geometry_in p) c); shares = with_share p.shares c.owner (span (cuts_in (geometry_in p) c)); slots = p.slots ++ slot_of c 0 ∷ [] }
@@ -326,7 +326,7 @@ kept_claim p k c f = record {
   few_kept = omega (arith, k.few_kept, k.last, claim_long p k c f, length_push p.slots (slot_of c 0));
   room = k.room;
   inside = all_push (IsInside p.identity p.first (p.tail + span (cuts_in (geometry_in p) c))) p.slots (slot_of c 0) (λ j d h. further (get_or p.slots j d) (k.inside j d h)) (record { low = omega (arith, k.last, f.start); unit = ap (λ x. x % 32) f.start ∙ k.unit; high = omega (arith, f.start); in_term = one_term p c f; long = f.long; short = f.short; owner = f.owner; count = omega arith });
-  tiles = subst (Tiles (term_in p) p.first (p.tail + span (cuts_in (geometry_in p) c))) (sym (map_push (outline (geometry_in p)) p.slots (slot_of c 0))) (subst (λ x. Tiles (term_in p) p.first x (map (outline (geometry_in p)) p.slots ++ outline (geometry_in p) (slot_of c 0) ∷ [])) ends (tiles_push (term_in p) p.first p.tail (map (outline (geometry_in p)) p.slots) (outline (geometry_in p) (slot_of c 0)) k.tiles f.start in_one));
+  tiles = subst (Tiles (term_in p) p.first (p.tail + span (cuts_in (geometry_in p) c))) (sym (map_push (outline (geometry_in p)) p.slots (slot_of c 0))) (subst (λ x. Tiles (term_in p) p.first x (map (outline (geometry_in p)) p.slots ++ outline (geometry_in p) (slot_of c 0) ∷ [])) ends (Tiles-push (term_in p) p.first p.tail (map (outline (geometry_in p)) p.slots) (outline (geometry_in p) (slot_of c 0)) k.tiles f.start in_one));
   written = all_push (λ s. IsWritten p.identity s (range (geometry_in p) p.bytes s)) p.slots (slot_of c 0) k.written (subst (AreWritten p.identity c.padding true c.start 0 (cuts_in (geometry_in p) c)) (sym (new_range p k c f)) (zeros_written p.identity c.padding true c.start (cuts_in (geometry_in p) c) (for_units (geometry_in p) k.geometry c.padding c.size f.long)));
   ahead = λ q low high. k.ahead q (omega arith) high;
 }

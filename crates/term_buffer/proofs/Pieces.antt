@@ -1,10 +1,11 @@
 -- The frames of a claimed range, one by one: what a word changes of them, and one more that is committed.
-use Rattle.std.proofs.Common.{◌≡◌, ℕ, zero, suc, ◌+◌, ◌-◌, ◌*◌, ◌/◌, ◌<◌, ◌≤◌, Bool, true, false, List, [], ◌∷◌, ◌++◌, length, take, drop, replicate, get_or, refl, sym, ap, ◌∙◌, subst, length-drop, arith}
+use Rattle.std.proofs.Common.{◌≡◌, ℕ, zero, suc, ◌+◌, ◌-◌, ◌*◌, ◌/◌, ◌<◌, ◌≤◌, Bool, true, false, List, [], ◌∷◌, ◌++◌, length, take, drop, replicate, get_or, refl, sym, ap, ◌∙◌, subst, length-drop, length-take, arith}
 use Rattle.std.specs.List.{AllByRecursion}
 use Rattle.std.specs.Prelude.{⊤, nat_eq}
 use Rattle.std.proofs.lemmas.Bool.{eq-eqb, ne_eqb}
 use Rattle.std.proofs.lemmas.List.{drop-drop, drop_at, drop-replicate, length-take-le, take-append-drop, take-replicate}
 use Rattle.block.specs.Bytes.{with_word}
+use Rattle.block.proofs.Words.{word_behind}
 use Rattle.theory.specs.Position.{aligned, span}
 use Rattle.theory.specs.Placed.{Frame}
 use Rattle.theory.specs.Entry.{flags_of}
@@ -12,9 +13,14 @@ use Rattle.theory.specs.Bytes.{Identity}
 use Rattle.term_buffer.specs.Kept.{blank_for, frame_of}
 use Rattle.term_buffer.specs.Slots.{AreWritten, frames_in, image_of, piece_in}
 use Rattle.term_buffer.proofs.Cutting.{span_within}
-use Rattle.term_buffer.proofs.StoredWords.{part_above, part_below, part_here, word_behind}
+use Rattle.term_buffer.proofs.StoredWords.{part_above, part_below, part_here}
 
 -- ---- where a frame's bytes stand
+
+-- what a message's frame carries is as long as its length says
+pub payload_whole : (cut : ℕ) (bytes : List ℕ) → 32 ≤ cut → aligned cut ≤ length bytes → 32 + length (take (cut - 32) (drop 24 (drop 8 (take (aligned cut) bytes)))) ≡ cut
+payload_whole cut bytes long size =
+    omega (arith, length-take (cut - 32) (drop 24 (drop 8 (take (aligned cut) bytes))), length-drop 24 (drop 8 (take (aligned cut) bytes)), length-drop 8 (take (aligned cut) bytes), length-take-le (aligned cut) bytes size)
 
 pub piece_at : (cuts : List ℕ) (k : ℕ) (bytes : List ℕ) → k < length cuts → piece_in k cuts bytes ≡ take (aligned (get_or cuts k 0)) (drop (span (take k cuts)) bytes)
 piece_at [] k bytes low = absurd (omega arith)

@@ -2,9 +2,10 @@
 use Rattle.std.proofs.Common.{◌≡◌, ℕ, zero, suc, ◌+◌, ◌-◌, ◌*◌, ◌/◌, ◌%◌, ◌<◌, ◌≤◌, ◌⊎◌, inl, inr, ⊎_elim, Bool, true, false, List, [], ◌∷◌, ◌++◌, length, take, drop, get_or, refl, sym, ap, ◌∙◌, subst, All, length-append, length-drop, arith}
 use Rattle.std.specs.List.{AllByRecursion}
 use Rattle.std.specs.Prelude.{if◌then◌else◌, nat_eq}
-use Rattle.std.proofs.lemmas.List.{append-nil, drop-drop, drop-take, drop_all, get_or-map, length-map, length-take-le, take-take, take_all}
+use Rattle.std.proofs.lemmas.List.{drop-drop, drop-take, get_or-map, length-map, length-take-le, take-take}
 use Rattle.std.proofs.lemmas.Nat.{div-add-mod', mod-mul-add}
 use Rattle.block.specs.Bytes.{with_front}
+use Rattle.block.proofs.Bytes.{with_front-whole}
 use Rattle.theory.specs.Position.{Geometry, aligned, max_position, span}
 use Rattle.theory.specs.Placed.{Among, Data, Frame, Pad, Placed, frame_length, payload_of, place_all}
 use Rattle.theory.specs.Entry.{Entry, committed, flags_of}
@@ -22,7 +23,7 @@ use Rattle.term_buffer.specs.declared.claimed.Slot.{Slot}
 use Rattle.term_buffer.proofs.Cutting.{at_short, at_units, for_short, for_units, span_within}
 use Rattle.term_buffer.proofs.Keeps.{pad_flags}
 use Rattle.term_buffer.proofs.Logs.{long_range, shown, some_term}
-use Rattle.term_buffer.proofs.Pieces.{flags_in, flags_next, frame_in, piece_at, piece_long}
+use Rattle.term_buffer.proofs.Pieces.{flags_in, flags_next, frame_in, payload_whole, piece_at, piece_long}
 use Rattle.term_buffer.proofs.Ring.{in_ring, no_wrap}
 use Rattle.term_buffer.proofs.Slots.{slots_order}
 
@@ -37,13 +38,7 @@ slots_well p k = record {
 
 frame_long : (b : Bool) (flags cut : ℕ) (bytes : List ℕ) → 32 ≤ cut → aligned cut ≤ length bytes → frame_length (frame_of b flags cut (drop 8 (take (aligned cut) bytes))) ≡ cut
 frame_long true flags cut bytes long size = refl
-frame_long false flags cut bytes long size = omega (arith, payload)
-  where
-    piece : length (take (aligned cut) bytes) ≡ aligned cut
-    piece = length-take-le (aligned cut) bytes size
-
-    payload : length (take (cut - 32) (drop 24 (drop 8 (take (aligned cut) bytes)))) ≡ cut - 32
-    payload = length-take-le (cut - 32) (drop 24 (drop 8 (take (aligned cut) bytes))) (omega (arith, length-drop 24 (drop 8 (take (aligned cut) bytes)), length-drop 8 (take (aligned cut) bytes), piece))
+frame_long false flags cut bytes long size = payload_whole cut bytes long size
 
 among_frames : (b first : Bool) (at k j : ℕ) (cuts bytes : List ℕ) → j < k → k ≤ length cuts → AllByRecursion (λ cut. 32 ≤ cut) cuts → span cuts ≤ length bytes → Among (record { at = at + span (take j cuts); frame = frame_in b first j cuts bytes }) (place_all at (frames_in b first k cuts bytes))
 among_frames b first at zero j cuts bytes low most all size = absurd (omega arith)
@@ -293,9 +288,7 @@ reads_message p k l v position head f kind old new copied =
 front_written : (old front payload : List ℕ) → length payload ≤ length old → front ≡ payload ++ drop (length payload) old → with_front old front ≡ payload ++ drop (length payload) old
 front_written old front payload fits is =
     let long : length front ≡ length old = omega (arith, ap (λ (x : List ℕ). length x) is, length-append payload (drop (length payload) old), length-drop (length payload) old) in
-    ap (λ (r : List ℕ). take (length old) (front ++ r)) (drop_all (length front) old (omega arith))
-    ∙ ap (take (length old)) (append-nil front)
-    ∙ take_all (length old) front (omega arith)
+    with_front-whole old front long
     ∙ is
 
 -- the payload as it is copied

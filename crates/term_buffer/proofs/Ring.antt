@@ -1,7 +1,7 @@
 -- Positions in the ring of three terms.
-use Rattle.std.proofs.Common.{◌≡◌, ℕ, suc, ◌^◌, ◌+◌, ◌-◌, ◌*◌, ◌/◌, ◌%◌, ◌<◌, ◌≤◌, ◌⊎◌, ⊎_elim, inl, inr, sym, ap, ◌∙◌, arith}
+use Rattle.std.proofs.Common.{◌≡◌, ℕ, ◌+◌, ◌-◌, ◌*◌, ◌/◌, ◌%◌, ◌<◌, ◌≤◌, ◌⊎◌, ⊎_elim, inl, inr, sym, ap, ◌∙◌, arith}
 use Rattle.std.proofs.lemmas.Bool.{cases_lt}
-use Rattle.std.proofs.Math.Nat.{mul-le-mul_right, div-lt_iff_lt-mul, mul_comm}
+use Rattle.std.proofs.Math.Nat.{mul-le-mul_right}
 use Rattle.std.proofs.lemmas.Nat.{div-add-mod', mod-mul-add}
 use Rattle.theory.specs.Tiling.{InOneTerm}
 
@@ -82,11 +82,3 @@ pub no_wrap : (m x i : ℕ) → x % m + i < m → (x + i) % m ≡ x % m + i
 no_wrap m x i low =
     let split : x + i ≡ x / m * m + (x % m + i) = omega (arith, div-add-mod' x m) in
     ap (λ z. z % m) split ∙ mod-mul-add (x / m) m (x % m + i) low
-
--- the term of a position below the end of the last term ends in the stream
-pub term_ends : (p n : ℕ) → 0 < n → p < n * 2 ^ 31 → p / n * n + n ≤ n * 2 ^ 31
-term_ends p n positive below =
-    let fewer : p / n < 2 ^ 31 = (div-lt_iff_lt-mul positive).1 (omega (arith, mul_comm n (2 ^ 31))) in
-    let grown : suc (p / n) * n ≤ 2 ^ 31 * n = mul-le-mul_right n (omega arith) in
-    let split : suc (p / n) * n ≡ p / n * n + n = omega arith in
-    omega (arith, mul_comm n (2 ^ 31))

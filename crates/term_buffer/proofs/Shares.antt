@@ -1,9 +1,9 @@
 -- The entries of slots tile the stream as the slots do.
-use Rattle.std.proofs.Common.{◌≡◌, ℕ, zero, suc, ◌+◌, ◌-◌, ◌*◌, ◌%◌, ◌<◌, ◌≤◌, Bool, true, false, List, [], ◌∷◌, ◌++◌, length, map, take, drop, refl, ◌∙◌, subst, All, length-drop, arith}
+use Rattle.std.proofs.Common.{◌≡◌, ℕ, zero, suc, ◌+◌, ◌*◌, ◌%◌, ◌<◌, ◌≤◌, Bool, true, false, List, [], ◌∷◌, length, map, take, drop, refl, All, length-drop, arith}
 use Rattle.std.specs.List.{AllByRecursion}
 use Rattle.std.proofs.lemmas.List.{length-take-le}
 use Rattle.theory.specs.Position.{Geometry, IsGeometry, aligned, span}
-use Rattle.theory.specs.Entry.{ArePieces, HaveFrames, Entry, IsEntry, entry_end}
+use Rattle.theory.specs.Entry.{ArePieces, HaveFrames, IsEntry, entry_end}
 use Rattle.theory.specs.Tiling.{Tiles, InOneTerm}
 use Rattle.theory.specs.Bytes.{Identity}
 use Rattle.theory.proofs.Lists.{all_weaker}
@@ -11,11 +11,8 @@ use Rattle.term_buffer.specs.Kept.{cuts_for}
 use Rattle.term_buffer.specs.Slots.{entries_of, entry_of, frames_in, outline, range, slot_cuts, IsInside}
 use Rattle.term_buffer.specs.declared.claimed.Slot.{Slot}
 use Rattle.term_buffer.proofs.Cutting.{for_long, for_units}
+use Rattle.term_buffer.proofs.Pieces.{payload_whole}
 use Rattle.term_buffer.proofs.Ring.{in_ring}
-
-pub tiles_push : (term p tail : ℕ) (es : List Entry) (e : Entry) → Tiles term p tail es → e.start ≡ tail → InOneTerm term tail (entry_end e) → Tiles term p (entry_end e) (es ++ e ∷ [])
-tiles_push term p tail [] e h s k = (s ∙ h, subst (λ x. InOneTerm term x (entry_end e)) h k, refl)
-tiles_push term p tail (d ∷ es) e h s k = (h.0, h.1, tiles_push term (entry_end d) tail es e h.2 s k)
 
 -- the tiling doesn't ask what is committed
 pub tiles_entries : (g : Geometry) (term start tail : ℕ) (bytes : List ℕ) (slots : List Slot) → Tiles term start tail (map (outline g) slots) → Tiles term start tail (entries_of g bytes slots)
@@ -35,16 +32,7 @@ range_long first tail i bytes s some size h = long i.geometry.term_length (span 
 are_pieces : (first : Bool) (k : ℕ) (cuts bytes : List ℕ) → AllByRecursion (λ cut. 32 ≤ cut) cuts → span cuts ≤ length bytes → ArePieces first cuts (frames_in false first k cuts bytes)
 are_pieces first zero cuts bytes all size = tt
 are_pieces first (suc k) [] bytes all size = tt
-are_pieces first (suc k) (cut ∷ cuts) bytes all size = ((refl, whole), are_pieces false k cuts (drop (aligned cut) bytes) all.1 (omega (arith, length-drop (aligned cut) bytes)))
-  where
-    piece : length (take (aligned cut) bytes) ≡ aligned cut
-    piece = length-take-le (aligned cut) bytes (omega arith)
-
-    payload : length (take (cut - 32) (drop 24 (drop 8 (take (aligned cut) bytes)))) ≡ cut - 32
-    payload = length-take-le (cut - 32) (drop 24 (drop 8 (take (aligned cut) bytes))) (omega (arith, length-drop 24 (drop 8 (take (aligned cut) bytes)), length-drop 8 (take (aligned cut) bytes), piece))
-
-    whole : 32 + length (take (cut - 32) (drop 24 (drop 8 (take (aligned cut) bytes)))) ≡ cut
-    whole = omega (arith, payload, all.0)
+are_pieces first (suc k) (cut ∷ cuts) bytes all size = ((refl, payload_whole cut bytes all.0 (omega arith)), are_pieces false k cuts (drop (aligned cut) bytes) all.1 (omega (arith, length-drop (aligned cut) bytes)))
 
 have_frames : (g : Geometry) → IsGeometry g → (b : Bool) (n k : ℕ) (bytes : List ℕ) → (b ≡ true → 32 ≤ n) → k ≤ length (cuts_for g b n) → span (cuts_for g b n) ≤ length bytes → HaveFrames b (cuts_for g b n) (frames_in b true k (cuts_for g b n) bytes)
 have_frames g is false n k bytes long low size = are_pieces true k (cuts_for g false n) bytes (for_units g is false n long) size

@@ -7,6 +7,7 @@ use Rattle.theory.specs.Position.{Geometry}
 use Rattle.theory.specs.Bytes.{Identity}
 use Rattle.theory.specs.Entry.{Entry, entry_end}
 use Rattle.theory.specs.Tiling.{Tiles}
+use Rattle.theory.proofs.Frames.{tiles_le}
 use Rattle.term_buffer.specs.Kept.{Kept, after_next, draft_of, drafted, with_commit, with_draft}
 use Rattle.term_buffer.specs.declared.claimed.Claimed.{Claimed}
 
@@ -40,10 +41,6 @@ pub next_is : (g : Geometry) (c d e f : Claimed) (r : Option Claimed) → r ≡ 
 next_is g c d e f r next some same was is =
     ap (λ o. unwrap_or o e) (sym some ∙ next ∙ ap (λ x. after_next x c) same ∙ ap (λ x. after_next shape x) was ∙ is)
 
-pub grows : (t start tail : ℕ) (es : List Entry) → Tiles t start tail es → start ≤ tail
-grows t start tail [] h = omega (arith, h)
-grows t start tail (e ∷ es) h = omega (arith, h.0, grows t (entry_end e) tail es h.2)
-
 same_head : (e x : Entry) (es xs : List Entry) → e ∷ es ≡ x ∷ xs → e ≡ x
 same_head e x es xs h = cc
 
@@ -51,4 +48,4 @@ same_head e x es xs h = cc
 pub first_past : (e : Entry) (es past rest : List Entry) (to first : ℕ) → e ∷ es ≡ past ++ rest → e.start < to → AllByRecursion (λ x. to ≤ x.start) rest → Tiles 65536 e.start first past → entry_end e ≤ first
 first_past e es [] rest to first parts below from tiles = let all : AllByRecursion (λ x. to ≤ x.start) (e ∷ es) = subst (AllByRecursion (λ x. to ≤ x.start)) (sym parts) from in absurd (omega (arith, all.0))
 first_past e es (x ∷ past) rest to first parts below from tiles =
-    subst (λ (y : Entry). entry_end y ≤ first) (sym (same_head e x es (past ++ rest) parts)) (grows 65536 (entry_end x) first past tiles.2)
+    subst (λ (y : Entry). entry_end y ≤ first) (sym (same_head e x es (past ++ rest) parts)) (tiles_le 65536 (entry_end x) first past tiles.2)

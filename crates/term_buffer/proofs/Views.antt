@@ -1,16 +1,17 @@
 -- What the calls show of a buffer.
-use Rattle.std.proofs.Common.{◌≡◌, ℕ, suc, ◌+◌, ◌-◌, ◌*◌, ◌/◌, ◌%◌, ◌<◌, ◌≤◌, ⊎_elim, Bool, true, false, List, [], ◌∷◌, ◌++◌, length, take, drop, get_or, set, Option, None, Some, refl, sym, ap, ◌∙◌, subst, get_or-set_same, length-append, length-set, arith}
+use Rattle.std.proofs.Common.{◌≡◌, ℕ, suc, ◌+◌, ◌-◌, ◌*◌, ◌/◌, ◌%◌, ◌<◌, ◌≤◌, ⊎_elim, Bool, true, false, List, [], ◌∷◌, ◌++◌, length, take, drop, get_or, set, Option, None, Some, refl, sym, ap, ◌∙◌, subst, length-append, arith}
 use Rattle.std.specs.List.{slice_get}
 use Rattle.std.specs.Prelude.{IfSome, if◌then◌else◌, nat_eq, nat_lt}
 use Rattle.std.specs.Int.{w64, to_le_bytes}
 use Rattle.std.proofs.lemmas.Bool.{cases_Bool, cond-true, cond-false, ltb-true}
-use Rattle.std.proofs.lemmas.Option.{get_or_from_slice_get, slice_get-get_or, slice_get_within}
+use Rattle.std.proofs.lemmas.Option.{get_or_from_slice_get, slice_get_within}
 use Rattle.std.proofs.lemmas.List.{map_push, length-map}
 use Rattle.block.specs.Bytes.{with_word}
 use Rattle.theory.specs.Position.{IsGeometry, aligned, max_message, max_position, span}
 use Rattle.theory.specs.Placed.{Frame, Pad}
 use Rattle.theory.specs.Entry.{Entry, flags_of}
 use Rattle.theory.specs.Wire.{front}
+use Rattle.theory.proofs.Tables.{get_put}
 use Rattle.term_buffer.specs.Kept.{IsAborted, IsDrafted, IsOpen, Kept, MayAbort, after_next, blank_for, claim_of, cuts_for, cuts_in, draft_of, drafted, entry_with, frame_of, next_flags, next_length, no_entry, place_of, rest_of, term_of, with_abort, with_claim, with_commit, with_draft, with_next, with_share}
 use Rattle.term_buffer.specs.Places.{NextPlace}
 use Rattle.term_buffer.specs.Slots.{IsBuffer, Parts, drafts_of, entries_of, entry_of, frames_in, geometry_in, piece_in, range, rest_in, term_in}
@@ -216,15 +217,12 @@ slot_set p k l v c h s d e =
     ap (λ (x : Slot). record x { committed = c.frame + 1 }) (e ∙ o.here d)
 
 -- the claim for the next frame is open
-got_set : (es : List Entry) (n : ℕ) (e d : Entry) → n < length es → slice_get (set es n e) n ≡ Some e
-got_set es n e d low = slice_get-get_or (set es n e) n d (omega (arith, length-set es n e)) ∙ ap Some (get_or-set_same es n e d low)
-
 pub still_opens : (l : Kept) (c : Claimed) (f : Frame) → IsOpen l c → c.frame + 1 < length (cuts_in l.identity.geometry c) → IsOpen (with_commit l c f) (record c { frame = c.frame + 1 })
 still_opens l c f h more = record {
   kept = h.kept;
   frames = h.frames ++ f ∷ [];
   entry =
-      got_set l.entries (place_of l c.number) (with_next f (get_or l.entries (place_of l c.number) no_entry)) no_entry (slice_get_within l.entries (place_of l c.number) (entry_with l.identity.geometry c h.frames) h.entry)
+      get_put l.entries (place_of l c.number) (with_next f (get_or l.entries (place_of l c.number) no_entry)) (slice_get_within l.entries (place_of l c.number) (entry_with l.identity.geometry c h.frames) h.entry)
       ∙ ap (λ (e : Entry). Some (with_next f e)) (get_or_from_slice_get l.entries (place_of l c.number) (entry_with l.identity.geometry c h.frames) no_entry h.entry);
   count = omega (arith, length-append h.frames (f ∷ []), h.count);
   more = more;

@@ -1,8 +1,9 @@
 -- Elements of a list by their places.
-use Rattle.std.proofs.Common.{◌≡◌, ℕ, zero, suc, ◌<◌, List, [], ◌∷◌, length, Some, refl, sym, ap, ◌∙◌, arith}
-use Rattle.std.specs.Prelude.{slice_get, slice_index, slice_set}
+use Rattle.std.proofs.Common.{◌≡◌, ℕ, zero, suc, ◌+◌, ◌<◌, List, [], ◌∷◌, length, Some, refl, sym, ap, ◌∙◌, arith}
+use Rattle.std.specs.Prelude.{slice_get, slice_index, slice_set, sum}
 use Rattle.std.specs.List.{AllByRecursion}
 use Rattle.std.proofs.lemmas.Option.{same_Some}
+use Rattle.std.proofs.lemmas.List.Sums.{sum_by-set}
 
 -- the place that is set, and the others
 pub get_put : {X : Type 0} (xs : List X) (k : ℕ) (x : X) → k < length xs → slice_get (slice_set xs k x) k ≡ Some x
@@ -39,3 +40,7 @@ pub all_index : (P : ℕ → Type 0) (xs : List ℕ) (k : ℕ) → k < length xs
 all_index P [] k l all = absurd (omega arith)
 all_index P (x ∷ xs) zero l all = all.0
 all_index P (x ∷ xs) (suc k) l all = all_index P xs k (omega arith) all.1
+
+-- where one number grows, the sum does
+pub sum_set : (xs : List ℕ) (k n : ℕ) → k < length xs → sum (slice_set xs k (slice_index xs k + n)) ≡ sum xs + n
+sum_set xs k n l = omega (arith, sum_by-set (λ (x : ℕ). x) xs k (slice_index xs k + n) 0 l)

@@ -1,8 +1,7 @@
 -- `block_front` takes the bytes of the publisher's block, and then their front: what is written there stands in the block.
 use mathlib.Core.Path.{◌≡◌, refl, sym, ap, subst, ◌∙◌}
-use mathlib.Core.List.{List, [], ◌∷◌, ◌++◌}
+use mathlib.Core.List.{List, [], ◌∷◌}
 use Prim.Native.Nat.{ℕ, ◌≤◌, ◌<◌, ◌^◌}
-use native.Mathlib.Omega.{arith}
 use lib.ListN.{length, take}
 use base.Logic.{id⊢, emp}
 use base.Fml.{ftrue, flft}
@@ -29,10 +28,9 @@ use denote.Triple.Clauses.{lasts}
 use denote.Triple.Spec.{triple_of}
 use denote.Triple.Table.{framed}
 use denote.Triple.Walked.{Stays, stay_dropped, walk_of, needs, says, ends_at, Goes-dropped, Goes-spent_ref}
-use Rattle.std.proofs.Common.{drop_of_length-le}
-use Rattle.std.proofs.lemmas.List.{append-nil, take_all}
 use Rattle.std.proofs.raw_atomic.Walks.{proved}
 use Rattle.block.specs.Bytes.{with_front, length-with_front}
+use Rattle.block.proofs.Bytes.{with_front-whole}
 use Rattle.log_buffer.specs.Passes.{Pass}
 use Rattle.log_buffer.specs.Lending.{with_bytes}
 use Rattle.log_buffer.specs.contracts.passes.Publisher as P
@@ -44,17 +42,12 @@ use Rattle.publication.specs.contracts.front.block_front as f
 use Rattle.publication.proofs.front.block_front.Statement.{statement}
 use Rattle.publication.proofs.front.block_front.Code as code
 
-with_whole : (bytes front : List ℕ) → length front ≡ length bytes → with_front bytes front ≡ front
-with_whole bytes front same =
-    ap (λ (rest : List ℕ). take (length bytes) (front ++ rest)) (drop_of_length-le bytes (omega (arith, same)))
-    ∙ ap (take (length bytes)) (append-nil front) ∙ take_all (length bytes) front (omega (arith, same))
-
 -- bytes over the front of what stands in the block, and that over the block
 once : (p : Pass) (xs : List ℕ) → xs ≡ p.bytes → (λ (w : List ℕ). with_bytes p (with_front xs w)) ≡ with_bytes p
 once p xs e i w = record p { bytes = same w i }
   where
     same : (w : List ℕ) → with_front p.bytes (with_front xs w) ≡ with_front p.bytes w
-    same w = ap (λ (ys : List ℕ). with_front p.bytes (with_front ys w)) e ∙ with_whole p.bytes (with_front p.bytes w) (length-with_front p.bytes w)
+    same w = ap (λ (ys : List ℕ). with_front p.bytes (with_front ys w)) e ∙ with_front-whole p.bytes (with_front p.bytes w) (length-with_front p.bytes w)
 
 abbrev stayed : Stays f.ended.signature.params f.ended.kept
 stayed = (stay_dropped _ no, (stay_dropped _ yes, tt))

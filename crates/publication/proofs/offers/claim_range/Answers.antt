@@ -2,6 +2,7 @@ use Rattle.std.proofs.Common.{arith, ap, ◌∙◌, sym, ◌≡◌, ℕ, ◌+◌
 use Rattle.std.specs.Prelude.{slice_get, slice_set, Ok, Err}
 use Rattle.theory.specs.Position.{max_message, max_position}
 use Rattle.theory.specs.Refusal.{IsJustified}
+use Rattle.theory.proofs.Tables.{get_put}
 use Rattle.term_buffer.specs.declared.claimed.Claimed.{Claimed}
 use Rattle.log_buffer.specs.Log.{Log, raw_tail}
 use Rattle.log_buffer.specs.Passes.{Pass, sights}
@@ -14,7 +15,7 @@ use Rattle.publication.specs.Offers.{added_course, after_claim, after_course, an
 use Rattle.publication.specs.Refusals.{why_of}
 use Rattle.publication.specs.declared.refusal.Refusal.{Refusal}
 use Rattle.publication.proofs.Granted.{open_granted}
-use Rattle.publication.proofs.Justified.{after_is, answer_is, finished_at, get_put, limited_refusal, on_err, on_ok, open_justified, opened_before, stale, used_up}
+use Rattle.publication.proofs.Justified.{after_is, answer_is, finished_at, limited_refusal, on_err, on_ok, open_justified, opened_before, stale, used_up}
 use Rattle.publication.proofs.offers.claim_range.Goals as goal
 
 pub turn_from-requires-clause-last : goal.turn_from-requires-clause-last

@@ -1,8 +1,9 @@
 use Rattle.std.proofs.Common.{◌≡◌, ℕ, pos, ◌+◌, ◌<◌, ◌≤◌, true, false, refl, sym, ap, ◌∙◌, subst, arith}
 use Rattle.theory.specs.Position.{Geometry}
+use Rattle.theory.proofs.Frames.{tiles_le}
 use Rattle.term_buffer.specs.Kept.{Cleans, IsDrafted, Kept, MayClean, fresh, term_of, with_claim}
 use Rattle.term_buffer.specs.declared.claimed.Claimed.{Claimed}
-use Rattle.term_buffer.proofs.TestSteps.{claimed_is, committed, committed_is, first_past, grows, identity, next_claim, shape, stored, stored_is}
+use Rattle.term_buffer.proofs.TestSteps.{claimed_is, committed, committed_is, first_past, identity, next_claim, shape, stored, stored_is}
 use Rattle.term_buffer.proofs.tests.round_the_ring.Goals as goal
 
 abbrev message : Claimed
@@ -54,7 +55,7 @@ next_word : (l m : Kept) (n : ℕ) → IsCleaning l n → Cleans l (l.cleaned + 
 next_word l m n k h = record {
   same = ap (λ (x : Kept). x.identity) h.new_is ∙ k.same;
   at = ap (λ (x : Kept). x.cleaned) h.new_is ∙ ap (λ x. x + 8) k.at;
-  past = omega (arith, k.past, grows (term_of l) l.first m.first h.past h.tiles);
+  past = omega (arith, k.past, tiles_le (term_of l) l.first m.first h.past h.tiles);
   tail = ap (λ (x : Kept). x.tail) h.new_is ∙ k.tail;
 }
 

@@ -1,15 +1,15 @@
 use Rattle.std.proofs.Common.{◌≡◌, ◌<◌, ◌≤◌, length, ap, subst, sym, ◌∙◌, arith, take, fold, min}
-use Rattle.std.proofs.lemmas.List.{take_all}
+use Rattle.std.proofs.lemmas.List.{take_all, get_or-take}
 use Rattle.std.specs.Prelude.{slice_index}
 use Rattle.log_buffer.specs.Limits.{least}
 use Rattle.log_buffer.specs.Log.{IsLeast, clean_end}
 use Rattle.log_buffer.specs.contracts.state.LogState.{the_view}
-use Rattle.log_buffer.proofs.Leasts.{consumer_small, index_taken, least_behind, least_lowest, least_readable, least_unit, tail_small}
+use Rattle.log_buffer.proofs.Leasts.{consumer_small, least_behind, least_lowest, least_readable, least_unit, tail_small}
 use Rattle.log_buffer.proofs.state.LogState.least_consumer.Goals as goal
 
 pub loop-position-init : goal.loop-position-init
 loop-position-init c =
-    let first : slice_index (take c.self.inside.consumer_count c.self.inside.consumers) 0 ≡ slice_index c.self.inside.consumers 0 = index_taken c.self.inside.consumers c.self.inside.consumer_count 0 c.self.invariant.some_consumer in
+    let first : slice_index (take c.self.inside.consumer_count c.self.inside.consumers) 0 ≡ slice_index c.self.inside.consumers 0 = get_or-take c.self.inside.consumer_count c.self.inside.consumers 0 0 c.self.invariant.some_consumer in
     let some : 0 < length (take c.self.inside.consumer_count c.self.inside.consumers) = omega (arith, c.self.invariant.counted, c.self.invariant.some_consumer) in
     let small : slice_index (take c.self.inside.consumer_count c.self.inside.consumers) 0 ≤ 36028797018963968 = consumer_small (the_view c.self.inside) 0 c.self.invariant.log some in
     record { small = omega arith; value = sym first }

@@ -1,9 +1,10 @@
 use Rattle.std.proofs.Common.{◌≡◌, ◌+◌, ◌-◌, ◌*◌, ◌<◌, ◌≤◌, length, subst, sym, arith}
+use Rattle.block.proofs.Words.{word_size}
 use Rattle.theory.specs.Position.{aligned}
 use Rattle.term_buffer.specs.Kept.{next_length}
 use Rattle.log_buffer.specs.Log.{IsOpen, draft_of}
 use Rattle.log_buffer.specs.contracts.state.LogState.{the_view}
-use Rattle.log_buffer.proofs.Frames.{open_size, word_size}
+use Rattle.log_buffer.proofs.Frames.{open_size}
 use Rattle.log_buffer.proofs.Keeps.{kept_draft}
 use Rattle.log_buffer.proofs.state.LogState.store.Goals as goal
 

@@ -1,6 +1,7 @@
 use Rattle.std.proofs.Common.{arith, ◌≡◌, ◌%◌, ◌*◌, ◌^◌, ◌/◌, ◌<◌, ◌∙◌, sym, ap}
 use Rattle.std.proofs.Math.Nat.{mul-mod_left}
-use Rattle.position.proofs.Numbers.{whole_power, unit_start, term_ends}
+use Rattle.theory.proofs.Places.{term_ends}
+use Rattle.position.proofs.Numbers.{whole_power, unit_start}
 use Rattle.position.proofs.geometry.Geometry.term_start.Goals as goal
 
 pub returns-clause-in_stream : goal.returns-clause-in_stream
