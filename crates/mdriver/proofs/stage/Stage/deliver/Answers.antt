@@ -2,7 +2,8 @@ use Rattle.std.proofs.Common.{◌≡◌, ◌∙◌, ◌++◌, ap, map, refl, rul
 use Rattle.std.specs.Prelude.{slice_get}
 use Rattle.std.proofs.lemmas.Result.{on_ok_weaker}
 use Rattle.mdriver.specs.Prints.{OfReceiver, prints}
-use Rattle.mdriver.proofs.Stages.{deliver_answered, missing_deliver, seat_at}
+use Rattle.mdriver.proofs.Runs.{seat_at}
+use Rattle.mdriver.proofs.Stages.{deliver_answered, missing_deliver}
 use Rattle.mdriver.proofs.stage.Stage.deliver.Goals as goal
 
 pub returns-in_default : goal.returns-in_default
