@@ -1,10 +1,10 @@
 -- A poll goes on with the world, and gives what its line prints.
-use Rattle.std.proofs.Common.{◌≡◌, ℕ, ◌≤◌, List, [], ◌∷◌, ◌++◌, Bool, true, false, Option, None, Some, inl, inr, refl, sym, ap, ◌∙◌, subst, arith}
+use Rattle.std.proofs.Common.{◌≡◌, ℕ, ◌≤◌, List, [], ◌∷◌, ◌++◌, true, false, Option, None, Some, inl, inr, refl, sym, ap, ◌∙◌, subst, arith}
 use Rattle.std.specs.Prelude.{slice_set}
 use Rattle.std.specs.Option.{option_map}
 use Rattle.std.proofs.lemmas.Bool.{both_ways}
-use Rattle.theory.specs.Placed.{AllAmong, Among, Chain, Placed, end_of}
-use Rattle.theory.specs.Consumer.{Consumer, moved, passed_by}
+use Rattle.theory.specs.Placed.{Among, Chain, Placed, end_of}
+use Rattle.theory.specs.Consumer.{Consumer, passed_by}
 use Rattle.theory.specs.Image.{Image, Lose}
 use Rattle.theory.specs.World.{World, AtImage}
 use Rattle.theory.proofs.Lists.{all_behind, all_front}

@@ -9,7 +9,7 @@ use Rattle.std.proofs.lemmas.Option.{slice_get_within}
 use Rattle.theory.specs.Position.{aligned}
 use Rattle.theory.specs.Bytes.{Identity}
 use Rattle.theory.specs.Placed.{Data, Frame, Pad, Placed, frame_length}
-use Rattle.theory.specs.Assembly.{Assembly, after, after_all, nothing_heard}
+use Rattle.theory.specs.Assembly.{after, nothing_heard}
 use Rattle.theory.specs.Consumer.{Consumer, moved}
 use Rattle.theory.specs.Log.{Move}
 use Rattle.theory.specs.World.{AtLog}

@@ -1,12 +1,10 @@
 -- What frames make of a receiver leaves its consumer and the assembler that it has.
-use Rattle.std.proofs.Common.{◌≡◌, ℕ, inl, inr, ⊎_elim, List, [], ◌∷◌, false, Option, Some, None, refl, sym, ap, ◌∙◌, subst}
-use Rattle.std.specs.Prelude.{ℤ, pos, negsuc, true}
-use Rattle.std.proofs.lemmas.Bool.{cases_Bool, cond-true, cond-false}
+use Rattle.std.proofs.Common.{◌≡◌, ℕ, inl, inr, List, [], ◌∷◌, Option, Some, None, refl, sym, ap, ◌∙◌, subst}
+use Rattle.std.specs.Prelude.{ℤ, pos, negsuc}
 use Rattle.theory.specs.Placed as placed
 use Rattle.theory.specs.Consumer.{consumer_at, least_of}
 use Rattle.theory.specs.Control.{named_by}
-use Rattle.theory.specs.Image.{Image, after_heartbeat, after_insert, image_at, is_accepted}
-use Rattle.theory.specs.Insert.{Insert, CrossesTerm, Below, OverWindow, Duplicate, Overlap, Stored}
+use Rattle.theory.specs.Image.{after_heartbeat, image_at}
 use Rattle.theory.specs.Wire.{Header, Setup, Wire, DATA, PAD, HEARTBEAT, NAK, SM, SETUP}
 use Rattle.assembler.specs.Assembling.{Assembling}
 use Rattle.mdriver.specs.declared.receiver.Outcome.{Outcome}

@@ -1,11 +1,10 @@
 -- What an image shows answers as the image does, and shows what becomes of it.
-use Rattle.std.proofs.Common.{◌≡◌, ℕ, ◌<◌, ◌≤◌, inl, inr, ⊎_elim, List, [], ◌∷◌, map, length, min, true, false, refl, sym, ap, ◌∙◌, subst, arith}
-use Rattle.std.specs.Prelude.{nat_le}
+use Rattle.std.proofs.Common.{◌≡◌, ℕ, ◌<◌, ◌≤◌, ⊎_elim, List, [], ◌∷◌, map, length, min, refl, ◌∙◌, subst, arith}
 use Rattle.std.specs.List.{AllByRecursion, fold}
-use Rattle.std.proofs.lemmas.Bool.{cases_Bool, cases_lt, cond-true, cond-false, le-leb, leb-true}
-use Rattle.theory.specs.Placed.{Among, Chain, IsReached, Placed, end_of}
+use Rattle.std.proofs.lemmas.Bool.{cases_lt}
+use Rattle.theory.specs.Placed.{Among, IsReached, Placed, end_of}
 use Rattle.theory.specs.Consumer.{Consumer, least_from, least_of}
-use Rattle.theory.specs.ImageLaws.{AreParted, held}
+use Rattle.theory.specs.ImageLaws.{AreParted}
 use Rattle.theory.proofs.Lists.{all_at, all_from, all_weaker}
 use Rattle.theory.proofs.Parted.{IsCovered, is_covered}
 use Rattle.rebuilder.specs.Seen.{least}

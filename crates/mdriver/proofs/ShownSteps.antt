@@ -3,7 +3,7 @@ use Rattle.std.proofs.Common.{◌≡◌, ℕ, zero, suc, ◌+◌, ◌-◌, ◌*�
 use Rattle.std.specs.Prelude.{◌↔◌, ◌||◌, slice_get, slice_index, slice_set, replicate, Some, nat_lt, ℤ, pos, negsuc}
 use Rattle.std.specs.List.{AllByRecursion, list_any}
 use Rattle.std.proofs.lemmas.List.{length-replicate, map-set}
-use Rattle.std.proofs.lemmas.Bool.{cases_Bool, cases_lt, cond-true, cond-false, ltb-false, and_cases, both_ways, or_right, or_left}
+use Rattle.std.proofs.lemmas.Bool.{cases_Bool, cases_lt, cond-true, cond-false, ltb-false, and_cases, both_ways}
 use Rattle.theory.specs.Position.{Geometry, aligned, max_position}
 use Rattle.theory.specs.Placed.{Among, Chain, Frame, IsReached, Placed, covered, end_of, frame_length, is_padding}
 use Rattle.theory.specs.Units.{HasUnit, IsContiguous}

@@ -1,13 +1,11 @@
 -- Readers stand and claims are open as long as nothing is done to them.
-use Rattle.std.proofs.Common.{◌≡◌, ◌∙◌, ℕ, zero, suc, ◌+◌, ◌-◌, ◌<◌, ◌≤◌, List, [], ◌∷◌, length, map, true, false, cond, Option, None, Some, refl, sym, ap, subst, arith, ⊎_elim, inl, inr}
-use Rattle.std.specs.Prelude.{nat_le, slice_get, slice_index, slice_index_or, slice_set}
+use Rattle.std.proofs.Common.{◌≡◌, ◌∙◌, ℕ, zero, suc, ◌+◌, ◌<◌, ◌≤◌, List, [], ◌∷◌, length, map, false, None, Some, sym, ap, subst, arith}
+use Rattle.std.specs.Prelude.{slice_get, slice_index, slice_index_or, slice_set}
 use Rattle.std.proofs.lemmas.List.{nil_from_length}
-use Rattle.theory.specs.Position.{Geometry, cuts_of, max_payload}
+use Rattle.theory.specs.Position.{Geometry, max_payload}
 use Rattle.theory.specs.Bytes.{Identity}
-use Rattle.theory.specs.Placed.{Frame}
-use Rattle.theory.specs.Entry.{Entry}
 use Rattle.theory.proofs.Cuts.{short_cuts}
-use Rattle.term_buffer.specs.Kept.{claim_of, cuts_for, cuts_in, entry_with}
+use Rattle.term_buffer.specs.Kept.{cuts_for, cuts_in, entry_with}
 use Rattle.term_buffer.specs.declared.claimed.Claimed.{Claimed}
 use Rattle.log_buffer.specs.Log.{IsHeld, Log}
 use Rattle.log_buffer.specs.Reader.{IsAt, Reader}

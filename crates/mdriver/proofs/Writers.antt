@@ -6,8 +6,7 @@ use Rattle.mdriver.specs.Stands.{AreWriters, Holds, WriterHolds, pass_of}
 use Rattle.mdriver.proofs.Runs.{seat_at}
 use Rattle.mdriver.proofs.Standing.{are_writers}
 use Rattle.std.specs.List.{insert, remove}
-use Rattle.std.specs.Prelude.{slice_get, slice_index, slice_index_or, slice_set}
-use Rattle.std.specs.Prelude.{Result, Option, None, Some, replicate}
+use Rattle.std.specs.Prelude.{Some, slice_index, slice_index_or, slice_set}
 use Rattle.log_buffer.specs.Log.{IsLog, Log}
 use Rattle.log_buffer.specs.Passes.{Pass}
 use Rattle.publication.specs.Claims.{Filling, claim_at, end_of}
@@ -15,7 +14,7 @@ use Rattle.publication.specs.Offers.{after_claim, answer_of}
 use Rattle.publication.specs.declared.refusal.Refusal.{Refusal}
 use Rattle.mdriver.specs.declared.writer.Writer.{Writer}
 use Rattle.mdriver.specs.declared.writer.Writer.TheVariants as writers
-use Rattle.mdriver.specs.Prints.{Claimed, Print, Refused}
+use Rattle.mdriver.specs.Prints.{Claimed, Refused}
 use Rattle.mdriver.specs.Writing.{Claimed_by, Claims, Ends, Rewrites}
 
 pub claimed_line : (l m : Log) (w : Writer) (p : Pass) (size : ℕ) (claim : Filling) (start end : ℕ) → w ≡ writers.Free p → IsLog l → answer_of l size ≡ Ok (end_of claim) → claim.claimed ≡ claim_at l p.number size → m ≡ after_claim l p.number size → start ≡ claim.claimed.start → end ≡ end_of claim → Claims l w size m (writers.Holding claim) (Claimed start end)

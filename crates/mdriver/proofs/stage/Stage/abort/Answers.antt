@@ -1,6 +1,6 @@
-use Rattle.std.proofs.Common.{◌≡◌, ◌∙◌, ◌≤◌, ◌<◌, ◌+◌, ◌-◌, ap, arith, length, subst, sym, refl, inl, inr, rules, suc}
+use Rattle.std.proofs.Common.{◌≡◌, ◌∙◌, ◌≤◌, ap, length, subst, sym, refl}
 use Rattle.theory.specs.Bytes.{Identity}
-use Rattle.mdriver.proofs.Standing.{all_stand, are_writers, holds_on, stands_on}
+use Rattle.mdriver.proofs.Standing.{all_stand, stands_on}
 use Rattle.mdriver.proofs.Stages.{abort_answered}
 use Rattle.mdriver.proofs.stage.Stage.abort.Goals as goal
 

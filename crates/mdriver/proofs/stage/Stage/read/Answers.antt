@@ -1,4 +1,4 @@
-use Rattle.std.proofs.Common.{◌≡◌, ◌∙◌, ◌≤◌, ◌<◌, ◌+◌, ◌-◌, ℕ, ap, arith, length, subst, suc, sym, refl, inl, inr}
+use Rattle.std.proofs.Common.{◌≡◌, ◌∙◌, ◌≤◌, ◌<◌, ◌-◌, ℕ, ap, arith, length, subst, sym, refl, inl, inr}
 use Rattle.theory.specs.Bytes.{Identity}
 use Rattle.mdriver.specs.declared.line.Line.TheVariants as lines
 use Rattle.mdriver.proofs.Standing.{are_writers, reader_there, readers_set}
