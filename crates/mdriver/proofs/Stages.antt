@@ -27,6 +27,7 @@ use Rattle.mdriver.specs.Polling.{Polls, TellsPositions}
 use Rattle.mdriver.specs.Prints.{Bad, Limit, OfReceiver, Print, print_of, prints}
 use Rattle.mdriver.specs.Receiving.{Hears, Receiver, replies, ticked}
 use Rattle.mdriver.specs.Scene.{Scene}
+use Rattle.mdriver.specs.Sending.{Sending}
 use Rattle.mdriver.specs.Staged.{AllShow, Answered, IsAnswered, IsOffered, MayBeOffered, OfferedLine, ShowsScene, ShowsSender}
 use Rattle.mdriver.specs.Stands.{AreWriters, WriterHolds, claim_in, pass_of}
 use Rattle.mdriver.specs.Writing as writing
@@ -68,23 +69,27 @@ shows_set (w ∷ ws) (q ∷ rs) (suc k) v r h s = (h.0, shows_set ws rs k v r h.
 abbrev pub claims_of : Stage → List (Option Claimed)
 claims_of v = map claim_in v.writers.items
 
+-- what a stage has now
+pub record IsNow (v : Stage) (l : Log) (x : Sending ℕ) (vs : List Subscribing) (ps : List (List ℕ)) (cs : List (Option Claimed)) (rs : List Reader) : Type 0 where
+  pub log : v.log ≡ l
+  pub sender : v.sender ≡ x
+  pub subscribers : v.subscribers.items ≡ vs
+  pub packets : v.packets ≡ ps
+  pub claims : claims_of v ≡ cs
+  pub readers : v.readers.items ≡ rs
+
 -- the stage is as it was, but for its log, which is this one now
-pub record OnlyLog (old new : Stage) (log : Log) : Type 0 where
-  pub log_is : new.log ≡ log
-  pub sender : new.sender ≡ old.sender
-  pub subscribers : new.subscribers.items ≡ old.subscribers.items
-  pub packets : new.packets ≡ old.packets
-  pub claims : claims_of new ≡ claims_of old
-  pub readers : new.readers.items ≡ old.readers.items
+abbrev pub OnlyLog : Stage → Stage → Log → Type 0
+OnlyLog old new log = IsNow new log old.sender old.subscribers.items old.packets (claims_of old) old.readers.items
 
 -- with these entries forgotten
 log_shown : (old new : Stage) (s : Scene) (log : Log) (past : List Entry) → ShowsScene old s → OnlyLog old new log → log.consumers ≡ old.log.consumers → log.start ≡ s.log.start → ShowsScene new (record s { log = log; past = past })
 log_shown old new s log past h o one start =
     let scene : Scene = record s { log = log; past = past } in
     record {
-      log = sym o.log_is;
+      log = sym o.log;
       sender = subst (λ v. ShowsSender v scene) (sym o.sender) (record { at = h.sender.at; number = h.sender.number; flow = h.sender.flow ∙ ap (λ n. flow_limit n s.sender.said) (sym start); naming = h.sender.naming; clock = h.sender.clock });
-      consumers = ap (λ l. l.consumers) o.log_is ∙ one ∙ h.consumers;
+      consumers = ap (λ l. l.consumers) o.log ∙ one ∙ h.consumers;
       claims = h.claims ∙ sym o.claims;
       readers = ap (map (λ r. r.position)) o.readers ∙ h.readers;
       receivers = subst (λ vs. AllShow vs s.receivers) (sym o.subscribers) h.receivers;
@@ -136,13 +141,8 @@ limit_answered old new line before after legal done shown same told = λ s h.
 -- ---- another receiver
 
 -- the stage is as it was, but for one subscriber
-pub record OnlySubscriber (old new : Stage) (k : ℕ) (v : Subscribing) : Type 0 where
-  pub log : new.log ≡ old.log
-  pub sender : new.sender ≡ old.sender
-  pub subscribers : new.subscribers.items ≡ slice_set old.subscribers.items k v
-  pub packets : new.packets ≡ old.packets
-  pub claims : claims_of new ≡ claims_of old
-  pub readers : new.readers.items ≡ old.readers.items
+abbrev pub OnlySubscriber : Stage → Stage → ℕ → Subscribing → Type 0
+OnlySubscriber old new k v = IsNow new old.log old.sender (slice_set old.subscribers.items k v) old.packets (claims_of old) old.readers.items
 
 subscriber_shown : (old new : Stage) (s : Scene) (k : ℕ) (v : Subscribing) (r : Receiver) → ShowsScene old s → OnlySubscriber old new k v → ShowsSubscriber v r → ShowsScene new (with_receiver s k r)
 subscriber_shown old new s k v r h o shown = record {
@@ -184,7 +184,7 @@ packet_missing : (old : Stage) (s : Scene) (k : ℕ) → ShowsScene old s → sl
 packet_missing old s k h none = none_past s.packets k (ap (λ ps. slice_get ps k) h.packets ∙ none)
 
 same_shown : (old new : Stage) (s : Scene) → ShowsScene old s → OnlyLog old new old.log → ShowsScene new s
-same_shown old new s h o = log_shown old new s s.log s.past h (record { log_is = o.log_is ∙ sym h.log; sender = o.sender; subscribers = o.subscribers; packets = o.packets; claims = o.claims; readers = o.readers }) (ap (λ l. l.consumers) h.log) refl
+same_shown old new s h o = log_shown old new s s.log s.past h (record { log = o.log ∙ sym h.log; sender = o.sender; subscribers = o.subscribers; packets = o.packets; claims = o.claims; readers = o.readers }) (ap (λ l. l.consumers) h.log) refl
 
 pub missing_deliver : (old new : Stage) (k n now : ℕ) (line : Line) (before after : List Line) → slice_get old.packets k ≡ None → print_of line ≡ Bad → OnlyLog old new old.log → after ≡ before ++ line ∷ [] → IsAnswered old (orders.Deliver k n now) before after new
 missing_deliver old new k n now line before after none bad o told = λ s h. record {
@@ -217,13 +217,8 @@ deliver_answered old new k n now bytes v w outs before after packet there hears 
     }
 
 -- the same with packets given out
-pub record TickedTo (old new : Stage) (k : ℕ) (w : Subscribing) (packets : List (List ℕ)) : Type 0 where
-  pub log : new.log ≡ old.log
-  pub sender : new.sender ≡ old.sender
-  pub subscribers : new.subscribers.items ≡ slice_set old.subscribers.items k w
-  pub packets_are : new.packets ≡ old.packets ++ packets
-  pub claims : claims_of new ≡ claims_of old
-  pub readers : new.readers.items ≡ old.readers.items
+abbrev pub TickedTo : Stage → Stage → ℕ → Subscribing → List (List ℕ) → Type 0
+TickedTo old new k v packets = IsNow new old.log old.sender (slice_set old.subscribers.items k v) (old.packets ++ packets) (claims_of old) old.readers.items
 
 pub tick_answered : (old new : Stage) (n now : ℕ) (v w : Subscribing) (wires : List Wire) (before after : List Line) → slice_get old.subscribers.items n ≡ Some v → ((r : Receiver) → ShowsSubscriber v r → wires ≡ replies r now) → ((r : Receiver) → ShowsSubscriber v r → ShowsSubscriber w (ticked r now)) → AreFrames wires → TickedTo old new n w (datagrams wires) → prints after ≡ prints before ++ or_nothing (packet_lines (length old.packets) (datagrams wires)) → IsAnswered old (orders.Tick n now) before after new
 tick_answered old new n now v w wires before after there out next frames o told = λ s h.
@@ -243,7 +238,7 @@ tick_answered old new n now v w wires before after there out next frames o told 
         claims = base.claims;
         readers = base.readers;
         receivers = base.receivers;
-        packets = ap (λ ps. ps ++ datagrams (replies r now)) h.packets ∙ ap (λ ws. old.packets ++ datagrams ws) (sym sent) ∙ sym o.packets_are;
+        packets = ap (λ ps. ps ++ datagrams (replies r now)) h.packets ∙ ap (λ ws. old.packets ++ datagrams ws) (sym sent) ∙ sym o.packets;
       };
     }
 
@@ -254,11 +249,8 @@ on_both (Err e) P Q R h k f = tt
 -- ---- claims
 
 -- the stage is as it was, but for its log and its writers' claims
-pub record OnlyClaims (old new : Stage) : Type 0 where
-  pub sender : new.sender ≡ old.sender
-  pub subscribers : new.subscribers.items ≡ old.subscribers.items
-  pub packets : new.packets ≡ old.packets
-  pub readers : new.readers.items ≡ old.readers.items
+abbrev pub OnlyClaims : Stage → Stage → Type 0
+OnlyClaims old new = IsNow new new.log old.sender old.subscribers.items old.packets (claims_of new) old.readers.items
 
 claim_shown : (old new : Stage) (s : Scene) (log : Log) (claims : List (Option Claimed)) → ShowsScene old s → OnlyClaims old new → new.log ≡ log → claims_of new ≡ claims → log.consumers ≡ s.log.consumers → log.start ≡ s.log.start → ShowsScene new (record s { log = log; claims = claims })
 claim_shown old new s log claims h o is held one start =
@@ -418,11 +410,8 @@ abort_answered old new by line before after low each r o told = λ s h.
 -- ---- a reader
 
 -- the stage is as it was, but for its log and its readers
-pub record OnlyReaders (old new : Stage) : Type 0 where
-  pub sender : new.sender ≡ old.sender
-  pub subscribers : new.subscribers.items ≡ old.subscribers.items
-  pub packets : new.packets ≡ old.packets
-  pub claims : claims_of new ≡ claims_of old
+abbrev pub OnlyReaders : Stage → Stage → Type 0
+OnlyReaders old new = IsNow new new.log old.sender old.subscribers.items old.packets (claims_of old) new.readers.items
 
 consumer_at_place : (rs : List Reader) (cs : List Consumer) (j : ℕ) (r : Reader) → map (λ q. q.position) rs ≡ map (λ c. c.at) cs → slice_get rs j ≡ Some r → (c : Consumer) × (slice_get cs j ≡ Some c) × (c.at ≡ r.position)
 consumer_at_place [] cs j r e h = absurd (cc)

@@ -29,5 +29,5 @@ pub returns : goal.returns
 returns c =
     let old = c.args.self.now in
     offer_answered old _ c.args.publisher.number c.args.message.now c.offer_by-line.result c.args.lines.now.items c.push.new.self.items old.each c.offer_by-line.ensures.line
-    (record { sender = refl; subscribers = refl; packets = refl; readers = refl })
+    (record { log = refl; sender = refl; subscribers = refl; packets = refl; claims = refl; readers = refl })
     c.in_ok-push.ensures.items
