@@ -2,11 +2,13 @@
 use Rattle.std.proofs.Common.{◌≡◌, ◌⊎◌, ℕ, zero, suc, ◌+◌, ◌-◌, ◌<◌, List, [], ◌∷◌, ◌++◌, length, true, false, cond, Option, Some, inl, inr, ⊎_elim, refl, sym, ap, ◌∙◌, subst, arith, append_assoc}
 use Rattle.std.specs.Prelude.{◌%◌, ◌==◌, replicate, slice_get, slice_index, slice_index_or, slice_set}
 use Rattle.std.proofs.lemmas.Bool.{cases_Bool, eqb-true, eqb-false}
+use Rattle.std.proofs.lemmas.List.{get_or-replicate, get_or-set_other, get_or-set_same}
 use Rattle.theory.specs.Position.{max_message, max_payload, span}
 use Rattle.theory.specs.Placed.{Data}
 use Rattle.theory.specs.Entry.{Entry, length_of}
 use Rattle.theory.specs.Tiling.{share_of}
 use Rattle.theory.proofs.Claims.{covers_framed}
+use Rattle.theory.proofs.Shares.{share-push}
 use Rattle.theory.proofs.Tiling.{share-cons}
 use Rattle.term_buffer.specs.Kept.{claim_of, no_entry, padded, published, with_next, with_share}
 use Rattle.term_buffer.specs.declared.claimed.Claimed.{Claimed}
@@ -29,29 +31,13 @@ use Rattle.mdriver.proofs.SoundLines.{kept_claim}
 
 -- ---- one entry more
 
-share_push : (k : ℕ) (es : List Entry) (e : Entry) → share_of k (es ++ e ∷ []) ≡ share_of k es + cond (e.owner == k) (length_of e) 0
-share_push k [] e = share-cons k e [] ∙ omega arith
-share_push k (x ∷ xs) e = omega (arith, share-cons k x (xs ++ e ∷ []), share_push k xs e, share-cons k x xs)
-
-index_set : (xs : List ℕ) (k n : ℕ) → k < length xs → slice_index (slice_set xs k n) k ≡ n
-index_set [] k n h = absurd (omega (arith, h))
-index_set (x ∷ xs) zero n h = refl
-index_set (x ∷ xs) (suc k) n h = index_set xs k n (omega (arith, h))
-
-index_other : (xs : List ℕ) (k j n : ℕ) → (k ≡ j → ⊥) → slice_index (slice_set xs k n) j ≡ slice_index xs j
-index_other [] k j n h = refl
-index_other (x ∷ xs) zero zero n h = absurd (h refl)
-index_other (x ∷ xs) zero (suc j) n h = refl
-index_other (x ∷ xs) (suc k) zero n h = refl
-index_other (x ∷ xs) (suc k) (suc j) n h = index_other xs k j n (λ e. h (ap suc e))
-
 share_set : (xs : List ℕ) (by k n : ℕ) → by < length xs → slice_index (with_share xs by n) k ≡ slice_index xs k + cond (by == k) n 0
 share_set xs by k n low =
     ⊎_elim
     (λ (t : (by == k) ≡ true).
     let same : by ≡ k = eqb-true by k t in
-    subst (λ j. slice_index (with_share xs by n) j ≡ slice_index xs j + n) same (index_set xs by (slice_index xs by + n) low) ∙ ap (λ b. slice_index xs k + cond b n 0) (sym t))
-    (λ (f : (by == k) ≡ false). index_other xs by k (slice_index xs by + n) (eqb-false by k f) ∙ omega arith ∙ ap (λ b. slice_index xs k + cond b n 0) (sym f))
+    subst (λ j. slice_index (with_share xs by n) j ≡ slice_index xs j + n) same (get_or-set_same xs by (slice_index xs by + n) 0 low) ∙ ap (λ b. slice_index xs k + cond b n 0) (sym t))
+    (λ (f : (by == k) ≡ false). get_or-set_other xs by k (slice_index xs by + n) 0 (λ e. eqb-false by k f (sym e)) ∙ omega arith ∙ ap (λ b. slice_index xs k + cond b n 0) (sym f))
     (cases_Bool (by == k))
 
 -- ---- what is counted
@@ -67,7 +53,7 @@ counts_more : (shares : List ℕ) (past es : List Entry) (e : Entry) → length 
 counts_more shares past es e eight who h k low =
     share_set shares e.owner k (length_of e) (omega (arith, who, eight))
     ∙ ap (λ n. n + cond (e.owner == k) (length_of e) 0) (h k low)
-    ∙ sym (share_push k (past ++ es) e)
+    ∙ sym (share-push k (past ++ es) e)
     ∙ ap (share_of k) (append_assoc past es (e ∷ []))
 
 -- ---- an offer or a claim
@@ -204,15 +190,7 @@ all_count s last (p ∷ ps) m h = all_count m.0 last ps m.2 (line_counts s m.0 p
 
 -- where it begins, nothing is claimed
 none_yet : Counts (replicate 8 0) []
-none_yet zero h = refl
-none_yet (suc zero) h = refl
-none_yet (suc (suc zero)) h = refl
-none_yet (suc (suc (suc zero))) h = refl
-none_yet (suc (suc (suc (suc zero)))) h = refl
-none_yet (suc (suc (suc (suc (suc zero))))) h = refl
-none_yet (suc (suc (suc (suc (suc (suc zero)))))) h = refl
-none_yet (suc (suc (suc (suc (suc (suc (suc zero))))))) h = refl
-none_yet (suc (suc (suc (suc (suc (suc (suc (suc k)))))))) h = absurd (omega (arith, h))
+none_yet k h = get_or-replicate 8 k 0 0 h
 
 pub always_counted : AlwaysCounted
 always_counted o played last m = all_count (opened_scene (identity_of o) o.start o.readers) last played m none_yet

@@ -8,7 +8,8 @@ use Rattle.theory.specs.Position.{Geometry, IsGeometry, count_of}
 use Rattle.theory.specs.Setup.{NamesPosition, OpensAt}
 use Rattle.theory.specs.Wire.{Setup}
 use Rattle.rebuilder.specs.Seen.{IsJoin}
-use Rattle.mdriver.proofs.Units.{whole_power, whole_times}
+use Rattle.theory.proofs.WorldSteps.{power_unit}
+use Rattle.mdriver.proofs.Units.{whole_times}
 
 count_low : (g : Geometry) (id : ℤ) (n : ℕ) → count_of g id ≡ pos n → n < 2 ^ 31
 count_low g id n e =
@@ -24,7 +25,7 @@ opens_join f width g p opens =
     let h : NamesPosition f g p = opens.position in
     let legal : IsGeometry g = opens.geometry.legal in
     let long : 65536 ≤ g.term_length = legal.term.least in
-    let whole : (h.count * g.term_length) % 32 ≡ 0 = whole_times h.count g.term_length (whole_power g.term_length legal.term.power (omega arith)) in
+    let whole : (h.count * g.term_length) % 32 ≡ 0 = whole_times h.count g.term_length (power_unit g.term_length legal.term.power long) in
     let unit : h.offset % 32 ≡ 0 = h.unit in
     let here : p ≡ h.count * g.term_length + h.offset = h.here in
     let few : h.count < 2 ^ 31 = count_low g f.active_term_id h.count h.counted in

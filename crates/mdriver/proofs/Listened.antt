@@ -20,7 +20,7 @@ snoc_shows (w ∷ vs) (s ∷ rs) v r h k = (h.0, snoc_shows vs rs v r h.1 k)
 abbrev pub FirstListen : Identity → ℕ → List Subscribing → Type 0
 FirstListen i k vs = AllShow vs (map (listening_at i) (take k numbers))
 
-number_at : (k : ℕ) → k < 8 → get_or numbers k 0 ≡ k
+pub number_at : (k : ℕ) → k < 8 → get_or numbers k 0 ≡ k
 number_at zero h = refl
 number_at (suc zero) h = refl
 number_at (suc (suc zero)) h = refl

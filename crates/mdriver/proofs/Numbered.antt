@@ -1,6 +1,7 @@
 -- Packets that get the next numbers, one after the other.
 use Rattle.std.proofs.Common.{◌≡◌, ℕ, zero, suc, ◌+◌, ◌<◌, ◌≤◌, List, [], ◌∷◌, ◌++◌, length, take, None, Some, refl, sym, ap, ◌∙◌, arith, append-nil, append_assoc, length-append}
 use Rattle.std.specs.Prelude.{slice_get}
+use Rattle.std.proofs.lemmas.List.{take_all}
 use Rattle.mdriver.specs.Answers.{or_nothing, packet_lines}
 use Rattle.mdriver.specs.Prints.{Packet, Print}
 
@@ -13,21 +14,10 @@ take_one [] i b h = absurd (cc)
 take_one (x ∷ xs) zero b h = let same : x ≡ b = cc in ap (λ y. y ∷ []) same
 take_one (x ∷ xs) (suc i) b h = ap (λ ys. x ∷ ys) (take_one xs i b h)
 
-length_take : (xs : List (List ℕ)) (i : ℕ) (b : List ℕ) → slice_get xs i ≡ Some b → length (take i xs) ≡ i
-length_take [] i b h = absurd (cc)
-length_take (x ∷ xs) zero b h = refl
-length_take (x ∷ xs) (suc i) b h = ap suc (length_take xs i b h)
-
-take_all : (xs : List (List ℕ)) (i : ℕ) → length xs ≤ i → take i xs ≡ xs
-take_all [] zero h = refl
-take_all [] (suc i) h = refl
-take_all (x ∷ xs) zero h = absurd (omega (arith, h))
-take_all (x ∷ xs) (suc i) h = ap (λ ys. x ∷ ys) (take_all xs i (omega (arith, h)))
-
-not_there : (xs : List (List ℕ)) (i : ℕ) → i < length xs → slice_get xs i ≡ None → ⊥
-not_there [] i h e = absurd (omega (arith, h))
-not_there (x ∷ xs) zero h e = absurd (cc)
-not_there (x ∷ xs) (suc i) h e = not_there xs i (omega (arith, h)) e
+pub none_past : (xs : List (List ℕ)) (i : ℕ) → slice_get xs i ≡ None → length xs ≤ i
+none_past [] i e = omega arith
+none_past (x ∷ xs) zero e = absurd (cc)
+none_past (x ∷ xs) (suc i) e = omega (arith, none_past xs i e)
 
 -- the packets, and the lines, after the first so many
 pub record Given (old new all : List (List ℕ)) (before after : List Print) (i : ℕ) : Type 0 where
@@ -53,11 +43,11 @@ given_next old mid new all before between after i b h found packets lines =
     }
 
 pub given_nothing : (old new all : List (List ℕ)) (before after : List Print) (i : ℕ) → i < length all → slice_get all i ≡ None → Given old new all before after (i + 1)
-given_nothing old new all before after i low e = absurd (not_there all i low e)
+given_nothing old new all before after i low e = absurd (omega (arith, low, none_past all i e))
 
 pub all_given : (old new all : List (List ℕ)) (before after : List Print) (i : ℕ) → Given old new all before after i → length all ≤ i → (new ≡ old ++ all) × (after ≡ before ++ packet_lines (length old) all)
 all_given old new all before after i h high =
-    let whole = take_all all i high in
+    let whole = take_all i all high in
     (h.packets ∙ ap (λ xs. old ++ xs) whole, h.lines ∙ ap (λ xs. before ++ packet_lines (length old) xs) whole)
 
 pub not_nothing : (k : ℕ) (ds : List (List ℕ)) → 0 < length ds → or_nothing (packet_lines k ds) ≡ packet_lines k ds

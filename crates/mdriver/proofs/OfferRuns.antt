@@ -1,10 +1,10 @@
 -- An offer or a claim as events of the log: a publisher is armed and adds one entry, and a message's frames are committed one by one.
-use Rattle.std.proofs.Common.{◌≡◌, ℕ, zero, suc, ◌+◌, ◌-◌, ◌*◌, ◌/◌, ◌%◌, ◌^◌, ◌<◌, ◌≤◌, inl, ⊎_elim, List, [], ◌∷◌, ◌++◌, map, length, Bool, true, false, cond, not, Some, None, refl, sym, ap, ◌∙◌, subst, arith, append-nil, append_assoc}
-use Rattle.std.specs.Prelude.{nat_eq, nat_le, nat_lt, slice_get, slice_set}
+use Rattle.std.proofs.Common.{◌≡◌, ℕ, ◌+◌, ◌-◌, ◌*◌, ◌%◌, ◌^◌, ◌<◌, ◌≤◌, inl, ⊎_elim, List, [], ◌∷◌, ◌++◌, map, length, Bool, true, false, cond, not, None, refl, sym, ap, ◌∙◌, subst, arith, append-nil, append_assoc}
+use Rattle.std.specs.Prelude.{nat_eq, nat_le, nat_lt, slice_set}
 use Rattle.std.specs.List.{AllByRecursion}
 use Rattle.std.proofs.lemmas.Bool.{cond-true, cond-false, eq-eqb, cases_lt, leb-false, ltb-false, ne_eqb, not_from_true}
-use Rattle.std.proofs.lemmas.List.{map-append}
-use Rattle.std.proofs.Math.Nat.{div-lt_iff_lt-mul, mul-le-mul_right}
+use Rattle.std.proofs.lemmas.List.{length-map, map-append, map-set, set-set}
+use Rattle.std.proofs.Math.Nat.{mul-le-mul_right}
 use Rattle.std.proofs.lemmas.Nat.{mod-mul-add}
 use Rattle.theory.specs.Position.{Geometry, IsGeometry, aligned, cuts_of, framed_length, max_message, max_payload, max_position, span}
 use Rattle.theory.specs.Placed.{Frame, Pad}
@@ -16,13 +16,16 @@ use Rattle.theory.specs.Log as stream
 use Rattle.theory.specs.Log.{Add, Arm, Commit, LogEvent, LogStep, MayCommit, entry_for, room, with_frame}
 use Rattle.theory.specs.World.{World, AtLog}
 use Rattle.theory.proofs.Claims.{covers_framed}
+use Rattle.theory.proofs.Frames.{tiles_le}
 use Rattle.theory.proofs.Lists.{among_right}
+use Rattle.theory.proofs.Places.{term_ends}
+use Rattle.theory.proofs.Tables.{get_put}
 use Rattle.log_buffer.specs.Log.{IsLog, Log, counted, offset_of, room_in, term_of, turned}
 use Rattle.rotation.specs.Rotated.{rotated, with_next}
 use Rattle.publication.specs.Offers.{Course, IsClosed, IsStale, IsUsedUp, IsLimited, Fits, Trips, course_of, covered, turned_from}
 use Rattle.mdriver.specs.Scene.{Scene, is_armed, stream_of, world_of}
 use Rattle.theory.proofs.Commits.{AreBytes, HaveAll, have_pieces, pieces_are, pieces_bytes}
-use Rattle.mdriver.proofs.Runs.{Goes, goes_one, goes_on, map_set, set_again, stays}
+use Rattle.mdriver.proofs.Runs.{Goes, goes_one, goes_on, stays}
 
 -- ---- what an offer knows that takes an entry
 
@@ -75,12 +78,6 @@ room_is past readers l size fits k =
     let rest : l.tail % t ≡ offset_of l l.active = ap (λ n. n % t) k.tail ∙ mod-mul-add l.newest t (offset_of l l.active) k.offset in
     ap (λ n. t - n) rest
 
-pub in_stream : (t p : ℕ) → 0 < t → p < t * 2 ^ 31 → p / t * t + t ≤ t * 2 ^ 31
-in_stream t p some below =
-    let count : p / t < 2 ^ 31 = (div-lt_iff_lt-mul some).1 (omega (arith, below)) in
-    let more : (p / t + 1) * t ≤ 2 ^ 31 * t = mul-le-mul_right t (omega (arith, count)) in
-    omega (arith, more)
-
 tail_below : (l : Log) (size : ℕ) (fits : Bool) → IsLog l → IsTaken l size fits → l.tail < max_position l.identity.geometry
 tail_below l size fits h k =
     let t = term_of l in
@@ -94,10 +91,6 @@ pub record LogHolds (past : List Entry) (l : Log) : Type 0 where
   pub tiles : Tiles l.identity.geometry.term_length l.start l.tail (past ++ l.entries)
   pub entries : AllByRecursion IsEntry (past ++ l.entries)
   pub published : AllByRecursion (IsPublished l.identity.geometry) (past ++ l.entries)
-
-tiles_le : (term start tail : ℕ) (es : List Entry) → Tiles term start tail es → start ≤ tail
-tiles_le term start tail [] h = omega (arith, h)
-tiles_le term start tail (e ∷ es) h = omega (arith, h.0, tiles_le term (entry_end e) tail es h.2)
 
 starts_below : (term start tail : ℕ) (es : List Entry) → Tiles term start tail es → AllByRecursion IsEntry es → AllByRecursion (λ e. e.start < tail) es
 starts_below term start tail [] h all = tt
@@ -118,7 +111,7 @@ pub tail_in_stream : (g : Geometry) (p tail : ℕ) (es : List Entry) → 0 < g.t
 tail_in_stream g p tail [] some low tiles all = omega (arith, low, tiles)
 tail_in_stream g p tail (e ∷ es) some low tiles all =
     let start : p < g.term_length * 2 ^ 31 = omega (arith, all.0.below, tiles.0) in
-    tail_in_stream g (entry_end e) tail es some (omega (arith, tiles.1, in_stream g.term_length p some start)) tiles.2 all.1
+    tail_in_stream g (entry_end e) tail es some (omega (arith, tiles.1, term_ends p g.term_length some start)) tiles.2 all.1
 
 abbrev pub open_entry : ℕ → ℕ → Bool → List ℕ → List Frame → Entry
 open_entry start by padding cuts frames = record { start = start; owner = by; padding = padding; cuts = cuts; frames = frames }
@@ -175,15 +168,6 @@ trips_one past readers l by size h who short e =
 
 -- ---- the events
 
-get_after : {X : Type 0} (xs : List X) (k : ℕ) (x : X) → k < length xs → slice_get (slice_set xs k x) k ≡ Some x
-get_after [] k x h = absurd (omega (arith, h))
-get_after (y ∷ ys) zero x h = refl
-get_after (y ∷ ys) (suc k) x h = get_after ys k x (omega (arith, h))
-
-length_map : {X Y : Type 0} (f : X → Y) (xs : List X) → length (map f xs) ≡ length xs
-length_map f [] = refl
-length_map f (x ∷ xs) = ap suc (length_map f xs)
-
 abbrev armed_of : Log → List Bool
 armed_of l = map is_armed l.armed
 
@@ -194,7 +178,7 @@ abbrev disarmed : Log → ℕ → List Bool
 disarmed l by = map is_armed (slice_set l.armed by None)
 
 disarms : (l : Log) (by : ℕ) → slice_set (armed_by l by) by false ≡ disarmed l by
-disarms l by = set_again (armed_of l) by true false ∙ sym (map_set is_armed l.armed by None)
+disarms l by = set-set (armed_of l) by true false ∙ sym (map-set is_armed l.armed by None)
 
 abbrev armed_stream : List Entry → List Consumer → Log → ℕ → stream.Log
 armed_stream past readers l by = record (stream_of past readers l) { armed = armed_by l by }
@@ -223,7 +207,7 @@ adds past readers l by size padding cuts to h is others =
     let ends : to ≡ entry_end new = is ∙ sym (ap entry_end h.entry) in
     let all = past ++ l.entries in (
       h.publisher,
-      get_after (armed_of l) by true (omega (arith, h.publisher, h.eight, length_map is_armed l.armed)),
+      get_put (armed_of l) by true (omega (arith, h.publisher, h.eight, length-map l.armed is_armed)),
       h.short,
       h.within,
       same_added (stream_of past readers l) (disarmed l by) (slice_set (armed_by l by) by false) (past ++ (l.entries ++ claim ∷ [])) (all ++ new ∷ []) to (entry_end new)

@@ -1,8 +1,9 @@
 -- What the calls of an image promise, told of the images that it shows.
-use Rattle.std.proofs.Common.{◌≡◌, ℕ, zero, suc, ◌+◌, ◌^◌, ◌<◌, ◌≤◌, List, [], ◌∷◌, map, length, Bool, true, false, Result, Ok, Err, refl, sym, ap, ◌∙◌, subst, arith}
-use Rattle.std.specs.Prelude.{slice_index, slice_set, IfOk, OnErr, ℤ, pos, negsuc}
+use Rattle.std.proofs.Common.{◌≡◌, ℕ, ◌+◌, ◌^◌, ◌<◌, ◌≤◌, List, map, length, Bool, true, false, Result, Ok, Err, refl, sym, ap, ◌∙◌, subst, arith}
+use Rattle.std.specs.Prelude.{slice_index, IfOk, OnErr, ℤ, pos, negsuc}
 use Rattle.std.specs.List.{AllByRecursion}
 use Rattle.std.specs.declared.alloc.AllocError.{AllocError}
+use Rattle.std.proofs.lemmas.List.{get_or-set_same, length-map}
 use Rattle.theory.specs.Position.{IsGeometry, max_position}
 use Rattle.theory.specs.Placed.{Among, Frame, Placed, end_of, frame_length, is_padding}
 use Rattle.theory.specs.Units.{IsContiguous}
@@ -11,6 +12,7 @@ use Rattle.theory.specs.Control.{named_by}
 use Rattle.theory.specs.Image.{after_heartbeat}
 use Rattle.theory.specs.Insert.{Stored, head_of, insert_answer_at}
 use Rattle.theory.specs.Wire.{Header}
+use Rattle.theory.proofs.Held.{among_held}
 use Rattle.theory.proofs.Lists.{all_at}
 use Rattle.position.specs.declared.head.FrameHead.{FrameHead}
 use Rattle.rebuilder.specs.Seen as seen
@@ -21,7 +23,6 @@ use Rattle.rebuilder.specs.declared.answer.Insert.TheVariants as answers
 use Rattle.mdriver.specs.Receiving.{Opened, answer_at, given_at}
 use Rattle.mdriver.specs.Showing.{HearsBeat, Inserts, IsAtEnd, ReadsPast, ShowsImage, with_reader}
 use Rattle.rebuilder.specs.Kinds.{head_at}
-use Rattle.mdriver.proofs.ShownImages.{held_from}
 use Rattle.mdriver.proofs.ShownSteps.{IsConsumer, beaten_shown, consumer_of, end_shown, inserted_shown, moved_shown, not_stored}
 
 -- ---- a heartbeat
@@ -83,13 +84,8 @@ result_inserted v w h z f (Err e) named is = tt
 abbrev pub Passes : seen.Image → ℕ → ℕ → Type 0
 Passes v k end = (s : Placed) × Among s v.held × (s.at ≡ slice_index v.consumers k) × (end ≡ end_of s)
 
-index_set : (xs : List ℕ) (k x : ℕ) → k < length xs → slice_index (slice_set xs k x) k ≡ x
-index_set [] k x l = absurd (omega arith)
-index_set (y ∷ xs) zero x l = refl
-index_set (y ∷ xs) (suc k) x l = index_set xs k x (omega arith)
-
 pub place_after : (v w : seen.Image) (k end : ℕ) → k < length v.consumers → w ≡ with_consumer v k end → slice_index w.consumers k ≡ end
-place_after v w k end l e = ap (λ (i : seen.Image). slice_index i.consumers k) e ∙ index_set v.consumers k end l
+place_after v w k end l e = ap (λ (i : seen.Image). slice_index i.consumers k) e ∙ get_or-set_same v.consumers k end 0 l
 
 pub forward : (v : seen.Image) (k end : ℕ) → Passes v k end → AllByRecursion (IsFit v.geometry.term_length v.high) v.held → slice_index v.consumers k + 32 ≤ end
 forward v k end (s, a, at, e) fit =
@@ -102,13 +98,9 @@ end_low v k end (s, a, at, e) fit low legal =
     let short : v.geometry.term_length ≤ 16777216 = legal.term.greatest in
     omega (arith, e)
 
-length_map : (rs : List Consumer) → length (map (λ (c : Consumer). c.at) rs) ≡ length rs
-length_map [] = refl
-length_map (r ∷ rs) = ap suc (length_map rs)
-
 reader : (v : seen.Image) (o : Opened) (k : ℕ) → ShowsImage v o → k < length v.consumers → IsConsumer o.image.consumers k (slice_index v.consumers k)
 reader v o k h l =
-    let counted : length v.consumers ≡ length o.image.consumers = ap length h.consumers ∙ length_map o.image.consumers in
+    let counted : length v.consumers ≡ length o.image.consumers = ap length h.consumers ∙ length-map o.image.consumers (λ (c : Consumer). c.at) in
     subst (λ ps. IsConsumer o.image.consumers k (slice_index ps k)) (sym h.consumers) (consumer_of o.image.consumers k (omega arith))
 
 pub at_end : (v : seen.Image) (k : ℕ) → k < length v.consumers → IsContiguous v.held (least v.consumers) (slice_index v.consumers k) → (o : Opened) → ShowsImage v o → IsAtEnd o k
@@ -137,4 +129,4 @@ reads_past v w k end before head after l (s, a, at, is, payload) (t, b, same, pa
     }
   where
     stored_of : (v : seen.Image) (o : Opened) → ShowsImage v o → (x : Placed) → Among x v.held → Among x o.image.stored
-    stored_of v o h x y = (held_from (least v.consumers) o.image.stored x ((h.frames x).0 y)).0
+    stored_of v o h x y = (among_held (least v.consumers) o.image.stored x ((h.frames x).0 y)).0

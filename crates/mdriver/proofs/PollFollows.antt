@@ -1,12 +1,13 @@
 -- A poll goes on with the world, and gives what its line prints.
-use Rattle.std.proofs.Common.{◌≡◌, ℕ, ◌≤◌, List, [], ◌∷◌, ◌++◌, Bool, true, false, Option, None, Some, inl, inr, refl, sym, ap, ◌∙◌, subst, arith}
+use Rattle.std.proofs.Common.{◌≡◌, ℕ, ◌≤◌, List, [], ◌∷◌, ◌++◌, true, false, Option, None, Some, inl, inr, refl, sym, ap, ◌∙◌, subst, arith}
 use Rattle.std.specs.Prelude.{slice_set}
 use Rattle.std.specs.Option.{option_map}
-use Rattle.theory.specs.Placed.{AllAmong, Among, Chain, Placed, end_of}
-use Rattle.theory.specs.Consumer.{Consumer, moved, passed_by}
+use Rattle.std.proofs.lemmas.Bool.{both_ways}
+use Rattle.theory.specs.Placed.{Among, Chain, Placed, end_of}
+use Rattle.theory.specs.Consumer.{Consumer, passed_by}
 use Rattle.theory.specs.Image.{Image, Lose}
 use Rattle.theory.specs.World.{World, AtImage}
-use Rattle.theory.proofs.Lists.{all_at, all_from, among_left, among_right}
+use Rattle.theory.proofs.Lists.{all_behind, all_front}
 use Rattle.theory.proofs.Messages.{chain_le}
 use Rattle.assembler.specs.declared.fault.AssemblyError.{AssemblyError}
 use Rattle.mdriver.specs.Answers.{with_receiver}
@@ -15,7 +16,7 @@ use Rattle.mdriver.specs.Prints.{Print, Message, NoMessage, Unassembled}
 use Rattle.mdriver.specs.Published.{is_fault, messages_in}
 use Rattle.mdriver.specs.Receiving.{Opened, Receiver}
 use Rattle.mdriver.specs.Scene.{Scene, image_of, world_of}
-use Rattle.mdriver.proofs.PollRuns.{Stands, loses_one, moved_past, moves, passed_join, passes, stands_after, with_one}
+use Rattle.mdriver.proofs.PollRuns.{Stands, loses_one, moved_at, moved_past, moves, passed_join, passes, stands_after, with_one}
 use Rattle.mdriver.proofs.ReceiverRuns.{At, Follows, FollowsImage, IsFollowed, set_image, unchanged}
 use Rattle.mdriver.proofs.Runs.{Goes, goes_on, goes_one, image_again, with_image}
 
@@ -26,16 +27,6 @@ chain_split j q [] ys h = (j, refl, h)
 chain_split j q (x ∷ xs) ys h =
     let rest = chain_split (end_of x) q xs ys h.1 in
     (rest.0, (h.0, rest.1), rest.2)
-
-moved_at : (c : Consumer) (q : ℕ) (frames : List Placed) → Chain c.at q frames → (moved_all c frames).at ≡ q
-moved_at c q [] h = sym h
-moved_at c q (s ∷ ss) h = moved_at (moved c s) q ss h.1
-
-among_front : (all xs ys : List Placed) → AllAmong all (xs ++ ys) → AllAmong all xs
-among_front all xs ys h = all_from (λ s. Among s all) xs (λ s a. all_at (λ x. Among x all) s (xs ++ ys) h (among_left s xs ys a))
-
-among_back : (all xs ys : List Placed) → AllAmong all (xs ++ ys) → AllAmong all ys
-among_back all xs ys h = all_from (λ s. Among s all) ys (λ s a. all_at (λ x. Among x all) s (xs ++ ys) h (among_right s xs ys a))
 
 -- ---- a poll
 
@@ -66,11 +57,11 @@ fault_poll w k i c d g fault given more Whole h heard never p =
     let parts = chain_split c.at d.at p.earlier (p.last ∷ []) p.reads.chain in
     let e = moved_all c p.earlier in
     let v = with_image w k (with_one i e) in
-    let at : e.at ≡ parts.0 = moved_at c parts.0 p.earlier parts.1 in
-    let first : Goes w v = moves w k i c parts.0 p.earlier h heard parts.1 (among_front i.stored p.earlier (p.last ∷ []) p.reads.among) in
+    let at : e.at ≡ parts.0 = moved_at c p.earlier parts.0 parts.1 in
+    let first : Goes w v = moves w k i c parts.0 p.earlier h heard parts.1 (all_front (λ s. Among s i.stored) p.earlier (p.last ∷ []) p.reads.among) in
     let stands : Stands v k (with_one i e) e = stands_after w k i c e h in
     let past = with_image v k (with_one i (passed_by e p.last)) in
-    let last : Goes v past = goes_one v past (AtImage k (Lose 0 p.last)) (loses_one v k (with_one i e) e p.last stands (record { among = (among_back i.stored p.earlier (p.last ∷ []) p.reads.among).0; here = parts.2.0 ∙ sym at })) in
+    let last : Goes v past = goes_one v past (AtImage k (Lose 0 p.last)) (loses_one v k (with_one i e) e p.last stands (record { among = (all_behind (λ s. Among s i.stored) p.earlier (p.last ∷ []) p.reads.among).0; here = parts.2.0 ∙ sym at })) in
     record {
       goes = subst (λ x. Goes w (with_image w k (with_one i x))) (sym p.after) (subst (λ x. Goes w x) (image_again w k (with_one i e) (with_one i (passed_by e p.last))) (goes_on w v past first last));
       further = chain_le c.at d.at (p.earlier ++ p.last ∷ []) p.reads.chain;
@@ -86,22 +77,18 @@ lost_poll w k i c d line given more Whole h never p = record {
   heard = λ whole. absurd (never whole);
 }
 
-true_false : (b : Bool) → b ≡ true → b ≡ false → ⊥
-true_false true h k = absurd (cc)
-true_false false h k = absurd (cc)
-
 abbrev pub StillWhole : Type 0 → Print → Type 0
 StillWhole Whole line = Whole × (is_fault line ≡ false)
 
 whole_line : (w : World) (k : ℕ) (i : Image) (c d : Consumer) (g : ℕ) (line : Print) (given : List (List ℕ)) (Whole : Type 0) → Stands w k i c → c.lost ≡ false → (Whole → (c.lost ≡ false) × (c.assembly.given ≡ given)) → PollsWhole g i c line d → Polled w k i c d given (messages_in line) (StillWhole Whole line)
 whole_line w k i c d g (Message bytes) given Whole h heard known p = whole_poll w k i c d (p.earlier ++ p.last ∷ []) given (bytes ∷ []) (StillWhole Whole (Message bytes)) h heard (λ x. known x.0) p.reads p.after p.message_given
 whole_line w k i c d g NoMessage given Whole h heard known p = whole_poll w k i c d p.frames given [] (StillWhole Whole NoMessage) h heard (λ x. known x.0) p.reads p.after p.nothing
-whole_line w k i c d g (Unassembled fault) given Whole h heard known p = fault_poll w k i c d g fault given [] (StillWhole Whole (Unassembled fault)) h heard (λ x. true_false true refl x.1) p
+whole_line w k i c d g (Unassembled fault) given Whole h heard known p = fault_poll w k i c d g fault given [] (StillWhole Whole (Unassembled fault)) h heard (λ x. both_ways true x.1 refl) p
 whole_line w k i c d g line given Whole h heard known p = absurd p
 
 image_line : (w : World) (k : ℕ) (i : Image) (c d : Consumer) (g : ℕ) (line : Print) (given : List (List ℕ)) (Whole : Type 0) → Stands w k i c → (Whole → (c.lost ≡ false) × (c.assembly.given ≡ given)) → PollsImage g i c line d → Polled w k i c d given (messages_in line) (StillWhole Whole line)
 image_line w k i c d g line given Whole h known (inl p) = whole_line w k i c d g line given Whole h p.0 known p.1
-image_line w k i c d g line given Whole h known (inr p) = lost_poll w k i c d line given (messages_in line) (StillWhole Whole line) h (λ x. true_false c.lost p.0 (known x.0).0) p.1
+image_line w k i c d g line given Whole h known (inr p) = lost_poll w k i c d line given (messages_in line) (StillWhole Whole line) h (λ x. both_ways c.lost (known x.0).0 p.0) p.1
 
 -- ---- of a receiver
 

@@ -3,7 +3,7 @@ use Rattle.std.proofs.Common.{◌≡◌, ℕ, List, [], ◌∷◌, ◌++◌, map
 use Rattle.std.specs.Prelude.{slice_get, slice_set}
 use Rattle.std.specs.Option.{option_to_list}
 use Rattle.theory.specs.Placed.{AllAmong, Chain, Frame, Data, Pad, Placed}
-use Rattle.theory.specs.Assembly.{after_all, on_frame}
+use Rattle.theory.specs.Assembly.{Assembly, after, after_all, on_frame}
 use Rattle.theory.specs.Consumer.{Consumer, MayMove, moved, passed_by}
 use Rattle.theory.specs.Image.{Image, Poll, Lose}
 use Rattle.theory.specs.World.{World, AtImage, Step}
@@ -75,6 +75,10 @@ pub record MovedPast (c : Consumer) (frames : List Placed) (d : Consumer) : Type
   pub join : d.join ≡ c.join
   pub lost : d.lost ≡ c.lost
 
+pub heard_more : (a : Assembly) (fs : List Frame) (f : Frame) → after_all a (fs ++ f ∷ []) ≡ after (after_all a fs) f
+heard_more a [] f = refl
+heard_more a (g ∷ fs) f = heard_more (after a g) fs f
+
 assembled : (c : Consumer) (frames : List Placed) → (moved_all c frames).assembly ≡ after_all c.assembly (map (λ s. s.frame) frames)
 assembled c [] = refl
 assembled c (s ∷ ss) = assembled (moved c s) ss
@@ -96,6 +100,10 @@ moved_past c frames =
       join = joined_still c frames;
       lost = lost_still c frames;
     }
+
+pub moved_at : (c : Consumer) (frames : List Placed) (q : ℕ) → Chain c.at q frames → (moved_all c frames).at ≡ q
+moved_at c [] q h = sym h
+moved_at c (s ∷ ss) q h = moved_at (moved c s) ss q h.1
 
 pub passed_join : (c : Consumer) (frames : List Placed) → (passed_all c frames).join ≡ c.join
 passed_join c [] = refl

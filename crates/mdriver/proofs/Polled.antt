@@ -4,6 +4,7 @@ use Rattle.std.specs.Prelude.{is_some, map}
 use Rattle.std.specs.Option.{option_to_list}
 use Rattle.std.specs.List.{AllByRecursion}
 use Rattle.std.proofs.lemmas.Bool.{cases_Bool, both_ways}
+use Rattle.std.proofs.lemmas.List.{map-append}
 use Rattle.theory.specs.Placed.{Among, Chain, Data, Frame, IsReached, Pad, Placed, end_of, is_padding}
 use Rattle.theory.specs.Units.{IsContiguous}
 use Rattle.theory.specs.Assembly.{Assembly, after, after_all}
@@ -19,6 +20,7 @@ use Rattle.assembler.specs.declared.fault.AssemblyError.TheVariants.{TooLong}
 use Rattle.mdriver.specs.Receiving.{Opened, Receiver}
 use Rattle.mdriver.specs.Showing.{Core, HasNoFrame, Shows, ShowsImage, ShowsOpened}
 use Rattle.mdriver.proofs.Meeting.{shown_none, shown_some}
+use Rattle.mdriver.proofs.PollRuns.{heard_more, moved_at, passed_lost}
 use Rattle.mdriver.proofs.ShownSteps.{end_shown, least_shown}
 use Rattle.rebuilder.specs.Seen as seen
 use Rattle.std.proofs.lemmas.Option.{same_Some}
@@ -34,17 +36,9 @@ passed_more : (c : Consumer) (frames : List Placed) (s : Placed) → passed_all 
 passed_more c [] s = refl
 passed_more c (t ∷ ts) s = passed_more (passed_by c t) ts s
 
-moved_at : (c : Consumer) (frames : List Placed) (q : ℕ) → Chain c.at q frames → (moved_all c frames).at ≡ q
-moved_at c [] q e = sym e
-moved_at c (s ∷ ss) q (at, more) = moved_at (moved c s) ss q more
-
 passed_at : (c : Consumer) (frames : List Placed) (q : ℕ) → Chain c.at q frames → (passed_all c frames).at ≡ q
 passed_at c [] q e = sym e
 passed_at c (s ∷ ss) q (at, more) = passed_at (passed_by c s) ss q more
-
-passed_lost : (c : Consumer) (frames : List Placed) → c.lost ≡ true → (passed_all c frames).lost ≡ true
-passed_lost c [] e = e
-passed_lost c (s ∷ ss) e = passed_lost (passed_by c s) ss refl
 
 after_begun : (a : Assembly) (f : Frame) → (after a f).begun ≡ (heard_of a.begun f).begun
 after_begun a (Data flags payload) = refl
@@ -55,8 +49,7 @@ after_given a (Data flags payload) = refl
 after_given a (Pad n) = sym (append-nil a.given)
 
 all_more : (a : Assembly) (frames : List Placed) (s : Placed) → after_all a (map (λ (x : Placed). x.frame) (frames ++ s ∷ [])) ≡ after (after_all a (map (λ (x : Placed). x.frame) frames)) s.frame
-all_more a [] s = refl
-all_more a (t ∷ ts) s = all_more (after a t.frame) ts s
+all_more a frames s = ap (after_all a) (map-append (λ (x : Placed). x.frame) frames (s ∷ [])) ∙ heard_more a (map (λ (x : Placed). x.frame) frames) s.frame
 
 -- what is begun doesn't depend on what was given
 same_begun : (a b : Assembly) (f : Frame) → a.begun ≡ b.begun → (after a f).begun ≡ (after b f).begun

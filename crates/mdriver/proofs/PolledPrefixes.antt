@@ -19,10 +19,12 @@ use Rattle.mdriver.specs.Prints.{Print, Positions}
 use Rattle.mdriver.specs.Published.{AllWhole, LastTold, Played, PolledNothing, PolledPrefix, PolledTo, ReadTo, covered_by, joins, polled, published, read}
 use Rattle.mdriver.specs.Receiving.{Opened, Receiver}
 use Rattle.mdriver.specs.Scene.{Scene, entries_of, image_of, listening_at, opened_scene, world_of}
+use Rattle.mdriver.specs.Staged.{numbers}
+use Rattle.mdriver.proofs.Listened.{number_at}
 use Rattle.mdriver.proofs.Ranges.{matched}
 use Rattle.mdriver.proofs.ReaderRuns.{read_line}
 use Rattle.mdriver.proofs.ReceiverRuns.{FollowsImage, IsFollowed}
-use Rattle.mdriver.proofs.Runs.{map_get, stays}
+use Rattle.mdriver.proofs.Runs.{map_get, map_replicate, seat_at, stays}
 use Rattle.mdriver.proofs.Sound.{Begins, IsSound, Laws, and_line, opened}
 use Rattle.mdriver.proofs.SoundLines.{abort_line, claim_line, close_line, commit_line, connect_line, limit_line, offer_line, reply_line, send_line}
 use Rattle.mdriver.proofs.SoundReceivers.{deliver_line, image_line, poll_line, tick_line}
@@ -53,20 +55,8 @@ goes_on laws i start readers done (p ∷ ps) s last b h m =
 
 -- ---- where it begins
 
-listens : (i : Identity) (k : ℕ) → k < 8 → slice_get (map (listening_at i) (0 ∷ 1 ∷ 2 ∷ 3 ∷ 4 ∷ 5 ∷ 6 ∷ 7 ∷ [])) k ≡ Some (listening_at i k)
-listens i zero h = refl
-listens i (suc zero) h = refl
-listens i (suc (suc zero)) h = refl
-listens i (suc (suc (suc zero))) h = refl
-listens i (suc (suc (suc (suc zero)))) h = refl
-listens i (suc (suc (suc (suc (suc zero))))) h = refl
-listens i (suc (suc (suc (suc (suc (suc zero)))))) h = refl
-listens i (suc (suc (suc (suc (suc (suc (suc zero))))))) h = refl
-listens i (suc (suc (suc (suc (suc (suc (suc (suc k)))))))) h = absurd (omega (arith, h))
-
-all_at_start : (start n : ℕ) → replicate n start ≡ map (λ (c : Consumer). c.at) (replicate n (consumer_at start))
-all_at_start start zero = refl
-all_at_start start (suc n) = ap (λ ps. start ∷ ps) (all_at_start start n)
+listens : (i : Identity) (k : ℕ) → k < 8 → slice_get (map (listening_at i) numbers) k ≡ Some (listening_at i k)
+listens i k h = map_get (listening_at i) numbers k k (seat_at numbers k k 0 (sym (number_at k h)) h)
 
 reader_there : (start n k : ℕ) → k < n → slice_get (replicate n (consumer_at start)) k ≡ Some (consumer_at start)
 reader_there start zero k h = absurd (omega (arith, h))
@@ -78,7 +68,7 @@ begins i start readers b = record {
   runs = stays (world_of (opened_scene i start readers)) (world_of (opened_scene i start readers)) refl;
   identity = refl;
   start_is = refl;
-  consumers = ap (λ ps. start ∷ ps) (all_at_start start readers);
+  consumers = ap (λ ps. start ∷ ps) (map_replicate (λ (c : Consumer). c.at) readers (consumer_at start));
   unit = b.unit;
   sending = record { legal = b.geometry; sent = tt; setups = tt };
   honest = tt;

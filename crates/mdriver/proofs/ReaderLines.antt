@@ -1,5 +1,5 @@
 -- What a reader's line tells of the frame that it passes.
-use Rattle.std.proofs.Common.{◌≡◌, ◌∙◌, ℕ, ◌+◌, List, refl, sym, ap, inr}
+use Rattle.std.proofs.Common.{◌≡◌, ◌∙◌, ℕ, ◌+◌, List, refl, ap, inr}
 use Rattle.std.specs.Prelude.{slice_set}
 use Rattle.theory.specs.Position.{aligned}
 use Rattle.theory.specs.Placed.{Placed, end_of}

@@ -3,20 +3,24 @@ use Rattle.std.proofs.Common.{◌≡◌, ◌⊎◌, ℕ, zero, suc, ◌+◌, ◌
 use Rattle.std.specs.Prelude.{nat_eq, slice_get, slice_set}
 use Rattle.std.specs.List.{flat_map}
 use Rattle.std.proofs.lemmas.Bool.{cases_eq, cond-true, cond-false, eq-eqb, ne_eqb}
+use Rattle.std.proofs.lemmas.List.{length-set, map-set}
 use Rattle.std.proofs.lemmas.List.Sums.{sum_by-append, sum_by-cons}
+use Rattle.std.proofs.lemmas.Option.{slice_get_within}
 use Rattle.theory.specs.Position.{aligned}
 use Rattle.theory.specs.Bytes.{Identity}
 use Rattle.theory.specs.Placed.{Data, Frame, Pad, Placed, frame_length}
-use Rattle.theory.specs.Assembly.{Assembly, after, after_all, nothing_heard}
+use Rattle.theory.specs.Assembly.{after, nothing_heard}
 use Rattle.theory.specs.Consumer.{Consumer, moved}
 use Rattle.theory.specs.Log.{Move}
 use Rattle.theory.specs.World.{AtLog}
+use Rattle.theory.proofs.Tables.{get_other, get_put}
 use Rattle.script.specs.Meaning as orders
 use Rattle.mdriver.specs.Answers.{HasNoReader, ReadsFrame, ReadsNothing, frame_line, with_reader}
 use Rattle.mdriver.specs.Prints.{Bad, NoMessage, Print}
 use Rattle.mdriver.specs.Published.{Played, covered_by, frames_in, read, read_by}
 use Rattle.mdriver.specs.Scene.{Scene, entries_of, opened_scene, world_of}
-use Rattle.mdriver.proofs.Runs.{Goes, below_length, get_other, get_set, goes_on, goes_one, map_get, map_set, set_length}
+use Rattle.mdriver.proofs.PollRuns.{heard_more}
+use Rattle.mdriver.proofs.Runs.{Goes, goes_on, goes_one, map_get}
 use Rattle.mdriver.proofs.SenderRuns.{among_kept}
 use Rattle.mdriver.proofs.Sound.{HasRead, IsSound, ReadSo, and_line, read_more, receivers_stay}
 use Rattle.mdriver.proofs.SoundLines.{matches_stay, same_scene}
@@ -31,10 +35,6 @@ nothing_shown number r line lines none e = ap (λ ls. cond (nat_eq number r) (fl
     both false = refl
 
 -- ---- a reader that passes a frame
-
-heard_more : (a : Assembly) (fs : List Frame) (f : Frame) → after_all a (fs ++ f ∷ []) ≡ after (after_all a fs) f
-heard_more a [] f = refl
-heard_more a (g ∷ fs) f = heard_more (after a g) fs f
 
 covered_more : (fs : List Frame) (f : Frame) → covered_by (fs ++ f ∷ []) ≡ covered_by fs + aligned (frame_length f)
 covered_more fs f = sum_by-append (λ g. aligned (frame_length g)) fs (f ∷ []) ∙ ap (λ n. covered_by fs + n) (sum_by-cons (λ g. aligned (frame_length g)) f [] ∙ omega arith)
@@ -57,7 +57,7 @@ own_frame r at f lines e = cond-true (nat_eq r r) (flat_map frames_in lines) [] 
 -- the reader is known
 reader_so : (i : Identity) (start readers : ℕ) (played : List Played) (s : Scene) (k : ℕ) (c : Consumer) → IsSound i start readers played s → slice_get s.readers k ≡ Some c → (k < readers) × ReadSo start c (read (suc k) played)
 reader_so i start readers played s k c h there =
-    let low : k < readers = omega (arith, below_length s.readers k c there, h.seats) in
+    let low : k < readers = omega (arith, slice_get_within s.readers k c there, h.seats) in
     let known = h.reading k low in
     let found : Some c ≡ Some known.0 = sym there ∙ known.1 in
     let same : known.0 ≡ c = cc in
@@ -79,7 +79,7 @@ moves s k lines t m there whole =
     let past = m.1 in
     let after = moved m.0 past in
     let l = record w.log { readers = slice_set w.log.readers k (Some after) } in
-    subst (λ rs. Goes w (record w { log = record w.log { readers = rs } })) (sym (map_set Some s.readers k after))
+    subst (λ rs. Goes w (record w { log = record w.log { readers = rs } })) (sym (map-set Some s.readers k after))
     (goes_one w (record w { log = l }) (AtLog (Move k past)) (l, (m.0, map_get Some s.readers k m.0 there, record { among = among_kept s.past s.log.entries past m.3; here = m.4 }, whole, refl), refl))
 
 frame_read : (i : Identity) (start readers : ℕ) (played : List Played) (s t : Scene) (k : ℕ) (lines : List Print) → IsSound i start readers played s → ReadsFrame s (suc k) lines t → IsSound i start readers (and_line played (orders.Read (suc k)) lines) t
@@ -95,19 +95,19 @@ frame_read i start readers played s t k lines h m =
       runs = goes_on (world_of (opened_scene i start readers)) (world_of s) (world_of v) h.runs goes;
       identity = h.identity;
       start_is = h.start_is;
-      consumers = ap (λ ps. slice_set ps (suc k) d.at) h.consumers ∙ ap (λ ps. s.sender.at ∷ ps) (sym (map_set (λ (x : Consumer). x.at) s.readers k d));
+      consumers = ap (λ ps. slice_set ps (suc k) d.at) h.consumers ∙ ap (λ ps. s.sender.at ∷ ps) (sym (map-set (λ (x : Consumer). x.at) s.readers k d));
       unit = h.unit;
       sending = record { legal = h.sending.legal; sent = h.sending.sent; setups = h.sending.setups };
       honest = h.honest;
       matches = matches_stay i.geometry played order lines (entries_of s) (λ g ranges. refl) h.matches;
       eight = h.eight;
       receivers = receivers_stay i played order lines s v (λ n. (refl, refl)) refl h.receivers;
-      seats = set_length s.readers k d ∙ h.seats;
+      seats = length-set s.readers k d ∙ h.seats;
       reading = λ j low.
           ⊎_elim
           (λ (e : k ≡ j).
           let now : ReadSo start d (read (suc k) (and_line played order lines)) = subst (ReadSo start d) (sym (read_more (suc k) played order lines ∙ ap (λ xs. read (suc k) played ++ xs) (own_frame (suc k) past.at past.frame lines m.5))) (read_so start c past (read (suc k) played) m.4 known.1) in
-          subst (λ n. HasRead start (and_line played order lines) v n) e (d, get_set s.readers k c d m.2, now))
+          subst (λ n. HasRead start (and_line played order lines) v n) e (d, get_put s.readers k d (slice_get_within s.readers k c m.2), now))
           (λ (ne : k ≡ j → ⊥).
           let old = h.reading j low in
           let quiet : read_by (suc j) order lines ≡ [] = cond-false (nat_eq (suc k) (suc j)) (flat_map frames_in lines) [] (ne_eqb (suc k) (suc j) (λ e. ne (omega (arith, e)))) in

@@ -4,6 +4,7 @@ use Rattle.std.specs.Prelude.{replicate, slice_get, slice_set, ℤ, pos, negsuc,
 use Rattle.std.specs.Option.{option_map}
 use Rattle.std.specs.List.{AllByRecursion}
 use Rattle.std.proofs.lemmas.Bool.{cases_Bool, cond-true, cond-false}
+use Rattle.std.proofs.lemmas.List.{map-set}
 use Rattle.theory.specs.Position.{Geometry, IsGeometry, NamesPlace, count_of, id_of, max_position, place_of}
 use Rattle.theory.specs.Wire.{Header, Wire, DATA, PAD, HEARTBEAT, NAK, SM, SETUP, Setup}
 use Rattle.theory.specs.Placed.{Among, Data, Pad, Frame, Placed}
@@ -17,13 +18,14 @@ use Rattle.theory.specs.Laws.{HeaderNamesPlace}
 use Rattle.theory.specs.Setup.{NamesGeometry, NamesPosition}
 use Rattle.theory.specs.World.{AtImage, Open}
 use Rattle.theory.proofs.Lists.{all_at}
+use Rattle.theory.proofs.Tables.{set_same}
 use Rattle.mdriver.specs.declared.receiver.Outcome.{Outcome}
 use Rattle.mdriver.specs.declared.receiver.Outcome.TheVariants.{Asked}
 use Rattle.mdriver.specs.Answers.{with_receiver}
 use Rattle.mdriver.specs.Published.{joins_of}
 use Rattle.mdriver.specs.Receiving.{IfOurs, Meets, MeetsFrame, MeetsHeartbeat, MeetsSetup, Opened, Opens, PassesBy, Receiver, answer_at, given_at}
 use Rattle.mdriver.specs.Scene.{Scene, image_of, world_of}
-use Rattle.mdriver.proofs.Runs.{Goes, goes_one, stays, map_set, set_same}
+use Rattle.mdriver.proofs.Runs.{Goes, goes_one, stays}
 
 -- ---- what is known of a receiver
 
@@ -51,7 +53,7 @@ HasImage s k r = slice_get (world_of s).images k ≡ Some (image_of r)
 -- ---- the world with another receiver
 
 pub set_image : (s : Scene) (k : ℕ) (r : Receiver) → world_of (with_receiver s k r) ≡ record (world_of s) { images = slice_set (world_of s).images k (image_of r) }
-set_image s k r = ap (λ xs. record (world_of s) { images = xs }) (map_set image_of s.receivers k r)
+set_image s k r = ap (λ xs. record (world_of s) { images = xs }) (map-set image_of s.receivers k r)
 
 pub unchanged : (s : Scene) (k : ℕ) (r mid : Receiver) → HasImage s k r → image_of mid ≡ image_of r → Goes (world_of s) (world_of (with_receiver s k mid))
 unchanged s k r mid there same =
@@ -66,17 +68,17 @@ changed s k r mid i j e there was is step =
 
 -- ---- a frame of the stream
 
-after_keeps : (i : Image) (s : Placed) (a : Insert) → ((after_insert i s a).consumers ≡ i.consumers) × ((after_insert i s a).join ≡ i.join)
-after_keeps i s meaning.CrossesTerm = (refl, refl)
-after_keeps i s meaning.Below = (refl, refl)
-after_keeps i s meaning.OverWindow = (refl, refl)
-after_keeps i s meaning.Duplicate = (refl, refl)
-after_keeps i s meaning.Overlap = (refl, refl)
-after_keeps i s meaning.Stored = (refl, refl)
+pub insert_stays : (i : Image) (s : Placed) (a : Insert) → ((after_insert i s a).consumers ≡ i.consumers) × ((after_insert i s a).join ≡ i.join)
+insert_stays i s meaning.CrossesTerm = (refl, refl)
+insert_stays i s meaning.Below = (refl, refl)
+insert_stays i s meaning.OverWindow = (refl, refl)
+insert_stays i s meaning.Duplicate = (refl, refl)
+insert_stays i s meaning.Overlap = (refl, refl)
+insert_stays i s meaning.Stored = (refl, refl)
 
-beat_keeps : (g : Geometry) (i : Image) (least : ℕ) (p : ℤ) → ((after_heartbeat g i least p).consumers ≡ i.consumers) × ((after_heartbeat g i least p).join ≡ i.join)
-beat_keeps g i least (negsuc n) = (refl, refl)
-beat_keeps g i least (pos p) =
+pub beat_stays : (g : Geometry) (i : Image) (least : ℕ) (p : ℤ) → ((after_heartbeat g i least p).consumers ≡ i.consumers) × ((after_heartbeat g i least p).join ≡ i.join)
+beat_stays g i least (negsuc n) = (refl, refl)
+beat_stays g i least (pos p) =
     ⊎_elim
     (λ (t : is_accepted g i.high least p ≡ true). (ap (λ x. x.consumers) (cond-true (is_accepted g i.high least p) (record i { high = p }) i t), ap (λ x. x.join) (cond-true (is_accepted g i.high least p) (record i { high = p }) i t)))
     (λ (f : is_accepted g i.high least p ≡ false). (ap (λ x. x.consumers) (cond-false (is_accepted g i.high least p) (record i { high = p }) i f), ap (λ x. x.join) (cond-false (is_accepted g i.high least p) (record i { high = p }) i f)))
@@ -156,7 +158,7 @@ frame_met s k r mid (Some o) h f t out joins given Whole a was among same place 
     let before : IsFollowed s.log.identity o joins given Whole = subst (λ x. FollowsImage x s.log.identity joins given Whole) was a.follows.image in
     let at : named_by o.geometry h ≡ pos t.at = ap (λ g. named_by g h) before.geometry ∙ place in
     let is : mid ≡ record r { image = Some (given_at o (pos t.at) t.frame) } = m.3 ∙ ap (λ z. record r { image = Some (given_at o z f) }) at ∙ ap (λ x. record r { image = Some (given_at o (pos t.at) x) }) same in
-    let keeps = after_keeps o.image t (answer_at o (pos t.at) t.frame) in
+    let keeps = insert_stays o.image t (answer_at o (pos t.at) t.frame) in
     met_image s k r mid out joins given Whole o (given_at o (pos t.at) t.frame) (Inserted (least_of o.image.consumers) t) a was is (ap joins_of m.1) (inserted s.log.identity.geometry s.sender.sent o t before.geometry among (is_least s.log.identity o joins given Whole before)) refl keeps.0 keeps.1
 
 beat_met : (s : Scene) (k : ℕ) (r mid : Receiver) (image : Option Opened) (h : Header) (out : Outcome) (joins : List ℕ) (given : List (List ℕ)) (Whole : Type 0) → At s k r joins given Whole → r.image ≡ image → MeetsHeartbeat image r h out mid → Met s k mid out joins given Whole
@@ -166,7 +168,7 @@ beat_met s k r mid (Some o) h out joins given Whole a was m =
     let least = least_of o.image.consumers in
     let z = named_by o.geometry h in
     let q = record o { image = after_heartbeat o.geometry o.image least z } in
-    let keeps = beat_keeps o.geometry o.image least z in
+    let keeps = beat_stays o.geometry o.image least z in
     met_image s k r mid out joins given Whole o q (Heartbeat least z) a was m.1 (ap joins_of m.0) (is_least s.log.identity o joins given Whole before, ap (λ g. after_heartbeat g o.image least z) before.geometry) refl keeps.0 keeps.1
 
 -- ---- a SETUP that the sender sent

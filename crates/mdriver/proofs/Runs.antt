@@ -1,8 +1,12 @@
 -- Runs of the world one after the other, and lists of seats.
-use Rattle.std.proofs.Common.{◌≡◌, ℕ, zero, suc, ◌<◌, List, [], ◌∷◌, ◌++◌, map, length, Some, refl, sym, ap, subst, arith}
-use Rattle.std.specs.Prelude.{slice_get, slice_set}
+use Rattle.std.proofs.Common.{◌≡◌, ℕ, zero, suc, ◌<◌, List, [], ◌∷◌, ◌++◌, map, length, Some, refl, sym, ap, ◌∙◌, subst}
+use Rattle.std.specs.Prelude.{replicate, slice_get, slice_index_or, slice_set}
+use Rattle.std.specs.Option.{option_map}
+use Rattle.std.proofs.lemmas.List.{set-set}
+use Rattle.std.proofs.lemmas.Option.{slice_get-get_or, slice_get-map, slice_get_within}
 use Rattle.theory.specs.Image.{Image}
 use Rattle.theory.specs.World.{World, Event, Step, Run}
+use Rattle.theory.proofs.Tables.{get_put, set_same}
 
 pub run_append : (a b c : World) (es fs : List Event) → Run a es b → Run b fs c → Run a (es ++ fs) c
 run_append a b c [] fs h k = subst (λ w. Run w fs c) h k
@@ -23,47 +27,16 @@ goes_on a b c h k = (h.0 ++ k.0, run_append a b c h.0 k.0 h.1 k.1)
 
 -- ---- seats
 
-pub map_set : {X Y : Type 0} (f : X → Y) (xs : List X) (k : ℕ) (x : X) → map f (slice_set xs k x) ≡ slice_set (map f xs) k (f x)
-map_set f [] k x = refl
-map_set f (y ∷ ys) zero x = refl
-map_set f (y ∷ ys) (suc k) x = ap (λ zs. f y ∷ zs) (map_set f ys k x)
-
 pub map_get : {X Y : Type 0} (f : X → Y) (xs : List X) (k : ℕ) (x : X) → slice_get xs k ≡ Some x → slice_get (map f xs) k ≡ Some (f x)
-map_get f [] k x h = absurd (cc)
-map_get f (y ∷ ys) zero x h = let same : y ≡ x = cc in ap (λ z. Some (f z)) same
-map_get f (y ∷ ys) (suc k) x h = map_get f ys k x h
+map_get f xs k x h = slice_get-map f xs k ∙ ap (option_map f) h
 
-pub set_same : {X : Type 0} (xs : List X) (k : ℕ) (x : X) → slice_get xs k ≡ Some x → slice_set xs k x ≡ xs
-set_same [] k x h = refl
-set_same (y ∷ ys) zero x h = let same : y ≡ x = cc in ap (λ z. z ∷ ys) (sym same)
-set_same (y ∷ ys) (suc k) x h = ap (λ zs. y ∷ zs) (set_same ys k x h)
+pub map_replicate : {X Y : Type 0} (f : X → Y) (n : ℕ) (x : X) → replicate n (f x) ≡ map f (replicate n x)
+map_replicate f zero x = refl
+map_replicate f (suc n) x = ap (λ ys. f x ∷ ys) (map_replicate f n x)
 
-pub set_again : {X : Type 0} (xs : List X) (k : ℕ) (x y : X) → slice_set (slice_set xs k x) k y ≡ slice_set xs k y
-set_again [] k x y = refl
-set_again (z ∷ zs) zero x y = refl
-set_again (z ∷ zs) (suc k) x y = ap (λ us. z ∷ us) (set_again zs k x y)
-
-pub get_set : {X : Type 0} (xs : List X) (k : ℕ) (x y : X) → slice_get xs k ≡ Some x → slice_get (slice_set xs k y) k ≡ Some y
-get_set [] k x y h = absurd (cc)
-get_set (z ∷ zs) zero x y h = refl
-get_set (z ∷ zs) (suc k) x y h = get_set zs k x y h
-
-pub get_other : {X : Type 0} (xs : List X) (k j : ℕ) (y : X) → (j ≡ k → ⊥) → slice_get (slice_set xs k y) j ≡ slice_get xs j
-get_other [] k j y other = refl
-get_other (z ∷ zs) zero zero y other = absurd (other refl)
-get_other (z ∷ zs) zero (suc j) y other = refl
-get_other (z ∷ zs) (suc k) zero y other = refl
-get_other (z ∷ zs) (suc k) (suc j) y other = get_other zs k j y (λ e. other (ap suc e))
-
-pub set_length : {X : Type 0} (xs : List X) (k : ℕ) (x : X) → length (slice_set xs k x) ≡ length xs
-set_length [] k x = refl
-set_length (y ∷ ys) zero x = refl
-set_length (y ∷ ys) (suc k) x = ap suc (set_length ys k x)
-
-pub below_length : {X : Type 0} (xs : List X) (k : ℕ) (x : X) → slice_get xs k ≡ Some x → k < length xs
-below_length [] k x h = absurd (cc)
-below_length (y ∷ ys) zero x h = omega arith
-below_length (y ∷ ys) (suc k) x h = omega (arith, below_length ys k x h)
+-- what is read at a place stands there
+pub seat_at : {X : Type 0} (xs : List X) (k : ℕ) (x d : X) → x ≡ slice_index_or xs k d → k < length xs → slice_get xs k ≡ Some x
+seat_at xs k x d e low = slice_get-get_or xs k d low ∙ ap Some (sym e)
 
 -- ---- one image of a world
 
@@ -74,7 +47,7 @@ pub image_kept : (w : World) (k : ℕ) (i : Image) → slice_get w.images k ≡ 
 image_kept w k i h = ap (λ xs. record w { images = xs }) (set_same w.images k (Some i) h)
 
 pub image_there : (w : World) (k : ℕ) (i j : Image) → slice_get w.images k ≡ Some (Some i) → slice_get (with_image w k j).images k ≡ Some (Some j)
-image_there w k i j h = get_set w.images k (Some i) (Some j) h
+image_there w k i j h = get_put w.images k (Some j) (slice_get_within w.images k (Some i) h)
 
 pub image_again : (w : World) (k : ℕ) (i j : Image) → with_image (with_image w k i) k j ≡ with_image w k j
-image_again w k i j = ap (λ xs. record w { images = xs }) (set_again w.images k (Some i) (Some j))
+image_again w k i j = ap (λ xs. record w { images = xs }) (set-set w.images k (Some i) (Some j))

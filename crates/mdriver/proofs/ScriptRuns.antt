@@ -1,5 +1,5 @@
 -- Lines of a script, one after the other.
-use Rattle.std.proofs.Common.{◌≡◌, ◌∙◌, ℕ, ◌<◌, get_or, inl, inr, ◌+◌, List, [], ◌∷◌, ◌++◌, sym, ap, subst, refl, append_assoc, append-nil, length, map, arith, take}
+use Rattle.std.proofs.Common.{◌≡◌, ◌∙◌, ℕ, ◌<◌, get_or, inl, inr, ◌+◌, List, [], ◌∷◌, ◌++◌, sym, ap, subst, refl, append_assoc, append-nil, length, arith, take}
 use Rattle.std.proofs.lemmas.List.{length-map, length-replicate, map-append}
 use Rattle.std.proofs.lemmas.Grind.{flat_map-append}
 use Rattle.std.specs.List.{flat_map}

@@ -1,12 +1,10 @@
 -- What frames make of a receiver leaves its consumer and the assembler that it has.
-use Rattle.std.proofs.Common.{◌≡◌, ℕ, inl, inr, ⊎_elim, List, [], ◌∷◌, false, Option, Some, None, refl, sym, ap, ◌∙◌, subst}
-use Rattle.std.specs.Prelude.{ℤ, pos, negsuc, true}
-use Rattle.std.proofs.lemmas.Bool.{cases_Bool, cond-true, cond-false}
+use Rattle.std.proofs.Common.{◌≡◌, ℕ, inl, inr, List, [], ◌∷◌, Option, Some, None, refl, sym, ap, ◌∙◌, subst}
+use Rattle.std.specs.Prelude.{ℤ, pos, negsuc}
 use Rattle.theory.specs.Placed as placed
 use Rattle.theory.specs.Consumer.{consumer_at, least_of}
 use Rattle.theory.specs.Control.{named_by}
-use Rattle.theory.specs.Image.{Image, after_heartbeat, after_insert, image_at, is_accepted}
-use Rattle.theory.specs.Insert.{Insert, CrossesTerm, Below, OverWindow, Duplicate, Overlap, Stored}
+use Rattle.theory.specs.Image.{after_heartbeat, image_at}
 use Rattle.theory.specs.Wire.{Header, Setup, Wire, DATA, PAD, HEARTBEAT, NAK, SM, SETUP}
 use Rattle.assembler.specs.Assembling.{Assembling}
 use Rattle.mdriver.specs.declared.receiver.Outcome.{Outcome}
@@ -14,6 +12,7 @@ use Rattle.mdriver.specs.Receiving.{BreaksOff, Hears, IfOurs, Meets, MeetsAll, M
 use Rattle.mdriver.specs.Showing as core
 use Rattle.mdriver.specs.Showing.{Shows, beaten_at}
 use Rattle.mdriver.specs.Subscribing.{AssemblesFor, Becomes, Subscribing}
+use Rattle.mdriver.proofs.ReceiverRuns.{beat_stays, insert_stays}
 
 -- it is to have one consumer, for which this assembler has begun what it has
 pub record IsSeated (a : Assembling) (r : Receiver) : Type 0 where
@@ -35,26 +34,12 @@ keeps_image b r s o p is e same k =
     let was : AssemblesFor b.begun (Some o) = subst (AssemblesFor b.begun) is k.seat in
     subst (IsSeated b) (sym e) (record { one = k.one; seat = (was.0, same ∙ was.1, was.2); greatest = k.greatest })
 
-inserted_consumers : (i : Image) (s : placed.Placed) (a : Insert) → (after_insert i s a).consumers ≡ i.consumers
-inserted_consumers i s CrossesTerm = refl
-inserted_consumers i s Below = refl
-inserted_consumers i s OverWindow = refl
-inserted_consumers i s Duplicate = refl
-inserted_consumers i s Overlap = refl
-inserted_consumers i s Stored = refl
-
 given_consumers : (o : Opened) (z : ℤ) (f : placed.Frame) → (given_at o z f).image.consumers ≡ o.image.consumers
-given_consumers o (pos p) f = inserted_consumers o.image (record { at = p; frame = f }) (answer_at o (pos p) f)
+given_consumers o (pos p) f = (insert_stays o.image (record { at = p; frame = f }) (answer_at o (pos p) f)).0
 given_consumers o (negsuc n) f = refl
 
 beaten_consumers : (o : Opened) (z : ℤ) → (after_heartbeat o.geometry o.image (least_of o.image.consumers) z).consumers ≡ o.image.consumers
-beaten_consumers o (negsuc n) = refl
-beaten_consumers o (pos p) =
-    let b = is_accepted o.geometry o.image.high (least_of o.image.consumers) p in
-    ⊎_elim
-    (λ (t : b ≡ true). ap (λ (i : Image). i.consumers) (cond-true b (record o.image { high = p }) o.image t))
-    (λ (f : b ≡ false). ap (λ (i : Image). i.consumers) (cond-false b (record o.image { high = p }) o.image f))
-    (cases_Bool b)
+beaten_consumers o z = (beat_stays o.geometry o.image (least_of o.image.consumers) z).0
 
 frame_keeps : (b : Assembling) (o : Option Opened) (r : Receiver) (h : Header) (f : placed.Frame) (out : Outcome) (s : Receiver) → r.image ≡ o → MeetsFrame o r h f out s → Keeps b r s
 frame_keeps b None r h f out s is met = keeps_unmet b r s h met.1

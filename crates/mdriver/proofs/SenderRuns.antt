@@ -1,8 +1,8 @@
 -- A sender's cycle, what it is told, and its keeper's calls, as events.
-use Rattle.std.proofs.Common.{◌≡◌, ℕ, zero, suc, ◌+◌, ◌-◌, ◌*◌, ◌/◌, ◌%◌, ◌<◌, ◌≤◌, ⊎_elim, List, [], ◌∷◌, ◌++◌, map, length, drop, Bool, true, false, cond, Option, None, Some, refl, sym, ap, ◌∙◌, subst, arith, append_assoc}
+use Rattle.std.proofs.Common.{◌≡◌, ℕ, zero, suc, ◌+◌, ◌-◌, ◌*◌, ◌/◌, ◌%◌, ◌≤◌, List, [], ◌∷◌, ◌++◌, map, length, drop, Bool, true, false, cond, Option, None, Some, refl, sym, ap, ◌∙◌, subst, arith, append_assoc}
 use Rattle.std.specs.Prelude.{max, min, not, ◌&&◌}
 use Rattle.std.specs.List.{AllByRecursion, fold}
-use Rattle.std.proofs.lemmas.Bool.{and_parts, cases_lt}
+use Rattle.std.proofs.lemmas.Bool.{and_parts, not-true}
 use Rattle.std.proofs.lemmas.Grind.{flat_map-append}
 use Rattle.theory.specs.Placed.{Among, Placed, end_of, place_all}
 use Rattle.theory.specs.Consumer.{Consumer}
@@ -16,7 +16,9 @@ use Rattle.theory.specs.Log as stream
 use Rattle.theory.specs.Log.{Clean, Close, Connect, IsLowest, Raise}
 use Rattle.theory.specs.Sender.{Sender, SenderEvent, SenderStep, See, Send, SendSetup, HearStatus}
 use Rattle.theory.specs.World.{World, AtLog, AtSender}
+use Rattle.theory.proofs.Leasts.{fold_each, fold_keeps}
 use Rattle.theory.proofs.Lists.{among_right}
+use Rattle.theory.proofs.WorldSteps.{power_unit}
 use Rattle.log_buffer.specs.Limits.{least}
 use Rattle.log_buffer.specs.Log.{IsLog, Log, clean_end}
 use Rattle.rotation.specs.Limited.{CleansAndLimits, raised}
@@ -24,7 +26,6 @@ use Rattle.mdriver.specs.Answers.{IsCycle, after_cycle, heard, limit_of, named, 
 use Rattle.mdriver.specs.Cycling.{Cycle, IsNextSent}
 use Rattle.mdriver.specs.Scene.{Scene, stream_of, world_of}
 use Rattle.mdriver.proofs.Runs.{Goes, goes_one, goes_on, stays}
-use Rattle.mdriver.proofs.Units.{whole_power}
 
 -- the world with another sender
 abbrev pub with_sender : World → Sender → World
@@ -40,10 +41,6 @@ named_at x false = refl
 pub named_said : (x : Sender) (due : Bool) → (named x due).said ≡ x.said
 named_said x true = refl
 named_said x false = refl
-
-not_true : (b : Bool) → not b ≡ true → b ≡ false
-not_true true h = absurd (cc)
-not_true false h = refl
 
 at_sender : (w : World) (e : SenderEvent) (x : Sender) → SenderStep w.log.identity.geometry w.log.start (committed w.log.entries) w.sender e x → Goes w (with_sender w x)
 at_sender w e x step = goes_one w (with_sender w x) (AtSender e) (x, step, refl)
@@ -111,19 +108,6 @@ cleaned_to w to = record w { log = record w.log { cleaned = to } }
 abbrev Lowest : World → ℕ → Type 0
 Lowest w m = IsLowest (w.sender.at ∷ []) w.log m
 
--- the least of some positions is one of them, and no other is below it
-least_one : (P : ℕ → Type 0) (a : ℕ) (ps : List ℕ) → P a → AllByRecursion P ps → P (fold min a ps)
-least_one P a [] h all = h
-least_one P a (p ∷ ps) h all =
-    let less : P (min a p) = ⊎_elim (λ (l : a < p). let same : a ≡ min a p = omega (arith, l) in subst P same h) (λ (l : p ≤ a). let same : p ≡ min a p = omega (arith, l) in subst P same all.0) (cases_lt a p) in
-    least_one P (min a p) ps less all.1
-
-least_low : (a : ℕ) (ps : List ℕ) → (fold min a ps ≤ a) × AllByRecursion (λ p. fold min a ps ≤ p) ps
-least_low a [] = (omega arith, tt)
-least_low a (p ∷ ps) =
-    let rest = least_low (min a p) ps in
-    (omega (arith, rest.0), (omega (arith, rest.0), rest.1))
-
 each_above : (m : ℕ) (rs : List Consumer) → AllByRecursion (λ p. m ≤ p) (map (λ r. r.at) rs) → Each (λ r. m ≤ r.at) (map Some rs)
 each_above m [] h = tt
 each_above m (r ∷ rs) h = (h.0, each_above m rs h.1)
@@ -132,7 +116,7 @@ each_above m (r ∷ rs) h = (h.0, each_above m rs h.1)
 all_above : (s : Scene) → s.log.consumers ≡ s.sender.at ∷ map (λ c. c.at) s.readers → Lowest (world_of s) (least s.log.consumers)
 all_above s are =
     let ps = s.sender.at ∷ map (λ c. c.at) s.readers in
-    let low = (least_low s.sender.at ps).1 in
+    let low = fold_each s.sender.at ps in
     let same : least s.log.consumers ≡ fold min s.sender.at ps = ap least are in
     let all : AllByRecursion (λ p. least s.log.consumers ≤ p) ps = subst (λ m. AllByRecursion (λ p. m ≤ p) ps) (sym same) low in
     record { others_above = (all.0, tt); readers_above = each_above (least s.log.consumers) s.readers all.1 }
@@ -156,7 +140,7 @@ raises_on w m false lowest unit low e = stays w w refl
 raises_on w m true lowest unit low e =
     let flags = and_parts w.log.connected (not w.log.closed) e in
     let l = record w.log { limit = raised_in w m true } in
-    goes_one w (record w { log = l }) (AtLog (Raise m)) (l, (unit, lowest, low, flags.0, not_true w.log.closed flags.1, refl), refl)
+    goes_one w (record w { log = l }) (AtLog (Raise m)) (l, (unit, lowest, low, flags.0, not-true w.log.closed flags.1, refl), refl)
 
 -- whole words are cleaned
 words : (from to : ℕ) → from ≤ to → from % 8 ≡ 0 → to % 8 ≡ 0 → to ≡ from + 8 * ((to - from) / 8)
@@ -182,7 +166,7 @@ limit_entries past old new h =
 least_holds : (P : ℕ → Type 0) (at : ℕ) (ps qs : List ℕ) → ps ≡ at ∷ qs → AllByRecursion P ps → P (least ps)
 least_holds P at ps qs are all =
     let each : AllByRecursion P (at ∷ qs) = subst (AllByRecursion P) are all in
-    subst (λ xs. P (least xs)) (sym are) (least_one P at (at ∷ qs) each.0 each)
+    subst (λ xs. P (least xs)) (sym are) (fold_keeps P at (at ∷ qs) each.0 each)
 
 -- a log of which the sender and the readers are the consumers, after its keeper's call
 pub limits : (s : Scene) (new : Log) → IsLog s.log → s.log.consumers ≡ s.sender.at ∷ map (λ c. c.at) s.readers → (h : CleansAndLimits s.log new) → Goes (world_of s) (record (world_of s) { log = stream_of (s.past ++ h.cleans.past) s.readers new })
@@ -195,7 +179,7 @@ limits s new legal are h =
     let unit : m % 32 ≡ 0 = least_holds (λ p. p % 32 ≡ 0) s.sender.at s.log.consumers positions are legal.consumer_units in
     let readable : s.log.cleaned ≤ clean_end s.log m = least_holds (λ p. s.log.cleaned ≤ clean_end s.log p) s.sender.at s.log.consumers positions are legal.readable in
     let lowest : Lowest w m = all_above s are in
-    let term : t % 32 ≡ 0 = whole_power t legal.geometry.term.power (omega (arith, legal.geometry.term.least)) in
+    let term : t % 32 ≡ 0 = power_unit t legal.geometry.term.power legal.geometry.term.least in
     let is : to ≡ s.log.cleaned + 8 * ((to - s.log.cleaned) / 8) = words s.log.cleaned to readable legal.word (end_words s.log.start m t legal.unit unit term) in
     let cleaned = cleaned_to w to in
     let may = s.log.connected && not s.log.closed in

@@ -1,13 +1,12 @@
 -- What an image shows answers as the image does, and shows what becomes of it.
-use Rattle.std.proofs.Common.{◌≡◌, ℕ, ◌<◌, ◌≤◌, inl, inr, ⊎_elim, List, [], ◌∷◌, map, length, min, true, false, refl, sym, ap, ◌∙◌, subst, arith}
-use Rattle.std.specs.Prelude.{nat_le}
+use Rattle.std.proofs.Common.{◌≡◌, ℕ, ◌<◌, ◌≤◌, ⊎_elim, List, [], ◌∷◌, map, length, min, refl, ◌∙◌, subst, arith}
 use Rattle.std.specs.List.{AllByRecursion, fold}
-use Rattle.std.proofs.lemmas.Bool.{cases_Bool, cases_lt, cond-true, cond-false, le-leb, leb-true}
-use Rattle.theory.specs.Placed.{Among, Chain, IsReached, Placed, end_of}
+use Rattle.std.proofs.lemmas.Bool.{cases_lt}
+use Rattle.theory.specs.Placed.{Among, IsReached, Placed, end_of}
 use Rattle.theory.specs.Consumer.{Consumer, least_from, least_of}
-use Rattle.theory.specs.ImageLaws.{AreParted, held}
-use Rattle.theory.proofs.Messages.{chain_le}
+use Rattle.theory.specs.ImageLaws.{AreParted}
 use Rattle.theory.proofs.Lists.{all_at, all_from, all_weaker}
+use Rattle.theory.proofs.Parted.{IsCovered, is_covered}
 use Rattle.rebuilder.specs.Seen.{least}
 use Rattle.mdriver.specs.Showing.{AreOneWhereMet}
 
@@ -49,42 +48,7 @@ pub least_below : (rs : List Consumer) → AllByRecursion (λ c. least_of rs ≤
 least_below [] = tt
 least_below (r ∷ rs) = least_low r.at rs
 
--- ---- what is held
-
-pub held_from : (m : ℕ) (frames : List Placed) (s : Placed) → Among s (held m frames) → Among s frames × (m ≤ s.at)
-held_from m [] s a = absurd a
-held_from m (u ∷ us) s a =
-    ⊎_elim
-    (λ (y : nat_le m u.at ≡ true). ⊎_elim (λ (e : s ≡ u). let l : m ≤ u.at = leb-true m u.at y in (inl e, subst (λ (x : Placed). m ≤ x.at) (sym e) l)) (λ (b : Among s (held m us)). let h = held_from m us s b in (inr h.0, h.1)) (subst (Among s) (cond-true (nat_le m u.at) (u ∷ held m us) (held m us) y) a))
-    (λ (n : nat_le m u.at ≡ false). let h = held_from m us s (subst (Among s) (cond-false (nat_le m u.at) (u ∷ held m us) (held m us) n) a) in (inr h.0, h.1))
-    (cases_Bool (nat_le m u.at))
-
-pub held_of : (m : ℕ) (frames : List Placed) (s : Placed) → Among s frames → m ≤ s.at → Among s (held m frames)
-held_of m [] s a l = absurd a
-held_of m (u ∷ us) s (inl e) l = let at : s.at ≡ u.at = ap (λ (x : Placed). x.at) e in subst (Among s) (sym (cond-true (nat_le m u.at) (u ∷ held m us) (held m us) (le-leb m u.at (omega arith)))) (inl e)
-held_of m (u ∷ us) s (inr a) l =
-    ⊎_elim
-    (λ (y : nat_le m u.at ≡ true). subst (Among s) (sym (cond-true (nat_le m u.at) (u ∷ held m us) (held m us) y)) (inr (held_of m us s a l)))
-    (λ (n : nat_le m u.at ≡ false). subst (Among s) (sym (cond-false (nat_le m u.at) (u ∷ held m us) (held m us) n)) (held_of m us s a l))
-    (cases_Bool (nat_le m u.at))
-
 -- ---- no stored frame lies on both sides of a position that was reached
-
-record IsCovered (read : List Placed) (p q : ℕ) : Type 0 where
-  frame : Placed
-  among : Among frame read
-  begins : frame.at ≤ p
-  goes_on : p < end_of frame
-  ends : end_of frame ≤ q
-
-is_covered : (j q p : ℕ) (read : List Placed) → Chain j q read → j ≤ p → p < q → IsCovered read p q
-is_covered j q p [] c l m = let e : q ≡ j = c in absurd (omega arith)
-is_covered j q p (s ∷ ss) c l m =
-    let at : s.at ≡ j = c.0 in
-    ⊎_elim
-    (λ (k : p < end_of s). record { frame = s; among = inl refl; begins = omega arith; goes_on = k; ends = chain_le (end_of s) q ss c.1 })
-    (λ (k : end_of s ≤ p). let r : IsCovered ss p q = is_covered (end_of s) q p ss c.1 k m in record { frame = r.frame; among = inr r.among; begins = r.begins; goes_on = r.goes_on; ends = r.ends })
-    (cases_lt p (end_of s))
 
 pub reached_parts : (frames : List Placed) (join m : ℕ) → AreOneWhereMet frames → AllByRecursion (λ s. join ≤ s.at) frames → IsReached frames join m → AreParted m frames
 reached_parts frames join m met from reached = all_from (λ (t : Placed). t.at < m → end_of t ≤ m) frames at
@@ -93,9 +57,9 @@ reached_parts frames join m met from reached = all_from (λ (t : Placed). t.at <
     at t a l =
         let low : join ≤ t.at = all_at (λ (x : Placed). join ≤ x.at) t frames from a in
         let c : IsCovered reached.read t.at m = is_covered join m t.at reached.read reached.chain low l in
-        let ends : end_of c.frame ≤ m = c.ends in
-        let begins : c.frame.at ≤ t.at = c.begins in
-        let goes_on : t.at < end_of c.frame = c.goes_on in
+        let ends : end_of c.frame ≤ m = c.end in
+        let begins : c.frame.at ≤ t.at = c.from in
+        let goes_on : t.at < end_of c.frame = c.to in
         ⊎_elim
         (λ (k : t.at < end_of t). subst (λ (x : Placed). end_of x ≤ m) (met c.frame t (all_at (λ (x : Placed). Among x frames) c.frame reached.read reached.among c.among) a (omega arith) goes_on) ends)
         (λ (k : end_of t ≤ t.at). omega arith)

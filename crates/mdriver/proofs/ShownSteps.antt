@@ -2,7 +2,8 @@
 use Rattle.std.proofs.Common.{◌≡◌, ℕ, zero, suc, ◌+◌, ◌-◌, ◌*◌, ◌/◌, ◌%◌, ◌<◌, ◌≤◌, ◌⊎◌, inl, inr, ⊎_elim, List, [], ◌∷◌, map, length, min, max, Bool, true, false, cond, refl, sym, ap, ap₂, ◌∙◌, subst, arith, length-set}
 use Rattle.std.specs.Prelude.{◌↔◌, ◌||◌, slice_get, slice_index, slice_set, replicate, Some, nat_lt, ℤ, pos, negsuc}
 use Rattle.std.specs.List.{AllByRecursion, list_any}
-use Rattle.std.proofs.lemmas.Bool.{cases_Bool, cases_lt, cond-true, cond-false, ltb-false, and_cases, both_ways, or_right, or_left}
+use Rattle.std.proofs.lemmas.List.{length-replicate, map-set}
+use Rattle.std.proofs.lemmas.Bool.{cases_Bool, cases_lt, cond-true, cond-false, ltb-false, and_cases, both_ways}
 use Rattle.theory.specs.Position.{Geometry, aligned, max_position}
 use Rattle.theory.specs.Placed.{Among, Chain, Frame, IsReached, Placed, covered, end_of, frame_length, is_padding}
 use Rattle.theory.specs.Units.{HasUnit, IsContiguous}
@@ -11,8 +12,9 @@ use Rattle.theory.specs.Image.{Image, after_heartbeat, after_insert, image_at, i
 use Rattle.theory.specs.ImageLaws.{AreParted, held}
 use Rattle.theory.specs.Insert.{Head, Insert, CrossesTerm, Below, OverWindow, Duplicate, Overlap, Stored, head_of, insert_answer, insert_answer_at, is_duplicate, overlaps, window_end}
 use Rattle.theory.proofs.Messages.{chain_le}
-use Rattle.theory.proofs.Lists.{all_at, all_get, all_replicate, all_set, all_weaker}
-use Rattle.theory.proofs.Held.{answer_held, stored_apart}
+use Rattle.theory.proofs.Lists.{all_at, all_get, all_replicate, all_set, all_weaker, any_false, any_here}
+use Rattle.theory.proofs.Held.{among_held, answer_held, held_among, stored_apart}
+use Rattle.theory.proofs.Parted.{stored_from}
 use Rattle.theory.proofs.Follow.{chain_units, passed_along, passed_more}
 use Rattle.rebuilder.specs.Held.{put}
 use Rattle.rebuilder.specs.Stored.{meant}
@@ -22,14 +24,10 @@ use Rattle.rebuilder.specs.Seen as seen
 use Rattle.rebuilder.specs.Seen.{accepts, least, with_consumer, with_frame}
 use Rattle.mdriver.specs.Showing.{AreOneWhereMet, ShowsImage}
 use Rattle.mdriver.specs.Receiving.{Opened, answer_at, given_at}
-use Rattle.mdriver.proofs.ShownImages.{at_least, held_from, held_of, least_below, least_is, reached_parts}
+use Rattle.mdriver.proofs.Runs.{map_replicate}
+use Rattle.mdriver.proofs.ShownImages.{at_least, least_below, least_is, reached_parts}
 
 -- ---- tests of the frames depend on which there are
-
-any_here : (test : Head → Bool) (frames : List Placed) (s : Placed) → Among s frames → test (head_of s) ≡ true → list_any test (map head_of frames) ≡ true
-any_here test [] s a e = absurd a
-any_here test (u ∷ us) s (inl d) e = or_left (test (head_of u)) (list_any test (map head_of us)) (subst (λ (x : Placed). test (head_of x) ≡ true) d e)
-any_here test (u ∷ us) s (inr a) e = or_right (test (head_of u)) (list_any test (map head_of us)) (any_here test us s a e)
 
 any_from : (test : Head → Bool) (frames : List Placed) → list_any test (map head_of frames) ≡ true → (s : Placed) × Among s frames × (test (head_of s) ≡ true)
 any_from test [] e = absurd (cc)
@@ -42,10 +40,10 @@ any_from test (u ∷ us) e =
 any_same : (test : Head → Bool) (a b : List Placed) → ((s : Placed) → Among s a ↔ Among s b) → list_any test (map head_of a) ≡ list_any test (map head_of b)
 any_same test a b same =
     ⊎_elim
-    (λ (t : list_any test (map head_of a) ≡ true). let w = any_from test a t in t ∙ sym (any_here test b w.0 ((same w.0).0 w.1) w.2))
+    (λ (t : list_any test (map head_of a) ≡ true). let w = any_from test a t in t ∙ sym (any_here test head_of w.0 b ((same w.0).0 w.1) w.2))
     (λ (f : list_any test (map head_of a) ≡ false).
     ⊎_elim
-    (λ (t : list_any test (map head_of b) ≡ true). let w = any_from test b t in absurd (both_ways (list_any test (map head_of a)) f (any_here test a w.0 ((same w.0).1 w.1) w.2)))
+    (λ (t : list_any test (map head_of b) ≡ true). let w = any_from test b t in absurd (both_ways (list_any test (map head_of a)) f (any_here test head_of w.0 a ((same w.0).1 w.1) w.2)))
     (λ (g : list_any test (map head_of b) ≡ false). f ∙ sym g)
     (cases_Bool (list_any test (map head_of b))))
     (cases_Bool (list_any test (map head_of a)))
@@ -116,38 +114,22 @@ put_held m s t some all from same = (forth, back)
     forth : Among t (put s some) → Among t (held m (s ∷ all))
     forth a =
         ⊎_elim
-        (λ (e : t ≡ s). held_of m (s ∷ all) t (inl e) (subst (λ (x : Placed). m ≤ x.at) (sym e) from))
-        (λ (b : Among t some). let h = held_from m all t ((same t).0 b) in held_of m (s ∷ all) t (inr h.0) h.1)
+        (λ (e : t ≡ s). held_among m (s ∷ all) t (inl e) (subst (λ (x : Placed). m ≤ x.at) (sym e) from))
+        (λ (b : Among t some). let h = among_held m all t ((same t).0 b) in held_among m (s ∷ all) t (inr h.0) h.1)
         (put_from s t some a)
 
     back : Among t (held m (s ∷ all)) → Among t (put s some)
     back a =
-        let h = held_from m (s ∷ all) t a in
+        let h = among_held m (s ∷ all) t a in
         let low : m ≤ t.at = h.1 in
-        put_keeps s t some (⊎_elim (λ (e : t ≡ s). inl e) (λ (b : Among t all). inr ((same t).1 (held_of m all t b low))) h.0)
-
-not_below : (crosses below over dup meets : Bool) → cond crosses CrossesTerm (cond below Below (cond over OverWindow (cond dup Duplicate (cond meets Overlap Stored)))) ≡ Stored → below ≡ false
-not_below true below over dup meets h = absurd (cc)
-not_below false true over dup meets h = absurd (cc)
-not_below false false over dup meets h = refl
-
-stored_from : (g : Geometry) (frames : List Head) (m window : ℕ) (h : Head) → insert_answer g frames m window h ≡ Stored → m ≤ h.at
-stored_from g frames m window h e =
-    ltb-false h.at m (not_below (nat_lt g.term_length (h.at % g.term_length + aligned h.length)) (nat_lt h.at m) (nat_lt (min (m + window) (max_position g)) (window_end h)) (list_any (is_duplicate h) frames) (list_any (overlaps h) frames) e)
-
-any_false : (test : Head → Bool) (frames : List Placed) (t : Placed) → list_any test (map head_of frames) ≡ false → Among t frames → test (head_of t) ≡ false
-any_false test frames t none a =
-    ⊎_elim
-    (λ (y : test (head_of t) ≡ true). absurd (both_ways (list_any test (map head_of frames)) none (any_here test frames t a y)))
-    (λ (n : test (head_of t) ≡ false). n)
-    (cases_Bool (test (head_of t)))
+        put_keeps s t some (⊎_elim (λ (e : t ≡ s). inl e) (λ (b : Among t all). inr ((same t).1 (held_among m all t b low))) h.0)
 
 no_overlap : (s : Placed) (frames : List Placed) → list_any (overlaps (head_of s)) (map head_of frames) ≡ false → (t : Placed) → Among t frames → s.at < end_of t → t.at < end_of s → ⊥
 no_overlap s frames free t a l m =
     ⊎_elim
     (λ (n : nat_lt s.at (end_of t) ≡ false). let k : end_of t ≤ s.at = ltb-false s.at (end_of t) n in omega arith)
     (λ (n : nat_lt t.at (end_of s) ≡ false). let k : end_of s ≤ t.at = ltb-false t.at (end_of s) n in omega arith)
-    (and_cases (nat_lt s.at (end_of t)) (nat_lt t.at (end_of s)) (any_false (overlaps (head_of s)) frames t free a))
+    (and_cases (nat_lt s.at (end_of t)) (nat_lt t.at (end_of s)) (any_false (overlaps (head_of s)) head_of t frames free a))
 
 one_more : (s : Placed) (frames : List Placed) → list_any (overlaps (head_of s)) (map head_of frames) ≡ false → AreOneWhereMet frames → AreOneWhereMet (s ∷ frames)
 one_more s frames free met x y (inl d) (inl e) l m = d ∙ sym e
@@ -221,14 +203,9 @@ beaten_shown v w o (pos p) b h is raised refused =
 
 held_later : (m n : ℕ) (t : Placed) (some all : List Placed) → m ≤ n → ((u : Placed) → Among u some ↔ Among u (held m all)) → Among t (held n some) ↔ Among t (held n all)
 held_later m n t some all rises same = (
-  λ a. let h = held_from n some t a in held_of n all t (held_from m all t ((same t).0 h.0)).0 h.1,
-  λ a. let h = held_from n all t a in let l : n ≤ t.at = h.1 in held_of n some t ((same t).1 (held_of m all t h.0 (omega arith))) l,
+  λ a. let h = among_held n some t a in held_among n all t (among_held m all t ((same t).0 h.0)).0 h.1,
+  λ a. let h = among_held n all t a in let l : n ≤ t.at = h.1 in held_among n some t ((same t).1 (held_among m all t h.0 (omega arith))) l,
 )
-
-map_set : (rs : List Consumer) (k : ℕ) (d : Consumer) → slice_set (map (λ (c : Consumer). c.at) rs) k d.at ≡ map (λ (c : Consumer). c.at) (slice_set rs k d)
-map_set [] k d = refl
-map_set (r ∷ rs) zero d = refl
-map_set (r ∷ rs) (suc k) d = ap (λ x. r.at ∷ x) (map_set rs k d)
 
 -- the consumer with this number
 pub record IsConsumer (rs : List Consumer) (k : ℕ) (at : ℕ) : Type 0 where
@@ -251,7 +228,7 @@ moved_shown v o k c d s h is among here past =
     let low : m ≤ c.at = all_get (λ (x : Consumer). m ≤ x.at) o.image.consumers k c is each in
     let some : 0 < length n = subst (λ x. 0 < x) (sym (length-set o.image.consumers k d)) h.some in
     let rises : m ≤ least_of n = at_least (λ p. m ≤ p) n some (all_set (λ (x : Consumer). m ≤ x.at) o.image.consumers k d (omega arith) each) in
-    let positions : slice_set v.consumers k d.at ≡ map (λ (x : Consumer). x.at) n = ap (λ ps. slice_set ps k d.at) h.consumers ∙ map_set o.image.consumers k d in
+    let positions : slice_set v.consumers k d.at ≡ map (λ (x : Consumer). x.at) n = ap (λ ps. slice_set ps k d.at) h.consumers ∙ sym (map-set (λ (x : Consumer). x.at) o.image.consumers k d) in
     let next : least (slice_set v.consumers k d.at) ≡ least_of n = ap least positions ∙ least_is n in
     let from : IsReached o.image.stored o.image.join c.at = all_get (λ (x : Consumer). IsReached o.image.stored o.image.join x.at) o.image.consumers k c is h.reached in
     let to : IsReached o.image.stored o.image.join d.at = passed_along o.image.stored o.image.join c.at d.at (s ∷ []) from (here, past) (among, tt) in
@@ -295,26 +272,18 @@ end_shown v o q h c =
           (λ (high : n ≤ k).
           let u : HasUnit v.held (m + 32 * (k - n)) = c.all (k - n) (omega arith) in
           let same : m + 32 * (k - n) ≡ o.image.join + 32 * k = omega arith in
-          subst (λ p. HasUnit o.image.stored p) same (record { frame = u.frame; among = (held_from m o.image.stored u.frame ((h.frames u.frame).0 u.among)).0; unit = u.unit; inside = u.inside; here = u.here }))
+          subst (λ p. HasUnit o.image.stored p) same (record { frame = u.frame; among = (among_held m o.image.stored u.frame ((h.frames u.frame).0 u.among)).0; unit = u.unit; inside = u.inside; here = u.here }))
           (cases_lt k n);
       next = λ u.
           let at : q ≡ u.frame.at + 32 * u.unit = u.here in
           let inside : 32 * u.unit < covered u.frame = u.inside in
           ⊎_elim
           (λ (low : u.frame.at < m). let l : end_of u.frame ≤ m = all_at (λ (t : Placed). t.at < m → end_of t ≤ m) u.frame o.image.stored (parted_least v o h) u.among low in absurd (omega arith))
-          (λ (high : m ≤ u.frame.at). c.next (record { frame = u.frame; among = (h.frames u.frame).1 (held_of m o.image.stored u.frame u.among high); unit = u.unit; inside = u.inside; here = u.here }))
+          (λ (high : m ≤ u.frame.at). c.next (record { frame = u.frame; among = (h.frames u.frame).1 (held_among m o.image.stored u.frame u.among high); unit = u.unit; inside = u.inside; here = u.here }))
           (cases_lt u.frame.at m);
     }
 
 -- ---- an image that was just opened
-
-map_replicate : (n : ℕ) (c : Consumer) → replicate n c.at ≡ map (λ (x : Consumer). x.at) (replicate n c)
-map_replicate zero c = refl
-map_replicate (suc n) c = ap (λ x. c.at ∷ x) (map_replicate n c)
-
-length_replicate : (n : ℕ) (c : Consumer) → length (replicate n c) ≡ n
-length_replicate zero c = refl
-length_replicate (suc n) c = ap suc (length_replicate n c)
 
 pub opened_shown : (g : Geometry) (join window n : ℕ) → 0 < n → ShowsImage (record { geometry = g; join = join; window = window; held = []; high = join; consumers = replicate n join }) (record { geometry = g; image = image_at join window n })
 opened_shown g join window n l = record {
@@ -322,8 +291,8 @@ opened_shown g join window n l = record {
   join = refl;
   window = refl;
   high = refl;
-  consumers = map_replicate n (consumer_at join);
-  some = subst (λ k. 0 < k) (sym (length_replicate n (consumer_at join))) l;
+  consumers = map_replicate (λ (c : Consumer). c.at) n (consumer_at join);
+  some = subst (λ k. 0 < k) (sym (length-replicate n (consumer_at join))) l;
   frames = λ s. (λ a. a, λ a. a);
   met = λ s t a b l m. absurd a;
   from = tt;

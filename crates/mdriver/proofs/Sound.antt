@@ -3,6 +3,7 @@ use Rattle.std.proofs.Common.{◌≡◌, ℕ, zero, suc, ◌+◌, ◌%◌, ◌<�
 use Rattle.std.specs.Prelude.{replicate, slice_get, slice_set}
 use Rattle.std.proofs.lemmas.Bool.{cases_eq}
 use Rattle.std.proofs.lemmas.Grind.{flat_map-append}
+use Rattle.std.proofs.lemmas.Option.{slice_get_within}
 use Rattle.theory.specs.Position.{Geometry, IsGeometry, max_position}
 use Rattle.theory.specs.Entry.{IsEntry}
 use Rattle.std.specs.Option.{option_map}
@@ -16,6 +17,7 @@ use Rattle.theory.specs.Consumer.{Consumer, consumer_at}
 use Rattle.theory.specs.Seats.{Each}
 use Rattle.theory.specs.World.{IsOpened}
 use Rattle.theory.proofs.Lists.{all_weaker}
+use Rattle.theory.proofs.Tables.{get_other, get_put}
 use Rattle.script.specs.Meaning.{Order}
 use Rattle.mdriver.specs.Published.{AllWhole, IsWhole, Played, Range, covered_by, joined_by, joins, polled, polled_by, published, ranges_after, ranges_behind, read, read_by}
 use Rattle.mdriver.specs.Receiving.{Opened, Receiver}
@@ -24,7 +26,7 @@ use Rattle.mdriver.proofs.Honest.{AreHonest}
 use Rattle.mdriver.proofs.OfferRuns.{LogHolds, tail_in_stream}
 use Rattle.mdriver.proofs.Ranges.{Matches}
 use Rattle.mdriver.proofs.ReceiverRuns.{At, Follows, FollowsImage, IsSending, Places}
-use Rattle.mdriver.proofs.Runs.{Goes, get_set, get_other, map_get}
+use Rattle.mdriver.proofs.Runs.{Goes, map_get}
 
 -- the laws that the crates below hand over
 pub record Laws : Type 0 where
@@ -188,7 +190,7 @@ readers_stay start n played order lines s t quiet same h k low =
 pub receiver_moves : (i : Identity) (played : List Played) (order : Order) (lines : List Print) (s t : Scene) (n : ℕ) (r mid : Receiver) → slice_get s.receivers n ≡ Some r → t.receivers ≡ slice_set s.receivers n mid → ((k : ℕ) → (n ≡ k → ⊥) → (joined_by k order lines ≡ []) × (polled_by k order lines ≡ [])) → Follows i mid (joins n (and_line played order lines)) (polled n (and_line played order lines)) (AllWhole n (and_line played order lines)) → ((k : ℕ) → k < 8 → HasFollowed i played s k) → (k : ℕ) → k < 8 → HasFollowed i (and_line played order lines) t k
 receiver_moves i played order lines s t n r mid there is others now h k low =
     ⊎_elim
-    (λ (e : n ≡ k). subst (λ x. HasFollowed i (and_line played order lines) t x) e (mid, ap (λ xs. slice_get xs n) is ∙ get_set s.receivers n r mid there, now))
+    (λ (e : n ≡ k). subst (λ x. HasFollowed i (and_line played order lines) t x) e (mid, ap (λ xs. slice_get xs n) is ∙ get_put s.receivers n mid (slice_get_within s.receivers n r there), now))
     (λ (ne : n ≡ k → ⊥).
     let old = h k low in
     let quiet = others k ne in

@@ -3,6 +3,8 @@ use Rattle.std.proofs.Common.{◌≡◌, ◌⊎◌, ℕ, suc, ◌<◌, List, [],
 use Rattle.std.specs.Prelude.{nat_eq, slice_get}
 use Rattle.std.specs.List.{AllByRecursion, flat_map}
 use Rattle.std.proofs.lemmas.Bool.{cond-true, cond-false, eq-eqb, ne_eqb}
+use Rattle.std.proofs.lemmas.List.{length-set}
+use Rattle.std.proofs.lemmas.Option.{slice_get_within}
 use Rattle.theory.specs.Bytes.{Identity}
 use Rattle.theory.specs.Control.{MayBeGiven}
 use Rattle.theory.proofs.Lists.{all_append, all_get}
@@ -19,7 +21,7 @@ use Rattle.mdriver.specs.Scene.{Scene, entries_of, image_of, opened_scene, world
 use Rattle.mdriver.proofs.Honest.{AreHonest, IsHonest, honest_wires, one_frame, replies_given}
 use Rattle.mdriver.proofs.PollFollows.{StillWhole, polls_met}
 use Rattle.mdriver.proofs.ReceiverRuns.{At, Follows, Met, meets, met_nothing, unchanged}
-use Rattle.mdriver.proofs.Runs.{Goes, below_length, goes_on, map_get, set_length}
+use Rattle.mdriver.proofs.Runs.{Goes, goes_on, map_get}
 use Rattle.mdriver.proofs.Sound.{IsSound, Laws, and_line, at_number, follows_as, follows_quiet, joins_more, polled_more, readers_stay, receiver_moves, whole_parts, SaysNoRange}
 use Rattle.mdriver.proofs.SoundLines.{matches_stay, missing_line, same_scene}
 
@@ -43,14 +45,14 @@ receiver_line i start readers played order lines s n r mid packets there goes ho
       sending = record { legal = h.sending.legal; sent = h.sending.sent; setups = h.sending.setups };
       honest = honest;
       matches = matches_stay i.geometry played order lines (entries_of s) none h.matches;
-      eight = set_length s.receivers n mid ∙ h.eight;
+      eight = length-set s.receivers n mid ∙ h.eight;
       receivers = receiver_moves i played order lines s t n r mid there refl others now h.receivers;
       seats = h.seats;
       reading = readers_stay start readers played order lines s t quiet refl h.reading;
     }
 
 number_low : (i : Identity) (start readers : ℕ) (played : List Played) (s : Scene) (n : ℕ) (r : Receiver) → IsSound i start readers played s → slice_get s.receivers n ≡ Some r → n < 8
-number_low i start readers played s n r h there = omega (arith, below_length s.receivers n r there, h.eight)
+number_low i start readers played s n r h there = omega (arith, slice_get_within s.receivers n r there, h.eight)
 
 -- ---- a tick
 

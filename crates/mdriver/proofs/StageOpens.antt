@@ -1,9 +1,8 @@
 -- The stage of a log that was just opened.
-use Rattle.std.proofs.Common.{◌≡◌, ◌∙◌, ℕ, zero, suc, ◌+◌, ◌-◌, ◌<◌, ◌≤◌, List, [], ◌∷◌, length, map, Option, None, Some, refl, sym, ap, subst, arith}
+use Rattle.std.proofs.Common.{◌≡◌, ◌∙◌, ℕ, suc, ◌+◌, ◌<◌, List, [], ◌∷◌, length, map, None, Some, refl, sym, ap, subst, arith}
 use Rattle.std.specs.List.{remove}
-use Rattle.std.specs.Prelude.{All, replicate, slice_get, slice_index, slice_index_or}
-use Rattle.theory.specs.Consumer.{Consumer, consumer_at}
-use Rattle.term_buffer.specs.declared.claimed.Claimed.{Claimed}
+use Rattle.std.specs.Prelude.{replicate, slice_get, slice_index, slice_index_or}
+use Rattle.std.proofs.lemmas.List.{get_or-replicate, length-replicate}
 use Rattle.log_buffer.specs.Log.{Log}
 use Rattle.log_buffer.specs.Passes.{AreAll, HaveBlocks, Pass}
 use Rattle.log_buffer.specs.Reader.{AreReaders, Reader}
@@ -35,19 +34,10 @@ none_claimed ps ws all is = ap (λ n. replicate n None) (sym all.eight) ∙ no_c
 begun : ℕ → ℕ → Reader
 begun start k = record { number = k; position = start; read_to = start }
 
-index_replicate : (count k start : ℕ) → k < count → slice_index (replicate count start) k ≡ start
-index_replicate zero k start h = absurd (omega (arith, h))
-index_replicate (suc n) zero start h = refl
-index_replicate (suc n) (suc k) start h = index_replicate n k start (omega (arith, h))
-
-length_replicate : (count start : ℕ) → length (replicate count start) ≡ count
-length_replicate zero start = refl
-length_replicate (suc n) start = ap suc (length_replicate n start)
-
 stands_begun : (l : Log) (start count : ℕ) (r : Reader) → l.consumers ≡ replicate count start → r.position ≡ start → r.number < count → Stands l r
 stands_begun l start count r e at low = record {
-  number = omega (arith, low, length_replicate count start, ap (λ (cs : List ℕ). length cs) e);
-  here = ap (λ cs. slice_index cs r.number) e ∙ index_replicate count r.number start low ∙ sym at;
+  number = omega (arith, low, length-replicate count start, ap (λ (cs : List ℕ). length cs) e);
+  here = ap (λ cs. slice_index cs r.number) e ∙ get_or-replicate count r.number start 0 low ∙ sym at;
 }
 
 stand_from : (l : Log) (start count from : ℕ) (rs : List Reader) → l.consumers ≡ replicate count start → from + length rs ≡ count → ((k : ℕ) → k < length rs → slice_get rs k ≡ Some (record { number = from + k; position = start; read_to = start })) → AllStand l from rs
@@ -90,7 +80,3 @@ opens l start count (x ∷ xs) rest r d e are some here out =
       count_is = ap (λ (ys : List Reader). suc (length ys)) out ∙ are.all;
       positions = ap (map (λ (q : Reader). q.position)) out ∙ positions_of start 1 xs later ∙ ap (λ (ys : List Reader). replicate (length ys) start) (sym out);
     }
-
-pub places_begun : (count start : ℕ) → replicate count start ≡ map (λ c. c.at) (replicate count (consumer_at start))
-places_begun zero start = refl
-places_begun (suc n) start = ap (λ ns. start ∷ ns) (places_begun n start)

@@ -24,7 +24,7 @@ use Rattle.mdriver.specs.Prints.{OfSender, prints}
 use Rattle.mdriver.specs.Scene.{Scene}
 use Rattle.mdriver.specs.Sending.{AreBehind, Cycles, Hears, HearsDatagram, Sending, at_moment}
 use Rattle.mdriver.proofs.SenderRuns.{named_at, named_said}
-use Rattle.mdriver.proofs.Stages.{claims_of, one_line}
+use Rattle.mdriver.proofs.Stages.{IsNow, claims_of, one_line}
 use Rattle.mdriver.specs.Staged.{AllShow, Answered, IsAnswered, ShowsScene, ShowsSender}
 
 -- what the flow control of one receiver becomes
@@ -32,13 +32,8 @@ abbrev pub after_told : ℕ → ℤ → ℤ → ℤ → ℕ → ℕ
 after_told f position window receiver now = max (clipped (position +ℤ window)) f
 
 -- the stage is as it was, but for its log, its sender and more packets
-pub record OnlySender (old new : Stage) (log : Log) (sender : Sending ℕ) (sent : List (List ℕ)) : Type 0 where
-  pub log_is : new.log ≡ log
-  pub sender_is : new.sender ≡ sender
-  pub subscribers : new.subscribers.items ≡ old.subscribers.items
-  pub packets : new.packets ≡ old.packets ++ sent
-  pub claims : claims_of new ≡ claims_of old
-  pub readers : new.readers.items ≡ old.readers.items
+abbrev pub OnlySender : Stage → Stage → Log → Sending ℕ → List (List ℕ) → Type 0
+OnlySender old new log sender sent = IsNow new log sender old.subscribers.items (old.packets ++ sent) (claims_of old) old.readers.items
 
 named_clock : (x : Sender) (due : Bool) → (named x due).clock ≡ x.clock
 named_clock x true = refl
@@ -91,15 +86,15 @@ send_answered old new now m t sent before after same c o told = λ s h.
       answers = (y, (due, next), refl, refl);
       printed = told ∙ ap (λ ws. prints before ++ or_nothing (packet_lines (length old.packets) ws)) wires ∙ ap (λ ps. prints before ++ or_nothing (packet_lines (length ps) (datagrams (wires_of s y)))) (sym h.packets);
       shows = record {
-        log = ap (λ (l : Log). record l { consumers = (cycled s now y).at ∷ map (λ c. c.at) s.readers }) h.log ∙ sym (o.log_is ∙ behind.log);
-        sender = subst (λ x. ShowsSender x scene) (sym o.sender_is) (record {
+        log = ap (λ (l : Log). record l { consumers = (cycled s now y).at ∷ map (λ c. c.at) s.readers }) h.log ∙ sym (o.log ∙ behind.log);
+        sender = subst (λ x. ShowsSender x scene) (sym o.sender) (record {
           at = behind.at;
           number = behind.number;
           flow = ap (λ x. x.flow) c.state ∙ h.sender.flow ∙ ap (λ ss. flow_limit s.log.start ss) (sym (sent_said z y.frame ∙ named_said (woken s now) y.setup));
           naming = state ∙ ap (λ n. after_due n (seen v.clock now)) h.sender.naming ∙ ap (after_due s.naming) clock;
           clock = ap (λ x. x.clock) c.state ∙ clock ∙ sym (sent_clock z y.frame ∙ named_clock (woken s now) y.setup);
         });
-        consumers = ap (λ l. l.consumers) (o.log_is ∙ behind.log);
+        consumers = ap (λ l. l.consumers) (o.log ∙ behind.log);
         claims = h.claims ∙ sym o.claims;
         readers = ap (map (λ r. r.position)) o.readers ∙ h.readers;
         receivers = subst (λ vs. AllShow vs s.receivers) (sym o.subscribers) h.receivers;
@@ -114,15 +109,15 @@ heard_shown : (old new : Stage) (s : Scene) (x : Sender) (naming : Naming) (t : 
 heard_shown old new s x naming t wires sent h o at reader flow name clock out =
     let scene = record (given_out s wires) { sender = x; naming = naming } in
     record {
-      log = h.log ∙ sym o.log_is;
-      sender = subst (λ v. ShowsSender v scene) (sym o.sender_is) (record {
+      log = h.log ∙ sym o.log;
+      sender = subst (λ v. ShowsSender v scene) (sym o.sender) (record {
         at = ap (λ r. r.position) reader ∙ h.sender.at ∙ sym at;
         number = ap (λ r. r.number) reader ∙ h.sender.number;
         flow = flow;
         naming = name;
         clock = clock;
       });
-      consumers = ap (λ l. l.consumers) o.log_is ∙ h.consumers ∙ ap (λ p. p ∷ map (λ c. c.at) s.readers) (sym at);
+      consumers = ap (λ l. l.consumers) o.log ∙ h.consumers ∙ ap (λ p. p ∷ map (λ c. c.at) s.readers) (sym at);
       claims = h.claims ∙ sym o.claims;
       readers = ap (map (λ r. r.position)) o.readers ∙ h.readers;
       receivers = subst (λ vs. AllShow vs s.receivers) (sym o.subscribers) h.receivers;

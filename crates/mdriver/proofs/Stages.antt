@@ -1,9 +1,11 @@
 -- What the calls of a line's handler left is a step of the scenes that the stage shows.
-use Rattle.std.proofs.Common.{◌≡◌, ◌⊎◌, ℕ, zero, suc, ◌+◌, ◌-◌, ◌<◌, ◌≤◌, drop, List, [], ◌∷◌, ◌++◌, map, length, Option, None, Some, inl, inr, refl, sym, ap, ◌∙◌, subst, arith}
+use Rattle.std.proofs.Common.{◌≡◌, ◌⊎◌, ℕ, zero, suc, ◌-◌, ◌<◌, ◌≤◌, drop, List, [], ◌∷◌, ◌++◌, map, length, Option, None, Some, inl, inr, refl, sym, ap, ◌∙◌, subst, arith}
 use Rattle.std.specs.Prelude.{◌%◌, slice_get, slice_set, slice_index, slice_index_or, Result, Ok, Err, OnOk}
-use Rattle.std.proofs.lemmas.List.{map-append}
+use Rattle.std.proofs.lemmas.List.{length-map, map-append, map-set, set-get_or}
+use Rattle.std.proofs.lemmas.Option.{slice_get_past}
 use Rattle.theory.specs.Entry.{Entry, committed}
 use Rattle.theory.specs.FlowLimit.{flow_limit}
+use Rattle.theory.proofs.Tables.{set_same}
 use Rattle.log_buffer.specs.Log.{IsLog, Log, added, room_in, with_abort, with_commit, with_padding}
 use Rattle.theory.specs.Placed.{Among, Data, Placed, end_of}
 use Rattle.theory.specs.Consumer.{Consumer, moved}
@@ -25,19 +27,22 @@ use Rattle.mdriver.specs.Polling.{Polls, TellsPositions}
 use Rattle.mdriver.specs.Prints.{Bad, Limit, OfReceiver, Print, print_of, prints}
 use Rattle.mdriver.specs.Receiving.{Hears, Receiver, replies, ticked}
 use Rattle.mdriver.specs.Scene.{Scene}
+use Rattle.mdriver.specs.Sending.{Sending}
 use Rattle.mdriver.specs.Staged.{AllShow, Answered, IsAnswered, IsOffered, MayBeOffered, OfferedLine, ShowsScene, ShowsSender}
 use Rattle.mdriver.specs.Stands.{AreWriters, WriterHolds, claim_in, pass_of}
 use Rattle.mdriver.specs.Writing as writing
 use Rattle.mdriver.specs.Writing.{Claimed_by, Rewrites}
 use Rattle.mdriver.specs.declared.writer.Writer.{Writer}
 use Rattle.mdriver.specs.declared.writer.Writer.TheVariants as writers
-use Rattle.mdriver.proofs.Standing.{claim_at_place, claims_set, found, is_held}
+use Rattle.mdriver.proofs.Standing.{claim_at_place, found, is_held}
 use Rattle.log_buffer.specs.Passes.{Pass}
 use Rattle.publication.specs.Claims.{Filling, claim_at}
 use Rattle.theory.specs.Position.{max_message, max_payload}
 use Rattle.term_buffer.specs.declared.claimed.Claimed.{Claimed}
 use Rattle.mdriver.specs.Subscribing.{Becomes, ShowsSubscriber, Subscribing}
+use Rattle.mdriver.proofs.Numbered.{none_past}
 use Rattle.mdriver.proofs.OfferRuns.{turned_same}
+use Rattle.mdriver.proofs.Runs.{map_get}
 
 -- ---- lines
 
@@ -64,23 +69,27 @@ shows_set (w ∷ ws) (q ∷ rs) (suc k) v r h s = (h.0, shows_set ws rs k v r h.
 abbrev pub claims_of : Stage → List (Option Claimed)
 claims_of v = map claim_in v.writers.items
 
+-- what a stage has now
+pub record IsNow (v : Stage) (l : Log) (x : Sending ℕ) (vs : List Subscribing) (ps : List (List ℕ)) (cs : List (Option Claimed)) (rs : List Reader) : Type 0 where
+  pub log : v.log ≡ l
+  pub sender : v.sender ≡ x
+  pub subscribers : v.subscribers.items ≡ vs
+  pub packets : v.packets ≡ ps
+  pub claims : claims_of v ≡ cs
+  pub readers : v.readers.items ≡ rs
+
 -- the stage is as it was, but for its log, which is this one now
-pub record OnlyLog (old new : Stage) (log : Log) : Type 0 where
-  pub log_is : new.log ≡ log
-  pub sender : new.sender ≡ old.sender
-  pub subscribers : new.subscribers.items ≡ old.subscribers.items
-  pub packets : new.packets ≡ old.packets
-  pub claims : claims_of new ≡ claims_of old
-  pub readers : new.readers.items ≡ old.readers.items
+abbrev pub OnlyLog : Stage → Stage → Log → Type 0
+OnlyLog old new log = IsNow new log old.sender old.subscribers.items old.packets (claims_of old) old.readers.items
 
 -- with these entries forgotten
 log_shown : (old new : Stage) (s : Scene) (log : Log) (past : List Entry) → ShowsScene old s → OnlyLog old new log → log.consumers ≡ old.log.consumers → log.start ≡ s.log.start → ShowsScene new (record s { log = log; past = past })
 log_shown old new s log past h o one start =
     let scene : Scene = record s { log = log; past = past } in
     record {
-      log = sym o.log_is;
+      log = sym o.log;
       sender = subst (λ v. ShowsSender v scene) (sym o.sender) (record { at = h.sender.at; number = h.sender.number; flow = h.sender.flow ∙ ap (λ n. flow_limit n s.sender.said) (sym start); naming = h.sender.naming; clock = h.sender.clock });
-      consumers = ap (λ l. l.consumers) o.log_is ∙ one ∙ h.consumers;
+      consumers = ap (λ l. l.consumers) o.log ∙ one ∙ h.consumers;
       claims = h.claims ∙ sym o.claims;
       readers = ap (map (λ r. r.position)) o.readers ∙ h.readers;
       receivers = subst (λ vs. AllShow vs s.receivers) (sym o.subscribers) h.receivers;
@@ -132,13 +141,8 @@ limit_answered old new line before after legal done shown same told = λ s h.
 -- ---- another receiver
 
 -- the stage is as it was, but for one subscriber
-pub record OnlySubscriber (old new : Stage) (k : ℕ) (v : Subscribing) : Type 0 where
-  pub log : new.log ≡ old.log
-  pub sender : new.sender ≡ old.sender
-  pub subscribers : new.subscribers.items ≡ slice_set old.subscribers.items k v
-  pub packets : new.packets ≡ old.packets
-  pub claims : claims_of new ≡ claims_of old
-  pub readers : new.readers.items ≡ old.readers.items
+abbrev pub OnlySubscriber : Stage → Stage → ℕ → Subscribing → Type 0
+OnlySubscriber old new k v = IsNow new old.log old.sender (slice_set old.subscribers.items k v) old.packets (claims_of old) old.readers.items
 
 subscriber_shown : (old new : Stage) (s : Scene) (k : ℕ) (v : Subscribing) (r : Receiver) → ShowsScene old s → OnlySubscriber old new k v → ShowsSubscriber v r → ShowsScene new (with_receiver s k r)
 subscriber_shown old new s k v r h o shown = record {
@@ -177,15 +181,10 @@ image_answered old k v line before after there tells told = λ s h.
 -- ---- packets
 
 packet_missing : (old : Stage) (s : Scene) (k : ℕ) → ShowsScene old s → slice_get old.packets k ≡ None → length s.packets ≤ k
-packet_missing old s k h none = ap_none s.packets k (ap (λ ps. slice_get ps k) h.packets ∙ none)
-  where
-    ap_none : (ps : List (List ℕ)) (k : ℕ) → slice_get ps k ≡ None → length ps ≤ k
-    ap_none [] k e = omega arith
-    ap_none (p ∷ ps) zero e = absurd (cc)
-    ap_none (p ∷ ps) (suc k) e = omega (arith, ap_none ps k e)
+packet_missing old s k h none = none_past s.packets k (ap (λ ps. slice_get ps k) h.packets ∙ none)
 
 same_shown : (old new : Stage) (s : Scene) → ShowsScene old s → OnlyLog old new old.log → ShowsScene new s
-same_shown old new s h o = log_shown old new s s.log s.past h (record { log_is = o.log_is ∙ sym h.log; sender = o.sender; subscribers = o.subscribers; packets = o.packets; claims = o.claims; readers = o.readers }) (ap (λ l. l.consumers) h.log) refl
+same_shown old new s h o = log_shown old new s s.log s.past h (record { log = o.log ∙ sym h.log; sender = o.sender; subscribers = o.subscribers; packets = o.packets; claims = o.claims; readers = o.readers }) (ap (λ l. l.consumers) h.log) refl
 
 pub missing_deliver : (old new : Stage) (k n now : ℕ) (line : Line) (before after : List Line) → slice_get old.packets k ≡ None → print_of line ≡ Bad → OnlyLog old new old.log → after ≡ before ++ line ∷ [] → IsAnswered old (orders.Deliver k n now) before after new
 missing_deliver old new k n now line before after none bad o told = λ s h. record {
@@ -218,13 +217,8 @@ deliver_answered old new k n now bytes v w outs before after packet there hears 
     }
 
 -- the same with packets given out
-pub record TickedTo (old new : Stage) (k : ℕ) (w : Subscribing) (packets : List (List ℕ)) : Type 0 where
-  pub log : new.log ≡ old.log
-  pub sender : new.sender ≡ old.sender
-  pub subscribers : new.subscribers.items ≡ slice_set old.subscribers.items k w
-  pub packets_are : new.packets ≡ old.packets ++ packets
-  pub claims : claims_of new ≡ claims_of old
-  pub readers : new.readers.items ≡ old.readers.items
+abbrev pub TickedTo : Stage → Stage → ℕ → Subscribing → List (List ℕ) → Type 0
+TickedTo old new k v packets = IsNow new old.log old.sender (slice_set old.subscribers.items k v) (old.packets ++ packets) (claims_of old) old.readers.items
 
 pub tick_answered : (old new : Stage) (n now : ℕ) (v w : Subscribing) (wires : List Wire) (before after : List Line) → slice_get old.subscribers.items n ≡ Some v → ((r : Receiver) → ShowsSubscriber v r → wires ≡ replies r now) → ((r : Receiver) → ShowsSubscriber v r → ShowsSubscriber w (ticked r now)) → AreFrames wires → TickedTo old new n w (datagrams wires) → prints after ≡ prints before ++ or_nothing (packet_lines (length old.packets) (datagrams wires)) → IsAnswered old (orders.Tick n now) before after new
 tick_answered old new n now v w wires before after there out next frames o told = λ s h.
@@ -244,14 +238,9 @@ tick_answered old new n now v w wires before after there out next frames o told 
         claims = base.claims;
         readers = base.readers;
         receivers = base.receivers;
-        packets = ap (λ ps. ps ++ datagrams (replies r now)) h.packets ∙ ap (λ ws. old.packets ++ datagrams ws) (sym sent) ∙ sym o.packets_are;
+        packets = ap (λ ps. ps ++ datagrams (replies r now)) h.packets ∙ ap (λ ws. old.packets ++ datagrams ws) (sym sent) ∙ sym o.packets;
       };
     }
-
-pub seat_at : (vs : List Subscribing) (k : ℕ) (v d : Subscribing) → v ≡ slice_index_or vs k d → k < length vs → slice_get vs k ≡ Some v
-seat_at [] k v d e h = absurd (omega (arith, h))
-seat_at (w ∷ ws) zero v d e h = ap Some (sym e)
-seat_at (w ∷ ws) (suc k) v d e h = seat_at ws k v d e (omega (arith, h))
 
 pub on_both : {X E : Type 0} (r : Result X E) (P Q R : Type 0) → OnOk r P → OnOk r Q → (P → Q → R) → OnOk r R
 on_both (Ok x) P Q R h k f = f h k
@@ -260,11 +249,8 @@ on_both (Err e) P Q R h k f = tt
 -- ---- claims
 
 -- the stage is as it was, but for its log and its writers' claims
-pub record OnlyClaims (old new : Stage) : Type 0 where
-  pub sender : new.sender ≡ old.sender
-  pub subscribers : new.subscribers.items ≡ old.subscribers.items
-  pub packets : new.packets ≡ old.packets
-  pub readers : new.readers.items ≡ old.readers.items
+abbrev pub OnlyClaims : Stage → Stage → Type 0
+OnlyClaims old new = IsNow new new.log old.sender old.subscribers.items old.packets (claims_of new) old.readers.items
 
 claim_shown : (old new : Stage) (s : Scene) (log : Log) (claims : List (Option Claimed)) → ShowsScene old s → OnlyClaims old new → new.log ≡ log → claims_of new ≡ claims → log.consumers ≡ s.log.consumers → log.start ≡ s.log.start → ShowsScene new (record s { log = log; claims = claims })
 claim_shown old new s log claims h o is held one start =
@@ -279,10 +265,8 @@ claim_shown old new s log claims h o is held one start =
       packets = h.packets ∙ sym o.packets;
     }
 
-set_same : (xs : List (Option Claimed)) (k : ℕ) (x : Option Claimed) → slice_index_or xs k None ≡ x → slice_set xs k x ≡ xs
-set_same [] k x e = refl
-set_same (y ∷ ys) zero x e = ap (λ z. z ∷ ys) (sym e)
-set_same (y ∷ ys) (suc k) x e = ap (λ zs. y ∷ zs) (set_same ys k x e)
+same_claim : (xs : List (Option Claimed)) (k : ℕ) (x : Option Claimed) → slice_index_or xs k None ≡ x → slice_set xs k x ≡ xs
+same_claim xs k x e = ap (slice_set xs k) (sym e) ∙ set-get_or xs k None
 
 -- what the scene has of a writer's claim
 record At (old new : Stage) (s : Scene) (by : ℕ) (w v : Writer) : Type 0 where
@@ -292,13 +276,13 @@ record At (old new : Stage) (s : Scene) (by : ℕ) (w v : Writer) : Type 0 where
 at_writer : (old new : Stage) (s : Scene) (by : ℕ) (w v : Writer) → ShowsScene old s → slice_get old.writers.items by ≡ Some w → new.writers.items ≡ slice_set old.writers.items by v → At old new s by w v
 at_writer old new s by w v h here there = record {
   before = ap (λ cs. slice_index_or cs by None) h.claims ∙ claim_at_place old.writers.items by w here;
-  after = ap (map claim_in) there ∙ claims_set old.writers.items by v ∙ ap (λ cs. slice_set cs by (claim_in v)) (sym h.claims);
+  after = ap (map claim_in) there ∙ map-set claim_in old.writers.items by v ∙ ap (λ cs. slice_set cs by (claim_in v)) (sym h.claims);
 }
 
 -- a line that changes nothing is shown by the scene that was
 bad_shown : (old new : Stage) (s : Scene) (by : ℕ) (w v : Writer) → ShowsScene old s → OnlyClaims old new → new.log ≡ s.log → v ≡ w → At old new s by w v → ShowsScene new s
 bad_shown old new s by w v h o is same at =
-    claim_shown old new s s.log s.claims h o is (at.after ∙ ap (λ x. slice_set s.claims by (claim_in x)) same ∙ set_same s.claims by (claim_in w) at.before) refl refl
+    claim_shown old new s s.log s.claims h o is (at.after ∙ ap (λ x. slice_set s.claims by (claim_in x)) same ∙ same_claim s.claims by (claim_in w) at.before) refl refl
 
 none_before : (s : Scene) (by : ℕ) (p : Pass) → claim_by s by ≡ claim_in (writers.Free p) → claim_by s by ≡ None
 none_before s by p e = e
@@ -321,7 +305,7 @@ claimed_free old new s by size p v line before after (Err refusal) h o may at e 
       scene = t;
       answers = inr (may, at.before, subst (λ a. Claims s by size a (line ∷ []) t) (sym e) (ap (λ x. x ∷ []) step.2, refl));
       printed = told;
-      shows = claim_shown old new s (after_claim s.log by size) s.claims h o step.0 (at.after ∙ ap (slice_set s.claims by) step.1 ∙ set_same s.claims by None at.before) (ap (λ x. x.0) (claim_keeps s.log by size)) (ap (λ x. x.1) (claim_keeps s.log by size));
+      shows = claim_shown old new s (after_claim s.log by size) s.claims h o step.0 (at.after ∙ ap (slice_set s.claims by) step.1 ∙ same_claim s.claims by None at.before) (ap (λ x. x.0) (claim_keeps s.log by size)) (ap (λ x. x.1) (claim_keeps s.log by size));
     }
 
 claimed : (old new : Stage) (s : Scene) (by size : ℕ) (w v : Writer) (line : Print) (before after : List Print) → by < 8 → size ≤ max_payload s.log.identity.geometry → (pass_of w).number ≡ by → ShowsScene old s → OnlyClaims old new → At old new s by w v → writing.Claims s.log w size new.log v line → after ≡ before ++ line ∷ [] → Answered s (orders.Claim by size) before after new
@@ -357,7 +341,7 @@ offered_line old new s by message (writers.Free p) v line before after order mea
       scene = with_log s next;
       answers = means s (with_log s next) (line ∷ []) (inr (may, at.before, offered s new.log by message (answer_of s.log (length message)) line said));
       printed = told;
-      shows = claim_shown old new s next s.claims h o (offered_log s.log new.log by message (answer_of s.log (length message)) line said) (at.after ∙ ap (slice_set s.claims by) step.2 ∙ set_same s.claims by None at.before) (ap (λ x. x.0) (offer_keeps s.log by message)) (ap (λ x. x.1) (offer_keeps s.log by message));
+      shows = claim_shown old new s next s.claims h o (offered_log s.log new.log by message (answer_of s.log (length message)) line said) (at.after ∙ ap (slice_set s.claims by) step.2 ∙ same_claim s.claims by None at.before) (ap (λ x. x.0) (offer_keeps s.log by message)) (ap (λ x. x.1) (offer_keeps s.log by message));
     }
 
 pub offer_answered : (old new : Stage) (by : ℕ) (message : List ℕ) (line : Line) (before after : List Line) → AreWriters old.log 0 old.writers.items → Rewrites old.writers.items new.writers.items by (λ w v. writing.Offers old.log w message new.log v (print_of line)) → OnlyClaims old new → after ≡ before ++ line ∷ [] → IsOffered old by message before after new
@@ -426,11 +410,8 @@ abort_answered old new by line before after low each r o told = λ s h.
 -- ---- a reader
 
 -- the stage is as it was, but for its log and its readers
-pub record OnlyReaders (old new : Stage) : Type 0 where
-  pub sender : new.sender ≡ old.sender
-  pub subscribers : new.subscribers.items ≡ old.subscribers.items
-  pub packets : new.packets ≡ old.packets
-  pub claims : claims_of new ≡ claims_of old
+abbrev pub OnlyReaders : Stage → Stage → Type 0
+OnlyReaders old new = IsNow new new.log old.sender old.subscribers.items old.packets (claims_of old) new.readers.items
 
 consumer_at_place : (rs : List Reader) (cs : List Consumer) (j : ℕ) (r : Reader) → map (λ q. q.position) rs ≡ map (λ c. c.at) cs → slice_get rs j ≡ Some r → (c : Consumer) × (slice_get cs j ≡ Some c) × (c.at ≡ r.position)
 consumer_at_place [] cs j r e h = absurd (cc)
@@ -441,16 +422,6 @@ consumer_at_place (q ∷ qs) (c ∷ cs) zero r e h =
     (c, refl, sym at ∙ ap (λ (x : Reader). x.position) same)
 consumer_at_place (q ∷ qs) (c ∷ cs) (suc j) r e h = consumer_at_place qs cs j r (ap (λ xs. drop 1 xs) e) h
 
-positions_set : (rs : List Reader) (j : ℕ) (q : Reader) → map (λ r. r.position) (slice_set rs j q) ≡ slice_set (map (λ r. r.position) rs) j q.position
-positions_set [] j q = refl
-positions_set (r ∷ rs) zero q = refl
-positions_set (r ∷ rs) (suc j) q = ap (λ xs. r.position ∷ xs) (positions_set rs j q)
-
-places_set : (cs : List Consumer) (j : ℕ) (d : Consumer) → map (λ c. c.at) (slice_set cs j d) ≡ slice_set (map (λ c. c.at) cs) j d.at
-places_set [] j d = refl
-places_set (c ∷ cs) zero d = refl
-places_set (c ∷ cs) (suc j) d = ap (λ xs. c.at ∷ xs) (places_set cs j d)
-
 pub no_reader : (old new : Stage) (k : ℕ) (line : Line) (before after : List Line) → (k ≡ 0) ⊎ (length old.readers.items < k) → print_of line ≡ Bad → OnlyLog old new old.log → after ≡ before ++ line ∷ [] → IsAnswered old (orders.Read k) before after new
 no_reader old new k line before after none bad o told = λ s h. record {
   lines = print_of line ∷ [];
@@ -460,37 +431,28 @@ no_reader old new k line before after none bad o told = λ s h. record {
   shows = same_shown old new s h o;
 }
   where
-    long_map : {X Y : Type 0} (f : X → Y) (xs : List X) → length (map f xs) ≡ length xs
-    long_map f [] = refl
-    long_map f (x ∷ xs) = ap suc (long_map f xs)
-
     readers_long : (old : Stage) (s : Scene) → ShowsScene old s → (k ≡ 0) ⊎ (length old.readers.items < k) → (k ≡ 0) ⊎ (length s.readers < k)
     readers_long old s h (inl e) = inl e
-    readers_long old s h (inr more) = inr (omega (arith, more, long_map (λ (r : Reader). r.position) old.readers.items, long_map (λ (c : Consumer). c.at) s.readers, ap (λ (xs : List ℕ). length xs) h.readers))
-
-    past_end : (cs : List Consumer) (j : ℕ) → length cs ≤ j → slice_get cs j ≡ None
-    past_end [] j e = refl
-    past_end (c ∷ cs) zero e = absurd (omega (arith, e))
-    past_end (c ∷ cs) (suc j) e = past_end cs j (omega (arith, e))
+    readers_long old s h (inr more) = inr (omega (arith, more, length-map old.readers.items (λ (r : Reader). r.position), length-map s.readers (λ (c : Consumer). c.at), ap (λ (xs : List ℕ). length xs) h.readers))
 
     missing : (s : Scene) (k : ℕ) → (k ≡ 0) ⊎ (length s.readers < k) → reader_at s k ≡ None
     missing s zero e = refl
     missing s (suc j) (inl e) = absurd (omega (arith, e))
-    missing s (suc j) (inr e) = past_end s.readers j (omega (arith, e))
+    missing s (suc j) (inr e) = slice_get_past s.readers j (omega (arith, e))
 
 -- the reader's consumer in the scene, and behind a frame
 passed_by_reader : (old new : Stage) (s : Scene) (j : ℕ) (r q : Reader) (c : Consumer) (p : Placed) → ShowsScene old s → OnlyReaders old new → slice_get s.readers j ≡ Some c → new.readers.items ≡ slice_set old.readers.items j q → r.number ≡ suc j → new.log ≡ record old.log { consumers = slice_set old.log.consumers r.number (end_of p) } → q.position ≡ end_of p → ShowsScene new (with_reader s (suc j) (moved c p))
 passed_by_reader old new s j r q c p h o there readers number log to =
     let scene : Scene = with_reader s (suc j) (moved c p) in
     let consumers : slice_set old.log.consumers r.number (end_of p) ≡ slice_set s.log.consumers (suc j) (end_of p) = ap (λ n. slice_set old.log.consumers n (end_of p)) number ∙ ap (λ l. slice_set l.consumers (suc j) (end_of p)) (sym h.log) in
-    let places : map (λ (x : Consumer). x.at) (slice_set s.readers j (moved c p)) ≡ slice_set (map (λ (x : Consumer). x.at) s.readers) j (end_of p) = places_set s.readers j (moved c p) in
+    let places : map (λ (x : Consumer). x.at) (slice_set s.readers j (moved c p)) ≡ slice_set (map (λ (x : Consumer). x.at) s.readers) j (end_of p) = map-set (λ (x : Consumer). x.at) s.readers j (moved c p) in
     let index : suc j - 1 ≡ j = omega arith in
     record {
       log = ap (λ (l : Log). record l { consumers = slice_set s.log.consumers (suc j) (end_of p) }) h.log ∙ ap (λ (cs : List ℕ). record old.log { consumers = cs }) (sym consumers) ∙ sym log;
       sender = subst (λ v. ShowsSender v scene) (sym o.sender) (record { at = h.sender.at; number = h.sender.number; flow = h.sender.flow; naming = h.sender.naming; clock = h.sender.clock });
       consumers = ap (λ l. l.consumers) log ∙ ap (λ n. slice_set old.log.consumers n (end_of p)) number ∙ ap (λ cs. slice_set cs (suc j) (end_of p)) h.consumers ∙ ap (λ xs. s.sender.at ∷ xs) (sym places ∙ ap (λ n. map (λ (x : Consumer). x.at) (slice_set s.readers n (moved c p))) (sym index));
       claims = h.claims ∙ sym o.claims;
-      readers = ap (map (λ (x : Reader). x.position)) readers ∙ positions_set old.readers.items j q ∙ ap (λ xs. slice_set xs j q.position) h.readers ∙ ap (slice_set (map (λ (x : Consumer). x.at) s.readers) j) to ∙ sym places ∙ ap (λ n. map (λ (x : Consumer). x.at) (slice_set s.readers n (moved c p))) (sym index);
+      readers = ap (map (λ (x : Reader). x.position)) readers ∙ map-set (λ (x : Reader). x.position) old.readers.items j q ∙ ap (λ xs. slice_set xs j q.position) h.readers ∙ ap (slice_set (map (λ (x : Consumer). x.at) s.readers) j) to ∙ sym places ∙ ap (λ n. map (λ (x : Consumer). x.at) (slice_set s.readers n (moved c p))) (sym index);
       receivers = subst (λ vs. AllShow vs s.receivers) (sym o.subscribers) h.receivers;
       packets = h.packets ∙ sym o.packets;
     }
@@ -501,15 +463,10 @@ stays_shown old new s j r q h o here readers log stay = record {
   sender = subst (λ v. ShowsSender v s) (sym o.sender) h.sender;
   consumers = ap (λ l. l.consumers) log ∙ h.consumers;
   claims = h.claims ∙ sym o.claims;
-  readers = ap (map (λ (x : Reader). x.position)) readers ∙ positions_set old.readers.items j q ∙ ap (slice_set (map (λ (x : Reader). x.position) old.readers.items) j) stay ∙ again old.readers.items j r here ∙ h.readers;
+  readers = ap (map (λ (x : Reader). x.position)) readers ∙ map-set (λ (x : Reader). x.position) old.readers.items j q ∙ ap (slice_set (map (λ (x : Reader). x.position) old.readers.items) j) stay ∙ set_same (map (λ (x : Reader). x.position) old.readers.items) j r.position (map_get (λ (x : Reader). x.position) old.readers.items j r here) ∙ h.readers;
   receivers = subst (λ vs. AllShow vs s.receivers) (sym o.subscribers) h.receivers;
   packets = h.packets ∙ sym o.packets;
 }
-  where
-    again : (rs : List Reader) (j : ℕ) (r : Reader) → slice_get rs j ≡ Some r → slice_set (map (λ (x : Reader). x.position) rs) j r.position ≡ map (λ (x : Reader). x.position) rs
-    again [] j r e = refl
-    again (x ∷ xs) zero r e = let same : x ≡ r = cc in ap (λ y. y.position ∷ map (λ (z : Reader). z.position) xs) (sym same)
-    again (x ∷ xs) (suc j) r e = ap (λ ys. x.position ∷ ys) (again xs j r e)
 
 read_so : (old new : Stage) (s : Scene) (j : ℕ) (r q : Reader) (line : Print) (before after : List Print) → ShowsScene old s → OnlyReaders old new → slice_get old.readers.items j ≡ Some r → new.readers.items ≡ slice_set old.readers.items j q → r.number ≡ suc j → ReadsLine old.log r line new.log q → after ≡ before ++ line ∷ [] → Answered s (orders.Read (suc j)) before after new
 read_so old new s j r q line before after h o here readers number (inl n) told =

@@ -1,12 +1,11 @@
 -- Readers stand and claims are open as long as nothing is done to them.
-use Rattle.std.proofs.Common.{◌≡◌, ◌∙◌, ℕ, zero, suc, ◌+◌, ◌-◌, ◌<◌, ◌≤◌, List, [], ◌∷◌, length, map, true, false, cond, Option, None, Some, refl, sym, ap, subst, arith, ⊎_elim, inl, inr}
-use Rattle.std.specs.Prelude.{nat_le, slice_get, slice_index, slice_index_or, slice_set}
-use Rattle.std.proofs.lemmas.Bool.{cond-true, cond-false, le-leb}
-use Rattle.theory.specs.Position.{Geometry, cuts_of, max_payload}
+use Rattle.std.proofs.Common.{◌≡◌, ◌∙◌, ℕ, zero, suc, ◌+◌, ◌<◌, ◌≤◌, List, [], ◌∷◌, length, map, false, None, Some, sym, ap, subst, arith}
+use Rattle.std.specs.Prelude.{slice_get, slice_index, slice_index_or, slice_set}
+use Rattle.std.proofs.lemmas.List.{nil_from_length}
+use Rattle.theory.specs.Position.{Geometry, max_payload}
 use Rattle.theory.specs.Bytes.{Identity}
-use Rattle.theory.specs.Placed.{Frame}
-use Rattle.theory.specs.Entry.{Entry}
-use Rattle.term_buffer.specs.Kept.{claim_of, cuts_for, cuts_in, entry_with}
+use Rattle.theory.proofs.Cuts.{short_cuts}
+use Rattle.term_buffer.specs.Kept.{cuts_for, cuts_in, entry_with}
 use Rattle.term_buffer.specs.declared.claimed.Claimed.{Claimed}
 use Rattle.log_buffer.specs.Log.{IsHeld, Log}
 use Rattle.log_buffer.specs.Reader.{IsAt, Reader}
@@ -36,11 +35,8 @@ all_stand l m number (r ∷ rs) keeps h = ((h.0.0, keeps r (omega (arith, h.0.0)
 
 -- ---- claims
 
-one_cut : (g : Geometry) (size : ℕ) → size ≤ max_payload g → cuts_of g size ≡ (size + 32) ∷ []
-one_cut g size h = cond-true (nat_le size (max_payload g)) ((size + 32) ∷ []) _ (le-leb size (max_payload g) h)
-
 pub claim_cut : (g : Geometry) (c : Claimed) → c.padding ≡ false → c.size ≤ max_payload g → cuts_in g c ≡ (c.size + 32) ∷ []
-claim_cut g c message short = ap (λ b. cuts_for g b c.size) message ∙ one_cut g c.size short
+claim_cut g c message short = ap (λ b. cuts_for g b c.size) message ∙ short_cuts g c.size short
 
 pub is_held : (l : Log) (c : Claimed) → Holds l c → IsHeld l c
 is_held l c h = record {
@@ -51,14 +47,10 @@ is_held l c h = record {
   blank = h.blank;
 }
 
-no_frames : (frames : List Frame) → length frames ≡ 0 → frames ≡ []
-no_frames [] e = refl
-no_frames (f ∷ fs) e = absurd (omega (arith, e))
-
 pub holds : (l : Log) (c : Claimed) → c.size ≤ max_payload l.identity.geometry → IsHeld l c → Holds l c
 holds l c short h = record {
   kept = h.unset.kept;
-  entry = h.unset.entry ∙ ap (λ fs. Some (entry_with l.identity.geometry c fs)) (no_frames h.unset.frames (h.unset.count ∙ h.first));
+  entry = h.unset.entry ∙ ap (λ fs. Some (entry_with l.identity.geometry c fs)) (nil_from_length h.unset.frames (h.unset.count ∙ h.first));
   message = h.message;
   first = h.first;
   in_stream = h.in_stream;
@@ -100,11 +92,6 @@ writers_set l m from (suc k) (x ∷ xs) w same keeps number size holds h = (
   (h.0.0, h.0.1 ∙ ap (λ (i : Identity). i.geometry.mtu) (sym same), writer_on l m x (λ c own. keeps c (λ e. absurd (omega (arith, e, own, h.0.0)))) h.0.2),
   writers_set l m (suc from) k xs w same (λ c other. keeps c (λ e. other (omega (arith, e)))) (number ∙ omega arith) size holds h.1,
 )
-
-pub claims_set : (ws : List Writer) (k : ℕ) (w : Writer) → map claim_in (slice_set ws k w) ≡ slice_set (map claim_in ws) k (claim_in w)
-claims_set [] k w = refl
-claims_set (x ∷ xs) zero w = refl
-claims_set (x ∷ xs) (suc k) w = ap (λ cs. claim_in x ∷ cs) (claims_set xs k w)
 
 pub claim_at_place : (ws : List Writer) (k : ℕ) (w : Writer) → slice_get ws k ≡ Some w → slice_index_or (map claim_in ws) k None ≡ claim_in w
 claim_at_place [] k w e = absurd (cc)

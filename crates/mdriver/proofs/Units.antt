@@ -1,28 +1,14 @@
 -- A header names a position that is a multiple of 32.
-use Rattle.std.proofs.Common.{◌≡◌, ℕ, suc, ◌-◌, ◌*◌, ◌/◌, ◌%◌, ◌^◌, ◌<◌, ◌≤◌, inl, inr, refl, ap, ◌∙◌, arith, ℤ, pos, negsuc, ◌+ℤ◌, ◌*ℤ◌}
-use Rattle.std.specs.Int.{IsPowerOfTwo}
-use Rattle.std.proofs.lemmas.Bool.{cases_lt}
+use Rattle.std.proofs.Common.{◌≡◌, ℕ, suc, ◌*◌, ◌/◌, ◌%◌, refl, ap, arith, ℤ, pos, negsuc, ◌+ℤ◌, ◌*ℤ◌}
 use Rattle.std.proofs.lemmas.Int.{ints}
-use Rattle.std.proofs.Math.Pow.{pow-lt}
-use Rattle.std.proofs.lemmas.Nat.{pow-add}
 use lib.IntN.{neg_ℤ}
 use Rattle.theory.specs.Position.{Geometry, IsGeometry, count_of, position_of}
+use Rattle.theory.proofs.WorldSteps.{power_unit}
 use Rattle.rebuilder.specs.Stored.{IsUnit}
 
 unit_by : (z : ℤ) → ((p : ℕ) → z ≡ pos p → p % 32 ≡ 0) → IsUnit z
 unit_by (pos p) f = f p refl
 unit_by (negsuc n) f = tt
-
-pub whole_power : (n : ℕ) → IsPowerOfTwo n → 32 ≤ n → n % 32 ≡ 0
-whole_power n (i, p) h =
-    elim (cases_lt i 5) [
-      | inl less ↦
-          let below : 2 ^ i < 2 ^ 5 = pow-lt less in
-          absurd (omega arith)
-      | inr more ↦
-          let split : 2 ^ i ≡ 2 ^ (i - 5) * 2 ^ 5 = ap (λ k. 2 ^ k) (omega arith) ∙ pow-add 2 (i - 5) 5 in
-          omega (arith, p, split)
-    ]
 
 pub whole_times : (a n : ℕ) → n % 32 ≡ 0 → (a * n) % 32 ≡ 0
 whole_times a n h =
@@ -41,5 +27,4 @@ unit_sum (negsuc a) n o h k =
 
 pub unit_position : (g : Geometry) (id : ℤ) (o : ℕ) → IsGeometry g → o % 32 ≡ 0 → IsUnit (position_of g id (pos o))
 unit_position g id o legal k =
-    let long : 65536 ≤ g.term_length = legal.term.least in
-    unit_sum (count_of g id) g.term_length o (whole_power g.term_length legal.term.power (omega arith)) k
+    unit_sum (count_of g id) g.term_length o (power_unit g.term_length legal.term.power legal.term.least) k

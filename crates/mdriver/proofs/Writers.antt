@@ -3,10 +3,10 @@ use Rattle.std.proofs.Common.{◌≡◌, ◌∙◌, ℕ, zero, suc, ◌+◌, ◌
 use Rattle.std.proofs.lemmas.Bool.{cases_lt}
 use Rattle.term_buffer.specs.declared.claimed.Claimed as claimed
 use Rattle.mdriver.specs.Stands.{AreWriters, Holds, WriterHolds, pass_of}
+use Rattle.mdriver.proofs.Runs.{seat_at}
 use Rattle.mdriver.proofs.Standing.{are_writers}
 use Rattle.std.specs.List.{insert, remove}
-use Rattle.std.specs.Prelude.{slice_get, slice_index, slice_index_or, slice_set}
-use Rattle.std.specs.Prelude.{Result, Option, None, Some, replicate}
+use Rattle.std.specs.Prelude.{Some, slice_index, slice_index_or, slice_set}
 use Rattle.log_buffer.specs.Log.{IsLog, Log}
 use Rattle.log_buffer.specs.Passes.{Pass}
 use Rattle.publication.specs.Claims.{Filling, claim_at, end_of}
@@ -14,7 +14,7 @@ use Rattle.publication.specs.Offers.{after_claim, answer_of}
 use Rattle.publication.specs.declared.refusal.Refusal.{Refusal}
 use Rattle.mdriver.specs.declared.writer.Writer.{Writer}
 use Rattle.mdriver.specs.declared.writer.Writer.TheVariants as writers
-use Rattle.mdriver.specs.Prints.{Claimed, Print, Refused}
+use Rattle.mdriver.specs.Prints.{Claimed, Refused}
 use Rattle.mdriver.specs.Writing.{Claimed_by, Claims, Ends, Rewrites}
 
 pub claimed_line : (l m : Log) (w : Writer) (p : Pass) (size : ℕ) (claim : Filling) (start end : ℕ) → w ≡ writers.Free p → IsLog l → answer_of l size ≡ Ok (end_of claim) → claim.claimed ≡ claim_at l p.number size → m ≡ after_claim l p.number size → start ≡ claim.claimed.start → end ≡ end_of claim → Claims l w size m (writers.Holding claim) (Claimed start end)
@@ -36,11 +36,6 @@ put_again [] k v low = absurd (omega (arith, low))
 put_again (x ∷ xs) zero v low = refl
 put_again (x ∷ xs) (suc k) v low = ap (λ ys. x ∷ ys) (put_again xs k v (omega (arith, low)))
 
-got : (ws : List Writer) (k : ℕ) (w d : Writer) → w ≡ slice_index_or ws k d → k < length ws → slice_get ws k ≡ Some w
-got [] k w d e low = absurd (omega (arith, low))
-got (x ∷ xs) zero w d e low = ap Some (sym e)
-got (x ∷ xs) (suc k) w d e low = got xs k w d e (omega (arith, low))
-
 pub put_is : (before between after : List Writer) (k : ℕ) (v : Writer) → k < length before → between ≡ remove before k → after ≡ insert between k v → after ≡ slice_set before k v
 put_is before between after k v low out back = back ∙ ap (λ ws. insert ws k v) out ∙ put_again before k v low
 
@@ -48,7 +43,7 @@ pub rewritten : (before between after : List Writer) (k : ℕ) (w v d : Writer) 
 rewritten before between after k w v d Step value low out back step = record {
   before = w;
   after = v;
-  here = got before k w d value low;
+  here = seat_at before k w d value low;
   there = put_is before between after k v low out back;
   step = step;
 }

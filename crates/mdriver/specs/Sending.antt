@@ -1,5 +1,5 @@
 -- What a contract sees of a sender, and what becomes of it by a tick and by a datagram.
-use Rattle.std.specs.Prelude.{◌≡◌, ℕ, ◌+◌, ◌-◌, ℤ, pos, true, false, List, [], ◌++◌, map, take, Option, None, Some, slice_set}
+use Rattle.std.specs.Prelude.{◌≡◌, ℕ, ◌-◌, ℤ, pos, true, false, List, [], ◌++◌, map, take, Option, None, Some, slice_set}
 use Rattle.std.specs.Option.{option_to_list}
 use Rattle.theory.specs.Position.{position_of}
 use Rattle.theory.specs.Placed.{Data, Frame, Pad, Placed, end_of}

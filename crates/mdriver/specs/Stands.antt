@@ -1,5 +1,5 @@
 -- Where a reader stands in a log, and which claims are open in it.
-use Rattle.std.specs.Prelude.{◌≡◌, ℕ, zero, suc, ◌+◌, ◌-◌, ◌<◌, ◌≤◌, ⊤, false, List, [], ◌∷◌, length, map, Option, None, Some, slice_get, slice_index}
+use Rattle.std.specs.Prelude.{◌≡◌, ℕ, suc, ◌-◌, ◌<◌, ◌≤◌, ⊤, false, List, [], ◌∷◌, length, Option, None, Some, slice_get, slice_index}
 use Rattle.theory.specs.Position.{max_payload, max_position}
 use Rattle.std.proofs.Props.{props}
 use Rattle.term_buffer.specs.Kept.{blank_for, claim_of, cuts_in}
@@ -7,7 +7,6 @@ use Rattle.term_buffer.specs.declared.claimed.Claimed.{Claimed}
 use Rattle.log_buffer.specs.Log.{Log, draft_of}
 use Rattle.log_buffer.specs.Passes.{Pass}
 use Rattle.log_buffer.specs.Reader.{Reader}
-use Rattle.publication.specs.Claims.{Filling}
 use Rattle.mdriver.specs.declared.writer.Writer.{Writer}
 use Rattle.mdriver.specs.declared.writer.Writer.TheVariants as writers
 

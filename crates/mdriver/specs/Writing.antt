@@ -1,5 +1,5 @@
 -- What lines do with a publisher and its claim.
-use Rattle.std.specs.Prelude.{◌≡◌, ℕ, ◌+◌, List, length, replicate, None, Some, slice_get, slice_set, Ok, Err, Result}
+use Rattle.std.specs.Prelude.{◌≡◌, ℕ, List, length, replicate, None, Some, slice_get, slice_set, Ok, Err, Result}
 use Rattle.theory.specs.Placed.{Data}
 use Rattle.log_buffer.specs.Log.{IsLog, Log, with_abort, with_commit}
 use Rattle.publication.specs.Claims.{claim_at}
@@ -10,7 +10,7 @@ use Rattle.mdriver.specs.declared.writer.Writer.TheVariants as writers
 use Rattle.mdriver.specs.Answers.{MayOffer, claim_end}
 use Rattle.mdriver.specs.Staged.{OfferedLine}
 use Rattle.mdriver.specs.Prints.{Bad, Claimed, Position, Print, Refused}
-use Rattle.mdriver.specs.Stands.{claim_in, pass_of}
+use Rattle.mdriver.specs.Stands.{claim_in}
 
 abbrev pub Claimed_by : Log → ℕ → ℕ → Result ℕ Refusal → Log → Writer → Print → Type 0
 Claimed_by old by size (Ok end) new after line = (new ≡ after_claim old by size) × (claim_in after ≡ Some (claim_at old by size)) × (line ≡ Claimed old.tail end)

@@ -1,4 +1,4 @@
-use Rattle.std.proofs.Common.{◌≡◌, ◌∙◌, ◌+◌, ◌-◌, ◌<◌, ℕ, List, ◌∷◌, length, map, arith, rules, ap, refl, suc, sym, subst, vec_len, w32, to_z, of_z, FitsSigned}
+use Rattle.std.proofs.Common.{◌≡◌, ◌∙◌, ◌-◌, ℕ, List, ◌∷◌, length, arith, rules, ap, suc, sym, subst, vec_len, w32, to_z, of_z, FitsSigned}
 use Rattle.std.specs.Prelude.{replicate}
 use Rattle.std.proofs.lemmas.Int.{to_z-of_z}
 use Rattle.theory.specs.Consumer.{Consumer, consumer_at}
@@ -6,7 +6,8 @@ use Rattle.log_buffer.specs.Log.{Log, fresh}
 use Rattle.log_buffer.specs.Reader.{Reader}
 use Rattle.mdriver.specs.Stands.{Stands}
 use Rattle.mdriver.proofs.SendLemmas.{same_identity}
-use Rattle.mdriver.proofs.StageOpens.{free_writers, none_claimed, opens, places_begun}
+use Rattle.mdriver.proofs.Runs.{map_replicate}
+use Rattle.mdriver.proofs.StageOpens.{free_writers, none_claimed, opens}
 use Rattle.mdriver.proofs.play.stage.Goals as goal
 
 pub invariant_of-result : goal.invariant_of-result
@@ -56,9 +57,9 @@ returns-in-Ok-new c =
         naming = ap (λ s. s.naming) c.in-Ok-new.ensures.made;
         clock = ap (λ s. s.clock) c.in-Ok-new.ensures.made;
       };
-      consumers = consumers ∙ ap (λ (n : ℕ). replicate n start) more ∙ ap (λ (ns : List ℕ). start ∷ ns) (places_begun (count - 1) start);
+      consumers = consumers ∙ ap (λ (n : ℕ). replicate n start) more ∙ ap (λ (ns : List ℕ). start ∷ ns) (map_replicate (λ (d : Consumer). d.at) (count - 1) (consumer_at start));
       claims = none_claimed c.args.parts.publishers.items c.free.new.writers.items c.requires.publishers c.free.ensures.free;
-      readers = o.positions ∙ ap (λ (n : ℕ). replicate n start) rest ∙ places_begun (count - 1) start;
+      readers = o.positions ∙ ap (λ (n : ℕ). replicate n start) rest ∙ map_replicate (λ (d : Consumer). d.at) (count - 1) (consumer_at start);
       receivers = c.requires.listening;
       packets = sym c.new-in-Ok-new.ensures;
     }

@@ -1,10 +1,5 @@
-use Rattle.std.proofs.Common.{◌≡◌, ◌∙◌, ap, refl, sym, subst, Ok, Err}
-use Rattle.std.specs.Prelude.{Some}
 use Rattle.mdriver.proofs.Standing.{holds_on}
 use Rattle.mdriver.proofs.Writers.{claimed_line, denied_line}
-use Rattle.mdriver.specs.Writing.{Claims}
-use Rattle.mdriver.specs.declared.writer.Writer.TheVariants as writers
-use Rattle.mdriver.specs.Prints.{Claimed, Refused}
 use Rattle.mdriver.proofs.writer.claim_line.Goals as goal
 
 pub returns-in-Ok-clause-claims : goal.returns-in-Ok-clause-claims

@@ -1,5 +1,5 @@
-use Rattle.std.proofs.Common.{◌≡◌, ◌∙◌, ◌+◌, ◌<◌, ap, arith, length, subst, suc, sym, vec_len}
-use Rattle.mdriver.specs.Stands.{AreWriters, pass_of}
+use Rattle.std.proofs.Common.{◌≡◌, ◌∙◌, ◌<◌, arith, length, subst, suc, vec_len}
+use Rattle.mdriver.specs.Stands.{AreWriters}
 use Rattle.mdriver.proofs.Writers.{ends_on, first_writer, later_writers, numbers_more}
 use Rattle.mdriver.proofs.writer.end_claims.Goals as goal
 

@@ -1,4 +1,4 @@
-use Rattle.std.proofs.Common.{◌≡◌, ◌∙◌, ◌+◌, arith, refl, ap, subst, length, sym}
+use Rattle.std.proofs.Common.{◌≡◌, ◌∙◌, ◌+◌, arith, ap, subst, sym}
 use Rattle.mdriver.specs.Stands.{AreWriters, pass_of}
 use Rattle.mdriver.proofs.Standing.{writer_at, writers_set}
 use Rattle.mdriver.proofs.Writers.{put_is, rewritten}

@@ -1,4 +1,3 @@
-use Rattle.mdriver.proofs.Bytes.{front_bytes}
 use Rattle.mdriver.proofs.Standing.{holds_on}
 use Rattle.mdriver.proofs.writer.offer_line.Goals as goal
 

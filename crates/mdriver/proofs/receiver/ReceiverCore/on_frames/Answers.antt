@@ -1,6 +1,7 @@
-use Rattle.std.proofs.Common.{◌≡◌, ◌∙◌, ◌++◌, ◌∷◌, ◌<◌, ◌≤◌, ◌+◌, [], zero, suc, ℕ, List, Result, Ok, Err, length, drop, take, arith, ap, subst, sym, refl}
+use Rattle.std.proofs.Common.{◌≡◌, ◌∙◌, ◌++◌, ◌∷◌, ◌<◌, ◌≤◌, ◌+◌, [], suc, ℕ, List, Result, Ok, Err, length, drop, take, arith, ap, subst, sym}
 use Rattle.std.specs.Prelude.{OnErr}
 use Rattle.std.specs.List.{AllByRecursion, flat_map}
+use Rattle.std.proofs.lemmas.List.{take-append-drop, take_all}
 use Rattle.frames.specs.Fronts.{FrontSpells}
 use Rattle.theory.specs.Wire.{IsFrame, Wire, spelling}
 use Rattle.frames.specs.Frames.{wire}
@@ -51,11 +52,6 @@ loop-turn-preserved c = record {
   consumers = c.in_ok-outcome.ensures.consumers ∙ c.loop-turn.invariant.consumers;
 }
 
-parted : (i : ℕ) (ws : List Wire) → ws ≡ take i ws ++ drop i ws
-parted zero ws = refl
-parted (suc i) [] = refl
-parted (suc i) (w ∷ ws) = ap (λ (xs : List Wire). w ∷ xs) (parted i ws)
-
 on_err : {V E : Type 0} (out : Result V E) (P : Type 0) → P → OnErr out P
 on_err (Ok v) P p = tt
 on_err (Err e) P p = p
@@ -65,7 +61,7 @@ returns-in_err-outcome-clause-broken_off c = λ frames spells counted.
     let i = c.loop-turn._turn in
     let before = c.loop-turn.invariant.taken frames spells counted in
     on_err c.from_residual.result (Becomes c.args.self.now c.on_frame.new.self (MeetsFirst frames))
-    (subst (λ w. Becomes c.args.self.now w (MeetsFirst frames)) (sym c.in_err-outcome.ensures.refused) (first_taken c.args.self.now c.loop-turn.self frames (take i frames) (drop i frames) c.loop-turn.outcomes.items (parted i frames) before.1))
+    (subst (λ w. Becomes c.args.self.now w (MeetsFirst frames)) (sym c.in_err-outcome.ensures.refused) (first_taken c.args.self.now c.loop-turn.self frames (take i frames) (drop i frames) c.loop-turn.outcomes.items (sym (take-append-drop i frames)) before.1))
 
 pub returns-in_err-push-clause-broken_off : goal.returns-in_err-push-clause-broken_off
 returns-in_err-push-clause-broken_off c = λ frames spells counted.
@@ -74,17 +70,11 @@ returns-in_err-push-clause-broken_off c = λ frames spells counted.
     let below : i < length frames = omega (arith, counted, c.loop-turn-test.true) in
     let next = next_is frames i c.loop-turn.rest.now (wire c.in-Ok.frame) c.in-Ok.size spells.1 below before.0 c.in-Ok.ensures.only in
     on_err c.from_residual-in_err-push.result (Becomes c.args.self.now c.on_frame.new.self (MeetsFirst frames))
-    (first_taken c.args.self.now c.on_frame.new.self frames (take (i + 1) frames) (drop (i + 1) frames) (c.loop-turn.outcomes.items ++ c.in_ok-outcome.outcome ∷ []) (parted (i + 1) frames)
+    (first_taken c.args.self.now c.on_frame.new.self frames (take (i + 1) frames) (drop (i + 1) frames) (c.loop-turn.outcomes.items ++ c.in_ok-outcome.outcome ∷ []) (sym (take-append-drop (i + 1) frames))
     (subst (λ ws. Becomes c.args.self.now c.on_frame.new.self (λ r s. MeetsAll r ws (c.loop-turn.outcomes.items ++ c.in_ok-outcome.outcome ∷ []) s)) next.taken
     (becomes_more c.args.self.now c.loop-turn.self c.on_frame.new.self (take i frames) c.loop-turn.outcomes.items (wire c.in-Ok.frame) c.in_ok-outcome.outcome before.1 c.in_ok-outcome.ensures.met)))
-
-taken_all : (i : ℕ) (ws : List Wire) → length ws ≤ i → take i ws ≡ ws
-taken_all zero [] l = refl
-taken_all zero (w ∷ ws) l = absurd (omega arith)
-taken_all (suc i) [] l = refl
-taken_all (suc i) (w ∷ ws) l = ap (λ (xs : List Wire). w ∷ xs) (taken_all i ws (omega arith))
 
 pub returns-clause-met : goal.returns-clause-met
 returns-clause-met c = λ frames spells counted.
     let done : length frames ≤ c.loop-turn._turn = omega (arith, counted, c.loop-turn-test.false) in
-    subst (λ ws. Becomes c.args.self.now c.loop-turn.self (λ r s. MeetsAll r ws c.loop-turn.outcomes.items s)) (taken_all c.loop-turn._turn frames done) (c.loop-turn.invariant.taken frames spells counted).1
+    subst (λ ws. Becomes c.args.self.now c.loop-turn.self (λ r s. MeetsAll r ws c.loop-turn.outcomes.items s)) (take_all c.loop-turn._turn frames done) (c.loop-turn.invariant.taken frames spells counted).1

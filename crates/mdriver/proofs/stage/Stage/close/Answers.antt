@@ -1,4 +1,4 @@
-use Rattle.std.proofs.Common.{◌≡◌, ◌∙◌, ◌≤◌, ap, length, subst, sym, refl}
+use Rattle.std.proofs.Common.{◌≡◌, ◌∙◌, ◌≤◌, ap, length, subst, sym}
 use Rattle.theory.specs.Bytes.{Identity}
 use Rattle.mdriver.proofs.Standing.{all_stand, are_writers, holds_on, stands_on}
 use Rattle.mdriver.proofs.stage.Stage.close.Goals as goal

@@ -1,6 +1,6 @@
-use Rattle.std.proofs.Common.{◌≡◌, ◌∙◌, ◌≤◌, ◌<◌, ◌+◌, ◌-◌, ap, arith, length, subst, sym, refl, inl, inr, rules, suc}
+use Rattle.std.proofs.Common.{◌≡◌, ◌∙◌, ◌≤◌, ap, length, subst, sym, refl}
 use Rattle.theory.specs.Bytes.{Identity}
-use Rattle.mdriver.proofs.Standing.{all_stand, are_writers, holds_on, stands_on}
+use Rattle.mdriver.proofs.Standing.{all_stand, stands_on}
 use Rattle.mdriver.proofs.Stages.{commit_answered}
 use Rattle.mdriver.proofs.stage.Stage.commit.Goals as goal
 
@@ -29,5 +29,5 @@ pub returns : goal.returns
 returns c =
     let old = c.args.self.now in
     commit_answered old _ c.args.publisher.number c.commit_by-line.result c.args.lines.now.items c.push.new.self.items c.args.publisher.in_range old.each c.commit_by-line.ensures.line
-    (record { sender = refl; subscribers = refl; packets = refl; readers = refl })
+    (record { log = refl; sender = refl; subscribers = refl; packets = refl; claims = refl; readers = refl })
     c.in_ok-push.ensures.items

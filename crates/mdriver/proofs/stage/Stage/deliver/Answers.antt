@@ -2,11 +2,12 @@ use Rattle.std.proofs.Common.{◌≡◌, ◌∙◌, ◌++◌, ap, map, refl, rul
 use Rattle.std.specs.Prelude.{slice_get}
 use Rattle.std.proofs.lemmas.Result.{on_ok_weaker}
 use Rattle.mdriver.specs.Prints.{OfReceiver, prints}
-use Rattle.mdriver.proofs.Stages.{deliver_answered, missing_deliver, seat_at}
+use Rattle.mdriver.proofs.Runs.{seat_at}
+use Rattle.mdriver.proofs.Stages.{deliver_answered, missing_deliver}
 use Rattle.mdriver.proofs.stage.Stage.deliver.Goals as goal
 
 pub returns-in_default : goal.returns-in_default
-returns-in_default c = missing_deliver c.args.self.now _ c.args.packet c.args.receiver.number c.args.now _ c.args.lines.now.items c.push.new.self.items (search rules) refl (record { log_is = refl; sender = refl; subscribers = refl; packets = refl; claims = refl; readers = refl }) c.in_ok-push.ensures.items
+returns-in_default c = missing_deliver c.args.self.now _ c.args.packet c.args.receiver.number c.args.now _ c.args.lines.now.items c.push.new.self.items (search rules) refl (record { log = refl; sender = refl; subscribers = refl; packets = refl; claims = refl; readers = refl }) c.in_ok-push.ensures.items
 
 pub returns : goal.returns
 returns c =

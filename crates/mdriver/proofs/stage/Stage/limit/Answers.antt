@@ -10,7 +10,7 @@ pub returns : goal.returns
 returns c =
     limit_answered c.args.self.now _ _ c.args.lines.now.items c.push.new.self.items c.clean_and_limit-limit.ensures.legal c.clean_and_limit-limit.ensures.done
     (ap Limit c.clean_and_limit-limit.ensures.limit)
-    (record { log_is = refl; sender = refl; subscribers = refl; packets = refl; claims = refl; readers = refl })
+    (record { log = refl; sender = refl; subscribers = refl; packets = refl; claims = refl; readers = refl })
     c.in_ok-push.ensures.items
 
 pub invariant_of-self : goal.invariant_of-self

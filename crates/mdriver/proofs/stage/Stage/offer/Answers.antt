@@ -1,4 +1,3 @@
-use Rattle.std.proofs.Common.{inl, inr, ⊎_elim}
 use Rattle.std.proofs.lemmas.Result.{on_ok_weaker}
 use Rattle.script.specs.Meaning as orders
 use Rattle.mdriver.proofs.Stages.{may_offer}

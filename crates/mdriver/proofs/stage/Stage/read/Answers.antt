@@ -1,4 +1,4 @@
-use Rattle.std.proofs.Common.{◌≡◌, ◌∙◌, ◌≤◌, ◌<◌, ◌+◌, ◌-◌, ℕ, ap, arith, length, subst, suc, sym, refl, inl, inr}
+use Rattle.std.proofs.Common.{◌≡◌, ◌∙◌, ◌≤◌, ◌<◌, ◌-◌, ℕ, ap, arith, length, subst, sym, refl, inl, inr}
 use Rattle.theory.specs.Bytes.{Identity}
 use Rattle.mdriver.specs.declared.line.Line.TheVariants as lines
 use Rattle.mdriver.proofs.Standing.{are_writers, reader_there, readers_set}
@@ -14,7 +14,7 @@ returns-then-reader-eq0 c =
       | then-reader-eq0-via-else-reader-eq0+then-reader-len w ↦ inr (omega (arith, w.if-reader-len.true, w.len.ensures))
     ])
     refl
-    (record { log_is = refl; sender = refl; subscribers = refl; packets = refl; claims = refl; readers = refl })
+    (record { log = refl; sender = refl; subscribers = refl; packets = refl; claims = refl; readers = refl })
     c.in_ok-push.ensures.items
 
 pub read_line-requires-clause-stands : goal.read_line-requires-clause-stands
@@ -56,5 +56,5 @@ returns c =
     let there = reader_there old.log 1 k old.readers.items c.index_mut-pass.result.now _ old.reading c.index_mut-pass.ensures.value low in
     read_answered old _ c.args.reader.number k c.index_mut-pass.result.now c.read_line.new.reader c.in_ok-line.line c.args.lines.now.items c.push-2.new.self.items
     (omega (arith, c.if-reader-eq0.false)) there.0 refl (omega (arith, there.1.0)) c.in_ok-line.ensures.reads
-    (record { sender = refl; subscribers = refl; packets = refl; claims = refl })
+    (record { log = refl; sender = refl; subscribers = refl; packets = refl; claims = refl; readers = refl })
     c.in_ok-push-2.ensures.items

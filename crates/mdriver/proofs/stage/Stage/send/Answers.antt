@@ -9,7 +9,7 @@ pub returns : goal.returns
 returns c =
     let old = c.args.self.now in
     on_both c.tell_all.result _ _ _ c.tell_all.ensures.given c.tell_all.ensures.line
-    (λ given told. send_answered old _ c.args.now c.step.new.log c.step.new.self c.step.new.outbox.datagrams c.args.lines.now.items c.tell_all.new.lines.items old.same c.step.ensures.step.1 (record { log_is = refl; sender_is = refl; subscribers = refl; packets = given; claims = refl; readers = refl }) told)
+    (λ given told. send_answered old _ c.args.now c.step.new.log c.step.new.self c.step.new.outbox.datagrams c.args.lines.now.items c.tell_all.new.lines.items old.same c.step.ensures.step.1 (record { log = refl; sender = refl; subscribers = refl; packets = given; claims = refl; readers = refl }) told)
 
 pub invariant_of-self : goal.invariant_of-self
 invariant_of-self c =

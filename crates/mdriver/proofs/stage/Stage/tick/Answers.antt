@@ -1,6 +1,7 @@
 use Rattle.std.proofs.Common.{refl, rules}
 use Rattle.mdriver.specs.Receiving.{replied}
-use Rattle.mdriver.proofs.Stages.{on_both, seat_at, tick_answered}
+use Rattle.mdriver.proofs.Runs.{seat_at}
+use Rattle.mdriver.proofs.Stages.{on_both, tick_answered}
 use Rattle.mdriver.proofs.stage.Stage.tick.Goals as goal
 
 pub returns : goal.returns
@@ -10,4 +11,4 @@ returns c =
     let there = seat_at old.subscribers.items n c.index_mut.result.now _ c.index_mut.ensures.value (search rules) in
     let wires = replied c.tick-replies.result in
     on_both c.tell_replies.result _ _ _ c.tell_replies.ensures.given c.tell_replies.ensures.line
-    (λ given told. tick_answered old _ n c.args.now c.index_mut.result.now c.tick-replies.new.self wires c.args.lines.now.items c.tell_replies.new.lines.items there c.tick-replies.ensures.replies c.tick-replies.ensures.state c.tick-replies.ensures.written (record { log = refl; sender = refl; subscribers = refl; packets_are = given; claims = refl; readers = refl }) told)
+    (λ given told. tick_answered old _ n c.args.now c.index_mut.result.now c.tick-replies.new.self wires c.args.lines.now.items c.tell_replies.new.lines.items there c.tick-replies.ensures.replies c.tick-replies.ensures.state c.tick-replies.ensures.written (record { log = refl; sender = refl; subscribers = refl; packets = given; claims = refl; readers = refl }) told)
