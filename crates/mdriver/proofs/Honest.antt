@@ -11,6 +11,7 @@ use Rattle.theory.specs.Control.{MayBeGiven, asking_at, status_at}
 use Rattle.theory.specs.Laws.{HasOneReading}
 use Rattle.theory.specs.Sender.{Sender}
 use Rattle.theory.proofs.Lists.{all_append, all_weaker}
+use Rattle.theory.proofs.Readings.{stands_alone}
 use Rattle.mdriver.specs.Answers.{AreFrames, named, sent_on}
 use Rattle.mdriver.specs.Cycling.{Cycle, datagrams, sent_wires, setups}
 use Rattle.mdriver.specs.Receiving.{Opened, Receiver, asking, at_moment, is_due, replies, telling}
@@ -106,14 +107,6 @@ replies_given i x r now =
     (telling_given i x (at_moment r now) r.image)
 
 -- ---- it has one reading
-
-stands_alone : (w : Wire) → StandTogether (w ∷ [])
-stands_alone (DATA h flags payload) = tt
-stands_alone (PAD h n) = refl
-stands_alone (HEARTBEAT h) = refl
-stands_alone (NAK f) = refl
-stands_alone (SM asks f) = refl
-stands_alone (SETUP f) = refl
 
 pub one_frame : HasOneReading → (i : Identity) (x : Sender) (bytes : List ℕ) (frames : List Wire) → (h : IsHonest i x bytes) → SpellsDatagram frames bytes → frames ≡ h.wire ∷ []
 one_frame law i x bytes frames h spelled = law frames (h.wire ∷ []) bytes spelled (stands_alone h.wire, (h.frame, tt), h.spelled ∙ sym (append-nil (spelling h.wire)))

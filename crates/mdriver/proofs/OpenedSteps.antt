@@ -12,7 +12,7 @@ use Rattle.theory.specs.Control.{named_by}
 use Rattle.theory.specs.Image.{after_heartbeat}
 use Rattle.theory.specs.Insert.{Stored, head_of, insert_answer_at}
 use Rattle.theory.specs.Wire.{Header}
-use Rattle.theory.proofs.Held.{among_held}
+use Rattle.theory.proofs.Held.{among_held, not_stored}
 use Rattle.theory.proofs.Lists.{all_at}
 use Rattle.position.specs.declared.head.FrameHead.{FrameHead}
 use Rattle.rebuilder.specs.Seen as seen
@@ -23,7 +23,7 @@ use Rattle.rebuilder.specs.declared.answer.Insert.TheVariants as answers
 use Rattle.mdriver.specs.Receiving.{Opened, answer_at, given_at}
 use Rattle.mdriver.specs.Showing.{HearsBeat, Inserts, IsAtEnd, ReadsPast, ShowsImage, with_reader}
 use Rattle.rebuilder.specs.Kinds.{head_at}
-use Rattle.mdriver.proofs.ShownSteps.{IsConsumer, beaten_shown, consumer_of, end_shown, inserted_shown, moved_shown, not_stored}
+use Rattle.mdriver.proofs.ShownSteps.{IsConsumer, beaten_shown, consumer_of, end_shown, inserted_shown, moved_shown}
 
 -- ---- a heartbeat
 

@@ -13,9 +13,9 @@ use Rattle.theory.specs.ImageLaws.{AreParted, held}
 use Rattle.theory.specs.Insert.{Head, Insert, CrossesTerm, Below, OverWindow, Duplicate, Overlap, Stored, head_of, insert_answer, insert_answer_at, is_duplicate, overlaps, window_end}
 use Rattle.theory.proofs.Messages.{chain_le}
 use Rattle.theory.proofs.Lists.{all_at, all_get, all_replicate, all_set, all_weaker, any_false, any_here}
-use Rattle.theory.proofs.Held.{among_held, answer_held, held_among, stored_apart}
+use Rattle.theory.proofs.Held.{among_held, answer_held, held_among, stored_apart, not_stored}
 use Rattle.theory.proofs.Parted.{stored_from}
-use Rattle.theory.proofs.Follow.{chain_units, passed_along, passed_more}
+use Rattle.theory.proofs.Follow.{chain_units, passed_along, passed_more, chain_span}
 use Rattle.rebuilder.specs.Held.{put}
 use Rattle.rebuilder.specs.Stored.{meant}
 use Rattle.rebuilder.specs.declared.answer.Insert as code
@@ -161,10 +161,6 @@ stored_shown v o s h e =
 
 -- ---- the answer to a frame, and what it makes of the image
 
-pub not_stored : (c : Bool) → cond c CrossesTerm Below ≡ Stored → ⊥
-not_stored true e = cc
-not_stored false e = cc
-
 pub inserted_shown : (v w : seen.Image) (o : Opened) (z : ℤ) (f : Frame) (a : code.Insert) → ShowsImage v o → meant a ≡ insert_answer_at v.geometry (map head_of v.held) (least v.consumers) v.window z (is_padding f) (frame_length f)
     → (a ≡ answers.Stored → (p : ℕ) → z ≡ pos p → w ≡ with_frame v (record { at = p; frame = f })) → ((a ≡ answers.Stored → ⊥) → w ≡ v)
     → (meant a ≡ answer_at o z f) × ShowsImage w (given_at o z f)
@@ -247,19 +243,11 @@ moved_shown v o k c d s h is among here past =
 
 -- ---- the contiguous end
 
-chain_units_of : (j q : ℕ) (read : List Placed) → Chain j q read → (n : ℕ) × (q ≡ j + 32 * n)
-chain_units_of j q [] c = let e : q ≡ j = c in (0, omega arith)
-chain_units_of j q (s ∷ ss) c =
-    let more = chain_units_of (end_of s) q ss c.1 in
-    let e : q ≡ end_of s + 32 * more.0 = more.1 in
-    let at : s.at ≡ j = c.0 in
-    ((frame_length s.frame + 31) / 32 + more.0, omega arith)
-
 pub end_shown : (v : seen.Image) (o : Opened) (q : ℕ) → ShowsImage v o → IsContiguous v.held (least v.consumers) q → IsContiguous o.image.stored o.image.join q
 end_shown v o q h c =
     let m = least v.consumers in
     let r = reached_least v o h in
-    let passed = chain_units_of o.image.join m r.read r.chain in
+    let passed = chain_span o.image.join m r.read r.chain in
     let n = passed.0 in
     let whole : m ≡ o.image.join + 32 * n = passed.1 in
     let end : q ≡ m + 32 * c.units = c.end in
