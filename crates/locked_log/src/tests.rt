@@ -160,6 +160,57 @@ fn one_thread(rt: HostRuntime) -> Result<(), Fail> {
     Ok(())
 }
 
+/// Fills the term of count 0 to its end, turns to the next one, and publishes again.
+fn fill_and_turn<R: Wait>(
+    rt: &R,
+    log: &Log<Brand>,
+    publisher: &mut Publisher,
+) -> [Result<u64, Refusal>; 2]
+    ensures { publisher.new.number ≡ publisher.old.number }
+{
+    let filled = log.offer(rt, publisher, b"hello");
+    if let Ok(65_536) = filled {
+        log.rotate(rt, publisher, 0);
+    }
+    [filled, log.offer(rt, publisher, b"hello")]
+}
+
+/// The same with the last of some publishers.
+fn turn<R: Wait>(
+    rt: &R,
+    log: &Log<Brand>,
+    publishers: &mut Vec<Publisher>,
+) -> [Result<u64, Refusal>; 2]
+    requires { AreAll publishers.old.items }
+    ensures { AreAll publishers.new.items }
+{
+    let mut ends = [Err(Refusal::AdminAction); 2];
+    if let Some(mut publisher) = publishers.pop() {
+        ends = fill_and_turn(rt, log, &mut publisher);
+        publishers.push(publisher).unwrap();
+    }
+    ends
+}
+
+/// An offer ends with its term, so that its publisher knows that the log may turn.
+#[test]
+fn turns(rt: HostRuntime) -> Result<(), Fail> {
+    let geometry = Geometry::new(65_536, 1408, 7)?;
+    let (log, parts) = Log::<Brand>::open(rt.alloc(), geometry, 1, 1001, 65_472, 1)?;
+    let Parts {
+        mut publishers,
+        readers,
+        mut keeper,
+    } = parts;
+    log.set_connected(&rt, &mut keeper, true);
+    let _ = log.clean_and_limit(&rt, &mut keeper);
+    let ends = turn(&rt, &log, &mut publishers);
+    let book = log.close(publishers, readers, keeper);
+    assert_eq!(rt; ends, [Ok(65_536), Ok(65_600)]);
+    assert_eq!(rt; book.tail, 65_600);
+    Ok(())
+}
+
 /// A claim that is committed and one that is aborted, each handed to another log first; and a reader of another log.
 #[test]
 fn two_logs(rt: HostRuntime) -> Result<(), Fail> {

@@ -223,6 +223,10 @@ pub on_ok : {X E : Type 0} (P Q : X → Type 0) (r : Result X E) → ((x : X) �
 on_ok P Q (Ok x) f h = f x h
 on_ok P Q (Err e) f h = tt
 
+pub on_both : {X E : Type 0} (P Q R : X → Type 0) (r : Result X E) → ((x : X) → P x → Q x → R x) → IfOk r P → IfOk r Q → IfOk r R
+on_both P Q R (Ok x) f h k = f x h k
+on_both P Q R (Err e) f h k = tt
+
 pub on_err : {X E : Type 0} (P Q : E → Type 0) (r : Result X E) → ((e : E) → P e → Q e) → IfErr r P → IfErr r Q
 on_err P Q (Ok x) f h = tt
 on_err P Q (Err e) f h = f e h

@@ -131,6 +131,7 @@ fn add_range(
     ensures after { log.new ≡ after_course log.old publisher.old.number count size (added_course log.old count size) }
     ensures identity { log.new.identity ≡ log.old.identity }
     ensures steps { AddsThen log.old count (covered log.old size) publisher.old publisher.new }
+    ensures few { IfOk result (λ claimed. length publisher.new.steps ≤ 4) }
     ensures readers { (r : Reader) → IsAt log.old r → IsAt log.new r }
     ensures claims { (c : Claimed) → IsHeld log.old c → IsHeld log.new c }
 {

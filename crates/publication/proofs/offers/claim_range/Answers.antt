@@ -1,4 +1,4 @@
-use Rattle.std.proofs.Common.{arith, ap, ◌∙◌, sym, ◌≡◌, ℕ, ◌+◌, ◌%◌, ◌≤◌, Some, List, [], ◌∷◌, ◌++◌, subst}
+use Rattle.std.proofs.Common.{arith, ap, ◌∙◌, sym, ◌≡◌, ℕ, ◌+◌, ◌%◌, ◌≤◌, Some, List, [], ◌∷◌, ◌++◌, length, subst}
 use Rattle.std.specs.Prelude.{slice_get, slice_set, Ok, Err}
 use Rattle.theory.specs.Position.{max_message, max_position}
 use Rattle.theory.specs.Refusal.{IsJustified}
@@ -15,7 +15,7 @@ use Rattle.publication.specs.Offers.{added_course, after_claim, after_course, an
 use Rattle.publication.specs.Refusals.{why_of}
 use Rattle.publication.specs.declared.refusal.Refusal.{Refusal}
 use Rattle.publication.proofs.Granted.{open_granted}
-use Rattle.publication.proofs.Justified.{after_is, answer_is, finished_at, limited_refusal, on_err, on_ok, open_justified, opened_before, stale, used_up}
+use Rattle.publication.proofs.Justified.{after_is, answer_is, finished_at, limited_refusal, on_both, on_err, on_ok, open_justified, opened_before, stale, used_up}
 use Rattle.publication.proofs.offers.claim_range.Goals as goal
 
 pub turn_from-requires-clause-last : goal.turn_from-requires-clause-last
@@ -113,11 +113,12 @@ steps_are c =
 pub returns-in-Open-clause-granted : goal.returns-in-Open-clause-granted
 returns-in-Open-clause-granted c =
     let s = c.in-Open.ensures in
-    on_ok (λ (d : Claimed). (answer_at c.look_at.new.log c.in-Open.count c.args.size (added_course c.look_at.new.log c.in-Open.count c.args.size) ≡ Ok (d.start + covered c.look_at.new.log c.args.size)) × (d ≡ claim_at c.look_at.new.log c.look_at.new.publisher.number c.args.size))
+    on_both (λ (d : Claimed). (answer_at c.look_at.new.log c.in-Open.count c.args.size (added_course c.look_at.new.log c.in-Open.count c.args.size) ≡ Ok (d.start + covered c.look_at.new.log c.args.size)) × (d ≡ claim_at c.look_at.new.log c.look_at.new.publisher.number c.args.size))
+    (λ (d : Claimed). length c.add_range.new.publisher.steps ≤ 4)
     (λ (d : Claimed). IsGranted c.args.log.now.identity.geometry (covered c.args.log.now c.args.size) c.add_range.new.publisher.steps (d.start + covered c.args.log.now c.args.size)) c.add_range.result
-    (λ d h. subst (λ (l : Log). IsGranted c.args.log.now.identity.geometry (covered c.args.log.now c.args.size) c.add_range.new.publisher.steps (d.start + covered l c.args.size)) s.saw.5
-    (open_granted c.args.log.now c.look_at.new.log _ c.in-Open.count c.args.size (d.start + covered c.look_at.new.log c.args.size) c.add_range.new.publisher.steps c.add_range.ensures.steps.more h.0 s.saw.5 s.saw.1 (steps_are c) s.limit s.saw.0 s.saw.2 s.saw.3))
-    c.add_range.ensures.claimed
+    (λ d h few. subst (λ (l : Log). IsGranted c.args.log.now.identity.geometry (covered c.args.log.now c.args.size) c.add_range.new.publisher.steps (d.start + covered l c.args.size)) s.saw.5
+    (open_granted c.args.log.now c.look_at.new.log _ c.in-Open.count c.args.size (d.start + covered c.look_at.new.log c.args.size) c.add_range.new.publisher.steps c.add_range.ensures.steps.more h.0 s.saw.5 s.saw.1 (steps_are c) few s.limit s.saw.0 s.saw.2 s.saw.3))
+    c.add_range.ensures.claimed c.add_range.ensures.few
 
 pub returns-in-Open-clause-justified : goal.returns-in-Open-clause-justified
 returns-in-Open-clause-justified c =
