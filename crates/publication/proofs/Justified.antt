@@ -1,5 +1,5 @@
 -- What a publisher saw justifies what it answers.
-use Rattle.std.specs.Prelude.{◌≡◌, ℕ, ◌+◌, ◌-◌, ◌*◌, ◌/◌, ◌%◌, ◌^◌, ◌<◌, ◌≤◌, Bool, true, false, List, [], ◌∷◌, ◌++◌, length, nat_eq, nat_le, nat_lt, Option, None, if◌then◌else◌, slice_set, Result, Ok, Err, IfErr, IfOk}
+use Rattle.std.specs.Prelude.{◌≡◌, ℕ, ◌+◌, ◌-◌, ◌*◌, ◌/◌, ◌%◌, ◌^◌, ◌<◌, ◌≤◌, Bool, true, false, List, [], ◌∷◌, ◌++◌, length, nat_eq, nat_le, nat_lt, Option, None, if◌then◌else◌, slice_set, Result, Ok, Err, IfOk}
 use Rattle.std.proofs.Common.{arith, refl, sym, ap, ◌∙◌, subst, inl, inr, ⊎_elim}
 use Rattle.std.proofs.lemmas.Bool.{cases_lt, eq-eqb, false≢true, eqb-true, cond-false, le-ltb, leb-false, lt-leb}
 use Rattle.std.proofs.lemmas.List.{set-set}
@@ -219,17 +219,9 @@ open_justified l m a count bytes seen more refusal answered armed is e small leg
     is e small legal shows not_closed active h
 
 -- a fact of each answer that follows from another
-pub on_ok : {X E : Type 0} (P Q : X → Type 0) (r : Result X E) → ((x : X) → P x → Q x) → IfOk r P → IfOk r Q
-on_ok P Q (Ok x) f h = f x h
-on_ok P Q (Err e) f h = tt
-
 pub on_both : {X E : Type 0} (P Q R : X → Type 0) (r : Result X E) → ((x : X) → P x → Q x → R x) → IfOk r P → IfOk r Q → IfOk r R
 on_both P Q R (Ok x) f h k = f x h k
 on_both P Q R (Err e) f h k = tt
-
-pub on_err : {X E : Type 0} (P Q : E → Type 0) (r : Result X E) → ((e : E) → P e → Q e) → IfErr r P → IfErr r Q
-on_err P Q (Ok x) f h = tt
-on_err P Q (Err e) f h = f e h
 
 -- ---- what calls require
 

@@ -1,5 +1,6 @@
 use Rattle.std.proofs.Common.{arith, ap, ◌∙◌, sym, ◌≡◌, ℕ, ◌+◌, ◌%◌, ◌≤◌, Some, List, [], ◌∷◌, ◌++◌, length, subst}
 use Rattle.std.specs.Prelude.{slice_get, slice_set, Ok, Err}
+use Rattle.std.proofs.lemmas.Result.{IfErr-weaker, IfOk-weaker}
 use Rattle.theory.specs.Position.{max_message, max_position}
 use Rattle.theory.specs.Refusal.{IsJustified}
 use Rattle.theory.proofs.Tables.{get_put}
@@ -15,7 +16,7 @@ use Rattle.publication.specs.Offers.{added_course, after_claim, after_course, an
 use Rattle.publication.specs.Refusals.{why_of}
 use Rattle.publication.specs.declared.refusal.Refusal.{Refusal}
 use Rattle.publication.proofs.Granted.{open_granted}
-use Rattle.publication.proofs.Justified.{after_is, answer_is, finished_at, limited_refusal, on_both, on_err, on_ok, open_justified, opened_before, stale, used_up}
+use Rattle.publication.proofs.Justified.{after_is, answer_is, finished_at, limited_refusal, on_both, open_justified, opened_before, stale, used_up}
 use Rattle.publication.proofs.offers.claim_range.Goals as goal
 
 pub turn_from-requires-clause-last : goal.turn_from-requires-clause-last
@@ -69,23 +70,23 @@ pub returns-in-Open-clause-claimed : goal.returns-in-Open-clause-claimed
 returns-in-Open-clause-claimed c =
     let s = c.in-Open.ensures in
     let number : c.look_at.new.publisher.number ≡ c.args.publisher.now.number = s.number ∙ ap (λ (x : Pass). x.number) c.begin.ensures.begun in
-    on_ok (λ (d : Claimed). (answer_at c.look_at.new.log c.in-Open.count c.args.size (added_course c.look_at.new.log c.in-Open.count c.args.size) ≡ Ok (d.start + covered c.look_at.new.log c.args.size)) × (d ≡ claim_at c.look_at.new.log c.look_at.new.publisher.number c.args.size))
-    (λ (d : Claimed). (answer_of c.args.log.now c.args.size ≡ Ok (d.start + covered c.args.log.now c.args.size)) × (d ≡ claim_at c.args.log.now c.args.publisher.now.number c.args.size)) c.add_range.result
+    IfOk-weaker c.add_range.result (λ (d : Claimed). (answer_at c.look_at.new.log c.in-Open.count c.args.size (added_course c.look_at.new.log c.in-Open.count c.args.size) ≡ Ok (d.start + covered c.look_at.new.log c.args.size)) × (d ≡ claim_at c.look_at.new.log c.look_at.new.publisher.number c.args.size))
+    (λ (d : Claimed). (answer_of c.args.log.now c.args.size ≡ Ok (d.start + covered c.args.log.now c.args.size)) × (d ≡ claim_at c.args.log.now c.args.publisher.now.number c.args.size))
     (λ d h. (sym (answered c) ∙ h.0 ∙ ap (λ (l : Log). Ok (d.start + covered l c.args.size)) s.saw.5, h.1 ∙ ap (λ (l : Log). claim_at l c.look_at.new.publisher.number c.args.size) s.saw.5 ∙ ap (λ (n : ℕ). claim_at c.args.log.now n c.args.size) number))
     c.add_range.ensures.claimed
 
 pub returns-in-Open-clause-in_stream : goal.returns-in-Open-clause-in_stream
 returns-in-Open-clause-in_stream c =
     let s = c.in-Open.ensures in
-    on_ok (λ (d : Claimed). d.start + covered c.look_at.new.log c.args.size ≤ max_position c.look_at.new.log.identity.geometry)
-    (λ (d : Claimed). d.start + covered c.args.log.now c.args.size ≤ max_position c.args.log.now.identity.geometry) c.add_range.result
+    IfOk-weaker c.add_range.result (λ (d : Claimed). d.start + covered c.look_at.new.log c.args.size ≤ max_position c.look_at.new.log.identity.geometry)
+    (λ (d : Claimed). d.start + covered c.args.log.now c.args.size ≤ max_position c.args.log.now.identity.geometry)
     (λ d h. subst (λ (l : Log). d.start + covered l c.args.size ≤ max_position l.identity.geometry) s.saw.5 h)
     c.add_range.ensures.in_stream
 
 pub returns-in-Open-clause-refused : goal.returns-in-Open-clause-refused
 returns-in-Open-clause-refused c =
-    on_err (λ (r : Refusal). answer_at c.look_at.new.log c.in-Open.count c.args.size (added_course c.look_at.new.log c.in-Open.count c.args.size) ≡ Err r)
-    (λ (r : Refusal). answer_of c.args.log.now c.args.size ≡ Err r) c.add_range.result
+    IfErr-weaker c.add_range.result (λ (r : Refusal). answer_at c.look_at.new.log c.in-Open.count c.args.size (added_course c.look_at.new.log c.in-Open.count c.args.size) ≡ Err r)
+    (λ (r : Refusal). answer_of c.args.log.now c.args.size ≡ Err r)
     (λ r h. sym (answered c) ∙ h)
     c.add_range.ensures.refused
 
@@ -123,8 +124,8 @@ returns-in-Open-clause-granted c =
 pub returns-in-Open-clause-justified : goal.returns-in-Open-clause-justified
 returns-in-Open-clause-justified c =
     let s = c.in-Open.ensures in
-    on_err (λ (r : Refusal). answer_at c.look_at.new.log c.in-Open.count c.args.size (added_course c.look_at.new.log c.in-Open.count c.args.size) ≡ Err r)
-    (λ (r : Refusal). IsJustified c.args.log.now.identity.geometry (covered c.args.log.now c.args.size) (sights c.add_range.new.publisher.steps) (why_of r)) c.add_range.result
+    IfErr-weaker c.add_range.result (λ (r : Refusal). answer_at c.look_at.new.log c.in-Open.count c.args.size (added_course c.look_at.new.log c.in-Open.count c.args.size) ≡ Err r)
+    (λ (r : Refusal). IsJustified c.args.log.now.identity.geometry (covered c.args.log.now c.args.size) (sights c.add_range.new.publisher.steps) (why_of r))
     (λ r h. open_justified c.args.log.now c.look_at.new.log _ c.in-Open.count c.args.size c.add_range.new.publisher.steps c.add_range.ensures.steps.more r h s.saw.5 s.saw.1 (steps_are c) s.counted s.legal_old s.limit s.saw.0 s.saw.2 s.saw.3)
     c.add_range.ensures.refused
 
