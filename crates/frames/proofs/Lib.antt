@@ -8,3 +8,4 @@ pub mod Laws
 pub mod Faults
 pub mod Together
 pub mod OneFault
+pub mod FrameSteps

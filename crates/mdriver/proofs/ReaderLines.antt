@@ -6,13 +6,13 @@ use Rattle.theory.specs.Placed.{Placed, end_of}
 use Rattle.position.specs.declared.head.FrameHead.{FrameHead}
 use Rattle.log_buffer.specs.Log.{Log}
 use Rattle.log_buffer.specs.Reader.{Reader, Reads}
-use Rattle.mdriver.specs.Answers.{frame_line}
-use Rattle.mdriver.specs.Prints.{Print}
+use Rattle.script_run.specs.Answers.{frame_line}
+use Rattle.script_run.specs.LineContents.{LineContent}
 use Rattle.mdriver.specs.Reading.{ReadsLine}
-use Rattle.mdriver.specs.Sending.{frame_in}
-use Rattle.mdriver.proofs.SendLemmas.{ends, frame_read, read_frame, starts}
+use Rattle.sender.specs.Sending.{frame_in}
+use Rattle.sender.proofs.SendLemmas.{ends, frame_read, read_frame, starts}
 
-pub reads_line : (l m : Log) (r n q : Reader) (head : FrameHead) (old new : List ℕ) (line : Print) → Reads l r.position head old new → line ≡ frame_line head.start (frame_in head.kind head.flags head.frame_length new) → n ≡ record r { read_to = head.start + aligned head.frame_length } → m ≡ record l { consumers = slice_set l.consumers n.number n.read_to } → q ≡ record n { position = n.read_to } → ReadsLine l r line m q
+pub reads_line : (l m : Log) (r n q : Reader) (head : FrameHead) (old new : List ℕ) (line : LineContent) → Reads l r.position head old new → line ≡ frame_line head.start (frame_in head.kind head.flags head.frame_length new) → n ≡ record r { read_to = head.start + aligned head.frame_length } → m ≡ record l { consumers = slice_set l.consumers n.number n.read_to } → q ≡ record n { position = n.read_to } → ReadsLine l r line m q
 reads_line l m r n q head old new line h told read log moved =
     let s : Placed = read_frame h in
     let noted : n ≡ record r { read_to = end_of s } = read ∙ ap (λ (x : ℕ). record r { read_to = x }) (ends l r head old new h) in

@@ -16,28 +16,28 @@ use Rattle.log_buffer.specs.Reader.{Reader}
 use Rattle.log_buffer.specs.declared.book.Book.{Book}
 use Rattle.script.specs.Meaning.{Opening, Order, Told, order, orders}
 use Rattle.script.specs.declared.command.Command.{Command}
-use Rattle.mdriver.specs.Answers.{Answers}
-use Rattle.mdriver.specs.Plays.{AlwaysPolled, AnswersAll, IsStart, Plays, PlaysOn, ShowsBook, geometry_of, identity_of}
-use Rattle.mdriver.specs.Prints.{Open, Print, Shares, print_of, prints}
-use Rattle.mdriver.specs.Published.{Played}
-use Rattle.mdriver.specs.Scene.{Scene, entries_of, opened_scene}
-use Rattle.mdriver.specs.Staged.{Answered, Continued, Continues, ContinuesOpen, IsAnswered, RunsTo, ShowsScene}
+use Rattle.script_run.specs.Answers.{Answers}
+use Rattle.script_run.specs.Output.{AlwaysPolled, AnswersAll, IsStart, IsOutputOf, IsOutputOfRun, ShowsBook, geometry_of, identity_of}
+use Rattle.script_run.specs.LineContents.{Open, LineContent, Shares, content_of, contents_of}
+use Rattle.script_run.specs.Published.{Played}
+use Rattle.script_run.specs.ScriptState.{ScriptState, entries_of, opened_state}
+use Rattle.mdriver.specs.Staged.{Answered, Continued, Continues, ContinuesOpen, IsAnswered, RunsTo, RepresentsState}
 use Rattle.mdriver.specs.declared.line.Line.{Line}
 use Rattle.mdriver.specs.declared.line.Line.TheVariants as lines
 use Rattle.mdriver.specs.declared.stage.Stage.{Stage}
-use Rattle.mdriver.proofs.Counted.{always_counted}
+use Rattle.script_run.proofs.Counted.{always_counted}
 
-answers_snoc : (old mid new : Scene) (ps : List Played) (p : Played) → AnswersAll old ps mid → Answers mid p.order p.lines new → AnswersAll old (ps ++ p ∷ []) new
-answers_snoc old mid new [] p h k = (new, subst (λ (s : Scene). Answers s p.order p.lines new) h k, refl)
+answers_snoc : (old mid new : ScriptState) (ps : List Played) (p : Played) → AnswersAll old ps mid → Answers mid p.order p.lines new → AnswersAll old (ps ++ p ∷ []) new
+answers_snoc old mid new [] p h k = (new, subst (λ (s : ScriptState). Answers s p.order p.lines new) h k, refl)
 answers_snoc old mid new (q ∷ ps) p h k = (h.0, h.1, answers_snoc h.0 mid new ps p h.2 k)
 
-abbrev lines_in : List Played → List Print
+abbrev lines_in : List Played → List LineContent
 lines_in played = flat_map (λ p. p.lines) played
 
 lines_snoc : (ps : List Played) (p : Played) → lines_in (ps ++ p ∷ []) ≡ lines_in ps ++ p.lines
-lines_snoc ps p = flat_map-append (λ (q : Played). q.lines) ps (p ∷ []) ∙ ap (λ (ls : List Print). lines_in ps ++ ls) (append-nil p.lines)
+lines_snoc ps p = flat_map-append (λ (q : Played). q.lines) ps (p ∷ []) ∙ ap (λ (ls : List LineContent). lines_in ps ++ ls) (append-nil p.lines)
 
-continued_snoc : (old : Scene) (os : List Order) (o : Order) (before mid after : List Print) (there new : Stage) → Continued old os before mid there → ((s : Scene) → ShowsScene there s → Answered s o mid after new) → Continued old (os ++ o ∷ []) before after new
+continued_snoc : (old : ScriptState) (os : List Order) (o : Order) (before mid after : List LineContent) (there new : Stage) → Continued old os before mid there → ((s : ScriptState) → RepresentsState there s → Answered s o mid after new) → Continued old (os ++ o ∷ []) before after new
 continued_snoc old os o before mid after there new h step =
     let k = step h.scene h.shows in
     let p : Played = record { order = o; lines = k.lines } in
@@ -46,22 +46,22 @@ continued_snoc old os o before mid after there new h step =
       scene = k.scene;
       of_orders = map-append (λ (q : Played). q.order) h.played (p ∷ []) ∙ ap (λ (xs : List Order). xs ++ o ∷ []) h.of_orders;
       answered = answers_snoc old h.scene k.scene h.played p h.answered k.answers;
-      printed = k.printed ∙ ap (λ (ls : List Print). ls ++ k.lines) h.printed ∙ append_assoc before (lines_in h.played) k.lines ∙ ap (λ (ls : List Print). before ++ ls) (sym (lines_snoc h.played p));
+      printed = k.printed ∙ ap (λ (ls : List LineContent). ls ++ k.lines) h.printed ∙ append_assoc before (lines_in h.played) k.lines ∙ ap (λ (ls : List LineContent). before ++ ls) (sym (lines_snoc h.played p));
       shows = k.shows;
     }
 
 pub none_played : (stage : Stage) (ls : List Line) → Continues stage [] ls ls stage
-none_played stage ls s h = record { played = []; scene = s; of_orders = refl; answered = refl; printed = sym (append-nil (prints ls)); shows = h }
+none_played stage ls s h = record { played = []; scene = s; of_orders = refl; answered = refl; printed = sym (append-nil (contents_of ls)); shows = h }
 
 pub one_more_played : (old mid new : Stage) (cs : List Command) (c : Command) (before there after : List Line) → Continues old (orders cs) before there mid → IsAnswered mid (order c) there after new → Continues old (orders (cs ++ c ∷ [])) before after new
 one_more_played old mid new cs c before there after h step s shows =
-    subst (λ (os : List Order). Continued s os (prints before) (prints after) new) (sym (map-append order cs (c ∷ [])))
-    (continued_snoc s (orders cs) (order c) (prints before) (prints there) (prints after) mid new (h s shows) step)
+    subst (λ (os : List Order). Continued s os (contents_of before) (contents_of after) new) (sym (map-append order cs (c ∷ [])))
+    (continued_snoc s (orders cs) (order c) (contents_of before) (contents_of there) (contents_of after) mid new (h s shows) step)
 
 -- behind the line of an opened log
 pub behind_open : (old new : Stage) (os : List Order) (before there after : List Line) → there ≡ before ++ lines.Open ∷ [] → Continues old os there after new → ContinuesOpen old os before after new
 behind_open old new os before there after e h s shows =
-    subst (λ (ls : List Print). Continued s os ls (prints after) new) (ap prints e ∙ map-append print_of before (lines.Open ∷ [])) (h s shows)
+    subst (λ (ls : List LineContent). Continued s os ls (contents_of after) new) (ap contents_of e ∙ map-append content_of before (lines.Open ∷ [])) (h s shows)
 
 -- ---- the book
 
@@ -69,7 +69,7 @@ behind_open old new os before there after e h s shows =
 abbrev opening_of : Identity → ℕ → ℕ → Opening
 opening_of i start readers = record { term_length = i.geometry.term_length; mtu = i.geometry.mtu; initial_term_id = i.geometry.initial_term_id; start = start; session = i.session; stream = i.stream; readers = readers }
 
-shows_book : (s : Scene) (b : Book) → length b.shares ≡ 8 → ((k : ℕ) → k < 8 → slice_index s.log.shares k ≡ share_of k (entries_of s)) → books.ShowsBook s.log b → ShowsBook s (Shares b.start b.tail b.shares)
+shows_book : (s : ScriptState) (b : Book) → length b.shares ≡ 8 → ((k : ℕ) → k < 8 → slice_index s.log.shares k ≡ share_of k (entries_of s)) → books.ShowsBook s.log b → ShowsBook s (Shares b.start b.tail b.shares)
 shows_book s b eight counted h = record {
   shares = b.shares;
   eight = eight;
@@ -78,12 +78,12 @@ shows_book s b eight counted h = record {
   shown = ap (λ (n : ℕ). Shares n b.tail b.shares) h.start ∙ ap (λ (n : ℕ). Shares s.log.start n b.shares) h.tail;
 }
 
-all_printed : (before played book : List Print) → ((before ++ Open ∷ []) ++ played) ++ book ≡ before ++ Open ∷ (played ++ book)
+all_printed : (before played book : List LineContent) → ((before ++ Open ∷ []) ++ played) ++ book ≡ before ++ Open ∷ (played ++ book)
 all_printed before played book = append_assoc (before ++ Open ∷ []) played book ∙ append_assoc before (Open ∷ []) (played ++ book)
 
-pub runs_to : (old new : Stage) (i : Identity) (start readers : ℕ) (os : List Order) (before there after : List Line) (b : Book) → length b.shares ≡ 8 → ShowsScene old (opened_scene i start readers) → ContinuesOpen old os before there new → books.ShowsBook new.log b → after ≡ there ++ lines.Book b ∷ [] → RunsTo i start readers os (prints before) (prints after)
+pub runs_to : (old new : Stage) (i : Identity) (start readers : ℕ) (os : List Order) (before there after : List Line) (b : Book) → length b.shares ≡ 8 → RepresentsState old (opened_state i start readers) → ContinuesOpen old os before there new → books.ShowsBook new.log b → after ≡ there ++ lines.Book b ∷ [] → RunsTo i start readers os (contents_of before) (contents_of after)
 runs_to old new i start readers os before there after b eight shows h book e =
-    let k = h (opened_scene i start readers) shows in
+    let k = h (opened_state i start readers) shows in
     record {
       played = k.played;
       last = k.scene;
@@ -92,10 +92,10 @@ runs_to old new i start readers os before there after b eight shows h book e =
       book = Shares b.start b.tail b.shares;
       shown = shows_book k.scene b eight (always_counted (opening_of i start readers) k.played k.scene k.answered) (subst (λ (l : Log). books.ShowsBook l b) (sym k.shows.log) book);
       printed =
-          ap prints e
-          ∙ map-append print_of there (lines.Book b ∷ [])
-          ∙ ap (λ (ls : List Print). ls ++ Shares b.start b.tail b.shares ∷ []) k.printed
-          ∙ all_printed (prints before) (lines_in k.played) (Shares b.start b.tail b.shares ∷ []);
+          ap contents_of e
+          ∙ map-append content_of there (lines.Book b ∷ [])
+          ∙ ap (λ (ls : List LineContent). ls ++ Shares b.start b.tail b.shares ∷ []) k.printed
+          ∙ all_printed (contents_of before) (lines_in k.played) (Shares b.start b.tail b.shares ∷ []);
     }
 
 one_more_command : (cs : List Command) (k : ℕ) (c : Command) → k < length cs → c ≡ get_or cs k c → take (k + 1) cs ≡ take k cs ++ c ∷ []
@@ -113,21 +113,21 @@ next_played old mid new cs k c before there after below e h step =
 -- ---- the whole script
 
 -- how many readers the stage has
-stage_readers : (v : Stage) (i : Identity) (start readers : ℕ) → ShowsScene v (opened_scene i start readers) → readers ≡ length v.readers.items
+stage_readers : (v : Stage) (i : Identity) (start readers : ℕ) → RepresentsState v (opened_state i start readers) → readers ≡ length v.readers.items
 stage_readers v i start readers h =
     sym (length-replicate readers (consumer_at start))
     ∙ sym (length-map (replicate readers (consumer_at start)) (λ (c : Consumer). c.at))
     ∙ ap (λ (ps : List ℕ). length ps) (sym h.readers)
     ∙ length-map v.readers.items (λ (r : Reader). r.position)
 
-pub own_scene : (v : Stage) (i : Identity) (start readers : ℕ) → ShowsScene v (opened_scene i start readers) → ShowsScene v (opened_scene v.log.identity v.log.start (length v.readers.items))
+pub own_scene : (v : Stage) (i : Identity) (start readers : ℕ) → RepresentsState v (opened_state i start readers) → RepresentsState v (opened_state v.log.identity v.log.start (length v.readers.items))
 own_scene v i start readers h =
     let same : i ≡ v.log.identity = ap (λ l. l.identity) h.log in
     let there : start ≡ v.log.start = ap (λ l. l.start) h.log in
-    subst (λ (k : ℕ). ShowsScene v (opened_scene v.log.identity v.log.start k)) (stage_readers v i start readers h)
-    (subst (λ (j : Identity). ShowsScene v (opened_scene j v.log.start readers)) same (subst (λ (n : ℕ). ShowsScene v (opened_scene i n readers)) there h))
+    subst (λ (k : ℕ). RepresentsState v (opened_state v.log.identity v.log.start k)) (stage_readers v i start readers h)
+    (subst (λ (j : Identity). RepresentsState v (opened_state j v.log.start readers)) same (subst (λ (n : ℕ). RepresentsState v (opened_state i n readers)) there h))
 
-runs_from : (v : Stage) (i : Identity) (start readers : ℕ) (os : List Order) (before after : List Print) → ShowsScene v (opened_scene i start readers) → RunsTo v.log.identity v.log.start (length v.readers.items) os before after → RunsTo i start readers os before after
+runs_from : (v : Stage) (i : Identity) (start readers : ℕ) (os : List Order) (before after : List LineContent) → RepresentsState v (opened_state i start readers) → RunsTo v.log.identity v.log.start (length v.readers.items) os before after → RunsTo i start readers os before after
 runs_from v i start readers os before after h k =
     let same : i ≡ v.log.identity = ap (λ l. l.identity) h.log in
     let there : start ≡ v.log.start = ap (λ l. l.start) h.log in
@@ -135,7 +135,7 @@ runs_from v i start readers os before after h k =
     (subst (λ (n : ℕ). RunsTo v.log.identity n readers os before after) (sym there)
     (subst (λ (n : ℕ). RunsTo v.log.identity v.log.start n os before after) (sym (stage_readers v i start readers h)) k))
 
-plays_on : (script : Told) (after : List Print) → IsGeometry (geometry_of script.log) → IsStart script.log → IsIdentity (identity_of script.log) → AlwaysPolled → RunsTo (identity_of script.log) script.log.start script.log.readers script.orders [] after → PlaysOn script after
+plays_on : (script : Told) (after : List LineContent) → IsGeometry (geometry_of script.log) → IsStart script.log → IsIdentity (identity_of script.log) → AlwaysPolled → RunsTo (identity_of script.log) script.log.start script.log.readers script.orders [] after → IsOutputOfRun script after
 plays_on script after legal starts identity always h = record {
   legal = legal;
   starts = starts;
@@ -150,18 +150,18 @@ plays_on script after legal starts identity always h = record {
   read = λ done later parts. (always script.log h.played h.last legal identity starts h.answered done later parts).1;
 }
 
-pub stage_plays : (script : Told) (v : Stage) (j : Identity) (start readers : ℕ) (after : List Print) → j ≡ identity_of script.log → start ≡ script.log.start → readers ≡ script.log.readers → IsGeometry (geometry_of script.log) → IsStart script.log → IsIdentity (identity_of script.log) → AlwaysPolled → ShowsScene v (opened_scene j start readers) → RunsTo v.log.identity v.log.start (length v.readers.items) script.orders [] after → Plays script after
+pub stage_plays : (script : Told) (v : Stage) (j : Identity) (start readers : ℕ) (after : List LineContent) → j ≡ identity_of script.log → start ≡ script.log.start → readers ≡ script.log.readers → IsGeometry (geometry_of script.log) → IsStart script.log → IsIdentity (identity_of script.log) → AlwaysPolled → RepresentsState v (opened_state j start readers) → RunsTo v.log.identity v.log.start (length v.readers.items) script.orders [] after → IsOutputOf script after
 stage_plays script v j start readers after same there many legal starts identity always shows runs =
-    let here : ShowsScene v (opened_scene (identity_of script.log) script.log.start script.log.readers) =
-    subst (λ (i : Identity). ShowsScene v (opened_scene i script.log.start script.log.readers)) same
-    (subst (λ (n : ℕ). ShowsScene v (opened_scene j n script.log.readers)) there (subst (λ (n : ℕ). ShowsScene v (opened_scene j start n)) many shows)) in
+    let here : RepresentsState v (opened_state (identity_of script.log) script.log.start script.log.readers) =
+    subst (λ (i : Identity). RepresentsState v (opened_state i script.log.start script.log.readers)) same
+    (subst (λ (n : ℕ). RepresentsState v (opened_state j n script.log.readers)) there (subst (λ (n : ℕ). RepresentsState v (opened_state j start n)) many shows)) in
     inr (plays_on script after legal starts identity always (runs_from v (identity_of script.log) script.log.start script.log.readers script.orders [] after here runs))
 
 -- the log can't be opened at its start
-pub refused_start : (script : Told) (g : Geometry) (before after : List Line) → g ≡ geometry_of script.log → IsGeometry g → ((script.log.start % 32 ≡ 0) × (script.log.start < max_position g) → ⊥) → before ≡ [] → after ≡ before ++ lines.BadLog Start ∷ [] → Plays script (prints after)
+pub refused_start : (script : Told) (g : Geometry) (before after : List Line) → g ≡ geometry_of script.log → IsGeometry g → ((script.log.start % 32 ≡ 0) × (script.log.start < max_position g) → ⊥) → before ≡ [] → after ≡ before ++ lines.BadLog Start ∷ [] → IsOutputOf script (contents_of after)
 refused_start script g before after made legal refused none e =
     inl (inr (inr (
       subst IsGeometry made legal,
       subst (λ (h : Geometry). (script.log.start % 32 ≡ 0) × (script.log.start < max_position h) → ⊥) made refused,
-      ap prints (e ∙ ap (λ (ls : List Line). ls ++ lines.BadLog Start ∷ []) none),
+      ap contents_of (e ∙ ap (λ (ls : List Line). ls ++ lines.BadLog Start ∷ []) none),
     )))

@@ -3,7 +3,7 @@ use Rattle.std.proofs.Common.{◌≡◌, ◌∙◌, ℕ, zero, suc, ◌+◌, ◌
 use Rattle.std.proofs.lemmas.Bool.{cases_lt}
 use Rattle.term_buffer.specs.declared.claimed.Claimed as claimed
 use Rattle.mdriver.specs.Stands.{AreWriters, Holds, WriterHolds, pass_of}
-use Rattle.mdriver.proofs.Runs.{seat_at}
+use Rattle.script_run.proofs.Runs.{seat_at}
 use Rattle.mdriver.proofs.Standing.{are_writers}
 use Rattle.std.specs.List.{insert, remove}
 use Rattle.std.specs.Prelude.{Some, slice_index, slice_index_or, slice_set}
@@ -14,7 +14,7 @@ use Rattle.publication.specs.Offers.{after_claim, answer_of}
 use Rattle.publication.specs.declared.refusal.Refusal.{Refusal}
 use Rattle.mdriver.specs.declared.writer.Writer.{Writer}
 use Rattle.mdriver.specs.declared.writer.Writer.TheVariants as writers
-use Rattle.mdriver.specs.Prints.{Claimed, Refused}
+use Rattle.script_run.specs.LineContents.{Claimed, Refused}
 use Rattle.mdriver.specs.Writing.{Claimed_by, Claims, Ends, Rewrites}
 
 pub claimed_line : (l m : Log) (w : Writer) (p : Pass) (size : ℕ) (claim : Filling) (start end : ℕ) → w ≡ writers.Free p → IsLog l → answer_of l size ≡ Ok (end_of claim) → claim.claimed ≡ claim_at l p.number size → m ≡ after_claim l p.number size → start ≡ claim.claimed.start → end ≡ end_of claim → Claims l w size m (writers.Holding claim) (Claimed start end)

@@ -8,13 +8,13 @@ pub mod FrameLines
 pub mod OutboxSlots
 pub mod Outgoing
 pub mod Packed
-pub mod Plays
+pub mod IsOutputOf
 pub mod Polling
 pub mod Prints
 pub mod Published
 pub mod Reading
 pub mod Receiving
-pub mod Scene
+pub mod ScriptState
 pub mod Scripting
 pub mod Sending
 pub mod Showing

@@ -4,22 +4,22 @@ use Rattle.theory.specs.Placed.{Among, Frame, Placed, end_of}
 use Rattle.theory.specs.Entry.{committed}
 use Rattle.log_buffer.specs.Log.{Log}
 use Rattle.log_buffer.specs.Reader.{Reader, ReadsNone}
-use Rattle.mdriver.specs.Answers.{frame_line}
-use Rattle.mdriver.specs.Prints.{NoMessage, Print}
+use Rattle.script_run.specs.Answers.{frame_line}
+use Rattle.script_run.specs.LineContents.{NoMessage, LineContent}
 
 -- what is printed of a frame at a position
-abbrev pub shown_frame : ℕ → Frame → Print
+abbrev pub shown_frame : ℕ → Frame → LineContent
 shown_frame at frame = frame_line at frame
 
 -- no frame is committed where it stands
-abbrev pub FindsNone : Log → Reader → Print → Log → Reader → Type 0
+abbrev pub FindsNone : Log → Reader → LineContent → Log → Reader → Type 0
 FindsNone l r line m q = ReadsNone l r.position × (line ≡ NoMessage) × (m ≡ l) × (q.position ≡ r.position)
 
 -- it passes the committed frame where it stands
-abbrev pub PassesFrame : Log → Reader → Print → Log → Reader → Type 0
+abbrev pub PassesFrame : Log → Reader → LineContent → Log → Reader → Type 0
 PassesFrame l r line m q =
     (s : Placed) × Among s (committed l.entries) × (s.at ≡ r.position) × (line ≡ frame_line s.at s.frame)
     × (m ≡ record l { consumers = slice_set l.consumers r.number (end_of s) }) × (q.position ≡ end_of s)
 
-abbrev pub ReadsLine : Log → Reader → Print → Log → Reader → Type 0
+abbrev pub ReadsLine : Log → Reader → LineContent → Log → Reader → Type 0
 ReadsLine l r line m q = FindsNone l r line m q ⊎ PassesFrame l r line m q

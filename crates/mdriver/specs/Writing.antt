@@ -7,32 +7,32 @@ use Rattle.publication.specs.Offers.{after_claim, answer_of}
 use Rattle.publication.specs.declared.refusal.Refusal.{Refusal}
 use Rattle.mdriver.specs.declared.writer.Writer.{Writer}
 use Rattle.mdriver.specs.declared.writer.Writer.TheVariants as writers
-use Rattle.mdriver.specs.Answers.{MayOffer, claim_end}
+use Rattle.script_run.specs.Answers.{MayOffer, claim_end}
 use Rattle.mdriver.specs.Staged.{OfferedLine}
-use Rattle.mdriver.specs.Prints.{Bad, Claimed, Position, Print, Refused}
+use Rattle.script_run.specs.LineContents.{Bad, Claimed, Position, LineContent, Refused}
 use Rattle.mdriver.specs.Stands.{claim_in}
 
-abbrev pub Claimed_by : Log → ℕ → ℕ → Result ℕ Refusal → Log → Writer → Print → Type 0
+abbrev pub Claimed_by : Log → ℕ → ℕ → Result ℕ Refusal → Log → Writer → LineContent → Type 0
 Claimed_by old by size (Ok end) new after line = (new ≡ after_claim old by size) × (claim_in after ≡ Some (claim_at old by size)) × (line ≡ Claimed old.tail end)
 Claimed_by old by size (Err refusal) new after line = (new ≡ after_claim old by size) × (claim_in after ≡ None) × (line ≡ Refused refusal)
 
 -- a free publisher claims; one that has a claim open doesn't
-abbrev pub Claims : Log → Writer → ℕ → Log → Writer → Print → Type 0
+abbrev pub Claims : Log → Writer → ℕ → Log → Writer → LineContent → Type 0
 Claims old (writers.Holding claim) size new after line = (new ≡ old) × (after ≡ writers.Holding claim) × (line ≡ Bad)
 Claims old (writers.Free publisher) size new after line = IsLog old × Claimed_by old publisher.number size (answer_of old size) new after line
 
 -- a free publisher offers; one that has a claim open doesn't
-abbrev pub Offers : Log → Writer → List ℕ → Log → Writer → Print → Type 0
+abbrev pub Offers : Log → Writer → List ℕ → Log → Writer → LineContent → Type 0
 Offers old (writers.Holding claim) message new after line = (new ≡ old) × (after ≡ writers.Holding claim) × (line ≡ Bad)
 Offers old (writers.Free publisher) message new after line =
     MayOffer old publisher.number message × OfferedLine old publisher.number message (answer_of old (length message)) line new × (claim_in after ≡ None)
 
-abbrev pub Commits : Log → Writer → Log → Writer → Print → Type 0
+abbrev pub Commits : Log → Writer → Log → Writer → LineContent → Type 0
 Commits old (writers.Free publisher) new after line = (new ≡ old) × (after ≡ writers.Free publisher) × (line ≡ Bad)
 Commits old (writers.Holding claim) new after line =
     IsLog old × (new ≡ with_commit old claim.claimed (Data 192 (replicate claim.claimed.size 97))) × (claim_in after ≡ None) × (line ≡ Position (claim_end claim.claimed))
 
-abbrev pub Aborts : Log → Writer → Log → Writer → Print → Type 0
+abbrev pub Aborts : Log → Writer → Log → Writer → LineContent → Type 0
 Aborts old (writers.Free publisher) new after line = (new ≡ old) × (after ≡ writers.Free publisher) × (line ≡ Bad)
 Aborts old (writers.Holding claim) new after line = IsLog old × (new ≡ with_abort old claim.claimed) × (claim_in after ≡ None) × (line ≡ Position (claim_end claim.claimed))
 

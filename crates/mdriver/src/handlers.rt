@@ -3,10 +3,10 @@
 ghost use Rattle.std.specs.Prelude.{◌≡◌, ◌≤◌, ◌++◌, length, IfOk, OnErr, OnOk, map, replicate};
 ghost use Rattle.theory.specs.Position.{max_message, max_payload};
 ghost use Rattle.log_buffer.specs.Reader.{Reader};
-ghost use Rattle.mdriver.specs.Prints.{OfReceiver, print_of, prints};
+ghost use Rattle.script_run.specs.LineContents.{OfReceiver, content_of, contents_of};
 ghost use Rattle.mdriver.specs.Stands.{Holds, Stands};
 ghost use Rattle.mdriver.specs.Reading.{ReadsLine, shown_frame};
-ghost use Rattle.mdriver.specs.Sending.{frame_in};
+ghost use Rattle.sender.specs.Sending.{frame_in};
 ghost use Rattle.mdriver.specs.Staged.{IsAnswered, IsOffered};
 ghost use Rattle.script.specs.Meaning as orders;
 
@@ -25,7 +25,7 @@ use std::alloc::{AllocError, Global};
 
 /// Adds the lines of what became of a datagram's frames.
 fn tell(lines: &mut Vec<Line>, outcomes: &[Outcome]) -> Result<(), AllocError>
-    ensures { OnOk result (prints lines.new.items ≡ prints lines.old.items ++ map OfReceiver outcomes.now) }
+    ensures { OnOk result (contents_of lines.new.items ≡ contents_of lines.old.items ++ map OfReceiver outcomes.now) }
 {
     for outcome in outcomes {
         lines.push(Line::Receiver(*outcome))?;
@@ -44,7 +44,7 @@ fn letters(alloc: Global, size: usize) -> Result<Vec<u8>, AllocError>
 fn frame_line(alloc: Global, head: &FrameHead, block: &Block) -> Result<Line, AllocError>
     requires long { 32 ≤ head.now.frame_length }
     requires short { head.now.kind ≡ FrameKind.Data → head.now.frame_length ≤ length block.now }
-    ensures { IfOk result (λ line. print_of line ≡ shown_frame head.now.start (frame_in head.now.kind head.now.flags head.now.frame_length block.now)) }
+    ensures { IfOk result (λ line. content_of line ≡ shown_frame head.now.start (frame_in head.now.kind head.now.flags head.now.frame_length block.now)) }
 {
     match head.kind {
         FrameKind::Pad => Ok(Line::FramePad {
@@ -70,7 +70,7 @@ fn read_line(
     requires room { log.old.identity.geometry.mtu ≤ length block.old }
     requires stands { Stands log.old reader.old }
     ensures same_length { length block.new ≡ length block.old }
-    ensures reads { IfOk result (λ line. ReadsLine log.old reader.old (print_of line) log.new reader.new) }
+    ensures reads { IfOk result (λ line. ReadsLine log.old reader.old (content_of line) log.new reader.new) }
     ensures stays { OnErr result ((log.new ≡ log.old) × (reader.new.position ≡ reader.old.position)) }
     ensures number { reader.new.number ≡ reader.old.number }
     ensures identity { log.new.identity ≡ log.old.identity }
@@ -87,7 +87,7 @@ fn read_line(
 }
 
 impl Stage {
-    /// Plays one command, and adds its lines.
+    /// IsOutputOf one command, and adds its lines.
     pub fn play(&mut self, command: &Command, lines: &mut Vec<Line>) -> Result<(), AllocError>
         ensures { OnOk result (IsAnswered self.old (orders.order command.now) lines.old.items lines.new.items self.new) }
     {

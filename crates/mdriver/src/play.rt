@@ -5,11 +5,11 @@ ghost use Rattle.theory.specs.Position.{max_position};
 ghost use Rattle.log_buffer.specs.Log.{fresh};
 ghost use Rattle.log_buffer.specs.Passes.{AreAll, HaveBlocks};
 ghost use Rattle.log_buffer.specs.Reader.{AreReaders, IsAt};
-ghost use Rattle.mdriver.specs.Scene.{listening_at, opened_scene};
-ghost use Rattle.mdriver.specs.Subscribing.{ShowsSubscriber};
-ghost use Rattle.mdriver.specs.Plays.{AlwaysPolled, Plays};
-ghost use Rattle.mdriver.specs.Prints.{prints};
-ghost use Rattle.mdriver.specs.Staged.{AreFree, AreListening, Continues, ContinuesOpen, RunsTo, ShowsScene};
+ghost use Rattle.script_run.specs.ScriptState.{listening_at, opened_state};
+ghost use Rattle.receiver.specs.Subscribing.{RepresentsSubscriber};
+ghost use Rattle.script_run.specs.Output.{AlwaysPolled, IsOutputOf};
+ghost use Rattle.script_run.specs.LineContents.{contents_of};
+ghost use Rattle.mdriver.specs.Staged.{AreFree, AreListening, Continues, ContinuesOpen, RunsTo, RepresentsState};
 ghost use Rattle.script.specs.Meaning as meaning;
 
 use crate::line::Line;
@@ -32,7 +32,7 @@ use world::every_run;
 
 /// The lines that a script prints, or that memory was refused.
 pub fn play(alloc: Global, script: &Script) -> Result<Vec<Line>, AllocError>
-    ensures { IfOk result (λ lines. Plays (meaning.told script.now) (prints lines.items)) }
+    ensures { IfOk result (λ lines. IsOutputOf (meaning.told script.now) (contents_of lines.items)) }
 {
     let mut lines = Vec::new(alloc);
     let log = &script.log;
@@ -75,7 +75,7 @@ fn subscriber(
     geometry: &Geometry,
     number: u32,
 ) -> Result<Subscriber, AllocError>
-    ensures { IfOk result (λ s. ShowsSubscriber s (listening_at (record { geometry = geometry.now; session = log.now.session; stream = log.now.stream }) number)) }
+    ensures { IfOk result (λ s. RepresentsSubscriber s (listening_at (record { geometry = geometry.now; session = log.now.session; stream = log.now.stream }) number)) }
 {
     let window = geometry.term_length() / 2;
     let core = ReceiverCore::new(alloc, log.session, log.stream, window, i64::from(number), 1);
@@ -132,7 +132,7 @@ fn stage(
     requires block { log.identity.geometry.mtu ≤ length block }
     requires eight { vec_len subscribers ≡ 8 }
     requires listening { AreListening log.identity subscribers.items }
-    ensures { IfOk result (λ s. ShowsScene s (opened_scene log.identity log.start (vec_len parts.readers - 1))) }
+    ensures { IfOk result (λ s. RepresentsState s (opened_state log.identity log.start (vec_len parts.readers - 1))) }
 {
     let Parts {
         mut publishers,
@@ -183,7 +183,7 @@ fn play_open(
     play_all(stage, commands, lines)
 }
 
-/// Plays the commands one after the other, and adds their lines.
+/// IsOutputOf the commands one after the other, and adds their lines.
 fn play_all(
     stage: &mut Stage,
     commands: &[Command],
@@ -197,14 +197,14 @@ fn play_all(
     Ok(())
 }
 
-/// Plays the commands from the opened log on, and ends it.
+/// IsOutputOf the commands from the opened log on, and ends it.
 fn run(
     mut stage: Stage,
     commands: &[Command],
     mut lines: Vec<Line>,
 ) -> Result<Vec<Line>, AllocError>
-    requires { ShowsScene stage (opened_scene stage.log.identity stage.log.start (vec_len stage.readers)) }
-    ensures { IfOk result (λ after. RunsTo stage.log.identity stage.log.start (vec_len stage.readers) (meaning.orders commands.now) (prints lines.items) (prints after.items)) }
+    requires { RepresentsState stage (opened_state stage.log.identity stage.log.start (vec_len stage.readers)) }
+    ensures { IfOk result (λ after. RunsTo stage.log.identity stage.log.start (vec_len stage.readers) (meaning.orders commands.now) (contents_of lines.items) (contents_of after.items)) }
 {
     let played = play_open(&mut stage, commands, &mut lines);
     let book = stage.end();

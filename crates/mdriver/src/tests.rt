@@ -567,7 +567,7 @@ fn flushes(rt: HostRuntime) {
 }
 
 const HELP: &str =
-    "A media driver with concurrent publications\n\nUsage: mdriver <COMMAND>\n\nCommands:\n  sim     Play the script on standard input\n  decode  Print the frames of a datagram\n  help    Print this message or the help of the given subcommand(s)\n\nOptions:\n  -h, --help  Print help\n";
+    "A media driver with concurrent publications\n\nUsage: mdriver <COMMAND>\n\nCommands:\n  sim     Play the script on standard input\n  decode  LineContent the frames of a datagram\n  help    LineContent this message or the help of the given subcommand(s)\n\nOptions:\n  -h, --help  LineContent help\n";
 
 const NO_COMMAND: &str =
     "error: 'mdriver' requires a subcommand but one was not provided\n  [subcommands: sim, decode, help]\n\nUsage: mdriver <COMMAND>\n\nFor more information, try '--help'.\n";
@@ -582,7 +582,7 @@ const TWO_WORDS: &str =
     "error: unexpected argument '00' found\n\nUsage: mdriver decode <HEX>\n\nFor more information, try '--help'.\n";
 
 const HELP_OF_DECODE: &str =
-    "Print the frames of a datagram\n\nUsage: mdriver decode <HEX>\n\nArguments:\n  <HEX>  The datagram in hexadecimal\n\nOptions:\n  -h, --help  Print help\n";
+    "LineContent the frames of a datagram\n\nUsage: mdriver decode <HEX>\n\nArguments:\n  <HEX>  The datagram in hexadecimal\n\nOptions:\n  -h, --help  LineContent help\n";
 
 /// Command lines that are refused or ask for help: what is printed and told, and the status.
 #[test]

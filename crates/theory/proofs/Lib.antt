@@ -42,3 +42,4 @@ pub mod Leasts
 pub mod Lengths
 pub mod Places
 pub mod Tables
+pub mod Stays

@@ -1,6 +1,6 @@
 -- Elements of a list by their places.
 use Rattle.std.proofs.Common.{◌≡◌, ℕ, zero, suc, ◌+◌, ◌<◌, List, [], ◌∷◌, length, Some, refl, sym, ap, ◌∙◌, arith}
-use Rattle.std.specs.Prelude.{slice_get, slice_index, slice_set, sum}
+use Rattle.std.specs.Prelude.{map, replicate, slice_get, slice_index, slice_set, sum}
 use Rattle.std.specs.List.{AllByRecursion}
 use Rattle.std.proofs.lemmas.Option.{same_Some}
 use Rattle.std.proofs.lemmas.List.Sums.{sum_by-set}
@@ -44,3 +44,7 @@ all_index P (x ∷ xs) (suc k) l all = all_index P xs k (omega arith) all.1
 -- where one number grows, the sum does
 pub sum_set : (xs : List ℕ) (k n : ℕ) → k < length xs → sum (slice_set xs k (slice_index xs k + n)) ≡ sum xs + n
 sum_set xs k n l = omega (arith, sum_by-set (λ (x : ℕ). x) xs k (slice_index xs k + n) 0 l)
+
+pub map_replicate : {X Y : Type 0} (f : X → Y) (n : ℕ) (x : X) → replicate n (f x) ≡ map f (replicate n x)
+map_replicate f zero x = refl
+map_replicate f (suc n) x = ap (λ ys. f x ∷ ys) (map_replicate f n x)

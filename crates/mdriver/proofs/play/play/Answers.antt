@@ -7,11 +7,11 @@ use Rattle.theory.specs.Position.{Geometry, IsGeometry, max_position}
 use Rattle.script.specs.Meaning.{opening, orders, told}
 use Rattle.script.specs.declared.command.Command.{Command}
 use Rattle.mdriver.specs.declared.line.Line.{Line}
-use Rattle.mdriver.specs.Plays.{geometry_of, identity_of}
-use Rattle.mdriver.specs.Prints.{prints}
+use Rattle.script_run.specs.Output.{geometry_of, identity_of}
+use Rattle.script_run.specs.LineContents.{contents_of}
 use Rattle.mdriver.specs.Staged.{RunsTo}
 use Rattle.mdriver.proofs.ScriptRuns.{refused_start, stage_plays}
-use Rattle.mdriver.proofs.SendLemmas.{same_identity}
+use Rattle.sender.proofs.SendLemmas.{same_identity}
 use Rattle.mdriver.proofs.play.play.Goals as goal
 
 pub returns-in_ok-stage-in-Ok-open : goal.returns-in_ok-stage-in-Ok-open
@@ -28,7 +28,7 @@ returns-in_ok-stage-in-Ok-open c =
     let many : vec_len stage.readers ≡ length stage.readers.items = omega arith in
     IfOk-weaker c.run.result _ _
     (λ after runs.
-    stage_plays script stage c.in-Ok-open.state.identity c.in-Ok-open.state.start (vec_len c.in-Ok-open.parts.readers - 1) (prints after.items)
+    stage_plays script stage c.in-Ok-open.state.identity c.in-Ok-open.state.start (vec_len c.in-Ok-open.parts.readers - 1) (contents_of after.items)
     (ap (λ l. l.identity) c.in-Ok-open.ensures.log ∙ sym named)
     (ap (λ l. l.start) c.in-Ok-open.ensures.log)
     (omega (arith, c.in-Ok-open.ensures.count))
@@ -37,9 +37,9 @@ returns-in_ok-stage-in-Ok-open c =
     (record { session = session; stream = stream })
     c.polls_a_prefix.ensures
     c.in_ok-stage-in-Ok-open.ensures
-    (subst (λ (n : ℕ). RunsTo stage.log.identity stage.log.start n script.orders [] (prints after.items)) many
-    (subst (λ (cs : List Command). RunsTo stage.log.identity stage.log.start (vec_len stage.readers) (orders cs) [] (prints after.items)) c.deref.ensures.value
-    (subst (λ (ls : List Line). RunsTo stage.log.identity stage.log.start (vec_len stage.readers) (orders c.deref.result.now) (prints ls) (prints after.items)) c.new-lines.ensures.items runs))))
+    (subst (λ (n : ℕ). RunsTo stage.log.identity stage.log.start n script.orders [] (contents_of after.items)) many
+    (subst (λ (cs : List Command). RunsTo stage.log.identity stage.log.start (vec_len stage.readers) (orders cs) [] (contents_of after.items)) c.deref.ensures.value
+    (subst (λ (ls : List Line). RunsTo stage.log.identity stage.log.start (vec_len stage.readers) (orders c.deref.result.now) (contents_of ls) (contents_of after.items)) c.new-lines.ensures.items runs))))
     c.run.ensures
 
 pub returns-in_ok-push-in-Err-Start : goal.returns-in_ok-push-in-Err-Start

@@ -5,8 +5,8 @@ use Rattle.theory.specs.Consumer.{Consumer, consumer_at}
 use Rattle.log_buffer.specs.Log.{Log, fresh}
 use Rattle.log_buffer.specs.Reader.{Reader}
 use Rattle.mdriver.specs.Stands.{Stands}
-use Rattle.mdriver.proofs.SendLemmas.{same_identity}
-use Rattle.mdriver.proofs.Runs.{map_replicate}
+use Rattle.sender.proofs.SendLemmas.{same_identity}
+use Rattle.script_run.proofs.Runs.{map_replicate}
 use Rattle.mdriver.proofs.StageOpens.{free_writers, none_claimed, opens}
 use Rattle.mdriver.proofs.play.stage.Goals as goal
 

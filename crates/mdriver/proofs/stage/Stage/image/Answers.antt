@@ -1,5 +1,5 @@
 use Rattle.std.proofs.Common.{rules}
-use Rattle.mdriver.proofs.Runs.{seat_at}
+use Rattle.script_run.proofs.Runs.{seat_at}
 use Rattle.mdriver.proofs.Stages.{image_answered}
 use Rattle.mdriver.proofs.stage.Stage.image.Goals as goal
 

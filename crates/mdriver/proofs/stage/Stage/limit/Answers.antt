@@ -2,7 +2,7 @@ use Rattle.std.proofs.Common.{◌≡◌, ◌∙◌, ◌≤◌, ap, length, refl,
 use Rattle.theory.specs.Bytes.{Identity}
 use Rattle.log_buffer.specs.Log.{Log}
 use Rattle.mdriver.proofs.Standing.{all_stand, are_writers, holds_on, stands_on}
-use Rattle.mdriver.specs.Prints.{Limit}
+use Rattle.script_run.specs.LineContents.{Limit}
 use Rattle.mdriver.proofs.Stages.{limit_answered}
 use Rattle.mdriver.proofs.stage.Stage.limit.Goals as goal
 

@@ -1,5 +1,5 @@
 use Rattle.std.proofs.Common.{refl, rules}
-use Rattle.mdriver.proofs.Runs.{seat_at}
+use Rattle.script_run.proofs.Runs.{seat_at}
 use Rattle.mdriver.proofs.Stages.{poll_answered}
 use Rattle.mdriver.proofs.stage.Stage.poll.Goals as goal
 

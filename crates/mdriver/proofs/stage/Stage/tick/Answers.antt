@@ -1,6 +1,6 @@
 use Rattle.std.proofs.Common.{refl, rules}
-use Rattle.mdriver.specs.Receiving.{replied}
-use Rattle.mdriver.proofs.Runs.{seat_at}
+use Rattle.receiver.specs.Receiving.{replied}
+use Rattle.script_run.proofs.Runs.{seat_at}
 use Rattle.mdriver.proofs.Stages.{on_both, tick_answered}
 use Rattle.mdriver.proofs.stage.Stage.tick.Goals as goal
 

@@ -1,0 +1,53 @@
+-- The command lines that the program takes.
+use Rattle.std.specs.Prelude.{◌≡◌, ◌≢◌, ◌⊎◌, ℕ, List, [], ◌∷◌, drop, codes, true, ⊤, Option, Some, option_map}
+use Rattle.std.specs.Str.{chars}
+use Rattle.clap.specs.Words.{App, Row, Rule, first_of, new_app, new_rule, with_rule, with_subcommand}
+use Rattle.command_line.specs.declared.choice.Options.{Options}
+use Rattle.command_line.specs.declared.choice.Options.TheVariants.{Sim, Decode}
+
+-- the words after the program's name are `sim`, and perhaps the `--` that ends the options
+abbrev pub AsksForSim : List (List ℕ) → Type 0
+AsksForSim words =
+    (drop 1 words ≡ codes "sim" ∷ []) ⊎ (drop 1 words ≡ codes "sim" ∷ codes "--" ∷ [])
+
+-- the word isn't a hyphen with a character behind it, as a flag and `--` are
+abbrev pub IsPlainWord : List ℕ → Type 0
+IsPlainWord [] = ⊤
+IsPlainWord (byte ∷ rest) = (byte ≢ 45) ⊎ (chars rest ≡ [])
+
+-- the words are this one, perhaps before a `--`; or this one behind a `--`, where it may be any
+abbrev pub GiveWord : List (List ℕ) → List ℕ → Type 0
+GiveWord words word =
+    ((words ≡ word ∷ []) × IsPlainWord word)
+    ⊎ (((words ≡ word ∷ codes "--" ∷ []) × IsPlainWord word)
+    ⊎ (words ≡ codes "--" ∷ word ∷ []))
+
+-- the words after the program's name are `decode` and those that give it its word
+abbrev pub AsksForDecode : List (List ℕ) → List ℕ → Type 0
+AsksForDecode words word =
+    (rest : List (List ℕ)) × (drop 1 words ≡ codes "decode" ∷ rest) × GiveWord rest word
+
+abbrev pub AsksFor : Options → List (List ℕ) → Type 0
+AsksFor Sim words = AsksForSim words
+AsksFor (Decode word) words = AsksForDecode words word.now
+
+-- what a parse reads of the argument of `decode`
+abbrev pub hex_rule : Rule
+hex_rule = record (new_rule (codes "HEX")) { required = true }
+
+-- what a parse reads of the program's command: two subcommands, of which one has to be there
+abbrev pub driver_app : App
+driver_app =
+    let a = new_app (codes "mdriver") in
+    with_subcommand (with_subcommand (record a { top = record a.top { subcommand_required = true } })
+    (new_app (codes "sim")).top)
+    (with_rule (new_app (codes "decode")) hex_rule).top
+
+abbrev pub IsDecodeOf : List ℕ → Options → Type 0
+IsDecodeOf word Sim = ⊥
+IsDecodeOf word (Decode own) = own.now ≡ word
+
+-- the subcommand that was met, with what was found for it, asks for this
+pub record IsChoice (found : Option (List ℕ × List Row)) (options : Options) : Type 0 where
+  pub decode : (rows : List Row) (word : List ℕ) → found ≡ Some (codes "decode", rows) → first_of (codes "HEX") rows ≡ Some word → IsDecodeOf word options
+  pub sim : option_map (λ p. p.0) found ≢ Some (codes "decode") → options ≡ Sim

@@ -1,0 +1,8 @@
+//! The command line: what its words ask for, or what to show in place of that.
+#![tactic(auto)]
+
+mod choice;
+mod parser;
+
+pub use choice::Options;
+pub use parser::{OptionsFault, options};

@@ -1,0 +1,96 @@
+//! Reading the command line.
+
+ghost use Rattle.std.specs.Prelude.{◌≡◌, ℕ, List, true, map, IfOk, IfErr, Err};
+ghost use Rattle.clap.specs.Words.{FailsBy, IsAmong, app_of, fault_of as clap_faults, is_simple, is_simple_and_free, kind_of, subcommand_of, subcommand_rows_of};
+ghost use Rattle.command_line.specs.CommandLines.{AsksFor, AsksForDecode, AsksForSim, IsChoice, driver_app};
+
+use crate::choice::Options;
+use clap::error::ErrorKind;
+use clap::{Arg, ArgMatches, Command, Error};
+use std::alloc::{AllocError, Global};
+
+/// Why a command line isn't carried out.
+#[derive(Debug, Drop)]
+pub enum OptionsFault {
+    /// It was refused, or it asked for help: what to print.
+    Shown(Error),
+    /// Memory was refused.
+    Memory,
+}
+
+/// What the words of a command line ask for; the first one is the program's name.
+///
+/// Taken are `sim`, alone or before a `--` that ends the options, and `decode` with one word: a word that doesn't begin
+/// with a hyphen or is a hyphen alone, perhaps before a `--`, or any word behind a `--`. Any other line is `Shown`, and so
+/// is a request for help.
+pub fn options<'a>(alloc: Global, words: &'a [&'a str]) -> Result<Options<'a>, OptionsFault>
+    ensures taken { AsksForSim (map (λ s. s.now) words.entry.now)
+        → IfErr result (λ e. e ≡ OptionsFault.Memory) }
+    ensures decode_taken { (word : List ℕ) → AsksForDecode (map (λ s. s.now) words.entry.now) word
+        → IfErr result (λ e. e ≡ OptionsFault.Memory) }
+    ensures only { IfOk result (λ o. AsksFor o (map (λ s. s.now) words.entry.now)) }
+    ensures shown { (e : Error) → result ≡ Err (OptionsFault.Shown e)
+        → kind_of e ≡ ErrorKind.OutOfMemory → ⊥ }
+    ensures kind { (e : Error) → result ≡ Err (OptionsFault.Shown e)
+        → IsAmong (kind_of e) (clap_faults driver_app (map (λ s. s.now) words.entry.now)) }
+{
+    let command = match whole(alloc) {
+        Ok(command) => command,
+        Err(_) => return Err(OptionsFault::Memory),
+    };
+    match parsed(command, words) {
+        Ok(options) => Ok(options),
+        Err(error) => Err(fault_of(error)),
+    }
+}
+
+fn parsed<'a>(command: Command<'a>, words: &'a [&'a str]) -> Result<Options<'a>, Error>
+    ensures choice { IfOk result (λ o. is_simple (app_of command.entry) ≡ true
+        → IsChoice (subcommand_of (app_of command.entry) (map (λ s. s.now) words.entry.now)) o) }
+    ensures kinds { is_simple_and_free (app_of command.entry) ≡ true
+        → FailsBy (clap_faults (app_of command.entry) (map (λ s. s.now) words.entry.now)) result }
+{
+    let matches = command.try_get_matches_from(words)?;
+    Ok(choice(&matches))
+}
+
+/// What the subcommand that was met asks for.
+fn choice<'a>(matches: &ArgMatches<'a>) -> Options<'a>
+    ensures { IsChoice (subcommand_rows_of matches.now) result }
+{
+    // The word is required, so a parse that succeeds has it.
+    match matches.subcommand_matches("decode") {
+        Some(decode) => Options::Decode(decode.get_str("HEX").unwrap_or("")),
+        None => Options::Sim,
+    }
+}
+
+fn fault_of(error: Error) -> OptionsFault
+    ensures memory { kind_of error ≡ ErrorKind.OutOfMemory → result ≡ OptionsFault.Memory }
+    ensures shown { (e : Error) → result ≡ OptionsFault.Shown e
+        → (kind_of e ≡ kind_of error) × (kind_of e ≡ ErrorKind.OutOfMemory → ⊥) }
+{
+    if error.kind() == ErrorKind::OutOfMemory {
+        return OptionsFault::Memory;
+    }
+    OptionsFault::Shown(error)
+}
+
+/// The program's commands.
+fn whole<'a>(alloc: Global) -> Result<Command<'a>, AllocError>
+    ensures { IfOk result (λ r. app_of r ≡ driver_app) }
+{
+    let sim = Command::new(alloc, "sim").about("Play the script on standard input");
+    let hex = Arg::new(alloc, "HEX")
+        .help("The datagram in hexadecimal")
+        .required(true);
+    let decode = Command::new(alloc, "decode")
+        .about("Print the frames of a datagram")
+        .arg(hex)?;
+    Command::new(alloc, "mdriver")
+        .bin_name("mdriver")?
+        .about("A media driver with concurrent publications (--version tells which)")
+        .subcommand_required(true)
+        .subcommand(sim)?
+        .subcommand(decode)
+}

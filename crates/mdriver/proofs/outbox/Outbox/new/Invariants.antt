@@ -1,6 +1,0 @@
-use Rattle.std.proofs.Common.{◌≡◌, vec_len}
-use Rattle.mdriver.specs.OutboxSlots.{AreOfSize}
-use Rattle.mdriver.proofs.outbox.Outbox.new.Given as goal
-
-abbrev pub invariant-loop : goal.invariant-loop
-invariant-loop l = (vec_len l.slots ≡ l.counter) × AreOfSize l.mtu l.slots.items

@@ -1,9 +1,0 @@
-use Rattle.frames.specs.Frames.{header_of}
-use Rattle.mdriver.proofs.Meeting.{beat_met, beat_missed}
-use Rattle.mdriver.proofs.receiver.ReceiverCore.hear.Goals as goal
-
-pub returns-in-None-clause-met : goal.returns-in-None-clause-met
-returns-in-None-clause-met c = rw (← c.self.view_is) (beat_missed _ (header_of c.args.header.now) c.in-None.is)
-
-pub returns-in-Some-clause-met : goal.returns-in-Some-clause-met
-returns-in-Some-clause-met c = rw (← c.self.view_is) (beat_met _ _ c.hear.new.image (header_of c.args.header.now) c.in-Some.is c.hear.ensures.heard)

@@ -1,0 +1,9 @@
+pub mod Joins
+pub mod Meeting
+pub mod OpenedSteps
+pub mod PollFrames
+pub mod Polled
+pub mod Seated
+pub mod ShownImages
+pub mod ShownSteps
+pub mod Units

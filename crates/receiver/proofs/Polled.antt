@@ -1,0 +1,291 @@
+-- Frames that a poll reads, one after the other.
+use Rattle.std.proofs.Common.{◌≡◌, ◌↔◌, ℕ, inl, inr, ⊎_elim, List, [], ◌∷◌, ◌++◌, arith, true, false, Option, Some, None, Ok, Err, refl, sym, ap, ap₂, ◌∙◌, subst, append-nil}
+use Rattle.std.specs.Prelude.{is_some, map}
+use Rattle.std.specs.Option.{option_to_list}
+use Rattle.std.specs.List.{AllByRecursion}
+use Rattle.std.proofs.lemmas.Bool.{cases_Bool, both_ways}
+use Rattle.std.proofs.lemmas.List.{map-append}
+use Rattle.theory.specs.Placed.{Among, Chain, Data, Frame, IsReached, Pad, Placed, end_of, is_padding}
+use Rattle.theory.specs.Units.{IsContiguous}
+use Rattle.theory.specs.Assembly.{Assembly, after, after_all}
+use Rattle.theory.specs.Consumer.{Consumer, moved, passed_by}
+use Rattle.theory.specs.Image.{Image}
+use Rattle.theory.proofs.Lists.{all_append}
+use Rattle.theory.proofs.Follow.{Chain-push}
+use Rattle.assembler.specs.Assembling.{Assembling}
+use Rattle.receiver.specs.Polling.{Answer, IsTooLong, PollsOf, PollsWhole, Reads, StaysShort, StopsAt, TellsOf, TellsPositions, gives, moved_all, passed_all, with_consumer}
+use Rattle.receiver.specs.declared.poll_error.PollError.TheVariants.{NoImage, Unassembled}
+use Rattle.receiver.specs.declared.positions.Positions.{Positions}
+use Rattle.assembler.specs.declared.fault.AssemblyError.{AssemblyError}
+use Rattle.assembler.specs.declared.fault.AssemblyError.TheVariants.{TooLong}
+use Rattle.receiver.specs.Receiving.{Opened, Receiver}
+use Rattle.receiver.specs.Representing.{Core, HasNoFrame, Represents, RepresentsImage, RepresentsOpened}
+use Rattle.receiver.proofs.Meeting.{shown_none, shown_some}
+use Rattle.receiver.proofs.PollFrames.{moved_at, passed_lost}
+use Rattle.theory.proofs.Stays.{after_last}
+use Rattle.receiver.proofs.ShownSteps.{end_shown, least_shown}
+use Rattle.rebuilder.specs.Seen as seen
+use Rattle.std.proofs.lemmas.Option.{same_Some}
+use Rattle.receiver.specs.Subscribing.{AssemblesFor, HasRead, HearsFrame, IsPolling, PassesOn, RefusesFrame, RepresentsSubscriber, Subscribing, heard_of}
+
+-- ---- a frame more
+
+moved_more : (c : Consumer) (frames : List Placed) (s : Placed) → moved_all c (frames ++ s ∷ []) ≡ moved (moved_all c frames) s
+moved_more c [] s = refl
+moved_more c (t ∷ ts) s = moved_more (moved c t) ts s
+
+passed_more : (c : Consumer) (frames : List Placed) (s : Placed) → passed_all c (frames ++ s ∷ []) ≡ passed_by (passed_all c frames) s
+passed_more c [] s = refl
+passed_more c (t ∷ ts) s = passed_more (passed_by c t) ts s
+
+passed_at : (c : Consumer) (frames : List Placed) (q : ℕ) → Chain c.at q frames → (passed_all c frames).at ≡ q
+passed_at c [] q e = sym e
+passed_at c (s ∷ ss) q (at, more) = passed_at (passed_by c s) ss q more
+
+after_begun : (a : Assembly) (f : Frame) → (after a f).begun ≡ (heard_of a.begun f).begun
+after_begun a (Data flags payload) = refl
+after_begun a (Pad n) = refl
+
+after_given : (a : Assembly) (f : Frame) → (after a f).given ≡ a.given ++ option_to_list (heard_of a.begun f).message
+after_given a (Data flags payload) = refl
+after_given a (Pad n) = sym (append-nil a.given)
+
+all_more : (a : Assembly) (frames : List Placed) (s : Placed) → after_all a (map (λ (x : Placed). x.frame) (frames ++ s ∷ [])) ≡ after (after_all a (map (λ (x : Placed). x.frame) frames)) s.frame
+all_more a frames s = ap (after_all a) (map-append (λ (x : Placed). x.frame) frames (s ∷ [])) ∙ after_last a (map (λ (x : Placed). x.frame) frames) s.frame
+
+-- what is begun doesn't depend on what was given
+same_begun : (a b : Assembly) (f : Frame) → a.begun ≡ b.begun → (after a f).begun ≡ (after b f).begun
+same_begun a b f e = after_begun a f ∙ ap (λ x. (heard_of x f).begun) e ∙ sym (after_begun b f)
+
+begun_along : (a : Assembly) (c : Consumer) (frames : List Placed) → a.begun ≡ c.assembly.begun → (after_all a (map (λ (x : Placed). x.frame) frames)).begun ≡ (moved_all c frames).assembly.begun
+begun_along a c [] e = e
+begun_along a c (s ∷ ss) e = begun_along (after a s.frame) (moved c s) ss (same_begun a c.assembly s.frame e)
+
+moved_begun : (c : Consumer) (frames : List Placed) (s : Placed) → (moved_all c (frames ++ s ∷ [])).assembly.begun ≡ (heard_of (moved_all c frames).assembly.begun s.frame).begun
+moved_begun c frames s = ap (λ (x : Consumer). x.assembly.begun) (moved_more c frames s) ∙ after_begun (moved_all c frames).assembly s.frame
+
+gives_more : (c : Consumer) (frames : List Placed) (s : Placed) → gives c (frames ++ s ∷ []) ≡ gives c frames ++ option_to_list (heard_of (moved_all c frames).assembly.begun s.frame).message
+gives_more c frames s =
+    let a : Assembly = record { begun = c.assembly.begun; given = [] } in
+    ap (λ (x : Assembly). x.given) (all_more a frames s) ∙ after_given (after_all a (map (λ (x : Placed). x.frame) frames)) s.frame ∙ ap (λ b. gives c frames ++ option_to_list (heard_of b s.frame).message) (begun_along a c frames refl)
+
+reads_more : (i : Image) (c : Consumer) (frames : List Placed) (at : ℕ) (s : Placed) → Reads i c frames at → Among s i.stored → s.at ≡ at → Reads i c (frames ++ s ∷ []) (end_of s)
+reads_more i c frames at s h a e = record { chain = Chain-push c.at at frames s h.chain e; among = all_append (λ x. Among x i.stored) frames (s ∷ []) h.among (a, tt) }
+
+short_more : (g : ℕ) (c : Consumer) (frames : List Placed) (s : Placed) → StaysShort g c frames → (IsTooLong g (moved_all c frames).assembly.begun s.frame → ⊥) → StaysShort g c (frames ++ s ∷ [])
+short_more g c [] s h k = (k, tt)
+short_more g c (t ∷ ts) s h k = (h.0, short_more g (moved c t) ts s h.1 k)
+
+-- of an assembler that shows what is begun
+short_with : (g : ℕ) (c : Consumer) (frames : List Placed) (s : Placed) (a : Assembling) → a.greatest ≡ g → a.begun ≡ (moved_all c frames).assembly.begun → StaysShort g c frames → (IsTooLong a.greatest a.begun s.frame → ⊥) → StaysShort g c (frames ++ s ∷ [])
+short_with g c frames s a most begun h k = short_more g c frames s h (λ t. k (subst (λ n. IsTooLong n a.begun s.frame) (sym most) (subst (λ b. IsTooLong g b s.frame) (sym begun) t)))
+
+-- ---- the start of a poll
+
+-- another consumer at the same place is shown as well
+seat_shown : (v : seen.Image) (o : Opened) (c d : Consumer) → o.image.consumers ≡ c ∷ [] → d.at ≡ c.at → RepresentsImage v o → RepresentsImage v (with_consumer o d)
+seat_shown v o c d one at h = record {
+  geometry = h.geometry;
+  join = h.join;
+  window = h.window;
+  high = h.high;
+  consumers = h.consumers ∙ ap (λ rs. map (λ (x : Consumer). x.at) rs) one ∙ ap (λ p. p ∷ []) (sym at);
+  some = omega arith;
+  frames = h.frames;
+  met = h.met;
+  from = h.from;
+  reached = (subst (IsReached o.image.stored o.image.join) (sym at) (subst (λ rs. AllByRecursion (λ (x : Consumer). IsReached o.image.stored o.image.join x.at) rs) one h.reached).0, tt);
+}
+
+opened_shown : (i : Option seen.Image) (o : Opened) (c d : Consumer) → o.image.consumers ≡ c ∷ [] → d.at ≡ c.at → RepresentsOpened i (Some o) → RepresentsOpened i (Some (with_consumer o d))
+opened_shown None o c d one at h = h
+opened_shown (Some v) o c d one at h = seat_shown v o c d one at h
+
+pub poll_starts : (v : Subscribing) (o : Option Opened) (r : Receiver) → r.image ≡ o → (o ≡ None → ⊥) → RepresentsSubscriber v r → IsPolling o r v
+poll_starts v None r is some h = some refl
+poll_starts v (Some o) r is some h = reading (subst (AssemblesFor v.assembler.begun) is h.begun)
+  where
+    reading : AssemblesFor v.assembler.begun (Some o) → HasRead o r v
+    reading (c, one, begun) = record {
+      consumer = c;
+      one = one;
+      frames = [];
+      at = c.at;
+      reads = record { chain = refl; among = tt };
+      shown = λ d e. record { numbers = ap (λ (x : Receiver). record x { image = Some (with_consumer o d) }) h.core.numbers; image = opened_shown v.core.image o c d one e (subst (RepresentsOpened v.core.image) is h.core.image) };
+      nothing = λ l. refl;
+      short = λ l. tt;
+      begun = begun;
+      greatest = h.greatest;
+    }
+
+pub some_shows : (i : Option seen.Image) (o : Option Opened) → is_some i ≡ true → RepresentsOpened i o → o ≡ None → ⊥
+some_shows None o e h n = absurd (cc)
+some_shows (Some v) None e h n = h
+some_shows (Some v) (Some o) e h n = absurd (cc)
+
+-- ---- one frame more is heard
+
+-- the consumer stands where it has read to
+abbrev pub stood : Consumer → ℕ → Consumer
+stood c at = record c { at = at }
+
+abbrev pub now_at : Opened → Receiver → Consumer → ℕ → Receiver
+now_at o r c at = record r { image = Some (with_consumer o (stood c at)) }
+
+passed_here : (o : Opened) (r : Receiver) (c : Consumer) (at : ℕ) (s : Placed) (w : Core) → PassesOn (with_consumer o (stood c at)) (now_at o r c at) s w → s.at ≡ at
+passed_here o r c at s w h =
+    let same : stood c at ≡ h.consumer = same_Some (stood c at) h.consumer h.which in
+    h.here ∙ ap (λ (x : Consumer). x.at) (sym same)
+
+pub hears_on : (o : Opened) (r : Receiver) (v w : Subscribing) (h : HasRead o r v) → HearsFrame (Some (with_consumer o (stood h.consumer h.at))) (now_at o r h.consumer h.at) v.assembler None w → HasRead o r w
+hears_on o r v w h (s, passes, state, message, fits) =
+    let c = h.consumer in
+    let begun : w.assembler.begun ≡ (heard_of v.assembler.begun s.frame).begun = ap (λ (x : Assembling). x.begun) state in
+    record {
+      consumer = c;
+      one = h.one;
+      frames = h.frames ++ s ∷ [];
+      at = end_of s;
+      reads = reads_more o.image c h.frames h.at s h.reads passes.among (passed_here o r c h.at s w.core passes);
+      shown = passes.shown;
+      nothing = λ l. gives_more c h.frames s ∙ ap₂ (λ (xs ys : List (List ℕ)). xs ++ ys) (h.nothing l) (ap (λ b. option_to_list (heard_of b s.frame).message) (sym (h.begun l)) ∙ ap option_to_list (sym message));
+      short = λ l. short_with r.greatest c h.frames s v.assembler h.greatest (h.begun l) (h.short l) fits;
+      begun = λ l. begun ∙ ap (λ b. (heard_of b s.frame).begun) (h.begun l) ∙ sym (moved_begun c h.frames s);
+      greatest = ap (λ (x : Assembling). x.greatest) state ∙ h.greatest;
+    }
+
+-- ---- the end of a poll
+
+abbrev pub Polled : Option Opened → Receiver → Answer → Subscribing → Type 0
+Polled o r answer w = (x : Receiver) × PollsOf o r answer x × RepresentsSubscriber w x
+
+-- where the consumer stands then, if it has lost nothing
+record Whole (greatest : ℕ) (o : Opened) (c : Consumer) (answer : Answer) (at : ℕ) (w : Subscribing) : Type 0 where
+  after : Consumer
+  polls : PollsWhole greatest o.image c answer after
+  here : after.at ≡ at
+  begun : after.lost ≡ false → w.assembler.begun ≡ after.assembly.begun
+
+finish : (o : Opened) (r : Receiver) (w : Subscribing) (answer : Answer) (c : Consumer) (frames : List Placed) (at : ℕ) → r.consumers ≡ 1 → o.image.consumers ≡ c ∷ [] → Reads o.image c frames at
+    → ((d : Consumer) → d.at ≡ at → Represents w.core (record r { image = Some (with_consumer o d) })) → w.assembler.greatest ≡ r.greatest → StopsAt o.image frames answer at → (c.lost ≡ false → Whole r.greatest o c answer at w) → Polled (Some o) r answer w
+finish o r w answer c frames at seats one reads shown most stops whole =
+    ⊎_elim
+    (λ (lost : c.lost ≡ true).
+    let d = passed_all c frames in
+    let here : d.at ≡ at = passed_at c frames at reads.chain in (
+      record r { image = Some (with_consumer o d) },
+      (c, d, one, inr (lost, record { frames = frames; reads = subst (Reads o.image c frames) (sym here) reads; stops = subst (StopsAt o.image frames answer) (sym here) stops; after = refl }), refl),
+      record { core = shown d here; one = seats; begun = (d, refl, λ l. absurd (both_ways d.lost l (passed_lost c frames lost))); greatest = most },
+    ))
+    (λ (kept : c.lost ≡ false).
+    let h = whole kept in (
+      record r { image = Some (with_consumer o h.after) },
+      (c, h.after, one, inl (kept, h.polls), refl),
+      record { core = shown h.after h.here; one = seats; begun = (h.after, refl, h.begun); greatest = most },
+    ))
+    (cases_Bool c.lost)
+
+pub polls_none : (o : Opened) (r : Receiver) (v : Subscribing) (h : HasRead o r v) → r.consumers ≡ 1 → HasNoFrame (Some (with_consumer o (stood h.consumer h.at))) 0 → Polled (Some o) r (Ok None) v
+polls_none o r v h seats end =
+    let c = h.consumer in
+    let d = moved_all c h.frames in
+    let here : d.at ≡ h.at = moved_at c h.frames h.at h.reads.chain in
+    let same : stood c h.at ≡ end.consumer = same_Some (stood c h.at) end.consumer end.which in
+    let stops : IsContiguous o.image.stored o.image.join h.at = subst (λ (x : Consumer). IsContiguous o.image.stored o.image.join x.at) (sym same) end.end in
+    finish o r v (Ok None) c h.frames h.at seats h.one h.reads h.shown h.greatest stops
+    (λ kept. record {
+      after = d;
+      polls = record { frames = h.frames; reads = subst (Reads o.image c h.frames) (sym here) h.reads; nothing = h.nothing kept; short = h.short kept; no_more = subst (λ p. IsContiguous o.image.stored o.image.join p) (sym here) stops; after = refl };
+      here = here;
+      begun = λ l. h.begun kept;
+    })
+
+-- a padding completes no message
+gives_data : (begun : Option (List ℕ)) (f : Frame) (bytes : List ℕ) → (heard_of begun f).message ≡ Some bytes → is_padding f ≡ false
+gives_data begun (Data flags payload) bytes e = refl
+gives_data begun (Pad n) bytes e = absurd (cc)
+
+pub polls_message : (o : Opened) (r : Receiver) (v w : Subscribing) (bytes : List ℕ) (h : HasRead o r v) → r.consumers ≡ 1 → HearsFrame (Some (with_consumer o (stood h.consumer h.at))) (now_at o r h.consumer h.at) v.assembler (Some bytes) w → Polled (Some o) r (Ok (Some bytes)) w
+polls_message o r v w bytes h seats (s, passes, state, message, fits) =
+    let c = h.consumer in
+    let frames = h.frames ++ s ∷ [] in
+    let d = moved_all c frames in
+    let reads : Reads o.image c frames (end_of s) = reads_more o.image c h.frames h.at s h.reads passes.among (passed_here o r c h.at s w.core passes) in
+    let here : d.at ≡ end_of s = moved_at c frames (end_of s) reads.chain in
+    let begun : w.assembler.begun ≡ (heard_of v.assembler.begun s.frame).begun = ap (λ (x : Assembling). x.begun) state in
+    finish o r w (Ok (Some bytes)) c frames (end_of s) seats h.one reads passes.shown (ap (λ (x : Assembling). x.greatest) state ∙ h.greatest) (h.frames, s, refl, gives_data v.assembler.begun s.frame bytes (sym message))
+    (λ kept. record {
+      after = d;
+      polls = record {
+        earlier = h.frames;
+        last = s;
+        reads = subst (Reads o.image c frames) (sym here) reads;
+        nothing = h.nothing kept;
+        message_given = gives_more c h.frames s ∙ ap₂ (λ (xs ys : List (List ℕ)). xs ++ ys) (h.nothing kept) (ap (λ b. option_to_list (heard_of b s.frame).message) (sym (h.begun kept)) ∙ ap option_to_list (sym message));
+        short = short_with r.greatest c h.frames s v.assembler h.greatest (h.begun kept) (h.short kept) fits;
+        after = refl;
+      };
+      here = here;
+      begun = λ l. begun ∙ ap (λ b. (heard_of b s.frame).begun) (h.begun kept) ∙ sym (moved_begun c h.frames s);
+    })
+
+named_with : (g : ℕ) (c : Consumer) (frames : List Placed) (s : Placed) (a : Assembling) (fault : AssemblyError) → a.greatest ≡ g → a.begun ≡ (moved_all c frames).assembly.begun → ((fault ≡ TooLong) ↔ IsTooLong a.greatest a.begun s.frame) → (fault ≡ TooLong) ↔ IsTooLong g (moved_all c frames).assembly.begun s.frame
+named_with g c frames s a fault most begun h = subst (λ n. (fault ≡ TooLong) ↔ IsTooLong n (moved_all c frames).assembly.begun s.frame) most (subst (λ b. (fault ≡ TooLong) ↔ IsTooLong a.greatest b s.frame) begun h)
+
+pub polls_fault : (o : Opened) (r : Receiver) (v w : Subscribing) (fault : AssemblyError) (h : HasRead o r v) → r.consumers ≡ 1 → RefusesFrame (Some (with_consumer o (stood h.consumer h.at))) (now_at o r h.consumer h.at) v.assembler fault w → Polled (Some o) r (Err (Unassembled fault)) w
+polls_fault o r v w fault h seats (s, passes, state, of_data, named) =
+    let c = h.consumer in
+    let frames = h.frames ++ s ∷ [] in
+    let reads : Reads o.image c frames (end_of s) = reads_more o.image c h.frames h.at s h.reads passes.among (passed_here o r c h.at s w.core passes) in
+    finish o r w (Err (Unassembled fault)) c frames (end_of s) seats h.one reads passes.shown (ap (λ (x : Assembling). x.greatest) state ∙ h.greatest) (h.frames, s, refl, of_data)
+    (λ kept. record {
+      after = passed_by (moved_all c h.frames) s;
+      polls = record { earlier = h.frames; last = s; reads = reads; nothing = h.nothing kept; not_padding = of_data; short = h.short kept; named = named_with r.greatest c h.frames s v.assembler fault h.greatest (h.begun kept) named; after = refl };
+      here = refl;
+      begun = λ l. absurd (both_ways true l refl);
+    })
+
+-- ---- the same, with the image that the receiver has
+
+pub polls_bad : (v : Subscribing) (r : Receiver) → v.core.image ≡ None → RepresentsSubscriber v r → Polled r.image r (Err NoImage) v
+polls_bad v r none h = (r, subst (λ x. PollsOf x r (Err NoImage) r) (sym (shown_none v.core.image r.image none h.core.image)) (refl, refl), h)
+
+-- the receiver as it stands in the course of a poll
+abbrev pub standing : (o : Option Opened) (r : Receiver) (v : Subscribing) → IsPolling o r v → Receiver
+standing None r v h = r
+standing (Some o) r v h = now_at o r h.consumer h.at
+
+pub standing_shown : (o : Option Opened) (r : Receiver) (v : Subscribing) (h : IsPolling o r v) → Represents v.core (standing o r v h)
+standing_shown None r v h = absurd h
+standing_shown (Some o) r v h = h.shown (stood h.consumer h.at) refl
+
+pub goes_on : (o : Option Opened) (r : Receiver) (v w : Subscribing) (h : IsPolling o r v) → HearsFrame (standing o r v h).image (standing o r v h) v.assembler None w → IsPolling o r w
+goes_on None r v w h heard = absurd h
+goes_on (Some o) r v w h heard = hears_on o r v w h heard
+
+pub ends_none : (o : Option Opened) (r : Receiver) (v : Subscribing) (h : IsPolling o r v) → r.consumers ≡ 1 → HasNoFrame (standing o r v h).image 0 → Polled o r (Ok None) v
+ends_none None r v h seats end = absurd h
+ends_none (Some o) r v h seats end = polls_none o r v h seats end
+
+pub ends_message : (o : Option Opened) (r : Receiver) (v w : Subscribing) (bytes : List ℕ) (h : IsPolling o r v) → r.consumers ≡ 1 → HearsFrame (standing o r v h).image (standing o r v h) v.assembler (Some bytes) w → Polled o r (Ok (Some bytes)) w
+ends_message None r v w bytes h seats heard = absurd h
+ends_message (Some o) r v w bytes h seats heard = polls_message o r v w bytes h seats heard
+
+pub ends_fault : (o : Option Opened) (r : Receiver) (v w : Subscribing) (fault : AssemblyError) (h : IsPolling o r v) → r.consumers ≡ 1 → RefusesFrame (standing o r v h).image (standing o r v h) v.assembler fault w → Polled o r (Err (Unassembled fault)) w
+ends_fault None r v w fault h seats refused = absurd h
+ends_fault (Some o) r v w fault h seats refused = polls_fault o r v w fault h seats refused
+
+-- ---- what the image tells
+
+abbrev positions_at : ℕ → ℕ → ℕ → Positions
+positions_at least q high = record { least = least; rebuilt = q; high_water = high }
+
+pub tells : (v : Subscribing) (i : seen.Image) (least q high : ℕ) (r : Receiver) → v.core.image ≡ Some i → least ≡ seen.least i.consumers → IsContiguous i.held (seen.least i.consumers) q → high ≡ i.high → RepresentsSubscriber v r → TellsPositions r (Some (record { least = least; rebuilt = q; high_water = high }))
+tells v i least q high r some is end mark h =
+    let w = shown_some i v.core.image r.image some h.core.image in
+    subst (λ x. TellsOf x (Some (record { least = least; rebuilt = q; high_water = high }))) (sym w.is) (q, end_shown i w.opened q w.shown end, ap₂ (λ l m. Some (positions_at l q m)) (is ∙ least_shown i w.opened w.shown) (mark ∙ w.shown.high))
+
+-- a core without an image
+pub subscribes : (v : Subscribing) (r : Receiver) → v.core.image ≡ None → v.core.consumers ≡ 1 → v.assembler.begun ≡ None → v.assembler.greatest ≡ r.greatest → Represents v.core r → RepresentsSubscriber v r
+subscribes v r none one begun most h = record { core = h; one = ap (λ (x : Receiver). x.consumers) h.numbers ∙ one; begun = subst (AssemblesFor v.assembler.begun) (sym (shown_none v.core.image r.image none h.image)) begun; greatest = most }

@@ -1,0 +1,80 @@
+use Rattle.std.proofs.Common.{◌≡◌, ◌∙◌, ◌++◌, ◌∷◌, ◌<◌, ◌≤◌, ◌+◌, [], suc, ℕ, List, Result, Ok, Err, length, drop, take, arith, ap, subst, sym}
+use Rattle.std.specs.Prelude.{OnErr}
+use Rattle.std.specs.List.{AllByRecursion, flat_map}
+use Rattle.std.proofs.lemmas.List.{take-append-drop, take_all}
+use Rattle.frames.specs.Fronts.{FrontSpells}
+use Rattle.theory.specs.Wire.{IsFrame, Wire, spelling}
+use Rattle.frames.specs.Frames.{wire}
+use Rattle.receiver.specs.Receiving.{MeetsAll}
+use Rattle.receiver.specs.Representing.{Becomes, MeetsFirst}
+use Rattle.frames.proofs.FrameSteps.{frame_at, frame_first, front_spells, next_first, slice_to_end}
+use Rattle.receiver.proofs.Meeting.{becomes_more, first_taken}
+use Rattle.receiver.proofs.receiver_core.ReceiverCore.on_frames.Goals as goal
+
+pub unreachable-requires : goal.unreachable-requires
+unreachable-requires c =
+    let frames = c.requires.0 in
+    let i = c.loop-turn._turn in
+    let before = c.loop-turn.invariant.taken frames c.requires.1 c.requires.2 in
+    let below : i < length frames = omega (arith, c.requires.2, c.loop-turn-test.true) in
+    let at = frame_at frames i c.requires.1.1 below in
+    let parts = frame_first frames c.loop-turn.rest.now i at before.0 in
+    c.in_default.ensures.only at.frame (length (spelling at.frame)) (front_spells at.frame c.loop-turn.rest.now (flat_map spelling (drop (suc i) frames)) at.is parts)
+
+-- the frame that was read is the next one of the datagram
+record IsNext (frames : List Wire) (i : ℕ) (rest : List ℕ) (w : Wire) (size : ℕ) : Type 0 where
+  dropped : drop size rest ≡ flat_map spelling (drop (i + 1) frames)
+  taken : take i frames ++ w ∷ [] ≡ take (i + 1) frames
+
+next_is : (frames : List Wire) (i : ℕ) (rest : List ℕ) (w : Wire) (size : ℕ) → AllByRecursion IsFrame frames → i < length frames → rest ≡ flat_map spelling (drop i frames) → ((x : Wire) (n : ℕ) → FrontSpells rest x n → (w ≡ x) × (size ≡ n)) → IsNext frames i rest w size
+next_is frames i rest w size all below left read =
+    let at = frame_at frames i all below in
+    let parts = frame_first frames rest i at left in
+    let is = read at.frame (length (spelling at.frame)) (front_spells at.frame rest (flat_map spelling (drop (suc i) frames)) at.is parts) in
+    let next : suc i ≡ i + 1 = omega arith in
+    record {
+      dropped = next_first at.frame rest (flat_map spelling (drop (suc i) frames)) size parts is.1 ∙ ap (λ k. flat_map spelling (drop k frames)) next;
+      taken = ap (λ x. take i frames ++ x ∷ []) is.0 ∙ sym at.taken ∙ ap (λ k. take k frames) next;
+    }
+
+pub loop-turn-preserved : goal.loop-turn-preserved
+loop-turn-preserved c = record {
+  taken = λ frames spells counted.
+      let i = c.loop-turn._turn in
+      let before = c.loop-turn.invariant.taken frames spells counted in
+      let below : i < length frames = omega (arith, counted, c.loop-turn-test.true) in
+      let next = next_is frames i c.loop-turn.rest.now (wire c.in-Ok.frame) c.in-Ok.size spells.1 below before.0 c.in-Ok.ensures.only in (
+        slice_to_end c.loop-turn.rest.now c.in-Ok.size ∙ next.dropped,
+        subst (λ ws. Becomes c.args.self.now c.on_frame.new.self (λ r s. MeetsAll r ws c.push.new.self.items s)) next.taken
+            (subst (λ outs. Becomes c.args.self.now c.on_frame.new.self (λ r s. MeetsAll r (take i frames ++ wire c.in-Ok.frame ∷ []) outs s)) (sym c.in_ok-push.ensures.items)
+            (becomes_more c.args.self.now c.loop-turn.self c.on_frame.new.self (take i frames) c.loop-turn.outcomes.items (wire c.in-Ok.frame) c.in_ok-outcome.outcome before.1 c.in_ok-outcome.ensures.met)),
+      );
+  consumers = c.in_ok-outcome.ensures.consumers ∙ c.loop-turn.invariant.consumers;
+}
+
+on_err : {V E : Type 0} (out : Result V E) (P : Type 0) → P → OnErr out P
+on_err (Ok v) P p = tt
+on_err (Err e) P p = p
+
+pub returns-in_err-outcome-clause-broken_off : goal.returns-in_err-outcome-clause-broken_off
+returns-in_err-outcome-clause-broken_off c = λ frames spells counted.
+    let i = c.loop-turn._turn in
+    let before = c.loop-turn.invariant.taken frames spells counted in
+    on_err c.from_residual.result (Becomes c.args.self.now c.on_frame.new.self (MeetsFirst frames))
+    (subst (λ w. Becomes c.args.self.now w (MeetsFirst frames)) (sym c.in_err-outcome.ensures.refused) (first_taken c.args.self.now c.loop-turn.self frames (take i frames) (drop i frames) c.loop-turn.outcomes.items (sym (take-append-drop i frames)) before.1))
+
+pub returns-in_err-push-clause-broken_off : goal.returns-in_err-push-clause-broken_off
+returns-in_err-push-clause-broken_off c = λ frames spells counted.
+    let i = c.loop-turn._turn in
+    let before = c.loop-turn.invariant.taken frames spells counted in
+    let below : i < length frames = omega (arith, counted, c.loop-turn-test.true) in
+    let next = next_is frames i c.loop-turn.rest.now (wire c.in-Ok.frame) c.in-Ok.size spells.1 below before.0 c.in-Ok.ensures.only in
+    on_err c.from_residual-in_err-push.result (Becomes c.args.self.now c.on_frame.new.self (MeetsFirst frames))
+    (first_taken c.args.self.now c.on_frame.new.self frames (take (i + 1) frames) (drop (i + 1) frames) (c.loop-turn.outcomes.items ++ c.in_ok-outcome.outcome ∷ []) (sym (take-append-drop (i + 1) frames))
+    (subst (λ ws. Becomes c.args.self.now c.on_frame.new.self (λ r s. MeetsAll r ws (c.loop-turn.outcomes.items ++ c.in_ok-outcome.outcome ∷ []) s)) next.taken
+    (becomes_more c.args.self.now c.loop-turn.self c.on_frame.new.self (take i frames) c.loop-turn.outcomes.items (wire c.in-Ok.frame) c.in_ok-outcome.outcome before.1 c.in_ok-outcome.ensures.met)))
+
+pub returns-clause-met : goal.returns-clause-met
+returns-clause-met c = λ frames spells counted.
+    let done : length frames ≤ c.loop-turn._turn = omega (arith, counted, c.loop-turn-test.false) in
+    subst (λ ws. Becomes c.args.self.now c.loop-turn.self (λ r s. MeetsAll r ws c.loop-turn.outcomes.items s)) (take_all c.loop-turn._turn frames done) (c.loop-turn.invariant.taken frames spells counted).1

@@ -1,0 +1,39 @@
+use Rattle.std.proofs.Common.{rules, sym, subst, ap, ◌∙◌, FitsSigned, w32, w64}
+use Rattle.std.specs.Option.{option_map, option_to_list}
+use Rattle.std.proofs.lemmas.Int.{to_z-of_z}
+use Rattle.theory.specs.Timing.{is_status_due}
+use Rattle.receiver.specs.Receiving.{told_after}
+use Rattle.receiver.specs.Representing.{Represents, last_status_of}
+use Rattle.receiver.specs.contracts.receiver_core.ReceiverCore.{the_view}
+use Rattle.theory.specs.Wire.{SM}
+use Rattle.frames.specs.Frames.{status_of}
+use Rattle.receiver.proofs.Meeting.{not_told, status_same, told_at, told_now}
+use Rattle.receiver.proofs.receiver_core.ReceiverCore.tell.Goals as goal
+
+pub returns-then-not-is_due-clause-told : goal.returns-then-not-is_due-clause-told
+returns-then-not-is_due-clause-told c =
+    let due = c.is_due.ensures ∙ ap (λ p. is_status_due (option_to_list (option_map last_status_of c.self.inside.told)) c.self.inside.window p c.self.inside.clock) c.least-position.ensures.value in
+    rw (← c.self.view_is) (λ r s. (not_told _ c.in-Some.image c.is_due.result c.in-Some.is due c.if-not-is_due.true r s).0)
+
+pub returns-then-not-is_due-clause-state : goal.returns-then-not-is_due-clause-state
+returns-then-not-is_due-clause-state c =
+    let due = c.is_due.ensures ∙ ap (λ p. is_status_due (option_to_list (option_map last_status_of c.self.inside.told)) c.self.inside.window p c.self.inside.clock) c.least-position.ensures.value in
+    rw (← c.self.view_is) (λ r s. (not_told _ c.in-Some.image c.is_due.result c.in-Some.is due c.if-not-is_due.true r s).1)
+
+pub returns-else-not-is_due-clause-told : goal.returns-else-not-is_due-clause-told
+returns-else-not-is_due-clause-told c =
+    let due = c.is_due.ensures ∙ ap (λ p. is_status_due (option_to_list (option_map last_status_of c.self.inside.told)) c.self.inside.window p c.self.inside.clock) c.least-position.ensures.value in
+    let session : FitsSigned w32 c.self.inside.session = search rules in
+    let stream : FitsSigned w32 c.self.inside.stream = search rules in
+    let receiver : FitsSigned w64 c.self.inside.receiver = search rules in
+    let message = c.status_at-status.ensures ∙ status_same c.geometry.ensures.value (to_z-of_z w32 c.self.inside.session session) (to_z-of_z w32 c.self.inside.stream stream) c.least-position.ensures.value c.window.ensures.value (to_z-of_z w64 c.self.inside.receiver receiver) in
+    rw (← c.self.view_is) (λ r s. (told_now _ c.in-Some.image c.is_due.result (SM 0 (status_of c.status_at-status.result)) c.in-Some.is (c.self.invariant.width c.in-Some.image c.in-Some.is) due c.if-not-is_due.false message r s).0)
+
+pub returns-else-not-is_due-clause-state : goal.returns-else-not-is_due-clause-state
+returns-else-not-is_due-clause-state c =
+    let due = c.is_due.ensures ∙ ap (λ p. is_status_due (option_to_list (option_map last_status_of c.self.inside.told)) c.self.inside.window p c.self.inside.clock) c.least-position.ensures.value in
+    let session : FitsSigned w32 c.self.inside.session = search rules in
+    let stream : FitsSigned w32 c.self.inside.stream = search rules in
+    let receiver : FitsSigned w64 c.self.inside.receiver = search rules in
+    let message = c.status_at-status.ensures ∙ status_same c.geometry.ensures.value (to_z-of_z w32 c.self.inside.session session) (to_z-of_z w32 c.self.inside.stream stream) c.least-position.ensures.value c.window.ensures.value (to_z-of_z w64 c.self.inside.receiver receiver) in
+    rw (← c.self.view_is) (λ r s. subst (λ p. Represents (told_at (the_view c.self.inside) p) (record r { told = told_after r.image r })) (sym c.least-position.ensures.value) (told_now _ c.in-Some.image c.is_due.result (SM 0 (status_of c.status_at-status.result)) c.in-Some.is (c.self.invariant.width c.in-Some.image c.in-Some.is) due c.if-not-is_due.false message r s).1)

@@ -1,0 +1,4 @@
+pub mod Polling
+pub mod Receiving
+pub mod Representing
+pub mod Subscribing

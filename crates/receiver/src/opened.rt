@@ -1,0 +1,101 @@
+//! What frames, heartbeats and a consumer's reading make of a receiver's image.
+
+ghost use Rattle.std.specs.Prelude.{◌≡◌, ◌≤◌, ◌<◌, ◌+◌, ◌^◌, ◌%◌, [], length, replicate, slice_index, IfNone, IfOk, IfSome, OnErr, OnSome};
+ghost use Rattle.position.specs.declared.head.FrameKind.TheVariants.{Data};
+ghost use Rattle.rebuilder.specs.Seen.{IsCount, IsJoin};
+ghost use Rattle.rebuilder.specs.Stored.{IsOfStream, IsUnit, stream_frame};
+ghost use Rattle.theory.specs.Control.{named_by};
+ghost use Rattle.theory.specs.Image.{IsWindow};
+ghost use Rattle.theory.specs.Position.{IsGeometry};
+ghost use Rattle.theory.specs.Wire.{IsFrame, IsHeader};
+ghost use Rattle.frames.specs.Frames.{header_of, wire};
+ghost use Rattle.receiver.specs.Receiving.{Opened};
+ghost use Rattle.receiver.specs.Representing.{HearsBeat, Inserts, IsAtEnd, ReadsPast, RepresentsImage};
+
+use block::Block;
+use frames::{Frame, Header};
+use position::{FrameHead, Geometry};
+use rebuilder::{Image, ImageError, Insert};
+use std::alloc::{AllocError, Global};
+
+/// The position that a header names.
+fn position_in(geometry: &Geometry, header: &Header) -> i64
+    requires legal { IsGeometry geometry.now }
+    requires header { IsHeader (header_of header.now) }
+    ensures unit { IsUnit result }
+    ensures named { result ≡ named_by geometry.now (header_of header.now) }
+{
+    geometry.position(header.term_id, header.term_offset.cast_signed())
+}
+
+/// An image that holds nothing. The error comes only where memory was refused.
+pub fn open(
+    alloc: Global,
+    geometry: Geometry,
+    join: u64,
+    window: u32,
+    consumers: usize,
+) -> Result<Image, AllocError>
+    requires join { IsJoin geometry join }
+    requires window { IsWindow geometry.term_length geometry.mtu window }
+    requires consumers { IsCount consumers }
+    ensures { IfOk result (λ i. i ≡ record { geometry = geometry; join = join; window = window; held = []; high = join; consumers = replicate consumers join }) }
+{
+    match Image::open(alloc, geometry, join, window, consumers) {
+        Ok(image) => Ok(image),
+        Err(ImageError::Memory) => Err(AllocError),
+        Err(_) => unreachable!(),
+    }
+}
+
+/// Hands a DATA frame or a padding with this header to an image. At an error memory was refused, and nothing changed.
+pub fn insert(image: &mut Image, header: &Header, frame: &Frame<'_>) -> Result<Insert, AllocError>
+    requires header { IsHeader (header_of header.now) }
+    requires frame { IsFrame (wire frame.now) }
+    requires of_stream { IsOfStream frame.now }
+    ensures inserted { IfOk result (λ a. Inserts image.old (header_of header.now) (stream_frame frame.now) a image.new) }
+    ensures window { image.new.window ≡ image.old.window }
+    ensures consumers { image.new.consumers ≡ image.old.consumers }
+    ensures refused { OnErr result (image.new ≡ image.old) }
+{
+    let position = position_in(&image.geometry(), header);
+    image.insert(position, frame)
+}
+
+/// Hands a heartbeat with this header to an image.
+pub fn hear(image: &mut Image, header: &Header)
+    requires header { IsHeader (header_of header.now) }
+    ensures heard { HearsBeat image.old (header_of header.now) image.new }
+    ensures window { image.new.window ≡ image.old.window }
+    ensures consumers { image.new.consumers ≡ image.old.consumers }
+{
+    let position = position_in(&image.geometry(), header);
+    let _ = image.heartbeat(position);
+}
+
+/// Reads the frame at a consumer's position to the block's front, and moves the consumer past it. There is none where it
+/// stands at the contiguous end.
+pub fn read_past(image: &mut Image, consumer: usize, block: &mut Block) -> Option<FrameHead>
+    requires consumer { consumer < length image.old.consumers }
+    requires room { 65472 ≤ length block.old }
+    ensures none { IfNone result ((image.new ≡ image.old) × (block.new ≡ block.old)) }
+    ensures end { IfNone result ((o : Opened) → RepresentsImage image.old o → IsAtEnd o consumer) }
+    ensures read { IfSome result (λ head. (o : Opened) → RepresentsImage image.old o → ReadsPast o consumer block.old head block.new (RepresentsImage image.new)) }
+    ensures length { length block.new ≡ length block.old }
+    ensures window { image.new.window ≡ image.old.window }
+    ensures consumers { length image.new.consumers ≡ length image.old.consumers }
+    ensures forward { OnSome result (slice_index image.old.consumers consumer + 32 ≤ slice_index image.new.consumers consumer) }
+    ensures low { OnSome result (slice_index image.new.consumers consumer ≤ 2 ^ 55) }
+    ensures payload { IfSome result (λ head. head.kind ≡ Data → (32 ≤ head.frame_length) × (head.frame_length ≤ 65504)) }
+{
+    image.held_apart();
+    let _ = image.high_water();
+    let _ = image.geometry();
+    match image.read(consumer, block) {
+        None => None,
+        Some(head) => {
+            let _ = image.advance(consumer);
+            Some(head)
+        }
+    }
+}

@@ -1,0 +1,427 @@
+//! The receiver's core: datagrams and moments in, outcomes and replies out.
+
+ghost use Rattle.std.specs.Prelude.{◌≡◌, ◌≤◌, ◌<◌, ◌^◌, ◌+◌, ◌↔◌, ◌∷◌, [], ℕ, List, None, Some, Err, length, map, max, IfNone, IfOk, IfSome, OnErr, OnSome, IsTrue};
+ghost use Rattle.std.specs.List.{AllByRecursion};
+ghost use Rattle.std.specs.Option.{option_copied, option_map, option_to_list};
+ghost use Rattle.position.specs.declared.head.FrameKind.TheVariants.{Data};
+ghost use Rattle.theory.specs.Control as control;
+ghost use Rattle.theory.specs.Control.{asking_at};
+ghost use Rattle.theory.specs.Position.{max_position};
+ghost use Rattle.theory.specs.Timing as timing;
+ghost use Rattle.theory.specs.Wire.{IsFrame, IsHeader, SM, SpellsDatagram, Wire};
+ghost use Rattle.frames.specs.Frames.{header_of, setup_of, status_of, wire};
+ghost use Rattle.rebuilder.specs.Seen.{IsCount};
+ghost use Rattle.rebuilder.specs.Stored.{IsOfStream, stream_frame};
+ghost use Rattle.receiver.specs.Representing.{last_status_of};
+
+use crate::opened::{hear, insert, open, read_past};
+use block::Block;
+use frames::{Frame, FrameError, Header, Setup, Status, check_datagram, read_frame};
+use position::{FrameHead, Geometry};
+use rebuilder::{Image, Insert};
+use setup::{SetupError, judge};
+use std::alloc::{AllocError, Global};
+use std::marker::Model;
+
+/// Nanoseconds after which a status message goes out again.
+const STATUS_INTERVAL: u64 = 200_000_000;
+
+/// What became of one frame of a datagram, or of the datagram.
+#[derive(Clone, Copy, Debug, PartialEq, Eq)]
+pub enum Outcome {
+    Inserted(Insert),
+    /// A heartbeat met the image.
+    Heartbeat,
+    /// A SETUP opened the image, at this position.
+    Opened(u64),
+    /// A SETUP met the image.
+    Kept,
+    /// There is no image: a SETUP will be asked for.
+    Asked,
+    SetupRefused(SetupError),
+    /// Another session or stream, or a kind that no receiver takes.
+    Other,
+    /// The datagram can't be read.
+    Refused(FrameError),
+}
+
+/// What a tick sends, in this order.
+#[derive(Clone, Copy, Debug, PartialEq, Eq)]
+pub struct Replies {
+    /// Asks for a SETUP.
+    pub asking: Option<Status>,
+    /// Says where the consumer stands.
+    pub status: Option<Status>,
+}
+
+/// The status message that went out last.
+#[derive(Clone, Copy, Debug, PartialEq, Eq)]
+struct LastSent {
+    position: u64,
+    moment: u64,
+}
+
+/// Rebuilds one stream of one session.
+#[derive(Drop)]
+pub struct ReceiverCore {
+    alloc: Global,
+    session: i32,
+    stream: i32,
+    window: u32,
+    receiver: i64,
+    consumers: usize,
+    image: Option<Image>,
+    /// The header of the last frame that met no image since the last tick.
+    unmet: Option<Header>,
+    told: Option<LastSent>,
+    /// The greatest moment that it has seen.
+    clock: u64,
+}
+
+impl Model for ReceiverCore {
+    ghost use Rattle.std.specs.Option.{option_map};
+    ghost use Rattle.frames.specs.Frames.{header_of};
+    ghost use Rattle.receiver.specs.Representing.{Core, IsCore, last_status_of};
+
+    ghost Value = { Core };
+
+    ghost view = { λ c. record { session = c.session; stream = c.stream; window = c.window; id = c.receiver; consumers = c.consumers; image = c.image; unmet = option_map header_of c.unmet; told = option_map last_status_of c.told; clock = c.clock } };
+
+    ghost invariant = { λ c. IsCore (record { session = c.session; stream = c.stream; window = c.window; id = c.receiver; consumers = c.consumers; image = c.image; unmet = option_map header_of c.unmet; told = option_map last_status_of c.told; clock = c.clock }) };
+}
+
+impl ReceiverCore {
+    ghost use Rattle.receiver.specs.Receiving.{BreaksOff, Hears, IfOurs, Meets, MeetsAll, MeetsFrame, MeetsHeartbeat, MeetsSetup, Receiver, listening, replied, replies, telling, ticked, told_after};
+    ghost use Rattle.receiver.specs.Representing.{Becomes, HasNoFrame, MeetsFirst, PassesFrame, Represents, place_in};
+
+    /// A receiver without an image, for one to eight consumers. Its window is in bytes.
+    pub fn new(
+        alloc: Global,
+        session: i32,
+        stream: i32,
+        window: u32,
+        receiver: i64,
+        consumers: usize,
+    ) -> ReceiverCore
+        requires { IsCount consumers }
+        ensures shown { (greatest : ℕ) → Represents result (listening session stream window receiver consumers greatest) }
+        ensures image { result.image ≡ None }
+        ensures consumers { result.consumers ≡ consumers }
+    {
+        ReceiverCore {
+            alloc,
+            session,
+            stream,
+            window,
+            receiver,
+            consumers,
+            image: None,
+            unmet: None,
+            told: None,
+            clock: 0,
+        }
+    }
+
+    /// The image, once a SETUP has opened it.
+    pub fn image(&self) -> Option<&Image>
+        ensures { option_copied result ≡ self.now.image }
+    {
+        self.image.as_ref()
+    }
+
+    /// Reads the frame at a consumer's position to the block's front, and moves the consumer past it. There is none where
+    /// there is no image, or the consumer stands at the contiguous end; nothing has changed then.
+    pub fn read_past(&mut self, consumer: usize, block: &mut Block) -> Option<FrameHead>
+        requires consumer { consumer < self.old.consumers }
+        requires room { 65472 ≤ length block.old }
+        ensures none { IfNone result ((self.new ≡ self.old) × (block.new ≡ block.old)) }
+        ensures end { IfNone result ((r : Receiver) → Represents self.old r → HasNoFrame r.image consumer) }
+        ensures read { IfSome result (λ head. (r : Receiver) → Represents self.old r → PassesFrame r.image r consumer block.old head block.new self.new) }
+        ensures length { length block.new ≡ length block.old }
+        ensures forward { OnSome result (place_in self.old.image consumer + 32 ≤ place_in self.new.image consumer) }
+        ensures low { OnSome result (place_in self.new.image consumer ≤ 2 ^ 55) }
+        ensures payload { IfSome result (λ head. head.kind ≡ Data → (32 ≤ head.frame_length) × (head.frame_length ≤ 65504)) }
+        ensures consumers { self.new.consumers ≡ self.old.consumers }
+    {
+        let Some(image) = &mut self.image else {
+            return None;
+        };
+        read_past(image, consumer, block)
+    }
+
+    /// Notes a moment.
+    fn see(&mut self, now: u64)
+        ensures { self.new ≡ record self.old { clock = max self.old.clock now } }
+    {
+        self.clock = self.clock.max(now);
+    }
+
+    /// Takes a datagram, and says what became of each of its frames. At an error some first frames of it were taken;
+    /// it may be handed in again.
+    pub fn on_datagram(&mut self, bytes: &[u8], now: u64) -> Result<Vec<Outcome>, AllocError>
+        ensures heard { IfOk result (λ outs. Becomes self.old self.new (λ r s. Hears r now bytes.now outs.items s)) }
+        ensures broken_off { OnErr result (Becomes self.old self.new (λ r s. BreaksOff r now bytes.now s)) }
+        ensures consumers { self.new.consumers ≡ self.old.consumers }
+    {
+        self.see(now);
+        match check_datagram(bytes) {
+            Ok(count) => self.on_frames(bytes, count),
+            Err(error) => self.refuse(error),
+        }
+    }
+
+    /// The one outcome of a datagram that can't be read.
+    fn refuse(&self, error: FrameError) -> Result<Vec<Outcome>, AllocError>
+        ensures { IfOk result (λ outs. outs.items ≡ Outcome.Refused error ∷ []) }
+    {
+        let mut outcomes = Vec::new(self.alloc);
+        outcomes.push(Outcome::Refused(error))?;
+        Ok(outcomes)
+    }
+
+    /// Takes the frames of a datagram that has so many.
+    fn on_frames(&mut self, datagram: &[u8], count: usize) -> Result<Vec<Outcome>, AllocError>
+        requires { (frames : List Wire) × SpellsDatagram frames datagram.now × (length frames ≡ count) }
+        ensures met { (frames : List Wire) → SpellsDatagram frames datagram.now → length frames ≡ count
+            → IfOk result (λ outs. Becomes self.old self.new (λ r s. MeetsAll r frames outs.items s)) }
+        ensures broken_off { (frames : List Wire) → SpellsDatagram frames datagram.now → length frames ≡ count
+            → OnErr result (Becomes self.old self.new (MeetsFirst frames)) }
+        ensures consumers { self.new.consumers ≡ self.old.consumers }
+    {
+        let mut outcomes = Vec::new(self.alloc);
+        let mut rest = datagram;
+        for _turn in 0..count {
+            let Ok((frame, size)) = read_frame(rest) else {
+                unreachable!()
+            };
+            let outcome = self.on_frame(&frame)?;
+            outcomes.push(outcome)?;
+            rest = &rest[size..];
+        }
+        Ok(outcomes)
+    }
+
+    fn on_frame(&mut self, frame: &Frame<'_>) -> Result<Outcome, AllocError>
+        requires { IsFrame (wire frame.now) }
+        ensures met { IfOk result (λ out. Becomes self.old self.new (λ r s. Meets r (wire frame.now) out s)) }
+        ensures refused { OnErr result (self.new ≡ self.old) }
+        ensures consumers { self.new.consumers ≡ self.old.consumers }
+    {
+        match *frame {
+            Frame::Data { header, .. } => self.on_stored(&header, frame),
+            Frame::Pad { header, .. } => self.on_stored(&header, frame),
+            Frame::Heartbeat { header } => Ok(self.on_heartbeat(&header)),
+            Frame::Setup(setup) => self.on_setup(&setup),
+            Frame::Nak(_) => Ok(Outcome::Other),
+            Frame::Status { .. } => Ok(Outcome::Other),
+        }
+    }
+
+    fn is_mine(&self, session: i32, stream: i32) -> bool
+        ensures { IsTrue result ↔ ((session ≡ self.now.session) × (stream ≡ self.now.stream)) }
+    {
+        session == self.session && stream == self.stream
+    }
+
+    fn on_stored(&mut self, header: &Header, frame: &Frame<'_>) -> Result<Outcome, AllocError>
+        requires header { IsHeader (header_of header.now) }
+        requires frame { IsFrame (wire frame.now) }
+        requires stored { IsOfStream frame.now }
+        ensures met { IfOk result (λ out. Becomes self.old self.new (λ r s.
+            IfOurs r header.now.session header.now.stream (MeetsFrame r.image r (header_of header.now) (stream_frame frame.now) out s) out s)) }
+        ensures refused { OnErr result (self.new ≡ self.old) }
+        ensures consumers { self.new.consumers ≡ self.old.consumers }
+    {
+        if self.is_mine(header.session, header.stream) {
+            self.store(header, frame)
+        } else {
+            Ok(Outcome::Other)
+        }
+    }
+
+    /// Hands a DATA frame or a padding with this header to the image.
+    fn store(&mut self, header: &Header, frame: &Frame<'_>) -> Result<Outcome, AllocError>
+        requires header { IsHeader (header_of header.now) }
+        requires frame { IsFrame (wire frame.now) }
+        requires stored { IsOfStream frame.now }
+        ensures met { IfOk result (λ out. Becomes self.old self.new (λ r s. MeetsFrame r.image r (header_of header.now) (stream_frame frame.now) out s)) }
+        ensures refused { OnErr result (self.new ≡ self.old) }
+        ensures consumers { self.new.consumers ≡ self.old.consumers }
+    {
+        match &mut self.image {
+            None => {
+                self.unmet = Some(*header);
+                Ok(Outcome::Asked)
+            }
+            Some(image) => Ok(Outcome::Inserted(insert(image, header, frame)?)),
+        }
+    }
+
+    fn on_heartbeat(&mut self, header: &Header) -> Outcome
+        requires { IsHeader (header_of header.now) }
+        ensures met { Becomes self.old self.new (λ r s. IfOurs r header.now.session header.now.stream (MeetsHeartbeat r.image r (header_of header.now) result s) result s) }
+        ensures consumers { self.new.consumers ≡ self.old.consumers }
+    {
+        if self.is_mine(header.session, header.stream) {
+            self.hear(header)
+        } else {
+            Outcome::Other
+        }
+    }
+
+    fn hear(&mut self, header: &Header) -> Outcome
+        requires { IsHeader (header_of header.now) }
+        ensures met { Becomes self.old self.new (λ r s. MeetsHeartbeat r.image r (header_of header.now) result s) }
+        ensures consumers { self.new.consumers ≡ self.old.consumers }
+    {
+        match &mut self.image {
+            None => {
+                self.unmet = Some(*header);
+                Outcome::Asked
+            }
+            Some(image) => {
+                hear(image, header);
+                Outcome::Heartbeat
+            }
+        }
+    }
+
+    fn on_setup(&mut self, setup: &Setup) -> Result<Outcome, AllocError>
+        ensures met { IfOk result (λ out. Becomes self.old self.new (λ r s.
+            IfOurs r setup.now.session setup.now.stream (MeetsSetup r.image r (setup_of setup.now) out s) out s)) }
+        ensures refused { OnErr result (self.new ≡ self.old) }
+        ensures consumers { self.new.consumers ≡ self.old.consumers }
+    {
+        if self.is_mine(setup.session, setup.stream) {
+            self.set_up(setup)
+        } else {
+            Ok(Outcome::Other)
+        }
+    }
+
+    fn set_up(&mut self, setup: &Setup) -> Result<Outcome, AllocError>
+        ensures met { IfOk result (λ out. Becomes self.old self.new (λ r s. MeetsSetup r.image r (setup_of setup.now) out s)) }
+        ensures refused { OnErr result (self.new ≡ self.old) }
+        ensures consumers { self.new.consumers ≡ self.old.consumers }
+    {
+        if self.image.is_some() {
+            return Ok(Outcome::Kept);
+        }
+        match judge(setup, self.window) {
+            Err(error) => Ok(Outcome::SetupRefused(error)),
+            Ok(named) => {
+                let image = open(self.alloc, named.0, named.1, self.window, self.consumers)?;
+                self.image = Some(image);
+                self.unmet = None;
+                Ok(Outcome::Opened(named.1))
+            }
+        }
+    }
+
+    /// Takes a moment, and gives what goes out then.
+    pub fn tick(&mut self, now: u64) -> Replies
+        ensures replies { (r : Receiver) → Represents self.old r → replied result ≡ replies r now }
+        ensures state { (r : Receiver) → Represents self.old r → Represents self.new (ticked r now) }
+        ensures written { AllByRecursion IsFrame (replied result) }
+        ensures consumers { self.new.consumers ≡ self.old.consumers }
+    {
+        self.see(now);
+        let asking = self.ask();
+        let status = self.tell();
+        Replies { asking, status }
+    }
+
+    /// The message that asks for a SETUP, where a frame met no image since the last tick.
+    fn ask(&mut self) -> Option<Status>
+        ensures asked { option_map (λ f. SM 128 (status_of f)) result ≡ option_map (λ h. asking_at h self.old.id) self.old.unmet }
+        ensures state { self.new ≡ record self.old { unmet = None } }
+    {
+        let Some(header) = self.unmet.take() else {
+            return None;
+        };
+        Some(asking(&header, self.receiver))
+    }
+
+    /// The message that says where the consumers stand, if it is due.
+    fn tell(&mut self) -> Option<Status>
+        ensures told { (r : Receiver) → Represents self.old r → map (λ f. SM 0 (status_of f)) (option_to_list result) ≡ telling r.image r }
+        ensures state { (r : Receiver) → Represents self.old r → Represents self.new (record r { told = told_after r.image r }) }
+        ensures consumers { self.new.consumers ≡ self.old.consumers }
+    {
+        match &self.image {
+            None => None,
+            Some(image) => {
+                let position = image.least();
+                if !is_due(self.told, self.window, position, self.clock) {
+                    return None;
+                }
+                let status = status_at(
+                    &image.geometry(),
+                    self.session,
+                    self.stream,
+                    position,
+                    image.window(),
+                    self.receiver,
+                );
+                self.told = Some(LastSent {
+                    position,
+                    moment: self.clock,
+                });
+                Some(status)
+            }
+        }
+    }
+}
+
+/// The message that asks for a SETUP, with the place of the frame that met no image.
+fn asking(header: &Header, receiver: i64) -> Status
+    requires { IsHeader (header_of header.now) }
+    ensures { SM 128 (status_of result) ≡ asking_at (header_of header.now) receiver }
+{
+    Status {
+        session: header.session,
+        stream: header.stream,
+        term_id: header.term_id,
+        term_offset: header.term_offset.cast_signed(),
+        window: 0,
+        receiver,
+    }
+}
+
+/// Whether a status message is due: the first one, or when 200 ms have passed since the last, or when the least consumer
+/// has moved by a quarter of the window since then.
+fn is_due(told: Option<LastSent>, window: u32, position: u64, clock: u64) -> bool
+    ensures { result ≡ timing.is_status_due (option_to_list (option_map last_status_of told)) window position clock }
+{
+    match told {
+        None => true,
+        Some(told) => {
+            clock >= told.moment.saturating_add(STATUS_INTERVAL)
+                || position.saturating_sub(told.position) >= u64::from(window.div_ceil(4))
+        }
+    }
+}
+
+/// The status message of a receiver whose least consumer stands at this position.
+fn status_at(
+    geometry: &Geometry,
+    session: i32,
+    stream: i32,
+    position: u64,
+    window: u32,
+    receiver: i64,
+) -> Status
+    requires position { position ≤ max_position geometry.now }
+    requires window { window < 2 ^ 31 }
+    ensures { SM 0 (status_of result) ≡ control.status_at (record { geometry = geometry.now; session = session; stream = stream }) position window receiver }
+{
+    let place = geometry.term_of(position);
+    Status {
+        session,
+        stream,
+        term_id: place.term_id,
+        term_offset: place.offset.cast_signed(),
+        window: window.cast_signed(),
+        receiver,
+    }
+}

@@ -1,0 +1,164 @@
+//! A receiver and the one subscriber that reads its image.
+
+ghost use Rattle.std.specs.Prelude.{◌≡◌, ◌≤◌, ◌<◌, ◌^◌, ◌+◌, ◌↔◌, ℕ, List, None, Some, false, length, option_map, IfErr, IfNone, IfOk, IfSome, OnErr, OnSome};
+ghost use Rattle.std.specs.List.{AllByRecursion};
+ghost use Rattle.block.specs.Bytes.{with_front};
+ghost use Rattle.position.specs.declared.head.FrameKind.TheVariants.{Data};
+ghost use Rattle.theory.specs.Placed.{Placed, is_padding, payload_of};
+ghost use Rattle.theory.specs.Wire.{IsFrame};
+ghost use Rattle.rebuilder.specs.Kinds.{head_at};
+ghost use Rattle.receiver.specs.Polling.{IsTooLong};
+ghost use Rattle.receiver.specs.Subscribing.{heard_of};
+
+use crate::poll_error::PollError;
+use crate::positions::Positions;
+use crate::receiver_core::{Outcome, ReceiverCore, Replies};
+use assembler::{Assembler, AssemblyError, Message};
+use block::Block;
+use position::{FrameHead, FrameKind};
+use std::alloc::{AllocError, Global};
+use std::marker::Model;
+
+/// The bytes of the greatest payload of a frame.
+const GREATEST_PAYLOAD: usize = 65_472;
+
+/// A receiver and the one subscriber that reads its image.
+#[derive(Drop)]
+pub struct Subscriber {
+    core: ReceiverCore,
+    assembler: Assembler<Global>,
+    block: Block,
+}
+
+impl Model for Subscriber {
+    ghost use Rattle.std.specs.Prelude.{◌≡◌, ◌≤◌, length};
+    ghost use Rattle.receiver.specs.Subscribing.{Subscribing};
+
+    ghost Value = { Subscribing };
+
+    ghost view = { λ s. record { core = s.core; assembler = s.assembler } };
+
+    ghost invariant = { λ s. (s.core.consumers ≡ 1) × (65472 ≤ length s.block) };
+}
+
+/// Hands a frame to the assembler: its head, and the block that has its payload in front. A padding is passed over. It is
+/// too long exactly where the message would be longer than the greatest; any other error is that memory was refused. After
+/// an error nothing is begun.
+fn assemble(
+    assembler: &mut Assembler<Global>,
+    head: &FrameHead,
+    block: &Block,
+) -> Result<Option<Message<Global>>, AssemblyError>
+    requires room { 65472 ≤ length block.now }
+    requires payload { head.now.kind ≡ Data → (32 ≤ head.now.frame_length) × (head.now.frame_length ≤ 65504) }
+    ensures state { IfOk result (λ _. (s : Placed) (before : List ℕ) → head.now ≡ head_at s.at s.frame → block.now ≡ with_front before (payload_of s.frame)
+        → assembler.new ≡ record assembler.old { begun = (heard_of assembler.old.begun s.frame).begun }) }
+    ensures message { IfOk result (λ m. (s : Placed) (before : List ℕ) → head.now ≡ head_at s.at s.frame → block.now ≡ with_front before (payload_of s.frame)
+        → option_map (λ x. x.bytes.items) m ≡ (heard_of assembler.old.begun s.frame).message) }
+    ensures short { IfOk result (λ _. (s : Placed) (before : List ℕ) → head.now ≡ head_at s.at s.frame → block.now ≡ with_front before (payload_of s.frame)
+        → IsTooLong assembler.old.greatest assembler.old.begun s.frame → ⊥) }
+    ensures refused { IfErr result (λ _. (s : Placed) → head.now ≡ head_at s.at s.frame → is_padding s.frame ≡ false) }
+    ensures named { IfErr result (λ fault. (s : Placed) (before : List ℕ) → head.now ≡ head_at s.at s.frame → block.now ≡ with_front before (payload_of s.frame)
+        → ((fault ≡ AssemblyError.TooLong) ↔ IsTooLong assembler.old.greatest assembler.old.begun s.frame)) }
+    ensures dropped { IfErr result (λ _. assembler.new ≡ record assembler.old { begun = None }) }
+    ensures greatest { assembler.new.greatest ≡ assembler.old.greatest }
+{
+    match head.kind {
+        FrameKind::Pad => Ok(None),
+        FrameKind::Data => {
+            let payload = &block.bytes()[..head.frame_length as usize - 32];
+            assembler.on_frame(head.flags, payload)
+        }
+    }
+}
+
+impl Subscriber {
+    ghost use Rattle.receiver.specs.Polling.{Polls, TellsPositions};
+    ghost use Rattle.receiver.specs.Receiving.{BreaksOff, Hears, Receiver, replied, replies, ticked};
+    ghost use Rattle.receiver.specs.Representing.{HasNoFrame, Represents, place_in};
+    ghost use Rattle.receiver.specs.Subscribing.{Becomes, HearsFrame, answer_of, RefusesFrame, RepresentsSubscriber};
+
+    /// A subscriber to what this core will receive: one that has no image yet and will have one consumer. Messages are
+    /// of at most `greatest` bytes. The error comes only where memory was refused.
+    pub fn new(alloc: Global, core: ReceiverCore, greatest: usize) -> Result<Subscriber, AllocError>
+        requires image { core.image ≡ None }
+        requires consumers { core.consumers ≡ 1 }
+        ensures shown { IfOk result (λ s. (r : Receiver) → Represents core r → r.greatest ≡ greatest → RepresentsSubscriber s r) }
+        ensures greatest { IfOk result (λ s. s.assembler.greatest ≡ greatest) }
+    {
+        Ok(Subscriber {
+            core,
+            assembler: Assembler::new(alloc, greatest),
+            block: Block::new(alloc, GREATEST_PAYLOAD)?,
+        })
+    }
+
+    /// Takes a datagram, and says what became of each of its frames. At an error some first frames of it were taken;
+    /// it may be handed in again.
+    pub fn on_datagram(&mut self, bytes: &[u8], now: u64) -> Result<Vec<Outcome>, AllocError>
+        ensures heard { IfOk result (λ outs. Becomes self.old self.new (λ r s. Hears r now bytes.now outs.items s)) }
+        ensures broken_off { OnErr result (Becomes self.old self.new (λ r s. BreaksOff r now bytes.now s)) }
+        ensures assembler { self.new.assembler ≡ self.old.assembler }
+    {
+        self.core.on_datagram(bytes, now)
+    }
+
+    /// Takes a moment, and gives what goes out then.
+    pub fn tick(&mut self, now: u64) -> Replies
+        ensures replies { (r : Receiver) → RepresentsSubscriber self.old r → replied result ≡ replies r now }
+        ensures state { (r : Receiver) → RepresentsSubscriber self.old r → RepresentsSubscriber self.new (ticked r now) }
+        ensures written { AllByRecursion IsFrame (replied result) }
+        ensures assembler { self.new.assembler ≡ self.old.assembler }
+    {
+        self.core.tick(now)
+    }
+
+    /// Reads on until a message is complete, the assembler refuses a frame, or no frame is left: none then. The fault is
+    /// `A2` exactly where the message would be longer than the greatest.
+    pub fn poll(&mut self) -> Result<Option<Message<Global>>, PollError>
+        ensures polled { Becomes self.old self.new (λ r s. Polls r (answer_of result) s) }
+        ensures greatest { self.new.assembler.greatest ≡ self.old.assembler.greatest }
+    {
+        if self.core.image().is_none() {
+            return Err(PollError::NoImage);
+        }
+        loop {
+            match self.poll_frame() {
+                None => return Ok(None),
+                Some(Ok(None)) => {}
+                Some(Ok(Some(message))) => return Ok(Some(message)),
+                Some(Err(error)) => return Err(PollError::Unassembled(error)),
+            }
+        }
+    }
+
+    /// Hands the frame at the subscriber's position to the assembler, and moves past it.
+    fn poll_frame(&mut self) -> Option<Result<Option<Message<Global>>, AssemblyError>>
+        ensures none { IfNone result (self.new ≡ self.old) }
+        ensures end { IfNone result ((r : Receiver) → Represents self.old.core r → HasNoFrame r.image 0) }
+        ensures heard { IfSome result (λ step. IfOk step (λ m. (r : Receiver) → Represents self.old.core r → HearsFrame r.image r self.old.assembler (option_map (λ x. x.bytes.items) m) self.new)) }
+        ensures refused { IfSome result (λ step. IfErr step (λ fault. (r : Receiver) → Represents self.old.core r → RefusesFrame r.image r self.old.assembler fault self.new)) }
+        ensures greatest { self.new.assembler.greatest ≡ self.old.assembler.greatest }
+        ensures forward { OnSome result (place_in self.old.core.image 0 + 32 ≤ place_in self.new.core.image 0) }
+        ensures low { OnSome result (place_in self.new.core.image 0 ≤ 2 ^ 55) }
+    {
+        match self.core.read_past(0, &mut self.block) {
+            None => None,
+            Some(head) => Some(assemble(&mut self.assembler, &head, &self.block)),
+        }
+    }
+
+    /// Where the consumer stands, and how far the image is rebuilt. There is nothing to tell without an image.
+    pub fn positions(&self) -> Option<Positions>
+        ensures { (r : Receiver) → RepresentsSubscriber self.now r → TellsPositions r result }
+    {
+        match self.core.image() {
+            None => None,
+            Some(image) => Some(Positions {
+                least: image.least(),
+                rebuilt: image.rebuilt(),
+                high_water: image.high_water(),
+            }),
+        }
+    }
+}

@@ -1,0 +1,196 @@
+-- After each line of a script, the shares of the log are those of all its entries.
+use Rattle.std.proofs.Common.{◌≡◌, ◌⊎◌, ℕ, zero, suc, ◌+◌, ◌-◌, ◌<◌, List, [], ◌∷◌, ◌++◌, length, true, false, cond, Option, Some, inl, inr, ⊎_elim, refl, sym, ap, ◌∙◌, subst, arith, append_assoc}
+use Rattle.std.specs.Prelude.{◌%◌, ◌==◌, replicate, slice_get, slice_index, slice_index_or, slice_set}
+use Rattle.std.proofs.lemmas.Bool.{cases_Bool, eqb-true, eqb-false}
+use Rattle.std.proofs.lemmas.List.{get_or-replicate, get_or-set_other, get_or-set_same}
+use Rattle.theory.specs.Position.{max_message, max_payload, span}
+use Rattle.theory.specs.Placed.{Data}
+use Rattle.theory.specs.Entry.{Entry, length_of}
+use Rattle.theory.specs.Tiling.{share_of}
+use Rattle.theory.proofs.Claims.{covers_framed}
+use Rattle.theory.proofs.Shares.{share-push}
+use Rattle.theory.proofs.Tiling.{share-cons}
+use Rattle.term_buffer.specs.Kept.{claim_of, no_entry, padded, published, with_next, with_share}
+use Rattle.term_buffer.specs.declared.claimed.Claimed.{Claimed}
+use Rattle.log_buffer.specs.Log.{Log, added, room_in, with_claim, with_message, with_padding}
+use Rattle.publication.specs.Claims.{claim_at}
+use Rattle.publication.specs.Offers.{Course, IsClosed, IsStale, IsUsedUp, IsLimited, Fits, Trips, after, after_claim, after_offer, answer, course_of, covered, turned_from}
+use Rattle.script.specs.Meaning as orders
+use Rattle.script.specs.Meaning.{Order}
+use Rattle.script_run.specs.Answers.{AbortsClaim, Answers, Claims, ClaimsRange, CommitsClaim, HasClaim, HasNoClaim, Limits, MayNotTake, OffersMessage, Offered, SenderHears, with_log}
+use Rattle.sender.specs.Cycling.{AsksSetup, NewsContent, Says, TellsNothing, Unreadable}
+use Rattle.script_run.specs.Output.{AlwaysCounted, AnswersAll, identity_of}
+use Rattle.script_run.specs.LineContents.{LineContent}
+use Rattle.script_run.specs.Published.{Played}
+use Rattle.script_run.specs.ScriptState.{ScriptState, entries_of, opened_state}
+use Rattle.theory.proofs.Commits.{index_get}
+use Rattle.script_run.proofs.OfferRuns.{turned_same}
+use Rattle.script_run.proofs.Ranges.{one_cut}
+use Rattle.script_run.proofs.SenderRuns.{limit_entries}
+use Rattle.script_run.proofs.SoundLines.{kept_claim}
+
+-- ---- one entry more
+
+share_set : (xs : List ℕ) (by k n : ℕ) → by < length xs → slice_index (with_share xs by n) k ≡ slice_index xs k + cond (by == k) n 0
+share_set xs by k n low =
+    ⊎_elim
+    (λ (t : (by == k) ≡ true).
+    let same : by ≡ k = eqb-true by k t in
+    subst (λ j. slice_index (with_share xs by n) j ≡ slice_index xs j + n) same (get_or-set_same xs by (slice_index xs by + n) 0 low) ∙ ap (λ b. slice_index xs k + cond b n 0) (sym t))
+    (λ (f : (by == k) ≡ false). get_or-set_other xs by k (slice_index xs by + n) 0 (λ e. eqb-false by k f (sym e)) ∙ omega arith ∙ ap (λ b. slice_index xs k + cond b n 0) (sym f))
+    (cases_Bool (by == k))
+
+-- ---- what is counted
+
+-- the shares are those of all entries
+abbrev Counts : List ℕ → List Entry → Type 0
+Counts shares es = (k : ℕ) → k < 8 → slice_index shares k ≡ share_of k es
+
+abbrev IsCounted : ScriptState → Type 0
+IsCounted s = Counts s.log.shares (entries_of s)
+
+counts_more : (shares : List ℕ) (past es : List Entry) (e : Entry) → length shares ≡ 8 → e.owner < 8 → Counts shares (past ++ es) → Counts (with_share shares e.owner (length_of e)) (past ++ (es ++ e ∷ []))
+counts_more shares past es e eight who h k low =
+    share_set shares e.owner k (length_of e) (omega (arith, who, eight))
+    ∙ ap (λ n. n + cond (e.owner == k) (length_of e) 0) (h k low)
+    ∙ sym (share-push k (past ++ es) e)
+    ∙ ap (share_of k) (append_assoc past es (e ∷ []))
+
+-- ---- an offer or a claim
+
+turned_counts : (past : List Entry) (l : Log) (count : ℕ) → Counts l.shares (past ++ l.entries) → Counts (turned_from l count).shares (past ++ (turned_from l count).entries)
+turned_counts past l count h =
+    subst (λ xs. Counts xs (past ++ (turned_from l count).entries)) (sym (turned_same (λ k. k.shares) (λ k x y z. refl) l count))
+    (subst (λ es. Counts l.shares (past ++ es)) (sym (turned_same (λ k. k.entries) (λ k x y z. refl) l count)) h)
+
+-- where it fits, the log is this one
+course_counts : (past : List Entry) (l : Log) (by size : ℕ) (c : Course) (fitting : Log) → length l.shares ≡ 8 → by < 8 → Counts l.shares (past ++ l.entries) → Counts fitting.shares (past ++ fitting.entries) → Counts (after l by size c fitting).shares (past ++ (after l by size c fitting).entries)
+course_counts past l by size IsClosed fitting eight who h fits = h
+course_counts past l by size IsStale fitting eight who h fits = h
+course_counts past l by size IsLimited fitting eight who h fits = h
+course_counts past l by size IsUsedUp fitting eight who h fits = turned_counts past l l.active h
+course_counts past l by size Fits fitting eight who h fits = fits
+course_counts past l by size Trips fitting eight who h fits =
+    let n = room_in l (l.active % 3) in
+    let e = padded l.tail by n in
+    turned_counts past (with_padding (added l by (l.active % 3) (covered l size)) by n) l.active
+    (subst (λ n. Counts (with_share l.shares by n) (past ++ (l.entries ++ e ∷ []))) (omega arith) (counts_more l.shares past l.entries e eight who h))
+
+offered_state : (s t : ScriptState) (by : ℕ) (m : List ℕ) (lines : List LineContent) (c : Course) → Offered s by m (answer s.log (length m) c) lines t → t ≡ with_log s (after_offer s.log by m)
+offered_state s t by m lines IsClosed o = o.1
+offered_state s t by m lines IsStale o = o.1
+offered_state s t by m lines IsUsedUp o = o.1
+offered_state s t by m lines IsLimited o = o.1
+offered_state s t by m lines Fits o = o.1
+offered_state s t by m lines Trips o = o.1
+
+offer_line : (s t : ScriptState) (by most size : ℕ) (m : List ℕ) (lines : List LineContent) → MayNotTake s by most size lines t ⊎ OffersMessage s by m lines t → IsCounted s → IsCounted t
+offer_line s t by most size m lines (inl bad) h = subst IsCounted (sym bad.1.1) h
+offer_line s t by most size m lines (inr o) h =
+    let l = s.log in
+    let n = length m in
+    let e = published l.identity.geometry l.tail by m in
+    let fitting = with_message (added l by (l.active % 3) (covered l n)) by m in
+    let fits : Counts fitting.shares (s.past ++ fitting.entries) =
+    subst (λ x. Counts (with_share l.shares by x) (s.past ++ (l.entries ++ e ∷ []))) (covers_framed l.identity.geometry n o.0.legal.geometry) (counts_more l.shares s.past l.entries e o.0.legal.eight o.0.publisher h) in
+    subst IsCounted (sym (offered_state s t by m lines (course_of l n) o.2)) (course_counts s.past l by n (course_of l n) fitting o.0.legal.eight o.0.publisher h fits)
+
+claimed_state : (s t : ScriptState) (by size : ℕ) (lines : List LineContent) (c : Course) → Claims s by size (answer s.log size c) lines t → (claims : List (Option Claimed)) × (t ≡ record (with_log s (after_claim s.log by size)) { claims = claims })
+claimed_state s t by size lines IsClosed o = (s.claims, o.1)
+claimed_state s t by size lines IsStale o = (s.claims, o.1)
+claimed_state s t by size lines IsUsedUp o = (s.claims, o.1)
+claimed_state s t by size lines IsLimited o = (s.claims, o.1)
+claimed_state s t by size lines Fits o = (slice_set s.claims by (Some (claim_at s.log by size)), o.1)
+claimed_state s t by size lines Trips o = (s.claims, o.1)
+
+claim_line : (s t : ScriptState) (by most size : ℕ) (lines : List LineContent) → MayNotTake s by most size lines t ⊎ ClaimsRange s by size lines t → IsCounted s → IsCounted t
+claim_line s t by most size lines (inl bad) h = subst IsCounted (sym bad.1.1) h
+claim_line s t by most size lines (inr o) h =
+    let l = s.log in
+    let e = claim_of l.identity.geometry l.tail by false size in
+    let fitting = with_claim (added l by (l.active % 3) (covered l size)) by false size in
+    subst IsCounted (sym (claimed_state s t by size lines (course_of l size) o.2).1)
+    (course_counts s.past l by size (course_of l size) fitting o.0.legal.eight o.0.publisher h (counts_more l.shares s.past l.entries e o.0.legal.eight o.0.publisher h))
+
+-- ---- a claim's commit or abort
+
+-- an entry in the place of one with the same owner and length
+share_put : (k : ℕ) (es : List Entry) (n : ℕ) (old new : Entry) → slice_get es n ≡ Some old → new.owner ≡ old.owner → length_of new ≡ length_of old → share_of k (slice_set es n new) ≡ share_of k es
+share_put k [] n old new there owner long = refl
+share_put k (e ∷ es) zero old new there owner long =
+    let same : e ≡ old = cc in
+    share-cons k new es
+    ∙ ap (λ o. cond (o == k) (length_of new) 0 + share_of k es) (owner ∙ ap (λ x. x.owner) (sym same))
+    ∙ ap (λ x. cond (e.owner == k) x 0 + share_of k es) (long ∙ ap (λ x. length_of x) (sym same))
+    ∙ sym (share-cons k e es)
+share_put k (e ∷ es) (suc n) old new there owner long =
+    omega (arith, share-cons k e (slice_set es n new), share_put k es n old new there owner long, share-cons k e es)
+
+share_behind : (k : ℕ) (past es others : List Entry) → share_of k others ≡ share_of k es → share_of k (past ++ others) ≡ share_of k (past ++ es)
+share_behind k [] es others same = same
+share_behind k (e ∷ past) es others same = omega (arith, share-cons k e (past ++ others), share_behind k past es others same, share-cons k e (past ++ es))
+
+put_counts : (s : ScriptState) (by : ℕ) (c : Claimed) (e : Entry) → HasClaim s by c → e.owner ≡ c.owner → e.cuts ≡ (c.size + 32) ∷ [] → IsCounted s → Counts s.log.shares (s.past ++ slice_set s.log.entries (c.number - s.log.gone) e)
+put_counts s by c e m owner cuts h k low =
+    let n = c.number - s.log.gone in
+    h k low ∙ sym (share_behind k s.past s.log.entries (slice_set s.log.entries n e) (share_put k s.log.entries n (one_cut c.start c.owner c.size []) e (kept_claim s by c m) owner (ap span cuts)))
+
+commit_line : (s t : ScriptState) (by : ℕ) (lines : List LineContent) → HasNoClaim s by lines t ⊎ CommitsClaim s by lines t → IsCounted s → IsCounted t
+commit_line s t by lines (inl bad) h = subst IsCounted (sym bad.1.1) h
+commit_line s t by lines (inr m) h =
+    let c = m.0 in
+    let e = with_next (Data 192 (replicate c.size 97)) (slice_index_or s.log.entries (c.number - s.log.gone) no_entry) in
+    let was = index_get s.log.entries (c.number - s.log.gone) (one_cut c.start c.owner c.size []) no_entry (kept_claim s by c m.1) in
+    subst IsCounted (sym m.3) (put_counts s by c e m.1 (ap (λ x. x.owner) was) (ap (λ x. x.cuts) was) h)
+
+abort_line : (s t : ScriptState) (by : ℕ) (lines : List LineContent) → HasNoClaim s by lines t ⊎ AbortsClaim s by lines t → IsCounted s → IsCounted t
+abort_line s t by lines (inl bad) h = subst IsCounted (sym bad.1.1) h
+abort_line s t by lines (inr m) h = subst IsCounted (sym m.3) (put_counts s by m.0 (padded m.0.start m.0.owner (m.0.size + 32)) m.1 refl refl h)
+
+-- ---- the other lines
+
+limit_line : (s t : ScriptState) (lines : List LineContent) → Limits s lines t → IsCounted s → IsCounted t
+limit_line s t lines m h =
+    let past = s.past ++ m.done.cleans.past in
+    let entries : past ++ m.log.entries ≡ entries_of s = limit_entries s.past s.log m.log m.done in
+    let shares : m.log.shares ≡ s.log.shares = ap (λ (l : Log). l.shares) m.done.limits ∙ ap (λ (l : Log). l.shares) m.done.cleans.new_is in
+    subst IsCounted (sym m.new_is) (subst (λ xs. Counts xs (past ++ m.log.entries)) (sym shares) (subst (Counts s.log.shares) (sym entries) h))
+
+hears_line : (s t : ScriptState) (now : ℕ) (news : NewsContent) (lines : List LineContent) → SenderHears s now news lines t → IsCounted s → IsCounted t
+hears_line s t now (Says f) lines m h = subst IsCounted (sym m.1) h
+hears_line s t now AsksSetup lines m h = subst IsCounted (sym m.1) h
+hears_line s t now TellsNothing lines m h = subst IsCounted (sym m.1) h
+hears_line s t now (Unreadable fault) lines m h = subst IsCounted (sym m.1) h
+
+line_counts : (s t : ScriptState) (order : Order) (lines : List LineContent) → Answers s order lines t → IsCounted s → IsCounted t
+line_counts s t orders.Connect lines m h = subst IsCounted (sym m.1) h
+line_counts s t orders.Disconnect lines m h = subst IsCounted (sym m.1) h
+line_counts s t orders.Close lines m h = subst IsCounted (sym m.1) h
+line_counts s t orders.Limit lines m h = limit_line s t lines m h
+line_counts s t (orders.Offer by message) lines m h = offer_line s t by (max_message s.log.identity.geometry) (length message) message lines m h
+line_counts s t (orders.OfferSize by size) lines m h = offer_line s t by (max_message s.log.identity.geometry) size (replicate size 97) lines m h
+line_counts s t (orders.Claim by size) lines m h = claim_line s t by (max_payload s.log.identity.geometry) size lines m h
+line_counts s t (orders.Commit by) lines m h = commit_line s t by lines m h
+line_counts s t (orders.Abort by) lines m h = abort_line s t by lines m h
+line_counts s t (orders.Read r) lines (inl m) h = subst IsCounted (sym m.1.1) h
+line_counts s t (orders.Read r) lines (inr (inl m)) h = subst IsCounted (sym m.4) h
+line_counts s t (orders.Read r) lines (inr (inr m)) h = subst IsCounted (sym m.6) h
+line_counts s t (orders.Send now) lines m h = subst IsCounted (sym m.3) h
+line_counts s t (orders.Deliver k i now) lines (inl m) h = subst IsCounted (sym m.2) h
+line_counts s t (orders.Deliver k i now) lines (inr m) h = subst IsCounted (sym m.8) h
+line_counts s t (orders.Tick i now) lines m h = subst IsCounted (sym m.4) h
+line_counts s t (orders.Reply k now) lines (inl m) h = subst IsCounted (sym m.2) h
+line_counts s t (orders.Reply k now) lines (inr m) h = hears_line s t now m.1 lines m.4 h
+line_counts s t (orders.Poll i) lines m h = subst IsCounted (sym m.6) h
+line_counts s t (orders.Image i) lines m h = subst IsCounted (sym m.5) h
+
+all_count : (s last : ScriptState) (played : List Played) → AnswersAll s played last → IsCounted s → IsCounted last
+all_count s last [] m h = subst IsCounted (sym m) h
+all_count s last (p ∷ ps) m h = all_count m.0 last ps m.2 (line_counts s m.0 p.order p.lines m.1 h)
+
+-- where it begins, nothing is claimed
+none_yet : Counts (replicate 8 0) []
+none_yet k h = get_or-replicate 8 k 0 0 h
+
+pub always_counted : AlwaysCounted
+always_counted o played last m = all_count (opened_state (identity_of o) o.start o.readers) last played m none_yet

@@ -1,0 +1,194 @@
+-- A sender's cycle, what it is told, and its keeper's calls, as events.
+use Rattle.std.proofs.Common.{◌≡◌, ℕ, zero, suc, ◌+◌, ◌-◌, ◌*◌, ◌/◌, ◌%◌, ◌≤◌, List, [], ◌∷◌, ◌++◌, map, length, drop, Bool, true, false, cond, Option, None, Some, refl, sym, ap, ◌∙◌, subst, arith, append_assoc}
+use Rattle.std.specs.Prelude.{max, min, not, ◌&&◌}
+use Rattle.std.specs.List.{AllByRecursion, fold}
+use Rattle.std.proofs.lemmas.Bool.{and_parts, not-true}
+use Rattle.std.proofs.lemmas.Grind.{flat_map-append}
+use Rattle.theory.specs.Placed.{Among, Placed, end_of, place_all}
+use Rattle.theory.specs.Consumer.{Consumer}
+use Rattle.theory.specs.Entry.{Entry, committed}
+use Rattle.theory.specs.FlowLimit.{flow_limit}
+use Rattle.theory.specs.Datagrams.{sent_end}
+use Rattle.theory.specs.Position.{position_of}
+use Rattle.theory.specs.Seats.{Each}
+use Rattle.theory.specs.Wire.{Status}
+use Rattle.theory.specs.Log as stream
+use Rattle.theory.specs.Log.{Clean, Close, Connect, IsLowest, Raise}
+use Rattle.theory.specs.Sender.{Sender, SenderEvent, SenderStep, See, Send, SendSetup, HearStatus}
+use Rattle.theory.specs.World.{World, AtLog, AtSender}
+use Rattle.theory.proofs.Leasts.{fold_each, fold_keeps}
+use Rattle.theory.proofs.Lists.{among_right}
+use Rattle.theory.proofs.WorldSteps.{power_unit}
+use Rattle.log_buffer.specs.Limits.{least}
+use Rattle.log_buffer.specs.Log.{IsLog, Log, clean_end}
+use Rattle.rotation.specs.Limited.{CleansAndLimits, raised}
+use Rattle.script_run.specs.Answers.{IsCycle, after_cycle, heard, limit_of, named, sent_on, with_log, woken}
+use Rattle.sender.specs.Cycling.{Cycle, IsNextSent}
+use Rattle.script_run.specs.ScriptState.{ScriptState, stream_of, world_of}
+use Rattle.script_run.proofs.Runs.{Goes, goes_one, goes_on, stays}
+
+-- the world with another sender
+abbrev pub with_sender : World → Sender → World
+with_sender w x = record w { sender = x }
+
+abbrev limit_in : World → ℕ
+limit_in w = flow_limit w.log.start w.sender.said
+
+pub named_at : (x : Sender) (due : Bool) → (named x due).at ≡ x.at
+named_at x true = refl
+named_at x false = refl
+
+pub named_said : (x : Sender) (due : Bool) → (named x due).said ≡ x.said
+named_said x true = refl
+named_said x false = refl
+
+at_sender : (w : World) (e : SenderEvent) (x : Sender) → SenderStep w.log.identity.geometry w.log.start (committed w.log.entries) w.sender e x → Goes w (with_sender w x)
+at_sender w e x step = goes_one w (with_sender w x) (AtSender e) (x, step, refl)
+
+pub sees : (w : World) (now : ℕ) → Goes w (with_sender w (record w.sender { clock = max w.sender.clock now }))
+sees w now = at_sender w (See now) (record w.sender { clock = max w.sender.clock now }) refl
+
+pub names : (w : World) (due : Bool) → Goes w (with_sender w (named w.sender due))
+names w true = at_sender w SendSetup (named w.sender true) refl
+names w false = stays w w refl
+
+pub among_kept : (past es : List Entry) (s : Placed) → Among s (committed es) → Among s (committed (past ++ es))
+among_kept past es s h = subst (λ xs. Among s xs) (sym (flat_map-append (λ e. place_all e.start e.frames) past es)) (among_right s (committed past) (committed es) h)
+
+-- the next of the entries that are kept
+pub sends : (w : World) (past es : List Entry) (limit : ℕ) (frame : Option Placed) → w.log.entries ≡ past ++ es → limit ≡ limit_in w → IsNextSent (committed es) w.sender.at limit frame → Goes w (with_sender w (sent_on w.sender frame))
+sends w past es limit None parts l next = stays w w refl
+sends w past es limit (Some s) parts l next =
+    let among : Among s (committed w.log.entries) = subst (λ xs. Among s (committed xs)) (sym parts) (among_kept past es s next.0) in
+    at_sender w (Send (s ∷ []) (end_of s)) (sent_on w.sender (Some s)) ((next.1, refl), (among, tt), (subst (λ x. sent_end s s.frame ≤ x) l next.2, tt), refl)
+
+-- a cycle
+pub cycles : (s : ScriptState) (now : ℕ) (y : Cycle) → IsCycle s now y → Goes (world_of s) (world_of (after_cycle s now y))
+cycles s now y h =
+    let w = world_of s in
+    let a = with_sender w (woken s now) in
+    let b = with_sender w (named (woken s now) y.setup) in
+    let still : (due : Bool) → (named (woken s now) due).at ≡ s.sender.at = named_at (woken s now) in
+    let said : (due : Bool) → (named (woken s now) due).said ≡ s.sender.said = named_said (woken s now) in
+    goes_on w a (world_of (after_cycle s now y)) (sees w now) (goes_on a b (world_of (after_cycle s now y)) (names a y.setup) (sends b s.past s.log.entries (limit_of s.log s.sender) y.frame refl (ap (λ x. flow_limit s.log.start x) (sym (said y.setup))) (subst (λ p. IsNextSent (committed s.log.entries) p (limit_of s.log s.sender) y.frame) (sym (still y.setup)) h.1)))
+
+-- a status message
+pub hears : (s : ScriptState) (now : ℕ) (f : Status) → Goes (world_of s) (with_sender (world_of s) (heard s now f))
+hears s now f =
+    let w = world_of s in
+    let a = with_sender w (woken s now) in
+    goes_on w a (with_sender w (heard s now f)) (sees w now) (at_sender a (HearStatus (record { position = position_of s.log.identity.geometry f.term_id f.term_offset; window = f.window })) (heard s now f) refl)
+
+pub asked : (s : ScriptState) (now : ℕ) → Goes (world_of s) (with_sender (world_of s) (named (woken s now) true))
+asked s now =
+    let w = world_of s in
+    let a = with_sender w (woken s now) in
+    goes_on w a (with_sender w (named (woken s now) true)) (sees w now) (names a true)
+
+-- ---- the keeper
+
+pub connects : (s : ScriptState) (on : Bool) → Goes (world_of s) (world_of (with_log s (record s.log { connected = on })))
+connects s on =
+    let w = world_of s in
+    let l = record w.log { connected = on } in
+    goes_one w (record w { log = l }) (AtLog (Connect on)) (l, refl, refl)
+
+pub closes : (s : ScriptState) → Goes (world_of s) (world_of (with_log s (record s.log { closed = true })))
+closes s =
+    let w = world_of s in
+    let l = record w.log { closed = true } in
+    goes_one w (record w { log = l }) (AtLog Close) (l, refl, refl)
+
+-- ---- cleaning
+
+-- the world's log is cleaned up to here
+abbrev cleaned_to : World → ℕ → World
+cleaned_to w to = record w { log = record w.log { cleaned = to } }
+
+abbrev Lowest : World → ℕ → Type 0
+Lowest w m = IsLowest (w.sender.at ∷ []) w.log m
+
+each_above : (m : ℕ) (rs : List Consumer) → AllByRecursion (λ p. m ≤ p) (map (λ r. r.at) rs) → Each (λ r. m ≤ r.at) (map Some rs)
+each_above m [] h = tt
+each_above m (r ∷ rs) h = (h.0, each_above m rs h.1)
+
+-- no consumer is below the least position
+all_above : (s : ScriptState) → s.log.consumers ≡ s.sender.at ∷ map (λ c. c.at) s.readers → Lowest (world_of s) (least s.log.consumers)
+all_above s are =
+    let ps = s.sender.at ∷ map (λ c. c.at) s.readers in
+    let low = fold_each s.sender.at ps in
+    let same : least s.log.consumers ≡ fold min s.sender.at ps = ap least are in
+    let all : AllByRecursion (λ p. least s.log.consumers ≤ p) ps = subst (λ m. AllByRecursion (λ p. m ≤ p) ps) (sym same) low in
+    record { others_above = (all.0, tt); readers_above = each_above (least s.log.consumers) s.readers all.1 }
+
+-- word by word
+cleans_on : (n : ℕ) (w : World) (m to : ℕ) → Lowest w m → to ≡ w.log.cleaned + 8 * n → to ≤ max w.log.start (m - w.log.identity.geometry.term_length) → Goes w (cleaned_to w to)
+cleans_on zero w m to lowest is low = stays w (cleaned_to w to) (ap (cleaned_to w) (omega (arith, is)))
+cleans_on (suc n) w m to lowest is low =
+    let next = cleaned_to w (w.log.cleaned + 8) in
+    let step : Goes w next = goes_one w next (AtLog (Clean m)) (next.log, (lowest, omega (arith, is, low), refl), refl) in
+    goes_on w next (cleaned_to w to) step (cleans_on n next m to (record { others_above = lowest.others_above; readers_above = lowest.readers_above }) (omega (arith, is)) low)
+
+abbrev limited_to : World → ℕ → World
+limited_to w limit = record w { log = record w.log { limit = limit } }
+
+abbrev raised_in : World → ℕ → Bool → ℕ
+raised_in w m may = cond may (max w.log.limit (m + w.log.identity.geometry.term_length / 2)) w.log.limit
+
+raises_on : (w : World) (m : ℕ) (may : Bool) → Lowest w m → m % 32 ≡ 0 → max w.log.start (m - w.log.identity.geometry.term_length) ≤ w.log.cleaned → (w.log.connected && not w.log.closed) ≡ may → Goes w (limited_to w (raised_in w m may))
+raises_on w m false lowest unit low e = stays w w refl
+raises_on w m true lowest unit low e =
+    let flags = and_parts w.log.connected (not w.log.closed) e in
+    let l = record w.log { limit = raised_in w m true } in
+    goes_one w (record w { log = l }) (AtLog (Raise m)) (l, (unit, lowest, low, flags.0, not-true w.log.closed flags.1, refl), refl)
+
+-- whole words are cleaned
+words : (from to : ℕ) → from ≤ to → from % 8 ≡ 0 → to % 8 ≡ 0 → to ≡ from + 8 * ((to - from) / 8)
+words from to low a b = omega (arith, low, a, b)
+
+end_words : (start at term : ℕ) → start % 32 ≡ 0 → at % 32 ≡ 0 → term % 32 ≡ 0 → max start (at - term) % 8 ≡ 0
+end_words start at term a b c = omega (arith, a, b, c)
+
+same_limited : (l : stream.Log) (a b p q : ℕ) (xs ys : List Entry) → a ≡ b → p ≡ q → xs ≡ ys → record l { cleaned = a; limit = p; entries = xs } ≡ record l { cleaned = b; limit = q; entries = ys }
+same_limited l a b p q xs ys e f g =
+    ap (λ z. record l { cleaned = z; limit = p; entries = xs }) e
+    ∙ ap (λ z. record l { cleaned = b; limit = z; entries = xs }) f
+    ∙ ap (λ z. record l { cleaned = b; limit = q; entries = z }) g
+
+-- the entries that it forgets are remembered
+pub limit_entries : (past : List Entry) (old new : Log) → (h : CleansAndLimits old new) → (past ++ h.cleans.past) ++ new.entries ≡ past ++ old.entries
+limit_entries past old new h =
+    append_assoc past h.cleans.past new.entries
+    ∙ ap (λ (es : List Entry). past ++ (h.cleans.past ++ es)) (ap (λ (m : Log). m.entries) h.limits)
+    ∙ ap (λ (es : List Entry). past ++ es) (sym h.cleans.parts)
+
+-- what holds of each consumer holds of the least
+least_holds : (P : ℕ → Type 0) (at : ℕ) (ps qs : List ℕ) → ps ≡ at ∷ qs → AllByRecursion P ps → P (least ps)
+least_holds P at ps qs are all =
+    let each : AllByRecursion P (at ∷ qs) = subst (AllByRecursion P) are all in
+    subst (λ xs. P (least xs)) (sym are) (fold_keeps P at (at ∷ qs) each.0 each)
+
+-- a log of which the sender and the readers are the consumers, after its keeper's call
+pub limits : (s : ScriptState) (new : Log) → IsLog s.log → s.log.consumers ≡ s.sender.at ∷ map (λ c. c.at) s.readers → (h : CleansAndLimits s.log new) → Goes (world_of s) (record (world_of s) { log = stream_of (s.past ++ h.cleans.past) s.readers new })
+limits s new legal are h =
+    let w = world_of s in
+    let t = s.log.identity.geometry.term_length in
+    let m = least s.log.consumers in
+    let to = clean_end s.log m in
+    let positions = map (λ (c : Consumer). c.at) s.readers in
+    let unit : m % 32 ≡ 0 = least_holds (λ p. p % 32 ≡ 0) s.sender.at s.log.consumers positions are legal.consumer_units in
+    let readable : s.log.cleaned ≤ clean_end s.log m = least_holds (λ p. s.log.cleaned ≤ clean_end s.log p) s.sender.at s.log.consumers positions are legal.readable in
+    let lowest : Lowest w m = all_above s are in
+    let term : t % 32 ≡ 0 = power_unit t legal.geometry.term.power legal.geometry.term.least in
+    let is : to ≡ s.log.cleaned + 8 * ((to - s.log.cleaned) / 8) = words s.log.cleaned to readable legal.word (end_words s.log.start m t legal.unit unit term) in
+    let cleaned = cleaned_to w to in
+    let may = s.log.connected && not s.log.closed in
+    let after = record s.log { cleaned = to; limit = raised s.log; gone = s.log.gone + length h.cleans.past; first = h.middle.first; entries = h.middle.entries; drafts = drop (length h.cleans.past) s.log.drafts } in
+    let new_is : new ≡ after = h.limits ∙ ap (λ (k : Log). record k { limit = raised s.log }) h.cleans.new_is in
+    let kept : new.entries ≡ h.middle.entries = ap (λ (k : Log). k.entries) h.limits in
+    let entries : (s.past ++ h.cleans.past) ++ h.middle.entries ≡ s.past ++ s.log.entries = ap (λ (es : List Entry). (s.past ++ h.cleans.past) ++ es) (sym kept) ∙ limit_entries s.past s.log new h in
+    let log : stream_of (s.past ++ h.cleans.past) s.readers new ≡ record w.log { cleaned = to; limit = raised_in cleaned m may } =
+    ap (stream_of (s.past ++ h.cleans.past) s.readers) new_is
+    ∙ same_limited w.log to to (raised s.log) (raised_in cleaned m may) ((s.past ++ h.cleans.past) ++ h.middle.entries) (s.past ++ s.log.entries) refl refl entries in
+    subst (λ l. Goes w (record w { log = l })) (sym log)
+    (goes_on w cleaned (limited_to cleaned (raised_in cleaned m may)) (cleans_on ((to - s.log.cleaned) / 8) w m to lowest is (omega arith)) (raises_on cleaned m may (record { others_above = lowest.others_above; readers_above = lowest.readers_above }) unit (omega arith) refl))

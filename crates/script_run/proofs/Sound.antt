@@ -1,0 +1,213 @@
+-- What holds of the state after each line of a script.
+use Rattle.std.proofs.Common.{◌≡◌, ℕ, zero, suc, ◌+◌, ◌%◌, ◌<◌, ◌≤◌, false, List, [], ◌∷◌, ◌++◌, map, length, Option, None, Some, ⊎_elim, refl, sym, ap, ◌∙◌, subst, arith, append-nil}
+use Rattle.std.specs.Prelude.{replicate, slice_get, slice_set}
+use Rattle.std.proofs.lemmas.Bool.{cases_eq}
+use Rattle.std.proofs.lemmas.Grind.{flat_map-append}
+use Rattle.std.proofs.lemmas.Option.{slice_get_within}
+use Rattle.theory.specs.Position.{Geometry, IsGeometry, max_position}
+use Rattle.theory.specs.Entry.{IsEntry}
+use Rattle.std.specs.Option.{option_map}
+use Rattle.script_run.specs.LineContents.{LineContent}
+use Rattle.theory.specs.Bytes.{Identity, IsIdentity}
+use Rattle.theory.specs.Headline.{Always, IsTiled, IsBounded, IsPrefixPolled, ArePublished, AreSpelled, IsPublished}
+use Rattle.theory.specs.Laws.{HasOneReading}
+use Rattle.theory.specs.Placed.{Frame}
+use Rattle.theory.specs.Assembly.{after_all, nothing_heard}
+use Rattle.theory.specs.Consumer.{Consumer, consumer_at}
+use Rattle.theory.specs.Seats.{Each}
+use Rattle.theory.specs.World.{IsOpened}
+use Rattle.theory.proofs.Lists.{all_weaker}
+use Rattle.theory.proofs.Tables.{get_other, get_put}
+use Rattle.script.specs.Meaning.{Order}
+use Rattle.script_run.specs.Published.{AllWhole, IsWhole, Played, Range, covered_by, joined_by, joins, polled, polled_by, published, ranges_after, ranges_behind, read, read_by}
+use Rattle.receiver.specs.Receiving.{Opened, Receiver}
+use Rattle.script_run.specs.ScriptState.{ScriptState, entries_of, image_of, opened_state, world_of}
+use Rattle.script_run.proofs.Honest.{AreHonest}
+use Rattle.script_run.proofs.OfferRuns.{LogHolds, tail_in_stream}
+use Rattle.script_run.proofs.Ranges.{Matches}
+use Rattle.script_run.proofs.ReceiverRuns.{At, Follows, FollowsImage, IsSending, Places}
+use Rattle.script_run.proofs.Runs.{Goes, map_get}
+
+-- the laws that the crates below hand over
+pub record Laws : Type 0 where
+  pub tiles : Always IsTiled
+  pub bounds : Always IsBounded
+  pub prefixes : Always IsPrefixPolled
+  pub entries : Always ArePublished
+  pub spelled : Always AreSpelled
+  pub places : Places
+  pub reading : HasOneReading
+
+-- the receiver of this number, with what its lines told
+abbrev pub HasFollowed : Identity → List Played → ScriptState → ℕ → Type 0
+HasFollowed i played s k = (r : Receiver) × (slice_get s.receivers k ≡ Some r) × Follows i r (joins k played) (polled k played) (AllWhole k played)
+
+-- a reader that has heard each frame from the start on, which its lines showed
+pub record ReadSo (start : ℕ) (c : Consumer) (frames : List Frame) : Type 0 where
+  pub join : c.join ≡ start
+  pub whole : c.lost ≡ false
+  pub heard : c.assembly ≡ after_all nothing_heard frames
+  pub at : c.at ≡ start + covered_by frames
+
+abbrev pub HasRead : ℕ → List Played → ScriptState → ℕ → Type 0
+HasRead start played s k = (c : Consumer) × (slice_get s.readers k ≡ Some c) × ReadSo start c (read (suc k) played)
+
+pub record IsSound (i : Identity) (start readers : ℕ) (played : List Played) (s : ScriptState) : Type 0 where
+  pub runs : Goes (world_of (opened_state i start readers)) (world_of s)
+  pub identity : s.log.identity ≡ i
+  pub start_is : s.log.start ≡ start
+  pub consumers : s.log.consumers ≡ s.sender.at ∷ map (λ c. c.at) s.readers
+  pub unit : s.sender.at % 32 ≡ 0
+  pub sending : IsSending s
+  pub honest : AreHonest i s.sender s.packets
+  pub matches : Matches (entries_of s) (published i.geometry played)
+  pub eight : length s.receivers ≡ 8
+  pub receivers : (k : ℕ) → k < 8 → HasFollowed i played s k
+  pub seats : length s.readers ≡ readers
+  pub reading : (k : ℕ) → k < readers → HasRead start played s k
+
+-- where a script begins
+pub record Begins (i : Identity) (start : ℕ) : Type 0 where
+  pub geometry : IsGeometry i.geometry
+  pub identity : IsIdentity i
+  pub unit : start % 32 ≡ 0
+  pub below : start < max_position i.geometry
+
+all_there : (start n : ℕ) → Each (λ r. r ≡ consumer_at start) (map Some (replicate n (consumer_at start)))
+all_there start zero = tt
+all_there start (suc n) = (refl, all_there start n)
+
+pub opened : (i : Identity) (start readers : ℕ) → Begins i start → IsOpened (world_of (opened_state i start readers))
+opened i start readers b = record {
+  geometry = b.geometry;
+  identity = b.identity;
+  unit = b.unit;
+  below = b.below;
+  tail = refl;
+  entries = refl;
+  armed = refl;
+  limit = refl;
+  connected = refl;
+  closed = refl;
+  cleaned = refl;
+  readers = all_there start readers;
+  sender = refl;
+  images = refl;
+}
+
+-- ---- what the laws say of a sound state
+
+pub holds : Laws → (i : Identity) (start readers : ℕ) (played : List Played) (s : ScriptState) → Begins i start → IsSound i start readers played s → LogHolds s.past s.log
+holds laws i start readers played s b h =
+    let tiled = laws.tiles (world_of (opened_state i start readers)) (world_of s) h.runs.0 (opened i start readers b) h.runs.1 in
+    let entries = laws.entries (world_of (opened_state i start readers)) (world_of s) h.runs.0 (opened i start readers b) h.runs.1 in
+    record {
+      geometry = h.sending.legal;
+      start = subst (λ x. s.log.start < max_position x.geometry) (sym h.identity) (subst (λ p. p < max_position i.geometry) (sym h.start_is) b.below);
+      tiles = tiled.0;
+      entries = all_weaker (IsPublished s.log.identity.geometry) IsEntry (λ e x. x.entry) (entries_of s) entries;
+      published = entries;
+    }
+
+-- wherever the world goes to
+pub sender_below : Laws → (i : Identity) (start readers : ℕ) (s : ScriptState) → Begins i start → Goes (world_of (opened_state i start readers)) (world_of s) → s.sender.at ≤ s.log.tail
+sender_below laws i start readers s b runs =
+    let bounded = laws.bounds (world_of (opened_state i start readers)) (world_of s) runs.0 (opened i start readers b) runs.1 in
+    omega (arith, bounded.0.2, bounded.0.3.0)
+
+pub tail_low : Laws → (i : Identity) (start readers : ℕ) (played : List Played) (s : ScriptState) → Begins i start → IsSound i start readers played s → s.log.tail ≤ max_position i.geometry
+tail_low laws i start readers played s b h =
+    let k = holds laws i start readers played s b h in
+    let low : s.log.tail ≤ max_position s.log.identity.geometry = tail_in_stream s.log.identity.geometry s.log.start s.log.tail (entries_of s) (omega (arith, k.geometry.term.least)) (omega (arith, k.start)) k.tiles k.published in
+    let same : max_position s.log.identity.geometry ≡ max_position i.geometry = ap (λ (x : Identity). max_position x.geometry) h.identity in
+    omega (arith, low, same)
+
+-- ---- one line more
+
+abbrev pub and_line : List Played → Order → List LineContent → List Played
+and_line played order lines = played ++ record { order = order; lines = lines } ∷ []
+
+behind_more : (g : Geometry) (ranges : List Range) (played : List Played) (order : Order) (lines : List LineContent) → ranges_behind g ranges (and_line played order lines) ≡ ranges_after g (ranges_behind g ranges played) order lines
+behind_more g ranges [] order lines = refl
+behind_more g ranges (p ∷ ps) order lines = behind_more g (ranges_after g ranges p.order p.lines) ps order lines
+
+pub published_more : (g : Geometry) (played : List Played) (order : Order) (lines : List LineContent) → published g (and_line played order lines) ≡ ranges_after g (published g played) order lines
+published_more g played order lines = behind_more g [] played order lines
+
+-- the line takes no range, and fills none
+abbrev pub SaysNoRange : Order → List LineContent → Type 0
+SaysNoRange order lines = (g : Geometry) (ranges : List Range) → ranges_after g ranges order lines ≡ ranges
+
+pub joins_more : (k : ℕ) (played : List Played) (order : Order) (lines : List LineContent) → joins k (and_line played order lines) ≡ joins k played ++ joined_by k order lines
+joins_more k played order lines = flat_map-append (λ p. joined_by k p.order p.lines) played (record { order = order; lines = lines } ∷ []) ∙ ap (λ xs. joins k played ++ xs) (append-nil (joined_by k order lines))
+
+pub polled_more : (k : ℕ) (played : List Played) (order : Order) (lines : List LineContent) → polled k (and_line played order lines) ≡ polled k played ++ polled_by k order lines
+polled_more k played order lines = flat_map-append (λ p. polled_by k p.order p.lines) played (record { order = order; lines = lines } ∷ []) ∙ ap (λ xs. polled k played ++ xs) (append-nil (polled_by k order lines))
+
+pub read_more : (r : ℕ) (played : List Played) (order : Order) (lines : List LineContent) → read r (and_line played order lines) ≡ read r played ++ read_by r order lines
+read_more r played order lines = flat_map-append (λ p. read_by r p.order p.lines) played (record { order = order; lines = lines } ∷ []) ∙ ap (λ xs. read r played ++ xs) (append-nil (read_by r order lines))
+
+pub whole_parts : (k : ℕ) (played : List Played) (order : Order) (lines : List LineContent) → AllWhole k (and_line played order lines) → AllWhole k played × IsWhole k order lines
+whole_parts k [] order lines h = (tt, h.0)
+whole_parts k (p ∷ ps) order lines h = let rest = whole_parts k ps order lines h.1 in ((h.0, rest.0), rest.1)
+
+pub follows_as : (i : Identity) (r : Receiver) (joins more : List ℕ) (given gives : List (List ℕ)) (Whole Still : Type 0) → joins ≡ more → given ≡ gives → (Still → Whole) → Follows i r joins given Whole → Follows i r more gives Still
+follows_as i r joins more given gives Whole Still j g weaker h = record {
+  consumers = h.consumers;
+  image = weaken r.image (subst (λ xs. FollowsImage r.image i more xs Whole) g (subst (λ xs. FollowsImage r.image i xs given Whole) j h.image));
+}
+  where
+    weaken : (o : Option Opened) → FollowsImage o i more gives Whole → FollowsImage o i more gives Still
+    weaken None k = k
+    weaken (Some o) k = record { consumer = k.consumer; one = k.one; geometry = k.geometry; join = k.join; joined = k.joined; heard = λ x. k.heard (weaker x) }
+
+-- the line says nothing of the receiver
+pub follows_quiet : (i : Identity) (k : ℕ) (r : Receiver) (played : List Played) (order : Order) (lines : List LineContent) → joined_by k order lines ≡ [] → polled_by k order lines ≡ [] → Follows i r (joins k played) (polled k played) (AllWhole k played) → Follows i r (joins k (and_line played order lines)) (polled k (and_line played order lines)) (AllWhole k (and_line played order lines))
+follows_quiet i k r played order lines j g h =
+    follows_as i r (joins k played) (joins k (and_line played order lines)) (polled k played) (polled k (and_line played order lines)) (AllWhole k played) (AllWhole k (and_line played order lines))
+    (sym (joins_more k played order lines ∙ ap (λ xs. joins k played ++ xs) j ∙ append-nil (joins k played)))
+    (sym (polled_more k played order lines ∙ ap (λ xs. polled k played ++ xs) g ∙ append-nil (polled k played)))
+    (λ x. (whole_parts k played order lines x).0)
+    h
+
+-- the line says nothing of any receiver or reader, and they stay
+pub record IsQuiet (order : Order) (lines : List LineContent) : Type 0 where
+  pub reads : (k : ℕ) → read_by (suc k) order lines ≡ []
+  pub joins : (k : ℕ) → joined_by k order lines ≡ []
+  pub polls : (k : ℕ) → polled_by k order lines ≡ []
+
+pub receivers_stay : (i : Identity) (played : List Played) (order : Order) (lines : List LineContent) (s t : ScriptState) → ((k : ℕ) → (joined_by k order lines ≡ []) × (polled_by k order lines ≡ [])) → t.receivers ≡ s.receivers → ((k : ℕ) → k < 8 → HasFollowed i played s k) → (k : ℕ) → k < 8 → HasFollowed i (and_line played order lines) t k
+receivers_stay i played order lines s t quiet same h k low =
+    let r = h k low in
+    (r.0, ap (λ xs. slice_get xs k) same ∙ r.1, follows_quiet i k r.0 played order lines (quiet k).0 (quiet k).1 r.2)
+
+pub readers_stay : (start n : ℕ) (played : List Played) (order : Order) (lines : List LineContent) (s t : ScriptState) → ((k : ℕ) → read_by (suc k) order lines ≡ []) → t.readers ≡ s.readers → ((k : ℕ) → k < n → HasRead start played s k) → (k : ℕ) → k < n → HasRead start (and_line played order lines) t k
+readers_stay start n played order lines s t quiet same h k low =
+    let r = h k low in
+    (r.0, ap (λ xs. slice_get xs k) same ∙ r.1, subst (ReadSo start r.0) (sym (read_more (suc k) played order lines ∙ ap (λ xs. read (suc k) played ++ xs) (quiet k) ∙ append-nil (read (suc k) played))) r.2)
+
+-- the line is of receiver n, which is another now
+pub receiver_moves : (i : Identity) (played : List Played) (order : Order) (lines : List LineContent) (s t : ScriptState) (n : ℕ) (r mid : Receiver) → slice_get s.receivers n ≡ Some r → t.receivers ≡ slice_set s.receivers n mid → ((k : ℕ) → (n ≡ k → ⊥) → (joined_by k order lines ≡ []) × (polled_by k order lines ≡ [])) → Follows i mid (joins n (and_line played order lines)) (polled n (and_line played order lines)) (AllWhole n (and_line played order lines)) → ((k : ℕ) → k < 8 → HasFollowed i played s k) → (k : ℕ) → k < 8 → HasFollowed i (and_line played order lines) t k
+receiver_moves i played order lines s t n r mid there is others now h k low =
+    ⊎_elim
+    (λ (e : n ≡ k). subst (λ x. HasFollowed i (and_line played order lines) t x) e (mid, ap (λ xs. slice_get xs n) is ∙ get_put s.receivers n mid (slice_get_within s.receivers n r there), now))
+    (λ (ne : n ≡ k → ⊥).
+    let old = h k low in
+    let quiet = others k ne in
+    (old.0, ap (λ xs. slice_get xs k) is ∙ get_other s.receivers n k mid (λ e. ne (sym e)) ∙ old.1, follows_quiet i k old.0 played order lines quiet.0 quiet.1 old.2))
+    (cases_eq n k)
+
+-- the receiver of a sound state, as the lemmas on its frames want it
+pub at_number : (i : Identity) (start readers : ℕ) (played : List Played) (s : ScriptState) (n : ℕ) (r q : Receiver) → IsSound i start readers played s → n < 8 → slice_get s.receivers n ≡ Some r → q.image ≡ r.image → q.consumers ≡ r.consumers → At s n q (joins n played) (polled n played) (AllWhole n played)
+at_number i start readers played s n r q h low there image consumers =
+    let known = h.receivers n low in
+    let found : Some r ≡ Some known.0 = sym there ∙ known.1 in
+    let same : known.0 ≡ r = cc in
+    let follows : Follows i r (joins n played) (polled n played) (AllWhole n played) = subst (λ x. Follows i x (joins n played) (polled n played) (AllWhole n played)) same known.2 in
+    record {
+      there = map_get image_of s.receivers n r there ∙ ap Some (ap (option_map (λ o. o.image)) (sym image));
+      follows = subst (λ x. Follows x q (joins n played) (polled n played) (AllWhole n played)) (sym h.identity) (record {
+        consumers = consumers ∙ follows.consumers;
+        image = subst (λ o. FollowsImage o i (joins n played) (polled n played) (AllWhole n played)) (sym image) follows.image;
+      });
+    }

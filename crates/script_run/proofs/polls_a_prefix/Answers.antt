@@ -1,0 +1,13 @@
+use Rattle.script_run.proofs.PolledPrefixes.{always_polled}
+use Rattle.script_run.proofs.polls_a_prefix.Goals as goal
+
+pub returns : goal.returns
+returns c = always_polled (record {
+  tiles = c.every_run.ensures.tiles;
+  bounds = c.every_run.ensures.bounds;
+  prefixes = c.every_run.ensures.polled;
+  entries = c.every_run.ensures.entries;
+  spelled = c.every_run.ensures.spelled;
+  places = record { place = c.names_place.ensures.place; header = c.names_place.ensures.header };
+  reading = λ a b bytes. c.one_reading.ensures bytes a b;
+})

@@ -1,0 +1,5 @@
+pub mod Answers
+pub mod LineContents
+pub mod Output
+pub mod Published
+pub mod ScriptState

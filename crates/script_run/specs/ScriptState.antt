@@ -1,0 +1,81 @@
+-- The state of a script.
+use Rattle.std.specs.Prelude.{ℕ, suc, ◌/◌, pos, Bool, true, false, List, [], ◌∷◌, ◌++◌, map, replicate, Option, None, Some}
+use Rattle.std.specs.Option.{option_map}
+use Rattle.theory.specs.Bytes.{Identity}
+use Rattle.theory.specs.Position.{max_message}
+use Rattle.theory.specs.Entry.{Entry}
+use Rattle.theory.specs.Consumer.{Consumer, consumer_at}
+use Rattle.theory.specs.Image.{Image}
+use Rattle.theory.specs.Log as stream
+use Rattle.theory.specs.Sender.{Sender}
+use Rattle.theory.specs.World.{World, opened_sender}
+use Rattle.term_buffer.specs.declared.claimed.Claimed.{Claimed}
+use Rattle.log_buffer.specs.Log.{Log, fresh}
+use Rattle.setup.specs.Naming.{Naming}
+use Rattle.receiver.specs.Receiving.{Receiver, listening}
+
+-- a log and its sender, eight receivers by their numbers, and the bytes of each packet that these gave out, in order
+pub record ScriptState : Type 0 where
+  pub log : Log
+  -- the entries that the log has forgotten
+  pub past : List Entry
+  -- the claims that are open, by their publishers' numbers
+  pub claims : List (Option Claimed)
+  -- the readers beside the sender, from number 1 on; an assembler hears each frame that one passes
+  pub readers : List Consumer
+  pub sender : Sender
+  -- when the sender last sent a SETUP, and whether a status message has come
+  pub naming : Naming
+  pub receivers : List Receiver
+  pub packets : List (List ℕ)
+
+-- all entries ever added
+abbrev pub entries_of : ScriptState → List Entry
+entries_of s = s.past ++ s.log.entries
+
+abbrev pub is_armed : Option ℕ → Bool
+is_armed None = false
+is_armed (Some partition) = true
+
+-- the log as a stream of all entries ever added; these were forgotten, and these are its readers beside the sender
+abbrev pub stream_of : List Entry → List Consumer → Log → stream.Log
+stream_of past readers l = record {
+  identity = l.identity;
+  start = l.start;
+  tail = l.tail;
+  entries = past ++ l.entries;
+  armed = map is_armed l.armed;
+  limit = l.limit;
+  connected = l.connected;
+  closed = l.closed;
+  cleaned = l.cleaned;
+  readers = map Some readers;
+}
+
+abbrev pub image_of : Receiver → Option Image
+image_of r = option_map (λ o. o.image) r.image
+
+-- the state without its packets and moments
+abbrev pub world_of : ScriptState → World
+world_of s = record { log = stream_of s.past s.readers s.log; sender = s.sender; images = map image_of s.receivers }
+
+-- a receiver of the log's session and stream, with half a term as its window, one consumer, and the log's greatest message
+abbrev pub listening_at : Identity → ℕ → Receiver
+listening_at i number = listening i.session i.stream (i.geometry.term_length / 2) (pos number) 1 (max_message i.geometry)
+
+-- the numbers of the eight receivers
+abbrev pub numbers : List ℕ
+numbers = 0 ∷ 1 ∷ 2 ∷ 3 ∷ 4 ∷ 5 ∷ 6 ∷ 7 ∷ []
+
+-- a log that was just opened at this start, with so many readers beside the sender
+abbrev pub opened_state : Identity → ℕ → ℕ → ScriptState
+opened_state i start readers = record {
+  log = fresh i start (suc readers);
+  past = [];
+  claims = replicate 8 None;
+  readers = replicate readers (consumer_at start);
+  sender = opened_sender start;
+  naming = record { clock = 0; last = None; heard = false };
+  receivers = map (listening_at i) numbers;
+  packets = [];
+}

@@ -1,0 +1,5 @@
+pub mod Cycling
+pub mod FirstNews
+pub mod OutboxSlots
+pub mod Outgoing
+pub mod Sending

@@ -1,0 +1,78 @@
+//! Which stream a sender sends.
+
+ghost use Rattle.std.specs.Prelude.{◌≡◌, ◌≤◌, ◌↔◌, length, IsTrue};
+ghost use Rattle.theory.specs.Position.{IsGeometry, max_position};
+ghost use Rattle.theory.specs.Control.{setup_at};
+ghost use Rattle.theory.specs.Wire.{IsFrame, spelling};
+ghost use Rattle.frames.specs.Frames.{status_of, wire};
+ghost use Rattle.sender.specs.Cycling.{IsOwn};
+
+use frames::{Frame, Setup, Status};
+use position::Geometry;
+use std::marker::Model;
+
+/// A stream: its shape, and the ids of each of its frames.
+#[derive(Clone, Copy)]
+pub struct Identity {
+    geometry: Geometry,
+    session: i32,
+    stream: i32,
+}
+
+impl Model for Identity {
+    ghost use Rattle.theory.specs.Bytes as meant;
+
+    ghost Value = { meant.Identity };
+
+    ghost view = { λ i. record { geometry = i.geometry; session = i.session; stream = i.stream } };
+
+    ghost inverse = { λ i. record { geometry = i.geometry; session = i.session; stream = i.stream } };
+}
+
+impl Identity {
+    pub fn new(geometry: Geometry, session: i32, stream: i32) -> Identity
+        ensures { result ≡ record { geometry = geometry; session = session; stream = stream } }
+    {
+        Identity {
+            geometry,
+            session,
+            stream,
+        }
+    }
+
+    /// The shape of the stream.
+    pub fn geometry(&self) -> Geometry
+        ensures value { result ≡ self.now.geometry }
+        ensures legal { IsGeometry result }
+    {
+        let _ = self.geometry.mtu();
+        self.geometry
+    }
+
+    /// Whether a status message is of this session and stream.
+    pub fn is_own(&self, status: &Status) -> bool
+        ensures { IsTrue result ↔ IsOwn self.now (status_of status.now) }
+    {
+        status.session == self.session && status.stream == self.stream
+    }
+
+    /// The SETUP of the stream at a position.
+    pub fn setup_frame(&self, position: u64) -> Frame<'static>
+        requires { position ≤ max_position self.now.geometry }
+        ensures frame { wire result ≡ setup_at self.now position }
+        ensures legal { IsFrame (wire result) }
+        ensures short { length (spelling (wire result)) ≤ self.now.geometry.mtu }
+    {
+        let place = self.geometry.term_of(position);
+        Frame::Setup(Setup {
+            term_offset: place.offset.cast_signed(),
+            session: self.session,
+            stream: self.stream,
+            initial_term_id: self.geometry.initial_term_id(),
+            active_term_id: place.term_id,
+            term_length: self.geometry.term_length().cast_signed(),
+            mtu: self.geometry.mtu().cast_signed(),
+            ttl: 0,
+        })
+    }
+}
