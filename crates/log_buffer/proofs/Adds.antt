@@ -3,8 +3,7 @@ use Rattle.std.proofs.Common.{◌≡◌, ℕ, ◌+◌, ◌-◌, ◌*◌, ◌%◌
 use Rattle.std.specs.Prelude.{slice_get, slice_index}
 use Rattle.theory.specs.Position.{aligned, framed_length, greatest_claim, max_message, max_position, span}
 use Rattle.theory.proofs.Claims.{claim_bounded, covers_framed}
-use Rattle.theory.proofs.LogSteps.{long_cuts}
-use Rattle.theory.proofs.Cuts.{cut_units}
+use Rattle.theory.proofs.Cuts.{long_cuts, cut_units}
 use Rattle.raw_tails.specs.Tails.{Tails}
 use Rattle.term_buffer.specs.Kept.{cuts_for}
 use Rattle.log_buffer.specs.Log.{Log, term_of}

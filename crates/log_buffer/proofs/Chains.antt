@@ -10,8 +10,8 @@ use Rattle.theory.specs.Entry.{Entry, IsEntry, committed, entry_end}
 use Rattle.theory.specs.Messages.{is_whole}
 use Rattle.theory.specs.Tiling.{Tiles}
 use Rattle.theory.proofs.Lists.{all_at, all_from, among_cases, among_left, among_right}
-use Rattle.theory.proofs.Frames.{AllBelow, AreCut, are_cut, committed_in_order, in_order_from, placed_below, tiles_le}
-use Rattle.theory.proofs.Messages.{chain_from, placed_before}
+use Rattle.theory.proofs.Frames.{AllBelow, AreCut, are_cut, committed_in_order, in_order_from, placed_below, tiles_le, placed_before}
+use Rattle.theory.proofs.Follow.{chain_from}
 
 -- ---- where frames are
 

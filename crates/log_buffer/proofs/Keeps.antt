@@ -16,7 +16,7 @@ use Rattle.theory.proofs.Follow.{passed_more}
 use Rattle.theory.proofs.Lists.{all_get, all_set, all_weaker, all_behind, all_front, all_pushed}
 use Rattle.theory.proofs.Tiling.{Tiles-push, tiles_split}
 use Rattle.theory.proofs.Frames.{Kept-push, tiles_le}
-use Rattle.theory.proofs.LogSteps.{span_unit}
+use Rattle.theory.proofs.Cuts.{span_unit}
 use Rattle.theory.proofs.Tables.{all_index, got_set, got_unset, sum_set}
 use Rattle.raw_tails.specs.Tails.{Tails, behind}
 use Rattle.raw_tails.specs.Tails.{added as tails_added, turned as tails_turned}

@@ -7,9 +7,8 @@ use Rattle.theory.specs.Units.{HasUnit, IsContiguous}
 use Rattle.theory.specs.ImageLaws.{held}
 use Rattle.rebuilder.specs.Held.{AreInOrder, IsStart}
 use Rattle.theory.proofs.Lists.{all_at, all_from}
-use Rattle.theory.proofs.Follow.{chain_span, chain_units, passed_along}
+use Rattle.theory.proofs.Follow.{chain_span, chain_units, passed_along, chain_from, chain_le}
 use Rattle.theory.proofs.Held.{held_among}
-use Rattle.theory.proofs.Messages.{chain_from, chain_le}
 use Rattle.rebuilder.proofs.Order.{apart, at_least}
 
 abbrev pub AreFull : List Placed → Type 0

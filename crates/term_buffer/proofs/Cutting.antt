@@ -3,10 +3,8 @@ use Rattle.std.proofs.Common.{◌≡◌, ℕ, zero, suc, ◌+◌, ◌-◌, ◌*�
 use Rattle.std.specs.List.{AllByRecursion, sum_by}
 use Rattle.theory.specs.Position.{Geometry, IsGeometry, aligned, max_payload, cuts_of, framed_length, span}
 use Rattle.theory.proofs.Claims.{covers_framed}
-use Rattle.theory.proofs.Cuts.{AreFull, cut_units, full_cuts, last_cut, span_before}
+use Rattle.theory.proofs.Cuts.{AreFull, cut_units, full_cuts, last_cut, span_before, long_cuts, cut_short}
 use Rattle.theory.proofs.Holds.{holds_bytes}
-use Rattle.theory.proofs.LogSteps.{long_cuts}
-use Rattle.theory.proofs.Wired.{cut_short}
 use Rattle.term_buffer.specs.Kept.{cuts_for}
 
 pub for_full : (g : Geometry) (b : Bool) (n : ℕ) → AreFull g.mtu (cuts_for g b n)

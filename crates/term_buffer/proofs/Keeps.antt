@@ -14,8 +14,7 @@ use Rattle.theory.specs.Tiling.{InOneTerm, Tiles}
 use Rattle.theory.specs.Wire.{front}
 use Rattle.theory.specs.Placed.{Pad}
 use Rattle.theory.specs.Bytes.{Identity}
-use Rattle.theory.proofs.Cuts.{short_cuts}
-use Rattle.theory.proofs.LogSteps.{span_unit}
+use Rattle.theory.proofs.Cuts.{short_cuts, span_unit}
 use Rattle.theory.proofs.Places.{term_ends}
 use Rattle.theory.proofs.Tiling.{Tiles-push}
 use Rattle.theory.proofs.Tables.{sum_set}

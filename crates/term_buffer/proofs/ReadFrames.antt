@@ -11,7 +11,7 @@ use Rattle.theory.specs.Placed.{Among, Data, Frame, Pad, Placed, frame_length, p
 use Rattle.theory.specs.Entry.{Entry, committed, flags_of}
 use Rattle.theory.specs.Tiling.{InOneTerm}
 use Rattle.theory.proofs.Lists.{among_cases, among_left, among_right}
-use Rattle.theory.proofs.LogSteps.{span_unit}
+use Rattle.theory.proofs.Cuts.{span_unit}
 use Rattle.position.specs.declared.head.FrameHead.{FrameHead}
 use Rattle.position.specs.declared.head.FrameKind.{FrameKind}
 use Rattle.position.specs.declared.head.FrameKind.TheVariants as kinds

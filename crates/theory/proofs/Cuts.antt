@@ -1,8 +1,8 @@
--- The frame lengths of a message: all but the last are full, and where each frame begins.
+-- The frame lengths of a message: all but the last are full, where each frame begins, and what they take together.
 use Rattle.std.proofs.Common.{◌≡◌, ℕ, zero, suc, ◌+◌, ◌-◌, ◌*◌, ◌/◌, ◌%◌, ◌<◌, ◌≤◌, ⊎_elim, List, [], ◌∷◌, ◌++◌, length, take, get_or, true, false, cond, refl, sym, ap, ◌∙◌, subst, arith}
 use Rattle.std.specs.List.{AllByRecursion, sum_by}
 use Rattle.std.specs.Prelude.{nat_le, nat_eq, replicate, ⊤}
-use Rattle.std.proofs.lemmas.Bool.{cases_Bool, leb-true, leb-false, le-leb, lt-leb, cond-true, cond-false}
+use Rattle.std.proofs.lemmas.Bool.{cases_Bool, leb-true, leb-false, le-leb, lt-leb, cond-true, cond-false, cases_lt}
 use Rattle.std.proofs.lemmas.List.Sums.{sum_by-cons}
 use Rattle.theory.specs.Position.{Geometry, aligned, max_payload, cuts_of, rest_cut, span}
 use Rattle.theory.proofs.Lists.{all_append, all_replicate}
@@ -73,4 +73,51 @@ cut_units g m l =
     ⊎_elim
     (λ (t : nat_le m (max_payload g) ≡ true). subst (λ b. AllByRecursion (λ cut. 32 ≤ cut) (cond b ((m + 32) ∷ []) (replicate (m / max_payload g) g.mtu ++ rest_cut (m % max_payload g)))) (sym t) (omega arith, tt))
     (λ (f : nat_le m (max_payload g) ≡ false). subst (λ b. AllByRecursion (λ cut. 32 ≤ cut) (cond b ((m + 32) ∷ []) (replicate (m / max_payload g) g.mtu ++ rest_cut (m % max_payload g)))) (sym f) (all_append (λ cut. 32 ≤ cut) (replicate (m / max_payload g) g.mtu) (rest_cut (m % max_payload g)) (all_replicate (λ cut. 32 ≤ cut) (m / max_payload g) g.mtu l) (rest_units (m % max_payload g))))
+    (cases_Bool (nat_le m (max_payload g)))
+
+-- ---- what they take together
+
+some_quotient : (m d : ℕ) → 0 < d → d ≤ m → 0 < m / d
+some_quotient m d p h =
+    ⊎_elim
+    (λ (l : 0 < m / d). l)
+    (λ (l : m / d ≤ 0). let none : m / d ≡ 0 = omega arith in absurd (omega (arith, ap (λ x. d * x) none)))
+    (cases_lt 0 (m / d))
+
+long_copies : (n cut : ℕ) (more : List ℕ) → 0 < n → 0 < cut → 0 < span (replicate n cut ++ more)
+long_copies zero cut more h p = absurd (omega arith)
+long_copies (suc n) cut more h p = omega arith
+
+pub long_cuts : (g : Geometry) (m : ℕ) → 0 < max_payload g → 0 < span (cuts_of g m)
+long_cuts g m p =
+    ⊎_elim
+    (λ (t : nat_le m (max_payload g) ≡ true). subst (λ b. 0 < span (cond b ((m + 32) ∷ []) (replicate (m / max_payload g) g.mtu ++ rest_cut (m % max_payload g)))) (sym t) (omega arith))
+    (λ (f : nat_le m (max_payload g) ≡ false).
+    let above : max_payload g < m = leb-false m (max_payload g) f in
+    let copies : 0 < span (replicate (m / max_payload g) g.mtu ++ rest_cut (m % max_payload g)) = long_copies (m / max_payload g) g.mtu (rest_cut (m % max_payload g)) (some_quotient m (max_payload g) p (omega arith)) (omega arith) in
+    subst (λ b. 0 < span (cond b ((m + 32) ∷ []) (replicate (m / max_payload g) g.mtu ++ rest_cut (m % max_payload g)))) (sym f) copies)
+    (cases_Bool (nat_le m (max_payload g)))
+
+pub span_unit : (cuts : List ℕ) → span cuts % 32 ≡ 0
+span_unit [] = refl
+span_unit (cut ∷ cuts) = omega (arith, span_unit cuts)
+
+-- ---- none is above the MTU
+
+rest_short : (rest mtu : ℕ) → rest + 32 ≤ mtu → AllByRecursion (λ cut. cut ≤ mtu) (rest_cut rest)
+rest_short rest mtu l =
+    ⊎_elim
+    (λ (t : nat_eq rest 0 ≡ true). subst (λ b. AllByRecursion (λ cut. cut ≤ mtu) (cond b [] ((rest + 32) ∷ []))) (sym t) tt)
+    (λ (f : nat_eq rest 0 ≡ false). subst (λ b. AllByRecursion (λ cut. cut ≤ mtu) (cond b [] ((rest + 32) ∷ []))) (sym f) (l, tt))
+    (cases_Bool (nat_eq rest 0))
+
+pub cut_short : (g : Geometry) (m : ℕ) → 256 ≤ g.mtu → AllByRecursion (λ cut. cut ≤ g.mtu) (cuts_of g m)
+cut_short g m l =
+    ⊎_elim
+    (λ (t : nat_le m (max_payload g) ≡ true). let within : m ≤ max_payload g = leb-true m (max_payload g) t in subst (λ b. AllByRecursion (λ cut. cut ≤ g.mtu) (cond b ((m + 32) ∷ []) (replicate (m / max_payload g) g.mtu ++ rest_cut (m % max_payload g)))) (sym t) (omega arith, tt))
+    (λ (f : nat_le m (max_payload g) ≡ false).
+    let long : 0 < max_payload g = omega arith in
+    let rest : m % max_payload g + 32 ≤ g.mtu = omega arith in
+    let whole : g.mtu ≤ g.mtu = omega arith in
+    subst (λ b. AllByRecursion (λ cut. cut ≤ g.mtu) (cond b ((m + 32) ∷ []) (replicate (m / max_payload g) g.mtu ++ rest_cut (m % max_payload g)))) (sym f) (all_append (λ cut. cut ≤ g.mtu) (replicate (m / max_payload g) g.mtu) (rest_cut (m % max_payload g)) (all_replicate (λ cut. cut ≤ g.mtu) (m / max_payload g) g.mtu whole) (rest_short (m % max_payload g) g.mtu rest)))
     (cases_Bool (nat_le m (max_payload g)))

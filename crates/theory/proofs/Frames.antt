@@ -67,6 +67,15 @@ pub placed_in_order : (p : ℕ) (fs : List Frame) → InOrder p (place_all p fs)
 placed_in_order p [] = tt
 placed_in_order p (f ∷ fs) = (omega arith, placed_in_order (p + aligned (frame_length f)) fs)
 
+pub placed_before : (p : ℕ) (cuts : List ℕ) (fs : List Frame) → AreCut cuts fs → AllByRecursion (λ cut. 0 < cut) cuts → AllByRecursion (λ s. s.at < p + span cuts) (place_all p fs)
+placed_before p cuts [] h k = tt
+placed_before p [] (f ∷ fs) h k = absurd h
+placed_before p (cut ∷ cuts) (f ∷ fs) h k =
+    let same : aligned (frame_length f) ≡ aligned cut = ap aligned h.0 in
+    let long : 0 < cut = k.0 in
+    let rest : AllByRecursion (λ s. s.at < p + aligned (frame_length f) + span cuts) (place_all (p + aligned (frame_length f)) fs) = placed_before (p + aligned (frame_length f)) cuts fs h.1 k.1 in
+    (omega arith, all_weaker (λ s. s.at < p + aligned (frame_length f) + span cuts) (λ s. s.at < p + (aligned cut + span cuts)) (λ s b. omega arith) (place_all (p + aligned (frame_length f)) fs) rest)
+
 pub tiles_le : (term p tail : ℕ) (es : List Entry) → Tiles term p tail es → p ≤ tail
 tiles_le term p tail [] h = omega (arith, h)
 tiles_le term p tail (e ∷ es) h = omega (arith, tiles_le term (entry_end e) tail es h.2, h.0)

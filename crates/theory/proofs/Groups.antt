@@ -3,19 +3,19 @@ use Rattle.std.proofs.Common.{◌≡◌, ℕ, zero, suc, ◌≤◌, ⊎_elim, Li
 use Rattle.std.specs.Prelude.{max, ⊤, ◌&&◌}
 use Rattle.std.proofs.lemmas.Bool.{cases_Bool, cond-true, cond-false}
 use Rattle.theory.specs.FlowLimit.{flow_limit}
-use Rattle.theory.specs.GroupLimit.{Heard, StatusCame, Ticked, moment_of, is_of, reach_of, best, is_live, all_heard, least_or, candidate, at_least, is_inside, group_limit, said_of}
+use Rattle.theory.specs.GroupLimit.{GroupEvent, StatusCame, Ticked, moment_of, is_of, reach_of, best, is_live, all_heard, least_or, candidate, at_least, is_inside, group_limit, said_of}
 use Rattle.theory.specs.SenderLaws.{GroupWithin}
 
 -- one message more doesn't lower the limit, and allows at least what it says
-limit_grows : (start : ℕ) (t : Heard) (ts : List Heard) → flow_limit start (said_of ts) ≤ flow_limit start (said_of (t ∷ ts))
+limit_grows : (start : ℕ) (t : GroupEvent) (ts : List GroupEvent) → flow_limit start (said_of ts) ≤ flow_limit start (said_of (t ∷ ts))
 limit_grows start (StatusCame r p w now) ts = omega arith
 limit_grows start (Ticked now) ts = omega arith
 
-reach_within : (start : ℕ) (t : Heard) (ts : List Heard) → reach_of t ≤ flow_limit start (said_of (t ∷ ts))
+reach_within : (start : ℕ) (t : GroupEvent) (ts : List GroupEvent) → reach_of t ≤ flow_limit start (said_of (t ∷ ts))
 reach_within start (StatusCame r p w now) ts = omega arith
 reach_within start (Ticked now) ts = omega arith
 
-best_within : (start r : ℕ) (ts : List Heard) → best r ts ≤ flow_limit start (said_of ts)
+best_within : (start r : ℕ) (ts : List GroupEvent) → best r ts ≤ flow_limit start (said_of ts)
 best_within start r [] = omega arith
 best_within start r (t ∷ ts) =
     ⊎_elim
@@ -31,7 +31,7 @@ least_within : (limit p : ℕ) (o : Option ℕ) → p ≤ limit → IsWithin lim
 least_within limit p None l h = l
 least_within limit p (Some q) l h = omega arith
 
-candidate_within : (start n now : ℕ) (ts : List Heard) → IsWithin (flow_limit start (said_of ts)) (candidate n now ts)
+candidate_within : (start n now : ℕ) (ts : List GroupEvent) → IsWithin (flow_limit start (said_of ts)) (candidate n now ts)
 candidate_within start zero now ts = tt
 candidate_within start (suc n) now ts =
     ⊎_elim
@@ -47,16 +47,16 @@ at_least_grows : (x : ℕ) (o : Option ℕ) → x ≤ at_least o x
 at_least_grows x None = omega arith
 at_least_grows x (Some p) = omega arith
 
-more_within : (group start limit : ℕ) (t : Heard) (ts : List Heard) (b : Bool) → IsWithin limit (candidate group (moment_of t) (t ∷ ts)) → group_limit group start ts ≤ limit → cond b (at_least (candidate group (moment_of t) (t ∷ ts)) (group_limit group start ts)) (group_limit group start ts) ≤ limit
+more_within : (group start limit : ℕ) (t : GroupEvent) (ts : List GroupEvent) (b : Bool) → IsWithin limit (candidate group (moment_of t) (t ∷ ts)) → group_limit group start ts ≤ limit → cond b (at_least (candidate group (moment_of t) (t ∷ ts)) (group_limit group start ts)) (group_limit group start ts) ≤ limit
 more_within group start limit t ts true h l = at_least_within limit (group_limit group start ts) (candidate group (moment_of t) (t ∷ ts)) h l
 more_within group start limit t ts false h l = l
 
-within : (group start : ℕ) (ts : List Heard) → group_limit group start ts ≤ flow_limit start (said_of ts)
+within : (group start : ℕ) (ts : List GroupEvent) → group_limit group start ts ≤ flow_limit start (said_of ts)
 within group start [] = omega arith
 within group start (t ∷ ts) =
     more_within group start (flow_limit start (said_of (t ∷ ts))) t ts (is_inside group t && all_heard group (t ∷ ts)) (candidate_within start group (moment_of t) (t ∷ ts)) (omega (arith, within group start ts, limit_grows start t ts))
 
-grows : (group start : ℕ) (t : Heard) (ts : List Heard) → group_limit group start ts ≤ group_limit group start (t ∷ ts)
+grows : (group start : ℕ) (t : GroupEvent) (ts : List GroupEvent) → group_limit group start ts ≤ group_limit group start (t ∷ ts)
 grows group start t ts = at (is_inside group t && all_heard group (t ∷ ts))
   where
     at : (b : Bool) → group_limit group start ts ≤ cond b (at_least (candidate group (moment_of t) (t ∷ ts)) (group_limit group start ts)) (group_limit group start ts)

@@ -6,35 +6,35 @@ use Rattle.theory.specs.Wire.{spelling, Header, IsFrame, IsDataFlags, DATA, PAD,
 use Rattle.theory.specs.Placed.{Placed}
 use Rattle.theory.specs.Gap.{Gap}
 use Rattle.theory.specs.FlowLimit.{flow_limit}
-use Rattle.theory.specs.GroupLimit.{Heard, StatusCame, Ticked, group_limit}
+use Rattle.theory.specs.GroupLimit.{GroupEvent, StatusCame, Ticked, group_limit}
 use Rattle.theory.specs.Resend.{Action, kept, nak_answer, OutOfRange, resent, answered}
 use Rattle.theory.specs.Control.{setup_at, status_at}
 use Rattle.theory.specs.Timing.{Scanned, scan}
 use Rattle.theory.specs.Wire
 use Rattle.theory.proofs.Rows.{identity, the_geometry, frame_of}
 
-abbrev t1 : List Heard
+abbrev t1 : List GroupEvent
 t1 = StatusCame (pos 0) (pos 0) (pos 32768) 0 ∷ []
 
-abbrev t2 : List Heard
+abbrev t2 : List GroupEvent
 t2 = StatusCame (pos 1) (pos 0) (pos 1408) 1000000 ∷ t1
 
-abbrev t3 : List Heard
+abbrev t3 : List GroupEvent
 t3 = StatusCame (pos 1) (pos 1024) (pos 1408) 2000000 ∷ t2
 
-abbrev t4 : List Heard
+abbrev t4 : List GroupEvent
 t4 = StatusCame (pos 0) (pos 4096) (pos 32768) 3000000 ∷ t3
 
-abbrev t5 : List Heard
+abbrev t5 : List GroupEvent
 t5 = Ticked 5002000000 ∷ t4
 
-abbrev t6 : List Heard
+abbrev t6 : List GroupEvent
 t6 = Ticked 5002000001 ∷ t5
 
-abbrev t7 : List Heard
+abbrev t7 : List GroupEvent
 t7 = Ticked 5003000001 ∷ t6
 
-abbrev t8 : List Heard
+abbrev t8 : List GroupEvent
 t8 = StatusCame (pos 1) (pos 1024) (pos 1408) 5003000002 ∷ t7
 
 group_rows : (group_limit 2 0 t1 ∷ group_limit 2 0 t2 ∷ group_limit 2 0 t3 ∷ group_limit 2 0 t4 ∷ group_limit 2 0 t5 ∷ group_limit 2 0 t6 ∷ group_limit 2 0 t7 ∷ group_limit 2 0 t8 ∷ []) ≡ (0 ∷ 1408 ∷ 2432 ∷ 2432 ∷ 2432 ∷ 36864 ∷ 36864 ∷ 36864 ∷ [])

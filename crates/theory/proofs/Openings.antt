@@ -7,8 +7,7 @@ use Rattle.std.proofs.Math.Nat.{mul-le-mul_right}
 use Rattle.theory.specs.Position.{Geometry, IsGeometry, max_position, Place, place_of}
 use Rattle.theory.specs.SenderLaws.{SetupOpens}
 use Rattle.theory.proofs.Named.{counts}
-use Rattle.theory.proofs.LogSteps.{mod_unit}
-use Rattle.theory.proofs.WorldSteps.{power_unit}
+use Rattle.theory.proofs.Places.{mod_unit, power_unit}
 
 -- a place is within its term, a whole number of units, and adds to the position
 record IsAt (g : Geometry) (p : ℕ) (x : Place) : Type 0 where

@@ -10,7 +10,7 @@ use Rattle.theory.specs.Image.{is_accepted, Image, after_insert, after_heartbeat
 use Rattle.theory.specs.ImageLaws.{ImageAlways, IsApart, IsParted, AreParted}
 use Rattle.theory.proofs.Lists.{all_at, all_from, any_here}
 use Rattle.theory.proofs.Held.{apart_always, beat_stores, stored_only}
-use Rattle.theory.proofs.Messages.{chain_le}
+use Rattle.theory.proofs.Follow.{chain_le}
 
 -- ---- frames are stored from the join on
 

@@ -1,20 +1,16 @@
--- The log's definitions at worked examples: term length 65536, MTU 1408, first term 7, session 1, stream 1001.
-use Rattle.std.specs.Prelude.{◌≡◌, ℕ, ◌+◌, ◌*◌, ◌-◌, pos, negsuc, true, false, List, [], ◌∷◌, replicate, map, None}
-use Rattle.std.proofs.Common.{refl, arith}
+-- Definitions at worked examples: term length 65536, MTU 1408, first term 7, session 1, stream 1001.
+use Rattle.std.specs.Prelude.{◌≡◌, ℕ, ◌+◌, ◌-◌, pos, negsuc, true, false, List, [], ◌∷◌, replicate, None}
+use Rattle.std.proofs.Common.{refl}
 use Rattle.theory.specs.Position.{Geometry, cuts_of, span, framed_length, id_of, position_of, max_message}
 use Rattle.theory.specs.Wire.{HEARTBEAT, NAK, SETUP, spelling}
 use Rattle.theory.specs.Placed.{Data, Pad, Placed}
-use Rattle.theory.specs.Entry.{Entry, flags_of, entry_end, committed}
-use Rattle.theory.specs.Tiling.{all_shares, share_of}
-use Rattle.theory.specs.Bytes.{Identity, bytes_of, byte_at, Byte, Empty, Undefined, header_at}
-use Rattle.theory.specs.Units.{contiguous}
-use Rattle.theory.specs.Messages.{messages}
+use Rattle.theory.specs.Entry.{flags_of}
+use Rattle.theory.specs.Bytes.{Identity, bytes_of, header_at}
 use Rattle.theory.specs.Assembly.{nothing_heard, after_all}
 use Rattle.theory.specs.FlowLimit.{flow_limit}
 use Rattle.theory.specs.Resend.{nak_answer, OutOfRange, Taken, Lingering, NotAFrameStart}
 use Rattle.theory.specs.Datagrams.{grouped}
 use Rattle.theory.specs.Words.{tail_word, fresh_tails, greatest_shown}
-use Rattle.theory.specs.Log.{Log, LogStep, Arm, Add, Miss, entry_for, aborted_at}
 
 abbrev pub the_geometry : Geometry
 the_geometry = record { term_length = 65536; mtu = 1408; initial_term_id = pos 7 }
@@ -29,7 +25,7 @@ abbrev pub pad_of : ℕ → ℕ → Placed
 pad_of p n = record { at = p; frame = Pad n }
 
 -- the message abc at 0
-abbrev abc : List ℕ
+abbrev pub abc : List ℕ
 abc = 97 ∷ 98 ∷ 99 ∷ []
 
 abbrev abc_bytes : List ℕ
@@ -58,20 +54,6 @@ greatest = refl
 greatest_span : span (cuts_of the_geometry 8192) ≡ 8384
 greatest_span = refl
 
-abbrev log_at : ℕ → List Entry → Log
-log_at tail es = record { identity = identity; start = 57152; tail = tail; entries = es; armed = true ∷ []; limit = 89920; connected = true; closed = false; cleaned = 57152; readers = [] }
-
--- at the term's end the next message begins the next term
-next_term : entry_end (entry_for (log_at 65536 []) 0 3) ≡ 65600
-next_term = refl
-
-refused_at_end : LogStep (57152 ∷ []) (log_at 65536 []) (Miss 0) (record (log_at 65536 []) { armed = false ∷ [] })
-refused_at_end = (refl, refl)
-
--- a message that trips the end: a padding of 8352
-tripped : entry_for (log_at 57184 []) 0 8192 ≡ record { start = 57184; owner = 0; padding = true; cuts = 8352 ∷ []; frames = [] }
-tripped = refl
-
 padding_bytes : bytes_of identity (pad_of 57184 8352) ≡ 0xa0 ∷ 0x20 ∷ 0 ∷ 0 ∷ 0 ∷ 0xc0 ∷ 0 ∷ 0 ∷ 0x60 ∷ 0xdf ∷ 0 ∷ 0 ∷ 1 ∷ 0 ∷ 0 ∷ 0 ∷ 0xe9 ∷ 3 ∷ 0 ∷ 0 ∷ 7 ∷ 0 ∷ 0 ∷ 0 ∷ 0 ∷ 0 ∷ 0 ∷ 0 ∷ 0 ∷ 0 ∷ 0 ∷ 0 ∷ []
 padding_bytes = refl
 
@@ -81,33 +63,6 @@ wrapped_id = refl
 
 wrapped_position : position_of (record { term_length = 65536; mtu = 1408; initial_term_id = pos 2147483647 }) (negsuc 2147483647) (pos 0) ≡ pos 65536
 wrapped_position = refl
-
--- a claim of 100 bytes, and abc behind it
-abbrev open_claim : List Entry
-open_claim =
-    record { start = 0; owner = 0; padding = false; cuts = 132 ∷ []; frames = [] }
-    ∷ record { start = 160; owner = 1; padding = false; cuts = 35 ∷ []; frames = Data 192 abc ∷ [] } ∷ []
-
-claim_end : entry_end (entry_for (record (log_at 0 []) { start = 0 }) 0 100) ≡ 160
-claim_end = refl
-
-nothing_read : contiguous (committed open_claim) 0 224 ≡ 0
-nothing_read = refl
-
-aborted : committed (map (aborted_at 0) open_claim) ≡ pad_of 0 132 ∷ record { at = 160; frame = Data 192 abc } ∷ []
-aborted = refl
-
-all_read : contiguous (committed (map (aborted_at 0) open_claim)) 0 224 ≡ 224
-all_read = refl
-
-two_shares : ((share_of 0 open_claim) ∷ (share_of 1 open_claim) ∷ (all_shares open_claim) ∷ []) ≡ (160 ∷ 64 ∷ 224 ∷ [])
-two_shares = refl
-
-its_messages : messages 0 224 (map (aborted_at 0) open_claim) ≡ abc ∷ []
-its_messages = refl
-
-its_bytes : ((byte_at identity (map (aborted_at 0) open_claim) 0) ∷ (byte_at identity (map (aborted_at 0) open_claim) 32) ∷ (byte_at identity (map (aborted_at 0) open_claim) 192) ∷ (byte_at identity open_claim 0) ∷ []) ≡ ((Byte 132) ∷ Empty ∷ (Byte 97) ∷ Undefined ∷ [])
-its_bytes = refl
 
 nak_bytes : spelling (NAK (record { session = pos 1; stream = pos 1001; term_id = pos 7; term_offset = pos 64; length = pos 64 })) ≡ 0x1c ∷ 0 ∷ 0 ∷ 0 ∷ 0 ∷ 0 ∷ 2 ∷ 0 ∷ 1 ∷ 0 ∷ 0 ∷ 0 ∷ 0xe9 ∷ 3 ∷ 0 ∷ 0 ∷ 7 ∷ 0 ∷ 0 ∷ 0 ∷ 0x40 ∷ 0 ∷ 0 ∷ 0 ∷ 0x40 ∷ 0 ∷ 0 ∷ 0 ∷ []
 nak_bytes = refl
@@ -139,13 +94,6 @@ datagrams = refl
 empty_message : span (cuts_of the_geometry 0) ≡ 32
 empty_message = refl
 
-to_the_end : (entry_end (entry_for (log_at 57152 []) 0 8192) ∷ 57152 ∷ []) ≡ (65536 ∷ 57152 ∷ [])
-to_the_end = refl
-
--- the last term's end: 33 bytes want 96, and 64 are left
-last_padding : (entry_for (log_at 140737488355264 []) 0 33).cuts ≡ 64 ∷ []
-last_padding = refl
-
 beat_bytes : spelling (HEARTBEAT (header_at identity 64)) ≡ 0 ∷ 0 ∷ 0 ∷ 0 ∷ 0 ∷ 0xc0 ∷ 1 ∷ 0 ∷ 0x40 ∷ 0 ∷ 0 ∷ 0 ∷ 1 ∷ 0 ∷ 0 ∷ 0 ∷ 0xe9 ∷ 3 ∷ 0 ∷ 0 ∷ 7 ∷ 0 ∷ 0 ∷ 0 ∷ 0 ∷ 0 ∷ 0 ∷ 0 ∷ 0 ∷ 0 ∷ 0 ∷ 0 ∷ []
 beat_bytes = refl
 
@@ -165,25 +113,3 @@ last_shown = refl
 -- the tail word behind abc in a fresh log, and the words that a trip and a rotation leave
 tail_words : (tail_word (pos 7) 64 ∷ tail_word (pos 7) (57184 + 8384) ∷ tail_word (pos 8) 0 ∷ []) ≡ (0x0000000700000040 ∷ 0x0000000700010020 ∷ 0x0000000800000000 ∷ [])
 tail_words = refl
-
--- the greatest message behind that trip
-after_trip : entry_end (entry_for (log_at 65536 []) 0 8192) ≡ 73920
-after_trip = refl
-
--- 23 messages of 1376 bytes and one of 320 from 0, then 100 bytes past the limit
-abbrev many : ℕ
-many = 23 * framed_length the_geometry 1376 + framed_length the_geometry 320
-
-past_limit : (many ∷ entry_end (entry_for (log_at 32736 []) 0 100) ∷ []) ≡ (32736 ∷ 32896 ∷ [])
-past_limit = refl
-
--- at the limit nobody can be armed any more
-no_arm : (new : Log) → LogStep [] (record (log_at 89920 []) { start = 0 }) (Arm 0 89920) new → ⊥
-no_arm new h = absurd (omega (arith, h.2))
-
--- the last term's end: a padding of 64, and the log is full
-last_end : entry_end (entry_for (log_at 140737488355264 []) 0 33) ≡ 140737488355328
-last_end = refl
-
-no_more : (new : Log) (bytes : ℕ) → LogStep [] (log_at 140737488355328 []) (Add 0 bytes) new → ⊥
-no_more new bytes h = absurd (omega (arith, h.3))

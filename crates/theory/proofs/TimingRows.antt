@@ -5,7 +5,7 @@ use Rattle.theory.specs.Position.{count_of, IsTermLength}
 use Rattle.theory.specs.Wire.{Header, Setup, DATA, PAD, HEARTBEAT, NAK, StandTogether, SM, spelling}
 use Rattle.theory.specs.Wire
 use Rattle.theory.specs.Setup.{NamesPosition}
-use Rattle.theory.specs.Timing.{deadline, seen, is_setup_due, is_heartbeat_due, is_status_due, Told}
+use Rattle.theory.specs.Timing.{deadline, seen, is_setup_due, is_heartbeat_due, is_status_due, LastStatus}
 use Rattle.theory.specs.Resend.{Action, nak_answer, Full, Taken, Lingering}
 use Rattle.theory.proofs.Rows.{the_geometry, frame_of}
 
@@ -15,7 +15,7 @@ setups = refl
 heartbeats : (is_heartbeat_due [] false 0 ∷ is_heartbeat_due [] true 0 ∷ is_heartbeat_due (7 ∷ []) true 100000006 ∷ is_heartbeat_due (7 ∷ []) true 100000007 ∷ []) ≡ (false ∷ true ∷ false ∷ true ∷ [])
 heartbeats = refl
 
-abbrev first : Told
+abbrev first : LastStatus
 first = record { now = 0; position = 64 }
 
 statuses : (is_status_due [] 32768 0 0 ∷ is_status_due (first ∷ []) 32768 8255 199999999 ∷ is_status_due (first ∷ []) 32768 8256 1 ∷ is_status_due (first ∷ []) 32768 64 200000000 ∷ []) ≡ (true ∷ false ∷ true ∷ true ∷ [])

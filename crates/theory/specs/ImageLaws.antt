@@ -1,10 +1,9 @@
 -- Laws on images, whatever frames they are given.
-use Rattle.std.specs.Prelude.{◌≡◌, ℕ, ◌+◌, ◌*◌, ◌/◌, ◌%◌, ◌<◌, ◌≤◌, ◌⊎◌, List, map, nat_le}
+use Rattle.std.specs.Prelude.{◌≡◌, ℕ, ◌+◌, ◌*◌, ◌/◌, ◌<◌, ◌≤◌, ◌⊎◌, List, map, nat_le}
 use Rattle.std.specs.List.{AllByRecursion, filter}
 use Rattle.theory.specs.Position.{Geometry}
-use Rattle.theory.specs.Placed.{Among, IsReached, Placed, covered, end_of}
-use Rattle.theory.specs.Units.{IsContiguous, contiguous}
-use Rattle.theory.specs.Gap.{IsFirstGap}
+use Rattle.theory.specs.Placed.{Among, IsReached, Placed, end_of}
+use Rattle.theory.specs.Units.{IsContiguous}
 use Rattle.theory.specs.Insert.{AreApart, Head, head_of, insert_answer}
 use Rattle.theory.specs.Image.{Image, ImageEvent, ImageRun, image_at}
 
@@ -41,11 +40,3 @@ AnswersWithout = (g : Geometry) (frames : List Placed) (m window : ℕ) (h : Hea
 -- and so is the contiguous end, counted from there
 abbrev pub ReachesWithout : Type 0
 ReachesWithout = (frames : List Placed) (j q m passed : ℕ) → m ≡ j + 32 * passed → m ≤ q → AreParted m frames → IsContiguous frames j q → IsContiguous (held m frames) m q
-
--- the end that is computed is the contiguous one, and the only one
-abbrev pub ComputesContiguous : Type 0
-ComputesContiguous = (frames : List Placed) (j high : ℕ) → AllByRecursion (λ s. end_of s ≤ high) frames → IsContiguous frames j (contiguous frames j high) × ((q : ℕ) → IsContiguous frames j q → q ≡ contiguous frames j high)
-
--- the gap that is computed there is the first one
-abbrev pub ComputesGap : Type 0
-ComputesGap = (term : ℕ) (frames : List Placed) (high j q : ℕ) → 0 < term → j % 32 ≡ 0 → q ≤ high → AllByRecursion (λ s. (s.at % 32 ≡ 0) × (0 < covered s)) frames → IsContiguous frames j q → IsFirstGap term frames high q

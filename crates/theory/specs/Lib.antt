@@ -9,7 +9,7 @@ pub mod Assembly
 pub mod Completion
 pub mod Units
 pub mod Gap
-pub mod Seats
+pub mod Numbered
 pub mod Consumer
 pub mod Insert
 pub mod Image
@@ -22,12 +22,7 @@ pub mod Datagrams
 pub mod Control
 pub mod Words
 pub mod Refusal
-pub mod Log
 pub mod Loss
-pub mod Sender
-pub mod World
-pub mod Headline
 pub mod Laws
 pub mod ImageLaws
 pub mod SenderLaws
-pub mod ExampleRun

@@ -28,13 +28,13 @@ is_heartbeat_due sent heard now = heard && has_passed 100000000 sent now
 
 -- ---- a receiver
 
--- a status message that went out: when, and the position that it named
-pub record Told : Type 0 where
+-- the status message that went out last: when, and the position that it named
+pub record LastStatus : Type 0 where
   pub now : ℕ
   pub position : ℕ
 
--- at the first tick; then when 200 ms have passed, or the least position has moved by a quarter of the window
-abbrev pub is_status_due : List Told → ℕ → ℕ → ℕ → Bool
+-- of the status messages that went out, newest first: at the first tick; then when 200 ms have passed, or the least position has moved by a quarter of the window
+abbrev pub is_status_due : List LastStatus → ℕ → ℕ → ℕ → Bool
 is_status_due [] window least now = true
 is_status_due (last ∷ before) window least now = nat_le (deadline last.now 200000000) now || nat_le window (4 * (least - last.position))
 

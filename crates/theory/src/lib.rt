@@ -1,15 +1,15 @@
 //! What the words of the driver's contracts mean: definitions and their laws, no code.
 //!
-//! A stream of entries and frames, their bytes, a network, images and polled messages. Each function here stands for
-//! laws on these definitions; it does nothing, and its contract is the law. `docs/DEFINITIONS.md` reads them aloud.
+//! A log's entries and words, frames and their bytes, an image and its consumers, what a sender and a receiver tell each
+//! other, and moments. Each function here stands for laws on these definitions; it does nothing, and its contract is the
+//! law. What happens to a log, a sender and images in a run stands in `model`. `docs/DEFINITIONS.md` reads both aloud.
 #![tactic(auto)]
 
 ghost use Rattle.theory.specs.Completion.{GivesWhole};
-ghost use Rattle.theory.specs.ExampleRun.{ItRuns, Opens};
-ghost use Rattle.theory.specs.ImageLaws.{ImageAlways, IsApart, IsParted, IsMarked, AnswersWithout, ReachesWithout, ComputesContiguous, ComputesGap};
-ghost use Rattle.theory.specs.Laws.{AddsToOwner, RetiresTo, CoversFramed, HoldsBytes, IsClaimBounded, HasOneReading, GivesMessages, HeaderNamesPlace, FreshShowsStart};
+ghost use Rattle.theory.specs.ImageLaws.{ImageAlways, IsApart, IsParted, IsMarked, AnswersWithout, ReachesWithout};
+ghost use Rattle.theory.specs.Laws.{CoversFramed, HoldsBytes, IsClaimBounded, HasOneReading, HeaderNamesPlace, FreshShowsStart};
 ghost use Rattle.theory.specs.Position.{NamesPlace};
-ghost use Rattle.theory.specs.SenderLaws.{CycleMaySend, GroupsWell, ResendsFirst, ResendsAsked, LimitIsGreatest, GroupWithin, TakesExactly, SetupOpens};
+ghost use Rattle.theory.specs.SenderLaws.{GroupWithin, LimitIsGreatest, TakesExactly, SetupOpens};
 ghost use Rattle.theory.specs.Wire.{HasOneSpelling};
 
 /// The id and the offset of a place name the position, and so does a frame's header.
@@ -36,20 +36,9 @@ pub fn fresh_words()
     ensures { FreshShowsStart }
 {}
 
-/// Whose the bytes of the stream are: an addition's are its publisher's, a retired publisher's are the other's.
-pub fn shares_follow_owners()
-    ensures add { AddsToOwner }
-    ensures retire { RetiresTo }
-{}
-
 /// An assembler gives a message exactly where a piece completes one.
 pub fn whole_messages()
     ensures { GivesWhole }
-{}
-
-/// Frames that follow each other are assembled to the messages between their ends.
-pub fn messages_between()
-    ensures { GivesMessages }
 {}
 
 /// Whatever frames an image is given: those that it stored never overlap, a consumer never stands inside one, and its
@@ -66,21 +55,6 @@ pub fn forgets_below()
     ensures reaches { ReachesWithout }
 {}
 
-/// The contiguous end and the gap that are computed are the ones that are defined.
-pub fn computes_end_and_gap()
-    ensures end { ComputesContiguous }
-    ensures gap { ComputesGap }
-{}
-
-/// What a cycle sends is what a sender may send, in datagrams of the grammar within the MTU; a resend sends the first
-/// of its range, and no others.
-pub fn cycle_sends()
-    ensures allowed { CycleMaySend }
-    ensures grouped { GroupsWell }
-    ensures resent { ResendsFirst }
-    ensures asked { ResendsAsked }
-{}
-
 /// The flow limit is the greatest of what was allowed, and a group's is within it and never falls.
 pub fn limit_is_greatest()
     ensures greatest { LimitIsGreatest }
@@ -95,12 +69,4 @@ pub fn takes_exactly()
 /// A sender's SETUP opens an image of its geometry at its position.
 pub fn setup_opens()
     ensures { SetupOpens }
-{}
-
-/// There is a run with fragments, an abort, a trip of a term's end, a loss, a resend and frames out of order, at whose end
-/// two images have polled two messages; and every legal geometry and start opens a world. So what holds of every run
-/// speaks of runs that there are.
-pub fn a_run()
-    ensures runs { ItRuns }
-    ensures opens { Opens }
 {}

@@ -1,0 +1,9 @@
+pub mod Log
+pub mod ShownWords
+pub mod Sender
+pub mod World
+pub mod Headline
+pub mod StreamLaws
+pub mod CycleLaws
+pub mod GapLaws
+pub mod ExampleRun

@@ -1,0 +1,68 @@
+//! The driver as a whole, as a model: one log, its sender and up to eight images, the events that may happen to them,
+//! and what holds after every list of events. No code.
+//!
+//! `every_run` is the headline, and `a_run` shows that there are runs. The other functions stand for the laws that the
+//! headline rests on. Each does nothing, and its contract is the law.
+#![tactic(auto)]
+
+ghost use Rattle.model.specs.CycleLaws.{CycleMaySend, GroupsWell, ResendsFirst, ResendsAsked};
+ghost use Rattle.model.specs.ExampleRun.{ItRuns, Opens};
+ghost use Rattle.model.specs.GapLaws.{ComputesContiguous, ComputesGap};
+ghost use Rattle.model.specs.Headline.{Always, IsTiled, IsRebuiltRight, IsBounded, IsPrefixPolled, IsReadable, ArePublished, AreSpelled, AreGapsTold, HasItsRoom};
+ghost use Rattle.model.specs.StreamLaws.{AddsToOwner, RetiresTo, GivesMessages};
+
+/// Whose the bytes of the stream are: an addition's are its publisher's, a retired publisher's are the other's.
+pub fn shares_follow_owners()
+    ensures add { AddsToOwner }
+    ensures retire { RetiresTo }
+{}
+
+/// Frames that follow each other are assembled to the messages between their ends.
+pub fn messages_between()
+    ensures { GivesMessages }
+{}
+
+/// The contiguous end and the gap that are computed are the ones that are defined.
+pub fn computes_end_and_gap()
+    ensures end { ComputesContiguous }
+    ensures gap { ComputesGap }
+{}
+
+/// What a cycle sends is what a sender may send, in datagrams of the grammar within the MTU; a resend sends the first
+/// of its range, and no others.
+pub fn cycle_sends()
+    ensures allowed { CycleMaySend }
+    ensures grouped { GroupsWell }
+    ensures resent { ResendsFirst }
+    ensures asked { ResendsAsked }
+{}
+
+/// There is a run with fragments, an abort, a trip of a term's end, a loss, a resend and frames out of order, at whose end
+/// two images have polled two messages; and every legal geometry and start opens a world. So what holds of every run
+/// speaks of runs that there are.
+pub fn a_run()
+    ensures runs { ItRuns }
+    ensures opens { Opens }
+{}
+
+/// What holds after every list of events from every opened world.
+pub fn every_run()
+    // Committed frames, paddings and open claims tile the stream, and the shares add to exactly that.
+    ensures tiles { Always IsTiled }
+    // Each rebuilt byte is the publisher's at that position.
+    ensures rebuilt { Always IsRebuiltRight }
+    // No consumer passes the contiguous end, nor that the high-water mark.
+    ensures bounds { Always IsBounded }
+    // What a subscriber polled is a prefix's messages.
+    ensures polled { Always IsPrefixPolled }
+    // The tail stays within what is limited and cleaned, whoever is armed.
+    ensures room { Always HasItsRoom }
+    // What a consumer may still read isn't cleaned.
+    ensures readable { Always IsReadable }
+    // Each entry is a publisher's, its frames are the first of its cuts, and these are a message's or one padding's.
+    ensures entries { Always ArePublished }
+    // Each frame that was ever sent has a spelling.
+    ensures spelled { Always AreSpelled }
+    // The gap that an image tells is its first one.
+    ensures gaps { Always AreGapsTold }
+{}
