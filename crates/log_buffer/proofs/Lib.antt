@@ -6,6 +6,7 @@ pub mod Held
 pub mod Ids
 pub mod Keeps
 pub mod Leasts
+pub mod Leaves
 pub mod Openings
 pub mod Readers
 pub mod Rotations

@@ -1,8 +1,11 @@
 pub mod Books
 pub mod Faults
+pub mod Leaves
 pub mod Lending
 pub mod Limits
 pub mod Log
+pub mod Openings
 pub mod Passes
 pub mod Reader
+pub mod Shown
 pub mod States

@@ -2,13 +2,12 @@
 
 ghost use Rattle.std.specs.Prelude.{◌≡◌, ◌+◌, ◌*◌, ◌%◌, ◌<◌, ◌≤◌, ◌^◌, true, length, slice_index};
 ghost use Rattle.theory.specs.Position.{greatest_claim};
+ghost use Rattle.log_buffer.specs.Leaves.{Leaves};
 ghost use Rattle.log_buffer.specs.Limits.{least};
-ghost use Rattle.log_buffer.specs.Log.{Cleans, IsHeld, IsLeast, IsLog, clean_end, term_of};
-ghost use Rattle.log_buffer.specs.Reader.{IsAt, Reader};
+ghost use Rattle.log_buffer.specs.Log.{Cleans, IsLeast, IsLog, clean_end, term_of};
 
 use crate::state::LogState;
-use crate::turns::Limit;
-use term_buffer::Claimed;
+use crate::word_calls::Limit;
 
 impl LogState {
     /// How many consumers the log has, 1 to 8.
@@ -60,8 +59,7 @@ impl LogState {
         requires lowest { IsLeast self.old.consumers lowest }
         requires below { self.old.cleaned + 8 ≤ clean_end self.old lowest }
         ensures cleaned { Cleans self.old (self.old.cleaned + 8) self.new }
-        ensures readers { (r : Reader) → IsAt self.old r → IsAt self.new r }
-        ensures claims { (c : Claimed) → IsHeld self.old c → IsHeld self.new c }
+        ensures leaves { Leaves self.old self.new }
     {
         self.buffer.clean();
     }
@@ -87,8 +85,7 @@ impl LogState {
         requires clean { limit.position + 8 * greatest_claim self.old.identity.geometry ≤ self.old.cleaned + 3 * term_of self.old }
         requires for_good { self.old.closed ≡ true → limit.closed ≡ true }
         ensures stored { self.new ≡ record self.old { limit = limit.position; connected = limit.connected; closed = limit.closed } }
-        ensures readers { (r : Reader) → IsAt self.old r → IsAt self.new r }
-        ensures claims { (c : Claimed) → IsHeld self.old c → IsHeld self.new c }
+        ensures leaves { Leaves self.old self.new }
     {
         self.limit = limit.position;
         self.connected = limit.connected;

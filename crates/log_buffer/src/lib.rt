@@ -12,7 +12,7 @@ mod peek;
 mod reader;
 mod state;
 mod step;
-mod turns;
+mod word_calls;
 mod writes;
 
 pub use book::{Book, close};
@@ -22,7 +22,7 @@ pub use raw_tails::RawTail;
 pub use state::LogState;
 pub use step::Step;
 pub use term_buffer::{Claimed, PUBLISHERS};
-pub use turns::{Added, Limit};
+pub use word_calls::{Added, Limit};
 
 #[cfg(test)]
 mod tests;

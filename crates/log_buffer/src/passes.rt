@@ -1,5 +1,6 @@
-ghost use Rattle.std.specs.Prelude.{◌≡◌, ◌<◌, ◌≤◌, ◌+◌, ◌%◌, ◌^◌, ◌++◌, [], ℕ, IfOk, vec_len, vec_capacity, All, length};
+ghost use Rattle.std.specs.Prelude.{◌≡◌, ◌<◌, ◌≤◌, ◌+◌, ◌%◌, ◌^◌, [], ℕ, IfOk, vec_len, vec_capacity, All, length};
 ghost use Rattle.std.specs.Borrow.{sem};
+ghost use Rattle.log_buffer.specs.Openings.{ArePasses};
 ghost use Rattle.log_buffer.specs.Passes.{AreAll, HaveBlocks};
 ghost use Rattle.log_buffer.specs.Reader.{AreReaders};
 
@@ -222,10 +223,7 @@ impl Parts {
         requires words { mtu % 8 ≡ 0 }
         requires start { start ≤ 2 ^ 55 }
         requires few { consumers ≤ 8 }
-        ensures publishers { IfOk result (λ parts. AreAll parts.publishers.items) }
-        ensures blocks { IfOk result (λ parts. HaveBlocks mtu parts.publishers.items) }
-        ensures readers { IfOk result (λ parts. AreReaders parts.readers.items start consumers) }
-        ensures count { IfOk result (λ parts. vec_len parts.readers ≡ consumers) }
+        ensures passes { IfOk result (λ parts. ArePasses mtu start consumers parts.publishers.items parts.readers.items) }
         ensures at_start { IfOk result (λ parts. All (λ reader. (reader.position ≡ start) × (reader.read_to ≡ start)) parts.readers.items) }
     {
         let blocks = blocks(alloc, mtu)?;

@@ -1,16 +1,15 @@
 //! The word calls of a reader: a frame's words, and its own position.
 
 ghost use Rattle.std.specs.Prelude.{◌≡◌, ◌<◌, ◌≤◌, length, IfSome, IfNone, slice_set};
-ghost use Rattle.theory.specs.Position.{IsGeometry};
 ghost use Rattle.term_buffer.specs.Heads.{IsStreamFrame};
-ghost use Rattle.log_buffer.specs.Log.{IsHeld, IsLog};
-ghost use Rattle.log_buffer.specs.Reader.{IsAt, Moves, Reader, Reads, ReadsNone, before_move};
+ghost use Rattle.log_buffer.specs.Leaves.{LeavesOtherReaders};
+ghost use Rattle.log_buffer.specs.Log.{IsLog};
+ghost use Rattle.log_buffer.specs.Reader.{IsAt, Moves, Reads, ReadsNone, before_move};
 
 use crate::passes::LogReader;
 use crate::state::LogState;
 use block::Block;
 use position::FrameHead;
-use term_buffer::Claimed;
 
 impl LogState {
     /// Loads the frame that is committed at a position: a message's part is copied to the block's front. There is none
@@ -35,8 +34,7 @@ impl LogState {
         requires settled { reader.now.read_to ≡ reader.now.position }
         ensures log { self.new ≡ record self.old { consumers = slice_set self.old.consumers reader.now.number reader.now.position } }
         ensures stands { IsAt self.new reader.now }
-        ensures others { (r : Reader) → IsAt self.old r → (r.number ≡ reader.now.number → ⊥) → IsAt self.new r }
-        ensures claims { (c : Claimed) → IsHeld self.old c → IsHeld self.new c }
+        ensures leaves { LeavesOtherReaders reader.now.number self.old self.new }
     {
         self.consumers[reader.number()] = reader.position();
     }

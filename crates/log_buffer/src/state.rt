@@ -1,4 +1,4 @@
-ghost use Rattle.std.specs.Prelude.{◌≡◌, ◌+◌, ◌-◌, ◌*◌, ◌/◌, ◌%◌, ◌<◌, ◌≤◌, ◌↔◌, ◌^◌, IfOk, IsErrOf, vec_len, All};
+ghost use Rattle.std.specs.Prelude.{◌≡◌, ◌-◌, ◌/◌, ◌%◌, ◌<◌, ◌≤◌, ◌↔◌, IfOk, IsErrOf};
 ghost use Rattle.theory.specs.Position.{IsGeometry, max_position};
 ghost use Rattle.term_buffer.specs.Kept.{fresh as term_fresh};
 
@@ -39,8 +39,7 @@ impl Model for LogState {
 
 impl LogState {
     ghost use Rattle.log_buffer.specs.Log.{IsLog, fresh};
-    ghost use Rattle.log_buffer.specs.Passes.{AreAll, HaveBlocks};
-    ghost use Rattle.log_buffer.specs.Reader.{AreReaders, IsAt};
+    ghost use Rattle.log_buffer.specs.Openings.{AreAtStart, ArePasses, IsConsumerCount, IsStart};
 
     /// A log at a start, unconnected, with its limit at the start, and its passes. The start is judged first, then
     /// the number of consumers; then memory is asked for.
@@ -53,17 +52,12 @@ impl LogState {
         consumers: usize,
     ) -> Result<(LogState, Parts), LogError>
         ensures log { IfOk result (λ r. r.0 ≡ fresh (record { geometry = geometry; session = session; stream = stream }) start consumers) }
-        ensures below { IfOk result (λ r. r.0.start < max_position r.0.identity.geometry) }
-        ensures publishers { IfOk result (λ r. AreAll r.1.publishers.items) }
-        ensures blocks { IfOk result (λ r. HaveBlocks geometry.mtu r.1.publishers.items) }
-        ensures readers { IfOk result (λ r. AreReaders r.1.readers.items start consumers) }
-        ensures count { IfOk result (λ r. vec_len r.1.readers ≡ consumers) }
-        ensures at_start { IfOk result (λ r. All (λ reader. (reader.position ≡ r.0.start) × (reader.read_to ≡ r.0.start)) r.1.readers.items) }
-        ensures stand { IfOk result (λ r. All (IsAt r.0) r.1.readers.items) }
-        ensures start { IsErrOf result LogError.Start ↔ (¬ ((start % 32 ≡ 0) × (start < max_position geometry))) }
-        ensures consumers { IsErrOf result LogError.Consumers ↔ ((start % 32 ≡ 0) × (start < max_position geometry) × (¬ ((1 ≤ consumers) × (consumers ≤ 8)))) }
-        ensures in_range { IfOk result (λ _. (start % 32 ≡ 0) × (start < max_position geometry) × (1 ≤ consumers) × (consumers ≤ 8)) }
-        ensures memory { IsErrOf result LogError.Memory → (start % 32 ≡ 0) × (start < max_position geometry) × (1 ≤ consumers) × (consumers ≤ 8) }
+        ensures passes { IfOk result (λ r. ArePasses geometry.mtu start consumers r.1.publishers.items r.1.readers.items) }
+        ensures readers { IfOk result (λ r. AreAtStart r.0 r.1.readers.items) }
+        ensures start { IsErrOf result LogError.Start ↔ (¬ IsStart geometry start) }
+        ensures consumers { IsErrOf result LogError.Consumers ↔ (IsStart geometry start × (¬ IsConsumerCount consumers)) }
+        ensures in_range { IfOk result (λ _. IsStart geometry start × IsConsumerCount consumers) }
+        ensures memory { IsErrOf result LogError.Memory → IsStart geometry start × IsConsumerCount consumers }
     {
         if !start.is_multiple_of(32) || start >= geometry.max_position() {
             return Err(LogError::Start);

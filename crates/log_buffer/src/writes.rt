@@ -4,8 +4,8 @@ ghost use Rattle.std.specs.Prelude.{◌≡◌, ◌*◌, ◌-◌, ◌<◌, IfSome
 ghost use Rattle.theory.specs.Position.{aligned};
 ghost use Rattle.block.specs.Bytes.{with_word};
 ghost use Rattle.term_buffer.specs.Kept.{after_next, next_length};
-ghost use Rattle.log_buffer.specs.Log.{IsAborted, IsDrafted, IsHeld, IsLog, IsOpen, MayAbort, draft_of, drafted, with_abort, with_commit, with_draft};
-ghost use Rattle.log_buffer.specs.Reader.{IsAt, Reader};
+ghost use Rattle.log_buffer.specs.Leaves.{LeavesOtherClaims};
+ghost use Rattle.log_buffer.specs.Log.{IsAborted, IsDrafted, IsOpen, MayAbort, draft_of, drafted, with_abort, with_commit, with_draft};
 
 use crate::state::LogState;
 use term_buffer::Claimed;
@@ -17,9 +17,7 @@ impl LogState {
         requires behind { 0 < index }
         requires inside { 8 * index < aligned (next_length self.old.identity.geometry claimed) }
         ensures stored { self.new ≡ with_draft self.old claimed (with_word (draft_of self.old claimed) (index - 1) word) }
-        ensures legal { IsLog self.old }
-        ensures readers { (r : Reader) → IsAt self.old r → IsAt self.new r }
-        ensures claims { (c : Claimed) → (c.owner ≡ claimed.owner → ⊥) → IsHeld self.old c → IsHeld self.new c }
+        ensures leaves { LeavesOtherClaims claimed.owner self.old self.new }
     {
         self.buffer.store(claimed, index, word);
     }
@@ -32,9 +30,7 @@ impl LogState {
         ensures committed { self.new ≡ with_commit self.old claimed (drafted self.old claimed) }
         ensures next { result ≡ after_next self.old.identity.geometry claimed }
         ensures still { IfSome result (λ claimed. IsOpen self.new claimed) }
-        ensures legal { IsLog self.old }
-        ensures readers { (r : Reader) → IsAt self.old r → IsAt self.new r }
-        ensures claims { (c : Claimed) → (c.owner ≡ claimed.owner → ⊥) → IsHeld self.old c → IsHeld self.new c }
+        ensures leaves { LeavesOtherClaims claimed.owner self.old self.new }
     {
         self.buffer.commit(claimed)
     }
@@ -45,9 +41,7 @@ impl LogState {
         requires may { MayAbort self.old claimed }
         requires written { IsAborted self.old claimed }
         ensures aborted { self.new ≡ with_abort self.old claimed }
-        ensures legal { IsLog self.old }
-        ensures readers { (r : Reader) → IsAt self.old r → IsAt self.new r }
-        ensures claims { (c : Claimed) → (c.owner ≡ claimed.owner → ⊥) → IsHeld self.old c → IsHeld self.new c }
+        ensures leaves { LeavesOtherClaims claimed.owner self.old self.new }
     {
         self.buffer.abort(claimed);
     }

@@ -1,28 +1,21 @@
-ghost use Rattle.std.specs.Prelude.{◌≡◌, ◌+◌, ◌<◌, ◌≤◌, length, IfSome, IfNone, slice_index, slice_set};
-ghost use Rattle.theory.specs.Position.{aligned};
-ghost use Rattle.term_buffer.specs.Heads.{IsStreamFrame};
-ghost use Rattle.log_buffer.specs.Log.{IsHeld, IsLog};
-ghost use Rattle.log_buffer.specs.Reader.{IsAt, Reader, Reads, ReadsNone};
+ghost use Rattle.std.specs.Prelude.{◌≡◌, ◌+◌, ◌<◌, ◌≤◌, length, IfSome, IfNone, slice_set};
+ghost use Rattle.log_buffer.specs.Leaves.{LeavesOtherReaders};
+ghost use Rattle.log_buffer.specs.Log.{IsLog};
+ghost use Rattle.log_buffer.specs.Reader.{IsAt};
+ghost use Rattle.log_reader.specs.Reading.{IsRead, ReadsNothing, StandsAt};
 
 use block::Block;
-use log_buffer::{Claimed, LogReader, LogState};
+use log_buffer::{LogReader, LogState};
 use position::{FrameHead, align32};
 
 /// Reads the frame that is committed at the reader's position: a message's part is copied to the block's front, and the
 /// reader stays. There is none where the frame that begins there isn't committed.
 pub fn next(log: &LogState, reader: &mut LogReader, block: &mut Block) -> Option<FrameHead>
     requires room { log.now.identity.geometry.mtu ≤ length block.old }
-    requires number { reader.old.number < length log.now.consumers }
-    requires stands { slice_index log.now.consumers reader.old.number ≡ reader.old.position }
+    requires stands { StandsAt log.now reader.old }
     ensures same_length { length block.new ≡ length block.old }
-    ensures here { IfSome result (λ head. head.start ≡ reader.old.position) }
-    ensures head { IfSome result (IsStreamFrame log.now.identity.geometry) }
-    ensures frame { IfSome result (λ head. Reads log.now reader.old.position head block.old block.new) }
-    ensures read { IfSome result (λ head. reader.new ≡ record reader.old { read_to = head.start + aligned head.frame_length }) }
-    ensures stays { IfSome result (λ head. IsAt log.now reader.new) }
-    ensures none { IfNone result (reader.new ≡ reader.old) }
-    ensures untouched { IfNone result (block.new ≡ block.old) }
-    ensures nothing { IfNone result (ReadsNone log.now reader.old.position) }
+    ensures read { IfSome result (λ head. IsRead log.now reader.old block.old head reader.new block.new) }
+    ensures none { IfNone result (ReadsNothing log.now reader.old block.old reader.new block.new) }
     ensures legal { IsLog log.now }
 {
     let head = log.load_frame(reader.position(), block)?;
@@ -38,8 +31,7 @@ pub fn advance(log: &mut LogState, reader: &mut LogReader) -> u64
     ensures moved { reader.new ≡ record reader.old { position = reader.old.read_to } }
     ensures position { result ≡ reader.new.position }
     ensures stands { IsAt log.new reader.new }
-    ensures others { (r : Reader) → IsAt log.old r → (r.number ≡ reader.old.number → ⊥) → IsAt log.new r }
-    ensures claims { (c : Claimed) → IsHeld log.old c → IsHeld log.new c }
+    ensures leaves { LeavesOtherReaders reader.old.number log.old log.new }
 {
     reader.step();
     log.store_consumer(reader);

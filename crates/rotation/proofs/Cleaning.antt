@@ -9,8 +9,9 @@ use Rattle.theory.specs.Position.{greatest_claim}
 use Rattle.theory.proofs.Claims.{claim_bounded}
 use Rattle.theory.proofs.Lists.{all_append, all_weaker}
 use Rattle.theory.proofs.Tiling.{tiles_append}
-use Rattle.log_buffer.specs.Log.{Cleans, IsHeld, IsLog, Log, clean_end, term_of}
-use Rattle.log_buffer.specs.Reader.{IsAt, Reader}
+use Rattle.log_buffer.specs.Leaves.{Leaves}
+use Rattle.log_buffer.specs.Log.{Cleans, IsLog, Log, clean_end, term_of}
+use Rattle.log_buffer.proofs.Leaves.{Leaves_then}
 
 -- tiled entries begin at the start or behind it
 pub all_from : (term p q : ℕ) (es : List Entry) → Tiles term p q es → AllByRecursion (λ e. p ≤ e.start) es
@@ -59,18 +60,16 @@ cleaned_is a b x h = ap (λ (l : Log). l.cleaned) h.new_is
 pub record IsCleaning (old : Log) (end : ℕ) (now : Log) : Type 0 where
   pub cleans : Cleans old now.cleaned now
   pub below : now.cleaned ≤ end
-  pub readers : (r : Reader) → IsAt old r → IsAt now r
-  pub claims : (c : _) → IsHeld old c → IsHeld now c
+  pub leaves : Leaves old now
 
 -- one word more
-pub cleans_on : (old b c : Log) (end : ℕ) → IsCleaning old end b → Cleans b (b.cleaned + 8) c → b.cleaned + 8 ≤ end → ((r : Reader) → IsAt b r → IsAt c r) → ((d : _) → IsHeld b d → IsHeld c d) → IsCleaning old end c
-cleans_on old b c end h k below readers claims =
+pub cleans_on : (old b c : Log) (end : ℕ) → IsCleaning old end b → Cleans b (b.cleaned + 8) c → b.cleaned + 8 ≤ end → Leaves b c → IsCleaning old end c
+cleans_on old b c end h k below leaves =
     let at : c.cleaned ≡ b.cleaned + 8 = cleaned_is b c (b.cleaned + 8) k in
     record {
       cleans = subst (λ (x : ℕ). Cleans old x c) (sym at) (cleans_more old b c b.cleaned (b.cleaned + 8) (omega arith) h.cleans k);
       below = omega (arith, at, below);
-      readers = λ r x. readers r (h.readers r x);
-      claims = λ d x. claims d (h.claims d x);
+      leaves = Leaves_then h.leaves leaves;
     }
 
 -- ---- the limit

@@ -1,15 +1,14 @@
 ghost use Rattle.std.specs.Prelude.{◌≡◌, ◌≤◌, ◌%◌, true};
-ghost use Rattle.log_buffer.specs.Log.{Cleans, IsHeld, IsLeast, IsLog, clean_end};
-ghost use Rattle.log_buffer.specs.Reader.{IsAt, Reader};
+ghost use Rattle.log_buffer.specs.Leaves.{Leaves};
+ghost use Rattle.log_buffer.specs.Log.{Cleans, IsLeast, IsLog, clean_end};
 ghost use Rattle.rotation.specs.Limited.{CleansAndLimits, raised};
 
-use log_buffer::{Claimed, Keeper, Limit, LogState};
+use log_buffer::{Keeper, Limit, LogState};
 
 /// Says whether somebody receives the stream.
 pub fn set_connected(log: &mut LogState, _keeper: &mut Keeper, connected: bool)
     ensures set { log.new ≡ record log.old { connected = connected } }
-    ensures readers { (r : Reader) → IsAt log.old r → IsAt log.new r }
-    ensures claims { (c : Claimed) → IsHeld log.old c → IsHeld log.new c }
+    ensures leaves { Leaves log.old log.new }
 {
     let limit = log.limit();
     log.store_limit(Limit { connected, ..limit });
@@ -18,8 +17,7 @@ pub fn set_connected(log: &mut LogState, _keeper: &mut Keeper, connected: bool)
 /// Closes the log, for good.
 pub fn set_closed(log: &mut LogState, _keeper: &mut Keeper)
     ensures set { log.new ≡ record log.old { closed = true } }
-    ensures readers { (r : Reader) → IsAt log.old r → IsAt log.new r }
-    ensures claims { (c : Claimed) → IsHeld log.old c → IsHeld log.new c }
+    ensures leaves { Leaves log.old log.new }
 {
     let limit = log.limit();
     log.store_limit(Limit {
@@ -34,9 +32,7 @@ pub fn clean_and_limit(log: &mut LogState, _keeper: &mut Keeper) -> u64
     ensures done { CleansAndLimits log.old log.new }
     ensures limit { result ≡ raised log.old }
     ensures unit { result % 32 ≡ 0 }
-    ensures legal { IsLog log.old }
-    ensures readers { (r : Reader) → IsAt log.old r → IsAt log.new r }
-    ensures claims { (c : Claimed) → IsHeld log.old c → IsHeld log.new c }
+    ensures leaves { Leaves log.old log.new }
 {
     let least = log.least_consumer();
     clean_below(log, least);
@@ -56,8 +52,7 @@ fn clean_below(log: &mut LogState, least: u64)
     requires readable { log.old.cleaned ≤ clean_end log.old least }
     requires legal { IsLog log.old }
     ensures cleaned { Cleans log.old (clean_end log.old least) log.new }
-    ensures readers { (r : Reader) → IsAt log.old r → IsAt log.new r }
-    ensures claims { (c : Claimed) → IsHeld log.old c → IsHeld log.new c }
+    ensures leaves { Leaves log.old log.new }
 {
     let length = u64::from(log.geometry().term_length());
     let end = log.start().max(least.saturating_sub(length));
@@ -72,8 +67,7 @@ fn clean_to(log: &mut LogState, least: u64, end: u64)
     requires further { log.old.cleaned ≤ end }
     requires legal { IsLog log.old }
     ensures cleaned { Cleans log.old end log.new }
-    ensures readers { (r : Reader) → IsAt log.old r → IsAt log.new r }
-    ensures claims { (c : Claimed) → IsHeld log.old c → IsHeld log.new c }
+    ensures leaves { Leaves log.old log.new }
 {
     while log.cleaned() < end {
         log.clean(least);

@@ -1,12 +1,12 @@
-ghost use Rattle.std.specs.Prelude.{◌≡◌, ℕ, ◌+◌, ◌<◌, ◌≤◌, ◌↔◌, IsTrue, length};
-ghost use Rattle.log_buffer.specs.Log.{IsFinished, IsHeld, counted};
+ghost use Rattle.std.specs.Prelude.{◌≡◌, ◌+◌, ◌<◌, ◌≤◌, ◌↔◌, IsTrue, length};
+ghost use Rattle.log_buffer.specs.Leaves.{Leaves};
+ghost use Rattle.log_buffer.specs.Log.{IsFinished};
 ghost use Rattle.log_buffer.specs.Passes.{HasSeenEnd};
-ghost use Rattle.log_buffer.specs.Reader.{IsAt, Reader};
 ghost use Rattle.rotation.specs.Rotated.{rotated, with_next};
 ghost use Rattle.rotation.specs.Turning.{Adds, Turns};
 
 use crate::ids::{shows_next, shows_two_before};
-use log_buffer::{Claimed, LogState, Publisher};
+use log_buffer::{LogState, Publisher};
 
 /// Turns from the term with this count, which is used up, to the next: exchanges the raw tail of the next partition and
 /// then the active count, each once at the most. Another publisher's turn is helped on.
@@ -15,10 +15,8 @@ pub fn rotate(log: &mut LogState, publisher: &mut Publisher, count: u32)
     requires seen { HasSeenEnd log.old.identity.geometry publisher.old.steps count }
     requires finished { IsFinished log.old count }
     ensures rotated { log.new ≡ rotated log.old count }
-    ensures identity { log.new.identity ≡ log.old.identity }
     ensures turns { Turns publisher.old publisher.new }
-    ensures readers { (r : Reader) → IsAt log.old r → IsAt log.new r }
-    ensures claims { (c : Claimed) → IsHeld log.old c → IsHeld log.new c }
+    ensures leaves { Leaves log.old log.new }
 {
     if begin_next(log, publisher, count) {
         let _ = log.exchange_count(publisher, count);
@@ -30,12 +28,10 @@ fn begin_next(log: &mut LogState, publisher: &mut Publisher, count: u32) -> bool
     requires few { length publisher.old.steps ≤ 4 }
     requires finished { IsFinished log.old count }
     ensures begun { log.new ≡ with_next log.old count }
-    ensures identity { log.new.identity ≡ log.old.identity }
     ensures further { count < log.new.newest }
     ensures shown { IsTrue result ↔ (log.new.newest ≤ count + 3) }
     ensures adds { Adds 2 1 0 publisher.old publisher.new }
-    ensures readers { (r : Reader) → IsAt log.old r → IsAt log.new r }
-    ensures claims { (c : Claimed) → IsHeld log.old c → IsHeld log.new c }
+    ensures leaves { Leaves log.old log.new }
 {
     let geometry = log.geometry();
     let loaded = log.load_next_tail(publisher, count);

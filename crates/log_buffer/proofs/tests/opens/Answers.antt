@@ -34,7 +34,7 @@ load_consumer-requires = λ c d.
 pub close-book-requires : goal.close-book-requires
 close-book-requires = λ c d.
     let at : 3 < 8 = omega arith in
-    let first = again d.in_ok-log.parts.publishers.items 3 d.begin.new.self at d.in_ok-log.ensures.publishers (ap (λ (p : Pass). p.number) d.begin.ensures.begun ∙ number_at _ 3 d.index_mut.result.now d.in_ok-log.ensures.publishers at d.index_mut.ensures.value) in
+    let first = again d.in_ok-log.parts.publishers.items 3 d.begin.new.self at d.in_ok-log.ensures.passes.publishers (ap (λ (p : Pass). p.number) d.begin.ensures.begun ∙ number_at _ 3 d.index_mut.result.now d.in_ok-log.ensures.passes.publishers at d.index_mut.ensures.value) in
     let second = again _ 3 d.load_limit-limit.new.publisher at first (ap (λ (p : Pass). p.number) d.load_limit-limit.ensures.step ∙ number_at _ 3 d.index_mut-2.result.now first at d.index_mut-2.ensures.value) in
     let third = again _ 3 d.load_count-count.new.publisher at second (ap (λ (p : Pass). p.number) d.load_count-count.ensures.step ∙ number_at _ 3 d.index_mut-3.result.now second at d.index_mut-3.ensures.value) in
     again _ 3 d.load_tail-tail.new.publisher at third (ap (λ (p : Pass). p.number) d.load_tail-tail.ensures.step ∙ number_at _ 3 d.index_mut-4.result.now third at d.index_mut-4.ensures.value)

@@ -1,15 +1,14 @@
-use Rattle.std.proofs.Common.{◌≡◌, false, true, ◌+◌, ◌-◌, ◌<◌, ◌≤◌, ap, refl, subst, sym, ◌∙◌, arith, rules}
+use Rattle.std.proofs.Common.{◌≡◌, false, true, ◌+◌, ◌-◌, ◌<◌, ◌≤◌, ap, refl, subst, ◌∙◌, arith, rules}
 use Rattle.std.specs.Prelude.{slice_index}
 use Rattle.theory.specs.Position.{framed_length}
-use Rattle.theory.proofs.Frames.{Kept-push}
 use Rattle.term_buffer.specs.Kept as kept
-use Rattle.log_buffer.specs.Log.{IsHeld, added, term_of}
-use Rattle.log_buffer.specs.Reader.{IsAt}
+use Rattle.term_buffer.specs.Kept.{Kept}
+use Rattle.log_buffer.specs.Log.{added, term_of}
 use Rattle.log_buffer.specs.contracts.state.LogState.{the_view}
 use Rattle.log_buffer.proofs.Adds.{Asks, Fits, Here, Rest, asks, fits_message, fits_rest, here, rest, takes_message, takes_rest}
-use Rattle.log_buffer.proofs.Held.{held_more, held_new}
+use Rattle.log_buffer.proofs.Held.{held_new}
 use Rattle.log_buffer.proofs.Keeps.{kept_passed, kept_taken, small_add}
-use Rattle.log_buffer.proofs.Readers.{at_kept}
+use Rattle.log_buffer.proofs.Leaves.{Leaves_entries, leaves_from, leaves_more}
 use Rattle.log_buffer.proofs.state.LogState.add.Goals as goal
 
 pub add-before-requires-clause-small : goal.add-before-requires-clause-small
@@ -108,50 +107,24 @@ invariant_of-self-else-before-covered c =
     let past : c.self.inside.buffer.identity.geometry.term_length < c.add-before.result.offset + c.framed_length-covered.result = omega (arith, term, c.if-before-covered.false) in
     rw (c.claim-else-before-covered.ensures.taken, c.add-before.ensures.added, term) (kept_taken (the_view c.self.inside) c.self.inside.tails c.self.inside.consumer_count c.number-owner.result c.partition_of-partition.result c.framed_length-covered.result true (c.self.inside.buffer.identity.geometry.term_length - c.add-before.result.offset) c.self.invariant a.got (search rules) a.most (takes_rest (the_view c.self.inside) c.self.inside.tails c.self.inside.consumer_count c.number-owner.result c.partition_of-partition.result c.add-before.result.offset c.framed_length-covered.result c.self.invariant h past))
 
-pub returns-then-before-length-clause-legal : goal.returns-then-before-length-clause-legal
-returns-then-before-length-clause-legal c =
-    let a : Asks (the_view c.self.inside) c.self.inside.tails c.number-owner.result c.partition_of-partition.result c.framed_length-covered.result c.args.size = asks (the_view c.self.inside) c.args.self.now c.self.inside.tails c.self.inside.consumer_count c.args.publisher.now.number c.number-owner.result c.args.count c.partition_of-partition.result c.framed_length-covered.result c.args.size c.self.invariant c.self.view_is c.requires.armed c.requires.short (search rules) c.partition_of-partition.ensures.value (c.framed_length-covered.ensures ∙ ap (λ g. framed_length g c.args.size) c.geometry-2.ensures) in
-    let term : c.term_length-length.result ≡ c.self.inside.buffer.identity.geometry.term_length = c.term_length-length.ensures.value ∙ ap (λ g. g.term_length) c.geometry.ensures in
-    let full : term_of (the_view c.self.inside) ≤ slice_index c.self.inside.tails.offsets c.partition_of-partition.result = omega (arith, c.add-before.ensures.offset, c.if-before-length.true, term) in
-    rw c.add-before.ensures.added (kept_passed (the_view c.self.inside) c.self.inside.tails c.self.inside.consumer_count c.number-owner.result c.partition_of-partition.result c.framed_length-covered.result c.self.invariant a.got a.most full).log
+pub returns-then-before-length-clause-leaves : goal.returns-then-before-length-clause-leaves
+returns-then-before-length-clause-leaves c = leaves_from c.self.view_is (Leaves_entries (the_view c.self.inside) _ c.self.invariant.log (invariant_of-self c).log refl refl refl refl refl)
 
-pub returns-then-before-covered-clause-held : goal.returns-then-before-covered-clause-held
-returns-then-before-covered-clause-held c =
+pub returns-then-before-covered-clause-gives : goal.returns-then-before-covered-clause-gives
+returns-then-before-covered-clause-gives c =
     let a : Asks (the_view c.self.inside) c.self.inside.tails c.number-owner.result c.partition_of-partition.result c.framed_length-covered.result c.args.size = asks (the_view c.self.inside) c.args.self.now c.self.inside.tails c.self.inside.consumer_count c.args.publisher.now.number c.number-owner.result c.args.count c.partition_of-partition.result c.framed_length-covered.result c.args.size c.self.invariant c.self.view_is c.requires.armed c.requires.short (search rules) c.partition_of-partition.ensures.value (c.framed_length-covered.ensures ∙ ap (λ g. framed_length g c.args.size) c.geometry-2.ensures) in
     let term : c.term_length-length.result ≡ c.self.inside.buffer.identity.geometry.term_length = c.term_length-length.ensures.value ∙ ap (λ g. g.term_length) c.geometry.ensures in
     let h : Here (the_view c.self.inside) c.self.inside.tails c.number-owner.result c.partition_of-partition.result c.add-before.result.offset c.framed_length-covered.result = here (the_view c.self.inside) c.self.inside.tails c.number-owner.result c.partition_of-partition.result c.add-before.result.offset c.framed_length-covered.result c.args.size c.term_length-length.result a c.add-before.ensures.offset c.if-before-length.false term in
     let inside : c.add-before.result.offset + c.framed_length-covered.result ≤ c.self.inside.buffer.identity.geometry.term_length = omega (arith, term, c.if-before-covered.true) in
     let f : Fits (the_view c.self.inside) false c.args.size = fits_message (the_view c.self.inside) c.self.inside.tails c.self.inside.consumer_count c.number-owner.result c.partition_of-partition.result c.add-before.result.offset c.framed_length-covered.result c.args.size c.self.invariant h a.is inside in
-    λ _. rw (c.claim.ensures.taken, c.add-before.ensures.added) (held_new (added (the_view c.self.inside) c.number-owner.result c.partition_of-partition.result c.framed_length-covered.result) _ _ c.number-owner.result c.args.size refl c.claim.ensures.claimed c.self.invariant.log.drafts f.below (subst (λ b. kept.IsOpen b c.claim.result) c.claim.ensures.taken c.claim.ensures.unset))
+    record {
+      claimed = search rules;
+      unset = search rules;
+      held = λ _. rw (c.claim.ensures.taken, c.add-before.ensures.added) (held_new (added (the_view c.self.inside) c.number-owner.result c.partition_of-partition.result c.framed_length-covered.result) _ _ c.number-owner.result c.args.size refl c.claim.ensures.claimed c.self.invariant.log.drafts f.below (subst (λ b. kept.IsOpen b c.claim.result) c.claim.ensures.taken c.claim.ensures.unset));
+    }
 
-pub returns-then-before-covered-clause-legal : goal.returns-then-before-covered-clause-legal
-returns-then-before-covered-clause-legal c =
-    let a : Asks (the_view c.self.inside) c.self.inside.tails c.number-owner.result c.partition_of-partition.result c.framed_length-covered.result c.args.size = asks (the_view c.self.inside) c.args.self.now c.self.inside.tails c.self.inside.consumer_count c.args.publisher.now.number c.number-owner.result c.args.count c.partition_of-partition.result c.framed_length-covered.result c.args.size c.self.invariant c.self.view_is c.requires.armed c.requires.short (search rules) c.partition_of-partition.ensures.value (c.framed_length-covered.ensures ∙ ap (λ g. framed_length g c.args.size) c.geometry-2.ensures) in
-    let term : c.term_length-length.result ≡ c.self.inside.buffer.identity.geometry.term_length = c.term_length-length.ensures.value ∙ ap (λ g. g.term_length) c.geometry.ensures in
-    let h : Here (the_view c.self.inside) c.self.inside.tails c.number-owner.result c.partition_of-partition.result c.add-before.result.offset c.framed_length-covered.result = here (the_view c.self.inside) c.self.inside.tails c.number-owner.result c.partition_of-partition.result c.add-before.result.offset c.framed_length-covered.result c.args.size c.term_length-length.result a c.add-before.ensures.offset c.if-before-length.false term in
-    let inside : c.add-before.result.offset + c.framed_length-covered.result ≤ c.self.inside.buffer.identity.geometry.term_length = omega (arith, term, c.if-before-covered.true) in
-    rw (c.claim.ensures.taken, c.add-before.ensures.added) (kept_taken (the_view c.self.inside) c.self.inside.tails c.self.inside.consumer_count c.number-owner.result c.partition_of-partition.result c.framed_length-covered.result false c.args.size c.self.invariant a.got (search rules) a.most (takes_message (the_view c.self.inside) c.self.inside.tails c.self.inside.consumer_count c.number-owner.result c.partition_of-partition.result c.add-before.result.offset c.framed_length-covered.result c.args.size c.self.invariant h a.is inside)).log
+pub returns-then-before-covered-clause-leaves : goal.returns-then-before-covered-clause-leaves
+returns-then-before-covered-clause-leaves c = leaves_from c.self.view_is (leaves_more (the_view c.self.inside) _ _ _ c.self.invariant.log (invariant_of-self-then-before-covered c).log (ap (λ (b : Kept). b.identity) c.claim.ensures.taken) refl (ap (λ (b : Kept). b.gone) c.claim.ensures.taken) (ap (λ (b : Kept). b.entries) c.claim.ensures.taken) (ap (λ (b : Kept). b.drafts) c.claim.ensures.taken))
 
-pub returns-then-before-covered-clause-readers : goal.returns-then-before-covered-clause-readers
-returns-then-before-covered-clause-readers c =
-    λ r was. rw (c.claim.ensures.taken, c.add-before.ensures.added) (at_kept (the_view c.self.inside) _ r refl (λ s _ m. Kept-push c.self.inside.buffer.entries _ s m) (subst (λ l. IsAt l r) (sym c.self.view_is) was))
-
-pub returns-then-before-covered-clause-claims : goal.returns-then-before-covered-clause-claims
-returns-then-before-covered-clause-claims c =
-    λ d was. rw (c.claim.ensures.taken, c.add-before.ensures.added) (held_more (the_view c.self.inside) _ d _ _ refl refl refl refl c.self.invariant.log.drafts (subst (λ l. IsHeld l d) (sym c.self.view_is) was))
-
-pub returns-else-before-covered-clause-legal : goal.returns-else-before-covered-clause-legal
-returns-else-before-covered-clause-legal c =
-    let a : Asks (the_view c.self.inside) c.self.inside.tails c.number-owner.result c.partition_of-partition.result c.framed_length-covered.result c.args.size = asks (the_view c.self.inside) c.args.self.now c.self.inside.tails c.self.inside.consumer_count c.args.publisher.now.number c.number-owner.result c.args.count c.partition_of-partition.result c.framed_length-covered.result c.args.size c.self.invariant c.self.view_is c.requires.armed c.requires.short (search rules) c.partition_of-partition.ensures.value (c.framed_length-covered.ensures ∙ ap (λ g. framed_length g c.args.size) c.geometry-2.ensures) in
-    let term : c.term_length-length.result ≡ c.self.inside.buffer.identity.geometry.term_length = c.term_length-length.ensures.value ∙ ap (λ g. g.term_length) c.geometry.ensures in
-    let h : Here (the_view c.self.inside) c.self.inside.tails c.number-owner.result c.partition_of-partition.result c.add-before.result.offset c.framed_length-covered.result = here (the_view c.self.inside) c.self.inside.tails c.number-owner.result c.partition_of-partition.result c.add-before.result.offset c.framed_length-covered.result c.args.size c.term_length-length.result a c.add-before.ensures.offset c.if-before-length.false term in
-    let past : c.self.inside.buffer.identity.geometry.term_length < c.add-before.result.offset + c.framed_length-covered.result = omega (arith, term, c.if-before-covered.false) in
-    rw (c.claim-else-before-covered.ensures.taken, c.add-before.ensures.added, term) (kept_taken (the_view c.self.inside) c.self.inside.tails c.self.inside.consumer_count c.number-owner.result c.partition_of-partition.result c.framed_length-covered.result true (c.self.inside.buffer.identity.geometry.term_length - c.add-before.result.offset) c.self.invariant a.got (search rules) a.most (takes_rest (the_view c.self.inside) c.self.inside.tails c.self.inside.consumer_count c.number-owner.result c.partition_of-partition.result c.add-before.result.offset c.framed_length-covered.result c.self.invariant h past)).log
-
-pub returns-else-before-covered-clause-readers : goal.returns-else-before-covered-clause-readers
-returns-else-before-covered-clause-readers c =
-    λ r was. rw (c.claim-else-before-covered.ensures.taken, c.add-before.ensures.added) (at_kept (the_view c.self.inside) _ r refl (λ s _ m. Kept-push c.self.inside.buffer.entries _ s m) (subst (λ l. IsAt l r) (sym c.self.view_is) was))
-
-pub returns-else-before-covered-clause-claims : goal.returns-else-before-covered-clause-claims
-returns-else-before-covered-clause-claims c =
-    λ d was. rw (c.claim-else-before-covered.ensures.taken, c.add-before.ensures.added) (held_more (the_view c.self.inside) _ d _ _ refl refl refl refl c.self.invariant.log.drafts (subst (λ l. IsHeld l d) (sym c.self.view_is) was))
+pub returns-else-before-covered-clause-leaves : goal.returns-else-before-covered-clause-leaves
+returns-else-before-covered-clause-leaves c = leaves_from c.self.view_is (leaves_more (the_view c.self.inside) _ _ _ c.self.invariant.log (invariant_of-self-else-before-covered c).log (ap (λ (b : Kept). b.identity) c.claim-else-before-covered.ensures.taken) refl (ap (λ (b : Kept). b.gone) c.claim-else-before-covered.ensures.taken) (ap (λ (b : Kept). b.entries) c.claim-else-before-covered.ensures.taken) (ap (λ (b : Kept). b.drafts) c.claim-else-before-covered.ensures.taken))

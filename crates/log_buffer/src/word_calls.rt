@@ -1,12 +1,12 @@
 //! The word calls of a publisher: loads, additions and exchanges of the limit, the count and the raw tails.
 
-ghost use Rattle.std.specs.Prelude.{◌≡◌, false, IfSome, IsTrue, ℕ, ◌+◌, ◌-◌, ◌*◌, ◌/◌, ◌%◌, ◌<◌, ◌≤◌, ◌↔◌, ◌^◌, Some, length, slice_get, slice_index};
-ghost use Rattle.theory.specs.Position.{framed_length, greatest_claim, id_of, max_message};
-ghost use Rattle.theory.specs.Refusal.{is_closed, is_connected, limit_in};
-ghost use Rattle.theory.specs.Words.{id_before, id_in, offset_in, tail_word};
-ghost use Rattle.log_buffer.specs.Log.{IsFinished, IsHeld, IsLog, IsOpen, after_add, claimed_of, counted, exchanged, limit_word_of, looked, may_arm, offset_of, raw_tail, taken_of, term_of};
+ghost use Rattle.std.specs.Prelude.{◌≡◌, IsTrue, ◌+◌, ◌-◌, ◌*◌, ◌/◌, ◌%◌, ◌<◌, ◌≤◌, ◌↔◌, ◌^◌, Some, length, slice_get};
+ghost use Rattle.theory.specs.Position.{framed_length, id_of, max_message};
+ghost use Rattle.theory.specs.Words.{id_before, tail_word};
+ghost use Rattle.log_buffer.specs.Leaves.{Leaves};
+ghost use Rattle.log_buffer.specs.Log.{IsFinished, IsLog, after_add, counted, exchanged, limit_word_of, looked, offset_of, raw_tail, term_of};
 ghost use Rattle.log_buffer.specs.Passes.{with_step};
-ghost use Rattle.log_buffer.specs.Reader.{IsAt, Reader};
+ghost use Rattle.log_buffer.specs.Shown.{GivesClaim, ShowsLimit, ShowsTail, ShowsTailOf};
 ghost use Rattle.log_buffer.specs.declared.step.Step.TheVariants as steps;
 
 use crate::passes::Publisher;
@@ -43,9 +43,7 @@ impl LogState {
         ensures connected { result.connected ≡ self.now.connected }
         ensures closed { result.closed ≡ self.now.closed }
         ensures step { publisher.new ≡ with_step publisher.old (steps.Limit (limit_word_of self.now)) }
-        ensures shows_limit { limit_in (limit_word_of self.now) ≡ self.now.limit }
-        ensures shows_connected { is_connected (limit_word_of self.now) ≡ self.now.connected }
-        ensures shows_closed { is_closed (limit_word_of self.now) ≡ self.now.closed }
+        ensures shown { ShowsLimit self.now }
         ensures legal { IsLog self.now }
     {
         publisher.note(Step::Limit(self.limit_word()));
@@ -83,16 +81,10 @@ impl LogState {
         requires opened { self.old.start / term_of self.old ≤ count }
         requires known { count ≤ self.old.active }
         requires limit { limit ≤ self.old.limit }
-        ensures word { tail_word result.term_id result.offset ≡ raw_tail self.old (count % 3) }
-        ensures offset { result.offset ≡ slice_index self.old.offsets (count % 3) }
-        ensures of_term { (result.term_id ≡ id_of self.old.identity.geometry count) ↔ (self.old.newest ≤ count + 2) }
-        ensures shows_id { id_in (raw_tail self.old (count % 3)) ≡ result.term_id }
-        ensures shows_offset { offset_in (raw_tail self.old (count % 3)) ≡ result.offset }
+        ensures shown { ShowsTailOf self.old count result }
         ensures step { publisher.new ≡ with_step publisher.old (steps.Tail (count % 3) (raw_tail self.old (count % 3))) }
         ensures looked { self.new ≡ looked self.old publisher.old.number count limit }
-        ensures legal { IsLog self.new }
-        ensures readers { (r : Reader) → IsAt self.old r → IsAt self.new r }
-        ensures claims { (c : Claimed) → IsHeld self.old c → IsHeld self.new c }
+        ensures leaves { Leaves self.old self.new }
     {
         let partition = partition_of(count);
         let tail = self.tails.tail(partition);
@@ -115,18 +107,11 @@ impl LogState {
         requires few { length publisher.old.steps < 7 }
         requires armed { slice_get self.old.armed publisher.old.number ≡ Some (Some (count % 3)) }
         requires short { size ≤ max_message self.old.identity.geometry }
-        ensures before { tail_word result.before.term_id result.before.offset ≡ raw_tail self.old (count % 3) }
-        ensures offset { result.before.offset ≡ slice_index self.old.offsets (count % 3) }
-        ensures shows_id { id_in (raw_tail self.old (count % 3)) ≡ result.before.term_id }
-        ensures shows_offset { offset_in (raw_tail self.old (count % 3)) ≡ result.before.offset }
+        ensures before { ShowsTail self.old count result.before }
         ensures step { publisher.new ≡ with_step publisher.old (steps.Addition (count % 3) (framed_length self.old.identity.geometry size) (raw_tail self.old (count % 3))) }
         ensures added { self.new ≡ after_add self.old publisher.old.number (count % 3) size }
-        ensures claimed { result.claimed ≡ claimed_of self.old publisher.old.number (taken_of self.old (count % 3) size) }
-        ensures unset { IfSome result.claimed (λ claimed. IsOpen self.new claimed) }
-        ensures held { IfSome result.claimed (λ claimed. claimed.padding ≡ false → IsHeld self.new claimed) }
-        ensures legal { IsLog self.new }
-        ensures readers { (r : Reader) → IsAt self.old r → IsAt self.new r }
-        ensures claims { (c : Claimed) → IsHeld self.old c → IsHeld self.new c }
+        ensures gives { GivesClaim self.old publisher.old.number (count % 3) size self.new result.claimed }
+        ensures leaves { Leaves self.old self.new }
     {
         let partition = partition_of(count);
         let length = self.buffer.geometry().term_length();
@@ -176,6 +161,7 @@ impl LogState {
         ensures next { (result.term_id ≡ id_of self.now.identity.geometry (count + 1)) ↔ ((count < self.now.newest) × (self.now.newest ≤ count + 3)) }
         ensures two_before { (result.term_id ≡ id_before self.now.identity.geometry count 2) ↔ (self.now.newest ≡ count) }
         ensures step { publisher.new ≡ with_step publisher.old (steps.NextTail ((count + 1) % 3) (raw_tail self.now ((count + 1) % 3))) }
+        ensures legal { IsLog self.now }
     {
         let partition = partition_of(count + 1);
         let tail = self.tails.tail(partition);
@@ -201,8 +187,7 @@ impl LogState {
         ensures next { (result.term_id ≡ id_of self.old.identity.geometry (count + 1)) ↔ ((count < self.old.newest) × (self.old.newest ≤ count + 3)) }
         ensures exchanged { self.new ≡ exchanged self.old count (tail_word loaded.term_id loaded.offset) }
         ensures step { publisher.new ≡ with_step publisher.old (steps.TailExchange ((count + 1) % 3) (raw_tail self.old ((count + 1) % 3))) }
-        ensures readers { (r : Reader) → IsAt self.old r → IsAt self.new r }
-        ensures claims { (c : Claimed) → IsHeld self.old c → IsHeld self.new c }
+        ensures leaves { Leaves self.old self.new }
     {
         let before = self.tails.exchange_tail(count, loaded);
         publisher.note(Step::TailExchange {
@@ -219,8 +204,7 @@ impl LogState {
         ensures before { result ≡ self.old.active }
         ensures counted { self.new ≡ counted self.old count }
         ensures step { publisher.new ≡ with_step publisher.old (steps.CountExchange self.old.active) }
-        ensures readers { (r : Reader) → IsAt self.old r → IsAt self.new r }
-        ensures claims { (c : Claimed) → IsHeld self.old c → IsHeld self.new c }
+        ensures leaves { Leaves self.old self.new }
     {
         let before = self.tails.exchange_count(count);
         publisher.note(Step::CountExchange(before));
