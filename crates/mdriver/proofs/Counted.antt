@@ -16,7 +16,7 @@ use Rattle.log_buffer.specs.Log.{Log, added, room_in, with_claim, with_message, 
 use Rattle.publication.specs.Claims.{claim_at}
 use Rattle.publication.specs.Offers.{Course, IsClosed, IsStale, IsUsedUp, IsLimited, Fits, Trips, after, after_claim, after_offer, answer, course_of, covered, turned_from}
 use Rattle.script.specs.Meaning as orders
-use Rattle.script.specs.Meaning.{Order}
+use Rattle.script.specs.Meaning.{CommandContent}
 use Rattle.mdriver.specs.Answers.{AbortsClaim, Answers, Claims, ClaimsRange, CommitsClaim, HasClaim, HasNoClaim, Limits, MayNotTake, OffersMessage, Offered, SenderHears, with_log}
 use Rattle.mdriver.specs.Cycling.{AsksSetup, News, Says, TellsNothing, Unreadable}
 use Rattle.mdriver.specs.Plays.{AlwaysCounted, AnswersAll, identity_of}
@@ -162,7 +162,7 @@ hears_line s t now AsksSetup lines m h = subst IsCounted (sym m.1) h
 hears_line s t now TellsNothing lines m h = subst IsCounted (sym m.1) h
 hears_line s t now (Unreadable fault) lines m h = subst IsCounted (sym m.1) h
 
-line_counts : (s t : Scene) (order : Order) (lines : List Print) → Answers s order lines t → IsCounted s → IsCounted t
+line_counts : (s t : Scene) (order : CommandContent) (lines : List Print) → Answers s order lines t → IsCounted s → IsCounted t
 line_counts s t orders.Connect lines m h = subst IsCounted (sym m.1) h
 line_counts s t orders.Disconnect lines m h = subst IsCounted (sym m.1) h
 line_counts s t orders.Close lines m h = subst IsCounted (sym m.1) h

@@ -11,7 +11,7 @@ use Rattle.theory.specs.Headline.{HasPolled}
 use Rattle.theory.specs.Messages.{messages}
 use Rattle.theory.proofs.Lists.{each_get}
 use Rattle.script.specs.Meaning as orders
-use Rattle.script.specs.Meaning.{Order}
+use Rattle.script.specs.Meaning.{CommandContent}
 use Rattle.mdriver.specs.Answers.{Answers}
 use Rattle.mdriver.specs.Plays.{AlwaysPolled, AnswersAll, identity_of}
 use Rattle.mdriver.specs.Polling.{TellsOf}
@@ -29,7 +29,7 @@ use Rattle.mdriver.proofs.Sound.{Begins, IsSound, Laws, and_line, opened}
 use Rattle.mdriver.proofs.SoundLines.{abort_line, claim_line, close_line, commit_line, connect_line, limit_line, offer_line, reply_line, send_line}
 use Rattle.mdriver.proofs.SoundReceivers.{deliver_line, image_line, poll_line, tick_line}
 
-line : Laws → (i : Identity) (start readers : ℕ) (played : List Played) (order : Order) (lines : List Print) (s t : Scene) → Begins i start → IsSound i start readers played s → Answers s order lines t → IsSound i start readers (and_line played order lines) t
+line : Laws → (i : Identity) (start readers : ℕ) (played : List Played) (order : CommandContent) (lines : List Print) (s t : Scene) → Begins i start → IsSound i start readers played s → Answers s order lines t → IsSound i start readers (and_line played order lines) t
 line laws i start readers played orders.Connect lines s t b h m = subst (λ x. IsSound i start readers (and_line played orders.Connect lines) x) (sym m.1) (connect_line i start readers played orders.Connect lines s true (record { joins = λ k. refl; polls = λ k. refl; reads = λ k. refl }) (λ g ranges. refl) h)
 line laws i start readers played orders.Disconnect lines s t b h m = subst (λ x. IsSound i start readers (and_line played orders.Disconnect lines) x) (sym m.1) (connect_line i start readers played orders.Disconnect lines s false (record { joins = λ k. refl; polls = λ k. refl; reads = λ k. refl }) (λ g ranges. refl) h)
 line laws i start readers played orders.Close lines s t b h m = subst (λ x. IsSound i start readers (and_line played orders.Close lines) x) (sym m.1) (close_line i start readers played lines s h)

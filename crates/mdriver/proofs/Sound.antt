@@ -18,7 +18,7 @@ use Rattle.theory.specs.Seats.{Each}
 use Rattle.theory.specs.World.{IsOpened}
 use Rattle.theory.proofs.Lists.{all_weaker}
 use Rattle.theory.proofs.Tables.{get_other, get_put}
-use Rattle.script.specs.Meaning.{Order}
+use Rattle.script.specs.Meaning.{CommandContent}
 use Rattle.mdriver.specs.Published.{AllWhole, IsWhole, Played, Range, covered_by, joined_by, joins, polled, polled_by, published, ranges_after, ranges_behind, read, read_by}
 use Rattle.mdriver.specs.Receiving.{Opened, Receiver}
 use Rattle.mdriver.specs.Scene.{Scene, entries_of, image_of, opened_scene, world_of}
@@ -124,30 +124,30 @@ tail_low laws i start readers played s b h =
 
 -- ---- one line more
 
-abbrev pub and_line : List Played → Order → List Print → List Played
+abbrev pub and_line : List Played → CommandContent → List Print → List Played
 and_line played order lines = played ++ record { order = order; lines = lines } ∷ []
 
-behind_more : (g : Geometry) (ranges : List Range) (played : List Played) (order : Order) (lines : List Print) → ranges_behind g ranges (and_line played order lines) ≡ ranges_after g (ranges_behind g ranges played) order lines
+behind_more : (g : Geometry) (ranges : List Range) (played : List Played) (order : CommandContent) (lines : List Print) → ranges_behind g ranges (and_line played order lines) ≡ ranges_after g (ranges_behind g ranges played) order lines
 behind_more g ranges [] order lines = refl
 behind_more g ranges (p ∷ ps) order lines = behind_more g (ranges_after g ranges p.order p.lines) ps order lines
 
-pub published_more : (g : Geometry) (played : List Played) (order : Order) (lines : List Print) → published g (and_line played order lines) ≡ ranges_after g (published g played) order lines
+pub published_more : (g : Geometry) (played : List Played) (order : CommandContent) (lines : List Print) → published g (and_line played order lines) ≡ ranges_after g (published g played) order lines
 published_more g played order lines = behind_more g [] played order lines
 
 -- the line takes no range, and fills none
-abbrev pub SaysNoRange : Order → List Print → Type 0
+abbrev pub SaysNoRange : CommandContent → List Print → Type 0
 SaysNoRange order lines = (g : Geometry) (ranges : List Range) → ranges_after g ranges order lines ≡ ranges
 
-pub joins_more : (k : ℕ) (played : List Played) (order : Order) (lines : List Print) → joins k (and_line played order lines) ≡ joins k played ++ joined_by k order lines
+pub joins_more : (k : ℕ) (played : List Played) (order : CommandContent) (lines : List Print) → joins k (and_line played order lines) ≡ joins k played ++ joined_by k order lines
 joins_more k played order lines = flat_map-append (λ p. joined_by k p.order p.lines) played (record { order = order; lines = lines } ∷ []) ∙ ap (λ xs. joins k played ++ xs) (append-nil (joined_by k order lines))
 
-pub polled_more : (k : ℕ) (played : List Played) (order : Order) (lines : List Print) → polled k (and_line played order lines) ≡ polled k played ++ polled_by k order lines
+pub polled_more : (k : ℕ) (played : List Played) (order : CommandContent) (lines : List Print) → polled k (and_line played order lines) ≡ polled k played ++ polled_by k order lines
 polled_more k played order lines = flat_map-append (λ p. polled_by k p.order p.lines) played (record { order = order; lines = lines } ∷ []) ∙ ap (λ xs. polled k played ++ xs) (append-nil (polled_by k order lines))
 
-pub read_more : (r : ℕ) (played : List Played) (order : Order) (lines : List Print) → read r (and_line played order lines) ≡ read r played ++ read_by r order lines
+pub read_more : (r : ℕ) (played : List Played) (order : CommandContent) (lines : List Print) → read r (and_line played order lines) ≡ read r played ++ read_by r order lines
 read_more r played order lines = flat_map-append (λ p. read_by r p.order p.lines) played (record { order = order; lines = lines } ∷ []) ∙ ap (λ xs. read r played ++ xs) (append-nil (read_by r order lines))
 
-pub whole_parts : (k : ℕ) (played : List Played) (order : Order) (lines : List Print) → AllWhole k (and_line played order lines) → AllWhole k played × IsWhole k order lines
+pub whole_parts : (k : ℕ) (played : List Played) (order : CommandContent) (lines : List Print) → AllWhole k (and_line played order lines) → AllWhole k played × IsWhole k order lines
 whole_parts k [] order lines h = (tt, h.0)
 whole_parts k (p ∷ ps) order lines h = let rest = whole_parts k ps order lines h.1 in ((h.0, rest.0), rest.1)
 
@@ -162,7 +162,7 @@ follows_as i r joins more given gives Whole Still j g weaker h = record {
     weaken (Some o) k = record { consumer = k.consumer; one = k.one; geometry = k.geometry; join = k.join; joined = k.joined; heard = λ x. k.heard (weaker x) }
 
 -- the line says nothing of the receiver
-pub follows_quiet : (i : Identity) (k : ℕ) (r : Receiver) (played : List Played) (order : Order) (lines : List Print) → joined_by k order lines ≡ [] → polled_by k order lines ≡ [] → Follows i r (joins k played) (polled k played) (AllWhole k played) → Follows i r (joins k (and_line played order lines)) (polled k (and_line played order lines)) (AllWhole k (and_line played order lines))
+pub follows_quiet : (i : Identity) (k : ℕ) (r : Receiver) (played : List Played) (order : CommandContent) (lines : List Print) → joined_by k order lines ≡ [] → polled_by k order lines ≡ [] → Follows i r (joins k played) (polled k played) (AllWhole k played) → Follows i r (joins k (and_line played order lines)) (polled k (and_line played order lines)) (AllWhole k (and_line played order lines))
 follows_quiet i k r played order lines j g h =
     follows_as i r (joins k played) (joins k (and_line played order lines)) (polled k played) (polled k (and_line played order lines)) (AllWhole k played) (AllWhole k (and_line played order lines))
     (sym (joins_more k played order lines ∙ ap (λ xs. joins k played ++ xs) j ∙ append-nil (joins k played)))
@@ -171,23 +171,23 @@ follows_quiet i k r played order lines j g h =
     h
 
 -- the line says nothing of any receiver or reader, and they stay
-pub record IsQuiet (order : Order) (lines : List Print) : Type 0 where
+pub record IsQuiet (order : CommandContent) (lines : List Print) : Type 0 where
   pub reads : (k : ℕ) → read_by (suc k) order lines ≡ []
   pub joins : (k : ℕ) → joined_by k order lines ≡ []
   pub polls : (k : ℕ) → polled_by k order lines ≡ []
 
-pub receivers_stay : (i : Identity) (played : List Played) (order : Order) (lines : List Print) (s t : Scene) → ((k : ℕ) → (joined_by k order lines ≡ []) × (polled_by k order lines ≡ [])) → t.receivers ≡ s.receivers → ((k : ℕ) → k < 8 → HasFollowed i played s k) → (k : ℕ) → k < 8 → HasFollowed i (and_line played order lines) t k
+pub receivers_stay : (i : Identity) (played : List Played) (order : CommandContent) (lines : List Print) (s t : Scene) → ((k : ℕ) → (joined_by k order lines ≡ []) × (polled_by k order lines ≡ [])) → t.receivers ≡ s.receivers → ((k : ℕ) → k < 8 → HasFollowed i played s k) → (k : ℕ) → k < 8 → HasFollowed i (and_line played order lines) t k
 receivers_stay i played order lines s t quiet same h k low =
     let r = h k low in
     (r.0, ap (λ xs. slice_get xs k) same ∙ r.1, follows_quiet i k r.0 played order lines (quiet k).0 (quiet k).1 r.2)
 
-pub readers_stay : (start n : ℕ) (played : List Played) (order : Order) (lines : List Print) (s t : Scene) → ((k : ℕ) → read_by (suc k) order lines ≡ []) → t.readers ≡ s.readers → ((k : ℕ) → k < n → HasRead start played s k) → (k : ℕ) → k < n → HasRead start (and_line played order lines) t k
+pub readers_stay : (start n : ℕ) (played : List Played) (order : CommandContent) (lines : List Print) (s t : Scene) → ((k : ℕ) → read_by (suc k) order lines ≡ []) → t.readers ≡ s.readers → ((k : ℕ) → k < n → HasRead start played s k) → (k : ℕ) → k < n → HasRead start (and_line played order lines) t k
 readers_stay start n played order lines s t quiet same h k low =
     let r = h k low in
     (r.0, ap (λ xs. slice_get xs k) same ∙ r.1, subst (ReadSo start r.0) (sym (read_more (suc k) played order lines ∙ ap (λ xs. read (suc k) played ++ xs) (quiet k) ∙ append-nil (read (suc k) played))) r.2)
 
 -- the line is of receiver n, which is another now
-pub receiver_moves : (i : Identity) (played : List Played) (order : Order) (lines : List Print) (s t : Scene) (n : ℕ) (r mid : Receiver) → slice_get s.receivers n ≡ Some r → t.receivers ≡ slice_set s.receivers n mid → ((k : ℕ) → (n ≡ k → ⊥) → (joined_by k order lines ≡ []) × (polled_by k order lines ≡ [])) → Follows i mid (joins n (and_line played order lines)) (polled n (and_line played order lines)) (AllWhole n (and_line played order lines)) → ((k : ℕ) → k < 8 → HasFollowed i played s k) → (k : ℕ) → k < 8 → HasFollowed i (and_line played order lines) t k
+pub receiver_moves : (i : Identity) (played : List Played) (order : CommandContent) (lines : List Print) (s t : Scene) (n : ℕ) (r mid : Receiver) → slice_get s.receivers n ≡ Some r → t.receivers ≡ slice_set s.receivers n mid → ((k : ℕ) → (n ≡ k → ⊥) → (joined_by k order lines ≡ []) × (polled_by k order lines ≡ [])) → Follows i mid (joins n (and_line played order lines)) (polled n (and_line played order lines)) (AllWhole n (and_line played order lines)) → ((k : ℕ) → k < 8 → HasFollowed i played s k) → (k : ℕ) → k < 8 → HasFollowed i (and_line played order lines) t k
 receiver_moves i played order lines s t n r mid there is others now h k low =
     ⊎_elim
     (λ (e : n ≡ k). subst (λ x. HasFollowed i (and_line played order lines) t x) e (mid, ap (λ xs. slice_get xs n) is ∙ get_put s.receivers n mid (slice_get_within s.receivers n r there), now))

@@ -26,7 +26,7 @@ use Rattle.log_buffer.specs.Log.{IsLog, Log, added, room_in, with_abort, with_co
 use Rattle.publication.specs.Claims.{claim_at}
 use Rattle.publication.specs.Offers.{Course, IsClosed, IsStale, IsUsedUp, IsLimited, Fits, Trips, after, after_claim, after_offer, answer, course_of, covered, turned_from}
 use Rattle.script.specs.Meaning as orders
-use Rattle.script.specs.Meaning.{Order}
+use Rattle.script.specs.Meaning.{CommandContent}
 use Rattle.mdriver.specs.Answers.{AbortsClaim, AreFrames, Claims, ClaimsRange, CommitsClaim, HasClaim, HasNoClaim, IsCycle, IsMissing, Limits, MayClaim, MayNotTake, MayOffer, Offered, OffersMessage, Replied, SenderHears, Sends, after_cycle, clock_at, cycled, given_out, heard, limit_of, named, sent_on, wires_of, with_log, with_sender, woken}
 use Rattle.setup.specs.Naming.{Naming, after_due}
 use Rattle.mdriver.specs.Cycling.{AsksSetup, Cycle, IsNextSent, News, Says, TellsNothing, Unreadable, datagrams, setups}
@@ -47,11 +47,11 @@ use Rattle.mdriver.proofs.Standing.{holds as claim_holds}
 -- ---- lines after which only the log or the sender is another
 
 -- no range is taken or filled by the line
-pub matches_stay : (g : Geometry) (played : List Played) (order : Order) (lines : List Print) (xs : List Entry) → SaysNoRange order lines → Matches xs (visible.published g played) → Matches xs (visible.published g (and_line played order lines))
+pub matches_stay : (g : Geometry) (played : List Played) (order : CommandContent) (lines : List Print) (xs : List Entry) → SaysNoRange order lines → Matches xs (visible.published g played) → Matches xs (visible.published g (and_line played order lines))
 matches_stay g played order lines xs none h = subst (Matches xs) (sym (published_more g played order lines ∙ none g (visible.published g played))) h
 
 -- nothing has changed
-pub same_scene : (i : Identity) (start readers : ℕ) (played : List Played) (order : Order) (lines : List Print) (s t : Scene) → IsQuiet order lines → SaysNoRange order lines → t ≡ s → IsSound i start readers played s → IsSound i start readers (and_line played order lines) t
+pub same_scene : (i : Identity) (start readers : ℕ) (played : List Played) (order : CommandContent) (lines : List Print) (s t : Scene) → IsQuiet order lines → SaysNoRange order lines → t ≡ s → IsSound i start readers played s → IsSound i start readers (and_line played order lines) t
 same_scene i start readers played order lines s t quiet none same h =
     subst (λ x. IsSound i start readers (and_line played order lines) x) (sym same) (record {
       runs = h.runs;
@@ -78,7 +78,7 @@ record IsLogNext (s : Scene) (past : List Entry) (l : Log) : Type 0 where
   start : l.start ≡ s.log.start
   consumers : l.consumers ≡ s.log.consumers
 
-log_line : (i : Identity) (start readers : ℕ) (played : List Played) (order : Order) (lines : List Print) (s : Scene) (past : List Entry) (l : Log) → IsQuiet order lines → IsLogNext s past l → Matches (past ++ l.entries) (visible.published i.geometry (and_line played order lines)) → IsSound i start readers played s → IsSound i start readers (and_line played order lines) (with_stream s past l)
+log_line : (i : Identity) (start readers : ℕ) (played : List Played) (order : CommandContent) (lines : List Print) (s : Scene) (past : List Entry) (l : Log) → IsQuiet order lines → IsLogNext s past l → Matches (past ++ l.entries) (visible.published i.geometry (and_line played order lines)) → IsSound i start readers played s → IsSound i start readers (and_line played order lines) (with_stream s past l)
 log_line i start readers played order lines s past l quiet n all h =
     let t = with_stream s past l in
     record {
@@ -100,7 +100,7 @@ log_line i start readers played order lines s past l quiet n all h =
       reading = readers_stay start readers played order lines s t quiet.reads refl h.reading;
     }
 
-pub connect_line : (i : Identity) (start readers : ℕ) (played : List Played) (order : Order) (lines : List Print) (s : Scene) (on : Bool) → IsQuiet order lines → SaysNoRange order lines → IsSound i start readers played s → IsSound i start readers (and_line played order lines) (with_log s (record s.log { connected = on }))
+pub connect_line : (i : Identity) (start readers : ℕ) (played : List Played) (order : CommandContent) (lines : List Print) (s : Scene) (on : Bool) → IsQuiet order lines → SaysNoRange order lines → IsSound i start readers played s → IsSound i start readers (and_line played order lines) (with_log s (record s.log { connected = on }))
 connect_line i start readers played order lines s on quiet none h =
     log_line i start readers played order lines s s.past (record s.log { connected = on }) quiet (record { goes = connects s on; identity = refl; start = refl; consumers = refl }) (matches_stay i.geometry played order lines (entries_of s) none h.matches) h
 
@@ -135,11 +135,11 @@ turned_entries : (l : Log) (count : ℕ) → (turned_from l count).entries ≡ l
 turned_entries l count = turned_same (λ k. k.entries) (λ k x y z. refl) l count
 
 -- what the line says of a course, where the log becomes this one if it fits
-record FitsSo (i : Identity) (played : List Played) (s : Scene) (fitting : Log) (order : Order) (lines : List Print) : Type 0 where
+record FitsSo (i : Identity) (played : List Played) (s : Scene) (fitting : Log) (order : CommandContent) (lines : List Print) : Type 0 where
   next : IsLogNext s s.past fitting
   matches : Matches (s.past ++ fitting.entries) (visible.published i.geometry (and_line played order lines))
 
-abbrev Said : Identity → List Played → Scene → Log → Order → List Print → Course → Type 0
+abbrev Said : Identity → List Played → Scene → Log → CommandContent → List Print → Course → Type 0
 Said i played s fitting order lines Fits = FitsSo i played s fitting order lines
 Said i played s fitting order lines other = SaysNoRange order lines
 
@@ -149,7 +149,7 @@ record MayAdd (l : Log) (by size : ℕ) : Type 0 where
   publisher : by < 8
   short : size ≤ max_message l.identity.geometry
 
-taken_line : Laws → (i : Identity) (start readers : ℕ) (played : List Played) (s : Scene) (by size : ℕ) (fitting : Log) (order : Order) (lines : List Print) (c : Course) → Begins i start → IsQuiet order lines → IsSound i start readers played s → MayAdd s.log by size → course_of s.log size ≡ c → Said i played s fitting order lines c → IsSound i start readers (and_line played order lines) (with_log s (after s.log by size c fitting))
+taken_line : Laws → (i : Identity) (start readers : ℕ) (played : List Played) (s : Scene) (by size : ℕ) (fitting : Log) (order : CommandContent) (lines : List Print) (c : Course) → Begins i start → IsQuiet order lines → IsSound i start readers played s → MayAdd s.log by size → course_of s.log size ≡ c → Said i played s fitting order lines c → IsSound i start readers (and_line played order lines) (with_log s (after s.log by size c fitting))
 taken_line laws i start readers played s by size fitting order lines IsClosed b quiet h may e none = same_scene i start readers played order lines s s quiet none refl h
 taken_line laws i start readers played s by size fitting order lines IsStale b quiet h may e none = same_scene i start readers played order lines s s quiet none refl h
 taken_line laws i start readers played s by size fitting order lines IsLimited b quiet h may e none = same_scene i start readers played order lines s s quiet none refl h
@@ -174,7 +174,7 @@ taken_line laws i start readers played s by size fitting order lines Trips b qui
     (matches_stay i.geometry played order lines (s.past ++ (turned_from l s.log.active).entries) none (subst (λ es. Matches es (visible.published i.geometry played)) (sym entries) (matches_padding (entries_of s) (visible.published i.geometry played) (padded s.log.tail by n) refl h.matches))) h
 
 -- one entry and its range more
-added_matches : (i : Identity) (start readers : ℕ) (played : List Played) (s : Scene) (order : Order) (lines : List Print) (e : Entry) (r : Range) → ((ranges : List Range) → ranges_after i.geometry ranges order lines ≡ ranges ++ r ∷ []) → SameRange e r → IsSound i start readers played s → Matches (s.past ++ (s.log.entries ++ e ∷ [])) (visible.published i.geometry (and_line played order lines))
+added_matches : (i : Identity) (start readers : ℕ) (played : List Played) (s : Scene) (order : CommandContent) (lines : List Print) (e : Entry) (r : Range) → ((ranges : List Range) → ranges_after i.geometry ranges order lines ≡ ranges ++ r ∷ []) → SameRange e r → IsSound i start readers played s → Matches (s.past ++ (s.log.entries ++ e ∷ [])) (visible.published i.geometry (and_line played order lines))
 added_matches i start readers played s order lines e r line same h =
     let ranges = visible.published i.geometry played in
     subst (λ es. Matches es (visible.published i.geometry (and_line played order lines))) (append_assoc s.past s.log.entries (e ∷ []))
@@ -183,17 +183,17 @@ added_matches i start readers played s order lines e r line same h =
 -- ---- an offer
 
 -- an order that offers this message
-abbrev pub OffersIt : Order → List ℕ → Type 0
+abbrev pub OffersIt : CommandContent → List ℕ → Type 0
 OffersIt order m = (g : Geometry) (ranges : List Range) (lines : List Print) → ranges_after g ranges order lines ≡ ranges ++ flat_map (offers_in g m) lines
 
-offers_none : (order : Order) (m : List ℕ) (line : Print) (lines : List Print) → OffersIt order m → ((g : Geometry) → offers_in g m line ≡ []) → lines ≡ line ∷ [] → SaysNoRange order lines
+offers_none : (order : CommandContent) (m : List ℕ) (line : Print) (lines : List Print) → OffersIt order m → ((g : Geometry) → offers_in g m line ≡ []) → lines ≡ line ∷ [] → SaysNoRange order lines
 offers_none order m line lines is none e g ranges =
     is g ranges lines ∙ ap (λ ls. ranges ++ flat_map (offers_in g m) ls) e ∙ ap (λ xs. ranges ++ (xs ++ [])) (none g) ∙ append-nil ranges
 
 abbrev offered_log : Log → ℕ → List ℕ → Log
 offered_log l by m = with_message (added l by (l.active % 3) (covered l (length m))) by m
 
-offer_fits : Laws → (i : Identity) (start readers : ℕ) (played : List Played) (s : Scene) (by : ℕ) (m : List ℕ) (order : Order) (lines : List Print) → Begins i start → OffersIt order m → IsSound i start readers played s → MayOffer s.log by m → course_of s.log (length m) ≡ Fits → lines ≡ Position (s.log.tail + covered s.log (length m)) ∷ [] → FitsSo i played s (offered_log s.log by m) order lines
+offer_fits : Laws → (i : Identity) (start readers : ℕ) (played : List Played) (s : Scene) (by : ℕ) (m : List ℕ) (order : CommandContent) (lines : List Print) → Begins i start → OffersIt order m → IsSound i start readers played s → MayOffer s.log by m → course_of s.log (length m) ≡ Fits → lines ≡ Position (s.log.tail + covered s.log (length m)) ∷ [] → FitsSo i played s (offered_log s.log by m) order lines
 offer_fits laws i start readers played s by m order lines b is h may e line =
     let g = s.log.identity.geometry in
     let end = s.log.tail + covered s.log (length m) in
@@ -211,11 +211,11 @@ offer_fits laws i start readers played s by m order lines b is h may e line =
           (same_offered g s.log.tail by m end h.sending.legal refl) h;
     }
 
-record OfferSays (i : Identity) (played : List Played) (s : Scene) (by : ℕ) (m : List ℕ) (order : Order) (lines : List Print) (c : Course) (t : Scene) : Type 0 where
+record OfferSays (i : Identity) (played : List Played) (s : Scene) (by : ℕ) (m : List ℕ) (order : CommandContent) (lines : List Print) (c : Course) (t : Scene) : Type 0 where
   said : Said i played s (offered_log s.log by m) order lines c
   after : t ≡ with_log s (after_offer s.log by m)
 
-offer_says : Laws → (i : Identity) (start readers : ℕ) (played : List Played) (s t : Scene) (by : ℕ) (m : List ℕ) (order : Order) (lines : List Print) (c : Course) → Begins i start → OffersIt order m → IsSound i start readers played s → MayOffer s.log by m → course_of s.log (length m) ≡ c → Offered s by m (answer s.log (length m) c) lines t → OfferSays i played s by m order lines c t
+offer_says : Laws → (i : Identity) (start readers : ℕ) (played : List Played) (s t : Scene) (by : ℕ) (m : List ℕ) (order : CommandContent) (lines : List Print) (c : Course) → Begins i start → OffersIt order m → IsSound i start readers played s → MayOffer s.log by m → course_of s.log (length m) ≡ c → Offered s by m (answer s.log (length m) c) lines t → OfferSays i played s by m order lines c t
 offer_says laws i start readers played s t by m order lines IsClosed b is h may e o = record { said = offers_none order m _ lines is (λ g. refl) o.0; after = o.1 }
 offer_says laws i start readers played s t by m order lines IsStale b is h may e o = record { said = offers_none order m _ lines is (λ g. refl) o.0; after = o.1 }
 offer_says laws i start readers played s t by m order lines IsUsedUp b is h may e o = record { said = offers_none order m _ lines is (λ g. refl) o.0; after = o.1 }
@@ -223,7 +223,7 @@ offer_says laws i start readers played s t by m order lines IsLimited b is h may
 offer_says laws i start readers played s t by m order lines Fits b is h may e o = record { said = offer_fits laws i start readers played s by m order lines b is h may e o.0; after = o.1 }
 offer_says laws i start readers played s t by m order lines Trips b is h may e o = record { said = offers_none order m _ lines is (λ g. refl) o.0; after = o.1 }
 
-pub offer_line : Laws → (i : Identity) (start readers : ℕ) (played : List Played) (s t : Scene) (by most size : ℕ) (m : List ℕ) (order : Order) (lines : List Print) → Begins i start → IsQuiet order lines → OffersIt order m → IsSound i start readers played s → MayNotTake s by most size lines t ⊎ OffersMessage s by m lines t → IsSound i start readers (and_line played order lines) t
+pub offer_line : Laws → (i : Identity) (start readers : ℕ) (played : List Played) (s t : Scene) (by most size : ℕ) (m : List ℕ) (order : CommandContent) (lines : List Print) → Begins i start → IsQuiet order lines → OffersIt order m → IsSound i start readers played s → MayNotTake s by most size lines t ⊎ OffersMessage s by m lines t → IsSound i start readers (and_line played order lines) t
 offer_line laws i start readers played s t by most size m order lines b quiet is h (inl bad) =
     same_scene i start readers played order lines s t quiet (offers_none order m Bad lines is (λ g. refl) bad.1.0) bad.1.1 h
 offer_line laws i start readers played s t by most size m order lines b quiet is h (inr o) =
@@ -432,7 +432,7 @@ record IsSenderNext (i : Identity) (s t : Scene) (x : Sender) (wires : List Wire
 abbrev sender_scene : Scene → Sender → Naming → List Wire → Scene
 sender_scene s x naming wires = record (given_out s wires) { log = record s.log { consumers = x.at ∷ map (λ c. c.at) s.readers }; sender = x; naming = naming }
 
-sender_line : (i : Identity) (start readers : ℕ) (played : List Played) (order : Order) (lines : List Print) (s : Scene) (x : Sender) (naming : Naming) (wires : List Wire) → IsQuiet order lines → SaysNoRange order lines → IsSenderNext i s (sender_scene s x naming wires) x wires → IsSound i start readers played s → IsSound i start readers (and_line played order lines) (sender_scene s x naming wires)
+sender_line : (i : Identity) (start readers : ℕ) (played : List Played) (order : CommandContent) (lines : List Print) (s : Scene) (x : Sender) (naming : Naming) (wires : List Wire) → IsQuiet order lines → SaysNoRange order lines → IsSenderNext i s (sender_scene s x naming wires) x wires → IsSound i start readers played s → IsSound i start readers (and_line played order lines) (sender_scene s x naming wires)
 sender_line i start readers played order lines s x naming wires quiet none n h =
     let t = sender_scene s x naming wires in
     record {
@@ -607,7 +607,7 @@ hears_line laws i start readers played k now lines s t TellsNothing b h m =
 hears_line laws i start readers played k now lines s t (Unreadable fault) b h m =
     subst (λ x. IsSound i start readers (and_line played (orders.Reply k now) lines) x) (sym m.1) (told_line i start readers played k now lines s (woken s now) s.naming (record { at = refl; sent = refl; setups = refl }) (sees (world_of s) now) h)
 
-pub missing_line : (i : Identity) (start readers : ℕ) (played : List Played) (order : Order) (k : ℕ) (lines : List Print) (s t : Scene) → IsQuiet order lines → SaysNoRange order lines → IsSound i start readers played s → IsMissing s k lines t → IsSound i start readers (and_line played order lines) t
+pub missing_line : (i : Identity) (start readers : ℕ) (played : List Played) (order : CommandContent) (k : ℕ) (lines : List Print) (s t : Scene) → IsQuiet order lines → SaysNoRange order lines → IsSound i start readers played s → IsMissing s k lines t → IsSound i start readers (and_line played order lines) t
 missing_line i start readers played order k lines s t quiet none h m = same_scene i start readers played order lines s t quiet none m.2 h
 
 pub reply_line : Laws → (i : Identity) (start readers : ℕ) (played : List Played) (k now : ℕ) (lines : List Print) (s t : Scene) → Begins i start → IsSound i start readers played s → IsMissing s k lines t ⊎ Replied s k now lines t → IsSound i start readers (and_line played (orders.Reply k now) lines) t

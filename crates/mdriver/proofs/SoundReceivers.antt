@@ -9,7 +9,7 @@ use Rattle.theory.specs.Bytes.{Identity}
 use Rattle.theory.specs.Control.{MayBeGiven}
 use Rattle.theory.proofs.Lists.{all_append, all_get}
 use Rattle.script.specs.Meaning as orders
-use Rattle.script.specs.Meaning.{Order}
+use Rattle.script.specs.Meaning.{CommandContent}
 use Rattle.mdriver.specs.declared.receiver.Outcome.{Outcome}
 use Rattle.mdriver.specs.declared.receiver.Outcome.TheVariants as outcomes
 use Rattle.mdriver.specs.Answers.{Delivered, IsMissing, PollsBy, TellsBy, Ticks, with_receiver}
@@ -26,14 +26,14 @@ use Rattle.mdriver.proofs.Sound.{IsSound, Laws, and_line, at_number, follows_as,
 use Rattle.mdriver.proofs.SoundLines.{matches_stay, missing_line, same_scene}
 
 -- what the line says of the others
-abbrev SaysNothingElse : ℕ → Order → List Print → Type 0
+abbrev SaysNothingElse : ℕ → CommandContent → List Print → Type 0
 SaysNothingElse n order lines = (k : ℕ) → (n ≡ k → ⊥) → (joined_by k order lines ≡ []) × (polled_by k order lines ≡ [])
 
 -- a line of receiver n, after which it is another one and there may be more packets
 abbrev moved_scene : Scene → ℕ → Receiver → List (List ℕ) → Scene
 moved_scene s n mid packets = record (with_receiver s n mid) { packets = packets }
 
-receiver_line : (i : Identity) (start readers : ℕ) (played : List Played) (order : Order) (lines : List Print) (s : Scene) (n : ℕ) (r mid : Receiver) (packets : List (List ℕ)) → slice_get s.receivers n ≡ Some r → Goes (world_of s) (world_of (with_receiver s n mid)) → AreHonest i s.sender packets → SaysNothingElse n order lines → SaysNoRange order lines → ((k : ℕ) → read_by (suc k) order lines ≡ []) → Follows i mid (joins n (and_line played order lines)) (polled n (and_line played order lines)) (AllWhole n (and_line played order lines)) → IsSound i start readers played s → IsSound i start readers (and_line played order lines) (moved_scene s n mid packets)
+receiver_line : (i : Identity) (start readers : ℕ) (played : List Played) (order : CommandContent) (lines : List Print) (s : Scene) (n : ℕ) (r mid : Receiver) (packets : List (List ℕ)) → slice_get s.receivers n ≡ Some r → Goes (world_of s) (world_of (with_receiver s n mid)) → AreHonest i s.sender packets → SaysNothingElse n order lines → SaysNoRange order lines → ((k : ℕ) → read_by (suc k) order lines ≡ []) → Follows i mid (joins n (and_line played order lines)) (polled n (and_line played order lines)) (AllWhole n (and_line played order lines)) → IsSound i start readers played s → IsSound i start readers (and_line played order lines) (moved_scene s n mid packets)
 receiver_line i start readers played order lines s n r mid packets there goes honest others none quiet now h =
     let t = moved_scene s n mid packets in
     record {

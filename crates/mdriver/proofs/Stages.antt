@@ -16,7 +16,7 @@ use Rattle.rotation.specs.Limited.{CleansAndLimits, raised}
 use Rattle.publication.specs.Offers.{Course, IsClosed, IsStale, IsUsedUp, IsLimited, Fits, Trips, after, after_claim, after_offer, answer_of, course_of, covered}
 use Rattle.publication.specs.declared.refusal.Refusal.{Refusal}
 use Rattle.script.specs.Meaning as orders
-use Rattle.script.specs.Meaning.{Order}
+use Rattle.script.specs.Meaning.{CommandContent}
 use Rattle.mdriver.specs.declared.line.Line.{Line}
 use Rattle.mdriver.specs.declared.stage.Stage.{Stage}
 use Rattle.theory.specs.Wire.{Wire}
@@ -324,7 +324,7 @@ claim_answered old new by size line before after low short each r o told = λ s 
     claimed old new s by size r.before r.after (print_of line) (prints before) (prints after) low (subst (λ l. size ≤ max_payload l.identity.geometry) (sym h.log) short) (omega (arith, (found old.log 0 by old.writers.items r.before each r.here).0)) h o (at_writer old new s by r.before r.after h r.here r.there) (subst (λ l. writing.Claims l r.before size new.log r.after (print_of line)) (sym h.log) r.step) (one_line before after line told)
 
 -- an offer of a publisher, unless it has a claim open
-offered_line : (old new : Stage) (s : Scene) (by : ℕ) (message : List ℕ) (w v : Writer) (line : Print) (before after : List Print) (order : Order) → ((s t : Scene) (lines : List Print) → MayBeOffered s by message lines t → Answers s order lines t) → (pass_of w).number ≡ by → ShowsScene old s → OnlyClaims old new → At old new s by w v → writing.Offers s.log w message new.log v line → after ≡ before ++ line ∷ [] → Answered s order before after new
+offered_line : (old new : Stage) (s : Scene) (by : ℕ) (message : List ℕ) (w v : Writer) (line : Print) (before after : List Print) (order : CommandContent) → ((s t : Scene) (lines : List Print) → MayBeOffered s by message lines t → Answers s order lines t) → (pass_of w).number ≡ by → ShowsScene old s → OnlyClaims old new → At old new s by w v → writing.Offers s.log w message new.log v line → after ≡ before ++ line ∷ [] → Answered s order before after new
 offered_line old new s by message (writers.Holding claim) v line before after order means number h o at step told = record {
   lines = line ∷ [];
   scene = s;

@@ -18,7 +18,7 @@ use Rattle.publication.specs.Offers.{after_claim, after_offer, answer_of}
 use Rattle.publication.specs.declared.refusal.Refusal.{Refusal}
 use Rattle.setup.specs.Naming.{after_due, is_due}
 use Rattle.script.specs.Meaning as orders
-use Rattle.script.specs.Meaning.{Order}
+use Rattle.script.specs.Meaning.{CommandContent}
 use Rattle.mdriver.specs.declared.receiver.Outcome.{Outcome}
 use Rattle.mdriver.specs.declared.sender.SenderAnswer.TheVariants as answers
 use Rattle.mdriver.specs.Cycling.{Cycle, IsNews, IsNextSent, News, Says, AsksSetup, TellsNothing, Unreadable, datagrams, sent_wires}
@@ -255,7 +255,7 @@ TellsBy old i lines new = (line : Print) × (r : Receiver) × (slice_get old.rec
 
 -- ---- a line of a script
 
-abbrev pub Answers : Scene → Order → List Print → Scene → Type 0
+abbrev pub Answers : Scene → CommandContent → List Print → Scene → Type 0
 Answers old orders.Connect lines new = (lines ≡ Done ∷ []) × (new ≡ with_log old (record old.log { connected = true }))
 Answers old orders.Disconnect lines new = (lines ≡ Done ∷ []) × (new ≡ with_log old (record old.log { connected = false }))
 Answers old orders.Close lines new = (lines ≡ Done ∷ []) × (new ≡ with_log old (record old.log { closed = true }))

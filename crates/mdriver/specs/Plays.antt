@@ -6,7 +6,7 @@ use Rattle.theory.specs.Bytes.{Identity, IsIdentity}
 use Rattle.theory.specs.Tiling.{share_of}
 use Rattle.position.specs.declared.fault.GeometryError.TheVariants.{TermLength, Mtu}
 use Rattle.log_buffer.specs.declared.fault.LogError.TheVariants.{Start}
-use Rattle.script.specs.Meaning.{Opening, Told}
+use Rattle.script.specs.Meaning.{Opening, ScriptContent}
 use Rattle.mdriver.specs.Answers.{Answers}
 use Rattle.mdriver.specs.Prints.{Print, Open, BadGeometry, BadLog, Shares}
 use Rattle.mdriver.specs.Published.{Played, PolledPrefix, ReadPrefix}
@@ -35,11 +35,11 @@ pub record ShowsBook (s : Scene) (line : Print) : Type 0 where
   pub shown : line ≡ Shares s.log.start s.log.tail shares
 
 -- the log opens: each line of the script is answered in turn, and the book ends the output. After each line, what the polls of a receiver printed is what was published between its join and its position, and what an assembler gives of the frames that a reader showed is what was published up to its position
-pub record PlaysOn (script : Told) (lines : List Print) : Type 0 where
+pub record PlaysOn (script : ScriptContent) (lines : List Print) : Type 0 where
   pub legal : IsGeometry (geometry_of script.log)
   pub starts : IsStart script.log
   pub played : List Played
-  pub orders : map (λ p. p.order) played ≡ script.orders
+  pub orders : map (λ p. p.order) played ≡ script.commands
   pub last : Scene
   pub answered : AnswersAll (opened_scene (identity_of script.log) script.log.start script.log.readers) played last
   pub book : Print
@@ -55,7 +55,7 @@ HasFault o lines =
     ⊎ ((IsTermLength o.term_length × (¬ IsMtu o.term_length o.mtu) × (lines ≡ BadGeometry Mtu ∷ []))
     ⊎ (IsGeometry (geometry_of o) × (¬ IsStart o) × (lines ≡ BadLog Start ∷ [])))
 
-abbrev pub Plays : Told → List Print → Type 0
+abbrev pub Plays : ScriptContent → List Print → Type 0
 Plays script lines = HasFault script.log lines ⊎ PlaysOn script lines
 
 -- whatever is answered, the shares are those of all entries

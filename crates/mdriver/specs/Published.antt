@@ -6,7 +6,7 @@ use Rattle.theory.specs.Position.{Geometry, aligned, framed_length}
 use Rattle.theory.specs.Placed.{Data, Frame, Pad, frame_length}
 use Rattle.theory.specs.Assembly.{after_all, nothing_heard}
 use Rattle.script.specs.Meaning as orders
-use Rattle.script.specs.Meaning.{Order}
+use Rattle.script.specs.Meaning.{CommandContent}
 use Rattle.mdriver.specs.declared.receiver.Outcome.{Outcome}
 use Rattle.mdriver.specs.declared.receiver.Outcome.TheVariants as outcomes
 use Rattle.mdriver.specs.Prints as prints
@@ -14,7 +14,7 @@ use Rattle.mdriver.specs.Prints.{Print}
 
 -- a line of a script, and what it printed
 pub record Played : Type 0 where
-  pub order : Order
+  pub order : CommandContent
   pub lines : List Print
 
 -- a range of the stream that a line took for a message of so many bytes, and the message once it is committed
@@ -61,7 +61,7 @@ joins_in (prints.OfReceiver outcome) = joins_of outcome
 joins_in line = []
 
 -- the ranges behind a line: an offer that was accepted or a claim takes one more, a commit fills its own
-abbrev pub ranges_after : Geometry → List Range → Order → List Print → List Range
+abbrev pub ranges_after : Geometry → List Range → CommandContent → List Print → List Range
 ranges_after g ranges (orders.Offer by message) lines = ranges ++ flat_map (offers_in g message) lines
 ranges_after g ranges (orders.OfferSize by size) lines = ranges ++ flat_map (offers_in g (replicate size 97)) lines
 ranges_after g ranges (orders.Claim by size) lines = ranges ++ flat_map (claims_in size) lines
@@ -75,21 +75,21 @@ frames_in (prints.FramePad start frame_length) = Pad frame_length ∷ []
 frames_in line = []
 
 -- what is said of a reader where the line is one of its own
-abbrev pub read_by : ℕ → Order → List Print → List Frame
+abbrev pub read_by : ℕ → CommandContent → List Print → List Frame
 read_by r (orders.Read number) lines = if nat_eq number r then flat_map frames_in lines else []
 read_by r order lines = []
 
 -- what is said of a receiver where the line is one of its own
-abbrev pub polled_by : ℕ → Order → List Print → List (List ℕ)
+abbrev pub polled_by : ℕ → CommandContent → List Print → List (List ℕ)
 polled_by i (orders.Poll number) lines = if nat_eq number i then flat_map messages_in lines else []
 polled_by i order lines = []
 
-abbrev pub joined_by : ℕ → Order → List Print → List ℕ
+abbrev pub joined_by : ℕ → CommandContent → List Print → List ℕ
 joined_by i (orders.Deliver k number now) lines = if nat_eq number i then flat_map joins_in lines else []
 joined_by i order lines = []
 
 -- no poll of the receiver printed a fault of its assembler
-abbrev pub IsWhole : ℕ → Order → List Print → Type 0
+abbrev pub IsWhole : ℕ → CommandContent → List Print → Type 0
 IsWhole i (orders.Poll number) lines = number ≡ i → AllByRecursion (λ line. is_fault line ≡ false) lines
 IsWhole i order lines = ⊤
 

@@ -5,7 +5,7 @@ use Rattle.std.specs.Prelude.{Result, Ok, Err}
 use Rattle.log_buffer.specs.Log.{Log}
 use Rattle.publication.specs.Offers.{after_offer}
 use Rattle.publication.specs.declared.refusal.Refusal.{Refusal}
-use Rattle.script.specs.Meaning.{Order}
+use Rattle.script.specs.Meaning.{CommandContent}
 use Rattle.mdriver.specs.declared.line.Line.{Line}
 use Rattle.mdriver.specs.declared.stage.Stage.{Stage}
 use Rattle.std.specs.List.{flat_map}
@@ -48,7 +48,7 @@ pub record ShowsScene (v : Stage) (s : Scene) : Type 0 where
   pub packets : s.packets ≡ v.packets
 
 -- the line printed this, and the stage shows the scene after it
-pub record Answered (old : Scene) (order : Order) (before after : List Print) (new : Stage) : Type 0 where
+pub record Answered (old : Scene) (order : CommandContent) (before after : List Print) (new : Stage) : Type 0 where
   pub lines : List Print
   pub scene : Scene
   pub answers : Answers old order lines scene
@@ -56,7 +56,7 @@ pub record Answered (old : Scene) (order : Order) (before after : List Print) (n
   pub shows : ShowsScene new scene
 
 -- whatever scene the stage showed
-abbrev pub IsAnswered : Stage → Order → List Line → List Line → Stage → Type 0
+abbrev pub IsAnswered : Stage → CommandContent → List Line → List Line → Stage → Type 0
 IsAnswered old order before after new = (s : Scene) → ShowsScene old s → Answered s order (prints before) (prints after) new
 
 -- a message that the log can hold is offered by a publisher, or can't be, as that has a claim open
@@ -66,10 +66,10 @@ MayBeOffered s by message lines t = (((c : Claimed) × (claim_by s by ≡ Some c
 -- what orders so much is answered
 abbrev pub IsOffered : Stage → ℕ → List ℕ → List Line → List Line → Stage → Type 0
 IsOffered old by message before after new =
-    (order : Order) → ((s t : Scene) (lines : List Print) → MayBeOffered s by message lines t → Answers s order lines t) → IsAnswered old order before after new
+    (order : CommandContent) → ((s t : Scene) (lines : List Print) → MayBeOffered s by message lines t → Answers s order lines t) → IsAnswered old order before after new
 
 -- lines of a script one after the other
-pub record Continued (old : Scene) (orders : List Order) (before after : List Print) (new : Stage) : Type 0 where
+pub record Continued (old : Scene) (orders : List CommandContent) (before after : List Print) (new : Stage) : Type 0 where
   pub played : List Played
   pub scene : Scene
   pub of_orders : map (λ p. p.order) played ≡ orders
@@ -77,11 +77,11 @@ pub record Continued (old : Scene) (orders : List Order) (before after : List Pr
   pub printed : after ≡ before ++ flat_map (λ p. p.lines) played
   pub shows : ShowsScene new scene
 
-abbrev pub Continues : Stage → List Order → List Line → List Line → Stage → Type 0
+abbrev pub Continues : Stage → List CommandContent → List Line → List Line → Stage → Type 0
 Continues old orders before after new = (s : Scene) → ShowsScene old s → Continued s orders (prints before) (prints after) new
 
 -- the same behind the line of an opened log
-abbrev pub ContinuesOpen : Stage → List Order → List Line → List Line → Stage → Type 0
+abbrev pub ContinuesOpen : Stage → List CommandContent → List Line → List Line → Stage → Type 0
 ContinuesOpen old orders before after new = (s : Scene) → ShowsScene old s → Continued s orders (prints before ++ Open ∷ []) (prints after) new
 
 -- the eight receivers of a log that was just opened
@@ -92,7 +92,7 @@ abbrev pub AreListening : Identity → List Subscribing → Type 0
 AreListening i vs = AllShow vs (map (listening_at i) numbers)
 
 -- the lines of a script from the opened log on, and the book
-pub record RunsTo (i : Identity) (start readers : ℕ) (orders : List Order) (before after : List Print) : Type 0 where
+pub record RunsTo (i : Identity) (start readers : ℕ) (orders : List CommandContent) (before after : List Print) : Type 0 where
   pub played : List Played
   pub last : Scene
   pub of_orders : map (λ p. p.order) played ≡ orders

@@ -20,7 +20,7 @@ use log_buffer::{Claimed, LogReader, LogState};
 use log_reader::{advance, next};
 use position::{FrameHead, FrameKind};
 use rotation::{clean_and_limit, set_closed, set_connected};
-use script::{Command, Seat};
+use script::{Command, PartyNumber};
 use std::alloc::{AllocError, Global};
 
 /// Adds the lines of what became of a datagram's frames.
@@ -89,7 +89,7 @@ fn read_line(
 impl Stage {
     /// Plays one command, and adds its lines.
     pub fn play(&mut self, command: &Command, lines: &mut Vec<Line>) -> Result<(), AllocError>
-        ensures { OnOk result (IsAnswered self.old (orders.order command.now) lines.old.items lines.new.items self.new) }
+        ensures { OnOk result (IsAnswered self.old (orders.content_of command.now) lines.old.items lines.new.items self.new) }
     {
         match command {
             Command::Connect => self.connect(lines),
@@ -149,7 +149,7 @@ impl Stage {
 
     fn offer(
         &mut self,
-        publisher: Seat,
+        publisher: PartyNumber,
         message: &[u8],
         lines: &mut Vec<Line>,
     ) -> Result<(), AllocError>
@@ -164,7 +164,7 @@ impl Stage {
 
     fn offer_size(
         &mut self,
-        publisher: Seat,
+        publisher: PartyNumber,
         size: u64,
         lines: &mut Vec<Line>,
     ) -> Result<(), AllocError>
@@ -181,7 +181,7 @@ impl Stage {
     /// Offers a message that the log can hold, and adds its line.
     fn offer_short(
         &mut self,
-        publisher: Seat,
+        publisher: PartyNumber,
         message: &[u8],
         lines: &mut Vec<Line>,
     ) -> Result<(), AllocError>
@@ -193,7 +193,7 @@ impl Stage {
         Ok(())
     }
 
-    fn claim(&mut self, publisher: Seat, size: u64, lines: &mut Vec<Line>) -> Result<(), AllocError>
+    fn claim(&mut self, publisher: PartyNumber, size: u64, lines: &mut Vec<Line>) -> Result<(), AllocError>
         ensures { OnOk result (IsAnswered self.old (orders.Claim publisher.number size) lines.old.items lines.new.items self.new) }
     {
         if size > u64::from(self.log.geometry().max_payload()) {
@@ -206,7 +206,7 @@ impl Stage {
     /// Claims a range for a message that a frame can hold, and adds its line.
     fn claim_short(
         &mut self,
-        publisher: Seat,
+        publisher: PartyNumber,
         size: u32,
         lines: &mut Vec<Line>,
     ) -> Result<(), AllocError>
@@ -218,7 +218,7 @@ impl Stage {
         Ok(())
     }
 
-    fn commit(&mut self, publisher: Seat, lines: &mut Vec<Line>) -> Result<(), AllocError>
+    fn commit(&mut self, publisher: PartyNumber, lines: &mut Vec<Line>) -> Result<(), AllocError>
         ensures { OnOk result (IsAnswered self.old (orders.Commit publisher.number) lines.old.items lines.new.items self.new) }
     {
         let line = commit_by(&mut self.log, &mut self.writers, publisher.number);
@@ -226,7 +226,7 @@ impl Stage {
         Ok(())
     }
 
-    fn abort(&mut self, publisher: Seat, lines: &mut Vec<Line>) -> Result<(), AllocError>
+    fn abort(&mut self, publisher: PartyNumber, lines: &mut Vec<Line>) -> Result<(), AllocError>
         ensures { OnOk result (IsAnswered self.old (orders.Abort publisher.number) lines.old.items lines.new.items self.new) }
     {
         let line = abort_by(&mut self.log, &mut self.writers, publisher.number);
@@ -234,7 +234,7 @@ impl Stage {
         Ok(())
     }
 
-    fn read(&mut self, reader: Seat, lines: &mut Vec<Line>) -> Result<(), AllocError>
+    fn read(&mut self, reader: PartyNumber, lines: &mut Vec<Line>) -> Result<(), AllocError>
         ensures { OnOk result (IsAnswered self.old (orders.Read reader.number) lines.old.items lines.new.items self.new) }
     {
         if reader.number == 0 || reader.number > self.readers.len() {
@@ -275,7 +275,7 @@ impl Stage {
     fn deliver(
         &mut self,
         packet: u64,
-        receiver: Seat,
+        receiver: PartyNumber,
         now: u64,
         lines: &mut Vec<Line>,
     ) -> Result<(), AllocError>
@@ -289,14 +289,14 @@ impl Stage {
         tell(lines, &outcomes)
     }
 
-    fn tick(&mut self, receiver: Seat, now: u64, lines: &mut Vec<Line>) -> Result<(), AllocError>
+    fn tick(&mut self, receiver: PartyNumber, now: u64, lines: &mut Vec<Line>) -> Result<(), AllocError>
         ensures { OnOk result (IsAnswered self.old (orders.Tick receiver.number now) lines.old.items lines.new.items self.new) }
     {
         let replies = self.subscribers[receiver.number].tick(now);
         self.packets.tell_replies(&replies, lines)
     }
 
-    fn poll(&mut self, receiver: Seat, lines: &mut Vec<Line>) -> Result<(), AllocError>
+    fn poll(&mut self, receiver: PartyNumber, lines: &mut Vec<Line>) -> Result<(), AllocError>
         ensures { OnOk result (IsAnswered self.old (orders.Poll receiver.number) lines.old.items lines.new.items self.new) }
     {
         let line = self.subscribers[receiver.number].poll();
@@ -304,7 +304,7 @@ impl Stage {
         Ok(())
     }
 
-    fn image(&self, receiver: Seat, lines: &mut Vec<Line>) -> Result<(), AllocError>
+    fn image(&self, receiver: PartyNumber, lines: &mut Vec<Line>) -> Result<(), AllocError>
         ensures { OnOk result (IsAnswered self.now (orders.Image receiver.number) lines.old.items lines.new.items self.now) }
     {
         let line = self.subscribers[receiver.number].image();

@@ -32,7 +32,7 @@ use world::every_run;
 
 /// The lines that a script prints, or that memory was refused.
 pub fn play(alloc: Global, script: &Script) -> Result<Vec<Line>, AllocError>
-    ensures { IfOk result (λ lines. Plays (meaning.told script.now) (prints lines.items)) }
+    ensures { IfOk result (λ lines. Plays (meaning.script_content script.now) (prints lines.items)) }
 {
     let mut lines = Vec::new(alloc);
     let log = &script.log;
@@ -177,7 +177,7 @@ fn play_open(
     commands: &[Command],
     lines: &mut Vec<Line>,
 ) -> Result<(), AllocError>
-    ensures { OnOk result (ContinuesOpen stage.old (meaning.orders commands.now) lines.old.items lines.new.items stage.new) }
+    ensures { OnOk result (ContinuesOpen stage.old (meaning.contents_of commands.now) lines.old.items lines.new.items stage.new) }
 {
     lines.push(Line::Open)?;
     play_all(stage, commands, lines)
@@ -189,7 +189,7 @@ fn play_all(
     commands: &[Command],
     lines: &mut Vec<Line>,
 ) -> Result<(), AllocError>
-    ensures { OnOk result (Continues stage.old (meaning.orders commands.now) lines.old.items lines.new.items stage.new) }
+    ensures { OnOk result (Continues stage.old (meaning.contents_of commands.now) lines.old.items lines.new.items stage.new) }
 {
     for command in commands {
         stage.play(command, lines)?;
@@ -204,7 +204,7 @@ fn run(
     mut lines: Vec<Line>,
 ) -> Result<Vec<Line>, AllocError>
     requires { ShowsScene stage (opened_scene stage.log.identity stage.log.start (vec_len stage.readers)) }
-    ensures { IfOk result (λ after. RunsTo stage.log.identity stage.log.start (vec_len stage.readers) (meaning.orders commands.now) (prints lines.items) (prints after.items)) }
+    ensures { IfOk result (λ after. RunsTo stage.log.identity stage.log.start (vec_len stage.readers) (meaning.contents_of commands.now) (prints lines.items) (prints after.items)) }
 {
     let played = play_open(&mut stage, commands, &mut lines);
     let book = stage.end();
