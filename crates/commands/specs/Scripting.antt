@@ -1,13 +1,13 @@
 -- Why the script on an input isn't played, where the input's bytes are known.
 use Rattle.std.specs.Prelude.{◌≤◌, ◌<◌, ℕ, List, length, ⊤}
 use Rattle.script.specs.Language.{IsFaultLine, IsScript}
-use Rattle.script.specs.Meaning.{Told}
+use Rattle.script.specs.Meaning.{ScriptContent}
 use Rattle.mdriver.specs.declared.fault.Fault.{Fault}
 use Rattle.mdriver.specs.declared.fault.Fault.TheVariants.{Line, Input, Memory, Hex, Frame, Read, Write}
 
 -- it is a script, of at most 1 MiB
 abbrev pub HoldsScript : List ℕ → Type 0
-HoldsScript bytes = (length bytes ≤ 1048576) × ((script : Told) × IsScript bytes script)
+HoldsScript bytes = (length bytes ≤ 1048576) × ((script : ScriptContent) × IsScript bytes script)
 
 -- why not all of it is taken; for want of memory, or where the input fails, any may be refused
 abbrev pub ExplainsInput : List ℕ → Fault → Type 0

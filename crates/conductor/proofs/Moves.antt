@@ -12,7 +12,7 @@ use Rattle.conductor.specs.Commands.{of, as_submitted, Begins}
 use Rattle.conductor.specs.Hands.{nobody, first_taker, after_opening, new_client, teller, after_hearing, after_end, after_submitting, after_taking}
 use Rattle.conductor.specs.Rule.{AreThere, HoldsLastOf, AreSame, FitsClient, FitsTaker, Fits, Kept}
 use Rattle.conductor.proofs.Seats.{each_set, each_new}
-use Rattle.conductor.proofs.Submitting.{of-append, of-same, of-not, of-own, of-other, goes_on, all_told}
+use Rattle.conductor.proofs.Submitting.{of-append, of-same, of-not, of-own, of-other, goes_on, all_reports}
 
 never : {A : Type 0} → false ≡ true → A
 never e = absurd (true≢false (sym e))
@@ -63,7 +63,7 @@ submits n port v m may from items views room h at =
       client = λ _. record { here = own.here; all = ap (λ l. l ++ m.command ∷ []) own.all ∙ ap (λ l. h.sent v.client ++ l) (sym (of-same v.client m [] from)); made_before = own.made_before; not_ended = own.not_ended };
       taker = λ t. let old = taker port v (mine.taker t) in record { here = old.here; all = old.all; made_so_far = old.made_so_far; left_now = old.left_now; ended = old.ended; unknown = old.unknown };
       told = subst (λ (x : List Command). Begins (v.put ++ m.command ∷ []) x) (ap (λ l. l ++ m.command ∷ []) own.all ∙ ap (λ l. h.sent v.client ++ l) (sym (of-same v.client m [] from))) ([], sym (append-nil (v.put ++ m.command ∷ [])));
-      heard = all_told h.sent (grown h.sent m) v.heard on mine.heard;
+      heard = all_reports h.sent (grown h.sent m) v.heard on mine.heard;
     } in
     let others : (j : ℕ) (u : Hand) → j ≢ port → get_elem? views j ≡ some u → F j u = λ j u other e.
     let theirs = h.each j u e in record {
@@ -72,7 +72,7 @@ submits n port v m may from items views room h at =
           record { here = c.here; all = c.all ∙ sym (grown_else h.sent m u.client apart); made_before = c.made_before; not_ended = c.not_ended };
       taker = λ t. taker j u (theirs.taker t);
       told = on u.client u.put theirs.told;
-      heard = all_told h.sent (grown h.sent m) u.heard on theirs.heard;
+      heard = all_reports h.sent (grown h.sent m) u.heard on theirs.heard;
     } in (
       after_submitting v m,
       record {
@@ -126,7 +126,7 @@ pub there : (port : ℕ) (v : Hand) → v.takes ≡ true → Learns Kept port v 
 there port v may items views h at =
     let mine = h.each port v at in
     let own = mine.taker may in
-    all_told h.sent (λ p. of p (v.taken ++ items)) v.heard (λ p xs b. subst (λ (x : List Command). Begins xs x) (sym (h.all p) ∙ ap (λ l. of p (l ++ items)) (sym own.all)) b) mine.heard
+    all_reports h.sent (λ p. of p (v.taken ++ items)) v.heard (λ p xs b. subst (λ (x : List Command). Begins xs x) (sym (h.all p) ∙ ap (λ l. of p (l ++ items)) (sym own.all)) b) mine.heard
 
 pub totals : (port : ℕ) (v : Hand) → v.takes ≡ true → v.left ≡ 0 → Learns Kept port v (λ items. AreSame (v.taken ++ items) v.known)
 totals port v may none items views h at = λ p.

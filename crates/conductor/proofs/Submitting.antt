@@ -4,7 +4,7 @@ use Rattle.std.specs.List.{AllByRecursion}
 use Rattle.std.proofs.lemmas.Bool.{cases_Bool, cond-true, cond-false}
 use Rattle.conductor.specs.declared.command.Command.{Command}
 use Rattle.conductor.specs.declared.command.Submitted.{Submitted}
-use Rattle.conductor.specs.declared.hand.Told.{Told}
+use Rattle.conductor.specs.declared.hand.Report.{Report}
 use Rattle.conductor.specs.Commands.{of, as_submitted, Begins}
 
 pub of-append : (p : ℕ) (xs ys : List Submitted) → of p (xs ++ ys) ≡ of p xs ++ of p ys
@@ -37,6 +37,6 @@ of-other p q (c ∷ cs) ne = of-not q (record { client = p; command = c }) (as_s
 pub goes_on : (xs ys zs : List Command) → Begins xs ys → Begins xs (ys ++ zs)
 goes_on xs ys zs b = (b.0 ++ zs, ap (λ l. l ++ zs) b.1 ∙ append_assoc xs b.0 zs)
 
-pub all_told : (sent sent' : ℕ → List Command) (heard : List Told) → ((p : ℕ) (xs : List Command) → Begins xs (sent p) → Begins xs (sent' p)) → AllByRecursion (λ (t : Told). Begins t.commands (sent t.client)) heard → AllByRecursion (λ (t : Told). Begins t.commands (sent' t.client)) heard
-all_told sent sent' [] on h = tt
-all_told sent sent' (t ∷ ts) on h = (on t.client t.commands h.0, all_told sent sent' ts on h.1)
+pub all_reports : (sent sent' : ℕ → List Command) (heard : List Report) → ((p : ℕ) (xs : List Command) → Begins xs (sent p) → Begins xs (sent' p)) → AllByRecursion (λ (t : Report). Begins t.commands (sent t.client)) heard → AllByRecursion (λ (t : Report). Begins t.commands (sent' t.client)) heard
+all_reports sent sent' [] on h = tt
+all_reports sent sent' (t ∷ ts) on h = (on t.client t.commands h.0, all_reports sent sent' ts on h.1)

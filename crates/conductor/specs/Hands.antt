@@ -2,7 +2,7 @@
 use Rattle.std.specs.Prelude.{◌+◌, true, false, [], ◌∷◌, ◌++◌}
 use Rattle.conductor.specs.declared.command.Submitted.{Submitted}
 use Rattle.conductor.specs.declared.hand.Hand.{Hand}
-use Rattle.conductor.specs.declared.hand.Told.{Told}
+use Rattle.conductor.specs.declared.hand.Report.{Report}
 use Rattle.conductor.specs.Commands.{as_submitted}
 
 abbrev pub nobody : Hand
@@ -20,11 +20,11 @@ new_client v = record { submits = true; takes = false; client = v.made; put = []
 abbrev pub teller : Hand → Hand
 teller v = record { submits = false; takes = false; client = v.client; put = v.put; taken = []; heard = []; known = []; made = 0; left = 0 }
 
-abbrev pub told_by : Hand → Told
-told_by w = record { client = w.client; commands = w.put }
+abbrev pub report_of : Hand → Report
+report_of w = record { client = w.client; commands = w.put }
 
 abbrev pub after_hearing : Hand → Hand → Hand
-after_hearing v w = record v { heard = told_by w ∷ v.heard }
+after_hearing v w = record v { heard = report_of w ∷ v.heard }
 
 abbrev pub after_end : Hand → Hand → Hand
 after_end v w = record v { known = v.known ++ as_submitted w.client w.put; left = w.client }

@@ -3,7 +3,7 @@ use Rattle.std.specs.Prelude.{◌≡◌, ℕ, List, [], ◌++◌, length, slice_
 use Rattle.atomic_table.specs.Seated.{TableId}
 use Rattle.conductor.specs.declared.command.Command.{Command}
 use Rattle.conductor.specs.declared.command.Submitted.{Submitted}
-use Rattle.conductor.specs.declared.hand.Told.{Told}
+use Rattle.conductor.specs.declared.hand.Report.{Report}
 use Rattle.conductor.specs.Commands.{of}
 use Rattle.conductor.specs.Rule.{HoldsLastOf}
 
@@ -17,7 +17,7 @@ pub record ClientSeen : Type 0 where
 pub record TakerSeen : Type 0 where
   pub queue : TableId
   pub taken : List Submitted
-  pub heard : List Told
+  pub heard : List Report
 
 -- the queue held 64 commands, and of this client its last ones
 pub record WasFull (c : ClientSeen) : Type 0 where

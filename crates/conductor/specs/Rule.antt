@@ -6,11 +6,11 @@ use lib.ListN.{get_elem?}
 use Rattle.conductor.specs.declared.command.Command.{Command}
 use Rattle.conductor.specs.declared.command.Submitted.{Submitted}
 use Rattle.conductor.specs.declared.hand.Hand.{Hand}
-use Rattle.conductor.specs.declared.hand.Told.{Told}
+use Rattle.conductor.specs.declared.hand.Report.{Report}
 use Rattle.conductor.specs.Commands.{of, Begins}
 
 -- what was told of is there, in order
-abbrev pub AreThere : List Told → List Submitted → Type 0
+abbrev pub AreThere : List Report → List Submitted → Type 0
 AreThere heard ms = AllByRecursion (λ t. Begins t.commands (of t.client ms)) heard
 
 -- the client's commands among these are the last that it submitted

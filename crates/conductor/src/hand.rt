@@ -5,8 +5,8 @@ use crossbeam_queue::protocol::{Join, Lesson, Outcome, Protocol, Split};
 use crossbeam_queue::{Pass, RuledArrayQueue};
 use std::collections::LinkedList;
 
-/// What a client had submitted when it told of it.
-pub struct Told {
+/// What a client had submitted when it reported it.
+pub struct Report {
     pub client: usize,
     pub commands: LinkedList<Command>,
 }
@@ -22,7 +22,7 @@ pub struct Hand {
     /// What was taken.
     pub taken: LinkedList<Submitted>,
     /// What the taker was told of.
-    pub heard: LinkedList<Told>,
+    pub heard: LinkedList<Report>,
     /// What the clients that have ended had submitted.
     pub known: LinkedList<Submitted>,
     /// How many clients there were made.

@@ -97,8 +97,8 @@ impl Conductor {
         ensures client { client.new ≡ client.old }
         ensures taker { taker.new ≡ record taker.old { heard = record { client = client.old.number; commands = client.old.accepted } ∷ taker.old.heard } }
     {
-        let told = self.line.another::<Tells>(&mut client.seat);
-        self.line.absorb::<Hears>(&mut taker.seat, told);
+        let report = self.line.another::<Tells>(&mut client.seat);
+        self.line.absorb::<Hears>(&mut taker.seat, report);
     }
 }
 

@@ -6,12 +6,12 @@ use Rattle.theory.specs.Entry.{committed}
 use Rattle.theory.specs.FlowLimit.{clipped, flow_limit}
 use Rattle.theory.specs.Placed.{Placed, end_of}
 use Rattle.theory.specs.Position.{position_of}
-use Rattle.theory.specs.Sender.{Sender}
+use Rattle.model.specs.Sender.{Sender}
 use Rattle.theory.specs.Timing.{seen}
 use Rattle.theory.specs.Wire.{Wire}
 use Rattle.log_buffer.specs.Log.{Log}
 use Rattle.log_buffer.specs.Reader.{Reader}
-use Rattle.script.specs.Meaning as orders
+use Rattle.script.specs.Meaning as commands
 use Rattle.setup.specs.Naming.{Naming, after_due, is_due}
 use Rattle.mdriver.specs.declared.line.Line.{Line}
 use Rattle.mdriver.specs.declared.line.Line.TheVariants as lines
@@ -20,7 +20,7 @@ use Rattle.sender.specs.declared.sender_core.SenderAnswer.TheVariants as answers
 use Rattle.mdriver.specs.declared.stage.Stage.{Stage}
 use Rattle.script_run.specs.Answers.{after_cycle, clock_at, cycled, given_out, heard, limit_of, lines_of, named, or_nothing, packet_lines, sent_on, wires_of, with_sender, woken}
 use Rattle.sender.specs.Cycling.{AsksSetup, IsNews, IsNextSent, NewsContent, Says, TellsNothing, Unreadable, datagrams, sent_wires, setups}
-use Rattle.script_run.specs.LineContents.{OfSender, contents_of}
+use Rattle.script_run.specs.LineContents.{OfSender, line_contents}
 use Rattle.script_run.specs.ScriptState.{ScriptState}
 use Rattle.sender.specs.Sending.{AreBehind, Cycles, Hears, HearsDatagram, Sending, at_moment}
 use Rattle.script_run.proofs.SenderRuns.{named_at, named_said}
@@ -67,7 +67,7 @@ behind_is others l m r q x (Some s) one here zeroth b =
       number = ap (λ y. y.number) b.1 ∙ zeroth;
     }
 
-pub send_answered : (old new : Stage) (now : ℕ) (m : Log) (t : Sending ℕ) (sent : List (List ℕ)) (before after : List Line) → old.log.identity ≡ old.sender.identity → Cycles (λ f n. f) (λ f. f) (at_moment old.sender now) old.log m t sent → OnlySender old new m t sent → contents_of after ≡ contents_of before ++ or_nothing (packet_lines (length old.packets) sent) → IsAnswered old (orders.Send now) before after new
+pub send_answered : (old new : Stage) (now : ℕ) (m : Log) (t : Sending ℕ) (sent : List (List ℕ)) (before after : List Line) → old.log.identity ≡ old.sender.identity → Cycles (λ f n. f) (λ f. f) (at_moment old.sender now) old.log m t sent → OnlySender old new m t sent → line_contents after ≡ line_contents before ++ or_nothing (packet_lines (length old.packets) sent) → IsAnswered old (commands.Send now) before after new
 send_answered old new now m t sent before after same c o told = λ s h.
     let y = c.cycle in
     let v = old.sender in
@@ -84,7 +84,7 @@ send_answered old new now m t sent before after same c o told = λ s h.
       lines = or_nothing (lines_of s (wires_of s y));
       scene = scene;
       answers = (y, (due, next), refl, refl);
-      printed = told ∙ ap (λ ws. contents_of before ++ or_nothing (packet_lines (length old.packets) ws)) wires ∙ ap (λ ps. contents_of before ++ or_nothing (packet_lines (length ps) (datagrams (wires_of s y)))) (sym h.packets);
+      printed = told ∙ ap (λ ws. line_contents before ++ or_nothing (packet_lines (length old.packets) ws)) wires ∙ ap (λ ps. line_contents before ++ or_nothing (packet_lines (length ps) (datagrams (wires_of s y)))) (sym h.packets);
       shows = record {
         log = ap (λ (l : Log). record l { consumers = (cycled s now y).at ∷ map (λ c. c.at) s.readers }) h.log ∙ sym (o.log ∙ behind.log);
         sender = subst (λ x. RepresentsSender x scene) (sym o.sender) (record {
@@ -128,10 +128,10 @@ heard_shown old new s x naming t wires sent h o at reader flow name clock out =
 quiet_shown : (new : Stage) (s : ScriptState) (x : Sender) (naming : Naming) → RepresentsState new (record (given_out s []) { sender = x; naming = naming }) → RepresentsState new (record s { sender = x; naming = naming })
 quiet_shown new s x naming h = subst (λ ps. RepresentsState new (record s { packets = ps; sender = x; naming = naming })) (append-nil s.packets) h
 
-answer_line : (before after : List Line) (answer is : SenderAnswer) (k : ℕ) (sent : List (List ℕ)) → contents_of after ≡ contents_of before ++ (OfSender answer ∷ packet_lines k sent) → answer ≡ is → sent ≡ [] → contents_of after ≡ contents_of before ++ OfSender is ∷ []
-answer_line before after answer is k sent told same none = told ∙ ap (λ a. contents_of before ++ (OfSender a ∷ packet_lines k sent)) same ∙ ap (λ ws. contents_of before ++ (OfSender is ∷ packet_lines k ws)) none
+answer_line : (before after : List Line) (answer is : SenderAnswer) (k : ℕ) (sent : List (List ℕ)) → line_contents after ≡ line_contents before ++ (OfSender answer ∷ packet_lines k sent) → answer ≡ is → sent ≡ [] → line_contents after ≡ line_contents before ++ OfSender is ∷ []
+answer_line before after answer is k sent told same none = told ∙ ap (λ a. line_contents before ++ (OfSender a ∷ packet_lines k sent)) same ∙ ap (λ ws. line_contents before ++ (OfSender is ∷ packet_lines k ws)) none
 
-reply_news : (old new : Stage) (s : ScriptState) (k now : ℕ) (bytes : List ℕ) (news : NewsContent) (answer : SenderAnswer) (t : Sending ℕ) (sent : List (List ℕ)) (before after : List Line) → RepresentsState old s → old.log.identity ≡ old.sender.identity → slice_get old.packets k ≡ Some bytes → IsNews old.sender.identity bytes news → Hears after_told (λ f. f) (at_moment old.sender now) news answer t sent → OnlySender old new old.log t sent → contents_of after ≡ contents_of before ++ (OfSender answer ∷ packet_lines (length old.packets) sent) → Answered s (orders.Reply k now) (contents_of before) (contents_of after) new
+reply_news : (old new : Stage) (s : ScriptState) (k now : ℕ) (bytes : List ℕ) (news : NewsContent) (answer : SenderAnswer) (t : Sending ℕ) (sent : List (List ℕ)) (before after : List Line) → RepresentsState old s → old.log.identity ≡ old.sender.identity → slice_get old.packets k ≡ Some bytes → IsNews old.sender.identity bytes news → Hears after_told (λ f. f) (at_moment old.sender now) news answer t sent → OnlySender old new old.log t sent → line_contents after ≡ line_contents before ++ (OfSender answer ∷ packet_lines (length old.packets) sent) → Answered s (commands.Reply k now) (line_contents before) (line_contents after) new
 reply_news old new s k now bytes (Says f) answer t sent before after h same packet is hears o told =
     let identity : old.sender.identity ≡ s.log.identity = sym same ∙ ap (λ l. l.identity) (sym h.log) in
     let clock : seen old.sender.clock now ≡ clock_at s now = ap (λ c. seen c now) h.sender.clock in
@@ -158,7 +158,7 @@ reply_news old new s k now bytes AsksSetup answer t sent before after h same pac
       lines = OfSender answers.Asked ∷ lines_of s out;
       scene = with_sender (given_out s out) x;
       answers = inr (bytes, AsksSetup, ap (λ ps. slice_get ps k) h.packets ∙ packet, subst (λ i. IsNews i bytes AsksSetup) identity is, (refl, refl));
-      printed = told ∙ ap (λ a. contents_of before ++ (OfSender a ∷ packet_lines (length old.packets) sent)) hears.1 ∙ ap (λ ws. contents_of before ++ (OfSender answers.Asked ∷ packet_lines (length old.packets) ws)) wires ∙ ap (λ ps. contents_of before ++ (OfSender answers.Asked ∷ packet_lines (length ps) (datagrams out))) (sym h.packets);
+      printed = told ∙ ap (λ a. line_contents before ++ (OfSender a ∷ packet_lines (length old.packets) sent)) hears.1 ∙ ap (λ ws. line_contents before ++ (OfSender answers.Asked ∷ packet_lines (length old.packets) ws)) wires ∙ ap (λ ps. line_contents before ++ (OfSender answers.Asked ∷ packet_lines (length ps) (datagrams out))) (sym h.packets);
       shows = heard_shown old new s x s.naming t out sent h o refl (ap (λ y. y.reader) hears.0) (ap (λ y. y.flow) hears.0 ∙ h.sender.flow) (ap (λ y. y.naming) hears.0 ∙ h.sender.naming) (ap (λ y. y.clock) hears.0 ∙ clock) wires;
     }
 reply_news old new s k now bytes TellsNothing answer t sent before after h same packet is hears o told =
@@ -181,8 +181,8 @@ reply_news old new s k now bytes (Unreadable fault) answer t sent before after h
       shows = quiet_shown new s (woken s now) s.naming (heard_shown old new s (woken s now) s.naming t [] sent h o refl (ap (λ y. y.reader) hears.0) (ap (λ y. y.flow) hears.0 ∙ h.sender.flow) (ap (λ y. y.naming) hears.0 ∙ h.sender.naming) (ap (λ y. y.clock) hears.0 ∙ clock) hears.2);
     }
 
-pub reply_answered : (old new : Stage) (k now : ℕ) (bytes : List ℕ) (answer : SenderAnswer) (t : Sending ℕ) (sent : List (List ℕ)) (before after : List Line) → old.log.identity ≡ old.sender.identity → slice_get old.packets k ≡ Some bytes → HearsDatagram after_told (λ f. f) (at_moment old.sender now) bytes answer t sent → OnlySender old new old.log t sent → contents_of after ≡ contents_of before ++ (OfSender answer ∷ packet_lines (length old.packets) sent) → IsAnswered old (orders.Reply k now) before after new
+pub reply_answered : (old new : Stage) (k now : ℕ) (bytes : List ℕ) (answer : SenderAnswer) (t : Sending ℕ) (sent : List (List ℕ)) (before after : List Line) → old.log.identity ≡ old.sender.identity → slice_get old.packets k ≡ Some bytes → HearsDatagram after_told (λ f. f) (at_moment old.sender now) bytes answer t sent → OnlySender old new old.log t sent → line_contents after ≡ line_contents before ++ (OfSender answer ∷ packet_lines (length old.packets) sent) → IsAnswered old (commands.Reply k now) before after new
 reply_answered old new k now bytes answer t sent before after same packet c o told = λ s h. reply_news old new s k now bytes c.news answer t sent before after h same packet c.is c.hears o told
 
-pub replied_lines : (before between after : List Line) (answer : SenderAnswer) (k : ℕ) (sent : List (List ℕ)) → between ≡ before ++ lines.Sender answer ∷ [] → contents_of after ≡ contents_of between ++ packet_lines k sent → contents_of after ≡ contents_of before ++ (OfSender answer ∷ packet_lines k sent)
-replied_lines before between after answer k sent one more = more ∙ ap (λ ls. ls ++ packet_lines k sent) (one_line before between (lines.Sender answer) one) ∙ append_assoc (contents_of before) (OfSender answer ∷ []) (packet_lines k sent)
+pub replied_lines : (before between after : List Line) (answer : SenderAnswer) (k : ℕ) (sent : List (List ℕ)) → between ≡ before ++ lines.Sender answer ∷ [] → line_contents after ≡ line_contents between ++ packet_lines k sent → line_contents after ≡ line_contents before ++ (OfSender answer ∷ packet_lines k sent)
+replied_lines before between after answer k sent one more = more ∙ ap (λ ls. ls ++ packet_lines k sent) (one_line before between (lines.Sender answer) one) ∙ append_assoc (line_contents before) (OfSender answer ∷ []) (packet_lines k sent)

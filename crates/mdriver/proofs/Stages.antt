@@ -1,4 +1,4 @@
--- What the calls of a line's handler left is a step of the states that the stage shows.
+-- What the calls of a line's handler left is a step of the scenes that the stage shows.
 use Rattle.std.proofs.Common.{◌≡◌, ◌⊎◌, ℕ, zero, suc, ◌-◌, ◌<◌, ◌≤◌, drop, List, [], ◌∷◌, ◌++◌, map, length, Option, None, Some, inl, inr, refl, sym, ap, ◌∙◌, subst, arith}
 use Rattle.std.specs.Prelude.{◌%◌, slice_get, slice_set, slice_index, slice_index_or, Result, Ok, Err, OnOk}
 use Rattle.std.proofs.lemmas.List.{length-map, map-append, map-set, set-get_or}
@@ -15,8 +15,8 @@ use Rattle.std.specs.Prelude.{replicate}
 use Rattle.rotation.specs.Limited.{CleansAndLimits, raised}
 use Rattle.publication.specs.Offers.{Course, IsClosed, IsStale, IsUsedUp, IsLimited, Fits, Trips, after, after_claim, after_offer, answer_of, course_of, covered}
 use Rattle.publication.specs.declared.refusal.Refusal.{Refusal}
-use Rattle.script.specs.Meaning as orders
-use Rattle.script.specs.Meaning.{Order}
+use Rattle.script.specs.Meaning as commands
+use Rattle.script.specs.Meaning.{CommandContent}
 use Rattle.mdriver.specs.declared.line.Line.{Line}
 use Rattle.mdriver.specs.declared.stage.Stage.{Stage}
 use Rattle.theory.specs.Wire.{Wire}
@@ -24,7 +24,7 @@ use Rattle.receiver.specs.declared.receiver_core.Outcome.{Outcome}
 use Rattle.script_run.specs.Answers.{Answers, AreFrames, Claims, HasClaim, MayNotTake, OffersMessage, MayClaim, MayOffer, Offered, claim_by, reader_at, with_claim, with_reader, given_out, lines_of, or_nothing, packet_lines, with_log, with_receiver}
 use Rattle.sender.specs.Cycling.{datagrams}
 use Rattle.receiver.specs.Polling.{Polls, TellsPositions}
-use Rattle.script_run.specs.LineContents.{Bad, Limit, OfReceiver, LineContent, content_of, contents_of}
+use Rattle.script_run.specs.LineContents.{Bad, Limit, OfReceiver, LineContent, line_content, line_contents}
 use Rattle.receiver.specs.Receiving.{Hears, Receiver, replies, ticked}
 use Rattle.script_run.specs.ScriptState.{ScriptState}
 use Rattle.sender.specs.Sending.{Sending}
@@ -46,8 +46,8 @@ use Rattle.script_run.proofs.Runs.{map_get}
 
 -- ---- lines
 
-pub one_line : (before after : List Line) (line : Line) → after ≡ before ++ line ∷ [] → contents_of after ≡ contents_of before ++ content_of line ∷ []
-one_line before after line e = ap contents_of e ∙ map-append content_of before (line ∷ [])
+pub one_line : (before after : List Line) (line : Line) → after ≡ before ++ line ∷ [] → line_contents after ≡ line_contents before ++ line_content line ∷ []
+one_line before after line e = ap line_contents e ∙ map-append line_content before (line ∷ [])
 
 -- ---- subscribers
 
@@ -127,11 +127,11 @@ offered s new by m (Err refusal) line o = (ap (λ x. x ∷ []) o.0, refl)
 
 -- ---- the keeper
 
-pub limit_answered : (old new : Stage) (line : Line) (before after : List Line) → IsLog old.log → CleansAndLimits old.log new.log → content_of line ≡ Limit (raised old.log) → OnlyLog old new new.log → after ≡ before ++ line ∷ [] → IsAnswered old orders.Limit before after new
+pub limit_answered : (old new : Stage) (line : Line) (before after : List Line) → IsLog old.log → CleansAndLimits old.log new.log → line_content line ≡ Limit (raised old.log) → OnlyLog old new new.log → after ≡ before ++ line ∷ [] → IsAnswered old commands.Limit before after new
 limit_answered old new line before after legal done shown same told = λ s h.
     let kept : CleansAndLimits s.log new.log = subst (λ l. CleansAndLimits l new.log) (sym h.log) done in
     record {
-      lines = content_of line ∷ [];
+      lines = line_content line ∷ [];
       scene = record s { log = new.log; past = s.past ++ kept.cleans.past };
       answers = record { legal = subst IsLog (sym h.log) legal; log = new.log; done = kept; shown = ap (λ x. x ∷ []) shown ∙ ap (λ l. Limit (raised l) ∷ []) (sym h.log); new_is = refl };
       printed = one_line before after line told;
@@ -155,25 +155,25 @@ subscriber_shown old new s k v r h o shown = record {
   packets = h.packets ∙ sym o.packets;
 }
 
-pub poll_answered : (old new : Stage) (k : ℕ) (v w : Subscribing) (line : Line) (before after : List Line) → slice_get old.subscribers.items k ≡ Some v → Becomes v w (λ r s. Polls r (content_of line) s) → OnlySubscriber old new k w → after ≡ before ++ line ∷ [] → IsAnswered old (orders.Poll k) before after new
+pub poll_answered : (old new : Stage) (k : ℕ) (v w : Subscribing) (line : Line) (before after : List Line) → slice_get old.subscribers.items k ≡ Some v → Becomes v w (λ r s. Polls r (line_content line) s) → OnlySubscriber old new k w → after ≡ before ++ line ∷ [] → IsAnswered old (commands.Poll k) before after new
 poll_answered old new k v w line before after there polls o told = λ s h.
     let found = shows_at old.subscribers.items s.receivers k v h.receivers there in
     let next = polls found.0 found.2 in
     record {
-      lines = content_of line ∷ [];
+      lines = line_content line ∷ [];
       scene = with_receiver s k next.0;
-      answers = (content_of line, found.0, next.0, found.1, next.1, refl, refl);
+      answers = (line_content line, found.0, next.0, found.1, next.1, refl, refl);
       printed = one_line before after line told;
       shows = subscriber_shown old new s k w next.0 h o next.2;
     }
 
-pub image_answered : (old : Stage) (k : ℕ) (v : Subscribing) (line : Line) (before after : List Line) → slice_get old.subscribers.items k ≡ Some v → ((r : Receiver) → RepresentsSubscriber v r → TellsPositions r (content_of line)) → after ≡ before ++ line ∷ [] → IsAnswered old (orders.Image k) before after old
+pub image_answered : (old : Stage) (k : ℕ) (v : Subscribing) (line : Line) (before after : List Line) → slice_get old.subscribers.items k ≡ Some v → ((r : Receiver) → RepresentsSubscriber v r → TellsPositions r (line_content line)) → after ≡ before ++ line ∷ [] → IsAnswered old (commands.Image k) before after old
 image_answered old k v line before after there tells told = λ s h.
     let found = shows_at old.subscribers.items s.receivers k v h.receivers there in
     record {
-      lines = content_of line ∷ [];
+      lines = line_content line ∷ [];
       scene = s;
-      answers = (content_of line, found.0, found.1, tells found.0 found.2, refl, refl);
+      answers = (line_content line, found.0, found.1, tells found.0 found.2, refl, refl);
       printed = one_line before after line told;
       shows = h;
     }
@@ -186,25 +186,25 @@ packet_missing old s k h none = none_past s.packets k (ap (λ ps. slice_get ps k
 same_shown : (old new : Stage) (s : ScriptState) → RepresentsState old s → OnlyLog old new old.log → RepresentsState new s
 same_shown old new s h o = log_shown old new s s.log s.past h (record { log = o.log ∙ sym h.log; sender = o.sender; subscribers = o.subscribers; packets = o.packets; claims = o.claims; readers = o.readers }) (ap (λ l. l.consumers) h.log) refl
 
-pub missing_deliver : (old new : Stage) (k n now : ℕ) (line : Line) (before after : List Line) → slice_get old.packets k ≡ None → content_of line ≡ Bad → OnlyLog old new old.log → after ≡ before ++ line ∷ [] → IsAnswered old (orders.Deliver k n now) before after new
+pub missing_deliver : (old new : Stage) (k n now : ℕ) (line : Line) (before after : List Line) → slice_get old.packets k ≡ None → line_content line ≡ Bad → OnlyLog old new old.log → after ≡ before ++ line ∷ [] → IsAnswered old (commands.Deliver k n now) before after new
 missing_deliver old new k n now line before after none bad o told = λ s h. record {
-  lines = content_of line ∷ [];
+  lines = line_content line ∷ [];
   scene = s;
   answers = inl (packet_missing old s k h none, ap (λ x. x ∷ []) bad, refl);
   printed = one_line before after line told;
   shows = same_shown old new s h o;
 }
 
-pub missing_reply : (old new : Stage) (k now : ℕ) (line : Line) (before after : List Line) → slice_get old.packets k ≡ None → content_of line ≡ Bad → OnlyLog old new old.log → after ≡ before ++ line ∷ [] → IsAnswered old (orders.Reply k now) before after new
+pub missing_reply : (old new : Stage) (k now : ℕ) (line : Line) (before after : List Line) → slice_get old.packets k ≡ None → line_content line ≡ Bad → OnlyLog old new old.log → after ≡ before ++ line ∷ [] → IsAnswered old (commands.Reply k now) before after new
 missing_reply old new k now line before after none bad o told = λ s h. record {
-  lines = content_of line ∷ [];
+  lines = line_content line ∷ [];
   scene = s;
   answers = inl (packet_missing old s k h none, ap (λ x. x ∷ []) bad, refl);
   printed = one_line before after line told;
   shows = same_shown old new s h o;
 }
 
-pub deliver_answered : (old new : Stage) (k n now : ℕ) (bytes : List ℕ) (v w : Subscribing) (outs : List Outcome) (before after : List Line) → slice_get old.packets k ≡ Some bytes → slice_get old.subscribers.items n ≡ Some v → Becomes v w (λ r s. Hears r now bytes outs s) → OnlySubscriber old new n w → contents_of after ≡ contents_of before ++ map OfReceiver outs → IsAnswered old (orders.Deliver k n now) before after new
+pub deliver_answered : (old new : Stage) (k n now : ℕ) (bytes : List ℕ) (v w : Subscribing) (outs : List Outcome) (before after : List Line) → slice_get old.packets k ≡ Some bytes → slice_get old.subscribers.items n ≡ Some v → Becomes v w (λ r s. Hears r now bytes outs s) → OnlySubscriber old new n w → line_contents after ≡ line_contents before ++ map OfReceiver outs → IsAnswered old (commands.Deliver k n now) before after new
 deliver_answered old new k n now bytes v w outs before after packet there hears o told = λ s h.
     let found = shows_at old.subscribers.items s.receivers n v h.receivers there in
     let next = hears found.0 found.2 in
@@ -220,7 +220,7 @@ deliver_answered old new k n now bytes v w outs before after packet there hears 
 abbrev pub TickedTo : Stage → Stage → ℕ → Subscribing → List (List ℕ) → Type 0
 TickedTo old new k v packets = IsNow new old.log old.sender (slice_set old.subscribers.items k v) (old.packets ++ packets) (claims_of old) old.readers.items
 
-pub tick_answered : (old new : Stage) (n now : ℕ) (v w : Subscribing) (wires : List Wire) (before after : List Line) → slice_get old.subscribers.items n ≡ Some v → ((r : Receiver) → RepresentsSubscriber v r → wires ≡ replies r now) → ((r : Receiver) → RepresentsSubscriber v r → RepresentsSubscriber w (ticked r now)) → AreFrames wires → TickedTo old new n w (datagrams wires) → contents_of after ≡ contents_of before ++ or_nothing (packet_lines (length old.packets) (datagrams wires)) → IsAnswered old (orders.Tick n now) before after new
+pub tick_answered : (old new : Stage) (n now : ℕ) (v w : Subscribing) (wires : List Wire) (before after : List Line) → slice_get old.subscribers.items n ≡ Some v → ((r : Receiver) → RepresentsSubscriber v r → wires ≡ replies r now) → ((r : Receiver) → RepresentsSubscriber v r → RepresentsSubscriber w (ticked r now)) → AreFrames wires → TickedTo old new n w (datagrams wires) → line_contents after ≡ line_contents before ++ or_nothing (packet_lines (length old.packets) (datagrams wires)) → IsAnswered old (commands.Tick n now) before after new
 tick_answered old new n now v w wires before after there out next frames o told = λ s h.
     let found = shows_at old.subscribers.items s.receivers n v h.receivers there in
     let r = found.0 in
@@ -230,7 +230,7 @@ tick_answered old new n now v w wires before after there out next frames o told 
       lines = or_nothing (lines_of s (replies r now));
       scene = with_receiver (given_out s (replies r now)) n (ticked r now);
       answers = (r, found.1, subst AreFrames sent frames, refl, refl);
-      printed = told ∙ ap (λ ws. contents_of before ++ or_nothing (packet_lines (length old.packets) (datagrams ws))) sent ∙ ap (λ ps. contents_of before ++ or_nothing (packet_lines (length ps) (datagrams (replies r now)))) (sym h.packets);
+      printed = told ∙ ap (λ ws. line_contents before ++ or_nothing (packet_lines (length old.packets) (datagrams ws))) sent ∙ ap (λ ps. line_contents before ++ or_nothing (packet_lines (length ps) (datagrams (replies r now)))) (sym h.packets);
       shows = record {
         log = base.log;
         sender = record { at = base.sender.at; number = base.sender.number; flow = base.sender.flow; naming = base.sender.naming; clock = base.sender.clock };
@@ -268,7 +268,7 @@ claim_shown old new s log claims h o is held one start =
 same_claim : (xs : List (Option Claimed)) (k : ℕ) (x : Option Claimed) → slice_index_or xs k None ≡ x → slice_set xs k x ≡ xs
 same_claim xs k x e = ap (slice_set xs k) (sym e) ∙ set-get_or xs k None
 
--- what the state has of a writer's claim
+-- what the scene has of a writer's claim
 record At (old new : Stage) (s : ScriptState) (by : ℕ) (w v : Writer) : Type 0 where
   before : claim_by s by ≡ claim_in w
   after : claims_of new ≡ slice_set s.claims by (claim_in v)
@@ -279,7 +279,7 @@ at_writer old new s by w v h here there = record {
   after = ap (map claim_in) there ∙ map-set claim_in old.writers.items by v ∙ ap (λ cs. slice_set cs by (claim_in v)) (sym h.claims);
 }
 
--- a line that changes nothing is shown by the state that was
+-- a line that changes nothing is shown by the scene that was
 bad_shown : (old new : Stage) (s : ScriptState) (by : ℕ) (w v : Writer) → RepresentsState old s → OnlyClaims old new → new.log ≡ s.log → v ≡ w → At old new s by w v → RepresentsState new s
 bad_shown old new s by w v h o is same at =
     claim_shown old new s s.log s.claims h o is (at.after ∙ ap (λ x. slice_set s.claims by (claim_in x)) same ∙ same_claim s.claims by (claim_in w) at.before) refl refl
@@ -287,7 +287,7 @@ bad_shown old new s by w v h o is same at =
 none_before : (s : ScriptState) (by : ℕ) (p : Pass) → claim_by s by ≡ claim_in (writers.Free p) → claim_by s by ≡ None
 none_before s by p e = e
 
-claimed_free : (old new : Stage) (s : ScriptState) (by size : ℕ) (p : Pass) (v : Writer) (line : LineContent) (before after : List LineContent) (answer : Result ℕ Refusal) → RepresentsState old s → OnlyClaims old new → MayClaim s.log by size → At old new s by (writers.Free p) v → answer_of s.log size ≡ answer → Claimed_by s.log by size answer new.log v line → after ≡ before ++ line ∷ [] → Answered s (orders.Claim by size) before after new
+claimed_free : (old new : Stage) (s : ScriptState) (by size : ℕ) (p : Pass) (v : Writer) (line : LineContent) (before after : List LineContent) (answer : Result ℕ Refusal) → RepresentsState old s → OnlyClaims old new → MayClaim s.log by size → At old new s by (writers.Free p) v → answer_of s.log size ≡ answer → Claimed_by s.log by size answer new.log v line → after ≡ before ++ line ∷ [] → Answered s (commands.Claim by size) before after new
 claimed_free old new s by size p v line before after (Ok end) h o may at e step told =
     let held : Option Claimed = Some (claim_at s.log by size) in
     let t = with_claim (with_log s (after_claim s.log by size)) by held in
@@ -308,7 +308,7 @@ claimed_free old new s by size p v line before after (Err refusal) h o may at e 
       shows = claim_shown old new s (after_claim s.log by size) s.claims h o step.0 (at.after ∙ ap (slice_set s.claims by) step.1 ∙ same_claim s.claims by None at.before) (ap (λ x. x.0) (claim_keeps s.log by size)) (ap (λ x. x.1) (claim_keeps s.log by size));
     }
 
-claimed : (old new : Stage) (s : ScriptState) (by size : ℕ) (w v : Writer) (line : LineContent) (before after : List LineContent) → by < 8 → size ≤ max_payload s.log.identity.geometry → (pass_of w).number ≡ by → RepresentsState old s → OnlyClaims old new → At old new s by w v → writing.Claims s.log w size new.log v line → after ≡ before ++ line ∷ [] → Answered s (orders.Claim by size) before after new
+claimed : (old new : Stage) (s : ScriptState) (by size : ℕ) (w v : Writer) (line : LineContent) (before after : List LineContent) → by < 8 → size ≤ max_payload s.log.identity.geometry → (pass_of w).number ≡ by → RepresentsState old s → OnlyClaims old new → At old new s by w v → writing.Claims s.log w size new.log v line → after ≡ before ++ line ∷ [] → Answered s (commands.Claim by size) before after new
 claimed old new s by size (writers.Holding claim) v line before after low short number h o at step told = record {
   lines = line ∷ [];
   scene = s;
@@ -319,20 +319,20 @@ claimed old new s by size (writers.Holding claim) v line before after low short 
 claimed old new s by size (writers.Free p) v line before after low short number h o at step told =
     claimed_free old new s by size p v line before after (answer_of s.log size) h o (record { legal = step.0; publisher = low; short = short }) at refl (subst (λ n. Claimed_by s.log n size (answer_of s.log size) new.log v line) number step.1) told
 
-pub claim_answered : (old new : Stage) (by size : ℕ) (line : Line) (before after : List Line) → by < 8 → size ≤ max_payload old.log.identity.geometry → AreWriters old.log 0 old.writers.items → Rewrites old.writers.items new.writers.items by (λ w v. writing.Claims old.log w size new.log v (content_of line)) → OnlyClaims old new → after ≡ before ++ line ∷ [] → IsAnswered old (orders.Claim by size) before after new
+pub claim_answered : (old new : Stage) (by size : ℕ) (line : Line) (before after : List Line) → by < 8 → size ≤ max_payload old.log.identity.geometry → AreWriters old.log 0 old.writers.items → Rewrites old.writers.items new.writers.items by (λ w v. writing.Claims old.log w size new.log v (line_content line)) → OnlyClaims old new → after ≡ before ++ line ∷ [] → IsAnswered old (commands.Claim by size) before after new
 claim_answered old new by size line before after low short each r o told = λ s h.
-    claimed old new s by size r.before r.after (content_of line) (contents_of before) (contents_of after) low (subst (λ l. size ≤ max_payload l.identity.geometry) (sym h.log) short) (omega (arith, (found old.log 0 by old.writers.items r.before each r.here).0)) h o (at_writer old new s by r.before r.after h r.here r.there) (subst (λ l. writing.Claims l r.before size new.log r.after (content_of line)) (sym h.log) r.step) (one_line before after line told)
+    claimed old new s by size r.before r.after (line_content line) (line_contents before) (line_contents after) low (subst (λ l. size ≤ max_payload l.identity.geometry) (sym h.log) short) (omega (arith, (found old.log 0 by old.writers.items r.before each r.here).0)) h o (at_writer old new s by r.before r.after h r.here r.there) (subst (λ l. writing.Claims l r.before size new.log r.after (line_content line)) (sym h.log) r.step) (one_line before after line told)
 
 -- an offer of a publisher, unless it has a claim open
-offered_line : (old new : Stage) (s : ScriptState) (by : ℕ) (message : List ℕ) (w v : Writer) (line : LineContent) (before after : List LineContent) (order : Order) → ((s t : ScriptState) (lines : List LineContent) → MayBeOffered s by message lines t → Answers s order lines t) → (pass_of w).number ≡ by → RepresentsState old s → OnlyClaims old new → At old new s by w v → writing.Offers s.log w message new.log v line → after ≡ before ++ line ∷ [] → Answered s order before after new
-offered_line old new s by message (writers.Holding claim) v line before after order means number h o at step told = record {
+offered_line : (old new : Stage) (s : ScriptState) (by : ℕ) (message : List ℕ) (w v : Writer) (line : LineContent) (before after : List LineContent) (command : CommandContent) → ((s t : ScriptState) (lines : List LineContent) → MayBeOffered s by message lines t → Answers s command lines t) → (pass_of w).number ≡ by → RepresentsState old s → OnlyClaims old new → At old new s by w v → writing.Offers s.log w message new.log v line → after ≡ before ++ line ∷ [] → Answered s command before after new
+offered_line old new s by message (writers.Holding claim) v line before after command means number h o at step told = record {
   lines = line ∷ [];
   scene = s;
   answers = means s s (line ∷ []) (inl ((claim.claimed, at.before), (ap (λ x. x ∷ []) step.2, refl)));
   printed = told;
   shows = bad_shown old new s by (writers.Holding claim) v h o step.0 step.1 at;
 }
-offered_line old new s by message (writers.Free p) v line before after order means number h o at step told =
+offered_line old new s by message (writers.Free p) v line before after command means number h o at step told =
     let next = after_offer s.log by message in
     let said : OfferedLine s.log by message (answer_of s.log (length message)) line new.log = subst (λ n. OfferedLine s.log n message (answer_of s.log (length message)) line new.log) number step.1 in
     let may : MayOffer s.log by message = subst (λ n. MayOffer s.log n message) number step.0 in
@@ -344,13 +344,13 @@ offered_line old new s by message (writers.Free p) v line before after order mea
       shows = claim_shown old new s next s.claims h o (offered_log s.log new.log by message (answer_of s.log (length message)) line said) (at.after ∙ ap (slice_set s.claims by) step.2 ∙ same_claim s.claims by None at.before) (ap (λ x. x.0) (offer_keeps s.log by message)) (ap (λ x. x.1) (offer_keeps s.log by message));
     }
 
-pub offer_answered : (old new : Stage) (by : ℕ) (message : List ℕ) (line : Line) (before after : List Line) → AreWriters old.log 0 old.writers.items → Rewrites old.writers.items new.writers.items by (λ w v. writing.Offers old.log w message new.log v (content_of line)) → OnlyClaims old new → after ≡ before ++ line ∷ [] → IsOffered old by message before after new
-offer_answered old new by message line before after each r o told = λ order means s h.
-    offered_line old new s by message r.before r.after (content_of line) (contents_of before) (contents_of after) order means (omega (arith, (found old.log 0 by old.writers.items r.before each r.here).0)) h o (at_writer old new s by r.before r.after h r.here r.there) (subst (λ l. writing.Offers l r.before message new.log r.after (content_of line)) (sym h.log) r.step) (one_line before after line told)
+pub offer_answered : (old new : Stage) (by : ℕ) (message : List ℕ) (line : Line) (before after : List Line) → AreWriters old.log 0 old.writers.items → Rewrites old.writers.items new.writers.items by (λ w v. writing.Offers old.log w message new.log v (line_content line)) → OnlyClaims old new → after ≡ before ++ line ∷ [] → IsOffered old by message before after new
+offer_answered old new by message line before after each r o told = λ command means s h.
+    offered_line old new s by message r.before r.after (line_content line) (line_contents before) (line_contents after) command means (omega (arith, (found old.log 0 by old.writers.items r.before each r.here).0)) h o (at_writer old new s by r.before r.after h r.here r.there) (subst (λ l. writing.Offers l r.before message new.log r.after (line_content line)) (sym h.log) r.step) (one_line before after line told)
 
 -- ---- a claim's end
 
--- it is held in the state's log
+-- it is held in the scene's log
 has_claim : (old : Stage) (s : ScriptState) (by : ℕ) (claim : Filling) (v : Writer) (new : Stage) → by < 8 → IsLog s.log → RepresentsState old s → ((pass_of (writers.Holding claim)).number ≡ by) → WriterHolds s.log (writers.Holding claim) → At old new s by (writers.Holding claim) v → HasClaim s by claim.claimed
 has_claim old s by claim v new low legal h number holds at = record {
   legal = legal;
@@ -361,7 +361,7 @@ has_claim old s by claim v new low legal h number holds at = record {
   short = holds.1.short;
 }
 
-committed_line : (old new : Stage) (s : ScriptState) (by : ℕ) (w v : Writer) (line : LineContent) (before after : List LineContent) → by < 8 → (pass_of w).number ≡ by → WriterHolds s.log w → RepresentsState old s → OnlyClaims old new → At old new s by w v → writing.Commits s.log w new.log v line → after ≡ before ++ line ∷ [] → Answered s (orders.Commit by) before after new
+committed_line : (old new : Stage) (s : ScriptState) (by : ℕ) (w v : Writer) (line : LineContent) (before after : List LineContent) → by < 8 → (pass_of w).number ≡ by → WriterHolds s.log w → RepresentsState old s → OnlyClaims old new → At old new s by w v → writing.Commits s.log w new.log v line → after ≡ before ++ line ∷ [] → Answered s (commands.Commit by) before after new
 committed_line old new s by (writers.Free p) v line before after low number holds h o at step told = record {
   lines = line ∷ [];
   scene = s;
@@ -379,12 +379,12 @@ committed_line old new s by (writers.Holding claim) v line before after low numb
       shows = claim_shown old new s log (slice_set s.claims by None) h o step.1 (at.after ∙ ap (slice_set s.claims by) step.2) refl refl;
     }
 
-pub commit_answered : (old new : Stage) (by : ℕ) (line : Line) (before after : List Line) → by < 8 → AreWriters old.log 0 old.writers.items → Rewrites old.writers.items new.writers.items by (λ w v. writing.Commits old.log w new.log v (content_of line)) → OnlyClaims old new → after ≡ before ++ line ∷ [] → IsAnswered old (orders.Commit by) before after new
+pub commit_answered : (old new : Stage) (by : ℕ) (line : Line) (before after : List Line) → by < 8 → AreWriters old.log 0 old.writers.items → Rewrites old.writers.items new.writers.items by (λ w v. writing.Commits old.log w new.log v (line_content line)) → OnlyClaims old new → after ≡ before ++ line ∷ [] → IsAnswered old (commands.Commit by) before after new
 commit_answered old new by line before after low each r o told = λ s h.
     let there = found old.log 0 by old.writers.items r.before each r.here in
-    committed_line old new s by r.before r.after (content_of line) (contents_of before) (contents_of after) low (omega (arith, there.0)) (subst (λ l. WriterHolds l r.before) (sym h.log) there.1) h o (at_writer old new s by r.before r.after h r.here r.there) (subst (λ l. writing.Commits l r.before new.log r.after (content_of line)) (sym h.log) r.step) (one_line before after line told)
+    committed_line old new s by r.before r.after (line_content line) (line_contents before) (line_contents after) low (omega (arith, there.0)) (subst (λ l. WriterHolds l r.before) (sym h.log) there.1) h o (at_writer old new s by r.before r.after h r.here r.there) (subst (λ l. writing.Commits l r.before new.log r.after (line_content line)) (sym h.log) r.step) (one_line before after line told)
 
-aborted_line : (old new : Stage) (s : ScriptState) (by : ℕ) (w v : Writer) (line : LineContent) (before after : List LineContent) → by < 8 → (pass_of w).number ≡ by → WriterHolds s.log w → RepresentsState old s → OnlyClaims old new → At old new s by w v → writing.Aborts s.log w new.log v line → after ≡ before ++ line ∷ [] → Answered s (orders.Abort by) before after new
+aborted_line : (old new : Stage) (s : ScriptState) (by : ℕ) (w v : Writer) (line : LineContent) (before after : List LineContent) → by < 8 → (pass_of w).number ≡ by → WriterHolds s.log w → RepresentsState old s → OnlyClaims old new → At old new s by w v → writing.Aborts s.log w new.log v line → after ≡ before ++ line ∷ [] → Answered s (commands.Abort by) before after new
 aborted_line old new s by (writers.Free p) v line before after low number holds h o at step told = record {
   lines = line ∷ [];
   scene = s;
@@ -402,10 +402,10 @@ aborted_line old new s by (writers.Holding claim) v line before after low number
       shows = claim_shown old new s log (slice_set s.claims by None) h o step.1 (at.after ∙ ap (slice_set s.claims by) step.2) refl refl;
     }
 
-pub abort_answered : (old new : Stage) (by : ℕ) (line : Line) (before after : List Line) → by < 8 → AreWriters old.log 0 old.writers.items → Rewrites old.writers.items new.writers.items by (λ w v. writing.Aborts old.log w new.log v (content_of line)) → OnlyClaims old new → after ≡ before ++ line ∷ [] → IsAnswered old (orders.Abort by) before after new
+pub abort_answered : (old new : Stage) (by : ℕ) (line : Line) (before after : List Line) → by < 8 → AreWriters old.log 0 old.writers.items → Rewrites old.writers.items new.writers.items by (λ w v. writing.Aborts old.log w new.log v (line_content line)) → OnlyClaims old new → after ≡ before ++ line ∷ [] → IsAnswered old (commands.Abort by) before after new
 abort_answered old new by line before after low each r o told = λ s h.
     let there = found old.log 0 by old.writers.items r.before each r.here in
-    aborted_line old new s by r.before r.after (content_of line) (contents_of before) (contents_of after) low (omega (arith, there.0)) (subst (λ l. WriterHolds l r.before) (sym h.log) there.1) h o (at_writer old new s by r.before r.after h r.here r.there) (subst (λ l. writing.Aborts l r.before new.log r.after (content_of line)) (sym h.log) r.step) (one_line before after line told)
+    aborted_line old new s by r.before r.after (line_content line) (line_contents before) (line_contents after) low (omega (arith, there.0)) (subst (λ l. WriterHolds l r.before) (sym h.log) there.1) h o (at_writer old new s by r.before r.after h r.here r.there) (subst (λ l. writing.Aborts l r.before new.log r.after (line_content line)) (sym h.log) r.step) (one_line before after line told)
 
 -- ---- a reader
 
@@ -422,9 +422,9 @@ consumer_at_place (q ∷ qs) (c ∷ cs) zero r e h =
     (c, refl, sym at ∙ ap (λ (x : Reader). x.position) same)
 consumer_at_place (q ∷ qs) (c ∷ cs) (suc j) r e h = consumer_at_place qs cs j r (ap (λ xs. drop 1 xs) e) h
 
-pub no_reader : (old new : Stage) (k : ℕ) (line : Line) (before after : List Line) → (k ≡ 0) ⊎ (length old.readers.items < k) → content_of line ≡ Bad → OnlyLog old new old.log → after ≡ before ++ line ∷ [] → IsAnswered old (orders.Read k) before after new
+pub no_reader : (old new : Stage) (k : ℕ) (line : Line) (before after : List Line) → (k ≡ 0) ⊎ (length old.readers.items < k) → line_content line ≡ Bad → OnlyLog old new old.log → after ≡ before ++ line ∷ [] → IsAnswered old (commands.Read k) before after new
 no_reader old new k line before after none bad o told = λ s h. record {
-  lines = content_of line ∷ [];
+  lines = line_content line ∷ [];
   scene = s;
   answers = inl (missing s k (readers_long old s h none), (ap (λ x. x ∷ []) bad, refl));
   printed = one_line before after line told;
@@ -440,7 +440,7 @@ no_reader old new k line before after none bad o told = λ s h. record {
     missing s (suc j) (inl e) = absurd (omega (arith, e))
     missing s (suc j) (inr e) = slice_get_past s.readers j (omega (arith, e))
 
--- the reader's consumer in the state, and behind a frame
+-- the reader's consumer in the scene, and behind a frame
 passed_by_reader : (old new : Stage) (s : ScriptState) (j : ℕ) (r q : Reader) (c : Consumer) (p : Placed) → RepresentsState old s → OnlyReaders old new → slice_get s.readers j ≡ Some c → new.readers.items ≡ slice_set old.readers.items j q → r.number ≡ suc j → new.log ≡ record old.log { consumers = slice_set old.log.consumers r.number (end_of p) } → q.position ≡ end_of p → RepresentsState new (with_reader s (suc j) (moved c p))
 passed_by_reader old new s j r q c p h o there readers number log to =
     let scene : ScriptState = with_reader s (suc j) (moved c p) in
@@ -468,7 +468,7 @@ stays_shown old new s j r q h o here readers log stay = record {
   packets = h.packets ∙ sym o.packets;
 }
 
-read_so : (old new : Stage) (s : ScriptState) (j : ℕ) (r q : Reader) (line : LineContent) (before after : List LineContent) → RepresentsState old s → OnlyReaders old new → slice_get old.readers.items j ≡ Some r → new.readers.items ≡ slice_set old.readers.items j q → r.number ≡ suc j → ReadsLine old.log r line new.log q → after ≡ before ++ line ∷ [] → Answered s (orders.Read (suc j)) before after new
+read_so : (old new : Stage) (s : ScriptState) (j : ℕ) (r q : Reader) (line : LineContent) (before after : List LineContent) → RepresentsState old s → OnlyReaders old new → slice_get old.readers.items j ≡ Some r → new.readers.items ≡ slice_set old.readers.items j q → r.number ≡ suc j → ReadsLine old.log r line new.log q → after ≡ before ++ line ∷ [] → Answered s (commands.Read (suc j)) before after new
 read_so old new s j r q line before after h o here readers number (inl n) told =
     let c = consumer_at_place old.readers.items s.readers j r h.readers here in
     record {
@@ -488,9 +488,9 @@ read_so old new s j r q line before after h o here readers number (inr m) told =
       shows = passed_by_reader old new s j r q c.0 m.0 h o c.1 readers number m.4 m.5;
     }
 
-pub read_answered : (old new : Stage) (k j : ℕ) (r q : Reader) (line : Line) (before after : List Line) → k ≡ suc j → slice_get old.readers.items j ≡ Some r → new.readers.items ≡ slice_set old.readers.items j q → r.number ≡ suc j → ReadsLine old.log r (content_of line) new.log q → OnlyReaders old new → after ≡ before ++ line ∷ [] → IsAnswered old (orders.Read k) before after new
+pub read_answered : (old new : Stage) (k j : ℕ) (r q : Reader) (line : Line) (before after : List Line) → k ≡ suc j → slice_get old.readers.items j ≡ Some r → new.readers.items ≡ slice_set old.readers.items j q → r.number ≡ suc j → ReadsLine old.log r (line_content line) new.log q → OnlyReaders old new → after ≡ before ++ line ∷ [] → IsAnswered old (commands.Read k) before after new
 read_answered old new k j r q line before after is here readers number reads o told =
-    subst (λ n. IsAnswered old (orders.Read n) before after new) (sym is) (λ s h. read_so old new s j r q (content_of line) (contents_of before) (contents_of after) h o here readers number reads (one_line before after line told))
+    subst (λ n. IsAnswered old (commands.Read n) before after new) (sym is) (λ s h. read_so old new s j r q (line_content line) (line_contents before) (line_contents after) h o here readers number reads (one_line before after line told))
 
 -- ---- offers, by what orders them
 

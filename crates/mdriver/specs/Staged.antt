@@ -1,11 +1,11 @@
--- Which states a stage shows, and what a line makes of them.
+-- Which scenes a stage shows, and what a line makes of them.
 use Rattle.std.specs.Prelude.{◌≡◌, ℕ, ⊤, List, [], ◌∷◌, ◌++◌, map}
 use Rattle.theory.specs.Bytes.{Identity}
 use Rattle.std.specs.Prelude.{Result, Ok, Err}
 use Rattle.log_buffer.specs.Log.{Log}
 use Rattle.publication.specs.Offers.{after_offer}
 use Rattle.publication.specs.declared.refusal.Refusal.{Refusal}
-use Rattle.script.specs.Meaning.{Order}
+use Rattle.script.specs.Meaning.{CommandContent}
 use Rattle.mdriver.specs.declared.line.Line.{Line}
 use Rattle.mdriver.specs.declared.stage.Stage.{Stage}
 use Rattle.std.specs.List.{flat_map}
@@ -14,7 +14,7 @@ use Rattle.term_buffer.specs.declared.claimed.Claimed.{Claimed}
 use Rattle.std.specs.Prelude.{◌⊎◌, Some}
 use Rattle.script_run.specs.Output.{AnswersAll, ShowsBook}
 use Rattle.script_run.specs.Published.{Played}
-use Rattle.script_run.specs.LineContents.{Open, Position, LineContent, Refused, contents_of}
+use Rattle.script_run.specs.LineContents.{Open, Position, LineContent, Refused, line_contents}
 use Rattle.receiver.specs.Receiving.{Receiver}
 use Rattle.script_run.specs.ScriptState.{ScriptState, listening_at, opened_state}
 use Rattle.sender.specs.Sending.{Sending}
@@ -47,17 +47,17 @@ pub record RepresentsState (v : Stage) (s : ScriptState) : Type 0 where
   pub receivers : AllShow v.subscribers.items s.receivers
   pub packets : s.packets ≡ v.packets
 
--- the line printed this, and the stage shows the state after it
-pub record Answered (old : ScriptState) (order : Order) (before after : List LineContent) (new : Stage) : Type 0 where
+-- the line printed this, and the stage shows the scene after it
+pub record Answered (old : ScriptState) (command : CommandContent) (before after : List LineContent) (new : Stage) : Type 0 where
   pub lines : List LineContent
   pub scene : ScriptState
-  pub answers : Answers old order lines scene
+  pub answers : Answers old command lines scene
   pub printed : after ≡ before ++ lines
   pub shows : RepresentsState new scene
 
--- whatever state the stage showed
-abbrev pub IsAnswered : Stage → Order → List Line → List Line → Stage → Type 0
-IsAnswered old order before after new = (s : ScriptState) → RepresentsState old s → Answered s order (contents_of before) (contents_of after) new
+-- whatever scene the stage showed
+abbrev pub IsAnswered : Stage → CommandContent → List Line → List Line → Stage → Type 0
+IsAnswered old command before after new = (s : ScriptState) → RepresentsState old s → Answered s command (line_contents before) (line_contents after) new
 
 -- a message that the log can hold is offered by a publisher, or can't be, as that has a claim open
 abbrev pub MayBeOffered : ScriptState → ℕ → List ℕ → List LineContent → ScriptState → Type 0
@@ -66,23 +66,23 @@ MayBeOffered s by message lines t = (((c : Claimed) × (claim_by s by ≡ Some c
 -- what orders so much is answered
 abbrev pub IsOffered : Stage → ℕ → List ℕ → List Line → List Line → Stage → Type 0
 IsOffered old by message before after new =
-    (order : Order) → ((s t : ScriptState) (lines : List LineContent) → MayBeOffered s by message lines t → Answers s order lines t) → IsAnswered old order before after new
+    (command : CommandContent) → ((s t : ScriptState) (lines : List LineContent) → MayBeOffered s by message lines t → Answers s command lines t) → IsAnswered old command before after new
 
 -- lines of a script one after the other
-pub record Continued (old : ScriptState) (orders : List Order) (before after : List LineContent) (new : Stage) : Type 0 where
+pub record Continued (old : ScriptState) (commands : List CommandContent) (before after : List LineContent) (new : Stage) : Type 0 where
   pub played : List Played
   pub scene : ScriptState
-  pub of_orders : map (λ p. p.order) played ≡ orders
+  pub of_commands : map (λ p. p.command) played ≡ commands
   pub answered : AnswersAll old played scene
   pub printed : after ≡ before ++ flat_map (λ p. p.lines) played
   pub shows : RepresentsState new scene
 
-abbrev pub Continues : Stage → List Order → List Line → List Line → Stage → Type 0
-Continues old orders before after new = (s : ScriptState) → RepresentsState old s → Continued s orders (contents_of before) (contents_of after) new
+abbrev pub Continues : Stage → List CommandContent → List Line → List Line → Stage → Type 0
+Continues old commands before after new = (s : ScriptState) → RepresentsState old s → Continued s commands (line_contents before) (line_contents after) new
 
 -- the same behind the line of an opened log
-abbrev pub ContinuesOpen : Stage → List Order → List Line → List Line → Stage → Type 0
-ContinuesOpen old orders before after new = (s : ScriptState) → RepresentsState old s → Continued s orders (contents_of before ++ Open ∷ []) (contents_of after) new
+abbrev pub ContinuesOpen : Stage → List CommandContent → List Line → List Line → Stage → Type 0
+ContinuesOpen old commands before after new = (s : ScriptState) → RepresentsState old s → Continued s commands (line_contents before ++ Open ∷ []) (line_contents after) new
 
 -- the eight receivers of a log that was just opened
 abbrev pub numbers : List ℕ
@@ -92,16 +92,16 @@ abbrev pub AreListening : Identity → List Subscribing → Type 0
 AreListening i vs = AllShow vs (map (listening_at i) numbers)
 
 -- the lines of a script from the opened log on, and the book
-pub record RunsTo (i : Identity) (start readers : ℕ) (orders : List Order) (before after : List LineContent) : Type 0 where
+pub record RunsTo (i : Identity) (start readers : ℕ) (commands : List CommandContent) (before after : List LineContent) : Type 0 where
   pub played : List Played
   pub last : ScriptState
-  pub of_orders : map (λ p. p.order) played ≡ orders
+  pub of_commands : map (λ p. p.command) played ≡ commands
   pub answered : AnswersAll (opened_state i start readers) played last
   pub book : LineContent
   pub shown : ShowsBook last book
   pub printed : after ≡ before ++ (Open ∷ (flat_map (λ p. p.lines) played ++ book ∷ []))
 
--- what an offer prints, and the log after it
+-- what an offer contents_of, and the log after it
 abbrev pub OfferedLine : Log → ℕ → List ℕ → Result ℕ Refusal → LineContent → Log → Type 0
 OfferedLine old by message (Ok end) line new = (line ≡ Position end) × (new ≡ after_offer old by message)
 OfferedLine old by message (Err refusal) line new = (line ≡ Refused refusal) × (new ≡ after_offer old by message)

@@ -1,14 +1,14 @@
-//! What each line of a script does, and what it prints.
+//! What each line of a script does, and what it contents_of.
 
 ghost use Rattle.std.specs.Prelude.{◌≡◌, ◌≤◌, ◌++◌, length, IfOk, OnErr, OnOk, map, replicate};
 ghost use Rattle.theory.specs.Position.{max_message, max_payload};
 ghost use Rattle.log_buffer.specs.Reader.{Reader};
-ghost use Rattle.script_run.specs.LineContents.{OfReceiver, content_of, contents_of};
+ghost use Rattle.script_run.specs.LineContents.{OfReceiver, line_content, line_contents};
 ghost use Rattle.mdriver.specs.Stands.{Holds, Stands};
 ghost use Rattle.mdriver.specs.Reading.{ReadsLine, shown_frame};
 ghost use Rattle.sender.specs.Sending.{frame_in};
 ghost use Rattle.mdriver.specs.Staged.{IsAnswered, IsOffered};
-ghost use Rattle.script.specs.Meaning as orders;
+ghost use Rattle.script.specs.Meaning as commands;
 
 use crate::line::Line;
 use crate::receiver::Outcome;
@@ -20,12 +20,12 @@ use log_buffer::{Claimed, LogReader, LogState};
 use log_reader::{advance, next};
 use position::{FrameHead, FrameKind};
 use rotation::{clean_and_limit, set_closed, set_connected};
-use script::{Command, Seat};
+use script::{Command, PartyNumber};
 use std::alloc::{AllocError, Global};
 
 /// Adds the lines of what became of a datagram's frames.
 fn tell(lines: &mut Vec<Line>, outcomes: &[Outcome]) -> Result<(), AllocError>
-    ensures { OnOk result (contents_of lines.new.items ≡ contents_of lines.old.items ++ map OfReceiver outcomes.now) }
+    ensures { OnOk result (line_contents lines.new.items ≡ line_contents lines.old.items ++ map OfReceiver outcomes.now) }
 {
     for outcome in outcomes {
         lines.push(Line::Receiver(*outcome))?;
@@ -44,7 +44,7 @@ fn letters(alloc: Global, size: usize) -> Result<Vec<u8>, AllocError>
 fn frame_line(alloc: Global, head: &FrameHead, block: &Block) -> Result<Line, AllocError>
     requires long { 32 ≤ head.now.frame_length }
     requires short { head.now.kind ≡ FrameKind.Data → head.now.frame_length ≤ length block.now }
-    ensures { IfOk result (λ line. content_of line ≡ shown_frame head.now.start (frame_in head.now.kind head.now.flags head.now.frame_length block.now)) }
+    ensures { IfOk result (λ line. line_content line ≡ shown_frame head.now.start (frame_in head.now.kind head.now.flags head.now.frame_length block.now)) }
 {
     match head.kind {
         FrameKind::Pad => Ok(Line::FramePad {
@@ -70,7 +70,7 @@ fn read_line(
     requires room { log.old.identity.geometry.mtu ≤ length block.old }
     requires stands { Stands log.old reader.old }
     ensures same_length { length block.new ≡ length block.old }
-    ensures reads { IfOk result (λ line. ReadsLine log.old reader.old (content_of line) log.new reader.new) }
+    ensures reads { IfOk result (λ line. ReadsLine log.old reader.old (line_content line) log.new reader.new) }
     ensures stays { OnErr result ((log.new ≡ log.old) × (reader.new.position ≡ reader.old.position)) }
     ensures number { reader.new.number ≡ reader.old.number }
     ensures identity { log.new.identity ≡ log.old.identity }
@@ -87,9 +87,9 @@ fn read_line(
 }
 
 impl Stage {
-    /// IsOutputOf one command, and adds its lines.
+    /// Plays one command, and adds its lines.
     pub fn play(&mut self, command: &Command, lines: &mut Vec<Line>) -> Result<(), AllocError>
-        ensures { OnOk result (IsAnswered self.old (orders.order command.now) lines.old.items lines.new.items self.new) }
+        ensures { OnOk result (IsAnswered self.old (commands.content_of command.now) lines.old.items lines.new.items self.new) }
     {
         match command {
             Command::Connect => self.connect(lines),
@@ -116,7 +116,7 @@ impl Stage {
     }
 
     fn connect(&mut self, lines: &mut Vec<Line>) -> Result<(), AllocError>
-        ensures { OnOk result (IsAnswered self.old orders.Connect lines.old.items lines.new.items self.new) }
+        ensures { OnOk result (IsAnswered self.old commands.Connect lines.old.items lines.new.items self.new) }
     {
         set_connected(&mut self.log, &mut self.keeper, true);
         lines.push(Line::Done)?;
@@ -124,7 +124,7 @@ impl Stage {
     }
 
     fn disconnect(&mut self, lines: &mut Vec<Line>) -> Result<(), AllocError>
-        ensures { OnOk result (IsAnswered self.old orders.Disconnect lines.old.items lines.new.items self.new) }
+        ensures { OnOk result (IsAnswered self.old commands.Disconnect lines.old.items lines.new.items self.new) }
     {
         set_connected(&mut self.log, &mut self.keeper, false);
         lines.push(Line::Done)?;
@@ -132,7 +132,7 @@ impl Stage {
     }
 
     fn close(&mut self, lines: &mut Vec<Line>) -> Result<(), AllocError>
-        ensures { OnOk result (IsAnswered self.old orders.Close lines.old.items lines.new.items self.new) }
+        ensures { OnOk result (IsAnswered self.old commands.Close lines.old.items lines.new.items self.new) }
     {
         set_closed(&mut self.log, &mut self.keeper);
         lines.push(Line::Done)?;
@@ -140,7 +140,7 @@ impl Stage {
     }
 
     fn limit(&mut self, lines: &mut Vec<Line>) -> Result<(), AllocError>
-        ensures { OnOk result (IsAnswered self.old orders.Limit lines.old.items lines.new.items self.new) }
+        ensures { OnOk result (IsAnswered self.old commands.Limit lines.old.items lines.new.items self.new) }
     {
         let limit = clean_and_limit(&mut self.log, &mut self.keeper);
         lines.push(Line::Limit(limit))?;
@@ -149,11 +149,11 @@ impl Stage {
 
     fn offer(
         &mut self,
-        publisher: Seat,
+        publisher: PartyNumber,
         message: &[u8],
         lines: &mut Vec<Line>,
     ) -> Result<(), AllocError>
-        ensures { OnOk result (IsAnswered self.old (orders.Offer publisher.number message.now) lines.old.items lines.new.items self.new) }
+        ensures { OnOk result (IsAnswered self.old (commands.Offer publisher.number message.now) lines.old.items lines.new.items self.new) }
     {
         if message.len() > self.log.geometry().max_message() as usize {
             lines.push(Line::Bad)?;
@@ -164,11 +164,11 @@ impl Stage {
 
     fn offer_size(
         &mut self,
-        publisher: Seat,
+        publisher: PartyNumber,
         size: u64,
         lines: &mut Vec<Line>,
     ) -> Result<(), AllocError>
-        ensures { OnOk result (IsAnswered self.old (orders.OfferSize publisher.number size) lines.old.items lines.new.items self.new) }
+        ensures { OnOk result (IsAnswered self.old (commands.OfferSize publisher.number size) lines.old.items lines.new.items self.new) }
     {
         if size > u64::from(self.log.geometry().max_message()) {
             lines.push(Line::Bad)?;
@@ -181,7 +181,7 @@ impl Stage {
     /// Offers a message that the log can hold, and adds its line.
     fn offer_short(
         &mut self,
-        publisher: Seat,
+        publisher: PartyNumber,
         message: &[u8],
         lines: &mut Vec<Line>,
     ) -> Result<(), AllocError>
@@ -193,8 +193,8 @@ impl Stage {
         Ok(())
     }
 
-    fn claim(&mut self, publisher: Seat, size: u64, lines: &mut Vec<Line>) -> Result<(), AllocError>
-        ensures { OnOk result (IsAnswered self.old (orders.Claim publisher.number size) lines.old.items lines.new.items self.new) }
+    fn claim(&mut self, publisher: PartyNumber, size: u64, lines: &mut Vec<Line>) -> Result<(), AllocError>
+        ensures { OnOk result (IsAnswered self.old (commands.Claim publisher.number size) lines.old.items lines.new.items self.new) }
     {
         if size > u64::from(self.log.geometry().max_payload()) {
             lines.push(Line::Bad)?;
@@ -206,36 +206,36 @@ impl Stage {
     /// Claims a range for a message that a frame can hold, and adds its line.
     fn claim_short(
         &mut self,
-        publisher: Seat,
+        publisher: PartyNumber,
         size: u32,
         lines: &mut Vec<Line>,
     ) -> Result<(), AllocError>
         requires { size ≤ max_payload self.old.log.identity.geometry }
-        ensures { OnOk result (IsAnswered self.old (orders.Claim publisher.number size) lines.old.items lines.new.items self.new) }
+        ensures { OnOk result (IsAnswered self.old (commands.Claim publisher.number size) lines.old.items lines.new.items self.new) }
     {
         let line = claim_by(&mut self.log, &mut self.writers, publisher.number, size);
         lines.push(line)?;
         Ok(())
     }
 
-    fn commit(&mut self, publisher: Seat, lines: &mut Vec<Line>) -> Result<(), AllocError>
-        ensures { OnOk result (IsAnswered self.old (orders.Commit publisher.number) lines.old.items lines.new.items self.new) }
+    fn commit(&mut self, publisher: PartyNumber, lines: &mut Vec<Line>) -> Result<(), AllocError>
+        ensures { OnOk result (IsAnswered self.old (commands.Commit publisher.number) lines.old.items lines.new.items self.new) }
     {
         let line = commit_by(&mut self.log, &mut self.writers, publisher.number);
         lines.push(line)?;
         Ok(())
     }
 
-    fn abort(&mut self, publisher: Seat, lines: &mut Vec<Line>) -> Result<(), AllocError>
-        ensures { OnOk result (IsAnswered self.old (orders.Abort publisher.number) lines.old.items lines.new.items self.new) }
+    fn abort(&mut self, publisher: PartyNumber, lines: &mut Vec<Line>) -> Result<(), AllocError>
+        ensures { OnOk result (IsAnswered self.old (commands.Abort publisher.number) lines.old.items lines.new.items self.new) }
     {
         let line = abort_by(&mut self.log, &mut self.writers, publisher.number);
         lines.push(line)?;
         Ok(())
     }
 
-    fn read(&mut self, reader: Seat, lines: &mut Vec<Line>) -> Result<(), AllocError>
-        ensures { OnOk result (IsAnswered self.old (orders.Read reader.number) lines.old.items lines.new.items self.new) }
+    fn read(&mut self, reader: PartyNumber, lines: &mut Vec<Line>) -> Result<(), AllocError>
+        ensures { OnOk result (IsAnswered self.old (commands.Read reader.number) lines.old.items lines.new.items self.new) }
     {
         if reader.number == 0 || reader.number > self.readers.len() {
             lines.push(Line::Bad)?;
@@ -249,7 +249,7 @@ impl Stage {
     }
 
     fn send(&mut self, now: u64, lines: &mut Vec<Line>) -> Result<(), AllocError>
-        ensures { OnOk result (IsAnswered self.old (orders.Send now) lines.old.items lines.new.items self.new) }
+        ensures { OnOk result (IsAnswered self.old (commands.Send now) lines.old.items lines.new.items self.new) }
     {
         let _ = self
             .sender
@@ -258,7 +258,7 @@ impl Stage {
     }
 
     fn reply(&mut self, packet: u64, now: u64, lines: &mut Vec<Line>) -> Result<(), AllocError>
-        ensures { OnOk result (IsAnswered self.old (orders.Reply packet now) lines.old.items lines.new.items self.new) }
+        ensures { OnOk result (IsAnswered self.old (commands.Reply packet now) lines.old.items lines.new.items self.new) }
     {
         let Some(bytes) = self.packets.get(packet) else {
             lines.push(Line::Bad)?;
@@ -275,11 +275,11 @@ impl Stage {
     fn deliver(
         &mut self,
         packet: u64,
-        receiver: Seat,
+        receiver: PartyNumber,
         now: u64,
         lines: &mut Vec<Line>,
     ) -> Result<(), AllocError>
-        ensures { OnOk result (IsAnswered self.old (orders.Deliver packet receiver.number now) lines.old.items lines.new.items self.new) }
+        ensures { OnOk result (IsAnswered self.old (commands.Deliver packet receiver.number now) lines.old.items lines.new.items self.new) }
     {
         let Some(bytes) = self.packets.get(packet) else {
             lines.push(Line::Bad)?;
@@ -289,23 +289,23 @@ impl Stage {
         tell(lines, &outcomes)
     }
 
-    fn tick(&mut self, receiver: Seat, now: u64, lines: &mut Vec<Line>) -> Result<(), AllocError>
-        ensures { OnOk result (IsAnswered self.old (orders.Tick receiver.number now) lines.old.items lines.new.items self.new) }
+    fn tick(&mut self, receiver: PartyNumber, now: u64, lines: &mut Vec<Line>) -> Result<(), AllocError>
+        ensures { OnOk result (IsAnswered self.old (commands.Tick receiver.number now) lines.old.items lines.new.items self.new) }
     {
         let replies = self.subscribers[receiver.number].tick(now);
         self.packets.tell_replies(&replies, lines)
     }
 
-    fn poll(&mut self, receiver: Seat, lines: &mut Vec<Line>) -> Result<(), AllocError>
-        ensures { OnOk result (IsAnswered self.old (orders.Poll receiver.number) lines.old.items lines.new.items self.new) }
+    fn poll(&mut self, receiver: PartyNumber, lines: &mut Vec<Line>) -> Result<(), AllocError>
+        ensures { OnOk result (IsAnswered self.old (commands.Poll receiver.number) lines.old.items lines.new.items self.new) }
     {
         let line = self.subscribers[receiver.number].poll();
         lines.push(line)?;
         Ok(())
     }
 
-    fn image(&self, receiver: Seat, lines: &mut Vec<Line>) -> Result<(), AllocError>
-        ensures { OnOk result (IsAnswered self.now (orders.Image receiver.number) lines.old.items lines.new.items self.now) }
+    fn image(&self, receiver: PartyNumber, lines: &mut Vec<Line>) -> Result<(), AllocError>
+        ensures { OnOk result (IsAnswered self.now (commands.Image receiver.number) lines.old.items lines.new.items self.now) }
     {
         let line = self.subscribers[receiver.number].image();
         lines.push(line)?;

@@ -1,4 +1,4 @@
-//! The lines that a script prints.
+//! The lines that a script contents_of.
 
 use crate::hexadecimal::Hexadecimal;
 use crate::receiver::Outcome;

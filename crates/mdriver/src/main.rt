@@ -1,4 +1,4 @@
-//! The media driver's program: `mdriver sim` plays a script from offer to poll, and `mdriver decode` prints the frames of
+//! The media driver's program: `mdriver sim` plays a script from offer to poll, and `mdriver decode` contents_of the frames of
 //! a datagram.
 #![tactic(auto)]
 

@@ -9,7 +9,7 @@ ghost use Rattle.sender.specs.Cycling.{datagrams};
 ghost use Rattle.mdriver.specs.Packed.{status_wires};
 ghost use Rattle.receiver.specs.Receiving.{replied};
 ghost use Rattle.std.specs.List.{AllByRecursion};
-ghost use Rattle.script_run.specs.LineContents.{Packet, contents_of};
+ghost use Rattle.script_run.specs.LineContents.{Packet, line_contents};
 
 use crate::line::Line;
 use crate::outbox::Outbox;
@@ -56,7 +56,7 @@ impl Packets {
     /// number without a line.
     pub fn give(&mut self, datagram: &[u8], lines: &mut Vec<Line>) -> Result<(), AllocError>
         ensures given { OnOk result (self.new ≡ self.old ++ datagram.now ∷ []) }
-        ensures line { OnOk result (contents_of lines.new.items ≡ contents_of lines.old.items ++ Packet (length self.old) datagram.now ∷ []) }
+        ensures line { OnOk result (line_contents lines.new.items ≡ line_contents lines.old.items ++ Packet (length self.old) datagram.now ∷ []) }
     {
         let number = self.packets.len() as u64;
         self.packets.push(Vec::from_slice(self.alloc, datagram)?)?;
@@ -68,7 +68,7 @@ impl Packets {
     /// Gives each datagram of the outbox the next number.
     pub fn give_all(&mut self, outbox: &Outbox, lines: &mut Vec<Line>) -> Result<(), AllocError>
         ensures given { OnOk result (self.new ≡ self.old ++ outbox.now.datagrams) }
-        ensures line { OnOk result (contents_of lines.new.items ≡ contents_of lines.old.items ++ packet_lines (length self.old) outbox.now.datagrams) }
+        ensures line { OnOk result (line_contents lines.new.items ≡ line_contents lines.old.items ++ packet_lines (length self.old) outbox.now.datagrams) }
     {
         for index in 0..outbox.len() {
             let Some(datagram) = outbox.datagram(index) else {
@@ -82,7 +82,7 @@ impl Packets {
     /// Gives each datagram of the outbox the next number, or says that there is none.
     pub fn tell_all(&mut self, outbox: &Outbox, lines: &mut Vec<Line>) -> Result<(), AllocError>
         ensures given { OnOk result (self.new ≡ self.old ++ outbox.now.datagrams) }
-        ensures line { OnOk result (contents_of lines.new.items ≡ contents_of lines.old.items ++ or_nothing (packet_lines (length self.old) outbox.now.datagrams)) }
+        ensures line { OnOk result (line_contents lines.new.items ≡ line_contents lines.old.items ++ or_nothing (packet_lines (length self.old) outbox.now.datagrams)) }
     {
         if outbox.len() == 0 {
             lines.push(Line::Nothing)?;
@@ -100,7 +100,7 @@ impl Packets {
     ) -> Result<(), AllocError>
         requires { AllByRecursion IsFrame (status_wires asks status) }
         ensures given { OnOk result (self.new ≡ self.old ++ datagrams (status_wires asks status)) }
-        ensures line { OnOk result (contents_of lines.new.items ≡ contents_of lines.old.items ++ packet_lines (length self.old) (datagrams (status_wires asks status))) }
+        ensures line { OnOk result (line_contents lines.new.items ≡ line_contents lines.old.items ++ packet_lines (length self.old) (datagrams (status_wires asks status))) }
     {
         match status {
             None => Ok(()),
@@ -116,7 +116,7 @@ impl Packets {
     ) -> Result<(), AllocError>
         requires { AllByRecursion IsFrame (replied replies.now) }
         ensures given { OnOk result (self.new ≡ self.old ++ datagrams (replied replies.now)) }
-        ensures line { OnOk result (contents_of lines.new.items ≡ contents_of lines.old.items ++ or_nothing (packet_lines (length self.old) (datagrams (replied replies.now)))) }
+        ensures line { OnOk result (line_contents lines.new.items ≡ line_contents lines.old.items ++ or_nothing (packet_lines (length self.old) (datagrams (replied replies.now)))) }
     {
         if replies.asking.is_none() && replies.status.is_none() {
             lines.push(Line::Nothing)?;
@@ -131,7 +131,7 @@ impl Packets {
         requires frame { IsFrame (wire frame.now) }
         requires short { length (spelling (wire frame.now)) ≤ 40 }
         ensures given { OnOk result (self.new ≡ self.old ++ spelling (wire frame.now) ∷ []) }
-        ensures line { OnOk result (contents_of lines.new.items ≡ contents_of lines.old.items ++ Packet (length self.old) (spelling (wire frame.now)) ∷ []) }
+        ensures line { OnOk result (line_contents lines.new.items ≡ line_contents lines.old.items ++ Packet (length self.old) (spelling (wire frame.now)) ∷ []) }
     {
         let mut buffer = [0; 40];
         self.give(spelled(frame, &mut buffer), lines)

@@ -8,7 +8,7 @@ ghost use Rattle.log_buffer.specs.Reader.{AreReaders, IsAt};
 ghost use Rattle.script_run.specs.ScriptState.{listening_at, opened_state};
 ghost use Rattle.receiver.specs.Subscribing.{RepresentsSubscriber};
 ghost use Rattle.script_run.specs.Output.{AlwaysPolled, IsOutputOf};
-ghost use Rattle.script_run.specs.LineContents.{contents_of};
+ghost use Rattle.script_run.specs.LineContents.{line_contents};
 ghost use Rattle.mdriver.specs.Staged.{AreFree, AreListening, Continues, ContinuesOpen, RunsTo, RepresentsState};
 ghost use Rattle.script.specs.Meaning as meaning;
 
@@ -30,9 +30,9 @@ use std::alloc::{AllocError, Global};
 use theory::names_place;
 use world::every_run;
 
-/// The lines that a script prints, or that memory was refused.
+/// The lines that a script contents_of, or that memory was refused.
 pub fn play(alloc: Global, script: &Script) -> Result<Vec<Line>, AllocError>
-    ensures { IfOk result (λ lines. IsOutputOf (meaning.told script.now) (contents_of lines.items)) }
+    ensures { IfOk result (λ lines. IsOutputOf (meaning.script_content script.now) (line_contents lines.items)) }
 {
     let mut lines = Vec::new(alloc);
     let log = &script.log;
@@ -177,19 +177,19 @@ fn play_open(
     commands: &[Command],
     lines: &mut Vec<Line>,
 ) -> Result<(), AllocError>
-    ensures { OnOk result (ContinuesOpen stage.old (meaning.orders commands.now) lines.old.items lines.new.items stage.new) }
+    ensures { OnOk result (ContinuesOpen stage.old (meaning.contents_of commands.now) lines.old.items lines.new.items stage.new) }
 {
     lines.push(Line::Open)?;
     play_all(stage, commands, lines)
 }
 
-/// IsOutputOf the commands one after the other, and adds their lines.
+/// Plays the commands one after the other, and adds their lines.
 fn play_all(
     stage: &mut Stage,
     commands: &[Command],
     lines: &mut Vec<Line>,
 ) -> Result<(), AllocError>
-    ensures { OnOk result (Continues stage.old (meaning.orders commands.now) lines.old.items lines.new.items stage.new) }
+    ensures { OnOk result (Continues stage.old (meaning.contents_of commands.now) lines.old.items lines.new.items stage.new) }
 {
     for command in commands {
         stage.play(command, lines)?;
@@ -197,14 +197,14 @@ fn play_all(
     Ok(())
 }
 
-/// IsOutputOf the commands from the opened log on, and ends it.
+/// Plays the commands from the opened log on, and ends it.
 fn run(
     mut stage: Stage,
     commands: &[Command],
     mut lines: Vec<Line>,
 ) -> Result<Vec<Line>, AllocError>
     requires { RepresentsState stage (opened_state stage.log.identity stage.log.start (vec_len stage.readers)) }
-    ensures { IfOk result (λ after. RunsTo stage.log.identity stage.log.start (vec_len stage.readers) (meaning.orders commands.now) (contents_of lines.items) (contents_of after.items)) }
+    ensures { IfOk result (λ after. RunsTo stage.log.identity stage.log.start (vec_len stage.readers) (meaning.contents_of commands.now) (line_contents lines.items) (line_contents after.items)) }
 {
     let played = play_open(&mut stage, commands, &mut lines);
     let book = stage.end();

@@ -235,7 +235,7 @@ const REFUSED: &[(&str, &str)] = &[
     ),
 ];
 
-/// What a command line prints and tells, and its status.
+/// What a command line contents_of and tells, and its status.
 #[derive(Drop)]
 struct Done {
     output: Vec<u8>,

@@ -7,7 +7,7 @@ ghost use Rattle.publication.specs.Offers.{answer_of};
 ghost use Rattle.script_run.specs.Answers.{MayOffer};
 ghost use Rattle.mdriver.specs.Staged.{OfferedLine};
 ghost use Rattle.log_buffer.specs.Reader.{IsAt, Reader};
-ghost use Rattle.script_run.specs.LineContents.{content_of};
+ghost use Rattle.script_run.specs.LineContents.{line_content};
 ghost use Rattle.log_buffer.specs.Passes.{AreAll};
 ghost use Rattle.mdriver.specs.Stands.{AreWriters, Holds, WriterHolds, pass_of};
 ghost use Rattle.mdriver.specs.Writing.{Aborts, Claims, Clears, Commits, Ends, Offers, Rewrites};
@@ -25,7 +25,7 @@ pub enum Writer {
 /// Offers a message, and says what came of it.
 fn offer_line(log: &mut LogState, publisher: &mut Publisher, message: &[u8]) -> Line
     requires { length message.now ≤ max_message log.old.identity.geometry }
-    ensures line { OfferedLine log.old publisher.old.number message.now (answer_of log.old (length message.now)) (content_of result) log.new }
+    ensures line { OfferedLine log.old publisher.old.number message.now (answer_of log.old (length message.now)) (line_content result) log.new }
     ensures may { MayOffer log.old publisher.old.number message.now }
     ensures pass { publisher.new.number ≡ publisher.old.number }
     ensures identity { log.new.identity ≡ log.old.identity }
@@ -43,7 +43,7 @@ fn offer_line(log: &mut LogState, publisher: &mut Publisher, message: &[u8]) -> 
 fn offer_free(log: &mut LogState, writer: Writer, message: &[u8]) -> (Writer, Line)
     requires short { length message.now ≤ max_message log.old.identity.geometry }
     requires holds { WriterHolds log.old writer }
-    ensures offers { Offers log.old writer message.now log.new result.0 (content_of result.1) }
+    ensures offers { Offers log.old writer message.now log.new result.0 (line_content result.1) }
     ensures identity { log.new.identity ≡ log.old.identity }
     ensures same_pass { ((pass_of result.0).number ≡ (pass_of writer).number) × (length (pass_of result.0).bytes ≡ length (pass_of writer).bytes) }
     ensures holds { WriterHolds log.new result.0 }
@@ -64,7 +64,7 @@ fn claim_line(log: &mut LogState, writer: Writer, size: u32) -> (Writer, Line)
     requires short { size ≤ max_payload log.old.identity.geometry }
     requires block { length (pass_of writer).bytes ≡ log.old.identity.geometry.mtu }
     requires holds { WriterHolds log.old writer }
-    ensures claims { Claims log.old writer size log.new result.0 (content_of result.1) }
+    ensures claims { Claims log.old writer size log.new result.0 (line_content result.1) }
     ensures identity { log.new.identity ≡ log.old.identity }
     ensures same_pass { ((pass_of result.0).number ≡ (pass_of writer).number) × (length (pass_of result.0).bytes ≡ length (pass_of writer).bytes) }
     ensures holds { WriterHolds log.new result.0 }
@@ -90,7 +90,7 @@ fn claim_line(log: &mut LogState, writer: Writer, size: u32) -> (Writer, Line)
 /// Fills an open claim with bytes 61 and commits it, and says what came of it.
 fn commit_line(log: &mut LogState, writer: Writer) -> (Writer, Line)
     requires holds { WriterHolds log.old writer }
-    ensures commits { Commits log.old writer log.new result.0 (content_of result.1) }
+    ensures commits { Commits log.old writer log.new result.0 (line_content result.1) }
     ensures identity { log.new.identity ≡ log.old.identity }
     ensures same_pass { ((pass_of result.0).number ≡ (pass_of writer).number) × (length (pass_of result.0).bytes ≡ length (pass_of writer).bytes) }
     ensures holds { WriterHolds log.new result.0 }
@@ -110,7 +110,7 @@ fn commit_line(log: &mut LogState, writer: Writer) -> (Writer, Line)
 /// Makes an open claim a padding, and says what came of it.
 fn abort_line(log: &mut LogState, writer: Writer) -> (Writer, Line)
     requires holds { WriterHolds log.old writer }
-    ensures aborts { Aborts log.old writer log.new result.0 (content_of result.1) }
+    ensures aborts { Aborts log.old writer log.new result.0 (line_content result.1) }
     ensures identity { log.new.identity ≡ log.old.identity }
     ensures same_pass { ((pass_of result.0).number ≡ (pass_of writer).number) × (length (pass_of result.0).bytes ≡ length (pass_of writer).bytes) }
     ensures holds { WriterHolds log.new result.0 }
@@ -165,7 +165,7 @@ pub fn offer_by(
     requires number { number < 8 }
     requires each { AreWriters log.old 0 writers.old.items }
     requires short { length message.now ≤ max_message log.old.identity.geometry }
-    ensures line { Rewrites writers.old.items writers.new.items number (λ w v. Offers log.old w message.now log.new v (content_of result)) }
+    ensures line { Rewrites writers.old.items writers.new.items number (λ w v. Offers log.old w message.now log.new v (line_content result)) }
     ensures eight { vec_len writers.new ≡ 8 }
     ensures each { AreWriters log.new 0 writers.new.items }
     ensures identity { log.new.identity ≡ log.old.identity }
@@ -183,7 +183,7 @@ pub fn claim_by(log: &mut LogState, writers: &mut Vec<Writer>, number: usize, si
     requires number { number < 8 }
     requires each { AreWriters log.old 0 writers.old.items }
     requires short { size ≤ max_payload log.old.identity.geometry }
-    ensures line { Rewrites writers.old.items writers.new.items number (λ w v. Claims log.old w size log.new v (content_of result)) }
+    ensures line { Rewrites writers.old.items writers.new.items number (λ w v. Claims log.old w size log.new v (line_content result)) }
     ensures eight { vec_len writers.new ≡ 8 }
     ensures each { AreWriters log.new 0 writers.new.items }
     ensures identity { log.new.identity ≡ log.old.identity }
@@ -200,7 +200,7 @@ pub fn commit_by(log: &mut LogState, writers: &mut Vec<Writer>, number: usize) -
     requires eight { vec_len writers.old ≡ 8 }
     requires number { number < 8 }
     requires each { AreWriters log.old 0 writers.old.items }
-    ensures line { Rewrites writers.old.items writers.new.items number (λ w v. Commits log.old w log.new v (content_of result)) }
+    ensures line { Rewrites writers.old.items writers.new.items number (λ w v. Commits log.old w log.new v (line_content result)) }
     ensures eight { vec_len writers.new ≡ 8 }
     ensures each { AreWriters log.new 0 writers.new.items }
     ensures identity { log.new.identity ≡ log.old.identity }
@@ -217,7 +217,7 @@ pub fn abort_by(log: &mut LogState, writers: &mut Vec<Writer>, number: usize) ->
     requires eight { vec_len writers.old ≡ 8 }
     requires number { number < 8 }
     requires each { AreWriters log.old 0 writers.old.items }
-    ensures line { Rewrites writers.old.items writers.new.items number (λ w v. Aborts log.old w log.new v (content_of result)) }
+    ensures line { Rewrites writers.old.items writers.new.items number (λ w v. Aborts log.old w log.new v (line_content result)) }
     ensures eight { vec_len writers.new ≡ 8 }
     ensures each { AreWriters log.new 0 writers.new.items }
     ensures identity { log.new.identity ≡ log.old.identity }

@@ -8,7 +8,7 @@ use Rattle.theory.specs.Position.{Geometry, IsGeometry, count_of}
 use Rattle.theory.specs.Setup.{NamesPosition, OpensAt}
 use Rattle.theory.specs.Wire.{Setup}
 use Rattle.rebuilder.specs.Seen.{IsJoin}
-use Rattle.theory.proofs.WorldSteps.{power_unit}
+use Rattle.theory.proofs.Places.{power_unit}
 use Rattle.receiver.proofs.Units.{whole_times}
 
 count_low : (g : Geometry) (id : ℤ) (n : ℕ) → count_of g id ≡ pos n → n < 2 ^ 31

@@ -7,7 +7,7 @@ use Rattle.theory.specs.Position.{Geometry}
 use Rattle.theory.specs.Placed.{Frame}
 use Rattle.theory.specs.Consumer.{least_of}
 use Rattle.theory.specs.Control.{asking_at, named_by, status_at}
-use Rattle.theory.specs.Timing.{Told, is_status_due}
+use Rattle.theory.specs.Timing.{LastStatus, is_status_due}
 use Rattle.frames.specs.Frames.{status_of}
 use Rattle.theory.specs.Image.{image_at}
 use Rattle.theory.specs.Setup.{OpensAt}
@@ -172,7 +172,7 @@ told_now v i b m some width is now message r s =
     let said : List Wire = status_at (record { geometry = o.geometry; session = r.session; stream = r.stream }) p r.window r.id ∷ [] in
     let from : m ≡ status_at (record { geometry = o.geometry; session = v.session; stream = v.stream }) p v.window v.id = message ∙ ap (λ g. status_at (record { geometry = g; session = v.session; stream = v.stream }) (least i.consumers) i.window v.id) w.shown.geometry ∙ ap (λ q. status_at (record { geometry = o.geometry; session = v.session; stream = v.stream }) q i.window v.id) same ∙ ap (λ n. status_at (record { geometry = o.geometry; session = v.session; stream = v.stream }) p n v.id) width in
     let to : m ≡ status_at (record { geometry = o.geometry; session = r.session; stream = r.stream }) p r.window r.id = from ∙ sym (ap (λ (x : Receiver). status_at (record { geometry = o.geometry; session = x.session; stream = x.stream }) p x.window x.id) s.numbers) in
-    let noted_then : Option Told = Some (record { now = r.clock; position = p }) in
+    let noted_then : Option LastStatus = Some (record { now = r.clock; position = p }) in
     let noted : Some (record { now = v.clock; position = least i.consumers }) ≡ noted_then = ap (λ q. Some (record { now = v.clock; position = q })) same ∙ ap (λ (x : Receiver). Some (record { now = x.clock; position = p })) (sym s.numbers) in (
       subst (λ x. m ∷ [] ≡ telling x r) (sym w.is) (ap (λ x. x ∷ []) to ∙ sym (cond-true (is_due r o) said [] due)),
       subst (λ x. Represents (record v { told = Some (record { now = v.clock; position = least i.consumers }) }) (record r { told = told_after x r })) (sym w.is)

@@ -11,7 +11,7 @@ use Rattle.theory.specs.Consumer.{Consumer, consumer_at, least_of}
 use Rattle.theory.specs.Image.{Image, after_heartbeat, after_insert, image_at, is_accepted}
 use Rattle.theory.specs.ImageLaws.{AreParted, held}
 use Rattle.theory.specs.Insert.{Head, Insert, CrossesTerm, Below, OverWindow, Duplicate, Overlap, Stored, head_of, insert_answer, insert_answer_at, is_duplicate, overlaps, window_end}
-use Rattle.theory.proofs.Messages.{chain_le}
+use Rattle.theory.proofs.Follow.{chain_le}
 use Rattle.theory.proofs.Lists.{all_at, all_get, all_replicate, all_set, all_weaker, any_false, any_here}
 use Rattle.theory.proofs.Held.{among_held, answer_held, held_among, stored_apart, not_stored}
 use Rattle.theory.proofs.Parted.{stored_from}

@@ -3,7 +3,7 @@ use Rattle.std.proofs.Common.{◌≡◌, ℕ, suc, ◌*◌, ◌/◌, ◌%◌, re
 use Rattle.std.proofs.lemmas.Int.{ints}
 use lib.IntN.{neg_ℤ}
 use Rattle.theory.specs.Position.{Geometry, IsGeometry, count_of, position_of}
-use Rattle.theory.proofs.WorldSteps.{power_unit}
+use Rattle.theory.proofs.Places.{power_unit}
 use Rattle.rebuilder.specs.Stored.{IsUnit}
 
 unit_by : (z : ℤ) → ((p : ℕ) → z ≡ pos p → p % 32 ≡ 0) → IsUnit z

@@ -9,7 +9,7 @@ use Rattle.theory.specs.Consumer.{least_of}
 use Rattle.theory.specs.Image.{Image, after_heartbeat, after_insert, image_at}
 use Rattle.theory.specs.Control.{asking_at, named_by, status_at}
 use Rattle.theory.specs.Setup.{HasSetupFault, OpensAt}
-use Rattle.theory.specs.Timing.{Told, is_status_due, seen}
+use Rattle.theory.specs.Timing.{LastStatus, is_status_due, seen}
 use Rattle.frames.specs.Datagrams.{IsDatagramFault}
 use Rattle.frames.specs.Frames.{status_of}
 use Rattle.rebuilder.specs.Stored.{meant}
@@ -39,7 +39,7 @@ pub record Receiver : Type 0 where
   -- the header of the last frame that met no image since the last tick
   pub unmet : Option Header
   -- the last status message that said where its consumers stand
-  pub told : Option Told
+  pub told : Option LastStatus
   -- the greatest moment that it has seen
   pub clock : ℕ
 
@@ -157,7 +157,7 @@ telling (Some o) r =
     then status_at (record { geometry = o.geometry; session = r.session; stream = r.stream }) (least_of o.image.consumers) r.window r.id ∷ []
     else []
 
-abbrev pub told_after : Option Opened → Receiver → Option Told
+abbrev pub told_after : Option Opened → Receiver → Option LastStatus
 told_after None r = r.told
 told_after (Some o) r = if is_due r o then Some (record { now = r.clock; position = least_of o.image.consumers }) else r.told
 

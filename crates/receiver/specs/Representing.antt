@@ -10,7 +10,7 @@ use Rattle.theory.specs.Consumer.{Consumer, least_of}
 use Rattle.theory.specs.Image.{after_heartbeat}
 use Rattle.theory.specs.ImageLaws.{held}
 use Rattle.theory.specs.Control.{named_by}
-use Rattle.theory.specs.Timing.{Told}
+use Rattle.theory.specs.Timing.{LastStatus}
 use Rattle.theory.specs.Wire.{Header, IsHeader, Wire}
 use Rattle.rebuilder.specs.Kinds.{head_at}
 use Rattle.rebuilder.specs.Seen as seen
@@ -29,10 +29,10 @@ pub record Core : Type 0 where
   pub consumers : ℕ
   pub image : Option seen.Image
   pub unmet : Option Header
-  pub told : Option Told
+  pub told : Option LastStatus
   pub clock : ℕ
 
-abbrev pub last_status_of : LastSent → Told
+abbrev pub last_status_of : LastSent → LastStatus
 last_status_of t = record { now = t.moment; position = t.position }
 
 -- the number of its consumers is legal, its image is of its window and has so many, and the header that it keeps can be one

@@ -7,12 +7,12 @@ use Rattle.std.proofs.lemmas.List.Elements.{filter-append}
 use Rattle.std.proofs.lemmas.List.Folds.{Any-from_list_any, list_any-from_Any}
 use Rattle.std.proofs.Common.{length-append}
 use borrow.Author.Count.{below_more}
-use Rattle.script.specs.Meaning.{Opening, Order}
+use Rattle.script.specs.Meaning.{Opening, CommandContent}
 use Rattle.script.specs.Pieces.{lines}
 use Rattle.script.specs.Reading.{with_front, behind, finished, is_log, log_of, command_of, script_of, script_from}
 use Rattle.script.specs.Language.{BeginsLog, is_full, FitsBehind, FitsAt, IsFirstUnfit, IsFaultLine}
 use Rattle.script.proofs.Options.{either}
-use Rattle.script.proofs.Orders.{command_found, command_only}
+use Rattle.script.proofs.Commands.{command_found, command_only}
 use Rattle.script.proofs.Openings.{log_found, log_only, begins_found, begins_log}
 use Rattle.script.proofs.Whole.{no_log, with_log}
 use Rattle.script.proofs.Laws.{bool_either, never_opened}
@@ -25,7 +25,7 @@ StateIs (Some log) before = 0 < length (filter is_full before)
 above_more : (ls : List (List ℕ)) (i : ℕ) → i < length ls → filter is_full (take (i + 1) ls) ≡ filter is_full (take i ls) ++ filter is_full (get_or ls i [] ∷ [])
 above_more ls i inside = ap (filter is_full) (take_more ls i [] inside) ∙ filter-append is_full (take i ls) (get_or ls i [] ∷ [])
 
-front_err : (front : List Order) (read : Result (Option Opening × List Order) ℕ) (n : ℕ) → with_front front read ≡ Err n → read ≡ Err n
+front_err : (front : List CommandContent) (read : Result (Option Opening × List CommandContent) ℕ) (n : ℕ) → with_front front read ≡ Err n → read ≡ Err n
 front_err front (Err m) n e = cc
 front_err front (Ok x) n e = absurd (cc)
 
@@ -41,8 +41,8 @@ no_opening before byte line state none (inr (inr (some, says))) = omega (arith, 
 no_command : (before : List (List ℕ)) (byte : ℕ) (line : List ℕ) → 0 < length (filter is_full before) → command_of (byte ∷ line) ≡ None → FitsBehind before (byte ∷ line) → ⊥
 no_command before byte line state none (inl empty) = cc
 no_command before byte line state none (inr (inl (first, opens))) = omega (arith, ap length first)
-no_command before byte line state none (inr (inr (some, (order, says)))) =
-    let read = command_only (byte ∷ line) order says in cc
+no_command before byte line state none (inr (inr (some, (command, says)))) =
+    let read = command_only (byte ∷ line) command says in cc
 
 -- one line on, whatever the line
 unfit_step : (i : ℕ) (ls : List (List ℕ)) (n : ℕ) → i < length ls → ((j : ℕ) → j < i → FitsAt ls j) → (log : Option Opening) → StateIs log (take i ls) → (line : List ℕ) → line ≡ get_or ls i [] → script_from (i + 1) log (line ∷ drop (i + 1) ls) ≡ Err n → ((later : Option Opening) → StateIs later (take (i + 1) ls) → ((j : ℕ) → j < i + 1 → FitsAt ls j) → script_from (i + 1 + 1) later (drop (i + 1) ls) ≡ Err n → IsFirstUnfit ls n) → IsFirstUnfit ls n
@@ -89,10 +89,10 @@ first_unfit (suc k) i ls n log count above state e =
     (λ later. λ known. λ fits. λ read. first_unfit k (i + 1) ls n later (omega arith) fits known read)
 
 -- the log is opened before the end
-finished_err : (read : Result (Option Opening × List Order) ℕ) (n : ℕ) → finished read ≡ Err n → (read ≡ Err n) ⊎ ((orders : List Order) × (read ≡ Ok (None, orders)))
+finished_err : (read : Result (Option Opening × List CommandContent) ℕ) (n : ℕ) → finished read ≡ Err n → (read ≡ Err n) ⊎ ((commands : List CommandContent) × (read ≡ Ok (None, commands)))
 finished_err (Err m) n e = inl (let same : m ≡ n = cc in ap Err same)
-finished_err (Ok (None, orders)) n e = inr (orders, refl)
-finished_err (Ok (Some log, orders)) n e = absurd (cc)
+finished_err (Ok (None, commands)) n e = inr (commands, refl)
+finished_err (Ok (Some log, commands)) n e = absurd (cc)
 
 pub begun : (ls : List (List ℕ)) → list_any is_log ls ≡ true → Any BeginsLog ls
 begun ls some =

@@ -1,10 +1,9 @@
 pub mod Cuts
 pub mod Digits
-pub mod Pairs
 pub mod Whole
 pub mod Options
 pub mod Words
-pub mod Orders
+pub mod Commands
 pub mod Laws
 pub mod Faults
 pub mod Fields

@@ -7,7 +7,7 @@ use Rattle.std.proofs.Common.{max}
 use Rattle.std.proofs.lemmas.Bool.{cond-true, cond-false}
 use Rattle.script.specs.declared.fault.ScriptFault.{ScriptFault}
 use Rattle.script.specs.declared.fault.ScriptFault.TheVariants.{Line, Memory}
-use Rattle.script.specs.Meaning.{Opening, Order}
+use Rattle.script.specs.Meaning.{Opening, CommandContent}
 use Rattle.script.specs.Pieces.{with_first, lines}
 use Rattle.script.specs.Reading.{with_front, behind, FailsAt, FaultIs, finished, is_log, script_of, script_from, log_of, command_of, GoesOn}
 
@@ -26,45 +26,45 @@ lines_few [] = omega arith
 lines_few (x ∷ xs) = omega (arith, one_more x (lines xs) (length xs) (x == 10) (lines_few xs))
 
 -- an empty line does nothing
-pub empty_line : (number : ℕ) (line : List ℕ) (log : Option Opening) (orders : List Order) → length line ≡ 0 → GoesOn number line log orders log orders
+pub empty_line : (number : ℕ) (line : List ℕ) (log : Option Opening) (commands : List CommandContent) → length line ≡ 0 → GoesOn number line log commands log commands
 unfolding script_from
-empty_line number [] log orders none rest = refl
-empty_line number (byte ∷ line) log orders none rest = absurd (omega arith)
+empty_line number [] log commands none rest = refl
+empty_line number (byte ∷ line) log commands none rest = absurd (omega arith)
 
 pub log_refused : (number : ℕ) (line : List ℕ) (rest : List (List ℕ)) → 0 < length line → log_of line ≡ None → script_from number None (line ∷ rest) ≡ Err number
 unfolding script_from
 log_refused number [] rest some refused = absurd (omega arith)
 log_refused number (byte ∷ line) rest some refused = ap (λ found. behind number found (λ log. script_from (number + 1) (Some log) rest)) refused
 
-pub log_opened : (number : ℕ) (line : List ℕ) (log : Opening) (orders : List Order) → 0 < length line → log_of line ≡ Some log → GoesOn number line None orders (Some log) orders
+pub log_opened : (number : ℕ) (line : List ℕ) (log : Opening) (commands : List CommandContent) → 0 < length line → log_of line ≡ Some log → GoesOn number line None commands (Some log) commands
 unfolding script_from
-log_opened number [] log orders some read rest = absurd (omega arith)
-log_opened number (byte ∷ line) log orders some read rest = sym (ap (λ found. with_front orders (behind number found (λ l. script_from (number + 1) (Some l) rest))) read)
+log_opened number [] log commands some read rest = absurd (omega arith)
+log_opened number (byte ∷ line) log commands some read rest = sym (ap (λ found. with_front commands (behind number found (λ l. script_from (number + 1) (Some l) rest))) read)
 
 pub command_refused : (number : ℕ) (line : List ℕ) (log : Opening) (rest : List (List ℕ)) → 0 < length line → command_of line ≡ None → script_from number (Some log) (line ∷ rest) ≡ Err number
 unfolding script_from
 command_refused number [] log rest some refused = absurd (omega arith)
-command_refused number (byte ∷ line) log rest some refused = ap (λ found. behind number found (λ order. with_front (order ∷ []) (script_from (number + 1) (Some log) rest))) refused
+command_refused number (byte ∷ line) log rest some refused = ap (λ found. behind number found (λ command. with_front (command ∷ []) (script_from (number + 1) (Some log) rest))) refused
 
-put_first : (orders : List Order) (order : Order) (read : Result (Option Opening × List Order) ℕ) → with_front (orders ++ order ∷ []) read ≡ with_front orders (with_front (order ∷ []) read)
-put_first orders order (Err number) = refl
-put_first orders order (Ok (log, rest)) = ap (λ os. Ok (log, os)) (append_assoc orders (order ∷ []) rest)
+put_first : (commands : List CommandContent) (command : CommandContent) (read : Result (Option Opening × List CommandContent) ℕ) → with_front (commands ++ command ∷ []) read ≡ with_front commands (with_front (command ∷ []) read)
+put_first commands command (Err number) = refl
+put_first commands command (Ok (log, rest)) = ap (λ os. Ok (log, os)) (append_assoc commands (command ∷ []) rest)
 
-pub command_added : (number : ℕ) (line : List ℕ) (log : Opening) (orders : List Order) (order : Order) → 0 < length line → command_of line ≡ Some order → GoesOn number line (Some log) orders (Some log) (orders ++ order ∷ [])
+pub command_added : (number : ℕ) (line : List ℕ) (log : Opening) (commands : List CommandContent) (command : CommandContent) → 0 < length line → command_of line ≡ Some command → GoesOn number line (Some log) commands (Some log) (commands ++ command ∷ [])
 unfolding script_from
-command_added number [] log orders order some read rest = absurd (omega arith)
-command_added number (byte ∷ line) log orders order some read rest =
-    put_first orders order (script_from (number + 1) (Some log) rest)
-    ∙ sym (ap (λ found. with_front orders (behind number found (λ o. with_front (o ∷ []) (script_from (number + 1) (Some log) rest)))) read)
+command_added number [] log commands command some read rest = absurd (omega arith)
+command_added number (byte ∷ line) log commands command some read rest =
+    put_first commands command (script_from (number + 1) (Some log) rest)
+    ∙ sym (ap (λ found. with_front commands (behind number found (λ o. with_front (o ∷ []) (script_from (number + 1) (Some log) rest)))) read)
 
 pub command_fails : (number : ℕ) (line : List ℕ) (log : Opening) (fault : ScriptFault) → 0 < length line → FailsAt number fault (command_of line) → (rest : List (List ℕ)) → FaultIs fault (script_from number (Some log) (line ∷ rest))
 command_fails number line log (Line n) some (same, refused) rest = command_refused number line log rest some refused ∙ ap Err (sym same)
 command_fails number line log Memory some fails rest = tt
 
 -- behind the last line
-pub at_end : (number : ℕ) (log : Option Opening) (orders : List Order) → with_front orders (script_from number log []) ≡ Ok (log, orders)
+pub at_end : (number : ℕ) (log : Option Opening) (commands : List CommandContent) → with_front commands (script_from number log []) ≡ Ok (log, commands)
 unfolding script_from
-at_end number log orders = ap (λ os. Ok (log, os)) (append-nil orders)
+at_end number log commands = ap (λ os. Ok (log, os)) (append-nil commands)
 
 pub no_log : (xs : List ℕ) → list_any is_log (lines xs) ≡ false → script_of xs ≡ Err (max 1 (length (lines xs)))
 unfolding script_of

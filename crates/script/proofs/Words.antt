@@ -1,15 +1,18 @@
 -- The values of words: reading one, and being its spelling, are the same.
-use Rattle.std.proofs.Common.{◌≡◌, ℕ, ◌+◌, ◌-◌, ◌*◌, ◌^◌, ◌<◌, ◌≤◌, ℤ, pos, Bool, true, false, ◌&&◌, inl, inr, List, [], ◌∷◌, length, drop, Some, refl, sym, ap, subst, ◌∙◌, arith}
-use Rattle.std.specs.Prelude.{neg_ℤ}
+use Rattle.std.proofs.Common.{◌≡◌, ℕ, ◌+◌, ◌-◌, ◌^◌, ◌<◌, ◌≤◌, ℤ, pos, Bool, true, false, inl, inr, List, [], ◌∷◌, length, drop, Option, Some, None, Result, Ok, Err, refl, sym, ap, subst, ◌∙◌, arith}
+use Rattle.std.specs.Prelude.{neg_ℤ, IfOk, IfSome, option_map}
 use Rattle.std.specs.List.{list_all}
 use Rattle.std.specs.Char.{is_ascii_digit}
 use Rattle.std.specs.Str.Parse.{digits_value, starts_with_minus}
-use Rattle.std.specs.Prelude.{nat_lt, ◌==◌}
-use Rattle.std.proofs.lemmas.Bool.{and_left, and_right, cond-true, cond-false, and_parts, and_from, le-ltb, lt-ltb, ltb-true, eqb-true}
+use Rattle.std.specs.Prelude.{◌==◌}
+use Rattle.std.proofs.lemmas.Bool.{cond-true, cond-false, and_parts, ltb-true, eqb-true}
 use Rattle.std.proofs.lemmas.List.Sums.{AllPass-from_list_all, list_all-from_AllPass}
 use Rattle.std.proofs.lemmas.Option.{cond_some}
-use Rattle.script.specs.Values.{◌>>=◌, is_number, number_of, signed_of, hex_digit_of, byte_of, pairs_of, hex_of}
-use Rattle.script.specs.Language.{IsUpTo, IsSigned, IsHexDigit, SpellsBytes, IsHex}
+use Rattle.hex.specs.Hex.{decode_of}
+use Rattle.hex.specs.declared.error.FromHexError.{FromHexError}
+use Rattle.hex.proofs.HexLemmas.{decode_of-ok}
+use Rattle.script.specs.Values.{◌>>=◌, is_number, number_of, signed_of, read_bytes, hex_of}
+use Rattle.script.specs.Language.{IsUpTo, IsSigned, SpellsBytes, IsHex}
 use Rattle.script.proofs.Options.{bind_some, some_bind, chosen}
 use Rattle.script.proofs.Digits.{a_number}
 
@@ -67,92 +70,49 @@ signed_only word z (inr (digits, n, minus, is, value)) =
     ∙ ap (λ ds. number_of (2 ^ 31) ds >>= λ n. Some (neg_ℤ (pos n))) rest
     ∙ some_bind (number_of (2 ^ 31) digits) (λ n. Some (neg_ℤ (pos n))) n (number_only (2 ^ 31) digits n is) ∙ ap Some (sym value)
 
-within : (a b c : ℕ) → (nat_lt a c && nat_lt c b) ≡ true → (a < c) × (c < b)
-within a b c e = let parts = and_parts _ _ e in (ltb-true a c parts.0, ltb-true c b parts.1)
-
-inside : (a b c : ℕ) → a < c → c < b → (nat_lt a c && nat_lt c b) ≡ true
-inside a b c low high = and_from _ _ (lt-ltb a c low) (lt-ltb c b high)
-
-above : (a b c : ℕ) → b ≤ c → (nat_lt a c && nat_lt c b) ≡ false
-above a b c h = and_right _ _ (le-ltb c b h)
-
-below : (a b c : ℕ) → c ≤ a → (nat_lt a c && nat_lt c b) ≡ false
-below a b c h = and_left _ _ (le-ltb a c h)
-
-digit_found : (c n : ℕ) → hex_digit_of c ≡ Some n → IsHexDigit c n
-unfolding hex_digit_of
-digit_found c n e = elim (chosen (nat_lt 47 c && nat_lt c 58) _ _ _ e) [
-  | inl first ↦
-      let bounds = within 47 58 c first.0 in
-      let value : c - 48 ≡ n = cc in
-      inl (omega arith, omega arith)
-  | inr others ↦ elim (chosen (nat_lt 96 c && nat_lt c 103) _ _ _ others.1) [
-    | inl second ↦
-        let bounds = within 96 103 c second.0 in
-        let value : c - 87 ≡ n = cc in
-        inr (inl (omega arith, omega arith, omega arith))
-    | inr third ↦
-        let last = cond_some (nat_lt 64 c && nat_lt c 71) (c - 55) n third.1 in
-        let bounds = within 64 71 c last.0 in
-        let value : c - 55 ≡ n = last.1 in
-        inr (inr (omega arith, omega arith, omega arith))
-  ]
-]
-
-digit_only : (c n : ℕ) → IsHexDigit c n → hex_digit_of c ≡ Some n
-unfolding hex_digit_of
-digit_only c n (inl (small, is)) =
-    let value : c - 48 ≡ n = omega arith in
-    cond-true _ _ _ (inside 47 58 c (omega arith) (omega arith)) ∙ ap Some value
-digit_only c n (inr (inl (low, high, is))) =
-    let value : c - 87 ≡ n = omega arith in
-    cond-false _ _ _ (above 47 58 c (omega arith)) ∙ cond-true _ _ _ (inside 96 103 c (omega arith) (omega arith)) ∙ ap Some value
-digit_only c n (inr (inr (low, high, is))) =
-    let value : c - 55 ≡ n = omega arith in
-    cond-false _ _ _ (above 47 58 c (omega arith)) ∙ cond-false _ _ _ (below 96 103 c (omega arith)) ∙ cond-true _ _ _ (inside 64 71 c (omega arith) (omega arith)) ∙ ap Some value
-
-pub bytes_found : (text bytes : List ℕ) → pairs_of text ≡ Some bytes → SpellsBytes text bytes
-unfolding pairs_of byte_of
-bytes_found [] bytes e =
-    let none : [] ≡ bytes = cc in
-    subst (SpellsBytes []) none tt
-bytes_found (high ∷ []) bytes e = absurd (cc)
-bytes_found (high ∷ low ∷ text) bytes e =
-    let first = bind_some (byte_of high low) (λ byte. pairs_of text >>= λ bs. Some (byte ∷ bs)) bytes e in
-    let others = bind_some (pairs_of text) (λ bs. Some (first.0 ∷ bs)) bytes first.2 in
-    let whole : first.0 ∷ others.0 ≡ bytes = cc in
-    let h = bind_some (hex_digit_of high) (λ h. hex_digit_of low >>= λ l. Some (h * 16 + l)) first.0 first.1 in
-    let l = bind_some (hex_digit_of low) (λ l. Some (h.0 * 16 + l)) first.0 h.2 in
-    let value : first.0 ≡ h.0 * 16 + l.0 = cc in
-    subst (SpellsBytes (high ∷ low ∷ text)) whole ((h.0, l.0, digit_found high h.0 h.1, digit_found low l.0 l.1, value), bytes_found text others.0 others.1)
-
-pub bytes_only : (text bytes : List ℕ) → SpellsBytes text bytes → pairs_of text ≡ Some bytes
-unfolding pairs_of byte_of
-bytes_only [] [] spells = refl
-bytes_only [] (byte ∷ bytes) spells = absurd spells
-bytes_only (high ∷ []) [] spells = absurd spells
-bytes_only (high ∷ low ∷ text) [] spells = absurd spells
-bytes_only (high ∷ []) (byte ∷ bytes) spells = absurd spells
-bytes_only (high ∷ low ∷ text) (byte ∷ bytes) ((h, l, is_high, is_low, value), rest) =
-    let first : byte_of high low ≡ Some byte =
-    some_bind (hex_digit_of high) (λ h. hex_digit_of low >>= λ l. Some (h * 16 + l)) h (digit_only high h is_high)
-    ∙ some_bind (hex_digit_of low) (λ l. Some (h * 16 + l)) l (digit_only low l is_low) ∙ ap Some (sym value) in
-    some_bind (byte_of high low) (λ byte. pairs_of text >>= λ bs. Some (byte ∷ bs)) byte first
-    ∙ some_bind (pairs_of text) (λ bs. Some (byte ∷ bs)) bytes (bytes_only text bytes rest)
+-- what no error stands in place of is what was read
+bytes_read : (read : Result (List ℕ) FromHexError) (bytes : List ℕ) → read_bytes read ≡ Some bytes → read ≡ Ok bytes
+bytes_read (Ok xs) bytes e = let same : xs ≡ bytes = cc in ap Ok same
+bytes_read (Err fault) bytes e = absurd (cc)
 
 some_bytes : (digit : ℕ) (text bytes : List ℕ) → SpellsBytes (digit ∷ text) bytes → 0 < length bytes
-some_bytes digit text [] spells = absurd spells
-some_bytes digit text (byte ∷ bytes) spells = omega arith
+some_bytes digit text bytes spells =
+    let twice = (decode_of-ok (digit ∷ text) bytes spells).2 in
+    omega (arith, twice)
+
+found_is : {V : Type 0} (items : V → List ℕ) (text : List ℕ) (found : Option V) (read : Result (List ℕ) FromHexError) → decode_of text ≡ read
+    → IfSome found (λ bytes. SpellsBytes text (items bytes))
+    → ((bytes : List ℕ) → SpellsBytes text bytes → option_map items found ≡ Some bytes)
+    → option_map items found ≡ read_bytes read
+found_is items text found (Ok bytes) is spelled only = only bytes is
+found_is items text None (Err fault) is spelled only = refl
+found_is items text (Some bytes) (Err fault) is spelled only = absurd (cc)
+
+-- the bytes of a text that has some
+pub message_read : {V E : Type 0} (items : V → List ℕ) (text : List ℕ) (read : Result (Option V) E) → 0 < length text
+    → IfOk read (λ found. IfSome found (λ bytes. SpellsBytes text (items bytes)))
+    → ((bytes : List ℕ) → SpellsBytes text bytes → IfOk read (λ found. option_map items found ≡ Some bytes))
+    → IfOk read (λ found. option_map items found ≡ hex_of text)
+unfolding hex_of
+message_read items text (Err fault) some found only = tt
+message_read items [] (Ok none) some found only = absurd (omega arith)
+message_read items (digit ∷ text) (Ok read) some found only = found_is items (digit ∷ text) read (decode_of (digit ∷ text)) refl found only
+
+pub none_read : (text : List ℕ) → length text ≡ 0 → None ≡ hex_of text
+unfolding hex_of
+none_read [] none = refl
+none_read (digit ∷ text) none = absurd (omega arith)
 
 pub hex_found : (word bytes : List ℕ) → hex_of word ≡ Some bytes → IsHex word bytes
 unfolding hex_of
 hex_found [] bytes e = absurd (cc)
 hex_found (digit ∷ text) bytes e =
-    let spells = bytes_found (digit ∷ text) bytes e in
+    let spells = bytes_read (decode_of (digit ∷ text)) bytes e in
     (some_bytes digit text bytes spells, spells)
 
 pub hex_only : (word bytes : List ℕ) → IsHex word bytes → hex_of word ≡ Some bytes
 unfolding hex_of
-hex_only [] [] (some, spells) = absurd (omega arith)
-hex_only [] (byte ∷ bytes) (some, spells) = absurd spells
-hex_only (digit ∷ text) bytes (some, spells) = bytes_only (digit ∷ text) bytes spells
+hex_only [] bytes (some, spells) =
+    let twice = (decode_of-ok [] bytes spells).2 in
+    absurd (omega (arith, some, twice))
+hex_only (digit ∷ text) bytes (some, spells) = ap read_bytes spells

@@ -16,28 +16,28 @@ pub record Opening : Type 0 where
   pub readers : ℕ
 
 -- what one line asks for; a message is its bytes or how many they are, a publisher, reader or receiver its number
-pub data Order : Type 0 where
-  Connect : Order
-  Disconnect : Order
-  Close : Order
-  Limit : Order
-  Offer : ℕ → List ℕ → Order
-  OfferSize : ℕ → ℕ → Order
-  Claim : ℕ → ℕ → Order
-  Commit : ℕ → Order
-  Abort : ℕ → Order
-  Read : ℕ → Order
-  Send : ℕ → Order
-  Deliver : ℕ → ℕ → ℕ → Order
-  Tick : ℕ → ℕ → Order
-  Reply : ℕ → ℕ → Order
-  Poll : ℕ → Order
-  Image : ℕ → Order
+pub data CommandContent : Type 0 where
+  Connect : CommandContent
+  Disconnect : CommandContent
+  Close : CommandContent
+  Limit : CommandContent
+  Offer : ℕ → List ℕ → CommandContent
+  OfferSize : ℕ → ℕ → CommandContent
+  Claim : ℕ → ℕ → CommandContent
+  Commit : ℕ → CommandContent
+  Abort : ℕ → CommandContent
+  Read : ℕ → CommandContent
+  Send : ℕ → CommandContent
+  Deliver : ℕ → ℕ → ℕ → CommandContent
+  Tick : ℕ → ℕ → CommandContent
+  Reply : ℕ → ℕ → CommandContent
+  Poll : ℕ → CommandContent
+  Image : ℕ → CommandContent
 
 -- a whole script
-pub record Told : Type 0 where
+pub record ScriptContent : Type 0 where
   pub log : Opening
-  pub orders : List Order
+  pub commands : List CommandContent
 
 abbrev pub opening : LogLine → Opening
 opening l = record { term_length = l.term_length; mtu = l.mtu; initial_term_id = l.initial_term_id; start = l.start; session = l.session; stream = l.stream; readers = l.readers }
@@ -46,26 +46,26 @@ abbrev pub opened : Option LogLine → Option Opening
 opened None = None
 opened (Some log) = Some (opening log)
 
-abbrev pub order : Command → Order
-order commands.Connect = Connect
-order commands.Disconnect = Disconnect
-order commands.Close = Close
-order commands.Limit = Limit
-order (commands.Offer publisher message) = Offer publisher.number message.items
-order (commands.OfferSize publisher size) = OfferSize publisher.number size
-order (commands.Claim publisher size) = Claim publisher.number size
-order (commands.Commit publisher) = Commit publisher.number
-order (commands.Abort publisher) = Abort publisher.number
-order (commands.Read reader) = Read reader.number
-order (commands.Send now) = Send now
-order (commands.Deliver packet receiver now) = Deliver packet receiver.number now
-order (commands.Tick receiver now) = Tick receiver.number now
-order (commands.Reply packet now) = Reply packet now
-order (commands.Poll receiver) = Poll receiver.number
-order (commands.Image receiver) = Image receiver.number
+abbrev pub content_of : Command → CommandContent
+content_of commands.Connect = Connect
+content_of commands.Disconnect = Disconnect
+content_of commands.Close = Close
+content_of commands.Limit = Limit
+content_of (commands.Offer publisher message) = Offer publisher.number message.items
+content_of (commands.OfferSize publisher size) = OfferSize publisher.number size
+content_of (commands.Claim publisher size) = Claim publisher.number size
+content_of (commands.Commit publisher) = Commit publisher.number
+content_of (commands.Abort publisher) = Abort publisher.number
+content_of (commands.Read reader) = Read reader.number
+content_of (commands.Send now) = Send now
+content_of (commands.Deliver packet receiver now) = Deliver packet receiver.number now
+content_of (commands.Tick receiver now) = Tick receiver.number now
+content_of (commands.Reply packet now) = Reply packet now
+content_of (commands.Poll receiver) = Poll receiver.number
+content_of (commands.Image receiver) = Image receiver.number
 
-abbrev pub orders : List Command → List Order
-orders commands = map order commands
+abbrev pub contents_of : List Command → List CommandContent
+contents_of commands = map content_of commands
 
-abbrev pub told : Script → Told
-told script = record { log = opening script.log; orders = orders script.commands.items }
+abbrev pub script_content : Script → ScriptContent
+script_content script = record { log = opening script.log; commands = contents_of script.commands.items }

@@ -3,7 +3,7 @@ use Rattle.std.specs.Prelude.{◌≡◌, ℕ, ◌+◌, ◌-◌, ◌^◌, ℤ, Bo
 use Rattle.std.specs.List.{list_any}
 use Rattle.script.specs.declared.fault.ScriptFault.{ScriptFault}
 use Rattle.script.specs.declared.fault.ScriptFault.TheVariants as faults
-use Rattle.script.specs.Meaning.{Opening, Order, Told, Connect, Disconnect, Close, Limit, Offer, OfferSize, Claim, Commit, Abort, Read, Send, Deliver, Tick, Reply, Poll, Image}
+use Rattle.script.specs.Meaning.{Opening, CommandContent, ScriptContent, Connect, Disconnect, Close, Limit, Offer, OfferSize, Claim, Commit, Abort, Read, Send, Deliver, Tick, Reply, Poll, Image}
 use Rattle.script.specs.Pieces.{lines, words}
 use Rattle.script.specs.Values.{◌>>=◌, number_of, signed_of, hex_of}
 
@@ -46,57 +46,57 @@ abbrev pub whole : {A : Type 0} → A → List (List ℕ) → Option A
 whole x ws = end_of ws >>= λ _. Some x
 
 -- what stands behind the form of an offer
-unfoldable pub offer_hex_of : ℕ → List (List ℕ) → Option Order
+unfoldable pub offer_hex_of : ℕ → List (List ℕ) → Option CommandContent
 offer_hex_of publisher ws = word_at ws >>= λ digits. hex_of digits.0 >>= λ message. whole (Offer publisher message) digits.1
 
-unfoldable pub offer_size_of : ℕ → List (List ℕ) → Option Order
+unfoldable pub offer_size_of : ℕ → List (List ℕ) → Option CommandContent
 offer_size_of publisher ws = number_at most_wide ws >>= λ size. whole (OfferSize publisher size.0) size.1
 
-unfoldable pub form_of : ℕ → List ℕ → List (List ℕ) → Option Order
+unfoldable pub form_of : ℕ → List ℕ → List (List ℕ) → Option CommandContent
 form_of publisher form ws =
     if bytes_eq form (codes "hex") then offer_hex_of publisher ws
     else (if bytes_eq form (codes "size") then offer_size_of publisher ws else None)
 
 -- what stands behind the name of each command
-unfoldable pub offer_of : List (List ℕ) → Option Order
+unfoldable pub offer_of : List (List ℕ) → Option CommandContent
 offer_of ws = number_at 7 ws >>= λ p. word_at p.1 >>= λ form. form_of p.0 form.0 form.1
 
-unfoldable pub claim_of : List (List ℕ) → Option Order
+unfoldable pub claim_of : List (List ℕ) → Option CommandContent
 claim_of ws = number_at 7 ws >>= λ publisher. number_at most_wide publisher.1 >>= λ size. whole (Claim publisher.0 size.0) size.1
 
-unfoldable pub commit_of : List (List ℕ) → Option Order
+unfoldable pub commit_of : List (List ℕ) → Option CommandContent
 commit_of ws = number_at 7 ws >>= λ publisher. whole (Commit publisher.0) publisher.1
 
-unfoldable pub abort_of : List (List ℕ) → Option Order
+unfoldable pub abort_of : List (List ℕ) → Option CommandContent
 abort_of ws = number_at 7 ws >>= λ publisher. whole (Abort publisher.0) publisher.1
 
 -- reader 0 is the sender, which no line names
-abbrev pub reader_of : ℕ → List (List ℕ) → Option Order
+abbrev pub reader_of : ℕ → List (List ℕ) → Option CommandContent
 reader_of reader ws = if nat_lt 0 reader then whole (Read reader) ws else None
 
-unfoldable pub read_of : List (List ℕ) → Option Order
+unfoldable pub read_of : List (List ℕ) → Option CommandContent
 read_of ws = number_at 7 ws >>= λ reader. reader_of reader.0 reader.1
 
-unfoldable pub send_of : List (List ℕ) → Option Order
+unfoldable pub send_of : List (List ℕ) → Option CommandContent
 send_of ws = number_at most_wide ws >>= λ now. whole (Send now.0) now.1
 
-unfoldable pub deliver_of : List (List ℕ) → Option Order
+unfoldable pub deliver_of : List (List ℕ) → Option CommandContent
 deliver_of ws = number_at most_wide ws >>= λ packet. number_at 7 packet.1 >>= λ receiver. number_at most_wide receiver.1 >>= λ now. whole (Deliver packet.0 receiver.0 now.0) now.1
 
-unfoldable pub tick_of : List (List ℕ) → Option Order
+unfoldable pub tick_of : List (List ℕ) → Option CommandContent
 tick_of ws = number_at 7 ws >>= λ receiver. number_at most_wide receiver.1 >>= λ now. whole (Tick receiver.0 now.0) now.1
 
-unfoldable pub reply_of : List (List ℕ) → Option Order
+unfoldable pub reply_of : List (List ℕ) → Option CommandContent
 reply_of ws = number_at most_wide ws >>= λ packet. number_at most_wide packet.1 >>= λ now. whole (Reply packet.0 now.0) now.1
 
-unfoldable pub poll_of : List (List ℕ) → Option Order
+unfoldable pub poll_of : List (List ℕ) → Option CommandContent
 poll_of ws = number_at 7 ws >>= λ receiver. whole (Poll receiver.0) receiver.1
 
-unfoldable pub image_of : List (List ℕ) → Option Order
+unfoldable pub image_of : List (List ℕ) → Option CommandContent
 image_of ws = number_at 7 ws >>= λ receiver. whole (Image receiver.0) receiver.1
 
 -- the command of a name, and of what stands behind it
-unfoldable pub plain_of : List ℕ → List (List ℕ) → Option Order
+unfoldable pub plain_of : List ℕ → List (List ℕ) → Option CommandContent
 plain_of name ws =
     if bytes_eq name (codes "connect") then whole Connect ws
     else (if bytes_eq name (codes "disconnect") then whole Disconnect ws
@@ -113,7 +113,7 @@ plain_of name ws =
     else (if bytes_eq name (codes "abort") then abort_of ws
     else (if bytes_eq name (codes "read") then read_of ws else None)))))))))))))
 
-unfoldable pub command_of : List ℕ → Option Order
+unfoldable pub command_of : List ℕ → Option CommandContent
 command_of line = word_at (words line) >>= λ name. (if bytes_eq name.0 (codes "offer") then offer_of name.1 else plain_of name.0 name.1)
 
 -- the fields of the line that opens the log
@@ -135,7 +135,7 @@ unfoldable pub is_log : List ℕ → Bool
 is_log line = is_log_name (word_at (words line))
 
 -- the pieces in front of what reading gives
-abbrev pub with_front : List Order → Result (Option Opening × List Order) ℕ → Result (Option Opening × List Order) ℕ
+abbrev pub with_front : List CommandContent → Result (Option Opening × List CommandContent) ℕ → Result (Option Opening × List CommandContent) ℕ
 with_front front (Ok x) = Ok (x.0, front ++ x.1)
 with_front front (Err number) = Err number
 
@@ -145,23 +145,23 @@ behind number None next = Err number
 behind number (Some x) next = next x
 
 -- what the lines from this number on say, once the log is opened or not; an error is the number of a line that doesn't fit
-unfoldable pub script_from : ℕ → Option Opening → List (List ℕ) → Result (Option Opening × List Order) ℕ
+unfoldable pub script_from : ℕ → Option Opening → List (List ℕ) → Result (Option Opening × List CommandContent) ℕ
 script_from number log [] = Ok (log, [])
 script_from number log ([] ∷ rest) = script_from (number + 1) log rest
 script_from number None ((byte ∷ line) ∷ rest) = behind number (log_of (byte ∷ line)) (λ log. script_from (number + 1) (Some log) rest)
-script_from number (Some log) ((byte ∷ line) ∷ rest) = behind number (command_of (byte ∷ line)) (λ order. with_front (order ∷ []) (script_from (number + 1) (Some log) rest))
+script_from number (Some log) ((byte ∷ line) ∷ rest) = behind number (command_of (byte ∷ line)) (λ command. with_front (command ∷ []) (script_from (number + 1) (Some log) rest))
 
 -- a line on, the rest says the same
-abbrev pub GoesOn : ℕ → List ℕ → Option Opening → List Order → Option Opening → List Order → Type 0
-GoesOn number line log orders next_log next_orders = (rest : List (List ℕ)) → with_front next_orders (script_from (number + 1) next_log rest) ≡ with_front orders (script_from number log (line ∷ rest))
+abbrev pub GoesOn : ℕ → List ℕ → Option Opening → List CommandContent → Option Opening → List CommandContent → Type 0
+GoesOn number line log commands next_log next_commands = (rest : List (List ℕ)) → with_front next_commands (script_from (number + 1) next_log rest) ≡ with_front commands (script_from number log (line ∷ rest))
 
-abbrev pub finished : Result (Option Opening × List Order) ℕ → Result Told ℕ
+abbrev pub finished : Result (Option Opening × List CommandContent) ℕ → Result ScriptContent ℕ
 finished (Err number) = Err number
-finished (Ok (None, orders)) = Err 1
-finished (Ok (Some log, orders)) = Ok (record { log = log; orders = orders })
+finished (Ok (None, commands)) = Err 1
+finished (Ok (Some log, commands)) = Ok (record { log = log; commands = commands })
 
 -- the script that a text is, or the number of the line of its fault
-unfoldable pub script_of : List ℕ → Result Told ℕ
+unfoldable pub script_of : List ℕ → Result ScriptContent ℕ
 script_of bytes = if list_any is_log (lines bytes) then finished (script_from 1 None (lines bytes)) else Err (max 1 (length (lines bytes)))
 
 -- What was returned is what reading gives, unless memory runs out.

@@ -1,8 +1,10 @@
 -- How the words of a line are read as numbers and as bytes.
-use Rattle.std.specs.Prelude.{ℕ, ◌+◌, ◌-◌, ◌*◌, ◌^◌, ℤ, pos, neg_ℤ, Bool, ◌&&◌, nat_lt, List, [], ◌∷◌, length, drop, Option, Some, None, if◌then◌else◌}
+use Rattle.std.specs.Prelude.{ℕ, ◌+◌, ◌-◌, ◌^◌, ℤ, pos, neg_ℤ, Bool, ◌&&◌, nat_lt, List, [], ◌∷◌, length, drop, Option, Some, None, Result, Ok, Err, if◌then◌else◌}
 use Rattle.std.specs.List.{list_all}
 use Rattle.std.specs.Char.{is_ascii_digit}
 use Rattle.std.specs.Str.Parse.{digits_value, starts_with_minus}
+use Rattle.hex.specs.Hex.{decode_of}
+use Rattle.hex.specs.declared.error.FromHexError.{FromHexError}
 
 infixl 10 ◌>>=◌
 abbrev pub ◌>>=◌ : {A B : Type 0} → Option A → (A → Option B) → Option B
@@ -22,23 +24,12 @@ signed_of word =
     if starts_with_minus word then (number_of (2 ^ 31) (drop 1 word) >>= λ n. Some (neg_ℤ (pos n)))
     else (number_of (2 ^ 31 - 1) word >>= λ n. Some (pos n))
 
-unfoldable pub hex_digit_of : ℕ → Option ℕ
-hex_digit_of c =
-    if nat_lt 47 c && nat_lt c 58 then Some (c - 48)
-    else (if nat_lt 96 c && nat_lt c 103 then Some (c - 87)
-    else (if nat_lt 64 c && nat_lt c 71 then Some (c - 55) else None))
-
--- the byte that two digits spell
-unfoldable pub byte_of : ℕ → ℕ → Option ℕ
-byte_of high low = hex_digit_of high >>= λ h. hex_digit_of low >>= λ l. Some (h * 16 + l)
-
-unfoldable pub pairs_of : List ℕ → Option (List ℕ)
-pairs_of [] = Some []
-pairs_of (high ∷ []) = None
-pairs_of (high ∷ low ∷ text) =
-    byte_of high low >>= λ byte. pairs_of text >>= λ bytes. Some (byte ∷ bytes)
+-- what was read, if there was no fault
+abbrev pub read_bytes : Result (List ℕ) FromHexError → Option (List ℕ)
+read_bytes (Ok bytes) = Some bytes
+read_bytes (Err fault) = None
 
 -- at least one byte, two digits each
 unfoldable pub hex_of : List ℕ → Option (List ℕ)
 hex_of [] = None
-hex_of (digit ∷ text) = pairs_of (digit ∷ text)
+hex_of (digit ∷ text) = read_bytes (decode_of (digit ∷ text))

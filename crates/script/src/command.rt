@@ -2,7 +2,7 @@ ghost use Rattle.std.specs.Prelude.{◌<◌};
 
 /// The number of a publisher, a reader or a receiver: 0 to 7.
 #[derive(Clone, Copy, Debug, PartialEq, Eq)]
-pub struct Seat {
+pub struct PartyNumber {
     pub number: usize,
     pub ghost in_range: { number < 8 },
 }
@@ -38,30 +38,30 @@ pub enum Command {
     Limit,
     /// A publisher offers a message.
     Offer {
-        publisher: Seat,
+        publisher: PartyNumber,
         message: Vec<u8>,
     },
     /// A publisher offers a message of this many bytes 61.
     OfferSize {
-        publisher: Seat,
+        publisher: PartyNumber,
         size: u64,
     },
     /// A publisher claims a range for a message of this many bytes.
     Claim {
-        publisher: Seat,
+        publisher: PartyNumber,
         size: u64,
     },
     /// A publisher fills its open claim with bytes 61, and commits it.
     Commit {
-        publisher: Seat,
+        publisher: PartyNumber,
     },
     /// A publisher makes its open claim a padding.
     Abort {
-        publisher: Seat,
+        publisher: PartyNumber,
     },
     /// A reader beside the sender reads the frame where it stands, and moves past it.
     Read {
-        reader: Seat,
+        reader: PartyNumber,
     },
     /// The sender does one cycle.
     Send {
@@ -70,12 +70,12 @@ pub enum Command {
     /// A receiver is handed a packet.
     Deliver {
         packet: u64,
-        receiver: Seat,
+        receiver: PartyNumber,
         now: u64,
     },
     /// A receiver does one cycle.
     Tick {
-        receiver: Seat,
+        receiver: PartyNumber,
         now: u64,
     },
     /// The sender is handed a packet.
@@ -85,11 +85,11 @@ pub enum Command {
     },
     /// A receiver's consumer reads on to the end of a message.
     Poll {
-        receiver: Seat,
+        receiver: PartyNumber,
     },
     /// A receiver's image tells its positions.
     Image {
-        receiver: Seat,
+        receiver: PartyNumber,
     },
 }
 

@@ -12,7 +12,7 @@ mod pieces;
 mod read;
 mod values;
 
-pub use command::{Command, LogLine, Script, Seat};
+pub use command::{Command, LogLine, PartyNumber, Script};
 pub use fault::ScriptFault;
 pub use read::read_script;
 pub use values::hexadecimal;

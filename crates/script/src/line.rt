@@ -1,12 +1,12 @@
 ghost use Rattle.std.specs.Prelude.{◌≡◌, ◌^◌, ◌≤◌, IfSome};
-ghost use Rattle.script.specs.Meaning.{opening, order};
+ghost use Rattle.script.specs.Meaning.{opening, content_of};
 ghost use Rattle.script.specs.Reading.{Gives, GivesAt, number_at, signed_at, offer_hex_of, offer_size_of, form_of, offer_of, claim_of, commit_of, abort_of, read_of, send_of, deliver_of, tick_of, reply_of, poll_of, image_of, plain_of, command_of, opening_of, log_of, is_log};
 ghost use Rattle.script.specs.Rests.{words_left};
 
-use crate::command::{Command, LogLine, Seat};
+use crate::command::{Command, LogLine, PartyNumber};
 use crate::fault::ScriptFault;
 use crate::pieces::Words;
-use crate::values::{hex, number, signed};
+use crate::values::{message_bytes, number, signed};
 use std::alloc::Global;
 
 /// The number that the first word spells, if it is at most `most`, and the words after it.
@@ -31,21 +31,21 @@ fn signed_at(words: Words<'_>) -> Option<(i32, Words<'_>)>
 }
 
 /// The publisher, reader or receiver that the first word names, and the words after it.
-fn seat_at(words: Words<'_>) -> Option<(Seat, Words<'_>)>
+fn party_number_at(words: Words<'_>) -> Option<(PartyNumber, Words<'_>)>
     ensures { Gives (λ found. (found.0.number, words_left found.1)) result (number_at 7 (words_left words.entry)) }
 {
     let (number, rest) = number_at(words, 7)?;
-    let seat = Seat {
+    let party = PartyNumber {
         number: number as usize,
     };
-    Some((seat, rest))
+    Some((party, rest))
 }
 
 #[tactic(auto, unfolding(crate::specs::Reading::claim_of))]
 fn claim(words: Words<'_>) -> Option<Command>
-    ensures { Gives order result (claim_of (words_left words.entry)) }
+    ensures { Gives content_of result (claim_of (words_left words.entry)) }
 {
-    let (publisher, rest) = seat_at(words)?;
+    let (publisher, rest) = party_number_at(words)?;
     let (size, rest) = number_at(rest, u64::MAX)?;
     rest.end()?;
     Some(Command::Claim { publisher, size })
@@ -53,27 +53,27 @@ fn claim(words: Words<'_>) -> Option<Command>
 
 #[tactic(auto, unfolding(crate::specs::Reading::commit_of))]
 fn commit(words: Words<'_>) -> Option<Command>
-    ensures { Gives order result (commit_of (words_left words.entry)) }
+    ensures { Gives content_of result (commit_of (words_left words.entry)) }
 {
-    let (publisher, rest) = seat_at(words)?;
+    let (publisher, rest) = party_number_at(words)?;
     rest.end()?;
     Some(Command::Commit { publisher })
 }
 
 #[tactic(auto, unfolding(crate::specs::Reading::abort_of))]
 fn abort(words: Words<'_>) -> Option<Command>
-    ensures { Gives order result (abort_of (words_left words.entry)) }
+    ensures { Gives content_of result (abort_of (words_left words.entry)) }
 {
-    let (publisher, rest) = seat_at(words)?;
+    let (publisher, rest) = party_number_at(words)?;
     rest.end()?;
     Some(Command::Abort { publisher })
 }
 
 #[tactic(auto, unfolding(crate::specs::Reading::read_of))]
 fn read(words: Words<'_>) -> Option<Command>
-    ensures { Gives order result (read_of (words_left words.entry)) }
+    ensures { Gives content_of result (read_of (words_left words.entry)) }
 {
-    let (reader, rest) = seat_at(words)?;
+    let (reader, rest) = party_number_at(words)?;
     if reader.number == 0 {
         return None;
     }
@@ -83,7 +83,7 @@ fn read(words: Words<'_>) -> Option<Command>
 
 #[tactic(auto, unfolding(crate::specs::Reading::send_of))]
 fn send(words: Words<'_>) -> Option<Command>
-    ensures { Gives order result (send_of (words_left words.entry)) }
+    ensures { Gives content_of result (send_of (words_left words.entry)) }
 {
     let (now, rest) = number_at(words, u64::MAX)?;
     rest.end()?;
@@ -92,10 +92,10 @@ fn send(words: Words<'_>) -> Option<Command>
 
 #[tactic(auto, unfolding(crate::specs::Reading::deliver_of))]
 fn deliver(words: Words<'_>) -> Option<Command>
-    ensures { Gives order result (deliver_of (words_left words.entry)) }
+    ensures { Gives content_of result (deliver_of (words_left words.entry)) }
 {
     let (packet, rest) = number_at(words, u64::MAX)?;
-    let (receiver, rest) = seat_at(rest)?;
+    let (receiver, rest) = party_number_at(rest)?;
     let (now, rest) = number_at(rest, u64::MAX)?;
     rest.end()?;
     Some(Command::Deliver {
@@ -107,9 +107,9 @@ fn deliver(words: Words<'_>) -> Option<Command>
 
 #[tactic(auto, unfolding(crate::specs::Reading::tick_of))]
 fn tick(words: Words<'_>) -> Option<Command>
-    ensures { Gives order result (tick_of (words_left words.entry)) }
+    ensures { Gives content_of result (tick_of (words_left words.entry)) }
 {
-    let (receiver, rest) = seat_at(words)?;
+    let (receiver, rest) = party_number_at(words)?;
     let (now, rest) = number_at(rest, u64::MAX)?;
     rest.end()?;
     Some(Command::Tick { receiver, now })
@@ -117,7 +117,7 @@ fn tick(words: Words<'_>) -> Option<Command>
 
 #[tactic(auto, unfolding(crate::specs::Reading::reply_of))]
 fn reply(words: Words<'_>) -> Option<Command>
-    ensures { Gives order result (reply_of (words_left words.entry)) }
+    ensures { Gives content_of result (reply_of (words_left words.entry)) }
 {
     let (packet, rest) = number_at(words, u64::MAX)?;
     let (now, rest) = number_at(rest, u64::MAX)?;
@@ -127,18 +127,18 @@ fn reply(words: Words<'_>) -> Option<Command>
 
 #[tactic(auto, unfolding(crate::specs::Reading::poll_of))]
 fn poll(words: Words<'_>) -> Option<Command>
-    ensures { Gives order result (poll_of (words_left words.entry)) }
+    ensures { Gives content_of result (poll_of (words_left words.entry)) }
 {
-    let (receiver, rest) = seat_at(words)?;
+    let (receiver, rest) = party_number_at(words)?;
     rest.end()?;
     Some(Command::Poll { receiver })
 }
 
 #[tactic(auto, unfolding(crate::specs::Reading::image_of))]
 fn image(words: Words<'_>) -> Option<Command>
-    ensures { Gives order result (image_of (words_left words.entry)) }
+    ensures { Gives content_of result (image_of (words_left words.entry)) }
 {
-    let (receiver, rest) = seat_at(words)?;
+    let (receiver, rest) = party_number_at(words)?;
     rest.end()?;
     Some(Command::Image { receiver })
 }
@@ -148,22 +148,22 @@ fn image(words: Words<'_>) -> Option<Command>
 fn offer_hex(
     alloc: Global,
     number: u64,
-    publisher: Seat,
+    publisher: PartyNumber,
     words: Words<'_>,
 ) -> Result<Command, ScriptFault>
-    ensures { GivesAt number order result (offer_hex_of publisher.number (words_left words.entry)) }
+    ensures { GivesAt number content_of result (offer_hex_of publisher.number (words_left words.entry)) }
 {
     let fault = ScriptFault::Line(number);
     let (digits, rest) = words.first().ok_or(fault)?;
-    let message = hex(alloc, digits)?.ok_or(fault)?;
+    let message = message_bytes(alloc, digits)?.ok_or(fault)?;
     rest.end().ok_or(fault)?;
     Ok(Command::Offer { publisher, message })
 }
 
 /// The words behind `size` of a publisher's offer.
 #[tactic(auto, unfolding(crate::specs::Reading::offer_size_of))]
-fn offer_size(publisher: Seat, words: Words<'_>) -> Option<Command>
-    ensures { Gives order result (offer_size_of publisher.number (words_left words.entry)) }
+fn offer_size(publisher: PartyNumber, words: Words<'_>) -> Option<Command>
+    ensures { Gives content_of result (offer_size_of publisher.number (words_left words.entry)) }
 {
     let (size, rest) = number_at(words, u64::MAX)?;
     rest.end()?;
@@ -175,11 +175,11 @@ fn offer_size(publisher: Seat, words: Words<'_>) -> Option<Command>
 fn offer_in_form(
     alloc: Global,
     number: u64,
-    publisher: Seat,
+    publisher: PartyNumber,
     form: &[u8],
     words: Words<'_>,
 ) -> Result<Command, ScriptFault>
-    ensures { GivesAt number order result (form_of publisher.number form.now (words_left words.entry)) }
+    ensures { GivesAt number content_of result (form_of publisher.number form.now (words_left words.entry)) }
 {
     if form == b"hex".as_slice() {
         offer_hex(alloc, number, publisher, words)
@@ -193,10 +193,10 @@ fn offer_in_form(
 /// The words behind `offer`, of the line with this number.
 #[tactic(auto, unfolding(crate::specs::Reading::offer_of))]
 fn offer(alloc: Global, number: u64, words: Words<'_>) -> Result<Command, ScriptFault>
-    ensures { GivesAt number order result (offer_of (words_left words.entry)) }
+    ensures { GivesAt number content_of result (offer_of (words_left words.entry)) }
 {
     let fault = ScriptFault::Line(number);
-    let (publisher, rest) = seat_at(words).ok_or(fault)?;
+    let (publisher, rest) = party_number_at(words).ok_or(fault)?;
     let (form, rest) = rest.first().ok_or(fault)?;
     offer_in_form(alloc, number, publisher, form, rest)
 }
@@ -204,7 +204,7 @@ fn offer(alloc: Global, number: u64, words: Words<'_>) -> Result<Command, Script
 /// The command of this name, with the words behind it: any but `offer`.
 #[tactic(auto, unfolding(crate::specs::Reading::plain_of))]
 fn plain(name: &[u8], words: Words<'_>) -> Option<Command>
-    ensures { Gives order result (plain_of name.now (words_left words.entry)) }
+    ensures { Gives content_of result (plain_of name.now (words_left words.entry)) }
 {
     if name == b"connect".as_slice() {
         words.end()?;
@@ -246,7 +246,7 @@ fn plain(name: &[u8], words: Words<'_>) -> Option<Command>
 /// The command that a line says, which has this number.
 #[tactic(auto, unfolding(crate::specs::Reading::command_of))]
 pub fn command(alloc: Global, number: u64, line: &[u8]) -> Result<Command, ScriptFault>
-    ensures { GivesAt number order result (command_of line.now) }
+    ensures { GivesAt number content_of result (command_of line.now) }
 {
     let fault = ScriptFault::Line(number);
     let (name, rest) = Words::new(line).first().ok_or(fault)?;

@@ -1,7 +1,7 @@
 ghost use Rattle.std.specs.Prelude.{ℕ, List, ◌≡◌, ◌∷◌, true, length, None, OnOk, IfOk, IfErr, MatchResult, IsErrOf};
 ghost use Rattle.std.specs.List.{Any, list_any};
 ghost use Rattle.script.specs.Language.{BeginsLog, IsScript, IsFaultLine};
-ghost use Rattle.script.specs.Meaning.{Told, opened, orders, told};
+ghost use Rattle.script.specs.Meaning.{ScriptContent, opened, contents_of, script_content};
 ghost use Rattle.script.specs.Pieces.{lines};
 ghost use Rattle.script.specs.Reading.{FaultIs, GivesScript, GoesOn, is_log, finished, script_from, script_of};
 
@@ -19,7 +19,7 @@ fn read_line(
     log: &mut Option<LogLine>,
     commands: &mut Vec<Command>,
 ) -> Result<(), ScriptFault>
-    ensures ok { OnOk result (GoesOn number line.now (opened log.old) (orders commands.old.items) (opened log.new) (orders commands.new.items)) }
+    ensures ok { OnOk result (GoesOn number line.now (opened log.old) (contents_of commands.old.items) (opened log.new) (contents_of commands.new.items)) }
     ensures err { IfErr result (λ fault. (rest : List (List ℕ)) → FaultIs fault (script_from number (opened log.old) (line.now ∷ rest))) }
 {
     if line.is_empty() {
@@ -42,7 +42,7 @@ fn read_line(
 
 /// The script of a text that has a line whose first word is `log`.
 fn read_lines(alloc: Global, bytes: &[u8]) -> Result<Script, ScriptFault>
-    ensures { GivesScript told result (finished (script_from 1 None (lines bytes.now))) }
+    ensures { GivesScript script_content result (finished (script_from 1 None (lines bytes.now))) }
 {
     let mut log = None;
     let mut commands = Vec::new(alloc);
@@ -77,7 +77,7 @@ fn line_count(bytes: &[u8]) -> u64
 
 /// The script of a text, unless memory runs out.
 fn read(alloc: Global, bytes: &[u8]) -> Result<Script, ScriptFault>
-    ensures given { GivesScript told result (script_of bytes.now) }
+    ensures given { GivesScript script_content result (script_of bytes.now) }
     ensures memory { IsErrOf result ScriptFault.Memory → list_any is_log (lines bytes.now) ≡ true }
 {
     if has_log(bytes) {
@@ -94,9 +94,9 @@ fn read(alloc: Global, bytes: &[u8]) -> Result<Script, ScriptFault>
 /// empty, another `log` line, a line of no form, or a number out of its range.
 pub fn read_script(alloc: Global, bytes: &[u8]) -> Result<Script, ScriptFault>
     // What is read is what the text says.
-    ensures found { IfOk result (λ script. IsScript bytes.now (told script)) }
+    ensures found { IfOk result (λ script. IsScript bytes.now (script_content script)) }
     // What the text says is read, unless memory runs out.
-    ensures only { (meant : Told) → IsScript bytes.now meant → MatchResult result (λ script. told script ≡ meant) (λ fault. fault ≡ ScriptFault.Memory) }
+    ensures only { (meant : ScriptContent) → IsScript bytes.now meant → MatchResult result (λ script. script_content script ≡ meant) (λ fault. fault ≡ ScriptFault.Memory) }
     // Memory is wanted only for a text with a line that begins with `log`.
     ensures memory { IsErrOf result ScriptFault.Memory → Any BeginsLog (lines bytes.now) }
     // A fault names the line of the text's fault.

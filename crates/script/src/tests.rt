@@ -261,42 +261,42 @@ fn a_script(rt: HostRuntime) -> Result<(), Fail> {
         Command::Close,
         Command::Limit,
         Command::Offer {
-            publisher: Seat { number: 3 },
+            publisher: PartyNumber { number: 3 },
             message: vec![in rt.alloc(); 0, 255, 160, 155]?
         },
         Command::OfferSize {
-            publisher: Seat { number: 5 },
+            publisher: PartyNumber { number: 5 },
             size: 10
         },
         Command::Claim {
-            publisher: Seat { number: 6 },
+            publisher: PartyNumber { number: 6 },
             size: 100
         },
         Command::Commit {
-            publisher: Seat { number: 6 }
+            publisher: PartyNumber { number: 6 }
         },
         Command::Abort {
-            publisher: Seat { number: 0 }
+            publisher: PartyNumber { number: 0 }
         },
         Command::Read {
-            reader: Seat { number: 7 }
+            reader: PartyNumber { number: 7 }
         },
         Command::Send { now: 5 },
         Command::Deliver {
             packet: 1,
-            receiver: Seat { number: 2 },
+            receiver: PartyNumber { number: 2 },
             now: 3
         },
         Command::Tick {
-            receiver: Seat { number: 4 },
+            receiver: PartyNumber { number: 4 },
             now: u64::MAX
         },
         Command::Reply { packet: 6, now: 7 },
         Command::Poll {
-            receiver: Seat { number: 7 }
+            receiver: PartyNumber { number: 7 }
         },
         Command::Image {
-            receiver: Seat { number: 0 }
+            receiver: PartyNumber { number: 0 }
         },
     ]?;
     assert_eq!(rt; script.commands, commands);

@@ -1,9 +1,9 @@
-ghost use Rattle.std.specs.Prelude.{◌≡◌, ◌^◌, ◌<◌, ◌≤◌, ℕ, List, IfOk, IfSome, Some, option_map};
+ghost use Rattle.std.specs.Prelude.{◌≡◌, ◌≤◌, ℕ, List, IfOk, IfSome, Some, option_map};
 ghost use Rattle.std.specs.Str.Parse.{starts_with_minus};
 ghost use Rattle.script.specs.Language.{SpellsBytes};
-ghost use Rattle.script.specs.Reading.{Gives};
-ghost use Rattle.script.specs.Values.{number_of, signed_of, hex_digit_of, byte_of, pairs_of, hex_of};
+ghost use Rattle.script.specs.Values.{number_of, signed_of, hex_of};
 
+use hex::FromHexError;
 use std::alloc::{AllocError, Global};
 
 /// The number that the digits spell, if it is at most `most`.
@@ -46,59 +46,14 @@ pub fn signed(word: &[u8]) -> Option<i32>
     }
 }
 
-/// What a hexadecimal digit stands for.
-#[tactic(auto, unfolding(crate::specs::Values::hex_digit_of))]
-fn hex_digit(digit: u8) -> Option<u8>
-    ensures value { result ≡ hex_digit_of digit }
-    ensures small { IfSome result (λ n. n < 16) }
-{
-    match digit {
-        b'0'..=b'9' => Some(digit - b'0'),
-        b'a'..=b'f' => Some(digit - b'a' + 10),
-        b'A'..=b'F' => Some(digit - b'A' + 10),
-        _ => None,
-    }
-}
-
-/// The byte that two hexadecimal digits spell.
-#[tactic(auto, unfolding(crate::specs::Values::byte_of))]
-fn hex_byte(high: u8, low: u8) -> Option<u8>
-    ensures { result ≡ byte_of high low }
-{
-    let high = hex_digit(high)?;
-    let low = hex_digit(low)?;
-    Some(high * 16 + low)
-}
-
-/// The bytes that pairs of digits spell.
-fn pairs(alloc: Global, digits: &[u8]) -> Result<Option<Vec<u8>>, AllocError>
-    ensures { IfOk result (λ found. option_map (λ bytes. bytes.items) found ≡ pairs_of digits.now) }
-{
-    let mut bytes = Vec::with_capacity(alloc, digits.len() / 2)?;
-    let mut rest = digits;
-    while rest.len() >= 2 {
-        let (pair, after) = rest.split_at(2);
-        let Some(byte) = hex_byte(pair[0], pair[1]) else {
-            return Ok(None);
-        };
-        bytes.push(byte)?;
-        rest = after;
-    }
-    if rest.is_empty() {
-        Ok(Some(bytes))
-    } else {
-        Ok(None)
-    }
-}
-
 /// The bytes that the digits spell, two digits a byte, at least one byte.
-pub fn hex(alloc: Global, digits: &[u8]) -> Result<Option<Vec<u8>>, AllocError>
+pub fn message_bytes(alloc: Global, digits: &[u8]) -> Result<Option<Vec<u8>>, AllocError>
     ensures { IfOk result (λ found. option_map (λ bytes. bytes.items) found ≡ hex_of digits.now) }
 {
     if digits.is_empty() {
         return Ok(None);
     }
-    pairs(alloc, digits)
+    hexadecimal(alloc, digits)
 }
 
 /// The bytes that hexadecimal digits spell, two digits a byte, large or small; no digits spell no bytes. There are
@@ -110,5 +65,9 @@ pub fn hexadecimal(alloc: Global, digits: &[u8]) -> Result<Option<Vec<u8>>, Allo
     ensures only { (bytes : List ℕ) → SpellsBytes digits.now bytes
         → IfOk result (λ found. option_map (λ read. read.items) found ≡ Some bytes) }
 {
-    pairs(alloc, digits)
+    match hex::decode(alloc, digits) {
+        Ok(bytes) => Ok(Some(bytes)),
+        Err(FromHexError::OutOfMemory) => Err(AllocError),
+        Err(_) => Ok(None),
+    }
 }

@@ -8,22 +8,22 @@ use Rattle.theory.specs.Placed.{Data}
 use Rattle.theory.specs.Entry.{Entry, length_of}
 use Rattle.theory.specs.Tiling.{share_of}
 use Rattle.theory.proofs.Claims.{covers_framed}
-use Rattle.theory.proofs.Shares.{share-push}
+use Rattle.model.proofs.Shares.{share-push}
 use Rattle.theory.proofs.Tiling.{share-cons}
 use Rattle.term_buffer.specs.Kept.{claim_of, no_entry, padded, published, with_next, with_share}
 use Rattle.term_buffer.specs.declared.claimed.Claimed.{Claimed}
 use Rattle.log_buffer.specs.Log.{Log, added, room_in, with_claim, with_message, with_padding}
 use Rattle.publication.specs.Claims.{claim_at}
 use Rattle.publication.specs.Offers.{Course, IsClosed, IsStale, IsUsedUp, IsLimited, Fits, Trips, after, after_claim, after_offer, answer, course_of, covered, turned_from}
-use Rattle.script.specs.Meaning as orders
-use Rattle.script.specs.Meaning.{Order}
+use Rattle.script.specs.Meaning as commands
+use Rattle.script.specs.Meaning.{CommandContent}
 use Rattle.script_run.specs.Answers.{AbortsClaim, Answers, Claims, ClaimsRange, CommitsClaim, HasClaim, HasNoClaim, Limits, MayNotTake, OffersMessage, Offered, SenderHears, with_log}
 use Rattle.sender.specs.Cycling.{AsksSetup, NewsContent, Says, TellsNothing, Unreadable}
 use Rattle.script_run.specs.Output.{AlwaysCounted, AnswersAll, identity_of}
 use Rattle.script_run.specs.LineContents.{LineContent}
 use Rattle.script_run.specs.Published.{Played}
 use Rattle.script_run.specs.ScriptState.{ScriptState, entries_of, opened_state}
-use Rattle.theory.proofs.Commits.{index_get}
+use Rattle.model.proofs.Commits.{index_get}
 use Rattle.script_run.proofs.OfferRuns.{turned_same}
 use Rattle.script_run.proofs.Ranges.{one_cut}
 use Rattle.script_run.proofs.SenderRuns.{limit_entries}
@@ -162,31 +162,31 @@ hears_line s t now AsksSetup lines m h = subst IsCounted (sym m.1) h
 hears_line s t now TellsNothing lines m h = subst IsCounted (sym m.1) h
 hears_line s t now (Unreadable fault) lines m h = subst IsCounted (sym m.1) h
 
-line_counts : (s t : ScriptState) (order : Order) (lines : List LineContent) → Answers s order lines t → IsCounted s → IsCounted t
-line_counts s t orders.Connect lines m h = subst IsCounted (sym m.1) h
-line_counts s t orders.Disconnect lines m h = subst IsCounted (sym m.1) h
-line_counts s t orders.Close lines m h = subst IsCounted (sym m.1) h
-line_counts s t orders.Limit lines m h = limit_line s t lines m h
-line_counts s t (orders.Offer by message) lines m h = offer_line s t by (max_message s.log.identity.geometry) (length message) message lines m h
-line_counts s t (orders.OfferSize by size) lines m h = offer_line s t by (max_message s.log.identity.geometry) size (replicate size 97) lines m h
-line_counts s t (orders.Claim by size) lines m h = claim_line s t by (max_payload s.log.identity.geometry) size lines m h
-line_counts s t (orders.Commit by) lines m h = commit_line s t by lines m h
-line_counts s t (orders.Abort by) lines m h = abort_line s t by lines m h
-line_counts s t (orders.Read r) lines (inl m) h = subst IsCounted (sym m.1.1) h
-line_counts s t (orders.Read r) lines (inr (inl m)) h = subst IsCounted (sym m.4) h
-line_counts s t (orders.Read r) lines (inr (inr m)) h = subst IsCounted (sym m.6) h
-line_counts s t (orders.Send now) lines m h = subst IsCounted (sym m.3) h
-line_counts s t (orders.Deliver k i now) lines (inl m) h = subst IsCounted (sym m.2) h
-line_counts s t (orders.Deliver k i now) lines (inr m) h = subst IsCounted (sym m.8) h
-line_counts s t (orders.Tick i now) lines m h = subst IsCounted (sym m.4) h
-line_counts s t (orders.Reply k now) lines (inl m) h = subst IsCounted (sym m.2) h
-line_counts s t (orders.Reply k now) lines (inr m) h = hears_line s t now m.1 lines m.4 h
-line_counts s t (orders.Poll i) lines m h = subst IsCounted (sym m.6) h
-line_counts s t (orders.Image i) lines m h = subst IsCounted (sym m.5) h
+line_counts : (s t : ScriptState) (command : CommandContent) (lines : List LineContent) → Answers s command lines t → IsCounted s → IsCounted t
+line_counts s t commands.Connect lines m h = subst IsCounted (sym m.1) h
+line_counts s t commands.Disconnect lines m h = subst IsCounted (sym m.1) h
+line_counts s t commands.Close lines m h = subst IsCounted (sym m.1) h
+line_counts s t commands.Limit lines m h = limit_line s t lines m h
+line_counts s t (commands.Offer by message) lines m h = offer_line s t by (max_message s.log.identity.geometry) (length message) message lines m h
+line_counts s t (commands.OfferSize by size) lines m h = offer_line s t by (max_message s.log.identity.geometry) size (replicate size 97) lines m h
+line_counts s t (commands.Claim by size) lines m h = claim_line s t by (max_payload s.log.identity.geometry) size lines m h
+line_counts s t (commands.Commit by) lines m h = commit_line s t by lines m h
+line_counts s t (commands.Abort by) lines m h = abort_line s t by lines m h
+line_counts s t (commands.Read r) lines (inl m) h = subst IsCounted (sym m.1.1) h
+line_counts s t (commands.Read r) lines (inr (inl m)) h = subst IsCounted (sym m.4) h
+line_counts s t (commands.Read r) lines (inr (inr m)) h = subst IsCounted (sym m.6) h
+line_counts s t (commands.Send now) lines m h = subst IsCounted (sym m.3) h
+line_counts s t (commands.Deliver k i now) lines (inl m) h = subst IsCounted (sym m.2) h
+line_counts s t (commands.Deliver k i now) lines (inr m) h = subst IsCounted (sym m.8) h
+line_counts s t (commands.Tick i now) lines m h = subst IsCounted (sym m.4) h
+line_counts s t (commands.Reply k now) lines (inl m) h = subst IsCounted (sym m.2) h
+line_counts s t (commands.Reply k now) lines (inr m) h = hears_line s t now m.1 lines m.4 h
+line_counts s t (commands.Poll i) lines m h = subst IsCounted (sym m.6) h
+line_counts s t (commands.Image i) lines m h = subst IsCounted (sym m.5) h
 
 all_count : (s last : ScriptState) (played : List Played) → AnswersAll s played last → IsCounted s → IsCounted last
 all_count s last [] m h = subst IsCounted (sym m) h
-all_count s last (p ∷ ps) m h = all_count m.0 last ps m.2 (line_counts s m.0 p.order p.lines m.1 h)
+all_count s last (p ∷ ps) m h = all_count m.0 last ps m.2 (line_counts s m.0 p.command p.lines m.1 h)
 
 -- where it begins, nothing is claimed
 none_yet : Counts (replicate 8 0) []

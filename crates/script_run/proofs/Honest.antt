@@ -9,7 +9,7 @@ use Rattle.std.specs.Option.{option_to_list}
 use Rattle.theory.specs.Consumer.{least_of}
 use Rattle.theory.specs.Control.{MayBeGiven, asking_at, status_at}
 use Rattle.theory.specs.Laws.{HasOneReading}
-use Rattle.theory.specs.Sender.{Sender}
+use Rattle.model.specs.Sender.{Sender}
 use Rattle.theory.proofs.Lists.{all_append, all_weaker}
 use Rattle.theory.proofs.Readings.{stands_alone}
 use Rattle.script_run.specs.Answers.{AreFrames, named, sent_on}

@@ -10,11 +10,13 @@ use Rattle.theory.specs.Position.{Geometry, IsGeometry, aligned, cuts_of, framed
 use Rattle.theory.specs.Placed.{Frame, Pad}
 use Rattle.theory.specs.Consumer.{Consumer}
 use Rattle.theory.specs.Entry.{Entry, IsEntry, entry_end, pieces_of}
-use Rattle.theory.specs.Headline.{IsPublished}
+use Rattle.model.specs.Headline.{IsPublished}
 use Rattle.theory.specs.Tiling.{Tiles}
-use Rattle.theory.specs.Log as stream
-use Rattle.theory.specs.Log.{Add, Arm, Commit, LogEvent, LogStep, MayCommit, entry_for, room, with_frame}
-use Rattle.theory.specs.World.{World, AtLog}
+use Rattle.model.specs.Log as stream
+use Rattle.theory.specs.Log.{Add, Arm, Commit}
+use Rattle.model.specs.Log.{LogEvent, LogStep, MayCommit, entry_for, room, with_frame}
+use Rattle.model.specs.World.{World}
+use Rattle.theory.specs.World.{AtLog}
 use Rattle.theory.proofs.Claims.{covers_framed}
 use Rattle.theory.proofs.Frames.{tiles_le}
 use Rattle.theory.proofs.Lists.{among_right}
@@ -24,7 +26,7 @@ use Rattle.log_buffer.specs.Log.{IsLog, Log, counted, offset_of, room_in, term_o
 use Rattle.rotation.specs.Rotated.{rotated, with_next}
 use Rattle.publication.specs.Offers.{Course, IsClosed, IsStale, IsUsedUp, IsLimited, Fits, Trips, course_of, covered, turned_from}
 use Rattle.script_run.specs.ScriptState.{ScriptState, is_armed, stream_of, world_of}
-use Rattle.theory.proofs.Commits.{AreBytes, HaveAll, have_pieces, pieces_are, pieces_bytes}
+use Rattle.model.proofs.Commits.{AreBytes, HaveAll, have_pieces, pieces_are, pieces_bytes}
 use Rattle.script_run.proofs.Runs.{Goes, goes_one, goes_on, stays}
 
 -- ---- what an offer knows that takes an entry

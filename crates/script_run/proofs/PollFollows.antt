@@ -6,9 +6,10 @@ use Rattle.std.proofs.lemmas.Bool.{both_ways}
 use Rattle.theory.specs.Placed.{Among, Chain, Placed, end_of}
 use Rattle.theory.specs.Consumer.{Consumer, passed_by}
 use Rattle.theory.specs.Image.{Image, Lose}
-use Rattle.theory.specs.World.{World, AtImage}
+use Rattle.model.specs.World.{World}
+use Rattle.theory.specs.World.{AtImage}
 use Rattle.theory.proofs.Lists.{all_behind, all_front}
-use Rattle.theory.proofs.Messages.{chain_le}
+use Rattle.theory.proofs.Follow.{chain_le}
 use Rattle.assembler.specs.declared.fault.AssemblyError.{AssemblyError}
 use Rattle.script_run.specs.Answers.{with_receiver}
 use Rattle.receiver.specs.Polling.{PollsFault, PollsImage, PollsOf, PollsOn, PollsWhole, Polls, Reads, gives, moved_all}

@@ -7,11 +7,11 @@ use Rattle.std.proofs.lemmas.List.{length-replicate}
 use Rattle.theory.specs.Position.{max_message, max_payload}
 use Rattle.theory.specs.Bytes.{Identity}
 use Rattle.theory.specs.Consumer.{Consumer, consumer_at, least_of}
-use Rattle.theory.specs.Headline.{HasPolled}
+use Rattle.model.specs.Headline.{HasPolled}
 use Rattle.theory.specs.Messages.{messages}
 use Rattle.theory.proofs.Lists.{each_get}
-use Rattle.script.specs.Meaning as orders
-use Rattle.script.specs.Meaning.{Order}
+use Rattle.script.specs.Meaning as commands
+use Rattle.script.specs.Meaning.{CommandContent}
 use Rattle.script_run.specs.Answers.{Answers}
 use Rattle.script_run.specs.Output.{AlwaysPolled, AnswersAll, identity_of}
 use Rattle.receiver.specs.Polling.{TellsOf}
@@ -29,29 +29,29 @@ use Rattle.script_run.proofs.Sound.{Begins, IsSound, Laws, and_line, opened}
 use Rattle.script_run.proofs.SoundLines.{abort_line, claim_line, close_line, commit_line, connect_line, limit_line, offer_line, reply_line, send_line}
 use Rattle.script_run.proofs.SoundReceivers.{deliver_line, image_line, poll_line, tick_line}
 
-line : Laws → (i : Identity) (start readers : ℕ) (played : List Played) (order : Order) (lines : List LineContent) (s t : ScriptState) → Begins i start → IsSound i start readers played s → Answers s order lines t → IsSound i start readers (and_line played order lines) t
-line laws i start readers played orders.Connect lines s t b h m = subst (λ x. IsSound i start readers (and_line played orders.Connect lines) x) (sym m.1) (connect_line i start readers played orders.Connect lines s true (record { joins = λ k. refl; polls = λ k. refl; reads = λ k. refl }) (λ g ranges. refl) h)
-line laws i start readers played orders.Disconnect lines s t b h m = subst (λ x. IsSound i start readers (and_line played orders.Disconnect lines) x) (sym m.1) (connect_line i start readers played orders.Disconnect lines s false (record { joins = λ k. refl; polls = λ k. refl; reads = λ k. refl }) (λ g ranges. refl) h)
-line laws i start readers played orders.Close lines s t b h m = subst (λ x. IsSound i start readers (and_line played orders.Close lines) x) (sym m.1) (close_line i start readers played lines s h)
-line laws i start readers played orders.Limit lines s t b h m = limit_line i start readers played lines s t h m
-line laws i start readers played (orders.Offer by message) lines s t b h m = offer_line laws i start readers played s t by (max_message s.log.identity.geometry) (length message) message (orders.Offer by message) lines b (record { joins = λ k. refl; polls = λ k. refl; reads = λ k. refl }) (λ g ranges ls. refl) h m
-line laws i start readers played (orders.OfferSize by size) lines s t b h m = offer_line laws i start readers played s t by (max_message s.log.identity.geometry) size (replicate size 97) (orders.OfferSize by size) lines b (record { joins = λ k. refl; polls = λ k. refl; reads = λ k. refl }) (λ g ranges ls. refl) h m
-line laws i start readers played (orders.Claim by size) lines s t b h m = claim_line laws i start readers played s t by (max_payload s.log.identity.geometry) size lines b h m
-line laws i start readers played (orders.Commit by) lines s t b h m = commit_line laws i start readers played s t by lines b h m
-line laws i start readers played (orders.Abort by) lines s t b h m = abort_line laws i start readers played s t by lines b h m
-line laws i start readers played (orders.Read r) lines s t b h m = read_line i start readers played s t r lines h m
-line laws i start readers played (orders.Send now) lines s t b h m = send_line laws i start readers played s t now lines b h m
-line laws i start readers played (orders.Deliver k n now) lines s t b h m = deliver_line laws i start readers played k n now lines s t h m
-line laws i start readers played (orders.Tick n now) lines s t b h m = tick_line i start readers played n now lines s t h m
-line laws i start readers played (orders.Reply k now) lines s t b h m = reply_line laws i start readers played k now lines s t b h m
-line laws i start readers played (orders.Poll n) lines s t b h m = poll_line i start readers played n lines s t h m
-line laws i start readers played (orders.Image n) lines s t b h m = image_line i start readers played n lines s t h m
+line : Laws → (i : Identity) (start readers : ℕ) (played : List Played) (command : CommandContent) (lines : List LineContent) (s t : ScriptState) → Begins i start → IsSound i start readers played s → Answers s command lines t → IsSound i start readers (and_line played command lines) t
+line laws i start readers played commands.Connect lines s t b h m = subst (λ x. IsSound i start readers (and_line played commands.Connect lines) x) (sym m.1) (connect_line i start readers played commands.Connect lines s true (record { joins = λ k. refl; polls = λ k. refl; reads = λ k. refl }) (λ g ranges. refl) h)
+line laws i start readers played commands.Disconnect lines s t b h m = subst (λ x. IsSound i start readers (and_line played commands.Disconnect lines) x) (sym m.1) (connect_line i start readers played commands.Disconnect lines s false (record { joins = λ k. refl; polls = λ k. refl; reads = λ k. refl }) (λ g ranges. refl) h)
+line laws i start readers played commands.Close lines s t b h m = subst (λ x. IsSound i start readers (and_line played commands.Close lines) x) (sym m.1) (close_line i start readers played lines s h)
+line laws i start readers played commands.Limit lines s t b h m = limit_line i start readers played lines s t h m
+line laws i start readers played (commands.Offer by message) lines s t b h m = offer_line laws i start readers played s t by (max_message s.log.identity.geometry) (length message) message (commands.Offer by message) lines b (record { joins = λ k. refl; polls = λ k. refl; reads = λ k. refl }) (λ g ranges ls. refl) h m
+line laws i start readers played (commands.OfferSize by size) lines s t b h m = offer_line laws i start readers played s t by (max_message s.log.identity.geometry) size (replicate size 97) (commands.OfferSize by size) lines b (record { joins = λ k. refl; polls = λ k. refl; reads = λ k. refl }) (λ g ranges ls. refl) h m
+line laws i start readers played (commands.Claim by size) lines s t b h m = claim_line laws i start readers played s t by (max_payload s.log.identity.geometry) size lines b h m
+line laws i start readers played (commands.Commit by) lines s t b h m = commit_line laws i start readers played s t by lines b h m
+line laws i start readers played (commands.Abort by) lines s t b h m = abort_line laws i start readers played s t by lines b h m
+line laws i start readers played (commands.Read r) lines s t b h m = read_line i start readers played s t r lines h m
+line laws i start readers played (commands.Send now) lines s t b h m = send_line laws i start readers played s t now lines b h m
+line laws i start readers played (commands.Deliver k n now) lines s t b h m = deliver_line laws i start readers played k n now lines s t h m
+line laws i start readers played (commands.Tick n now) lines s t b h m = tick_line i start readers played n now lines s t h m
+line laws i start readers played (commands.Reply k now) lines s t b h m = reply_line laws i start readers played k now lines s t b h m
+line laws i start readers played (commands.Poll n) lines s t b h m = poll_line i start readers played n lines s t h m
+line laws i start readers played (commands.Image n) lines s t b h m = image_line i start readers played n lines s t h m
 
 goes_on : Laws → (i : Identity) (start readers : ℕ) (done rest : List Played) (s last : ScriptState) → Begins i start → IsSound i start readers done s → AnswersAll s rest last → IsSound i start readers (done ++ rest) last
 goes_on laws i start readers done [] s last b h m = subst (λ x. IsSound i start readers (done ++ []) x) (sym m) (subst (λ ps. IsSound i start readers ps s) (sym (append-nil done)) h)
 goes_on laws i start readers done (p ∷ ps) s last b h m =
     subst (λ qs. IsSound i start readers qs last) (append_assoc done (p ∷ []) ps)
-    (goes_on laws i start readers (done ++ p ∷ []) ps m.0 last b (line laws i start readers done p.order p.lines s m.0 b h m.1) m.2)
+    (goes_on laws i start readers (done ++ p ∷ []) ps m.0 last b (line laws i start readers done p.command p.lines s m.0 b h m.1) m.2)
 
 -- ---- where it begins
 
@@ -105,7 +105,7 @@ last_told i start readers played last k r o c least all there was one told =
     let rebuilt = told.1 in
     let high = told.2 in
     let lines = Positions least rebuilt high ∷ [] in
-    let parts = answers_split (opened_state i start readers) last told.0 (record { order = orders.Image k; lines = lines } ∷ []) (subst (λ ps. AnswersAll (opened_state i start readers) ps last) told.3 all) in
+    let parts = answers_split (opened_state i start readers) last told.0 (record { command = commands.Image k; lines = lines } ∷ []) (subst (λ ps. AnswersAll (opened_state i start readers) ps last) told.3 all) in
     let m = parts.2.1 in
     let print : LineContent = m.0 in
     let same_state : last ≡ parts.0 = parts.2.2 ∙ m.5 in

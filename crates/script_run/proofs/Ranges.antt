@@ -9,14 +9,15 @@ use Rattle.theory.specs.Placed.{Among, Data, Frame, Pad, payload_of}
 use Rattle.theory.specs.Entry.{Entry, IsEntry, entry_end, pieces_of}
 use Rattle.theory.specs.Messages.{is_between, is_whole, message_of, messages}
 use Rattle.theory.specs.Tiling.{Tiles}
-use Rattle.theory.specs.Log.{aborted_at, with_frame}
+use Rattle.model.specs.Log.{aborted_at, with_frame}
 use Rattle.theory.proofs.Claims.{covers_framed}
-use Rattle.theory.proofs.LogSteps.{one_entry}
+use Rattle.model.proofs.LogSteps.{one_entry}
 use Rattle.theory.proofs.Pieces.{payload_in, pieces_join}
 use Rattle.term_buffer.specs.Kept.{padded, published}
 use Rattle.script_run.specs.Published.{Range, between, filled_at, offered_at}
 use Rattle.script_run.proofs.OfferRuns.{frame_put}
-use Rattle.theory.proofs.Commits.{IsOnlyAt, one_end, payload_cuts, pieces_length}
+use Rattle.model.proofs.Commits.{IsOnlyAt, payload_cuts, pieces_length}
+use Rattle.theory.proofs.Follow.{one_end}
 
 -- the range that the entry took, with its message once it is committed
 pub record SameRange (e : Entry) (r : Range) : Type 0 where

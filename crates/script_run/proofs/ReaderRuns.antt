@@ -14,7 +14,7 @@ use Rattle.theory.specs.Consumer.{Consumer, moved}
 use Rattle.theory.specs.Log.{Move}
 use Rattle.theory.specs.World.{AtLog}
 use Rattle.theory.proofs.Tables.{get_other, get_put}
-use Rattle.script.specs.Meaning as orders
+use Rattle.script.specs.Meaning as commands
 use Rattle.script_run.specs.Answers.{HasNoReader, ReadsFrame, ReadsNothing, frame_line, with_reader}
 use Rattle.script_run.specs.LineContents.{Bad, NoMessage, LineContent}
 use Rattle.script_run.specs.Published.{Played, covered_by, frames_in, read, read_by}
@@ -27,7 +27,7 @@ use Rattle.script_run.proofs.SoundLines.{matches_stay, same_state}
 
 -- ---- lines that show no frame
 
-nothing_shown : (number r : ℕ) (line : LineContent) (lines : List LineContent) → frames_in line ≡ [] → lines ≡ line ∷ [] → read_by r (orders.Read number) lines ≡ []
+nothing_shown : (number r : ℕ) (line : LineContent) (lines : List LineContent) → frames_in line ≡ [] → lines ≡ line ∷ [] → read_by r (commands.Read number) lines ≡ []
 nothing_shown number r line lines none e = ap (λ ls. cond (nat_eq number r) (flat_map frames_in ls) []) e ∙ ap (λ xs. cond (nat_eq number r) (xs ++ []) []) none ∙ both (nat_eq number r)
   where
     both : (b : Bool) → cond {A = List Frame} b [] [] ≡ []
@@ -51,7 +51,7 @@ of_line : (at : ℕ) (f : Frame) → flat_map frames_in (frame_line at f ∷ [])
 of_line at (Data flags payload) = refl
 of_line at (Pad n) = refl
 
-own_frame : (r at : ℕ) (f : Frame) (lines : List LineContent) → lines ≡ frame_line at f ∷ [] → read_by r (orders.Read r) lines ≡ f ∷ []
+own_frame : (r at : ℕ) (f : Frame) (lines : List LineContent) → lines ≡ frame_line at f ∷ [] → read_by r (commands.Read r) lines ≡ f ∷ []
 own_frame r at f lines e = cond-true (nat_eq r r) (flat_map frames_in lines) [] (eq-eqb r r refl) ∙ ap (flat_map frames_in) e ∙ of_line at f
 
 -- the reader is known
@@ -82,16 +82,16 @@ moves s k lines t m there whole =
     subst (λ rs. Goes w (record w { log = record w.log { readers = rs } })) (sym (map-set Some s.readers k after))
     (goes_one w (record w { log = l }) (AtLog (Move k past)) (l, (m.0, map_get Some s.readers k m.0 there, record { among = among_kept s.past s.log.entries past m.3; here = m.4 }, whole, refl), refl))
 
-frame_read : (i : Identity) (start readers : ℕ) (played : List Played) (s t : ScriptState) (k : ℕ) (lines : List LineContent) → IsSound i start readers played s → ReadsFrame s (suc k) lines t → IsSound i start readers (and_line played (orders.Read (suc k)) lines) t
+frame_read : (i : Identity) (start readers : ℕ) (played : List Played) (s t : ScriptState) (k : ℕ) (lines : List LineContent) → IsSound i start readers played s → ReadsFrame s (suc k) lines t → IsSound i start readers (and_line played (commands.Read (suc k)) lines) t
 frame_read i start readers played s t k lines h m =
     let c = m.0 in
     let past = m.1 in
     let d = moved c past in
-    let order = orders.Read (suc k) in
+    let command = commands.Read (suc k) in
     let known = reader_so i start readers played s k c h m.2 in
     let v = read_scene s k d in
     let goes = moves s k lines t m m.2 known.1.whole in
-    subst (λ x. IsSound i start readers (and_line played order lines) x) (sym (m.6 ∙ same_place s k d)) (record {
+    subst (λ x. IsSound i start readers (and_line played command lines) x) (sym (m.6 ∙ same_place s k d)) (record {
       runs = goes_on (world_of (opened_state i start readers)) (world_of s) (world_of v) h.runs goes;
       identity = h.identity;
       start_is = h.start_is;
@@ -99,27 +99,27 @@ frame_read i start readers played s t k lines h m =
       unit = h.unit;
       sending = record { legal = h.sending.legal; sent = h.sending.sent; setups = h.sending.setups };
       honest = h.honest;
-      matches = matches_stay i.geometry played order lines (entries_of s) (λ g ranges. refl) h.matches;
+      matches = matches_stay i.geometry played command lines (entries_of s) (λ g ranges. refl) h.matches;
       eight = h.eight;
-      receivers = receivers_stay i played order lines s v (λ n. (refl, refl)) refl h.receivers;
+      receivers = receivers_stay i played command lines s v (λ n. (refl, refl)) refl h.receivers;
       seats = length-set s.readers k d ∙ h.seats;
       reading = λ j low.
           ⊎_elim
           (λ (e : k ≡ j).
-          let now : ReadSo start d (read (suc k) (and_line played order lines)) = subst (ReadSo start d) (sym (read_more (suc k) played order lines ∙ ap (λ xs. read (suc k) played ++ xs) (own_frame (suc k) past.at past.frame lines m.5))) (read_so start c past (read (suc k) played) m.4 known.1) in
-          subst (λ n. HasRead start (and_line played order lines) v n) e (d, get_put s.readers k d (slice_get_within s.readers k c m.2), now))
+          let now : ReadSo start d (read (suc k) (and_line played command lines)) = subst (ReadSo start d) (sym (read_more (suc k) played command lines ∙ ap (λ xs. read (suc k) played ++ xs) (own_frame (suc k) past.at past.frame lines m.5))) (read_so start c past (read (suc k) played) m.4 known.1) in
+          subst (λ n. HasRead start (and_line played command lines) v n) e (d, get_put s.readers k d (slice_get_within s.readers k c m.2), now))
           (λ (ne : k ≡ j → ⊥).
           let old = h.reading j low in
-          let quiet : read_by (suc j) order lines ≡ [] = cond-false (nat_eq (suc k) (suc j)) (flat_map frames_in lines) [] (ne_eqb (suc k) (suc j) (λ e. ne (omega (arith, e)))) in
-          (old.0, get_other s.readers k j d (λ e. ne (sym e)) ∙ old.1, subst (ReadSo start old.0) (sym (read_more (suc j) played order lines ∙ ap (λ xs. read (suc j) played ++ xs) quiet ∙ append-nil (read (suc j) played))) old.2))
+          let quiet : read_by (suc j) command lines ≡ [] = cond-false (nat_eq (suc k) (suc j)) (flat_map frames_in lines) [] (ne_eqb (suc k) (suc j) (λ e. ne (omega (arith, e)))) in
+          (old.0, get_other s.readers k j d (λ e. ne (sym e)) ∙ old.1, subst (ReadSo start old.0) (sym (read_more (suc j) played command lines ∙ ap (λ xs. read (suc j) played ++ xs) quiet ∙ append-nil (read (suc j) played))) old.2))
           (cases_eq k j);
     })
 
-pub read_line : (i : Identity) (start readers : ℕ) (played : List Played) (s t : ScriptState) (r : ℕ) (lines : List LineContent) → IsSound i start readers played s → HasNoReader s r lines t ⊎ (ReadsNothing s r lines t ⊎ ReadsFrame s r lines t) → IsSound i start readers (and_line played (orders.Read r) lines) t
+pub read_line : (i : Identity) (start readers : ℕ) (played : List Played) (s t : ScriptState) (r : ℕ) (lines : List LineContent) → IsSound i start readers played s → HasNoReader s r lines t ⊎ (ReadsNothing s r lines t ⊎ ReadsFrame s r lines t) → IsSound i start readers (and_line played (commands.Read r) lines) t
 read_line i start readers played s t r lines h (inl m) =
-    same_state i start readers played (orders.Read r) lines s t (record { joins = λ k. refl; polls = λ k. refl; reads = λ k. nothing_shown r (suc k) Bad lines refl m.1.0 }) (λ g ranges. refl) m.1.1 h
+    same_state i start readers played (commands.Read r) lines s t (record { joins = λ k. refl; polls = λ k. refl; reads = λ k. nothing_shown r (suc k) Bad lines refl m.1.0 }) (λ g ranges. refl) m.1.1 h
 read_line i start readers played s t r lines h (inr (inl m)) =
-    same_state i start readers played (orders.Read r) lines s t (record { joins = λ k. refl; polls = λ k. refl; reads = λ k. nothing_shown r (suc k) NoMessage lines refl m.3 }) (λ g ranges. refl) m.4 h
+    same_state i start readers played (commands.Read r) lines s t (record { joins = λ k. refl; polls = λ k. refl; reads = λ k. nothing_shown r (suc k) NoMessage lines refl m.3 }) (λ g ranges. refl) m.4 h
 read_line i start readers played s t zero lines h (inr (inr m)) = absurd (no_reader m.0 m.2)
   where
     no_reader : (c : Consumer) → None ≡ Some c → ⊥

@@ -5,7 +5,7 @@ use Rattle.std.specs.Option.{option_map}
 use Rattle.std.proofs.lemmas.List.{set-set}
 use Rattle.std.proofs.lemmas.Option.{slice_get-get_or, slice_get-map, slice_get_within}
 use Rattle.theory.specs.Image.{Image}
-use Rattle.theory.specs.World.{World, Event, Step, Run}
+use Rattle.model.specs.World.{World, Event, Step, Run}
 use Rattle.theory.proofs.Tables.{get_put, set_same}
 
 pub run_append : (a b c : World) (es fs : List Event) → Run a es b → Run b fs c → Run a (es ++ fs) c

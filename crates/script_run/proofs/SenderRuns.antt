@@ -10,15 +10,18 @@ use Rattle.theory.specs.Entry.{Entry, committed}
 use Rattle.theory.specs.FlowLimit.{flow_limit}
 use Rattle.theory.specs.Datagrams.{sent_end}
 use Rattle.theory.specs.Position.{position_of}
-use Rattle.theory.specs.Seats.{Each}
+use Rattle.theory.specs.Numbered.{Each}
 use Rattle.theory.specs.Wire.{Status}
-use Rattle.theory.specs.Log as stream
-use Rattle.theory.specs.Log.{Clean, Close, Connect, IsLowest, Raise}
-use Rattle.theory.specs.Sender.{Sender, SenderEvent, SenderStep, See, Send, SendSetup, HearStatus}
-use Rattle.theory.specs.World.{World, AtLog, AtSender}
+use Rattle.model.specs.Log as stream
+use Rattle.theory.specs.Log.{Clean, Close, Connect, Raise}
+use Rattle.model.specs.Log.{IsLowest}
+use Rattle.model.specs.Sender.{Sender, SenderEvent, SenderStep}
+use Rattle.theory.specs.Sender.{See, Send, SendSetup, HearStatus}
+use Rattle.model.specs.World.{World}
+use Rattle.theory.specs.World.{AtLog, AtSender}
 use Rattle.theory.proofs.Leasts.{fold_each, fold_keeps}
 use Rattle.theory.proofs.Lists.{among_right}
-use Rattle.theory.proofs.WorldSteps.{power_unit}
+use Rattle.theory.proofs.Places.{power_unit}
 use Rattle.log_buffer.specs.Limits.{least}
 use Rattle.log_buffer.specs.Log.{IsLog, Log, clean_end}
 use Rattle.rotation.specs.Limited.{CleansAndLimits, raised}

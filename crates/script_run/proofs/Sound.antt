@@ -9,16 +9,16 @@ use Rattle.theory.specs.Entry.{IsEntry}
 use Rattle.std.specs.Option.{option_map}
 use Rattle.script_run.specs.LineContents.{LineContent}
 use Rattle.theory.specs.Bytes.{Identity, IsIdentity}
-use Rattle.theory.specs.Headline.{Always, IsTiled, IsBounded, IsPrefixPolled, ArePublished, AreSpelled, IsPublished}
+use Rattle.model.specs.Headline.{Always, IsTiled, IsBounded, IsPrefixPolled, ArePublished, AreSpelled, IsPublished}
 use Rattle.theory.specs.Laws.{HasOneReading}
 use Rattle.theory.specs.Placed.{Frame}
 use Rattle.theory.specs.Assembly.{after_all, nothing_heard}
 use Rattle.theory.specs.Consumer.{Consumer, consumer_at}
-use Rattle.theory.specs.Seats.{Each}
-use Rattle.theory.specs.World.{IsOpened}
+use Rattle.theory.specs.Numbered.{Each}
+use Rattle.model.specs.World.{IsOpened}
 use Rattle.theory.proofs.Lists.{all_weaker}
 use Rattle.theory.proofs.Tables.{get_other, get_put}
-use Rattle.script.specs.Meaning.{Order}
+use Rattle.script.specs.Meaning.{CommandContent}
 use Rattle.script_run.specs.Published.{AllWhole, IsWhole, Played, Range, covered_by, joined_by, joins, polled, polled_by, published, ranges_after, ranges_behind, read, read_by}
 use Rattle.receiver.specs.Receiving.{Opened, Receiver}
 use Rattle.script_run.specs.ScriptState.{ScriptState, entries_of, image_of, opened_state, world_of}
@@ -124,32 +124,32 @@ tail_low laws i start readers played s b h =
 
 -- ---- one line more
 
-abbrev pub and_line : List Played → Order → List LineContent → List Played
-and_line played order lines = played ++ record { order = order; lines = lines } ∷ []
+abbrev pub and_line : List Played → CommandContent → List LineContent → List Played
+and_line played command lines = played ++ record { command = command; lines = lines } ∷ []
 
-behind_more : (g : Geometry) (ranges : List Range) (played : List Played) (order : Order) (lines : List LineContent) → ranges_behind g ranges (and_line played order lines) ≡ ranges_after g (ranges_behind g ranges played) order lines
-behind_more g ranges [] order lines = refl
-behind_more g ranges (p ∷ ps) order lines = behind_more g (ranges_after g ranges p.order p.lines) ps order lines
+behind_more : (g : Geometry) (ranges : List Range) (played : List Played) (command : CommandContent) (lines : List LineContent) → ranges_behind g ranges (and_line played command lines) ≡ ranges_after g (ranges_behind g ranges played) command lines
+behind_more g ranges [] command lines = refl
+behind_more g ranges (p ∷ ps) command lines = behind_more g (ranges_after g ranges p.command p.lines) ps command lines
 
-pub published_more : (g : Geometry) (played : List Played) (order : Order) (lines : List LineContent) → published g (and_line played order lines) ≡ ranges_after g (published g played) order lines
-published_more g played order lines = behind_more g [] played order lines
+pub published_more : (g : Geometry) (played : List Played) (command : CommandContent) (lines : List LineContent) → published g (and_line played command lines) ≡ ranges_after g (published g played) command lines
+published_more g played command lines = behind_more g [] played command lines
 
 -- the line takes no range, and fills none
-abbrev pub SaysNoRange : Order → List LineContent → Type 0
-SaysNoRange order lines = (g : Geometry) (ranges : List Range) → ranges_after g ranges order lines ≡ ranges
+abbrev pub SaysNoRange : CommandContent → List LineContent → Type 0
+SaysNoRange command lines = (g : Geometry) (ranges : List Range) → ranges_after g ranges command lines ≡ ranges
 
-pub joins_more : (k : ℕ) (played : List Played) (order : Order) (lines : List LineContent) → joins k (and_line played order lines) ≡ joins k played ++ joined_by k order lines
-joins_more k played order lines = flat_map-append (λ p. joined_by k p.order p.lines) played (record { order = order; lines = lines } ∷ []) ∙ ap (λ xs. joins k played ++ xs) (append-nil (joined_by k order lines))
+pub joins_more : (k : ℕ) (played : List Played) (command : CommandContent) (lines : List LineContent) → joins k (and_line played command lines) ≡ joins k played ++ joined_by k command lines
+joins_more k played command lines = flat_map-append (λ p. joined_by k p.command p.lines) played (record { command = command; lines = lines } ∷ []) ∙ ap (λ xs. joins k played ++ xs) (append-nil (joined_by k command lines))
 
-pub polled_more : (k : ℕ) (played : List Played) (order : Order) (lines : List LineContent) → polled k (and_line played order lines) ≡ polled k played ++ polled_by k order lines
-polled_more k played order lines = flat_map-append (λ p. polled_by k p.order p.lines) played (record { order = order; lines = lines } ∷ []) ∙ ap (λ xs. polled k played ++ xs) (append-nil (polled_by k order lines))
+pub polled_more : (k : ℕ) (played : List Played) (command : CommandContent) (lines : List LineContent) → polled k (and_line played command lines) ≡ polled k played ++ polled_by k command lines
+polled_more k played command lines = flat_map-append (λ p. polled_by k p.command p.lines) played (record { command = command; lines = lines } ∷ []) ∙ ap (λ xs. polled k played ++ xs) (append-nil (polled_by k command lines))
 
-pub read_more : (r : ℕ) (played : List Played) (order : Order) (lines : List LineContent) → read r (and_line played order lines) ≡ read r played ++ read_by r order lines
-read_more r played order lines = flat_map-append (λ p. read_by r p.order p.lines) played (record { order = order; lines = lines } ∷ []) ∙ ap (λ xs. read r played ++ xs) (append-nil (read_by r order lines))
+pub read_more : (r : ℕ) (played : List Played) (command : CommandContent) (lines : List LineContent) → read r (and_line played command lines) ≡ read r played ++ read_by r command lines
+read_more r played command lines = flat_map-append (λ p. read_by r p.command p.lines) played (record { command = command; lines = lines } ∷ []) ∙ ap (λ xs. read r played ++ xs) (append-nil (read_by r command lines))
 
-pub whole_parts : (k : ℕ) (played : List Played) (order : Order) (lines : List LineContent) → AllWhole k (and_line played order lines) → AllWhole k played × IsWhole k order lines
-whole_parts k [] order lines h = (tt, h.0)
-whole_parts k (p ∷ ps) order lines h = let rest = whole_parts k ps order lines h.1 in ((h.0, rest.0), rest.1)
+pub whole_parts : (k : ℕ) (played : List Played) (command : CommandContent) (lines : List LineContent) → AllWhole k (and_line played command lines) → AllWhole k played × IsWhole k command lines
+whole_parts k [] command lines h = (tt, h.0)
+whole_parts k (p ∷ ps) command lines h = let rest = whole_parts k ps command lines h.1 in ((h.0, rest.0), rest.1)
 
 pub follows_as : (i : Identity) (r : Receiver) (joins more : List ℕ) (given gives : List (List ℕ)) (Whole Still : Type 0) → joins ≡ more → given ≡ gives → (Still → Whole) → Follows i r joins given Whole → Follows i r more gives Still
 follows_as i r joins more given gives Whole Still j g weaker h = record {
@@ -162,39 +162,39 @@ follows_as i r joins more given gives Whole Still j g weaker h = record {
     weaken (Some o) k = record { consumer = k.consumer; one = k.one; geometry = k.geometry; join = k.join; joined = k.joined; heard = λ x. k.heard (weaker x) }
 
 -- the line says nothing of the receiver
-pub follows_quiet : (i : Identity) (k : ℕ) (r : Receiver) (played : List Played) (order : Order) (lines : List LineContent) → joined_by k order lines ≡ [] → polled_by k order lines ≡ [] → Follows i r (joins k played) (polled k played) (AllWhole k played) → Follows i r (joins k (and_line played order lines)) (polled k (and_line played order lines)) (AllWhole k (and_line played order lines))
-follows_quiet i k r played order lines j g h =
-    follows_as i r (joins k played) (joins k (and_line played order lines)) (polled k played) (polled k (and_line played order lines)) (AllWhole k played) (AllWhole k (and_line played order lines))
-    (sym (joins_more k played order lines ∙ ap (λ xs. joins k played ++ xs) j ∙ append-nil (joins k played)))
-    (sym (polled_more k played order lines ∙ ap (λ xs. polled k played ++ xs) g ∙ append-nil (polled k played)))
-    (λ x. (whole_parts k played order lines x).0)
+pub follows_quiet : (i : Identity) (k : ℕ) (r : Receiver) (played : List Played) (command : CommandContent) (lines : List LineContent) → joined_by k command lines ≡ [] → polled_by k command lines ≡ [] → Follows i r (joins k played) (polled k played) (AllWhole k played) → Follows i r (joins k (and_line played command lines)) (polled k (and_line played command lines)) (AllWhole k (and_line played command lines))
+follows_quiet i k r played command lines j g h =
+    follows_as i r (joins k played) (joins k (and_line played command lines)) (polled k played) (polled k (and_line played command lines)) (AllWhole k played) (AllWhole k (and_line played command lines))
+    (sym (joins_more k played command lines ∙ ap (λ xs. joins k played ++ xs) j ∙ append-nil (joins k played)))
+    (sym (polled_more k played command lines ∙ ap (λ xs. polled k played ++ xs) g ∙ append-nil (polled k played)))
+    (λ x. (whole_parts k played command lines x).0)
     h
 
 -- the line says nothing of any receiver or reader, and they stay
-pub record IsQuiet (order : Order) (lines : List LineContent) : Type 0 where
-  pub reads : (k : ℕ) → read_by (suc k) order lines ≡ []
-  pub joins : (k : ℕ) → joined_by k order lines ≡ []
-  pub polls : (k : ℕ) → polled_by k order lines ≡ []
+pub record IsQuiet (command : CommandContent) (lines : List LineContent) : Type 0 where
+  pub reads : (k : ℕ) → read_by (suc k) command lines ≡ []
+  pub joins : (k : ℕ) → joined_by k command lines ≡ []
+  pub polls : (k : ℕ) → polled_by k command lines ≡ []
 
-pub receivers_stay : (i : Identity) (played : List Played) (order : Order) (lines : List LineContent) (s t : ScriptState) → ((k : ℕ) → (joined_by k order lines ≡ []) × (polled_by k order lines ≡ [])) → t.receivers ≡ s.receivers → ((k : ℕ) → k < 8 → HasFollowed i played s k) → (k : ℕ) → k < 8 → HasFollowed i (and_line played order lines) t k
-receivers_stay i played order lines s t quiet same h k low =
+pub receivers_stay : (i : Identity) (played : List Played) (command : CommandContent) (lines : List LineContent) (s t : ScriptState) → ((k : ℕ) → (joined_by k command lines ≡ []) × (polled_by k command lines ≡ [])) → t.receivers ≡ s.receivers → ((k : ℕ) → k < 8 → HasFollowed i played s k) → (k : ℕ) → k < 8 → HasFollowed i (and_line played command lines) t k
+receivers_stay i played command lines s t quiet same h k low =
     let r = h k low in
-    (r.0, ap (λ xs. slice_get xs k) same ∙ r.1, follows_quiet i k r.0 played order lines (quiet k).0 (quiet k).1 r.2)
+    (r.0, ap (λ xs. slice_get xs k) same ∙ r.1, follows_quiet i k r.0 played command lines (quiet k).0 (quiet k).1 r.2)
 
-pub readers_stay : (start n : ℕ) (played : List Played) (order : Order) (lines : List LineContent) (s t : ScriptState) → ((k : ℕ) → read_by (suc k) order lines ≡ []) → t.readers ≡ s.readers → ((k : ℕ) → k < n → HasRead start played s k) → (k : ℕ) → k < n → HasRead start (and_line played order lines) t k
-readers_stay start n played order lines s t quiet same h k low =
+pub readers_stay : (start n : ℕ) (played : List Played) (command : CommandContent) (lines : List LineContent) (s t : ScriptState) → ((k : ℕ) → read_by (suc k) command lines ≡ []) → t.readers ≡ s.readers → ((k : ℕ) → k < n → HasRead start played s k) → (k : ℕ) → k < n → HasRead start (and_line played command lines) t k
+readers_stay start n played command lines s t quiet same h k low =
     let r = h k low in
-    (r.0, ap (λ xs. slice_get xs k) same ∙ r.1, subst (ReadSo start r.0) (sym (read_more (suc k) played order lines ∙ ap (λ xs. read (suc k) played ++ xs) (quiet k) ∙ append-nil (read (suc k) played))) r.2)
+    (r.0, ap (λ xs. slice_get xs k) same ∙ r.1, subst (ReadSo start r.0) (sym (read_more (suc k) played command lines ∙ ap (λ xs. read (suc k) played ++ xs) (quiet k) ∙ append-nil (read (suc k) played))) r.2)
 
 -- the line is of receiver n, which is another now
-pub receiver_moves : (i : Identity) (played : List Played) (order : Order) (lines : List LineContent) (s t : ScriptState) (n : ℕ) (r mid : Receiver) → slice_get s.receivers n ≡ Some r → t.receivers ≡ slice_set s.receivers n mid → ((k : ℕ) → (n ≡ k → ⊥) → (joined_by k order lines ≡ []) × (polled_by k order lines ≡ [])) → Follows i mid (joins n (and_line played order lines)) (polled n (and_line played order lines)) (AllWhole n (and_line played order lines)) → ((k : ℕ) → k < 8 → HasFollowed i played s k) → (k : ℕ) → k < 8 → HasFollowed i (and_line played order lines) t k
-receiver_moves i played order lines s t n r mid there is others now h k low =
+pub receiver_moves : (i : Identity) (played : List Played) (command : CommandContent) (lines : List LineContent) (s t : ScriptState) (n : ℕ) (r mid : Receiver) → slice_get s.receivers n ≡ Some r → t.receivers ≡ slice_set s.receivers n mid → ((k : ℕ) → (n ≡ k → ⊥) → (joined_by k command lines ≡ []) × (polled_by k command lines ≡ [])) → Follows i mid (joins n (and_line played command lines)) (polled n (and_line played command lines)) (AllWhole n (and_line played command lines)) → ((k : ℕ) → k < 8 → HasFollowed i played s k) → (k : ℕ) → k < 8 → HasFollowed i (and_line played command lines) t k
+receiver_moves i played command lines s t n r mid there is others now h k low =
     ⊎_elim
-    (λ (e : n ≡ k). subst (λ x. HasFollowed i (and_line played order lines) t x) e (mid, ap (λ xs. slice_get xs n) is ∙ get_put s.receivers n mid (slice_get_within s.receivers n r there), now))
+    (λ (e : n ≡ k). subst (λ x. HasFollowed i (and_line played command lines) t x) e (mid, ap (λ xs. slice_get xs n) is ∙ get_put s.receivers n mid (slice_get_within s.receivers n r there), now))
     (λ (ne : n ≡ k → ⊥).
     let old = h k low in
     let quiet = others k ne in
-    (old.0, ap (λ xs. slice_get xs k) is ∙ get_other s.receivers n k mid (λ e. ne (sym e)) ∙ old.1, follows_quiet i k old.0 played order lines quiet.0 quiet.1 old.2))
+    (old.0, ap (λ xs. slice_get xs k) is ∙ get_other s.receivers n k mid (λ e. ne (sym e)) ∙ old.1, follows_quiet i k old.0 played command lines quiet.0 quiet.1 old.2))
     (cases_eq n k)
 
 -- the receiver of a sound state, as the lemmas on its frames want it

@@ -13,9 +13,10 @@ use Rattle.theory.specs.Placed.{Among, Data, Frame, Placed}
 use Rattle.theory.specs.Entry.{Entry, committed}
 use Rattle.theory.specs.Bytes.{Identity, IsIdentity, wire_at}
 use Rattle.theory.specs.Control.{MayBeGiven, setup_at}
-use Rattle.theory.specs.Log as stream
-use Rattle.theory.specs.Log.{Abort, Commit, aborted_at, with_frame}
-use Rattle.theory.specs.Sender.{Sender}
+use Rattle.model.specs.Log as stream
+use Rattle.theory.specs.Log.{Abort, Commit}
+use Rattle.model.specs.Log.{aborted_at, with_frame}
+use Rattle.model.specs.Sender.{Sender}
 use Rattle.theory.specs.Wire.{IsFrame, Wire}
 use Rattle.theory.proofs.Cuts.{short_cuts}
 use Rattle.theory.proofs.Lists.{all_append, all_replicate, among_right}
@@ -25,8 +26,8 @@ use Rattle.log_buffer.specs.Log as logs
 use Rattle.log_buffer.specs.Log.{IsLog, Log, added, room_in, with_abort, with_commit, with_message, with_padding}
 use Rattle.publication.specs.Claims.{claim_at}
 use Rattle.publication.specs.Offers.{Course, IsClosed, IsStale, IsUsedUp, IsLimited, Fits, Trips, after, after_claim, after_offer, answer, course_of, covered, turned_from}
-use Rattle.script.specs.Meaning as orders
-use Rattle.script.specs.Meaning.{Order}
+use Rattle.script.specs.Meaning as commands
+use Rattle.script.specs.Meaning.{CommandContent}
 use Rattle.script_run.specs.Answers.{AbortsClaim, AreFrames, Claims, ClaimsRange, CommitsClaim, HasClaim, HasNoClaim, IsCycle, IsMissing, Limits, MayClaim, MayNotTake, MayOffer, Offered, OffersMessage, Replied, SenderHears, Sends, after_cycle, clock_at, cycled, given_out, heard, limit_of, named, sent_on, wires_of, with_log, with_sender, woken}
 use Rattle.setup.specs.Naming.{Naming, after_due}
 use Rattle.sender.specs.Cycling.{AsksSetup, Cycle, IsNextSent, NewsContent, Says, TellsNothing, Unreadable, datagrams, setups}
@@ -35,7 +36,7 @@ use Rattle.script_run.specs.LineContents.{LineContent, Bad, Position}
 use Rattle.script_run.specs.Published as visible
 use Rattle.script_run.specs.Published.{Played, Range, claims_in, filled_at, filled_by, offered_at, offers_in, ranges_after}
 use Rattle.script_run.specs.ScriptState.{ScriptState, entries_of, opened_state, stream_of, world_of}
-use Rattle.theory.proofs.Commits.{among_get, index_get, put_maps}
+use Rattle.model.proofs.Commits.{among_get, index_get, put_maps}
 use Rattle.script_run.proofs.Honest.{IsHonest, cycle_given, honest_more, honest_wires, named_more, sent_more, setups_on}
 use Rattle.script_run.proofs.OfferRuns.{LogHolds, at_log, claims, fits_one, frame_put, message_short, offers, open_entry, trips, trips_one, turned_same}
 use Rattle.script_run.proofs.Ranges.{Matches, SameRange, abort_only, abort_put, claimed_at, frame_only, matches_abort, matches_commit, matches_more, matches_padding, one_cut, same_claimed, same_offered}
@@ -47,13 +48,13 @@ use Rattle.mdriver.proofs.Standing.{holds as claim_holds}
 -- ---- lines after which only the log or the sender is another
 
 -- no range is taken or filled by the line
-pub matches_stay : (g : Geometry) (played : List Played) (order : Order) (lines : List LineContent) (xs : List Entry) → SaysNoRange order lines → Matches xs (visible.published g played) → Matches xs (visible.published g (and_line played order lines))
-matches_stay g played order lines xs none h = subst (Matches xs) (sym (published_more g played order lines ∙ none g (visible.published g played))) h
+pub matches_stay : (g : Geometry) (played : List Played) (command : CommandContent) (lines : List LineContent) (xs : List Entry) → SaysNoRange command lines → Matches xs (visible.published g played) → Matches xs (visible.published g (and_line played command lines))
+matches_stay g played command lines xs none h = subst (Matches xs) (sym (published_more g played command lines ∙ none g (visible.published g played))) h
 
 -- nothing has changed
-pub same_state : (i : Identity) (start readers : ℕ) (played : List Played) (order : Order) (lines : List LineContent) (s t : ScriptState) → IsQuiet order lines → SaysNoRange order lines → t ≡ s → IsSound i start readers played s → IsSound i start readers (and_line played order lines) t
-same_state i start readers played order lines s t quiet none same h =
-    subst (λ x. IsSound i start readers (and_line played order lines) x) (sym same) (record {
+pub same_state : (i : Identity) (start readers : ℕ) (played : List Played) (command : CommandContent) (lines : List LineContent) (s t : ScriptState) → IsQuiet command lines → SaysNoRange command lines → t ≡ s → IsSound i start readers played s → IsSound i start readers (and_line played command lines) t
+same_state i start readers played command lines s t quiet none same h =
+    subst (λ x. IsSound i start readers (and_line played command lines) x) (sym same) (record {
       runs = h.runs;
       identity = h.identity;
       start_is = h.start_is;
@@ -61,11 +62,11 @@ same_state i start readers played order lines s t quiet none same h =
       unit = h.unit;
       sending = h.sending;
       honest = h.honest;
-      matches = matches_stay i.geometry played order lines (entries_of s) none h.matches;
+      matches = matches_stay i.geometry played command lines (entries_of s) none h.matches;
       eight = h.eight;
-      receivers = receivers_stay i played order lines s s (λ k. (quiet.joins k, quiet.polls k)) refl h.receivers;
+      receivers = receivers_stay i played command lines s s (λ k. (quiet.joins k, quiet.polls k)) refl h.receivers;
       seats = h.seats;
-      reading = readers_stay start readers played order lines s s quiet.reads refl h.reading;
+      reading = readers_stay start readers played command lines s s quiet.reads refl h.reading;
     })
 
 -- the log is another one, which may have forgotten more
@@ -78,8 +79,8 @@ record IsLogNext (s : ScriptState) (past : List Entry) (l : Log) : Type 0 where
   start : l.start ≡ s.log.start
   consumers : l.consumers ≡ s.log.consumers
 
-log_line : (i : Identity) (start readers : ℕ) (played : List Played) (order : Order) (lines : List LineContent) (s : ScriptState) (past : List Entry) (l : Log) → IsQuiet order lines → IsLogNext s past l → Matches (past ++ l.entries) (visible.published i.geometry (and_line played order lines)) → IsSound i start readers played s → IsSound i start readers (and_line played order lines) (with_stream s past l)
-log_line i start readers played order lines s past l quiet n all h =
+log_line : (i : Identity) (start readers : ℕ) (played : List Played) (command : CommandContent) (lines : List LineContent) (s : ScriptState) (past : List Entry) (l : Log) → IsQuiet command lines → IsLogNext s past l → Matches (past ++ l.entries) (visible.published i.geometry (and_line played command lines)) → IsSound i start readers played s → IsSound i start readers (and_line played command lines) (with_stream s past l)
+log_line i start readers played command lines s past l quiet n all h =
     let t = with_stream s past l in
     record {
       runs = goes_on (world_of (opened_state i start readers)) (world_of s) (world_of t) h.runs n.goes;
@@ -95,30 +96,30 @@ log_line i start readers played order lines s past l quiet n all h =
       honest = h.honest;
       matches = all;
       eight = h.eight;
-      receivers = receivers_stay i played order lines s t (λ k. (quiet.joins k, quiet.polls k)) refl h.receivers;
+      receivers = receivers_stay i played command lines s t (λ k. (quiet.joins k, quiet.polls k)) refl h.receivers;
       seats = h.seats;
-      reading = readers_stay start readers played order lines s t quiet.reads refl h.reading;
+      reading = readers_stay start readers played command lines s t quiet.reads refl h.reading;
     }
 
-pub connect_line : (i : Identity) (start readers : ℕ) (played : List Played) (order : Order) (lines : List LineContent) (s : ScriptState) (on : Bool) → IsQuiet order lines → SaysNoRange order lines → IsSound i start readers played s → IsSound i start readers (and_line played order lines) (with_log s (record s.log { connected = on }))
-connect_line i start readers played order lines s on quiet none h =
-    log_line i start readers played order lines s s.past (record s.log { connected = on }) quiet (record { goes = connects s on; identity = refl; start = refl; consumers = refl }) (matches_stay i.geometry played order lines (entries_of s) none h.matches) h
+pub connect_line : (i : Identity) (start readers : ℕ) (played : List Played) (command : CommandContent) (lines : List LineContent) (s : ScriptState) (on : Bool) → IsQuiet command lines → SaysNoRange command lines → IsSound i start readers played s → IsSound i start readers (and_line played command lines) (with_log s (record s.log { connected = on }))
+connect_line i start readers played command lines s on quiet none h =
+    log_line i start readers played command lines s s.past (record s.log { connected = on }) quiet (record { goes = connects s on; identity = refl; start = refl; consumers = refl }) (matches_stay i.geometry played command lines (entries_of s) none h.matches) h
 
-pub close_line : (i : Identity) (start readers : ℕ) (played : List Played) (lines : List LineContent) (s : ScriptState) → IsSound i start readers played s → IsSound i start readers (and_line played orders.Close lines) (with_log s (record s.log { closed = true }))
+pub close_line : (i : Identity) (start readers : ℕ) (played : List Played) (lines : List LineContent) (s : ScriptState) → IsSound i start readers played s → IsSound i start readers (and_line played commands.Close lines) (with_log s (record s.log { closed = true }))
 close_line i start readers played lines s h =
-    log_line i start readers played orders.Close lines s s.past (record s.log { closed = true }) (record { joins = λ k. refl; polls = λ k. refl; reads = λ k. refl }) (record { goes = closes s; identity = refl; start = refl; consumers = refl }) (matches_stay i.geometry played orders.Close lines (entries_of s) (λ g ranges. refl) h.matches) h
+    log_line i start readers played commands.Close lines s s.past (record s.log { closed = true }) (record { joins = λ k. refl; polls = λ k. refl; reads = λ k. refl }) (record { goes = closes s; identity = refl; start = refl; consumers = refl }) (matches_stay i.geometry played commands.Close lines (entries_of s) (λ g ranges. refl) h.matches) h
 
-pub limit_line : (i : Identity) (start readers : ℕ) (played : List Played) (lines : List LineContent) (s t : ScriptState) → IsSound i start readers played s → Limits s lines t → IsSound i start readers (and_line played orders.Limit lines) t
+pub limit_line : (i : Identity) (start readers : ℕ) (played : List Played) (lines : List LineContent) (s t : ScriptState) → IsSound i start readers played s → Limits s lines t → IsSound i start readers (and_line played commands.Limit lines) t
 limit_line i start readers played lines s t h m =
     let past = s.past ++ m.done.cleans.past in
     let entries : past ++ m.log.entries ≡ entries_of s = limit_entries s.past s.log m.log m.done in
-    subst (λ x. IsSound i start readers (and_line played orders.Limit lines) x) (sym m.new_is)
-    (log_line i start readers played orders.Limit lines s past m.log (record { joins = λ k. refl; polls = λ k. refl; reads = λ k. refl }) (record {
+    subst (λ x. IsSound i start readers (and_line played commands.Limit lines) x) (sym m.new_is)
+    (log_line i start readers played commands.Limit lines s past m.log (record { joins = λ k. refl; polls = λ k. refl; reads = λ k. refl }) (record {
       goes = limits s m.log m.legal h.consumers m.done;
       identity = ap (λ (l : Log). l.identity) m.done.limits ∙ ap (λ (l : Log). l.identity) m.done.cleans.new_is;
       start = ap (λ (l : Log). l.start) m.done.limits ∙ ap (λ (l : Log). l.start) m.done.cleans.new_is;
       consumers = ap (λ (l : Log). l.consumers) m.done.limits ∙ ap (λ (l : Log). l.consumers) m.done.cleans.new_is;
-    }) (matches_stay i.geometry played orders.Limit lines (past ++ m.log.entries) (λ g ranges. refl) (subst (λ es. Matches es (visible.published i.geometry played)) (sym entries) h.matches)) h)
+    }) (matches_stay i.geometry played commands.Limit lines (past ++ m.log.entries) (λ g ranges. refl) (subst (λ es. Matches es (visible.published i.geometry played)) (sym entries) h.matches)) h)
 
 -- ---- an offer or a claim
 
@@ -135,13 +136,13 @@ turned_entries : (l : Log) (count : ℕ) → (turned_from l count).entries ≡ l
 turned_entries l count = turned_same (λ k. k.entries) (λ k x y z. refl) l count
 
 -- what the line says of a course, where the log becomes this one if it fits
-record FitsSo (i : Identity) (played : List Played) (s : ScriptState) (fitting : Log) (order : Order) (lines : List LineContent) : Type 0 where
+record FitsSo (i : Identity) (played : List Played) (s : ScriptState) (fitting : Log) (command : CommandContent) (lines : List LineContent) : Type 0 where
   next : IsLogNext s s.past fitting
-  matches : Matches (s.past ++ fitting.entries) (visible.published i.geometry (and_line played order lines))
+  matches : Matches (s.past ++ fitting.entries) (visible.published i.geometry (and_line played command lines))
 
-abbrev Said : Identity → List Played → ScriptState → Log → Order → List LineContent → Course → Type 0
-Said i played s fitting order lines Fits = FitsSo i played s fitting order lines
-Said i played s fitting order lines other = SaysNoRange order lines
+abbrev Said : Identity → List Played → ScriptState → Log → CommandContent → List LineContent → Course → Type 0
+Said i played s fitting command lines Fits = FitsSo i played s fitting command lines
+Said i played s fitting command lines other = SaysNoRange command lines
 
 -- who adds, and how much
 record MayAdd (l : Log) (by size : ℕ) : Type 0 where
@@ -149,17 +150,17 @@ record MayAdd (l : Log) (by size : ℕ) : Type 0 where
   publisher : by < 8
   short : size ≤ max_message l.identity.geometry
 
-taken_line : Laws → (i : Identity) (start readers : ℕ) (played : List Played) (s : ScriptState) (by size : ℕ) (fitting : Log) (order : Order) (lines : List LineContent) (c : Course) → Begins i start → IsQuiet order lines → IsSound i start readers played s → MayAdd s.log by size → course_of s.log size ≡ c → Said i played s fitting order lines c → IsSound i start readers (and_line played order lines) (with_log s (after s.log by size c fitting))
-taken_line laws i start readers played s by size fitting order lines IsClosed b quiet h may e none = same_state i start readers played order lines s s quiet none refl h
-taken_line laws i start readers played s by size fitting order lines IsStale b quiet h may e none = same_state i start readers played order lines s s quiet none refl h
-taken_line laws i start readers played s by size fitting order lines IsLimited b quiet h may e none = same_state i start readers played order lines s s quiet none refl h
-taken_line laws i start readers played s by size fitting order lines IsUsedUp b quiet h may e none =
+taken_line : Laws → (i : Identity) (start readers : ℕ) (played : List Played) (s : ScriptState) (by size : ℕ) (fitting : Log) (command : CommandContent) (lines : List LineContent) (c : Course) → Begins i start → IsQuiet command lines → IsSound i start readers played s → MayAdd s.log by size → course_of s.log size ≡ c → Said i played s fitting command lines c → IsSound i start readers (and_line played command lines) (with_log s (after s.log by size c fitting))
+taken_line laws i start readers played s by size fitting command lines IsClosed b quiet h may e none = same_state i start readers played command lines s s quiet none refl h
+taken_line laws i start readers played s by size fitting command lines IsStale b quiet h may e none = same_state i start readers played command lines s s quiet none refl h
+taken_line laws i start readers played s by size fitting command lines IsLimited b quiet h may e none = same_state i start readers played command lines s s quiet none refl h
+taken_line laws i start readers played s by size fitting command lines IsUsedUp b quiet h may e none =
     let l = turned_from s.log s.log.active in
     let same : entries_of (with_log s l) ≡ entries_of s = ap (λ es. s.past ++ es) (turned_entries s.log s.log.active) in
-    log_line i start readers played order lines s s.past l quiet (turned_next s s.log s.log.active (record { goes = stays (world_of s) (world_of s) refl; identity = refl; start = refl; consumers = refl }))
-    (matches_stay i.geometry played order lines (entries_of (with_log s l)) none (subst (λ es. Matches es (visible.published i.geometry played)) (sym same) h.matches)) h
-taken_line laws i start readers played s by size fitting order lines Fits b quiet h may e says = log_line i start readers played order lines s s.past fitting quiet says.next says.matches h
-taken_line laws i start readers played s by size fitting order lines Trips b quiet h may e none =
+    log_line i start readers played command lines s s.past l quiet (turned_next s s.log s.log.active (record { goes = stays (world_of s) (world_of s) refl; identity = refl; start = refl; consumers = refl }))
+    (matches_stay i.geometry played command lines (entries_of (with_log s l)) none (subst (λ es. Matches es (visible.published i.geometry played)) (sym same) h.matches)) h
+taken_line laws i start readers played s by size fitting command lines Fits b quiet h may e says = log_line i start readers played command lines s s.past fitting quiet says.next says.matches h
+taken_line laws i start readers played s by size fitting command lines Trips b quiet h may e none =
     let n = room_in s.log (s.log.active % 3) in
     let l = with_padding (added s.log by (s.log.active % 3) (covered s.log size)) by n in
     let one = trips_one s.past s.readers s.log by size may.legal may.publisher may.short e in
@@ -170,31 +171,31 @@ taken_line laws i start readers played s by size fitting order lines Trips b qui
       consumers = refl;
     } in
     let entries : s.past ++ (turned_from l s.log.active).entries ≡ entries_of s ++ padded s.log.tail by n ∷ [] = ap (λ es. s.past ++ es) (turned_entries l s.log.active) ∙ sym (append_assoc s.past s.log.entries (padded s.log.tail by n ∷ [])) in
-    log_line i start readers played order lines s s.past (turned_from l s.log.active) quiet (turned_next s l s.log.active next)
-    (matches_stay i.geometry played order lines (s.past ++ (turned_from l s.log.active).entries) none (subst (λ es. Matches es (visible.published i.geometry played)) (sym entries) (matches_padding (entries_of s) (visible.published i.geometry played) (padded s.log.tail by n) refl h.matches))) h
+    log_line i start readers played command lines s s.past (turned_from l s.log.active) quiet (turned_next s l s.log.active next)
+    (matches_stay i.geometry played command lines (s.past ++ (turned_from l s.log.active).entries) none (subst (λ es. Matches es (visible.published i.geometry played)) (sym entries) (matches_padding (entries_of s) (visible.published i.geometry played) (padded s.log.tail by n) refl h.matches))) h
 
 -- one entry and its range more
-added_matches : (i : Identity) (start readers : ℕ) (played : List Played) (s : ScriptState) (order : Order) (lines : List LineContent) (e : Entry) (r : Range) → ((ranges : List Range) → ranges_after i.geometry ranges order lines ≡ ranges ++ r ∷ []) → SameRange e r → IsSound i start readers played s → Matches (s.past ++ (s.log.entries ++ e ∷ [])) (visible.published i.geometry (and_line played order lines))
-added_matches i start readers played s order lines e r line same h =
+added_matches : (i : Identity) (start readers : ℕ) (played : List Played) (s : ScriptState) (command : CommandContent) (lines : List LineContent) (e : Entry) (r : Range) → ((ranges : List Range) → ranges_after i.geometry ranges command lines ≡ ranges ++ r ∷ []) → SameRange e r → IsSound i start readers played s → Matches (s.past ++ (s.log.entries ++ e ∷ [])) (visible.published i.geometry (and_line played command lines))
+added_matches i start readers played s command lines e r line same h =
     let ranges = visible.published i.geometry played in
-    subst (λ es. Matches es (visible.published i.geometry (and_line played order lines))) (append_assoc s.past s.log.entries (e ∷ []))
-    (subst (Matches (entries_of s ++ e ∷ [])) (sym (published_more i.geometry played order lines ∙ line ranges)) (matches_more (entries_of s) ranges e r same h.matches))
+    subst (λ es. Matches es (visible.published i.geometry (and_line played command lines))) (append_assoc s.past s.log.entries (e ∷ []))
+    (subst (Matches (entries_of s ++ e ∷ [])) (sym (published_more i.geometry played command lines ∙ line ranges)) (matches_more (entries_of s) ranges e r same h.matches))
 
 -- ---- an offer
 
 -- an order that offers this message
-abbrev pub OffersIt : Order → List ℕ → Type 0
-OffersIt order m = (g : Geometry) (ranges : List Range) (lines : List LineContent) → ranges_after g ranges order lines ≡ ranges ++ flat_map (offers_in g m) lines
+abbrev pub OffersIt : CommandContent → List ℕ → Type 0
+OffersIt command m = (g : Geometry) (ranges : List Range) (lines : List LineContent) → ranges_after g ranges command lines ≡ ranges ++ flat_map (offers_in g m) lines
 
-offers_none : (order : Order) (m : List ℕ) (line : LineContent) (lines : List LineContent) → OffersIt order m → ((g : Geometry) → offers_in g m line ≡ []) → lines ≡ line ∷ [] → SaysNoRange order lines
-offers_none order m line lines is none e g ranges =
+offers_none : (command : CommandContent) (m : List ℕ) (line : LineContent) (lines : List LineContent) → OffersIt command m → ((g : Geometry) → offers_in g m line ≡ []) → lines ≡ line ∷ [] → SaysNoRange command lines
+offers_none command m line lines is none e g ranges =
     is g ranges lines ∙ ap (λ ls. ranges ++ flat_map (offers_in g m) ls) e ∙ ap (λ xs. ranges ++ (xs ++ [])) (none g) ∙ append-nil ranges
 
 abbrev offered_log : Log → ℕ → List ℕ → Log
 offered_log l by m = with_message (added l by (l.active % 3) (covered l (length m))) by m
 
-offer_fits : Laws → (i : Identity) (start readers : ℕ) (played : List Played) (s : ScriptState) (by : ℕ) (m : List ℕ) (order : Order) (lines : List LineContent) → Begins i start → OffersIt order m → IsSound i start readers played s → MayOffer s.log by m → course_of s.log (length m) ≡ Fits → lines ≡ Position (s.log.tail + covered s.log (length m)) ∷ [] → FitsSo i played s (offered_log s.log by m) order lines
-offer_fits laws i start readers played s by m order lines b is h may e line =
+offer_fits : Laws → (i : Identity) (start readers : ℕ) (played : List Played) (s : ScriptState) (by : ℕ) (m : List ℕ) (command : CommandContent) (lines : List LineContent) → Begins i start → OffersIt command m → IsSound i start readers played s → MayOffer s.log by m → course_of s.log (length m) ≡ Fits → lines ≡ Position (s.log.tail + covered s.log (length m)) ∷ [] → FitsSo i played s (offered_log s.log by m) command lines
+offer_fits laws i start readers played s by m command lines b is h may e line =
     let g = s.log.identity.geometry in
     let end = s.log.tail + covered s.log (length m) in
     let same : g ≡ i.geometry = ap (λ (x : Identity). x.geometry) h.identity in
@@ -206,31 +207,31 @@ offer_fits laws i start readers played s by m order lines b is h may e line =
         start = refl;
         consumers = refl;
       };
-      matches = added_matches i start readers played s order lines (published g s.log.tail by m) (offered_at g m end)
+      matches = added_matches i start readers played s command lines (published g s.log.tail by m) (offered_at g m end)
           (λ ranges. is i.geometry ranges lines ∙ ap (λ ls. ranges ++ flat_map (offers_in i.geometry m) ls) line ∙ ap (λ x. ranges ++ offered_at x m end ∷ []) (sym same))
           (same_offered g s.log.tail by m end h.sending.legal refl) h;
     }
 
-record OfferSays (i : Identity) (played : List Played) (s : ScriptState) (by : ℕ) (m : List ℕ) (order : Order) (lines : List LineContent) (c : Course) (t : ScriptState) : Type 0 where
-  said : Said i played s (offered_log s.log by m) order lines c
+record OfferSays (i : Identity) (played : List Played) (s : ScriptState) (by : ℕ) (m : List ℕ) (command : CommandContent) (lines : List LineContent) (c : Course) (t : ScriptState) : Type 0 where
+  said : Said i played s (offered_log s.log by m) command lines c
   after : t ≡ with_log s (after_offer s.log by m)
 
-offer_says : Laws → (i : Identity) (start readers : ℕ) (played : List Played) (s t : ScriptState) (by : ℕ) (m : List ℕ) (order : Order) (lines : List LineContent) (c : Course) → Begins i start → OffersIt order m → IsSound i start readers played s → MayOffer s.log by m → course_of s.log (length m) ≡ c → Offered s by m (answer s.log (length m) c) lines t → OfferSays i played s by m order lines c t
-offer_says laws i start readers played s t by m order lines IsClosed b is h may e o = record { said = offers_none order m _ lines is (λ g. refl) o.0; after = o.1 }
-offer_says laws i start readers played s t by m order lines IsStale b is h may e o = record { said = offers_none order m _ lines is (λ g. refl) o.0; after = o.1 }
-offer_says laws i start readers played s t by m order lines IsUsedUp b is h may e o = record { said = offers_none order m _ lines is (λ g. refl) o.0; after = o.1 }
-offer_says laws i start readers played s t by m order lines IsLimited b is h may e o = record { said = offers_none order m _ lines is (λ g. refl) o.0; after = o.1 }
-offer_says laws i start readers played s t by m order lines Fits b is h may e o = record { said = offer_fits laws i start readers played s by m order lines b is h may e o.0; after = o.1 }
-offer_says laws i start readers played s t by m order lines Trips b is h may e o = record { said = offers_none order m _ lines is (λ g. refl) o.0; after = o.1 }
+offer_says : Laws → (i : Identity) (start readers : ℕ) (played : List Played) (s t : ScriptState) (by : ℕ) (m : List ℕ) (command : CommandContent) (lines : List LineContent) (c : Course) → Begins i start → OffersIt command m → IsSound i start readers played s → MayOffer s.log by m → course_of s.log (length m) ≡ c → Offered s by m (answer s.log (length m) c) lines t → OfferSays i played s by m command lines c t
+offer_says laws i start readers played s t by m command lines IsClosed b is h may e o = record { said = offers_none command m _ lines is (λ g. refl) o.0; after = o.1 }
+offer_says laws i start readers played s t by m command lines IsStale b is h may e o = record { said = offers_none command m _ lines is (λ g. refl) o.0; after = o.1 }
+offer_says laws i start readers played s t by m command lines IsUsedUp b is h may e o = record { said = offers_none command m _ lines is (λ g. refl) o.0; after = o.1 }
+offer_says laws i start readers played s t by m command lines IsLimited b is h may e o = record { said = offers_none command m _ lines is (λ g. refl) o.0; after = o.1 }
+offer_says laws i start readers played s t by m command lines Fits b is h may e o = record { said = offer_fits laws i start readers played s by m command lines b is h may e o.0; after = o.1 }
+offer_says laws i start readers played s t by m command lines Trips b is h may e o = record { said = offers_none command m _ lines is (λ g. refl) o.0; after = o.1 }
 
-pub offer_line : Laws → (i : Identity) (start readers : ℕ) (played : List Played) (s t : ScriptState) (by most size : ℕ) (m : List ℕ) (order : Order) (lines : List LineContent) → Begins i start → IsQuiet order lines → OffersIt order m → IsSound i start readers played s → MayNotTake s by most size lines t ⊎ OffersMessage s by m lines t → IsSound i start readers (and_line played order lines) t
-offer_line laws i start readers played s t by most size m order lines b quiet is h (inl bad) =
-    same_state i start readers played order lines s t quiet (offers_none order m Bad lines is (λ g. refl) bad.1.0) bad.1.1 h
-offer_line laws i start readers played s t by most size m order lines b quiet is h (inr o) =
+pub offer_line : Laws → (i : Identity) (start readers : ℕ) (played : List Played) (s t : ScriptState) (by most size : ℕ) (m : List ℕ) (command : CommandContent) (lines : List LineContent) → Begins i start → IsQuiet command lines → OffersIt command m → IsSound i start readers played s → MayNotTake s by most size lines t ⊎ OffersMessage s by m lines t → IsSound i start readers (and_line played command lines) t
+offer_line laws i start readers played s t by most size m command lines b quiet is h (inl bad) =
+    same_state i start readers played command lines s t quiet (offers_none command m Bad lines is (λ g. refl) bad.1.0) bad.1.1 h
+offer_line laws i start readers played s t by most size m command lines b quiet is h (inr o) =
     let c = course_of s.log (length m) in
-    let says = offer_says laws i start readers played s t by m order lines c b is h o.0 refl o.2 in
-    subst (λ x. IsSound i start readers (and_line played order lines) x) (sym says.after)
-    (taken_line laws i start readers played s by (length m) (offered_log s.log by m) order lines c b quiet h (record { legal = o.0.legal; publisher = o.0.publisher; short = o.0.short }) refl says.said)
+    let says = offer_says laws i start readers played s t by m command lines c b is h o.0 refl o.2 in
+    subst (λ x. IsSound i start readers (and_line played command lines) x) (sym says.after)
+    (taken_line laws i start readers played s by (length m) (offered_log s.log by m) command lines c b quiet h (record { legal = o.0.legal; publisher = o.0.publisher; short = o.0.short }) refl says.said)
 
 -- ---- a claim
 
@@ -251,13 +252,13 @@ claims_free i start readers played s claims h = record {
   reading = h.reading;
 }
 
-claims_none : (by size : ℕ) (line : LineContent) (lines : List LineContent) → claims_in size line ≡ [] → lines ≡ line ∷ [] → SaysNoRange (orders.Claim by size) lines
+claims_none : (by size : ℕ) (line : LineContent) (lines : List LineContent) → claims_in size line ≡ [] → lines ≡ line ∷ [] → SaysNoRange (commands.Claim by size) lines
 claims_none by size line lines none e g ranges = ap (λ ls. ranges ++ flat_map (claims_in size) ls) e ∙ ap (λ xs. ranges ++ (xs ++ [])) none ∙ append-nil ranges
 
 abbrev claimed_log : Log → ℕ → ℕ → Log
 claimed_log l by size = logs.with_claim (added l by (l.active % 3) (covered l size)) by false size
 
-claim_fits : (i : Identity) (start readers : ℕ) (played : List Played) (s : ScriptState) (by size : ℕ) (lines : List LineContent) → IsSound i start readers played s → MayClaim s.log by size → course_of s.log size ≡ Fits → lines ≡ content.Claimed s.log.tail (s.log.tail + covered s.log size) ∷ [] → FitsSo i played s (claimed_log s.log by size) (orders.Claim by size) lines
+claim_fits : (i : Identity) (start readers : ℕ) (played : List Played) (s : ScriptState) (by size : ℕ) (lines : List LineContent) → IsSound i start readers played s → MayClaim s.log by size → course_of s.log size ≡ Fits → lines ≡ content.Claimed s.log.tail (s.log.tail + covered s.log size) ∷ [] → FitsSo i played s (claimed_log s.log by size) (commands.Claim by size) lines
 claim_fits i start readers played s by size lines h may e line =
     let g = s.log.identity.geometry in
     let end = s.log.tail + covered s.log size in
@@ -272,13 +273,13 @@ claim_fits i start readers played s by size lines h may e line =
         start = refl;
         consumers = refl;
       };
-      matches = added_matches i start readers played s (orders.Claim by size) lines (claim_of g s.log.tail by false size) (claimed_at s.log.tail end size)
+      matches = added_matches i start readers played s (commands.Claim by size) lines (claim_of g s.log.tail by false size) (claimed_at s.log.tail end size)
           (λ ranges. ap (λ ls. ranges ++ flat_map (claims_in size) ls) line)
           (subst (λ xs. SameRange (open_entry s.log.tail by false xs []) (claimed_at s.log.tail end size)) (sym cuts) (same_claimed s.log.tail by size end (ap (λ n. s.log.tail + n) covers))) h;
     }
 
 record ClaimSays (i : Identity) (played : List Played) (s : ScriptState) (by size : ℕ) (lines : List LineContent) (c : Course) (t : ScriptState) : Type 0 where
-  said : Said i played s (claimed_log s.log by size) (orders.Claim by size) lines c
+  said : Said i played s (claimed_log s.log by size) (commands.Claim by size) lines c
   claims : List (Option Claimed)
   after : t ≡ record (with_log s (after_claim s.log by size)) { claims = claims }
 
@@ -290,17 +291,17 @@ claim_says i start readers played s t by size lines IsLimited h may e o = record
 claim_says i start readers played s t by size lines Fits h may e o = record { said = claim_fits i start readers played s by size lines h may e o.0; claims = slice_set s.claims by (Some (claim_at s.log by size)); after = o.1 }
 claim_says i start readers played s t by size lines Trips h may e o = record { said = claims_none by size _ lines refl o.0; claims = s.claims; after = o.1 }
 
-pub claim_line : Laws → (i : Identity) (start readers : ℕ) (played : List Played) (s t : ScriptState) (by most size : ℕ) (lines : List LineContent) → Begins i start → IsSound i start readers played s → MayNotTake s by most size lines t ⊎ ClaimsRange s by size lines t → IsSound i start readers (and_line played (orders.Claim by size) lines) t
+pub claim_line : Laws → (i : Identity) (start readers : ℕ) (played : List Played) (s t : ScriptState) (by most size : ℕ) (lines : List LineContent) → Begins i start → IsSound i start readers played s → MayNotTake s by most size lines t ⊎ ClaimsRange s by size lines t → IsSound i start readers (and_line played (commands.Claim by size) lines) t
 claim_line laws i start readers played s t by most size lines b h (inl bad) =
-    same_state i start readers played (orders.Claim by size) lines s t (record { joins = λ k. refl; polls = λ k. refl; reads = λ k. refl }) (claims_none by size Bad lines refl bad.1.0) bad.1.1 h
+    same_state i start readers played (commands.Claim by size) lines s t (record { joins = λ k. refl; polls = λ k. refl; reads = λ k. refl }) (claims_none by size Bad lines refl bad.1.0) bad.1.1 h
 claim_line laws i start readers played s t by most size lines b h (inr o) =
     let c = course_of s.log size in
-    let order = orders.Claim by size in
+    let command = commands.Claim by size in
     let says = claim_says i start readers played s t by size lines c h o.0 refl o.2 in
     let short : size ≤ max_message s.log.identity.geometry = message_short s.log.identity.geometry size h.sending.legal o.0.short in
-    subst (λ x. IsSound i start readers (and_line played order lines) x) (sym says.after)
-    (claims_free i start readers (and_line played order lines) (with_log s (after_claim s.log by size)) says.claims
-    (taken_line laws i start readers played s by size (claimed_log s.log by size) order lines c b (record { joins = λ k. refl; polls = λ k. refl; reads = λ k. refl }) h (record { legal = o.0.legal; publisher = o.0.publisher; short = short }) refl says.said))
+    subst (λ x. IsSound i start readers (and_line played command lines) x) (sym says.after)
+    (claims_free i start readers (and_line played command lines) (with_log s (after_claim s.log by size)) says.claims
+    (taken_line laws i start readers played s by size (claimed_log s.log by size) command lines c b (record { joins = λ k. refl; polls = λ k. refl; reads = λ k. refl }) h (record { legal = o.0.legal; publisher = o.0.publisher; short = short }) refl says.said))
 
 -- ---- a claim's commit or abort
 
@@ -376,34 +377,34 @@ aborts_claim s c holds k =
       refl,
     ))
 
-bad_commit : (by : ℕ) (lines : List LineContent) → lines ≡ Bad ∷ [] → SaysNoRange (orders.Commit by) lines
+bad_commit : (by : ℕ) (lines : List LineContent) → lines ≡ Bad ∷ [] → SaysNoRange (commands.Commit by) lines
 bad_commit by lines e g ranges = ap (λ ls. fold filled_by ranges ls) e
 
-pub commit_line : Laws → (i : Identity) (start readers : ℕ) (played : List Played) (s t : ScriptState) (by : ℕ) (lines : List LineContent) → Begins i start → IsSound i start readers played s → HasNoClaim s by lines t ⊎ CommitsClaim s by lines t → IsSound i start readers (and_line played (orders.Commit by) lines) t
+pub commit_line : Laws → (i : Identity) (start readers : ℕ) (played : List Played) (s t : ScriptState) (by : ℕ) (lines : List LineContent) → Begins i start → IsSound i start readers played s → HasNoClaim s by lines t ⊎ CommitsClaim s by lines t → IsSound i start readers (and_line played (commands.Commit by) lines) t
 commit_line laws i start readers played s t by lines b h (inl bad) =
-    same_state i start readers played (orders.Commit by) lines s t (record { joins = λ k. refl; polls = λ k. refl; reads = λ k. refl }) (bad_commit by lines bad.1.0) bad.1.1 h
+    same_state i start readers played (commands.Commit by) lines s t (record { joins = λ k. refl; polls = λ k. refl; reads = λ k. refl }) (bad_commit by lines bad.1.0) bad.1.1 h
 commit_line laws i start readers played s t by lines b h (inr m) =
     let c = m.0 in
-    let order = orders.Commit by in
+    let command = commands.Commit by in
     let l = with_commit s.log c (filling c) in
     let all = holds laws i start readers played s b h in
     let k = is_kept s by c m.1 in
     let ranges = visible.published i.geometry played in
-    let line : visible.published i.geometry (and_line played order lines) ≡ map (filled_at (c.start + aligned (c.size + 32))) ranges = published_more i.geometry played order lines ∙ ap (λ ls. fold filled_by ranges ls) m.2 in
-    let matches : Matches (s.past ++ l.entries) (visible.published i.geometry (and_line played order lines)) =
-    subst (λ es. Matches es (visible.published i.geometry (and_line played order lines))) (sym (committed_entries s c all k))
+    let line : visible.published i.geometry (and_line played command lines) ≡ map (filled_at (c.start + aligned (c.size + 32))) ranges = published_more i.geometry played command lines ∙ ap (λ ls. fold filled_by ranges ls) m.2 in
+    let matches : Matches (s.past ++ l.entries) (visible.published i.geometry (and_line played command lines)) =
+    subst (λ es. Matches es (visible.published i.geometry (and_line played command lines))) (sym (committed_entries s c all k))
     (subst (Matches (map (with_frame c.start (filling c)) (entries_of s))) (sym line)
     (matches_commit s.log.identity.geometry.term_length s.log.start s.log.tail (entries_of s) ranges c.start c.owner c.size all.tiles all.entries k.among h.matches)) in
-    subst (λ x. IsSound i start readers (and_line played order lines) x) (sym m.3)
-    (claims_free i start readers (and_line played order lines) (with_log s l) (slice_set s.claims by None)
-    (log_line i start readers played order lines s s.past l (record { joins = λ k. refl; polls = λ k. refl; reads = λ k. refl }) (record { goes = commits_claim s c all k; identity = refl; start = refl; consumers = refl }) matches h))
+    subst (λ x. IsSound i start readers (and_line played command lines) x) (sym m.3)
+    (claims_free i start readers (and_line played command lines) (with_log s l) (slice_set s.claims by None)
+    (log_line i start readers played command lines s s.past l (record { joins = λ k. refl; polls = λ k. refl; reads = λ k. refl }) (record { goes = commits_claim s c all k; identity = refl; start = refl; consumers = refl }) matches h))
 
-pub abort_line : Laws → (i : Identity) (start readers : ℕ) (played : List Played) (s t : ScriptState) (by : ℕ) (lines : List LineContent) → Begins i start → IsSound i start readers played s → HasNoClaim s by lines t ⊎ AbortsClaim s by lines t → IsSound i start readers (and_line played (orders.Abort by) lines) t
+pub abort_line : Laws → (i : Identity) (start readers : ℕ) (played : List Played) (s t : ScriptState) (by : ℕ) (lines : List LineContent) → Begins i start → IsSound i start readers played s → HasNoClaim s by lines t ⊎ AbortsClaim s by lines t → IsSound i start readers (and_line played (commands.Abort by) lines) t
 abort_line laws i start readers played s t by lines b h (inl bad) =
-    same_state i start readers played (orders.Abort by) lines s t (record { joins = λ k. refl; polls = λ k. refl; reads = λ k. refl }) (λ g ranges. refl) bad.1.1 h
+    same_state i start readers played (commands.Abort by) lines s t (record { joins = λ k. refl; polls = λ k. refl; reads = λ k. refl }) (λ g ranges. refl) bad.1.1 h
 abort_line laws i start readers played s t by lines b h (inr m) =
     let c = m.0 in
-    let order = orders.Abort by in
+    let command = commands.Abort by in
     let l = with_abort s.log c in
     let all = holds laws i start readers played s b h in
     let k = is_kept s by c m.1 in
@@ -411,9 +412,9 @@ abort_line laws i start readers played s t by lines b h (inr m) =
     let matches : Matches (s.past ++ l.entries) ranges =
     subst (λ es. Matches es ranges) (sym (aborted_entries s c all k))
     (matches_abort s.log.identity.geometry.term_length s.log.start s.log.tail (entries_of s) ranges c.start c.owner c.size all.tiles all.entries k.among h.matches) in
-    subst (λ x. IsSound i start readers (and_line played order lines) x) (sym m.3)
-    (claims_free i start readers (and_line played order lines) (with_log s l) (slice_set s.claims by None)
-    (log_line i start readers played order lines s s.past l (record { joins = λ k. refl; polls = λ k. refl; reads = λ k. refl }) (record { goes = aborts_claim s c all k; identity = refl; start = refl; consumers = refl }) (matches_stay i.geometry played order lines (s.past ++ l.entries) (λ g rs. refl) matches) h))
+    subst (λ x. IsSound i start readers (and_line played command lines) x) (sym m.3)
+    (claims_free i start readers (and_line played command lines) (with_log s l) (slice_set s.claims by None)
+    (log_line i start readers played command lines s s.past l (record { joins = λ k. refl; polls = λ k. refl; reads = λ k. refl }) (record { goes = aborts_claim s c all k; identity = refl; start = refl; consumers = refl }) (matches_stay i.geometry played command lines (s.past ++ l.entries) (λ g rs. refl) matches) h))
 
 -- ---- the sender
 
@@ -432,8 +433,8 @@ record IsSenderNext (i : Identity) (s t : ScriptState) (x : Sender) (wires : Lis
 abbrev sender_scene : ScriptState → Sender → Naming → List Wire → ScriptState
 sender_scene s x naming wires = record (given_out s wires) { log = record s.log { consumers = x.at ∷ map (λ c. c.at) s.readers }; sender = x; naming = naming }
 
-sender_line : (i : Identity) (start readers : ℕ) (played : List Played) (order : Order) (lines : List LineContent) (s : ScriptState) (x : Sender) (naming : Naming) (wires : List Wire) → IsQuiet order lines → SaysNoRange order lines → IsSenderNext i s (sender_scene s x naming wires) x wires → IsSound i start readers played s → IsSound i start readers (and_line played order lines) (sender_scene s x naming wires)
-sender_line i start readers played order lines s x naming wires quiet none n h =
+sender_line : (i : Identity) (start readers : ℕ) (played : List Played) (command : CommandContent) (lines : List LineContent) (s : ScriptState) (x : Sender) (naming : Naming) (wires : List Wire) → IsQuiet command lines → SaysNoRange command lines → IsSenderNext i s (sender_scene s x naming wires) x wires → IsSound i start readers played s → IsSound i start readers (and_line played command lines) (sender_scene s x naming wires)
+sender_line i start readers played command lines s x naming wires quiet none n h =
     let t = sender_scene s x naming wires in
     record {
       runs = goes_on (world_of (opened_state i start readers)) (world_of s) (world_of t) h.runs n.goes;
@@ -447,11 +448,11 @@ sender_line i start readers played order lines s x naming wires quiet none n h =
         setups = subst (λ y. AllByRecursion (λ p. p ≤ max_position y.geometry) x.setups) (sym h.identity) n.setups;
       };
       honest = all_append (IsHonest i x) s.packets (datagrams wires) (honest_more i s.sender x s.packets n.more n.named h.honest) (honest_wires i x wires n.frames n.given);
-      matches = matches_stay i.geometry played order lines (entries_of s) none h.matches;
+      matches = matches_stay i.geometry played command lines (entries_of s) none h.matches;
       eight = h.eight;
-      receivers = receivers_stay i played order lines s t (λ k. (quiet.joins k, quiet.polls k)) refl h.receivers;
+      receivers = receivers_stay i played command lines s t (λ k. (quiet.joins k, quiet.polls k)) refl h.receivers;
       seats = h.seats;
-      reading = readers_stay start readers played order lines s t quiet.reads refl h.reading;
+      reading = readers_stay start readers played command lines s t quiet.reads refl h.reading;
     }
 
 low_at : Laws → (i : Identity) (start readers : ℕ) (played : List Played) (s : ScriptState) → Begins i start → IsSound i start readers played s → s.sender.at ≤ max_position i.geometry
@@ -539,12 +540,12 @@ cycle_next laws i start readers played s now y b h c frames =
       setups = subst (λ xs. AllByRecursion (λ p. p ≤ most) xs) (sym (setups_on x y.frame)) (named_low z y.setup most low low_setups);
     }
 
-pub send_line : Laws → (i : Identity) (start readers : ℕ) (played : List Played) (s t : ScriptState) (now : ℕ) (lines : List LineContent) → Begins i start → IsSound i start readers played s → Sends s now lines t → IsSound i start readers (and_line played (orders.Send now) lines) t
+pub send_line : Laws → (i : Identity) (start readers : ℕ) (played : List Played) (s t : ScriptState) (now : ℕ) (lines : List LineContent) → Begins i start → IsSound i start readers played s → Sends s now lines t → IsSound i start readers (and_line played (commands.Send now) lines) t
 send_line laws i start readers played s t now lines b h m =
     let y = m.0 in
     let frames = cycle_framed laws i start readers s now y b m.1 h.runs h.identity in
-    subst (λ x. IsSound i start readers (and_line played (orders.Send now) lines) x) (sym m.3)
-    (sender_line i start readers played (orders.Send now) lines s (cycled s now y) (after_due s.naming (clock_at s now)) (wires_of s y) (record { joins = λ k. refl; polls = λ k. refl; reads = λ k. refl }) (λ g ranges. refl) (cycle_next laws i start readers played s now y b h m.1 frames) h)
+    subst (λ x. IsSound i start readers (and_line played (commands.Send now) lines) x) (sym m.3)
+    (sender_line i start readers played (commands.Send now) lines s (cycled s now y) (after_due s.naming (clock_at s now)) (wires_of s y) (record { joins = λ k. refl; polls = λ k. refl; reads = λ k. refl }) (λ g ranges. refl) (cycle_next laws i start readers played s now y b h m.1 frames) h)
 
 -- ---- what the sender is told
 
@@ -558,7 +559,7 @@ record IsAsBefore (s : ScriptState) (x : Sender) : Type 0 where
   sent : x.sent ≡ s.sender.sent
   setups : x.setups ≡ s.sender.setups
 
-told_line : (i : Identity) (start readers : ℕ) (played : List Played) (k now : ℕ) (lines : List LineContent) (s : ScriptState) (x : Sender) (naming : Naming) → IsAsBefore s x → Goes (world_of s) (world_of (record s { sender = x })) → IsSound i start readers played s → IsSound i start readers (and_line played (orders.Reply k now) lines) (record s { sender = x; naming = naming })
+told_line : (i : Identity) (start readers : ℕ) (played : List Played) (k now : ℕ) (lines : List LineContent) (s : ScriptState) (x : Sender) (naming : Naming) → IsAsBefore s x → Goes (world_of s) (world_of (record s { sender = x })) → IsSound i start readers played s → IsSound i start readers (and_line played (commands.Reply k now) lines) (record s { sender = x; naming = naming })
 told_line i start readers played k now lines s x naming same goes h =
     let t = record s { sender = x; naming = naming } in
     record {
@@ -573,20 +574,20 @@ told_line i start readers played k now lines s x naming same goes h =
         setups = subst (λ xs. AllByRecursion (λ p. p ≤ max_position s.log.identity.geometry) xs) (sym same.setups) h.sending.setups;
       };
       honest = honest_more i s.sender x s.packets (λ p a. subst (λ xs. Among p xs) (sym same.sent) a) (λ p a. subst (λ xs. Among p xs) (sym same.setups) a) h.honest;
-      matches = matches_stay i.geometry played (orders.Reply k now) lines (entries_of s) (λ g ranges. refl) h.matches;
+      matches = matches_stay i.geometry played (commands.Reply k now) lines (entries_of s) (λ g ranges. refl) h.matches;
       eight = h.eight;
-      receivers = receivers_stay i played (orders.Reply k now) lines s t (λ n. (refl, refl)) refl h.receivers;
+      receivers = receivers_stay i played (commands.Reply k now) lines s t (λ n. (refl, refl)) refl h.receivers;
       seats = h.seats;
-      reading = readers_stay start readers played (orders.Reply k now) lines s t (λ n. refl) refl h.reading;
+      reading = readers_stay start readers played (commands.Reply k now) lines s t (λ n. refl) refl h.reading;
     }
 
-asked_line : Laws → (i : Identity) (start readers : ℕ) (played : List Played) (k now : ℕ) (lines : List LineContent) (s : ScriptState) → Begins i start → IsSound i start readers played s → AreFrames (setup_at s.log.identity s.sender.at ∷ []) → IsSound i start readers (and_line played (orders.Reply k now) lines) (with_sender (given_out s (setup_at s.log.identity s.sender.at ∷ [])) (named (woken s now) true))
+asked_line : Laws → (i : Identity) (start readers : ℕ) (played : List Played) (k now : ℕ) (lines : List LineContent) (s : ScriptState) → Begins i start → IsSound i start readers played s → AreFrames (setup_at s.log.identity s.sender.at ∷ []) → IsSound i start readers (and_line played (commands.Reply k now) lines) (with_sender (given_out s (setup_at s.log.identity s.sender.at ∷ [])) (named (woken s now) true))
 asked_line laws i start readers played k now lines s b h frames =
     let x = named (woken s now) true in
     let wires = setup_at s.log.identity s.sender.at ∷ [] in
     let low = low_at laws i start readers played s b h in
-    subst (λ t. IsSound i start readers (and_line played (orders.Reply k now) lines) t) (told_scene s x s.naming wires h.consumers)
-    (sender_line i start readers played (orders.Reply k now) lines s x s.naming wires (record { joins = λ n. refl; polls = λ n. refl; reads = λ n. refl }) (λ g ranges. refl) (record {
+    subst (λ t. IsSound i start readers (and_line played (commands.Reply k now) lines) t) (told_scene s x s.naming wires h.consumers)
+    (sender_line i start readers played (commands.Reply k now) lines s x s.naming wires (record { joins = λ n. refl; polls = λ n. refl; reads = λ n. refl }) (λ g ranges. refl) (record {
       goes = asked s now;
       more = λ p a. a;
       named = λ p a. inr a;
@@ -597,19 +598,19 @@ asked_line laws i start readers played k now lines s b h frames =
       setups = (low, subst (λ y. AllByRecursion (λ p. p ≤ max_position y.geometry) s.sender.setups) h.identity h.sending.setups);
     }) h)
 
-hears_line : Laws → (i : Identity) (start readers : ℕ) (played : List Played) (k now : ℕ) (lines : List LineContent) (s t : ScriptState) (news : NewsContent) → Begins i start → IsSound i start readers played s → SenderHears s now news lines t → IsSound i start readers (and_line played (orders.Reply k now) lines) t
+hears_line : Laws → (i : Identity) (start readers : ℕ) (played : List Played) (k now : ℕ) (lines : List LineContent) (s t : ScriptState) (news : NewsContent) → Begins i start → IsSound i start readers played s → SenderHears s now news lines t → IsSound i start readers (and_line played (commands.Reply k now) lines) t
 hears_line laws i start readers played k now lines s t (Says f) b h m =
-    subst (λ x. IsSound i start readers (and_line played (orders.Reply k now) lines) x) (sym m.1) (told_line i start readers played k now lines s (heard s now f) (record s.naming { heard = true }) (record { at = refl; sent = refl; setups = refl }) (hears s now f) h)
+    subst (λ x. IsSound i start readers (and_line played (commands.Reply k now) lines) x) (sym m.1) (told_line i start readers played k now lines s (heard s now f) (record s.naming { heard = true }) (record { at = refl; sent = refl; setups = refl }) (hears s now f) h)
 hears_line laws i start readers played k now lines s t AsksSetup b h m =
-    subst (λ x. IsSound i start readers (and_line played (orders.Reply k now) lines) x) (sym m.1) (asked_line laws i start readers played k now lines s b h (setup_framed s.log.identity s.sender.at h.sending.legal (subst IsIdentity (sym h.identity) b.identity), tt))
+    subst (λ x. IsSound i start readers (and_line played (commands.Reply k now) lines) x) (sym m.1) (asked_line laws i start readers played k now lines s b h (setup_framed s.log.identity s.sender.at h.sending.legal (subst IsIdentity (sym h.identity) b.identity), tt))
 hears_line laws i start readers played k now lines s t TellsNothing b h m =
-    subst (λ x. IsSound i start readers (and_line played (orders.Reply k now) lines) x) (sym m.1) (told_line i start readers played k now lines s (woken s now) s.naming (record { at = refl; sent = refl; setups = refl }) (sees (world_of s) now) h)
+    subst (λ x. IsSound i start readers (and_line played (commands.Reply k now) lines) x) (sym m.1) (told_line i start readers played k now lines s (woken s now) s.naming (record { at = refl; sent = refl; setups = refl }) (sees (world_of s) now) h)
 hears_line laws i start readers played k now lines s t (Unreadable fault) b h m =
-    subst (λ x. IsSound i start readers (and_line played (orders.Reply k now) lines) x) (sym m.1) (told_line i start readers played k now lines s (woken s now) s.naming (record { at = refl; sent = refl; setups = refl }) (sees (world_of s) now) h)
+    subst (λ x. IsSound i start readers (and_line played (commands.Reply k now) lines) x) (sym m.1) (told_line i start readers played k now lines s (woken s now) s.naming (record { at = refl; sent = refl; setups = refl }) (sees (world_of s) now) h)
 
-pub missing_line : (i : Identity) (start readers : ℕ) (played : List Played) (order : Order) (k : ℕ) (lines : List LineContent) (s t : ScriptState) → IsQuiet order lines → SaysNoRange order lines → IsSound i start readers played s → IsMissing s k lines t → IsSound i start readers (and_line played order lines) t
-missing_line i start readers played order k lines s t quiet none h m = same_state i start readers played order lines s t quiet none m.2 h
+pub missing_line : (i : Identity) (start readers : ℕ) (played : List Played) (command : CommandContent) (k : ℕ) (lines : List LineContent) (s t : ScriptState) → IsQuiet command lines → SaysNoRange command lines → IsSound i start readers played s → IsMissing s k lines t → IsSound i start readers (and_line played command lines) t
+missing_line i start readers played command k lines s t quiet none h m = same_state i start readers played command lines s t quiet none m.2 h
 
-pub reply_line : Laws → (i : Identity) (start readers : ℕ) (played : List Played) (k now : ℕ) (lines : List LineContent) (s t : ScriptState) → Begins i start → IsSound i start readers played s → IsMissing s k lines t ⊎ Replied s k now lines t → IsSound i start readers (and_line played (orders.Reply k now) lines) t
-reply_line laws i start readers played k now lines s t b h (inl m) = missing_line i start readers played (orders.Reply k now) k lines s t (record { joins = λ n. refl; polls = λ n. refl; reads = λ n. refl }) (λ g ranges. refl) h m
+pub reply_line : Laws → (i : Identity) (start readers : ℕ) (played : List Played) (k now : ℕ) (lines : List LineContent) (s t : ScriptState) → Begins i start → IsSound i start readers played s → IsMissing s k lines t ⊎ Replied s k now lines t → IsSound i start readers (and_line played (commands.Reply k now) lines) t
+reply_line laws i start readers played k now lines s t b h (inl m) = missing_line i start readers played (commands.Reply k now) k lines s t (record { joins = λ n. refl; polls = λ n. refl; reads = λ n. refl }) (λ g ranges. refl) h m
 reply_line laws i start readers played k now lines s t b h (inr m) = hears_line laws i start readers played k now lines s t m.1 b h m.4

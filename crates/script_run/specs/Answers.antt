@@ -8,7 +8,7 @@ use Rattle.theory.specs.Consumer.{Consumer, moved}
 use Rattle.theory.specs.Entry.{committed}
 use Rattle.theory.specs.Control.{setup_at}
 use Rattle.theory.specs.FlowLimit.{flow_limit}
-use Rattle.theory.specs.Sender.{Sender}
+use Rattle.model.specs.Sender.{Sender}
 use Rattle.theory.specs.Timing.{seen}
 use Rattle.term_buffer.specs.declared.claimed.Claimed.{Claimed}
 use Rattle.log_buffer.specs.Log.{IsHeld, IsLog, Log, with_abort, with_commit}
@@ -17,8 +17,8 @@ use Rattle.publication.specs.Claims.{claim_at}
 use Rattle.publication.specs.Offers.{after_claim, after_offer, answer_of}
 use Rattle.publication.specs.declared.refusal.Refusal.{Refusal}
 use Rattle.setup.specs.Naming.{after_due, is_due}
-use Rattle.script.specs.Meaning as orders
-use Rattle.script.specs.Meaning.{Order}
+use Rattle.script.specs.Meaning as commands
+use Rattle.script.specs.Meaning.{CommandContent}
 use Rattle.receiver.specs.declared.receiver_core.Outcome.{Outcome}
 use Rattle.sender.specs.declared.sender_core.SenderAnswer.TheVariants as answers
 use Rattle.sender.specs.Cycling.{Cycle, IsNews, IsNextSent, NewsContent, Says, AsksSetup, TellsNothing, Unreadable, datagrams, sent_wires}
@@ -256,20 +256,20 @@ TellsBy old i lines new = (told : Option Positions) × (r : Receiver) × (slice_
 
 -- ---- a line of a script
 
-abbrev pub Answers : ScriptState → Order → List LineContent → ScriptState → Type 0
-Answers old orders.Connect lines new = (lines ≡ Done ∷ []) × (new ≡ with_log old (record old.log { connected = true }))
-Answers old orders.Disconnect lines new = (lines ≡ Done ∷ []) × (new ≡ with_log old (record old.log { connected = false }))
-Answers old orders.Close lines new = (lines ≡ Done ∷ []) × (new ≡ with_log old (record old.log { closed = true }))
-Answers old orders.Limit lines new = Limits old lines new
-Answers old (orders.Offer by message) lines new = MayNotTake old by (max_message old.log.identity.geometry) (length message) lines new ⊎ OffersMessage old by message lines new
-Answers old (orders.OfferSize by size) lines new = MayNotTake old by (max_message old.log.identity.geometry) size lines new ⊎ OffersMessage old by (replicate size 97) lines new
-Answers old (orders.Claim by size) lines new = MayNotTake old by (max_payload old.log.identity.geometry) size lines new ⊎ ClaimsRange old by size lines new
-Answers old (orders.Commit by) lines new = HasNoClaim old by lines new ⊎ CommitsClaim old by lines new
-Answers old (orders.Abort by) lines new = HasNoClaim old by lines new ⊎ AbortsClaim old by lines new
-Answers old (orders.Read r) lines new = HasNoReader old r lines new ⊎ (ReadsNothing old r lines new ⊎ ReadsFrame old r lines new)
-Answers old (orders.Send now) lines new = Sends old now lines new
-Answers old (orders.Deliver k i now) lines new = IsMissing old k lines new ⊎ Delivered old k i now lines new
-Answers old (orders.Tick i now) lines new = Ticks old i now lines new
-Answers old (orders.Reply k now) lines new = IsMissing old k lines new ⊎ Replied old k now lines new
-Answers old (orders.Poll i) lines new = PollsBy old i lines new
-Answers old (orders.Image i) lines new = TellsBy old i lines new
+abbrev pub Answers : ScriptState → CommandContent → List LineContent → ScriptState → Type 0
+Answers old commands.Connect lines new = (lines ≡ Done ∷ []) × (new ≡ with_log old (record old.log { connected = true }))
+Answers old commands.Disconnect lines new = (lines ≡ Done ∷ []) × (new ≡ with_log old (record old.log { connected = false }))
+Answers old commands.Close lines new = (lines ≡ Done ∷ []) × (new ≡ with_log old (record old.log { closed = true }))
+Answers old commands.Limit lines new = Limits old lines new
+Answers old (commands.Offer by message) lines new = MayNotTake old by (max_message old.log.identity.geometry) (length message) lines new ⊎ OffersMessage old by message lines new
+Answers old (commands.OfferSize by size) lines new = MayNotTake old by (max_message old.log.identity.geometry) size lines new ⊎ OffersMessage old by (replicate size 97) lines new
+Answers old (commands.Claim by size) lines new = MayNotTake old by (max_payload old.log.identity.geometry) size lines new ⊎ ClaimsRange old by size lines new
+Answers old (commands.Commit by) lines new = HasNoClaim old by lines new ⊎ CommitsClaim old by lines new
+Answers old (commands.Abort by) lines new = HasNoClaim old by lines new ⊎ AbortsClaim old by lines new
+Answers old (commands.Read r) lines new = HasNoReader old r lines new ⊎ (ReadsNothing old r lines new ⊎ ReadsFrame old r lines new)
+Answers old (commands.Send now) lines new = Sends old now lines new
+Answers old (commands.Deliver k i now) lines new = IsMissing old k lines new ⊎ Delivered old k i now lines new
+Answers old (commands.Tick i now) lines new = Ticks old i now lines new
+Answers old (commands.Reply k now) lines new = IsMissing old k lines new ⊎ Replied old k now lines new
+Answers old (commands.Poll i) lines new = PollsBy old i lines new
+Answers old (commands.Image i) lines new = TellsBy old i lines new

@@ -6,7 +6,7 @@ use Rattle.theory.specs.Bytes.{Identity, IsIdentity}
 use Rattle.theory.specs.Tiling.{share_of}
 use Rattle.position.specs.declared.fault.GeometryError.TheVariants.{TermLength, Mtu}
 use Rattle.log_buffer.specs.declared.fault.LogError.TheVariants.{Start}
-use Rattle.script.specs.Meaning.{Opening, Told}
+use Rattle.script.specs.Meaning.{Opening, ScriptContent}
 use Rattle.script_run.specs.Answers.{Answers}
 use Rattle.script_run.specs.LineContents.{LineContent, Open, BadGeometry, BadLog, Shares}
 use Rattle.script_run.specs.Published.{Played, PolledPrefix, ReadPrefix}
@@ -15,7 +15,7 @@ use Rattle.script_run.specs.ScriptState.{ScriptState, entries_of, opened_state}
 -- the lines one after the other
 abbrev pub AnswersAll : ScriptState → List Played → ScriptState → Type 0
 AnswersAll old [] new = new ≡ old
-AnswersAll old (p ∷ ps) new = (mid : ScriptState) × Answers old p.order p.lines mid × AnswersAll mid ps new
+AnswersAll old (p ∷ ps) new = (mid : ScriptState) × Answers old p.command p.lines mid × AnswersAll mid ps new
 
 abbrev pub geometry_of : Opening → Geometry
 geometry_of o = record { term_length = o.term_length; mtu = o.mtu; initial_term_id = o.initial_term_id }
@@ -35,11 +35,11 @@ pub record PrintsBook (s : ScriptState) (line : LineContent) : Type 0 where
   pub shown : line ≡ Shares s.log.start s.log.tail shares
 
 -- the log opens: each line of the script is answered in turn, and the book ends the output. After each line, what the polls of a receiver printed is what was published between its join and its position, and what an assembler gives of the frames that a reader showed is what was published up to its position
-pub record IsOutputOfRun (script : Told) (lines : List LineContent) : Type 0 where
+pub record IsOutputOfRun (script : ScriptContent) (lines : List LineContent) : Type 0 where
   pub legal : IsGeometry (geometry_of script.log)
   pub starts : IsStart script.log
   pub played : List Played
-  pub orders : map (λ p. p.order) played ≡ script.orders
+  pub commands : map (λ p. p.command) played ≡ script.commands
   pub last : ScriptState
   pub answered : AnswersAll (opened_state (identity_of script.log) script.log.start script.log.readers) played last
   pub book : LineContent
@@ -55,7 +55,7 @@ HasFault o lines =
     ⊎ ((IsTermLength o.term_length × (¬ IsMtu o.term_length o.mtu) × (lines ≡ BadGeometry Mtu ∷ []))
     ⊎ (IsGeometry (geometry_of o) × (¬ IsStart o) × (lines ≡ BadLog Start ∷ [])))
 
-abbrev pub IsOutputOf : Told → List LineContent → Type 0
+abbrev pub IsOutputOf : ScriptContent → List LineContent → Type 0
 IsOutputOf script lines = HasFault script.log lines ⊎ IsOutputOfRun script lines
 
 -- whatever is answered, the shares are those of all entries

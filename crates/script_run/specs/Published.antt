@@ -5,8 +5,8 @@ use Rattle.std.specs.List.{filter, flat_map, sum_by, AllByRecursion}
 use Rattle.theory.specs.Position.{Geometry, aligned, framed_length}
 use Rattle.theory.specs.Placed.{Data, Frame, Pad, frame_length}
 use Rattle.theory.specs.Assembly.{after_all, nothing_heard}
-use Rattle.script.specs.Meaning as orders
-use Rattle.script.specs.Meaning.{Order}
+use Rattle.script.specs.Meaning as commands
+use Rattle.script.specs.Meaning.{CommandContent}
 use Rattle.receiver.specs.declared.receiver_core.Outcome.{Outcome}
 use Rattle.receiver.specs.declared.receiver_core.Outcome.TheVariants as outcomes
 use Rattle.script_run.specs.LineContents as content
@@ -14,7 +14,7 @@ use Rattle.script_run.specs.LineContents.{LineContent}
 
 -- a line of a script, and what it printed
 pub record Played : Type 0 where
-  pub order : Order
+  pub command : CommandContent
   pub lines : List LineContent
 
 -- a range of the stream that a line took for a message of so many bytes, and the message once it is committed
@@ -61,12 +61,12 @@ joins_in (content.OfReceiver outcome) = joins_of outcome
 joins_in line = []
 
 -- the ranges behind a line: an offer that was accepted or a claim takes one more, a commit fills its own
-abbrev pub ranges_after : Geometry → List Range → Order → List LineContent → List Range
-ranges_after g ranges (orders.Offer by message) lines = ranges ++ flat_map (offers_in g message) lines
-ranges_after g ranges (orders.OfferSize by size) lines = ranges ++ flat_map (offers_in g (replicate size 97)) lines
-ranges_after g ranges (orders.Claim by size) lines = ranges ++ flat_map (claims_in size) lines
-ranges_after g ranges (orders.Commit by) lines = fold filled_by ranges lines
-ranges_after g ranges order lines = ranges
+abbrev pub ranges_after : Geometry → List Range → CommandContent → List LineContent → List Range
+ranges_after g ranges (commands.Offer by message) lines = ranges ++ flat_map (offers_in g message) lines
+ranges_after g ranges (commands.OfferSize by size) lines = ranges ++ flat_map (offers_in g (replicate size 97)) lines
+ranges_after g ranges (commands.Claim by size) lines = ranges ++ flat_map (claims_in size) lines
+ranges_after g ranges (commands.Commit by) lines = fold filled_by ranges lines
+ranges_after g ranges command lines = ranges
 
 -- the frame that a line of a reader shows
 abbrev pub frames_in : LineContent → List Frame
@@ -75,30 +75,30 @@ frames_in (content.FramePad start frame_length) = Pad frame_length ∷ []
 frames_in line = []
 
 -- what is said of a reader where the line is one of its own
-abbrev pub read_by : ℕ → Order → List LineContent → List Frame
-read_by r (orders.Read number) lines = if nat_eq number r then flat_map frames_in lines else []
-read_by r order lines = []
+abbrev pub read_by : ℕ → CommandContent → List LineContent → List Frame
+read_by r (commands.Read number) lines = if nat_eq number r then flat_map frames_in lines else []
+read_by r command lines = []
 
 -- what is said of a receiver where the line is one of its own
-abbrev pub polled_by : ℕ → Order → List LineContent → List (List ℕ)
-polled_by i (orders.Poll number) lines = if nat_eq number i then flat_map messages_in lines else []
-polled_by i order lines = []
+abbrev pub polled_by : ℕ → CommandContent → List LineContent → List (List ℕ)
+polled_by i (commands.Poll number) lines = if nat_eq number i then flat_map messages_in lines else []
+polled_by i command lines = []
 
-abbrev pub joined_by : ℕ → Order → List LineContent → List ℕ
-joined_by i (orders.Deliver k number now) lines = if nat_eq number i then flat_map joins_in lines else []
-joined_by i order lines = []
+abbrev pub joined_by : ℕ → CommandContent → List LineContent → List ℕ
+joined_by i (commands.Deliver k number now) lines = if nat_eq number i then flat_map joins_in lines else []
+joined_by i command lines = []
 
 -- no poll of the receiver printed a fault of its assembler
-abbrev pub IsWhole : ℕ → Order → List LineContent → Type 0
-IsWhole i (orders.Poll number) lines = number ≡ i → AllByRecursion (λ line. is_fault line ≡ false) lines
-IsWhole i order lines = ⊤
+abbrev pub IsWhole : ℕ → CommandContent → List LineContent → Type 0
+IsWhole i (commands.Poll number) lines = number ≡ i → AllByRecursion (λ line. is_fault line ≡ false) lines
+IsWhole i command lines = ⊤
 
 -- ---- of a whole script
 
 -- the ranges that lines took behind others
 abbrev pub ranges_behind : Geometry → List Range → List Played → List Range
 ranges_behind g ranges [] = ranges
-ranges_behind g ranges (p ∷ ps) = ranges_behind g (ranges_after g ranges p.order p.lines) ps
+ranges_behind g ranges (p ∷ ps) = ranges_behind g (ranges_after g ranges p.command p.lines) ps
 
 -- the messages of the offers that were accepted and of the claims that were committed, in the order of their positions
 abbrev pub published : Geometry → List Played → List Range
@@ -106,18 +106,18 @@ published g played = ranges_behind g [] played
 
 -- the frames that the lines of reader r showed
 abbrev pub read : ℕ → List Played → List Frame
-read r played = flat_map (λ p. read_by r p.order p.lines) played
+read r played = flat_map (λ p. read_by r p.command p.lines) played
 
 -- the messages that the polls of receiver i printed
 abbrev pub polled : ℕ → List Played → List (List ℕ)
-polled i played = flat_map (λ p. polled_by i p.order p.lines) played
+polled i played = flat_map (λ p. polled_by i p.command p.lines) played
 
 -- where its image was opened
 abbrev pub joins : ℕ → List Played → List ℕ
-joins i played = flat_map (λ p. joined_by i p.order p.lines) played
+joins i played = flat_map (λ p. joined_by i p.command p.lines) played
 
 abbrev pub AllWhole : ℕ → List Played → Type 0
-AllWhole i played = AllByRecursion (λ p. IsWhole i p.order p.lines) played
+AllWhole i played = AllByRecursion (λ p. IsWhole i p.command p.lines) played
 
 -- the messages that start at or after j and end at or before q
 abbrev pub between : ℕ → ℕ → List Range → List (List ℕ)
@@ -126,7 +126,7 @@ between j q ranges = flat_map (λ r. option_to_list r.message) (filter (λ r. na
 -- the last line was one of positions of receiver i, which named this least position
 abbrev pub LastTold : ℕ → ℕ → List Played → Type 0
 LastTold i least played =
-    (before : List Played) × (rebuilt : ℕ) × (high : ℕ) × (played ≡ before ++ record { order = orders.Image i; lines = content.Positions least rebuilt high ∷ [] } ∷ [])
+    (before : List Played) × (rebuilt : ℕ) × (high : ℕ) × (played ≡ before ++ record { command = commands.Image i; lines = content.Positions least rebuilt high ∷ [] } ∷ [])
 
 -- receiver i has no image yet, and printed no message
 abbrev pub PolledNothing : ℕ → List Played → Type 0

@@ -6,9 +6,9 @@ use Rattle.theory.specs.Position.{max_message}
 use Rattle.theory.specs.Entry.{Entry}
 use Rattle.theory.specs.Consumer.{Consumer, consumer_at}
 use Rattle.theory.specs.Image.{Image}
-use Rattle.theory.specs.Log as stream
-use Rattle.theory.specs.Sender.{Sender}
-use Rattle.theory.specs.World.{World, opened_sender}
+use Rattle.model.specs.Log as stream
+use Rattle.model.specs.Sender.{Sender}
+use Rattle.model.specs.World.{World, opened_sender}
 use Rattle.term_buffer.specs.declared.claimed.Claimed.{Claimed}
 use Rattle.log_buffer.specs.Log.{Log, fresh}
 use Rattle.setup.specs.Naming.{Naming}

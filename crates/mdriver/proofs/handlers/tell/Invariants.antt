@@ -1,7 +1,7 @@
 use Rattle.std.proofs.Common.{◌≡◌, ◌++◌, map, take}
-use Rattle.script_run.specs.LineContents.{OfReceiver, contents_of}
+use Rattle.script_run.specs.LineContents.{OfReceiver, line_contents}
 use Rattle.mdriver.proofs.handlers.tell.Given as goal
 
 -- the outcomes so far are told
 abbrev pub invariant-loop-outcome : goal.invariant-loop-outcome
-invariant-loop-outcome l = contents_of l.lines.items ≡ contents_of l.initial.lines.items ++ map OfReceiver (take l.outcome-index l.outcomes)
+invariant-loop-outcome l = line_contents l.lines.items ≡ line_contents l.initial.lines.items ++ map OfReceiver (take l.outcome-index l.outcomes)

@@ -4,11 +4,11 @@ use Rattle.log_buffer.specs.declared.fault.LogError.TheVariants.{Start}
 use Rattle.std.proofs.lemmas.Int.{to_z-of_z}
 use Rattle.std.proofs.lemmas.Result.{IfOk-weaker}
 use Rattle.theory.specs.Position.{Geometry, IsGeometry, max_position}
-use Rattle.script.specs.Meaning.{opening, orders, told}
+use Rattle.script.specs.Meaning.{opening, contents_of, script_content}
 use Rattle.script.specs.declared.command.Command.{Command}
 use Rattle.mdriver.specs.declared.line.Line.{Line}
 use Rattle.script_run.specs.Output.{geometry_of, identity_of}
-use Rattle.script_run.specs.LineContents.{contents_of}
+use Rattle.script_run.specs.LineContents.{line_contents}
 use Rattle.mdriver.specs.Staged.{RunsTo}
 use Rattle.mdriver.proofs.ScriptRuns.{refused_start, stage_plays}
 use Rattle.sender.proofs.SendLemmas.{same_identity}
@@ -17,7 +17,7 @@ use Rattle.mdriver.proofs.play.play.Goals as goal
 pub returns-in_ok-stage-in-Ok-open : goal.returns-in_ok-stage-in-Ok-open
 returns-in_ok-stage-in-Ok-open c =
     let log = c.args.script.now.log in
-    let script = told c.args.script.now in
+    let script = script_content c.args.script.now in
     let session : FitsSigned w32 c.args.script.now.log.session = search rules in
     let stream : FitsSigned w32 c.args.script.now.log.stream = search rules in
     let initial : FitsSigned w32 c.args.script.now.log.initial_term_id = search rules in
@@ -28,7 +28,7 @@ returns-in_ok-stage-in-Ok-open c =
     let many : vec_len stage.readers ≡ length stage.readers.items = omega arith in
     IfOk-weaker c.run.result _ _
     (λ after runs.
-    stage_plays script stage c.in-Ok-open.state.identity c.in-Ok-open.state.start (vec_len c.in-Ok-open.parts.readers - 1) (contents_of after.items)
+    stage_plays script stage c.in-Ok-open.state.identity c.in-Ok-open.state.start (vec_len c.in-Ok-open.parts.readers - 1) (line_contents after.items)
     (ap (λ l. l.identity) c.in-Ok-open.ensures.log ∙ sym named)
     (ap (λ l. l.start) c.in-Ok-open.ensures.log)
     (omega (arith, c.in-Ok-open.ensures.count))
@@ -37,9 +37,9 @@ returns-in_ok-stage-in-Ok-open c =
     (record { session = session; stream = stream })
     c.polls_a_prefix.ensures
     c.in_ok-stage-in-Ok-open.ensures
-    (subst (λ (n : ℕ). RunsTo stage.log.identity stage.log.start n script.orders [] (contents_of after.items)) many
-    (subst (λ (cs : List Command). RunsTo stage.log.identity stage.log.start (vec_len stage.readers) (orders cs) [] (contents_of after.items)) c.deref.ensures.value
-    (subst (λ (ls : List Line). RunsTo stage.log.identity stage.log.start (vec_len stage.readers) (orders c.deref.result.now) (contents_of ls) (contents_of after.items)) c.new-lines.ensures.items runs))))
+    (subst (λ (n : ℕ). RunsTo stage.log.identity stage.log.start n script.commands [] (line_contents after.items)) many
+    (subst (λ (cs : List Command). RunsTo stage.log.identity stage.log.start (vec_len stage.readers) (contents_of cs) [] (line_contents after.items)) c.deref.ensures.value
+    (subst (λ (ls : List Line). RunsTo stage.log.identity stage.log.start (vec_len stage.readers) (contents_of c.deref.result.now) (line_contents ls) (line_contents after.items)) c.new-lines.ensures.items runs))))
     c.run.ensures
 
 pub returns-in_ok-push-in-Err-Start : goal.returns-in_ok-push-in-Err-Start
@@ -49,5 +49,5 @@ returns-in_ok-push-in-Err-Start c =
     let made : c.in-Ok.geometry ≡ geometry_of (opening log) =
     c.in-Ok.ensures.made ∙ ap (λ (z : ℤ). record { term_length = log.term_length; mtu = log.mtu; initial_term_id = z }) (to_z-of_z w32 log.initial_term_id initial) in
     let which : c.in-Err-Start.field-0 ≡ Start = search rules in
-    refused_start (told c.args.script.now) c.in-Ok.geometry c.new-lines.result.items c.push-in-Err-Start.new.self.items made c.in-Ok.ensures.legal
+    refused_start (script_content c.args.script.now) c.in-Ok.geometry c.new-lines.result.items c.push-in-Err-Start.new.self.items made c.in-Ok.ensures.legal
     (c.open.ensures.start.0 (c.in-Err-Start.is ∙ ap Err which)) c.new-lines.ensures.items c.in_ok-push-in-Err-Start.ensures.items

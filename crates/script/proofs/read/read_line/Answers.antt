@@ -2,12 +2,12 @@ use Rattle.std.proofs.Common.{◌≡◌, ◌<◌, ◌++◌, ◌∷◌, [], lengt
 use Rattle.std.proofs.lemmas.Bool.Decides.{nat_tests}
 use Rattle.std.proofs.lemmas.List.{map_push}
 use Rattle.std.proofs.lemmas.Result.{err_from_is_err_and}
-use Rattle.script.specs.Meaning.{opened, order, orders, opening}
+use Rattle.script.specs.Meaning.{opened, content_of, contents_of, opening}
 use Rattle.script.proofs.Whole.{empty_line, log_refused, log_opened, command_fails, command_added}
 use Rattle.script.proofs.read.read_line.Goals as goal
 
 pub returns-then-is_empty-clause-ok : goal.returns-then-is_empty-clause-ok
-returns-then-is_empty-clause-ok c = empty_line c.args.number c.args.line.now (opened c.args.log.now) (orders c.args.commands.now.items) (grind (arith, nat_tests))
+returns-then-is_empty-clause-ok c = empty_line c.args.number c.args.line.now (opened c.args.log.now) (contents_of c.args.commands.now.items) (grind (arith, nat_tests))
 
 pub returns-in_default-clause-err : goal.returns-in_default-clause-err
 returns-in_default-clause-err c = λ rest.
@@ -23,10 +23,10 @@ returns-in_err-next-in-Some-clause-err c =
 pub returns-in-Some-log_line-clause-ok : goal.returns-in-Some-log_line-clause-ok
 returns-in-Some-log_line-clause-ok c = λ rest.
     let some : 0 < length c.args.line.now = grind (arith, nat_tests) in
-    rw c.in-None.is (log_opened c.args.number c.args.line.now (opening c.in-Some-log_line.opening) (orders c.args.commands.now.items) some c.in-Some-log_line.ensures rest)
+    rw c.in-None.is (log_opened c.args.number c.args.line.now (opening c.in-Some-log_line.opening) (contents_of c.args.commands.now.items) some c.in-Some-log_line.ensures rest)
 
 pub returns-in_ok-push-in-Some-clause-ok : goal.returns-in_ok-push-in-Some-clause-ok
 returns-in_ok-push-in-Some-clause-ok c = λ rest.
     let some : 0 < length c.args.line.now = grind (arith, nat_tests) in
-    let pushed : orders c.push.new.self.items ≡ orders c.args.commands.now.items ++ order c.in_ok-next-in-Some.next ∷ [] = rw c.in_ok-push-in-Some.ensures.items (map_push _ c.args.commands.now.items c.in_ok-next-in-Some.next) in
-    rw (pushed, c.in-Some.is) (command_added c.args.number c.args.line.now (opening c.in-Some.field-0) (orders c.args.commands.now.items) (order c.in_ok-next-in-Some.next) some c.in_ok-next-in-Some.ensures rest)
+    let pushed : contents_of c.push.new.self.items ≡ contents_of c.args.commands.now.items ++ content_of c.in_ok-next-in-Some.next ∷ [] = rw c.in_ok-push-in-Some.ensures.items (map_push _ c.args.commands.now.items c.in_ok-next-in-Some.next) in
+    rw (pushed, c.in-Some.is) (command_added c.args.number c.args.line.now (opening c.in-Some.field-0) (contents_of c.args.commands.now.items) (content_of c.in_ok-next-in-Some.next) some c.in_ok-next-in-Some.ensures rest)

@@ -1,5 +1,5 @@
 use Rattle.std.proofs.Common.{◌≡◌, ◌+◌, None, length}
-use Rattle.script.specs.Meaning.{orders, opened}
+use Rattle.script.specs.Meaning.{contents_of, opened}
 use Rattle.script.specs.Pieces.{lines}
 use Rattle.script.specs.Rests.{lines_left}
 use Rattle.script.specs.Reading.{with_front, script_from}
@@ -8,6 +8,6 @@ use Rattle.script.proofs.read.read_lines.Given as goal
 -- the commands so far, and what the lines left say
 abbrev pub invariant-loop-line : goal.invariant-loop-line
 invariant-loop-line l = record {
-  says : with_front (orders l.commands.items) (script_from l.number (opened l.log) (lines_left l.line-iterator)) ≡ script_from 1 None (lines l.bytes);
+  says : with_front (contents_of l.commands.items) (script_from l.number (opened l.log) (lines_left l.line-iterator)) ≡ script_from 1 None (lines l.bytes);
   count : l.number + length (lines_left l.line-iterator) ≡ 1 + length (lines l.bytes);
 }

@@ -1,6 +1,6 @@
 use Rattle.std.proofs.Common.{◌≡◌, Some, rules}
 use Rattle.std.specs.Prelude.{slice_get}
-use Rattle.script_run.specs.LineContents.{contents_of}
+use Rattle.script_run.specs.LineContents.{line_contents}
 use Rattle.mdriver.proofs.Numbered.{given_next}
 use Rattle.mdriver.proofs.packets.Packets.give_all.Goals as goal
 
@@ -8,4 +8,4 @@ pub loop-index-preserved : goal.loop-index-preserved
 loop-index-preserved c =
     let all = c.args.outbox.now.datagrams in
     let found : slice_get all c.loop-index.index ≡ Some c.in-Some.datagram.now = search rules in
-    given_next c.args.self.now c.loop-index.self c.give.new.self all (contents_of c.args.lines.now.items) (contents_of c.loop-index.lines.items) (contents_of c.give.new.lines.items) c.loop-index.index c.in-Some.datagram.now c.loop-index.invariant found c.in_ok-give.ensures.given c.in_ok-give.ensures.line
+    given_next c.args.self.now c.loop-index.self c.give.new.self all (line_contents c.args.lines.now.items) (line_contents c.loop-index.lines.items) (line_contents c.give.new.lines.items) c.loop-index.index c.in-Some.datagram.now c.loop-index.invariant found c.in_ok-give.ensures.given c.in_ok-give.ensures.line

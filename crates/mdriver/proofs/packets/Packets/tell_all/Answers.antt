@@ -1,6 +1,6 @@
 use Rattle.std.proofs.Common.{◌∙◌, ◌++◌, ◌<◌, ap, sym, arith, length}
 use Rattle.std.proofs.lemmas.Result.{on_ok_weaker}
-use Rattle.script_run.specs.LineContents.{contents_of}
+use Rattle.script_run.specs.LineContents.{line_contents}
 use Rattle.mdriver.proofs.Numbered.{not_nothing}
 use Rattle.mdriver.proofs.packets.Packets.tell_all.Goals as goal
 
@@ -8,4 +8,4 @@ pub returns-clause-line : goal.returns-clause-line
 returns-clause-line c =
     let all = c.args.outbox.now.datagrams in
     let some : 0 < length all = omega (arith, c.len.ensures.value, c.if-len-eq0.false) in
-    on_ok_weaker c.give_all.result (λ told. told ∙ ap (λ ls. contents_of c.args.lines.now.items ++ ls) (sym (not_nothing (length c.args.self.now) all some))) c.give_all.ensures.line
+    on_ok_weaker c.give_all.result (λ told. told ∙ ap (λ ls. line_contents c.args.lines.now.items ++ ls) (sym (not_nothing (length c.args.self.now) all some))) c.give_all.ensures.line

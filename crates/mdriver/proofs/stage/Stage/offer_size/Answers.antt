@@ -1,7 +1,7 @@
 use Rattle.std.proofs.Common.{◌≡◌, ◌∙◌, List, ℕ, subst}
 use Rattle.std.specs.Prelude.{replicate}
 use Rattle.std.proofs.lemmas.Result.{on_ok_weaker}
-use Rattle.script.specs.Meaning as orders
+use Rattle.script.specs.Meaning as commands
 use Rattle.mdriver.specs.Staged.{MayBeOffered}
 use Rattle.mdriver.proofs.Stages.{may_offer_size}
 use Rattle.mdriver.proofs.stage.Stage.offer_size.Goals as goal
@@ -10,4 +10,4 @@ pub returns : goal.returns
 returns c =
     let by = c.args.publisher.number in
     let said : c.deref.result.now ≡ replicate c.args.size 97 = c.deref.ensures.value ∙ c.in_ok-message.ensures in
-    on_ok_weaker c.offer_short.result (λ o. o (orders.OfferSize by c.args.size) (λ s t lines x. may_offer_size s t by c.args.size lines (subst (λ (m : List ℕ). MayBeOffered s by m lines t) said x))) c.offer_short.ensures
+    on_ok_weaker c.offer_short.result (λ o. o (commands.OfferSize by c.args.size) (λ s t lines x. may_offer_size s t by c.args.size lines (subst (λ (m : List ℕ). MayBeOffered s by m lines t) said x))) c.offer_short.ensures

@@ -2,40 +2,40 @@
 use Rattle.std.proofs.Common.{◌≡◌, ℕ, true, cond, List, [], ◌∷◌, Option, Some, None, inl, inr, sym, ap, subst, ◌∙◌}
 use Rattle.std.specs.Prelude.{bytes_eq, codes, nat_lt}
 use Rattle.std.proofs.lemmas.Bool.{cond-true, ltb-true, lt-ltb}
-use Rattle.script.specs.Meaning.{Order, Connect, Disconnect, Close, Limit, Offer, OfferSize, Claim, Commit, Abort, Read, Send, Deliver, Tick, Reply, Poll, Image}
+use Rattle.script.specs.Meaning.{CommandContent, Connect, Disconnect, Close, Limit, Offer, OfferSize, Claim, Commit, Abort, Read, Send, Deliver, Tick, Reply, Poll, Image}
 use Rattle.script.specs.Pieces.{words}
 use Rattle.script.specs.Values.{◌>>=◌, hex_of}
 use Rattle.script.specs.Reading.{word_at, number_at, most_wide, whole, offer_hex_of, offer_size_of, form_of, offer_of, claim_of, commit_of, abort_of, reader_of, read_of, send_of, deliver_of, tick_of, reply_of, poll_of, image_of, plain_of, command_of}
-use Rattle.script.specs.Language.{IsSeat, IsWide, IsHex, SayOrder, Says}
+use Rattle.script.specs.Language.{IsPartyNumber, IsWide, IsHex, SayCommand, Says}
 use Rattle.script.proofs.Options.{bind_some, some_bind, chosen, guarded_step}
 use Rattle.script.proofs.Words.{hex_found, hex_only}
 use Rattle.script.proofs.Fields.{same_name, word_found, number_at_found, number_at_only, whole_found, whole_only}
 
-send_found : (ws : List (List ℕ)) (o : Order) → send_of ws ≡ Some o → SayOrder (codes "send" ∷ ws) o
+send_found : (ws : List (List ℕ)) (o : CommandContent) → send_of ws ≡ Some o → SayCommand (codes "send" ∷ ws) o
 unfolding send_of
 send_found ws o e =
     let now = bind_some (number_at most_wide ws) (λ now. whole (Send now.0) now.1) o e in
     let a = number_at_found most_wide ws now.0 now.1 in
     let end = whole_found (Send now.0.0) now.0.1 o now.2 in
-    subst (SayOrder (codes "send" ∷ ws)) end.1 (a.0, ap (λ rest. codes "send" ∷ rest) (a.1 ∙ ap (λ rest. a.0 ∷ rest) end.0), a.2)
+    subst (SayCommand (codes "send" ∷ ws)) end.1 (a.0, ap (λ rest. codes "send" ∷ rest) (a.1 ∙ ap (λ rest. a.0 ∷ rest) end.0), a.2)
 
-poll_found : (ws : List (List ℕ)) (o : Order) → poll_of ws ≡ Some o → SayOrder (codes "poll" ∷ ws) o
+poll_found : (ws : List (List ℕ)) (o : CommandContent) → poll_of ws ≡ Some o → SayCommand (codes "poll" ∷ ws) o
 unfolding poll_of
 poll_found ws o e =
     let r = bind_some (number_at 7 ws) (λ r. whole (Poll r.0) r.1) o e in
     let a = number_at_found 7 ws r.0 r.1 in
     let end = whole_found (Poll r.0.0) r.0.1 o r.2 in
-    subst (SayOrder (codes "poll" ∷ ws)) end.1 (a.0, ap (λ rest. codes "poll" ∷ rest) (a.1 ∙ ap (λ rest. a.0 ∷ rest) end.0), a.2)
+    subst (SayCommand (codes "poll" ∷ ws)) end.1 (a.0, ap (λ rest. codes "poll" ∷ rest) (a.1 ∙ ap (λ rest. a.0 ∷ rest) end.0), a.2)
 
-image_found : (ws : List (List ℕ)) (o : Order) → image_of ws ≡ Some o → SayOrder (codes "image" ∷ ws) o
+image_found : (ws : List (List ℕ)) (o : CommandContent) → image_of ws ≡ Some o → SayCommand (codes "image" ∷ ws) o
 unfolding image_of
 image_found ws o e =
     let r = bind_some (number_at 7 ws) (λ r. whole (Image r.0) r.1) o e in
     let a = number_at_found 7 ws r.0 r.1 in
     let end = whole_found (Image r.0.0) r.0.1 o r.2 in
-    subst (SayOrder (codes "image" ∷ ws)) end.1 (a.0, ap (λ rest. codes "image" ∷ rest) (a.1 ∙ ap (λ rest. a.0 ∷ rest) end.0), a.2)
+    subst (SayCommand (codes "image" ∷ ws)) end.1 (a.0, ap (λ rest. codes "image" ∷ rest) (a.1 ∙ ap (λ rest. a.0 ∷ rest) end.0), a.2)
 
-tick_found : (ws : List (List ℕ)) (o : Order) → tick_of ws ≡ Some o → SayOrder (codes "tick" ∷ ws) o
+tick_found : (ws : List (List ℕ)) (o : CommandContent) → tick_of ws ≡ Some o → SayCommand (codes "tick" ∷ ws) o
 unfolding tick_of
 tick_found ws o e =
     let r = bind_some (number_at 7 ws) (λ r. number_at most_wide r.1 >>= λ now. whole (Tick r.0 now.0) now.1) o e in
@@ -43,10 +43,10 @@ tick_found ws o e =
     let now = bind_some (number_at most_wide r.0.1) (λ now. whole (Tick r.0.0 now.0) now.1) o r.2 in
     let b = number_at_found most_wide r.0.1 now.0 now.1 in
     let end = whole_found (Tick r.0.0 now.0.0) now.0.1 o now.2 in
-    subst (SayOrder (codes "tick" ∷ ws)) end.1
+    subst (SayCommand (codes "tick" ∷ ws)) end.1
     (a.0, b.0, ap (λ rest. codes "tick" ∷ rest) (a.1 ∙ ap (λ rest. a.0 ∷ rest) (b.1 ∙ ap (λ rest. b.0 ∷ rest) end.0)), a.2, b.2)
 
-reply_found : (ws : List (List ℕ)) (o : Order) → reply_of ws ≡ Some o → SayOrder (codes "reply" ∷ ws) o
+reply_found : (ws : List (List ℕ)) (o : CommandContent) → reply_of ws ≡ Some o → SayCommand (codes "reply" ∷ ws) o
 unfolding reply_of
 reply_found ws o e =
     let k = bind_some (number_at most_wide ws) (λ k. number_at most_wide k.1 >>= λ now. whole (Reply k.0 now.0) now.1) o e in
@@ -54,10 +54,10 @@ reply_found ws o e =
     let now = bind_some (number_at most_wide k.0.1) (λ now. whole (Reply k.0.0 now.0) now.1) o k.2 in
     let b = number_at_found most_wide k.0.1 now.0 now.1 in
     let end = whole_found (Reply k.0.0 now.0.0) now.0.1 o now.2 in
-    subst (SayOrder (codes "reply" ∷ ws)) end.1
+    subst (SayCommand (codes "reply" ∷ ws)) end.1
     (a.0, b.0, ap (λ rest. codes "reply" ∷ rest) (a.1 ∙ ap (λ rest. a.0 ∷ rest) (b.1 ∙ ap (λ rest. b.0 ∷ rest) end.0)), a.2, b.2)
 
-deliver_found : (ws : List (List ℕ)) (o : Order) → deliver_of ws ≡ Some o → SayOrder (codes "deliver" ∷ ws) o
+deliver_found : (ws : List (List ℕ)) (o : CommandContent) → deliver_of ws ≡ Some o → SayCommand (codes "deliver" ∷ ws) o
 unfolding deliver_of
 deliver_found ws o e =
     let k = bind_some (number_at most_wide ws) (λ k. number_at 7 k.1 >>= λ r. number_at most_wide r.1 >>= λ now. whole (Deliver k.0 r.0 now.0) now.1) o e in
@@ -67,26 +67,26 @@ deliver_found ws o e =
     let now = bind_some (number_at most_wide r.0.1) (λ now. whole (Deliver k.0.0 r.0.0 now.0) now.1) o r.2 in
     let c = number_at_found most_wide r.0.1 now.0 now.1 in
     let end = whole_found (Deliver k.0.0 r.0.0 now.0.0) now.0.1 o now.2 in
-    subst (SayOrder (codes "deliver" ∷ ws)) end.1
+    subst (SayCommand (codes "deliver" ∷ ws)) end.1
     (a.0, b.0, c.0, ap (λ rest. codes "deliver" ∷ rest) (a.1 ∙ ap (λ rest. a.0 ∷ rest) (b.1 ∙ ap (λ rest. b.0 ∷ rest) (c.1 ∙ ap (λ rest. c.0 ∷ rest) end.0))), a.2, b.2, c.2)
 
-commit_found : (ws : List (List ℕ)) (o : Order) → commit_of ws ≡ Some o → SayOrder (codes "commit" ∷ ws) o
+commit_found : (ws : List (List ℕ)) (o : CommandContent) → commit_of ws ≡ Some o → SayCommand (codes "commit" ∷ ws) o
 unfolding commit_of
 commit_found ws o e =
     let r = bind_some (number_at 7 ws) (λ r. whole (Commit r.0) r.1) o e in
     let a = number_at_found 7 ws r.0 r.1 in
     let end = whole_found (Commit r.0.0) r.0.1 o r.2 in
-    subst (SayOrder (codes "commit" ∷ ws)) end.1 (a.0, ap (λ rest. codes "commit" ∷ rest) (a.1 ∙ ap (λ rest. a.0 ∷ rest) end.0), a.2)
+    subst (SayCommand (codes "commit" ∷ ws)) end.1 (a.0, ap (λ rest. codes "commit" ∷ rest) (a.1 ∙ ap (λ rest. a.0 ∷ rest) end.0), a.2)
 
-abort_found : (ws : List (List ℕ)) (o : Order) → abort_of ws ≡ Some o → SayOrder (codes "abort" ∷ ws) o
+abort_found : (ws : List (List ℕ)) (o : CommandContent) → abort_of ws ≡ Some o → SayCommand (codes "abort" ∷ ws) o
 unfolding abort_of
 abort_found ws o e =
     let r = bind_some (number_at 7 ws) (λ r. whole (Abort r.0) r.1) o e in
     let a = number_at_found 7 ws r.0 r.1 in
     let end = whole_found (Abort r.0.0) r.0.1 o r.2 in
-    subst (SayOrder (codes "abort" ∷ ws)) end.1 (a.0, ap (λ rest. codes "abort" ∷ rest) (a.1 ∙ ap (λ rest. a.0 ∷ rest) end.0), a.2)
+    subst (SayCommand (codes "abort" ∷ ws)) end.1 (a.0, ap (λ rest. codes "abort" ∷ rest) (a.1 ∙ ap (λ rest. a.0 ∷ rest) end.0), a.2)
 
-claim_found : (ws : List (List ℕ)) (o : Order) → claim_of ws ≡ Some o → SayOrder (codes "claim" ∷ ws) o
+claim_found : (ws : List (List ℕ)) (o : CommandContent) → claim_of ws ≡ Some o → SayCommand (codes "claim" ∷ ws) o
 unfolding claim_of
 claim_found ws o e =
     let r = bind_some (number_at 7 ws) (λ r. number_at most_wide r.1 >>= λ n. whole (Claim r.0 n.0) n.1) o e in
@@ -94,23 +94,23 @@ claim_found ws o e =
     let n = bind_some (number_at most_wide r.0.1) (λ n. whole (Claim r.0.0 n.0) n.1) o r.2 in
     let b = number_at_found most_wide r.0.1 n.0 n.1 in
     let end = whole_found (Claim r.0.0 n.0.0) n.0.1 o n.2 in
-    subst (SayOrder (codes "claim" ∷ ws)) end.1
+    subst (SayCommand (codes "claim" ∷ ws)) end.1
     (a.0, b.0, ap (λ rest. codes "claim" ∷ rest) (a.1 ∙ ap (λ rest. a.0 ∷ rest) (b.1 ∙ ap (λ rest. b.0 ∷ rest) end.0)), a.2, b.2)
 
-read_found : (ws : List (List ℕ)) (o : Order) → read_of ws ≡ Some o → SayOrder (codes "read" ∷ ws) o
+read_found : (ws : List (List ℕ)) (o : CommandContent) → read_of ws ≡ Some o → SayCommand (codes "read" ∷ ws) o
 unfolding read_of
 read_found ws o e =
     let r = bind_some (number_at 7 ws) (λ r. reader_of r.0 r.1) o e in
     let a = number_at_found 7 ws r.0 r.1 in
     let h = guarded_step (nat_lt 0 r.0.0) (whole (Read r.0.0) r.0.1) o r.2 in
     let end = whole_found (Read r.0.0) r.0.1 o h.1 in
-    subst (SayOrder (codes "read" ∷ ws)) end.1 (a.0, ap (λ rest. codes "read" ∷ rest) (a.1 ∙ ap (λ rest. a.0 ∷ rest) end.0), (a.2, ltb-true 0 r.0.0 h.0))
+    subst (SayCommand (codes "read" ∷ ws)) end.1 (a.0, ap (λ rest. codes "read" ∷ rest) (a.1 ∙ ap (λ rest. a.0 ∷ rest) end.0), (a.2, ltb-true 0 r.0.0 h.0))
 
 -- the words of an offer, whose form passes a test
 offered : (a form name b : List ℕ) (ws : List (List ℕ)) → bytes_eq form name ≡ true → ws ≡ b ∷ [] → codes "offer" ∷ a ∷ form ∷ ws ≡ codes "offer" ∷ a ∷ name ∷ b ∷ []
 offered a form name b ws e last = ap (λ f. codes "offer" ∷ a ∷ f ∷ ws) (same_name form name e) ∙ ap (λ rest. codes "offer" ∷ a ∷ name ∷ rest) last
 
-hex_offered : (p : ℕ) (ws : List (List ℕ)) (o : Order) → offer_hex_of p ws ≡ Some o → (b : List ℕ) × (m : List ℕ) × (ws ≡ b ∷ []) × IsHex b m × (Offer p m ≡ o)
+hex_offered : (p : ℕ) (ws : List (List ℕ)) (o : CommandContent) → offer_hex_of p ws ≡ Some o → (b : List ℕ) × (m : List ℕ) × (ws ≡ b ∷ []) × IsHex b m × (Offer p m ≡ o)
 unfolding offer_hex_of
 hex_offered p ws o e =
     let digits = bind_some (word_at ws) (λ digits. hex_of digits.0 >>= λ message. whole (Offer p message) digits.1) o e in
@@ -118,7 +118,7 @@ hex_offered p ws o e =
     let end = whole_found (Offer p message.0) digits.0.1 o message.2 in
     (digits.0.0, message.0, word_found ws digits.0 digits.1 ∙ ap (λ rest. digits.0.0 ∷ rest) end.0, hex_found digits.0.0 message.0 message.1, end.1)
 
-size_offered : (p : ℕ) (ws : List (List ℕ)) (o : Order) → offer_size_of p ws ≡ Some o → (b : List ℕ) × (n : ℕ) × (ws ≡ b ∷ []) × IsWide b n × (OfferSize p n ≡ o)
+size_offered : (p : ℕ) (ws : List (List ℕ)) (o : CommandContent) → offer_size_of p ws ≡ Some o → (b : List ℕ) × (n : ℕ) × (ws ≡ b ∷ []) × IsWide b n × (OfferSize p n ≡ o)
 unfolding offer_size_of
 size_offered p ws o e =
     let size = bind_some (number_at most_wide ws) (λ size. whole (OfferSize p size.0) size.1) o e in
@@ -127,60 +127,60 @@ size_offered p ws o e =
     (b.0, size.0.0, b.1 ∙ ap (λ rest. b.0 ∷ rest) end.0, b.2, end.1)
 
 -- an offer, behind its publisher
-form_found : (a : List ℕ) (p : ℕ) (form : List ℕ) (ws : List (List ℕ)) (o : Order) → IsSeat a p → form_of p form ws ≡ Some o → SayOrder (codes "offer" ∷ a ∷ form ∷ ws) o
+form_found : (a : List ℕ) (p : ℕ) (form : List ℕ) (ws : List (List ℕ)) (o : CommandContent) → IsPartyNumber a p → form_of p form ws ≡ Some o → SayCommand (codes "offer" ∷ a ∷ form ∷ ws) o
 unfolding form_of
 form_found a p form ws o is_a e = elim (chosen (bytes_eq form (codes "hex")) _ _ _ e) [
   | inl h ↦
       let b = hex_offered p ws o h.1 in
-      subst (SayOrder (codes "offer" ∷ a ∷ form ∷ ws)) b.4 (a, b.0, offered a form (codes "hex") b.0 ws h.0 b.2, is_a, b.3)
+      subst (SayCommand (codes "offer" ∷ a ∷ form ∷ ws)) b.4 (a, b.0, offered a form (codes "hex") b.0 ws h.0 b.2, is_a, b.3)
   | inr other ↦
       let h = guarded_step (bytes_eq form (codes "size")) (offer_size_of p ws) o other.1 in
       let b = size_offered p ws o h.1 in
-      subst (SayOrder (codes "offer" ∷ a ∷ form ∷ ws)) b.4 (a, b.0, offered a form (codes "size") b.0 ws h.0 b.2, is_a, b.3)
+      subst (SayCommand (codes "offer" ∷ a ∷ form ∷ ws)) b.4 (a, b.0, offered a form (codes "size") b.0 ws h.0 b.2, is_a, b.3)
 ]
 
-offer_found : (ws : List (List ℕ)) (o : Order) → offer_of ws ≡ Some o → SayOrder (codes "offer" ∷ ws) o
+offer_found : (ws : List (List ℕ)) (o : CommandContent) → offer_of ws ≡ Some o → SayCommand (codes "offer" ∷ ws) o
 unfolding offer_of
 offer_found ws o e =
     let p = bind_some (number_at 7 ws) (λ p. word_at p.1 >>= λ form. form_of p.0 form.0 form.1) o e in
     let a = number_at_found 7 ws p.0 p.1 in
     let form = bind_some (word_at p.0.1) (λ form. form_of p.0.0 form.0 form.1) o p.2 in
     let whole : ws ≡ a.0 ∷ form.0.0 ∷ form.0.1 = a.1 ∙ ap (λ rest. a.0 ∷ rest) (word_found p.0.1 form.0 form.1) in
-    subst (λ ws. SayOrder (codes "offer" ∷ ws) o) (sym whole) (form_found a.0 p.0.0 form.0.0 form.0.1 o a.2 form.2)
+    subst (λ ws. SayCommand (codes "offer" ∷ ws) o) (sym whole) (form_found a.0 p.0.0 form.0.0 form.0.1 o a.2 form.2)
 
 -- a name that passes a test is that name
-named_says : (name : List ℕ) (word : List ℕ) (ws : List (List ℕ)) (o : Order) → bytes_eq name word ≡ true → SayOrder (word ∷ ws) o → SayOrder (name ∷ ws) o
-named_says name word ws o e says = subst (λ n. SayOrder (n ∷ ws) o) (sym (same_name name word e)) says
+named_says : (name : List ℕ) (word : List ℕ) (ws : List (List ℕ)) (o : CommandContent) → bytes_eq name word ≡ true → SayCommand (word ∷ ws) o → SayCommand (name ∷ ws) o
+named_says name word ws o e says = subst (λ n. SayCommand (n ∷ ws) o) (sym (same_name name word e)) says
 
-connect_found : (ws : List (List ℕ)) (o : Order) → whole Connect ws ≡ Some o → SayOrder (codes "connect" ∷ ws) o
+connect_found : (ws : List (List ℕ)) (o : CommandContent) → whole Connect ws ≡ Some o → SayCommand (codes "connect" ∷ ws) o
 connect_found ws o e =
     let end = whole_found Connect ws o e in
-    subst (SayOrder (codes "connect" ∷ ws)) end.1 (ap (λ rest. codes "connect" ∷ rest) end.0)
+    subst (SayCommand (codes "connect" ∷ ws)) end.1 (ap (λ rest. codes "connect" ∷ rest) end.0)
 
-disconnect_found : (ws : List (List ℕ)) (o : Order) → whole Disconnect ws ≡ Some o → SayOrder (codes "disconnect" ∷ ws) o
+disconnect_found : (ws : List (List ℕ)) (o : CommandContent) → whole Disconnect ws ≡ Some o → SayCommand (codes "disconnect" ∷ ws) o
 disconnect_found ws o e =
     let end = whole_found Disconnect ws o e in
-    subst (SayOrder (codes "disconnect" ∷ ws)) end.1 (ap (λ rest. codes "disconnect" ∷ rest) end.0)
+    subst (SayCommand (codes "disconnect" ∷ ws)) end.1 (ap (λ rest. codes "disconnect" ∷ rest) end.0)
 
-close_found : (ws : List (List ℕ)) (o : Order) → whole Close ws ≡ Some o → SayOrder (codes "close" ∷ ws) o
+close_found : (ws : List (List ℕ)) (o : CommandContent) → whole Close ws ≡ Some o → SayCommand (codes "close" ∷ ws) o
 close_found ws o e =
     let end = whole_found Close ws o e in
-    subst (SayOrder (codes "close" ∷ ws)) end.1 (ap (λ rest. codes "close" ∷ rest) end.0)
+    subst (SayCommand (codes "close" ∷ ws)) end.1 (ap (λ rest. codes "close" ∷ rest) end.0)
 
-limit_found : (ws : List (List ℕ)) (o : Order) → whole Limit ws ≡ Some o → SayOrder (codes "limit" ∷ ws) o
+limit_found : (ws : List (List ℕ)) (o : CommandContent) → whole Limit ws ≡ Some o → SayCommand (codes "limit" ∷ ws) o
 limit_found ws o e =
     let end = whole_found Limit ws o e in
-    subst (SayOrder (codes "limit" ∷ ws)) end.1 (ap (λ rest. codes "limit" ∷ rest) end.0)
+    subst (SayCommand (codes "limit" ∷ ws)) end.1 (ap (λ rest. codes "limit" ∷ rest) end.0)
 
 -- what stands behind the names of the claims and the readers
-later_of : List ℕ → List (List ℕ) → Option Order
+later_of : List ℕ → List (List ℕ) → Option CommandContent
 later_of name ws =
     cond (bytes_eq name (codes "claim")) (claim_of ws)
     (cond (bytes_eq name (codes "commit")) (commit_of ws)
     (cond (bytes_eq name (codes "abort")) (abort_of ws)
     (cond (bytes_eq name (codes "read")) (read_of ws) None)))
 
-named_later : (name : List ℕ) (ws : List (List ℕ)) (o : Order) → later_of name ws ≡ Some o → SayOrder (name ∷ ws) o
+named_later : (name : List ℕ) (ws : List (List ℕ)) (o : CommandContent) → later_of name ws ≡ Some o → SayCommand (name ∷ ws) o
 unfolding later_of
 named_later name ws o e = elim (chosen (bytes_eq name (codes "claim")) _ _ _ e) [
   | inl h ↦ named_says name (codes "claim") ws o h.0 (claim_found ws o h.1)
@@ -195,7 +195,7 @@ named_later name ws o e = elim (chosen (bytes_eq name (codes "claim")) _ _ _ e) 
   ]
 ]
 
-plain_found : (name : List ℕ) (ws : List (List ℕ)) (o : Order) → plain_of name ws ≡ Some o → SayOrder (name ∷ ws) o
+plain_found : (name : List ℕ) (ws : List (List ℕ)) (o : CommandContent) → plain_of name ws ≡ Some o → SayCommand (name ∷ ws) o
 unfolding plain_of later_of
 plain_found name ws o e = elim (chosen (bytes_eq name (codes "connect")) _ _ _ e) [
   | inl h ↦ named_says name (codes "connect") ws o h.0 (connect_found ws o h.1)
@@ -229,22 +229,22 @@ plain_found name ws o e = elim (chosen (bytes_eq name (codes "connect")) _ _ _ e
   ]
 ]
 
-pub command_found : (line : List ℕ) (order : Order) → command_of line ≡ Some order → Says line order
+pub command_found : (line : List ℕ) (command : CommandContent) → command_of line ≡ Some command → Says line command
 unfolding command_of
-command_found line order e =
-    let name = bind_some (word_at (words line)) (λ name. cond (bytes_eq name.0 (codes "offer")) (offer_of name.1) (plain_of name.0 name.1)) order e in
+command_found line command e =
+    let name = bind_some (word_at (words line)) (λ name. cond (bytes_eq name.0 (codes "offer")) (offer_of name.1) (plain_of name.0 name.1)) command e in
     let whole : words line ≡ name.0.0 ∷ name.0.1 = word_found (words line) name.0 name.1 in
-    let says : SayOrder (name.0.0 ∷ name.0.1) order = elim (chosen (bytes_eq name.0.0 (codes "offer")) _ _ _ name.2) [
-      | inl h ↦ named_says name.0.0 (codes "offer") name.0.1 order h.0 (offer_found name.0.1 order h.1)
-      | inr h ↦ plain_found name.0.0 name.0.1 order h.1
+    let says : SayCommand (name.0.0 ∷ name.0.1) command = elim (chosen (bytes_eq name.0.0 (codes "offer")) _ _ _ name.2) [
+      | inl h ↦ named_says name.0.0 (codes "offer") name.0.1 command h.0 (offer_found name.0.1 command h.1)
+      | inr h ↦ plain_found name.0.0 name.0.1 command h.1
     ] in
-    subst (λ ws. SayOrder ws order) (sym whole) says
+    subst (λ ws. SayCommand ws command) (sym whole) says
 
 -- the command that words say
-read_words : List (List ℕ) → Option Order
+read_words : List (List ℕ) → Option CommandContent
 read_words ws = word_at ws >>= λ name. cond (bytes_eq name.0 (codes "offer")) (offer_of name.1) (plain_of name.0 name.1)
 
-words_only : (ws : List (List ℕ)) (order : Order) → SayOrder ws order → read_words ws ≡ Some order
+words_only : (ws : List (List ℕ)) (command : CommandContent) → SayCommand ws command → read_words ws ≡ Some command
 unfolding read_words word_at plain_of offer_of form_of offer_hex_of offer_size_of claim_of commit_of abort_of read_of send_of deliver_of tick_of reply_of poll_of image_of
 words_only ws Connect is = ap read_words is ∙ whole_only Connect
 words_only ws Disconnect is = ap read_words is ∙ whole_only Disconnect
@@ -289,6 +289,6 @@ words_only ws (Poll r) (a, is, is_a) =
 words_only ws (Image r) (a, is, is_a) =
     ap read_words is ∙ some_bind (number_at 7 (a ∷ [])) _ (r, []) (number_at_only 7 a [] r is_a) ∙ whole_only (Image r)
 
-pub command_only : (line : List ℕ) (order : Order) → Says line order → command_of line ≡ Some order
+pub command_only : (line : List ℕ) (command : CommandContent) → Says line command → command_of line ≡ Some command
 unfolding command_of read_words
-command_only line order says = words_only (words line) order says
+command_only line command says = words_only (words line) command says
