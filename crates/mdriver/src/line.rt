@@ -61,33 +61,6 @@ pub enum Line {
     Book(Book),
 }
 
-impl fmt::Display for Outcome {
-    fn fmt<W: fmt::Write>(&self, f: &mut fmt::Formatter<W>) -> fmt::Result {
-        match *self {
-            Outcome::Inserted(answer) => f.write_str(answer.code()),
-            Outcome::Heartbeat => f.write_str("heartbeat"),
-            Outcome::Opened(position) => write!(f, "opened {position}"),
-            Outcome::Kept => f.write_str("kept"),
-            Outcome::Asked => f.write_str("asked"),
-            Outcome::SetupRefused(error) => write!(f, "{error}"),
-            Outcome::Other => f.write_str("other"),
-            Outcome::Refused(error) => f.write_str(error.code()),
-        }
-    }
-}
-
-impl fmt::Display for SenderAnswer {
-    fn fmt<W: fmt::Write>(&self, f: &mut fmt::Formatter<W>) -> fmt::Result {
-        match *self {
-            SenderAnswer::Ticked => f.write_str("ticked"),
-            SenderAnswer::Status(limit) => write!(f, "status {limit}"),
-            SenderAnswer::Asked => f.write_str("asked"),
-            SenderAnswer::Other => f.write_str("other"),
-            SenderAnswer::Refused(error) => f.write_str(error.code()),
-        }
-    }
-}
-
 /// A book's shares, each behind a space.
 #[derive(Clone, Copy)]
 struct Shares<'a>(&'a [u64]);

@@ -21,6 +21,7 @@ use position::{FrameHead, Geometry};
 use rebuilder::{Image, Insert};
 use setup::{SetupError, judge};
 use std::alloc::{AllocError, Global};
+use std::fmt;
 use std::marker::Model;
 
 /// Nanoseconds after which a status message goes out again.
@@ -43,6 +44,21 @@ pub enum Outcome {
     Other,
     /// The datagram can't be read.
     Refused(FrameError),
+}
+
+impl fmt::Display for Outcome {
+    fn fmt<W: fmt::Write>(&self, f: &mut fmt::Formatter<W>) -> fmt::Result {
+        match *self {
+            Outcome::Inserted(answer) => f.write_str(answer.code()),
+            Outcome::Heartbeat => f.write_str("heartbeat"),
+            Outcome::Opened(position) => write!(f, "opened {position}"),
+            Outcome::Kept => f.write_str("kept"),
+            Outcome::Asked => f.write_str("asked"),
+            Outcome::SetupRefused(error) => write!(f, "{error}"),
+            Outcome::Other => f.write_str("other"),
+            Outcome::Refused(error) => f.write_str(error.code()),
+        }
+    }
 }
 
 /// What a tick sends, in this order.

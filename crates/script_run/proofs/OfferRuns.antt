@@ -13,10 +13,10 @@ use Rattle.theory.specs.Entry.{Entry, IsEntry, entry_end, pieces_of}
 use Rattle.model.specs.Headline.{IsPublished}
 use Rattle.theory.specs.Tiling.{Tiles}
 use Rattle.model.specs.Log as stream
-use Rattle.theory.specs.Log.{Add, Arm, Commit}
+use Rattle.model.specs.Log.{Add, Arm, Commit}
 use Rattle.model.specs.Log.{LogEvent, LogStep, MayCommit, entry_for, room, with_frame}
 use Rattle.model.specs.World.{World}
-use Rattle.theory.specs.World.{AtLog}
+use Rattle.model.specs.World.{AtLog}
 use Rattle.theory.proofs.Claims.{covers_framed}
 use Rattle.theory.proofs.Frames.{tiles_le}
 use Rattle.theory.proofs.Lists.{among_right}

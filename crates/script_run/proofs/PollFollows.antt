@@ -7,7 +7,7 @@ use Rattle.theory.specs.Placed.{Among, Chain, Placed, end_of}
 use Rattle.theory.specs.Consumer.{Consumer, passed_by}
 use Rattle.theory.specs.Image.{Image, Lose}
 use Rattle.model.specs.World.{World}
-use Rattle.theory.specs.World.{AtImage}
+use Rattle.model.specs.World.{AtImage}
 use Rattle.theory.proofs.Lists.{all_behind, all_front}
 use Rattle.theory.proofs.Follow.{chain_le}
 use Rattle.assembler.specs.declared.fault.AssemblyError.{AssemblyError}

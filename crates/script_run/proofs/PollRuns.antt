@@ -7,7 +7,7 @@ use Rattle.theory.specs.Assembly.{Assembly, after, after_all, on_frame}
 use Rattle.theory.specs.Consumer.{Consumer, MayMove, moved, passed_by}
 use Rattle.theory.specs.Image.{Image, Poll, Lose}
 use Rattle.model.specs.World.{World, Step}
-use Rattle.theory.specs.World.{AtImage}
+use Rattle.model.specs.World.{AtImage}
 use Rattle.receiver.specs.Polling.{moved_all, passed_all, gives}
 use Rattle.script_run.proofs.Runs.{Goes, stays, goes_one, goes_on, with_image, image_kept, image_there, image_again}
 

@@ -11,8 +11,8 @@ use Rattle.theory.specs.Bytes.{Identity}
 use Rattle.theory.specs.Placed.{Data, Frame, Pad, Placed, frame_length}
 use Rattle.theory.specs.Assembly.{after, nothing_heard}
 use Rattle.theory.specs.Consumer.{Consumer, moved}
-use Rattle.theory.specs.Log.{Move}
-use Rattle.theory.specs.World.{AtLog}
+use Rattle.model.specs.Log.{Move}
+use Rattle.model.specs.World.{AtLog}
 use Rattle.theory.proofs.Tables.{get_other, get_put}
 use Rattle.script.specs.Meaning as commands
 use Rattle.script_run.specs.Answers.{HasNoReader, ReadsFrame, ReadsNothing, frame_line, with_reader}

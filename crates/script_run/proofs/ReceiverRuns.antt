@@ -16,7 +16,7 @@ use Rattle.theory.specs.Insert as meaning
 use Rattle.theory.specs.Insert.{Insert, head_of, insert_answer}
 use Rattle.theory.specs.Laws.{HeaderNamesPlace}
 use Rattle.theory.specs.Setup.{NamesGeometry, NamesPosition}
-use Rattle.theory.specs.World.{AtImage, Open}
+use Rattle.model.specs.World.{AtImage, Open}
 use Rattle.theory.proofs.Lists.{all_at}
 use Rattle.theory.proofs.Stays.{beat_stays, insert_stays}
 use Rattle.theory.proofs.Tables.{set_same}

@@ -13,12 +13,12 @@ use Rattle.theory.specs.Position.{position_of}
 use Rattle.theory.specs.Numbered.{Each}
 use Rattle.theory.specs.Wire.{Status}
 use Rattle.model.specs.Log as stream
-use Rattle.theory.specs.Log.{Clean, Close, Connect, Raise}
+use Rattle.model.specs.Log.{Clean, Close, Connect, Raise}
 use Rattle.model.specs.Log.{IsLowest}
 use Rattle.model.specs.Sender.{Sender, SenderEvent, SenderStep}
-use Rattle.theory.specs.Sender.{See, Send, SendSetup, HearStatus}
+use Rattle.model.specs.Sender.{See, Send, SendSetup, HearStatus}
 use Rattle.model.specs.World.{World}
-use Rattle.theory.specs.World.{AtLog, AtSender}
+use Rattle.model.specs.World.{AtLog, AtSender}
 use Rattle.theory.proofs.Leasts.{fold_each, fold_keeps}
 use Rattle.theory.proofs.Lists.{among_right}
 use Rattle.theory.proofs.Places.{power_unit}

@@ -14,7 +14,7 @@ use Rattle.theory.specs.Entry.{Entry, committed}
 use Rattle.theory.specs.Bytes.{Identity, IsIdentity, wire_at}
 use Rattle.theory.specs.Control.{MayBeGiven, setup_at}
 use Rattle.model.specs.Log as stream
-use Rattle.theory.specs.Log.{Abort, Commit}
+use Rattle.model.specs.Log.{Abort, Commit}
 use Rattle.model.specs.Log.{aborted_at, with_frame}
 use Rattle.model.specs.Sender.{Sender}
 use Rattle.theory.specs.Wire.{IsFrame, Wire}

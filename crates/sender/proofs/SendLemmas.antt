@@ -15,10 +15,14 @@ use Rattle.theory.proofs.Frames.{AreCut, InOrder, are_cut, committed_in_order, i
 use Rattle.position.specs.declared.head.FrameHead.{FrameHead}
 use Rattle.term_buffer.specs.Heads.{head_of}
 use Rattle.log_buffer.specs.Log.{IsLog, Log, term_of}
-use Rattle.log_buffer.specs.Reader.{Reader, Reads}
+use Rattle.log_buffer.specs.Leaves.{LeavesOtherReaders}
+use Rattle.log_buffer.specs.Reader.{IsAt, Reader, Reads}
+use Rattle.log_buffer.proofs.Leaves.{Leaves_same, other_readers}
+use Rattle.log_reader.specs.Reading.{IsRead, StandsAt}
+use Rattle.log_reader.proofs.Standing.{stands_at}
 use Rattle.sender.specs.Cycling.{setups}
 use Rattle.sender.specs.Outgoing.{Outgoing, with_datagram}
-use Rattle.sender.specs.Sending.{SendsNext, frame_in, with_wires}
+use Rattle.sender.specs.Sending.{GoesOn, SendsNext, frame_in, with_wires}
 
 -- ---- one frame stands at a position
 
@@ -144,3 +148,16 @@ same_identity i g s t eg es et =
     ap (λ (x : Geometry). record { geometry = x; session = i.session; stream = i.stream }) (sym eg)
     ∙ ap (λ (x : ℤ). record { geometry = g; session = x; stream = i.stream }) (sym es)
     ∙ ap (λ (x : ℤ). record { geometry = g; session = s; stream = x }) (sym et)
+
+-- ---- the reader goes on
+
+pub stays_on : (l : Log) (r q : Reader) → IsLog l → q ≡ r → StandsAt l r → GoesOn l r l q
+stays_on l r q legal same at = record { number = ap (λ (x : Reader). x.number) same; stands = subst (StandsAt l) (sym same) at; leaves = other_readers (Leaves_same legal) }
+
+pub reads_on : (l : Log) (r q : Reader) (before after : List ℕ) (head : FrameHead) → IsLog l → IsRead l r before head q after → GoesOn l r l q
+reads_on l r q before after head legal h = record { number = ap (λ (x : Reader). x.number) h.read; stands = stands_at h.stays; leaves = other_readers (Leaves_same legal) }
+
+pub passes_on : (l m : Log) (r n q : Reader) (before after : List ℕ) (head : FrameHead) → IsRead l r before head n after → q ≡ record n { position = n.read_to } → IsAt m q → LeavesOtherReaders n.number l m → GoesOn l r m q
+passes_on l m r n q before after head h moved at leaves =
+    let same : n.number ≡ r.number = ap (λ (x : Reader). x.number) h.read in
+    record { number = ap (λ (x : Reader). x.number) moved ∙ same; stands = stands_at at; leaves = subst (λ k. LeavesOtherReaders k l m) same leaves }

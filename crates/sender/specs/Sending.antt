@@ -11,7 +11,8 @@ use Rattle.theory.specs.Bytes.{Identity, wire_at}
 use Rattle.theory.specs.Timing.{seen}
 use Rattle.log_buffer.specs.Log.{Log}
 use Rattle.log_buffer.specs.Leaves.{LeavesOtherReaders}
-use Rattle.log_buffer.specs.Reader.{IsAt, Reader}
+use Rattle.log_buffer.specs.Reader.{Reader}
+use Rattle.log_reader.specs.Reading.{StandsAt}
 use Rattle.setup.specs.Naming.{Naming, after_due, is_due}
 use Rattle.sender.specs.Cycling.{Cycle, IsNews, IsNextSent, NewsContent, Says, AsksSetup, TellsNothing, Unreadable, datagrams, sent_wires, setups}
 use Rattle.sender.specs.Outgoing.{Outgoing}
@@ -46,7 +47,7 @@ at_moment s now = record s { clock = seen s.clock now }
 -- a reader has gone on in a log, or stays, and nothing else of the log is touched
 pub record GoesOn (old : Log) (r : Reader) (new : Log) (q : Reader) : Type 0 where
   pub number : q.number ≡ r.number
-  pub at : IsAt new q
+  pub stands : StandsAt new q
   pub leaves : LeavesOtherReaders r.number old new
 
 -- ---- a tick

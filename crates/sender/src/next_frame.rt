@@ -10,6 +10,7 @@ ghost use Rattle.theory.specs.Bytes.{header_at, wire_at};
 ghost use Rattle.term_buffer.specs.Heads.{IsStreamFrame, head_of};
 ghost use Rattle.log_buffer.specs.Leaves.{LeavesOtherReaders};
 ghost use Rattle.log_buffer.specs.Reader.{IsAt};
+ghost use Rattle.log_reader.specs.Reading.{StandsAt};
 ghost use Rattle.frames.specs.Frames.{header_of, wire};
 ghost use Rattle.sender.specs.Outgoing.{with_datagram};
 ghost use Rattle.sender.specs.Sending.{GoesOn, SendsNext, frame_in};
@@ -31,7 +32,7 @@ pub fn send_next(
     outbox: &mut Outbox,
 )
     requires room { log.old.identity.geometry.mtu ≤ length block.old }
-    requires at { IsAt log.old reader.old }
+    requires stands { StandsAt log.old reader.old }
     requires space { length outbox.old.datagrams < 32 }
     requires size { outbox.old.mtu ≡ log.old.identity.geometry.mtu }
     ensures sends { SendsNext log.old reader.old outbox.old limit log.new reader.new outbox.new }

@@ -2,7 +2,7 @@
 
 ghost use Rattle.std.specs.Prelude.{◌≡◌, ◌≤◌, ◌<◌, ◌+◌, [], true, length, pos, IfOk, IfErr};
 ghost use Rattle.theory.specs.Position.{max_position, position_of};
-ghost use Rattle.log_buffer.specs.Reader.{IsAt};
+ghost use Rattle.log_reader.specs.Reading.{StandsAt};
 ghost use Rattle.setup.specs.Naming.{after_due, is_due};
 ghost use Rattle.sender.specs.Cycling.{setups};
 
@@ -17,6 +17,7 @@ use log_buffer::{LogReader, LogState};
 use position::Geometry;
 use setup::SenderSetup;
 use std::alloc::Global;
+use std::fmt;
 use std::marker::Model;
 
 /// What happens to a sender.
@@ -38,6 +39,18 @@ pub enum SenderAnswer {
     Other,
     /// The datagram can't be read.
     Refused(FrameError),
+}
+
+impl fmt::Display for SenderAnswer {
+    fn fmt<W: fmt::Write>(&self, f: &mut fmt::Formatter<W>) -> fmt::Result {
+        match *self {
+            SenderAnswer::Ticked => f.write_str("ticked"),
+            SenderAnswer::Status(limit) => write!(f, "status {limit}"),
+            SenderAnswer::Asked => f.write_str("asked"),
+            SenderAnswer::Other => f.write_str("other"),
+            SenderAnswer::Refused(error) => f.write_str(error.code()),
+        }
+    }
 }
 
 /// Why a sender wasn't made: memory was refused. It gives back what it was given.
@@ -125,7 +138,7 @@ impl<F: FlowControl + Drop> SenderCore<F> {
         outbox: &mut Outbox,
     ) -> SenderAnswer
         requires same { log.old.identity ≡ self.old.identity }
-        requires at { IsAt log.old self.old.reader }
+        requires stands { StandsAt log.old self.old.reader }
         requires size { outbox.old.mtu ≡ log.old.identity.geometry.mtu }
         ensures step { Steps F.after_status F.after_tick F.reached (at_moment self.old now) event.entry log.old log.new result self.new outbox.new.datagrams }
         ensures goes_on { GoesOn log.old self.old.reader log.new self.new.reader }
@@ -139,7 +152,10 @@ impl<F: FlowControl + Drop> SenderCore<F> {
                 self.cycle(log, outbox);
                 SenderAnswer::Ticked
             }
-            SenderEvent::Datagram(bytes) => self.hear(bytes, outbox),
+            SenderEvent::Datagram(bytes) => {
+                let _ = log.tail();
+                self.hear(bytes, outbox)
+            }
         }
     }
 
@@ -153,7 +169,7 @@ impl<F: FlowControl + Drop> SenderCore<F> {
     /// A SETUP if it is due, and the next frame if there is one below the flow limit.
     fn cycle(&mut self, log: &mut LogState, outbox: &mut Outbox)
         requires same { log.old.identity ≡ self.old.identity }
-        requires at { IsAt log.old self.old.reader }
+        requires stands { StandsAt log.old self.old.reader }
         requires empty { outbox.old.datagrams ≡ [] }
         requires size { outbox.old.mtu ≡ log.old.identity.geometry.mtu }
         ensures cycle { Cycles F.after_tick F.reached self.old log.old log.new self.new outbox.new.datagrams }
@@ -188,7 +204,7 @@ impl<F: FlowControl + Drop> SenderCore<F> {
     /// Gives out the frame at its position, if it may go.
     fn send(&mut self, log: &mut LogState, outbox: &mut Outbox)
         requires same { log.old.identity ≡ self.old.identity }
-        requires at { IsAt log.old self.old.reader }
+        requires stands { StandsAt log.old self.old.reader }
         requires space { length outbox.old.datagrams < 32 }
         requires size { outbox.old.mtu ≡ log.old.identity.geometry.mtu }
         ensures sends { SendsNext log.old self.old.reader outbox.old (F.reached self.old.flow) log.new self.new.reader outbox.new }

@@ -6,6 +6,3 @@ pub returns-clause-cycle : goal.returns-clause-cycle
 returns-clause-cycle g c =
     cycled g.F.FlowControl.after_tick g.F.FlowControl.reached c.args.self.now c.tick.new.self c.name_stream.new.self c.send.new.self c.args.log.now c.send.new.log c.args.outbox.now c.name_stream.new.outbox c.send.new.outbox
     c.requires.empty c.requires.same c.tick.ensures c.name_stream.ensures.state c.name_stream.ensures.sent c.send.ensures.sends c.send.ensures.state
-
-pub returns-clause-others : goal.returns-clause-others
-returns-clause-others g c = λ r stands apart. c.send.ensures.others r stands (λ same. apart (same ∙ ap (λ s. s.reader.number) c.name_stream.ensures.state ∙ ap (λ s. s.reader.number) c.tick.ensures))

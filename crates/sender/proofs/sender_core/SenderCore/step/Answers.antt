@@ -1,5 +1,6 @@
-use Rattle.std.proofs.Common.{ap, ◌∙◌}
+use Rattle.std.proofs.Common.{◌∙◌, ap}
+use Rattle.sender.proofs.SendLemmas.{stays_on}
 use Rattle.sender.proofs.sender_core.SenderCore.step.Goals as goal
 
-pub returns-in-Tick-clause-others : goal.returns-in-Tick-clause-others
-returns-in-Tick-clause-others g c = λ r stands apart. c.cycle.ensures.others r stands (λ same. apart (same ∙ ap (λ s. s.reader.number) c.see.ensures))
+pub returns-in-Datagram-clause-goes_on : goal.returns-in-Datagram-clause-goes_on
+returns-in-Datagram-clause-goes_on g c = stays_on c.args.log.now c.args.self.now.reader c.hear.new.self.reader c.tail.ensures.legal (c.hear.ensures.reader ∙ ap (λ s. s.reader) c.see.ensures) c.requires.stands
