@@ -1,3 +1,4 @@
 pub mod Entries
 pub mod Moving
 pub mod Standing
+pub mod ReadFrames

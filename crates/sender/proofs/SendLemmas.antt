@@ -15,14 +15,12 @@ use Rattle.theory.proofs.Frames.{AreCut, InOrder, are_cut, committed_in_order, i
 use Rattle.position.specs.declared.head.FrameHead.{FrameHead}
 use Rattle.term_buffer.specs.Heads.{head_of}
 use Rattle.log_buffer.specs.Log.{IsLog, Log, term_of}
-use Rattle.log_buffer.specs.Leaves.{LeavesOtherReaders}
-use Rattle.log_buffer.specs.Reader.{IsAt, Reader, Reads}
-use Rattle.log_buffer.proofs.Leaves.{Leaves_same, other_readers}
-use Rattle.log_reader.specs.Reading.{IsRead, StandsAt}
-use Rattle.log_reader.proofs.Standing.{stands_at}
+use Rattle.log_buffer.specs.Reader.{Reader, Reads}
+use Rattle.log_reader.specs.Reading.{frame_in}
+use Rattle.log_reader.proofs.ReadFrames.{ends, frame_read, read_frame, starts}
 use Rattle.sender.specs.Cycling.{setups}
 use Rattle.sender.specs.Outgoing.{Outgoing, with_datagram}
-use Rattle.sender.specs.Sending.{GoesOn, SendsNext, frame_in, with_wires}
+use Rattle.sender.specs.Sending.{SendsNext, with_wires}
 
 -- ---- one frame stands at a position
 
@@ -63,26 +61,6 @@ setup_given o p v i j a b e f same there = given o p v (setup_at j b) e (f ∙ a
 
 -- ---- the next frame
 
--- the frame that was read
-abbrev pub read_frame : {l : Log} {p : ℕ} {head : FrameHead} {old new : List ℕ} → Reads l p head old new → Placed
-read_frame {p = p} h = record { at = p; frame = h.frame }
-
-length_in : (start : ℕ) (f : Frame) → (head_of start f).frame_length ≡ frame_length f
-length_in start (Data flags payload) = refl
-length_in start (Pad n) = refl
-
-start_in : (start : ℕ) (f : Frame) → (head_of start f).start ≡ start
-start_in start (Data flags payload) = refl
-start_in start (Pad n) = refl
-
-pub starts : (l : Log) (r : Reader) (head : FrameHead) (old new : List ℕ) (h : Reads l r.position head old new) → head.start ≡ r.position
-starts l r head old new h = ap (λ (x : FrameHead). x.start) h.shown ∙ start_in r.position h.frame
-
-pub ends : (l : Log) (r : Reader) (head : FrameHead) (old new : List ℕ) (h : Reads l r.position head old new) → head.start + aligned head.frame_length ≡ end_of (read_frame h)
-ends l r head old new h =
-    ap (λ (n : ℕ). n + aligned head.frame_length) (starts l r head old new h)
-    ∙ ap (λ (n : ℕ). r.position + aligned n) (ap (λ (x : FrameHead). x.frame_length) h.shown ∙ length_in r.position h.frame)
-
 pub sends_nothing : (l : Log) (r q : Reader) (o : Outgoing) (limit : ℕ) → q ≡ r → ((s : Placed) → Among s (committed l.entries) → s.at ≡ r.position → ⊥) → SendsNext l r o limit l q o
 sends_nothing l r q o limit e none = record {
   frame = None;
@@ -108,20 +86,6 @@ held_back l r q o limit to head old new is h sent above e =
       behind = (refl, (head.start + aligned head.frame_length, e));
     }
 
--- the head and the block's front tell the frame
-frame_again : (at : ℕ) (f : Frame) (old : List ℕ) → frame_in (head_of at f).kind (head_of at f).flags (head_of at f).frame_length (payload_of f ++ drop (length (payload_of f)) old) ≡ f
-frame_again at (Data flags payload) old =
-    let size : 32 + length payload - 32 ≡ length payload = omega arith in
-    ap (λ (n : ℕ). Data flags (take n (payload ++ drop (length payload) old))) size
-    ∙ ap (Data flags) (take-append_seam payload (drop (length payload) old))
-frame_again at (Pad n) old = refl
-
-pub frame_read : (l : Log) (p : ℕ) (head : FrameHead) (old new : List ℕ) (h : Reads l p head old new) → frame_in head.kind head.flags head.frame_length new ≡ h.frame
-frame_read l p head old new h =
-    ap (λ (x : FrameHead). frame_in x.kind x.flags x.frame_length new) h.shown
-    ∙ ap (frame_in (head_of p h.frame).kind (head_of p h.frame).flags (head_of p h.frame).frame_length) h.copied
-    ∙ frame_again p h.frame old
-
 pub sends_frame : (l m : Log) (r n q : Reader) (o p : Outgoing) (limit to : ℕ) (head : FrameHead) (old new : List ℕ) → Reads l r.position head old new → IsSentTo head to → to ≤ limit → n ≡ record r { read_to = head.start + aligned head.frame_length } → m ≡ record l { consumers = slice_set l.consumers n.number n.read_to } → q ≡ record n { position = n.read_to } → p ≡ with_datagram o (spelling (wire_at l.identity head.start (frame_in head.kind head.flags head.frame_length new))) → SendsNext l r o limit m q p
 sends_frame l m r n q o p limit to head old new h sent below read log moved out =
     let here : Placed = read_frame h in
@@ -140,24 +104,3 @@ sends_frame l m r n q o p limit to head old new h sent below read log moved out 
         moved ∙ ap (λ (x : Reader). record x { position = x.read_to }) noted,
       );
     }
-
--- ---- identities
-
-pub same_identity : (i : Identity) (g : Geometry) (s t : ℤ) → g ≡ i.geometry → s ≡ i.session → t ≡ i.stream → i ≡ record { geometry = g; session = s; stream = t }
-same_identity i g s t eg es et =
-    ap (λ (x : Geometry). record { geometry = x; session = i.session; stream = i.stream }) (sym eg)
-    ∙ ap (λ (x : ℤ). record { geometry = g; session = x; stream = i.stream }) (sym es)
-    ∙ ap (λ (x : ℤ). record { geometry = g; session = s; stream = x }) (sym et)
-
--- ---- the reader goes on
-
-pub stays_on : (l : Log) (r q : Reader) → IsLog l → q ≡ r → StandsAt l r → GoesOn l r l q
-stays_on l r q legal same at = record { number = ap (λ (x : Reader). x.number) same; stands = subst (StandsAt l) (sym same) at; leaves = other_readers (Leaves_same legal) }
-
-pub reads_on : (l : Log) (r q : Reader) (before after : List ℕ) (head : FrameHead) → IsLog l → IsRead l r before head q after → GoesOn l r l q
-reads_on l r q before after head legal h = record { number = ap (λ (x : Reader). x.number) h.read; stands = stands_at h.stays; leaves = other_readers (Leaves_same legal) }
-
-pub passes_on : (l m : Log) (r n q : Reader) (before after : List ℕ) (head : FrameHead) → IsRead l r before head n after → q ≡ record n { position = n.read_to } → IsAt m q → LeavesOtherReaders n.number l m → GoesOn l r m q
-passes_on l m r n q before after head h moved at leaves =
-    let same : n.number ≡ r.number = ap (λ (x : Reader). x.number) h.read in
-    record { number = ap (λ (x : Reader). x.number) moved ∙ same; stands = stands_at at; leaves = subst (λ k. LeavesOtherReaders k l m) same leaves }

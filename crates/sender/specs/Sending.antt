@@ -10,9 +10,7 @@ use Rattle.theory.specs.Entry.{committed}
 use Rattle.theory.specs.Bytes.{Identity, wire_at}
 use Rattle.theory.specs.Timing.{seen}
 use Rattle.log_buffer.specs.Log.{Log}
-use Rattle.log_buffer.specs.Leaves.{LeavesOtherReaders}
 use Rattle.log_buffer.specs.Reader.{Reader}
-use Rattle.log_reader.specs.Reading.{StandsAt}
 use Rattle.setup.specs.Naming.{Naming, after_due, is_due}
 use Rattle.sender.specs.Cycling.{Cycle, IsNews, IsNextSent, NewsContent, Says, AsksSetup, TellsNothing, Unreadable, datagrams, sent_wires, setups}
 use Rattle.sender.specs.Outgoing.{Outgoing}
@@ -44,12 +42,6 @@ begun identity reader flow = record {
 abbrev pub at_moment : {F : Type 0} → Sending F → ℕ → Sending F
 at_moment s now = record s { clock = seen s.clock now }
 
--- a reader has gone on in a log, or stays, and nothing else of the log is touched
-pub record GoesOn (old : Log) (r : Reader) (new : Log) (q : Reader) : Type 0 where
-  pub number : q.number ≡ r.number
-  pub stands : StandsAt new q
-  pub leaves : LeavesOtherReaders r.number old new
-
 -- ---- a tick
 
 -- where no frame goes out the log and the reader stay, though the reader may have read one; else they are behind it
@@ -64,11 +56,6 @@ frame_wires i frame = map (λ s. wire_at i s.at s.frame) (option_to_list frame)
 
 abbrev pub with_wires : Outgoing → List Wire → Outgoing
 with_wires o wires = record o { datagrams = o.datagrams ++ datagrams wires }
-
--- the frame of this kind, with these flags and this length, whose payload stands in the block's front
-abbrev pub frame_in : FrameKind → ℕ → ℕ → List ℕ → Frame
-frame_in kinds.Data flags frame_length block = Data flags (take (frame_length - 32) block)
-frame_in kinds.Pad flags frame_length block = Pad frame_length
 
 -- the next frame goes out, if it may
 pub record SendsNext (l : Log) (r : Reader) (o : Outgoing) (limit : ℕ) (m : Log) (q : Reader) (p : Outgoing) : Type 0 where

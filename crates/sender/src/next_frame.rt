@@ -13,7 +13,8 @@ ghost use Rattle.log_buffer.specs.Reader.{IsAt};
 ghost use Rattle.log_reader.specs.Reading.{StandsAt};
 ghost use Rattle.frames.specs.Frames.{header_of, wire};
 ghost use Rattle.sender.specs.Outgoing.{with_datagram};
-ghost use Rattle.sender.specs.Sending.{GoesOn, SendsNext, frame_in};
+ghost use Rattle.sender.specs.Sending.{SendsNext};
+ghost use Rattle.log_reader.specs.Reading.{GoesOn, frame_in};
 
 use crate::outbox::Outbox;
 use block::Block;

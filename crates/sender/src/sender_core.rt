@@ -85,7 +85,8 @@ impl<F> Model for SenderCore<F> {
 
 impl<F: FlowControl + Drop> SenderCore<F> {
     ghost use Rattle.sender.specs.Outgoing.{emptied};
-    ghost use Rattle.sender.specs.Sending.{Cycles, GoesOn, HearsDatagram, SendsNext, Steps, at_moment, begun, told, with_wires};
+    ghost use Rattle.sender.specs.Sending.{Cycles, HearsDatagram, SendsNext, Steps, at_moment, begun, told, with_wires};
+    ghost use Rattle.log_reader.specs.Reading.{GoesOn};
 
     /// A sender of a log with this geometry and ids, which reads by this pass. Where memory was refused, the pass and
     /// the flow control come back as they were.

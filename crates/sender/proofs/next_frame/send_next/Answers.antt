@@ -1,5 +1,6 @@
 use Rattle.std.proofs.Common.{arith, ap, ◌∙◌}
-use Rattle.sender.proofs.SendLemmas.{sends_nothing, held_back, passes_on, reads_on, sends_frame, stays_on}
+use Rattle.log_reader.proofs.ReadFrames.{passes_on, reads_on, stays_on}
+use Rattle.sender.proofs.SendLemmas.{held_back, sends_frame, sends_nothing}
 use Rattle.sender.proofs.next_frame.send_next.Goals as goal
 
 pub returns-in_default-clause-sends : goal.returns-in_default-clause-sends

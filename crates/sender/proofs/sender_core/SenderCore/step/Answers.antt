@@ -1,5 +1,5 @@
 use Rattle.std.proofs.Common.{◌∙◌, ap}
-use Rattle.sender.proofs.SendLemmas.{stays_on}
+use Rattle.log_reader.proofs.ReadFrames.{stays_on}
 use Rattle.sender.proofs.sender_core.SenderCore.step.Goals as goal
 
 pub returns-in-Datagram-clause-goes_on : goal.returns-in-Datagram-clause-goes_on

@@ -1,0 +1,316 @@
+//! What each line of a script does, and what it contents_of.
+
+ghost use Rattle.std.specs.Prelude.{◌≡◌, ◌≤◌, ◌++◌, length, IfOk, OnErr, OnOk, map, replicate};
+ghost use Rattle.theory.specs.Position.{max_message, max_payload};
+ghost use Rattle.log_buffer.specs.Reader.{Reader};
+ghost use Rattle.script_run.specs.LineContents.{OfReceiver};
+ghost use Rattle.world.specs.Lines.{line_content, line_contents};
+ghost use Rattle.log_reader.specs.Reading.{StandsAt};
+ghost use Rattle.log_buffer.specs.Log.{IsHeld};
+ghost use Rattle.world.specs.Reading.{ReadsLine, shown_frame};
+ghost use Rattle.log_reader.specs.Reading.{frame_in};
+ghost use Rattle.world.specs.Simulated.{IsAnswered, IsOffered};
+ghost use Rattle.script.specs.Meaning as commands;
+
+use crate::line::Line;
+use crate::receiver::Outcome;
+use crate::sender::SenderEvent;
+use crate::simulation::Simulation;
+use crate::slot::{abort_by, claim_by, commit_by, offer_by};
+use block::Block;
+use log_buffer::{Claimed, LogReader, LogState};
+use log_reader::{advance, next};
+use position::{FrameHead, FrameKind};
+use rotation::{clean_and_limit, set_closed, set_connected};
+use script::{Command, PartyNumber};
+use std::alloc::{AllocError, Global};
+
+/// Adds the lines of what became of a datagram's frames.
+fn tell(lines: &mut Vec<Line>, outcomes: &[Outcome]) -> Result<(), AllocError>
+    ensures { OnOk result (line_contents lines.new.items ≡ line_contents lines.old.items ++ map OfReceiver outcomes.now) }
+{
+    for outcome in outcomes {
+        lines.push(Line::Receiver(*outcome))?;
+    }
+    Ok(())
+}
+
+/// So many bytes 61. The error comes only where memory was refused.
+fn letters(alloc: Global, size: usize) -> Result<Vec<u8>, AllocError>
+    ensures { IfOk result (λ letters. letters.items ≡ replicate size 97) }
+{
+    vec![in alloc; b'a'; size]
+}
+
+/// A committed frame, a message's payload in the block's front. The error comes only where memory was refused.
+fn frame_line(alloc: Global, head: &FrameHead, block: &Block) -> Result<Line, AllocError>
+    requires long { 32 ≤ head.now.frame_length }
+    requires short { head.now.kind ≡ FrameKind.Data → head.now.frame_length ≤ length block.now }
+    ensures { IfOk result (λ line. line_content line ≡ shown_frame head.now.start (frame_in head.now.kind head.now.flags head.now.frame_length block.now)) }
+{
+    match head.kind {
+        FrameKind::Pad => Ok(Line::FramePad {
+            start: head.start,
+            frame_length: head.frame_length,
+        }),
+        FrameKind::Data => Ok(Line::FrameData {
+            start: head.start,
+            flags: head.flags,
+            bytes: block.bytes()[..head.frame_length as usize - 32].to_vec(alloc)?,
+        }),
+    }
+}
+
+/// Reads the frame at a reader's position, moves the reader past it, and says what it is. At an error memory was refused,
+/// and the reader stays.
+fn read_line(
+    alloc: Global,
+    log: &mut LogState,
+    reader: &mut LogReader,
+    block: &mut Block,
+) -> Result<Line, AllocError>
+    requires room { log.old.identity.geometry.mtu ≤ length block.old }
+    requires stands { StandsAt log.old reader.old }
+    ensures same_length { length block.new ≡ length block.old }
+    ensures reads { IfOk result (λ line. ReadsLine log.old reader.old (line_content line) log.new reader.new) }
+    ensures stays { OnErr result ((log.new ≡ log.old) × (reader.new.position ≡ reader.old.position)) }
+    ensures number { reader.new.number ≡ reader.old.number }
+    ensures identity { log.new.identity ≡ log.old.identity }
+    ensures stands { StandsAt log.new reader.new }
+    ensures others { (r : Reader) → StandsAt log.old r → (r.number ≡ reader.old.number → ⊥) → StandsAt log.new r }
+    ensures claims { (c : Claimed) → IsHeld log.old c → IsHeld log.new c }
+{
+    let Some(head) = next(log, reader, block) else {
+        return Ok(Line::NoMessage);
+    };
+    let line = frame_line(alloc, &head, block)?;
+    let _ = advance(log, reader);
+    Ok(line)
+}
+
+impl Simulation {
+    /// Plays one command, and adds its lines.
+    pub fn play(&mut self, command: &Command, lines: &mut Vec<Line>) -> Result<(), AllocError>
+        ensures { OnOk result (IsAnswered self.old (commands.content_of command.now) lines.old.items lines.new.items self.new) }
+    {
+        match command {
+            Command::Connect => self.connect(lines),
+            Command::Disconnect => self.disconnect(lines),
+            Command::Close => self.close(lines),
+            Command::Limit => self.limit(lines),
+            Command::Offer { publisher, message } => self.offer(*publisher, message, lines),
+            Command::OfferSize { publisher, size } => self.offer_size(*publisher, *size, lines),
+            Command::Claim { publisher, size } => self.claim(*publisher, *size, lines),
+            Command::Commit { publisher } => self.commit(*publisher, lines),
+            Command::Abort { publisher } => self.abort(*publisher, lines),
+            Command::Read { reader } => self.read(*reader, lines),
+            Command::Send { now } => self.send(*now, lines),
+            Command::Deliver {
+                packet,
+                receiver,
+                now,
+            } => self.deliver(*packet, *receiver, *now, lines),
+            Command::Tick { receiver, now } => self.tick(*receiver, *now, lines),
+            Command::Reply { packet, now } => self.reply(*packet, *now, lines),
+            Command::Poll { receiver } => self.poll(*receiver, lines),
+            Command::Image { receiver } => self.image(*receiver, lines),
+        }
+    }
+
+    fn connect(&mut self, lines: &mut Vec<Line>) -> Result<(), AllocError>
+        ensures { OnOk result (IsAnswered self.old commands.Connect lines.old.items lines.new.items self.new) }
+    {
+        set_connected(&mut self.log, &mut self.keeper, true);
+        lines.push(Line::Done)?;
+        Ok(())
+    }
+
+    fn disconnect(&mut self, lines: &mut Vec<Line>) -> Result<(), AllocError>
+        ensures { OnOk result (IsAnswered self.old commands.Disconnect lines.old.items lines.new.items self.new) }
+    {
+        set_connected(&mut self.log, &mut self.keeper, false);
+        lines.push(Line::Done)?;
+        Ok(())
+    }
+
+    fn close(&mut self, lines: &mut Vec<Line>) -> Result<(), AllocError>
+        ensures { OnOk result (IsAnswered self.old commands.Close lines.old.items lines.new.items self.new) }
+    {
+        set_closed(&mut self.log, &mut self.keeper);
+        lines.push(Line::Done)?;
+        Ok(())
+    }
+
+    fn limit(&mut self, lines: &mut Vec<Line>) -> Result<(), AllocError>
+        ensures { OnOk result (IsAnswered self.old commands.Limit lines.old.items lines.new.items self.new) }
+    {
+        let limit = clean_and_limit(&mut self.log, &mut self.keeper);
+        lines.push(Line::Limit(limit))?;
+        Ok(())
+    }
+
+    fn offer(
+        &mut self,
+        publisher: PartyNumber,
+        message: &[u8],
+        lines: &mut Vec<Line>,
+    ) -> Result<(), AllocError>
+        ensures { OnOk result (IsAnswered self.old (commands.Offer publisher.number message.now) lines.old.items lines.new.items self.new) }
+    {
+        if message.len() > self.log.geometry().max_message() as usize {
+            lines.push(Line::Bad)?;
+            return Ok(());
+        }
+        self.offer_short(publisher, message, lines)
+    }
+
+    fn offer_size(
+        &mut self,
+        publisher: PartyNumber,
+        size: u64,
+        lines: &mut Vec<Line>,
+    ) -> Result<(), AllocError>
+        ensures { OnOk result (IsAnswered self.old (commands.OfferSize publisher.number size) lines.old.items lines.new.items self.new) }
+    {
+        if size > u64::from(self.log.geometry().max_message()) {
+            lines.push(Line::Bad)?;
+            return Ok(());
+        }
+        let message = letters(*lines.allocator(), size as usize)?;
+        self.offer_short(publisher, &message, lines)
+    }
+
+    /// Offers a message that the log can hold, and adds its line.
+    fn offer_short(
+        &mut self,
+        publisher: PartyNumber,
+        message: &[u8],
+        lines: &mut Vec<Line>,
+    ) -> Result<(), AllocError>
+        requires { length message.now ≤ max_message self.old.log.identity.geometry }
+        ensures { OnOk result (IsOffered self.old publisher.number message.now lines.old.items lines.new.items self.new) }
+    {
+        let line = offer_by(&mut self.log, &mut self.slots, publisher.number, message);
+        lines.push(line)?;
+        Ok(())
+    }
+
+    fn claim(&mut self, publisher: PartyNumber, size: u64, lines: &mut Vec<Line>) -> Result<(), AllocError>
+        ensures { OnOk result (IsAnswered self.old (commands.Claim publisher.number size) lines.old.items lines.new.items self.new) }
+    {
+        if size > u64::from(self.log.geometry().max_payload()) {
+            lines.push(Line::Bad)?;
+            return Ok(());
+        }
+        self.claim_short(publisher, size as u32, lines)
+    }
+
+    /// Claims a range for a message that a frame can hold, and adds its line.
+    fn claim_short(
+        &mut self,
+        publisher: PartyNumber,
+        size: u32,
+        lines: &mut Vec<Line>,
+    ) -> Result<(), AllocError>
+        requires { size ≤ max_payload self.old.log.identity.geometry }
+        ensures { OnOk result (IsAnswered self.old (commands.Claim publisher.number size) lines.old.items lines.new.items self.new) }
+    {
+        let line = claim_by(&mut self.log, &mut self.slots, publisher.number, size);
+        lines.push(line)?;
+        Ok(())
+    }
+
+    fn commit(&mut self, publisher: PartyNumber, lines: &mut Vec<Line>) -> Result<(), AllocError>
+        ensures { OnOk result (IsAnswered self.old (commands.Commit publisher.number) lines.old.items lines.new.items self.new) }
+    {
+        let line = commit_by(&mut self.log, &mut self.slots, publisher.number);
+        lines.push(line)?;
+        Ok(())
+    }
+
+    fn abort(&mut self, publisher: PartyNumber, lines: &mut Vec<Line>) -> Result<(), AllocError>
+        ensures { OnOk result (IsAnswered self.old (commands.Abort publisher.number) lines.old.items lines.new.items self.new) }
+    {
+        let line = abort_by(&mut self.log, &mut self.slots, publisher.number);
+        lines.push(line)?;
+        Ok(())
+    }
+
+    fn read(&mut self, reader: PartyNumber, lines: &mut Vec<Line>) -> Result<(), AllocError>
+        ensures { OnOk result (IsAnswered self.old (commands.Read reader.number) lines.old.items lines.new.items self.new) }
+    {
+        if reader.number == 0 || reader.number > self.readers.len() {
+            lines.push(Line::Bad)?;
+            return Ok(());
+        }
+        let alloc = *lines.allocator();
+        let pass = &mut self.readers[reader.number - 1];
+        let line = read_line(alloc, &mut self.log, pass, &mut self.block)?;
+        lines.push(line)?;
+        Ok(())
+    }
+
+    fn send(&mut self, now: u64, lines: &mut Vec<Line>) -> Result<(), AllocError>
+        ensures { OnOk result (IsAnswered self.old (commands.Send now) lines.old.items lines.new.items self.new) }
+    {
+        let _ = self
+            .sender
+            .step(&mut self.log, SenderEvent::Tick, now, &mut self.outbox);
+        self.packets.tell_all(&self.outbox, lines)
+    }
+
+    fn reply(&mut self, packet: u64, now: u64, lines: &mut Vec<Line>) -> Result<(), AllocError>
+        ensures { OnOk result (IsAnswered self.old (commands.Reply packet now) lines.old.items lines.new.items self.new) }
+    {
+        let Some(bytes) = self.packets.get(packet) else {
+            lines.push(Line::Bad)?;
+            return Ok(());
+        };
+        let event = SenderEvent::Datagram(bytes);
+        let answer = self
+            .sender
+            .step(&mut self.log, event, now, &mut self.outbox);
+        lines.push(Line::Sender(answer))?;
+        self.packets.give_all(&self.outbox, lines)
+    }
+
+    fn deliver(
+        &mut self,
+        packet: u64,
+        receiver: PartyNumber,
+        now: u64,
+        lines: &mut Vec<Line>,
+    ) -> Result<(), AllocError>
+        ensures { OnOk result (IsAnswered self.old (commands.Deliver packet receiver.number now) lines.old.items lines.new.items self.new) }
+    {
+        let Some(bytes) = self.packets.get(packet) else {
+            lines.push(Line::Bad)?;
+            return Ok(());
+        };
+        let outcomes = self.subscribers[receiver.number].on_datagram(bytes, now)?;
+        tell(lines, &outcomes)
+    }
+
+    fn tick(&mut self, receiver: PartyNumber, now: u64, lines: &mut Vec<Line>) -> Result<(), AllocError>
+        ensures { OnOk result (IsAnswered self.old (commands.Tick receiver.number now) lines.old.items lines.new.items self.new) }
+    {
+        let replies = self.subscribers[receiver.number].tick(now);
+        self.packets.tell_replies(&replies, lines)
+    }
+
+    fn poll(&mut self, receiver: PartyNumber, lines: &mut Vec<Line>) -> Result<(), AllocError>
+        ensures { OnOk result (IsAnswered self.old (commands.Poll receiver.number) lines.old.items lines.new.items self.new) }
+    {
+        let line = self.subscribers[receiver.number].poll();
+        lines.push(line)?;
+        Ok(())
+    }
+
+    fn image(&self, receiver: PartyNumber, lines: &mut Vec<Line>) -> Result<(), AllocError>
+        ensures { OnOk result (IsAnswered self.now (commands.Image receiver.number) lines.old.items lines.new.items self.now) }
+    {
+        let line = self.subscribers[receiver.number].image();
+        lines.push(line)?;
+        Ok(())
+    }
+}
