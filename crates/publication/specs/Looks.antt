@@ -1,7 +1,6 @@
 -- What a publisher sees of a log before it adds.
 use Rattle.std.specs.Prelude.{◌≡◌, ℕ, ◌+◌, ◌*◌, ◌%◌, ◌<◌, ◌≤◌, true, false, List, [], ◌∷◌, ◌++◌, length, Some, slice_set}
 use Rattle.theory.specs.Position.{id_of}
-use Rattle.theory.specs.Refusal.{is_closed, is_connected, limit_in}
 use Rattle.theory.specs.Words.{id_in, offset_in}
 use Rattle.log_buffer.specs.Log.{Log, limit_word_of, offset_of, raw_tail, term_of}
 use Rattle.log_buffer.specs.Passes.{Pass}
@@ -20,12 +19,6 @@ tail_word_seen l = raw_tail l (l.active % 3)
 
 abbrev pub all_seen : Log → List Step
 all_seen l = steps.Limit (limit_word_of l) ∷ steps.Count l.active ∷ steps.Tail (l.active % 3) (tail_word_seen l) ∷ []
-
--- the limit word shows the limit and the flags
-pub record ShowsLimit (l : Log) : Type 0 where
-  pub position : limit_in (limit_word_of l) ≡ l.limit
-  pub connected : is_connected (limit_word_of l) ≡ l.connected
-  pub closed : is_closed (limit_word_of l) ≡ l.closed
 
 -- the active tail is one of the active term, with this offset
 pub record ShowsActive (l : Log) : Type 0 where
