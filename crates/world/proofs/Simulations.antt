@@ -13,7 +13,7 @@ use Rattle.log_buffer.specs.Reader.{Reader}
 use Rattle.world.specs.Reading.{ReadsLine}
 use Rattle.std.specs.Prelude.{replicate}
 use Rattle.rotation.specs.Limited.{CleansAndLimits, raised}
-use Rattle.publication.specs.Offers.{Course, IsClosed, IsStale, IsUsedUp, IsLimited, Fits, Trips, after, after_claim, after_offer, answer_of, course_of, covered}
+use Rattle.publication.specs.Offers.{OfferCase, IsClosed, IsStale, IsUsedUp, IsLimited, Fits, Trips, after, after_claim, after_offer, answer_of, case_of, covered}
 use Rattle.publication.specs.declared.refusal.Refusal.{Refusal}
 use Rattle.script.specs.Meaning as commands
 use Rattle.script.specs.Meaning.{CommandContent}
@@ -43,7 +43,7 @@ use Rattle.term_buffer.specs.declared.claimed.Claimed.{Claimed}
 use Rattle.receiver.specs.Subscribing.{Becomes, RepresentsSubscriber, Subscribing}
 use Rattle.world.proofs.PacketNumbers.{none_past}
 use Rattle.script_run.proofs.OfferRuns.{turned_same}
-use Rattle.script_run.proofs.Runs.{map_get}
+use Rattle.theory.proofs.Tables.{map_get}
 
 -- ---- lines
 
@@ -101,22 +101,22 @@ log_shown old new s log past h o one start =
 abbrev KeptByOffers : Log → List ℕ × ℕ
 KeptByOffers l = (l.consumers, l.start)
 
-pub course_same : {X : Type 0} (f : Log → X) → ((l : Log) (newest active : ℕ) (offsets : List ℕ) → f (record l { newest = newest; active = active; offsets = offsets }) ≡ f l) → (l : Log) (by bytes : ℕ) (c : Course) (fitting : Log) → f fitting ≡ f l → f (with_padding (added l by (l.active % 3) (covered l bytes)) by (room_in l (l.active % 3))) ≡ f l → f (after l by bytes c fitting) ≡ f l
-course_same f blind l by bytes IsClosed fitting h k = refl
-course_same f blind l by bytes IsStale fitting h k = refl
-course_same f blind l by bytes IsUsedUp fitting h k = turned_same f blind l l.active
-course_same f blind l by bytes IsLimited fitting h k = refl
-course_same f blind l by bytes Fits fitting h k = h
-course_same f blind l by bytes Trips fitting h k = turned_same f blind (with_padding (added l by (l.active % 3) (covered l bytes)) by (room_in l (l.active % 3))) l.active ∙ k
+pub case_same : {X : Type 0} (f : Log → X) → ((l : Log) (newest active : ℕ) (offsets : List ℕ) → f (record l { newest = newest; active = active; offsets = offsets }) ≡ f l) → (l : Log) (by bytes : ℕ) (c : OfferCase) (fitting : Log) → f fitting ≡ f l → f (with_padding (added l by (l.active % 3) (covered l bytes)) by (room_in l (l.active % 3))) ≡ f l → f (after l by bytes c fitting) ≡ f l
+case_same f blind l by bytes IsClosed fitting h k = refl
+case_same f blind l by bytes IsStale fitting h k = refl
+case_same f blind l by bytes IsUsedUp fitting h k = turned_same f blind l l.active
+case_same f blind l by bytes IsLimited fitting h k = refl
+case_same f blind l by bytes Fits fitting h k = h
+case_same f blind l by bytes Trips fitting h k = turned_same f blind (with_padding (added l by (l.active % 3) (covered l bytes)) by (room_in l (l.active % 3))) l.active ∙ k
 
-course_keeps : (l : Log) (by bytes : ℕ) (c : Course) (fitting : Log) → KeptByOffers fitting ≡ KeptByOffers l → KeptByOffers (after l by bytes c fitting) ≡ KeptByOffers l
-course_keeps l by bytes c fitting h = course_same KeptByOffers (λ k x y z. refl) l by bytes c fitting h refl
+case_keeps : (l : Log) (by bytes : ℕ) (c : OfferCase) (fitting : Log) → KeptByOffers fitting ≡ KeptByOffers l → KeptByOffers (after l by bytes c fitting) ≡ KeptByOffers l
+case_keeps l by bytes c fitting h = case_same KeptByOffers (λ k x y z. refl) l by bytes c fitting h refl
 
 offer_keeps : (l : Log) (by : ℕ) (m : List ℕ) → KeptByOffers (after_offer l by m) ≡ KeptByOffers l
-offer_keeps l by m = course_keeps l by (length m) (course_of l (length m)) _ refl
+offer_keeps l by m = case_keeps l by (length m) (case_of l (length m)) _ refl
 
 claim_keeps : (l : Log) (by size : ℕ) → KeptByOffers (after_claim l by size) ≡ KeptByOffers l
-claim_keeps l by size = course_keeps l by size (course_of l size) _ refl
+claim_keeps l by size = case_keeps l by size (case_of l size) _ refl
 
 offered_log : (old new : Log) (by : ℕ) (m : List ℕ) (answer : Result ℕ Refusal) (line : LineContent) → OfferedLine old by m answer line new → new ≡ after_offer old by m
 offered_log old new by m (Ok end) line o = o.1

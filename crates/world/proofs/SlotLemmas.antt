@@ -4,7 +4,7 @@ use Rattle.std.proofs.lemmas.Bool.{cases_lt}
 use Rattle.term_buffer.specs.declared.claimed.Claimed as claimed
 use Rattle.world.specs.Slots.{ArePublisherSlots, SlotHolds, pass_of}
 use Rattle.log_buffer.specs.Log.{IsHeld}
-use Rattle.script_run.proofs.Runs.{seat_at}
+use Rattle.theory.proofs.Tables.{seat_at}
 use Rattle.world.proofs.Standing.{are_slots}
 use Rattle.std.specs.List.{insert, remove}
 use Rattle.std.specs.Prelude.{Some, slice_index, slice_index_or, slice_set}

@@ -7,30 +7,26 @@ ghost use Rattle.log_buffer.specs.Passes.{AreAll, HaveBlocks};
 ghost use Rattle.log_buffer.specs.Reader.{AreReaders, IsAt};
 ghost use Rattle.script_run.specs.ScriptState.{listening_at, opened_state};
 ghost use Rattle.receiver.specs.Subscribing.{RepresentsSubscriber};
-ghost use Rattle.script_run.specs.Output.{AlwaysPolled, IsOutputOf};
+ghost use Rattle.script_run.specs.Output.{IsOutputOf};
 ghost use Rattle.world.specs.Lines.{line_contents};
 ghost use Rattle.world.specs.Simulated.{AreFree, AreListening, Continues, ContinuesOpen, RunsTo, RepresentsState};
 ghost use Rattle.script.specs.Meaning as meaning;
 
 use crate::line::Line;
-use crate::outbox::Outbox;
 use crate::packets::Packets;
-use crate::receiver::ReceiverCore;
-use crate::sender::{Denied, SenderCore};
+use crate::publisher_slot::PublisherSlot;
 use crate::simulation::{RECEIVERS, Simulation, close_with};
-use crate::subscriber::Subscriber;
-use crate::slot::PublisherSlot;
 use block::Block;
 use flow_control::UnicastFlow;
-use frames::one_reading;
 use log_buffer::{LogError, LogState, PUBLISHERS, Parts, Publisher, close};
 use position::Geometry;
+use receiver::{ReceiverCore, Subscriber};
 use script::{Command, LogLine, Script};
+use script_run::{polls_a_prefix, shares_are_counted};
+use sender::{Denied, Outbox, SenderCore};
 use std::alloc::{AllocError, Global};
-use theory::names_place;
-use world::every_run;
 
-/// The lines that a script contents_of, or that memory was refused.
+/// The lines that a script prints, or that memory was refused.
 pub fn play(alloc: Global, script: &Script) -> Result<Vec<Line>, AllocError>
     ensures { IfOk result (λ lines. IsOutputOf (meaning.script_content script.now) (line_contents lines.items)) }
 {
@@ -206,19 +202,10 @@ fn run(
     requires { RepresentsState simulation (opened_state simulation.log.identity simulation.log.start (vec_len simulation.readers)) }
     ensures { IfOk result (λ after. RunsTo simulation.log.identity simulation.log.start (vec_len simulation.readers) (meaning.contents_of commands.now) (line_contents lines.items) (line_contents after.items)) }
 {
+    shares_are_counted();
     let played = play_open(&mut simulation, commands, &mut lines);
     let book = simulation.end();
     played?;
     lines.push(Line::Book(book))?;
     Ok(lines)
-}
-
-/// Does nothing, and says of each script that can be answered line by line: what the polls of a receiver printed is
-/// what was published between its join and its position.
-fn polls_a_prefix()
-    ensures { AlwaysPolled }
-{
-    every_run();
-    names_place();
-    one_reading();
 }

@@ -13,13 +13,23 @@ ghost use Rattle.world.specs.Slots.{ArePublisherSlots, SlotHolds, pass_of};
 ghost use Rattle.world.specs.SlotSteps.{Aborts, Claims, Clears, Commits, Ends, Offers, Rewrites};
 
 use crate::line::Line;
-use log_buffer::{Claimed, LogState, Publisher};
+use log_buffer::{LogState, Publisher};
 use publication::{Claim, Denied, offer, try_claim};
 
 /// A publisher, or the open claim that holds it.
 pub enum PublisherSlot {
     Free(Publisher),
     Holding(Claim),
+}
+
+/// What is said where a line can't be had; the slot and the log stay as they are.
+fn refuse(log: &LogState, slot: PublisherSlot) -> (PublisherSlot, Line)
+    ensures slot { result.0 ≡ slot }
+    ensures line { result.1 ≡ Line.Bad }
+    ensures leaves { Leaves log.now log.now }
+{
+    let _ = log.tail();
+    (slot, Line::Bad)
 }
 
 /// Offers a message, and says what came of it.
@@ -47,7 +57,7 @@ fn offer_free(log: &mut LogState, slot: PublisherSlot, message: &[u8]) -> (Publi
     ensures leaves { Leaves log.old log.new }
 {
     match slot {
-        PublisherSlot::Holding(claim) => (PublisherSlot::Holding(claim), Line::Bad),
+        PublisherSlot::Holding(claim) => refuse(log, PublisherSlot::Holding(claim)),
         PublisherSlot::Free(mut publisher) => {
             let line = offer_line(log, &mut publisher, message);
             (PublisherSlot::Free(publisher), line)
@@ -66,7 +76,7 @@ fn claim_line(log: &mut LogState, slot: PublisherSlot, size: u32) -> (PublisherS
     ensures leaves { Leaves log.old log.new }
 {
     match slot {
-        PublisherSlot::Holding(claim) => (PublisherSlot::Holding(claim), Line::Bad),
+        PublisherSlot::Holding(claim) => refuse(log, PublisherSlot::Holding(claim)),
         PublisherSlot::Free(publisher) => match try_claim(log, publisher, size) {
             Ok(claim) => {
                 let start = claim.start();
@@ -90,7 +100,7 @@ fn commit_line(log: &mut LogState, slot: PublisherSlot) -> (PublisherSlot, Line)
     ensures leaves { LeavesOtherClaims (pass_of slot).number log.old log.new }
 {
     match slot {
-        PublisherSlot::Free(publisher) => (PublisherSlot::Free(publisher), Line::Bad),
+        PublisherSlot::Free(publisher) => refuse(log, PublisherSlot::Free(publisher)),
         PublisherSlot::Holding(mut claim) => {
             claim.bytes_mut().fill(b'a');
             let (publisher, end) = claim.commit(log);
@@ -108,7 +118,7 @@ fn abort_line(log: &mut LogState, slot: PublisherSlot) -> (PublisherSlot, Line)
     ensures leaves { LeavesOtherClaims (pass_of slot).number log.old log.new }
 {
     match slot {
-        PublisherSlot::Free(publisher) => (PublisherSlot::Free(publisher), Line::Bad),
+        PublisherSlot::Free(publisher) => refuse(log, PublisherSlot::Free(publisher)),
         PublisherSlot::Holding(claim) => {
             let (publisher, end) = claim.abort(log);
             (PublisherSlot::Free(publisher), Line::Position(end))
@@ -125,7 +135,10 @@ fn ended(log: &mut LogState, slot: PublisherSlot) -> Publisher
     ensures leaves { LeavesOtherClaims (pass_of slot).number log.old log.new }
 {
     match slot {
-        PublisherSlot::Free(publisher) => publisher,
+        PublisherSlot::Free(publisher) => {
+            let _ = log.tail();
+            publisher
+        }
         PublisherSlot::Holding(claim) => {
             let (publisher, _) = claim.abort(log);
             publisher

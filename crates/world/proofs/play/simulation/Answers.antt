@@ -6,7 +6,7 @@ use Rattle.log_buffer.specs.Log.{Log, fresh}
 use Rattle.log_buffer.specs.Reader.{Reader}
 use Rattle.log_reader.specs.Reading.{StandsAt}
 use Rattle.world.proofs.Identities.{same_identity}
-use Rattle.script_run.proofs.Runs.{map_replicate}
+use Rattle.theory.proofs.Tables.{map_replicate}
 use Rattle.world.proofs.SimulationOpens.{free_slots, none_claimed, opens}
 use Rattle.world.proofs.play.simulation.Goals as goal
 

@@ -1,5 +1,5 @@
 use Rattle.std.proofs.Common.{rules}
-use Rattle.script_run.proofs.Runs.{seat_at}
+use Rattle.theory.proofs.Tables.{seat_at}
 use Rattle.world.proofs.Simulations.{image_answered}
 use Rattle.world.proofs.simulation.Simulation.image.Goals as goal
 
