@@ -17,7 +17,8 @@ use Rattle.log_buffer.specs.declared.book.Book.{Book}
 use Rattle.script.specs.Meaning.{Opening, CommandContent, ScriptContent, content_of, contents_of}
 use Rattle.script.specs.declared.command.Command.{Command}
 use Rattle.script_run.specs.Answers.{Answers}
-use Rattle.script_run.specs.Output.{AlwaysCounted, AlwaysPolled, AnswersAll, IsStart, IsOutputOf, IsOutputOfRun, PrintsBook, geometry_of, identity_of}
+use Rattle.log_buffer.specs.Openings.{IsStart}
+use Rattle.script_run.specs.Output.{AlwaysCounted, AlwaysPolled, AnswersAll, IsOutputOf, IsOutputOfRun, PrintsBook, geometry_of, identity_of}
 use Rattle.script_run.specs.LineContents.{Open, LineContent, Shares}
 use Rattle.world.specs.Lines.{line_content, line_contents}
 use Rattle.script_run.specs.Published.{Played}
@@ -135,7 +136,7 @@ runs_from v i start readers os before after h k =
     (subst (λ (n : ℕ). RunsTo v.log.identity n readers os before after) (sym there)
     (subst (λ (n : ℕ). RunsTo v.log.identity v.log.start n os before after) (sym (stage_readers v i start readers h)) k))
 
-plays_on : (script : ScriptContent) (after : List LineContent) → IsGeometry (geometry_of script.log) → IsStart script.log → IsIdentity (identity_of script.log) → AlwaysPolled → RunsTo (identity_of script.log) script.log.start script.log.readers script.commands [] after → IsOutputOfRun script after
+plays_on : (script : ScriptContent) (after : List LineContent) → IsGeometry (geometry_of script.log) → IsStart (geometry_of script.log) script.log.start → IsIdentity (identity_of script.log) → AlwaysPolled → RunsTo (identity_of script.log) script.log.start script.log.readers script.commands [] after → IsOutputOfRun script after
 plays_on script after legal starts identity always h = record {
   legal = legal;
   starts = starts;
@@ -150,7 +151,7 @@ plays_on script after legal starts identity always h = record {
   read = λ done later parts. (always script.log h.played h.last legal identity starts h.answered done later parts).1;
 }
 
-pub stage_plays : (script : ScriptContent) (v : Simulation) (j : Identity) (start readers : ℕ) (after : List LineContent) → j ≡ identity_of script.log → start ≡ script.log.start → readers ≡ script.log.readers → IsGeometry (geometry_of script.log) → IsStart script.log → IsIdentity (identity_of script.log) → AlwaysPolled → RepresentsState v (opened_state j start readers) → RunsTo v.log.identity v.log.start (length v.readers.items) script.commands [] after → IsOutputOf script after
+pub stage_plays : (script : ScriptContent) (v : Simulation) (j : Identity) (start readers : ℕ) (after : List LineContent) → j ≡ identity_of script.log → start ≡ script.log.start → readers ≡ script.log.readers → IsGeometry (geometry_of script.log) → IsStart (geometry_of script.log) script.log.start → IsIdentity (identity_of script.log) → AlwaysPolled → RepresentsState v (opened_state j start readers) → RunsTo v.log.identity v.log.start (length v.readers.items) script.commands [] after → IsOutputOf script after
 stage_plays script v j start readers after same there many legal starts identity always shows runs =
     let here : RepresentsState v (opened_state (identity_of script.log) script.log.start script.log.readers) =
     subst (λ (i : Identity). RepresentsState v (opened_state i script.log.start script.log.readers)) same

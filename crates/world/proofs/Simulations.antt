@@ -23,8 +23,9 @@ use Rattle.theory.specs.Wire.{Wire}
 use Rattle.receiver.specs.declared.receiver_core.Outcome.{Outcome}
 use Rattle.script_run.specs.Answers.{Answers, AreFrames, Claims, HasClaim, MayNotTake, OffersMessage, MayClaim, MayOffer, Offered, claim_by, reader_at, with_claim, with_reader, given_out, lines_of, or_nothing, packet_lines, with_log, with_receiver}
 use Rattle.sender.specs.Cycling.{datagrams}
-use Rattle.receiver.specs.Polling.{Polls, TellsPositions}
-use Rattle.script_run.specs.LineContents.{Bad, Limit, OfReceiver, LineContent}
+use Rattle.receiver.specs.Polling.{Answer, Polls, TellsPositions}
+use Rattle.receiver.specs.declared.positions.Positions.{Positions}
+use Rattle.script_run.specs.LineContents.{Bad, Limit, OfReceiver, LineContent, poll_line, positions_line}
 use Rattle.world.specs.Lines.{line_content, line_contents}
 use Rattle.receiver.specs.Receiving.{Hears, Receiver, replies, ticked}
 use Rattle.script_run.specs.ScriptState.{ScriptState}
@@ -35,7 +36,7 @@ use Rattle.world.specs.SlotSteps as writing
 use Rattle.world.specs.SlotSteps.{Claimed_by, Rewrites}
 use Rattle.world.specs.declared.publisher_slot.PublisherSlot.{PublisherSlot}
 use Rattle.world.specs.declared.publisher_slot.PublisherSlot.TheVariants as slot
-use Rattle.world.proofs.Standing.{claim_at_place, found, is_held}
+use Rattle.world.proofs.Standing.{claim_at_place, found}
 use Rattle.log_buffer.specs.Passes.{Pass}
 use Rattle.publication.specs.Claims.{Filling, claim_at}
 use Rattle.theory.specs.Position.{max_message, max_payload}
@@ -156,25 +157,25 @@ subscriber_shown old new s k v r h o shown = record {
   packets = h.packets ∙ sym o.packets;
 }
 
-pub poll_answered : (old new : Simulation) (k : ℕ) (v w : Subscribing) (line : Line) (before after : List Line) → slice_get old.subscribers.items k ≡ Some v → Becomes v w (λ r s. Polls r (line_content line) s) → OnlySubscriber old new k w → after ≡ before ++ line ∷ [] → IsAnswered old (commands.Poll k) before after new
-poll_answered old new k v w line before after there polls o told = λ s h.
+pub poll_answered : (old new : Simulation) (k : ℕ) (v w : Subscribing) (answer : Answer) (line : Line) (before after : List Line) → slice_get old.subscribers.items k ≡ Some v → Becomes v w (λ r s. Polls r answer s) → line_content line ≡ poll_line answer → OnlySubscriber old new k w → after ≡ before ++ line ∷ [] → IsAnswered old (commands.Poll k) before after new
+poll_answered old new k v w answer line before after there polls said o told = λ s h.
     let found = shows_at old.subscribers.items s.receivers k v h.receivers there in
     let next = polls found.0 found.2 in
     record {
       lines = line_content line ∷ [];
       state = with_receiver s k next.0;
-      answers = (line_content line, found.0, next.0, found.1, next.1, refl, refl);
+      answers = (answer, found.0, next.0, found.1, next.1, ap (λ x. x ∷ []) said, refl);
       printed = one_line before after line told;
       shows = subscriber_shown old new s k w next.0 h o next.2;
     }
 
-pub image_answered : (old : Simulation) (k : ℕ) (v : Subscribing) (line : Line) (before after : List Line) → slice_get old.subscribers.items k ≡ Some v → ((r : Receiver) → RepresentsSubscriber v r → TellsPositions r (line_content line)) → after ≡ before ++ line ∷ [] → IsAnswered old (commands.Image k) before after old
-image_answered old k v line before after there tells told = λ s h.
+pub image_answered : (old : Simulation) (k : ℕ) (v : Subscribing) (positions : Option Positions) (line : Line) (before after : List Line) → slice_get old.subscribers.items k ≡ Some v → ((r : Receiver) → RepresentsSubscriber v r → TellsPositions r positions) → line_content line ≡ positions_line positions → after ≡ before ++ line ∷ [] → IsAnswered old (commands.Image k) before after old
+image_answered old k v positions line before after there tells said told = λ s h.
     let found = shows_at old.subscribers.items s.receivers k v h.receivers there in
     record {
       lines = line_content line ∷ [];
       state = s;
-      answers = (line_content line, found.0, found.1, tells found.0 found.2, refl, refl);
+      answers = (positions, found.0, found.1, tells found.0 found.2, ap (λ x. x ∷ []) said, refl);
       printed = one_line before after line told;
       shows = h;
     }
@@ -358,7 +359,7 @@ has_claim old s by claim v new low legal h number holds at = record {
   publisher = low;
   open_claim = at.before;
   owner = holds.0 ∙ number;
-  held = is_held s.log claim.claimed holds.1;
+  held = holds.1.held;
   short = holds.1.short;
 }
 

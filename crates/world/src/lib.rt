@@ -8,10 +8,10 @@
 mod handlers;
 mod line;
 mod packets;
-mod play;
 mod publisher_slot;
 mod simulation;
+mod whole_script;
 
 pub use line::Line;
 pub use model::every_run;
-pub use play::play;
+pub use whole_script::play;

@@ -203,7 +203,7 @@ pub fn commit_by(log: &mut LogState, slots: &mut Vec<PublisherSlot>, number: usi
     ensures line { Rewrites slots.old.items slots.new.items number (λ w v. Commits log.old w log.new v (line_content result)) }
     ensures eight { vec_len slots.new ≡ 8 }
     ensures each { ArePublisherSlots log.new 0 slots.new.items }
-    ensures leaves { Leaves log.old log.new }
+    ensures leaves { LeavesOtherClaims number log.old log.new }
 {
     let slot = slots.remove(number);
     let (slot, line) = commit_line(log, slot);
@@ -219,7 +219,7 @@ pub fn abort_by(log: &mut LogState, slots: &mut Vec<PublisherSlot>, number: usiz
     ensures line { Rewrites slots.old.items slots.new.items number (λ w v. Aborts log.old w log.new v (line_content result)) }
     ensures eight { vec_len slots.new ≡ 8 }
     ensures each { ArePublisherSlots log.new 0 slots.new.items }
-    ensures leaves { Leaves log.old log.new }
+    ensures leaves { LeavesOtherClaims number log.old log.new }
 {
     let slot = slots.remove(number);
     let (slot, line) = abort_line(log, slot);

@@ -1,6 +1,6 @@
 use Rattle.std.proofs.Common.{rules}
 use Rattle.world.proofs.Listened.{one_more}
-use Rattle.world.proofs.play.subscribers.Goals as goal
+use Rattle.world.proofs.whole_script.subscribers.Goals as goal
 
 pub loop-number-preserved : goal.loop-number-preserved
 loop-number-preserved c = (

@@ -1,6 +1,6 @@
 use Rattle.std.proofs.Common.{◌≡◌, vec_len}
 use Rattle.world.proofs.Listened.{FirstListen}
-use Rattle.world.proofs.play.subscribers.Given as goal
+use Rattle.world.proofs.whole_script.subscribers.Given as goal
 
 abbrev pub invariant-loop-number : goal.invariant-loop-number
 invariant-loop-number l =

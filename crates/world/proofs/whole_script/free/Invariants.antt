@@ -1,6 +1,6 @@
 use Rattle.std.proofs.Common.{◌≡◌, ◌≤◌, ◌+◌, ◌++◌, map, vec_len, vec_capacity}
 use Rattle.world.specs.declared.publisher_slot.PublisherSlot.TheVariants as slot
-use Rattle.world.proofs.play.free.Given as goal
+use Rattle.world.proofs.whole_script.free.Given as goal
 
 abbrev pub invariant-loop-slots : goal.invariant-loop-slots
 invariant-loop-slots l = record {

@@ -1,6 +1,6 @@
 use Rattle.std.proofs.Common.{◌≡◌, length, rules}
 use Rattle.world.proofs.ScriptRuns.{runs_to}
-use Rattle.world.proofs.play.run.Goals as goal
+use Rattle.world.proofs.whole_script.run.Goals as goal
 
 pub returns : goal.returns
 returns c =

@@ -3,7 +3,7 @@ use Rattle.std.specs.Prelude.{ℕ, ◌/◌}
 use Rattle.std.proofs.lemmas.Int.{to_z-of_z}
 use Rattle.std.proofs.lemmas.Result.{IfOk-weaker}
 use Rattle.world.proofs.Listened.{shows_listening}
-use Rattle.world.proofs.play.subscriber.Goals as goal
+use Rattle.world.proofs.whole_script.subscriber.Goals as goal
 
 pub returns : goal.returns
 returns c =

@@ -8,7 +8,7 @@ use Rattle.log_reader.specs.Reading.{StandsAt}
 use Rattle.world.proofs.Identities.{same_identity}
 use Rattle.theory.proofs.Tables.{map_replicate}
 use Rattle.world.proofs.SimulationOpens.{free_slots, none_claimed, opens}
-use Rattle.world.proofs.play.simulation.Goals as goal
+use Rattle.world.proofs.whole_script.simulation.Goals as goal
 
 pub invariant_of-result : goal.invariant_of-result
 invariant_of-result c =

@@ -1,5 +1,7 @@
 use Rattle.std.proofs.Common.{◌≡◌, ◌∙◌, ◌<◌, ◌-◌, ℕ, arith, length, vec_len, List, [], rules, ap, sym, subst, FitsSigned, w32, to_z, of_z}
 use Rattle.std.specs.Prelude.{ℤ, Err}
+use Rattle.log_buffer.specs.Log.{Log}
+use Rattle.log_buffer.specs.Passes.{HaveBlocks}
 use Rattle.log_buffer.specs.declared.fault.LogError.TheVariants.{Start}
 use Rattle.std.proofs.lemmas.Int.{to_z-of_z}
 use Rattle.std.proofs.lemmas.Result.{IfOk-weaker}
@@ -12,7 +14,10 @@ use Rattle.world.specs.Lines.{line_contents}
 use Rattle.world.specs.Simulated.{RunsTo}
 use Rattle.world.proofs.ScriptRuns.{refused_start, stage_plays}
 use Rattle.world.proofs.Identities.{same_identity}
-use Rattle.world.proofs.play.play.Goals as goal
+use Rattle.world.proofs.whole_script.play.Goals as goal
+
+pub simulation-requires-clause-blocks : goal.simulation-requires-clause-blocks
+simulation-requires-clause-blocks c = subst (λ (n : ℕ). HaveBlocks n c.in-Ok-open.parts.publishers.items) (sym (ap (λ (l : Log). l.identity.geometry.mtu) c.in-Ok-open.ensures.log)) c.in-Ok-open.ensures.passes.blocks
 
 pub returns-in_ok-simulation-in-Ok-open : goal.returns-in_ok-simulation-in-Ok-open
 returns-in_ok-simulation-in-Ok-open c =
@@ -31,9 +36,9 @@ returns-in_ok-simulation-in-Ok-open c =
     stage_plays script simulation c.in-Ok-open.state.identity c.in-Ok-open.state.start (vec_len c.in-Ok-open.parts.readers - 1) (line_contents after.items)
     (ap (λ l. l.identity) c.in-Ok-open.ensures.log ∙ sym named)
     (ap (λ l. l.start) c.in-Ok-open.ensures.log)
-    (omega (arith, c.in-Ok-open.ensures.count))
+    (omega (arith, c.in-Ok-open.ensures.passes.count))
     (subst IsGeometry made c.in-Ok.ensures.legal)
-    (c.in-Ok-open.ensures.in_range.0, subst (λ (g : Geometry). log.start < max_position g) made c.in-Ok-open.ensures.in_range.1)
+    (c.in-Ok-open.ensures.in_range.0.0, subst (λ (g : Geometry). log.start < max_position g) made c.in-Ok-open.ensures.in_range.0.1)
     (record { session = session; stream = stream })
     c.polls_a_prefix.ensures
     c.in_ok-simulation-in-Ok-open.ensures
