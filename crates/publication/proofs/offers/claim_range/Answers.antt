@@ -1,4 +1,4 @@
-use Rattle.std.proofs.Common.{arith, ap, ◌∙◌, sym, ◌≡◌, ℕ, ◌+◌, ◌%◌, ◌≤◌, Some, List, [], ◌∷◌, ◌++◌, length, subst}
+use Rattle.std.proofs.Common.{arith, rules, ap, ◌∙◌, sym, ◌≡◌, ℕ, ◌+◌, ◌%◌, ◌≤◌, Some, List, [], ◌∷◌, ◌++◌, length, subst}
 use Rattle.std.specs.Prelude.{slice_get, slice_set, Ok, Err}
 use Rattle.std.proofs.lemmas.Result.{IfErr-weaker, IfOk-weaker}
 use Rattle.theory.specs.Position.{max_message, max_position}
@@ -32,9 +32,6 @@ add_range-requires-clause-short c =
     let s = c.in-Open.ensures in
     subst (λ (l : Log). c.args.size ≤ max_message l.identity.geometry) (sym s.saw.5) (omega (arith, c.requires, s.leaves.was.geometry.mtu.greatest, s.leaves.was.geometry.mtu.within))
 
-pub add_range-requires-clause-last : goal.add_range-requires-clause-last
-add_range-requires-clause-last c = let s = c.in-Open.ensures in omega (arith, s.saw.1, s.counted)
-
 pub add_range-requires-clause-armed : goal.add_range-requires-clause-armed
 add_range-requires-clause-armed c =
     let s = c.in-Open.ensures in
@@ -45,9 +42,6 @@ add_range-requires-clause-armed c =
 
 pub add_range-requires-clause-legal : goal.add_range-requires-clause-legal
 add_range-requires-clause-legal c = c.in-Open.ensures.leaves.legal
-
-pub add_range-requires-clause-opened : goal.add_range-requires-clause-opened
-add_range-requires-clause-opened c = let s = c.in-Open.ensures in opened_before c.args.log.now c.look_at.new.log c.in-Open.count _ s.saw.5 s.leaves.was s.saw.1
 
 pub returns-in-Stale-clause-justified : goal.returns-in-Stale-clause-justified
 returns-in-Stale-clause-justified c = let s = c.in-Stale.ensures in stale c.args.log.now (covered c.args.log.now c.args.size) c.look_at.new.publisher.steps s.saw.3 s.limit s.saw.0 s.saw.2
@@ -127,3 +121,15 @@ returns-in-UsedUp-clause-leaves c = Leaves_then c.look_at.ensures.leaves c.turn_
 
 pub returns-in-Open-clause-leaves : goal.returns-in-Open-clause-leaves
 returns-in-Open-clause-leaves c = Leaves_then c.look_at.ensures.leaves c.add_range.ensures.leaves
+
+pub add_range-requires-clause-term : goal.add_range-requires-clause-term
+add_range-requires-clause-term c =
+    let s = c.in-Open.ensures in
+    record {
+      last = omega (arith, s.saw.1, s.counted);
+      newest = search rules;
+      inside = search rules;
+      opened = opened_before c.args.log.now c.look_at.new.log c.in-Open.count _ s.saw.5 s.leaves.was s.saw.1;
+      shows_id = search rules;
+      shows_offset = search rules;
+    }
