@@ -1,11 +1,11 @@
 use Rattle.std.proofs.Common.{arith, rules, ap, ◌∙◌, sym, ◌≡◌, ℕ, ◌+◌, ◌%◌, ◌≤◌, Some, List, [], ◌∷◌, ◌++◌, length, subst}
-use Rattle.std.specs.Prelude.{slice_get, slice_set, Ok, Err}
+use Rattle.std.specs.Prelude.{false, slice_get, slice_set, Ok, Err}
 use Rattle.std.proofs.lemmas.Result.{IfErr-weaker, IfOk-weaker}
 use Rattle.theory.specs.Position.{max_message, max_position}
 use Rattle.theory.specs.Refusal.{IsJustified}
 use Rattle.theory.proofs.Tables.{get_put}
 use Rattle.term_buffer.specs.declared.claimed.Claimed.{Claimed}
-use Rattle.log_buffer.specs.Log.{Log, raw_tail}
+use Rattle.log_buffer.specs.Log.{Log, added, raw_tail, with_claim}
 use Rattle.log_buffer.specs.Passes.{Pass, sights}
 use Rattle.log_buffer.specs.declared.step.Step.{Step}
 use Rattle.log_buffer.specs.declared.step.Step.TheVariants as steps
@@ -13,12 +13,12 @@ use Rattle.log_buffer.proofs.Leaves.{Leaves_then}
 use Rattle.publication.specs.Claims.{claim_at}
 use Rattle.publication.specs.Grants.{IsGranted}
 use Rattle.publication.specs.Looks.{all_seen, tail_word_seen}
-use Rattle.publication.specs.Offers.{added_case, after_claim, after_case, answer_at, answer_of, covered}
+use Rattle.publication.specs.Offers.{OfferCase, added_case, after, after_case, after_claim, answer, answer_at, answer_of, covered, refusal_at_end, turned_from}
 use Rattle.publication.specs.Outcomes.{IsRange}
 use Rattle.publication.specs.Refusals.{why_of}
 use Rattle.publication.specs.declared.refusal.Refusal.{Refusal}
 use Rattle.publication.proofs.Granted.{open_granted}
-use Rattle.publication.proofs.Justified.{after_is, answer_is, finished_at, limited_refusal, on_both, open_justified, opened_before, stale, used_up}
+use Rattle.publication.proofs.Justified.{after_is, answer_is, finished_at, limited_refusal, on_both, open_justified, opened_before, stale, used_up, used_up_is}
 use Rattle.publication.proofs.offers.claim_range.Goals as goal
 
 pub turn_from-requires-clause-last : goal.turn_from-requires-clause-last
@@ -133,3 +133,18 @@ add_range-requires-clause-term c =
       shows_id = search rules;
       shows_offset = search rules;
     }
+
+pub returns-in-UsedUp-clause-refused : goal.returns-in-UsedUp-clause-refused
+returns-in-UsedUp-clause-refused c =
+    let s = c.in-UsedUp.ensures in
+    ap (answer c.args.log.now c.args.size) (used_up_is c.args.log.now c.args.size s.saw.0 s.saw.2.kept s.saw.3)
+    ∙ ap (λ (n : ℕ). Err (refusal_at_end n)) (sym s.saw.1)
+    ∙ ap (λ (r : Refusal). Err r) (sym c.turn_from.ensures.refusal)
+
+pub returns-in-UsedUp-clause-after : goal.returns-in-UsedUp-clause-after
+returns-in-UsedUp-clause-after c =
+    let s = c.in-UsedUp.ensures in
+    c.turn_from.ensures.turned
+    ∙ ap (λ (m : Log). turned_from m c.in-UsedUp.count) s.saw.5
+    ∙ ap (turned_from c.args.log.now) s.saw.1
+    ∙ sym (ap (λ (k : OfferCase). after c.args.log.now c.args.publisher.now.number c.args.size k (with_claim (added c.args.log.now c.args.publisher.now.number (c.args.log.now.active % 3) (covered c.args.log.now c.args.size)) c.args.publisher.now.number false c.args.size)) (used_up_is c.args.log.now c.args.size s.saw.0 s.saw.2.kept s.saw.3))
