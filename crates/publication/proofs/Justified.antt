@@ -1,7 +1,7 @@
 -- What a publisher saw justifies what it answers.
 use Rattle.std.specs.Prelude.{◌≡◌, ℕ, ◌+◌, ◌-◌, ◌*◌, ◌/◌, ◌%◌, ◌^◌, ◌<◌, ◌≤◌, Bool, true, false, List, [], ◌∷◌, ◌++◌, length, nat_eq, nat_le, nat_lt, Option, None, if◌then◌else◌, slice_set, Result, Ok, Err, IfOk}
 use Rattle.std.proofs.Common.{arith, refl, sym, ap, ◌∙◌, subst, inl, inr, ⊎_elim}
-use Rattle.std.proofs.lemmas.Bool.{cases_lt, eq-eqb, false≢true, eqb-true, cond-false, le-ltb, leb-false, lt-leb}
+use Rattle.std.proofs.lemmas.Bool.{cases_lt, eq-eqb, false≢true, eqb-true, cond-false, cond-true, le-leb, le-ltb, leb-false, lt-leb}
 use Rattle.std.proofs.lemmas.List.{set-set}
 use Rattle.theory.specs.Position.{count_of, id_of}
 use Rattle.theory.specs.Refusal.{IsCause, IsJustified, SawCount, SawLimit, SawTail, AddedTo, is_closed}
@@ -156,6 +156,15 @@ tripped_by l taken more false e small legal shows not_closed active over = (
     })),
   ),
 )
+
+pub used_up_is : (l : Log) (bytes : ℕ) → l.closed ≡ false → l.newest ≤ l.active + 2 → term_of l ≤ offset_of l l.active → case_of l bytes ≡ IsUsedUp
+used_up_is l bytes not_closed kept over =
+    let at_limit : OfferCase = if nat_le l.limit l.tail then IsLimited else added_case l l.active bytes in
+    let at_end : OfferCase = if nat_le (term_of l) (offset_of l l.active) then IsUsedUp else (if nat_le l.limit l.tail then IsLimited else added_case l l.active bytes) in
+    let at_tail : OfferCase = if nat_lt (l.active + 2) l.newest then IsStale else (if nat_le (term_of l) (offset_of l l.active) then IsUsedUp else (if nat_le l.limit l.tail then IsLimited else added_case l l.active bytes)) in
+    cond-false l.closed IsClosed at_tail not_closed
+    ∙ cond-false (nat_lt (l.active + 2) l.newest) IsStale at_end (le-ltb (l.active + 2) l.newest kept)
+    ∙ cond-true (nat_le (term_of l) (offset_of l l.active)) IsUsedUp at_limit (le-leb (term_of l) (offset_of l l.active) over)
 
 -- ---- an open term
 

@@ -1,14 +1,13 @@
 ghost use Rattle.std.specs.Prelude.{◌≡◌, ◌+◌, ◌/◌, ◌%◌, ◌<◌, ◌≤◌, ◌^◌, Some, Ok, Err, IfErr, IfOk, length, max, slice_get, if◌then◌else◌};
-ghost use Rattle.theory.specs.Position.{id_of, max_message, max_payload};
+ghost use Rattle.theory.specs.Position.{max_message, max_payload};
 ghost use Rattle.theory.specs.Refusal.{IsJustified};
-ghost use Rattle.theory.specs.Words.{id_in, offset_in};
 ghost use Rattle.log_buffer.specs.Leaves.{Leaves};
-ghost use Rattle.log_buffer.specs.Log.{IsFinished, IsLog, offset_of, raw_tail, term_of};
+ghost use Rattle.log_buffer.specs.Log.{IsFinished, IsLog};
 ghost use Rattle.log_buffer.specs.Passes.{HasSeenEnd, sights};
 ghost use Rattle.rotation.specs.Turning.{Adds};
 ghost use Rattle.publication.specs.Claims.{HasFewSteps};
 ghost use Rattle.publication.specs.Grants.{IsGranted};
-ghost use Rattle.publication.specs.Looks.{AddsThen};
+ghost use Rattle.publication.specs.Looks.{AddsThen, IsOpenTerm};
 ghost use Rattle.publication.specs.Offers.{added_case, after_claim, after_case, after_offer, answer_at, answer_of, covered, refusal_at_end, turned_from};
 ghost use Rattle.publication.specs.Outcomes.{IsRange};
 ghost use Rattle.publication.specs.Refusals.{why_of};
@@ -104,14 +103,9 @@ fn add_range(
 ) -> Result<Claimed, Refusal>
     requires short { size ≤ max_message log.old.identity.geometry }
     requires few { length publisher.old.steps ≤ 3 }
-    requires last { count < 2 ^ 31 }
     requires armed { slice_get log.old.armed publisher.old.number ≡ Some (Some (count % 3)) }
     requires legal { IsLog log.old }
-    requires newest { log.old.newest ≡ count }
-    requires inside { offset_of log.old count < term_of log.old }
-    requires opened { log.old.start / term_of log.old ≤ count }
-    requires shows_id { id_in (raw_tail log.old (count % 3)) ≡ id_of log.old.identity.geometry count }
-    requires shows_offset { offset_in (raw_tail log.old (count % 3)) ≡ offset_of log.old count }
+    requires term { IsOpenTerm log.old count }
     ensures accepted { IfOk result (IsRange log.old publisher.old.number size (answer_at log.old count size (added_case log.old count size)) log.new) }
     ensures refused { IfErr result (λ refusal. answer_at log.old count size (added_case log.old count size) ≡ Err refusal) }
     ensures after { log.new ≡ after_case log.old publisher.old.number count size (added_case log.old count size) }

@@ -51,14 +51,14 @@ pub turn_from-requires-clause-seen : goal.turn_from-requires-clause-seen
 turn_from-requires-clause-seen c =
     let steps : c.add-added.new.publisher.steps ≡ c.args.publisher.now.steps ++ steps.Addition (c.args.count % 3) (covered c.args.log.now c.args.size) (raw_tail c.args.log.now (c.args.count % 3)) ∷ [] = search rules in
     let same : c.write_padding.new.log.identity.geometry ≡ c.args.log.now.identity.geometry = (ap (λ (i : Identity). i.geometry) (keeps c).identity) in
-    seen_past c.args.log.now c.write_padding.new.log.identity.geometry c.args.publisher.now.steps c.add-added.new.publisher.steps c.args.count (covered c.args.log.now c.args.size) (is_short c) steps same c.requires.shows_id c.requires.shows_offset
+    seen_past c.args.log.now c.write_padding.new.log.identity.geometry c.args.publisher.now.steps c.add-added.new.publisher.steps c.args.count (covered c.args.log.now c.args.size) (is_short c) steps same c.requires.term.shows_id c.requires.term.shows_offset
 
 pub turn_from-requires-clause-finished : goal.turn_from-requires-clause-finished
 turn_from-requires-clause-finished c =
     let offsets : c.write_padding.new.log.offsets ≡ slice_set c.args.log.now.offsets (c.args.count % 3) (offset_of c.args.log.now c.args.count + covered c.args.log.now c.args.size) = search rules in
     let room : room_in c.args.log.now (c.args.count % 3) < covered c.args.log.now c.args.size = leb-false (covered c.args.log.now c.args.size) (room_in c.args.log.now (c.args.count % 3)) (is_short c) in
     let past : term_of c.args.log.now ≤ offset_of c.write_padding.new.log c.args.count = past_end c.args.log.now c.write_padding.new.log.offsets (c.args.count % 3) (covered c.args.log.now c.args.size) c.requires.legal.three (omega arith) room offsets in
-    λ last. finished_there c.args.log.now c.write_padding.new.log c.args.count (ap (λ (i : Identity). i.geometry) (keeps c).identity) (keeps c).start (keeps c).newest c.requires.opened c.requires.newest past last
+    λ last. finished_there c.args.log.now c.write_padding.new.log c.args.count (ap (λ (i : Identity). i.geometry) (keeps c).identity) (keeps c).start (keeps c).newest c.requires.term.opened c.requires.term.newest past last
 
 pub returns-in-Some-2-clause-after : goal.returns-in-Some-2-clause-after
 returns-in-Some-2-clause-after c =

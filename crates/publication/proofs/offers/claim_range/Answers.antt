@@ -1,11 +1,11 @@
-use Rattle.std.proofs.Common.{arith, ap, ◌∙◌, sym, ◌≡◌, ℕ, ◌+◌, ◌%◌, ◌≤◌, Some, List, [], ◌∷◌, ◌++◌, length, subst}
-use Rattle.std.specs.Prelude.{slice_get, slice_set, Ok, Err}
+use Rattle.std.proofs.Common.{arith, rules, ap, ◌∙◌, sym, ◌≡◌, ℕ, ◌+◌, ◌%◌, ◌≤◌, Some, List, [], ◌∷◌, ◌++◌, length, subst}
+use Rattle.std.specs.Prelude.{false, slice_get, slice_set, Ok, Err}
 use Rattle.std.proofs.lemmas.Result.{IfErr-weaker, IfOk-weaker}
 use Rattle.theory.specs.Position.{max_message, max_position}
 use Rattle.theory.specs.Refusal.{IsJustified}
 use Rattle.theory.proofs.Tables.{get_put}
 use Rattle.term_buffer.specs.declared.claimed.Claimed.{Claimed}
-use Rattle.log_buffer.specs.Log.{Log, raw_tail}
+use Rattle.log_buffer.specs.Log.{Log, added, raw_tail, with_claim}
 use Rattle.log_buffer.specs.Passes.{Pass, sights}
 use Rattle.log_buffer.specs.declared.step.Step.{Step}
 use Rattle.log_buffer.specs.declared.step.Step.TheVariants as steps
@@ -13,12 +13,12 @@ use Rattle.log_buffer.proofs.Leaves.{Leaves_then}
 use Rattle.publication.specs.Claims.{claim_at}
 use Rattle.publication.specs.Grants.{IsGranted}
 use Rattle.publication.specs.Looks.{all_seen, tail_word_seen}
-use Rattle.publication.specs.Offers.{added_case, after_claim, after_case, answer_at, answer_of, covered}
+use Rattle.publication.specs.Offers.{OfferCase, added_case, after, after_case, after_claim, answer, answer_at, answer_of, covered, refusal_at_end, turned_from}
 use Rattle.publication.specs.Outcomes.{IsRange}
 use Rattle.publication.specs.Refusals.{why_of}
 use Rattle.publication.specs.declared.refusal.Refusal.{Refusal}
 use Rattle.publication.proofs.Granted.{open_granted}
-use Rattle.publication.proofs.Justified.{after_is, answer_is, finished_at, limited_refusal, on_both, open_justified, opened_before, stale, used_up}
+use Rattle.publication.proofs.Justified.{after_is, answer_is, finished_at, limited_refusal, on_both, open_justified, opened_before, stale, used_up, used_up_is}
 use Rattle.publication.proofs.offers.claim_range.Goals as goal
 
 pub turn_from-requires-clause-last : goal.turn_from-requires-clause-last
@@ -32,9 +32,6 @@ add_range-requires-clause-short c =
     let s = c.in-Open.ensures in
     subst (λ (l : Log). c.args.size ≤ max_message l.identity.geometry) (sym s.saw.5) (omega (arith, c.requires, s.leaves.was.geometry.mtu.greatest, s.leaves.was.geometry.mtu.within))
 
-pub add_range-requires-clause-last : goal.add_range-requires-clause-last
-add_range-requires-clause-last c = let s = c.in-Open.ensures in omega (arith, s.saw.1, s.counted)
-
 pub add_range-requires-clause-armed : goal.add_range-requires-clause-armed
 add_range-requires-clause-armed c =
     let s = c.in-Open.ensures in
@@ -45,9 +42,6 @@ add_range-requires-clause-armed c =
 
 pub add_range-requires-clause-legal : goal.add_range-requires-clause-legal
 add_range-requires-clause-legal c = c.in-Open.ensures.leaves.legal
-
-pub add_range-requires-clause-opened : goal.add_range-requires-clause-opened
-add_range-requires-clause-opened c = let s = c.in-Open.ensures in opened_before c.args.log.now c.look_at.new.log c.in-Open.count _ s.saw.5 s.leaves.was s.saw.1
 
 pub returns-in-Stale-clause-justified : goal.returns-in-Stale-clause-justified
 returns-in-Stale-clause-justified c = let s = c.in-Stale.ensures in stale c.args.log.now (covered c.args.log.now c.args.size) c.look_at.new.publisher.steps s.saw.3 s.limit s.saw.0 s.saw.2
@@ -127,3 +121,30 @@ returns-in-UsedUp-clause-leaves c = Leaves_then c.look_at.ensures.leaves c.turn_
 
 pub returns-in-Open-clause-leaves : goal.returns-in-Open-clause-leaves
 returns-in-Open-clause-leaves c = Leaves_then c.look_at.ensures.leaves c.add_range.ensures.leaves
+
+pub add_range-requires-clause-term : goal.add_range-requires-clause-term
+add_range-requires-clause-term c =
+    let s = c.in-Open.ensures in
+    record {
+      last = omega (arith, s.saw.1, s.counted);
+      newest = search rules;
+      inside = search rules;
+      opened = opened_before c.args.log.now c.look_at.new.log c.in-Open.count _ s.saw.5 s.leaves.was s.saw.1;
+      shows_id = search rules;
+      shows_offset = search rules;
+    }
+
+pub returns-in-UsedUp-clause-refused : goal.returns-in-UsedUp-clause-refused
+returns-in-UsedUp-clause-refused c =
+    let s = c.in-UsedUp.ensures in
+    ap (answer c.args.log.now c.args.size) (used_up_is c.args.log.now c.args.size s.saw.0 s.saw.2.kept s.saw.3)
+    ∙ ap (λ (n : ℕ). Err (refusal_at_end n)) (sym s.saw.1)
+    ∙ ap (λ (r : Refusal). Err r) (sym c.turn_from.ensures.refusal)
+
+pub returns-in-UsedUp-clause-after : goal.returns-in-UsedUp-clause-after
+returns-in-UsedUp-clause-after c =
+    let s = c.in-UsedUp.ensures in
+    c.turn_from.ensures.turned
+    ∙ ap (λ (m : Log). turned_from m c.in-UsedUp.count) s.saw.5
+    ∙ ap (turned_from c.args.log.now) s.saw.1
+    ∙ sym (ap (λ (k : OfferCase). after c.args.log.now c.args.publisher.now.number c.args.size k (with_claim (added c.args.log.now c.args.publisher.now.number (c.args.log.now.active % 3) (covered c.args.log.now c.args.size)) c.args.publisher.now.number false c.args.size)) (used_up_is c.args.log.now c.args.size s.saw.0 s.saw.2.kept s.saw.3))
