@@ -1,7 +1,7 @@
 ghost use Rattle.std.specs.Prelude.{◌≡◌};
 ghost use Rattle.conductor.specs.Parties.{AreFirst};
 
-use super::*;
+use conductor::{CLIENTS, Client, Command, Conductor, Submitted, Taker, finish};
 use std::sync::Wait;
 use std::test::*;
 use std::thread;

@@ -1,5 +1,5 @@
-use super::*;
 use frames::Setup;
+use setup::{SenderSetup, SetupError, judge};
 use std::test::*;
 
 /// A SETUP of the term with id 7, at its first byte.

@@ -1,7 +1,7 @@
 ghost use Rattle.std.specs.Prelude.{◌≡◌, ◌≤◌, ◌*◌, IfOk};
 
-use super::*;
 use position::{Gap, Geometry};
+use retransmit::{NakResult, Retransmit};
 use std::alloc::Global;
 use std::test::*;
 

@@ -1,4 +1,4 @@
-use super::*;
+use loss_injector::{Injector, Rates, RatesError, Verdict, decide};
 use std::test::*;
 
 #[test]

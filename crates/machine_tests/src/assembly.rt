@@ -1,4 +1,4 @@
-use super::*;
+use assembler::{Assembler, AssemblyError};
 use linked_list_allocator::LocalHeap;
 use std::test::*;
 

@@ -1,5 +1,5 @@
-use super::*;
 use frames::{Frame, read_frame};
+use loss_detector::{LossDetector, first_gap};
 use position::{Gap, Geometry};
 use rebuilder::{Image, Insert};
 use std::process::Abort;

@@ -1,7 +1,7 @@
 use Rattle.std.proofs.Common.{arith, ap}
 use Rattle.conductor.specs.Parties.{ClientSeen}
 use Rattle.conductor.proofs.Rows.{first_kept}
-use Rattle.conductor.proofs.tests.in_order.Goals as goal
+use Rattle.machine_tests.proofs.commands.in_order.Goals as goal
 
 pub finish-left-requires-clause-clients : goal.finish-left-requires-clause-clients
 finish-left-requires-clause-clients g c =

@@ -1,4 +1,4 @@
-use super::*;
+use flow_control::{FlowControl, UnicastFlow};
 use std::test::*;
 
 /// Status messages (position, window) in order, and the limit behind each, from start 0.
