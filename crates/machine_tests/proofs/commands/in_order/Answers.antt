@@ -1,6 +1,6 @@
 use Rattle.std.proofs.Common.{arith, ap}
 use Rattle.conductor.specs.Parties.{ClientSeen}
-use Rattle.conductor.proofs.Rows.{first_kept}
+use Rattle.machine_tests.proofs.Rows.{first_kept}
 use Rattle.machine_tests.proofs.commands.in_order.Goals as goal
 
 pub finish-left-requires-clause-clients : goal.finish-left-requires-clause-clients
