@@ -1,6 +1,6 @@
-use rotation::{clean_and_limit, set_closed, set_connected};
 use log_buffer::{LogState, Parts, close};
 use position::Geometry;
+use rotation::{clean_and_limit, set_closed, set_connected};
 use std::test::*;
 
 /// What a keeper makes of a log in which nothing is claimed.

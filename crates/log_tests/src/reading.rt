@@ -1,6 +1,6 @@
-use log_reader::{learn, next};
 use block::Block;
 use log_buffer::{LogState, Parts, close};
+use log_reader::{learn, next};
 use position::Geometry;
 use std::test::*;
 

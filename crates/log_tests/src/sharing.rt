@@ -1,8 +1,8 @@
 ghost use Rattle.std.specs.Prelude.{◌≡◌, ◌<◌, ◌≤◌, length};
 ghost use Rattle.log_buffer.specs.Passes.{AreAll};
 
-use locked_log::{Elsewhere, Log};
 use block::Block;
+use locked_log::{Elsewhere, Log};
 use log_buffer::{Keeper, LogReader, Parts, Publisher};
 use position::{FrameKind, Geometry};
 use publication::{Claim, Denied, Refusal};

@@ -1,5 +1,5 @@
-use raw_tails::{RawTail, RawTails};
 use position::Geometry;
+use raw_tails::{RawTail, RawTails};
 use std::test::*;
 
 /// The words of the three partitions.

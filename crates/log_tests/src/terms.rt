@@ -1,7 +1,7 @@
-use term_buffer::TermBuffer;
 use block::Block;
 use position::{FrameHead, FrameKind, Geometry};
 use std::test::*;
+use term_buffer::TermBuffer;
 
 /// A message of three bytes at the end of the third term, and a padding behind it, where the ring begins again.
 #[test]

@@ -1,7 +1,7 @@
-use log_buffer::{Limit, LogError, LogState, PUBLISHERS, Parts, close};
-use raw_tails::RawTail;
 use block::Block;
+use log_buffer::{Limit, LogError, LogState, PUBLISHERS, Parts, close};
 use position::Geometry;
+use raw_tails::RawTail;
 use std::alloc::Global;
 use std::test::*;
 

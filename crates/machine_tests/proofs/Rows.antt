@@ -1,10 +1,9 @@
 -- Clients in a row, of which one made a call.
-use Rattle.std.proofs.Common.{◌≡◌, ℕ, suc, zero, ◌+◌, ◌<◌, ◌≤◌, ◌⊎◌, List, [], ◌∷◌, ◌++◌, length, map, sym, refl, ap, ◌∙◌, inl, inr, ⊎_elim, arith, length-append, append_assoc, Some, slice_get, get_or, subst, set, length-set}
-use Rattle.std.proofs.lemmas.List.{get_or_past, length-map}
-use Rattle.std.proofs.lemmas.List.Elements.{All-append, All-from_get_or, All-get_or, All-set}
-use Rattle.std.proofs.lemmas.Option.{get_or_from_slice_get, slice_get_read, slice_get_within}
+use Rattle.std.proofs.Common.{◌≡◌, ℕ, suc, zero, ◌<◌, ◌⊎◌, List, [], ◌∷◌, sym, refl, ap, ◌∙◌, inl, inr, ⊎_elim, Some, slice_get, get_or, set, length-set}
+use Rattle.std.proofs.lemmas.List.Elements.{All-set}
+use Rattle.std.proofs.lemmas.Option.{slice_get_read}
 use Rattle.atomic_table.specs.Seated.{TableId}
-use Rattle.conductor.specs.Parties.{ClientSeen, AreFirst, AreFresh, accepted_of}
+use Rattle.conductor.specs.Parties.{ClientSeen, AreFirst}
 use Rattle.conductor.proofs.Rows.{queue_of}
 
 set_cases : (xs : List ClientSeen) (i : ℕ) (x c : ClientSeen) (k : ℕ) → slice_get (set xs i x) k ≡ Some c → ((k ≡ i) × (x ≡ c)) ⊎ (slice_get xs k ≡ Some c)

@@ -1,4 +1,4 @@
-use Rattle.std.proofs.Common.{◌≡◌, pos, true, false, refl, sym, ap, ◌∙◌, subst}
+use Rattle.std.proofs.Common.{◌≡◌, pos, false, refl, sym, ap, ◌∙◌, subst}
 use Rattle.theory.specs.Position.{Geometry}
 use Rattle.term_buffer.specs.Kept.{IsAborted, Kept, fresh, header_rest, with_claim}
 use Rattle.term_buffer.specs.declared.claimed.Claimed.{Claimed}

@@ -1,4 +1,4 @@
-use Rattle.std.proofs.Common.{◌≡◌, pos, true, false, Option, Some, refl, sym, ap, ◌∙◌, subst}
+use Rattle.std.proofs.Common.{◌≡◌, pos, false, Option, Some, refl, sym, ap, ◌∙◌, subst}
 use Rattle.theory.specs.Position.{Geometry}
 use Rattle.term_buffer.specs.Kept.{IsDrafted, Kept, after_next, fresh, with_claim}
 use Rattle.term_buffer.specs.declared.claimed.Claimed.{Claimed}
