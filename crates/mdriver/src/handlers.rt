@@ -193,7 +193,12 @@ impl Stage {
         Ok(())
     }
 
-    fn claim(&mut self, publisher: PartyNumber, size: u64, lines: &mut Vec<Line>) -> Result<(), AllocError>
+    fn claim(
+        &mut self,
+        publisher: PartyNumber,
+        size: u64,
+        lines: &mut Vec<Line>,
+    ) -> Result<(), AllocError>
         ensures { OnOk result (IsAnswered self.old (orders.Claim publisher.number size) lines.old.items lines.new.items self.new) }
     {
         if size > u64::from(self.log.geometry().max_payload()) {
@@ -289,7 +294,12 @@ impl Stage {
         tell(lines, &outcomes)
     }
 
-    fn tick(&mut self, receiver: PartyNumber, now: u64, lines: &mut Vec<Line>) -> Result<(), AllocError>
+    fn tick(
+        &mut self,
+        receiver: PartyNumber,
+        now: u64,
+        lines: &mut Vec<Line>,
+    ) -> Result<(), AllocError>
         ensures { OnOk result (IsAnswered self.old (orders.Tick receiver.number now) lines.old.items lines.new.items self.new) }
     {
         let replies = self.subscribers[receiver.number].tick(now);
