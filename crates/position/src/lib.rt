@@ -15,6 +15,3 @@ pub use gap::Gap;
 pub use geometry::{Geometry, Place};
 pub use head::{BEGIN, END, FrameHead, FrameKind, UNFRAGMENTED};
 pub use lengths::{align32, partition_of};
-
-#[cfg(test)]
-mod tests;
