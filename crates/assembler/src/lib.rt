@@ -9,6 +9,3 @@ mod fault;
 
 pub use assembler::{Assembler, Message};
 pub use fault::AssemblyError;
-
-#[cfg(test)]
-mod tests;

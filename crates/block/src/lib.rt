@@ -9,6 +9,3 @@ mod memory;
 
 pub use block::Block;
 pub use front::front_mut;
-
-#[cfg(test)]
-mod tests;

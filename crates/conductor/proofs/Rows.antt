@@ -1,8 +1,8 @@
 -- Clients in a row.
-use Rattle.std.proofs.Common.{◌≡◌, ℕ, suc, zero, ◌+◌, ◌<◌, ◌≤◌, ◌⊎◌, List, [], ◌∷◌, ◌++◌, length, map, sym, refl, ap, ◌∙◌, inl, inr, ⊎_elim, arith, length-append, append_assoc, Some, slice_get, get_or, subst, set, length-set}
+use Rattle.std.proofs.Common.{◌≡◌, ℕ, suc, zero, ◌+◌, ◌<◌, ◌≤◌, ◌⊎◌, List, [], ◌∷◌, ◌++◌, length, map, sym, refl, ap, ◌∙◌, inl, inr, ⊎_elim, arith, length-append, append_assoc, Some, slice_get, get_or, subst}
 use Rattle.std.proofs.lemmas.List.{get_or_past, length-map}
-use Rattle.std.proofs.lemmas.List.Elements.{All-append, All-from_get_or, All-get_or, All-set}
-use Rattle.std.proofs.lemmas.Option.{get_or_from_slice_get, slice_get_read, slice_get_within}
+use Rattle.std.proofs.lemmas.List.Elements.{All-append, All-from_get_or, All-get_or}
+use Rattle.std.proofs.lemmas.Option.{get_or_from_slice_get, slice_get_within}
 use Rattle.atomic_table.specs.Seated.{TableId}
 use Rattle.conductor.specs.Parties.{ClientSeen, AreFirst, AreFresh, accepted_of}
 
@@ -55,23 +55,3 @@ pub last_of : (all front : List ClientSeen) (x : ClientSeen) (gone : List Client
 last_of all front x gone e =
     let whole : all ≡ front ++ x ∷ gone = e ∙ append_assoc front (x ∷ []) gone in
     record { whole = whole; here = ap (λ l. slice_get l (length front)) whole ∙ seam front x gone; accepted = ap (λ l. accepted_of l (length front)) whole ∙ seam_accepted front x gone }
-
-set_cases : (xs : List ClientSeen) (i : ℕ) (x c : ClientSeen) (k : ℕ) → slice_get (set xs i x) k ≡ Some c → ((k ≡ i) × (x ≡ c)) ⊎ (slice_get xs k ≡ Some c)
-set_cases [] i x c k e = inr e
-set_cases (y ∷ xs) zero x c zero e = inl (refl, cc)
-set_cases (y ∷ xs) zero x c (suc k) e = inr e
-set_cases (y ∷ xs) (suc i) x c zero e = inr e
-set_cases (y ∷ xs) (suc i) x c (suc k) e = ⊎_elim (λ (h : (k ≡ i) × (x ≡ c)). inl (ap suc h.0, h.1)) (λ h. inr h) (set_cases xs i x c k e)
-
--- a client that keeps its queue and its number keeps its place
-pub first_set : (queue : TableId) (n : ℕ) (xs : List ClientSeen) (i : ℕ) (x : ClientSeen) → AreFirst queue n xs → x.queue ≡ queue → x.number ≡ i → AreFirst queue n (set xs i x)
-first_set queue n xs i x h q is = record {
-  many = length-set xs i x ∙ h.many;
-  same_queue = let Q : ClientSeen → Type 0 = λ c. c.queue ≡ queue in All-set Q xs i x q h.same_queue;
-  numbers = λ k c e. ⊎_elim (λ (s : (k ≡ i) × (x ≡ c)). ap (λ (y : ClientSeen). y.number) (sym s.1) ∙ is ∙ sym s.0) (λ s. h.numbers k c s) (set_cases xs i x c k e);
-}
-
-pub first_kept : (queue : TableId) (n : ℕ) (xs : List ClientSeen) (i : ℕ) (y x : ClientSeen) → AreFirst queue n xs → i < n → y ≡ get_or xs i y → x.queue ≡ y.queue → x.number ≡ y.number → AreFirst queue n (set xs i x)
-first_kept queue n xs i y x h lt is q m =
-    let here : slice_get xs i ≡ Some y = slice_get_read xs n i y (sym h.many) lt is in
-    first_set queue n xs i x h (q ∙ queue_of queue n xs i y h here) (m ∙ h.numbers i y here)

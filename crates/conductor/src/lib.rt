@@ -13,6 +13,3 @@ mod queue;
 pub use command::{Command, Submitted};
 pub use parties::{Client, Taker};
 pub use queue::{CAPACITY, CLIENTS, Conductor, finish};
-
-#[cfg(test)]
-mod tests;

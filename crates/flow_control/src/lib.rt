@@ -9,6 +9,3 @@ mod unicast;
 
 pub use flow::FlowControl;
 pub use unicast::UnicastFlow;
-
-#[cfg(test)]
-mod tests;

@@ -16,6 +16,3 @@ pub use fault::FrameError;
 pub use frame::{BEGIN, END, Frame, Header, Nak, Setup, Status, UNFRAGMENTED};
 pub use reading::read_frame;
 pub use writing::write_frame;
-
-#[cfg(test)]
-mod tests;

@@ -1,10 +1,12 @@
 -- What a contract sees of a log under its lock, and which claims and readers are its own.
-use Rattle.std.specs.Prelude.{◌≡◌, ℕ, ◌-◌, ◌≤◌, List, ◌++◌, replicate, Option, None, Some, slice_get, slice_set}
-use Rattle.theory.specs.Position.{max_payload}
+use Rattle.std.specs.Prelude.{◌≡◌, ℕ, ◌+◌, ◌-◌, List, ◌++◌, replicate, Option, None, Some, slice_get, slice_set}
+use Rattle.theory.specs.Position.{Geometry, aligned}
+use Rattle.position.specs.declared.head.FrameHead.{FrameHead}
+use Rattle.term_buffer.specs.Heads.{IsStreamFrame}
 use Rattle.term_buffer.specs.declared.claimed.Claimed.{Claimed}
-use Rattle.log_buffer.specs.Log.{IsHeld, Log}
-use Rattle.log_buffer.specs.Reader.{IsAt, Reader}
-use Rattle.publication.specs.Claims.{Filling}
+use Rattle.log_buffer.specs.Log.{Log}
+use Rattle.log_buffer.specs.Reader.{IsAt, Reader, Reads, ReadsNone}
+use Rattle.publication.specs.Claims.{Filling, IsClaimOf}
 use Rattle.locked_log.specs.declared.standing.Standing.{Standing}
 
 pub record Shared : Type 0 where
@@ -18,16 +20,15 @@ pub record Shared : Type 0 where
 
 -- the claim is its publisher's, and nothing of it is stored
 pub record IsHeldBy (l : Log) (number : ℕ) (c : Claimed) : Type 0 where
-  pub held : IsHeld l c
-  pub short : c.size ≤ max_payload l.identity.geometry
+  pub claim : IsClaimOf l c
   pub owner : c.owner ≡ number
 
 abbrev pub AreHeld : Log → List (Option Claimed) → Type 0
 AreHeld l held = (k : ℕ) (c : Claimed) → slice_get held k ≡ Some (Some c) → IsHeldBy l k c
 
 -- the claim is the one that its publisher holds in this log
-abbrev pub Holds : Shared → Filling → Type 0
-Holds s f = slice_get s.held f.pass.number ≡ Some (Some f.claimed)
+abbrev pub HasOpen : Shared → Filling → Type 0
+HasOpen s f = slice_get s.held f.pass.number ≡ Some (Some f.claimed)
 
 abbrev pub with_claim : Shared → Filling → Log → Shared
 with_claim s f l = record s { log = l; held = slice_set s.held f.pass.number (Some f.claimed) }
@@ -53,6 +54,21 @@ IsOf s r = slice_get s.readers r.number ≡ Some (Some (standing_of r))
 
 abbrev pub with_reader : Shared → Log → Reader → Shared
 with_reader s l r = record s { log = l; readers = slice_set s.readers r.number (Some (standing_of r)) }
+
+-- the frame at a reader's position was read, and the log has noted it
+pub record FindsFrame (g : Geometry) (old : Shared) (r : Reader) (before : List ℕ) (given : FrameHead) (new : Shared) (q : Reader) (after : List ℕ) : Type 0 where
+  pub here : given.start ≡ r.position
+  pub head : IsStreamFrame g given
+  pub frame : Reads old.log r.position given before after
+  pub read : q ≡ record r { read_to = given.start + aligned given.frame_length }
+  pub noted : new ≡ with_reader old old.log q
+
+-- none is committed there, and nothing has changed
+pub record FindsNone (old : Shared) (r : Reader) (before : List ℕ) (new : Shared) (q : Reader) (after : List ℕ) : Type 0 where
+  pub nothing : ReadsNone old.log r.position
+  pub same : new ≡ old
+  pub none : q ≡ r
+  pub untouched : after ≡ before
 
 -- the log where a reader has moved
 abbrev pub moved : Log → ℕ → ℕ → Log

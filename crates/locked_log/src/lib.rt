@@ -13,6 +13,3 @@ mod stream;
 pub use log::Log;
 pub use shared::Shared;
 pub use stream::{Elsewhere, Stream};
-
-#[cfg(test)]
-mod tests;

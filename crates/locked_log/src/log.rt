@@ -1,14 +1,14 @@
-ghost use Rattle.std.specs.Prelude.{◌≡◌, ◌+◌, ◌%◌, ◌<◌, ◌≤◌, ◌↔◌, ◌^◌, IfOk, IfErr, IfSome, IfNone, IsErrOf, length, replicate, sum};
-ghost use Rattle.theory.specs.Position.{aligned, framed_length, max_message, max_payload, max_position};
+ghost use Rattle.std.specs.Prelude.{◌≡◌, ◌+◌, ◌%◌, ◌<◌, ◌≤◌, ◌↔◌, ◌^◌, IfOk, IfErr, IfSome, IfNone, IsErrOf, length, sum};
+ghost use Rattle.theory.specs.Position.{aligned, framed_length, max_message, max_payload};
 ghost use Rattle.theory.specs.Refusal.{IsJustified};
-ghost use Rattle.block.specs.Bytes.{with_front};
 ghost use Rattle.term_buffer.specs.Heads.{IsStreamFrame};
-ghost use Rattle.log_buffer.specs.Passes.{AreAll, HasSeenEnd, HaveBlocks, sights};
-ghost use Rattle.log_buffer.specs.Reader.{AreReaders};
+ghost use Rattle.log_buffer.specs.Openings.{ArePasses, IsConsumerCount, IsStart};
+ghost use Rattle.log_buffer.specs.Passes.{AreAll, HasSeenEnd, sights};
 ghost use Rattle.log_buffer.specs.declared.fault.LogError.{LogError};
 ghost use Rattle.rotation.specs.Turning.{Turns};
-ghost use Rattle.publication.specs.Claims.{IsBrief, bytes_of, end_of};
+ghost use Rattle.publication.specs.Claims.{HasFewSteps, end_of};
 ghost use Rattle.publication.specs.Grants.{IsGranted};
+ghost use Rattle.publication.specs.Outcomes.{IsGrantedClaim, IsRefusedClaim};
 ghost use Rattle.publication.specs.Refusals.{why_of};
 
 use crate::shared::Shared;
@@ -38,12 +38,10 @@ impl<S: Stream> Log<S> {
         consumers: usize,
     ) -> Result<(Log<S>, Parts), LogError>
         requires identity { S.identity ≡ record { geometry = geometry; session = session; stream = stream } }
-        ensures publishers { IfOk result (λ r. AreAll r.1.publishers.items) }
-        ensures blocks { IfOk result (λ r. HaveBlocks geometry.mtu r.1.publishers.items) }
-        ensures readers { IfOk result (λ r. AreReaders r.1.readers.items start consumers) }
-        ensures start { IsErrOf result LogError.Start ↔ (¬ ((start % 32 ≡ 0) × (start < max_position geometry))) }
-        ensures consumers { IsErrOf result LogError.Consumers ↔ ((start % 32 ≡ 0) × (start < max_position geometry) × (¬ ((1 ≤ consumers) × (consumers ≤ 8)))) }
-        ensures memory { IsErrOf result LogError.Memory → (start % 32 ≡ 0) × (start < max_position geometry) × (1 ≤ consumers) × (consumers ≤ 8) }
+        ensures passes { IfOk result (λ r. ArePasses geometry.mtu start consumers r.1.publishers.items r.1.readers.items) }
+        ensures start { IsErrOf result LogError.Start ↔ (¬ IsStart geometry start) }
+        ensures consumers { IsErrOf result LogError.Consumers ↔ (IsStart geometry start × (¬ IsConsumerCount consumers)) }
+        ensures memory { IsErrOf result LogError.Memory → IsStart geometry start × IsConsumerCount consumers }
     {
         let (shared, parts) = Shared::open(alloc, geometry, session, stream, start, consumers)?;
         let log = Log {
@@ -63,7 +61,7 @@ impl<S: Stream> Log<S> {
         requires { length message.now ≤ max_message S.identity.geometry }
         ensures granted { IfOk result (IsGranted S.identity.geometry (framed_length S.identity.geometry (length message.now)) publisher.new.steps) }
         ensures justified { IfErr result (λ refusal. IsJustified S.identity.geometry (framed_length S.identity.geometry (length message.now)) (sights publisher.new.steps) (why_of refusal)) }
-        ensures brief { IsBrief publisher.old publisher.new }
+        ensures steps { HasFewSteps publisher.old publisher.new }
         ensures same_bytes { publisher.new.bytes ≡ publisher.old.bytes }
     {
         self.shared.lock(rt).offer(publisher, message)
@@ -79,13 +77,8 @@ impl<S: Stream> Log<S> {
     ) -> Result<Claim, Denied>
         requires short { size ≤ max_payload S.identity.geometry }
         requires block { length publisher.bytes ≡ S.identity.geometry.mtu }
-        ensures zeros { IfOk result (λ claim. bytes_of claim ≡ replicate size 0) }
-        ensures block_cleared { IfOk result (λ claim. claim.pass.bytes ≡ with_front publisher.bytes (replicate size 0)) }
-        ensures granted { IfOk result (λ claim. IsGranted S.identity.geometry (framed_length S.identity.geometry size) claim.pass.steps (end_of claim)) }
-        ensures brief { IfOk result (λ claim. IsBrief publisher claim.pass) }
-        ensures justified { IfErr result (λ denied. IsJustified S.identity.geometry (framed_length S.identity.geometry size) (sights denied.publisher.steps) (why_of denied.refusal)) }
-        ensures brief_denied { IfErr result (λ denied. IsBrief publisher denied.publisher) }
-        ensures block_kept { IfErr result (λ denied. denied.publisher.bytes ≡ publisher.bytes) }
+        ensures granted { IfOk result (IsGrantedClaim S.identity.geometry publisher size) }
+        ensures refused { IfErr result (λ denied. IsRefusedClaim S.identity.geometry publisher size denied.refusal denied.publisher) }
     {
         self.shared.lock(rt).try_claim(publisher, size)
     }

@@ -1,25 +1,26 @@
 //! What lies under the lock, and what each section of the lock does.
 
-ghost use Rattle.std.specs.Prelude.{◌≡◌, ◌+◌, ◌-◌, ◌++◌, ◌%◌, ◌<◌, ◌≤◌, ◌↔◌, ◌^◌, Ok, Err, None, Some, IfOk, IfErr, IfSome, IfNone, IsErrOf, IsTrue, true, length, replicate, vec_len, slice_index};
-ghost use Rattle.theory.specs.Position.{aligned, framed_length, max_message, max_payload, max_position};
+ghost use Rattle.std.specs.Prelude.{◌≡◌, ◌+◌, ◌-◌, ◌++◌, ◌%◌, ◌<◌, ◌≤◌, ◌↔◌, ◌^◌, Ok, Err, None, Some, IfOk, IfErr, IfSome, IfNone, IsErrOf, IsTrue, true, length, replicate};
+ghost use Rattle.theory.specs.Position.{framed_length, max_message, max_payload};
 ghost use Rattle.theory.specs.Entry.{Entry};
 ghost use Rattle.theory.specs.Placed.{Among, Placed, place_all};
 ghost use Rattle.theory.specs.Refusal.{IsJustified};
-ghost use Rattle.block.specs.Bytes.{with_front};
 ghost use Rattle.term_buffer.specs.Heads.{IsStreamFrame};
 ghost use Rattle.log_buffer.specs.Books.{ShowsBook};
 ghost use Rattle.log_buffer.specs.Log.{IsFinished, fresh};
-ghost use Rattle.log_buffer.specs.Passes.{AreAll, HasSeenEnd, HaveBlocks, sights};
-ghost use Rattle.log_buffer.specs.Reader.{AreReaders, Reads, ReadsNone};
+ghost use Rattle.log_buffer.specs.Openings.{ArePasses, IsConsumerCount, IsStart};
+ghost use Rattle.log_buffer.specs.Passes.{AreAll, HasSeenEnd, sights};
+ghost use Rattle.log_buffer.specs.Reader.{Reads, ReadsNone};
 ghost use Rattle.log_buffer.specs.declared.fault.LogError.{LogError};
 ghost use Rattle.rotation.specs.Limited.{CleansAndLimits, raised};
 ghost use Rattle.rotation.specs.Rotated.{rotated};
 ghost use Rattle.rotation.specs.Turning.{Turns};
-ghost use Rattle.publication.specs.Claims.{IsBrief, IsClaimOf, after_abort, after_commit, bytes_of, claim_at, end_of};
+ghost use Rattle.publication.specs.Claims.{HasFewSteps, IsClaimOf, after_abort, after_commit, end_of};
 ghost use Rattle.publication.specs.Grants.{IsGranted};
 ghost use Rattle.publication.specs.Offers.{after_claim, after_offer, answer_of};
 ghost use Rattle.publication.specs.Refusals.{why_of};
-ghost use Rattle.locked_log.specs.Shared.{Holds, IsOf, moved, opened, standing_of, with_claim, with_reader, without_claim};
+ghost use Rattle.publication.specs.Outcomes.{IsAccepted, IsGrantedClaim, IsRefusedClaim};
+ghost use Rattle.locked_log.specs.Shared.{FindsFrame, FindsNone, HasOpen, IsOf, moved, opened, standing_of, with_claim, with_reader, without_claim};
 
 use crate::standing::Standing;
 use crate::stream::{Elsewhere, Stream};
@@ -67,12 +68,10 @@ impl<S: Stream> Shared<S> {
     ) -> Result<(Shared<S>, Parts), LogError>
         requires identity { S.identity ≡ record { geometry = geometry; session = session; stream = stream } }
         ensures log { IfOk result (λ r. r.0 ≡ opened (fresh (record { geometry = geometry; session = session; stream = stream }) start consumers) start consumers) }
-        ensures publishers { IfOk result (λ r. AreAll r.1.publishers.items) }
-        ensures blocks { IfOk result (λ r. HaveBlocks geometry.mtu r.1.publishers.items) }
-        ensures readers { IfOk result (λ r. AreReaders r.1.readers.items start consumers) }
-        ensures start { IsErrOf result LogError.Start ↔ (¬ ((start % 32 ≡ 0) × (start < max_position geometry))) }
-        ensures consumers { IsErrOf result LogError.Consumers ↔ ((start % 32 ≡ 0) × (start < max_position geometry) × (¬ ((1 ≤ consumers) × (consumers ≤ 8)))) }
-        ensures memory { IsErrOf result LogError.Memory → (start % 32 ≡ 0) × (start < max_position geometry) × (1 ≤ consumers) × (consumers ≤ 8) }
+        ensures passes { IfOk result (λ r. ArePasses geometry.mtu start consumers r.1.publishers.items r.1.readers.items) }
+        ensures start { IsErrOf result LogError.Start ↔ (¬ IsStart geometry start) }
+        ensures consumers { IsErrOf result LogError.Consumers ↔ (IsStart geometry start × (¬ IsConsumerCount consumers)) }
+        ensures memory { IsErrOf result LogError.Memory → IsStart geometry start × IsConsumerCount consumers }
     {
         let (state, parts) = LogState::open(alloc, geometry, session, stream, start, consumers)?;
         let shared = Shared {
@@ -91,7 +90,7 @@ impl<S: Stream> Shared<S> {
         ensures after { self.new ≡ record self.old { log = after_offer self.old.log publisher.old.number message.now } }
         ensures granted { IfOk result (IsGranted S.identity.geometry (framed_length S.identity.geometry (length message.now)) publisher.new.steps) }
         ensures justified { IfErr result (λ refusal. IsJustified S.identity.geometry (framed_length S.identity.geometry (length message.now)) (sights publisher.new.steps) (why_of refusal)) }
-        ensures brief { IsBrief publisher.old publisher.new }
+        ensures steps { HasFewSteps publisher.old publisher.new }
         ensures same_bytes { publisher.new.bytes ≡ publisher.old.bytes }
     {
         publication::offer(&mut self.state, publisher, message)
@@ -101,17 +100,12 @@ impl<S: Stream> Shared<S> {
     pub fn try_claim(&mut self, publisher: Publisher, size: u32) -> Result<Claim, Denied>
         requires short { size ≤ max_payload S.identity.geometry }
         requires block { length publisher.bytes ≡ S.identity.geometry.mtu }
-        ensures claimed { IfOk result (λ claim. (answer_of self.old.log size ≡ Ok (end_of claim)) × (claim.claimed ≡ claim_at self.old.log publisher.number size)) }
+        ensures accepted { IfOk result (IsAccepted self.old.log publisher.number size self.new.log) }
         ensures held { IfOk result (λ claim. self.new ≡ with_claim self.old claim (after_claim self.old.log publisher.number size)) }
-        ensures zeros { IfOk result (λ claim. bytes_of claim ≡ replicate size 0) }
-        ensures block_cleared { IfOk result (λ claim. claim.pass.bytes ≡ with_front publisher.bytes (replicate size 0)) }
-        ensures granted { IfOk result (λ claim. IsGranted S.identity.geometry (framed_length S.identity.geometry size) claim.pass.steps (end_of claim)) }
-        ensures brief { IfOk result (λ claim. IsBrief publisher claim.pass) }
+        ensures granted { IfOk result (IsGrantedClaim S.identity.geometry publisher size) }
         ensures denied { IfErr result (λ denied. answer_of self.old.log size ≡ Err denied.refusal) }
         ensures after_denied { IfErr result (λ denied. self.new ≡ record self.old { log = after_claim self.old.log publisher.number size }) }
-        ensures justified { IfErr result (λ denied. IsJustified S.identity.geometry (framed_length S.identity.geometry size) (sights denied.publisher.steps) (why_of denied.refusal)) }
-        ensures brief_denied { IfErr result (λ denied. IsBrief publisher denied.publisher) }
-        ensures block_kept { IfErr result (λ denied. denied.publisher.bytes ≡ publisher.bytes) }
+        ensures refused { IfErr result (λ denied. IsRefusedClaim S.identity.geometry publisher size denied.refusal denied.publisher) }
     {
         let number = publisher.number();
         let claim = publication::try_claim(&mut self.state, publisher, size)?;
@@ -122,10 +116,10 @@ impl<S: Stream> Shared<S> {
     /// Commits a claim's message. The answer is its publisher and the position behind it. A claim of another log is given
     /// back.
     pub fn commit(&mut self, claim: Claim) -> Result<(Publisher, u64), Claim>
-        ensures committed { IfOk result (λ r. Holds self.old claim × (self.new ≡ without_claim self.old claim (after_commit self.old.log claim))) }
+        ensures committed { IfOk result (λ r. HasOpen self.old claim × (self.new ≡ without_claim self.old claim (after_commit self.old.log claim))) }
         ensures end { IfOk result (λ r. r.1 ≡ end_of claim) }
         ensures pass { IfOk result (λ r. r.0 ≡ claim.pass) }
-        ensures elsewhere { IfErr result (λ given. (given ≡ claim) × (self.new ≡ self.old) × (Holds self.old claim → ⊥)) }
+        ensures elsewhere { IfErr result (λ given. (given ≡ claim) × (self.new ≡ self.old) × (HasOpen self.old claim → ⊥)) }
     {
         if !self.take_held(&claim) {
             return Err(claim);
@@ -136,10 +130,10 @@ impl<S: Stream> Shared<S> {
     /// Makes a claim's range a padding. The answer is its publisher and the position behind it. A claim of another log is
     /// given back.
     pub fn abort(&mut self, claim: Claim) -> Result<(Publisher, u64), Claim>
-        ensures aborted { IfOk result (λ r. Holds self.old claim × (self.new ≡ without_claim self.old claim (after_abort self.old.log claim))) }
+        ensures aborted { IfOk result (λ r. HasOpen self.old claim × (self.new ≡ without_claim self.old claim (after_abort self.old.log claim))) }
         ensures end { IfOk result (λ r. r.1 ≡ end_of claim) }
         ensures pass { IfOk result (λ r. r.0 ≡ claim.pass) }
-        ensures elsewhere { IfErr result (λ given. (given ≡ claim) × (self.new ≡ self.old) × (Holds self.old claim → ⊥)) }
+        ensures elsewhere { IfErr result (λ given. (given ≡ claim) × (self.new ≡ self.old) × (HasOpen self.old claim → ⊥)) }
     {
         if !self.take_held(&claim) {
             return Err(claim);
@@ -156,13 +150,8 @@ impl<S: Stream> Shared<S> {
         requires room { S.identity.geometry.mtu ≤ length block.old }
         ensures same_length { length block.new ≡ length block.old }
         ensures own { IfOk result (λ found. IsOf self.old reader.old) }
-        ensures here { IfOk result (λ found. IfSome found (λ head. head.start ≡ reader.old.position)) }
-        ensures head { IfOk result (λ found. IfSome found (IsStreamFrame S.identity.geometry)) }
-        ensures frame { IfOk result (λ found. IfSome found (λ head. Reads self.old.log reader.old.position head block.old block.new)) }
-        ensures read { IfOk result (λ found. IfSome found (λ head. reader.new ≡ record reader.old { read_to = head.start + aligned head.frame_length })) }
-        ensures noted { IfOk result (λ found. IfSome found (λ head. self.new ≡ with_reader self.old self.old.log reader.new)) }
-        ensures nothing { IfOk result (λ found. IfNone found (ReadsNone self.old.log reader.old.position)) }
-        ensures none { IfOk result (λ found. IfNone found ((self.new ≡ self.old) × (reader.new ≡ reader.old) × (block.new ≡ block.old))) }
+        ensures read { IfOk result (λ found. IfSome found (λ head. FindsFrame S.identity.geometry self.old reader.old block.old head self.new reader.new block.new)) }
+        ensures none { IfOk result (λ found. IfNone found (FindsNone self.old reader.old block.old self.new reader.new block.new)) }
         ensures elsewhere { IfErr result (λ error. (IsOf self.old reader.old → ⊥) × (self.new ≡ self.old) × (reader.new ≡ reader.old) × (block.new ≡ block.old)) }
     {
         if !self.has(reader) {
@@ -262,8 +251,8 @@ impl<S: Stream> Shared<S> {
 
     /// Whether a claim is the one that its publisher holds here; then it holds none any more.
     fn take_held(&mut self, claim: &Claim) -> bool
-        ensures taken { IsTrue result → Holds self.old claim.now × IsClaimOf self.old.log claim.now × (self.new ≡ without_claim self.old claim.now self.old.log) }
-        ensures other { (IsTrue result → ⊥) → (self.new ≡ self.old) × (Holds self.old claim.now → ⊥) }
+        ensures taken { IsTrue result → HasOpen self.old claim.now × IsClaimOf self.old.log claim.now.claimed × (self.new ≡ without_claim self.old claim.now self.old.log) }
+        ensures other { (IsTrue result → ⊥) → (self.new ≡ self.old) × (HasOpen self.old claim.now → ⊥) }
         ensures owner { claim.now.claimed.owner ≡ claim.now.pass.number }
     {
         let claimed = claim.claimed();

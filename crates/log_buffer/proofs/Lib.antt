@@ -11,4 +11,3 @@ pub mod Openings
 pub mod Readers
 pub mod Rotations
 pub mod Spans
-pub mod TestPasses

@@ -1,5 +1,5 @@
 -- What a contract sees of a log, and how its calls change it.
-use Rattle.std.specs.Prelude.{◌≡◌, ℕ, ◌+◌, ◌-◌, ◌*◌, ◌/◌, ◌%◌, ◌^◌, ◌<◌, ◌≤◌, Bool, true, false, List, [], ◌∷◌, ◌++◌, length, drop, replicate, min, max, nat_eq, nat_le, nat_lt, ◌&&◌, if◌then◌else◌, Option, None, Some, slice_index, slice_set, sum}
+use Rattle.std.specs.Prelude.{◌≡◌, ℕ, ◌+◌, ◌-◌, ◌*◌, ◌/◌, ◌%◌, ◌^◌, ◌<◌, ◌≤◌, Bool, true, false, List, [], ◌∷◌, ◌++◌, length, drop, replicate, min, max, nat_eq, nat_le, nat_lt, ◌&&◌, if◌then◌else◌, Option, None, Some, slice_get, slice_index, slice_set, sum}
 use Rattle.std.specs.List.{AllByRecursion}
 use Rattle.theory.specs.Position.{IsGeometry, aligned, framed_length, greatest_claim, max_position}
 use Rattle.theory.specs.Placed.{Frame, IsReached}
@@ -10,7 +10,7 @@ use Rattle.theory.specs.Bytes.{Identity, IsIdentity}
 use Rattle.theory.specs.Words.{id_before, tail_word}
 use Rattle.raw_tails.specs.Tails.{behind}
 use Rattle.term_buffer.specs.Kept as kept
-use Rattle.term_buffer.specs.Kept.{Kept, blank_for, cuts_in, padded, published, with_share}
+use Rattle.term_buffer.specs.Kept.{Kept, blank_for, claim_of, cuts_in, padded, published, with_share}
 use Rattle.term_buffer.specs.declared.claimed.Claimed.{Claimed}
 
 pub record Log : Type 0 where
@@ -199,7 +199,9 @@ with_abort l c = with_kept l (kept.with_abort (kept_of l) c)
 
 -- a message's claim of which nothing is stored
 pub record IsHeld (l : Log) (c : Claimed) : Type 0 where
-  pub unset : IsOpen l c
+  pub kept : l.gone ≤ c.number
+  pub entry : slice_get l.entries (c.number - l.gone) ≡ Some (claim_of l.identity.geometry c.start c.owner c.padding c.size)
+  pub more : c.frame < length (cuts_in l.identity.geometry c)
   pub message : c.padding ≡ false
   pub first : c.frame ≡ 0
   pub in_stream : c.start < max_position l.identity.geometry

@@ -23,6 +23,3 @@ pub use state::LogState;
 pub use step::Step;
 pub use term_buffer::{Claimed, PUBLISHERS};
 pub use word_calls::{Added, Limit};
-
-#[cfg(test)]
-mod tests;

@@ -10,6 +10,3 @@ mod resends;
 pub use learns::learn;
 pub use reads::{advance, next};
 pub use resends::{keeps_near, reread};
-
-#[cfg(test)]
-mod tests;

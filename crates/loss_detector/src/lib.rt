@@ -9,6 +9,3 @@ mod gap;
 
 pub use detector::LossDetector;
 pub use gap::first_gap;
-
-#[cfg(test)]
-mod tests;

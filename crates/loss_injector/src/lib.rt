@@ -6,6 +6,3 @@ mod rates;
 
 pub use injector::Injector;
 pub use rates::{Rates, RatesError, Verdict, decide};
-
-#[cfg(test)]
-mod tests;

@@ -13,8 +13,5 @@ mod lengths;
 pub use fault::GeometryError;
 pub use gap::Gap;
 pub use geometry::{Geometry, Place};
-pub use head::{FrameHead, FrameKind};
+pub use head::{BEGIN, END, FrameHead, FrameKind, UNFRAGMENTED};
 pub use lengths::{align32, partition_of};
-
-#[cfg(test)]
-mod tests;

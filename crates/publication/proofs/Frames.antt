@@ -9,6 +9,7 @@ use Rattle.theory.proofs.Cuts.{short_cuts}
 use Rattle.term_buffer.specs.Kept.{blank_for, cuts_for, cuts_in, frame_of, header_rest, next_flags, next_length, next_start, rest_of}
 use Rattle.term_buffer.specs.declared.claimed.Claimed.{Claimed}
 use Rattle.log_buffer.specs.Log.{IsAborted, IsDrafted, IsHeld, Log, MayAbort, draft_of, drafted, with_abort, with_commit, with_draft}
+use Rattle.log_buffer.proofs.Held.{held_open}
 use Rattle.publication.specs.Writes.{place_of}
 use Rattle.publication.proofs.Fills.{draft_set, draft_twice, open_drafted, draft_some}
 
@@ -112,7 +113,7 @@ pub held_blank : (l : Log) (c : Claimed) → IsHeld l c → c.size ≤ max_paylo
 held_blank l c h short = h.blank ∙ ap blank_for (one_cut l.identity.geometry c h.message short)
 
 pub may_abort : (l m : Log) (c : Claimed) (d : List ℕ) → m ≡ with_draft l c d → IsHeld l c → c.size ≤ max_payload l.identity.geometry → MayAbort m c
-may_abort l m c d e h short = record { unset = open_drafted l m c d e h.unset; message = h.message; first = h.first; single = subst (λ (i : Identity). c.size ≤ max_payload i.geometry) (sym (same_identity l m c d e)) short }
+may_abort l m c d e h short = record { unset = open_drafted l m c d e (held_open h); message = h.message; first = h.first; single = subst (λ (i : Identity). c.size ≤ max_payload i.geometry) (sym (same_identity l m c d e)) short }
 
 pub abort_written : (l m : Log) (c : Claimed) → place_of l c < length l.drafts → c.frame ≡ 0 → m ≡ filled_with l c (Pad (c.size + 32)) → IsAborted m c
 abort_written l m c within first e =

@@ -6,8 +6,9 @@ use Rattle.log_buffer.specs.Log.{Log, limit_word_of, room_in}
 use Rattle.log_buffer.specs.declared.step.Step.{Step}
 use Rattle.log_buffer.specs.declared.step.Step.TheVariants as steps
 use Rattle.publication.specs.Grants.{IsGranted}
-use Rattle.publication.specs.Looks.{IsOpenBelow, ShowsActive, ShowsLimit, all_seen, tail_word_seen}
-use Rattle.publication.specs.Offers.{Fits, Trips, added_course, answer_at, covered}
+use Rattle.log_buffer.specs.Shown.{ShowsLimit}
+use Rattle.publication.specs.Looks.{IsOpenBelow, ShowsActive, all_seen, tail_word_seen}
+use Rattle.publication.specs.Offers.{Fits, Trips, added_case, answer_at, covered}
 use Rattle.publication.proofs.Justified.{armed_as}
 
 -- an addition that stays within the term
@@ -35,7 +36,7 @@ granted_cases l m count bytes position seen more true f answered tail same e few
 granted_cases l m count bytes position seen more false f answered tail same e few shows not_closed active h = absurd (cc)
 
 -- an addition in an open term that is answered by a position
-pub open_granted : (l m : Log) (a : List (Option ℕ)) (count bytes position : ℕ) (seen more : List Step) → answer_at m count bytes (added_course m count bytes) ≡ Ok position → m ≡ armed_as l a → count ≡ l.active → seen ≡ (all_seen l ++ steps.Addition (l.active % 3) (covered l bytes) (tail_word_seen l) ∷ []) ++ more → length seen ≤ 4 → ShowsLimit l → l.closed ≡ false → ShowsActive l → IsOpenBelow l → IsGranted l.identity.geometry (covered l bytes) seen position
+pub open_granted : (l m : Log) (a : List (Option ℕ)) (count bytes position : ℕ) (seen more : List Step) → answer_at m count bytes (added_case m count bytes) ≡ Ok position → m ≡ armed_as l a → count ≡ l.active → seen ≡ (all_seen l ++ steps.Addition (l.active % 3) (covered l bytes) (tail_word_seen l) ∷ []) ++ more → length seen ≤ 4 → ShowsLimit l → l.closed ≡ false → ShowsActive l → IsOpenBelow l → IsGranted l.identity.geometry (covered l bytes) seen position
 open_granted l m a count bytes position seen more answered armed is e few shows not_closed active h =
     let room : room_in m (count % 3) ≡ room_in l (l.active % 3) = ap (λ (k : Log). room_in k (count % 3)) armed ∙ ap (λ (n : ℕ). room_in l (n % 3)) is in
     let same : covered m bytes ≡ covered l bytes = ap (λ (k : Log). covered k bytes) armed in

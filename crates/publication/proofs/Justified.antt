@@ -1,7 +1,7 @@
 -- What a publisher saw justifies what it answers.
 use Rattle.std.specs.Prelude.{◌≡◌, ℕ, ◌+◌, ◌-◌, ◌*◌, ◌/◌, ◌%◌, ◌^◌, ◌<◌, ◌≤◌, Bool, true, false, List, [], ◌∷◌, ◌++◌, length, nat_eq, nat_le, nat_lt, Option, None, if◌then◌else◌, slice_set, Result, Ok, Err, IfOk}
 use Rattle.std.proofs.Common.{arith, refl, sym, ap, ◌∙◌, subst, inl, inr, ⊎_elim}
-use Rattle.std.proofs.lemmas.Bool.{cases_lt, eq-eqb, false≢true, eqb-true, cond-false, le-ltb, leb-false, lt-leb}
+use Rattle.std.proofs.lemmas.Bool.{cases_lt, eq-eqb, false≢true, eqb-true, cond-false, cond-true, le-leb, le-ltb, leb-false, lt-leb}
 use Rattle.std.proofs.lemmas.List.{set-set}
 use Rattle.theory.specs.Position.{count_of, id_of}
 use Rattle.theory.specs.Refusal.{IsCause, IsJustified, SawCount, SawLimit, SawTail, AddedTo, is_closed}
@@ -12,8 +12,9 @@ use Rattle.log_buffer.specs.Log.{IsFinished, IsLog, Log, added, limit_word_of, o
 use Rattle.log_buffer.specs.Passes.{sights}
 use Rattle.log_buffer.specs.declared.step.Step.{Step}
 use Rattle.log_buffer.specs.declared.step.Step.TheVariants as steps
-use Rattle.publication.specs.Looks.{IsOpenBelow, ShowsActive, ShowsLimit, all_seen, tail_word_seen}
-use Rattle.publication.specs.Offers.{Course, Fits, Trips, IsClosed, IsLimited, IsStale, IsUsedUp, added_course, after, after_claim, after_course, after_offer, answer, answer_at, answer_of, course_of, covered, is_last, turned_from}
+use Rattle.log_buffer.specs.Shown.{ShowsLimit}
+use Rattle.publication.specs.Looks.{IsOpenBelow, ShowsActive, all_seen, tail_word_seen}
+use Rattle.publication.specs.Offers.{OfferCase, Fits, Trips, IsClosed, IsLimited, IsStale, IsUsedUp, added_case, after, after_claim, after_case, after_offer, answer, answer_at, answer_of, case_of, covered, refusal_at_end, turned_from}
 use Rattle.publication.specs.Refusals.{why_of}
 use Rattle.publication.specs.declared.refusal.Refusal.{Refusal}
 use Rattle.publication.specs.declared.refusal.Refusal.TheVariants as refusals
@@ -74,10 +75,10 @@ used_up_by l taken more false e small shows not_closed active over = (
   ),
 )
 
-pub used_up : (l : Log) (taken count : ℕ) (refusal : Refusal) (seen more : List Step) → seen ≡ all_seen l ++ more → count ≡ l.active → refusal ≡ is_last count → l.active < 2 ^ 31 → ShowsLimit l → l.closed ≡ false → ShowsActive l → term_of l ≤ offset_of l l.active → IsJustified l.identity.geometry taken (sights seen) (why_of refusal)
+pub used_up : (l : Log) (taken count : ℕ) (refusal : Refusal) (seen more : List Step) → seen ≡ all_seen l ++ more → count ≡ l.active → refusal ≡ refusal_at_end count → l.active < 2 ^ 31 → ShowsLimit l → l.closed ≡ false → ShowsActive l → term_of l ≤ offset_of l l.active → IsJustified l.identity.geometry taken (sights seen) (why_of refusal)
 used_up l taken count refusal seen more e is why small shows not_closed active over =
     subst (λ (xs : List Step). IsJustified l.identity.geometry taken (sights xs) (why_of refusal)) (sym e)
-    (subst (λ (r : Refusal). IsJustified l.identity.geometry taken (sights (all_seen l ++ more)) (why_of r)) (sym (why ∙ ap is_last is))
+    (subst (λ (r : Refusal). IsJustified l.identity.geometry taken (sights (all_seen l ++ more)) (why_of r)) (sym (why ∙ ap refusal_at_end is))
     (used_up_by l taken more (nat_eq l.active (2 ^ 31 - 1)) refl small shows not_closed active over))
 
 -- the tail is at the limit
@@ -156,14 +157,23 @@ tripped_by l taken more false e small legal shows not_closed active over = (
   ),
 )
 
+pub used_up_is : (l : Log) (bytes : ℕ) → l.closed ≡ false → l.newest ≤ l.active + 2 → term_of l ≤ offset_of l l.active → case_of l bytes ≡ IsUsedUp
+used_up_is l bytes not_closed kept over =
+    let at_limit : OfferCase = if nat_le l.limit l.tail then IsLimited else added_case l l.active bytes in
+    let at_end : OfferCase = if nat_le (term_of l) (offset_of l l.active) then IsUsedUp else (if nat_le l.limit l.tail then IsLimited else added_case l l.active bytes) in
+    let at_tail : OfferCase = if nat_lt (l.active + 2) l.newest then IsStale else (if nat_le (term_of l) (offset_of l l.active) then IsUsedUp else (if nat_le l.limit l.tail then IsLimited else added_case l l.active bytes)) in
+    cond-false l.closed IsClosed at_tail not_closed
+    ∙ cond-false (nat_lt (l.active + 2) l.newest) IsStale at_end (le-ltb (l.active + 2) l.newest kept)
+    ∙ cond-true (nat_le (term_of l) (offset_of l l.active)) IsUsedUp at_limit (le-leb (term_of l) (offset_of l l.active) over)
+
 -- ---- an open term
 
-course_is : (l : Log) (bytes : ℕ) → IsOpenBelow l → l.closed ≡ false → course_of l bytes ≡ added_course l l.active bytes
-course_is l bytes h not_closed =
-    let rest : Course = added_course l l.active bytes in
-    let at_limit : Course = if nat_le l.limit l.tail then IsLimited else added_course l l.active bytes in
-    let at_end : Course = if nat_le (term_of l) (offset_of l l.active) then IsUsedUp else (if nat_le l.limit l.tail then IsLimited else added_course l l.active bytes) in
-    let at_tail : Course = if nat_lt (l.active + 2) l.newest then IsStale else (if nat_le (term_of l) (offset_of l l.active) then IsUsedUp else (if nat_le l.limit l.tail then IsLimited else added_course l l.active bytes)) in
+case_is : (l : Log) (bytes : ℕ) → IsOpenBelow l → l.closed ≡ false → case_of l bytes ≡ added_case l l.active bytes
+case_is l bytes h not_closed =
+    let rest : OfferCase = added_case l l.active bytes in
+    let at_limit : OfferCase = if nat_le l.limit l.tail then IsLimited else added_case l l.active bytes in
+    let at_end : OfferCase = if nat_le (term_of l) (offset_of l l.active) then IsUsedUp else (if nat_le l.limit l.tail then IsLimited else added_case l l.active bytes) in
+    let at_tail : OfferCase = if nat_lt (l.active + 2) l.newest then IsStale else (if nat_le (term_of l) (offset_of l l.active) then IsUsedUp else (if nat_le l.limit l.tail then IsLimited else added_case l l.active bytes)) in
     cond-false l.closed IsClosed at_tail not_closed
     ∙ cond-false (nat_lt (l.active + 2) l.newest) IsStale at_end (le-ltb (l.active + 2) l.newest (omega (arith, h.newest)))
     ∙ cond-false (nat_le (term_of l) (offset_of l l.active)) IsUsedUp at_limit (lt-leb (term_of l) (offset_of l l.active) h.inside)
@@ -176,41 +186,41 @@ armed_as l armed = record l { armed = armed }
 added_again : (l : Log) (by p taken : ℕ) (x : Option ℕ) → added (armed_as l (slice_set l.armed by x)) by p taken ≡ added l by p taken
 added_again l by p taken x = ap (λ (a : List (Option ℕ)). record (added l by p taken) { armed = a }) (set-set l.armed by x None)
 
-after_cases : (l : Log) (by bytes : ℕ) (x : Option ℕ) (fits : Bool) → after_course (armed_as l (slice_set l.armed by x)) by l.active bytes (if fits then Fits else Trips) ≡ after l by bytes (if fits then Fits else Trips) (with_claim (added l by (l.active % 3) (covered l bytes)) by false bytes)
+after_cases : (l : Log) (by bytes : ℕ) (x : Option ℕ) (fits : Bool) → after_case (armed_as l (slice_set l.armed by x)) by l.active bytes (if fits then Fits else Trips) ≡ after l by bytes (if fits then Fits else Trips) (with_claim (added l by (l.active % 3) (covered l bytes)) by false bytes)
 after_cases l by bytes x true = ap (λ (m : Log). with_claim m by false bytes) (added_again l by (l.active % 3) (covered l bytes) x)
 after_cases l by bytes x false = ap (λ (m : Log). turned_from (with_padding m by (room_in l (l.active % 3))) l.active) (added_again l by (l.active % 3) (covered l bytes) x)
 
-pub after_is : (l m n : Log) (by count bytes : ℕ) (x : Option ℕ) → IsOpenBelow l → l.closed ≡ false → m ≡ armed_as l (slice_set l.armed by x) → count ≡ l.active → n ≡ after_course m by count bytes (added_course m count bytes) → n ≡ after_claim l by bytes
+pub after_is : (l m n : Log) (by count bytes : ℕ) (x : Option ℕ) → IsOpenBelow l → l.closed ≡ false → m ≡ armed_as l (slice_set l.armed by x) → count ≡ l.active → n ≡ after_case m by count bytes (added_case m count bytes) → n ≡ after_claim l by bytes
 after_is l m n by count bytes x h not_closed e is was =
     was
-    ∙ ap (λ (k : ℕ). after_course m by k bytes (added_course m k bytes)) is
-    ∙ ap (λ (k : Log). after_course k by l.active bytes (added_course k l.active bytes)) e
+    ∙ ap (λ (k : ℕ). after_case m by k bytes (added_case m k bytes)) is
+    ∙ ap (λ (k : Log). after_case k by l.active bytes (added_case k l.active bytes)) e
     ∙ after_cases l by bytes x (nat_le (covered l bytes) (room_in l (l.active % 3)))
-    ∙ ap (λ (c : Course). after l by bytes c (with_claim (added l by (l.active % 3) (covered l bytes)) by false bytes)) (sym (course_is l bytes h not_closed))
+    ∙ ap (λ (c : OfferCase). after l by bytes c (with_claim (added l by (l.active % 3) (covered l bytes)) by false bytes)) (sym (case_is l bytes h not_closed))
 
 answer_cases : (l : Log) (a : List (Option ℕ)) (bytes : ℕ) (fits : Bool) → answer_at (armed_as l a) l.active bytes (if fits then Fits else Trips) ≡ answer l bytes (if fits then Fits else Trips)
 answer_cases l a bytes true = refl
 answer_cases l a bytes false = refl
 
 -- what an offer in an open term is answered
-pub answer_is : (l m : Log) (a : List (Option ℕ)) (count bytes : ℕ) → IsOpenBelow l → l.closed ≡ false → m ≡ armed_as l a → count ≡ l.active → answer_at m count bytes (added_course m count bytes) ≡ answer_of l bytes
+pub answer_is : (l m : Log) (a : List (Option ℕ)) (count bytes : ℕ) → IsOpenBelow l → l.closed ≡ false → m ≡ armed_as l a → count ≡ l.active → answer_at m count bytes (added_case m count bytes) ≡ answer_of l bytes
 answer_is l m a count bytes h not_closed e is =
-    ap (λ (k : ℕ). answer_at m k bytes (added_course m k bytes)) is
-    ∙ ap (λ (k : Log). answer_at k l.active bytes (added_course k l.active bytes)) e
+    ap (λ (k : ℕ). answer_at m k bytes (added_case m k bytes)) is
+    ∙ ap (λ (k : Log). answer_at k l.active bytes (added_case k l.active bytes)) e
     ∙ answer_cases l a bytes (nat_le (covered l bytes) (room_in l (l.active % 3)))
-    ∙ ap (answer l bytes) (sym (course_is l bytes h not_closed))
+    ∙ ap (answer l bytes) (sym (case_is l bytes h not_closed))
 
 -- of an addition that is refused
 open_cases : (l m : Log) (count bytes : ℕ) (seen more : List Step) (refusal : Refusal) (fits : Bool) → nat_le (covered l bytes) (room_in l (l.active % 3)) ≡ fits → answer_at m count bytes (if fits then Fits else Trips) ≡ Err refusal → count ≡ l.active → seen ≡ (all_seen l ++ steps.Addition (l.active % 3) (covered l bytes) (tail_word_seen l) ∷ []) ++ more → l.active < 2 ^ 31 → IsLog l → ShowsLimit l → l.closed ≡ false → ShowsActive l → IsOpenBelow l → IsJustified l.identity.geometry (covered l bytes) (sights seen) (why_of refusal)
 open_cases l m count bytes seen more refusal true f answered is e small legal shows not_closed active h = absurd (cc)
 open_cases l m count bytes seen more refusal false f answered is e small legal shows not_closed active h =
-    let last : is_last count ≡ refusal = cc in
+    let last : refusal_at_end count ≡ refusal = cc in
     subst (λ (r : Refusal). IsJustified l.identity.geometry (covered l bytes) (sights seen) (why_of r)) last
-    (subst (λ (xs : List Step). IsJustified l.identity.geometry (covered l bytes) (sights xs) (why_of (is_last count))) (sym e)
-    (subst (λ (k : ℕ). IsJustified l.identity.geometry (covered l bytes) (sights ((all_seen l ++ steps.Addition (l.active % 3) (covered l bytes) (tail_word_seen l) ∷ []) ++ more)) (why_of (is_last k))) (sym is)
+    (subst (λ (xs : List Step). IsJustified l.identity.geometry (covered l bytes) (sights xs) (why_of (refusal_at_end count))) (sym e)
+    (subst (λ (k : ℕ). IsJustified l.identity.geometry (covered l bytes) (sights ((all_seen l ++ steps.Addition (l.active % 3) (covered l bytes) (tail_word_seen l) ∷ []) ++ more)) (why_of (refusal_at_end k))) (sym is)
     (tripped_by l (covered l bytes) more (nat_eq l.active (2 ^ 31 - 1)) refl small legal shows not_closed active (omega (arith, leb-false (covered l bytes) (room_in l (l.active % 3)) f, h.inside)))))
 
-pub open_justified : (l m : Log) (a : List (Option ℕ)) (count bytes : ℕ) (seen more : List Step) (refusal : Refusal) → answer_at m count bytes (added_course m count bytes) ≡ Err refusal → m ≡ armed_as l a → count ≡ l.active → seen ≡ (all_seen l ++ steps.Addition (l.active % 3) (covered l bytes) (tail_word_seen l) ∷ []) ++ more → l.active < 2 ^ 31 → IsLog l → ShowsLimit l → l.closed ≡ false → ShowsActive l → IsOpenBelow l → IsJustified l.identity.geometry (covered l bytes) (sights seen) (why_of refusal)
+pub open_justified : (l m : Log) (a : List (Option ℕ)) (count bytes : ℕ) (seen more : List Step) (refusal : Refusal) → answer_at m count bytes (added_case m count bytes) ≡ Err refusal → m ≡ armed_as l a → count ≡ l.active → seen ≡ (all_seen l ++ steps.Addition (l.active % 3) (covered l bytes) (tail_word_seen l) ∷ []) ++ more → l.active < 2 ^ 31 → IsLog l → ShowsLimit l → l.closed ≡ false → ShowsActive l → IsOpenBelow l → IsJustified l.identity.geometry (covered l bytes) (sights seen) (why_of refusal)
 open_justified l m a count bytes seen more refusal answered armed is e small legal shows not_closed active h =
     let room : room_in m (count % 3) ≡ room_in l (l.active % 3) = ap (λ (k : Log). room_in k (count % 3)) armed ∙ ap (λ (n : ℕ). room_in l (n % 3)) is in
     let same : covered m bytes ≡ covered l bytes = ap (λ (k : Log). covered k bytes) armed in
@@ -236,7 +246,7 @@ opened_before l m count armed e h is =
     omega (arith, same, h.opened, is)
 
 -- an offer that is answered by a position fits
-answered_fits : (l : Log) (bytes n : ℕ) (c : Course) → answer l bytes c ≡ Ok n → c ≡ Fits
+answered_fits : (l : Log) (bytes n : ℕ) (c : OfferCase) → answer l bytes c ≡ Ok n → c ≡ Fits
 answered_fits l bytes n IsClosed e = absurd (cc)
 answered_fits l bytes n IsStale e = absurd (cc)
 answered_fits l bytes n IsUsedUp e = absurd (cc)
@@ -244,11 +254,11 @@ answered_fits l bytes n IsLimited e = absurd (cc)
 answered_fits l bytes n Fits e = refl
 answered_fits l bytes n Trips e = absurd (cc)
 
-pub course_fits : (l : Log) (bytes n : ℕ) → answer_of l bytes ≡ Ok n → course_of l bytes ≡ Fits
-course_fits l bytes n e = answered_fits l bytes n (course_of l bytes) e
+pub case_fits : (l : Log) (bytes n : ℕ) → answer_of l bytes ≡ Ok n → case_of l bytes ≡ Fits
+case_fits l bytes n e = answered_fits l bytes n (case_of l bytes) e
 
 -- an offer that is refused leaves what a claim leaves
-refused_same : (l x y : Log) (by bytes : ℕ) (r : Refusal) (c : Course) → answer l bytes c ≡ Err r → after l by bytes c x ≡ after l by bytes c y
+refused_same : (l x y : Log) (by bytes : ℕ) (r : Refusal) (c : OfferCase) → answer l bytes c ≡ Err r → after l by bytes c x ≡ after l by bytes c y
 refused_same l x y by bytes r IsClosed e = refl
 refused_same l x y by bytes r IsStale e = refl
 refused_same l x y by bytes r IsUsedUp e = refl
@@ -258,14 +268,14 @@ refused_same l x y by bytes r Trips e = refl
 
 pub refused_offer : (l n : Log) (by : ℕ) (message : List ℕ) (r : Refusal) → answer_of l (length message) ≡ Err r → n ≡ after_claim l by (length message) → n ≡ after_offer l by message
 refused_offer l n by message r e is =
-    is ∙ refused_same l (with_claim (added l by (l.active % 3) (covered l (length message))) by false (length message)) (with_message (added l by (l.active % 3) (covered l (length message))) by message) by (length message) r (course_of l (length message)) e
+    is ∙ refused_same l (with_claim (added l by (l.active % 3) (covered l (length message))) by false (length message)) (with_message (added l by (l.active % 3) (covered l (length message))) by message) by (length message) r (case_of l (length message)) e
 
 -- a claim that is open
 pub fitting_claim : (l n : Log) (by bytes end : ℕ) → answer_of l bytes ≡ Ok end → n ≡ after_claim l by bytes → n ≡ with_claim (added l by (l.active % 3) (covered l bytes)) by false bytes
 fitting_claim l n by bytes end e is =
-    is ∙ ap (λ (c : Course). after l by bytes c (with_claim (added l by (l.active % 3) (covered l bytes)) by false bytes)) (course_fits l bytes end e)
+    is ∙ ap (λ (c : OfferCase). after l by bytes c (with_claim (added l by (l.active % 3) (covered l bytes)) by false bytes)) (case_fits l bytes end e)
 
 -- and its message
 pub fitting_offer : (l : Log) (by end : ℕ) (message : List ℕ) → answer_of l (length message) ≡ Ok end → after_offer l by message ≡ with_message (added l by (l.active % 3) (covered l (length message))) by message
 fitting_offer l by end message e =
-    ap (λ (c : Course). after l by (length message) c (with_message (added l by (l.active % 3) (covered l (length message))) by message)) (course_fits l (length message) end e)
+    ap (λ (c : OfferCase). after l by (length message) c (with_message (added l by (l.active % 3) (covered l (length message))) by message)) (case_fits l (length message) end e)

@@ -1,10 +1,11 @@
 pub mod Added
 pub mod Apart
+pub mod Cases
 pub mod Cleared
-pub mod Courses
 pub mod Fills
 pub mod Frames
 pub mod Granted
 pub mod Justified
+pub mod KeptClaims
 pub mod PaddedWords
 pub mod Writing

@@ -13,6 +13,7 @@ use Rattle.theory.proofs.Tables.{set_same}
 use Rattle.term_buffer.specs.Kept.{after_next, blank_for, cuts_for, cuts_in, entry_with, next_flags, next_length, next_start, no_entry, with_next}
 use Rattle.term_buffer.specs.declared.claimed.Claimed.{Claimed}
 use Rattle.log_buffer.specs.Log.{IsHeld, IsOpen, Log, draft_of, with_commit}
+use Rattle.log_buffer.proofs.Held.{held_open}
 use Rattle.publication.specs.Writes.{place_of, with_frames, with_whole}
 use Rattle.publication.proofs.Frames.{draft_inside}
 
@@ -76,7 +77,7 @@ held_inside l c message legal h size =
 
 none_written : (l : Log) (c : Claimed) → IsHeld l c → l ≡ with_frames l c [] (cuts_at l c)
 none_written l c h =
-    let entry : slice_get l.entries (place_of l c) ≡ Some (entry_with l.identity.geometry c []) = h.unset.entry ∙ ap (λ (fs : List Frame). Some (entry_with l.identity.geometry c fs)) (nil_from_length h.unset.frames (h.unset.count ∙ h.first)) in
+    let entry : slice_get l.entries (place_of l c) ≡ Some (entry_with l.identity.geometry c []) = h.entry in
     let entries : slice_set l.entries (place_of l c) (entry_with l.identity.geometry c []) ≡ l.entries = set_same l.entries (place_of l c) (entry_with l.identity.geometry c []) entry in
     let drafts : slice_set l.drafts (place_of l c) (blank_for (cuts_at l c)) ≡ l.drafts = ap (slice_set l.drafts (place_of l c)) (sym h.blank) ∙ set-get_or l.drafts (place_of l c) [] in
     ap (λ (es : List Entry). record l { entries = es }) (sym entries)
@@ -87,7 +88,7 @@ writing_begins l c message h size =
     let all : drop c.frame (cuts_at l c) ≡ cuts_at l c = ap (λ (k : ℕ). drop k (cuts_at l c)) h.first in
     record {
       same = refl;
-      unset = h.unset;
+      unset = held_open h;
       frames = [];
       parts = ap (λ (k : ℕ). pieces_of (nat_eq k 0) (drop k (cuts_at l c)) message) h.first;
       written = none_written l c h ∙ ap (with_frames l c []) (sym all);

@@ -4,5 +4,6 @@ pub mod Grants
 pub mod Lending
 pub mod Looks
 pub mod Offers
+pub mod Outcomes
 pub mod Refusals
 pub mod Writes

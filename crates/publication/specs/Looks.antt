@@ -1,7 +1,6 @@
 -- What a publisher sees of a log before it adds.
-use Rattle.std.specs.Prelude.{◌≡◌, ℕ, ◌+◌, ◌*◌, ◌%◌, ◌<◌, ◌≤◌, true, false, List, [], ◌∷◌, ◌++◌, length, Some, slice_set}
+use Rattle.std.specs.Prelude.{◌≡◌, ℕ, ◌+◌, ◌*◌, ◌/◌, ◌%◌, ◌^◌, ◌<◌, ◌≤◌, true, false, List, [], ◌∷◌, ◌++◌, length, Some, slice_set}
 use Rattle.theory.specs.Position.{id_of}
-use Rattle.theory.specs.Refusal.{is_closed, is_connected, limit_in}
 use Rattle.theory.specs.Words.{id_in, offset_in}
 use Rattle.log_buffer.specs.Log.{Log, limit_word_of, offset_of, raw_tail, term_of}
 use Rattle.log_buffer.specs.Passes.{Pass}
@@ -21,12 +20,6 @@ tail_word_seen l = raw_tail l (l.active % 3)
 abbrev pub all_seen : Log → List Step
 all_seen l = steps.Limit (limit_word_of l) ∷ steps.Count l.active ∷ steps.Tail (l.active % 3) (tail_word_seen l) ∷ []
 
--- the limit word shows the limit and the flags
-pub record ShowsLimit (l : Log) : Type 0 where
-  pub position : limit_in (limit_word_of l) ≡ l.limit
-  pub connected : is_connected (limit_word_of l) ≡ l.connected
-  pub closed : is_closed (limit_word_of l) ≡ l.closed
-
 -- the active tail is one of the active term, with this offset
 pub record ShowsActive (l : Log) : Type 0 where
   pub id : id_in (tail_word_seen l) ≡ id_of l.identity.geometry l.active
@@ -39,6 +32,15 @@ pub record IsOpenBelow (l : Log) : Type 0 where
   pub inside : offset_of l l.active < term_of l
   pub below : l.tail < l.limit
   pub tail : l.tail ≡ l.active * term_of l + offset_of l l.active
+
+-- the term with this count is the newest and has room, and its raw tail shows it
+pub record IsOpenTerm (l : Log) (count : ℕ) : Type 0 where
+  pub last : count < 2 ^ 31
+  pub newest : l.newest ≡ count
+  pub inside : offset_of l count < term_of l
+  pub opened : l.start / term_of l ≤ count
+  pub shows_id : id_in (raw_tail l (count % 3)) ≡ id_of l.identity.geometry count
+  pub shows_offset : offset_in (raw_tail l (count % 3)) ≡ offset_of l count
 
 -- what was seen, of a log as it was; only where the publisher may add is the log another
 abbrev pub Saw : Log → ℕ → Look → List Step → Log → Type 0

@@ -1,15 +1,11 @@
 ghost use Rattle.std.specs.Prelude.{◌≡◌, ◌+◌, ◌<◌, ◌≤◌, Ok, Err, IfOk, IfErr, length, replicate};
 ghost use Rattle.std.specs.Borrow.{sem};
 ghost use Rattle.theory.specs.Position.{max_payload};
-ghost use Rattle.theory.specs.Refusal.{IsJustified};
 ghost use Rattle.block.specs.Bytes.{with_front};
-ghost use Rattle.log_buffer.specs.Log.{IsHeld, IsLog};
-ghost use Rattle.log_buffer.specs.Passes.{sights};
-ghost use Rattle.log_buffer.specs.Reader.{IsAt, Reader};
-ghost use Rattle.publication.specs.Claims.{IsBrief, IsClaimOf, after_abort, after_commit, bytes_of, claim_at, end_of};
-ghost use Rattle.publication.specs.Grants.{IsGranted};
-ghost use Rattle.publication.specs.Offers.{after_claim, answer_of, covered};
-ghost use Rattle.publication.specs.Refusals.{why_of};
+ghost use Rattle.log_buffer.specs.Leaves.{Leaves, LeavesOtherClaims};
+ghost use Rattle.publication.specs.Claims.{IsClaimOf, after_abort, after_commit, bytes_of, end_of};
+ghost use Rattle.publication.specs.Offers.{after_claim, answer_of};
+ghost use Rattle.publication.specs.Outcomes.{IsAccepted, IsGrantedClaim, IsRefusedClaim};
 
 use crate::frame::{write_abort, write_frame};
 use crate::front::block_front;
@@ -48,22 +44,12 @@ pub struct Denied {
 pub fn try_claim(log: &mut LogState, publisher: Publisher, size: u32) -> Result<Claim, Denied>
     requires short { size ≤ max_payload log.old.identity.geometry }
     requires block { length publisher.bytes ≡ log.old.identity.geometry.mtu }
-    ensures claimed { IfOk result (λ claim. (answer_of log.old size ≡ Ok (end_of claim)) × (claim.claimed ≡ claim_at log.old publisher.number size)) }
-    ensures zeros { IfOk result (λ claim. bytes_of claim ≡ replicate size 0) }
-    ensures held { IfOk result (λ claim. IsClaimOf log.new claim) }
+    ensures accepted { IfOk result (IsAccepted log.old publisher.number size log.new) }
+    ensures granted { IfOk result (IsGrantedClaim log.old.identity.geometry publisher size) }
     ensures denied { IfErr result (λ denied. answer_of log.old size ≡ Err denied.refusal) }
+    ensures refused { IfErr result (λ denied. IsRefusedClaim log.old.identity.geometry publisher size denied.refusal denied.publisher) }
     ensures after { log.new ≡ after_claim log.old publisher.number size }
-    ensures identity { log.new.identity ≡ log.old.identity }
-    ensures justified { IfErr result (λ denied. IsJustified log.old.identity.geometry (covered log.old size) (sights denied.publisher.steps) (why_of denied.refusal)) }
-    ensures granted { IfOk result (λ claim. IsGranted log.old.identity.geometry (covered log.old size) claim.pass.steps (end_of claim)) }
-    ensures few { IfOk result (λ claim. IsBrief publisher claim.pass) }
-    ensures few_denied { IfErr result (λ denied. IsBrief publisher denied.publisher) }
-    ensures block_cleared { IfOk result (λ claim. claim.pass.bytes ≡ with_front publisher.bytes (replicate size 0)) }
-    ensures block_kept { IfErr result (λ denied. denied.publisher.bytes ≡ publisher.bytes) }
-    ensures pass { publisher.number < 8 }
-    ensures legal { IsLog log.old }
-    ensures readers { (r : Reader) → IsAt log.old r → IsAt log.new r }
-    ensures claims { (c : Claimed) → IsHeld log.old c → IsHeld log.new c }
+    ensures leaves { Leaves log.old log.new }
 {
     let mut publisher = publisher;
     match claim_range(log, &mut publisher, size) {
@@ -131,13 +117,11 @@ impl Claim {
 
     /// Commits the message. The answer is its publisher and the position behind it.
     pub fn commit(self, log: &mut LogState) -> (Publisher, u64)
-        requires { IsClaimOf log.old self }
+        requires { IsClaimOf log.old self.claimed }
         ensures committed { log.new ≡ after_commit log.old self }
-        ensures legal { IsLog log.old }
         ensures end { result.1 ≡ end_of self }
         ensures pass { result.0 ≡ self.pass }
-        ensures readers { (r : Reader) → IsAt log.old r → IsAt log.new r }
-        ensures claims { (c : Claimed) → (c.owner ≡ self.claimed.owner → ⊥) → IsHeld log.old c → IsHeld log.new c }
+        ensures leaves { LeavesOtherClaims self.claimed.owner log.old log.new }
     {
         let end = self.end();
         let Claim { publisher, claimed } = self;
@@ -148,13 +132,11 @@ impl Claim {
     /// Makes the range a padding, whose bytes count to its publisher. The answer is the publisher and the position behind
     /// the padding.
     pub fn abort(self, log: &mut LogState) -> (Publisher, u64)
-        requires { IsClaimOf log.old self }
+        requires { IsClaimOf log.old self.claimed }
         ensures aborted { log.new ≡ after_abort log.old self }
-        ensures legal { IsLog log.old }
         ensures end { result.1 ≡ end_of self }
         ensures pass { result.0 ≡ self.pass }
-        ensures readers { (r : Reader) → IsAt log.old r → IsAt log.new r }
-        ensures claims { (c : Claimed) → (c.owner ≡ self.claimed.owner → ⊥) → IsHeld log.old c → IsHeld log.new c }
+        ensures leaves { LeavesOtherClaims self.claimed.owner log.old log.new }
     {
         let end = self.end();
         let Claim { publisher, claimed } = self;

@@ -16,6 +16,3 @@ mod words;
 pub use claim::{Claim, Denied, try_claim};
 pub use offers::offer;
 pub use refusal::Refusal;
-
-#[cfg(test)]
-mod tests;

@@ -1,12 +1,12 @@
 //! What a publisher sees of a log before it adds.
 
-ghost use Rattle.std.specs.Prelude.{◌≡◌, ℕ, ◌≤◌, ◌<◌, ◌+◌, ◌*◌, ◌^◌, ◌↔◌, [], IsTrue};
+ghost use Rattle.std.specs.Prelude.{◌≡◌, ◌<◌, ◌+◌, ◌*◌, ◌^◌, ◌↔◌, [], IsTrue};
 ghost use Rattle.theory.specs.Position.{id_of};
-ghost use Rattle.log_buffer.specs.Log.{IsHeld, IsLog};
-ghost use Rattle.log_buffer.specs.Reader.{IsAt, Reader};
-ghost use Rattle.publication.specs.Looks.{Saw, ShowsLimit};
+ghost use Rattle.log_buffer.specs.Leaves.{Leaves};
+ghost use Rattle.log_buffer.specs.Shown.{ShowsLimit};
+ghost use Rattle.publication.specs.Looks.{Saw};
 
-use log_buffer::{Claimed, Limit, LogState, Publisher, RawTail};
+use log_buffer::{Limit, LogState, Publisher, RawTail};
 use position::Geometry;
 
 /// What the limit word, the active count and its raw tail say.
@@ -29,13 +29,10 @@ pub(crate) fn look_at(log: &mut LogState, publisher: &mut Publisher) -> Look
     requires { publisher.old.steps ≡ [] }
     ensures saw { Saw log.old publisher.old.number result publisher.new.steps log.new }
     ensures limit { ShowsLimit log.old }
-    ensures legal_old { IsLog log.old }
-    ensures legal { IsLog log.new }
     ensures counted { log.old.active < 2 ^ 31 }
     ensures number { publisher.new.number ≡ publisher.old.number }
     ensures bytes { publisher.new.bytes ≡ publisher.old.bytes }
-    ensures readers { (r : Reader) → IsAt log.old r → IsAt log.new r }
-    ensures claims { (c : Claimed) → IsHeld log.old c → IsHeld log.new c }
+    ensures leaves { Leaves log.old log.new }
 {
     let limit = log.load_limit(publisher);
     if limit.closed {

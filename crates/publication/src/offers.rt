@@ -1,15 +1,15 @@
-ghost use Rattle.std.specs.Prelude.{◌≡◌, ℕ, ◌+◌, ◌/◌, ◌%◌, ◌<◌, ◌≤◌, ◌^◌, Some, Ok, Err, IfErr, IfOk, length, max, slice_get, if◌then◌else◌};
-ghost use Rattle.theory.specs.Position.{id_of, max_message, max_payload, max_position};
+ghost use Rattle.std.specs.Prelude.{◌≡◌, ◌+◌, ◌/◌, ◌%◌, ◌<◌, ◌≤◌, ◌^◌, Some, Ok, Err, IfErr, IfOk, length, max, slice_get, if◌then◌else◌};
+ghost use Rattle.theory.specs.Position.{max_message, max_payload};
 ghost use Rattle.theory.specs.Refusal.{IsJustified};
-ghost use Rattle.theory.specs.Words.{id_in, offset_in};
-ghost use Rattle.log_buffer.specs.Log.{IsFinished, IsHeld, IsLog, offset_of, raw_tail, term_of};
+ghost use Rattle.log_buffer.specs.Leaves.{Leaves};
+ghost use Rattle.log_buffer.specs.Log.{IsFinished, IsLog};
 ghost use Rattle.log_buffer.specs.Passes.{HasSeenEnd, sights};
-ghost use Rattle.log_buffer.specs.Reader.{IsAt, Reader};
-ghost use Rattle.rotation.specs.Turning.{Adds, count_exchanges, tail_exchanges};
-ghost use Rattle.publication.specs.Claims.{IsBrief, claim_at};
+ghost use Rattle.rotation.specs.Turning.{Adds};
+ghost use Rattle.publication.specs.Claims.{HasFewSteps};
 ghost use Rattle.publication.specs.Grants.{IsGranted};
-ghost use Rattle.publication.specs.Looks.{AddsThen};
-ghost use Rattle.publication.specs.Offers.{added_course, after_claim, after_course, after_offer, answer_at, answer_of, covered, is_last, turned_from};
+ghost use Rattle.publication.specs.Looks.{AddsThen, IsOpenTerm};
+ghost use Rattle.publication.specs.Offers.{added_case, after_claim, after_case, after_offer, answer_at, answer_of, covered, refusal_at_end, turned_from};
+ghost use Rattle.publication.specs.Outcomes.{IsRange};
 ghost use Rattle.publication.specs.Refusals.{why_of};
 
 use crate::frame::{write_message, write_padding};
@@ -26,15 +26,11 @@ pub fn offer(log: &mut LogState, publisher: &mut Publisher, message: &[u8]) -> R
     requires { length message.now ≤ max_message log.old.identity.geometry }
     ensures answer { result ≡ answer_of log.old (length message.now) }
     ensures after { log.new ≡ after_offer log.old publisher.old.number message.now }
-    ensures identity { log.new.identity ≡ log.old.identity }
     ensures granted { IfOk result (IsGranted log.old.identity.geometry (covered log.old (length message.now)) publisher.new.steps) }
     ensures justified { IfErr result (λ refusal. IsJustified log.old.identity.geometry (covered log.old (length message.now)) (sights publisher.new.steps) (why_of refusal)) }
-    ensures brief { IsBrief publisher.old publisher.new }
-    ensures pass { publisher.old.number < 8 }
+    ensures steps { HasFewSteps publisher.old publisher.new }
     ensures same_bytes { publisher.new.bytes ≡ publisher.old.bytes }
-    ensures legal { IsLog log.old }
-    ensures readers { (r : Reader) → IsAt log.old r → IsAt log.new r }
-    ensures claims { (c : Claimed) → IsHeld log.old c → IsHeld log.new c }
+    ensures leaves { Leaves log.old log.new }
 {
     let claimed = claim_range(log, publisher, message.len() as u32)?;
     let covered = log.geometry().framed_length(claimed.size);
@@ -49,21 +45,14 @@ pub(crate) fn claim_range(
     size: u32,
 ) -> Result<Claimed, Refusal>
     requires short { size ≤ max (max_message log.old.identity.geometry) (max_payload log.old.identity.geometry) }
-    ensures claimed { IfOk result (λ claimed. (answer_of log.old size ≡ Ok (claimed.start + covered log.old size)) × (claimed ≡ claim_at log.old publisher.old.number size)) }
-    ensures held { IfOk result (λ claimed. IsHeld log.new claimed) }
-    ensures legal_claimed { IfOk result (λ claimed. IsLog log.new) }
-    ensures in_stream { IfOk result (λ claimed. claimed.start + covered log.old size ≤ max_position log.old.identity.geometry) }
+    ensures accepted { IfOk result (IsRange log.old publisher.old.number size (answer_of log.old size) log.new) }
     ensures granted { IfOk result (λ claimed. IsGranted log.old.identity.geometry (covered log.old size) publisher.new.steps (claimed.start + covered log.old size)) }
     ensures refused { IfErr result (λ refusal. answer_of log.old size ≡ Err refusal) }
     ensures after { log.new ≡ after_claim log.old publisher.old.number size }
-    ensures identity { log.new.identity ≡ log.old.identity }
     ensures justified { IfErr result (λ refusal. IsJustified log.old.identity.geometry (covered log.old size) (sights publisher.new.steps) (why_of refusal)) }
-    ensures brief { IsBrief publisher.old publisher.new }
-    ensures pass { publisher.old.number < 8 }
+    ensures steps { HasFewSteps publisher.old publisher.new }
     ensures same_bytes { publisher.new.bytes ≡ publisher.old.bytes }
-    ensures legal { IsLog log.old }
-    ensures readers { (r : Reader) → IsAt log.old r → IsAt log.new r }
-    ensures claims { (c : Claimed) → IsHeld log.old c → IsHeld log.new c }
+    ensures leaves { Leaves log.old log.new }
 {
     publisher.begin();
     match look_at(log, publisher) {
@@ -90,14 +79,13 @@ fn refused_at(limit: Limit) -> Refusal
 fn turn_from(log: &mut LogState, publisher: &mut Publisher, count: u32) -> Refusal
     requires few { length publisher.old.steps ≤ 4 }
     requires last { count < 2 ^ 31 }
+    requires legal { IsLog log.old }
     requires seen { HasSeenEnd log.old.identity.geometry publisher.old.steps count }
     requires finished { count + 1 < 2 ^ 31 → IsFinished log.old count }
-    ensures refusal { result ≡ is_last count }
+    ensures refusal { result ≡ refusal_at_end count }
     ensures turned { log.new ≡ turned_from log.old count }
-    ensures identity { log.new.identity ≡ log.old.identity }
     ensures adds { Adds 3 1 1 publisher.old publisher.new }
-    ensures readers { (r : Reader) → IsAt log.old r → IsAt log.new r }
-    ensures claims { (c : Claimed) → IsHeld log.old c → IsHeld log.new c }
+    ensures leaves { Leaves log.old log.new }
 {
     if count == i32::MAX as u32 {
         return Refusal::MaxPositionExceeded;
@@ -115,25 +103,15 @@ fn add_range(
 ) -> Result<Claimed, Refusal>
     requires short { size ≤ max_message log.old.identity.geometry }
     requires few { length publisher.old.steps ≤ 3 }
-    requires last { count < 2 ^ 31 }
     requires armed { slice_get log.old.armed publisher.old.number ≡ Some (Some (count % 3)) }
     requires legal { IsLog log.old }
-    requires newest { log.old.newest ≡ count }
-    requires inside { offset_of log.old count < term_of log.old }
-    requires opened { log.old.start / term_of log.old ≤ count }
-    requires shows_id { id_in (raw_tail log.old (count % 3)) ≡ id_of log.old.identity.geometry count }
-    requires shows_offset { offset_in (raw_tail log.old (count % 3)) ≡ offset_of log.old count }
-    ensures claimed { IfOk result (λ claimed. (answer_at log.old count size (added_course log.old count size) ≡ Ok (claimed.start + covered log.old size)) × (claimed ≡ claim_at log.old publisher.old.number size)) }
-    ensures held { IfOk result (λ claimed. IsHeld log.new claimed) }
-    ensures legal_claimed { IfOk result (λ claimed. IsLog log.new) }
-    ensures in_stream { IfOk result (λ claimed. claimed.start + covered log.old size ≤ max_position log.old.identity.geometry) }
-    ensures refused { IfErr result (λ refusal. answer_at log.old count size (added_course log.old count size) ≡ Err refusal) }
-    ensures after { log.new ≡ after_course log.old publisher.old.number count size (added_course log.old count size) }
-    ensures identity { log.new.identity ≡ log.old.identity }
+    requires term { IsOpenTerm log.old count }
+    ensures accepted { IfOk result (IsRange log.old publisher.old.number size (answer_at log.old count size (added_case log.old count size)) log.new) }
+    ensures refused { IfErr result (λ refusal. answer_at log.old count size (added_case log.old count size) ≡ Err refusal) }
+    ensures after { log.new ≡ after_case log.old publisher.old.number count size (added_case log.old count size) }
     ensures steps { AddsThen log.old count (covered log.old size) publisher.old publisher.new }
     ensures few { IfOk result (λ claimed. length publisher.new.steps ≤ 4) }
-    ensures readers { (r : Reader) → IsAt log.old r → IsAt log.new r }
-    ensures claims { (c : Claimed) → IsHeld log.old c → IsHeld log.new c }
+    ensures leaves { Leaves log.old log.new }
 {
     let added = log.add(publisher, count, size);
     match added.claimed {

@@ -31,6 +31,13 @@ word_of t partition = tail_word (id_before t.geometry t.newest (behind t.newest 
 abbrev pub end_of : Tails → ℕ
 end_of t = t.newest * term_of t + min (offset_of t t.newest) (term_of t)
 
+-- the term of this count, which isn't the last, is used up
+pub record IsFinished (t : Tails) (count : ℕ) : Type 0 where
+  pub last : count + 1 < 2 ^ 31
+  pub begun : t.opened ≤ count
+  pub known : count ≤ t.newest
+  pub full : t.newest ≡ count → term_of t ≤ offset_of t count
+
 -- those of a log that opens at this start
 abbrev pub opened_at : Geometry → ℕ → Tails
 opened_at g start = record {

@@ -9,6 +9,3 @@ mod tails;
 
 pub use raw_tail::RawTail;
 pub use tails::RawTails;
-
-#[cfg(test)]
-mod tests;

@@ -1,5 +1,5 @@
 ghost use Rattle.std.specs.Prelude.{◌≡◌, ℕ, ◌+◌, ◌-◌, ◌*◌, ◌/◌, ◌%◌, ◌<◌, ◌≤◌, ◌^◌, ◌↔◌, slice_index};
-ghost use Rattle.theory.specs.Position.{IsGeometry, id_of, max_position};
+ghost use Rattle.theory.specs.Position.{id_of, max_position};
 ghost use Rattle.theory.specs.Words.{id_before, tail_word};
 
 use crate::raw_tail::RawTail;
@@ -29,7 +29,7 @@ impl Model for RawTails {
 }
 
 impl RawTails {
-    ghost use Rattle.raw_tails.specs.Tails.{IsTails, added, behind, counted, end_of, exchanged, offset_of, opened_at, term_of, turned, word_of};
+    ghost use Rattle.raw_tails.specs.Tails.{IsFinished, IsTails, added, behind, counted, end_of, exchanged, offset_of, opened_at, term_of, turned, word_of};
 
     /// The tails of a log that opens at a position.
     pub fn open(geometry: Geometry, start: u64) -> RawTails
@@ -112,10 +112,7 @@ impl RawTails {
     /// Exchanges the tail of the partition behind a count's, if it is still the one that was loaded, to the start of
     /// the next term. The answer is the tail that was there. The count's term is used up.
     pub fn exchange_tail(&mut self, count: u32, loaded: RawTail) -> RawTail
-        requires last { count + 1 < 2 ^ 31 }
-        requires begun { self.old.opened ≤ count }
-        requires known { count ≤ self.old.newest }
-        requires finished { self.old.newest ≡ count → term_of self.old ≤ offset_of self.old count }
+        requires finished { IsFinished self.old count }
         requires loaded { loaded.term_id ≡ id_before self.old.geometry count 2 }
         ensures before { tail_word result.term_id result.offset ≡ word_of self.old ((count + 1) % 3) }
         ensures exchanged { self.new ≡ exchanged self.old count (tail_word loaded.term_id loaded.offset) }

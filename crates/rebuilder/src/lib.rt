@@ -16,6 +16,3 @@ pub use answer::Insert;
 pub use fault::ImageError;
 pub use image::{CONSUMERS, Image};
 pub use laws::units_grow;
-
-#[cfg(test)]
-mod tests;

@@ -20,6 +20,3 @@ pub fn near_starts_suffice()
     ensures answers { NearAreEnough }
     ensures later { NearStayNear }
 {}
-
-#[cfg(test)]
-mod tests;

@@ -9,6 +9,3 @@ mod turn;
 
 pub use keeper::{clean_and_limit, set_closed, set_connected};
 pub use turn::rotate;
-
-#[cfg(test)]
-mod tests;

@@ -16,6 +16,3 @@ pub use command::{Command, LogLine, PartyNumber, Script};
 pub use fault::ScriptFault;
 pub use read::read_script;
 pub use values::hexadecimal;
-
-#[cfg(test)]
-mod tests;

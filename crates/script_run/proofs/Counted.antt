@@ -14,7 +14,7 @@ use Rattle.term_buffer.specs.Kept.{claim_of, no_entry, padded, published, with_n
 use Rattle.term_buffer.specs.declared.claimed.Claimed.{Claimed}
 use Rattle.log_buffer.specs.Log.{Log, added, room_in, with_claim, with_message, with_padding}
 use Rattle.publication.specs.Claims.{claim_at}
-use Rattle.publication.specs.Offers.{Course, IsClosed, IsStale, IsUsedUp, IsLimited, Fits, Trips, after, after_claim, after_offer, answer, course_of, covered, turned_from}
+use Rattle.publication.specs.Offers.{OfferCase, IsClosed, IsStale, IsUsedUp, IsLimited, Fits, Trips, after, after_claim, after_offer, answer, case_of, covered, turned_from}
 use Rattle.script.specs.Meaning as commands
 use Rattle.script.specs.Meaning.{CommandContent}
 use Rattle.script_run.specs.Answers.{AbortsClaim, Answers, Claims, ClaimsRange, CommitsClaim, HasClaim, HasNoClaim, Limits, MayNotTake, OffersMessage, Offered, SenderHears, with_log}
@@ -64,19 +64,19 @@ turned_counts past l count h =
     (subst (λ es. Counts l.shares (past ++ es)) (sym (turned_same (λ k. k.entries) (λ k x y z. refl) l count)) h)
 
 -- where it fits, the log is this one
-course_counts : (past : List Entry) (l : Log) (by size : ℕ) (c : Course) (fitting : Log) → length l.shares ≡ 8 → by < 8 → Counts l.shares (past ++ l.entries) → Counts fitting.shares (past ++ fitting.entries) → Counts (after l by size c fitting).shares (past ++ (after l by size c fitting).entries)
-course_counts past l by size IsClosed fitting eight who h fits = h
-course_counts past l by size IsStale fitting eight who h fits = h
-course_counts past l by size IsLimited fitting eight who h fits = h
-course_counts past l by size IsUsedUp fitting eight who h fits = turned_counts past l l.active h
-course_counts past l by size Fits fitting eight who h fits = fits
-course_counts past l by size Trips fitting eight who h fits =
+case_counts : (past : List Entry) (l : Log) (by size : ℕ) (c : OfferCase) (fitting : Log) → length l.shares ≡ 8 → by < 8 → Counts l.shares (past ++ l.entries) → Counts fitting.shares (past ++ fitting.entries) → Counts (after l by size c fitting).shares (past ++ (after l by size c fitting).entries)
+case_counts past l by size IsClosed fitting eight who h fits = h
+case_counts past l by size IsStale fitting eight who h fits = h
+case_counts past l by size IsLimited fitting eight who h fits = h
+case_counts past l by size IsUsedUp fitting eight who h fits = turned_counts past l l.active h
+case_counts past l by size Fits fitting eight who h fits = fits
+case_counts past l by size Trips fitting eight who h fits =
     let n = room_in l (l.active % 3) in
     let e = padded l.tail by n in
     turned_counts past (with_padding (added l by (l.active % 3) (covered l size)) by n) l.active
     (subst (λ n. Counts (with_share l.shares by n) (past ++ (l.entries ++ e ∷ []))) (omega arith) (counts_more l.shares past l.entries e eight who h))
 
-offered_state : (s t : ScriptState) (by : ℕ) (m : List ℕ) (lines : List LineContent) (c : Course) → Offered s by m (answer s.log (length m) c) lines t → t ≡ with_log s (after_offer s.log by m)
+offered_state : (s t : ScriptState) (by : ℕ) (m : List ℕ) (lines : List LineContent) (c : OfferCase) → Offered s by m (answer s.log (length m) c) lines t → t ≡ with_log s (after_offer s.log by m)
 offered_state s t by m lines IsClosed o = o.1
 offered_state s t by m lines IsStale o = o.1
 offered_state s t by m lines IsUsedUp o = o.1
@@ -93,9 +93,9 @@ offer_line s t by most size m lines (inr o) h =
     let fitting = with_message (added l by (l.active % 3) (covered l n)) by m in
     let fits : Counts fitting.shares (s.past ++ fitting.entries) =
     subst (λ x. Counts (with_share l.shares by x) (s.past ++ (l.entries ++ e ∷ []))) (covers_framed l.identity.geometry n o.0.legal.geometry) (counts_more l.shares s.past l.entries e o.0.legal.eight o.0.publisher h) in
-    subst IsCounted (sym (offered_state s t by m lines (course_of l n) o.2)) (course_counts s.past l by n (course_of l n) fitting o.0.legal.eight o.0.publisher h fits)
+    subst IsCounted (sym (offered_state s t by m lines (case_of l n) o.2)) (case_counts s.past l by n (case_of l n) fitting o.0.legal.eight o.0.publisher h fits)
 
-claimed_state : (s t : ScriptState) (by size : ℕ) (lines : List LineContent) (c : Course) → Claims s by size (answer s.log size c) lines t → (claims : List (Option Claimed)) × (t ≡ record (with_log s (after_claim s.log by size)) { claims = claims })
+claimed_state : (s t : ScriptState) (by size : ℕ) (lines : List LineContent) (c : OfferCase) → Claims s by size (answer s.log size c) lines t → (claims : List (Option Claimed)) × (t ≡ record (with_log s (after_claim s.log by size)) { claims = claims })
 claimed_state s t by size lines IsClosed o = (s.claims, o.1)
 claimed_state s t by size lines IsStale o = (s.claims, o.1)
 claimed_state s t by size lines IsUsedUp o = (s.claims, o.1)
@@ -109,8 +109,8 @@ claim_line s t by most size lines (inr o) h =
     let l = s.log in
     let e = claim_of l.identity.geometry l.tail by false size in
     let fitting = with_claim (added l by (l.active % 3) (covered l size)) by false size in
-    subst IsCounted (sym (claimed_state s t by size lines (course_of l size) o.2).1)
-    (course_counts s.past l by size (course_of l size) fitting o.0.legal.eight o.0.publisher h (counts_more l.shares s.past l.entries e o.0.legal.eight o.0.publisher h))
+    subst IsCounted (sym (claimed_state s t by size lines (case_of l size) o.2).1)
+    (case_counts s.past l by size (case_of l size) fitting o.0.legal.eight o.0.publisher h (counts_more l.shares s.past l.entries e o.0.legal.eight o.0.publisher h))
 
 -- ---- a claim's commit or abort
 

@@ -24,14 +24,14 @@ use Rattle.theory.proofs.Places.{term_ends}
 use Rattle.theory.proofs.Tables.{get_put}
 use Rattle.log_buffer.specs.Log.{IsLog, Log, counted, offset_of, room_in, term_of, turned}
 use Rattle.rotation.specs.Rotated.{rotated, with_next}
-use Rattle.publication.specs.Offers.{Course, IsClosed, IsStale, IsUsedUp, IsLimited, Fits, Trips, course_of, covered, turned_from}
+use Rattle.publication.specs.Offers.{OfferCase, IsClosed, IsStale, IsUsedUp, IsLimited, Fits, Trips, case_of, covered, turned_from}
 use Rattle.script_run.specs.ScriptState.{ScriptState, is_armed, stream_of, world_of}
 use Rattle.model.proofs.Commits.{AreBytes, HaveAll, have_pieces, pieces_are, pieces_bytes}
 use Rattle.script_run.proofs.Runs.{Goes, goes_one, goes_on, stays}
 
 -- ---- what an offer knows that takes an entry
 
-abbrev taking : Bool → Course
+abbrev taking : Bool → OfferCase
 taking true = Fits
 taking false = Trips
 
@@ -56,7 +56,7 @@ pub record IsTaken (l : Log) (size : ℕ) (fits : Bool) : Type 0 where
   pub tail : l.tail ≡ l.newest * term_of l + offset_of l l.active
   pub fitting : nat_le (covered l size) (room_in l (l.active % 3)) ≡ fits
 
-taken : (l : Log) (size : ℕ) (fits : Bool) → IsLog l → course_of l size ≡ taking fits → IsTaken l size fits
+taken : (l : Log) (size : ℕ) (fits : Bool) → IsLog l → case_of l size ≡ taking fits → IsTaken l size fits
 taken l size fits h e =
     let parts = taken_only l.closed (nat_lt (l.active + 2) l.newest) (nat_le (term_of l) (offset_of l l.active)) (nat_le l.limit l.tail) (nat_le (covered l size) (room_in l (l.active % 3))) fits e in
     let late : l.newest ≤ l.active + 2 = ltb-false (l.active + 2) l.newest parts.0 in
@@ -134,7 +134,7 @@ tested : (past : List Entry) (readers : List Consumer) (l : Log) (size : ℕ) (f
 tested past readers l size fits h k =
     ap (λ n. nat_le n (room (stream_of past readers l))) (covers_framed l.identity.geometry size h.geometry) ∙ ap (λ n. nat_le (covered l size) n) (room_is past readers l size fits k) ∙ k.fitting
 
-pub fits_one : (past : List Entry) (readers : List Consumer) (l : Log) (by size : ℕ) → IsLog l → by < 8 → size ≤ max_message l.identity.geometry → course_of l size ≡ Fits → TakesOne past readers l by size false (cuts_of l.identity.geometry size)
+pub fits_one : (past : List Entry) (readers : List Consumer) (l : Log) (by size : ℕ) → IsLog l → by < 8 → size ≤ max_message l.identity.geometry → case_of l size ≡ Fits → TakesOne past readers l by size false (cuts_of l.identity.geometry size)
 fits_one past readers l by size h who short e =
     let k = taken l size true h e in
     let t = tested past readers l size true h k in
@@ -151,7 +151,7 @@ fits_one past readers l by size h who short e =
           (cond-true (nat_le (span cuts) left) cuts (left ∷ []) t);
     }
 
-pub trips_one : (past : List Entry) (readers : List Consumer) (l : Log) (by size : ℕ) → IsLog l → by < 8 → size ≤ max_message l.identity.geometry → course_of l size ≡ Trips → TakesOne past readers l by size true (room_in l (l.active % 3) ∷ [])
+pub trips_one : (past : List Entry) (readers : List Consumer) (l : Log) (by size : ℕ) → IsLog l → by < 8 → size ≤ max_message l.identity.geometry → case_of l size ≡ Trips → TakesOne past readers l by size true (room_in l (l.active % 3) ∷ [])
 trips_one past readers l by size h who short e =
     let k = taken l size false h e in
     let t = tested past readers l size false h k in

@@ -1,5 +1,5 @@
 -- A poll goes on with the world, and gives what its line prints.
-use Rattle.std.proofs.Common.{◌≡◌, ℕ, ◌≤◌, List, [], ◌∷◌, ◌++◌, true, false, Option, None, Some, inl, inr, refl, sym, ap, ◌∙◌, subst, arith}
+use Rattle.std.proofs.Common.{◌≡◌, ℕ, ◌≤◌, List, [], ◌∷◌, ◌++◌, true, false, Option, None, Some, Ok, Err, inl, inr, refl, sym, ap, ◌∙◌, subst, arith}
 use Rattle.std.specs.Prelude.{slice_set}
 use Rattle.std.specs.Option.{option_map}
 use Rattle.std.proofs.lemmas.Bool.{both_ways}
@@ -12,12 +12,14 @@ use Rattle.theory.proofs.Lists.{all_behind, all_front}
 use Rattle.theory.proofs.Follow.{chain_le}
 use Rattle.assembler.specs.declared.fault.AssemblyError.{AssemblyError}
 use Rattle.script_run.specs.Answers.{with_receiver}
-use Rattle.receiver.specs.Polling.{PollsFault, PollsImage, PollsOf, PollsOn, PollsWhole, Polls, Reads, gives, moved_all}
-use Rattle.script_run.specs.LineContents.{LineContent, Message, NoMessage, Unassembled}
+use Rattle.receiver.specs.Polling.{Answer, PollsFault, PollsImage, PollsOf, PollsOn, PollsWhole, Polls, Reads, gives, moved_all}
+use Rattle.script_run.specs.LineContents.{LineContent, poll_line}
+use Rattle.receiver.specs.declared.poll_error.PollError.TheVariants as polls
 use Rattle.script_run.specs.Published.{is_fault, messages_in}
 use Rattle.receiver.specs.Receiving.{Opened, Receiver}
 use Rattle.script_run.specs.ScriptState.{ScriptState, image_of, world_of}
-use Rattle.script_run.proofs.PollRuns.{Stands, loses_one, moved_at, moved_past, moves, passed_join, passes, stands_after, with_one}
+use Rattle.receiver.proofs.PollFrames.{moved_at}
+use Rattle.script_run.proofs.PollRuns.{Stands, loses_one, moved_past, moves, passed_join, passes, stands_after, with_one}
 use Rattle.script_run.proofs.ReceiverRuns.{At, Follows, FollowsImage, IsFollowed, set_image, unchanged}
 use Rattle.script_run.proofs.Runs.{Goes, goes_on, goes_one, image_again, with_image}
 
@@ -70,8 +72,8 @@ fault_poll w k i c d g fault given more Whole h heard never p =
       heard = λ whole. absurd (never whole);
     }
 
-lost_poll : (w : World) (k : ℕ) (i : Image) (c d : Consumer) (line : LineContent) (given more : List (List ℕ)) (Whole : Type 0) → Stands w k i c → (Whole → ⊥) → PollsOn i c line d → Polled w k i c d given more Whole
-lost_poll w k i c d line given more Whole h never p = record {
+lost_poll : (w : World) (k : ℕ) (i : Image) (c d : Consumer) (answer : Answer) (given more : List (List ℕ)) (Whole : Type 0) → Stands w k i c → (Whole → ⊥) → PollsOn i c answer d → Polled w k i c d given more Whole
+lost_poll w k i c d answer given more Whole h never p = record {
   goes = subst (λ x. Goes w (with_image w k (with_one i x))) (sym p.after) (passes w k i c d.at p.frames h p.reads.chain p.reads.among);
   further = chain_le c.at d.at p.frames p.reads.chain;
   join = ap (λ x. x.join) p.after ∙ passed_join c p.frames;
@@ -81,34 +83,34 @@ lost_poll w k i c d line given more Whole h never p = record {
 abbrev pub StillWhole : Type 0 → LineContent → Type 0
 StillWhole Whole line = Whole × (is_fault line ≡ false)
 
-whole_line : (w : World) (k : ℕ) (i : Image) (c d : Consumer) (g : ℕ) (line : LineContent) (given : List (List ℕ)) (Whole : Type 0) → Stands w k i c → c.lost ≡ false → (Whole → (c.lost ≡ false) × (c.assembly.given ≡ given)) → PollsWhole g i c line d → Polled w k i c d given (messages_in line) (StillWhole Whole line)
-whole_line w k i c d g (Message bytes) given Whole h heard known p = whole_poll w k i c d (p.earlier ++ p.last ∷ []) given (bytes ∷ []) (StillWhole Whole (Message bytes)) h heard (λ x. known x.0) p.reads p.after p.message_given
-whole_line w k i c d g NoMessage given Whole h heard known p = whole_poll w k i c d p.frames given [] (StillWhole Whole NoMessage) h heard (λ x. known x.0) p.reads p.after p.nothing
-whole_line w k i c d g (Unassembled fault) given Whole h heard known p = fault_poll w k i c d g fault given [] (StillWhole Whole (Unassembled fault)) h heard (λ x. both_ways true x.1 refl) p
-whole_line w k i c d g line given Whole h heard known p = absurd p
+whole_line : (w : World) (k : ℕ) (i : Image) (c d : Consumer) (g : ℕ) (answer : Answer) (given : List (List ℕ)) (Whole : Type 0) → Stands w k i c → c.lost ≡ false → (Whole → (c.lost ≡ false) × (c.assembly.given ≡ given)) → PollsWhole g i c answer d → Polled w k i c d given (messages_in (poll_line answer)) (StillWhole Whole (poll_line answer))
+whole_line w k i c d g (Ok (Some bytes)) given Whole h heard known p = whole_poll w k i c d (p.earlier ++ p.last ∷ []) given (bytes ∷ []) (StillWhole Whole (poll_line (Ok (Some bytes)))) h heard (λ x. known x.0) p.reads p.after p.message_given
+whole_line w k i c d g (Ok None) given Whole h heard known p = whole_poll w k i c d p.frames given [] (StillWhole Whole (poll_line (Ok None))) h heard (λ x. known x.0) p.reads p.after p.nothing
+whole_line w k i c d g (Err (polls.Unassembled fault)) given Whole h heard known p = fault_poll w k i c d g fault given [] (StillWhole Whole (poll_line (Err (polls.Unassembled fault)))) h heard (λ x. both_ways true x.1 refl) p
+whole_line w k i c d g (Err polls.NoImage) given Whole h heard known p = absurd p
 
-image_line : (w : World) (k : ℕ) (i : Image) (c d : Consumer) (g : ℕ) (line : LineContent) (given : List (List ℕ)) (Whole : Type 0) → Stands w k i c → (Whole → (c.lost ≡ false) × (c.assembly.given ≡ given)) → PollsImage g i c line d → Polled w k i c d given (messages_in line) (StillWhole Whole line)
-image_line w k i c d g line given Whole h known (inl p) = whole_line w k i c d g line given Whole h p.0 known p.1
-image_line w k i c d g line given Whole h known (inr p) = lost_poll w k i c d line given (messages_in line) (StillWhole Whole line) h (λ x. both_ways c.lost (known x.0).0 p.0) p.1
+image_line : (w : World) (k : ℕ) (i : Image) (c d : Consumer) (g : ℕ) (answer : Answer) (given : List (List ℕ)) (Whole : Type 0) → Stands w k i c → (Whole → (c.lost ≡ false) × (c.assembly.given ≡ given)) → PollsImage g i c answer d → Polled w k i c d given (messages_in (poll_line answer)) (StillWhole Whole (poll_line answer))
+image_line w k i c d g answer given Whole h known (inl p) = whole_line w k i c d g answer given Whole h p.0 known p.1
+image_line w k i c d g answer given Whole h known (inr p) = lost_poll w k i c d answer given (messages_in (poll_line answer)) (StillWhole Whole (poll_line answer)) h (λ x. both_ways c.lost (known x.0).0 p.0) p.1
 
 -- ---- of a receiver
 
-pub record PollMet (s : ScriptState) (k : ℕ) (mid : Receiver) (line : LineContent) (joins : List ℕ) (given : List (List ℕ)) (Whole : Type 0) : Type 0 where
+pub record PollMet (s : ScriptState) (k : ℕ) (mid : Receiver) (answer : Answer) (joins : List ℕ) (given : List (List ℕ)) (Whole : Type 0) : Type 0 where
   pub goes : Goes (world_of s) (world_of (with_receiver s k mid))
-  pub follows : Follows s.log.identity mid joins (given ++ messages_in line) (StillWhole Whole line)
+  pub follows : Follows s.log.identity mid joins (given ++ messages_in (poll_line answer)) (StillWhole Whole (poll_line answer))
 
-polls_of : (s : ScriptState) (k : ℕ) (r mid : Receiver) (image : Option Opened) (line : LineContent) (joins : List ℕ) (given : List (List ℕ)) (Whole : Type 0) → At s k r joins given Whole → r.image ≡ image → PollsOf image r line mid → PollMet s k mid line joins given Whole
-polls_of s k r mid None line joins given Whole a was m =
+polls_of : (s : ScriptState) (k : ℕ) (r mid : Receiver) (image : Option Opened) (answer : Answer) (joins : List ℕ) (given : List (List ℕ)) (Whole : Type 0) → At s k r joins given Whole → r.image ≡ image → PollsOf image r answer mid → PollMet s k mid answer joins given Whole
+polls_of s k r mid None answer joins given Whole a was m =
     let nothing : (joins ≡ []) × (given ≡ []) = subst (λ x. FollowsImage x s.log.identity joins given Whole) was a.follows.image in
-    let more : given ++ messages_in line ≡ [] = ap (λ xs. xs ++ messages_in line) nothing.1 ∙ ap messages_in m.0 in
+    let more : given ++ messages_in (poll_line answer) ≡ [] = ap (λ xs. xs ++ messages_in (poll_line answer)) nothing.1 ∙ ap (λ a. messages_in (poll_line a)) m.0 in
     record {
       goes = unchanged s k r mid a.there (ap (λ x. image_of x) m.1);
       follows = record {
         consumers = ap (λ x. x.consumers) m.1 ∙ a.follows.consumers;
-        image = subst (λ x. FollowsImage x s.log.identity joins (given ++ messages_in line) (StillWhole Whole line)) (sym (ap (λ x. x.image) m.1 ∙ was)) (nothing.0, more);
+        image = subst (λ x. FollowsImage x s.log.identity joins (given ++ messages_in (poll_line answer)) (StillWhole Whole (poll_line answer))) (sym (ap (λ x. x.image) m.1 ∙ was)) (nothing.0, more);
       };
     }
-polls_of s k r mid (Some o) line joins given Whole a was m =
+polls_of s k r mid (Some o) answer joins given Whole a was m =
     let w = world_of s in
     let c = m.0 in
     let d = m.1 in
@@ -116,13 +118,13 @@ polls_of s k r mid (Some o) line joins given Whole a was m =
     let same_list : before.consumer ∷ [] ≡ c ∷ [] = sym before.one ∙ m.2 in
     let same : before.consumer ≡ c = cc in
     let stands : Stands w k o.image c = record { image = a.there ∙ ap Some (ap (option_map (λ x. x.image)) was); one = m.2 } in
-    let polled = image_line w k o.image c d r.greatest line given Whole stands (λ whole. let h = before.heard whole in (ap (λ x. x.lost) (sym same) ∙ h.0, ap (λ x. x.assembly.given) (sym same) ∙ h.1)) m.3 in
+    let polled = image_line w k o.image c d r.greatest answer given Whole stands (λ whole. let h = before.heard whole in (ap (λ x. x.lost) (sym same) ∙ h.0, ap (λ x. x.assembly.given) (sym same) ∙ h.1)) m.3 in
     let is : image_of mid ≡ Some (with_one o.image d) = ap (λ x. image_of x) m.4 in
     record {
       goes = subst (λ v. Goes w v) (ap (λ x. record w { images = slice_set w.images k x }) (sym is) ∙ sym (set_image s k mid)) polled.goes;
       follows = record {
         consumers = ap (λ x. x.consumers) m.4 ∙ a.follows.consumers;
-        image = subst (λ x. FollowsImage x s.log.identity joins (given ++ messages_in line) (StillWhole Whole line)) (sym (ap (λ x. x.image) m.4)) (record {
+        image = subst (λ x. FollowsImage x s.log.identity joins (given ++ messages_in (poll_line answer)) (StillWhole Whole (poll_line answer))) (sym (ap (λ x. x.image) m.4)) (record {
           consumer = d;
           one = refl;
           geometry = before.geometry;
@@ -133,5 +135,5 @@ polls_of s k r mid (Some o) line joins given Whole a was m =
       };
     }
 
-pub polls_met : (s : ScriptState) (k : ℕ) (r mid : Receiver) (line : LineContent) (joins : List ℕ) (given : List (List ℕ)) (Whole : Type 0) → At s k r joins given Whole → Polls r line mid → PollMet s k mid line joins given Whole
-polls_met s k r mid line joins given Whole a m = polls_of s k r mid r.image line joins given Whole a refl m
+pub polls_met : (s : ScriptState) (k : ℕ) (r mid : Receiver) (answer : Answer) (joins : List ℕ) (given : List (List ℕ)) (Whole : Type 0) → At s k r joins given Whole → Polls r answer mid → PollMet s k mid answer joins given Whole
+polls_met s k r mid answer joins given Whole a m = polls_of s k r mid r.image answer joins given Whole a refl m

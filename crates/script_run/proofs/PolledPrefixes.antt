@@ -15,7 +15,8 @@ use Rattle.script.specs.Meaning.{CommandContent}
 use Rattle.script_run.specs.Answers.{Answers}
 use Rattle.script_run.specs.Output.{AlwaysPolled, AnswersAll, identity_of}
 use Rattle.receiver.specs.Polling.{TellsOf}
-use Rattle.script_run.specs.LineContents.{LineContent, Positions}
+use Rattle.script_run.specs.LineContents.{LineContent, Positions, positions_line}
+use Rattle.receiver.specs.declared.positions.Positions as places
 use Rattle.script_run.specs.Published.{AllWhole, LastTold, Played, PolledNothing, PolledPrefix, PolledTo, ReadTo, covered_by, joins, polled, published, read}
 use Rattle.receiver.specs.Receiving.{Opened, Receiver}
 use Rattle.script_run.specs.ScriptState.{ScriptState, entries_of, image_of, listening_at, numbers, opened_state, world_of}
@@ -23,7 +24,8 @@ use Rattle.script_run.proofs.Numbers.{number_at}
 use Rattle.script_run.proofs.Ranges.{matched}
 use Rattle.script_run.proofs.ReaderRuns.{read_line}
 use Rattle.script_run.proofs.ReceiverRuns.{FollowsImage, IsFollowed}
-use Rattle.script_run.proofs.Runs.{map_get, seat_at, stays}
+use Rattle.script_run.proofs.Runs.{stays}
+use Rattle.theory.proofs.Tables.{map_get, seat_at}
 use Rattle.theory.proofs.Tables.{map_replicate}
 use Rattle.script_run.proofs.Sound.{Begins, IsSound, Laws, and_line, opened}
 use Rattle.script_run.proofs.SoundLines.{abort_line, claim_line, close_line, commit_line, connect_line, limit_line, offer_line, reply_line, send_line}
@@ -94,9 +96,9 @@ answers_split a b (x ∷ xs) ys h =
     let rest = answers_split h.0 b xs ys h.2 in
     (rest.0, (h.0, h.1, rest.1), rest.2)
 
-told_least : (o : Opened) (c : Consumer) (least rebuilt high : ℕ) (print : LineContent) → o.image.consumers ≡ c ∷ [] → TellsOf (Some o) print → Positions least rebuilt high ≡ print → c.at ≡ least
-told_least o c least rebuilt high print one tells e =
-    let same : Positions least rebuilt high ≡ Positions (least_of o.image.consumers) tells.0 o.image.high = e ∙ tells.2 in
+told_least : (o : Opened) (c : Consumer) (least rebuilt high : ℕ) (told : Option places.Positions) → o.image.consumers ≡ c ∷ [] → TellsOf (Some o) told → Positions least rebuilt high ≡ positions_line told → c.at ≡ least
+told_least o c least rebuilt high told one tells e =
+    let same : Positions least rebuilt high ≡ Positions (least_of o.image.consumers) tells.0 o.image.high = e ∙ ap positions_line tells.2 in
     let at : least ≡ least_of o.image.consumers = cc in
     sym (at ∙ ap least_of one)
 
@@ -107,13 +109,12 @@ last_told i start readers played last k r o c least all there was one told =
     let lines = Positions least rebuilt high ∷ [] in
     let parts = answers_split (opened_state i start readers) last told.0 (record { command = commands.Image k; lines = lines } ∷ []) (subst (λ ps. AnswersAll (opened_state i start readers) ps last) told.3 all) in
     let m = parts.2.1 in
-    let print : LineContent = m.0 in
     let same_state : last ≡ parts.0 = parts.2.2 ∙ m.5 in
     let found : Some m.1 ≡ Some r = sym m.2 ∙ ap (λ x. slice_get x.receivers k) (sym same_state) ∙ there in
     let same : m.1 ≡ r = cc in
-    let heads : Positions least rebuilt high ∷ [] ≡ print ∷ [] = m.4 in
-    let head : Positions least rebuilt high ≡ print = cc in
-    told_least o c least rebuilt high print one (subst (λ x. TellsOf x print) (ap (λ x. x.image) same ∙ was) m.3) head
+    let heads : Positions least rebuilt high ∷ [] ≡ positions_line m.0 ∷ [] = m.4 in
+    let head : Positions least rebuilt high ≡ positions_line m.0 = cc in
+    told_least o c least rebuilt high m.0 one (subst (λ x. TellsOf x m.0) (ap (λ x. x.image) same ∙ was) m.3) head
 
 polled_to : Laws → (i : Identity) (start readers : ℕ) (played : List Played) (last : ScriptState) (k : ℕ) (r : Receiver) (o : Opened) → Begins i start → IsSound i start readers played last → AnswersAll (opened_state i start readers) played last → slice_get last.receivers k ≡ Some r → r.image ≡ Some o → IsFollowed i o (joins k played) (polled k played) (AllWhole k played) → AllWhole k played → PolledTo i.geometry k played
 polled_to laws i start readers played last k r o b h all there was f whole =

@@ -16,8 +16,7 @@ use Rattle.theory.proofs.Pieces.{payload_in, pieces_join}
 use Rattle.term_buffer.specs.Kept.{padded, published}
 use Rattle.script_run.specs.Published.{Range, between, filled_at, offered_at}
 use Rattle.script_run.proofs.OfferRuns.{frame_put}
-use Rattle.model.proofs.Commits.{IsOnlyAt, payload_cuts, pieces_length}
-use Rattle.theory.proofs.Follow.{one_end}
+use Rattle.model.proofs.Commits.{IsOnlyAt, one_end, payload_cuts, pieces_length}
 
 -- the range that the entry took, with its message once it is committed
 pub record SameRange (e : Entry) (r : Range) : Type 0 where

@@ -20,7 +20,8 @@ use Rattle.script_run.specs.LineContents.{Bad, NoMessage, LineContent}
 use Rattle.script_run.specs.Published.{Played, covered_by, frames_in, read, read_by}
 use Rattle.script_run.specs.ScriptState.{ScriptState, entries_of, opened_state, world_of}
 use Rattle.theory.proofs.Stays.{after_last}
-use Rattle.script_run.proofs.Runs.{Goes, goes_on, goes_one, map_get}
+use Rattle.script_run.proofs.Runs.{Goes, goes_on, goes_one}
+use Rattle.theory.proofs.Tables.{map_get}
 use Rattle.script_run.proofs.SenderRuns.{among_kept}
 use Rattle.script_run.proofs.Sound.{HasRead, IsSound, ReadSo, and_line, read_more, receivers_stay}
 use Rattle.script_run.proofs.SoundLines.{matches_stay, same_state}

@@ -1,9 +1,8 @@
--- Runs of the world one after the other, and lists of seats.
-use Rattle.std.proofs.Common.{◌≡◌, ℕ, zero, suc, ◌<◌, List, [], ◌∷◌, ◌++◌, map, length, Some, refl, sym, ap, ◌∙◌, subst}
-use Rattle.std.specs.Prelude.{replicate, slice_get, slice_index_or, slice_set}
-use Rattle.std.specs.Option.{option_map}
+-- Runs of the world one after the other.
+use Rattle.std.proofs.Common.{◌≡◌, ℕ, List, [], ◌∷◌, ◌++◌, Some, refl, ap, subst}
+use Rattle.std.specs.Prelude.{slice_get, slice_set}
 use Rattle.std.proofs.lemmas.List.{set-set}
-use Rattle.std.proofs.lemmas.Option.{slice_get-get_or, slice_get-map, slice_get_within}
+use Rattle.std.proofs.lemmas.Option.{slice_get_within}
 use Rattle.theory.specs.Image.{Image}
 use Rattle.model.specs.World.{World, Event, Step, Run}
 use Rattle.theory.proofs.Tables.{get_put, set_same}
@@ -24,15 +23,6 @@ goes_one a b e step = (e ∷ [], (b, step, refl))
 
 pub goes_on : (a b c : World) → Goes a b → Goes b c → Goes a c
 goes_on a b c h k = (h.0 ++ k.0, run_append a b c h.0 k.0 h.1 k.1)
-
--- ---- seats
-
-pub map_get : {X Y : Type 0} (f : X → Y) (xs : List X) (k : ℕ) (x : X) → slice_get xs k ≡ Some x → slice_get (map f xs) k ≡ Some (f x)
-map_get f xs k x h = slice_get-map f xs k ∙ ap (option_map f) h
-
--- what is read at a place stands there
-pub seat_at : {X : Type 0} (xs : List X) (k : ℕ) (x d : X) → x ≡ slice_index_or xs k d → k < length xs → slice_get xs k ≡ Some x
-seat_at xs k x d e low = slice_get-get_or xs k d low ∙ ap Some (sym e)
 
 -- ---- one image of a world
 

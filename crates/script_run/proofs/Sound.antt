@@ -26,7 +26,8 @@ use Rattle.script_run.proofs.Honest.{AreHonest}
 use Rattle.script_run.proofs.OfferRuns.{LogHolds, tail_in_stream}
 use Rattle.script_run.proofs.Ranges.{Matches}
 use Rattle.script_run.proofs.ReceiverRuns.{At, Follows, FollowsImage, IsSending, Places}
-use Rattle.script_run.proofs.Runs.{Goes, map_get}
+use Rattle.script_run.proofs.Runs.{Goes}
+use Rattle.theory.proofs.Tables.{map_get}
 
 -- the laws that the crates below hand over
 pub record Laws : Type 0 where

@@ -25,7 +25,7 @@ use Rattle.term_buffer.specs.declared.claimed.Claimed.{Claimed}
 use Rattle.log_buffer.specs.Log as logs
 use Rattle.log_buffer.specs.Log.{IsLog, Log, added, room_in, with_abort, with_commit, with_message, with_padding}
 use Rattle.publication.specs.Claims.{claim_at}
-use Rattle.publication.specs.Offers.{Course, IsClosed, IsStale, IsUsedUp, IsLimited, Fits, Trips, after, after_claim, after_offer, answer, course_of, covered, turned_from}
+use Rattle.publication.specs.Offers.{OfferCase, IsClosed, IsStale, IsUsedUp, IsLimited, Fits, Trips, after, after_claim, after_offer, answer, case_of, covered, turned_from}
 use Rattle.script.specs.Meaning as commands
 use Rattle.script.specs.Meaning.{CommandContent}
 use Rattle.script_run.specs.Answers.{AbortsClaim, AreFrames, Claims, ClaimsRange, CommitsClaim, HasClaim, HasNoClaim, IsCycle, IsMissing, Limits, MayClaim, MayNotTake, MayOffer, Offered, OffersMessage, Replied, SenderHears, Sends, after_cycle, clock_at, cycled, given_out, heard, limit_of, named, sent_on, wires_of, with_log, with_sender, woken}
@@ -43,7 +43,6 @@ use Rattle.script_run.proofs.Ranges.{Matches, SameRange, abort_only, abort_put, 
 use Rattle.script_run.proofs.Runs.{Goes, goes_on, stays}
 use Rattle.script_run.proofs.SenderRuns.{asked, closes, connects, cycles, hears, limit_entries, limits, named_at, sees}
 use Rattle.script_run.proofs.Sound.{Begins, opened, IsQuiet, IsSound, Laws, SaysNoRange, and_line, holds, published_more, readers_stay, receivers_stay, sender_below, tail_low}
-use Rattle.mdriver.proofs.Standing.{holds as claim_holds}
 
 -- ---- lines after which only the log or the sender is another
 
@@ -140,7 +139,7 @@ record FitsSo (i : Identity) (played : List Played) (s : ScriptState) (fitting :
   next : IsLogNext s s.past fitting
   matches : Matches (s.past ++ fitting.entries) (visible.published i.geometry (and_line played command lines))
 
-abbrev Said : Identity → List Played → ScriptState → Log → CommandContent → List LineContent → Course → Type 0
+abbrev Said : Identity → List Played → ScriptState → Log → CommandContent → List LineContent → OfferCase → Type 0
 Said i played s fitting command lines Fits = FitsSo i played s fitting command lines
 Said i played s fitting command lines other = SaysNoRange command lines
 
@@ -150,7 +149,7 @@ record MayAdd (l : Log) (by size : ℕ) : Type 0 where
   publisher : by < 8
   short : size ≤ max_message l.identity.geometry
 
-taken_line : Laws → (i : Identity) (start readers : ℕ) (played : List Played) (s : ScriptState) (by size : ℕ) (fitting : Log) (command : CommandContent) (lines : List LineContent) (c : Course) → Begins i start → IsQuiet command lines → IsSound i start readers played s → MayAdd s.log by size → course_of s.log size ≡ c → Said i played s fitting command lines c → IsSound i start readers (and_line played command lines) (with_log s (after s.log by size c fitting))
+taken_line : Laws → (i : Identity) (start readers : ℕ) (played : List Played) (s : ScriptState) (by size : ℕ) (fitting : Log) (command : CommandContent) (lines : List LineContent) (c : OfferCase) → Begins i start → IsQuiet command lines → IsSound i start readers played s → MayAdd s.log by size → case_of s.log size ≡ c → Said i played s fitting command lines c → IsSound i start readers (and_line played command lines) (with_log s (after s.log by size c fitting))
 taken_line laws i start readers played s by size fitting command lines IsClosed b quiet h may e none = same_state i start readers played command lines s s quiet none refl h
 taken_line laws i start readers played s by size fitting command lines IsStale b quiet h may e none = same_state i start readers played command lines s s quiet none refl h
 taken_line laws i start readers played s by size fitting command lines IsLimited b quiet h may e none = same_state i start readers played command lines s s quiet none refl h
@@ -194,7 +193,7 @@ offers_none command m line lines is none e g ranges =
 abbrev offered_log : Log → ℕ → List ℕ → Log
 offered_log l by m = with_message (added l by (l.active % 3) (covered l (length m))) by m
 
-offer_fits : Laws → (i : Identity) (start readers : ℕ) (played : List Played) (s : ScriptState) (by : ℕ) (m : List ℕ) (command : CommandContent) (lines : List LineContent) → Begins i start → OffersIt command m → IsSound i start readers played s → MayOffer s.log by m → course_of s.log (length m) ≡ Fits → lines ≡ Position (s.log.tail + covered s.log (length m)) ∷ [] → FitsSo i played s (offered_log s.log by m) command lines
+offer_fits : Laws → (i : Identity) (start readers : ℕ) (played : List Played) (s : ScriptState) (by : ℕ) (m : List ℕ) (command : CommandContent) (lines : List LineContent) → Begins i start → OffersIt command m → IsSound i start readers played s → MayOffer s.log by m → case_of s.log (length m) ≡ Fits → lines ≡ Position (s.log.tail + covered s.log (length m)) ∷ [] → FitsSo i played s (offered_log s.log by m) command lines
 offer_fits laws i start readers played s by m command lines b is h may e line =
     let g = s.log.identity.geometry in
     let end = s.log.tail + covered s.log (length m) in
@@ -212,11 +211,11 @@ offer_fits laws i start readers played s by m command lines b is h may e line =
           (same_offered g s.log.tail by m end h.sending.legal refl) h;
     }
 
-record OfferSays (i : Identity) (played : List Played) (s : ScriptState) (by : ℕ) (m : List ℕ) (command : CommandContent) (lines : List LineContent) (c : Course) (t : ScriptState) : Type 0 where
+record OfferSays (i : Identity) (played : List Played) (s : ScriptState) (by : ℕ) (m : List ℕ) (command : CommandContent) (lines : List LineContent) (c : OfferCase) (t : ScriptState) : Type 0 where
   said : Said i played s (offered_log s.log by m) command lines c
   after : t ≡ with_log s (after_offer s.log by m)
 
-offer_says : Laws → (i : Identity) (start readers : ℕ) (played : List Played) (s t : ScriptState) (by : ℕ) (m : List ℕ) (command : CommandContent) (lines : List LineContent) (c : Course) → Begins i start → OffersIt command m → IsSound i start readers played s → MayOffer s.log by m → course_of s.log (length m) ≡ c → Offered s by m (answer s.log (length m) c) lines t → OfferSays i played s by m command lines c t
+offer_says : Laws → (i : Identity) (start readers : ℕ) (played : List Played) (s t : ScriptState) (by : ℕ) (m : List ℕ) (command : CommandContent) (lines : List LineContent) (c : OfferCase) → Begins i start → OffersIt command m → IsSound i start readers played s → MayOffer s.log by m → case_of s.log (length m) ≡ c → Offered s by m (answer s.log (length m) c) lines t → OfferSays i played s by m command lines c t
 offer_says laws i start readers played s t by m command lines IsClosed b is h may e o = record { said = offers_none command m _ lines is (λ g. refl) o.0; after = o.1 }
 offer_says laws i start readers played s t by m command lines IsStale b is h may e o = record { said = offers_none command m _ lines is (λ g. refl) o.0; after = o.1 }
 offer_says laws i start readers played s t by m command lines IsUsedUp b is h may e o = record { said = offers_none command m _ lines is (λ g. refl) o.0; after = o.1 }
@@ -228,7 +227,7 @@ pub offer_line : Laws → (i : Identity) (start readers : ℕ) (played : List Pl
 offer_line laws i start readers played s t by most size m command lines b quiet is h (inl bad) =
     same_state i start readers played command lines s t quiet (offers_none command m Bad lines is (λ g. refl) bad.1.0) bad.1.1 h
 offer_line laws i start readers played s t by most size m command lines b quiet is h (inr o) =
-    let c = course_of s.log (length m) in
+    let c = case_of s.log (length m) in
     let says = offer_says laws i start readers played s t by m command lines c b is h o.0 refl o.2 in
     subst (λ x. IsSound i start readers (and_line played command lines) x) (sym says.after)
     (taken_line laws i start readers played s by (length m) (offered_log s.log by m) command lines c b quiet h (record { legal = o.0.legal; publisher = o.0.publisher; short = o.0.short }) refl says.said)
@@ -258,7 +257,7 @@ claims_none by size line lines none e g ranges = ap (λ ls. ranges ++ flat_map (
 abbrev claimed_log : Log → ℕ → ℕ → Log
 claimed_log l by size = logs.with_claim (added l by (l.active % 3) (covered l size)) by false size
 
-claim_fits : (i : Identity) (start readers : ℕ) (played : List Played) (s : ScriptState) (by size : ℕ) (lines : List LineContent) → IsSound i start readers played s → MayClaim s.log by size → course_of s.log size ≡ Fits → lines ≡ content.Claimed s.log.tail (s.log.tail + covered s.log size) ∷ [] → FitsSo i played s (claimed_log s.log by size) (commands.Claim by size) lines
+claim_fits : (i : Identity) (start readers : ℕ) (played : List Played) (s : ScriptState) (by size : ℕ) (lines : List LineContent) → IsSound i start readers played s → MayClaim s.log by size → case_of s.log size ≡ Fits → lines ≡ content.Claimed s.log.tail (s.log.tail + covered s.log size) ∷ [] → FitsSo i played s (claimed_log s.log by size) (commands.Claim by size) lines
 claim_fits i start readers played s by size lines h may e line =
     let g = s.log.identity.geometry in
     let end = s.log.tail + covered s.log size in
@@ -278,12 +277,12 @@ claim_fits i start readers played s by size lines h may e line =
           (subst (λ xs. SameRange (open_entry s.log.tail by false xs []) (claimed_at s.log.tail end size)) (sym cuts) (same_claimed s.log.tail by size end (ap (λ n. s.log.tail + n) covers))) h;
     }
 
-record ClaimSays (i : Identity) (played : List Played) (s : ScriptState) (by size : ℕ) (lines : List LineContent) (c : Course) (t : ScriptState) : Type 0 where
+record ClaimSays (i : Identity) (played : List Played) (s : ScriptState) (by size : ℕ) (lines : List LineContent) (c : OfferCase) (t : ScriptState) : Type 0 where
   said : Said i played s (claimed_log s.log by size) (commands.Claim by size) lines c
   claims : List (Option Claimed)
   after : t ≡ record (with_log s (after_claim s.log by size)) { claims = claims }
 
-claim_says : (i : Identity) (start readers : ℕ) (played : List Played) (s t : ScriptState) (by size : ℕ) (lines : List LineContent) (c : Course) → IsSound i start readers played s → MayClaim s.log by size → course_of s.log size ≡ c → Claims s by size (answer s.log size c) lines t → ClaimSays i played s by size lines c t
+claim_says : (i : Identity) (start readers : ℕ) (played : List Played) (s t : ScriptState) (by size : ℕ) (lines : List LineContent) (c : OfferCase) → IsSound i start readers played s → MayClaim s.log by size → case_of s.log size ≡ c → Claims s by size (answer s.log size c) lines t → ClaimSays i played s by size lines c t
 claim_says i start readers played s t by size lines IsClosed h may e o = record { said = claims_none by size _ lines refl o.0; claims = s.claims; after = o.1 }
 claim_says i start readers played s t by size lines IsStale h may e o = record { said = claims_none by size _ lines refl o.0; claims = s.claims; after = o.1 }
 claim_says i start readers played s t by size lines IsUsedUp h may e o = record { said = claims_none by size _ lines refl o.0; claims = s.claims; after = o.1 }
@@ -295,7 +294,7 @@ pub claim_line : Laws → (i : Identity) (start readers : ℕ) (played : List Pl
 claim_line laws i start readers played s t by most size lines b h (inl bad) =
     same_state i start readers played (commands.Claim by size) lines s t (record { joins = λ k. refl; polls = λ k. refl; reads = λ k. refl }) (claims_none by size Bad lines refl bad.1.0) bad.1.1 h
 claim_line laws i start readers played s t by most size lines b h (inr o) =
-    let c = course_of s.log size in
+    let c = case_of s.log size in
     let command = commands.Claim by size in
     let says = claim_says i start readers played s t by size lines c h o.0 refl o.2 in
     let short : size ≤ max_message s.log.identity.geometry = message_short s.log.identity.geometry size h.sending.legal o.0.short in
@@ -313,7 +312,7 @@ record IsKept (s : ScriptState) (c : Claimed) : Type 0 where
 pub kept_claim : (s : ScriptState) (by : ℕ) (c : Claimed) → HasClaim s by c → slice_get s.log.entries (c.number - s.log.gone) ≡ Some (one_cut c.start c.owner c.size [])
 kept_claim s by c h =
     let g = s.log.identity.geometry in
-    let k = claim_holds s.log c h.short h.held in
+    let k = h.held in
     k.entry ∙ ap Some (ap (λ p. open_entry c.start c.owner p (cuts_for g p c.size) []) k.message ∙ ap (λ xs. open_entry c.start c.owner false xs []) (short_cuts g c.size h.short))
 
 is_kept : (s : ScriptState) (by : ℕ) (c : Claimed) → HasClaim s by c → IsKept s c

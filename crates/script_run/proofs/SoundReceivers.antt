@@ -14,14 +14,15 @@ use Rattle.receiver.specs.declared.receiver_core.Outcome.{Outcome}
 use Rattle.receiver.specs.declared.receiver_core.Outcome.TheVariants as outcomes
 use Rattle.script_run.specs.Answers.{Delivered, IsMissing, PollsBy, TellsBy, Ticks, with_receiver}
 use Rattle.sender.specs.Cycling.{datagrams}
-use Rattle.script_run.specs.LineContents.{LineContent, OfReceiver}
+use Rattle.script_run.specs.LineContents.{LineContent, OfReceiver, poll_line as poll_content}
 use Rattle.script_run.specs.Published.{AllWhole, Played, is_fault, joined_by, joins, joins_in, joins_of, messages_in, polled, polled_by, read_by}
 use Rattle.receiver.specs.Receiving.{Hears, MeetsAll, MeetsDatagram, Receiver, RefusesDatagram, at_moment, replies, ticked}
 use Rattle.script_run.specs.ScriptState.{ScriptState, entries_of, image_of, opened_state, world_of}
 use Rattle.script_run.proofs.Honest.{AreHonest, IsHonest, honest_wires, one_frame, replies_given}
 use Rattle.script_run.proofs.PollFollows.{StillWhole, polls_met}
 use Rattle.script_run.proofs.ReceiverRuns.{At, Follows, Met, meets, met_nothing, unchanged}
-use Rattle.script_run.proofs.Runs.{Goes, goes_on, map_get}
+use Rattle.script_run.proofs.Runs.{Goes, goes_on}
+use Rattle.theory.proofs.Tables.{map_get}
 use Rattle.script_run.proofs.Sound.{IsSound, Laws, and_line, at_number, follows_as, follows_quiet, joins_more, polled_more, readers_stay, receiver_moves, whole_parts, SaysNoRange}
 use Rattle.script_run.proofs.SoundLines.{matches_stay, missing_line, same_state}
 
@@ -152,12 +153,12 @@ still_whole n played line lines e x =
 
 pub poll_line : (i : Identity) (start readers : ℕ) (played : List Played) (n : ℕ) (lines : List LineContent) (s t : ScriptState) → IsSound i start readers played s → PollsBy s n lines t → IsSound i start readers (and_line played (commands.Poll n) lines) t
 poll_line i start readers played n lines s t h m =
-    let line = m.0 in
+    let line = poll_content m.0 in
     let r = m.1 in
     let mid = m.2 in
     let command = commands.Poll n in
     let a = at_number i start readers played s n r r h (number_low i start readers played s n r h m.3) m.3 refl refl in
-    let met = polls_met s n r mid line (joins n played) (polled n played) (AllWhole n played) a m.4 in
+    let met = polls_met s n r mid m.0 (joins n played) (polled n played) (AllWhole n played) a m.4 in
     let follows : Follows i mid (joins n played) (polled n played ++ messages_in line) (StillWhole (AllWhole n played) line) = subst (λ x. Follows x mid (joins n played) (polled n played ++ messages_in line) (StillWhole (AllWhole n played) line)) h.identity met.follows in
     let now_follows = follows_as i mid (joins n played) (joins n (and_line played command lines)) (polled n played ++ messages_in line) (polled n (and_line played command lines)) (StillWhole (AllWhole n played) line) (AllWhole n (and_line played command lines))
     (sym (joins_more n played command lines ∙ append-nil (joins n played)))

@@ -6,6 +6,7 @@ use Rattle.theory.specs.Bytes.{Identity, IsIdentity}
 use Rattle.theory.specs.Tiling.{share_of}
 use Rattle.position.specs.declared.fault.GeometryError.TheVariants.{TermLength, Mtu}
 use Rattle.log_buffer.specs.declared.fault.LogError.TheVariants.{Start}
+use Rattle.log_buffer.specs.Openings.{IsStart}
 use Rattle.script.specs.Meaning.{Opening, ScriptContent}
 use Rattle.script_run.specs.Answers.{Answers}
 use Rattle.script_run.specs.LineContents.{LineContent, Open, BadGeometry, BadLog, Shares}
@@ -23,9 +24,6 @@ geometry_of o = record { term_length = o.term_length; mtu = o.mtu; initial_term_
 abbrev pub identity_of : Opening → Identity
 identity_of o = record { geometry = geometry_of o; session = o.session; stream = o.stream }
 
-abbrev pub IsStart : Opening → Type 0
-IsStart o = (o.start % 32 ≡ 0) × (o.start < max_position (geometry_of o))
-
 -- the start, the end, and each publisher's bytes, which are all that was claimed
 pub record PrintsBook (s : ScriptState) (line : LineContent) : Type 0 where
   pub shares : List ℕ
@@ -37,7 +35,7 @@ pub record PrintsBook (s : ScriptState) (line : LineContent) : Type 0 where
 -- the log opens: each line of the script is answered in turn, and the book ends the output. After each line, what the polls of a receiver printed is what was published between its join and its position, and what an assembler gives of the frames that a reader showed is what was published up to its position
 pub record IsOutputOfRun (script : ScriptContent) (lines : List LineContent) : Type 0 where
   pub legal : IsGeometry (geometry_of script.log)
-  pub starts : IsStart script.log
+  pub starts : IsStart (geometry_of script.log) script.log.start
   pub played : List Played
   pub commands : map (λ p. p.command) played ≡ script.commands
   pub last : ScriptState
@@ -53,7 +51,7 @@ abbrev pub HasFault : Opening → List LineContent → Type 0
 HasFault o lines =
     ((¬ IsTermLength o.term_length) × (lines ≡ BadGeometry TermLength ∷ []))
     ⊎ ((IsTermLength o.term_length × (¬ IsMtu o.term_length o.mtu) × (lines ≡ BadGeometry Mtu ∷ []))
-    ⊎ (IsGeometry (geometry_of o) × (¬ IsStart o) × (lines ≡ BadLog Start ∷ [])))
+    ⊎ (IsGeometry (geometry_of o) × (¬ IsStart (geometry_of o) o.start) × (lines ≡ BadLog Start ∷ [])))
 
 abbrev pub IsOutputOf : ScriptContent → List LineContent → Type 0
 IsOutputOf script lines = HasFault script.log lines ⊎ IsOutputOfRun script lines
@@ -66,5 +64,5 @@ AlwaysCounted =
 -- whatever is answered, after each line what was polled and what was read is what was published
 abbrev pub AlwaysPolled : Type 0
 AlwaysPolled =
-    (o : Opening) (played : List Played) (last : ScriptState) → IsGeometry (geometry_of o) → IsIdentity (identity_of o) → IsStart o →
+    (o : Opening) (played : List Played) (last : ScriptState) → IsGeometry (geometry_of o) → IsIdentity (identity_of o) → IsStart (geometry_of o) o.start →
     AnswersAll (opened_state (identity_of o) o.start o.readers) played last → (done later : List Played) → played ≡ done ++ later → PolledPrefix (geometry_of o) done × ReadPrefix (geometry_of o) o.start o.readers done

@@ -8,6 +8,3 @@ mod sender;
 pub use fault::SetupError;
 pub use judgement::judge;
 pub use sender::SenderSetup;
-
-#[cfg(test)]
-mod tests;

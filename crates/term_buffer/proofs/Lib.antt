@@ -10,5 +10,4 @@ pub mod Ring
 pub mod Shares
 pub mod Slots
 pub mod StoredWords
-pub mod TestSteps
 pub mod Views

@@ -1,7 +1,7 @@
 -- What a contract sees of the entries that a log keeps, and how its calls change them.
 use Rattle.std.specs.Prelude.{◌≡◌, ℕ, ◌+◌, ◌-◌, ◌*◌, ◌%◌, ◌<◌, ◌≤◌, Bool, true, false, if◌then◌else◌, nat_eq, nat_lt, Option, None, List, [], ◌∷◌, ◌++◌, length, take, drop, replicate, Some, slice_get, slice_index, slice_index_or, slice_set, sum}
 use Rattle.std.specs.List.{AllByRecursion}
-use Rattle.theory.specs.Position.{Geometry, aligned, cuts_of, IsGeometry, max_payload, max_position, span}
+use Rattle.theory.specs.Position.{Geometry, aligned, cuts_of, IsGeometry, max_message, max_payload, max_position, span}
 use Rattle.theory.specs.Placed.{Data, Frame, Pad}
 use Rattle.theory.specs.Entry.{Entry, IsEntry, flags_of, pieces_of}
 use Rattle.theory.specs.Messages.{is_whole}
@@ -74,6 +74,15 @@ with_share shares owner covered = slice_set shares owner (slice_index shares own
 abbrev pub blank_for : List ℕ → List ℕ
 blank_for [] = []
 blank_for (cut ∷ cuts) = replicate (aligned cut - 8) 0
+
+-- an entry for a message of this many bytes, or for a padding whose frame has this length, has room at the tail: it lies in
+-- one term, and ends at most three terms behind what is cleaned
+pub record MayClaim (l : Kept) (padding : Bool) (size : ℕ) : Type 0 where
+  pub short : padding ≡ false → size ≤ max_message l.identity.geometry
+  pub long : padding ≡ true → 32 ≤ size
+  pub in_term : l.tail % term_of l + span (cuts_for l.identity.geometry padding size) ≤ term_of l
+  pub room : l.tail + span (cuts_for l.identity.geometry padding size) ≤ l.cleaned + 3 * term_of l
+  pub below : l.tail < max_position l.identity.geometry
 
 abbrev pub with_claim : Kept → ℕ → Bool → ℕ → Kept
 with_claim l owner padding size = record l {

@@ -1,13 +1,12 @@
-ghost use Rattle.std.specs.Prelude.{◌≡◌, ℕ, ◌+◌, ◌-◌, ◌*◌, ◌/◌, ◌%◌, ◌<◌, ◌≤◌, ◌^◌, true, false, length, IfOk, IfSome};
-ghost use Rattle.theory.specs.Position.{aligned, max_message, max_position, span};
+ghost use Rattle.std.specs.Prelude.{◌≡◌, ◌+◌, ◌-◌, ◌*◌, ◌/◌, ◌%◌, ◌<◌, true, length, IfOk, IfSome};
+ghost use Rattle.theory.specs.Position.{aligned, max_position};
 ghost use Rattle.theory.specs.Position as shape;
 
 use crate::claimed::{Claimed, Slot};
 use crate::cuts::{after, covered, frame_flags, frame_length, frame_offset};
 use crate::words::first_word;
 use block::Block;
-use frames::UNFRAGMENTED;
-use position::Geometry;
+use position::{Geometry, UNFRAGMENTED};
 use std::alloc::{AllocError, Global};
 use std::collections::VecDeque;
 use std::marker::Model;
@@ -48,11 +47,10 @@ impl Model for TermBuffer {
 }
 
 impl TermBuffer {
-    ghost use Rattle.std.specs.Int.{to_le_bytes};
     ghost use Rattle.block.specs.Bytes.{with_word};
     ghost use Rattle.term_buffer.specs.Forgets.{ForgetsFirst};
     ghost use Rattle.term_buffer.specs.Places.{NextPlace};
-    ghost use Rattle.term_buffer.specs.Kept.{Cleans, IsAborted, IsDrafted, IsKeptLog, IsOpen, MayAbort, MayClean, after_next, cuts_for, draft_of, drafted, fresh, next_length, term_of, with_abort, with_claim, with_commit, with_draft};
+    ghost use Rattle.term_buffer.specs.Kept.{Cleans, IsAborted, IsDrafted, IsKeptLog, IsOpen, MayAbort, MayClaim, MayClean, after_next, draft_of, drafted, fresh, next_length, term_of, with_abort, with_claim, with_commit, with_draft};
 
     /// A buffer without an entry, from a position on: a multiple of 32, below the greatest position. It takes all the
     /// memory that is ever needed, and the error comes only where that was refused.
@@ -147,11 +145,7 @@ impl TermBuffer {
     /// behind the cleaned position. Its bytes are zero.
     pub fn claim(&mut self, owner: usize, padding: bool, size: u32) -> Claimed
         requires owner { owner < 8 }
-        requires short { padding ≡ false → size ≤ max_message self.old.identity.geometry }
-        requires long { padding ≡ true → 32 ≤ size }
-        requires in_term { self.old.tail % term_of self.old + span (cuts_for self.old.identity.geometry padding size) ≤ term_of self.old }
-        requires room { self.old.tail + span (cuts_for self.old.identity.geometry padding size) ≤ self.old.cleaned + 3 * term_of self.old }
-        requires below { self.old.tail < max_position self.old.identity.geometry }
+        requires may { MayClaim self.old padding size }
         ensures taken { self.new ≡ with_claim self.old owner padding size }
         ensures claimed { result ≡ record { number = self.old.gone + length self.old.entries; start = self.old.tail; size = size; owner = owner; padding = padding; frame = 0 } }
         ensures unset { IsOpen self.new result }

@@ -5,8 +5,7 @@ ghost use Rattle.theory.specs.Entry.{flags_of};
 ghost use Rattle.term_buffer.specs.Kept.{after_next, cuts_for};
 
 use crate::claimed::Claimed;
-use frames::{BEGIN, END};
-use position::{Geometry, align32};
+use position::{BEGIN, END, Geometry, align32};
 
 /// How many frames a message of `size` bytes has, or a padding of that frame length.
 pub(crate) fn frame_count(geometry: Geometry, padding: bool, size: u32) -> u32

@@ -16,6 +16,3 @@ mod words;
 
 pub use buffer::{PUBLISHERS, TermBuffer};
 pub use claimed::Claimed;
-
-#[cfg(test)]
-mod tests;

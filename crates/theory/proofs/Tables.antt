@@ -1,8 +1,9 @@
 -- Elements of a list by their places.
 use Rattle.std.proofs.Common.{◌≡◌, ℕ, zero, suc, ◌+◌, ◌<◌, List, [], ◌∷◌, length, Some, refl, sym, ap, ◌∙◌, arith}
-use Rattle.std.specs.Prelude.{map, replicate, slice_get, slice_index, slice_set, sum}
+use Rattle.std.specs.Prelude.{map, replicate, slice_get, slice_index, slice_index_or, slice_set, sum}
+use Rattle.std.specs.Option.{option_map}
 use Rattle.std.specs.List.{AllByRecursion}
-use Rattle.std.proofs.lemmas.Option.{same_Some}
+use Rattle.std.proofs.lemmas.Option.{same_Some, slice_get-get_or, slice_get-map}
 use Rattle.std.proofs.lemmas.List.Sums.{sum_by-set}
 
 -- the place that is set, and the others
@@ -48,3 +49,10 @@ sum_set xs k n l = omega (arith, sum_by-set (λ (x : ℕ). x) xs k (slice_index 
 pub map_replicate : {X Y : Type 0} (f : X → Y) (n : ℕ) (x : X) → replicate n (f x) ≡ map f (replicate n x)
 map_replicate f zero x = refl
 map_replicate f (suc n) x = ap (λ ys. f x ∷ ys) (map_replicate f n x)
+
+pub map_get : {X Y : Type 0} (f : X → Y) (xs : List X) (k : ℕ) (x : X) → slice_get xs k ≡ Some x → slice_get (map f xs) k ≡ Some (f x)
+map_get f xs k x h = slice_get-map f xs k ∙ ap (option_map f) h
+
+-- what is read at a place stands there
+pub seat_at : {X : Type 0} (xs : List X) (k : ℕ) (x d : X) → x ≡ slice_index_or xs k d → k < length xs → slice_get xs k ≡ Some x
+seat_at xs k x d e low = slice_get-get_or xs k d low ∙ ap Some (sym e)

@@ -17,7 +17,8 @@ use Rattle.log_buffer.specs.declared.book.Book.{Book}
 use Rattle.script.specs.Meaning.{Opening, CommandContent, ScriptContent, content_of, contents_of}
 use Rattle.script.specs.declared.command.Command.{Command}
 use Rattle.script_run.specs.Answers.{Answers}
-use Rattle.script_run.specs.Output.{AlwaysPolled, AnswersAll, IsStart, IsOutputOf, IsOutputOfRun, PrintsBook, geometry_of, identity_of}
+use Rattle.log_buffer.specs.Openings.{IsStart}
+use Rattle.script_run.specs.Output.{AlwaysCounted, AlwaysPolled, AnswersAll, IsOutputOf, IsOutputOfRun, PrintsBook, geometry_of, identity_of}
 use Rattle.script_run.specs.LineContents.{Open, LineContent, Shares}
 use Rattle.world.specs.Lines.{line_content, line_contents}
 use Rattle.script_run.specs.Published.{Played}
@@ -26,7 +27,6 @@ use Rattle.world.specs.Simulated.{Answered, Continued, Continues, ContinuesOpen,
 use Rattle.world.specs.declared.line.Line.{Line}
 use Rattle.world.specs.declared.line.Line.TheVariants as lines
 use Rattle.world.specs.declared.simulation.Simulation.{Simulation}
-use Rattle.script_run.proofs.Counted.{always_counted}
 
 answers_snoc : (old mid new : ScriptState) (ps : List Played) (p : Played) → AnswersAll old ps mid → Answers mid p.command p.lines new → AnswersAll old (ps ++ p ∷ []) new
 answers_snoc old mid new [] p h k = (new, subst (λ (s : ScriptState). Answers s p.command p.lines new) h k, refl)
@@ -82,8 +82,8 @@ shows_book s b eight counted h = record {
 all_printed : (before played book : List LineContent) → ((before ++ Open ∷ []) ++ played) ++ book ≡ before ++ Open ∷ (played ++ book)
 all_printed before played book = append_assoc (before ++ Open ∷ []) played book ∙ append_assoc before (Open ∷ []) (played ++ book)
 
-pub runs_to : (old new : Simulation) (i : Identity) (start readers : ℕ) (os : List CommandContent) (before there after : List Line) (b : Book) → length b.shares ≡ 8 → RepresentsState old (opened_state i start readers) → ContinuesOpen old os before there new → books.ShowsBook new.log b → after ≡ there ++ lines.Book b ∷ [] → RunsTo i start readers os (line_contents before) (line_contents after)
-runs_to old new i start readers os before there after b eight shows h book e =
+pub runs_to : AlwaysCounted → (old new : Simulation) (i : Identity) (start readers : ℕ) (os : List CommandContent) (before there after : List Line) (b : Book) → length b.shares ≡ 8 → RepresentsState old (opened_state i start readers) → ContinuesOpen old os before there new → books.ShowsBook new.log b → after ≡ there ++ lines.Book b ∷ [] → RunsTo i start readers os (line_contents before) (line_contents after)
+runs_to counted old new i start readers os before there after b eight shows h book e =
     let k = h (opened_state i start readers) shows in
     record {
       played = k.played;
@@ -91,7 +91,7 @@ runs_to old new i start readers os before there after b eight shows h book e =
       of_commands = k.of_commands;
       answered = k.answered;
       book = Shares b.start b.tail b.shares;
-      shown = shows_book k.state b eight (always_counted (opening_of i start readers) k.played k.state k.answered) (subst (λ (l : Log). books.ShowsBook l b) (sym k.shows.log) book);
+      shown = shows_book k.state b eight (counted (opening_of i start readers) k.played k.state k.answered) (subst (λ (l : Log). books.ShowsBook l b) (sym k.shows.log) book);
       printed =
           ap line_contents e
           ∙ map-append line_content there (lines.Book b ∷ [])
@@ -136,7 +136,7 @@ runs_from v i start readers os before after h k =
     (subst (λ (n : ℕ). RunsTo v.log.identity n readers os before after) (sym there)
     (subst (λ (n : ℕ). RunsTo v.log.identity v.log.start n os before after) (sym (stage_readers v i start readers h)) k))
 
-plays_on : (script : ScriptContent) (after : List LineContent) → IsGeometry (geometry_of script.log) → IsStart script.log → IsIdentity (identity_of script.log) → AlwaysPolled → RunsTo (identity_of script.log) script.log.start script.log.readers script.commands [] after → IsOutputOfRun script after
+plays_on : (script : ScriptContent) (after : List LineContent) → IsGeometry (geometry_of script.log) → IsStart (geometry_of script.log) script.log.start → IsIdentity (identity_of script.log) → AlwaysPolled → RunsTo (identity_of script.log) script.log.start script.log.readers script.commands [] after → IsOutputOfRun script after
 plays_on script after legal starts identity always h = record {
   legal = legal;
   starts = starts;
@@ -151,7 +151,7 @@ plays_on script after legal starts identity always h = record {
   read = λ done later parts. (always script.log h.played h.last legal identity starts h.answered done later parts).1;
 }
 
-pub stage_plays : (script : ScriptContent) (v : Simulation) (j : Identity) (start readers : ℕ) (after : List LineContent) → j ≡ identity_of script.log → start ≡ script.log.start → readers ≡ script.log.readers → IsGeometry (geometry_of script.log) → IsStart script.log → IsIdentity (identity_of script.log) → AlwaysPolled → RepresentsState v (opened_state j start readers) → RunsTo v.log.identity v.log.start (length v.readers.items) script.commands [] after → IsOutputOf script after
+pub stage_plays : (script : ScriptContent) (v : Simulation) (j : Identity) (start readers : ℕ) (after : List LineContent) → j ≡ identity_of script.log → start ≡ script.log.start → readers ≡ script.log.readers → IsGeometry (geometry_of script.log) → IsStart (geometry_of script.log) script.log.start → IsIdentity (identity_of script.log) → AlwaysPolled → RepresentsState v (opened_state j start readers) → RunsTo v.log.identity v.log.start (length v.readers.items) script.commands [] after → IsOutputOf script after
 stage_plays script v j start readers after same there many legal starts identity always shows runs =
     let here : RepresentsState v (opened_state (identity_of script.log) script.log.start script.log.readers) =
     subst (λ (i : Identity). RepresentsState v (opened_state i script.log.start script.log.readers)) same

@@ -13,7 +13,7 @@ use Rattle.log_buffer.specs.Reader.{Reader}
 use Rattle.world.specs.Reading.{ReadsLine}
 use Rattle.std.specs.Prelude.{replicate}
 use Rattle.rotation.specs.Limited.{CleansAndLimits, raised}
-use Rattle.publication.specs.Offers.{Course, IsClosed, IsStale, IsUsedUp, IsLimited, Fits, Trips, after, after_claim, after_offer, answer_of, course_of, covered}
+use Rattle.publication.specs.Offers.{OfferCase, IsClosed, IsStale, IsUsedUp, IsLimited, Fits, Trips, after, after_claim, after_offer, answer_of, case_of, covered}
 use Rattle.publication.specs.declared.refusal.Refusal.{Refusal}
 use Rattle.script.specs.Meaning as commands
 use Rattle.script.specs.Meaning.{CommandContent}
@@ -23,8 +23,9 @@ use Rattle.theory.specs.Wire.{Wire}
 use Rattle.receiver.specs.declared.receiver_core.Outcome.{Outcome}
 use Rattle.script_run.specs.Answers.{Answers, AreFrames, Claims, HasClaim, MayNotTake, OffersMessage, MayClaim, MayOffer, Offered, claim_by, reader_at, with_claim, with_reader, given_out, lines_of, or_nothing, packet_lines, with_log, with_receiver}
 use Rattle.sender.specs.Cycling.{datagrams}
-use Rattle.receiver.specs.Polling.{Polls, TellsPositions}
-use Rattle.script_run.specs.LineContents.{Bad, Limit, OfReceiver, LineContent}
+use Rattle.receiver.specs.Polling.{Answer, Polls, TellsPositions}
+use Rattle.receiver.specs.declared.positions.Positions.{Positions}
+use Rattle.script_run.specs.LineContents.{Bad, Limit, OfReceiver, LineContent, poll_line, positions_line}
 use Rattle.world.specs.Lines.{line_content, line_contents}
 use Rattle.receiver.specs.Receiving.{Hears, Receiver, replies, ticked}
 use Rattle.script_run.specs.ScriptState.{ScriptState}
@@ -35,7 +36,7 @@ use Rattle.world.specs.SlotSteps as writing
 use Rattle.world.specs.SlotSteps.{Claimed_by, Rewrites}
 use Rattle.world.specs.declared.publisher_slot.PublisherSlot.{PublisherSlot}
 use Rattle.world.specs.declared.publisher_slot.PublisherSlot.TheVariants as slot
-use Rattle.world.proofs.Standing.{claim_at_place, found, is_held}
+use Rattle.world.proofs.Standing.{claim_at_place, found}
 use Rattle.log_buffer.specs.Passes.{Pass}
 use Rattle.publication.specs.Claims.{Filling, claim_at}
 use Rattle.theory.specs.Position.{max_message, max_payload}
@@ -43,7 +44,7 @@ use Rattle.term_buffer.specs.declared.claimed.Claimed.{Claimed}
 use Rattle.receiver.specs.Subscribing.{Becomes, RepresentsSubscriber, Subscribing}
 use Rattle.world.proofs.PacketNumbers.{none_past}
 use Rattle.script_run.proofs.OfferRuns.{turned_same}
-use Rattle.script_run.proofs.Runs.{map_get}
+use Rattle.theory.proofs.Tables.{map_get}
 
 -- ---- lines
 
@@ -101,22 +102,22 @@ log_shown old new s log past h o one start =
 abbrev KeptByOffers : Log → List ℕ × ℕ
 KeptByOffers l = (l.consumers, l.start)
 
-pub course_same : {X : Type 0} (f : Log → X) → ((l : Log) (newest active : ℕ) (offsets : List ℕ) → f (record l { newest = newest; active = active; offsets = offsets }) ≡ f l) → (l : Log) (by bytes : ℕ) (c : Course) (fitting : Log) → f fitting ≡ f l → f (with_padding (added l by (l.active % 3) (covered l bytes)) by (room_in l (l.active % 3))) ≡ f l → f (after l by bytes c fitting) ≡ f l
-course_same f blind l by bytes IsClosed fitting h k = refl
-course_same f blind l by bytes IsStale fitting h k = refl
-course_same f blind l by bytes IsUsedUp fitting h k = turned_same f blind l l.active
-course_same f blind l by bytes IsLimited fitting h k = refl
-course_same f blind l by bytes Fits fitting h k = h
-course_same f blind l by bytes Trips fitting h k = turned_same f blind (with_padding (added l by (l.active % 3) (covered l bytes)) by (room_in l (l.active % 3))) l.active ∙ k
+pub case_same : {X : Type 0} (f : Log → X) → ((l : Log) (newest active : ℕ) (offsets : List ℕ) → f (record l { newest = newest; active = active; offsets = offsets }) ≡ f l) → (l : Log) (by bytes : ℕ) (c : OfferCase) (fitting : Log) → f fitting ≡ f l → f (with_padding (added l by (l.active % 3) (covered l bytes)) by (room_in l (l.active % 3))) ≡ f l → f (after l by bytes c fitting) ≡ f l
+case_same f blind l by bytes IsClosed fitting h k = refl
+case_same f blind l by bytes IsStale fitting h k = refl
+case_same f blind l by bytes IsUsedUp fitting h k = turned_same f blind l l.active
+case_same f blind l by bytes IsLimited fitting h k = refl
+case_same f blind l by bytes Fits fitting h k = h
+case_same f blind l by bytes Trips fitting h k = turned_same f blind (with_padding (added l by (l.active % 3) (covered l bytes)) by (room_in l (l.active % 3))) l.active ∙ k
 
-course_keeps : (l : Log) (by bytes : ℕ) (c : Course) (fitting : Log) → KeptByOffers fitting ≡ KeptByOffers l → KeptByOffers (after l by bytes c fitting) ≡ KeptByOffers l
-course_keeps l by bytes c fitting h = course_same KeptByOffers (λ k x y z. refl) l by bytes c fitting h refl
+case_keeps : (l : Log) (by bytes : ℕ) (c : OfferCase) (fitting : Log) → KeptByOffers fitting ≡ KeptByOffers l → KeptByOffers (after l by bytes c fitting) ≡ KeptByOffers l
+case_keeps l by bytes c fitting h = case_same KeptByOffers (λ k x y z. refl) l by bytes c fitting h refl
 
 offer_keeps : (l : Log) (by : ℕ) (m : List ℕ) → KeptByOffers (after_offer l by m) ≡ KeptByOffers l
-offer_keeps l by m = course_keeps l by (length m) (course_of l (length m)) _ refl
+offer_keeps l by m = case_keeps l by (length m) (case_of l (length m)) _ refl
 
 claim_keeps : (l : Log) (by size : ℕ) → KeptByOffers (after_claim l by size) ≡ KeptByOffers l
-claim_keeps l by size = course_keeps l by size (course_of l size) _ refl
+claim_keeps l by size = case_keeps l by size (case_of l size) _ refl
 
 offered_log : (old new : Log) (by : ℕ) (m : List ℕ) (answer : Result ℕ Refusal) (line : LineContent) → OfferedLine old by m answer line new → new ≡ after_offer old by m
 offered_log old new by m (Ok end) line o = o.1
@@ -156,25 +157,25 @@ subscriber_shown old new s k v r h o shown = record {
   packets = h.packets ∙ sym o.packets;
 }
 
-pub poll_answered : (old new : Simulation) (k : ℕ) (v w : Subscribing) (line : Line) (before after : List Line) → slice_get old.subscribers.items k ≡ Some v → Becomes v w (λ r s. Polls r (line_content line) s) → OnlySubscriber old new k w → after ≡ before ++ line ∷ [] → IsAnswered old (commands.Poll k) before after new
-poll_answered old new k v w line before after there polls o told = λ s h.
+pub poll_answered : (old new : Simulation) (k : ℕ) (v w : Subscribing) (answer : Answer) (line : Line) (before after : List Line) → slice_get old.subscribers.items k ≡ Some v → Becomes v w (λ r s. Polls r answer s) → line_content line ≡ poll_line answer → OnlySubscriber old new k w → after ≡ before ++ line ∷ [] → IsAnswered old (commands.Poll k) before after new
+poll_answered old new k v w answer line before after there polls said o told = λ s h.
     let found = shows_at old.subscribers.items s.receivers k v h.receivers there in
     let next = polls found.0 found.2 in
     record {
       lines = line_content line ∷ [];
       state = with_receiver s k next.0;
-      answers = (line_content line, found.0, next.0, found.1, next.1, refl, refl);
+      answers = (answer, found.0, next.0, found.1, next.1, ap (λ x. x ∷ []) said, refl);
       printed = one_line before after line told;
       shows = subscriber_shown old new s k w next.0 h o next.2;
     }
 
-pub image_answered : (old : Simulation) (k : ℕ) (v : Subscribing) (line : Line) (before after : List Line) → slice_get old.subscribers.items k ≡ Some v → ((r : Receiver) → RepresentsSubscriber v r → TellsPositions r (line_content line)) → after ≡ before ++ line ∷ [] → IsAnswered old (commands.Image k) before after old
-image_answered old k v line before after there tells told = λ s h.
+pub image_answered : (old : Simulation) (k : ℕ) (v : Subscribing) (positions : Option Positions) (line : Line) (before after : List Line) → slice_get old.subscribers.items k ≡ Some v → ((r : Receiver) → RepresentsSubscriber v r → TellsPositions r positions) → line_content line ≡ positions_line positions → after ≡ before ++ line ∷ [] → IsAnswered old (commands.Image k) before after old
+image_answered old k v positions line before after there tells said told = λ s h.
     let found = shows_at old.subscribers.items s.receivers k v h.receivers there in
     record {
       lines = line_content line ∷ [];
       state = s;
-      answers = (line_content line, found.0, found.1, tells found.0 found.2, refl, refl);
+      answers = (positions, found.0, found.1, tells found.0 found.2, ap (λ x. x ∷ []) said, refl);
       printed = one_line before after line told;
       shows = h;
     }
@@ -358,7 +359,7 @@ has_claim old s by claim v new low legal h number holds at = record {
   publisher = low;
   open_claim = at.before;
   owner = holds.0 ∙ number;
-  held = is_held s.log claim.claimed holds.1;
+  held = holds.1.held;
   short = holds.1.short;
 }
 

@@ -3,14 +3,13 @@ use Rattle.std.proofs.Common.{◌≡◌, ◌∙◌, ℕ, zero, suc, ◌+◌, ◌
 use Rattle.std.proofs.lemmas.Bool.{cases_lt}
 use Rattle.term_buffer.specs.declared.claimed.Claimed as claimed
 use Rattle.world.specs.Slots.{ArePublisherSlots, SlotHolds, pass_of}
-use Rattle.log_buffer.specs.Log.{IsHeld}
-use Rattle.script_run.proofs.Runs.{seat_at}
+use Rattle.theory.proofs.Tables.{seat_at}
 use Rattle.world.proofs.Standing.{are_slots}
 use Rattle.std.specs.List.{insert, remove}
 use Rattle.std.specs.Prelude.{Some, slice_index, slice_index_or, slice_set}
 use Rattle.log_buffer.specs.Log.{IsLog, Log}
 use Rattle.log_buffer.specs.Passes.{Pass}
-use Rattle.publication.specs.Claims.{Filling, claim_at, end_of}
+use Rattle.publication.specs.Claims.{Filling, IsClaimOf, claim_at, end_of}
 use Rattle.publication.specs.Offers.{after_claim, answer_of}
 use Rattle.publication.specs.declared.refusal.Refusal.{Refusal}
 use Rattle.world.specs.declared.publisher_slot.PublisherSlot.{PublisherSlot}
@@ -50,7 +49,7 @@ rewritten before between after k w v d Step value low out back step = record {
 }
 
 -- the slots behind the first one, in a log that keeps their claims
-pub later_slots : (l m : Log) (n : ℕ) (ws rest : List PublisherSlot) (w d : PublisherSlot) → ArePublisherSlots l n ws → w ≡ slice_index_or ws 0 d → 0 < length ws → rest ≡ remove ws 0 → m.identity ≡ l.identity → ((c : claimed.Claimed) → (c.owner ≡ (pass_of w).number → ⊥) → IsHeld l c → IsHeld m c) → ArePublisherSlots m (suc n) rest
+pub later_slots : (l m : Log) (n : ℕ) (ws rest : List PublisherSlot) (w d : PublisherSlot) → ArePublisherSlots l n ws → w ≡ slice_index_or ws 0 d → 0 < length ws → rest ≡ remove ws 0 → m.identity ≡ l.identity → ((c : claimed.Claimed) → (c.owner ≡ (pass_of w).number → ⊥) → IsClaimOf l c → IsClaimOf m c) → ArePublisherSlots m (suc n) rest
 later_slots l m n [] rest w d h e some out same keeps = absurd (omega (arith, some))
 later_slots l m n (x ∷ xs) rest w d h e some out same keeps =
     let number : (pass_of w).number ≡ n = ap (λ y. (pass_of y).number) e ∙ h.0.0 in

@@ -3,6 +3,7 @@ use Rattle.std.proofs.Common.{◌≡◌, ◌∙◌, ℕ, zero, suc, ◌+◌, ◌
 use Rattle.std.specs.Prelude.{slice_get, slice_index, slice_index_or, slice_set}
 use Rattle.theory.specs.Bytes.{Identity}
 use Rattle.term_buffer.specs.declared.claimed.Claimed.{Claimed}
+use Rattle.log_buffer.specs.Leaves.{LeavesOtherReaders}
 use Rattle.log_buffer.specs.Log.{Log}
 use Rattle.log_buffer.specs.Reader.{IsAt, Reader}
 use Rattle.world.specs.declared.publisher_slot.PublisherSlot.{PublisherSlot}
@@ -19,6 +20,9 @@ settled_at l r h = record { number = h.number; here = h.stands; read = λ less. 
 
 pub stands_on : (l m : Log) → ((r : Reader) → IsAt l r → IsAt m r) → (r : Reader) → StandsAt l r → StandsAt m r
 stands_on l m keeps r h = let k = keeps (record r { read_to = r.position }) (settled_at l r h) in record { number = k.number; stands = k.here }
+
+pub stands_beside : {number : ℕ} {l m : Log} → LeavesOtherReaders number l m → (r : Reader) → (r.number ≡ number → ⊥) → StandsAt l r → StandsAt m r
+stands_beside {l = l} h r other s = let k = h.readers (record r { read_to = r.position }) (settled_at l r s) other in record { number = k.number; stands = k.here }
 
 -- where the consumers stay
 pub stands_same : (l m : Log) → m.consumers ≡ l.consumers → (r : Reader) → StandsAt l r → StandsAt m r

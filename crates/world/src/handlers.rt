@@ -1,28 +1,28 @@
-//! What each line of a script does, and what it contents_of.
+//! What each line of a script does, and what it prints.
 
 ghost use Rattle.std.specs.Prelude.{◌≡◌, ◌≤◌, ◌++◌, length, IfOk, OnErr, OnOk, map, replicate};
 ghost use Rattle.theory.specs.Position.{max_message, max_payload};
-ghost use Rattle.log_buffer.specs.Reader.{Reader};
+ghost use Rattle.receiver.specs.Subscribing.{answer_of};
+ghost use Rattle.script_run.specs.LineContents as content;
 ghost use Rattle.script_run.specs.LineContents.{OfReceiver};
 ghost use Rattle.world.specs.Lines.{line_content, line_contents};
-ghost use Rattle.log_reader.specs.Reading.{StandsAt};
-ghost use Rattle.log_buffer.specs.Log.{IsHeld};
+ghost use Rattle.log_reader.specs.Reading.{GoesOn, StandsAt, frame_in};
 ghost use Rattle.world.specs.Reading.{ReadsLine, shown_frame};
-ghost use Rattle.log_reader.specs.Reading.{frame_in};
 ghost use Rattle.world.specs.Simulated.{IsAnswered, IsOffered};
 ghost use Rattle.script.specs.Meaning as commands;
 
 use crate::line::Line;
-use crate::receiver::Outcome;
-use crate::sender::SenderEvent;
+use crate::publisher_slot::{abort_by, claim_by, commit_by, offer_by};
 use crate::simulation::Simulation;
-use crate::slot::{abort_by, claim_by, commit_by, offer_by};
+use assembler::Message;
 use block::Block;
-use log_buffer::{Claimed, LogReader, LogState};
+use log_buffer::{LogReader, LogState};
 use log_reader::{advance, next};
 use position::{FrameHead, FrameKind};
+use receiver::{Outcome, PollError, Positions};
 use rotation::{clean_and_limit, set_closed, set_connected};
 use script::{Command, PartyNumber};
+use sender::SenderEvent;
 use std::alloc::{AllocError, Global};
 
 /// Adds the lines of what became of a datagram's frames.
@@ -61,6 +61,32 @@ fn frame_line(alloc: Global, head: &FrameHead, block: &Block) -> Result<Line, Al
     }
 }
 
+/// What a poll's answer prints.
+fn poll_line(answer: Result<Option<Message<Global>>, PollError>) -> Line
+    ensures { line_content result ≡ content.poll_line (answer_of answer) }
+{
+    match answer {
+        Ok(Some(message)) => Line::Message(message),
+        Ok(None) => Line::NoMessage,
+        Err(PollError::NoImage) => Line::Bad,
+        Err(PollError::Unassembled(error)) => Line::Assembly(error),
+    }
+}
+
+/// What an image's positions print.
+fn positions_line(positions: Option<Positions>) -> Line
+    ensures { line_content result ≡ content.positions_line positions }
+{
+    match positions {
+        None => Line::Bad,
+        Some(positions) => Line::Image {
+            least: positions.least,
+            rebuilt: positions.rebuilt,
+            high: positions.high_water,
+        },
+    }
+}
+
 /// Reads the frame at a reader's position, moves the reader past it, and says what it is. At an error memory was refused,
 /// and the reader stays.
 fn read_line(
@@ -74,11 +100,7 @@ fn read_line(
     ensures same_length { length block.new ≡ length block.old }
     ensures reads { IfOk result (λ line. ReadsLine log.old reader.old (line_content line) log.new reader.new) }
     ensures stays { OnErr result ((log.new ≡ log.old) × (reader.new.position ≡ reader.old.position)) }
-    ensures number { reader.new.number ≡ reader.old.number }
-    ensures identity { log.new.identity ≡ log.old.identity }
-    ensures stands { StandsAt log.new reader.new }
-    ensures others { (r : Reader) → StandsAt log.old r → (r.number ≡ reader.old.number → ⊥) → StandsAt log.new r }
-    ensures claims { (c : Claimed) → IsHeld log.old c → IsHeld log.new c }
+    ensures goes_on { GoesOn log.old reader.old log.new reader.new }
 {
     let Some(head) = next(log, reader, block) else {
         return Ok(Line::NoMessage);
@@ -301,16 +323,16 @@ impl Simulation {
     fn poll(&mut self, receiver: PartyNumber, lines: &mut Vec<Line>) -> Result<(), AllocError>
         ensures { OnOk result (IsAnswered self.old (commands.Poll receiver.number) lines.old.items lines.new.items self.new) }
     {
-        let line = self.subscribers[receiver.number].poll();
-        lines.push(line)?;
+        let answer = self.subscribers[receiver.number].poll();
+        lines.push(poll_line(answer))?;
         Ok(())
     }
 
     fn image(&self, receiver: PartyNumber, lines: &mut Vec<Line>) -> Result<(), AllocError>
         ensures { OnOk result (IsAnswered self.now (commands.Image receiver.number) lines.old.items lines.new.items self.now) }
     {
-        let line = self.subscribers[receiver.number].image();
-        lines.push(line)?;
+        let positions = self.subscribers[receiver.number].positions();
+        lines.push(positions_line(positions))?;
         Ok(())
     }
 }

@@ -1,12 +1,12 @@
-//! The lines that a script contents_of.
+//! The lines that a script prints.
 
-use crate::hexadecimal::Hexadecimal;
-use crate::receiver::Outcome;
-use crate::sender::SenderAnswer;
 use assembler::{AssemblyError, Message};
+use hexadecimal::Hexadecimal;
 use log_buffer::{Book, LogError};
 use position::GeometryError;
 use publication::Refusal;
+use receiver::Outcome;
+use sender::SenderAnswer;
 use std::alloc::Global;
 use std::fmt;
 

@@ -13,9 +13,9 @@ ghost use Rattle.script_run.specs.LineContents.{Packet};
 ghost use Rattle.world.specs.Lines.{line_contents};
 
 use crate::line::Line;
-use crate::outbox::Outbox;
-use crate::receiver::Replies;
 use frames::{Frame, Status, write_frame};
+use receiver::Replies;
+use sender::Outbox;
 use std::alloc::{AllocError, Global};
 use std::marker::Model;
 

@@ -6,15 +6,14 @@ ghost use Rattle.theory.specs.Position.{max_message, max_payload};
 ghost use Rattle.publication.specs.Offers.{answer_of};
 ghost use Rattle.script_run.specs.Answers.{MayOffer};
 ghost use Rattle.world.specs.Simulated.{OfferedLine};
-ghost use Rattle.log_buffer.specs.Reader.{IsAt, Reader};
+ghost use Rattle.log_buffer.specs.Leaves.{Leaves, LeavesOtherClaims};
 ghost use Rattle.world.specs.Lines.{line_content};
 ghost use Rattle.log_buffer.specs.Passes.{AreAll};
 ghost use Rattle.world.specs.Slots.{ArePublisherSlots, SlotHolds, pass_of};
-ghost use Rattle.log_buffer.specs.Log.{IsHeld};
 ghost use Rattle.world.specs.SlotSteps.{Aborts, Claims, Clears, Commits, Ends, Offers, Rewrites};
 
 use crate::line::Line;
-use log_buffer::{Claimed, LogState, Publisher};
+use log_buffer::{LogState, Publisher};
 use publication::{Claim, Denied, offer, try_claim};
 
 /// A publisher, or the open claim that holds it.
@@ -23,16 +22,24 @@ pub enum PublisherSlot {
     Holding(Claim),
 }
 
+/// What is said where a line can't be had; the slot and the log stay as they are.
+fn refuse(log: &LogState, slot: PublisherSlot) -> (PublisherSlot, Line)
+    ensures slot { result.0 ≡ slot }
+    ensures line { result.1 ≡ Line.Bad }
+    ensures leaves { Leaves log.now log.now }
+{
+    let _ = log.tail();
+    (slot, Line::Bad)
+}
+
 /// Offers a message, and says what came of it.
 fn offer_line(log: &mut LogState, publisher: &mut Publisher, message: &[u8]) -> Line
     requires { length message.now ≤ max_message log.old.identity.geometry }
     ensures line { OfferedLine log.old publisher.old.number message.now (answer_of log.old (length message.now)) (line_content result) log.new }
     ensures may { MayOffer log.old publisher.old.number message.now }
     ensures pass { publisher.new.number ≡ publisher.old.number }
-    ensures identity { log.new.identity ≡ log.old.identity }
     ensures bytes { publisher.new.bytes ≡ publisher.old.bytes }
-    ensures readers { (r : Reader) → IsAt log.old r → IsAt log.new r }
-    ensures claims { (c : Claimed) → IsHeld log.old c → IsHeld log.new c }
+    ensures leaves { Leaves log.old log.new }
 {
     match offer(log, publisher, message) {
         Ok(position) => Line::Position(position),
@@ -45,14 +52,12 @@ fn offer_free(log: &mut LogState, slot: PublisherSlot, message: &[u8]) -> (Publi
     requires short { length message.now ≤ max_message log.old.identity.geometry }
     requires holds { SlotHolds log.old slot }
     ensures offers { Offers log.old slot message.now log.new result.0 (line_content result.1) }
-    ensures identity { log.new.identity ≡ log.old.identity }
     ensures same_pass { ((pass_of result.0).number ≡ (pass_of slot).number) × (length (pass_of result.0).bytes ≡ length (pass_of slot).bytes) }
     ensures holds { SlotHolds log.new result.0 }
-    ensures readers { (r : Reader) → IsAt log.old r → IsAt log.new r }
-    ensures others { (c : Claimed) → IsHeld log.old c → IsHeld log.new c }
+    ensures leaves { Leaves log.old log.new }
 {
     match slot {
-        PublisherSlot::Holding(claim) => (PublisherSlot::Holding(claim), Line::Bad),
+        PublisherSlot::Holding(claim) => refuse(log, PublisherSlot::Holding(claim)),
         PublisherSlot::Free(mut publisher) => {
             let line = offer_line(log, &mut publisher, message);
             (PublisherSlot::Free(publisher), line)
@@ -66,14 +71,12 @@ fn claim_line(log: &mut LogState, slot: PublisherSlot, size: u32) -> (PublisherS
     requires block { length (pass_of slot).bytes ≡ log.old.identity.geometry.mtu }
     requires holds { SlotHolds log.old slot }
     ensures claims { Claims log.old slot size log.new result.0 (line_content result.1) }
-    ensures identity { log.new.identity ≡ log.old.identity }
     ensures same_pass { ((pass_of result.0).number ≡ (pass_of slot).number) × (length (pass_of result.0).bytes ≡ length (pass_of slot).bytes) }
     ensures holds { SlotHolds log.new result.0 }
-    ensures readers { (r : Reader) → IsAt log.old r → IsAt log.new r }
-    ensures others { (c : Claimed) → IsHeld log.old c → IsHeld log.new c }
+    ensures leaves { Leaves log.old log.new }
 {
     match slot {
-        PublisherSlot::Holding(claim) => (PublisherSlot::Holding(claim), Line::Bad),
+        PublisherSlot::Holding(claim) => refuse(log, PublisherSlot::Holding(claim)),
         PublisherSlot::Free(publisher) => match try_claim(log, publisher, size) {
             Ok(claim) => {
                 let start = claim.start();
@@ -92,14 +95,12 @@ fn claim_line(log: &mut LogState, slot: PublisherSlot, size: u32) -> (PublisherS
 fn commit_line(log: &mut LogState, slot: PublisherSlot) -> (PublisherSlot, Line)
     requires holds { SlotHolds log.old slot }
     ensures commits { Commits log.old slot log.new result.0 (line_content result.1) }
-    ensures identity { log.new.identity ≡ log.old.identity }
     ensures same_pass { ((pass_of result.0).number ≡ (pass_of slot).number) × (length (pass_of result.0).bytes ≡ length (pass_of slot).bytes) }
     ensures holds { SlotHolds log.new result.0 }
-    ensures readers { (r : Reader) → IsAt log.old r → IsAt log.new r }
-    ensures others { (c : Claimed) → (c.owner ≡ (pass_of slot).number → ⊥) → IsHeld log.old c → IsHeld log.new c }
+    ensures leaves { LeavesOtherClaims (pass_of slot).number log.old log.new }
 {
     match slot {
-        PublisherSlot::Free(publisher) => (PublisherSlot::Free(publisher), Line::Bad),
+        PublisherSlot::Free(publisher) => refuse(log, PublisherSlot::Free(publisher)),
         PublisherSlot::Holding(mut claim) => {
             claim.bytes_mut().fill(b'a');
             let (publisher, end) = claim.commit(log);
@@ -112,14 +113,12 @@ fn commit_line(log: &mut LogState, slot: PublisherSlot) -> (PublisherSlot, Line)
 fn abort_line(log: &mut LogState, slot: PublisherSlot) -> (PublisherSlot, Line)
     requires holds { SlotHolds log.old slot }
     ensures aborts { Aborts log.old slot log.new result.0 (line_content result.1) }
-    ensures identity { log.new.identity ≡ log.old.identity }
     ensures same_pass { ((pass_of result.0).number ≡ (pass_of slot).number) × (length (pass_of result.0).bytes ≡ length (pass_of slot).bytes) }
     ensures holds { SlotHolds log.new result.0 }
-    ensures readers { (r : Reader) → IsAt log.old r → IsAt log.new r }
-    ensures others { (c : Claimed) → (c.owner ≡ (pass_of slot).number → ⊥) → IsHeld log.old c → IsHeld log.new c }
+    ensures leaves { LeavesOtherClaims (pass_of slot).number log.old log.new }
 {
     match slot {
-        PublisherSlot::Free(publisher) => (PublisherSlot::Free(publisher), Line::Bad),
+        PublisherSlot::Free(publisher) => refuse(log, PublisherSlot::Free(publisher)),
         PublisherSlot::Holding(claim) => {
             let (publisher, end) = claim.abort(log);
             (PublisherSlot::Free(publisher), Line::Position(end))
@@ -132,12 +131,14 @@ fn ended(log: &mut LogState, slot: PublisherSlot) -> Publisher
     requires holds { SlotHolds log.old slot }
     ensures clears { Clears log.old slot log.new }
     ensures ends { Ends log.old log.new }
-    ensures identity { log.new.identity ≡ log.old.identity }
     ensures number { result.number ≡ (pass_of slot).number }
-    ensures others { (c : Claimed) → (c.owner ≡ (pass_of slot).number → ⊥) → IsHeld log.old c → IsHeld log.new c }
+    ensures leaves { LeavesOtherClaims (pass_of slot).number log.old log.new }
 {
     match slot {
-        PublisherSlot::Free(publisher) => publisher,
+        PublisherSlot::Free(publisher) => {
+            let _ = log.tail();
+            publisher
+        }
         PublisherSlot::Holding(claim) => {
             let (publisher, _) = claim.abort(log);
             publisher
@@ -169,8 +170,7 @@ pub fn offer_by(
     ensures line { Rewrites slots.old.items slots.new.items number (λ w v. Offers log.old w message.now log.new v (line_content result)) }
     ensures eight { vec_len slots.new ≡ 8 }
     ensures each { ArePublisherSlots log.new 0 slots.new.items }
-    ensures identity { log.new.identity ≡ log.old.identity }
-    ensures readers { (r : Reader) → IsAt log.old r → IsAt log.new r }
+    ensures leaves { Leaves log.old log.new }
 {
     let slot = slots.remove(number);
     let (slot, line) = offer_free(log, slot, message);
@@ -187,8 +187,7 @@ pub fn claim_by(log: &mut LogState, slots: &mut Vec<PublisherSlot>, number: usiz
     ensures line { Rewrites slots.old.items slots.new.items number (λ w v. Claims log.old w size log.new v (line_content result)) }
     ensures eight { vec_len slots.new ≡ 8 }
     ensures each { ArePublisherSlots log.new 0 slots.new.items }
-    ensures identity { log.new.identity ≡ log.old.identity }
-    ensures readers { (r : Reader) → IsAt log.old r → IsAt log.new r }
+    ensures leaves { Leaves log.old log.new }
 {
     let slot = slots.remove(number);
     let (slot, line) = claim_line(log, slot, size);
@@ -204,8 +203,7 @@ pub fn commit_by(log: &mut LogState, slots: &mut Vec<PublisherSlot>, number: usi
     ensures line { Rewrites slots.old.items slots.new.items number (λ w v. Commits log.old w log.new v (line_content result)) }
     ensures eight { vec_len slots.new ≡ 8 }
     ensures each { ArePublisherSlots log.new 0 slots.new.items }
-    ensures identity { log.new.identity ≡ log.old.identity }
-    ensures readers { (r : Reader) → IsAt log.old r → IsAt log.new r }
+    ensures leaves { LeavesOtherClaims number log.old log.new }
 {
     let slot = slots.remove(number);
     let (slot, line) = commit_line(log, slot);
@@ -221,8 +219,7 @@ pub fn abort_by(log: &mut LogState, slots: &mut Vec<PublisherSlot>, number: usiz
     ensures line { Rewrites slots.old.items slots.new.items number (λ w v. Aborts log.old w log.new v (line_content result)) }
     ensures eight { vec_len slots.new ≡ 8 }
     ensures each { ArePublisherSlots log.new 0 slots.new.items }
-    ensures identity { log.new.identity ≡ log.old.identity }
-    ensures readers { (r : Reader) → IsAt log.old r → IsAt log.new r }
+    ensures leaves { LeavesOtherClaims number log.old log.new }
 {
     let slot = slots.remove(number);
     let (slot, line) = abort_line(log, slot);

@@ -6,14 +6,13 @@ ghost use Rattle.log_buffer.specs.Passes.{AreAll};
 ghost use Rattle.world.specs.Slots.{AllStand, AllStand_prop, ArePublisherSlots, ArePublisherSlots_prop};
 ghost use Rattle.log_reader.specs.Reading.{StandsAt};
 
-use crate::outbox::Outbox;
 use crate::packets::Packets;
-use crate::sender::SenderCore;
-use crate::subscriber::Subscriber;
-use crate::slot::{PublisherSlot, end_claims};
+use crate::publisher_slot::{PublisherSlot, end_claims};
 use block::Block;
 use flow_control::UnicastFlow;
 use log_buffer::{Book, Keeper, LogReader, LogState, Publisher, close};
+use receiver::Subscriber;
+use sender::{Outbox, SenderCore};
 
 /// How many receivers there are.
 pub const RECEIVERS: usize = 8;

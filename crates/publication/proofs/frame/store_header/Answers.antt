@@ -4,6 +4,7 @@ use Rattle.std.proofs.lemmas.Int.{of_z-to_z, to_z-of_z}
 use Rattle.theory.specs.Position.{Geometry, id_of, place_of}
 use Rattle.term_buffer.specs.Kept.{next_start}
 use Rattle.log_buffer.specs.Log.{Log}
+use Rattle.log_buffer.proofs.Leaves.{LeavesOtherClaims_then}
 use Rattle.publication.proofs.Fills.{header_stored, header_words}
 use Rattle.publication.proofs.frame.store_header.Goals as goal
 
@@ -28,5 +29,5 @@ returns-clause-stored c =
     (same_stream ∙ c.stream-stream.ensures)
     (same_term ∙ c.term_of-place.ensures.term_id ∙ ap (λ (n : ℕ). id_of c.geometry-geometry.result (place_of c.geometry-geometry.result n).count) c.next_start.ensures ∙ ap (λ (g : Geometry). id_of g (place_of g (next_start g c.args.claimed)).count) c.geometry-geometry.ensures.value))
 
-pub returns-clause-readers : goal.returns-clause-readers
-returns-clause-readers c = λ r h. c.store-3.ensures.readers r (c.store-2.ensures.readers r (c.store.ensures.readers r h))
+pub returns-clause-leaves : goal.returns-clause-leaves
+returns-clause-leaves c = LeavesOtherClaims_then (LeavesOtherClaims_then c.store.ensures.leaves c.store-2.ensures.leaves) c.store-3.ensures.leaves

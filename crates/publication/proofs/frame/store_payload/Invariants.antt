@@ -2,8 +2,8 @@ use Rattle.std.proofs.Common.{◌≡◌, ◌+◌, ◌-◌, ◌++◌, length}
 use Rattle.theory.specs.Position.{aligned}
 use Rattle.theory.specs.Wire.{zeros_after}
 use Rattle.term_buffer.specs.Kept.{header_rest, next_start}
+use Rattle.log_buffer.specs.Leaves.{LeavesOtherClaims}
 use Rattle.log_buffer.specs.Log.{with_draft}
-use Rattle.log_buffer.specs.Reader.{IsAt, Reader}
 use Rattle.publication.proofs.Fills.{filled}
 use Rattle.publication.proofs.frame.store_payload.Given as goal
 
@@ -11,5 +11,5 @@ use Rattle.publication.proofs.frame.store_payload.Given as goal
 abbrev pub invariant-loop-index : goal.invariant-loop-index
 invariant-loop-index l = record {
   stored : l.log ≡ with_draft l.fn.log l.fn.claimed (filled (header_rest l.fn.log.identity (next_start l.fn.log.identity.geometry l.fn.claimed)) (l.payload ++ zeros_after (32 + length l.payload)) (aligned (32 + length l.payload) - 32) l.index);
-  readers : (r : Reader) → IsAt l.fn.log r → IsAt l.log r;
+  leaves : LeavesOtherClaims l.fn.claimed.owner l.fn.log l.log;
 }

@@ -1,5 +1,6 @@
 use Rattle.std.proofs.Common.{◌+◌, ◌-◌, arith}
 use Rattle.theory.specs.Position.{aligned}
+use Rattle.log_buffer.proofs.Leaves.{LeavesOtherClaims_then}
 use Rattle.publication.proofs.Frames.{abort_is, abort_written, draft_inside, held_blank, may_abort, one_length, padding_filled, padding_start}
 use Rattle.publication.proofs.frame.write_abort.Goals as goal
 
@@ -25,3 +26,6 @@ abort-requires-clause-written c =
 
 pub returns-clause-aborted : goal.returns-clause-aborted
 returns-clause-aborted c = abort_is c.args.log.now c.store_header.new.log c.abort.new.self c.args.claimed _ c.store_header.ensures.stored c.abort.ensures.aborted
+
+pub returns-clause-leaves : goal.returns-clause-leaves
+returns-clause-leaves c = LeavesOtherClaims_then c.store_header.ensures.leaves c.abort.ensures.leaves

@@ -1,6 +1,7 @@
 use Rattle.std.proofs.Common.{arith}
 use Rattle.theory.specs.Placed.{Data}
 use Rattle.term_buffer.specs.Kept.{next_flags, next_length, next_start}
+use Rattle.log_buffer.proofs.Leaves.{LeavesOtherClaims_then}
 use Rattle.publication.proofs.Frames.{blank_behind, draft_inside, frame_committed, frame_written, part_filled, part_rest}
 use Rattle.publication.proofs.frame.write_frame.Goals as goal
 
@@ -25,3 +26,6 @@ returns-clause-committed c =
     (part_rest c.args.log.now.identity c.args.claimed (next_start c.args.log.now.identity.geometry c.args.claimed) (next_flags c.args.log.now.identity.geometry c.args.claimed) (next_length c.args.log.now.identity.geometry c.args.claimed) c.args.part.now c.requires.message c.requires.whole)
     (part_filled c.args.log.now c.store_header.new.log c.store_payload.new.log c.args.claimed c.args.part.now _ c.store_header.ensures.stored c.store_payload.ensures.stored)
     c.commit.ensures.committed
+
+pub returns-clause-leaves : goal.returns-clause-leaves
+returns-clause-leaves c = LeavesOtherClaims_then (LeavesOtherClaims_then c.store_header.ensures.leaves c.store_payload.ensures.leaves) c.commit.ensures.leaves

@@ -1,6 +1,6 @@
 use Rattle.std.specs.Prelude.{length}
 use Rattle.term_buffer.specs.Kept.{cuts_in}
-use Rattle.log_buffer.specs.Reader.{IsAt, Reader}
+use Rattle.log_buffer.specs.Leaves.{LeavesOtherClaims}
 use Rattle.publication.proofs.Writing.{Writes, frames_left}
 use Rattle.publication.proofs.frame.write_message.Given as goal
 
@@ -8,7 +8,7 @@ use Rattle.publication.proofs.frame.write_message.Given as goal
 abbrev pub invariant-loop-next : goal.invariant-loop-next
 invariant-loop-next l = record {
   writes : Writes l.fn.log l.fn.claimed l.message l.log l.rest l.next;
-  readers : (r : Reader) → IsAt l.fn.log r → IsAt l.log r;
+  leaves : LeavesOtherClaims l.fn.claimed.owner l.fn.log l.log;
 }
 
 abbrev pub decreases-loop-next : goal.decreases-loop-next

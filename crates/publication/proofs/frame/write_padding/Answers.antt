@@ -1,6 +1,7 @@
 use Rattle.std.proofs.Common.{◌-◌, arith}
 use Rattle.theory.specs.Position.{aligned}
 use Rattle.theory.specs.Placed.{Pad}
+use Rattle.log_buffer.proofs.Leaves.{LeavesOtherClaims_then}
 use Rattle.publication.proofs.Fills.{open_drafted}
 use Rattle.publication.proofs.Frames.{draft_inside, frame_committed, frame_written, padding_filled, padding_length, padding_rest, padding_start}
 use Rattle.publication.proofs.frame.write_padding.Goals as goal
@@ -31,3 +32,6 @@ returns-clause-committed c =
     (padding_rest c.args.log.now c.args.claimed c.requires.padding c.requires.first)
     (padding_filled c.args.log.now c.store_header.new.log c.args.claimed c.args.claimed.size c.requires.blank c.store_header.ensures.stored)
     c.commit.ensures.committed
+
+pub returns-clause-leaves : goal.returns-clause-leaves
+returns-clause-leaves c = LeavesOtherClaims_then c.store_header.ensures.leaves c.commit.ensures.leaves

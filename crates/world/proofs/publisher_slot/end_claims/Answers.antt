@@ -1,5 +1,6 @@
 use Rattle.std.proofs.Common.{◌≡◌, ◌∙◌, ◌<◌, arith, length, subst, suc, vec_len}
 use Rattle.world.specs.Slots.{ArePublisherSlots}
+use Rattle.publication.proofs.KeptClaims.{claim_beside}
 use Rattle.world.proofs.SlotLemmas.{ends_on, first_slot, later_slots, numbers_more}
 use Rattle.world.proofs.publisher_slot.end_claims.Goals as goal
 
@@ -18,7 +19,7 @@ loop-slots-preserved c =
     record {
       count = omega (arith, i.count, next, c.remove-slot.ensures.len);
       room = omega (arith, i.room, c.add.ensures.room);
-      each = subst (λ k. ArePublisherSlots m k c.remove-slot.new.self.items) next (later_slots l m n ws c.remove-slot.new.self.items w _ i.each c.remove-slot.ensures.value some c.remove-slot.ensures.items c.ended.ensures.identity c.ended.ensures.others);
+      each = subst (λ k. ArePublisherSlots m k c.remove-slot.new.self.items) next (later_slots l m n ws c.remove-slot.new.self.items w _ i.each c.remove-slot.ensures.value some c.remove-slot.ensures.items c.ended.ensures.leaves.identity (λ d other. claim_beside c.ended.ensures.leaves other));
       numbers = λ k low. numbers_more c.loop-slots.publishers.items c.add.new.publishers.items c.ended.result c.add.ensures.items (c.ended.ensures.number ∙ first.0 ∙ size) (λ j small. i.numbers j (omega (arith, small, size))) k (omega (arith, low, next, size));
       ends = ends_on c.args.log.now l m i.ends c.ended.ensures.ends;
     }

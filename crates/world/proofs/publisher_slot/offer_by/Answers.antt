@@ -1,6 +1,7 @@
 use Rattle.std.proofs.Common.{◌≡◌, ◌∙◌, ◌+◌, arith, ap, subst, sym}
 use Rattle.world.specs.Slots.{ArePublisherSlots, pass_of}
 use Rattle.world.proofs.Standing.{slot_at, slots_set}
+use Rattle.publication.proofs.KeptClaims.{claim_left}
 use Rattle.world.proofs.SlotLemmas.{put_is, rewritten}
 use Rattle.world.proofs.publisher_slot.offer_by.Goals as goal
 
@@ -18,6 +19,6 @@ returns-clause-each c =
     let v = c.offer_free-slot.result.0 in
     let found = slot_at l 0 k ws c.remove-slot.result _ c.requires.each c.remove-slot.ensures.value (omega (arith, c.requires.number, c.requires.eight)) in
     let number : (pass_of c.remove-slot.result).number ≡ 0 + k = found.1.0 in
-    let same : m.identity ≡ l.identity = c.offer_free-slot.ensures.identity in
+    let same : m.identity ≡ l.identity = c.offer_free-slot.ensures.leaves.identity in
     subst (ArePublisherSlots m 0) (sym (put_is ws c.remove-slot.new.self.items c.put_back.new.slots.items k v (omega (arith, c.requires.number, c.requires.eight)) c.remove-slot.ensures.items c.put_back.ensures.items))
-    (slots_set l m 0 k ws v same (λ d apart. c.offer_free-slot.ensures.others d) (c.offer_free-slot.ensures.same_pass.0 ∙ number) (c.offer_free-slot.ensures.same_pass.1 ∙ found.1.1 ∙ ap (λ i. i.geometry.mtu) (sym same)) c.offer_free-slot.ensures.holds c.requires.each)
+    (slots_set l m 0 k ws v same (λ d apart. claim_left c.offer_free-slot.ensures.leaves) (c.offer_free-slot.ensures.same_pass.0 ∙ number) (c.offer_free-slot.ensures.same_pass.1 ∙ found.1.1 ∙ ap (λ i. i.geometry.mtu) (sym same)) c.offer_free-slot.ensures.holds c.requires.each)

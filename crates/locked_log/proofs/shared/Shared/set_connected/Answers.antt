@@ -1,7 +1,5 @@
-use Rattle.std.proofs.Common.{ap}
-use Rattle.log_buffer.specs.Log.{Log}
 use Rattle.locked_log.proofs.Tables.{kept}
 use Rattle.locked_log.proofs.shared.Shared.set_connected.Goals as goal
 
 pub invariant_of-self : goal.invariant_of-self
-invariant_of-self g c = kept g.S.Stream.identity c.self.inside.state c.set_connected.new.log c.self.inside.held c.self.inside.readers (ap (λ (l : Log). l.identity) c.set_connected.ensures.set) c.set_connected.ensures.claims c.set_connected.ensures.readers c.self.invariant
+invariant_of-self g c = kept g.S.Stream.identity c.self.inside.state c.set_connected.new.log c.self.inside.held c.self.inside.readers c.set_connected.ensures.leaves c.self.invariant

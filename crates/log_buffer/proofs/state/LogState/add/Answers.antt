@@ -29,32 +29,20 @@ invariant_of-self c =
     let full : term_of (the_view c.self.inside) ≤ slice_index c.self.inside.tails.offsets c.partition_of-partition.result = omega (arith, c.add-before.ensures.offset, c.if-before-length.true, term) in
     rw c.add-before.ensures.added (kept_passed (the_view c.self.inside) c.self.inside.tails c.self.inside.consumer_count c.number-owner.result c.partition_of-partition.result c.framed_length-covered.result c.self.invariant a.got a.most full)
 
-pub claim-requires-clause-in_term : goal.claim-requires-clause-in_term
-claim-requires-clause-in_term c =
+pub claim-requires-clause-may : goal.claim-requires-clause-may
+claim-requires-clause-may c =
     let a : Asks (the_view c.self.inside) c.self.inside.tails c.number-owner.result c.partition_of-partition.result c.framed_length-covered.result c.args.size = asks (the_view c.self.inside) c.args.self.now c.self.inside.tails c.self.inside.consumer_count c.args.publisher.now.number c.number-owner.result c.args.count c.partition_of-partition.result c.framed_length-covered.result c.args.size c.self.invariant c.self.view_is c.requires.armed c.requires.short (search rules) c.partition_of-partition.ensures.value (c.framed_length-covered.ensures ∙ ap (λ g. framed_length g c.args.size) c.geometry-2.ensures) in
     let term : c.term_length-length.result ≡ c.self.inside.buffer.identity.geometry.term_length = c.term_length-length.ensures.value ∙ ap (λ g. g.term_length) c.geometry.ensures in
     let h : Here (the_view c.self.inside) c.self.inside.tails c.number-owner.result c.partition_of-partition.result c.add-before.result.offset c.framed_length-covered.result = here (the_view c.self.inside) c.self.inside.tails c.number-owner.result c.partition_of-partition.result c.add-before.result.offset c.framed_length-covered.result c.args.size c.term_length-length.result a c.add-before.ensures.offset c.if-before-length.false term in
     let inside : c.add-before.result.offset + c.framed_length-covered.result ≤ c.self.inside.buffer.identity.geometry.term_length = omega (arith, term, c.if-before-covered.true) in
     let f : Fits (the_view c.self.inside) false c.args.size = fits_message (the_view c.self.inside) c.self.inside.tails c.self.inside.consumer_count c.number-owner.result c.partition_of-partition.result c.add-before.result.offset c.framed_length-covered.result c.args.size c.self.invariant h a.is inside in
-    f.in_term
-
-pub claim-requires-clause-room : goal.claim-requires-clause-room
-claim-requires-clause-room c =
-    let a : Asks (the_view c.self.inside) c.self.inside.tails c.number-owner.result c.partition_of-partition.result c.framed_length-covered.result c.args.size = asks (the_view c.self.inside) c.args.self.now c.self.inside.tails c.self.inside.consumer_count c.args.publisher.now.number c.number-owner.result c.args.count c.partition_of-partition.result c.framed_length-covered.result c.args.size c.self.invariant c.self.view_is c.requires.armed c.requires.short (search rules) c.partition_of-partition.ensures.value (c.framed_length-covered.ensures ∙ ap (λ g. framed_length g c.args.size) c.geometry-2.ensures) in
-    let term : c.term_length-length.result ≡ c.self.inside.buffer.identity.geometry.term_length = c.term_length-length.ensures.value ∙ ap (λ g. g.term_length) c.geometry.ensures in
-    let h : Here (the_view c.self.inside) c.self.inside.tails c.number-owner.result c.partition_of-partition.result c.add-before.result.offset c.framed_length-covered.result = here (the_view c.self.inside) c.self.inside.tails c.number-owner.result c.partition_of-partition.result c.add-before.result.offset c.framed_length-covered.result c.args.size c.term_length-length.result a c.add-before.ensures.offset c.if-before-length.false term in
-    let inside : c.add-before.result.offset + c.framed_length-covered.result ≤ c.self.inside.buffer.identity.geometry.term_length = omega (arith, term, c.if-before-covered.true) in
-    let f : Fits (the_view c.self.inside) false c.args.size = fits_message (the_view c.self.inside) c.self.inside.tails c.self.inside.consumer_count c.number-owner.result c.partition_of-partition.result c.add-before.result.offset c.framed_length-covered.result c.args.size c.self.invariant h a.is inside in
-    f.room
-
-pub claim-requires-clause-below : goal.claim-requires-clause-below
-claim-requires-clause-below c =
-    let a : Asks (the_view c.self.inside) c.self.inside.tails c.number-owner.result c.partition_of-partition.result c.framed_length-covered.result c.args.size = asks (the_view c.self.inside) c.args.self.now c.self.inside.tails c.self.inside.consumer_count c.args.publisher.now.number c.number-owner.result c.args.count c.partition_of-partition.result c.framed_length-covered.result c.args.size c.self.invariant c.self.view_is c.requires.armed c.requires.short (search rules) c.partition_of-partition.ensures.value (c.framed_length-covered.ensures ∙ ap (λ g. framed_length g c.args.size) c.geometry-2.ensures) in
-    let term : c.term_length-length.result ≡ c.self.inside.buffer.identity.geometry.term_length = c.term_length-length.ensures.value ∙ ap (λ g. g.term_length) c.geometry.ensures in
-    let h : Here (the_view c.self.inside) c.self.inside.tails c.number-owner.result c.partition_of-partition.result c.add-before.result.offset c.framed_length-covered.result = here (the_view c.self.inside) c.self.inside.tails c.number-owner.result c.partition_of-partition.result c.add-before.result.offset c.framed_length-covered.result c.args.size c.term_length-length.result a c.add-before.ensures.offset c.if-before-length.false term in
-    let inside : c.add-before.result.offset + c.framed_length-covered.result ≤ c.self.inside.buffer.identity.geometry.term_length = omega (arith, term, c.if-before-covered.true) in
-    let f : Fits (the_view c.self.inside) false c.args.size = fits_message (the_view c.self.inside) c.self.inside.tails c.self.inside.consumer_count c.number-owner.result c.partition_of-partition.result c.add-before.result.offset c.framed_length-covered.result c.args.size c.self.invariant h a.is inside in
-    f.below
+    record {
+      short = search rules;
+      long = search rules;
+      in_term = f.in_term;
+      room = f.room;
+      below = f.below;
+    }
 
 pub invariant_of-self-then-before-covered : goal.invariant_of-self-then-before-covered
 invariant_of-self-then-before-covered c =
@@ -64,40 +52,21 @@ invariant_of-self-then-before-covered c =
     let inside : c.add-before.result.offset + c.framed_length-covered.result ≤ c.self.inside.buffer.identity.geometry.term_length = omega (arith, term, c.if-before-covered.true) in
     rw (c.claim.ensures.taken, c.add-before.ensures.added) (kept_taken (the_view c.self.inside) c.self.inside.tails c.self.inside.consumer_count c.number-owner.result c.partition_of-partition.result c.framed_length-covered.result false c.args.size c.self.invariant a.got (search rules) a.most (takes_message (the_view c.self.inside) c.self.inside.tails c.self.inside.consumer_count c.number-owner.result c.partition_of-partition.result c.add-before.result.offset c.framed_length-covered.result c.args.size c.self.invariant h a.is inside))
 
-pub claim-requires-else-before-covered-clause-long : goal.claim-requires-else-before-covered-clause-long
-claim-requires-else-before-covered-clause-long c =
+pub claim-requires-else-before-covered-clause-may : goal.claim-requires-else-before-covered-clause-may
+claim-requires-else-before-covered-clause-may c =
     let a : Asks (the_view c.self.inside) c.self.inside.tails c.number-owner.result c.partition_of-partition.result c.framed_length-covered.result c.args.size = asks (the_view c.self.inside) c.args.self.now c.self.inside.tails c.self.inside.consumer_count c.args.publisher.now.number c.number-owner.result c.args.count c.partition_of-partition.result c.framed_length-covered.result c.args.size c.self.invariant c.self.view_is c.requires.armed c.requires.short (search rules) c.partition_of-partition.ensures.value (c.framed_length-covered.ensures ∙ ap (λ g. framed_length g c.args.size) c.geometry-2.ensures) in
     let term : c.term_length-length.result ≡ c.self.inside.buffer.identity.geometry.term_length = c.term_length-length.ensures.value ∙ ap (λ g. g.term_length) c.geometry.ensures in
     let h : Here (the_view c.self.inside) c.self.inside.tails c.number-owner.result c.partition_of-partition.result c.add-before.result.offset c.framed_length-covered.result = here (the_view c.self.inside) c.self.inside.tails c.number-owner.result c.partition_of-partition.result c.add-before.result.offset c.framed_length-covered.result c.args.size c.term_length-length.result a c.add-before.ensures.offset c.if-before-length.false term in
+    let past : c.self.inside.buffer.identity.geometry.term_length < c.add-before.result.offset + c.framed_length-covered.result = omega (arith, term, c.if-before-covered.false) in
+    let f : Fits (the_view c.self.inside) true (c.self.inside.buffer.identity.geometry.term_length - c.add-before.result.offset) = fits_rest (the_view c.self.inside) c.self.inside.tails c.self.inside.consumer_count c.number-owner.result c.partition_of-partition.result c.add-before.result.offset c.framed_length-covered.result c.self.invariant h past in
     let r : Rest (the_view c.self.inside) c.add-before.result.offset = rest (the_view c.self.inside) c.self.inside.tails c.self.inside.consumer_count c.number-owner.result c.partition_of-partition.result c.add-before.result.offset c.framed_length-covered.result c.self.invariant h in
-    λ _. rw term r.long
-
-pub claim-requires-else-before-covered-clause-in_term : goal.claim-requires-else-before-covered-clause-in_term
-claim-requires-else-before-covered-clause-in_term c =
-    let a : Asks (the_view c.self.inside) c.self.inside.tails c.number-owner.result c.partition_of-partition.result c.framed_length-covered.result c.args.size = asks (the_view c.self.inside) c.args.self.now c.self.inside.tails c.self.inside.consumer_count c.args.publisher.now.number c.number-owner.result c.args.count c.partition_of-partition.result c.framed_length-covered.result c.args.size c.self.invariant c.self.view_is c.requires.armed c.requires.short (search rules) c.partition_of-partition.ensures.value (c.framed_length-covered.ensures ∙ ap (λ g. framed_length g c.args.size) c.geometry-2.ensures) in
-    let term : c.term_length-length.result ≡ c.self.inside.buffer.identity.geometry.term_length = c.term_length-length.ensures.value ∙ ap (λ g. g.term_length) c.geometry.ensures in
-    let h : Here (the_view c.self.inside) c.self.inside.tails c.number-owner.result c.partition_of-partition.result c.add-before.result.offset c.framed_length-covered.result = here (the_view c.self.inside) c.self.inside.tails c.number-owner.result c.partition_of-partition.result c.add-before.result.offset c.framed_length-covered.result c.args.size c.term_length-length.result a c.add-before.ensures.offset c.if-before-length.false term in
-    let past : c.self.inside.buffer.identity.geometry.term_length < c.add-before.result.offset + c.framed_length-covered.result = omega (arith, term, c.if-before-covered.false) in
-    let f : Fits (the_view c.self.inside) true (c.self.inside.buffer.identity.geometry.term_length - c.add-before.result.offset) = fits_rest (the_view c.self.inside) c.self.inside.tails c.self.inside.consumer_count c.number-owner.result c.partition_of-partition.result c.add-before.result.offset c.framed_length-covered.result c.self.invariant h past in
-    rw term f.in_term
-
-pub claim-requires-else-before-covered-clause-room : goal.claim-requires-else-before-covered-clause-room
-claim-requires-else-before-covered-clause-room c =
-    let a : Asks (the_view c.self.inside) c.self.inside.tails c.number-owner.result c.partition_of-partition.result c.framed_length-covered.result c.args.size = asks (the_view c.self.inside) c.args.self.now c.self.inside.tails c.self.inside.consumer_count c.args.publisher.now.number c.number-owner.result c.args.count c.partition_of-partition.result c.framed_length-covered.result c.args.size c.self.invariant c.self.view_is c.requires.armed c.requires.short (search rules) c.partition_of-partition.ensures.value (c.framed_length-covered.ensures ∙ ap (λ g. framed_length g c.args.size) c.geometry-2.ensures) in
-    let term : c.term_length-length.result ≡ c.self.inside.buffer.identity.geometry.term_length = c.term_length-length.ensures.value ∙ ap (λ g. g.term_length) c.geometry.ensures in
-    let h : Here (the_view c.self.inside) c.self.inside.tails c.number-owner.result c.partition_of-partition.result c.add-before.result.offset c.framed_length-covered.result = here (the_view c.self.inside) c.self.inside.tails c.number-owner.result c.partition_of-partition.result c.add-before.result.offset c.framed_length-covered.result c.args.size c.term_length-length.result a c.add-before.ensures.offset c.if-before-length.false term in
-    let past : c.self.inside.buffer.identity.geometry.term_length < c.add-before.result.offset + c.framed_length-covered.result = omega (arith, term, c.if-before-covered.false) in
-    let f : Fits (the_view c.self.inside) true (c.self.inside.buffer.identity.geometry.term_length - c.add-before.result.offset) = fits_rest (the_view c.self.inside) c.self.inside.tails c.self.inside.consumer_count c.number-owner.result c.partition_of-partition.result c.add-before.result.offset c.framed_length-covered.result c.self.invariant h past in
-    rw term f.room
-
-pub claim-requires-else-before-covered-clause-below : goal.claim-requires-else-before-covered-clause-below
-claim-requires-else-before-covered-clause-below c =
-    let a : Asks (the_view c.self.inside) c.self.inside.tails c.number-owner.result c.partition_of-partition.result c.framed_length-covered.result c.args.size = asks (the_view c.self.inside) c.args.self.now c.self.inside.tails c.self.inside.consumer_count c.args.publisher.now.number c.number-owner.result c.args.count c.partition_of-partition.result c.framed_length-covered.result c.args.size c.self.invariant c.self.view_is c.requires.armed c.requires.short (search rules) c.partition_of-partition.ensures.value (c.framed_length-covered.ensures ∙ ap (λ g. framed_length g c.args.size) c.geometry-2.ensures) in
-    let term : c.term_length-length.result ≡ c.self.inside.buffer.identity.geometry.term_length = c.term_length-length.ensures.value ∙ ap (λ g. g.term_length) c.geometry.ensures in
-    let h : Here (the_view c.self.inside) c.self.inside.tails c.number-owner.result c.partition_of-partition.result c.add-before.result.offset c.framed_length-covered.result = here (the_view c.self.inside) c.self.inside.tails c.number-owner.result c.partition_of-partition.result c.add-before.result.offset c.framed_length-covered.result c.args.size c.term_length-length.result a c.add-before.ensures.offset c.if-before-length.false term in
-    let past : c.self.inside.buffer.identity.geometry.term_length < c.add-before.result.offset + c.framed_length-covered.result = omega (arith, term, c.if-before-covered.false) in
-    let f : Fits (the_view c.self.inside) true (c.self.inside.buffer.identity.geometry.term_length - c.add-before.result.offset) = fits_rest (the_view c.self.inside) c.self.inside.tails c.self.inside.consumer_count c.number-owner.result c.partition_of-partition.result c.add-before.result.offset c.framed_length-covered.result c.self.invariant h past in
-    f.below
+    record {
+      short = search rules;
+      long = λ _. rw term r.long;
+      in_term = rw term f.in_term;
+      room = rw term f.room;
+      below = f.below;
+    }
 
 pub invariant_of-self-else-before-covered : goal.invariant_of-self-else-before-covered
 invariant_of-self-else-before-covered c =

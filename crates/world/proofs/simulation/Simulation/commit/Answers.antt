@@ -9,7 +9,7 @@ invariant_of-self c =
     let old = c.args.self.now in
     let l = old.log in
     let m = c.commit_by-line.new.log in
-    let same : m.identity ≡ l.identity = c.commit_by-line.ensures.identity in
+    let same : m.identity ≡ l.identity = c.commit_by-line.ensures.leaves.identity in
     record {
       all = c.commit_by-line.ensures.eight;
       empty = old.empty;
@@ -19,8 +19,8 @@ invariant_of-self c =
       room = old.room;
       same = same ∙ old.same;
       first = old.first;
-      stands = stands_on l m c.commit_by-line.ensures.readers old.sender.reader old.stands;
-      reading = all_stand l m 1 old.readers.items (λ r low. stands_on l m c.commit_by-line.ensures.readers r) old.reading;
+      stands = stands_on l m c.commit_by-line.ensures.leaves.readers old.sender.reader old.stands;
+      reading = all_stand l m 1 old.readers.items (λ r low. stands_on l m c.commit_by-line.ensures.leaves.readers r) old.reading;
       size = old.size ∙ ap (λ (i : Identity). i.geometry.mtu) (sym same);
       eight = old.eight;
     }

@@ -1,6 +1,7 @@
 use Rattle.std.proofs.Common.{◌≡◌, ◌∙◌, ◌≤◌, ap, length, subst, sym}
 use Rattle.theory.specs.Bytes.{Identity}
-use Rattle.world.proofs.Standing.{all_stand, are_slots, holds_on, stands_on}
+use Rattle.publication.proofs.KeptClaims.{claim_left}
+use Rattle.world.proofs.Standing.{all_stand, are_slots, stands_on}
 use Rattle.world.proofs.simulation.Simulation.connect.Goals as goal
 
 pub invariant_of-self : goal.invariant_of-self
@@ -14,12 +15,12 @@ invariant_of-self c =
       empty = old.empty;
       space = old.space;
       block_size = subst (λ (i : Identity). i.geometry.mtu ≤ length old.block) (sym same) old.block_size;
-      each = are_slots l m 0 old.slots.items same (λ d low. holds_on l m same d (c.set_connected.ensures.claims d)) old.each;
+      each = are_slots l m 0 old.slots.items same (λ d low. claim_left c.set_connected.ensures.leaves) old.each;
       room = old.room;
       same = same ∙ old.same;
       first = old.first;
-      stands = stands_on l m c.set_connected.ensures.readers old.sender.reader old.stands;
-      reading = all_stand l m 1 old.readers.items (λ r low. stands_on l m c.set_connected.ensures.readers r) old.reading;
+      stands = stands_on l m c.set_connected.ensures.leaves.readers old.sender.reader old.stands;
+      reading = all_stand l m 1 old.readers.items (λ r low. stands_on l m c.set_connected.ensures.leaves.readers r) old.reading;
       size = old.size ∙ ap (λ (i : Identity). i.geometry.mtu) (sym same);
       eight = old.eight;
     }

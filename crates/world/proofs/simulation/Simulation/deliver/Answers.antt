@@ -3,7 +3,7 @@ use Rattle.std.specs.Prelude.{slice_get}
 use Rattle.std.proofs.lemmas.Result.{on_ok_weaker}
 use Rattle.script_run.specs.LineContents.{OfReceiver}
 use Rattle.world.specs.Lines.{line_contents}
-use Rattle.script_run.proofs.Runs.{seat_at}
+use Rattle.theory.proofs.Tables.{seat_at}
 use Rattle.world.proofs.Simulations.{deliver_answered, missing_deliver}
 use Rattle.world.proofs.simulation.Simulation.deliver.Goals as goal
 

@@ -1,14 +1,15 @@
 use Rattle.std.proofs.Common.{◌≡◌, ◌∙◌, ◌≤◌, ap, length, refl, subst, sym}
 use Rattle.theory.specs.Bytes.{Identity}
 use Rattle.log_buffer.specs.Log.{Log}
-use Rattle.world.proofs.Standing.{all_stand, are_slots, holds_on, stands_on}
+use Rattle.publication.proofs.KeptClaims.{claim_left}
+use Rattle.world.proofs.Standing.{all_stand, are_slots, stands_on}
 use Rattle.script_run.specs.LineContents.{Limit}
 use Rattle.world.proofs.Simulations.{limit_answered}
 use Rattle.world.proofs.simulation.Simulation.limit.Goals as goal
 
 pub returns : goal.returns
 returns c =
-    limit_answered c.args.self.now _ _ c.args.lines.now.items c.push.new.self.items c.clean_and_limit-limit.ensures.legal c.clean_and_limit-limit.ensures.done
+    limit_answered c.args.self.now _ _ c.args.lines.now.items c.push.new.self.items c.clean_and_limit-limit.ensures.leaves.was c.clean_and_limit-limit.ensures.done
     (ap Limit c.clean_and_limit-limit.ensures.limit)
     (record { log = refl; sender = refl; subscribers = refl; packets = refl; claims = refl; readers = refl })
     c.in_ok-push.ensures.items
@@ -25,12 +26,12 @@ invariant_of-self c =
       empty = old.empty;
       space = old.space;
       block_size = subst (λ (i : Identity). i.geometry.mtu ≤ length old.block) (sym same) old.block_size;
-      each = are_slots l m 0 old.slots.items same (λ d low. holds_on l m same d (c.clean_and_limit-limit.ensures.claims d)) old.each;
+      each = are_slots l m 0 old.slots.items same (λ d low. claim_left c.clean_and_limit-limit.ensures.leaves) old.each;
       room = old.room;
       same = same ∙ old.same;
       first = old.first;
-      stands = stands_on l m c.clean_and_limit-limit.ensures.readers old.sender.reader old.stands;
-      reading = all_stand l m 1 old.readers.items (λ r low. stands_on l m c.clean_and_limit-limit.ensures.readers r) old.reading;
+      stands = stands_on l m c.clean_and_limit-limit.ensures.leaves.readers old.sender.reader old.stands;
+      reading = all_stand l m 1 old.readers.items (λ r low. stands_on l m c.clean_and_limit-limit.ensures.leaves.readers r) old.reading;
       size = old.size ∙ ap (λ (i : Identity). i.geometry.mtu) (sym same);
       eight = old.eight;
     }

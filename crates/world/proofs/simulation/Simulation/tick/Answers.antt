@@ -1,6 +1,6 @@
 use Rattle.std.proofs.Common.{refl, rules}
 use Rattle.receiver.specs.Receiving.{replied}
-use Rattle.script_run.proofs.Runs.{seat_at}
+use Rattle.theory.proofs.Tables.{seat_at}
 use Rattle.world.proofs.Simulations.{on_both, tick_answered}
 use Rattle.world.proofs.simulation.Simulation.tick.Goals as goal
 

@@ -1,0 +1,5 @@
+//! Tests of a receiver's image.
+#![tactic(auto)]
+
+#[cfg(test)]
+mod images;

@@ -1,0 +1,4 @@
+mod AllPasses
+mod OnePass
+mod SeenEnd
+mod Steps
