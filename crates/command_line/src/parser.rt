@@ -1,6 +1,6 @@
 //! Reading the command line.
 
-ghost use Rattle.std.specs.Prelude.{◌≡◌, ℕ, List, true, map, IfOk, IfErr, Err};
+ghost use Rattle.std.specs.Prelude.{◌≡◌, ◌≢◌, ◌↔◌, ℕ, List, true, false, map, IfOk, IfErr, IsTrue, Err};
 ghost use Rattle.clap.specs.Words.{FailsBy, IsAmong, app_of, fault_of as clap_faults, is_simple, is_simple_and_free, kind_of, subcommand_of, subcommand_rows_of};
 ghost use Rattle.command_line.specs.CommandLines.{AsksFor, AsksForDecode, AsksForSim, IsChoice, driver_app};
 
@@ -8,6 +8,7 @@ use crate::choice::Options;
 use clap::error::ErrorKind;
 use clap::{Arg, ArgMatches, Command, Error};
 use std::alloc::{AllocError, Global};
+use std::fmt;
 
 /// Why a command line isn't carried out.
 #[derive(Debug, Drop)]
@@ -16,6 +17,28 @@ pub enum OptionsFault {
     Shown(Error),
     /// Memory was refused.
     Memory,
+}
+
+impl OptionsFault {
+    /// Whether the line was refused: its text belongs to the error output. Help that was asked for is no refusal.
+    pub fn is_refusal(&self) -> bool
+        ensures memory { self.now ≡ OptionsFault.Memory → result ≡ false }
+        ensures shown { (e : Error) → self.now ≡ OptionsFault.Shown e → (IsTrue result ↔ ((kind_of e ≢ ErrorKind.DisplayHelp) × (kind_of e ≢ ErrorKind.DisplayVersion))) }
+    {
+        match self {
+            OptionsFault::Shown(error) => error.use_stderr(),
+            OptionsFault::Memory => false,
+        }
+    }
+}
+
+impl fmt::Display for OptionsFault {
+    fn fmt<W: fmt::Write>(&self, f: &mut fmt::Formatter<W>) -> fmt::Result {
+        match self {
+            OptionsFault::Shown(error) => write!(f, "{error}"),
+            OptionsFault::Memory => f.write_str("memory"),
+        }
+    }
 }
 
 /// What the words of a command line ask for; the first one is the program's name.

@@ -1,10 +1,12 @@
 -- The fault texts.
 use Rattle.std.specs.Prelude.{ℕ, List, ◌++◌, codes, decimal}
 use Rattle.frames.specs.Fault.{text_of}
+use Rattle.decode.specs.declared.fault.DecodeError.{DecodeError}
+use Rattle.decode.specs.declared.fault.DecodeError.TheVariants as decoding
 use Rattle.script.specs.declared.fault.ScriptFault.{ScriptFault}
 use Rattle.script.specs.declared.fault.ScriptFault.TheVariants as script
-use Rattle.mdriver.specs.declared.fault.Fault.{Fault}
-use Rattle.mdriver.specs.declared.fault.Fault.TheVariants.{Line, Input, Memory, Hex, Frame, Read, Write}
+use Rattle.commands.specs.declared.fault.Fault.{Fault}
+use Rattle.commands.specs.declared.fault.Fault.TheVariants.{Line, Input, Memory, Hex, Frame, Read, Write}
 
 abbrev pub shown_fault : Fault → List ℕ
 shown_fault (Line n) = codes "line " ++ decimal n ++ codes ": script"
@@ -19,3 +21,10 @@ shown_fault Write = codes "write"
 abbrev pub of_script : ScriptFault → Fault
 of_script (script.Line n) = Line n
 of_script script.Memory = Memory
+
+-- a word's fault as the program's
+abbrev pub of_decoding : DecodeError → Fault
+of_decoding decoding.Hex = Hex
+of_decoding (decoding.Frame error) = Frame error
+of_decoding decoding.Memory = Memory
+of_decoding decoding.Write = Write

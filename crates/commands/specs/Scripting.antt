@@ -2,8 +2,8 @@
 use Rattle.std.specs.Prelude.{◌≤◌, ◌<◌, ℕ, List, length, ⊤}
 use Rattle.script.specs.Language.{IsFaultLine, IsScript}
 use Rattle.script.specs.Meaning.{ScriptContent}
-use Rattle.mdriver.specs.declared.fault.Fault.{Fault}
-use Rattle.mdriver.specs.declared.fault.Fault.TheVariants.{Line, Input, Memory, Hex, Frame, Read, Write}
+use Rattle.commands.specs.declared.fault.Fault.{Fault}
+use Rattle.commands.specs.declared.fault.Fault.TheVariants.{Line, Input, Memory, Hex, Frame, Read, Write}
 
 -- it is a script, of at most 1 MiB
 abbrev pub HoldsScript : List ℕ → Type 0

@@ -1,9 +1,10 @@
 //! What a user reads where the program gives up.
 
 ghost use Rattle.std.specs.Prelude.{◌≡◌, Some};
-ghost use Rattle.mdriver.specs.Faults.{of_script, shown_fault};
-ghost use Rattle.mdriver.specs.declared.fault.Fault.TheVariants.{Frame, Memory};
+ghost use Rattle.commands.specs.Faults.{of_decoding, of_script, shown_fault};
+ghost use Rattle.commands.specs.declared.fault.Fault.TheVariants.{Memory};
 
+use decode::DecodeError;
 use frames::FrameError;
 use script::ScriptFault;
 use std::alloc::AllocError;
@@ -55,11 +56,16 @@ impl From<AllocError> for Fault {
     }
 }
 
-impl From<FrameError> for Fault {
-    ghost from_gives = { λ error fault. fault ≡ Frame error };
+impl From<DecodeError> for Fault {
+    ghost from_gives = { λ from fault. fault ≡ of_decoding from };
 
-    fn from(error: FrameError) -> Fault {
-        Fault::Frame(error)
+    fn from(fault: DecodeError) -> Fault {
+        match fault {
+            DecodeError::Hex => Fault::Hex,
+            DecodeError::Frame(error) => Fault::Frame(error),
+            DecodeError::Memory => Fault::Memory,
+            DecodeError::Write => Fault::Write,
+        }
     }
 }
 

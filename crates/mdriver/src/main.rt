@@ -1,32 +1,8 @@
-//! The media driver's program: `mdriver sim` plays a script from offer to poll, and `mdriver decode` contents_of the frames of
+//! The media driver's program: `mdriver sim` plays a script from offer to poll, and `mdriver decode` prints the frames of
 //! a datagram.
 #![tactic(auto)]
 
-mod choice;
-mod command_line;
-mod commands;
-mod decode;
-mod fault;
-mod frame_line;
-mod handlers;
-mod hexadecimal;
-mod identity;
-mod line;
-mod news;
-mod next_frame;
-mod opened;
-mod outbox;
-mod packets;
-mod play;
-mod receiver;
-mod sender;
-mod sim;
-mod stage;
-mod subscriber;
-mod writer;
-
-use commands::command;
-use fault::Fault;
+use commands::{Fault, command};
 use std::env;
 use std::io::{self, BufWriter};
 use std::process::ExitCode;
@@ -59,6 +35,3 @@ fn run(rt: &HostRuntime) -> io::Result<u8> {
         &mut rt.stderr(),
     ))
 }
-
-#[cfg(test)]
-mod tests;

@@ -3,10 +3,10 @@ use Rattle.std.specs.Prelude.{IfErr, IfSome, OnOk}
 use Rattle.std.proofs.lemmas.Result.{IfErr-weaker}
 use Rattle.script.specs.Language.{IsScript}
 use Rattle.script.specs.Meaning.{ScriptContent, script_content}
-use Rattle.mdriver.specs.Scripting.{ExplainsScript, HoldsScript}
-use Rattle.mdriver.specs.declared.fault.Fault.{Fault}
-use Rattle.mdriver.specs.declared.fault.Fault.TheVariants.{Write}
-use Rattle.mdriver.proofs.sim.sim.Goals as goal
+use Rattle.commands.specs.Scripting.{ExplainsScript, HoldsScript}
+use Rattle.commands.specs.declared.fault.Fault.{Fault}
+use Rattle.commands.specs.declared.fault.Fault.TheVariants.{Write}
+use Rattle.commands.proofs.sim_command.sim.Goals as goal
 
 -- an input that was read as a script holds one
 holds : (known : Option (List ℕ)) (text : List ℕ) (script : ScriptContent) → IfSome known (λ bytes. text ≡ bytes) → length text ≤ 1048576 → IsScript text script → IfSome known HoldsScript

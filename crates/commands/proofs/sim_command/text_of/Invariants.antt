@@ -1,6 +1,6 @@
 use Rattle.std.proofs.Common.{◌≤◌, vec_len}
 use Rattle.std.specs.Io.KnownBytes.{Consumes}
-use Rattle.mdriver.proofs.sim.text_of.Given as goal
+use Rattle.commands.proofs.sim_command.text_of.Given as goal
 
 -- what was taken of the input so far is the text
 abbrev pub invariant-loop-turn : goal.invariant-loop-turn

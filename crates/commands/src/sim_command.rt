@@ -2,13 +2,13 @@
 
 ghost use Rattle.std.specs.Prelude.{◌≡◌, ◌≤◌, ◌⊎◌, length, vec_len, IfErr, IfOk, IfSome, OnOk};
 ghost use Rattle.std.specs.Io.KnownBytes.{Keeps};
-ghost use Rattle.mdriver.specs.Scripting.{ExplainsInput, ExplainsScript, HoldsScript};
+ghost use Rattle.commands.specs.Scripting.{ExplainsInput, ExplainsScript, HoldsScript};
 
 use crate::fault::Fault;
-use crate::play::play;
 use script::read_script;
 use std::alloc::Global;
 use std::io::{ErrorKind, Read, Write};
+use world::play;
 
 /// The most bytes of a script: 1 MiB.
 const GREATEST_INPUT: usize = 1_048_576;
