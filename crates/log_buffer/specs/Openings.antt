@@ -9,6 +9,7 @@ use Rattle.log_buffer.specs.Reader.{AreReaders, IsAt, Reader}
 abbrev pub IsStart : Geometry → ℕ → Type 0
 IsStart g start = (start % 32 ≡ 0) × (start < max_position g)
 
+-- how many consumers a log may have
 abbrev pub IsConsumerCount : ℕ → Type 0
 IsConsumerCount consumers = (1 ≤ consumers) × (consumers ≤ 8)
 
