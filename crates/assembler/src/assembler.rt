@@ -3,7 +3,7 @@ ghost use Rattle.theory.specs.Assembly.{on_frame};
 ghost use Rattle.assembler.specs.Assembling.{held_with, is_dropped};
 
 use crate::fault::AssemblyError;
-use frames::{BEGIN, END, UNFRAGMENTED};
+use position::{BEGIN, END, UNFRAGMENTED};
 use std::alloc::{Allocator, Global};
 use std::marker::Model;
 

@@ -27,7 +27,10 @@ pub fn command<'a, R: Read, W: Write, E: Write>(
     ensures { result ≤ 2 }
 {
     if let [_, "--version"] = words {
-        return status(writeln!(output, "{VERSION}").map_err(|_| Fault::Write), errors);
+        return status(
+            writeln!(output, "{VERSION}").map_err(|_| Fault::Write),
+            errors,
+        );
     }
     match options(alloc, words) {
         Ok(Options::Sim) => status(sim(alloc, input, output), errors),

@@ -129,6 +129,6 @@ impl Lesson<Submitted, Hand> for Totals {
     ghost fact = { λ v items. AreSame (v.taken ++ items) v.known };
 }
 
-pub type Line = RuledArrayQueue<Submitted, Hand, InOrder>;
+pub type RuledQueue = RuledArrayQueue<Submitted, Hand, InOrder>;
 
-pub type Seat = Pass<Submitted, Hand>;
+pub type QueuePass = Pass<Submitted, Hand>;

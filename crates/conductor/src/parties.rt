@@ -1,12 +1,12 @@
 ghost use Rattle.std.specs.Prelude.{◌≡◌, ◌<◌};
 
-use crate::hand::Seat;
+use crate::hand::QueuePass;
 use std::marker::Model;
 
 /// One of the eight clients of a queue. It may go to a thread of its own, and ends in `finish`.
 pub struct Client {
     pub(crate) number: usize,
-    pub(crate) seat: Seat,
+    pub(crate) seat: QueuePass,
 }
 
 impl Model for Client {
@@ -33,7 +33,7 @@ impl Client {
 
 /// The one who takes the commands of a queue. It may go to a thread of its own, and ends in `finish`.
 pub struct Taker {
-    pub(crate) seat: Seat,
+    pub(crate) seat: QueuePass,
 }
 
 impl Model for Taker {

@@ -3,7 +3,7 @@ ghost use Rattle.conductor.specs.Rule.{AreThere};
 ghost use Rattle.conductor.specs.Parties.{AreFirst, AreFresh, AreLeft, WasFull};
 
 use crate::command::{Command, Submitted};
-use crate::hand::{Ends, Hears, Line, Opens, Seat, Submits, Takes, Tells, Totals};
+use crate::hand::{Ends, Hears, RuledQueue, Opens, QueuePass, Submits, Takes, Tells, Totals};
 use crate::parties::{Client, Taker};
 use std::alloc::{AllocError, Global};
 use std::marker::Model;
@@ -18,7 +18,7 @@ pub const CAPACITY: usize = 64;
 /// The queue, which clients and the taker share by reference.
 #[derive(Drop)]
 pub struct Conductor {
-    line: Line,
+    line: RuledQueue,
 }
 
 impl Model for Conductor {
@@ -42,7 +42,7 @@ impl Conductor {
         ensures clients { IfOk result (λ r. AreFirst r.0 8 r.1.items × AreFresh r.1.items) }
         ensures taker { IfOk result (λ r. r.2 ≡ record { queue = r.0; taken = []; heard = [] }) }
     {
-        let (line, mut seat) = Line::ruled(alloc, CAPACITY)?;
+        let (line, mut seat) = RuledQueue::ruled(alloc, CAPACITY)?;
         let mut clients = Vec::with_capacity(alloc, CLIENTS)?;
         for number in 0..CLIENTS {
             let client = Client {

@@ -4,13 +4,13 @@ ghost use Rattle.theory.specs.Wire.{spelling};
 ghost use Rattle.frames.specs.Frames.{wire};
 
 /// The flag of a DATA frame that begins a message.
-pub const BEGIN: u8 = 0x80;
+pub(crate) const BEGIN: u8 = 0x80;
 
 /// The flag of a DATA frame that ends a message.
-pub const END: u8 = 0x40;
+pub(crate) const END: u8 = 0x40;
 
 /// The flags of a DATA frame that is a whole message, begin and end, and of a padding.
-pub const UNFRAGMENTED: u8 = 0xc0;
+pub(crate) const UNFRAGMENTED: u8 = 0xc0;
 
 /// The fields that a DATA frame, a padding and a heartbeat have in common.
 #[derive(Clone, Copy, Debug, PartialEq, Eq)]
@@ -66,7 +66,7 @@ pub enum Frame<'a> {
     /// A message, or a part of one.
     Data {
         header: Header,
-        /// 0, [`BEGIN`], [`END`] or [`UNFRAGMENTED`].
+        /// 0x80 where a message begins, 0x40 where it ends, or both, or none.
         flags: u8,
         /// At most 65,472 bytes.
         payload: &'a [u8],

@@ -13,6 +13,6 @@ mod writing;
 
 pub use datagram::{check_datagram, one_reading, one_spelling};
 pub use fault::FrameError;
-pub use frame::{BEGIN, END, Frame, Header, Nak, Setup, Status, UNFRAGMENTED};
+pub use frame::{Frame, Header, Nak, Setup, Status};
 pub use reading::read_frame;
 pub use writing::write_frame;

@@ -8,8 +8,8 @@ ghost use Rattle.position.specs.declared.head.FrameKind.TheVariants.{Data};
 ghost use Rattle.rebuilder.specs.Kinds.{head_at, is_pad};
 ghost use Rattle.rebuilder.specs.Stored.{IsOfStream, stream_frame};
 
-use frames::{Frame, UNFRAGMENTED};
-use position::{FrameHead, FrameKind, align32};
+use frames::Frame;
+use position::{FrameHead, FrameKind, UNFRAGMENTED, align32};
 use std::alloc::{AllocError, Global};
 use std::marker::Model;
 

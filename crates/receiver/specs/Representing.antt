@@ -1,5 +1,5 @@
 -- Which receivers the code of a receiver shows: those of its numbers whose image holds what is held from the least consumer on.
-use Rattle.std.specs.Prelude.{◌≡◌, ◌↔◌, ℕ, ◌<◌, ◌≤◌, ℤ, ⊤, List, ◌++◌, map, length, slice_get, slice_index, slice_set, Option, None, Some}
+use Rattle.std.specs.Prelude.{◌≡◌, ◌↔◌, ℕ, ◌+◌, ◌^◌, ◌<◌, ◌≤◌, ℤ, ⊤, List, ◌++◌, map, length, slice_get, slice_index, slice_set, Option, None, Some}
 use Rattle.std.specs.List.{AllByRecursion}
 use Rattle.std.specs.Option.{ForSome}
 use Rattle.block.specs.Bytes.{with_front}
@@ -136,6 +136,11 @@ HasNoFrame (Some o) k = IsAtEnd o k
 abbrev pub PassesFrame : Option Opened → Receiver → ℕ → List ℕ → FrameHead → List ℕ → Core → Type 0
 PassesFrame None r k before head after new = ⊥
 PassesFrame (Some o) r k before head after new = ReadsPast o k before head after (λ p. Represents new (record r { image = Some p }))
+
+-- a consumer has passed a frame: it goes on by a unit at the least, and no position is above 2^55
+pub record GoesForward (before after : ℕ) : Type 0 where
+  pub forward : before + 32 ≤ after
+  pub low : after ≤ 2 ^ 55
 
 -- where the consumer with this number stands
 abbrev pub place_in : Option seen.Image → ℕ → ℕ

@@ -10,7 +10,7 @@ ghost use Rattle.theory.specs.Position.{IsGeometry};
 ghost use Rattle.theory.specs.Wire.{IsFrame, IsHeader};
 ghost use Rattle.frames.specs.Frames.{header_of, wire};
 ghost use Rattle.receiver.specs.Receiving.{Opened};
-ghost use Rattle.receiver.specs.Representing.{HearsBeat, Inserts, IsAtEnd, ReadsPast, RepresentsImage};
+ghost use Rattle.receiver.specs.Representing.{GoesForward, HearsBeat, Inserts, IsAtEnd, ReadsPast, RepresentsImage};
 
 use block::Block;
 use frames::{Frame, Header};
@@ -78,14 +78,11 @@ pub fn hear(image: &mut Image, header: &Header)
 pub fn read_past(image: &mut Image, consumer: usize, block: &mut Block) -> Option<FrameHead>
     requires consumer { consumer < length image.old.consumers }
     requires room { 65472 ≤ length block.old }
-    ensures none { IfNone result ((image.new ≡ image.old) × (block.new ≡ block.old)) }
-    ensures end { IfNone result ((o : Opened) → RepresentsImage image.old o → IsAtEnd o consumer) }
+    ensures none { IfNone result ((image.new ≡ image.old) × (block.new ≡ block.old) × ((o : Opened) → RepresentsImage image.old o → IsAtEnd o consumer)) }
     ensures read { IfSome result (λ head. (o : Opened) → RepresentsImage image.old o → ReadsPast o consumer block.old head block.new (RepresentsImage image.new)) }
     ensures length { length block.new ≡ length block.old }
-    ensures window { image.new.window ≡ image.old.window }
-    ensures consumers { length image.new.consumers ≡ length image.old.consumers }
-    ensures forward { OnSome result (slice_index image.old.consumers consumer + 32 ≤ slice_index image.new.consumers consumer) }
-    ensures low { OnSome result (slice_index image.new.consumers consumer ≤ 2 ^ 55) }
+    ensures shape { (image.new.window ≡ image.old.window) × (length image.new.consumers ≡ length image.old.consumers) }
+    ensures forward { OnSome result (GoesForward (slice_index image.old.consumers consumer) (slice_index image.new.consumers consumer)) }
     ensures payload { IfSome result (λ head. head.kind ≡ Data → (32 ≤ head.frame_length) × (head.frame_length ≤ 65504)) }
 {
     image.held_apart();

@@ -108,7 +108,7 @@ impl Model for ReceiverCore {
 
 impl ReceiverCore {
     ghost use Rattle.receiver.specs.Receiving.{BreaksOff, Hears, IfOurs, Meets, MeetsAll, MeetsFrame, MeetsHeartbeat, MeetsSetup, Receiver, listening, replied, replies, telling, ticked, told_after};
-    ghost use Rattle.receiver.specs.Representing.{Becomes, HasNoFrame, MeetsFirst, PassesFrame, Represents, place_in};
+    ghost use Rattle.receiver.specs.Representing.{Becomes, GoesForward, HasNoFrame, MeetsFirst, PassesFrame, Represents, place_in};
 
     /// A receiver without an image, for one to eight consumers. Its window is in bytes.
     pub fn new(
@@ -150,12 +150,10 @@ impl ReceiverCore {
     pub fn read_past(&mut self, consumer: usize, block: &mut Block) -> Option<FrameHead>
         requires consumer { consumer < self.old.consumers }
         requires room { 65472 ≤ length block.old }
-        ensures none { IfNone result ((self.new ≡ self.old) × (block.new ≡ block.old)) }
-        ensures end { IfNone result ((r : Receiver) → Represents self.old r → HasNoFrame r.image consumer) }
+        ensures none { IfNone result ((self.new ≡ self.old) × (block.new ≡ block.old) × ((r : Receiver) → Represents self.old r → HasNoFrame r.image consumer)) }
         ensures read { IfSome result (λ head. (r : Receiver) → Represents self.old r → PassesFrame r.image r consumer block.old head block.new self.new) }
         ensures length { length block.new ≡ length block.old }
-        ensures forward { OnSome result (place_in self.old.image consumer + 32 ≤ place_in self.new.image consumer) }
-        ensures low { OnSome result (place_in self.new.image consumer ≤ 2 ^ 55) }
+        ensures forward { OnSome result (GoesForward (place_in self.old.image consumer) (place_in self.new.image consumer)) }
         ensures payload { IfSome result (λ head. head.kind ≡ Data → (32 ≤ head.frame_length) × (head.frame_length ≤ 65504)) }
         ensures consumers { self.new.consumers ≡ self.old.consumers }
     {

@@ -75,7 +75,7 @@ fn assemble(
 impl Subscriber {
     ghost use Rattle.receiver.specs.Polling.{Polls, TellsPositions};
     ghost use Rattle.receiver.specs.Receiving.{BreaksOff, Hears, Receiver, replied, replies, ticked};
-    ghost use Rattle.receiver.specs.Representing.{HasNoFrame, Represents, place_in};
+    ghost use Rattle.receiver.specs.Representing.{GoesForward, HasNoFrame, Represents, place_in};
     ghost use Rattle.receiver.specs.Subscribing.{Becomes, HearsFrame, answer_of, RefusesFrame, RepresentsSubscriber};
 
     /// A subscriber to what this core will receive: one that has no image yet and will have one consumer. Messages are
@@ -139,8 +139,7 @@ impl Subscriber {
         ensures heard { IfSome result (λ step. IfOk step (λ m. (r : Receiver) → Represents self.old.core r → HearsFrame r.image r self.old.assembler (option_map (λ x. x.bytes.items) m) self.new)) }
         ensures refused { IfSome result (λ step. IfErr step (λ fault. (r : Receiver) → Represents self.old.core r → RefusesFrame r.image r self.old.assembler fault self.new)) }
         ensures greatest { self.new.assembler.greatest ≡ self.old.assembler.greatest }
-        ensures forward { OnSome result (place_in self.old.core.image 0 + 32 ≤ place_in self.new.core.image 0) }
-        ensures low { OnSome result (place_in self.new.core.image 0 ≤ 2 ^ 55) }
+        ensures forward { OnSome result (GoesForward (place_in self.old.core.image 0) (place_in self.new.core.image 0)) }
     {
         match self.core.read_past(0, &mut self.block) {
             None => None,

@@ -1,7 +1,7 @@
 use frames::{
-    Frame, FrameError, Header, Nak, Setup, Status, UNFRAGMENTED, check_datagram, read_frame,
-    write_frame,
+    Frame, FrameError, Header, Nak, Setup, Status, check_datagram, read_frame, write_frame,
 };
+use position::UNFRAGMENTED;
 use std::test::*;
 
 const SETUP: [u8; 40] = [

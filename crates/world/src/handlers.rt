@@ -217,7 +217,12 @@ impl Simulation {
         Ok(())
     }
 
-    fn claim(&mut self, publisher: PartyNumber, size: u64, lines: &mut Vec<Line>) -> Result<(), AllocError>
+    fn claim(
+        &mut self,
+        publisher: PartyNumber,
+        size: u64,
+        lines: &mut Vec<Line>,
+    ) -> Result<(), AllocError>
         ensures { OnOk result (IsAnswered self.old (commands.Claim publisher.number size) lines.old.items lines.new.items self.new) }
     {
         if size > u64::from(self.log.geometry().max_payload()) {
@@ -313,7 +318,12 @@ impl Simulation {
         tell(lines, &outcomes)
     }
 
-    fn tick(&mut self, receiver: PartyNumber, now: u64, lines: &mut Vec<Line>) -> Result<(), AllocError>
+    fn tick(
+        &mut self,
+        receiver: PartyNumber,
+        now: u64,
+        lines: &mut Vec<Line>,
+    ) -> Result<(), AllocError>
         ensures { OnOk result (IsAnswered self.old (commands.Tick receiver.number now) lines.old.items lines.new.items self.new) }
     {
         let replies = self.subscribers[receiver.number].tick(now);

@@ -179,7 +179,12 @@ pub fn offer_by(
 }
 
 /// Claims a range for a message of so many bytes, and says what came of it: a claim of the publisher with this number.
-pub fn claim_by(log: &mut LogState, slots: &mut Vec<PublisherSlot>, number: usize, size: u32) -> Line
+pub fn claim_by(
+    log: &mut LogState,
+    slots: &mut Vec<PublisherSlot>,
+    number: usize,
+    size: u32,
+) -> Line
     requires eight { vec_len slots.old ≡ 8 }
     requires number { number < 8 }
     requires each { ArePublisherSlots log.old 0 slots.old.items }

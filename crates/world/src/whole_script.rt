@@ -105,7 +105,9 @@ fn free(publishers: &mut Vec<Publisher>, slots: &mut Vec<PublisherSlot>)
     ensures eight { vec_len slots.new ≡ 8 }
 {
     while !publishers.is_empty() {
-        slots.push(PublisherSlot::Free(publishers.remove(0))).unwrap();
+        slots
+            .push(PublisherSlot::Free(publishers.remove(0)))
+            .unwrap();
     }
 }
 
