@@ -10,7 +10,7 @@ use Rattle.conductor.specs.declared.command.Submitted.{Submitted}
 use Rattle.conductor.specs.declared.hand.Hand.{Hand}
 use Rattle.conductor.specs.Commands.{of, as_submitted, Begins}
 use Rattle.conductor.specs.Hands.{nobody, first_taker, after_opening, new_client, teller, after_hearing, after_end, after_submitting, after_taking}
-use Rattle.conductor.specs.Rule.{AreThere, HoldsLastOf, AreSame, FitsClient, FitsTaker, Fits, Kept}
+use Rattle.conductor.specs.Rule.{AreThere, HoldsLastOf, AreSame, FitsClient, FitsTaker, Fits, IsAccounted}
 use Rattle.conductor.proofs.Seats.{each_set, each_new}
 use Rattle.conductor.proofs.Submitting.{of-append, of-same, of-not, of-own, of-other, goes_on, all_reports}
 
@@ -20,7 +20,7 @@ never e = absurd (true≢false (sym e))
 fits_nobody : (reader made left : ℕ) (seat : ℕ → ℕ) (sent : ℕ → List Command) (taken : List Submitted) (port : ℕ) → Fits reader made left seat sent taken port nobody
 fits_nobody reader made left seat sent taken port = record { client = λ e. never e; taker = λ e. never e; told = (sent 0, refl); heard = tt }
 
-pub begins : Kept [] (first_taker ∷ [])
+pub begins : IsAccounted [] (first_taker ∷ [])
 begins = record {
   reader = 0;
   made = 0;
@@ -49,7 +49,7 @@ grown_else : (sent : ℕ → List Command) (m : Submitted) (p : ℕ) → m.clien
 unfolding grown
 grown_else sent m p ne = ap (λ l. sent p ++ l) (of-not p m [] ne) ∙ append-nil (sent p)
 
-pub submits : (n port : ℕ) (v : Hand) (m : Submitted) → v.submits ≡ true → m.client ≡ v.client → Pushes Kept n port v m (λ w. w ≡ after_submitting v m)
+pub submits : (n port : ℕ) (v : Hand) (m : Submitted) → v.submits ≡ true → m.client ≡ v.client → Pushes IsAccounted n port v m (λ w. w ≡ after_submitting v m)
 unfolding grown
 submits n port v m may from items views room h at =
     let mine = h.each port v at in
@@ -89,12 +89,12 @@ submits n port v m may from items views room h at =
       refl,
     )
 
-pub last : (port : ℕ) (v : Hand) → v.submits ≡ true → Learns Kept port v (λ items. HoldsLastOf v.client v.put items)
+pub last : (port : ℕ) (v : Hand) → v.submits ≡ true → Learns IsAccounted port v (λ items. HoldsLastOf v.client v.put items)
 last port v may items views h at = record { before = h.taken; parts = ((h.each port v at).client may).all ∙ sym (h.all v.client) }
 
 -- ---- a command is taken
 
-pub takes : (port : ℕ) (v : Hand) → v.takes ≡ true → Pops Kept port v (λ m w. w ≡ after_taking v m)
+pub takes : (port : ℕ) (v : Hand) → v.takes ≡ true → Pops IsAccounted port v (λ m w. w ≡ after_taking v m)
 takes port v may m items views h at =
     let mine = h.each port v at in
     let own : FitsTaker h.reader h.made h.left h.sent h.taken port v = mine.taker may in
@@ -122,13 +122,13 @@ takes port v may m items views h at =
       refl,
     )
 
-pub there : (port : ℕ) (v : Hand) → v.takes ≡ true → Learns Kept port v (λ items. AreThere v.heard (v.taken ++ items))
+pub there : (port : ℕ) (v : Hand) → v.takes ≡ true → Learns IsAccounted port v (λ items. AreThere v.heard (v.taken ++ items))
 there port v may items views h at =
     let mine = h.each port v at in
     let own = mine.taker may in
     all_reports h.sent (λ p. of p (v.taken ++ items)) v.heard (λ p xs b. subst (λ (x : List Command). Begins xs x) (sym (h.all p) ∙ ap (λ l. of p (l ++ items)) (sym own.all)) b) mine.heard
 
-pub totals : (port : ℕ) (v : Hand) → v.takes ≡ true → v.left ≡ 0 → Learns Kept port v (λ items. AreSame (v.taken ++ items) v.known)
+pub totals : (port : ℕ) (v : Hand) → v.takes ≡ true → v.left ≡ 0 → Learns IsAccounted port v (λ items. AreSame (v.taken ++ items) v.known)
 totals port v may none items views h at = λ p.
     let own = (h.each port v at).taker may in
     let zero_left : h.left ≤ p = let l = own.left_now in omega (arith, l, none) in
@@ -139,7 +139,7 @@ totals port v may none items views h at = λ p.
 seated : (ℕ → ℕ) → ℕ → ℕ → ℕ → ℕ
 seated seat made port p = if nat_eq p made then port else seat p
 
-pub opens : (port : ℕ) (v : Hand) → v.takes ≡ true → v.made < v.left → Forks Kept port v (after_opening v) (new_client v)
+pub opens : (port : ℕ) (v : Hand) → v.takes ≡ true → v.made < v.left → Forks IsAccounted port v (after_opening v) (new_client v)
 unfolding seated
 opens port v may room items views h at =
     let mine = h.each port v at in
@@ -182,7 +182,7 @@ opens port v may room items views h at =
       each = each_new F vs (new_client v) fresh (each_set F views port (after_opening v) now others);
     }
 
-pub tells : (port : ℕ) (v : Hand) → Forks Kept port v v (teller v)
+pub tells : (port : ℕ) (v : Hand) → Forks IsAccounted port v v (teller v)
 tells port v items views h at =
     let F : ℕ → Hand → Type 0 = Fits h.reader h.made h.left h.seat h.sent h.taken in
     let mine = h.each port v at in
@@ -203,7 +203,7 @@ tells port v items views h at =
 was_there : (views : List Hand) (port other : ℕ) (both w : Hand) → (other ≡ port → ⊥) → get_elem? (set views port both) other ≡ some w → get_elem? views other ≡ some w
 was_there views port other both w apart e = ⊎_elim (λ (x : (other ≡ port) × (both ≡ w)). absurd (apart x.0)) (λ x. x.1) (at_set views port other both w e)
 
-pub hears : (port : ℕ) (v : Hand) (other : ℕ) (w : Hand) → Merges Kept port v other w (after_hearing v w) nobody
+pub hears : (port : ℕ) (v : Hand) (other : ℕ) (w : Hand) → Merges IsAccounted port v other w (after_hearing v w) nobody
 hears port v other w items views h at apart at' =
     let F : ℕ → Hand → Type 0 = Fits h.reader h.made h.left h.seat h.sent h.taken in
     let mine = h.each port v at in
@@ -242,7 +242,7 @@ pub unknown_then : (left : ℕ) (known : List Submitted) (q : ℕ) (put : List C
 unknown_then left known q put is unknown p lt =
     of-append p known (as_submitted q put) ∙ ap (λ l. l ++ of p (as_submitted q put)) (unknown p (omega (arith, lt, is))) ∙ of-other q p put (λ e. absurd (omega (arith, lt, e)))
 
-pub ends : (port : ℕ) (v : Hand) (other : ℕ) (w : Hand) → v.takes ≡ true → w.submits ≡ true → v.left ≡ w.client + 1 → Merges Kept port v other w (after_end v w) nobody
+pub ends : (port : ℕ) (v : Hand) (other : ℕ) (w : Hand) → v.takes ≡ true → w.submits ≡ true → v.left ≡ w.client + 1 → Merges IsAccounted port v other w (after_end v w) nobody
 ends port v other w may was next items views h at apart at' =
     let mine = h.each port v at in
     let own : FitsTaker h.reader h.made h.left h.sent h.taken port v = mine.taker may in

@@ -45,7 +45,7 @@ pub record Fits (reader made left : ℕ) (seat : ℕ → ℕ) (sent : ℕ → Li
   pub heard : AllByRecursion (λ t. Begins t.commands (sent t.client)) v.heard
 
 -- of each client, what was taken and then what the queue holds is what it submitted
-pub record Kept (items : List Submitted) (views : List Hand) : Type 0 where
+pub record IsAccounted (items : List Submitted) (views : List Hand) : Type 0 where
   pub reader : ℕ
   pub made : ℕ
   pub left : ℕ

@@ -35,9 +35,9 @@ pub struct InOrder;
 
 impl Protocol<Submitted, Hand> for InOrder {
     ghost use Rattle.conductor.specs.Hands.{first_taker};
-    ghost use Rattle.conductor.specs.Rule.{Kept};
+    ghost use Rattle.conductor.specs.Rule.{IsAccounted};
 
-    ghost holds = { Kept };
+    ghost holds = { IsAccounted };
 
     ghost first = { first_taker };
 }

@@ -11,7 +11,7 @@ use Rattle.frames.specs.declared.fault.FrameError.TheVariants.{Short, Length, Fl
 use Rattle.frames.specs.declared.frame.Frame.{Frame}
 use Rattle.frames.specs.Fields.{u16_at, u32_at}
 use Rattle.frames.specs.Order.{tests, first, first_fault, is_padded}
-use Rattle.frames.specs.Reading.{Gives, nak_at, status_at, setup_at, pad_at, heartbeat_at, data_at, data_or_heartbeat_at, kind_at, reading}
+use Rattle.frames.specs.Reading.{ReturnsReading, nak_at, status_at, setup_at, pad_at, heartbeat_at, data_at, data_or_heartbeat_at, kind_at, reading}
 
 abbrev Out : Type 0
 Out = Result (Wire × ℕ) FrameError
@@ -156,6 +156,6 @@ reading_order bytes =
           ]
     ]
 
-pub is_first : (bytes : List ℕ) (r : Result (Frame × ℕ) FrameError) → Gives r (reading bytes) → result_err r ≡ first_fault bytes
+pub is_first : (bytes : List ℕ) (r : Result (Frame × ℕ) FrameError) → ReturnsReading r (reading bytes) → result_err r ≡ first_fault bytes
 is_first bytes (Ok f) given = sym (ap result_err given) ∙ reading_order bytes
 is_first bytes (Err e) given = sym (ap result_err given) ∙ reading_order bytes

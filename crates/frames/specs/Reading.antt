@@ -11,9 +11,9 @@ use Rattle.frames.specs.Fields.{u16_at, u32_at, i32_at, i64_at}
 use Rattle.frames.specs.Order.{is_data_flags, is_padded}
 
 -- what a function returned is what reading gives
-abbrev pub Gives : Result (Frame × ℕ) FrameError → Result (Wire × ℕ) FrameError → Type 0
-Gives (Ok found) read = read ≡ Ok (wire found.0, found.1)
-Gives (Err fault) read = read ≡ Err fault
+abbrev pub ReturnsReading : Result (Frame × ℕ) FrameError → Result (Wire × ℕ) FrameError → Type 0
+ReturnsReading (Ok found) read = read ≡ Ok (wire found.0, found.1)
+ReturnsReading (Err fault) read = read ≡ Err fault
 
 unfoldable pub header_at : List ℕ → meant.Header
 header_at bytes = record { term_offset = u32_at bytes 8; session = i32_at bytes 12; stream = i32_at bytes 16; term_id = i32_at bytes 20; reserved = i64_at bytes 24 }

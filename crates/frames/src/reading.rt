@@ -8,7 +8,7 @@ ghost use Rattle.frames.specs.Frames.{wire, header_of, nak_of, status_of, setup_
 ghost use Rattle.frames.specs.Fields as field;
 ghost use Rattle.frames.specs.Order.{first_fault, is_data_flags};
 ghost use Rattle.frames.specs.Reading as list;
-ghost use Rattle.frames.specs.Reading.{Gives};
+ghost use Rattle.frames.specs.Reading.{ReturnsReading};
 
 use crate::fault::FrameError;
 use crate::fields::{i32_at, i64_at, u16_at, u32_at};
@@ -43,7 +43,7 @@ pub fn read_frame(bytes: &[u8]) -> Result<(Frame<'_>, usize), FrameError>
 
 #[tactic(auto, unfolding(crate::specs::Reading::reading))]
 fn read(bytes: &[u8]) -> Result<(Frame<'_>, usize), FrameError>
-    ensures { Gives result (list.reading bytes.now) }
+    ensures { ReturnsReading result (list.reading bytes.now) }
 {
     if bytes.len() < FRONT {
         return Err(FrameError::Short);
@@ -57,7 +57,7 @@ fn read(bytes: &[u8]) -> Result<(Frame<'_>, usize), FrameError>
 #[tactic(auto, unfolding(crate::specs::Reading::kind_at))]
 fn read_kind(bytes: &[u8], kind: u16) -> Result<(Frame<'_>, usize), FrameError>
     requires { 8 ≤ length bytes.now }
-    ensures { Gives result (list.kind_at bytes.now kind) }
+    ensures { ReturnsReading result (list.kind_at bytes.now kind) }
 {
     match kind {
         0 => read_pad(bytes),
@@ -72,7 +72,7 @@ fn read_kind(bytes: &[u8], kind: u16) -> Result<(Frame<'_>, usize), FrameError>
 #[tactic(auto, unfolding(crate::specs::Reading::pad_at))]
 fn read_pad(bytes: &[u8]) -> Result<(Frame<'_>, usize), FrameError>
     requires { 8 ≤ length bytes.now }
-    ensures { Gives result (list.pad_at bytes.now) }
+    ensures { ReturnsReading result (list.pad_at bytes.now) }
 {
     if bytes.len() < HEADER {
         return Err(FrameError::Short);
@@ -103,7 +103,7 @@ fn read_pad(bytes: &[u8]) -> Result<(Frame<'_>, usize), FrameError>
 #[tactic(auto, unfolding(crate::specs::Reading::data_or_heartbeat_at))]
 fn read_data_or_heartbeat(bytes: &[u8]) -> Result<(Frame<'_>, usize), FrameError>
     requires { 8 ≤ length bytes.now }
-    ensures { Gives result (list.data_or_heartbeat_at bytes.now) }
+    ensures { ReturnsReading result (list.data_or_heartbeat_at bytes.now) }
 {
     if bytes.len() < HEADER {
         return Err(FrameError::Short);
@@ -121,7 +121,7 @@ fn read_data_or_heartbeat(bytes: &[u8]) -> Result<(Frame<'_>, usize), FrameError
 #[tactic(auto, unfolding(crate::specs::Reading::heartbeat_at))]
 fn read_heartbeat(bytes: &[u8]) -> Result<(Frame<'_>, usize), FrameError>
     requires { 32 ≤ length bytes.now }
-    ensures { Gives result (list.heartbeat_at bytes.now) }
+    ensures { ReturnsReading result (list.heartbeat_at bytes.now) }
 {
     if bytes[5] != UNFRAGMENTED {
         return Err(FrameError::Flags);
@@ -141,7 +141,7 @@ fn read_data(bytes: &[u8], frame_length: u32) -> Result<(Frame<'_>, usize), Fram
     requires header { 32 ≤ length bytes.now }
     requires least { 32 ≤ frame_length }
     requires greatest { frame_length ≤ 65504 }
-    ensures { Gives result (list.data_at bytes.now frame_length) }
+    ensures { ReturnsReading result (list.data_at bytes.now frame_length) }
 {
     let flags = bytes[5];
     if !is_data_flags(flags) {
@@ -177,7 +177,7 @@ fn read_data(bytes: &[u8], frame_length: u32) -> Result<(Frame<'_>, usize), Fram
 #[tactic(auto, unfolding(crate::specs::Reading::nak_at))]
 fn read_nak(bytes: &[u8]) -> Result<(Frame<'_>, usize), FrameError>
     requires { 8 ≤ length bytes.now }
-    ensures { Gives result (list.nak_at bytes.now) }
+    ensures { ReturnsReading result (list.nak_at bytes.now) }
 {
     if bytes.len() < NAK {
         return Err(FrameError::Short);
@@ -194,7 +194,7 @@ fn read_nak(bytes: &[u8]) -> Result<(Frame<'_>, usize), FrameError>
 #[tactic(auto, unfolding(crate::specs::Reading::status_at))]
 fn read_status(bytes: &[u8]) -> Result<(Frame<'_>, usize), FrameError>
     requires { 8 ≤ length bytes.now }
-    ensures { Gives result (list.status_at bytes.now) }
+    ensures { ReturnsReading result (list.status_at bytes.now) }
 {
     if bytes.len() < STATUS {
         return Err(FrameError::Short);
@@ -219,7 +219,7 @@ fn read_status(bytes: &[u8]) -> Result<(Frame<'_>, usize), FrameError>
 #[tactic(auto, unfolding(crate::specs::Reading::setup_at))]
 fn read_setup(bytes: &[u8]) -> Result<(Frame<'_>, usize), FrameError>
     requires { 8 ≤ length bytes.now }
-    ensures { Gives result (list.setup_at bytes.now) }
+    ensures { ReturnsReading result (list.setup_at bytes.now) }
 {
     if bytes.len() < SETUP {
         return Err(FrameError::Short);

@@ -21,7 +21,7 @@ use Rattle.theory.proofs.Tables.{all_index, got_set, got_unset, sum_set}
 use Rattle.raw_tails.specs.Tails.{Tails, behind}
 use Rattle.raw_tails.specs.Tails.{added as tails_added, turned as tails_turned}
 use Rattle.term_buffer.specs.Kept.{blank_for, claim_of, cuts_for}
-use Rattle.log_buffer.specs.Log.{Cleans, IsLeast, Log, added, armed_count, clean_end, offset_of, term_of, turned, with_claim}
+use Rattle.log_buffer.specs.Log.{Cleans, IsLeastOf, Log, added, armed_count, clean_end, offset_of, term_of, turned, with_claim}
 use Rattle.log_buffer.specs.Reader.{IsAt, Moves, Reader, before_move}
 use Rattle.log_buffer.specs.States.{AreUnset, IsState, IsUnset, IsUsed, armed_on}
 use Rattle.log_buffer.proofs.Armed.{count_disarmed, count_most, on_disarmed, on_left, on_most, on_other, room_armed, room_fewer, room_left, room_taken, small_claim}
@@ -584,7 +584,7 @@ kept_entry l t n place e d draft k got x = record {
 
 -- ---- cleaning
 
-pub kept_clean : (l m : Log) (t : Tails) (n lowest : ℕ) → IsState l t n → Cleans l (l.cleaned + 8) m → IsLeast l.consumers lowest → l.cleaned + 8 + term_of l ≤ lowest → lowest ≤ l.tail → IsState m t n
+pub kept_clean : (l m : Log) (t : Tails) (n lowest : ℕ) → IsState l t n → Cleans l (l.cleaned + 8) m → IsLeastOf l.consumers lowest → l.cleaned + 8 + term_of l ≤ lowest → lowest ≤ l.tail → IsState m t n
 kept_clean l m t n lowest k x least far near =
     subst (λ y. IsState y t n) (sym x.new_is) (record {
       log = record {
@@ -677,7 +677,7 @@ kept_clean l m t n lowest k x least far near =
     cleaner limit claim cleaned term h = omega arith
 
 -- a reader stands where it did
-pub at_clean : (l m : Log) (t : Tails) (n lowest : ℕ) (r : Reader) → IsState l t n → Cleans l (l.cleaned + 8) m → IsLeast l.consumers lowest → l.cleaned + 8 + term_of l ≤ lowest → lowest ≤ l.tail → IsAt l r → IsAt m r
+pub at_clean : (l m : Log) (t : Tails) (n lowest : ℕ) (r : Reader) → IsState l t n → Cleans l (l.cleaned + 8) m → IsLeastOf l.consumers lowest → l.cleaned + 8 + term_of l ≤ lowest → lowest ≤ l.tail → IsAt l r → IsAt m r
 at_clean l m t n lowest r k x least far near h =
     at_kept l m r consumers
     (λ s at a. among_behind (term_of l) l.first m.first x.past m.entries s x.tiles (all_front IsEntry x.past m.entries (subst (AllByRecursion IsEntry) x.parts k.log.entries)) (omega (arith, close, here, start, begun, low, far, at)) (subst (λ es. Among s (committed es)) x.parts a))

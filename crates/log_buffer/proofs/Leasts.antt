@@ -15,7 +15,7 @@ use Rattle.raw_tails.specs.Tails.{Tails}
 use Rattle.log_buffer.specs.Limits.{least}
 use Rattle.term_buffer.specs.Kept as kept
 use Rattle.term_buffer.specs.Kept.{Kept}
-use Rattle.log_buffer.specs.Log.{Cleans, IsLeast, IsLog, Log, clean_end, term_of}
+use Rattle.log_buffer.specs.Log.{Cleans, IsLeastOf, IsLog, Log, clean_end, term_of}
 use Rattle.log_buffer.specs.States.{IsState, log_of}
 use Rattle.log_buffer.proofs.Chains.{first_whole}
 
@@ -38,7 +38,7 @@ consumer_small l i k h = let low : slice_index l.consumers i ≤ l.tail = all_in
 pub least_all : (P : ℕ → Type 0) (ps : List ℕ) → 0 < length ps → AllByRecursion P ps → P (least ps)
 least_all P ps some all = fold_keeps P (slice_index ps 0) ps (all_index P ps 0 some all) all
 
-pub least_lowest : (ps : List ℕ) → IsLeast ps (least ps)
+pub least_lowest : (ps : List ℕ) → IsLeastOf ps (least ps)
 least_lowest ps = fold_each (slice_index ps 0) ps
 
 pub least_unit : (l : Log) → IsLog l → 0 < length l.consumers → least l.consumers % 32 ≡ 0
@@ -58,7 +58,7 @@ pub record Clean (l : Log) (lowest : ℕ) : Type 0 where
   pub below : l.cleaned < l.tail
   pub committed : (e : Entry) (es : List Entry) → l.entries ≡ e ∷ es → l.cleaned ≡ l.first → is_whole e ≡ true
 
-pub cleanable : (l : Log) (t : Tails) (n lowest : ℕ) → IsState l t n → IsLeast l.consumers lowest → l.cleaned + 8 ≤ clean_end l lowest → Clean l lowest
+pub cleanable : (l : Log) (t : Tails) (n lowest : ℕ) → IsState l t n → IsLeastOf l.consumers lowest → l.cleaned + 8 ≤ clean_end l lowest → Clean l lowest
 cleanable l t n lowest k lows below = record {
   far = far;
   near = omega (arith, first_low, first_near);

@@ -5,7 +5,7 @@ use Rattle.theory.specs.Entry.{Entry}
 use Rattle.theory.proofs.Frames.{Kept-push}
 use Rattle.raw_tails.specs.Tails.{Tails}
 use Rattle.log_buffer.specs.Leaves.{Leaves, LeavesOtherClaims, LeavesOtherReaders}
-use Rattle.log_buffer.specs.Log.{Cleans, IsLeast, IsLog, Log, term_of}
+use Rattle.log_buffer.specs.Log.{Cleans, IsLeastOf, IsLog, Log, term_of}
 use Rattle.log_buffer.specs.Reader.{IsAt, Moves, Reader, before_move}
 use Rattle.log_buffer.specs.States.{IsState}
 use Rattle.log_buffer.proofs.Chains.{among_set}
@@ -107,7 +107,7 @@ leaves_entry l t n place e d draft k got becomes = record {
 }
 
 -- a word is cleaned
-pub leaves_clean : (l m : Log) (t : Tails) (n lowest : ℕ) → IsState l t n → Cleans l (l.cleaned + 8) m → IsLeast l.consumers lowest → l.cleaned + 8 + term_of l ≤ lowest → lowest ≤ l.tail → Leaves l m
+pub leaves_clean : (l m : Log) (t : Tails) (n lowest : ℕ) → IsState l t n → Cleans l (l.cleaned + 8) m → IsLeastOf l.consumers lowest → l.cleaned + 8 + term_of l ≤ lowest → lowest ≤ l.tail → Leaves l m
 leaves_clean l m t n lowest k cleans least far near = record {
   was = k.log;
   legal = (kept_clean l m t n lowest k cleans least far near).log;

@@ -224,8 +224,8 @@ with_padding l by frame_length = with_entry l (padded l.tail by frame_length) (a
 
 -- ---- cleaning
 
-abbrev pub IsLeast : List ℕ → ℕ → Type 0
-IsLeast positions least = AllByRecursion (λ p. least ≤ p) positions
+abbrev pub IsLeastOf : List ℕ → ℕ → Type 0
+IsLeastOf positions least = AllByRecursion (λ p. least ≤ p) positions
 
 -- how far bytes may be cleaned where no consumer is below this position
 abbrev pub clean_end : Log → ℕ → ℕ

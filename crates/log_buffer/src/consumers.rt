@@ -4,7 +4,7 @@ ghost use Rattle.std.specs.Prelude.{◌≡◌, ◌+◌, ◌*◌, ◌%◌, ◌<�
 ghost use Rattle.theory.specs.Position.{greatest_claim};
 ghost use Rattle.log_buffer.specs.Leaves.{Leaves};
 ghost use Rattle.log_buffer.specs.Limits.{least};
-ghost use Rattle.log_buffer.specs.Log.{Cleans, IsLeast, IsLog, clean_end, term_of};
+ghost use Rattle.log_buffer.specs.Log.{Cleans, IsLeastOf, IsLog, clean_end, term_of};
 
 use crate::state::LogState;
 use crate::word_calls::Limit;
@@ -30,7 +30,7 @@ impl LogState {
     /// The least position of the consumers, each loaded once.
     pub fn least_consumer(&self) -> u64
         ensures value { result ≡ least self.now.consumers }
-        ensures lowest { IsLeast self.now.consumers result }
+        ensures lowest { IsLeastOf self.now.consumers result }
         ensures unit { result % 32 ≡ 0 }
         ensures small { result ≤ 2 ^ 55 }
         ensures readable { self.now.cleaned ≤ clean_end self.now result }
@@ -56,7 +56,7 @@ impl LogState {
     /// Stores zero in the next word to be cleaned, and forgets the entry that begins there. No consumer is below
     /// `lowest`.
     pub fn clean(&mut self, lowest: u64)
-        requires lowest { IsLeast self.old.consumers lowest }
+        requires lowest { IsLeastOf self.old.consumers lowest }
         requires below { self.old.cleaned + 8 ≤ clean_end self.old lowest }
         ensures cleaned { Cleans self.old (self.old.cleaned + 8) self.new }
         ensures leaves { Leaves self.old self.new }

@@ -20,6 +20,6 @@ pub use fault::LogError;
 pub use passes::{CONSUMERS, Keeper, LogReader, MOST_STEPS, Parts, Publisher};
 pub use raw_tails::RawTail;
 pub use state::LogState;
-pub use step::Step;
+pub use step::WordStep;
 pub use term_buffer::{Claimed, PUBLISHERS};
 pub use word_calls::{Added, Limit};

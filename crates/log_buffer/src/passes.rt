@@ -4,7 +4,7 @@ ghost use Rattle.log_buffer.specs.Openings.{ArePasses};
 ghost use Rattle.log_buffer.specs.Passes.{AreAll, HaveBlocks};
 ghost use Rattle.log_buffer.specs.Reader.{AreReaders};
 
-use crate::step::Step;
+use crate::step::WordStep;
 use block::Block;
 use std::alloc::{AllocError, Global};
 use std::marker::Model;
@@ -21,7 +21,7 @@ pub const MOST_STEPS: usize = 7;
 pub struct Publisher {
     number: usize,
     count: usize,
-    steps: [Step; MOST_STEPS],
+    steps: [WordStep; MOST_STEPS],
     block: Block,
 }
 
@@ -47,7 +47,7 @@ impl Publisher {
         Publisher {
             number,
             count: 0,
-            steps: [Step::Count(0); MOST_STEPS],
+            steps: [WordStep::Count(0); MOST_STEPS],
             block,
         }
     }
@@ -84,7 +84,7 @@ impl Publisher {
     }
 
     /// Notes a word call.
-    pub(crate) fn note(&mut self, step: Step)
+    pub(crate) fn note(&mut self, step: WordStep)
         requires { length self.old.steps < 7 }
         ensures { self.new ≡ with_step self.old step }
     {

@@ -1,6 +1,6 @@
 /// A word call of a publisher, and what it saw.
 #[derive(Clone, Copy, Debug, PartialEq, Eq)]
-pub enum Step {
+pub enum WordStep {
     /// The limit word was loaded.
     Limit(u64),
     /// The active count was loaded.

@@ -7,11 +7,11 @@ ghost use Rattle.log_buffer.specs.Leaves.{Leaves};
 ghost use Rattle.log_buffer.specs.Log.{IsFinished, IsLog, after_add, counted, exchanged, limit_word_of, looked, offset_of, raw_tail, term_of};
 ghost use Rattle.log_buffer.specs.Passes.{with_step};
 ghost use Rattle.log_buffer.specs.Shown.{GivesClaim, ShowsLimit, ShowsTail, ShowsTailOf};
-ghost use Rattle.log_buffer.specs.declared.step.Step.TheVariants as steps;
+ghost use Rattle.log_buffer.specs.declared.step.WordStep.TheVariants as steps;
 
 use crate::passes::Publisher;
 use crate::state::LogState;
-use crate::step::Step;
+use crate::step::WordStep;
 use position::partition_of;
 use raw_tails::RawTail;
 use term_buffer::Claimed;
@@ -46,7 +46,7 @@ impl LogState {
         ensures shown { ShowsLimit self.now }
         ensures legal { IsLog self.now }
     {
-        publisher.note(Step::Limit(self.limit_word()));
+        publisher.note(WordStep::Limit(self.limit_word()));
         Limit {
             position: self.limit,
             connected: self.connected,
@@ -70,7 +70,7 @@ impl LogState {
         ensures step { publisher.new ≡ with_step publisher.old (steps.Count self.now.active) }
     {
         let count = self.tails.active();
-        publisher.note(Step::Count(count));
+        publisher.note(WordStep::Count(count));
         count
     }
 
@@ -88,7 +88,7 @@ impl LogState {
     {
         let partition = partition_of(count);
         let tail = self.tails.tail(partition);
-        publisher.note(Step::Tail {
+        publisher.note(WordStep::Tail {
             partition,
             word: tail.word(),
         });
@@ -117,7 +117,7 @@ impl LogState {
         let length = self.buffer.geometry().term_length();
         let covered = self.buffer.geometry().framed_length(size);
         let before = self.tails.add(partition, covered);
-        publisher.note(Step::Addition {
+        publisher.note(WordStep::Addition {
             partition,
             taken: covered,
             word: before.word(),
@@ -165,7 +165,7 @@ impl LogState {
     {
         let partition = partition_of(count + 1);
         let tail = self.tails.tail(partition);
-        publisher.note(Step::NextTail {
+        publisher.note(WordStep::NextTail {
             partition,
             word: tail.word(),
         });
@@ -190,7 +190,7 @@ impl LogState {
         ensures leaves { Leaves self.old self.new }
     {
         let before = self.tails.exchange_tail(count, loaded);
-        publisher.note(Step::TailExchange {
+        publisher.note(WordStep::TailExchange {
             partition: partition_of(count + 1),
             word: before.word(),
         });
@@ -207,7 +207,7 @@ impl LogState {
         ensures leaves { Leaves self.old self.new }
     {
         let before = self.tails.exchange_count(count);
-        publisher.note(Step::CountExchange(before));
+        publisher.note(WordStep::CountExchange(before));
         before
     }
 }

@@ -4,7 +4,7 @@ use Rattle.std.proofs.lemmas.Bool.{cases_lt}
 use Rattle.std.proofs.Math.Nat.{mul-le-mul_right}
 use Rattle.theory.specs.Position.{Geometry}
 use Rattle.log_buffer.specs.Passes.{HasSeenEnd}
-use Rattle.log_buffer.specs.declared.step.Step.{Step}
+use Rattle.log_buffer.specs.declared.step.WordStep.{WordStep}
 use Rattle.publication.specs.Grants.{IsGranted}
 
 same_count : (t m n r : ℕ) → 0 < r → r ≤ t → m * t + r ≡ n * t + t → m ≡ n
@@ -18,7 +18,7 @@ same_count t m n r some most e =
     (cases_lt n m))
     (cases_lt m n)
 
-pub seen_end : (g : Geometry) (taken count position : ℕ) (seen : List Step) → 0 < taken → position ≡ count * g.term_length + g.term_length → IsGranted g taken seen position → HasSeenEnd g seen count
+pub seen_end : (g : Geometry) (taken count position : ℕ) (seen : List WordStep) → 0 < taken → position ≡ count * g.term_length + g.term_length → IsGranted g taken seen position → HasSeenEnd g seen count
 seen_end g taken count position seen some at h =
     let same : h.count ≡ count = same_count g.term_length h.count count _ (omega (arith, some)) h.inside (omega (arith, h.end, at)) in
     subst (HasSeenEnd g seen) same (inr (record {

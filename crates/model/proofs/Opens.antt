@@ -3,7 +3,7 @@ use Rattle.std.proofs.Common.{◌≡◌, ℕ, ◌%◌, ◌<◌, [], false, refl,
 use Rattle.theory.specs.Position.{IsGeometry, max_position}
 use Rattle.theory.specs.Bytes.{Identity, IsIdentity}
 use Rattle.theory.specs.Consumer.{consumer_at}
-use Rattle.model.specs.ExampleRun.{Opens}
+use Rattle.model.specs.ExampleRun.{AlwaysOpens}
 use Rattle.model.specs.World.{World, IsOpened, opened_sender}
 use Rattle.theory.specs.Numbered.{IfThere}
 use Rattle.theory.proofs.Lists.{all_replicate}
@@ -33,5 +33,5 @@ opens i start readers g n u l = record {
   images = refl;
 }
 
-pub opens_always : Opens
+pub opens_always : AlwaysOpens
 opens_always = λ i begins g n u l. (world_at i begins 0, opens i begins 0 g n u l, refl, refl)

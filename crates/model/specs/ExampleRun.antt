@@ -84,5 +84,5 @@ abbrev pub ItRuns : Type 0
 ItRuns = IsOpened world_at_start × ((v : World) × Run world_at_start events v × HasOne (slice_get v.images 0) × HasOne (slice_get v.images 3) × (v.log.tail ≡ 65600) × (share_of 0 v.log.entries ≡ 448) × (share_of 1 v.log.entries ≡ 64))
 
 -- every legal geometry, identity and start opens a world
-abbrev pub Opens : Type 0
-Opens = (i : Identity) (begins : ℕ) → IsGeometry i.geometry → IsIdentity i → begins % 32 ≡ 0 → begins < max_position i.geometry → (w : World) × IsOpened w × (w.log.identity ≡ i) × (w.log.start ≡ begins)
+abbrev pub AlwaysOpens : Type 0
+AlwaysOpens = (i : Identity) (begins : ℕ) → IsGeometry i.geometry → IsIdentity i → begins % 32 ≡ 0 → begins < max_position i.geometry → (w : World) × IsOpened w × (w.log.identity ≡ i) × (w.log.start ≡ begins)

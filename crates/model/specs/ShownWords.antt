@@ -12,7 +12,7 @@ abbrev pub limit_word : Log → ℕ
 limit_word l = l.limit + (if l.connected then 1 else 0) + (if l.closed then 2 else 0)
 
 -- the words show the log's tail, limit and flags
-pub record ShowsTail (l : Log) (t : Tails) (word : ℕ) : Type 0 where
+pub record ShowsLogTail (l : Log) (t : Tails) (word : ℕ) : Type 0 where
   pub tail : greatest_shown l.identity.geometry t ≡ pos l.tail
   pub limit : word ≡ limit_word l
 

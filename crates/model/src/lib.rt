@@ -6,7 +6,7 @@
 #![tactic(auto)]
 
 ghost use Rattle.model.specs.CycleLaws.{CycleMaySend, GroupsWell, ResendsFirst, ResendsAsked};
-ghost use Rattle.model.specs.ExampleRun.{ItRuns, Opens};
+ghost use Rattle.model.specs.ExampleRun.{ItRuns, AlwaysOpens};
 ghost use Rattle.model.specs.GapLaws.{ComputesContiguous, ComputesGap};
 ghost use Rattle.model.specs.Headline.{Always, IsTiled, IsRebuiltRight, IsBounded, IsPrefixPolled, IsReadable, ArePublished, AreSpelled, AreGapsTold, HasItsRoom};
 ghost use Rattle.model.specs.StreamLaws.{AddsToOwner, RetiresTo, GivesMessages};
@@ -42,7 +42,7 @@ pub fn cycle_sends()
 /// speaks of runs that there are.
 pub fn a_run()
     ensures runs { ItRuns }
-    ensures opens { Opens }
+    ensures opens { AlwaysOpens }
 {}
 
 /// What holds after every list of events from every opened world.

@@ -10,8 +10,8 @@ use Rattle.theory.specs.Placed.{Among}
 use Rattle.theory.specs.Words.{id_in, offset_in}
 use Rattle.theory.proofs.Lists.{among_right}
 use Rattle.log_buffer.specs.Passes.{HasSeenEnd}
-use Rattle.log_buffer.specs.declared.step.Step.{Step}
-use Rattle.log_buffer.specs.declared.step.Step.TheVariants as steps
+use Rattle.log_buffer.specs.declared.step.WordStep.{WordStep}
+use Rattle.log_buffer.specs.declared.step.WordStep.TheVariants as steps
 use Rattle.log_buffer.specs.Log.{IsFinished, IsLog, Log, looked, may_arm, offset_of, raw_tail, room_in, term_of}
 use Rattle.publication.specs.Looks.{IsOpenBelow}
 
@@ -77,7 +77,7 @@ past_end l offsets p covered three low short e =
     omega (arith, at, short)
 
 -- the pass has seen it, and the log has it
-pub seen_past : (l : Log) (g : Geometry) (before seen : List Step) (count taken : ℕ) → nat_le taken (room_in l (count % 3)) ≡ false → seen ≡ before ++ steps.Addition (count % 3) taken (raw_tail l (count % 3)) ∷ [] → g ≡ l.identity.geometry → id_in (raw_tail l (count % 3)) ≡ id_of l.identity.geometry count → offset_in (raw_tail l (count % 3)) ≡ offset_of l count → HasSeenEnd g seen count
+pub seen_past : (l : Log) (g : Geometry) (before seen : List WordStep) (count taken : ℕ) → nat_le taken (room_in l (count % 3)) ≡ false → seen ≡ before ++ steps.Addition (count % 3) taken (raw_tail l (count % 3)) ∷ [] → g ≡ l.identity.geometry → id_in (raw_tail l (count % 3)) ≡ id_of l.identity.geometry count → offset_in (raw_tail l (count % 3)) ≡ offset_of l count → HasSeenEnd g seen count
 seen_past l g before seen count taken short e same id offset =
     inr (record {
       word = raw_tail l (count % 3);

@@ -10,8 +10,8 @@ use Rattle.theory.specs.Words.{id_in}
 use Rattle.theory.proofs.Named.{counts}
 use Rattle.log_buffer.specs.Log.{IsFinished, IsLog, Log, added, limit_word_of, offset_of, room_in, term_of, with_claim, with_message, with_padding}
 use Rattle.log_buffer.specs.Passes.{sights}
-use Rattle.log_buffer.specs.declared.step.Step.{Step}
-use Rattle.log_buffer.specs.declared.step.Step.TheVariants as steps
+use Rattle.log_buffer.specs.declared.step.WordStep.{WordStep}
+use Rattle.log_buffer.specs.declared.step.WordStep.TheVariants as steps
 use Rattle.log_buffer.specs.Shown.{ShowsLimit}
 use Rattle.publication.specs.Looks.{IsOpenBelow, ShowsActive, all_seen, tail_word_seen}
 use Rattle.publication.specs.Offers.{OfferCase, Fits, Trips, IsClosed, IsLimited, IsStale, IsUsedUp, added_case, after, after_claim, after_case, after_offer, answer, answer_at, answer_of, case_of, covered, refusal_at_end, turned_from}
@@ -19,9 +19,9 @@ use Rattle.publication.specs.Refusals.{why_of}
 use Rattle.publication.specs.declared.refusal.Refusal.{Refusal}
 use Rattle.publication.specs.declared.refusal.Refusal.TheVariants as refusals
 
-pub stale : (l : Log) (taken : ℕ) (seen : List Step) → seen ≡ all_seen l → ShowsLimit l → l.closed ≡ false → (id_in (tail_word_seen l) ≡ id_of l.identity.geometry l.active → ⊥) → IsJustified l.identity.geometry taken (sights seen) whys.AdminAction
+pub stale : (l : Log) (taken : ℕ) (seen : List WordStep) → seen ≡ all_seen l → ShowsLimit l → l.closed ≡ false → (id_in (tail_word_seen l) ≡ id_of l.identity.geometry l.active → ⊥) → IsJustified l.identity.geometry taken (sights seen) whys.AdminAction
 stale l taken seen e shows not_closed other =
-    subst (λ (xs : List Step). IsJustified l.identity.geometry taken (sights xs) whys.AdminAction) (sym e) (
+    subst (λ (xs : List WordStep). IsJustified l.identity.geometry taken (sights xs) whys.AdminAction) (sym e) (
       limit_word_of l,
       inl refl,
       (
@@ -43,7 +43,7 @@ not_last n h low =
     (cases_lt n (2 ^ 31 - 1))
 
 -- the term's end was loaded
-used_up_by : (l : Log) (taken : ℕ) (more : List Step) (last : Bool) → nat_eq l.active (2 ^ 31 - 1) ≡ last → l.active < 2 ^ 31 → ShowsLimit l → l.closed ≡ false → ShowsActive l → term_of l ≤ offset_of l l.active → IsJustified l.identity.geometry taken (sights (all_seen l ++ more)) (why_of (if last then refusals.MaxPositionExceeded else refusals.AdminAction))
+used_up_by : (l : Log) (taken : ℕ) (more : List WordStep) (last : Bool) → nat_eq l.active (2 ^ 31 - 1) ≡ last → l.active < 2 ^ 31 → ShowsLimit l → l.closed ≡ false → ShowsActive l → term_of l ≤ offset_of l l.active → IsJustified l.identity.geometry taken (sights (all_seen l ++ more)) (why_of (if last then refusals.MaxPositionExceeded else refusals.AdminAction))
 used_up_by l taken more true e small shows not_closed active over = (
   limit_word_of l,
   inl refl,
@@ -75,9 +75,9 @@ used_up_by l taken more false e small shows not_closed active over = (
   ),
 )
 
-pub used_up : (l : Log) (taken count : ℕ) (refusal : Refusal) (seen more : List Step) → seen ≡ all_seen l ++ more → count ≡ l.active → refusal ≡ refusal_at_end count → l.active < 2 ^ 31 → ShowsLimit l → l.closed ≡ false → ShowsActive l → term_of l ≤ offset_of l l.active → IsJustified l.identity.geometry taken (sights seen) (why_of refusal)
+pub used_up : (l : Log) (taken count : ℕ) (refusal : Refusal) (seen more : List WordStep) → seen ≡ all_seen l ++ more → count ≡ l.active → refusal ≡ refusal_at_end count → l.active < 2 ^ 31 → ShowsLimit l → l.closed ≡ false → ShowsActive l → term_of l ≤ offset_of l l.active → IsJustified l.identity.geometry taken (sights seen) (why_of refusal)
 used_up l taken count refusal seen more e is why small shows not_closed active over =
-    subst (λ (xs : List Step). IsJustified l.identity.geometry taken (sights xs) (why_of refusal)) (sym e)
+    subst (λ (xs : List WordStep). IsJustified l.identity.geometry taken (sights xs) (why_of refusal)) (sym e)
     (subst (λ (r : Refusal). IsJustified l.identity.geometry taken (sights (all_seen l ++ more)) (why_of r)) (sym (why ∙ ap refusal_at_end is))
     (used_up_by l taken more (nat_eq l.active (2 ^ 31 - 1)) refl small shows not_closed active over))
 
@@ -116,14 +116,14 @@ limited_by l taken false e shows not_closed active inside reached at = (
   ),
 )
 
-pub limited_refusal : (l : Log) (taken : ℕ) (connected : Bool) (refusal : Refusal) (seen : List Step) → seen ≡ all_seen l → refusal ≡ (if connected then refusals.BackPressured else refusals.NotConnected) → connected ≡ l.connected → ShowsLimit l → l.closed ≡ false → ShowsActive l → offset_of l l.active < term_of l → l.limit ≤ l.tail → l.tail ≡ l.active * term_of l + offset_of l l.active → IsJustified l.identity.geometry taken (sights seen) (why_of refusal)
+pub limited_refusal : (l : Log) (taken : ℕ) (connected : Bool) (refusal : Refusal) (seen : List WordStep) → seen ≡ all_seen l → refusal ≡ (if connected then refusals.BackPressured else refusals.NotConnected) → connected ≡ l.connected → ShowsLimit l → l.closed ≡ false → ShowsActive l → offset_of l l.active < term_of l → l.limit ≤ l.tail → l.tail ≡ l.active * term_of l + offset_of l l.active → IsJustified l.identity.geometry taken (sights seen) (why_of refusal)
 limited_refusal l taken connected refusal seen e why same shows not_closed active inside reached at =
-    subst (λ (xs : List Step). IsJustified l.identity.geometry taken (sights xs) (why_of refusal)) (sym e)
+    subst (λ (xs : List WordStep). IsJustified l.identity.geometry taken (sights xs) (why_of refusal)) (sym e)
     (subst (λ (r : Refusal). IsJustified l.identity.geometry taken (sights (all_seen l)) (why_of r)) (sym why)
     (limited_by l taken connected (sym same) shows not_closed active inside reached at))
 
 -- an addition passed the term's end
-tripped_by : (l : Log) (taken : ℕ) (more : List Step) (last : Bool) → nat_eq l.active (2 ^ 31 - 1) ≡ last → l.active < 2 ^ 31 → IsLog l → ShowsLimit l → l.closed ≡ false → ShowsActive l → term_of l < offset_of l l.active + taken → IsJustified l.identity.geometry taken (sights ((all_seen l ++ steps.Addition (l.active % 3) taken (tail_word_seen l) ∷ []) ++ more)) (why_of (if last then refusals.MaxPositionExceeded else refusals.AdminAction))
+tripped_by : (l : Log) (taken : ℕ) (more : List WordStep) (last : Bool) → nat_eq l.active (2 ^ 31 - 1) ≡ last → l.active < 2 ^ 31 → IsLog l → ShowsLimit l → l.closed ≡ false → ShowsActive l → term_of l < offset_of l l.active + taken → IsJustified l.identity.geometry taken (sights ((all_seen l ++ steps.Addition (l.active % 3) taken (tail_word_seen l) ∷ []) ++ more)) (why_of (if last then refusals.MaxPositionExceeded else refusals.AdminAction))
 tripped_by l taken more true e small legal shows not_closed active over = (
   limit_word_of l,
   inl refl,
@@ -211,16 +211,16 @@ answer_is l m a count bytes h not_closed e is =
     ∙ ap (answer l bytes) (sym (case_is l bytes h not_closed))
 
 -- of an addition that is refused
-open_cases : (l m : Log) (count bytes : ℕ) (seen more : List Step) (refusal : Refusal) (fits : Bool) → nat_le (covered l bytes) (room_in l (l.active % 3)) ≡ fits → answer_at m count bytes (if fits then Fits else Trips) ≡ Err refusal → count ≡ l.active → seen ≡ (all_seen l ++ steps.Addition (l.active % 3) (covered l bytes) (tail_word_seen l) ∷ []) ++ more → l.active < 2 ^ 31 → IsLog l → ShowsLimit l → l.closed ≡ false → ShowsActive l → IsOpenBelow l → IsJustified l.identity.geometry (covered l bytes) (sights seen) (why_of refusal)
+open_cases : (l m : Log) (count bytes : ℕ) (seen more : List WordStep) (refusal : Refusal) (fits : Bool) → nat_le (covered l bytes) (room_in l (l.active % 3)) ≡ fits → answer_at m count bytes (if fits then Fits else Trips) ≡ Err refusal → count ≡ l.active → seen ≡ (all_seen l ++ steps.Addition (l.active % 3) (covered l bytes) (tail_word_seen l) ∷ []) ++ more → l.active < 2 ^ 31 → IsLog l → ShowsLimit l → l.closed ≡ false → ShowsActive l → IsOpenBelow l → IsJustified l.identity.geometry (covered l bytes) (sights seen) (why_of refusal)
 open_cases l m count bytes seen more refusal true f answered is e small legal shows not_closed active h = absurd (cc)
 open_cases l m count bytes seen more refusal false f answered is e small legal shows not_closed active h =
     let last : refusal_at_end count ≡ refusal = cc in
     subst (λ (r : Refusal). IsJustified l.identity.geometry (covered l bytes) (sights seen) (why_of r)) last
-    (subst (λ (xs : List Step). IsJustified l.identity.geometry (covered l bytes) (sights xs) (why_of (refusal_at_end count))) (sym e)
+    (subst (λ (xs : List WordStep). IsJustified l.identity.geometry (covered l bytes) (sights xs) (why_of (refusal_at_end count))) (sym e)
     (subst (λ (k : ℕ). IsJustified l.identity.geometry (covered l bytes) (sights ((all_seen l ++ steps.Addition (l.active % 3) (covered l bytes) (tail_word_seen l) ∷ []) ++ more)) (why_of (refusal_at_end k))) (sym is)
     (tripped_by l (covered l bytes) more (nat_eq l.active (2 ^ 31 - 1)) refl small legal shows not_closed active (omega (arith, leb-false (covered l bytes) (room_in l (l.active % 3)) f, h.inside)))))
 
-pub open_justified : (l m : Log) (a : List (Option ℕ)) (count bytes : ℕ) (seen more : List Step) (refusal : Refusal) → answer_at m count bytes (added_case m count bytes) ≡ Err refusal → m ≡ armed_as l a → count ≡ l.active → seen ≡ (all_seen l ++ steps.Addition (l.active % 3) (covered l bytes) (tail_word_seen l) ∷ []) ++ more → l.active < 2 ^ 31 → IsLog l → ShowsLimit l → l.closed ≡ false → ShowsActive l → IsOpenBelow l → IsJustified l.identity.geometry (covered l bytes) (sights seen) (why_of refusal)
+pub open_justified : (l m : Log) (a : List (Option ℕ)) (count bytes : ℕ) (seen more : List WordStep) (refusal : Refusal) → answer_at m count bytes (added_case m count bytes) ≡ Err refusal → m ≡ armed_as l a → count ≡ l.active → seen ≡ (all_seen l ++ steps.Addition (l.active % 3) (covered l bytes) (tail_word_seen l) ∷ []) ++ more → l.active < 2 ^ 31 → IsLog l → ShowsLimit l → l.closed ≡ false → ShowsActive l → IsOpenBelow l → IsJustified l.identity.geometry (covered l bytes) (sights seen) (why_of refusal)
 open_justified l m a count bytes seen more refusal answered armed is e small legal shows not_closed active h =
     let room : room_in m (count % 3) ≡ room_in l (l.active % 3) = ap (λ (k : Log). room_in k (count % 3)) armed ∙ ap (λ (n : ℕ). room_in l (n % 3)) is in
     let same : covered m bytes ≡ covered l bytes = ap (λ (k : Log). covered k bytes) armed in

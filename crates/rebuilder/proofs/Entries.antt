@@ -14,7 +14,7 @@ use Rattle.std.specs.declared.cmp.Ordering.TheVariants.{Less, Equal, Greater}
 use Rattle.std.proofs.lemmas.Bool.{cases_Bool, cases_lt, cases_eq, cases_order, cond_both, cond-true, cond-false, lt-ltb, le-ltb, eq-eqb, ne_eqb, and_from, and_left, and_right, and_parts, both_ways}
 use Rattle.theory.specs.Placed.{Among, Frame, Placed, covered, end_of, frame_length, is_padding}
 use Rattle.theory.specs.Insert.{Head, head_end, head_of, is_duplicate, same_kind}
-use Rattle.rebuilder.specs.Held.{AreLaid, IsNextStart, IsStart, all_placed, placed, put}
+use Rattle.rebuilder.specs.Held.{AreLaid, IsNextStart, StartsAt, all_placed, placed, put}
 use Rattle.theory.proofs.Lists.{all_at, any_here}
 use Rattle.rebuilder.proofs.Lists.{none_here}
 use Rattle.rebuilder.proofs.Order.{apart}
@@ -55,13 +55,13 @@ among_found s (e ∷ es) (inl d) =
     subst (λ x. IsSome x) (sym (cond-true (is_at (nat_cmp s.at) e.0) (Some e.1) (lookup (is_at (nat_cmp s.at)) es) (at_self s.at e.0 same))) (search rules)
 among_found s (e ∷ es) (inr a) = cond_both (is_at (nat_cmp s.at) e.0) (Some e.1) (lookup (is_at (nat_cmp s.at)) es) (λ x. IsSome x) (λ y. search rules) (λ n. among_found s es a)
 
-pub none_starts : (q : ℕ) (es : List (ℕ × Frame)) → lookup (is_at (nat_cmp q)) es ≡ None → IsStart (all_placed es) q → ⊥
+pub none_starts : (q : ℕ) (es : List (ℕ × Frame)) → lookup (is_at (nat_cmp q)) es ≡ None → StartsAt (all_placed es) q → ⊥
 none_starts q es h (s, a, e) =
     let some : IsSome (lookup (is_at (nat_cmp s.at)) es) = among_found s es a in
     let here : IsSome (lookup (is_at (nat_cmp q)) es) = subst (λ x. IsSome (lookup (is_at (nat_cmp x)) es)) e some in
     subst (λ (x : Option Frame). IsSome x → ⊥) (sym h) (λ k. absurd (search rules)) here
 
-pub not_found : (q : ℕ) (es : List (ℕ × Frame)) → (IsStart (all_placed es) q → ⊥) → lookup (is_at (nat_cmp q)) es ≡ None
+pub not_found : (q : ℕ) (es : List (ℕ × Frame)) → (StartsAt (all_placed es) q → ⊥) → lookup (is_at (nat_cmp q)) es ≡ None
 not_found q es f = decide (lookup (is_at (nat_cmp q)) es) (λ g h. f (placed (q, g), found_among q g es h, refl))
   where
     decide : (o : Option Frame) → ((g : Frame) → o ≡ Some g → ⊥) → o ≡ None
@@ -107,7 +107,7 @@ meets_last start end ss s laid a below last =
     (cases_lt t.at end))))
     (cases_lt start (end_of s))
 
-pub like_none : (start : ℕ) (padding : Bool) (n : ℕ) (ss : List Placed) → (IsStart ss start → ⊥) → false ≡ list_any (is_duplicate (record { at = start; padding = padding; length = n })) (map head_of ss)
+pub like_none : (start : ℕ) (padding : Bool) (n : ℕ) (ss : List Placed) → (StartsAt ss start → ⊥) → false ≡ list_any (is_duplicate (record { at = start; padding = padding; length = n })) (map head_of ss)
 like_none start padding n ss f =
     sym (none_here (is_duplicate (record { at = start; padding = padding; length = n })) head_of ss (λ t a. and_left (nat_eq start t.at && same_kind padding (is_padding t.frame)) (nat_eq n (frame_length t.frame)) (and_left (nat_eq start t.at) (same_kind padding (is_padding t.frame)) (ne_eqb start t.at (λ e. f (t, a, sym e))))))
 
@@ -145,7 +145,7 @@ from_less a b h = ranked a b Less (sym h)
 not_greater : (a b : ℕ) → a ≤ b → is_gt (nat_cmp a b) ≡ false
 not_greater a b l = ⊎_elim (λ (h : a < b). ap is_gt (is_less a b h)) (λ (h : b ≤ a). ap is_gt (is_equal a b (omega arith))) (cases_lt a b)
 
-pub got : (start : ℕ) (es : List (ℕ × Frame)) (r : Option (Bor Frame)) → option_copied r ≡ lookup (is_at (nat_cmp start)) es → MatchOption r (IsStart (all_placed es) start → ⊥) (λ h. Among (placed (start, h.now)) (all_placed es))
+pub got : (start : ℕ) (es : List (ℕ × Frame)) (r : Option (Bor Frame)) → option_copied r ≡ lookup (is_at (nat_cmp start)) es → MatchOption r (StartsAt (all_placed es) start → ⊥) (λ h. Among (placed (start, h.now)) (all_placed es))
 got start es None h = none_starts start es (sym h)
 got start es (Some x) h = found_among start x.now es (sym h)
 

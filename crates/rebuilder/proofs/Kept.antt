@@ -13,8 +13,8 @@ use Rattle.theory.specs.Units.{HasUnit, IsContiguous}
 use Rattle.theory.specs.Insert.{AreApart, Head, CrossesTerm, Below, OverWindow, Duplicate, Overlap, Stored, head_of, insert_answer, insert_answer_at, overlaps, window_end}
 use Rattle.theory.specs.Image.{IsWindow}
 use Rattle.theory.specs.ImageLaws.{held}
-use Rattle.rebuilder.specs.Held.{AreInOrder, AreLaid, IsNextStart, IsRunEnd, IsStart, put}
-use Rattle.rebuilder.specs.Seen.{Image, IsBehind, IsCount, IsFit, IsJoin, IsKept, IsNextUnit, MayHold, least, with_consumer, with_frame}
+use Rattle.rebuilder.specs.Held.{AreInOrder, AreLaid, IsNextStart, IsRunEnd, StartsAt, put}
+use Rattle.rebuilder.specs.Seen.{Image, IsBehind, IsCount, IsFit, IsJoin, IsImage, IsNextUnit, MayHold, least, with_consumer, with_frame}
 use Rattle.theory.proofs.Lists.{all_at, all_from, all_replicate, all_set, all_weaker, any_false}
 use Rattle.theory.proofs.Tables.{all_index}
 use Rattle.theory.proofs.Places.{term_ends}
@@ -26,50 +26,50 @@ use Rattle.rebuilder.proofs.Reach.{AreFull, is_contiguous, reached_here, reached
 
 -- ---- what follows
 
-pub full : (i : Image) (r : ℕ) → IsKept i r → AreFull i.held
+pub full : (i : Image) (r : ℕ) → IsImage i r → AreFull i.held
 full i r k =
     let covers : (s : Placed) → IsFit i.geometry.term_length i.high s → 0 < covered s = λ s f. let long : 32 ≤ frame_length s.frame = f.long in omega arith in
     all_weaker (IsFit i.geometry.term_length i.high) (λ s. 0 < covered s) covers i.held k.fit
 
-pub laid : (i : Image) (r : ℕ) → IsKept i r → AreLaid i.held
+pub laid : (i : Image) (r : ℕ) → IsImage i r → AreLaid i.held
 laid i r k = record { order = lower (least i.consumers) 0 i.held (omega arith) k.order; full = full i r k }
 
-pub reached : (i : Image) (r : ℕ) → IsKept i r → IsReached i.held (least i.consumers) r
+pub reached : (i : Image) (r : ℕ) → IsImage i r → IsReached i.held (least i.consumers) r
 reached i r k = (all_least (IsBehind i.held i.join r) i.consumers k.count.0 k.behind).reached
 
-pub contiguous : (i : Image) (r : ℕ) → IsKept i r → IsContiguous i.held (least i.consumers) r
+pub contiguous : (i : Image) (r : ℕ) → IsImage i r → IsContiguous i.held (least i.consumers) r
 contiguous i r k = is_contiguous i.held (least i.consumers) r k.order (full i r k) (reached i r k) k.stops
 
 pub greatest : (g : Geometry) → IsGeometry g → max_position g ≤ 2 ^ 55
 greatest g legal = let short : g.term_length ≤ 16777216 = legal.term.greatest in omega arith
 
-pub low_high : (i : Image) (r : ℕ) → IsKept i r → i.high ≤ 2 ^ 55
+pub low_high : (i : Image) (r : ℕ) → IsImage i r → i.high ≤ 2 ^ 55
 low_high i r k = let h : i.high ≤ max_position i.geometry = k.high in let g : max_position i.geometry ≤ 2 ^ 55 = greatest i.geometry k.geometry in omega arith
 
-pub low_ends : (i : Image) (r : ℕ) → IsKept i r → AllByRecursion (λ s. end_of s ≤ 2 ^ 56) i.held
+pub low_ends : (i : Image) (r : ℕ) → IsImage i r → AllByRecursion (λ s. end_of s ≤ 2 ^ 56) i.held
 low_ends i r k =
     let h : i.high ≤ 2 ^ 55 = low_high i r k in
     let low : (s : Placed) → IsFit i.geometry.term_length i.high s → end_of s ≤ 2 ^ 56 = λ s f. let m : end_of s ≤ i.high = f.marked in omega arith in
     all_weaker (IsFit i.geometry.term_length i.high) (λ s. end_of s ≤ 2 ^ 56) low i.held k.fit
 
-pub behind : (i : Image) (r : ℕ) → IsKept i r → AllByRecursion (λ p. (i.join ≤ p) × (p ≤ r)) i.consumers
+pub behind : (i : Image) (r : ℕ) → IsImage i r → AllByRecursion (λ p. (i.join ≤ p) × (p ≤ r)) i.consumers
 behind i r k = all_weaker (IsBehind i.held i.join r) (λ p. (i.join ≤ p) × (p ≤ r)) (λ p b. (b.joined, reached_le i.held p r b.reached)) i.consumers k.behind
 
-pub low_least : (i : Image) (r : ℕ) → IsKept i r → least i.consumers ≤ max_position i.geometry
+pub low_least : (i : Image) (r : ℕ) → IsImage i r → least i.consumers ≤ max_position i.geometry
 low_least i r k =
     let l : least i.consumers ≤ r = reached_le i.held (least i.consumers) r (reached i r k) in
     let m : r ≤ i.high = k.mark in
     let h : i.high ≤ max_position i.geometry = k.high in
     omega arith
 
-pub waiting : (i : Image) (r : ℕ) → IsKept i r → AllByRecursion (λ p. p < r → IsStart i.held p) i.consumers
-waiting i r k = all_weaker (IsBehind i.held i.join r) (λ p. p < r → IsStart i.held p) (λ p b l. first p b.reached.read b.reached.chain b.reached.among l) i.consumers k.behind
+pub waiting : (i : Image) (r : ℕ) → IsImage i r → AllByRecursion (λ p. p < r → StartsAt i.held p) i.consumers
+waiting i r k = all_weaker (IsBehind i.held i.join r) (λ p. p < r → StartsAt i.held p) (λ p b l. first p b.reached.read b.reached.chain b.reached.among l) i.consumers k.behind
   where
-    first : (p : ℕ) (read : List Placed) → Chain p r read → AllAmong i.held read → p < r → IsStart i.held p
+    first : (p : ℕ) (read : List Placed) → Chain p r read → AllAmong i.held read → p < r → StartsAt i.held p
     first p [] c m l = let e : r ≡ p = c in absurd (omega arith)
     first p (s ∷ ss) c m l = (s, m.0, c.0)
 
-pub next_unit : (i : Image) (r : ℕ) (o : Option ℕ) → IsKept i r → MatchOption o ((s : Placed) → Among s i.held → s.at < r) (IsNextStart i.held r) → (c : ℕ) → IsContiguous i.held (least i.consumers) c → MatchOption o ((p : ℕ) → c ≤ p → HasUnit i.held p → ⊥) (IsNextUnit i.held c)
+pub next_unit : (i : Image) (r : ℕ) (o : Option ℕ) → IsImage i r → MatchOption o ((s : Placed) → Among s i.held → s.at < r) (IsNextStart i.held r) → (c : ℕ) → IsContiguous i.held (least i.consumers) c → MatchOption o ((p : ℕ) → c ≤ p → HasUnit i.held p → ⊥) (IsNextUnit i.held c)
 next_unit i r None k h c end =
     let same : c ≡ r = one_end i.held (least i.consumers) c r end (contiguous i r k) in
     λ p l u.
@@ -80,9 +80,9 @@ next_unit i r None k h c end =
 next_unit i r (Some q) k h c end =
     let same : c ≡ r = one_end i.held (least i.consumers) c r end (contiguous i r k) in
     let from : r ≤ q = h.from in
-    let start : IsStart i.held q = h.start in
+    let start : StartsAt i.held q = h.start in
     record {
-      above = ⊎_elim (λ (l : r < q). omega arith) (λ (l : q ≤ r). let e : q ≡ r = omega arith in absurd (k.stops (subst (IsStart i.held) e start))) (cases_lt r q);
+      above = ⊎_elim (λ (l : r < q). omega arith) (λ (l : q ≤ r). let e : q ≡ r = omega arith in absurd (k.stops (subst (StartsAt i.held) e start))) (cases_lt r q);
       unit = subst (λ x. HasUnit i.held x) start.2 (unit_at i.held start.0 (full i r k) start.1);
       empty = λ p l b u.
           let above : (r ≤ u.frame.at) × (u.frame.at ≤ p) = unit_above i.held (least i.consumers) r p k.order (full i r k) (reached i r k) (omega arith) u in
@@ -93,7 +93,7 @@ next_unit i r (Some q) k h c end =
 
 -- ---- it holds again
 
-pub opened : (g : Geometry) (join window n : ℕ) → IsGeometry g → IsJoin g join → IsWindow g.term_length g.mtu window → IsCount n → IsKept (record { geometry = g; join = join; window = window; held = []; high = join; consumers = replicate n join }) join
+pub opened : (g : Geometry) (join window n : ℕ) → IsGeometry g → IsJoin g join → IsWindow g.term_length g.mtu window → IsCount n → IsImage (record { geometry = g; join = join; window = window; held = []; high = join; consumers = replicate n join }) join
 opened g join window n legal joined wide count =
     record {
       geometry = legal;
@@ -108,7 +108,7 @@ opened g join window n legal joined wide count =
       stops = λ h. absurd h.1;
     }
 
-pub beaten : (i : Image) (r p : ℕ) → IsKept i r → i.high < p → p ≤ max_position i.geometry → IsKept (record i { high = p }) r
+pub beaten : (i : Image) (r p : ℕ) → IsImage i r → i.high < p → p ≤ max_position i.geometry → IsImage (record i { high = p }) r
 beaten i r p k above low =
     let m : r ≤ i.high = k.mark in
     record {
@@ -128,7 +128,7 @@ chain_marked : (frames read : List Placed) (j q h : ℕ) → j ≤ h → AllByRe
 chain_marked frames [] j q h l all c m = let e : q ≡ j = c in omega arith
 chain_marked frames (s ∷ ss) j q h l all c m = chain_marked frames ss (end_of s) q h (all_at (λ (x : Placed). end_of x ≤ h) s frames all m.0) all c.1 m.1
 
-pub stored : (i : Image) (r next : ℕ) (s : Placed) → IsKept i r → MayHold i s → IsRunEnd (put s i.held) r next → IsKept (with_frame i s) next
+pub stored : (i : Image) (r next : ℕ) (s : Placed) → IsImage i r → MayHold i s → IsRunEnd (put s i.held) r next → IsImage (with_frame i s) next
 stored i r next s k may run =
     let long : 32 ≤ frame_length s.frame = may.long in
     let covers : 0 < covered s = omega arith in
@@ -151,7 +151,7 @@ stored i r next s k may run =
       stops = run.stops;
     }
 
-pub moved : (i : Image) (r consumer : ℕ) (s : Placed) → IsKept i r → consumer < length i.consumers → Among s i.held → s.at ≡ slice_index i.consumers consumer → IsKept (with_consumer i consumer (end_of s)) r
+pub moved : (i : Image) (r consumer : ℕ) (s : Placed) → IsImage i r → consumer < length i.consumers → Among s i.held → s.at ≡ slice_index i.consumers consumer → IsImage (with_consumer i consumer (end_of s)) r
 moved i r consumer s k l a e =
     let cs : List ℕ = slice_set i.consumers consumer (end_of s) in
     let m : ℕ = least cs in
@@ -178,7 +178,7 @@ moved i r consumer s k l a e =
 ends_within : (t p n : ℕ) → 0 < t → p % t + n ≤ t → p + 32 ≤ t * 2 ^ 31 → p + n ≤ t * 2 ^ 31
 ends_within t p n some inside low = omega (arith, term_ends p t some (omega arith), div-add-mod' p t)
 
-pub may_hold : (i : Image) (r : ℕ) (s : Placed) → IsKept i r → s.at % 32 ≡ 0 → 32 ≤ frame_length s.frame → insert_answer i.geometry (map head_of i.held) (least i.consumers) i.window (head_of s) ≡ Stored → MayHold i s
+pub may_hold : (i : Image) (r : ℕ) (s : Placed) → IsImage i r → s.at % 32 ≡ 0 → 32 ≤ frame_length s.frame → insert_answer i.geometry (map head_of i.held) (least i.consumers) i.window (head_of s) ≡ Stored → MayHold i s
 may_hold i r s k unit long e =
     let h : Head = head_of s in
     let g : Geometry = i.geometry in
@@ -198,7 +198,7 @@ may_hold i r s k unit long e =
     head_within false = omega arith
 
 -- a frame that may be held starts where none does
-pub starts_anew : (i : Image) (r : ℕ) (s : Placed) → IsKept i r → MayHold i s → IsStart i.held s.at → ⊥
+pub starts_anew : (i : Image) (r : ℕ) (s : Placed) → IsImage i r → MayHold i s → StartsAt i.held s.at → ⊥
 starts_anew i r s k may (t, a, e) =
     let long : 32 ≤ frame_length s.frame = may.long in
     let full_t : 0 < covered t = all_at (λ (x : Placed). 0 < covered x) t i.held (full i r k) a in
@@ -216,16 +216,16 @@ overlapped crosses below over dup meets a b c d e =
     (subst (λ x. Overlap ≡ cond x Overlap Stored) (sym e) refl))))
 
 -- a consumer at which no frame starts stands at the contiguous end
-pub stands_at_end : (i : Image) (r consumer : ℕ) → IsKept i r → consumer < length i.consumers → (IsStart i.held (slice_index i.consumers consumer) → ⊥) → IsContiguous i.held (least i.consumers) (slice_index i.consumers consumer)
+pub stands_at_end : (i : Image) (r consumer : ℕ) → IsImage i r → consumer < length i.consumers → (StartsAt i.held (slice_index i.consumers consumer) → ⊥) → IsContiguous i.held (least i.consumers) (slice_index i.consumers consumer)
 stands_at_end i r consumer k l none =
     let p : ℕ = slice_index i.consumers consumer in
     let le : p ≤ r = (all_index (λ q. (i.join ≤ q) × (q ≤ r)) i.consumers consumer l (behind i r k)).1 in
-    let waits : p < r → IsStart i.held p = all_index (λ q. q < r → IsStart i.held q) i.consumers consumer l (waiting i r k) in
+    let waits : p < r → StartsAt i.held p = all_index (λ q. q < r → StartsAt i.held q) i.consumers consumer l (waiting i r k) in
     let same : r ≡ p = ⊎_elim (λ (h : p < r). absurd (none (waits h))) (λ (h : r ≤ p). omega arith) (cases_lt p r) in
     subst (λ q. IsContiguous i.held (least i.consumers) q) same (contiguous i r k)
 
 -- where the answer at a position is Stored, the frame may be held
-pub may_store : (i : Image) (r : ℕ) (z w : ℤ) (b : Bool) (n : ℕ) (f : Frame) → IsKept i r → w ≡ z → IsUnit z → b ≡ is_padding f → n ≡ frame_length f → 32 ≤ n → insert_answer_at i.geometry (map head_of i.held) (least i.consumers) i.window w b n ≡ Stored → MayHold i (record { at = nat_abs w; frame = f })
+pub may_store : (i : Image) (r : ℕ) (z w : ℤ) (b : Bool) (n : ℕ) (f : Frame) → IsImage i r → w ≡ z → IsUnit z → b ≡ is_padding f → n ≡ frame_length f → 32 ≤ n → insert_answer_at i.geometry (map head_of i.held) (least i.consumers) i.window w b n ≡ Stored → MayHold i (record { at = nat_abs w; frame = f })
 may_store i r (pos p) w b n f k e unit eb en long h =
     let s : Placed = record { at = p; frame = f } in
     let here : insert_answer_at i.geometry (map head_of i.held) (least i.consumers) i.window (pos p) b n ≡ Stored = subst (λ x. insert_answer_at i.geometry (map head_of i.held) (least i.consumers) i.window x b n ≡ Stored) e h in
@@ -242,8 +242,8 @@ apart_heads : (low : ℕ) (ss : List Placed) → AreInOrder low ss → AreApart 
 apart_heads low [] o = tt
 apart_heads low (s ∷ ss) o = (none_here (overlaps (head_of s)) head_of ss (λ t a. and_right (nat_lt s.at (end_of t)) (nat_lt t.at (end_of s)) (le-ltb t.at (end_of s) (at_least (end_of s) ss t o.1 a))), apart_heads (end_of s) ss o.1)
 
-pub held_apart : (i : Image) (r : ℕ) → IsKept i r → AreApart (map head_of i.held)
+pub held_apart : (i : Image) (r : ℕ) → IsImage i r → AreApart (map head_of i.held)
 held_apart i r k = apart_heads (least i.consumers) i.held k.order
 
-pub held_from : (i : Image) (r : ℕ) → IsKept i r → AllByRecursion (λ s. least i.consumers ≤ s.at) i.held
+pub held_from : (i : Image) (r : ℕ) → IsImage i r → AllByRecursion (λ s. least i.consumers ≤ s.at) i.held
 held_from i r k = all_from (λ (s : Placed). least i.consumers ≤ s.at) i.held (λ s a. at_least (least i.consumers) i.held s k.order a)

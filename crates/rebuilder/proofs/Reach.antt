@@ -5,7 +5,7 @@ use Rattle.std.proofs.lemmas.Bool.{cases_lt}
 use Rattle.theory.specs.Placed.{AllAmong, Among, Chain, IsReached, Placed, covered, end_of}
 use Rattle.theory.specs.Units.{HasUnit, IsContiguous}
 use Rattle.theory.specs.ImageLaws.{held}
-use Rattle.rebuilder.specs.Held.{AreInOrder, IsStart}
+use Rattle.rebuilder.specs.Held.{AreInOrder, StartsAt}
 use Rattle.theory.proofs.Lists.{all_at, all_from}
 use Rattle.theory.proofs.Follow.{chain_span, chain_units, passed_along, chain_from, chain_le}
 use Rattle.theory.proofs.Held.{held_among}
@@ -61,7 +61,7 @@ not_inside low frames (s ∷ ss) j q t order full c m a from below =
     (λ (o : (end_of s ≤ t.at) ⊎ (end_of t ≤ s.at)). ⊎_elim (λ (h : end_of s ≤ t.at). not_inside low frames ss (end_of s) q t order full c.1 m.1 a h below) (λ (h : end_of t ≤ s.at). absurd (omega arith)) o)
     (apart low frames s t order m.0 a)
 
-pub is_contiguous : (frames : List Placed) (j q : ℕ) → AreInOrder j frames → AreFull frames → IsReached frames j q → (IsStart frames q → ⊥) → IsContiguous frames j q
+pub is_contiguous : (frames : List Placed) (j q : ℕ) → AreInOrder j frames → AreFull frames → IsReached frames j q → (StartsAt frames q → ⊥) → IsContiguous frames j q
 is_contiguous frames j q order full r stops =
     let f = chain_span j q r.read r.chain in
     record {

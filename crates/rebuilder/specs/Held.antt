@@ -21,8 +21,8 @@ AreInOrder low [] = ⊤
 AreInOrder low (s ∷ ss) = (low ≤ s.at) × AreInOrder (end_of s) ss
 
 -- a frame starts there
-abbrev pub IsStart : List Placed → ℕ → Type 0
-IsStart frames p = (s : Placed) × Among s frames × (s.at ≡ p)
+abbrev pub StartsAt : List Placed → ℕ → Type 0
+StartsAt frames p = (s : Placed) × Among s frames × (s.at ≡ p)
 
 -- in order, and each covers something
 pub record AreLaid (frames : List Placed) : Type 0 where
@@ -31,11 +31,11 @@ pub record AreLaid (frames : List Placed) : Type 0 where
 
 -- q is the least start from p on
 pub record IsNextStart (frames : List Placed) (p q : ℕ) : Type 0 where
-  pub start : IsStart frames q
+  pub start : StartsAt frames q
   pub from : p ≤ q
   pub least : (s : Placed) → Among s frames → p ≤ s.at → q ≤ s.at
 
 -- nothing starts at the end of frames that follow each other from p on
 pub record IsRunEnd (frames : List Placed) (p q : ℕ) : Type 0 where
   pub reached : IsReached frames p q
-  pub stops : IsStart frames q → ⊥
+  pub stops : StartsAt frames q → ⊥

@@ -15,7 +15,7 @@ is_pad kinds.Data = false
 is_pad kinds.Pad = true
 
 -- what is kept of it
-pub record IsFrame (kind : FrameKind) (flags frame_length : ℕ) (payload : List ℕ) : Type 0 where
+pub record HasFrameShape (kind : FrameKind) (flags frame_length : ℕ) (payload : List ℕ) : Type 0 where
   pub least : 32 ≤ frame_length
   pub greatest : frame_length ≤ 2 ^ 24
   pub room : length payload ≤ 65472

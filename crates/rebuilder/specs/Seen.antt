@@ -9,7 +9,7 @@ use Rattle.theory.specs.Image.{IsWindow, is_accepted}
 use Rattle.theory.specs.ImageLaws.{held}
 use Rattle.block.specs.Bytes.{with_front}
 use Rattle.position.specs.declared.head.FrameHead.{FrameHead}
-use Rattle.rebuilder.specs.Held.{AreInOrder, IsStart, put}
+use Rattle.rebuilder.specs.Held.{AreInOrder, StartsAt, put}
 use Rattle.rebuilder.specs.Kinds.{head_at}
 
 pub record Image : Type 0 where
@@ -57,7 +57,7 @@ pub record IsBehind (frames : List Placed) (join rebuilt p : ℕ) : Type 0 where
   pub joined : join ≤ p
   pub reached : IsReached frames p rebuilt
 
-pub record IsKept (i : Image) (rebuilt : ℕ) : Type 0 where
+pub record IsImage (i : Image) (rebuilt : ℕ) : Type 0 where
   pub geometry : IsGeometry i.geometry
   pub joined : IsJoin i.geometry i.join
   pub window : IsWindow i.geometry.term_length i.geometry.mtu i.window
@@ -67,7 +67,7 @@ pub record IsKept (i : Image) (rebuilt : ℕ) : Type 0 where
   pub mark : rebuilt ≤ i.high
   pub high : i.high ≤ max_position i.geometry
   pub behind : AllByRecursion (IsBehind i.held i.join rebuilt) i.consumers
-  pub stops : IsStart i.held rebuilt → ⊥
+  pub stops : StartsAt i.held rebuilt → ⊥
 
 -- an image that is kept may hold this frame too
 pub record MayHold (i : Image) (s : Placed) : Type 0 where

@@ -25,13 +25,13 @@ pub struct Held {
 
 impl Model for Held {
     ghost use Rattle.theory.specs.Placed.{Frame};
-    ghost use Rattle.rebuilder.specs.Kinds.{IsFrame, frame_of};
+    ghost use Rattle.rebuilder.specs.Kinds.{HasFrameShape, frame_of};
 
     ghost Value = { Frame };
 
     ghost view = { λ h. frame_of h.kind h.flags h.frame_length h.payload.items };
 
-    ghost invariant = { λ h. IsFrame h.kind h.flags h.frame_length h.payload.items };
+    ghost invariant = { λ h. HasFrameShape h.kind h.flags h.frame_length h.payload.items };
 }
 
 /// The kind and the length of a frame of a stream.

@@ -3,7 +3,7 @@ ghost use Rattle.std.specs.List.{AllByRecursion, list_any};
 ghost use Rattle.theory.specs.Placed.{Among, Placed, covered, end_of};
 ghost use Rattle.theory.specs.Insert.{Head, head_end, head_of, is_duplicate};
 ghost use Rattle.theory.specs.ImageLaws.{held};
-ghost use Rattle.rebuilder.specs.Held.{AreLaid, IsNextStart, IsRunEnd, IsStart, all_placed, put};
+ghost use Rattle.rebuilder.specs.Held.{AreLaid, IsNextStart, IsRunEnd, StartsAt, all_placed, put};
 ghost use Rattle.rebuilder.specs.Kinds.{is_pad};
 
 use crate::held::Held;
@@ -40,7 +40,7 @@ impl HeldFrames {
 
     /// The frame that starts there.
     pub fn get(&self, start: u64) -> Option<&Held>
-        ensures { MatchOption result (IsStart self.now start → ⊥) (λ h. Among (record { at = start; frame = h.now }) self.now) }
+        ensures { MatchOption result (StartsAt self.now start → ⊥) (λ h. Among (record { at = start; frame = h.now }) self.now) }
     {
         self.frames.get(&start)
     }
@@ -92,7 +92,7 @@ impl HeldFrames {
 
     /// Adds a frame that starts where none does. The error comes only where memory was refused.
     pub fn put(&mut self, start: u64, held: Held) -> Result<(), AllocError>
-        requires { IsStart self.old start → ⊥ }
+        requires { StartsAt self.old start → ⊥ }
         ensures stored { OnOk result (self.new ≡ put (record { at = start; frame = held }) self.old) }
         ensures refused { OnErr result (self.new ≡ self.old) }
     {

@@ -4,7 +4,7 @@ ghost use Rattle.theory.specs.Position.{IsGeometry, max_position};
 ghost use Rattle.theory.specs.Image.{IsWindow};
 ghost use Rattle.theory.specs.Insert.{AreApart, head_of};
 ghost use Rattle.theory.specs.Units.{IsContiguous};
-ghost use Rattle.rebuilder.specs.Held.{IsStart};
+ghost use Rattle.rebuilder.specs.Held.{StartsAt};
 ghost use Rattle.rebuilder.specs.Seen.{IsCount, IsFit, IsJoin, least};
 
 use crate::fault::ImageError;
@@ -33,14 +33,14 @@ pub struct Image {
 }
 
 impl Model for Image {
-    ghost use Rattle.rebuilder.specs.Seen.{IsKept};
+    ghost use Rattle.rebuilder.specs.Seen.{IsImage};
     ghost use Rattle.rebuilder.specs.Seen as seen;
 
     ghost Value = { seen.Image };
 
     ghost view = { λ i. record { geometry = i.geometry; join = i.join; window = i.window; held = i.frames; high = i.high_water; consumers = i.consumers.items } };
 
-    ghost invariant = { λ i. IsKept (record { geometry = i.geometry; join = i.join; window = i.window; held = i.frames; high = i.high_water; consumers = i.consumers.items }) i.rebuilt };
+    ghost invariant = { λ i. IsImage (record { geometry = i.geometry; join = i.join; window = i.window; held = i.frames; high = i.high_water; consumers = i.consumers.items }) i.rebuilt };
 }
 
 /// The least of some positions.
@@ -139,7 +139,7 @@ impl Image {
         ensures value { IsContiguous self.now.held (least self.now.consumers) result }
         ensures marked { result ≤ self.now.high }
         ensures behind { AllByRecursion (λ p. (self.now.join ≤ p) × (p ≤ result)) self.now.consumers }
-        ensures waiting { AllByRecursion (λ p. p < result → IsStart self.now.held p) self.now.consumers }
+        ensures waiting { AllByRecursion (λ p. p < result → StartsAt self.now.held p) self.now.consumers }
     {
         self.rebuilt
     }

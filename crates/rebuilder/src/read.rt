@@ -3,7 +3,7 @@ ghost use Rattle.position.specs.declared.head.FrameKind.TheVariants.{Data};
 ghost use Rattle.block.specs.Bytes.{with_front};
 ghost use Rattle.theory.specs.Placed.{Among, Placed, end_of};
 ghost use Rattle.theory.specs.Units.{HasUnit, IsContiguous};
-ghost use Rattle.rebuilder.specs.Held.{IsStart};
+ghost use Rattle.rebuilder.specs.Held.{StartsAt};
 ghost use Rattle.rebuilder.specs.Seen.{IsNextUnit, IsShown, least, with_consumer};
 
 use crate::image::{Image, least_of};
@@ -50,7 +50,7 @@ impl Image {
     /// rebuilt position. The answer is its new position. Frames below all consumers are forgotten.
     pub fn advance(&mut self, consumer: usize) -> u64
         requires consumer { consumer < length self.old.consumers }
-        requires waiting { IsStart self.old.held (slice_index self.old.consumers consumer) }
+        requires waiting { StartsAt self.old.held (slice_index self.old.consumers consumer) }
         ensures past { (s : Placed) × Among s self.old.held × (s.at ≡ slice_index self.old.consumers consumer) × (result ≡ end_of s) }
         ensures moved { self.new ≡ with_consumer self.old consumer result }
     {

@@ -20,7 +20,7 @@ use Rattle.receiver.specs.declared.receiver_core.Outcome.{Outcome}
 use Rattle.receiver.specs.declared.receiver_core.Outcome.TheVariants as outcomes
 use Rattle.frames.specs.Datagrams.{IsDatagramFault}
 use Rattle.frames.specs.declared.fault.FrameError.{FrameError}
-use Rattle.receiver.specs.Receiving.{BreaksOff, Hears, Meets, MeetsAll, MeetsFrame, MeetsHeartbeat, MeetsSetup, Opened, Receiver, asking, at_moment, given_at, is_due, replied, replies, telling, ticked, told_after}
+use Rattle.receiver.specs.Receiving.{BreaksOff, TakesDatagram, Meets, MeetsAll, MeetsFrame, MeetsHeartbeat, MeetsSetup, Opened, Receiver, asking, at_moment, given_at, is_due, replied, replies, telling, ticked, told_after}
 use Rattle.receiver.specs.declared.receiver_core.Replies.{Replies}
 use Rattle.receiver.specs.Representing.{Becomes, Core, HasNoFrame, HearsBeat, Inserts, IsAtEnd, MeetsFirst, PassesFrame, ReadsPast, Represents, RepresentsImage, RepresentsOpened, beaten_at, with_reader}
 use Rattle.receiver.proofs.ShownSteps.{least_shown, opened_shown}
@@ -213,7 +213,7 @@ tick_state v w now next r s = subst (λ x. Represents w (record (at_moment r now
 -- ---- a datagram
 
 pub heard_all : {V E : Type 0} (items : V → List Outcome) (v u w : Core) (now : ℕ) (bytes : List ℕ) (frames : List Wire) (out : Result V E) → u ≡ record v { clock = max v.clock now } → SpellsDatagram frames bytes
-    → IfOk out (λ outs. Becomes u w (λ r s. MeetsAll r frames (items outs) s)) → IfOk out (λ outs. Becomes v w (λ r s. Hears r now bytes (items outs) s))
+    → IfOk out (λ outs. Becomes u w (λ r s. MeetsAll r frames (items outs) s)) → IfOk out (λ outs. Becomes v w (λ r s. TakesDatagram r now bytes (items outs) s))
 heard_all items v u w now bytes frames (Err e) at spells met = tt
 heard_all items v u w now bytes frames (Ok outs) at spells met = λ r s.
     let a = met (at_moment r now) (subst (λ x. Represents x (at_moment r now)) (sym at) (seen_at v r now s)) in
@@ -230,7 +230,7 @@ broken_off v u w now bytes frames (Err e) at spells met = λ r s.
     first r s (taken, left, outs, parts, met) = (taken, left, outs, subst (λ ws. SpellsDatagram ws bytes) parts spells, met)
 
 pub refused_all : {V E : Type 0} (items : V → List Outcome) (v u : Core) (now : ℕ) (bytes : List ℕ) (fault : FrameError) (out : Result V E) → u ≡ record v { clock = max v.clock now } → IsDatagramFault bytes fault
-    → IfOk out (λ outs. items outs ≡ outcomes.Refused fault ∷ []) → IfOk out (λ outs. Becomes v u (λ r s. Hears r now bytes (items outs) s))
+    → IfOk out (λ outs. items outs ≡ outcomes.Refused fault ∷ []) → IfOk out (λ outs. Becomes v u (λ r s. TakesDatagram r now bytes (items outs) s))
 refused_all items v u now bytes fault (Err e) at why is = tt
 refused_all items v u now bytes fault (Ok outs) at why is = λ r s. (at_moment r now, inr (fault, why, is, refl), subst (λ x. Represents x (at_moment r now)) (sym at) (seen_at v r now s))
 

@@ -13,7 +13,7 @@ use Rattle.theory.specs.Image.{Image}
 use Rattle.theory.proofs.Lists.{all_append}
 use Rattle.theory.proofs.Follow.{Chain-push}
 use Rattle.assembler.specs.Assembling.{Assembling}
-use Rattle.receiver.specs.Polling.{Answer, IsTooLong, PollsOf, PollsWhole, Reads, StaysShort, StopsAt, TellsOf, TellsPositions, gives, moved_all, passed_all, with_consumer}
+use Rattle.receiver.specs.Polling.{Answer, IsTooLong, PollsOf, PollsWhole, ReadsFrames, StaysShort, StopsAt, TellsOf, TellsPositions, gives, moved_all, passed_all, with_consumer}
 use Rattle.receiver.specs.declared.poll_error.PollError.TheVariants.{NoImage, Unassembled}
 use Rattle.receiver.specs.declared.positions.Positions.{Positions}
 use Rattle.assembler.specs.declared.fault.AssemblyError.{AssemblyError}
@@ -26,7 +26,7 @@ use Rattle.theory.proofs.Stays.{after_last}
 use Rattle.receiver.proofs.ShownSteps.{end_shown, least_shown}
 use Rattle.rebuilder.specs.Seen as seen
 use Rattle.std.proofs.lemmas.Option.{same_Some}
-use Rattle.receiver.specs.Subscribing.{AssemblesFor, HasRead, HearsFrame, IsPolling, PassesOn, RefusesFrame, RepresentsSubscriber, Subscribing, heard_of}
+use Rattle.receiver.specs.Subscribing.{AssemblesFor, HasReadOn, HearsFrame, IsPolling, PassesOn, RefusesFrame, RepresentsSubscriber, Subscribing, heard_of}
 
 -- ---- a frame more
 
@@ -69,7 +69,7 @@ gives_more c frames s =
     let a : Assembly = record { begun = c.assembly.begun; given = [] } in
     ap (λ (x : Assembly). x.given) (all_more a frames s) ∙ after_given (after_all a (map (λ (x : Placed). x.frame) frames)) s.frame ∙ ap (λ b. gives c frames ++ option_to_list (heard_of b s.frame).message) (begun_along a c frames refl)
 
-reads_more : (i : Image) (c : Consumer) (frames : List Placed) (at : ℕ) (s : Placed) → Reads i c frames at → Among s i.stored → s.at ≡ at → Reads i c (frames ++ s ∷ []) (end_of s)
+reads_more : (i : Image) (c : Consumer) (frames : List Placed) (at : ℕ) (s : Placed) → ReadsFrames i c frames at → Among s i.stored → s.at ≡ at → ReadsFrames i c (frames ++ s ∷ []) (end_of s)
 reads_more i c frames at s h a e = record { chain = Chain-push c.at at frames s h.chain e; among = all_append (λ x. Among x i.stored) frames (s ∷ []) h.among (a, tt) }
 
 short_more : (g : ℕ) (c : Consumer) (frames : List Placed) (s : Placed) → StaysShort g c frames → (IsTooLong g (moved_all c frames).assembly.begun s.frame → ⊥) → StaysShort g c (frames ++ s ∷ [])
@@ -105,7 +105,7 @@ pub poll_starts : (v : Subscribing) (o : Option Opened) (r : Receiver) → r.ima
 poll_starts v None r is some h = some refl
 poll_starts v (Some o) r is some h = reading (subst (AssemblesFor v.assembler.begun) is h.begun)
   where
-    reading : AssemblesFor v.assembler.begun (Some o) → HasRead o r v
+    reading : AssemblesFor v.assembler.begun (Some o) → HasReadOn o r v
     reading (c, one, begun) = record {
       consumer = c;
       one = one;
@@ -138,7 +138,7 @@ passed_here o r c at s w h =
     let same : stood c at ≡ h.consumer = same_Some (stood c at) h.consumer h.which in
     h.here ∙ ap (λ (x : Consumer). x.at) (sym same)
 
-pub hears_on : (o : Opened) (r : Receiver) (v w : Subscribing) (h : HasRead o r v) → HearsFrame (Some (with_consumer o (stood h.consumer h.at))) (now_at o r h.consumer h.at) v.assembler None w → HasRead o r w
+pub hears_on : (o : Opened) (r : Receiver) (v w : Subscribing) (h : HasReadOn o r v) → HearsFrame (Some (with_consumer o (stood h.consumer h.at))) (now_at o r h.consumer h.at) v.assembler None w → HasReadOn o r w
 hears_on o r v w h (s, passes, state, message, fits) =
     let c = h.consumer in
     let begun : w.assembler.begun ≡ (heard_of v.assembler.begun s.frame).begun = ap (λ (x : Assembling). x.begun) state in
@@ -167,7 +167,7 @@ record Whole (greatest : ℕ) (o : Opened) (c : Consumer) (answer : Answer) (at 
   here : after.at ≡ at
   begun : after.lost ≡ false → w.assembler.begun ≡ after.assembly.begun
 
-finish : (o : Opened) (r : Receiver) (w : Subscribing) (answer : Answer) (c : Consumer) (frames : List Placed) (at : ℕ) → r.consumers ≡ 1 → o.image.consumers ≡ c ∷ [] → Reads o.image c frames at
+finish : (o : Opened) (r : Receiver) (w : Subscribing) (answer : Answer) (c : Consumer) (frames : List Placed) (at : ℕ) → r.consumers ≡ 1 → o.image.consumers ≡ c ∷ [] → ReadsFrames o.image c frames at
     → ((d : Consumer) → d.at ≡ at → Represents w.core (record r { image = Some (with_consumer o d) })) → w.assembler.greatest ≡ r.greatest → StopsAt o.image frames answer at → (c.lost ≡ false → Whole r.greatest o c answer at w) → Polled (Some o) r answer w
 finish o r w answer c frames at seats one reads shown most stops whole =
     ⊎_elim
@@ -175,7 +175,7 @@ finish o r w answer c frames at seats one reads shown most stops whole =
     let d = passed_all c frames in
     let here : d.at ≡ at = passed_at c frames at reads.chain in (
       record r { image = Some (with_consumer o d) },
-      (c, d, one, inr (lost, record { frames = frames; reads = subst (Reads o.image c frames) (sym here) reads; stops = subst (StopsAt o.image frames answer) (sym here) stops; after = refl }), refl),
+      (c, d, one, inr (lost, record { frames = frames; reads = subst (ReadsFrames o.image c frames) (sym here) reads; stops = subst (StopsAt o.image frames answer) (sym here) stops; after = refl }), refl),
       record { core = shown d here; one = seats; begun = (d, refl, λ l. absurd (both_ways d.lost l (passed_lost c frames lost))); greatest = most },
     ))
     (λ (kept : c.lost ≡ false).
@@ -186,7 +186,7 @@ finish o r w answer c frames at seats one reads shown most stops whole =
     ))
     (cases_Bool c.lost)
 
-pub polls_none : (o : Opened) (r : Receiver) (v : Subscribing) (h : HasRead o r v) → r.consumers ≡ 1 → HasNoFrame (Some (with_consumer o (stood h.consumer h.at))) 0 → Polled (Some o) r (Ok None) v
+pub polls_none : (o : Opened) (r : Receiver) (v : Subscribing) (h : HasReadOn o r v) → r.consumers ≡ 1 → HasNoFrame (Some (with_consumer o (stood h.consumer h.at))) 0 → Polled (Some o) r (Ok None) v
 polls_none o r v h seats end =
     let c = h.consumer in
     let d = moved_all c h.frames in
@@ -196,7 +196,7 @@ polls_none o r v h seats end =
     finish o r v (Ok None) c h.frames h.at seats h.one h.reads h.shown h.greatest stops
     (λ kept. record {
       after = d;
-      polls = record { frames = h.frames; reads = subst (Reads o.image c h.frames) (sym here) h.reads; nothing = h.nothing kept; short = h.short kept; no_more = subst (λ p. IsContiguous o.image.stored o.image.join p) (sym here) stops; after = refl };
+      polls = record { frames = h.frames; reads = subst (ReadsFrames o.image c h.frames) (sym here) h.reads; nothing = h.nothing kept; short = h.short kept; no_more = subst (λ p. IsContiguous o.image.stored o.image.join p) (sym here) stops; after = refl };
       here = here;
       begun = λ l. h.begun kept;
     })
@@ -206,12 +206,12 @@ gives_data : (begun : Option (List ℕ)) (f : Frame) (bytes : List ℕ) → (hea
 gives_data begun (Data flags payload) bytes e = refl
 gives_data begun (Pad n) bytes e = absurd (cc)
 
-pub polls_message : (o : Opened) (r : Receiver) (v w : Subscribing) (bytes : List ℕ) (h : HasRead o r v) → r.consumers ≡ 1 → HearsFrame (Some (with_consumer o (stood h.consumer h.at))) (now_at o r h.consumer h.at) v.assembler (Some bytes) w → Polled (Some o) r (Ok (Some bytes)) w
+pub polls_message : (o : Opened) (r : Receiver) (v w : Subscribing) (bytes : List ℕ) (h : HasReadOn o r v) → r.consumers ≡ 1 → HearsFrame (Some (with_consumer o (stood h.consumer h.at))) (now_at o r h.consumer h.at) v.assembler (Some bytes) w → Polled (Some o) r (Ok (Some bytes)) w
 polls_message o r v w bytes h seats (s, passes, state, message, fits) =
     let c = h.consumer in
     let frames = h.frames ++ s ∷ [] in
     let d = moved_all c frames in
-    let reads : Reads o.image c frames (end_of s) = reads_more o.image c h.frames h.at s h.reads passes.among (passed_here o r c h.at s w.core passes) in
+    let reads : ReadsFrames o.image c frames (end_of s) = reads_more o.image c h.frames h.at s h.reads passes.among (passed_here o r c h.at s w.core passes) in
     let here : d.at ≡ end_of s = moved_at c frames (end_of s) reads.chain in
     let begun : w.assembler.begun ≡ (heard_of v.assembler.begun s.frame).begun = ap (λ (x : Assembling). x.begun) state in
     finish o r w (Ok (Some bytes)) c frames (end_of s) seats h.one reads passes.shown (ap (λ (x : Assembling). x.greatest) state ∙ h.greatest) (h.frames, s, refl, gives_data v.assembler.begun s.frame bytes (sym message))
@@ -220,7 +220,7 @@ polls_message o r v w bytes h seats (s, passes, state, message, fits) =
       polls = record {
         earlier = h.frames;
         last = s;
-        reads = subst (Reads o.image c frames) (sym here) reads;
+        reads = subst (ReadsFrames o.image c frames) (sym here) reads;
         nothing = h.nothing kept;
         message_given = gives_more c h.frames s ∙ ap₂ (λ (xs ys : List (List ℕ)). xs ++ ys) (h.nothing kept) (ap (λ b. option_to_list (heard_of b s.frame).message) (sym (h.begun kept)) ∙ ap option_to_list (sym message));
         short = short_with r.greatest c h.frames s v.assembler h.greatest (h.begun kept) (h.short kept) fits;
@@ -233,11 +233,11 @@ polls_message o r v w bytes h seats (s, passes, state, message, fits) =
 named_with : (g : ℕ) (c : Consumer) (frames : List Placed) (s : Placed) (a : Assembling) (fault : AssemblyError) → a.greatest ≡ g → a.begun ≡ (moved_all c frames).assembly.begun → ((fault ≡ TooLong) ↔ IsTooLong a.greatest a.begun s.frame) → (fault ≡ TooLong) ↔ IsTooLong g (moved_all c frames).assembly.begun s.frame
 named_with g c frames s a fault most begun h = subst (λ n. (fault ≡ TooLong) ↔ IsTooLong n (moved_all c frames).assembly.begun s.frame) most (subst (λ b. (fault ≡ TooLong) ↔ IsTooLong a.greatest b s.frame) begun h)
 
-pub polls_fault : (o : Opened) (r : Receiver) (v w : Subscribing) (fault : AssemblyError) (h : HasRead o r v) → r.consumers ≡ 1 → RefusesFrame (Some (with_consumer o (stood h.consumer h.at))) (now_at o r h.consumer h.at) v.assembler fault w → Polled (Some o) r (Err (Unassembled fault)) w
+pub polls_fault : (o : Opened) (r : Receiver) (v w : Subscribing) (fault : AssemblyError) (h : HasReadOn o r v) → r.consumers ≡ 1 → RefusesFrame (Some (with_consumer o (stood h.consumer h.at))) (now_at o r h.consumer h.at) v.assembler fault w → Polled (Some o) r (Err (Unassembled fault)) w
 polls_fault o r v w fault h seats (s, passes, state, of_data, named) =
     let c = h.consumer in
     let frames = h.frames ++ s ∷ [] in
-    let reads : Reads o.image c frames (end_of s) = reads_more o.image c h.frames h.at s h.reads passes.among (passed_here o r c h.at s w.core passes) in
+    let reads : ReadsFrames o.image c frames (end_of s) = reads_more o.image c h.frames h.at s h.reads passes.among (passed_here o r c h.at s w.core passes) in
     finish o r w (Err (Unassembled fault)) c frames (end_of s) seats h.one reads passes.shown (ap (λ (x : Assembling). x.greatest) state ∙ h.greatest) (h.frames, s, refl, of_data)
     (λ kept. record {
       after = passed_by (moved_all c h.frames) s;

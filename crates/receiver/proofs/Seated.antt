@@ -8,10 +8,10 @@ use Rattle.theory.specs.Image.{after_heartbeat, image_at}
 use Rattle.theory.specs.Wire.{Header, Setup, Wire, DATA, PAD, HEARTBEAT, NAK, SM, SETUP}
 use Rattle.assembler.specs.Assembling.{Assembling}
 use Rattle.receiver.specs.declared.receiver_core.Outcome.{Outcome}
-use Rattle.receiver.specs.Receiving.{BreaksOff, Hears, IfOurs, Meets, MeetsAll, MeetsFrame, MeetsHeartbeat, MeetsSetup, Opened, Receiver, answer_at, at_moment, given_at}
+use Rattle.receiver.specs.Receiving.{BreaksOff, TakesDatagram, IfOurs, Meets, MeetsAll, MeetsFrame, MeetsHeartbeat, MeetsSetup, Opened, Receiver, answer_at, at_moment, given_at}
 use Rattle.receiver.specs.Representing as core
 use Rattle.receiver.specs.Representing.{Represents, beaten_at}
-use Rattle.receiver.specs.Subscribing.{AssemblesFor, Becomes, Subscribing}
+use Rattle.receiver.specs.Subscribing.{AssemblesFor, SubscriberBecomes, Subscribing}
 use Rattle.theory.proofs.Stays.{beat_stays, insert_stays}
 
 -- it is to have one consumer, for which this assembler has begun what it has
@@ -78,7 +78,7 @@ all_keep b r (w ∷ ws) outs s (out, mid, rest, first, is, more) = λ k. all_kee
 at_keeps : (b : Assembling) (r : Receiver) (now : ℕ) → Keeps b r (at_moment r now)
 at_keeps b r now k = record { one = k.one; seat = k.seat; greatest = k.greatest }
 
-pub hears_keeps : (b : Assembling) (r : Receiver) (now : ℕ) (bytes : List ℕ) (outs : List Outcome) (s : Receiver) → Hears r now bytes outs s → IsSeated b r → IsSeated b s
+pub hears_keeps : (b : Assembling) (r : Receiver) (now : ℕ) (bytes : List ℕ) (outs : List Outcome) (s : Receiver) → TakesDatagram r now bytes outs s → IsSeated b r → IsSeated b s
 hears_keeps b r now bytes outs s (inl (ws, spells, met)) k = all_keep b (at_moment r now) ws outs s met (at_keeps b r now k)
 hears_keeps b r now bytes outs s (inr (fault, why, is, e)) k = keeps_same b (at_moment r now) s e (at_keeps b r now k)
 
@@ -87,7 +87,7 @@ breaks_keeps b r now bytes s (inl e) k = keeps_same b (at_moment r now) s e (at_
 breaks_keeps b r now bytes s (inr (taken, left, outs, spells, met)) k = all_keep b (at_moment r now) taken outs s met (at_keeps b r now k)
 
 -- a step of the core that keeps its consumer is one of the subscriber
-pub core_step : (v w : Subscribing) (Step : Receiver → Receiver → Type 0) → ((r s : Receiver) → Step r s → IsSeated v.assembler r → IsSeated v.assembler s) → w.assembler ≡ v.assembler → core.Becomes v.core w.core Step → Becomes v w Step
+pub core_step : (v w : Subscribing) (Step : Receiver → Receiver → Type 0) → ((r s : Receiver) → Step r s → IsSeated v.assembler r → IsSeated v.assembler s) → w.assembler ≡ v.assembler → core.Becomes v.core w.core Step → SubscriberBecomes v w Step
 core_step v w Step keeps same f = λ r h.
     let a = f r h.core in
     let k : IsSeated v.assembler a.0 = keeps r a.0 a.1 (record { one = h.one; seat = h.begun; greatest = h.greatest }) in

@@ -14,7 +14,7 @@ use Rattle.receiver.specs.declared.positions.Positions.{Positions}
 use Rattle.receiver.specs.Receiving.{Opened, Receiver}
 
 -- the consumer reads these frames, one after the other, from its position on
-pub record Reads (i : Image) (c : Consumer) (frames : List Placed) (to : ℕ) : Type 0 where
+pub record ReadsFrames (i : Image) (c : Consumer) (frames : List Placed) (to : ℕ) : Type 0 where
   pub chain : Chain c.at to frames
   pub among : AllAmong i.stored frames
 
@@ -46,7 +46,7 @@ StaysShort greatest c (s ∷ ss) = (IsTooLong greatest c.assembly.begun s.frame 
 pub record PollsMessage (greatest : ℕ) (i : Image) (c : Consumer) (message : List ℕ) (d : Consumer) : Type 0 where
   pub earlier : List Placed
   pub last : Placed
-  pub reads : Reads i c (earlier ++ last ∷ []) d.at
+  pub reads : ReadsFrames i c (earlier ++ last ∷ []) d.at
   pub nothing : gives c earlier ≡ []
   pub message_given : gives c (earlier ++ last ∷ []) ≡ message ∷ []
   pub short : StaysShort greatest c (earlier ++ last ∷ [])
@@ -55,7 +55,7 @@ pub record PollsMessage (greatest : ℕ) (i : Image) (c : Consumer) (message : L
 -- all frames that are there, none of which completes a message
 pub record PollsNothing (greatest : ℕ) (i : Image) (c d : Consumer) : Type 0 where
   pub frames : List Placed
-  pub reads : Reads i c frames d.at
+  pub reads : ReadsFrames i c frames d.at
   pub nothing : gives c frames ≡ []
   pub short : StaysShort greatest c frames
   pub no_more : IsContiguous i.stored i.join d.at
@@ -65,7 +65,7 @@ pub record PollsNothing (greatest : ℕ) (i : Image) (c d : Consumer) : Type 0 w
 pub record PollsFault (greatest : ℕ) (i : Image) (c : Consumer) (fault : AssemblyError) (d : Consumer) : Type 0 where
   pub earlier : List Placed
   pub last : Placed
-  pub reads : Reads i c (earlier ++ last ∷ []) d.at
+  pub reads : ReadsFrames i c (earlier ++ last ∷ []) d.at
   pub nothing : gives c earlier ≡ []
   pub not_padding : is_padding last.frame ≡ false
   pub short : StaysShort greatest c earlier
@@ -90,7 +90,7 @@ StopsAt i frames (Err NoImage) q = ⊥
 -- a consumer whose assembler has refused a frame goes on; of which message it gives then, and where, nothing is said
 pub record PollsOn (i : Image) (c : Consumer) (answer : Answer) (d : Consumer) : Type 0 where
   pub frames : List Placed
-  pub reads : Reads i c frames d.at
+  pub reads : ReadsFrames i c frames d.at
   pub stops : StopsAt i frames answer d.at
   pub after : d ≡ passed_all c frames
 

@@ -96,8 +96,8 @@ MeetsHeartbeat None r h out s = Misses r h out s
 MeetsHeartbeat (Some o) r h out s =
     (out ≡ outcomes.Heartbeat) × (s ≡ record r { image = Some (record o { image = after_heartbeat o.geometry o.image (least_of o.image.consumers) (named_by o.geometry h) }) })
 
-abbrev pub Opens : Receiver → Setup → Outcome → Receiver → Type 0
-Opens r f out s =
+abbrev pub OpensImage : Receiver → Setup → Outcome → Receiver → Type 0
+OpensImage r f out s =
     (g : Geometry) × (p : ℕ) × OpensAt f r.window g p × (out ≡ outcomes.Opened p)
     × (s ≡ record r { image = Some (record { geometry = g; image = image_at p r.window r.consumers }); unmet = None })
 
@@ -105,7 +105,7 @@ abbrev pub RefusesSetup : Receiver → Setup → Outcome → Receiver → Type 0
 RefusesSetup r f out s = (e : SetupError) × HasSetupFault f r.window (fault_of e) × (out ≡ outcomes.SetupRefused e) × (s ≡ r)
 
 abbrev pub MeetsSetup : Option Opened → Receiver → Setup → Outcome → Receiver → Type 0
-MeetsSetup None r f out s = Opens r f out s ⊎ RefusesSetup r f out s
+MeetsSetup None r f out s = OpensImage r f out s ⊎ RefusesSetup r f out s
 MeetsSetup (Some o) r f out s = (out ≡ outcomes.Kept) × (s ≡ r)
 
 -- what becomes of one frame, and the receiver after it
@@ -131,8 +131,8 @@ abbrev pub RefusesDatagram : Receiver → List ℕ → List Outcome → Receiver
 RefusesDatagram r bytes outs s = (fault : FrameError) × IsDatagramFault bytes fault × (outs ≡ outcomes.Refused fault ∷ []) × (s ≡ r)
 
 -- a datagram at a moment
-abbrev pub Hears : Receiver → ℕ → List ℕ → List Outcome → Receiver → Type 0
-Hears r now bytes outs s = MeetsDatagram (at_moment r now) bytes outs s ⊎ RefusesDatagram (at_moment r now) bytes outs s
+abbrev pub TakesDatagram : Receiver → ℕ → List ℕ → List Outcome → Receiver → Type 0
+TakesDatagram r now bytes outs s = MeetsDatagram (at_moment r now) bytes outs s ⊎ RefusesDatagram (at_moment r now) bytes outs s
 
 -- the same, broken off for want of memory: the frames before some frame were taken, and no other
 abbrev pub BreaksOff : Receiver → ℕ → List ℕ → Receiver → Type 0

@@ -8,7 +8,7 @@ use Rattle.assembler.specs.declared.fault.AssemblyError.{AssemblyError}
 use Rattle.assembler.specs.declared.fault.AssemblyError.TheVariants.{TooLong}
 use Rattle.assembler.specs.declared.assembler.Message.{Message}
 use Rattle.receiver.specs.declared.poll_error.PollError.{PollError}
-use Rattle.receiver.specs.Polling.{Answer, IsTooLong, Reads, StaysShort, gives, moved_all, with_consumer}
+use Rattle.receiver.specs.Polling.{Answer, IsTooLong, ReadsFrames, StaysShort, gives, moved_all, with_consumer}
 use Rattle.receiver.specs.Receiving.{Opened, Receiver}
 use Rattle.receiver.specs.Representing.{Core, Represents, with_reader}
 
@@ -35,8 +35,8 @@ pub record RepresentsSubscriber (v : Subscribing) (r : Receiver) : Type 0 where
   pub greatest : v.assembler.greatest ≡ r.greatest
 
 -- whatever receiver the old state shows becomes one by this step that the new state shows
-abbrev pub Becomes : Subscribing → Subscribing → (Receiver → Receiver → Type 0) → Type 0
-Becomes old new Step = (r : Receiver) → RepresentsSubscriber old r → (s : Receiver) × Step r s × RepresentsSubscriber new s
+abbrev pub SubscriberBecomes : Subscribing → Subscribing → (Receiver → Receiver → Type 0) → Type 0
+SubscriberBecomes old new Step = (r : Receiver) → RepresentsSubscriber old r → (s : Receiver) × Step r s × RepresentsSubscriber new s
 
 -- what a frame leaves begun, and the message that it completes; a padding is passed over
 abbrev pub heard_of : Option (List ℕ) → Frame → Heard
@@ -67,12 +67,12 @@ RefusesFrame (Some o) r before fault new =
 -- ---- in the course of a poll
 
 -- of a receiver with an image: these frames were read, and no message came of them
-pub record HasRead (o : Opened) (r : Receiver) (v : Subscribing) : Type 0 where
+pub record HasReadOn (o : Opened) (r : Receiver) (v : Subscribing) : Type 0 where
   pub consumer : Consumer
   pub one : o.image.consumers ≡ consumer ∷ []
   pub frames : List Placed
   pub at : ℕ
-  pub reads : Reads o.image consumer frames at
+  pub reads : ReadsFrames o.image consumer frames at
   pub shown : (d : Consumer) → d.at ≡ at → Represents v.core (record r { image = Some (with_consumer o d) })
   pub nothing : consumer.lost ≡ false → gives consumer frames ≡ []
   pub short : consumer.lost ≡ false → StaysShort r.greatest consumer frames
@@ -81,4 +81,4 @@ pub record HasRead (o : Opened) (r : Receiver) (v : Subscribing) : Type 0 where
 
 abbrev pub IsPolling : Option Opened → Receiver → Subscribing → Type 0
 IsPolling None r v = ⊥
-IsPolling (Some o) r v = HasRead o r v
+IsPolling (Some o) r v = HasReadOn o r v

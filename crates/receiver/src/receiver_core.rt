@@ -107,7 +107,7 @@ impl Model for ReceiverCore {
 }
 
 impl ReceiverCore {
-    ghost use Rattle.receiver.specs.Receiving.{BreaksOff, Hears, IfOurs, Meets, MeetsAll, MeetsFrame, MeetsHeartbeat, MeetsSetup, Receiver, listening, replied, replies, telling, ticked, told_after};
+    ghost use Rattle.receiver.specs.Receiving.{BreaksOff, TakesDatagram, IfOurs, Meets, MeetsAll, MeetsFrame, MeetsHeartbeat, MeetsSetup, Receiver, listening, replied, replies, telling, ticked, told_after};
     ghost use Rattle.receiver.specs.Representing.{Becomes, GoesForward, HasNoFrame, MeetsFirst, PassesFrame, Represents, place_in};
 
     /// A receiver without an image, for one to eight consumers. Its window is in bytes.
@@ -173,7 +173,7 @@ impl ReceiverCore {
     /// Takes a datagram, and says what became of each of its frames. At an error some first frames of it were taken;
     /// it may be handed in again.
     pub fn on_datagram(&mut self, bytes: &[u8], now: u64) -> Result<Vec<Outcome>, AllocError>
-        ensures heard { IfOk result (λ outs. Becomes self.old self.new (λ r s. Hears r now bytes.now outs.items s)) }
+        ensures heard { IfOk result (λ outs. Becomes self.old self.new (λ r s. TakesDatagram r now bytes.now outs.items s)) }
         ensures broken_off { OnErr result (Becomes self.old self.new (λ r s. BreaksOff r now bytes.now s)) }
         ensures consumers { self.new.consumers ≡ self.old.consumers }
     {

@@ -74,9 +74,9 @@ fn assemble(
 
 impl Subscriber {
     ghost use Rattle.receiver.specs.Polling.{Polls, TellsPositions};
-    ghost use Rattle.receiver.specs.Receiving.{BreaksOff, Hears, Receiver, replied, replies, ticked};
+    ghost use Rattle.receiver.specs.Receiving.{BreaksOff, TakesDatagram, Receiver, replied, replies, ticked};
     ghost use Rattle.receiver.specs.Representing.{GoesForward, HasNoFrame, Represents, place_in};
-    ghost use Rattle.receiver.specs.Subscribing.{Becomes, HearsFrame, answer_of, RefusesFrame, RepresentsSubscriber};
+    ghost use Rattle.receiver.specs.Subscribing.{SubscriberBecomes, HearsFrame, answer_of, RefusesFrame, RepresentsSubscriber};
 
     /// A subscriber to what this core will receive: one that has no image yet and will have one consumer. Messages are
     /// of at most `greatest` bytes. The error comes only where memory was refused.
@@ -96,8 +96,8 @@ impl Subscriber {
     /// Takes a datagram, and says what became of each of its frames. At an error some first frames of it were taken;
     /// it may be handed in again.
     pub fn on_datagram(&mut self, bytes: &[u8], now: u64) -> Result<Vec<Outcome>, AllocError>
-        ensures heard { IfOk result (λ outs. Becomes self.old self.new (λ r s. Hears r now bytes.now outs.items s)) }
-        ensures broken_off { OnErr result (Becomes self.old self.new (λ r s. BreaksOff r now bytes.now s)) }
+        ensures heard { IfOk result (λ outs. SubscriberBecomes self.old self.new (λ r s. TakesDatagram r now bytes.now outs.items s)) }
+        ensures broken_off { OnErr result (SubscriberBecomes self.old self.new (λ r s. BreaksOff r now bytes.now s)) }
         ensures assembler { self.new.assembler ≡ self.old.assembler }
     {
         self.core.on_datagram(bytes, now)
@@ -116,7 +116,7 @@ impl Subscriber {
     /// Reads on until a message is complete, the assembler refuses a frame, or no frame is left: none then. The fault is
     /// `A2` exactly where the message would be longer than the greatest.
     pub fn poll(&mut self) -> Result<Option<Message<Global>>, PollError>
-        ensures polled { Becomes self.old self.new (λ r s. Polls r (answer_of result) s) }
+        ensures polled { SubscriberBecomes self.old self.new (λ r s. Polls r (answer_of result) s) }
         ensures greatest { self.new.assembler.greatest ≡ self.old.assembler.greatest }
     {
         if self.core.image().is_none() {

@@ -6,7 +6,7 @@ use Rattle.std.specs.List.{list_any}
 use Rattle.std.specs.List.Sorted.{IsNonDecreasingBy}
 use Rattle.std.proofs.lemmas.Bool.{cases_Bool, and_right, cond-true, cond-false, leb-true, leb-false, le-leb, lt-leb, le-ltb, lt-ltb, or_right, eqb-true, ltb-false}
 use Rattle.std.proofs.lemmas.List.Elements.{filter-append}
-use Rattle.retransmit.specs.Spaced.{AreSpaced, Parts, begins_below}
+use Rattle.retransmit.specs.Spaced.{AreSpaced, SplitsAt, begins_below}
 
 pub lower_bound : (lower upper : ℕ) (xs : List ℕ) (k d : ℕ) → AreSpaced lower upper xs → k < length xs → lower ≤ get_or xs k d
 lower_bound lower upper [] k d h lt = absurd (omega (arith, lt))
@@ -41,7 +41,7 @@ found_at p (x ∷ xs) (suc i) below above =
 
 -- where a search by halving ends
 pub parts_at : (lower upper : ℕ) (xs : List ℕ) (p : ℕ) (r : Result ℕ ℕ) → AreSpaced lower upper xs → MatchResult r (λ i. (i < length xs) × (get_or xs i 0 ≡ p)) (λ i. (i ≤ length xs) × ((k : ℕ) → k < i → get_or xs k 0 < p) × ((k : ℕ) → i ≤ k → k < length xs → p < get_or xs k 0))
-    → MatchResult r (Parts xs p) (Parts xs p)
+    → MatchResult r (SplitsAt xs p) (SplitsAt xs p)
 parts_at lower upper xs p (Ok i) h found = record {
   below = λ k lt in'. let far = apart lower upper xs k i 0 h lt found.0 in let is = found.1 in omega (arith, far, is);
   above = λ k le in'. let up = sorted lower upper xs h i k 0 le in' in let is = found.1 in omega (arith, up, is);

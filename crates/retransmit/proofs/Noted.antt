@@ -2,7 +2,7 @@
 use Rattle.std.proofs.Common.{◌≡◌, ℕ, ◌+◌, ◌-◌, ◌*◌, ◌/◌, ◌≤◌, List, [], ◌∷◌, ◌++◌, filter, max, nat_le, arith, subst, sym, ◌∙◌}
 use Rattle.theory.specs.Position.{Geometry, max_position}
 use Rattle.retransmit.specs.declared.action.Action.{Action}
-use Rattle.retransmit.specs.Handler.{IsKept, is_near}
+use Rattle.retransmit.specs.Handler.{IsHandler, is_near}
 use Rattle.retransmit.specs.Spaced.{AreSpaced}
 use Rattle.retransmit.proofs.Ascending.{one_more, kept_spaced, same_near}
 
@@ -10,7 +10,7 @@ pub still_spaced : (start at end reach : ℕ) (xs : List ℕ) → start ≤ at �
 still_spaced start at end reach xs from far h =
     kept_spaced (max start (at - reach)) end (end - reach) (max start (end - reach)) (xs ++ at ∷ []) (one_more (max start (at - reach)) at end xs h far) (omega arith) (λ p a b. omega (arith, a, b))
 
-pub still_kept : (g : Geometry) (start at end room room' places : ℕ) (xs ys : List ℕ) (actions : List Action) → IsKept g start at xs room actions places → at + 32 ≤ end → end ≤ max_position g → ys ≡ filter (is_near g end) (xs ++ at ∷ []) → room' ≡ room → IsKept g start end ys room' actions places
+pub still_kept : (g : Geometry) (start at end room room' places : ℕ) (xs ys : List ℕ) (actions : List Action) → IsHandler g start at xs room actions places → at + 32 ≤ end → end ≤ max_position g → ys ≡ filter (is_near g end) (xs ++ at ∷ []) → room' ≡ room → IsHandler g start end ys room' actions places
 still_kept g start at end room room' places xs ys actions k far within e same =
     let reach = 3 * g.term_length / 4 in
     let fits = k.starts_fit in

@@ -62,7 +62,7 @@ abbrev pub after_due : Handler → ℕ → Handler
 after_due h now = record h { clock = seen h.clock now; actions = answered_first (seen h.clock now) h.actions (first_due h.actions) }
 
 -- what holds of a handler's parts between two calls
-pub record IsKept (g : Geometry) (start at : ℕ) (starts : List ℕ) (room : ℕ) (actions : List Action) (places : ℕ) : Type 0 where
+pub record IsHandler (g : Geometry) (start at : ℕ) (starts : List ℕ) (room : ℕ) (actions : List Action) (places : ℕ) : Type 0 where
   pub geometry : IsGeometry g
   pub from : start ≤ at
   pub in_stream : at ≤ max_position g

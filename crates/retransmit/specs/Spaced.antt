@@ -12,6 +12,6 @@ begins_below from [] = false
 begins_below from (p ∷ ps) = nat_lt p from
 
 -- at this place those below the position end, and the others begin
-pub record Parts (starts : List ℕ) (position place : ℕ) : Type 0 where
+pub record SplitsAt (starts : List ℕ) (position place : ℕ) : Type 0 where
   pub below : (k : ℕ) → k < place → k < length starts → slice_index starts k < position
   pub above : (k : ℕ) → place ≤ k → k < length starts → position ≤ slice_index starts k

@@ -38,13 +38,13 @@ pub struct Retransmit {
 impl Model for Retransmit {
     ghost use Rattle.std.specs.Prelude.{map, vec_capacity};
     ghost use Rattle.std.specs.VecDeque.{deque_capacity};
-    ghost use Rattle.retransmit.specs.Handler.{Handler, IsKept, meaning};
+    ghost use Rattle.retransmit.specs.Handler.{Handler, IsHandler, meaning};
 
     ghost Value = { Handler };
 
     ghost view = { λ r. record { geometry = r.geometry; start = r.start; at = r.at; clock = r.clock; starts = r.starts.items; actions = map meaning r.actions.items } };
 
-    ghost invariant = { λ r. IsKept r.geometry r.start r.at r.starts.items (deque_capacity r.starts) r.actions.items (vec_capacity r.actions) };
+    ghost invariant = { λ r. IsHandler r.geometry r.start r.at r.starts.items (deque_capacity r.starts) r.actions.items (vec_capacity r.actions) };
 }
 
 impl Retransmit {

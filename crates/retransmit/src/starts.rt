@@ -1,6 +1,6 @@
 //! Frame starts in ascending order, found by halving.
 ghost use Rattle.std.specs.Prelude.{◌≡◌, ◌<◌, ◌+◌, ◌*◌, [], ◌∷◌, ◌++◌, ◌&&◌, ℕ, nat_le, nat_lt, find, filter, IfSome};
-ghost use Rattle.retransmit.specs.Spaced.{AreSpaced, Parts, begins_below as begins_so};
+ghost use Rattle.retransmit.specs.Spaced.{AreSpaced, SplitsAt, begins_below as begins_so};
 ghost use Rattle.std.specs.VecDeque.{deque_capacity};
 
 use std::collections::VecDeque;
@@ -28,7 +28,7 @@ pub(crate) fn first_in(starts: &VecDeque<u64>, from: u64, end: u64) -> Option<u6
 /// How many starts are below a position.
 fn place_of(starts: &VecDeque<u64>, position: u64) -> usize
     requires { (lower : ℕ) × (upper : ℕ) × AreSpaced lower upper starts.now.items }
-    ensures { Parts starts.now.items position result }
+    ensures { SplitsAt starts.now.items position result }
 {
     match starts.binary_search(&position) {
         Ok(place) => place,

@@ -1,6 +1,6 @@
 ghost use Rattle.std.specs.Prelude.{◌≡◌, ◌≤◌, ◌%◌, true};
 ghost use Rattle.log_buffer.specs.Leaves.{Leaves};
-ghost use Rattle.log_buffer.specs.Log.{Cleans, IsLeast, IsLog, clean_end};
+ghost use Rattle.log_buffer.specs.Log.{Cleans, IsLeastOf, IsLog, clean_end};
 ghost use Rattle.rotation.specs.Limited.{CleansAndLimits, raised};
 
 use log_buffer::{Keeper, Limit, LogState};
@@ -47,7 +47,7 @@ pub fn clean_and_limit(log: &mut LogState, _keeper: &mut Keeper) -> u64
 
 /// Cleans all that is a term or more below the least consumer's position.
 fn clean_below(log: &mut LogState, least: u64)
-    requires lowest { IsLeast log.old.consumers least }
+    requires lowest { IsLeastOf log.old.consumers least }
     requires unit { least % 32 ≡ 0 }
     requires readable { log.old.cleaned ≤ clean_end log.old least }
     requires legal { IsLog log.old }
@@ -61,7 +61,7 @@ fn clean_below(log: &mut LogState, least: u64)
 
 /// Cleans word after word up to a position. No consumer is below the least one.
 fn clean_to(log: &mut LogState, least: u64, end: u64)
-    requires lowest { IsLeast log.old.consumers least }
+    requires lowest { IsLeastOf log.old.consumers least }
     requires end { end ≡ clean_end log.old least }
     requires whole { end % 8 ≡ 0 }
     requires further { log.old.cleaned ≤ end }

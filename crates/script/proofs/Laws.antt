@@ -5,7 +5,7 @@ use Rattle.std.specs.List.{list_any, filter}
 use Rattle.script.specs.Meaning.{Opening, CommandContent, ScriptContent}
 use Rattle.script.specs.Pieces.{lines}
 use Rattle.script.specs.Reading.{with_front, behind, finished, is_log, log_of, command_of, script_of, script_from}
-use Rattle.script.specs.Language.{Opens, is_full, AllSay, IsScript}
+use Rattle.script.specs.Language.{SaysOpening, is_full, AllSay, IsScript}
 use Rattle.script.proofs.Commands.{command_found, command_only}
 use Rattle.script.proofs.Openings.{log_found, log_only, begins_only, not_begun}
 use Rattle.script.proofs.Whole.{no_log, with_log}
@@ -61,7 +61,7 @@ says_only number log ((byte ∷ line) ∷ ls) (command ∷ commands) (first, lat
 
 -- what a script is, over its lines
 abbrev pub Tells : List (List ℕ) → Opening → List CommandContent → Type 0
-Tells ls log commands = (first : List ℕ) × (rest : List (List ℕ)) × (filter is_full ls ≡ first ∷ rest) × Opens first log × AllSay rest commands
+Tells ls log commands = (first : List ℕ) × (rest : List (List ℕ)) × (filter is_full ls ≡ first ∷ rest) × SaysOpening first log × AllSay rest commands
 
 opened_found : (number : ℕ) (ls : List (List ℕ)) (log : Opening) (commands : List CommandContent) → script_from number None ls ≡ Ok (Some log, commands) → Tells ls log commands
 unfolding script_from
@@ -74,7 +74,7 @@ opened_found number ((byte ∷ line) ∷ ls) log commands e =
     let read = behind_ok number (log_of (byte ∷ line)) (λ l. script_from (number + 1) (Some l) ls) (Some log, commands) e in
     let later = says_found (number + 1) read.0 ls (Some log) commands read.2 in
     let same : read.0 ≡ log = cc in
-    (byte ∷ line, filter is_full ls, refl, subst (Opens (byte ∷ line)) same (log_found (byte ∷ line) read.0 read.1), later.1)
+    (byte ∷ line, filter is_full ls, refl, subst (SaysOpening (byte ∷ line)) same (log_found (byte ∷ line) read.0 read.1), later.1)
 
 opened_only : (number : ℕ) (ls : List (List ℕ)) (log : Opening) (commands : List CommandContent) → Tells ls log commands → script_from number None ls ≡ Ok (Some log, commands)
 unfolding script_from
@@ -83,7 +83,7 @@ opened_only number ([] ∷ ls) log commands tells = opened_only (number + 1) ls 
 opened_only number ((byte ∷ line) ∷ ls) log commands (first, rest, full, opens, says) =
     let here : first ≡ byte ∷ line = cc in
     let there : rest ≡ filter is_full ls = cc in
-    ap (λ found. behind number found (λ l. script_from (number + 1) (Some l) ls)) (log_only (byte ∷ line) log (subst (λ l. Opens l log) here opens))
+    ap (λ found. behind number found (λ l. script_from (number + 1) (Some l) ls)) (log_only (byte ∷ line) log (subst (λ l. SaysOpening l log) here opens))
     ∙ says_only (number + 1) log ls commands (subst (λ rest. AllSay rest commands) there says)
 
 or_right : (a b : Bool) → b ≡ true → (a || b) ≡ true
@@ -95,7 +95,7 @@ has_log [] log commands (first, rest, full, opens, says) = absurd (cc)
 has_log ([] ∷ ls) log commands tells = or_right (is_log []) _ (has_log ls log commands tells)
 has_log ((byte ∷ line) ∷ ls) log commands (first, rest, full, opens, says) =
     let here : first ≡ byte ∷ line = cc in
-    let opened : Opens (byte ∷ line) log = subst (λ l. Opens l log) here opens in
+    let opened : SaysOpening (byte ∷ line) log = subst (λ l. SaysOpening l log) here opens in
     ap (λ t. t || list_any is_log ls) (begins_only (byte ∷ line) log opened)
 
 -- a log line that isn't met leaves only empty lines

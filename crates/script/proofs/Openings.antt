@@ -5,7 +5,7 @@ use Rattle.script.specs.Meaning.{Opening}
 use Rattle.script.specs.Pieces.{words}
 use Rattle.script.specs.Values.{◌>>=◌}
 use Rattle.script.specs.Reading.{word_at, number_at, signed_at, most_wide, opening_of, log_of, is_log, is_log_name}
-use Rattle.script.specs.Language.{AreLogWords, SayLog, Opens, BeginsLog}
+use Rattle.script.specs.Language.{AreLogWords, SayLog, SaysOpening, BeginsLog}
 use Rattle.script.proofs.Options.{bind_some, some_bind, guarded_step}
 use Rattle.script.proofs.Fields.{same_name, word_found, number_at_found, number_at_only, signed_at_found, signed_at_only, whole_found, whole_only}
 
@@ -50,7 +50,7 @@ opening_only log a b c d e f g ws are =
 read_log : List (List ℕ) → Option Opening
 read_log ws = word_at ws >>= λ name. cond (bytes_eq name.0 (codes "log")) (opening_of name.1) None
 
-pub log_found : (line : List ℕ) (log : Opening) → log_of line ≡ Some log → Opens line log
+pub log_found : (line : List ℕ) (log : Opening) → log_of line ≡ Some log → SaysOpening line log
 unfolding log_of
 log_found line log e =
     let name = bind_some (word_at (words line)) (λ name. cond (bytes_eq name.0 (codes "log")) (opening_of name.1) None) log e in
@@ -62,7 +62,7 @@ words_open : (ws : List (List ℕ)) (log : Opening) → SayLog ws log → read_l
 unfolding read_log word_at
 words_open ws log (a, b, c, d, e, f, g, are) = ap read_log are.words ∙ opening_only log a b c d e f g ws are
 
-pub log_only : (line : List ℕ) (log : Opening) → Opens line log → log_of line ≡ Some log
+pub log_only : (line : List ℕ) (log : Opening) → SaysOpening line log → log_of line ≡ Some log
 unfolding log_of read_log
 log_only line log opens = words_open (words line) log opens
 
@@ -83,5 +83,5 @@ pub not_begun : is_log [] ≡ false
 unfolding is_log word_at words
 not_begun = refl
 
-pub begins_only : (line : List ℕ) (log : Opening) → Opens line log → is_log line ≡ true
+pub begins_only : (line : List ℕ) (log : Opening) → SaysOpening line log → is_log line ≡ true
 begins_only line log (a, b, c, d, e, f, g, opens) = begins_log line (a ∷ b ∷ c ∷ d ∷ e ∷ f ∷ g ∷ [], opens.words)

@@ -9,7 +9,7 @@ use Rattle.script.specs.declared.fault.ScriptFault.{ScriptFault}
 use Rattle.script.specs.declared.fault.ScriptFault.TheVariants.{Line, Memory}
 use Rattle.script.specs.Meaning.{Opening, CommandContent}
 use Rattle.script.specs.Pieces.{with_first, lines}
-use Rattle.script.specs.Reading.{with_front, behind, FailsAt, FaultIs, finished, is_log, script_of, script_from, log_of, command_of, GoesOn}
+use Rattle.script.specs.Reading.{with_front, behind, FailsAt, FaultIs, finished, is_log, script_of, script_from, log_of, command_of, ReadsOn}
 
 -- no text has more lines than bytes
 more_lines : (x : ℕ) (ls : List (List ℕ)) (n : ℕ) → length ls ≤ n → length (with_first x ls) ≤ n + 1
@@ -26,7 +26,7 @@ lines_few [] = omega arith
 lines_few (x ∷ xs) = omega (arith, one_more x (lines xs) (length xs) (x == 10) (lines_few xs))
 
 -- an empty line does nothing
-pub empty_line : (number : ℕ) (line : List ℕ) (log : Option Opening) (commands : List CommandContent) → length line ≡ 0 → GoesOn number line log commands log commands
+pub empty_line : (number : ℕ) (line : List ℕ) (log : Option Opening) (commands : List CommandContent) → length line ≡ 0 → ReadsOn number line log commands log commands
 unfolding script_from
 empty_line number [] log commands none rest = refl
 empty_line number (byte ∷ line) log commands none rest = absurd (omega arith)
@@ -36,7 +36,7 @@ unfolding script_from
 log_refused number [] rest some refused = absurd (omega arith)
 log_refused number (byte ∷ line) rest some refused = ap (λ found. behind number found (λ log. script_from (number + 1) (Some log) rest)) refused
 
-pub log_opened : (number : ℕ) (line : List ℕ) (log : Opening) (commands : List CommandContent) → 0 < length line → log_of line ≡ Some log → GoesOn number line None commands (Some log) commands
+pub log_opened : (number : ℕ) (line : List ℕ) (log : Opening) (commands : List CommandContent) → 0 < length line → log_of line ≡ Some log → ReadsOn number line None commands (Some log) commands
 unfolding script_from
 log_opened number [] log commands some read rest = absurd (omega arith)
 log_opened number (byte ∷ line) log commands some read rest = sym (ap (λ found. with_front commands (behind number found (λ l. script_from (number + 1) (Some l) rest))) read)
@@ -50,7 +50,7 @@ put_first : (commands : List CommandContent) (command : CommandContent) (read : 
 put_first commands command (Err number) = refl
 put_first commands command (Ok (log, rest)) = ap (λ os. Ok (log, os)) (append_assoc commands (command ∷ []) rest)
 
-pub command_added : (number : ℕ) (line : List ℕ) (log : Opening) (commands : List CommandContent) (command : CommandContent) → 0 < length line → command_of line ≡ Some command → GoesOn number line (Some log) commands (Some log) (commands ++ command ∷ [])
+pub command_added : (number : ℕ) (line : List ℕ) (log : Opening) (commands : List CommandContent) (command : CommandContent) → 0 < length line → command_of line ≡ Some command → ReadsOn number line (Some log) commands (Some log) (commands ++ command ∷ [])
 unfolding script_from
 command_added number [] log commands command some read rest = absurd (omega arith)
 command_added number (byte ∷ line) log commands command some read rest =

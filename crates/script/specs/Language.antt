@@ -74,8 +74,8 @@ pub record AreLogWords (ws : List (List ℕ)) (log : Opening) (term_length mtu i
 abbrev pub SayLog : List (List ℕ) → Opening → Type 0
 SayLog ws log = (a : List ℕ) × (b : List ℕ) × (c : List ℕ) × (d : List ℕ) × (e : List ℕ) × (f : List ℕ) × (g : List ℕ) × AreLogWords ws log a b c d e f g
 
-abbrev pub Opens : List ℕ → Opening → Type 0
-Opens line log = SayLog (words line) log
+abbrev pub SaysOpening : List ℕ → Opening → Type 0
+SaysOpening line log = SayLog (words line) log
 
 abbrev pub Says : List ℕ → CommandContent → Type 0
 Says line command = SayCommand (words line) command
@@ -94,12 +94,12 @@ AllSay (line ∷ ls) (command ∷ commands) = Says line command × AllSay ls com
 
 -- Of the lines that aren't empty the first opens the log, and the others say the commands.
 abbrev pub IsScript : List ℕ → ScriptContent → Type 0
-IsScript text script = (first : List ℕ) × (rest : List (List ℕ)) × (filter is_full (lines text) ≡ first ∷ rest) × Opens first script.log × AllSay rest script.commands
+IsScript text script = (first : List ℕ) × (rest : List (List ℕ)) × (filter is_full (lines text) ≡ first ∷ rest) × SaysOpening first script.log × AllSay rest script.commands
 
 -- A line fits behind others: it is empty; or it opens the log, and they are empty; or it says a command, and they aren't.
 abbrev pub FitsBehind : List (List ℕ) → List ℕ → Type 0
 FitsBehind before line =
-    (line ≡ []) ⊎ (((filter is_full before ≡ []) × ((log : Opening) × Opens line log))
+    (line ≡ []) ⊎ (((filter is_full before ≡ []) × ((log : Opening) × SaysOpening line log))
     ⊎ ((0 < length (filter is_full before)) × ((command : CommandContent) × Says line command)))
 
 -- the line at this place, counted from 0, fits behind those above it

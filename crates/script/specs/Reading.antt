@@ -8,9 +8,9 @@ use Rattle.script.specs.Pieces.{lines, words}
 use Rattle.script.specs.Values.{◌>>=◌, number_of, signed_of, hex_of}
 
 -- What was returned, seen by `view`, is what reading gives.
-abbrev pub Gives : {X Y : Type 0} → (X → Y) → Option X → Option Y → Type 0
-Gives view (Some x) read = read ≡ Some (view x)
-Gives view None read = read ≡ None
+abbrev pub ReturnsRead : {X Y : Type 0} → (X → Y) → Option X → Option Y → Type 0
+ReturnsRead view (Some x) read = read ≡ Some (view x)
+ReturnsRead view None read = read ≡ None
 
 -- The same of a line with this number, unless memory runs out.
 abbrev pub FailsAt : {Y : Type 0} → ℕ → ScriptFault → Option Y → Type 0
@@ -152,8 +152,8 @@ script_from number None ((byte ∷ line) ∷ rest) = behind number (log_of (byte
 script_from number (Some log) ((byte ∷ line) ∷ rest) = behind number (command_of (byte ∷ line)) (λ command. with_front (command ∷ []) (script_from (number + 1) (Some log) rest))
 
 -- a line on, the rest says the same
-abbrev pub GoesOn : ℕ → List ℕ → Option Opening → List CommandContent → Option Opening → List CommandContent → Type 0
-GoesOn number line log commands next_log next_commands = (rest : List (List ℕ)) → with_front next_commands (script_from (number + 1) next_log rest) ≡ with_front commands (script_from number log (line ∷ rest))
+abbrev pub ReadsOn : ℕ → List ℕ → Option Opening → List CommandContent → Option Opening → List CommandContent → Type 0
+ReadsOn number line log commands next_log next_commands = (rest : List (List ℕ)) → with_front next_commands (script_from (number + 1) next_log rest) ≡ with_front commands (script_from number log (line ∷ rest))
 
 abbrev pub finished : Result (Option Opening × List CommandContent) ℕ → Result ScriptContent ℕ
 finished (Err number) = Err number

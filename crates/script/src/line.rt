@@ -1,6 +1,6 @@
 ghost use Rattle.std.specs.Prelude.{◌≡◌, ◌^◌, ◌≤◌, IfSome};
 ghost use Rattle.script.specs.Meaning.{opening, content_of};
-ghost use Rattle.script.specs.Reading.{Gives, GivesAt, number_at, signed_at, offer_hex_of, offer_size_of, form_of, offer_of, claim_of, commit_of, abort_of, read_of, send_of, deliver_of, tick_of, reply_of, poll_of, image_of, plain_of, command_of, opening_of, log_of, is_log};
+ghost use Rattle.script.specs.Reading.{ReturnsRead, GivesAt, number_at, signed_at, offer_hex_of, offer_size_of, form_of, offer_of, claim_of, commit_of, abort_of, read_of, send_of, deliver_of, tick_of, reply_of, poll_of, image_of, plain_of, command_of, opening_of, log_of, is_log};
 ghost use Rattle.script.specs.Rests.{words_left};
 
 use crate::command::{Command, LogLine, PartyNumber};
@@ -12,7 +12,7 @@ use std::alloc::Global;
 /// The number that the first word spells, if it is at most `most`, and the words after it.
 #[tactic(auto, unfolding(crate::specs::Reading::number_at))]
 fn number_at(words: Words<'_>, most: u64) -> Option<(u64, Words<'_>)>
-    ensures value { Gives (λ found. (found.0, words_left found.1)) result (number_at most (words_left words.entry)) }
+    ensures value { ReturnsRead (λ found. (found.0, words_left found.1)) result (number_at most (words_left words.entry)) }
     ensures bound { IfSome result (λ found. found.0 ≤ most) }
 {
     let (word, rest) = words.first()?;
@@ -23,7 +23,7 @@ fn number_at(words: Words<'_>, most: u64) -> Option<(u64, Words<'_>)>
 /// The signed number that the first word spells, and the words after it.
 #[tactic(auto, unfolding(crate::specs::Reading::signed_at))]
 fn signed_at(words: Words<'_>) -> Option<(i32, Words<'_>)>
-    ensures { Gives (λ found. (found.0, words_left found.1)) result (signed_at (words_left words.entry)) }
+    ensures { ReturnsRead (λ found. (found.0, words_left found.1)) result (signed_at (words_left words.entry)) }
 {
     let (word, rest) = words.first()?;
     let value = signed(word)?;
@@ -32,7 +32,7 @@ fn signed_at(words: Words<'_>) -> Option<(i32, Words<'_>)>
 
 /// The publisher, reader or receiver that the first word names, and the words after it.
 fn party_number_at(words: Words<'_>) -> Option<(PartyNumber, Words<'_>)>
-    ensures { Gives (λ found. (found.0.number, words_left found.1)) result (number_at 7 (words_left words.entry)) }
+    ensures { ReturnsRead (λ found. (found.0.number, words_left found.1)) result (number_at 7 (words_left words.entry)) }
 {
     let (number, rest) = number_at(words, 7)?;
     let party = PartyNumber {
@@ -43,7 +43,7 @@ fn party_number_at(words: Words<'_>) -> Option<(PartyNumber, Words<'_>)>
 
 #[tactic(auto, unfolding(crate::specs::Reading::claim_of))]
 fn claim(words: Words<'_>) -> Option<Command>
-    ensures { Gives content_of result (claim_of (words_left words.entry)) }
+    ensures { ReturnsRead content_of result (claim_of (words_left words.entry)) }
 {
     let (publisher, rest) = party_number_at(words)?;
     let (size, rest) = number_at(rest, u64::MAX)?;
@@ -53,7 +53,7 @@ fn claim(words: Words<'_>) -> Option<Command>
 
 #[tactic(auto, unfolding(crate::specs::Reading::commit_of))]
 fn commit(words: Words<'_>) -> Option<Command>
-    ensures { Gives content_of result (commit_of (words_left words.entry)) }
+    ensures { ReturnsRead content_of result (commit_of (words_left words.entry)) }
 {
     let (publisher, rest) = party_number_at(words)?;
     rest.end()?;
@@ -62,7 +62,7 @@ fn commit(words: Words<'_>) -> Option<Command>
 
 #[tactic(auto, unfolding(crate::specs::Reading::abort_of))]
 fn abort(words: Words<'_>) -> Option<Command>
-    ensures { Gives content_of result (abort_of (words_left words.entry)) }
+    ensures { ReturnsRead content_of result (abort_of (words_left words.entry)) }
 {
     let (publisher, rest) = party_number_at(words)?;
     rest.end()?;
@@ -71,7 +71,7 @@ fn abort(words: Words<'_>) -> Option<Command>
 
 #[tactic(auto, unfolding(crate::specs::Reading::read_of))]
 fn read(words: Words<'_>) -> Option<Command>
-    ensures { Gives content_of result (read_of (words_left words.entry)) }
+    ensures { ReturnsRead content_of result (read_of (words_left words.entry)) }
 {
     let (reader, rest) = party_number_at(words)?;
     if reader.number == 0 {
@@ -83,7 +83,7 @@ fn read(words: Words<'_>) -> Option<Command>
 
 #[tactic(auto, unfolding(crate::specs::Reading::send_of))]
 fn send(words: Words<'_>) -> Option<Command>
-    ensures { Gives content_of result (send_of (words_left words.entry)) }
+    ensures { ReturnsRead content_of result (send_of (words_left words.entry)) }
 {
     let (now, rest) = number_at(words, u64::MAX)?;
     rest.end()?;
@@ -92,7 +92,7 @@ fn send(words: Words<'_>) -> Option<Command>
 
 #[tactic(auto, unfolding(crate::specs::Reading::deliver_of))]
 fn deliver(words: Words<'_>) -> Option<Command>
-    ensures { Gives content_of result (deliver_of (words_left words.entry)) }
+    ensures { ReturnsRead content_of result (deliver_of (words_left words.entry)) }
 {
     let (packet, rest) = number_at(words, u64::MAX)?;
     let (receiver, rest) = party_number_at(rest)?;
@@ -107,7 +107,7 @@ fn deliver(words: Words<'_>) -> Option<Command>
 
 #[tactic(auto, unfolding(crate::specs::Reading::tick_of))]
 fn tick(words: Words<'_>) -> Option<Command>
-    ensures { Gives content_of result (tick_of (words_left words.entry)) }
+    ensures { ReturnsRead content_of result (tick_of (words_left words.entry)) }
 {
     let (receiver, rest) = party_number_at(words)?;
     let (now, rest) = number_at(rest, u64::MAX)?;
@@ -117,7 +117,7 @@ fn tick(words: Words<'_>) -> Option<Command>
 
 #[tactic(auto, unfolding(crate::specs::Reading::reply_of))]
 fn reply(words: Words<'_>) -> Option<Command>
-    ensures { Gives content_of result (reply_of (words_left words.entry)) }
+    ensures { ReturnsRead content_of result (reply_of (words_left words.entry)) }
 {
     let (packet, rest) = number_at(words, u64::MAX)?;
     let (now, rest) = number_at(rest, u64::MAX)?;
@@ -127,7 +127,7 @@ fn reply(words: Words<'_>) -> Option<Command>
 
 #[tactic(auto, unfolding(crate::specs::Reading::poll_of))]
 fn poll(words: Words<'_>) -> Option<Command>
-    ensures { Gives content_of result (poll_of (words_left words.entry)) }
+    ensures { ReturnsRead content_of result (poll_of (words_left words.entry)) }
 {
     let (receiver, rest) = party_number_at(words)?;
     rest.end()?;
@@ -136,7 +136,7 @@ fn poll(words: Words<'_>) -> Option<Command>
 
 #[tactic(auto, unfolding(crate::specs::Reading::image_of))]
 fn image(words: Words<'_>) -> Option<Command>
-    ensures { Gives content_of result (image_of (words_left words.entry)) }
+    ensures { ReturnsRead content_of result (image_of (words_left words.entry)) }
 {
     let (receiver, rest) = party_number_at(words)?;
     rest.end()?;
@@ -163,7 +163,7 @@ fn offer_hex(
 /// The words behind `size` of a publisher's offer.
 #[tactic(auto, unfolding(crate::specs::Reading::offer_size_of))]
 fn offer_size(publisher: PartyNumber, words: Words<'_>) -> Option<Command>
-    ensures { Gives content_of result (offer_size_of publisher.number (words_left words.entry)) }
+    ensures { ReturnsRead content_of result (offer_size_of publisher.number (words_left words.entry)) }
 {
     let (size, rest) = number_at(words, u64::MAX)?;
     rest.end()?;
@@ -204,7 +204,7 @@ fn offer(alloc: Global, number: u64, words: Words<'_>) -> Result<Command, Script
 /// The command of this name, with the words behind it: any but `offer`.
 #[tactic(auto, unfolding(crate::specs::Reading::plain_of))]
 fn plain(name: &[u8], words: Words<'_>) -> Option<Command>
-    ensures { Gives content_of result (plain_of name.now (words_left words.entry)) }
+    ensures { ReturnsRead content_of result (plain_of name.now (words_left words.entry)) }
 {
     if name == b"connect".as_slice() {
         words.end()?;
@@ -263,7 +263,7 @@ const MOST_READERS: u64 = 7;
 /// What stands behind `log`.
 #[tactic(auto, unfolding(crate::specs::Reading::opening_of))]
 fn log_fields(words: Words<'_>) -> Option<LogLine>
-    ensures { Gives opening result (opening_of (words_left words.entry)) }
+    ensures { ReturnsRead opening result (opening_of (words_left words.entry)) }
 {
     let (term_length, rest) = number_at(words, u32::MAX as u64)?;
     let (mtu, rest) = number_at(rest, u32::MAX as u64)?;
@@ -287,7 +287,7 @@ fn log_fields(words: Words<'_>) -> Option<LogLine>
 /// How the log is opened, if the line says so.
 #[tactic(auto, unfolding(crate::specs::Reading::log_of))]
 pub fn log_line(line: &[u8]) -> Option<LogLine>
-    ensures { Gives opening result (log_of line.now) }
+    ensures { ReturnsRead opening result (log_of line.now) }
 {
     let (name, rest) = Words::new(line).first()?;
     if name == b"log".as_slice() {

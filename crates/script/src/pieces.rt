@@ -1,7 +1,7 @@
 ghost use Rattle.std.specs.Prelude.{◌≡◌};
 ghost use Rattle.std.specs.Iterator.{YieldsFirstRef, item_count};
 ghost use Rattle.script.specs.Pieces.{lines, words};
-ghost use Rattle.script.specs.Reading.{Gives, word_at, end_of};
+ghost use Rattle.script.specs.Reading.{ReturnsRead, word_at, end_of};
 ghost use Rattle.script.specs.Rests.{lines_left, words_left};
 
 /// The lines of a text.
@@ -58,7 +58,7 @@ impl<'a> Words<'a> {
 
     /// The first word, and the words after it.
     pub fn first(self) -> Option<(&'a [u8], Words<'a>)>
-        ensures { Gives (λ found. (found.0.now, words_left found.1)) result (word_at (words_left self.entry)) }
+        ensures { ReturnsRead (λ found. (found.0.now, words_left found.1)) result (word_at (words_left self.entry)) }
     {
         let line = self.rest?;
         match line.iter().position(|byte| *byte == b' ') {
@@ -74,7 +74,7 @@ impl<'a> Words<'a> {
 
     /// Nothing, if no word is left.
     pub fn end(self) -> Option<()>
-        ensures { Gives (λ _. tt) result (end_of (words_left self.entry)) }
+        ensures { ReturnsRead (λ _. tt) result (end_of (words_left self.entry)) }
     {
         match self.rest {
             None => Some(()),

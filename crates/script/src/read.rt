@@ -3,7 +3,7 @@ ghost use Rattle.std.specs.List.{Any, list_any};
 ghost use Rattle.script.specs.Language.{BeginsLog, IsScript, IsFaultLine};
 ghost use Rattle.script.specs.Meaning.{ScriptContent, opened, contents_of, script_content};
 ghost use Rattle.script.specs.Pieces.{lines};
-ghost use Rattle.script.specs.Reading.{FaultIs, GivesScript, GoesOn, is_log, finished, script_from, script_of};
+ghost use Rattle.script.specs.Reading.{FaultIs, GivesScript, ReadsOn, is_log, finished, script_from, script_of};
 
 use crate::command::{Command, LogLine, Script};
 use crate::fault::ScriptFault;
@@ -19,7 +19,7 @@ fn read_line(
     log: &mut Option<LogLine>,
     commands: &mut Vec<Command>,
 ) -> Result<(), ScriptFault>
-    ensures ok { OnOk result (GoesOn number line.now (opened log.old) (contents_of commands.old.items) (opened log.new) (contents_of commands.new.items)) }
+    ensures ok { OnOk result (ReadsOn number line.now (opened log.old) (contents_of commands.old.items) (opened log.new) (contents_of commands.new.items)) }
     ensures err { IfErr result (λ fault. (rest : List (List ℕ)) → FaultIs fault (script_from number (opened log.old) (line.now ∷ rest))) }
 {
     if line.is_empty() {

@@ -12,7 +12,7 @@ use Rattle.theory.proofs.Lists.{all_behind, all_front}
 use Rattle.theory.proofs.Follow.{chain_le}
 use Rattle.assembler.specs.declared.fault.AssemblyError.{AssemblyError}
 use Rattle.script_run.specs.Answers.{with_receiver}
-use Rattle.receiver.specs.Polling.{Answer, PollsFault, PollsImage, PollsOf, PollsOn, PollsWhole, Polls, Reads, gives, moved_all}
+use Rattle.receiver.specs.Polling.{Answer, PollsFault, PollsImage, PollsOf, PollsOn, PollsWhole, Polls, ReadsFrames, gives, moved_all}
 use Rattle.script_run.specs.LineContents.{LineContent, poll_line}
 use Rattle.receiver.specs.declared.poll_error.PollError.TheVariants as polls
 use Rattle.script_run.specs.Published.{is_fault, messages_in}
@@ -47,7 +47,7 @@ heard_of c d frames given more after all heard was =
       ap (λ x. x.assembly.given) after ∙ past.given ∙ ap (λ xs. xs ++ gives c frames) was ∙ ap (λ xs. given ++ xs) all,
     )
 
-whole_poll : (w : World) (k : ℕ) (i : Image) (c d : Consumer) (frames : List Placed) (given more : List (List ℕ)) (Whole : Type 0) → Stands w k i c → c.lost ≡ false → (Whole → (c.lost ≡ false) × (c.assembly.given ≡ given)) → Reads i c frames d.at → d ≡ moved_all c frames → gives c frames ≡ more → Polled w k i c d given more Whole
+whole_poll : (w : World) (k : ℕ) (i : Image) (c d : Consumer) (frames : List Placed) (given more : List (List ℕ)) (Whole : Type 0) → Stands w k i c → c.lost ≡ false → (Whole → (c.lost ≡ false) × (c.assembly.given ≡ given)) → ReadsFrames i c frames d.at → d ≡ moved_all c frames → gives c frames ≡ more → Polled w k i c d given more Whole
 whole_poll w k i c d frames given more Whole h heard known reads after all = record {
   goes = subst (λ x. Goes w (with_image w k (with_one i x))) (sym after) (moves w k i c d.at frames h heard reads.chain reads.among);
   further = chain_le c.at d.at frames reads.chain;

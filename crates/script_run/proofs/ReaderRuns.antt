@@ -15,7 +15,7 @@ use Rattle.model.specs.Log.{Move}
 use Rattle.model.specs.World.{AtLog}
 use Rattle.theory.proofs.Tables.{get_other, get_put}
 use Rattle.script.specs.Meaning as commands
-use Rattle.script_run.specs.Answers.{HasNoReader, ReadsFrame, ReadsNothing, frame_line, with_reader}
+use Rattle.script_run.specs.Answers.{HasNoReader, ReaderReads, ReaderFindsNone, frame_line, with_reader}
 use Rattle.script_run.specs.LineContents.{Bad, NoMessage, LineContent}
 use Rattle.script_run.specs.Published.{Played, covered_by, frames_in, read, read_by}
 use Rattle.script_run.specs.ScriptState.{ScriptState, entries_of, opened_state, world_of}
@@ -74,7 +74,7 @@ same_place s k c = ap (λ n. record s { log = record s.log { consumers = slice_s
     before : (n : ℕ) → suc n - 1 ≡ n
     before n = omega arith
 
-moves : (s : ScriptState) (k : ℕ) (lines : List LineContent) (t : ScriptState) → (m : ReadsFrame s (suc k) lines t) → slice_get s.readers k ≡ Some m.0 → m.0.lost ≡ false → Goes (world_of s) (world_of (read_scene s k (moved m.0 m.1)))
+moves : (s : ScriptState) (k : ℕ) (lines : List LineContent) (t : ScriptState) → (m : ReaderReads s (suc k) lines t) → slice_get s.readers k ≡ Some m.0 → m.0.lost ≡ false → Goes (world_of s) (world_of (read_scene s k (moved m.0 m.1)))
 moves s k lines t m there whole =
     let w = world_of s in
     let past = m.1 in
@@ -83,7 +83,7 @@ moves s k lines t m there whole =
     subst (λ rs. Goes w (record w { log = record w.log { readers = rs } })) (sym (map-set Some s.readers k after))
     (goes_one w (record w { log = l }) (AtLog (Move k past)) (l, (m.0, map_get Some s.readers k m.0 there, record { among = among_kept s.past s.log.entries past m.3; here = m.4 }, whole, refl), refl))
 
-frame_read : (i : Identity) (start readers : ℕ) (played : List Played) (s t : ScriptState) (k : ℕ) (lines : List LineContent) → IsSound i start readers played s → ReadsFrame s (suc k) lines t → IsSound i start readers (and_line played (commands.Read (suc k)) lines) t
+frame_read : (i : Identity) (start readers : ℕ) (played : List Played) (s t : ScriptState) (k : ℕ) (lines : List LineContent) → IsSound i start readers played s → ReaderReads s (suc k) lines t → IsSound i start readers (and_line played (commands.Read (suc k)) lines) t
 frame_read i start readers played s t k lines h m =
     let c = m.0 in
     let past = m.1 in
@@ -116,7 +116,7 @@ frame_read i start readers played s t k lines h m =
           (cases_eq k j);
     })
 
-pub read_line : (i : Identity) (start readers : ℕ) (played : List Played) (s t : ScriptState) (r : ℕ) (lines : List LineContent) → IsSound i start readers played s → HasNoReader s r lines t ⊎ (ReadsNothing s r lines t ⊎ ReadsFrame s r lines t) → IsSound i start readers (and_line played (commands.Read r) lines) t
+pub read_line : (i : Identity) (start readers : ℕ) (played : List Played) (s t : ScriptState) (r : ℕ) (lines : List LineContent) → IsSound i start readers played s → HasNoReader s r lines t ⊎ (ReaderFindsNone s r lines t ⊎ ReaderReads s r lines t) → IsSound i start readers (and_line played (commands.Read r) lines) t
 read_line i start readers played s t r lines h (inl m) =
     same_state i start readers played (commands.Read r) lines s t (record { joins = λ k. refl; polls = λ k. refl; reads = λ k. nothing_shown r (suc k) Bad lines refl m.1.0 }) (λ g ranges. refl) m.1.1 h
 read_line i start readers played s t r lines h (inr (inl m)) =

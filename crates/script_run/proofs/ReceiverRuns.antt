@@ -24,7 +24,7 @@ use Rattle.receiver.specs.declared.receiver_core.Outcome.{Outcome}
 use Rattle.receiver.specs.declared.receiver_core.Outcome.TheVariants.{Asked}
 use Rattle.script_run.specs.Answers.{with_receiver}
 use Rattle.script_run.specs.Published.{joins_of}
-use Rattle.receiver.specs.Receiving.{IfOurs, Meets, MeetsFrame, MeetsHeartbeat, MeetsSetup, Opened, Opens, PassesBy, Receiver, answer_at, given_at}
+use Rattle.receiver.specs.Receiving.{IfOurs, Meets, MeetsFrame, MeetsHeartbeat, MeetsSetup, Opened, OpensImage, PassesBy, Receiver, answer_at, given_at}
 use Rattle.script_run.specs.ScriptState.{ScriptState, image_of, world_of}
 use Rattle.script_run.proofs.Runs.{Goes, goes_one, stays}
 
@@ -174,7 +174,7 @@ same_position law i p q legal low n =
     let same : n.count * i.geometry.term_length + n.offset ≡ p = cc in
     n.here ∙ same
 
-opens : NamesPlace → (s : ScriptState) (k : ℕ) (r mid : Receiver) (f : Setup) (p : ℕ) (out : Outcome) (joins : List ℕ) (given : List (List ℕ)) (Whole : Type 0) → At s k r joins given Whole → r.image ≡ None → IsGeometry s.log.identity.geometry → p ≤ max_position s.log.identity.geometry → Among p s.sender.setups → f ≡ setup_fields s.log.identity p → Opens r f out mid → Met s k mid out joins given Whole
+opens : NamesPlace → (s : ScriptState) (k : ℕ) (r mid : Receiver) (f : Setup) (p : ℕ) (out : Outcome) (joins : List ℕ) (given : List (List ℕ)) (Whole : Type 0) → At s k r joins given Whole → r.image ≡ None → IsGeometry s.log.identity.geometry → p ≤ max_position s.log.identity.geometry → Among p s.sender.setups → f ≡ setup_fields s.log.identity p → OpensImage r f out mid → Met s k mid out joins given Whole
 opens law s k r mid f p out joins given Whole a was legal low among named m =
     let w = world_of s in
     let i = s.log.identity in

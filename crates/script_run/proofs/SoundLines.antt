@@ -28,7 +28,7 @@ use Rattle.publication.specs.Claims.{claim_at}
 use Rattle.publication.specs.Offers.{OfferCase, IsClosed, IsStale, IsUsedUp, IsLimited, Fits, Trips, after, after_claim, after_offer, answer, case_of, covered, turned_from}
 use Rattle.script.specs.Meaning as commands
 use Rattle.script.specs.Meaning.{CommandContent}
-use Rattle.script_run.specs.Answers.{AbortsClaim, AreFrames, Claims, ClaimsRange, CommitsClaim, HasClaim, HasNoClaim, IsCycle, IsMissing, Limits, MayClaim, MayNotTake, MayOffer, Offered, OffersMessage, Replied, SenderHears, Sends, after_cycle, clock_at, cycled, given_out, heard, limit_of, named, sent_on, wires_of, with_log, with_sender, woken}
+use Rattle.script_run.specs.Answers.{AbortsClaim, AreFrames, Claims, ClaimsRange, CommitsClaim, HasClaim, HasNoClaim, IsCycle, IsMissing, Limits, MayClaimRange, MayNotTake, MayOffer, Offered, OffersMessage, Replied, SenderHears, Sends, after_cycle, clock_at, cycled, given_out, heard, limit_of, named, sent_on, wires_of, with_log, with_sender, woken}
 use Rattle.setup.specs.Naming.{Naming, after_due}
 use Rattle.sender.specs.Cycling.{AsksSetup, Cycle, IsNextSent, NewsContent, Says, TellsNothing, Unreadable, datagrams, setups}
 use Rattle.script_run.specs.LineContents as content
@@ -257,7 +257,7 @@ claims_none by size line lines none e g ranges = ap (λ ls. ranges ++ flat_map (
 abbrev claimed_log : Log → ℕ → ℕ → Log
 claimed_log l by size = logs.with_claim (added l by (l.active % 3) (covered l size)) by false size
 
-claim_fits : (i : Identity) (start readers : ℕ) (played : List Played) (s : ScriptState) (by size : ℕ) (lines : List LineContent) → IsSound i start readers played s → MayClaim s.log by size → case_of s.log size ≡ Fits → lines ≡ content.Claimed s.log.tail (s.log.tail + covered s.log size) ∷ [] → FitsSo i played s (claimed_log s.log by size) (commands.Claim by size) lines
+claim_fits : (i : Identity) (start readers : ℕ) (played : List Played) (s : ScriptState) (by size : ℕ) (lines : List LineContent) → IsSound i start readers played s → MayClaimRange s.log by size → case_of s.log size ≡ Fits → lines ≡ content.Claimed s.log.tail (s.log.tail + covered s.log size) ∷ [] → FitsSo i played s (claimed_log s.log by size) (commands.Claim by size) lines
 claim_fits i start readers played s by size lines h may e line =
     let g = s.log.identity.geometry in
     let end = s.log.tail + covered s.log size in
@@ -282,7 +282,7 @@ record ClaimSays (i : Identity) (played : List Played) (s : ScriptState) (by siz
   claims : List (Option Claimed)
   after : t ≡ record (with_log s (after_claim s.log by size)) { claims = claims }
 
-claim_says : (i : Identity) (start readers : ℕ) (played : List Played) (s t : ScriptState) (by size : ℕ) (lines : List LineContent) (c : OfferCase) → IsSound i start readers played s → MayClaim s.log by size → case_of s.log size ≡ c → Claims s by size (answer s.log size c) lines t → ClaimSays i played s by size lines c t
+claim_says : (i : Identity) (start readers : ℕ) (played : List Played) (s t : ScriptState) (by size : ℕ) (lines : List LineContent) (c : OfferCase) → IsSound i start readers played s → MayClaimRange s.log by size → case_of s.log size ≡ c → Claims s by size (answer s.log size c) lines t → ClaimSays i played s by size lines c t
 claim_says i start readers played s t by size lines IsClosed h may e o = record { said = claims_none by size _ lines refl o.0; claims = s.claims; after = o.1 }
 claim_says i start readers played s t by size lines IsStale h may e o = record { said = claims_none by size _ lines refl o.0; claims = s.claims; after = o.1 }
 claim_says i start readers played s t by size lines IsUsedUp h may e o = record { said = claims_none by size _ lines refl o.0; claims = s.claims; after = o.1 }

@@ -16,7 +16,7 @@ use Rattle.script_run.specs.Answers.{Delivered, IsMissing, PollsBy, TellsBy, Tic
 use Rattle.sender.specs.Cycling.{datagrams}
 use Rattle.script_run.specs.LineContents.{LineContent, OfReceiver, poll_line as poll_content}
 use Rattle.script_run.specs.Published.{AllWhole, Played, is_fault, joined_by, joins, joins_in, joins_of, messages_in, polled, polled_by, read_by}
-use Rattle.receiver.specs.Receiving.{Hears, MeetsAll, MeetsDatagram, Receiver, RefusesDatagram, at_moment, replies, ticked}
+use Rattle.receiver.specs.Receiving.{TakesDatagram, MeetsAll, MeetsDatagram, Receiver, RefusesDatagram, at_moment, replies, ticked}
 use Rattle.script_run.specs.ScriptState.{ScriptState, entries_of, image_of, opened_state, world_of}
 use Rattle.script_run.proofs.Honest.{AreHonest, IsHonest, honest_wires, one_frame, replies_given}
 use Rattle.script_run.proofs.PollFollows.{StillWhole, polls_met}
@@ -97,7 +97,7 @@ refuses_one i played s n now r mid bytes outs a m = record {
   met = met_nothing s n (at_moment r now) mid (outcomes.Refused m.0) (joins n played) (polled n played) (AllWhole n played) a (ap (λ x. x.consumers) m.3) (ap (λ x. x.image) m.3) refl;
 }
 
-one_outcome : Laws → (i : Identity) (start readers : ℕ) (played : List Played) (s : ScriptState) (n now : ℕ) (r mid : Receiver) (bytes : List ℕ) (outs : List Outcome) → IsSound i start readers played s → IsHonest i s.sender bytes → At s n (at_moment r now) (joins n played) (polled n played) (AllWhole n played) → Hears r now bytes outs mid → OneOutcome i played s n mid outs
+one_outcome : Laws → (i : Identity) (start readers : ℕ) (played : List Played) (s : ScriptState) (n now : ℕ) (r mid : Receiver) (bytes : List ℕ) (outs : List Outcome) → IsSound i start readers played s → IsHonest i s.sender bytes → At s n (at_moment r now) (joins n played) (polled n played) (AllWhole n played) → TakesDatagram r now bytes outs mid → OneOutcome i played s n mid outs
 one_outcome laws i start readers played s n now r mid bytes outs h honest a (inl m) = reads_one laws i start readers played s n now r mid bytes outs h honest a m
 one_outcome laws i start readers played s n now r mid bytes outs h honest a (inr m) = refuses_one i played s n now r mid bytes outs a m
 

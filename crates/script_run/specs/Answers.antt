@@ -26,7 +26,7 @@ use Rattle.receiver.specs.Polling.{Answer, Polls, TellsPositions}
 use Rattle.receiver.specs.declared.positions.Positions.{Positions}
 use Rattle.script_run.specs.LineContents as content
 use Rattle.script_run.specs.LineContents.{LineContent, Done, Limit, Position, FrameData, FramePad, Refused, Packet, Nothing, NoMessage, OfReceiver, OfSender, Bad, poll_line, positions_line}
-use Rattle.receiver.specs.Receiving.{Hears, Receiver, replies, ticked}
+use Rattle.receiver.specs.Receiving.{TakesDatagram, Receiver, replies, ticked}
 use Rattle.script_run.specs.ScriptState.{ScriptState}
 
 abbrev pub with_log : ScriptState → Log → ScriptState
@@ -94,7 +94,7 @@ OffersMessage old by message lines new = MayOffer old.log by message × (claim_b
 -- ---- claims
 
 -- one of eight publishers, and a message that one frame can hold
-pub record MayClaim (l : Log) (by size : ℕ) : Type 0 where
+pub record MayClaimRange (l : Log) (by size : ℕ) : Type 0 where
   pub legal : IsLog l
   pub publisher : by < 8
   pub short : size ≤ max_payload l.identity.geometry
@@ -105,7 +105,7 @@ Claims old by size (Ok end) lines new =
 Claims old by size (Err refusal) lines new = (lines ≡ Refused refusal ∷ []) × (new ≡ with_log old (after_claim old.log by size))
 
 abbrev pub ClaimsRange : ScriptState → ℕ → ℕ → List LineContent → ScriptState → Type 0
-ClaimsRange old by size lines new = MayClaim old.log by size × (claim_by old by ≡ None) × Claims old by size (answer_of old.log size) lines new
+ClaimsRange old by size lines new = MayClaimRange old.log by size × (claim_by old by ≡ None) × Claims old by size (answer_of old.log size) lines new
 
 -- a publisher's open claim: nothing of it is stored, and one frame can hold its message
 pub record HasClaim (s : ScriptState) (by : ℕ) (c : Claimed) : Type 0 where
@@ -150,13 +150,13 @@ abbrev pub with_reader : ScriptState → ℕ → Consumer → ScriptState
 with_reader s r c = record s { log = record s.log { consumers = slice_set s.log.consumers r c.at }; readers = slice_set s.readers (r - 1) c }
 
 -- no frame is committed where it stands
-abbrev pub ReadsNothing : ScriptState → ℕ → List LineContent → ScriptState → Type 0
-ReadsNothing old r lines new =
+abbrev pub ReaderFindsNone : ScriptState → ℕ → List LineContent → ScriptState → Type 0
+ReaderFindsNone old r lines new =
     (c : Consumer) × (reader_at old r ≡ Some c) × ((s : Placed) → Among s (committed old.log.entries) → s.at ≡ c.at → ⊥) × (lines ≡ NoMessage ∷ []) × (new ≡ old)
 
 -- the committed frame where it stands
-abbrev pub ReadsFrame : ScriptState → ℕ → List LineContent → ScriptState → Type 0
-ReadsFrame old r lines new =
+abbrev pub ReaderReads : ScriptState → ℕ → List LineContent → ScriptState → Type 0
+ReaderReads old r lines new =
     (c : Consumer) × (s : Placed) × (reader_at old r ≡ Some c) × Among s (committed old.log.entries) × (s.at ≡ c.at) × (lines ≡ frame_line s.at s.frame ∷ []) × (new ≡ with_reader old r (moved c s))
 
 -- ---- the keeper
@@ -241,7 +241,7 @@ Replied old k now lines new = (bytes : List ℕ) × (news : NewsContent) × (sli
 abbrev pub Delivered : ScriptState → ℕ → ℕ → ℕ → List LineContent → ScriptState → Type 0
 Delivered old k i now lines new =
     (bytes : List ℕ) × (outs : List Outcome) × (r : Receiver) × (s : Receiver) × (slice_get old.packets k ≡ Some bytes) × (slice_get old.receivers i ≡ Some r)
-    × Hears r now bytes outs s × (lines ≡ map OfReceiver outs) × (new ≡ with_receiver old i s)
+    × TakesDatagram r now bytes outs s × (lines ≡ map OfReceiver outs) × (new ≡ with_receiver old i s)
 
 abbrev pub Ticks : ScriptState → ℕ → ℕ → List LineContent → ScriptState → Type 0
 Ticks old i now lines new =
@@ -266,7 +266,7 @@ Answers old (commands.OfferSize by size) lines new = MayNotTake old by (max_mess
 Answers old (commands.Claim by size) lines new = MayNotTake old by (max_payload old.log.identity.geometry) size lines new ⊎ ClaimsRange old by size lines new
 Answers old (commands.Commit by) lines new = HasNoClaim old by lines new ⊎ CommitsClaim old by lines new
 Answers old (commands.Abort by) lines new = HasNoClaim old by lines new ⊎ AbortsClaim old by lines new
-Answers old (commands.Read r) lines new = HasNoReader old r lines new ⊎ (ReadsNothing old r lines new ⊎ ReadsFrame old r lines new)
+Answers old (commands.Read r) lines new = HasNoReader old r lines new ⊎ (ReaderFindsNone old r lines new ⊎ ReaderReads old r lines new)
 Answers old (commands.Send now) lines new = Sends old now lines new
 Answers old (commands.Deliver k i now) lines new = IsMissing old k lines new ⊎ Delivered old k i now lines new
 Answers old (commands.Tick i now) lines new = Ticks old i now lines new

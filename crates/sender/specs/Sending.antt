@@ -82,19 +82,19 @@ told after_status s position window receiver = record s {
   naming = record s.naming { heard = true };
 }
 
-abbrev pub Hears : {F : Type 0} → (F → ℤ → ℤ → ℤ → ℕ → F) → (F → ℕ) → Sending F → NewsContent → SenderAnswer → Sending F → List (List ℕ) → Type 0
-Hears after_status reached s (Says f) answer t sent =
+abbrev pub HearsNews : {F : Type 0} → (F → ℤ → ℤ → ℤ → ℕ → F) → (F → ℕ) → Sending F → NewsContent → SenderAnswer → Sending F → List (List ℕ) → Type 0
+HearsNews after_status reached s (Says f) answer t sent =
     (t ≡ told after_status s (position_of s.identity.geometry f.term_id f.term_offset) f.window f.receiver)
     × (answer ≡ answers.Status (pos (reached t.flow)))
     × (sent ≡ [])
-Hears after_status reached s AsksSetup answer t sent = (t ≡ s) × (answer ≡ answers.Asked) × (sent ≡ datagrams (setups s.identity s.reader.position true))
-Hears after_status reached s TellsNothing answer t sent = (t ≡ s) × (answer ≡ answers.Other) × (sent ≡ [])
-Hears after_status reached s (Unreadable fault) answer t sent = (t ≡ s) × (answer ≡ answers.Refused fault) × (sent ≡ [])
+HearsNews after_status reached s AsksSetup answer t sent = (t ≡ s) × (answer ≡ answers.Asked) × (sent ≡ datagrams (setups s.identity s.reader.position true))
+HearsNews after_status reached s TellsNothing answer t sent = (t ≡ s) × (answer ≡ answers.Other) × (sent ≡ [])
+HearsNews after_status reached s (Unreadable fault) answer t sent = (t ≡ s) × (answer ≡ answers.Refused fault) × (sent ≡ [])
 
 pub record HearsDatagram {F : Type 0} (after_status : F → ℤ → ℤ → ℤ → ℕ → F) (reached : F → ℕ) (s : Sending F) (bytes : List ℕ) (answer : SenderAnswer) (t : Sending F) (sent : List (List ℕ)) : Type 0 where
   pub news : NewsContent
   pub is : IsNews s.identity bytes news
-  pub hears : Hears after_status reached s news answer t sent
+  pub hears : HearsNews after_status reached s news answer t sent
 
 -- ---- an event
 

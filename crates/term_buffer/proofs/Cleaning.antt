@@ -7,7 +7,7 @@ use Rattle.theory.specs.Entry.{Entry, IsEntry, entry_end, length_of}
 use Rattle.theory.specs.Tiling.{Tiles}
 use Rattle.term_buffer.specs.Forgets.{ForgetsFirst}
 use Rattle.term_buffer.specs.Kept.{Cleans, IsKeptLog, Kept, MayClean, term_of}
-use Rattle.term_buffer.specs.Slots.{IsBuffer, Parts, drafts_of, entries_of, entry_of, geometry_in, outline, range, rest_in, slot_cuts, term_in}
+use Rattle.term_buffer.specs.Slots.{IsBuffer, BufferParts, drafts_of, entries_of, entry_of, geometry_in, outline, range, rest_in, slot_cuts, term_in}
 use Rattle.term_buffer.specs.declared.claimed.Slot.{Slot}
 use Rattle.term_buffer.proofs.Keeps.{clean_leaves, cleaned_parts, forgotten_parts, kept_clean, kept_forget, word_cleaned}
 use Rattle.term_buffer.proofs.Logs.{shown}
@@ -15,7 +15,7 @@ use Rattle.term_buffer.proofs.Slots.{map_same}
 
 -- ---- the first slot goes
 
-pub some_slot : (p : Parts) (k : IsBuffer p) (l : Kept) → shown p ≡ l → l.first < l.tail → 0 < length p.slots
+pub some_slot : (p : BufferParts) (k : IsBuffer p) (l : Kept) → shown p ≡ l → l.first < l.tail → 0 < length p.slots
 some_slot p k l v some = not_none p.slots (k.tiles) (subst (λ (x : Kept). x.first < x.tail) (sym v) some)
   where
     not_none : (ss : List Slot) → Tiles (term_in p) p.first p.tail (map (outline (geometry_in p)) ss) → p.first < p.tail → 0 < length ss
@@ -26,14 +26,14 @@ front_and_rest : (ss : List Slot) (d : Slot) → 0 < length ss → ss ≡ get_or
 front_and_rest [] d h = absurd (omega arith)
 front_and_rest (s ∷ ss) d h = refl
 
-pub forget_kept : (p : Parts) (k : IsBuffer p) (s : Slot) → 0 < length p.slots → s ≡ get_or p.slots 0 s → (covered : ℕ) → covered ≡ span (slot_cuts (geometry_in p) s) → (ss : List Slot) → ss ≡ drop 1 p.slots → (room : ℕ) → room ≡ p.capacity → IsBuffer (record p { first = p.first + covered; gone = p.gone + 1; slots = ss; capacity = room })
+pub forget_kept : (p : BufferParts) (k : IsBuffer p) (s : Slot) → 0 < length p.slots → s ≡ get_or p.slots 0 s → (covered : ℕ) → covered ≡ span (slot_cuts (geometry_in p) s) → (ss : List Slot) → ss ≡ drop 1 p.slots → (room : ℕ) → room ≡ p.capacity → IsBuffer (record p { first = p.first + covered; gone = p.gone + 1; slots = ss; capacity = room })
 forget_kept p k s some e covered f ss g room h =
     let split : p.slots ≡ s ∷ drop 1 p.slots = front_and_rest p.slots s some ∙ ap (λ (x : Slot). x ∷ drop 1 p.slots) (sym e) in
     subst (λ n. IsBuffer (record p { first = p.first + n; gone = p.gone + 1; slots = ss; capacity = room })) (sym f)
     (subst (λ (xs : List Slot). IsBuffer (record p { first = p.first + span (slot_cuts (geometry_in p) s); gone = p.gone + 1; slots = xs; capacity = room })) (sym g)
     (subst (λ n. IsBuffer (record (forgotten_parts p s (drop 1 p.slots)) { capacity = n })) (sym h) (kept_forget p k s (drop 1 p.slots) split)))
 
-forgets : (p : Parts) (k : IsBuffer p) (s : Slot) (ss : List Slot) → p.slots ≡ s ∷ ss → ForgetsFirst (shown p) (shown (forgotten_parts p s ss))
+forgets : (p : BufferParts) (k : IsBuffer p) (s : Slot) (ss : List Slot) → p.slots ≡ s ∷ ss → ForgetsFirst (shown p) (shown (forgotten_parts p s ss))
 forgets p k s ss e =
     let tiled : Tiles (term_in p) p.first p.tail (map (outline (geometry_in p)) (s ∷ ss)) = subst (λ (xs : List Slot). Tiles (term_in p) p.first p.tail (map (outline (geometry_in p)) xs)) e k.tiles in
     record {
@@ -43,7 +43,7 @@ forgets p k s ss e =
       new_is = ap (λ (ds : List (List ℕ)). record (shown (forgotten_parts p s ss)) { drafts = ds }) (ap (λ (xs : List Slot). drop 1 (drafts_of (geometry_in p) p.bytes xs)) (sym e));
     }
 
-pub forget_shown : (p : Parts) (k : IsBuffer p) (l : Kept) → shown p ≡ l → (s : Slot) → 0 < length p.slots → s ≡ get_or p.slots 0 s → (covered : ℕ) → covered ≡ span (slot_cuts (geometry_in p) s) → (ss : List Slot) → ss ≡ drop 1 p.slots → (room : ℕ) → ForgetsFirst l (shown (record p { first = p.first + covered; gone = p.gone + 1; slots = ss; capacity = room }))
+pub forget_shown : (p : BufferParts) (k : IsBuffer p) (l : Kept) → shown p ≡ l → (s : Slot) → 0 < length p.slots → s ≡ get_or p.slots 0 s → (covered : ℕ) → covered ≡ span (slot_cuts (geometry_in p) s) → (ss : List Slot) → ss ≡ drop 1 p.slots → (room : ℕ) → ForgetsFirst l (shown (record p { first = p.first + covered; gone = p.gone + 1; slots = ss; capacity = room }))
 forget_shown p k l v s some e covered f ss g room =
     let split : p.slots ≡ s ∷ drop 1 p.slots = front_and_rest p.slots s some ∙ ap (λ (x : Slot). x ∷ drop 1 p.slots) (sym e) in
     subst (λ (x : Kept). ForgetsFirst x (shown (record p { first = p.first + covered; gone = p.gone + 1; slots = ss; capacity = room }))) v
@@ -53,16 +53,16 @@ forget_shown p k l v s some e covered f ss g room =
 
 -- ---- a word is cleared
 
-pub clear_fits : (p : Parts) (k : IsBuffer p) (l : Kept) → shown p ≡ l → (place : ℕ) → 8 * place ≡ p.cleaned % (3 * term_of l) → place < length p.bytes / 8
+pub clear_fits : (p : BufferParts) (k : IsBuffer p) (l : Kept) → shown p ≡ l → (place : ℕ) → 8 * place ≡ p.cleaned % (3 * term_of l) → place < length p.bytes / 8
 clear_fits p k l v place at =
     omega (arith, word_cleaned p k place (subst (λ (x : Kept). 8 * place ≡ p.cleaned % (3 * term_of x)) (sym v) at))
 
-pub clear_kept : (p : Parts) (k : IsBuffer p) (l : Kept) → shown p ≡ l → l.cleaned < l.first → (place : ℕ) → 8 * place ≡ p.cleaned % (3 * term_of l) → (new : List ℕ) → new ≡ with_word p.bytes place 0 → IsBuffer (record p { bytes = new; cleaned = p.cleaned + 8 })
+pub clear_kept : (p : BufferParts) (k : IsBuffer p) (l : Kept) → shown p ≡ l → l.cleaned < l.first → (place : ℕ) → 8 * place ≡ p.cleaned % (3 * term_of l) → (new : List ℕ) → new ≡ with_word p.bytes place 0 → IsBuffer (record p { bytes = new; cleaned = p.cleaned + 8 })
 clear_kept p k l v below place at new e =
     subst (λ (b : List ℕ). IsBuffer (record p { bytes = b; cleaned = p.cleaned + 8 })) (sym e)
     (kept_clean p k place (subst (λ (x : Kept). 8 * place ≡ p.cleaned % (3 * term_of x)) (sym v) at) (subst (λ (x : Kept). x.cleaned < x.first) (sym v) below))
 
-pub clear_shown : (p : Parts) (k : IsBuffer p) (l : Kept) → shown p ≡ l → l.cleaned < l.first → (place : ℕ) → 8 * place ≡ p.cleaned % (3 * term_of l) → (new : List ℕ) → new ≡ with_word p.bytes place 0 → shown (record p { bytes = new; cleaned = p.cleaned + 8 }) ≡ record l { cleaned = l.cleaned + 8 }
+pub clear_shown : (p : BufferParts) (k : IsBuffer p) (l : Kept) → shown p ≡ l → l.cleaned < l.first → (place : ℕ) → 8 * place ≡ p.cleaned % (3 * term_of l) → (new : List ℕ) → new ≡ with_word p.bytes place 0 → shown (record p { bytes = new; cleaned = p.cleaned + 8 }) ≡ record l { cleaned = l.cleaned + 8 }
 clear_shown p k l v below place at new e =
     subst (λ (x : Kept). shown (record p { bytes = new; cleaned = p.cleaned + 8 }) ≡ record x { cleaned = x.cleaned + 8 }) v
     (subst (λ (b : List ℕ). shown (record p { bytes = b; cleaned = p.cleaned + 8 }) ≡ record (shown p) { cleaned = p.cleaned + 8 }) (sym e)

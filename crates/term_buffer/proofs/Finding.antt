@@ -9,13 +9,13 @@ use Rattle.position.specs.declared.head.FrameHead.{FrameHead}
 use Rattle.position.specs.declared.head.FrameKind.{FrameKind}
 use Rattle.position.specs.declared.head.FrameKind.TheVariants as kinds
 use Rattle.theory.specs.Entry.{flags_of}
-use Rattle.term_buffer.specs.Search.{AreApart, HasFrame, HasNoFrame, StartBelow, head_in}
+use Rattle.term_buffer.specs.Search.{AreInOrder, HasFrame, HasNoneAt, StartBelow, head_in}
 use Rattle.term_buffer.specs.Slots.{slot_cuts}
 use Rattle.term_buffer.specs.declared.claimed.Slot.{Slot}
 use Rattle.term_buffer.proofs.Changes.{any_default}
 use Rattle.term_buffer.proofs.Cutting.{at_units, for_offset, for_units, span_within}
 
-pub rising : (g : Geometry) (slots : List Slot) → AreApart g slots → IsNonDecreasingBy (λ (s : Slot). s.start) slots
+pub rising : (g : Geometry) (slots : List Slot) → AreInOrder g slots → IsNonDecreasingBy (λ (s : Slot). s.start) slots
 rising g slots a i j d le low =
     ⊎_elim
     (λ (e : i ≡ j). let same : (get_or slots i d).start ≡ (get_or slots j d).start = ap (λ n. (get_or slots n d).start) e in omega arith)
@@ -34,7 +34,7 @@ begins g is s j position long count done at =
     (omega (arith, at, offset), omega (arith, at, within, some))
 
 -- it can only be in the last slot that starts at or below
-last_below : (g : Geometry) → IsGeometry g → (slots : List Slot) → AreApart g slots → (position count : ℕ) → StartBelow slots position count → (k j : ℕ) (d : Slot) → k < length slots → j < (get_or slots k d).committed → position ≡ (get_or slots k d).start + span (take j (slot_cuts g (get_or slots k d))) → k + 1 ≡ count
+last_below : (g : Geometry) → IsGeometry g → (slots : List Slot) → AreInOrder g slots → (position count : ℕ) → StartBelow slots position count → (k j : ℕ) (d : Slot) → k < length slots → j < (get_or slots k d).committed → position ≡ (get_or slots k d).start + span (take j (slot_cuts g (get_or slots k d))) → k + 1 ≡ count
 last_below g is slots a position count b k j d low done at =
     let here = begins g is (get_or slots k d) j position (a.long k d low) (a.count k d low) done at in
     ⊎_elim
@@ -52,7 +52,7 @@ last_below g is slots a position count b k j d low done at =
     cases_lt' : (x y : ℕ) → (y ≤ x) ⊎ (x < y)
     cases_lt' x y = ⊎_elim (λ (h : x < y). inr h) (λ (h : y ≤ x). inl h) (cases_lt x y)
 
-pub not_there : (g : Geometry) → IsGeometry g → (slots : List Slot) → AreApart g slots → (position count : ℕ) → StartBelow slots position count → (s : Slot) → s ≡ get_or slots (count - 1) s → ((position - s.start) % g.mtu ≡ 0 → (position - s.start) / g.mtu < s.committed → ⊥) → HasNoFrame g slots position
+pub not_there : (g : Geometry) → IsGeometry g → (slots : List Slot) → AreInOrder g slots → (position count : ℕ) → StartBelow slots position count → (s : Slot) → s ≡ get_or slots (count - 1) s → ((position - s.start) % g.mtu ≡ 0 → (position - s.start) / g.mtu < s.committed → ⊥) → HasNoneAt g slots position
 not_there g is slots a position count b s here cannot k j d low done at =
     let last : k + 1 ≡ count = last_below g is slots a position count b k j d low done at in
     let place : k ≡ count - 1 = omega (arith, last) in
@@ -67,7 +67,7 @@ not_there g is slots a position count b s here cannot k j d low done at =
     let quotient : (position - s.start) / g.mtu ≡ j = (same_from_place ((position - s.start) / g.mtu) ((position - s.start) % g.mtu) j 0 g.mtu (omega arith) some parts).0 in
     cannot rest (omega (arith, quotient, less))
 
-pub is_there : (g : Geometry) → IsGeometry g → (slots : List Slot) → AreApart g slots → (position count : ℕ) → StartBelow slots position count → (count ≡ 0 → ⊥) → (s : Slot) → s ≡ get_or slots (count - 1) s → (position - s.start) % g.mtu ≡ 0 → (frame : ℕ) → frame ≡ (position - s.start) / g.mtu → frame < s.committed → (head : FrameHead) → head ≡ head_in g s frame position → HasFrame g slots position head
+pub is_there : (g : Geometry) → IsGeometry g → (slots : List Slot) → AreInOrder g slots → (position count : ℕ) → StartBelow slots position count → (count ≡ 0 → ⊥) → (s : Slot) → s ≡ get_or slots (count - 1) s → (position - s.start) % g.mtu ≡ 0 → (frame : ℕ) → frame ≡ (position - s.start) / g.mtu → frame < s.committed → (head : FrameHead) → head ≡ head_in g s frame position → HasFrame g slots position head
 is_there g is slots a position count b some s here even frame quotient done head shown = record {
   place = count - 1;
   frame = frame;

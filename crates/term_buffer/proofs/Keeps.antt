@@ -19,7 +19,7 @@ use Rattle.theory.proofs.Places.{term_ends}
 use Rattle.theory.proofs.Tiling.{Tiles-push}
 use Rattle.theory.proofs.Tables.{sum_set}
 use Rattle.term_buffer.specs.Kept.{cuts_for, cuts_in, frame_of, rest_of, with_share}
-use Rattle.term_buffer.specs.Slots.{AreWritten, IsBuffer, IsInside, IsWritten, IsZeroAhead, Parts, drafts_of, geometry_in, image_of, outline, piece_in, range, slot_cuts, term_in}
+use Rattle.term_buffer.specs.Slots.{AreWritten, IsBuffer, IsInside, IsWritten, IsZeroAhead, BufferParts, drafts_of, geometry_in, image_of, outline, piece_in, range, slot_cuts, term_in}
 use Rattle.term_buffer.specs.declared.claimed.Claimed.{Claimed}
 use Rattle.term_buffer.specs.declared.claimed.Slot.{Slot}
 use Rattle.term_buffer.proofs.Cutting.{at_units, for_long, for_units, span_within}
@@ -32,7 +32,7 @@ use Rattle.term_buffer.proofs.Changes.{LeavesOthers, Opened, draft_is, image_is,
 use Rattle.term_buffer.proofs.Logs.{long_range, some_term}
 
 -- where an open claim stands in the bytes
-pub record Stands (p : Parts) (c : Claimed) : Type 0 where
+pub record Stands (p : BufferParts) (c : Claimed) : Type 0 where
   pub inside : IsInside p.identity p.first p.tail (slot_of c c.frame)
   pub fits : c.start % (3 * term_in p) + span (cuts_in (geometry_in p) c) ≤ 3 * term_in p
   pub word : c.start % 8 ≡ 0
@@ -42,7 +42,7 @@ pub record Stands (p : Parts) (c : Claimed) : Type 0 where
   pub unit : span (take c.frame (cuts_in (geometry_in p) c)) % 32 ≡ 0
   pub some : 32 ≤ get_or (cuts_in (geometry_in p) c) c.frame 0
 
-pub stands : (p : Parts) (k : IsBuffer p) (n : ℕ) (c : Claimed) → Opened (geometry_in p) p.slots n c → Stands p c
+pub stands : (p : BufferParts) (k : IsBuffer p) (n : ℕ) (c : Claimed) → Opened (geometry_in p) p.slots n c → Stands p c
 stands p k n c o =
     let at : IsInside p.identity p.first p.tail (slot_of c c.frame) = subst (IsInside p.identity p.first p.tail) (o.here (slot_of c 0)) (k.inside n (slot_of c 0) o.within) in
     let units : AllByRecursion (λ cut. 32 ≤ cut) (cuts_in (geometry_in p) c) = for_units (geometry_in p) k.geometry c.padding c.size at.long in
@@ -58,18 +58,18 @@ stands p k n c o =
     }
 
 -- the first word of the next frame
-abbrev pub IsNextPlace : Parts → Claimed → ℕ → Type 0
+abbrev pub IsNextPlace : BufferParts → Claimed → ℕ → Type 0
 IsNextPlace p c place = 8 * place ≡ c.start % (3 * term_in p) + span (take c.frame (cuts_in (geometry_in p) c))
 
 -- a word of it
-abbrev pub IsNextWord : Parts → Claimed → ℕ → Type 0
+abbrev pub IsNextWord : BufferParts → Claimed → ℕ → Type 0
 IsNextWord p c index = 8 * index < aligned (get_or (cuts_in (geometry_in p) c) c.frame 0)
 
 -- the words of a claim's next frame lie in the bytes
-pub word_in : (p : Parts) (k : IsBuffer p) (c : Claimed) → Stands p c → (place index : ℕ) → IsNextPlace p c place → IsNextWord p c index → 8 * (place + index) + 8 ≤ length p.bytes
+pub word_in : (p : BufferParts) (k : IsBuffer p) (c : Claimed) → Stands p c → (place index : ℕ) → IsNextPlace p c place → IsNextWord p c index → 8 * (place + index) + 8 ≤ length p.bytes
 word_in p k c s place index at inside = omega (arith, s.fits, s.part, k.ring, at, inside)
 
-pub others : (p : Parts) (k : IsBuffer p) (n : ℕ) (c : Claimed) → Opened (geometry_in p) p.slots n c → (place index w : ℕ) → IsNextPlace p c place → IsNextWord p c index → LeavesOthers (geometry_in p) p.bytes (with_word p.bytes (place + index) w) p.slots n
+pub others : (p : BufferParts) (k : IsBuffer p) (n : ℕ) (c : Claimed) → Opened (geometry_in p) p.slots n c → (place index w : ℕ) → IsNextPlace p c place → IsNextWord p c index → LeavesOthers (geometry_in p) p.bytes (with_word p.bytes (place + index) w) p.slots n
 others p k n c o place index w at inside j d low ne =
     let s : Stands p c = stands p k n c o in
     let two : Apart (3 * term_in p) (get_or p.slots n d).start (span (slot_cuts (geometry_in p) (get_or p.slots n d))) (get_or p.slots j d).start (span (slot_cuts (geometry_in p) (get_or p.slots j d))) =
@@ -79,7 +79,7 @@ others p k n c o place index w at inside j d low ne =
     (omega (arith, at)) (omega (arith, at, inside, s.part)) s.fits
 
 -- its frames as they are then
-pub here : (p : Parts) (k : IsBuffer p) (n : ℕ) (c : Claimed) → Opened (geometry_in p) p.slots n c → (place index w : ℕ) → IsNextPlace p c place → IsNextWord p c index → range (geometry_in p) (with_word p.bytes (place + index) w) (slot_of c c.frame) ≡ with_word (range (geometry_in p) p.bytes (slot_of c c.frame)) (span (take c.frame (cuts_in (geometry_in p) c)) / 8 + index) w
+pub here : (p : BufferParts) (k : IsBuffer p) (n : ℕ) (c : Claimed) → Opened (geometry_in p) p.slots n c → (place index w : ℕ) → IsNextPlace p c place → IsNextWord p c index → range (geometry_in p) (with_word p.bytes (place + index) w) (slot_of c c.frame) ≡ with_word (range (geometry_in p) p.bytes (slot_of c c.frame)) (span (take c.frame (cuts_in (geometry_in p) c)) / 8 + index) w
 here p k n c o place index w at inside =
     let s : Stands p c = stands p k n c o in
     let begin : c.start % (3 * term_in p) ≡ 8 * (place - span (take c.frame (cuts_in (geometry_in p) c)) / 8) = omega (arith, at, s.unit) in
@@ -90,25 +90,25 @@ here p k n c o place index w at inside =
 eighths : (n : ℕ) → n % 32 ≡ 0 → n ≡ 8 * (n / 8)
 eighths n h = omega arith
 
-pub only : (p : Parts) (k : IsBuffer p) (n : ℕ) (c : Claimed) → Opened (geometry_in p) p.slots n c → (place index w : ℕ) → IsNextPlace p c place → IsNextWord p c index → OnlyPiece c.frame (cuts_in (geometry_in p) c) (range (geometry_in p) p.bytes (slot_of c c.frame)) (range (geometry_in p) (with_word p.bytes (place + index) w) (slot_of c c.frame))
+pub only : (p : BufferParts) (k : IsBuffer p) (n : ℕ) (c : Claimed) → Opened (geometry_in p) p.slots n c → (place index w : ℕ) → IsNextPlace p c place → IsNextWord p c index → OnlyPiece c.frame (cuts_in (geometry_in p) c) (range (geometry_in p) p.bytes (slot_of c c.frame)) (range (geometry_in p) (with_word p.bytes (place + index) w) (slot_of c c.frame))
 only p k n c o place index w at inside =
     let s : Stands p c = stands p k n c o in
     subst (OnlyPiece c.frame (cuts_in (geometry_in p) c) (range (geometry_in p) p.bytes (slot_of c c.frame))) (sym (here p k n c o place index w at inside))
     (only_word (cuts_in (geometry_in p) c) c.frame (range (geometry_in p) p.bytes (slot_of c c.frame)) (span (take c.frame (cuts_in (geometry_in p) c)) / 8) index w o.more (omega (arith, s.long)) (eighths (span (take c.frame (cuts_in (geometry_in p) c))) s.unit) inside)
 
-pub piece : (p : Parts) (k : IsBuffer p) (n : ℕ) (c : Claimed) → Opened (geometry_in p) p.slots n c → (place index w : ℕ) → IsNextPlace p c place → IsNextWord p c index → piece_in c.frame (cuts_in (geometry_in p) c) (range (geometry_in p) (with_word p.bytes (place + index) w) (slot_of c c.frame)) ≡ with_word (piece_in c.frame (cuts_in (geometry_in p) c) (range (geometry_in p) p.bytes (slot_of c c.frame))) index w
+pub piece : (p : BufferParts) (k : IsBuffer p) (n : ℕ) (c : Claimed) → Opened (geometry_in p) p.slots n c → (place index w : ℕ) → IsNextPlace p c place → IsNextWord p c index → piece_in c.frame (cuts_in (geometry_in p) c) (range (geometry_in p) (with_word p.bytes (place + index) w) (slot_of c c.frame)) ≡ with_word (piece_in c.frame (cuts_in (geometry_in p) c) (range (geometry_in p) p.bytes (slot_of c c.frame))) index w
 piece p k n c o place index w at inside =
     let s : Stands p c = stands p k n c o in
     ap (piece_in c.frame (cuts_in (geometry_in p) c)) (here p k n c o place index w at inside)
     ∙ piece_word (cuts_in (geometry_in p) c) c.frame (range (geometry_in p) p.bytes (slot_of c c.frame)) (span (take c.frame (cuts_in (geometry_in p) c)) / 8) index w o.more (omega (arith, s.long)) (eighths (span (take c.frame (cuts_in (geometry_in p) c))) s.unit) inside
 
-pub piece_size : (p : Parts) (k : IsBuffer p) (n : ℕ) (c : Claimed) → Opened (geometry_in p) p.slots n c → length (piece_in c.frame (cuts_in (geometry_in p) c) (range (geometry_in p) p.bytes (slot_of c c.frame))) ≡ aligned (get_or (cuts_in (geometry_in p) c) c.frame 0)
+pub piece_size : (p : BufferParts) (k : IsBuffer p) (n : ℕ) (c : Claimed) → Opened (geometry_in p) p.slots n c → length (piece_in c.frame (cuts_in (geometry_in p) c) (range (geometry_in p) p.bytes (slot_of c c.frame))) ≡ aligned (get_or (cuts_in (geometry_in p) c) c.frame 0)
 piece_size p k n c o = let s : Stands p c = stands p k n c o in piece_long (cuts_in (geometry_in p) c) c.frame (range (geometry_in p) p.bytes (slot_of c c.frame)) o.more (omega (arith, s.long))
 
-pub was_written : (p : Parts) (k : IsBuffer p) (n : ℕ) (c : Claimed) (o : Opened (geometry_in p) p.slots n c) → IsWritten p.identity (slot_of c c.frame) (range (geometry_in p) p.bytes (slot_of c c.frame))
+pub was_written : (p : BufferParts) (k : IsBuffer p) (n : ℕ) (c : Claimed) (o : Opened (geometry_in p) p.slots n c) → IsWritten p.identity (slot_of c c.frame) (range (geometry_in p) p.bytes (slot_of c c.frame))
 was_written p k n c o = subst (λ s. IsWritten p.identity s (range (geometry_in p) p.bytes s)) (o.here (slot_of c 0)) (k.written n (slot_of c 0) o.within)
 
-still_ahead : (p : Parts) (k : IsBuffer p) (n : ℕ) (c : Claimed) → Opened (geometry_in p) p.slots n c → (place index w : ℕ) → IsNextPlace p c place → IsNextWord p c index → IsZeroAhead (term_in p) (with_word p.bytes (place + index) w) p.tail p.cleaned
+still_ahead : (p : BufferParts) (k : IsBuffer p) (n : ℕ) (c : Claimed) → Opened (geometry_in p) p.slots n c → (place index w : ℕ) → IsNextPlace p c place → IsNextWord p c index → IsZeroAhead (term_in p) (with_word p.bytes (place + index) w) p.tail p.cleaned
 still_ahead p k n c o place index w at inside q low high =
     let s : Stands p c = stands p k n c o in
     let before : c.start + span (cuts_in (geometry_in p) c) ≤ q = omega (arith, s.inside.high) in
@@ -119,7 +119,7 @@ still_ahead p k n c o place index w at inside q low high =
     ∙ k.ahead q low high
 
 -- a word of an open claim's next frame, and another slot in its place
-pub replaced : (p : Parts) (k : IsBuffer p) (n : ℕ) (c : Claimed) (o : Opened (geometry_in p) p.slots n c) (s : Slot) (place index w : ℕ) → IsNextPlace p c place → IsNextWord p c index → outline (geometry_in p) s ≡ outline (geometry_in p) (slot_of c c.frame) → IsInside p.identity p.first p.tail s → IsWritten p.identity s (range (geometry_in p) (with_word p.bytes (place + index) w) s) → IsBuffer (record p { bytes = with_word p.bytes (place + index) w; slots = set p.slots n s })
+pub replaced : (p : BufferParts) (k : IsBuffer p) (n : ℕ) (c : Claimed) (o : Opened (geometry_in p) p.slots n c) (s : Slot) (place index w : ℕ) → IsNextPlace p c place → IsNextWord p c index → outline (geometry_in p) s ≡ outline (geometry_in p) (slot_of c c.frame) → IsInside p.identity p.first p.tail s → IsWritten p.identity s (range (geometry_in p) (with_word p.bytes (place + index) w) s) → IsBuffer (record p { bytes = with_word p.bytes (place + index) w; slots = set p.slots n s })
 replaced p k n c o s place index w at word same inside written = record {
   geometry = k.geometry;
   identity = k.identity;
@@ -144,7 +144,7 @@ replaced p k n c o s place index w at word same inside written = record {
   ahead = still_ahead p k n c o place index w at word;
 }
 
-pub kept_store : (p : Parts) (k : IsBuffer p) (n : ℕ) (c : Claimed) → Opened (geometry_in p) p.slots n c → (place index w : ℕ) → IsNextPlace p c place → 0 < index → IsNextWord p c index → IsBuffer (record p { bytes = with_word p.bytes (place + index) w })
+pub kept_store : (p : BufferParts) (k : IsBuffer p) (n : ℕ) (c : Claimed) → Opened (geometry_in p) p.slots n c → (place index w : ℕ) → IsNextPlace p c place → 0 < index → IsNextWord p c index → IsBuffer (record p { bytes = with_word p.bytes (place + index) w })
 kept_store p k n c o place index w at behind inside =
     let s : Stands p c = stands p k n c o in
     let next : index ≡ 1 + (index - 1) = omega arith in
@@ -178,12 +178,12 @@ pad_flags g true n (suc k) low e = absurd (omega arith)
 pad_flags g false n k low e = absurd (false≢true e)
 
 -- what a commit's word is
-pub record CommitsWith (p : Parts) (n : ℕ) (c : Claimed) (flags w : ℕ) : Type 0 where
+pub record CommitsWith (p : BufferParts) (n : ℕ) (c : Claimed) (flags w : ℕ) : Type 0 where
   pub flagged : flags ≡ flags_of (nat_eq c.frame 0) (drop (c.frame + 1) (cuts_in (geometry_in p) c))
   pub first : to_le_bytes w64 w ≡ front (get_or (cuts_in (geometry_in p) c) c.frame 0) flags (if c.padding then 0 else 1)
   pub spelled : get_or (drafts_of (geometry_in p) p.bytes p.slots) n [] ≡ rest_of p.identity (c.start + span (take c.frame (cuts_in (geometry_in p) c))) (frame_of c.padding flags (get_or (cuts_in (geometry_in p) c) c.frame 0) (get_or (drafts_of (geometry_in p) p.bytes p.slots) n []))
 
-pub kept_commit : (p : Parts) (k : IsBuffer p) (n : ℕ) (c : Claimed) → Opened (geometry_in p) p.slots n c → (place flags w : ℕ) → IsNextPlace p c place → CommitsWith p n c flags w → IsBuffer (record p { bytes = with_word p.bytes (place + 0) w; slots = set p.slots n (slot_of c (c.frame + 1)) })
+pub kept_commit : (p : BufferParts) (k : IsBuffer p) (n : ℕ) (c : Claimed) → Opened (geometry_in p) p.slots n c → (place flags w : ℕ) → IsNextPlace p c place → CommitsWith p n c flags w → IsBuffer (record p { bytes = with_word p.bytes (place + 0) w; slots = set p.slots n (slot_of c (c.frame + 1)) })
 kept_commit p k n c o place flags w at by =
     replaced p k n c o (slot_of c (c.frame + 1)) place 0 w at word refl
     (record { low = s.inside.low; unit = s.inside.unit; high = s.inside.high; in_term = s.inside.in_term; long = s.inside.long; short = s.inside.short; owner = s.inside.owner; count = omega (arith, o.more) })
@@ -210,7 +210,7 @@ abbrev pub aborted_slot : Claimed → Slot
 aborted_slot c = record { start = c.start; size = c.size + 32; owner = c.owner; padding = true; committed = 1 }
 
 -- what holds of a claim that is aborted, and of the word that aborts it
-pub record AbortsWith (p : Parts) (n : ℕ) (c : Claimed) (w : ℕ) : Type 0 where
+pub record AbortsWith (p : BufferParts) (n : ℕ) (c : Claimed) (w : ℕ) : Type 0 where
   pub message : c.padding ≡ false
   pub none : c.frame ≡ 0
   pub single : c.size ≤ max_payload (geometry_in p)
@@ -218,10 +218,10 @@ pub record AbortsWith (p : Parts) (n : ℕ) (c : Claimed) (w : ℕ) : Type 0 whe
   pub spelled : get_or (drafts_of (geometry_in p) p.bytes p.slots) n [] ≡ rest_of p.identity c.start (Pad (c.size + 32))
 
 -- its frame lengths are the padding's
-pub one_cut : (p : Parts) (n : ℕ) (c : Claimed) (w : ℕ) → AbortsWith p n c w → cuts_in (geometry_in p) c ≡ (c.size + 32) ∷ []
+pub one_cut : (p : BufferParts) (n : ℕ) (c : Claimed) (w : ℕ) → AbortsWith p n c w → cuts_in (geometry_in p) c ≡ (c.size + 32) ∷ []
 one_cut p n c w by = ap (λ b. cuts_for (geometry_in p) b c.size) by.message ∙ short_cuts (geometry_in p) c.size by.single
 
-pub kept_abort : (p : Parts) (k : IsBuffer p) (n : ℕ) (c : Claimed) → Opened (geometry_in p) p.slots n c → (place w : ℕ) → IsNextPlace p c place → AbortsWith p n c w → IsBuffer (record p { bytes = with_word p.bytes (place + 0) w; slots = set p.slots n (aborted_slot c) })
+pub kept_abort : (p : BufferParts) (k : IsBuffer p) (n : ℕ) (c : Claimed) → Opened (geometry_in p) p.slots n c → (place w : ℕ) → IsNextPlace p c place → AbortsWith p n c w → IsBuffer (record p { bytes = with_word p.bytes (place + 0) w; slots = set p.slots n (aborted_slot c) })
 kept_abort p k n c o place w at by =
     replaced p k n c o (aborted_slot c) place 0 w at word
     (ap (λ (cuts : List ℕ). record { start = c.start; owner = c.owner; padding = false; cuts = cuts; frames = [] }) (sym cut))
@@ -272,7 +272,7 @@ zeros_are [] (suc n) low h = absurd (omega arith)
 zeros_are (x ∷ xs) (suc n) low h = ap (λ y. y ∷ take n xs) (h 0 (omega arith)) ∙ ap (λ ys. 0 ∷ ys) (zeros_are xs n (omega arith) (λ i l. h (suc i) (omega arith)))
 
 -- a claim that fits
-pub record Fits (p : Parts) (c : Claimed) : Type 0 where
+pub record Fits (p : BufferParts) (c : Claimed) : Type 0 where
   pub start : c.start ≡ p.tail
   pub fresh : c.frame ≡ 0
   pub owner : c.owner < 8
@@ -282,12 +282,12 @@ pub record Fits (p : Parts) (c : Claimed) : Type 0 where
   pub room : p.tail + span (cuts_in (geometry_in p) c) ≤ p.cleaned + 3 * term_in p
   pub below : p.tail < max_position (geometry_in p)
 
-one_term : (p : Parts) (c : Claimed) → Fits p c → InOneTerm (term_in p) c.start (c.start + span (cuts_in (geometry_in p) c))
+one_term : (p : BufferParts) (c : Claimed) → Fits p c → InOneTerm (term_in p) c.start (c.start + span (cuts_in (geometry_in p) c))
 one_term p c f =
     let parts : p.tail / term_in p * term_in p + p.tail % term_in p ≡ p.tail = div-add-mod' p.tail (term_in p) in
     subst (λ x. x + span (cuts_in (geometry_in p) c) ≤ x / term_in p * term_in p + term_in p) (sym f.start) (omega (arith, parts, f.in_term))
 
-pub new_range : (p : Parts) (k : IsBuffer p) (c : Claimed) → Fits p c → range (geometry_in p) p.bytes (slot_of c 0) ≡ replicate (span (cuts_in (geometry_in p) c)) 0
+pub new_range : (p : BufferParts) (k : IsBuffer p) (c : Claimed) → Fits p c → range (geometry_in p) p.bytes (slot_of c 0) ≡ replicate (span (cuts_in (geometry_in p) c)) 0
 new_range p k c f = zeros (span (cuts_in (geometry_in p) c)) (in_ring (term_in p) c.start (span (cuts_in (geometry_in p) c)) (some_term p k) (one_term p c f)) f.room
   where
     zeros : (n : ℕ) → c.start % (3 * term_in p) + n ≤ 3 * term_in p → p.tail + n ≤ p.cleaned + 3 * term_in p → take n (drop (c.start % (3 * term_in p)) p.bytes) ≡ replicate n 0
@@ -299,13 +299,13 @@ new_range p k c f = zeros (span (cuts_in (geometry_in p) c)) (in_ring (term_in p
         ∙ k.ahead (c.start + i) (omega (arith, f.start)) (omega (arith, f.start, room)))
 
 -- the parts after a claim
-abbrev pub claimed_parts : Parts → Claimed → Parts
+abbrev pub claimed_parts : BufferParts → Claimed → BufferParts
 claimed_parts p c = record p { tail = p.tail + span (cuts_in (geometry_in p) c); shares = with_share p.shares c.owner (span (cuts_in (geometry_in p) c)); slots = p.slots ++ slot_of c 0 ∷ [] }
 
-pub claim_long : (p : Parts) (k : IsBuffer p) (c : Claimed) → Fits p c → 32 ≤ span (cuts_in (geometry_in p) c)
+pub claim_long : (p : BufferParts) (k : IsBuffer p) (c : Claimed) → Fits p c → 32 ≤ span (cuts_in (geometry_in p) c)
 claim_long p k c f = for_long (geometry_in p) k.geometry c.padding c.size f.long
 
-pub kept_claim : (p : Parts) (k : IsBuffer p) (c : Claimed) → Fits p c → IsBuffer (claimed_parts p c)
+pub kept_claim : (p : BufferParts) (k : IsBuffer p) (c : Claimed) → Fits p c → IsBuffer (claimed_parts p c)
 kept_claim p k c f = record {
   geometry = k.geometry;
   identity = k.identity;
@@ -340,10 +340,10 @@ kept_claim p k c f = record {
     in_one = subst (λ x. InOneTerm (term_in p) x (c.start + span (cuts_in (geometry_in p) c))) f.start (one_term p c f)
 
 -- the parts after the first slot is forgotten
-abbrev pub forgotten_parts : Parts → Slot → List Slot → Parts
+abbrev pub forgotten_parts : BufferParts → Slot → List Slot → BufferParts
 forgotten_parts p s ss = record p { first = p.first + span (slot_cuts (geometry_in p) s); gone = p.gone + 1; slots = ss }
 
-pub kept_forget : (p : Parts) (k : IsBuffer p) (s : Slot) (ss : List Slot) → p.slots ≡ s ∷ ss → IsBuffer (forgotten_parts p s ss)
+pub kept_forget : (p : BufferParts) (k : IsBuffer p) (s : Slot) (ss : List Slot) → p.slots ≡ s ∷ ss → IsBuffer (forgotten_parts p s ss)
 kept_forget p k s ss e =
     let all : All (IsInside p.identity p.first p.tail) (s ∷ ss) = subst (λ (xs : List Slot). All (IsInside p.identity p.first p.tail) xs) e k.inside in
     let tiled : Tiles (term_in p) p.first p.tail (map (outline (geometry_in p)) (s ∷ ss)) = subst (λ (xs : List Slot). Tiles (term_in p) p.first p.tail (map (outline (geometry_in p)) xs)) e k.tiles in
@@ -381,18 +381,18 @@ kept_forget p k s ss e =
     later x h low = record { low = low; unit = h.unit; high = h.high; in_term = h.in_term; long = h.long; short = h.short; owner = h.owner; count = h.count }
 
 -- the parts after a word is cleaned
-abbrev pub cleaned_parts : Parts → ℕ → Parts
+abbrev pub cleaned_parts : BufferParts → ℕ → BufferParts
 cleaned_parts p place = record p { bytes = with_word p.bytes place 0; cleaned = p.cleaned + 8 }
 
 -- the word that is cleaned lies in the bytes
-pub word_cleaned : (p : Parts) (k : IsBuffer p) (place : ℕ) → 8 * place ≡ p.cleaned % (3 * term_in p) → 8 * place + 8 ≤ length p.bytes
+pub word_cleaned : (p : BufferParts) (k : IsBuffer p) (place : ℕ) → 8 * place ≡ p.cleaned % (3 * term_in p) → 8 * place + 8 ≤ length p.bytes
 word_cleaned p k place at =
     let some : 0 < 3 * term_in p = omega (arith, some_term p k) in
     let unit : 3 * term_in p % 8 ≡ 0 = omega (arith, k.whole_term) in
     omega (arith, k.ring, at)
 
 -- no slot's bytes change
-pub clean_leaves : (p : Parts) (k : IsBuffer p) (place : ℕ) → 8 * place ≡ p.cleaned % (3 * term_in p) → p.cleaned < p.first → (j : ℕ) (d : Slot) → j < length p.slots → range (geometry_in p) (with_word p.bytes place 0) (get_or p.slots j d) ≡ range (geometry_in p) p.bytes (get_or p.slots j d)
+pub clean_leaves : (p : BufferParts) (k : IsBuffer p) (place : ℕ) → 8 * place ≡ p.cleaned % (3 * term_in p) → p.cleaned < p.first → (j : ℕ) (d : Slot) → j < length p.slots → range (geometry_in p) (with_word p.bytes place 0) (get_or p.slots j d) ≡ range (geometry_in p) p.bytes (get_or p.slots j d)
 clean_leaves p k place at below j d low =
     let s : IsInside p.identity p.first p.tail (get_or p.slots j d) = k.inside j d low in
     let in_bytes : 8 * place + 8 ≤ length p.bytes = word_cleaned p k place at in
@@ -402,7 +402,7 @@ clean_leaves p k place at below j d low =
     (apart (3 * term_in p) p.cleaned 8 (get_or p.slots j d).start (span (slot_cuts (geometry_in p) (get_or p.slots j d))) (omega (arith, some_term p k)) before after)
     (omega (arith, at)) (omega (arith, at)) (omega (arith, at, in_bytes, k.ring))
 
-pub kept_clean : (p : Parts) (k : IsBuffer p) (place : ℕ) → 8 * place ≡ p.cleaned % (3 * term_in p) → p.cleaned < p.first → IsBuffer (cleaned_parts p place)
+pub kept_clean : (p : BufferParts) (k : IsBuffer p) (place : ℕ) → 8 * place ≡ p.cleaned % (3 * term_in p) → p.cleaned < p.first → IsBuffer (cleaned_parts p place)
 kept_clean p k place at below = record {
   geometry = k.geometry;
   identity = k.identity;

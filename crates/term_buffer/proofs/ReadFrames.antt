@@ -17,8 +17,8 @@ use Rattle.position.specs.declared.head.FrameKind.{FrameKind}
 use Rattle.position.specs.declared.head.FrameKind.TheVariants as kinds
 use Rattle.term_buffer.specs.Kept.{Kept, frame_of}
 use Rattle.term_buffer.specs.Heads.{IsStreamFrame, ReadsFrame, ReadsNone, head_of}
-use Rattle.term_buffer.specs.Search.{AreApart, HasFrame, HasNoFrame, head_in}
-use Rattle.term_buffer.specs.Slots.{IsBuffer, IsInside, Parts, entries_of, entry_of, frames_in, geometry_in, piece_in, range, slot_cuts, term_in}
+use Rattle.term_buffer.specs.Search.{AreInOrder, HasFrame, HasNoneAt, head_in}
+use Rattle.term_buffer.specs.Slots.{IsBuffer, IsInside, BufferParts, entries_of, entry_of, frames_in, geometry_in, piece_in, range, slot_cuts, term_in}
 use Rattle.term_buffer.specs.declared.claimed.Slot.{Slot}
 use Rattle.term_buffer.proofs.Cutting.{at_short, at_units, for_short, for_units, span_within}
 use Rattle.term_buffer.proofs.Keeps.{pad_flags}
@@ -27,7 +27,7 @@ use Rattle.term_buffer.proofs.Pieces.{flags_in, flags_next, frame_in, payload_wh
 use Rattle.term_buffer.proofs.Ring.{in_ring, no_wrap}
 use Rattle.term_buffer.proofs.Slots.{slots_order}
 
-pub slots_well : (p : Parts) → IsBuffer p → AreApart (geometry_in p) p.slots
+pub slots_well : (p : BufferParts) → IsBuffer p → AreInOrder (geometry_in p) p.slots
 slots_well p k = record {
   order = λ i j d before low. slots_order (geometry_in p) (term_in p) p.first p.tail p.slots i j d k.tiles before low;
   long = λ j d low. (k.inside j d low).long;
@@ -69,7 +69,7 @@ among_entry s [] i d low among = absurd (omega arith)
 among_entry s (e ∷ es) zero d low among = among_left s (place_all e.start e.frames) (committed es) among
 among_entry s (e ∷ es) (suc i) d low among = among_right s (place_all e.start e.frames) (committed es) (among_entry s es i d (omega arith) among)
 
-no_committed : (g : Geometry) (bytes : List ℕ) (slots : List Slot) (position : ℕ) → All (λ s. AllByRecursion (λ cut. 32 ≤ cut) (slot_cuts g s) × (span (slot_cuts g s) ≤ length (range g bytes s))) slots → HasNoFrame g slots position → (x : Placed) → Among x (committed (entries_of g bytes slots)) → x.at ≡ position → ⊥
+no_committed : (g : Geometry) (bytes : List ℕ) (slots : List Slot) (position : ℕ) → All (λ s. AllByRecursion (λ cut. 32 ≤ cut) (slot_cuts g s) × (span (slot_cuts g s) ≤ length (range g bytes s))) slots → HasNoneAt g slots position → (x : Placed) → Among x (committed (entries_of g bytes slots)) → x.at ≡ position → ⊥
 no_committed g bytes [] position all none x among here = among
 no_committed g bytes (s ∷ ss) position all none x among here =
     ⊎_elim
@@ -79,7 +79,7 @@ no_committed g bytes (s ∷ ss) position all none x among here =
     no_committed g bytes ss position (λ j d low. all (suc j) d (omega arith)) (λ i j d low done e. none (suc i) j d (omega arith) done e) x b here)
     (among_cases x (place_all s.start (frames_in s.padding true s.committed (slot_cuts g s) (range g bytes s))) (committed (entries_of g bytes ss)) among)
 
-pub reads_none : (p : Parts) (k : IsBuffer p) (l : Kept) → shown p ≡ l → (position : ℕ) → HasNoFrame (geometry_in p) p.slots position → ReadsNone l position
+pub reads_none : (p : BufferParts) (k : IsBuffer p) (l : Kept) → shown p ≡ l → (position : ℕ) → HasNoneAt (geometry_in p) p.slots position → ReadsNone l position
 reads_none p k l v position none =
     subst (λ (x : Kept). ReadsNone x position) v
     (no_committed (geometry_in p) p.bytes p.slots position (λ j d low. of_slot (get_or p.slots j d) (k.inside j d low)) none)
@@ -90,7 +90,7 @@ reads_none p k l v position none =
 -- ---- the frame that is there
 
 -- the slot of a frame that was found, and where the frame stands in it
-pub record Found (p : Parts) (position : ℕ) (head : FrameHead) : Type 0 where
+pub record Found (p : BufferParts) (position : ℕ) (head : FrameHead) : Type 0 where
   pub place : ℕ
   pub frame : ℕ
   pub slot : Slot
@@ -107,7 +107,7 @@ pub record Found (p : Parts) (position : ℕ) (head : FrameHead) : Type 0 where
   pub size : head.frame_length ≡ get_or (slot_cuts (geometry_in p) slot) frame 0
   pub long : length (range (geometry_in p) p.bytes slot) ≡ span (slot_cuts (geometry_in p) slot)
 
-pub found : (p : Parts) (k : IsBuffer p) (position : ℕ) (head : FrameHead) → HasFrame (geometry_in p) p.slots position head → Found p position head
+pub found : (p : BufferParts) (k : IsBuffer p) (position : ℕ) (head : FrameHead) → HasFrame (geometry_in p) p.slots position head → Found p position head
 found p k position head f =
     let inside : IsInside p.identity p.first p.tail f.slot = subst (IsInside p.identity p.first p.tail) f.here (k.inside f.place f.slot f.within) in
     let low : f.frame < length (slot_cuts (geometry_in p) f.slot) = omega (arith, f.done, inside.count) in
@@ -150,7 +150,7 @@ in_one t start n x len some one low high long =
     let rest : x % t ≡ x - start / t * t = ap (λ z. z % t) split ∙ mod-mul-add (start / t) t (x - start / t * t) (omega (arith, one, high)) in
     omega (arith, rest, one, high, parts)
 
-pub is_head : (p : Parts) (k : IsBuffer p) (l : Kept) → shown p ≡ l → (position : ℕ) (head : FrameHead) → Found p position head → IsStreamFrame l.identity.geometry head
+pub is_head : (p : BufferParts) (k : IsBuffer p) (l : Kept) → shown p ≡ l → (position : ℕ) (head : FrameHead) → Found p position head → IsStreamFrame l.identity.geometry head
 is_head p k l v position head f =
     subst (λ (x : Kept). IsStreamFrame x.identity.geometry head) v
     (subst (IsStreamFrame (geometry_in p)) (sym f.head_is)
@@ -170,12 +170,12 @@ is_head p k l v position head f =
 -- its bytes
 
 -- where it stands in the ring
-ring_place : (p : Parts) (k : IsBuffer p) (position : ℕ) (head : FrameHead) (f : Found p position head) → position % (3 * term_in p) ≡ f.slot.start % (3 * term_in p) + span (take f.frame (slot_cuts (geometry_in p) f.slot))
+ring_place : (p : BufferParts) (k : IsBuffer p) (position : ℕ) (head : FrameHead) (f : Found p position head) → position % (3 * term_in p) ≡ f.slot.start % (3 * term_in p) + span (take f.frame (slot_cuts (geometry_in p) f.slot))
 ring_place p k position head f =
     let fits : f.slot.start % (3 * term_in p) + span (slot_cuts (geometry_in p) f.slot) ≤ 3 * term_in p = in_ring (term_in p) f.slot.start (span (slot_cuts (geometry_in p) f.slot)) (some_term p k) f.inside.in_term in
     ap (λ x. x % (3 * term_in p)) f.at ∙ no_wrap (3 * term_in p) f.slot.start (span (take f.frame (slot_cuts (geometry_in p) f.slot))) (omega (arith, fits, f.part, f.some))
 
-ring_fits : (p : Parts) (k : IsBuffer p) (position : ℕ) (head : FrameHead) → Found p position head → position % (3 * term_in p) + aligned head.frame_length ≤ length p.bytes
+ring_fits : (p : BufferParts) (k : IsBuffer p) (position : ℕ) (head : FrameHead) → Found p position head → position % (3 * term_in p) + aligned head.frame_length ≤ length p.bytes
 ring_fits p k position head f =
     let fits : f.slot.start % (3 * term_in p) + span (slot_cuts (geometry_in p) f.slot) ≤ 3 * term_in p = in_ring (term_in p) f.slot.start (span (slot_cuts (geometry_in p) f.slot)) (some_term p k) f.inside.in_term in
     let size : aligned head.frame_length ≡ aligned (get_or (slot_cuts (geometry_in p) f.slot) f.frame 0) = ap aligned f.size in
@@ -190,7 +190,7 @@ part_of_part bytes x n a m fits =
     ∙ take-take m (n - a) (drop a (drop x bytes)) (omega arith)
     ∙ ap (take m) (drop-drop a x bytes)
 
-pub piece_read : (p : Parts) (k : IsBuffer p) (position : ℕ) (head : FrameHead) (f : Found p position head) → piece_in f.frame (slot_cuts (geometry_in p) f.slot) (range (geometry_in p) p.bytes f.slot) ≡ take (aligned (get_or (slot_cuts (geometry_in p) f.slot) f.frame 0)) (drop (position % (3 * term_in p)) p.bytes)
+pub piece_read : (p : BufferParts) (k : IsBuffer p) (position : ℕ) (head : FrameHead) (f : Found p position head) → piece_in f.frame (slot_cuts (geometry_in p) f.slot) (range (geometry_in p) p.bytes f.slot) ≡ take (aligned (get_or (slot_cuts (geometry_in p) f.slot) f.frame 0)) (drop (position % (3 * term_in p)) p.bytes)
 piece_read p k position head f =
     piece_at (slot_cuts (geometry_in p) f.slot) f.frame (range (geometry_in p) p.bytes f.slot) f.low
     ∙ part_of_part p.bytes (f.slot.start % (3 * term_in p)) (span (slot_cuts (geometry_in p) f.slot)) (span (take f.frame (slot_cuts (geometry_in p) f.slot))) (aligned (get_or (slot_cuts (geometry_in p) f.slot) f.frame 0)) f.part
@@ -208,10 +208,10 @@ payload_read bytes x n long =
     whole = omega arith
 
 -- the frame that is committed there
-abbrev pub frame_found : (p : Parts) (position : ℕ) (head : FrameHead) → Found p position head → Frame
+abbrev pub frame_found : (p : BufferParts) (position : ℕ) (head : FrameHead) → Found p position head → Frame
 frame_found p position head f = frame_in f.slot.padding true f.frame (slot_cuts (geometry_in p) f.slot) (range (geometry_in p) p.bytes f.slot)
 
-pub among_found : (p : Parts) (position : ℕ) (head : FrameHead) (f : Found p position head) → Among (record { at = position; frame = frame_found p position head f }) (committed (entries_of (geometry_in p) p.bytes p.slots))
+pub among_found : (p : BufferParts) (position : ℕ) (head : FrameHead) (f : Found p position head) → Among (record { at = position; frame = frame_found p position head f }) (committed (entries_of (geometry_in p) p.bytes p.slots))
 among_found p position head f =
     among_entry (record { at = position; frame = frame_found p position head f }) (entries_of (geometry_in p) p.bytes p.slots) f.place (entry_of (geometry_in p) f.slot (range (geometry_in p) p.bytes f.slot))
     (omega (arith, f.within, length-map p.slots (λ x. entry_of (geometry_in p) x (range (geometry_in p) p.bytes x))))
@@ -224,7 +224,7 @@ among_found p position head f =
         get_or-map (λ x. entry_of (geometry_in p) x (range (geometry_in p) p.bytes x)) p.slots f.place f.slot (entry_of (geometry_in p) f.slot (range (geometry_in p) p.bytes f.slot)) f.within
         ∙ ap (λ x. entry_of (geometry_in p) x (range (geometry_in p) p.bytes x)) f.here
 
-reads : (p : Parts) (l : Kept) → shown p ≡ l → (position : ℕ) (head : FrameHead) (f : Found p position head) (frame : Frame) (old new : List ℕ) → frame_found p position head f ≡ frame → head ≡ head_of position frame → new ≡ payload_of frame ++ drop (length (payload_of frame)) old → ReadsFrame l position head old new
+reads : (p : BufferParts) (l : Kept) → shown p ≡ l → (position : ℕ) (head : FrameHead) (f : Found p position head) (frame : Frame) (old new : List ℕ) → frame_found p position head f ≡ frame → head ≡ head_of position frame → new ≡ payload_of frame ++ drop (length (payload_of frame)) old → ReadsFrame l position head old new
 reads p l v position head f frame old new is head_is copied =
     subst (λ (x : Kept). ReadsFrame x position head old new) v
     (record {
@@ -247,7 +247,7 @@ data_frame : (b : Bool) (flags cut : ℕ) (draft : List ℕ) → b ≡ false →
 data_frame true flags cut draft e = absurd (cc)
 data_frame false flags cut draft e = refl
 
-pub reads_padding : (p : Parts) (k : IsBuffer p) (l : Kept) → shown p ≡ l → (position : ℕ) (head : FrameHead) → Found p position head → (head.kind ≡ kinds.Data → ⊥) → (old new : List ℕ) → new ≡ old → ReadsFrame l position head old new
+pub reads_padding : (p : BufferParts) (k : IsBuffer p) (l : Kept) → shown p ≡ l → (position : ℕ) (head : FrameHead) → Found p position head → (head.kind ≡ kinds.Data → ⊥) → (old new : List ℕ) → new ≡ old → ReadsFrame l position head old new
 reads_padding p k l v position head f other old new same =
     reads p l v position head f (Pad (get_or (slot_cuts (geometry_in p) f.slot) f.frame 0)) old new
     (pad_frame f.slot.padding (flags_in true f.frame (slot_cuts (geometry_in p) f.slot)) (get_or (slot_cuts (geometry_in p) f.slot) f.frame 0) (drop 8 (piece_in f.frame (slot_cuts (geometry_in p) f.slot) (range (geometry_in p) p.bytes f.slot))) padding)
@@ -260,15 +260,15 @@ reads_padding p k l v position head f other old new same =
     padding = padding_kind f.slot.padding head.kind (ap (λ (h : FrameHead). h.kind) f.head_is) other
 
 -- what a message's frame carries
-abbrev pub payload_found : (p : Parts) (position : ℕ) (head : FrameHead) → Found p position head → List ℕ
+abbrev pub payload_found : (p : BufferParts) (position : ℕ) (head : FrameHead) → Found p position head → List ℕ
 payload_found p position head f = take (get_or (slot_cuts (geometry_in p) f.slot) f.frame 0 - 32) (drop 24 (drop 8 (piece_in f.frame (slot_cuts (geometry_in p) f.slot) (range (geometry_in p) p.bytes f.slot))))
 
-payload_long : (p : Parts) (position : ℕ) (head : FrameHead) (f : Found p position head) → length (payload_found p position head f) ≡ get_or (slot_cuts (geometry_in p) f.slot) f.frame 0 - 32
+payload_long : (p : BufferParts) (position : ℕ) (head : FrameHead) (f : Found p position head) → length (payload_found p position head f) ≡ get_or (slot_cuts (geometry_in p) f.slot) f.frame 0 - 32
 payload_long p position head f =
     let long : length (piece_in f.frame (slot_cuts (geometry_in p) f.slot) (range (geometry_in p) p.bytes f.slot)) ≡ aligned (get_or (slot_cuts (geometry_in p) f.slot) f.frame 0) = piece_long (slot_cuts (geometry_in p) f.slot) f.frame (range (geometry_in p) p.bytes f.slot) f.low (omega (arith, f.long)) in
     length-take-le (get_or (slot_cuts (geometry_in p) f.slot) f.frame 0 - 32) (drop 24 (drop 8 (piece_in f.frame (slot_cuts (geometry_in p) f.slot) (range (geometry_in p) p.bytes f.slot)))) (omega (arith, length-drop 24 (drop 8 (piece_in f.frame (slot_cuts (geometry_in p) f.slot) (range (geometry_in p) p.bytes f.slot))), length-drop 8 (piece_in f.frame (slot_cuts (geometry_in p) f.slot) (range (geometry_in p) p.bytes f.slot)), long))
 
-pub reads_message : (p : Parts) (k : IsBuffer p) (l : Kept) → shown p ≡ l → (position : ℕ) (head : FrameHead) (f : Found p position head) → head.kind ≡ kinds.Data → (old new : List ℕ) → new ≡ payload_found p position head f ++ drop (length (payload_found p position head f)) old → ReadsFrame l position head old new
+pub reads_message : (p : BufferParts) (k : IsBuffer p) (l : Kept) → shown p ≡ l → (position : ℕ) (head : FrameHead) (f : Found p position head) → head.kind ≡ kinds.Data → (old new : List ℕ) → new ≡ payload_found p position head f ++ drop (length (payload_found p position head f)) old → ReadsFrame l position head old new
 reads_message p k l v position head f kind old new copied =
     reads p l v position head f (Data (flags_in true f.frame (slot_cuts (geometry_in p) f.slot)) (payload_found p position head f)) old new
     (data_frame f.slot.padding (flags_in true f.frame (slot_cuts (geometry_in p) f.slot)) (get_or (slot_cuts (geometry_in p) f.slot) f.frame 0) (drop 8 (piece_in f.frame (slot_cuts (geometry_in p) f.slot) (range (geometry_in p) p.bytes f.slot))) message)
@@ -292,7 +292,7 @@ front_written old front payload fits is =
     ∙ is
 
 -- the payload as it is copied
-pub message_copied : (p : Parts) (k : IsBuffer p) (l : Kept) → shown p ≡ l → (position : ℕ) (head : FrameHead) (f : Found p position head) → head.kind ≡ kinds.Data → (given buffer old written new : List ℕ) (t : ℕ) → t ≡ term_in p → given ≡ p.bytes → buffer ≡ old → l.identity.geometry.mtu ≤ length old → written ≡ take (position % (3 * t) + 32 + (head.frame_length - 32) - (position % (3 * t) + 32)) (drop (position % (3 * t) + 32) given) ++ drop (length (take (position % (3 * t) + 32 + (head.frame_length - 32) - (position % (3 * t) + 32)) (drop (position % (3 * t) + 32) given))) buffer → new ≡ with_front old written → new ≡ payload_found p position head f ++ drop (length (payload_found p position head f)) old
+pub message_copied : (p : BufferParts) (k : IsBuffer p) (l : Kept) → shown p ≡ l → (position : ℕ) (head : FrameHead) (f : Found p position head) → head.kind ≡ kinds.Data → (given buffer old written new : List ℕ) (t : ℕ) → t ≡ term_in p → given ≡ p.bytes → buffer ≡ old → l.identity.geometry.mtu ≤ length old → written ≡ take (position % (3 * t) + 32 + (head.frame_length - 32) - (position % (3 * t) + 32)) (drop (position % (3 * t) + 32) given) ++ drop (length (take (position % (3 * t) + 32 + (head.frame_length - 32) - (position % (3 * t) + 32)) (drop (position % (3 * t) + 32) given))) buffer → new ≡ with_front old written → new ≡ payload_found p position head f ++ drop (length (payload_found p position head f)) old
 message_copied p k l v position head f kind given buffer old written new t term same was room is new_is =
     new_is ∙ front_written old written (payload_found p position head f) fits copied
   where
@@ -316,8 +316,8 @@ message_copied p k l v position head f kind given buffer old written new t term 
     copied : written ≡ payload_found p position head f ++ drop (length (payload_found p position head f)) old
     copied = is ∙ ap (λ (r : List ℕ). r ++ drop (length r) buffer) part ∙ ap (λ (b : List ℕ). payload_found p position head f ++ drop (length (payload_found p position head f)) b) was
 
-pub found_long : (p : Parts) (position : ℕ) (head : FrameHead) → Found p position head → 32 ≤ head.frame_length
+pub found_long : (p : BufferParts) (position : ℕ) (head : FrameHead) → Found p position head → 32 ≤ head.frame_length
 found_long p position head f = omega (arith, f.size, f.some)
 
-pub copy_inside : (p : Parts) (k : IsBuffer p) (position : ℕ) (head : FrameHead) → Found p position head → position % (3 * term_in p) + 32 + (head.frame_length - 32) ≤ length p.bytes
+pub copy_inside : (p : BufferParts) (k : IsBuffer p) (position : ℕ) (head : FrameHead) → Found p position head → position % (3 * term_in p) + 32 + (head.frame_length - 32) ≤ length p.bytes
 copy_inside p k position head f = omega (arith, ring_fits p k position head f, found_long p position head f)

@@ -8,7 +8,7 @@ use Rattle.term_buffer.specs.Slots.{slot_cuts}
 use Rattle.term_buffer.specs.declared.claimed.Slot.{Slot}
 
 -- each of the slots ends before the ones behind it, and has no more frames committed than it has
-pub record AreApart (g : Geometry) (slots : List Slot) : Type 0 where
+pub record AreInOrder (g : Geometry) (slots : List Slot) : Type 0 where
   pub order : (j k : ℕ) (d : Slot) → j < k → k < length slots → (slice_index_or slots j d).start + span (slot_cuts g (slice_index_or slots j d)) ≤ (slice_index_or slots k d).start
   pub long : All (λ s. s.padding ≡ true → 32 ≤ s.size) slots
   pub count : All (λ s. s.committed ≤ length (slot_cuts g s)) slots
@@ -40,5 +40,5 @@ pub record HasFrame (g : Geometry) (slots : List Slot) (position : ℕ) (head : 
   pub shown : head ≡ head_in g slot frame position
 
 -- no committed frame begins there
-abbrev pub HasNoFrame : Geometry → List Slot → ℕ → Type 0
-HasNoFrame g slots position = (k j : ℕ) (d : Slot) → k < length slots → j < (slice_index_or slots k d).committed → position ≡ (slice_index_or slots k d).start + span (take j (slot_cuts g (slice_index_or slots k d))) → ⊥
+abbrev pub HasNoneAt : Geometry → List Slot → ℕ → Type 0
+HasNoneAt g slots position = (k j : ℕ) (d : Slot) → k < length slots → j < (slice_index_or slots k d).committed → position ≡ (slice_index_or slots k d).start + span (take j (slot_cuts g (slice_index_or slots k d))) → ⊥

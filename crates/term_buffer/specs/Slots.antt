@@ -75,7 +75,7 @@ abbrev pub IsZeroAhead : ℕ → List ℕ → ℕ → ℕ → Type 0
 IsZeroAhead term bytes end cleaned = (p : ℕ) → end ≤ p → p < cleaned + 3 * term → slice_index bytes (p % (3 * term)) ≡ 0
 
 -- the parts of a buffer
-pub record Parts : Type 0 where
+pub record BufferParts : Type 0 where
   pub identity : Identity
   pub bytes : List ℕ
   pub start : ℕ
@@ -87,14 +87,14 @@ pub record Parts : Type 0 where
   pub slots : List Slot
   pub capacity : ℕ
 
-abbrev pub geometry_in : Parts → Geometry
+abbrev pub geometry_in : BufferParts → Geometry
 geometry_in p = p.identity.geometry
 
-abbrev pub term_in : Parts → ℕ
+abbrev pub term_in : BufferParts → ℕ
 term_in p = p.identity.geometry.term_length
 
 -- what holds of a buffer's parts between two calls
-pub record IsBuffer (p : Parts) : Type 0 where
+pub record IsBuffer (p : BufferParts) : Type 0 where
   pub geometry : IsGeometry p.identity.geometry
   pub identity : IsIdentity p.identity
   pub whole_term : term_in p % 65536 ≡ 0

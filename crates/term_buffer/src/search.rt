@@ -1,7 +1,7 @@
 //! The slot that a position lies in, found by halving.
 ghost use Rattle.std.specs.Prelude.{IfSome, IfNone};
 ghost use Rattle.std.specs.List.Sorted.{IsNonDecreasingBy};
-ghost use Rattle.term_buffer.specs.Search.{AreApart, HasFrame, HasNoFrame, StartBelow};
+ghost use Rattle.term_buffer.specs.Search.{AreInOrder, HasFrame, HasNoneAt, StartBelow};
 
 use crate::claimed::Slot;
 use crate::cuts::{frame_flags, frame_length};
@@ -14,9 +14,9 @@ pub(crate) fn head_at(
     slots: &VecDeque<Slot>,
     position: u64,
 ) -> Option<FrameHead>
-    requires { AreApart geometry slots.now.items }
+    requires { AreInOrder geometry slots.now.items }
     ensures found { IfSome result (HasFrame geometry slots.now.items position) }
-    ensures nothing { IfNone result (HasNoFrame geometry slots.now.items position) }
+    ensures nothing { IfNone result (HasNoneAt geometry slots.now.items position) }
 {
     let count = starts_below(slots, position);
     if count == 0 {

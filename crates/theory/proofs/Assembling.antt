@@ -4,7 +4,7 @@ use Rattle.std.specs.List.{AllByRecursion, flat_map}
 use Rattle.std.specs.Prelude.{nat_eq}
 use Rattle.std.proofs.lemmas.Bool.{cases_Bool, eqb-true, cond-true, cond-false}
 use Rattle.theory.specs.Assembly.{Heard, on_frame, heard_more}
-use Rattle.theory.specs.Completion.{Piece, begun_after, left_by, IsMiddle, Ends, Completes, GivesWhole}
+use Rattle.theory.specs.Completion.{Piece, begun_after, left_by, IsMiddle, EndsMessage, Completes, GivesWhole}
 
 abbrev Flagged : Piece → Type 0
 Flagged x = (x.flags ≡ 0) ⊎ ((x.flags ≡ 64) ⊎ ((x.flags ≡ 128) ⊎ (x.flags ≡ 192)))
@@ -88,7 +88,7 @@ other_message (Some z) flags payload message n e =
     let none : None ≡ Some message = sym (ap (λ (h : Heard). h.message) (cond-false (nat_eq flags 64) (record { begun = None; message = Some (z ++ payload) }) (record { begun = Some (z ++ payload); message = None }) n)) ∙ e in
     absurd (cc)
 
-ends_from : (before : List Piece) (p : Piece) (z message : List ℕ) → AllByRecursion Flagged before → p.flags ≡ 64 → begun_after None before ≡ Some z → message ≡ z ++ p.payload → Ends before p message
+ends_from : (before : List Piece) (p : Piece) (z message : List ℕ) → AllByRecursion Flagged before → p.flags ≡ 64 → begun_after None before ≡ Some z → message ≡ z ++ p.payload → EndsMessage before p message
 ends_from before p z message f is b e =
     ⊎_elim
     (λ (i : IsBegun before z). record {

@@ -22,7 +22,7 @@ abbrev pub IsMiddle : Piece → Type 0
 IsMiddle x = (x.flags ≡ 0) × (x.refused ≡ false)
 
 -- behind these pieces, the piece ends a message whose begin is the last piece that begins one, none since refused
-pub record Ends (before : List Piece) (p : Piece) (message : List ℕ) : Type 0 where
+pub record EndsMessage (before : List Piece) (p : Piece) (message : List ℕ) : Type 0 where
   pub is_end : p.flags ≡ 64
   pub earlier : List Piece
   pub first : Piece
@@ -34,7 +34,7 @@ pub record Ends (before : List Piece) (p : Piece) (message : List ℕ) : Type 0 
   pub joined : message ≡ first.payload ++ flat_map (λ x. x.payload) middles ++ p.payload
 
 abbrev pub Completes : List Piece → Piece → List ℕ → Type 0
-Completes before p message = ((p.flags ≡ 192) × (message ≡ p.payload)) ⊎ Ends before p message
+Completes before p message = ((p.flags ≡ 192) × (message ≡ p.payload)) ⊎ EndsMessage before p message
 
 -- a piece that is taken gives a message exactly where it completes one
 abbrev pub GivesWhole : Type 0

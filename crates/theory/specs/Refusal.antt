@@ -52,7 +52,7 @@ pub record IsStale (g : Geometry) (sights : List Sight) : Type 0 where
   pub other : id_in word ≡ id_of g count → ⊥
 
 -- an active count, and behind it its tail at the end of the term or above
-pub record IsFinished (g : Geometry) (sights : List Sight) (Which : ℕ → Type 0) : Type 0 where
+pub record IsSeenFinished (g : Geometry) (sights : List Sight) (Which : ℕ → Type 0) : Type 0 where
   pub count : ℕ
   pub word : ℕ
   pub order : Before (SawCount count) (SawTail (count % 3) word) sights
@@ -81,8 +81,8 @@ abbrev pub IsCause : Geometry → ℕ → List Sight → ℕ → Why → Type 0
 IsCause g taken sights limit Closed = is_closed limit ≡ true
 IsCause g taken sights limit NotConnected = (is_closed limit ≡ false) × (is_connected limit ≡ false) × IsFull g sights limit
 IsCause g taken sights limit BackPressured = (is_closed limit ≡ false) × (is_connected limit ≡ true) × IsFull g sights limit
-IsCause g taken sights limit AdminAction = (is_closed limit ≡ false) × (IsStale g sights ⊎ (IsFinished g sights IsNotLast ⊎ IsTripped g taken sights IsNotLast))
-IsCause g taken sights limit MaxPositionExceeded = (is_closed limit ≡ false) × (IsFinished g sights IsLast ⊎ IsTripped g taken sights IsLast)
+IsCause g taken sights limit AdminAction = (is_closed limit ≡ false) × (IsStale g sights ⊎ (IsSeenFinished g sights IsNotLast ⊎ IsTripped g taken sights IsNotLast))
+IsCause g taken sights limit MaxPositionExceeded = (is_closed limit ≡ false) × (IsSeenFinished g sights IsLast ⊎ IsTripped g taken sights IsLast)
 
 abbrev pub IsJustified : Geometry → ℕ → List Sight → Why → Type 0
 IsJustified g taken sights why = (limit : ℕ) × Among (SawLimit limit) sights × IsCause g taken sights limit why

@@ -23,7 +23,7 @@ use Rattle.sender.specs.Cycling.{AsksSetup, IsNews, IsNextSent, NewsContent, Say
 use Rattle.script_run.specs.LineContents.{OfSender}
 use Rattle.world.specs.Lines.{line_contents}
 use Rattle.script_run.specs.ScriptState.{ScriptState}
-use Rattle.sender.specs.Sending.{AreBehind, Cycles, Hears, HearsDatagram, Sending, at_moment}
+use Rattle.sender.specs.Sending.{AreBehind, Cycles, HearsNews, HearsDatagram, Sending, at_moment}
 use Rattle.script_run.proofs.SenderRuns.{named_at, named_said}
 use Rattle.world.proofs.Simulations.{IsNow, claims_of, one_line}
 use Rattle.world.specs.Simulated.{AllShow, Answered, IsAnswered, RepresentsState, RepresentsSender}
@@ -132,7 +132,7 @@ quiet_shown new s x naming h = subst (λ ps. RepresentsState new (record s { pac
 answer_line : (before after : List Line) (answer is : SenderAnswer) (k : ℕ) (sent : List (List ℕ)) → line_contents after ≡ line_contents before ++ (OfSender answer ∷ packet_lines k sent) → answer ≡ is → sent ≡ [] → line_contents after ≡ line_contents before ++ OfSender is ∷ []
 answer_line before after answer is k sent told same none = told ∙ ap (λ a. line_contents before ++ (OfSender a ∷ packet_lines k sent)) same ∙ ap (λ ws. line_contents before ++ (OfSender is ∷ packet_lines k ws)) none
 
-reply_news : (old new : Simulation) (s : ScriptState) (k now : ℕ) (bytes : List ℕ) (news : NewsContent) (answer : SenderAnswer) (t : Sending ℕ) (sent : List (List ℕ)) (before after : List Line) → RepresentsState old s → old.log.identity ≡ old.sender.identity → slice_get old.packets k ≡ Some bytes → IsNews old.sender.identity bytes news → Hears after_told (λ f. f) (at_moment old.sender now) news answer t sent → OnlySender old new old.log t sent → line_contents after ≡ line_contents before ++ (OfSender answer ∷ packet_lines (length old.packets) sent) → Answered s (commands.Reply k now) (line_contents before) (line_contents after) new
+reply_news : (old new : Simulation) (s : ScriptState) (k now : ℕ) (bytes : List ℕ) (news : NewsContent) (answer : SenderAnswer) (t : Sending ℕ) (sent : List (List ℕ)) (before after : List Line) → RepresentsState old s → old.log.identity ≡ old.sender.identity → slice_get old.packets k ≡ Some bytes → IsNews old.sender.identity bytes news → HearsNews after_told (λ f. f) (at_moment old.sender now) news answer t sent → OnlySender old new old.log t sent → line_contents after ≡ line_contents before ++ (OfSender answer ∷ packet_lines (length old.packets) sent) → Answered s (commands.Reply k now) (line_contents before) (line_contents after) new
 reply_news old new s k now bytes (Says f) answer t sent before after h same packet is hears o told =
     let identity : old.sender.identity ≡ s.log.identity = sym same ∙ ap (λ l. l.identity) (sym h.log) in
     let clock : seen old.sender.clock now ≡ clock_at s now = ap (λ c. seen c now) h.sender.clock in

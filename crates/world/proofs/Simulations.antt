@@ -21,19 +21,19 @@ use Rattle.world.specs.declared.line.Line.{Line}
 use Rattle.world.specs.declared.simulation.Simulation.{Simulation}
 use Rattle.theory.specs.Wire.{Wire}
 use Rattle.receiver.specs.declared.receiver_core.Outcome.{Outcome}
-use Rattle.script_run.specs.Answers.{Answers, AreFrames, Claims, HasClaim, MayNotTake, OffersMessage, MayClaim, MayOffer, Offered, claim_by, reader_at, with_claim, with_reader, given_out, lines_of, or_nothing, packet_lines, with_log, with_receiver}
+use Rattle.script_run.specs.Answers.{Answers, AreFrames, Claims, HasClaim, MayNotTake, OffersMessage, MayClaimRange, MayOffer, Offered, claim_by, reader_at, with_claim, with_reader, given_out, lines_of, or_nothing, packet_lines, with_log, with_receiver}
 use Rattle.sender.specs.Cycling.{datagrams}
 use Rattle.receiver.specs.Polling.{Answer, Polls, TellsPositions}
 use Rattle.receiver.specs.declared.positions.Positions.{Positions}
 use Rattle.script_run.specs.LineContents.{Bad, Limit, OfReceiver, LineContent, poll_line, positions_line}
 use Rattle.world.specs.Lines.{line_content, line_contents}
-use Rattle.receiver.specs.Receiving.{Hears, Receiver, replies, ticked}
+use Rattle.receiver.specs.Receiving.{TakesDatagram, Receiver, replies, ticked}
 use Rattle.script_run.specs.ScriptState.{ScriptState}
 use Rattle.sender.specs.Sending.{Sending}
 use Rattle.world.specs.Simulated.{AllShow, Answered, IsAnswered, IsOffered, MayBeOffered, OfferedLine, RepresentsState, RepresentsSender}
 use Rattle.world.specs.Slots.{ArePublisherSlots, SlotHolds, claim_in, pass_of}
 use Rattle.world.specs.SlotSteps as writing
-use Rattle.world.specs.SlotSteps.{Claimed_by, Rewrites}
+use Rattle.world.specs.SlotSteps.{SlotClaimed, Rewrites}
 use Rattle.world.specs.declared.publisher_slot.PublisherSlot.{PublisherSlot}
 use Rattle.world.specs.declared.publisher_slot.PublisherSlot.TheVariants as slot
 use Rattle.world.proofs.Standing.{claim_at_place, found}
@@ -41,7 +41,7 @@ use Rattle.log_buffer.specs.Passes.{Pass}
 use Rattle.publication.specs.Claims.{Filling, claim_at}
 use Rattle.theory.specs.Position.{max_message, max_payload}
 use Rattle.term_buffer.specs.declared.claimed.Claimed.{Claimed}
-use Rattle.receiver.specs.Subscribing.{Becomes, RepresentsSubscriber, Subscribing}
+use Rattle.receiver.specs.Subscribing.{SubscriberBecomes, RepresentsSubscriber, Subscribing}
 use Rattle.world.proofs.PacketNumbers.{none_past}
 use Rattle.script_run.proofs.OfferRuns.{turned_same}
 use Rattle.theory.proofs.Tables.{map_get}
@@ -157,7 +157,7 @@ subscriber_shown old new s k v r h o shown = record {
   packets = h.packets ∙ sym o.packets;
 }
 
-pub poll_answered : (old new : Simulation) (k : ℕ) (v w : Subscribing) (answer : Answer) (line : Line) (before after : List Line) → slice_get old.subscribers.items k ≡ Some v → Becomes v w (λ r s. Polls r answer s) → line_content line ≡ poll_line answer → OnlySubscriber old new k w → after ≡ before ++ line ∷ [] → IsAnswered old (commands.Poll k) before after new
+pub poll_answered : (old new : Simulation) (k : ℕ) (v w : Subscribing) (answer : Answer) (line : Line) (before after : List Line) → slice_get old.subscribers.items k ≡ Some v → SubscriberBecomes v w (λ r s. Polls r answer s) → line_content line ≡ poll_line answer → OnlySubscriber old new k w → after ≡ before ++ line ∷ [] → IsAnswered old (commands.Poll k) before after new
 poll_answered old new k v w answer line before after there polls said o told = λ s h.
     let found = shows_at old.subscribers.items s.receivers k v h.receivers there in
     let next = polls found.0 found.2 in
@@ -206,7 +206,7 @@ missing_reply old new k now line before after none bad o told = λ s h. record {
   shows = same_shown old new s h o;
 }
 
-pub deliver_answered : (old new : Simulation) (k n now : ℕ) (bytes : List ℕ) (v w : Subscribing) (outs : List Outcome) (before after : List Line) → slice_get old.packets k ≡ Some bytes → slice_get old.subscribers.items n ≡ Some v → Becomes v w (λ r s. Hears r now bytes outs s) → OnlySubscriber old new n w → line_contents after ≡ line_contents before ++ map OfReceiver outs → IsAnswered old (commands.Deliver k n now) before after new
+pub deliver_answered : (old new : Simulation) (k n now : ℕ) (bytes : List ℕ) (v w : Subscribing) (outs : List Outcome) (before after : List Line) → slice_get old.packets k ≡ Some bytes → slice_get old.subscribers.items n ≡ Some v → SubscriberBecomes v w (λ r s. TakesDatagram r now bytes outs s) → OnlySubscriber old new n w → line_contents after ≡ line_contents before ++ map OfReceiver outs → IsAnswered old (commands.Deliver k n now) before after new
 deliver_answered old new k n now bytes v w outs before after packet there hears o told = λ s h.
     let found = shows_at old.subscribers.items s.receivers n v h.receivers there in
     let next = hears found.0 found.2 in
@@ -289,7 +289,7 @@ bad_shown old new s by w v h o is same at =
 none_before : (s : ScriptState) (by : ℕ) (p : Pass) → claim_by s by ≡ claim_in (slot.Free p) → claim_by s by ≡ None
 none_before s by p e = e
 
-claimed_free : (old new : Simulation) (s : ScriptState) (by size : ℕ) (p : Pass) (v : PublisherSlot) (line : LineContent) (before after : List LineContent) (answer : Result ℕ Refusal) → RepresentsState old s → OnlyClaims old new → MayClaim s.log by size → At old new s by (slot.Free p) v → answer_of s.log size ≡ answer → Claimed_by s.log by size answer new.log v line → after ≡ before ++ line ∷ [] → Answered s (commands.Claim by size) before after new
+claimed_free : (old new : Simulation) (s : ScriptState) (by size : ℕ) (p : Pass) (v : PublisherSlot) (line : LineContent) (before after : List LineContent) (answer : Result ℕ Refusal) → RepresentsState old s → OnlyClaims old new → MayClaimRange s.log by size → At old new s by (slot.Free p) v → answer_of s.log size ≡ answer → SlotClaimed s.log by size answer new.log v line → after ≡ before ++ line ∷ [] → Answered s (commands.Claim by size) before after new
 claimed_free old new s by size p v line before after (Ok end) h o may at e step told =
     let held : Option Claimed = Some (claim_at s.log by size) in
     let t = with_claim (with_log s (after_claim s.log by size)) by held in
@@ -310,7 +310,7 @@ claimed_free old new s by size p v line before after (Err refusal) h o may at e 
       shows = claim_shown old new s (after_claim s.log by size) s.claims h o step.0 (at.after ∙ ap (slice_set s.claims by) step.1 ∙ same_claim s.claims by None at.before) (ap (λ x. x.0) (claim_keeps s.log by size)) (ap (λ x. x.1) (claim_keeps s.log by size));
     }
 
-claimed : (old new : Simulation) (s : ScriptState) (by size : ℕ) (w v : PublisherSlot) (line : LineContent) (before after : List LineContent) → by < 8 → size ≤ max_payload s.log.identity.geometry → (pass_of w).number ≡ by → RepresentsState old s → OnlyClaims old new → At old new s by w v → writing.Claims s.log w size new.log v line → after ≡ before ++ line ∷ [] → Answered s (commands.Claim by size) before after new
+claimed : (old new : Simulation) (s : ScriptState) (by size : ℕ) (w v : PublisherSlot) (line : LineContent) (before after : List LineContent) → by < 8 → size ≤ max_payload s.log.identity.geometry → (pass_of w).number ≡ by → RepresentsState old s → OnlyClaims old new → At old new s by w v → writing.SlotClaims s.log w size new.log v line → after ≡ before ++ line ∷ [] → Answered s (commands.Claim by size) before after new
 claimed old new s by size (slot.Holding claim) v line before after low short number h o at step told = record {
   lines = line ∷ [];
   state = s;
@@ -319,14 +319,14 @@ claimed old new s by size (slot.Holding claim) v line before after low short num
   shows = bad_shown old new s by (slot.Holding claim) v h o step.0 step.1 at;
 }
 claimed old new s by size (slot.Free p) v line before after low short number h o at step told =
-    claimed_free old new s by size p v line before after (answer_of s.log size) h o (record { legal = step.0; publisher = low; short = short }) at refl (subst (λ n. Claimed_by s.log n size (answer_of s.log size) new.log v line) number step.1) told
+    claimed_free old new s by size p v line before after (answer_of s.log size) h o (record { legal = step.0; publisher = low; short = short }) at refl (subst (λ n. SlotClaimed s.log n size (answer_of s.log size) new.log v line) number step.1) told
 
-pub claim_answered : (old new : Simulation) (by size : ℕ) (line : Line) (before after : List Line) → by < 8 → size ≤ max_payload old.log.identity.geometry → ArePublisherSlots old.log 0 old.slots.items → Rewrites old.slots.items new.slots.items by (λ w v. writing.Claims old.log w size new.log v (line_content line)) → OnlyClaims old new → after ≡ before ++ line ∷ [] → IsAnswered old (commands.Claim by size) before after new
+pub claim_answered : (old new : Simulation) (by size : ℕ) (line : Line) (before after : List Line) → by < 8 → size ≤ max_payload old.log.identity.geometry → ArePublisherSlots old.log 0 old.slots.items → Rewrites old.slots.items new.slots.items by (λ w v. writing.SlotClaims old.log w size new.log v (line_content line)) → OnlyClaims old new → after ≡ before ++ line ∷ [] → IsAnswered old (commands.Claim by size) before after new
 claim_answered old new by size line before after low short each r o told = λ s h.
-    claimed old new s by size r.before r.after (line_content line) (line_contents before) (line_contents after) low (subst (λ l. size ≤ max_payload l.identity.geometry) (sym h.log) short) (omega (arith, (found old.log 0 by old.slots.items r.before each r.here).0)) h o (at_slot old new s by r.before r.after h r.here r.there) (subst (λ l. writing.Claims l r.before size new.log r.after (line_content line)) (sym h.log) r.step) (one_line before after line told)
+    claimed old new s by size r.before r.after (line_content line) (line_contents before) (line_contents after) low (subst (λ l. size ≤ max_payload l.identity.geometry) (sym h.log) short) (omega (arith, (found old.log 0 by old.slots.items r.before each r.here).0)) h o (at_slot old new s by r.before r.after h r.here r.there) (subst (λ l. writing.SlotClaims l r.before size new.log r.after (line_content line)) (sym h.log) r.step) (one_line before after line told)
 
 -- an offer of a publisher, unless it has a claim open
-offered_line : (old new : Simulation) (s : ScriptState) (by : ℕ) (message : List ℕ) (w v : PublisherSlot) (line : LineContent) (before after : List LineContent) (command : CommandContent) → ((s t : ScriptState) (lines : List LineContent) → MayBeOffered s by message lines t → Answers s command lines t) → (pass_of w).number ≡ by → RepresentsState old s → OnlyClaims old new → At old new s by w v → writing.Offers s.log w message new.log v line → after ≡ before ++ line ∷ [] → Answered s command before after new
+offered_line : (old new : Simulation) (s : ScriptState) (by : ℕ) (message : List ℕ) (w v : PublisherSlot) (line : LineContent) (before after : List LineContent) (command : CommandContent) → ((s t : ScriptState) (lines : List LineContent) → MayBeOffered s by message lines t → Answers s command lines t) → (pass_of w).number ≡ by → RepresentsState old s → OnlyClaims old new → At old new s by w v → writing.SlotOffers s.log w message new.log v line → after ≡ before ++ line ∷ [] → Answered s command before after new
 offered_line old new s by message (slot.Holding claim) v line before after command means number h o at step told = record {
   lines = line ∷ [];
   state = s;
@@ -346,9 +346,9 @@ offered_line old new s by message (slot.Free p) v line before after command mean
       shows = claim_shown old new s next s.claims h o (offered_log s.log new.log by message (answer_of s.log (length message)) line said) (at.after ∙ ap (slice_set s.claims by) step.2 ∙ same_claim s.claims by None at.before) (ap (λ x. x.0) (offer_keeps s.log by message)) (ap (λ x. x.1) (offer_keeps s.log by message));
     }
 
-pub offer_answered : (old new : Simulation) (by : ℕ) (message : List ℕ) (line : Line) (before after : List Line) → ArePublisherSlots old.log 0 old.slots.items → Rewrites old.slots.items new.slots.items by (λ w v. writing.Offers old.log w message new.log v (line_content line)) → OnlyClaims old new → after ≡ before ++ line ∷ [] → IsOffered old by message before after new
+pub offer_answered : (old new : Simulation) (by : ℕ) (message : List ℕ) (line : Line) (before after : List Line) → ArePublisherSlots old.log 0 old.slots.items → Rewrites old.slots.items new.slots.items by (λ w v. writing.SlotOffers old.log w message new.log v (line_content line)) → OnlyClaims old new → after ≡ before ++ line ∷ [] → IsOffered old by message before after new
 offer_answered old new by message line before after each r o told = λ command means s h.
-    offered_line old new s by message r.before r.after (line_content line) (line_contents before) (line_contents after) command means (omega (arith, (found old.log 0 by old.slots.items r.before each r.here).0)) h o (at_slot old new s by r.before r.after h r.here r.there) (subst (λ l. writing.Offers l r.before message new.log r.after (line_content line)) (sym h.log) r.step) (one_line before after line told)
+    offered_line old new s by message r.before r.after (line_content line) (line_contents before) (line_contents after) command means (omega (arith, (found old.log 0 by old.slots.items r.before each r.here).0)) h o (at_slot old new s by r.before r.after h r.here r.there) (subst (λ l. writing.SlotOffers l r.before message new.log r.after (line_content line)) (sym h.log) r.step) (one_line before after line told)
 
 -- ---- a claim's end
 
@@ -363,7 +363,7 @@ has_claim old s by claim v new low legal h number holds at = record {
   short = holds.1.short;
 }
 
-committed_line : (old new : Simulation) (s : ScriptState) (by : ℕ) (w v : PublisherSlot) (line : LineContent) (before after : List LineContent) → by < 8 → (pass_of w).number ≡ by → SlotHolds s.log w → RepresentsState old s → OnlyClaims old new → At old new s by w v → writing.Commits s.log w new.log v line → after ≡ before ++ line ∷ [] → Answered s (commands.Commit by) before after new
+committed_line : (old new : Simulation) (s : ScriptState) (by : ℕ) (w v : PublisherSlot) (line : LineContent) (before after : List LineContent) → by < 8 → (pass_of w).number ≡ by → SlotHolds s.log w → RepresentsState old s → OnlyClaims old new → At old new s by w v → writing.SlotCommits s.log w new.log v line → after ≡ before ++ line ∷ [] → Answered s (commands.Commit by) before after new
 committed_line old new s by (slot.Free p) v line before after low number holds h o at step told = record {
   lines = line ∷ [];
   state = s;
@@ -381,12 +381,12 @@ committed_line old new s by (slot.Holding claim) v line before after low number 
       shows = claim_shown old new s log (slice_set s.claims by None) h o step.1 (at.after ∙ ap (slice_set s.claims by) step.2) refl refl;
     }
 
-pub commit_answered : (old new : Simulation) (by : ℕ) (line : Line) (before after : List Line) → by < 8 → ArePublisherSlots old.log 0 old.slots.items → Rewrites old.slots.items new.slots.items by (λ w v. writing.Commits old.log w new.log v (line_content line)) → OnlyClaims old new → after ≡ before ++ line ∷ [] → IsAnswered old (commands.Commit by) before after new
+pub commit_answered : (old new : Simulation) (by : ℕ) (line : Line) (before after : List Line) → by < 8 → ArePublisherSlots old.log 0 old.slots.items → Rewrites old.slots.items new.slots.items by (λ w v. writing.SlotCommits old.log w new.log v (line_content line)) → OnlyClaims old new → after ≡ before ++ line ∷ [] → IsAnswered old (commands.Commit by) before after new
 commit_answered old new by line before after low each r o told = λ s h.
     let there = found old.log 0 by old.slots.items r.before each r.here in
-    committed_line old new s by r.before r.after (line_content line) (line_contents before) (line_contents after) low (omega (arith, there.0)) (subst (λ l. SlotHolds l r.before) (sym h.log) there.1) h o (at_slot old new s by r.before r.after h r.here r.there) (subst (λ l. writing.Commits l r.before new.log r.after (line_content line)) (sym h.log) r.step) (one_line before after line told)
+    committed_line old new s by r.before r.after (line_content line) (line_contents before) (line_contents after) low (omega (arith, there.0)) (subst (λ l. SlotHolds l r.before) (sym h.log) there.1) h o (at_slot old new s by r.before r.after h r.here r.there) (subst (λ l. writing.SlotCommits l r.before new.log r.after (line_content line)) (sym h.log) r.step) (one_line before after line told)
 
-aborted_line : (old new : Simulation) (s : ScriptState) (by : ℕ) (w v : PublisherSlot) (line : LineContent) (before after : List LineContent) → by < 8 → (pass_of w).number ≡ by → SlotHolds s.log w → RepresentsState old s → OnlyClaims old new → At old new s by w v → writing.Aborts s.log w new.log v line → after ≡ before ++ line ∷ [] → Answered s (commands.Abort by) before after new
+aborted_line : (old new : Simulation) (s : ScriptState) (by : ℕ) (w v : PublisherSlot) (line : LineContent) (before after : List LineContent) → by < 8 → (pass_of w).number ≡ by → SlotHolds s.log w → RepresentsState old s → OnlyClaims old new → At old new s by w v → writing.SlotAborts s.log w new.log v line → after ≡ before ++ line ∷ [] → Answered s (commands.Abort by) before after new
 aborted_line old new s by (slot.Free p) v line before after low number holds h o at step told = record {
   lines = line ∷ [];
   state = s;
@@ -404,10 +404,10 @@ aborted_line old new s by (slot.Holding claim) v line before after low number ho
       shows = claim_shown old new s log (slice_set s.claims by None) h o step.1 (at.after ∙ ap (slice_set s.claims by) step.2) refl refl;
     }
 
-pub abort_answered : (old new : Simulation) (by : ℕ) (line : Line) (before after : List Line) → by < 8 → ArePublisherSlots old.log 0 old.slots.items → Rewrites old.slots.items new.slots.items by (λ w v. writing.Aborts old.log w new.log v (line_content line)) → OnlyClaims old new → after ≡ before ++ line ∷ [] → IsAnswered old (commands.Abort by) before after new
+pub abort_answered : (old new : Simulation) (by : ℕ) (line : Line) (before after : List Line) → by < 8 → ArePublisherSlots old.log 0 old.slots.items → Rewrites old.slots.items new.slots.items by (λ w v. writing.SlotAborts old.log w new.log v (line_content line)) → OnlyClaims old new → after ≡ before ++ line ∷ [] → IsAnswered old (commands.Abort by) before after new
 abort_answered old new by line before after low each r o told = λ s h.
     let there = found old.log 0 by old.slots.items r.before each r.here in
-    aborted_line old new s by r.before r.after (line_content line) (line_contents before) (line_contents after) low (omega (arith, there.0)) (subst (λ l. SlotHolds l r.before) (sym h.log) there.1) h o (at_slot old new s by r.before r.after h r.here r.there) (subst (λ l. writing.Aborts l r.before new.log r.after (line_content line)) (sym h.log) r.step) (one_line before after line told)
+    aborted_line old new s by r.before r.after (line_content line) (line_contents before) (line_contents after) low (omega (arith, there.0)) (subst (λ l. SlotHolds l r.before) (sym h.log) there.1) h o (at_slot old new s by r.before r.after h r.here r.there) (subst (λ l. writing.SlotAborts l r.before new.log r.after (line_content line)) (sym h.log) r.step) (one_line before after line told)
 
 -- ---- a reader
 

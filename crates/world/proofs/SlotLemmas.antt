@@ -15,20 +15,20 @@ use Rattle.publication.specs.declared.refusal.Refusal.{Refusal}
 use Rattle.world.specs.declared.publisher_slot.PublisherSlot.{PublisherSlot}
 use Rattle.world.specs.declared.publisher_slot.PublisherSlot.TheVariants as slot
 use Rattle.script_run.specs.LineContents.{Claimed, Refused}
-use Rattle.world.specs.SlotSteps.{Claimed_by, Claims, Ends, Rewrites}
+use Rattle.world.specs.SlotSteps.{SlotClaimed, SlotClaims, KeepsStream, Rewrites}
 
-pub claimed_line : (l m : Log) (w : PublisherSlot) (p : Pass) (size : ℕ) (claim : Filling) (start end : ℕ) → w ≡ slot.Free p → IsLog l → answer_of l size ≡ Ok (end_of claim) → claim.claimed ≡ claim_at l p.number size → m ≡ after_claim l p.number size → start ≡ claim.claimed.start → end ≡ end_of claim → Claims l w size m (slot.Holding claim) (Claimed start end)
+pub claimed_line : (l m : Log) (w : PublisherSlot) (p : Pass) (size : ℕ) (claim : Filling) (start end : ℕ) → w ≡ slot.Free p → IsLog l → answer_of l size ≡ Ok (end_of claim) → claim.claimed ≡ claim_at l p.number size → m ≡ after_claim l p.number size → start ≡ claim.claimed.start → end ≡ end_of claim → SlotClaims l w size m (slot.Holding claim) (Claimed start end)
 claimed_line l m w p size claim start end is legal answer at after from to =
-    let whole : Claimed_by l p.number size (answer_of l size) m (slot.Holding claim) (Claimed start end) =
-    subst (λ a. Claimed_by l p.number size a m (slot.Holding claim) (Claimed start end)) (sym answer)
+    let whole : SlotClaimed l p.number size (answer_of l size) m (slot.Holding claim) (Claimed start end) =
+    subst (λ a. SlotClaimed l p.number size a m (slot.Holding claim) (Claimed start end)) (sym answer)
     (after, ap Some at, ap (λ x. Claimed x end) (from ∙ ap (λ c. c.start) at) ∙ ap (Claimed l.tail) to) in
-    subst (λ x. Claims l x size m (slot.Holding claim) (Claimed start end)) (sym is) (legal, whole)
+    subst (λ x. SlotClaims l x size m (slot.Holding claim) (Claimed start end)) (sym is) (legal, whole)
 
-pub denied_line : (l m : Log) (w : PublisherSlot) (p q : Pass) (size : ℕ) (refusal : Refusal) → w ≡ slot.Free p → IsLog l → answer_of l size ≡ Err refusal → m ≡ after_claim l p.number size → Claims l w size m (slot.Free q) (Refused refusal)
+pub denied_line : (l m : Log) (w : PublisherSlot) (p q : Pass) (size : ℕ) (refusal : Refusal) → w ≡ slot.Free p → IsLog l → answer_of l size ≡ Err refusal → m ≡ after_claim l p.number size → SlotClaims l w size m (slot.Free q) (Refused refusal)
 denied_line l m w p q size refusal is legal answer after =
-    let whole : Claimed_by l p.number size (answer_of l size) m (slot.Free q) (Refused refusal) =
-    subst (λ a. Claimed_by l p.number size a m (slot.Free q) (Refused refusal)) (sym answer) (after, refl, refl) in
-    subst (λ x. Claims l x size m (slot.Free q) (Refused refusal)) (sym is) (legal, whole)
+    let whole : SlotClaimed l p.number size (answer_of l size) m (slot.Free q) (Refused refusal) =
+    subst (λ a. SlotClaimed l p.number size a m (slot.Free q) (Refused refusal)) (sym answer) (after, refl, refl) in
+    subst (λ x. SlotClaims l x size m (slot.Free q) (Refused refusal)) (sym is) (legal, whole)
 
 -- taken out, and another put in its place
 put_again : (ws : List PublisherSlot) (k : ℕ) (v : PublisherSlot) → k < length ws → insert (remove ws k) k v ≡ slice_set ws k v
@@ -76,5 +76,5 @@ numbers_more ps after p e number h k low =
     ap (λ xs. slice_index (map (λ q. q.number) xs) k) e
     ∙ ⊎_elim (λ (less : k < length ps). numbers_at ps p k less ∙ h k less) (λ (no : length ps ≤ k). let last : k ≡ length ps = omega (arith, no, low) in number_last ps p k last ∙ number ∙ sym last) (cases_lt k (length ps))
 
-pub ends_on : (l m n : Log) → Ends l m → Ends m n → Ends l n
+pub ends_on : (l m n : Log) → KeepsStream l m → KeepsStream m n → KeepsStream l n
 ends_on l m n h k = record { start = k.start ∙ h.start; tail = k.tail ∙ h.tail; shares = k.shares ∙ h.shares }

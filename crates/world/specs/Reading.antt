@@ -12,14 +12,14 @@ abbrev pub shown_frame : ℕ → Frame → LineContent
 shown_frame at frame = frame_line at frame
 
 -- no frame is committed where it stands
-abbrev pub FindsNone : Log → Reader → LineContent → Log → Reader → Type 0
-FindsNone l r line m q = ReadsNone l r.position × (line ≡ NoMessage) × (m ≡ l) × (q.position ≡ r.position)
+abbrev pub LineFindsNone : Log → Reader → LineContent → Log → Reader → Type 0
+LineFindsNone l r line m q = ReadsNone l r.position × (line ≡ NoMessage) × (m ≡ l) × (q.position ≡ r.position)
 
 -- it passes the committed frame where it stands
-abbrev pub PassesFrame : Log → Reader → LineContent → Log → Reader → Type 0
-PassesFrame l r line m q =
+abbrev pub LinePassesFrame : Log → Reader → LineContent → Log → Reader → Type 0
+LinePassesFrame l r line m q =
     (s : Placed) × Among s (committed l.entries) × (s.at ≡ r.position) × (line ≡ frame_line s.at s.frame)
     × (m ≡ record l { consumers = slice_set l.consumers r.number (end_of s) }) × (q.position ≡ end_of s)
 
 abbrev pub ReadsLine : Log → Reader → LineContent → Log → Reader → Type 0
-ReadsLine l r line m q = FindsNone l r line m q ⊎ PassesFrame l r line m q
+ReadsLine l r line m q = LineFindsNone l r line m q ⊎ LinePassesFrame l r line m q

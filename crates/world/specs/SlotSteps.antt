@@ -12,37 +12,37 @@ use Rattle.world.specs.Simulated.{OfferedLine}
 use Rattle.script_run.specs.LineContents.{Bad, Claimed, Position, LineContent, Refused}
 use Rattle.world.specs.Slots.{claim_in}
 
-abbrev pub Claimed_by : Log → ℕ → ℕ → Result ℕ Refusal → Log → PublisherSlot → LineContent → Type 0
-Claimed_by old by size (Ok end) new after line = (new ≡ after_claim old by size) × (claim_in after ≡ Some (claim_at old by size)) × (line ≡ Claimed old.tail end)
-Claimed_by old by size (Err refusal) new after line = (new ≡ after_claim old by size) × (claim_in after ≡ None) × (line ≡ Refused refusal)
+abbrev pub SlotClaimed : Log → ℕ → ℕ → Result ℕ Refusal → Log → PublisherSlot → LineContent → Type 0
+SlotClaimed old by size (Ok end) new after line = (new ≡ after_claim old by size) × (claim_in after ≡ Some (claim_at old by size)) × (line ≡ Claimed old.tail end)
+SlotClaimed old by size (Err refusal) new after line = (new ≡ after_claim old by size) × (claim_in after ≡ None) × (line ≡ Refused refusal)
 
 -- a free publisher claims; one that has a claim open doesn't
-abbrev pub Claims : Log → PublisherSlot → ℕ → Log → PublisherSlot → LineContent → Type 0
-Claims old (slot.Holding claim) size new after line = (new ≡ old) × (after ≡ slot.Holding claim) × (line ≡ Bad)
-Claims old (slot.Free publisher) size new after line = IsLog old × Claimed_by old publisher.number size (answer_of old size) new after line
+abbrev pub SlotClaims : Log → PublisherSlot → ℕ → Log → PublisherSlot → LineContent → Type 0
+SlotClaims old (slot.Holding claim) size new after line = (new ≡ old) × (after ≡ slot.Holding claim) × (line ≡ Bad)
+SlotClaims old (slot.Free publisher) size new after line = IsLog old × SlotClaimed old publisher.number size (answer_of old size) new after line
 
 -- a free publisher offers; one that has a claim open doesn't
-abbrev pub Offers : Log → PublisherSlot → List ℕ → Log → PublisherSlot → LineContent → Type 0
-Offers old (slot.Holding claim) message new after line = (new ≡ old) × (after ≡ slot.Holding claim) × (line ≡ Bad)
-Offers old (slot.Free publisher) message new after line =
+abbrev pub SlotOffers : Log → PublisherSlot → List ℕ → Log → PublisherSlot → LineContent → Type 0
+SlotOffers old (slot.Holding claim) message new after line = (new ≡ old) × (after ≡ slot.Holding claim) × (line ≡ Bad)
+SlotOffers old (slot.Free publisher) message new after line =
     MayOffer old publisher.number message × OfferedLine old publisher.number message (answer_of old (length message)) line new × (claim_in after ≡ None)
 
-abbrev pub Commits : Log → PublisherSlot → Log → PublisherSlot → LineContent → Type 0
-Commits old (slot.Free publisher) new after line = (new ≡ old) × (after ≡ slot.Free publisher) × (line ≡ Bad)
-Commits old (slot.Holding claim) new after line =
+abbrev pub SlotCommits : Log → PublisherSlot → Log → PublisherSlot → LineContent → Type 0
+SlotCommits old (slot.Free publisher) new after line = (new ≡ old) × (after ≡ slot.Free publisher) × (line ≡ Bad)
+SlotCommits old (slot.Holding claim) new after line =
     IsLog old × (new ≡ with_commit old claim.claimed (Data 192 (replicate claim.claimed.size 97))) × (claim_in after ≡ None) × (line ≡ Position (claim_end claim.claimed))
 
-abbrev pub Aborts : Log → PublisherSlot → Log → PublisherSlot → LineContent → Type 0
-Aborts old (slot.Free publisher) new after line = (new ≡ old) × (after ≡ slot.Free publisher) × (line ≡ Bad)
-Aborts old (slot.Holding claim) new after line = IsLog old × (new ≡ with_abort old claim.claimed) × (claim_in after ≡ None) × (line ≡ Position (claim_end claim.claimed))
+abbrev pub SlotAborts : Log → PublisherSlot → Log → PublisherSlot → LineContent → Type 0
+SlotAborts old (slot.Free publisher) new after line = (new ≡ old) × (after ≡ slot.Free publisher) × (line ≡ Bad)
+SlotAborts old (slot.Holding claim) new after line = IsLog old × (new ≡ with_abort old claim.claimed) × (claim_in after ≡ None) × (line ≡ Position (claim_end claim.claimed))
 
 -- an open claim becomes a padding
-abbrev pub Clears : Log → PublisherSlot → Log → Type 0
-Clears old (slot.Free publisher) new = new ≡ old
-Clears old (slot.Holding claim) new = new ≡ with_abort old claim.claimed
+abbrev pub SlotClears : Log → PublisherSlot → Log → Type 0
+SlotClears old (slot.Free publisher) new = new ≡ old
+SlotClears old (slot.Holding claim) new = new ≡ with_abort old claim.claimed
 
 -- the stream, and what each publisher claimed of it, stay
-pub record Ends (old new : Log) : Type 0 where
+pub record KeepsStream (old new : Log) : Type 0 where
   pub start : new.start ≡ old.start
   pub tail : new.tail ≡ old.tail
   pub shares : new.shares ≡ old.shares

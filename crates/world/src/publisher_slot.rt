@@ -10,7 +10,7 @@ ghost use Rattle.log_buffer.specs.Leaves.{Leaves, LeavesOtherClaims};
 ghost use Rattle.world.specs.Lines.{line_content};
 ghost use Rattle.log_buffer.specs.Passes.{AreAll};
 ghost use Rattle.world.specs.Slots.{ArePublisherSlots, SlotHolds, pass_of};
-ghost use Rattle.world.specs.SlotSteps.{Aborts, Claims, Clears, Commits, Ends, Offers, Rewrites};
+ghost use Rattle.world.specs.SlotSteps.{SlotAborts, SlotClaims, SlotClears, SlotCommits, KeepsStream, SlotOffers, Rewrites};
 
 use crate::line::Line;
 use log_buffer::{LogState, Publisher};
@@ -51,7 +51,7 @@ fn offer_line(log: &mut LogState, publisher: &mut Publisher, message: &[u8]) -> 
 fn offer_free(log: &mut LogState, slot: PublisherSlot, message: &[u8]) -> (PublisherSlot, Line)
     requires short { length message.now ≤ max_message log.old.identity.geometry }
     requires holds { SlotHolds log.old slot }
-    ensures offers { Offers log.old slot message.now log.new result.0 (line_content result.1) }
+    ensures offers { SlotOffers log.old slot message.now log.new result.0 (line_content result.1) }
     ensures same_pass { ((pass_of result.0).number ≡ (pass_of slot).number) × (length (pass_of result.0).bytes ≡ length (pass_of slot).bytes) }
     ensures holds { SlotHolds log.new result.0 }
     ensures leaves { Leaves log.old log.new }
@@ -70,7 +70,7 @@ fn claim_line(log: &mut LogState, slot: PublisherSlot, size: u32) -> (PublisherS
     requires short { size ≤ max_payload log.old.identity.geometry }
     requires block { length (pass_of slot).bytes ≡ log.old.identity.geometry.mtu }
     requires holds { SlotHolds log.old slot }
-    ensures claims { Claims log.old slot size log.new result.0 (line_content result.1) }
+    ensures claims { SlotClaims log.old slot size log.new result.0 (line_content result.1) }
     ensures same_pass { ((pass_of result.0).number ≡ (pass_of slot).number) × (length (pass_of result.0).bytes ≡ length (pass_of slot).bytes) }
     ensures holds { SlotHolds log.new result.0 }
     ensures leaves { Leaves log.old log.new }
@@ -94,7 +94,7 @@ fn claim_line(log: &mut LogState, slot: PublisherSlot, size: u32) -> (PublisherS
 /// Fills an open claim with bytes 61 and commits it, and says what came of it.
 fn commit_line(log: &mut LogState, slot: PublisherSlot) -> (PublisherSlot, Line)
     requires holds { SlotHolds log.old slot }
-    ensures commits { Commits log.old slot log.new result.0 (line_content result.1) }
+    ensures commits { SlotCommits log.old slot log.new result.0 (line_content result.1) }
     ensures same_pass { ((pass_of result.0).number ≡ (pass_of slot).number) × (length (pass_of result.0).bytes ≡ length (pass_of slot).bytes) }
     ensures holds { SlotHolds log.new result.0 }
     ensures leaves { LeavesOtherClaims (pass_of slot).number log.old log.new }
@@ -112,7 +112,7 @@ fn commit_line(log: &mut LogState, slot: PublisherSlot) -> (PublisherSlot, Line)
 /// Makes an open claim a padding, and says what came of it.
 fn abort_line(log: &mut LogState, slot: PublisherSlot) -> (PublisherSlot, Line)
     requires holds { SlotHolds log.old slot }
-    ensures aborts { Aborts log.old slot log.new result.0 (line_content result.1) }
+    ensures aborts { SlotAborts log.old slot log.new result.0 (line_content result.1) }
     ensures same_pass { ((pass_of result.0).number ≡ (pass_of slot).number) × (length (pass_of result.0).bytes ≡ length (pass_of slot).bytes) }
     ensures holds { SlotHolds log.new result.0 }
     ensures leaves { LeavesOtherClaims (pass_of slot).number log.old log.new }
@@ -129,8 +129,8 @@ fn abort_line(log: &mut LogState, slot: PublisherSlot) -> (PublisherSlot, Line)
 /// The publisher; an open claim of it becomes a padding.
 fn ended(log: &mut LogState, slot: PublisherSlot) -> Publisher
     requires holds { SlotHolds log.old slot }
-    ensures clears { Clears log.old slot log.new }
-    ensures ends { Ends log.old log.new }
+    ensures clears { SlotClears log.old slot log.new }
+    ensures ends { KeepsStream log.old log.new }
     ensures number { result.number ≡ (pass_of slot).number }
     ensures leaves { LeavesOtherClaims (pass_of slot).number log.old log.new }
 {
@@ -167,7 +167,7 @@ pub fn offer_by(
     requires number { number < 8 }
     requires each { ArePublisherSlots log.old 0 slots.old.items }
     requires short { length message.now ≤ max_message log.old.identity.geometry }
-    ensures line { Rewrites slots.old.items slots.new.items number (λ w v. Offers log.old w message.now log.new v (line_content result)) }
+    ensures line { Rewrites slots.old.items slots.new.items number (λ w v. SlotOffers log.old w message.now log.new v (line_content result)) }
     ensures eight { vec_len slots.new ≡ 8 }
     ensures each { ArePublisherSlots log.new 0 slots.new.items }
     ensures leaves { Leaves log.old log.new }
@@ -189,7 +189,7 @@ pub fn claim_by(
     requires number { number < 8 }
     requires each { ArePublisherSlots log.old 0 slots.old.items }
     requires short { size ≤ max_payload log.old.identity.geometry }
-    ensures line { Rewrites slots.old.items slots.new.items number (λ w v. Claims log.old w size log.new v (line_content result)) }
+    ensures line { Rewrites slots.old.items slots.new.items number (λ w v. SlotClaims log.old w size log.new v (line_content result)) }
     ensures eight { vec_len slots.new ≡ 8 }
     ensures each { ArePublisherSlots log.new 0 slots.new.items }
     ensures leaves { Leaves log.old log.new }
@@ -205,7 +205,7 @@ pub fn commit_by(log: &mut LogState, slots: &mut Vec<PublisherSlot>, number: usi
     requires eight { vec_len slots.old ≡ 8 }
     requires number { number < 8 }
     requires each { ArePublisherSlots log.old 0 slots.old.items }
-    ensures line { Rewrites slots.old.items slots.new.items number (λ w v. Commits log.old w log.new v (line_content result)) }
+    ensures line { Rewrites slots.old.items slots.new.items number (λ w v. SlotCommits log.old w log.new v (line_content result)) }
     ensures eight { vec_len slots.new ≡ 8 }
     ensures each { ArePublisherSlots log.new 0 slots.new.items }
     ensures leaves { LeavesOtherClaims number log.old log.new }
@@ -221,7 +221,7 @@ pub fn abort_by(log: &mut LogState, slots: &mut Vec<PublisherSlot>, number: usiz
     requires eight { vec_len slots.old ≡ 8 }
     requires number { number < 8 }
     requires each { ArePublisherSlots log.old 0 slots.old.items }
-    ensures line { Rewrites slots.old.items slots.new.items number (λ w v. Aborts log.old w log.new v (line_content result)) }
+    ensures line { Rewrites slots.old.items slots.new.items number (λ w v. SlotAborts log.old w log.new v (line_content result)) }
     ensures eight { vec_len slots.new ≡ 8 }
     ensures each { ArePublisherSlots log.new 0 slots.new.items }
     ensures leaves { LeavesOtherClaims number log.old log.new }
@@ -249,7 +249,7 @@ pub fn end_claims(log: &mut LogState, slots: Vec<PublisherSlot>, publishers: &mu
     requires empty { publishers.old.items ≡ [] }
     requires room { 8 ≤ vec_capacity publishers.old }
     ensures all { AreAll publishers.new.items }
-    ensures ends { Ends log.old log.new }
+    ensures ends { KeepsStream log.old log.new }
 {
     let mut slots = slots;
     while !slots.is_empty() {

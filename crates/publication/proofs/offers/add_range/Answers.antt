@@ -7,7 +7,7 @@ use Rattle.theory.specs.Placed.{Pad}
 use Rattle.theory.proofs.Claims.{covers_framed}
 use Rattle.term_buffer.specs.declared.claimed.Claimed.{Claimed}
 use Rattle.log_buffer.specs.Log.{Log, added, after_add, claimed_of, offset_of, raw_tail, room_in, taken_of, term_of, with_claim, with_padding}
-use Rattle.log_buffer.specs.declared.step.Step.TheVariants as steps
+use Rattle.log_buffer.specs.declared.step.WordStep.TheVariants as steps
 use Rattle.publication.specs.Offers as offers
 use Rattle.publication.specs.Offers.{added_case, after_case, answer_at, covered, turned_from}
 use Rattle.publication.specs.declared.refusal.Refusal.{Refusal}

@@ -7,8 +7,8 @@ use Rattle.theory.proofs.Tables.{get_put}
 use Rattle.term_buffer.specs.declared.claimed.Claimed.{Claimed}
 use Rattle.log_buffer.specs.Log.{Log, added, raw_tail, with_claim}
 use Rattle.log_buffer.specs.Passes.{Pass, sights}
-use Rattle.log_buffer.specs.declared.step.Step.{Step}
-use Rattle.log_buffer.specs.declared.step.Step.TheVariants as steps
+use Rattle.log_buffer.specs.declared.step.WordStep.{WordStep}
+use Rattle.log_buffer.specs.declared.step.WordStep.TheVariants as steps
 use Rattle.log_buffer.proofs.Leaves.{Leaves_then}
 use Rattle.publication.specs.Claims.{claim_at}
 use Rattle.publication.specs.Grants.{IsGranted}
@@ -79,7 +79,7 @@ steps_are c =
     let word : raw_tail c.look_at.new.log (c.in-Open.count % 3) ≡ tail_word_seen c.args.log.now = ap (λ (l : Log). raw_tail l (c.in-Open.count % 3)) s.saw.5 ∙ ap (λ (n : ℕ). raw_tail c.args.log.now (n % 3)) s.saw.1 in
     let same : covered c.look_at.new.log c.args.size ≡ covered c.args.log.now c.args.size = ap (λ (l : Log). covered l c.args.size) s.saw.5 in
     c.add_range.ensures.steps.steps
-    ∙ ap (λ (xs : List Step). (xs ++ steps.Addition (c.in-Open.count % 3) (covered c.look_at.new.log c.args.size) (raw_tail c.look_at.new.log (c.in-Open.count % 3)) ∷ []) ++ c.add_range.ensures.steps.more) s.saw.4
+    ∙ ap (λ (xs : List WordStep). (xs ++ steps.Addition (c.in-Open.count % 3) (covered c.look_at.new.log c.args.size) (raw_tail c.look_at.new.log (c.in-Open.count % 3)) ∷ []) ++ c.add_range.ensures.steps.more) s.saw.4
     ∙ ap (λ (w : ℕ). (all_seen c.args.log.now ++ steps.Addition (c.in-Open.count % 3) (covered c.look_at.new.log c.args.size) w ∷ []) ++ c.add_range.ensures.steps.more) word
     ∙ ap (λ (n : ℕ). (all_seen c.args.log.now ++ steps.Addition (c.in-Open.count % 3) n (tail_word_seen c.args.log.now) ∷ []) ++ c.add_range.ensures.steps.more) same
     ∙ ap (λ (n : ℕ). (all_seen c.args.log.now ++ steps.Addition (n % 3) (covered c.args.log.now c.args.size) (tail_word_seen c.args.log.now) ∷ []) ++ c.add_range.ensures.steps.more) s.saw.1

@@ -1,7 +1,7 @@
 use Rattle.std.proofs.Common.{◌≡◌, ◌≤◌, ◌<◌, ◌+◌, ℕ, map, vec_len, vec_capacity}
 use Rattle.std.specs.Prelude.{slice_index}
 use Rattle.world.specs.Slots.{ArePublisherSlots}
-use Rattle.world.specs.SlotSteps.{Ends}
+use Rattle.world.specs.SlotSteps.{KeepsStream}
 use Rattle.world.proofs.publisher_slot.end_claims.Given as goal
 
 -- the first publishers are put there in their order, and the other slots are as they were
@@ -11,7 +11,7 @@ invariant-loop-slots l = record {
   room : 8 ≤ vec_capacity l.publishers;
   each : ArePublisherSlots l.log (vec_len l.publishers) l.slots.items;
   numbers : (k : ℕ) → k < vec_len l.publishers → slice_index (map (λ p. p.number) l.publishers.items) k ≡ k;
-  ends : Ends l.fn.log l.log;
+  ends : KeepsStream l.fn.log l.log;
 }
 
 abbrev pub decreases-loop-slots : goal.decreases-loop-slots

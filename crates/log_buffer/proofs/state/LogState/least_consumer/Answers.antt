@@ -2,7 +2,7 @@ use Rattle.std.proofs.Common.{◌≡◌, ◌<◌, ◌≤◌, length, ap, subst, 
 use Rattle.std.proofs.lemmas.List.{take_all, get_or-take}
 use Rattle.std.specs.Prelude.{slice_index}
 use Rattle.log_buffer.specs.Limits.{least}
-use Rattle.log_buffer.specs.Log.{IsLeast, clean_end}
+use Rattle.log_buffer.specs.Log.{IsLeastOf, clean_end}
 use Rattle.log_buffer.specs.contracts.state.LogState.{the_view}
 use Rattle.log_buffer.proofs.Leasts.{consumer_small, least_behind, least_lowest, least_readable, least_unit, tail_small}
 use Rattle.log_buffer.proofs.state.LogState.least_consumer.Goals as goal
@@ -17,7 +17,7 @@ loop-position-init c =
 pub returns-clause-lowest : goal.returns-clause-lowest
 returns-clause-lowest c =
     let value : c.loop-position.least ≡ least (take c.self.inside.consumer_count c.self.inside.consumers) = c.loop-position.invariant.value ∙ ap (fold min (slice_index (take c.self.inside.consumer_count c.self.inside.consumers) 0)) (take_all c.loop-position.position-index (take c.self.inside.consumer_count c.self.inside.consumers) (omega arith)) in
-    subst (λ l. IsLeast l.consumers c.loop-position.least) c.self.view_is (rw value (least_lowest (take c.self.inside.consumer_count c.self.inside.consumers)))
+    subst (λ l. IsLeastOf l.consumers c.loop-position.least) c.self.view_is (rw value (least_lowest (take c.self.inside.consumer_count c.self.inside.consumers)))
 
 pub returns-clause-unit : goal.returns-clause-unit
 returns-clause-unit c =

@@ -3,7 +3,7 @@ use Rattle.std.specs.Prelude.{slice_index, slice_set}
 use Rattle.std.proofs.lemmas.List.{get_or_read}
 use Rattle.theory.specs.Placed.{Among, Placed, end_of}
 use Rattle.theory.specs.ImageLaws.{held}
-use Rattle.rebuilder.specs.Seen.{Image, IsKept, least}
+use Rattle.rebuilder.specs.Seen.{Image, IsImage, least}
 use Rattle.theory.proofs.Lists.{all_at}
 use Rattle.rebuilder.proofs.Kept.{low_ends, moved}
 use Rattle.rebuilder.proofs.image.Image.advance.Goals as goal
@@ -23,8 +23,8 @@ invariant_of-self c =
     let here : start ≡ slice_index i.consumers.items c.args.consumer = get_or_read i.consumers.items _ _ within c.index-start.ensures 0 in
     let kept = moved _ _ c.args.consumer s c.self.invariant within c.in-Some.ensures here in
     let left = c.forget_below.ensures ∙ ap (λ m. held m i.frames) (c.least_of.ensures ∙ ap least c.deref.ensures.value) in
-    subst (λ (h : List Placed). IsKept (record { geometry = i.geometry; join = i.join; window = i.window; held = h; high = i.high_water; consumers = slice_set i.consumers.items c.args.consumer (start + c.covered.result) }) i.rebuilt) (sym left)
-    (subst (λ (n : ℕ). IsKept (record { geometry = i.geometry; join = i.join; window = i.window; held = held (least (slice_set i.consumers.items c.args.consumer (start + n))) i.frames; high = i.high_water; consumers = slice_set i.consumers.items c.args.consumer (start + n) }) i.rebuilt) (sym c.covered.ensures.value) kept)
+    subst (λ (h : List Placed). IsImage (record { geometry = i.geometry; join = i.join; window = i.window; held = h; high = i.high_water; consumers = slice_set i.consumers.items c.args.consumer (start + c.covered.result) }) i.rebuilt) (sym left)
+    (subst (λ (n : ℕ). IsImage (record { geometry = i.geometry; join = i.join; window = i.window; held = held (least (slice_set i.consumers.items c.args.consumer (start + n))) i.frames; high = i.high_water; consumers = slice_set i.consumers.items c.args.consumer (start + n) }) i.rebuilt) (sym c.covered.ensures.value) kept)
 
 pub returns-clause-past : goal.returns-clause-past
 returns-clause-past c =

@@ -4,7 +4,7 @@ use Rattle.std.proofs.lemmas.List.{get_or_read}
 use Rattle.block.specs.Bytes.{with_front}
 use Rattle.theory.specs.Placed.{Placed}
 use Rattle.theory.specs.Units.{IsContiguous}
-use Rattle.rebuilder.specs.Held.{IsStart}
+use Rattle.rebuilder.specs.Held.{StartsAt}
 use Rattle.rebuilder.specs.Kinds.{head_at}
 use Rattle.rebuilder.specs.Seen.{Image, IsShown, least}
 use Rattle.rebuilder.proofs.Kept.{stands_at_end}
@@ -26,5 +26,5 @@ returns-in-None-clause-shown c =
     let start : ℕ = c.index-start.result.now in
     let within : c.args.consumer < length i.consumers.items = subst (λ (v : Image). c.args.consumer < length v.consumers) (sym c.self.view_is) c.requires.consumer in
     let here : start ≡ slice_index i.consumers.items c.args.consumer = get_or_read i.consumers.items _ _ within c.index-start.ensures 0 in
-    let none : IsStart i.frames (slice_index i.consumers.items c.args.consumer) → ⊥ = subst (λ p. IsStart i.frames p → ⊥) here c.in-None.ensures in
+    let none : StartsAt i.frames (slice_index i.consumers.items c.args.consumer) → ⊥ = subst (λ p. StartsAt i.frames p → ⊥) here c.in-None.ensures in
     (subst (λ (v : Image). IsContiguous v.held (least v.consumers) (slice_index v.consumers c.args.consumer)) c.self.view_is (stands_at_end _ _ c.args.consumer c.self.invariant within none), refl)

@@ -1,7 +1,7 @@
 use Rattle.std.proofs.Common.{◌<◌, ◌≤◌, subst}
 use Rattle.std.specs.List.{AllByRecursion}
 use Rattle.theory.specs.Units.{IsContiguous}
-use Rattle.rebuilder.specs.Held.{IsStart}
+use Rattle.rebuilder.specs.Held.{StartsAt}
 use Rattle.rebuilder.specs.Seen.{Image, least}
 use Rattle.rebuilder.proofs.Kept.{behind, contiguous, waiting}
 use Rattle.rebuilder.proofs.image.Image.rebuilt.Goals as goal
@@ -13,4 +13,4 @@ pub returns-clause-behind : goal.returns-clause-behind
 returns-clause-behind c = subst (λ (i : Image). AllByRecursion (λ p. (i.join ≤ p) × (p ≤ c.self.inside.rebuilt)) i.consumers) c.self.view_is (behind _ _ c.self.invariant)
 
 pub returns-clause-waiting : goal.returns-clause-waiting
-returns-clause-waiting c = subst (λ (i : Image). AllByRecursion (λ p. p < c.self.inside.rebuilt → IsStart i.held p) i.consumers) c.self.view_is (waiting _ _ c.self.invariant)
+returns-clause-waiting c = subst (λ (i : Image). AllByRecursion (λ p. p < c.self.inside.rebuilt → StartsAt i.held p) i.consumers) c.self.view_is (waiting _ _ c.self.invariant)

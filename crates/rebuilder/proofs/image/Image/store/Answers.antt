@@ -2,7 +2,7 @@ use Rattle.std.proofs.Common.{ℕ, ◌+◌, ◌<◌, ◌≤◌, ◌^◌, List, m
 use Rattle.std.specs.List.{AllByRecursion}
 use Rattle.theory.specs.Placed.{Placed, covered, end_of, frame_length}
 use Rattle.rebuilder.specs.Held.{IsRunEnd, put}
-use Rattle.rebuilder.specs.Seen.{Image, IsKept, MayHold}
+use Rattle.rebuilder.specs.Seen.{Image, IsImage, MayHold}
 use Rattle.rebuilder.proofs.Order.{all_put}
 use Rattle.rebuilder.proofs.Kept.{full, low_ends, starts_anew, stored}
 use Rattle.rebuilder.proofs.image.Image.store.Goals as goal
@@ -33,5 +33,5 @@ invariant_of-self-2 c =
     let run : IsRunEnd (put s i.frames) i.rebuilt c.run_end-self-inside.result = subst (λ (v : List Placed). IsRunEnd v i.rebuilt c.run_end-self-inside.result) c.in_ok-put.ensures.stored c.run_end-self-inside.ensures in
     let kept = stored _ i.rebuilt c.run_end-self-inside.result s c.self.invariant (subst (λ (v : Image). MayHold v s) (sym c.self.view_is) c.requires) run in
     let high = c.max-self-inside.ensures ∙ ap (λ n. max i.high_water (c.args.start + n)) c.covered.ensures.value in
-    subst (λ (v : List Placed). IsKept (record { geometry = i.geometry; join = i.join; window = i.window; held = v; high = c.max-self-inside.result; consumers = i.consumers.items }) c.run_end-self-inside.result) (sym c.in_ok-put.ensures.stored)
-    (subst (λ (n : ℕ). IsKept (record { geometry = i.geometry; join = i.join; window = i.window; held = put s i.frames; high = n; consumers = i.consumers.items }) c.run_end-self-inside.result) (sym high) kept)
+    subst (λ (v : List Placed). IsImage (record { geometry = i.geometry; join = i.join; window = i.window; held = v; high = c.max-self-inside.result; consumers = i.consumers.items }) c.run_end-self-inside.result) (sym c.in_ok-put.ensures.stored)
+    (subst (λ (n : ℕ). IsImage (record { geometry = i.geometry; join = i.join; window = i.window; held = put s i.frames; high = n; consumers = i.consumers.items }) c.run_end-self-inside.result) (sym high) kept)
