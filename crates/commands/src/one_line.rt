@@ -7,10 +7,11 @@ use crate::sim_command::sim;
 use command_line::{Options, OptionsFault, options};
 use decode::decode;
 use std::alloc::Global;
+use std::fmt::Display;
 use std::io::{Read, Write};
 
-/// The program's name and version, and the kit that it is proved with.
-const VERSION: &str = "mdriver 0.1.0, proved with rattle-kit-13b logic dac8208d650f15bf";
+/// The line of `--version`: the program's name and version, and the kit that it is proved with.
+const VERSION: &str = "mdriver 0.1.0, proved with rattle-kit-13b logic dac8208d650f15bf\n";
 
 /// Carries out a command line over a reader and two writers, and gives the status: 0 where all was done, 1 at a fault,
 /// 2 for a refused command line. The first word is the program's name; `--version` alone asks for the version.
@@ -27,10 +28,7 @@ pub fn command<'a, R: Read, W: Write, E: Write>(
     ensures { result ≤ 2 }
 {
     if let [_, "--version"] = words {
-        return status(
-            writeln!(output, "{VERSION}").map_err(|_| Fault::Write),
-            errors,
-        );
+        return status(shown(output, &VERSION), errors);
     }
     match options(alloc, words) {
         Ok(Options::Sim) => status(sim(alloc, input, output), errors),
@@ -59,8 +57,8 @@ fn status<E: Write>(done: Result<(), Fault>, errors: &mut E) -> u8
     }
 }
 
-/// Prints the help that was asked for.
-fn shown<W: Write>(output: &mut W, help: &OptionsFault) -> Result<(), Fault> {
-    write!(output, "{help}").map_err(|_| Fault::Write)?;
+/// Prints the text that was asked for: help, or the version.
+fn shown<W: Write, T: Display>(output: &mut W, text: &T) -> Result<(), Fault> {
+    write!(output, "{text}").map_err(|_| Fault::Write)?;
     output.flush().map_err(|_| Fault::Write)
 }

@@ -1,9 +1,19 @@
-use super::*;
+use commands::command;
 use std::alloc::Global;
-use std::io::{Error, ErrorKind, Read, Write};
+use std::io::{self, Error, ErrorKind, Read, Write};
 use std::test::*;
 
 const SIM: &[&str] = &["mdriver", "sim"];
+
+const DECODE: &[&str] = &[
+    "mdriver",
+    "decode",
+    "0000000000c001004000000001000000e9030000070000000000000000000000",
+];
+
+const HELP: &[&str] = &["mdriver", "--help"];
+
+const VERSION: &[&str] = &["mdriver", "--version"];
 
 /// Scripts of offers and packets, and what they print.
 const PLAYED: &[(&str, &str)] = &[
@@ -235,7 +245,7 @@ const REFUSED: &[(&str, &str)] = &[
     ),
 ];
 
-/// What a command line contents_of and tells, and its status.
+/// What a command line prints and tells, and its status.
 #[derive(Drop)]
 struct Done {
     output: Vec<u8>,
@@ -514,17 +524,47 @@ impl Write for Broken {
 }
 
 #[test]
-fn broken_streams(rt: HostRuntime) {
+fn broken_input(rt: HostRuntime) {
     let mut output = Vec::new(rt.alloc());
     let mut errors = Vec::new(rt.alloc());
     let status = command(rt.alloc(), SIM, &mut Broken, &mut output, &mut errors);
     assert_eq!(rt; errors.as_slice(), b"error: read\n".as_slice());
     assert_eq!(rt; status, 1);
+}
+
+/// A writer that takes all bytes, and can't pass them on.
+#[derive(Drop)]
+struct Clogged;
+
+impl Write for Clogged {
+    fn write(&mut self, bytes: &[u8]) -> io::Result<usize> {
+        Ok(bytes.len())
+    }
+
+    fn flush(&mut self) -> io::Result<()> {
+        Err(Error::from(ErrorKind::Other))
+    }
+}
+
+/// What a command line tells where its output is this one, and its status.
+fn told_of<W: Write>(alloc: Global, words: &[&str], output: &mut W) -> (Vec<u8>, u8) {
     let mut input: &[u8] = b"log 65536 1408 7 0 1 1001 0\n";
-    let mut errors = Vec::new(rt.alloc());
-    let status = command(rt.alloc(), SIM, &mut input, &mut Broken, &mut errors);
-    assert_eq!(rt; errors.as_slice(), b"error: write\n".as_slice());
-    assert_eq!(rt; status, 1);
+    let mut errors = Vec::new(alloc);
+    let status = command(alloc, words, &mut input, output, &mut errors);
+    (errors, status)
+}
+
+/// Each command line that is carried out tells that its output can't be written, or not be flushed.
+#[test]
+fn broken_outputs(rt: HostRuntime) {
+    for words in [SIM, DECODE, HELP, VERSION] {
+        let (errors, status) = told_of(rt.alloc(), words, &mut Broken);
+        assert_eq!(rt; errors.as_slice(), b"error: write\n".as_slice());
+        assert_eq!(rt; status, 1);
+        let (errors, status) = told_of(rt.alloc(), words, &mut Clogged);
+        assert_eq!(rt; errors.as_slice(), b"error: write\n".as_slice());
+        assert_eq!(rt; status, 1);
+    }
 }
 
 /// A writer that counts what it was given, and what of it was flushed.
@@ -560,14 +600,15 @@ fn is_flushed<'a>(alloc: Global, words: &'a [&'a str]) -> bool {
 
 #[test]
 fn flushes(rt: HostRuntime) {
-    let word = "1c0000000000020001000000e9030000070000004000000040000000";
-    assert!(rt; is_flushed(rt.alloc(), SIM));
-    assert!(rt; is_flushed(rt.alloc(), &["mdriver", "decode", word]));
-    assert!(rt; is_flushed(rt.alloc(), &["mdriver", "--help"]));
+    for words in [SIM, DECODE, HELP, VERSION] {
+        assert!(rt; is_flushed(rt.alloc(), words));
+    }
 }
 
-const HELP: &str =
-    "A media driver with concurrent publications\n\nUsage: mdriver <COMMAND>\n\nCommands:\n  sim     Play the script on standard input\n  decode  LineContent the frames of a datagram\n  help    LineContent this message or the help of the given subcommand(s)\n\nOptions:\n  -h, --help  LineContent help\n";
+const HELP_TEXT: &str =
+    "A media driver with concurrent publications (--version tells which)\n\nUsage: mdriver <COMMAND>\n\nCommands:\n  sim     Play the script on standard input\n  decode  Print the frames of a datagram\n  help    Print this message or the help of the given subcommand(s)\n\nOptions:\n  -h, --help  Print help\n";
+
+const VERSION_TEXT: &str = "mdriver 0.1.0, proved with rattle-kit-13b logic dac8208d650f15bf\n";
 
 const NO_COMMAND: &str =
     "error: 'mdriver' requires a subcommand but one was not provided\n  [subcommands: sim, decode, help]\n\nUsage: mdriver <COMMAND>\n\nFor more information, try '--help'.\n";
@@ -582,9 +623,9 @@ const TWO_WORDS: &str =
     "error: unexpected argument '00' found\n\nUsage: mdriver decode <HEX>\n\nFor more information, try '--help'.\n";
 
 const HELP_OF_DECODE: &str =
-    "LineContent the frames of a datagram\n\nUsage: mdriver decode <HEX>\n\nArguments:\n  <HEX>  The datagram in hexadecimal\n\nOptions:\n  -h, --help  LineContent help\n";
+    "Print the frames of a datagram\n\nUsage: mdriver decode <HEX>\n\nArguments:\n  <HEX>  The datagram in hexadecimal\n\nOptions:\n  -h, --help  Print help\n";
 
-/// Command lines that are refused or ask for help: what is printed and told, and the status.
+/// Command lines that are refused, or ask for help or the version: what is printed and told, and the status.
 #[test]
 fn command_lines(rt: HostRuntime) {
     for (words, output, errors, status) in [
@@ -603,8 +644,9 @@ fn command_lines(rt: HostRuntime) {
             "",
             0,
         ),
-        (["mdriver", "--help"].as_slice(), HELP, "", 0),
-        (["mdriver", "help"].as_slice(), HELP, "", 0),
+        (HELP, HELP_TEXT, "", 0),
+        (["mdriver", "help"].as_slice(), HELP_TEXT, "", 0),
+        (VERSION, VERSION_TEXT, "", 0),
     ] {
         let done = run_over(rt.alloc(), words, b"");
         assert_eq!(rt; done.output.as_slice(), output.as_bytes());
