@@ -17,11 +17,6 @@ const VERSION: &[&str] = &["mdriver", "--version"];
 
 /// Scripts of offers and packets, and what they print.
 const PLAYED: &[(&str, &str)] = &[
-    // one message, from the offer to the poll
-    (
-        "log 65536 1408 7 0 1 1001 0\nconnect\nlimit\noffer 0 hex 616263\nsend 0\ndeliver 0 0 0\ntick 0 0\nreply 1 0\nsend 0\ndeliver 2 0 0\npoll 0\nimage 0\n",
-        "open\nok\nlimit 32768\nposition 64\npacket 0 28000000000005000000000001000000e90300000700000007000000000001008005000000000000\nopened 0\npacket 1 240000000000030001000000e90300000700000000000000008000000000000000000000\nstatus 32768\npacket 2 2300000000c001000000000001000000e90300000700000000000000000000006162630000000000000000000000000000000000000000000000000000000000\nI1\nmessage 616263\nimage least 64 rebuilt 64 high 64\nbook 0 64 64 0 0 0 0 0 0 0\n",
-    ),
     // empty lines, and no line feed at the end
     (
         "log 65536 1408 7 0 1 1001 0\n\nconnect\n\nlimit\n\noffer 0 hex 616263\n\nsend 0\n\ndeliver 0 0 0\n\ntick 0 0\n\nreply 1 0\n\nsend 0\n\ndeliver 2 0 0\n\npoll 0\n\nimage 0",
@@ -41,31 +36,6 @@ const PLAYED: &[(&str, &str)] = &[
     (
         "log 65536 1408 7 0 1 1001 0\nconnect\nlimit\noffer 0 hex 616263\nsend 0\ndeliver 0 0 0\ntick 0 0\nreply 1 0\nsend 0\ndeliver 2 0 0\npoll 0\nimage 0\ndeliver 2 0 0\ndeliver 0 0 0\ndeliver 1 0 0\nreply 0 0\npoll 0\ntick 0 199999999\ntick 0 200000000\n",
         "open\nok\nlimit 32768\nposition 64\npacket 0 28000000000005000000000001000000e90300000700000007000000000001008005000000000000\nopened 0\npacket 1 240000000000030001000000e90300000700000000000000008000000000000000000000\nstatus 32768\npacket 2 2300000000c001000000000001000000e90300000700000000000000000000006162630000000000000000000000000000000000000000000000000000000000\nI1\nmessage 616263\nimage least 64 rebuilt 64 high 64\nI3\nkept\nother\nother\nnone\nnothing\npacket 3 240000000000030001000000e90300000700000040000000008000000000000000000000\nbook 0 64 64 0 0 0 0 0 0 0\n",
-    ),
-    // packets lost, repeated and out of order, and the lost one at last
-    (
-        "log 65536 1408 7 0 1 1001 0\nconnect\nlimit\nsend 0\ndeliver 0 0 0\ntick 0 0\nreply 1 0\noffer 0 hex 6f6e65\noffer 1 hex 74776f\noffer 0 hex 7468726565\noffer 0 hex 666f7572\nsend 0\nsend 0\nsend 0\nsend 0\nsend 0\ndeliver 4 0 0\npoll 0\nimage 0\ndeliver 2 0 0\ndeliver 4 0 0\npoll 0\npoll 0\nimage 0\ndeliver 2 0 0\ndeliver 5 0 0\npoll 0\nimage 0\ndeliver 3 0 0\nimage 0\npoll 0\npoll 0\npoll 0\npoll 0\nimage 0\n",
-        "open\nok\nlimit 32768\npacket 0 28000000000005000000000001000000e90300000700000007000000000001008005000000000000\nopened 0\npacket 1 240000000000030001000000e90300000700000000000000008000000000000000000000\nstatus 32768\nposition 64\nposition 128\nposition 192\nposition 256\npacket 2 2300000000c001000000000001000000e90300000700000000000000000000006f6e650000000000000000000000000000000000000000000000000000000000\npacket 3 2300000000c001004000000001000000e903000007000000000000000000000074776f0000000000000000000000000000000000000000000000000000000000\npacket 4 2500000000c001008000000001000000e90300000700000000000000000000007468726565000000000000000000000000000000000000000000000000000000\npacket 5 2400000000c00100c000000001000000e9030000070000000000000000000000666f757200000000000000000000000000000000000000000000000000000000\nnothing\nI1\nnone\nimage least 0 rebuilt 0 high 192\nI1\nI2\nmessage 6f6e65\nnone\nimage least 64 rebuilt 64 high 192\nI3\nI1\nnone\nimage least 64 rebuilt 64 high 256\nI1\nimage least 64 rebuilt 256 high 256\nmessage 74776f\nmessage 7468726565\nmessage 666f7572\nnone\nimage least 256 rebuilt 256 high 256\nbook 0 256 192 64 0 0 0 0 0 0\n",
-    ),
-    // a second receiver joins behind the first message that it met
-    (
-        "log 65536 1408 7 0 1 1001 0\nconnect\nlimit\nsend 0\ndeliver 0 0 0\ntick 0 0\nreply 1 0\noffer 0 hex 6f6e65\nsend 0\ndeliver 2 0 0\ndeliver 2 1 0\npoll 1\ntick 1 0\noffer 0 hex 74776f\nsend 0\ndeliver 4 0 0\nreply 3 0\ndeliver 5 1 0\ndeliver 4 1 0\noffer 1 hex 7468726565\nsend 0\ndeliver 6 0 0\ndeliver 6 1 0\npoll 0\npoll 0\npoll 0\npoll 0\npoll 1\npoll 1\nimage 0\nimage 1\ntick 1 0\nreply 7 0\n",
-        "open\nok\nlimit 32768\npacket 0 28000000000005000000000001000000e90300000700000007000000000001008005000000000000\nopened 0\npacket 1 240000000000030001000000e90300000700000000000000008000000000000000000000\nstatus 32768\nposition 64\npacket 2 2300000000c001000000000001000000e90300000700000000000000000000006f6e650000000000000000000000000000000000000000000000000000000000\nI1\nasked\nbad\npacket 3 240000000080030001000000e90300000700000000000000000000000100000000000000\nposition 128\npacket 4 2300000000c001004000000001000000e903000007000000000000000000000074776f0000000000000000000000000000000000000000000000000000000000\nI1\nasked\npacket 5 28000000000005008000000001000000e90300000700000007000000000001008005000000000000\nopened 128\nI3\nposition 192\npacket 6 2500000000c001008000000001000000e90300000700000000000000000000007468726565000000000000000000000000000000000000000000000000000000\nI1\nI1\nmessage 6f6e65\nmessage 74776f\nmessage 7468726565\nnone\nmessage 7468726565\nnone\nimage least 192 rebuilt 192 high 192\nimage least 192 rebuilt 192 high 192\npacket 7 240000000000030001000000e903000007000000c0000000008000000100000000000000\nstatus 32960\nbook 0 192 128 64 0 0 0 0 0 0\n",
-    ),
-    // three publishers, refused until there is a limit
-    (
-        "log 65536 1408 7 0 1 1001 0\noffer 3 hex 6f6e65\nconnect\noffer 3 hex 6f6e65\nlimit\noffer 3 hex 6f6e65\noffer 0 hex 74776f\noffer 7 hex 000102030405060708090a0b0c0d0e0f101112131415161718191a1b1c1d1e1f20\nsend 0\nsend 0\ndeliver 0 0 0\ntick 0 0\nreply 1 0\nsend 0\nsend 0\nsend 0\nlimit\ndeliver 2 0 0\ndeliver 3 0 0\ndeliver 4 0 0\npoll 0\npoll 0\npoll 0\npoll 0\nimage 0\n",
-        "open\nrefused -1\nok\nrefused -2\nlimit 32768\nposition 64\nposition 128\nposition 224\npacket 0 28000000000005000000000001000000e90300000700000007000000000001008005000000000000\nnothing\nopened 0\npacket 1 240000000000030001000000e90300000700000000000000008000000000000000000000\nstatus 32768\npacket 2 2300000000c001000000000001000000e90300000700000000000000000000006f6e650000000000000000000000000000000000000000000000000000000000\npacket 3 2300000000c001004000000001000000e903000007000000000000000000000074776f0000000000000000000000000000000000000000000000000000000000\npacket 4 4100000000c001008000000001000000e9030000070000000000000000000000000102030405060708090a0b0c0d0e0f101112131415161718191a1b1c1d1e1f2000000000000000000000000000000000000000000000000000000000000000\nlimit 32992\nI1\nI1\nI1\nmessage 6f6e65\nmessage 74776f\nmessage 000102030405060708090a0b0c0d0e0f101112131415161718191a1b1c1d1e1f20\nnone\nimage least 224 rebuilt 224 high 224\nbook 0 224 64 0 0 64 0 0 0 96\n",
-    ),
-    // a message that just fits the term, a term that is used up, and a log that is closed
-    (
-        "log 65536 1408 7 65408 1 1001 0\nconnect\nlimit\noffer 0 size 96\noffer 0 hex 616263\noffer 0 hex 616263\noffer 1 size 1376\nclose\noffer 0 hex 616263\n",
-        "open\nok\nlimit 98176\nposition 65536\nrefused -3\nposition 65600\nposition 67008\nok\nrefused -4\nbook 65408 67008 192 1408 0 0 0 0 0 0\n",
-    ),
-    // a message that doesn't fit the term leaves a padding
-    (
-        "log 65536 1408 7 65472 1 1001 0\nconnect\nlimit\noffer 0 size 33\noffer 0 size 33\n",
-        "open\nok\nlimit 98240\nrefused -3\nposition 65632\nbook 65472 65632 160 0 0 0 0 0 0 0\n",
     ),
     // a padding goes out as its header, and a poll passes it
     (
@@ -104,16 +74,6 @@ const PLAYED: &[(&str, &str)] = &[
 
 /// Scripts of readers, and of messages about the greatest lengths.
 const READ: &[(&str, &str)] = &[
-    // a claim that is aborted, and a reader that waits for it
-    (
-        "log 65536 1408 7 0 1 1001 1\noffer 0 hex 616263\nconnect\nlimit\noffer 0 hex 616263\nclaim 1 100\noffer 2 size 0\nread 1\nread 1\nabort 1\nread 1\nread 1\nsend 0\ndeliver 0 0 0\ntick 0 0\nreply 1 0\nsend 0\ndeliver 2 0 0\ndeliver 2 0 0\nimage 0\npoll 0\npoll 0\nimage 0\ndeliver 2 0 0\noffer 1 size 8193\n",
-        "open\nrefused -1\nok\nlimit 32768\nposition 64\nclaimed 64 224\nposition 256\ndata 0 c0 616263\nnone\nposition 224\npad 64 132\ndata 224 c0 \npacket 0 28000000000005000000000001000000e90300000700000007000000000001008005000000000000\nopened 0\npacket 1 240000000000030001000000e90300000700000000000000008000000000000000000000\nstatus 32768\npacket 2 2300000000c001000000000001000000e90300000700000000000000000000006162630000000000000000000000000000000000000000000000000000000000\nI1\nI2\nimage least 0 rebuilt 64 high 64\nmessage 616263\nnone\nimage least 64 rebuilt 64 high 64\nI3\nbad\nbook 0 256 64 160 32 0 0 0 0 0\n",
-    ),
-    // the greatest message doesn't fit its term: a padding of many frames' room, which a reader passes
-    (
-        "log 65536 1408 7 57184 1 1001 1\nconnect\nlimit\noffer 0 size 8192\noffer 0 size 8192\nread 1\n",
-        "open\nok\nlimit 89952\nrefused -3\nposition 73920\npad 57184 8352\nbook 57184 73920 16736 0 0 0 0 0 0 0\n",
-    ),
     // the greatest message just fits the term, and the next offer finds it used up
     (
         "log 65536 1408 7 57152 1 1001 0\nconnect\nlimit\noffer 0 size 8192\noffer 0 hex 616263\noffer 0 hex 616263\n",
