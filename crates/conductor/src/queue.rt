@@ -3,7 +3,7 @@ ghost use Rattle.conductor.specs.Rule.{AreThere};
 ghost use Rattle.conductor.specs.Parties.{AreFirst, AreFresh, AreLeft, WasFull};
 
 use crate::command::{Command, Submitted};
-use crate::hand::{Ends, Hears, RuledQueue, Opens, QueuePass, Submits, Takes, Tells, Totals};
+use crate::hand::{Ends, Hears, Opens, QueuePass, RuledQueue, Submits, Takes, Tells, Totals};
 use crate::parties::{Client, Taker};
 use std::alloc::{AllocError, Global};
 use std::marker::Model;

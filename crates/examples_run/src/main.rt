@@ -3,9 +3,8 @@
 
 use commands::command;
 use std::alloc::Global;
-use std::fs;
-use std::io;
 use std::process::ExitCode;
+use std::{fs, io};
 
 /// The examples by their names: each is a file `NAME.script`, and what it prints a file `NAME.expected`.
 const NAMES: [&str; 8] = [
