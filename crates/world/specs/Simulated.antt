@@ -1,4 +1,4 @@
--- Which states a simulation shows, and what a line makes of them.
+-- Which states a simulation represents, and what a line makes of them.
 use Rattle.std.specs.Prelude.{◌≡◌, ℕ, ⊤, List, [], ◌∷◌, ◌++◌, map}
 use Rattle.theory.specs.Bytes.{Identity}
 use Rattle.std.specs.Prelude.{Result, Ok, Err}
@@ -25,7 +25,7 @@ use Rattle.world.specs.declared.publisher_slot.PublisherSlot.{PublisherSlot}
 use Rattle.world.specs.declared.publisher_slot.PublisherSlot.TheVariants as slot
 use Rattle.receiver.specs.Subscribing.{RepresentsSubscriber, Subscribing}
 
--- each subscriber shows the receiver of its number
+-- each subscriber represents the receiver of its number
 abbrev pub AllShow : List Subscribing → List Receiver → Type 0
 AllShow [] [] = ⊤
 AllShow [] (r ∷ rs) = ⊥
@@ -48,7 +48,7 @@ pub record RepresentsState (v : Simulation) (s : ScriptState) : Type 0 where
   pub receivers : AllShow v.subscribers.items s.receivers
   pub packets : s.packets ≡ v.packets
 
--- the line printed this, and the simulation shows the state after it
+-- the line printed this, and the simulation represents the state after it
 pub record Answered (old : ScriptState) (command : CommandContent) (before after : List LineContent) (new : Simulation) : Type 0 where
   pub lines : List LineContent
   pub state : ScriptState
@@ -56,7 +56,7 @@ pub record Answered (old : ScriptState) (command : CommandContent) (before after
   pub printed : after ≡ before ++ lines
   pub shows : RepresentsState new state
 
--- whatever state the simulation showed
+-- whatever state the simulation represented
 abbrev pub IsAnswered : Simulation → CommandContent → List Line → List Line → Simulation → Type 0
 IsAnswered old command before after new = (s : ScriptState) → RepresentsState old s → Answered s command (line_contents before) (line_contents after) new
 
@@ -64,7 +64,7 @@ IsAnswered old command before after new = (s : ScriptState) → RepresentsState 
 abbrev pub MayBeOffered : ScriptState → ℕ → List ℕ → List LineContent → ScriptState → Type 0
 MayBeOffered s by message lines t = (((c : Claimed) × (claim_by s by ≡ Some c)) × IsBad s lines t) ⊎ OffersMessage s by message lines t
 
--- what orders so much is answered
+-- a command that means such an offer is answered
 abbrev pub IsOffered : Simulation → ℕ → List ℕ → List Line → List Line → Simulation → Type 0
 IsOffered old by message before after new =
     (command : CommandContent) → ((s t : ScriptState) (lines : List LineContent) → MayBeOffered s by message lines t → Answers s command lines t) → IsAnswered old command before after new
@@ -99,7 +99,7 @@ pub record RunsTo (i : Identity) (start readers : ℕ) (commands : List CommandC
   pub shown : PrintsBook last book
   pub printed : after ≡ before ++ (Open ∷ (flat_map (λ p. p.lines) played ++ book ∷ []))
 
--- what an offer contents_of, and the log after it
+-- the line of an offer's answer, and the log after it
 abbrev pub OfferedLine : Log → ℕ → List ℕ → Result ℕ Refusal → LineContent → Log → Type 0
 OfferedLine old by message (Ok end) line new = (line ≡ Position end) × (new ≡ after_offer old by message)
 OfferedLine old by message (Err refusal) line new = (line ≡ Refused refusal) × (new ≡ after_offer old by message)
