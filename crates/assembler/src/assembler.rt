@@ -43,8 +43,8 @@ impl<A: Allocator + Copy> Assembler<A> {
     }
 
     /// Takes a DATA frame's flags and payload, and gives the message that it completes. A whole frame or a begin drops
-    /// what was begun; a middle or an end with nothing begun is dropped, which wants no memory. After an error nothing is
-    /// begun.
+    /// what was begun; a middle or an end with nothing begun is dropped. That wants no memory, nor does an empty payload.
+    /// After an error nothing is begun.
     pub fn on_frame(
         &mut self,
         flags: u8,
@@ -54,6 +54,7 @@ impl<A: Allocator + Copy> Assembler<A> {
         ensures state { IfOk result (λ _. self.new ≡ record self.old { begun = (on_frame self.old.begun flags payload.now).begun }) }
         ensures refused { IfErr result (λ _. self.new ≡ record self.old { begun = None }) }
         ensures dropped { is_dropped self.old.begun flags ≡ true → IsOk result }
+        ensures asked { IsErrOf result AssemblyError.Memory → 0 < length payload.now }
         ensures too_long { IsErrOf result AssemblyError.TooLong ↔ (self.old.greatest < length (held_with self.old.begun flags payload.now)) }
     {
         let front = match self.begun.take() {
@@ -72,6 +73,7 @@ impl<A: Allocator + Copy> Assembler<A> {
     /// The payload behind the front, if both fit in a message.
     fn joined(&self, mut front: Vec<u8, A>, payload: &[u8]) -> Result<Vec<u8, A>, AssemblyError>
         ensures bytes { IfOk result (λ v. v.items ≡ front.items ++ payload.now) }
+        ensures asked { IsErrOf result AssemblyError.Memory → 0 < length payload.now }
         ensures too_long { IsErrOf result AssemblyError.TooLong ↔ (self.now.greatest < length (front.items ++ payload.now)) }
     {
         if payload.len() > self.greatest || front.len() > self.greatest - payload.len() {

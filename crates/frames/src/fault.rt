@@ -1,11 +1,11 @@
-ghost use Rattle.std.specs.Prelude.{◌≡◌};
+ghost use Rattle.std.specs.Prelude.{◌≡◌, Some};
 ghost use Rattle.frames.specs.Fault.{code_of, text_of};
 
+use std::fmt;
 use thiserror::Error;
 
 /// Why bytes are no frame, or no datagram.
 #[derive(Clone, Copy, Debug, PartialEq, Eq, Error)]
-#[error("{}", self.text())]
 pub enum FrameError {
     /// There are fewer bytes than the frame has.
     Short,
@@ -23,6 +23,14 @@ pub enum FrameError {
     Range,
     /// The frame can't stand at its place in a datagram, or bytes stand after a frame that must be the last.
     Datagram,
+}
+
+impl fmt::Display for FrameError {
+    ghost output = { λ fault. Some (text_of fault) };
+
+    fn fmt<W: fmt::Write>(&self, f: &mut fmt::Formatter<W>) -> fmt::Result {
+        f.write_str(self.text())
+    }
 }
 
 impl FrameError {

@@ -271,3 +271,92 @@ fn slower_consumer(rt: HostRuntime) -> Result<(), Fail> {
     assert_eq!(rt; image.rebuilt(), 4224);
     Ok(())
 }
+
+/// Frames of the greatest MTU, one behind the other: each byte of their payloads is read.
+#[test]
+fn whole_mtu(rt: HostRuntime) -> Result<(), Fail> {
+    let geometry = Geometry::new(16_777_216, 65_504, 7)?;
+    let mut image = Image::open(rt.alloc(), geometry, 0, 8_388_608, 1)?;
+    let mut block = Block::new(rt.alloc(), 65_472)?;
+    assert_eq!(rt;
+        insert(&rt, rt.alloc(), &mut image, DATA, 65_504, 65_504)?,
+        Insert::Stored
+    );
+    assert_eq!(rt;
+        insert(&rt, rt.alloc(), &mut image, DATA, 0, 65_504)?,
+        Insert::Stored
+    );
+    assert_eq!(rt; shown(&image), (131_008, 131_008, 0, None));
+    for start in [0, 65_504] {
+        let head = FrameHead {
+            start,
+            kind: DATA,
+            flags: 0xc0,
+            frame_length: 65_504,
+        };
+        assert_eq!(rt; pass(&rt, &mut image, 0, &mut block), Some(head));
+        assert!(rt; block.bytes().iter().all(|byte| *byte == 0x61));
+        block.bytes_mut().fill(0);
+    }
+    assert_eq!(rt; pass(&rt, &mut image, 0, &mut block), None);
+    Ok(())
+}
+
+/// An image that joins two units behind a term's begin, three terms from the stream's.
+#[test]
+fn later_join(rt: HostRuntime) -> Result<(), Fail> {
+    let mut image = opened(rt.alloc(), 0, 32_768, 1)?;
+    let mut block = Block::new(rt.alloc(), 65_472)?;
+    for step in [
+        Step::Open(196_672),
+        Step::Show(196_672, 196_672, 196_672, None),
+        Step::Give(DATA, 0, 64, 0x61, Insert::Below),
+        Step::Give(DATA, 196_640, 64, 0x61, Insert::Below),
+        Step::Give(DATA, 196_736, 64, 0x61, Insert::Stored),
+        Step::Show(196_672, 196_800, 196_672, Some(196_736)),
+        Step::Beat(245_856, false),
+        Step::Beat(245_824, true),
+        Step::Give(DATA, 196_672, 40, 0x62, Insert::Stored),
+        Step::Show(196_800, 245_824, 196_672, None),
+        Step::Pass(Some(196_672)),
+        Step::Word(0, 0x6262_6262_6262_6262),
+        Step::Pass(Some(196_736)),
+        Step::Word(3, 0x6161_6161_6161_6161),
+        Step::Pass(None),
+        Step::Give(DATA, 229_568, 32, 0, Insert::OverWindow),
+        Step::Give(DATA, 229_536, 32, 0, Insert::Stored),
+        Step::Give(DATA, 262_112, 64, 0x61, Insert::CrossesTerm),
+        Step::Show(196_800, 245_824, 196_800, Some(229_536)),
+    ] {
+        carry_out(&rt, rt.alloc(), &mut image, &mut block, step)?;
+    }
+    Ok(())
+}
+
+/// Eight consumers at a later join: a frame is kept until the last of them has passed it.
+#[test]
+fn eight_consumers(rt: HostRuntime) -> Result<(), Fail> {
+    let mut image = opened(rt.alloc(), 131_136, 4096, 8)?;
+    let mut block = Block::new(rt.alloc(), 65_472)?;
+    assert_eq!(rt;
+        insert(&rt, rt.alloc(), &mut image, DATA, 131_136, 1408)?,
+        Insert::Stored
+    );
+    for consumer in 0..8 {
+        assert_eq!(rt;
+            insert(&rt, rt.alloc(), &mut image, DATA, 131_136, 1408)?,
+            Insert::Duplicate
+        );
+        assert_eq!(rt; shown(&image), (132_544, 132_544, 131_136, None));
+        assert_eq!(rt;
+            pass(&rt, &mut image, consumer, &mut block).map(|head| head.start),
+            Some(131_136)
+        );
+    }
+    assert_eq!(rt;
+        insert(&rt, rt.alloc(), &mut image, DATA, 131_136, 1408)?,
+        Insert::Below
+    );
+    assert_eq!(rt; shown(&image), (132_544, 132_544, 132_544, None));
+    Ok(())
+}

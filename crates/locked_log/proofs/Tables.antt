@@ -10,7 +10,7 @@ use Rattle.log_buffer.specs.Leaves.{Leaves, LeavesOtherClaims, LeavesOtherReader
 use Rattle.log_buffer.specs.Log.{Log}
 use Rattle.log_buffer.specs.Reader.{IsAt, Reader, ReadsNone}
 use Rattle.log_reader.specs.Reading.{IsRead, ReadsNothing}
-use Rattle.term_buffer.specs.Heads.{IsStreamFrame}
+use Rattle.position.specs.Heads.{IsStreamFrame}
 use Rattle.publication.specs.Claims.{Filling, IsClaimOf}
 use Rattle.publication.proofs.KeptClaims.{claim_beside, claim_left, claim_read}
 use Rattle.locked_log.specs.declared.standing.Standing.{Standing}

@@ -2,7 +2,7 @@
 use Rattle.std.specs.Prelude.{◌≡◌, ℕ, ◌+◌, ◌-◌, List, ◌++◌, replicate, Option, None, Some, slice_get, slice_set}
 use Rattle.theory.specs.Position.{Geometry, aligned}
 use Rattle.position.specs.declared.head.FrameHead.{FrameHead}
-use Rattle.term_buffer.specs.Heads.{IsStreamFrame}
+use Rattle.position.specs.Heads.{IsStreamFrame}
 use Rattle.term_buffer.specs.declared.claimed.Claimed.{Claimed}
 use Rattle.log_buffer.specs.Log.{Log}
 use Rattle.log_buffer.specs.Reader.{IsAt, Reader, Reads, ReadsNone}

@@ -1,7 +1,7 @@
 ghost use Rattle.std.specs.Prelude.{◌≡◌, ◌+◌, ◌%◌, ◌<◌, ◌≤◌, ◌↔◌, ◌^◌, IfOk, IfErr, IfSome, IfNone, IsErrOf, length, sum};
 ghost use Rattle.theory.specs.Position.{aligned, framed_length, max_message, max_payload};
 ghost use Rattle.theory.specs.Refusal.{IsJustified};
-ghost use Rattle.term_buffer.specs.Heads.{IsStreamFrame};
+ghost use Rattle.position.specs.Heads.{IsStreamFrame};
 ghost use Rattle.log_buffer.specs.Openings.{ArePasses, IsConsumerCount, IsStart};
 ghost use Rattle.log_buffer.specs.Passes.{AreAll, HasSeenEnd, sights};
 ghost use Rattle.log_buffer.specs.declared.fault.LogError.{LogError};

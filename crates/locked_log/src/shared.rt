@@ -5,7 +5,7 @@ ghost use Rattle.theory.specs.Position.{framed_length, max_message, max_payload}
 ghost use Rattle.theory.specs.Entry.{Entry};
 ghost use Rattle.theory.specs.Placed.{Among, Placed, place_all};
 ghost use Rattle.theory.specs.Refusal.{IsJustified};
-ghost use Rattle.term_buffer.specs.Heads.{IsStreamFrame};
+ghost use Rattle.position.specs.Heads.{IsStreamFrame};
 ghost use Rattle.log_buffer.specs.Books.{ShowsBook};
 ghost use Rattle.log_buffer.specs.Log.{IsFinished, fresh};
 ghost use Rattle.log_buffer.specs.Openings.{ArePasses, IsConsumerCount, IsStart};

@@ -3,7 +3,7 @@ use Rattle.std.specs.Prelude.{◌≡◌, ℕ, ◌+◌, ◌<◌, ◌≤◌, List,
 use Rattle.theory.specs.Placed.{Among, Frame, Placed, end_of, payload_of}
 use Rattle.theory.specs.Entry.{committed}
 use Rattle.position.specs.declared.head.FrameHead.{FrameHead}
-use Rattle.term_buffer.specs.Heads.{head_of}
+use Rattle.position.specs.Heads.{head_of}
 use Rattle.log_buffer.specs.Log.{Log}
 
 pub record Reader : Type 0 where

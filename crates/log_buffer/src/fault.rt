@@ -1,13 +1,13 @@
-ghost use Rattle.std.specs.Prelude.{◌≡◌};
+ghost use Rattle.std.specs.Prelude.{◌≡◌, Some};
 ghost use Rattle.log_buffer.specs.Faults.{code_of};
 ghost use Rattle.log_buffer.specs.declared.fault.LogError.TheVariants.{Memory};
 
 use std::alloc::{AllocError, AllocFailed};
+use std::fmt;
 use thiserror::Error;
 
 /// Why a log can't be opened. Nothing was made then.
 #[derive(Clone, Copy, Debug, PartialEq, Eq, Error)]
-#[error("{}", self.code())]
 pub enum LogError {
     /// The start isn't a multiple of 32, or not below the greatest position.
     Start,
@@ -15,6 +15,14 @@ pub enum LogError {
     Consumers,
     /// Memory was refused.
     Memory,
+}
+
+impl fmt::Display for LogError {
+    ghost output = { λ fault. Some (code_of fault) };
+
+    fn fmt<W: fmt::Write>(&self, f: &mut fmt::Formatter<W>) -> fmt::Result {
+        f.write_str(self.code())
+    }
 }
 
 impl LogError {

@@ -1,7 +1,7 @@
 //! The word calls of a reader: a frame's words, and its own position.
 
 ghost use Rattle.std.specs.Prelude.{◌≡◌, ◌<◌, ◌≤◌, length, IfSome, IfNone, slice_set};
-ghost use Rattle.term_buffer.specs.Heads.{IsStreamFrame};
+ghost use Rattle.position.specs.Heads.{IsStreamFrame};
 ghost use Rattle.log_buffer.specs.Leaves.{LeavesOtherReaders};
 ghost use Rattle.log_buffer.specs.Log.{IsLog};
 ghost use Rattle.log_buffer.specs.Reader.{IsAt, Moves, Reads, ReadsNone, before_move};

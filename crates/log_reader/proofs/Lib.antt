@@ -1,4 +1,5 @@
 pub mod Entries
 pub mod Moving
-pub mod Standing
 pub mod ReadFrames
+pub mod Sourced
+pub mod Standing

@@ -1,28 +1,20 @@
 -- The frame that a reader was given, and a reader that goes on.
-use Rattle.std.proofs.Common.{◌≡◌, ◌∙◌, ℕ, ◌+◌, ◌-◌, List, ◌++◌, length, take, drop, sym, ap, subst, refl, arith}
-use Rattle.std.proofs.Math.Seq.{take-append_seam}
+use Rattle.std.proofs.Common.{◌≡◌, ◌∙◌, ℕ, ◌+◌, List, sym, ap, subst}
 use Rattle.theory.specs.Position.{aligned}
-use Rattle.theory.specs.Placed.{Data, Frame, Pad, Placed, end_of, frame_length, payload_of}
+use Rattle.theory.specs.Placed.{Placed, end_of}
 use Rattle.position.specs.declared.head.FrameHead.{FrameHead}
-use Rattle.term_buffer.specs.Heads.{head_of}
+use Rattle.position.specs.Heads.{frame_in, head_of}
+use Rattle.position.proofs.Heads.{frame_again, length_in, start_in}
 use Rattle.log_buffer.specs.Leaves.{LeavesOtherReaders}
 use Rattle.log_buffer.specs.Log.{IsLog, Log}
 use Rattle.log_buffer.specs.Reader.{IsAt, Reader, Reads}
 use Rattle.log_buffer.proofs.Leaves.{Leaves_same, other_readers}
-use Rattle.log_reader.specs.Reading.{GoesOn, IsRead, StandsAt, frame_in}
+use Rattle.log_reader.specs.Reading.{GoesOn, IsRead, StandsAt}
 use Rattle.log_reader.proofs.Standing.{stands_at}
 
 -- the frame that was read
 abbrev pub read_frame : {l : Log} {p : ℕ} {head : FrameHead} {old new : List ℕ} → Reads l p head old new → Placed
 read_frame {p = p} h = record { at = p; frame = h.frame }
-
-length_in : (start : ℕ) (f : Frame) → (head_of start f).frame_length ≡ frame_length f
-length_in start (Data flags payload) = refl
-length_in start (Pad n) = refl
-
-start_in : (start : ℕ) (f : Frame) → (head_of start f).start ≡ start
-start_in start (Data flags payload) = refl
-start_in start (Pad n) = refl
 
 pub starts : (l : Log) (r : Reader) (head : FrameHead) (old new : List ℕ) (h : Reads l r.position head old new) → head.start ≡ r.position
 starts l r head old new h = ap (λ (x : FrameHead). x.start) h.shown ∙ start_in r.position h.frame
@@ -31,14 +23,6 @@ pub ends : (l : Log) (r : Reader) (head : FrameHead) (old new : List ℕ) (h : R
 ends l r head old new h =
     ap (λ (n : ℕ). n + aligned head.frame_length) (starts l r head old new h)
     ∙ ap (λ (n : ℕ). r.position + aligned n) (ap (λ (x : FrameHead). x.frame_length) h.shown ∙ length_in r.position h.frame)
-
--- the head and the block's front tell the frame
-frame_again : (at : ℕ) (f : Frame) (old : List ℕ) → frame_in (head_of at f).kind (head_of at f).flags (head_of at f).frame_length (payload_of f ++ drop (length (payload_of f)) old) ≡ f
-frame_again at (Data flags payload) old =
-    let size : 32 + length payload - 32 ≡ length payload = omega arith in
-    ap (λ (n : ℕ). Data flags (take n (payload ++ drop (length payload) old))) size
-    ∙ ap (Data flags) (take-append_seam payload (drop (length payload) old))
-frame_again at (Pad n) old = refl
 
 pub frame_read : (l : Log) (p : ℕ) (head : FrameHead) (old new : List ℕ) (h : Reads l p head old new) → frame_in head.kind head.flags head.frame_length new ≡ h.frame
 frame_read l p head old new h =

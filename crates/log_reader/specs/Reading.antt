@@ -1,11 +1,8 @@
 -- What a reader is given of the frame at its position.
-use Rattle.std.specs.Prelude.{◌≡◌, ℕ, ◌+◌, ◌-◌, ◌<◌, List, length, slice_index, take}
+use Rattle.std.specs.Prelude.{◌≡◌, ℕ, ◌+◌, ◌<◌, List, length, slice_index}
 use Rattle.theory.specs.Position.{aligned}
-use Rattle.theory.specs.Placed.{Data, Frame, Pad}
 use Rattle.position.specs.declared.head.FrameHead.{FrameHead}
-use Rattle.position.specs.declared.head.FrameKind.{FrameKind}
-use Rattle.position.specs.declared.head.FrameKind.TheVariants as kinds
-use Rattle.term_buffer.specs.Heads.{IsStreamFrame}
+use Rattle.position.specs.Heads.{IsStreamFrame}
 use Rattle.log_buffer.specs.Leaves.{LeavesOtherReaders}
 use Rattle.log_buffer.specs.Log.{Log}
 use Rattle.log_buffer.specs.Reader.{IsAt, Reader, Reads, ReadsNone}
@@ -28,11 +25,6 @@ pub record ReadsNothing (l : Log) (old : Reader) (before : List ℕ) (new : Read
   pub none : new ≡ old
   pub untouched : after ≡ before
   pub nothing : ReadsNone l old.position
-
--- the frame of this kind, with these flags and this length, whose payload stands in the block's front
-abbrev pub frame_in : FrameKind → ℕ → ℕ → List ℕ → Frame
-frame_in kinds.Data flags frame_length block = Data flags (take (frame_length - 32) block)
-frame_in kinds.Pad flags frame_length block = Pad frame_length
 
 -- a reader has gone on in a log, or stays, and nothing else of the log is touched
 pub record GoesOn (old : Log) (r : Reader) (new : Log) (q : Reader) : Type 0 where

@@ -6,7 +6,9 @@
 mod learns;
 mod reads;
 mod resends;
+mod source;
 
 pub use learns::learn;
 pub use reads::{advance, next};
 pub use resends::{keeps_near, reread};
+pub use source::LogFrames;

@@ -1,5 +1,6 @@
 ghost use Rattle.std.specs.Prelude.{◌≡◌, ◌≤◌, length};
-ghost use Rattle.term_buffer.specs.Heads.{IsStreamFrame};
+ghost use Rattle.position.specs.Heads.{IsStreamFrame};
+ghost use Rattle.log_buffer.specs.Log.{IsLog};
 ghost use Rattle.log_buffer.specs.Reader.{Reads};
 ghost use Rattle.log_reader.specs.Resends.{KeepsNear, MayReread};
 
@@ -16,6 +17,7 @@ pub fn reread(log: &LogState, reader: &LogReader, position: u64, block: &mut Blo
     ensures here { result.start ≡ position }
     ensures head { IsStreamFrame log.now.identity.geometry result }
     ensures frame { Reads log.now position result block.old block.new }
+    ensures legal { IsLog log.now }
 {
     log.load_frame(position, block).unwrap()
 }

@@ -1,4 +1,2 @@
-mod AllPasses
 mod OnePass
-mod SeenEnd
 mod Steps

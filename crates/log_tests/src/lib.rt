@@ -1,4 +1,4 @@
-//! Tests of a log, from its bytes to the one that threads share: a module for each crate.
+//! Tests of a log that one thread holds: a module for each crate.
 #![tactic(auto)]
 
 #[cfg(test)]
@@ -9,8 +9,6 @@ mod keeping;
 mod reading;
 #[cfg(test)]
 mod refusals;
-#[cfg(test)]
-mod sharing;
 #[cfg(test)]
 mod tails;
 #[cfg(test)]

@@ -1,8 +1,9 @@
-ghost use Rattle.std.specs.Prelude.{◌≡◌, ◌+◌, ◌≤◌, ◌<◌, ◌↔◌, IfOk, IsOk};
+ghost use Rattle.std.specs.Prelude.{◌≡◌, ◌+◌, ◌≤◌, ◌<◌, ◌↔◌, IfOk, IsOk, Some};
 ghost use Rattle.theory.specs.Loss.{IsRates, IsVerdict};
 ghost use Rattle.loss_injector.specs.Texts.{rates_text};
 ghost use Rattle.loss_injector.specs.Verdicts.{meaning};
 
+use std::fmt;
 use std::marker::Model;
 use thiserror::Error;
 
@@ -29,8 +30,15 @@ impl Model for Rates {
 
 /// The rates together pass a thousand.
 #[derive(Clone, Copy, Debug, PartialEq, Eq, Error)]
-#[error("{}", self.text())]
 pub struct RatesError;
+
+impl fmt::Display for RatesError {
+    ghost output = { λ _. Some rates_text };
+
+    fn fmt<W: fmt::Write>(&self, f: &mut fmt::Formatter<W>) -> fmt::Result {
+        f.write_str(self.text())
+    }
+}
 
 impl RatesError {
     /// The code and the name that a user sees.

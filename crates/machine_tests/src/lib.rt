@@ -1,4 +1,4 @@
-//! Tests of the state machines of the sender and its receivers, and of the command queue: a module for each crate.
+//! Tests of the machines that need no log: messages joined, limits, setups, and the command queue.
 #![tactic(auto)]
 
 #[cfg(test)]
@@ -6,12 +6,6 @@ mod assembly;
 #[cfg(test)]
 mod commands;
 #[cfg(test)]
-mod gaps;
-#[cfg(test)]
 mod limits;
-#[cfg(test)]
-mod losses;
-#[cfg(test)]
-mod resends;
 #[cfg(test)]
 mod setups;

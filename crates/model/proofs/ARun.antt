@@ -3,9 +3,9 @@ use Rattle.std.specs.Prelude.{ℕ, ◌<◌, pos, true, false, List, [], ◌∷�
 use Rattle.std.proofs.Common.{refl, inl, inr, arith}
 use Rattle.theory.specs.Entry.{entry_end}
 use Rattle.theory.specs.Insert.{Stored}
-use Rattle.theory.specs.Consumer.{Consumer, consumer_at, moved}
+use Rattle.theory.specs.Consumer.{Consumer, consumer_at, moved, passed_by}
 use Rattle.theory.specs.Image.{Image, image_at, after_insert, Inserted, Poll}
-use Rattle.model.specs.Log.{Log, entry_for, with_frame, aborted_at, Connect, Raise, Arm, Add, Commit, Abort, Join, Leave}
+use Rattle.model.specs.Log.{Log, entry_for, with_frame, aborted_at, Connect, Raise, Arm, Add, Commit, Abort, Join, Leave, Move, Pass}
 use Rattle.theory.specs.Resend.{answered}
 use Rattle.model.specs.Sender.{Sender, after_nak, SendSetup, HearStatus, Send, HearNak, Resend}
 use Rattle.model.specs.World.{World, Event, AtLog, AtSender, AtImage, Open, IsOpened, Run, opened_sender}
@@ -33,6 +33,7 @@ is_opened = record {
   tail = refl;
   entries = refl;
   armed = refl;
+  retired = refl;
   limit = refl;
   connected = refl;
   closed = refl;
@@ -93,6 +94,36 @@ log16 = record log15 { readers = Some (consumer_at start) ∷ Some (consumer_at 
 abbrev log17 : Log
 log17 = record log16 { readers = Some (consumer_at start) ∷ None ∷ [] }
 
+abbrev r1 : Consumer
+r1 = moved (consumer_at start) begin
+
+abbrev seats : Consumer → Consumer → Log
+seats a b = record log17 { readers = Some a ∷ Some b ∷ [] }
+
+abbrev log18 : Log
+log18 = record log17 { readers = Some r1 ∷ None ∷ [] }
+
+abbrev late : Consumer
+late = consumer_at 65344
+
+abbrev log19 : Log
+log19 = seats r1 late
+
+abbrev late1 : Consumer
+late1 = moved late end
+
+abbrev late2 : Consumer
+late2 = moved late1 aborted
+
+abbrev late3 : Consumer
+late3 = moved late2 tripped
+
+abbrev late4 : Consumer
+late4 = moved late3 abc
+
+abbrev log24 : Log
+log24 = seats (passed_by r1 end) late4
+
 abbrev sender1 : Sender
 sender1 = record (opened_sender start) { setups = 65088 ∷ [] }
 
@@ -100,7 +131,7 @@ abbrev a0 : Image
 a0 = image_at 65088 32768 1
 
 abbrev b0 : Image
-b0 = image_at 65088 32768 1
+b0 = image_at 65088 16384 2
 
 abbrev sender2 : Sender
 sender2 = record sender1 { said = record { position = pos 65088; window = pos 32768 } ∷ [] }
@@ -178,70 +209,77 @@ abbrev c6 : Consumer
 c6 = moved (consumer_at 65088) begin
 
 abbrev b6 : Image
-b6 = record b5 { consumers = c6 ∷ [] }
+b6 = record b5 { consumers = c6 ∷ consumer_at 65088 ∷ [] }
 
 abbrev c7 : Consumer
 c7 = moved c6 end
 
 abbrev b7 : Image
-b7 = record b6 { consumers = c7 ∷ [] }
+b7 = record b6 { consumers = c7 ∷ consumer_at 65088 ∷ [] }
 
 abbrev c8 : Consumer
 c8 = moved c7 aborted
 
 abbrev b8 : Image
-b8 = record b7 { consumers = c8 ∷ [] }
+b8 = record b7 { consumers = c8 ∷ consumer_at 65088 ∷ [] }
 
 abbrev c9 : Consumer
 c9 = moved c8 tripped
 
 abbrev b9 : Image
-b9 = record b8 { consumers = c9 ∷ [] }
+b9 = record b8 { consumers = c9 ∷ consumer_at 65088 ∷ [] }
 
 abbrev c10 : Consumer
 c10 = moved c9 abc
 
 abbrev b10 : Image
-b10 = record b9 { consumers = c10 ∷ [] }
+b10 = record b9 { consumers = c10 ∷ consumer_at 65088 ∷ [] }
+
+abbrev b11 : Image
+b11 = record b10 { consumers = c10 ∷ moved (consumer_at 65088) begin ∷ [] }
 
 abbrev last : World
-last = world log17 sender5 (both (Some a10) (Some b10))
+last = world log24 sender5 (both (Some a10) (Some b11))
 
 abbrev rest_42 : List Event
-rest_42 = AtImage 3 (Poll 0 tripped) ∷ AtImage 3 (Poll 0 abc) ∷ []
+rest_42 = AtImage 3 (Poll 0 tripped) ∷ AtImage 3 (Poll 0 abc) ∷ AtImage 3 (Poll 1 begin) ∷ []
 
-from_42 : Run (world log17 sender5 (both (Some a10) (Some b8))) rest_42 last
+from_42 : Run (world log24 sender5 (both (Some a10) (Some b8))) rest_42 last
 from_42 = (
-  world log17 sender5 (both (Some a10) (Some b9)),
+  world log24 sender5 (both (Some a10) (Some b9)),
   (b8, b9, refl, (c8, refl, record { among = inr (inl refl); here = refl }, refl, refl), refl),
   (
-    world log17 sender5 (both (Some a10) (Some b10)),
+    world log24 sender5 (both (Some a10) (Some b10)),
     (b9, b10, refl, (c9, refl, record { among = inl refl; here = refl }, refl, refl), refl),
-    refl,
+    (
+      world log24 sender5 (both (Some a10) (Some b11)),
+      (b10, b11, refl, (consumer_at 65088, refl, record { among = inr (inr (inr (inr (inl refl)))); here = refl }, refl, refl), refl),
+      refl,
+    ),
   ),
 )
 
 abbrev rest_36 : List Event
 rest_36 = AtImage 0 (Poll 0 aborted) ∷ AtImage 0 (Poll 0 tripped) ∷ AtImage 0 (Poll 0 abc) ∷ AtImage 3 (Poll 0 begin) ∷ AtImage 3 (Poll 0 end) ∷ AtImage 3 (Poll 0 aborted) ∷ rest_42
 
-from_36 : Run (world log17 sender5 (both (Some a7) (Some b5))) rest_36 last
+from_36 : Run (world log24 sender5 (both (Some a7) (Some b5))) rest_36 last
 from_36 = (
-  world log17 sender5 (both (Some a8) (Some b5)),
+  world log24 sender5 (both (Some a8) (Some b5)),
   (a7, a8, refl, (c2, refl, record { among = inr (inl refl); here = refl }, refl, refl), refl),
   (
-    world log17 sender5 (both (Some a9) (Some b5)),
+    world log24 sender5 (both (Some a9) (Some b5)),
     (a8, a9, refl, (c3, refl, record { among = inr (inr (inl refl)); here = refl }, refl, refl), refl),
     (
-      world log17 sender5 (both (Some a10) (Some b5)),
+      world log24 sender5 (both (Some a10) (Some b5)),
       (a9, a10, refl, (c4, refl, record { among = inr (inr (inr (inr (inl refl)))); here = refl }, refl, refl), refl),
       (
-        world log17 sender5 (both (Some a10) (Some b6)),
+        world log24 sender5 (both (Some a10) (Some b6)),
         (b5, b6, refl, (consumer_at 65088, refl, record { among = inr (inr (inr (inr (inl refl)))); here = refl }, refl, refl), refl),
         (
-          world log17 sender5 (both (Some a10) (Some b7)),
+          world log24 sender5 (both (Some a10) (Some b7)),
           (b6, b7, refl, (c6, refl, record { among = inr (inr (inr (inl refl))); here = refl }, refl, refl), refl),
           (
-            world log17 sender5 (both (Some a10) (Some b8)),
+            world log24 sender5 (both (Some a10) (Some b8)),
             (b7, b8, refl, (c7, refl, record { among = inr (inr (inl refl)); here = refl }, refl, refl), refl),
             from_42,
           ),
@@ -254,24 +292,24 @@ from_36 = (
 abbrev rest_30 : List Event
 rest_30 = AtImage 3 (Inserted 65088 tripped) ∷ AtImage 3 (Inserted 65088 abc) ∷ AtSender (HearNak 5 (pos 65344) (pos 64)) ∷ AtSender (Resend 5 (record { at = 65344; length = 64; lingers = false; until = 0 }) (end ∷ [])) ∷ AtImage 0 (Inserted 65344 end) ∷ AtImage 0 (Poll 0 end) ∷ rest_36
 
-from_30 : Run (world log17 sender3 (both (Some a5) (Some b3))) rest_30 last
+from_30 : Run (world log24 sender3 (both (Some a5) (Some b3))) rest_30 last
 from_30 = (
-  world log17 sender3 (both (Some a5) (Some b4)),
-  (b3, b4, refl, (inr (inr (inr (inl refl))), record { low = omega arith; all = (omega arith, tt) }, refl), refl),
+  world log24 sender3 (both (Some a5) (Some b4)),
+  (b3, b4, refl, (inr (inr (inr (inl refl))), record { low = omega arith; all = (omega arith, (omega arith, tt)) }, refl), refl),
   (
-    world log17 sender3 (both (Some a5) (Some b5)),
-    (b4, b5, refl, (inr (inr (inr (inr (inl refl)))), record { low = omega arith; all = (omega arith, tt) }, refl), refl),
+    world log24 sender3 (both (Some a5) (Some b5)),
+    (b4, b5, refl, (inr (inr (inr (inr (inl refl)))), record { low = omega arith; all = (omega arith, (omega arith, tt)) }, refl), refl),
     (
-      world log17 sender4 (both (Some a5) (Some b5)),
+      world log24 sender4 (both (Some a5) (Some b5)),
       (sender4, refl, refl),
       (
-        world log17 sender5 (both (Some a5) (Some b5)),
+        world log24 sender5 (both (Some a5) (Some b5)),
         (sender5, (refl, refl, refl), refl),
         (
-          world log17 sender5 (both (Some a6) (Some b5)),
+          world log24 sender5 (both (Some a6) (Some b5)),
           (a5, a6, refl, (inl refl, record { low = omega arith; all = (omega arith, tt) }, refl), refl),
           (
-            world log17 sender5 (both (Some a7) (Some b5)),
+            world log24 sender5 (both (Some a7) (Some b5)),
             (a6, a7, refl, (c1, refl, record { among = inl refl; here = refl }, refl, refl), refl),
             from_36,
           ),
@@ -284,25 +322,25 @@ from_30 = (
 abbrev rest_24 : List Event
 rest_24 = AtImage 0 (Inserted 65088 tripped) ∷ AtImage 0 (Inserted 65088 aborted) ∷ AtImage 0 (Poll 0 begin) ∷ AtImage 3 (Inserted 65088 begin) ∷ AtImage 3 (Inserted 65088 end) ∷ AtImage 3 (Inserted 65088 aborted) ∷ rest_30
 
-from_24 : Run (world log17 sender3 (both (Some a2) (Some b0))) rest_24 last
+from_24 : Run (world log24 sender3 (both (Some a2) (Some b0))) rest_24 last
 from_24 = (
-  world log17 sender3 (both (Some a3) (Some b0)),
+  world log24 sender3 (both (Some a3) (Some b0)),
   (a2, a3, refl, (inr (inr (inr (inl refl))), record { low = omega arith; all = (omega arith, tt) }, refl), refl),
   (
-    world log17 sender3 (both (Some a4) (Some b0)),
+    world log24 sender3 (both (Some a4) (Some b0)),
     (a3, a4, refl, (inr (inr (inl refl)), record { low = omega arith; all = (omega arith, tt) }, refl), refl),
     (
-      world log17 sender3 (both (Some a5) (Some b0)),
+      world log24 sender3 (both (Some a5) (Some b0)),
       (a4, a5, refl, (consumer_at 65088, refl, record { among = inr (inr (inl refl)); here = refl }, refl, refl), refl),
       (
-        world log17 sender3 (both (Some a5) (Some b1)),
-        (b0, b1, refl, (inl refl, record { low = omega arith; all = (omega arith, tt) }, refl), refl),
+        world log24 sender3 (both (Some a5) (Some b1)),
+        (b0, b1, refl, (inl refl, record { low = omega arith; all = (omega arith, (omega arith, tt)) }, refl), refl),
         (
-          world log17 sender3 (both (Some a5) (Some b2)),
-          (b1, b2, refl, (inr (inl refl), record { low = omega arith; all = (omega arith, tt) }, refl), refl),
+          world log24 sender3 (both (Some a5) (Some b2)),
+          (b1, b2, refl, (inr (inl refl), record { low = omega arith; all = (omega arith, (omega arith, tt)) }, refl), refl),
           (
-            world log17 sender3 (both (Some a5) (Some b3)),
-            (b2, b3, refl, (inr (inr (inl refl)), record { low = omega arith; all = (omega arith, tt) }, refl), refl),
+            world log24 sender3 (both (Some a5) (Some b3)),
+            (b2, b3, refl, (inr (inr (inl refl)), record { low = omega arith; all = (omega arith, (omega arith, tt)) }, refl), refl),
             from_30,
           ),
         ),
@@ -311,8 +349,50 @@ from_24 = (
   ),
 )
 
+abbrev rest_22 : List Event
+rest_22 = AtLog (Move 0 begin) ∷ AtLog (Join 1 65344) ∷ AtLog (Move 1 end) ∷ AtLog (Move 1 aborted) ∷ AtLog (Move 1 tripped) ∷ AtLog (Move 1 abc) ∷ AtLog (Pass 0 end) ∷ AtImage 0 (Inserted 65088 abc) ∷ AtImage 0 (Inserted 65088 begin) ∷ rest_24
+
+from_22 : Run (world log17 sender3 (both (Some a0) (Some b0))) rest_22 last
+from_22 = (
+  world log18 sender3 (both (Some a0) (Some b0)),
+  (log18, (consumer_at start, refl, record { among = inl refl; here = refl }, refl, refl), refl),
+  (
+    world log19 sender3 (both (Some a0) (Some b0)),
+    (log19, (refl, record { read = begin ∷ []; chain = (refl, refl); among = (inl refl, tt) }, record { others_above = (omega arith, tt); readers_above = (omega arith, (tt, tt)) }, omega arith, refl), refl),
+    (
+      world (seats r1 late1) sender3 (both (Some a0) (Some b0)),
+      (seats r1 late1, (late, refl, record { among = inr (inl refl); here = refl }, refl, refl), refl),
+      (
+        world (seats r1 late2) sender3 (both (Some a0) (Some b0)),
+        (seats r1 late2, (late1, refl, record { among = inr (inr (inl refl)); here = refl }, refl, refl), refl),
+        (
+          world (seats r1 late3) sender3 (both (Some a0) (Some b0)),
+          (seats r1 late3, (late2, refl, record { among = inr (inr (inr (inl refl))); here = refl }, refl, refl), refl),
+          (
+            world (seats r1 late4) sender3 (both (Some a0) (Some b0)),
+            (seats r1 late4, (late3, refl, record { among = inr (inr (inr (inr (inl refl)))); here = refl }, refl, refl), refl),
+            (
+              world log24 sender3 (both (Some a0) (Some b0)),
+              (log24, (r1, refl, record { among = inr (inl refl); here = refl }, refl), refl),
+              (
+                world log24 sender3 (both (Some a1) (Some b0)),
+                (a0, a1, refl, (inr (inr (inr (inr (inl refl)))), record { low = omega arith; all = (omega arith, tt) }, refl), refl),
+                (
+                  world log24 sender3 (both (Some a2) (Some b0)),
+                  (a1, a2, refl, (inl refl, record { low = omega arith; all = (omega arith, tt) }, refl), refl),
+                  from_24,
+                ),
+              ),
+            ),
+          ),
+        ),
+      ),
+    ),
+  ),
+)
+
 abbrev rest_18 : List Event
-rest_18 = Open 0 65088 32768 1 ∷ Open 3 65088 32768 1 ∷ AtSender (HearStatus (record { position = pos 65088; window = pos 32768 })) ∷ AtSender (Send (begin ∷ end ∷ aborted ∷ tripped ∷ abc ∷ []) 65600) ∷ AtImage 0 (Inserted 65088 abc) ∷ AtImage 0 (Inserted 65088 begin) ∷ rest_24
+rest_18 = Open 0 65088 32768 1 ∷ Open 3 65088 16384 2 ∷ AtSender (HearStatus (record { position = pos 65088; window = pos 32768 })) ∷ AtSender (Send (begin ∷ end ∷ aborted ∷ tripped ∷ abc ∷ []) 65600) ∷ rest_22
 
 from_18 : Run (world log17 sender1 (replicate 8 None)) rest_18 last
 from_18 = (
@@ -327,15 +407,7 @@ from_18 = (
       (
         world log17 sender3 (both (Some a0) (Some b0)),
         (sender3, ((refl, (refl, (refl, (refl, (refl, refl))))), (inl refl, (inr (inl refl), (inr (inr (inl refl)), (inr (inr (inr (inl refl))), (inr (inr (inr (inr (inl refl)))), tt))))), (omega arith, (omega arith, (omega arith, (omega arith, (omega arith, tt))))), refl), refl),
-        (
-          world log17 sender3 (both (Some a1) (Some b0)),
-          (a0, a1, refl, (inr (inr (inr (inr (inl refl)))), record { low = omega arith; all = (omega arith, tt) }, refl), refl),
-          (
-            world log17 sender3 (both (Some a2) (Some b0)),
-            (a1, a2, refl, (inl refl, record { low = omega arith; all = (omega arith, tt) }, refl), refl),
-            from_24,
-          ),
-        ),
+        from_22,
       ),
     ),
   ),
@@ -347,10 +419,10 @@ rest_12 = AtLog (Arm 0 97856) ∷ AtLog (Add 0 3) ∷ AtLog (Commit 65536 abc.fr
 from_12 : Run (world log12 (opened_sender start) (replicate 8 None)) rest_12 last
 from_12 = (
   world log13 (opened_sender start) (replicate 8 None),
-  (log13, (omega arith, omega arith, omega arith, refl), refl),
+  (log13, ((omega arith, refl), omega arith, omega arith, refl), refl),
   (
     world log14 (opened_sender start) (replicate 8 None),
-    (log14, (omega arith, refl, omega arith, omega arith, refl), refl),
+    (log14, ((omega arith, refl), refl, omega arith, omega arith, refl), refl),
     (
       world log15 (opened_sender start) (replicate 8 None),
       (log15, (record { entry = entry_for log13 0 3; among = inr (inr (inr (inl refl))); here = refl; frames = ((refl, refl), tt); bytes = (omega arith, (omega arith, (omega arith, tt))) }, refl), refl),
@@ -386,10 +458,10 @@ from_6 = (
       (log9, (record { entry = record (entry_for log3 0 230) { frames = begin.frame ∷ [] }; among = inl refl; here = refl; frames = ((refl, refl), ((refl, refl), tt)); bytes = all_replicate (λ b. b < 256) 6 2 (omega arith) }, refl), refl),
       (
         world log10 (opened_sender start) (replicate 8 None),
-        (log10, (omega arith, omega arith, omega arith, refl), refl),
+        (log10, ((omega arith, refl), omega arith, omega arith, refl), refl),
         (
           world log11 (opened_sender start) (replicate 8 None),
-          (log11, (omega arith, refl, omega arith, omega arith, refl), refl),
+          (log11, ((omega arith, refl), refl, omega arith, omega arith, refl), refl),
           (
             world log12 (opened_sender start) (replicate 8 None),
             (log12, (record { entry = entry_for log10 0 100; among = inr (inr (inl refl)); here = refl; frames = refl; bytes = tt }, refl), refl),
@@ -413,16 +485,16 @@ from_0 = (
     (log2, (refl, record { others_above = (omega arith, tt); readers_above = (omega arith, (tt, tt)) }, omega arith, refl, refl, refl), refl),
     (
       world log3 (opened_sender start) (replicate 8 None),
-      (log3, (omega arith, omega arith, omega arith, refl), refl),
+      (log3, ((omega arith, refl), omega arith, omega arith, refl), refl),
       (
         world log4 (opened_sender start) (replicate 8 None),
-        (log4, (omega arith, refl, omega arith, omega arith, refl), refl),
+        (log4, ((omega arith, refl), refl, omega arith, omega arith, refl), refl),
         (
           world log5 (opened_sender start) (replicate 8 None),
-          (log5, (omega arith, omega arith, omega arith, refl), refl),
+          (log5, ((omega arith, refl), omega arith, omega arith, refl), refl),
           (
             world log6 (opened_sender start) (replicate 8 None),
-            (log6, (omega arith, refl, omega arith, omega arith, refl), refl),
+            (log6, ((omega arith, refl), refl, omega arith, omega arith, refl), refl),
             from_6,
           ),
         ),
@@ -432,4 +504,4 @@ from_0 = (
 )
 
 pub it_runs : ItRuns
-it_runs = (is_opened, (last, from_0, (a10, refl, refl), (b10, refl, refl), refl, refl, refl))
+it_runs = (is_opened, (last, from_0, record { one = a10; one_there = refl; one_polled = refl; other = b11; other_there = refl; other_window = refl; other_polled = refl; readers = refl; tail = refl; shares = (refl, refl) }))

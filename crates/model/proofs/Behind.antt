@@ -64,7 +64,7 @@ log_behind n old (Move which past) new k h =
 log_behind n old (Pass which past) new k h =
     let here : past.at ≡ h.0.at = h.2.here in
     subst (IsKeptBehind n) (sym h.3) (moves_on n old which h.0 (passed_by h.0 past) h.1 (omega arith) k)
-log_behind n old (Retire a b) new k h = subst (IsKeptBehind n) (sym h.2) k
+log_behind n old (Retire a b) new k h = subst (IsKeptBehind n) (sym h.4) k
 
 sender_on : (l : Log) (old : Sender) (e : SenderEvent) (new : Sender) → SenderStep l.identity.geometry l.start (committed l.entries) old e new → old.at ≤ new.at
 sender_on l old (Send frames to) new h = subst (λ (s : Sender). old.at ≤ s.at) (sym h.3) (chain_le old.at to frames h.0)

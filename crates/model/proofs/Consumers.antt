@@ -10,7 +10,7 @@ use Rattle.theory.specs.Numbered.{Each}
 use Rattle.theory.proofs.Lists.{all_weaker, all_append}
 use Rattle.theory.proofs.Frames.{AllBelow}
 use Rattle.theory.proofs.Follow.{Chain-push}
-use Rattle.model.proofs.Contiguous.{chain_bound, contiguous_is, end_below}
+use Rattle.theory.proofs.Contiguous.{chain_bound, contiguous_is, end_below}
 
 -- what an assembler has after these frames
 abbrev pub heard : Assembly → List Placed → Assembly

@@ -8,7 +8,7 @@ use Rattle.theory.specs.Wire.{Wire, StandTogether, MayFollow}
 use Rattle.theory.specs.Placed.{is_padding, Frame, Data, Pad, Placed, end_of, Among, Chain, AllAmong}
 use Rattle.theory.specs.Bytes.{Identity, wire_at}
 use Rattle.theory.specs.Datagrams.{fits_in, grouped_behind, grouped, sent_end, MayBeSent, sendable, cycle_datagrams, wire_size, size_of, frames_of, wires}
-use Rattle.model.specs.CycleLaws.{MaySend, CycleMaySend, ResendsFirst}
+use Rattle.model.specs.CycleLaws.{MaySend, CycleMaySend}
 use Rattle.theory.proofs.Lists.{all_front}
 use Rattle.theory.proofs.Readings.{stands_alone}
 
@@ -110,6 +110,3 @@ grouped_stand i g (s ∷ ss) = behind_stand i g s [] ss (stands_alone (wire_at i
 
 pub cycle_may_send : CycleMaySend
 cycle_may_send g frames reads at q limit chain among = (cycle_sends g frames at q limit reads chain among, omega (arith, length-take 16 (grouped g (sendable limit reads))))
-
-pub resends_first : ResendsFirst
-resends_first g frames = let f = front_of 15 (grouped g frames) in (omega (arith, length-take 15 (grouped g frames)), (f.0, sym (grouped_is g frames) ∙ f.1))

@@ -1,11 +1,9 @@
-pub mod Contiguous
 pub mod Consumers
 pub mod Messages
 pub mod Shares
 pub mod Commits
 pub mod LogSteps
 pub mod LogRows
-pub mod Gaps
 pub mod Datagrams
 pub mod Asked
 pub mod Sizes
@@ -16,3 +14,7 @@ pub mod Room
 pub mod Wired
 pub mod ARun
 pub mod Opens
+pub mod Contents
+pub mod Spent
+pub mod StepsKept
+mod WorldRows

@@ -11,8 +11,8 @@ use Rattle.theory.specs.Messages.{messages}
 use Rattle.model.specs.Log.{Log, LogStep, Arm, Add, Miss, entry_for, aborted_at}
 use Rattle.theory.proofs.Rows.{the_geometry, identity, pad_of, abc}
 
-abbrev log_at : ℕ → List Entry → Log
-log_at tail es = record { identity = identity; start = 57152; tail = tail; entries = es; armed = true ∷ []; limit = 89920; connected = true; closed = false; cleaned = 57152; readers = [] }
+abbrev pub log_at : ℕ → List Entry → Log
+log_at tail es = record { identity = identity; start = 57152; tail = tail; entries = es; armed = true ∷ []; retired = false ∷ []; limit = 89920; connected = true; closed = false; cleaned = 57152; readers = [] }
 
 -- at the term's end the next message begins the next term
 next_term : entry_end (entry_for (log_at 65536 []) 0 3) ≡ 65600

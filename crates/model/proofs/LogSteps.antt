@@ -159,8 +159,8 @@ retire_entry a b l e is = record {
   frames = is.frames;
 }
 
-retires : (l : Log) (a b : ℕ) → IsKeptLog l → a < 8 → Grows l (record l { entries = retire a b l.entries })
-retires l a b k le =
+retires : (l : Log) (a b : ℕ) (gone : List Bool) → IsKeptLog l → a < 8 → Grows l (record l { entries = retire a b l.entries; retired = gone })
+retires l a b gone k le =
     let more : (s : Placed) → Among s (committed l.entries) → Among s (committed (map (handed a b) l.entries)) = Kept-map (handed a b) l.entries (λ e _ s h. h) in
     record {
       kept = record {
@@ -307,7 +307,7 @@ beside l m k e i s = record { kept = k; more = λ x a. subst (λ es. Among x (co
 pub log_step : (sent_to : List ℕ) (old : Log) (e : LogEvent) (new : Log) → IsKeptLog old → LogStep sent_to old e new → Grows old new
 log_step n old Look new k h = subst (λ x. Grows old x) (sym h) (same old k)
 log_step n old (Arm by seen) new k h = subst (λ x. Grows old x) (sym h.3) (beside old (record old { armed = slice_set old.armed by true }) k refl refl refl)
-log_step n old (Add by bytes) new k h = subst (λ x. Grows old x) (sym h.4) (adds old by bytes (slice_set old.armed by false) k h.0)
+log_step n old (Add by bytes) new k h = subst (λ x. Grows old x) (sym h.4) (adds old by bytes (slice_set old.armed by false) k h.0.0)
 log_step n old (Miss by) new k h = subst (λ x. Grows old x) (sym h.1) (beside old (record old { armed = slice_set old.armed by false }) k refl refl refl)
 log_step n old Store new k h = subst (λ x. Grows old x) (sym h) (same old k)
 log_step n old (Commit start f) new k h = subst (λ x. Grows old x) (sym h.1) (commits old start f k h.0)
@@ -321,4 +321,4 @@ log_step n old (Join which at) new k h = subst (λ x. Grows old x) (sym h.4) (jo
 log_step n old (Leave which) new k h = subst (λ x. Grows old x) (sym h.3) (leaves old which k)
 log_step n old (Move which past) new k h = subst (λ x. Grows old x) (sym h.4) (moves old which past h.0 k h.1 h.2 h.3)
 log_step n old (Pass which past) new k h = subst (λ x. Grows old x) (sym h.3) (passes old which past h.0 k h.1 h.2)
-log_step n old (Retire a b) new k h = subst (λ x. Grows old x) (sym h.2) (retires old a b k h.0)
+log_step n old (Retire a b) new k h = subst (λ x. Grows old x) (sym h.4) (retires old a b (slice_set old.retired b true) k h.0.0)

@@ -10,7 +10,7 @@ use Rattle.theory.proofs.Lists.{all_replicate}
 
 abbrev world_at : Identity → ℕ → ℕ → World
 world_at i start readers = record {
-  log = record { identity = i; start = start; tail = start; entries = []; armed = replicate 8 false; limit = start; connected = false; closed = false; cleaned = start; readers = replicate readers (Some (consumer_at start)) };
+  log = record { identity = i; start = start; tail = start; entries = []; armed = replicate 8 false; retired = replicate 8 false; limit = start; connected = false; closed = false; cleaned = start; readers = replicate readers (Some (consumer_at start)) };
   sender = opened_sender start;
   images = replicate 8 None;
 }
@@ -24,6 +24,7 @@ opens i start readers g n u l = record {
   tail = refl;
   entries = refl;
   armed = refl;
+  retired = refl;
   limit = refl;
   connected = refl;
   closed = refl;

@@ -89,7 +89,7 @@ room_step n old (Join which at) new u k h = subst IsKeptRoom (sym h.4) k
 room_step n old (Leave which) new u k h = subst IsKeptRoom (sym h.3) k
 room_step n old (Move which past) new u k h = subst IsKeptRoom (sym h.4) k
 room_step n old (Pass which past) new u k h = subst IsKeptRoom (sym h.3) k
-room_step n old (Retire a b) new u k h = subst IsKeptRoom (sym h.2) k
+room_step n old (Retire a b) new u k h = subst IsKeptRoom (sym h.4) k
 
 room_after : (old : World) (e : Event) (new : World) → KeptWorld old → IsKeptRoom old.log → Step old e new → IsKeptRoom new.log
 room_after old (AtLog e) new k r h = subst (λ (w : World). IsKeptRoom w.log) (sym h.2) (room_step (old.sender.at ∷ []) old.log e h.0 (room_unit old.log k.log) r h.1)

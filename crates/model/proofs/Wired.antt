@@ -113,7 +113,7 @@ wire_step n old (Join which at) new k w h = subst IsKeptWire (sym h.4) w
 wire_step n old (Leave which) new k w h = subst IsKeptWire (sym h.3) w
 wire_step n old (Move which past) new k w h = subst IsKeptWire (sym h.4) w
 wire_step n old (Pass which past) new k w h = subst IsKeptWire (sym h.3) w
-wire_step n old (Retire a b) new k w h = subst IsKeptWire (sym h.2) (record { geometry = w.geometry; identity = w.identity; wired = all_map (IsWired old.identity.geometry) (handed a b) old.entries (λ e _ x. record { low = x.low; units = x.units; message = x.message; bytes = x.bytes }) w.wired })
+wire_step n old (Retire a b) new k w h = subst IsKeptWire (sym h.4) (record { geometry = w.geometry; identity = w.identity; wired = all_map (IsWired old.identity.geometry) (handed a b) old.entries (λ e _ x. record { low = x.low; units = x.units; message = x.message; bytes = x.bytes }) w.wired })
 
 -- ---- a frame in its place
 

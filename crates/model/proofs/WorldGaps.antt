@@ -14,8 +14,8 @@ use Rattle.model.specs.World.{World}
 use Rattle.model.specs.Headline.{Always, HasItsGap, AreGapsTold}
 use Rattle.theory.proofs.Lists.{all_at, all_weaker, all_append, each_weaker}
 use Rattle.theory.proofs.Frames.{AreCut, are_cut}
-use Rattle.model.proofs.Contiguous.{end_below}
-use Rattle.model.proofs.Gaps.{gap_is}
+use Rattle.theory.proofs.Contiguous.{end_below}
+use Rattle.theory.proofs.Gaps.{gap_is}
 use Rattle.theory.proofs.Cuts.{span_unit}
 use Rattle.model.proofs.WorldSteps.{KeptWorld, KeptImage, opened, every}
 

@@ -27,7 +27,7 @@ use Rattle.theory.proofs.Tiling.{tail_is, all_shares_are}
 use Rattle.theory.proofs.Frames.{AllBelow, tiles_le, committed_below, committed_in_order, cell_found}
 use Rattle.model.proofs.Consumers.{Follows, follows_more, follows_moved, follows_passed, bounded, follows_joined, seats_bound}
 use Rattle.theory.proofs.Follow.{passed_more, passed_along}
-use Rattle.model.proofs.Contiguous.{chain_bound, contiguous_is, end_below}
+use Rattle.theory.proofs.Contiguous.{chain_bound, contiguous_is, end_below}
 use Rattle.model.proofs.Messages.{makes}
 use Rattle.model.proofs.LogSteps.{IsKeptLog, Grows, log_step}
 use Rattle.theory.proofs.Places.{power_unit}

@@ -1,5 +1,4 @@
 pub mod Log
-pub mod ShownWords
 pub mod Sender
 pub mod World
 pub mod Headline
@@ -7,3 +6,4 @@ pub mod StreamLaws
 pub mod CycleLaws
 pub mod GapLaws
 pub mod ExampleRun
+pub mod StepLaws

@@ -9,13 +9,14 @@ use Rattle.theory.specs.Bytes.{Identity}
 use Rattle.theory.specs.Numbered.{Each}
 use Rattle.theory.specs.Consumer.{Consumer, MayMove, consumer_at, moved, passed_by}
 
--- armed by the publisher's number, readers by theirs; the words below cleaned are zero
+-- armed and retired by the publisher's number, readers by theirs; the words below cleaned are zero
 pub record Log : Type 0 where
   pub identity : Identity
   pub start : ℕ
   pub tail : ℕ
   pub entries : List Entry
   pub armed : List Bool
+  pub retired : List Bool
   pub limit : ℕ
   pub connected : Bool
   pub closed : Bool
@@ -96,12 +97,16 @@ pub record IsLowest (others : List ℕ) (l : Log) (least : ℕ) : Type 0 where
 abbrev pub HasOther : List ℕ → Log → ℕ → Type 0
 HasOther others l which = (others ≡ [] → ⊥) ⊎ ((k : ℕ) × (r : Consumer) × (k ≡ which → ⊥) × (slice_get l.readers k ≡ Some (Some r)))
 
+-- a publisher's number that isn't retired
+abbrev pub IsLiving : Log → ℕ → Type 0
+IsLiving l by = (by < 8) × (slice_get l.retired by ≡ Some false)
+
 abbrev pub LogStep : List ℕ → Log → LogEvent → Log → Type 0
 LogStep others old Look new = new ≡ old
 LogStep others old (Arm by seen) new =
-    (by < 8) × (seen ≤ old.limit) × (old.tail < seen) × (new ≡ record old { armed = slice_set old.armed by true })
+    IsLiving old by × (seen ≤ old.limit) × (old.tail < seen) × (new ≡ record old { armed = slice_set old.armed by true })
 LogStep others old (Add by bytes) new =
-    (by < 8) × (slice_get old.armed by ≡ Some true) × (bytes ≤ max_message old.identity.geometry) × (old.tail < max_position old.identity.geometry)
+    IsLiving old by × (slice_get old.armed by ≡ Some true) × (bytes ≤ max_message old.identity.geometry) × (old.tail < max_position old.identity.geometry)
     × (new ≡ record old { armed = slice_set old.armed by false; entries = old.entries ++ entry_for old by bytes ∷ []; tail = entry_end (entry_for old by bytes) })
 -- an addition to a term that is finished takes nothing; the tail may stand in a later term by then
 LogStep others old (Miss by) new = (slice_get old.armed by ≡ Some true) × (new ≡ record old { armed = slice_set old.armed by false })
@@ -126,10 +131,12 @@ LogStep others old (Move which past) new =
 LogStep others old (Pass which past) new =
     (r : Consumer) × (slice_get old.readers which ≡ Some (Some r)) × MayMove (committed old.entries) past r
     × (new ≡ record old { readers = slice_set old.readers which (Some (passed_by r past)) })
--- the arming of the number that is gone stays, and nothing is added for it any more
-LogStep others old (Retire kept gone) new = (kept < 8) × (gone < 8) × (new ≡ record old { entries = retire kept gone old.entries })
+-- the bytes of a number that isn't armed are another's, and it is retired for good
+LogStep others old (Retire kept gone) new =
+    IsLiving old kept × IsLiving old gone × (kept ≡ gone → ⊥) × (slice_get old.armed gone ≡ Some false)
+    × (new ≡ record old { entries = retire kept gone old.entries; retired = slice_set old.retired gone true })
 
--- what each armed publisher may still take is within the limit and eight claims, and that within what is cleaned
+-- what each armed publisher may still take is within the limit and eight claims, and that within what is cleaned. That the bytes from the tail up to three terms past what is cleaned are zero is said of the log's own state, which has bytes
 pub record HasRoom (l : Log) : Type 0 where
   pub tail : l.tail + greatest_claim l.identity.geometry * count_by (λ a. a) l.armed ≤ l.limit + 8 * greatest_claim l.identity.geometry
   pub limit : l.limit + 8 * greatest_claim l.identity.geometry ≤ l.cleaned + 3 * term_of l

@@ -1,20 +1,34 @@
 -- Laws on a log's stream: shares, and what an assembler gives of a run of entries.
-use Rattle.std.specs.Prelude.{◌≡◌, ℕ, ◌+◌, ◌-◌, ◌==◌, if◌then◌else◌, List, map}
+use Rattle.std.specs.Prelude.{◌≡◌, ℕ, ◌+◌, ◌-◌, ◌==◌, if◌then◌else◌, true, Bool, List, map, Some, slice_get, slice_set}
 use Rattle.std.specs.List.{AllByRecursion}
 use Rattle.theory.specs.Placed.{AllAmong, Chain, Placed}
 use Rattle.theory.specs.Entry.{Entry, IsEntry, committed}
-use Rattle.theory.specs.Tiling.{Tiles, retire, share_of}
+use Rattle.theory.specs.Tiling.{Tiles, share_of}
 use Rattle.theory.specs.Messages.{messages}
 use Rattle.theory.specs.Assembly.{after_all, nothing_heard}
-use Rattle.model.specs.Log.{Add, Log, LogStep}
+use Rattle.model.specs.Log.{Add, Log, LogEvent, LogStep, Retire}
+use Rattle.model.specs.World.{World}
 
--- what an addition takes is its publisher's, and nobody else's
-abbrev pub AddsToOwner : Type 0
-AddsToOwner = (others : List ℕ) (old new : Log) (by bytes : ℕ) → LogStep others old (Add by bytes) new → (o : ℕ) → share_of o new.entries ≡ share_of o old.entries + (if by == o then new.tail - old.tail else 0)
+-- a publisher's share after an event: an addition's bytes are its publisher's, a retired publisher's are the other's, and no other event changes a share
+abbrev pub share_after : Log → LogEvent → Log → ℕ → ℕ
+share_after old (Add by bytes) new o = share_of o old.entries + (if by == o then new.tail - old.tail else 0)
+share_after old (Retire kept gone) new o = if gone == o then 0 else share_of o old.entries + (if kept == o then share_of gone old.entries else 0)
+share_after old other new o = share_of o old.entries
 
--- a retired publisher's bytes are the other's, and nobody else's change
-abbrev pub RetiresTo : Type 0
-RetiresTo = (a b : ℕ) (es : List Entry) (o : ℕ) → (a ≡ b → ⊥) → share_of o (retire a b es) ≡ (if b == o then 0 else share_of o es + (if a == o then share_of b es else 0))
+abbrev pub SharesFollow : Type 0
+SharesFollow = (others : List ℕ) (old new : Log) (e : LogEvent) → LogStep others old e new → (o : ℕ) → share_of o new.entries ≡ share_after old e new o
+
+-- who is retired after an event: one number more where that is retired, and nobody comes back
+abbrev pub retired_after : Log → LogEvent → List Bool
+retired_after old (Retire kept gone) = slice_set old.retired gone true
+retired_after old other = old.retired
+
+abbrev pub RetiresForGood : Type 0
+RetiresForGood = (others : List ℕ) (old new : Log) (e : LogEvent) → LogStep others old e new → new.retired ≡ retired_after old e
+
+-- nothing belongs to who is retired
+abbrev pub HaveNoShare : World → Type 0
+HaveNoShare w = (by : ℕ) → slice_get w.log.retired by ≡ Some true → share_of by w.log.entries ≡ 0
 
 -- frames of a tiled stream that follow each other, from any of them on, are assembled to the messages between their ends
 abbrev pub GivesMessages : Type 0

@@ -48,6 +48,7 @@ pub record IsOpened (w : World) : Type 0 where
   pub tail : w.log.tail ≡ w.log.start
   pub entries : w.log.entries ≡ []
   pub armed : w.log.armed ≡ replicate 8 false
+  pub retired : w.log.retired ≡ replicate 8 false
   pub limit : w.log.limit ≡ w.log.start
   pub connected : w.log.connected ≡ false
   pub closed : w.log.closed ≡ false

@@ -5,16 +5,26 @@
 //! headline rests on. Each does nothing, and its contract is the law.
 #![tactic(auto)]
 
-ghost use Rattle.model.specs.CycleLaws.{CycleMaySend, GroupsWell, ResendsFirst, ResendsAsked};
+ghost use Rattle.model.specs.CycleLaws.{CycleMaySend, CycleSendsAll, GroupsWell, ResendsFirst, ResendsAsked};
 ghost use Rattle.model.specs.ExampleRun.{ItRuns, AlwaysOpens};
-ghost use Rattle.model.specs.GapLaws.{ComputesContiguous, ComputesGap};
+ghost use Rattle.model.specs.GapLaws.{ComputesContiguous, ComputesGap, HasOneContent};
 ghost use Rattle.model.specs.Headline.{Always, IsTiled, IsRebuiltRight, IsBounded, IsPrefixPolled, IsReadable, ArePublished, AreSpelled, AreGapsTold, HasItsRoom};
-ghost use Rattle.model.specs.StreamLaws.{AddsToOwner, RetiresTo, GivesMessages};
+ghost use Rattle.model.specs.StepLaws.{AreReached, ClockNeverFalls, KeepsLimit, KeepsNaks};
+ghost use Rattle.model.specs.StreamLaws.{GivesMessages, HaveNoShare, RetiresForGood, SharesFollow};
 
-/// Whose the bytes of the stream are: an addition's are its publisher's, a retired publisher's are the other's.
+/// Whose the bytes of the stream are: an addition's are its publisher's, a retired publisher's are the other's, for good.
 pub fn shares_follow_owners()
-    ensures add { AddsToOwner }
-    ensures retire { RetiresTo }
+    ensures shares { SharesFollow }
+    ensures retired { RetiresForGood }
+    ensures nothing { Always HaveNoShare }
+{}
+
+/// What each step keeps: the limit, a sender's clock, the NAKs that it answered; and where consumers stand.
+pub fn steps_keep()
+    ensures limit { KeepsLimit }
+    ensures clock { ClockNeverFalls }
+    ensures naks { KeepsNaks }
+    ensures reached { Always AreReached }
 {}
 
 /// Frames that follow each other are assembled to the messages between their ends.
@@ -22,16 +32,18 @@ pub fn messages_between()
     ensures { GivesMessages }
 {}
 
-/// The contiguous end and the gap that are computed are the ones that are defined.
+/// The contiguous end and the gap that are computed are the ones that are defined; a unit has one content.
 pub fn computes_end_and_gap()
     ensures end { ComputesContiguous }
     ensures gap { ComputesGap }
+    ensures content { HasOneContent }
 {}
 
-/// What a cycle sends is what a sender may send, in datagrams of the grammar within the MTU; a resend sends the first
-/// of its range, and no others.
+/// What a cycle sends is what a sender may send, as much as may go, in datagrams of the grammar within the MTU; a resend
+/// sends the first of its range, and no others.
 pub fn cycle_sends()
     ensures allowed { CycleMaySend }
+    ensures all { CycleSendsAll }
     ensures grouped { GroupsWell }
     ensures resent { ResendsFirst }
     ensures asked { ResendsAsked }

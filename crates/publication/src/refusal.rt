@@ -1,12 +1,13 @@
-ghost use Rattle.std.specs.Prelude.{◌≡◌};
+ghost use Rattle.std.specs.Prelude.{◌≡◌, Some};
 ghost use Rattle.publication.specs.Refusals.{number_of};
+ghost use Rattle.std.specs.Fmt.{signed_decimal};
 
+use std::fmt;
 use thiserror::Error;
 
 /// Why an offer isn't accepted. No entry was added then but, where the message didn't fit the rest of its term, a
 /// padding up to the term's end, which is counted to the publisher.
 #[derive(Clone, Copy, Debug, PartialEq, Eq, Error)]
-#[error("{}", self.code())]
 pub enum Refusal {
     /// Nobody is connected, and the tail is at the limit.
     NotConnected,
@@ -18,6 +19,15 @@ pub enum Refusal {
     Closed,
     /// The last term is used up, for good.
     MaxPositionExceeded,
+}
+
+impl fmt::Display for Refusal {
+    ghost output = { λ refusal. Some (signed_decimal (number_of refusal)) };
+
+    fn fmt<W: fmt::Write>(&self, f: &mut fmt::Formatter<W>) -> fmt::Result {
+        let code = self.code();
+        write!(f, "{code}")
+    }
 }
 
 impl Refusal {

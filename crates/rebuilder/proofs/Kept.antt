@@ -21,7 +21,7 @@ use Rattle.theory.proofs.Places.{term_ends}
 use Rattle.theory.proofs.Follow.{one_end, passed_along, passed_more}
 use Rattle.theory.proofs.Held.{among_held, not_stored, stored_only}
 use Rattle.rebuilder.proofs.Lists.{all_least, none_here, least_each}
-use Rattle.rebuilder.proofs.Order.{at_least, all_held, all_put, lower, order_held, order_put, put_among, raise}
+use Rattle.rebuilder.proofs.Order.{apart, at_least, all_held, all_put, lower, order_held, order_put, put_among, raise}
 use Rattle.rebuilder.proofs.Reach.{AreFull, is_contiguous, reached_here, reached_held, reached_le, reached_tail, unit_above, unit_at}
 
 -- ---- what follows
@@ -90,6 +90,16 @@ next_unit i r (Some q) k h c end =
           let le : u.frame.at ≤ p = above.1 in
           absurd (omega arith);
     }
+
+pub next_start : (i : Image) (r : ℕ) (o : Option ℕ) → IsImage i r → MatchOption o ((s : Placed) → Among s i.held → s.at < r) (IsNextStart i.held r) → (c : ℕ) → IsContiguous i.held (least i.consumers) c → MatchOption o ((s : Placed) → Among s i.held → s.at < c) (IsNextStart i.held c)
+next_start i r o k h c end = subst (λ q. MatchOption o ((s : Placed) → Among s i.held → s.at < q) (IsNextStart i.held q)) (sym (one_end i.held (least i.consumers) c r end (contiguous i r k))) h
+
+-- at one start one frame is held
+pub one_there : (i : Image) (r : ℕ) (s t : Placed) → IsImage i r → Among s i.held → Among t i.held → s.at ≡ t.at → s ≡ t
+one_there i r s t k a b e =
+    let some_s : 0 < covered s = all_at (λ x. 0 < covered x) s i.held (full i r k) a in
+    let some_t : 0 < covered t = all_at (λ x. 0 < covered x) t i.held (full i r k) b in
+    ⊎_elim (λ same. same) (λ past. ⊎_elim (λ l. absurd (omega (arith, l, e, some_s))) (λ l. absurd (omega (arith, l, e, some_t))) past) (apart (least i.consumers) i.held s t k.order a b)
 
 -- ---- it holds again
 

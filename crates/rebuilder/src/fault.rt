@@ -1,11 +1,11 @@
-ghost use Rattle.std.specs.Prelude.{◌≡◌};
+ghost use Rattle.std.specs.Prelude.{◌≡◌, Some};
 ghost use Rattle.rebuilder.specs.Codes.{code_of};
 
+use std::fmt;
 use thiserror::Error;
 
 /// Why an image can't be opened. Nothing was made then.
 #[derive(Clone, Copy, Debug, PartialEq, Eq, Error)]
-#[error("{}", self.code())]
 pub enum ImageError {
     /// The join isn't a multiple of 32, or above the greatest position.
     Join,
@@ -15,6 +15,14 @@ pub enum ImageError {
     Consumers,
     /// Memory was refused.
     Memory,
+}
+
+impl fmt::Display for ImageError {
+    ghost output = { λ fault. Some (code_of fault) };
+
+    fn fmt<W: fmt::Write>(&self, f: &mut fmt::Formatter<W>) -> fmt::Result {
+        f.write_str(self.code())
+    }
 }
 
 impl ImageError {

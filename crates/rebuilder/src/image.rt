@@ -56,8 +56,8 @@ pub(crate) fn least_of(positions: &[u64]) -> u64
 }
 
 impl Image {
-    /// An image that holds nothing, with all its consumers at the join. Only [`ImageError::Memory`] has no cause that
-    /// the arguments show.
+    /// An image that holds nothing, with all its consumers at the join. It asks for memory once, and only where the
+    /// arguments are legal.
     pub fn open(
         alloc: Global,
         geometry: Geometry,
@@ -67,6 +67,7 @@ impl Image {
     ) -> Result<Image, ImageError>
         ensures opened { IfOk result (λ i. i ≡ record { geometry = geometry; join = join; window = window; held = []; high = join; consumers = replicate consumers join }) }
         ensures legal { IfOk result (λ i. IsJoin geometry join × IsWindow geometry.term_length geometry.mtu window × IsCount consumers) }
+        ensures asked { IsErrOf result ImageError.Memory → IsJoin geometry join × IsWindow geometry.term_length geometry.mtu window × IsCount consumers }
         ensures bad_join { IsErrOf result ImageError.Join ↔ (¬ IsJoin geometry join) }
         ensures bad_window { IsErrOf result ImageError.Window ↔ (IsJoin geometry join × (¬ IsWindow geometry.term_length geometry.mtu window)) }
         ensures bad_count { IsErrOf result ImageError.Consumers ↔ (IsJoin geometry join × IsWindow geometry.term_length geometry.mtu window × (¬ IsCount consumers)) }

@@ -1,9 +1,10 @@
 ghost use Rattle.std.specs.Prelude.{◌≡◌, ◌≤◌, ◌<◌, ◌++◌, ℕ, drop, length, slice_index, IfSome, MatchOption};
 ghost use Rattle.position.specs.declared.head.FrameKind.TheVariants.{Data};
 ghost use Rattle.block.specs.Bytes.{with_front};
-ghost use Rattle.theory.specs.Placed.{Among, Placed, end_of};
+ghost use Rattle.theory.specs.Placed.{Among, Placed, end_of, payload_of};
 ghost use Rattle.theory.specs.Units.{HasUnit, IsContiguous};
-ghost use Rattle.rebuilder.specs.Held.{StartsAt};
+ghost use Rattle.rebuilder.specs.Held.{IsNextStart, StartsAt};
+ghost use Rattle.rebuilder.specs.Kinds.{head_at};
 ghost use Rattle.rebuilder.specs.Seen.{IsNextUnit, IsShown, least, with_consumer};
 
 use crate::image::{Image, least_of};
@@ -34,6 +35,7 @@ impl Image {
         requires consumer { consumer < length self.now.consumers }
         requires room { 65472 ≤ length block.old }
         ensures shown { MatchOption result (IsContiguous self.now.held (least self.now.consumers) (slice_index self.now.consumers consumer) × (block.new ≡ block.old)) (λ head. IsShown self.now.held (slice_index self.now.consumers consumer) block.old head block.new) }
+        ensures only { IfSome result (λ head. (s : Placed) → Among s self.now.held → s.at ≡ slice_index self.now.consumers consumer → (head ≡ head_at s.at s.frame) × (block.new ≡ with_front block.old (payload_of s.frame))) }
         ensures data { IfSome result (λ head. head.kind ≡ Data → (32 ≤ head.frame_length) × (head.frame_length ≤ 65504)) }
     {
         let start = self.consumers[consumer];
@@ -66,7 +68,8 @@ impl Image {
 
     /// The least position above the rebuilt one at which something is held.
     pub fn next_held(&self) -> Option<u64>
-        ensures { (c : ℕ) → IsContiguous self.now.held (least self.now.consumers) c → MatchOption result ((p : ℕ) → c ≤ p → HasUnit self.now.held p → ⊥) (IsNextUnit self.now.held c) }
+        ensures unit { (c : ℕ) → IsContiguous self.now.held (least self.now.consumers) c → MatchOption result ((p : ℕ) → c ≤ p → HasUnit self.now.held p → ⊥) (IsNextUnit self.now.held c) }
+        ensures start { (c : ℕ) → IsContiguous self.now.held (least self.now.consumers) c → MatchOption result ((s : Placed) → Among s self.now.held → s.at < c) (IsNextStart self.now.held c) }
     {
         self.frames.next_from(self.rebuilt)
     }

@@ -7,3 +7,4 @@ pub mod Seated
 pub mod ShownImages
 pub mod ShownSteps
 pub mod Units
+mod TickRows

@@ -20,7 +20,7 @@ use Rattle.receiver.specs.declared.receiver_core.Outcome.{Outcome}
 use Rattle.receiver.specs.declared.receiver_core.Outcome.TheVariants as outcomes
 use Rattle.frames.specs.Datagrams.{IsDatagramFault}
 use Rattle.frames.specs.declared.fault.FrameError.{FrameError}
-use Rattle.receiver.specs.Receiving.{BreaksOff, TakesDatagram, Meets, MeetsAll, MeetsFrame, MeetsHeartbeat, MeetsSetup, Opened, Receiver, asking, at_moment, given_at, is_due, replied, replies, telling, ticked, told_after}
+use Rattle.receiver.specs.Receiving.{BreaksAt, BreaksOff, IsOurs, NeedsMemory, StoresFrame, TakesDatagram, WouldOpen, Meets, MeetsAll, MeetsFrame, MeetsHeartbeat, MeetsSetup, Opened, Receiver, asking, at_moment, given_at, is_due, replied, replies, telling, ticked, told_after}
 use Rattle.receiver.specs.declared.receiver_core.Replies.{Replies}
 use Rattle.receiver.specs.Representing.{Becomes, Core, HasNoFrame, HearsBeat, Inserts, IsAtEnd, MeetsFirst, PassesFrame, ReadsPast, Represents, RepresentsImage, RepresentsOpened, beaten_at, with_reader}
 use Rattle.receiver.proofs.ShownSteps.{least_shown, opened_shown}
@@ -226,18 +226,33 @@ broken_off v u w now bytes frames (Err e) at spells met = λ r s.
     let a = met (at_moment r now) (subst (λ x. Represents x (at_moment r now)) (sym at) (seen_at v r now s)) in
     (a.0, inr (first (at_moment r now) a.0 a.1), a.2)
   where
-    first : (r s : Receiver) → MeetsFirst frames r s → (taken : List Wire) × (left : List Wire) × (outs : List Outcome) × SpellsDatagram (taken ++ left) bytes × MeetsAll r taken outs s
-    first r s (taken, left, outs, parts, met) = (taken, left, outs, subst (λ ws. SpellsDatagram ws bytes) parts spells, met)
+    first : (r s : Receiver) → MeetsFirst frames r s → BreaksAt r bytes s
+    first r s m = record { taken = m.taken; next = m.next; left = m.left; outs = m.outs; spells = subst (λ ws. SpellsDatagram ws bytes) m.parts spells; met = m.met; needs = m.needs }
 
-pub refused_all : {V E : Type 0} (items : V → List Outcome) (v u : Core) (now : ℕ) (bytes : List ℕ) (fault : FrameError) (out : Result V E) → u ≡ record v { clock = max v.clock now } → IsDatagramFault bytes fault
-    → IfOk out (λ outs. items outs ≡ outcomes.Refused fault ∷ []) → IfOk out (λ outs. Becomes v u (λ r s. TakesDatagram r now bytes (items outs) s))
-refused_all items v u now bytes fault (Err e) at why is = tt
-refused_all items v u now bytes fault (Ok outs) at why is = λ r s. (at_moment r now, inr (fault, why, is, refl), subst (λ x. Represents x (at_moment r now)) (sym at) (seen_at v r now s))
+pub refused_all : (outs : List Outcome) (v u : Core) (now : ℕ) (bytes : List ℕ) (fault : FrameError) → u ≡ record v { clock = max v.clock now } → IsDatagramFault bytes fault → outs ≡ outcomes.Refused fault ∷ [] → Becomes v u (λ r s. TakesDatagram r now bytes outs s)
+refused_all outs v u now bytes fault at why is = λ r s. (at_moment r now, inr (fault, why, is, refl), subst (λ x. Represents x (at_moment r now)) (sym at) (seen_at v r now s))
 
-pub refusal_broken : {V E : Type 0} (v u : Core) (now : ℕ) (bytes : List ℕ) (out : Result V E) → u ≡ record v { clock = max v.clock now } → OnErr out (Becomes v u (λ r s. BreaksOff r now bytes s))
-refusal_broken v u now bytes (Ok outs) at = tt
-refusal_broken v u now bytes (Err e) at = λ r s. (at_moment r now, inl refl, subst (λ x. Represents x (at_moment r now)) (sym at) (seen_at v r now s))
+-- nothing was taken
+pub unchanged : (v : Core) (now : ℕ) (bytes : List ℕ) → Becomes v v (λ r s. BreaksOff r now bytes s)
+unchanged v now bytes = λ r s. (r, inl refl, s)
 
--- what was taken before a frame
-pub first_taken : (u w : Core) (frames taken left : List Wire) (outs : List Outcome) → frames ≡ taken ++ left → Becomes u w (λ r s. MeetsAll r taken outs s) → Becomes u w (MeetsFirst frames)
-first_taken u w frames taken left outs parts f = λ r s. let a = f r s in (a.0, (taken, left, outs, parts, a.1), a.2)
+-- what was taken before a frame that needs memory
+pub first_taken : (u w : Core) (frames taken left : List Wire) (next : Wire) (outs : List Outcome) → frames ≡ taken ++ next ∷ left → ((s : Receiver) → Represents w s → NeedsMemory s next) → Becomes u w (λ r s. MeetsAll r taken outs s) → Becomes u w (MeetsFirst frames)
+first_taken u w frames taken left next outs parts needs f = λ r s.
+    let a = f r s in
+    (a.0, record { taken = taken; next = next; left = left; outs = outs; parts = parts; met = a.1; needs = needs a.0 a.2 }, a.2)
+
+-- ---- what needs memory
+
+pub frame_wanted : (v : Core) (i : seen.Image) (h : Header) (f : Frame) → v.image ≡ Some i → ((o : Opened) → RepresentsImage i o → StoresFrame (Some o) h f) → (r : Receiver) → Represents v r → StoresFrame r.image h f
+frame_wanted v i h f some wanted r s =
+    let w = shown_some i v.image r.image some s.image in
+    subst (λ x. StoresFrame x h f) (sym w.is) (wanted w.opened w.shown)
+
+pub setup_wanted : (v : Core) (f : Setup) (g : Geometry) (p : ℕ) → v.image ≡ None → OpensAt f v.window g p → (r : Receiver) → Represents v r → WouldOpen r.image r f
+setup_wanted v f g p none opens r s =
+    let width : v.window ≡ r.window = sym (ap (λ (x : Receiver). x.window) s.numbers) in
+    subst (λ x. WouldOpen x r f) (sym (shown_none v.image r.image none s.image)) (g, p, subst (λ w. OpensAt f w g p) width opens)
+
+pub ours : (v : Core) (x y : ℤ) → (x ≡ v.session) × (y ≡ v.stream) → (r : Receiver) → Represents v r → IsOurs r x y
+ours v x y same r s = (same.0 ∙ sym (ap (λ (z : Receiver). z.session) s.numbers), same.1 ∙ sym (ap (λ (z : Receiver). z.stream) s.numbers))

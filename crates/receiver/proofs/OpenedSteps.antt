@@ -1,5 +1,5 @@
 -- What the calls of an image promise, told of the images that it shows.
-use Rattle.std.proofs.Common.{◌≡◌, ℕ, ◌+◌, ◌^◌, ◌<◌, ◌≤◌, List, map, length, Bool, true, false, Result, Ok, Err, refl, sym, ap, ◌∙◌, subst, arith}
+use Rattle.std.proofs.Common.{◌≡◌, ℕ, ◌+◌, ◌^◌, ◌<◌, ◌≤◌, List, map, length, Bool, true, false, Some, Result, Ok, Err, refl, sym, ap, ◌∙◌, subst, arith}
 use Rattle.std.specs.Prelude.{slice_index, IfOk, OnErr, ℤ, pos, negsuc}
 use Rattle.std.specs.List.{AllByRecursion}
 use Rattle.std.specs.declared.alloc.AllocError.{AllocError}
@@ -20,10 +20,10 @@ use Rattle.rebuilder.specs.Seen.{IsFit, IsShown, accepts, least, with_consumer, 
 use Rattle.rebuilder.specs.Stored.{meant}
 use Rattle.rebuilder.specs.declared.answer.Insert.{Insert}
 use Rattle.rebuilder.specs.declared.answer.Insert.TheVariants as answers
-use Rattle.receiver.specs.Receiving.{Opened, answer_at, given_at}
+use Rattle.receiver.specs.Receiving.{Opened, StoresFrame, answer_at, given_at}
 use Rattle.receiver.specs.Representing.{HearsBeat, Inserts, IsAtEnd, ReadsPast, RepresentsImage, with_reader}
 use Rattle.rebuilder.specs.Kinds.{head_at}
-use Rattle.receiver.proofs.ShownSteps.{IsConsumer, beaten_shown, consumer_of, end_shown, inserted_shown, moved_shown}
+use Rattle.receiver.proofs.ShownSteps.{answer_shown, IsConsumer, beaten_shown, consumer_of, end_shown, inserted_shown, moved_shown}
 
 -- ---- a heartbeat
 
@@ -130,3 +130,9 @@ reads_past v w k end before head after l (s, a, at, is, payload) (t, b, same, pa
   where
     stored_of : (v : seen.Image) (o : Opened) → RepresentsImage v o → (x : Placed) → Among x v.held → Among x o.image.stored
     stored_of v o h x y = (among_held (least v.consumers) o.image.stored x ((h.frames x).0 y)).0
+
+-- a frame for which memory was refused would be stored
+pub result_wanted : (v : seen.Image) (h : Header) (z : ℤ) (f : Frame) (r : Result Insert AllocError) → z ≡ named_by v.geometry h
+    → OnErr r (Stored ≡ insert_answer_at v.geometry (map head_of v.held) (least v.consumers) v.window z (is_padding f) (frame_length f)) → OnErr r ((o : Opened) → RepresentsImage v o → StoresFrame (Some o) h f)
+result_wanted v h z f (Ok a) named is = tt
+result_wanted v h z f (Err e) named is = λ o s. is ∙ answer_shown v o s z (is_padding f) (frame_length f) ∙ ap (λ x. answer_at o x f) (named ∙ ap (λ g. named_by g h) s.geometry)

@@ -83,8 +83,8 @@ hears_keeps b r now bytes outs s (inl (ws, spells, met)) k = all_keep b (at_mome
 hears_keeps b r now bytes outs s (inr (fault, why, is, e)) k = keeps_same b (at_moment r now) s e (at_keeps b r now k)
 
 pub breaks_keeps : (b : Assembling) (r : Receiver) (now : ℕ) (bytes : List ℕ) (s : Receiver) → BreaksOff r now bytes s → IsSeated b r → IsSeated b s
-breaks_keeps b r now bytes s (inl e) k = keeps_same b (at_moment r now) s e (at_keeps b r now k)
-breaks_keeps b r now bytes s (inr (taken, left, outs, spells, met)) k = all_keep b (at_moment r now) taken outs s met (at_keeps b r now k)
+breaks_keeps b r now bytes s (inl e) k = keeps_same b r s e k
+breaks_keeps b r now bytes s (inr at) k = all_keep b (at_moment r now) at.taken at.outs s at.met (at_keeps b r now k)
 
 -- a step of the core that keeps its consumer is one of the subscriber
 pub core_step : (v w : Subscribing) (Step : Receiver → Receiver → Type 0) → ((r s : Receiver) → Step r s → IsSeated v.assembler r → IsSeated v.assembler s) → w.assembler ≡ v.assembler → core.Becomes v.core w.core Step → SubscriberBecomes v w Step

@@ -2,3 +2,4 @@ pub mod Polling
 pub mod Receiving
 pub mod Representing
 pub mod Subscribing
+pub mod Texts

@@ -1,5 +1,5 @@
 -- Which receivers the code of a receiver shows: those of its numbers whose image holds what is held from the least consumer on.
-use Rattle.std.specs.Prelude.{◌≡◌, ◌↔◌, ℕ, ◌+◌, ◌^◌, ◌<◌, ◌≤◌, ℤ, ⊤, List, ◌++◌, map, length, slice_get, slice_index, slice_set, Option, None, Some}
+use Rattle.std.specs.Prelude.{◌≡◌, ◌↔◌, ℕ, ◌+◌, ◌^◌, ◌<◌, ◌≤◌, ℤ, ⊤, List, ◌∷◌, ◌++◌, map, length, slice_get, slice_index, slice_set, Option, None, Some}
 use Rattle.std.specs.List.{AllByRecursion}
 use Rattle.std.specs.Option.{ForSome}
 use Rattle.block.specs.Bytes.{with_front}
@@ -17,7 +17,7 @@ use Rattle.rebuilder.specs.Seen as seen
 use Rattle.rebuilder.specs.Stored.{meant}
 use Rattle.rebuilder.specs.declared.answer.Insert.{Insert}
 use Rattle.receiver.specs.declared.receiver_core.LastSent.{LastSent}
-use Rattle.receiver.specs.Receiving.{MeetsAll, Opened, Receiver, answer_at, given_at}
+use Rattle.receiver.specs.Receiving.{MeetsAll, NeedsMemory, Opened, Receiver, answer_at, given_at}
 use Rattle.receiver.specs.declared.receiver_core.Outcome.{Outcome}
 
 -- what a contract sees of a receiver's core
@@ -89,9 +89,15 @@ pub record Represents (v : Core) (r : Receiver) : Type 0 where
 abbrev pub Becomes : Core → Core → (Receiver → Receiver → Type 0) → Type 0
 Becomes old new Step = (r : Receiver) → Represents old r → (s : Receiver) × Step r s × Represents new s
 
--- some of these frames were taken, the first ones
-abbrev pub MeetsFirst : List Wire → Receiver → Receiver → Type 0
-MeetsFirst frames r s = (taken : List Wire) × (left : List Wire) × (outs : List Outcome) × (frames ≡ taken ++ left) × MeetsAll r taken outs s
+-- some of these frames were taken, the first ones, and the next one needs memory
+pub record MeetsFirst (frames : List Wire) (r s : Receiver) : Type 0 where
+  pub taken : List Wire
+  pub next : Wire
+  pub left : List Wire
+  pub outs : List Outcome
+  pub parts : frames ≡ taken ++ next ∷ left
+  pub met : MeetsAll r taken outs s
+  pub needs : NeedsMemory s next
 
 -- ---- of an image alone
 

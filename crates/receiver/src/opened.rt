@@ -1,6 +1,6 @@
 //! What frames, heartbeats and a consumer's reading make of a receiver's image.
 
-ghost use Rattle.std.specs.Prelude.{◌≡◌, ◌≤◌, ◌<◌, ◌+◌, ◌^◌, ◌%◌, [], length, replicate, slice_index, IfNone, IfOk, IfSome, OnErr, OnSome};
+ghost use Rattle.std.specs.Prelude.{◌≡◌, ◌≤◌, ◌<◌, ◌+◌, ◌^◌, ◌%◌, [], length, replicate, slice_index, IfNone, IfOk, IfSome, OnErr, OnSome, Some};
 ghost use Rattle.position.specs.declared.head.FrameKind.TheVariants.{Data};
 ghost use Rattle.rebuilder.specs.Seen.{IsCount, IsJoin};
 ghost use Rattle.rebuilder.specs.Stored.{IsOfStream, IsUnit, stream_frame};
@@ -9,7 +9,7 @@ ghost use Rattle.theory.specs.Image.{IsWindow};
 ghost use Rattle.theory.specs.Position.{IsGeometry};
 ghost use Rattle.theory.specs.Wire.{IsFrame, IsHeader};
 ghost use Rattle.frames.specs.Frames.{header_of, wire};
-ghost use Rattle.receiver.specs.Receiving.{Opened};
+ghost use Rattle.receiver.specs.Receiving.{Opened, StoresFrame};
 ghost use Rattle.receiver.specs.Representing.{GoesForward, HearsBeat, Inserts, IsAtEnd, ReadsPast, RepresentsImage};
 
 use block::Block;
@@ -57,6 +57,7 @@ pub fn insert(image: &mut Image, header: &Header, frame: &Frame<'_>) -> Result<I
     ensures window { image.new.window ≡ image.old.window }
     ensures consumers { image.new.consumers ≡ image.old.consumers }
     ensures refused { OnErr result (image.new ≡ image.old) }
+    ensures wanted { OnErr result ((o : Opened) → RepresentsImage image.old o → StoresFrame (Some o) (header_of header.now) (stream_frame frame.now)) }
 {
     let position = position_in(&image.geometry(), header);
     image.insert(position, frame)

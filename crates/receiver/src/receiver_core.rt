@@ -1,6 +1,6 @@
 //! The receiver's core: datagrams and moments in, outcomes and replies out.
 
-ghost use Rattle.std.specs.Prelude.{◌≡◌, ◌≤◌, ◌<◌, ◌^◌, ◌+◌, ◌↔◌, ◌∷◌, [], ℕ, List, None, Some, Err, length, map, max, IfNone, IfOk, IfSome, OnErr, OnSome, IsTrue};
+ghost use Rattle.std.specs.Prelude.{◌≡◌, ◌≤◌, ◌<◌, ◌^◌, ◌+◌, ◌↔◌, ◌∷◌, [], ℕ, List, None, Some, Err, length, map, max, IfNone, IfOk, IfSome, OnErr, OnSome, IsTrue, vec_capacity};
 ghost use Rattle.std.specs.List.{AllByRecursion};
 ghost use Rattle.std.specs.Option.{option_copied, option_map, option_to_list};
 ghost use Rattle.position.specs.declared.head.FrameKind.TheVariants.{Data};
@@ -13,6 +13,7 @@ ghost use Rattle.frames.specs.Frames.{header_of, setup_of, status_of, wire};
 ghost use Rattle.rebuilder.specs.Seen.{IsCount};
 ghost use Rattle.rebuilder.specs.Stored.{IsOfStream, stream_frame};
 ghost use Rattle.receiver.specs.Representing.{last_status_of};
+ghost use Rattle.receiver.specs.Texts.{outcome_text};
 
 use crate::opened::{hear, insert, open, read_past};
 use block::Block;
@@ -47,6 +48,8 @@ pub enum Outcome {
 }
 
 impl fmt::Display for Outcome {
+    ghost output = { λ outcome. Some (outcome_text outcome) };
+
     fn fmt<W: fmt::Write>(&self, f: &mut fmt::Formatter<W>) -> fmt::Result {
         match *self {
             Outcome::Inserted(answer) => f.write_str(answer.code()),
@@ -54,7 +57,7 @@ impl fmt::Display for Outcome {
             Outcome::Opened(position) => write!(f, "opened {position}"),
             Outcome::Kept => f.write_str("kept"),
             Outcome::Asked => f.write_str("asked"),
-            Outcome::SetupRefused(error) => write!(f, "{error}"),
+            Outcome::SetupRefused(error) => f.write_str(error.code()),
             Outcome::Other => f.write_str("other"),
             Outcome::Refused(error) => f.write_str(error.code()),
         }
@@ -107,7 +110,7 @@ impl Model for ReceiverCore {
 }
 
 impl ReceiverCore {
-    ghost use Rattle.receiver.specs.Receiving.{BreaksOff, TakesDatagram, IfOurs, Meets, MeetsAll, MeetsFrame, MeetsHeartbeat, MeetsSetup, Receiver, listening, replied, replies, telling, ticked, told_after};
+    ghost use Rattle.receiver.specs.Receiving.{BreaksOff, TakesDatagram, IfOurs, IsOurs, NeedsMemory, StoresFrame, WouldOpen, Meets, MeetsAll, MeetsFrame, MeetsHeartbeat, MeetsSetup, Receiver, listening, replied, replies, telling, ticked, told_after};
     ghost use Rattle.receiver.specs.Representing.{Becomes, GoesForward, HasNoFrame, MeetsFirst, PassesFrame, Represents, place_in};
 
     /// A receiver without an image, for one to eight consumers. Its window is in bytes.
@@ -170,17 +173,25 @@ impl ReceiverCore {
         self.clock = self.clock.max(now);
     }
 
-    /// Takes a datagram, and says what became of each of its frames. At an error some first frames of it were taken;
-    /// it may be handed in again.
+    /// Takes a datagram, and says what became of each of its frames. Room for the outcomes is made first: where it is
+    /// refused, nothing has changed, and the moment isn't seen. Later an error comes only at a frame that is to be stored
+    /// or opens an image, after the frames before it were taken. In either case the datagram may be handed in again.
     pub fn on_datagram(&mut self, bytes: &[u8], now: u64) -> Result<Vec<Outcome>, AllocError>
         ensures heard { IfOk result (λ outs. Becomes self.old self.new (λ r s. TakesDatagram r now bytes.now outs.items s)) }
         ensures broken_off { OnErr result (Becomes self.old self.new (λ r s. BreaksOff r now bytes.now s)) }
         ensures consumers { self.new.consumers ≡ self.old.consumers }
     {
-        self.see(now);
         match check_datagram(bytes) {
-            Ok(count) => self.on_frames(bytes, count),
-            Err(error) => self.refuse(error),
+            Ok(count) => {
+                let outcomes = Vec::with_capacity(self.alloc, count)?;
+                self.see(now);
+                self.on_frames(bytes, count, outcomes)
+            }
+            Err(error) => {
+                let outcomes = self.refuse(error)?;
+                self.see(now);
+                Ok(outcomes)
+            }
         }
     }
 
@@ -193,23 +204,29 @@ impl ReceiverCore {
         Ok(outcomes)
     }
 
-    /// Takes the frames of a datagram that has so many.
-    fn on_frames(&mut self, datagram: &[u8], count: usize) -> Result<Vec<Outcome>, AllocError>
-        requires { (frames : List Wire) × SpellsDatagram frames datagram.now × (length frames ≡ count) }
+    /// Takes the frames of a datagram that has so many. Their outcomes go into a list that has room for them.
+    fn on_frames(
+        &mut self,
+        datagram: &[u8],
+        count: usize,
+        mut outcomes: Vec<Outcome>,
+    ) -> Result<Vec<Outcome>, AllocError>
+        requires frames { (frames : List Wire) × SpellsDatagram frames datagram.now × (length frames ≡ count) }
+        requires empty { outcomes.items ≡ [] }
+        requires room { count ≤ vec_capacity outcomes }
         ensures met { (frames : List Wire) → SpellsDatagram frames datagram.now → length frames ≡ count
             → IfOk result (λ outs. Becomes self.old self.new (λ r s. MeetsAll r frames outs.items s)) }
         ensures broken_off { (frames : List Wire) → SpellsDatagram frames datagram.now → length frames ≡ count
             → OnErr result (Becomes self.old self.new (MeetsFirst frames)) }
         ensures consumers { self.new.consumers ≡ self.old.consumers }
     {
-        let mut outcomes = Vec::new(self.alloc);
         let mut rest = datagram;
         for _turn in 0..count {
             let Ok((frame, size)) = read_frame(rest) else {
                 unreachable!()
             };
             let outcome = self.on_frame(&frame)?;
-            outcomes.push(outcome)?;
+            outcomes.push_reserved(outcome);
             rest = &rest[size..];
         }
         Ok(outcomes)
@@ -219,6 +236,7 @@ impl ReceiverCore {
         requires { IsFrame (wire frame.now) }
         ensures met { IfOk result (λ out. Becomes self.old self.new (λ r s. Meets r (wire frame.now) out s)) }
         ensures refused { OnErr result (self.new ≡ self.old) }
+        ensures wanted { OnErr result ((r : Receiver) → Represents self.old r → NeedsMemory r (wire frame.now)) }
         ensures consumers { self.new.consumers ≡ self.old.consumers }
     {
         match *frame {
@@ -244,6 +262,7 @@ impl ReceiverCore {
         ensures met { IfOk result (λ out. Becomes self.old self.new (λ r s.
             IfOurs r header.now.session header.now.stream (MeetsFrame r.image r (header_of header.now) (stream_frame frame.now) out s) out s)) }
         ensures refused { OnErr result (self.new ≡ self.old) }
+        ensures wanted { OnErr result ((r : Receiver) → Represents self.old r → IsOurs r header.now.session header.now.stream × StoresFrame r.image (header_of header.now) (stream_frame frame.now)) }
         ensures consumers { self.new.consumers ≡ self.old.consumers }
     {
         if self.is_mine(header.session, header.stream) {
@@ -260,6 +279,7 @@ impl ReceiverCore {
         requires stored { IsOfStream frame.now }
         ensures met { IfOk result (λ out. Becomes self.old self.new (λ r s. MeetsFrame r.image r (header_of header.now) (stream_frame frame.now) out s)) }
         ensures refused { OnErr result (self.new ≡ self.old) }
+        ensures wanted { OnErr result ((r : Receiver) → Represents self.old r → StoresFrame r.image (header_of header.now) (stream_frame frame.now)) }
         ensures consumers { self.new.consumers ≡ self.old.consumers }
     {
         match &mut self.image {
@@ -304,6 +324,7 @@ impl ReceiverCore {
         ensures met { IfOk result (λ out. Becomes self.old self.new (λ r s.
             IfOurs r setup.now.session setup.now.stream (MeetsSetup r.image r (setup_of setup.now) out s) out s)) }
         ensures refused { OnErr result (self.new ≡ self.old) }
+        ensures wanted { OnErr result ((r : Receiver) → Represents self.old r → IsOurs r setup.now.session setup.now.stream × WouldOpen r.image r (setup_of setup.now)) }
         ensures consumers { self.new.consumers ≡ self.old.consumers }
     {
         if self.is_mine(setup.session, setup.stream) {
@@ -316,6 +337,7 @@ impl ReceiverCore {
     fn set_up(&mut self, setup: &Setup) -> Result<Outcome, AllocError>
         ensures met { IfOk result (λ out. Becomes self.old self.new (λ r s. MeetsSetup r.image r (setup_of setup.now) out s)) }
         ensures refused { OnErr result (self.new ≡ self.old) }
+        ensures wanted { OnErr result ((r : Receiver) → Represents self.old r → WouldOpen r.image r (setup_of setup.now)) }
         ensures consumers { self.new.consumers ≡ self.old.consumers }
     {
         if self.image.is_some() {

@@ -2,3 +2,4 @@ pub mod Ascending
 pub mod Due
 pub mod Noted
 pub mod Near
+pub mod Ranges

@@ -4,7 +4,7 @@
 //! taken by `new`.
 #![tactic(auto)]
 
-ghost use Rattle.retransmit.specs.Laws.{NearAreEnough, NearStayNear};
+ghost use Rattle.retransmit.specs.Laws.{NearAreEnough, NearGiveRange, NearStayNear, RangeBeginsFirst};
 
 mod action;
 mod actions;
@@ -19,4 +19,11 @@ pub use handler::Retransmit;
 pub fn near_starts_suffice()
     ensures answers { NearAreEnough }
     ensures later { NearStayNear }
+    ensures range { NearGiveRange }
+{}
+
+/// A range that is due begins at the first frame start that was asked for and can be sent, and has all that was asked
+/// for from there on. There is none only where no such frame starts.
+pub fn range_begins_first()
+    ensures { RangeBeginsFirst }
 {}

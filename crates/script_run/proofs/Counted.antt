@@ -1,5 +1,5 @@
 -- After each line of a script, the shares of the log are those of all its entries.
-use Rattle.std.proofs.Common.{◌≡◌, ◌⊎◌, ℕ, zero, suc, ◌+◌, ◌-◌, ◌<◌, List, [], ◌∷◌, ◌++◌, length, true, false, cond, Option, Some, inl, inr, ⊎_elim, refl, sym, ap, ◌∙◌, subst, arith, append_assoc}
+use Rattle.std.proofs.Common.{◌≡◌, ◌⊎◌, ℕ, zero, suc, ◌+◌, ◌-◌, ◌<◌, List, [], ◌∷◌, ◌++◌, map, length, true, false, cond, Option, Some, inl, inr, ⊎_elim, refl, sym, ap, ◌∙◌, subst, arith, append_assoc}
 use Rattle.std.specs.Prelude.{◌%◌, ◌==◌, replicate, slice_get, slice_index, slice_index_or, slice_set}
 use Rattle.std.proofs.lemmas.Bool.{cases_Bool, eqb-true, eqb-false}
 use Rattle.std.proofs.lemmas.List.{get_or-replicate, get_or-set_other, get_or-set_same}
@@ -10,11 +10,9 @@ use Rattle.theory.specs.Tiling.{share_of}
 use Rattle.theory.proofs.Claims.{covers_framed}
 use Rattle.model.proofs.Shares.{share-push}
 use Rattle.theory.proofs.Tiling.{share-cons}
-use Rattle.term_buffer.specs.Kept.{claim_of, no_entry, padded, published, with_next, with_share}
-use Rattle.term_buffer.specs.declared.claimed.Claimed.{Claimed}
-use Rattle.log_buffer.specs.Log.{Log, added, room_in, with_claim, with_message, with_padding}
-use Rattle.publication.specs.Claims.{claim_at}
-use Rattle.publication.specs.Offers.{OfferCase, IsClosed, IsStale, IsUsedUp, IsLimited, Fits, Trips, after, after_claim, after_offer, answer, case_of, covered, turned_from}
+use Rattle.term_buffer.specs.Kept.{claim_of, padded, published, with_share}
+use Rattle.publication.specs.Offers.{OfferCase, IsClosed, IsStale, IsUsedUp, IsLimited, Fits, Trips}
+use Rattle.one_hand.specs.Stream.{Stream, aborted_at, after, after_claim, after_offer, answer, case_of, covered, room, turned, with_claim, with_frame, with_message, with_padding}
 use Rattle.script.specs.Meaning as commands
 use Rattle.script.specs.Meaning.{CommandContent}
 use Rattle.script_run.specs.Answers.{AbortsClaim, Answers, Claims, ClaimsRange, CommitsClaim, HasClaim, HasNoClaim, Limits, MayNotTake, OffersMessage, Offered, SenderHears, with_log}
@@ -23,11 +21,8 @@ use Rattle.script_run.specs.Output.{AlwaysCounted, AnswersAll, identity_of}
 use Rattle.script_run.specs.LineContents.{LineContent}
 use Rattle.script_run.specs.Published.{Played}
 use Rattle.script_run.specs.ScriptState.{ScriptState, entries_of, opened_state}
-use Rattle.model.proofs.Commits.{index_get}
 use Rattle.script_run.proofs.OfferRuns.{turned_same}
-use Rattle.script_run.proofs.Ranges.{one_cut}
 use Rattle.script_run.proofs.SenderRuns.{limit_entries}
-use Rattle.script_run.proofs.SoundLines.{kept_claim}
 
 -- ---- one entry more
 
@@ -58,22 +53,22 @@ counts_more shares past es e eight who h k low =
 
 -- ---- an offer or a claim
 
-turned_counts : (past : List Entry) (l : Log) (count : ℕ) → Counts l.shares (past ++ l.entries) → Counts (turned_from l count).shares (past ++ (turned_from l count).entries)
-turned_counts past l count h =
-    subst (λ xs. Counts xs (past ++ (turned_from l count).entries)) (sym (turned_same (λ k. k.shares) (λ k x y z. refl) l count))
-    (subst (λ es. Counts l.shares (past ++ es)) (sym (turned_same (λ k. k.entries) (λ k x y z. refl) l count)) h)
+turned_counts : (past : List Entry) (l : Stream) → Counts l.shares (past ++ l.entries) → Counts (turned l).shares (past ++ (turned l).entries)
+turned_counts past l h =
+    subst (λ xs. Counts xs (past ++ (turned l).entries)) (sym (turned_same (λ k. k.shares) (λ k x. refl) l))
+    (subst (λ es. Counts l.shares (past ++ es)) (sym (turned_same (λ k. k.entries) (λ k x. refl) l)) h)
 
 -- where it fits, the log is this one
-case_counts : (past : List Entry) (l : Log) (by size : ℕ) (c : OfferCase) (fitting : Log) → length l.shares ≡ 8 → by < 8 → Counts l.shares (past ++ l.entries) → Counts fitting.shares (past ++ fitting.entries) → Counts (after l by size c fitting).shares (past ++ (after l by size c fitting).entries)
-case_counts past l by size IsClosed fitting eight who h fits = h
-case_counts past l by size IsStale fitting eight who h fits = h
-case_counts past l by size IsLimited fitting eight who h fits = h
-case_counts past l by size IsUsedUp fitting eight who h fits = turned_counts past l l.active h
-case_counts past l by size Fits fitting eight who h fits = fits
-case_counts past l by size Trips fitting eight who h fits =
-    let n = room_in l (l.active % 3) in
+case_counts : (past : List Entry) (l : Stream) (by : ℕ) (c : OfferCase) (fitting : Stream) → length l.shares ≡ 8 → by < 8 → Counts l.shares (past ++ l.entries) → Counts fitting.shares (past ++ fitting.entries) → Counts (after l by c fitting).shares (past ++ (after l by c fitting).entries)
+case_counts past l by IsClosed fitting eight who h fits = h
+case_counts past l by IsStale fitting eight who h fits = h
+case_counts past l by IsLimited fitting eight who h fits = h
+case_counts past l by IsUsedUp fitting eight who h fits = turned_counts past l h
+case_counts past l by Fits fitting eight who h fits = fits
+case_counts past l by Trips fitting eight who h fits =
+    let n = room l in
     let e = padded l.tail by n in
-    turned_counts past (with_padding (added l by (l.active % 3) (covered l size)) by n) l.active
+    turned_counts past (with_padding l by n)
     (subst (λ n. Counts (with_share l.shares by n) (past ++ (l.entries ++ e ∷ []))) (omega arith) (counts_more l.shares past l.entries e eight who h))
 
 offered_state : (s t : ScriptState) (by : ℕ) (m : List ℕ) (lines : List LineContent) (c : OfferCase) → Offered s by m (answer s.log (length m) c) lines t → t ≡ with_log s (after_offer s.log by m)
@@ -90,71 +85,61 @@ offer_line s t by most size m lines (inr o) h =
     let l = s.log in
     let n = length m in
     let e = published l.identity.geometry l.tail by m in
-    let fitting = with_message (added l by (l.active % 3) (covered l n)) by m in
+    let fitting = with_message l by m in
     let fits : Counts fitting.shares (s.past ++ fitting.entries) =
     subst (λ x. Counts (with_share l.shares by x) (s.past ++ (l.entries ++ e ∷ []))) (covers_framed l.identity.geometry n o.0.legal.geometry) (counts_more l.shares s.past l.entries e o.0.legal.eight o.0.publisher h) in
-    subst IsCounted (sym (offered_state s t by m lines (case_of l n) o.2)) (case_counts s.past l by n (case_of l n) fitting o.0.legal.eight o.0.publisher h fits)
+    subst IsCounted (sym (offered_state s t by m lines (case_of l n) o.2)) (case_counts s.past l by (case_of l n) fitting o.0.legal.eight o.0.publisher h fits)
 
-claimed_state : (s t : ScriptState) (by size : ℕ) (lines : List LineContent) (c : OfferCase) → Claims s by size (answer s.log size c) lines t → (claims : List (Option Claimed)) × (t ≡ record (with_log s (after_claim s.log by size)) { claims = claims })
-claimed_state s t by size lines IsClosed o = (s.claims, o.1)
-claimed_state s t by size lines IsStale o = (s.claims, o.1)
-claimed_state s t by size lines IsUsedUp o = (s.claims, o.1)
-claimed_state s t by size lines IsLimited o = (s.claims, o.1)
-claimed_state s t by size lines Fits o = (slice_set s.claims by (Some (claim_at s.log by size)), o.1)
-claimed_state s t by size lines Trips o = (s.claims, o.1)
+claimed_state : (s t : ScriptState) (by size : ℕ) (lines : List LineContent) (c : OfferCase) → Claims s by size (answer s.log size c) lines t → t ≡ with_log s (after_claim s.log by size)
+claimed_state s t by size lines IsClosed o = o.1
+claimed_state s t by size lines IsStale o = o.1
+claimed_state s t by size lines IsUsedUp o = o.1
+claimed_state s t by size lines IsLimited o = o.1
+claimed_state s t by size lines Fits o = o.1
+claimed_state s t by size lines Trips o = o.1
 
 claim_line : (s t : ScriptState) (by most size : ℕ) (lines : List LineContent) → MayNotTake s by most size lines t ⊎ ClaimsRange s by size lines t → IsCounted s → IsCounted t
 claim_line s t by most size lines (inl bad) h = subst IsCounted (sym bad.1.1) h
 claim_line s t by most size lines (inr o) h =
     let l = s.log in
     let e = claim_of l.identity.geometry l.tail by false size in
-    let fitting = with_claim (added l by (l.active % 3) (covered l size)) by false size in
-    subst IsCounted (sym (claimed_state s t by size lines (case_of l size) o.2).1)
-    (case_counts s.past l by size (case_of l size) fitting o.0.legal.eight o.0.publisher h (counts_more l.shares s.past l.entries e o.0.legal.eight o.0.publisher h))
+    let fitting = with_claim l by size in
+    let fits : Counts fitting.shares (s.past ++ fitting.entries) =
+    subst (λ x. Counts (with_share l.shares by x) (s.past ++ (l.entries ++ e ∷ []))) (covers_framed l.identity.geometry size o.0.legal.geometry) (counts_more l.shares s.past l.entries e o.0.legal.eight o.0.publisher h) in
+    subst IsCounted (sym (claimed_state s t by size lines (case_of l size) o.2))
+    (case_counts s.past l by (case_of l size) fitting o.0.legal.eight o.0.publisher h fits)
 
 -- ---- a claim's commit or abort
 
--- an entry in the place of one with the same owner and length
-share_put : (k : ℕ) (es : List Entry) (n : ℕ) (old new : Entry) → slice_get es n ≡ Some old → new.owner ≡ old.owner → length_of new ≡ length_of old → share_of k (slice_set es n new) ≡ share_of k es
-share_put k [] n old new there owner long = refl
-share_put k (e ∷ es) zero old new there owner long =
-    let same : e ≡ old = cc in
-    share-cons k new es
-    ∙ ap (λ o. cond (o == k) (length_of new) 0 + share_of k es) (owner ∙ ap (λ x. x.owner) (sym same))
-    ∙ ap (λ x. cond (e.owner == k) x 0 + share_of k es) (long ∙ ap (λ x. length_of x) (sym same))
+-- entries that keep owner and length
+share_map : (k : ℕ) (g : Entry → Entry) (es : List Entry) → ((e : Entry) → (g e).owner ≡ e.owner) → ((e : Entry) → length_of (g e) ≡ length_of e) → share_of k (map g es) ≡ share_of k es
+share_map k g [] owner long = refl
+share_map k g (e ∷ es) owner long =
+    share-cons k (g e) (map g es)
+    ∙ ap (λ n. cond ((g e).owner == k) (length_of (g e)) 0 + n) (share_map k g es owner long)
+    ∙ ap (λ o. cond (o == k) (length_of (g e)) 0 + share_of k es) (owner e)
+    ∙ ap (λ n. cond (e.owner == k) n 0 + share_of k es) (long e)
     ∙ sym (share-cons k e es)
-share_put k (e ∷ es) (suc n) old new there owner long =
-    omega (arith, share-cons k e (slice_set es n new), share_put k es n old new there owner long, share-cons k e es)
 
 share_behind : (k : ℕ) (past es others : List Entry) → share_of k others ≡ share_of k es → share_of k (past ++ others) ≡ share_of k (past ++ es)
 share_behind k [] es others same = same
 share_behind k (e ∷ past) es others same = omega (arith, share-cons k e (past ++ others), share_behind k past es others same, share-cons k e (past ++ es))
 
-put_counts : (s : ScriptState) (by : ℕ) (c : Claimed) (e : Entry) → HasClaim s by c → e.owner ≡ c.owner → e.cuts ≡ (c.size + 32) ∷ [] → IsCounted s → Counts s.log.shares (s.past ++ slice_set s.log.entries (c.number - s.log.gone) e)
-put_counts s by c e m owner cuts h k low =
-    let n = c.number - s.log.gone in
-    h k low ∙ sym (share_behind k s.past s.log.entries (slice_set s.log.entries n e) (share_put k s.log.entries n (one_cut c.start c.owner c.size []) e (kept_claim s by c m) owner (ap span cuts)))
+map_counts : (s : ScriptState) (g : Entry → Entry) → ((e : Entry) → (g e).owner ≡ e.owner) → ((e : Entry) → length_of (g e) ≡ length_of e) → IsCounted s → Counts s.log.shares (s.past ++ map g s.log.entries)
+map_counts s g owner long h k low = h k low ∙ sym (share_behind k s.past s.log.entries (map g s.log.entries) (share_map k g s.log.entries owner long))
 
 commit_line : (s t : ScriptState) (by : ℕ) (lines : List LineContent) → HasNoClaim s by lines t ⊎ CommitsClaim s by lines t → IsCounted s → IsCounted t
 commit_line s t by lines (inl bad) h = subst IsCounted (sym bad.1.1) h
-commit_line s t by lines (inr m) h =
-    let c = m.0 in
-    let e = with_next (Data 192 (replicate c.size 97)) (slice_index_or s.log.entries (c.number - s.log.gone) no_entry) in
-    let was = index_get s.log.entries (c.number - s.log.gone) (one_cut c.start c.owner c.size []) no_entry (kept_claim s by c m.1) in
-    subst IsCounted (sym m.3) (put_counts s by c e m.1 (ap (λ x. x.owner) was) (ap (λ x. x.cuts) was) h)
+commit_line s t by lines (inr m) h = subst IsCounted (sym m.3) (map_counts s (with_frame m.0.start (Data 192 (replicate m.0.size 97))) (λ e. refl) (λ e. refl) h)
 
 abort_line : (s t : ScriptState) (by : ℕ) (lines : List LineContent) → HasNoClaim s by lines t ⊎ AbortsClaim s by lines t → IsCounted s → IsCounted t
 abort_line s t by lines (inl bad) h = subst IsCounted (sym bad.1.1) h
-abort_line s t by lines (inr m) h = subst IsCounted (sym m.3) (put_counts s by m.0 (padded m.0.start m.0.owner (m.0.size + 32)) m.1 refl refl h)
+abort_line s t by lines (inr m) h = subst IsCounted (sym m.3) (map_counts s (aborted_at m.0.start) (λ e. refl) (λ e. refl) h)
 
 -- ---- the other lines
 
 limit_line : (s t : ScriptState) (lines : List LineContent) → Limits s lines t → IsCounted s → IsCounted t
-limit_line s t lines m h =
-    let past = s.past ++ m.done.cleans.past in
-    let entries : past ++ m.log.entries ≡ entries_of s = limit_entries s.past s.log m.log m.done in
-    let shares : m.log.shares ≡ s.log.shares = ap (λ (l : Log). l.shares) m.done.limits ∙ ap (λ (l : Log). l.shares) m.done.cleans.new_is in
-    subst IsCounted (sym m.new_is) (subst (λ xs. Counts xs (past ++ m.log.entries)) (sym shares) (subst (Counts s.log.shares) (sym entries) h))
+limit_line s t lines m h = subst IsCounted (sym m.new_is) (subst (Counts s.log.shares) (sym (limit_entries s.past s.log m.legal)) h)
 
 hears_line : (s t : ScriptState) (now : ℕ) (news : NewsContent) (lines : List LineContent) → SenderHears s now news lines t → IsCounted s → IsCounted t
 hears_line s t now (Says f) lines m h = subst IsCounted (sym m.1) h

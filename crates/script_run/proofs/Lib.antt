@@ -1,4 +1,5 @@
 pub mod Counted
+mod GivenRows
 pub mod Honest
 pub mod Numbers
 pub mod OfferRuns

@@ -10,7 +10,7 @@ use Rattle.theory.specs.Wire.{Header, Wire, DATA, PAD, HEARTBEAT, NAK, SM, SETUP
 use Rattle.theory.specs.Placed.{Among, Data, Pad, Frame, Placed}
 use Rattle.theory.specs.Bytes.{Identity, header_at, wire_at}
 use Rattle.theory.specs.Consumer.{Consumer, consumer_at, least_of}
-use Rattle.theory.specs.Control.{MayBeGiven, named_by, setup_fields}
+use Rattle.theory.specs.Control.{named_by, setup_fields}
 use Rattle.theory.specs.Image.{Image, ImageEvent, ImageStep, Inserted, Heartbeat, IsLeast, IsWindow, after_heartbeat, after_insert, image_at, is_accepted}
 use Rattle.theory.specs.Insert as meaning
 use Rattle.theory.specs.Insert.{Insert, head_of, insert_answer}
@@ -24,6 +24,7 @@ use Rattle.receiver.specs.declared.receiver_core.Outcome.{Outcome}
 use Rattle.receiver.specs.declared.receiver_core.Outcome.TheVariants.{Asked}
 use Rattle.script_run.specs.Answers.{with_receiver}
 use Rattle.script_run.specs.Published.{joins_of}
+use Rattle.script_run.specs.Given.{IsHonestFrame, IsHonestSetup, MayBeGiven, WasNamed, WasSent}
 use Rattle.receiver.specs.Receiving.{IfOurs, Meets, MeetsFrame, MeetsHeartbeat, MeetsSetup, Opened, OpensImage, PassesBy, Receiver, answer_at, given_at}
 use Rattle.script_run.specs.ScriptState.{ScriptState, image_of, world_of}
 use Rattle.script_run.proofs.Runs.{Goes, goes_one, stays}
@@ -205,11 +206,6 @@ opens law s k r mid f p out joins given Whole a was legal low among named m =
       };
     }
 
-setup_met : NamesPlace → (s : ScriptState) (k : ℕ) (r mid : Receiver) (image : Option Opened) (f : Setup) (p : ℕ) (out : Outcome) (joins : List ℕ) (given : List (List ℕ)) (Whole : Type 0) → At s k r joins given Whole → r.image ≡ image → IsGeometry s.log.identity.geometry → p ≤ max_position s.log.identity.geometry → Among p s.sender.setups → f ≡ setup_fields s.log.identity p → MeetsSetup image r f out mid → Met s k mid out joins given Whole
-setup_met law s k r mid None f p out joins given Whole a was legal low among named (inl m) = opens law s k r mid f p out joins given Whole a was legal low among named m
-setup_met law s k r mid None f p out joins given Whole a was legal low among named (inr m) = met_nothing s k r mid out joins given Whole a (ap (λ x. x.consumers) m.3) (ap (λ x. x.image) m.3) (ap joins_of m.2)
-setup_met law s k r mid (Some o) f p out joins given Whole a was legal low among named m = met_nothing s k r mid out joins given Whole a (ap (λ x. x.consumers) m.1) (ap (λ x. x.image) m.1) (ap joins_of m.0)
-
 -- ---- a frame of a packet that was given out
 
 -- what holds of the sender
@@ -238,30 +234,42 @@ pad_is i p (Pad m) h n e =
     let b : n ≡ m = cc in
     (a, ap Pad b)
 
-setup_is : (f g : Setup) → SETUP f ≡ SETUP g → f ≡ g
-setup_is f g e = cc
+setup_met : NamesPlace → (s : ScriptState) (k : ℕ) (r mid : Receiver) (image : Option Opened) (f : Setup) (out : Outcome) (joins : List ℕ) (given : List (List ℕ)) (Whole : Type 0) → IsSending s → At s k r joins given Whole → r.image ≡ image → IsHonestSetup image r f (WasNamed s.log.identity s.sender.setups f) → MeetsSetup image r f out mid → Met s k mid out joins given Whole
+setup_met law s k r mid None f out joins given Whole x a was honest (inl m) =
+    let n = honest m.0 m.1 m.2 in
+    opens law s k r mid f n.0 out joins given Whole a was x.legal (all_at (λ y. y ≤ max_position s.log.identity.geometry) n.0 s.sender.setups x.setups n.1) n.1 n.2 m
+setup_met law s k r mid None f out joins given Whole x a was honest (inr m) = met_nothing s k r mid out joins given Whole a (ap (λ x. x.consumers) m.3) (ap (λ x. x.image) m.3) (ap joins_of m.2)
+setup_met law s k r mid (Some o) f out joins given Whole x a was honest m = met_nothing s k r mid out joins given Whole a (ap (λ x. x.consumers) m.1) (ap (λ x. x.image) m.1) (ap joins_of m.0)
 
-placed_met : Places → (s : ScriptState) (k : ℕ) (r mid : Receiver) (h : Header) (f : Frame) (t : Placed) (out : Outcome) (joins : List ℕ) (given : List (List ℕ)) (Whole : Type 0) → IsSending s → At s k r joins given Whole → Among t s.sender.sent → h ≡ header_at s.log.identity t.at → f ≡ t.frame → IfOurs r h.session h.stream (MeetsFrame r.image r h f out mid) out mid → Met s k mid out joins given Whole
-placed_met laws s k r mid h f t out joins given Whole x a among header same (inr m) = passes_by s k r mid out joins given Whole a m.1
-placed_met laws s k r mid h f t out joins given Whole x a among header same (inl m) =
-    frame_met s k r mid r.image h f t out joins given Whole a refl among same
-    (ap (λ y. named_by s.log.identity.geometry y) header ∙ laws.header s.log.identity t.at x.legal (all_at (λ y. y.at ≤ max_position s.log.identity.geometry) t s.sender.sent x.sent among))
+-- a frame that meets an image is the sender's
+record IsFrameOf (s : ScriptState) (h : Header) (f : Frame) : Type 0 where
+  placed : Placed
+  among : Among placed s.sender.sent
+  header : h ≡ header_at s.log.identity placed.at
+  same : f ≡ placed.frame
+
+honest_met : Places → (s : ScriptState) (k : ℕ) (r mid : Receiver) (image : Option Opened) (h : Header) (f : Frame) (Sent : Type 0) (out : Outcome) (joins : List ℕ) (given : List (List ℕ)) (Whole : Type 0) → IsSending s → At s k r joins given Whole → r.image ≡ image → IsHonestFrame image Sent → (Sent → IsFrameOf s h f) → MeetsFrame image r h f out mid → Met s k mid out joins given Whole
+honest_met laws s k r mid None h f Sent out joins given Whole x a was honest reads m = misses s k r mid h out joins given Whole a m
+honest_met laws s k r mid (Some o) h f Sent out joins given Whole x a was honest reads m =
+    let t = reads honest in
+    frame_met s k r mid (Some o) h f t.placed out joins given Whole a was t.among t.same
+    (ap (λ y. named_by s.log.identity.geometry y) t.header ∙ laws.header s.log.identity t.placed.at x.legal (all_at (λ y. y.at ≤ max_position s.log.identity.geometry) t.placed s.sender.sent x.sent t.among))
+    m
+
+pub meets : Places → (s : ScriptState) (k : ℕ) (r mid : Receiver) (w : Wire) (out : Outcome) (joins : List ℕ) (given : List (List ℕ)) (Whole : Type 0) → IsSending s → At s k r joins given Whole → MayBeGiven s.log.identity s.sender.sent s.sender.setups r w → Meets r w out mid → Met s k mid out joins given Whole
+meets laws s k r mid (DATA h flags payload) out joins given Whole x a honest (inl m) =
+    honest_met laws s k r mid r.image h (Data flags payload) (WasSent s.log.identity s.sender.sent (DATA h flags payload)) out joins given Whole x a refl (honest m.0)
+    (λ (sent : WasSent s.log.identity s.sender.sent (DATA h flags payload)). let parts = data_is s.log.identity sent.0.at sent.0.frame h flags payload sent.2 in record { placed = sent.0; among = sent.1; header = parts.0; same = parts.1 })
     m.1
-
-pub meets : Places → (s : ScriptState) (k : ℕ) (r mid : Receiver) (w : Wire) (out : Outcome) (joins : List ℕ) (given : List (List ℕ)) (Whole : Type 0) → IsSending s → At s k r joins given Whole → MayBeGiven s.log.identity s.sender.sent s.sender.setups w → Meets r w out mid → Met s k mid out joins given Whole
-meets laws s k r mid (DATA h flags payload) out joins given Whole x a honest m =
-    let t = honest.0 in
-    let parts = data_is s.log.identity t.at t.frame h flags payload honest.2 in
-    placed_met laws s k r mid h (Data flags payload) t out joins given Whole x a honest.1 parts.0 parts.1 m
-meets laws s k r mid (PAD h n) out joins given Whole x a honest m =
-    let t = honest.0 in
-    let parts = pad_is s.log.identity t.at t.frame h n honest.2 in
-    placed_met laws s k r mid h (Pad n) t out joins given Whole x a honest.1 parts.0 parts.1 m
+meets laws s k r mid (DATA h flags payload) out joins given Whole x a honest (inr m) = passes_by s k r mid out joins given Whole a m.1
+meets laws s k r mid (PAD h n) out joins given Whole x a honest (inl m) =
+    honest_met laws s k r mid r.image h (Pad n) (WasSent s.log.identity s.sender.sent (PAD h n)) out joins given Whole x a refl (honest m.0)
+    (λ (sent : WasSent s.log.identity s.sender.sent (PAD h n)). let parts = pad_is s.log.identity sent.0.at sent.0.frame h n sent.2 in record { placed = sent.0; among = sent.1; header = parts.0; same = parts.1 })
+    m.1
+meets laws s k r mid (PAD h n) out joins given Whole x a honest (inr m) = passes_by s k r mid out joins given Whole a m.1
 meets laws s k r mid (HEARTBEAT h) out joins given Whole x a honest (inl m) = beat_met s k r mid r.image h out joins given Whole a refl m.1
 meets laws s k r mid (HEARTBEAT h) out joins given Whole x a honest (inr m) = passes_by s k r mid out joins given Whole a m.1
 meets laws s k r mid (NAK f) out joins given Whole x a honest m = passes_by s k r mid out joins given Whole a m
 meets laws s k r mid (SM asks f) out joins given Whole x a honest m = passes_by s k r mid out joins given Whole a m
-meets laws s k r mid (SETUP f) out joins given Whole x a honest (inl m) =
-    let fields : f ≡ setup_fields s.log.identity honest.0 = setup_is f (setup_fields s.log.identity honest.0) honest.2 in
-    setup_met laws.place s k r mid r.image f honest.0 out joins given Whole a refl x.legal (all_at (λ y. y ≤ max_position s.log.identity.geometry) honest.0 s.sender.setups x.setups honest.1) honest.1 fields m.1
+meets laws s k r mid (SETUP f) out joins given Whole x a honest (inl m) = setup_met laws.place s k r mid r.image f out joins given Whole x a refl (honest m.0) m.1
 meets laws s k r mid (SETUP f) out joins given Whole x a honest (inr m) = passes_by s k r mid out joins given Whole a m.1

@@ -1,18 +1,19 @@
 -- A sender's cycle, what it is told, and its keeper's calls, as events.
-use Rattle.std.proofs.Common.{◌≡◌, ℕ, zero, suc, ◌+◌, ◌-◌, ◌*◌, ◌/◌, ◌%◌, ◌≤◌, List, [], ◌∷◌, ◌++◌, map, length, drop, Bool, true, false, cond, Option, None, Some, refl, sym, ap, ◌∙◌, subst, arith, append_assoc}
-use Rattle.std.specs.Prelude.{max, min, not, ◌&&◌}
+use Rattle.std.proofs.Common.{◌≡◌, ℕ, zero, suc, ◌+◌, ◌-◌, ◌*◌, ◌/◌, ◌%◌, ◌<◌, ◌≤◌, ⊎_elim, List, [], ◌∷◌, ◌++◌, map, length, drop, Bool, true, false, cond, Option, None, Some, refl, sym, ap, ◌∙◌, subst, arith, append_assoc}
+use Rattle.std.specs.Prelude.{max, min, nat_le, not, ◌&&◌}
 use Rattle.std.specs.List.{AllByRecursion, fold}
-use Rattle.std.proofs.lemmas.Bool.{and_parts, not-true}
+use Rattle.std.proofs.lemmas.Bool.{and_parts, cases_lt, cond-false, cond-true, le-leb, lt-leb, not-true}
 use Rattle.std.proofs.lemmas.Grind.{flat_map-append}
 use Rattle.theory.specs.Placed.{Among, Placed, end_of, place_all}
 use Rattle.theory.specs.Consumer.{Consumer}
-use Rattle.theory.specs.Entry.{Entry, committed}
+use Rattle.theory.specs.Entry.{Entry, committed, entry_end}
+use Rattle.theory.specs.Tiling.{Tiles}
 use Rattle.theory.specs.FlowLimit.{flow_limit}
 use Rattle.theory.specs.Datagrams.{sent_end}
 use Rattle.theory.specs.Position.{position_of}
 use Rattle.theory.specs.Numbered.{Each}
 use Rattle.theory.specs.Wire.{Status}
-use Rattle.model.specs.Log as stream
+use Rattle.model.specs.Log as model
 use Rattle.model.specs.Log.{Clean, Close, Connect, Raise}
 use Rattle.model.specs.Log.{IsLowest}
 use Rattle.model.specs.Sender.{Sender, SenderEvent, SenderStep}
@@ -23,11 +24,11 @@ use Rattle.theory.proofs.Leasts.{fold_each, fold_keeps}
 use Rattle.theory.proofs.Lists.{among_right}
 use Rattle.theory.proofs.Places.{power_unit}
 use Rattle.log_buffer.specs.Limits.{least}
-use Rattle.log_buffer.specs.Log.{IsLog, Log, clean_end}
-use Rattle.rotation.specs.Limited.{CleansAndLimits, raised}
+use Rattle.one_hand.specs.Legal.{IsStream}
+use Rattle.one_hand.specs.Stream.{Stream, clean_end, cleaned_and_limited, forgotten_below, kept_from, raised}
 use Rattle.script_run.specs.Answers.{IsCycle, after_cycle, heard, limit_of, named, sent_on, with_log, woken}
 use Rattle.sender.specs.Cycling.{Cycle, IsNextSent}
-use Rattle.script_run.specs.ScriptState.{ScriptState, stream_of, world_of}
+use Rattle.script_run.specs.ScriptState.{ScriptState, model_log, world_of}
 use Rattle.script_run.proofs.Runs.{Goes, goes_one, goes_on, stays}
 
 -- the world with another sender
@@ -152,18 +153,41 @@ words from to low a b = omega (arith, low, a, b)
 end_words : (start at term : ℕ) → start % 32 ≡ 0 → at % 32 ≡ 0 → term % 32 ≡ 0 → max start (at - term) % 8 ≡ 0
 end_words start at term a b c = omega (arith, a, b, c)
 
-same_limited : (l : stream.Log) (a b p q : ℕ) (xs ys : List Entry) → a ≡ b → p ≡ q → xs ≡ ys → record l { cleaned = a; limit = p; entries = xs } ≡ record l { cleaned = b; limit = q; entries = ys }
+same_limited : (l : model.Log) (a b p q : ℕ) (xs ys : List Entry) → a ≡ b → p ≡ q → xs ≡ ys → record l { cleaned = a; limit = p; entries = xs } ≡ record l { cleaned = b; limit = q; entries = ys }
 same_limited l a b p q xs ys e f g =
     ap (λ z. record l { cleaned = z; limit = p; entries = xs }) e
     ∙ ap (λ z. record l { cleaned = b; limit = z; entries = xs }) f
     ∙ ap (λ z. record l { cleaned = b; limit = q; entries = z }) g
 
+all_above_start : (term p to tail : ℕ) (es : List Entry) → to ≤ p → Tiles term p tail es → (forgotten_below to es ≡ []) × (kept_from to es ≡ es)
+all_above_start term p to tail [] low t = (refl, refl)
+all_above_start term p to tail (e ∷ es) low t =
+    let here : nat_le to e.start ≡ true = le-leb to e.start (omega (arith, low, t.0)) in
+    let rest = all_above_start term (entry_end e) to tail es (omega (arith, low, t.0)) t.2 in (
+      cond-false (not (nat_le to e.start)) (e ∷ forgotten_below to es) (forgotten_below to es) (ap not here) ∙ rest.0,
+      cond-true (nat_le to e.start) (e ∷ kept_from to es) (kept_from to es) here ∙ ap (λ xs. e ∷ xs) rest.1,
+    )
+
+-- what a cleaning forgets lies before what it keeps
+parted : (term p to tail : ℕ) (es : List Entry) → Tiles term p tail es → forgotten_below to es ++ kept_from to es ≡ es
+parted term p to tail [] t = refl
+parted term p to tail (e ∷ es) t =
+    ⊎_elim
+    (λ (less : e.start < to).
+    let no : nat_le to e.start ≡ false = lt-leb to e.start less in
+    ap (λ xs. xs ++ kept_from to (e ∷ es)) (cond-true (not (nat_le to e.start)) (e ∷ forgotten_below to es) (forgotten_below to es) (ap not no))
+    ∙ ap (λ xs. e ∷ (forgotten_below to es ++ xs)) (cond-false (nat_le to e.start) (e ∷ kept_from to es) (kept_from to es) no)
+    ∙ ap (λ xs. e ∷ xs) (parted term (entry_end e) to tail es t.2))
+    (λ (at_least : to ≤ e.start).
+    let all = all_above_start term p to tail (e ∷ es) (omega (arith, at_least, t.0)) t in
+    ap (λ xs. xs ++ kept_from to (e ∷ es)) all.0 ∙ all.1)
+    (cases_lt e.start to)
+
 -- the entries that it forgets are remembered
-pub limit_entries : (past : List Entry) (old new : Log) → (h : CleansAndLimits old new) → (past ++ h.cleans.past) ++ new.entries ≡ past ++ old.entries
-limit_entries past old new h =
-    append_assoc past h.cleans.past new.entries
-    ∙ ap (λ (es : List Entry). past ++ (h.cleans.past ++ es)) (ap (λ (m : Log). m.entries) h.limits)
-    ∙ ap (λ (es : List Entry). past ++ es) (sym h.cleans.parts)
+pub limit_entries : (past : List Entry) (l : Stream) → IsStream l → (past ++ forgotten_below (clean_end l) l.entries) ++ (cleaned_and_limited l).entries ≡ past ++ l.entries
+limit_entries past l h =
+    append_assoc past (forgotten_below (clean_end l) l.entries) (kept_from (clean_end l) l.entries)
+    ∙ ap (λ (es : List Entry). past ++ es) (parted l.identity.geometry.term_length h.first (clean_end l) l.tail l.entries h.tiles)
 
 -- what holds of each consumer holds of the least
 least_holds : (P : ℕ → Type 0) (at : ℕ) (ps qs : List ℕ) → ps ≡ at ∷ qs → AllByRecursion P ps → P (least ps)
@@ -172,26 +196,22 @@ least_holds P at ps qs are all =
     subst (λ xs. P (least xs)) (sym are) (fold_keeps P at (at ∷ qs) each.0 each)
 
 -- a log of which the sender and the readers are the consumers, after its keeper's call
-pub limits : (s : ScriptState) (new : Log) → IsLog s.log → s.log.consumers ≡ s.sender.at ∷ map (λ c. c.at) s.readers → (h : CleansAndLimits s.log new) → Goes (world_of s) (record (world_of s) { log = stream_of (s.past ++ h.cleans.past) s.readers new })
-limits s new legal are h =
+pub limits : (s : ScriptState) → IsStream s.log → s.log.consumers ≡ s.sender.at ∷ map (λ c. c.at) s.readers → Goes (world_of s) (record (world_of s) { log = model_log (s.past ++ forgotten_below (clean_end s.log) s.log.entries) s.readers (cleaned_and_limited s.log) })
+limits s legal are =
     let w = world_of s in
     let t = s.log.identity.geometry.term_length in
     let m = least s.log.consumers in
-    let to = clean_end s.log m in
+    let to = clean_end s.log in
+    let past = s.past ++ forgotten_below to s.log.entries in
     let positions = map (λ (c : Consumer). c.at) s.readers in
     let unit : m % 32 ≡ 0 = least_holds (λ p. p % 32 ≡ 0) s.sender.at s.log.consumers positions are legal.consumer_units in
-    let readable : s.log.cleaned ≤ clean_end s.log m = least_holds (λ p. s.log.cleaned ≤ clean_end s.log p) s.sender.at s.log.consumers positions are legal.readable in
+    let readable : s.log.cleaned ≤ to = least_holds (λ p. s.log.cleaned ≤ max s.log.start (p - t)) s.sender.at s.log.consumers positions are legal.readable in
     let lowest : Lowest w m = all_above s are in
     let term : t % 32 ≡ 0 = power_unit t legal.geometry.term.power legal.geometry.term.least in
     let is : to ≡ s.log.cleaned + 8 * ((to - s.log.cleaned) / 8) = words s.log.cleaned to readable legal.word (end_words s.log.start m t legal.unit unit term) in
     let cleaned = cleaned_to w to in
     let may = s.log.connected && not s.log.closed in
-    let after = record s.log { cleaned = to; limit = raised s.log; gone = s.log.gone + length h.cleans.past; first = h.middle.first; entries = h.middle.entries; drafts = drop (length h.cleans.past) s.log.drafts } in
-    let new_is : new ≡ after = h.limits ∙ ap (λ (k : Log). record k { limit = raised s.log }) h.cleans.new_is in
-    let kept : new.entries ≡ h.middle.entries = ap (λ (k : Log). k.entries) h.limits in
-    let entries : (s.past ++ h.cleans.past) ++ h.middle.entries ≡ s.past ++ s.log.entries = ap (λ (es : List Entry). (s.past ++ h.cleans.past) ++ es) (sym kept) ∙ limit_entries s.past s.log new h in
-    let log : stream_of (s.past ++ h.cleans.past) s.readers new ≡ record w.log { cleaned = to; limit = raised_in cleaned m may } =
-    ap (stream_of (s.past ++ h.cleans.past) s.readers) new_is
-    ∙ same_limited w.log to to (raised s.log) (raised_in cleaned m may) ((s.past ++ h.cleans.past) ++ h.middle.entries) (s.past ++ s.log.entries) refl refl entries in
+    let log : model_log past s.readers (cleaned_and_limited s.log) ≡ record w.log { cleaned = to; limit = raised_in cleaned m may } =
+    same_limited w.log to to (raised s.log) (raised_in cleaned m may) (past ++ kept_from to s.log.entries) (s.past ++ s.log.entries) refl refl (limit_entries s.past s.log legal) in
     subst (λ l. Goes w (record w { log = l })) (sym log)
     (goes_on w cleaned (limited_to cleaned (raised_in cleaned m may)) (cleans_on ((to - s.log.cleaned) / 8) w m to lowest is (omega arith)) (raises_on cleaned m may (record { others_above = lowest.others_above; readers_above = lowest.readers_above }) unit (omega arith) refl))

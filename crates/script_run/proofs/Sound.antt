@@ -87,6 +87,7 @@ opened i start readers b = record {
   tail = refl;
   entries = refl;
   armed = refl;
+  retired = refl;
   limit = refl;
   connected = refl;
   closed = refl;

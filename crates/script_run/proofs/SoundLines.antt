@@ -1,31 +1,31 @@
 -- Each line of a script leaves a sound state.
-use Rattle.std.proofs.Common.{◌≡◌, ◌⊎◌, ℕ, ◌+◌, ◌-◌, ◌*◌, ◌/◌, ◌%◌, ◌^◌, ◌<◌, ◌≤◌, List, [], ◌∷◌, ◌++◌, map, length, Bool, true, false, Option, None, Some, inl, inr, ⊎_elim, refl, sym, ap, ◌∙◌, subst, arith, append-nil, append_assoc}
+use Rattle.std.proofs.Common.{◌≡◌, ◌⊎◌, ℕ, zero, suc, ◌+◌, ◌-◌, ◌*◌, ◌/◌, ◌%◌, ◌^◌, ◌<◌, ◌≤◌, List, [], ◌∷◌, ◌++◌, map, length, Bool, true, false, Option, None, Some, inl, inr, ⊎_elim, refl, sym, ap, ◌∙◌, subst, arith, append-nil, append_assoc}
 use Rattle.std.specs.Option.{option_to_list}
 use Rattle.std.specs.List.{AllByRecursion, flat_map, fold}
 use Rattle.std.proofs.lemmas.Bool.{cases_Bool, cond-true, cond-false, le-leb}
-use Rattle.std.proofs.lemmas.List.{length-replicate}
-use Rattle.std.specs.Prelude.{nat_le, pos, replicate, slice_get, slice_set, FitsSigned}
+use Rattle.std.proofs.lemmas.List.{length-replicate, map-append}
+use Rattle.std.specs.Prelude.{nat_le, pos, replicate, slice_get, slice_index_or, slice_set, FitsSigned}
 use Rattle.std.specs.Int.{w32, cast_unsigned}
 use mir.ValLaws.{to_z-Fits}
 use Rattle.std.proofs.Math.Nat.{mod-lt}
 use Rattle.theory.specs.Position.{Geometry, IsGeometry, Place, aligned, cuts_of, max_message, max_payload, max_position, place_of, rest_length, span}
 use Rattle.theory.specs.Placed.{Among, Data, Frame, Placed}
-use Rattle.theory.specs.Entry.{Entry, committed}
+use Rattle.theory.specs.Entry.{Entry, IsEntry, committed, entry_end}
+use Rattle.theory.specs.Tiling.{Tiles}
+use Rattle.theory.proofs.Claims.{covers_framed}
 use Rattle.theory.specs.Bytes.{Identity, IsIdentity, wire_at}
-use Rattle.theory.specs.Control.{MayBeGiven, setup_at}
-use Rattle.model.specs.Log as stream
+use Rattle.theory.specs.Control.{setup_at, setup_fields}
+use Rattle.model.specs.Log as model
 use Rattle.model.specs.Log.{Abort, Commit}
 use Rattle.model.specs.Log.{aborted_at, with_frame}
 use Rattle.model.specs.Sender.{Sender}
 use Rattle.theory.specs.Wire.{IsFrame, Wire}
 use Rattle.theory.proofs.Cuts.{short_cuts}
 use Rattle.theory.proofs.Lists.{all_append, all_replicate, among_right}
-use Rattle.term_buffer.specs.Kept.{claim_of, cuts_for, no_entry, padded, published, with_next}
-use Rattle.term_buffer.specs.declared.claimed.Claimed.{Claimed}
-use Rattle.log_buffer.specs.Log as logs
-use Rattle.log_buffer.specs.Log.{IsLog, Log, added, room_in, with_abort, with_commit, with_message, with_padding}
-use Rattle.publication.specs.Claims.{claim_at}
-use Rattle.publication.specs.Offers.{OfferCase, IsClosed, IsStale, IsUsedUp, IsLimited, Fits, Trips, after, after_claim, after_offer, answer, case_of, covered, turned_from}
+use Rattle.term_buffer.specs.Kept.{claim_of, padded, published}
+use Rattle.publication.specs.Offers.{OfferCase, IsClosed, IsStale, IsUsedUp, IsLimited, Fits, Trips}
+use Rattle.one_hand.specs.Legal.{IsOpenClaim, IsStream}
+use Rattle.one_hand.specs.Stream.{OpenClaim, Stream, after, after_claim, after_offer, answer, case_of, claim_by, clean_end, cleaned_and_limited, covered, forgotten_below, room, turned, with_abort, with_claim, with_commit, with_message, with_padding}
 use Rattle.script.specs.Meaning as commands
 use Rattle.script.specs.Meaning.{CommandContent}
 use Rattle.script_run.specs.Answers.{AbortsClaim, AreFrames, Claims, ClaimsRange, CommitsClaim, HasClaim, HasNoClaim, IsCycle, IsMissing, Limits, MayClaimRange, MayNotTake, MayOffer, Offered, OffersMessage, Replied, SenderHears, Sends, after_cycle, clock_at, cycled, given_out, heard, limit_of, named, sent_on, wires_of, with_log, with_sender, woken}
@@ -35,9 +35,10 @@ use Rattle.script_run.specs.LineContents as content
 use Rattle.script_run.specs.LineContents.{LineContent, Bad, Position}
 use Rattle.script_run.specs.Published as visible
 use Rattle.script_run.specs.Published.{Played, Range, claims_in, filled_at, filled_by, offered_at, offers_in, ranges_after}
-use Rattle.script_run.specs.ScriptState.{ScriptState, entries_of, opened_state, stream_of, world_of}
-use Rattle.model.proofs.Commits.{among_get, index_get, put_maps}
-use Rattle.script_run.proofs.Honest.{IsHonest, cycle_given, honest_more, honest_wires, named_more, sent_more, setups_on}
+use Rattle.script_run.specs.ScriptState.{ScriptState, entries_of, model_log, opened_state, world_of}
+use Rattle.model.proofs.Commits.{IsOnlyAt}
+use Rattle.model.proofs.LogSteps.{entry_from}
+use Rattle.script_run.proofs.Honest.{IsGivenOut, IsHonest, cycle_given, honest_more, honest_wires, named_more, sent_more, setups_on}
 use Rattle.script_run.proofs.OfferRuns.{LogHolds, at_log, claims, fits_one, frame_put, message_short, offers, open_entry, trips, trips_one, turned_same}
 use Rattle.script_run.proofs.Ranges.{Matches, SameRange, abort_only, abort_put, claimed_at, frame_only, matches_abort, matches_commit, matches_more, matches_padding, one_cut, same_claimed, same_offered}
 use Rattle.script_run.proofs.Runs.{Goes, goes_on, stays}
@@ -69,16 +70,16 @@ same_state i start readers played command lines s t quiet none same h =
     })
 
 -- the log is another one, which may have forgotten more
-abbrev with_stream : ScriptState → List Entry → Log → ScriptState
+abbrev with_stream : ScriptState → List Entry → Stream → ScriptState
 with_stream s past l = record s { log = l; past = past }
 
-record IsLogNext (s : ScriptState) (past : List Entry) (l : Log) : Type 0 where
+record IsLogNext (s : ScriptState) (past : List Entry) (l : Stream) : Type 0 where
   goes : Goes (world_of s) (world_of (with_stream s past l))
   identity : l.identity ≡ s.log.identity
   start : l.start ≡ s.log.start
   consumers : l.consumers ≡ s.log.consumers
 
-log_line : (i : Identity) (start readers : ℕ) (played : List Played) (command : CommandContent) (lines : List LineContent) (s : ScriptState) (past : List Entry) (l : Log) → IsQuiet command lines → IsLogNext s past l → Matches (past ++ l.entries) (visible.published i.geometry (and_line played command lines)) → IsSound i start readers played s → IsSound i start readers (and_line played command lines) (with_stream s past l)
+log_line : (i : Identity) (start readers : ℕ) (played : List Played) (command : CommandContent) (lines : List LineContent) (s : ScriptState) (past : List Entry) (l : Stream) → IsQuiet command lines → IsLogNext s past l → Matches (past ++ l.entries) (visible.published i.geometry (and_line played command lines)) → IsSound i start readers played s → IsSound i start readers (and_line played command lines) (with_stream s past l)
 log_line i start readers played command lines s past l quiet n all h =
     let t = with_stream s past l in
     record {
@@ -110,58 +111,55 @@ close_line i start readers played lines s h =
 
 pub limit_line : (i : Identity) (start readers : ℕ) (played : List Played) (lines : List LineContent) (s t : ScriptState) → IsSound i start readers played s → Limits s lines t → IsSound i start readers (and_line played commands.Limit lines) t
 limit_line i start readers played lines s t h m =
-    let past = s.past ++ m.done.cleans.past in
-    let entries : past ++ m.log.entries ≡ entries_of s = limit_entries s.past s.log m.log m.done in
+    let past = s.past ++ forgotten_below (clean_end s.log) s.log.entries in
+    let l = cleaned_and_limited s.log in
+    let entries : past ++ l.entries ≡ entries_of s = limit_entries s.past s.log m.legal in
     subst (λ x. IsSound i start readers (and_line played commands.Limit lines) x) (sym m.new_is)
-    (log_line i start readers played commands.Limit lines s past m.log (record { joins = λ k. refl; polls = λ k. refl; reads = λ k. refl }) (record {
-      goes = limits s m.log m.legal h.consumers m.done;
-      identity = ap (λ (l : Log). l.identity) m.done.limits ∙ ap (λ (l : Log). l.identity) m.done.cleans.new_is;
-      start = ap (λ (l : Log). l.start) m.done.limits ∙ ap (λ (l : Log). l.start) m.done.cleans.new_is;
-      consumers = ap (λ (l : Log). l.consumers) m.done.limits ∙ ap (λ (l : Log). l.consumers) m.done.cleans.new_is;
-    }) (matches_stay i.geometry played commands.Limit lines (past ++ m.log.entries) (λ g ranges. refl) (subst (λ es. Matches es (visible.published i.geometry played)) (sym entries) h.matches)) h)
+    (log_line i start readers played commands.Limit lines s past l (record { joins = λ k. refl; polls = λ k. refl; reads = λ k. refl }) (record { goes = limits s m.legal h.consumers; identity = refl; start = refl; consumers = refl })
+    (matches_stay i.geometry played commands.Limit lines (past ++ l.entries) (λ g ranges. refl) (subst (λ es. Matches es (visible.published i.geometry played)) (sym entries) h.matches)) h)
 
 -- ---- an offer or a claim
 
 -- the log turns to its next term, or not
-turned_next : (s : ScriptState) (l : Log) (count : ℕ) → IsLogNext s s.past l → IsLogNext s s.past (turned_from l count)
-turned_next s l count n = record {
-  goes = subst (λ x. Goes (world_of s) (record (world_of s) { log = x })) (sym (turned_same (stream_of s.past s.readers) (λ k x y z. refl) l count)) n.goes;
-  identity = turned_same (λ k. k.identity) (λ k x y z. refl) l count ∙ n.identity;
-  start = turned_same (λ k. k.start) (λ k x y z. refl) l count ∙ n.start;
-  consumers = turned_same (λ k. k.consumers) (λ k x y z. refl) l count ∙ n.consumers;
+turned_next : (s : ScriptState) (l : Stream) → IsLogNext s s.past l → IsLogNext s s.past (turned l)
+turned_next s l n = record {
+  goes = subst (λ x. Goes (world_of s) (record (world_of s) { log = x })) (sym (turned_same (model_log s.past s.readers) (λ k x. refl) l)) n.goes;
+  identity = turned_same (λ k. k.identity) (λ k x. refl) l ∙ n.identity;
+  start = turned_same (λ k. k.start) (λ k x. refl) l ∙ n.start;
+  consumers = turned_same (λ k. k.consumers) (λ k x. refl) l ∙ n.consumers;
 }
 
-turned_entries : (l : Log) (count : ℕ) → (turned_from l count).entries ≡ l.entries
-turned_entries l count = turned_same (λ k. k.entries) (λ k x y z. refl) l count
+turned_entries : (l : Stream) → (turned l).entries ≡ l.entries
+turned_entries l = turned_same (λ k. k.entries) (λ k x. refl) l
 
 -- what the line says of a course, where the log becomes this one if it fits
-record FitsSo (i : Identity) (played : List Played) (s : ScriptState) (fitting : Log) (command : CommandContent) (lines : List LineContent) : Type 0 where
+record FitsSo (i : Identity) (played : List Played) (s : ScriptState) (fitting : Stream) (command : CommandContent) (lines : List LineContent) : Type 0 where
   next : IsLogNext s s.past fitting
   matches : Matches (s.past ++ fitting.entries) (visible.published i.geometry (and_line played command lines))
 
-abbrev Said : Identity → List Played → ScriptState → Log → CommandContent → List LineContent → OfferCase → Type 0
+abbrev Said : Identity → List Played → ScriptState → Stream → CommandContent → List LineContent → OfferCase → Type 0
 Said i played s fitting command lines Fits = FitsSo i played s fitting command lines
 Said i played s fitting command lines other = SaysNoRange command lines
 
 -- who adds, and how much
-record MayAdd (l : Log) (by size : ℕ) : Type 0 where
-  legal : IsLog l
+record MayAdd (l : Stream) (by size : ℕ) : Type 0 where
+  legal : IsStream l
   publisher : by < 8
   short : size ≤ max_message l.identity.geometry
 
-taken_line : Laws → (i : Identity) (start readers : ℕ) (played : List Played) (s : ScriptState) (by size : ℕ) (fitting : Log) (command : CommandContent) (lines : List LineContent) (c : OfferCase) → Begins i start → IsQuiet command lines → IsSound i start readers played s → MayAdd s.log by size → case_of s.log size ≡ c → Said i played s fitting command lines c → IsSound i start readers (and_line played command lines) (with_log s (after s.log by size c fitting))
+taken_line : Laws → (i : Identity) (start readers : ℕ) (played : List Played) (s : ScriptState) (by size : ℕ) (fitting : Stream) (command : CommandContent) (lines : List LineContent) (c : OfferCase) → Begins i start → IsQuiet command lines → IsSound i start readers played s → MayAdd s.log by size → case_of s.log size ≡ c → Said i played s fitting command lines c → IsSound i start readers (and_line played command lines) (with_log s (after s.log by c fitting))
 taken_line laws i start readers played s by size fitting command lines IsClosed b quiet h may e none = same_state i start readers played command lines s s quiet none refl h
 taken_line laws i start readers played s by size fitting command lines IsStale b quiet h may e none = same_state i start readers played command lines s s quiet none refl h
 taken_line laws i start readers played s by size fitting command lines IsLimited b quiet h may e none = same_state i start readers played command lines s s quiet none refl h
 taken_line laws i start readers played s by size fitting command lines IsUsedUp b quiet h may e none =
-    let l = turned_from s.log s.log.active in
-    let same : entries_of (with_log s l) ≡ entries_of s = ap (λ es. s.past ++ es) (turned_entries s.log s.log.active) in
-    log_line i start readers played command lines s s.past l quiet (turned_next s s.log s.log.active (record { goes = stays (world_of s) (world_of s) refl; identity = refl; start = refl; consumers = refl }))
+    let l = turned s.log in
+    let same : entries_of (with_log s l) ≡ entries_of s = ap (λ es. s.past ++ es) (turned_entries s.log) in
+    log_line i start readers played command lines s s.past l quiet (turned_next s s.log (record { goes = stays (world_of s) (world_of s) refl; identity = refl; start = refl; consumers = refl }))
     (matches_stay i.geometry played command lines (entries_of (with_log s l)) none (subst (λ es. Matches es (visible.published i.geometry played)) (sym same) h.matches)) h
 taken_line laws i start readers played s by size fitting command lines Fits b quiet h may e says = log_line i start readers played command lines s s.past fitting quiet says.next says.matches h
 taken_line laws i start readers played s by size fitting command lines Trips b quiet h may e none =
-    let n = room_in s.log (s.log.active % 3) in
-    let l = with_padding (added s.log by (s.log.active % 3) (covered s.log size)) by n in
+    let n = room s.log in
+    let l = with_padding s.log by n in
     let one = trips_one s.past s.readers s.log by size may.legal may.publisher may.short e in
     let next : IsLogNext s s.past l = record {
       goes = trips s by size n l.tail (holds laws i start readers played s b h) one refl;
@@ -169,9 +167,9 @@ taken_line laws i start readers played s by size fitting command lines Trips b q
       start = refl;
       consumers = refl;
     } in
-    let entries : s.past ++ (turned_from l s.log.active).entries ≡ entries_of s ++ padded s.log.tail by n ∷ [] = ap (λ es. s.past ++ es) (turned_entries l s.log.active) ∙ sym (append_assoc s.past s.log.entries (padded s.log.tail by n ∷ [])) in
-    log_line i start readers played command lines s s.past (turned_from l s.log.active) quiet (turned_next s l s.log.active next)
-    (matches_stay i.geometry played command lines (s.past ++ (turned_from l s.log.active).entries) none (subst (λ es. Matches es (visible.published i.geometry played)) (sym entries) (matches_padding (entries_of s) (visible.published i.geometry played) (padded s.log.tail by n) refl h.matches))) h
+    let entries : s.past ++ (turned l).entries ≡ entries_of s ++ padded s.log.tail by n ∷ [] = ap (λ es. s.past ++ es) (turned_entries l) ∙ sym (append_assoc s.past s.log.entries (padded s.log.tail by n ∷ [])) in
+    log_line i start readers played command lines s s.past (turned l) quiet (turned_next s l next)
+    (matches_stay i.geometry played command lines (s.past ++ (turned l).entries) none (subst (λ es. Matches es (visible.published i.geometry played)) (sym entries) (matches_padding (entries_of s) (visible.published i.geometry played) (padded s.log.tail by n) refl h.matches))) h
 
 -- one entry and its range more
 added_matches : (i : Identity) (start readers : ℕ) (played : List Played) (s : ScriptState) (command : CommandContent) (lines : List LineContent) (e : Entry) (r : Range) → ((ranges : List Range) → ranges_after i.geometry ranges command lines ≡ ranges ++ r ∷ []) → SameRange e r → IsSound i start readers played s → Matches (s.past ++ (s.log.entries ++ e ∷ [])) (visible.published i.geometry (and_line played command lines))
@@ -190,8 +188,8 @@ offers_none : (command : CommandContent) (m : List ℕ) (line : LineContent) (li
 offers_none command m line lines is none e g ranges =
     is g ranges lines ∙ ap (λ ls. ranges ++ flat_map (offers_in g m) ls) e ∙ ap (λ xs. ranges ++ (xs ++ [])) (none g) ∙ append-nil ranges
 
-abbrev offered_log : Log → ℕ → List ℕ → Log
-offered_log l by m = with_message (added l by (l.active % 3) (covered l (length m))) by m
+abbrev offered_log : Stream → ℕ → List ℕ → Stream
+offered_log l by m = with_message l by m
 
 offer_fits : Laws → (i : Identity) (start readers : ℕ) (played : List Played) (s : ScriptState) (by : ℕ) (m : List ℕ) (command : CommandContent) (lines : List LineContent) → Begins i start → OffersIt command m → IsSound i start readers played s → MayOffer s.log by m → case_of s.log (length m) ≡ Fits → lines ≡ Position (s.log.tail + covered s.log (length m)) ∷ [] → FitsSo i played s (offered_log s.log by m) command lines
 offer_fits laws i start readers played s by m command lines b is h may e line =
@@ -234,28 +232,11 @@ offer_line laws i start readers played s t by most size m command lines b quiet 
 
 -- ---- a claim
 
--- which claims are open says nothing of the stream
-claims_free : (i : Identity) (start readers : ℕ) (played : List Played) (s : ScriptState) (claims : List (Option Claimed)) → IsSound i start readers played s → IsSound i start readers played (record s { claims = claims })
-claims_free i start readers played s claims h = record {
-  runs = h.runs;
-  identity = h.identity;
-  start_is = h.start_is;
-  consumers = h.consumers;
-  unit = h.unit;
-  sending = record { legal = h.sending.legal; sent = h.sending.sent; setups = h.sending.setups };
-  honest = h.honest;
-  matches = h.matches;
-  eight = h.eight;
-  receivers = h.receivers;
-  seats = h.seats;
-  reading = h.reading;
-}
-
 claims_none : (by size : ℕ) (line : LineContent) (lines : List LineContent) → claims_in size line ≡ [] → lines ≡ line ∷ [] → SaysNoRange (commands.Claim by size) lines
 claims_none by size line lines none e g ranges = ap (λ ls. ranges ++ flat_map (claims_in size) ls) e ∙ ap (λ xs. ranges ++ (xs ++ [])) none ∙ append-nil ranges
 
-abbrev claimed_log : Log → ℕ → ℕ → Log
-claimed_log l by size = logs.with_claim (added l by (l.active % 3) (covered l size)) by false size
+abbrev claimed_log : Stream → ℕ → ℕ → Stream
+claimed_log l by size = with_claim l by size
 
 claim_fits : (i : Identity) (start readers : ℕ) (played : List Played) (s : ScriptState) (by size : ℕ) (lines : List LineContent) → IsSound i start readers played s → MayClaimRange s.log by size → case_of s.log size ≡ Fits → lines ≡ content.Claimed s.log.tail (s.log.tail + covered s.log size) ∷ [] → FitsSo i played s (claimed_log s.log by size) (commands.Claim by size) lines
 claim_fits i start readers played s by size lines h may e line =
@@ -267,7 +248,7 @@ claim_fits i start readers played s by size lines h may e line =
     let covers : covered s.log size ≡ aligned (size + 32) = cond-true (nat_le size (max_payload g)) (aligned (size + 32)) (size / max_payload g * g.mtu + rest_length (size % max_payload g)) (le-leb size (max_payload g) may.short) in
     record {
       next = record {
-        goes = claims s by size false (cuts_of g size) (s.log.tail + span (cuts_of g size)) one refl;
+        goes = claims s by size false (cuts_of g size) end one (ap (λ n. s.log.tail + n) (sym (covers_framed g size may.legal.geometry)));
         identity = refl;
         start = refl;
         consumers = refl;
@@ -279,16 +260,15 @@ claim_fits i start readers played s by size lines h may e line =
 
 record ClaimSays (i : Identity) (played : List Played) (s : ScriptState) (by size : ℕ) (lines : List LineContent) (c : OfferCase) (t : ScriptState) : Type 0 where
   said : Said i played s (claimed_log s.log by size) (commands.Claim by size) lines c
-  claims : List (Option Claimed)
-  after : t ≡ record (with_log s (after_claim s.log by size)) { claims = claims }
+  after : t ≡ with_log s (after_claim s.log by size)
 
 claim_says : (i : Identity) (start readers : ℕ) (played : List Played) (s t : ScriptState) (by size : ℕ) (lines : List LineContent) (c : OfferCase) → IsSound i start readers played s → MayClaimRange s.log by size → case_of s.log size ≡ c → Claims s by size (answer s.log size c) lines t → ClaimSays i played s by size lines c t
-claim_says i start readers played s t by size lines IsClosed h may e o = record { said = claims_none by size _ lines refl o.0; claims = s.claims; after = o.1 }
-claim_says i start readers played s t by size lines IsStale h may e o = record { said = claims_none by size _ lines refl o.0; claims = s.claims; after = o.1 }
-claim_says i start readers played s t by size lines IsUsedUp h may e o = record { said = claims_none by size _ lines refl o.0; claims = s.claims; after = o.1 }
-claim_says i start readers played s t by size lines IsLimited h may e o = record { said = claims_none by size _ lines refl o.0; claims = s.claims; after = o.1 }
-claim_says i start readers played s t by size lines Fits h may e o = record { said = claim_fits i start readers played s by size lines h may e o.0; claims = slice_set s.claims by (Some (claim_at s.log by size)); after = o.1 }
-claim_says i start readers played s t by size lines Trips h may e o = record { said = claims_none by size _ lines refl o.0; claims = s.claims; after = o.1 }
+claim_says i start readers played s t by size lines IsClosed h may e o = record { said = claims_none by size _ lines refl o.0; after = o.1 }
+claim_says i start readers played s t by size lines IsStale h may e o = record { said = claims_none by size _ lines refl o.0; after = o.1 }
+claim_says i start readers played s t by size lines IsUsedUp h may e o = record { said = claims_none by size _ lines refl o.0; after = o.1 }
+claim_says i start readers played s t by size lines IsLimited h may e o = record { said = claims_none by size _ lines refl o.0; after = o.1 }
+claim_says i start readers played s t by size lines Fits h may e o = record { said = claim_fits i start readers played s by size lines h may e o.0; after = o.1 }
+claim_says i start readers played s t by size lines Trips h may e o = record { said = claims_none by size _ lines refl o.0; after = o.1 }
 
 pub claim_line : Laws → (i : Identity) (start readers : ℕ) (played : List Played) (s t : ScriptState) (by most size : ℕ) (lines : List LineContent) → Begins i start → IsSound i start readers played s → MayNotTake s by most size lines t ⊎ ClaimsRange s by size lines t → IsSound i start readers (and_line played (commands.Claim by size) lines) t
 claim_line laws i start readers played s t by most size lines b h (inl bad) =
@@ -299,57 +279,62 @@ claim_line laws i start readers played s t by most size lines b h (inr o) =
     let says = claim_says i start readers played s t by size lines c h o.0 refl o.2 in
     let short : size ≤ max_message s.log.identity.geometry = message_short s.log.identity.geometry size h.sending.legal o.0.short in
     subst (λ x. IsSound i start readers (and_line played command lines) x) (sym says.after)
-    (claims_free i start readers (and_line played command lines) (with_log s (after_claim s.log by size)) says.claims
-    (taken_line laws i start readers played s by size (claimed_log s.log by size) command lines c b (record { joins = λ k. refl; polls = λ k. refl; reads = λ k. refl }) h (record { legal = o.0.legal; publisher = o.0.publisher; short = short }) refl says.said))
+    (taken_line laws i start readers played s by size (claimed_log s.log by size) command lines c b (record { joins = λ k. refl; polls = λ k. refl; reads = λ k. refl }) h (record { legal = o.0.legal; publisher = o.0.publisher; short = short }) refl says.said)
 
 -- ---- a claim's commit or abort
 
--- where its entry is kept
-record IsKept (s : ScriptState) (c : Claimed) : Type 0 where
-  at : slice_get s.log.entries (c.number - s.log.gone) ≡ Some (one_cut c.start c.owner c.size [])
-  among : Among (one_cut c.start c.owner c.size []) (entries_of s)
+open_at : (cs : List (Option OpenClaim)) (k : ℕ) (c : OpenClaim) → slice_index_or cs k None ≡ Some c → slice_get cs k ≡ Some (Some c)
+open_at [] k c e = absurd (cc)
+open_at (x ∷ xs) zero c e = ap Some e
+open_at (x ∷ xs) (suc k) c e = open_at xs k c e
 
-pub kept_claim : (s : ScriptState) (by : ℕ) (c : Claimed) → HasClaim s by c → slice_get s.log.entries (c.number - s.log.gone) ≡ Some (one_cut c.start c.owner c.size [])
+-- its entry is there, and nothing of it is committed
+record IsKept (s : ScriptState) (by : ℕ) (c : OpenClaim) : Type 0 where
+  kept : Among (one_cut c.start by c.size []) s.log.entries
+  among : Among (one_cut c.start by c.size []) (entries_of s)
+
+pub kept_claim : (s : ScriptState) (by : ℕ) (c : OpenClaim) → HasClaim s by c → Among (one_cut c.start by c.size []) s.log.entries
 kept_claim s by c h =
-    let g = s.log.identity.geometry in
-    let k = h.held in
-    k.entry ∙ ap Some (ap (λ p. open_entry c.start c.owner p (cuts_for g p c.size) []) k.message ∙ ap (λ xs. open_entry c.start c.owner false xs []) (short_cuts g c.size h.short))
+    let k : IsOpenClaim s.log by c = h.legal.claims by c (open_at s.log.claims by c h.open_claim) in
+    subst (λ cuts. Among (open_entry c.start by false cuts []) s.log.entries) (short_cuts s.log.identity.geometry c.size k.short) k.entry
 
-is_kept : (s : ScriptState) (by : ℕ) (c : Claimed) → HasClaim s by c → IsKept s c
-is_kept s by c h =
-    let at = kept_claim s by c h in
-    record { at = at; among = among_right (one_cut c.start c.owner c.size []) s.past s.log.entries (among_get s.log.entries (c.number - s.log.gone) (one_cut c.start c.owner c.size []) at) }
+is_kept : (s : ScriptState) (by : ℕ) (c : OpenClaim) → HasClaim s by c → IsKept s by c
+is_kept s by c h = let kept = kept_claim s by c h in record { kept = kept; among = among_right (one_cut c.start by c.size []) s.past s.log.entries kept }
 
-abbrev filling : Claimed → Frame
+abbrev filling : OpenClaim → Frame
 filling c = Data 192 (replicate c.size 97)
 
-committed_entries : (s : ScriptState) (c : Claimed) → LogHolds s.past s.log → IsKept s c → s.past ++ (with_commit s.log c (filling c)).entries ≡ map (with_frame c.start (filling c)) (entries_of s)
-committed_entries s c holds k =
-    let claim = one_cut c.start c.owner c.size [] in
-    let n = c.number - s.log.gone in
-    let f = filling c in
-    ap (λ e. s.past ++ slice_set s.log.entries n e) (ap (with_next f) (index_get s.log.entries n claim no_entry k.at) ∙ sym (frame_put c.start c.owner false ((c.size + 32) ∷ []) [] f))
-    ∙ put_maps (with_frame c.start f) s.log.identity.geometry.term_length s.log.start s.log.tail s.past s.log.entries n claim (frame_only c.start f) holds.tiles holds.entries k.at
+-- what starts before an entry stays where only that is changed
+past_stays : (g : Entry → Entry) (term p tail : ℕ) (past es : List Entry) (e : Entry) → IsOnlyAt e.start g → Tiles term p tail (past ++ es) → AllByRecursion IsEntry (past ++ es) → Among e es → map g past ≡ past
+past_stays g term p tail [] es e only t all h = refl
+past_stays g term p tail (x ∷ xs) es e only t all h =
+    let later : entry_end x ≤ e.start = entry_from term (entry_end x) tail (xs ++ es) e t.2 (among_right e xs es h) in
+    ap (λ y. y ∷ map g xs) (only x (λ same. absurd (omega (arith, same, all.0.long, later))))
+    ∙ ap (λ ys. x ∷ ys) (past_stays g term (entry_end x) tail xs es e only t.2 all.1 h)
 
-aborted_entries : (s : ScriptState) (c : Claimed) → LogHolds s.past s.log → IsKept s c → s.past ++ (with_abort s.log c).entries ≡ map (aborted_at c.start) (entries_of s)
-aborted_entries s c holds k =
-    let claim = one_cut c.start c.owner c.size [] in
-    let n = c.number - s.log.gone in
-    ap (λ e. s.past ++ slice_set s.log.entries n e) (sym (abort_put c.start c.owner c.size))
-    ∙ put_maps (aborted_at c.start) s.log.identity.geometry.term_length s.log.start s.log.tail s.past s.log.entries n claim (abort_only c.start) holds.tiles holds.entries k.at
+changed_entries : (g : Entry → Entry) (s : ScriptState) (by : ℕ) (c : OpenClaim) → IsOnlyAt c.start g → LogHolds s.past s.log → IsKept s by c → s.past ++ map g s.log.entries ≡ map g (entries_of s)
+changed_entries g s by c only holds k =
+    ap (λ xs. xs ++ map g s.log.entries) (sym (past_stays g s.log.identity.geometry.term_length s.log.start s.log.tail s.past s.log.entries (one_cut c.start by c.size []) only holds.tiles holds.entries k.kept))
+    ∙ sym (map-append g s.past s.log.entries)
 
-abbrev with_entries : ScriptState → List Entry → stream.Log
-with_entries s es = record (stream_of s.past s.readers s.log) { entries = es }
+committed_entries : (s : ScriptState) (by : ℕ) (c : OpenClaim) → LogHolds s.past s.log → IsKept s by c → s.past ++ (with_commit s.log by c (replicate c.size 97)).entries ≡ map (with_frame c.start (filling c)) (entries_of s)
+committed_entries s by c holds k = changed_entries (with_frame c.start (filling c)) s by c (frame_only c.start (filling c)) holds k
 
-commits_claim : (s : ScriptState) (c : Claimed) → LogHolds s.past s.log → IsKept s c → Goes (world_of s) (world_of (with_log s (with_commit s.log c (filling c))))
-commits_claim s c holds k =
+aborted_entries : (s : ScriptState) (by : ℕ) (c : OpenClaim) → LogHolds s.past s.log → IsKept s by c → s.past ++ (with_abort s.log by c).entries ≡ map (aborted_at c.start) (entries_of s)
+aborted_entries s by c holds k = changed_entries (aborted_at c.start) s by c (abort_only c.start) holds k
+
+abbrev with_entries : ScriptState → List Entry → model.Log
+with_entries s es = record (model_log s.past s.readers s.log) { entries = es }
+
+commits_claim : (s : ScriptState) (by : ℕ) (c : OpenClaim) → LogHolds s.past s.log → IsKept s by c → Goes (world_of s) (world_of (with_log s (with_commit s.log by c (replicate c.size 97))))
+commits_claim s by c holds k =
     let w = world_of s in
     let f = filling c in
     let l = with_entries s (map (with_frame c.start f) (entries_of s)) in
-    subst (λ es. Goes w (record w { log = with_entries s es })) (sym (committed_entries s c holds k))
+    subst (λ es. Goes w (record w { log = with_entries s es })) (sym (committed_entries s by c holds k))
     (at_log w (Commit c.start f) l (
       record {
-        entry = one_cut c.start c.owner c.size [];
+        entry = one_cut c.start by c.size [];
         among = k.among;
         here = refl;
         frames = ((refl, omega (arith, length-replicate {A = ℕ} c.size 97)), tt);
@@ -358,14 +343,14 @@ commits_claim s c holds k =
       refl,
     ))
 
-aborts_claim : (s : ScriptState) (c : Claimed) → LogHolds s.past s.log → IsKept s c → Goes (world_of s) (world_of (with_log s (with_abort s.log c)))
-aborts_claim s c holds k =
+aborts_claim : (s : ScriptState) (by : ℕ) (c : OpenClaim) → LogHolds s.past s.log → IsKept s by c → Goes (world_of s) (world_of (with_log s (with_abort s.log by c)))
+aborts_claim s by c holds k =
     let w = world_of s in
     let l = with_entries s (map (aborted_at c.start) (entries_of s)) in
-    subst (λ es. Goes w (record w { log = with_entries s es })) (sym (aborted_entries s c holds k))
+    subst (λ es. Goes w (record w { log = with_entries s es })) (sym (aborted_entries s by c holds k))
     (at_log w (Abort c.start) l (
       record {
-        entry = one_cut c.start c.owner c.size [];
+        entry = one_cut c.start by c.size [];
         among = k.among;
         here = refl;
         open_message = refl;
@@ -385,18 +370,17 @@ commit_line laws i start readers played s t by lines b h (inl bad) =
 commit_line laws i start readers played s t by lines b h (inr m) =
     let c = m.0 in
     let command = commands.Commit by in
-    let l = with_commit s.log c (filling c) in
+    let l = with_commit s.log by c (replicate c.size 97) in
     let all = holds laws i start readers played s b h in
     let k = is_kept s by c m.1 in
     let ranges = visible.published i.geometry played in
     let line : visible.published i.geometry (and_line played command lines) ≡ map (filled_at (c.start + aligned (c.size + 32))) ranges = published_more i.geometry played command lines ∙ ap (λ ls. fold filled_by ranges ls) m.2 in
     let matches : Matches (s.past ++ l.entries) (visible.published i.geometry (and_line played command lines)) =
-    subst (λ es. Matches es (visible.published i.geometry (and_line played command lines))) (sym (committed_entries s c all k))
+    subst (λ es. Matches es (visible.published i.geometry (and_line played command lines))) (sym (committed_entries s by c all k))
     (subst (Matches (map (with_frame c.start (filling c)) (entries_of s))) (sym line)
-    (matches_commit s.log.identity.geometry.term_length s.log.start s.log.tail (entries_of s) ranges c.start c.owner c.size all.tiles all.entries k.among h.matches)) in
+    (matches_commit s.log.identity.geometry.term_length s.log.start s.log.tail (entries_of s) ranges c.start by c.size all.tiles all.entries k.among h.matches)) in
     subst (λ x. IsSound i start readers (and_line played command lines) x) (sym m.3)
-    (claims_free i start readers (and_line played command lines) (with_log s l) (slice_set s.claims by None)
-    (log_line i start readers played command lines s s.past l (record { joins = λ k. refl; polls = λ k. refl; reads = λ k. refl }) (record { goes = commits_claim s c all k; identity = refl; start = refl; consumers = refl }) matches h))
+    (log_line i start readers played command lines s s.past l (record { joins = λ k. refl; polls = λ k. refl; reads = λ k. refl }) (record { goes = commits_claim s by c all k; identity = refl; start = refl; consumers = refl }) matches h)
 
 pub abort_line : Laws → (i : Identity) (start readers : ℕ) (played : List Played) (s t : ScriptState) (by : ℕ) (lines : List LineContent) → Begins i start → IsSound i start readers played s → HasNoClaim s by lines t ⊎ AbortsClaim s by lines t → IsSound i start readers (and_line played (commands.Abort by) lines) t
 abort_line laws i start readers played s t by lines b h (inl bad) =
@@ -404,16 +388,15 @@ abort_line laws i start readers played s t by lines b h (inl bad) =
 abort_line laws i start readers played s t by lines b h (inr m) =
     let c = m.0 in
     let command = commands.Abort by in
-    let l = with_abort s.log c in
+    let l = with_abort s.log by c in
     let all = holds laws i start readers played s b h in
     let k = is_kept s by c m.1 in
     let ranges = visible.published i.geometry played in
     let matches : Matches (s.past ++ l.entries) ranges =
-    subst (λ es. Matches es ranges) (sym (aborted_entries s c all k))
-    (matches_abort s.log.identity.geometry.term_length s.log.start s.log.tail (entries_of s) ranges c.start c.owner c.size all.tiles all.entries k.among h.matches) in
+    subst (λ es. Matches es ranges) (sym (aborted_entries s by c all k))
+    (matches_abort s.log.identity.geometry.term_length s.log.start s.log.tail (entries_of s) ranges c.start by c.size all.tiles all.entries k.among h.matches) in
     subst (λ x. IsSound i start readers (and_line played command lines) x) (sym m.3)
-    (claims_free i start readers (and_line played command lines) (with_log s l) (slice_set s.claims by None)
-    (log_line i start readers played command lines s s.past l (record { joins = λ k. refl; polls = λ k. refl; reads = λ k. refl }) (record { goes = aborts_claim s c all k; identity = refl; start = refl; consumers = refl }) (matches_stay i.geometry played command lines (s.past ++ l.entries) (λ g rs. refl) matches) h))
+    (log_line i start readers played command lines s s.past l (record { joins = λ k. refl; polls = λ k. refl; reads = λ k. refl }) (record { goes = aborts_claim s by c all k; identity = refl; start = refl; consumers = refl }) (matches_stay i.geometry played command lines (s.past ++ l.entries) (λ g rs. refl) matches) h)
 
 -- ---- the sender
 
@@ -422,7 +405,7 @@ record IsSenderNext (i : Identity) (s t : ScriptState) (x : Sender) (wires : Lis
   goes : Goes (world_of s) (world_of t)
   more : (p : Placed) → Among p s.sender.sent → Among p x.sent
   named : (p : ℕ) → Among p s.sender.setups → Among p x.setups
-  given : AllByRecursion (λ w. MayBeGiven i x.sent x.setups w) wires
+  given : AllByRecursion (λ w. IsGivenOut i x.sent x.setups w) wires
   frames : AreFrames wires
   unit : x.at % 32 ≡ 0
   sent : AllByRecursion (λ p. p.at ≤ max_position i.geometry) x.sent
@@ -532,7 +515,7 @@ cycle_next laws i start readers played s now y b h c frames =
       goes = cycles s now y c;
       more = λ p a. sent_more z y.setup y.frame p a;
       named = λ p a. named_more z y.setup y.frame p a;
-      given = subst (λ k. AllByRecursion (λ w. MayBeGiven k (cycled s now y).sent (cycled s now y).setups w) (wires_of s y)) h.identity (cycle_given s.log.identity z y);
+      given = subst (λ k. AllByRecursion (λ w. IsGivenOut k (cycled s now y).sent (cycled s now y).setups w) (wires_of s y)) h.identity (cycle_given s.log.identity z y);
       frames = frames;
       unit = sent_unit x (limit_of s.log s.sender) (committed s.log.entries) y.frame next (omega (arith, at, h.unit));
       sent = sent_low x (limit_of s.log s.sender) most (committed s.log.entries) y.frame next (omega (arith, at, low)) (subst (λ xs. AllByRecursion (λ p. p.at ≤ most) xs) (sym (named_sent z y.setup)) low_sent);
@@ -590,7 +573,7 @@ asked_line laws i start readers played k now lines s b h frames =
       goes = asked s now;
       more = λ p a. a;
       named = λ p a. inr a;
-      given = ((s.sender.at, inl refl, ap (λ y. setup_at y s.sender.at) h.identity), tt);
+      given = ((s.sender.at, inl refl, ap (λ y. setup_fields y s.sender.at) h.identity), tt);
       frames = frames;
       unit = h.unit;
       sent = subst (λ y. AllByRecursion (λ p. p.at ≤ max_position y.geometry) s.sender.sent) h.identity h.sending.sent;

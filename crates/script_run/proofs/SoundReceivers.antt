@@ -6,7 +6,6 @@ use Rattle.std.proofs.lemmas.Bool.{cond-true, cond-false, eq-eqb, ne_eqb}
 use Rattle.std.proofs.lemmas.List.{length-set}
 use Rattle.std.proofs.lemmas.Option.{slice_get_within}
 use Rattle.theory.specs.Bytes.{Identity}
-use Rattle.theory.specs.Control.{MayBeGiven}
 use Rattle.theory.proofs.Lists.{all_append, all_get}
 use Rattle.script.specs.Meaning as commands
 use Rattle.script.specs.Meaning.{CommandContent}
@@ -18,7 +17,7 @@ use Rattle.script_run.specs.LineContents.{LineContent, OfReceiver, poll_line as 
 use Rattle.script_run.specs.Published.{AllWhole, Played, is_fault, joined_by, joins, joins_in, joins_of, messages_in, polled, polled_by, read_by}
 use Rattle.receiver.specs.Receiving.{TakesDatagram, MeetsAll, MeetsDatagram, Receiver, RefusesDatagram, at_moment, replies, ticked}
 use Rattle.script_run.specs.ScriptState.{ScriptState, entries_of, image_of, opened_state, world_of}
-use Rattle.script_run.proofs.Honest.{AreHonest, IsHonest, honest_wires, one_frame, replies_given}
+use Rattle.script_run.proofs.Honest.{AreHonest, IsGivenOut, IsHonest, honest_wires, may_be_given, one_frame, replies_given}
 use Rattle.script_run.proofs.PollFollows.{StillWhole, polls_met}
 use Rattle.script_run.proofs.ReceiverRuns.{At, Follows, Met, meets, met_nothing, unchanged}
 use Rattle.script_run.proofs.Runs.{Goes, goes_on}
@@ -82,8 +81,8 @@ reads_one laws i start readers played s n now r mid bytes outs h honest a m =
     let one = one_frame laws.reading i s.sender bytes m.0 honest m.1 in
     let all : MeetsAll (at_moment r now) (honest.wire ∷ []) outs mid = subst (λ ws. MeetsAll (at_moment r now) ws outs mid) one m.2 in
     let out = all.0 in
-    let given : MayBeGiven s.log.identity s.sender.sent s.sender.setups honest.wire = subst (λ x. MayBeGiven x s.sender.sent s.sender.setups honest.wire) (sym h.identity) honest.given in
-    let met = meets laws.places s n (at_moment r now) all.1 honest.wire out (joins n played) (polled n played) (AllWhole n played) h.sending a given all.3 in
+    let given : IsGivenOut s.log.identity s.sender.sent s.sender.setups honest.wire = subst (λ x. IsGivenOut x s.sender.sent s.sender.setups honest.wire) (sym h.identity) honest.given in
+    let met = meets laws.places s n (at_moment r now) all.1 honest.wire out (joins n played) (polled n played) (AllWhole n played) h.sending a (may_be_given s.log.identity s.sender.sent s.sender.setups (at_moment r now) honest.wire given) all.3 in
     record {
       out = out;
       only = all.4 ∙ ap (λ xs. out ∷ xs) all.5.0;

@@ -10,11 +10,8 @@ use Rattle.theory.specs.Control.{setup_at}
 use Rattle.theory.specs.FlowLimit.{flow_limit}
 use Rattle.model.specs.Sender.{Sender}
 use Rattle.theory.specs.Timing.{seen}
-use Rattle.term_buffer.specs.declared.claimed.Claimed.{Claimed}
-use Rattle.log_buffer.specs.Log.{IsHeld, IsLog, Log, with_abort, with_commit}
-use Rattle.rotation.specs.Limited.{CleansAndLimits, raised}
-use Rattle.publication.specs.Claims.{claim_at}
-use Rattle.publication.specs.Offers.{after_claim, after_offer, answer_of}
+use Rattle.one_hand.specs.Legal.{IsStream}
+use Rattle.one_hand.specs.Stream.{OpenClaim, Stream, after_claim, after_offer, answer_of, claim_by, claim_end, clean_end, cleaned_and_limited, forgotten_below, raised, with_abort, with_commit, with_consumer}
 use Rattle.publication.specs.declared.refusal.Refusal.{Refusal}
 use Rattle.setup.specs.Naming.{after_due, is_due}
 use Rattle.script.specs.Meaning as commands
@@ -29,7 +26,7 @@ use Rattle.script_run.specs.LineContents.{LineContent, Done, Limit, Position, Fr
 use Rattle.receiver.specs.Receiving.{TakesDatagram, Receiver, replies, ticked}
 use Rattle.script_run.specs.ScriptState.{ScriptState}
 
-abbrev pub with_log : ScriptState → Log → ScriptState
+abbrev pub with_log : ScriptState → Stream → ScriptState
 with_log s l = record s { log = l }
 
 abbrev pub with_receiver : ScriptState → ℕ → Receiver → ScriptState
@@ -62,20 +59,13 @@ AreFrames wires = AllByRecursion IsFrame wires
 
 -- ---- offers
 
--- the claim that a publisher has open
-abbrev pub claim_by : ScriptState → ℕ → Option Claimed
-claim_by s by = slice_index_or s.claims by None
-
-abbrev pub with_claim : ScriptState → ℕ → Option Claimed → ScriptState
-with_claim s by c = record s { claims = slice_set s.claims by c }
-
 -- a line that can't be had, and nothing changes
 abbrev pub IsBad : ScriptState → List LineContent → ScriptState → Type 0
 IsBad old lines new = (lines ≡ Bad ∷ []) × (new ≡ old)
 
 -- one of eight publishers', a message that the log can hold
-pub record MayOffer (l : Log) (by : ℕ) (message : List ℕ) : Type 0 where
-  pub legal : IsLog l
+pub record MayOffer (l : Stream) (by : ℕ) (message : List ℕ) : Type 0 where
+  pub legal : IsStream l
   pub publisher : by < 8
   pub bytes : AllByRecursion (λ b. b < 256) message
   pub short : length message ≤ max_message l.identity.geometry
@@ -86,50 +76,44 @@ Offered old by message (Err refusal) lines new = (lines ≡ Refused refusal ∷ 
 
 -- a message of so many bytes is too long, or its publisher has a claim open
 abbrev pub MayNotTake : ScriptState → ℕ → ℕ → ℕ → List LineContent → ScriptState → Type 0
-MayNotTake old by most size lines new = ((most < size) ⊎ ((c : Claimed) × (claim_by old by ≡ Some c))) × IsBad old lines new
+MayNotTake old by most size lines new = ((most < size) ⊎ ((c : OpenClaim) × (claim_by old.log by ≡ Some c))) × IsBad old lines new
 
 abbrev pub OffersMessage : ScriptState → ℕ → List ℕ → List LineContent → ScriptState → Type 0
-OffersMessage old by message lines new = MayOffer old.log by message × (claim_by old by ≡ None) × Offered old by message (answer_of old.log (length message)) lines new
+OffersMessage old by message lines new = MayOffer old.log by message × (claim_by old.log by ≡ None) × Offered old by message (answer_of old.log (length message)) lines new
 
 -- ---- claims
 
 -- one of eight publishers, and a message that one frame can hold
-pub record MayClaimRange (l : Log) (by size : ℕ) : Type 0 where
-  pub legal : IsLog l
+pub record MayClaimRange (l : Stream) (by size : ℕ) : Type 0 where
+  pub legal : IsStream l
   pub publisher : by < 8
   pub short : size ≤ max_payload l.identity.geometry
 
 abbrev pub Claims : ScriptState → ℕ → ℕ → Result ℕ Refusal → List LineContent → ScriptState → Type 0
 Claims old by size (Ok end) lines new =
-    (lines ≡ content.Claimed old.log.tail end ∷ []) × (new ≡ with_claim (with_log old (after_claim old.log by size)) by (Some (claim_at old.log by size)))
+    (lines ≡ content.Claimed old.log.tail end ∷ []) × (new ≡ with_log old (after_claim old.log by size))
 Claims old by size (Err refusal) lines new = (lines ≡ Refused refusal ∷ []) × (new ≡ with_log old (after_claim old.log by size))
 
 abbrev pub ClaimsRange : ScriptState → ℕ → ℕ → List LineContent → ScriptState → Type 0
-ClaimsRange old by size lines new = MayClaimRange old.log by size × (claim_by old by ≡ None) × Claims old by size (answer_of old.log size) lines new
+ClaimsRange old by size lines new = MayClaimRange old.log by size × (claim_by old.log by ≡ None) × Claims old by size (answer_of old.log size) lines new
 
--- a publisher's open claim: nothing of it is stored, and one frame can hold its message
-pub record HasClaim (s : ScriptState) (by : ℕ) (c : Claimed) : Type 0 where
-  pub legal : IsLog s.log
+-- a publisher's open claim
+pub record HasClaim (s : ScriptState) (by : ℕ) (c : OpenClaim) : Type 0 where
+  pub legal : IsStream s.log
   pub publisher : by < 8
-  pub open_claim : claim_by s by ≡ Some c
-  pub owner : c.owner ≡ by
-  pub held : IsHeld s.log c
-  pub short : c.size ≤ max_payload s.log.identity.geometry
-
-abbrev pub claim_end : Claimed → ℕ
-claim_end c = c.start + aligned (c.size + 32)
+  pub open_claim : claim_by s.log by ≡ Some c
 
 abbrev pub HasNoClaim : ScriptState → ℕ → List LineContent → ScriptState → Type 0
-HasNoClaim old by lines new = (claim_by old by ≡ None) × IsBad old lines new
+HasNoClaim old by lines new = (claim_by old.log by ≡ None) × IsBad old lines new
 
 -- it is filled with bytes 61 and committed
 abbrev pub CommitsClaim : ScriptState → ℕ → List LineContent → ScriptState → Type 0
 CommitsClaim old by lines new =
-    (c : Claimed) × HasClaim old by c × (lines ≡ Position (claim_end c) ∷ []) × (new ≡ with_claim (with_log old (with_commit old.log c (Data 192 (replicate c.size 97)))) by None)
+    (c : OpenClaim) × HasClaim old by c × (lines ≡ Position (claim_end c) ∷ []) × (new ≡ with_log old (with_commit old.log by c (replicate c.size 97)))
 
 -- it becomes a padding
 abbrev pub AbortsClaim : ScriptState → ℕ → List LineContent → ScriptState → Type 0
-AbortsClaim old by lines new = (c : Claimed) × HasClaim old by c × (lines ≡ Position (claim_end c) ∷ []) × (new ≡ with_claim (with_log old (with_abort old.log c)) by None)
+AbortsClaim old by lines new = (c : OpenClaim) × HasClaim old by c × (lines ≡ Position (claim_end c) ∷ []) × (new ≡ with_log old (with_abort old.log by c))
 
 -- ---- readers
 
@@ -147,7 +131,7 @@ frame_line at (Pad n) = FramePad at n
 
 -- the reader past a frame
 abbrev pub with_reader : ScriptState → ℕ → Consumer → ScriptState
-with_reader s r c = record s { log = record s.log { consumers = slice_set s.log.consumers r c.at }; readers = slice_set s.readers (r - 1) c }
+with_reader s r c = record s { log = with_consumer s.log r c.at; readers = slice_set s.readers (r - 1) c }
 
 -- no frame is committed where it stands
 abbrev pub ReaderFindsNone : ScriptState → ℕ → List LineContent → ScriptState → Type 0
@@ -163,11 +147,9 @@ ReaderReads old r lines new =
 
 -- the entries that are forgotten are remembered here
 pub record Limits (old : ScriptState) (lines : List LineContent) (new : ScriptState) : Type 0 where
-  pub legal : IsLog old.log
-  pub log : Log
-  pub done : CleansAndLimits old.log log
+  pub legal : IsStream old.log
   pub shown : lines ≡ Limit (raised old.log) ∷ []
-  pub new_is : new ≡ record old { log = log; past = old.past ++ done.cleans.past }
+  pub new_is : new ≡ record old { log = cleaned_and_limited old.log; past = old.past ++ forgotten_below (clean_end old.log) old.log.entries }
 
 -- ---- the sender
 
@@ -178,7 +160,7 @@ abbrev pub clock_at : ScriptState → ℕ → ℕ
 clock_at s now = seen s.sender.clock now
 
 -- how far status messages let it send
-abbrev pub limit_of : Log → Sender → ℕ
+abbrev pub limit_of : Stream → Sender → ℕ
 limit_of l x = flow_limit l.start x.said
 
 -- what goes out in a cycle

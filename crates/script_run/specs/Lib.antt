@@ -1,4 +1,5 @@
 pub mod Answers
+pub mod Given
 pub mod LineContents
 pub mod Output
 pub mod Published

@@ -1,26 +1,23 @@
 -- The state of a script.
-use Rattle.std.specs.Prelude.{ℕ, suc, ◌/◌, pos, Bool, true, false, List, [], ◌∷◌, ◌++◌, map, replicate, Option, None, Some}
+use Rattle.std.specs.Prelude.{ℕ, suc, ◌/◌, pos, false, List, [], ◌∷◌, ◌++◌, map, replicate, Option, None, Some}
 use Rattle.std.specs.Option.{option_map}
 use Rattle.theory.specs.Bytes.{Identity}
 use Rattle.theory.specs.Position.{max_message}
 use Rattle.theory.specs.Entry.{Entry}
 use Rattle.theory.specs.Consumer.{Consumer, consumer_at}
 use Rattle.theory.specs.Image.{Image}
-use Rattle.model.specs.Log as stream
+use Rattle.model.specs.Log as model
 use Rattle.model.specs.Sender.{Sender}
 use Rattle.model.specs.World.{World, opened_sender}
-use Rattle.term_buffer.specs.declared.claimed.Claimed.{Claimed}
-use Rattle.log_buffer.specs.Log.{Log, fresh}
+use Rattle.one_hand.specs.Stream.{Stream, opened}
 use Rattle.setup.specs.Naming.{Naming}
 use Rattle.receiver.specs.Receiving.{Receiver, listening}
 
 -- a log and its sender, eight receivers by their numbers, and the bytes of each packet that these gave out, in order
 pub record ScriptState : Type 0 where
-  pub log : Log
+  pub log : Stream
   -- the entries that the log has forgotten
   pub past : List Entry
-  -- the claims that are open, by their publishers' numbers
-  pub claims : List (Option Claimed)
   -- the readers beside the sender, from number 1 on; an assembler hears each frame that one passes
   pub readers : List Consumer
   pub sender : Sender
@@ -33,18 +30,15 @@ pub record ScriptState : Type 0 where
 abbrev pub entries_of : ScriptState → List Entry
 entries_of s = s.past ++ s.log.entries
 
-abbrev pub is_armed : Option ℕ → Bool
-is_armed None = false
-is_armed (Some partition) = true
-
--- the log as a stream of all entries ever added; these were forgotten, and these are its readers beside the sender
-abbrev pub stream_of : List Entry → List Consumer → Log → stream.Log
-stream_of past readers l = record {
+-- the model's log, with all entries ever added; these were forgotten, and these are its readers beside the sender
+abbrev pub model_log : List Entry → List Consumer → Stream → model.Log
+model_log past readers l = record {
   identity = l.identity;
   start = l.start;
   tail = l.tail;
   entries = past ++ l.entries;
-  armed = map is_armed l.armed;
+  armed = replicate 8 false;
+  retired = replicate 8 false;
   limit = l.limit;
   connected = l.connected;
   closed = l.closed;
@@ -57,7 +51,7 @@ image_of r = option_map (λ o. o.image) r.image
 
 -- the state without its packets and moments
 abbrev pub world_of : ScriptState → World
-world_of s = record { log = stream_of s.past s.readers s.log; sender = s.sender; images = map image_of s.receivers }
+world_of s = record { log = model_log s.past s.readers s.log; sender = s.sender; images = map image_of s.receivers }
 
 -- a receiver of the log's session and stream, with half a term as its window, one consumer, and the log's greatest message
 abbrev pub listening_at : Identity → ℕ → Receiver
@@ -70,9 +64,8 @@ numbers = 0 ∷ 1 ∷ 2 ∷ 3 ∷ 4 ∷ 5 ∷ 6 ∷ 7 ∷ []
 -- a log that was just opened at this start, with so many readers beside the sender
 abbrev pub opened_state : Identity → ℕ → ℕ → ScriptState
 opened_state i start readers = record {
-  log = fresh i start (suc readers);
+  log = opened i start (suc readers);
   past = [];
-  claims = replicate 8 None;
   readers = replicate readers (consumer_at start);
   sender = opened_sender start;
   naming = record { clock = 0; last = None; heard = false };

@@ -1,55 +1,19 @@
 -- What is sent: nothing, or the frame that was read.
-use Rattle.std.proofs.Common.{◌≡◌, ◌∙◌, ℕ, ◌+◌, ◌-◌, ◌<◌, ◌≤◌, List, [], ◌∷◌, ◌++◌, length, take, drop, sym, ap, subst, refl, inl, inr, arith, append-nil}
-use Rattle.std.proofs.Math.Seq.{take-append_seam}
-use Rattle.std.specs.Prelude.{ℤ, None, Some, slice_set, true}
-use Rattle.std.specs.List.{AllByRecursion}
-use Rattle.theory.specs.Position.{Geometry, aligned}
-use Rattle.theory.specs.Placed.{Among, Data, Frame, Pad, Placed, covered, end_of, frame_length, payload_of, place_all}
-use Rattle.theory.specs.Entry.{Entry, IsEntry, committed}
+use Rattle.std.proofs.Common.{◌≡◌, ◌∙◌, ℕ, ◌+◌, ◌<◌, ◌≤◌, List, [], sym, ap, subst, refl, arith, append-nil}
+use Rattle.std.specs.Prelude.{None, Some, true}
+use Rattle.theory.specs.Position.{aligned, max_position}
+use Rattle.theory.specs.Placed.{Among, Frame, Placed, end_of}
 use Rattle.theory.specs.Wire.{Wire, spelling}
 use Rattle.theory.specs.Bytes.{Identity, wire_at}
 use Rattle.theory.specs.Control.{setup_at}
 use Rattle.theory.specs.Datagrams.{MayBeSent, sent_end}
-use Rattle.theory.proofs.Lists.{all_append}
-use Rattle.theory.proofs.Frames.{AreCut, InOrder, are_cut, committed_in_order, in_order_from}
 use Rattle.position.specs.declared.head.FrameHead.{FrameHead}
-use Rattle.term_buffer.specs.Heads.{head_of}
-use Rattle.log_buffer.specs.Log.{IsLog, Log, term_of}
-use Rattle.log_buffer.specs.Reader.{Reader, Reads}
-use Rattle.log_reader.specs.Reading.{frame_in}
-use Rattle.log_reader.proofs.ReadFrames.{ends, frame_read, read_frame, starts}
+use Rattle.position.specs.Heads.{frame_in, head_of}
+use Rattle.position.proofs.Heads.{frame_again, length_in, start_in}
+use Rattle.frame_source.specs.Sources.{FindsNone, HasFrame, Passes, ReadsNext, Source}
 use Rattle.sender.specs.Cycling.{setups}
 use Rattle.sender.specs.Outgoing.{Outgoing, with_datagram}
-use Rattle.sender.specs.Sending.{SendsNext, with_wires}
-
--- ---- one frame stands at a position
-
-IsLong : Placed → Type 0
-IsLong s = 0 < covered s
-
-long_placed : (p : ℕ) (cuts : List ℕ) (fs : List Frame) → AreCut cuts fs → AllByRecursion (λ cut. 0 < cut) cuts → AllByRecursion IsLong (place_all p fs)
-unfolding IsLong
-long_placed p cuts [] h k = tt
-long_placed p [] (f ∷ fs) h k = absurd h
-long_placed p (cut ∷ cuts) (f ∷ fs) h k = let same : frame_length f ≡ cut = h.0 in (omega (arith, k.0), long_placed (p + aligned (frame_length f)) cuts fs h.1 k.1)
-
-long_committed : (es : List Entry) → AllByRecursion IsEntry es → AllByRecursion IsLong (committed es)
-long_committed [] h = tt
-long_committed (e ∷ es) h =
-    all_append IsLong (place_all e.start e.frames) (committed es)
-    (long_placed e.start e.cuts e.frames (are_cut e.padding e.cuts e.frames h.0.frames) h.0.cuts)
-    (long_committed es h.1)
-
-one_there : (low : ℕ) (ss : List Placed) (s t : Placed) → InOrder low ss → AllByRecursion IsLong ss → Among s ss → Among t ss → s.at ≡ t.at → s ≡ t
-unfolding IsLong
-one_there low [] s t h k a b e = absurd a
-one_there low (u ∷ us) s t h k (inl x) (inl y) e = x ∙ sym y
-one_there low (u ∷ us) s t h k (inl x) (inr b) e = let later : end_of u ≤ t.at = in_order_from (end_of u) us t h.1 b in let here : s.at ≡ u.at = ap (λ z. z.at) x in absurd (omega (arith, k.0))
-one_there low (u ∷ us) s t h k (inr a) (inl y) e = let later : end_of u ≤ s.at = in_order_from (end_of u) us s h.1 a in let here : t.at ≡ u.at = ap (λ z. z.at) y in absurd (omega (arith, k.0))
-one_there low (u ∷ us) s t h k (inr a) (inr b) e = one_there (end_of u) us s t h.1 k.1 a b e
-
-only_one : (l : Log) (s t : Placed) → IsLog l → Among s (committed l.entries) → Among t (committed l.entries) → s.at ≡ t.at → s ≡ t
-only_one l s t is a b e = one_there l.first (committed l.entries) s t (committed_in_order (term_of l) l.first l.tail l.entries is.tiles is.entries) (long_committed l.entries is.entries) a b e
+use Rattle.sender.specs.Sending.{Gives, with_wires}
 
 -- ---- the outbox
 
@@ -61,46 +25,85 @@ setup_given o p v i j a b e f same there = given o p v (setup_at j b) e (f ∙ a
 
 -- ---- the next frame
 
-pub sends_nothing : (l : Log) (r q : Reader) (o : Outgoing) (limit : ℕ) → q ≡ r → ((s : Placed) → Among s (committed l.entries) → s.at ≡ r.position → ⊥) → SendsNext l r o limit l q o
-sends_nothing l r q o limit e none = record {
-  frame = None;
-  next = λ s a here may. none s a here;
-  sent = ap (λ d. record o { datagrams = d }) (sym (append-nil o.datagrams));
-  behind = (refl, (r.read_to, e));
-}
+-- nothing goes out, and the reader stays
+stays_out : (o : Outgoing) → o ≡ with_wires o []
+stays_out o = ap (λ d. record o { datagrams = d }) (sym (append-nil o.datagrams))
+
+pub gives_nothing : (grown : List Placed → List Placed → Type 0) (s t : Source) (o : Outgoing) (limit : ℕ) (old new : List ℕ) → ((frames : List Placed) → grown frames frames) → FindsNone s old t new → Gives grown s o limit None t o
+gives_nothing grown s t o limit old new stay h =
+    let frames : t.frames ≡ s.frames = ap (λ (x : Source). x.frames) h.same in
+    record {
+      sends = record {
+        frame = None;
+        next = λ f among at may. h.none f (subst (Among f) frames among) at;
+        sent = stays_out o;
+        reads = record {
+          grows = subst (grown s.frames) (sym frames) (stay s.frames);
+          past = h.same ∙ ap (λ (fs : List Placed). record s { frames = fs }) (sym frames);
+        };
+      };
+      end_is = refl;
+      in_stream = tt;
+    }
 
 -- where what goes out of this head's frame ends
 abbrev IsSentTo : FrameHead → ℕ → Type 0
 IsSentTo head to = (at : ℕ) (frame : Frame) → head ≡ head_of at frame → to ≡ sent_end (record { at = at; frame = frame }) frame
 
-pub held_back : (l : Log) (r q : Reader) (o : Outgoing) (limit to : ℕ) (head : FrameHead) (old new : List ℕ) → IsLog l → Reads l r.position head old new → IsSentTo head to → limit < to → q ≡ record r { read_to = head.start + aligned head.frame_length } → SendsNext l r o limit l q o
-held_back l r q o limit to head old new is h sent above e =
-    let here : Placed = read_frame h in
-    let end : to ≡ sent_end here here.frame = sent r.position h.frame h.shown in
+pub held_back : (grown : List Placed → List Placed → Type 0) (s t : Source) (o : Outgoing) (limit to : ℕ) (head : FrameHead) (old new : List ℕ) → ReadsNext grown s head old t new → IsSentTo head to → limit < to → Gives grown s o limit None t o
+held_back grown s t o limit to head old new h sent above =
+    let here : Placed = record { at = s.position; frame = h.read.frame } in
+    let end : to ≡ sent_end here here.frame = sent s.position h.read.frame h.read.shown in
     record {
-      frame = None;
-      next = λ s a at may.
-          let allowed : MayBeSent limit here = subst (MayBeSent limit) (only_one l s here is a h.among at) may in
-          absurd (omega (arith, allowed, end, above));
-      sent = ap (λ d. record o { datagrams = d }) (sym (append-nil o.datagrams));
-      behind = (refl, (head.start + aligned head.frame_length, e));
+      sends = record {
+        frame = None;
+        next = λ f among at may.
+            let allowed : MayBeSent limit here = subst (MayBeSent limit) (h.read.only f among at) may in
+            absurd (omega (arith, allowed, end, above));
+        sent = stays_out o;
+        reads = record { grows = h.grows; past = h.stays };
+      };
+      end_is = refl;
+      in_stream = tt;
     }
 
-pub sends_frame : (l m : Log) (r n q : Reader) (o p : Outgoing) (limit to : ℕ) (head : FrameHead) (old new : List ℕ) → Reads l r.position head old new → IsSentTo head to → to ≤ limit → n ≡ record r { read_to = head.start + aligned head.frame_length } → m ≡ record l { consumers = slice_set l.consumers n.number n.read_to } → q ≡ record n { position = n.read_to } → p ≡ with_datagram o (spelling (wire_at l.identity head.start (frame_in head.kind head.flags head.frame_length new))) → SendsNext l r o limit m q p
-sends_frame l m r n q o p limit to head old new h sent below read log moved out =
-    let here : Placed = read_frame h in
-    let end : head.start + aligned head.frame_length ≡ end_of here = ends l r head old new h in
-    let noted : n ≡ record r { read_to = end_of here } = read ∙ ap (λ (x : ℕ). record r { read_to = x }) end in
-    let allowed : to ≡ sent_end here here.frame = sent r.position h.frame h.shown in
+-- the frame that was read may be passed
+pub read_here : (grown : List Placed → List Placed → Type 0) (s t : Source) (head : FrameHead) (old new : List ℕ) → ReadsNext grown s head old t new → HasFrame t t.position
+read_here grown s t head old new h = subst (HasFrame t) (sym (ap (λ (x : Source). x.position) h.stays)) (record { frame = h.read.frame; among = h.read.among })
+
+pub gives_frame : (grown : List Placed → List Placed → Type 0) (s t u : Source) (o p : Outgoing) (i : Identity) (limit to end : ℕ) (head : FrameHead) (old new : List ℕ) → s.identity ≡ i → ReadsNext grown s head old t new → IsSentTo head to → to ≤ limit → p ≡ with_datagram o (spelling (wire_at i head.start (frame_in head.kind head.flags head.frame_length new))) → Passes t end u → Gives grown s o limit (Some end) u p
+gives_frame grown s t u o p i limit to end head old new same h sent below out q =
+    let here : Placed = record { at = s.position; frame = h.read.frame } in
+    let allowed : to ≡ sent_end here here.frame = sent s.position h.read.frame h.read.shown in
+    let stood : t.position ≡ s.position = ap (λ (x : Source). x.position) h.stays in
+    let ends : end ≡ end_of here = q.behind here h.read.among (sym stood) in
+    let starts : head.start ≡ s.position = ap (λ (x : FrameHead). x.start) h.read.shown ∙ start_in s.position h.read.frame in
+    let told : head.start + aligned head.frame_length ≡ end_of here =
+    ap (λ (n : ℕ). n + aligned head.frame_length) starts
+    ∙ ap (λ (n : ℕ). s.position + aligned n) (ap (λ (x : FrameHead). x.frame_length) h.read.shown ∙ length_in s.position h.read.frame) in
+    let frame : frame_in head.kind head.flags head.frame_length new ≡ h.read.frame =
+    ap (λ (x : FrameHead). frame_in x.kind x.flags x.frame_length new) h.read.shown
+    ∙ ap (frame_in (head_of s.position h.read.frame).kind (head_of s.position h.read.frame).flags (head_of s.position h.read.frame).frame_length) h.read.copied
+    ∙ frame_again s.position h.read.frame old in
+    let frames : u.frames ≡ t.frames = ap (λ (x : Source). x.frames) q.moved in
     record {
-      frame = Some here;
-      next = (h.among, refl, omega (arith, allowed, below));
-      sent =
-          out
-          ∙ ap (λ (x : ℕ). with_datagram o (spelling (wire_at l.identity x (frame_in head.kind head.flags head.frame_length new)))) (starts l r head old new h)
-          ∙ ap (λ (f : Frame). with_datagram o (spelling (wire_at l.identity r.position f))) (frame_read l r.position head old new h);
-      behind = (
-        log ∙ ap (λ (x : Reader). record l { consumers = slice_set l.consumers x.number x.read_to }) noted,
-        moved ∙ ap (λ (x : Reader). record x { position = x.read_to }) noted,
-      );
+      sends = record {
+        frame = Some here;
+        next = (subst (Among here) (sym frames) h.read.among, refl, omega (arith, allowed, below));
+        sent =
+            out
+            ∙ ap (λ (x : ℕ). with_datagram o (spelling (wire_at i x (frame_in head.kind head.flags head.frame_length new)))) starts
+            ∙ ap (λ (f : Frame). with_datagram o (spelling (wire_at i s.position f))) frame
+            ∙ ap (λ (j : Identity). with_datagram o (spelling (wire_at j s.position h.read.frame))) (sym same);
+        reads = record {
+          grows = subst (grown s.frames) (sym frames) h.grows;
+          past =
+              q.moved
+              ∙ ap (λ (x : Source). record x { position = end }) h.stays
+              ∙ ap (λ (e : ℕ). record s { position = e; frames = t.frames }) ends
+              ∙ ap (λ (fs : List Placed). record s { position = end_of here; frames = fs }) (sym frames);
+        };
+      };
+      end_is = ap Some ends;
+      in_stream = subst (λ (e : ℕ). e ≤ max_position s.identity.geometry) (told ∙ sym ends) h.read.legal.in_stream;
     }

@@ -3,3 +3,4 @@ pub mod FirstNews
 pub mod OutboxSlots
 pub mod Outgoing
 pub mod Sending
+pub mod Texts

@@ -1,14 +1,16 @@
 //! Which stream a sender sends.
 
-ghost use Rattle.std.specs.Prelude.{◌≡◌, ◌≤◌, ◌↔◌, length, IsTrue};
-ghost use Rattle.theory.specs.Position.{IsGeometry, max_position};
+ghost use Rattle.std.specs.Prelude.{◌≡◌, ◌+◌, ◌≤◌, ◌↔◌, length, IsTrue};
+ghost use Rattle.theory.specs.Position.{IsGeometry, aligned, max_position};
+ghost use Rattle.theory.specs.Bytes.{header_at};
 ghost use Rattle.theory.specs.Control.{setup_at};
-ghost use Rattle.theory.specs.Wire.{IsFrame, spelling};
-ghost use Rattle.frames.specs.Frames.{status_of, wire};
+ghost use Rattle.theory.specs.Wire.{IsFrame, IsHeader, spelling};
+ghost use Rattle.position.specs.Heads.{IsStreamFrame};
+ghost use Rattle.frames.specs.Frames.{header_of, status_of, wire};
 ghost use Rattle.sender.specs.Cycling.{IsOwn};
 
-use frames::{Frame, Setup, Status};
-use position::Geometry;
+use frames::{Frame, Header, Setup, Status};
+use position::{FrameHead, Geometry};
 use std::marker::Model;
 
 /// A stream: its shape, and the ids of each of its frames.
@@ -54,6 +56,24 @@ impl Identity {
         ensures { IsTrue result ↔ IsOwn self.now (status_of status.now) }
     {
         status.session == self.session && status.stream == self.stream
+    }
+
+    /// The header of the frame with this head, but for its kind, flags and length.
+    pub fn header(&self, head: &FrameHead) -> Header
+        requires { IsStreamFrame self.now.geometry head.now }
+        ensures header { header_of result ≡ header_at self.now head.now.start }
+        ensures legal { IsHeader (header_of result) }
+        ensures offset { result.term_offset + aligned head.now.frame_length ≤ 16777216 }
+        ensures shape { IsGeometry self.now.geometry }
+    {
+        let place = self.geometry().term_of(head.start);
+        Header {
+            term_offset: place.offset,
+            session: self.session,
+            stream: self.stream,
+            term_id: place.term_id,
+            reserved: 0,
+        }
     }
 
     /// The SETUP of the stream at a position.

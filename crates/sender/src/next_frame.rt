@@ -1,152 +1,106 @@
 //! The next frame of a log, given out as a datagram.
 
-ghost use Rattle.std.specs.Prelude.{◌≡◌, ℕ, ◌+◌, ◌≤◌, ◌<◌, ◌^◌, length, slice_set, take};
+ghost use Rattle.std.specs.Prelude.{◌≡◌, ℕ, ◌+◌, ◌≤◌, ◌<◌, length, take};
 ghost use Rattle.std.specs.List.{AllByRecursion};
-ghost use Rattle.theory.specs.Position.{IsGeometry, aligned, max_position};
 ghost use Rattle.theory.specs.Datagrams.{sent_end};
 ghost use Rattle.theory.specs.Placed.{Data, Frame as Framed, Pad};
-ghost use Rattle.theory.specs.Wire.{IsFrame, IsHeader, spelling};
-ghost use Rattle.theory.specs.Bytes.{header_at, wire_at};
-ghost use Rattle.term_buffer.specs.Heads.{IsStreamFrame, head_of};
-ghost use Rattle.log_buffer.specs.Leaves.{LeavesOtherReaders};
-ghost use Rattle.log_buffer.specs.Reader.{IsAt};
-ghost use Rattle.log_reader.specs.Reading.{StandsAt};
-ghost use Rattle.frames.specs.Frames.{header_of, wire};
-ghost use Rattle.sender.specs.Outgoing.{with_datagram};
-ghost use Rattle.sender.specs.Sending.{SendsNext};
-ghost use Rattle.log_reader.specs.Reading.{GoesOn, frame_in};
+ghost use Rattle.theory.specs.Wire.{IsFrame, spelling};
+ghost use Rattle.theory.specs.Bytes.{wire_at};
+ghost use Rattle.position.specs.Heads.{IsStreamFrame, frame_in, head_of};
+ghost use Rattle.frames.specs.Frames.{wire};
+ghost use Rattle.sender.specs.Outgoing.{HasRoom, with_datagram};
+ghost use Rattle.sender.specs.Sending.{Gives};
 
+use crate::identity::Identity;
 use crate::outbox::Outbox;
 use block::Block;
-use frames::{Frame, Header};
-use log_buffer::{LogReader, LogState};
-use log_reader::{advance, next};
+use frame_source::FrameSource;
+use frames::Frame;
 use position::{FrameHead, FrameKind, align32};
 
 /// Gives out the frame at the reader's position, if one is committed there and what goes out of it ends at or below the
-/// limit, and moves the reader behind it. Of a padding its header goes out.
-pub fn send_next(
-    log: &mut LogState,
-    reader: &mut LogReader,
+/// limit, and moves the reader behind it. Of a padding its header goes out. The answer is where a frame ends that went
+/// out.
+pub fn send_next<L, R: FrameSource<L>>(
+    reads: &mut R,
+    log: &mut L,
+    identity: &Identity,
     block: &mut Block,
     limit: u64,
     outbox: &mut Outbox,
-)
-    requires room { log.old.identity.geometry.mtu ≤ length block.old }
-    requires stands { StandsAt log.old reader.old }
-    requires space { length outbox.old.datagrams < 32 }
-    requires size { outbox.old.mtu ≡ log.old.identity.geometry.mtu }
-    ensures sends { SendsNext log.old reader.old outbox.old limit log.new reader.new outbox.new }
-    ensures goes_on { GoesOn log.old reader.old log.new reader.new }
+) -> Option<u64>
+    requires stands { R.stands reads.old log.old }
+    requires same { (R.source reads.old log.old).identity ≡ identity.now }
+    requires room { identity.now.geometry.mtu ≤ length block.old }
+    requires out { HasRoom identity.now outbox.old }
+    ensures gives { Gives R.grown (R.source reads.old log.old) outbox.old limit result (R.source reads.new log.new) outbox.new }
+    ensures stands { R.stands reads.new log.new }
+    ensures leaves { R.leaves reads.old log.old reads.new log.new }
     ensures same_length { length block.new ≡ length block.old }
-    ensures in_stream { reader.old.position ≤ max_position log.old.identity.geometry → reader.new.position ≤ max_position log.old.identity.geometry }
 {
-    let Some(head) = next(log, reader, block) else {
-        return;
+    let Some(head) = reads.next(log, block) else {
+        return None;
     };
-    if sent_to(&head) > limit {
-        return;
+    if sent_to(identity, &head) > limit {
+        return None;
     }
-    give_and_pass(log, reader, &head, block, outbox);
+    give_out(identity, &head, block, outbox);
+    Some(reads.advance(log))
 }
 
 /// Where what goes out of a frame ends.
-fn sent_to(head: &FrameHead) -> u64
-    requires long { 32 ≤ head.now.frame_length }
-    requires short { aligned head.now.frame_length ≤ 16777216 }
-    requires small { head.now.start + aligned head.now.frame_length ≤ 2 ^ 55 }
+fn sent_to(identity: &Identity, head: &FrameHead) -> u64
+    requires { IsStreamFrame identity.now.geometry head.now }
     ensures { (at : ℕ) → (frame : Framed) → head.now ≡ head_of at frame → result ≡ sent_end (record { at = at; frame = frame }) frame }
 {
+    let _geometry = identity.geometry();
     match head.kind {
         FrameKind::Pad => head.start + 32,
         FrameKind::Data => head.start + u64::from(align32(head.frame_length)),
     }
 }
 
-/// Gives out the frame that was read, and moves the reader behind it.
-fn give_and_pass(
-    log: &mut LogState,
-    reader: &mut LogReader,
-    head: &FrameHead,
-    block: &Block,
-    outbox: &mut Outbox,
-)
-    requires room { log.old.identity.geometry.mtu ≤ length block.now }
-    requires head { IsStreamFrame log.old.identity.geometry head.now }
-    requires at { IsAt log.old reader.old }
-    requires read { reader.old.position + 32 ≤ reader.old.read_to }
-    requires space { length outbox.old.datagrams < 32 }
-    requires size { outbox.old.mtu ≡ log.old.identity.geometry.mtu }
-    ensures sent { outbox.new ≡ with_datagram outbox.old (spelling (wire_at log.old.identity head.now.start (frame_in head.now.kind head.now.flags head.now.frame_length block.now))) }
-    ensures log { log.new ≡ record log.old { consumers = slice_set log.old.consumers reader.old.number reader.old.read_to } }
-    ensures moved { reader.new ≡ record reader.old { position = reader.old.read_to } }
-    ensures at { IsAt log.new reader.new }
-    ensures leaves { LeavesOtherReaders reader.old.number log.old log.new }
-{
-    give_out(log, head, block, outbox);
-    let _ = advance(log, reader);
-}
-
 /// Gives out the frame that was read, a message's payload in the block's front.
-fn give_out(log: &LogState, head: &FrameHead, block: &Block, outbox: &mut Outbox)
-    requires room { log.now.identity.geometry.mtu ≤ length block.now }
-    requires head { IsStreamFrame log.now.identity.geometry head.now }
-    requires space { length outbox.old.datagrams < 32 }
-    requires size { outbox.old.mtu ≡ log.now.identity.geometry.mtu }
-    ensures { outbox.new ≡ with_datagram outbox.old (spelling (wire_at log.now.identity head.now.start (frame_in head.now.kind head.now.flags head.now.frame_length block.now))) }
+fn give_out(identity: &Identity, head: &FrameHead, block: &Block, outbox: &mut Outbox)
+    requires room { identity.now.geometry.mtu ≤ length block.now }
+    requires head { IsStreamFrame identity.now.geometry head.now }
+    requires out { HasRoom identity.now outbox.old }
+    ensures { outbox.new ≡ with_datagram outbox.old (spelling (wire_at identity.now head.now.start (frame_in head.now.kind head.now.flags head.now.frame_length block.now))) }
 {
     match head.kind {
-        FrameKind::Pad => outbox.push(&padding(log, head)),
+        FrameKind::Pad => outbox.push(&padding(identity, head)),
         FrameKind::Data => {
             let payload = front_of(block.bytes(), head.frame_length as usize - 32);
-            outbox.push(&data_frame(log, head, payload));
+            outbox.push(&data_frame(identity, head, payload));
         }
     }
 }
 
-/// The header of the frame with this head.
-fn header(log: &LogState, head: &FrameHead) -> Header
-    requires head { IsStreamFrame log.now.identity.geometry head.now }
-    ensures header { header_of result ≡ header_at log.now.identity head.now.start }
-    ensures legal { IsHeader (header_of result) }
-    ensures offset { result.term_offset + aligned head.now.frame_length ≤ 16777216 }
-    ensures shape { IsGeometry log.now.identity.geometry }
-{
-    let place = log.geometry().term_of(head.start);
-    Header {
-        term_offset: place.offset,
-        session: log.session(),
-        stream: log.stream(),
-        term_id: place.term_id,
-        reserved: 0,
-    }
-}
-
 /// The padding with this head.
-fn padding(log: &LogState, head: &FrameHead) -> Frame<'static>
-    requires head { IsStreamFrame log.now.identity.geometry head.now }
-    ensures frame { wire result ≡ wire_at log.now.identity head.now.start (Pad head.now.frame_length) }
+fn padding(identity: &Identity, head: &FrameHead) -> Frame<'static>
+    requires head { IsStreamFrame identity.now.geometry head.now }
+    ensures frame { wire result ≡ wire_at identity.now head.now.start (Pad head.now.frame_length) }
     ensures legal { IsFrame (wire result) }
-    ensures short { length (spelling (wire result)) ≤ log.now.identity.geometry.mtu }
+    ensures short { length (spelling (wire result)) ≤ identity.now.geometry.mtu }
 {
     Frame::Pad {
-        header: header(log, head),
+        header: identity.header(head),
         frame_length: head.frame_length,
     }
 }
 
 /// The message's frame with this head and payload.
-fn data_frame<'a>(log: &LogState, head: &FrameHead, payload: &'a [u8]) -> Frame<'a>
-    requires head { IsStreamFrame log.now.identity.geometry head.now }
+fn data_frame<'a>(identity: &Identity, head: &FrameHead, payload: &'a [u8]) -> Frame<'a>
+    requires head { IsStreamFrame identity.now.geometry head.now }
     requires payload { head.now.frame_length ≡ 32 + length payload.now }
-    requires short { head.now.frame_length ≤ log.now.identity.geometry.mtu }
+    requires short { head.now.frame_length ≤ identity.now.geometry.mtu }
     requires bytes { AllByRecursion (λ b. b < 256) payload.now }
-    ensures frame { wire result ≡ wire_at log.now.identity head.now.start (Data head.now.flags payload.now) }
+    ensures frame { wire result ≡ wire_at identity.now head.now.start (Data head.now.flags payload.now) }
     ensures legal { IsFrame (wire result) }
-    ensures short { length (spelling (wire result)) ≤ log.now.identity.geometry.mtu }
+    ensures short { length (spelling (wire result)) ≤ identity.now.geometry.mtu }
 {
     Frame::Data {
-        header: header(log, head),
+        header: identity.header(head),
         flags: head.flags,
         payload,
     }

@@ -1,10 +1,10 @@
 //! The sender's core: a log's frames, status messages and moments in, datagrams out.
 
-ghost use Rattle.std.specs.Prelude.{◌≡◌, ◌≤◌, ◌<◌, ◌+◌, [], true, length, pos, IfOk, IfErr};
+ghost use Rattle.std.specs.Prelude.{◌≡◌, ◌≤◌, ◌<◌, ◌+◌, [], true, length, pos, IfOk, IfErr, Some};
 ghost use Rattle.theory.specs.Position.{max_position, position_of};
-ghost use Rattle.log_reader.specs.Reading.{StandsAt};
 ghost use Rattle.setup.specs.Naming.{after_due, is_due};
 ghost use Rattle.sender.specs.Cycling.{setups};
+ghost use Rattle.sender.specs.Texts.{answer_text};
 
 use crate::identity::Identity;
 use crate::news::{News, read_news};
@@ -12,8 +12,8 @@ use crate::next_frame::send_next;
 use crate::outbox::Outbox;
 use block::Block;
 use flow_control::FlowControl;
+use frame_source::FrameSource;
 use frames::{FrameError, Status};
-use log_buffer::{LogReader, LogState};
 use position::Geometry;
 use setup::SenderSetup;
 use std::alloc::Global;
@@ -42,6 +42,8 @@ pub enum SenderAnswer {
 }
 
 impl fmt::Display for SenderAnswer {
+    ghost output = { λ answer. Some (answer_text answer) };
+
     fn fmt<W: fmt::Write>(&self, f: &mut fmt::Formatter<W>) -> fmt::Result {
         match *self {
             SenderAnswer::Ticked => f.write_str("ticked"),
@@ -54,15 +56,17 @@ impl fmt::Display for SenderAnswer {
 }
 
 /// Why a sender wasn't made: memory was refused. It gives back what it was given.
-pub struct Denied<F> {
-    pub reader: LogReader,
+pub struct Denied<R, F> {
+    pub reads: R,
     pub flow: F,
 }
 
 /// Sends the committed frames of one log, and its SETUPs.
-pub struct SenderCore<F> {
+pub struct SenderCore<R, F> {
     identity: Identity,
-    reader: LogReader,
+    /// Where its reads stand.
+    position: u64,
+    reads: R,
     flow: F,
     setup: SenderSetup,
     /// The payload of the frame at the sender's position.
@@ -71,43 +75,45 @@ pub struct SenderCore<F> {
     clock: u64,
 }
 
-impl<F> Model for SenderCore<F> {
+impl<R, F> Model for SenderCore<R, F> {
     ghost use Rattle.std.specs.Prelude.{length, ◌≤◌};
     ghost use Rattle.theory.specs.Position.{max_position};
     ghost use Rattle.sender.specs.Sending.{Sending};
 
-    ghost Value = { Sending F };
+    ghost Value = { Sending R F };
 
-    ghost view = { λ s. record { identity = s.identity; reader = s.reader; flow = s.flow; naming = s.setup; clock = s.clock } };
+    ghost view = { λ s. record { identity = s.identity; position = s.position; reads = s.reads; flow = s.flow; naming = s.setup; clock = s.clock } };
 
-    ghost invariant = { λ s. (s.identity.geometry.mtu ≤ length s.block) × (s.reader.position ≤ max_position s.identity.geometry) };
+    ghost invariant = { λ s. (s.identity.geometry.mtu ≤ length s.block) × (s.position ≤ max_position s.identity.geometry) };
 }
 
-impl<F: FlowControl + Drop> SenderCore<F> {
-    ghost use Rattle.sender.specs.Outgoing.{emptied};
-    ghost use Rattle.sender.specs.Sending.{Cycles, HearsDatagram, SendsNext, Steps, at_moment, begun, told, with_wires};
-    ghost use Rattle.log_reader.specs.Reading.{GoesOn};
+impl<R, F: FlowControl + Drop> SenderCore<R, F> {
+    ghost use Rattle.sender.specs.Outgoing.{HasRoom};
+    ghost use Rattle.sender.specs.Sending.{BeginsAt, Cycles, GoesOn, HearsDatagram, SendsFrom, SendsNext, StaysAt, Steps, at_moment, begun, told, with_wires};
 
-    /// A sender of a log with this geometry and ids, which reads by this pass. Where memory was refused, the pass and
-    /// the flow control come back as they were.
+    /// A sender of a log with this geometry, these ids and this start, which it reads by these reads. Where memory was
+    /// refused, the reads and the flow control come back as they were.
     pub fn new(
         alloc: Global,
         geometry: Geometry,
         session: i32,
         stream: i32,
-        reader: LogReader,
+        start: u64,
+        reads: R,
         flow: F,
-    ) -> Result<SenderCore<F>, Denied<F>>
-        requires { reader.position ≤ max_position geometry }
-        ensures made { IfOk result (λ s. s ≡ begun (record { geometry = geometry; session = session; stream = stream }) reader flow) }
-        ensures denied { IfErr result (λ d. d ≡ record { reader = reader; flow = flow }) }
+    ) -> Result<SenderCore<R, F>, Denied<R, F>>
+        requires start { start ≤ max_position geometry }
+        requires begins { BeginsAt start (F.reached flow) (F.allowed flow) }
+        ensures made { IfOk result (λ s. s ≡ begun (record { geometry = geometry; session = session; stream = stream }) start reads flow) }
+        ensures denied { IfErr result (λ d. d ≡ record { reads = reads; flow = flow }) }
     {
         let Ok(block) = Block::new(alloc, geometry.mtu() as usize) else {
-            return Err(Denied { reader, flow });
+            return Err(Denied { reads, flow });
         };
         Ok(SenderCore {
             identity: Identity::new(geometry, session, stream),
-            reader,
+            position: start,
+            reads,
             flow,
             setup: SenderSetup::new(),
             block,
@@ -115,35 +121,39 @@ impl<F: FlowControl + Drop> SenderCore<F> {
         })
     }
 
-    /// Gives the pass back.
-    pub fn into_reader(self) -> LogReader
-        ensures { result ≡ self.reader }
+    /// Gives the reads back.
+    pub fn into_reads(self) -> R
+        ensures { result ≡ self.reads }
     {
         let SenderCore {
             identity: _,
-            reader,
+            position: _,
+            reads,
             flow: _,
             setup: _,
             block: _,
             clock: _,
         } = self;
-        reader
+        reads
     }
 
     /// Does what an event asks for, at a moment in nanoseconds. The outbox is emptied, and then holds what goes out.
-    pub fn step(
+    pub fn step<L>(
         &mut self,
-        log: &mut LogState,
+        log: &mut L,
         event: SenderEvent<'_>,
         now: u64,
         outbox: &mut Outbox,
     ) -> SenderAnswer
-        requires same { log.old.identity ≡ self.old.identity }
-        requires stands { StandsAt log.old self.old.reader }
-        requires size { outbox.old.mtu ≡ log.old.identity.geometry.mtu }
-        ensures step { Steps F.after_status F.after_tick F.reached (at_moment self.old now) event.entry log.old log.new result self.new outbox.new.datagrams }
-        ensures goes_on { GoesOn log.old self.old.reader log.new self.new.reader }
-        ensures identity { self.new.identity ≡ self.old.identity }
+    where
+        R: FrameSource<L>,
+        requires stands { R.stands self.old.reads log.old }
+        requires from { SendsFrom self.old (R.source self.old.reads log.old) }
+        requires size { outbox.old.mtu ≡ self.old.identity.geometry.mtu }
+        ensures step { Steps R.grown F.after_status F.after_tick F.reached (at_moment self.old now) event.entry (R.source self.old.reads log.old) (R.source self.new.reads log.new) result self.new outbox.new.datagrams }
+        ensures goes_on { GoesOn self.old self.new (R.source self.new.reads log.new) }
+        ensures stands { R.stands self.new.reads log.new }
+        ensures leaves { R.leaves self.old.reads log.old self.new.reads log.new }
         ensures size { outbox.new.mtu ≡ outbox.old.mtu }
     {
         outbox.clear();
@@ -153,10 +163,7 @@ impl<F: FlowControl + Drop> SenderCore<F> {
                 self.cycle(log, outbox);
                 SenderAnswer::Ticked
             }
-            SenderEvent::Datagram(bytes) => {
-                let _ = log.tail();
-                self.hear(bytes, outbox)
-            }
+            SenderEvent::Datagram(bytes) => self.hear(bytes, outbox),
         }
     }
 
@@ -168,13 +175,16 @@ impl<F: FlowControl + Drop> SenderCore<F> {
     }
 
     /// A SETUP if it is due, and the next frame if there is one below the flow limit.
-    fn cycle(&mut self, log: &mut LogState, outbox: &mut Outbox)
-        requires same { log.old.identity ≡ self.old.identity }
-        requires stands { StandsAt log.old self.old.reader }
+    fn cycle<L>(&mut self, log: &mut L, outbox: &mut Outbox)
+    where
+        R: FrameSource<L>,
+        requires stands { R.stands self.old.reads log.old }
+        requires from { SendsFrom self.old (R.source self.old.reads log.old) }
         requires empty { outbox.old.datagrams ≡ [] }
-        requires size { outbox.old.mtu ≡ log.old.identity.geometry.mtu }
-        ensures cycle { Cycles F.after_tick F.reached self.old log.old log.new self.new outbox.new.datagrams }
-        ensures goes_on { GoesOn log.old self.old.reader log.new self.new.reader }
+        requires size { outbox.old.mtu ≡ self.old.identity.geometry.mtu }
+        ensures cycle { Cycles R.grown F.after_tick F.reached self.old (R.source self.old.reads log.old) (R.source self.new.reads log.new) self.new outbox.new.datagrams }
+        ensures stands { R.stands self.new.reads log.new }
+        ensures leaves { R.leaves self.old.reads log.old self.new.reads log.new }
         ensures size { outbox.new.mtu ≡ outbox.old.mtu }
     {
         self.tick();
@@ -194,7 +204,7 @@ impl<F: FlowControl + Drop> SenderCore<F> {
         requires space { length outbox.old.datagrams < 32 }
         requires size { outbox.old.mtu ≡ self.old.identity.geometry.mtu }
         ensures state { self.new ≡ record self.old { naming = after_due self.old.naming self.old.clock } }
-        ensures sent { outbox.new ≡ with_wires outbox.old (setups self.old.identity self.old.reader.position (is_due self.old.naming self.old.clock)) }
+        ensures sent { outbox.new ≡ with_wires outbox.old (setups self.old.identity self.old.position (is_due self.old.naming self.old.clock)) }
         ensures few { length outbox.new.datagrams ≤ length outbox.old.datagrams + 1 }
     {
         if self.setup.due(self.clock) {
@@ -203,17 +213,29 @@ impl<F: FlowControl + Drop> SenderCore<F> {
     }
 
     /// Gives out the frame at its position, if it may go.
-    fn send(&mut self, log: &mut LogState, outbox: &mut Outbox)
-        requires same { log.old.identity ≡ self.old.identity }
-        requires stands { StandsAt log.old self.old.reader }
-        requires space { length outbox.old.datagrams < 32 }
-        requires size { outbox.old.mtu ≡ log.old.identity.geometry.mtu }
-        ensures sends { SendsNext log.old self.old.reader outbox.old (F.reached self.old.flow) log.new self.new.reader outbox.new }
-        ensures state { self.new ≡ record self.old { reader = self.new.reader } }
-        ensures goes_on { GoesOn log.old self.old.reader log.new self.new.reader }
+    fn send<L>(&mut self, log: &mut L, outbox: &mut Outbox)
+    where
+        R: FrameSource<L>,
+        requires stands { R.stands self.old.reads log.old }
+        requires from { SendsFrom self.old (R.source self.old.reads log.old) }
+        requires out { HasRoom self.old.identity outbox.old }
+        ensures sends { SendsNext R.grown (R.source self.old.reads log.old) outbox.old (F.reached self.old.flow) (R.source self.new.reads log.new) outbox.new }
+        ensures state { self.new ≡ record self.old { position = (R.source self.new.reads log.new).position; reads = self.new.reads } }
+        ensures stands { R.stands self.new.reads log.new }
+        ensures leaves { R.leaves self.old.reads log.old self.new.reads log.new }
     {
         let limit = self.flow.limit() as u64;
-        send_next(log, &mut self.reader, &mut self.block, limit, outbox);
+        let identity = self.identity;
+        if let Some(end) = send_next(
+            &mut self.reads,
+            log,
+            &identity,
+            &mut self.block,
+            limit,
+            outbox,
+        ) {
+            self.position = end;
+        }
     }
 
     /// Takes a datagram.
@@ -221,8 +243,7 @@ impl<F: FlowControl + Drop> SenderCore<F> {
         requires empty { outbox.old.datagrams ≡ [] }
         requires size { outbox.old.mtu ≡ self.old.identity.geometry.mtu }
         ensures hears { HearsDatagram F.after_status F.reached self.old bytes.now result self.new outbox.new.datagrams }
-        ensures reader { self.new.reader ≡ self.old.reader }
-        ensures identity { self.new.identity ≡ self.old.identity }
+        ensures stays { StaysAt self.old self.new }
         ensures size { outbox.new.mtu ≡ outbox.old.mtu }
     {
         match read_news(bytes, &self.identity) {
@@ -250,7 +271,7 @@ impl<F: FlowControl + Drop> SenderCore<F> {
     fn on_asking(&self, outbox: &mut Outbox) -> SenderAnswer
         requires space { length outbox.old.datagrams < 32 }
         requires size { outbox.old.mtu ≡ self.now.identity.geometry.mtu }
-        ensures sent { outbox.new ≡ with_wires outbox.old (setups self.now.identity self.now.reader.position true) }
+        ensures sent { outbox.new ≡ with_wires outbox.old (setups self.now.identity self.now.position true) }
         ensures answer { result ≡ SenderAnswer.Asked }
     {
         self.give_setup(outbox);
@@ -261,8 +282,8 @@ impl<F: FlowControl + Drop> SenderCore<F> {
     fn give_setup(&self, outbox: &mut Outbox)
         requires space { length outbox.old.datagrams < 32 }
         requires size { outbox.old.mtu ≡ self.now.identity.geometry.mtu }
-        ensures { outbox.new ≡ with_wires outbox.old (setups self.now.identity self.now.reader.position true) }
+        ensures { outbox.new ≡ with_wires outbox.old (setups self.now.identity self.now.position true) }
     {
-        outbox.push(&self.identity.setup_frame(self.reader.position()));
+        outbox.push(&self.identity.setup_frame(self.position));
     }
 }

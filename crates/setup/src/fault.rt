@@ -1,11 +1,11 @@
-ghost use Rattle.std.specs.Prelude.{◌≡◌};
+ghost use Rattle.std.specs.Prelude.{◌≡◌, Some};
 ghost use Rattle.setup.specs.Faults.{code_of};
 
+use std::fmt;
 use thiserror::Error;
 
 /// Why a SETUP opens no image: the first of these that applies.
 #[derive(Clone, Copy, Debug, PartialEq, Eq, Error)]
-#[error("{}", self.code())]
 pub enum SetupError {
     /// The term length or the MTU is no geometry's.
     Geometry,
@@ -13,6 +13,14 @@ pub enum SetupError {
     Position,
     /// The receiver's window isn't one of that geometry.
     Window,
+}
+
+impl fmt::Display for SetupError {
+    ghost output = { λ fault. Some (code_of fault) };
+
+    fn fmt<W: fmt::Write>(&self, f: &mut fmt::Formatter<W>) -> fmt::Result {
+        f.write_str(self.code())
+    }
 }
 
 impl SetupError {

@@ -16,7 +16,8 @@ use Rattle.position.specs.declared.head.FrameHead.{FrameHead}
 use Rattle.position.specs.declared.head.FrameKind.{FrameKind}
 use Rattle.position.specs.declared.head.FrameKind.TheVariants as kinds
 use Rattle.term_buffer.specs.Kept.{Kept, frame_of}
-use Rattle.term_buffer.specs.Heads.{IsStreamFrame, ReadsFrame, ReadsNone, head_of}
+use Rattle.position.specs.Heads.{IsStreamFrame, head_of}
+use Rattle.term_buffer.specs.Reads.{ReadsFrame, ReadsNone}
 use Rattle.term_buffer.specs.Search.{AreInOrder, HasFrame, HasNoneAt, head_in}
 use Rattle.term_buffer.specs.Slots.{IsBuffer, IsInside, BufferParts, entries_of, entry_of, frames_in, geometry_in, piece_in, range, slot_cuts, term_in}
 use Rattle.term_buffer.specs.declared.claimed.Slot.{Slot}

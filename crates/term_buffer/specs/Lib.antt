@@ -1,6 +1,6 @@
 pub mod Forgets
-pub mod Heads
 pub mod Kept
 pub mod Places
+pub mod Reads
 pub mod Search
 pub mod Slots

@@ -1,5 +1,6 @@
 ghost use Rattle.std.specs.Prelude.{◌≡◌, ◌≤◌, ◌<◌, ◌++◌, drop, length, IfSome, IfNone};
-ghost use Rattle.term_buffer.specs.Heads.{IsStreamFrame, ReadsFrame, ReadsNone};
+ghost use Rattle.position.specs.Heads.{IsStreamFrame};
+ghost use Rattle.term_buffer.specs.Reads.{ReadsFrame, ReadsNone};
 
 use crate::buffer::TermBuffer;
 use crate::search::head_at;

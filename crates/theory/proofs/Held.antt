@@ -4,10 +4,8 @@ use Rattle.std.specs.List.{AllByRecursion, list_any}
 use Rattle.std.specs.Prelude.{nat_le, nat_lt, nat_eq, ◌||◌, ◌&&◌, map, ℤ, pos, negsuc}
 use Rattle.std.proofs.lemmas.Bool.{cases_Bool, cases_lt, ltb-true, ltb-false, eqb-true, cond-true, cond-false, le-leb, and_parts, false_from_ne_true, both_ways, leb-true}
 use Rattle.theory.specs.Position.{Geometry, max_position, aligned}
-use Rattle.theory.specs.Wire.{spelling}
-use Rattle.theory.specs.Placed.{Frame, Data, Pad, Placed, covered, end_of, Among, is_padding, frame_length}
-use Rattle.theory.specs.Bytes.{Identity, header_at, wire_at}
-use Rattle.theory.specs.Units.{HasUnit, IsContiguous, spelled_by}
+use Rattle.theory.specs.Placed.{Placed, covered, end_of, Among, is_padding, frame_length}
+use Rattle.theory.specs.Units.{HasUnit, IsContiguous}
 use Rattle.theory.specs.Insert.{Head, head_of, head_end, Insert, CrossesTerm, Below, OverWindow, Duplicate, Overlap, Stored, insert_answer, is_duplicate, overlaps, same_kind, window_end, AreApart}
 use Rattle.theory.specs.Image.{after_heartbeat, is_accepted, Image, after_insert, is_accepted, ImageEvent, Inserted, Heartbeat, Poll, Lose, ImageStep, ImageRun, image_at}
 use Rattle.theory.specs.ImageLaws.{ImageAlways, IsApart, held, AreParted, ReachesWithout}
@@ -152,11 +150,6 @@ apart_run g given (e ∷ es) old new k h = apart_run g given es h.0 new (apart_s
 
 pub apart_always : ImageAlways IsApart
 apart_always g given join window consumers events i run = apart_run g given events (image_at join window consumers) i tt run
-
--- with the log's headers it is the log's bytes
-pub spelled_is : (i : Identity) (p : ℕ) (f : Frame) → spelled_by (header_at i) p f ≡ spelling (wire_at i p f)
-spelled_is i p (Data flags payload) = refl
-spelled_is i p (Pad n) = refl
 
 pub reaches_without : ReachesWithout
 reaches_without frames j q m passed e le parted c = contiguous_held frames j q passed m e le parted c

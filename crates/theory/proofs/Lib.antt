@@ -28,3 +28,7 @@ pub mod Lengths
 pub mod Places
 pub mod Tables
 pub mod Stays
+mod MoreRefusals
+pub mod UnitRows
+pub mod Contiguous
+pub mod Gaps

@@ -44,6 +44,23 @@ group_rows = refl
 outside : (group_limit 2 0 (StatusCame (pos 2) (pos 0) (pos 64) 5002000001 ∷ t5) ∷ group_limit 2 0 (StatusCame (negsuc 0) (pos 0) (pos 64) 5002000001 ∷ t5) ∷ []) ≡ (2432 ∷ 2432 ∷ [])
 outside = refl
 
+-- a moment smaller than one that was seen counts as the one seen, of a tick too
+abbrev u3 : List GroupEvent
+u3 = Ticked 6000000000 ∷ StatusCame (pos 1) (pos 0) (pos 2000) 0 ∷ StatusCame (pos 0) (pos 0) (pos 1000) 0 ∷ []
+
+abbrev u4 : List GroupEvent
+u4 = StatusCame (pos 1) (pos 0) (pos 5000) 1000000000 ∷ u3
+
+backwards : (group_limit 2 0 u3 ∷ group_limit 2 0 u4 ∷ group_limit 2 0 (Ticked 11000000000 ∷ u4) ∷ group_limit 2 0 (StatusCame (pos 0) (pos 0) (pos 9000) 6000000001 ∷ u4) ∷ []) ≡ (1000 ∷ 5000 ∷ 5000 ∷ 5000 ∷ [])
+backwards = refl
+
+-- and of one that comes from outside the group, which counts for nothing else
+abbrev v4 : List GroupEvent
+v4 = StatusCame (pos 2) (pos 0) (pos 9) 6000000000 ∷ StatusCame (pos 1) (pos 0) (pos 5000) 2000000000 ∷ StatusCame (pos 0) (pos 0) (pos 1000) 0 ∷ []
+
+late_tick : (group_limit 2 0 v4 ∷ group_limit 2 0 (Ticked 0 ∷ v4) ∷ []) ≡ (1000 ∷ 5000 ∷ [])
+late_tick = refl
+
 abbrev gap : Gap
 gap = record { start = 64; length = 64 }
 

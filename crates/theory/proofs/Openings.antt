@@ -1,11 +1,14 @@
--- A sender's SETUP opens an image of its geometry at its position.
-use Rattle.std.proofs.Common.{◌≡◌, ℕ, ◌+◌, ◌-◌, ◌*◌, ◌/◌, ◌%◌, ◌^◌, ◌<◌, ◌≤◌, ◌⊎◌, inl, inr, ⊎_elim, true, false, refl, sym, subst, arith}
-use Rattle.std.specs.Prelude.{nat_le}
+-- A sender's SETUP opens an image of its geometry at its position; a SETUP has one fault at the most.
+use Rattle.std.proofs.Common.{◌≡◌, ℕ, ◌+◌, ◌-◌, ◌*◌, ◌/◌, ◌%◌, ◌^◌, ◌<◌, ◌≤◌, ◌⊎◌, inl, inr, ⊎_elim, true, false, refl, sym, ap, ◌∙◌, subst, arith}
+use Rattle.std.specs.Prelude.{nat_le, pos}
 use Rattle.std.proofs.lemmas.Bool.{cases_Bool, cases_lt, cond-true, cond-false, leb-true, leb-false}
 use Rattle.std.proofs.lemmas.Nat.{div-add-mod'}
 use Rattle.std.proofs.Math.Nat.{mul-le-mul_right}
 use Rattle.theory.specs.Position.{Geometry, IsGeometry, max_position, Place, place_of}
-use Rattle.theory.specs.SenderLaws.{SetupOpens}
+use Rattle.theory.specs.Wire.{Setup}
+use Rattle.theory.specs.Image.{IsWindow}
+use Rattle.theory.specs.Setup.{BadGeometry, BadPosition, BadWindow, HasSetupFault, NamesGeometry, NamesPosition, OpensAt, SetupFault}
+use Rattle.theory.specs.SenderLaws.{HasOneFault, SetupOpens}
 use Rattle.theory.proofs.Named.{counts}
 use Rattle.theory.proofs.Places.{mod_unit, power_unit}
 
@@ -56,3 +59,36 @@ setup_opens i p window is le unit w =
       };
       window = w;
     }
+
+-- ---- one fault
+
+-- its numbers are one geometry
+pub one_geometry : (f : Setup) (g h : Geometry) → NamesGeometry f g → NamesGeometry f h → g ≡ h
+one_geometry f g h n m =
+    let terms : pos g.term_length ≡ pos h.term_length = sym n.term_length ∙ m.term_length in
+    let mtus : pos g.mtu ≡ pos h.mtu = sym n.mtu ∙ m.mtu in
+    let term : g.term_length ≡ h.term_length = cc in
+    let mtu : g.mtu ≡ h.mtu = cc in
+    ap (λ x. record g { term_length = x }) term ∙ ap (λ x. record g { term_length = h.term_length; mtu = x }) mtu ∙ ap (λ x. record h { initial_term_id = x }) (sym n.initial ∙ m.initial)
+
+same_place : (f : Setup) (g h : Geometry) (p : ℕ) → NamesGeometry f g → NamesGeometry f h → NamesPosition f g p → NamesPosition f h p
+same_place f g h p n m = subst (λ x. NamesPosition f x p) (one_geometry f g h n m)
+
+no_other : (f : Setup) (window : ℕ) (a b : SetupFault) → HasSetupFault f window a → HasSetupFault f window b → a ≡ b
+no_other f window BadGeometry BadGeometry x y = refl
+no_other f window BadGeometry BadPosition x y = absurd (x y.0 y.1)
+no_other f window BadGeometry BadWindow x y = absurd (x y.0 y.2)
+no_other f window BadPosition BadGeometry x y = absurd (y x.0 x.1)
+no_other f window BadPosition BadPosition x y = refl
+no_other f window BadPosition BadWindow x y = absurd (x.2 y.1 (same_place f y.0 x.0 y.1 y.2 x.1 y.3))
+no_other f window BadWindow BadGeometry x y = absurd (y x.0 x.2)
+no_other f window BadWindow BadPosition x y = absurd (y.2 x.1 (same_place f x.0 y.0 x.1 x.2 y.1 x.3))
+no_other f window BadWindow BadWindow x y = refl
+
+opens_none : (f : Setup) (window : ℕ) (a : SetupFault) → HasSetupFault f window a → (g : Geometry) (p : ℕ) → OpensAt f window g p → ⊥
+opens_none f window BadGeometry x g p o = x g o.geometry
+opens_none f window BadPosition x g p o = x.2 p (same_place f g x.0 p o.geometry x.1 o.position)
+opens_none f window BadWindow x g p o = x.4 (subst (λ h. IsWindow h.term_length h.mtu window) (one_geometry f g x.0 o.geometry x.2) o.window)
+
+pub one_fault : HasOneFault
+one_fault f window a x = (λ b y. no_other f window a b x y, λ g p o. opens_none f window a x g p o)

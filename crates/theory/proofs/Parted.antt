@@ -56,7 +56,7 @@ from_run g given (e ∷ es) old new k h = from_run g given es h.0 new (from_step
 overlap : (s t : Placed) → s.at < end_of t → t.at < end_of s → overlaps (head_of s) (head_of t) ≡ true
 overlap s t l m = and_from (nat_lt s.at (end_of t)) (nat_lt t.at (end_of s)) (lt-ltb s.at (end_of t) l) (lt-ltb t.at (end_of s) m)
 
-one_frame : (frames : List Placed) (s t : Placed) → AreApart (map head_of frames) → Among s frames → Among t frames → s.at < end_of t → t.at < end_of s → s ≡ t
+pub one_frame : (frames : List Placed) (s t : Placed) → AreApart (map head_of frames) → Among s frames → Among t frames → s.at < end_of t → t.at < end_of s → s ≡ t
 one_frame [] s t apart a b l m = absurd a
 one_frame (u ∷ us) s t apart (inl e) (inl f) l m = e ∙ sym f
 one_frame (u ∷ us) s t apart (inl e) (inr b) l m = absurd (both_ways (list_any (overlaps (head_of u)) (map head_of us)) apart.0 (any_here (overlaps (head_of u)) head_of t us b (subst (λ x. overlaps (head_of x) (head_of t) ≡ true) e (overlap s t l m))))

@@ -101,6 +101,10 @@ beat_bytes = refl
 fresh : fresh_tails the_geometry 0 0 ≡ record { zero_th = 0x0000000700000000; first = 0x0000000500000000; second = 0x0000000600000000; active = 0 }
 fresh = refl
 
+-- of a log that opens in its second term or its third
+later_fresh : (fresh_tails the_geometry 1 64 ∷ fresh_tails the_geometry 2 64 ∷ []) ≡ (record { zero_th = 0x0000000700000000; first = 0x0000000800000040; second = 0x0000000600000000; active = 1 } ∷ record { zero_th = 0x0000000700000000; first = 0x0000000800000000; second = 0x0000000900000040; active = 2 } ∷ [])
+later_fresh = refl
+
 tripped_words : greatest_shown the_geometry (record { zero_th = 0x0000000700010020; first = 0x0000000800000000; second = 0x0000000600000000; active = 1 }) ≡ pos 65536
 tripped_words = refl
 

@@ -1,10 +1,8 @@
 -- The frames by which a sender and a receiver tell each other where they stand.
-use Rattle.std.specs.Prelude.{◌≡◌, ℕ, ⊤, List, ℤ, pos}
+use Rattle.std.specs.Prelude.{ℕ, ℤ, pos}
 use Rattle.theory.specs.Position.{Geometry, id_of, place_of, position_of}
-use Rattle.theory.specs.Wire.{DATA, HEARTBEAT, Header, NAK, PAD, SETUP, SM, Setup, Wire}
-use Rattle.theory.specs.Placed.{Among, Placed}
-use Rattle.theory.specs.Bytes.{Identity, header_at, wire_at}
-use Rattle.theory.specs.Gap.{Gap}
+use Rattle.theory.specs.Wire.{Header, SETUP, SM, Setup, Wire}
+use Rattle.theory.specs.Bytes.{Identity}
 
 abbrev pub setup_fields : Identity → ℕ → Setup
 setup_fields i p = record {
@@ -22,10 +20,6 @@ setup_fields i p = record {
 abbrev pub setup_at : Identity → ℕ → Wire
 setup_at i p = SETUP (setup_fields i p)
 
--- the heartbeat of a sender at this position
-abbrev pub beat_at : Identity → ℕ → Wire
-beat_at i p = HEARTBEAT (header_at i p)
-
 -- the status message of a receiver whose least consumer stands here
 abbrev pub status_at : Identity → ℕ → ℕ → ℤ → Wire
 status_at i p window receiver = SM 0 (record {
@@ -41,25 +35,6 @@ status_at i p window receiver = SM 0 (record {
 abbrev pub asking_at : Header → ℤ → Wire
 asking_at h receiver = SM 128 (record { session = h.session; stream = h.stream; term_id = h.term_id; term_offset = pos h.term_offset; window = pos 0; receiver = receiver })
 
--- what a receiver asks for again: a gap
-abbrev pub nak_at : Identity → Gap → Wire
-nak_at i gap = NAK (record {
-  session = i.session;
-  stream = i.stream;
-  term_id = id_of i.geometry (place_of i.geometry gap.start).count;
-  term_offset = pos (place_of i.geometry gap.start).offset;
-  length = pos gap.length;
-})
-
 -- the position that a header names
 abbrev pub named_by : Geometry → Header → ℤ
 named_by g h = position_of g h.term_id (pos h.term_offset)
-
--- Honest input: a frame of this session and stream that an image may be given
-abbrev pub MayBeGiven : Identity → List Placed → List ℕ → Wire → Type 0
-MayBeGiven i sent setups (DATA h flags payload) = (s : Placed) × Among s sent × (DATA h flags payload ≡ wire_at i s.at s.frame)
-MayBeGiven i sent setups (PAD h n) = (s : Placed) × Among s sent × (PAD h n ≡ wire_at i s.at s.frame)
-MayBeGiven i sent setups (SETUP f) = (p : ℕ) × Among p setups × (SETUP f ≡ setup_at i p)
-MayBeGiven i sent setups (HEARTBEAT h) = ⊤
-MayBeGiven i sent setups (NAK f) = ⊤
-MayBeGiven i sent setups (SM asks f) = ⊤

@@ -2,6 +2,7 @@
 use Rattle.std.specs.Prelude.{ℕ, zero, suc, ◌+◌, Bool, true, false, ◌&&◌, min, max, nat_eq, nat_le, List, [], ◌∷◌, if◌then◌else◌, ℤ, pos, ◌+ℤ◌, Option, None, Some, negsuc, nat_lt}
 use Rattle.std.specs.List.{list_any}
 use Rattle.theory.specs.FlowLimit.{Said, clipped}
+use Rattle.theory.specs.Timing.{seen}
 
 pub data GroupEvent : Type 0 where
   StatusCame : (receiver : ℤ) (position : ℤ) (window : ℤ) (now : ℕ) → GroupEvent
@@ -54,10 +55,28 @@ is_inside group (StatusCame (negsuc n) p w now) = false
 is_inside group (Ticked now) = true
 
 -- the greatest of the start and of the candidates, one at each moment from which all are heard
+abbrev pub limit_in_time : ℕ → ℕ → List GroupEvent → ℕ
+limit_in_time group start [] = start
+limit_in_time group start (t ∷ ts) =
+    if is_inside group t && all_heard group (t ∷ ts) then at_least (candidate group (moment_of t) (t ∷ ts)) (limit_in_time group start ts) else limit_in_time group start ts
+
+-- the greatest moment that was handed in
+abbrev pub clock_of : List GroupEvent → ℕ
+clock_of [] = 0
+clock_of (t ∷ ts) = seen (clock_of ts) (moment_of t)
+
+abbrev pub at_clock : ℕ → GroupEvent → GroupEvent
+at_clock clock (StatusCame r p w now) = StatusCame r p w clock
+at_clock clock (Ticked now) = Ticked clock
+
+-- each at the moment that it counts as: one that is smaller than one seen is the one seen
+abbrev pub in_time : List GroupEvent → List GroupEvent
+in_time [] = []
+in_time (t ∷ ts) = at_clock (clock_of (t ∷ ts)) t ∷ in_time ts
+
+-- of all that happened to the group, newest first
 abbrev pub group_limit : ℕ → ℕ → List GroupEvent → ℕ
-group_limit group start [] = start
-group_limit group start (t ∷ ts) =
-    if is_inside group t && all_heard group (t ∷ ts) then at_least (candidate group (moment_of t) (t ∷ ts)) (group_limit group start ts) else group_limit group start ts
+group_limit group start ts = limit_in_time group start (in_time ts)
 
 -- what was heard, as a single receiver's status messages
 abbrev pub said_of : List GroupEvent → List Said

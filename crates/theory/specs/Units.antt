@@ -1,8 +1,7 @@
 -- The units of a list of frames, and how far they stand without a gap.
 use Rattle.std.specs.Prelude.{◌≡◌, ℕ, zero, suc, ◌+◌, ◌-◌, ◌*◌, ◌/◌, ◌%◌, ◌<◌, Bool, ◌&&◌, List, take, drop, nat_eq, if◌then◌else◌}
 use Rattle.std.specs.List.{list_any}
-use Rattle.theory.specs.Wire.{DATA, Header, PAD, spelling}
-use Rattle.theory.specs.Placed.{Among, Data, Frame, Pad, Placed, covered}
+use Rattle.theory.specs.Placed.{Among, Placed, covered}
 use Rattle.theory.specs.Bytes.{Identity, bytes_of, covers}
 
 -- one of the frames has a unit at this position
@@ -16,14 +15,6 @@ pub record HasUnit (frames : List Placed) (position : ℕ) : Type 0 where
 -- the unit, with its content: of a padding the first has the header, and the others are empty
 abbrev pub Got : Identity → List Placed → ℕ → List ℕ → Type 0
 Got i frames position content = (u : HasUnit frames position) × (content ≡ take 32 (drop (32 * u.unit) (bytes_of i u.frame)))
-
--- the same for a holder that knows no session: each frame's bytes with the header that came with it
-abbrev pub spelled_by : (ℕ → Header) → ℕ → Frame → List ℕ
-spelled_by h p (Data flags payload) = spelling (DATA (h p) flags payload)
-spelled_by h p (Pad n) = spelling (PAD (h p) n)
-
-abbrev pub GotBy : (ℕ → Header) → List Placed → ℕ → List ℕ → Type 0
-GotBy h frames position content = (u : HasUnit frames position) × (content ≡ take 32 (drop (32 * u.unit) (spelled_by h u.frame.at u.frame.frame)))
 
 -- every unit from j to q is there, and the one at q isn't
 pub record IsContiguous (frames : List Placed) (j q : ℕ) : Type 0 where

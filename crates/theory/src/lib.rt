@@ -6,10 +6,10 @@
 #![tactic(auto)]
 
 ghost use Rattle.theory.specs.Completion.{GivesWhole};
-ghost use Rattle.theory.specs.ImageLaws.{ImageAlways, IsApart, IsParted, IsMarked, AnswersWithout, ReachesWithout};
+ghost use Rattle.theory.specs.ImageLaws.{ImageAlways, IsApart, IsParted, IsMarked, MarkIsGreatest, AnswersWithout, ReachesWithout};
 ghost use Rattle.theory.specs.Laws.{CoversFramed, HoldsBytes, IsClaimBounded, HasOneReading, HeaderNamesPlace, FreshShowsStart};
 ghost use Rattle.theory.specs.Position.{NamesPlace};
-ghost use Rattle.theory.specs.SenderLaws.{GroupWithin, LimitIsGreatest, TakesExactly, SetupOpens};
+ghost use Rattle.theory.specs.SenderLaws.{GroupWithin, LimitIsGreatest, TakesExactly, SetupOpens, HasOneFault};
 ghost use Rattle.theory.specs.Wire.{HasOneSpelling};
 
 /// The id and the offset of a place name the position, and so does a frame's header.
@@ -42,11 +42,12 @@ pub fn whole_messages()
 {}
 
 /// Whatever frames an image is given: those that it stored never overlap, a consumer never stands inside one, and its
-/// high-water mark is bounded.
+/// high-water mark is the greatest of its sources, and bounded.
 pub fn held_apart()
     ensures apart { ImageAlways IsApart }
     ensures parted { ImageAlways IsParted }
     ensures marked { ImageAlways IsMarked }
+    ensures greatest { MarkIsGreatest }
 {}
 
 /// Frames below the least consumer may be forgotten.
@@ -66,7 +67,8 @@ pub fn takes_exactly()
     ensures { TakesExactly }
 {}
 
-/// A sender's SETUP opens an image of its geometry at its position.
+/// A sender's SETUP opens an image of its geometry at its position; one that opens none has one fault.
 pub fn setup_opens()
-    ensures { SetupOpens }
+    ensures opens { SetupOpens }
+    ensures fault { HasOneFault }
 {}

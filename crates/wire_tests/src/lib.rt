@@ -1,9 +1,7 @@
-//! Tests of what stands in bytes and texts: frames, positions, and the lines of a script.
+//! Tests of what stands in datagrams: frames, and positions in a stream.
 #![tactic(auto)]
 
 #[cfg(test)]
 mod places;
-#[cfg(test)]
-mod scripts;
 #[cfg(test)]
 mod vectors;

@@ -132,6 +132,28 @@ fn vectors(rt: HostRuntime) -> Result<(), Fail> {
     Ok(())
 }
 
+/// A frame of the greatest MTU is read and written back; one that is a byte longer is none.
+#[test]
+fn whole_mtu(rt: HostRuntime) -> Result<(), Fail> {
+    let mut bytes = Vec::new(rt.alloc());
+    bytes.extend_from_slice(&65_504u32.to_le_bytes())?;
+    bytes.extend_from_slice(&MESSAGE[4..32])?;
+    bytes.resize(65_504, 0x61)?;
+    let (frame, size) = read_frame(&bytes)?;
+    assert_eq!(rt; size, 65_504);
+    assert_eq!(rt; check_datagram(&bytes), Ok(1));
+    let mut buffer = vec![in rt.alloc(); 0xff; 65_536]?;
+    assert!(rt; size <= buffer.len());
+    assert_eq!(rt; write_frame(&frame, &mut buffer), size);
+    assert!(rt; size <= buffer.len());
+    assert_eq!(rt; &buffer[..size], bytes.as_slice());
+    let longer = 65_505u32.to_le_bytes();
+    let mut front = MESSAGE;
+    front[..4].copy_from_slice(&longer);
+    assert_eq!(rt; read_frame(&front).err(), Some(FrameError::Length));
+    Ok(())
+}
+
 /// The message with one or two bytes changed, and the first fault.
 #[test]
 fn faults(rt: HostRuntime) {

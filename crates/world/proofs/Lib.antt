@@ -1,10 +1,6 @@
 pub mod Identities
 pub mod Listened
-pub mod PacketNumbers
-pub mod ReaderLines
 pub mod ScriptRuns
 pub mod SimulatedSender
 pub mod SimulationOpens
 pub mod Simulations
-pub mod SlotLemmas
-pub mod Standing

@@ -10,9 +10,7 @@ use Rattle.theory.specs.Consumer.{Consumer, consumer_at}
 use Rattle.theory.specs.Position.{Geometry, IsGeometry, max_position}
 use Rattle.theory.specs.Tiling.{share_of}
 use Rattle.log_buffer.specs.declared.fault.LogError.TheVariants.{Start}
-use Rattle.log_buffer.specs.Books as books
-use Rattle.log_buffer.specs.Log.{Log}
-use Rattle.log_buffer.specs.Reader.{Reader}
+use Rattle.one_hand.specs.Stream.{Stream}
 use Rattle.log_buffer.specs.declared.book.Book.{Book}
 use Rattle.script.specs.Meaning.{Opening, CommandContent, ScriptContent, content_of, contents_of}
 use Rattle.script.specs.declared.command.Command.{Command}
@@ -20,13 +18,13 @@ use Rattle.script_run.specs.Answers.{Answers}
 use Rattle.log_buffer.specs.Openings.{IsStart}
 use Rattle.script_run.specs.Output.{AlwaysCounted, AlwaysPolled, AnswersAll, IsOutputOf, IsOutputOfRun, PrintsBook, geometry_of, identity_of}
 use Rattle.script_run.specs.LineContents.{Open, LineContent, Shares}
-use Rattle.world.specs.Lines.{line_content, line_contents}
+use Rattle.script_parts.specs.Lines.{line_content, line_contents}
 use Rattle.script_run.specs.Published.{Played}
 use Rattle.script_run.specs.ScriptState.{ScriptState, entries_of, opened_state}
-use Rattle.world.specs.Simulated.{Answered, Continued, Continues, ContinuesOpen, IsAnswered, RunsTo, RepresentsState}
-use Rattle.world.specs.declared.line.Line.{Line}
-use Rattle.world.specs.declared.line.Line.TheVariants as lines
-use Rattle.world.specs.declared.simulation.Simulation.{Simulation}
+use Rattle.world.specs.Reading.{ShowsBook}
+use Rattle.world.specs.Simulated.{Answered, Continued, Continues, ContinuesOpen, IsAnswered, RunsTo, RepresentsState, Simulated}
+use Rattle.script_parts.specs.declared.line.Line.{Line}
+use Rattle.script_parts.specs.declared.line.Line.TheVariants as lines
 
 answers_snoc : (old mid new : ScriptState) (ps : List Played) (p : Played) → AnswersAll old ps mid → Answers mid p.command p.lines new → AnswersAll old (ps ++ p ∷ []) new
 answers_snoc old mid new [] p h k = (new, subst (λ (s : ScriptState). Answers s p.command p.lines new) h k, refl)
@@ -38,7 +36,7 @@ lines_in played = flat_map (λ p. p.lines) played
 lines_snoc : (ps : List Played) (p : Played) → lines_in (ps ++ p ∷ []) ≡ lines_in ps ++ p.lines
 lines_snoc ps p = flat_map-append (λ (q : Played). q.lines) ps (p ∷ []) ∙ ap (λ (ls : List LineContent). lines_in ps ++ ls) (append-nil p.lines)
 
-continued_snoc : (old : ScriptState) (os : List CommandContent) (o : CommandContent) (before mid after : List LineContent) (there new : Simulation) → Continued old os before mid there → ((s : ScriptState) → RepresentsState there s → Answered s o mid after new) → Continued old (os ++ o ∷ []) before after new
+continued_snoc : (old : ScriptState) (os : List CommandContent) (o : CommandContent) (before mid after : List LineContent) (there new : Simulated) → Continued old os before mid there → ((s : ScriptState) → RepresentsState there s → Answered s o mid after new) → Continued old (os ++ o ∷ []) before after new
 continued_snoc old os o before mid after there new h step =
     let k = step h.state h.shows in
     let p : Played = record { command = o; lines = k.lines } in
@@ -51,16 +49,16 @@ continued_snoc old os o before mid after there new h step =
       shows = k.shows;
     }
 
-pub none_played : (simulation : Simulation) (ls : List Line) → Continues simulation [] ls ls simulation
+pub none_played : (simulation : Simulated) (ls : List Line) → Continues simulation [] ls ls simulation
 none_played simulation ls s h = record { played = []; state = s; of_commands = refl; answered = refl; printed = sym (append-nil (line_contents ls)); shows = h }
 
-pub one_more_played : (old mid new : Simulation) (cs : List Command) (c : Command) (before there after : List Line) → Continues old (contents_of cs) before there mid → IsAnswered mid (content_of c) there after new → Continues old (contents_of (cs ++ c ∷ [])) before after new
+pub one_more_played : (old mid new : Simulated) (cs : List Command) (c : Command) (before there after : List Line) → Continues old (contents_of cs) before there mid → IsAnswered mid (content_of c) there after new → Continues old (contents_of (cs ++ c ∷ [])) before after new
 one_more_played old mid new cs c before there after h step s shows =
     subst (λ (os : List CommandContent). Continued s os (line_contents before) (line_contents after) new) (sym (map-append content_of cs (c ∷ [])))
     (continued_snoc s (contents_of cs) (content_of c) (line_contents before) (line_contents there) (line_contents after) mid new (h s shows) step)
 
 -- behind the line of an opened log
-pub behind_open : (old new : Simulation) (os : List CommandContent) (before there after : List Line) → there ≡ before ++ lines.Open ∷ [] → Continues old os there after new → ContinuesOpen old os before after new
+pub behind_open : (old new : Simulated) (os : List CommandContent) (before there after : List Line) → there ≡ before ++ lines.Open ∷ [] → Continues old os there after new → ContinuesOpen old os before after new
 behind_open old new os before there after e h s shows =
     subst (λ (ls : List LineContent). Continued s os ls (line_contents after) new) (ap line_contents e ∙ map-append line_content before (lines.Open ∷ [])) (h s shows)
 
@@ -70,7 +68,7 @@ behind_open old new os before there after e h s shows =
 abbrev opening_of : Identity → ℕ → ℕ → Opening
 opening_of i start readers = record { term_length = i.geometry.term_length; mtu = i.geometry.mtu; initial_term_id = i.geometry.initial_term_id; start = start; session = i.session; stream = i.stream; readers = readers }
 
-shows_book : (s : ScriptState) (b : Book) → length b.shares ≡ 8 → ((k : ℕ) → k < 8 → slice_index s.log.shares k ≡ share_of k (entries_of s)) → books.ShowsBook s.log b → PrintsBook s (Shares b.start b.tail b.shares)
+shows_book : (s : ScriptState) (b : Book) → length b.shares ≡ 8 → ((k : ℕ) → k < 8 → slice_index s.log.shares k ≡ share_of k (entries_of s)) → ShowsBook s.log b → PrintsBook s (Shares b.start b.tail b.shares)
 shows_book s b eight counted h = record {
   shares = b.shares;
   eight = eight;
@@ -82,7 +80,7 @@ shows_book s b eight counted h = record {
 all_printed : (before played book : List LineContent) → ((before ++ Open ∷ []) ++ played) ++ book ≡ before ++ Open ∷ (played ++ book)
 all_printed before played book = append_assoc (before ++ Open ∷ []) played book ∙ append_assoc before (Open ∷ []) (played ++ book)
 
-pub runs_to : AlwaysCounted → (old new : Simulation) (i : Identity) (start readers : ℕ) (os : List CommandContent) (before there after : List Line) (b : Book) → length b.shares ≡ 8 → RepresentsState old (opened_state i start readers) → ContinuesOpen old os before there new → books.ShowsBook new.log b → after ≡ there ++ lines.Book b ∷ [] → RunsTo i start readers os (line_contents before) (line_contents after)
+pub runs_to : AlwaysCounted → (old new : Simulated) (i : Identity) (start readers : ℕ) (os : List CommandContent) (before there after : List Line) (b : Book) → length b.shares ≡ 8 → RepresentsState old (opened_state i start readers) → ContinuesOpen old os before there new → ShowsBook new.log b → after ≡ there ++ lines.Book b ∷ [] → RunsTo i start readers os (line_contents before) (line_contents after)
 runs_to counted old new i start readers os before there after b eight shows h book e =
     let k = h (opened_state i start readers) shows in
     record {
@@ -91,7 +89,7 @@ runs_to counted old new i start readers os before there after b eight shows h bo
       of_commands = k.of_commands;
       answered = k.answered;
       book = Shares b.start b.tail b.shares;
-      shown = shows_book k.state b eight (counted (opening_of i start readers) k.played k.state k.answered) (subst (λ (l : Log). books.ShowsBook l b) (sym k.shows.log) book);
+      shown = shows_book k.state b eight (counted (opening_of i start readers) k.played k.state k.answered) (subst (λ (l : Stream). ShowsBook l b) (sym k.shows.log) book);
       printed =
           ap line_contents e
           ∙ map-append line_content there (lines.Book b ∷ [])
@@ -106,35 +104,21 @@ one_more_command cs k c below e =
     ∙ take-suc cs k c below
     ∙ ap (λ (x : Command). take k cs ++ x ∷ []) (sym e)
 
-pub next_played : (old mid new : Simulation) (cs : List Command) (k : ℕ) (c : Command) (before there after : List Line) → k < length cs → c ≡ get_or cs k c → Continues old (contents_of (take k cs)) before there mid → IsAnswered mid (content_of c) there after new → Continues old (contents_of (take (k + 1) cs)) before after new
+pub next_played : (old mid new : Simulated) (cs : List Command) (k : ℕ) (c : Command) (before there after : List Line) → k < length cs → c ≡ get_or cs k c → Continues old (contents_of (take k cs)) before there mid → IsAnswered mid (content_of c) there after new → Continues old (contents_of (take (k + 1) cs)) before after new
 next_played old mid new cs k c before there after below e h step =
     subst (λ (xs : List Command). Continues old (contents_of xs) before after new) (sym (one_more_command cs k c below e))
     (one_more_played old mid new (take k cs) c before there after h step)
 
 -- ---- the whole script
 
--- how many readers the simulation has
-stage_readers : (v : Simulation) (i : Identity) (start readers : ℕ) → RepresentsState v (opened_state i start readers) → readers ≡ length v.readers.items
-stage_readers v i start readers h =
-    sym (length-replicate readers (consumer_at start))
-    ∙ sym (length-map (replicate readers (consumer_at start)) (λ (c : Consumer). c.at))
-    ∙ ap (λ (ps : List ℕ). length ps) (sym h.readers)
-    ∙ length-map v.readers.items (λ (r : Reader). r.position)
-
-pub own_scene : (v : Simulation) (i : Identity) (start readers : ℕ) → RepresentsState v (opened_state i start readers) → RepresentsState v (opened_state v.log.identity v.log.start (length v.readers.items))
-own_scene v i start readers h =
-    let same : i ≡ v.log.identity = ap (λ l. l.identity) h.log in
-    let there : start ≡ v.log.start = ap (λ l. l.start) h.log in
-    subst (λ (k : ℕ). RepresentsState v (opened_state v.log.identity v.log.start k)) (stage_readers v i start readers h)
-    (subst (λ (j : Identity). RepresentsState v (opened_state j v.log.start readers)) same (subst (λ (n : ℕ). RepresentsState v (opened_state i n readers)) there h))
-
-runs_from : (v : Simulation) (i : Identity) (start readers : ℕ) (os : List CommandContent) (before after : List LineContent) → RepresentsState v (opened_state i start readers) → RunsTo v.log.identity v.log.start (length v.readers.items) os before after → RunsTo i start readers os before after
+runs_from : (v : Simulated) (i : Identity) (start readers : ℕ) (os : List CommandContent) (before after : List LineContent) → RepresentsState v (opened_state i start readers) → RunsTo v.log.identity v.log.start v.readers os before after → RunsTo i start readers os before after
 runs_from v i start readers os before after h k =
     let same : i ≡ v.log.identity = ap (λ l. l.identity) h.log in
     let there : start ≡ v.log.start = ap (λ l. l.start) h.log in
+    let many : readers ≡ v.readers = sym (length-replicate readers (consumer_at start)) ∙ sym h.readers in
     subst (λ (j : Identity). RunsTo j start readers os before after) (sym same)
     (subst (λ (n : ℕ). RunsTo v.log.identity n readers os before after) (sym there)
-    (subst (λ (n : ℕ). RunsTo v.log.identity v.log.start n os before after) (sym (stage_readers v i start readers h)) k))
+    (subst (λ (n : ℕ). RunsTo v.log.identity v.log.start n os before after) (sym many) k))
 
 plays_on : (script : ScriptContent) (after : List LineContent) → IsGeometry (geometry_of script.log) → IsStart (geometry_of script.log) script.log.start → IsIdentity (identity_of script.log) → AlwaysPolled → RunsTo (identity_of script.log) script.log.start script.log.readers script.commands [] after → IsOutputOfRun script after
 plays_on script after legal starts identity always h = record {
@@ -151,7 +135,7 @@ plays_on script after legal starts identity always h = record {
   read = λ done later parts. (always script.log h.played h.last legal identity starts h.answered done later parts).1;
 }
 
-pub stage_plays : (script : ScriptContent) (v : Simulation) (j : Identity) (start readers : ℕ) (after : List LineContent) → j ≡ identity_of script.log → start ≡ script.log.start → readers ≡ script.log.readers → IsGeometry (geometry_of script.log) → IsStart (geometry_of script.log) script.log.start → IsIdentity (identity_of script.log) → AlwaysPolled → RepresentsState v (opened_state j start readers) → RunsTo v.log.identity v.log.start (length v.readers.items) script.commands [] after → IsOutputOf script after
+pub stage_plays : (script : ScriptContent) (v : Simulated) (j : Identity) (start readers : ℕ) (after : List LineContent) → j ≡ identity_of script.log → start ≡ script.log.start → readers ≡ script.log.readers → IsGeometry (geometry_of script.log) → IsStart (geometry_of script.log) script.log.start → IsIdentity (identity_of script.log) → AlwaysPolled → RepresentsState v (opened_state j start readers) → RunsTo v.log.identity v.log.start v.readers script.commands [] after → IsOutputOf script after
 stage_plays script v j start readers after same there many legal starts identity always shows runs =
     let here : RepresentsState v (opened_state (identity_of script.log) script.log.start script.log.readers) =
     subst (λ (i : Identity). RepresentsState v (opened_state i script.log.start script.log.readers)) same

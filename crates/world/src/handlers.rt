@@ -1,27 +1,21 @@
 //! What each line of a script does, and what it prints.
 
-ghost use Rattle.std.specs.Prelude.{◌≡◌, ◌≤◌, ◌++◌, length, IfOk, OnErr, OnOk, map, replicate};
+ghost use Rattle.std.specs.Prelude.{◌≡◌, ◌≤◌, ◌++◌, length, OnOk, map};
 ghost use Rattle.theory.specs.Position.{max_message, max_payload};
 ghost use Rattle.receiver.specs.Subscribing.{answer_of};
 ghost use Rattle.script_run.specs.LineContents as content;
 ghost use Rattle.script_run.specs.LineContents.{OfReceiver};
-ghost use Rattle.world.specs.Lines.{line_content, line_contents};
-ghost use Rattle.log_reader.specs.Reading.{GoesOn, StandsAt, frame_in};
-ghost use Rattle.world.specs.Reading.{ReadsLine, shown_frame};
+ghost use Rattle.script_parts.specs.Lines.{line_content, line_contents};
 ghost use Rattle.world.specs.Simulated.{IsAnswered, IsOffered};
 ghost use Rattle.script.specs.Meaning as commands;
 
-use crate::line::Line;
-use crate::publisher_slot::{abort_by, claim_by, commit_by, offer_by};
+use crate::log_lines::{abort_line, claim_line, commit_line, letters, offer_line, read_line};
 use crate::simulation::Simulation;
 use assembler::Message;
-use block::Block;
-use log_buffer::{LogReader, LogState};
-use log_reader::{advance, next};
-use position::{FrameHead, FrameKind};
+use one_hand::{Claims, OneHandLog};
 use receiver::{Outcome, PollError, Positions};
-use rotation::{clean_and_limit, set_closed, set_connected};
 use script::{Command, PartyNumber};
+use script_parts::Line;
 use sender::SenderEvent;
 use std::alloc::{AllocError, Global};
 
@@ -33,32 +27,6 @@ fn tell(lines: &mut Vec<Line>, outcomes: &[Outcome]) -> Result<(), AllocError>
         lines.push(Line::Receiver(*outcome))?;
     }
     Ok(())
-}
-
-/// So many bytes 61. The error comes only where memory was refused.
-fn letters(alloc: Global, size: usize) -> Result<Vec<u8>, AllocError>
-    ensures { IfOk result (λ letters. letters.items ≡ replicate size 97) }
-{
-    vec![in alloc; b'a'; size]
-}
-
-/// A committed frame, a message's payload in the block's front. The error comes only where memory was refused.
-fn frame_line(alloc: Global, head: &FrameHead, block: &Block) -> Result<Line, AllocError>
-    requires long { 32 ≤ head.now.frame_length }
-    requires short { head.now.kind ≡ FrameKind.Data → head.now.frame_length ≤ length block.now }
-    ensures { IfOk result (λ line. line_content line ≡ shown_frame head.now.start (frame_in head.now.kind head.now.flags head.now.frame_length block.now)) }
-{
-    match head.kind {
-        FrameKind::Pad => Ok(Line::FramePad {
-            start: head.start,
-            frame_length: head.frame_length,
-        }),
-        FrameKind::Data => Ok(Line::FrameData {
-            start: head.start,
-            flags: head.flags,
-            bytes: block.bytes()[..head.frame_length as usize - 32].to_vec(alloc)?,
-        }),
-    }
 }
 
 /// What a poll's answer prints.
@@ -87,30 +55,7 @@ fn positions_line(positions: Option<Positions>) -> Line
     }
 }
 
-/// Reads the frame at a reader's position, moves the reader past it, and says what it is. At an error memory was refused,
-/// and the reader stays.
-fn read_line(
-    alloc: Global,
-    log: &mut LogState,
-    reader: &mut LogReader,
-    block: &mut Block,
-) -> Result<Line, AllocError>
-    requires room { log.old.identity.geometry.mtu ≤ length block.old }
-    requires stands { StandsAt log.old reader.old }
-    ensures same_length { length block.new ≡ length block.old }
-    ensures reads { IfOk result (λ line. ReadsLine log.old reader.old (line_content line) log.new reader.new) }
-    ensures stays { OnErr result ((log.new ≡ log.old) × (reader.new.position ≡ reader.old.position)) }
-    ensures goes_on { GoesOn log.old reader.old log.new reader.new }
-{
-    let Some(head) = next(log, reader, block) else {
-        return Ok(Line::NoMessage);
-    };
-    let line = frame_line(alloc, &head, block)?;
-    let _ = advance(log, reader);
-    Ok(line)
-}
-
-impl Simulation {
+impl<L: OneHandLog> Simulation<L> {
     /// Plays one command, and adds its lines.
     pub fn play(&mut self, command: &Command, lines: &mut Vec<Line>) -> Result<(), AllocError>
         ensures { OnOk result (IsAnswered self.old (commands.content_of command.now) lines.old.items lines.new.items self.new) }
@@ -142,7 +87,7 @@ impl Simulation {
     fn connect(&mut self, lines: &mut Vec<Line>) -> Result<(), AllocError>
         ensures { OnOk result (IsAnswered self.old commands.Connect lines.old.items lines.new.items self.new) }
     {
-        set_connected(&mut self.log, &mut self.keeper, true);
+        self.log.set_connected(true);
         lines.push(Line::Done)?;
         Ok(())
     }
@@ -150,7 +95,7 @@ impl Simulation {
     fn disconnect(&mut self, lines: &mut Vec<Line>) -> Result<(), AllocError>
         ensures { OnOk result (IsAnswered self.old commands.Disconnect lines.old.items lines.new.items self.new) }
     {
-        set_connected(&mut self.log, &mut self.keeper, false);
+        self.log.set_connected(false);
         lines.push(Line::Done)?;
         Ok(())
     }
@@ -158,7 +103,7 @@ impl Simulation {
     fn close(&mut self, lines: &mut Vec<Line>) -> Result<(), AllocError>
         ensures { OnOk result (IsAnswered self.old commands.Close lines.old.items lines.new.items self.new) }
     {
-        set_closed(&mut self.log, &mut self.keeper);
+        self.log.set_closed();
         lines.push(Line::Done)?;
         Ok(())
     }
@@ -166,7 +111,8 @@ impl Simulation {
     fn limit(&mut self, lines: &mut Vec<Line>) -> Result<(), AllocError>
         ensures { OnOk result (IsAnswered self.old commands.Limit lines.old.items lines.new.items self.new) }
     {
-        let limit = clean_and_limit(&mut self.log, &mut self.keeper);
+        self.log.is_whole();
+        let limit = self.log.clean_and_limit();
         lines.push(Line::Limit(limit))?;
         Ok(())
     }
@@ -212,7 +158,7 @@ impl Simulation {
         requires { length message.now ≤ max_message self.old.log.identity.geometry }
         ensures { OnOk result (IsOffered self.old publisher.number message.now lines.old.items lines.new.items self.new) }
     {
-        let line = offer_by(&mut self.log, &mut self.slots, publisher.number, message);
+        let line = offer_line(&mut self.log, publisher, message);
         lines.push(line)?;
         Ok(())
     }
@@ -242,7 +188,7 @@ impl Simulation {
         requires { size ≤ max_payload self.old.log.identity.geometry }
         ensures { OnOk result (IsAnswered self.old (commands.Claim publisher.number size) lines.old.items lines.new.items self.new) }
     {
-        let line = claim_by(&mut self.log, &mut self.slots, publisher.number, size);
+        let line = claim_line(&mut self.log, publisher, size);
         lines.push(line)?;
         Ok(())
     }
@@ -250,7 +196,7 @@ impl Simulation {
     fn commit(&mut self, publisher: PartyNumber, lines: &mut Vec<Line>) -> Result<(), AllocError>
         ensures { OnOk result (IsAnswered self.old (commands.Commit publisher.number) lines.old.items lines.new.items self.new) }
     {
-        let line = commit_by(&mut self.log, &mut self.slots, publisher.number);
+        let line = commit_line(*lines.allocator(), &mut self.log, publisher)?;
         lines.push(line)?;
         Ok(())
     }
@@ -258,7 +204,7 @@ impl Simulation {
     fn abort(&mut self, publisher: PartyNumber, lines: &mut Vec<Line>) -> Result<(), AllocError>
         ensures { OnOk result (IsAnswered self.old (commands.Abort publisher.number) lines.old.items lines.new.items self.new) }
     {
-        let line = abort_by(&mut self.log, &mut self.slots, publisher.number);
+        let line = abort_line(&mut self.log, publisher);
         lines.push(line)?;
         Ok(())
     }
@@ -266,13 +212,12 @@ impl Simulation {
     fn read(&mut self, reader: PartyNumber, lines: &mut Vec<Line>) -> Result<(), AllocError>
         ensures { OnOk result (IsAnswered self.old (commands.Read reader.number) lines.old.items lines.new.items self.new) }
     {
-        if reader.number == 0 || reader.number > self.readers.len() {
+        if reader.number == 0 || reader.number > self.readers {
             lines.push(Line::Bad)?;
             return Ok(());
         }
         let alloc = *lines.allocator();
-        let pass = &mut self.readers[reader.number - 1];
-        let line = read_line(alloc, &mut self.log, pass, &mut self.block)?;
+        let line = read_line(alloc, &mut self.log, reader.number, &mut self.block)?;
         lines.push(line)?;
         Ok(())
     }

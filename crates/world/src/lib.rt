@@ -6,12 +6,10 @@
 #![tactic(auto)]
 
 mod handlers;
-mod line;
-mod packets;
-mod publisher_slot;
+mod log_lines;
 mod simulation;
 mod whole_script;
 
-pub use line::Line;
 pub use model::every_run;
+pub use script_parts::Line;
 pub use whole_script::play;

@@ -1,27 +1,24 @@
 //! A script, played from its first line to the book.
 
-ghost use Rattle.std.specs.Prelude.{◌≡◌, ◌<◌, ◌≤◌, ◌-◌, [], length, vec_len, vec_capacity, IfOk, OnOk, OnErr, All};
+ghost use Rattle.std.specs.Prelude.{◌≡◌, ◌<◌, ◌≤◌, length, suc, vec_len, IfOk, OnOk};
 ghost use Rattle.theory.specs.Position.{max_position};
-ghost use Rattle.log_buffer.specs.Log.{fresh};
-ghost use Rattle.log_buffer.specs.Passes.{AreAll, HaveBlocks};
-ghost use Rattle.log_buffer.specs.Reader.{AreReaders, IsAt};
+ghost use Rattle.one_hand.specs.Stream.{opened};
 ghost use Rattle.script_run.specs.ScriptState.{listening_at, opened_state};
 ghost use Rattle.receiver.specs.Subscribing.{RepresentsSubscriber};
 ghost use Rattle.script_run.specs.Output.{IsOutputOf};
-ghost use Rattle.world.specs.Lines.{line_contents};
-ghost use Rattle.world.specs.Simulated.{AreFree, AreListening, Continues, ContinuesOpen, RunsTo, RepresentsState};
+ghost use Rattle.script_parts.specs.Lines.{line_contents};
+ghost use Rattle.world.specs.Simulated.{AreListening, Continues, ContinuesOpen, RunsTo, RepresentsState};
 ghost use Rattle.script.specs.Meaning as meaning;
 
-use crate::line::Line;
-use crate::packets::Packets;
-use crate::publisher_slot::PublisherSlot;
-use crate::simulation::{RECEIVERS, Simulation, close_with};
+use crate::simulation::{RECEIVERS, Simulation};
 use block::Block;
 use flow_control::UnicastFlow;
-use log_buffer::{LogError, LogState, PUBLISHERS, Parts, Publisher, close};
+use log_buffer::LogError;
+use one_hand::{HandReader, OneHandLog, PlainHand};
 use position::Geometry;
 use receiver::{ReceiverCore, Subscriber};
 use script::{Command, LogLine, Script};
+use script_parts::{Line, Packets};
 use script_run::{polls_a_prefix, shares_are_counted};
 use sender::{Denied, Outbox, SenderCore};
 use std::alloc::{AllocError, Global};
@@ -43,7 +40,7 @@ pub fn play(alloc: Global, script: &Script) -> Result<Vec<Line>, AllocError>
     let block = Block::new(alloc, geometry.mtu() as usize)?;
     let subscribers = subscribers(alloc, log, &geometry)?;
     let consumers = log.readers as usize + 1;
-    match LogState::open(
+    match PlainHand::open(
         alloc,
         geometry,
         log.session,
@@ -51,9 +48,9 @@ pub fn play(alloc: Global, script: &Script) -> Result<Vec<Line>, AllocError>
         log.start,
         consumers,
     ) {
-        Ok((state, parts)) => {
+        Ok(hand) => {
             polls_a_prefix();
-            let simulation = simulation(alloc, state, parts, outbox, subscribers, block)?;
+            let simulation = simulation(alloc, hand, log, geometry, outbox, subscribers, block)?;
             run(simulation, &script.commands, lines)
         }
         Err(LogError::Start) => {
@@ -64,6 +61,7 @@ pub fn play(alloc: Global, script: &Script) -> Result<Vec<Line>, AllocError>
         Err(LogError::Memory) => Err(AllocError),
     }
 }
+
 /// A receiver with half a term as its window, and its subscriber.
 fn subscriber(
     alloc: Global,
@@ -94,84 +92,54 @@ fn subscribers(
     Ok(subscribers)
 }
 
-/// The publishers of a log that was just opened, none with a claim. They leave room for as many.
-fn free(publishers: &mut Vec<Publisher>, slots: &mut Vec<PublisherSlot>)
-    requires all { AreAll publishers.old.items }
-    requires empty { slots.old.items ≡ [] }
-    requires room { 8 ≤ vec_capacity slots.old }
-    ensures none { publishers.new.items ≡ [] }
-    ensures room { 8 ≤ vec_capacity publishers.new }
-    ensures free { AreFree publishers.old.items slots.new.items }
-    ensures eight { vec_len slots.new ≡ 8 }
-{
-    while !publishers.is_empty() {
-        slots
-            .push(PublisherSlot::Free(publishers.remove(0)))
-            .unwrap();
-    }
-}
-
-/// The simulation of a log that was just opened.
-fn simulation(
+/// The simulation of a log that was just opened, as this line of a script says.
+fn simulation<L: OneHandLog>(
     alloc: Global,
-    log: LogState,
-    parts: Parts,
+    log: L,
+    line: &LogLine,
+    geometry: Geometry,
     outbox: Outbox,
     subscribers: Vec<Subscriber>,
     block: Block,
-) -> Result<Simulation, AllocError>
-    requires publishers { AreAll parts.publishers.items }
-    requires blocks { HaveBlocks log.identity.geometry.mtu parts.publishers.items }
-    requires readers { AreReaders parts.readers.items log.start (vec_len parts.readers) }
-    requires some { 0 < vec_len parts.readers }
-    requires opened { log ≡ fresh log.identity log.start (vec_len parts.readers) }
-    requires start { log.start < max_position log.identity.geometry }
-    requires size { outbox.mtu ≡ log.identity.geometry.mtu }
-    requires block { log.identity.geometry.mtu ≤ length block }
+) -> Result<Simulation<L>, AllocError>
+    requires opened { L.stream log ≡ opened (record { geometry = geometry; session = line.now.session; stream = line.now.stream }) line.now.start (suc line.now.readers) }
+    requires start { line.now.start < max_position geometry }
+    requires size { outbox.mtu ≡ geometry.mtu }
+    requires block { geometry.mtu ≤ length block }
     requires eight { vec_len subscribers ≡ 8 }
-    requires listening { AreListening log.identity subscribers.items }
-    ensures { IfOk result (λ s. RepresentsState s (opened_state log.identity log.start (vec_len parts.readers - 1))) }
+    requires listening { AreListening (record { geometry = geometry; session = line.now.session; stream = line.now.stream }) subscribers.items }
+    ensures { IfOk result (λ s. RepresentsState s (opened_state (record { geometry = geometry; session = line.now.session; stream = line.now.stream }) line.now.start line.now.readers)) }
 {
-    let Parts {
-        mut publishers,
-        mut readers,
-        keeper,
-    } = parts;
-    let Ok(mut slots) = Vec::with_capacity(alloc, PUBLISHERS) else {
-        let _ = close(log, publishers, readers, keeper);
-        return Err(AllocError);
-    };
-    let reader = readers.remove(0);
-    let geometry = log.geometry();
-    let flow = UnicastFlow::new(log.start());
-    match SenderCore::new(alloc, geometry, log.session(), log.stream(), reader, flow) {
-        Ok(sender) => {
-            free(&mut publishers, &mut slots);
-            Ok(Simulation {
-                log,
-                slots,
-                readers,
-                keeper,
-                publishers,
-                block,
-                sender,
-                outbox,
-                subscribers,
-                packets: Packets::new(alloc),
-            })
-        }
-        Err(denied) => {
-            let Denied { reader, flow: _ } = denied;
-            slots.destroy_empty();
-            let _ = close_with(log, publishers, readers, reader, keeper);
+    let flow = UnicastFlow::new(line.start);
+    let reads = HandReader { number: 0 };
+    match SenderCore::new(
+        alloc,
+        geometry,
+        line.session,
+        line.stream,
+        line.start,
+        reads,
+        flow,
+    ) {
+        Ok(sender) => Ok(Simulation {
+            log,
+            readers: line.readers as usize,
+            block,
+            sender,
+            outbox,
+            subscribers,
+            packets: Packets::new(alloc),
+        }),
+        Err(Denied { reads: _, flow: _ }) => {
+            let _ = log.close();
             Err(AllocError)
         }
     }
 }
 
 /// Adds the line of an opened log, and then those of the commands, one after the other.
-fn play_open(
-    simulation: &mut Simulation,
+fn play_open<L: OneHandLog>(
+    simulation: &mut Simulation<L>,
     commands: &[Command],
     lines: &mut Vec<Line>,
 ) -> Result<(), AllocError>
@@ -182,8 +150,8 @@ fn play_open(
 }
 
 /// Plays the commands one after the other, and adds their lines.
-fn play_all(
-    simulation: &mut Simulation,
+fn play_all<L: OneHandLog>(
+    simulation: &mut Simulation<L>,
     commands: &[Command],
     lines: &mut Vec<Line>,
 ) -> Result<(), AllocError>
@@ -196,13 +164,13 @@ fn play_all(
 }
 
 /// Plays the commands from the opened log on, and ends it.
-fn run(
-    mut simulation: Simulation,
+fn run<L: OneHandLog>(
+    mut simulation: Simulation<L>,
     commands: &[Command],
     mut lines: Vec<Line>,
 ) -> Result<Vec<Line>, AllocError>
-    requires { RepresentsState simulation (opened_state simulation.log.identity simulation.log.start (vec_len simulation.readers)) }
-    ensures { IfOk result (λ after. RunsTo simulation.log.identity simulation.log.start (vec_len simulation.readers) (meaning.contents_of commands.now) (line_contents lines.items) (line_contents after.items)) }
+    requires { RepresentsState simulation (opened_state simulation.log.identity simulation.log.start simulation.readers) }
+    ensures { IfOk result (λ after. RunsTo simulation.log.identity simulation.log.start simulation.readers (meaning.contents_of commands.now) (line_contents lines.items) (line_contents after.items)) }
 {
     shares_are_counted();
     let played = play_open(&mut simulation, commands, &mut lines);

@@ -1,6 +1,7 @@
 use Rattle.model.proofs.Asked.{resends_asked}
-use Rattle.model.proofs.Datagrams.{cycle_may_send, resends_first}
+use Rattle.model.proofs.Datagrams.{cycle_may_send}
 use Rattle.model.proofs.Sizes.{groups_well}
+use Rattle.model.proofs.Spent.{cycle_sends_all, resends_first}
 use Rattle.model.proofs.cycle_sends.Goals as goal
 
 pub returns-clause-allowed : goal.returns-clause-allowed
@@ -14,3 +15,6 @@ returns-clause-resent c = resends_first
 
 pub returns-clause-asked : goal.returns-clause-asked
 returns-clause-asked c = resends_asked
+
+pub returns-clause-all : goal.returns-clause-all
+returns-clause-all c = cycle_sends_all

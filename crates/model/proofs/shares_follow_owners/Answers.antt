@@ -1,8 +1,11 @@
-use Rattle.model.proofs.Shares.{adds_to_owner, retires_to}
+use Rattle.model.proofs.Shares.{have_no_share, retires_for_good, shares_follow}
 use Rattle.model.proofs.shares_follow_owners.Goals as goal
 
-pub returns-clause-add : goal.returns-clause-add
-returns-clause-add c = adds_to_owner
+pub returns-clause-shares : goal.returns-clause-shares
+returns-clause-shares c = shares_follow
 
-pub returns-clause-retire : goal.returns-clause-retire
-returns-clause-retire c = retires_to
+pub returns-clause-retired : goal.returns-clause-retired
+returns-clause-retired c = retires_for_good
+
+pub returns-clause-nothing : goal.returns-clause-nothing
+returns-clause-nothing c = have_no_share

@@ -1,6 +1,6 @@
 use Rattle.std.proofs.Common.{◌≡◌, ◌++◌, map, take}
 use Rattle.script_run.specs.LineContents.{OfReceiver}
-use Rattle.world.specs.Lines.{line_contents}
+use Rattle.script_parts.specs.Lines.{line_contents}
 use Rattle.world.proofs.handlers.tell.Given as goal
 
 -- the outcomes so far are told

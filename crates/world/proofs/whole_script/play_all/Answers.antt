@@ -2,4 +2,4 @@ use Rattle.world.proofs.ScriptRuns.{next_played}
 use Rattle.world.proofs.whole_script.play_all.Goals as goal
 
 pub loop-command-preserved : goal.loop-command-preserved
-loop-command-preserved c = next_played _ _ _ c.args.commands.now c.loop-command.command-index c.command-item.result _ _ _ c.loop-command-test.true c.command-item.is c.loop-command.invariant c.in_ok-play.ensures
+loop-command-preserved g c = next_played _ _ _ c.args.commands.now c.loop-command.command-index c.command-item.result _ _ _ c.loop-command-test.true c.command-item.is c.loop-command.invariant c.in_ok-play.ensures

@@ -4,4 +4,4 @@ use Rattle.world.proofs.ScriptRuns.{behind_open}
 use Rattle.world.proofs.whole_script.play_open.Goals as goal
 
 pub returns : goal.returns
-returns c = IfOk-weaker c.play_all.result _ _ (λ u h. behind_open _ _ _ _ _ _ (search rules) h) c.play_all.ensures
+returns g c = IfOk-weaker c.play_all.result _ _ (λ u h. behind_open _ _ _ _ _ _ (search rules) h) c.play_all.ensures

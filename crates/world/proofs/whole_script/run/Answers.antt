@@ -3,6 +3,6 @@ use Rattle.world.proofs.ScriptRuns.{runs_to}
 use Rattle.world.proofs.whole_script.run.Goals as goal
 
 pub returns : goal.returns
-returns c =
+returns g c =
     let eight : length c.end-book.result.shares ≡ 8 = search rules in
     runs_to c.shares_are_counted.ensures _ _ _ _ _ _ _ _ _ c.end-book.result eight c.requires c.in_ok-played.ensures c.end-book.ensures c.in_ok-push.ensures.items

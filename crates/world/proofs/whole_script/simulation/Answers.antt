@@ -1,65 +1,25 @@
-use Rattle.std.proofs.Common.{◌≡◌, ◌∙◌, ◌-◌, ℕ, List, ◌∷◌, length, arith, rules, ap, suc, sym, subst, vec_len, w32, to_z, of_z, FitsSigned}
-use Rattle.std.specs.Prelude.{replicate}
+use Rattle.std.proofs.Common.{◌∙◌, ℕ, ap, sym, refl, rules, w32, to_z, of_z, FitsSigned}
 use Rattle.std.proofs.lemmas.Int.{to_z-of_z}
-use Rattle.theory.specs.Consumer.{Consumer, consumer_at}
-use Rattle.log_buffer.specs.Log.{Log, fresh}
-use Rattle.log_buffer.specs.Reader.{Reader}
-use Rattle.log_reader.specs.Reading.{StandsAt}
+use Rattle.theory.specs.Bytes.{Identity}
+use Rattle.one_hand.specs.declared.hand_reader.HandReader.{HandReader}
+use Rattle.sender.specs.Sending.{begun}
 use Rattle.world.proofs.Identities.{same_identity}
-use Rattle.theory.proofs.Tables.{map_replicate}
-use Rattle.world.proofs.SimulationOpens.{free_slots, none_claimed, opens}
+use Rattle.world.proofs.SimulationOpens.{opened_shown}
 use Rattle.world.proofs.whole_script.simulation.Goals as goal
 
-pub invariant_of-result : goal.invariant_of-result
-invariant_of-result c =
-    let session : FitsSigned w32 c.session.result = search rules in
-    let stream : FitsSigned w32 c.stream.result = search rules in
-    let same = same_identity c.args.log.identity c.geometry-geometry.result (to_z w32 (of_z w32 c.session.result)) (to_z w32 (of_z w32 c.stream.result))
-    c.geometry-geometry.ensures.value
-    (to_z-of_z w32 c.session.result session ∙ c.session.ensures)
-    (to_z-of_z w32 c.stream.result stream ∙ c.stream.ensures)
-    ∙ sym (ap (λ s. s.identity) c.in-Ok-new.ensures.made) in
-    let count = vec_len c.args.parts.readers in
-    let consumers : c.args.log.consumers ≡ replicate count c.args.log.start = ap (λ (l : Log). l.consumers) c.requires.opened in
-    let o = opens c.args.log c.args.log.start count c.args.parts.readers.items c.remove-reader.new.self.items c.remove-reader.result _ consumers c.requires.readers c.requires.some c.remove-reader.ensures.value c.remove-reader.ensures.items in
-    let reader : c.in-Ok-new.sender.reader ≡ c.remove-reader.result = ap (λ s. s.reader) c.in-Ok-new.ensures.made in
-    record {
-      all = c.free.ensures.eight;
-      empty = c.free.ensures.none;
-      space = c.free.ensures.room;
-      block_size = c.requires.block;
-      each = free_slots c.args.log c.args.parts.publishers.items c.free.new.slots.items c.requires.publishers c.requires.blocks c.free.ensures.free;
-      room = search rules;
-      same = same;
-      first = ap (λ (r : Reader). r.number) (reader ∙ o.first);
-      stands = subst (StandsAt c.args.log) (sym reader) o.stands;
-      reading = o.others;
-      size = c.requires.size;
-      eight = c.requires.eight;
-    }
-
-pub returns-in-Ok-new : goal.returns-in-Ok-new
-returns-in-Ok-new c =
-    let l = c.args.log in
-    let start = l.start in
-    let count = vec_len c.args.parts.readers in
-    let consumers : l.consumers ≡ replicate count start = ap (λ (l : Log). l.consumers) c.requires.opened in
-    let o = opens l start count c.args.parts.readers.items c.remove-reader.new.self.items c.remove-reader.result _ consumers c.requires.readers c.requires.some c.remove-reader.ensures.value c.remove-reader.ensures.items in
-    let reader : c.in-Ok-new.sender.reader ≡ c.remove-reader.result = ap (λ s. s.reader) c.in-Ok-new.ensures.made in
-    let more : count ≡ suc (count - 1) = omega (arith, c.requires.some) in
-    let rest : length c.remove-reader.new.self.items ≡ count - 1 = omega (arith, o.count_is) in
-    record {
-      log = sym (c.requires.opened ∙ ap (fresh l.identity start) more);
-      sender = record {
-        at = ap (λ (r : Reader). r.position) (reader ∙ o.first);
-        number = ap (λ (r : Reader). r.number) (reader ∙ o.first);
-        flow = ap (λ s. s.flow) c.in-Ok-new.ensures.made ∙ c.new-flow.ensures ∙ c.start.ensures;
-        naming = ap (λ s. s.naming) c.in-Ok-new.ensures.made;
-        clock = ap (λ s. s.clock) c.in-Ok-new.ensures.made;
-      };
-      consumers = consumers ∙ ap (λ (n : ℕ). replicate n start) more ∙ ap (λ (ns : List ℕ). start ∷ ns) (map_replicate (λ (d : Consumer). d.at) (count - 1) (consumer_at start));
-      claims = none_claimed c.args.parts.publishers.items c.free.new.slots.items c.requires.publishers c.free.ensures.free;
-      readers = o.positions ∙ ap (λ (n : ℕ). replicate n start) rest ∙ map_replicate (λ (d : Consumer). d.at) (count - 1) (consumer_at start);
-      receivers = c.requires.listening;
-      packets = sym c.new-in-Ok-new.ensures;
-    }
+pub returns-in-Ok : goal.returns-in-Ok
+returns-in-Ok g c =
+    let line = c.args.line.now in
+    let session : FitsSigned w32 c.args.line.now.session = search rules in
+    let stream : FitsSigned w32 c.args.line.now.stream = search rules in
+    let i : Identity = record { geometry = c.args.geometry; session = line.session; stream = line.stream } in
+    let first : HandReader = record { number = 0 } in
+    let same = same_identity i c.args.geometry (to_z w32 (of_z w32 line.session)) (to_z w32 (of_z w32 line.stream)) refl (to_z-of_z w32 line.session session) (to_z-of_z w32 line.stream stream) in
+    opened_shown i line.start line.readers _
+    (record {
+      log = c.requires.opened;
+      readers_are = refl;
+      sender = c.in-Ok.ensures.made ∙ ap (λ (j : Identity). begun j line.start first c.new-flow.result) (sym same) ∙ ap (λ (f : ℕ). begun i line.start first f) c.new-flow.ensures;
+      packets = c.new-in-Ok.ensures;
+    })
+    c.requires.listening

@@ -1,7 +1,7 @@
 use Rattle.std.proofs.Common.{◌≡◌, ◌∙◌, ◌++◌, ◌∷◌, ◌<◌, ◌≤◌, ◌+◌, [], suc, ℕ, List, Result, Ok, Err, length, drop, take, arith, ap, subst, sym}
 use Rattle.std.specs.Prelude.{OnErr}
 use Rattle.std.specs.List.{AllByRecursion, flat_map}
-use Rattle.std.proofs.lemmas.List.{take-append-drop, take_all}
+use Rattle.std.proofs.lemmas.List.{append_assoc, take-append-drop, take_all}
 use Rattle.frames.specs.Fronts.{FrontSpells}
 use Rattle.theory.specs.Wire.{IsFrame, Wire, spelling}
 use Rattle.frames.specs.Frames.{wire}
@@ -13,11 +13,11 @@ use Rattle.receiver.proofs.receiver_core.ReceiverCore.on_frames.Goals as goal
 
 pub unreachable-requires : goal.unreachable-requires
 unreachable-requires c =
-    let frames = c.requires.0 in
+    let frames = c.requires.frames.0 in
     let i = c.loop-turn._turn in
-    let before = c.loop-turn.invariant.taken frames c.requires.1 c.requires.2 in
-    let below : i < length frames = omega (arith, c.requires.2, c.loop-turn-test.true) in
-    let at = frame_at frames i c.requires.1.1 below in
+    let before = c.loop-turn.invariant.taken frames c.requires.frames.1 c.requires.frames.2 in
+    let below : i < length frames = omega (arith, c.requires.frames.2, c.loop-turn-test.true) in
+    let at = frame_at frames i c.requires.frames.1.1 below in
     let parts = frame_first frames c.loop-turn.rest.now i at before.0 in
     c.in_default.ensures.only at.frame (length (spelling at.frame)) (front_spells at.frame c.loop-turn.rest.now (flat_map spelling (drop (suc i) frames)) at.is parts)
 
@@ -45,10 +45,11 @@ loop-turn-preserved c = record {
       let below : i < length frames = omega (arith, counted, c.loop-turn-test.true) in
       let next = next_is frames i c.loop-turn.rest.now (wire c.in-Ok.frame) c.in-Ok.size spells.1 below before.0 c.in-Ok.ensures.only in (
         slice_to_end c.loop-turn.rest.now c.in-Ok.size ∙ next.dropped,
-        subst (λ ws. Becomes c.args.self.now c.on_frame.new.self (λ r s. MeetsAll r ws c.push.new.self.items s)) next.taken
-            (subst (λ outs. Becomes c.args.self.now c.on_frame.new.self (λ r s. MeetsAll r (take i frames ++ wire c.in-Ok.frame ∷ []) outs s)) (sym c.in_ok-push.ensures.items)
+        subst (λ ws. Becomes c.args.self.now c.on_frame.new.self (λ r s. MeetsAll r ws c.push_reserved.new.self.items s)) next.taken
+            (subst (λ outs. Becomes c.args.self.now c.on_frame.new.self (λ r s. MeetsAll r (take i frames ++ wire c.in-Ok.frame ∷ []) outs s)) (sym c.push_reserved.ensures.items)
             (becomes_more c.args.self.now c.loop-turn.self c.on_frame.new.self (take i frames) c.loop-turn.outcomes.items (wire c.in-Ok.frame) c.in_ok-outcome.outcome before.1 c.in_ok-outcome.ensures.met)),
       );
+  room = omega (arith, c.loop-turn.invariant.room, c.push_reserved.ensures.len, c.push_reserved.ensures.capacity, c.loop-turn-test.true);
   consumers = c.in_ok-outcome.ensures.consumers ∙ c.loop-turn.invariant.consumers;
 }
 
@@ -60,19 +61,12 @@ pub returns-in_err-outcome-clause-broken_off : goal.returns-in_err-outcome-claus
 returns-in_err-outcome-clause-broken_off c = λ frames spells counted.
     let i = c.loop-turn._turn in
     let before = c.loop-turn.invariant.taken frames spells counted in
-    on_err c.from_residual.result (Becomes c.args.self.now c.on_frame.new.self (MeetsFirst frames))
-    (subst (λ w. Becomes c.args.self.now w (MeetsFirst frames)) (sym c.in_err-outcome.ensures.refused) (first_taken c.args.self.now c.loop-turn.self frames (take i frames) (drop i frames) c.loop-turn.outcomes.items (sym (take-append-drop i frames)) before.1))
-
-pub returns-in_err-push-clause-broken_off : goal.returns-in_err-push-clause-broken_off
-returns-in_err-push-clause-broken_off c = λ frames spells counted.
-    let i = c.loop-turn._turn in
-    let before = c.loop-turn.invariant.taken frames spells counted in
     let below : i < length frames = omega (arith, counted, c.loop-turn-test.true) in
-    let next = next_is frames i c.loop-turn.rest.now (wire c.in-Ok.frame) c.in-Ok.size spells.1 below before.0 c.in-Ok.ensures.only in
-    on_err c.from_residual-in_err-push.result (Becomes c.args.self.now c.on_frame.new.self (MeetsFirst frames))
-    (first_taken c.args.self.now c.on_frame.new.self frames (take (i + 1) frames) (drop (i + 1) frames) (c.loop-turn.outcomes.items ++ c.in_ok-outcome.outcome ∷ []) (sym (take-append-drop (i + 1) frames))
-    (subst (λ ws. Becomes c.args.self.now c.on_frame.new.self (λ r s. MeetsAll r ws (c.loop-turn.outcomes.items ++ c.in_ok-outcome.outcome ∷ []) s)) next.taken
-    (becomes_more c.args.self.now c.loop-turn.self c.on_frame.new.self (take i frames) c.loop-turn.outcomes.items (wire c.in-Ok.frame) c.in_ok-outcome.outcome before.1 c.in_ok-outcome.ensures.met)))
+    let w : Wire = wire c.in-Ok.frame in
+    let next = next_is frames i c.loop-turn.rest.now w c.in-Ok.size spells.1 below before.0 c.in-Ok.ensures.only in
+    let parts : frames ≡ take i frames ++ w ∷ drop (i + 1) frames = sym (take-append-drop (i + 1) frames) ∙ ap (λ ws. ws ++ drop (i + 1) frames) (sym next.taken) ∙ append_assoc (take i frames) (w ∷ []) (drop (i + 1) frames) in
+    on_err c.from_residual.result (Becomes c.args.self.now c.on_frame.new.self (MeetsFirst frames))
+    (subst (λ x. Becomes c.args.self.now x (MeetsFirst frames)) (sym c.in_err-outcome.ensures.refused) (first_taken c.args.self.now c.loop-turn.self frames (take i frames) (drop (i + 1) frames) w c.loop-turn.outcomes.items parts c.in_err-outcome.ensures.wanted before.1))
 
 pub returns-clause-met : goal.returns-clause-met
 returns-clause-met c = λ frames spells counted.

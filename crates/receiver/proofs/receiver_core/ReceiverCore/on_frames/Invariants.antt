@@ -1,4 +1,5 @@
-use Rattle.std.proofs.Common.{◌≡◌, List, length, take, drop}
+use Rattle.std.proofs.Common.{◌≡◌, ◌+◌, ◌-◌, ◌≤◌, List, length, take, drop, vec_len}
+use Rattle.std.specs.Prelude.{vec_capacity}
 use Rattle.std.specs.List.{flat_map}
 use Rattle.theory.specs.Wire.{Wire, SpellsDatagram, spelling}
 use Rattle.receiver.specs.Receiving.{MeetsAll}
@@ -10,5 +11,6 @@ abbrev pub invariant-loop-turn : goal.invariant-loop-turn
 invariant-loop-turn l = record {
   taken : (frames : List Wire) → SpellsDatagram frames l.datagram → length frames ≡ l.count
       → (l.rest ≡ flat_map spelling (drop l._turn frames)) × Becomes l.fn.self l.self (λ r s. MeetsAll r (take l._turn frames) l.outcomes.items s);
+  room : vec_len l.outcomes + (l.count - l._turn) ≤ vec_capacity l.outcomes;
   consumers : l.self.consumers ≡ l.fn.self.consumers;
 }

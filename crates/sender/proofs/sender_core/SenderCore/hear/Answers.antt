@@ -16,7 +16,7 @@ pub returns-in-AsksSetup-clause-hears : goal.returns-in-AsksSetup-clause-hears
 returns-in-AsksSetup-clause-hears g c = record {
   news = AsksSetup;
   is = subst (λ (i : Identity). IsNews i c.args.bytes.now AsksSetup) (ap (λ s. s.identity) c.self.view_is) c.in-AsksSetup.ensures;
-  hears = (refl, c.on_asking.ensures.answer, ap (λ o. o.datagrams) c.on_asking.ensures.sent ∙ ap (λ (d : List (List ℕ)). d ++ datagrams (setups c.args.self.now.identity c.args.self.now.reader.position true)) c.requires.empty);
+  hears = (refl, c.on_asking.ensures.answer, ap (λ o. o.datagrams) c.on_asking.ensures.sent ∙ ap (λ (d : List (List ℕ)). d ++ datagrams (setups c.args.self.now.identity c.args.self.now.position true)) c.requires.empty);
 }
 
 pub returns-in-TellsNothing-clause-hears : goal.returns-in-TellsNothing-clause-hears

@@ -6,7 +6,8 @@ use Rattle.position.specs.contracts.head.FrameKind.{the_type}
 use Rattle.position.specs.declared.head.FrameHead.{FrameHead}
 use Rattle.position.specs.declared.head.FrameKind.{FrameKind}
 use Rattle.position.specs.declared.head.FrameKind.TheVariants as kinds
-use Rattle.term_buffer.specs.Heads.{IsStreamFrame, ReadsNone}
+use Rattle.position.specs.Heads.{IsStreamFrame}
+use Rattle.term_buffer.specs.Reads.{ReadsNone}
 use Rattle.term_buffer.proofs.Logs.{parts_of}
 use Rattle.term_buffer.proofs.ReadFrames.{Found, copy_inside, found, found_long, is_head, message_copied, reads_message, reads_none, reads_padding, slots_well}
 use Rattle.term_buffer.proofs.buffer.TermBuffer.read.Goals as goal

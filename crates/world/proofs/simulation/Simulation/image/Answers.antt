@@ -1,14 +1,13 @@
 use Rattle.std.proofs.Common.{rules}
+use Rattle.script.specs.Meaning as commands
 use Rattle.theory.proofs.Tables.{seat_at}
-use Rattle.world.proofs.Simulations.{image_answered}
+use Rattle.world.proofs.Simulations.{image_answered, unchanged}
 use Rattle.world.proofs.simulation.Simulation.image.Goals as goal
 
 pub returns : goal.returns
-returns c =
-    let old = c.args.self.now in
+returns g c =
     let k = c.args.receiver.number in
-    image_answered old k c.index.result.now c.positions-positions.result c.positions_line.result c.args.lines.now.items c.push.new.self.items
-    (seat_at old.subscribers.items k c.index.result.now _ c.index.ensures (search rules))
-    c.positions-positions.ensures
-    c.positions_line.ensures
-    c.in_ok-push.ensures.items
+    let before = c.args.lines.now.items in
+    let after = c.push.new.self.items in
+    unchanged _ _ (commands.Image k) before after c.self.view_is
+    (image_answered _ k c.index.result.now c.positions-positions.result c.positions_line.result before after (seat_at c.self.inside.subscribers.items k c.index.result.now _ c.index.ensures (search rules)) c.positions-positions.ensures c.positions_line.ensures c.in_ok-push.ensures.items)

@@ -1,0 +1,8 @@
+use Rattle.model.proofs.StepsKept.{are_reached, keeps_naks}
+use Rattle.model.proofs.steps_keep.Goals as goal
+
+pub returns-clause-naks : goal.returns-clause-naks
+returns-clause-naks c = keeps_naks
+
+pub returns-clause-reached : goal.returns-clause-reached
+returns-clause-reached c = are_reached

@@ -1,0 +1,10 @@
+mod Cleanings
+mod HandOpens
+mod Hands
+mod Held
+mod Legals
+mod Puts
+mod Readers
+mod SlotLemmas
+mod Standing
+mod Streams

@@ -1,0 +1,28 @@
+-- What a reader's calls leave of a log in one hand.
+use Rattle.std.proofs.Common.{◌∙◌, sym, ap, refl}
+use Rattle.std.proofs.lemmas.List.{set-get_or, set-set}
+use Rattle.std.specs.Prelude.{◌≡◌, ℕ, List}
+use Rattle.one_hand.specs.Stream.{Stream, position_of, with_consumer}
+
+-- the reader of this number stands elsewhere, and nothing else has changed
+pub record MovesReader (number : ℕ) (old : Stream) (after : ℕ) (new : Stream) : Type 0 where
+  pub number_is : after ≡ number
+  pub moved : new ≡ with_consumer old number (position_of new number)
+
+-- ---- the laws of a source
+
+pub reader_stays : (number : ℕ) (l : Stream) → MovesReader number l number l
+reader_stays number l = record {
+  number_is = refl;
+  moved = ap (λ (ps : List ℕ). record l { consumers = ps }) (sym (set-get_or l.consumers number 0));
+}
+
+pub reader_goes_on : (a : ℕ) (l : Stream) (b : ℕ) (m : Stream) (c : ℕ) (n : Stream) → MovesReader a l b m → MovesReader b m c n → MovesReader a l c n
+reader_goes_on a l b m c n h k = record {
+  number_is = k.number_is ∙ h.number_is;
+  moved =
+      k.moved
+      ∙ ap (λ (i : ℕ). with_consumer m i (position_of n i)) h.number_is
+      ∙ ap (λ (x : Stream). with_consumer x a (position_of n a)) h.moved
+      ∙ ap (λ (ps : List ℕ). record l { consumers = ps }) (set-set l.consumers a (position_of m a) (position_of n a));
+}

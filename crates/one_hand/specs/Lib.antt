@@ -1,0 +1,6 @@
+pub mod HandReads
+pub mod Legal
+pub mod Plain
+pub mod Reads
+pub mod Slots
+pub mod Stream

@@ -1,0 +1,53 @@
+//! A reader of a log in one hand, as a source of frames.
+
+ghost use Rattle.std.specs.Prelude.{◌≡◌, ◌<◌, ⊤, length, refl};
+ghost use Rattle.log_reader.specs.Sourced.{AreSame, frames_on};
+ghost use Rattle.one_hand.specs.HandReads.{MovesReader, reader_goes_on, reader_stays};
+ghost use Rattle.one_hand.specs.Reads.{source_of};
+
+use crate::one_hand::OneHandLog;
+use block::Block;
+use frame_source::{Alone, FrameSource};
+use position::FrameHead;
+
+/// A reader of a log that one hand holds, by its number. The log is lent to it at each call.
+#[derive(Clone, Copy, Debug, PartialEq, Eq)]
+pub struct HandReader {
+    pub number: usize,
+}
+
+impl<L: OneHandLog> FrameSource<L> for HandReader {
+    ghost source = { λ r l. source_of (L.stream l) r.number };
+
+    ghost grown = { AreSame };
+
+    ghost stands = { λ r l. r.number < length (L.stream l).consumers };
+
+    ghost has_read = { λ r l. ⊤ };
+
+    ghost leaves = { λ r l q m. MovesReader r.number (L.stream l) q.number (L.stream m) };
+
+    fn next(&mut self, log: &mut L, block: &mut Block) -> Option<FrameHead> {
+        log.next(self.number, block)
+    }
+
+    fn advance(&mut self, log: &mut L) -> u64 {
+        log.advance(self.number)
+    }
+
+    fn reread(&mut self, log: &mut L, position: u64, block: &mut Block) -> FrameHead {
+        log.reread(self.number, position, block)
+    }
+
+    ghost grown_same = { λ frames. refl };
+
+    ghost grown_on = { frames_on };
+
+    ghost leaves_same = { λ r l h. reader_stays r.number (L.stream l) };
+
+    ghost leaves_on = { λ r l q m p n h k. reader_goes_on r.number (L.stream l) q.number (L.stream m) p.number (L.stream n) h k };
+}
+
+impl<L: OneHandLog> Alone<L> for HandReader {
+    ghost exact = { λ old new same. same };
+}

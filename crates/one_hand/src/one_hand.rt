@@ -1,0 +1,60 @@
+//! A whole log that one hand holds.
+
+ghost use Rattle.std.specs.Prelude.{◌≡◌, ◌<◌, ◌≤◌, ◌+◌, true, IfSome, IfNone, length, sum};
+ghost use Rattle.frame_source.specs.Sources.{HasFrame, MayReread};
+ghost use Rattle.one_hand.specs.Reads.{Advances, ShowsFrame, ShowsNone, source_of};
+ghost use Rattle.one_hand.specs.Stream.{cleaned_and_limited, position_of, raised};
+
+use crate::claims::Claims;
+use block::Block;
+use log_buffer::Book;
+use position::FrameHead;
+
+/// A log of which one hand holds every pass: publishers, one to eight readers by their numbers, and the keeper.
+pub trait OneHandLog: Claims {
+    /// Reads the frame that is committed where the reader stands: a message's part is copied to the block's front. There is
+    /// none where the frame that begins there isn't committed.
+    fn next(&mut self, reader: usize, block: &mut Block) -> Option<FrameHead>
+        requires reader { reader < length (Self.stream self.old).consumers }
+        requires room { (Self.stream self.old).identity.geometry.mtu ≤ length block.old }
+        ensures same { Self.stream self.new ≡ Self.stream self.old }
+        ensures same_length { length block.new ≡ length block.old }
+        ensures found { IfSome result (λ head. ShowsFrame (Self.stream self.old) (position_of (Self.stream self.old) reader) head block.old block.new) }
+        ensures none { IfNone result (ShowsNone (Self.stream self.old) reader block.old block.new) };
+
+    /// Moves the reader past the frame that is committed where it stands. The answer is its new position.
+    fn advance(&mut self, reader: usize) -> u64
+        requires reader { reader < length (Self.stream self.old).consumers }
+        requires frame { HasFrame (source_of (Self.stream self.old) reader) (position_of (Self.stream self.old) reader) }
+        ensures { Advances (Self.stream self.old) reader result (Self.stream self.new) };
+
+    /// Reads a frame again that the reader has passed, within three quarters of a term below it.
+    fn reread(&mut self, reader: usize, position: u64, block: &mut Block) -> FrameHead
+        requires reader { reader < length (Self.stream self.old).consumers }
+        requires room { (Self.stream self.old).identity.geometry.mtu ≤ length block.old }
+        requires may { MayReread (source_of (Self.stream self.old) reader) position }
+        ensures same { Self.stream self.new ≡ Self.stream self.old }
+        ensures same_length { length block.new ≡ length block.old }
+        ensures found { ShowsFrame (Self.stream self.old) position result block.old block.new };
+
+    /// Cleans all that is a term or more below the least consumer. Then, if the log is connected and not closed, raises the
+    /// limit to half a term above that consumer. The answer is the limit.
+    fn clean_and_limit(&mut self) -> u64
+        ensures limit { result ≡ raised (Self.stream self.old) }
+        ensures after { Self.stream self.new ≡ cleaned_and_limited (Self.stream self.old) };
+
+    /// Says whether somebody receives the stream.
+    fn set_connected(&mut self, connected: bool)
+        ensures { Self.stream self.new ≡ record (Self.stream self.old) { connected = connected } };
+
+    /// Closes the log, for good.
+    fn set_closed(&mut self)
+        ensures { Self.stream self.new ≡ record (Self.stream self.old) { closed = true } };
+
+    /// Ends the log, and tells what each publisher claimed of it. A claim that is open becomes a padding.
+    fn close(self) -> Book
+        ensures start { result.start ≡ (Self.stream self).start }
+        ensures tail { result.tail ≡ (Self.stream self).tail }
+        ensures shares { result.shares ≡ (Self.stream self).shares }
+        ensures whole { result.start + sum result.shares ≡ result.tail };
+}

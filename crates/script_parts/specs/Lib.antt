@@ -1,0 +1,3 @@
+pub mod LineTexts
+pub mod Lines
+pub mod Packed

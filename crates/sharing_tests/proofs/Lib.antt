@@ -1,0 +1,2 @@
+mod AllPasses
+mod SeenEnd
