@@ -7,7 +7,7 @@ use std::process::ExitCode;
 use std::{fs, io};
 
 /// The examples by their names: each is a file `NAME.script`, and what it prints a file `NAME.expected`.
-const NAMES: [&str; 8] = [
+const NAMES: [&str; 16] = [
     "first",
     "loss",
     "joins",
@@ -16,6 +16,14 @@ const NAMES: [&str; 8] = [
     "padding",
     "claims",
     "fragments",
+    "gap",
+    "resend",
+    "lost_padding",
+    "two_terms",
+    "sixteen_actions",
+    "lingering",
+    "heartbeats",
+    "forged",
 ];
 
 fn main(rt: HostRuntime) -> ExitCode {

@@ -1,5 +1,5 @@
 ghost use Rattle.std.specs.Prelude.{◌≡◌, ◌≤◌, List, length, IfSome, IfNone};
-ghost use Rattle.theory.specs.Placed.{Placed};
+ghost use Rattle.theory.specs.Placed.{Among, Placed};
 ghost use Rattle.frame_source.specs.Sources.{FindsNone, HasFrame, MayReread, Passes, ReadsNext, Rereads, Source};
 
 use block::Block;
@@ -58,6 +58,9 @@ pub trait FrameSource<L> {
 
     /// What may become of them in two calls may become of them in one.
     ghost grown_on: { (a b c : List Placed) → grown a b → grown b c → grown a c };
+
+    /// Frames that are known to be committed stay so.
+    ghost grown_keeps: { (a b : List Placed) → grown a b → (frame : Placed) → Among frame a → Among frame b };
 
     /// Where nothing is done nothing changes.
     ghost leaves_same: { (r : Self) (l : L) → stands r l → leaves r l r l };

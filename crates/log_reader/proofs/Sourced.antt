@@ -1,12 +1,10 @@
 -- A reader of a log meets what is asked of a source of frames.
-use Rattle.std.proofs.Common.{◌≡◌, ◌∙◌, ℕ, ◌+◌, ◌<◌, ◌≤◌, List, [], ◌∷◌, sym, ap, subst, refl, inl, inr, arith}
-use Rattle.std.specs.List.{AllByRecursion}
+use Rattle.std.proofs.Common.{◌≡◌, ◌∙◌, ℕ, ◌+◌, ◌≤◌, List, sym, ap, subst, refl, arith}
 use Rattle.std.specs.Prelude.{IfNone, IfSome, None, Option, Some, slice_set}
 use Rattle.theory.specs.Position.{aligned}
-use Rattle.theory.specs.Placed.{Among, Frame, Placed, covered, end_of, frame_length, place_all}
-use Rattle.theory.specs.Entry.{Entry, IsEntry, committed}
-use Rattle.theory.proofs.Lists.{all_append}
-use Rattle.theory.proofs.Frames.{AreCut, InOrder, are_cut, committed_in_order, in_order_from}
+use Rattle.theory.specs.Placed.{Among, Placed, end_of}
+use Rattle.theory.specs.Entry.{committed}
+use Rattle.theory.proofs.Single.{one_at}
 use Rattle.position.specs.declared.head.FrameHead.{FrameHead}
 use Rattle.position.specs.Heads.{IsStreamFrame}
 use Rattle.frame_source.specs.Sources as sources
@@ -19,32 +17,8 @@ use Rattle.log_reader.specs.Sourced.{AreSame, HasReadOn, OnlyMoves, moves_same, 
 
 -- ---- one frame stands at a position
 
-IsLong : Placed → Type 0
-IsLong s = 0 < covered s
-
-long_placed : (p : ℕ) (cuts : List ℕ) (fs : List Frame) → AreCut cuts fs → AllByRecursion (λ cut. 0 < cut) cuts → AllByRecursion IsLong (place_all p fs)
-unfolding IsLong
-long_placed p cuts [] h k = tt
-long_placed p [] (f ∷ fs) h k = absurd h
-long_placed p (cut ∷ cuts) (f ∷ fs) h k = let same : frame_length f ≡ cut = h.0 in (omega (arith, k.0), long_placed (p + aligned (frame_length f)) cuts fs h.1 k.1)
-
-long_committed : (es : List Entry) → AllByRecursion IsEntry es → AllByRecursion IsLong (committed es)
-long_committed [] h = tt
-long_committed (e ∷ es) h =
-    all_append IsLong (place_all e.start e.frames) (committed es)
-    (long_placed e.start e.cuts e.frames (are_cut e.padding e.cuts e.frames h.0.frames) h.0.cuts)
-    (long_committed es h.1)
-
-one_there : (low : ℕ) (ss : List Placed) (s t : Placed) → InOrder low ss → AllByRecursion IsLong ss → Among s ss → Among t ss → s.at ≡ t.at → s ≡ t
-unfolding IsLong
-one_there low [] s t h k a b e = absurd a
-one_there low (u ∷ us) s t h k (inl x) (inl y) e = x ∙ sym y
-one_there low (u ∷ us) s t h k (inl x) (inr b) e = let later : end_of u ≤ t.at = in_order_from (end_of u) us t h.1 b in let here : s.at ≡ u.at = ap (λ z. z.at) x in absurd (omega (arith, k.0))
-one_there low (u ∷ us) s t h k (inr a) (inl y) e = let later : end_of u ≤ s.at = in_order_from (end_of u) us s h.1 a in let here : t.at ≡ u.at = ap (λ z. z.at) y in absurd (omega (arith, k.0))
-one_there low (u ∷ us) s t h k (inr a) (inr b) e = one_there (end_of u) us s t h.1 k.1 a b e
-
 only_one : (l : Log) (s t : Placed) → IsLog l → Among s (committed l.entries) → Among t (committed l.entries) → s.at ≡ t.at → s ≡ t
-only_one l s t is a b e = one_there l.first (committed l.entries) s t (committed_in_order (term_of l) l.first l.tail l.entries is.tiles is.entries) (long_committed l.entries is.entries) a b e
+only_one l s t is a b e = one_at (term_of l) l.first l.tail l.entries s t is.tiles is.entries a b e
 
 -- ---- the reads
 

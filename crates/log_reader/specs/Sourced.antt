@@ -1,9 +1,9 @@
 -- A reader of a log as a source of frames, and what its calls leave of the log.
-use Rattle.std.proofs.Common.{◌∙◌, sym, ap, refl}
+use Rattle.std.proofs.Common.{◌∙◌, sym, ap, subst, refl}
 use Rattle.std.proofs.lemmas.List.{set-get_or, set-set}
 use Rattle.std.specs.Prelude.{◌≡◌, ℕ, ◌+◌, ◌≤◌, List, slice_set}
 use Rattle.theory.specs.Entry.{committed}
-use Rattle.theory.specs.Placed.{Placed}
+use Rattle.theory.specs.Placed.{Among, Placed}
 use Rattle.log_buffer.specs.Log.{Log}
 use Rattle.log_buffer.specs.Reader.{IsAt, Reader}
 use Rattle.frame_source.specs.Sources.{Source}
@@ -34,6 +34,9 @@ pub record OnlyMoves (r : Reader) (l : Log) (q : Reader) (m : Log) : Type 0 wher
 
 pub frames_on : (a b c : List Placed) → AreSame a b → AreSame b c → AreSame a c
 frames_on a b c h k = k ∙ h
+
+pub frames_keep : (a b : List Placed) → AreSame a b → (frame : Placed) → Among frame a → Among frame b
+frames_keep a b h frame among = subst (λ xs. Among frame xs) (sym h) among
 
 pub moves_same : (r : Reader) (l : Log) → StandsIn r l → OnlyMoves r l r l
 moves_same r l h = record {

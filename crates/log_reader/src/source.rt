@@ -1,7 +1,7 @@
 //! A log's reader as a source of frames.
 
 ghost use Rattle.std.specs.Prelude.{◌≡◌, refl};
-ghost use Rattle.log_reader.specs.Sourced.{AreSame, HasReadOn, OnlyMoves, StandsIn, frames_on, moves_on, moves_same, source_of};
+ghost use Rattle.log_reader.specs.Sourced.{AreSame, HasReadOn, OnlyMoves, StandsIn, frames_keep, frames_on, moves_on, moves_same, source_of};
 
 use block::Block;
 use frame_source::{Alone, FrameSource};
@@ -39,6 +39,8 @@ impl FrameSource<LogState> for LogFrames {
     ghost grown_same = { λ frames. refl };
 
     ghost grown_on = { frames_on };
+
+    ghost grown_keeps = { frames_keep };
 
     ghost leaves_same = { λ s l h. moves_same s.reader l h };
 

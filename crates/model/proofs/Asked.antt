@@ -8,7 +8,8 @@ use Rattle.theory.specs.Placed.{Placed}
 use Rattle.theory.specs.Resend.{Action, first_resent, is_resent, resent}
 use Rattle.theory.specs.Datagrams.{grouped}
 use Rattle.model.specs.CycleLaws.{IsAskedFor, ResendsAsked}
-use Rattle.model.proofs.Datagrams.{grouped_is, front_of}
+use Rattle.theory.proofs.Grouping.{grouped_is}
+use Rattle.model.proofs.Datagrams.{front_of}
 use Rattle.theory.proofs.Lists.{all_front}
 
 asked : (g : Geometry) (s : ℕ) (a : Action) (f : Placed) → is_resent g s a f ≡ true → IsAskedFor g s a f

@@ -9,22 +9,11 @@ use Rattle.theory.specs.Placed.{is_padding, Frame, Data, Pad, Placed, end_of, Am
 use Rattle.theory.specs.Bytes.{Identity, wire_at}
 use Rattle.theory.specs.Datagrams.{fits_in, grouped_behind, grouped, sent_end, MayBeSent, sendable, cycle_datagrams, wire_size, size_of, frames_of, wires}
 use Rattle.model.specs.CycleLaws.{MaySend, CycleMaySend}
+use Rattle.theory.proofs.Grouping.{grouped_is}
 use Rattle.theory.proofs.Lists.{all_front}
 use Rattle.theory.proofs.Readings.{stands_alone}
 
--- ---- the datagrams are the frames, in order
-
-grouped_behind_is : (g : Geometry) (front ss : List Placed) → frames_of (grouped_behind g front ss) ≡ front ++ ss
-grouped_behind_is g front [] = refl
-grouped_behind_is g front (s ∷ ss) =
-    ⊎_elim
-    (λ (t : fits_in g front s ≡ true). ap frames_of (cond-true (fits_in g front s) (grouped_behind g (front ++ s ∷ []) ss) (front ∷ grouped_behind g (s ∷ []) ss) t) ∙ grouped_behind_is g (front ++ s ∷ []) ss ∙ append_assoc front (s ∷ []) ss)
-    (λ (f : fits_in g front s ≡ false). ap frames_of (cond-false (fits_in g front s) (grouped_behind g (front ++ s ∷ []) ss) (front ∷ grouped_behind g (s ∷ []) ss) f) ∙ ap (λ x. front ++ x) (grouped_behind_is g (s ∷ []) ss))
-    (cases_Bool (fits_in g front s))
-
-pub grouped_is : (g : Geometry) (ss : List Placed) → frames_of (grouped g ss) ≡ ss
-grouped_is g [] = refl
-grouped_is g (s ∷ ss) = grouped_behind_is g (s ∷ []) ss
+-- ---- the first datagrams
 
 -- the first n datagrams have the first frames
 pub front_of : (n : ℕ) (ds : List (List Placed)) → (rest : List Placed) × (frames_of ds ≡ frames_of (take n ds) ++ rest)

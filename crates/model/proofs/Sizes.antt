@@ -10,11 +10,8 @@ use Rattle.theory.specs.Placed.{Placed, is_padding}
 use Rattle.theory.specs.Datagrams.{fits_in, grouped_behind, grouped, sendable, sent_end, wire_size, wires, size_of}
 use Rattle.model.specs.CycleLaws.{AreDatagrams, AreOfOneTerm, GroupsWell}
 use Rattle.theory.proofs.Lists.{all_append}
-use Rattle.model.proofs.Datagrams.{grouped_is, grouped_stand}
-
-size_push : (ts : List Placed) (s : Placed) → size_of (ts ++ s ∷ []) ≡ size_of ts + wire_size s s.frame
-size_push [] s = omega arith
-size_push (t ∷ ts) s = omega (arith, size_push ts s)
+use Rattle.theory.proofs.Grouping.{grouped_is, size_push}
+use Rattle.model.proofs.Datagrams.{grouped_stand}
 
 behind_sized : (g : Geometry) (t : Placed) (ts ss : List Placed) → size_of (t ∷ ts) ≤ g.mtu → AllByRecursion (λ s. wire_size s s.frame ≤ g.mtu) ss → AllByRecursion (λ d. size_of d ≤ g.mtu) (grouped_behind g (t ∷ ts) ss)
 behind_sized g t ts [] h k = (h, tt)
@@ -34,7 +31,7 @@ sized : (g : Geometry) (ss : List Placed) → AllByRecursion (λ s. wire_size s 
 sized g [] h = tt
 sized g (s ∷ ss) h = behind_sized g s [] ss (omega (arith, h.0)) h.1
 
-all_take : (P : List Placed → Type 0) (n : ℕ) (ds : List (List Placed)) → AllByRecursion P ds → AllByRecursion P (take n ds)
+pub all_take : (P : List Placed → Type 0) (n : ℕ) (ds : List (List Placed)) → AllByRecursion P ds → AllByRecursion P (take n ds)
 all_take P zero ds h = tt
 all_take P (suc n) [] h = tt
 all_take P (suc n) (d ∷ ds) h = (h.0, all_take P n ds h.1)

@@ -7,7 +7,7 @@ use Rattle.theory.specs.Position.{Geometry}
 use Rattle.theory.specs.Placed.{Among, Placed, is_padding}
 use Rattle.theory.specs.Datagrams.{MayBeSent, cycle_datagrams, fits_in, frames_of, grouped, grouped_behind, resend_datagrams, sendable, sent_end, size_of, wire_size}
 use Rattle.model.specs.CycleLaws.{AreSpent, CycleSendsAll, IsFullFor, IsStopped, ResendsFirst}
-use Rattle.model.proofs.Datagrams.{grouped_is}
+use Rattle.theory.proofs.Grouping.{grouped_is}
 
 -- ---- a frame that doesn't fit
 

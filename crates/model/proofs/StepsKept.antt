@@ -9,7 +9,7 @@ use Rattle.theory.specs.Image.{Image}
 use Rattle.theory.specs.Resend.{Action, NakAnswer, OutOfRange, NotAFrameStart, Lingering, Full, Taken, added, kept, nak_answer, nat_of}
 use Rattle.model.specs.Headline.{Always}
 use Rattle.model.specs.Sender.{Sender}
-use Rattle.model.specs.StepLaws.{AreReached, KeepsNaks}
+use Rattle.model.specs.StepLaws.{AreReached, HavePassed, KeepsNaks}
 use Rattle.theory.proofs.Lists.{all_weaker, each_weaker}
 use Rattle.theory.proofs.Naks.{takes_exactly}
 use Rattle.model.proofs.Consumers.{Follows}
@@ -41,7 +41,12 @@ pub are_reached : Always AreReached
 are_reached w v events o run =
     let k = every events w v (opened w o) run in
     record {
-      sender = k.sender.passed;
+      sender = record { read = v.sender.passed; chain = k.sender.passed; among = k.sender.read };
       readers = each_weaker (Follows (committed v.log.entries) v.log.start) (λ r. IsReached (committed v.log.entries) v.log.start r.at) (follows_reach (committed v.log.entries) v.log.start) v.log.readers k.log.readers;
       images = each_weaker (KeptImage v.sender.sent) (λ (i : Image). AllByRecursion (λ (r : Consumer). IsReached i.stored i.join r.at) i.consumers) (λ i x. all_weaker (Follows i.stored i.join) (λ (r : Consumer). IsReached i.stored i.join r.at) (follows_reach i.stored i.join) i.consumers x.consumers) v.images k.images;
     }
+
+pub have_passed : Always HavePassed
+have_passed w v events o run =
+    let k = every events w v (opened w o) run in
+    record { chain = k.sender.passed; among = k.sender.read; sent = k.sender.sent }

@@ -4,7 +4,7 @@ use Rattle.std.specs.List.{AllByRecursion}
 use Rattle.std.specs.Prelude.{nat_le, nat_lt, max, min, slice_get, slice_set, ℤ, pos, negsuc, map, None, Some}
 use Rattle.std.proofs.lemmas.Bool.{cases_Bool, ltb-true, cond-true, cond-false, and_parts}
 use Rattle.theory.specs.Position.{Geometry}
-use Rattle.theory.specs.Placed.{Chain, IsReached, Placed, covered, end_of, Among, AllAmong}
+use Rattle.theory.specs.Placed.{Chain, Placed, covered, end_of, Among, AllAmong}
 use Rattle.theory.specs.Entry.{IsEntry, committed}
 use Rattle.theory.specs.Tiling.{Tiles}
 use Rattle.theory.specs.Bytes.{bytes_of, byte_at, cell_of}
@@ -21,12 +21,13 @@ use Rattle.model.specs.Sender.{Sender, SenderEvent, Send, Resend, SendSetup, Hea
 use Rattle.model.specs.World.{World, Event, AtLog, AtSender, AtImage, Open, Step, Run, IsOpened}
 use Rattle.model.specs.Headline.{IsTiled, HasLogBytes, IsRebuiltRight, StayWithin, IsBounded, HasPolled, IsPrefixPolled}
 use Rattle.std.specs.List.{filter}
-use Rattle.model.proofs.Datagrams.{grouped_is, front_of}
+use Rattle.theory.proofs.Grouping.{grouped_is}
+use Rattle.model.proofs.Datagrams.{front_of}
 use Rattle.theory.proofs.Lists.{among_right, all_at, all_weaker, all_append, all_get, all_set, all_replicate, slice_get-take, slice_get-drop, each_weaker, each_get, each_set, all_front}
 use Rattle.theory.proofs.Tiling.{tail_is, all_shares_are}
 use Rattle.theory.proofs.Frames.{AllBelow, tiles_le, committed_below, committed_in_order, cell_found}
 use Rattle.model.proofs.Consumers.{Follows, follows_more, follows_moved, follows_passed, bounded, follows_joined, seats_bound}
-use Rattle.theory.proofs.Follow.{passed_more, passed_along}
+use Rattle.theory.proofs.Follow.{Chain-append}
 use Rattle.theory.proofs.Contiguous.{chain_bound, contiguous_is, end_below}
 use Rattle.model.proofs.Messages.{makes}
 use Rattle.model.proofs.LogSteps.{IsKeptLog, Grows, log_step}
@@ -41,7 +42,7 @@ pub record KeptImage (sent : List Placed) (i : Image) : Type 0 where
   pub unit : i.join % 32 ≡ 0
 
 pub record KeptSender (l : Log) (s : Sender) : Type 0 where
-  pub passed : IsReached (committed l.entries) l.start s.at
+  pub passed : Chain l.start s.at s.passed
   pub sent : AllAmong (committed l.entries) s.sent
   pub read : AllAmong (committed l.entries) s.passed
   pub unit : s.at % 32 ≡ 0
@@ -155,7 +156,7 @@ sender_step : (l : Log) (old : Sender) (e : SenderEvent) (new : Sender) → Kept
 sender_step l old (Send frames to) new k h =
     subst (SendsMore l old) (sym h.3) (record {
       kept = record {
-        passed = passed_along (committed l.entries) l.start old.at to frames k.passed h.0 h.1;
+        passed = Chain-append l.start old.at to old.passed frames k.passed h.0;
         sent = all_append (λ s. Among s (committed l.entries)) frames old.sent h.1 k.sent;
         read = all_append (λ s. Among s (committed l.entries)) old.passed frames k.read h.1;
         unit = chain_unit old.at to frames h.0 k.unit;
@@ -180,7 +181,7 @@ at_log : (w : World) (l : Log) → KeptWorld w → Grows w.log l → KeptWorld (
 at_log w l k g = record {
   log = g.kept;
   sender = record {
-    passed = subst (λ x. IsReached (committed l.entries) x w.sender.at) (sym g.start) (passed_more (committed w.log.entries) (committed l.entries) g.more w.log.start w.sender.at k.sender.passed);
+    passed = subst (λ x. Chain x w.sender.at w.sender.passed) (sym g.start) k.sender.passed;
     sent = all_weaker (λ s. Among s (committed w.log.entries)) (λ s. Among s (committed l.entries)) g.more w.sender.sent k.sender.sent;
     read = all_weaker (λ s. Among s (committed w.log.entries)) (λ s. Among s (committed l.entries)) g.more w.sender.passed k.sender.read;
     unit = k.sender.unit;
@@ -220,7 +221,7 @@ opened_log w o = record {
 pub opened : (w : World) → IsOpened w → KeptWorld w
 opened w o = record {
   log = opened_log w o;
-  sender = subst (KeptSender w.log) (sym o.sender) (record { passed = record { read = []; chain = refl; among = tt }; sent = tt; read = tt; unit = o.unit; setups = tt });
+  sender = subst (KeptSender w.log) (sym o.sender) (record { passed = refl; sent = tt; read = tt; unit = o.unit; setups = tt });
   images = subst (Each (KeptImage w.sender.sent)) (sym o.images) (all_replicate (IfThere (KeptImage w.sender.sent)) 8 None tt);
 }
 
@@ -240,7 +241,7 @@ in_bounds w k =
         q,
         c,
         end_below frames w.log.start q w.log.tail below le c,
-        (chain_bound frames w.log.start q w.sender.at k.sender.passed.read c k.sender.passed.chain k.sender.passed.among, seats_bound frames w.log.start q c w.log.readers k.log.readers),
+        (chain_bound frames w.log.start q w.sender.at w.sender.passed c k.sender.passed k.sender.read, seats_bound frames w.log.start q c w.log.readers k.log.readers),
       ),
       each_weaker (KeptImage w.sender.sent) (λ i. StayWithin i.stored i.join i.high (map (λ r. r.at) i.consumers)) (λ i m. bounded i.stored i.join i.high i.consumers m.below m.low m.consumers) w.images k.images,
     )

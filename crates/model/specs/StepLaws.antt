@@ -2,7 +2,7 @@
 use Rattle.std.specs.Prelude.{◌≡◌, ◌≤◌, ◌⊎◌, ℕ, ℤ, true, false, List, ◌∷◌, max}
 use Rattle.std.specs.List.{AllByRecursion}
 use Rattle.theory.specs.Position.{Geometry}
-use Rattle.theory.specs.Placed.{IsReached, Placed}
+use Rattle.theory.specs.Placed.{AllAmong, Chain, IsReached, Placed}
 use Rattle.theory.specs.Entry.{committed}
 use Rattle.theory.specs.Numbered.{Each}
 use Rattle.theory.specs.Resend.{IsTaken, kept, nat_of}
@@ -36,3 +36,9 @@ pub record AreReached (w : World) : Type 0 where
   pub sender : IsReached (committed w.log.entries) w.log.start w.sender.at
   pub readers : Each (λ r. IsReached (committed w.log.entries) w.log.start r.at) w.log.readers
   pub images : Each (λ i. AllByRecursion (λ r. IsReached i.stored i.join r.at) i.consumers) w.images
+
+-- what a sender passed are the log's frames from the start to where it stands, one after the other; it sends no others
+pub record HavePassed (w : World) : Type 0 where
+  pub chain : Chain w.log.start w.sender.at w.sender.passed
+  pub among : AllAmong (committed w.log.entries) w.sender.passed
+  pub sent : AllAmong (committed w.log.entries) w.sender.sent

@@ -1,7 +1,7 @@
 //! A reader of a log in one hand, as a source of frames.
 
 ghost use Rattle.std.specs.Prelude.{◌≡◌, ◌<◌, ⊤, length, refl};
-ghost use Rattle.log_reader.specs.Sourced.{AreSame, frames_on};
+ghost use Rattle.log_reader.specs.Sourced.{AreSame, frames_keep, frames_on};
 ghost use Rattle.one_hand.specs.HandReads.{MovesReader, reader_goes_on, reader_stays};
 ghost use Rattle.one_hand.specs.Reads.{source_of};
 
@@ -42,6 +42,8 @@ impl<L: OneHandLog> FrameSource<L> for HandReader {
     ghost grown_same = { λ frames. refl };
 
     ghost grown_on = { frames_on };
+
+    ghost grown_keeps = { frames_keep };
 
     ghost leaves_same = { λ r l h. reader_stays r.number (L.stream l) };
 

@@ -1,5 +1,6 @@
 pub mod Joins
 pub mod Meeting
+pub mod Missing
 pub mod OpenedSteps
 pub mod PollFrames
 pub mod Polled

@@ -7,11 +7,11 @@ use Rattle.theory.specs.Position.{Geometry}
 use Rattle.theory.specs.Placed.{Frame}
 use Rattle.theory.specs.Consumer.{least_of}
 use Rattle.theory.specs.Control.{asking_at, named_by, status_at}
-use Rattle.theory.specs.Timing.{LastStatus, is_status_due}
-use Rattle.frames.specs.Frames.{status_of}
+use Rattle.theory.specs.Timing.{LastStatus, Watch, is_status_due}
+use Rattle.frames.specs.Frames.{nak_of, status_of}
 use Rattle.theory.specs.Image.{image_at}
 use Rattle.theory.specs.Setup.{OpensAt}
-use Rattle.theory.specs.Wire.{Header, SM, Setup, SpellsDatagram, Wire}
+use Rattle.theory.specs.Wire.{Header, NAK, SM, Setup, SpellsDatagram, Wire}
 use Rattle.position.specs.declared.head.FrameHead.{FrameHead}
 use Rattle.rebuilder.specs.Seen as seen
 use Rattle.rebuilder.specs.Seen.{least}
@@ -20,7 +20,7 @@ use Rattle.receiver.specs.declared.receiver_core.Outcome.{Outcome}
 use Rattle.receiver.specs.declared.receiver_core.Outcome.TheVariants as outcomes
 use Rattle.frames.specs.Datagrams.{IsDatagramFault}
 use Rattle.frames.specs.declared.fault.FrameError.{FrameError}
-use Rattle.receiver.specs.Receiving.{BreaksAt, BreaksOff, IsOurs, NeedsMemory, StoresFrame, TakesDatagram, WouldOpen, Meets, MeetsAll, MeetsFrame, MeetsHeartbeat, MeetsSetup, Opened, Receiver, asking, at_moment, given_at, is_due, replied, replies, telling, ticked, told_after}
+use Rattle.receiver.specs.Receiving.{BreaksAt, BreaksOff, IsOurs, NeedsMemory, StoresFrame, TakesDatagram, WouldOpen, Meets, MeetsAll, MeetsFrame, MeetsHeartbeat, MeetsSetup, Opened, Receiver, asking, at_moment, given_at, is_due, missing, replied, replies, scanned_at, telling, ticked, told_after}
 use Rattle.receiver.specs.declared.receiver_core.Replies.{Replies}
 use Rattle.receiver.specs.Representing.{Becomes, Core, HasNoFrame, HearsBeat, Inserts, IsAtEnd, MeetsFirst, PassesFrame, ReadsPast, Represents, RepresentsImage, RepresentsOpened, beaten_at, with_reader}
 use Rattle.receiver.proofs.ShownSteps.{least_shown, opened_shown}
@@ -192,23 +192,41 @@ at_tick v now = record v { clock = max v.clock now; unmet = None }
 ticks_from : (v : Core) (r : Receiver) (now : ℕ) → Represents v r → Represents (at_tick v now) (record (at_moment r now) { unmet = None })
 ticks_from v r now s = record { numbers = ap (λ (x : Receiver). record (at_moment x now) { unmet = None }) s.numbers; image = s.image }
 
-telling_unmet : (o : Option Opened) (r : Receiver) → telling o (record r { unmet = None }) ≡ telling o r
-telling_unmet None r = refl
-telling_unmet (Some o) r = refl
+missing_unmet : (o : Option Opened) (r : Receiver) → missing o (record r { unmet = None }) ≡ missing o r
+missing_unmet None r = refl
+missing_unmet (Some o) r = refl
 
-told_unmet : (o : Option Opened) (r : Receiver) → told_after o (record r { unmet = None }) ≡ told_after o r
-told_unmet None r = refl
-told_unmet (Some o) r = refl
+telling_kept : (o : Option Opened) (r : Receiver) (w : Watch) → telling o (record r { unmet = None; watch = w }) ≡ telling o r
+telling_kept None r w = refl
+telling_kept (Some o) r w = refl
 
-pub tick_replies : (v : Core) (now : ℕ) (out : Replies) → option_map (λ f. SM 128 (status_of f)) out.asking ≡ option_map (λ h. asking_at h v.id) v.unmet
-    → ((r : Receiver) → Represents (at_tick v now) r → map (λ f. SM 0 (status_of f)) (option_to_list out.status) ≡ telling r.image r)
+-- a receiver that has asked, and one that has scanned too
+abbrev asked_at : Receiver → ℕ → Receiver
+asked_at r now = record (at_moment r now) { unmet = None }
+
+abbrev scanned_then : Receiver → ℕ → Receiver
+scanned_then r now = record (asked_at r now) { watch = (scanned_at r.image (asked_at r now)).watch }
+
+ticked_then : (w : Core) (o : Option Opened) (r : Receiver) → Represents w (record r { unmet = None; watch = (scanned_at o (record r { unmet = None })).watch; told = told_after o (record r { unmet = None; watch = (scanned_at o (record r { unmet = None })).watch }) })
+    → Represents w (record r { unmet = None; told = told_after o r; watch = (scanned_at o r).watch })
+ticked_then w None r h = h
+ticked_then w (Some o) r h = h
+
+pub tick_replies : (v u : Core) (now : ℕ) (out : Replies) → option_map (λ f. SM 128 (status_of f)) out.asking ≡ option_map (λ h. asking_at h v.id) v.unmet
+    → ((r : Receiver) → Represents (at_tick v now) r → map (λ f. NAK (nak_of f)) (option_to_list out.nak) ≡ missing r.image r)
+    → ((r : Receiver) → Represents (at_tick v now) r → Represents u (record r { watch = (scanned_at r.image r).watch }))
+    → ((r : Receiver) → Represents u r → map (λ f. SM 0 (status_of f)) (option_to_list out.status) ≡ telling r.image r)
     → (r : Receiver) → Represents v r → replied out ≡ replies r now
-tick_replies v now out asked told r s =
+tick_replies v u now out asked missed next told r s =
     let asks : map (λ f. SM 128 (status_of f)) (option_to_list out.asking) ≡ asking (at_moment r now) = map_option (λ f. SM 128 (status_of f)) out.asking ∙ ap option_to_list asked ∙ sym (map_option (λ h. asking_at h v.id) v.unmet) ∙ ap (λ (x : Receiver). asking (at_moment x now)) (sym s.numbers) in
-    ap₂ (λ (xs ys : List Wire). xs ++ ys) asks (told (record (at_moment r now) { unmet = None }) (ticks_from v r now s) ∙ telling_unmet r.image (at_moment r now))
+    let from = ticks_from v r now s in
+    let misses : map (λ f. NAK (nak_of f)) (option_to_list out.nak) ≡ missing r.image (at_moment r now) = missed (asked_at r now) from ∙ missing_unmet r.image (at_moment r now) in
+    let tells : map (λ f. SM 0 (status_of f)) (option_to_list out.status) ≡ telling r.image (at_moment r now) = told (scanned_then r now) (next (asked_at r now) from) ∙ telling_kept r.image (at_moment r now) (scanned_at r.image (asked_at r now)).watch in
+    ap₂ (λ (xs ys : List Wire). xs ++ ys) (ap₂ (λ (xs ys : List Wire). xs ++ ys) asks misses) tells
 
-pub tick_state : (v w : Core) (now : ℕ) → ((r : Receiver) → Represents (at_tick v now) r → Represents w (record r { told = told_after r.image r })) → (r : Receiver) → Represents v r → Represents w (ticked r now)
-tick_state v w now next r s = subst (λ x. Represents w (record (at_moment r now) { unmet = None; told = x })) (told_unmet r.image (at_moment r now)) (next (record (at_moment r now) { unmet = None }) (ticks_from v r now s))
+pub tick_state : (v u w : Core) (now : ℕ) → ((r : Receiver) → Represents (at_tick v now) r → Represents u (record r { watch = (scanned_at r.image r).watch }))
+    → ((r : Receiver) → Represents u r → Represents w (record r { told = told_after r.image r })) → (r : Receiver) → Represents v r → Represents w (ticked r now)
+tick_state v u w now scans next r s = ticked_then w r.image (at_moment r now) (next (scanned_then r now) (scans (asked_at r now) (ticks_from v r now s)))
 
 -- ---- a datagram
 

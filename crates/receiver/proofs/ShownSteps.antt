@@ -1,11 +1,11 @@
 -- What an image shows: its answers, what a frame, a heartbeat and a consumer's move make of it, and its contiguous end.
-use Rattle.std.proofs.Common.{◌≡◌, ℕ, zero, suc, ◌+◌, ◌-◌, ◌*◌, ◌/◌, ◌%◌, ◌<◌, ◌≤◌, ◌⊎◌, inl, inr, ⊎_elim, List, [], ◌∷◌, map, length, min, max, Bool, true, false, cond, refl, sym, ap, ap₂, ◌∙◌, subst, arith, length-set}
+use Rattle.std.proofs.Common.{◌≡◌, ℕ, zero, suc, ◌+◌, ◌-◌, ◌*◌, ◌%◌, ◌<◌, ◌≤◌, ◌⊎◌, inl, inr, ⊎_elim, List, [], ◌∷◌, map, length, min, max, Bool, true, false, cond, refl, sym, ap, ap₂, ◌∙◌, subst, arith, length-set}
 use Rattle.std.specs.Prelude.{◌↔◌, ◌||◌, slice_get, slice_index, slice_set, replicate, Some, nat_lt, ℤ, pos, negsuc}
 use Rattle.std.specs.List.{AllByRecursion, list_any}
 use Rattle.std.proofs.lemmas.List.{length-replicate, map-set}
 use Rattle.std.proofs.lemmas.Bool.{cases_Bool, cases_lt, cond-true, cond-false, ltb-false, and_cases, both_ways}
 use Rattle.theory.specs.Position.{Geometry, aligned, max_position}
-use Rattle.theory.specs.Placed.{Among, Chain, Frame, IsReached, Placed, covered, end_of, frame_length, is_padding}
+use Rattle.theory.specs.Placed.{Among, Frame, IsReached, Placed, covered, end_of, frame_length, is_padding}
 use Rattle.theory.specs.Units.{HasUnit, IsContiguous}
 use Rattle.theory.specs.Consumer.{Consumer, consumer_at, least_of}
 use Rattle.theory.specs.Image.{Image, after_heartbeat, after_insert, image_at, is_accepted}
@@ -64,7 +64,7 @@ least_shown v o h = ap least h.consumers ∙ least_is o.image.consumers
 reached_least : (v : seen.Image) (o : Opened) → RepresentsImage v o → IsReached o.image.stored o.image.join (least v.consumers)
 reached_least v o h = subst (IsReached o.image.stored o.image.join) (sym (least_shown v o h)) (at_least (IsReached o.image.stored o.image.join) o.image.consumers h.some h.reached)
 
-parted_least : (v : seen.Image) (o : Opened) → RepresentsImage v o → AreParted (least v.consumers) o.image.stored
+pub parted_least : (v : seen.Image) (o : Opened) → RepresentsImage v o → AreParted (least v.consumers) o.image.stored
 parted_least v o h = reached_parts o.image.stored o.image.join (least v.consumers) h.met h.from (reached_least v o h)
 
 -- ---- what it answers

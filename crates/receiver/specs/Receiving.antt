@@ -6,12 +6,14 @@ use Rattle.theory.specs.Wire.{Wire, Header, Setup, DATA, PAD, HEARTBEAT, NAK, SM
 use Rattle.theory.specs.Placed as placed
 use Rattle.theory.specs.Insert as meaning
 use Rattle.theory.specs.Consumer.{least_of}
+use Rattle.theory.specs.Gap.{Gap, gap_of}
+use Rattle.theory.specs.Units.{contiguous}
 use Rattle.theory.specs.Image.{Image, after_heartbeat, after_insert, image_at}
-use Rattle.theory.specs.Control.{asking_at, named_by, status_at}
+use Rattle.theory.specs.Control.{asking_at, nak_at, named_by, status_at}
 use Rattle.theory.specs.Setup.{HasSetupFault, OpensAt}
-use Rattle.theory.specs.Timing.{LastStatus, is_status_due, seen}
+use Rattle.theory.specs.Timing.{LastStatus, Scanned, Watch, is_status_due, scan, seen}
 use Rattle.frames.specs.Datagrams.{IsDatagramFault}
-use Rattle.frames.specs.Frames.{status_of}
+use Rattle.frames.specs.Frames.{nak_of, status_of}
 use Rattle.rebuilder.specs.Stored.{meant}
 use Rattle.rebuilder.specs.declared.answer.Insert.{Insert}
 use Rattle.setup.specs.Faults.{fault_of}
@@ -40,6 +42,8 @@ pub record Receiver : Type 0 where
   pub unmet : Option Header
   -- the last status message that said where its consumers stand
   pub told : Option LastStatus
+  -- the gap that its loss detector watches
+  pub watch : Watch
   -- the greatest moment that it has seen
   pub clock : ℕ
 
@@ -55,6 +59,7 @@ listening session stream window id consumers greatest = record {
   image = None;
   unmet = None;
   told = None;
+  watch = record { clock = 0; active = None; deadline = 0 };
   clock = 0;
 }
 
@@ -173,6 +178,20 @@ BreaksOff r now bytes s = (s ≡ r) ⊎ BreaksAt (at_moment r now) bytes s
 abbrev pub asking : Receiver → List Wire
 asking r = map (λ h. asking_at h r.id) (option_to_list r.unmet)
 
+-- the first gap of an image
+abbrev pub gap_in : Opened → Option Gap
+gap_in o = gap_of o.geometry.term_length o.image.stored o.image.high (contiguous o.image.stored o.image.join o.image.high)
+
+-- what its loss detector makes of that; without an image nothing is scanned
+abbrev pub scanned_at : Option Opened → Receiver → Scanned
+scanned_at None r = record { watch = r.watch; told = None }
+scanned_at (Some o) r = scan r.watch r.clock (gap_in o)
+
+-- the message that asks again for what is missing
+abbrev pub missing : Option Opened → Receiver → List Wire
+missing None r = []
+missing (Some o) r = map (nak_at (record { geometry = o.geometry; session = r.session; stream = r.stream })) (option_to_list (scanned_at (Some o) r).told)
+
 abbrev pub is_due : Receiver → Opened → Bool
 is_due r o = is_status_due (option_to_list r.told) r.window (least_of o.image.consumers) r.clock
 
@@ -190,11 +209,12 @@ told_after (Some o) r = if is_due r o then Some (record { now = r.clock; positio
 
 -- what goes out at a tick
 abbrev pub replies : Receiver → ℕ → List Wire
-replies r now = asking (at_moment r now) ++ telling r.image (at_moment r now)
+replies r now = asking (at_moment r now) ++ missing r.image (at_moment r now) ++ telling r.image (at_moment r now)
 
 abbrev pub ticked : Receiver → ℕ → Receiver
-ticked r now = record (at_moment r now) { unmet = None; told = told_after r.image (at_moment r now) }
+ticked r now = record (at_moment r now) { unmet = None; told = told_after r.image (at_moment r now); watch = (scanned_at r.image (at_moment r now)).watch }
 
 -- the same of the code's
 abbrev pub replied : Replies → List Wire
-replied out = map (λ f. SM 128 (status_of f)) (option_to_list out.asking) ++ map (λ f. SM 0 (status_of f)) (option_to_list out.status)
+replied out =
+    map (λ f. SM 128 (status_of f)) (option_to_list out.asking) ++ map (λ f. NAK (nak_of f)) (option_to_list out.nak) ++ map (λ f. SM 0 (status_of f)) (option_to_list out.status)

@@ -10,7 +10,7 @@ use Rattle.theory.specs.Consumer.{Consumer, least_of}
 use Rattle.theory.specs.Image.{after_heartbeat}
 use Rattle.theory.specs.ImageLaws.{held}
 use Rattle.theory.specs.Control.{named_by}
-use Rattle.theory.specs.Timing.{LastStatus}
+use Rattle.theory.specs.Timing.{LastStatus, Watch}
 use Rattle.theory.specs.Wire.{Header, IsHeader, Wire}
 use Rattle.rebuilder.specs.Kinds.{head_at}
 use Rattle.rebuilder.specs.Seen as seen
@@ -30,6 +30,7 @@ pub record Core : Type 0 where
   pub image : Option seen.Image
   pub unmet : Option Header
   pub told : Option LastStatus
+  pub watch : Watch
   pub clock : ℕ
 
 abbrev pub last_status_of : LastSent → LastStatus
@@ -54,6 +55,7 @@ with_image v greatest image = record {
   image = image;
   unmet = v.unmet;
   told = v.told;
+  watch = v.watch;
   clock = v.clock;
 }
 

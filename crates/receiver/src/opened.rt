@@ -2,19 +2,21 @@
 
 ghost use Rattle.std.specs.Prelude.{◌≡◌, ◌≤◌, ◌<◌, ◌+◌, ◌^◌, ◌%◌, [], length, replicate, slice_index, IfNone, IfOk, IfSome, OnErr, OnSome, Some};
 ghost use Rattle.position.specs.declared.head.FrameKind.TheVariants.{Data};
+ghost use Rattle.position.specs.Gaps.{gap_of};
 ghost use Rattle.rebuilder.specs.Seen.{IsCount, IsJoin};
 ghost use Rattle.rebuilder.specs.Stored.{IsOfStream, IsUnit, stream_frame};
 ghost use Rattle.theory.specs.Control.{named_by};
 ghost use Rattle.theory.specs.Image.{IsWindow};
-ghost use Rattle.theory.specs.Position.{IsGeometry};
+ghost use Rattle.theory.specs.Position.{IsGeometry, max_position};
 ghost use Rattle.theory.specs.Wire.{IsFrame, IsHeader};
 ghost use Rattle.frames.specs.Frames.{header_of, wire};
-ghost use Rattle.receiver.specs.Receiving.{Opened, StoresFrame};
+ghost use Rattle.receiver.specs.Receiving.{Opened, StoresFrame, gap_in};
 ghost use Rattle.receiver.specs.Representing.{GoesForward, HearsBeat, Inserts, IsAtEnd, ReadsPast, RepresentsImage};
 
 use block::Block;
 use frames::{Frame, Header};
-use position::{FrameHead, Geometry};
+use loss_detector::first_gap;
+use position::{FrameHead, Gap, Geometry};
 use rebuilder::{Image, ImageError, Insert};
 use std::alloc::{AllocError, Global};
 
@@ -72,6 +74,18 @@ pub fn hear(image: &mut Image, header: &Header)
 {
     let position = position_in(&image.geometry(), header);
     let _ = image.heartbeat(position);
+}
+
+/// The first gap of an image. It begins at a position of the stream, and is no longer than a term.
+pub fn find_gap(image: &Image) -> Option<Gap>
+    ensures first { (o : Opened) → RepresentsImage image.now o → gap_of result ≡ gap_in o }
+    ensures low { IfSome result (λ gap. (gap.start ≤ max_position image.now.geometry) × (gap.length < 2 ^ 31)) }
+{
+    image.held_apart();
+    let _ = image.geometry();
+    let _ = image.rebuilt();
+    let _ = image.high_water();
+    first_gap(image)
 }
 
 /// Reads the frame at a consumer's position to the block's front, and moves the consumer past it. There is none where it

@@ -8,17 +8,18 @@ ghost use Rattle.theory.specs.Control as control;
 ghost use Rattle.theory.specs.Control.{asking_at};
 ghost use Rattle.theory.specs.Position.{max_position};
 ghost use Rattle.theory.specs.Timing as timing;
-ghost use Rattle.theory.specs.Wire.{IsFrame, IsHeader, SM, SpellsDatagram, Wire};
-ghost use Rattle.frames.specs.Frames.{header_of, setup_of, status_of, wire};
+ghost use Rattle.theory.specs.Wire.{IsFrame, IsHeader, NAK, SM, SpellsDatagram, Wire};
+ghost use Rattle.frames.specs.Frames.{header_of, nak_of, setup_of, status_of, wire};
 ghost use Rattle.rebuilder.specs.Seen.{IsCount};
 ghost use Rattle.rebuilder.specs.Stored.{IsOfStream, stream_frame};
 ghost use Rattle.receiver.specs.Representing.{last_status_of};
 ghost use Rattle.receiver.specs.Texts.{outcome_text};
 
-use crate::opened::{hear, insert, open, read_past};
+use crate::opened::{find_gap, hear, insert, open, read_past};
 use block::Block;
-use frames::{Frame, FrameError, Header, Setup, Status, check_datagram, read_frame};
-use position::{FrameHead, Geometry};
+use frames::{Frame, FrameError, Header, Nak, Setup, Status, check_datagram, read_frame};
+use loss_detector::LossDetector;
+use position::{FrameHead, Gap, Geometry};
 use rebuilder::{Image, Insert};
 use setup::{SetupError, judge};
 use std::alloc::{AllocError, Global};
@@ -69,6 +70,8 @@ impl fmt::Display for Outcome {
 pub struct Replies {
     /// Asks for a SETUP.
     pub asking: Option<Status>,
+    /// Asks again for what is missing.
+    pub nak: Option<Nak>,
     /// Says where the consumer stands.
     pub status: Option<Status>,
 }
@@ -93,6 +96,7 @@ pub struct ReceiverCore {
     /// The header of the last frame that met no image since the last tick.
     unmet: Option<Header>,
     told: Option<LastSent>,
+    detector: LossDetector,
     /// The greatest moment that it has seen.
     clock: u64,
 }
@@ -104,13 +108,13 @@ impl Model for ReceiverCore {
 
     ghost Value = { Core };
 
-    ghost view = { λ c. record { session = c.session; stream = c.stream; window = c.window; id = c.receiver; consumers = c.consumers; image = c.image; unmet = option_map header_of c.unmet; told = option_map last_status_of c.told; clock = c.clock } };
+    ghost view = { λ c. record { session = c.session; stream = c.stream; window = c.window; id = c.receiver; consumers = c.consumers; image = c.image; unmet = option_map header_of c.unmet; told = option_map last_status_of c.told; watch = c.detector; clock = c.clock } };
 
-    ghost invariant = { λ c. IsCore (record { session = c.session; stream = c.stream; window = c.window; id = c.receiver; consumers = c.consumers; image = c.image; unmet = option_map header_of c.unmet; told = option_map last_status_of c.told; clock = c.clock }) };
+    ghost invariant = { λ c. IsCore (record { session = c.session; stream = c.stream; window = c.window; id = c.receiver; consumers = c.consumers; image = c.image; unmet = option_map header_of c.unmet; told = option_map last_status_of c.told; watch = c.detector; clock = c.clock }) };
 }
 
 impl ReceiverCore {
-    ghost use Rattle.receiver.specs.Receiving.{BreaksOff, TakesDatagram, IfOurs, IsOurs, NeedsMemory, StoresFrame, WouldOpen, Meets, MeetsAll, MeetsFrame, MeetsHeartbeat, MeetsSetup, Receiver, listening, replied, replies, telling, ticked, told_after};
+    ghost use Rattle.receiver.specs.Receiving.{BreaksOff, TakesDatagram, IfOurs, IsOurs, NeedsMemory, StoresFrame, WouldOpen, Meets, MeetsAll, MeetsFrame, MeetsHeartbeat, MeetsSetup, Receiver, listening, missing, replied, replies, scanned_at, telling, ticked, told_after};
     ghost use Rattle.receiver.specs.Representing.{Becomes, GoesForward, HasNoFrame, MeetsFirst, PassesFrame, Represents, place_in};
 
     /// A receiver without an image, for one to eight consumers. Its window is in bytes.
@@ -137,6 +141,7 @@ impl ReceiverCore {
             image: None,
             unmet: None,
             told: None,
+            detector: LossDetector::new(),
             clock: 0,
         }
     }
@@ -363,8 +368,13 @@ impl ReceiverCore {
     {
         self.see(now);
         let asking = self.ask();
+        let nak = self.miss();
         let status = self.tell();
-        Replies { asking, status }
+        Replies {
+            asking,
+            nak,
+            status,
+        }
     }
 
     /// The message that asks for a SETUP, where a frame met no image since the last tick.
@@ -376,6 +386,25 @@ impl ReceiverCore {
             return None;
         };
         Some(asking(&header, self.receiver))
+    }
+
+    /// The message that asks again for the first gap of the image, if the loss detector tells it.
+    fn miss(&mut self) -> Option<Nak>
+        ensures missed { (r : Receiver) → Represents self.old r → map (λ f. NAK (nak_of f)) (option_to_list result) ≡ missing r.image r }
+        ensures state { (r : Receiver) → Represents self.old r → Represents self.new (record r { watch = (scanned_at r.image r).watch }) }
+        ensures consumers { self.new.consumers ≡ self.old.consumers }
+    {
+        match &self.image {
+            None => None,
+            Some(image) => {
+                let gap = find_gap(image);
+                let told = self.detector.scan(self.clock, gap);
+                let Some(missed) = told else {
+                    return None;
+                };
+                Some(nak_at(&image.geometry(), self.session, self.stream, missed))
+            }
+        }
     }
 
     /// The message that says where the consumers stand, if it is due.
@@ -421,6 +450,22 @@ fn asking(header: &Header, receiver: i64) -> Status
         term_offset: header.term_offset.cast_signed(),
         window: 0,
         receiver,
+    }
+}
+
+/// The negative acknowledgement of a receiver that misses this range.
+fn nak_at(geometry: &Geometry, session: i32, stream: i32, gap: Gap) -> Nak
+    requires start { gap.start ≤ max_position geometry.now }
+    requires length { gap.length < 2 ^ 31 }
+    ensures { NAK (nak_of result) ≡ control.nak_at (record { geometry = geometry.now; session = session; stream = stream }) (record { start = gap.start; length = gap.length }) }
+{
+    let place = geometry.term_of(gap.start);
+    Nak {
+        session,
+        stream,
+        term_id: place.term_id,
+        term_offset: place.offset.cast_signed(),
+        length: gap.length as i32,
     }
 }
 

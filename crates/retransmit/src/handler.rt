@@ -65,6 +65,14 @@ impl Retransmit {
         })
     }
 
+    /// The end of the last frame that was noted, or the start.
+    pub fn position(&self) -> u64
+        ensures value { result ≡ self.now.at }
+        ensures in_stream { result ≤ max_position self.now.geometry }
+    {
+        self.at
+    }
+
     /// The bytes behind the sender that can be asked for.
     fn reach(&self) -> u64
         ensures { result ≡ 3 * self.now.geometry.term_length / 4 }

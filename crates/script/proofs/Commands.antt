@@ -2,10 +2,10 @@
 use Rattle.std.proofs.Common.{◌≡◌, ℕ, true, cond, List, [], ◌∷◌, Option, Some, None, inl, inr, sym, ap, subst, ◌∙◌}
 use Rattle.std.specs.Prelude.{bytes_eq, codes, nat_lt}
 use Rattle.std.proofs.lemmas.Bool.{cond-true, ltb-true, lt-ltb}
-use Rattle.script.specs.Meaning.{CommandContent, Connect, Disconnect, Close, Limit, Offer, OfferSize, Claim, Commit, Abort, Read, Send, Deliver, Tick, Reply, Poll, Image}
+use Rattle.script.specs.Meaning.{CommandContent, Connect, Disconnect, Close, Limit, Offer, OfferSize, Claim, Commit, Abort, Read, Send, Deliver, Raw, Tick, Reply, RawBack, Poll, Image}
 use Rattle.script.specs.Pieces.{words}
 use Rattle.script.specs.Values.{◌>>=◌, hex_of}
-use Rattle.script.specs.Reading.{word_at, number_at, most_wide, whole, offer_hex_of, offer_size_of, form_of, offer_of, claim_of, commit_of, abort_of, reader_of, read_of, send_of, deliver_of, tick_of, reply_of, poll_of, image_of, plain_of, command_of}
+use Rattle.script.specs.Reading.{word_at, number_at, most_wide, whole, last_bytes, named_of, raw_of, raw_back_of, offer_hex_of, offer_size_of, form_of, offer_of, claim_of, commit_of, abort_of, reader_of, read_of, send_of, deliver_of, tick_of, reply_of, poll_of, image_of, plain_of, command_of}
 use Rattle.script.specs.Language.{IsPartyNumber, IsWide, IsHex, SayCommand, Says}
 use Rattle.script.proofs.Options.{bind_some, some_bind, chosen, guarded_step}
 use Rattle.script.proofs.Words.{hex_found, hex_only}
@@ -110,13 +110,48 @@ read_found ws o e =
 offered : (a form name b : List ℕ) (ws : List (List ℕ)) → bytes_eq form name ≡ true → ws ≡ b ∷ [] → codes "offer" ∷ a ∷ form ∷ ws ≡ codes "offer" ∷ a ∷ name ∷ b ∷ []
 offered a form name b ws e last = ap (λ f. codes "offer" ∷ a ∷ f ∷ ws) (same_name form name e) ∙ ap (λ rest. codes "offer" ∷ a ∷ name ∷ rest) last
 
+bytes_found : (ws : List (List ℕ)) (m : List ℕ) → last_bytes ws ≡ Some m → (b : List ℕ) × (ws ≡ b ∷ []) × IsHex b m
+unfolding last_bytes
+bytes_found ws m e =
+    let digits = bind_some (word_at ws) (λ digits. hex_of digits.0 >>= λ bytes. whole bytes digits.1) m e in
+    let bytes = bind_some (hex_of digits.0.0) (λ bytes. whole bytes digits.0.1) m digits.2 in
+    let end = whole_found bytes.0 digits.0.1 m bytes.2 in
+    (digits.0.0, word_found ws digits.0 digits.1 ∙ ap (λ rest. digits.0.0 ∷ rest) end.0, subst (IsHex digits.0.0) end.1 (hex_found digits.0.0 bytes.0 bytes.1))
+
+bytes_only : (b m : List ℕ) → IsHex b m → last_bytes (b ∷ []) ≡ Some m
+unfolding last_bytes word_at
+bytes_only b m is = some_bind (hex_of b) _ m (hex_only b m is) ∙ whole_only m
+
 hex_offered : (p : ℕ) (ws : List (List ℕ)) (o : CommandContent) → offer_hex_of p ws ≡ Some o → (b : List ℕ) × (m : List ℕ) × (ws ≡ b ∷ []) × IsHex b m × (Offer p m ≡ o)
 unfolding offer_hex_of
 hex_offered p ws o e =
-    let digits = bind_some (word_at ws) (λ digits. hex_of digits.0 >>= λ message. whole (Offer p message) digits.1) o e in
-    let message = bind_some (hex_of digits.0.0) (λ message. whole (Offer p message) digits.0.1) o digits.2 in
-    let end = whole_found (Offer p message.0) digits.0.1 o message.2 in
-    (digits.0.0, message.0, word_found ws digits.0 digits.1 ∙ ap (λ rest. digits.0.0 ∷ rest) end.0, hex_found digits.0.0 message.0 message.1, end.1)
+    let m = bind_some (last_bytes ws) (λ message. Some (Offer p message)) o e in
+    let b = bytes_found ws m.0 m.1 in
+    let same : Offer p m.0 ≡ o = cc in
+    (b.0, m.0, b.1, b.2, same)
+
+raw_found : (ws : List (List ℕ)) (o : CommandContent) → raw_of ws ≡ Some o → SayCommand (codes "raw" ∷ ws) o
+unfolding raw_of
+raw_found ws o e =
+    let r = bind_some (number_at 7 ws) (λ r. number_at most_wide r.1 >>= λ now. last_bytes now.1 >>= λ bytes. Some (Raw r.0 now.0 bytes)) o e in
+    let a = number_at_found 7 ws r.0 r.1 in
+    let now = bind_some (number_at most_wide r.0.1) (λ now. last_bytes now.1 >>= λ bytes. Some (Raw r.0.0 now.0 bytes)) o r.2 in
+    let b = number_at_found most_wide r.0.1 now.0 now.1 in
+    let m = bind_some (last_bytes now.0.1) (λ bytes. Some (Raw r.0.0 now.0.0 bytes)) o now.2 in
+    let c = bytes_found now.0.1 m.0 m.1 in
+    let same : Raw r.0.0 now.0.0 m.0 ≡ o = cc in
+    subst (SayCommand (codes "raw" ∷ ws)) same
+    (a.0, b.0, c.0, ap (λ rest. codes "raw" ∷ rest) (a.1 ∙ ap (λ rest. a.0 ∷ rest) (b.1 ∙ ap (λ rest. b.0 ∷ rest) c.1)), a.2, b.2, c.2)
+
+raw_back_found : (ws : List (List ℕ)) (o : CommandContent) → raw_back_of ws ≡ Some o → SayCommand (codes "rawback" ∷ ws) o
+unfolding raw_back_of
+raw_back_found ws o e =
+    let now = bind_some (number_at most_wide ws) (λ now. last_bytes now.1 >>= λ bytes. Some (RawBack now.0 bytes)) o e in
+    let a = number_at_found most_wide ws now.0 now.1 in
+    let m = bind_some (last_bytes now.0.1) (λ bytes. Some (RawBack now.0.0 bytes)) o now.2 in
+    let b = bytes_found now.0.1 m.0 m.1 in
+    let same : RawBack now.0.0 m.0 ≡ o = cc in
+    subst (SayCommand (codes "rawback" ∷ ws)) same (a.0, b.0, ap (λ rest. codes "rawback" ∷ rest) (a.1 ∙ ap (λ rest. a.0 ∷ rest) b.1), a.2, b.2)
 
 size_offered : (p : ℕ) (ws : List (List ℕ)) (o : CommandContent) → offer_size_of p ws ≡ Some o → (b : List ℕ) × (n : ℕ) × (ws ≡ b ∷ []) × IsWide b n × (OfferSize p n ≡ o)
 unfolding offer_size_of
@@ -229,23 +264,32 @@ plain_found name ws o e = elim (chosen (bytes_eq name (codes "connect")) _ _ _ e
   ]
 ]
 
+named_found : (name : List ℕ) (ws : List (List ℕ)) (o : CommandContent) → named_of name ws ≡ Some o → SayCommand (name ∷ ws) o
+unfolding named_of
+named_found name ws o e = elim (chosen (bytes_eq name (codes "offer")) _ _ _ e) [
+  | inl h ↦ named_says name (codes "offer") ws o h.0 (offer_found ws o h.1)
+  | inr f1 ↦ elim (chosen (bytes_eq name (codes "raw")) _ _ _ f1.1) [
+    | inl h ↦ named_says name (codes "raw") ws o h.0 (raw_found ws o h.1)
+    | inr f2 ↦ elim (chosen (bytes_eq name (codes "rawback")) _ _ _ f2.1) [
+      | inl h ↦ named_says name (codes "rawback") ws o h.0 (raw_back_found ws o h.1)
+      | inr h ↦ plain_found name ws o h.1
+    ]
+  ]
+]
+
 pub command_found : (line : List ℕ) (command : CommandContent) → command_of line ≡ Some command → Says line command
 unfolding command_of
 command_found line command e =
-    let name = bind_some (word_at (words line)) (λ name. cond (bytes_eq name.0 (codes "offer")) (offer_of name.1) (plain_of name.0 name.1)) command e in
+    let name = bind_some (word_at (words line)) (λ name. named_of name.0 name.1) command e in
     let whole : words line ≡ name.0.0 ∷ name.0.1 = word_found (words line) name.0 name.1 in
-    let says : SayCommand (name.0.0 ∷ name.0.1) command = elim (chosen (bytes_eq name.0.0 (codes "offer")) _ _ _ name.2) [
-      | inl h ↦ named_says name.0.0 (codes "offer") name.0.1 command h.0 (offer_found name.0.1 command h.1)
-      | inr h ↦ plain_found name.0.0 name.0.1 command h.1
-    ] in
-    subst (λ ws. SayCommand ws command) (sym whole) says
+    subst (λ ws. SayCommand ws command) (sym whole) (named_found name.0.0 name.0.1 command name.2)
 
 -- the command that words say
 read_words : List (List ℕ) → Option CommandContent
-read_words ws = word_at ws >>= λ name. cond (bytes_eq name.0 (codes "offer")) (offer_of name.1) (plain_of name.0 name.1)
+read_words ws = word_at ws >>= λ name. named_of name.0 name.1
 
 words_only : (ws : List (List ℕ)) (command : CommandContent) → SayCommand ws command → read_words ws ≡ Some command
-unfolding read_words word_at plain_of offer_of form_of offer_hex_of offer_size_of claim_of commit_of abort_of read_of send_of deliver_of tick_of reply_of poll_of image_of
+unfolding read_words word_at named_of plain_of offer_of form_of raw_of raw_back_of offer_hex_of offer_size_of claim_of commit_of abort_of read_of send_of deliver_of tick_of reply_of poll_of image_of
 words_only ws Connect is = ap read_words is ∙ whole_only Connect
 words_only ws Disconnect is = ap read_words is ∙ whole_only Disconnect
 words_only ws Close is = ap read_words is ∙ whole_only Close
@@ -253,7 +297,7 @@ words_only ws Limit is = ap read_words is ∙ whole_only Limit
 words_only ws (Offer p m) (a, b, is, is_a, is_b) =
     ap read_words is
     ∙ some_bind (number_at 7 (a ∷ codes "hex" ∷ b ∷ [])) _ (p, codes "hex" ∷ b ∷ []) (number_at_only 7 a (codes "hex" ∷ b ∷ []) p is_a)
-    ∙ some_bind (hex_of b) _ m (hex_only b m is_b) ∙ whole_only (Offer p m)
+    ∙ some_bind (last_bytes (b ∷ [])) _ m (bytes_only b m is_b)
 words_only ws (OfferSize p n) (a, b, is, is_a, is_b) =
     ap read_words is
     ∙ some_bind (number_at 7 (a ∷ codes "size" ∷ b ∷ [])) _ (p, codes "size" ∷ b ∷ []) (number_at_only 7 a (codes "size" ∷ b ∷ []) p is_a)
@@ -276,6 +320,15 @@ words_only ws (Deliver k r now) (a, b, c, is, is_a, is_b, is_c) =
     ∙ some_bind (number_at most_wide (a ∷ b ∷ c ∷ [])) _ (k, b ∷ c ∷ []) (number_at_only most_wide a (b ∷ c ∷ []) k is_a)
     ∙ some_bind (number_at 7 (b ∷ c ∷ [])) _ (r, c ∷ []) (number_at_only 7 b (c ∷ []) r is_b)
     ∙ some_bind (number_at most_wide (c ∷ [])) _ (now, []) (number_at_only most_wide c [] now is_c) ∙ whole_only (Deliver k r now)
+words_only ws (Raw r now m) (a, b, c, is, is_a, is_b, is_c) =
+    ap read_words is
+    ∙ some_bind (number_at 7 (a ∷ b ∷ c ∷ [])) _ (r, b ∷ c ∷ []) (number_at_only 7 a (b ∷ c ∷ []) r is_a)
+    ∙ some_bind (number_at most_wide (b ∷ c ∷ [])) _ (now, c ∷ []) (number_at_only most_wide b (c ∷ []) now is_b)
+    ∙ some_bind (last_bytes (c ∷ [])) _ m (bytes_only c m is_c)
+words_only ws (RawBack now m) (a, b, is, is_a, is_b) =
+    ap read_words is
+    ∙ some_bind (number_at most_wide (a ∷ b ∷ [])) _ (now, b ∷ []) (number_at_only most_wide a (b ∷ []) now is_a)
+    ∙ some_bind (last_bytes (b ∷ [])) _ m (bytes_only b m is_b)
 words_only ws (Tick r now) (a, b, is, is_a, is_b) =
     ap read_words is
     ∙ some_bind (number_at 7 (a ∷ b ∷ [])) _ (r, b ∷ []) (number_at_only 7 a (b ∷ []) r is_a)

@@ -4,7 +4,7 @@ use Rattle.std.specs.List.{AllPass, Any, filter}
 use Rattle.std.specs.Char.{is_ascii_digit}
 use Rattle.std.specs.Str.Parse.{digits_value}
 use Rattle.hex.specs.Hex.{decode_of}
-use Rattle.script.specs.Meaning.{Opening, CommandContent, ScriptContent, Connect, Disconnect, Close, Limit, Offer, OfferSize, Claim, Commit, Abort, Read, Send, Deliver, Tick, Reply, Poll, Image}
+use Rattle.script.specs.Meaning.{Opening, CommandContent, ScriptContent, Connect, Disconnect, Close, Limit, Offer, OfferSize, Claim, Commit, Abort, Read, Send, Deliver, Raw, Tick, Reply, RawBack, Poll, Image}
 use Rattle.script.specs.Pieces.{lines, words}
 
 -- the word is a number, in decimal digits, with any leading zeros
@@ -55,8 +55,10 @@ SayCommand ws (Abort publisher) = (a : List ℕ) × (ws ≡ codes "abort" ∷ a 
 SayCommand ws (Read reader) = (a : List ℕ) × (ws ≡ codes "read" ∷ a ∷ []) × IsReader a reader
 SayCommand ws (Send now) = (a : List ℕ) × (ws ≡ codes "send" ∷ a ∷ []) × IsWide a now
 SayCommand ws (Deliver packet receiver now) = (a : List ℕ) × (b : List ℕ) × (c : List ℕ) × (ws ≡ codes "deliver" ∷ a ∷ b ∷ c ∷ []) × IsWide a packet × IsPartyNumber b receiver × IsWide c now
+SayCommand ws (Raw receiver now bytes) = (a : List ℕ) × (b : List ℕ) × (c : List ℕ) × (ws ≡ codes "raw" ∷ a ∷ b ∷ c ∷ []) × IsPartyNumber a receiver × IsWide b now × IsHex c bytes
 SayCommand ws (Tick receiver now) = (a : List ℕ) × (b : List ℕ) × (ws ≡ codes "tick" ∷ a ∷ b ∷ []) × IsPartyNumber a receiver × IsWide b now
 SayCommand ws (Reply packet now) = (a : List ℕ) × (b : List ℕ) × (ws ≡ codes "reply" ∷ a ∷ b ∷ []) × IsWide a packet × IsWide b now
+SayCommand ws (RawBack now bytes) = (a : List ℕ) × (b : List ℕ) × (ws ≡ codes "rawback" ∷ a ∷ b ∷ []) × IsWide a now × IsHex b bytes
 SayCommand ws (Poll receiver) = (a : List ℕ) × (ws ≡ codes "poll" ∷ a ∷ []) × IsPartyNumber a receiver
 SayCommand ws (Image receiver) = (a : List ℕ) × (ws ≡ codes "image" ∷ a ∷ []) × IsPartyNumber a receiver
 

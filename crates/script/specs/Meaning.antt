@@ -29,8 +29,10 @@ pub data CommandContent : Type 0 where
   Read : ℕ → CommandContent
   Send : ℕ → CommandContent
   Deliver : ℕ → ℕ → ℕ → CommandContent
+  Raw : ℕ → ℕ → List ℕ → CommandContent
   Tick : ℕ → ℕ → CommandContent
   Reply : ℕ → ℕ → CommandContent
+  RawBack : ℕ → List ℕ → CommandContent
   Poll : ℕ → CommandContent
   Image : ℕ → CommandContent
 
@@ -59,8 +61,10 @@ content_of (commands.Abort publisher) = Abort publisher.number
 content_of (commands.Read reader) = Read reader.number
 content_of (commands.Send now) = Send now
 content_of (commands.Deliver packet receiver now) = Deliver packet receiver.number now
+content_of (commands.Raw receiver now bytes) = Raw receiver.number now bytes.items
 content_of (commands.Tick receiver now) = Tick receiver.number now
 content_of (commands.Reply packet now) = Reply packet now
+content_of (commands.RawBack now bytes) = RawBack now bytes.items
 content_of (commands.Poll receiver) = Poll receiver.number
 content_of (commands.Image receiver) = Image receiver.number
 

@@ -3,7 +3,7 @@ use Rattle.std.specs.Prelude.{◌≡◌, ℕ, ◌+◌, ◌-◌, ◌^◌, ℤ, Bo
 use Rattle.std.specs.List.{list_any}
 use Rattle.script.specs.declared.fault.ScriptFault.{ScriptFault}
 use Rattle.script.specs.declared.fault.ScriptFault.TheVariants as faults
-use Rattle.script.specs.Meaning.{Opening, CommandContent, ScriptContent, Connect, Disconnect, Close, Limit, Offer, OfferSize, Claim, Commit, Abort, Read, Send, Deliver, Tick, Reply, Poll, Image}
+use Rattle.script.specs.Meaning.{Opening, CommandContent, ScriptContent, Connect, Disconnect, Close, Limit, Offer, OfferSize, Claim, Commit, Abort, Read, Send, Deliver, Raw, Tick, Reply, RawBack, Poll, Image}
 use Rattle.script.specs.Pieces.{lines, words}
 use Rattle.script.specs.Values.{◌>>=◌, number_of, signed_of, hex_of}
 
@@ -45,9 +45,13 @@ end_of (word ∷ rest) = None
 abbrev pub whole : {A : Type 0} → A → List (List ℕ) → Option A
 whole x ws = end_of ws >>= λ _. Some x
 
+-- the bytes of the last word
+unfoldable pub last_bytes : List (List ℕ) → Option (List ℕ)
+last_bytes ws = word_at ws >>= λ digits. hex_of digits.0 >>= λ bytes. whole bytes digits.1
+
 -- what stands behind the form of an offer
 unfoldable pub offer_hex_of : ℕ → List (List ℕ) → Option CommandContent
-offer_hex_of publisher ws = word_at ws >>= λ digits. hex_of digits.0 >>= λ message. whole (Offer publisher message) digits.1
+offer_hex_of publisher ws = last_bytes ws >>= λ message. Some (Offer publisher message)
 
 unfoldable pub offer_size_of : ℕ → List (List ℕ) → Option CommandContent
 offer_size_of publisher ws = number_at most_wide ws >>= λ size. whole (OfferSize publisher size.0) size.1
@@ -89,6 +93,12 @@ tick_of ws = number_at 7 ws >>= λ receiver. number_at most_wide receiver.1 >>= 
 unfoldable pub reply_of : List (List ℕ) → Option CommandContent
 reply_of ws = number_at most_wide ws >>= λ packet. number_at most_wide packet.1 >>= λ now. whole (Reply packet.0 now.0) now.1
 
+unfoldable pub raw_of : List (List ℕ) → Option CommandContent
+raw_of ws = number_at 7 ws >>= λ receiver. number_at most_wide receiver.1 >>= λ now. last_bytes now.1 >>= λ bytes. Some (Raw receiver.0 now.0 bytes)
+
+unfoldable pub raw_back_of : List (List ℕ) → Option CommandContent
+raw_back_of ws = number_at most_wide ws >>= λ now. last_bytes now.1 >>= λ bytes. Some (RawBack now.0 bytes)
+
 unfoldable pub poll_of : List (List ℕ) → Option CommandContent
 poll_of ws = number_at 7 ws >>= λ receiver. whole (Poll receiver.0) receiver.1
 
@@ -113,8 +123,15 @@ plain_of name ws =
     else (if bytes_eq name (codes "abort") then abort_of ws
     else (if bytes_eq name (codes "read") then read_of ws else None)))))))))))))
 
+-- of those that hold bytes, and the others
+unfoldable pub named_of : List ℕ → List (List ℕ) → Option CommandContent
+named_of name ws =
+    if bytes_eq name (codes "offer") then offer_of ws
+    else (if bytes_eq name (codes "raw") then raw_of ws
+    else (if bytes_eq name (codes "rawback") then raw_back_of ws else plain_of name ws))
+
 unfoldable pub command_of : List ℕ → Option CommandContent
-command_of line = word_at (words line) >>= λ name. (if bytes_eq name.0 (codes "offer") then offer_of name.1 else plain_of name.0 name.1)
+command_of line = word_at (words line) >>= λ name. named_of name.0 name.1
 
 -- the fields of the line that opens the log
 unfoldable pub opening_of : List (List ℕ) → Option Opening

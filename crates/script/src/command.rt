@@ -73,6 +73,12 @@ pub enum Command {
         receiver: PartyNumber,
         now: u64,
     },
+    /// A receiver is handed any bytes.
+    Raw {
+        receiver: PartyNumber,
+        now: u64,
+        bytes: Vec<u8>,
+    },
     /// A receiver does one cycle.
     Tick {
         receiver: PartyNumber,
@@ -82,6 +88,11 @@ pub enum Command {
     Reply {
         packet: u64,
         now: u64,
+    },
+    /// The sender is handed any bytes.
+    RawBack {
+        now: u64,
+        bytes: Vec<u8>,
     },
     /// A receiver's consumer reads on to the end of a message.
     Poll {

@@ -1,6 +1,6 @@
 ghost use Rattle.std.specs.Prelude.{◌≡◌, ◌^◌, ◌≤◌, IfSome};
 ghost use Rattle.script.specs.Meaning.{opening, content_of};
-ghost use Rattle.script.specs.Reading.{ReturnsRead, GivesAt, number_at, signed_at, offer_hex_of, offer_size_of, form_of, offer_of, claim_of, commit_of, abort_of, read_of, send_of, deliver_of, tick_of, reply_of, poll_of, image_of, plain_of, command_of, opening_of, log_of, is_log};
+ghost use Rattle.script.specs.Reading.{ReturnsRead, GivesAt, number_at, signed_at, last_bytes, offer_hex_of, offer_size_of, form_of, offer_of, raw_of, raw_back_of, named_of, claim_of, commit_of, abort_of, read_of, send_of, deliver_of, tick_of, reply_of, poll_of, image_of, plain_of, command_of, opening_of, log_of, is_log};
 ghost use Rattle.script.specs.Rests.{words_left};
 
 use crate::command::{Command, LogLine, PartyNumber};
@@ -143,6 +143,43 @@ fn image(words: Words<'_>) -> Option<Command>
     Some(Command::Image { receiver })
 }
 
+/// The bytes that the last word spells, of the line with this number.
+#[tactic(auto, unfolding(crate::specs::Reading::last_bytes))]
+fn last_bytes(alloc: Global, number: u64, words: Words<'_>) -> Result<Vec<u8>, ScriptFault>
+    ensures { GivesAt number (λ bytes. bytes.items) result (last_bytes (words_left words.entry)) }
+{
+    let fault = ScriptFault::Line(number);
+    let (digits, rest) = words.first().ok_or(fault)?;
+    let bytes = message_bytes(alloc, digits)?.ok_or(fault)?;
+    rest.end().ok_or(fault)?;
+    Ok(bytes)
+}
+
+#[tactic(auto, unfolding(crate::specs::Reading::raw_of))]
+fn raw(alloc: Global, number: u64, words: Words<'_>) -> Result<Command, ScriptFault>
+    ensures { GivesAt number content_of result (raw_of (words_left words.entry)) }
+{
+    let fault = ScriptFault::Line(number);
+    let (receiver, rest) = party_number_at(words).ok_or(fault)?;
+    let (now, rest) = number_at(rest, u64::MAX).ok_or(fault)?;
+    let bytes = last_bytes(alloc, number, rest)?;
+    Ok(Command::Raw {
+        receiver,
+        now,
+        bytes,
+    })
+}
+
+#[tactic(auto, unfolding(crate::specs::Reading::raw_back_of))]
+fn raw_back(alloc: Global, number: u64, words: Words<'_>) -> Result<Command, ScriptFault>
+    ensures { GivesAt number content_of result (raw_back_of (words_left words.entry)) }
+{
+    let fault = ScriptFault::Line(number);
+    let (now, rest) = number_at(words, u64::MAX).ok_or(fault)?;
+    let bytes = last_bytes(alloc, number, rest)?;
+    Ok(Command::RawBack { now, bytes })
+}
+
 /// The words behind `hex` of a publisher's offer, of the line with this number.
 #[tactic(auto, unfolding(crate::specs::Reading::offer_hex_of))]
 fn offer_hex(
@@ -153,10 +190,7 @@ fn offer_hex(
 ) -> Result<Command, ScriptFault>
     ensures { GivesAt number content_of result (offer_hex_of publisher.number (words_left words.entry)) }
 {
-    let fault = ScriptFault::Line(number);
-    let (digits, rest) = words.first().ok_or(fault)?;
-    let message = message_bytes(alloc, digits)?.ok_or(fault)?;
-    rest.end().ok_or(fault)?;
+    let message = last_bytes(alloc, number, words)?;
     Ok(Command::Offer { publisher, message })
 }
 
@@ -201,7 +235,7 @@ fn offer(alloc: Global, number: u64, words: Words<'_>) -> Result<Command, Script
     offer_in_form(alloc, number, publisher, form, rest)
 }
 
-/// The command of this name, with the words behind it: any but `offer`.
+/// The command of this name, with the words behind it: any that holds no bytes.
 #[tactic(auto, unfolding(crate::specs::Reading::plain_of))]
 fn plain(name: &[u8], words: Words<'_>) -> Option<Command>
     ensures { ReturnsRead content_of result (plain_of name.now (words_left words.entry)) }
@@ -243,6 +277,22 @@ fn plain(name: &[u8], words: Words<'_>) -> Option<Command>
     }
 }
 
+/// The command of this name, with the words behind it, of the line with this number.
+#[tactic(auto, unfolding(crate::specs::Reading::named_of))]
+fn named(alloc: Global, number: u64, name: &[u8], words: Words<'_>) -> Result<Command, ScriptFault>
+    ensures { GivesAt number content_of result (named_of name.now (words_left words.entry)) }
+{
+    if name == b"offer".as_slice() {
+        offer(alloc, number, words)
+    } else if name == b"raw".as_slice() {
+        raw(alloc, number, words)
+    } else if name == b"rawback".as_slice() {
+        raw_back(alloc, number, words)
+    } else {
+        plain(name, words).ok_or(ScriptFault::Line(number))
+    }
+}
+
 /// The command that a line says, which has this number.
 #[tactic(auto, unfolding(crate::specs::Reading::command_of))]
 pub fn command(alloc: Global, number: u64, line: &[u8]) -> Result<Command, ScriptFault>
@@ -250,11 +300,7 @@ pub fn command(alloc: Global, number: u64, line: &[u8]) -> Result<Command, Scrip
 {
     let fault = ScriptFault::Line(number);
     let (name, rest) = Words::new(line).first().ok_or(fault)?;
-    if name == b"offer".as_slice() {
-        offer(alloc, number, rest)
-    } else {
-        plain(name, rest).ok_or(fault)
-    }
+    named(alloc, number, name, rest)
 }
 
 /// The greatest READERS.

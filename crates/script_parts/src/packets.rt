@@ -5,15 +5,14 @@ ghost use Rattle.std.specs.Option.{option_copied};
 ghost use Rattle.theory.specs.Wire.{IsFrame, spelling};
 ghost use Rattle.frames.specs.Frames.{wire};
 ghost use Rattle.script_run.specs.Answers.{or_nothing, packet_lines};
-ghost use Rattle.sender.specs.Cycling.{datagrams};
-ghost use Rattle.script_parts.specs.Packed.{status_wires};
+ghost use Rattle.script_parts.specs.Packed.{bytes_of, nak_wires, status_wires};
 ghost use Rattle.receiver.specs.Receiving.{replied};
 ghost use Rattle.std.specs.List.{AllByRecursion};
 ghost use Rattle.script_run.specs.LineContents.{Packet};
 ghost use Rattle.script_parts.specs.Lines.{line_contents};
 
 use crate::line::Line;
-use frames::{Frame, Status, write_frame};
+use frames::{Frame, Nak, Status, write_frame};
 use receiver::Replies;
 use sender::Outbox;
 use std::alloc::{AllocError, Global};
@@ -100,13 +99,36 @@ impl Packets {
         lines: &mut Vec<Line>,
     ) -> Result<(), AllocError>
         requires { AllByRecursion IsFrame (status_wires asks status) }
-        ensures given { OnOk result (self.new ≡ self.old ++ datagrams (status_wires asks status)) }
-        ensures line { OnOk result (line_contents lines.new.items ≡ line_contents lines.old.items ++ packet_lines (length self.old) (datagrams (status_wires asks status))) }
+        ensures given { OnOk result (self.new ≡ self.old ++ bytes_of (status_wires asks status)) }
+        ensures line { OnOk result (line_contents lines.new.items ≡ line_contents lines.old.items ++ packet_lines (length self.old) (bytes_of (status_wires asks status))) }
     {
         match status {
             None => Ok(()),
             Some(status) => self.give_frame(&Frame::Status { asks, status }, lines),
         }
+    }
+
+    /// Gives a negative acknowledgement, if there is one, the next number.
+    fn give_nak(&mut self, nak: Option<Nak>, lines: &mut Vec<Line>) -> Result<(), AllocError>
+        requires { AllByRecursion IsFrame (nak_wires nak) }
+        ensures given { OnOk result (self.new ≡ self.old ++ bytes_of (nak_wires nak)) }
+        ensures line { OnOk result (line_contents lines.new.items ≡ line_contents lines.old.items ++ packet_lines (length self.old) (bytes_of (nak_wires nak))) }
+    {
+        match nak {
+            None => Ok(()),
+            Some(nak) => self.give_frame(&Frame::Nak(nak), lines),
+        }
+    }
+
+    /// Gives what a tick sends the next numbers.
+    fn give_replies(&mut self, replies: &Replies, lines: &mut Vec<Line>) -> Result<(), AllocError>
+        requires { AllByRecursion IsFrame (replied replies.now) }
+        ensures given { OnOk result (self.new ≡ self.old ++ bytes_of (replied replies.now)) }
+        ensures line { OnOk result (line_contents lines.new.items ≡ line_contents lines.old.items ++ packet_lines (length self.old) (bytes_of (replied replies.now))) }
+    {
+        self.give_status(true, replies.asking, lines)?;
+        self.give_nak(replies.nak, lines)?;
+        self.give_status(false, replies.status, lines)
     }
 
     /// Gives what a tick sends the next numbers, or says that it sends nothing.
@@ -116,15 +138,14 @@ impl Packets {
         lines: &mut Vec<Line>,
     ) -> Result<(), AllocError>
         requires { AllByRecursion IsFrame (replied replies.now) }
-        ensures given { OnOk result (self.new ≡ self.old ++ datagrams (replied replies.now)) }
-        ensures line { OnOk result (line_contents lines.new.items ≡ line_contents lines.old.items ++ or_nothing (packet_lines (length self.old) (datagrams (replied replies.now)))) }
+        ensures given { OnOk result (self.new ≡ self.old ++ bytes_of (replied replies.now)) }
+        ensures line { OnOk result (line_contents lines.new.items ≡ line_contents lines.old.items ++ or_nothing (packet_lines (length self.old) (bytes_of (replied replies.now)))) }
     {
-        if replies.asking.is_none() && replies.status.is_none() {
+        if replies.asking.is_none() && replies.nak.is_none() && replies.status.is_none() {
             lines.push(Line::Nothing)?;
             return Ok(());
         }
-        self.give_status(true, replies.asking, lines)?;
-        self.give_status(false, replies.status, lines)
+        self.give_replies(replies, lines)
     }
 
     /// Gives a frame of at most 40 bytes, as its spelling, the next number.

@@ -1,9 +1,9 @@
 -- After each line of a script, the shares of the log are those of all its entries.
-use Rattle.std.proofs.Common.{◌≡◌, ◌⊎◌, ℕ, zero, suc, ◌+◌, ◌-◌, ◌<◌, List, [], ◌∷◌, ◌++◌, map, length, true, false, cond, Option, Some, inl, inr, ⊎_elim, refl, sym, ap, ◌∙◌, subst, arith, append_assoc}
-use Rattle.std.specs.Prelude.{◌%◌, ◌==◌, replicate, slice_get, slice_index, slice_index_or, slice_set}
+use Rattle.std.proofs.Common.{◌≡◌, ◌⊎◌, ℕ, ◌+◌, ◌<◌, List, [], ◌∷◌, ◌++◌, map, length, true, false, cond, inl, inr, ⊎_elim, refl, sym, ap, ◌∙◌, subst, arith, append_assoc}
+use Rattle.std.specs.Prelude.{◌==◌, replicate, slice_index}
 use Rattle.std.proofs.lemmas.Bool.{cases_Bool, eqb-true, eqb-false}
 use Rattle.std.proofs.lemmas.List.{get_or-replicate, get_or-set_other, get_or-set_same}
-use Rattle.theory.specs.Position.{max_message, max_payload, span}
+use Rattle.theory.specs.Position.{max_message, max_payload}
 use Rattle.theory.specs.Placed.{Data}
 use Rattle.theory.specs.Entry.{Entry, length_of}
 use Rattle.theory.specs.Tiling.{share_of}
@@ -12,11 +12,11 @@ use Rattle.model.proofs.Shares.{share-push}
 use Rattle.theory.proofs.Tiling.{share-cons}
 use Rattle.term_buffer.specs.Kept.{claim_of, padded, published, with_share}
 use Rattle.publication.specs.Offers.{OfferCase, IsClosed, IsStale, IsUsedUp, IsLimited, Fits, Trips}
-use Rattle.one_hand.specs.Stream.{Stream, aborted_at, after, after_claim, after_offer, answer, case_of, covered, room, turned, with_claim, with_frame, with_message, with_padding}
+use Rattle.one_hand.specs.Stream.{Stream, aborted_at, after, after_claim, after_offer, answer, case_of, room, turned, with_claim, with_frame, with_message, with_padding}
 use Rattle.script.specs.Meaning as commands
 use Rattle.script.specs.Meaning.{CommandContent}
-use Rattle.script_run.specs.Answers.{AbortsClaim, Answers, Claims, ClaimsRange, CommitsClaim, HasClaim, HasNoClaim, Limits, MayNotTake, OffersMessage, Offered, SenderHears, with_log}
-use Rattle.sender.specs.Cycling.{AsksSetup, NewsContent, Says, TellsNothing, Unreadable}
+use Rattle.script_run.specs.Answers.{AbortsClaim, Answers, Claims, ClaimsRange, CommitsClaim, HasNoClaim, Limits, MayNotTake, OffersMessage, Offered, SenderHears, with_log}
+use Rattle.sender.specs.Cycling.{AsksSetup, Misses, NewsContent, Says, TellsNothing, Unreadable}
 use Rattle.script_run.specs.Output.{AlwaysCounted, AnswersAll, identity_of}
 use Rattle.script_run.specs.LineContents.{LineContent}
 use Rattle.script_run.specs.Published.{Played}
@@ -144,6 +144,7 @@ limit_line s t lines m h = subst IsCounted (sym m.new_is) (subst (Counts s.log.s
 hears_line : (s t : ScriptState) (now : ℕ) (news : NewsContent) (lines : List LineContent) → SenderHears s now news lines t → IsCounted s → IsCounted t
 hears_line s t now (Says f) lines m h = subst IsCounted (sym m.1) h
 hears_line s t now AsksSetup lines m h = subst IsCounted (sym m.1) h
+hears_line s t now (Misses f) lines m h = subst IsCounted (sym m.3) h
 hears_line s t now TellsNothing lines m h = subst IsCounted (sym m.1) h
 hears_line s t now (Unreadable fault) lines m h = subst IsCounted (sym m.1) h
 
@@ -162,10 +163,12 @@ line_counts s t (commands.Read r) lines (inr (inl m)) h = subst IsCounted (sym m
 line_counts s t (commands.Read r) lines (inr (inr m)) h = subst IsCounted (sym m.6) h
 line_counts s t (commands.Send now) lines m h = subst IsCounted (sym m.3) h
 line_counts s t (commands.Deliver k i now) lines (inl m) h = subst IsCounted (sym m.2) h
-line_counts s t (commands.Deliver k i now) lines (inr m) h = subst IsCounted (sym m.8) h
+line_counts s t (commands.Deliver k i now) lines (inr m) h = subst IsCounted (sym m.2.6) h
+line_counts s t (commands.Raw i now bytes) lines m h = subst IsCounted (sym m.6) h
 line_counts s t (commands.Tick i now) lines m h = subst IsCounted (sym m.4) h
 line_counts s t (commands.Reply k now) lines (inl m) h = subst IsCounted (sym m.2) h
-line_counts s t (commands.Reply k now) lines (inr m) h = hears_line s t now m.1 lines m.4 h
+line_counts s t (commands.Reply k now) lines (inr m) h = hears_line s t now m.2.0 lines m.2.2 h
+line_counts s t (commands.RawBack now bytes) lines m h = hears_line s t now m.0 lines m.2 h
 line_counts s t (commands.Poll i) lines m h = subst IsCounted (sym m.6) h
 line_counts s t (commands.Image i) lines m h = subst IsCounted (sym m.5) h
 

@@ -1,11 +1,10 @@
 -- What a receiver may be given, at worked examples: term length 65536, MTU 1408, first term 7, session 1, stream 1001.
-use Rattle.std.specs.Prelude.{◌≡◌, ℕ, ◌+◌, ◌%◌, pos, List, [], ◌∷◌, None, Some}
+use Rattle.std.specs.Prelude.{◌≡◌, ◌%◌, pos, [], Some}
 use Rattle.std.proofs.Common.{inl, refl, sym, arith}
-use Rattle.theory.specs.Wire.{DATA, Header, SETUP, Setup}
+use Rattle.theory.specs.Wire.{DATA, SETUP, Setup}
 use Rattle.theory.specs.Bytes.{header_at}
 use Rattle.theory.specs.Control.{setup_fields}
 use Rattle.theory.specs.Image.{image_at}
-use Rattle.theory.specs.Setup.{OpensAt}
 use Rattle.receiver.specs.declared.receiver_core.Outcome.TheVariants as outcomes
 use Rattle.receiver.specs.Receiving.{Meets, Receiver, listening}
 use Rattle.script_run.specs.Given.{MayBeGiven}

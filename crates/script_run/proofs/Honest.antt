@@ -1,22 +1,24 @@
 -- Packets that the sender and the receivers gave out.
-use Rattle.std.proofs.Common.{◌≡◌, ℕ, List, [], ◌∷◌, map, Bool, true, false, Option, None, Some, inl, inr, refl, sym, ◌∙◌, subst, append-nil}
+use Rattle.std.proofs.Common.{ℕ, List, [], ◌∷◌, ◌++◌, map, Bool, true, false, Option, None, Some, refl, subst}
 use Rattle.std.specs.List.{AllByRecursion}
 use Rattle.std.specs.Prelude.{⊤}
-use Rattle.theory.specs.Wire.{Header, Setup, Wire, DATA, PAD, HEARTBEAT, NAK, SM, SETUP, IsFrame, SpellsDatagram, StandTogether, spelling}
-use Rattle.theory.specs.Placed.{Among, Data, Pad, Frame, Placed}
+use Rattle.theory.specs.Wire.{Header, Setup, Wire, DATA, PAD, HEARTBEAT, NAK, SM, SETUP, IsFrame, SpellsDatagram, StandTogether}
+use Rattle.theory.specs.Placed.{AllAmong, Among, Data, Pad, Frame, Placed}
+use Rattle.theory.specs.Datagrams.{frames_of, wires}
 use Rattle.theory.specs.Bytes.{Identity, wire_at}
 use Rattle.std.proofs.Common.{cond}
 use Rattle.std.specs.Option.{option_to_list}
 use Rattle.theory.specs.Consumer.{least_of}
-use Rattle.theory.specs.Control.{asking_at, status_at}
+use Rattle.theory.specs.Control.{asking_at, nak_at, status_at}
+use Rattle.theory.specs.Gap.{Gap}
 use Rattle.theory.specs.Laws.{HasOneReading}
 use Rattle.model.specs.Sender.{Sender}
-use Rattle.theory.proofs.Lists.{all_append, all_weaker}
+use Rattle.theory.proofs.Lists.{all_append, all_at, all_behind, all_front, all_weaker}
 use Rattle.theory.proofs.Readings.{stands_alone}
-use Rattle.script_run.specs.Answers.{AreFrames, named, sent_on}
+use Rattle.script_run.specs.Answers.{AreFrames}
 use Rattle.script_run.specs.Given.{IsHonestFrame, IsHonestSetup, MayBeGiven, WasNamed, WasSent}
-use Rattle.sender.specs.Cycling.{Cycle, datagrams, sent_wires, setups}
-use Rattle.receiver.specs.Receiving.{Opened, Receiver, asking, at_moment, is_due, replies, telling}
+use Rattle.sender.specs.Cycling.{alone, datagrams}
+use Rattle.receiver.specs.Receiving.{Opened, Receiver, asking, at_moment, is_due, missing, replies, scanned_at, telling}
 
 -- what the sender and the receivers give out: data, paddings and SETUPs are the sender's
 abbrev pub IsGivenOut : Identity → List Placed → List ℕ → Wire → Type 0
@@ -44,12 +46,15 @@ may_be_given i sent setups r (HEARTBEAT h) given = tt
 may_be_given i sent setups r (NAK f) given = tt
 may_be_given i sent setups r (SM asks f) given = tt
 
--- one frame that was given out
+-- the frames of a datagram that was given out
+abbrev pub AreGivenOut : Identity → Sender → List Wire → Type 0
+AreGivenOut i x ws = AllByRecursion (λ w. IsGivenOut i x.sent x.setups w) ws
+
+-- bytes of such a datagram
 pub record IsHonest (i : Identity) (x : Sender) (bytes : List ℕ) : Type 0 where
-  pub wire : Wire
-  pub frame : IsFrame wire
-  pub spelled : bytes ≡ spelling wire
-  pub given : IsGivenOut i x.sent x.setups wire
+  pub wires : List Wire
+  pub spelled : SpellsDatagram wires bytes
+  pub given : AreGivenOut i x wires
 
 abbrev pub AreHonest : Identity → Sender → List (List ℕ) → Type 0
 AreHonest i x packets = AllByRecursion (IsHonest i x) packets
@@ -66,11 +71,28 @@ given_more i x y (SETUP f) more named given = (given.0, named given.0 given.1, g
 
 pub honest_more : (i : Identity) (x y : Sender) (packets : List (List ℕ)) → ((s : Placed) → Among s x.sent → Among s y.sent) → ((p : ℕ) → Among p x.setups → Among p y.setups) → AreHonest i x packets → AreHonest i y packets
 honest_more i x y packets more named h =
-    all_weaker (IsHonest i x) (IsHonest i y) (λ bytes k. record { wire = k.wire; frame = k.frame; spelled = k.spelled; given = given_more i x y k.wire more named k.given }) packets h
+    all_weaker (IsHonest i x) (IsHonest i y) (λ bytes k. record {
+      wires = k.wires;
+      spelled = k.spelled;
+      given = all_weaker (λ w. IsGivenOut i x.sent x.setups w) (λ w. IsGivenOut i y.sent y.setups w) (λ w g. given_more i x y w more named g) k.wires k.given;
+    }) packets h
 
-pub honest_wires : (i : Identity) (x : Sender) (wires : List Wire) → AreFrames wires → AllByRecursion (λ w. IsGivenOut i x.sent x.setups w) wires → AreHonest i x (datagrams wires)
-honest_wires i x [] frames given = tt
-honest_wires i x (w ∷ ws) frames given = (record { wire = w; frame = frames.0; spelled = refl; given = given.0 }, honest_wires i x ws frames.1 given.1)
+-- a datagram that stands in the grammar, of frames that were given out
+pub record IsGiven (i : Identity) (x : Sender) (ws : List Wire) : Type 0 where
+  pub stands : StandTogether ws
+  pub frames : AreFrames ws
+  pub given : AreGivenOut i x ws
+
+abbrev pub AreGiven : Identity → Sender → List (List Wire) → Type 0
+AreGiven i x sent = AllByRecursion (IsGiven i x) sent
+
+pub honest_given : (i : Identity) (x : Sender) (sent : List (List Wire)) → AreGiven i x sent → AreHonest i x (datagrams sent)
+honest_given i x [] h = tt
+honest_given i x (ws ∷ wss) h = (record { wires = ws; spelled = (h.0.stands, h.0.frames, refl); given = h.0.given }, honest_given i x wss h.1)
+
+pub alone_given : (i : Identity) (x : Sender) (ws : List Wire) → AreFrames ws → AreGivenOut i x ws → AreGiven i x (alone ws)
+alone_given i x [] frames given = tt
+alone_given i x (w ∷ ws) frames given = (record { stands = stands_alone w; frames = (frames.0, tt); given = (given.0, tt) }, alone_given i x ws frames.1 given.1)
 
 -- ---- what the sender gave out
 
@@ -78,63 +100,53 @@ placed_given : (i : Identity) (x : Sender) (p : ℕ) (f : Frame) → Among (reco
 placed_given i x p (Data flags payload) h = (record { at = p; frame = Data flags payload }, h, refl)
 placed_given i x p (Pad n) h = (record { at = p; frame = Pad n }, h, refl)
 
-setup_given : (i : Identity) (x : Sender) (at : ℕ) (due : Bool) → (due ≡ true → Among at x.setups) → AllByRecursion (λ w. IsGivenOut i x.sent x.setups w) (setups i at due)
-setup_given i x at true h = ((at, h refl, refl), tt)
-setup_given i x at false h = tt
+frames_given : (i : Identity) (x : Sender) (ss : List Placed) → AllAmong x.sent ss → AreGivenOut i x (wires i ss)
+frames_given i x [] h = tt
+frames_given i x (s ∷ ss) h = (placed_given i x s.at s.frame h.0, frames_given i x ss h.1)
 
-frame_given : (i : Identity) (x : Sender) (frame : Option Placed) → AllByRecursion (λ w. IsGivenOut i (sent_on x frame).sent (sent_on x frame).setups w) (map (λ s. wire_at i s.at s.frame) (option_to_list frame))
-frame_given i x None = tt
-frame_given i x (Some s) = (placed_given i (sent_on x (Some s)) s.at s.frame (inl refl), tt)
+frames_framed : (i : Identity) (sent ss : List Placed) → AllByRecursion (λ s. IsFrame (wire_at i s.at s.frame)) sent → AllAmong sent ss → AreFrames (wires i ss)
+frames_framed i sent [] spelled h = tt
+frames_framed i sent (s ∷ ss) spelled h = (all_at (λ t. IsFrame (wire_at i t.at t.frame)) s sent spelled h.0, frames_framed i sent ss spelled h.1)
 
-pub setups_on : (x : Sender) (frame : Option Placed) → (sent_on x frame).setups ≡ x.setups
-setups_on x None = refl
-setups_on x (Some s) = refl
-
-named_there : (x : Sender) (due : Bool) → due ≡ true → Among x.at (named x due).setups
-named_there x true e = inl refl
-named_there x false e = absurd (cc)
-
-pub cycle_given : (i : Identity) (x : Sender) (y : Cycle) → AllByRecursion (λ w. IsGivenOut i (sent_on (named x y.setup) y.frame).sent (sent_on (named x y.setup) y.frame).setups w) (sent_wires i x.at y)
-cycle_given i x y =
-    let z = sent_on (named x y.setup) y.frame in
-    all_append (λ w. IsGivenOut i z.sent z.setups w) (setups i x.at y.setup) (map (λ s. wire_at i s.at s.frame) (option_to_list y.frame))
-    (setup_given i z x.at y.setup (λ e. subst (Among x.at) (sym (setups_on (named x y.setup) y.frame)) (named_there x y.setup e)))
-    (frame_given i (named x y.setup) y.frame)
-
--- it has sent no less than before
-pub sent_more : (x : Sender) (due : Bool) (frame : Option Placed) (s : Placed) → Among s x.sent → Among s (sent_on (named x due) frame).sent
-sent_more x true None s h = h
-sent_more x false None s h = h
-sent_more x true (Some t) s h = inr h
-sent_more x false (Some t) s h = inr h
-
-pub named_more : (x : Sender) (due : Bool) (frame : Option Placed) (p : ℕ) → Among p x.setups → Among p (sent_on (named x due) frame).setups
-named_more x true None p h = inr h
-named_more x false None p h = h
-named_more x true (Some t) p h = inr h
-named_more x false (Some t) p h = h
+-- datagrams of frames that it sent
+pub placed_datagrams : (i : Identity) (x : Sender) (ds : List (List Placed)) → AllByRecursion (λ s. IsFrame (wire_at i s.at s.frame)) x.sent → AllByRecursion (λ d. StandTogether (wires i d)) ds → AllAmong x.sent (frames_of ds) → AreGiven i x (map (wires i) ds)
+placed_datagrams i x [] spelled stand h = tt
+placed_datagrams i x (d ∷ ds) spelled stand h =
+    let here : AllAmong x.sent d = all_front (λ s. Among s x.sent) d (frames_of ds) h in (
+      record { stands = stand.0; frames = frames_framed i x.sent d spelled here; given = frames_given i x d here },
+      placed_datagrams i x ds spelled stand.1 (all_behind (λ s. Among s x.sent) d (frames_of ds) h),
+    )
 
 -- ---- what a receiver gave out
 
-asking_given : (i : Identity) (x : Sender) (r : Receiver) (unmet : Option Header) → AllByRecursion (λ w. IsGivenOut i x.sent x.setups w) (map (λ h. asking_at h r.id) (option_to_list unmet))
+asking_given : (i : Identity) (x : Sender) (r : Receiver) (unmet : Option Header) → AreGivenOut i x (map (λ h. asking_at h r.id) (option_to_list unmet))
 asking_given i x r None = tt
 asking_given i x r (Some h) = (tt, tt)
 
-told_given : (i : Identity) (x : Sender) (w : Wire) (due : Bool) → IsGivenOut i x.sent x.setups w → AllByRecursion (λ w. IsGivenOut i x.sent x.setups w) (cond due (w ∷ []) [])
+told_given : (i : Identity) (x : Sender) (w : Wire) (due : Bool) → IsGivenOut i x.sent x.setups w → AreGivenOut i x (cond due (w ∷ []) [])
 told_given i x w true h = (h, tt)
 told_given i x w false h = tt
 
-telling_given : (i : Identity) (x : Sender) (r : Receiver) (o : Option Opened) → AllByRecursion (λ w. IsGivenOut i x.sent x.setups w) (telling o r)
+telling_given : (i : Identity) (x : Sender) (r : Receiver) (o : Option Opened) → AreGivenOut i x (telling o r)
 telling_given i x r None = tt
 telling_given i x r (Some o) = told_given i x (status_at (record { geometry = o.geometry; session = r.session; stream = r.stream }) (least_of o.image.consumers) r.window r.id) (is_due r o) tt
 
-pub replies_given : (i : Identity) (x : Sender) (r : Receiver) (now : ℕ) → AllByRecursion (λ w. IsGivenOut i x.sent x.setups w) (replies r now)
+missing_given : (i : Identity) (x : Sender) (r : Receiver) (o : Option Opened) → AreGivenOut i x (missing o r)
+missing_given i x r None = tt
+missing_given i x r (Some o) = naks_given (option_to_list (scanned_at (Some o) r).told)
+  where
+    naks_given : (gaps : List Gap) → AreGivenOut i x (map (nak_at (record { geometry = o.geometry; session = r.session; stream = r.stream })) gaps)
+    naks_given [] = tt
+    naks_given (gap ∷ gaps) = (tt, naks_given gaps)
+
+pub replies_given : (i : Identity) (x : Sender) (r : Receiver) (now : ℕ) → AreGivenOut i x (replies r now)
 replies_given i x r now =
-    all_append (λ w. IsGivenOut i x.sent x.setups w) (asking (at_moment r now)) (telling r.image (at_moment r now))
-    (asking_given i x (at_moment r now) r.unmet)
-    (telling_given i x (at_moment r now) r.image)
+    let s = at_moment r now in
+    all_append (λ w. IsGivenOut i x.sent x.setups w) (asking s ++ missing r.image s) (telling r.image s)
+    (all_append (λ w. IsGivenOut i x.sent x.setups w) (asking s) (missing r.image s) (asking_given i x s r.unmet) (missing_given i x s r.image))
+    (telling_given i x s r.image)
 
 -- ---- it has one reading
 
-pub one_frame : HasOneReading → (i : Identity) (x : Sender) (bytes : List ℕ) (frames : List Wire) → (h : IsHonest i x bytes) → SpellsDatagram frames bytes → frames ≡ h.wire ∷ []
-one_frame law i x bytes frames h spelled = law frames (h.wire ∷ []) bytes spelled (stands_alone h.wire, (h.frame, tt), h.spelled ∙ sym (append-nil (spelling h.wire)))
+pub frames_given_out : HasOneReading → (i : Identity) (x : Sender) (bytes : List ℕ) (frames : List Wire) → IsHonest i x bytes → SpellsDatagram frames bytes → AreGivenOut i x frames
+frames_given_out law i x bytes frames h spelled = subst (AreGivenOut i x) (law h.wires frames bytes h.spelled spelled) h.given

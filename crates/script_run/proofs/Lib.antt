@@ -1,6 +1,7 @@
 pub mod Counted
 mod GivenRows
 pub mod Honest
+pub mod Lone
 pub mod Numbers
 pub mod OfferRuns
 pub mod PollFollows
@@ -9,8 +10,11 @@ pub mod PolledPrefixes
 pub mod Ranges
 pub mod ReaderRuns
 pub mod ReceiverRuns
+pub mod Resends
 pub mod Runs
 pub mod SenderRuns
 pub mod Sound
 pub mod SoundLines
 pub mod SoundReceivers
+pub mod SoundSenders
+pub mod Standings

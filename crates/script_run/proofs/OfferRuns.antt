@@ -1,9 +1,9 @@
 -- An offer or a claim as events of the log: a publisher is armed and adds one entry, and a message's frames are committed one by one.
-use Rattle.std.proofs.Common.{◌≡◌, ℕ, zero, suc, ◌+◌, ◌-◌, ◌*◌, ◌%◌, ◌^◌, ◌<◌, ◌≤◌, inl, ⊎_elim, List, [], ◌∷◌, ◌++◌, map, length, Bool, true, false, cond, not, None, refl, sym, ap, ◌∙◌, subst, arith, append-nil, append_assoc}
+use Rattle.std.proofs.Common.{◌≡◌, ℕ, zero, suc, ◌+◌, ◌-◌, ◌*◌, ◌%◌, ◌^◌, ◌<◌, ◌≤◌, inl, List, [], ◌∷◌, ◌++◌, map, length, Bool, true, false, cond, not, refl, sym, ap, ◌∙◌, subst, arith, append-nil, append_assoc}
 use Rattle.std.specs.Prelude.{Some, nat_eq, nat_le, replicate, slice_get, slice_set}
 use Rattle.std.specs.List.{AllByRecursion}
-use Rattle.std.proofs.lemmas.Bool.{cond-true, cond-false, eq-eqb, cases_lt, leb-false, ltb-false, ne_eqb, not_from_true}
-use Rattle.std.proofs.lemmas.List.{length-map, map-append, map-set, set-set}
+use Rattle.std.proofs.lemmas.Bool.{cond-true, cond-false, eq-eqb, leb-false, ne_eqb, not_from_true}
+use Rattle.std.proofs.lemmas.List.{map-append, set-set}
 use Rattle.std.proofs.Math.Nat.{mul-le-mul_right}
 use Rattle.std.proofs.lemmas.Nat.{mod-mul-add}
 use Rattle.theory.specs.Position.{Geometry, IsGeometry, aligned, cuts_of, framed_length, max_message, max_payload, max_position, span}

@@ -1,9 +1,9 @@
 -- A poll as events of its image.
-use Rattle.std.proofs.Common.{◌≡◌, ℕ, List, [], ◌∷◌, ◌++◌, map, true, false, Option, Some, refl, sym, ap, ◌∙◌, subst, append_assoc, append-nil}
+use Rattle.std.proofs.Common.{◌≡◌, ℕ, List, [], ◌∷◌, ◌++◌, map, false, Option, Some, refl, sym, ap, ◌∙◌, subst, append_assoc, append-nil}
 use Rattle.std.specs.Prelude.{slice_get, slice_set}
 use Rattle.std.specs.Option.{option_to_list}
 use Rattle.theory.specs.Placed.{AllAmong, Chain, Frame, Data, Pad, Placed}
-use Rattle.theory.specs.Assembly.{Assembly, after, after_all, on_frame}
+use Rattle.theory.specs.Assembly.{after_all, on_frame}
 use Rattle.theory.specs.Consumer.{Consumer, MayMove, moved, passed_by}
 use Rattle.theory.specs.Image.{Image, Poll, Lose}
 use Rattle.model.specs.World.{World, Step}

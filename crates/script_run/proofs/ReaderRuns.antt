@@ -8,7 +8,8 @@ use Rattle.std.proofs.lemmas.List.Sums.{sum_by-append, sum_by-cons}
 use Rattle.std.proofs.lemmas.Option.{slice_get_within}
 use Rattle.theory.specs.Position.{aligned}
 use Rattle.theory.specs.Bytes.{Identity}
-use Rattle.theory.specs.Placed.{Data, Frame, Pad, Placed, frame_length}
+use Rattle.theory.specs.Entry.{committed}
+use Rattle.theory.specs.Placed.{Among, Data, Frame, Pad, Placed, frame_length}
 use Rattle.theory.specs.Assembly.{after, nothing_heard}
 use Rattle.theory.specs.Consumer.{Consumer, moved}
 use Rattle.model.specs.Log.{Move}
@@ -23,7 +24,8 @@ use Rattle.theory.proofs.Stays.{after_last}
 use Rattle.script_run.proofs.Runs.{Goes, goes_on, goes_one}
 use Rattle.theory.proofs.Tables.{map_get}
 use Rattle.script_run.proofs.SenderRuns.{among_kept}
-use Rattle.script_run.proofs.Sound.{HasRead, IsSound, ReadSo, and_line, read_more, receivers_stay}
+use Rattle.script_run.proofs.Lone.{lone}
+use Rattle.script_run.proofs.Sound.{HasRead, IsSound, ReadSo, and_line, followed_stays, read_more}
 use Rattle.script_run.proofs.SoundLines.{matches_stay, same_state}
 
 -- ---- lines that show no frame
@@ -56,8 +58,8 @@ own_frame : (r at : ℕ) (f : Frame) (lines : List LineContent) → lines ≡ fr
 own_frame r at f lines e = cond-true (nat_eq r r) (flat_map frames_in lines) [] (eq-eqb r r refl) ∙ ap (flat_map frames_in) e ∙ of_line at f
 
 -- the reader is known
-reader_so : (i : Identity) (start readers : ℕ) (played : List Played) (s : ScriptState) (k : ℕ) (c : Consumer) → IsSound i start readers played s → slice_get s.readers k ≡ Some c → (k < readers) × ReadSo start c (read (suc k) played)
-reader_so i start readers played s k c h there =
+reader_so : (i : Identity) (start readers only : ℕ) (played : List Played) (s : ScriptState) (k : ℕ) (c : Consumer) → IsSound i start readers only played s → slice_get s.readers k ≡ Some c → (k < readers) × ReadSo start c (read (suc k) played)
+reader_so i start readers only played s k c h there =
     let low : k < readers = omega (arith, slice_get_within s.readers k c there, h.seats) in
     let known = h.reading k low in
     let found : Some c ≡ Some known.0 = sym there ∙ known.1 in
@@ -74,35 +76,34 @@ same_place s k c = ap (λ n. record s { log = record s.log { consumers = slice_s
     before : (n : ℕ) → suc n - 1 ≡ n
     before n = omega arith
 
-moves : (s : ScriptState) (k : ℕ) (lines : List LineContent) (t : ScriptState) → (m : ReaderReads s (suc k) lines t) → slice_get s.readers k ≡ Some m.0 → m.0.lost ≡ false → Goes (world_of s) (world_of (read_scene s k (moved m.0 m.1)))
-moves s k lines t m there whole =
+moves : (s : ScriptState) (k : ℕ) (c : Consumer) (past : Placed) → slice_get s.readers k ≡ Some c → Among past (committed s.log.entries) → past.at ≡ c.at → c.lost ≡ false → Goes (world_of s) (world_of (read_scene s k (moved c past)))
+moves s k c past there among here whole =
     let w = world_of s in
-    let past = m.1 in
-    let after = moved m.0 past in
+    let after = moved c past in
     let l = record w.log { readers = slice_set w.log.readers k (Some after) } in
     subst (λ rs. Goes w (record w { log = record w.log { readers = rs } })) (sym (map-set Some s.readers k after))
-    (goes_one w (record w { log = l }) (AtLog (Move k past)) (l, (m.0, map_get Some s.readers k m.0 there, record { among = among_kept s.past s.log.entries past m.3; here = m.4 }, whole, refl), refl))
+    (goes_one w (record w { log = l }) (AtLog (Move k past)) (l, (c, map_get Some s.readers k c there, record { among = among_kept s.past s.log.entries past among; here = here }, whole, refl), refl))
 
-frame_read : (i : Identity) (start readers : ℕ) (played : List Played) (s t : ScriptState) (k : ℕ) (lines : List LineContent) → IsSound i start readers played s → ReaderReads s (suc k) lines t → IsSound i start readers (and_line played (commands.Read (suc k)) lines) t
-frame_read i start readers played s t k lines h m =
+frame_read : (i : Identity) (start readers only : ℕ) (played : List Played) (s t : ScriptState) (k : ℕ) (lines : List LineContent) → IsSound i start readers only played s → ReaderReads s (suc k) lines t → IsSound i start readers only (and_line played (commands.Read (suc k)) lines) t
+frame_read i start readers only played s t k lines h m =
     let c = m.0 in
     let past = m.1 in
     let d = moved c past in
     let command = commands.Read (suc k) in
-    let known = reader_so i start readers played s k c h m.2 in
+    let known = reader_so i start readers only played s k c h m.2 in
     let v = read_scene s k d in
-    let goes = moves s k lines t m m.2 known.1.whole in
-    subst (λ x. IsSound i start readers (and_line played command lines) x) (sym (m.6 ∙ same_place s k d)) (record {
-      runs = goes_on (world_of (opened_state i start readers)) (world_of s) (world_of v) h.runs goes;
+    let goes = moves (lone only s) k c past m.2 m.3 m.4 known.1.whole in
+    subst (λ x. IsSound i start readers only (and_line played command lines) x) (sym (m.6 ∙ same_place s k d)) (record {
+      runs = goes_on (world_of (opened_state i start readers)) (world_of (lone only s)) (world_of (lone only v)) h.runs goes;
       identity = h.identity;
       start_is = h.start_is;
       consumers = ap (λ ps. slice_set ps (suc k) d.at) h.consumers ∙ ap (λ ps. s.sender.at ∷ ps) (sym (map-set (λ (x : Consumer). x.at) s.readers k d));
-      unit = h.unit;
-      sending = record { legal = h.sending.legal; sent = h.sending.sent; setups = h.sending.setups };
+      named = h.named;
+      forgotten = h.forgotten;
       honest = h.honest;
       matches = matches_stay i.geometry played command lines (entries_of s) (λ g ranges. refl) h.matches;
       eight = h.eight;
-      receivers = receivers_stay i played command lines s v (λ n. (refl, refl)) refl h.receivers;
+      followed = followed_stays i played command lines s v only (refl, refl) refl h.followed;
       seats = length-set s.readers k d ∙ h.seats;
       reading = λ j low.
           ⊎_elim
@@ -116,13 +117,13 @@ frame_read i start readers played s t k lines h m =
           (cases_eq k j);
     })
 
-pub read_line : (i : Identity) (start readers : ℕ) (played : List Played) (s t : ScriptState) (r : ℕ) (lines : List LineContent) → IsSound i start readers played s → HasNoReader s r lines t ⊎ (ReaderFindsNone s r lines t ⊎ ReaderReads s r lines t) → IsSound i start readers (and_line played (commands.Read r) lines) t
-read_line i start readers played s t r lines h (inl m) =
-    same_state i start readers played (commands.Read r) lines s t (record { joins = λ k. refl; polls = λ k. refl; reads = λ k. nothing_shown r (suc k) Bad lines refl m.1.0 }) (λ g ranges. refl) m.1.1 h
-read_line i start readers played s t r lines h (inr (inl m)) =
-    same_state i start readers played (commands.Read r) lines s t (record { joins = λ k. refl; polls = λ k. refl; reads = λ k. nothing_shown r (suc k) NoMessage lines refl m.3 }) (λ g ranges. refl) m.4 h
-read_line i start readers played s t zero lines h (inr (inr m)) = absurd (no_reader m.0 m.2)
+pub read_line : (i : Identity) (start readers only : ℕ) (played : List Played) (s t : ScriptState) (r : ℕ) (lines : List LineContent) → IsSound i start readers only played s → HasNoReader s r lines t ⊎ (ReaderFindsNone s r lines t ⊎ ReaderReads s r lines t) → IsSound i start readers only (and_line played (commands.Read r) lines) t
+read_line i start readers only played s t r lines h (inl m) =
+    same_state i start readers only played (commands.Read r) lines s t (record { joins = λ k. refl; polls = λ k. refl; reads = λ k. nothing_shown r (suc k) Bad lines refl m.1.0 }) (λ g ranges. refl) m.1.1 h
+read_line i start readers only played s t r lines h (inr (inl m)) =
+    same_state i start readers only played (commands.Read r) lines s t (record { joins = λ k. refl; polls = λ k. refl; reads = λ k. nothing_shown r (suc k) NoMessage lines refl m.3 }) (λ g ranges. refl) m.4 h
+read_line i start readers only played s t zero lines h (inr (inr m)) = absurd (no_reader m.0 m.2)
   where
     no_reader : (c : Consumer) → None ≡ Some c → ⊥
     no_reader c e = absurd (cc)
-read_line i start readers played s t (suc k) lines h (inr (inr m)) = frame_read i start readers played s t k lines h m
+read_line i start readers only played s t (suc k) lines h (inr (inr m)) = frame_read i start readers only played s t k lines h m

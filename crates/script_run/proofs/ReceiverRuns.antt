@@ -1,9 +1,8 @@
 -- A frame that meets a receiver as an event of its image.
-use Rattle.std.proofs.Common.{◌≡◌, ℕ, ◌+◌, ◌*◌, ◌≤◌, List, [], ◌∷◌, ◌++◌, map, true, false, Option, None, Some, inl, inr, ⊎_elim, refl, sym, ap, ◌∙◌, subst, arith, append-nil}
-use Rattle.std.specs.Prelude.{replicate, slice_get, slice_set, ℤ, pos, negsuc, ◌+ℤ◌, ◌*ℤ◌}
+use Rattle.std.proofs.Common.{◌≡◌, ℕ, ◌+◌, ◌*◌, ◌≤◌, List, [], ◌∷◌, ◌++◌, map, false, Option, None, Some, inl, inr, refl, sym, ap, ◌∙◌, subst, arith, append-nil}
+use Rattle.std.specs.Prelude.{replicate, slice_get, slice_set, pos, ◌+ℤ◌, ◌*ℤ◌}
 use Rattle.std.specs.Option.{option_map}
 use Rattle.std.specs.List.{AllByRecursion}
-use Rattle.std.proofs.lemmas.Bool.{cases_Bool, cond-true, cond-false}
 use Rattle.std.proofs.lemmas.List.{map-set}
 use Rattle.theory.specs.Position.{Geometry, IsGeometry, NamesPlace, count_of, id_of, max_position, place_of}
 use Rattle.theory.specs.Wire.{Header, Wire, DATA, PAD, HEARTBEAT, NAK, SM, SETUP, Setup}
@@ -11,9 +10,8 @@ use Rattle.theory.specs.Placed.{Among, Data, Pad, Frame, Placed}
 use Rattle.theory.specs.Bytes.{Identity, header_at, wire_at}
 use Rattle.theory.specs.Consumer.{Consumer, consumer_at, least_of}
 use Rattle.theory.specs.Control.{named_by, setup_fields}
-use Rattle.theory.specs.Image.{Image, ImageEvent, ImageStep, Inserted, Heartbeat, IsLeast, IsWindow, after_heartbeat, after_insert, image_at, is_accepted}
-use Rattle.theory.specs.Insert as meaning
-use Rattle.theory.specs.Insert.{Insert, head_of, insert_answer}
+use Rattle.theory.specs.Image.{Image, ImageEvent, ImageStep, Inserted, Heartbeat, IsLeast, IsWindow, after_heartbeat, after_insert, image_at}
+use Rattle.theory.specs.Insert.{head_of, insert_answer}
 use Rattle.theory.specs.Laws.{HeaderNamesPlace}
 use Rattle.theory.specs.Setup.{NamesGeometry, NamesPosition}
 use Rattle.model.specs.World.{AtImage, Open}
@@ -25,7 +23,7 @@ use Rattle.receiver.specs.declared.receiver_core.Outcome.TheVariants.{Asked}
 use Rattle.script_run.specs.Answers.{with_receiver}
 use Rattle.script_run.specs.Published.{joins_of}
 use Rattle.script_run.specs.Given.{IsHonestFrame, IsHonestSetup, MayBeGiven, WasNamed, WasSent}
-use Rattle.receiver.specs.Receiving.{IfOurs, Meets, MeetsFrame, MeetsHeartbeat, MeetsSetup, Opened, OpensImage, PassesBy, Receiver, answer_at, given_at}
+use Rattle.receiver.specs.Receiving.{Meets, MeetsFrame, MeetsHeartbeat, MeetsSetup, Opened, OpensImage, PassesBy, Receiver, answer_at, given_at}
 use Rattle.script_run.specs.ScriptState.{ScriptState, image_of, world_of}
 use Rattle.script_run.proofs.Runs.{Goes, goes_one, stays}
 

@@ -1,33 +1,37 @@
 -- A sender's cycle, what it is told, and its keeper's calls, as events.
-use Rattle.std.proofs.Common.{◌≡◌, ℕ, zero, suc, ◌+◌, ◌-◌, ◌*◌, ◌/◌, ◌%◌, ◌<◌, ◌≤◌, ⊎_elim, List, [], ◌∷◌, ◌++◌, map, length, drop, Bool, true, false, cond, Option, None, Some, refl, sym, ap, ◌∙◌, subst, arith, append_assoc}
+use Rattle.std.proofs.Common.{◌≡◌, ℕ, zero, suc, ◌+◌, ◌-◌, ◌*◌, ◌/◌, ◌%◌, ◌<◌, ◌≤◌, ⊎_elim, List, [], ◌∷◌, ◌++◌, map, Bool, true, false, cond, Option, None, Some, refl, sym, ap, ◌∙◌, subst, arith, append_assoc}
 use Rattle.std.specs.Prelude.{max, min, nat_le, not, ◌&&◌}
 use Rattle.std.specs.List.{AllByRecursion, fold}
 use Rattle.std.proofs.lemmas.Bool.{and_parts, cases_lt, cond-false, cond-true, le-leb, lt-leb, not-true}
 use Rattle.std.proofs.lemmas.Grind.{flat_map-append}
-use Rattle.theory.specs.Placed.{Among, Placed, end_of, place_all}
+use Rattle.theory.specs.Placed.{AllAmong, Among, Chain, Placed, end_of, place_all}
 use Rattle.theory.specs.Consumer.{Consumer}
 use Rattle.theory.specs.Entry.{Entry, committed, entry_end}
 use Rattle.theory.specs.Tiling.{Tiles}
 use Rattle.theory.specs.FlowLimit.{flow_limit}
-use Rattle.theory.specs.Datagrams.{sent_end}
-use Rattle.theory.specs.Position.{position_of}
+use Rattle.theory.specs.Datagrams.{MayBeSent, frames_of}
+use Rattle.theory.specs.Position.{Geometry, position_of}
+use Rattle.theory.specs.Resend.{Action, answered, first_due, resent}
 use Rattle.theory.specs.Numbered.{Each}
-use Rattle.theory.specs.Wire.{Status}
+use Rattle.theory.specs.Wire.{Nak, Status}
+use Rattle.model.specs.CycleLaws.{MaySend}
 use Rattle.model.specs.Log as model
 use Rattle.model.specs.Log.{Clean, Close, Connect, Raise}
 use Rattle.model.specs.Log.{IsLowest}
 use Rattle.model.specs.Sender.{Sender, SenderEvent, SenderStep}
-use Rattle.model.specs.Sender.{See, Send, SendSetup, HearStatus}
+use Rattle.model.specs.Sender.{HearNak, HearStatus, Resend, See, Send, SendSetup}
 use Rattle.model.specs.World.{World}
 use Rattle.model.specs.World.{AtLog, AtSender}
 use Rattle.theory.proofs.Leasts.{fold_each, fold_keeps}
-use Rattle.theory.proofs.Lists.{among_right}
+use Rattle.theory.proofs.Lists.{all_append, all_weaker, among_right}
+use Rattle.model.proofs.Datagrams.{cycle_sends}
+use Rattle.retransmit.specs.Handler.{answered_first}
 use Rattle.theory.proofs.Places.{power_unit}
 use Rattle.log_buffer.specs.Limits.{least}
 use Rattle.one_hand.specs.Legal.{IsStream}
 use Rattle.one_hand.specs.Stream.{Stream, clean_end, cleaned_and_limited, forgotten_below, kept_from, raised}
-use Rattle.script_run.specs.Answers.{IsCycle, after_cycle, heard, limit_of, named, sent_on, with_log, woken}
-use Rattle.sender.specs.Cycling.{Cycle, IsNextSent}
+use Rattle.script_run.specs.Answers.{IsCycle, after_cycle, again_for, behind_new, end_from, heard, limit_of, missed, named, place_in, resent_on, sent_on, with_log, woken}
+use Rattle.sender.specs.Cycling.{Cycle, GivesNew}
 use Rattle.script_run.specs.ScriptState.{ScriptState, model_log, world_of}
 use Rattle.script_run.proofs.Runs.{Goes, goes_one, goes_on, stays}
 
@@ -59,22 +63,59 @@ names w false = stays w w refl
 pub among_kept : (past es : List Entry) (s : Placed) → Among s (committed es) → Among s (committed (past ++ es))
 among_kept past es s h = subst (λ xs. Among s xs) (sym (flat_map-append (λ e. place_all e.start e.frames) past es)) (among_right s (committed past) (committed es) h)
 
--- the next of the entries that are kept
-pub sends : (w : World) (past es : List Entry) (limit : ℕ) (frame : Option Placed) → w.log.entries ≡ past ++ es → limit ≡ limit_in w → IsNextSent (committed es) w.sender.at limit frame → Goes w (with_sender w (sent_on w.sender frame))
-sends w past es limit None parts l next = stays w w refl
-sends w past es limit (Some s) parts l next =
-    let among : Among s (committed w.log.entries) = subst (λ xs. Among s (committed xs)) (sym parts) (among_kept past es s next.0) in
-    at_sender w (Send (s ∷ []) (end_of s)) (sent_on w.sender (Some s)) ((next.1, refl), (among, tt), (subst (λ x. sent_end s s.frame ≤ x) l next.2, tt), refl)
+-- frames that follow each other end there
+pub chain_end : (at to : ℕ) (frames : List Placed) → Chain at to frames → to ≡ end_from at frames
+chain_end at to [] h = h
+chain_end at to (s ∷ ss) h = chain_end (end_of s) to ss h.1
+
+pub all_kept : (past es : List Entry) (ss : List Placed) → AllAmong (committed es) ss → AllAmong (committed (past ++ es)) ss
+all_kept past es ss h = all_weaker (λ s. Among s (committed es)) (λ s. Among s (committed (past ++ es))) (λ s a. among_kept past es s a) ss h
+
+-- what a cycle sends of the entries that are kept may be sent
+pub may_send : (g : Geometry) (frames : List Placed) (at limit : ℕ) (sent : List (List Placed)) → GivesNew g frames at limit sent → MaySend frames at limit (frames_of sent)
+may_send g frames at limit sent h = subst (λ ds. MaySend frames at limit (frames_of ds)) (sym h.sent_is) (cycle_sends g frames at h.to limit h.reads h.read.chain h.read.among)
+
+pub sends : (w : World) (past es : List Entry) (limit : ℕ) (frames : List Placed) → w.log.entries ≡ past ++ es → limit ≡ limit_in w → MaySend (committed es) w.sender.at limit frames → Goes w (with_sender w (sent_on w.sender frames))
+sends w past es limit frames parts l may =
+    let chain : Chain w.sender.at (end_from w.sender.at frames) frames = subst (λ to. Chain w.sender.at to frames) (chain_end w.sender.at may.to frames may.chain) may.chain in
+    at_sender w (Send frames (end_from w.sender.at frames)) (sent_on w.sender frames) (
+      chain,
+      subst (λ xs. AllAmong (committed xs) frames) (sym parts) (all_kept past es frames may.among),
+      subst (λ x. AllByRecursion (MayBeSent x) frames) l may.allowed,
+      refl,
+    )
+
+-- frames go out again
+pub resends : (w : World) (o : Option Action) → first_due w.sender.actions ≡ o → Goes w (with_sender w (resent_on w.sender (frames_of (again_for w.log.identity.geometry w.sender o))))
+resends w None due = stays w (with_sender w (resent_on w.sender [])) (ap (λ o. with_sender w (record w.sender { actions = answered_first w.sender.clock w.sender.actions o })) due)
+resends w (Some a) due =
+    let x = w.sender in
+    let frames = resent w.log.identity.geometry x.at x.passed a in
+    let clock : x.clock ≡ max x.clock x.clock = omega arith in
+    at_sender w (Resend x.clock a frames) (resent_on x frames) (
+      due,
+      refl,
+      ap (λ o. record x { sent = frames ++ x.sent; actions = answered_first x.clock x.actions o }) due ∙ ap (λ c. record x { sent = frames ++ x.sent; clock = c; actions = answered c a x.actions }) clock,
+    )
 
 -- a cycle
 pub cycles : (s : ScriptState) (now : ℕ) (y : Cycle) → IsCycle s now y → Goes (world_of s) (world_of (after_cycle s now y))
 cycles s now y h =
     let w = world_of s in
+    let g = s.log.identity.geometry in
     let a = with_sender w (woken s now) in
     let b = with_sender w (named (woken s now) y.setup) in
-    let still : (due : Bool) → (named (woken s now) due).at ≡ s.sender.at = named_at (woken s now) in
-    let said : (due : Bool) → (named (woken s now) due).said ≡ s.sender.said = named_said (woken s now) in
-    goes_on w a (world_of (after_cycle s now y)) (sees w now) (goes_on a b (world_of (after_cycle s now y)) (names a y.setup) (sends b s.past s.log.entries (limit_of s.log s.sender) y.frame refl (ap (λ x. flow_limit s.log.start x) (sym (said y.setup))) (subst (λ p. IsNextSent (committed s.log.entries) p (limit_of s.log s.sender) y.frame) (sym (still y.setup)) h.1)))
+    let x = behind_new s now y in
+    let c = with_sender w x in
+    let last = world_of (after_cycle s now y) in
+    let may : MaySend (committed s.log.entries) b.sender.at (limit_of s.log s.sender) (frames_of y.fresh) = subst (λ p. MaySend (committed s.log.entries) p (limit_of s.log s.sender) (frames_of y.fresh)) (sym (named_at (woken s now) y.setup)) (may_send g (committed s.log.entries) s.sender.at (limit_of s.log s.sender) y.fresh h.new) in
+    let new : Goes b c = sends b s.past s.log.entries (limit_of s.log s.sender) (frames_of y.fresh) refl (ap (λ said. flow_limit s.log.start said) (sym (named_said (woken s now) y.setup))) may in
+    let again : Goes c last = subst (λ ds. Goes c (with_sender w (resent_on x (frames_of ds)))) (sym h.again) (resends c (first_due x.actions) refl) in
+    goes_on w a last (sees w now) (goes_on a b last (names a y.setup) (goes_on b c last new again))
+
+-- a negative acknowledgement
+pub misses : (s : ScriptState) (now : ℕ) (f : Nak) → Goes (world_of s) (world_of (record s { sender = missed s now f }))
+misses s now f = at_sender (world_of s) (HearNak now (place_in s f) f.length) (missed s now f) refl
 
 -- a status message
 pub hears : (s : ScriptState) (now : ℕ) (f : Status) → Goes (world_of s) (with_sender (world_of s) (heard s now f))
@@ -195,6 +236,25 @@ least_holds P at ps qs are all =
     let each : AllByRecursion P (at ∷ qs) = subst (AllByRecursion P) are all in
     subst (λ xs. P (least xs)) (sym are) (fold_keeps P at (at ∷ qs) each.0 each)
 
+-- it cleans no less than before
+clean_grows : (s : ScriptState) → IsStream s.log → s.log.consumers ≡ s.sender.at ∷ map (λ c. c.at) s.readers → s.log.cleaned ≤ clean_end s.log
+clean_grows s legal are = least_holds (λ p. s.log.cleaned ≤ max s.log.start (p - s.log.identity.geometry.term_length)) s.sender.at s.log.consumers (map (λ (c : Consumer). c.at) s.readers) are legal.readable
+
+all_below : (to : ℕ) (es : List Entry) → AllByRecursion (λ e. e.start < to) (forgotten_below to es)
+all_below to [] = tt
+all_below to (e ∷ es) =
+    ⊎_elim
+    (λ (less : e.start < to). subst (AllByRecursion (λ e. e.start < to)) (sym (cond-true (not (nat_le to e.start)) (e ∷ forgotten_below to es) (forgotten_below to es) (ap not (lt-leb to e.start less)))) (less, all_below to es))
+    (λ (high : to ≤ e.start). subst (AllByRecursion (λ e. e.start < to)) (sym (cond-false (not (nat_le to e.start)) (e ∷ forgotten_below to es) (forgotten_below to es) (ap not (le-leb to e.start high)))) (all_below to es))
+    (cases_lt e.start to)
+
+-- what is forgotten begins below what is cleaned
+pub limit_forgotten : (s : ScriptState) → IsStream s.log → s.log.consumers ≡ s.sender.at ∷ map (λ c. c.at) s.readers → AllByRecursion (λ e. e.start < s.log.cleaned) s.past → AllByRecursion (λ e. e.start < clean_end s.log) (s.past ++ forgotten_below (clean_end s.log) s.log.entries)
+limit_forgotten s legal are before =
+    let to = clean_end s.log in
+    let grows : s.log.cleaned ≤ to = clean_grows s legal are in
+    all_append (λ e. e.start < to) s.past (forgotten_below to s.log.entries) (all_weaker (λ e. e.start < s.log.cleaned) (λ e. e.start < to) (λ e low. omega (arith, low, grows)) s.past before) (all_below to s.log.entries)
+
 -- a log of which the sender and the readers are the consumers, after its keeper's call
 pub limits : (s : ScriptState) → IsStream s.log → s.log.consumers ≡ s.sender.at ∷ map (λ c. c.at) s.readers → Goes (world_of s) (record (world_of s) { log = model_log (s.past ++ forgotten_below (clean_end s.log) s.log.entries) s.readers (cleaned_and_limited s.log) })
 limits s legal are =
@@ -205,7 +265,7 @@ limits s legal are =
     let past = s.past ++ forgotten_below to s.log.entries in
     let positions = map (λ (c : Consumer). c.at) s.readers in
     let unit : m % 32 ≡ 0 = least_holds (λ p. p % 32 ≡ 0) s.sender.at s.log.consumers positions are legal.consumer_units in
-    let readable : s.log.cleaned ≤ to = least_holds (λ p. s.log.cleaned ≤ max s.log.start (p - t)) s.sender.at s.log.consumers positions are legal.readable in
+    let readable : s.log.cleaned ≤ to = clean_grows s legal are in
     let lowest : Lowest w m = all_above s are in
     let term : t % 32 ≡ 0 = power_unit t legal.geometry.term.power legal.geometry.term.least in
     let is : to ≡ s.log.cleaned + 8 * ((to - s.log.cleaned) / 8) = words s.log.cleaned to readable legal.word (end_words s.log.start m t legal.unit unit term) in

@@ -1,28 +1,30 @@
 -- What holds of the state after each line of a script.
-use Rattle.std.proofs.Common.{◌≡◌, ℕ, zero, suc, ◌+◌, ◌%◌, ◌<◌, ◌≤◌, false, List, [], ◌∷◌, ◌++◌, map, length, Option, None, Some, ⊎_elim, refl, sym, ap, ◌∙◌, subst, arith, append-nil}
-use Rattle.std.specs.Prelude.{replicate, slice_get, slice_set}
-use Rattle.std.proofs.lemmas.Bool.{cases_eq}
+use Rattle.std.proofs.Common.{◌≡◌, ℕ, zero, suc, ◌+◌, ◌<◌, ◌≤◌, false, List, [], ◌∷◌, ◌++◌, map, length, Option, None, Some, refl, sym, ap, ◌∙◌, subst, arith, append-nil}
+use Rattle.std.specs.Prelude.{replicate, slice_get}
+use Rattle.std.specs.List.{AllByRecursion}
 use Rattle.std.proofs.lemmas.Grind.{flat_map-append}
-use Rattle.std.proofs.lemmas.Option.{slice_get_within}
 use Rattle.theory.specs.Position.{Geometry, IsGeometry, max_position}
-use Rattle.theory.specs.Entry.{IsEntry}
+use Rattle.theory.specs.Entry.{IsEntry, committed}
 use Rattle.std.specs.Option.{option_map}
 use Rattle.script_run.specs.LineContents.{LineContent}
-use Rattle.theory.specs.Bytes.{Identity, IsIdentity}
-use Rattle.model.specs.Headline.{Always, IsTiled, IsBounded, IsPrefixPolled, ArePublished, AreSpelled, IsPublished}
+use Rattle.theory.specs.Bytes.{Identity}
+use Rattle.model.specs.Headline.{Always, IsTiled, IsBounded, IsPrefixPolled, IsReadable, ArePublished, AreSpelled, IsPublished}
+use Rattle.model.specs.StepLaws.{HavePassed}
 use Rattle.theory.specs.Laws.{HasOneReading}
-use Rattle.theory.specs.Placed.{Frame}
+use Rattle.theory.specs.Placed.{Among, Frame, end_of}
 use Rattle.theory.specs.Assembly.{after_all, nothing_heard}
 use Rattle.theory.specs.Consumer.{Consumer, consumer_at}
 use Rattle.theory.specs.Numbered.{Each}
-use Rattle.model.specs.World.{IsOpened}
-use Rattle.theory.proofs.Lists.{all_weaker}
-use Rattle.theory.proofs.Tables.{get_other, get_put}
+use Rattle.model.specs.World.{IsOpened, World}
+use Rattle.theory.proofs.Lists.{all_at, all_weaker}
+use Rattle.theory.proofs.Frames.{committed_below}
 use Rattle.script.specs.Meaning.{CommandContent}
 use Rattle.script_run.specs.Published.{AllWhole, IsWhole, Played, Range, covered_by, joined_by, joins, polled, polled_by, published, ranges_after, ranges_behind, read, read_by}
 use Rattle.receiver.specs.Receiving.{Opened, Receiver}
 use Rattle.script_run.specs.ScriptState.{ScriptState, entries_of, image_of, opened_state, world_of}
+use Rattle.script_run.specs.Standing.{Begins}
 use Rattle.script_run.proofs.Honest.{AreHonest}
+use Rattle.script_run.proofs.Lone.{lone, lone_there}
 use Rattle.script_run.proofs.OfferRuns.{LogHolds, tail_in_stream}
 use Rattle.script_run.proofs.Ranges.{Matches}
 use Rattle.script_run.proofs.ReceiverRuns.{At, Follows, FollowsImage, IsSending, Places}
@@ -36,6 +38,8 @@ pub record Laws : Type 0 where
   pub prefixes : Always IsPrefixPolled
   pub entries : Always ArePublished
   pub spelled : Always AreSpelled
+  pub readable : Always IsReadable
+  pub passed : Always HavePassed
   pub places : Places
   pub reading : HasOneReading
 
@@ -53,26 +57,20 @@ pub record ReadSo (start : ℕ) (c : Consumer) (frames : List Frame) : Type 0 wh
 abbrev pub HasRead : ℕ → List Played → ScriptState → ℕ → Type 0
 HasRead start played s k = (c : Consumer) × (slice_get s.readers k ≡ Some c) × ReadSo start c (read (suc k) played)
 
-pub record IsSound (i : Identity) (start readers : ℕ) (played : List Played) (s : ScriptState) : Type 0 where
-  pub runs : Goes (world_of (opened_state i start readers)) (world_of s)
+-- what holds behind these lines, where the images are looked at through that of one receiver alone
+pub record IsSound (i : Identity) (start readers only : ℕ) (played : List Played) (s : ScriptState) : Type 0 where
+  pub runs : Goes (world_of (opened_state i start readers)) (world_of (lone only s))
   pub identity : s.log.identity ≡ i
   pub start_is : s.log.start ≡ start
   pub consumers : s.log.consumers ≡ s.sender.at ∷ map (λ c. c.at) s.readers
-  pub unit : s.sender.at % 32 ≡ 0
-  pub sending : IsSending s
+  pub named : AllByRecursion (λ p. p ≤ max_position i.geometry) s.sender.setups
+  pub forgotten : AllByRecursion (λ e. e.start < s.log.cleaned) s.past
   pub honest : AreHonest i s.sender s.packets
   pub matches : Matches (entries_of s) (published i.geometry played)
   pub eight : length s.receivers ≡ 8
-  pub receivers : (k : ℕ) → k < 8 → HasFollowed i played s k
+  pub followed : only < 8 → HasFollowed i played s only
   pub seats : length s.readers ≡ readers
   pub reading : (k : ℕ) → k < readers → HasRead start played s k
-
--- where a script begins
-pub record Begins (i : Identity) (start : ℕ) : Type 0 where
-  pub geometry : IsGeometry i.geometry
-  pub identity : IsIdentity i
-  pub unit : start % 32 ≡ 0
-  pub below : start < max_position i.geometry
 
 all_there : (start n : ℕ) → Each (λ r. r ≡ consumer_at start) (map Some (replicate n (consumer_at start)))
 all_there start zero = tt
@@ -99,30 +97,48 @@ opened i start readers b = record {
 
 -- ---- what the laws say of a sound state
 
-pub holds : Laws → (i : Identity) (start readers : ℕ) (played : List Played) (s : ScriptState) → Begins i start → IsSound i start readers played s → LogHolds s.past s.log
-holds laws i start readers played s b h =
-    let tiled = laws.tiles (world_of (opened_state i start readers)) (world_of s) h.runs.0 (opened i start readers b) h.runs.1 in
-    let entries = laws.entries (world_of (opened_state i start readers)) (world_of s) h.runs.0 (opened i start readers b) h.runs.1 in
+-- what holds of every world holds of this one
+pub law_of : {Holds : World → Type 0} → Always Holds → (i : Identity) (start readers only : ℕ) (s : ScriptState) → Begins i start → Goes (world_of (opened_state i start readers)) (world_of (lone only s)) → Holds (world_of (lone only s))
+law_of law i start readers only s b runs = law (world_of (opened_state i start readers)) (world_of (lone only s)) runs.0 (opened i start readers b) runs.1
+
+pub legal : (i : Identity) (start readers only : ℕ) (played : List Played) (s : ScriptState) → Begins i start → IsSound i start readers only played s → IsGeometry s.log.identity.geometry
+legal i start readers only played s b h = subst (λ k. IsGeometry k.geometry) (sym h.identity) b.geometry
+
+pub holds : Laws → (i : Identity) (start readers only : ℕ) (played : List Played) (s : ScriptState) → Begins i start → IsSound i start readers only played s → LogHolds s.past s.log
+holds laws i start readers only played s b h =
+    let entries = law_of laws.entries i start readers only s b h.runs in
     record {
-      geometry = h.sending.legal;
+      geometry = legal i start readers only played s b h;
       start = subst (λ x. s.log.start < max_position x.geometry) (sym h.identity) (subst (λ p. p < max_position i.geometry) (sym h.start_is) b.below);
-      tiles = tiled.0;
+      tiles = (law_of laws.tiles i start readers only s b h.runs).0;
       entries = all_weaker (IsPublished s.log.identity.geometry) IsEntry (λ e x. x.entry) (entries_of s) entries;
       published = entries;
     }
 
 -- wherever the world goes to
-pub sender_below : Laws → (i : Identity) (start readers : ℕ) (s : ScriptState) → Begins i start → Goes (world_of (opened_state i start readers)) (world_of s) → s.sender.at ≤ s.log.tail
-sender_below laws i start readers s b runs =
-    let bounded = laws.bounds (world_of (opened_state i start readers)) (world_of s) runs.0 (opened i start readers b) runs.1 in
-    omega (arith, bounded.0.2, bounded.0.3.0)
+pub sender_below : Laws → (i : Identity) (start readers only : ℕ) (s : ScriptState) → Begins i start → Goes (world_of (opened_state i start readers)) (world_of (lone only s)) → s.sender.at ≤ s.log.tail
+sender_below laws i start readers only s b runs = let bounded = law_of laws.bounds i start readers only s b runs in omega (arith, bounded.0.2, bounded.0.3.0)
 
-pub tail_low : Laws → (i : Identity) (start readers : ℕ) (played : List Played) (s : ScriptState) → Begins i start → IsSound i start readers played s → s.log.tail ≤ max_position i.geometry
-tail_low laws i start readers played s b h =
-    let k = holds laws i start readers played s b h in
+pub tail_low : Laws → (i : Identity) (start readers only : ℕ) (played : List Played) (s : ScriptState) → Begins i start → IsSound i start readers only played s → s.log.tail ≤ max_position i.geometry
+tail_low laws i start readers only played s b h =
+    let k = holds laws i start readers only played s b h in
     let low : s.log.tail ≤ max_position s.log.identity.geometry = tail_in_stream s.log.identity.geometry s.log.start s.log.tail (entries_of s) (omega (arith, k.geometry.term.least)) (omega (arith, k.start)) k.tiles k.published in
     let same : max_position s.log.identity.geometry ≡ max_position i.geometry = ap (λ (x : Identity). max_position x.geometry) h.identity in
     omega (arith, low, same)
+
+-- each frame that was sent, and each SETUP, stands in the stream
+pub sending : Laws → (i : Identity) (start readers only : ℕ) (played : List Played) (s : ScriptState) → Begins i start → IsSound i start readers only played s → IsSending (lone only s)
+sending laws i start readers only played s b h =
+    let k = holds laws i start readers only played s b h in
+    let most = max_position s.log.identity.geometry in
+    let same : max_position i.geometry ≡ most = ap (λ (x : Identity). max_position x.geometry) (sym h.identity) in
+    let below = committed_below s.log.identity.geometry.term_length s.log.start s.log.tail (entries_of s) k.tiles k.entries in
+    let tail : s.log.tail ≤ most = omega (arith, tail_low laws i start readers only played s b h, same) in
+    record {
+      legal = k.geometry;
+      sent = all_weaker (λ t. Among t (committed (entries_of s))) (λ t. t.at ≤ most) (λ t a. omega (arith, tail, all_at (λ t. end_of t ≤ s.log.tail) t (committed (entries_of s)) below a)) s.sender.sent (law_of laws.passed i start readers only s b h.runs).sent;
+      setups = subst (λ p. AllByRecursion (λ q. q ≤ p) s.sender.setups) same h.named;
+    }
 
 -- ---- one line more
 
@@ -178,38 +194,28 @@ pub record IsQuiet (command : CommandContent) (lines : List LineContent) : Type 
   pub joins : (k : ℕ) → joined_by k command lines ≡ []
   pub polls : (k : ℕ) → polled_by k command lines ≡ []
 
-pub receivers_stay : (i : Identity) (played : List Played) (command : CommandContent) (lines : List LineContent) (s t : ScriptState) → ((k : ℕ) → (joined_by k command lines ≡ []) × (polled_by k command lines ≡ [])) → t.receivers ≡ s.receivers → ((k : ℕ) → k < 8 → HasFollowed i played s k) → (k : ℕ) → k < 8 → HasFollowed i (and_line played command lines) t k
-receivers_stay i played command lines s t quiet same h k low =
-    let r = h k low in
-    (r.0, ap (λ xs. slice_get xs k) same ∙ r.1, follows_quiet i k r.0 played command lines (quiet k).0 (quiet k).1 r.2)
+-- the line says nothing of the receiver that is followed, and it stays
+pub followed_stays : (i : Identity) (played : List Played) (command : CommandContent) (lines : List LineContent) (s t : ScriptState) (only : ℕ) → (joined_by only command lines ≡ []) × (polled_by only command lines ≡ []) → slice_get t.receivers only ≡ slice_get s.receivers only → (only < 8 → HasFollowed i played s only) → only < 8 → HasFollowed i (and_line played command lines) t only
+followed_stays i played command lines s t only quiet same h low =
+    let r = h low in
+    (r.0, same ∙ r.1, follows_quiet i only r.0 played command lines quiet.0 quiet.1 r.2)
 
 pub readers_stay : (start n : ℕ) (played : List Played) (command : CommandContent) (lines : List LineContent) (s t : ScriptState) → ((k : ℕ) → read_by (suc k) command lines ≡ []) → t.readers ≡ s.readers → ((k : ℕ) → k < n → HasRead start played s k) → (k : ℕ) → k < n → HasRead start (and_line played command lines) t k
 readers_stay start n played command lines s t quiet same h k low =
     let r = h k low in
     (r.0, ap (λ xs. slice_get xs k) same ∙ r.1, subst (ReadSo start r.0) (sym (read_more (suc k) played command lines ∙ ap (λ xs. read (suc k) played ++ xs) (quiet k) ∙ append-nil (read (suc k) played))) r.2)
 
--- the line is of receiver n, which is another now
-pub receiver_moves : (i : Identity) (played : List Played) (command : CommandContent) (lines : List LineContent) (s t : ScriptState) (n : ℕ) (r mid : Receiver) → slice_get s.receivers n ≡ Some r → t.receivers ≡ slice_set s.receivers n mid → ((k : ℕ) → (n ≡ k → ⊥) → (joined_by k command lines ≡ []) × (polled_by k command lines ≡ [])) → Follows i mid (joins n (and_line played command lines)) (polled n (and_line played command lines)) (AllWhole n (and_line played command lines)) → ((k : ℕ) → k < 8 → HasFollowed i played s k) → (k : ℕ) → k < 8 → HasFollowed i (and_line played command lines) t k
-receiver_moves i played command lines s t n r mid there is others now h k low =
-    ⊎_elim
-    (λ (e : n ≡ k). subst (λ x. HasFollowed i (and_line played command lines) t x) e (mid, ap (λ xs. slice_get xs n) is ∙ get_put s.receivers n mid (slice_get_within s.receivers n r there), now))
-    (λ (ne : n ≡ k → ⊥).
-    let old = h k low in
-    let quiet = others k ne in
-    (old.0, ap (λ xs. slice_get xs k) is ∙ get_other s.receivers n k mid (λ e. ne (sym e)) ∙ old.1, follows_quiet i k old.0 played command lines quiet.0 quiet.1 old.2))
-    (cases_eq n k)
-
 -- the receiver of a sound state, as the lemmas on its frames want it
-pub at_number : (i : Identity) (start readers : ℕ) (played : List Played) (s : ScriptState) (n : ℕ) (r q : Receiver) → IsSound i start readers played s → n < 8 → slice_get s.receivers n ≡ Some r → q.image ≡ r.image → q.consumers ≡ r.consumers → At s n q (joins n played) (polled n played) (AllWhole n played)
-at_number i start readers played s n r q h low there image consumers =
-    let known = h.receivers n low in
+pub at_number : (i : Identity) (start readers only : ℕ) (played : List Played) (s : ScriptState) (r q : Receiver) → IsSound i start readers only played s → only < 8 → slice_get s.receivers only ≡ Some r → q.image ≡ r.image → q.consumers ≡ r.consumers → At (lone only s) only q (joins only played) (polled only played) (AllWhole only played)
+at_number i start readers only played s r q h low there image consumers =
+    let known = h.followed low in
     let found : Some r ≡ Some known.0 = sym there ∙ known.1 in
     let same : known.0 ≡ r = cc in
-    let follows : Follows i r (joins n played) (polled n played) (AllWhole n played) = subst (λ x. Follows i x (joins n played) (polled n played) (AllWhole n played)) same known.2 in
+    let follows : Follows i r (joins only played) (polled only played) (AllWhole only played) = subst (λ x. Follows i x (joins only played) (polled only played) (AllWhole only played)) same known.2 in
     record {
-      there = map_get image_of s.receivers n r there ∙ ap Some (ap (option_map (λ o. o.image)) (sym image));
-      follows = subst (λ x. Follows x q (joins n played) (polled n played) (AllWhole n played)) (sym h.identity) (record {
+      there = map_get image_of (lone only s).receivers only r (lone_there only s ∙ there) ∙ ap Some (ap (option_map (λ o. o.image)) (sym image));
+      follows = subst (λ x. Follows x q (joins only played) (polled only played) (AllWhole only played)) (sym h.identity) (record {
         consumers = consumers ∙ follows.consumers;
-        image = subst (λ o. FollowsImage o i (joins n played) (polled n played) (AllWhole n played)) (sym image) follows.image;
+        image = subst (λ o. FollowsImage o i (joins only played) (polled only played) (AllWhole only played)) (sym image) follows.image;
       });
     }

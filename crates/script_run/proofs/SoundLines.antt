@@ -1,36 +1,27 @@
 -- Each line of a script leaves a sound state.
-use Rattle.std.proofs.Common.{◌≡◌, ◌⊎◌, ℕ, zero, suc, ◌+◌, ◌-◌, ◌*◌, ◌/◌, ◌%◌, ◌^◌, ◌<◌, ◌≤◌, List, [], ◌∷◌, ◌++◌, map, length, Bool, true, false, Option, None, Some, inl, inr, ⊎_elim, refl, sym, ap, ◌∙◌, subst, arith, append-nil, append_assoc}
-use Rattle.std.specs.Option.{option_to_list}
+use Rattle.std.proofs.Common.{◌≡◌, ◌⊎◌, ℕ, zero, suc, ◌+◌, ◌*◌, ◌/◌, ◌%◌, ◌<◌, ◌≤◌, List, [], ◌∷◌, ◌++◌, map, length, Bool, true, false, Option, None, Some, inl, inr, refl, sym, ap, ◌∙◌, subst, arith, append-nil, append_assoc}
 use Rattle.std.specs.List.{AllByRecursion, flat_map, fold}
-use Rattle.std.proofs.lemmas.Bool.{cases_Bool, cond-true, cond-false, le-leb}
+use Rattle.std.proofs.lemmas.Bool.{cond-true, le-leb}
 use Rattle.std.proofs.lemmas.List.{length-replicate, map-append}
-use Rattle.std.specs.Prelude.{nat_le, pos, replicate, slice_get, slice_index_or, slice_set, FitsSigned}
-use Rattle.std.specs.Int.{w32, cast_unsigned}
-use mir.ValLaws.{to_z-Fits}
-use Rattle.std.proofs.Math.Nat.{mod-lt}
-use Rattle.theory.specs.Position.{Geometry, IsGeometry, Place, aligned, cuts_of, max_message, max_payload, max_position, place_of, rest_length, span}
-use Rattle.theory.specs.Placed.{Among, Data, Frame, Placed}
-use Rattle.theory.specs.Entry.{Entry, IsEntry, committed, entry_end}
+use Rattle.std.specs.Prelude.{nat_le, replicate, slice_get, slice_index_or}
+use Rattle.theory.specs.Position.{Geometry, aligned, cuts_of, max_message, max_payload, rest_length}
+use Rattle.theory.specs.Placed.{Among, Data, Frame}
+use Rattle.theory.specs.Entry.{Entry, IsEntry, entry_end}
 use Rattle.theory.specs.Tiling.{Tiles}
 use Rattle.theory.proofs.Claims.{covers_framed}
-use Rattle.theory.specs.Bytes.{Identity, IsIdentity, wire_at}
-use Rattle.theory.specs.Control.{setup_at, setup_fields}
+use Rattle.theory.specs.Bytes.{Identity}
 use Rattle.model.specs.Log as model
 use Rattle.model.specs.Log.{Abort, Commit}
 use Rattle.model.specs.Log.{aborted_at, with_frame}
-use Rattle.model.specs.Sender.{Sender}
-use Rattle.theory.specs.Wire.{IsFrame, Wire}
 use Rattle.theory.proofs.Cuts.{short_cuts}
-use Rattle.theory.proofs.Lists.{all_append, all_replicate, among_right}
+use Rattle.theory.proofs.Lists.{all_replicate, among_right}
 use Rattle.term_buffer.specs.Kept.{claim_of, padded, published}
 use Rattle.publication.specs.Offers.{OfferCase, IsClosed, IsStale, IsUsedUp, IsLimited, Fits, Trips}
 use Rattle.one_hand.specs.Legal.{IsOpenClaim, IsStream}
-use Rattle.one_hand.specs.Stream.{OpenClaim, Stream, after, after_claim, after_offer, answer, case_of, claim_by, clean_end, cleaned_and_limited, covered, forgotten_below, room, turned, with_abort, with_claim, with_commit, with_message, with_padding}
+use Rattle.one_hand.specs.Stream.{OpenClaim, Stream, after, after_claim, after_offer, answer, case_of, clean_end, cleaned_and_limited, covered, forgotten_below, room, turned, with_abort, with_claim, with_commit, with_message, with_padding}
 use Rattle.script.specs.Meaning as commands
 use Rattle.script.specs.Meaning.{CommandContent}
-use Rattle.script_run.specs.Answers.{AbortsClaim, AreFrames, Claims, ClaimsRange, CommitsClaim, HasClaim, HasNoClaim, IsCycle, IsMissing, Limits, MayClaimRange, MayNotTake, MayOffer, Offered, OffersMessage, Replied, SenderHears, Sends, after_cycle, clock_at, cycled, given_out, heard, limit_of, named, sent_on, wires_of, with_log, with_sender, woken}
-use Rattle.setup.specs.Naming.{Naming, after_due}
-use Rattle.sender.specs.Cycling.{AsksSetup, Cycle, IsNextSent, NewsContent, Says, TellsNothing, Unreadable, datagrams, setups}
+use Rattle.script_run.specs.Answers.{AbortsClaim, Claims, ClaimsRange, CommitsClaim, HasClaim, HasNoClaim, IsMissing, Limits, MayClaimRange, MayNotTake, MayOffer, Offered, OffersMessage, with_log}
 use Rattle.script_run.specs.LineContents as content
 use Rattle.script_run.specs.LineContents.{LineContent, Bad, Position}
 use Rattle.script_run.specs.Published as visible
@@ -38,12 +29,13 @@ use Rattle.script_run.specs.Published.{Played, Range, claims_in, filled_at, fill
 use Rattle.script_run.specs.ScriptState.{ScriptState, entries_of, model_log, opened_state, world_of}
 use Rattle.model.proofs.Commits.{IsOnlyAt}
 use Rattle.model.proofs.LogSteps.{entry_from}
-use Rattle.script_run.proofs.Honest.{IsGivenOut, IsHonest, cycle_given, honest_more, honest_wires, named_more, sent_more, setups_on}
-use Rattle.script_run.proofs.OfferRuns.{LogHolds, at_log, claims, fits_one, frame_put, message_short, offers, open_entry, trips, trips_one, turned_same}
-use Rattle.script_run.proofs.Ranges.{Matches, SameRange, abort_only, abort_put, claimed_at, frame_only, matches_abort, matches_commit, matches_more, matches_padding, one_cut, same_claimed, same_offered}
+use Rattle.script_run.specs.Standing.{Begins}
+use Rattle.script_run.proofs.Lone.{lone}
+use Rattle.script_run.proofs.OfferRuns.{LogHolds, at_log, claims, fits_one, message_short, offers, open_entry, trips, trips_one, turned_same}
+use Rattle.script_run.proofs.Ranges.{Matches, SameRange, abort_only, claimed_at, frame_only, matches_abort, matches_commit, matches_more, matches_padding, one_cut, same_claimed, same_offered}
 use Rattle.script_run.proofs.Runs.{Goes, goes_on, stays}
-use Rattle.script_run.proofs.SenderRuns.{asked, closes, connects, cycles, hears, limit_entries, limits, named_at, sees}
-use Rattle.script_run.proofs.Sound.{Begins, opened, IsQuiet, IsSound, Laws, SaysNoRange, and_line, holds, published_more, readers_stay, receivers_stay, sender_below, tail_low}
+use Rattle.script_run.proofs.SenderRuns.{closes, connects, limit_entries, limit_forgotten, limits}
+use Rattle.script_run.proofs.Sound.{IsQuiet, IsSound, Laws, SaysNoRange, and_line, followed_stays, holds, published_more, readers_stay}
 
 -- ---- lines after which only the log or the sender is another
 
@@ -52,19 +44,19 @@ pub matches_stay : (g : Geometry) (played : List Played) (command : CommandConte
 matches_stay g played command lines xs none h = subst (Matches xs) (sym (published_more g played command lines ∙ none g (visible.published g played))) h
 
 -- nothing has changed
-pub same_state : (i : Identity) (start readers : ℕ) (played : List Played) (command : CommandContent) (lines : List LineContent) (s t : ScriptState) → IsQuiet command lines → SaysNoRange command lines → t ≡ s → IsSound i start readers played s → IsSound i start readers (and_line played command lines) t
-same_state i start readers played command lines s t quiet none same h =
-    subst (λ x. IsSound i start readers (and_line played command lines) x) (sym same) (record {
+pub same_state : (i : Identity) (start readers only : ℕ) (played : List Played) (command : CommandContent) (lines : List LineContent) (s t : ScriptState) → IsQuiet command lines → SaysNoRange command lines → t ≡ s → IsSound i start readers only played s → IsSound i start readers only (and_line played command lines) t
+same_state i start readers only played command lines s t quiet none same h =
+    subst (λ x. IsSound i start readers only (and_line played command lines) x) (sym same) (record {
       runs = h.runs;
       identity = h.identity;
       start_is = h.start_is;
       consumers = h.consumers;
-      unit = h.unit;
-      sending = h.sending;
+      named = h.named;
+      forgotten = h.forgotten;
       honest = h.honest;
       matches = matches_stay i.geometry played command lines (entries_of s) none h.matches;
       eight = h.eight;
-      receivers = receivers_stay i played command lines s s (λ k. (quiet.joins k, quiet.polls k)) refl h.receivers;
+      followed = followed_stays i played command lines s s only (quiet.joins only, quiet.polls only) refl h.followed;
       seats = h.seats;
       reading = readers_stay start readers played command lines s s quiet.reads refl h.reading;
     })
@@ -73,73 +65,71 @@ same_state i start readers played command lines s t quiet none same h =
 abbrev with_stream : ScriptState → List Entry → Stream → ScriptState
 with_stream s past l = record s { log = l; past = past }
 
-record IsLogNext (s : ScriptState) (past : List Entry) (l : Stream) : Type 0 where
-  goes : Goes (world_of s) (world_of (with_stream s past l))
+record IsLogNext (only : ℕ) (s : ScriptState) (past : List Entry) (l : Stream) : Type 0 where
+  goes : Goes (world_of (lone only s)) (world_of (lone only (with_stream s past l)))
   identity : l.identity ≡ s.log.identity
   start : l.start ≡ s.log.start
   consumers : l.consumers ≡ s.log.consumers
+  forgotten : AllByRecursion (λ e. e.start < l.cleaned) past
 
-log_line : (i : Identity) (start readers : ℕ) (played : List Played) (command : CommandContent) (lines : List LineContent) (s : ScriptState) (past : List Entry) (l : Stream) → IsQuiet command lines → IsLogNext s past l → Matches (past ++ l.entries) (visible.published i.geometry (and_line played command lines)) → IsSound i start readers played s → IsSound i start readers (and_line played command lines) (with_stream s past l)
-log_line i start readers played command lines s past l quiet n all h =
+log_line : (i : Identity) (start readers only : ℕ) (played : List Played) (command : CommandContent) (lines : List LineContent) (s : ScriptState) (past : List Entry) (l : Stream) → IsQuiet command lines → IsLogNext only s past l → Matches (past ++ l.entries) (visible.published i.geometry (and_line played command lines)) → IsSound i start readers only played s → IsSound i start readers only (and_line played command lines) (with_stream s past l)
+log_line i start readers only played command lines s past l quiet n all h =
     let t = with_stream s past l in
     record {
-      runs = goes_on (world_of (opened_state i start readers)) (world_of s) (world_of t) h.runs n.goes;
+      runs = goes_on (world_of (opened_state i start readers)) (world_of (lone only s)) (world_of (lone only t)) h.runs n.goes;
       identity = n.identity ∙ h.identity;
       start_is = n.start ∙ h.start_is;
       consumers = n.consumers ∙ h.consumers;
-      unit = h.unit;
-      sending = record {
-        legal = subst (λ (x : Identity). IsGeometry x.geometry) (sym n.identity) h.sending.legal;
-        sent = subst (λ (x : Identity). AllByRecursion (λ p. p.at ≤ max_position x.geometry) s.sender.sent) (sym n.identity) h.sending.sent;
-        setups = subst (λ (x : Identity). AllByRecursion (λ p. p ≤ max_position x.geometry) s.sender.setups) (sym n.identity) h.sending.setups;
-      };
+      named = h.named;
+      forgotten = n.forgotten;
       honest = h.honest;
       matches = all;
       eight = h.eight;
-      receivers = receivers_stay i played command lines s t (λ k. (quiet.joins k, quiet.polls k)) refl h.receivers;
+      followed = followed_stays i played command lines s t only (quiet.joins only, quiet.polls only) refl h.followed;
       seats = h.seats;
       reading = readers_stay start readers played command lines s t quiet.reads refl h.reading;
     }
 
-pub connect_line : (i : Identity) (start readers : ℕ) (played : List Played) (command : CommandContent) (lines : List LineContent) (s : ScriptState) (on : Bool) → IsQuiet command lines → SaysNoRange command lines → IsSound i start readers played s → IsSound i start readers (and_line played command lines) (with_log s (record s.log { connected = on }))
-connect_line i start readers played command lines s on quiet none h =
-    log_line i start readers played command lines s s.past (record s.log { connected = on }) quiet (record { goes = connects s on; identity = refl; start = refl; consumers = refl }) (matches_stay i.geometry played command lines (entries_of s) none h.matches) h
+pub connect_line : (i : Identity) (start readers only : ℕ) (played : List Played) (command : CommandContent) (lines : List LineContent) (s : ScriptState) (on : Bool) → IsQuiet command lines → SaysNoRange command lines → IsSound i start readers only played s → IsSound i start readers only (and_line played command lines) (with_log s (record s.log { connected = on }))
+connect_line i start readers only played command lines s on quiet none h =
+    log_line i start readers only played command lines s s.past (record s.log { connected = on }) quiet (record { goes = connects (lone only s) on; identity = refl; start = refl; consumers = refl; forgotten = h.forgotten }) (matches_stay i.geometry played command lines (entries_of s) none h.matches) h
 
-pub close_line : (i : Identity) (start readers : ℕ) (played : List Played) (lines : List LineContent) (s : ScriptState) → IsSound i start readers played s → IsSound i start readers (and_line played commands.Close lines) (with_log s (record s.log { closed = true }))
-close_line i start readers played lines s h =
-    log_line i start readers played commands.Close lines s s.past (record s.log { closed = true }) (record { joins = λ k. refl; polls = λ k. refl; reads = λ k. refl }) (record { goes = closes s; identity = refl; start = refl; consumers = refl }) (matches_stay i.geometry played commands.Close lines (entries_of s) (λ g ranges. refl) h.matches) h
+pub close_line : (i : Identity) (start readers only : ℕ) (played : List Played) (lines : List LineContent) (s : ScriptState) → IsSound i start readers only played s → IsSound i start readers only (and_line played commands.Close lines) (with_log s (record s.log { closed = true }))
+close_line i start readers only played lines s h =
+    log_line i start readers only played commands.Close lines s s.past (record s.log { closed = true }) (record { joins = λ k. refl; polls = λ k. refl; reads = λ k. refl }) (record { goes = closes (lone only s); identity = refl; start = refl; consumers = refl; forgotten = h.forgotten }) (matches_stay i.geometry played commands.Close lines (entries_of s) (λ g ranges. refl) h.matches) h
 
-pub limit_line : (i : Identity) (start readers : ℕ) (played : List Played) (lines : List LineContent) (s t : ScriptState) → IsSound i start readers played s → Limits s lines t → IsSound i start readers (and_line played commands.Limit lines) t
-limit_line i start readers played lines s t h m =
+pub limit_line : (i : Identity) (start readers only : ℕ) (played : List Played) (lines : List LineContent) (s t : ScriptState) → IsSound i start readers only played s → Limits s lines t → IsSound i start readers only (and_line played commands.Limit lines) t
+limit_line i start readers only played lines s t h m =
     let past = s.past ++ forgotten_below (clean_end s.log) s.log.entries in
     let l = cleaned_and_limited s.log in
     let entries : past ++ l.entries ≡ entries_of s = limit_entries s.past s.log m.legal in
-    subst (λ x. IsSound i start readers (and_line played commands.Limit lines) x) (sym m.new_is)
-    (log_line i start readers played commands.Limit lines s past l (record { joins = λ k. refl; polls = λ k. refl; reads = λ k. refl }) (record { goes = limits s m.legal h.consumers; identity = refl; start = refl; consumers = refl })
+    subst (λ x. IsSound i start readers only (and_line played commands.Limit lines) x) (sym m.new_is)
+    (log_line i start readers only played commands.Limit lines s past l (record { joins = λ k. refl; polls = λ k. refl; reads = λ k. refl }) (record { goes = limits (lone only s) m.legal h.consumers; identity = refl; start = refl; consumers = refl; forgotten = limit_forgotten s m.legal h.consumers h.forgotten })
     (matches_stay i.geometry played commands.Limit lines (past ++ l.entries) (λ g ranges. refl) (subst (λ es. Matches es (visible.published i.geometry played)) (sym entries) h.matches)) h)
 
 -- ---- an offer or a claim
 
 -- the log turns to its next term, or not
-turned_next : (s : ScriptState) (l : Stream) → IsLogNext s s.past l → IsLogNext s s.past (turned l)
-turned_next s l n = record {
-  goes = subst (λ x. Goes (world_of s) (record (world_of s) { log = x })) (sym (turned_same (model_log s.past s.readers) (λ k x. refl) l)) n.goes;
+turned_next : (only : ℕ) (s : ScriptState) (l : Stream) → IsLogNext only s s.past l → IsLogNext only s s.past (turned l)
+turned_next only s l n = record {
+  goes = subst (λ x. Goes (world_of (lone only s)) (record (world_of (lone only s)) { log = x })) (sym (turned_same (model_log s.past s.readers) (λ k x. refl) l)) n.goes;
   identity = turned_same (λ k. k.identity) (λ k x. refl) l ∙ n.identity;
   start = turned_same (λ k. k.start) (λ k x. refl) l ∙ n.start;
   consumers = turned_same (λ k. k.consumers) (λ k x. refl) l ∙ n.consumers;
+  forgotten = subst (λ c. AllByRecursion (λ e. e.start < c) s.past) (sym (turned_same (λ k. k.cleaned) (λ k x. refl) l)) n.forgotten;
 }
 
 turned_entries : (l : Stream) → (turned l).entries ≡ l.entries
 turned_entries l = turned_same (λ k. k.entries) (λ k x. refl) l
 
 -- what the line says of a course, where the log becomes this one if it fits
-record FitsSo (i : Identity) (played : List Played) (s : ScriptState) (fitting : Stream) (command : CommandContent) (lines : List LineContent) : Type 0 where
-  next : IsLogNext s s.past fitting
+record FitsSo (i : Identity) (only : ℕ) (played : List Played) (s : ScriptState) (fitting : Stream) (command : CommandContent) (lines : List LineContent) : Type 0 where
+  next : IsLogNext only s s.past fitting
   matches : Matches (s.past ++ fitting.entries) (visible.published i.geometry (and_line played command lines))
 
-abbrev Said : Identity → List Played → ScriptState → Stream → CommandContent → List LineContent → OfferCase → Type 0
-Said i played s fitting command lines Fits = FitsSo i played s fitting command lines
-Said i played s fitting command lines other = SaysNoRange command lines
+abbrev Said : Identity → ℕ → List Played → ScriptState → Stream → CommandContent → List LineContent → OfferCase → Type 0
+Said i only played s fitting command lines Fits = FitsSo i only played s fitting command lines
+Said i only played s fitting command lines other = SaysNoRange command lines
 
 -- who adds, and how much
 record MayAdd (l : Stream) (by size : ℕ) : Type 0 where
@@ -147,33 +137,34 @@ record MayAdd (l : Stream) (by size : ℕ) : Type 0 where
   publisher : by < 8
   short : size ≤ max_message l.identity.geometry
 
-taken_line : Laws → (i : Identity) (start readers : ℕ) (played : List Played) (s : ScriptState) (by size : ℕ) (fitting : Stream) (command : CommandContent) (lines : List LineContent) (c : OfferCase) → Begins i start → IsQuiet command lines → IsSound i start readers played s → MayAdd s.log by size → case_of s.log size ≡ c → Said i played s fitting command lines c → IsSound i start readers (and_line played command lines) (with_log s (after s.log by c fitting))
-taken_line laws i start readers played s by size fitting command lines IsClosed b quiet h may e none = same_state i start readers played command lines s s quiet none refl h
-taken_line laws i start readers played s by size fitting command lines IsStale b quiet h may e none = same_state i start readers played command lines s s quiet none refl h
-taken_line laws i start readers played s by size fitting command lines IsLimited b quiet h may e none = same_state i start readers played command lines s s quiet none refl h
-taken_line laws i start readers played s by size fitting command lines IsUsedUp b quiet h may e none =
+taken_line : Laws → (i : Identity) (start readers only : ℕ) (played : List Played) (s : ScriptState) (by size : ℕ) (fitting : Stream) (command : CommandContent) (lines : List LineContent) (c : OfferCase) → Begins i start → IsQuiet command lines → IsSound i start readers only played s → MayAdd s.log by size → case_of s.log size ≡ c → Said i only played s fitting command lines c → IsSound i start readers only (and_line played command lines) (with_log s (after s.log by c fitting))
+taken_line laws i start readers only played s by size fitting command lines IsClosed b quiet h may e none = same_state i start readers only played command lines s s quiet none refl h
+taken_line laws i start readers only played s by size fitting command lines IsStale b quiet h may e none = same_state i start readers only played command lines s s quiet none refl h
+taken_line laws i start readers only played s by size fitting command lines IsLimited b quiet h may e none = same_state i start readers only played command lines s s quiet none refl h
+taken_line laws i start readers only played s by size fitting command lines IsUsedUp b quiet h may e none =
     let l = turned s.log in
     let same : entries_of (with_log s l) ≡ entries_of s = ap (λ es. s.past ++ es) (turned_entries s.log) in
-    log_line i start readers played command lines s s.past l quiet (turned_next s s.log (record { goes = stays (world_of s) (world_of s) refl; identity = refl; start = refl; consumers = refl }))
+    log_line i start readers only played command lines s s.past l quiet (turned_next only s s.log (record { goes = stays (world_of (lone only s)) (world_of (lone only s)) refl; identity = refl; start = refl; consumers = refl; forgotten = h.forgotten }))
     (matches_stay i.geometry played command lines (entries_of (with_log s l)) none (subst (λ es. Matches es (visible.published i.geometry played)) (sym same) h.matches)) h
-taken_line laws i start readers played s by size fitting command lines Fits b quiet h may e says = log_line i start readers played command lines s s.past fitting quiet says.next says.matches h
-taken_line laws i start readers played s by size fitting command lines Trips b quiet h may e none =
+taken_line laws i start readers only played s by size fitting command lines Fits b quiet h may e says = log_line i start readers only played command lines s s.past fitting quiet says.next says.matches h
+taken_line laws i start readers only played s by size fitting command lines Trips b quiet h may e none =
     let n = room s.log in
     let l = with_padding s.log by n in
     let one = trips_one s.past s.readers s.log by size may.legal may.publisher may.short e in
-    let next : IsLogNext s s.past l = record {
-      goes = trips s by size n l.tail (holds laws i start readers played s b h) one refl;
+    let next : IsLogNext only s s.past l = record {
+      goes = trips (lone only s) by size n l.tail (holds laws i start readers only played s b h) one refl;
       identity = refl;
       start = refl;
       consumers = refl;
+      forgotten = h.forgotten;
     } in
     let entries : s.past ++ (turned l).entries ≡ entries_of s ++ padded s.log.tail by n ∷ [] = ap (λ es. s.past ++ es) (turned_entries l) ∙ sym (append_assoc s.past s.log.entries (padded s.log.tail by n ∷ [])) in
-    log_line i start readers played command lines s s.past (turned l) quiet (turned_next s l next)
+    log_line i start readers only played command lines s s.past (turned l) quiet (turned_next only s l next)
     (matches_stay i.geometry played command lines (s.past ++ (turned l).entries) none (subst (λ es. Matches es (visible.published i.geometry played)) (sym entries) (matches_padding (entries_of s) (visible.published i.geometry played) (padded s.log.tail by n) refl h.matches))) h
 
 -- one entry and its range more
-added_matches : (i : Identity) (start readers : ℕ) (played : List Played) (s : ScriptState) (command : CommandContent) (lines : List LineContent) (e : Entry) (r : Range) → ((ranges : List Range) → ranges_after i.geometry ranges command lines ≡ ranges ++ r ∷ []) → SameRange e r → IsSound i start readers played s → Matches (s.past ++ (s.log.entries ++ e ∷ [])) (visible.published i.geometry (and_line played command lines))
-added_matches i start readers played s command lines e r line same h =
+added_matches : (i : Identity) (start readers only : ℕ) (played : List Played) (s : ScriptState) (command : CommandContent) (lines : List LineContent) (e : Entry) (r : Range) → ((ranges : List Range) → ranges_after i.geometry ranges command lines ≡ ranges ++ r ∷ []) → SameRange e r → IsSound i start readers only played s → Matches (s.past ++ (s.log.entries ++ e ∷ [])) (visible.published i.geometry (and_line played command lines))
+added_matches i start readers only played s command lines e r line same h =
     let ranges = visible.published i.geometry played in
     subst (λ es. Matches es (visible.published i.geometry (and_line played command lines))) (append_assoc s.past s.log.entries (e ∷ []))
     (subst (Matches (entries_of s ++ e ∷ [])) (sym (published_more i.geometry played command lines ∙ line ranges)) (matches_more (entries_of s) ranges e r same h.matches))
@@ -191,44 +182,45 @@ offers_none command m line lines is none e g ranges =
 abbrev offered_log : Stream → ℕ → List ℕ → Stream
 offered_log l by m = with_message l by m
 
-offer_fits : Laws → (i : Identity) (start readers : ℕ) (played : List Played) (s : ScriptState) (by : ℕ) (m : List ℕ) (command : CommandContent) (lines : List LineContent) → Begins i start → OffersIt command m → IsSound i start readers played s → MayOffer s.log by m → case_of s.log (length m) ≡ Fits → lines ≡ Position (s.log.tail + covered s.log (length m)) ∷ [] → FitsSo i played s (offered_log s.log by m) command lines
-offer_fits laws i start readers played s by m command lines b is h may e line =
+offer_fits : Laws → (i : Identity) (start readers only : ℕ) (played : List Played) (s : ScriptState) (by : ℕ) (m : List ℕ) (command : CommandContent) (lines : List LineContent) → Begins i start → OffersIt command m → IsSound i start readers only played s → MayOffer s.log by m → case_of s.log (length m) ≡ Fits → lines ≡ Position (s.log.tail + covered s.log (length m)) ∷ [] → FitsSo i only played s (offered_log s.log by m) command lines
+offer_fits laws i start readers only played s by m command lines b is h may e line =
     let g = s.log.identity.geometry in
     let end = s.log.tail + covered s.log (length m) in
     let same : g ≡ i.geometry = ap (λ (x : Identity). x.geometry) h.identity in
     let one = fits_one s.past s.readers s.log by (length m) may.legal may.publisher may.short e in
     record {
       next = record {
-        goes = offers s by m end (holds laws i start readers played s b h) one may.bytes refl;
+        goes = offers (lone only s) by m end (holds laws i start readers only played s b h) one may.bytes refl;
         identity = refl;
         start = refl;
         consumers = refl;
+        forgotten = h.forgotten;
       };
-      matches = added_matches i start readers played s command lines (published g s.log.tail by m) (offered_at g m end)
+      matches = added_matches i start readers only played s command lines (published g s.log.tail by m) (offered_at g m end)
           (λ ranges. is i.geometry ranges lines ∙ ap (λ ls. ranges ++ flat_map (offers_in i.geometry m) ls) line ∙ ap (λ x. ranges ++ offered_at x m end ∷ []) (sym same))
-          (same_offered g s.log.tail by m end h.sending.legal refl) h;
+          (same_offered g s.log.tail by m end may.legal.geometry refl) h;
     }
 
-record OfferSays (i : Identity) (played : List Played) (s : ScriptState) (by : ℕ) (m : List ℕ) (command : CommandContent) (lines : List LineContent) (c : OfferCase) (t : ScriptState) : Type 0 where
-  said : Said i played s (offered_log s.log by m) command lines c
+record OfferSays (i : Identity) (only : ℕ) (played : List Played) (s : ScriptState) (by : ℕ) (m : List ℕ) (command : CommandContent) (lines : List LineContent) (c : OfferCase) (t : ScriptState) : Type 0 where
+  said : Said i only played s (offered_log s.log by m) command lines c
   after : t ≡ with_log s (after_offer s.log by m)
 
-offer_says : Laws → (i : Identity) (start readers : ℕ) (played : List Played) (s t : ScriptState) (by : ℕ) (m : List ℕ) (command : CommandContent) (lines : List LineContent) (c : OfferCase) → Begins i start → OffersIt command m → IsSound i start readers played s → MayOffer s.log by m → case_of s.log (length m) ≡ c → Offered s by m (answer s.log (length m) c) lines t → OfferSays i played s by m command lines c t
-offer_says laws i start readers played s t by m command lines IsClosed b is h may e o = record { said = offers_none command m _ lines is (λ g. refl) o.0; after = o.1 }
-offer_says laws i start readers played s t by m command lines IsStale b is h may e o = record { said = offers_none command m _ lines is (λ g. refl) o.0; after = o.1 }
-offer_says laws i start readers played s t by m command lines IsUsedUp b is h may e o = record { said = offers_none command m _ lines is (λ g. refl) o.0; after = o.1 }
-offer_says laws i start readers played s t by m command lines IsLimited b is h may e o = record { said = offers_none command m _ lines is (λ g. refl) o.0; after = o.1 }
-offer_says laws i start readers played s t by m command lines Fits b is h may e o = record { said = offer_fits laws i start readers played s by m command lines b is h may e o.0; after = o.1 }
-offer_says laws i start readers played s t by m command lines Trips b is h may e o = record { said = offers_none command m _ lines is (λ g. refl) o.0; after = o.1 }
+offer_says : Laws → (i : Identity) (start readers only : ℕ) (played : List Played) (s t : ScriptState) (by : ℕ) (m : List ℕ) (command : CommandContent) (lines : List LineContent) (c : OfferCase) → Begins i start → OffersIt command m → IsSound i start readers only played s → MayOffer s.log by m → case_of s.log (length m) ≡ c → Offered s by m (answer s.log (length m) c) lines t → OfferSays i only played s by m command lines c t
+offer_says laws i start readers only played s t by m command lines IsClosed b is h may e o = record { said = offers_none command m _ lines is (λ g. refl) o.0; after = o.1 }
+offer_says laws i start readers only played s t by m command lines IsStale b is h may e o = record { said = offers_none command m _ lines is (λ g. refl) o.0; after = o.1 }
+offer_says laws i start readers only played s t by m command lines IsUsedUp b is h may e o = record { said = offers_none command m _ lines is (λ g. refl) o.0; after = o.1 }
+offer_says laws i start readers only played s t by m command lines IsLimited b is h may e o = record { said = offers_none command m _ lines is (λ g. refl) o.0; after = o.1 }
+offer_says laws i start readers only played s t by m command lines Fits b is h may e o = record { said = offer_fits laws i start readers only played s by m command lines b is h may e o.0; after = o.1 }
+offer_says laws i start readers only played s t by m command lines Trips b is h may e o = record { said = offers_none command m _ lines is (λ g. refl) o.0; after = o.1 }
 
-pub offer_line : Laws → (i : Identity) (start readers : ℕ) (played : List Played) (s t : ScriptState) (by most size : ℕ) (m : List ℕ) (command : CommandContent) (lines : List LineContent) → Begins i start → IsQuiet command lines → OffersIt command m → IsSound i start readers played s → MayNotTake s by most size lines t ⊎ OffersMessage s by m lines t → IsSound i start readers (and_line played command lines) t
-offer_line laws i start readers played s t by most size m command lines b quiet is h (inl bad) =
-    same_state i start readers played command lines s t quiet (offers_none command m Bad lines is (λ g. refl) bad.1.0) bad.1.1 h
-offer_line laws i start readers played s t by most size m command lines b quiet is h (inr o) =
+pub offer_line : Laws → (i : Identity) (start readers only : ℕ) (played : List Played) (s t : ScriptState) (by most size : ℕ) (m : List ℕ) (command : CommandContent) (lines : List LineContent) → Begins i start → IsQuiet command lines → OffersIt command m → IsSound i start readers only played s → MayNotTake s by most size lines t ⊎ OffersMessage s by m lines t → IsSound i start readers only (and_line played command lines) t
+offer_line laws i start readers only played s t by most size m command lines b quiet is h (inl bad) =
+    same_state i start readers only played command lines s t quiet (offers_none command m Bad lines is (λ g. refl) bad.1.0) bad.1.1 h
+offer_line laws i start readers only played s t by most size m command lines b quiet is h (inr o) =
     let c = case_of s.log (length m) in
-    let says = offer_says laws i start readers played s t by m command lines c b is h o.0 refl o.2 in
-    subst (λ x. IsSound i start readers (and_line played command lines) x) (sym says.after)
-    (taken_line laws i start readers played s by (length m) (offered_log s.log by m) command lines c b quiet h (record { legal = o.0.legal; publisher = o.0.publisher; short = o.0.short }) refl says.said)
+    let says = offer_says laws i start readers only played s t by m command lines c b is h o.0 refl o.2 in
+    subst (λ x. IsSound i start readers only (and_line played command lines) x) (sym says.after)
+    (taken_line laws i start readers only played s by (length m) (offered_log s.log by m) command lines c b quiet h (record { legal = o.0.legal; publisher = o.0.publisher; short = o.0.short }) refl says.said)
 
 -- ---- a claim
 
@@ -238,48 +230,49 @@ claims_none by size line lines none e g ranges = ap (λ ls. ranges ++ flat_map (
 abbrev claimed_log : Stream → ℕ → ℕ → Stream
 claimed_log l by size = with_claim l by size
 
-claim_fits : (i : Identity) (start readers : ℕ) (played : List Played) (s : ScriptState) (by size : ℕ) (lines : List LineContent) → IsSound i start readers played s → MayClaimRange s.log by size → case_of s.log size ≡ Fits → lines ≡ content.Claimed s.log.tail (s.log.tail + covered s.log size) ∷ [] → FitsSo i played s (claimed_log s.log by size) (commands.Claim by size) lines
-claim_fits i start readers played s by size lines h may e line =
+claim_fits : (i : Identity) (start readers only : ℕ) (played : List Played) (s : ScriptState) (by size : ℕ) (lines : List LineContent) → IsSound i start readers only played s → MayClaimRange s.log by size → case_of s.log size ≡ Fits → lines ≡ content.Claimed s.log.tail (s.log.tail + covered s.log size) ∷ [] → FitsSo i only played s (claimed_log s.log by size) (commands.Claim by size) lines
+claim_fits i start readers only played s by size lines h may e line =
     let g = s.log.identity.geometry in
     let end = s.log.tail + covered s.log size in
-    let short : size ≤ max_message g = message_short g size h.sending.legal may.short in
+    let short : size ≤ max_message g = message_short g size may.legal.geometry may.short in
     let one = fits_one s.past s.readers s.log by size may.legal may.publisher short e in
     let cuts : cuts_of g size ≡ (size + 32) ∷ [] = short_cuts g size may.short in
     let covers : covered s.log size ≡ aligned (size + 32) = cond-true (nat_le size (max_payload g)) (aligned (size + 32)) (size / max_payload g * g.mtu + rest_length (size % max_payload g)) (le-leb size (max_payload g) may.short) in
     record {
       next = record {
-        goes = claims s by size false (cuts_of g size) end one (ap (λ n. s.log.tail + n) (sym (covers_framed g size may.legal.geometry)));
+        goes = claims (lone only s) by size false (cuts_of g size) end one (ap (λ n. s.log.tail + n) (sym (covers_framed g size may.legal.geometry)));
         identity = refl;
         start = refl;
         consumers = refl;
+        forgotten = h.forgotten;
       };
-      matches = added_matches i start readers played s (commands.Claim by size) lines (claim_of g s.log.tail by false size) (claimed_at s.log.tail end size)
+      matches = added_matches i start readers only played s (commands.Claim by size) lines (claim_of g s.log.tail by false size) (claimed_at s.log.tail end size)
           (λ ranges. ap (λ ls. ranges ++ flat_map (claims_in size) ls) line)
           (subst (λ xs. SameRange (open_entry s.log.tail by false xs []) (claimed_at s.log.tail end size)) (sym cuts) (same_claimed s.log.tail by size end (ap (λ n. s.log.tail + n) covers))) h;
     }
 
-record ClaimSays (i : Identity) (played : List Played) (s : ScriptState) (by size : ℕ) (lines : List LineContent) (c : OfferCase) (t : ScriptState) : Type 0 where
-  said : Said i played s (claimed_log s.log by size) (commands.Claim by size) lines c
+record ClaimSays (i : Identity) (only : ℕ) (played : List Played) (s : ScriptState) (by size : ℕ) (lines : List LineContent) (c : OfferCase) (t : ScriptState) : Type 0 where
+  said : Said i only played s (claimed_log s.log by size) (commands.Claim by size) lines c
   after : t ≡ with_log s (after_claim s.log by size)
 
-claim_says : (i : Identity) (start readers : ℕ) (played : List Played) (s t : ScriptState) (by size : ℕ) (lines : List LineContent) (c : OfferCase) → IsSound i start readers played s → MayClaimRange s.log by size → case_of s.log size ≡ c → Claims s by size (answer s.log size c) lines t → ClaimSays i played s by size lines c t
-claim_says i start readers played s t by size lines IsClosed h may e o = record { said = claims_none by size _ lines refl o.0; after = o.1 }
-claim_says i start readers played s t by size lines IsStale h may e o = record { said = claims_none by size _ lines refl o.0; after = o.1 }
-claim_says i start readers played s t by size lines IsUsedUp h may e o = record { said = claims_none by size _ lines refl o.0; after = o.1 }
-claim_says i start readers played s t by size lines IsLimited h may e o = record { said = claims_none by size _ lines refl o.0; after = o.1 }
-claim_says i start readers played s t by size lines Fits h may e o = record { said = claim_fits i start readers played s by size lines h may e o.0; after = o.1 }
-claim_says i start readers played s t by size lines Trips h may e o = record { said = claims_none by size _ lines refl o.0; after = o.1 }
+claim_says : (i : Identity) (start readers only : ℕ) (played : List Played) (s t : ScriptState) (by size : ℕ) (lines : List LineContent) (c : OfferCase) → IsSound i start readers only played s → MayClaimRange s.log by size → case_of s.log size ≡ c → Claims s by size (answer s.log size c) lines t → ClaimSays i only played s by size lines c t
+claim_says i start readers only played s t by size lines IsClosed h may e o = record { said = claims_none by size _ lines refl o.0; after = o.1 }
+claim_says i start readers only played s t by size lines IsStale h may e o = record { said = claims_none by size _ lines refl o.0; after = o.1 }
+claim_says i start readers only played s t by size lines IsUsedUp h may e o = record { said = claims_none by size _ lines refl o.0; after = o.1 }
+claim_says i start readers only played s t by size lines IsLimited h may e o = record { said = claims_none by size _ lines refl o.0; after = o.1 }
+claim_says i start readers only played s t by size lines Fits h may e o = record { said = claim_fits i start readers only played s by size lines h may e o.0; after = o.1 }
+claim_says i start readers only played s t by size lines Trips h may e o = record { said = claims_none by size _ lines refl o.0; after = o.1 }
 
-pub claim_line : Laws → (i : Identity) (start readers : ℕ) (played : List Played) (s t : ScriptState) (by most size : ℕ) (lines : List LineContent) → Begins i start → IsSound i start readers played s → MayNotTake s by most size lines t ⊎ ClaimsRange s by size lines t → IsSound i start readers (and_line played (commands.Claim by size) lines) t
-claim_line laws i start readers played s t by most size lines b h (inl bad) =
-    same_state i start readers played (commands.Claim by size) lines s t (record { joins = λ k. refl; polls = λ k. refl; reads = λ k. refl }) (claims_none by size Bad lines refl bad.1.0) bad.1.1 h
-claim_line laws i start readers played s t by most size lines b h (inr o) =
+pub claim_line : Laws → (i : Identity) (start readers only : ℕ) (played : List Played) (s t : ScriptState) (by most size : ℕ) (lines : List LineContent) → Begins i start → IsSound i start readers only played s → MayNotTake s by most size lines t ⊎ ClaimsRange s by size lines t → IsSound i start readers only (and_line played (commands.Claim by size) lines) t
+claim_line laws i start readers only played s t by most size lines b h (inl bad) =
+    same_state i start readers only played (commands.Claim by size) lines s t (record { joins = λ k. refl; polls = λ k. refl; reads = λ k. refl }) (claims_none by size Bad lines refl bad.1.0) bad.1.1 h
+claim_line laws i start readers only played s t by most size lines b h (inr o) =
     let c = case_of s.log size in
     let command = commands.Claim by size in
-    let says = claim_says i start readers played s t by size lines c h o.0 refl o.2 in
-    let short : size ≤ max_message s.log.identity.geometry = message_short s.log.identity.geometry size h.sending.legal o.0.short in
-    subst (λ x. IsSound i start readers (and_line played command lines) x) (sym says.after)
-    (taken_line laws i start readers played s by size (claimed_log s.log by size) command lines c b (record { joins = λ k. refl; polls = λ k. refl; reads = λ k. refl }) h (record { legal = o.0.legal; publisher = o.0.publisher; short = short }) refl says.said)
+    let says = claim_says i start readers only played s t by size lines c h o.0 refl o.2 in
+    let short : size ≤ max_message s.log.identity.geometry = message_short s.log.identity.geometry size o.0.legal.geometry o.0.short in
+    subst (λ x. IsSound i start readers only (and_line played command lines) x) (sym says.after)
+    (taken_line laws i start readers only played s by size (claimed_log s.log by size) command lines c b (record { joins = λ k. refl; polls = λ k. refl; reads = λ k. refl }) h (record { legal = o.0.legal; publisher = o.0.publisher; short = short }) refl says.said)
 
 -- ---- a claim's commit or abort
 
@@ -364,14 +357,14 @@ aborts_claim s by c holds k =
 bad_commit : (by : ℕ) (lines : List LineContent) → lines ≡ Bad ∷ [] → SaysNoRange (commands.Commit by) lines
 bad_commit by lines e g ranges = ap (λ ls. fold filled_by ranges ls) e
 
-pub commit_line : Laws → (i : Identity) (start readers : ℕ) (played : List Played) (s t : ScriptState) (by : ℕ) (lines : List LineContent) → Begins i start → IsSound i start readers played s → HasNoClaim s by lines t ⊎ CommitsClaim s by lines t → IsSound i start readers (and_line played (commands.Commit by) lines) t
-commit_line laws i start readers played s t by lines b h (inl bad) =
-    same_state i start readers played (commands.Commit by) lines s t (record { joins = λ k. refl; polls = λ k. refl; reads = λ k. refl }) (bad_commit by lines bad.1.0) bad.1.1 h
-commit_line laws i start readers played s t by lines b h (inr m) =
+pub commit_line : Laws → (i : Identity) (start readers only : ℕ) (played : List Played) (s t : ScriptState) (by : ℕ) (lines : List LineContent) → Begins i start → IsSound i start readers only played s → HasNoClaim s by lines t ⊎ CommitsClaim s by lines t → IsSound i start readers only (and_line played (commands.Commit by) lines) t
+commit_line laws i start readers only played s t by lines b h (inl bad) =
+    same_state i start readers only played (commands.Commit by) lines s t (record { joins = λ k. refl; polls = λ k. refl; reads = λ k. refl }) (bad_commit by lines bad.1.0) bad.1.1 h
+commit_line laws i start readers only played s t by lines b h (inr m) =
     let c = m.0 in
     let command = commands.Commit by in
     let l = with_commit s.log by c (replicate c.size 97) in
-    let all = holds laws i start readers played s b h in
+    let all = holds laws i start readers only played s b h in
     let k = is_kept s by c m.1 in
     let ranges = visible.published i.geometry played in
     let line : visible.published i.geometry (and_line played command lines) ≡ map (filled_at (c.start + aligned (c.size + 32))) ranges = published_more i.geometry played command lines ∙ ap (λ ls. fold filled_by ranges ls) m.2 in
@@ -379,220 +372,24 @@ commit_line laws i start readers played s t by lines b h (inr m) =
     subst (λ es. Matches es (visible.published i.geometry (and_line played command lines))) (sym (committed_entries s by c all k))
     (subst (Matches (map (with_frame c.start (filling c)) (entries_of s))) (sym line)
     (matches_commit s.log.identity.geometry.term_length s.log.start s.log.tail (entries_of s) ranges c.start by c.size all.tiles all.entries k.among h.matches)) in
-    subst (λ x. IsSound i start readers (and_line played command lines) x) (sym m.3)
-    (log_line i start readers played command lines s s.past l (record { joins = λ k. refl; polls = λ k. refl; reads = λ k. refl }) (record { goes = commits_claim s by c all k; identity = refl; start = refl; consumers = refl }) matches h)
+    subst (λ x. IsSound i start readers only (and_line played command lines) x) (sym m.3)
+    (log_line i start readers only played command lines s s.past l (record { joins = λ k. refl; polls = λ k. refl; reads = λ k. refl }) (record { goes = commits_claim (lone only s) by c all (record { kept = k.kept; among = k.among }); identity = refl; start = refl; consumers = refl; forgotten = h.forgotten }) matches h)
 
-pub abort_line : Laws → (i : Identity) (start readers : ℕ) (played : List Played) (s t : ScriptState) (by : ℕ) (lines : List LineContent) → Begins i start → IsSound i start readers played s → HasNoClaim s by lines t ⊎ AbortsClaim s by lines t → IsSound i start readers (and_line played (commands.Abort by) lines) t
-abort_line laws i start readers played s t by lines b h (inl bad) =
-    same_state i start readers played (commands.Abort by) lines s t (record { joins = λ k. refl; polls = λ k. refl; reads = λ k. refl }) (λ g ranges. refl) bad.1.1 h
-abort_line laws i start readers played s t by lines b h (inr m) =
+pub abort_line : Laws → (i : Identity) (start readers only : ℕ) (played : List Played) (s t : ScriptState) (by : ℕ) (lines : List LineContent) → Begins i start → IsSound i start readers only played s → HasNoClaim s by lines t ⊎ AbortsClaim s by lines t → IsSound i start readers only (and_line played (commands.Abort by) lines) t
+abort_line laws i start readers only played s t by lines b h (inl bad) =
+    same_state i start readers only played (commands.Abort by) lines s t (record { joins = λ k. refl; polls = λ k. refl; reads = λ k. refl }) (λ g ranges. refl) bad.1.1 h
+abort_line laws i start readers only played s t by lines b h (inr m) =
     let c = m.0 in
     let command = commands.Abort by in
     let l = with_abort s.log by c in
-    let all = holds laws i start readers played s b h in
+    let all = holds laws i start readers only played s b h in
     let k = is_kept s by c m.1 in
     let ranges = visible.published i.geometry played in
     let matches : Matches (s.past ++ l.entries) ranges =
     subst (λ es. Matches es ranges) (sym (aborted_entries s by c all k))
     (matches_abort s.log.identity.geometry.term_length s.log.start s.log.tail (entries_of s) ranges c.start by c.size all.tiles all.entries k.among h.matches) in
-    subst (λ x. IsSound i start readers (and_line played command lines) x) (sym m.3)
-    (log_line i start readers played command lines s s.past l (record { joins = λ k. refl; polls = λ k. refl; reads = λ k. refl }) (record { goes = aborts_claim s by c all k; identity = refl; start = refl; consumers = refl }) (matches_stay i.geometry played command lines (s.past ++ l.entries) (λ g rs. refl) matches) h)
+    subst (λ x. IsSound i start readers only (and_line played command lines) x) (sym m.3)
+    (log_line i start readers only played command lines s s.past l (record { joins = λ k. refl; polls = λ k. refl; reads = λ k. refl }) (record { goes = aborts_claim (lone only s) by c all (record { kept = k.kept; among = k.among }); identity = refl; start = refl; consumers = refl; forgotten = h.forgotten }) (matches_stay i.geometry played command lines (s.past ++ l.entries) (λ g rs. refl) matches) h)
 
--- ---- the sender
-
--- another sender with its packets, which sent and named no less, and no position above the end of the stream
-record IsSenderNext (i : Identity) (s t : ScriptState) (x : Sender) (wires : List Wire) : Type 0 where
-  goes : Goes (world_of s) (world_of t)
-  more : (p : Placed) → Among p s.sender.sent → Among p x.sent
-  named : (p : ℕ) → Among p s.sender.setups → Among p x.setups
-  given : AllByRecursion (λ w. IsGivenOut i x.sent x.setups w) wires
-  frames : AreFrames wires
-  unit : x.at % 32 ≡ 0
-  sent : AllByRecursion (λ p. p.at ≤ max_position i.geometry) x.sent
-  setups : AllByRecursion (λ p. p ≤ max_position i.geometry) x.setups
-
--- the state with another sender, more packets, and what the sender remembers of its SETUPs
-abbrev sender_scene : ScriptState → Sender → Naming → List Wire → ScriptState
-sender_scene s x naming wires = record (given_out s wires) { log = record s.log { consumers = x.at ∷ map (λ c. c.at) s.readers }; sender = x; naming = naming }
-
-sender_line : (i : Identity) (start readers : ℕ) (played : List Played) (command : CommandContent) (lines : List LineContent) (s : ScriptState) (x : Sender) (naming : Naming) (wires : List Wire) → IsQuiet command lines → SaysNoRange command lines → IsSenderNext i s (sender_scene s x naming wires) x wires → IsSound i start readers played s → IsSound i start readers (and_line played command lines) (sender_scene s x naming wires)
-sender_line i start readers played command lines s x naming wires quiet none n h =
-    let t = sender_scene s x naming wires in
-    record {
-      runs = goes_on (world_of (opened_state i start readers)) (world_of s) (world_of t) h.runs n.goes;
-      identity = h.identity;
-      start_is = h.start_is;
-      consumers = refl;
-      unit = n.unit;
-      sending = record {
-        legal = h.sending.legal;
-        sent = subst (λ y. AllByRecursion (λ p. p.at ≤ max_position y.geometry) x.sent) (sym h.identity) n.sent;
-        setups = subst (λ y. AllByRecursion (λ p. p ≤ max_position y.geometry) x.setups) (sym h.identity) n.setups;
-      };
-      honest = all_append (IsHonest i x) s.packets (datagrams wires) (honest_more i s.sender x s.packets n.more n.named h.honest) (honest_wires i x wires n.frames n.given);
-      matches = matches_stay i.geometry played command lines (entries_of s) none h.matches;
-      eight = h.eight;
-      receivers = receivers_stay i played command lines s t (λ k. (quiet.joins k, quiet.polls k)) refl h.receivers;
-      seats = h.seats;
-      reading = readers_stay start readers played command lines s t quiet.reads refl h.reading;
-    }
-
-low_at : Laws → (i : Identity) (start readers : ℕ) (played : List Played) (s : ScriptState) → Begins i start → IsSound i start readers played s → s.sender.at ≤ max_position i.geometry
-low_at laws i start readers played s b h = omega (arith, tail_low laws i start readers played s b h, sender_below laws i start readers s b h.runs)
-
-sent_unit : (x : Sender) (limit : ℕ) (frames : List Placed) (frame : Option Placed) → IsNextSent frames x.at limit frame → x.at % 32 ≡ 0 → (sent_on x frame).at % 32 ≡ 0
-sent_unit x limit frames None next unit = unit
-sent_unit x limit frames (Some s) next unit = omega (arith, unit, next.1)
-
-sent_low : (x : Sender) (limit most : ℕ) (frames : List Placed) (frame : Option Placed) → IsNextSent frames x.at limit frame → x.at ≤ most → AllByRecursion (λ p. p.at ≤ most) x.sent → AllByRecursion (λ p. p.at ≤ most) (sent_on x frame).sent
-sent_low x limit most frames None next low all = all
-sent_low x limit most frames (Some s) next low all = (omega (arith, low, next.1), all)
-
-named_low : (x : Sender) (due : Bool) (most : ℕ) → x.at ≤ most → AllByRecursion (λ p. p ≤ most) x.setups → AllByRecursion (λ p. p ≤ most) (named x due).setups
-named_low x true most low all = (low, all)
-named_low x false most low all = all
-
-named_sent : (x : Sender) (due : Bool) → (named x due).sent ≡ x.sent
-named_sent x true = refl
-named_sent x false = refl
-
--- ---- what goes out is of the grammar
-
-offset_low : (g : Geometry) (p : ℕ) → 0 < g.term_length → (place_of g p).offset ≤ g.term_length
-offset_low g p some =
-    ⊎_elim
-    (λ (t : nat_le (max_position g) p ≡ true). omega (arith, ap (λ (x : Place). x.offset) (cond-true (nat_le (max_position g) p) (record { count = 2147483647; offset = g.term_length }) (record { count = p / g.term_length; offset = p % g.term_length }) t)))
-    (λ (f : nat_le (max_position g) p ≡ false). omega (arith, ap (λ (x : Place). x.offset) (cond-false (nat_le (max_position g) p) (record { count = 2147483647; offset = g.term_length }) (record { count = p / g.term_length; offset = p % g.term_length }) f), mod-lt p some))
-    (cases_Bool (nat_le (max_position g) p))
-
-small : (n : ℕ) → n < 2147483648 → FitsSigned w32 (pos n)
-small n h = record { sfits = omega (arith, h) }
-
-setup_framed : (i : Identity) (p : ℕ) → IsGeometry i.geometry → IsIdentity i → IsFrame (setup_at i p)
-setup_framed i p legal is =
-    let g = i.geometry in
-    let offset : (place_of g p).offset ≤ g.term_length = offset_low g p (omega (arith, legal.term.least)) in (
-      small (place_of g p).offset (omega (arith, offset, legal.term.greatest)),
-      is.session,
-      is.stream,
-      legal.initial,
-      to_z-Fits w32 ((cast_unsigned w32 g.initial_term_id + (place_of g p).count) % 2 ^ 32) (record { fits = omega arith }),
-      small g.term_length (omega (arith, legal.term.greatest)),
-      small g.mtu (omega (arith, legal.mtu.greatest)),
-      small 0 (omega arith),
-    )
-
-setups_framed : (i : Identity) (p : ℕ) (due : Bool) → IsGeometry i.geometry → IsIdentity i → AreFrames (setups i p due)
-setups_framed i p true legal is = (setup_framed i p legal is, tt)
-setups_framed i p false legal is = tt
-
--- it was sent, and each frame that was sent has a spelling
-frame_framed : (i : Identity) (x : Sender) (frame : Option Placed) → AllByRecursion (λ s. IsFrame (wire_at i s.at s.frame)) (sent_on x frame).sent → AreFrames (map (λ s. wire_at i s.at s.frame) (option_to_list frame))
-frame_framed i x None all = tt
-frame_framed i x (Some s) all = (all.0, tt)
-
-cycle_framed : Laws → (i : Identity) (start readers : ℕ) (s : ScriptState) (now : ℕ) (y : Cycle) → Begins i start → IsCycle s now y → Goes (world_of (opened_state i start readers)) (world_of s) → s.log.identity ≡ i → AreFrames (wires_of s y)
-cycle_framed laws i start readers s now y b c runs same =
-    let z = named (woken s now) y.setup in
-    let all = goes_on (world_of (opened_state i start readers)) (world_of s) (world_of (after_cycle s now y)) runs (cycles s now y c) in
-    let spelled = laws.spelled (world_of (opened_state i start readers)) (world_of (after_cycle s now y)) all.0 (opened i start readers b) all.1 in
-    let legal : IsGeometry s.log.identity.geometry = subst (λ k. IsGeometry k.geometry) (sym same) b.geometry in
-    all_append IsFrame (setups s.log.identity s.sender.at y.setup) (map (λ t. wire_at s.log.identity t.at t.frame) (option_to_list y.frame))
-    (setups_framed s.log.identity s.sender.at y.setup legal (subst IsIdentity (sym same) b.identity))
-    (frame_framed s.log.identity z y.frame spelled)
-
-cycle_next : Laws → (i : Identity) (start readers : ℕ) (played : List Played) (s : ScriptState) (now : ℕ) (y : Cycle) → Begins i start → IsSound i start readers played s → IsCycle s now y → AreFrames (wires_of s y) → IsSenderNext i s (after_cycle s now y) (cycled s now y) (wires_of s y)
-cycle_next laws i start readers played s now y b h c frames =
-    let z = woken s now in
-    let x = named z y.setup in
-    let most = max_position i.geometry in
-    let low : s.sender.at ≤ most = low_at laws i start readers played s b h in
-    let at : x.at ≡ s.sender.at = named_at z y.setup in
-    let next : IsNextSent (committed s.log.entries) x.at (limit_of s.log s.sender) y.frame = subst (λ p. IsNextSent (committed s.log.entries) p (limit_of s.log s.sender) y.frame) (sym at) c.1 in
-    let low_sent : AllByRecursion (λ p. p.at ≤ most) s.sender.sent = subst (λ k. AllByRecursion (λ p. p.at ≤ max_position k.geometry) s.sender.sent) h.identity h.sending.sent in
-    let low_setups : AllByRecursion (λ p. p ≤ most) s.sender.setups = subst (λ k. AllByRecursion (λ p. p ≤ max_position k.geometry) s.sender.setups) h.identity h.sending.setups in
-    record {
-      goes = cycles s now y c;
-      more = λ p a. sent_more z y.setup y.frame p a;
-      named = λ p a. named_more z y.setup y.frame p a;
-      given = subst (λ k. AllByRecursion (λ w. IsGivenOut k (cycled s now y).sent (cycled s now y).setups w) (wires_of s y)) h.identity (cycle_given s.log.identity z y);
-      frames = frames;
-      unit = sent_unit x (limit_of s.log s.sender) (committed s.log.entries) y.frame next (omega (arith, at, h.unit));
-      sent = sent_low x (limit_of s.log s.sender) most (committed s.log.entries) y.frame next (omega (arith, at, low)) (subst (λ xs. AllByRecursion (λ p. p.at ≤ most) xs) (sym (named_sent z y.setup)) low_sent);
-      setups = subst (λ xs. AllByRecursion (λ p. p ≤ most) xs) (sym (setups_on x y.frame)) (named_low z y.setup most low low_setups);
-    }
-
-pub send_line : Laws → (i : Identity) (start readers : ℕ) (played : List Played) (s t : ScriptState) (now : ℕ) (lines : List LineContent) → Begins i start → IsSound i start readers played s → Sends s now lines t → IsSound i start readers (and_line played (commands.Send now) lines) t
-send_line laws i start readers played s t now lines b h m =
-    let y = m.0 in
-    let frames = cycle_framed laws i start readers s now y b m.1 h.runs h.identity in
-    subst (λ x. IsSound i start readers (and_line played (commands.Send now) lines) x) (sym m.3)
-    (sender_line i start readers played (commands.Send now) lines s (cycled s now y) (after_due s.naming (clock_at s now)) (wires_of s y) (record { joins = λ k. refl; polls = λ k. refl; reads = λ k. refl }) (λ g ranges. refl) (cycle_next laws i start readers played s now y b h m.1 frames) h)
-
--- ---- what the sender is told
-
--- the sender stands where it stood
-told_scene : (s : ScriptState) (x : Sender) (naming : Naming) (wires : List Wire) → s.log.consumers ≡ x.at ∷ map (λ c. c.at) s.readers → sender_scene s x naming wires ≡ record (given_out s wires) { sender = x; naming = naming }
-told_scene s x naming wires one = ap (λ xs. record (given_out s wires) { log = record s.log { consumers = xs }; sender = x; naming = naming }) (sym one)
-
--- it has sent and named what it had
-record IsAsBefore (s : ScriptState) (x : Sender) : Type 0 where
-  at : x.at ≡ s.sender.at
-  sent : x.sent ≡ s.sender.sent
-  setups : x.setups ≡ s.sender.setups
-
-told_line : (i : Identity) (start readers : ℕ) (played : List Played) (k now : ℕ) (lines : List LineContent) (s : ScriptState) (x : Sender) (naming : Naming) → IsAsBefore s x → Goes (world_of s) (world_of (record s { sender = x })) → IsSound i start readers played s → IsSound i start readers (and_line played (commands.Reply k now) lines) (record s { sender = x; naming = naming })
-told_line i start readers played k now lines s x naming same goes h =
-    let t = record s { sender = x; naming = naming } in
-    record {
-      runs = goes_on (world_of (opened_state i start readers)) (world_of s) (world_of t) h.runs goes;
-      identity = h.identity;
-      start_is = h.start_is;
-      consumers = h.consumers ∙ ap (λ p. p ∷ map (λ c. c.at) s.readers) (sym same.at);
-      unit = omega (arith, same.at, h.unit);
-      sending = record {
-        legal = h.sending.legal;
-        sent = subst (λ xs. AllByRecursion (λ p. p.at ≤ max_position s.log.identity.geometry) xs) (sym same.sent) h.sending.sent;
-        setups = subst (λ xs. AllByRecursion (λ p. p ≤ max_position s.log.identity.geometry) xs) (sym same.setups) h.sending.setups;
-      };
-      honest = honest_more i s.sender x s.packets (λ p a. subst (λ xs. Among p xs) (sym same.sent) a) (λ p a. subst (λ xs. Among p xs) (sym same.setups) a) h.honest;
-      matches = matches_stay i.geometry played (commands.Reply k now) lines (entries_of s) (λ g ranges. refl) h.matches;
-      eight = h.eight;
-      receivers = receivers_stay i played (commands.Reply k now) lines s t (λ n. (refl, refl)) refl h.receivers;
-      seats = h.seats;
-      reading = readers_stay start readers played (commands.Reply k now) lines s t (λ n. refl) refl h.reading;
-    }
-
-asked_line : Laws → (i : Identity) (start readers : ℕ) (played : List Played) (k now : ℕ) (lines : List LineContent) (s : ScriptState) → Begins i start → IsSound i start readers played s → AreFrames (setup_at s.log.identity s.sender.at ∷ []) → IsSound i start readers (and_line played (commands.Reply k now) lines) (with_sender (given_out s (setup_at s.log.identity s.sender.at ∷ [])) (named (woken s now) true))
-asked_line laws i start readers played k now lines s b h frames =
-    let x = named (woken s now) true in
-    let wires = setup_at s.log.identity s.sender.at ∷ [] in
-    let low = low_at laws i start readers played s b h in
-    subst (λ t. IsSound i start readers (and_line played (commands.Reply k now) lines) t) (told_scene s x s.naming wires h.consumers)
-    (sender_line i start readers played (commands.Reply k now) lines s x s.naming wires (record { joins = λ n. refl; polls = λ n. refl; reads = λ n. refl }) (λ g ranges. refl) (record {
-      goes = asked s now;
-      more = λ p a. a;
-      named = λ p a. inr a;
-      given = ((s.sender.at, inl refl, ap (λ y. setup_fields y s.sender.at) h.identity), tt);
-      frames = frames;
-      unit = h.unit;
-      sent = subst (λ y. AllByRecursion (λ p. p.at ≤ max_position y.geometry) s.sender.sent) h.identity h.sending.sent;
-      setups = (low, subst (λ y. AllByRecursion (λ p. p ≤ max_position y.geometry) s.sender.setups) h.identity h.sending.setups);
-    }) h)
-
-hears_line : Laws → (i : Identity) (start readers : ℕ) (played : List Played) (k now : ℕ) (lines : List LineContent) (s t : ScriptState) (news : NewsContent) → Begins i start → IsSound i start readers played s → SenderHears s now news lines t → IsSound i start readers (and_line played (commands.Reply k now) lines) t
-hears_line laws i start readers played k now lines s t (Says f) b h m =
-    subst (λ x. IsSound i start readers (and_line played (commands.Reply k now) lines) x) (sym m.1) (told_line i start readers played k now lines s (heard s now f) (record s.naming { heard = true }) (record { at = refl; sent = refl; setups = refl }) (hears s now f) h)
-hears_line laws i start readers played k now lines s t AsksSetup b h m =
-    subst (λ x. IsSound i start readers (and_line played (commands.Reply k now) lines) x) (sym m.1) (asked_line laws i start readers played k now lines s b h (setup_framed s.log.identity s.sender.at h.sending.legal (subst IsIdentity (sym h.identity) b.identity), tt))
-hears_line laws i start readers played k now lines s t TellsNothing b h m =
-    subst (λ x. IsSound i start readers (and_line played (commands.Reply k now) lines) x) (sym m.1) (told_line i start readers played k now lines s (woken s now) s.naming (record { at = refl; sent = refl; setups = refl }) (sees (world_of s) now) h)
-hears_line laws i start readers played k now lines s t (Unreadable fault) b h m =
-    subst (λ x. IsSound i start readers (and_line played (commands.Reply k now) lines) x) (sym m.1) (told_line i start readers played k now lines s (woken s now) s.naming (record { at = refl; sent = refl; setups = refl }) (sees (world_of s) now) h)
-
-pub missing_line : (i : Identity) (start readers : ℕ) (played : List Played) (command : CommandContent) (k : ℕ) (lines : List LineContent) (s t : ScriptState) → IsQuiet command lines → SaysNoRange command lines → IsSound i start readers played s → IsMissing s k lines t → IsSound i start readers (and_line played command lines) t
-missing_line i start readers played command k lines s t quiet none h m = same_state i start readers played command lines s t quiet none m.2 h
-
-pub reply_line : Laws → (i : Identity) (start readers : ℕ) (played : List Played) (k now : ℕ) (lines : List LineContent) (s t : ScriptState) → Begins i start → IsSound i start readers played s → IsMissing s k lines t ⊎ Replied s k now lines t → IsSound i start readers (and_line played (commands.Reply k now) lines) t
-reply_line laws i start readers played k now lines s t b h (inl m) = missing_line i start readers played (commands.Reply k now) k lines s t (record { joins = λ n. refl; polls = λ n. refl; reads = λ n. refl }) (λ g ranges. refl) h m
-reply_line laws i start readers played k now lines s t b h (inr m) = hears_line laws i start readers played k now lines s t m.1 b h m.4
+pub missing_line : (i : Identity) (start readers only : ℕ) (played : List Played) (command : CommandContent) (k : ℕ) (lines : List LineContent) (s t : ScriptState) → IsQuiet command lines → SaysNoRange command lines → IsSound i start readers only played s → IsMissing s k lines t → IsSound i start readers only (and_line played command lines) t
+missing_line i start readers only played command k lines s t quiet none h m = same_state i start readers only played command lines s t quiet none m.2 h

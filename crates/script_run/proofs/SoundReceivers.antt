@@ -1,129 +1,184 @@
 -- Each line of a receiver leaves a sound state.
-use Rattle.std.proofs.Common.{◌≡◌, ◌⊎◌, ℕ, suc, ◌<◌, List, [], ◌∷◌, ◌++◌, map, Bool, true, false, cond, Some, inl, inr, refl, sym, ap, ◌∙◌, subst, arith, append-nil}
+use Rattle.std.proofs.Common.{◌≡◌, ◌⊎◌, ℕ, suc, ◌<◌, List, [], ◌∷◌, ◌++◌, map, Bool, true, false, cond, Some, inl, inr, ⊎_elim, refl, sym, ap, ◌∙◌, subst, arith, append-nil, append_assoc}
 use Rattle.std.specs.Prelude.{nat_eq, slice_get}
 use Rattle.std.specs.List.{AllByRecursion, flat_map}
-use Rattle.std.proofs.lemmas.Bool.{cond-true, cond-false, eq-eqb, ne_eqb}
-use Rattle.std.proofs.lemmas.List.{length-set}
+use Rattle.std.proofs.lemmas.Bool.{cases_eq, cond-true, cond-false, eq-eqb, ne_eqb}
+use Rattle.std.proofs.lemmas.List.{length-set, map-set, set-set}
 use Rattle.std.proofs.lemmas.Option.{slice_get_within}
 use Rattle.theory.specs.Bytes.{Identity}
+use Rattle.theory.specs.Wire.{Wire}
 use Rattle.theory.proofs.Lists.{all_append, all_get}
 use Rattle.script.specs.Meaning as commands
 use Rattle.script.specs.Meaning.{CommandContent}
 use Rattle.receiver.specs.declared.receiver_core.Outcome.{Outcome}
-use Rattle.receiver.specs.declared.receiver_core.Outcome.TheVariants as outcomes
-use Rattle.script_run.specs.Answers.{Delivered, IsMissing, PollsBy, TellsBy, Ticks, with_receiver}
-use Rattle.sender.specs.Cycling.{datagrams}
+use Rattle.script_run.specs.Answers.{AreFrames, Delivered, IsMissing, PollsBy, Takes, TellsBy, Ticks, with_receiver}
+use Rattle.sender.specs.Cycling.{alone, datagrams}
 use Rattle.script_run.specs.LineContents.{LineContent, OfReceiver, poll_line as poll_content}
 use Rattle.script_run.specs.Published.{AllWhole, Played, is_fault, joined_by, joins, joins_in, joins_of, messages_in, polled, polled_by, read_by}
-use Rattle.receiver.specs.Receiving.{TakesDatagram, MeetsAll, MeetsDatagram, Receiver, RefusesDatagram, at_moment, replies, ticked}
+use Rattle.receiver.specs.Receiving.{TakesDatagram, MeetsAll, Receiver, at_moment, replies, ticked}
 use Rattle.script_run.specs.ScriptState.{ScriptState, entries_of, image_of, opened_state, world_of}
-use Rattle.script_run.proofs.Honest.{AreHonest, IsGivenOut, IsHonest, honest_wires, may_be_given, one_frame, replies_given}
+use Rattle.script_run.proofs.Honest.{AreGivenOut, AreHonest, IsHonest, alone_given, frames_given_out, honest_given, may_be_given, replies_given}
+use Rattle.script_run.proofs.Lone.{lone, lone_other, lone_put}
+use Rattle.script_run.specs.Standing.{Begins}
 use Rattle.script_run.proofs.PollFollows.{StillWhole, polls_met}
-use Rattle.script_run.proofs.ReceiverRuns.{At, Follows, Met, meets, met_nothing, unchanged}
+use Rattle.script_run.proofs.ReceiverRuns.{At, Follows, IsSending, Met, meets, unchanged}
 use Rattle.script_run.proofs.Runs.{Goes, goes_on}
-use Rattle.theory.proofs.Tables.{map_get}
-use Rattle.script_run.proofs.Sound.{IsSound, Laws, and_line, at_number, follows_as, follows_quiet, joins_more, polled_more, readers_stay, receiver_moves, whole_parts, SaysNoRange}
+use Rattle.theory.proofs.Tables.{get_other, get_put}
+use Rattle.script_run.proofs.Sound.{HasFollowed, IsSound, Laws, and_line, at_number, followed_stays, follows_as, follows_quiet, joins_more, polled_more, readers_stay, sending, whole_parts, SaysNoRange}
 use Rattle.script_run.proofs.SoundLines.{matches_stay, missing_line, same_state}
 
--- what the line says of the others
-abbrev SaysNothingElse : ℕ → CommandContent → List LineContent → Type 0
-SaysNothingElse n command lines = (k : ℕ) → (n ≡ k → ⊥) → (joined_by k command lines ≡ []) × (polled_by k command lines ≡ [])
+-- what holds of the receiver that is looked at and of each other one holds of a receiver
+by_number : (P : ℕ → Type 0) (n only : ℕ) → P only → ((n ≡ only → ⊥) → P n) → P n
+by_number P n only own other = ⊎_elim (λ (e : n ≡ only). subst P (sym e) own) other (cases_eq n only)
 
 -- a line of receiver n, after which it is another one and there may be more packets
 abbrev moved_scene : ScriptState → ℕ → Receiver → List (List ℕ) → ScriptState
 moved_scene s n mid packets = record (with_receiver s n mid) { packets = packets }
 
-receiver_line : (i : Identity) (start readers : ℕ) (played : List Played) (command : CommandContent) (lines : List LineContent) (s : ScriptState) (n : ℕ) (r mid : Receiver) (packets : List (List ℕ)) → slice_get s.receivers n ≡ Some r → Goes (world_of s) (world_of (with_receiver s n mid)) → AreHonest i s.sender packets → SaysNothingElse n command lines → SaysNoRange command lines → ((k : ℕ) → read_by (suc k) command lines ≡ []) → Follows i mid (joins n (and_line played command lines)) (polled n (and_line played command lines)) (AllWhole n (and_line played command lines)) → IsSound i start readers played s → IsSound i start readers (and_line played command lines) (moved_scene s n mid packets)
-receiver_line i start readers played command lines s n r mid packets there goes honest others none quiet now h =
-    let t = moved_scene s n mid packets in
-    record {
-      runs = goes_on (world_of (opened_state i start readers)) (world_of s) (world_of t) h.runs goes;
-      identity = h.identity;
-      start_is = h.start_is;
-      consumers = h.consumers;
-      unit = h.unit;
-      sending = record { legal = h.sending.legal; sent = h.sending.sent; setups = h.sending.setups };
-      honest = honest;
-      matches = matches_stay i.geometry played command lines (entries_of s) none h.matches;
-      eight = length-set s.receivers n mid ∙ h.eight;
-      receivers = receiver_moves i played command lines s t n r mid there refl others now h.receivers;
-      seats = h.seats;
-      reading = readers_stay start readers played command lines s t quiet refl h.reading;
-    }
+receiver_line : (i : Identity) (start readers only : ℕ) (played : List Played) (command : CommandContent) (lines : List LineContent) (s : ScriptState) (n : ℕ) (mid : Receiver) (packets : List (List ℕ)) → Goes (world_of (opened_state i start readers)) (world_of (lone only (with_receiver s n mid))) → AreHonest i s.sender packets → SaysNoRange command lines → ((k : ℕ) → read_by (suc k) command lines ≡ []) → (only < 8 → HasFollowed i (and_line played command lines) (with_receiver s n mid) only) → IsSound i start readers only played s → IsSound i start readers only (and_line played command lines) (moved_scene s n mid packets)
+receiver_line i start readers only played command lines s n mid packets runs honest none quiet followed h = record {
+  runs = runs;
+  identity = h.identity;
+  start_is = h.start_is;
+  consumers = h.consumers;
+  named = h.named;
+  forgotten = h.forgotten;
+  honest = honest;
+  matches = matches_stay i.geometry played command lines (entries_of s) none h.matches;
+  eight = length-set s.receivers n mid ∙ h.eight;
+  followed = followed;
+  seats = h.seats;
+  reading = readers_stay start readers played command lines s (moved_scene s n mid packets) quiet refl h.reading;
+}
 
-number_low : (i : Identity) (start readers : ℕ) (played : List Played) (s : ScriptState) (n : ℕ) (r : Receiver) → IsSound i start readers played s → slice_get s.receivers n ≡ Some r → n < 8
-number_low i start readers played s n r h there = omega (arith, slice_get_within s.receivers n r there, h.eight)
+-- it isn't the one that is looked at, of which the line says nothing
+other_line : (i : Identity) (start readers only : ℕ) (played : List Played) (command : CommandContent) (lines : List LineContent) (s : ScriptState) (n : ℕ) (mid : Receiver) (packets : List (List ℕ)) → (n ≡ only → ⊥) → AreHonest i s.sender packets → (joined_by only command lines ≡ []) × (polled_by only command lines ≡ []) → SaysNoRange command lines → ((k : ℕ) → read_by (suc k) command lines ≡ []) → IsSound i start readers only played s → IsSound i start readers only (and_line played command lines) (moved_scene s n mid packets)
+other_line i start readers only played command lines s n mid packets other honest silent none quiet h =
+    receiver_line i start readers only played command lines s n mid packets
+    (subst (λ w. Goes (world_of (opened_state i start readers)) w) (sym (lone_other only n s mid other)) h.runs)
+    honest none quiet
+    (followed_stays i played command lines s (with_receiver s n mid) only silent (get_other s.receivers n only mid (λ e. other (sym e))) h.followed)
+    h
+
+-- it is the one that is looked at
+own_line : (i : Identity) (start readers only : ℕ) (played : List Played) (command : CommandContent) (lines : List LineContent) (s : ScriptState) (r mid : Receiver) (packets : List (List ℕ)) → slice_get s.receivers only ≡ Some r → Goes (world_of (lone only s)) (world_of (with_receiver (lone only s) only mid)) → AreHonest i s.sender packets → SaysNoRange command lines → ((k : ℕ) → read_by (suc k) command lines ≡ []) → Follows i mid (joins only (and_line played command lines)) (polled only (and_line played command lines)) (AllWhole only (and_line played command lines)) → IsSound i start readers only played s → IsSound i start readers only (and_line played command lines) (moved_scene s only mid packets)
+own_line i start readers only played command lines s r mid packets there goes honest none quiet now h =
+    let t = with_receiver s only mid in
+    let on : Goes (world_of (lone only s)) (world_of (lone only t)) = subst (λ z. Goes (world_of (lone only s)) (world_of z)) (sym (lone_put only s mid)) goes in
+    receiver_line i start readers only played command lines s only mid packets
+    (goes_on (world_of (opened_state i start readers)) (world_of (lone only s)) (world_of (lone only t)) h.runs on)
+    honest none quiet
+    (λ low. (mid, get_put s.receivers only mid (slice_get_within s.receivers only r there), now))
+    h
+
+pub number_low : (i : Identity) (start readers only : ℕ) (played : List Played) (s : ScriptState) (n : ℕ) (r : Receiver) → IsSound i start readers only played s → slice_get s.receivers n ≡ Some r → n < 8
+number_low i start readers only played s n r h there = omega (arith, slice_get_within s.receivers n r there, h.eight)
+
+-- the receiver that is looked at
+own_at : (i : Identity) (start readers only : ℕ) (played : List Played) (s : ScriptState) (r q : Receiver) → IsSound i start readers only played s → slice_get s.receivers only ≡ Some r → q.image ≡ r.image → q.consumers ≡ r.consumers → At (lone only s) only q (joins only played) (polled only played) (AllWhole only played)
+own_at i start readers only played s r q h there image consumers = at_number i start readers only played s r q h (number_low i start readers only played s only r h there) there image consumers
 
 -- ---- a tick
 
-pub tick_line : (i : Identity) (start readers : ℕ) (played : List Played) (n now : ℕ) (lines : List LineContent) (s t : ScriptState) → IsSound i start readers played s → Ticks s n now lines t → IsSound i start readers (and_line played (commands.Tick n now) lines) t
-tick_line i start readers played n now lines s t h m =
+abbrev TickIsSound : (i : Identity) (start readers only : ℕ) (played : List Played) (now : ℕ) (lines : List LineContent) (s t : ScriptState) → ℕ → Type 0
+TickIsSound i start readers only played now lines s t n = Ticks s n now lines t → IsSound i start readers only (and_line played (commands.Tick n now) lines) t
+
+-- what goes out at it
+tick_honest : (i : Identity) (start readers only : ℕ) (played : List Played) (s : ScriptState) (r : Receiver) (now : ℕ) → IsSound i start readers only played s → AreFrames (replies r now) → AreHonest i s.sender (s.packets ++ datagrams (alone (replies r now)))
+tick_honest i start readers only played s r now h frames =
+    let sent = alone (replies r now) in
+    all_append (IsHonest i s.sender) s.packets (datagrams sent) h.honest (honest_given i s.sender sent (alone_given i s.sender (replies r now) frames (replies_given i s.sender r now)))
+
+own_tick : (i : Identity) (start readers only : ℕ) (played : List Played) (now : ℕ) (lines : List LineContent) (s t : ScriptState) → IsSound i start readers only played s → TickIsSound i start readers only played now lines s t only
+own_tick i start readers only played now lines s t h m =
     let r = m.0 in
-    let wires = replies r now in
     let mid = ticked r now in
-    let command = commands.Tick n now in
-    let a = at_number i start readers played s n r mid h (number_low i start readers played s n r h m.1) m.1 refl refl in
-    let packets : AreHonest i s.sender (s.packets ++ datagrams wires) = all_append (IsHonest i s.sender) s.packets (datagrams wires) h.honest (honest_wires i s.sender wires m.2 (replies_given i s.sender r now)) in
-    let follows : Follows i mid (joins n played) (polled n played) (AllWhole n played) = subst (λ x. Follows x mid (joins n played) (polled n played) (AllWhole n played)) h.identity a.follows in
-    subst (λ x. IsSound i start readers (and_line played command lines) x) (sym m.4)
-    (receiver_line i start readers played command lines s n r mid (s.packets ++ datagrams wires) m.1 (unchanged s n r mid (map_get image_of s.receivers n r m.1) refl) packets (λ k ne. (refl, refl)) (λ g ranges. refl) (λ k. refl) (follows_quiet i n mid played command lines refl refl follows) h)
+    let command = commands.Tick only now in
+    let z = lone only s in
+    let a = own_at i start readers only played s r mid h m.1 refl refl in
+    let follows : Follows i mid (joins only played) (polled only played) (AllWhole only played) = subst (λ x. Follows x mid (joins only played) (polled only played) (AllWhole only played)) h.identity a.follows in
+    subst (λ x. IsSound i start readers only (and_line played command lines) x) (sym m.4)
+    (own_line i start readers only played command lines s r mid (s.packets ++ datagrams (alone (replies r now))) m.1 (unchanged z only r mid (own_at i start readers only played s r r h m.1 refl refl).there refl) (tick_honest i start readers only played s r now h m.2) (λ g ranges. refl) (λ k. refl) (follows_quiet i only mid played command lines refl refl follows) h)
 
--- ---- a packet
+pub tick_line : (i : Identity) (start readers only : ℕ) (played : List Played) (n now : ℕ) (lines : List LineContent) (s t : ScriptState) → IsSound i start readers only played s → Ticks s n now lines t → IsSound i start readers only (and_line played (commands.Tick n now) lines) t
+tick_line i start readers only played n now lines s t h =
+    by_number (TickIsSound i start readers only played now lines s t) n only
+    (own_tick i start readers only played now lines s t h)
+    (λ other m. subst (λ x. IsSound i start readers only (and_line played (commands.Tick n now) lines) x) (sym m.4)
+    (other_line i start readers only played (commands.Tick n now) lines s n (ticked m.0 now) (s.packets ++ datagrams (alone (replies m.0 now))) other (tick_honest i start readers only played s m.0 now h m.2) (refl, refl) (λ g ranges. refl) (λ k. refl) h))
 
--- the one line that it prints, and the receiver after it
-record OneOutcome (i : Identity) (played : List Played) (s : ScriptState) (n : ℕ) (mid : Receiver) (outs : List Outcome) : Type 0 where
-  out : Outcome
-  only : outs ≡ out ∷ []
-  met : Met s n mid out (joins n played) (polled n played) (AllWhole n played)
+-- ---- a datagram
 
-reads_one : Laws → (i : Identity) (start readers : ℕ) (played : List Played) (s : ScriptState) (n now : ℕ) (r mid : Receiver) (bytes : List ℕ) (outs : List Outcome) → IsSound i start readers played s → IsHonest i s.sender bytes → At s n (at_moment r now) (joins n played) (polled n played) (AllWhole n played) → MeetsDatagram (at_moment r now) bytes outs mid → OneOutcome i played s n mid outs
-reads_one laws i start readers played s n now r mid bytes outs h honest a m =
-    let one = one_frame laws.reading i s.sender bytes m.0 honest m.1 in
-    let all : MeetsAll (at_moment r now) (honest.wire ∷ []) outs mid = subst (λ ws. MeetsAll (at_moment r now) ws outs mid) one m.2 in
-    let out = all.0 in
-    let given : IsGivenOut s.log.identity s.sender.sent s.sender.setups honest.wire = subst (λ x. IsGivenOut x s.sender.sent s.sender.setups honest.wire) (sym h.identity) honest.given in
-    let met = meets laws.places s n (at_moment r now) all.1 honest.wire out (joins n played) (polled n played) (AllWhole n played) h.sending a (may_be_given s.log.identity s.sender.sent s.sender.setups (at_moment r now) honest.wire given) all.3 in
-    record {
-      out = out;
-      only = all.4 ∙ ap (λ xs. out ∷ xs) all.5.0;
-      met = subst (λ x. Met s n x out (joins n played) (polled n played) (AllWhole n played)) (sym all.5.1) met;
-    }
+-- the world goes on, and the receiver is followed, with the joins that its lines tell
+record MetAll (s : ScriptState) (k : ℕ) (mid : Receiver) (outs : List Outcome) (joins : List ℕ) (given : List (List ℕ)) (Whole : Type 0) : Type 0 where
+  goes : Goes (world_of s) (world_of (with_receiver s k mid))
+  follows : Follows s.log.identity mid (joins ++ flat_map joins_of outs) given Whole
 
-refuses_one : (i : Identity) (played : List Played) (s : ScriptState) (n now : ℕ) (r mid : Receiver) (bytes : List ℕ) (outs : List Outcome) → At s n (at_moment r now) (joins n played) (polled n played) (AllWhole n played) → RefusesDatagram (at_moment r now) bytes outs mid → OneOutcome i played s n mid outs
-refuses_one i played s n now r mid bytes outs a m = record {
-  out = outcomes.Refused m.0;
-  only = m.2;
-  met = met_nothing s n (at_moment r now) mid (outcomes.Refused m.0) (joins n played) (polled n played) (AllWhole n played) a (ap (λ x. x.consumers) m.3) (ap (λ x. x.image) m.3) refl;
+none_met : (s : ScriptState) (k : ℕ) (r mid : Receiver) (outs : List Outcome) (joins : List ℕ) (given : List (List ℕ)) (Whole : Type 0) → At s k r joins given Whole → flat_map joins_of outs ≡ [] → mid ≡ r → MetAll s k mid outs joins given Whole
+none_met s k r mid outs joins given Whole a none same = record {
+  goes = unchanged s k r mid a.there (ap image_of same);
+  follows = subst (λ x. Follows s.log.identity x (joins ++ flat_map joins_of outs) given Whole) (sym same) (subst (λ xs. Follows s.log.identity r xs given Whole) (sym (ap (λ xs. joins ++ xs) none ∙ append-nil joins)) a.follows);
 }
 
-one_outcome : Laws → (i : Identity) (start readers : ℕ) (played : List Played) (s : ScriptState) (n now : ℕ) (r mid : Receiver) (bytes : List ℕ) (outs : List Outcome) → IsSound i start readers played s → IsHonest i s.sender bytes → At s n (at_moment r now) (joins n played) (polled n played) (AllWhole n played) → TakesDatagram r now bytes outs mid → OneOutcome i played s n mid outs
-one_outcome laws i start readers played s n now r mid bytes outs h honest a (inl m) = reads_one laws i start readers played s n now r mid bytes outs h honest a m
-one_outcome laws i start readers played s n now r mid bytes outs h honest a (inr m) = refuses_one i played s n now r mid bytes outs a m
+-- the receiver behind one of its frames
+met_at : (s : ScriptState) (k : ℕ) (r mid : Receiver) (out : Outcome) (joins : List ℕ) (given : List (List ℕ)) (Whole : Type 0) → At s k r joins given Whole → Met s k mid out joins given Whole → At (with_receiver s k mid) k mid (joins ++ joins_of out) given Whole
+met_at s k r mid out joins given Whole a m = record {
+  there = ap (λ xs. slice_get xs k) (map-set image_of s.receivers k mid) ∙ get_put (map image_of s.receivers) k (image_of mid) (slice_get_within (map image_of s.receivers) k (image_of r) a.there);
+  follows = m.follows;
+}
 
-own_joins : (k n now : ℕ) (out : Outcome) (lines : List LineContent) → lines ≡ OfReceiver out ∷ [] → joined_by n (commands.Deliver k n now) lines ≡ joins_of out
-own_joins k n now out lines e = cond-true (nat_eq n n) (flat_map joins_in lines) [] (eq-eqb n n refl) ∙ ap (flat_map joins_in) e ∙ append-nil (joins_of out)
+-- the frames of a datagram, one after the other
+all_met : Laws → (s : ScriptState) (k : ℕ) (r mid : Receiver) (ws : List Wire) (outs : List Outcome) (joins : List ℕ) (given : List (List ℕ)) (Whole : Type 0) → IsSending s → At s k r joins given Whole → AreGivenOut s.log.identity s.sender ws → MeetsAll r ws outs mid → MetAll s k mid outs joins given Whole
+all_met laws s k r mid [] outs joins given Whole x a out m = none_met s k r mid outs joins given Whole a (ap (flat_map joins_of) m.0) m.1
+all_met laws s k r mid (w ∷ ws) outs joins given Whole x a out m =
+    let first = m.0 in
+    let next = m.1 in
+    let rest = m.2 in
+    let t = with_receiver s k next in
+    let one = meets laws.places s k r next w first joins given Whole x a (may_be_given s.log.identity s.sender.sent s.sender.setups r w out.0) m.3 in
+    let more = all_met laws t k next mid ws rest (joins ++ joins_of first) given Whole (record { legal = x.legal; sent = x.sent; setups = x.setups }) (met_at s k r next first joins given Whole a one) out.1 m.5 in
+    let all : (joins ++ joins_of first) ++ flat_map joins_of rest ≡ joins ++ flat_map joins_of outs = append_assoc joins (joins_of first) (flat_map joins_of rest) ∙ ap (λ xs. joins ++ flat_map joins_of xs) (sym m.4) in
+    record {
+      goes = subst (λ xs. Goes (world_of s) (world_of (record s { receivers = xs }))) (set-set s.receivers k next mid) (goes_on (world_of s) (world_of t) (world_of (with_receiver t k mid)) one.goes more.goes);
+      follows = subst (λ xs. Follows s.log.identity mid xs given Whole) all more.follows;
+    }
 
-other_joins : (k n now : ℕ) (lines : List LineContent) → SaysNothingElse n (commands.Deliver k n now) lines
-other_joins k n now lines j ne = (cond-false (nat_eq n j) (flat_map joins_in lines) [] (ne_eqb n j ne), refl)
+takes_met : Laws → (i : Identity) (s : ScriptState) (k now : ℕ) (r mid : Receiver) (bytes : List ℕ) (outs : List Outcome) (joins : List ℕ) (given : List (List ℕ)) (Whole : Type 0) → s.log.identity ≡ i → IsSending s → At s k (at_moment r now) joins given Whole → IsHonest i s.sender bytes → TakesDatagram r now bytes outs mid → MetAll s k mid outs joins given Whole
+takes_met laws i s k now r mid bytes outs joins given Whole same x a honest (inl m) =
+    all_met laws s k (at_moment r now) mid m.0 outs joins given Whole x a (subst (λ j. AreGivenOut j s.sender m.0) (sym same) (frames_given_out laws.reading i s.sender bytes m.0 honest m.1)) m.2
+takes_met laws i s k now r mid bytes outs joins given Whole same x a honest (inr m) = none_met s k (at_moment r now) mid outs joins given Whole a (ap (flat_map joins_of) m.2) m.3
 
-packet_line : Laws → (i : Identity) (start readers : ℕ) (played : List Played) (k n now : ℕ) (lines : List LineContent) (s t : ScriptState) → IsSound i start readers played s → Delivered s k n now lines t → IsSound i start readers (and_line played (commands.Deliver k n now) lines) t
-packet_line laws i start readers played k n now lines s t h m =
-    let bytes = m.0 in
-    let outs = m.1 in
-    let r = m.2 in
-    let mid = m.3 in
-    let command = commands.Deliver k n now in
-    let a = at_number i start readers played s n r (at_moment r now) h (number_low i start readers played s n r h m.5) m.5 refl refl in
-    let one = one_outcome laws i start readers played s n now r mid bytes outs h (all_get (IsHonest i s.sender) s.packets k bytes m.4 h.honest) a m.6 in
-    let line : lines ≡ OfReceiver one.out ∷ [] = m.7 ∙ ap (map OfReceiver) one.only in
-    let follows : Follows i mid (joins n played ++ joins_of one.out) (polled n played) (AllWhole n played) = subst (λ x. Follows x mid (joins n played ++ joins_of one.out) (polled n played) (AllWhole n played)) h.identity one.met.follows in
-    let now_follows = follows_as i mid (joins n played ++ joins_of one.out) (joins n (and_line played command lines)) (polled n played) (polled n (and_line played command lines)) (AllWhole n played) (AllWhole n (and_line played command lines))
-    (sym (joins_more n played command lines ∙ ap (λ xs. joins n played ++ xs) (own_joins k n now one.out lines line)))
-    (sym (polled_more n played command lines ∙ append-nil (polled n played)))
-    (λ x. (whole_parts n played command lines x).0)
+all_joins : (outs : List Outcome) → flat_map joins_in (map OfReceiver outs) ≡ flat_map joins_of outs
+all_joins [] = refl
+all_joins (out ∷ outs) = ap (λ xs. joins_of out ++ xs) (all_joins outs)
+
+own_joins : (k n now : ℕ) (outs : List Outcome) (lines : List LineContent) → lines ≡ map OfReceiver outs → joined_by n (commands.Deliver k n now) lines ≡ flat_map joins_of outs
+own_joins k n now outs lines e = cond-true (nat_eq n n) (flat_map joins_in lines) [] (eq-eqb n n refl) ∙ ap (flat_map joins_in) e ∙ all_joins outs
+
+abbrev DeliveryIsSound : (i : Identity) (start readers only : ℕ) (played : List Played) (k now : ℕ) (bytes : List ℕ) (lines : List LineContent) (s t : ScriptState) → ℕ → Type 0
+DeliveryIsSound i start readers only played k now bytes lines s t n = Takes s n now bytes lines t → IsSound i start readers only (and_line played (commands.Deliver k n now) lines) t
+
+own_delivery : Laws → (i : Identity) (start readers only : ℕ) (played : List Played) (k now : ℕ) (bytes : List ℕ) (lines : List LineContent) (s t : ScriptState) → Begins i start → IsSound i start readers only played s → IsHonest i s.sender bytes → DeliveryIsSound i start readers only played k now bytes lines s t only
+own_delivery laws i start readers only played k now bytes lines s t b h honest m =
+    let outs = m.0 in
+    let r = m.1 in
+    let mid = m.2 in
+    let command = commands.Deliver k only now in
+    let a = own_at i start readers only played s r (at_moment r now) h m.3 refl refl in
+    let met = takes_met laws i (lone only s) only now r mid bytes outs (joins only played) (polled only played) (AllWhole only played) h.identity (sending laws i start readers only played s b h) a honest m.4 in
+    let follows : Follows i mid (joins only played ++ flat_map joins_of outs) (polled only played) (AllWhole only played) = subst (λ x. Follows x mid (joins only played ++ flat_map joins_of outs) (polled only played) (AllWhole only played)) h.identity met.follows in
+    let now_follows = follows_as i mid (joins only played ++ flat_map joins_of outs) (joins only (and_line played command lines)) (polled only played) (polled only (and_line played command lines)) (AllWhole only played) (AllWhole only (and_line played command lines))
+    (sym (joins_more only played command lines ∙ ap (λ xs. joins only played ++ xs) (own_joins k only now outs lines m.5)))
+    (sym (polled_more only played command lines ∙ append-nil (polled only played)))
+    (λ x. (whole_parts only played command lines x).0)
     follows in
-    subst (λ x. IsSound i start readers (and_line played command lines) x) (sym m.8)
-    (receiver_line i start readers played command lines s n r mid s.packets m.5 one.met.goes h.honest (other_joins k n now lines) (λ g ranges. refl) (λ k. refl) now_follows h)
+    subst (λ x. IsSound i start readers only (and_line played command lines) x) (sym m.6)
+    (own_line i start readers only played command lines s r mid s.packets m.3 met.goes h.honest (λ g ranges. refl) (λ k. refl) now_follows h)
+
+-- what another receiver is handed
+handed_other : (i : Identity) (start readers only : ℕ) (played : List Played) (command : CommandContent) (n now : ℕ) (bytes : List ℕ) (lines : List LineContent) (s t : ScriptState) → (n ≡ only → ⊥) → (joined_by only command lines ≡ []) × (polled_by only command lines ≡ []) → SaysNoRange command lines → ((k : ℕ) → read_by (suc k) command lines ≡ []) → IsSound i start readers only played s → Takes s n now bytes lines t → IsSound i start readers only (and_line played command lines) t
+handed_other i start readers only played command n now bytes lines s t other silent none quiet h m =
+    subst (λ x. IsSound i start readers only (and_line played command lines) x) (sym m.6) (other_line i start readers only played command lines s n m.2 s.packets other h.honest silent none quiet h)
 
 missing_joins : (k n now j : ℕ) (s t : ScriptState) (lines : List LineContent) → IsMissing s k lines t → joined_by j (commands.Deliver k n now) lines ≡ []
 missing_joins k n now j s t lines m = ap (λ ls. cond (nat_eq n j) (flat_map joins_in ls) []) m.1 ∙ both (nat_eq n j)
@@ -132,17 +187,25 @@ missing_joins k n now j s t lines m = ap (λ ls. cond (nat_eq n j) (flat_map joi
     both true = refl
     both false = refl
 
-pub deliver_line : Laws → (i : Identity) (start readers : ℕ) (played : List Played) (k n now : ℕ) (lines : List LineContent) (s t : ScriptState) → IsSound i start readers played s → IsMissing s k lines t ⊎ Delivered s k n now lines t → IsSound i start readers (and_line played (commands.Deliver k n now) lines) t
-deliver_line laws i start readers played k n now lines s t h (inl m) = missing_line i start readers played (commands.Deliver k n now) k lines s t (record { joins = λ j. missing_joins k n now j s t lines m; polls = λ j. refl; reads = λ j. refl }) (λ g ranges. refl) h m
-deliver_line laws i start readers played k n now lines s t h (inr m) = packet_line laws i start readers played k n now lines s t h m
+pub deliver_line : Laws → (i : Identity) (start readers only : ℕ) (played : List Played) (k n now : ℕ) (lines : List LineContent) (s t : ScriptState) → Begins i start → IsSound i start readers only played s → IsMissing s k lines t ⊎ Delivered s k n now lines t → IsSound i start readers only (and_line played (commands.Deliver k n now) lines) t
+deliver_line laws i start readers only played k n now lines s t b h (inl m) = missing_line i start readers only played (commands.Deliver k n now) k lines s t (record { joins = λ j. missing_joins k n now j s t lines m; polls = λ j. refl; reads = λ j. refl }) (λ g ranges. refl) h m
+deliver_line laws i start readers only played k n now lines s t b h (inr m) =
+    by_number (DeliveryIsSound i start readers only played k now m.0 lines s t) n only
+    (own_delivery laws i start readers only played k now m.0 lines s t b h (all_get (IsHonest i s.sender) s.packets k m.0 m.1 h.honest))
+    (λ other. handed_other i start readers only played (commands.Deliver k n now) n now m.0 lines s t other (cond-false (nat_eq n only) (flat_map joins_in lines) [] (ne_eqb n only other), refl) (λ g ranges. refl) (λ k. refl) h)
+    m.2
+
+-- bytes of the script's own, to a receiver that isn't looked at
+pub raw_line : (i : Identity) (start readers only : ℕ) (played : List Played) (n now : ℕ) (bytes : List ℕ) (lines : List LineContent) (s t : ScriptState) → (only < 8 → n ≡ only → ⊥) → IsSound i start readers only played s → Takes s n now bytes lines t → IsSound i start readers only (and_line played (commands.Raw n now bytes) lines) t
+raw_line i start readers only played n now bytes lines s t spared h m =
+    let low : n < 8 = number_low i start readers only played s n m.1 h m.3 in
+    let other : n ≡ only → ⊥ = λ e. spared (omega (arith, low, e)) e in
+    handed_other i start readers only played (commands.Raw n now bytes) n now bytes lines s t other (cond-false (nat_eq n only) (flat_map joins_in lines) [] (ne_eqb n only other), refl) (λ g ranges. refl) (λ k. refl) h m
 
 -- ---- a poll
 
 own_polls : (n : ℕ) (line : LineContent) (lines : List LineContent) → lines ≡ line ∷ [] → polled_by n (commands.Poll n) lines ≡ messages_in line
 own_polls n line lines e = cond-true (nat_eq n n) (flat_map messages_in lines) [] (eq-eqb n n refl) ∙ ap (flat_map messages_in) e ∙ append-nil (messages_in line)
-
-other_polls : (n : ℕ) (lines : List LineContent) → SaysNothingElse n (commands.Poll n) lines
-other_polls n lines j ne = (refl, cond-false (nat_eq n j) (flat_map messages_in lines) [] (ne_eqb n j ne))
 
 still_whole : (n : ℕ) (played : List Played) (line : LineContent) (lines : List LineContent) → lines ≡ line ∷ [] → AllWhole n (and_line played (commands.Poll n) lines) → StillWhole (AllWhole n played) line
 still_whole n played line lines e x =
@@ -150,22 +213,32 @@ still_whole n played line lines e x =
     let all : AllByRecursion (λ l. is_fault l ≡ false) (line ∷ []) = subst (λ ls. AllByRecursion (λ l. is_fault l ≡ false) ls) e (parts.1 refl) in
     (parts.0, all.0)
 
-pub poll_line : (i : Identity) (start readers : ℕ) (played : List Played) (n : ℕ) (lines : List LineContent) (s t : ScriptState) → IsSound i start readers played s → PollsBy s n lines t → IsSound i start readers (and_line played (commands.Poll n) lines) t
-poll_line i start readers played n lines s t h m =
+abbrev PollIsSound : (i : Identity) (start readers only : ℕ) (played : List Played) (lines : List LineContent) (s t : ScriptState) → ℕ → Type 0
+PollIsSound i start readers only played lines s t n = PollsBy s n lines t → IsSound i start readers only (and_line played (commands.Poll n) lines) t
+
+own_poll : (i : Identity) (start readers only : ℕ) (played : List Played) (lines : List LineContent) (s t : ScriptState) → IsSound i start readers only played s → PollIsSound i start readers only played lines s t only
+own_poll i start readers only played lines s t h m =
     let line = poll_content m.0 in
     let r = m.1 in
     let mid = m.2 in
-    let command = commands.Poll n in
-    let a = at_number i start readers played s n r r h (number_low i start readers played s n r h m.3) m.3 refl refl in
-    let met = polls_met s n r mid m.0 (joins n played) (polled n played) (AllWhole n played) a m.4 in
-    let follows : Follows i mid (joins n played) (polled n played ++ messages_in line) (StillWhole (AllWhole n played) line) = subst (λ x. Follows x mid (joins n played) (polled n played ++ messages_in line) (StillWhole (AllWhole n played) line)) h.identity met.follows in
-    let now_follows = follows_as i mid (joins n played) (joins n (and_line played command lines)) (polled n played ++ messages_in line) (polled n (and_line played command lines)) (StillWhole (AllWhole n played) line) (AllWhole n (and_line played command lines))
-    (sym (joins_more n played command lines ∙ append-nil (joins n played)))
-    (sym (polled_more n played command lines ∙ ap (λ xs. polled n played ++ xs) (own_polls n line lines m.5)))
-    (still_whole n played line lines m.5)
+    let command = commands.Poll only in
+    let a = own_at i start readers only played s r r h m.3 refl refl in
+    let met = polls_met (lone only s) only r mid m.0 (joins only played) (polled only played) (AllWhole only played) a m.4 in
+    let follows : Follows i mid (joins only played) (polled only played ++ messages_in line) (StillWhole (AllWhole only played) line) = subst (λ x. Follows x mid (joins only played) (polled only played ++ messages_in line) (StillWhole (AllWhole only played) line)) h.identity met.follows in
+    let now_follows = follows_as i mid (joins only played) (joins only (and_line played command lines)) (polled only played ++ messages_in line) (polled only (and_line played command lines)) (StillWhole (AllWhole only played) line) (AllWhole only (and_line played command lines))
+    (sym (joins_more only played command lines ∙ append-nil (joins only played)))
+    (sym (polled_more only played command lines ∙ ap (λ xs. polled only played ++ xs) (own_polls only line lines m.5)))
+    (still_whole only played line lines m.5)
     follows in
-    subst (λ x. IsSound i start readers (and_line played command lines) x) (sym m.6)
-    (receiver_line i start readers played command lines s n r mid s.packets m.3 met.goes h.honest (other_polls n lines) (λ g ranges. refl) (λ k. refl) now_follows h)
+    subst (λ x. IsSound i start readers only (and_line played command lines) x) (sym m.6)
+    (own_line i start readers only played command lines s r mid s.packets m.3 met.goes h.honest (λ g ranges. refl) (λ k. refl) now_follows h)
 
-pub image_line : (i : Identity) (start readers : ℕ) (played : List Played) (n : ℕ) (lines : List LineContent) (s t : ScriptState) → IsSound i start readers played s → TellsBy s n lines t → IsSound i start readers (and_line played (commands.Image n) lines) t
-image_line i start readers played n lines s t h m = same_state i start readers played (commands.Image n) lines s t (record { joins = λ k. refl; polls = λ k. refl; reads = λ k. refl }) (λ g ranges. refl) m.5 h
+pub poll_line : (i : Identity) (start readers only : ℕ) (played : List Played) (n : ℕ) (lines : List LineContent) (s t : ScriptState) → IsSound i start readers only played s → PollsBy s n lines t → IsSound i start readers only (and_line played (commands.Poll n) lines) t
+poll_line i start readers only played n lines s t h =
+    by_number (PollIsSound i start readers only played lines s t) n only
+    (own_poll i start readers only played lines s t h)
+    (λ other m. subst (λ x. IsSound i start readers only (and_line played (commands.Poll n) lines) x) (sym m.6)
+    (other_line i start readers only played (commands.Poll n) lines s n m.2 s.packets other h.honest (refl, cond-false (nat_eq n only) (flat_map messages_in lines) [] (ne_eqb n only other)) (λ g ranges. refl) (λ k. refl) h))
+
+pub image_line : (i : Identity) (start readers only : ℕ) (played : List Played) (n : ℕ) (lines : List LineContent) (s t : ScriptState) → IsSound i start readers only played s → TellsBy s n lines t → IsSound i start readers only (and_line played (commands.Image n) lines) t
+image_line i start readers only played n lines s t h m = same_state i start readers only played (commands.Image n) lines s t (record { joins = λ k. refl; polls = λ k. refl; reads = λ k. refl }) (λ g ranges. refl) m.5 h

@@ -1,15 +1,18 @@
 -- What each line of a script prints, and the state after it.
-use Rattle.std.specs.Prelude.{◌≡◌, ◌⊎◌, ◌<◌, ◌≤◌, ◌+◌, ◌-◌, ℕ, zero, suc, pos, Bool, true, false, List, [], ◌∷◌, ◌++◌, map, length, replicate, Option, None, Some, Result, Ok, Err, slice_get, slice_index_or, slice_set, if◌then◌else◌}
-use Rattle.std.specs.List.{AllByRecursion}
-use Rattle.theory.specs.Position.{aligned, max_message, max_payload, position_of}
-use Rattle.theory.specs.Wire.{IsFrame, Status, Wire}
+use Rattle.std.specs.Prelude.{◌≡◌, ◌⊎◌, ◌<◌, ◌≤◌, ◌-◌, ℕ, ℤ, zero, suc, pos, Bool, true, ◌&&◌, false, List, [], ◌∷◌, ◌++◌, map, length, replicate, Option, None, Some, Result, Ok, Err, slice_get, slice_set, if◌then◌else◌}
+use Rattle.std.specs.List.{AllByRecursion, filter}
+use Rattle.std.specs.Option.{option_to_list}
+use Rattle.theory.specs.Position.{Geometry, max_message, max_payload, position_of}
+use Rattle.theory.specs.Wire.{IsFrame, Nak, Status, Wire}
 use Rattle.theory.specs.Placed.{Among, Data, Frame, Pad, Placed, end_of}
 use Rattle.theory.specs.Consumer.{Consumer, moved}
 use Rattle.theory.specs.Entry.{committed}
 use Rattle.theory.specs.Control.{setup_at}
+use Rattle.theory.specs.Datagrams.{frames_of, resend_datagrams}
 use Rattle.theory.specs.FlowLimit.{flow_limit}
-use Rattle.model.specs.Sender.{Sender}
-use Rattle.theory.specs.Timing.{seen}
+use Rattle.theory.specs.Resend.{Action, NakAnswer, first_due, is_resent, kept, nak_answer}
+use Rattle.theory.specs.Timing.{is_heartbeat_due, seen}
+use Rattle.model.specs.Sender.{Sender, after_nak}
 use Rattle.one_hand.specs.Legal.{IsStream}
 use Rattle.one_hand.specs.Stream.{OpenClaim, Stream, after_claim, after_offer, answer_of, claim_by, claim_end, clean_end, cleaned_and_limited, forgotten_below, raised, with_abort, with_commit, with_consumer}
 use Rattle.publication.specs.declared.refusal.Refusal.{Refusal}
@@ -18,7 +21,10 @@ use Rattle.script.specs.Meaning as commands
 use Rattle.script.specs.Meaning.{CommandContent}
 use Rattle.receiver.specs.declared.receiver_core.Outcome.{Outcome}
 use Rattle.sender.specs.declared.sender_core.SenderAnswer.TheVariants as answers
-use Rattle.sender.specs.Cycling.{Cycle, IsNews, IsNextSent, NewsContent, Says, AsksSetup, TellsNothing, Unreadable, datagrams, sent_wires}
+use Rattle.retransmit.specs.Answers.{meaning}
+use Rattle.retransmit.specs.Handler.{answered_first}
+use Rattle.retransmit.specs.declared.answer.NakResult.{NakResult}
+use Rattle.sender.specs.Cycling.{Cycle, GivesNew, IsNews, NewsContent, Says, AsksSetup, Misses, TellsNothing, Unreadable, alone, datagrams, is_heard, is_silent, sent_wires}
 use Rattle.receiver.specs.Polling.{Answer, Polls, TellsPositions}
 use Rattle.receiver.specs.declared.positions.Positions.{Positions}
 use Rattle.script_run.specs.LineContents as content
@@ -39,11 +45,12 @@ abbrev pub packet_lines : ℕ → List (List ℕ) → List LineContent
 packet_lines k [] = []
 packet_lines k (bytes ∷ rest) = Packet k bytes ∷ packet_lines (suc k) rest
 
-abbrev pub lines_of : ScriptState → List Wire → List LineContent
-lines_of s wires = packet_lines (length s.packets) (datagrams wires)
+-- the frames of datagrams, and the lines of their bytes
+abbrev pub lines_of : ScriptState → List (List Wire) → List LineContent
+lines_of s sent = packet_lines (length s.packets) (datagrams sent)
 
-abbrev pub given_out : ScriptState → List Wire → ScriptState
-given_out s wires = record s { packets = s.packets ++ datagrams wires }
+abbrev pub given_out : ScriptState → List (List Wire) → ScriptState
+given_out s sent = record s { packets = s.packets ++ datagrams sent }
 
 abbrev pub or_nothing : List LineContent → List LineContent
 or_nothing [] = Nothing ∷ []
@@ -159,41 +166,68 @@ with_sender s x = record s { sender = x }
 abbrev pub clock_at : ScriptState → ℕ → ℕ
 clock_at s now = seen s.sender.clock now
 
+abbrev pub woken : ScriptState → ℕ → Sender
+woken old now = record old.sender { clock = clock_at old now }
+
 -- how far status messages let it send
 abbrev pub limit_of : Stream → Sender → ℕ
 limit_of l x = flow_limit l.start x.said
-
--- what goes out in a cycle
-abbrev pub IsCycle : ScriptState → ℕ → Cycle → Type 0
-IsCycle old now y =
-    (y.setup ≡ is_due old.naming (clock_at old now))
-    × IsNextSent (committed old.log.entries) old.sender.at (limit_of old.log old.sender) y.frame
 
 -- its SETUP went out
 abbrev pub named : Sender → Bool → Sender
 named x due = if due then record x { setups = x.at ∷ x.setups } else x
 
--- a frame went out
-abbrev pub sent_on : Sender → Option Placed → Sender
-sent_on x None = x
-sent_on x (Some s) = record x { at = end_of s; passed = x.passed ++ s ∷ []; sent = s ∷ x.sent }
+-- frames that follow each other from here on end there
+abbrev pub end_from : ℕ → List Placed → ℕ
+end_from at [] = at
+end_from at (s ∷ ss) = end_from (end_of s) ss
+
+-- new frames went out
+abbrev pub sent_on : Sender → List Placed → Sender
+sent_on x frames = record x { at = end_from x.at frames; passed = x.passed ++ frames; sent = frames ++ x.sent }
+
+-- what goes out again for an action: of the frames that were sent those of its range, in at most 15 datagrams
+abbrev pub again_for : Geometry → Sender → Option Action → List (List Placed)
+again_for g x None = []
+again_for g x (Some a) = resend_datagrams g (filter (is_resent g x.at a) x.passed)
+
+-- of the actions that are not answered the one taken first is due
+abbrev pub again_of : Geometry → Sender → List (List Placed)
+again_of g x = again_for g x (first_due x.actions)
+
+-- frames went out again, and the action that was due is answered
+abbrev pub resent_on : Sender → List Placed → Sender
+resent_on x frames = record x { sent = frames ++ x.sent; actions = answered_first x.clock x.actions (first_due x.actions) }
+
+-- the sender behind its new frames
+abbrev pub behind_new : ScriptState → ℕ → Cycle → Sender
+behind_new old now y = sent_on (named (woken old now) y.setup) (frames_of y.fresh)
+
+-- what goes out in a cycle
+pub record IsCycle (old : ScriptState) (now : ℕ) (y : Cycle) : Type 0 where
+  pub setup : y.setup ≡ is_due old.naming (clock_at old now)
+  pub new : GivesNew old.log.identity.geometry (committed old.log.entries) old.sender.at (limit_of old.log old.sender) y.fresh
+  pub again : y.again ≡ again_of old.log.identity.geometry (behind_new old now y)
+  pub beat : y.beat ≡ (is_silent y && is_heartbeat_due (option_to_list old.last) old.naming.heard (clock_at old now))
 
 abbrev pub cycled : ScriptState → ℕ → Cycle → Sender
-cycled old now y = sent_on (named (record old.sender { clock = clock_at old now }) y.setup) y.frame
+cycled old now y = resent_on (behind_new old now y) (frames_of y.again)
+
+-- the frames of its datagrams
+abbrev pub wires_of : ScriptState → ℕ → Cycle → List (List Wire)
+wires_of old now y = sent_wires old.log.identity old.sender.at (cycled old now y).at y
 
 -- the log's first consumer is the sender
 abbrev pub after_cycle : ScriptState → ℕ → Cycle → ScriptState
-after_cycle old now y = record (given_out old (sent_wires old.log.identity old.sender.at y)) {
+after_cycle old now y = record (given_out old (wires_of old now y)) {
   log = record old.log { consumers = (cycled old now y).at ∷ map (λ c. c.at) old.readers };
   sender = cycled old now y;
   naming = after_due old.naming (clock_at old now);
+  last = if is_heard y then Some (clock_at old now) else old.last;
 }
 
-abbrev pub wires_of : ScriptState → Cycle → List Wire
-wires_of old y = sent_wires old.log.identity old.sender.at y
-
 abbrev pub Sends : ScriptState → ℕ → List LineContent → ScriptState → Type 0
-Sends old now lines new = (y : Cycle) × IsCycle old now y × (lines ≡ or_nothing (lines_of old (wires_of old y))) × (new ≡ after_cycle old now y)
+Sends old now lines new = (y : Cycle) × IsCycle old now y × (lines ≡ or_nothing (lines_of old (wires_of old now y))) × (new ≡ after_cycle old now y)
 
 -- a status message raises the limit
 abbrev pub heard : ScriptState → ℕ → Status → Sender
@@ -202,33 +236,50 @@ heard old now f = record old.sender {
   said = record { position = position_of old.log.identity.geometry f.term_id f.term_offset; window = f.window } ∷ old.sender.said;
 }
 
-abbrev pub woken : ScriptState → ℕ → Sender
-woken old now = record old.sender { clock = clock_at old now }
+-- the position that a negative acknowledgement names
+abbrev pub place_in : ScriptState → Nak → ℤ
+place_in old f = position_of old.log.identity.geometry f.term_id f.term_offset
+
+-- it is taken, or why not: by all frames that were sent, and the actions that are kept at that moment
+abbrev pub nak_answered : ScriptState → ℕ → Nak → NakAnswer
+nak_answered old now f = nak_answer old.log.identity.geometry old.log.start old.sender.at old.sender.passed (kept (clock_at old now) old.sender.actions) (place_in old f) f.length
+
+abbrev pub missed : ScriptState → ℕ → Nak → Sender
+missed old now f = after_nak old.log.identity.geometry old.log.start old.sender (clock_at old now) (place_in old f) f.length
 
 abbrev pub SenderHears : ScriptState → ℕ → NewsContent → List LineContent → ScriptState → Type 0
 SenderHears old now (Says f) lines new =
     (lines ≡ OfSender (answers.Status (pos (limit_of old.log (heard old now f)))) ∷ [])
     × (new ≡ record old { sender = heard old now f; naming = record old.naming { heard = true } })
 SenderHears old now AsksSetup lines new =
-    let out = setup_at old.log.identity old.sender.at ∷ [] in
+    let out = alone (setup_at old.log.identity old.sender.at ∷ []) in
     (lines ≡ OfSender answers.Asked ∷ lines_of old out) × (new ≡ with_sender (given_out old out) (named (woken old now) true))
+SenderHears old now (Misses f) lines new =
+    (n : NakResult) × (lines ≡ OfSender (answers.Missed n) ∷ []) × (meaning n ≡ nak_answered old now f) × (new ≡ with_sender old (missed old now f))
 SenderHears old now TellsNothing lines new = (lines ≡ OfSender answers.Other ∷ []) × (new ≡ with_sender old (woken old now))
 SenderHears old now (Unreadable fault) lines new = (lines ≡ OfSender (answers.Refused fault) ∷ []) × (new ≡ with_sender old (woken old now))
 
+-- the sender is handed a datagram
+abbrev pub Hears : ScriptState → ℕ → List ℕ → List LineContent → ScriptState → Type 0
+Hears old now bytes lines new = (news : NewsContent) × IsNews old.log.identity bytes news × SenderHears old now news lines new
+
 abbrev pub Replied : ScriptState → ℕ → ℕ → List LineContent → ScriptState → Type 0
-Replied old k now lines new = (bytes : List ℕ) × (news : NewsContent) × (slice_get old.packets k ≡ Some bytes) × IsNews old.log.identity bytes news × SenderHears old now news lines new
+Replied old k now lines new = (bytes : List ℕ) × (slice_get old.packets k ≡ Some bytes) × Hears old now bytes lines new
 
 -- ---- the receivers
 
+-- receiver i is handed a datagram
+abbrev pub Takes : ScriptState → ℕ → ℕ → List ℕ → List LineContent → ScriptState → Type 0
+Takes old i now bytes lines new =
+    (outs : List Outcome) × (r : Receiver) × (s : Receiver) × (slice_get old.receivers i ≡ Some r) × TakesDatagram r now bytes outs s × (lines ≡ map OfReceiver outs) × (new ≡ with_receiver old i s)
+
 abbrev pub Delivered : ScriptState → ℕ → ℕ → ℕ → List LineContent → ScriptState → Type 0
-Delivered old k i now lines new =
-    (bytes : List ℕ) × (outs : List Outcome) × (r : Receiver) × (s : Receiver) × (slice_get old.packets k ≡ Some bytes) × (slice_get old.receivers i ≡ Some r)
-    × TakesDatagram r now bytes outs s × (lines ≡ map OfReceiver outs) × (new ≡ with_receiver old i s)
+Delivered old k i now lines new = (bytes : List ℕ) × (slice_get old.packets k ≡ Some bytes) × Takes old i now bytes lines new
 
 abbrev pub Ticks : ScriptState → ℕ → ℕ → List LineContent → ScriptState → Type 0
 Ticks old i now lines new =
-    (r : Receiver) × (slice_get old.receivers i ≡ Some r) × AreFrames (replies r now) × (lines ≡ or_nothing (lines_of old (replies r now)))
-    × (new ≡ with_receiver (given_out old (replies r now)) i (ticked r now))
+    (r : Receiver) × (slice_get old.receivers i ≡ Some r) × AreFrames (replies r now) × (lines ≡ or_nothing (lines_of old (alone (replies r now))))
+    × (new ≡ with_receiver (given_out old (alone (replies r now))) i (ticked r now))
 
 abbrev pub PollsBy : ScriptState → ℕ → List LineContent → ScriptState → Type 0
 PollsBy old i lines new = (answer : Answer) × (r : Receiver) × (s : Receiver) × (slice_get old.receivers i ≡ Some r) × Polls r answer s × (lines ≡ poll_line answer ∷ []) × (new ≡ with_receiver old i s)
@@ -251,7 +302,9 @@ Answers old (commands.Abort by) lines new = HasNoClaim old by lines new ⊎ Abor
 Answers old (commands.Read r) lines new = HasNoReader old r lines new ⊎ (ReaderFindsNone old r lines new ⊎ ReaderReads old r lines new)
 Answers old (commands.Send now) lines new = Sends old now lines new
 Answers old (commands.Deliver k i now) lines new = IsMissing old k lines new ⊎ Delivered old k i now lines new
+Answers old (commands.Raw i now bytes) lines new = Takes old i now bytes lines new
 Answers old (commands.Tick i now) lines new = Ticks old i now lines new
 Answers old (commands.Reply k now) lines new = IsMissing old k lines new ⊎ Replied old k now lines new
+Answers old (commands.RawBack now bytes) lines new = Hears old now bytes lines new
 Answers old (commands.Poll i) lines new = PollsBy old i lines new
 Answers old (commands.Image i) lines new = TellsBy old i lines new

@@ -4,3 +4,4 @@ pub mod LineContents
 pub mod Output
 pub mod Published
 pub mod ScriptState
+pub mod Standing

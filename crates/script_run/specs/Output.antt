@@ -1,7 +1,7 @@
 -- What a script prints.
-use Rattle.std.specs.Prelude.{◌≡◌, ◌⊎◌, ◌<◌, ◌+◌, ◌%◌, ℕ, List, [], ◌∷◌, ◌++◌, map, length, slice_index, sum}
+use Rattle.std.specs.Prelude.{◌≡◌, ◌⊎◌, ◌<◌, ◌+◌, ℕ, List, [], ◌∷◌, ◌++◌, map, length, slice_index, sum}
 use Rattle.std.specs.List.{flat_map}
-use Rattle.theory.specs.Position.{Geometry, IsGeometry, IsMtu, IsTermLength, max_position}
+use Rattle.theory.specs.Position.{Geometry, IsGeometry, IsMtu, IsTermLength}
 use Rattle.theory.specs.Bytes.{Identity, IsIdentity}
 use Rattle.theory.specs.Tiling.{share_of}
 use Rattle.position.specs.declared.fault.GeometryError.TheVariants.{TermLength, Mtu}

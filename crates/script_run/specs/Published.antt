@@ -86,12 +86,18 @@ polled_by i command lines = []
 
 abbrev pub joined_by : ℕ → CommandContent → List LineContent → List ℕ
 joined_by i (commands.Deliver k number now) lines = if nat_eq number i then flat_map joins_in lines else []
+joined_by i (commands.Raw number now bytes) lines = if nat_eq number i then flat_map joins_in lines else []
 joined_by i command lines = []
 
 -- no poll of the receiver printed a fault of its assembler
 abbrev pub IsWhole : ℕ → CommandContent → List LineContent → Type 0
 IsWhole i (commands.Poll number) lines = number ≡ i → AllByRecursion (λ line. is_fault line ≡ false) lines
 IsWhole i command lines = ⊤
+
+-- the receiver isn't handed bytes of the script's own
+abbrev pub IsNotRaw : ℕ → CommandContent → Type 0
+IsNotRaw i (commands.Raw number now bytes) = number ≡ i → ⊥
+IsNotRaw i command = ⊤
 
 -- ---- of a whole script
 
@@ -119,6 +125,10 @@ joins i played = flat_map (λ p. joined_by i p.command p.lines) played
 abbrev pub AllWhole : ℕ → List Played → Type 0
 AllWhole i played = AllByRecursion (λ p. IsWhole i p.command p.lines) played
 
+-- receiver i was given packets alone
+abbrev pub NoneRaw : ℕ → List Played → Type 0
+NoneRaw i played = AllByRecursion (λ p. IsNotRaw i p.command) played
+
 -- the messages that start at or after j and end at or before q
 abbrev pub between : ℕ → ℕ → List Range → List (List ℕ)
 between j q ranges = flat_map (λ r. option_to_list r.message) (filter (λ r. nat_le j r.start && nat_le r.end q) ranges)
@@ -137,9 +147,9 @@ abbrev pub PolledTo : Geometry → ℕ → List Played → Type 0
 PolledTo g i played =
     (j : ℕ) × (q : ℕ) × (joins i played ≡ j ∷ []) × (polled i played ≡ between j q (published g played)) × ((least : ℕ) → LastTold i least played → q ≡ least)
 
--- after each line of a script: of each receiver, unless its assembler wanted memory
+-- after each line of a script: of each receiver that was given packets alone, unless its assembler wanted memory
 abbrev pub PolledPrefix : Geometry → List Played → Type 0
-PolledPrefix g played = (i : ℕ) → i < 8 → AllWhole i played → PolledNothing i played ⊎ PolledTo g i played
+PolledPrefix g played = (i : ℕ) → i < 8 → AllWhole i played → NoneRaw i played → PolledNothing i played ⊎ PolledTo g i played
 
 -- what frames cover
 abbrev pub covered_by : List Frame → ℕ

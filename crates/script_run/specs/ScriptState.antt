@@ -23,6 +23,8 @@ pub record ScriptState : Type 0 where
   pub sender : Sender
   -- when the sender last sent a SETUP, and whether a status message has come
   pub naming : Naming
+  -- the moment of the last datagram of its frames and of its last heartbeat
+  pub last : Option ℕ
   pub receivers : List Receiver
   pub packets : List (List ℕ)
 
@@ -69,6 +71,7 @@ opened_state i start readers = record {
   readers = replicate readers (consumer_at start);
   sender = opened_sender start;
   naming = record { clock = 0; last = None; heard = false };
+  last = None;
   receivers = map (listening_at i) numbers;
   packets = [];
 }

@@ -5,9 +5,11 @@
 #![tactic(auto)]
 
 ghost use Rattle.script_run.specs.Output.{AlwaysCounted, AlwaysPolled};
+ghost use Rattle.script_run.specs.Standing.{AlwaysAgain, AlwaysThere};
 
 use frames::one_reading;
-use model::every_run;
+use model::{every_run, steps_keep};
+use retransmit::near_starts_suffice;
 use theory::names_place;
 
 /// Whatever is answered, the shares are those of all entries.
@@ -21,6 +23,19 @@ pub fn polls_a_prefix()
     ensures { AlwaysPolled }
 {
     every_run();
+    steps_keep();
     names_place();
     one_reading();
+}
+
+/// Whatever is answered: what the sender may send again is still in the log, and it is what it sends again.
+pub fn sends_again_what_it_sent()
+    ensures there { AlwaysThere }
+    ensures again { AlwaysAgain }
+{
+    every_run();
+    steps_keep();
+    names_place();
+    one_reading();
+    near_starts_suffice();
 }

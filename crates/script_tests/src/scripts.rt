@@ -205,8 +205,17 @@ fn commands(rt: HostRuntime) -> Result<(), Fail> {
         ("image 007", true),
         ("image 4294967296", false),
         ("image -0", false),
-        ("raw 0 0 61", false),
-        ("rawback 0 61", false),
+        ("raw 7 18446744073709551615 61fF", true),
+        ("raw 8 0 61", false),
+        ("raw 0 0", false),
+        ("raw 0 0 ", false),
+        ("raw 0 0 6", false),
+        ("raw 0 0 61 ", false),
+        ("raw 0 18446744073709551616 61", false),
+        ("rawback 0 61", true),
+        ("rawback 0 61 61", false),
+        ("rawback 0", false),
+        ("rawback 0 6g", false),
         ("group 1", false),
         ("join 1", false),
         ("leave 1", false),
@@ -243,7 +252,7 @@ fn a_script(rt: HostRuntime) -> Result<(), Fail> {
     let text =
         "\nlog 65536 1408 -7 9223372036854775904 2147483647 -2147483648 7\n\nconnect\ndisconnect\nclose\nlimit\n\
         offer 3 hex 00fFA09b\noffer 5 size 10\nclaim 6 100\ncommit 6\nabort 0\nread 7\n\nsend 5\ndeliver 1 2 3\n\
-        tick 4 18446744073709551615\nreply 6 7\npoll 7\nimage 0";
+raw 6 9 0aFf\ntick 4 18446744073709551615\nreply 6 7\nrawback 8 00\npoll 7\nimage 0";
     let script = read_script(rt.alloc(), text.as_bytes())?;
     let log = LogLine {
         term_length: 65_536,
@@ -287,11 +296,20 @@ fn a_script(rt: HostRuntime) -> Result<(), Fail> {
             receiver: PartyNumber { number: 2 },
             now: 3
         },
+        Command::Raw {
+            receiver: PartyNumber { number: 6 },
+            now: 9,
+            bytes: vec![in rt.alloc(); 10, 255]?
+        },
         Command::Tick {
             receiver: PartyNumber { number: 4 },
             now: u64::MAX
         },
         Command::Reply { packet: 6, now: 7 },
+        Command::RawBack {
+            now: 8,
+            bytes: vec![in rt.alloc(); 0]?
+        },
         Command::Poll {
             receiver: PartyNumber { number: 7 }
         },

@@ -1,44 +1,151 @@
 -- A cycle is its steps, one after the other.
-use Rattle.std.proofs.Common.{◌≡◌, ◌∙◌, ℕ, List, [], ◌++◌, sym, ap, subst, refl}
-use Rattle.std.proofs.lemmas.List.{map-append}
-use Rattle.theory.specs.Placed.{Placed}
+use Rattle.std.proofs.Common.{◌≡◌, ℕ, ◌+◌, Bool, true, false, List, [], ◌∷◌, ◌++◌, length, map, Option, None, Some, refl, sym, ap, ◌∙◌, subst, append-nil, length-append, arith}
+use Rattle.std.specs.List.{flat_map}
+use Rattle.std.specs.Option.{option_to_list}
+use Rattle.std.specs.Prelude.{nat_eq, nat_lt, ◌&&◌, if◌then◌else◌}
+use Rattle.std.proofs.lemmas.Bool.{le-ltb, lt-ltb, ne_eqb}
+use Rattle.std.proofs.lemmas.List.{length-map, map-append}
+use Rattle.theory.specs.Placed.{Placed, end_of}
+use Rattle.theory.specs.Wire.{Wire, spelling}
 use Rattle.theory.specs.Bytes.{Identity}
-use Rattle.theory.specs.Wire.{spelling}
+use Rattle.theory.specs.Gap.{Gap}
+use Rattle.theory.specs.Control.{setup_at}
+use Rattle.theory.specs.Datagrams.{wires}
+use Rattle.theory.specs.Timing.{is_heartbeat_due}
 use Rattle.frame_source.specs.Sources.{Source}
-use Rattle.setup.specs.Naming.{after_due, is_due}
-use Rattle.sender.specs.Cycling.{IsNextSent, datagrams, setups}
-use Rattle.sender.specs.Outgoing.{Outgoing}
-use Rattle.sender.specs.Sending.{Cycles, Sending, SendsFrom, SendsNext, behind, frame_wires, with_wires}
+use Rattle.retransmit.specs.Handler.{Handler, after_due, after_note, due_range}
+use Rattle.setup.specs.Naming.{after_due as named_after, is_due}
+use Rattle.sender.specs.Cycling.{Cycle, GivesAgain, GivesNew, alone, datagrams, heartbeats, is_heard, is_silent, sent_wires, setups}
+use Rattle.sender.specs.Giving.{SendsAgain, SendsNew, with_all}
+use Rattle.sender.specs.Outgoing.{Outgoing, with_datagram}
+use Rattle.sender.specs.Sending.{Cycles, ReadsTo, Sending, SendsFrom, cycled, noted}
 
--- the flow control's tick, the SETUP, the next frame
-pub cycled : {R F : Type 0} (grown : List Placed → List Placed → Type 0) (after_tick : F → ℕ → F) (reached : F → ℕ) (s ticked named t : Sending R F) (old new : Source) (o p q : Outgoing)
-    → o.datagrams ≡ [] → SendsFrom s old
-    → ticked ≡ record s { flow = after_tick s.flow s.clock }
-    → named ≡ record ticked { naming = after_due ticked.naming ticked.clock }
-    → p ≡ with_wires o (setups ticked.identity ticked.position (is_due ticked.naming ticked.clock))
-    → SendsNext grown old p (reached named.flow) new q
-    → t ≡ record named { position = new.position; reads = t.reads }
-    → Cycles grown after_tick reached s old new t q.datagrams
-cycled {R = R} {F = F} grown after_tick reached s ticked named t old new o p q empty from tick name out sends state =
-    let after : named ≡ record s { flow = after_tick s.flow s.clock; naming = after_due s.naming s.clock } = name ∙ ap (λ (x : Sending R F). record x { naming = after_due x.naming x.clock }) tick in
-    let wires = setups s.identity s.position (is_due s.naming s.clock) in
-    let first : p.datagrams ≡ datagrams wires =
-    ap (λ (x : Outgoing). x.datagrams) out
-    ∙ ap (λ (x : Sending R F). o.datagrams ++ datagrams (setups x.identity x.position (is_due x.naming x.clock))) tick
-    ∙ ap (λ (d : List (List ℕ)). d ++ datagrams wires) empty in
-    let moved : new.position ≡ behind s.position sends.frame = ap (λ (x : Source). x.position) sends.reads.past ∙ ap (λ (n : ℕ). behind n sends.frame) from.position in
+-- ---- what is told
+
+-- a frame in a datagram of its own
+pub setup_given : (o p : Outgoing) (v : Wire) (i j : Identity) (a b c : ℕ) → p ≡ with_datagram o (spelling v) → v ≡ setup_at i a → i ≡ j → a ≡ b → b ≡ c → p ≡ with_all o (alone (setups j c true))
+setup_given o p v i j a b c e f same at there =
+    e
+    ∙ ap (λ (x : Wire). with_datagram o (spelling x)) (f ∙ ap (λ (x : Identity). setup_at x a) same ∙ ap (λ (x : ℕ). setup_at j x) (at ∙ there))
+    ∙ ap (λ (x : List ℕ). with_datagram o x) (sym (append-nil (spelling (setup_at j c))))
+
+pub noted_geometry : (h : Handler) (ss : List Placed) → (noted h ss).geometry ≡ h.geometry
+noted_geometry h [] = refl
+noted_geometry h (s ∷ ss) = noted_geometry (after_note h s.at (end_of s)) ss
+
+-- nothing goes out again where no range is due
+pub none_again : (i : Identity) (frames : List Placed) (range : Option Gap) (o : Outgoing) → range ≡ None → SendsAgain i frames range o o
+none_again i frames range o e =
+    let none : SendsAgain i frames None o o = record { again = []; gives = refl; out = ap (λ (d : List (List ℕ)). record o { datagrams = d }) (sym (append-nil o.datagrams)) } in
+    subst (λ (x : Option Gap). SendsAgain i frames x o o) (sym e) none
+
+-- ---- how many datagrams there are
+
+-- there is none exactly where neither a SETUP nor a frame goes out
+silent_is : (i : Identity) (at : ℕ) (setup : Bool) (fresh again : List (List Placed)) (beat : Bool) → nat_eq (length (datagrams (alone (setups i at setup) ++ map (wires i) fresh ++ map (wires i) again))) 0 ≡ is_silent (record { setup = setup; fresh = fresh; again = again; beat = beat })
+silent_is i at true fresh again beat = ne_eqb _ 0 (λ e. absurd (omega (arith, e)))
+silent_is i at false (f ∷ fs) again beat = ne_eqb _ 0 (λ e. absurd (omega (arith, e)))
+silent_is i at false [] (a ∷ rest) beat = ne_eqb _ 0 (λ e. absurd (omega (arith, e)))
+silent_is i at false [] [] beat = refl
+
+count : (a f r h : List (List Wire)) → length (datagrams (a ++ f ++ r ++ h)) ≡ length (datagrams a) + length f + length r + length h
+count a f r h = omega (arith, length-map {A = List Wire} {B = List ℕ}, length-append {A = List Wire})
+
+-- one more than the SETUP exactly where a frame or a heartbeat goes out
+heard_is : (i : Identity) (at to : ℕ) (setup : Bool) (fresh again : List (List Placed)) (beat : Bool) → nat_lt (length (datagrams (alone (setups i at setup)))) (length (datagrams (sent_wires i at to (record { setup = setup; fresh = fresh; again = again; beat = beat })))) ≡ is_heard (record { setup = setup; fresh = fresh; again = again; beat = beat })
+heard_is i at to setup (f ∷ fs) again beat = lt-ltb _ _ (omega (arith, count (alone (setups i at setup)) (map (wires i) (f ∷ fs)) (map (wires i) again) (alone (heartbeats i to beat))))
+heard_is i at to setup [] (a ∷ rest) beat = lt-ltb _ _ (omega (arith, count (alone (setups i at setup)) [] (map (wires i) (a ∷ rest)) (alone (heartbeats i to beat))))
+heard_is i at to setup [] [] true = lt-ltb _ _ (omega (arith, count (alone (setups i at setup)) [] [] (alone (heartbeats i to true))))
+heard_is i at to setup [] [] false = le-ltb _ _ (omega (arith, count (alone (setups i at setup)) [] [] (alone (heartbeats i to false))))
+
+-- ---- the steps
+
+-- what they told of themselves, from the sender s with the flow control ticked to the sender e
+pub record Steps {R F : Type 0} (grown : List Placed → List Placed → Type 0) (after_tick : F → ℕ → F) (reached : F → ℕ) (s b c d e : Sending R F) (flow : F) (o p q r t : Outgoing) (old mid new : Source) : Type 0 where
+  pub empty : o.datagrams ≡ []
+  pub tick : flow ≡ after_tick s.flow s.clock
+  pub name : b ≡ record s { flow = flow; naming = named_after s.naming s.clock }
+  pub named : p ≡ with_all o (alone (setups s.identity s.handler.at (is_due s.naming s.clock)))
+  pub sends : SendsNew grown b.identity (reached b.flow) old b.handler p mid c.handler q
+  pub sent : c ≡ record b { reads = c.reads; handler = c.handler }
+  pub again : SendsAgain c.identity mid.frames (due_range c.handler) q r
+  pub answered : d ≡ record c { reads = d.reads; handler = after_due c.handler c.clock }
+  pub stays : new ≡ mid
+  pub beat : t ≡ with_all r (alone (heartbeats d.identity d.handler.at (nat_eq (length r.datagrams) 0 && is_heartbeat_due (option_to_list d.last) d.naming.heard d.clock)))
+  pub noted : e ≡ record d { last = if nat_lt (length p.datagrams) (length t.datagrams) then Some d.clock else d.last }
+
+-- the sender behind the SETUP, and behind the new frames
+abbrev ticked : {R F : Type 0} → Sending R F → F → Sending R F
+ticked s flow = record s { flow = flow; naming = named_after s.naming s.clock }
+
+pub cycles : {R F : Type 0} (grown : List Placed → List Placed → Type 0) (after_tick : F → ℕ → F) (reached : F → ℕ) (s b c d e : Sending R F) (flow : F) (o p q r t : Outgoing) (old mid new : Source) → Steps grown after_tick reached s b c d e flow o p q r t old mid new → Cycles grown after_tick reached s old new e t.datagrams
+cycles {R = R} {F = F} grown after_tick reached s b c d e flow o p q r t old mid new h =
+    let S : Type 0 = Sending R F in
+    let f : F = after_tick s.flow s.clock in
+    let ib : b ≡ ticked s f = h.name ∙ ap (λ (x : F). ticked s x) h.tick in
+    let sends : SendsNew grown s.identity (reached f) old s.handler p mid c.handler q = subst (λ (x : S). SendsNew grown x.identity (reached x.flow) old x.handler p mid c.handler q) ib h.sends in
+    let ic : c ≡ record (ticked s f) { reads = c.reads; handler = c.handler } = h.sent ∙ ap (λ (x : S). record x { reads = c.reads; handler = c.handler }) ib in
+    let again : SendsAgain s.identity mid.frames (due_range c.handler) q r = subst (λ (x : S). SendsAgain x.identity mid.frames (due_range c.handler) q r) ic h.again in
+    let id : d ≡ record (ticked s f) { reads = d.reads; handler = after_due c.handler s.clock } = h.answered ∙ ap (λ (x : S). record x { reads = d.reads; handler = after_due c.handler x.clock }) ic in
+    let i = s.identity in
+    let due = is_due s.naming s.clock in
+    let late = is_heartbeat_due (option_to_list s.last) s.naming.heard s.clock in
+    let setup = alone (setups i s.handler.at due) in
+    let quiet : Cycle = record { setup = due; fresh = sends.fresh; again = again.again; beat = false } in
+    let y : Cycle = record { setup = due; fresh = sends.fresh; again = again.again; beat = is_silent quiet && late } in
+    let first : p.datagrams ≡ datagrams setup = ap (λ (x : Outgoing). x.datagrams) h.named ∙ ap (λ (x : List (List ℕ)). x ++ datagrams setup) h.empty in
+    let second : q.datagrams ≡ datagrams (setup ++ map (wires i) sends.fresh) =
+    ap (λ (x : Outgoing). x.datagrams) sends.out
+    ∙ ap (λ (x : List (List ℕ)). x ++ datagrams (map (wires i) sends.fresh)) first
+    ∙ sym (map-append (flat_map spelling) setup (map (wires i) sends.fresh)) in
+    let third : r.datagrams ≡ datagrams (setup ++ map (wires i) sends.fresh ++ map (wires i) again.again) =
+    ap (λ (x : Outgoing). x.datagrams) again.out
+    ∙ ap (λ (x : List (List ℕ)). x ++ datagrams (map (wires i) again.again)) second
+    ∙ sym (map-append (flat_map spelling) (setup ++ map (wires i) sends.fresh) (map (wires i) again.again)) in
+    let silent : nat_eq (length r.datagrams) 0 ≡ is_silent quiet = ap (λ (x : List (List ℕ)). nat_eq (length x) 0) third ∙ silent_is i s.handler.at due sends.fresh again.again false in
+    let beat : t ≡ with_all r (alone (heartbeats i c.handler.at y.beat)) =
+    subst (λ (x : S). t ≡ with_all r (alone (heartbeats x.identity x.handler.at (nat_eq (length r.datagrams) 0 && is_heartbeat_due (option_to_list x.last) x.naming.heard x.clock)))) id h.beat
+    ∙ ap (λ (x : Bool). with_all r (alone (heartbeats i c.handler.at (x && late)))) silent in
+    let all : t.datagrams ≡ datagrams (sent_wires i s.handler.at c.handler.at y) =
+    ap (λ (x : Outgoing). x.datagrams) beat
+    ∙ ap (λ (x : List (List ℕ)). x ++ datagrams (alone (heartbeats i c.handler.at y.beat))) third
+    ∙ sym (map-append (flat_map spelling) (setup ++ map (wires i) sends.fresh ++ map (wires i) again.again) (alone (heartbeats i c.handler.at y.beat))) in
+    let heard : nat_lt (length p.datagrams) (length t.datagrams) ≡ is_heard y =
+    ap (λ (x : List (List ℕ)). nat_lt (length x) (length t.datagrams)) first
+    ∙ ap (λ (x : List (List ℕ)). nat_lt (length (datagrams setup)) (length x)) all
+    ∙ heard_is i s.handler.at c.handler.at due sends.fresh again.again y.beat in
+    let same : d.reads ≡ e.reads = sym (ap (λ (x : S). x.reads) h.noted) in
+    let state : e ≡ cycled s e.reads f y =
+    h.noted
+    ∙ ap (λ (x : S). record x { last = if nat_lt (length p.datagrams) (length t.datagrams) then Some x.clock else x.last }) id
+    ∙ ap (λ (x : R). record (ticked s f) { reads = x; handler = after_due c.handler s.clock; last = if nat_lt (length p.datagrams) (length t.datagrams) then Some s.clock else s.last }) same
+    ∙ ap (λ (x : Bool). record (ticked s f) { reads = e.reads; handler = after_due c.handler s.clock; last = if x then Some s.clock else s.last }) heard
+    ∙ ap (λ (x : Handler). record (ticked s f) { reads = e.reads; handler = after_due x s.clock; last = if is_heard y then Some s.clock else s.last }) sends.handler in
+    let at : c.handler.at ≡ e.handler.at = ap (λ (x : Handler). x.at) sends.handler ∙ sym (ap (λ (x : S). x.handler.at) state) in
     record {
-      cycle = record { setup = is_due s.naming s.clock; frame = sends.frame };
-      setup = refl;
-      next = subst (λ (n : ℕ). IsNextSent new.frames n (reached (after_tick s.flow s.clock)) sends.frame) from.position (subst (λ (x : Sending R F). IsNextSent new.frames old.position (reached x.flow) sends.frame) after sends.next);
-      sends =
-          ap (λ (x : Outgoing). x.datagrams) sends.sent
-          ∙ ap (λ (d : List (List ℕ)). d ++ datagrams (frame_wires old.identity sends.frame)) first
-          ∙ ap (λ (i : Identity). datagrams wires ++ datagrams (frame_wires i sends.frame)) from.identity
-          ∙ sym (map-append spelling wires (frame_wires s.identity sends.frame));
-      state =
-          state
-          ∙ ap (λ (x : Sending R F). record x { position = new.position; reads = t.reads }) after
-          ∙ ap (λ (n : ℕ). record s { position = n; reads = t.reads; flow = after_tick s.flow s.clock; naming = after_due s.naming s.clock }) moved;
-      reads = sends.reads;
+      cycle = y;
+      is = record {
+        setup = refl;
+        new = subst (λ (x : Source). GivesNew i.geometry x.frames s.handler.at (reached f) sends.fresh) (sym h.stays) sends.gives;
+        again = subst (λ (x : Handler). GivesAgain i.geometry new.frames (due_range x) again.again) sends.handler (subst (λ (x : Source). GivesAgain i.geometry x.frames (due_range c.handler) again.again) (sym h.stays) again.gives);
+        beat = refl;
+      };
+      state = state;
+      sends = all ∙ ap (λ (n : ℕ). datagrams (sent_wires i s.handler.at n y)) at;
+      reads = subst (λ (n : ℕ). ReadsTo grown old n new) at (subst (λ (x : Source). ReadsTo grown old c.handler.at x) (sym h.stays) sends.reads);
     }
+
+-- and it still is the sender of its stream
+pub stays_from : {R F : Type 0} (c d e : Sending R F) (mid new : Source) (last : Option ℕ) → SendsFrom c mid → d ≡ record c { reads = d.reads; handler = after_due c.handler c.clock } → e ≡ record d { last = last } → new ≡ mid → SendsFrom e new
+stays_from {R = R} {F = F} c d e mid new last from answered note same =
+    let there : SendsFrom (record c { reads = d.reads; handler = after_due c.handler c.clock; last = last }) mid = record { identity = from.identity; position = from.position; near = from.near } in
+    let is : e ≡ record c { reads = d.reads; handler = after_due c.handler c.clock; last = last } = note ∙ ap (λ (x : Sending R F). record x { last = last }) answered in
+    subst (λ (x : Sending R F). SendsFrom x new) (sym is) (subst (λ (x : Source). SendsFrom (record c { reads = d.reads; handler = after_due c.handler c.clock; last = last }) x) (sym same) there)
+
+-- a reader that stands where the sender does, after new frames
+pub still_from : {R F : Type 0} (grown : List Placed → List Placed → Type 0) (s t : Sending R F) (limit : ℕ) (old new : Source) (o n : Outgoing) → SendsFrom s old → t.identity ≡ s.identity → SendsNew grown s.identity limit old s.handler o new t.handler n → SendsFrom t new
+still_from grown s t limit old new o n from same sends = record {
+  identity = ap (λ (x : Source). x.identity) sends.reads.moved ∙ from.identity ∙ sym same;
+  position = ap (λ (x : Source). x.position) sends.reads.moved;
+  near = sends.there;
+}

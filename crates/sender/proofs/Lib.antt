@@ -1,5 +1,10 @@
-pub mod Bytes
-pub mod CycleLemmas
 pub mod NewsLemmas
 pub mod OutgoingLemmas
-pub mod SendLemmas
+pub mod PackingLemmas
+pub mod StartLemmas
+pub mod FreshLemmas
+pub mod NextLemmas
+pub mod AgainLemmas
+pub mod DueLemmas
+pub mod CycleLemmas
+mod CycleRows

@@ -3,14 +3,14 @@ use Rattle.std.proofs.Common.{◌≡◌, ◌∙◌, ℕ, List, [], ◌∷◌, �
 use Rattle.std.proofs.lemmas.List.{take-append-drop}
 use Rattle.std.specs.List.{flat_map}
 use Rattle.std.specs.Prelude.{Some}
-use Rattle.theory.specs.Wire.{Wire, Status, SM, SpellsDatagram, spelling}
+use Rattle.theory.specs.Wire.{NAK, Nak, SM, SpellsDatagram, Status, Wire, spelling}
 use Rattle.theory.specs.Bytes.{Identity}
 use Rattle.theory.proofs.Spelled.{one_spelling}
 use Rattle.frames.specs.declared.fault.FrameError.{FrameError}
 use Rattle.frames.specs.Fronts.{FrontSpells}
 use Rattle.frames.specs.Order.{first_fault}
 use Rattle.frames.specs.Datagrams.{IsDatagramFault}
-use Rattle.sender.specs.Cycling.{IsNews, NewsContent, Says, AsksSetup, TellsNothing, Unreadable}
+use Rattle.sender.specs.Cycling.{IsNews, NewsContent, Says, AsksSetup, Misses, TellsNothing, Unreadable}
 use Rattle.sender.specs.FirstNews.{FirstTells}
 
 record Starts (frames : List Wire) (w : Wire) : Type 0 where
@@ -35,14 +35,29 @@ first_of : Wire → List Wire → Wire
 first_of w [] = w
 first_of w (v ∷ vs) = v
 
-only : (asks : ℕ) (f : Status) (frames : List Wire) (w : Wire) → Starts frames w → frames ≡ SM asks f ∷ [] → w ≡ SM asks f
+only : (v : Wire) (frames : List Wire) (w : Wire) → Starts frames w → frames ≡ v ∷ [] → w ≡ v
 unfolding first_of
-only asks f frames w start e = ap (first_of w) (sym start.is ∙ e)
+only v frames w start e = ap (first_of w) (sym start.is ∙ e)
+
+-- a negative acknowledgement too
+as_nak : (f : Nak) (frames : List Wire) (bytes : List ℕ) (w : Wire) → SpellsDatagram frames bytes → Starts frames w → w ≡ NAK f → SpellsDatagram (NAK f ∷ []) bytes
+as_nak f frames bytes w s start e =
+    let whole : SpellsDatagram (NAK f ∷ start.rest) bytes = subst (λ (x : List Wire). SpellsDatagram x bytes) (start.is ∙ ap (λ (x : Wire). x ∷ start.rest) e) s in
+    subst (λ (x : List Wire). SpellsDatagram (NAK f ∷ x) bytes) whole.0 whole
 
 pub told_first : (i : Identity) (bytes : List ℕ) (frames : List Wire) (w : Wire) (n : ℕ) (news : NewsContent) → SpellsDatagram frames bytes → FrontSpells bytes w n → FirstTells i w news → IsNews i bytes news
 told_first i bytes frames w n (Says f) s front h = (as_status 0 f frames bytes w s (first_frame frames bytes w n s front) h.0, h.1)
 told_first i bytes frames w n AsksSetup s front h = (h.0, as_status 128 h.0 frames bytes w s (first_frame frames bytes w n s front) h.1, h.2)
-told_first i bytes frames w n TellsNothing s front h = (frames, s, λ asks f e own. h asks f (only asks f frames w (first_frame frames bytes w n s front) e) own)
+told_first i bytes frames w n (Misses f) s front h = (as_nak f frames bytes w s (first_frame frames bytes w n s front) h.0, h.1)
+told_first i bytes frames w n TellsNothing s front h =
+    let starts = first_frame frames bytes w n s front in (
+      frames,
+      s,
+      record {
+        no_status = λ asks f e own. h.no_status asks f (ap (λ (x : Wire). x ∷ []) (only (SM asks f) frames w starts e)) own;
+        no_nak = λ f e own. h.no_nak f (ap (λ (x : Wire). x ∷ []) (only (NAK f) frames w starts e)) own;
+      },
+    )
 told_first i bytes frames w n (Unreadable fault) s front h = absurd h
 
 -- what has a fault at its front has that fault

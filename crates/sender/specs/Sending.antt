@@ -1,15 +1,18 @@
 -- What a contract sees of a sender, and what becomes of it by a tick and by a datagram.
-use Rattle.std.specs.Prelude.{◌≡◌, ◌≤◌, ℕ, ℤ, pos, true, false, List, [], ◌++◌, map, Option, None, Some}
-use Rattle.std.specs.Option.{IfSome, option_map, option_to_list}
-use Rattle.theory.specs.Position.{max_position, position_of}
-use Rattle.theory.specs.Placed.{Placed, end_of}
-use Rattle.theory.specs.Wire.{Wire}
-use Rattle.theory.specs.Bytes.{Identity, wire_at}
-use Rattle.theory.specs.Timing.{seen}
+use Rattle.std.specs.Prelude.{◌≡◌, ◌⊎◌, ◌+◌, ◌*◌, ◌/◌, ◌≤◌, ℕ, ℤ, pos, true, false, ◌&&◌, Bool, List, [], ◌∷◌, Option, None, Some, if◌then◌else◌}
+use Rattle.std.specs.Option.{option_to_list}
+use Rattle.theory.specs.Position.{position_of}
+use Rattle.theory.specs.Placed.{Among, Placed, end_of}
+use Rattle.theory.specs.Wire.{Nak, Status}
+use Rattle.theory.specs.Bytes.{Identity}
+use Rattle.theory.specs.Datagrams.{frames_of}
+use Rattle.theory.specs.Timing.{is_heartbeat_due, seen}
 use Rattle.frame_source.specs.Sources.{Source}
-use Rattle.setup.specs.Naming.{Naming, after_due, is_due}
-use Rattle.sender.specs.Cycling.{Cycle, IsNews, IsNextSent, NewsContent, Says, AsksSetup, TellsNothing, Unreadable, datagrams, sent_wires, setups}
-use Rattle.sender.specs.Outgoing.{Outgoing}
+use Rattle.retransmit.specs.Answers.{meaning}
+use Rattle.retransmit.specs.Handler.{Handler, after_due, after_nak, after_note, due_range, fresh, nak_answer_of}
+use Rattle.retransmit.specs.declared.answer.NakResult.{NakResult}
+use Rattle.setup.specs.Naming.{Naming, after_due as named_after, is_due}
+use Rattle.sender.specs.Cycling.{Cycle, GivesAgain, GivesNew, IsNews, NewsContent, Says, AsksSetup, Misses, TellsNothing, Unreadable, alone, datagrams, is_heard, is_silent, sent_wires, setups}
 use Rattle.sender.specs.declared.sender_core.SenderAnswer.{SenderAnswer}
 use Rattle.sender.specs.declared.sender_core.SenderAnswer.TheVariants as answers
 use Rattle.sender.specs.declared.sender_core.SenderEvent.{SenderEvent}
@@ -18,12 +21,14 @@ use Rattle.sender.specs.declared.sender_core.SenderEvent.TheVariants as events
 pub record Sending (R F : Type 0) : Type 0 where
   -- the log's
   pub identity : Identity
-  -- the end of what it sent of the stream, or the stream's start
-  pub position : ℕ
   pub reads : R
   pub flow : F
-  -- what it remembers of its SETUPs
+  -- what it remembers of its SETUPs, and whether a status message has come
   pub naming : Naming
+  -- its position, the end of what it sent of the stream; where the frames start that can be asked for again, and what is asked for
+  pub handler : Handler
+  -- the moment of the last datagram of frames and of the last heartbeat
+  pub last : Option ℕ
   -- the greatest moment that it has seen
   pub clock : ℕ
 
@@ -31,10 +36,11 @@ pub record Sending (R F : Type 0) : Type 0 where
 abbrev pub begun : {R F : Type 0} → Identity → ℕ → R → F → Sending R F
 begun identity start reads flow = record {
   identity = identity;
-  position = start;
   reads = reads;
   flow = flow;
   naming = record { clock = 0; last = None; heard = false };
+  handler = fresh identity.geometry start;
+  last = None;
   clock = 0;
 }
 
@@ -46,77 +52,94 @@ pub record BeginsAt (start reached allowed : ℕ) : Type 0 where
 abbrev pub at_moment : {R F : Type 0} → Sending R F → ℕ → Sending R F
 at_moment s now = record s { clock = seen s.clock now }
 
+-- ---- where it stands in its stream
+
+-- a frame begins at p that can be read again, and leads to another start or to the sender's position
+pub record LeadsOn (term : ℕ) (frames : List Placed) (starts : List ℕ) (at p : ℕ) : Type 0 where
+  pub frame : Placed
+  pub among : Among frame frames
+  pub here : frame.at ≡ p
+  pub below : end_of frame ≤ at
+  pub near : at ≤ p + 3 * term / 4
+  pub on : (end_of frame ≡ at) ⊎ Among (end_of frame) starts
+
+-- what can be asked for again can be read there
+abbrev pub AreThere : List Placed → Handler → Type 0
+AreThere frames h = (p : ℕ) → Among p h.starts → LeadsOn h.geometry.term_length frames h.starts h.at p
+
 -- it sends what comes from here, and has sent all before
 pub record SendsFrom {R F : Type 0} (s : Sending R F) (source : Source) : Type 0 where
   pub identity : source.identity ≡ s.identity
-  pub position : source.position ≡ s.position
+  pub position : source.position ≡ s.handler.at
+  pub near : AreThere source.frames s.handler
 
 -- and still is the sender of its stream
 pub record GoesOn {R F : Type 0} (s t : Sending R F) (source : Source) : Type 0 where
   pub identity : t.identity ≡ s.identity
   pub from : SendsFrom t source
 
--- where it stands nothing has changed
-pub record StaysAt {R F : Type 0} (s t : Sending R F) : Type 0 where
-  pub identity : t.identity ≡ s.identity
-  pub position : t.position ≡ s.position
-  pub reads : t.reads ≡ s.reads
-
 -- ---- a tick
 
--- behind the frame that goes out, if one does
-abbrev pub behind : ℕ → Option Placed → ℕ
-behind at None = at
-behind at (Some s) = end_of s
+-- the frames were sent, one after the other
+abbrev pub noted : Handler → List Placed → Handler
+noted h [] = h
+noted h (s ∷ ss) = noted (after_note h s.at (end_of s)) ss
 
-abbrev pub frame_wires : Identity → Option Placed → List Wire
-frame_wires i frame = map (λ s. wire_at i s.at s.frame) (option_to_list frame)
+abbrev pub after_fresh : {R F : Type 0} → Sending R F → Cycle → Handler
+after_fresh s y = noted s.handler (frames_of y.fresh)
 
-abbrev pub with_wires : Outgoing → List Wire → Outgoing
-with_wires o wires = record o { datagrams = o.datagrams ++ datagrams wires }
+-- where it sends nothing else, and a status message has come, and a tenth of a second has passed
+abbrev pub is_beat_due : {R F : Type 0} → Sending R F → Cycle → Bool
+is_beat_due s y = is_silent y && is_heartbeat_due (option_to_list s.last) s.naming.heard s.clock
 
--- the reads left the source behind this frame, others may have added to the frames meanwhile
-pub record ReadsPast (grown : List Placed → List Placed → Type 0) (old : Source) (frame : Option Placed) (new : Source) : Type 0 where
+-- what goes out in a cycle at the moment that was seen last, by the limit of the flow control after a tick, where these frames are to be read in the end
+pub record IsCycle {R F : Type 0} (s : Sending R F) (limit : ℕ) (frames : List Placed) (y : Cycle) : Type 0 where
+  pub setup : y.setup ≡ is_due s.naming s.clock
+  pub new : GivesNew s.identity.geometry frames s.handler.at limit y.fresh
+  pub again : GivesAgain s.identity.geometry frames (due_range (after_fresh s y)) y.again
+  pub beat : y.beat ≡ is_beat_due s y
+
+-- the sender behind a cycle, by its reads and its flow control then
+abbrev pub cycled : {R F : Type 0} → Sending R F → R → F → Cycle → Sending R F
+cycled s reads flow y = record s {
+  reads = reads;
+  flow = flow;
+  naming = named_after s.naming s.clock;
+  handler = after_due (after_fresh s y) s.clock;
+  last = if is_heard y then Some s.clock else s.last;
+}
+
+-- the reads left the source at this position, others may have added to the frames meanwhile
+pub record ReadsTo (grown : List Placed → List Placed → Type 0) (old : Source) (to : ℕ) (new : Source) : Type 0 where
   pub grows : grown old.frames new.frames
-  pub past : new ≡ record old { position = behind old.position frame; frames = new.frames }
+  pub moved : new ≡ record old { position = to; frames = new.frames }
 
--- the next frame goes out, if it may
-pub record SendsNext (grown : List Placed → List Placed → Type 0) (old : Source) (o : Outgoing) (limit : ℕ) (new : Source) (p : Outgoing) : Type 0 where
-  pub frame : Option Placed
-  pub next : IsNextSent new.frames old.position limit frame
-  pub sent : p ≡ with_wires o (frame_wires old.identity frame)
-  pub reads : ReadsPast grown old frame new
-
--- and this is where it ends, within the stream
-pub record Gives (grown : List Placed → List Placed → Type 0) (old : Source) (o : Outgoing) (limit : ℕ) (end : Option ℕ) (new : Source) (p : Outgoing) : Type 0 where
-  pub sends : SendsNext grown old o limit new p
-  pub end_is : end ≡ option_map end_of sends.frame
-  pub in_stream : IfSome end (λ e. e ≤ max_position old.identity.geometry)
-
--- a cycle at the moment that was seen last: by what a flow control is after a tick, and the limit of one
+-- a cycle: by what a flow control is after a tick, and the limit of one
 pub record Cycles {R F : Type 0} (grown : List Placed → List Placed → Type 0) (after_tick : F → ℕ → F) (reached : F → ℕ) (s : Sending R F) (old new : Source) (t : Sending R F) (sent : List (List ℕ)) : Type 0 where
   pub cycle : Cycle
-  pub setup : cycle.setup ≡ is_due s.naming s.clock
-  pub next : IsNextSent new.frames s.position (reached (after_tick s.flow s.clock)) cycle.frame
-  pub sends : sent ≡ datagrams (sent_wires s.identity s.position cycle)
-  pub state : t ≡ record s { position = behind s.position cycle.frame; reads = t.reads; flow = after_tick s.flow s.clock; naming = after_due s.naming s.clock }
-  pub reads : ReadsPast grown old cycle.frame new
+  pub is : IsCycle s (reached (after_tick s.flow s.clock)) new.frames cycle
+  pub state : t ≡ cycled s t.reads (after_tick s.flow s.clock) cycle
+  pub sends : sent ≡ datagrams (sent_wires s.identity s.handler.at t.handler.at cycle)
+  pub reads : ReadsTo grown old t.handler.at new
 
 -- ---- a datagram
 
 -- what a sender makes of a status message: by what a flow control is after one
-abbrev pub told : {R F : Type 0} → (F → ℤ → ℤ → ℤ → ℕ → F) → Sending R F → ℤ → ℤ → ℤ → Sending R F
-told after_status s position window receiver = record s {
-  flow = after_status s.flow position window receiver s.clock;
+abbrev pub told : {R F : Type 0} → (F → ℤ → ℤ → ℤ → ℕ → F) → Sending R F → Status → Sending R F
+told after_status s f = record s {
+  flow = after_status s.flow (position_of s.identity.geometry f.term_id f.term_offset) f.window f.receiver s.clock;
   naming = record s.naming { heard = true };
 }
 
+-- what it makes of a negative acknowledgement
+abbrev pub asked : {R F : Type 0} → Sending R F → Nak → Sending R F
+asked s f = record s { handler = after_nak s.handler s.clock (position_of s.identity.geometry f.term_id f.term_offset) f.length }
+
 abbrev pub HearsNews : {R F : Type 0} → (F → ℤ → ℤ → ℤ → ℕ → F) → (F → ℕ) → Sending R F → NewsContent → SenderAnswer → Sending R F → List (List ℕ) → Type 0
-HearsNews after_status reached s (Says f) answer t sent =
-    (t ≡ told after_status s (position_of s.identity.geometry f.term_id f.term_offset) f.window f.receiver)
-    × (answer ≡ answers.Status (pos (reached t.flow)))
-    × (sent ≡ [])
-HearsNews after_status reached s AsksSetup answer t sent = (t ≡ s) × (answer ≡ answers.Asked) × (sent ≡ datagrams (setups s.identity s.position true))
+HearsNews after_status reached s (Says f) answer t sent = (t ≡ told after_status s f) × (answer ≡ answers.Status (pos (reached t.flow))) × (sent ≡ [])
+HearsNews after_status reached s AsksSetup answer t sent = (t ≡ s) × (answer ≡ answers.Asked) × (sent ≡ datagrams (alone (setups s.identity s.handler.at true)))
+HearsNews after_status reached s (Misses f) answer t sent =
+    (n : NakResult) × (answer ≡ answers.Missed n) × (meaning n ≡ nak_answer_of s.handler s.clock (position_of s.identity.geometry f.term_id f.term_offset) f.length) × (t ≡ asked s f) × (sent ≡ [])
 HearsNews after_status reached s TellsNothing answer t sent = (t ≡ s) × (answer ≡ answers.Other) × (sent ≡ [])
 HearsNews after_status reached s (Unreadable fault) answer t sent = (t ≡ s) × (answer ≡ answers.Refused fault) × (sent ≡ [])
 

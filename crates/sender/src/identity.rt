@@ -1,15 +1,15 @@
 //! Which stream a sender sends.
 
-ghost use Rattle.std.specs.Prelude.{◌≡◌, ◌+◌, ◌≤◌, ◌↔◌, length, IsTrue};
+ghost use Rattle.std.specs.Prelude.{◌≡◌, ◌+◌, ◌%◌, ◌≤◌, ◌↔◌, length, IsTrue};
 ghost use Rattle.theory.specs.Position.{IsGeometry, aligned, max_position};
 ghost use Rattle.theory.specs.Bytes.{header_at};
-ghost use Rattle.theory.specs.Control.{setup_at};
+ghost use Rattle.theory.specs.Control.{heartbeat_at, setup_at};
 ghost use Rattle.theory.specs.Wire.{IsFrame, IsHeader, spelling};
 ghost use Rattle.position.specs.Heads.{IsStreamFrame};
-ghost use Rattle.frames.specs.Frames.{header_of, status_of, wire};
+ghost use Rattle.frames.specs.Frames.{header_of, wire};
 ghost use Rattle.sender.specs.Cycling.{IsOwn};
 
-use frames::{Frame, Header, Setup, Status};
+use frames::{Frame, Header, Setup};
 use position::{FrameHead, Geometry};
 use std::marker::Model;
 
@@ -51,11 +51,11 @@ impl Identity {
         self.geometry
     }
 
-    /// Whether a status message is of this session and stream.
-    pub fn is_own(&self, status: &Status) -> bool
-        ensures { IsTrue result ↔ IsOwn self.now (status_of status.now) }
+    /// Whether these are its session and stream.
+    pub fn is_own(&self, session: i32, stream: i32) -> bool
+        ensures { IsTrue result ↔ IsOwn self.now session stream }
     {
-        status.session == self.session && status.stream == self.stream
+        session == self.session && stream == self.stream
     }
 
     /// The header of the frame with this head, but for its kind, flags and length.
@@ -94,5 +94,25 @@ impl Identity {
             mtu: self.geometry.mtu().cast_signed(),
             ttl: 0,
         })
+    }
+
+    /// The heartbeat of the stream at a position.
+    pub fn heartbeat_frame(&self, position: u64) -> Frame<'static>
+        requires in_stream { position ≤ max_position self.now.geometry }
+        requires unit { position % 32 ≡ 0 }
+        ensures frame { wire result ≡ heartbeat_at self.now position }
+        ensures legal { IsFrame (wire result) }
+        ensures short { length (spelling (wire result)) ≤ self.now.geometry.mtu }
+    {
+        let place = self.geometry.term_of(position);
+        Frame::Heartbeat {
+            header: Header {
+                term_offset: place.offset,
+                session: self.session,
+                stream: self.stream,
+                term_id: place.term_id,
+                reserved: 0,
+            },
+        }
     }
 }

@@ -1,12 +1,12 @@
 //! What a datagram tells a sender.
 
-ghost use Rattle.theory.specs.Wire.{SM};
-ghost use Rattle.frames.specs.Frames.{wire, asks_of, status_of};
+ghost use Rattle.theory.specs.Wire.{NAK, SM};
+ghost use Rattle.frames.specs.Frames.{wire, asks_of, nak_of, status_of};
 ghost use Rattle.sender.specs.Cycling.{IsNews};
 ghost use Rattle.sender.specs.FirstNews.{FirstTells, news_of};
 
 use crate::identity::Identity;
-use frames::{Frame, FrameError, Status, check_datagram, read_frame};
+use frames::{Frame, FrameError, Nak, Status, check_datagram, read_frame};
 
 /// What a sender takes from a datagram.
 #[derive(Clone, Copy, Debug)]
@@ -15,6 +15,8 @@ pub enum News {
     Says(Status),
     /// One that asks.
     AsksSetup,
+    /// A negative acknowledgement of its session and stream.
+    Misses(Nak),
     /// Frames of another session or stream, or of a kind that no sender takes.
     TellsNothing,
     Unreadable(FrameError),
@@ -39,6 +41,7 @@ fn first_news(frame: &Frame<'_>, identity: &Identity) -> News
 {
     match *frame {
         Frame::Status { asks, status } => status_news(asks, &status, identity),
+        Frame::Nak(nak) => nak_news(&nak, identity),
         _ => News::TellsNothing,
     }
 }
@@ -46,12 +49,22 @@ fn first_news(frame: &Frame<'_>, identity: &Identity) -> News
 fn status_news(asks: bool, status: &Status, identity: &Identity) -> News
     ensures { FirstTells identity.now (SM (asks_of asks) (status_of status.now)) (news_of result) }
 {
-    if !identity.is_own(status) {
+    if !identity.is_own(status.session, status.stream) {
         return News::TellsNothing;
     }
     if asks {
         News::AsksSetup
     } else {
         News::Says(*status)
+    }
+}
+
+fn nak_news(nak: &Nak, identity: &Identity) -> News
+    ensures { FirstTells identity.now (NAK (nak_of nak.now)) (news_of result) }
+{
+    if identity.is_own(nak.session, nak.stream) {
+        News::Misses(*nak)
+    } else {
+        News::TellsNothing
     }
 }

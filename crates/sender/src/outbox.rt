@@ -1,10 +1,10 @@
 //! The datagrams that a step gives out.
 
-ghost use Rattle.std.specs.Prelude.{◌≡◌, ◌≤◌, ◌<◌, ◌+◌, [], vec_len, length, IfOk, slice_get};
+ghost use Rattle.std.specs.Prelude.{◌≡◌, ◌≤◌, ◌<◌, ◌+◌, ◌++◌, [], vec_len, length, IfOk, slice_get};
 ghost use Rattle.std.specs.Option.{option_copied};
 ghost use Rattle.theory.specs.Wire.{IsFrame, spelling};
 ghost use Rattle.frames.specs.Frames.{wire};
-ghost use Rattle.sender.specs.Outgoing.{emptied, with_datagram};
+ghost use Rattle.sender.specs.Outgoing.{FitsLast, emptied, with_datagram, with_extended};
 
 use frames::{Frame, write_frame};
 use std::alloc::{AllocError, Global};
@@ -32,6 +32,16 @@ impl Slot {
         ensures size { vec_len self.new.bytes ≡ vec_len self.old.bytes }
     {
         self.length = write_frame(frame, self.bytes.as_mut_slice());
+    }
+
+    /// Holds this frame too, behind what it holds.
+    fn append(&mut self, frame: &Frame<'_>)
+        requires frame { IsFrame (wire frame.now) }
+        requires room { self.old.length + length (spelling (wire frame.now)) ≤ vec_len self.old.bytes }
+        ensures bytes { bytes_in self.new ≡ bytes_in self.old ++ spelling (wire frame.now) }
+        ensures size { vec_len self.new.bytes ≡ vec_len self.old.bytes }
+    {
+        self.length += write_frame(frame, &mut self.bytes[self.length..]);
     }
 
     fn datagram(&self) -> &[u8]
@@ -115,5 +125,15 @@ impl Outbox {
         let slot = &mut self.slots[self.count];
         slot.fill(frame);
         self.count += 1;
+    }
+
+    /// Adds a frame to the last datagram.
+    pub fn extend(&mut self, frame: &Frame<'_>)
+        requires frame { IsFrame (wire frame.now) }
+        requires fits { FitsLast self.old (spelling (wire frame.now)) }
+        ensures { self.new ≡ with_extended self.old (spelling (wire frame.now)) }
+    {
+        let slot = &mut self.slots[self.count - 1];
+        slot.append(frame);
     }
 }

@@ -1,20 +1,28 @@
-//! The sender's core: a log's frames, status messages and moments in, datagrams out.
+//! The sender's core: a log's frames, what receivers tell, and moments in, datagrams out.
 
-ghost use Rattle.std.specs.Prelude.{◌≡◌, ◌≤◌, ◌<◌, ◌+◌, [], true, length, pos, IfOk, IfErr, Some};
+ghost use Rattle.std.specs.Prelude.{◌≡◌, ◌≤◌, ◌<◌, ◌+◌, ◌%◌, ◌&&◌, [], true, length, nat_eq, pos, IfOk, IfErr, Some, if◌then◌else◌};
+ghost use Rattle.std.specs.Option.{option_to_list};
 ghost use Rattle.theory.specs.Position.{max_position, position_of};
+ghost use Rattle.theory.specs.Timing.{is_heartbeat_due};
+ghost use Rattle.frames.specs.Frames.{nak_of, status_of};
+ghost use Rattle.retransmit.specs.Answers.{meaning};
+ghost use Rattle.retransmit.specs.Handler.{after_due as after_answer, due_range, nak_answer_of};
 ghost use Rattle.setup.specs.Naming.{after_due, is_due};
-ghost use Rattle.sender.specs.Cycling.{setups};
+ghost use Rattle.sender.specs.Cycling.{alone, heartbeats, setups};
+ghost use Rattle.sender.specs.Giving.{SendsAgain, SendsNew, with_all};
 ghost use Rattle.sender.specs.Texts.{answer_text};
 
+use crate::again::send_again;
+use crate::fresh::send_fresh;
 use crate::identity::Identity;
 use crate::news::{News, read_news};
-use crate::next_frame::send_next;
 use crate::outbox::Outbox;
 use block::Block;
 use flow_control::FlowControl;
 use frame_source::FrameSource;
-use frames::{FrameError, Status};
+use frames::{FrameError, Nak, Status};
 use position::Geometry;
+use retransmit::{NakResult, Retransmit};
 use setup::SenderSetup;
 use std::alloc::Global;
 use std::fmt;
@@ -35,6 +43,8 @@ pub enum SenderAnswer {
     Status(i64),
     /// A status message asked for a SETUP.
     Asked,
+    /// What became of a negative acknowledgement.
+    Missed(NakResult),
     /// The datagram is of another session or stream, or of a kind that no sender takes.
     Other,
     /// The datagram can't be read.
@@ -49,6 +59,7 @@ impl fmt::Display for SenderAnswer {
             SenderAnswer::Ticked => f.write_str("ticked"),
             SenderAnswer::Status(limit) => write!(f, "status {limit}"),
             SenderAnswer::Asked => f.write_str("asked"),
+            SenderAnswer::Missed(answer) => f.write_str(answer.code()),
             SenderAnswer::Other => f.write_str("other"),
             SenderAnswer::Refused(error) => f.write_str(error.code()),
         }
@@ -61,38 +72,41 @@ pub struct Denied<R, F> {
     pub flow: F,
 }
 
-/// Sends the committed frames of one log, and its SETUPs.
+/// Nanoseconds after which a heartbeat goes out where nothing else does.
+const HEARTBEAT_INTERVAL: u64 = 100_000_000;
+
+/// Sends the committed frames of one log, again what got lost, its SETUPs and heartbeats.
 pub struct SenderCore<R, F> {
     identity: Identity,
-    /// Where its reads stand.
-    position: u64,
     reads: R,
     flow: F,
     setup: SenderSetup,
-    /// The payload of the frame at the sender's position.
+    handler: Retransmit,
+    /// The payload of the frame that was read last.
     block: Block,
+    /// The moment of the last datagram of frames or heartbeat.
+    last: Option<u64>,
     /// The greatest moment that it has seen, in nanoseconds.
     clock: u64,
 }
 
 impl<R, F> Model for SenderCore<R, F> {
-    ghost use Rattle.std.specs.Prelude.{length, ◌≤◌};
-    ghost use Rattle.theory.specs.Position.{max_position};
+    ghost use Rattle.std.specs.Prelude.{◌≡◌, length, ◌≤◌, ◌%◌};
     ghost use Rattle.sender.specs.Sending.{Sending};
 
     ghost Value = { Sending R F };
 
-    ghost view = { λ s. record { identity = s.identity; position = s.position; reads = s.reads; flow = s.flow; naming = s.setup; clock = s.clock } };
+    ghost view = { λ s. record { identity = s.identity; reads = s.reads; flow = s.flow; naming = s.setup; handler = s.handler; last = s.last; clock = s.clock } };
 
-    ghost invariant = { λ s. (s.identity.geometry.mtu ≤ length s.block) × (s.position ≤ max_position s.identity.geometry) };
+    ghost invariant = { λ s. (s.identity.geometry.mtu ≤ length s.block) × (s.handler.geometry ≡ s.identity.geometry) × (s.handler.at % 32 ≡ 0) };
 }
 
 impl<R, F: FlowControl + Drop> SenderCore<R, F> {
     ghost use Rattle.sender.specs.Outgoing.{HasRoom};
-    ghost use Rattle.sender.specs.Sending.{BeginsAt, Cycles, GoesOn, HearsDatagram, SendsFrom, SendsNext, StaysAt, Steps, at_moment, begun, told, with_wires};
+    ghost use Rattle.sender.specs.Sending.{BeginsAt, Cycles, GoesOn, HearsDatagram, SendsFrom, Steps, at_moment, asked, begun, told};
 
-    /// A sender of a log with this geometry, these ids and this start, which it reads by these reads. Where memory was
-    /// refused, the reads and the flow control come back as they were.
+    /// A sender of a log with this geometry, these ids and this start, a multiple of 32, which it reads by these reads.
+    /// Where memory was refused, the reads and the flow control come back as they were.
     pub fn new(
         alloc: Global,
         geometry: Geometry,
@@ -103,6 +117,7 @@ impl<R, F: FlowControl + Drop> SenderCore<R, F> {
         flow: F,
     ) -> Result<SenderCore<R, F>, Denied<R, F>>
         requires start { start ≤ max_position geometry }
+        requires unit { start % 32 ≡ 0 }
         requires begins { BeginsAt start (F.reached flow) (F.allowed flow) }
         ensures made { IfOk result (λ s. s ≡ begun (record { geometry = geometry; session = session; stream = stream }) start reads flow) }
         ensures denied { IfErr result (λ d. d ≡ record { reads = reads; flow = flow }) }
@@ -110,13 +125,17 @@ impl<R, F: FlowControl + Drop> SenderCore<R, F> {
         let Ok(block) = Block::new(alloc, geometry.mtu() as usize) else {
             return Err(Denied { reads, flow });
         };
+        let Ok(handler) = Retransmit::new(alloc, geometry, start) else {
+            return Err(Denied { reads, flow });
+        };
         Ok(SenderCore {
             identity: Identity::new(geometry, session, stream),
-            position: start,
             reads,
             flow,
             setup: SenderSetup::new(),
+            handler,
             block,
+            last: None,
             clock: 0,
         })
     }
@@ -127,11 +146,12 @@ impl<R, F: FlowControl + Drop> SenderCore<R, F> {
     {
         let SenderCore {
             identity: _,
-            position: _,
             reads,
             flow: _,
             setup: _,
+            handler: _,
             block: _,
+            last: _,
             clock: _,
         } = self;
         reads
@@ -174,7 +194,7 @@ impl<R, F: FlowControl + Drop> SenderCore<R, F> {
         self.clock = self.clock.max(now);
     }
 
-    /// A SETUP if it is due, and the next frame if there is one below the flow limit.
+    /// A SETUP if it is due, new frames, the frames of one range that is due, and a heartbeat if nothing else goes out.
     fn cycle<L>(&mut self, log: &mut L, outbox: &mut Outbox)
     where
         R: FrameSource<L>,
@@ -183,59 +203,112 @@ impl<R, F: FlowControl + Drop> SenderCore<R, F> {
         requires empty { outbox.old.datagrams ≡ [] }
         requires size { outbox.old.mtu ≡ self.old.identity.geometry.mtu }
         ensures cycle { Cycles R.grown F.after_tick F.reached self.old (R.source self.old.reads log.old) (R.source self.new.reads log.new) self.new outbox.new.datagrams }
+        ensures goes_on { GoesOn self.old self.new (R.source self.new.reads log.new) }
         ensures stands { R.stands self.new.reads log.new }
         ensures leaves { R.leaves self.old.reads log.old self.new.reads log.new }
         ensures size { outbox.new.mtu ≡ outbox.old.mtu }
     {
-        self.tick();
+        self.flow.tick(self.clock);
         self.name_stream(outbox);
+        let named = outbox.len();
         self.send(log, outbox);
+        self.resend(log, outbox);
+        self.beat(outbox);
+        self.note_moment(outbox.len() > named);
     }
 
-    /// Tells the flow control the moment.
-    fn tick(&mut self)
-        ensures { self.new ≡ record self.old { flow = F.after_tick self.old.flow self.old.clock } }
+    /// Notes the moment, if frames of the stream or a heartbeat go out.
+    fn note_moment(&mut self, is_heard: bool)
+        ensures { self.new ≡ record self.old { last = if is_heard then Some self.old.clock else self.old.last } }
     {
-        self.flow.tick(self.clock);
+        if is_heard {
+            self.last = Some(self.clock);
+        }
     }
 
     /// Gives out a SETUP, if it is due.
     fn name_stream(&mut self, outbox: &mut Outbox)
-        requires space { length outbox.old.datagrams < 32 }
-        requires size { outbox.old.mtu ≡ self.old.identity.geometry.mtu }
+        requires room { HasRoom self.old.identity outbox.old }
         ensures state { self.new ≡ record self.old { naming = after_due self.old.naming self.old.clock } }
-        ensures sent { outbox.new ≡ with_wires outbox.old (setups self.old.identity self.old.position (is_due self.old.naming self.old.clock)) }
-        ensures few { length outbox.new.datagrams ≤ length outbox.old.datagrams + 1 }
+        ensures out { outbox.new ≡ with_all outbox.old (alone (setups self.old.identity self.old.handler.at (is_due self.old.naming self.old.clock))) }
     {
         if self.setup.due(self.clock) {
             self.give_setup(outbox);
         }
     }
 
-    /// Gives out the frame at its position, if it may go.
+    /// Gives out new frames.
     fn send<L>(&mut self, log: &mut L, outbox: &mut Outbox)
     where
         R: FrameSource<L>,
         requires stands { R.stands self.old.reads log.old }
         requires from { SendsFrom self.old (R.source self.old.reads log.old) }
-        requires out { HasRoom self.old.identity outbox.old }
-        ensures sends { SendsNext R.grown (R.source self.old.reads log.old) outbox.old (F.reached self.old.flow) (R.source self.new.reads log.new) outbox.new }
-        ensures state { self.new ≡ record self.old { position = (R.source self.new.reads log.new).position; reads = self.new.reads } }
+        requires size { outbox.old.mtu ≡ self.old.identity.geometry.mtu }
+        requires room { length outbox.old.datagrams + 16 ≤ 32 }
+        ensures sends { SendsNew R.grown self.old.identity (F.reached self.old.flow) (R.source self.old.reads log.old) self.old.handler outbox.old (R.source self.new.reads log.new) self.new.handler outbox.new }
+        ensures state { self.new ≡ record self.old { reads = self.new.reads; handler = self.new.handler } }
+        ensures from { SendsFrom self.new (R.source self.new.reads log.new) }
         ensures stands { R.stands self.new.reads log.new }
         ensures leaves { R.leaves self.old.reads log.old self.new.reads log.new }
     {
         let limit = self.flow.limit() as u64;
-        let identity = self.identity;
-        if let Some(end) = send_next(
+        send_fresh(
             &mut self.reads,
             log,
-            &identity,
+            &self.identity,
             &mut self.block,
             limit,
+            &mut self.handler,
             outbox,
-        ) {
-            self.position = end;
+        );
+    }
+
+    /// Gives out the frames of the range that is due, if one is.
+    fn resend<L>(&mut self, log: &mut L, outbox: &mut Outbox)
+    where
+        R: FrameSource<L>,
+        requires stands { R.stands self.old.reads log.old }
+        requires from { SendsFrom self.old (R.source self.old.reads log.old) }
+        requires size { outbox.old.mtu ≡ self.old.identity.geometry.mtu }
+        requires room { length outbox.old.datagrams + 15 ≤ 32 }
+        ensures sends { SendsAgain self.old.identity (R.source self.old.reads log.old).frames (due_range self.old.handler) outbox.old outbox.new }
+        ensures state { self.new ≡ record self.old { reads = self.new.reads; handler = after_answer self.old.handler self.old.clock } }
+        ensures stays { R.source self.new.reads log.new ≡ R.source self.old.reads log.old }
+        ensures stands { R.stands self.new.reads log.new }
+        ensures leaves { R.leaves self.old.reads log.old self.new.reads log.new }
+    {
+        let Some(range) = self.handler.due(self.clock) else {
+            return;
+        };
+        send_again(
+            &mut self.reads,
+            log,
+            &self.identity,
+            &mut self.block,
+            range,
+            outbox,
+        );
+    }
+
+    /// Gives out a heartbeat, if nothing else goes out and it is due.
+    fn beat(&self, outbox: &mut Outbox)
+        requires size { outbox.old.mtu ≡ self.now.identity.geometry.mtu }
+        ensures { outbox.new ≡ with_all outbox.old (alone (heartbeats self.now.identity self.now.handler.at (nat_eq (length outbox.old.datagrams) 0 && is_heartbeat_due (option_to_list self.now.last) self.now.naming.heard self.now.clock))) }
+    {
+        if outbox.len() == 0 && self.is_silent_long() {
+            outbox.push(&self.identity.heartbeat_frame(self.handler.position()));
         }
+    }
+
+    /// Whether a status message has come, and it is time for a heartbeat.
+    fn is_silent_long(&self) -> bool
+        ensures { result ≡ is_heartbeat_due (option_to_list self.now.last) self.now.naming.heard self.now.clock }
+    {
+        let is_late = match self.last {
+            None => true,
+            Some(last) => self.clock >= last.saturating_add(HEARTBEAT_INTERVAL),
+        };
+        self.setup.heard() && is_late
     }
 
     /// Takes a datagram.
@@ -243,12 +316,15 @@ impl<R, F: FlowControl + Drop> SenderCore<R, F> {
         requires empty { outbox.old.datagrams ≡ [] }
         requires size { outbox.old.mtu ≡ self.old.identity.geometry.mtu }
         ensures hears { HearsDatagram F.after_status F.reached self.old bytes.now result self.new outbox.new.datagrams }
-        ensures stays { StaysAt self.old self.new }
         ensures size { outbox.new.mtu ≡ outbox.old.mtu }
     {
         match read_news(bytes, &self.identity) {
             News::Says(status) => self.on_status(&status),
-            News::AsksSetup => self.on_asking(outbox),
+            News::AsksSetup => {
+                self.give_setup(outbox);
+                SenderAnswer::Asked
+            }
+            News::Misses(nak) => self.on_nak(&nak),
             News::TellsNothing => SenderAnswer::Other,
             News::Unreadable(error) => SenderAnswer::Refused(error),
         }
@@ -256,7 +332,7 @@ impl<R, F: FlowControl + Drop> SenderCore<R, F> {
 
     /// Takes a status message that doesn't ask.
     fn on_status(&mut self, status: &Status) -> SenderAnswer
-        ensures state { self.new ≡ told F.after_status self.old (position_of self.old.identity.geometry status.now.term_id status.now.term_offset) status.now.window status.now.receiver }
+        ensures state { self.new ≡ told F.after_status self.old (status_of status.now) }
         ensures answer { result ≡ SenderAnswer.Status (pos (F.reached self.new.flow)) }
     {
         let geometry = self.identity.geometry();
@@ -267,23 +343,22 @@ impl<R, F: FlowControl + Drop> SenderCore<R, F> {
         SenderAnswer::Status(self.flow.limit())
     }
 
-    /// Takes a status message that asks.
-    fn on_asking(&self, outbox: &mut Outbox) -> SenderAnswer
-        requires space { length outbox.old.datagrams < 32 }
-        requires size { outbox.old.mtu ≡ self.now.identity.geometry.mtu }
-        ensures sent { outbox.new ≡ with_wires outbox.old (setups self.now.identity self.now.position true) }
-        ensures answer { result ≡ SenderAnswer.Asked }
+    /// Takes a negative acknowledgement.
+    fn on_nak(&mut self, nak: &Nak) -> SenderAnswer
+        ensures state { self.new ≡ asked self.old (nak_of nak.now) }
+        ensures answer { (n : NakResult) × (result ≡ SenderAnswer.Missed n) × (meaning n ≡ nak_answer_of self.old.handler self.old.clock (position_of self.old.identity.geometry nak.now.term_id nak.now.term_offset) nak.now.length) }
     {
-        self.give_setup(outbox);
-        SenderAnswer::Asked
+        let geometry = self.identity.geometry();
+        let position = geometry.position(nak.term_id, nak.term_offset);
+        SenderAnswer::Missed(self.handler.on_nak(self.clock, position, nak.length))
     }
 
     /// Gives out the SETUP of its position.
     fn give_setup(&self, outbox: &mut Outbox)
-        requires space { length outbox.old.datagrams < 32 }
-        requires size { outbox.old.mtu ≡ self.now.identity.geometry.mtu }
-        ensures { outbox.new ≡ with_wires outbox.old (setups self.now.identity self.now.position true) }
+        requires room { HasRoom self.now.identity outbox.old }
+        ensures { outbox.new ≡ with_all outbox.old (alone (setups self.now.identity self.now.handler.at true)) }
     {
-        outbox.push(&self.identity.setup_frame(self.position));
+        let position = self.handler.position();
+        outbox.push(&self.identity.setup_frame(position));
     }
 }

@@ -53,6 +53,13 @@ impl SenderSetup {
         due
     }
 
+    /// Whether a status message that doesn't ask has come.
+    pub fn heard(&self) -> bool
+        ensures { result ≡ self.now.heard }
+    {
+        self.heard
+    }
+
     /// Notes that a status message that doesn't ask has come.
     pub fn on_status(&mut self)
         ensures { self.new ≡ record self.old { heard = true } }

@@ -1,11 +1,11 @@
 -- The gap that is computed is one.
-use Rattle.std.proofs.Common.{◌≡◌, ℕ, ◌+◌, ◌-◌, ◌*◌, ◌/◌, ◌%◌, ◌<◌, ◌≤◌, ◌⊎◌, inl, inr, ⊎_elim, List, [], ◌∷◌, true, false, min, refl, sym, ap, subst, arith}
+use Rattle.std.proofs.Common.{◌≡◌, ℕ, ◌+◌, ◌-◌, ◌*◌, ◌/◌, ◌%◌, ◌<◌, ◌≤◌, ◌⊎◌, inl, inr, ⊎_elim, List, [], ◌∷◌, Some, None, true, false, cond, min, refl, sym, ap, subst, arith}
 use Rattle.std.specs.List.{AllByRecursion}
-use Rattle.std.specs.Prelude.{nat_lt}
+use Rattle.std.specs.Prelude.{◌↔◌, nat_eq, nat_lt}
 use Rattle.std.proofs.lemmas.Bool.{cases_Bool, cases_lt, ltb-true, ltb-false, cond-true, cond-false}
 use Rattle.theory.specs.Placed.{Placed, covered, Among}
 use Rattle.theory.specs.Units.{HasUnit, IsContiguous}
-use Rattle.theory.specs.Gap.{IsGap, next_start}
+use Rattle.theory.specs.Gap.{IsGap, gap_of, next_start}
 use Rattle.theory.proofs.Lists.{all_at}
 
 -- where the next start stands
@@ -63,6 +63,17 @@ next_ge c bound m frames low least = from (next_start c bound frames) (next_is c
     from : (e : ℕ) → Next c bound frames e → m ≤ e
     from e (at_bound h) = omega arith
     from e (at_start s a l h) = omega (arith, least s a l)
+
+-- it depends on which frames begin above c, and not on their order
+pub next_same : (c bound : ℕ) (some others : List Placed) → ((s : Placed) → c < s.at → Among s some ↔ Among s others) → next_start c bound some ≡ next_start c bound others
+next_same c bound some others same =
+    let low : next_start c bound some ≤ next_start c bound others = next_ge c bound (next_start c bound some) others (next_le_bound c bound some) (λ s a l. next_le c bound some s ((same s l).1 a) l) in
+    let high : next_start c bound others ≤ next_start c bound some = next_ge c bound (next_start c bound others) some (next_le_bound c bound others) (λ s a l. next_le c bound others s ((same s l).0 a) l) in
+    omega arith
+
+-- and so does the gap from c on
+pub gap_same : (term high c : ℕ) (some others : List Placed) → ((s : Placed) → c < s.at → Among s some ↔ Among s others) → gap_of term some high c ≡ gap_of term others high c
+gap_same term high c some others same = ap (λ end. cond (nat_eq c high) None (Some (record { start = c; length = end - c }))) (next_same c (min high (c / term * term + term)) some others same)
 
 pub gap_is : (term : ℕ) (frames : List Placed) (high j c : ℕ) → 0 < term → c < high → c % 32 ≡ 0 → AllByRecursion (λ s. (s.at % 32 ≡ 0) × (0 < covered s)) frames → IsContiguous frames j c → IsGap term frames high c (next_start c (min high (c / term * term + term)) frames)
 gap_is term frames high j c long low unit placed contiguous =

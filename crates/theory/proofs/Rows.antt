@@ -2,7 +2,8 @@
 use Rattle.std.specs.Prelude.{◌≡◌, ℕ, ◌+◌, ◌-◌, pos, negsuc, true, false, List, [], ◌∷◌, replicate, None}
 use Rattle.std.proofs.Common.{refl}
 use Rattle.theory.specs.Position.{Geometry, cuts_of, span, framed_length, id_of, position_of, max_message}
-use Rattle.theory.specs.Wire.{HEARTBEAT, NAK, SETUP, spelling}
+use Rattle.theory.specs.Wire.{HEARTBEAT, SETUP, spelling}
+use Rattle.theory.specs.Control.{nak_at}
 use Rattle.theory.specs.Placed.{Data, Pad, Placed}
 use Rattle.theory.specs.Entry.{flags_of}
 use Rattle.theory.specs.Bytes.{Identity, bytes_of, header_at}
@@ -64,7 +65,8 @@ wrapped_id = refl
 wrapped_position : position_of (record { term_length = 65536; mtu = 1408; initial_term_id = pos 2147483647 }) (negsuc 2147483647) (pos 0) ≡ pos 65536
 wrapped_position = refl
 
-nak_bytes : spelling (NAK (record { session = pos 1; stream = pos 1001; term_id = pos 7; term_offset = pos 64; length = pos 64 })) ≡ 0x1c ∷ 0 ∷ 0 ∷ 0 ∷ 0 ∷ 0 ∷ 2 ∷ 0 ∷ 1 ∷ 0 ∷ 0 ∷ 0 ∷ 0xe9 ∷ 3 ∷ 0 ∷ 0 ∷ 7 ∷ 0 ∷ 0 ∷ 0 ∷ 0x40 ∷ 0 ∷ 0 ∷ 0 ∷ 0x40 ∷ 0 ∷ 0 ∷ 0 ∷ []
+-- the negative acknowledgement of a gap
+nak_bytes : spelling (nak_at identity (record { start = 64; length = 64 })) ≡ 0x1c ∷ 0 ∷ 0 ∷ 0 ∷ 0 ∷ 0 ∷ 2 ∷ 0 ∷ 1 ∷ 0 ∷ 0 ∷ 0 ∷ 0xe9 ∷ 3 ∷ 0 ∷ 0 ∷ 7 ∷ 0 ∷ 0 ∷ 0 ∷ 0x40 ∷ 0 ∷ 0 ∷ 0 ∷ 0x40 ∷ 0 ∷ 0 ∷ 0 ∷ []
 nak_bytes = refl
 
 -- negative acknowledgements to a sender at 131072

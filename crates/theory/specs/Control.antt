@@ -1,8 +1,9 @@
 -- The frames by which a sender and a receiver tell each other where they stand.
 use Rattle.std.specs.Prelude.{ℕ, ℤ, pos}
 use Rattle.theory.specs.Position.{Geometry, id_of, place_of, position_of}
-use Rattle.theory.specs.Wire.{Header, SETUP, SM, Setup, Wire}
-use Rattle.theory.specs.Bytes.{Identity}
+use Rattle.theory.specs.Wire.{HEARTBEAT, Header, NAK, SETUP, SM, Setup, Wire}
+use Rattle.theory.specs.Bytes.{Identity, header_at}
+use Rattle.theory.specs.Gap.{Gap}
 
 abbrev pub setup_fields : Identity → ℕ → Setup
 setup_fields i p = record {
@@ -19,6 +20,20 @@ setup_fields i p = record {
 -- the SETUP of a sender at this position
 abbrev pub setup_at : Identity → ℕ → Wire
 setup_at i p = SETUP (setup_fields i p)
+
+-- the heartbeat of a sender at this position
+abbrev pub heartbeat_at : Identity → ℕ → Wire
+heartbeat_at i p = HEARTBEAT (header_at i p)
+
+-- the negative acknowledgement that asks for a gap
+abbrev pub nak_at : Identity → Gap → Wire
+nak_at i gap = NAK (record {
+  session = i.session;
+  stream = i.stream;
+  term_id = id_of i.geometry (place_of i.geometry gap.start).count;
+  term_offset = pos (place_of i.geometry gap.start).offset;
+  length = pos gap.length;
+})
 
 -- the status message of a receiver whose least consumer stands here
 abbrev pub status_at : Identity → ℕ → ℕ → ℤ → Wire

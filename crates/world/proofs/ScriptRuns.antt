@@ -21,8 +21,9 @@ use Rattle.script_run.specs.LineContents.{Open, LineContent, Shares}
 use Rattle.script_parts.specs.Lines.{line_content, line_contents}
 use Rattle.script_run.specs.Published.{Played}
 use Rattle.script_run.specs.ScriptState.{ScriptState, entries_of, opened_state}
+use Rattle.script_run.specs.Standing.{Begins, IsPlayed}
 use Rattle.world.specs.Reading.{ShowsBook}
-use Rattle.world.specs.Simulated.{Answered, Continued, Continues, ContinuesOpen, IsAnswered, RunsTo, RepresentsState, Simulated}
+use Rattle.world.specs.Simulated.{Answered, Continued, Continues, ContinuesOpen, IsAnswered, RunsTo, RepresentsState, Simulated, StandsSomewhere}
 use Rattle.script_parts.specs.declared.line.Line.{Line}
 use Rattle.script_parts.specs.declared.line.Line.TheVariants as lines
 
@@ -30,15 +31,23 @@ answers_snoc : (old mid new : ScriptState) (ps : List Played) (p : Played) → A
 answers_snoc old mid new [] p h k = (new, subst (λ (s : ScriptState). Answers s p.command p.lines new) h k, refl)
 answers_snoc old mid new (q ∷ ps) p h k = (h.0, h.1, answers_snoc h.0 mid new ps p h.2 k)
 
+answers_join : (old mid new : ScriptState) (ps qs : List Played) → AnswersAll old ps mid → AnswersAll mid qs new → AnswersAll old (ps ++ qs) new
+answers_join old mid new [] qs h k = subst (λ (s : ScriptState). AnswersAll s qs new) h k
+answers_join old mid new (p ∷ ps) qs h k = (h.0, h.1, answers_join h.0 mid new ps qs h.2 k)
+
 abbrev lines_in : List Played → List LineContent
 lines_in played = flat_map (λ p. p.lines) played
 
 lines_snoc : (ps : List Played) (p : Played) → lines_in (ps ++ p ∷ []) ≡ lines_in ps ++ p.lines
 lines_snoc ps p = flat_map-append (λ (q : Played). q.lines) ps (p ∷ []) ∙ ap (λ (ls : List LineContent). lines_in ps ++ ls) (append-nil p.lines)
 
-continued_snoc : (old : ScriptState) (os : List CommandContent) (o : CommandContent) (before mid after : List LineContent) (there new : Simulated) → Continued old os before mid there → ((s : ScriptState) → RepresentsState there s → Answered s o mid after new) → Continued old (os ++ o ∷ []) before after new
-continued_snoc old os o before mid after there new h step =
-    let k = step h.state h.shows in
+-- a state to which lines lead from one that a script led to
+played_on : (s t : ScriptState) (ps : List Played) → IsPlayed s → AnswersAll s ps t → IsPlayed t
+played_on s t ps h k = record { identity = h.identity; start = h.start; readers = h.readers; begins = h.begins; played = h.played ++ ps; answered = answers_join (opened_state h.identity h.start h.readers) s t h.played ps h.answered k }
+
+continued_snoc : (old : ScriptState) (os : List CommandContent) (o : CommandContent) (before mid after : List LineContent) (there new : Simulated) → IsPlayed old → Continued old os before mid there → ((s : ScriptState) → RepresentsState there s → IsPlayed s → Answered s o mid after new) → Continued old (os ++ o ∷ []) before after new
+continued_snoc old os o before mid after there new standing h step =
+    let k = step h.state h.shows (played_on old h.state h.played standing h.answered) in
     let p : Played = record { command = o; lines = k.lines } in
     record {
       played = h.played ++ p ∷ [];
@@ -50,17 +59,17 @@ continued_snoc old os o before mid after there new h step =
     }
 
 pub none_played : (simulation : Simulated) (ls : List Line) → Continues simulation [] ls ls simulation
-none_played simulation ls s h = record { played = []; state = s; of_commands = refl; answered = refl; printed = sym (append-nil (line_contents ls)); shows = h }
+none_played simulation ls s h standing = record { played = []; state = s; of_commands = refl; answered = refl; printed = sym (append-nil (line_contents ls)); shows = h }
 
 pub one_more_played : (old mid new : Simulated) (cs : List Command) (c : Command) (before there after : List Line) → Continues old (contents_of cs) before there mid → IsAnswered mid (content_of c) there after new → Continues old (contents_of (cs ++ c ∷ [])) before after new
-one_more_played old mid new cs c before there after h step s shows =
+one_more_played old mid new cs c before there after h step s shows standing =
     subst (λ (os : List CommandContent). Continued s os (line_contents before) (line_contents after) new) (sym (map-append content_of cs (c ∷ [])))
-    (continued_snoc s (contents_of cs) (content_of c) (line_contents before) (line_contents there) (line_contents after) mid new (h s shows) step)
+    (continued_snoc s (contents_of cs) (content_of c) (line_contents before) (line_contents there) (line_contents after) mid new standing (h s shows standing) step)
 
 -- behind the line of an opened log
 pub behind_open : (old new : Simulated) (os : List CommandContent) (before there after : List Line) → there ≡ before ++ lines.Open ∷ [] → Continues old os there after new → ContinuesOpen old os before after new
-behind_open old new os before there after e h s shows =
-    subst (λ (ls : List LineContent). Continued s os ls (line_contents after) new) (ap line_contents e ∙ map-append line_content before (lines.Open ∷ [])) (h s shows)
+behind_open old new os before there after e h s shows standing =
+    subst (λ (ls : List LineContent). Continued s os ls (line_contents after) new) (ap line_contents e ∙ map-append line_content before (lines.Open ∷ [])) (h s shows standing)
 
 -- ---- the book
 
@@ -80,9 +89,9 @@ shows_book s b eight counted h = record {
 all_printed : (before played book : List LineContent) → ((before ++ Open ∷ []) ++ played) ++ book ≡ before ++ Open ∷ (played ++ book)
 all_printed before played book = append_assoc (before ++ Open ∷ []) played book ∙ append_assoc before (Open ∷ []) (played ++ book)
 
-pub runs_to : AlwaysCounted → (old new : Simulated) (i : Identity) (start readers : ℕ) (os : List CommandContent) (before there after : List Line) (b : Book) → length b.shares ≡ 8 → RepresentsState old (opened_state i start readers) → ContinuesOpen old os before there new → ShowsBook new.log b → after ≡ there ++ lines.Book b ∷ [] → RunsTo i start readers os (line_contents before) (line_contents after)
-runs_to counted old new i start readers os before there after b eight shows h book e =
-    let k = h (opened_state i start readers) shows in
+pub runs_to : AlwaysCounted → (old new : Simulated) (i : Identity) (start readers : ℕ) (os : List CommandContent) (before there after : List Line) (b : Book) → length b.shares ≡ 8 → Begins i start → RepresentsState old (opened_state i start readers) → ContinuesOpen old os before there new → ShowsBook new.log b → after ≡ there ++ lines.Book b ∷ [] → RunsTo i start readers os (line_contents before) (line_contents after)
+runs_to counted old new i start readers os before there after b eight begins shows h book e =
+    let k = h (opened_state i start readers) shows (record { identity = i; start = start; readers = readers; begins = begins; played = []; answered = refl }) in
     record {
       played = k.played;
       last = k.state;
@@ -150,3 +159,20 @@ refused_start script g before after made legal refused none e =
       subst (λ (h : Geometry). (script.log.start % 32 ≡ 0) × (script.log.start < max_position h) → ⊥) made refused,
       ap line_contents (e ∙ ap (λ (ls : List Line). ls ++ lines.BadLog Start ∷ []) none),
     )))
+
+-- ---- what a line may be asked of
+
+-- where lines were played, one may be played
+pub stands_on : (old mid : Simulated) (os : List CommandContent) (before there : List Line) → StandsSomewhere old → Continues old os before there mid → StandsSomewhere mid
+stands_on old mid os before there h k =
+    let n = k h.0 h.1 h.2 in
+    (n.state, n.shows, played_on h.0 n.state n.played h.2 n.answered)
+
+pub begins_somewhere : (v : Simulated) (i : Identity) (start readers : ℕ) → Begins i start → RepresentsState v (opened_state i start readers) → StandsSomewhere v
+begins_somewhere v i start readers begins shows = (opened_state i start readers, shows, record { identity = i; start = start; readers = readers; begins = begins; played = []; answered = refl })
+
+pub begins_at : (v : Simulated) (i : Identity) (start readers : ℕ) → RepresentsState v (opened_state i start readers) → IsGeometry i.geometry → IsIdentity i → IsStart i.geometry start → Begins v.log.identity v.log.start
+begins_at v i start readers h legal identity starts =
+    let same : i ≡ v.log.identity = ap (λ (l : Stream). l.identity) h.log in
+    let there : start ≡ v.log.start = ap (λ (l : Stream). l.start) h.log in
+    subst (λ (j : Identity). Begins j v.log.start) same (subst (λ (n : ℕ). Begins i n) there (record { geometry = legal; identity = identity; unit = starts.0; below = starts.1 }))

@@ -1,55 +1,50 @@
--- What a sender's step left is a step of the states that the simulation shows.
-use Rattle.std.proofs.Common.{◌≡◌, map, ℕ, List, [], ◌∷◌, ◌++◌, length, Bool, true, false, Option, None, Some, inr, refl, sym, ap, ◌∙◌, subst, append-nil, append_assoc}
-use Rattle.std.proofs.lemmas.List.{set-get_or}
-use Rattle.std.specs.Prelude.{slice_get, slice_set, ℤ, pos, max, ◌+ℤ◌}
-use Rattle.theory.specs.Control.{setup_at}
+-- What a sender's cycle left is a step of the states that the simulation shows.
+use Rattle.std.proofs.Common.{◌≡◌, map, ℕ, ◌≤◌, List, [], ◌∷◌, ◌++◌, length, Bool, true, false, Option, None, Some, refl, sym, ap, ◌∙◌, subst, arith}
+use Rattle.std.proofs.Math.Nat.{le-max_left}
+use Rattle.std.specs.Prelude.{slice_set, ◌&&◌, if◌then◌else◌}
+use Rattle.std.specs.Option.{option_to_list}
+use Rattle.theory.specs.Bytes.{Identity}
+use Rattle.theory.specs.Datagrams.{frames_of}
 use Rattle.theory.specs.Entry.{committed}
-use Rattle.theory.specs.FlowLimit.{clipped, flow_limit}
-use Rattle.theory.specs.Placed.{Placed, end_of}
-use Rattle.theory.specs.Position as places
-use Rattle.theory.specs.Timing.{seen}
-use Rattle.theory.specs.Wire.{Wire}
+use Rattle.theory.specs.FlowLimit.{flow_limit}
+use Rattle.theory.specs.Placed.{Chain, Placed}
+use Rattle.theory.specs.Position.{Geometry}
+use Rattle.theory.specs.Timing.{is_heartbeat_due, seen}
 use Rattle.model.specs.Sender.{Sender}
 use Rattle.frame_source.specs.Sources.{Source}
 use Rattle.one_hand.specs.HandReads.{MovesReader}
 use Rattle.one_hand.specs.Reads.{source_of}
 use Rattle.one_hand.specs.Stream.{Stream, position_of, with_consumer}
 use Rattle.one_hand.specs.declared.hand_reader.HandReader.{HandReader}
+use Rattle.retransmit.specs.Handler.{Handler, after_due, due_range}
+use Rattle.retransmit.specs.Laws.{NearStayNear}
 use Rattle.script.specs.Meaning as commands
-use Rattle.setup.specs.Naming.{Naming, after_due, is_due}
-use Rattle.script_parts.specs.declared.line.Line.{Line}
-use Rattle.script_parts.specs.declared.line.Line.TheVariants as lines
-use Rattle.sender.specs.declared.sender_core.SenderAnswer.{SenderAnswer}
-use Rattle.sender.specs.declared.sender_core.SenderAnswer.TheVariants as answers
-use Rattle.script_run.specs.Answers.{after_cycle, clock_at, cycled, given_out, heard, limit_of, lines_of, named, or_nothing, packet_lines, sent_on, wires_of, with_sender, woken}
-use Rattle.sender.specs.Cycling.{AsksSetup, IsNews, IsNextSent, NewsContent, Says, TellsNothing, Unreadable, datagrams, sent_wires, setups}
-use Rattle.script_run.specs.LineContents.{OfSender}
+use Rattle.setup.specs.Naming.{Naming, after_due as after_naming, is_due}
 use Rattle.script_parts.specs.Lines.{line_contents}
+use Rattle.script_parts.specs.declared.line.Line.{Line}
+use Rattle.script_run.specs.Answers.{after_cycle, again_of, behind_new, clock_at, cycled, limit_of, lines_of, named, or_nothing, packet_lines, wires_of, woken}
 use Rattle.script_run.specs.ScriptState.{ScriptState}
-use Rattle.script_run.proofs.SenderRuns.{named_at, named_said}
-use Rattle.sender.specs.Sending.{Cycles, HearsNews, HearsDatagram, Sending, SendsFrom, at_moment, behind}
-use Rattle.world.proofs.Simulations.{one_line}
-use Rattle.world.specs.Simulated.{Answered, IsAnswered, RepresentsState, Simulated}
+use Rattle.sender.specs.Cycling.{GivesAgain, GivesNew, datagrams, is_heard, is_silent, sent_wires}
+use Rattle.sender.specs.Sending.{AreThere, Cycles, Sending, SendsFrom, at_moment, noted}
+use Rattle.world.proofs.HandlerSteps.{due_is, later, noted_is, sent_chain}
+use Rattle.world.specs.Simulated.{IsAnswered, IsSenderOf, Simulated, StandsSomewhere}
+use Rattle.script_run.specs.Standing.{AlwaysAgain, AlwaysThere, handler_of}
 
--- what the flow control of one receiver becomes
-abbrev pub after_told : ℕ → ℤ → ℤ → ℤ → ℕ → ℕ
-after_told f position window receiver now = max (clipped (position +ℤ window)) f
+named_at : (x : Sender) (due : Bool) → (named x due).at ≡ x.at
+named_at x true = refl
+named_at x false = refl
+
+named_said : (x : Sender) (due : Bool) → (named x due).said ≡ x.said
+named_said x true = refl
+named_said x false = refl
 
 named_clock : (x : Sender) (due : Bool) → (named x due).clock ≡ x.clock
 named_clock x true = refl
 named_clock x false = refl
 
-sent_said : (x : Sender) (frame : Option Placed) → (sent_on x frame).said ≡ x.said
-sent_said x None = refl
-sent_said x (Some s) = refl
-
-sent_clock : (x : Sender) (frame : Option Placed) → (sent_on x frame).clock ≡ x.clock
-sent_clock x None = refl
-sent_clock x (Some s) = refl
-
-behind_at : (x : Sender) (frame : Option Placed) → behind x.at frame ≡ (sent_on x frame).at
-behind_at x None = refl
-behind_at x (Some s) = refl
+named_handler : (g : Geometry) (start k : ℕ) (x : Sender) (due : Bool) → handler_of g start x k ≡ handler_of g start (named x due) k
+named_handler g start k x true = refl
+named_handler g start k x false = refl
 
 -- the log's first consumer is where the sender is
 behind_log : (others : List ℕ) (l m : Stream) (r q at end : ℕ) → l.consumers ≡ at ∷ others → r ≡ 0 → MovesReader r l q m → position_of m q ≡ end → m ≡ record l { consumers = end ∷ others }
@@ -60,121 +55,90 @@ behind_log others l m r q at end one zeroth h moved =
     ∙ ap (λ (n : ℕ). with_consumer l n end) zeroth
     ∙ ap (λ (cs : List ℕ). record l { consumers = slice_set cs 0 end }) one
 
-pub send_answered : (old : Simulated) (now : ℕ) (m : Stream) (t : Sending HandReader ℕ) (packets sent : List (List ℕ)) (before after : List Line) → old.sender.reads.number ≡ 0 → SendsFrom old.sender (source_of old.log old.sender.reads.number) → Cycles (λ fs gs. gs ≡ fs) (λ f n. f) (λ f. f) (at_moment old.sender now) (source_of old.log old.sender.reads.number) (source_of m t.reads.number) t sent → MovesReader old.sender.reads.number old.log t.reads.number m → packets ≡ old.packets ++ sent → line_contents after ≡ line_contents before ++ or_nothing (packet_lines (length old.packets) sent) → IsAnswered old (commands.Send now) before after (record old { log = m; sender = t; packets = packets })
-send_answered old now m t packets sent before after zeroth from c moves given told = λ s h.
+-- what is known of a cycle: where the sender is, and what it sends is what the state's sender sends
+pub send_answered : NearStayNear → AlwaysAgain → (old : Simulated) (now : ℕ) (m : Stream) (t : Sending HandReader ℕ) (packets sent : List (List ℕ)) (before after : List Line) → old.sender.reads.number ≡ 0 → IsSenderOf old.sender (source_of old.log old.sender.reads.number) → Cycles (λ fs gs. gs ≡ fs) (λ f n. f) (λ f. f) (at_moment old.sender now) (source_of old.log old.sender.reads.number) (source_of m t.reads.number) t sent → MovesReader old.sender.reads.number old.log t.reads.number m → packets ≡ old.packets ++ sent → line_contents after ≡ line_contents before ++ or_nothing (packet_lines (length old.packets) sent) → IsAnswered old (commands.Send now) before after (record old { log = m; sender = t; packets = packets })
+send_answered near always old now m t packets sent before after zeroth from c moves given told = λ s h standing.
     let y = c.cycle in
     let v = old.sender in
-    let clock : seen v.clock now ≡ clock_at s now = ap (λ k. seen k now) h.sender.clock in
-    let z = named (woken s now) y.setup in
-    let at : z.at ≡ s.sender.at = named_at (woken s now) y.setup in
-    let due : y.setup ≡ is_due s.naming (clock_at s now) = c.setup ∙ ap (λ n. is_due n (seen v.clock now)) h.sender.naming ∙ ap (is_due s.naming) clock in
+    let g = s.log.identity.geometry in
+    let start = s.log.start in
+    let k = h.sender.handler.clock in
+    let clock : seen v.clock now ≡ clock_at s now = ap (λ n. seen n now) h.sender.clock in
+    let identity : v.identity ≡ s.log.identity = sym from.identity ∙ ap (λ (l : Stream). l.identity) (sym h.log) in
+    let at : v.handler.at ≡ s.sender.at = ap (λ (x : Handler). x.at) h.sender.handler.is in
     let frames : committed m.entries ≡ committed s.log.entries = c.reads.grows ∙ ap (λ (l : Stream). committed l.entries) (sym h.log) in
-    let next : IsNextSent (committed s.log.entries) s.sender.at (limit_of s.log s.sender) y.frame = subst (λ fs. IsNextSent fs s.sender.at (limit_of s.log s.sender) y.frame) frames (subst (λ p. IsNextSent (committed m.entries) p (limit_of s.log s.sender) y.frame) h.sender.at (subst (λ f. IsNextSent (committed m.entries) v.position f y.frame) h.sender.flow c.next)) in
-    let wires : sent ≡ datagrams (wires_of s y) = c.sends ∙ ap (λ i. datagrams (sent_wires i v.position y)) (sym from.identity) ∙ ap (λ l. datagrams (sent_wires l.identity v.position y)) (sym h.log) ∙ ap (λ p. datagrams (sent_wires s.log.identity p y)) h.sender.at in
-    let end : behind v.position y.frame ≡ (sent_on z y.frame).at = ap (λ p. behind p y.frame) (h.sender.at ∙ sym at) ∙ behind_at z y.frame in
-    let moved : position_of m t.reads.number ≡ (sent_on z y.frame).at = ap (λ (x : Source). x.position) c.reads.past ∙ ap (λ p. behind p y.frame) from.position ∙ end in
+    let z = named (woken s now) y.setup in
+    let z_at : z.at ≡ s.sender.at = named_at (woken s now) y.setup in
+    let new : GivesNew g (committed s.log.entries) s.sender.at (limit_of s.log s.sender) y.fresh =
+    subst (λ (i : Identity). GivesNew i.geometry (committed s.log.entries) s.sender.at (limit_of s.log s.sender) y.fresh) identity
+    (subst (λ fs. GivesNew v.identity.geometry fs s.sender.at (limit_of s.log s.sender) y.fresh) frames
+    (subst (λ p. GivesNew v.identity.geometry (committed m.entries) p (limit_of s.log s.sender) y.fresh) at
+    (subst (λ n. GivesNew v.identity.geometry (committed m.entries) v.handler.at n y.fresh) h.sender.flow c.is.new))) in
+    let chain = sent_chain z.at new.to y.fresh new.reads _ new.ends (subst (λ p. Chain p new.to new.reads) (sym z_at) new.read.chain) in
+    let x = behind_new s now y in
+    let zs : handler_of g start s.sender k ≡ handler_of g start z k = named_handler g start k (woken s now) y.setup in
+    let noted_so : noted v.handler (frames_of y.fresh) ≡ handler_of g start x k =
+    ap (λ (q : Handler). noted q (frames_of y.fresh)) (h.sender.handler.is ∙ zs) ∙ noted_is near g start k chain.0 z (frames_of y.fresh) chain.1 in
+    let x_clock : x.clock ≡ clock_at s now = named_clock (woken s now) y.setup in
+    let low : k ≤ x.clock = subst (λ n. k ≤ n) (sym x_clock) (later k s.sender.clock now h.sender.handler.seen) in
+    let again : y.again ≡ again_of g x =
+    always s now k y standing new
+    (subst (λ (q : Handler). GivesAgain g (committed s.log.entries) (due_range q) y.again) noted_so
+    (subst (λ (i : Identity). GivesAgain i.geometry (committed s.log.entries) (due_range (noted v.handler (frames_of y.fresh))) y.again) identity
+    (subst (λ fs. GivesAgain v.identity.geometry fs (due_range (noted v.handler (frames_of y.fresh))) y.again) frames c.is.again))) in
+    let n = cycled s now y in
+    let handler : t.handler ≡ handler_of g start n x.clock =
+    ap (λ (u : Sending HandReader ℕ). u.handler) c.state
+    ∙ ap (λ (q : Handler). after_due q (seen v.clock now)) noted_so
+    ∙ ap (λ c. after_due (handler_of g start x k) c) (clock ∙ sym x_clock)
+    ∙ due_is g start k x (frames_of y.again) low in
+    let end : t.handler.at ≡ n.at = ap (λ (q : Handler). q.at) handler in
+    let wires : sent ≡ datagrams (wires_of s now y) =
+    c.sends
+    ∙ ap (λ i. datagrams (sent_wires i v.handler.at t.handler.at y)) identity
+    ∙ ap (λ p. datagrams (sent_wires s.log.identity p t.handler.at y)) at
+    ∙ ap (λ p. datagrams (sent_wires s.log.identity s.sender.at p y)) end in
+    let moved : position_of m t.reads.number ≡ n.at = ap (λ (x : Source). x.position) c.reads.moved ∙ end in
     let others = map (λ c. c.at) s.readers in
-    let log : m ≡ record old.log { consumers = (sent_on z y.frame).at ∷ others } = behind_log others old.log m v.reads.number t.reads.number s.sender.at (sent_on z y.frame).at h.consumers zeroth moves moved in
-    let kept = ap (λ x. x.naming) c.state in
+    let log : m ≡ record old.log { consumers = n.at ∷ others } = behind_log others old.log m v.reads.number t.reads.number s.sender.at n.at h.consumers zeroth moves moved in
+    let due : y.setup ≡ is_due s.naming (clock_at s now) = c.is.setup ∙ ap (λ n. is_due n (seen v.clock now)) h.sender.naming ∙ ap (is_due s.naming) clock in
+    let beat : y.beat ≡ (is_silent y && is_heartbeat_due (option_to_list s.last) s.naming.heard (clock_at s now)) =
+    c.is.beat
+    ∙ ap (λ o. is_silent y && is_heartbeat_due (option_to_list o) v.naming.heard (seen v.clock now)) h.sender.last
+    ∙ ap (λ (o : Naming). is_silent y && is_heartbeat_due (option_to_list s.last) o.heard (seen v.clock now)) h.sender.naming
+    ∙ ap (λ o. is_silent y && is_heartbeat_due (option_to_list s.last) s.naming.heard o) clock in
+    let n_clock : n.clock ≡ clock_at s now = x_clock in
+    let n_said : n.said ≡ s.sender.said = named_said (woken s now) y.setup in
     record {
-      lines = or_nothing (lines_of s (wires_of s y));
+      lines = or_nothing (lines_of s (wires_of s now y));
       state = after_cycle s now y;
-      answers = (y, (due, next), refl, refl);
-      printed = told ∙ ap (λ ws. line_contents before ++ or_nothing (packet_lines (length old.packets) ws)) wires ∙ ap (λ ps. line_contents before ++ or_nothing (packet_lines (length ps) (datagrams (wires_of s y)))) (sym h.packets);
+      answers = (y, record { setup = due; new = new; again = again; beat = beat }, refl, refl);
+      printed = told ∙ ap (λ ws. line_contents before ++ or_nothing (packet_lines (length old.packets) ws)) wires ∙ ap (λ ps. line_contents before ++ or_nothing (packet_lines (length ps) (datagrams (wires_of s now y)))) (sym h.packets);
       shows = record {
-        log = ap (λ (l : Stream). record l { consumers = (cycled s now y).at ∷ map (λ c. c.at) s.readers }) h.log ∙ sym log;
+        log = ap (λ (l : Stream). record l { consumers = n.at ∷ others }) h.log ∙ sym log;
         sender = record {
-          at = ap (λ x. x.position) c.state ∙ end;
-          flow = ap (λ x. x.flow) c.state ∙ h.sender.flow ∙ ap (λ ss. flow_limit s.log.start ss) (sym (sent_said z y.frame ∙ named_said (woken s now) y.setup));
-          naming = kept ∙ ap (λ n. after_due n (seen v.clock now)) h.sender.naming ∙ ap (after_due s.naming) clock;
-          clock = ap (λ x. x.clock) c.state ∙ clock ∙ sym (sent_clock z y.frame ∙ named_clock (woken s now) y.setup);
+          flow = ap (λ (u : Sending HandReader ℕ). u.flow) c.state ∙ h.sender.flow ∙ ap (λ ss. flow_limit s.log.start ss) (sym n_said);
+          naming = ap (λ (u : Sending HandReader ℕ). u.naming) c.state ∙ ap (λ o. after_naming o (seen v.clock now)) h.sender.naming ∙ ap (after_naming s.naming) clock;
+          handler = record { clock = x.clock; seen = subst (λ p. p ≤ n.clock) (n_clock ∙ sym x_clock) (omega arith); is = handler };
+          last = ap (λ (u : Sending HandReader ℕ). u.last) c.state ∙ ap (λ o. if is_heard y then Some (seen v.clock now) else o) h.sender.last ∙ ap (λ o. if is_heard y then Some o else s.last) clock;
+          clock = ap (λ (u : Sending HandReader ℕ). u.clock) c.state ∙ clock ∙ sym n_clock;
         };
-        consumers = ap (λ l. l.consumers) log;
+        consumers = ap (λ (l : Stream). l.consumers) log;
         readers = h.readers;
         receivers = h.receivers;
-        packets = ap (λ ps. ps ++ datagrams (wires_of s y)) h.packets ∙ ap (λ ws. old.packets ++ ws) (sym wires) ∙ sym given;
+        packets = ap (λ ps. ps ++ datagrams (wires_of s now y)) h.packets ∙ ap (λ ws. old.packets ++ ws) (sym wires) ∙ sym given;
       };
     }
 
--- ---- a datagram
+-- ---- what the sender is asked of
 
--- the log stays, and the sender stands where it stood
-heard_shown : (old : Simulated) (s : ScriptState) (x : Sender) (naming : Naming) (t : Sending HandReader ℕ) (packets : List (List ℕ)) (wires : List Wire) (sent : List (List ℕ)) → RepresentsState old s → packets ≡ old.packets ++ sent → x.at ≡ s.sender.at → t.position ≡ old.sender.position → t.flow ≡ limit_of s.log x → t.naming ≡ naming → t.clock ≡ x.clock → sent ≡ datagrams wires → RepresentsState (record old { sender = t; packets = packets }) (record (given_out s wires) { sender = x; naming = naming })
-heard_shown old s x naming t packets wires sent h given at place flow name clock out = record {
-  log = h.log;
-  sender = record { at = place ∙ h.sender.at ∙ sym at; flow = flow; naming = name; clock = clock };
-  consumers = h.consumers ∙ ap (λ p. p ∷ map (λ c. c.at) s.readers) (sym at);
-  readers = h.readers;
-  receivers = h.receivers;
-  packets = ap (λ ps. ps ++ datagrams wires) h.packets ∙ ap (λ ws. old.packets ++ ws) (sym out) ∙ sym given;
-}
-
--- without packets
-quiet_shown : (new : Simulated) (s : ScriptState) (x : Sender) (naming : Naming) → RepresentsState new (record (given_out s []) { sender = x; naming = naming }) → RepresentsState new (record s { sender = x; naming = naming })
-quiet_shown new s x naming h = subst (λ ps. RepresentsState new (record s { packets = ps; sender = x; naming = naming })) (append-nil s.packets) h
-
-answer_line : (before after : List Line) (answer is : SenderAnswer) (k : ℕ) (sent : List (List ℕ)) → line_contents after ≡ line_contents before ++ (OfSender answer ∷ packet_lines k sent) → answer ≡ is → sent ≡ [] → line_contents after ≡ line_contents before ++ OfSender is ∷ []
-answer_line before after answer is k sent told same none = told ∙ ap (λ a. line_contents before ++ (OfSender a ∷ packet_lines k sent)) same ∙ ap (λ ws. line_contents before ++ (OfSender is ∷ packet_lines k ws)) none
-
-reply_news : (old : Simulated) (s : ScriptState) (k now : ℕ) (bytes : List ℕ) (news : NewsContent) (answer : SenderAnswer) (t : Sending HandReader ℕ) (packets sent : List (List ℕ)) (before after : List Line) → RepresentsState old s → old.log.identity ≡ old.sender.identity → slice_get old.packets k ≡ Some bytes → IsNews old.sender.identity bytes news → HearsNews after_told (λ f. f) (at_moment old.sender now) news answer t sent → packets ≡ old.packets ++ sent → line_contents after ≡ line_contents before ++ (OfSender answer ∷ packet_lines (length old.packets) sent) → Answered s (commands.Reply k now) (line_contents before) (line_contents after) (record old { sender = t; packets = packets })
-reply_news old s k now bytes (Says f) answer t packets sent before after h same packet is hears given told =
-    let identity : old.sender.identity ≡ s.log.identity = sym same ∙ ap (λ l. l.identity) (sym h.log) in
-    let clock : seen old.sender.clock now ≡ clock_at s now = ap (λ c. seen c now) h.sender.clock in
-    let x = heard s now f in
-    let flow : t.flow ≡ limit_of s.log x =
-    ap (λ y. y.flow) hears.0
-    ∙ ap (λ i. max (clipped (places.position_of i.geometry f.term_id f.term_offset +ℤ f.window)) old.sender.flow) identity
-    ∙ ap (λ n. max (clipped (places.position_of s.log.identity.geometry f.term_id f.term_offset +ℤ f.window)) n) h.sender.flow in
-    let naming = record s.naming { heard = true } in
+-- what it may send again can be read
+pub sends_from : AlwaysThere → (v : Simulated) → StandsSomewhere v → IsSenderOf v.sender (source_of v.log v.sender.reads.number) → SendsFrom v.sender (source_of v.log v.sender.reads.number)
+sends_from law v h from =
+    let s = h.0 in
+    let k = h.1.sender.handler.clock in
     record {
-      lines = OfSender (answers.Status (pos (limit_of s.log x))) ∷ [];
-      state = record s { sender = x; naming = naming };
-      answers = inr (bytes, Says f, ap (λ ps. slice_get ps k) h.packets ∙ packet, subst (λ i. IsNews i bytes (Says f)) identity is, (refl, refl));
-      printed = answer_line before after answer (answers.Status (pos (limit_of s.log x))) (length old.packets) sent told (hears.1 ∙ ap (λ n. answers.Status (pos n)) flow) hears.2;
-      shows = quiet_shown (record old { sender = t; packets = packets }) s x naming (heard_shown old s x naming t packets [] sent h given refl (ap (λ y. y.position) hears.0) flow (ap (λ y. y.naming) hears.0 ∙ ap (λ (n : Naming). record n { heard = true }) h.sender.naming) (ap (λ y. y.clock) hears.0 ∙ clock) hears.2);
+      identity = from.identity;
+      position = from.position;
+      near = subst (λ (q : Handler). AreThere (committed v.log.entries) q) (sym h.1.sender.handler.is) (subst (λ (l : Stream). AreThere (committed l.entries) (handler_of s.log.identity.geometry s.log.start s.sender k)) h.1.log (law s k h.2));
     }
-reply_news old s k now bytes AsksSetup answer t packets sent before after h same packet is hears given told =
-    let identity : old.sender.identity ≡ s.log.identity = sym same ∙ ap (λ l. l.identity) (sym h.log) in
-    let clock : seen old.sender.clock now ≡ clock_at s now = ap (λ c. seen c now) h.sender.clock in
-    let x = named (woken s now) true in
-    let out = setup_at s.log.identity s.sender.at ∷ [] in
-    let wires : sent ≡ datagrams out = hears.2 ∙ ap (λ i. datagrams (setups i old.sender.position true)) identity ∙ ap (λ p. datagrams (setups s.log.identity p true)) h.sender.at in
-    record {
-      lines = OfSender answers.Asked ∷ lines_of s out;
-      state = with_sender (given_out s out) x;
-      answers = inr (bytes, AsksSetup, ap (λ ps. slice_get ps k) h.packets ∙ packet, subst (λ i. IsNews i bytes AsksSetup) identity is, (refl, refl));
-      printed = told ∙ ap (λ a. line_contents before ++ (OfSender a ∷ packet_lines (length old.packets) sent)) hears.1 ∙ ap (λ ws. line_contents before ++ (OfSender answers.Asked ∷ packet_lines (length old.packets) ws)) wires ∙ ap (λ ps. line_contents before ++ (OfSender answers.Asked ∷ packet_lines (length ps) (datagrams out))) (sym h.packets);
-      shows = heard_shown old s x s.naming t packets out sent h given refl (ap (λ y. y.position) hears.0) (ap (λ y. y.flow) hears.0 ∙ h.sender.flow) (ap (λ y. y.naming) hears.0 ∙ h.sender.naming) (ap (λ y. y.clock) hears.0 ∙ clock) wires;
-    }
-reply_news old s k now bytes TellsNothing answer t packets sent before after h same packet is hears given told =
-    let identity : old.sender.identity ≡ s.log.identity = sym same ∙ ap (λ l. l.identity) (sym h.log) in
-    let clock : seen old.sender.clock now ≡ clock_at s now = ap (λ c. seen c now) h.sender.clock in
-    record {
-      lines = OfSender answers.Other ∷ [];
-      state = with_sender s (woken s now);
-      answers = inr (bytes, TellsNothing, ap (λ ps. slice_get ps k) h.packets ∙ packet, subst (λ i. IsNews i bytes TellsNothing) identity is, (refl, refl));
-      printed = answer_line before after answer answers.Other (length old.packets) sent told hears.1 hears.2;
-      shows = quiet_shown (record old { sender = t; packets = packets }) s (woken s now) s.naming (heard_shown old s (woken s now) s.naming t packets [] sent h given refl (ap (λ y. y.position) hears.0) (ap (λ y. y.flow) hears.0 ∙ h.sender.flow) (ap (λ y. y.naming) hears.0 ∙ h.sender.naming) (ap (λ y. y.clock) hears.0 ∙ clock) hears.2);
-    }
-reply_news old s k now bytes (Unreadable fault) answer t packets sent before after h same packet is hears given told =
-    let clock : seen old.sender.clock now ≡ clock_at s now = ap (λ c. seen c now) h.sender.clock in
-    record {
-      lines = OfSender (answers.Refused fault) ∷ [];
-      state = with_sender s (woken s now);
-      answers = inr (bytes, Unreadable fault, ap (λ ps. slice_get ps k) h.packets ∙ packet, is, (refl, refl));
-      printed = answer_line before after answer (answers.Refused fault) (length old.packets) sent told hears.1 hears.2;
-      shows = quiet_shown (record old { sender = t; packets = packets }) s (woken s now) s.naming (heard_shown old s (woken s now) s.naming t packets [] sent h given refl (ap (λ y. y.position) hears.0) (ap (λ y. y.flow) hears.0 ∙ h.sender.flow) (ap (λ y. y.naming) hears.0 ∙ h.sender.naming) (ap (λ y. y.clock) hears.0 ∙ clock) hears.2);
-    }
-
--- what stands where it stood, did not move
-unmoved : (l m : Stream) (r q : ℕ) → MovesReader r l q m → position_of m q ≡ position_of l r → m ≡ l
-unmoved l m r q h at = h.moved ∙ ap (with_consumer l r) (ap (position_of m) (sym h.number_is) ∙ at) ∙ ap (λ (ps : List ℕ). record l { consumers = ps }) (set-get_or l.consumers r 0)
-
-pub reply_answered : (old : Simulated) (k now : ℕ) (bytes : List ℕ) (answer : SenderAnswer) (t : Sending HandReader ℕ) (packets sent : List (List ℕ)) (m : Stream) (before after : List Line) → SendsFrom old.sender (source_of old.log old.sender.reads.number) → MovesReader old.sender.reads.number old.log t.reads.number m → slice_get old.packets k ≡ Some bytes → (source_of m t.reads.number ≡ source_of old.log old.sender.reads.number) × HearsDatagram after_told (λ f. f) (at_moment old.sender now) bytes answer t sent → packets ≡ old.packets ++ sent → line_contents after ≡ line_contents before ++ (OfSender answer ∷ packet_lines (length old.packets) sent) → IsAnswered old (commands.Reply k now) before after (record old { log = m; sender = t; packets = packets })
-reply_answered old k now bytes answer t packets sent m before after from moves packet c given told = λ s h.
-    subst (λ (l : Stream). Answered s (commands.Reply k now) (line_contents before) (line_contents after) (record old { log = l; sender = t; packets = packets }))
-    (sym (unmoved old.log m old.sender.reads.number t.reads.number moves (ap (λ (x : Source). x.position) c.0)))
-    (reply_news old s k now bytes c.1.news answer t packets sent before after h from.identity packet c.1.is c.1.hears given told)
-
-pub replied_lines : (before between after : List Line) (answer : SenderAnswer) (k : ℕ) (sent : List (List ℕ)) → between ≡ before ++ lines.Sender answer ∷ [] → line_contents after ≡ line_contents between ++ packet_lines k sent → line_contents after ≡ line_contents before ++ (OfSender answer ∷ packet_lines k sent)
-replied_lines before between after answer k sent one more = more ∙ ap (λ ls. ls ++ packet_lines k sent) (one_line before between (lines.Sender answer) one) ∙ append_assoc (line_contents before) (OfSender answer ∷ []) (packet_lines k sent)

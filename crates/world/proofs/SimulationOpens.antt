@@ -1,5 +1,5 @@
 -- The simulation of a log that was just opened.
-use Rattle.std.proofs.Common.{◌≡◌, ◌∙◌, ℕ, suc, List, [], ◌∷◌, refl, sym, ap, subst}
+use Rattle.std.proofs.Common.{arith, ◌≡◌, ◌∙◌, ℕ, suc, List, [], ◌∷◌, refl, sym, ap, subst}
 use Rattle.std.specs.Prelude.{replicate}
 use Rattle.std.proofs.lemmas.List.{length-replicate}
 use Rattle.theory.specs.Bytes.{Identity}
@@ -37,7 +37,7 @@ same_stage i start readers v h =
 pub opened_shown : (i : Identity) (start readers : ℕ) (v : Simulated) → IsOpened i start readers v → AreListening i v.subscribers → RepresentsState v (opened_state i start readers)
 opened_shown i start readers v h listening = subst (λ x. RepresentsState x (opened_state i start readers)) (same_stage i start readers v h) (record {
   log = refl;
-  sender = record { at = refl; flow = refl; naming = refl; clock = refl };
+  sender = record { flow = refl; naming = refl; handler = record { clock = 0; seen = omega arith; is = refl }; last = refl; clock = refl };
   consumers = ap (λ ns. start ∷ ns) (map_replicate (λ (d : Consumer). d.at) readers (consumer_at start));
   readers = sym (length-replicate readers (consumer_at start));
   receivers = listening;

@@ -1,14 +1,15 @@
 -- What the calls of a line's handler left is a step of the states that the simulation shows.
-use Rattle.std.proofs.Common.{◌≡◌, ◌⊎◌, ℕ, zero, suc, ◌+◌, ◌-◌, ◌<◌, ◌≤◌, Bool, true, false, List, [], ◌∷◌, ◌++◌, map, length, Option, None, Some, inl, inr, refl, sym, ap, ◌∙◌, subst, arith}
+use Rattle.std.proofs.Common.{◌≡◌, ◌⊎◌, ℕ, zero, suc, ◌+◌, ◌-◌, ◌<◌, ◌≤◌, Bool, true, false, List, [], ◌∷◌, ◌++◌, map, length, Option, None, Some, inl, inr, refl, sym, ap, ◌∙◌, subst, arith, append-nil}
 use Rattle.std.specs.Prelude.{slice_get, slice_set, slice_index, replicate, Result, Ok, Err, OnOk}
 use Rattle.std.proofs.lemmas.List.{length-set, map-append, map-set}
 use Rattle.std.proofs.lemmas.Option.{slice_get_past}
+use Rattle.theory.specs.Bytes.{Identity}
 use Rattle.theory.specs.Consumer.{Consumer, moved}
 use Rattle.theory.specs.Entry.{Entry, committed}
 use Rattle.theory.specs.FlowLimit.{flow_limit}
 use Rattle.theory.specs.Placed.{Among, Placed, end_of}
 use Rattle.theory.specs.Position.{max_message}
-use Rattle.theory.specs.Wire.{Wire}
+use Rattle.theory.specs.Wire.{Wire, spelling}
 use Rattle.one_hand.specs.Legal.{IsStream}
 use Rattle.one_hand.specs.Stream.{Stream, clean_end, cleaned_and_limited, forgotten_below, position_of, raised, with_consumer}
 use Rattle.receiver.specs.Polling.{Answer, Polls, TellsPositions}
@@ -19,14 +20,18 @@ use Rattle.receiver.specs.declared.receiver_core.Outcome.{Outcome}
 use Rattle.script.specs.Meaning as commands
 use Rattle.script.specs.Meaning.{CommandContent}
 use Rattle.script_parts.specs.Lines.{line_content, line_contents}
+use Rattle.script_parts.specs.Packed.{bytes_of}
 use Rattle.script_parts.specs.declared.line.Line.{Line}
 use Rattle.script_parts.proofs.PacketNumbers.{none_past}
-use Rattle.script_run.specs.Answers.{Answers, AreFrames, MayNotTake, OffersMessage, given_out, lines_of, or_nothing, packet_lines, reader_at, with_log, with_reader, with_receiver}
+use Rattle.script_run.specs.Answers.{Answers, AreFrames, MayNotTake, OffersMessage, Takes, given_out, lines_of, or_nothing, packet_lines, reader_at, with_log, with_reader, with_receiver}
 use Rattle.script_run.specs.LineContents.{Bad, Limit, LineContent, OfReceiver, poll_line, positions_line}
 use Rattle.script_run.specs.ScriptState.{ScriptState}
-use Rattle.sender.specs.Cycling.{datagrams}
+use Rattle.one_hand.specs.declared.hand_reader.HandReader.{HandReader}
+use Rattle.sender.specs.Cycling.{alone, datagrams}
+use Rattle.sender.specs.Sending.{Sending}
 use Rattle.world.specs.Reading.{LeadsTo, ReadsLine, StandsStill}
-use Rattle.world.specs.Simulated.{AllShow, IsAnswered, IsOffered, MayBeOffered, RepresentsState, Simulated}
+use Rattle.world.specs.Simulated.{AllShow, IsAnswered, IsOffered, MayBeOffered, RepresentsSender, RepresentsState, Simulated}
+use Rattle.script_run.specs.Standing.{handler_of}
 
 -- ---- lines
 
@@ -42,7 +47,7 @@ unchanged v old command before after e h = subst (λ x. IsAnswered x command bef
 
 -- what can't be had
 pub bad_answered : (old : Simulated) (command : CommandContent) (line : Line) (before after : List Line) → line_content line ≡ Bad → ((s : ScriptState) → RepresentsState old s → Answers s command (Bad ∷ []) s) → after ≡ before ++ line ∷ [] → IsAnswered old command before after old
-bad_answered old command line before after bad answers told = λ s h. record {
+bad_answered old command line before after bad answers told = λ s h standing. record {
   lines = Bad ∷ [];
   state = s;
   answers = answers s h;
@@ -67,11 +72,25 @@ shows_set (w ∷ ws) (q ∷ rs) (suc k) v r h s = (h.0, shows_set ws rs k v r h.
 
 -- ---- the log alone
 
+-- of a log with the same identity and start it is the sender too
+log_changed : (v : Sending HandReader ℕ) (s : ScriptState) (m : Stream) (past : List Entry) → RepresentsSender v s → s.log.identity ≡ m.identity → s.log.start ≡ m.start → RepresentsSender v (record s { log = m; past = past })
+log_changed v s m past h identity start = record {
+  flow = h.flow ∙ ap (λ n. flow_limit n s.sender.said) start;
+  naming = h.naming;
+  handler = record {
+    clock = h.handler.clock;
+    seen = h.handler.seen;
+    is = h.handler.is ∙ ap (λ (i : Identity). handler_of i.geometry s.log.start s.sender h.handler.clock) identity ∙ ap (λ (n : ℕ). handler_of m.identity.geometry n s.sender h.handler.clock) start;
+  };
+  last = h.last;
+  clock = h.clock;
+}
+
 -- with these entries forgotten
 log_shown : (old : Simulated) (s : ScriptState) (m : Stream) (past : List Entry) → RepresentsState old s → StandsStill old.log m → RepresentsState (record old { log = m }) (record s { log = m; past = past })
 log_shown old s m past h k = record {
   log = refl;
-  sender = record { at = h.sender.at; flow = h.sender.flow ∙ ap (λ n. flow_limit n s.sender.said) (ap (λ (l : Stream). l.start) h.log ∙ sym k.start); naming = h.sender.naming; clock = h.sender.clock };
+  sender = log_changed old.sender s m past h.sender (ap (λ (l : Stream). l.identity) h.log ∙ sym k.identity) (ap (λ (l : Stream). l.start) h.log ∙ sym k.start);
   consumers = k.consumers ∙ h.consumers;
   readers = h.readers;
   receivers = h.receivers;
@@ -79,7 +98,7 @@ log_shown old s m past h k = record {
 }
 
 pub log_answered : (old : Simulated) (m : Stream) (command : CommandContent) (line : Line) (before after : List Line) → StandsStill old.log m → LeadsTo (λ s lines t. Answers s command lines t) old.log (line_content line) m → after ≡ before ++ line ∷ [] → IsAnswered old command before after (record old { log = m })
-log_answered old m command line before after k leads told = λ s h. record {
+log_answered old m command line before after k leads told = λ s h standing. record {
   lines = line_content line ∷ [];
   state = with_log s m;
   answers = leads s h.log;
@@ -92,7 +111,7 @@ offer_answered old m by message line before after k leads told = λ command mean
     log_answered old m command line before after k (λ s e. means s (with_log s m) (line_content line ∷ []) (leads s e)) told
 
 pub limit_answered : (old : Simulated) (m : Stream) (line : Line) (before after : List Line) → IsStream old.log → m ≡ cleaned_and_limited old.log → line_content line ≡ Limit (raised old.log) → after ≡ before ++ line ∷ [] → IsAnswered old commands.Limit before after (record old { log = m })
-limit_answered old m line before after legal is shown told = λ s h.
+limit_answered old m line before after legal is shown told = λ s h standing.
     let past = s.past ++ forgotten_below (clean_end s.log) s.log.entries in
     record {
       lines = line_content line ∷ [];
@@ -111,7 +130,7 @@ limit_answered old m line before after legal is shown told = λ s h.
 subscriber_shown : (old : Simulated) (s : ScriptState) (k : ℕ) (v : Subscribing) (r : Receiver) → RepresentsState old s → RepresentsSubscriber v r → RepresentsState (record old { subscribers = slice_set old.subscribers k v }) (with_receiver s k r)
 subscriber_shown old s k v r h shown = record {
   log = h.log;
-  sender = record { at = h.sender.at; flow = h.sender.flow; naming = h.sender.naming; clock = h.sender.clock };
+  sender = record { flow = h.sender.flow; naming = h.sender.naming; handler = h.sender.handler; last = h.sender.last; clock = h.sender.clock };
   consumers = h.consumers;
   readers = h.readers;
   receivers = shows_set old.subscribers s.receivers k v r h.receivers shown;
@@ -119,7 +138,7 @@ subscriber_shown old s k v r h shown = record {
 }
 
 pub poll_answered : (old : Simulated) (k : ℕ) (v w : Subscribing) (answer : Answer) (line : Line) (before after : List Line) → slice_get old.subscribers k ≡ Some v → SubscriberBecomes v w (λ r s. Polls r answer s) → line_content line ≡ poll_line answer → after ≡ before ++ line ∷ [] → IsAnswered old (commands.Poll k) before after (record old { subscribers = slice_set old.subscribers k w })
-poll_answered old k v w answer line before after there polls said told = λ s h.
+poll_answered old k v w answer line before after there polls said told = λ s h standing.
     let found = shows_at old.subscribers s.receivers k v h.receivers there in
     let next = polls found.0 found.2 in
     record {
@@ -131,7 +150,7 @@ poll_answered old k v w answer line before after there polls said told = λ s h.
     }
 
 pub image_answered : (old : Simulated) (k : ℕ) (v : Subscribing) (positions : Option Positions) (line : Line) (before after : List Line) → slice_get old.subscribers k ≡ Some v → ((r : Receiver) → RepresentsSubscriber v r → TellsPositions r positions) → line_content line ≡ positions_line positions → after ≡ before ++ line ∷ [] → IsAnswered old (commands.Image k) before after old
-image_answered old k v positions line before after there tells said told = λ s h.
+image_answered old k v positions line before after there tells said told = λ s h standing.
     let found = shows_at old.subscribers s.receivers k v h.receivers there in
     record {
       lines = line_content line ∷ [];
@@ -152,37 +171,50 @@ missing_deliver old k n now line before after none bad told = bad_answered old (
 pub missing_reply : (old : Simulated) (k now : ℕ) (line : Line) (before after : List Line) → slice_get old.packets k ≡ None → line_content line ≡ Bad → after ≡ before ++ line ∷ [] → IsAnswered old (commands.Reply k now) before after old
 missing_reply old k now line before after none bad told = bad_answered old (commands.Reply k now) line before after bad (λ s h. inl (packet_missing old s k h none, refl, refl)) told
 
-pub deliver_answered : (old : Simulated) (k n now : ℕ) (bytes : List ℕ) (v w : Subscribing) (outs : List Outcome) (before after : List Line) → slice_get old.packets k ≡ Some bytes → slice_get old.subscribers n ≡ Some v → SubscriberBecomes v w (λ r s. TakesDatagram r now bytes outs s) → line_contents after ≡ line_contents before ++ map OfReceiver outs → IsAnswered old (commands.Deliver k n now) before after (record old { subscribers = slice_set old.subscribers n w })
-deliver_answered old k n now bytes v w outs before after packet there hears told = λ s h.
+-- a receiver is handed a datagram
+taken : (old : Simulated) (command : CommandContent) (n now : ℕ) (bytes : List ℕ) (v w : Subscribing) (outs : List Outcome) (before after : List Line) → ((s t : ScriptState) (lines : List LineContent) → RepresentsState old s → Takes s n now bytes lines t → Answers s command lines t) → slice_get old.subscribers n ≡ Some v → SubscriberBecomes v w (λ r s. TakesDatagram r now bytes outs s) → line_contents after ≡ line_contents before ++ map OfReceiver outs → IsAnswered old command before after (record old { subscribers = slice_set old.subscribers n w })
+taken old command n now bytes v w outs before after means there hears told = λ s h standing.
     let found = shows_at old.subscribers s.receivers n v h.receivers there in
     let next = hears found.0 found.2 in
     record {
       lines = map OfReceiver outs;
       state = with_receiver s n next.0;
-      answers = inr (bytes, outs, found.0, next.0, ap (λ ps. slice_get ps k) h.packets ∙ packet, found.1, next.1, refl, refl);
+      answers = means s (with_receiver s n next.0) (map OfReceiver outs) h (outs, found.0, next.0, found.1, next.1, refl, refl);
       printed = told;
       shows = subscriber_shown old s n w next.0 h next.2;
     }
 
+pub deliver_answered : (old : Simulated) (k n now : ℕ) (bytes : List ℕ) (v w : Subscribing) (outs : List Outcome) (before after : List Line) → slice_get old.packets k ≡ Some bytes → slice_get old.subscribers n ≡ Some v → SubscriberBecomes v w (λ r s. TakesDatagram r now bytes outs s) → line_contents after ≡ line_contents before ++ map OfReceiver outs → IsAnswered old (commands.Deliver k n now) before after (record old { subscribers = slice_set old.subscribers n w })
+deliver_answered old k n now bytes v w outs before after packet =
+    taken old (commands.Deliver k n now) n now bytes v w outs before after (λ s t lines h takes. inr (bytes, ap (λ ps. slice_get ps k) h.packets ∙ packet, takes))
+
+pub raw_answered : (old : Simulated) (n now : ℕ) (bytes : List ℕ) (v w : Subscribing) (outs : List Outcome) (before after : List Line) → slice_get old.subscribers n ≡ Some v → SubscriberBecomes v w (λ r s. TakesDatagram r now bytes outs s) → line_contents after ≡ line_contents before ++ map OfReceiver outs → IsAnswered old (commands.Raw n now bytes) before after (record old { subscribers = slice_set old.subscribers n w })
+raw_answered old n now bytes v w outs before after = taken old (commands.Raw n now bytes) n now bytes v w outs before after (λ s t lines h takes. takes)
+
+-- the bytes of frames, each in a datagram of its own
+pub alone_bytes : (ws : List Wire) → datagrams (alone ws) ≡ bytes_of ws
+alone_bytes [] = refl
+alone_bytes (w ∷ ws) = ap (λ bytes. bytes ∷ datagrams (alone ws)) (append-nil (spelling w)) ∙ ap (λ rest. spelling w ∷ rest) (alone_bytes ws)
+
 -- with packets given out
-pub tick_answered : (old : Simulated) (n now : ℕ) (v w : Subscribing) (wires : List Wire) (packets : List (List ℕ)) (before after : List Line) → slice_get old.subscribers n ≡ Some v → ((r : Receiver) → RepresentsSubscriber v r → wires ≡ replies r now) → ((r : Receiver) → RepresentsSubscriber v r → RepresentsSubscriber w (ticked r now)) → AreFrames wires → packets ≡ old.packets ++ datagrams wires → line_contents after ≡ line_contents before ++ or_nothing (packet_lines (length old.packets) (datagrams wires)) → IsAnswered old (commands.Tick n now) before after (record old { subscribers = slice_set old.subscribers n w; packets = packets })
-tick_answered old n now v w wires packets before after there out next frames given told = λ s h.
+pub tick_answered : (old : Simulated) (n now : ℕ) (v w : Subscribing) (wires : List Wire) (packets : List (List ℕ)) (before after : List Line) → slice_get old.subscribers n ≡ Some v → ((r : Receiver) → RepresentsSubscriber v r → wires ≡ replies r now) → ((r : Receiver) → RepresentsSubscriber v r → RepresentsSubscriber w (ticked r now)) → AreFrames wires → packets ≡ old.packets ++ datagrams (alone wires) → line_contents after ≡ line_contents before ++ or_nothing (packet_lines (length old.packets) (datagrams (alone wires))) → IsAnswered old (commands.Tick n now) before after (record old { subscribers = slice_set old.subscribers n w; packets = packets })
+tick_answered old n now v w wires packets before after there out next frames given told = λ s h standing.
     let found = shows_at old.subscribers s.receivers n v h.receivers there in
     let r = found.0 in
     let sent : wires ≡ replies r now = out r found.2 in
     let base = subscriber_shown old s n w (ticked r now) h (next r found.2) in
     record {
-      lines = or_nothing (lines_of s (replies r now));
-      state = with_receiver (given_out s (replies r now)) n (ticked r now);
+      lines = or_nothing (lines_of s (alone (replies r now)));
+      state = with_receiver (given_out s (alone (replies r now))) n (ticked r now);
       answers = (r, found.1, subst AreFrames sent frames, refl, refl);
-      printed = told ∙ ap (λ ws. line_contents before ++ or_nothing (packet_lines (length old.packets) (datagrams ws))) sent ∙ ap (λ ps. line_contents before ++ or_nothing (packet_lines (length ps) (datagrams (replies r now)))) (sym h.packets);
+      printed = told ∙ ap (λ ws. line_contents before ++ or_nothing (packet_lines (length old.packets) (datagrams (alone ws)))) sent ∙ ap (λ ps. line_contents before ++ or_nothing (packet_lines (length ps) (datagrams (alone (replies r now))))) (sym h.packets);
       shows = record {
         log = base.log;
-        sender = record { at = h.sender.at; flow = h.sender.flow; naming = h.sender.naming; clock = h.sender.clock };
+        sender = record { flow = h.sender.flow; naming = h.sender.naming; handler = h.sender.handler; last = h.sender.last; clock = h.sender.clock };
         consumers = base.consumers;
         readers = base.readers;
         receivers = base.receivers;
-        packets = ap (λ ps. ps ++ datagrams (replies r now)) h.packets ∙ ap (λ ws. old.packets ++ datagrams ws) (sym sent) ∙ sym given;
+        packets = ap (λ ps. ps ++ datagrams (alone (replies r now))) h.packets ∙ ap (λ ws. old.packets ++ datagrams (alone ws)) (sym sent) ∙ sym given;
       };
     }
 
@@ -213,7 +245,7 @@ passed_by_reader old s j c p m h is =
     let index : suc j - 1 ≡ j = omega arith in
     record {
       log = ap (λ (l : Stream). with_consumer l (suc j) (end_of p)) h.log ∙ sym is;
-      sender = record { at = h.sender.at; flow = h.sender.flow; naming = h.sender.naming; clock = h.sender.clock };
+      sender = record { flow = h.sender.flow; naming = h.sender.naming; handler = h.sender.handler; last = h.sender.last; clock = h.sender.clock };
       consumers = ap (λ (l : Stream). l.consumers) is ∙ ap (λ cs. slice_set cs (suc j) (end_of p)) h.consumers ∙ ap (λ xs. s.sender.at ∷ xs) (sym places ∙ ap (λ n. map (λ (x : Consumer). x.at) (slice_set s.readers n (moved c p))) (sym index));
       readers = h.readers ∙ sym (length-set s.readers (suc j - 1) (moved c p));
       receivers = h.receivers;
@@ -221,7 +253,7 @@ passed_by_reader old s j c p m h is =
     }
 
 read_so : (old : Simulated) (j : ℕ) (m : Stream) (line : Line) (before after : List Line) → j < old.readers → ReadsLine old.log (suc j) (line_content line) m → after ≡ before ++ line ∷ [] → IsAnswered old (commands.Read (suc j)) before after (record old { log = m })
-read_so old j m line before after low (inl n) told = λ s h.
+read_so old j m line before after low (inl n) told = λ s h standing.
     let c = consumer_there s.readers j (subst (λ k. j < k) h.readers low) in
     let at : position_of old.log (suc j) ≡ c.0.at = ap (λ cs. slice_index cs (suc j)) h.consumers ∙ c.2 in
     record {
@@ -231,7 +263,7 @@ read_so old j m line before after low (inl n) told = λ s h.
       printed = one_line before after line told;
       shows = subst (λ l. RepresentsState (record old { log = l }) s) (sym n.2) h;
     }
-read_so old j m line before after low (inr f) told = λ s h.
+read_so old j m line before after low (inr f) told = λ s h standing.
     let c = consumer_there s.readers j (subst (λ k. j < k) h.readers low) in
     let at : position_of old.log (suc j) ≡ c.0.at = ap (λ cs. slice_index cs (suc j)) h.consumers ∙ c.2 in
     record {

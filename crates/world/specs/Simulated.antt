@@ -1,6 +1,7 @@
 -- What contracts see of a simulation, which states it represents, and what a line makes of them.
 use Rattle.std.specs.Prelude.{◌≡◌, ◌⊎◌, ◌≤◌, ◌+◌, ℕ, ⊤, List, [], ◌∷◌, ◌++◌, length, map, Some}
 use Rattle.std.specs.List.{flat_map}
+use Rattle.theory.specs.Position.{Geometry}
 use Rattle.theory.specs.Bytes.{Identity}
 use Rattle.script.specs.Meaning.{CommandContent}
 use Rattle.one_hand.specs.Reads.{source_of}
@@ -8,12 +9,16 @@ use Rattle.one_hand.specs.Stream.{OpenClaim, Stream, claim_by}
 use Rattle.one_hand.specs.declared.hand_reader.HandReader.{HandReader}
 use Rattle.receiver.specs.Receiving.{Receiver}
 use Rattle.receiver.specs.Subscribing.{RepresentsSubscriber, Subscribing}
-use Rattle.sender.specs.Sending.{Sending, SendsFrom}
+use Rattle.frame_source.specs.Sources.{Source}
+use Rattle.model.specs.Sender.{Sender}
+use Rattle.retransmit.specs.Handler.{Handler}
+use Rattle.sender.specs.Sending.{Sending}
 use Rattle.script_run.specs.Answers.{Answers, IsBad, OffersMessage, limit_of}
 use Rattle.script_run.specs.LineContents.{Open, LineContent}
 use Rattle.script_run.specs.Output.{AnswersAll, PrintsBook}
 use Rattle.script_run.specs.Published.{Played}
 use Rattle.script_run.specs.ScriptState.{ScriptState, listening_at, numbers, opened_state}
+use Rattle.script_run.specs.Standing.{IsPlayed, handler_of}
 use Rattle.script_parts.specs.Lines.{line_contents}
 use Rattle.script_parts.specs.declared.line.Line.{Line}
 
@@ -26,12 +31,17 @@ pub record Simulated : Type 0 where
   pub subscribers : List Subscribing
   pub packets : List (List ℕ)
 
+-- the sender is of this log, and stands where its reader does
+pub record IsSenderOf (v : Sending HandReader ℕ) (source : Source) : Type 0 where
+  pub identity : source.identity ≡ v.identity
+  pub position : source.position ≡ v.handler.at
+
 -- the log's first consumer is its sender, a frame fits the block, a datagram the outbox, and there are eight subscribers
 pub record IsStage (v : Simulated) (block outbox : ℕ) : Type 0 where
   pub room : v.log.identity.geometry.mtu ≤ block
   pub size : outbox ≡ v.log.identity.geometry.mtu
   pub first : v.sender.reads.number ≡ 0
-  pub from : SendsFrom v.sender (source_of v.log v.sender.reads.number)
+  pub from : IsSenderOf v.sender (source_of v.log v.sender.reads.number)
   pub consumers : length v.log.consumers ≡ v.readers + 1
   pub eight : length v.subscribers ≡ 8
 
@@ -42,10 +52,16 @@ AllShow [] (r ∷ rs) = ⊥
 AllShow (v ∷ vs) [] = ⊥
 AllShow (v ∷ vs) (r ∷ rs) = RepresentsSubscriber v r × AllShow vs rs
 
+pub record RepresentsHandler (h : Handler) (g : Geometry) (start : ℕ) (x : Sender) : Type 0 where
+  pub clock : ℕ
+  pub seen : clock ≤ x.clock
+  pub is : h ≡ handler_of g start x clock
+
 pub record RepresentsSender (v : Sending HandReader ℕ) (s : ScriptState) : Type 0 where
-  pub at : v.position ≡ s.sender.at
   pub flow : v.flow ≡ limit_of s.log s.sender
   pub naming : v.naming ≡ s.naming
+  pub handler : RepresentsHandler v.handler s.log.identity.geometry s.log.start s.sender
+  pub last : v.last ≡ s.last
   pub clock : v.clock ≡ s.sender.clock
 
 pub record RepresentsState (v : Simulated) (s : ScriptState) : Type 0 where
@@ -55,6 +71,10 @@ pub record RepresentsState (v : Simulated) (s : ScriptState) : Type 0 where
   pub readers : v.readers ≡ length s.readers
   pub receivers : AllShow v.subscribers s.receivers
   pub packets : s.packets ≡ v.packets
+
+-- it represents a state to which a script may lead
+abbrev pub StandsSomewhere : Simulated → Type 0
+StandsSomewhere v = (s : ScriptState) × RepresentsState v s × IsPlayed s
 
 -- the line printed this, and the simulation represents the state after it
 pub record Answered (old : ScriptState) (command : CommandContent) (before after : List LineContent) (new : Simulated) : Type 0 where
@@ -66,7 +86,7 @@ pub record Answered (old : ScriptState) (command : CommandContent) (before after
 
 -- whatever state the simulation represented
 abbrev pub IsAnswered : Simulated → CommandContent → List Line → List Line → Simulated → Type 0
-IsAnswered old command before after new = (s : ScriptState) → RepresentsState old s → Answered s command (line_contents before) (line_contents after) new
+IsAnswered old command before after new = (s : ScriptState) → RepresentsState old s → IsPlayed s → Answered s command (line_contents before) (line_contents after) new
 
 -- a message that the log can hold is offered by a publisher, or can't be, as that has a claim open
 abbrev pub MayBeOffered : ScriptState → ℕ → List ℕ → List LineContent → ScriptState → Type 0
@@ -87,11 +107,11 @@ pub record Continued (old : ScriptState) (commands : List CommandContent) (befor
   pub shows : RepresentsState new state
 
 abbrev pub Continues : Simulated → List CommandContent → List Line → List Line → Simulated → Type 0
-Continues old commands before after new = (s : ScriptState) → RepresentsState old s → Continued s commands (line_contents before) (line_contents after) new
+Continues old commands before after new = (s : ScriptState) → RepresentsState old s → IsPlayed s → Continued s commands (line_contents before) (line_contents after) new
 
 -- the same behind the line of an opened log
 abbrev pub ContinuesOpen : Simulated → List CommandContent → List Line → List Line → Simulated → Type 0
-ContinuesOpen old commands before after new = (s : ScriptState) → RepresentsState old s → Continued s commands (line_contents before ++ Open ∷ []) (line_contents after) new
+ContinuesOpen old commands before after new = (s : ScriptState) → RepresentsState old s → IsPlayed s → Continued s commands (line_contents before ++ Open ∷ []) (line_contents after) new
 
 -- the eight receivers of a log that was just opened
 abbrev pub AreListening : Identity → List Subscribing → Type 0

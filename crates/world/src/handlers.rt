@@ -6,7 +6,7 @@ ghost use Rattle.receiver.specs.Subscribing.{answer_of};
 ghost use Rattle.script_run.specs.LineContents as content;
 ghost use Rattle.script_run.specs.LineContents.{OfReceiver};
 ghost use Rattle.script_parts.specs.Lines.{line_content, line_contents};
-ghost use Rattle.world.specs.Simulated.{IsAnswered, IsOffered};
+ghost use Rattle.world.specs.Simulated.{IsAnswered, IsOffered, StandsSomewhere};
 ghost use Rattle.script.specs.Meaning as commands;
 
 use crate::log_lines::{abort_line, claim_line, commit_line, letters, offer_line, read_line};
@@ -14,8 +14,10 @@ use crate::simulation::Simulation;
 use assembler::Message;
 use one_hand::{Claims, OneHandLog};
 use receiver::{Outcome, PollError, Positions};
+use retransmit::near_starts_suffice;
 use script::{Command, PartyNumber};
 use script_parts::Line;
+use script_run::sends_again_what_it_sent;
 use sender::SenderEvent;
 use std::alloc::{AllocError, Global};
 
@@ -58,6 +60,7 @@ fn positions_line(positions: Option<Positions>) -> Line
 impl<L: OneHandLog> Simulation<L> {
     /// Plays one command, and adds its lines.
     pub fn play(&mut self, command: &Command, lines: &mut Vec<Line>) -> Result<(), AllocError>
+        requires { StandsSomewhere self.old }
         ensures { OnOk result (IsAnswered self.old (commands.content_of command.now) lines.old.items lines.new.items self.new) }
     {
         match command {
@@ -77,8 +80,14 @@ impl<L: OneHandLog> Simulation<L> {
                 receiver,
                 now,
             } => self.deliver(*packet, *receiver, *now, lines),
+            Command::Raw {
+                receiver,
+                now,
+                bytes,
+            } => self.raw(*receiver, *now, bytes, lines),
             Command::Tick { receiver, now } => self.tick(*receiver, *now, lines),
             Command::Reply { packet, now } => self.reply(*packet, *now, lines),
+            Command::RawBack { now, bytes } => self.raw_back(*now, bytes, lines),
             Command::Poll { receiver } => self.poll(*receiver, lines),
             Command::Image { receiver } => self.image(*receiver, lines),
         }
@@ -223,8 +232,11 @@ impl<L: OneHandLog> Simulation<L> {
     }
 
     fn send(&mut self, now: u64, lines: &mut Vec<Line>) -> Result<(), AllocError>
+        requires { StandsSomewhere self.old }
         ensures { OnOk result (IsAnswered self.old (commands.Send now) lines.old.items lines.new.items self.new) }
     {
+        near_starts_suffice();
+        sends_again_what_it_sent();
         let _ = self
             .sender
             .step(&mut self.log, SenderEvent::Tick, now, &mut self.outbox);
@@ -232,12 +244,15 @@ impl<L: OneHandLog> Simulation<L> {
     }
 
     fn reply(&mut self, packet: u64, now: u64, lines: &mut Vec<Line>) -> Result<(), AllocError>
+        requires { StandsSomewhere self.old }
         ensures { OnOk result (IsAnswered self.old (commands.Reply packet now) lines.old.items lines.new.items self.new) }
     {
         let Some(bytes) = self.packets.get(packet) else {
             lines.push(Line::Bad)?;
             return Ok(());
         };
+        near_starts_suffice();
+        sends_again_what_it_sent();
         let event = SenderEvent::Datagram(bytes);
         let answer = self
             .sender
@@ -261,6 +276,33 @@ impl<L: OneHandLog> Simulation<L> {
         };
         let outcomes = self.subscribers[receiver.number].on_datagram(bytes, now)?;
         tell(lines, &outcomes)
+    }
+
+    fn raw(
+        &mut self,
+        receiver: PartyNumber,
+        now: u64,
+        bytes: &[u8],
+        lines: &mut Vec<Line>,
+    ) -> Result<(), AllocError>
+        ensures { OnOk result (IsAnswered self.old (commands.Raw receiver.number now bytes.now) lines.old.items lines.new.items self.new) }
+    {
+        let outcomes = self.subscribers[receiver.number].on_datagram(bytes, now)?;
+        tell(lines, &outcomes)
+    }
+
+    fn raw_back(&mut self, now: u64, bytes: &[u8], lines: &mut Vec<Line>) -> Result<(), AllocError>
+        requires { StandsSomewhere self.old }
+        ensures { OnOk result (IsAnswered self.old (commands.RawBack now bytes.now) lines.old.items lines.new.items self.new) }
+    {
+        near_starts_suffice();
+        sends_again_what_it_sent();
+        let event = SenderEvent::Datagram(bytes);
+        let answer = self
+            .sender
+            .step(&mut self.log, event, now, &mut self.outbox);
+        lines.push(Line::Sender(answer))?;
+        self.packets.give_all(&self.outbox, lines)
     }
 
     fn tick(

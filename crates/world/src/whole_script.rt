@@ -1,13 +1,14 @@
 //! A script, played from its first line to the book.
 
 ghost use Rattle.std.specs.Prelude.{◌≡◌, ◌<◌, ◌≤◌, length, suc, vec_len, IfOk, OnOk};
-ghost use Rattle.theory.specs.Position.{max_position};
+ghost use Rattle.log_buffer.specs.Openings.{IsStart};
 ghost use Rattle.one_hand.specs.Stream.{opened};
 ghost use Rattle.script_run.specs.ScriptState.{listening_at, opened_state};
 ghost use Rattle.receiver.specs.Subscribing.{RepresentsSubscriber};
 ghost use Rattle.script_run.specs.Output.{IsOutputOf};
 ghost use Rattle.script_parts.specs.Lines.{line_contents};
-ghost use Rattle.world.specs.Simulated.{AreListening, Continues, ContinuesOpen, RunsTo, RepresentsState};
+ghost use Rattle.script_run.specs.Standing.{Begins};
+ghost use Rattle.world.specs.Simulated.{AreListening, Continues, ContinuesOpen, RunsTo, RepresentsState, StandsSomewhere};
 ghost use Rattle.script.specs.Meaning as meaning;
 
 use crate::simulation::{RECEIVERS, Simulation};
@@ -103,7 +104,7 @@ fn simulation<L: OneHandLog>(
     block: Block,
 ) -> Result<Simulation<L>, AllocError>
     requires opened { L.stream log ≡ opened (record { geometry = geometry; session = line.now.session; stream = line.now.stream }) line.now.start (suc line.now.readers) }
-    requires start { line.now.start < max_position geometry }
+    requires start { IsStart geometry line.now.start }
     requires size { outbox.mtu ≡ geometry.mtu }
     requires block { geometry.mtu ≤ length block }
     requires eight { vec_len subscribers ≡ 8 }
@@ -143,6 +144,7 @@ fn play_open<L: OneHandLog>(
     commands: &[Command],
     lines: &mut Vec<Line>,
 ) -> Result<(), AllocError>
+    requires { StandsSomewhere simulation.old }
     ensures { OnOk result (ContinuesOpen simulation.old (meaning.contents_of commands.now) lines.old.items lines.new.items simulation.new) }
 {
     lines.push(Line::Open)?;
@@ -155,6 +157,7 @@ fn play_all<L: OneHandLog>(
     commands: &[Command],
     lines: &mut Vec<Line>,
 ) -> Result<(), AllocError>
+    requires { StandsSomewhere simulation.old }
     ensures { OnOk result (Continues simulation.old (meaning.contents_of commands.now) lines.old.items lines.new.items simulation.new) }
 {
     for command in commands {
@@ -169,7 +172,8 @@ fn run<L: OneHandLog>(
     commands: &[Command],
     mut lines: Vec<Line>,
 ) -> Result<Vec<Line>, AllocError>
-    requires { RepresentsState simulation (opened_state simulation.log.identity simulation.log.start simulation.readers) }
+    requires opened { RepresentsState simulation (opened_state simulation.log.identity simulation.log.start simulation.readers) }
+    requires begins { Begins simulation.log.identity simulation.log.start }
     ensures { IfOk result (λ after. RunsTo simulation.log.identity simulation.log.start simulation.readers (meaning.contents_of commands.now) (line_contents lines.items) (line_contents after.items)) }
 {
     shares_are_counted();

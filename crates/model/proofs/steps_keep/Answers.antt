@@ -1,4 +1,4 @@
-use Rattle.model.proofs.StepsKept.{are_reached, keeps_naks}
+use Rattle.model.proofs.StepsKept.{are_reached, have_passed, keeps_naks}
 use Rattle.model.proofs.steps_keep.Goals as goal
 
 pub returns-clause-naks : goal.returns-clause-naks
@@ -6,3 +6,6 @@ returns-clause-naks c = keeps_naks
 
 pub returns-clause-reached : goal.returns-clause-reached
 returns-clause-reached c = are_reached
+
+pub returns-clause-passed : goal.returns-clause-passed
+returns-clause-passed c = have_passed

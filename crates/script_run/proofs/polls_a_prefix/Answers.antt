@@ -8,6 +8,8 @@ returns c = always_polled (record {
   prefixes = c.every_run.ensures.polled;
   entries = c.every_run.ensures.entries;
   spelled = c.every_run.ensures.spelled;
+  readable = c.every_run.ensures.readable;
+  passed = c.steps_keep.ensures.passed;
   places = record { place = c.names_place.ensures.place; header = c.names_place.ensures.header };
   reading = λ a b bytes. c.one_reading.ensures bytes a b;
 })

@@ -1,5 +1,8 @@
-use Rattle.world.proofs.ScriptRuns.{next_played}
+use Rattle.world.proofs.ScriptRuns.{next_played, stands_on}
 use Rattle.world.proofs.whole_script.play_all.Goals as goal
+
+pub play-requires : goal.play-requires
+play-requires g c = stands_on _ _ _ _ _ c.requires c.loop-command.invariant
 
 pub loop-command-preserved : goal.loop-command-preserved
 loop-command-preserved g c = next_played _ _ _ c.args.commands.now c.loop-command.command-index c.command-item.result _ _ _ c.loop-command-test.true c.command-item.is c.loop-command.invariant c.in_ok-play.ensures

@@ -1,77 +1,76 @@
-//! The next frame of a log, given out as a datagram.
+//! The frames of a stream as they go out.
 
-ghost use Rattle.std.specs.Prelude.{◌≡◌, ℕ, ◌+◌, ◌≤◌, ◌<◌, length, take};
+ghost use Rattle.std.specs.Prelude.{◌≡◌, ℕ, List, ◌+◌, ◌^◌, ◌≤◌, ◌<◌, length, not, take};
 ghost use Rattle.std.specs.List.{AllByRecursion};
+ghost use Rattle.theory.specs.Position.{aligned};
 ghost use Rattle.theory.specs.Datagrams.{sent_end};
-ghost use Rattle.theory.specs.Placed.{Data, Frame as Framed, Pad};
+ghost use Rattle.theory.specs.Placed.{Data, Frame as Framed, Pad, is_padding};
 ghost use Rattle.theory.specs.Wire.{IsFrame, spelling};
 ghost use Rattle.theory.specs.Bytes.{wire_at};
-ghost use Rattle.position.specs.Heads.{IsStreamFrame, frame_in, head_of};
+ghost use Rattle.position.specs.Heads.{IsStreamFrame, head_of};
 ghost use Rattle.frames.specs.Frames.{wire};
-ghost use Rattle.sender.specs.Outgoing.{HasRoom, with_datagram};
-ghost use Rattle.sender.specs.Sending.{Gives};
+ghost use Rattle.sender.specs.Packed.{placed_in, size_in};
 
 use crate::identity::Identity;
-use crate::outbox::Outbox;
 use block::Block;
-use frame_source::FrameSource;
 use frames::Frame;
 use position::{FrameHead, FrameKind, align32};
 
-/// Gives out the frame at the reader's position, if one is committed there and what goes out of it ends at or below the
-/// limit, and moves the reader behind it. Of a padding its header goes out. The answer is where a frame ends that went
-/// out.
-pub fn send_next<L, R: FrameSource<L>>(
-    reads: &mut R,
-    log: &mut L,
-    identity: &Identity,
-    block: &mut Block,
-    limit: u64,
-    outbox: &mut Outbox,
-) -> Option<u64>
-    requires stands { R.stands reads.old log.old }
-    requires same { (R.source reads.old log.old).identity ≡ identity.now }
-    requires room { identity.now.geometry.mtu ≤ length block.old }
-    requires out { HasRoom identity.now outbox.old }
-    ensures gives { Gives R.grown (R.source reads.old log.old) outbox.old limit result (R.source reads.new log.new) outbox.new }
-    ensures stands { R.stands reads.new log.new }
-    ensures leaves { R.leaves reads.old log.old reads.new log.new }
-    ensures same_length { length block.new ≡ length block.old }
+/// Where a frame ends.
+pub fn frame_end(identity: &Identity, head: &FrameHead) -> u64
+    requires { IsStreamFrame identity.now.geometry head.now }
+    ensures { result ≡ head.now.start + aligned head.now.frame_length }
 {
-    let Some(head) = reads.next(log, block) else {
-        return None;
-    };
-    if sent_to(identity, &head) > limit {
-        return None;
-    }
-    give_out(identity, &head, block, outbox);
-    Some(reads.advance(log))
+    let _geometry = identity.geometry();
+    head.start + u64::from(align32(head.frame_length))
 }
 
 /// Where what goes out of a frame ends.
-fn sent_to(identity: &Identity, head: &FrameHead) -> u64
+pub fn sent_to(identity: &Identity, head: &FrameHead) -> u64
     requires { IsStreamFrame identity.now.geometry head.now }
     ensures { (at : ℕ) → (frame : Framed) → head.now ≡ head_of at frame → result ≡ sent_end (record { at = at; frame = frame }) frame }
 {
     let _geometry = identity.geometry();
     match head.kind {
         FrameKind::Pad => head.start + 32,
-        FrameKind::Data => head.start + u64::from(align32(head.frame_length)),
+        FrameKind::Data => frame_end(identity, head),
     }
 }
 
-/// Gives out the frame that was read, a message's payload in the block's front.
-fn give_out(identity: &Identity, head: &FrameHead, block: &Block, outbox: &mut Outbox)
-    requires room { identity.now.geometry.mtu ≤ length block.now }
-    requires head { IsStreamFrame identity.now.geometry head.now }
-    requires out { HasRoom identity.now outbox.old }
-    ensures { outbox.new ≡ with_datagram outbox.old (spelling (wire_at identity.now head.now.start (frame_in head.now.kind head.now.flags head.now.frame_length block.now))) }
+/// The bytes that a frame takes in a datagram: of a padding its header.
+pub fn wire_size(head: &FrameHead) -> u32
+    requires { head.now.frame_length ≤ 2 ^ 31 }
+    ensures { result ≡ size_in head.now.kind head.now.frame_length }
 {
     match head.kind {
-        FrameKind::Pad => outbox.push(&padding(identity, head)),
+        FrameKind::Pad => 32,
+        FrameKind::Data => align32(head.frame_length),
+    }
+}
+
+/// Whether it is a message's frame, and no padding.
+pub fn is_data(head: &FrameHead) -> bool
+    ensures { (block : List ℕ) → result ≡ not (is_padding (placed_in head.now block).frame) }
+{
+    match head.kind {
+        FrameKind::Pad => false,
+        FrameKind::Data => true,
+    }
+}
+
+/// The frame that was read, a message's payload in the block's front.
+pub fn frame_of<'a>(identity: &Identity, head: &FrameHead, block: &'a Block) -> Frame<'a>
+    requires room { identity.now.geometry.mtu ≤ length block.now }
+    requires head { IsStreamFrame identity.now.geometry head.now }
+    ensures frame { wire result ≡ wire_at identity.now head.now.start (placed_in head.now block.now).frame }
+    ensures legal { IsFrame (wire result) }
+    ensures short { length (spelling (wire result)) ≤ identity.now.geometry.mtu }
+{
+    match head.kind {
+        FrameKind::Pad => padding(identity, head),
         FrameKind::Data => {
             let payload = front_of(block.bytes(), head.frame_length as usize - 32);
-            outbox.push(&data_frame(identity, head, payload));
+            data_frame(identity, head, payload)
         }
     }
 }
