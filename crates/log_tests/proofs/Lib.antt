@@ -1,2 +1,1 @@
 mod OnePass
-mod Steps

@@ -12,6 +12,4 @@ mod refusals;
 #[cfg(test)]
 mod tails;
 #[cfg(test)]
-mod terms;
-#[cfg(test)]
 mod words;

@@ -3,8 +3,8 @@ use Rattle.theory.specs.Position.{Geometry}
 use Rattle.theory.proofs.Frames.{tiles_le}
 use Rattle.term_buffer.specs.Kept.{Cleans, IsDrafted, Kept, MayClean, fresh, term_of, with_claim}
 use Rattle.term_buffer.specs.declared.claimed.Claimed.{Claimed}
-use Rattle.log_tests.proofs.Steps.{claimed_is, committed, committed_is, first_past, identity, next_claim, shape, stored, stored_is}
-use Rattle.log_tests.proofs.terms.round_the_ring.Goals as goal
+use Rattle.term_tests.proofs.Steps.{claimed_is, committed, committed_is, first_past, identity, next_claim, shape, stored, stored_is}
+use Rattle.term_tests.proofs.terms.round_the_ring.Goals as goal
 
 abbrev message : Claimed
 message = record { number = 0; start = 0; size = 0; owner = 0; padding = false; frame = 0 }

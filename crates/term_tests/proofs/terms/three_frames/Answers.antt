@@ -2,8 +2,8 @@ use Rattle.std.proofs.Common.{◌≡◌, pos, false, Option, Some, refl, sym, ap
 use Rattle.theory.specs.Position.{Geometry}
 use Rattle.term_buffer.specs.Kept.{IsDrafted, Kept, after_next, fresh, with_claim}
 use Rattle.term_buffer.specs.declared.claimed.Claimed.{Claimed}
-use Rattle.log_tests.proofs.Steps.{claimed_is, committed, committed_is, identity, next_claim, next_is, shape, stored, stored_is}
-use Rattle.log_tests.proofs.terms.three_frames.Goals as goal
+use Rattle.term_tests.proofs.Steps.{claimed_is, committed, committed_is, identity, next_claim, next_is, shape, stored, stored_is}
+use Rattle.term_tests.proofs.terms.three_frames.Goals as goal
 
 abbrev first : Claimed
 first = record { number = 0; start = 0; size = 3000; owner = 4; padding = false; frame = 0 }

@@ -2,8 +2,8 @@ use Rattle.std.proofs.Common.{◌≡◌, pos, false, refl, sym, ap, ◌∙◌, s
 use Rattle.theory.specs.Position.{Geometry}
 use Rattle.term_buffer.specs.Kept.{IsAborted, Kept, fresh, header_rest, with_claim}
 use Rattle.term_buffer.specs.declared.claimed.Claimed.{Claimed}
-use Rattle.log_tests.proofs.Steps.{claimed_is, identity, next_claim, shape, stored, stored_is}
-use Rattle.log_tests.proofs.terms.aborted.Goals as goal
+use Rattle.term_tests.proofs.Steps.{claimed_is, identity, next_claim, shape, stored, stored_is}
+use Rattle.term_tests.proofs.terms.aborted.Goals as goal
 
 abbrev message : Claimed
 message = record { number = 0; start = 0; size = 100; owner = 5; padding = false; frame = 0 }

@@ -2,8 +2,8 @@ use Rattle.std.proofs.Common.{◌≡◌, pos, ◌+◌, ◌≤◌, true, false, r
 use Rattle.theory.specs.Position.{Geometry}
 use Rattle.term_buffer.specs.Kept.{Cleans, IsDrafted, Kept, MayClean, fresh, header_rest, with_claim}
 use Rattle.term_buffer.specs.declared.claimed.Claimed.{Claimed}
-use Rattle.log_tests.proofs.Steps.{claimed_is, committed, committed_is, first_past, identity, next_claim, shape, stored, stored_is}
-use Rattle.log_tests.proofs.terms.message_and_padding.Goals as goal
+use Rattle.term_tests.proofs.Steps.{claimed_is, committed, committed_is, first_past, identity, next_claim, shape, stored, stored_is}
+use Rattle.term_tests.proofs.terms.message_and_padding.Goals as goal
 
 abbrev message : Claimed
 message = record { number = 0; start = 196544; size = 3; owner = 2; padding = false; frame = 0 }
