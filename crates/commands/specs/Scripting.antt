@@ -1,13 +1,25 @@
--- Why the script on an input isn't played, where the input's bytes are known.
-use Rattle.std.specs.Prelude.{◌≤◌, ◌<◌, ℕ, List, length, ⊤}
+-- The script on an input, played, and why it isn't, where the input's bytes are known.
+use Rattle.std.specs.Prelude.{◌≤◌, ◌<◌, ℕ, List, length, Option, IfSome, ⊤}
+use Rattle.std.specs.Io.KnownBytes.{Appends}
 use Rattle.script.specs.Language.{IsFaultLine, IsScript}
 use Rattle.script.specs.Meaning.{ScriptContent}
+use Rattle.script_run.specs.LineContents.{LineContent}
+use Rattle.script_run.specs.Output.{IsOutputOf}
+use Rattle.script_parts.specs.LineTexts.{text_of_lines}
 use Rattle.commands.specs.declared.fault.Fault.{Fault}
 use Rattle.commands.specs.declared.fault.Fault.TheVariants.{Line, Input, Memory, Hex, Frame, Read, Write}
 
 -- it is a script, of at most 1 MiB
 abbrev pub HoldsScript : List ℕ → Type 0
 HoldsScript bytes = (length bytes ≤ 1048576) × ((script : ScriptContent) × IsScript bytes script)
+
+-- the input holds this script, and the lines of an output of it were written, each ended by a line feed, in order
+pub record PlaysInput (input before after : Option (List ℕ)) : Type 0 where
+  pub script : ScriptContent
+  pub held : IfSome input (λ bytes. (length bytes ≤ 1048576) × IsScript bytes script)
+  pub lines : List LineContent
+  pub output : IsOutputOf script lines
+  pub written : Appends before after (text_of_lines lines)
 
 -- why not all of it is taken; for want of memory, or where the input fails, any may be refused
 abbrev pub ExplainsInput : List ℕ → Fault → Type 0

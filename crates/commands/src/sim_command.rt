@@ -1,23 +1,25 @@
 //! A script from a reader, its lines to a writer.
 
 ghost use Rattle.std.specs.Prelude.{◌≡◌, ◌≤◌, ◌⊎◌, length, vec_len, IfErr, IfOk, IfSome, OnOk};
-ghost use Rattle.std.specs.Io.KnownBytes.{Keeps};
-ghost use Rattle.commands.specs.Scripting.{ExplainsInput, ExplainsScript, HoldsScript};
+ghost use Rattle.std.specs.Io.KnownBytes.{Appends, Keeps};
+ghost use Rattle.script_parts.specs.LineTexts.{text_of_lines};
+ghost use Rattle.script_parts.specs.Lines.{line_contents};
+ghost use Rattle.commands.specs.Scripting.{ExplainsInput, ExplainsScript, PlaysInput};
 
 use crate::fault::Fault;
 use script::read_script;
 use std::alloc::Global;
 use std::io::{ErrorKind, Read, Write};
-use world::play;
+use world::{Line, play};
 
 /// The most bytes of a script: 1 MiB.
 const GREATEST_INPUT: usize = 1_048_576;
 
-/// Plays the script that the input holds, and writes its lines. At any fault but `Write` nothing was written.
-///
-/// What was written isn't promised: no contract says how a line is spelled.
+/// Plays the script that the input holds, and writes its lines. At any fault but `Write` nothing was written; at `Write`
+/// some of the output's bytes may have been.
 pub fn sim<R: Read, W: Write>(alloc: Global, input: &mut R, output: &mut W) -> Result<(), Fault>
-    ensures done { OnOk result (IfSome (R.remaining input.old) (λ bytes. HoldsScript bytes)) }
+    // What is written is an output of the script, line by line.
+    ensures done { OnOk result (PlaysInput (R.remaining input.old) (W.contents output.old) (W.contents output.new)) }
     // A fault has its reason in the input.
     ensures fault { IfErr result (λ fault. IfSome (R.remaining input.old) (λ bytes. ExplainsScript bytes fault)) }
     ensures kept { IfErr result (λ fault. (fault ≡ Fault.Write)
@@ -26,10 +28,19 @@ pub fn sim<R: Read, W: Write>(alloc: Global, input: &mut R, output: &mut W) -> R
     let text = text_of(alloc, input)?;
     let script = read_script(alloc, &text)?;
     let lines = play(alloc, &script)?;
-    for line in &lines {
+    write_lines(&lines, output)?;
+    output.flush().map_err(|_| Fault::Write)
+}
+
+/// Writes lines, each ended by a line feed.
+fn write_lines<W: Write>(lines: &[Line], output: &mut W) -> Result<(), Fault>
+    ensures done { OnOk result (Appends (W.contents output.old) (W.contents output.new) (text_of_lines (line_contents lines.now))) }
+    ensures fault { IfErr result (λ fault. fault ≡ Fault.Write) }
+{
+    for line in lines {
         writeln!(output, "{line}").map_err(|_| Fault::Write)?;
     }
-    output.flush().map_err(|_| Fault::Write)
+    Ok(())
 }
 
 /// All of the input, unless it is longer than 1 MiB. The fault is `Input` then, `Read` where the input fails, or want of

@@ -7,7 +7,7 @@ use std::process::ExitCode;
 use std::{fs, io};
 
 /// The examples by their names: each is a file `NAME.script`, and what it prints a file `NAME.expected`.
-const NAMES: [&str; 16] = [
+const NAMES: [&str; 18] = [
     "first",
     "loss",
     "joins",
@@ -18,12 +18,14 @@ const NAMES: [&str; 16] = [
     "fragments",
     "gap",
     "resend",
+    "mended",
     "lost_padding",
     "two_terms",
     "sixteen_actions",
     "lingering",
     "heartbeats",
     "forged",
+    "forgeries",
 ];
 
 fn main(rt: HostRuntime) -> ExitCode {

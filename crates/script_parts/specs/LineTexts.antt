@@ -1,5 +1,5 @@
 -- What a user reads of a line.
-use Rattle.std.specs.Prelude.{ℕ, List, ◌∷◌, ◌++◌, codes, decimal}
+use Rattle.std.specs.Prelude.{ℕ, List, [], ◌∷◌, ◌++◌, codes, decimal}
 use Rattle.std.specs.Fmt.{signed_decimal}
 use Rattle.std.specs.List.{flat_map}
 use Rattle.hexadecimal.specs.Digits.{hexadecimal, two_digits}
@@ -35,3 +35,7 @@ line_text (Unassembled fault) = assemblers.code_of fault
 line_text (Positions least rebuilt high) = codes "image least " ++ decimal least ++ codes " rebuilt " ++ decimal rebuilt ++ codes " high " ++ decimal high
 line_text Bad = codes "bad"
 line_text (Shares start end shares) = codes "book " ++ decimal start ++ codes " " ++ decimal end ++ shares_text shares
+
+-- the lines, each ended by a line feed
+abbrev pub text_of_lines : List LineContent → List ℕ
+text_of_lines lines = flat_map (λ line. line_text line ++ 10 ∷ []) lines

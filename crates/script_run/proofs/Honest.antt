@@ -1,5 +1,5 @@
 -- Packets that the sender and the receivers gave out.
-use Rattle.std.proofs.Common.{ℕ, List, [], ◌∷◌, ◌++◌, map, Bool, true, false, Option, None, Some, refl, subst}
+use Rattle.std.proofs.Common.{◌≡◌, ℕ, List, [], ◌∷◌, ◌++◌, map, Bool, true, false, Option, None, Some, refl, subst}
 use Rattle.std.specs.List.{AllByRecursion}
 use Rattle.std.specs.Prelude.{⊤}
 use Rattle.theory.specs.Wire.{Header, Setup, Wire, DATA, PAD, HEARTBEAT, NAK, SM, SETUP, IsFrame, SpellsDatagram, StandTogether}
@@ -9,16 +9,27 @@ use Rattle.theory.specs.Bytes.{Identity, wire_at}
 use Rattle.std.proofs.Common.{cond}
 use Rattle.std.specs.Option.{option_to_list}
 use Rattle.theory.specs.Consumer.{least_of}
-use Rattle.theory.specs.Control.{asking_at, nak_at, status_at}
+use Rattle.theory.specs.Control.{asking_at, nak_at, setup_fields, status_at}
 use Rattle.theory.specs.Gap.{Gap}
 use Rattle.theory.specs.Laws.{HasOneReading}
 use Rattle.model.specs.Sender.{Sender}
 use Rattle.theory.proofs.Lists.{all_append, all_at, all_behind, all_front, all_weaker}
 use Rattle.theory.proofs.Readings.{stands_alone}
 use Rattle.script_run.specs.Answers.{AreFrames}
-use Rattle.script_run.specs.Given.{IsHonestFrame, IsHonestSetup, MayBeGiven, WasNamed, WasSent}
+use Rattle.receiver.specs.declared.receiver_core.Outcome.{Outcome}
+use Rattle.receiver.specs.declared.receiver_core.Outcome.TheVariants as outcomes
+use Rattle.script_run.specs.LineContents.{OfReceiver}
+use Rattle.script_run.specs.Published.{AreHonestFrames, IfGiven, WasPrinted}
 use Rattle.sender.specs.Cycling.{alone, datagrams}
 use Rattle.receiver.specs.Receiving.{Opened, Receiver, asking, at_moment, is_due, missing, replies, scanned_at, telling}
+
+-- a frame that the sender sent
+abbrev pub WasSent : Identity → List Placed → Wire → Type 0
+WasSent i sent w = (s : Placed) × Among s sent × (w ≡ wire_at i s.at s.frame)
+
+-- a SETUP that the sender sent
+abbrev pub WasNamed : Identity → List ℕ → Setup → Type 0
+WasNamed i setups f = (p : ℕ) × Among p setups × (f ≡ setup_fields i p)
 
 -- what the sender and the receivers give out: data, paddings and SETUPs are the sender's
 abbrev pub IsGivenOut : Identity → List Placed → List ℕ → Wire → Type 0
@@ -28,23 +39,6 @@ IsGivenOut i sent setups (SETUP f) = WasNamed i setups f
 IsGivenOut i sent setups (HEARTBEAT h) = ⊤
 IsGivenOut i sent setups (NAK f) = ⊤
 IsGivenOut i sent setups (SM asks f) = ⊤
-
-sent_frame : (o : Option Opened) (Sent : Type 0) → Sent → IsHonestFrame o Sent
-sent_frame None Sent h = tt
-sent_frame (Some o) Sent h = h
-
-sent_setup : (o : Option Opened) (r : Receiver) (f : Setup) (Named : Type 0) → Named → IsHonestSetup o r f Named
-sent_setup None r f Named h = λ g p opens. h
-sent_setup (Some o) r f Named h = tt
-
--- any receiver may be given that
-pub may_be_given : (i : Identity) (sent : List Placed) (setups : List ℕ) (r : Receiver) (w : Wire) → IsGivenOut i sent setups w → MayBeGiven i sent setups r w
-may_be_given i sent setups r (DATA h flags payload) given = λ ours. sent_frame r.image (WasSent i sent (DATA h flags payload)) given
-may_be_given i sent setups r (PAD h n) given = λ ours. sent_frame r.image (WasSent i sent (PAD h n)) given
-may_be_given i sent setups r (SETUP f) given = λ ours. sent_setup r.image r f (WasNamed i setups f) given
-may_be_given i sent setups r (HEARTBEAT h) given = tt
-may_be_given i sent setups r (NAK f) given = tt
-may_be_given i sent setups r (SM asks f) given = tt
 
 -- the frames of a datagram that was given out
 abbrev pub AreGivenOut : Identity → Sender → List Wire → Type 0
@@ -150,3 +144,47 @@ replies_given i x r now =
 
 pub frames_given_out : HasOneReading → (i : Identity) (x : Sender) (bytes : List ℕ) (frames : List Wire) → IsHonest i x bytes → SpellsDatagram frames bytes → AreGivenOut i x frames
 frames_given_out law i x bytes frames h spelled = subst (AreGivenOut i x) (law h.wires frames bytes h.spelled spelled) h.given
+
+-- ---- what a receiver takes of a datagram
+
+if_given : (out : Outcome) (P Q : Type 0) → (P → Q) → IfGiven out P → IfGiven out Q
+if_given (outcomes.Inserted a) P Q weaker h = weaker h
+if_given (outcomes.Opened j) P Q weaker h = weaker h
+if_given outcomes.Heartbeat P Q weaker h = tt
+if_given outcomes.Kept P Q weaker h = tt
+if_given outcomes.Asked P Q weaker h = tt
+if_given (outcomes.SetupRefused e) P Q weaker h = tt
+if_given outcomes.Other P Q weaker h = tt
+if_given (outcomes.Refused e) P Q weaker h = tt
+
+surely_given : (out : Outcome) (P : Type 0) → P → IfGiven out P
+surely_given (outcomes.Inserted a) P h = h
+surely_given (outcomes.Opened j) P h = h
+surely_given outcomes.Heartbeat P h = tt
+surely_given outcomes.Kept P h = tt
+surely_given outcomes.Asked P h = tt
+surely_given (outcomes.SetupRefused e) P h = tt
+surely_given outcomes.Other P h = tt
+surely_given (outcomes.Refused e) P h = tt
+
+-- each frame that is given to an image, and each SETUP that opens one, was given out
+abbrev pub AreEntering : Identity → Sender → List Wire → List Outcome → Type 0
+AreEntering i x [] outs = ⊤
+AreEntering i x (w ∷ ws) [] = ⊤
+AreEntering i x (w ∷ ws) (out ∷ outs) = IfGiven out (IsGivenOut i x.sent x.setups w) × AreEntering i x ws outs
+
+-- frames of a datagram that was given out
+pub all_entering : (i : Identity) (x : Sender) (ws : List Wire) (outs : List Outcome) → AreGivenOut i x ws → AreEntering i x ws outs
+all_entering i x [] outs h = tt
+all_entering i x (w ∷ ws) [] h = tt
+all_entering i x (w ∷ ws) (out ∷ outs) h = (surely_given out (IsGivenOut i x.sent x.setups w) h.0, all_entering i x ws outs h.1)
+
+was_given : HasOneReading → (i : Identity) (x : Sender) (packets : List (List ℕ)) (w : Wire) → AreHonest i x packets → WasPrinted packets w → IsGivenOut i x.sent x.setups w
+was_given law i x packets w h p = all_at (λ v. IsGivenOut i x.sent x.setups v) w p.frames (frames_given_out law i x p.bytes p.frames (all_at (IsHonest i x) p.bytes packets h p.among) p.spelled) p.here
+
+-- frames that were printed
+pub printed_entering : HasOneReading → (i : Identity) (x : Sender) (packets : List (List ℕ)) (ws : List Wire) (outs : List Outcome) → AreHonest i x packets → AreHonestFrames packets ws (map OfReceiver outs) → AreEntering i x ws outs
+printed_entering law i x packets [] outs h k = tt
+printed_entering law i x packets (w ∷ ws) [] h k = tt
+printed_entering law i x packets (w ∷ ws) (out ∷ outs) h k =
+    (if_given out (WasPrinted packets w) (IsGivenOut i x.sent x.setups w) (was_given law i x packets w h) k.0, printed_entering law i x packets ws outs h k.1)

@@ -1,12 +1,14 @@
 pub mod Counted
-mod GivenRows
 pub mod Honest
+mod HonestRows
+pub mod InBounds
 pub mod Lone
 pub mod Numbers
 pub mod OfferRuns
 pub mod PollFollows
 pub mod PollRuns
 pub mod PolledPrefixes
+pub mod Prints
 pub mod Ranges
 pub mod ReaderRuns
 pub mod ReceiverRuns

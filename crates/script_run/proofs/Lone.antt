@@ -4,18 +4,7 @@ use Rattle.std.specs.Prelude.{slice_get, slice_set}
 use Rattle.std.specs.List.{AllByRecursion}
 use Rattle.receiver.specs.Receiving.{Receiver}
 use Rattle.script_run.specs.Answers.{with_receiver}
-use Rattle.script_run.specs.ScriptState.{ScriptState, image_of, world_of}
-
-abbrev pub hush : Receiver → Receiver
-hush r = record r { image = None }
-
-abbrev pub lone_at : ℕ → List Receiver → List Receiver
-lone_at k [] = []
-lone_at zero (r ∷ rs) = r ∷ map hush rs
-lone_at (suc k) (r ∷ rs) = hush r ∷ lone_at k rs
-
-abbrev pub lone : ℕ → ScriptState → ScriptState
-lone k s = record s { receivers = lone_at k s.receivers }
+use Rattle.script_run.specs.ScriptState.{ScriptState, hush, image_of, lone, lone_at, world_of}
 
 kept_there : (k : ℕ) (rs : List Receiver) → slice_get (lone_at k rs) k ≡ slice_get rs k
 kept_there k [] = refl

@@ -13,52 +13,57 @@ use Rattle.theory.proofs.Lists.{each_get}
 use Rattle.script.specs.Meaning as commands
 use Rattle.script.specs.Meaning.{CommandContent}
 use Rattle.script_run.specs.Answers.{Answers}
-use Rattle.script_run.specs.Output.{AlwaysPolled, AnswersAll, identity_of}
+use Rattle.script_run.specs.Output.{AlwaysPolled, AlwaysRuns, AnswersAll, identity_of}
 use Rattle.receiver.specs.Polling.{TellsOf}
 use Rattle.script_run.specs.LineContents.{LineContent, Positions, positions_line}
 use Rattle.receiver.specs.declared.positions.Positions as places
-use Rattle.script_run.specs.Published.{AllWhole, IsNotRaw, LastTold, NoneRaw, Played, PolledNothing, PolledPrefix, PolledTo, ReadTo, covered_by, joins, polled, published, read}
+use Rattle.script_run.specs.Published.{AllHonest, AllWhole, IsHonestLine, LastTold, Played, PolledNothing, PolledPrefix, PolledTo, ReadTo, covered_by, joins, polled, printed, published, read}
 use Rattle.receiver.specs.Receiving.{Opened, Receiver}
-use Rattle.script_run.specs.ScriptState.{ScriptState, entries_of, image_of, listening_at, numbers, opened_state, world_of}
+use Rattle.script_run.specs.ScriptState.{ScriptState, entries_of, image_of, listening_at, lone, numbers, opened_state, world_of}
 use Rattle.script_run.proofs.Numbers.{number_at}
 use Rattle.script_run.proofs.Ranges.{matched}
+use Rattle.script_run.proofs.Prints.{prints_more}
 use Rattle.script_run.proofs.ReaderRuns.{read_line}
 use Rattle.script_run.proofs.ReceiverRuns.{FollowsImage, IsFollowed}
 use Rattle.script_run.proofs.Runs.{stays}
 use Rattle.theory.proofs.Tables.{map_get, seat_at}
 use Rattle.theory.proofs.Tables.{map_replicate}
 use Rattle.script_run.specs.Standing.{Begins}
-use Rattle.script_run.proofs.Lone.{lone, lone_closed, lone_there}
+use Rattle.script_run.proofs.Lone.{lone_closed, lone_there}
 use Rattle.script_run.proofs.Sound.{IsSound, Laws, and_line, law_of}
 use Rattle.script_run.proofs.SoundLines.{abort_line, claim_line, close_line, commit_line, connect_line, limit_line, offer_line}
 use Rattle.script_run.proofs.SoundReceivers.{deliver_line, image_line, poll_line, raw_line, tick_line}
 use Rattle.script_run.proofs.SoundSenders.{back_line, reply_line, send_line}
 
-line : Laws → (i : Identity) (start readers only : ℕ) (played : List Played) (command : CommandContent) (lines : List LineContent) (s t : ScriptState) → Begins i start → (only < 8 → IsNotRaw only command) → IsSound i start readers only played s → Answers s command lines t → IsSound i start readers only (and_line played command lines) t
-line laws i start readers only played commands.Connect lines s t b spared h m = subst (λ x. IsSound i start readers only (and_line played commands.Connect lines) x) (sym m.1) (connect_line i start readers only played commands.Connect lines s true (record { joins = λ k. refl; polls = λ k. refl; reads = λ k. refl }) (λ g ranges. refl) h)
-line laws i start readers only played commands.Disconnect lines s t b spared h m = subst (λ x. IsSound i start readers only (and_line played commands.Disconnect lines) x) (sym m.1) (connect_line i start readers only played commands.Disconnect lines s false (record { joins = λ k. refl; polls = λ k. refl; reads = λ k. refl }) (λ g ranges. refl) h)
-line laws i start readers only played commands.Close lines s t b spared h m = subst (λ x. IsSound i start readers only (and_line played commands.Close lines) x) (sym m.1) (close_line i start readers only played lines s h)
-line laws i start readers only played commands.Limit lines s t b spared h m = limit_line i start readers only played lines s t h m
-line laws i start readers only played (commands.Offer by message) lines s t b spared h m = offer_line laws i start readers only played s t by (max_message s.log.identity.geometry) (length message) message (commands.Offer by message) lines b (record { joins = λ k. refl; polls = λ k. refl; reads = λ k. refl }) (λ g ranges ls. refl) h m
-line laws i start readers only played (commands.OfferSize by size) lines s t b spared h m = offer_line laws i start readers only played s t by (max_message s.log.identity.geometry) size (replicate size 97) (commands.OfferSize by size) lines b (record { joins = λ k. refl; polls = λ k. refl; reads = λ k. refl }) (λ g ranges ls. refl) h m
-line laws i start readers only played (commands.Claim by size) lines s t b spared h m = claim_line laws i start readers only played s t by (max_payload s.log.identity.geometry) size lines b h m
-line laws i start readers only played (commands.Commit by) lines s t b spared h m = commit_line laws i start readers only played s t by lines b h m
-line laws i start readers only played (commands.Abort by) lines s t b spared h m = abort_line laws i start readers only played s t by lines b h m
-line laws i start readers only played (commands.Read r) lines s t b spared h m = read_line i start readers only played s t r lines h m
-line laws i start readers only played (commands.Send now) lines s t b spared h m = send_line laws i start readers only played s t now lines b h m
-line laws i start readers only played (commands.Deliver k n now) lines s t b spared h m = deliver_line laws i start readers only played k n now lines s t b h m
-line laws i start readers only played (commands.Raw n now bytes) lines s t b spared h m = raw_line i start readers only played n now bytes lines s t spared h m
-line laws i start readers only played (commands.Tick n now) lines s t b spared h m = tick_line i start readers only played n now lines s t h m
-line laws i start readers only played (commands.Reply k now) lines s t b spared h m = reply_line laws i start readers only played k now lines s t b h m
-line laws i start readers only played (commands.RawBack now bytes) lines s t b spared h m = back_line laws i start readers only played now bytes lines s t b h m
-line laws i start readers only played (commands.Poll n) lines s t b spared h m = poll_line i start readers only played n lines s t h m
-line laws i start readers only played (commands.Image n) lines s t b spared h m = image_line i start readers only played n lines s t h m
+line : Laws → (i : Identity) (start readers only : ℕ) (played : List Played) (command : CommandContent) (lines : List LineContent) (s t : ScriptState) → Begins i start → (only < 8 → IsHonestLine only s.packets command lines) → IsSound i start readers only played s → Answers s command lines t → IsSound i start readers only (and_line played command lines) t
+line laws i start readers only played commands.Connect lines s t b honest h m = subst (λ x. IsSound i start readers only (and_line played commands.Connect lines) x) (sym m.1) (connect_line i start readers only played commands.Connect lines s true (record { joins = λ k. refl; polls = λ k. refl; reads = λ k. refl }) (λ g ranges. refl) h)
+line laws i start readers only played commands.Disconnect lines s t b honest h m = subst (λ x. IsSound i start readers only (and_line played commands.Disconnect lines) x) (sym m.1) (connect_line i start readers only played commands.Disconnect lines s false (record { joins = λ k. refl; polls = λ k. refl; reads = λ k. refl }) (λ g ranges. refl) h)
+line laws i start readers only played commands.Close lines s t b honest h m = subst (λ x. IsSound i start readers only (and_line played commands.Close lines) x) (sym m.1) (close_line i start readers only played lines s h)
+line laws i start readers only played commands.Limit lines s t b honest h m = limit_line i start readers only played lines s t h m
+line laws i start readers only played (commands.Offer by message) lines s t b honest h m = offer_line laws i start readers only played s t by (max_message s.log.identity.geometry) (length message) message (commands.Offer by message) lines b (record { joins = λ k. refl; polls = λ k. refl; reads = λ k. refl }) (λ g ranges ls. refl) h m
+line laws i start readers only played (commands.OfferSize by size) lines s t b honest h m = offer_line laws i start readers only played s t by (max_message s.log.identity.geometry) size (replicate size 97) (commands.OfferSize by size) lines b (record { joins = λ k. refl; polls = λ k. refl; reads = λ k. refl }) (λ g ranges ls. refl) h m
+line laws i start readers only played (commands.Claim by size) lines s t b honest h m = claim_line laws i start readers only played s t by (max_payload s.log.identity.geometry) size lines b h m
+line laws i start readers only played (commands.Commit by) lines s t b honest h m = commit_line laws i start readers only played s t by lines b h m
+line laws i start readers only played (commands.Abort by) lines s t b honest h m = abort_line laws i start readers only played s t by lines b h m
+line laws i start readers only played (commands.Read r) lines s t b honest h m = read_line i start readers only played s t r lines h m
+line laws i start readers only played (commands.Send now) lines s t b honest h m = send_line laws i start readers only played s t now lines b h m
+line laws i start readers only played (commands.Deliver k n now) lines s t b honest h m = deliver_line laws i start readers only played k n now lines s t b h m
+line laws i start readers only played (commands.Raw n now bytes) lines s t b honest h m = raw_line laws i start readers only played n now bytes lines s t b honest h m
+line laws i start readers only played (commands.Tick n now) lines s t b honest h m = tick_line i start readers only played n now lines s t h m
+line laws i start readers only played (commands.Reply k now) lines s t b honest h m = reply_line laws i start readers only played k now lines s t b h m
+line laws i start readers only played (commands.RawBack now bytes) lines s t b honest h m = back_line laws i start readers only played now bytes lines s t b h m
+line laws i start readers only played (commands.Poll n) lines s t b honest h m = poll_line i start readers only played n lines s t h m
+line laws i start readers only played (commands.Image n) lines s t b honest h m = image_line i start readers only played n lines s t h m
 
-goes_on : Laws → (i : Identity) (start readers only : ℕ) (done rest : List Played) (s last : ScriptState) → Begins i start → (only < 8 → NoneRaw only rest) → IsSound i start readers only done s → AnswersAll s rest last → IsSound i start readers only (done ++ rest) last
-goes_on laws i start readers only done [] s last b spared h m = subst (λ x. IsSound i start readers only (done ++ []) x) (sym m) (subst (λ ps. IsSound i start readers only ps s) (sym (append-nil done)) h)
-goes_on laws i start readers only done (p ∷ ps) s last b spared h m =
-    subst (λ qs. IsSound i start readers only qs last) (append_assoc done (p ∷ []) ps)
-    (goes_on laws i start readers only (done ++ p ∷ []) ps m.0 last b (λ low. (spared low).1) (line laws i start readers only done p.command p.lines s m.0 b (λ low. (spared low).0) h m.1) m.2)
+goes_on : Laws → (i : Identity) (start readers only : ℕ) (done rest : List Played) (s last : ScriptState) → Begins i start → (only < 8 → AllHonest only (done ++ rest)) → s.packets ≡ printed done → IsSound i start readers only done s → AnswersAll s rest last → IsSound i start readers only (done ++ rest) last
+goes_on laws i start readers only done [] s last b honest shown h m = subst (λ x. IsSound i start readers only (done ++ []) x) (sym m) (subst (λ ps. IsSound i start readers only ps s) (sym (append-nil done)) h)
+goes_on laws i start readers only done (p ∷ ps) s last b honest shown h m =
+    let again : (done ++ p ∷ []) ++ ps ≡ done ++ p ∷ ps = append_assoc done (p ∷ []) ps in
+    subst (λ qs. IsSound i start readers only qs last) again
+    (goes_on laws i start readers only (done ++ p ∷ []) ps m.0 last b
+    (λ low. subst (AllHonest only) (sym again) (honest low))
+    (prints_more s m.0 done p shown m.1)
+    (line laws i start readers only done p.command p.lines s m.0 b (λ low. subst (λ xs. IsHonestLine only xs p.command p.lines) (sym shown) (honest low done ps p refl)) h m.1) m.2)
 
 -- ---- where it begins
 
@@ -158,16 +163,16 @@ read_to laws i start readers only played last k b h low =
 
 -- ---- after each line
 
-pub sound : Laws → (i : Identity) (start readers only : ℕ) (played : List Played) (last : ScriptState) → Begins i start → (only < 8 → NoneRaw only played) → AnswersAll (opened_state i start readers) played last → IsSound i start readers only played last
-sound laws i start readers only played last b spared all = goes_on laws i start readers only [] played (opened_state i start readers) last b spared (begins i start readers only b) all
+pub sound : Laws → (i : Identity) (start readers only : ℕ) (played : List Played) (last : ScriptState) → Begins i start → (only < 8 → AllHonest only played) → AnswersAll (opened_state i start readers) played last → IsSound i start readers only played last
+sound laws i start readers only played last b honest all = goes_on laws i start readers only [] played (opened_state i start readers) last b honest refl (begins i start readers only b) all
 
 -- looked at through no receiver's image
 pub sound_log : Laws → (i : Identity) (start readers : ℕ) (played : List Played) (last : ScriptState) → Begins i start → AnswersAll (opened_state i start readers) played last → IsSound i start readers 8 played last
 sound_log laws i start readers played last b all = sound laws i start readers 8 played last b (λ low. absurd (omega (arith, low))) all
 
 prefix : Laws → (i : Identity) (start readers : ℕ) (played : List Played) (last : ScriptState) → Begins i start → AnswersAll (opened_state i start readers) played last → PolledPrefix i.geometry played
-prefix laws i start readers played last b all k low whole spared =
-    let h = sound laws i start readers k played last b (λ l. spared) all in
+prefix laws i start readers played last b all k low whole honest =
+    let h = sound laws i start readers k played last b (λ l. honest) all in
     let r = h.followed low in
     of_image laws i start readers k played last r.0 r.0.image b h all r.1 refl r.2.image whole
 
@@ -177,3 +182,6 @@ always_polled laws o played last legal identity starts all done later parts =
     let split = answers_split (opened_state i o.start o.readers) last done later (subst (λ ps. AnswersAll (opened_state i o.start o.readers) ps last) parts all) in
     let b : Begins i o.start = record { geometry = legal; identity = identity; unit = starts.0; below = starts.1 } in
     (prefix laws i o.start o.readers done split.0 b split.1, λ k low. read_to laws i o.start o.readers 8 done split.0 k b (sound_log laws i o.start o.readers done split.0 b split.1) low)
+
+pub always_runs : Laws → AlwaysRuns
+always_runs laws o played last legal identity starts all k honest = (sound laws (identity_of o) o.start o.readers k played last (record { geometry = legal; identity = identity; unit = starts.0; below = starts.1 }) honest all).runs

@@ -19,12 +19,11 @@ use Rattle.script.specs.Meaning as commands
 use Rattle.script_run.specs.Answers.{HasNoReader, ReaderReads, ReaderFindsNone, frame_line, with_reader}
 use Rattle.script_run.specs.LineContents.{Bad, NoMessage, LineContent}
 use Rattle.script_run.specs.Published.{Played, covered_by, frames_in, read, read_by}
-use Rattle.script_run.specs.ScriptState.{ScriptState, entries_of, opened_state, world_of}
+use Rattle.script_run.specs.ScriptState.{ScriptState, entries_of, lone, opened_state, world_of}
 use Rattle.theory.proofs.Stays.{after_last}
 use Rattle.script_run.proofs.Runs.{Goes, goes_on, goes_one}
 use Rattle.theory.proofs.Tables.{map_get}
 use Rattle.script_run.proofs.SenderRuns.{among_kept}
-use Rattle.script_run.proofs.Lone.{lone}
 use Rattle.script_run.proofs.Sound.{HasRead, IsSound, ReadSo, and_line, followed_stays, read_more}
 use Rattle.script_run.proofs.SoundLines.{matches_stay, same_state}
 

@@ -21,10 +21,10 @@ use Rattle.theory.proofs.Tables.{set_same}
 use Rattle.receiver.specs.declared.receiver_core.Outcome.{Outcome}
 use Rattle.receiver.specs.declared.receiver_core.Outcome.TheVariants.{Asked}
 use Rattle.script_run.specs.Answers.{with_receiver}
-use Rattle.script_run.specs.Published.{joins_of}
-use Rattle.script_run.specs.Given.{IsHonestFrame, IsHonestSetup, MayBeGiven, WasNamed, WasSent}
+use Rattle.script_run.specs.Published.{IfGiven, joins_of}
 use Rattle.receiver.specs.Receiving.{Meets, MeetsFrame, MeetsHeartbeat, MeetsSetup, Opened, OpensImage, PassesBy, Receiver, answer_at, given_at}
 use Rattle.script_run.specs.ScriptState.{ScriptState, image_of, world_of}
+use Rattle.script_run.proofs.Honest.{IsGivenOut, WasNamed, WasSent}
 use Rattle.script_run.proofs.Runs.{Goes, goes_one, stays}
 
 -- ---- what is known of a receiver
@@ -232,9 +232,9 @@ pad_is i p (Pad m) h n e =
     let b : n ≡ m = cc in
     (a, ap Pad b)
 
-setup_met : NamesPlace → (s : ScriptState) (k : ℕ) (r mid : Receiver) (image : Option Opened) (f : Setup) (out : Outcome) (joins : List ℕ) (given : List (List ℕ)) (Whole : Type 0) → IsSending s → At s k r joins given Whole → r.image ≡ image → IsHonestSetup image r f (WasNamed s.log.identity s.sender.setups f) → MeetsSetup image r f out mid → Met s k mid out joins given Whole
+setup_met : NamesPlace → (s : ScriptState) (k : ℕ) (r mid : Receiver) (image : Option Opened) (f : Setup) (out : Outcome) (joins : List ℕ) (given : List (List ℕ)) (Whole : Type 0) → IsSending s → At s k r joins given Whole → r.image ≡ image → IfGiven out (WasNamed s.log.identity s.sender.setups f) → MeetsSetup image r f out mid → Met s k mid out joins given Whole
 setup_met law s k r mid None f out joins given Whole x a was honest (inl m) =
-    let n = honest m.0 m.1 m.2 in
+    let n : WasNamed s.log.identity s.sender.setups f = subst (λ x. IfGiven x (WasNamed s.log.identity s.sender.setups f)) m.3 honest in
     opens law s k r mid f n.0 out joins given Whole a was x.legal (all_at (λ y. y ≤ max_position s.log.identity.geometry) n.0 s.sender.setups x.setups n.1) n.1 n.2 m
 setup_met law s k r mid None f out joins given Whole x a was honest (inr m) = met_nothing s k r mid out joins given Whole a (ap (λ x. x.consumers) m.3) (ap (λ x. x.image) m.3) (ap joins_of m.2)
 setup_met law s k r mid (Some o) f out joins given Whole x a was honest m = met_nothing s k r mid out joins given Whole a (ap (λ x. x.consumers) m.1) (ap (λ x. x.image) m.1) (ap joins_of m.0)
@@ -246,22 +246,23 @@ record IsFrameOf (s : ScriptState) (h : Header) (f : Frame) : Type 0 where
   header : h ≡ header_at s.log.identity placed.at
   same : f ≡ placed.frame
 
-honest_met : Places → (s : ScriptState) (k : ℕ) (r mid : Receiver) (image : Option Opened) (h : Header) (f : Frame) (Sent : Type 0) (out : Outcome) (joins : List ℕ) (given : List (List ℕ)) (Whole : Type 0) → IsSending s → At s k r joins given Whole → r.image ≡ image → IsHonestFrame image Sent → (Sent → IsFrameOf s h f) → MeetsFrame image r h f out mid → Met s k mid out joins given Whole
+honest_met : Places → (s : ScriptState) (k : ℕ) (r mid : Receiver) (image : Option Opened) (h : Header) (f : Frame) (Sent : Type 0) (out : Outcome) (joins : List ℕ) (given : List (List ℕ)) (Whole : Type 0) → IsSending s → At s k r joins given Whole → r.image ≡ image → IfGiven out Sent → (Sent → IsFrameOf s h f) → MeetsFrame image r h f out mid → Met s k mid out joins given Whole
 honest_met laws s k r mid None h f Sent out joins given Whole x a was honest reads m = misses s k r mid h out joins given Whole a m
 honest_met laws s k r mid (Some o) h f Sent out joins given Whole x a was honest reads m =
-    let t = reads honest in
+    let sent : Sent = subst (λ x. IfGiven x Sent) m.1 honest in
+    let t = reads sent in
     frame_met s k r mid (Some o) h f t.placed out joins given Whole a was t.among t.same
     (ap (λ y. named_by s.log.identity.geometry y) t.header ∙ laws.header s.log.identity t.placed.at x.legal (all_at (λ y. y.at ≤ max_position s.log.identity.geometry) t.placed s.sender.sent x.sent t.among))
     m
 
-pub meets : Places → (s : ScriptState) (k : ℕ) (r mid : Receiver) (w : Wire) (out : Outcome) (joins : List ℕ) (given : List (List ℕ)) (Whole : Type 0) → IsSending s → At s k r joins given Whole → MayBeGiven s.log.identity s.sender.sent s.sender.setups r w → Meets r w out mid → Met s k mid out joins given Whole
+pub meets : Places → (s : ScriptState) (k : ℕ) (r mid : Receiver) (w : Wire) (out : Outcome) (joins : List ℕ) (given : List (List ℕ)) (Whole : Type 0) → IsSending s → At s k r joins given Whole → IfGiven out (IsGivenOut s.log.identity s.sender.sent s.sender.setups w) → Meets r w out mid → Met s k mid out joins given Whole
 meets laws s k r mid (DATA h flags payload) out joins given Whole x a honest (inl m) =
-    honest_met laws s k r mid r.image h (Data flags payload) (WasSent s.log.identity s.sender.sent (DATA h flags payload)) out joins given Whole x a refl (honest m.0)
+    honest_met laws s k r mid r.image h (Data flags payload) (WasSent s.log.identity s.sender.sent (DATA h flags payload)) out joins given Whole x a refl honest
     (λ (sent : WasSent s.log.identity s.sender.sent (DATA h flags payload)). let parts = data_is s.log.identity sent.0.at sent.0.frame h flags payload sent.2 in record { placed = sent.0; among = sent.1; header = parts.0; same = parts.1 })
     m.1
 meets laws s k r mid (DATA h flags payload) out joins given Whole x a honest (inr m) = passes_by s k r mid out joins given Whole a m.1
 meets laws s k r mid (PAD h n) out joins given Whole x a honest (inl m) =
-    honest_met laws s k r mid r.image h (Pad n) (WasSent s.log.identity s.sender.sent (PAD h n)) out joins given Whole x a refl (honest m.0)
+    honest_met laws s k r mid r.image h (Pad n) (WasSent s.log.identity s.sender.sent (PAD h n)) out joins given Whole x a refl honest
     (λ (sent : WasSent s.log.identity s.sender.sent (PAD h n)). let parts = pad_is s.log.identity sent.0.at sent.0.frame h n sent.2 in record { placed = sent.0; among = sent.1; header = parts.0; same = parts.1 })
     m.1
 meets laws s k r mid (PAD h n) out joins given Whole x a honest (inr m) = passes_by s k r mid out joins given Whole a m.1
@@ -269,5 +270,5 @@ meets laws s k r mid (HEARTBEAT h) out joins given Whole x a honest (inl m) = be
 meets laws s k r mid (HEARTBEAT h) out joins given Whole x a honest (inr m) = passes_by s k r mid out joins given Whole a m.1
 meets laws s k r mid (NAK f) out joins given Whole x a honest m = passes_by s k r mid out joins given Whole a m
 meets laws s k r mid (SM asks f) out joins given Whole x a honest m = passes_by s k r mid out joins given Whole a m
-meets laws s k r mid (SETUP f) out joins given Whole x a honest (inl m) = setup_met laws.place s k r mid r.image f out joins given Whole x a refl (honest m.0) m.1
+meets laws s k r mid (SETUP f) out joins given Whole x a honest (inl m) = setup_met laws.place s k r mid r.image f out joins given Whole x a refl honest m.1
 meets laws s k r mid (SETUP f) out joins given Whole x a honest (inr m) = passes_by s k r mid out joins given Whole a m.1

@@ -21,10 +21,10 @@ use Rattle.theory.proofs.Frames.{committed_below}
 use Rattle.script.specs.Meaning.{CommandContent}
 use Rattle.script_run.specs.Published.{AllWhole, IsWhole, Played, Range, covered_by, joined_by, joins, polled, polled_by, published, ranges_after, ranges_behind, read, read_by}
 use Rattle.receiver.specs.Receiving.{Opened, Receiver}
-use Rattle.script_run.specs.ScriptState.{ScriptState, entries_of, image_of, opened_state, world_of}
+use Rattle.script_run.specs.ScriptState.{ScriptState, entries_of, image_of, lone, opened_state, world_of}
 use Rattle.script_run.specs.Standing.{Begins}
 use Rattle.script_run.proofs.Honest.{AreHonest}
-use Rattle.script_run.proofs.Lone.{lone, lone_there}
+use Rattle.script_run.proofs.Lone.{lone_there}
 use Rattle.script_run.proofs.OfferRuns.{LogHolds, tail_in_stream}
 use Rattle.script_run.proofs.Ranges.{Matches}
 use Rattle.script_run.proofs.ReceiverRuns.{At, Follows, FollowsImage, IsSending, Places}

@@ -26,11 +26,10 @@ use Rattle.script_run.specs.LineContents as content
 use Rattle.script_run.specs.LineContents.{LineContent, Bad, Position}
 use Rattle.script_run.specs.Published as visible
 use Rattle.script_run.specs.Published.{Played, Range, claims_in, filled_at, filled_by, offered_at, offers_in, ranges_after}
-use Rattle.script_run.specs.ScriptState.{ScriptState, entries_of, model_log, opened_state, world_of}
+use Rattle.script_run.specs.ScriptState.{ScriptState, entries_of, lone, model_log, opened_state, world_of}
 use Rattle.model.proofs.Commits.{IsOnlyAt}
 use Rattle.model.proofs.LogSteps.{entry_from}
 use Rattle.script_run.specs.Standing.{Begins}
-use Rattle.script_run.proofs.Lone.{lone}
 use Rattle.script_run.proofs.OfferRuns.{LogHolds, at_log, claims, fits_one, message_short, offers, open_entry, trips, trips_one, turned_same}
 use Rattle.script_run.proofs.Ranges.{Matches, SameRange, abort_only, claimed_at, frame_only, matches_abort, matches_commit, matches_more, matches_padding, one_cut, same_claimed, same_offered}
 use Rattle.script_run.proofs.Runs.{Goes, goes_on, stays}

@@ -6,7 +6,7 @@ use Rattle.std.proofs.lemmas.Bool.{cases_eq, cond-true, cond-false, eq-eqb, ne_e
 use Rattle.std.proofs.lemmas.List.{length-set, map-set, set-set}
 use Rattle.std.proofs.lemmas.Option.{slice_get_within}
 use Rattle.theory.specs.Bytes.{Identity}
-use Rattle.theory.specs.Wire.{Wire}
+use Rattle.theory.specs.Wire.{SpellsDatagram, Wire}
 use Rattle.theory.proofs.Lists.{all_append, all_get}
 use Rattle.script.specs.Meaning as commands
 use Rattle.script.specs.Meaning.{CommandContent}
@@ -14,11 +14,11 @@ use Rattle.receiver.specs.declared.receiver_core.Outcome.{Outcome}
 use Rattle.script_run.specs.Answers.{AreFrames, Delivered, IsMissing, PollsBy, Takes, TellsBy, Ticks, with_receiver}
 use Rattle.sender.specs.Cycling.{alone, datagrams}
 use Rattle.script_run.specs.LineContents.{LineContent, OfReceiver, poll_line as poll_content}
-use Rattle.script_run.specs.Published.{AllWhole, Played, is_fault, joined_by, joins, joins_in, joins_of, messages_in, polled, polled_by, read_by}
+use Rattle.script_run.specs.Published.{AllWhole, AreHonestFrames, IsHonestLine, Played, is_fault, joined_by, joins, joins_in, joins_of, messages_in, polled, polled_by, read_by}
 use Rattle.receiver.specs.Receiving.{TakesDatagram, MeetsAll, Receiver, at_moment, replies, ticked}
-use Rattle.script_run.specs.ScriptState.{ScriptState, entries_of, image_of, opened_state, world_of}
-use Rattle.script_run.proofs.Honest.{AreGivenOut, AreHonest, IsHonest, alone_given, frames_given_out, honest_given, may_be_given, replies_given}
-use Rattle.script_run.proofs.Lone.{lone, lone_other, lone_put}
+use Rattle.script_run.specs.ScriptState.{ScriptState, entries_of, image_of, lone, opened_state, world_of}
+use Rattle.script_run.proofs.Honest.{AreEntering, AreGivenOut, AreHonest, IsHonest, all_entering, alone_given, frames_given_out, honest_given, printed_entering, replies_given}
+use Rattle.script_run.proofs.Lone.{lone_other, lone_put}
 use Rattle.script_run.specs.Standing.{Begins}
 use Rattle.script_run.proofs.PollFollows.{StillWhole, polls_met}
 use Rattle.script_run.proofs.ReceiverRuns.{At, Follows, IsSending, Met, meets, unchanged}
@@ -128,52 +128,69 @@ met_at s k r mid out joins given Whole a m = record {
 }
 
 -- the frames of a datagram, one after the other
-all_met : Laws → (s : ScriptState) (k : ℕ) (r mid : Receiver) (ws : List Wire) (outs : List Outcome) (joins : List ℕ) (given : List (List ℕ)) (Whole : Type 0) → IsSending s → At s k r joins given Whole → AreGivenOut s.log.identity s.sender ws → MeetsAll r ws outs mid → MetAll s k mid outs joins given Whole
+all_met : Laws → (s : ScriptState) (k : ℕ) (r mid : Receiver) (ws : List Wire) (outs : List Outcome) (joins : List ℕ) (given : List (List ℕ)) (Whole : Type 0) → IsSending s → At s k r joins given Whole → AreEntering s.log.identity s.sender ws outs → MeetsAll r ws outs mid → MetAll s k mid outs joins given Whole
 all_met laws s k r mid [] outs joins given Whole x a out m = none_met s k r mid outs joins given Whole a (ap (flat_map joins_of) m.0) m.1
 all_met laws s k r mid (w ∷ ws) outs joins given Whole x a out m =
     let first = m.0 in
     let next = m.1 in
     let rest = m.2 in
     let t = with_receiver s k next in
-    let one = meets laws.places s k r next w first joins given Whole x a (may_be_given s.log.identity s.sender.sent s.sender.setups r w out.0) m.3 in
-    let more = all_met laws t k next mid ws rest (joins ++ joins_of first) given Whole (record { legal = x.legal; sent = x.sent; setups = x.setups }) (met_at s k r next first joins given Whole a one) out.1 m.5 in
+    let entering : AreEntering s.log.identity s.sender (w ∷ ws) (first ∷ rest) = subst (AreEntering s.log.identity s.sender (w ∷ ws)) m.4 out in
+    let one = meets laws.places s k r next w first joins given Whole x a entering.0 m.3 in
+    let more = all_met laws t k next mid ws rest (joins ++ joins_of first) given Whole (record { legal = x.legal; sent = x.sent; setups = x.setups }) (met_at s k r next first joins given Whole a one) entering.1 m.5 in
     let all : (joins ++ joins_of first) ++ flat_map joins_of rest ≡ joins ++ flat_map joins_of outs = append_assoc joins (joins_of first) (flat_map joins_of rest) ∙ ap (λ xs. joins ++ flat_map joins_of xs) (sym m.4) in
     record {
       goes = subst (λ xs. Goes (world_of s) (world_of (record s { receivers = xs }))) (set-set s.receivers k next mid) (goes_on (world_of s) (world_of t) (world_of (with_receiver t k mid)) one.goes more.goes);
       follows = subst (λ xs. Follows s.log.identity mid xs given Whole) all more.follows;
     }
 
-takes_met : Laws → (i : Identity) (s : ScriptState) (k now : ℕ) (r mid : Receiver) (bytes : List ℕ) (outs : List Outcome) (joins : List ℕ) (given : List (List ℕ)) (Whole : Type 0) → s.log.identity ≡ i → IsSending s → At s k (at_moment r now) joins given Whole → IsHonest i s.sender bytes → TakesDatagram r now bytes outs mid → MetAll s k mid outs joins given Whole
+-- what the receiver takes of these bytes was given out
+abbrev IsTaken : Identity → ScriptState → List ℕ → List Outcome → Type 0
+IsTaken i s bytes outs = (frames : List Wire) → SpellsDatagram frames bytes → AreEntering i s.sender frames outs
+
+takes_met : Laws → (i : Identity) (s : ScriptState) (k now : ℕ) (r mid : Receiver) (bytes : List ℕ) (outs : List Outcome) (joins : List ℕ) (given : List (List ℕ)) (Whole : Type 0) → s.log.identity ≡ i → IsSending s → At s k (at_moment r now) joins given Whole → IsTaken i s bytes outs → TakesDatagram r now bytes outs mid → MetAll s k mid outs joins given Whole
 takes_met laws i s k now r mid bytes outs joins given Whole same x a honest (inl m) =
-    all_met laws s k (at_moment r now) mid m.0 outs joins given Whole x a (subst (λ j. AreGivenOut j s.sender m.0) (sym same) (frames_given_out laws.reading i s.sender bytes m.0 honest m.1)) m.2
+    all_met laws s k (at_moment r now) mid m.0 outs joins given Whole x a (subst (λ j. AreEntering j s.sender m.0 outs) (sym same) (honest m.0 m.1)) m.2
 takes_met laws i s k now r mid bytes outs joins given Whole same x a honest (inr m) = none_met s k (at_moment r now) mid outs joins given Whole a (ap (flat_map joins_of) m.2) m.3
 
 all_joins : (outs : List Outcome) → flat_map joins_in (map OfReceiver outs) ≡ flat_map joins_of outs
 all_joins [] = refl
 all_joins (out ∷ outs) = ap (λ xs. joins_of out ++ xs) (all_joins outs)
 
-own_joins : (k n now : ℕ) (outs : List Outcome) (lines : List LineContent) → lines ≡ map OfReceiver outs → joined_by n (commands.Deliver k n now) lines ≡ flat_map joins_of outs
-own_joins k n now outs lines e = cond-true (nat_eq n n) (flat_map joins_in lines) [] (eq-eqb n n refl) ∙ ap (flat_map joins_in) e ∙ all_joins outs
+-- a line that tells what became of a datagram at receiver n
+record TellsOf (command : CommandContent) (n : ℕ) (lines : List LineContent) : Type 0 where
+  joins : joined_by n command lines ≡ flat_map joins_in lines
+  polls : polled_by n command lines ≡ []
+  ranges : SaysNoRange command lines
+  reads : (k : ℕ) → read_by (suc k) command lines ≡ []
+
+own_joins : (n : ℕ) (command : CommandContent) (outs : List Outcome) (lines : List LineContent) → TellsOf command n lines → lines ≡ map OfReceiver outs → joined_by n command lines ≡ flat_map joins_of outs
+own_joins n command outs lines tells e = tells.joins ∙ ap (flat_map joins_in) e ∙ all_joins outs
+
+own_taking : Laws → (i : Identity) (start readers only : ℕ) (played : List Played) (command : CommandContent) (now : ℕ) (bytes : List ℕ) (lines : List LineContent) (s t : ScriptState) → Begins i start → TellsOf command only lines → IsSound i start readers only played s → (m : Takes s only now bytes lines t) → IsTaken i s bytes m.0 → IsSound i start readers only (and_line played command lines) t
+own_taking laws i start readers only played command now bytes lines s t b tells h m honest =
+    let outs = m.0 in
+    let r = m.1 in
+    let mid = m.2 in
+    let a = own_at i start readers only played s r (at_moment r now) h m.3 refl refl in
+    let met = takes_met laws i (lone only s) only now r mid bytes outs (joins only played) (polled only played) (AllWhole only played) h.identity (sending laws i start readers only played s b h) a honest m.4 in
+    let follows : Follows i mid (joins only played ++ flat_map joins_of outs) (polled only played) (AllWhole only played) = subst (λ x. Follows x mid (joins only played ++ flat_map joins_of outs) (polled only played) (AllWhole only played)) h.identity met.follows in
+    let now_follows = follows_as i mid (joins only played ++ flat_map joins_of outs) (joins only (and_line played command lines)) (polled only played) (polled only (and_line played command lines)) (AllWhole only played) (AllWhole only (and_line played command lines))
+    (sym (joins_more only played command lines ∙ ap (λ xs. joins only played ++ xs) (own_joins only command outs lines tells m.5)))
+    (sym (polled_more only played command lines ∙ ap (λ xs. polled only played ++ xs) tells.polls ∙ append-nil (polled only played)))
+    (λ x. (whole_parts only played command lines x).0)
+    follows in
+    subst (λ x. IsSound i start readers only (and_line played command lines) x) (sym m.6)
+    (own_line i start readers only played command lines s r mid s.packets m.3 met.goes h.honest tells.ranges tells.reads now_follows h)
 
 abbrev DeliveryIsSound : (i : Identity) (start readers only : ℕ) (played : List Played) (k now : ℕ) (bytes : List ℕ) (lines : List LineContent) (s t : ScriptState) → ℕ → Type 0
 DeliveryIsSound i start readers only played k now bytes lines s t n = Takes s n now bytes lines t → IsSound i start readers only (and_line played (commands.Deliver k n now) lines) t
 
 own_delivery : Laws → (i : Identity) (start readers only : ℕ) (played : List Played) (k now : ℕ) (bytes : List ℕ) (lines : List LineContent) (s t : ScriptState) → Begins i start → IsSound i start readers only played s → IsHonest i s.sender bytes → DeliveryIsSound i start readers only played k now bytes lines s t only
 own_delivery laws i start readers only played k now bytes lines s t b h honest m =
-    let outs = m.0 in
-    let r = m.1 in
-    let mid = m.2 in
-    let command = commands.Deliver k only now in
-    let a = own_at i start readers only played s r (at_moment r now) h m.3 refl refl in
-    let met = takes_met laws i (lone only s) only now r mid bytes outs (joins only played) (polled only played) (AllWhole only played) h.identity (sending laws i start readers only played s b h) a honest m.4 in
-    let follows : Follows i mid (joins only played ++ flat_map joins_of outs) (polled only played) (AllWhole only played) = subst (λ x. Follows x mid (joins only played ++ flat_map joins_of outs) (polled only played) (AllWhole only played)) h.identity met.follows in
-    let now_follows = follows_as i mid (joins only played ++ flat_map joins_of outs) (joins only (and_line played command lines)) (polled only played) (polled only (and_line played command lines)) (AllWhole only played) (AllWhole only (and_line played command lines))
-    (sym (joins_more only played command lines ∙ ap (λ xs. joins only played ++ xs) (own_joins k only now outs lines m.5)))
-    (sym (polled_more only played command lines ∙ append-nil (polled only played)))
-    (λ x. (whole_parts only played command lines x).0)
-    follows in
-    subst (λ x. IsSound i start readers only (and_line played command lines) x) (sym m.6)
-    (own_line i start readers only played command lines s r mid s.packets m.3 met.goes h.honest (λ g ranges. refl) (λ k. refl) now_follows h)
+    own_taking laws i start readers only played (commands.Deliver k only now) now bytes lines s t b
+    (record { joins = cond-true (nat_eq only only) (flat_map joins_in lines) [] (eq-eqb only only refl); polls = refl; ranges = λ g ranges. refl; reads = λ k. refl })
+    h m (λ frames spelled. all_entering i s.sender frames m.0 (frames_given_out laws.reading i s.sender bytes frames honest spelled))
 
 -- what another receiver is handed
 handed_other : (i : Identity) (start readers only : ℕ) (played : List Played) (command : CommandContent) (n now : ℕ) (bytes : List ℕ) (lines : List LineContent) (s t : ScriptState) → (n ≡ only → ⊥) → (joined_by only command lines ≡ []) × (polled_by only command lines ≡ []) → SaysNoRange command lines → ((k : ℕ) → read_by (suc k) command lines ≡ []) → IsSound i start readers only played s → Takes s n now bytes lines t → IsSound i start readers only (and_line played command lines) t
@@ -195,12 +212,24 @@ deliver_line laws i start readers only played k n now lines s t b h (inr m) =
     (λ other. handed_other i start readers only played (commands.Deliver k n now) n now m.0 lines s t other (cond-false (nat_eq n only) (flat_map joins_in lines) [] (ne_eqb n only other), refl) (λ g ranges. refl) (λ k. refl) h)
     m.2
 
--- bytes of the script's own, to a receiver that isn't looked at
-pub raw_line : (i : Identity) (start readers only : ℕ) (played : List Played) (n now : ℕ) (bytes : List ℕ) (lines : List LineContent) (s t : ScriptState) → (only < 8 → n ≡ only → ⊥) → IsSound i start readers only played s → Takes s n now bytes lines t → IsSound i start readers only (and_line played (commands.Raw n now bytes) lines) t
-raw_line i start readers only played n now bytes lines s t spared h m =
-    let low : n < 8 = number_low i start readers only played s n m.1 h m.3 in
-    let other : n ≡ only → ⊥ = λ e. spared (omega (arith, low, e)) e in
-    handed_other i start readers only played (commands.Raw n now bytes) n now bytes lines s t other (cond-false (nat_eq n only) (flat_map joins_in lines) [] (ne_eqb n only other), refl) (λ g ranges. refl) (λ k. refl) h m
+-- bytes of the script's own
+abbrev RawIsSound : (i : Identity) (start readers only : ℕ) (played : List Played) (now : ℕ) (bytes : List ℕ) (lines : List LineContent) (s t : ScriptState) → ℕ → Type 0
+RawIsSound i start readers only played now bytes lines s t n = (only < 8 → IsHonestLine only s.packets (commands.Raw n now bytes) lines) → Takes s n now bytes lines t → IsSound i start readers only (and_line played (commands.Raw n now bytes) lines) t
+
+-- of those that its image takes each was printed
+own_raw : Laws → (i : Identity) (start readers only : ℕ) (played : List Played) (now : ℕ) (bytes : List ℕ) (lines : List LineContent) (s t : ScriptState) → Begins i start → IsSound i start readers only played s → RawIsSound i start readers only played now bytes lines s t only
+own_raw laws i start readers only played now bytes lines s t b h honest m =
+    let low : only < 8 = number_low i start readers only played s only m.1 h m.3 in
+    own_taking laws i start readers only played (commands.Raw only now bytes) now bytes lines s t b
+    (record { joins = cond-true (nat_eq only only) (flat_map joins_in lines) [] (eq-eqb only only refl); polls = refl; ranges = λ g ranges. refl; reads = λ k. refl })
+    h m (λ frames spelled. printed_entering laws.reading i s.sender s.packets frames m.0 h.honest (subst (AreHonestFrames s.packets frames) m.5 (honest low refl frames spelled)))
+
+pub raw_line : Laws → (i : Identity) (start readers only : ℕ) (played : List Played) (n now : ℕ) (bytes : List ℕ) (lines : List LineContent) (s t : ScriptState) → Begins i start → (only < 8 → IsHonestLine only s.packets (commands.Raw n now bytes) lines) → IsSound i start readers only played s → Takes s n now bytes lines t → IsSound i start readers only (and_line played (commands.Raw n now bytes) lines) t
+raw_line laws i start readers only played n now bytes lines s t b honest h m =
+    by_number (RawIsSound i start readers only played now bytes lines s t) n only
+    (own_raw laws i start readers only played now bytes lines s t b h)
+    (λ other spared k. handed_other i start readers only played (commands.Raw n now bytes) n now bytes lines s t other (cond-false (nat_eq n only) (flat_map joins_in lines) [] (ne_eqb n only other), refl) (λ g ranges. refl) (λ k. refl) h k)
+    honest m
 
 -- ---- a poll
 

@@ -27,10 +27,9 @@ use Rattle.script.specs.Meaning.{CommandContent}
 use Rattle.script_run.specs.Answers.{Hears, IsCycle, IsMissing, Replied, SenderHears, Sends, after_cycle, again_for, behind_new, clock_at, cycled, given_out, heard, limit_of, missed, named, wires_of, with_sender, woken}
 use Rattle.script_run.specs.LineContents.{LineContent}
 use Rattle.script_run.specs.Published.{Played}
-use Rattle.script_run.specs.ScriptState.{ScriptState, entries_of, opened_state, world_of}
+use Rattle.script_run.specs.ScriptState.{ScriptState, entries_of, lone, opened_state, world_of}
 use Rattle.script_run.specs.Standing.{Begins}
 use Rattle.script_run.proofs.Honest.{AreGiven, IsGiven, IsHonest, alone_given, honest_given, honest_more, placed_datagrams}
-use Rattle.script_run.proofs.Lone.{lone}
 use Rattle.script_run.proofs.Runs.{Goes, goes_on}
 use Rattle.script_run.proofs.SenderRuns.{asked, cycles, hears, misses, sees}
 use Rattle.script_run.proofs.Sound.{IsQuiet, IsSound, Laws, SaysNoRange, and_line, followed_stays, law_of, legal, readers_stay, sender_below, tail_low}

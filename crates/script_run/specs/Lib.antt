@@ -1,5 +1,5 @@
 pub mod Answers
-pub mod Given
+pub mod Bounds
 pub mod LineContents
 pub mod Output
 pub mod Published

@@ -1,17 +1,19 @@
 -- What a script prints.
 use Rattle.std.specs.Prelude.{◌≡◌, ◌⊎◌, ◌<◌, ◌+◌, ℕ, List, [], ◌∷◌, ◌++◌, map, length, slice_index, sum}
-use Rattle.std.specs.List.{flat_map}
+use Rattle.std.specs.List.{AllByRecursion, flat_map}
 use Rattle.theory.specs.Position.{Geometry, IsGeometry, IsMtu, IsTermLength}
 use Rattle.theory.specs.Bytes.{Identity, IsIdentity}
 use Rattle.theory.specs.Tiling.{share_of}
 use Rattle.position.specs.declared.fault.GeometryError.TheVariants.{TermLength, Mtu}
 use Rattle.log_buffer.specs.declared.fault.LogError.TheVariants.{Start}
 use Rattle.log_buffer.specs.Openings.{IsStart}
+use Rattle.model.specs.World.{Event, Run}
 use Rattle.script.specs.Meaning.{Opening, ScriptContent}
 use Rattle.script_run.specs.Answers.{Answers}
+use Rattle.script_run.specs.Bounds.{AreInBounds, TellsInOrder}
 use Rattle.script_run.specs.LineContents.{LineContent, Open, BadGeometry, BadLog, Shares}
-use Rattle.script_run.specs.Published.{Played, PolledPrefix, ReadPrefix}
-use Rattle.script_run.specs.ScriptState.{ScriptState, entries_of, opened_state}
+use Rattle.script_run.specs.Published.{AllHonest, Played, PolledPrefix, ReadPrefix}
+use Rattle.script_run.specs.ScriptState.{ScriptState, entries_of, lone, opened_state, world_of}
 
 -- the lines one after the other
 abbrev pub AnswersAll : ScriptState → List Played → ScriptState → Type 0
@@ -32,7 +34,16 @@ pub record PrintsBook (s : ScriptState) (line : LineContent) : Type 0 where
   pub whole : s.log.start + sum shares ≡ s.log.tail
   pub shown : line ≡ Shares s.log.start s.log.tail shares
 
--- the log opens: each line of the script is answered in turn, and the book ends the output. After each line, what the polls of a receiver printed is what was published between its join and its position, and what an assembler gives of the frames that a reader showed is what was published up to its position
+-- the lines are events of the world, with the image of the receiver of this number, whose premise holds; with none where no receiver has the number
+abbrev pub RunsInWorld : Opening → List Played → ScriptState → Type 0
+RunsInWorld o played s = (k : ℕ) → (k < 8 → AllHonest k played) → (events : List Event) × Run (world_of (opened_state (identity_of o) o.start o.readers)) events (world_of (lone k s))
+
+-- what holds behind these lines
+pub record HoldsBehind (o : Opening) (played : List Played) (s : ScriptState) : Type 0 where
+  pub runs : RunsInWorld o played s
+  pub bounds : AreInBounds s
+
+-- the log opens: each line of the script is answered in turn, and the book ends the output. After each line, what the polls of a receiver printed is what was published between its join and its position, and what an assembler gives of the frames that a reader showed is what was published up to its position; and whatever its receiver was handed, each image is in bounds
 pub record IsOutputOfRun (script : ScriptContent) (lines : List LineContent) : Type 0 where
   pub legal : IsGeometry (geometry_of script.log)
   pub starts : IsStart (geometry_of script.log) script.log.start
@@ -45,6 +56,8 @@ pub record IsOutputOfRun (script : ScriptContent) (lines : List LineContent) : T
   pub printed : lines ≡ Open ∷ (flat_map (λ p. p.lines) played ++ book ∷ [])
   pub polled : (done later : List Played) → played ≡ done ++ later → PolledPrefix (geometry_of script.log) done
   pub read : (done later : List Played) → played ≡ done ++ later → ReadPrefix (geometry_of script.log) script.log.start script.log.readers done
+  pub behind : (done later : List Played) (s : ScriptState) → played ≡ done ++ later → AnswersAll (opened_state (identity_of script.log) script.log.start script.log.readers) done s → HoldsBehind script.log done s
+  pub order : AllByRecursion (λ p. TellsInOrder p.command p.lines) played
 
 -- the log can't be opened, and its fault is the only line
 abbrev pub HasFault : Opening → List LineContent → Type 0
@@ -66,3 +79,14 @@ abbrev pub AlwaysPolled : Type 0
 AlwaysPolled =
     (o : Opening) (played : List Played) (last : ScriptState) → IsGeometry (geometry_of o) → IsIdentity (identity_of o) → IsStart (geometry_of o) o.start →
     AnswersAll (opened_state (identity_of o) o.start o.readers) played last → (done later : List Played) → played ≡ done ++ later → PolledPrefix (geometry_of o) done × ReadPrefix (geometry_of o) o.start o.readers done
+
+-- and behind all of them the world is one to which a run leads
+abbrev pub AlwaysRuns : Type 0
+AlwaysRuns =
+    (o : Opening) (played : List Played) (last : ScriptState) → IsGeometry (geometry_of o) → IsIdentity (identity_of o) → IsStart (geometry_of o) o.start →
+    AnswersAll (opened_state (identity_of o) o.start o.readers) played last → RunsInWorld o played last
+
+-- whatever is answered, and whatever bytes the receivers were handed, the images are in bounds
+abbrev pub AlwaysInBounds : Type 0
+AlwaysInBounds =
+    (o : Opening) (played : List Played) (last : ScriptState) → AnswersAll (opened_state (identity_of o) o.start o.readers) played last → AreInBounds last × AllByRecursion (λ p. TellsInOrder p.command p.lines) played

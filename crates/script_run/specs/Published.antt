@@ -3,8 +3,9 @@ use Rattle.std.specs.Prelude.{◌≡◌, ◌⊎◌, ◌<◌, ◌+◌, ◌-◌, �
 use Rattle.std.specs.Option.{option_to_list}
 use Rattle.std.specs.List.{filter, flat_map, sum_by, AllByRecursion}
 use Rattle.theory.specs.Position.{Geometry, aligned, framed_length}
-use Rattle.theory.specs.Placed.{Data, Frame, Pad, frame_length}
+use Rattle.theory.specs.Placed.{Among, Data, Frame, Pad, frame_length}
 use Rattle.theory.specs.Assembly.{after_all, nothing_heard}
+use Rattle.theory.specs.Wire.{SpellsDatagram, Wire}
 use Rattle.script.specs.Meaning as commands
 use Rattle.script.specs.Meaning.{CommandContent}
 use Rattle.receiver.specs.declared.receiver_core.Outcome.{Outcome}
@@ -94,10 +95,49 @@ abbrev pub IsWhole : ℕ → CommandContent → List LineContent → Type 0
 IsWhole i (commands.Poll number) lines = number ≡ i → AllByRecursion (λ line. is_fault line ≡ false) lines
 IsWhole i command lines = ⊤
 
--- the receiver isn't handed bytes of the script's own
-abbrev pub IsNotRaw : ℕ → CommandContent → Type 0
-IsNotRaw i (commands.Raw number now bytes) = number ≡ i → ⊥
-IsNotRaw i command = ⊤
+-- the bytes of the packets that a line of the sender or of a receiver printed
+abbrev pub packets_in : LineContent → List (List ℕ)
+packets_in (content.Packet number bytes) = bytes ∷ []
+packets_in line = []
+
+abbrev pub packets_by : CommandContent → List LineContent → List (List ℕ)
+packets_by (commands.Send now) lines = flat_map packets_in lines
+packets_by (commands.Tick number now) lines = flat_map packets_in lines
+packets_by (commands.Reply k now) lines = flat_map packets_in lines
+packets_by (commands.RawBack now bytes) lines = flat_map packets_in lines
+packets_by command lines = []
+
+-- ---- bytes of the script's own
+
+-- a frame of one of these packets
+pub record WasPrinted (packets : List (List ℕ)) (w : Wire) : Type 0 where
+  pub bytes : List ℕ
+  pub among : Among bytes packets
+  pub frames : List Wire
+  pub spelled : SpellsDatagram frames bytes
+  pub here : Among w frames
+
+-- this holds where the frame was given to an image, or was a SETUP that opened one
+abbrev pub IfGiven : Outcome → Type 0 → Type 0
+IfGiven (outcomes.Inserted answer) Then = Then
+IfGiven (outcomes.Opened join) Then = Then
+IfGiven outcome Then = ⊤
+
+-- a frame that an image was given, and a SETUP that opened one, was printed; heartbeats, NAKs, status messages and what was passed over may be anything
+abbrev pub IsHonestFrame : List (List ℕ) → Wire → LineContent → Type 0
+IsHonestFrame packets w (content.OfReceiver outcome) = IfGiven outcome (WasPrinted packets w)
+IsHonestFrame packets w line = ⊤
+
+-- the frames of a datagram, each with the line that says what became of it
+abbrev pub AreHonestFrames : List (List ℕ) → List Wire → List LineContent → Type 0
+AreHonestFrames packets [] lines = ⊤
+AreHonestFrames packets (w ∷ ws) [] = ⊤
+AreHonestFrames packets (w ∷ ws) (line ∷ lines) = IsHonestFrame packets w line × AreHonestFrames packets ws lines
+
+-- what the line hands receiver i of the script's own bytes, behind these packets
+abbrev pub IsHonestLine : ℕ → List (List ℕ) → CommandContent → List LineContent → Type 0
+IsHonestLine i packets (commands.Raw number now bytes) lines = number ≡ i → (frames : List Wire) → SpellsDatagram frames bytes → AreHonestFrames packets frames lines
+IsHonestLine i packets command lines = ⊤
 
 -- ---- of a whole script
 
@@ -125,9 +165,13 @@ joins i played = flat_map (λ p. joined_by i p.command p.lines) played
 abbrev pub AllWhole : ℕ → List Played → Type 0
 AllWhole i played = AllByRecursion (λ p. IsWhole i p.command p.lines) played
 
--- receiver i was given packets alone
-abbrev pub NoneRaw : ℕ → List Played → Type 0
-NoneRaw i played = AllByRecursion (λ p. IsNotRaw i p.command) played
+-- the packets that lines printed
+abbrev pub printed : List Played → List (List ℕ)
+printed played = flat_map (λ p. packets_by p.command p.lines) played
+
+-- what the script's own bytes gave the image of receiver i had been printed before, by the sender
+abbrev pub AllHonest : ℕ → List Played → Type 0
+AllHonest i played = (done later : List Played) (p : Played) → played ≡ done ++ p ∷ later → IsHonestLine i (printed done) p.command p.lines
 
 -- the messages that start at or after j and end at or before q
 abbrev pub between : ℕ → ℕ → List Range → List (List ℕ)
@@ -147,9 +191,9 @@ abbrev pub PolledTo : Geometry → ℕ → List Played → Type 0
 PolledTo g i played =
     (j : ℕ) × (q : ℕ) × (joins i played ≡ j ∷ []) × (polled i played ≡ between j q (published g played)) × ((least : ℕ) → LastTold i least played → q ≡ least)
 
--- after each line of a script: of each receiver that was given packets alone, unless its assembler wanted memory
+-- after each line of a script: of each receiver whose image was given the sender's frames alone, unless its assembler wanted memory
 abbrev pub PolledPrefix : Geometry → List Played → Type 0
-PolledPrefix g played = (i : ℕ) → i < 8 → AllWhole i played → NoneRaw i played → PolledNothing i played ⊎ PolledTo g i played
+PolledPrefix g played = (i : ℕ) → i < 8 → AllWhole i played → AllHonest i played → PolledNothing i played ⊎ PolledTo g i played
 
 -- what frames cover
 abbrev pub covered_by : List Frame → ℕ

@@ -1,5 +1,5 @@
 -- The state of a script.
-use Rattle.std.specs.Prelude.{ℕ, suc, ◌/◌, pos, false, List, [], ◌∷◌, ◌++◌, map, replicate, Option, None, Some}
+use Rattle.std.specs.Prelude.{ℕ, zero, suc, ◌/◌, pos, false, List, [], ◌∷◌, ◌++◌, map, replicate, Option, None, Some}
 use Rattle.std.specs.Option.{option_map}
 use Rattle.theory.specs.Bytes.{Identity}
 use Rattle.theory.specs.Position.{max_message}
@@ -54,6 +54,22 @@ image_of r = option_map (λ o. o.image) r.image
 -- the state without its packets and moments
 abbrev pub world_of : ScriptState → World
 world_of s = record { log = model_log s.past s.readers s.log; sender = s.sender; images = map image_of s.receivers }
+
+-- ---- the images of one receiver alone
+
+abbrev pub hush : Receiver → Receiver
+hush r = record r { image = None }
+
+abbrev pub lone_at : ℕ → List Receiver → List Receiver
+lone_at k [] = []
+lone_at zero (r ∷ rs) = r ∷ map hush rs
+lone_at (suc k) (r ∷ rs) = hush r ∷ lone_at k rs
+
+-- the state as if no other receiver had an image
+abbrev pub lone : ℕ → ScriptState → ScriptState
+lone k s = record s { receivers = lone_at k s.receivers }
+
+-- ---- where it begins
 
 -- a receiver of the log's session and stream, with half a term as its window, one consumer, and the log's greatest message
 abbrev pub listening_at : Identity → ℕ → Receiver

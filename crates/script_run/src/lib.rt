@@ -4,7 +4,7 @@
 //! here stands for a law on them; it does nothing, and its contract is the law.
 #![tactic(auto)]
 
-ghost use Rattle.script_run.specs.Output.{AlwaysCounted, AlwaysPolled};
+ghost use Rattle.script_run.specs.Output.{AlwaysCounted, AlwaysInBounds, AlwaysPolled, AlwaysRuns};
 ghost use Rattle.script_run.specs.Standing.{AlwaysAgain, AlwaysThere};
 
 use frames::one_reading;
@@ -18,15 +18,23 @@ pub fn shares_are_counted()
 {}
 
 /// Whatever is answered line by line: what the polls of a receiver printed is what was published between its join and its
-/// position, and what an assembler gives of the frames that a reader showed is what was published up to its position.
+/// position, where its image was given no frame but the sender's; and what an assembler gives of the frames that a reader
+/// showed is what was published up to its position. The lines are events of the model's world.
 pub fn polls_a_prefix()
-    ensures { AlwaysPolled }
+    ensures polled { AlwaysPolled }
+    ensures runs { AlwaysRuns }
 {
     every_run();
     steps_keep();
     names_place();
     one_reading();
 }
+
+/// Whatever is answered, and whatever bytes a receiver was handed: the frames of its image never overlap, and its consumer
+/// stays within what stands without a gap, and that within the high-water mark.
+pub fn images_stay_in_bounds()
+    ensures { AlwaysInBounds }
+{}
 
 /// Whatever is answered: what the sender may send again is still in the log, and it is what it sends again.
 pub fn sends_again_what_it_sent()

@@ -16,7 +16,7 @@ use Rattle.script.specs.Meaning.{Opening, CommandContent, ScriptContent, content
 use Rattle.script.specs.declared.command.Command.{Command}
 use Rattle.script_run.specs.Answers.{Answers}
 use Rattle.log_buffer.specs.Openings.{IsStart}
-use Rattle.script_run.specs.Output.{AlwaysCounted, AlwaysPolled, AnswersAll, IsOutputOf, IsOutputOfRun, PrintsBook, geometry_of, identity_of}
+use Rattle.script_run.specs.Output.{AlwaysCounted, AlwaysInBounds, AlwaysPolled, AlwaysRuns, AnswersAll, IsOutputOf, IsOutputOfRun, PrintsBook, geometry_of, identity_of}
 use Rattle.script_run.specs.LineContents.{Open, LineContent, Shares}
 use Rattle.script_parts.specs.Lines.{line_content, line_contents}
 use Rattle.script_run.specs.Published.{Played}
@@ -129,8 +129,8 @@ runs_from v i start readers os before after h k =
     (subst (λ (n : ℕ). RunsTo v.log.identity n readers os before after) (sym there)
     (subst (λ (n : ℕ). RunsTo v.log.identity v.log.start n os before after) (sym many) k))
 
-plays_on : (script : ScriptContent) (after : List LineContent) → IsGeometry (geometry_of script.log) → IsStart (geometry_of script.log) script.log.start → IsIdentity (identity_of script.log) → AlwaysPolled → RunsTo (identity_of script.log) script.log.start script.log.readers script.commands [] after → IsOutputOfRun script after
-plays_on script after legal starts identity always h = record {
+plays_on : (script : ScriptContent) (after : List LineContent) → IsGeometry (geometry_of script.log) → IsStart (geometry_of script.log) script.log.start → IsIdentity (identity_of script.log) → AlwaysPolled → AlwaysRuns → AlwaysInBounds → RunsTo (identity_of script.log) script.log.start script.log.readers script.commands [] after → IsOutputOfRun script after
+plays_on script after legal starts identity always runs within h = record {
   legal = legal;
   starts = starts;
   played = h.played;
@@ -142,14 +142,16 @@ plays_on script after legal starts identity always h = record {
   printed = h.printed;
   polled = λ done later parts. (always script.log h.played h.last legal identity starts h.answered done later parts).0;
   read = λ done later parts. (always script.log h.played h.last legal identity starts h.answered done later parts).1;
+  behind = λ done later s parts answered. record { runs = runs script.log done s legal identity starts answered; bounds = (within script.log done s answered).0 };
+  order = (within script.log h.played h.last h.answered).1;
 }
 
-pub stage_plays : (script : ScriptContent) (v : Simulated) (j : Identity) (start readers : ℕ) (after : List LineContent) → j ≡ identity_of script.log → start ≡ script.log.start → readers ≡ script.log.readers → IsGeometry (geometry_of script.log) → IsStart (geometry_of script.log) script.log.start → IsIdentity (identity_of script.log) → AlwaysPolled → RepresentsState v (opened_state j start readers) → RunsTo v.log.identity v.log.start v.readers script.commands [] after → IsOutputOf script after
-stage_plays script v j start readers after same there many legal starts identity always shows runs =
+pub stage_plays : (script : ScriptContent) (v : Simulated) (j : Identity) (start readers : ℕ) (after : List LineContent) → j ≡ identity_of script.log → start ≡ script.log.start → readers ≡ script.log.readers → IsGeometry (geometry_of script.log) → IsStart (geometry_of script.log) script.log.start → IsIdentity (identity_of script.log) → AlwaysPolled → AlwaysRuns → AlwaysInBounds → RepresentsState v (opened_state j start readers) → RunsTo v.log.identity v.log.start v.readers script.commands [] after → IsOutputOf script after
+stage_plays script v j start readers after same there many legal starts identity always goes within shows runs =
     let here : RepresentsState v (opened_state (identity_of script.log) script.log.start script.log.readers) =
     subst (λ (i : Identity). RepresentsState v (opened_state i script.log.start script.log.readers)) same
     (subst (λ (n : ℕ). RepresentsState v (opened_state j n script.log.readers)) there (subst (λ (n : ℕ). RepresentsState v (opened_state j start n)) many shows)) in
-    inr (plays_on script after legal starts identity always (runs_from v (identity_of script.log) script.log.start script.log.readers script.commands [] after here runs))
+    inr (plays_on script after legal starts identity always goes within (runs_from v (identity_of script.log) script.log.start script.log.readers script.commands [] after here runs))
 
 -- the log can't be opened at its start
 pub refused_start : (script : ScriptContent) (g : Geometry) (before after : List Line) → g ≡ geometry_of script.log → IsGeometry g → ((script.log.start % 32 ≡ 0) × (script.log.start < max_position g) → ⊥) → before ≡ [] → after ≡ before ++ lines.BadLog Start ∷ [] → IsOutputOf script (line_contents after)

@@ -20,7 +20,7 @@ use position::Geometry;
 use receiver::{ReceiverCore, Subscriber};
 use script::{Command, LogLine, Script};
 use script_parts::{Line, Packets};
-use script_run::{polls_a_prefix, shares_are_counted};
+use script_run::{images_stay_in_bounds, polls_a_prefix, shares_are_counted};
 use sender::{Denied, Outbox, SenderCore};
 use std::alloc::{AllocError, Global};
 
@@ -51,6 +51,7 @@ pub fn play(alloc: Global, script: &Script) -> Result<Vec<Line>, AllocError>
     ) {
         Ok(hand) => {
             polls_a_prefix();
+            images_stay_in_bounds();
             let simulation = simulation(alloc, hand, log, geometry, outbox, subscribers, block)?;
             run(simulation, &script.commands, lines)
         }

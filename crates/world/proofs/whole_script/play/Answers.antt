@@ -46,7 +46,9 @@ returns-in_ok-simulation-in-Ok-open c =
     (subst IsGeometry made c.in-Ok.ensures.legal)
     (subst (λ (g : Geometry). IsStart g log.start) made c.in-Ok-open.ensures.in_range.0)
     (record { session = session; stream = stream })
-    c.polls_a_prefix.ensures
+    c.polls_a_prefix.ensures.polled
+    c.polls_a_prefix.ensures.runs
+    c.images_stay_in_bounds.ensures
     c.in_ok-simulation-in-Ok-open.ensures
     (subst (λ (cs : List Command). RunsTo simulation.log.identity simulation.log.start simulation.readers (contents_of cs) [] (line_contents after.items)) c.deref.ensures.value
     (subst (λ (ls : List Line). RunsTo simulation.log.identity simulation.log.start simulation.readers (contents_of c.deref.result.now) (line_contents ls) (line_contents after.items)) c.new-lines.ensures.items runs)))
