@@ -1,9 +1,14 @@
-use Rattle.std.proofs.Common.{◌≡◌, ◌≤◌, ℕ, List, Option, None, Some, Result, Ok, Err, length, sym, subst, rules}
+use Rattle.std.proofs.Common.{◌≡◌, ◌≤◌, ◌∙◌, ℕ, List, Option, None, Some, Result, Ok, Err, length, sym, ap, subst, rules}
 use Rattle.std.specs.Prelude.{IfErr, IfSome, OnOk}
+use Rattle.std.specs.Io.KnownBytes.{Appends}
 use Rattle.std.proofs.lemmas.Result.{IfErr-weaker}
 use Rattle.script.specs.Language.{IsScript}
 use Rattle.script.specs.Meaning.{ScriptContent, script_content}
-use Rattle.commands.specs.Scripting.{ExplainsScript, HoldsScript}
+use Rattle.script_run.specs.LineContents.{LineContent}
+use Rattle.script_run.specs.Output.{IsOutputOf}
+use Rattle.script_parts.specs.LineTexts.{text_of_lines}
+use Rattle.script_parts.specs.Lines.{line_contents}
+use Rattle.commands.specs.Scripting.{ExplainsScript, HoldsScript, PlaysInput}
 use Rattle.commands.specs.declared.fault.Fault.{Fault}
 use Rattle.commands.specs.declared.fault.Fault.TheVariants.{Write}
 use Rattle.commands.proofs.sim_command.sim.Goals as goal
@@ -12,6 +17,10 @@ use Rattle.commands.proofs.sim_command.sim.Goals as goal
 holds : (known : Option (List ℕ)) (text : List ℕ) (script : ScriptContent) → IfSome known (λ bytes. text ≡ bytes) → length text ≤ 1048576 → IsScript text script → IfSome known HoldsScript
 holds None text script whole short is = tt
 holds (Some bytes) text script whole short is = subst HoldsScript whole (short, (script, is))
+
+held : (known : Option (List ℕ)) (text : List ℕ) (script : ScriptContent) → IfSome known (λ bytes. text ≡ bytes) → length text ≤ 1048576 → IsScript text script → IfSome known (λ bytes. (length bytes ≤ 1048576) × IsScript bytes script)
+held None text script whole short is = tt
+held (Some bytes) text script whole short is = subst (λ x. (length x ≤ 1048576) × IsScript x script) whole (short, is)
 
 -- and a failed write says so
 written : (known : Option (List ℕ)) (fault : Fault) → IfSome known HoldsScript → fault ≡ Write → IfSome known (λ bytes. ExplainsScript bytes fault)
@@ -22,27 +31,36 @@ on_ok : {T E P : Type 0} (r : Result T E) → P → OnOk r P
 on_ok (Ok x) p = p
 on_ok (Err e) p = tt
 
-pub returns-in_err-map_err-clause-fault : goal.returns-in_err-map_err-clause-fault
-returns-in_err-map_err-clause-fault g c =
+pub returns-in_err-write_lines-clause-fault : goal.returns-in_err-write_lines-clause-fault
+returns-in_err-write_lines-clause-fault g c =
     let known = g.R.Read.remaining c.args.input.now in
     let is : IsScript c.in_ok-text.text.items (script_content c.in_ok-script.script) = subst (λ bytes. IsScript bytes (script_content c.in_ok-script.script)) c.deref.ensures.value c.in_ok-script.ensures.found in
     let short : length c.in_ok-text.text.items ≤ 1048576 = search rules in
-    let held = holds known c.in_ok-text.text.items (script_content c.in_ok-script.script) c.in_ok-text.ensures.whole short is in
-    let write : IfErr c.from_residual-in_err-map_err.result (λ fault. fault ≡ Write) = search rules in
-    IfErr-weaker c.from_residual-in_err-map_err.result _ _ (λ fault e. written known fault held e) write
+    let there = holds known c.in_ok-text.text.items (script_content c.in_ok-script.script) c.in_ok-text.ensures.whole short is in
+    let write : IfErr c.from_residual-in_err-write_lines.result (λ fault. fault ≡ Write) = search rules in
+    IfErr-weaker c.from_residual-in_err-write_lines.result _ _ (λ fault e. written known fault there e) write
 
 pub returns-clause-done : goal.returns-clause-done
 returns-clause-done g c =
     let known = g.R.Read.remaining c.args.input.now in
     let is : IsScript c.in_ok-text.text.items (script_content c.in_ok-script.script) = subst (λ bytes. IsScript bytes (script_content c.in_ok-script.script)) c.deref.ensures.value c.in_ok-script.ensures.found in
     let short : length c.in_ok-text.text.items ≤ 1048576 = search rules in
-    on_ok _ (holds known c.in_ok-text.text.items (script_content c.in_ok-script.script) c.in_ok-text.ensures.whole short is)
+    let lines = line_contents c.in_ok-lines.lines.items in
+    let printed : Appends (g.W.Write.contents c.args.output.now) (g.W.Write.contents c.flush.new.self) (text_of_lines (line_contents c.deref-2.result.now)) = search rules in
+    let plays : PlaysInput known (g.W.Write.contents c.args.output.now) (g.W.Write.contents c.flush.new.self) = record {
+      script = script_content c.in_ok-script.script;
+      held = held known c.in_ok-text.text.items (script_content c.in_ok-script.script) c.in_ok-text.ensures.whole short is;
+      lines = lines;
+      output = c.in_ok-lines.ensures;
+      written = subst (λ ls. Appends (g.W.Write.contents c.args.output.now) (g.W.Write.contents c.flush.new.self) (text_of_lines (line_contents ls))) c.deref-2.ensures.value printed;
+    } in
+    on_ok c.map_err.result plays
 
 pub returns-clause-fault : goal.returns-clause-fault
 returns-clause-fault g c =
     let known = g.R.Read.remaining c.args.input.now in
     let is : IsScript c.in_ok-text.text.items (script_content c.in_ok-script.script) = subst (λ bytes. IsScript bytes (script_content c.in_ok-script.script)) c.deref.ensures.value c.in_ok-script.ensures.found in
     let short : length c.in_ok-text.text.items ≤ 1048576 = search rules in
-    let held = holds known c.in_ok-text.text.items (script_content c.in_ok-script.script) c.in_ok-text.ensures.whole short is in
-    let write : IfErr c.map_err-2.result (λ fault. fault ≡ Write) = search rules in
-    IfErr-weaker c.map_err-2.result _ _ (λ fault e. written known fault held e) write
+    let there = holds known c.in_ok-text.text.items (script_content c.in_ok-script.script) c.in_ok-text.ensures.whole short is in
+    let write : IfErr c.map_err.result (λ fault. fault ≡ Write) = search rules in
+    IfErr-weaker c.map_err.result _ _ (λ fault e. written known fault there e) write
