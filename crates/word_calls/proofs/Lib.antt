@@ -1,0 +1,4 @@
+pub mod Steppings
+pub mod Patches
+pub mod Wordings
+pub mod Messages
