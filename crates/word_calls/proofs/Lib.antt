@@ -2,3 +2,9 @@ pub mod Steppings
 pub mod Patches
 pub mod Wordings
 pub mod Messages
+pub mod Justifying
+pub mod Refusing
+pub mod Adding
+pub mod Seeing
+pub mod Turned
+pub mod Filling

@@ -1,7 +1,7 @@
 -- What a claim is answered, by the words that its pass saw.
 use Rattle.std.specs.Prelude.{◌≡◌, ℕ, suc, ◌+◌, ◌-◌, ◌*◌, ◌%◌, ◌^◌, ◌<◌, ◌≤◌, ◌⊎◌, Bool, true, false, List, [], ◌∷◌, ◌++◌, length}
 use Rattle.std.specs.List.{filter}
-use Rattle.theory.specs.Position.{cuts_of, framed_length, max_position}
+use Rattle.theory.specs.Position.{framed_length, max_position}
 use Rattle.theory.specs.Placed.{Frame, Pad, frame_length}
 use Rattle.theory.specs.Refusal.{IsLast, IsNotLast, is_closed, is_connected, limit_in}
 use Rattle.theory.specs.Words.{offset_in}
@@ -13,23 +13,8 @@ use Rattle.word_calls.specs.declared.refusal.Refusal.{Refusal}
 use Rattle.word_calls.specs.declared.refusal.Refusal.TheVariants.{NotConnected, BackPressured, AdminAction, Closed, MaxPositionExceeded}
 use Rattle.word_calls.specs.declared.looking.Look.{Look}
 use Rattle.word_calls.specs.declared.looking.Look.TheVariants as looks
-use Rattle.word_calls.specs.Steps.{IsTerm, Names, blank, blanks, count_in, geometry_of, message_at, padding_at, start_in, term_of, with_work, works}
+use Rattle.word_calls.specs.Steps.{IsTerm, Keeps, Names, blank, count_in, geometry_of, message_at, opened, padding_at, start_in, term_of, with_work}
 use Rattle.word_calls.specs.Frames.{frame_at}
-
--- ---- what a call leaves of a pass
-
-pub record Same (p q : Pass) : Type 0 where
-  pub identity : q.identity ≡ p.identity
-  pub start : q.start ≡ p.start
-  pub number : q.number ≡ p.number
-  pub parts : q.right.parts ≡ p.right.parts
-  pub reading : q.reading ≡ p.reading
-  pub keeping : q.keeping ≡ p.keeping
-
--- no claim more, and no word stored
-pub record Rests (p q : Pass) : Type 0 where
-  pub claims : q.right.claims ≡ p.right.claims
-  pub work : q.work ≡ p.work
 
 -- ---- how many steps it took
 
@@ -57,6 +42,13 @@ abbrev pub exchanges_count : WordStep → Bool
 exchanges_count (steps.CountExchange count) = true
 exchanges_count other = false
 
+abbrev pub is_addition : WordStep → Bool
+is_addition (steps.Addition partition taken word) = true
+is_addition other = false
+
+abbrev pub additions : List WordStep → ℕ
+additions taken = length (filter is_addition taken)
+
 -- how often a tail, and the count, was to be exchanged
 abbrev pub tail_exchanges : List WordStep → ℕ
 tail_exchanges taken = length (filter exchanges_tail taken)
@@ -66,11 +58,11 @@ count_exchanges taken = length (filter exchanges_count taken)
 
 -- so many word calls more at the most, and of them so many exchanges
 pub record Notes (most tails counts : ℕ) (p q : Pass) : Type 0 where
-  pub same : Same p q
-  pub rests : Rests p q
+  pub after : Keeps p q
   pub armed : q.right.armed ≡ p.right.armed
   pub more : List WordStep
   pub call : q.call ≡ p.call ++ more
+  pub none_added : additions more ≡ 0
   pub few : length more ≤ most
   pub few_tails : tail_exchanges more ≤ tails
   pub few_counts : count_exchanges more ≤ counts
@@ -102,9 +94,9 @@ addition_to p count size word = steps.Addition (count % 3) (framed_length (geome
 abbrev pub position_in : Pass → ℕ → ℕ → ℕ
 position_in p count tail = count * term_of p + offset_in tail
 
--- one claim more, at the position of the word that the addition answered, and its frames are open
+-- one claim more, at the position of the word that the addition answered; its frames are open, and nothing of them is
+-- stored
 pub record Claimed (p : Pass) (size start : ℕ) (q : Pass) : Type 0 where
-  pub same : Same p q
   pub limit : ℕ
   pub count : ℕ
   pub tail : ℕ
@@ -118,8 +110,7 @@ pub record Claimed (p : Pass) (size start : ℕ) (q : Pass) : Type 0 where
   pub inside : offset_in word + framed_length (geometry_of p) size ≤ term_of p
   pub from : start ≡ start_in (geometry_of p) word
   pub in_stream : start + framed_length (geometry_of p) size ≤ max_position (geometry_of p)
-  pub claims : q.right.claims ≡ p.right.claims ++ message_at p word size ∷ []
-  pub work : q.work ≡ works p.work.frames (p.work.drafts ++ blanks start (cuts_of (geometry_of p) size))
+  pub after : Keeps (opened p (message_at p word size)) q
   pub idle : q.right.armed ≡ 0
 
 -- ---- a refusal
@@ -150,23 +141,24 @@ Cause p size limit count tail rest Closed = ⊥
 Cause p size limit count tail rest MaxPositionExceeded = Finished p IsLast count tail ⊎ Tripped p size IsLast count rest
 
 -- the rest of the term of the word before the addition, committed
-pub record Padded (p : Pass) (word : ℕ) (q : Pass) : Type 0 where
-  pub claims : q.right.claims ≡ p.right.claims ++ padding_at p word ∷ []
-  pub work : q.work ≡ works (p.work.frames ++ frame_at p.identity (start_in (geometry_of p) word) (Pad (term_of p - offset_in word)) ∷ []) p.work.drafts
+abbrev pub padded : Pass → ℕ → Pass
+padded p word = record p {
+  right = record p.right { claims = p.right.claims ++ padding_at p word ∷ [] };
+  work = record p.work { frames = p.work.frames ++ frame_at p.identity (start_in (geometry_of p) word) (Pad (term_of p - offset_in word)) ∷ [] };
+}
 
 -- an addition that passed the end of its term leaves a padding, if it began below it
 pub record LeavesPadding (p : Pass) (word : ℕ) (q : Pass) : Type 0 where
-  pub below : offset_in word < term_of p → Padded p word q
-  pub over : term_of p ≤ offset_in word → Rests p q
+  pub below : offset_in word < term_of p → Keeps (padded p word) q
+  pub over : term_of p ≤ offset_in word → Keeps p q
 
--- what is behind the tail's load in the call says whether there was an addition
+-- what the call notes behind its load of the tail says whether there was an addition
 abbrev pub Leaves : Pass → List WordStep → Pass → Type 0
-Leaves p [] q = Rests p q
+Leaves p [] q = Keeps p q
 Leaves p (steps.Addition partition taken word ∷ more) q = LeavesPadding p word q
-Leaves p (other ∷ more) q = Rests p q
+Leaves p (other ∷ more) q = Keeps p q
 
 pub record Refused (p : Pass) (size : ℕ) (why : Refusal) (q : Pass) : Type 0 where
-  pub same : Same p q
   pub limit : ℕ
   pub unclosed : is_closed limit ≡ false
   pub count : ℕ
@@ -176,17 +168,17 @@ pub record Refused (p : Pass) (size : ℕ) (why : Refusal) (q : Pass) : Type 0 w
   pub cause : Cause p size limit count tail rest why
   pub leaves : Leaves p rest q
   pub few : length rest ≤ 4
+  pub one_added : additions rest ≤ 1
   pub few_tails : tail_exchanges rest ≤ 1
   pub few_counts : count_exchanges rest ≤ 1
   pub idle : p.right.armed ≡ 0 → q.right.armed ≡ 0
 
 -- the log was closed: nothing but the limit was looked at
 pub record Shut (p q : Pass) : Type 0 where
-  pub same : Same p q
   pub limit : ℕ
   pub call : q.call ≡ steps.Limit limit ∷ []
   pub closed : is_closed limit ≡ true
-  pub rests : Rests p q
+  pub after : Keeps p q
   pub armed : q.right.armed ≡ p.right.armed
 
 abbrev pub Justified : Pass → ℕ → Refusal → Pass → Type 0

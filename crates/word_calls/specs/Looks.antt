@@ -1,6 +1,6 @@
 -- What a pass sees before it adds, and what its addition gave.
 use Rattle.std.specs.Prelude.{◌≡◌, ℕ, suc, ◌+◌, ◌-◌, ◌*◌, ◌<◌, ◌≤◌, true, false, List, [], ◌∷◌, ◌++◌, length}
-use Rattle.theory.specs.Position.{cuts_of, framed_length, max_position}
+use Rattle.theory.specs.Position.{framed_length, max_position}
 use Rattle.theory.specs.Placed.{Pad}
 use Rattle.theory.specs.Refusal.{IsLast, IsNotLast, is_closed, is_connected, limit_in}
 use Rattle.theory.specs.Words.{offset_in}
@@ -10,8 +10,8 @@ use Rattle.word_calls.specs.declared.refusal.Refusal.{Refusal}
 use Rattle.word_calls.specs.declared.refusal.Refusal.TheVariants.{NotConnected, BackPressured, AdminAction, Closed, MaxPositionExceeded}
 use Rattle.word_calls.specs.declared.looking.Look.{Look}
 use Rattle.word_calls.specs.declared.looking.Look.TheVariants as looks
-use Rattle.word_calls.specs.Steps.{IsTerm, Names, blanks, count_in, geometry_of, message_at, start_in, term_of, works}
-use Rattle.word_calls.specs.Claims.{AtLimit, Fills, HasBlank, LeavesPadding, Rests, Same, Saw, Shut, Stale, addition_to, count_exchanges, position_in, tail_exchanges}
+use Rattle.word_calls.specs.Steps.{IsTerm, Keeps, Names, count_in, geometry_of, message_at, opened, start_in, term_of}
+use Rattle.word_calls.specs.Claims.{AtLimit, Fills, HasBlank, LeavesPadding, Saw, Shut, Stale, addition_to, additions, count_exchanges, position_in, tail_exchanges}
 
 abbrev pub LookCause : Pass → ℕ → ℕ → ℕ → Look → Pass → Type 0
 LookCause p limit count tail (looks.Refused NotConnected) q = AtLimit p limit count tail × (is_connected limit ≡ false) × (q.right.armed ≡ p.right.armed)
@@ -23,7 +23,6 @@ LookCause p limit count tail (looks.UsedUp k) q = (k ≡ count) × Names p tail 
 LookCause p limit count tail (looks.Open k) q = (k ≡ count) × Names p tail count × (offset_in tail < term_of p) × (position_in p count tail < limit_in limit) × (q.right.armed ≡ 1) × (q.seen.term ≡ count)
 
 pub record LookedAt (p : Pass) (look : Look) (q : Pass) : Type 0 where
-  pub same : Same p q
   pub limit : ℕ
   pub unclosed : is_closed limit ≡ false
   pub count : ℕ
@@ -31,7 +30,7 @@ pub record LookedAt (p : Pass) (look : Look) (q : Pass) : Type 0 where
   pub saw : Saw q limit count tail []
   pub term : IsTerm p count
   pub cause : LookCause p limit count tail look q
-  pub rests : Rests p q
+  pub after : Keeps p q
 
 abbrev pub Looked : Pass → Look → Pass → Type 0
 Looked p (looks.Refused NotConnected) q = LookedAt p (looks.Refused NotConnected) q
@@ -44,15 +43,13 @@ Looked p (looks.Open k) q = LookedAt p (looks.Open k) q
 
 -- the addition fitted its term
 pub record Granted (p : Pass) (count size start : ℕ) (q : Pass) : Type 0 where
-  pub same : Same p q
   pub word : ℕ
   pub call : q.call ≡ p.call ++ addition_to p count size word ∷ []
   pub term : IsTerm p (count_in (geometry_of p) word)
   pub inside : offset_in word + framed_length (geometry_of p) size ≤ term_of p
   pub from : start ≡ start_in (geometry_of p) word
   pub in_stream : start + framed_length (geometry_of p) size ≤ max_position (geometry_of p)
-  pub claims : q.right.claims ≡ p.right.claims ++ message_at p word size ∷ []
-  pub work : q.work ≡ works p.work.frames (p.work.drafts ++ blanks start (cuts_of (geometry_of p) size))
+  pub after : Keeps (opened p (message_at p word size)) q
   pub idle : q.right.armed ≡ 0
 
 -- the refusal at the end of the term of this count
@@ -65,7 +62,6 @@ EndsTerm count MaxPositionExceeded = IsLast count
 
 -- it passed the end of its term
 pub record Tripping (p : Pass) (count size : ℕ) (why : Refusal) (q : Pass) : Type 0 where
-  pub same : Same p q
   pub word : ℕ
   pub more : List WordStep
   pub call : q.call ≡ (p.call ++ addition_to p count size word ∷ []) ++ more
@@ -73,6 +69,7 @@ pub record Tripping (p : Pass) (count size : ℕ) (why : Refusal) (q : Pass) : T
   pub term : IsTerm p (count_in (geometry_of p) word)
   pub why_is : EndsTerm (count_in (geometry_of p) word) why
   pub leaves : LeavesPadding p word q
+  pub none_added : additions more ≡ 0
   pub few : length more ≤ 3
   pub few_tails : tail_exchanges more ≤ 1
   pub few_counts : count_exchanges more ≤ 1

@@ -94,6 +94,14 @@ opened v c = record v {
 abbrev pub disarmed : Pass → Pass
 disarmed v = record v { right = record v.right { armed = 0 } }
 
+-- of the second only what was seen: its call, its limit word, whether it is armed, and the terms
+abbrev pub seeing : Pass → Pass → Pass
+seeing v w = record v { call = w.call; right = record v.right { limit = w.right.limit; armed = w.right.armed }; seen = w.seen }
+
+-- no claim and no word of a frame is another
+abbrev pub Keeps : Pass → Pass → Type 0
+Keeps v w = w ≡ seeing v w
+
 -- ---- what a word says
 
 -- the word has the id of the count
@@ -108,10 +116,14 @@ count_in g word = cast_unsigned w32 (count_of g (id_in word))
 abbrev pub start_in : Geometry → ℕ → ℕ
 start_in g word = count_in g word * g.term_length + offset_in word
 
--- a term of the log that has this count
-pub record IsTerm (v : Pass) (k : ℕ) : Type 0 where
-  pub begun : v.start / term_of v ≤ k
+-- the count of a term, where the stream begins at this position
+pub record IsTermFrom (position length_of k : ℕ) : Type 0 where
+  pub begun : position / length_of ≤ k
   pub small : k < 2 ^ 31
+
+-- a term of the log has this count
+abbrev pub IsTerm : Pass → ℕ → Type 0
+IsTerm v k = IsTermFrom v.start (term_of v) k
 
 -- ---- the seven word calls: the pass before, the word that was answered, the pass after
 
