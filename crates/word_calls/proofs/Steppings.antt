@@ -39,3 +39,7 @@ module _ {L P : Type 0} (took : L → P → L → P → ℕ → Type 0) (pass_of
     -- behind the beginning of a call
     pub took_all : (l : L) (p : P) (m : L) (q : P) (n : L) (r : P) (a b c : ℕ) → TookCall took pass_of l p m q a → TookMore took pass_of m q n r b → a + b ≡ c → TookCall took pass_of l p n r c
     took_all l p m q n r a b c s t e = subst (λ (k : ℕ). took l p n r k) (let g : length (pass_of m q).call + a + (t.noted + b) ≡ length (pass_of n r).call + c = omega (arith, t.call) in g) (more l p m q n r (length (pass_of m q).call + a) (t.noted + b) s t.steps)
+
+    -- three loads, of which the first begins the call
+    pub took_three : (l : L) (p : P) (l1 : L) (p1 : P) (l2 : L) (p2 : P) (l3 : L) (p3 : P) → took l p l1 p1 1 → took l1 p1 l2 p2 1 → took l2 p2 l3 p3 1 → length (pass_of l3 p3).call ≡ 3 → TookCall took pass_of l p l3 p3 0
+    took_three l p l1 p1 l2 p2 l3 p3 a b c e = subst (λ (k : ℕ). took l p l3 p3 k) (let g : 3 ≡ length (pass_of l3 p3).call + 0 = omega (arith, e) in g) (more l p l2 p2 l3 p3 2 1 (more l p l1 p1 l2 p2 1 1 a b) c)

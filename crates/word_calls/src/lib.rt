@@ -4,11 +4,11 @@
 //! `claim`, `commit`, `abort` and `rotate` speak of the pass before and after alone. No call takes memory.
 #![tactic(auto)]
 
-mod claim;
+mod claiming;
 mod frame_words;
 mod identity;
 mod looking;
-mod offer;
+mod offers;
 mod pass;
 mod refusal;
 mod step;
@@ -17,9 +17,9 @@ mod turn;
 mod words;
 mod writing;
 
-pub use claim::claim;
+pub use claiming::claim;
 pub use identity::Identity;
-pub use offer::{abort, commit, offer, try_claim};
+pub use offers::{abort, commit, offer, try_claim};
 pub use pass::{ClaimRange, FrameWords, Keeping, Pass, Reading, Right, Seen, Work};
 pub use refusal::Refusal;
 pub use step::WordStep;

@@ -18,7 +18,7 @@ fn term_id(word: u64) -> i32
 pub(crate) fn term_offset(word: u64) -> u32
     ensures { result ≡ offset_in word }
 {
-    word as u32
+    (word % (1 << 32)) as u32
 }
 
 /// The count of a raw tail's id.

@@ -1,6 +1,6 @@
 //! Frames, stored into open claims.
 
-ghost use Rattle.std.specs.Prelude.{◌≡◌, ◌+◌, ◌-◌, ◌*◌, ◌/◌, ◌<◌, ◌≤◌, ◌∷◌, [], length, if◌then◌else◌};
+ghost use Rattle.std.specs.Prelude.{◌≡◌, ◌+◌, ◌-◌, ◌*◌, ◌/◌, ◌^◌, ◌<◌, ◌≤◌, ◌∷◌, [], length, true};
 ghost use Rattle.theory.specs.Position.{aligned, cuts_of, framed_length, max_message, max_position};
 ghost use Rattle.theory.specs.Placed.{Data, Pad};
 ghost use Rattle.word_calls.specs.Steps.{Moved};

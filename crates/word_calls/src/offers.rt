@@ -10,7 +10,7 @@ ghost use Rattle.word_calls.specs.Refusals.{sights, why_of};
 ghost use Rattle.word_calls.specs.Claims.{Fills, HasBlank, Justified, TookCall, TookMore, padding_words};
 ghost use Rattle.word_calls.specs.Offers.{Offered, Opened};
 
-use crate::claim::claim;
+use crate::claiming::claim;
 use crate::refusal::Refusal;
 use crate::words::WordCalls;
 use crate::writing::{write_data, write_message, write_padding};
