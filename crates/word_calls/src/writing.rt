@@ -21,6 +21,7 @@ fn put_header<W: WordCalls>(words: &mut W, pass: &mut W::Pass, identity: &Identi
     ensures moved { Moved W.fits W.pass_of W.name W.id words.old pass.old words.new pass.new }
     ensures took { TookMore W.took W.pass_of words.old pass.old words.new pass.new 3 }
     ensures puts { Puts (W.pass_of words.old pass.old) start 1 (header_words identity.now start) (W.pass_of words.new pass.new) }
+    ensures below { start < 2 ^ 56 }
 {
     let place = identity.geometry().term_of(start);
     let session = identity.session().cast_unsigned();
