@@ -1,11 +1,12 @@
 -- A message's frames, filled one after the other.
 use Rattle.std.proofs.Common.{◌≡◌, ℕ, suc, ◌+◌, ◌-◌, ◌*◌, ◌/◌, ◌%◌, ◌<◌, ◌≤◌, Bool, true, false, List, [], ◌∷◌, ◌++◌, length, take, drop, length-drop, append_assoc, sym, refl, ap, ◌∙◌, subst, arith}
 use Rattle.std.proofs.lemmas.List.{take_all, length-take-le}
-use Rattle.theory.specs.Position.{Geometry, aligned, cuts_of, max_payload, span}
+use Rattle.theory.specs.Position.{Geometry, IsGeometry, aligned, cuts_of, framed_length, max_payload, span}
 use Rattle.theory.specs.Placed.{Data, Frame, frame_length}
 use Rattle.theory.specs.Entry.{flags_of, pieces_of}
 use Rattle.theory.specs.Bytes.{Identity}
 use Rattle.theory.proofs.Cuts.{long_cuts, short_cuts}
+use Rattle.theory.proofs.Claims.{span_is}
 use Rattle.theory.proofs.Pieces.{cuts_behind}
 use Rattle.word_calls.specs.declared.pass.FrameWords.{FrameWords}
 use Rattle.word_calls.specs.declared.pass.Pass.{Pass}
@@ -48,17 +49,31 @@ last_stored g n low = ap stored_words (short_cuts g n low) ∙ ap (λ (k : ℕ).
 
 -- ---- a full frame, and those behind it
 
-module _ (g : Geometry) (long : 32 < g.mtu) (unit : g.mtu % 32 ≡ 0) where
+module _ (g : Geometry) (legal : IsGeometry g) where
+  long : 32 < g.mtu
+  long = omega (arith, legal.mtu.least)
+
+  unit : g.mtu % 32 ≡ 0
+  unit = legal.mtu.unit
+
   aligned_mtu : aligned (32 + max_payload g) ≡ g.mtu
-  aligned_mtu = omega arith
+  aligned_mtu = omega (arith, long, unit)
 
   pub full_stored : (n : ℕ) → max_payload g < n → stored_words (cuts_of g n) ≡ stored_words ((32 + max_payload g) ∷ []) + stored_words (cuts_of g (n - max_payload g))
   full_stored n high =
-      let whole : (g.mtu + 7) / 8 ≡ (32 + max_payload g + 7) / 8 + 0 = omega arith in
+      let whole : (g.mtu + 7) / 8 ≡ (32 + max_payload g + 7) / 8 + 0 = omega (arith, long) in
       ap stored_words (cuts_behind g n long high) ∙ ap (λ (k : ℕ). k + stored_words (cuts_of g (n - max_payload g))) whole
 
+  -- and what it covers
+  pub full_framed : (n : ℕ) → max_payload g < n → framed_length g n ≡ g.mtu + framed_length g (n - max_payload g)
+  full_framed n high =
+      sym (span_is g legal.mtu.unit legal.mtu.least n)
+      ∙ ap span (cuts_behind g n long high)
+      ∙ ap (λ (k : ℕ). k + span (cuts_of g (n - max_payload g))) (let e : aligned g.mtu ≡ g.mtu = omega (arith, unit) in e)
+      ∙ ap (λ (k : ℕ). g.mtu + k) (span_is g legal.mtu.unit legal.mtu.least (n - max_payload g))
+
   some_cuts : (n : ℕ) → 0 < length (cuts_of g n)
-  some_cuts n = some (cuts_of g n) (long_cuts g n (omega arith))
+  some_cuts n = some (cuts_of g n) (long_cuts g n (omega (arith, long)))
     where
       some : (cuts : List ℕ) → 0 < span cuts → 0 < length cuts
       some [] h = absurd (omega (arith, h))
@@ -76,7 +91,7 @@ module _ (g : Geometry) (long : 32 < g.mtu) (unit : g.mtu % 32 ≡ 0) where
     cuts_are = cuts_behind g (length rest) long high ∙ ap (λ (n : ℕ). g.mtu ∷ cuts_of g n) (sym (length-drop (max_payload g) rest))
 
     cuts_by : cuts_of g (length rest) ≡ (32 + length (take (max_payload g) rest)) ∷ cuts_of g (length (drop (max_payload g) rest))
-    cuts_by = cuts_are ∙ ap (λ (n : ℕ). n ∷ cuts_of g (length (drop (max_payload g) rest))) (let e : g.mtu ≡ 32 + length (take (max_payload g) rest) = omega (arith, part_long) in e)
+    cuts_by = cuts_are ∙ ap (λ (n : ℕ). n ∷ cuts_of g (length (drop (max_payload g) rest))) (let e : g.mtu ≡ 32 + length (take (max_payload g) rest) = omega (arith, part_long, long) in e)
 
     pieces_are : (first : Bool) → pieces_of first (cuts_of g (length rest)) rest ≡ Data (frame_flags first false) (take (max_payload g) rest) ∷ pieces_of false (cuts_of g (length (drop (max_payload g) rest))) (drop (max_payload g) rest)
     pieces_are first =
@@ -115,6 +130,9 @@ module _ (g : Geometry) (long : 32 < g.mtu) (unit : g.mtu % 32 ≡ 0) where
         drafts_left front behind parts =
             let e = full_is front behind parts in
             ap (λ (u : Pass). u.work.drafts) e ∙ ap (λ (h : Geometry). front ++ (blanks (p + g.mtu) (cuts_of h (length (drop (max_payload g) rest))) ++ behind)) (sym (ap (λ (u : Pass). geometry_of u) e ∙ shape))
+
+        pub full_shape : HasBlanks v p (cuts_of (geometry_of v) (length rest)) → geometry_of x ≡ g
+        full_shape b = ap (λ (u : Pass). geometry_of u) (full_is b.front b.behind b.parts) ∙ shape
 
         pub full_left : HasBlanks v p (cuts_of (geometry_of v) (length rest)) → HasBlanks x (p + g.mtu) (cuts_of (geometry_of x) (length (drop (max_payload g) rest)))
         full_left b = record { front = b.front; behind = b.behind; parts = drafts_left b.front b.behind b.parts }
