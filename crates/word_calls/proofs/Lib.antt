@@ -8,3 +8,4 @@ pub mod Adding
 pub mod Seeing
 pub mod Turned
 pub mod Filling
+pub mod Offering

@@ -57,6 +57,7 @@ pub fn try_claim<W: WordCalls>(
     ensures refused { IfErr result (λ why. Justified (W.pass_of words.old pass.old) size why (W.pass_of words.new pass.new)) }
     ensures justified { IfErr result (λ why. IsJustified (W.pass_of words.old pass.old).identity.geometry (framed_length (W.pass_of words.old pass.old).identity.geometry size) (sights (W.pass_of words.new pass.new).call) (why_of why)) }
 {
+    let _ = words.identity(pass).geometry();
     claim(words, pass, size)
 }
 
