@@ -52,3 +52,7 @@ module _ (p v : Pass) (n start : ℕ) (h : Claimed p n start v) where
         ap (λ (fs : List FrameWords). works fs v.work.drafts) claimed_frames
         ∙ ap (λ (ds : List FrameWords). works p.work.frames ds) (claimed_drafts ∙ ap (λ (cs : List ℕ). p.work.drafts ++ blanks start cs) (short_cuts (geometry_of p) n low ∙ ap (λ (k : ℕ). k ∷ []) (let e : n + 32 ≡ 32 + n = omega arith in e)));
   }
+
+-- the words that are stored are noted in no call
+pub filled_call : (v q : Pass) (start : ℕ) (message : List ℕ) → HasBlanks v start (cuts_of (geometry_of v) (length message)) → FillsAll v true start message q → q.call ≡ v.call
+filled_call v q start message b fills = ap (λ (u : Pass). u.call) (fills b.front b.behind b.parts)

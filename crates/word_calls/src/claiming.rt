@@ -25,6 +25,7 @@ pub fn claim<W: WordCalls>(
     requires short { size ≤ max_message (W.pass_of words.old pass.old).identity.geometry }
     ensures moved { Moved W.fits W.pass_of W.name W.id words.old pass.old words.new pass.new }
     ensures took { TookCall W.took W.pass_of words.old pass.old words.new pass.new (padding_words (W.pass_of words.old pass.old) (W.pass_of words.new pass.new)) }
+    ensures few { length (W.pass_of words.new pass.new).call ≤ 7 }
     ensures accepted { IfOk result (λ start. Claimed (W.pass_of words.old pass.old) size start (W.pass_of words.new pass.new)) }
     ensures refused { IfErr result (λ why. Justified (W.pass_of words.old pass.old) size why (W.pass_of words.new pass.new)) }
 {

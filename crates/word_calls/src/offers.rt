@@ -28,6 +28,7 @@ pub fn offer<W: WordCalls>(
     requires fits { W.fits words.old pass.old }
     requires short { length message.now ≤ max_message (W.pass_of words.old pass.old).identity.geometry }
     ensures moved { Moved W.fits W.pass_of W.name W.id words.old pass.old words.new pass.new }
+    ensures few { length (W.pass_of words.new pass.new).call ≤ 7 }
     ensures accepted { IfOk result (λ end. Offered (W.pass_of words.old pass.old) message.now end (W.pass_of words.new pass.new)) }
     ensures stored { IfOk result (λ end. TookCall W.took W.pass_of words.old pass.old words.new pass.new (stored_words (cuts_of (W.pass_of words.old pass.old).identity.geometry (length message.now)))) }
     ensures refused { IfErr result (λ why. Justified (W.pass_of words.old pass.old) (length message.now) why (W.pass_of words.new pass.new)) }
@@ -53,6 +54,7 @@ pub fn try_claim<W: WordCalls>(
     requires short { size ≤ max_payload (W.pass_of words.old pass.old).identity.geometry }
     ensures moved { Moved W.fits W.pass_of W.name W.id words.old pass.old words.new pass.new }
     ensures took { TookCall W.took W.pass_of words.old pass.old words.new pass.new (padding_words (W.pass_of words.old pass.old) (W.pass_of words.new pass.new)) }
+    ensures few { length (W.pass_of words.new pass.new).call ≤ 7 }
     ensures accepted { IfOk result (λ start. Opened (W.pass_of words.old pass.old) size start (W.pass_of words.new pass.new)) }
     ensures refused { IfErr result (λ why. Justified (W.pass_of words.old pass.old) size why (W.pass_of words.new pass.new)) }
     ensures justified { IfErr result (λ why. IsJustified (W.pass_of words.old pass.old).identity.geometry (framed_length (W.pass_of words.old pass.old).identity.geometry size) (sights (W.pass_of words.new pass.new).call) (why_of why)) }

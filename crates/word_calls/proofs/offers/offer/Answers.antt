@@ -1,17 +1,18 @@
-use Rattle.std.proofs.Common.{◌≡◌, ℕ, ◌+◌, arith, rules, refl, sym, ap, ◌∙◌, length, IfErr}
+use Rattle.std.proofs.Common.{◌≡◌, ℕ, ◌+◌, arith, rules, refl, sym, ap, ◌∙◌, length, List, IfErr}
 use Rattle.std.proofs.lemmas.Result.{IfErr-weaker}
 use Rattle.theory.specs.Bytes.{Identity}
 use Rattle.theory.specs.Position.{Geometry, cuts_of, framed_length}
 use Rattle.theory.specs.Refusal.{IsJustified}
 use Rattle.word_calls.specs.declared.pass.Pass.{Pass}
 use Rattle.word_calls.specs.declared.refusal.Refusal.{Refusal}
+use Rattle.word_calls.specs.declared.step.WordStep.{WordStep}
 use Rattle.word_calls.specs.Steps.{geometry_of}
 use Rattle.word_calls.specs.Frames.{stored_words}
 use Rattle.word_calls.specs.Refusals.{sights, why_of}
 use Rattle.word_calls.specs.Claims.{Justified, padding_words}
 use Rattle.word_calls.proofs.Steppings.{took_all}
 use Rattle.word_calls.proofs.Justifying.{justified}
-use Rattle.word_calls.proofs.Offering.{claimed_blanks, claimed_identity, claimed_nothing, offered}
+use Rattle.word_calls.proofs.Offering.{claimed_blanks, claimed_identity, claimed_nothing, filled_call, offered}
 use Rattle.word_calls.proofs.offers.offer.Goals as goal
 
 pub returns-in_err-start-clause-justified : goal.returns-in_err-start-clause-justified
@@ -37,3 +38,8 @@ returns-clause-stored g c =
         (ap (λ (n : ℕ). n + stored_words (cuts_of (geometry_of (g.W.WordCalls.pass_of c.claim.new.words c.claim.new.pass)) (length c.args.message.now))) (claimed_nothing (g.W.WordCalls.pass_of c.args.words.now c.args.pass.now) (g.W.WordCalls.pass_of c.claim.new.words c.claim.new.pass) (length c.args.message.now) c.in_ok-start.start claimed)
         ∙ (let e : 0 + stored_words (cuts_of (geometry_of (g.W.WordCalls.pass_of c.claim.new.words c.claim.new.pass)) (length c.args.message.now)) ≡ stored_words (cuts_of (geometry_of (g.W.WordCalls.pass_of c.claim.new.words c.claim.new.pass)) (length c.args.message.now)) = omega arith in e)
         ∙ ap (λ (i : Identity). stored_words (cuts_of i.geometry (length c.args.message.now))) (claimed_identity (g.W.WordCalls.pass_of c.args.words.now c.args.pass.now) (g.W.WordCalls.pass_of c.claim.new.words c.claim.new.pass) (length c.args.message.now) c.in_ok-start.start claimed))
+
+pub returns-clause-few : goal.returns-clause-few
+returns-clause-few g c =
+    let same : length (g.W.WordCalls.pass_of c.write_message.new.words c.write_message.new.pass).call ≡ length (g.W.WordCalls.pass_of c.claim.new.words c.claim.new.pass).call = ap (λ (l : List WordStep). length l) (filled_call (g.W.WordCalls.pass_of c.claim.new.words c.claim.new.pass) (g.W.WordCalls.pass_of c.write_message.new.words c.write_message.new.pass) c.in_ok-start.start c.args.message.now (claimed_blanks (g.W.WordCalls.pass_of c.args.words.now c.args.pass.now) (g.W.WordCalls.pass_of c.claim.new.words c.claim.new.pass) (length c.args.message.now) c.in_ok-start.start c.in_ok-start.ensures.accepted) c.write_message.ensures.fills) in
+    omega (arith, same, c.in_ok-start.ensures.few)
