@@ -24,6 +24,10 @@ module _ {L P : Type 0} (took : L → P → L → P → ℕ → Type 0) (pass_of
   pub took_call : (l : L) (p : P) (m : L) (q : P) (x : WordStep) → took l p m q 1 → (pass_of m q).call ≡ (pass_of l p).call ++ x ∷ [] → TookMore took pass_of l p m q 0
   took_call l p m q x t e = record { noted = 1; steps = t; call = ap length e ∙ length-append (pass_of l p).call (x ∷ []) }
 
+  -- the word call with which a call begins
+  pub took_first : (l : L) (p : P) (m : L) (q : P) (x : WordStep) → took l p m q 1 → (pass_of m q).call ≡ x ∷ [] → TookCall took pass_of l p m q 0
+  took_first l p m q x t e = subst (λ (k : ℕ). took l p m q k) (let n : length (pass_of m q).call ≡ 1 = ap length e in let g : 1 ≡ length (pass_of m q).call + 0 = omega (arith, n) in g) t
+
   -- a store
   pub took_store : (l : L) (p : P) (m : L) (q : P) → took l p m q 1 → (pass_of m q).call ≡ (pass_of l p).call → TookMore took pass_of l p m q 1
   took_store l p m q t e = record { noted = 0; steps = t; call = let n : length (pass_of m q).call ≡ length (pass_of l p).call = ap length e in omega arith }

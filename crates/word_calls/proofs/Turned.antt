@@ -49,31 +49,6 @@ notes_then most tails counts more tails_more counts_more p q r a b = record {
   few_counts = omega (arith, kept_append exchanges_count a.more b.more, a.few_counts, b.few_counts);
 }
 
-pub notes_none : (most tails counts : ℕ) (p : Pass) → Notes most tails counts p p
-notes_none most tails counts p = record {
-  after = refl;
-  armed = refl;
-  more = [];
-  call = sym (append-nil p.call);
-  none_added = refl;
-  few = omega arith;
-  few_tails = omega arith;
-  few_counts = omega arith;
-}
-
--- fewer are noted
-pub notes_less : (most tails counts more tails_more counts_more : ℕ) (p q : Pass) → most ≤ more → tails ≤ tails_more → counts ≤ counts_more → Notes most tails counts p q → Notes more tails_more counts_more p q
-notes_less most tails counts more tails_more counts_more p q a b c n = record {
-  after = n.after;
-  armed = n.armed;
-  more = n.more;
-  call = n.call;
-  none_added = n.none_added;
-  few = omega (arith, n.few, a);
-  few_tails = omega (arith, n.few_tails, b);
-  few_counts = omega (arith, n.few_counts, c);
-}
-
 -- ---- what a step notes, whatever the word names
 
 -- the word has the id of the count, or another

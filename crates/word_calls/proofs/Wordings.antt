@@ -1,13 +1,16 @@
 -- Bytes as words of eight.
 use Rattle.std.proofs.Common.{◌≡◌, ℕ, zero, suc, ◌+◌, ◌-◌, ◌*◌, ◌/◌, ◌%◌, ◌<◌, ◌≤◌, ⊎_elim, List, [], ◌∷◌, ◌++◌, length, take, drop, get_or, replicate, length-drop, length-append, sym, refl, ap, ◌∙◌, subst, arith}
 use Rattle.std.specs.Prelude.{slice_range, Bool, cond}
-use Rattle.std.specs.Int.{w64, from_le_bytes, sum_through, byte_worth}
+use Rattle.std.specs.Int.{w64, from_le_bytes, to_le_bytes, sum_through, byte_worth}
+use Rattle.std.specs.List.{flat_map}
+use Rattle.std.proofs.Common.{inl, inr, ◌⊎◌, append_assoc}
+use Rattle.std.proofs.lemmas.Nat.{le_bytes_8}
 use Rattle.std.proofs.lemmas.Bool.{cases_lt}
-use Rattle.std.proofs.lemmas.List.{drop-drop, get_or-drop, get_or-take, get_or_past, take_all, length-replicate}
+use Rattle.std.proofs.lemmas.List.{drop-drop, get_or-drop, get_or-take, get_or_past, length-take-le, replicate-append-replicate, take-append-drop, take-append-le, take-replicate, take_all, length-replicate}
 use Rattle.theory.specs.Position.{aligned}
-use Rattle.theory.specs.Placed.{Data, Pad}
+use Rattle.theory.specs.Placed.{Data, Frame, Pad, frame_length}
 use Rattle.theory.specs.Wire.{front, header_bytes, zeros_after}
-use Rattle.theory.specs.Bytes.{Identity, header_at}
+use Rattle.theory.specs.Bytes.{Identity, bytes_of, header_at}
 use Rattle.word_calls.specs.Frames.{frame_words, header_words, payload_words, words_in}
 
 pub words_length : (n : ℕ) (xs : List ℕ) → length (words_in n xs) ≡ n
@@ -89,6 +92,65 @@ pad_words i p n m long =
     ap (λ (k : ℕ). words_in k (front n 192 0 ++ header_bytes (header_at i p))) long
     ∙ ap (λ (l : List ℕ). from_le_bytes w64 (front n 192 0) ∷ (header_words i p ++ l)) (words_blank m ∙ ap (λ (k : ℕ). replicate {A = ℕ} k 0) (let g : m ≡ m - 0 = omega arith in g))
 
--- the first word of a frame that has a length
-pub some_first : (n flags kind : ℕ) → 0 < n → n < 4294967296 → 0 < from_le_bytes w64 (front n flags kind)
-some_first n flags kind some small = omega (arith, some, small)
+-- ---- the words spell the bytes
+
+first_eight : (xs : List ℕ) → ((i : ℕ) → get_or xs i 0 < 256) → to_le_bytes w64 (from_le_bytes w64 xs) ≡ take 8 (xs ++ replicate 8 0)
+first_eight xs small =
+    let long : length (take 8 (xs ++ replicate 8 0)) ≡ 8 = length-take-le 8 (xs ++ replicate 8 0) (omega (arith, length-append xs (replicate 8 0), length-replicate {A = ℕ} 8 0)) in
+    le_bytes_8 (take 8 (xs ++ replicate 8 0)) (from_le_bytes w64 xs) long
+    (λ i. ⊎_elim
+    (λ (l : i < 8). let e : get_or (take 8 (xs ++ replicate 8 0)) i 0 ≡ get_or xs i 0 = get_or-take 8 (xs ++ replicate 8 0) i 0 l ∙ zeros_behind xs 8 i in omega (arith, e, small i))
+    (λ (l : 8 ≤ i). let e : get_or (take 8 (xs ++ replicate 8 0)) i 0 ≡ 0 = get_or_past (take 8 (xs ++ replicate 8 0)) i 0 (omega (arith, long, l)) in omega (arith, e))
+    (cases_lt i 8))
+    (word_same xs (take 8 (xs ++ replicate 8 0)) (λ i l. sym (get_or-take 8 (xs ++ replicate 8 0) i 0 l ∙ zeros_behind xs 8 i)))
+
+-- eight bytes and what is behind them
+joined : (xs : List ℕ) (n : ℕ) → length xs ≤ 8 + n → take 8 (xs ++ replicate 8 0) ++ (drop 8 xs ++ replicate (n - length (drop 8 xs)) 0) ≡ xs ++ replicate (8 + n - length xs) 0
+joined xs n fit =
+    ⊎_elim
+    (λ (l : 8 ≤ length xs).
+    ap (λ (ys : List ℕ). ys ++ (drop 8 xs ++ replicate (n - length (drop 8 xs)) 0)) (take-append-le 8 xs (replicate 8 0) l)
+    ∙ sym (append_assoc (take 8 xs) (drop 8 xs) (replicate (n - length (drop 8 xs)) 0))
+    ∙ ap (λ (ys : List ℕ). ys ++ replicate (n - length (drop 8 xs)) 0) (take-append-drop 8 xs)
+    ∙ ap (λ (k : ℕ). xs ++ replicate {A = ℕ} k 0) (let e : n - length (drop 8 xs) ≡ 8 + n - length xs = omega (arith, length-drop 8 xs, l, fit) in e))
+    (λ (l : length xs < 8).
+    let none : drop 8 xs ≡ [] = drop_all 8 xs (omega (arith, l)) in
+    ap (λ (ys : List ℕ). take 8 (xs ++ replicate 8 0) ++ (ys ++ replicate (n - length ys) 0)) none
+    ∙ ap (λ (ys : List ℕ). ys ++ replicate (n - 0) 0) (take_over xs 8 8 (omega (arith, l)) ∙ ap (λ (ys : List ℕ). xs ++ ys) (take-replicate (8 - length xs) 8 0 (omega arith)))
+    ∙ append_assoc xs (replicate (8 - length xs) 0) (replicate (n - 0) 0)
+    ∙ ap (λ (ys : List ℕ). xs ++ ys) (replicate-append-replicate (8 - length xs) (n - 0) 0)
+    ∙ ap (λ (k : ℕ). xs ++ replicate {A = ℕ} k 0) (let e : 8 - length xs + (n - 0) ≡ 8 + n - length xs = omega (arith, l) in e))
+    (cases_le 8 (length xs))
+  where
+    cases_le : (m k : ℕ) → (m ≤ k) ⊎ (k < m)
+    cases_le m k = ⊎_elim (λ (l : k < m). inr l) (λ (l : m ≤ k). inl l) (cases_lt k m)
+
+    drop_all : (k : ℕ) (ys : List ℕ) → length ys ≤ k → drop k ys ≡ []
+    drop_all zero [] h = refl
+    drop_all (suc k) [] h = refl
+    drop_all zero (y ∷ ys) h = absurd (omega (arith, h))
+    drop_all (suc k) (y ∷ ys) h = drop_all k ys (omega (arith, h))
+
+    take_over : (ys : List ℕ) (k m : ℕ) → length ys ≤ k → take k (ys ++ replicate m 0) ≡ ys ++ take (k - length ys) (replicate m 0)
+    take_over [] k m h = ap (λ (j : ℕ). take j (replicate {A = ℕ} m 0)) (let e : k ≡ k - 0 = omega arith in e)
+    take_over (y ∷ ys) zero m h = absurd (omega (arith, h))
+    take_over (y ∷ ys) (suc k) m h = ap (λ (l : List ℕ). y ∷ l) (take_over ys k m (omega (arith, h)) ∙ ap (λ (j : ℕ). ys ++ take j (replicate {A = ℕ} m 0)) (let e : k - length ys ≡ suc k - suc (length ys) = omega arith in e))
+
+-- bytes, and zeros up to the words' end
+pub words_spell : (n : ℕ) (xs : List ℕ) → ((i : ℕ) → get_or xs i 0 < 256) → length xs ≤ 8 * n → flat_map (to_le_bytes w64) (words_in n xs) ≡ xs ++ replicate (8 * n - length xs) 0
+words_spell zero [] small fit = refl
+words_spell zero (x ∷ xs) small fit = absurd (omega (arith, fit))
+words_spell (suc n) xs small fit =
+    ap (λ (ys : List ℕ). ys ++ flat_map (to_le_bytes w64) (words_in n (drop 8 xs))) (first_eight xs small)
+    ∙ ap (λ (ys : List ℕ). take 8 (xs ++ replicate 8 0) ++ ys) (words_spell n (drop 8 xs) (λ i. let e = get_or-drop 8 xs i 0 in omega (arith, e, small (8 + i))) (omega (arith, fit, length-drop 8 xs)))
+    ∙ joined xs (8 * n) (omega (arith, fit))
+    ∙ ap (λ (k : ℕ). xs ++ replicate {A = ℕ} (k - length xs) 0) (let e : 8 + 8 * n ≡ 8 * suc n = omega arith in e)
+
+-- those of a frame: its spelling, and the inside of a padding
+pub frame_spells : (i : Identity) (p : ℕ) (f : Frame) → ((k : ℕ) → get_or (bytes_of i (record { at = p; frame = f })) k 0 < 256) → length (bytes_of i (record { at = p; frame = f })) ≤ aligned (frame_length f)
+    → flat_map (to_le_bytes w64) (frame_words i p f) ≡ bytes_of i (record { at = p; frame = f }) ++ replicate (aligned (frame_length f) - length (bytes_of i (record { at = p; frame = f }))) 0
+unfolding frame_words
+frame_spells i p f small fit =
+    let whole : 8 * (aligned (frame_length f) / 8) ≡ aligned (frame_length f) = omega arith in
+    words_spell (aligned (frame_length f) / 8) (bytes_of i (record { at = p; frame = f })) small (omega (arith, fit, whole))
+    ∙ ap (λ (k : ℕ). bytes_of i (record { at = p; frame = f }) ++ replicate {A = ℕ} (k - length (bytes_of i (record { at = p; frame = f }))) 0) whole

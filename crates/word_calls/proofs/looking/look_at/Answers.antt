@@ -4,10 +4,11 @@ use Rattle.theory.specs.Bytes.{Identity}
 use Rattle.theory.specs.Position.{Geometry, id_of}
 use Rattle.theory.specs.Refusal.{limit_in}
 use Rattle.theory.specs.Words.{offset_in}
+use Rattle.word_calls.specs.declared.pass.Pass.{Pass}
 use Rattle.word_calls.specs.Steps.{Names, geometry_of, term_of}
 use Rattle.word_calls.specs.Claims.{position_in}
 use Rattle.word_calls.proofs.Seeing.{looked_open, looked_pressed, looked_stale, looked_unconnected, looked_used_up, shut}
-use Rattle.word_calls.proofs.Steppings.{took_three}
+use Rattle.word_calls.proofs.Steppings.{took_first, took_three}
 use Rattle.word_calls.proofs.Turned.{three_seen}
 use Rattle.word_calls.proofs.looking.look_at.Goals as goal
 
@@ -79,3 +80,6 @@ pub returns-clause-took : goal.returns-clause-took
 returns-clause-took g c =
     took_three g.W.WordCalls.took g.W.WordCalls.pass_of g.met.W.WordCalls.more _ _ _ _ _ _ _ _ c.load_limit-limit.ensures.took c.load_count-count.ensures.took c.load_tail-tail.ensures.took
         (three_seen (g.W.WordCalls.pass_of c.args.words.now c.args.pass.now) (g.W.WordCalls.pass_of c.load_limit-limit.new.self c.load_limit-limit.new.pass) (g.W.WordCalls.pass_of c.load_count-count.new.self c.load_count-count.new.pass) (g.W.WordCalls.pass_of c.load_tail-tail.new.self c.load_tail-tail.new.pass) c.load_limit-limit.result c.load_count-count.result c.load_tail-tail.result c.load_limit-limit.ensures.told c.load_count-count.ensures.told c.load_tail-tail.ensures.told)
+
+pub returns-then-limit-eq1-clause-took : goal.returns-then-limit-eq1-clause-took
+returns-then-limit-eq1-clause-took g c = took_first g.W.WordCalls.took g.W.WordCalls.pass_of _ _ _ _ _ c.load_limit-limit.ensures.took (ap (λ (u : Pass). u.call) c.load_limit-limit.ensures.told)
