@@ -9,3 +9,4 @@ pub mod Seeing
 pub mod Turned
 pub mod Filling
 pub mod Offering
+pub mod WordRows
