@@ -1,11 +1,10 @@
 -- What an addition gave, by the word before it.
-use Rattle.std.proofs.Common.{◌≡◌, ℕ, suc, ◌+◌, ◌-◌, ◌*◌, ◌/◌, ◌%◌, ◌^◌, ◌<◌, ◌≤◌, ⊎_elim, List, [], ◌∷◌, ◌++◌, length, append-nil, append_assoc, length-append, sym, refl, ap, ◌∙◌, subst, arith}
+use Rattle.std.proofs.Common.{◌≡◌, ℕ, suc, ◌+◌, ◌-◌, ◌*◌, ◌%◌, ◌<◌, ◌≤◌, ⊎_elim, List, [], ◌∷◌, ◌++◌, append-nil, sym, refl, ap, ◌∙◌, subst, arith}
 use Rattle.std.proofs.lemmas.Bool.{cases_lt}
 use Rattle.std.proofs.Math.Nat.{mul-le-mul_right}
 use Rattle.theory.specs.Position.{framed_length, max_position}
 use Rattle.theory.specs.Placed.{Pad}
 use Rattle.theory.specs.Words.{offset_in}
-use Rattle.word_calls.specs.declared.pass.ClaimRange.{ClaimRange}
 use Rattle.word_calls.specs.declared.pass.FrameWords.{FrameWords}
 use Rattle.word_calls.specs.declared.pass.Pass.{Pass}
 use Rattle.word_calls.specs.declared.refusal.Refusal.{Refusal}
@@ -13,7 +12,7 @@ use Rattle.word_calls.specs.declared.step.WordStep.{WordStep}
 use Rattle.word_calls.specs.declared.step.WordStep.TheVariants as steps
 use Rattle.word_calls.specs.Steps.{Adds, Keeps, addition, count_in, disarmed, geometry_of, message_at, noted, opened, padding_at, seeing, start_in, term_of, with_full, with_work}
 use Rattle.word_calls.specs.Frames.{frame_at}
-use Rattle.word_calls.specs.Claims.{HasBlank, LeavesPadding, Turns, addition_to, padded, padding_words}
+use Rattle.word_calls.specs.Claims.{HasBlank, Turns, padded}
 use Rattle.word_calls.specs.Looks.{EndsTerm, Granted, Pads, ToPad, Tripping}
 use Rattle.word_calls.proofs.Refusing.{keeps}
 
@@ -96,7 +95,7 @@ module _ (p w : Pass) (size word : ℕ) (told : Adds p size word w) where
           let fills : Pads below_is word x = subst (λ (u : Pass). Pads u word x) (told.trips l over) pads in
           let frames : List FrameWords = p.work.frames ++ frame_at p.identity (start_in (geometry_of p) word) (Pad (term_of p - offset_in word)) ∷ [] in
           let e : x ≡ with_work (p.work.frames ++ frame_at p.identity (start_in (geometry_of p) word) (Pad (term_of p - offset_in word)) ∷ []) p.work.drafts below_is =
-              fills.below l p.work.drafts [] refl ∙ ap (λ (ds : List FrameWords). with_work (p.work.frames ++ frame_at p.identity (start_in (geometry_of p) word) (Pad (term_of p - offset_in word)) ∷ []) ds below_is) (append-nil p.work.drafts) in
+          fills.below l p.work.drafts [] refl ∙ ap (λ (ds : List FrameWords). with_work (p.work.frames ++ frame_at p.identity (start_in (geometry_of p) word) (Pad (term_of p - offset_in word)) ∷ []) ds below_is) (append-nil p.work.drafts) in
           (keeps_by (padded p word) (with_work (p.work.frames ++ frame_at p.identity (start_in (geometry_of p) word) (Pad (term_of p - offset_in word)) ∷ []) p.work.drafts below_is) x e refl, ap (λ (u : Pass). u.call) e, ap (λ (u : Pass). u.right.armed) e, ap (λ (u : Pass). u.seen.full) e)
 
       over_is : term_of p ≤ offset_in word → Keeps p x × (x.call ≡ p.call ++ addition p size word ∷ []) × (x.right.armed ≡ 0) × (x.seen.full ≡ suc (count_in (geometry_of p) word))

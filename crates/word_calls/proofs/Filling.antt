@@ -1,11 +1,10 @@
 -- Open frames that are written whole.
-use Rattle.std.proofs.Common.{◌≡◌, ℕ, suc, ◌+◌, ◌-◌, ◌*◌, ◌/◌, ◌<◌, ◌≤◌, List, [], ◌∷◌, ◌++◌, length, replicate, sym, refl, ap, ◌∙◌, subst, arith}
+use Rattle.std.proofs.Common.{◌≡◌, ℕ, suc, ◌+◌, ◌-◌, ◌/◌, ◌≤◌, List, [], ◌∷◌, ◌++◌, length, replicate, sym, ap, ◌∙◌, arith}
 use Rattle.std.specs.Int.{w32, w64, cast_unsigned, from_le_bytes, to_le_bytes}
 use Rattle.theory.specs.Position.{aligned, id_of, place_of}
 use Rattle.theory.specs.Bytes.{Identity}
 use Rattle.theory.specs.Placed.{Data, Pad}
 use Rattle.theory.specs.Wire.{front}
-use Rattle.word_calls.specs.declared.pass.FrameWords.{FrameWords}
 use Rattle.word_calls.specs.declared.pass.Pass.{Pass}
 use Rattle.word_calls.specs.Steps.{BeginsFrame, Commits, HasWord, Stores}
 use Rattle.word_calls.specs.Frames.{header_words, payload_words}
@@ -27,16 +26,16 @@ data_filled v w x y p flags first payload value one two told =
     let long : aligned (32 + length payload) / 8 ≡ suc (suc (suc (suc (aligned (32 + length payload) / 8 - 4)))) = omega arith in
     let size : length (payload_words payload) ≡ (length payload + 7) / 8 = words_length ((length payload + 7) / 8) payload in
     filled v w x y p first m (Data flags payload) _ _ _ (payload_words payload) long (omega (arith, size))
-        (data_words v.identity p flags m payload long (omega arith) ∙ ap (λ (n : ℕ). n ∷ (header_words v.identity p ++ (payload_words payload ++ replicate (m - length (payload_words payload)) 0))) (sym value))
-        one two told
+    (data_words v.identity p flags m payload long (omega arith) ∙ ap (λ (n : ℕ). n ∷ (header_words v.identity p ++ (payload_words payload ++ replicate (m - length (payload_words payload)) 0))) (sym value))
+    one two told
 
 pub pad_filled : (v w y : Pass) (p n first : ℕ) → 32 ≤ n → first ≡ from_le_bytes w64 (front n 192 0) → Puts v p 1 (header_words v.identity p) w → Commits w p first y → Fills v p (Pad n) y
 pad_filled v w y p n first long value one told =
     let m : ℕ = aligned n / 8 - 4 in
     let whole : aligned n / 8 ≡ suc (suc (suc (suc (aligned n / 8 - 4)))) = omega (arith, long) in
     filled v w w y p first m (Pad n) _ _ _ [] whole (omega arith)
-        (pad_words v.identity p n m whole ∙ ap (λ (n : ℕ). n ∷ (header_words v.identity p ++ ([] ++ replicate (m - 0) 0))) (sym value))
-        one (puts_none w p 4) told
+    (pad_words v.identity p n m whole ∙ ap (λ (n : ℕ). n ∷ (header_words v.identity p ++ ([] ++ replicate (m - 0) 0))) (sym value))
+    one (puts_none w p 4) told
 
 -- ---- a header's three words
 

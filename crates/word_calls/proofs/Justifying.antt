@@ -1,20 +1,19 @@
 -- What a pass saw justifies its refusal.
-use Rattle.std.proofs.Common.{◌≡◌, ℕ, ◌+◌, ◌-◌, ◌*◌, ◌/◌, ◌%◌, ◌^◌, ◌<◌, ◌≤◌, ◌⊎◌, inl, inr, ⊎_elim, true, false, List, [], ◌∷◌, ◌++◌, sym, refl, ap, ◌∙◌, subst, arith}
+use Rattle.std.proofs.Common.{◌≡◌, ℕ, ◌+◌, ◌-◌, ◌%◌, ◌<◌, ◌⊎◌, inl, inr, ⊎_elim, List, [], ◌∷◌, sym, refl, ap, ◌∙◌, subst, arith}
 use Rattle.std.specs.Prelude.{pos}
-use Rattle.std.specs.Int.{w32, cast_signed, cast_unsigned}
+use Rattle.std.specs.Int.{w32, cast_unsigned}
 use Rattle.std.proofs.lemmas.Int.{of_z-to_z, to_z_pos}
 use Rattle.theory.specs.Position.{Geometry, count_of, framed_length}
 use Rattle.theory.specs.Placed.{Among}
-use Rattle.theory.specs.Refusal.{AddedTo, IsCause, IsFull, IsJustified, IsLast, IsNotLast, IsSeenFinished, IsStale, IsTripped, SawCount, SawLimit, SawTail, Sight}
+use Rattle.theory.specs.Refusal.{AddedTo, IsFull, IsJustified, IsLast, IsNotLast, IsSeenFinished, IsStale, IsTripped, SawCount, SawLimit, SawTail, Sight}
 use Rattle.theory.specs.Words.{id_in}
 use Rattle.word_calls.specs.declared.pass.Pass.{Pass}
 use Rattle.word_calls.specs.declared.refusal.Refusal.{Refusal}
 use Rattle.word_calls.specs.declared.refusal.Refusal.TheVariants.{NotConnected, BackPressured, AdminAction, Closed, MaxPositionExceeded}
 use Rattle.word_calls.specs.declared.step.WordStep.{WordStep}
-use Rattle.word_calls.specs.declared.step.WordStep.TheVariants as steps
-use Rattle.word_calls.specs.Steps.{count_in, geometry_of, term_of}
+use Rattle.word_calls.specs.Steps.{count_in, geometry_of}
 use Rattle.word_calls.specs.Refusals.{sights, why_of}
-use Rattle.word_calls.specs.Claims.{AtLimit, Cause, Finished, Justified, Refused, Shut, Stale, Tripped, addition_to}
+use Rattle.word_calls.specs.Claims.{AtLimit, Finished, Justified, Refused, Stale, Tripped}
 
 -- a word names the term of its count
 pub counted : (g : Geometry) (word : ℕ) → count_in g word < 2147483648 → count_of g (id_in word) ≡ pos (count_in g word)
@@ -59,9 +58,9 @@ seen_by p q size AdminAction r = (
   (
     r.unclosed,
     ⊎_elim
-    (λ (h : Stale p r.count r.tail). inl (stale p size r.limit r.count r.tail r.rest h))
-    (λ (h : Finished p IsNotLast r.count r.tail ⊎ Tripped p size IsNotLast r.count r.rest). inr (ended p size r.limit r.count r.tail r.rest IsNotLast h))
-    r.cause,
+        (λ (h : Stale p r.count r.tail). inl (stale p size r.limit r.count r.tail r.rest h))
+        (λ (h : Finished p IsNotLast r.count r.tail ⊎ Tripped p size IsNotLast r.count r.rest). inr (ended p size r.limit r.count r.tail r.rest IsNotLast h))
+        r.cause,
   ),
 )
 seen_by p q size Closed r = absurd r.cause

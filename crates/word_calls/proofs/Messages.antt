@@ -1,8 +1,8 @@
 -- A message's frames, filled one after the other.
-use Rattle.std.proofs.Common.{◌≡◌, ℕ, suc, ◌+◌, ◌-◌, ◌*◌, ◌/◌, ◌%◌, ◌<◌, ◌≤◌, Bool, true, false, List, [], ◌∷◌, ◌++◌, length, take, drop, length-drop, append_assoc, sym, refl, ap, ◌∙◌, subst, arith}
+use Rattle.std.proofs.Common.{◌≡◌, ℕ, ◌+◌, ◌-◌, ◌/◌, ◌%◌, ◌<◌, ◌≤◌, Bool, true, false, List, [], ◌∷◌, ◌++◌, length, take, drop, length-drop, append_assoc, sym, refl, ap, ◌∙◌, arith}
 use Rattle.std.proofs.lemmas.List.{take_all, length-take-le}
 use Rattle.theory.specs.Position.{Geometry, IsGeometry, aligned, cuts_of, framed_length, max_payload, span}
-use Rattle.theory.specs.Placed.{Data, Frame, frame_length}
+use Rattle.theory.specs.Placed.{Data, Frame}
 use Rattle.theory.specs.Entry.{flags_of, pieces_of}
 use Rattle.theory.specs.Bytes.{Identity}
 use Rattle.theory.proofs.Cuts.{long_cuts, short_cuts}
@@ -38,9 +38,9 @@ pub last_filled : (v w : Pass) (first : Bool) (p : ℕ) (rest : List ℕ) → le
 last_filled v w first p rest low fills front behind parts =
     let cuts : cuts_of (geometry_of v) (length rest) ≡ (32 + length rest) ∷ [] = short_cuts (geometry_of v) (length rest) low ∙ ap (λ (n : ℕ). n ∷ []) (let g : length rest + 32 ≡ 32 + length rest = omega arith in g) in
     let body : pieces_of first (cuts_of (geometry_of v) (length rest)) rest ≡ Data (frame_flags first true) rest ∷ [] =
-        ap (λ (cs : List ℕ). pieces_of first cs rest) cuts
-        ∙ ap (λ (xs : List ℕ). Data (flags_of first []) xs ∷ []) (take_all (32 + length rest - 32) rest (omega arith))
-        ∙ ap (λ (n : ℕ). Data n rest ∷ []) (sym (last_flags first)) in
+    ap (λ (cs : List ℕ). pieces_of first cs rest) cuts
+    ∙ ap (λ (xs : List ℕ). Data (flags_of first []) xs ∷ []) (take_all (32 + length rest - 32) rest (omega arith))
+    ∙ ap (λ (n : ℕ). Data n rest ∷ []) (sym (last_flags first)) in
     fills front behind (parts ∙ ap (λ (cs : List ℕ). front ++ (blanks p cs ++ behind)) cuts)
     ∙ ap (λ (fs : List Frame). with_work (v.work.frames ++ frames_at v.identity p fs) (front ++ behind) v) (sym body)
 

@@ -1,11 +1,11 @@
 -- A claim whose frames are written, and one of one frame.
-use Rattle.std.proofs.Common.{◌≡◌, ℕ, ◌+◌, ◌-◌, ◌*◌, ◌≤◌, true, List, [], ◌∷◌, ◌++◌, length, append-nil, sym, refl, ap, ◌∙◌, subst, arith}
+use Rattle.std.proofs.Common.{◌≡◌, ℕ, ◌+◌, ◌≤◌, true, List, [], ◌∷◌, ◌++◌, length, append-nil, sym, ap, ◌∙◌, subst, arith}
 use Rattle.theory.specs.Bytes.{Identity}
-use Rattle.theory.specs.Position.{Geometry, cuts_of, framed_length, max_payload}
+use Rattle.theory.specs.Position.{cuts_of, framed_length, max_payload}
 use Rattle.theory.proofs.Cuts.{short_cuts}
 use Rattle.word_calls.specs.declared.pass.FrameWords.{FrameWords}
 use Rattle.word_calls.specs.declared.pass.Pass.{Pass}
-use Rattle.word_calls.specs.Steps.{blank, blanks, geometry_of, start_in, with_work, works}
+use Rattle.word_calls.specs.Steps.{blanks, geometry_of, with_work, works}
 use Rattle.word_calls.specs.Frames.{message_frames}
 use Rattle.word_calls.specs.Claims.{Claimed, padding_words}
 use Rattle.word_calls.specs.Offers.{FillsAll, HasBlanks, Offered, Opened}

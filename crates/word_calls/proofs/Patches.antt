@@ -1,11 +1,11 @@
 -- Words that are stored one after the other in an open frame.
-use Rattle.std.proofs.Common.{◌≡◌, ℕ, zero, suc, ◌+◌, ◌-◌, ◌*◌, ◌/◌, ◌<◌, ◌≤◌, List, [], ◌∷◌, ◌++◌, length, set, replicate, length-set, length-append, sym, refl, ap, ◌∙◌, subst, arith}
+use Rattle.std.proofs.Common.{◌≡◌, ℕ, zero, suc, ◌+◌, ◌-◌, ◌*◌, ◌/◌, ◌<◌, ◌≤◌, List, [], ◌∷◌, ◌++◌, length, set, replicate, length-set, length-append, sym, refl, ap, ◌∙◌, arith}
 use Rattle.std.proofs.lemmas.List.{length-replicate}
 use Rattle.theory.specs.Position.{aligned}
 use Rattle.theory.specs.Placed.{Frame, frame_length}
 use Rattle.word_calls.specs.declared.pass.FrameWords.{FrameWords}
 use Rattle.word_calls.specs.declared.pass.Pass.{Pass}
-use Rattle.word_calls.specs.Steps.{BeginsFrame, Commits, HasWord, Stores, blank, frame, with_work, written}
+use Rattle.word_calls.specs.Steps.{BeginsFrame, Commits, HasWord, Stores, frame, with_work, written}
 use Rattle.word_calls.specs.Frames.{frame_words}
 use Rattle.word_calls.specs.Claims.{Fills, HasBlank}
 use Rattle.word_calls.specs.Offers.{HasRoom, Puts, patch}
@@ -48,7 +48,7 @@ puts_more v w y p k q x xs one puts at told front words behind parts room =
     let long : length (xs ++ x ∷ []) ≡ length xs + 1 = length-append xs (x ∷ []) in
     let e : w ≡ with_work v.work.frames (front ++ frame p (patch words k xs) ∷ behind) v = puts front words behind parts (omega (arith, long)) in
     let f : y ≡ with_work w.work.frames (front ++ written (frame p (patch words k xs)) (k + length xs) x ∷ behind) w =
-        told front (frame p (patch words k xs)) behind (k + length xs) (ap (λ (u : Pass). u.work.drafts) e) (omega arith) (omega (arith, long, patch_length words k xs)) at in
+    told front (frame p (patch words k xs)) behind (k + length xs) (ap (λ (u : Pass). u.work.drafts) e) (omega arith) (omega (arith, long, patch_length words k xs)) at in
     f
     ∙ ap (λ (u : Pass). with_work u.work.frames (front ++ frame p (set (patch words k xs) (k + length xs) x) ∷ behind) u) e
     ∙ ap (λ (l : List ℕ). with_work v.work.frames (front ++ frame p l ∷ behind) v) (sym (patch_snoc words k xs x))
@@ -98,9 +98,9 @@ filled v w x y p first m f b c d ps long short words one two told front behind p
     let e0 : v.work.drafts ≡ front ++ frame p (0 ∷ 0 ∷ 0 ∷ 0 ∷ replicate m 0) ∷ behind = parts ∙ ap (λ (n : ℕ). front ++ frame p (replicate n 0) ∷ behind) long in
     let e1 : w ≡ with_work v.work.frames (front ++ frame p (patch zs 1 (b ∷ c ∷ d ∷ [])) ∷ behind) v = one front zs behind e0 (omega (arith, size)) in
     let e2 : x ≡ with_work w.work.frames (front ++ frame p (patch (patch zs 1 (b ∷ c ∷ d ∷ [])) 4 ps) ∷ behind) w =
-        two front (patch zs 1 (b ∷ c ∷ d ∷ [])) behind (ap (λ (u : Pass). u.work.drafts) e1) (omega (arith, size, patch_length zs 1 (b ∷ c ∷ d ∷ []))) in
+    two front (patch zs 1 (b ∷ c ∷ d ∷ [])) behind (ap (λ (u : Pass). u.work.drafts) e1) (omega (arith, size, patch_length zs 1 (b ∷ c ∷ d ∷ []))) in
     let e3 : y ≡ with_work (x.work.frames ++ written (frame p (patch (patch zs 1 (b ∷ c ∷ d ∷ [])) 4 ps)) 0 first ∷ []) (front ++ behind) x =
-        told front (frame p (patch (patch zs 1 (b ∷ c ∷ d ∷ [])) 4 ps)) behind (ap (λ (u : Pass). u.work.drafts) e2) (omega (arith, size, patch_length zs 1 (b ∷ c ∷ d ∷ []), patch_length (patch zs 1 (b ∷ c ∷ d ∷ [])) 4 ps)) refl in
+    told front (frame p (patch (patch zs 1 (b ∷ c ∷ d ∷ [])) 4 ps)) behind (ap (λ (u : Pass). u.work.drafts) e2) (omega (arith, size, patch_length zs 1 (b ∷ c ∷ d ∷ []), patch_length (patch zs 1 (b ∷ c ∷ d ∷ [])) 4 ps)) refl in
     let all : set (patch (patch zs 1 (b ∷ c ∷ d ∷ [])) 4 ps) 0 first ≡ frame_words v.identity p f = patch_all first b c d m ps short ∙ sym words in
     e3
     ∙ ap (λ (u : Pass). with_work (u.work.frames ++ frame p (set (patch (patch zs 1 (b ∷ c ∷ d ∷ [])) 4 ps) 0 first) ∷ []) (front ++ behind) u) e2

@@ -1,8 +1,7 @@
 -- A claim's answer, by what the pass saw and what its addition gave.
-use Rattle.std.proofs.Common.{◌≡◌, ℕ, zero, suc, ◌+◌, ◌-◌, ◌*◌, ◌/◌, ◌%◌, ◌^◌, ◌<◌, ◌≤◌, ◌⊎◌, inl, inr, ⊎_elim, true, false, List, [], ◌∷◌, ◌++◌, length, append_assoc, length-append, sym, refl, ap, ◌∙◌, subst, arith}
+use Rattle.std.proofs.Common.{◌≡◌, ℕ, ◌%◌, inl, inr, List, [], ◌∷◌, ◌++◌, refl, ap, ◌∙◌, subst, arith}
 use Rattle.theory.specs.Position.{framed_length}
 use Rattle.theory.specs.Refusal.{IsLast, IsNotLast}
-use Rattle.theory.specs.Words.{offset_in}
 use Rattle.word_calls.specs.declared.pass.Pass.{Pass}
 use Rattle.word_calls.specs.declared.refusal.Refusal.{Refusal}
 use Rattle.word_calls.specs.declared.refusal.Refusal.TheVariants.{NotConnected, BackPressured, AdminAction, Closed, MaxPositionExceeded}
@@ -10,8 +9,8 @@ use Rattle.word_calls.specs.declared.looking.Look.{Look}
 use Rattle.word_calls.specs.declared.looking.Look.TheVariants as looks
 use Rattle.word_calls.specs.declared.step.WordStep.{WordStep}
 use Rattle.word_calls.specs.declared.step.WordStep.TheVariants as steps
-use Rattle.word_calls.specs.Steps.{Keeps, count_in, geometry_of, seeing, term_of}
-use Rattle.word_calls.specs.Claims.{Cause, Claimed, Justified, Leaves, LeavesPadding, Refused, Turns, additions}
+use Rattle.word_calls.specs.Steps.{Keeps, geometry_of, seeing}
+use Rattle.word_calls.specs.Claims.{Cause, Claimed, Justified, Leaves, Refused, Turns, additions}
 use Rattle.word_calls.specs.Looks.{EndsTerm, Granted, Looked, LookedAt, Tripping}
 
 pub keeps : (p q r : Pass) → Keeps p q → Keeps q r → Keeps p r

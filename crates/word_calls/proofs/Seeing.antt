@@ -1,14 +1,14 @@
 -- What the loads of the limit, the count and its tail show.
-use Rattle.std.proofs.Common.{◌≡◌, ℕ, suc, ◌+◌, ◌-◌, ◌*◌, ◌/◌, ◌%◌, ◌^◌, ◌<◌, ◌≤◌, true, false, List, [], ◌∷◌, ◌++◌, length, sym, refl, ap, ◌∙◌, subst, arith}
+use Rattle.std.proofs.Common.{◌≡◌, ℕ, ◌%◌, ◌<◌, ◌≤◌, true, false, List, [], ◌∷◌, ◌++◌, refl, ap, ◌∙◌, subst}
 use Rattle.theory.specs.Refusal.{is_closed, is_connected, limit_in}
 use Rattle.theory.specs.Words.{offset_in}
 use Rattle.word_calls.specs.declared.pass.Pass.{Pass}
-use Rattle.word_calls.specs.declared.refusal.Refusal.TheVariants.{NotConnected, BackPressured, AdminAction, Closed, MaxPositionExceeded}
+use Rattle.word_calls.specs.declared.refusal.Refusal.TheVariants.{NotConnected, BackPressured, AdminAction}
 use Rattle.word_calls.specs.declared.looking.Look.{Look}
 use Rattle.word_calls.specs.declared.looking.Look.TheVariants as looks
 use Rattle.word_calls.specs.declared.step.WordStep.{WordStep}
 use Rattle.word_calls.specs.declared.step.WordStep.TheVariants as steps
-use Rattle.word_calls.specs.Steps.{Arms, Counts, IsTerm, Keeps, Names, Sees, geometry_of, noted, seeing, tail_step, term_of, with_armed, with_count, with_full, with_limit}
+use Rattle.word_calls.specs.Steps.{Arms, Counts, IsTerm, Keeps, Names, Sees, noted, term_of, with_armed, with_count, with_full, with_limit}
 use Rattle.word_calls.specs.Claims.{Shut, position_in}
 use Rattle.word_calls.specs.Looks.{LookCause, LookedAt}
 use Rattle.word_calls.proofs.Adding.{keeps_by}

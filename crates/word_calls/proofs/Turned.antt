@@ -1,5 +1,5 @@
 -- The steps of a turn.
-use Rattle.std.proofs.Common.{◌≡◌, ◌≢◌, ℕ, suc, ◌+◌, ◌-◌, ◌%◌, ◌^◌, ◌<◌, ◌≤◌, ◌⊎◌, Bool, true, false, cond, List, [], ◌∷◌, ◌++◌, length, length-append, append_assoc, append-nil, sym, refl, ap, ◌∙◌, subst, arith}
+use Rattle.std.proofs.Common.{◌≡◌, ◌≢◌, ℕ, ◌+◌, ◌%◌, ◌<◌, ◌≤◌, ◌⊎◌, Bool, true, false, cond, List, [], ◌∷◌, ◌++◌, length, length-append, append_assoc, refl, ap, ◌∙◌, arith}
 use Rattle.std.specs.List.{filter}
 use Rattle.std.specs.Prelude.{ℤ, ◌≤ℤ◌, ◌<ℤ◌}
 use Rattle.std.proofs.Common.{inl, inr, ⊎_elim, ◌*◌}
@@ -11,8 +11,8 @@ use Rattle.theory.specs.Words.{id_in, offset_in}
 use Rattle.word_calls.specs.declared.pass.Pass.{Pass}
 use Rattle.word_calls.specs.declared.step.WordStep.{WordStep}
 use Rattle.word_calls.specs.declared.step.WordStep.TheVariants as steps
-use Rattle.word_calls.specs.Steps.{Advances, Arms, Counts, Keeps, Names, Nexts, Rotates, Sees, noted, seeing, tail_step, term_of, with_begun}
-use Rattle.word_calls.specs.Claims.{Notes, Turns, additions, count_exchanges, exchanges_count, exchanges_tail, is_addition, tail_exchanges}
+use Rattle.word_calls.specs.Steps.{Advances, Arms, Counts, Keeps, Names, Nexts, Rotates, Sees, noted, tail_step, term_of, with_begun}
+use Rattle.word_calls.specs.Claims.{Notes, additions, count_exchanges, exchanges_count, exchanges_tail, is_addition, tail_exchanges}
 use Rattle.word_calls.proofs.Adding.{keeps_by}
 use Rattle.word_calls.proofs.Refusing.{keeps}
 

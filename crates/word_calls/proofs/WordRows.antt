@@ -1,12 +1,12 @@
 -- Computed rows: the words of frames, what tails say, and a whole claim.
-use Rattle.std.proofs.Common.{◌≡◌, ℕ, suc, ◌+◌, ◌-◌, ◌*◌, ◌/◌, ◌%◌, ◌^◌, ◌<◌, ◌≤◌, List, [], ◌∷◌, ◌++◌, take, true, false, refl, lit<, lit≤, arith}
-use Rattle.std.specs.Prelude.{pos, negsuc}
+use Rattle.std.proofs.Common.{◌≡◌, [], ◌∷◌, take, refl, lit<, lit≤, arith}
+use Rattle.std.specs.Prelude.{pos}
 use Rattle.theory.specs.Bytes.{Identity}
 use Rattle.theory.specs.Placed.{Data, Pad}
-use Rattle.theory.specs.Position.{Geometry, framed_length}
+use Rattle.theory.specs.Position.{Geometry}
 use Rattle.word_calls.specs.declared.pass.Pass.{Pass}
 use Rattle.word_calls.specs.declared.step.WordStep.TheVariants as steps
-use Rattle.word_calls.specs.Steps.{Adds, Arms, Commits, Counts, Keeps, Sees, Stores, addition, count_in, disarmed, geometry_of, message_at, noted, opened, padding_at, start_in, tail_step, with_armed, with_count, with_full, with_limit, with_work}
+use Rattle.word_calls.specs.Steps.{Adds, Arms, Counts, Sees, addition, count_in, message_at, noted, opened, start_in, tail_step, with_armed, with_count, with_limit}
 use Rattle.word_calls.specs.Frames.{frame_words, stored_words}
 use Rattle.word_calls.specs.Claims.{Claimed}
 

@@ -1,6 +1,6 @@
 -- Bytes as words of eight.
-use Rattle.std.proofs.Common.{◌≡◌, ℕ, zero, suc, ◌+◌, ◌-◌, ◌*◌, ◌/◌, ◌%◌, ◌<◌, ◌≤◌, ⊎_elim, List, [], ◌∷◌, ◌++◌, length, take, drop, get_or, replicate, length-drop, length-append, sym, refl, ap, ◌∙◌, subst, arith}
-use Rattle.std.specs.Prelude.{slice_range, Bool, cond}
+use Rattle.std.proofs.Common.{◌≡◌, ℕ, zero, suc, ◌+◌, ◌-◌, ◌*◌, ◌/◌, ◌<◌, ◌≤◌, ⊎_elim, List, [], ◌∷◌, ◌++◌, length, take, drop, get_or, replicate, length-drop, length-append, sym, refl, ap, ◌∙◌, arith}
+use Rattle.std.specs.Prelude.{slice_range}
 use Rattle.std.specs.Int.{w64, from_le_bytes, to_le_bytes, sum_through, byte_worth}
 use Rattle.std.specs.List.{flat_map}
 use Rattle.std.proofs.Common.{inl, inr, ◌⊎◌, append_assoc}
@@ -82,9 +82,9 @@ data_words i p flags m payload long fit =
     let size : length (payload_words payload) ≡ (length payload + 7) / 8 = words_length ((length payload + 7) / 8) payload in
     ap (λ (n : ℕ). words_in n h) long
     ∙ ap (λ (l : List ℕ). from_le_bytes w64 (front (32 + length payload) flags 1) ∷ (header_words i p ++ l))
-        (words_same m (payload ++ zeros_after (32 + length payload)) payload (zeros_behind payload (aligned (32 + length payload) - (32 + length payload)))
-        ∙ words_rest k m payload (omega arith) fit
-        ∙ ap (λ (n : ℕ). payload_words payload ++ replicate {A = ℕ} n 0) (let g : m - (length payload + 7) / 8 ≡ m - length (payload_words payload) = omega (arith, size) in g))
+    (words_same m (payload ++ zeros_after (32 + length payload)) payload (zeros_behind payload (aligned (32 + length payload) - (32 + length payload)))
+    ∙ words_rest k m payload (omega arith) fit
+    ∙ ap (λ (n : ℕ). payload_words payload ++ replicate {A = ℕ} n 0) (let g : m - (length payload + 7) / 8 ≡ m - length (payload_words payload) = omega (arith, size) in g))
 
 pub pad_words : (i : Identity) (p n m : ℕ) → aligned n / 8 ≡ suc (suc (suc (suc m))) → frame_words i p (Pad n) ≡ from_le_bytes w64 (front n 192 0) ∷ (header_words i p ++ ([] ++ replicate (m - 0) 0))
 unfolding frame_words

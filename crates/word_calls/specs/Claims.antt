@@ -1,5 +1,5 @@
 -- What a claim is answered, by the words that its pass saw.
-use Rattle.std.specs.Prelude.{◌≡◌, ℕ, suc, ◌+◌, ◌-◌, ◌*◌, ◌%◌, ◌^◌, ◌<◌, ◌≤◌, ◌⊎◌, Bool, true, false, List, [], ◌∷◌, ◌++◌, length}
+use Rattle.std.specs.Prelude.{◌≡◌, ℕ, ◌+◌, ◌-◌, ◌*◌, ◌%◌, ◌<◌, ◌≤◌, ◌⊎◌, Bool, true, false, List, [], ◌∷◌, ◌++◌, length}
 use Rattle.std.specs.List.{filter}
 use Rattle.theory.specs.Position.{framed_length, max_position}
 use Rattle.theory.specs.Placed.{Frame, Pad, frame_length}
@@ -11,8 +11,6 @@ use Rattle.word_calls.specs.declared.step.WordStep.{WordStep}
 use Rattle.word_calls.specs.declared.step.WordStep.TheVariants as steps
 use Rattle.word_calls.specs.declared.refusal.Refusal.{Refusal}
 use Rattle.word_calls.specs.declared.refusal.Refusal.TheVariants.{NotConnected, BackPressured, AdminAction, Closed, MaxPositionExceeded}
-use Rattle.word_calls.specs.declared.looking.Look.{Look}
-use Rattle.word_calls.specs.declared.looking.Look.TheVariants as looks
 use Rattle.word_calls.specs.Steps.{IsTerm, Keeps, Names, blank, count_in, geometry_of, message_at, opened, padding_at, start_in, term_of, with_work}
 use Rattle.word_calls.specs.Frames.{frame_at}
 

@@ -7,8 +7,6 @@ use Rattle.theory.specs.Words.{id_in, offset_in}
 use Rattle.word_calls.specs.declared.pass.ClaimRange.{ClaimRange}
 use Rattle.word_calls.specs.declared.pass.FrameWords.{FrameWords}
 use Rattle.word_calls.specs.declared.pass.Pass.{Pass}
-use Rattle.word_calls.specs.declared.pass.Right.{Right}
-use Rattle.word_calls.specs.declared.pass.Seen.{Seen}
 use Rattle.word_calls.specs.declared.pass.Work.{Work}
 use Rattle.word_calls.specs.declared.step.WordStep.{WordStep}
 use Rattle.word_calls.specs.declared.step.WordStep.TheVariants as steps

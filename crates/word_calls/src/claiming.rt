@@ -16,11 +16,7 @@ use crate::writing::write_padding;
 /// Claims a range for a message of `size` bytes at the tail, or says why there is none. The range's frames are open then,
 /// and nothing of them is stored. Where the message didn't fit the rest of its term, a committed padding up to the term's
 /// end is left.
-pub fn claim<W: WordCalls>(
-    words: &mut W,
-    pass: &mut W::Pass,
-    size: u32,
-) -> Result<u64, Refusal>
+pub fn claim<W: WordCalls>(words: &mut W, pass: &mut W::Pass, size: u32) -> Result<u64, Refusal>
     requires fits { W.fits words.old pass.old }
     requires short { size ≤ max_message (W.pass_of words.old pass.old).identity.geometry }
     ensures moved { Moved W.fits W.pass_of W.name W.id words.old pass.old words.new pass.new }

@@ -45,11 +45,7 @@ pub fn offer<W: WordCalls>(
 /// Claims a range for a message of `size` bytes, up to the greatest payload of a frame; the answer is its start. It is
 /// accepted where an offer of such a message would be, and refused as that is. The claim has to be ended by `commit` or
 /// `abort`.
-pub fn try_claim<W: WordCalls>(
-    words: &mut W,
-    pass: &mut W::Pass,
-    size: u32,
-) -> Result<u64, Refusal>
+pub fn try_claim<W: WordCalls>(words: &mut W, pass: &mut W::Pass, size: u32) -> Result<u64, Refusal>
     requires fits { W.fits words.old pass.old }
     requires short { size ≤ max_payload (W.pass_of words.old pass.old).identity.geometry }
     ensures moved { Moved W.fits W.pass_of W.name W.id words.old pass.old words.new pass.new }
@@ -64,12 +60,7 @@ pub fn try_claim<W: WordCalls>(
 }
 
 /// Commits an open claim of one frame with its message. The answer is the position behind it.
-pub fn commit<W: WordCalls>(
-    words: &mut W,
-    pass: &mut W::Pass,
-    start: u64,
-    message: &[u8],
-) -> u64
+pub fn commit<W: WordCalls>(words: &mut W, pass: &mut W::Pass, start: u64, message: &[u8]) -> u64
     requires fits { W.fits words.old pass.old }
     requires short { length message.now ≤ max_payload (W.pass_of words.old pass.old).identity.geometry }
     requires in_stream { start + aligned (32 + length message.now) ≤ max_position (W.pass_of words.old pass.old).identity.geometry }

@@ -1,4 +1,4 @@
-use Rattle.std.proofs.Common.{◌≡◌, ℕ, suc, ◌+◌, ◌-◌, ◌*◌, ◌<◌, ◌≤◌, arith, rules, refl, sym, ap, ◌∙◌, subst, length, List, ◌++◌, ◌∷◌, []}
+use Rattle.std.proofs.Common.{◌≡◌, ℕ, suc, ◌+◌, ◌*◌, ◌<◌, ◌≤◌, arith, sym, ap, ◌∙◌, subst, length, List}
 use Rattle.theory.specs.Bytes.{Identity}
 use Rattle.theory.specs.Position.{Geometry, framed_length}
 use Rattle.theory.specs.Words.{offset_in}
@@ -22,7 +22,7 @@ returns-then-offset-covered-clause-took g c =
     let e : (g.W.WordCalls.pass_of c.add-word.new.self c.add-word.new.pass) ≡ noted (addition (g.W.WordCalls.pass_of c.args.words.now c.args.pass.now) c.args.size c.add-word.result) (opened (g.W.WordCalls.pass_of c.args.words.now c.args.pass.now) (message_at (g.W.WordCalls.pass_of c.args.words.now c.args.pass.now) c.add-word.result c.args.size)) = c.add-word.ensures.told.fits inside in
     let frames : length (g.W.WordCalls.pass_of c.add-word.new.self c.add-word.new.pass).work.frames ≡ length (g.W.WordCalls.pass_of c.args.words.now c.args.pass.now).work.frames = ap (λ (u : Pass). length u.work.frames) e in
     subst (λ (n : ℕ). TookMore g.W.WordCalls.took g.W.WordCalls.pass_of c.args.words.now c.args.pass.now c.add-word.new.self c.add-word.new.pass n) (let z : 0 ≡ padding_words (g.W.WordCalls.pass_of c.args.words.now c.args.pass.now) (g.W.WordCalls.pass_of c.add-word.new.self c.add-word.new.pass) = omega (arith, frames) in z)
-        (took_call g.W.WordCalls.took g.W.WordCalls.pass_of _ _ _ _ _ c.add-word.ensures.took (ap (λ (u : Pass). u.call) e))
+    (took_call g.W.WordCalls.took g.W.WordCalls.pass_of _ _ _ _ _ c.add-word.ensures.took (ap (λ (u : Pass). u.call) e))
 
 pub returns-then-offset-covered-clause-accepted : goal.returns-then-offset-covered-clause-accepted
 returns-then-offset-covered-clause-accepted g c =
@@ -33,7 +33,7 @@ returns-then-offset-covered-clause-accepted g c =
     let found : c.term_count-found.result ≡ count_in (geometry_of (g.W.WordCalls.pass_of c.args.words.now c.args.pass.now)) c.add-word.result = c.term_count-found.ensures ∙ ap (λ (h : Geometry). count_in h c.add-word.result) geometry in
     let inside : offset_in c.add-word.result + framed_length (geometry_of (g.W.WordCalls.pass_of c.args.words.now c.args.pass.now)) c.args.size ≤ (geometry_of (g.W.WordCalls.pass_of c.args.words.now c.args.pass.now)).term_length = omega (arith, covered, offset, term, c.if-offset-covered.true) in
     let from : c.position_at.result ≡ start_in (geometry_of (g.W.WordCalls.pass_of c.args.words.now c.args.pass.now)) c.add-word.result =
-        c.position_at.ensures ∙ ap (λ (h : Geometry). c.term_count-found.result * h.term_length + c.term_offset-offset.result) geometry ∙ ap (λ (n : ℕ). n * (geometry_of (g.W.WordCalls.pass_of c.args.words.now c.args.pass.now)).term_length + c.term_offset-offset.result) found ∙ ap (λ (n : ℕ). count_in (geometry_of (g.W.WordCalls.pass_of c.args.words.now c.args.pass.now)) c.add-word.result * (geometry_of (g.W.WordCalls.pass_of c.args.words.now c.args.pass.now)).term_length + n) offset in
+    c.position_at.ensures ∙ ap (λ (h : Geometry). c.term_count-found.result * h.term_length + c.term_offset-offset.result) geometry ∙ ap (λ (n : ℕ). n * (geometry_of (g.W.WordCalls.pass_of c.args.words.now c.args.pass.now)).term_length + c.term_offset-offset.result) found ∙ ap (λ (n : ℕ). count_in (geometry_of (g.W.WordCalls.pass_of c.args.words.now c.args.pass.now)) c.add-word.result * (geometry_of (g.W.WordCalls.pass_of c.args.words.now c.args.pass.now)).term_length + n) offset in
     granted (g.W.WordCalls.pass_of c.args.words.now c.args.pass.now) (g.W.WordCalls.pass_of c.add-word.new.self c.add-word.new.pass) c.args.size c.add-word.result c.add-word.ensures.told c.args.count c.position_at.result c.requires.count inside from
 
 pub turn_from-requires-clause-full : goal.turn_from-requires-clause-full
@@ -57,11 +57,11 @@ returns-clause-took g c =
     let before : length (g.W.WordCalls.pass_of c.add-word.new.self c.add-word.new.pass).work.frames ≡ length (g.W.WordCalls.pass_of c.args.words.now c.args.pass.now).work.frames = ap (λ (fs : List FrameWords). length fs) (tripped_frames (g.W.WordCalls.pass_of c.args.words.now c.args.pass.now) (g.W.WordCalls.pass_of c.add-word.new.self c.add-word.new.pass) c.args.size c.add-word.result c.add-word.ensures.told over) in
     let after : length (g.W.WordCalls.pass_of c.turn_from.new.words c.turn_from.new.pass).work.frames ≡ length (g.W.WordCalls.pass_of c.pad.new.words c.pad.new.pass).work.frames = ap (λ (u : Pass). length u.work.frames) c.turn_from.ensures.turns.after in
     took_more g.W.WordCalls.took g.W.WordCalls.pass_of g.met.W.WordCalls.more _ _ _ _ _ _ (padding_words (g.W.WordCalls.pass_of c.add-word.new.self c.add-word.new.pass) (g.W.WordCalls.pass_of c.pad.new.words c.pad.new.pass)) 0 (padding_words (g.W.WordCalls.pass_of c.args.words.now c.args.pass.now) (g.W.WordCalls.pass_of c.turn_from.new.words c.turn_from.new.pass))
-        (took_more g.W.WordCalls.took g.W.WordCalls.pass_of g.met.W.WordCalls.more _ _ _ _ _ _ 0 (padding_words (g.W.WordCalls.pass_of c.add-word.new.self c.add-word.new.pass) (g.W.WordCalls.pass_of c.pad.new.words c.pad.new.pass)) (padding_words (g.W.WordCalls.pass_of c.add-word.new.self c.add-word.new.pass) (g.W.WordCalls.pass_of c.pad.new.words c.pad.new.pass))
-            (took_call g.W.WordCalls.took g.W.WordCalls.pass_of _ _ _ _ _ c.add-word.ensures.took (tripped_call (g.W.WordCalls.pass_of c.args.words.now c.args.pass.now) (g.W.WordCalls.pass_of c.add-word.new.self c.add-word.new.pass) c.args.size c.add-word.result c.add-word.ensures.told over))
-            c.pad.ensures.took (omega arith))
-        c.turn_from.ensures.took
-        (omega (arith, before, after))
+    (took_more g.W.WordCalls.took g.W.WordCalls.pass_of g.met.W.WordCalls.more _ _ _ _ _ _ 0 (padding_words (g.W.WordCalls.pass_of c.add-word.new.self c.add-word.new.pass) (g.W.WordCalls.pass_of c.pad.new.words c.pad.new.pass)) (padding_words (g.W.WordCalls.pass_of c.add-word.new.self c.add-word.new.pass) (g.W.WordCalls.pass_of c.pad.new.words c.pad.new.pass))
+    (took_call g.W.WordCalls.took g.W.WordCalls.pass_of _ _ _ _ _ c.add-word.ensures.took (tripped_call (g.W.WordCalls.pass_of c.args.words.now c.args.pass.now) (g.W.WordCalls.pass_of c.add-word.new.self c.add-word.new.pass) c.args.size c.add-word.result c.add-word.ensures.told over))
+    c.pad.ensures.took (omega arith))
+    c.turn_from.ensures.took
+    (omega (arith, before, after))
 
 pub returns-clause-refused : goal.returns-clause-refused
 returns-clause-refused g c =

@@ -1,4 +1,4 @@
-use Rattle.std.proofs.Common.{◌≡◌, ℕ, ◌+◌, ◌-◌, ◌*◌, arith, refl, ap, length}
+use Rattle.std.proofs.Common.{◌≡◌, arith, ap, length}
 use Rattle.std.proofs.lemmas.Result.{IfErr-weaker}
 use Rattle.word_calls.specs.declared.pass.Pass.{Pass}
 use Rattle.word_calls.specs.declared.refusal.Refusal.{Refusal}
@@ -22,4 +22,4 @@ returns-in-Open-clause-took g c =
 pub returns-in-Open-clause-refused : goal.returns-in-Open-clause-refused
 returns-in-Open-clause-refused g c =
     IfErr-weaker c.add_range.result (λ (why : Refusal). Tripping (g.W.WordCalls.pass_of c.look_at.new.words c.look_at.new.pass) c.in-Open.count c.args.size why (g.W.WordCalls.pass_of c.add_range.new.words c.add_range.new.pass)) (λ (why : Refusal). Justified (g.W.WordCalls.pass_of c.args.words.now c.args.pass.now) c.args.size why (g.W.WordCalls.pass_of c.add_range.new.words c.add_range.new.pass))
-        (λ why t. refused_tripping (g.W.WordCalls.pass_of c.args.words.now c.args.pass.now) c.args.size (g.W.WordCalls.pass_of c.look_at.new.words c.look_at.new.pass) (g.W.WordCalls.pass_of c.add_range.new.words c.add_range.new.pass) why c.in-Open.count c.in-Open.ensures.looked t) c.add_range.ensures.refused
+    (λ why t. refused_tripping (g.W.WordCalls.pass_of c.args.words.now c.args.pass.now) c.args.size (g.W.WordCalls.pass_of c.look_at.new.words c.look_at.new.pass) (g.W.WordCalls.pass_of c.add_range.new.words c.add_range.new.pass) why c.in-Open.count c.in-Open.ensures.looked t) c.add_range.ensures.refused

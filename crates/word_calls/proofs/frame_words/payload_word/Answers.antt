@@ -1,4 +1,4 @@
-use Rattle.std.proofs.Common.{ℕ, ◌-◌, length, ap, ◌∙◌}
+use Rattle.std.proofs.Common.{◌-◌, length, ap, ◌∙◌}
 use Rattle.std.specs.Int.{w64, from_le_bytes}
 use Rattle.word_calls.proofs.Wordings.{word_same, zeros_behind}
 use Rattle.std.specs.Prelude.{replicate, ◌++◌}

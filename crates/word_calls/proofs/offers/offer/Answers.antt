@@ -1,9 +1,8 @@
-use Rattle.std.proofs.Common.{◌≡◌, ℕ, ◌+◌, arith, rules, refl, sym, ap, ◌∙◌, length, List, IfErr}
+use Rattle.std.proofs.Common.{◌≡◌, ℕ, ◌+◌, arith, rules, refl, ap, ◌∙◌, length, List, IfErr}
 use Rattle.std.proofs.lemmas.Result.{IfErr-weaker}
 use Rattle.theory.specs.Bytes.{Identity}
 use Rattle.theory.specs.Position.{Geometry, cuts_of, framed_length}
 use Rattle.theory.specs.Refusal.{IsJustified}
-use Rattle.word_calls.specs.declared.pass.Pass.{Pass}
 use Rattle.word_calls.specs.declared.refusal.Refusal.{Refusal}
 use Rattle.word_calls.specs.declared.step.WordStep.{WordStep}
 use Rattle.word_calls.specs.Steps.{geometry_of}
@@ -19,8 +18,8 @@ pub returns-in_err-start-clause-justified : goal.returns-in_err-start-clause-jus
 returns-in_err-start-clause-justified g c =
     let refused : IfErr c.from_residual.result (λ (why : Refusal). Justified (g.W.WordCalls.pass_of c.args.words.now c.args.pass.now) (length c.args.message.now) why (g.W.WordCalls.pass_of c.claim.new.words c.claim.new.pass)) = search rules in
     IfErr-weaker c.from_residual.result (λ (why : Refusal). Justified (g.W.WordCalls.pass_of c.args.words.now c.args.pass.now) (length c.args.message.now) why (g.W.WordCalls.pass_of c.claim.new.words c.claim.new.pass))
-        (λ (why : Refusal). IsJustified (geometry_of (g.W.WordCalls.pass_of c.args.words.now c.args.pass.now)) (framed_length (geometry_of (g.W.WordCalls.pass_of c.args.words.now c.args.pass.now)) (length c.args.message.now)) (sights (g.W.WordCalls.pass_of c.claim.new.words c.claim.new.pass).call) (why_of why))
-        (λ why h. justified (g.W.WordCalls.pass_of c.args.words.now c.args.pass.now) (g.W.WordCalls.pass_of c.claim.new.words c.claim.new.pass) (length c.args.message.now) why h) refused
+    (λ (why : Refusal). IsJustified (geometry_of (g.W.WordCalls.pass_of c.args.words.now c.args.pass.now)) (framed_length (geometry_of (g.W.WordCalls.pass_of c.args.words.now c.args.pass.now)) (length c.args.message.now)) (sights (g.W.WordCalls.pass_of c.claim.new.words c.claim.new.pass).call) (why_of why))
+    (λ why h. justified (g.W.WordCalls.pass_of c.args.words.now c.args.pass.now) (g.W.WordCalls.pass_of c.claim.new.words c.claim.new.pass) (length c.args.message.now) why h) refused
 
 pub write_message-requires-clause-blanks : goal.write_message-requires-clause-blanks
 write_message-requires-clause-blanks g c = claimed_blanks (g.W.WordCalls.pass_of c.args.words.now c.args.pass.now) (g.W.WordCalls.pass_of c.claim.new.words c.claim.new.pass) (length c.args.message.now) c.in_ok-start.start c.in_ok-start.ensures.accepted
@@ -35,9 +34,9 @@ pub returns-clause-stored : goal.returns-clause-stored
 returns-clause-stored g c =
     let claimed = c.in_ok-start.ensures.accepted in
     took_all g.W.WordCalls.took g.W.WordCalls.pass_of g.met.W.WordCalls.more _ _ _ _ _ _ (padding_words (g.W.WordCalls.pass_of c.args.words.now c.args.pass.now) (g.W.WordCalls.pass_of c.claim.new.words c.claim.new.pass)) (stored_words (cuts_of (geometry_of (g.W.WordCalls.pass_of c.claim.new.words c.claim.new.pass)) (length c.args.message.now))) _ c.in_ok-start.ensures.took c.write_message.ensures.took
-        (ap (λ (n : ℕ). n + stored_words (cuts_of (geometry_of (g.W.WordCalls.pass_of c.claim.new.words c.claim.new.pass)) (length c.args.message.now))) (claimed_nothing (g.W.WordCalls.pass_of c.args.words.now c.args.pass.now) (g.W.WordCalls.pass_of c.claim.new.words c.claim.new.pass) (length c.args.message.now) c.in_ok-start.start claimed)
-        ∙ (let e : 0 + stored_words (cuts_of (geometry_of (g.W.WordCalls.pass_of c.claim.new.words c.claim.new.pass)) (length c.args.message.now)) ≡ stored_words (cuts_of (geometry_of (g.W.WordCalls.pass_of c.claim.new.words c.claim.new.pass)) (length c.args.message.now)) = omega arith in e)
-        ∙ ap (λ (i : Identity). stored_words (cuts_of i.geometry (length c.args.message.now))) (claimed_identity (g.W.WordCalls.pass_of c.args.words.now c.args.pass.now) (g.W.WordCalls.pass_of c.claim.new.words c.claim.new.pass) (length c.args.message.now) c.in_ok-start.start claimed))
+    (ap (λ (n : ℕ). n + stored_words (cuts_of (geometry_of (g.W.WordCalls.pass_of c.claim.new.words c.claim.new.pass)) (length c.args.message.now))) (claimed_nothing (g.W.WordCalls.pass_of c.args.words.now c.args.pass.now) (g.W.WordCalls.pass_of c.claim.new.words c.claim.new.pass) (length c.args.message.now) c.in_ok-start.start claimed)
+    ∙ (let e : 0 + stored_words (cuts_of (geometry_of (g.W.WordCalls.pass_of c.claim.new.words c.claim.new.pass)) (length c.args.message.now)) ≡ stored_words (cuts_of (geometry_of (g.W.WordCalls.pass_of c.claim.new.words c.claim.new.pass)) (length c.args.message.now)) = omega arith in e)
+    ∙ ap (λ (i : Identity). stored_words (cuts_of i.geometry (length c.args.message.now))) (claimed_identity (g.W.WordCalls.pass_of c.args.words.now c.args.pass.now) (g.W.WordCalls.pass_of c.claim.new.words c.claim.new.pass) (length c.args.message.now) c.in_ok-start.start claimed))
 
 pub returns-clause-few : goal.returns-clause-few
 returns-clause-few g c =

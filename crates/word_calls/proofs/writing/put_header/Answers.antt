@@ -21,18 +21,18 @@ store_word-requires-3-clause-inside g c = header_third (g.W.WordCalls.pass_of c.
 pub returns-clause-moved : goal.returns-clause-moved
 returns-clause-moved g c =
     moves g.W.WordCalls.fits g.W.WordCalls.pass_of g.W.WordCalls.name g.W.WordCalls.id _ _ _ _ _ _
-        (moves g.W.WordCalls.fits g.W.WordCalls.pass_of g.W.WordCalls.name g.W.WordCalls.id _ _ _ _ _ _ c.store_word.ensures.moved c.store_word-2.ensures.moved)
-        c.store_word-3.ensures.moved
+    (moves g.W.WordCalls.fits g.W.WordCalls.pass_of g.W.WordCalls.name g.W.WordCalls.id _ _ _ _ _ _ c.store_word.ensures.moved c.store_word-2.ensures.moved)
+    c.store_word-3.ensures.moved
 
 pub returns-clause-took : goal.returns-clause-took
 returns-clause-took g c =
     took_more g.W.WordCalls.took g.W.WordCalls.pass_of g.met.W.WordCalls.more _ _ _ _ _ _ 2 1 3
-        (took_more g.W.WordCalls.took g.W.WordCalls.pass_of g.met.W.WordCalls.more _ _ _ _ _ _ 1 1 2
-            (took_store g.W.WordCalls.took g.W.WordCalls.pass_of _ _ _ _ c.store_word.ensures.took (stores_call (g.W.WordCalls.pass_of c.args.words.now c.args.pass.now) (g.W.WordCalls.pass_of c.store_word.new.self c.store_word.new.pass) (c.args.start + 8) c.pair_word-first.result (header_first (g.W.WordCalls.pass_of c.args.words.now c.args.pass.now) (g.W.WordCalls.pass_of c.args.words.now c.args.pass.now) (g.W.WordCalls.pass_of c.args.words.now c.args.pass.now) (g.W.WordCalls.pass_of c.args.words.now c.args.pass.now) c.args.start c.pair_word-first.result c.pair_word-second.result 0 c.requires.room) c.store_word.ensures.told))
-            (took_store g.W.WordCalls.took g.W.WordCalls.pass_of _ _ _ _ c.store_word-2.ensures.took (stores_call (g.W.WordCalls.pass_of c.store_word.new.self c.store_word.new.pass) (g.W.WordCalls.pass_of c.store_word-2.new.self c.store_word-2.new.pass) (c.args.start + 16) c.pair_word-second.result (header_second (g.W.WordCalls.pass_of c.args.words.now c.args.pass.now) (g.W.WordCalls.pass_of c.store_word.new.self c.store_word.new.pass) (g.W.WordCalls.pass_of c.store_word.new.self c.store_word.new.pass) (g.W.WordCalls.pass_of c.store_word.new.self c.store_word.new.pass) c.args.start c.pair_word-first.result c.pair_word-second.result 0 c.requires.room c.store_word.ensures.told) c.store_word-2.ensures.told))
-            refl)
-        (took_store g.W.WordCalls.took g.W.WordCalls.pass_of _ _ _ _ c.store_word-3.ensures.took (stores_call (g.W.WordCalls.pass_of c.store_word-2.new.self c.store_word-2.new.pass) (g.W.WordCalls.pass_of c.store_word-3.new.self c.store_word-3.new.pass) (c.args.start + 24) 0 (header_third (g.W.WordCalls.pass_of c.args.words.now c.args.pass.now) (g.W.WordCalls.pass_of c.store_word.new.self c.store_word.new.pass) (g.W.WordCalls.pass_of c.store_word-2.new.self c.store_word-2.new.pass) (g.W.WordCalls.pass_of c.store_word-2.new.self c.store_word-2.new.pass) c.args.start c.pair_word-first.result c.pair_word-second.result 0 c.requires.room c.store_word.ensures.told c.store_word-2.ensures.told) c.store_word-3.ensures.told))
-        refl
+    (took_more g.W.WordCalls.took g.W.WordCalls.pass_of g.met.W.WordCalls.more _ _ _ _ _ _ 1 1 2
+    (took_store g.W.WordCalls.took g.W.WordCalls.pass_of _ _ _ _ c.store_word.ensures.took (stores_call (g.W.WordCalls.pass_of c.args.words.now c.args.pass.now) (g.W.WordCalls.pass_of c.store_word.new.self c.store_word.new.pass) (c.args.start + 8) c.pair_word-first.result (header_first (g.W.WordCalls.pass_of c.args.words.now c.args.pass.now) (g.W.WordCalls.pass_of c.args.words.now c.args.pass.now) (g.W.WordCalls.pass_of c.args.words.now c.args.pass.now) (g.W.WordCalls.pass_of c.args.words.now c.args.pass.now) c.args.start c.pair_word-first.result c.pair_word-second.result 0 c.requires.room) c.store_word.ensures.told))
+    (took_store g.W.WordCalls.took g.W.WordCalls.pass_of _ _ _ _ c.store_word-2.ensures.took (stores_call (g.W.WordCalls.pass_of c.store_word.new.self c.store_word.new.pass) (g.W.WordCalls.pass_of c.store_word-2.new.self c.store_word-2.new.pass) (c.args.start + 16) c.pair_word-second.result (header_second (g.W.WordCalls.pass_of c.args.words.now c.args.pass.now) (g.W.WordCalls.pass_of c.store_word.new.self c.store_word.new.pass) (g.W.WordCalls.pass_of c.store_word.new.self c.store_word.new.pass) (g.W.WordCalls.pass_of c.store_word.new.self c.store_word.new.pass) c.args.start c.pair_word-first.result c.pair_word-second.result 0 c.requires.room c.store_word.ensures.told) c.store_word-2.ensures.told))
+    refl)
+    (took_store g.W.WordCalls.took g.W.WordCalls.pass_of _ _ _ _ c.store_word-3.ensures.took (stores_call (g.W.WordCalls.pass_of c.store_word-2.new.self c.store_word-2.new.pass) (g.W.WordCalls.pass_of c.store_word-3.new.self c.store_word-3.new.pass) (c.args.start + 24) 0 (header_third (g.W.WordCalls.pass_of c.args.words.now c.args.pass.now) (g.W.WordCalls.pass_of c.store_word.new.self c.store_word.new.pass) (g.W.WordCalls.pass_of c.store_word-2.new.self c.store_word-2.new.pass) (g.W.WordCalls.pass_of c.store_word-2.new.self c.store_word-2.new.pass) c.args.start c.pair_word-first.result c.pair_word-second.result 0 c.requires.room c.store_word.ensures.told c.store_word-2.ensures.told) c.store_word-3.ensures.told))
+    refl
 
 pub returns-clause-puts : goal.returns-clause-puts
 returns-clause-puts g c =
@@ -45,6 +45,6 @@ returns-clause-puts g c =
     let session : c.cast_unsigned-session.result ≡ cast_unsigned w32 c.args.identity.now.session = c.cast_unsigned-session.ensures ∙ ap (cast_unsigned w32) (to_z-of_z w32 c.session.result session_fits) ∙ ap (cast_unsigned w32) c.session.ensures in
     let stream : c.cast_unsigned-stream.result ≡ cast_unsigned w32 c.args.identity.now.stream = c.cast_unsigned-stream.ensures ∙ ap (cast_unsigned w32) (to_z-of_z w32 c.stream.result stream_fits) ∙ ap (cast_unsigned w32) c.stream.ensures in
     let words : header_words c.args.identity.now c.args.start ≡ c.pair_word-first.result ∷ c.pair_word-second.result ∷ 0 ∷ [] =
-        header_is c.args.identity.now c.args.start c.term_of-place.result.offset c.cast_unsigned-session.result c.cast_unsigned-stream.result c.cast_unsigned.result offset session stream id
-        ∙ ap (λ (n : ℕ). n ∷ from_le_bytes w64 (to_le_bytes w32 c.cast_unsigned-stream.result ++ to_le_bytes w32 c.cast_unsigned.result) ∷ 0 ∷ []) (sym c.pair_word-first.ensures) ∙ ap (λ (n : ℕ). c.pair_word-first.result ∷ n ∷ 0 ∷ []) (sym c.pair_word-second.ensures) in
+    header_is c.args.identity.now c.args.start c.term_of-place.result.offset c.cast_unsigned-session.result c.cast_unsigned-stream.result c.cast_unsigned.result offset session stream id
+    ∙ ap (λ (n : ℕ). n ∷ from_le_bytes w64 (to_le_bytes w32 c.cast_unsigned-stream.result ++ to_le_bytes w32 c.cast_unsigned.result) ∷ 0 ∷ []) (sym c.pair_word-first.ensures) ∙ ap (λ (n : ℕ). c.pair_word-first.result ∷ n ∷ 0 ∷ []) (sym c.pair_word-second.ensures) in
     subst (λ (xs : List ℕ). Puts (g.W.WordCalls.pass_of c.args.words.now c.args.pass.now) c.args.start 1 xs (g.W.WordCalls.pass_of c.store_word-3.new.self c.store_word-3.new.pass)) (sym words) (header_put (g.W.WordCalls.pass_of c.args.words.now c.args.pass.now) (g.W.WordCalls.pass_of c.store_word.new.self c.store_word.new.pass) (g.W.WordCalls.pass_of c.store_word-2.new.self c.store_word-2.new.pass) (g.W.WordCalls.pass_of c.store_word-3.new.self c.store_word-3.new.pass) c.args.start c.pair_word-first.result c.pair_word-second.result 0 c.requires.room c.store_word.ensures.told c.store_word-2.ensures.told c.store_word-3.ensures.told)

@@ -1,11 +1,10 @@
-use Rattle.std.proofs.Common.{◌≡◌, ℕ, ◌+◌, ◌-◌, ◌*◌, ◌/◌, ◌<◌, ◌≤◌, arith, rules, refl, sym, ap, ◌∙◌, subst, length, List, [], ◌∷◌}
+use Rattle.std.proofs.Common.{◌≡◌, ℕ, ◌+◌, ◌/◌, ◌≤◌, arith, refl, sym, ap, ◌∙◌, subst, length}
 use Rattle.std.specs.Int.{w64, from_le_bytes}
 use Rattle.theory.specs.Wire.{front}
 use Rattle.theory.specs.Bytes.{Identity}
 use Rattle.theory.specs.Position.{max_position}
-use Rattle.word_calls.specs.Steps.{BeginsFrame}
 use Rattle.word_calls.specs.Frames.{header_words, payload_words}
-use Rattle.word_calls.specs.Offers.{HasRoom, Puts}
+use Rattle.word_calls.specs.Offers.{Puts}
 use Rattle.word_calls.proofs.Steppings.{moves, took_more, took_store}
 use Rattle.word_calls.proofs.Patches.{begins_after, blank_room, room_after}
 use Rattle.word_calls.proofs.Wordings.{words_length}
@@ -27,16 +26,16 @@ commit-requires-clause-inside g c = let size : length (payload_words c.args.payl
 pub returns-clause-moved : goal.returns-clause-moved
 returns-clause-moved g c =
     moves g.W.WordCalls.fits g.W.WordCalls.pass_of g.W.WordCalls.name g.W.WordCalls.id _ _ _ _ _ _
-        (moves g.W.WordCalls.fits g.W.WordCalls.pass_of g.W.WordCalls.name g.W.WordCalls.id _ _ _ _ _ _ c.put_header.ensures.moved c.put_payload.ensures.moved)
-        c.commit.ensures.moved
+    (moves g.W.WordCalls.fits g.W.WordCalls.pass_of g.W.WordCalls.name g.W.WordCalls.id _ _ _ _ _ _ c.put_header.ensures.moved c.put_payload.ensures.moved)
+    c.commit.ensures.moved
 
 pub returns-clause-took : goal.returns-clause-took
 returns-clause-took g c =
     let size : length (payload_words c.args.payload.now) ≡ (length c.args.payload.now + 7) / 8 = words_length ((length c.args.payload.now + 7) / 8) c.args.payload.now in
     took_more g.W.WordCalls.took g.W.WordCalls.pass_of g.met.W.WordCalls.more _ _ _ _ _ _ (3 + (length c.args.payload.now + 7) / 8) 1 _
-        (took_more g.W.WordCalls.took g.W.WordCalls.pass_of g.met.W.WordCalls.more _ _ _ _ _ _ 3 ((length c.args.payload.now + 7) / 8) (3 + (length c.args.payload.now + 7) / 8) c.put_header.ensures.took c.put_payload.ensures.took refl)
-        (took_store g.W.WordCalls.took g.W.WordCalls.pass_of _ _ _ _ c.commit.ensures.took (commits_call (g.W.WordCalls.pass_of c.put_payload.new.words c.put_payload.new.pass) (g.W.WordCalls.pass_of c.commit.new.self c.commit.new.pass) c.args.start c.first_word-word.result (begins_after (g.W.WordCalls.pass_of c.put_payload.new.words c.put_payload.new.pass) c.args.start (4 + (length c.args.payload.now + 7) / 8) (omega arith) (room_after (g.W.WordCalls.pass_of c.put_header.new.words c.put_header.new.pass) (g.W.WordCalls.pass_of c.put_payload.new.words c.put_payload.new.pass) c.args.start 4 (4 + (length c.args.payload.now + 7) / 8) (payload_words c.args.payload.now) (room_after (g.W.WordCalls.pass_of c.args.words.now c.args.pass.now) (g.W.WordCalls.pass_of c.put_header.new.words c.put_header.new.pass) c.args.start 1 (4 + (length c.args.payload.now + 7) / 8) (header_words (g.W.WordCalls.pass_of c.args.words.now c.args.pass.now).identity c.args.start) (blank_room (g.W.WordCalls.pass_of c.args.words.now c.args.pass.now) c.args.start (32 + length c.args.payload.now) (4 + (length c.args.payload.now + 7) / 8) (omega arith) c.requires.blank) (subst (λ (i : Identity). Puts (g.W.WordCalls.pass_of c.args.words.now c.args.pass.now) c.args.start 1 (header_words i c.args.start) (g.W.WordCalls.pass_of c.put_header.new.words c.put_header.new.pass)) c.identity-identity.ensures c.put_header.ensures.puts) (omega arith)) c.put_payload.ensures.puts (omega (arith, size)))) c.commit.ensures.told))
-        (omega arith)
+    (took_more g.W.WordCalls.took g.W.WordCalls.pass_of g.met.W.WordCalls.more _ _ _ _ _ _ 3 ((length c.args.payload.now + 7) / 8) (3 + (length c.args.payload.now + 7) / 8) c.put_header.ensures.took c.put_payload.ensures.took refl)
+    (took_store g.W.WordCalls.took g.W.WordCalls.pass_of _ _ _ _ c.commit.ensures.took (commits_call (g.W.WordCalls.pass_of c.put_payload.new.words c.put_payload.new.pass) (g.W.WordCalls.pass_of c.commit.new.self c.commit.new.pass) c.args.start c.first_word-word.result (begins_after (g.W.WordCalls.pass_of c.put_payload.new.words c.put_payload.new.pass) c.args.start (4 + (length c.args.payload.now + 7) / 8) (omega arith) (room_after (g.W.WordCalls.pass_of c.put_header.new.words c.put_header.new.pass) (g.W.WordCalls.pass_of c.put_payload.new.words c.put_payload.new.pass) c.args.start 4 (4 + (length c.args.payload.now + 7) / 8) (payload_words c.args.payload.now) (room_after (g.W.WordCalls.pass_of c.args.words.now c.args.pass.now) (g.W.WordCalls.pass_of c.put_header.new.words c.put_header.new.pass) c.args.start 1 (4 + (length c.args.payload.now + 7) / 8) (header_words (g.W.WordCalls.pass_of c.args.words.now c.args.pass.now).identity c.args.start) (blank_room (g.W.WordCalls.pass_of c.args.words.now c.args.pass.now) c.args.start (32 + length c.args.payload.now) (4 + (length c.args.payload.now + 7) / 8) (omega arith) c.requires.blank) (subst (λ (i : Identity). Puts (g.W.WordCalls.pass_of c.args.words.now c.args.pass.now) c.args.start 1 (header_words i c.args.start) (g.W.WordCalls.pass_of c.put_header.new.words c.put_header.new.pass)) c.identity-identity.ensures c.put_header.ensures.puts) (omega arith)) c.put_payload.ensures.puts (omega (arith, size)))) c.commit.ensures.told))
+    (omega arith)
 
 pub returns-clause-fills : goal.returns-clause-fills
 returns-clause-fills g c =

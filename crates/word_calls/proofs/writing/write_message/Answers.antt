@@ -1,9 +1,8 @@
-use Rattle.std.proofs.Common.{◌≡◌, ℕ, ◌+◌, ◌-◌, ◌*◌, ◌/◌, ◌<◌, ◌≤◌, arith, rules, refl, sym, ap, ◌∙◌, subst, length, take, drop, length-drop, List, [], ◌∷◌, true, false}
+use Rattle.std.proofs.Common.{◌≡◌, ℕ, ◌+◌, ◌-◌, ◌<◌, ◌≤◌, arith, refl, sym, ap, ◌∙◌, subst, length, take, drop, length-drop, List, [], ◌∷◌, false}
 use Rattle.std.proofs.lemmas.List.{length-take-le}
 use Rattle.theory.specs.Bytes.{Identity}
 use Rattle.theory.specs.Placed.{Data}
-use Rattle.theory.specs.Position.{Geometry, IsGeometry, cuts_of, framed_length, max_message, max_payload, max_position}
-use Rattle.word_calls.specs.declared.pass.Pass.{Pass}
+use Rattle.theory.specs.Position.{Geometry, IsGeometry, cuts_of, framed_length, max_payload}
 use Rattle.word_calls.specs.Steps.{geometry_of}
 use Rattle.word_calls.specs.Frames.{frame_flags, stored_words}
 use Rattle.word_calls.specs.Claims.{Fills, HasBlank}
@@ -42,7 +41,7 @@ loop-rest-preserved g c =
     let front : c.split_at.result.0.now ≡ take (max_payload (geometry_of (g.W.WordCalls.pass_of c.args.words.now c.args.pass.now))) c.loop-rest.rest.now = c.split_at.ensures.front ∙ ap (λ (n : ℕ). take n c.loop-rest.rest.now) most in
     let back : c.split_at.result.1.now ≡ drop (max_payload (geometry_of (g.W.WordCalls.pass_of c.args.words.now c.args.pass.now))) c.loop-rest.rest.now = c.split_at.ensures.back ∙ ap (λ (n : ℕ). drop n c.loop-rest.rest.now) most in
     let fills : Fills (g.W.WordCalls.pass_of c.loop-rest.words c.loop-rest.pass) c.loop-rest.at (Data (frame_flags c.loop-rest.first false) (take (max_payload (geometry_of (g.W.WordCalls.pass_of c.args.words.now c.args.pass.now))) c.loop-rest.rest.now)) (g.W.WordCalls.pass_of c.write_data.new.words c.write_data.new.pass) =
-        subst (λ (n : ℕ). Fills (g.W.WordCalls.pass_of c.loop-rest.words c.loop-rest.pass) c.loop-rest.at (Data n (take (max_payload (geometry_of (g.W.WordCalls.pass_of c.args.words.now c.args.pass.now))) c.loop-rest.rest.now)) (g.W.WordCalls.pass_of c.write_data.new.words c.write_data.new.pass)) c.flags_of.ensures (subst (λ (xs : List ℕ). Fills (g.W.WordCalls.pass_of c.loop-rest.words c.loop-rest.pass) c.loop-rest.at (Data c.flags_of.result xs) (g.W.WordCalls.pass_of c.write_data.new.words c.write_data.new.pass)) front c.write_data.ensures.fills) in
+    subst (λ (n : ℕ). Fills (g.W.WordCalls.pass_of c.loop-rest.words c.loop-rest.pass) c.loop-rest.at (Data n (take (max_payload (geometry_of (g.W.WordCalls.pass_of c.args.words.now c.args.pass.now))) c.loop-rest.rest.now)) (g.W.WordCalls.pass_of c.write_data.new.words c.write_data.new.pass)) c.flags_of.ensures (subst (λ (xs : List ℕ). Fills (g.W.WordCalls.pass_of c.loop-rest.words c.loop-rest.pass) c.loop-rest.at (Data c.flags_of.result xs) (g.W.WordCalls.pass_of c.write_data.new.words c.write_data.new.pass)) front c.write_data.ensures.fills) in
     let mtu : c.from-at.result ≡ (geometry_of (g.W.WordCalls.pass_of c.args.words.now c.args.pass.now)).mtu = c.from-at.ensures ∙ c.mtu.ensures.value ∙ ap (λ (h : Geometry). h.mtu) geometry in
     let at : c.loop-rest.at + (geometry_of (g.W.WordCalls.pass_of c.args.words.now c.args.pass.now)).mtu ≡ c.loop-rest.at + c.from-at.result = ap (λ (n : ℕ). c.loop-rest.at + n) (sym mtu) in
     let part_long : length c.split_at.result.0.now ≡ max_payload (geometry_of (g.W.WordCalls.pass_of c.args.words.now c.args.pass.now)) = ap (λ (xs : List ℕ). length xs) front ∙ length-take-le (max_payload (geometry_of (g.W.WordCalls.pass_of c.args.words.now c.args.pass.now))) c.loop-rest.rest.now (omega (arith, high)) in
@@ -71,7 +70,7 @@ returns-clause-took g c =
     let most : c.max_payload-most.result ≡ max_payload (geometry_of (g.W.WordCalls.pass_of c.args.words.now c.args.pass.now)) = c.max_payload-most.ensures.value ∙ ap max_payload geometry in
     let low : length c.loop-rest.rest.now ≤ max_payload (geometry_of (g.W.WordCalls.pass_of c.args.words.now c.args.pass.now)) = omega (arith, most, c.loop-rest-test.false) in
     took_more g.W.WordCalls.took g.W.WordCalls.pass_of g.met.W.WordCalls.more _ _ _ _ _ _ c.loop-rest.invariant.took.0 (stored_words ((32 + length c.loop-rest.rest.now) ∷ [])) _ c.loop-rest.invariant.took.1 c.write_data-2.ensures.took
-        (ap (λ (n : ℕ). c.loop-rest.invariant.took.0 + n) (sym (last_stored (geometry_of (g.W.WordCalls.pass_of c.args.words.now c.args.pass.now)) (length c.loop-rest.rest.now) low)) ∙ c.loop-rest.invariant.took.2)
+    (ap (λ (n : ℕ). c.loop-rest.invariant.took.0 + n) (sym (last_stored (geometry_of (g.W.WordCalls.pass_of c.args.words.now c.args.pass.now)) (length c.loop-rest.rest.now) low)) ∙ c.loop-rest.invariant.took.2)
 
 pub returns-clause-fills : goal.returns-clause-fills
 returns-clause-fills g c =
