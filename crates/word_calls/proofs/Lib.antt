@@ -1,0 +1,12 @@
+pub mod Steppings
+pub mod Patches
+pub mod Wordings
+pub mod Messages
+pub mod Justifying
+pub mod Refusing
+pub mod Adding
+pub mod Seeing
+pub mod Turned
+pub mod Filling
+pub mod Offering
+pub mod WordRows

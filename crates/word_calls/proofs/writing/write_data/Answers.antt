@@ -1,0 +1,43 @@
+use Rattle.std.proofs.Common.{◌≡◌, ℕ, ◌+◌, ◌/◌, ◌≤◌, arith, refl, sym, ap, ◌∙◌, subst, length}
+use Rattle.std.specs.Int.{w64, from_le_bytes}
+use Rattle.theory.specs.Wire.{front}
+use Rattle.theory.specs.Bytes.{Identity}
+use Rattle.theory.specs.Position.{max_position}
+use Rattle.word_calls.specs.Frames.{header_words, payload_words}
+use Rattle.word_calls.specs.Offers.{Puts}
+use Rattle.word_calls.proofs.Steppings.{moves, took_more, took_store}
+use Rattle.word_calls.proofs.Patches.{begins_after, blank_room, room_after}
+use Rattle.word_calls.proofs.Wordings.{words_length}
+use Rattle.word_calls.proofs.Filling.{commits_call, data_filled}
+use Rattle.word_calls.proofs.writing.write_data.Goals as goal
+
+pub put_header-requires-clause-in_stream : goal.put_header-requires-clause-in_stream
+put_header-requires-clause-in_stream g c = subst (λ (i : Identity). c.args.start ≤ max_position i.geometry) (sym c.identity-identity.ensures) c.requires.in_stream
+
+pub put_header-requires-clause-room : goal.put_header-requires-clause-room
+put_header-requires-clause-room g c = blank_room (g.W.WordCalls.pass_of c.args.words.now c.args.pass.now) c.args.start (32 + length c.args.payload.now) 4 (omega arith) c.requires.blank
+
+pub put_payload-requires-clause-room : goal.put_payload-requires-clause-room
+put_payload-requires-clause-room g c = (room_after (g.W.WordCalls.pass_of c.args.words.now c.args.pass.now) (g.W.WordCalls.pass_of c.put_header.new.words c.put_header.new.pass) c.args.start 1 (4 + (length c.args.payload.now + 7) / 8) (header_words (g.W.WordCalls.pass_of c.args.words.now c.args.pass.now).identity c.args.start) (blank_room (g.W.WordCalls.pass_of c.args.words.now c.args.pass.now) c.args.start (32 + length c.args.payload.now) (4 + (length c.args.payload.now + 7) / 8) (omega arith) c.requires.blank) (subst (λ (i : Identity). Puts (g.W.WordCalls.pass_of c.args.words.now c.args.pass.now) c.args.start 1 (header_words i c.args.start) (g.W.WordCalls.pass_of c.put_header.new.words c.put_header.new.pass)) c.identity-identity.ensures c.put_header.ensures.puts) (omega arith))
+
+pub commit-requires-clause-inside : goal.commit-requires-clause-inside
+commit-requires-clause-inside g c = let size : length (payload_words c.args.payload.now) ≡ (length c.args.payload.now + 7) / 8 = words_length ((length c.args.payload.now + 7) / 8) c.args.payload.now in (begins_after (g.W.WordCalls.pass_of c.put_payload.new.words c.put_payload.new.pass) c.args.start (4 + (length c.args.payload.now + 7) / 8) (omega arith) (room_after (g.W.WordCalls.pass_of c.put_header.new.words c.put_header.new.pass) (g.W.WordCalls.pass_of c.put_payload.new.words c.put_payload.new.pass) c.args.start 4 (4 + (length c.args.payload.now + 7) / 8) (payload_words c.args.payload.now) (room_after (g.W.WordCalls.pass_of c.args.words.now c.args.pass.now) (g.W.WordCalls.pass_of c.put_header.new.words c.put_header.new.pass) c.args.start 1 (4 + (length c.args.payload.now + 7) / 8) (header_words (g.W.WordCalls.pass_of c.args.words.now c.args.pass.now).identity c.args.start) (blank_room (g.W.WordCalls.pass_of c.args.words.now c.args.pass.now) c.args.start (32 + length c.args.payload.now) (4 + (length c.args.payload.now + 7) / 8) (omega arith) c.requires.blank) (subst (λ (i : Identity). Puts (g.W.WordCalls.pass_of c.args.words.now c.args.pass.now) c.args.start 1 (header_words i c.args.start) (g.W.WordCalls.pass_of c.put_header.new.words c.put_header.new.pass)) c.identity-identity.ensures c.put_header.ensures.puts) (omega arith)) c.put_payload.ensures.puts (omega (arith, size))))
+
+pub returns-clause-moved : goal.returns-clause-moved
+returns-clause-moved g c =
+    moves g.W.WordCalls.fits g.W.WordCalls.pass_of g.W.WordCalls.name g.W.WordCalls.id _ _ _ _ _ _
+    (moves g.W.WordCalls.fits g.W.WordCalls.pass_of g.W.WordCalls.name g.W.WordCalls.id _ _ _ _ _ _ c.put_header.ensures.moved c.put_payload.ensures.moved)
+    c.commit.ensures.moved
+
+pub returns-clause-took : goal.returns-clause-took
+returns-clause-took g c =
+    let size : length (payload_words c.args.payload.now) ≡ (length c.args.payload.now + 7) / 8 = words_length ((length c.args.payload.now + 7) / 8) c.args.payload.now in
+    took_more g.W.WordCalls.took g.W.WordCalls.pass_of g.met.W.WordCalls.more _ _ _ _ _ _ (3 + (length c.args.payload.now + 7) / 8) 1 _
+    (took_more g.W.WordCalls.took g.W.WordCalls.pass_of g.met.W.WordCalls.more _ _ _ _ _ _ 3 ((length c.args.payload.now + 7) / 8) (3 + (length c.args.payload.now + 7) / 8) c.put_header.ensures.took c.put_payload.ensures.took refl)
+    (took_store g.W.WordCalls.took g.W.WordCalls.pass_of _ _ _ _ c.commit.ensures.took (commits_call (g.W.WordCalls.pass_of c.put_payload.new.words c.put_payload.new.pass) (g.W.WordCalls.pass_of c.commit.new.self c.commit.new.pass) c.args.start c.first_word-word.result (begins_after (g.W.WordCalls.pass_of c.put_payload.new.words c.put_payload.new.pass) c.args.start (4 + (length c.args.payload.now + 7) / 8) (omega arith) (room_after (g.W.WordCalls.pass_of c.put_header.new.words c.put_header.new.pass) (g.W.WordCalls.pass_of c.put_payload.new.words c.put_payload.new.pass) c.args.start 4 (4 + (length c.args.payload.now + 7) / 8) (payload_words c.args.payload.now) (room_after (g.W.WordCalls.pass_of c.args.words.now c.args.pass.now) (g.W.WordCalls.pass_of c.put_header.new.words c.put_header.new.pass) c.args.start 1 (4 + (length c.args.payload.now + 7) / 8) (header_words (g.W.WordCalls.pass_of c.args.words.now c.args.pass.now).identity c.args.start) (blank_room (g.W.WordCalls.pass_of c.args.words.now c.args.pass.now) c.args.start (32 + length c.args.payload.now) (4 + (length c.args.payload.now + 7) / 8) (omega arith) c.requires.blank) (subst (λ (i : Identity). Puts (g.W.WordCalls.pass_of c.args.words.now c.args.pass.now) c.args.start 1 (header_words i c.args.start) (g.W.WordCalls.pass_of c.put_header.new.words c.put_header.new.pass)) c.identity-identity.ensures c.put_header.ensures.puts) (omega arith)) c.put_payload.ensures.puts (omega (arith, size)))) c.commit.ensures.told))
+    (omega arith)
+
+pub returns-clause-fills : goal.returns-clause-fills
+returns-clause-fills g c =
+    let sum : length c.args.payload.now + 32 ≡ 32 + length c.args.payload.now = omega arith in
+    data_filled (g.W.WordCalls.pass_of c.args.words.now c.args.pass.now) (g.W.WordCalls.pass_of c.put_header.new.words c.put_header.new.pass) (g.W.WordCalls.pass_of c.put_payload.new.words c.put_payload.new.pass) (g.W.WordCalls.pass_of c.commit.new.self c.commit.new.pass) c.args.start c.args.flags c.first_word-word.result c.args.payload.now (c.first_word-word.ensures.value ∙ ap (λ (n : ℕ). from_le_bytes w64 (front n c.args.flags 1)) sum) (subst (λ (i : Identity). Puts (g.W.WordCalls.pass_of c.args.words.now c.args.pass.now) c.args.start 1 (header_words i c.args.start) (g.W.WordCalls.pass_of c.put_header.new.words c.put_header.new.pass)) c.identity-identity.ensures c.put_header.ensures.puts) c.put_payload.ensures.puts c.commit.ensures.told

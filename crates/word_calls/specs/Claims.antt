@@ -1,0 +1,187 @@
+-- What a claim is answered, by the words that its pass saw.
+use Rattle.std.specs.Prelude.{◌≡◌, ℕ, ◌+◌, ◌-◌, ◌*◌, ◌%◌, ◌<◌, ◌≤◌, ◌⊎◌, Bool, true, false, List, [], ◌∷◌, ◌++◌, length}
+use Rattle.std.specs.List.{filter}
+use Rattle.theory.specs.Position.{framed_length, max_position}
+use Rattle.theory.specs.Placed.{Frame, Pad, frame_length}
+use Rattle.theory.specs.Refusal.{IsLast, IsNotLast, is_closed, is_connected, limit_in}
+use Rattle.theory.specs.Words.{offset_in}
+use Rattle.word_calls.specs.declared.pass.FrameWords.{FrameWords}
+use Rattle.word_calls.specs.declared.pass.Pass.{Pass}
+use Rattle.word_calls.specs.declared.step.WordStep.{WordStep}
+use Rattle.word_calls.specs.declared.step.WordStep.TheVariants as steps
+use Rattle.word_calls.specs.declared.refusal.Refusal.{Refusal}
+use Rattle.word_calls.specs.declared.refusal.Refusal.TheVariants.{NotConnected, BackPressured, AdminAction, Closed, MaxPositionExceeded}
+use Rattle.word_calls.specs.Steps.{IsTerm, Keeps, Names, blank, count_in, geometry_of, message_at, opened, padding_at, start_in, term_of, with_work}
+use Rattle.word_calls.specs.Frames.{frame_at}
+
+-- ---- how many steps it took
+
+-- so many are noted in the call, and so many words were stored
+pub record TookMore {L P : Type 0} (took : L → P → L → P → ℕ → Type 0) (pass_of : L → P → Pass) (l : L) (p : P) (m : L) (q : P) (stored : ℕ) : Type 0 where
+  pub noted : ℕ
+  pub steps : took l p m q (noted + stored)
+  pub call : length (pass_of m q).call ≡ length (pass_of l p).call + noted
+
+-- all that the call notes were made in it
+abbrev pub TookCall : {L P : Type 0} → (L → P → L → P → ℕ → Type 0) → (L → P → Pass) → L → P → L → P → ℕ → Type 0
+TookCall took pass_of l p m q stored = took l p m q (length (pass_of m q).call + stored)
+
+-- a padding's header, for each frame that is committed more
+abbrev pub padding_words : Pass → Pass → ℕ
+padding_words p q = 4 * (length q.work.frames - length p.work.frames)
+
+-- ---- a turn of the term
+
+abbrev pub exchanges_tail : WordStep → Bool
+exchanges_tail (steps.TailExchange partition word) = true
+exchanges_tail other = false
+
+abbrev pub exchanges_count : WordStep → Bool
+exchanges_count (steps.CountExchange count) = true
+exchanges_count other = false
+
+abbrev pub is_addition : WordStep → Bool
+is_addition (steps.Addition partition taken word) = true
+is_addition other = false
+
+abbrev pub additions : List WordStep → ℕ
+additions taken = length (filter is_addition taken)
+
+-- how often a tail, and the count, was to be exchanged
+abbrev pub tail_exchanges : List WordStep → ℕ
+tail_exchanges taken = length (filter exchanges_tail taken)
+
+abbrev pub count_exchanges : List WordStep → ℕ
+count_exchanges taken = length (filter exchanges_count taken)
+
+-- so many word calls more at the most, and of them so many exchanges
+pub record Notes (most tails counts : ℕ) (p q : Pass) : Type 0 where
+  pub after : Keeps p q
+  pub armed : q.right.armed ≡ p.right.armed
+  pub more : List WordStep
+  pub call : q.call ≡ p.call ++ more
+  pub none_added : additions more ≡ 0
+  pub few : length more ≤ most
+  pub few_tails : tail_exchanges more ≤ tails
+  pub few_counts : count_exchanges more ≤ counts
+
+abbrev pub Turns : Pass → Pass → Type 0
+Turns p q = Notes 3 1 1 p q
+
+-- ---- open frames are filled
+
+-- one of the open frames begins there, has this length, and nothing of it is stored
+pub record HasBlank (v : Pass) (p cut : ℕ) : Type 0 where
+  pub front : List FrameWords
+  pub behind : List FrameWords
+  pub parts : v.work.drafts ≡ front ++ blank p cut ∷ behind
+
+-- it is committed as this frame
+abbrev pub Fills : Pass → ℕ → Frame → Pass → Type 0
+Fills v p f w = (front behind : List FrameWords) → v.work.drafts ≡ front ++ blank p (frame_length f) ∷ behind → w ≡ with_work (v.work.frames ++ frame_at v.identity p f ∷ []) (front ++ behind) v
+
+-- ---- a claim
+
+-- the limit, the count and the tail that were seen
+abbrev pub Saw : Pass → ℕ → ℕ → ℕ → List WordStep → Type 0
+Saw q limit count tail rest = q.call ≡ steps.Limit limit ∷ steps.Count count ∷ steps.Tail (count % 3) tail ∷ rest
+
+abbrev pub addition_to : Pass → ℕ → ℕ → ℕ → WordStep
+addition_to p count size word = steps.Addition (count % 3) (framed_length (geometry_of p) size) word
+
+abbrev pub position_in : Pass → ℕ → ℕ → ℕ
+position_in p count tail = count * term_of p + offset_in tail
+
+-- one claim more, at the position of the word that the addition answered; its frames are open, and nothing of them is
+-- stored
+pub record Claimed (p : Pass) (size start : ℕ) (q : Pass) : Type 0 where
+  pub limit : ℕ
+  pub count : ℕ
+  pub tail : ℕ
+  pub word : ℕ
+  pub call : Saw q limit count tail (addition_to p count size word ∷ [])
+  pub unclosed : is_closed limit ≡ false
+  pub id : Names p tail count
+  pub room : offset_in tail < term_of p
+  pub below : position_in p count tail < limit_in limit
+  pub term : IsTerm p (count_in (geometry_of p) word)
+  pub inside : offset_in word + framed_length (geometry_of p) size ≤ term_of p
+  pub from : start ≡ start_in (geometry_of p) word
+  pub in_stream : start + framed_length (geometry_of p) size ≤ max_position (geometry_of p)
+  pub after : Keeps (opened p (message_at p word size)) q
+  pub idle : q.right.armed ≡ 0
+
+-- ---- a refusal
+
+abbrev pub AtLimit : Pass → ℕ → ℕ → ℕ → Type 0
+AtLimit p limit count tail = Names p tail count × (offset_in tail < term_of p) × (limit_in limit ≤ position_in p count tail)
+
+abbrev pub Stale : Pass → ℕ → ℕ → Type 0
+Stale p count tail = ¬ Names p tail count
+
+abbrev pub Finished : Pass → (ℕ → Type 0) → ℕ → ℕ → Type 0
+Finished p Which count tail = Names p tail count × (term_of p ≤ offset_in tail) × Which count
+
+-- the addition passed the end of its term
+pub record Tripped (p : Pass) (size : ℕ) (Which : ℕ → Type 0) (count : ℕ) (rest : List WordStep) : Type 0 where
+  pub word : ℕ
+  pub more : List WordStep
+  pub added : rest ≡ addition_to p count size word ∷ more
+  pub over : term_of p < offset_in word + framed_length (geometry_of p) size
+  pub term : IsTerm p (count_in (geometry_of p) word)
+  pub which : Which (count_in (geometry_of p) word)
+
+abbrev pub Cause : Pass → ℕ → ℕ → ℕ → ℕ → List WordStep → Refusal → Type 0
+Cause p size limit count tail rest NotConnected = AtLimit p limit count tail × (is_connected limit ≡ false)
+Cause p size limit count tail rest BackPressured = AtLimit p limit count tail × (is_connected limit ≡ true)
+Cause p size limit count tail rest AdminAction = Stale p count tail ⊎ (Finished p IsNotLast count tail ⊎ Tripped p size IsNotLast count rest)
+Cause p size limit count tail rest Closed = ⊥
+Cause p size limit count tail rest MaxPositionExceeded = Finished p IsLast count tail ⊎ Tripped p size IsLast count rest
+
+-- the rest of the term of the word before the addition, committed
+abbrev pub padded : Pass → ℕ → Pass
+padded p word = record p {
+  right = record p.right { claims = p.right.claims ++ padding_at p word ∷ [] };
+  work = record p.work { frames = p.work.frames ++ frame_at p.identity (start_in (geometry_of p) word) (Pad (term_of p - offset_in word)) ∷ [] };
+}
+
+-- an addition that passed the end of its term leaves a padding, if it began below it
+pub record LeavesPadding (p : Pass) (word : ℕ) (q : Pass) : Type 0 where
+  pub below : offset_in word < term_of p → Keeps (padded p word) q
+  pub over : term_of p ≤ offset_in word → Keeps p q
+
+-- what the call notes behind its load of the tail says whether there was an addition
+abbrev pub Leaves : Pass → List WordStep → Pass → Type 0
+Leaves p [] q = Keeps p q
+Leaves p (steps.Addition partition taken word ∷ more) q = LeavesPadding p word q
+Leaves p (other ∷ more) q = Keeps p q
+
+pub record Refused (p : Pass) (size : ℕ) (why : Refusal) (q : Pass) : Type 0 where
+  pub limit : ℕ
+  pub unclosed : is_closed limit ≡ false
+  pub count : ℕ
+  pub tail : ℕ
+  pub rest : List WordStep
+  pub saw : Saw q limit count tail rest
+  pub cause : Cause p size limit count tail rest why
+  pub leaves : Leaves p rest q
+  pub few : length rest ≤ 4
+  pub one_added : additions rest ≤ 1
+  pub few_tails : tail_exchanges rest ≤ 1
+  pub few_counts : count_exchanges rest ≤ 1
+  pub idle : p.right.armed ≡ 0 → q.right.armed ≡ 0
+
+-- the log was closed: nothing but the limit was looked at
+pub record Shut (p q : Pass) : Type 0 where
+  pub limit : ℕ
+  pub call : q.call ≡ steps.Limit limit ∷ []
+  pub closed : is_closed limit ≡ true
+  pub after : Keeps p q
+  pub armed : q.right.armed ≡ p.right.armed
+
+abbrev pub Justified : Pass → ℕ → Refusal → Pass → Type 0
+Justified p size NotConnected q = Refused p size NotConnected q
+Justified p size BackPressured q = Refused p size BackPressured q
+Justified p size AdminAction q = Refused p size AdminAction q
+Justified p size Closed q = Shut p q
+Justified p size MaxPositionExceeded q = Refused p size MaxPositionExceeded q
