@@ -1,0 +1,12 @@
+pub mod Packs
+pub mod Tails
+pub mod Totals
+pub mod Accounts
+pub mod Looks
+pub mod Turning
+pub mod Adding
+pub mod Memories
+pub mod Storing
+pub mod Whole
+pub mod Lifting
+pub mod Begun
