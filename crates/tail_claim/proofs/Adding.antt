@@ -121,20 +121,20 @@ adding b ws ps r id v n at armed unit le =
     let there : k % 3 * 16 + 32 ≡ p % 3 * 16 + 32 = sh.there in let on_it : p % 3 ≡ k % 3 = omega arith in
     let idle : Pass = disarmed v in
     let fits : t.offset k + n < 4294967296 = (let h = (disarms b.greatest ps id v idle at armed refl).here (k % 3) on_it in let s = term_short b so in
-        bound (t.offset k) n (b.greatest * total (armed_on (k % 3)) (set ps id idle)) (b.greatest * total (armed_on (k % 3)) ps) (size_of b) b.greatest h (r.over k low high) le s.0 s.2) in record {
+    bound (t.offset k) n (b.greatest * total (armed_on (k % 3)) (set ps id idle)) (b.greatest * total (armed_on (k % 3)) ps) (size_of b) b.greatest h (r.over k low high) le s.0 s.2) in record {
       sh = sh;
       fits = fits;
       build = λ w more knows off parts entries grown. (let u : Terms = raised t k n in let d = disarms b.greatest ps id v w at armed off in let i : ℕ = tail_place p in let ws' : List ℕ = set ws i ((slice_index ws i + n) % 2 ^ 64) in
           moved b ws ps r id v w ws' (r.log ++ more) u at (raised_later g t k n)
-              (added g (first_of b) t ws r.tailed p n sh unit fits (inside b ws ps r i (tail_low p))) knows parts (length-set ws i ((slice_index ws i + n) % 2 ^ 64)) (get_or-set_other ws i 0 ((slice_index ws i + n) % 2 ^ 64) 0 (λ e. omega arith))
-              (λ j x y. dite (ℕ_discrete j k)
-              (λ e. less_here (u.offset j) (t.offset j) n (b.greatest * total (armed_on (j % 3)) (set ps id w)) (b.greatest * total (armed_on (j % 3)) ps) (size_of b) b.greatest
-                  (d.here (j % 3) (on_it ∙ ap (λ (z : ℕ). z % 3) (sym e))) (r.over j x y) le (ap u.offset e ∙ put_here t.offset k (t.offset k + n) ∙ ap (λ (z : ℕ). t.offset z + n) (sym e)))
-              (λ ne. less_there (u.offset j) (t.offset j) (b.greatest * total (armed_on (j % 3)) (set ps id w)) (b.greatest * total (armed_on (j % 3)) ps) (size_of b) b.greatest (d.there (j % 3)) (r.over j x y) (put_else t.offset k (t.offset k + n) j ne)))
-              grown.tiles
-              (λ h. sums (weight h w) (weight h v) (total h more) (total h r.log) (total h (r.log ++ more)) (ap (total h) entries ∙ total_append h (entries_of v) more) (total_append h r.log more))
-              (roomy (end_of g u) (end_of g t) n (b.greatest * total armed_of (set ps id w)) (b.greatest * total armed_of ps) b.limit b.greatest d.all r.room grown.ends le)
-              (let a = r.reached in let c = grown.rises in past b.floor (end_of g t) (end_of g u) a c));
+          (added g (first_of b) t ws r.tailed p n sh unit fits (inside b ws ps r i (tail_low p))) knows parts (length-set ws i ((slice_index ws i + n) % 2 ^ 64)) (get_or-set_other ws i 0 ((slice_index ws i + n) % 2 ^ 64) 0 (λ e. omega arith))
+          (λ j x y. dite (ℕ_discrete j k)
+          (λ e. less_here (u.offset j) (t.offset j) n (b.greatest * total (armed_on (j % 3)) (set ps id w)) (b.greatest * total (armed_on (j % 3)) ps) (size_of b) b.greatest
+          (d.here (j % 3) (on_it ∙ ap (λ (z : ℕ). z % 3) (sym e))) (r.over j x y) le (ap u.offset e ∙ put_here t.offset k (t.offset k + n) ∙ ap (λ (z : ℕ). t.offset z + n) (sym e)))
+          (λ ne. less_there (u.offset j) (t.offset j) (b.greatest * total (armed_on (j % 3)) (set ps id w)) (b.greatest * total (armed_on (j % 3)) ps) (size_of b) b.greatest (d.there (j % 3)) (r.over j x y) (put_else t.offset k (t.offset k + n) j ne)))
+          grown.tiles
+          (λ h. sums (weight h w) (weight h v) (total h more) (total h r.log) (total h (r.log ++ more)) (ap (total h) entries ∙ total_append h (entries_of v) more) (total_append h r.log more))
+          (roomy (end_of g u) (end_of g t) n (b.greatest * total armed_of (set ps id w)) (b.greatest * total armed_of ps) b.limit b.greatest d.all r.room grown.ends le)
+          (let a = r.reached in let c = grown.rises in past b.floor (end_of g t) (end_of g u) a c));
     }
   where
     bound : (o n x x' size c : ℕ) → x + c ≡ x' → o + x' < size + c * 8 → n ≤ c → size ≤ 16777216 → c ≤ size / 7 + 63 → o + n < 4294967296
@@ -262,7 +262,7 @@ add_at id v size able armed short b' ws ps r at =
       ad.build w (e ∷ []) (knows_added b t u later v w kn refl refl refl refl refl refl some_parts refl refl refl (saw_on g (first_of b) t u later v.seen kn.seen).full
           (subst (AllByRecursion IsClaim) (sym (maps_append entry_of v.right.claims (c ∷ []))) (all_append IsClaim (entries_of v) (e ∷ []) kn.entries (message_claim v y size is kn.number f.start_unit, tt)))) refl refl (maps_append entry_of v.right.claims (c ∷ []))
           (grows_one b t u n k o r.log e r.tiles (ends_at g t k o top refl lt) lt f.start (subst (λ (z : ℕ). o + z ≤ long) (sym taken) le') (let q : span (cuts_of g size) ≤ n = omega arith in q)
-              (ends_more g t k n n top lt (let q : min (o + n) long ≡ o + n = omega arith in q) ∙ ap (λ (z : ℕ). end_of g t + z) (sym taken))),
+          (ends_more g t k n n top lt (let q : min (o + n) long ≡ o + n = omega arith in q) ∙ ap (λ (z : ℕ). end_of g t + z) (sym taken))),
       record { term = term; unit = unit_y; narrow = thin; fits = λ _. refl; trips = λ _ q. absurd (omega arith); over = λ q. absurd (omega arith) },
     ))
     (λ not_fits. let past : long < o + n = lt_of_not-le not_fits in let c = padding_at v y in let e = entry_of c in let w = noted x (with_full (opened v c) (count_in g y)) in
@@ -272,7 +272,7 @@ add_at id v size able armed short b' ws ps r at =
       ad.build w (e ∷ []) (knows_added b t u later v w kn refl refl refl refl refl refl some_parts refl refl refl (λ j q. full_after b t k n f.from f.low (let z : long ≤ o + n = omega arith in z) (count_in g y) j f.count q)
           (subst (AllByRecursion IsClaim) (sym (maps_append entry_of v.right.claims (c ∷ []))) (all_append IsClaim (entries_of v) (e ∷ []) kn.entries (padding_claim v y kn.number f.start_unit room, tt)))) refl refl (maps_append entry_of v.right.claims (c ∷ []))
           (grows_one b t u n k o r.log e r.tiles (ends_at g t k o top refl lt) lt f.start (subst (λ (z : ℕ). o + z ≤ long) (sym padded) (let q : o + rest ≤ long = omega arith in q)) (subst (λ (z : ℕ). z ≤ n) (sym padded) (let q : rest ≤ n = omega arith in q))
-              (ends_more g t k n rest top lt (let q : min (o + n) long ≡ o + rest = omega arith in q) ∙ ap (λ (z : ℕ). end_of g t + z) (sym padded))),
+          (ends_more g t k n rest top lt (let q : min (o + n) long ≡ o + rest = omega arith in q) ∙ ap (λ (z : ℕ). end_of g t + z) (sym padded))),
       record { term = term; unit = unit_y; narrow = thin; fits = λ q. absurd (omega arith); trips = λ _ _. refl; over = λ q. absurd (omega arith) },
     )))
   where

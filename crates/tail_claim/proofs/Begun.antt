@@ -56,8 +56,8 @@ fresh_tailed b ws so f =
     let none : (j : ℕ) → j ≢ k → t.offset j ≡ 0 = λ j ne. put_else (λ _. 0) k off j ne in
     let is = so.geometry in let s = term_short b so in let unit : size_of b % 32 ≡ 0 = power_unit (size_of b) is.term.power is.term.least in
     let back_word : (back : ℕ) → 0 < back → back < 3 → slice_index ws (tail_place (k + 3 - back)) ≡ tail_word (id_before g k back) 0 = λ back pos lt. dite (ℕ_discrete back 1)
-        (λ one. (λ i. slice_index ws (tail_place (k + 3 - one i))) ∙ (let q : tail_place (k + 3 - 1) ≡ tail_place (k + 2) = ap tail_place (let z : k + 3 - 1 ≡ k + 2 = omega arith in z) in ap (slice_index ws) q) ∙ f.last ∙ (λ i. tail_word (id_before g k (sym one i)) 0))
-        (λ more. let two : back ≡ 2 = omega arith in (λ i. slice_index ws (tail_place (k + 3 - two i))) ∙ (let q : tail_place (k + 3 - 2) ≡ tail_place (k + 1) = ap tail_place (let z : k + 3 - 2 ≡ k + 1 = omega arith in z) in ap (slice_index ws) q) ∙ f.next ∙ (λ i. tail_word (id_before g k (sym two i)) 0)) in
+    (λ one. (λ i. slice_index ws (tail_place (k + 3 - one i))) ∙ (let q : tail_place (k + 3 - 1) ≡ tail_place (k + 2) = ap tail_place (let z : k + 3 - 1 ≡ k + 2 = omega arith in z) in ap (slice_index ws) q) ∙ f.last ∙ (λ i. tail_word (id_before g k (sym one i)) 0))
+    (λ more. let two : back ≡ 2 = omega arith in (λ i. slice_index ws (tail_place (k + 3 - two i))) ∙ (let q : tail_place (k + 3 - 2) ≡ tail_place (k + 1) = ap tail_place (let z : k + 3 - 2 ≡ k + 1 = omega arith in z) in ap (slice_index ws) q) ∙ f.next ∙ (λ i. tail_word (id_before g k (sym two i)) 0)) in
     record {
       turns = record {
         from = omega arith;

@@ -21,3 +21,8 @@ lifted key slots id i m f told go s r homes at small =
       subst (λ (l : List Pass). Ruled (bounds_of key) (set s.words i (f (slice_index s.words i))) l) (sym (map-set pass_in s.views id w)) g.1,
       (refl, refl, g.2.0, g.2.1),
     )
+
+-- the word may be named otherwise
+pub lifted_at : (key : Key) (slots id i : ℕ) (m : Mine) (f : ℕ → ℕ) (told : ℕ → Pass → Type 0) (j : ℕ) → j ≡ i → Admits (Ruled (bounds_of key)) id m.0.pass i f (λ n w. Same m.0.pass w × told n w)
+    → Allows (TableRuled key) slots id m j f (λ n m'. (m'.1 ≡ m.1) × (m'.0.steps ≡ suc m.0.steps) × Same m.0.pass m'.0.pass × told n m'.0.pass)
+lifted_at key slots id i m f told j e go = subst (λ (k : ℕ). Allows (TableRuled key) slots id m k f (λ n m'. (m'.1 ≡ m.1) × (m'.0.steps ≡ suc m.0.steps) × Same m.0.pass m'.0.pass × told n m'.0.pass)) (sym e) (lifted key slots id i m f told go)

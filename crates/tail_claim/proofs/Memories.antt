@@ -112,6 +112,7 @@ stored_far b ws i n low v k = record { stands = all_on (Stands b ws) (Stands b (
 
 -- the pass has the same claims and the same frames
 pub record Stays (v w : Pass) : Type 0 where
+  pub number : w.number ≡ v.number
   pub parts : w.right.parts ≡ v.right.parts
   pub claims : w.right.claims ≡ v.right.claims
   pub work : w.work ≡ v.work
@@ -119,6 +120,7 @@ pub record Stays (v w : Pass) : Type 0 where
 -- it has one claim more, in which nothing is stored
 pub record Opens (v w : Pass) : Type 0 where
   pub claim : ClaimRange
+  pub number : w.number ≡ v.number
   pub parts : w.right.parts ≡ v.right.parts
   pub claims : w.right.claims ≡ v.right.claims ++ claim ∷ []
   pub frames : w.work.frames ≡ v.work.frames
@@ -200,7 +202,7 @@ opened b ws ps r m id i n v w r' low at at' g =
     let up : tail_of b ps ≤ tail_of b ps' = (let a = weighs length_of in rises b.start (total (weight length_of) ps) (total (weight length_of) ps') (span c.cuts) a) in
     let zeros' : (x : ℕ) → x % 8 ≡ 0 → tail_of b ps ≤ x → x < b.cleaned + 3 * size_of b → slice_index ws' (slot g' x) ≡ 0 = λ x unit above below. get_or-set_other ws i (slot g' x) n 0 (λ e. omega arith) ∙ m.zeros x unit above below in
     let fresh : (x : ℕ) → x % 8 ≡ 0 → 0 < covers x c.start (span c.cuts) → slice_index ws' (slot g' x) ≡ 0 = λ x unit some'. (let t = there x some' in
-        let end = past x (tail_of b ps') (b.limit + b.greatest * 8) (b.cleaned + 3 * size_of b) t.1 (tail_low b ws' ps' r') m.held in zeros' x unit t.0 end) in
+    let end = past x (tail_of b ps') (b.limit + b.greatest * 8) (b.cleaned + 3 * size_of b) t.1 (tail_low b ws' ps' r') m.held in zeros' x unit t.0 end) in
     let begins : b.cleaned ≤ c.start = (let t = there c.start (first c.start (span c.cuts) claim.entry.long) in let a = m.cleaned in let d = r.reached in let e = tail_is b ws ps r in chain b.cleaned b.floor (end_of g' r.terms) (tail_of b ps) c.start a d e t.0) in
     let unit : c.start % 8 ≡ 0 = (let q : c.start % 32 ≡ 0 = claim.unit in by_eight c.start q) in
     let frames_is : frames_of w ≡ frames_of v ++ blanks c.start c.cuts = (λ j. g.frames j ++ g.drafts j) ∙ sym (append_assoc v.work.frames v.work.drafts (blanks c.start c.cuts)) in

@@ -25,7 +25,7 @@ else_stand b ws x n whole dx at [] below free unit st = tt
 else_stand b ws x n whole dx at (f ∷ fs) below free unit st = (
   (λ i lt from. let y : ℕ = f.start + 8 * i in let u : f.start % 8 ≡ 0 = unit.0 in
       get_or-set_other ws (slot (shape_of b) x) (slot (shape_of b) y) n 0
-          (λ e. slot_apart b whole y x (even f.start i u) dx (from, below y (first f.start i (length f.words) (Covered y fs) lt)) at (λ same. none f.start i (length f.words) (Covered x fs) x lt same free) e) ∙ st.0 i lt from),
+      (λ e. slot_apart b whole y x (even f.start i u) dx (from, below y (first f.start i (length f.words) (Covered y fs) lt)) at (λ same. none f.start i (length f.words) (Covered x fs) x lt same free) e) ∙ st.0 i lt from),
   else_stand b ws x n whole dx at fs (λ y some'. below y (more (covers y f.start (8 * length f.words)) (Covered y fs) some')) (rest (covers x f.start (8 * length f.words)) (Covered x fs) free) unit.1 st.1,
 )
   where
@@ -82,10 +82,10 @@ rewritten b ws ps r m id k n v w pre d post at here lt from g =
     let behind : (y : ℕ) → 0 < Covered y post → y < b.cleaned + 3 * size_of b = λ y pos. under y (back (held_by y v) (Covered y pre) (covers y d.start (8 * length d.words)) (Covered y post) pos (parts y)) in
     let place : sp < length ws = (let e = r.wide in let c : (x / 8) % ring_of (shape_of b) < ring_of (shape_of b) = mod-lt (x / 8) (let s = r.sound.geometry.term.least in let q : 0 < ring_of (shape_of b) = ring_some (size_of b) s in q) in let q : sp < length ws = within ((x / 8) % ring_of (shape_of b)) (ring_of (shape_of b)) (length ws) c e in q) in
     let draft : Stands b ws' (written d k n) = λ i li far. (let li' : i < length d.words = subst (λ (z : ℕ). i < z) (length-set d.words k n) li in dite (ℕ_discrete i k)
-        (λ e. subst (λ (z : ℕ). slice_index ws' (slot (shape_of b) (d.start + 8 * z)) ≡ slice_index (set d.words k n) z) (sym e) (get_or-set_same ws sp n 0 place ∙ sym (get_or-set_same d.words k n 0 lt)))
-        (λ ne. let y : ℕ = d.start + 8 * i in get_or-set_other ws sp (slot (shape_of b) y) n 0
-            (λ e. slot_apart b whole y x (even d.start i unit_d) dx (far, under y (mid (held_by y v) (Covered y pre) (Covered y post) d.start i (length d.words) li' (parts y))) window (λ same. ne (one d.start i k same)) e)
-            ∙ (all_behind (Stands b ws) pre (d ∷ post) old).0 i li' far ∙ sym (get_or-set_other d.words k i n 0 ne))) in
+    (λ e. subst (λ (z : ℕ). slice_index ws' (slot (shape_of b) (d.start + 8 * z)) ≡ slice_index (set d.words k n) z) (sym e) (get_or-set_same ws sp n 0 place ∙ sym (get_or-set_same d.words k n 0 lt)))
+    (λ ne. let y : ℕ = d.start + 8 * i in get_or-set_other ws sp (slot (shape_of b) y) n 0
+    (λ e. slot_apart b whole y x (even d.start i unit_d) dx (far, under y (mid (held_by y v) (Covered y pre) (Covered y post) d.start i (length d.words) li' (parts y))) window (λ same. ne (one d.start i k same)) e)
+    ∙ (all_behind (Stands b ws) pre (d ∷ post) old).0 i li' far ∙ sym (get_or-set_other d.words k i n 0 ne))) in
     let mine : Stored b ws' w = record {
       stands = g.stands ws' (all_append (Stands b ws') pre (written d k n ∷ post)
           (else_stand b ws x n whole dx window pre before own.0 (all_front IsAligned pre (d ∷ post) units) (all_front (Stands b ws) pre (d ∷ post) old))
@@ -105,15 +105,15 @@ rewritten b ws ps r m id k n v w pre d post at here lt from g =
       each = λ j u e. ⊎_elim
           (λ (y : (j ≡ id) × (w ≡ u)). subst (Stored b ws') y.1 mine)
           (λ (y : (j ≢ id) × (get_elem? ps j ≡ some u)). (let o = m.each j u y.1 in let theirs = held_is b ws u o in
-              let two = both_at (held_by x) ps id j v u y.0 at y.1 in
-              let free : Covered x (frames_of u) ≡ 0 = others (held_by x v) (held_by x u) (total (held_by x) ps) (Covered x (frames_of u)) (min (x + 1 - b.start) (tail_of b ps - x)) own.3 two (cover_passes b ws ps r x) (theirs x) in record {
-                stands = else_stand b ws x n whole dx window (frames_of u) (λ z pos. (held_low b ws ps r m.held z (grow (held_by z u) (total (held_by z) ps) (subst (λ (q : ℕ). 0 < q) (sym (theirs z)) pos) (total_at (held_by z) ps j u y.1))).1) free o.aligned o.stands;
-                placed = o.placed;
-                aligned = o.aligned;
-                done = o.done;
-                undone = o.undone;
-                kept = o.kept;
-              }))
+          let two = both_at (held_by x) ps id j v u y.0 at y.1 in
+          let free : Covered x (frames_of u) ≡ 0 = others (held_by x v) (held_by x u) (total (held_by x) ps) (Covered x (frames_of u)) (min (x + 1 - b.start) (tail_of b ps - x)) own.3 two (cover_passes b ws ps r x) (theirs x) in record {
+            stands = else_stand b ws x n whole dx window (frames_of u) (λ z pos. (held_low b ws ps r m.held z (grow (held_by z u) (total (held_by z) ps) (subst (λ (q : ℕ). 0 < q) (sym (theirs z)) pos) (total_at (held_by z) ps j u y.1))).1) free o.aligned o.stands;
+            placed = o.placed;
+            aligned = o.aligned;
+            done = o.done;
+            undone = o.undone;
+            kept = o.kept;
+          }))
           (at_set ps id j w u e);
     }
   where

@@ -48,17 +48,17 @@ shows g first t ws f r nar p le =
 pub behind : (g : Geometry) (first : ℕ) (t : Terms) (ws : List ℕ) → Fit g → Tailed g first t ws → Narrow t → id_in (slice_index ws (tail_place (t.newest + 1))) ≡ id_before g t.newest 2
 behind g first t ws f r nar = dite (dec_le 2 t.newest)
     (λ (old : 2 ≤ t.newest). let n : ℕ = t.newest in let to = r.turns.to in let k : ℕ = n - 2 in
-        let spot : tail_place (n + 1) ≡ tail_place k = omega arith in
-        ap (λ (z : ℕ). id_in (slice_index ws z)) spot ∙ ap id_in (r.tails k (omega arith) (omega arith)) ∙ id_of_word (id_of g k) (t.offset k) (id_fits g k) (nar k (omega arith) (omega arith)) ∙ sym (before_count g f n 2 (omega arith) old (omega arith)))
+    let spot : tail_place (n + 1) ≡ tail_place k = omega arith in
+    ap (λ (z : ℕ). id_in (slice_index ws z)) spot ∙ ap id_in (r.tails k (omega arith) (omega arith)) ∙ id_of_word (id_of g k) (t.offset k) (id_fits g k) (nar k (omega arith) (omega arith)) ∙ sym (before_count g f n 2 (omega arith) old (omega arith)))
     (λ new. let n : ℕ = t.newest in let lt : n < 2 = lt_of_not-le new in
-        let spot : tail_place (n + 1) ≡ tail_place (n + 3 - 2) = omega arith in
-        ap (λ (z : ℕ). id_in (slice_index ws z)) spot ∙ ap id_in (r.unused 2 lt (omega arith)) ∙ id_of_word (id_before g n 2) 0 (before_fits g n 2) (omega arith))
+    let spot : tail_place (n + 1) ≡ tail_place (n + 3 - 2) = omega arith in
+    ap (λ (z : ℕ). id_in (slice_index ws z)) spot ∙ ap id_in (r.unused 2 lt (omega arith)) ∙ id_of_word (id_before g n 2) 0 (before_fits g n 2) (omega arith))
 
 -- a tail that has the id of the count behind k says that it was begun
 pub next_named : (g : Geometry) (first : ℕ) (t : Terms) (ws : List ℕ) → Fit g → Tailed g first t ws → Narrow t → (k : ℕ) → k ≤ t.newest → k + 1 < 2147483648 → id_in (slice_index ws (tail_place (k + 1))) ≡ id_of g (k + 1) → k + 1 ≤ t.newest
 next_named g first t ws f r nar k le low e = dite (dec_le (k + 1) t.newest) (λ yes. yes)
     (λ no. let lt = lt_of_not-le no in let same : t.newest ≡ k = omega arith in
-        absurd (two_before g f t.newest (k + 1) (omega arith) low (sym e ∙ ap (λ (z : ℕ). id_in (slice_index ws (tail_place (z + 1)))) (sym same) ∙ behind g first t ws f r nar)))
+    absurd (two_before g f t.newest (k + 1) (omega arith) low (sym e ∙ ap (λ (z : ℕ). id_in (slice_index ws (tail_place (z + 1)))) (sym same) ∙ behind g first t ws f r nar)))
 
 -- and one that has the id two before k says that k is the newest
 pub next_old : (g : Geometry) (first : ℕ) (t : Terms) (ws : List ℕ) → Fit g → Tailed g first t ws → Narrow t → (k : ℕ) → k ≤ t.newest → id_in (slice_index ws (tail_place (k + 1))) ≡ id_before g k 2 → k ≡ t.newest
@@ -104,7 +104,7 @@ added g first t ws r p n sh unit fits inside = let k : ℕ = sh.k in let i : ℕ
       tails = λ j a b. dite (ℕ_discrete j k)
           (λ e. let spot : i ≡ tail_place j = sym sh.there ∙ ap tail_place (sym e) in
           subst (λ (z : ℕ). slice_index (set ws i new) z ≡ tail_word (id_of g j) (u.offset j)) spot
-              (get_or-set_same ws i new 0 inside ∙ is ∙ (λ x. tail_word (id_of g (sym e x)) (sym (put_here t.offset k (t.offset k + n)) x)) ∙ ap (λ (z : ℕ). tail_word (id_of g j) (u.offset z)) (sym e)))
+          (get_or-set_same ws i new 0 inside ∙ is ∙ (λ x. tail_word (id_of g (sym e x)) (sym (put_here t.offset k (t.offset k + n)) x)) ∙ ap (λ (z : ℕ). tail_word (id_of g j) (u.offset z)) (sym e)))
           (λ ne. get_or-set_other ws i (tail_place j) new 0 (λ e. ne (one_count t.newest j k a b low high (e ∙ sym sh.there))) ∙ r.tails j a b ∙ ap (tail_word (id_of g j)) (sym (put_else t.offset k (t.offset k + n) j ne)));
       unused = λ back a b. get_or-set_other ws i (tail_place (t.newest + 3 - back)) new 0 (λ e. let there : tail_place k ≡ tail_place p = sh.there in omega arith) ∙ r.unused back a b;
     }

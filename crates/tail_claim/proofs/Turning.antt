@@ -89,12 +89,12 @@ rotated b' id v ws ps r at k x full low named =
     let mine : Knows b u w = record { identity = kn.identity; start = kn.start; number = kn.number; right = kn.right; entries = kn.entries; seen = record { count = saw.count; term = saw.term; full = saw.full; begun = (let q : k + 1 ≤ t.newest + 1 = omega arith in q) } } in
     let ends : end_of g u ≡ end_of g t = turn_ends g t filled empty in
     let tailed : Tailed g (first_of b) u (set ws i new) = subst (λ (z : ℕ × ℕ). Tailed g (first_of b) u (set ws z.0 (tail_word (id_of g z.1) 0))) (λ j. (spot j, (let q : t.newest + 1 ≡ k + 1 = omega arith in q) j))
-        (term_begun g (first_of b) t ws r.sound.geometry.initial r.tailed filled (omega arith) (inside b ws ps r (tail_place (t.newest + 1)) (tail_low (t.newest + 1)))) in
+    (term_begun g (first_of b) t ws r.sound.geometry.initial r.tailed filled (omega arith) (inside b ws ps r (tail_place (t.newest + 1)) (tail_low (t.newest + 1)))) in
     let parted : total parts_of (set ps id w) ≡ 1024 = (let a = total_set parts_of ps id v w at in let e = r.parted in omega arith) in let each = each_set b t u ps id w later r.each mine in
     let over : Over b u (set ps id w) = λ j y z. dite (ℕ_discrete j (t.newest + 1))
-        (λ e. let le = few b.greatest (set ps id w) (armed_on (j % 3)) (on_le (j % 3)) (λ a q f. (each a q f).right.able) parted in
-        let s = term_short b r.sound in let m : ℕ = b.greatest * total (armed_on (j % 3)) (set ps id w) in let c : ℕ = b.greatest * 8 in let le' : m ≤ c = le in let o : t.offset j ≡ t.offset (t.newest + 1) = ap t.offset e in let q : t.offset j + m < size + c = omega arith in q)
-        (λ ne. same_over b ws ps r id v w at refl refl j (omega arith) (omega arith)) in
+    (λ e. let le = few b.greatest (set ps id w) (armed_on (j % 3)) (on_le (j % 3)) (λ a q f. (each a q f).right.able) parted in
+    let s = term_short b r.sound in let m : ℕ = b.greatest * total (armed_on (j % 3)) (set ps id w) in let c : ℕ = b.greatest * 8 in let le' : m ≤ c = le in let o : t.offset j ≡ t.offset (t.newest + 1) = ap t.offset e in let q : t.offset j + m < size + c = omega arith in q)
+    (λ ne. same_over b ws ps r id v w at refl refl j (omega arith) (omega arith)) in
     moved b ws ps r id v w (set ws i new) r.log u at later tailed mine refl (length-set ws i new) (get_or-set_other ws i 0 new 0 (λ e. omega arith)) over
     (subst (λ (z : ℕ). Tiles size b.start z r.log) (sym ends) r.tiles) (λ h. refl)
     (subst (λ (z : ℕ). z + b.greatest * total armed_of (set ps id w) ≤ b.limit + b.greatest * 8) (sym ends) (same_room b ws ps r id v w at refl))

@@ -40,8 +40,8 @@ set_at (x ∷ xs) (suc i) v w e = set_at xs i v w e
 -- ---- steps on control words
 
 -- a pass that stays in the rule stays one of its log
-same : (b : Bounds) (ws ws' : List ℕ) (ps : List Pass) (id : ℕ) (v w : Pass) (r : Claimed b ws ps) (r' : Claimed b ws' (set ps id w)) → get_elem? ps id ≡ some v → w.right.parts ≡ v.right.parts → Same v w
-same b ws ws' ps id v w r r' at parts = let k = r.each id v at in let k' = r'.each id w (set_at ps id v w at) in record { identity = k'.identity ∙ sym k.identity; start = k'.start ∙ sym k.start; parts = parts }
+same : (b : Bounds) (ws ws' : List ℕ) (ps : List Pass) (id : ℕ) (v w : Pass) (r : Claimed b ws ps) (r' : Claimed b ws' (set ps id w)) → get_elem? ps id ≡ some v → w.number ≡ v.number → w.right.parts ≡ v.right.parts → Same v w
+same b ws ws' ps id v w r r' at number parts = let k = r.each id v at in let k' = r'.each id w (set_at ps id v w at) in record { identity = k'.identity ∙ sym k.identity; start = k'.start ∙ sym k.start; number = number; parts = parts }
 
 -- a step on a control word that keeps the claims keeps the words of the stream
 framing : (b : Bounds) (id : ℕ) (v : Pass) (i : ℕ) (f : ℕ → ℕ) (told : ℕ → Pass → Type 0) → i < 208 → Admits (Claimed b) id v i f told → ((n : ℕ) (w : Pass) → told n w → Stays v w ⊎ Opens v w) → Admits (Ruled b) id v i f (λ n w. Same v w × told n w)
@@ -54,45 +54,45 @@ framing b id v i f told low go grows ws ps r at = let g = go ws ps r.claims at i
         (λ (o : Opens v g.0). opened b ws ps r.claims r.memory id i n v g.0 g.1 low at (set_at ps id v g.0 at) o)
         (grows (slice_index ws i) g.0 g.2);
   },
-  (same b ws (set ws i n) ps id v g.0 r.claims g.1 at (⊎_elim (λ (s : Stays v g.0). s.parts) (λ (o : Opens v g.0). o.parts) (grows (slice_index ws i) g.0 g.2)), g.2),
+  (same b ws (set ws i n) ps id v g.0 r.claims g.1 at (⊎_elim (λ (s : Stays v g.0). s.number) (λ (o : Opens v g.0). o.number) (grows (slice_index ws i) g.0 g.2)) (⊎_elim (λ (s : Stays v g.0). s.parts) (λ (o : Opens v g.0). o.parts) (grows (slice_index ws i) g.0 g.2)), g.2),
 )
 
-stays : (v w x : Pass) → x.right.parts ≡ v.right.parts → x.right.claims ≡ v.right.claims → x.work ≡ v.work → w ≡ x → Stays v w ⊎ Opens v w
-stays v w x d a c e = inl record { parts = ap (λ y. y.right.parts) e ∙ d; claims = ap (λ y. y.right.claims) e ∙ a; work = ap (λ y. y.work) e ∙ c }
+stays : (v w x : Pass) → x.number ≡ v.number → x.right.parts ≡ v.right.parts → x.right.claims ≡ v.right.claims → x.work ≡ v.work → w ≡ x → Stays v w ⊎ Opens v w
+stays v w x m d a c e = inl record { number = ap (λ y. y.number) e ∙ m; parts = ap (λ y. y.right.parts) e ∙ d; claims = ap (λ y. y.right.claims) e ∙ a; work = ap (λ y. y.work) e ∙ c }
 
 arms_grows : (v : Pass) (n : ℕ) (w : Pass) → Arms v n w → Stays v w ⊎ Opens v w
 arms_grows v n w t = dite (ℤ_discrete (id_in n) (id_of (geometry_of v) v.seen.count))
     (λ named. dite (dec_le (term_of v) (offset_in n))
-    (λ full. stays v w (noted (tail_step v n) (with_full v v.seen.count)) refl refl refl (t.used_up named full))
+    (λ full. stays v w (noted (tail_step v n) (with_full v v.seen.count)) refl refl refl refl (t.used_up named full))
     (λ no. let room = lt_of_not-le no in dite (dec_le (limit_in v.right.limit) (v.seen.count * term_of v + offset_in n))
-    (λ past. stays v w (noted (tail_step v n) v) refl refl refl (t.limited named room past))
-    (λ not. stays v w (noted (tail_step v n) (with_armed v)) refl refl refl (t.below named room (lt_of_not-le not)))))
-    (λ other. stays v w (noted (tail_step v n) v) refl refl refl (t.other other))
+    (λ past. stays v w (noted (tail_step v n) v) refl refl refl refl (t.limited named room past))
+    (λ not. stays v w (noted (tail_step v n) (with_armed v)) refl refl refl refl (t.below named room (lt_of_not-le not)))))
+    (λ other. stays v w (noted (tail_step v n) v) refl refl refl refl (t.other other))
 
 adds_grows : (v : Pass) (size n : ℕ) (w : Pass) → Adds v size n w → Stays v w ⊎ Opens v w
 adds_grows v size n w t = dite (dec_le (offset_in n + framed_length (geometry_of v) size) (term_of v))
-    (λ fits. let e = t.fits fits in inr record { claim = message_at v n size; parts = ap (λ y. y.right.parts) e; claims = ap (λ y. y.right.claims) e; frames = ap (λ y. y.work.frames) e; drafts = ap (λ y. y.work.drafts) e })
+    (λ fits. let e = t.fits fits in inr record { claim = message_at v n size; number = ap (λ y. y.number) e; parts = ap (λ y. y.right.parts) e; claims = ap (λ y. y.right.claims) e; frames = ap (λ y. y.work.frames) e; drafts = ap (λ y. y.work.drafts) e })
     (λ no. dite (dec_le (term_of v) (offset_in n))
-    (λ full. stays v w (noted (addition v size n) (with_full (disarmed v) (count_in (geometry_of v) n))) refl refl refl (t.over full))
-    (λ not. let e = t.trips (lt_of_not-le not) (lt_of_not-le no) in inr record { claim = padding_at v n; parts = ap (λ y. y.right.parts) e; claims = ap (λ y. y.right.claims) e; frames = ap (λ y. y.work.frames) e; drafts = ap (λ y. y.work.drafts) e }))
+    (λ full. stays v w (noted (addition v size n) (with_full (disarmed v) (count_in (geometry_of v) n))) refl refl refl refl (t.over full))
+    (λ not. let e = t.trips (lt_of_not-le not) (lt_of_not-le no) in inr record { claim = padding_at v n; number = ap (λ y. y.number) e; parts = ap (λ y. y.right.parts) e; claims = ap (λ y. y.right.claims) e; frames = ap (λ y. y.work.frames) e; drafts = ap (λ y. y.work.drafts) e }))
 
 nexts_grows : (v : Pass) (k n : ℕ) (w : Pass) → Nexts v k n w → Stays v w ⊎ Opens v w
 nexts_grows v k n w t = dite (ℤ_discrete (id_in n) (id_of (geometry_of v) (k + 1)))
-    (λ yes. stays v w (noted (steps.NextTail ((k + 1) % 3) n) (with_begun v (k + 1))) refl refl refl (t.begun yes))
-    (λ no. stays v w (noted (steps.NextTail ((k + 1) % 3) n) v) refl refl refl (t.other no))
+    (λ yes. stays v w (noted (steps.NextTail ((k + 1) % 3) n) (with_begun v (k + 1))) refl refl refl refl (t.begun yes))
+    (λ no. stays v w (noted (steps.NextTail ((k + 1) % 3) n) v) refl refl refl refl (t.other no))
 
 rotates_grows : (v : Pass) (k from n : ℕ) (w : Pass) → Rotates v k from n w → Stays v w ⊎ Opens v w
 rotates_grows v k from n w t = dite (ℕ_discrete n from)
-    (λ hit. stays v w (noted (steps.TailExchange ((k + 1) % 3) n) (with_begun v (k + 1))) refl refl refl (t.begun (inl hit)))
+    (λ hit. stays v w (noted (steps.TailExchange ((k + 1) % 3) n) (with_begun v (k + 1))) refl refl refl refl (t.begun (inl hit)))
     (λ miss. dite (ℤ_discrete (id_in n) (id_of (geometry_of v) (k + 1)))
-    (λ yes. stays v w (noted (steps.TailExchange ((k + 1) % 3) n) (with_begun v (k + 1))) refl refl refl (t.begun (inr yes)))
-    (λ no. stays v w (noted (steps.TailExchange ((k + 1) % 3) n) v) refl refl refl (t.other miss no)))
+    (λ yes. stays v w (noted (steps.TailExchange ((k + 1) % 3) n) (with_begun v (k + 1))) refl refl refl refl (t.begun (inr yes)))
+    (λ no. stays v w (noted (steps.TailExchange ((k + 1) % 3) n) v) refl refl refl refl (t.other miss no)))
 
 pub see : (b : Bounds) (id : ℕ) (v : Pass) → Admits (Ruled b) id v limit_place (λ n. n) (λ n w. Same v w × Sees v n w)
-see b id v = framing b id v limit_place (λ n. n) (λ n w. Sees v n w) (omega arith) (looks.see b id v) (λ n w t. stays v w (noted (steps.Limit n) (with_limit v n)) refl refl refl t)
+see b id v = framing b id v limit_place (λ n. n) (λ n w. Sees v n w) (omega arith) (looks.see b id v) (λ n w t. stays v w (noted (steps.Limit n) (with_limit v n)) refl refl refl refl t)
 
 pub count : (b : Bounds) (id : ℕ) (v : Pass) → Admits (Ruled b) id v count_place (λ n. n) (λ n w. Same v w × Counts v n w)
-count b id v = framing b id v count_place (λ n. n) (λ n w. Counts v n w) (omega arith) (looks.count b id v) (λ n w t. stays v w (noted (steps.Count n) (with_count v n)) refl refl refl t.after)
+count b id v = framing b id v count_place (λ n. n) (λ n w. Counts v n w) (omega arith) (looks.count b id v) (λ n w t. stays v w (noted (steps.Count n) (with_count v n)) refl refl refl refl t.after)
 
 pub arm : (b : Bounds) (id : ℕ) (v : Pass) → 120 ≤ v.right.parts → Admits (Ruled b) id v (tail_place v.seen.count) (λ n. n) (λ n w. Same v w × Arms v n w)
 arm b id v able = framing b id v (tail_place v.seen.count) (λ n. n) (λ n w. Arms v n w) (looks.tail_low v.seen.count) (looks.arm b id v able) (λ n w t. arms_grows v n w t)
@@ -109,7 +109,7 @@ pub rotate : (b : Bounds) (id : ℕ) (v : Pass) (k from to : ℕ) → v.seen.ful
 rotate b id v k from to full low named goes = framing b id v (tail_place (k + 1)) (λ n. either (eqb n from) to n) (λ n w. Rotates v k from n w) (looks.tail_low (k + 1)) (turning.rotate b id v k from to full low named goes) (λ n w t. rotates_grows v k from n w t)
 
 pub advance : (b : Bounds) (id : ℕ) (v : Pass) (old : ℕ) → v.seen.begun ≡ old + 1 → Admits (Ruled b) id v count_place (λ n. either (eqb n old) (old + 1) n) (λ n w. Same v w × Advances v n w)
-advance b id v old began = framing b id v count_place (λ n. either (eqb n old) (old + 1) n) (λ n w. Advances v n w) (omega arith) (turning.advance b id v old began) (λ n w t. stays v w (noted (steps.CountExchange n) v) refl refl refl t.after)
+advance b id v old began = framing b id v count_place (λ n. either (eqb n old) (old + 1) n) (λ n w. Advances v n w) (omega arith) (turning.advance b id v old began) (λ n w t. stays v w (noted (steps.CountExchange n) v) refl refl refl refl t.after)
 
 -- ---- stores
 
@@ -117,7 +117,7 @@ advance b id v old began = framing b id v count_place (λ n. either (eqb n old) 
 data_set : (b : Bounds) (ws : List ℕ) (ps : List Pass) (r : Claimed b ws ps) (id i n : ℕ) (v : Pass) (fs ds : List FrameWords) → 208 ≤ i → get_elem? ps id ≡ some v → Claimed b (set ws i n) (set ps id (with_work fs ds v))
 data_set b ws ps r id i n v fs ds far at = let k = r.each id v at in let t = r.terms in let w = with_work fs ds v in
     moved b ws ps r id v w (set ws i n) r.log t at (unchanged (shape_of b) t) (elsewhere (shape_of b) (first_of b) t ws (set ws i n) (λ j some' low. get_or-set_other ws i j n 0 (λ e. omega arith)) r.tailed)
-        (record { identity = k.identity; start = k.start; number = k.number; right = k.right; entries = k.entries; seen = k.seen }) refl (length-set ws i n) (get_or-set_other ws i 0 n 0 (λ e. omega arith)) (same_over b ws ps r id v w at refl refl) r.tiles (λ h. refl) (same_room b ws ps r id v w at refl) r.reached
+    (record { identity = k.identity; start = k.start; number = k.number; right = k.right; entries = k.entries; seen = k.seen }) refl (length-set ws i n) (get_or-set_other ws i 0 n 0 (λ e. omega arith)) (same_over b ws ps r id v w at refl refl) r.tiles (λ h. refl) (same_room b ws ps r id v w at refl) r.reached
 
 by_pass : (id : ℕ) (v : Pass) (i : ℕ) (f : ℕ → ℕ) (told : ℕ → Pass → Type 0) → ((b : Bounds) → Admits (Ruled (read_off b v)) id v i f told) → (b : Bounds) → Admits (Ruled b) id v i f told
 by_pass id v i f told go b ws ps r at = let k = r.claims.each id v at in
@@ -170,9 +170,12 @@ store_at id v p n h b' ws ps r at =
         claims = data_set b ws ps r.claims id i n v v.work.frames (h.front ++ written d k n ∷ h.behind) (omega arith) at;
         memory = subst (λ (z : ℕ). Memory b (set ws z n) (set ps id w)) spot memory;
       },
-      (record { identity = refl; start = refl; parts = refl }, λ front draft behind place parts above inside position. same_place p (λ a c e. (j : ℕ) → p ≡ c.start + 8 * j → w ≡ with_work v.work.frames (a ++ written c j n ∷ e) v) h.front d h.behind front draft behind (sym h.parts ∙ parts)
-          (has p d.start k (length d.words) h.position h.inside) (has p draft.start place (length draft.words) position inside) (subst (λ l. Covered p l ≤ 1) h.parts (once b ws ps r id v at p))
-          (λ j e. ap (λ (z : ℕ). with_work v.work.frames (h.front ++ written d z n ∷ h.behind) v) (one p d.start k j h.position e)) place position),
+      (
+        record { identity = refl; start = refl; number = refl; parts = refl },
+        λ front draft behind place parts above inside position. same_place p (λ a c e. (j : ℕ) → p ≡ c.start + 8 * j → w ≡ with_work v.work.frames (a ++ written c j n ∷ e) v) h.front d h.behind front draft behind (sym h.parts ∙ parts)
+            (has p d.start k (length d.words) h.position h.inside) (has p draft.start place (length draft.words) position inside) (subst (λ l. Covered p l ≤ 1) h.parts (once b ws ps r id v at p))
+            (λ j e. ap (λ (z : ℕ). with_work v.work.frames (h.front ++ written d z n ∷ h.behind) v) (one p d.start k j h.position e)) place position,
+      ),
     )
   where
     has : (p s k l : ℕ) → p ≡ s + 8 * k → k < l → (s ≤ p) × (p < s + 8 * l)
@@ -214,8 +217,11 @@ commit_at id v p n h first b' ws ps r at =
         claims = data_set b ws ps r.claims id i n v (fs ++ written d 0 n ∷ []) (h.front ++ h.behind) (omega arith) at;
         memory = subst (λ (z : ℕ). Memory b (set ws z n) (set ps id w)) spot memory;
       },
-      (record { identity = refl; start = refl; parts = refl }, λ front draft behind parts inside position. same_place p (λ a c e. w ≡ with_work (fs ++ written c 0 n ∷ []) (a ++ e) v) h.front d h.behind front draft behind (sym h.parts ∙ parts)
-          (has p d.start (length d.words) h.position h.inside) (has p draft.start (length draft.words) position inside) (subst (λ l. Covered p l ≤ 1) h.parts (once b ws ps r id v at p)) refl),
+      (
+        record { identity = refl; start = refl; number = refl; parts = refl },
+        λ front draft behind parts inside position. same_place p (λ a c e. w ≡ with_work (fs ++ written c 0 n ∷ []) (a ++ e) v) h.front d h.behind front draft behind (sym h.parts ∙ parts)
+            (has p d.start (length d.words) h.position h.inside) (has p draft.start (length draft.words) position inside) (subst (λ l. Covered p l ≤ 1) h.parts (once b ws ps r id v at p)) refl,
+      ),
     )
   where
     has : (p s l : ℕ) → p ≡ s → 0 < l → (s ≤ p) × (p < s + 8 * l)

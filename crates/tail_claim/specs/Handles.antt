@@ -1,26 +1,46 @@
 -- What contracts see of a log on a table and of its publishers.
-use Rattle.std.specs.Prelude.{◌≡◌, ℕ, ◌+◌, ◌%◌, ◌<◌, List, [], ◌∷◌, All}
+use Rattle.std.specs.Prelude.{◌≡◌, ℕ, ◌+◌, ◌%◌, ◌<◌, List}
 use Rattle.atomic_table.specs.Seated.{TableId}
-use Rattle.theory.specs.Position.{Geometry, max_position}
+use Rattle.theory.specs.Position.{Geometry, IsGeometry, max_position}
 use Rattle.theory.specs.Bytes.{Identity}
 use Rattle.word_calls.specs.declared.pass.Pass.{Pass}
+use Rattle.tail_claim.specs.declared.view.Key.{Key}
+use Rattle.tail_claim.specs.Packs.{table_length}
+use Rattle.tail_claim.specs.Admits.{Same}
 
+-- which table it is, the stream that it carries, and where that begins
 pub record LogValue : Type 0 where
   pub table : TableId
   pub identity : Identity
   pub start : ℕ
 
+-- the seat of a table, its pass, and the word steps that it has made
 pub record PublisherValue : Type 0 where
   pub of : TableId
   pub seat : ℕ
   pub pass : Pass
   pub steps : ℕ
 
+-- the table has the words of this stream's log
+pub record IsTable (table : TableId) (key : Key) (identity : Identity) (start : ℕ) : Type 0 where
+  pub words : table.words ≡ table_length identity.geometry
+  pub slots : table.slots ≡ 0
+  pub identity_is : key.identity ≡ identity
+  pub start_is : key.start ≡ start
+  pub geometry : IsGeometry identity.geometry
+
 -- the publisher is one of this log
 pub record IsOf (l : LogValue) (p : PublisherValue) : Type 0 where
   pub table : p.of ≡ l.table
   pub identity : p.pass.identity ≡ l.identity
   pub start : p.pass.start ≡ l.start
+
+-- it has made one step more
+pub record Stepped (p q : PublisherValue) : Type 0 where
+  pub of : q.of ≡ p.of
+  pub seat : q.seat ≡ p.seat
+  pub steps : q.steps ≡ p.steps + 1
+  pub same : Same p.pass q.pass
 
 -- a position at which a stream may begin
 abbrev pub IsStart : Geometry → ℕ → Type 0

@@ -1,10 +1,10 @@
 //! The rule of a log's table, and its kinds of step.
 
+ghost use Rattle.std.specs.Prelude.{ℕ};
+
 use crate::view::{Key, View};
 use atomic_table::{Play, Split, TableRule};
 use std::marker::{Brand, PhantomData};
-
-ghost use Rattle.std.specs.Prelude.{ℕ};
 
 /// The words and passes of a log obey the rule of claims.
 pub struct LogRule;
