@@ -1,19 +1,19 @@
 -- The words of a log that opens obey the rule, and so do its first passes.
-use Rattle.std.proofs.Common.{◌≡◌, ◌≢◌, ◌⊎◌, ℕ, zero, suc, ◌+◌, ◌-◌, ◌*◌, ◌/◌, ◌%◌, ◌^◌, ◌<◌, ◌≤◌, cond, min, Bool, List, [], ◌∷◌, ◌++◌, map, length, set, sym, refl, ap, ◌∙◌, subst, ⊎_elim, suc-ne-zero, mul-zero, mul-le-mul_left, mul_comm, mod-lt, lt_of_not-le, div-add-mod', arith}
+use Rattle.std.proofs.Common.{◌≡◌, ◌≢◌, ◌⊎◌, ℕ, zero, suc, ◌+◌, ◌-◌, ◌*◌, ◌/◌, ◌%◌, ◌^◌, ◌<◌, ◌≤◌, cond, min, Bool, List, [], ◌∷◌, ◌++◌, map, replicate, length, set, length-set, get_or-set_same, get_or-set_other, sym, refl, ap, ◌∙◌, subst, ⊎_elim, suc-ne-zero, mul-zero, mul-le-mul_left, mul_comm, mod-lt, lt_of_not-le, div-add-mod', arith}
 use mathlib.Core.Option.{some, some-injective, some-ne-none}
 use mathlib.Core.Logic.{dite}
 use native.Mathlib.Decide.{dec_le, ℕ_discrete}
 use lib.ListN.{get_elem?}
 use Rattle.std.specs.Prelude.{slice_index, nat_eq}
 use Rattle.std.specs.List.{AllByRecursion}
-use Rattle.std.proofs.lemmas.List.{map-append, map-set}
+use Rattle.std.proofs.lemmas.List.{length-replicate, map-append, map-set}
 use Rattle.atomic_table.specs.Table.{Splits, State}
 use Rattle.atomic_table.proofs.Lists.{at_map, at_set, at_snoc}
 use Rattle.theory.specs.Position.{Geometry, IsGeometry, id_of}
 use Rattle.theory.specs.Entry.{Entry, length_of}
 use Rattle.theory.specs.Refusal.{limit_in}
 use Rattle.theory.specs.Words.{id_before, tail_word}
-use Rattle.theory.proofs.Places.{mod_unit, power_unit}
+use Rattle.theory.proofs.Places.{mod_unit, power_half, power_unit}
 use Rattle.word_calls.specs.declared.pass.Pass.{Pass}
 use Rattle.tail_claim.specs.declared.view.Key.{Key}
 use Rattle.tail_claim.specs.declared.view.View.{View}
@@ -22,7 +22,8 @@ use Rattle.tail_claim.specs.Sums.{total}
 use Rattle.tail_claim.specs.Terms.{Tailed, Terms, Turns, end_of}
 use Rattle.tail_claim.specs.Rule.{Bounds, Claimed, Entitled, Knows, Saw, Sound, armed_of, armed_on, first_of, parts_of, shape_of, size_of, weight}
 use Rattle.tail_claim.specs.Memory.{Memory, Ruled, Stored, tail_of}
-use Rattle.tail_claim.specs.Plays.{TableRuled, bounds_of, dealing, dealt, first_seat, newcomer, pass_in}
+use Rattle.tail_claim.specs.Openings.{Fresh}
+use Rattle.tail_claim.specs.Plays.{TableRuled, bounds_of, dealer, dealing_seat, dealt, dealt_seat, first_seat, newcomer, pass_in}
 use Rattle.tail_claim.proofs.Packs.{before_count, put, at_put, put_else, put_here}
 use Rattle.tail_claim.proofs.Totals.{total_append, total_set}
 use Rattle.tail_claim.proofs.Accounts.{each_set, knows_on, none_armed, unchanged}
@@ -30,17 +31,7 @@ use Rattle.tail_claim.proofs.Looks.{min_of_le, term_short}
 
 -- ---- the words of a log that opens
 
--- what they are
-pub record Fresh (b : Bounds) (ws : List ℕ) : Type 0 where
-  pub wide : length ws ≡ table_length (shape_of b)
-  pub limit : limit_in (slice_index ws limit_place) ≡ b.limit
-  pub count : slice_index ws count_place ≡ first_of b
-  pub here : slice_index ws (tail_place (first_of b)) ≡ tail_word (id_of (shape_of b) (first_of b)) (b.start % size_of b)
-  pub next : slice_index ws (tail_place (first_of b + 1)) ≡ tail_word (id_before (shape_of b) (first_of b) 2) 0
-  pub last : slice_index ws (tail_place (first_of b + 2)) ≡ tail_word (id_before (shape_of b) (first_of b) 1) 0
-  pub zeros : (i : ℕ) → 208 ≤ i → slice_index ws i ≡ 0
-
-first_low : (b : Bounds) → Sound b → first_of b < 2147483648
+pub first_low : (b : Bounds) → Sound b → first_of b < 2147483648
 first_low b so = low b.start (size_of b) (first_of b) (b.start % size_of b) (div-add-mod' b.start (size_of b)) so.below
   where
     low : (s t q m : ℕ) → q * t + m ≡ s → s < t * 2147483648 → q < 2147483648
@@ -75,9 +66,45 @@ fresh_tailed b ws so f =
       unused = λ back a c. back_word back (omega arith) c;
     }
 
+zero_at : (n i : ℕ) → slice_index (replicate {A = ℕ} n 0) i ≡ 0
+zero_at zero i = refl
+zero_at (suc n) zero = refl
+zero_at (suc n) (suc i) = zero_at n i
+
+limit_is : (start size : ℕ) → start % 32 ≡ 0 → size % 64 ≡ 0 → limit_in (start + size / 2 + 1) ≡ start + size / 2
+limit_is start size a c = omega arith
+
+-- the words, as they are set
+pub fresh_words : (key : Key) → Sound (bounds_of key) → (n i j k x y z : ℕ) → n ≡ table_length key.identity.geometry → i ≡ tail_place (first_of (bounds_of key)) → j ≡ tail_place (first_of (bounds_of key) + 1) → k ≡ tail_place (first_of (bounds_of key) + 2)
+    → x ≡ tail_word (id_of key.identity.geometry (first_of (bounds_of key))) (key.start % key.identity.geometry.term_length) → y ≡ tail_word (id_before key.identity.geometry (first_of (bounds_of key)) 2) 0 → z ≡ tail_word (id_before key.identity.geometry (first_of (bounds_of key)) 1) 0
+    → Fresh (bounds_of key) (set (set (set (set (set (replicate {A = ℕ} n 0) 0 (key.start + key.identity.geometry.term_length / 2 + 1)) 16 (first_of (bounds_of key))) i x) j y) k z)
+fresh_words key so n i j k x y z wide ei ej ek ex ey ez =
+    let b = bounds_of key in let c : ℕ = first_of b in let l : ℕ = key.start + key.identity.geometry.term_length / 2 + 1 in
+    let w0 : List ℕ = replicate {A = ℕ} n 0 in let w1 : List ℕ = set w0 0 l in let w2 : List ℕ = set w1 16 c in let w3 : List ℕ = set w2 i x in let w4 : List ℕ = set w3 j y in let w5 : List ℕ = set w4 k z in
+    let long0 : length w0 ≡ n = length-replicate {A = ℕ} n 0 in let long1 : length w1 ≡ n = length-set w0 0 l ∙ long0 in let long2 : length w2 ≡ n = length-set w1 16 c ∙ long1 in let long3 : length w3 ≡ n = length-set w2 i x ∙ long2 in let long4 : length w4 ≡ n = length-set w3 j y ∙ long3 in let long5 : length w5 ≡ n = length-set w4 k z ∙ long4 in
+    let li : (i < 208) × (32 ≤ i) = (omega arith, omega arith) in let lj : (j < 208) × (32 ≤ j) = (omega arith, omega arith) in let lk : (k < 208) × (32 ≤ k) = (omega arith, omega arith) in
+    let ij : i ≢ j = (λ e. apart c 1 (omega arith) (omega arith) (sym ei ∙ e ∙ ej)) in let ik : i ≢ k = (λ e. apart c 2 (omega arith) (omega arith) (sym ei ∙ e ∙ ek)) in let jk : j ≢ k = (λ e. apart_next c (sym ej ∙ e ∙ ek)) in
+    let low : 208 ≤ n = omega arith in
+    let else_is : (m : ℕ) → m ≢ i → m ≢ j → m ≢ k → slice_index w5 m ≡ slice_index w2 m = λ m a d e. get_or-set_other w4 k m z 0 e ∙ get_or-set_other w3 j m y 0 d ∙ get_or-set_other w2 i m x 0 a in
+    let half : key.identity.geometry.term_length % 64 ≡ 0 = power_half key.identity.geometry.term_length so.geometry.term.power so.geometry.term.least in record {
+      wide = long5 ∙ wide;
+      limit = ap limit_in (else_is 0 (λ e. omega arith) (λ e. omega arith) (λ e. omega arith) ∙ get_or-set_other w1 16 0 c 0 (λ e. omega arith) ∙ get_or-set_same w0 0 l 0 (let q : 0 < length w0 = omega arith in q)) ∙ limit_is key.start key.identity.geometry.term_length so.unit half;
+      count = else_is 16 (λ e. omega arith) (λ e. omega arith) (λ e. omega arith) ∙ get_or-set_same w1 16 c 0 (let q : 16 < length w1 = omega arith in q);
+      here = ap (slice_index w5) (sym ei) ∙ get_or-set_other w4 k i z 0 ik ∙ get_or-set_other w3 j i y 0 ij ∙ get_or-set_same w2 i x 0 (let q : i < length w2 = omega arith in q) ∙ ex;
+      next = ap (slice_index w5) (sym ej) ∙ get_or-set_other w4 k j z 0 jk ∙ get_or-set_same w3 j y 0 (let q : j < length w3 = omega arith in q) ∙ ey;
+      last = ap (slice_index w5) (sym ek) ∙ get_or-set_same w4 k z 0 (let q : k < length w4 = omega arith in q) ∙ ez;
+      zeros = λ m far. else_is m (λ e. omega arith) (λ e. omega arith) (λ e. omega arith) ∙ get_or-set_other w1 16 m c 0 (λ e. omega arith) ∙ get_or-set_other w0 0 m l 0 (λ e. omega arith) ∙ zero_at n m;
+    }
+  where
+    apart : (c d : ℕ) → 0 < d → d < 3 → tail_place c ≡ tail_place (c + d) → ⊥
+    apart c d p q e = omega arith
+
+    apart_next : (c : ℕ) → tail_place (c + 1) ≡ tail_place (c + 2) → ⊥
+    apart_next c e = omega arith
+
 -- ---- the first pass
 
-first_knows : (key : Key) → Sound (bounds_of key) → (t : Terms) → t.newest ≡ first_of (bounds_of key) → Knows (bounds_of key) t (newcomer key 7 1024)
+first_knows : (key : Key) → Sound (bounds_of key) → (t : Terms) → t.newest ≡ first_of (bounds_of key) → Knows (bounds_of key) t (newcomer key.identity key.start 7 1024)
 first_knows key so t e = record {
   identity = refl;
   start = refl;
@@ -93,7 +120,7 @@ one_pass P p a (suc j) v e = absurd (some-ne-none v (sym e))
 
 pub opens : (key : Key) (ws : List ℕ) → Sound (bounds_of key) → Fresh (bounds_of key) ws → TableRuled key record { words = ws; homes = []; views = first_seat key ∷ [] }
 opens key ws so f =
-    let b = bounds_of key in let g = shape_of b in let k : ℕ = first_of b in let off : ℕ = b.start % size_of b in let t = fresh_terms b in let s = term_short b so in let p : Pass = newcomer key 7 1024 in
+    let b = bounds_of key in let g = shape_of b in let k : ℕ = first_of b in let off : ℕ = b.start % size_of b in let t = fresh_terms b in let s = term_short b so in let p : Pass = newcomer key.identity key.start 7 1024 in
     let low : off ≤ size_of b = (let m : off < size_of b = mod-lt b.start (omega arith) in omega arith) in
     let ends : end_of g t ≡ b.start = ap (λ (z : ℕ). k * size_of b + z) (ap (λ (z : ℕ). min z (size_of b)) (put_here (λ _. 0) k off) ∙ min_of_le off (size_of b) low) ∙ div-add-mod' b.start (size_of b) in
     let none_there : b.greatest * 0 ≡ 0 = mul-zero b.greatest in record {
@@ -129,9 +156,9 @@ opens key ws so f =
 split_total : (f : Pass → ℕ) (ps : List Pass) (id : ℕ) (v l r : Pass) → get_elem? ps id ≡ some v → f l + f r ≡ f v → total f (set ps id l ++ r ∷ []) ≡ total f ps
 split_total f ps id v l r at e = let a = total_set f ps id v l at in let c = total_append f (set ps id l) (r ∷ []) in omega arith
 
-shared : (b : Bounds) (ws : List ℕ) (ps : List Pass) → Ruled b ws ps → (id : ℕ) (v : View) → get_elem? ps id ≡ some v.pass → v.pass.right.armed ≡ 0 → 120 < v.pass.right.parts → Ruled b ws (set ps id (dealing v).pass ++ (dealt v).pass ∷ [])
+shared : (b : Bounds) (ws : List ℕ) (ps : List Pass) → Ruled b ws ps → (id : ℕ) (v : View) → get_elem? ps id ≡ some v.pass → v.pass.right.armed ≡ 0 → 120 < v.pass.right.parts → Ruled b ws (set ps id (dealer v.pass) ++ (dealt v.pass) ∷ [])
 shared b ws ps r id v at off many =
-    let p : Pass = v.pass in let l : Pass = (dealing v).pass in let q : Pass = (dealt v).pass in let k = r.claims.each id p at in let m = r.memory.each id p at in let t = r.claims.terms in let ps' : List Pass = set ps id l ++ q ∷ [] in let number = k.number in
+    let p : Pass = v.pass in let l : Pass = (dealer v.pass) in let q : Pass = (dealt v.pass) in let k = r.claims.each id p at in let m = r.memory.each id p at in let t = r.claims.terms in let ps' : List Pass = set ps id l ++ q ∷ [] in let number = k.number in
     let same_armed : (j : ℕ) → armed_on j l + armed_on j q ≡ armed_on j p = λ j. (let a = none_armed j l off in let c = none_armed j q refl in let d = none_armed j p off in omega arith) in
     let keeps : Knows b t l = record { identity = k.identity; start = k.start; number = (let z : p.number - 1 < 8 = omega arith in z); right = record { capped = k.right.capped; able = omega arith; once = k.right.once; idle = λ z. absurd (omega arith) }; entries = k.entries; seen = k.seen } in
     let gets : Knows b t q = record { identity = k.identity; start = k.start; number = k.number; right = record { capped = k.right.capped; able = omega arith; once = omega arith; idle = λ z. refl }; entries = tt; seen = k.seen } in
@@ -166,7 +193,7 @@ shared b ws ps r id v at off many =
     plus_none : (n : ℕ) → n + 0 ≡ n
     plus_none n = omega arith
 
-pub deals : (key : Key) (id : ℕ) (v : View) → v.pass.right.armed ≡ 0 → 120 < v.pass.right.parts → Splits (TableRuled key) id v (dealing v) (dealt v)
+pub deals : (key : Key) (id : ℕ) (v : View) → v.pass.right.armed ≡ 0 → 120 < v.pass.right.parts → Splits (TableRuled key) id v (dealing_seat v) (dealt_seat v)
 deals key id v off many s r at =
-    let is : map pass_in (set s.views id (dealing v) ++ dealt v ∷ []) ≡ set (map pass_in s.views) id (dealing v).pass ++ (dealt v).pass ∷ [] = map-append pass_in (set s.views id (dealing v)) (dealt v ∷ []) ∙ ap (λ (l : List Pass). l ++ (dealt v).pass ∷ []) (map-set pass_in s.views id (dealing v)) in
+    let is : map pass_in (set s.views id (dealing_seat v) ++ dealt_seat v ∷ []) ≡ set (map pass_in s.views) id (dealer v.pass) ++ (dealt v.pass) ∷ [] = map-append pass_in (set s.views id (dealing_seat v)) (dealt_seat v ∷ []) ∙ ap (λ (l : List Pass). l ++ (dealt v.pass) ∷ []) (map-set pass_in s.views id (dealing_seat v)) in
     subst (λ (l : List Pass). Ruled (bounds_of key) s.words l) (sym is) (shared (bounds_of key) s.words (map pass_in s.views) r id v (at_map pass_in s.views id v at) off many)

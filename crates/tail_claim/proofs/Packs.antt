@@ -92,13 +92,6 @@ add_to_word id offset n fits low =
     fold u offset n small low = let sum : u * 4294967296 + offset + n ≡ u * 4294967296 + (offset + n) = omega arith in let fits : u * 4294967296 + (offset + n) < 18446744073709551616 = omega arith in
         ap (λ (z : ℕ). z % 18446744073709551616) sum ∙ mod-eq_of_lt fits
 
--- an id, shifted to the high half
-pub shifted : (id : ℤ) (x : ℕ) → FitsSigned w32 id → x ≡ cast_unsigned w32 id → (x * 4294967296) % 18446744073709551616 ≡ tail_word id 0
-shifted id x fits e = let small : cast_unsigned w32 id < 4294967296 = (of_z_fits w32 id fits).fits in high (cast_unsigned w32 id) x small e
-  where
-    high : (u x : ℕ) → u < 4294967296 → x ≡ u → (x * 4294967296) % 18446744073709551616 ≡ u * 4294967296 + 0
-    high u x small e = omega arith
-
 -- ---- partitions
 
 -- two counts of the last three that share a partition are one

@@ -1,5 +1,5 @@
 -- What contracts see of a log on a table and of its publishers.
-use Rattle.std.specs.Prelude.{◌≡◌, ℕ, ◌+◌, ◌%◌, ◌<◌, List}
+use Rattle.std.specs.Prelude.{◌≡◌, ℕ, suc, ◌+◌, ◌%◌, ◌<◌, List, [], ◌∷◌, nat_eq, if◌then◌else◌}
 use Rattle.atomic_table.specs.Seated.{TableId}
 use Rattle.theory.specs.Position.{Geometry, IsGeometry, max_position}
 use Rattle.theory.specs.Bytes.{Identity}
@@ -7,6 +7,7 @@ use Rattle.word_calls.specs.declared.pass.Pass.{Pass}
 use Rattle.tail_claim.specs.declared.view.Key.{Key}
 use Rattle.tail_claim.specs.Packs.{table_length}
 use Rattle.tail_claim.specs.Admits.{Same}
+use Rattle.tail_claim.specs.Plays.{newcomer}
 
 -- which table it is, the stream that it carries, and where that begins
 pub record LogValue : Type 0 where
@@ -41,6 +42,16 @@ pub record Stepped (p q : PublisherValue) : Type 0 where
   pub seat : q.seat ≡ p.seat
   pub steps : q.steps ≡ p.steps + 1
   pub same : Same p.pass q.pass
+
+-- the publishers of a log that was just opened, from this number on
+pub record IsNew (l : LogValue) (number : ℕ) (p : PublisherValue) : Type 0 where
+  pub of : IsOf l p
+  pub pass : p.pass ≡ newcomer l.identity l.start number (if nat_eq number 0 then 184 else 120)
+  pub steps : p.steps ≡ 0
+
+abbrev pub AreNew : LogValue → ℕ → List PublisherValue → Type 0
+AreNew l number [] = number ≡ 8
+AreNew l number (p ∷ ps) = IsNew l number p × AreNew l (suc number) ps
 
 -- a position at which a stream may begin
 abbrev pub IsStart : Geometry → ℕ → Type 0

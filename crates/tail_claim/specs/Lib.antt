@@ -7,3 +7,4 @@ pub mod Admits
 pub mod Plays
 pub mod Handles
 pub mod Faults
+pub mod Openings

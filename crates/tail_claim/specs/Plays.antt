@@ -2,6 +2,7 @@
 use Rattle.std.specs.Prelude.{◌≡◌, ℕ, suc, ◌+◌, ◌-◌, ◌*◌, ◌/◌, List, [], ◌∷◌, map}
 use Rattle.atomic_table.specs.Table.{Me, State, Step}
 use Rattle.theory.specs.Position.{greatest_claim}
+use Rattle.theory.specs.Bytes.{Identity}
 use Rattle.word_calls.specs.declared.pass.Keeping.{Keeping}
 use Rattle.word_calls.specs.declared.pass.Pass.{Pass}
 use Rattle.word_calls.specs.Steps.{works}
@@ -31,13 +32,13 @@ TableRuled key s = Ruled (bounds_of key) s.words (map pass_in s.views)
 abbrev pub no_keeping : Keeping
 no_keeping = record { right = 0; limit = 0; cleaned = 0; positions = [] }
 
--- a pass with so many parts, which has seen the log's first term
-abbrev pub newcomer : Key → ℕ → ℕ → Pass
-newcomer key number parts =
-    let first = key.start / key.identity.geometry.term_length in
+-- a pass with this number and so many parts, which has seen the term in which the log begins, and claimed nothing
+abbrev pub newcomer : Identity → ℕ → ℕ → ℕ → Pass
+newcomer identity start number parts =
+    let first = start / identity.geometry.term_length in
     record {
-      identity = key.identity;
-      start = key.start;
+      identity = identity;
+      start = start;
       number = number;
       call = [];
       right = record { parts = parts; limit = 0; armed = 0; claims = [] };
@@ -47,20 +48,23 @@ newcomer key number parts =
       keeping = no_keeping;
     }
 
--- the first seat is the last publisher, and has all parts
+-- the first seat is the last publisher's, and has all parts
 abbrev pub first_seat : Key → View
-first_seat key = record { pass = newcomer key 7 1024; steps = 0 }
+first_seat key = record { pass = newcomer key.identity key.start 7 1024; steps = 0 }
 
--- ---- a publisher is dealt: it has the number of the seat that deals, which has the number below it from then on
+-- ---- a publisher is dealt: it has the number of the one that deals, which has the number below it from then on
 
-abbrev pub dealing : View → View
-dealing v = record v { pass = record v.pass { number = v.pass.number - 1; right = record v.pass.right { parts = v.pass.right.parts - 120 } } }
+abbrev pub dealer : Pass → Pass
+dealer v = record v { number = v.number - 1; right = record v.right { parts = v.right.parts - 120 } }
 
-abbrev pub dealt : View → View
-dealt v = record {
-  pass = record v.pass { call = []; right = record { parts = 120; limit = v.pass.right.limit; armed = 0; claims = [] }; work = works [] []; reading = []; keeping = no_keeping };
-  steps = 0;
-}
+abbrev pub dealt : Pass → Pass
+dealt v = record v { call = []; right = record { parts = 120; limit = v.right.limit; armed = 0; claims = [] }; work = works [] []; reading = []; keeping = no_keeping }
+
+abbrev pub dealing_seat : View → View
+dealing_seat v = record { pass = dealer v.pass; steps = v.steps }
+
+abbrev pub dealt_seat : View → View
+dealt_seat v = record { pass = dealt v.pass; steps = 0 }
 
 -- ---- what a step tells
 

@@ -8,6 +8,7 @@
 mod calls;
 mod fault;
 mod log;
+mod opening;
 mod plays;
 mod view;
 

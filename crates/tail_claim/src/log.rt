@@ -2,7 +2,7 @@
 
 ghost use Rattle.std.specs.Prelude.{◌≡◌, ℕ, ◌+◌, ◌-◌, ◌*◌, ◌/◌, ◌%◌, ◌^◌, ◌<◌, ◌≤◌, suc, []};
 ghost use Rattle.theory.specs.Position.{id_of, max_message};
-ghost use Rattle.theory.specs.Words.{id_before, id_in};
+ghost use Rattle.theory.specs.Words.{id_before, id_in, tail_word};
 ghost use Rattle.word_calls.specs.Steps.{Adds, Advances, Arms, BeginsFrame, Commits, Counts, HasWord, Nexts, Rotates, Sees, Stores};
 ghost use Rattle.tail_claim.specs.Packs.{slot, tail_place};
 ghost use Rattle.tail_claim.specs.Handles.{IsOf, Stepped};
@@ -15,13 +15,13 @@ use std::marker::Model;
 use word_calls::Identity;
 
 /// The place of the active count among the words of the table. That of the limit is 0.
-const COUNT: usize = 16;
+pub(crate) const COUNT: usize = 16;
 
 /// That of the first raw tail; each further one is a cache line behind.
 const TAILS: usize = 32;
 
 /// That of the stream's first word.
-const DATA: usize = 208;
+pub(crate) const DATA: usize = 208;
 
 /// The words of a log, on a table that threads share. It is connected, and its limit stays half a term above the start.
 #[derive(Drop)]
@@ -64,6 +64,13 @@ pub(crate) fn place_of(count: u32) -> usize
     ensures low { result < 208 }
 {
     (count % 3) as usize * 16 + TAILS
+}
+
+/// A raw tail: the id in the high 32 bits, the offset in the low 32.
+pub(crate) fn packed(id: i32, offset: u32) -> u64
+    ensures { result ≡ tail_word id offset }
+{
+    u64::from(id.cast_unsigned()) << 32 | u64::from(offset)
 }
 
 impl TableLog {
@@ -159,7 +166,7 @@ impl TableLog {
     {
         let words = &self.table.shared;
         let id = self.identity.geometry().id_of(count + 1);
-        let to = u64::from(id.cast_unsigned()) << 32;
+        let to = packed(id, 0);
         words.compare_exchange::<Rotate<N>>(&mut publisher.seat, place_of(count + 1), from, to)
     }
 

@@ -21,11 +21,11 @@ impl TableRule<(), View, Key> for LogRule {
 pub struct Deal;
 
 impl Split<View> for Deal {
-    ghost use Rattle.tail_claim.specs.Plays.{dealing, dealt};
+    ghost use Rattle.tail_claim.specs.Plays.{dealing_seat, dealt_seat};
 
-    ghost left = { dealing };
+    ghost left = { dealing_seat };
 
-    ghost right = { dealt };
+    ghost right = { dealt_seat };
 }
 
 /// A number that a call picks for its step.

@@ -11,7 +11,7 @@ use Rattle.tail_claim.specs.Plays.{Mine, TableRuled, bounds_of}
 use Rattle.tail_claim.proofs.Lifting.{lifted, lifted_at}
 use Rattle.std.specs.Int.{w32, cast_signed, cast_unsigned}
 use Rattle.std.proofs.lemmas.Int.{to_z-of_z}
-use Rattle.tail_claim.proofs.Packs.{id_fits, shifted}
+use Rattle.tail_claim.proofs.Packs.{id_fits}
 use Rattle.tail_claim.proofs.Whole as whole
 use Rattle.tail_claim.proofs.log.TableLog.rotate_as.Goals as goal
 
@@ -19,8 +19,7 @@ pub compare_exchange-requires : goal.compare_exchange-requires
 compare_exchange-requires g c = let me : Mine = c.publisher.inside.seat.me in let v : Pass = me.0.pass in let vi : v ≡ c.args.publisher.now.pass = ap (λ p. p.pass) c.publisher.view_is in let wide = c.self.invariant.words in let low = c.place_of.ensures.low in let k : ℕ = g.N.Chosen.number in let is : k ≡ c.args.count = c.requires.chosen in let last = c.requires.last in
     let shape : v.identity.geometry ≡ c.self.inside.identity.geometry = ap (λ (i : Identity). i.geometry) (ap (λ (p : Pass). p.identity) vi ∙ c.requires.fits.identity ∙ sym (ap (λ l. l.identity) c.self.view_is)) in
     let id_is : c.id_of-id.result ≡ id_of v.identity.geometry (k + 1) = c.id_of-id.ensures ∙ (λ j. id_of (c.geometry.ensures.value j) (sym is j + 1)) ∙ (λ j. id_of (sym shape j) (k + 1)) in
-    let to : ℕ = (c.from-to.result * 4294967296) % 18446744073709551616 in
-    let to_is : to ≡ tail_word (id_of v.identity.geometry (k + 1)) 0 = shifted (id_of v.identity.geometry (k + 1)) c.from-to.result (id_fits v.identity.geometry (k + 1)) (c.from-to.ensures ∙ c.cast_unsigned.ensures ∙ ap (λ z. cast_unsigned w32 (cast_signed w32 (cast_unsigned w32 z))) id_is ∙ ap (cast_unsigned w32) (to_z-of_z w32 (id_of v.identity.geometry (k + 1)) (id_fits v.identity.geometry (k + 1)))) in (
+    let to : ℕ = c.packed-to.result in let to_is : to ≡ tail_word (id_of v.identity.geometry (k + 1)) 0 = c.packed-to.ensures ∙ ap (λ z. tail_word (cast_signed w32 (cast_unsigned w32 z)) 0) id_is ∙ ap (λ z. tail_word z 0) (to_z-of_z w32 (id_of v.identity.geometry (k + 1)) (id_fits v.identity.geometry (k + 1))) in (
       search rules,
       omega arith,
       lifted_at _ _ _ (tail_place (k + 1)) me (λ n. either (eqb n c.args.from) to n) (λ n w. Rotates v k c.args.from n w) c.place_of.result (c.place_of.ensures.is ∙ ap (λ (z : ℕ). tail_place (z + 1)) (sym is))
