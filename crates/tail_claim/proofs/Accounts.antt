@@ -112,7 +112,7 @@ pub moved : (b : Bounds) (ws : List ℕ) (ps : List Pass) (r : Claimed b ws ps) 
 moved b ws ps r id v w ws' log' u at later tailed mine same wide limit over tiles fair room reached = record {
   sound = r.sound;
   wide = wide ∙ r.wide;
-  limit = ap limit_in limit ∙ r.limit;
+  limit = limit ∙ r.limit;
   terms = u;
   tailed = tailed;
   log = log';

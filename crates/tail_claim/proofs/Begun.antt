@@ -9,7 +9,7 @@ use Rattle.std.specs.List.{AllByRecursion}
 use Rattle.std.proofs.lemmas.List.{length-replicate, map-append, map-set}
 use Rattle.atomic_table.specs.Table.{Splits, State}
 use Rattle.atomic_table.proofs.Lists.{at_map, at_set, at_snoc}
-use Rattle.theory.specs.Position.{Geometry, IsGeometry, id_of}
+use Rattle.theory.specs.Position.{Geometry, IsGeometry, id_of, max_position}
 use Rattle.theory.specs.Entry.{Entry, length_of}
 use Rattle.theory.specs.Refusal.{limit_in}
 use Rattle.theory.specs.Words.{id_before, tail_word}
@@ -74,6 +74,9 @@ zero_at (suc n) (suc i) = zero_at n i
 limit_is : (start size : ℕ) → start % 32 ≡ 0 → size % 64 ≡ 0 → limit_in (start + size / 2 + 1) ≡ start + size / 2
 limit_is start size a c = omega arith
 
+pub sound_key : (key : Key) → IsGeometry key.identity.geometry → key.start % 32 ≡ 0 → key.start < max_position key.identity.geometry → Sound (bounds_of key)
+sound_key key is unit below = record { geometry = is; unit = unit; below = below; greatest = refl; limit = limit_is key.start key.identity.geometry.term_length unit (power_half key.identity.geometry.term_length is.term.power is.term.least) }
+
 -- the words, as they are set
 pub fresh_words : (key : Key) → Sound (bounds_of key) → (n i j k x y z : ℕ) → n ≡ table_length key.identity.geometry → i ≡ tail_place (first_of (bounds_of key)) → j ≡ tail_place (first_of (bounds_of key) + 1) → k ≡ tail_place (first_of (bounds_of key) + 2)
     → x ≡ tail_word (id_of key.identity.geometry (first_of (bounds_of key))) (key.start % key.identity.geometry.term_length) → y ≡ tail_word (id_before key.identity.geometry (first_of (bounds_of key)) 2) 0 → z ≡ tail_word (id_before key.identity.geometry (first_of (bounds_of key)) 1) 0
@@ -86,9 +89,9 @@ fresh_words key so n i j k x y z wide ei ej ek ex ey ez =
     let ij : i ≢ j = (λ e. apart c 1 (omega arith) (omega arith) (sym ei ∙ e ∙ ej)) in let ik : i ≢ k = (λ e. apart c 2 (omega arith) (omega arith) (sym ei ∙ e ∙ ek)) in let jk : j ≢ k = (λ e. apart_next c (sym ej ∙ e ∙ ek)) in
     let low : 208 ≤ n = omega arith in
     let else_is : (m : ℕ) → m ≢ i → m ≢ j → m ≢ k → slice_index w5 m ≡ slice_index w2 m = λ m a d e. get_or-set_other w4 k m z 0 e ∙ get_or-set_other w3 j m y 0 d ∙ get_or-set_other w2 i m x 0 a in
-    let half : key.identity.geometry.term_length % 64 ≡ 0 = power_half key.identity.geometry.term_length so.geometry.term.power so.geometry.term.least in record {
+    record {
       wide = long5 ∙ wide;
-      limit = ap limit_in (else_is 0 (λ e. omega arith) (λ e. omega arith) (λ e. omega arith) ∙ get_or-set_other w1 16 0 c 0 (λ e. omega arith) ∙ get_or-set_same w0 0 l 0 (let q : 0 < length w0 = omega arith in q)) ∙ limit_is key.start key.identity.geometry.term_length so.unit half;
+      limit = else_is 0 (λ e. omega arith) (λ e. omega arith) (λ e. omega arith) ∙ get_or-set_other w1 16 0 c 0 (λ e. omega arith) ∙ get_or-set_same w0 0 l 0 (let q : 0 < length w0 = omega arith in q);
       count = else_is 16 (λ e. omega arith) (λ e. omega arith) (λ e. omega arith) ∙ get_or-set_same w1 16 c 0 (let q : 16 < length w1 = omega arith in q);
       here = ap (slice_index w5) (sym ei) ∙ get_or-set_other w4 k i z 0 ik ∙ get_or-set_other w3 j i y 0 ij ∙ get_or-set_same w2 i x 0 (let q : i < length w2 = omega arith in q) ∙ ex;
       next = ap (slice_index w5) (sym ej) ∙ get_or-set_other w4 k j z 0 jk ∙ get_or-set_same w3 j y 0 (let q : j < length w3 = omega arith in q) ∙ ey;

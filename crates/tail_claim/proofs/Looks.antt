@@ -51,7 +51,7 @@ pub see : (b : Bounds) (id : ℕ) (v : Pass) → Admits (Claimed b) id v limit_p
 see b id v ws ps r at = let n : ℕ = slice_index ws 0 in let w = noted (steps.Limit n) (with_limit v n) in let k = r.each id v at in (
   w,
   sighted b ws ps r id 0 v w at
-      record { identity = k.identity; start = k.start; number = k.number; right = record { capped = (let e = r.limit in omega arith); able = k.right.able; once = k.right.once; idle = k.right.idle }; entries = k.entries; seen = k.seen } refl refl refl refl,
+      record { identity = k.identity; start = k.start; number = k.number; right = record { capped = (let e : limit_in n ≡ b.limit = ap limit_in r.limit ∙ r.sound.limit in omega arith); able = k.right.able; once = k.right.once; idle = k.right.idle }; entries = k.entries; seen = k.seen } refl refl refl refl,
   refl,
 )
 

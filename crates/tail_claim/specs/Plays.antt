@@ -15,13 +15,14 @@ use Rattle.tail_claim.specs.Admits.{Same}
 abbrev pub pass_in : View → Pass
 pass_in v = v.pass
 
--- the limit stays half a term above the start, and nothing is cleaned
+-- the log is connected, the limit stays half a term above the start, and nothing is cleaned
 abbrev pub bounds_of : Key → Bounds
 bounds_of key = record {
   identity = key.identity;
   start = key.start;
   greatest = greatest_claim key.identity.geometry;
   limit = key.start + key.identity.geometry.term_length / 2;
+  word = key.start + key.identity.geometry.term_length / 2 + 1;
   floor = key.start;
   cleaned = key.start;
 }

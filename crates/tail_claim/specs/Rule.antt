@@ -23,6 +23,8 @@ pub record Bounds : Type 0 where
   -- what the longest message covers
   pub greatest : ℕ
   pub limit : ℕ
+  -- the limit's word, which has the flags too
+  pub word : ℕ
   pub floor : ℕ
   pub cleaned : ℕ
 
@@ -41,6 +43,7 @@ pub record Sound (b : Bounds) : Type 0 where
   pub unit : b.start % 32 ≡ 0
   pub below : b.start < max_position (shape_of b)
   pub greatest : b.greatest ≡ greatest_claim (shape_of b)
+  pub limit : limit_in b.word ≡ b.limit
 
 -- ---- what passes have
 
@@ -96,7 +99,7 @@ pub record Knows (b : Bounds) (t : Terms) (v : Pass) : Type 0 where
 pub record Claimed (b : Bounds) (words : List ℕ) (passes : List Pass) : Type 0 where
   pub sound : Sound b
   pub wide : length words ≡ table_length (shape_of b)
-  pub limit : limit_in (slice_index words limit_place) ≡ b.limit
+  pub limit : slice_index words limit_place ≡ b.word
   pub terms : Terms
   pub tailed : Tailed (shape_of b) (first_of b) terms words
   pub log : List Entry

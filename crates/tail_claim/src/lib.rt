@@ -9,6 +9,7 @@ mod calls;
 mod fault;
 mod log;
 mod opening;
+mod peek;
 mod plays;
 mod view;
 

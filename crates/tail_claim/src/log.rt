@@ -14,11 +14,16 @@ use std::alloc::Global;
 use std::marker::Model;
 use word_calls::Identity;
 
+/// How far apart control words are, in words: a cache line.
+pub(crate) const LINE: usize = 16;
+
 /// The place of the active count among the words of the table. That of the limit is 0.
 pub(crate) const COUNT: usize = 16;
 
-/// That of the first raw tail; each further one is a cache line behind.
-const TAILS: usize = 32;
+/// That of the first raw tail, and that of the first consumer's position; each further one is a line behind.
+pub(crate) const TAILS: usize = 32;
+
+pub(crate) const CONSUMERS: usize = 80;
 
 /// That of the stream's first word.
 pub(crate) const DATA: usize = 208;
@@ -63,7 +68,7 @@ pub(crate) fn place_of(count: u32) -> usize
     ensures is { result ≡ tail_place count }
     ensures low { result < 208 }
 {
-    (count % 3) as usize * 16 + TAILS
+    (count % 3) as usize * LINE + TAILS
 }
 
 /// A raw tail: the id in the high 32 bits, the offset in the low 32.
