@@ -10,3 +10,5 @@ pub mod Storing
 pub mod Whole
 pub mod Lifting
 pub mod Begun
+pub mod Gathering
+pub mod Greatest

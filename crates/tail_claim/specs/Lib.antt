@@ -8,3 +8,4 @@ pub mod Plays
 pub mod Handles
 pub mod Faults
 pub mod Openings
+pub mod Closing
