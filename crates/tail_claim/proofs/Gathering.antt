@@ -62,9 +62,9 @@ joined b ws ps r i j v w at ne at' off off' able =
     } in
     let none : Stored b ws q = record { stands = tt; placed = λ h. refl; aligned = tt; done = tt; undone = tt; kept = tt } in
     let each : (P : Pass → Type 0) → P l → P q → ((x : ℕ) (u : Pass) → get_elem? ps x ≡ some u → P u) → (x : ℕ) (u : Pass) → get_elem? ps' x ≡ some u → P u = λ P pl pq pe x u e. ⊎_elim
-        (λ (y : (x ≡ j) × (q ≡ u)). subst P y.1 pq)
-        (λ (y : (x ≢ j) × (get_elem? (set ps i l) x ≡ some u)). ⊎_elim (λ (z : (x ≡ i) × (l ≡ u)). subst P z.1 pl) (λ (z : (x ≢ i) × (get_elem? ps x ≡ some u)). pe x u z.1) (at_set ps i x l u y.1))
-        (at_set (set ps i l) j x q u e) in record {
+    (λ (y : (x ≡ j) × (q ≡ u)). subst P y.1 pq)
+    (λ (y : (x ≢ j) × (get_elem? (set ps i l) x ≡ some u)). ⊎_elim (λ (z : (x ≡ i) × (l ≡ u)). subst P z.1 pl) (λ (z : (x ≢ i) × (get_elem? ps x ≡ some u)). pe x u z.1) (at_set ps i x l u y.1))
+    (at_set (set ps i l) j x q u e) in record {
       claims = record {
         sound = r.claims.sound;
         wide = r.claims.wide;
@@ -97,4 +97,4 @@ joins key id other v w off off' able s r at ne at' =
     let ps : List Pass = map pass_in s.views in let l : View = both_seats v w in let q : View = spent_seat key.identity key.start in
     let is : map pass_in (set (set s.views id l) other q) ≡ set (set ps id l.pass) other q.pass = map-set pass_in (set s.views id l) other q ∙ ap (λ (x : List Pass). set x other q.pass) (map-set pass_in s.views id l) in
     subst (λ (x : List Pass). Ruled (bounds_of key) s.words x) (sym is) (joined (bounds_of key) s.words ps r id other v.pass w.pass (at_map pass_in s.views id v at) ne
-        (subst (λ (x : List Pass). get_elem? x other ≡ some w.pass) (map-set pass_in s.views id l) (at_map pass_in (set s.views id l) other w at')) off off' able)
+    (subst (λ (x : List Pass). get_elem? x other ≡ some w.pass) (map-set pass_in s.views id l) (at_map pass_in (set s.views id l) other w at')) off off' able)

@@ -53,9 +53,9 @@ of_three : (p : ℕ) (a b c : ℤ) → IsLow p a → IsLow p b → IsLow p c →
 of_three p a b c l m n one = ⊎_elim
     (λ (e : a ≡ pos p). ap (λ x. int_max x (int_max b c)) e ∙ max_first p (int_max b c) (low_max p b c m n))
     (λ (more : (b ≡ pos p) ⊎ (c ≡ pos p)). ⊎_elim
-        (λ (e : b ≡ pos p). ap (λ x. int_max a (int_max x c)) e ∙ ap (int_max a) (max_first p c n) ∙ max_second p a l)
-        (λ (e : c ≡ pos p). ap (λ x. int_max a (int_max b x)) e ∙ ap (int_max a) (max_second p b m) ∙ max_second p a l)
-        more)
+    (λ (e : b ≡ pos p). ap (λ x. int_max a (int_max x c)) e ∙ ap (int_max a) (max_first p c n) ∙ max_second p a l)
+    (λ (e : c ≡ pos p). ap (λ x. int_max a (int_max b x)) e ∙ ap (int_max a) (max_second p b m) ∙ max_second p a l)
+    more)
     one
 
 -- ---- what a word shows
@@ -110,10 +110,10 @@ module _ (g : Geometry) (first : ℕ) (t : Terms) (ws : List ℕ) (f : Fit g) (r
   back_low : (back : ℕ) → back < 3 → IsLow (end_of g t) (shown g (slice_index ws (tail_place (t.newest + 3 - back))))
   back_low back b = dite (dec_le back t.newest)
       (λ le. let k : ℕ = t.newest - back in let to = r.turns.to in let spot : tail_place (t.newest + 3 - back) ≡ tail_place k = omega arith in
-          some (k * g.term_length + min (t.offset k) g.term_length) (ap (λ (z : ℕ). shown g (slice_index ws z)) spot ∙ ap (shown g) (r.tails k (omega arith) (omega arith)) ∙ shows_term g f k (t.offset k) (omega arith) (nar k (omega arith) (omega arith)))
-              (dite (ℕ_discrete back 0)
-              (λ e. let same : k ≡ t.newest = omega arith in let eq : k * g.term_length + min (t.offset k) g.term_length ≡ end_of g t = ap (λ (z : ℕ). z * g.term_length + min (t.offset z) g.term_length) same in omega arith)
-              (λ ne. let rise : suc k * g.term_length ≤ t.newest * g.term_length = mul-le-mul_right g.term_length (omega arith) in below k t.newest g.term_length (t.offset k) (t.offset t.newest) rise)))
+      some (k * g.term_length + min (t.offset k) g.term_length) (ap (λ (z : ℕ). shown g (slice_index ws z)) spot ∙ ap (shown g) (r.tails k (omega arith) (omega arith)) ∙ shows_term g f k (t.offset k) (omega arith) (nar k (omega arith) (omega arith)))
+      (dite (ℕ_discrete back 0)
+      (λ e. let same : k ≡ t.newest = omega arith in let eq : k * g.term_length + min (t.offset k) g.term_length ≡ end_of g t = ap (λ (z : ℕ). z * g.term_length + min (t.offset z) g.term_length) same in omega arith)
+      (λ ne. let rise : suc k * g.term_length ≤ t.newest * g.term_length = mul-le-mul_right g.term_length (omega arith) in below k t.newest g.term_length (t.offset k) (t.offset t.newest) rise)))
       (λ no. subst (IsLow (end_of g t)) (sym (ap (shown g) (r.unused back (lt_of_not-le no) b))) (before_low g f (end_of g t) t.newest back (lt_of_not-le no) b long))
     where
       below : (k n s o q : ℕ) → suc k * s ≤ n * s → k * s + min o s ≤ n * s + min q s

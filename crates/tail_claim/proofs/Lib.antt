@@ -12,3 +12,4 @@ pub mod Lifting
 pub mod Begun
 pub mod Gathering
 pub mod Greatest
+pub mod Ending

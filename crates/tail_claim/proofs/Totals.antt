@@ -61,3 +61,15 @@ cover_of n p q (e ∷ es) t x = let up = tiles_up n (entry_end e) q es t.2 in le
   where
     over : (s m p q rest x : ℕ) → s ≡ p → s + m ≤ q → rest ≡ min 1 (min (x + 1 - (s + m)) (q - x)) → covers x s m + rest ≡ min 1 (min (x + 1 - p) (q - x))
     over s m p q rest x e up r = omega arith
+
+-- ---- one that has all of a sum
+
+total_none : {A : Type 0} (f g : A → ℕ) (xs : List A) → total f xs ≡ 0 → ((j : ℕ) (w : A) → get_elem? xs j ≡ some w → f w ≡ 0 → g w ≡ 0) → total g xs ≡ 0
+total_none f g [] z off = refl
+total_none f g (x ∷ xs) z off = let a = off 0 x refl (omega arith) in let b = total_none f g xs (omega arith) (λ j. off (suc j)) in omega arith
+
+-- where v has all of f, and g is 0 where f is, v has all of g
+pub total_one : {A : Type 0} (f g : A → ℕ) (xs : List A) (i : ℕ) (v : A) → get_elem? xs i ≡ some v → total f xs ≡ f v → ((j : ℕ) (w : A) → get_elem? xs j ≡ some w → f w ≡ 0 → g w ≡ 0) → total g xs ≡ g v
+total_one f g [] i v at all off = absurd (some-ne-none v (sym at))
+total_one f g (x ∷ xs) zero v at all off = let e = some-injective x v at in let a : f x ≡ f v = ap f e in let b : g x ≡ g v = ap g e in let c = total_none f g xs (omega arith) (λ j. off (suc j)) in omega arith
+total_one f g (x ∷ xs) (suc i) v at all off = let l = total_at f xs i v at in let a = off 0 x refl (omega arith) in let b = total_one f g xs i v at (omega arith) (λ j. off (suc j)) in omega arith

@@ -37,6 +37,9 @@ both_seats v w = record { pass = both v.pass w.pass; steps = v.steps }
 abbrev pub spent_seat : Identity → ℕ → View
 spent_seat identity start = record { pass = newcomer identity start 0 0; steps = 0 }
 
+abbrev pub no_identity : Identity
+no_identity = record { geometry = record { term_length = 0; mtu = 0; initial_term_id = pos 0 }; session = pos 0; stream = pos 0 }
+
 -- ---- the words of a closed log
 
 -- the three raw tails and the active count among the words

@@ -1,5 +1,5 @@
 -- What contracts see of a log on a table and of its publishers.
-use Rattle.std.specs.Prelude.{◌≡◌, ℕ, suc, ◌+◌, ◌%◌, ◌<◌, List, [], ◌∷◌, nat_eq, if◌then◌else◌}
+use Rattle.std.specs.Prelude.{◌≡◌, ℕ, suc, ◌+◌, ◌%◌, ◌<◌, List, [], ◌∷◌, map, nat_eq, if◌then◌else◌}
 use Rattle.atomic_table.specs.Seated.{TableId}
 use Rattle.theory.specs.Position.{Geometry, IsGeometry, max_position}
 use Rattle.theory.specs.Bytes.{Identity}
@@ -8,6 +8,7 @@ use Rattle.tail_claim.specs.declared.view.Key.{Key}
 use Rattle.tail_claim.specs.Packs.{table_length}
 use Rattle.tail_claim.specs.Admits.{Same}
 use Rattle.tail_claim.specs.Plays.{newcomer}
+use Rattle.tail_claim.specs.Closing.{gathered}
 
 -- which table it is, the stream that it carries, and where that begins
 pub record LogValue : Type 0 where
@@ -56,3 +57,24 @@ AreNew l number (p ∷ ps) = IsNew l number p × AreNew l (suc number) ps
 -- a position at which a stream may begin
 abbrev pub IsStart : Geometry → ℕ → Type 0
 IsStart g start = (start % 32 ≡ 0) × (start < max_position g)
+
+-- ---- closing
+
+-- the publisher is one of this log, and isn't armed
+pub record IsIdle (l : LogValue) (p : PublisherValue) : Type 0 where
+  pub of : IsOf l p
+  pub unarmed : p.pass.right.armed ≡ 0
+
+-- what all of them have
+abbrev pub gathered_all : LogValue → List PublisherValue → Pass
+gathered_all l [] = newcomer l.identity l.start 0 0
+gathered_all l (p ∷ ps) = gathered p.pass (map (λ q. q.pass) ps)
+
+abbrev pub parts_in : PublisherValue → ℕ
+parts_in p = p.pass.right.parts
+
+-- the stream that a closed log carried, where it began, and its table's words
+pub record ClosedValue : Type 0 where
+  pub identity : Identity
+  pub start : ℕ
+  pub words : List ℕ

@@ -6,6 +6,7 @@
 #![tactic(auto)]
 
 mod calls;
+mod closing;
 mod fault;
 mod log;
 mod opening;
@@ -14,5 +15,6 @@ mod plays;
 mod view;
 
 pub use calls::OnTable;
+pub use closing::ClosedLog;
 pub use fault::OpenError;
 pub use log::{Publisher, TableLog};

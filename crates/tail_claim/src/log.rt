@@ -50,6 +50,7 @@ impl Model for TableLog {
 #[derive(Drop)]
 pub struct Publisher {
     pub(crate) seat: Seat<(), View>,
+    pub(crate) number: u64,
 }
 
 impl Model for Publisher {
@@ -60,7 +61,16 @@ impl Model for Publisher {
 
     ghost view = { λ p. record { of = p.seat.table_id; seat = p.seat.id; pass = p.seat.me.0.pass; steps = p.seat.me.0.steps } };
 
-    ghost invariant = { λ p. (p.seat.me.1 ≡ []) × (120 ≤ p.seat.me.0.pass.right.parts) };
+    ghost invariant = { λ p. (p.seat.me.1 ≡ []) × (120 ≤ p.seat.me.0.pass.right.parts) × (p.number ≡ p.seat.me.0.pass.number) };
+}
+
+impl Publisher {
+    /// Its number, 0 to 7.
+    pub fn number(&self) -> u64
+        ensures { result ≡ self.now.pass.number }
+    {
+        self.number
+    }
 }
 
 /// The place of the raw tail of a count's partition.

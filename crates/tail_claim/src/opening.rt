@@ -60,13 +60,14 @@ impl TableLog {
             identity,
             start,
         };
-        let publishers = log.deal_all(Publisher { seat });
+        let publishers = log.deal_all(Publisher { seat, number: 7 });
         Ok((log, publishers))
     }
 
     /// Deals a publisher its seat. The one that deals has the number below from then on.
     fn deal(&self, publisher: &mut Publisher) -> Publisher
         requires fits { IsOf self.now publisher.old }
+        requires number { 0 < publisher.old.pass.number }
         requires unarmed { publisher.old.pass.right.armed ≡ 0 }
         requires parts { 240 ≤ publisher.old.pass.right.parts }
         ensures fits { IsOf self.now publisher.new × IsOf self.now result }
@@ -74,9 +75,10 @@ impl TableLog {
         ensures dealt { (result.pass ≡ dealt publisher.old.pass) × (result.steps ≡ 0) }
     {
         let words = &self.table.shared;
-        Publisher {
-            seat: words.split_seat::<Deal>(&mut publisher.seat),
-        }
+        let number = publisher.number;
+        let seat = words.split_seat::<Deal>(&mut publisher.seat);
+        publisher.number = number - 1;
+        Publisher { seat, number }
     }
 
     /// Deals all eight, by their numbers.

@@ -1,9 +1,11 @@
 //! The rule of a log's table, and its kinds of step.
 
 ghost use Rattle.std.specs.Prelude.{ℕ};
+ghost use Rattle.theory.specs.Bytes.{Identity};
+ghost use Rattle.tail_claim.specs.Closing.{no_identity};
 
 use crate::view::{Key, View};
-use atomic_table::{Play, Split, TableRule};
+use atomic_table::{Join, Play, Split, TableRule};
 use std::marker::{Brand, PhantomData};
 
 /// The words and passes of a log obey the rule of claims.
@@ -135,4 +137,30 @@ impl<N: Chosen> Play<(), View> for Commit<N> {
     ghost use Rattle.word_calls.specs.Steps.{Commits};
 
     ghost then = { playing (λ v n w. Commits v N.number n w) };
+}
+
+/// The stream of a log, which a call picks for its step.
+pub trait Carried {
+    ghost identity: { Identity };
+
+    ghost start: { ℕ };
+}
+
+impl Carried for Brand {
+    ghost identity = { no_identity };
+
+    ghost start = { 0 };
+}
+
+/// A publisher's seat is gathered into another's.
+pub struct Gather<N> {
+    carried: PhantomData<N>,
+}
+
+impl<N: Carried> Join<View> for Gather<N> {
+    ghost use Rattle.tail_claim.specs.Closing.{both_seats, spent_seat};
+
+    ghost both = { both_seats };
+
+    ghost spent = { spent_seat N.identity N.start };
 }
