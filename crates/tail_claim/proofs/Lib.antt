@@ -13,3 +13,4 @@ pub mod Begun
 pub mod Gathering
 pub mod Greatest
 pub mod Ending
+pub mod Eventful

@@ -32,7 +32,7 @@ use Rattle.tail_claim.proofs.Adding as adding
 use Rattle.tail_claim.proofs.Memories.{Covered, Opens, Stays, cover_passes, held_by, held_is, maps_append, opened, stayed}
 use Rattle.tail_claim.proofs.Storing.{HasIt, Rewrites, rewritten, same_place}
 
-set_at : {A : Type 0} (l : List A) (i : ℕ) (v w : A) → get_elem? l i ≡ some v → get_elem? (set l i w) i ≡ some w
+pub set_at : {A : Type 0} (l : List A) (i : ℕ) (v w : A) → get_elem? l i ≡ some v → get_elem? (set l i w) i ≡ some w
 set_at [] i v w e = absurd (some-ne-none v (sym e))
 set_at (x ∷ xs) zero v w e = refl
 set_at (x ∷ xs) (suc i) v w e = set_at xs i v w e
@@ -57,10 +57,10 @@ framing b id v i f told low go grows ws ps r at = let g = go ws ps r.claims at i
   (same b ws (set ws i n) ps id v g.0 r.claims g.1 at (⊎_elim (λ (s : Stays v g.0). s.number) (λ (o : Opens v g.0). o.number) (grows (slice_index ws i) g.0 g.2)) (⊎_elim (λ (s : Stays v g.0). s.parts) (λ (o : Opens v g.0). o.parts) (grows (slice_index ws i) g.0 g.2)), g.2),
 )
 
-stays : (v w x : Pass) → x.number ≡ v.number → x.right.parts ≡ v.right.parts → x.right.claims ≡ v.right.claims → x.work ≡ v.work → w ≡ x → Stays v w ⊎ Opens v w
+pub stays : (v w x : Pass) → x.number ≡ v.number → x.right.parts ≡ v.right.parts → x.right.claims ≡ v.right.claims → x.work ≡ v.work → w ≡ x → Stays v w ⊎ Opens v w
 stays v w x m d a c e = inl record { number = ap (λ y. y.number) e ∙ m; parts = ap (λ y. y.right.parts) e ∙ d; claims = ap (λ y. y.right.claims) e ∙ a; work = ap (λ y. y.work) e ∙ c }
 
-arms_grows : (v : Pass) (n : ℕ) (w : Pass) → Arms v n w → Stays v w ⊎ Opens v w
+pub arms_grows : (v : Pass) (n : ℕ) (w : Pass) → Arms v n w → Stays v w ⊎ Opens v w
 arms_grows v n w t = dite (ℤ_discrete (id_in n) (id_of (geometry_of v) v.seen.count))
     (λ named. dite (dec_le (term_of v) (offset_in n))
     (λ full. stays v w (noted (tail_step v n) (with_full v v.seen.count)) refl refl refl refl (t.used_up named full))
@@ -69,19 +69,19 @@ arms_grows v n w t = dite (ℤ_discrete (id_in n) (id_of (geometry_of v) v.seen.
     (λ not. stays v w (noted (tail_step v n) (with_armed v)) refl refl refl refl (t.below named room (lt_of_not-le not)))))
     (λ other. stays v w (noted (tail_step v n) v) refl refl refl refl (t.other other))
 
-adds_grows : (v : Pass) (size n : ℕ) (w : Pass) → Adds v size n w → Stays v w ⊎ Opens v w
+pub adds_grows : (v : Pass) (size n : ℕ) (w : Pass) → Adds v size n w → Stays v w ⊎ Opens v w
 adds_grows v size n w t = dite (dec_le (offset_in n + framed_length (geometry_of v) size) (term_of v))
     (λ fits. let e = t.fits fits in inr record { claim = message_at v n size; number = ap (λ y. y.number) e; parts = ap (λ y. y.right.parts) e; claims = ap (λ y. y.right.claims) e; frames = ap (λ y. y.work.frames) e; drafts = ap (λ y. y.work.drafts) e })
     (λ no. dite (dec_le (term_of v) (offset_in n))
     (λ full. stays v w (noted (addition v size n) (with_full (disarmed v) (count_in (geometry_of v) n))) refl refl refl refl (t.over full))
     (λ not. let e = t.trips (lt_of_not-le not) (lt_of_not-le no) in inr record { claim = padding_at v n; number = ap (λ y. y.number) e; parts = ap (λ y. y.right.parts) e; claims = ap (λ y. y.right.claims) e; frames = ap (λ y. y.work.frames) e; drafts = ap (λ y. y.work.drafts) e }))
 
-nexts_grows : (v : Pass) (k n : ℕ) (w : Pass) → Nexts v k n w → Stays v w ⊎ Opens v w
+pub nexts_grows : (v : Pass) (k n : ℕ) (w : Pass) → Nexts v k n w → Stays v w ⊎ Opens v w
 nexts_grows v k n w t = dite (ℤ_discrete (id_in n) (id_of (geometry_of v) (k + 1)))
     (λ yes. stays v w (noted (steps.NextTail ((k + 1) % 3) n) (with_begun v (k + 1))) refl refl refl refl (t.begun yes))
     (λ no. stays v w (noted (steps.NextTail ((k + 1) % 3) n) v) refl refl refl refl (t.other no))
 
-rotates_grows : (v : Pass) (k from n : ℕ) (w : Pass) → Rotates v k from n w → Stays v w ⊎ Opens v w
+pub rotates_grows : (v : Pass) (k from n : ℕ) (w : Pass) → Rotates v k from n w → Stays v w ⊎ Opens v w
 rotates_grows v k from n w t = dite (ℕ_discrete n from)
     (λ hit. stays v w (noted (steps.TailExchange ((k + 1) % 3) n) (with_begun v (k + 1))) refl refl refl refl (t.begun (inl hit)))
     (λ miss. dite (ℤ_discrete (id_in n) (id_of (geometry_of v) (k + 1)))
@@ -137,7 +137,7 @@ first_kept [] k n p = refl
 first_kept (x ∷ xs) zero n p = absurd (omega arith)
 first_kept (x ∷ xs) (suc k) n p = refl
 
-first_set : (ws : List ℕ) (n : ℕ) → 0 < length ws → slice_index (set ws 0 n) 0 ≡ n
+pub first_set : (ws : List ℕ) (n : ℕ) → 0 < length ws → slice_index (set ws 0 n) 0 ≡ n
 first_set [] n p = absurd (omega arith)
 first_set (x ∷ xs) n p = refl
 

@@ -9,3 +9,4 @@ pub mod Handles
 pub mod Faults
 pub mod Openings
 pub mod Closing
+pub mod Events

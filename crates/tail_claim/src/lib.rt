@@ -8,6 +8,7 @@
 mod calls;
 mod closing;
 mod fault;
+mod law;
 mod log;
 mod opening;
 mod peek;
@@ -17,4 +18,5 @@ mod view;
 pub use calls::OnTable;
 pub use closing::ClosedLog;
 pub use fault::OpenError;
+pub use law::steps_are_events;
 pub use log::{Publisher, TableLog};
