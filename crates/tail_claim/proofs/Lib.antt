@@ -1,0 +1,16 @@
+pub mod Packs
+pub mod Tails
+pub mod Totals
+pub mod Accounts
+pub mod Looks
+pub mod Turning
+pub mod Adding
+pub mod Memories
+pub mod Storing
+pub mod Whole
+pub mod Lifting
+pub mod Begun
+pub mod Gathering
+pub mod Greatest
+pub mod Ending
+pub mod Eventful

@@ -1,0 +1,28 @@
+use Rattle.std.proofs.Common.{rules, ◌≡◌, ℕ, suc, ◌+◌, ◌-◌, ◌*◌, ◌/◌, ◌%◌, ◌^◌, ◌<◌, ◌≤◌, eqb, sym, refl, ap, ◌∙◌, subst, arith}
+use prog.Atomic.{either}
+use Rattle.theory.specs.Position.{Geometry, framed_length, id_of, max_message}
+use Rattle.theory.specs.Bytes.{Identity}
+use Rattle.theory.specs.Words.{id_before, id_in, tail_word}
+use Rattle.atomic_table.specs.Table.{Allows}
+use Rattle.word_calls.specs.declared.pass.Pass.{Pass}
+use Rattle.word_calls.specs.Steps.{Adds, Advances, Arms, BeginsFrame, Commits, Counts, HasWord, Nexts, Rotates, Sees, Stores}
+use Rattle.tail_claim.specs.Packs.{slot, tail_place}
+use Rattle.tail_claim.specs.Plays.{Mine, TableRuled, bounds_of}
+use Rattle.tail_claim.proofs.Lifting.{lifted, lifted_at}
+use Rattle.std.specs.Int.{w32, cast_signed, cast_unsigned}
+use Rattle.std.proofs.lemmas.Int.{to_z-of_z}
+use Rattle.tail_claim.proofs.Packs.{id_fits}
+use Rattle.tail_claim.proofs.Whole as whole
+use Rattle.tail_claim.proofs.log.TableLog.rotate_as.Goals as goal
+
+pub compare_exchange-requires : goal.compare_exchange-requires
+compare_exchange-requires g c = let me : Mine = c.publisher.inside.seat.me in let v : Pass = me.0.pass in let vi : v ≡ c.args.publisher.now.pass = ap (λ p. p.pass) c.publisher.view_is in let wide = c.self.invariant.words in let low = c.place_of.ensures.low in let k : ℕ = g.N.Chosen.number in let is : k ≡ c.args.count = c.requires.chosen in let last = c.requires.last in
+    let shape : v.identity.geometry ≡ c.self.inside.identity.geometry = ap (λ (i : Identity). i.geometry) (ap (λ (p : Pass). p.identity) vi ∙ c.requires.fits.identity ∙ sym (ap (λ l. l.identity) c.self.view_is)) in
+    let id_is : c.id_of-id.result ≡ id_of v.identity.geometry (k + 1) = c.id_of-id.ensures ∙ (λ j. id_of (c.geometry.ensures.value j) (sym is j + 1)) ∙ (λ j. id_of (sym shape j) (k + 1)) in
+    let to : ℕ = c.packed-to.result in let to_is : to ≡ tail_word (id_of v.identity.geometry (k + 1)) 0 = c.packed-to.ensures ∙ ap (λ z. tail_word (cast_signed w32 (cast_unsigned w32 z)) 0) id_is ∙ ap (λ z. tail_word z 0) (to_z-of_z w32 (id_of v.identity.geometry (k + 1)) (id_fits v.identity.geometry (k + 1))) in (
+      search rules,
+      omega arith,
+      lifted_at _ _ _ (tail_place (k + 1)) me (λ n. either (eqb n c.args.from) to n) (λ n w. Rotates v k c.args.from n w) c.place_of.result (c.place_of.ensures.is ∙ ap (λ (z : ℕ). tail_place (z + 1)) (sym is))
+          (whole.rotate _ _ v k c.args.from to (ap (λ (p : Pass). p.seen.full) vi ∙ c.requires.full ∙ ap suc (sym is)) (omega arith)
+          (c.requires.from ∙ (λ j. id_before (ap (λ (i : Identity). i.geometry) (sym c.requires.fits.identity ∙ ap (λ (p : Pass). p.identity) (sym vi)) j) (sym is j) 2)) to_is),
+    )

@@ -1,0 +1,12 @@
+pub mod Packs
+pub mod Sums
+pub mod Terms
+pub mod Rule
+pub mod Memory
+pub mod Admits
+pub mod Plays
+pub mod Handles
+pub mod Faults
+pub mod Openings
+pub mod Closing
+pub mod Events

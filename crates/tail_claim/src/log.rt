@@ -1,0 +1,225 @@
+//! A log on a table that threads share, its publishers, and their steps.
+
+ghost use Rattle.std.specs.Prelude.{◌≡◌, ℕ, ◌+◌, ◌-◌, ◌*◌, ◌/◌, ◌%◌, ◌^◌, ◌<◌, ◌≤◌, suc, []};
+ghost use Rattle.theory.specs.Position.{id_of, max_message};
+ghost use Rattle.theory.specs.Words.{id_before, id_in, tail_word};
+ghost use Rattle.word_calls.specs.Steps.{Adds, Advances, Arms, BeginsFrame, Commits, Counts, HasWord, Nexts, Rotates, Sees, Stores};
+ghost use Rattle.tail_claim.specs.Packs.{slot, tail_place};
+ghost use Rattle.tail_claim.specs.Handles.{IsOf, Stepped};
+
+use crate::plays::{Add, Advance, Arm, Chosen, Commit, Count, LogRule, Next, Rotate, See, Store};
+use crate::view::{Key, View};
+use atomic_table::{Seat, Table};
+use std::alloc::Global;
+use std::marker::Model;
+use word_calls::Identity;
+
+/// How far apart control words are, in words: a cache line.
+pub(crate) const LINE: usize = 16;
+
+/// The place of the active count among the words of the table. That of the limit is 0.
+pub(crate) const COUNT: usize = 16;
+
+/// That of the first raw tail, and that of the first consumer's position; each further one is a line behind.
+pub(crate) const TAILS: usize = 32;
+
+pub(crate) const CONSUMERS: usize = 80;
+
+/// That of the stream's first word.
+pub(crate) const DATA: usize = 208;
+
+/// The words of a log, on a table that threads share. It is connected, and its limit stays half a term above the start.
+#[derive(Drop)]
+pub struct TableLog {
+    pub(crate) table: Table<(), View, Key, LogRule, Global>,
+    pub(crate) identity: Identity,
+    pub(crate) start: u64,
+}
+
+impl Model for TableLog {
+    ghost use Rattle.tail_claim.specs.Handles.{IsTable, LogValue};
+
+    ghost Value = { LogValue };
+
+    ghost view = { λ l. record { table = l.table.shared.table_id; identity = l.identity; start = l.start } };
+
+    ghost invariant = { λ l. IsTable l.table.shared.table_id l.table.shared.key l.identity l.start };
+}
+
+/// A publisher of a log on a table.
+#[derive(Drop)]
+pub struct Publisher {
+    pub(crate) seat: Seat<(), View>,
+    pub(crate) number: u64,
+}
+
+impl Model for Publisher {
+    ghost use Rattle.std.specs.Prelude.{◌≡◌, ◌≤◌, []};
+    ghost use Rattle.tail_claim.specs.Handles.{PublisherValue};
+
+    ghost Value = { PublisherValue };
+
+    ghost view = { λ p. record { of = p.seat.table_id; seat = p.seat.id; pass = p.seat.me.0.pass; steps = p.seat.me.0.steps } };
+
+    ghost invariant = { λ p. (p.seat.me.1 ≡ []) × (120 ≤ p.seat.me.0.pass.right.parts) × (p.number ≡ p.seat.me.0.pass.number) };
+}
+
+impl Publisher {
+    /// Its number, 0 to 7.
+    pub fn number(&self) -> u64
+        ensures { result ≡ self.now.pass.number }
+    {
+        self.number
+    }
+}
+
+/// The place of the raw tail of a count's partition.
+pub(crate) fn place_of(count: u32) -> usize
+    ensures is { result ≡ tail_place count }
+    ensures low { result < 208 }
+{
+    (count % 3) as usize * LINE + TAILS
+}
+
+/// A raw tail: the id in the high 32 bits, the offset in the low 32.
+pub(crate) fn packed(id: i32, offset: u32) -> u64
+    ensures { result ≡ tail_word id offset }
+{
+    u64::from(id.cast_unsigned()) << 32 | u64::from(offset)
+}
+
+impl TableLog {
+    /// Which stream the log carries.
+    pub fn identity(&self) -> Identity
+        ensures { result ≡ self.now.identity }
+    {
+        self.identity
+    }
+
+    /// The place of the word of the stream at a position.
+    fn slot_of(&self, position: u64) -> usize
+        ensures is { result ≡ slot self.now.identity.geometry position }
+        ensures inside { result < self.now.table.words }
+    {
+        let ring = 3 * (u64::from(self.identity.geometry().term_length()) / 8);
+        (position / 8 % ring) as usize + DATA
+    }
+
+    /// Loads the limit.
+    pub(crate) fn see(&self, publisher: &mut Publisher) -> u64
+        requires { IsOf self.now publisher.old }
+        ensures stepped { Stepped publisher.old publisher.new }
+        ensures told { Sees publisher.old.pass result publisher.new.pass }
+    {
+        let words = &self.table.shared;
+        words.load::<See>(&mut publisher.seat, 0)
+    }
+
+    /// Loads the active count.
+    pub(crate) fn count(&self, publisher: &mut Publisher) -> u32
+        requires { IsOf self.now publisher.old }
+        ensures stepped { Stepped publisher.old publisher.new }
+        ensures told { Counts publisher.old.pass result publisher.new.pass }
+    {
+        let words = &self.table.shared;
+        words.load::<Count>(&mut publisher.seat, COUNT) as u32
+    }
+
+    /// Loads the tail of the count that was loaded.
+    pub(crate) fn arm(&self, publisher: &mut Publisher, count: u32) -> u64
+        requires fits { IsOf self.now publisher.old }
+        requires count { publisher.old.pass.seen.count ≡ count }
+        ensures stepped { Stepped publisher.old publisher.new }
+        ensures told { Arms publisher.old.pass result publisher.new.pass }
+    {
+        let words = &self.table.shared;
+        words.load::<Arm>(&mut publisher.seat, place_of(count))
+    }
+
+    /// Adds what a message covers to the tail for which the publisher is armed.
+    pub(crate) fn add_as<N: Chosen>(&self, publisher: &mut Publisher, count: u32, size: u32) -> u64
+        requires fits { IsOf self.now publisher.old }
+        requires armed { publisher.old.pass.right.armed ≡ 1 }
+        requires count { publisher.old.pass.seen.term ≡ count }
+        requires short { size ≤ max_message self.now.identity.geometry }
+        requires chosen { N.number ≡ size }
+        ensures stepped { Stepped publisher.old publisher.new }
+        ensures told { Adds publisher.old.pass size result publisher.new.pass }
+    {
+        let words = &self.table.shared;
+        let covered = u64::from(self.identity.geometry().framed_length(size));
+        words.fetch_add::<Add<N>>(&mut publisher.seat, place_of(count), covered)
+    }
+
+    /// Loads the tail behind a count's.
+    pub(crate) fn next_as<N: Chosen>(&self, publisher: &mut Publisher, count: u32) -> u64
+        requires fits { IsOf self.now publisher.old }
+        requires full { publisher.old.pass.seen.full ≡ suc count }
+        requires last { count < 2 ^ 31 - 1 }
+        requires chosen { N.number ≡ count }
+        ensures stepped { Stepped publisher.old publisher.new }
+        ensures told { Nexts publisher.old.pass count result publisher.new.pass }
+    {
+        let words = &self.table.shared;
+        words.load::<Next<N>>(&mut publisher.seat, place_of(count + 1))
+    }
+
+    /// Exchanges the tail behind a count's, from the word that was loaded to the next term's start.
+    pub(crate) fn rotate_as<N: Chosen>(
+        &self,
+        publisher: &mut Publisher,
+        count: u32,
+        from: u64,
+    ) -> u64
+        requires fits { IsOf self.now publisher.old }
+        requires full { publisher.old.pass.seen.full ≡ suc count }
+        requires last { count < 2 ^ 31 - 1 }
+        requires from { id_in from ≡ id_before self.now.identity.geometry count 2 }
+        requires chosen { N.number ≡ count }
+        ensures stepped { Stepped publisher.old publisher.new }
+        ensures told { Rotates publisher.old.pass count from result publisher.new.pass }
+    {
+        let words = &self.table.shared;
+        let id = self.identity.geometry().id_of(count + 1);
+        let to = packed(id, 0);
+        words.compare_exchange::<Rotate<N>>(&mut publisher.seat, place_of(count + 1), from, to)
+    }
+
+    /// Exchanges the active count from this one to the next.
+    pub(crate) fn advance(&self, publisher: &mut Publisher, count: u32) -> u32
+        requires fits { IsOf self.now publisher.old }
+        requires begun { publisher.old.pass.seen.begun ≡ count + 1 }
+        requires last { count < 2 ^ 31 - 1 }
+        ensures stepped { Stepped publisher.old publisher.new }
+        ensures told { Advances publisher.old.pass result publisher.new.pass }
+    {
+        let words = &self.table.shared;
+        let from = u64::from(count);
+        words.compare_exchange::<Advance>(&mut publisher.seat, COUNT, from, from + 1) as u32
+    }
+
+    /// Stores a word of an open frame that isn't its first.
+    pub(crate) fn store_as<N: Chosen>(&self, publisher: &mut Publisher, position: u64, word: u64)
+        requires fits { IsOf self.now publisher.old }
+        requires inside { HasWord publisher.old.pass 1 position }
+        requires chosen { N.number ≡ position }
+        ensures stepped { Stepped publisher.old publisher.new }
+        ensures told { Stores publisher.old.pass position word publisher.new.pass }
+    {
+        let words = &self.table.shared;
+        words.store::<Store<N>>(&mut publisher.seat, self.slot_of(position), word);
+    }
+
+    /// Stores the first word of an open frame.
+    pub(crate) fn commit_as<N: Chosen>(&self, publisher: &mut Publisher, start: u64, word: u64)
+        requires fits { IsOf self.now publisher.old }
+        requires inside { BeginsFrame publisher.old.pass start }
+        requires word { 0 < word }
+        requires chosen { N.number ≡ start }
+        ensures stepped { Stepped publisher.old publisher.new }
+        ensures told { Commits publisher.old.pass start word publisher.new.pass }
+    {
+        let words = &self.table.shared;
+        words.store::<Commit<N>>(&mut publisher.seat, self.slot_of(start), word);
+    }
+}

@@ -1,0 +1,166 @@
+//! The rule of a log's table, and its kinds of step.
+
+ghost use Rattle.std.specs.Prelude.{ℕ};
+ghost use Rattle.theory.specs.Bytes.{Identity};
+ghost use Rattle.tail_claim.specs.Closing.{no_identity};
+
+use crate::view::{Key, View};
+use atomic_table::{Join, Play, Split, TableRule};
+use std::marker::{Brand, PhantomData};
+
+/// The words and passes of a log obey the rule of claims.
+pub struct LogRule;
+
+impl TableRule<(), View, Key> for LogRule {
+    ghost use Rattle.tail_claim.specs.Plays.{TableRuled, first_seat};
+
+    ghost holds = { TableRuled };
+
+    ghost first = { first_seat };
+}
+
+/// A publisher goes to a seat of its own.
+pub struct Deal;
+
+impl Split<View> for Deal {
+    ghost use Rattle.tail_claim.specs.Plays.{dealing_seat, dealt_seat};
+
+    ghost left = { dealing_seat };
+
+    ghost right = { dealt_seat };
+}
+
+/// A number that a call picks for its step.
+pub trait Chosen {
+    ghost number: { ℕ };
+}
+
+impl Chosen for Brand {
+    ghost number = { 0 };
+}
+
+/// The limit is loaded.
+pub struct See;
+
+impl Play<(), View> for See {
+    ghost use Rattle.tail_claim.specs.Plays.{playing};
+    ghost use Rattle.word_calls.specs.Steps.{Sees};
+
+    ghost then = { playing Sees };
+}
+
+/// The active count is loaded.
+pub struct Count;
+
+impl Play<(), View> for Count {
+    ghost use Rattle.tail_claim.specs.Plays.{playing};
+    ghost use Rattle.word_calls.specs.Steps.{Counts};
+
+    ghost then = { playing Counts };
+}
+
+/// The tail of the count that was seen is loaded.
+pub struct Arm;
+
+impl Play<(), View> for Arm {
+    ghost use Rattle.tail_claim.specs.Plays.{playing};
+    ghost use Rattle.word_calls.specs.Steps.{Arms};
+
+    ghost then = { playing Arms };
+}
+
+/// What a message of the chosen size covers is added to a tail.
+pub struct Add<N> {
+    chosen: PhantomData<N>,
+}
+
+impl<N: Chosen> Play<(), View> for Add<N> {
+    ghost use Rattle.tail_claim.specs.Plays.{playing};
+    ghost use Rattle.word_calls.specs.Steps.{Adds};
+
+    ghost then = { playing (λ v n w. Adds v N.number n w) };
+}
+
+/// The tail behind the chosen count's is loaded.
+pub struct Next<N> {
+    chosen: PhantomData<N>,
+}
+
+impl<N: Chosen> Play<(), View> for Next<N> {
+    ghost use Rattle.tail_claim.specs.Plays.{playing};
+    ghost use Rattle.word_calls.specs.Steps.{Nexts};
+
+    ghost then = { playing (λ v n w. Nexts v N.number n w) };
+}
+
+/// The tail behind the chosen count's is exchanged.
+pub struct Rotate<N> {
+    chosen: PhantomData<N>,
+}
+
+impl<N: Chosen> Play<(), View> for Rotate<N> {
+    ghost use Rattle.tail_claim.specs.Plays.{playing};
+    ghost use Rattle.word_calls.specs.Steps.{Rotates};
+
+    ghost then = { λ st. playing (λ v n w. Rotates v N.number st.first n w) st };
+}
+
+/// The active count is exchanged.
+pub struct Advance;
+
+impl Play<(), View> for Advance {
+    ghost use Rattle.tail_claim.specs.Plays.{playing};
+    ghost use Rattle.word_calls.specs.Steps.{Advances};
+
+    ghost then = { playing Advances };
+}
+
+/// A word of an open frame is stored, at the chosen position.
+pub struct Store<N> {
+    chosen: PhantomData<N>,
+}
+
+impl<N: Chosen> Play<(), View> for Store<N> {
+    ghost use Rattle.tail_claim.specs.Plays.{playing};
+    ghost use Rattle.word_calls.specs.Steps.{Stores};
+
+    ghost then = { playing (λ v n w. Stores v N.number n w) };
+}
+
+/// The first word of the open frame at the chosen position is stored.
+pub struct Commit<N> {
+    chosen: PhantomData<N>,
+}
+
+impl<N: Chosen> Play<(), View> for Commit<N> {
+    ghost use Rattle.tail_claim.specs.Plays.{playing};
+    ghost use Rattle.word_calls.specs.Steps.{Commits};
+
+    ghost then = { playing (λ v n w. Commits v N.number n w) };
+}
+
+/// The stream of a log, which a call picks for its step.
+pub trait Carried {
+    ghost identity: { Identity };
+
+    ghost start: { ℕ };
+}
+
+impl Carried for Brand {
+    ghost identity = { no_identity };
+
+    ghost start = { 0 };
+}
+
+/// A publisher's seat is gathered into another's.
+pub struct Gather<N> {
+    carried: PhantomData<N>,
+}
+
+impl<N: Carried> Join<View> for Gather<N> {
+    ghost use Rattle.tail_claim.specs.Closing.{both_seats, spent_seat};
+
+    ghost both = { both_seats };
+
+    ghost spent = { spent_seat N.identity N.start };
+}
