@@ -2,7 +2,7 @@
 use Rattle.std.proofs.Common.{◌≡◌, ℕ, suc, ◌+◌, ◌-◌, ◌*◌, ◌%◌, ◌<◌, ◌≤◌, ⊎_elim, List, [], ◌∷◌, ◌++◌, append-nil, sym, refl, ap, ◌∙◌, subst, arith}
 use Rattle.std.proofs.lemmas.Bool.{cases_lt}
 use Rattle.std.proofs.Math.Nat.{mul-le-mul_right}
-use Rattle.theory.specs.Position.{framed_length, max_position}
+use Rattle.theory.specs.Position.{Geometry, framed_length, max_position}
 use Rattle.theory.specs.Placed.{Pad}
 use Rattle.theory.specs.Words.{offset_in}
 use Rattle.word_calls.specs.declared.pass.FrameWords.{FrameWords}
@@ -12,7 +12,7 @@ use Rattle.word_calls.specs.declared.step.WordStep.{WordStep}
 use Rattle.word_calls.specs.declared.step.WordStep.TheVariants as steps
 use Rattle.word_calls.specs.Steps.{Adds, Keeps, addition, count_in, disarmed, geometry_of, message_at, noted, opened, padding_at, seeing, start_in, term_of, with_full, with_work}
 use Rattle.word_calls.specs.Frames.{frame_at}
-use Rattle.word_calls.specs.Claims.{HasBlank, Turns, padded}
+use Rattle.word_calls.specs.Claims.{HasBlank, Takes, TurnsFrom, padded}
 use Rattle.word_calls.specs.Looks.{EndsTerm, Granted, Pads, ToPad, Tripping}
 use Rattle.word_calls.proofs.Refusing.{keeps}
 
@@ -116,11 +116,14 @@ module _ (p w : Pass) (size word : ℕ) (told : Adds p size word w) where
       armed_then : x.right.armed ≡ 0
       armed_then = either (x.right.armed ≡ 0) (λ l. (padded_is l).2) (λ l. (over_is l).2)
 
-      pub tripping : (q : Pass) (count : ℕ) (why : Refusal) → p.seen.term ≡ count → Turns x q → EndsTerm (count_in (geometry_of p) word) why → Tripping p count size why q
+      shape_then : geometry_of x ≡ geometry_of p
+      shape_then = either (geometry_of x ≡ geometry_of p) (λ l. ap (λ (u : Pass). geometry_of u) (padded_is l).0) (λ l. ap (λ (u : Pass). geometry_of u) (over_is l).0)
+
+      pub tripping : (q : Pass) (count : ℕ) (why : Refusal) → p.seen.term ≡ count → Takes (TurnsFrom (geometry_of x) (count_in (geometry_of p) word)) x q → EndsTerm (count_in (geometry_of p) word) why → Tripping p count size why q
       tripping q count why at turns ends = record {
         word = word;
-        more = turns.more;
-        call = turns.call ∙ ap (λ (c : List WordStep). c ++ turns.more) (call_then ∙ ap (λ (c : ℕ). p.call ++ steps.Addition (c % 3) (framed_length (geometry_of p) size) word ∷ []) at);
+        more = turns.taken;
+        call = turns.call ∙ ap (λ (c : List WordStep). c ++ turns.taken) (call_then ∙ ap (λ (c : ℕ). p.call ++ steps.Addition (c % 3) (framed_length (geometry_of p) size) word ∷ []) at);
         over = over;
         term = told.term;
         why_is = ends;
@@ -128,9 +131,6 @@ module _ (p w : Pass) (size word : ℕ) (told : Adds p size word w) where
           below = λ l. keeps (padded p word) x q (padded_is l).0 turns.after;
           over = λ l. keeps p x q (over_is l).0 turns.after;
         };
-        none_added = turns.none_added;
-        few = turns.few;
-        few_tails = turns.few_tails;
-        few_counts = turns.few_counts;
+        turns = subst (λ (g : Geometry). TurnsFrom g (count_in (geometry_of p) word) turns.taken) shape_then turns.such;
         idle = turns.armed ∙ armed_then;
       }

@@ -1,68 +1,42 @@
 -- The steps of a turn.
-use Rattle.std.proofs.Common.{◌≡◌, ◌≢◌, ℕ, ◌+◌, ◌%◌, ◌<◌, ◌≤◌, ◌⊎◌, Bool, true, false, cond, List, [], ◌∷◌, ◌++◌, length, length-append, append_assoc, refl, ap, ◌∙◌, arith}
-use Rattle.std.specs.List.{filter}
-use Rattle.std.specs.Prelude.{ℤ, ◌≤ℤ◌, ◌<ℤ◌}
-use Rattle.std.proofs.Common.{inl, inr, ⊎_elim, ◌*◌}
-use Rattle.std.proofs.lemmas.Bool.{cases_lt}
+use Rattle.std.proofs.Common.{◌≡◌, ◌≢◌, ℕ, suc, ◌+◌, ◌*◌, ◌%◌, ◌<◌, ◌≤◌, ◌⊎◌, inl, inr, ⊎_elim, Bool, true, false, List, [], ◌∷◌, ◌++◌, length, append_assoc, sym, refl, ap, ◌∙◌, subst, arith}
+use Rattle.std.specs.Prelude.{ℤ, ◌≤ℤ◌, ◌<ℤ◌, ◌↔◌, IsTrue}
+use Rattle.std.proofs.lemmas.Bool.{cases_lt, false≢true}
 use Rattle.std.proofs.lemmas.Int.{by_lt_z, ints}
-use Rattle.theory.specs.Position.{id_of}
-use Rattle.theory.specs.Refusal.{limit_in}
-use Rattle.theory.specs.Words.{id_in, offset_in}
+use Rattle.theory.specs.Bytes.{Identity}
+use Rattle.theory.specs.Position.{Geometry, id_of}
+use Rattle.theory.specs.Refusal.{IsLast, IsNotLast, limit_in}
+use Rattle.theory.specs.Words.{id_before, id_in, offset_in}
 use Rattle.word_calls.specs.declared.pass.Pass.{Pass}
 use Rattle.word_calls.specs.declared.step.WordStep.{WordStep}
 use Rattle.word_calls.specs.declared.step.WordStep.TheVariants as steps
-use Rattle.word_calls.specs.Steps.{Advances, Arms, Counts, Keeps, Names, Nexts, Rotates, Sees, noted, tail_step, term_of, with_begun}
-use Rattle.word_calls.specs.Claims.{Notes, additions, count_exchanges, exchanges_count, exchanges_tail, is_addition, tail_exchanges}
+use Rattle.word_calls.specs.Steps.{Advances, Arms, Counts, Keeps, Names, Nexts, Rotates, Sees, begun_word, geometry_of, noted, seeing, tail_exchange, tail_step, term_of, with_begun}
+use Rattle.word_calls.specs.Claims.{BeginsTerm, CountsOn, IsTurn, Takes, TurnsFrom}
+use Rattle.word_calls.specs.Looks.{BeginsNext}
 use Rattle.word_calls.proofs.Adding.{keeps_by}
 use Rattle.word_calls.proofs.Refusing.{keeps}
 
--- one step that notes this, and changes nothing but what was seen
-noted_by : (most tails counts : ℕ) (p e q : Pass) (s : WordStep) → q ≡ noted s e → e.call ≡ p.call → e.right.armed ≡ p.right.armed → Keeps p (noted s e) → additions (s ∷ []) ≡ 0 → 1 ≤ most → tail_exchanges (s ∷ []) ≤ tails → count_exchanges (s ∷ []) ≤ counts → Notes most tails counts p q
-noted_by most tails counts p e q s is call armed same none few tail count = record {
-  after = keeps_by p (noted s e) q is same;
-  armed = ap (λ (u : Pass). u.right.armed) is ∙ armed;
-  more = s ∷ [];
-  call = ap (λ (u : Pass). u.call) is ∙ ap (λ (c : List WordStep). c ++ s ∷ []) call;
-  none_added = none;
-  few = few;
-  few_tails = tail;
-  few_counts = count;
-}
-
-kept_one : (b : Bool) (x : WordStep) (xs ys zs : List WordStep) → length zs ≡ length xs + length ys → length (cond b (x ∷ zs) zs) ≡ length (cond b (x ∷ xs) xs) + length ys
-kept_one true x xs ys zs h = omega (arith, h)
-kept_one false x xs ys zs h = h
-
-kept_append : (test : WordStep → Bool) (xs ys : List WordStep) → length (filter test (xs ++ ys)) ≡ length (filter test xs) + length (filter test ys)
-kept_append test [] ys = omega arith
-kept_append test (x ∷ xs) ys = kept_one (test x) x (filter test xs) (filter test ys) (filter test (xs ++ ys)) (kept_append test xs ys)
-
-pub notes_then : (most tails counts more tails_more counts_more : ℕ) (p q r : Pass) → Notes most tails counts p q → Notes more tails_more counts_more q r → Notes (most + more) (tails + tails_more) (counts + counts_more) p r
-notes_then most tails counts more tails_more counts_more p q r a b = record {
-  after = keeps p q r a.after b.after;
-  armed = b.armed ∙ a.armed;
-  more = a.more ++ b.more;
-  call = b.call ∙ ap (λ (c : List WordStep). c ++ b.more) a.call ∙ append_assoc p.call a.more b.more;
-  none_added = omega (arith, kept_append is_addition a.more b.more, a.none_added, b.none_added);
-  few = omega (arith, length-append a.more b.more, a.few, b.few);
-  few_tails = omega (arith, kept_append exchanges_tail a.more b.more, a.few_tails, b.few_tails);
-  few_counts = omega (arith, kept_append exchanges_count a.more b.more, a.few_counts, b.few_counts);
-}
-
 -- ---- what a step notes, whatever the word names
+
+same_id : (x y : ℤ) → (x ≡ y) ⊎ (¬ (x ≡ y))
+same_id x y =
+    by_lt_z {P = (x ≡ y) ⊎ (¬ (x ≡ y))} x y
+    (λ (l : x <ℤ y). inr (λ (e : x ≡ y). omega (arith, ints, e, l)))
+    (λ (l : y ≤ℤ x).
+    by_lt_z {P = (x ≡ y) ⊎ (¬ (x ≡ y))} y x
+    (λ (m : y <ℤ x). inr (λ (e : x ≡ y). omega (arith, ints, e, m)))
+    (λ (m : x ≤ℤ y). inl (omega (arith, ints, l, m))))
+
+either_or : (A B : Type 0) → A ⊎ (¬ A) → B ⊎ (¬ B) → (A ⊎ B) ⊎ (¬ (A ⊎ B))
+either_or A B a b = ⊎_elim (λ x. inl (inl x)) (λ not. ⊎_elim (λ y. inl (inr y)) (λ nor. inr (λ h. ⊎_elim not nor h)) b) a
+
+-- one step that notes this, and changes nothing but what was seen
+seen_by : (p e q : Pass) → q ≡ e → e ≡ seeing p e → e.right.armed ≡ p.right.armed → Keeps p q × (q.right.armed ≡ p.right.armed)
+seen_by p e q is same armed = (keeps_by p e q is same, ap (λ (u : Pass). u.right.armed) is ∙ armed)
 
 -- the word has the id of the count, or another
 names_or : (v : Pass) (n k : ℕ) → Names v n k ⊎ (¬ Names v n k)
-names_or v n k = same (id_in n) (id_of v.identity.geometry k)
-  where
-    same : (x y : ℤ) → (x ≡ y) ⊎ (¬ (x ≡ y))
-    same x y =
-        by_lt_z {P = (x ≡ y) ⊎ (¬ (x ≡ y))} x y
-        (λ (l : x <ℤ y). inr (λ (e : x ≡ y). omega (arith, ints, e, l)))
-        (λ (l : y ≤ℤ x).
-        by_lt_z {P = (x ≡ y) ⊎ (¬ (x ≡ y))} y x
-        (λ (m : y <ℤ x). inr (λ (e : x ≡ y). omega (arith, ints, e, m)))
-        (λ (m : x ≤ℤ y). inl (omega (arith, ints, l, m))))
+names_or v n k = same_id (id_in n) (id_of v.identity.geometry k)
 
 word_or : (n m : ℕ) → (n ≡ m) ⊎ (n ≢ m)
 word_or n m =
@@ -90,43 +64,136 @@ arms_call v w n told =
     (λ (other : ¬ Names v n v.seen.count). ap (λ (u : Pass). u.call) (told.other other))
     (names_or v n v.seen.count)
 
-pub found : (p q : Pass) (k n : ℕ) → Nexts p k n q → Notes 1 0 0 p q
+-- ---- what the three steps of a turn leave
+
+pub found : (p q : Pass) (k n : ℕ) → Nexts p k n q → Keeps p q × (q.right.armed ≡ p.right.armed)
 found p q k n told =
     ⊎_elim
-    (λ (id : Names p n (k + 1)). noted_by 1 0 0 p (with_begun p (k + 1)) q (steps.NextTail ((k + 1) % 3) n) (told.begun id) refl refl refl refl (omega arith) (omega arith) (omega arith))
-    (λ (other : ¬ Names p n (k + 1)). noted_by 1 0 0 p p q (steps.NextTail ((k + 1) % 3) n) (told.other other) refl refl refl refl (omega arith) (omega arith) (omega arith))
+    (λ (id : Names p n (k + 1)). seen_by p (noted (steps.NextTail ((k + 1) % 3) n) (with_begun p (k + 1))) q (told.begun id) refl refl)
+    (λ (other : ¬ Names p n (k + 1)). seen_by p (noted (steps.NextTail ((k + 1) % 3) n) p) q (told.other other) refl refl)
     (names_or p n (k + 1))
 
-pub exchanged : (p q : Pass) (k from n : ℕ) → Rotates p k from n q → Notes 1 1 0 p q
+pub exchanged : (p q : Pass) (k from n : ℕ) → Rotates p k from n q → Keeps p q × (q.right.armed ≡ p.right.armed)
 exchanged p q k from n told =
     ⊎_elim
     (λ (id : Names p n (k + 1)). begun (inr id))
     (λ (other : ¬ Names p n (k + 1)).
     ⊎_elim
     (λ (e : n ≡ from). begun (inl e))
-    (λ (apart : n ≢ from). noted_by 1 1 0 p p q (steps.TailExchange ((k + 1) % 3) n) (told.other apart other) refl refl refl refl (omega arith) (omega arith) (omega arith))
+    (λ (apart : n ≢ from). seen_by p (noted (tail_exchange p k from n) p) q (told.other apart other) refl refl)
     (word_or n from))
     (names_or p n (k + 1))
   where
-    begun : (n ≡ from) ⊎ Names p n (k + 1) → Notes 1 1 0 p q
-    begun h = noted_by 1 1 0 p (with_begun p (k + 1)) q (steps.TailExchange ((k + 1) % 3) n) (told.begun h) refl refl refl refl (omega arith) (omega arith) (omega arith)
-
-pub advanced : (p q : Pass) (n : ℕ) → Advances p n q → Notes 1 0 1 p q
-advanced p q n told = noted_by 1 0 1 p p q (steps.CountExchange n) told.after refl refl refl refl (omega arith) (omega arith) (omega arith)
+    begun : (n ≡ from) ⊎ Names p n (k + 1) → Keeps p q × (q.right.armed ≡ p.right.armed)
+    begun h = seen_by p (noted (tail_exchange p k from n) (with_begun p (k + 1))) q (told.begun h) refl refl
 
 pub found_call : (p q : Pass) (k n : ℕ) → Nexts p k n q → q.call ≡ p.call ++ steps.NextTail ((k + 1) % 3) n ∷ []
 found_call p q k n told = ⊎_elim (λ (id : Names p n (k + 1)). ap (λ (u : Pass). u.call) (told.begun id)) (λ (other : ¬ Names p n (k + 1)). ap (λ (u : Pass). u.call) (told.other other)) (names_or p n (k + 1))
 
-pub exchanged_call : (p q : Pass) (k from n : ℕ) → Rotates p k from n q → q.call ≡ p.call ++ steps.TailExchange ((k + 1) % 3) n ∷ []
+pub exchanged_call : (p q : Pass) (k from n : ℕ) → Rotates p k from n q → q.call ≡ p.call ++ tail_exchange p k from n ∷ []
 exchanged_call p q k from n told =
     ⊎_elim
     (λ (id : Names p n (k + 1)). ap (λ (u : Pass). u.call) (told.begun (inr id)))
     (λ (other : ¬ Names p n (k + 1)). ⊎_elim (λ (e : n ≡ from). ap (λ (u : Pass). u.call) (told.begun (inl e))) (λ (apart : n ≢ from). ap (λ (u : Pass). u.call) (told.other apart other)) (word_or n from))
     (names_or p n (k + 1))
 
-pub three_seen : (p x y z : Pass) (limit count tail : ℕ) → Sees p limit x → Counts x count y → Arms y tail z → length z.call ≡ 3
+pub three_seen : (p x y z : Pass) (limit count tail : ℕ) → Sees p limit x → Counts x count y → Arms y tail z → z.call ≡ steps.Limit limit ∷ steps.Count count ∷ tail_step y tail ∷ []
 three_seen p x y z limit count tail sees counts arms =
-    ap (λ (l : List WordStep). length l)
-    (arms_call y z tail arms
-    ∙ ap (λ (u : Pass). u.call ++ tail_step u tail ∷ []) counts.after
-    ∙ ap (λ (u : Pass). (u.call ++ steps.Count count ∷ []) ++ steps.Tail (count % 3) tail ∷ []) sees)
+    arms_call y z tail arms
+    ∙ ap (λ (u : Pass). u.call ++ tail_step y tail ∷ []) counts.after
+    ∙ ap (λ (u : Pass). (u.call ++ steps.Count count ∷ []) ++ tail_step y tail ∷ []) sees
+
+-- ---- a turn
+
+-- nobody else's term is in the next partition yet, and the exchange was tried
+pub begins_exchanging : (p x q : Pass) (k from was : ℕ) (has : Bool) → Nexts p k from x → Rotates x k from was q → id_in from ≡ id_before (geometry_of p) k 2 → (IsTrue has ↔ ((was ≡ from) ⊎ Names p was (k + 1))) → BeginsNext p k has q
+begins_exchanging p x q k from was has loads exchanges two says =
+    let a = found p x k from loads in
+    let b = exchanged x q k from was exchanges in
+    let same : tail_exchange x k from was ≡ tail_exchange p k from was = ap (λ (i : Identity). steps.TailExchange ((k + 1) % 3) from (begun_word i.geometry k) was) (ap (λ (u : Pass). u.identity) a.0) in
+    record {
+      after = keeps p x q a.0 b.0;
+      armed = b.1 ∙ a.1;
+      next = from;
+      rest = tail_exchange p k from was ∷ [];
+      call = exchanged_call x q k from was exchanges ∙ (λ j. found_call p x k from loads j ++ same j ∷ []) ∙ append_assoc p.call (steps.NextTail ((k + 1) % 3) from ∷ []) (tail_exchange p k from was ∷ []);
+      begins = λ _. (was, refl, says);
+      others = λ other. absurd (other two);
+    }
+
+-- it has another id
+pub begins_looking : (p q : Pass) (k from : ℕ) (has : Bool) → Nexts p k from q → ¬ (id_in from ≡ id_before (geometry_of p) k 2) → (IsTrue has ↔ Names p from (k + 1)) → BeginsNext p k has q
+begins_looking p q k from has loads other says = let a = found p q k from loads in record {
+  after = a.0;
+  armed = a.1;
+  next = from;
+  rest = [];
+  call = found_call p q k from loads;
+  begins = λ two. absurd (other two);
+  others = λ _. (refl, says);
+}
+
+-- the next term has begun, and the exchange of the count was tried
+pub turn_counted : (p x q : Pass) (k n : ℕ) (has : Bool) → BeginsNext p k has x → IsTrue has → Advances x k n q → Takes (IsTurn (geometry_of p) k) p q
+turn_counted p x q k n has begins true_is advances = record {
+  after = keeps p x q begins.after (keeps_by x (noted (steps.CountExchange k n) x) q advances.after refl);
+  armed = ap (λ (u : Pass). u.right.armed) advances.after ∙ begins.armed;
+  taken = steps.NextTail ((k + 1) % 3) begins.next ∷ (begins.rest ++ steps.CountExchange k n ∷ []);
+  call = ap (λ (u : Pass). u.call) advances.after ∙ ap (λ (c : List WordStep). c ++ steps.CountExchange k n ∷ []) begins.call ∙ append_assoc p.call (steps.NextTail ((k + 1) % 3) begins.next ∷ begins.rest) (steps.CountExchange k n ∷ []);
+  such = record {
+    next = begins.next;
+    rest = begins.rest ++ steps.CountExchange k n ∷ [];
+    load = refl;
+    begins = λ two. (let h = begins.begins two in record {
+      found = h.0;
+      rest = steps.CountExchange k n ∷ [];
+      exchange = ap (λ (c : List WordStep). c ++ steps.CountExchange k n ∷ []) h.1;
+      count = record { begun = λ _. (n, refl); other = λ not. absurd (not (h.2.0 true_is)) };
+    });
+    others = λ other. (let h = begins.others other in record {
+      begun = λ _. (n, ap (λ (c : List WordStep). c ++ steps.CountExchange k n ∷ []) h.0);
+      other = λ not. absurd (not (h.1.0 true_is));
+    });
+  };
+}
+
+-- it hasn't
+pub turn_left : (p q : Pass) (k : ℕ) (has : Bool) → BeginsNext p k has q → has ≡ false → Takes (IsTurn (geometry_of p) k) p q
+turn_left p q k has begins false_is = record {
+  after = begins.after;
+  armed = begins.armed;
+  taken = steps.NextTail ((k + 1) % 3) begins.next ∷ begins.rest;
+  call = begins.call;
+  such = record {
+    next = begins.next;
+    rest = begins.rest;
+    load = refl;
+    begins = λ two. (let h = begins.begins two in record {
+      found = h.0;
+      rest = [];
+      exchange = h.1;
+      count = record { begun = λ it. absurd (false≢true (sym false_is ∙ h.2.1 it)); other = λ _. refl };
+    });
+    others = λ other. (let h = begins.others other in record { begun = λ it. absurd (false≢true (sym false_is ∙ h.1.1 it)); other = λ _. h.0 });
+  };
+}
+
+-- a turn takes three steps at the most
+counts_few : (k : ℕ) (Begun : Type 0) (taken : List WordStep) → Begun ⊎ (¬ Begun) → CountsOn k Begun taken → length taken ≤ 1
+counts_few k Begun taken which h = ⊎_elim (λ it. subst (λ (xs : List WordStep). length xs ≤ 1) (sym (h.begun it).1) (omega arith)) (λ not. subst (λ (xs : List WordStep). length xs ≤ 1) (sym (h.other not)) (omega arith)) which
+
+pub turn_few : (g : Geometry) (k : ℕ) (taken : List WordStep) → IsTurn g k taken → length taken ≤ 3
+turn_few g k taken h = subst (λ (xs : List WordStep). length xs ≤ 3) (sym h.load) (⊎_elim
+    (λ (two : id_in h.next ≡ id_before g k 2). begun (h.begins two))
+    (λ (other : ¬ (id_in h.next ≡ id_before g k 2)). let n = counts_few k (id_in h.next ≡ id_of g (k + 1)) h.rest (same_id (id_in h.next) (id_of g (k + 1))) (h.others other) in omega (arith, n))
+    (same_id (id_in h.next) (id_before g k 2)))
+  where
+    begun : BeginsTerm g k h.next h.rest → suc (length h.rest) ≤ 3
+    begun b = subst (λ (xs : List WordStep). suc (length xs) ≤ 3) (sym b.exchange) (let n = counts_few k ((b.found ≡ h.next) ⊎ (id_in b.found ≡ id_of g (k + 1))) b.rest (either_or (b.found ≡ h.next) (id_in b.found ≡ id_of g (k + 1)) (word_or b.found h.next) (same_id (id_in b.found) (id_of g (k + 1)))) b.count in omega (arith, n))
+
+pub turns_few : (g : Geometry) (k : ℕ) (taken : List WordStep) → IsLast k ⊎ IsNotLast k → TurnsFrom g k taken → length taken ≤ 3
+turns_few g k taken which h = ⊎_elim (λ last. subst (λ (xs : List WordStep). length xs ≤ 3) (sym (h.ends last)) (omega arith)) (λ not. turn_few g k taken (h.turns not)) which
+
+-- the term wasn't the last
+pub turned_from : (g : Geometry) (p q : Pass) (k : ℕ) → k ≢ 2147483647 → Takes (IsTurn g k) p q → Takes (TurnsFrom g k) p q
+turned_from g p q k apart h = record { after = h.after; armed = h.armed; taken = h.taken; call = h.call; such = record { turns = λ _. h.such; ends = λ last. absurd (apart last) } }

@@ -1,30 +1,29 @@
 -- What a claim is answered, by the words that its pass saw.
-use Rattle.std.specs.Prelude.{◌≡◌, ℕ, ◌+◌, ◌-◌, ◌*◌, ◌%◌, ◌<◌, ◌≤◌, ◌⊎◌, Bool, true, false, List, [], ◌∷◌, ◌++◌, length}
-use Rattle.std.specs.List.{filter}
-use Rattle.theory.specs.Position.{framed_length, max_position}
+use Rattle.std.specs.Prelude.{◌≡◌, ℕ, ◌+◌, ◌-◌, ◌*◌, ◌%◌, ◌<◌, ◌≤◌, ◌⊎◌, true, false, List, [], ◌∷◌, ◌++◌, length}
+use Rattle.theory.specs.Position.{Geometry, framed_length, id_of, max_position}
 use Rattle.theory.specs.Placed.{Frame, Pad, frame_length}
 use Rattle.theory.specs.Refusal.{IsLast, IsNotLast, is_closed, is_connected, limit_in}
-use Rattle.theory.specs.Words.{offset_in}
+use Rattle.theory.specs.Words.{id_before, id_in, offset_in}
 use Rattle.word_calls.specs.declared.pass.FrameWords.{FrameWords}
 use Rattle.word_calls.specs.declared.pass.Pass.{Pass}
 use Rattle.word_calls.specs.declared.step.WordStep.{WordStep}
 use Rattle.word_calls.specs.declared.step.WordStep.TheVariants as steps
 use Rattle.word_calls.specs.declared.refusal.Refusal.{Refusal}
 use Rattle.word_calls.specs.declared.refusal.Refusal.TheVariants.{NotConnected, BackPressured, AdminAction, Closed, MaxPositionExceeded}
-use Rattle.word_calls.specs.Steps.{IsTerm, Keeps, Names, blank, count_in, geometry_of, message_at, opened, padding_at, start_in, term_of, with_work}
+use Rattle.word_calls.specs.Steps.{IsTerm, Keeps, Names, begun_word, blank, count_in, geometry_of, message_at, opened, padding_at, start_in, term_of, with_work}
 use Rattle.word_calls.specs.Frames.{frame_at}
 
--- ---- how many steps it took
+-- ---- the steps that it took
 
--- so many are noted in the call, and so many words were stored
-pub record TookMore {L P : Type 0} (took : L → P → L → P → ℕ → Type 0) (pass_of : L → P → Pass) (l : L) (p : P) (m : L) (q : P) (stored : ℕ) : Type 0 where
-  pub noted : ℕ
-  pub steps : took l p m q (noted + stored)
-  pub call : length (pass_of m q).call ≡ length (pass_of l p).call + noted
+-- these are noted in the call behind what was, and so many words were stored
+pub record TookMore {L P : Type 0} (took : L → P → L → P → List WordStep → ℕ → Type 0) (pass_of : L → P → Pass) (l : L) (p : P) (m : L) (q : P) (stored : ℕ) : Type 0 where
+  pub noted : List WordStep
+  pub steps : took l p m q noted stored
+  pub call : (pass_of m q).call ≡ (pass_of l p).call ++ noted
 
 -- all that the call notes were made in it
-abbrev pub TookCall : {L P : Type 0} → (L → P → L → P → ℕ → Type 0) → (L → P → Pass) → L → P → L → P → ℕ → Type 0
-TookCall took pass_of l p m q stored = took l p m q (length (pass_of m q).call + stored)
+abbrev pub TookCall : {L P : Type 0} → (L → P → L → P → List WordStep → ℕ → Type 0) → (L → P → Pass) → L → P → L → P → ℕ → Type 0
+TookCall took pass_of l p m q stored = took l p m q (pass_of m q).call stored
 
 -- a padding's header, for each frame that is committed more
 abbrev pub padding_words : Pass → Pass → ℕ
@@ -32,41 +31,38 @@ padding_words p q = 4 * (length q.work.frames - length p.work.frames)
 
 -- ---- a turn of the term
 
-abbrev pub exchanges_tail : WordStep → Bool
-exchanges_tail (steps.TailExchange partition word) = true
-exchanges_tail other = false
+-- the count is exchanged where the next term has begun, and only there
+pub record CountsOn (k : ℕ) (Begun : Type 0) (taken : List WordStep) : Type 0 where
+  pub begun : Begun → (n : ℕ) × (taken ≡ steps.CountExchange k n ∷ [])
+  pub other : ¬ Begun → taken ≡ []
 
-abbrev pub exchanges_count : WordStep → Bool
-exchanges_count (steps.CountExchange count) = true
-exchanges_count other = false
+-- the next tail is exchanged, once
+pub record BeginsTerm (g : Geometry) (k from : ℕ) (taken : List WordStep) : Type 0 where
+  pub found : ℕ
+  pub rest : List WordStep
+  pub exchange : taken ≡ steps.TailExchange ((k + 1) % 3) from (begun_word g k) found ∷ rest
+  pub count : CountsOn k ((found ≡ from) ⊎ (id_in found ≡ id_of g (k + 1))) rest
 
-abbrev pub is_addition : WordStep → Bool
-is_addition (steps.Addition partition taken word) = true
-is_addition other = false
+-- the turn from the term of this count: the next tail is loaded, and exchanged where it has the id of two terms before
+pub record IsTurn (g : Geometry) (k : ℕ) (taken : List WordStep) : Type 0 where
+  pub next : ℕ
+  pub rest : List WordStep
+  pub load : taken ≡ steps.NextTail ((k + 1) % 3) next ∷ rest
+  pub begins : id_in next ≡ id_before g k 2 → BeginsTerm g k next rest
+  pub others : ¬ (id_in next ≡ id_before g k 2) → CountsOn k (id_in next ≡ id_of g (k + 1)) rest
 
-abbrev pub additions : List WordStep → ℕ
-additions taken = length (filter is_addition taken)
+-- at the end of the term of this count: a turn, where it isn't the last
+pub record TurnsFrom (g : Geometry) (k : ℕ) (taken : List WordStep) : Type 0 where
+  pub turns : IsNotLast k → IsTurn g k taken
+  pub ends : IsLast k → taken ≡ []
 
--- how often a tail, and the count, was to be exchanged
-abbrev pub tail_exchanges : List WordStep → ℕ
-tail_exchanges taken = length (filter exchanges_tail taken)
-
-abbrev pub count_exchanges : List WordStep → ℕ
-count_exchanges taken = length (filter exchanges_count taken)
-
--- so many word calls more at the most, and of them so many exchanges
-pub record Notes (most tails counts : ℕ) (p q : Pass) : Type 0 where
+-- steps such as these, and nothing but what was seen is another
+pub record Takes (Such : List WordStep → Type 0) (p q : Pass) : Type 0 where
   pub after : Keeps p q
   pub armed : q.right.armed ≡ p.right.armed
-  pub more : List WordStep
-  pub call : q.call ≡ p.call ++ more
-  pub none_added : additions more ≡ 0
-  pub few : length more ≤ most
-  pub few_tails : tail_exchanges more ≤ tails
-  pub few_counts : count_exchanges more ≤ counts
-
-abbrev pub Turns : Pass → Pass → Type 0
-Turns p q = Notes 3 1 1 p q
+  pub taken : List WordStep
+  pub call : q.call ≡ p.call ++ taken
+  pub such : Such taken
 
 -- ---- open frames are filled
 
@@ -119,24 +115,32 @@ AtLimit p limit count tail = Names p tail count × (offset_in tail < term_of p) 
 abbrev pub Stale : Pass → ℕ → ℕ → Type 0
 Stale p count tail = ¬ Names p tail count
 
-abbrev pub Finished : Pass → (ℕ → Type 0) → ℕ → ℕ → Type 0
-Finished p Which count tail = Names p tail count × (term_of p ≤ offset_in tail) × Which count
+-- the active term is used up
+pub record Finished (p : Pass) (Which : ℕ → Type 0) (count tail : ℕ) (rest : List WordStep) : Type 0 where
+  pub id : Names p tail count
+  pub over : term_of p ≤ offset_in tail
+  pub which : Which count
+  pub turns : TurnsFrom (geometry_of p) count rest
 
--- the addition passed the end of its term
-pub record Tripped (p : Pass) (size : ℕ) (Which : ℕ → Type 0) (count : ℕ) (rest : List WordStep) : Type 0 where
+-- the tail had room below the limit, and the addition passed the end of its term
+pub record Tripped (p : Pass) (size : ℕ) (Which : ℕ → Type 0) (limit count tail : ℕ) (rest : List WordStep) : Type 0 where
+  pub id : Names p tail count
+  pub room : offset_in tail < term_of p
+  pub below : position_in p count tail < limit_in limit
   pub word : ℕ
   pub more : List WordStep
   pub added : rest ≡ addition_to p count size word ∷ more
+  pub turns : TurnsFrom (geometry_of p) (count_in (geometry_of p) word) more
   pub over : term_of p < offset_in word + framed_length (geometry_of p) size
   pub term : IsTerm p (count_in (geometry_of p) word)
   pub which : Which (count_in (geometry_of p) word)
 
 abbrev pub Cause : Pass → ℕ → ℕ → ℕ → ℕ → List WordStep → Refusal → Type 0
-Cause p size limit count tail rest NotConnected = AtLimit p limit count tail × (is_connected limit ≡ false)
-Cause p size limit count tail rest BackPressured = AtLimit p limit count tail × (is_connected limit ≡ true)
-Cause p size limit count tail rest AdminAction = Stale p count tail ⊎ (Finished p IsNotLast count tail ⊎ Tripped p size IsNotLast count rest)
+Cause p size limit count tail rest NotConnected = AtLimit p limit count tail × (is_connected limit ≡ false) × (rest ≡ [])
+Cause p size limit count tail rest BackPressured = AtLimit p limit count tail × (is_connected limit ≡ true) × (rest ≡ [])
+Cause p size limit count tail rest AdminAction = (Stale p count tail × (rest ≡ [])) ⊎ (Finished p IsNotLast count tail rest ⊎ Tripped p size IsNotLast limit count tail rest)
 Cause p size limit count tail rest Closed = ⊥
-Cause p size limit count tail rest MaxPositionExceeded = Finished p IsLast count tail ⊎ Tripped p size IsLast count rest
+Cause p size limit count tail rest MaxPositionExceeded = Finished p IsLast count tail rest ⊎ Tripped p size IsLast limit count tail rest
 
 -- the rest of the term of the word before the addition, committed
 abbrev pub padded : Pass → ℕ → Pass
@@ -165,10 +169,6 @@ pub record Refused (p : Pass) (size : ℕ) (why : Refusal) (q : Pass) : Type 0 w
   pub saw : Saw q limit count tail rest
   pub cause : Cause p size limit count tail rest why
   pub leaves : Leaves p rest q
-  pub few : length rest ≤ 4
-  pub one_added : additions rest ≤ 1
-  pub few_tails : tail_exchanges rest ≤ 1
-  pub few_counts : count_exchanges rest ≤ 1
   pub idle : p.right.armed ≡ 0 → q.right.armed ≡ 0
 
 -- the log was closed: nothing but the limit was looked at

@@ -1,17 +1,18 @@
 -- What a pass sees before it adds, and what its addition gave.
-use Rattle.std.specs.Prelude.{◌≡◌, ℕ, suc, ◌+◌, ◌-◌, ◌%◌, ◌<◌, ◌≤◌, true, false, List, [], ◌∷◌, ◌++◌, length}
+use Rattle.std.specs.Prelude.{◌≡◌, ℕ, suc, ◌+◌, ◌-◌, ◌%◌, ◌<◌, ◌≤◌, ◌⊎◌, ◌↔◌, Bool, IsTrue, true, false, List, [], ◌∷◌, ◌++◌}
 use Rattle.theory.specs.Position.{framed_length, max_position}
 use Rattle.theory.specs.Placed.{Pad}
 use Rattle.theory.specs.Refusal.{IsLast, IsNotLast, is_closed, is_connected, limit_in}
-use Rattle.theory.specs.Words.{offset_in}
+use Rattle.theory.specs.Words.{id_before, id_in, offset_in}
 use Rattle.word_calls.specs.declared.pass.Pass.{Pass}
 use Rattle.word_calls.specs.declared.step.WordStep.{WordStep}
+use Rattle.word_calls.specs.declared.step.WordStep.TheVariants as steps
 use Rattle.word_calls.specs.declared.refusal.Refusal.{Refusal}
 use Rattle.word_calls.specs.declared.refusal.Refusal.TheVariants.{NotConnected, BackPressured, AdminAction, Closed, MaxPositionExceeded}
 use Rattle.word_calls.specs.declared.looking.Look.{Look}
 use Rattle.word_calls.specs.declared.looking.Look.TheVariants as looks
-use Rattle.word_calls.specs.Steps.{IsTerm, Keeps, Names, count_in, geometry_of, message_at, opened, start_in, term_of}
-use Rattle.word_calls.specs.Claims.{AtLimit, Fills, HasBlank, LeavesPadding, Saw, Shut, Stale, addition_to, additions, count_exchanges, position_in, tail_exchanges}
+use Rattle.word_calls.specs.Steps.{IsTerm, Keeps, Names, count_in, geometry_of, message_at, opened, start_in, tail_exchange, term_of}
+use Rattle.word_calls.specs.Claims.{AtLimit, Fills, HasBlank, LeavesPadding, Saw, Shut, Stale, TurnsFrom, addition_to, position_in}
 
 abbrev pub LookCause : Pass → ℕ → ℕ → ℕ → Look → Pass → Type 0
 LookCause p limit count tail (looks.Refused NotConnected) q = AtLimit p limit count tail × (is_connected limit ≡ false) × (q.right.armed ≡ p.right.armed)
@@ -69,10 +70,7 @@ pub record Tripping (p : Pass) (count size : ℕ) (why : Refusal) (q : Pass) : T
   pub term : IsTerm p (count_in (geometry_of p) word)
   pub why_is : EndsTerm (count_in (geometry_of p) word) why
   pub leaves : LeavesPadding p word q
-  pub none_added : additions more ≡ 0
-  pub few : length more ≤ 3
-  pub few_tails : tail_exchanges more ≤ 1
-  pub few_counts : count_exchanges more ≤ 1
+  pub turns : TurnsFrom (geometry_of p) (count_in (geometry_of p) word) more
   pub idle : q.right.armed ≡ 0
 
 -- the padding that an addition left open, if there is one, is committed
@@ -84,3 +82,13 @@ pub record ToPad (v : Pass) (word : ℕ) : Type 0 where
   pub term : count_in (geometry_of v) word < 2147483648
   pub unit : offset_in word % 32 ≡ 0
   pub draft : offset_in word < term_of v → HasBlank v (start_in (geometry_of v) word) (term_of v - offset_in word)
+
+-- the next term is begun, if nobody has: a turn but for the exchange of the count
+pub record BeginsNext (p : Pass) (k : ℕ) (has : Bool) (q : Pass) : Type 0 where
+  pub after : Keeps p q
+  pub armed : q.right.armed ≡ p.right.armed
+  pub next : ℕ
+  pub rest : List WordStep
+  pub call : q.call ≡ p.call ++ steps.NextTail ((k + 1) % 3) next ∷ rest
+  pub begins : id_in next ≡ id_before (geometry_of p) k 2 → (found : ℕ) × (rest ≡ tail_exchange p k next found ∷ []) × (IsTrue has ↔ ((found ≡ next) ⊎ Names p found (k + 1)))
+  pub others : ¬ (id_in next ≡ id_before (geometry_of p) k 2) → (rest ≡ []) × (IsTrue has ↔ Names p next (k + 1))

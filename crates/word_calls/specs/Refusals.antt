@@ -29,8 +29,8 @@ sights_in (steps.Count count) = SawCount count ∷ []
 sights_in (steps.Tail partition word) = SawTail partition word ∷ []
 sights_in (steps.Addition partition taken word) = AddedTo partition word ∷ []
 sights_in (steps.NextTail partition word) = SawTail partition word ∷ []
-sights_in (steps.TailExchange partition word) = []
-sights_in (steps.CountExchange count) = []
+sights_in (steps.TailExchange partition from to word) = []
+sights_in (steps.CountExchange from count) = []
 
 abbrev pub sights : List WordStep → List Sight
 sights call = flat_map sights_in call

@@ -3,7 +3,7 @@ use Rattle.std.specs.Prelude.{◌≡◌, ◌≢◌, ℕ, suc, ◌+◌, ◌-◌, 
 use Rattle.std.specs.Int.{w32, cast_unsigned}
 use Rattle.theory.specs.Position.{Geometry, aligned, count_of, cuts_of, framed_length, id_of}
 use Rattle.theory.specs.Refusal.{limit_in}
-use Rattle.theory.specs.Words.{id_in, offset_in}
+use Rattle.theory.specs.Words.{id_in, offset_in, tail_word}
 use Rattle.word_calls.specs.declared.pass.ClaimRange.{ClaimRange}
 use Rattle.word_calls.specs.declared.pass.FrameWords.{FrameWords}
 use Rattle.word_calls.specs.declared.pass.Pass.{Pass}
@@ -168,14 +168,22 @@ pub record Nexts (v : Pass) (k n : ℕ) (w : Pass) : Type 0 where
   pub begun : Names v n (k + 1) → w ≡ noted (steps.NextTail ((k + 1) % 3) n) (with_begun v (k + 1))
   pub other : ¬ Names v n (k + 1) → w ≡ noted (steps.NextTail ((k + 1) % 3) n) v
 
+-- the word with which the term behind this count's begins
+abbrev pub begun_word : Geometry → ℕ → ℕ
+begun_word g k = tail_word (id_of g (k + 1)) 0
+
+abbrev pub tail_exchange : Pass → ℕ → ℕ → ℕ → WordStep
+tail_exchange v k from n = steps.TailExchange ((k + 1) % 3) from (begun_word (geometry_of v) k) n
+
 -- from the word that was loaded, to the next term's start
 pub record Rotates (v : Pass) (k from n : ℕ) (w : Pass) : Type 0 where
-  pub begun : (n ≡ from) ⊎ Names v n (k + 1) → w ≡ noted (steps.TailExchange ((k + 1) % 3) n) (with_begun v (k + 1))
-  pub other : n ≢ from → ¬ Names v n (k + 1) → w ≡ noted (steps.TailExchange ((k + 1) % 3) n) v
+  pub begun : (n ≡ from) ⊎ Names v n (k + 1) → w ≡ noted (tail_exchange v k from n) (with_begun v (k + 1))
+  pub other : n ≢ from → ¬ Names v n (k + 1) → w ≡ noted (tail_exchange v k from n) v
 
-pub record Advances (v : Pass) (n : ℕ) (w : Pass) : Type 0 where
+-- from the count k to the next
+pub record Advances (v : Pass) (k n : ℕ) (w : Pass) : Type 0 where
   pub small : n < 2 ^ 31
-  pub after : w ≡ noted (steps.CountExchange n) v
+  pub after : w ≡ noted (steps.CountExchange k n) v
 
 -- ---- the stores, which are noted in no call
 

@@ -20,7 +20,7 @@ mod writing;
 pub use claiming::claim;
 pub use identity::Identity;
 pub use offers::{abort, commit, offer, try_claim};
-pub use pass::{ClaimRange, FrameWords, Keeping, Pass, Reading, Right, Seen, Work};
+pub use pass::{ClaimRange, Controls, FrameWords, Keeping, Pass, Reading, Right, Seen, Work};
 pub use refusal::Refusal;
 pub use step::WordStep;
 pub use turn::rotate;

@@ -69,6 +69,13 @@ pub struct Keeping {
     pub positions: LinkedList<u64>,
 }
 
+/// The words of a log that no pass owns: the limit word, the active count, and the raw tails by their partitions.
+pub struct Controls {
+    pub limit: u64,
+    pub count: u64,
+    pub tails: LinkedList<u64>,
+}
+
 /// A pass: what stays of its log and its own number, the word calls since its last load of the limit, and what it knows.
 pub struct Pass {
     pub identity: Identity,

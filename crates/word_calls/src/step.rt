@@ -21,11 +21,16 @@ pub enum WordStep {
         partition: u32,
         word: u64,
     },
-    /// A raw tail was to be exchanged; the word that was there.
+    /// The raw tail of a partition was to be exchanged from one word to another; the word that was there.
     TailExchange {
         partition: u32,
+        from: u64,
+        to: u64,
         word: u64,
     },
-    /// The active count was to be exchanged; the count that was there.
-    CountExchange(u32),
+    /// The active count was to be exchanged from this one to the next; the count that was there.
+    CountExchange {
+        from: u32,
+        count: u32,
+    },
 }

@@ -2,8 +2,8 @@
 
 ghost use Rattle.std.specs.Prelude.{◌≡◌, suc, ◌+◌, ◌-◌, ◌^◌, ◌<◌, ◌≤◌, IsTrue, length};
 ghost use Rattle.word_calls.specs.Steps.{Moved};
-ghost use Rattle.word_calls.specs.Claims.{Notes, TookMore, Turns};
-ghost use Rattle.word_calls.specs.Looks.{EndsTerm};
+ghost use Rattle.word_calls.specs.Claims.{IsTurn, Takes, TookMore, TurnsFrom};
+ghost use Rattle.word_calls.specs.Looks.{BeginsNext, EndsTerm};
 
 use crate::refusal::Refusal;
 use crate::tail::{is_of, is_two_before};
@@ -19,7 +19,7 @@ pub fn rotate<W: WordCalls>(words: &mut W, pass: &mut W::Pass, count: u32)
     requires last { count < 2 ^ 31 - 1 }
     ensures moved { Moved W.fits W.pass_of W.name W.id words.old pass.old words.new pass.new }
     ensures took { TookMore W.took W.pass_of words.old pass.old words.new pass.new 0 }
-    ensures turns { Turns (W.pass_of words.old pass.old) (W.pass_of words.new pass.new) }
+    ensures turns { Takes (IsTurn (W.pass_of words.old pass.old).identity.geometry count) (W.pass_of words.old pass.old) (W.pass_of words.new pass.new) }
 {
     if begin_next(words, pass, count) {
         words.exchange_count(pass, count);
@@ -34,7 +34,7 @@ fn begin_next<W: WordCalls>(words: &mut W, pass: &mut W::Pass, count: u32) -> bo
     requires last { count < 2 ^ 31 - 1 }
     ensures moved { Moved W.fits W.pass_of W.name W.id words.old pass.old words.new pass.new }
     ensures took { TookMore W.took W.pass_of words.old pass.old words.new pass.new 0 }
-    ensures notes { Notes 2 1 0 (W.pass_of words.old pass.old) (W.pass_of words.new pass.new) }
+    ensures begins { BeginsNext (W.pass_of words.old pass.old) count result (W.pass_of words.new pass.new) }
     ensures begun { IsTrue result → (W.pass_of words.new pass.new).seen.begun ≡ count + 1 }
 {
     let geometry = words.identity(pass).geometry();
@@ -54,7 +54,7 @@ pub(crate) fn turn_from<W: WordCalls>(words: &mut W, pass: &mut W::Pass, count: 
     requires last { count < 2 ^ 31 }
     ensures moved { Moved W.fits W.pass_of W.name W.id words.old pass.old words.new pass.new }
     ensures took { TookMore W.took W.pass_of words.old pass.old words.new pass.new 0 }
-    ensures turns { Turns (W.pass_of words.old pass.old) (W.pass_of words.new pass.new) }
+    ensures turns { Takes (TurnsFrom (W.pass_of words.old pass.old).identity.geometry count) (W.pass_of words.old pass.old) (W.pass_of words.new pass.new) }
     ensures why { EndsTerm count result }
 {
     if count == i32::MAX as u32 {

@@ -5,7 +5,7 @@ use Rattle.theory.specs.Words.{offset_in}
 use Rattle.word_calls.specs.declared.pass.FrameWords.{FrameWords}
 use Rattle.word_calls.specs.declared.pass.Pass.{Pass}
 use Rattle.word_calls.specs.Steps.{addition, count_in, geometry_of, message_at, noted, opened, start_in}
-use Rattle.word_calls.specs.Claims.{TookMore, padding_words}
+use Rattle.word_calls.specs.Claims.{Takes, TookMore, TurnsFrom, padding_words}
 use Rattle.word_calls.specs.Looks.{EndsTerm}
 use Rattle.word_calls.proofs.Steppings.{took_call, took_more}
 use Rattle.word_calls.proofs.Adding.{full_then, granted, tripped_call, tripped_frames, tripping}
@@ -71,4 +71,4 @@ returns-clause-refused g c =
     let term : c.term_length.result ≡ (geometry_of (g.W.WordCalls.pass_of c.args.words.now c.args.pass.now)).term_length = c.term_length.ensures.value ∙ ap (λ (h : Geometry). h.term_length) geometry in
     let found : c.term_count-found.result ≡ count_in (geometry_of (g.W.WordCalls.pass_of c.args.words.now c.args.pass.now)) c.add-word.result = c.term_count-found.ensures ∙ ap (λ (h : Geometry). count_in h c.add-word.result) geometry in
     let over : (geometry_of (g.W.WordCalls.pass_of c.args.words.now c.args.pass.now)).term_length < offset_in c.add-word.result + framed_length (geometry_of (g.W.WordCalls.pass_of c.args.words.now c.args.pass.now)) c.args.size = omega (arith, covered, offset, term, c.if-offset-covered.false) in
-    tripping (g.W.WordCalls.pass_of c.args.words.now c.args.pass.now) (g.W.WordCalls.pass_of c.add-word.new.self c.add-word.new.pass) c.args.size c.add-word.result c.add-word.ensures.told over (g.W.WordCalls.pass_of c.pad.new.words c.pad.new.pass) c.pad.ensures.pads (g.W.WordCalls.pass_of c.turn_from.new.words c.turn_from.new.pass) c.args.count c.turn_from.result c.requires.count c.turn_from.ensures.turns (subst (λ (n : ℕ). EndsTerm n c.turn_from.result) found c.turn_from.ensures.why)
+    tripping (g.W.WordCalls.pass_of c.args.words.now c.args.pass.now) (g.W.WordCalls.pass_of c.add-word.new.self c.add-word.new.pass) c.args.size c.add-word.result c.add-word.ensures.told over (g.W.WordCalls.pass_of c.pad.new.words c.pad.new.pass) c.pad.ensures.pads (g.W.WordCalls.pass_of c.turn_from.new.words c.turn_from.new.pass) c.args.count c.turn_from.result c.requires.count (subst (λ (n : ℕ). Takes (TurnsFrom (geometry_of (g.W.WordCalls.pass_of c.pad.new.words c.pad.new.pass)) n) (g.W.WordCalls.pass_of c.pad.new.words c.pad.new.pass) (g.W.WordCalls.pass_of c.turn_from.new.words c.turn_from.new.pass)) found c.turn_from.ensures.turns) (subst (λ (n : ℕ). EndsTerm n c.turn_from.result) found c.turn_from.ensures.why)

@@ -1,6 +1,11 @@
-use Rattle.std.proofs.Common.{refl}
+use Rattle.std.proofs.Common.{◌≡◌, ℕ, ◌+◌, inr, ⊎_elim, sym, refl, ap, ◌∙◌}
+use Rattle.theory.specs.Bytes.{Identity}
+use Rattle.theory.specs.Position.{Geometry, id_of}
+use Rattle.theory.specs.Words.{id_before}
+use Rattle.word_calls.specs.declared.pass.Pass.{Pass}
+use Rattle.word_calls.specs.Steps.{geometry_of}
 use Rattle.word_calls.proofs.Steppings.{took_call, took_more}
-use Rattle.word_calls.proofs.Turned.{exchanged, exchanged_call, found, found_call, notes_then}
+use Rattle.word_calls.proofs.Turned.{begins_exchanging, exchanged_call, found_call}
 use Rattle.word_calls.proofs.turn.begin_next.Goals as goal
 
 pub returns-then-was-found-clause-took : goal.returns-then-was-found-clause-took
@@ -17,6 +22,10 @@ returns-else-was-found-clause-took g c =
     (took_call g.W.WordCalls.took g.W.WordCalls.pass_of _ _ _ _ _ c.exchange_next-was.ensures.took (exchanged_call _ _ c.args.count c.load_next-found.result c.exchange_next-was.result c.exchange_next-was.ensures.told))
     refl
 
-pub returns-else-was-found-clause-notes : goal.returns-else-was-found-clause-notes
-returns-else-was-found-clause-notes g c =
-    notes_then 1 0 0 1 1 0 _ _ _ (found _ _ c.args.count c.load_next-found.result c.load_next-found.ensures.told) (exchanged _ _ c.args.count c.load_next-found.result c.exchange_next-was.result c.exchange_next-was.ensures.told)
+pub returns-else-was-found-clause-begins : goal.returns-else-was-found-clause-begins
+returns-else-was-found-clause-begins g c =
+    let p : Pass = g.W.WordCalls.pass_of c.args.words.now c.args.pass.now in
+    let geometry : c.geometry-geometry.result ≡ geometry_of p = c.geometry-geometry.ensures.value ∙ ap (λ (i : Identity). i.geometry) c.identity.ensures in
+    begins_exchanging p (g.W.WordCalls.pass_of c.load_next-found.new.self c.load_next-found.new.pass) (g.W.WordCalls.pass_of c.exchange_next-was.new.self c.exchange_next-was.new.pass) c.args.count c.load_next-found.result c.exchange_next-was.result c.is_of-else-was-found.result c.load_next-found.ensures.told c.exchange_next-was.ensures.told
+    (c.is_two_before.ensures.0 c.if-not-is_two_before.false ∙ ap (λ (h : Geometry). id_before h c.args.count 2) geometry)
+    (λ t. inr (c.is_of-else-was-found.ensures.0 t ∙ ap (λ (h : Geometry). id_of h (c.args.count + 1)) geometry), λ h. ⊎_elim (λ e. absurd (c.if-was-found.false e)) (λ e. c.is_of-else-was-found.ensures.1 (e ∙ ap (λ (h : Geometry). id_of h (c.args.count + 1)) (sym geometry))) h)

@@ -1,6 +1,6 @@
 use Rattle.std.proofs.Common.{refl, ap}
 use Rattle.word_calls.proofs.Steppings.{took_call, took_more}
-use Rattle.word_calls.proofs.Turned.{advanced, notes_then}
+use Rattle.word_calls.proofs.Turned.{turn_counted, turn_left}
 use Rattle.word_calls.specs.declared.pass.Pass.{Pass}
 use Rattle.word_calls.proofs.turn.rotate.Goals as goal
 
@@ -12,4 +12,7 @@ returns-then-begin_next-clause-took g c =
     refl
 
 pub returns-then-begin_next-clause-turns : goal.returns-then-begin_next-clause-turns
-returns-then-begin_next-clause-turns g c = notes_then 2 1 0 1 0 1 _ _ _ c.begin_next.ensures.notes (advanced _ _ c.exchange_count.result c.exchange_count.ensures.told)
+returns-then-begin_next-clause-turns g c = turn_counted _ _ _ c.args.count c.exchange_count.result c.begin_next.result c.begin_next.ensures.begins c.if-begin_next.true c.exchange_count.ensures.told
+
+pub returns-else-begin_next-clause-turns : goal.returns-else-begin_next-clause-turns
+returns-else-begin_next-clause-turns g c = turn_left _ _ c.args.count c.begin_next.result c.begin_next.ensures.begins c.if-begin_next.false
