@@ -10,3 +10,5 @@ pub mod Turned
 pub mod Filling
 pub mod Offering
 pub mod WordRows
+pub mod Packed
+pub mod Alone

@@ -5,3 +5,4 @@ pub mod Claims
 pub mod Controls
 pub mod Looks
 pub mod Offers
+pub mod Alone
