@@ -1,0 +1,53 @@
+-- A frame's words say which frame it is.
+use Rattle.std.proofs.Common.{◌≡◌, ℕ, zero, suc, ◌+◌, ◌-◌, ◌*◌, ◌/◌, ◌%◌, ◌^◌, ◌<◌, ◌≤◌, ⊎_elim, List, [], ◌∷◌, ◌++◌, length, take, drop, get_or, replicate, length-append, sym, refl, ap, ◌∙◌, arith}
+use Rattle.std.specs.Prelude.{slice_index}
+use Rattle.std.specs.Int.{w16, w32, w64, from_le_bytes, to_le_bytes}
+use Rattle.std.specs.List.{flat_map}
+use Rattle.std.proofs.lemmas.Nat.{from_le_bytes-to_le_bytes_4, le_bytes_8}
+use Rattle.std.proofs.lemmas.List.{length-replicate, take-append-le, take_all}
+use Rattle.theory.specs.Position.{aligned}
+use Rattle.theory.specs.Placed.{Data, Frame, Pad, frame_length}
+use Rattle.theory.specs.Wire.{front}
+use Rattle.theory.specs.Bytes.{Identity}
+use Rattle.word_calls.specs.Frames.{frame_at, frame_words, payload_words}
+use Rattle.word_calls.proofs.Wordings.{data_words, pad_words, words_length, words_rest, words_spell}
+use Rattle.table_hand.specs.Shown.{bytes_in, frame_by, frame_in}
+
+front_small : (n flags kind : ℕ) → flags < 256 → kind < 65536 → (i : ℕ) → get_or (front n flags kind) i 0 < 256
+front_small n flags kind f k zero = omega arith
+front_small n flags kind f k (suc zero) = omega arith
+front_small n flags kind f k (suc (suc zero)) = omega arith
+front_small n flags kind f k (suc (suc (suc zero))) = omega arith
+front_small n flags kind f k (suc (suc (suc (suc zero)))) = omega arith
+front_small n flags kind f k (suc (suc (suc (suc (suc zero))))) = omega (arith, f)
+front_small n flags kind f k (suc (suc (suc (suc (suc (suc zero)))))) = omega arith
+front_small n flags kind f k (suc (suc (suc (suc (suc (suc (suc zero))))))) = omega arith
+front_small n flags kind f k (suc (suc (suc (suc (suc (suc (suc (suc i)))))))) = omega arith
+
+head_is : (n flags kind : ℕ) → flags < 256 → kind < 65536 → to_le_bytes w64 (from_le_bytes w64 (front n flags kind)) ≡ front n flags kind
+head_is n flags kind f k = le_bytes_8 (front n flags kind) (from_le_bytes w64 (front n flags kind)) refl (front_small n flags kind f k) refl
+
+abbrev IsSmall : List ℕ → Type 0
+IsSmall xs = (i : ℕ) → get_or xs i 0 < 256
+
+pub says_data : (i : Identity) (p flags m : ℕ) (payload : List ℕ) → flags < 256 → IsSmall payload → 32 + length payload < 4294967296 → aligned (32 + length payload) / 8 ≡ suc (suc (suc (suc m))) → (length payload + 7) / 8 ≤ m → frame_in (frame_at i p (Data flags payload)) ≡ Data flags payload
+says_data i p flags m payload f small short long fits =
+    ap (λ (ws : List ℕ). frame_by (to_le_bytes w64 (slice_index ws 0)) (bytes_in (drop 4 ws))) (data_words i p flags m payload long fits)
+    ∙ ap (λ (h : List ℕ). frame_by h (bytes_in (payload_words payload ++ replicate (m - length (payload_words payload)) 0))) (head_is (32 + length payload) flags 1 f (omega arith))
+    ∙ ap (λ (k : ℕ). Data flags (take (k - 32) (bytes_in (payload_words payload ++ replicate (m - length (payload_words payload)) 0)))) (from_le_bytes-to_le_bytes_4 (32 + length payload) short)
+    ∙ ap (λ (xs : List ℕ). Data flags xs) payload_is
+  where
+    payload_is : take (32 + length payload - 32) (bytes_in (payload_words payload ++ replicate (m - length (payload_words payload)) 0)) ≡ payload
+    payload_is =
+        ap (λ (k : ℕ). take (32 + length payload - 32) (bytes_in (payload_words payload ++ replicate {A = ℕ} (m - k) 0))) (words_length ((length payload + 7) / 8) payload)
+        ∙ ap (λ (k : ℕ). take k (bytes_in (payload_words payload ++ replicate (m - (length payload + 7) / 8) 0))) (let e : 32 + length payload - 32 ≡ length payload = omega arith in e)
+        ∙ ap (λ (ws : List ℕ). take (length payload) (bytes_in ws)) (sym (words_rest ((length payload + 7) / 8) m payload (omega arith) fits))
+        ∙ ap (take (length payload)) (words_spell m payload small (omega (arith, fits)))
+        ∙ take-append-le (length payload) payload (replicate (8 * m - length payload) 0) (omega arith)
+        ∙ take_all (length payload) payload (omega arith)
+
+pub says_pad : (i : Identity) (p n m : ℕ) → n < 4294967296 → aligned n / 8 ≡ suc (suc (suc (suc m))) → frame_in (frame_at i p (Pad n)) ≡ Pad n
+says_pad i p n m short long =
+    ap (λ (ws : List ℕ). frame_by (to_le_bytes w64 (slice_index ws 0)) (bytes_in (drop 4 ws))) (pad_words i p n m long)
+    ∙ ap (λ (h : List ℕ). frame_by h (bytes_in ([] ++ replicate (m - 0) 0))) (head_is n 192 0 (omega arith) (omega arith))
+    ∙ ap (λ (k : ℕ). Pad k) (from_le_bytes-to_le_bytes_4 n short)

@@ -1,0 +1,6 @@
+//! A log on a table that one hand holds: one caller has the log, and one pass with all its publishers.
+#![tactic(auto)]
+
+mod held;
+
+pub use held::Held;
