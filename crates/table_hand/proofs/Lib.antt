@@ -1,2 +1,3 @@
 pub mod Said
 pub mod Entries
+pub mod Keeps
