@@ -22,7 +22,7 @@ use Rattle.one_hand.specs.Stream.{OpenClaim, Stream, aborted_at, covered, room, 
 
 -- ---- entries
 
-payload_sum : (cuts : List ℕ) → payload_in cuts ≡ sum_by (λ cut. cut - 32) cuts
+pub payload_sum : (cuts : List ℕ) → payload_in cuts ≡ sum_by (λ cut. cut - 32) cuts
 payload_sum [] = refl
 payload_sum (cut ∷ cuts) = omega (arith, sum_by-cons (λ x. x - 32) cut cuts, payload_sum cuts)
 
@@ -93,7 +93,7 @@ entry_keeps l e bytes is legal at size some fits =
 pub message_keeps : (l : Stream) (by : ℕ) (message : List ℕ) → IsStream l → by < 8 → l.tail < (l.active + 1) * term_of l → l.tail + covered l (length message) ≤ (l.active + 1) * term_of l → IsStream (with_message l by message)
 message_keeps l by message is low some fits = entry_keeps l (published l.identity.geometry l.tail by message) (covered l (length message)) is (published_is l.identity.geometry l.tail by message is.geometry low) refl (covers_framed l.identity.geometry (length message) is.geometry) some fits
 
-set_get : {X : Type 0} (xs : List X) (i k : ℕ) (x y : X) → slice_get (slice_set xs i x) k ≡ Some y → ((k ≡ i) × (x ≡ y)) ⊎ (slice_get xs k ≡ Some y)
+pub set_get : {X : Type 0} (xs : List X) (i k : ℕ) (x y : X) → slice_get (slice_set xs i x) k ≡ Some y → ((k ≡ i) × (x ≡ y)) ⊎ (slice_get xs k ≡ Some y)
 set_get [] i k x y h = inr h
 set_get (z ∷ zs) zero zero x y h = let same : x ≡ y = cc in inl (refl, same)
 set_get (z ∷ zs) zero (suc k) x y h = inr h
@@ -168,7 +168,7 @@ one_entry term p tail (e ∷ es) a b t k (inl x) (inr y) s = absurd (let from = 
 one_entry term p tail (e ∷ es) a b t k (inr x) (inl y) s = absurd (let from = entry_from term (entry_end e) tail es a t.2 x in let at : b.start ≡ e.start = ap (λ (z : Entry). z.start) y in let l = k.0.long in omega (arith, from, at, s, l))
 one_entry term p tail (e ∷ es) a b t k (inr x) (inr y) s = one_entry term (entry_end e) tail es a b t.2 k.1 x y s
 
-none_get : (cs : List (Option OpenClaim)) (i k : ℕ) (c : OpenClaim) → slice_get (slice_set cs i None) k ≡ Some (Some c) → slice_get cs k ≡ Some (Some c) × ((k ≡ i) → ⊥)
+pub none_get : (cs : List (Option OpenClaim)) (i k : ℕ) (c : OpenClaim) → slice_get (slice_set cs i None) k ≡ Some (Some c) → slice_get cs k ≡ Some (Some c) × ((k ≡ i) → ⊥)
 none_get [] i k c h = absurd (cc)
 none_get (z ∷ zs) zero zero c h = absurd (cc)
 none_get (z ∷ zs) zero (suc k) c h = (h, λ e. omega (arith, e))

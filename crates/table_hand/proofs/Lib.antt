@@ -1,3 +1,6 @@
 pub mod Said
 pub mod Entries
 pub mod Keeps
+pub mod Pieced
+pub mod Handed
+pub mod Answered

@@ -27,7 +27,7 @@ front_small n flags kind f k (suc (suc (suc (suc (suc (suc (suc (suc i)))))))) =
 head_is : (n flags kind : ℕ) → flags < 256 → kind < 65536 → to_le_bytes w64 (from_le_bytes w64 (front n flags kind)) ≡ front n flags kind
 head_is n flags kind f k = le_bytes_8 (front n flags kind) (from_le_bytes w64 (front n flags kind)) refl (front_small n flags kind f k) refl
 
-abbrev IsSmall : List ℕ → Type 0
+abbrev pub IsSmall : List ℕ → Type 0
 IsSmall xs = (i : ℕ) → get_or xs i 0 < 256
 
 pub says_data : (i : Identity) (p flags m : ℕ) (payload : List ℕ) → flags < 256 → IsSmall payload → 32 + length payload < 4294967296 → aligned (32 + length payload) / 8 ≡ suc (suc (suc (suc m))) → (length payload + 7) / 8 ≤ m → frame_in (frame_at i p (Data flags payload)) ≡ Data flags payload

@@ -4,7 +4,7 @@ use Rattle.std.specs.Int.{w32, w64, from_le_bytes, to_le_bytes}
 use Rattle.std.specs.List.{AllByRecursion, filter, flat_map, list_any}
 use Rattle.std.specs.Prelude.{drop, take, slice_index}
 use Rattle.theory.specs.Position.{span}
-use Rattle.theory.specs.Placed.{Data, Frame, Pad, is_padding}
+use Rattle.theory.specs.Placed.{Among, Data, Frame, Pad, is_padding}
 use Rattle.theory.specs.Entry.{Entry}
 use Rattle.theory.specs.Bytes.{Identity}
 use Rattle.theory.specs.Refusal.{is_closed, is_connected, limit_in}
@@ -12,7 +12,11 @@ use Rattle.word_calls.specs.declared.pass.ClaimRange.{ClaimRange}
 use Rattle.word_calls.specs.declared.pass.Controls.{Controls}
 use Rattle.word_calls.specs.declared.pass.FrameWords.{FrameWords}
 use Rattle.word_calls.specs.declared.pass.Pass.{Pass}
-use Rattle.word_calls.specs.Claims.{HasBlank}
+use Rattle.word_calls.specs.Steps.{blank}
+use Rattle.word_calls.specs.declared.refusal.Refusal as calls
+use Rattle.word_calls.specs.declared.refusal.Refusal.TheVariants as whys
+use Rattle.publication.specs.declared.refusal.Refusal.{Refusal}
+use Rattle.publication.specs.declared.refusal.Refusal.TheVariants.{NotConnected, BackPressured, AdminAction, Closed, MaxPositionExceeded}
 use Rattle.word_calls.specs.Alone.{Settled}
 use Rattle.one_hand.specs.Stream.{OpenClaim, Stream}
 use Rattle.one_hand.specs.Legal.{IsStream}
@@ -45,18 +49,12 @@ frames_in frames c = map frame_in (filter (lies_in c) frames)
 abbrev pub entry_in : List FrameWords → ClaimRange → Entry
 entry_in frames c = record { start = c.start; owner = c.owner; padding = list_any is_padding (frames_in frames c); cuts = c.cuts; frames = frames_in frames c }
 
-abbrev pub entries_in : Pass → List Entry
-entries_in v = map (entry_in v.work.frames) v.right.claims
-
 -- ---- the stream
 
 -- how many bytes claims cover
 abbrev pub spans : List ClaimRange → ℕ
 spans [] = 0
 spans (c ∷ cs) = span c.cuts + spans cs
-
-abbrev pub claimed : Pass → ℕ
-claimed v = spans v.right.claims
 
 abbrev pub share : List ClaimRange → ℕ → ℕ
 share claims by = spans (filter (λ c. nat_eq c.owner by) claims)
@@ -71,21 +69,25 @@ abbrev pub claim_in : Option Held → Option OpenClaim
 claim_in None = None
 claim_in (Some h) = Some (open_claim h)
 
-abbrev pub stream_of : Identity → ℕ → Pass → Controls → List (Option Held) → Stream
-stream_of identity start v c held = record {
+-- by the claims in the order of the stream and the committed frames; a table has no consumer and isn't cleaned
+abbrev pub stream_by : Identity → ℕ → List ClaimRange → List FrameWords → Controls → List (Option Held) → Stream
+stream_by identity start claims frames c held = record {
   identity = identity;
   start = start;
-  tail = start + claimed v;
+  tail = start + spans claims;
   limit = limit_in c.limit;
   connected = is_connected c.limit;
   closed = is_closed c.limit;
   consumers = [];
   active = c.count;
-  shares = shares_of v.right.claims;
+  shares = shares_of claims;
   cleaned = start;
-  entries = entries_in v;
+  entries = map (entry_in frames) claims;
   claims = map claim_in held;
 }
+
+abbrev pub stream_of : Pass → Controls → List (Option Held) → Stream
+stream_of v c held = stream_by v.identity v.start v.right.claims v.work.frames c held
 
 -- the claims follow each other from here
 abbrev pub Follow : ℕ → List ClaimRange → Type 0
@@ -93,12 +95,22 @@ Follow p [] = ⊤
 Follow p (c ∷ cs) = (c.start ≡ p) × (0 < span c.cuts) × Follow (p + span c.cuts) cs
 
 -- what holds between two calls of the hand
-pub record IsWhole (identity : Identity) (start : ℕ) (v : Pass) (c : Controls) (held : List (Option Held)) : Type 0 where
-  pub identity_is : v.identity ≡ identity
-  pub idle : v.right.armed ≡ 0
-  pub settled : Settled identity.geometry (start + claimed v) c.count c
+pub record WholeBy (identity : Identity) (start : ℕ) (claims : List ClaimRange) (frames drafts : List FrameWords) (c : Controls) (held : List (Option Held)) : Type 0 where
+  pub settled : Settled identity.geometry (start + spans claims) c.count c
   pub eight : length held ≡ 8
-  pub follow : Follow start v.right.claims
-  pub past : AllByRecursion (λ f. f.start < start + claimed v) v.work.frames
-  pub drafts : (by : ℕ) (h : Held) → slice_get held by ≡ Some (Some h) → HasBlank v h.start (32 + h.size)
-  pub stream : IsStream (stream_of identity start v c held)
+  pub follow : Follow start claims
+  pub past : AllByRecursion (λ f. f.start < start + spans claims) frames
+  pub begun : (by : ℕ) (h : Held) → slice_get held by ≡ Some (Some h) → Among (blank h.start (32 + h.size)) drafts
+  pub stream : IsStream (stream_by identity start claims frames c held)
+
+abbrev pub IsWhole : Pass → Controls → List (Option Held) → Type 0
+IsWhole v c held = WholeBy v.identity v.start v.right.claims v.work.frames v.work.drafts c held
+
+-- ---- refusals, in the words of the log's publishers
+
+abbrev pub said : calls.Refusal → Refusal
+said whys.NotConnected = NotConnected
+said whys.BackPressured = BackPressured
+said whys.AdminAction = AdminAction
+said whys.Closed = Closed
+said whys.MaxPositionExceeded = MaxPositionExceeded
