@@ -46,7 +46,7 @@ published_is g start by message is low = record {
   frames = pieces_fit true (cuts_of g (length message)) message (cut_units g (length message) (let b = is.mtu.least in omega (arith, b))) (payload_sum (cuts_of g (length message)) ∙ holds_bytes g (length message) is);
 }
 
-claim_is : (g : Geometry) (start by size : ℕ) → IsGeometry g → by < 8 → IsEntry (claim_of g start by false size)
+pub claim_is : (g : Geometry) (start by size : ℕ) → IsGeometry g → by < 8 → IsEntry (claim_of g start by false size)
 claim_is g start by size is low = record { owner = low; cuts = positive g size is; long = long g size is; frames = tt }
 
 padded_is : (start by n : ℕ) → by < 8 → 0 < n → IsEntry (padded start by n)

@@ -4,3 +4,4 @@ pub mod Keeps
 pub mod Pieced
 pub mod Handed
 pub mod Answered
+pub mod Ended
