@@ -1,33 +1,34 @@
 -- The words of a log that opens obey the rule, and so do its first passes.
-use Rattle.std.proofs.Common.{◌≡◌, ◌≢◌, ◌⊎◌, ℕ, zero, suc, ◌+◌, ◌-◌, ◌*◌, ◌/◌, ◌%◌, ◌^◌, ◌<◌, ◌≤◌, cond, min, Bool, List, [], ◌∷◌, ◌++◌, map, replicate, length, set, length-set, get_or-set_same, get_or-set_other, sym, refl, ap, ◌∙◌, subst, ⊎_elim, suc-ne-zero, mul-zero, mul-le-mul_left, mul_comm, mod-lt, lt_of_not-le, div-add-mod', arith}
+use Rattle.std.proofs.Common.{◌≡◌, ◌≢◌, ℕ, zero, suc, ◌+◌, ◌-◌, ◌*◌, ◌/◌, ◌%◌, ◌<◌, ◌≤◌, min, List, [], ◌∷◌, ◌++◌, map, replicate, length, set, length-set, get_or-set_same, get_or-set_other, sym, refl, ap, ◌∙◌, subst, ⊎_elim, suc-ne-zero, mul-zero, mul-le-mul_left, mul_comm, mod-lt, lt_of_not-le, div-add-mod', arith}
 use mathlib.Core.Option.{some, some-injective, some-ne-none}
 use mathlib.Core.Logic.{dite}
 use native.Mathlib.Decide.{dec_le, ℕ_discrete}
 use lib.ListN.{get_elem?}
-use Rattle.std.specs.Prelude.{slice_index, nat_eq}
-use Rattle.std.specs.List.{AllByRecursion}
+use Rattle.std.specs.Prelude.{slice_index}
 use Rattle.std.proofs.lemmas.List.{length-replicate, map-append, map-set}
-use Rattle.atomic_table.specs.Table.{Splits, State}
+use Rattle.atomic_table.specs.Table.{Splits}
 use Rattle.atomic_table.proofs.Lists.{at_map, at_set, at_snoc}
 use Rattle.theory.specs.Position.{Geometry, IsGeometry, id_of, max_position}
-use Rattle.theory.specs.Entry.{Entry, length_of}
+use Rattle.theory.specs.Entry.{length_of}
 use Rattle.theory.specs.Refusal.{limit_in}
 use Rattle.theory.specs.Words.{id_before, tail_word}
 use Rattle.theory.proofs.Places.{mod_unit, power_half, power_unit}
 use Rattle.word_calls.specs.declared.pass.Pass.{Pass}
 use Rattle.tail_claim.specs.declared.view.Key.{Key}
 use Rattle.tail_claim.specs.declared.view.View.{View}
-use Rattle.tail_claim.specs.Packs.{count_place, data_place, limit_place, slot, table_length, tail_place}
+use Rattle.tail_claim.specs.Packs.{count_place, slot, table_length, tail_place}
 use Rattle.tail_claim.specs.Sums.{total}
-use Rattle.tail_claim.specs.Terms.{Tailed, Terms, Turns, end_of}
-use Rattle.tail_claim.specs.Rule.{Bounds, Claimed, Entitled, Knows, Saw, Sound, armed_of, armed_on, first_of, parts_of, shape_of, size_of, weight}
-use Rattle.tail_claim.specs.Memory.{Memory, Ruled, Stored, tail_of}
+use Rattle.tail_claim.specs.Terms.{Tailed, Terms, end_of}
+use Rattle.tail_claim.specs.Rule.{Bounds, Knows, Sound, armed_of, armed_on, first_of, parts_of, shape_of, size_of, weight}
+use Rattle.tail_claim.specs.Memory.{Ruled, Stored}
 use Rattle.tail_claim.specs.Openings.{Fresh}
 use Rattle.tail_claim.specs.Plays.{TableRuled, bounds_of, dealer, dealing_seat, dealt, dealt_seat, first_seat, newcomer, pass_in}
 use Rattle.tail_claim.proofs.Packs.{before_count, put, at_put, put_else, put_here}
 use Rattle.tail_claim.proofs.Totals.{total_append, total_set}
-use Rattle.tail_claim.proofs.Accounts.{each_set, knows_on, none_armed, unchanged}
+use Rattle.tail_claim.proofs.Accounts.{each_set, none_armed, unchanged}
+use Rattle.tail_claim.specs.Sure.{IsSure, controls_in, fresh_controls}
 use Rattle.tail_claim.proofs.Looks.{min_of_le, term_short}
+use Rattle.tail_claim.proofs.Sures.{sure_split, unsure}
 
 -- ---- the words of a log that opens
 
@@ -121,8 +122,29 @@ one_pass : (P : Pass → Type 0) (p : Pass) → P p → (j : ℕ) (v : Pass) →
 one_pass P p a zero v e = subst P (some-injective _ v e) a
 one_pass P p a (suc j) v e = absurd (some-ne-none v (sym e))
 
-pub opens : (key : Key) (ws : List ℕ) → Sound (bounds_of key) → Fresh (bounds_of key) ws → TableRuled key record { words = ws; homes = []; views = first_seat key ∷ [] }
-opens key ws so f =
+-- the first seat knows the control words
+fresh_is : (key : Key) (ws : List ℕ) → Fresh (bounds_of key) ws → fresh_controls key.identity key.start ≡ controls_in ws
+fresh_is key ws f = λ i. record { limit = sym f.limit i; count = sym f.count i; tails = placed (first_of b) (tail_word (id_of g (first_of b)) (key.start % g.term_length)) (tail_word (id_before g (first_of b) 2) 0) (tail_word (id_before g (first_of b) 1) 0) f.here f.next f.last i }
+  where
+    b : Bounds
+    b = bounds_of key
+
+    g : Geometry
+    g = key.identity.geometry
+
+    placed : (c x y z : ℕ) → slice_index ws (tail_place c) ≡ x → slice_index ws (tail_place (c + 1)) ≡ y → slice_index ws (tail_place (c + 2)) ≡ z
+        → set (set (set (0 ∷ 0 ∷ 0 ∷ []) (c % 3) x) ((c + 1) % 3) y) ((c + 2) % 3) z ≡ slice_index ws 32 ∷ slice_index ws 48 ∷ slice_index ws 64 ∷ []
+    placed c x y z ex ey ez = by_part (c % 3) ((c + 1) % 3) ((c + 2) % 3) (omega arith) (omega arith) (omega arith) ex ey ez
+      where
+        by_part : (p q r : ℕ) → p < 3 → q ≡ (p + 1) % 3 → r ≡ (p + 2) % 3 → slice_index ws (p * 16 + 32) ≡ x → slice_index ws (q * 16 + 32) ≡ y → slice_index ws (r * 16 + 32) ≡ z
+            → set (set (set (0 ∷ 0 ∷ 0 ∷ []) p x) q y) r z ≡ slice_index ws 32 ∷ slice_index ws 48 ∷ slice_index ws 64 ∷ []
+        by_part zero (suc zero) (suc (suc zero)) low eq er ex ey ez = λ i. sym ex i ∷ sym ey i ∷ sym ez i ∷ []
+        by_part (suc zero) (suc (suc zero)) zero low eq er ex ey ez = λ i. sym ez i ∷ sym ex i ∷ sym ey i ∷ []
+        by_part (suc (suc zero)) zero (suc zero) low eq er ex ey ez = λ i. sym ey i ∷ sym ez i ∷ sym ex i ∷ []
+        by_part p q r low eq er ex ey ez = absurd (omega arith)
+
+ruled_first : (key : Key) (ws : List ℕ) → Sound (bounds_of key) → Fresh (bounds_of key) ws → Ruled (bounds_of key) ws (map pass_in (first_seat key ∷ []))
+ruled_first key ws so f =
     let b = bounds_of key in let g = shape_of b in let k : ℕ = first_of b in let off : ℕ = b.start % size_of b in let t = fresh_terms b in let s = term_short b so in let p : Pass = newcomer key.identity key.start 7 1024 in
     let low : off ≤ size_of b = (let m : off < size_of b = mod-lt b.start (omega arith) in omega arith) in
     let ends : end_of g t ≡ b.start = ap (λ (z : ℕ). k * size_of b + z) (ap (λ (z : ℕ). min z (size_of b)) (put_here (λ _. 0) k off) ∙ min_of_le off (size_of b) low) ∙ div-add-mod' b.start (size_of b) in
@@ -153,6 +175,16 @@ opens key ws so f =
   where
     room : (s t c : ℕ) → 65536 ≤ t → c ≤ t / 7 + 63 → s + t / 2 + c * 8 ≤ s + 3 * t
     room s t c long few = omega arith
+
+one_view : (P : View → Type 0) (p : View) → P p → (j : ℕ) (v : View) → get_elem? (p ∷ []) j ≡ some v → P v
+one_view P p a zero v e = subst P (some-injective _ v e) a
+one_view P p a (suc j) v e = absurd (some-ne-none v (sym e))
+
+pub opens : (key : Key) (ws : List ℕ) → Sound (bounds_of key) → Fresh (bounds_of key) ws → TableRuled key record { words = ws; homes = []; views = first_seat key ∷ [] }
+opens key ws so f = record {
+  ruled = ruled_first key ws so f;
+  sure = record { each = one_view (IsSure ws) (first_seat key) record { whole = λ _. refl; exact = λ _. fresh_is key ws f } };
+}
 
 -- ---- a publisher is dealt
 
@@ -199,4 +231,7 @@ shared b ws ps r id v at off many =
 pub deals : (key : Key) (id : ℕ) (v : View) → v.pass.right.armed ≡ 0 → 120 < v.pass.right.parts → Splits (TableRuled key) id v (dealing_seat v) (dealt_seat v)
 deals key id v off many s r at =
     let is : map pass_in (set s.views id (dealing_seat v) ++ dealt_seat v ∷ []) ≡ set (map pass_in s.views) id (dealer v.pass) ++ (dealt v.pass) ∷ [] = map-append pass_in (set s.views id (dealing_seat v)) (dealt_seat v ∷ []) ∙ ap (λ (l : List Pass). l ++ (dealt v.pass) ∷ []) (map-set pass_in s.views id (dealing_seat v)) in
-    subst (λ (l : List Pass). Ruled (bounds_of key) s.words l) (sym is) (shared (bounds_of key) s.words (map pass_in s.views) r id v (at_map pass_in s.views id v at) off many)
+    record {
+      ruled = subst (λ (l : List Pass). Ruled (bounds_of key) s.words l) (sym is) (shared (bounds_of key) s.words (map pass_in s.views) r.ruled id v (at_map pass_in s.views id v at) off many);
+      sure = sure_split s.words s.views r.sure id (dealing_seat v) (dealt_seat v) (unsure s.words (dealing_seat v) refl) (unsure s.words (dealt_seat v) refl);
+    }

@@ -1,13 +1,11 @@
 -- A log that is closed with all its passes in one.
-use Rattle.std.proofs.Common.{◌≡◌, ℕ, zero, suc, ◌+◌, ◌-◌, ◌*◌, ◌/◌, ◌%◌, ◌^◌, ◌<◌, ◌≤◌, min, List, [], ◌∷◌, ◌++◌, map, length, get_or, sym, refl, ap, ◌∙◌, subst, arith}
+use Rattle.std.proofs.Common.{◌≡◌, ℕ, ◌+◌, ◌-◌, ◌*◌, ◌<◌, ◌≤◌, min, List, [], ◌∷◌, map, length, get_or, sym, refl, ap, ◌∙◌, subst, arith}
 use mathlib.Core.Option.{some}
 use lib.ListN.{get_elem?}
-use Rattle.std.specs.Prelude.{slice_index, pos}
 use Rattle.std.specs.List.{AllByRecursion}
 use Rattle.atomic_table.specs.Table.{Final, Seen, State}
 use Rattle.atomic_table.proofs.Lists.{at_map}
-use Rattle.theory.specs.Position.{Geometry}
-use Rattle.theory.specs.Entry.{Entry, IsEntry, length_of}
+use Rattle.theory.specs.Entry.{Entry, IsEntry}
 use Rattle.theory.proofs.Lists.{all_weaker}
 use Rattle.word_calls.specs.declared.pass.FrameWords.{FrameWords}
 use Rattle.word_calls.specs.declared.pass.Pass.{Pass}
@@ -16,7 +14,7 @@ use Rattle.tail_claim.specs.declared.view.Key.{Key}
 use Rattle.tail_claim.specs.declared.view.View.{View}
 use Rattle.tail_claim.specs.Sums.{covers, total}
 use Rattle.tail_claim.specs.Terms.{end_of}
-use Rattle.tail_claim.specs.Rule.{Bounds, IsClaim, entries_of, entry_of, first_of, parts_of, shape_of, size_of, weight}
+use Rattle.tail_claim.specs.Rule.{Bounds, IsClaim, entries_of, entry_of, first_of, parts_of, shape_of, weight}
 use Rattle.tail_claim.specs.Memory.{Ruled, Stands, tail_of}
 use Rattle.tail_claim.specs.Plays.{TableRuled, bounds_of, pass_in}
 use Rattle.tail_claim.specs.Closing.{IsClosed, StandsIn, both, gathered}
@@ -62,7 +60,7 @@ closed key ws ps r id v at all =
     begun s x c h t q p e le is = omega arith
 
 pub closing : (key : Key) (id : ℕ) (v : View) (ws : List ℕ) (xs : List (Unit {0})) → Final (Seen (TableRuled key) id v) ws xs → v.pass.right.parts ≡ 1024 → IsClosed key.identity key.start v.pass ws
-closing key id v ws xs f all = let s : State (Unit {0}) View = f.0 in subst (IsClosed key.identity key.start v.pass) f.2 (closed key s.words (map pass_in s.views) f.1.0 id v.pass (at_map pass_in s.views id v f.1.1) all)
+closing key id v ws xs f all = let s : State (Unit {0}) View = f.0 in subst (IsClosed key.identity key.start v.pass) f.2 (closed key s.words (map pass_in s.views) f.1.0.ruled id v.pass (at_map pass_in s.views id v f.1.1) all)
 
 -- ---- what is gathered
 

@@ -8,6 +8,7 @@ pub mod Adding
 pub mod Memories
 pub mod Storing
 pub mod Whole
+pub mod Sures
 pub mod Lifting
 pub mod Begun
 pub mod Gathering

@@ -110,7 +110,7 @@ impl TableLog {
     fn join(&self, publisher: &mut Publisher, other: Publisher)
         requires publisher { IsIdle self.now publisher.old }
         requires other { IsIdle self.now other }
-        ensures { publisher.new ≡ record publisher.old { pass = both publisher.old.pass other.pass } }
+        ensures { publisher.new ≡ record publisher.old { pass = both publisher.old.pass other.pass; sure = 0 } }
     {
         self.join_as::<Brand>(publisher, other);
     }
@@ -119,7 +119,7 @@ impl TableLog {
         requires publisher { IsIdle self.now publisher.old }
         requires other { IsIdle self.now other }
         requires carried { (N.identity ≡ self.now.identity) × (N.start ≡ self.now.start) }
-        ensures { publisher.new ≡ record publisher.old { pass = both publisher.old.pass other.pass } }
+        ensures { publisher.new ≡ record publisher.old { pass = both publisher.old.pass other.pass; sure = 0 } }
     {
         let words = &self.table.shared;
         let Publisher { seat, number: _ } = other;

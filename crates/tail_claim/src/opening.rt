@@ -71,8 +71,8 @@ impl TableLog {
         requires unarmed { publisher.old.pass.right.armed ≡ 0 }
         requires parts { 240 ≤ publisher.old.pass.right.parts }
         ensures fits { IsOf self.now publisher.new × IsOf self.now result }
-        ensures dealer { (publisher.new.pass ≡ dealer publisher.old.pass) × (publisher.new.steps ≡ publisher.old.steps) }
-        ensures dealt { (result.pass ≡ dealt publisher.old.pass) × (result.steps ≡ 0) }
+        ensures dealer { (publisher.new.pass ≡ dealer publisher.old.pass) × (publisher.new.steps ≡ publisher.old.steps) × (publisher.new.sure ≡ 0) }
+        ensures dealt { (result.pass ≡ dealt publisher.old.pass) × (result.steps ≡ 0) × (result.sure ≡ 0) }
     {
         let words = &self.table.shared;
         let number = publisher.number;
