@@ -9,7 +9,7 @@ use Rattle.std.proofs.lemmas.List.{length-replicate, map-append, map-set}
 use Rattle.atomic_table.specs.Table.{Splits}
 use Rattle.atomic_table.proofs.Lists.{at_map, at_set, at_snoc}
 use Rattle.theory.specs.Position.{Geometry, IsGeometry, id_of, max_position}
-use Rattle.theory.specs.Entry.{length_of}
+use Rattle.theory.specs.Entry.{Entry, length_of}
 use Rattle.theory.specs.Refusal.{limit_in}
 use Rattle.theory.specs.Words.{id_before, tail_word}
 use Rattle.theory.proofs.Places.{mod_unit, power_half, power_unit}
@@ -191,15 +191,12 @@ opens key ws so f = record {
 split_total : (f : Pass → ℕ) (ps : List Pass) (id : ℕ) (v l r : Pass) → get_elem? ps id ≡ some v → f l + f r ≡ f v → total f (set ps id l ++ r ∷ []) ≡ total f ps
 split_total f ps id v l r at e = let a = total_set f ps id v l at in let c = total_append f (set ps id l) (r ∷ []) in omega arith
 
-shared : (b : Bounds) (ws : List ℕ) (ps : List Pass) → Ruled b ws ps → (id : ℕ) (v : View) → get_elem? ps id ≡ some v.pass → v.pass.right.armed ≡ 0 → 120 < v.pass.right.parts → Ruled b ws (set ps id (dealer v.pass) ++ (dealt v.pass) ∷ [])
-shared b ws ps r id v at off many =
-    let p : Pass = v.pass in let l : Pass = (dealer v.pass) in let q : Pass = (dealt v.pass) in let k = r.claims.each id p at in let m = r.memory.each id p at in let t = r.claims.terms in let ps' : List Pass = set ps id l ++ q ∷ [] in let number = k.number in
-    let same_armed : (j : ℕ) → armed_on j l + armed_on j q ≡ armed_on j p = λ j. (let a = none_armed j l off in let c = none_armed j q refl in let d = none_armed j p off in omega arith) in
-    let keeps : Knows b t l = record { identity = k.identity; start = k.start; number = (let z : p.number - 1 < 8 = omega arith in z); right = record { capped = k.right.capped; able = omega arith; once = k.right.once; idle = λ z. absurd (omega arith) }; entries = k.entries; seen = k.seen } in
-    let gets : Knows b t q = record { identity = k.identity; start = k.start; number = k.number; right = record { capped = k.right.capped; able = omega arith; once = omega arith; idle = λ z. refl }; entries = tt; seen = k.seen } in
-    let left_is : Stored b ws l = record { stands = m.stands; placed = m.placed; aligned = m.aligned; done = m.done; undone = m.undone; kept = m.kept } in
-    let right_is : Stored b ws q = record { stands = tt; placed = λ h. refl; aligned = tt; done = tt; undone = tt; kept = tt } in
-    let tail_same : total (weight length_of) ps' ≡ total (weight length_of) ps = split_total (weight length_of) ps id p l q at (plus_none (weight length_of p)) in record {
+-- a pass is cut in two, which have together what it had
+pub split_ruled : (b : Bounds) (ws : List ℕ) (ps : List Pass) (rule : Ruled b ws ps) (id : ℕ) (p l q : Pass) → get_elem? ps id ≡ some p → ((h : Entry → ℕ) → weight h l + weight h q ≡ weight h p) → parts_of l + parts_of q ≡ parts_of p → armed_of l + armed_of q ≡ armed_of p → ((j : ℕ) → armed_on j l + armed_on j q ≡ armed_on j p)
+    → Knows b rule.claims.terms l → Knows b rule.claims.terms q → Stored b ws l → Stored b ws q → Ruled b ws (set ps id l ++ q ∷ [])
+split_ruled b ws ps r id p l q at weighs parts armed same_armed keeps gets left_is right_is =
+    let t = r.claims.terms in let ps' : List Pass = set ps id l ++ q ∷ [] in
+    let tail_same : total (weight length_of) ps' ≡ total (weight length_of) ps = split_total (weight length_of) ps id p l q at (weighs length_of) in record {
       claims = record {
         sound = r.claims.sound;
         wide = r.claims.wide;
@@ -208,11 +205,11 @@ shared b ws ps r id v at off many =
         tailed = r.claims.tailed;
         log = r.claims.log;
         tiles = r.claims.tiles;
-        fair = λ h. split_total (weight h) ps id p l q at (plus_none (weight h p)) ∙ r.claims.fair h;
+        fair = λ h. split_total (weight h) ps id p l q at (weighs h) ∙ r.claims.fair h;
         reached = r.claims.reached;
-        parted = split_total parts_of ps id p l q at (let z : p.right.parts - 120 + 120 ≡ p.right.parts = omega arith in z) ∙ r.claims.parted;
+        parted = split_total parts_of ps id p l q at parts ∙ r.claims.parted;
         over = λ j x y. subst (λ (n : ℕ). t.offset j + b.greatest * n < size_of b + b.greatest * 8) (sym (split_total (armed_on (j % 3)) ps id p l q at (same_armed (j % 3)))) (r.claims.over j x y);
-        room = subst (λ (n : ℕ). end_of (shape_of b) t + b.greatest * n ≤ b.limit + b.greatest * 8) (sym (split_total armed_of ps id p l q at (plus_none p.right.armed))) r.claims.room;
+        room = subst (λ (n : ℕ). end_of (shape_of b) t + b.greatest * n ≤ b.limit + b.greatest * 8) (sym (split_total armed_of ps id p l q at armed)) r.claims.room;
         each = λ j u e. ⊎_elim (λ (y : get_elem? (set ps id l) j ≡ some u). each_set b t t ps id l (unchanged (shape_of b) t) r.claims.each keeps j u y) (λ (y : q ≡ u). subst (Knows b t) y gets) (at_snoc (set ps id l) q u j e);
       };
       memory = record {
@@ -224,14 +221,24 @@ shared b ws ps r id v at off many =
             (λ (y : q ≡ u). subst (Stored b ws) y right_is) (at_snoc (set ps id l) q u j e);
       };
     }
-  where
-    plus_none : (n : ℕ) → n + 0 ≡ n
-    plus_none n = omega arith
+
+pub plus_none : (n : ℕ) → n + 0 ≡ n
+plus_none n = omega arith
+
+shared : (b : Bounds) (ws : List ℕ) (ps : List Pass) → Ruled b ws ps → (id : ℕ) (p : Pass) → get_elem? ps id ≡ some p → p.right.armed ≡ 0 → 120 < p.right.parts → Ruled b ws (set ps id (dealer p) ++ (dealt p) ∷ [])
+shared b ws ps r id p at off many =
+    let l : Pass = dealer p in let q : Pass = dealt p in let k = r.claims.each id p at in let m = r.memory.each id p at in let number = k.number in
+    split_ruled b ws ps r id p l q at (λ h. plus_none (weight h p)) (let z : p.right.parts - 120 + 120 ≡ p.right.parts = omega arith in z) (plus_none p.right.armed)
+        (λ j. let a = none_armed j l off in let c = none_armed j q refl in let d = none_armed j p off in omega arith)
+        record { identity = k.identity; start = k.start; number = (let z : p.number - 1 < 8 = omega arith in z); right = record { capped = k.right.capped; able = omega arith; once = k.right.once; idle = λ z. absurd (omega arith) }; entries = k.entries; seen = k.seen }
+        record { identity = k.identity; start = k.start; number = k.number; right = record { capped = k.right.capped; able = omega arith; once = omega arith; idle = λ z. refl }; entries = tt; seen = k.seen }
+        record { stands = m.stands; placed = m.placed; aligned = m.aligned; done = m.done; undone = m.undone; kept = m.kept }
+        record { stands = tt; placed = λ h. refl; aligned = tt; done = tt; undone = tt; kept = tt }
 
 pub deals : (key : Key) (id : ℕ) (v : View) → v.pass.right.armed ≡ 0 → 120 < v.pass.right.parts → Splits (TableRuled key) id v (dealing_seat v) (dealt_seat v)
 deals key id v off many s r at =
     let is : map pass_in (set s.views id (dealing_seat v) ++ dealt_seat v ∷ []) ≡ set (map pass_in s.views) id (dealer v.pass) ++ (dealt v.pass) ∷ [] = map-append pass_in (set s.views id (dealing_seat v)) (dealt_seat v ∷ []) ∙ ap (λ (l : List Pass). l ++ (dealt v.pass) ∷ []) (map-set pass_in s.views id (dealing_seat v)) in
     record {
-      ruled = subst (λ (l : List Pass). Ruled (bounds_of key) s.words l) (sym is) (shared (bounds_of key) s.words (map pass_in s.views) r.ruled id v (at_map pass_in s.views id v at) off many);
+      ruled = subst (λ (l : List Pass). Ruled (bounds_of key) s.words l) (sym is) (shared (bounds_of key) s.words (map pass_in s.views) r.ruled id v.pass (at_map pass_in s.views id v at) off many);
       sure = sure_split s.words s.views r.sure id (dealing_seat v) (dealt_seat v) (unsure s.words (dealing_seat v) refl) (unsure s.words (dealt_seat v) refl);
     }

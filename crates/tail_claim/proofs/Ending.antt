@@ -18,7 +18,7 @@ use Rattle.tail_claim.specs.Rule.{Bounds, IsClaim, entries_of, entry_of, first_o
 use Rattle.tail_claim.specs.Memory.{Ruled, Stands, tail_of}
 use Rattle.tail_claim.specs.Plays.{TableRuled, bounds_of, pass_in}
 use Rattle.tail_claim.specs.Closing.{IsClosed, StandsIn, both, gathered}
-use Rattle.tail_claim.specs.Handles.{LogValue, PublisherValue, gathered_all, parts_in}
+use Rattle.tail_claim.specs.Handles.{IsIdle, LogValue, PublisherValue, gathered_all, parts_in}
 use Rattle.tail_claim.proofs.Totals.{total_at, total_map, total_one}
 use Rattle.tail_claim.proofs.Looks.{narrow, term_short}
 use Rattle.tail_claim.proofs.Memories.{Covered, cover_passes, held_by, held_is, tail_is}
@@ -74,6 +74,14 @@ gathered_parts v (w ∷ ws) = let e = gathered_parts (both v w) ws in sum (gathe
 pub all_parts : (l : LogValue) (ps : List PublisherValue) → (gathered_all l ps).right.parts ≡ total parts_in ps
 all_parts l [] = refl
 all_parts l (p ∷ ps) = gathered_parts p.pass (map (λ q. q.pass) ps) ∙ ap (λ (n : ℕ). p.pass.right.parts + n) (total_map parts_of (λ (q : PublisherValue). q.pass) ps)
+
+gathered_armed : (v : Pass) (ws : List Pass) → (gathered v ws).right.armed ≡ v.right.armed
+gathered_armed v [] = refl
+gathered_armed v (w ∷ ws) = gathered_armed (both v w) ws
+
+pub all_idle : (l : LogValue) (ps : List PublisherValue) → AllByRecursion (IsIdle l) ps → (gathered_all l ps).right.armed ≡ 0
+all_idle l [] a = refl
+all_idle l (p ∷ ps) a = gathered_armed p.pass (map (λ q. q.pass) ps) ∙ a.0.unarmed
 
 -- eight publishers, by their places
 pub eight : (l : LogValue) (ps : List PublisherValue) (a b c d e f g h : PublisherValue) → length ps ≡ 8 → a ≡ get_or ps 0 a → b ≡ get_or ps 1 b → c ≡ get_or ps 2 c → d ≡ get_or ps 3 d → e ≡ get_or ps 4 e → f ≡ get_or ps 5 f → g ≡ get_or ps 6 g → h ≡ get_or ps 7 h

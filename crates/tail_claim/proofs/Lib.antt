@@ -11,6 +11,7 @@ pub mod Whole
 pub mod Sures
 pub mod Lifting
 pub mod Begun
+pub mod Numbers
 pub mod Gathering
 pub mod Greatest
 pub mod Ending

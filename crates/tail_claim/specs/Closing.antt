@@ -38,6 +38,10 @@ both_seats v w = record { pass = both v.pass w.pass; steps = v.steps; controls =
 abbrev pub spent_seat : Identity → ℕ → View
 spent_seat identity start = record { pass = newcomer identity start 0 0; steps = 0; controls = no_controls; sure = 0 }
 
+-- a seat has another number
+abbrev pub numbered_seat : ℕ → View → View
+numbered_seat number v = record v { pass = record v.pass { number = number } }
+
 abbrev pub no_identity : Identity
 no_identity = record { geometry = record { term_length = 0; mtu = 0; initial_term_id = pos 0 }; session = pos 0; stream = pos 0 }
 

@@ -10,6 +10,7 @@ use Rattle.word_calls.specs.Controls.{Leads}
 use Rattle.tail_claim.specs.declared.view.Key.{Key}
 use Rattle.tail_claim.specs.Packs.{table_length}
 use Rattle.tail_claim.specs.Admits.{Same}
+use Rattle.tail_claim.specs.Sure.{fresh_controls}
 use Rattle.tail_claim.specs.Plays.{newcomer}
 use Rattle.tail_claim.specs.Closing.{gathered}
 
@@ -67,6 +68,14 @@ pub record IsNew (l : LogValue) (number : ℕ) (p : PublisherValue) : Type 0 whe
 abbrev pub AreNew : LogValue → ℕ → List PublisherValue → Type 0
 AreNew l number [] = number ≡ 8
 AreNew l number (p ∷ ps) = IsNew l number p × AreNew l (suc number) ps
+
+-- the one publisher of a log that was just opened, which has all parts and is sure of the control words
+pub record IsWholeNew (l : LogValue) (p : PublisherValue) : Type 0 where
+  pub of : IsOf l p
+  pub pass : p.pass ≡ newcomer l.identity l.start 7 1024
+  pub steps : p.steps ≡ 0
+  pub sure : p.sure ≡ 1
+  pub controls : p.controls ≡ fresh_controls l.identity l.start
 
 -- a position at which a stream may begin
 abbrev pub IsStart : Geometry → ℕ → Type 0

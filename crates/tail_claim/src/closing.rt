@@ -76,7 +76,19 @@ impl TableLog {
         ensures log { (result.identity ≡ self.identity) × (result.start ≡ self.start) }
         ensures closed { IsClosed self.identity self.start (gathered_all self publishers) result.words }
     {
-        let Publisher { seat, number: _ } = self.gather(publishers);
+        let publisher = self.gather(publishers);
+        self.close_whole(publisher)
+    }
+
+    /// Closes the log with the publisher that has all parts: what it claimed tiles the stream from its start to the greatest
+    /// position that the three raw tails show, the words of its frames stand, and all behind is zero.
+    pub fn close_whole(self, publisher: Publisher) -> ClosedLog
+        requires publisher { IsIdle self publisher }
+        requires whole { publisher.pass.right.parts ≡ 1024 }
+        ensures log { (result.identity ≡ self.identity) × (result.start ≡ self.start) }
+        ensures closed { IsClosed self.identity self.start publisher.pass result.words }
+    {
+        let Publisher { seat, number: _ } = publisher;
         let TableLog {
             table,
             identity,

@@ -40,6 +40,19 @@ impl Chosen for Brand {
     ghost number = { 0 };
 }
 
+/// A seat has the chosen number from then on, and nothing goes to another.
+pub struct Renumber<N> {
+    chosen: PhantomData<N>,
+}
+
+impl<N: Chosen> Split<View> for Renumber<N> {
+    ghost use Rattle.tail_claim.specs.Closing.{numbered_seat, spent_seat};
+
+    ghost left = { numbered_seat N.number };
+
+    ghost right = { λ v. spent_seat v.pass.identity v.pass.start };
+}
+
 /// The limit is loaded.
 pub struct See;
 
