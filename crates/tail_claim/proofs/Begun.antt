@@ -229,11 +229,11 @@ shared : (b : Bounds) (ws : List ℕ) (ps : List Pass) → Ruled b ws ps → (id
 shared b ws ps r id p at off many =
     let l : Pass = dealer p in let q : Pass = dealt p in let k = r.claims.each id p at in let m = r.memory.each id p at in let number = k.number in
     split_ruled b ws ps r id p l q at (λ h. plus_none (weight h p)) (let z : p.right.parts - 120 + 120 ≡ p.right.parts = omega arith in z) (plus_none p.right.armed)
-        (λ j. let a = none_armed j l off in let c = none_armed j q refl in let d = none_armed j p off in omega arith)
-        record { identity = k.identity; start = k.start; number = (let z : p.number - 1 < 8 = omega arith in z); right = record { capped = k.right.capped; able = omega arith; once = k.right.once; idle = λ z. absurd (omega arith) }; entries = k.entries; seen = k.seen }
-        record { identity = k.identity; start = k.start; number = k.number; right = record { capped = k.right.capped; able = omega arith; once = omega arith; idle = λ z. refl }; entries = tt; seen = k.seen }
-        record { stands = m.stands; placed = m.placed; aligned = m.aligned; done = m.done; undone = m.undone; kept = m.kept }
-        record { stands = tt; placed = λ h. refl; aligned = tt; done = tt; undone = tt; kept = tt }
+    (λ j. let a = none_armed j l off in let c = none_armed j q refl in let d = none_armed j p off in omega arith)
+    record { identity = k.identity; start = k.start; number = (let z : p.number - 1 < 8 = omega arith in z); right = record { capped = k.right.capped; able = omega arith; once = k.right.once; idle = λ z. absurd (omega arith) }; entries = k.entries; seen = k.seen }
+    record { identity = k.identity; start = k.start; number = k.number; right = record { capped = k.right.capped; able = omega arith; once = omega arith; idle = λ z. refl }; entries = tt; seen = k.seen }
+    record { stands = m.stands; placed = m.placed; aligned = m.aligned; done = m.done; undone = m.undone; kept = m.kept }
+    record { stands = tt; placed = λ h. refl; aligned = tt; done = tt; undone = tt; kept = tt }
 
 pub deals : (key : Key) (id : ℕ) (v : View) → v.pass.right.armed ≡ 0 → 120 < v.pass.right.parts → Splits (TableRuled key) id v (dealing_seat v) (dealt_seat v)
 deals key id v off many s r at =

@@ -1,5 +1,5 @@
 -- A publisher that claims under another number keeps the rule.
-use Rattle.std.proofs.Common.{◌≡◌, ℕ, suc, ◌+◌, ◌<◌, ◌≤◌, List, [], ◌∷◌, ◌++◌, map, set, sym, refl, ap, ◌∙◌, subst, suc-ne-zero, arith}
+use Rattle.std.proofs.Common.{◌≡◌, ℕ, ◌+◌, ◌<◌, List, [], ◌∷◌, ◌++◌, map, set, sym, refl, ap, ◌∙◌, subst, suc-ne-zero, arith}
 use mathlib.Core.Option.{some}
 use lib.ListN.{get_elem?}
 use Rattle.std.proofs.lemmas.List.{map-append, map-set}
@@ -9,7 +9,7 @@ use Rattle.theory.specs.Bytes.{Identity}
 use Rattle.word_calls.specs.declared.pass.Pass.{Pass}
 use Rattle.tail_claim.specs.declared.view.Key.{Key}
 use Rattle.tail_claim.specs.declared.view.View.{View}
-use Rattle.tail_claim.specs.Rule.{Bounds, Knows, armed_on, first_of, weight}
+use Rattle.tail_claim.specs.Rule.{Bounds, armed_on, weight}
 use Rattle.tail_claim.specs.Memory.{Ruled}
 use Rattle.tail_claim.specs.Plays.{TableRuled, bounds_of, newcomer, pass_in}
 use Rattle.tail_claim.specs.Closing.{numbered_seat, spent_seat}
@@ -21,11 +21,11 @@ numbered : (b : Bounds) (ws : List ℕ) (ps : List Pass) → Ruled b ws ps → (
 numbered b ws ps r id p at n low =
     let l : Pass = record p { number = n } in let q : Pass = newcomer b.identity b.start 0 0 in let k = r.claims.each id p at in let m = r.memory.each id p at in let from = r.claims.tailed.turns.from in
     split_ruled b ws ps r id p l q at (λ h. plus_none (weight h p)) (plus_none p.right.parts) (plus_none p.right.armed)
-        (λ j. let c = none_armed j q refl in none (armed_on j p) (armed_on j q) c)
-        record { identity = k.identity; start = k.start; number = low; right = k.right; entries = k.entries; seen = k.seen }
-        record { identity = refl; start = refl; number = omega arith; right = record { capped = omega arith; able = omega arith; once = omega arith; idle = λ z. refl }; entries = tt; seen = record { count = (omega arith, from); term = (omega arith, from); full = λ i e. absurd (suc-ne-zero i (sym e)); begun = from } }
-        record { stands = m.stands; placed = m.placed; aligned = m.aligned; done = m.done; undone = m.undone; kept = m.kept }
-        record { stands = tt; placed = λ h. refl; aligned = tt; done = tt; undone = tt; kept = tt }
+    (λ j. let c = none_armed j q refl in none (armed_on j p) (armed_on j q) c)
+    record { identity = k.identity; start = k.start; number = low; right = k.right; entries = k.entries; seen = k.seen }
+    record { identity = refl; start = refl; number = omega arith; right = record { capped = omega arith; able = omega arith; once = omega arith; idle = λ z. refl }; entries = tt; seen = record { count = (omega arith, from); term = (omega arith, from); full = λ i e. absurd (suc-ne-zero i (sym e)); begun = from } }
+    record { stands = m.stands; placed = m.placed; aligned = m.aligned; done = m.done; undone = m.undone; kept = m.kept }
+    record { stands = tt; placed = λ h. refl; aligned = tt; done = tt; undone = tt; kept = tt }
   where
     none : (a c : ℕ) → c ≡ 0 → a + c ≡ a
     none a c e = omega arith

@@ -1,4 +1,4 @@
-use Rattle.std.proofs.Common.{◌≡◌, ap, ◌∙◌, subst}
+use Rattle.std.proofs.Common.{ap, ◌∙◌, subst}
 use Rattle.word_calls.specs.declared.pass.Pass.{Pass}
 use Rattle.tail_claim.specs.Closing.{IsClosed}
 use Rattle.tail_claim.proofs.Ending.{all_idle, all_parts}

@@ -1,4 +1,4 @@
-use Rattle.std.proofs.Common.{rules, ◌≡◌, ℕ, ◌+◌, ◌*◌, ◌/◌, ◌%◌, ◌<◌, ◌≤◌, List, [], ◌∷◌, sym, refl, ap, is_ok, true≢false, ◌∙◌, subst, arith}
+use Rattle.std.proofs.Common.{rules, ◌<◌, sym, ap, is_ok, true≢false, subst}
 use Rattle.tail_claim.specs.Plays.{bounds_of}
 use Rattle.tail_claim.specs.Openings.{Fresh}
 use Rattle.theory.specs.Position.{IsGeometry, max_position}

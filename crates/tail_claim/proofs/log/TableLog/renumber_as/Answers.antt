@@ -1,4 +1,4 @@
-use Rattle.std.proofs.Common.{rules, ◌≡◌, ℕ, ◌<◌, sym, subst, arith}
+use Rattle.std.proofs.Common.{rules, ℕ, ◌<◌, sym, subst, arith}
 use Rattle.tail_claim.proofs.Numbers.{numbers}
 use Rattle.tail_claim.proofs.log.TableLog.renumber_as.Goals as goal
 
