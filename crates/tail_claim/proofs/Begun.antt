@@ -1,13 +1,12 @@
 -- The words of a log that opens obey the rule, and so do its first passes.
-use Rattle.std.proofs.Common.{◌≡◌, ◌≢◌, ◌⊎◌, ℕ, zero, suc, ◌+◌, ◌-◌, ◌*◌, ◌/◌, ◌%◌, ◌^◌, ◌<◌, ◌≤◌, cond, min, Bool, List, [], ◌∷◌, ◌++◌, map, replicate, length, set, length-set, get_or-set_same, get_or-set_other, sym, refl, ap, ◌∙◌, subst, ⊎_elim, suc-ne-zero, mul-zero, mul-le-mul_left, mul_comm, mod-lt, lt_of_not-le, div-add-mod', arith}
+use Rattle.std.proofs.Common.{◌≡◌, ◌≢◌, ℕ, zero, suc, ◌+◌, ◌-◌, ◌*◌, ◌/◌, ◌%◌, ◌<◌, ◌≤◌, min, List, [], ◌∷◌, ◌++◌, map, replicate, length, set, length-set, get_or-set_same, get_or-set_other, sym, refl, ap, ◌∙◌, subst, ⊎_elim, suc-ne-zero, mul-zero, mul-le-mul_left, mul_comm, mod-lt, lt_of_not-le, div-add-mod', arith}
 use mathlib.Core.Option.{some, some-injective, some-ne-none}
 use mathlib.Core.Logic.{dite}
 use native.Mathlib.Decide.{dec_le, ℕ_discrete}
 use lib.ListN.{get_elem?}
-use Rattle.std.specs.Prelude.{slice_index, nat_eq}
-use Rattle.std.specs.List.{AllByRecursion}
+use Rattle.std.specs.Prelude.{slice_index}
 use Rattle.std.proofs.lemmas.List.{length-replicate, map-append, map-set}
-use Rattle.atomic_table.specs.Table.{Splits, State}
+use Rattle.atomic_table.specs.Table.{Splits}
 use Rattle.atomic_table.proofs.Lists.{at_map, at_set, at_snoc}
 use Rattle.theory.specs.Position.{Geometry, IsGeometry, id_of, max_position}
 use Rattle.theory.specs.Entry.{Entry, length_of}
@@ -17,17 +16,19 @@ use Rattle.theory.proofs.Places.{mod_unit, power_half, power_unit}
 use Rattle.word_calls.specs.declared.pass.Pass.{Pass}
 use Rattle.tail_claim.specs.declared.view.Key.{Key}
 use Rattle.tail_claim.specs.declared.view.View.{View}
-use Rattle.tail_claim.specs.Packs.{count_place, data_place, limit_place, slot, table_length, tail_place}
+use Rattle.tail_claim.specs.Packs.{count_place, slot, table_length, tail_place}
 use Rattle.tail_claim.specs.Sums.{total}
-use Rattle.tail_claim.specs.Terms.{Tailed, Terms, Turns, end_of}
-use Rattle.tail_claim.specs.Rule.{Bounds, Claimed, Entitled, Knows, Saw, Sound, armed_of, armed_on, first_of, parts_of, shape_of, size_of, weight}
-use Rattle.tail_claim.specs.Memory.{Memory, Ruled, Stored, tail_of}
+use Rattle.tail_claim.specs.Terms.{Tailed, Terms, end_of}
+use Rattle.tail_claim.specs.Rule.{Bounds, Knows, Sound, armed_of, armed_on, first_of, parts_of, shape_of, size_of, weight}
+use Rattle.tail_claim.specs.Memory.{Ruled, Stored}
 use Rattle.tail_claim.specs.Openings.{Fresh}
 use Rattle.tail_claim.specs.Plays.{TableRuled, bounds_of, dealer, dealing_seat, dealt, dealt_seat, first_seat, newcomer, pass_in}
 use Rattle.tail_claim.proofs.Packs.{before_count, put, at_put, put_else, put_here}
 use Rattle.tail_claim.proofs.Totals.{total_append, total_set}
-use Rattle.tail_claim.proofs.Accounts.{each_set, knows_on, none_armed, unchanged}
+use Rattle.tail_claim.proofs.Accounts.{each_set, none_armed, unchanged}
+use Rattle.tail_claim.specs.Sure.{IsSure, controls_in, fresh_controls}
 use Rattle.tail_claim.proofs.Looks.{min_of_le, term_short}
+use Rattle.tail_claim.proofs.Sures.{sure_split, unsure}
 
 -- ---- the words of a log that opens
 
@@ -121,8 +122,29 @@ one_pass : (P : Pass → Type 0) (p : Pass) → P p → (j : ℕ) (v : Pass) →
 one_pass P p a zero v e = subst P (some-injective _ v e) a
 one_pass P p a (suc j) v e = absurd (some-ne-none v (sym e))
 
-pub opens : (key : Key) (ws : List ℕ) → Sound (bounds_of key) → Fresh (bounds_of key) ws → TableRuled key record { words = ws; homes = []; views = first_seat key ∷ [] }
-opens key ws so f =
+-- the first seat knows the control words
+fresh_is : (key : Key) (ws : List ℕ) → Fresh (bounds_of key) ws → fresh_controls key.identity key.start ≡ controls_in ws
+fresh_is key ws f = λ i. record { limit = sym f.limit i; count = sym f.count i; tails = placed (first_of b) (tail_word (id_of g (first_of b)) (key.start % g.term_length)) (tail_word (id_before g (first_of b) 2) 0) (tail_word (id_before g (first_of b) 1) 0) f.here f.next f.last i }
+  where
+    b : Bounds
+    b = bounds_of key
+
+    g : Geometry
+    g = key.identity.geometry
+
+    placed : (c x y z : ℕ) → slice_index ws (tail_place c) ≡ x → slice_index ws (tail_place (c + 1)) ≡ y → slice_index ws (tail_place (c + 2)) ≡ z
+        → set (set (set (0 ∷ 0 ∷ 0 ∷ []) (c % 3) x) ((c + 1) % 3) y) ((c + 2) % 3) z ≡ slice_index ws 32 ∷ slice_index ws 48 ∷ slice_index ws 64 ∷ []
+    placed c x y z ex ey ez = by_part (c % 3) ((c + 1) % 3) ((c + 2) % 3) (omega arith) (omega arith) (omega arith) ex ey ez
+      where
+        by_part : (p q r : ℕ) → p < 3 → q ≡ (p + 1) % 3 → r ≡ (p + 2) % 3 → slice_index ws (p * 16 + 32) ≡ x → slice_index ws (q * 16 + 32) ≡ y → slice_index ws (r * 16 + 32) ≡ z
+            → set (set (set (0 ∷ 0 ∷ 0 ∷ []) p x) q y) r z ≡ slice_index ws 32 ∷ slice_index ws 48 ∷ slice_index ws 64 ∷ []
+        by_part zero (suc zero) (suc (suc zero)) low eq er ex ey ez = λ i. sym ex i ∷ sym ey i ∷ sym ez i ∷ []
+        by_part (suc zero) (suc (suc zero)) zero low eq er ex ey ez = λ i. sym ez i ∷ sym ex i ∷ sym ey i ∷ []
+        by_part (suc (suc zero)) zero (suc zero) low eq er ex ey ez = λ i. sym ey i ∷ sym ez i ∷ sym ex i ∷ []
+        by_part p q r low eq er ex ey ez = absurd (omega arith)
+
+ruled_first : (key : Key) (ws : List ℕ) → Sound (bounds_of key) → Fresh (bounds_of key) ws → Ruled (bounds_of key) ws (map pass_in (first_seat key ∷ []))
+ruled_first key ws so f =
     let b = bounds_of key in let g = shape_of b in let k : ℕ = first_of b in let off : ℕ = b.start % size_of b in let t = fresh_terms b in let s = term_short b so in let p : Pass = newcomer key.identity key.start 7 1024 in
     let low : off ≤ size_of b = (let m : off < size_of b = mod-lt b.start (omega arith) in omega arith) in
     let ends : end_of g t ≡ b.start = ap (λ (z : ℕ). k * size_of b + z) (ap (λ (z : ℕ). min z (size_of b)) (put_here (λ _. 0) k off) ∙ min_of_le off (size_of b) low) ∙ div-add-mod' b.start (size_of b) in
@@ -154,20 +176,27 @@ opens key ws so f =
     room : (s t c : ℕ) → 65536 ≤ t → c ≤ t / 7 + 63 → s + t / 2 + c * 8 ≤ s + 3 * t
     room s t c long few = omega arith
 
+one_view : (P : View → Type 0) (p : View) → P p → (j : ℕ) (v : View) → get_elem? (p ∷ []) j ≡ some v → P v
+one_view P p a zero v e = subst P (some-injective _ v e) a
+one_view P p a (suc j) v e = absurd (some-ne-none v (sym e))
+
+pub opens : (key : Key) (ws : List ℕ) → Sound (bounds_of key) → Fresh (bounds_of key) ws → TableRuled key record { words = ws; homes = []; views = first_seat key ∷ [] }
+opens key ws so f = record {
+  ruled = ruled_first key ws so f;
+  sure = record { each = one_view (IsSure ws) (first_seat key) record { whole = λ _. refl; exact = λ _. fresh_is key ws f } };
+}
+
 -- ---- a publisher is dealt
 
 split_total : (f : Pass → ℕ) (ps : List Pass) (id : ℕ) (v l r : Pass) → get_elem? ps id ≡ some v → f l + f r ≡ f v → total f (set ps id l ++ r ∷ []) ≡ total f ps
 split_total f ps id v l r at e = let a = total_set f ps id v l at in let c = total_append f (set ps id l) (r ∷ []) in omega arith
 
-shared : (b : Bounds) (ws : List ℕ) (ps : List Pass) → Ruled b ws ps → (id : ℕ) (v : View) → get_elem? ps id ≡ some v.pass → v.pass.right.armed ≡ 0 → 120 < v.pass.right.parts → Ruled b ws (set ps id (dealer v.pass) ++ (dealt v.pass) ∷ [])
-shared b ws ps r id v at off many =
-    let p : Pass = v.pass in let l : Pass = (dealer v.pass) in let q : Pass = (dealt v.pass) in let k = r.claims.each id p at in let m = r.memory.each id p at in let t = r.claims.terms in let ps' : List Pass = set ps id l ++ q ∷ [] in let number = k.number in
-    let same_armed : (j : ℕ) → armed_on j l + armed_on j q ≡ armed_on j p = λ j. (let a = none_armed j l off in let c = none_armed j q refl in let d = none_armed j p off in omega arith) in
-    let keeps : Knows b t l = record { identity = k.identity; start = k.start; number = (let z : p.number - 1 < 8 = omega arith in z); right = record { capped = k.right.capped; able = omega arith; once = k.right.once; idle = λ z. absurd (omega arith) }; entries = k.entries; seen = k.seen } in
-    let gets : Knows b t q = record { identity = k.identity; start = k.start; number = k.number; right = record { capped = k.right.capped; able = omega arith; once = omega arith; idle = λ z. refl }; entries = tt; seen = k.seen } in
-    let left_is : Stored b ws l = record { stands = m.stands; placed = m.placed; aligned = m.aligned; done = m.done; undone = m.undone; kept = m.kept } in
-    let right_is : Stored b ws q = record { stands = tt; placed = λ h. refl; aligned = tt; done = tt; undone = tt; kept = tt } in
-    let tail_same : total (weight length_of) ps' ≡ total (weight length_of) ps = split_total (weight length_of) ps id p l q at (plus_none (weight length_of p)) in record {
+-- a pass is cut in two, which have together what it had
+pub split_ruled : (b : Bounds) (ws : List ℕ) (ps : List Pass) (rule : Ruled b ws ps) (id : ℕ) (p l q : Pass) → get_elem? ps id ≡ some p → ((h : Entry → ℕ) → weight h l + weight h q ≡ weight h p) → parts_of l + parts_of q ≡ parts_of p → armed_of l + armed_of q ≡ armed_of p → ((j : ℕ) → armed_on j l + armed_on j q ≡ armed_on j p)
+    → Knows b rule.claims.terms l → Knows b rule.claims.terms q → Stored b ws l → Stored b ws q → Ruled b ws (set ps id l ++ q ∷ [])
+split_ruled b ws ps r id p l q at weighs parts armed same_armed keeps gets left_is right_is =
+    let t = r.claims.terms in let ps' : List Pass = set ps id l ++ q ∷ [] in
+    let tail_same : total (weight length_of) ps' ≡ total (weight length_of) ps = split_total (weight length_of) ps id p l q at (weighs length_of) in record {
       claims = record {
         sound = r.claims.sound;
         wide = r.claims.wide;
@@ -176,11 +205,11 @@ shared b ws ps r id v at off many =
         tailed = r.claims.tailed;
         log = r.claims.log;
         tiles = r.claims.tiles;
-        fair = λ h. split_total (weight h) ps id p l q at (plus_none (weight h p)) ∙ r.claims.fair h;
+        fair = λ h. split_total (weight h) ps id p l q at (weighs h) ∙ r.claims.fair h;
         reached = r.claims.reached;
-        parted = split_total parts_of ps id p l q at (let z : p.right.parts - 120 + 120 ≡ p.right.parts = omega arith in z) ∙ r.claims.parted;
+        parted = split_total parts_of ps id p l q at parts ∙ r.claims.parted;
         over = λ j x y. subst (λ (n : ℕ). t.offset j + b.greatest * n < size_of b + b.greatest * 8) (sym (split_total (armed_on (j % 3)) ps id p l q at (same_armed (j % 3)))) (r.claims.over j x y);
-        room = subst (λ (n : ℕ). end_of (shape_of b) t + b.greatest * n ≤ b.limit + b.greatest * 8) (sym (split_total armed_of ps id p l q at (plus_none p.right.armed))) r.claims.room;
+        room = subst (λ (n : ℕ). end_of (shape_of b) t + b.greatest * n ≤ b.limit + b.greatest * 8) (sym (split_total armed_of ps id p l q at armed)) r.claims.room;
         each = λ j u e. ⊎_elim (λ (y : get_elem? (set ps id l) j ≡ some u). each_set b t t ps id l (unchanged (shape_of b) t) r.claims.each keeps j u y) (λ (y : q ≡ u). subst (Knows b t) y gets) (at_snoc (set ps id l) q u j e);
       };
       memory = record {
@@ -192,11 +221,24 @@ shared b ws ps r id v at off many =
             (λ (y : q ≡ u). subst (Stored b ws) y right_is) (at_snoc (set ps id l) q u j e);
       };
     }
-  where
-    plus_none : (n : ℕ) → n + 0 ≡ n
-    plus_none n = omega arith
+
+pub plus_none : (n : ℕ) → n + 0 ≡ n
+plus_none n = omega arith
+
+shared : (b : Bounds) (ws : List ℕ) (ps : List Pass) → Ruled b ws ps → (id : ℕ) (p : Pass) → get_elem? ps id ≡ some p → p.right.armed ≡ 0 → 120 < p.right.parts → Ruled b ws (set ps id (dealer p) ++ (dealt p) ∷ [])
+shared b ws ps r id p at off many =
+    let l : Pass = dealer p in let q : Pass = dealt p in let k = r.claims.each id p at in let m = r.memory.each id p at in let number = k.number in
+    split_ruled b ws ps r id p l q at (λ h. plus_none (weight h p)) (let z : p.right.parts - 120 + 120 ≡ p.right.parts = omega arith in z) (plus_none p.right.armed)
+    (λ j. let a = none_armed j l off in let c = none_armed j q refl in let d = none_armed j p off in omega arith)
+    record { identity = k.identity; start = k.start; number = (let z : p.number - 1 < 8 = omega arith in z); right = record { capped = k.right.capped; able = omega arith; once = k.right.once; idle = λ z. absurd (omega arith) }; entries = k.entries; seen = k.seen }
+    record { identity = k.identity; start = k.start; number = k.number; right = record { capped = k.right.capped; able = omega arith; once = omega arith; idle = λ z. refl }; entries = tt; seen = k.seen }
+    record { stands = m.stands; placed = m.placed; aligned = m.aligned; done = m.done; undone = m.undone; kept = m.kept }
+    record { stands = tt; placed = λ h. refl; aligned = tt; done = tt; undone = tt; kept = tt }
 
 pub deals : (key : Key) (id : ℕ) (v : View) → v.pass.right.armed ≡ 0 → 120 < v.pass.right.parts → Splits (TableRuled key) id v (dealing_seat v) (dealt_seat v)
 deals key id v off many s r at =
     let is : map pass_in (set s.views id (dealing_seat v) ++ dealt_seat v ∷ []) ≡ set (map pass_in s.views) id (dealer v.pass) ++ (dealt v.pass) ∷ [] = map-append pass_in (set s.views id (dealing_seat v)) (dealt_seat v ∷ []) ∙ ap (λ (l : List Pass). l ++ (dealt v.pass) ∷ []) (map-set pass_in s.views id (dealing_seat v)) in
-    subst (λ (l : List Pass). Ruled (bounds_of key) s.words l) (sym is) (shared (bounds_of key) s.words (map pass_in s.views) r id v (at_map pass_in s.views id v at) off many)
+    record {
+      ruled = subst (λ (l : List Pass). Ruled (bounds_of key) s.words l) (sym is) (shared (bounds_of key) s.words (map pass_in s.views) r.ruled id v.pass (at_map pass_in s.views id v at) off many);
+      sure = sure_split s.words s.views r.sure id (dealing_seat v) (dealt_seat v) (unsure s.words (dealing_seat v) refl) (unsure s.words (dealt_seat v) refl);
+    }

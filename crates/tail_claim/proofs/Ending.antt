@@ -1,13 +1,11 @@
 -- A log that is closed with all its passes in one.
-use Rattle.std.proofs.Common.{◌≡◌, ℕ, zero, suc, ◌+◌, ◌-◌, ◌*◌, ◌/◌, ◌%◌, ◌^◌, ◌<◌, ◌≤◌, min, List, [], ◌∷◌, ◌++◌, map, length, get_or, sym, refl, ap, ◌∙◌, subst, arith}
+use Rattle.std.proofs.Common.{◌≡◌, ℕ, ◌+◌, ◌-◌, ◌*◌, ◌<◌, ◌≤◌, min, List, [], ◌∷◌, map, length, get_or, sym, refl, ap, ◌∙◌, subst, arith}
 use mathlib.Core.Option.{some}
 use lib.ListN.{get_elem?}
-use Rattle.std.specs.Prelude.{slice_index, pos}
 use Rattle.std.specs.List.{AllByRecursion}
 use Rattle.atomic_table.specs.Table.{Final, Seen, State}
 use Rattle.atomic_table.proofs.Lists.{at_map}
-use Rattle.theory.specs.Position.{Geometry}
-use Rattle.theory.specs.Entry.{Entry, IsEntry, length_of}
+use Rattle.theory.specs.Entry.{Entry, IsEntry}
 use Rattle.theory.proofs.Lists.{all_weaker}
 use Rattle.word_calls.specs.declared.pass.FrameWords.{FrameWords}
 use Rattle.word_calls.specs.declared.pass.Pass.{Pass}
@@ -16,11 +14,11 @@ use Rattle.tail_claim.specs.declared.view.Key.{Key}
 use Rattle.tail_claim.specs.declared.view.View.{View}
 use Rattle.tail_claim.specs.Sums.{covers, total}
 use Rattle.tail_claim.specs.Terms.{end_of}
-use Rattle.tail_claim.specs.Rule.{Bounds, IsClaim, entries_of, entry_of, first_of, parts_of, shape_of, size_of, weight}
+use Rattle.tail_claim.specs.Rule.{Bounds, IsClaim, entries_of, entry_of, first_of, parts_of, shape_of, weight}
 use Rattle.tail_claim.specs.Memory.{Ruled, Stands, tail_of}
 use Rattle.tail_claim.specs.Plays.{TableRuled, bounds_of, pass_in}
 use Rattle.tail_claim.specs.Closing.{IsClosed, StandsIn, both, gathered}
-use Rattle.tail_claim.specs.Handles.{LogValue, PublisherValue, gathered_all, parts_in}
+use Rattle.tail_claim.specs.Handles.{IsIdle, LogValue, PublisherValue, gathered_all, parts_in}
 use Rattle.tail_claim.proofs.Totals.{total_at, total_map, total_one}
 use Rattle.tail_claim.proofs.Looks.{narrow, term_short}
 use Rattle.tail_claim.proofs.Memories.{Covered, cover_passes, held_by, held_is, tail_is}
@@ -62,7 +60,7 @@ closed key ws ps r id v at all =
     begun s x c h t q p e le is = omega arith
 
 pub closing : (key : Key) (id : ℕ) (v : View) (ws : List ℕ) (xs : List (Unit {0})) → Final (Seen (TableRuled key) id v) ws xs → v.pass.right.parts ≡ 1024 → IsClosed key.identity key.start v.pass ws
-closing key id v ws xs f all = let s : State (Unit {0}) View = f.0 in subst (IsClosed key.identity key.start v.pass) f.2 (closed key s.words (map pass_in s.views) f.1.0 id v.pass (at_map pass_in s.views id v f.1.1) all)
+closing key id v ws xs f all = let s : State (Unit {0}) View = f.0 in subst (IsClosed key.identity key.start v.pass) f.2 (closed key s.words (map pass_in s.views) f.1.0.ruled id v.pass (at_map pass_in s.views id v f.1.1) all)
 
 -- ---- what is gathered
 
@@ -76,6 +74,14 @@ gathered_parts v (w ∷ ws) = let e = gathered_parts (both v w) ws in sum (gathe
 pub all_parts : (l : LogValue) (ps : List PublisherValue) → (gathered_all l ps).right.parts ≡ total parts_in ps
 all_parts l [] = refl
 all_parts l (p ∷ ps) = gathered_parts p.pass (map (λ q. q.pass) ps) ∙ ap (λ (n : ℕ). p.pass.right.parts + n) (total_map parts_of (λ (q : PublisherValue). q.pass) ps)
+
+gathered_armed : (v : Pass) (ws : List Pass) → (gathered v ws).right.armed ≡ v.right.armed
+gathered_armed v [] = refl
+gathered_armed v (w ∷ ws) = gathered_armed (both v w) ws
+
+pub all_idle : (l : LogValue) (ps : List PublisherValue) → AllByRecursion (IsIdle l) ps → (gathered_all l ps).right.armed ≡ 0
+all_idle l [] a = refl
+all_idle l (p ∷ ps) a = gathered_armed p.pass (map (λ q. q.pass) ps) ∙ a.0.unarmed
 
 -- eight publishers, by their places
 pub eight : (l : LogValue) (ps : List PublisherValue) (a b c d e f g h : PublisherValue) → length ps ≡ 8 → a ≡ get_or ps 0 a → b ≡ get_or ps 1 b → c ≡ get_or ps 2 c → d ≡ get_or ps 3 d → e ≡ get_or ps 4 e → f ≡ get_or ps 5 f → g ≡ get_or ps 6 g → h ≡ get_or ps 7 h

@@ -1,27 +1,27 @@
 -- Each kind of step is one event of the stream, or a look.
-use Rattle.std.proofs.Common.{◌≡◌, ◌⊎◌, inl, inr, ℕ, zero, suc, ◌+◌, ◌-◌, ◌*◌, ◌/◌, ◌%◌, ◌^◌, ◌<◌, ◌≤◌, eqb, min, List, [], ◌∷◌, ◌++◌, map, length, set, sym, refl, ap, ◌∙◌, subst, ⊎_elim, arith}
+use Rattle.std.proofs.Common.{◌≡◌, ◌⊎◌, inl, inr, ℕ, ◌+◌, ◌-◌, ◌%◌, ◌^◌, ◌<◌, ◌≤◌, eqb, min, List, [], ◌∷◌, ◌++◌, map, set, sym, refl, ap, ◌∙◌, subst, ⊎_elim, arith}
 use mathlib.Core.Option.{some}
 use lib.ListN.{get_elem?}
 use prog.Atomic.{either}
 use Rattle.std.specs.Prelude.{slice_index}
 use Rattle.std.specs.List.{AllByRecursion}
-use Rattle.theory.specs.Position.{framed_length, id_of, max_message, span}
-use Rattle.theory.specs.Entry.{Entry, IsEntry, length_of}
-use Rattle.theory.specs.Words.{id_before, id_in, tail_word}
+use Rattle.theory.specs.Position.{framed_length, id_of}
+use Rattle.theory.specs.Entry.{Entry, length_of}
+use Rattle.theory.specs.Words.{tail_word}
 use Rattle.theory.proofs.Lists.{all_behind}
 use Rattle.word_calls.specs.declared.pass.ClaimRange.{ClaimRange}
 use Rattle.word_calls.specs.declared.pass.FrameWords.{FrameWords}
 use Rattle.word_calls.specs.declared.pass.Pass.{Pass}
-use Rattle.word_calls.specs.Steps.{Adds, Advances, Arms, BeginsFrame, Commits, Counts, HasWord, Nexts, Rotates, Sees, Stores, geometry_of, noted, with_count, with_limit, with_work, written}
+use Rattle.word_calls.specs.Steps.{Adds, Advances, Arms, BeginsFrame, Commits, Counts, HasWord, Nexts, Rotates, Sees, Stores, geometry_of, noted, with_count, with_limit, written}
 use Rattle.word_calls.specs.declared.step.WordStep.TheVariants as steps
 use Rattle.tail_claim.specs.Packs.{count_place, limit_place, slot, tail_place}
 use Rattle.tail_claim.specs.Sums.{covers, total}
-use Rattle.tail_claim.specs.Rule.{Bounds, Claimed, IsClaim, entries_of, entry_of, shape_of, weight}
-use Rattle.tail_claim.specs.Memory.{IsDone, Ruled, tail_of}
+use Rattle.tail_claim.specs.Rule.{Bounds, IsClaim, entries_of, entry_of, weight}
+use Rattle.tail_claim.specs.Memory.{Ruled, tail_of}
 use Rattle.tail_claim.specs.Admits.{Admits, Same}
-use Rattle.tail_claim.specs.Events.{Eventful, IsClaimed, IsCommitted, IsEvent, IsLook, StepsAreEvents, committed_weight}
+use Rattle.tail_claim.specs.Events.{Eventful, IsClaimed, IsLook, StepsAreEvents, committed_weight}
 use Rattle.tail_claim.proofs.Totals.{total_append, total_set}
-use Rattle.tail_claim.proofs.Memories.{Opens, Stays, cover_passes, held_by, maps_append, tail_is}
+use Rattle.tail_claim.proofs.Memories.{Opens, Stays, cover_passes, held_by, maps_append}
 use Rattle.tail_claim.proofs.Whole as whole
 
 -- ---- sums, where one pass has changed
@@ -116,7 +116,7 @@ steps_are_events = record {
   add = λ b id v size able armed short. eventful b id v (tail_place v.seen.term) (λ y. (y + framed_length v.identity.geometry size) % 2 ^ 64) (λ y w. Adds v size y w) (whole.add b id v size able armed short) (λ n w t. whole.adds_grows v size n w t);
   load_next = λ b id v k full low. eventful b id v (tail_place (k + 1)) (λ n. n) (λ n w. Nexts v k n w) (whole.next b id v k full low) (λ n w t. whole.nexts_grows v k n w t);
   exchange_next = λ b id v k from full low named. eventful b id v (tail_place (k + 1)) (λ n. either (eqb n from) (tail_word (id_of v.identity.geometry (k + 1)) 0) n) (λ n w. Rotates v k from n w) (whole.rotate b id v k from (tail_word (id_of v.identity.geometry (k + 1)) 0) full low named refl) (λ n w t. whole.rotates_grows v k from n w t);
-  exchange_count = λ b id v k began. eventful b id v count_place (λ n. either (eqb n k) (k + 1) n) (λ n w. Advances v n w) (whole.advance b id v k began) (λ n w t. whole.stays v w (noted (steps.CountExchange n) v) refl refl refl refl t.after);
+  exchange_count = λ b id v k began. eventful b id v count_place (λ n. either (eqb n k) (k + 1) n) (λ n w. Advances v k n w) (whole.advance b id v k began) (λ n w t. whole.stays v w (noted (steps.CountExchange k n) v) refl refl refl refl t.after);
   store = stored;
   commit = committed;
 }

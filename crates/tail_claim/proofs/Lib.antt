@@ -8,8 +8,10 @@ pub mod Adding
 pub mod Memories
 pub mod Storing
 pub mod Whole
+pub mod Sures
 pub mod Lifting
 pub mod Begun
+pub mod Numbers
 pub mod Gathering
 pub mod Greatest
 pub mod Ending

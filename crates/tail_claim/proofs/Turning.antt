@@ -1,29 +1,29 @@
 -- The steps that turn to the next term keep the claims' rule.
-use Rattle.std.proofs.Common.{◌≡◌, ◌≢◌, ◌⊎◌, ℕ, zero, suc, ◌+◌, ◌-◌, ◌*◌, ◌/◌, ◌%◌, ◌^◌, ◌<◌, ◌≤◌, eqb, min, List, [], ◌∷◌, map, length, set, sym, refl, ap, ◌∙◌, subst, ⊎_elim, lt_of_not-le, suc-mul, length-set, get_or-set_other, arith}
+use Rattle.std.proofs.Common.{◌≡◌, ℕ, suc, ◌+◌, ◌*◌, ◌%◌, ◌^◌, ◌<◌, ◌≤◌, eqb, min, List, set, sym, refl, ap, ◌∙◌, subst, ⊎_elim, suc-mul, length-set, get_or-set_other, arith}
 use mathlib.Core.Option.{some}
 use mathlib.Core.Logic.{dite}
-use native.Mathlib.Decide.{dec_le, ℕ_discrete}
+use native.Mathlib.Decide.{ℕ_discrete}
 use lib.ListN.{get_elem?}
 use lib.IntN.{ℤ_discrete}
 use prog.Atomic.{either}
-use Rattle.std.specs.Prelude.{ℤ, slice_index}
+use Rattle.std.specs.Prelude.{slice_index}
 use Rattle.atomic_table.proofs.Lists.{exchanged}
 use Rattle.theory.specs.Position.{Geometry, id_of}
 use Rattle.theory.specs.Tiling.{Tiles}
-use Rattle.theory.specs.Words.{id_before, id_in, offset_in, tail_word}
+use Rattle.theory.specs.Words.{id_before, id_in, tail_word}
 use Rattle.word_calls.specs.declared.pass.Pass.{Pass}
 use Rattle.word_calls.specs.declared.pass.Right.{Right}
 use Rattle.word_calls.specs.declared.step.WordStep.{WordStep}
 use Rattle.word_calls.specs.declared.step.WordStep.TheVariants as steps
-use Rattle.word_calls.specs.Steps.{Advances, Names, Nexts, Rotates, noted, with_begun}
+use Rattle.word_calls.specs.Steps.{Advances, Names, Nexts, Rotates, noted, tail_exchange, with_begun}
 use Rattle.tail_claim.specs.Packs.{count_place, tail_place}
 use Rattle.tail_claim.specs.Sums.{total}
-use Rattle.tail_claim.specs.Terms.{Full, Tailed, Terms, Turns, end_of}
-use Rattle.tail_claim.specs.Rule.{Bounds, Claimed, Entitled, Knows, Saw, Sound, armed_of, armed_on, first_of, parts_of, shape_of, size_of}
+use Rattle.tail_claim.specs.Terms.{Tailed, Terms, end_of}
+use Rattle.tail_claim.specs.Rule.{Bounds, Claimed, Knows, armed_of, armed_on, first_of, parts_of, shape_of}
 use Rattle.tail_claim.specs.Admits.{Admits}
 use Rattle.tail_claim.proofs.Totals.{total_set}
 use Rattle.tail_claim.proofs.Tails.{counted, next_named, next_old, term_begun, turned}
-use Rattle.tail_claim.proofs.Accounts.{Later, Over, Room, each_set, few, knows_noted, moved, on_le, read_off, same_over, same_room, saw_on, sighted, unchanged}
+use Rattle.tail_claim.proofs.Accounts.{Later, Over, each_set, few, knows_noted, moved, on_le, read_off, same_over, same_room, saw_on, sighted, unchanged}
 use Rattle.tail_claim.proofs.Looks.{by_pass, inside, narrow, tail_low, term_short}
 
 -- ---- the next tail
@@ -106,7 +106,7 @@ Goes rule ws ps id i told n = (w : Pass) × rule (set ws i n) (set ps id w) × t
 
 rotate_at : (id : ℕ) (v : Pass) (k from to : ℕ) → v.seen.full ≡ suc k → k + 1 < 2 ^ 31 → id_in from ≡ id_before v.identity.geometry k 2 → to ≡ tail_word (id_of v.identity.geometry (k + 1)) 0 → (b : Bounds)
     → Admits (Claimed (read_off b v)) id v (tail_place (k + 1)) (λ n. either (eqb n from) to n) (λ n w. Rotates v k from n w)
-rotate_at id v k from to full low named goes b ws ps r at = let i : ℕ = tail_place (k + 1) in let n : ℕ = slice_index ws i in let x = steps.TailExchange ((k + 1) % 3) n in
+rotate_at id v k from to full low named goes b ws ps r at = let i : ℕ = tail_place (k + 1) in let n : ℕ = slice_index ws i in let x = tail_exchange v k from n in
     exchanged n from to (Goes (Claimed (read_off b v)) ws ps id i (λ w. Rotates v k from n w))
     (λ hit. (
       noted x (with_begun v (k + 1)),
@@ -126,15 +126,15 @@ rotate b id v k from to full low named goes = by_pass id v (tail_place (k + 1)) 
 -- ---- the active count
 
 -- it goes to one that was begun
-pub advance : (b : Bounds) (id : ℕ) (v : Pass) (old : ℕ) → v.seen.begun ≡ old + 1 → Admits (Claimed b) id v count_place (λ n. either (eqb n old) (old + 1) n) (λ n w. Advances v n w)
-advance b id v old began ws ps r at = let n : ℕ = slice_index ws count_place in let w = noted (steps.CountExchange n) v in let k = r.each id v at in let t = r.terms in let a = r.tailed.active in let to = r.tailed.turns.to in
-    let told : Advances v n w = record { small = omega arith; after = refl } in
-    exchanged n old (old + 1) (Goes (Claimed b) ws ps id count_place (λ w. Advances v n w))
+pub advance : (b : Bounds) (id : ℕ) (v : Pass) (old : ℕ) → v.seen.begun ≡ old + 1 → Admits (Claimed b) id v count_place (λ n. either (eqb n old) (old + 1) n) (λ n w. Advances v old n w)
+advance b id v old began ws ps r at = let n : ℕ = slice_index ws count_place in let w = noted (steps.CountExchange old n) v in let k = r.each id v at in let t = r.terms in let a = r.tailed.active in let to = r.tailed.turns.to in
+    let told : Advances v old n w = record { small = omega arith; after = refl } in
+    exchanged n old (old + 1) (Goes (Claimed b) ws ps id count_place (λ w. Advances v old n w))
     (λ hit. let e = k.seen.begun in (
       w,
       moved b ws ps r id v w (set ws count_place (old + 1)) r.log t at (unchanged (shape_of b) t)
           (counted (shape_of b) (first_of b) t ws r.tailed (old + 1) (let q : first_of b ≤ old + 1 = omega arith in q) (let q : old + 1 ≤ t.newest = omega arith in q) (inside b ws ps r count_place (omega arith)))
-          (knows_noted b t (steps.CountExchange n) v k) refl (length-set ws count_place (old + 1)) (get_or-set_other ws count_place 0 (old + 1) 0 (λ e. omega arith)) (same_over b ws ps r id v w at refl refl) r.tiles (λ h. refl) (same_room b ws ps r id v w at refl) r.reached,
+          (knows_noted b t (steps.CountExchange old n) v k) refl (length-set ws count_place (old + 1)) (get_or-set_other ws count_place 0 (old + 1) 0 (λ e. omega arith)) (same_over b ws ps r id v w at refl refl) r.tiles (λ h. refl) (same_room b ws ps r id v w at refl) r.reached,
       told,
     ))
-    (λ miss. (w, sighted b ws ps r id count_place v w at (knows_noted b t (steps.CountExchange n) v k) refl refl refl refl, told))
+    (λ miss. (w, sighted b ws ps r id count_place v w at (knows_noted b t (steps.CountExchange old n) v k) refl refl refl refl, told))

@@ -1,5 +1,5 @@
 -- Each kind of step keeps the whole rule, and tells of the pass what the word calls say.
-use Rattle.std.proofs.Common.{◌≡◌, ◌≢◌, ◌⊎◌, inl, inr, ℕ, zero, suc, ◌+◌, ◌-◌, ◌*◌, ◌/◌, ◌%◌, ◌^◌, ◌<◌, ◌≤◌, eqb, min, List, [], ◌∷◌, ◌++◌, map, length, set, length-set, get_or-set_other, sym, refl, ap, ◌∙◌, subst, ⊎_elim, lt_of_not-le, append_assoc, arith}
+use Rattle.std.proofs.Common.{◌≡◌, ◌⊎◌, inl, inr, ℕ, zero, suc, ◌+◌, ◌-◌, ◌*◌, ◌%◌, ◌^◌, ◌<◌, ◌≤◌, eqb, min, List, [], ◌∷◌, ◌++◌, map, length, set, length-set, get_or-set_other, sym, refl, ap, ◌∙◌, subst, ⊎_elim, lt_of_not-le, append_assoc, arith}
 use mathlib.Core.Option.{some, some-ne-none}
 use mathlib.Core.Logic.{dite}
 use native.Mathlib.Decide.{dec_le, ℕ_discrete}
@@ -15,12 +15,11 @@ use Rattle.theory.specs.Words.{id_before, id_in, offset_in, tail_word}
 use Rattle.theory.proofs.Lists.{all_append, all_behind, all_front}
 use Rattle.word_calls.specs.declared.pass.FrameWords.{FrameWords}
 use Rattle.word_calls.specs.declared.pass.Pass.{Pass}
-use Rattle.word_calls.specs.declared.step.WordStep.{WordStep}
 use Rattle.word_calls.specs.declared.step.WordStep.TheVariants as steps
-use Rattle.word_calls.specs.Steps.{Adds, Advances, Arms, BeginsFrame, Commits, Counts, Extent, HasWord, Names, Nexts, Rotates, Sees, Stores, addition, count_in, disarmed, extent_of, frames_of, geometry_of, message_at, noted, opened as takes, padding_at, tail_step, term_of, with_armed, with_begun, with_count, with_full, with_limit, with_work, written}
-use Rattle.tail_claim.specs.Packs.{count_place, data_place, limit_place, slot, tail_place}
+use Rattle.word_calls.specs.Steps.{Adds, Advances, Arms, BeginsFrame, Commits, Counts, Extent, HasWord, Nexts, Rotates, Sees, Stores, addition, count_in, disarmed, extent_of, frames_of, geometry_of, message_at, noted, padding_at, tail_exchange, tail_step, term_of, with_armed, with_begun, with_count, with_full, with_limit, with_work, written}
+use Rattle.tail_claim.specs.Packs.{count_place, limit_place, slot, tail_place}
 use Rattle.tail_claim.specs.Sums.{covers, total}
-use Rattle.tail_claim.specs.Rule.{Bounds, Claimed, Knows, first_of, shape_of, size_of}
+use Rattle.tail_claim.specs.Rule.{Bounds, Claimed, first_of, shape_of}
 use Rattle.tail_claim.specs.Memory.{IsAligned, IsDone, IsOpen, Memory, Ruled, Stands, tail_of}
 use Rattle.tail_claim.specs.Admits.{Admits, Same}
 use Rattle.tail_claim.proofs.Totals.{total_append, total_at}
@@ -30,7 +29,7 @@ use Rattle.tail_claim.proofs.Looks as looks
 use Rattle.tail_claim.proofs.Turning as turning
 use Rattle.tail_claim.proofs.Adding as adding
 use Rattle.tail_claim.proofs.Memories.{Covered, Opens, Stays, cover_passes, held_by, held_is, maps_append, opened, stayed}
-use Rattle.tail_claim.proofs.Storing.{HasIt, Rewrites, rewritten, same_place}
+use Rattle.tail_claim.proofs.Storing.{rewritten, same_place}
 
 pub set_at : {A : Type 0} (l : List A) (i : ℕ) (v w : A) → get_elem? l i ≡ some v → get_elem? (set l i w) i ≡ some w
 set_at [] i v w e = absurd (some-ne-none v (sym e))
@@ -83,10 +82,10 @@ nexts_grows v k n w t = dite (ℤ_discrete (id_in n) (id_of (geometry_of v) (k +
 
 pub rotates_grows : (v : Pass) (k from n : ℕ) (w : Pass) → Rotates v k from n w → Stays v w ⊎ Opens v w
 rotates_grows v k from n w t = dite (ℕ_discrete n from)
-    (λ hit. stays v w (noted (steps.TailExchange ((k + 1) % 3) n) (with_begun v (k + 1))) refl refl refl refl (t.begun (inl hit)))
+    (λ hit. stays v w (noted (tail_exchange v k from n) (with_begun v (k + 1))) refl refl refl refl (t.begun (inl hit)))
     (λ miss. dite (ℤ_discrete (id_in n) (id_of (geometry_of v) (k + 1)))
-    (λ yes. stays v w (noted (steps.TailExchange ((k + 1) % 3) n) (with_begun v (k + 1))) refl refl refl refl (t.begun (inr yes)))
-    (λ no. stays v w (noted (steps.TailExchange ((k + 1) % 3) n) v) refl refl refl refl (t.other miss no)))
+    (λ yes. stays v w (noted (tail_exchange v k from n) (with_begun v (k + 1))) refl refl refl refl (t.begun (inr yes)))
+    (λ no. stays v w (noted (tail_exchange v k from n) v) refl refl refl refl (t.other miss no)))
 
 pub see : (b : Bounds) (id : ℕ) (v : Pass) → Admits (Ruled b) id v limit_place (λ n. n) (λ n w. Same v w × Sees v n w)
 see b id v = framing b id v limit_place (λ n. n) (λ n w. Sees v n w) (omega arith) (looks.see b id v) (λ n w t. stays v w (noted (steps.Limit n) (with_limit v n)) refl refl refl refl t)
@@ -108,8 +107,8 @@ pub rotate : (b : Bounds) (id : ℕ) (v : Pass) (k from to : ℕ) → v.seen.ful
     → Admits (Ruled b) id v (tail_place (k + 1)) (λ n. either (eqb n from) to n) (λ n w. Same v w × Rotates v k from n w)
 rotate b id v k from to full low named goes = framing b id v (tail_place (k + 1)) (λ n. either (eqb n from) to n) (λ n w. Rotates v k from n w) (looks.tail_low (k + 1)) (turning.rotate b id v k from to full low named goes) (λ n w t. rotates_grows v k from n w t)
 
-pub advance : (b : Bounds) (id : ℕ) (v : Pass) (old : ℕ) → v.seen.begun ≡ old + 1 → Admits (Ruled b) id v count_place (λ n. either (eqb n old) (old + 1) n) (λ n w. Same v w × Advances v n w)
-advance b id v old began = framing b id v count_place (λ n. either (eqb n old) (old + 1) n) (λ n w. Advances v n w) (omega arith) (turning.advance b id v old began) (λ n w t. stays v w (noted (steps.CountExchange n) v) refl refl refl refl t.after)
+pub advance : (b : Bounds) (id : ℕ) (v : Pass) (old : ℕ) → v.seen.begun ≡ old + 1 → Admits (Ruled b) id v count_place (λ n. either (eqb n old) (old + 1) n) (λ n w. Same v w × Advances v old n w)
+advance b id v old began = framing b id v count_place (λ n. either (eqb n old) (old + 1) n) (λ n w. Advances v old n w) (omega arith) (turning.advance b id v old began) (λ n w t. stays v w (noted (steps.CountExchange old n) v) refl refl refl refl t.after)
 
 -- ---- stores
 

@@ -7,14 +7,14 @@ use Rattle.theory.specs.Tiling.{Tiles}
 use Rattle.theory.specs.Bytes.{Identity}
 use Rattle.theory.specs.Words.{Tails, greatest_shown}
 use Rattle.word_calls.specs.declared.pass.FrameWords.{FrameWords}
-use Rattle.word_calls.specs.declared.pass.Keeping.{Keeping}
 use Rattle.word_calls.specs.declared.pass.Pass.{Pass}
 use Rattle.word_calls.specs.Steps.{frames_of, works}
 use Rattle.tail_claim.specs.declared.view.View.{View}
 use Rattle.tail_claim.specs.Packs.{count_place, slot, tail_place}
 use Rattle.tail_claim.specs.Sums.{total}
-use Rattle.tail_claim.specs.Rule.{entries_of, weight}
+use Rattle.tail_claim.specs.Rule.{entries_of}
 use Rattle.tail_claim.specs.Memory.{IsDone, IsOpen}
+use Rattle.tail_claim.specs.Sure.{no_controls}
 use Rattle.tail_claim.specs.Plays.{newcomer}
 
 -- ---- passes are gathered
@@ -30,12 +30,17 @@ abbrev pub gathered : Pass → List Pass → Pass
 gathered v [] = v
 gathered v (w ∷ ws) = gathered (both v w) ws
 
+-- nobody is sure of the control words then
 abbrev pub both_seats : View → View → View
-both_seats v w = record { pass = both v.pass w.pass; steps = v.steps }
+both_seats v w = record { pass = both v.pass w.pass; steps = v.steps; controls = v.controls; sure = 0 }
 
 -- and the other nothing
 abbrev pub spent_seat : Identity → ℕ → View
-spent_seat identity start = record { pass = newcomer identity start 0 0; steps = 0 }
+spent_seat identity start = record { pass = newcomer identity start 0 0; steps = 0; controls = no_controls; sure = 0 }
+
+-- a seat has another number
+abbrev pub numbered_seat : ℕ → View → View
+numbered_seat number v = record v { pass = record v.pass { number = number } }
 
 abbrev pub no_identity : Identity
 no_identity = record { geometry = record { term_length = 0; mtu = 0; initial_term_id = pos 0 }; session = pos 0; stream = pos 0 }

@@ -60,6 +60,6 @@ pub record StepsAreEvents : Type 0 where
   pub add : (b : Bounds) (id : ℕ) (v : Pass) (size : ℕ) → 120 ≤ v.right.parts → v.right.armed ≡ 1 → size ≤ max_message (geometry_of v) → Eventful b id v (tail_place v.seen.term) (λ n. (n + framed_length (geometry_of v) size) % 2 ^ 64) (λ n w. Adds v size n w)
   pub load_next : (b : Bounds) (id : ℕ) (v : Pass) (k : ℕ) → v.seen.full ≡ suc k → k + 1 < 2 ^ 31 → Eventful b id v (tail_place (k + 1)) (λ n. n) (λ n w. Nexts v k n w)
   pub exchange_next : (b : Bounds) (id : ℕ) (v : Pass) (k from : ℕ) → v.seen.full ≡ suc k → k + 1 < 2 ^ 31 → id_in from ≡ id_before (geometry_of v) k 2 → Eventful b id v (tail_place (k + 1)) (λ n. either (n == from) (tail_word (id_of (geometry_of v) (k + 1)) 0) n) (λ n w. Rotates v k from n w)
-  pub exchange_count : (b : Bounds) (id : ℕ) (v : Pass) (k : ℕ) → v.seen.begun ≡ k + 1 → Eventful b id v count_place (λ n. either (n == k) (k + 1) n) (λ n w. Advances v n w)
+  pub exchange_count : (b : Bounds) (id : ℕ) (v : Pass) (k : ℕ) → v.seen.begun ≡ k + 1 → Eventful b id v count_place (λ n. either (n == k) (k + 1) n) (λ n w. Advances v k n w)
   pub store : (b : Bounds) (id : ℕ) (v : Pass) (p x : ℕ) → HasWord v 1 p → Eventful b id v (slot (geometry_of v) p) (λ _. x) (λ _ w. Stores v p x w)
   pub commit : (b : Bounds) (id : ℕ) (v : Pass) (p x : ℕ) → BeginsFrame v p → 0 < x → Eventful b id v (slot (geometry_of v) p) (λ _. x) (λ _ w. Commits v p x w)

@@ -4,9 +4,11 @@ pub mod Terms
 pub mod Rule
 pub mod Memory
 pub mod Admits
+pub mod Sure
 pub mod Plays
 pub mod Handles
 pub mod Faults
 pub mod Openings
 pub mod Closing
+pub mod Leading
 pub mod Events

@@ -1,5 +1,5 @@
 -- The rule over a table's state, the first seat and how it is dealt, and what each step tells.
-use Rattle.std.specs.Prelude.{◌≡◌, ℕ, suc, ◌+◌, ◌-◌, ◌*◌, ◌/◌, List, [], ◌∷◌, map}
+use Rattle.std.specs.Prelude.{◌≡◌, ℕ, suc, ◌+◌, ◌-◌, ◌/◌, List, [], map}
 use Rattle.atomic_table.specs.Table.{Me, State, Step}
 use Rattle.theory.specs.Position.{greatest_claim}
 use Rattle.theory.specs.Bytes.{Identity}
@@ -10,7 +10,9 @@ use Rattle.tail_claim.specs.declared.view.Key.{Key}
 use Rattle.tail_claim.specs.declared.view.View.{View}
 use Rattle.tail_claim.specs.Rule.{Bounds}
 use Rattle.tail_claim.specs.Memory.{Ruled}
+use Rattle.word_calls.specs.declared.step.WordStep.{WordStep}
 use Rattle.tail_claim.specs.Admits.{Same}
+use Rattle.tail_claim.specs.Sure.{AreSure, Learns, fresh_controls, no_controls}
 
 abbrev pub pass_in : View → Pass
 pass_in v = v.pass
@@ -27,8 +29,10 @@ bounds_of key = record {
   cleaned = key.start;
 }
 
-abbrev pub TableRuled : Key → State (Unit {0}) View → Type 0
-TableRuled key s = Ruled (bounds_of key) s.words (map pass_in s.views)
+-- the words and the passes obey the rule of claims, and who is sure of the control words is right
+pub record TableRuled (key : Key) (s : State (Unit {0}) View) : Type 0 where
+  pub ruled : Ruled (bounds_of key) s.words (map pass_in s.views)
+  pub sure : AreSure s.words s.views
 
 abbrev pub no_keeping : Keeping
 no_keeping = record { right = 0; limit = 0; cleaned = 0; positions = [] }
@@ -49,9 +53,9 @@ newcomer identity start number parts =
       keeping = no_keeping;
     }
 
--- the first seat is the last publisher's, and has all parts
+-- the first seat is the last publisher's, has all parts, and is sure
 abbrev pub first_seat : Key → View
-first_seat key = record { pass = newcomer key.identity key.start 7 1024; steps = 0 }
+first_seat key = record { pass = newcomer key.identity key.start 7 1024; steps = 0; controls = fresh_controls key.identity key.start; sure = 1 }
 
 -- ---- a publisher is dealt: it has the number of the one that deals, which has the number below it from then on
 
@@ -62,16 +66,16 @@ abbrev pub dealt : Pass → Pass
 dealt v = record v { call = []; right = record { parts = 120; limit = v.right.limit; armed = 0; claims = [] }; work = works [] []; reading = []; keeping = no_keeping }
 
 abbrev pub dealing_seat : View → View
-dealing_seat v = record { pass = dealer v.pass; steps = v.steps }
+dealing_seat v = record { pass = dealer v.pass; steps = v.steps; controls = v.controls; sure = 0 }
 
 abbrev pub dealt_seat : View → View
-dealt_seat v = record { pass = dealt v.pass; steps = 0 }
+dealt_seat v = record { pass = dealt v.pass; steps = 0; controls = no_controls; sure = 0 }
 
 -- ---- what a step tells
 
 abbrev pub Mine : Type 0
 Mine = Me (Unit {0}) View
 
--- a word call's relation of the pass before, the word and the pass after, and one step more
-abbrev pub playing : (Pass → ℕ → Pass → Type 0) → Step (Unit {0}) → Mine → ℕ → Mine → Type 0
-playing told st m n m' = (m'.1 ≡ m.1) × (m'.0.steps ≡ suc m.0.steps) × Same m.0.pass m'.0.pass × told m.0.pass n m'.0.pass
+-- a word call's relation of the pass before, the word and the pass after, one step more, and what the seat learns by the step on a control word that is noted, if there is one
+abbrev pub playing : (Pass → ℕ → Pass → Type 0) → (Pass → ℕ → List WordStep) → Step (Unit {0}) → Mine → ℕ → Mine → Type 0
+playing told noted st m n m' = (m'.1 ≡ m.1) × (m'.0.steps ≡ suc m.0.steps) × Same m.0.pass m'.0.pass × Learns (noted m.0.pass n) m.0 m'.0 × told m.0.pass n m'.0.pass

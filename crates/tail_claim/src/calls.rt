@@ -1,8 +1,7 @@
 //! The word calls of a log on a table.
 
-ghost use Rattle.std.specs.Prelude.{◌≡◌, ℕ, ◌+◌};
-ghost use Rattle.tail_claim.specs.Handles.{IsOf, LogValue};
-ghost use Rattle.std.proofs.Common.{◌∙◌, add_assoc, add-zero, ap, sym};
+ghost use Rattle.tail_claim.specs.Handles.{IsOf, LogValue, Took};
+ghost use Rattle.tail_claim.specs.Leading.{took_more, took_none};
 
 use crate::log::{Publisher, TableLog};
 use std::marker::Brand;
@@ -27,7 +26,7 @@ impl<'a> WordCalls for OnTable<'a> {
 
     ghost name = { λ p. p.pass.number };
 
-    ghost took = { λ l p m q n. q.steps ≡ p.steps + n };
+    ghost took = { λ l p m q xs n. Took p xs n q };
 
     fn identity(&self, pass: &Publisher) -> Identity {
         let log = self.log;
@@ -79,7 +78,7 @@ impl<'a> WordCalls for OnTable<'a> {
         log.commit_as::<Brand>(pass, start, word);
     }
 
-    ghost none = { λ l p. sym (add-zero p.steps) };
+    ghost none = { λ l p. took_none p };
 
-    ghost more = { λ l p m q n r a b x y. y ∙ ap (λ k. k + b) x ∙ add_assoc p.steps a b };
+    ghost more = { λ l p m q n r xs ys a b x y. took_more p q r xs ys a b x y };
 }

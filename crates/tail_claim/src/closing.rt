@@ -76,7 +76,19 @@ impl TableLog {
         ensures log { (result.identity ≡ self.identity) × (result.start ≡ self.start) }
         ensures closed { IsClosed self.identity self.start (gathered_all self publishers) result.words }
     {
-        let Publisher { seat, number: _ } = self.gather(publishers);
+        let publisher = self.gather(publishers);
+        self.close_whole(publisher)
+    }
+
+    /// Closes the log with the publisher that has all parts: what it claimed tiles the stream from its start to the greatest
+    /// position that the three raw tails show, the words of its frames stand, and all behind is zero.
+    pub fn close_whole(self, publisher: Publisher) -> ClosedLog
+        requires publisher { IsIdle self publisher }
+        requires whole { publisher.pass.right.parts ≡ 1024 }
+        ensures log { (result.identity ≡ self.identity) × (result.start ≡ self.start) }
+        ensures closed { IsClosed self.identity self.start publisher.pass result.words }
+    {
+        let Publisher { seat, number: _ } = publisher;
         let TableLog {
             table,
             identity,
@@ -110,7 +122,7 @@ impl TableLog {
     fn join(&self, publisher: &mut Publisher, other: Publisher)
         requires publisher { IsIdle self.now publisher.old }
         requires other { IsIdle self.now other }
-        ensures { publisher.new ≡ record publisher.old { pass = both publisher.old.pass other.pass } }
+        ensures { publisher.new ≡ record publisher.old { pass = both publisher.old.pass other.pass; sure = 0 } }
     {
         self.join_as::<Brand>(publisher, other);
     }
@@ -119,7 +131,7 @@ impl TableLog {
         requires publisher { IsIdle self.now publisher.old }
         requires other { IsIdle self.now other }
         requires carried { (N.identity ≡ self.now.identity) × (N.start ≡ self.now.start) }
-        ensures { publisher.new ≡ record publisher.old { pass = both publisher.old.pass other.pass } }
+        ensures { publisher.new ≡ record publisher.old { pass = both publisher.old.pass other.pass; sure = 0 } }
     {
         let words = &self.table.shared;
         let Publisher { seat, number: _ } = other;

@@ -10,6 +10,7 @@ mod closing;
 mod fault;
 mod law;
 mod log;
+mod numbering;
 mod opening;
 mod peek;
 mod plays;

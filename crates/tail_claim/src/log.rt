@@ -1,9 +1,10 @@
 //! A log on a table that threads share, its publishers, and their steps.
 
-ghost use Rattle.std.specs.Prelude.{◌≡◌, ℕ, ◌+◌, ◌-◌, ◌*◌, ◌/◌, ◌%◌, ◌^◌, ◌<◌, ◌≤◌, suc, []};
+ghost use Rattle.std.specs.Prelude.{◌≡◌, ℕ, ◌+◌, ◌-◌, ◌*◌, ◌/◌, ◌%◌, ◌^◌, ◌<◌, ◌≤◌, suc, [], ◌∷◌};
 ghost use Rattle.theory.specs.Position.{id_of, max_message};
 ghost use Rattle.theory.specs.Words.{id_before, id_in, tail_word};
-ghost use Rattle.word_calls.specs.Steps.{Adds, Advances, Arms, BeginsFrame, Commits, Counts, HasWord, Nexts, Rotates, Sees, Stores};
+ghost use Rattle.word_calls.specs.declared.step.WordStep.TheVariants as steps;
+ghost use Rattle.word_calls.specs.Steps.{Adds, Advances, Arms, BeginsFrame, Commits, Counts, HasWord, Nexts, Rotates, Sees, Stores, addition, tail_exchange, tail_step};
 ghost use Rattle.tail_claim.specs.Packs.{slot, tail_place};
 ghost use Rattle.tail_claim.specs.Handles.{IsOf, Stepped};
 
@@ -59,7 +60,7 @@ impl Model for Publisher {
 
     ghost Value = { PublisherValue };
 
-    ghost view = { λ p. record { of = p.seat.table_id; seat = p.seat.id; pass = p.seat.me.0.pass; steps = p.seat.me.0.steps } };
+    ghost view = { λ p. record { of = p.seat.table_id; seat = p.seat.id; pass = p.seat.me.0.pass; steps = p.seat.me.0.steps; controls = p.seat.me.0.controls; sure = p.seat.me.0.sure } };
 
     ghost invariant = { λ p. (p.seat.me.1 ≡ []) × (120 ≤ p.seat.me.0.pass.right.parts) × (p.number ≡ p.seat.me.0.pass.number) };
 }
@@ -108,7 +109,7 @@ impl TableLog {
     /// Loads the limit.
     pub(crate) fn see(&self, publisher: &mut Publisher) -> u64
         requires { IsOf self.now publisher.old }
-        ensures stepped { Stepped publisher.old publisher.new }
+        ensures stepped { Stepped (steps.Limit result ∷ []) publisher.old publisher.new }
         ensures told { Sees publisher.old.pass result publisher.new.pass }
     {
         let words = &self.table.shared;
@@ -118,7 +119,7 @@ impl TableLog {
     /// Loads the active count.
     pub(crate) fn count(&self, publisher: &mut Publisher) -> u32
         requires { IsOf self.now publisher.old }
-        ensures stepped { Stepped publisher.old publisher.new }
+        ensures stepped { Stepped (steps.Count result ∷ []) publisher.old publisher.new }
         ensures told { Counts publisher.old.pass result publisher.new.pass }
     {
         let words = &self.table.shared;
@@ -129,7 +130,7 @@ impl TableLog {
     pub(crate) fn arm(&self, publisher: &mut Publisher, count: u32) -> u64
         requires fits { IsOf self.now publisher.old }
         requires count { publisher.old.pass.seen.count ≡ count }
-        ensures stepped { Stepped publisher.old publisher.new }
+        ensures stepped { Stepped (tail_step publisher.old.pass result ∷ []) publisher.old publisher.new }
         ensures told { Arms publisher.old.pass result publisher.new.pass }
     {
         let words = &self.table.shared;
@@ -143,7 +144,7 @@ impl TableLog {
         requires count { publisher.old.pass.seen.term ≡ count }
         requires short { size ≤ max_message self.now.identity.geometry }
         requires chosen { N.number ≡ size }
-        ensures stepped { Stepped publisher.old publisher.new }
+        ensures stepped { Stepped (addition publisher.old.pass size result ∷ []) publisher.old publisher.new }
         ensures told { Adds publisher.old.pass size result publisher.new.pass }
     {
         let words = &self.table.shared;
@@ -157,7 +158,7 @@ impl TableLog {
         requires full { publisher.old.pass.seen.full ≡ suc count }
         requires last { count < 2 ^ 31 - 1 }
         requires chosen { N.number ≡ count }
-        ensures stepped { Stepped publisher.old publisher.new }
+        ensures stepped { Stepped (steps.NextTail ((count + 1) % 3) result ∷ []) publisher.old publisher.new }
         ensures told { Nexts publisher.old.pass count result publisher.new.pass }
     {
         let words = &self.table.shared;
@@ -176,7 +177,7 @@ impl TableLog {
         requires last { count < 2 ^ 31 - 1 }
         requires from { id_in from ≡ id_before self.now.identity.geometry count 2 }
         requires chosen { N.number ≡ count }
-        ensures stepped { Stepped publisher.old publisher.new }
+        ensures stepped { Stepped (tail_exchange publisher.old.pass count from result ∷ []) publisher.old publisher.new }
         ensures told { Rotates publisher.old.pass count from result publisher.new.pass }
     {
         let words = &self.table.shared;
@@ -190,8 +191,8 @@ impl TableLog {
         requires fits { IsOf self.now publisher.old }
         requires begun { publisher.old.pass.seen.begun ≡ count + 1 }
         requires last { count < 2 ^ 31 - 1 }
-        ensures stepped { Stepped publisher.old publisher.new }
-        ensures told { Advances publisher.old.pass result publisher.new.pass }
+        ensures stepped { Stepped (steps.CountExchange count result ∷ []) publisher.old publisher.new }
+        ensures told { Advances publisher.old.pass count result publisher.new.pass }
     {
         let words = &self.table.shared;
         let from = u64::from(count);
@@ -203,7 +204,7 @@ impl TableLog {
         requires fits { IsOf self.now publisher.old }
         requires inside { HasWord publisher.old.pass 1 position }
         requires chosen { N.number ≡ position }
-        ensures stepped { Stepped publisher.old publisher.new }
+        ensures stepped { Stepped [] publisher.old publisher.new }
         ensures told { Stores publisher.old.pass position word publisher.new.pass }
     {
         let words = &self.table.shared;
@@ -216,7 +217,7 @@ impl TableLog {
         requires inside { BeginsFrame publisher.old.pass start }
         requires word { 0 < word }
         requires chosen { N.number ≡ start }
-        ensures stepped { Stepped publisher.old publisher.new }
+        ensures stepped { Stepped [] publisher.old publisher.new }
         ensures told { Commits publisher.old.pass start word publisher.new.pass }
     {
         let words = &self.table.shared;

@@ -1,10 +1,10 @@
-//! A log that opens, and its eight publishers.
+//! A log that opens, and its publishers.
 
 ghost use Rattle.std.specs.Prelude.{◌≡◌, ◌+◌, ◌-◌, ◌*◌, ◌/◌, ◌%◌, ◌<◌, ◌≤◌, ◌↔◌, IfOk, IsErrOf};
 ghost use Rattle.tail_claim.specs.Plays.{bounds_of, dealer, dealt, newcomer};
 ghost use Rattle.tail_claim.specs.Rule.{Sound};
 ghost use Rattle.tail_claim.specs.Openings.{Fresh};
-ghost use Rattle.tail_claim.specs.Handles.{AreNew, IsOf, IsStart};
+ghost use Rattle.tail_claim.specs.Handles.{AreNew, IsOf, IsStart, IsWholeNew};
 
 use crate::fault::OpenError;
 use crate::log::{COUNT, DATA, Publisher, TableLog, packed, place_of};
@@ -34,17 +34,17 @@ fn first_words(alloc: Global, key: &Key) -> Result<Vec<u64>, AllocError>
 }
 
 impl TableLog {
-    /// A log that opens at a position, connected, with its limit half a term above that for good, and its eight
-    /// publishers by their numbers. The start is judged first; then memory is asked for.
-    pub fn open(
+    /// A log that opens at a position, connected, with its limit half a term above that for good, and its one publisher,
+    /// which has all parts and the number 7. The start is judged first; then memory is asked for.
+    pub fn open_whole(
         alloc: Global,
         geometry: Geometry,
         session: i32,
         stream: i32,
         start: u64,
-    ) -> Result<(TableLog, [Publisher; 8]), OpenError>
+    ) -> Result<(TableLog, Publisher), OpenError>
         ensures log { IfOk result (λ r. (r.0.identity ≡ record { geometry = geometry; session = session; stream = stream }) × (r.0.start ≡ start)) }
-        ensures publishers { IfOk result (λ r. AreNew r.0 0 r.1) }
+        ensures publisher { IfOk result (λ r. IsWholeNew r.0 r.1) }
         ensures start { IsErrOf result OpenError.Start ↔ (¬ IsStart geometry start) }
         ensures memory { IsErrOf result OpenError.Memory → IsStart geometry start }
     {
@@ -60,7 +60,24 @@ impl TableLog {
             identity,
             start,
         };
-        let publishers = log.deal_all(Publisher { seat, number: 7 });
+        Ok((log, Publisher { seat, number: 7 }))
+    }
+
+    /// A log that opens as `open_whole` says, and its eight publishers by their numbers.
+    pub fn open(
+        alloc: Global,
+        geometry: Geometry,
+        session: i32,
+        stream: i32,
+        start: u64,
+    ) -> Result<(TableLog, [Publisher; 8]), OpenError>
+        ensures log { IfOk result (λ r. (r.0.identity ≡ record { geometry = geometry; session = session; stream = stream }) × (r.0.start ≡ start)) }
+        ensures publishers { IfOk result (λ r. AreNew r.0 0 r.1) }
+        ensures start { IsErrOf result OpenError.Start ↔ (¬ IsStart geometry start) }
+        ensures memory { IsErrOf result OpenError.Memory → IsStart geometry start }
+    {
+        let (log, last) = TableLog::open_whole(alloc, geometry, session, stream, start)?;
+        let publishers = log.deal_all(last);
         Ok((log, publishers))
     }
 
@@ -71,8 +88,8 @@ impl TableLog {
         requires unarmed { publisher.old.pass.right.armed ≡ 0 }
         requires parts { 240 ≤ publisher.old.pass.right.parts }
         ensures fits { IsOf self.now publisher.new × IsOf self.now result }
-        ensures dealer { (publisher.new.pass ≡ dealer publisher.old.pass) × (publisher.new.steps ≡ publisher.old.steps) }
-        ensures dealt { (result.pass ≡ dealt publisher.old.pass) × (result.steps ≡ 0) }
+        ensures dealer { (publisher.new.pass ≡ dealer publisher.old.pass) × (publisher.new.steps ≡ publisher.old.steps) × (publisher.new.sure ≡ 0) }
+        ensures dealt { (result.pass ≡ dealt publisher.old.pass) × (result.steps ≡ 0) × (result.sure ≡ 0) }
     {
         let words = &self.table.shared;
         let number = publisher.number;

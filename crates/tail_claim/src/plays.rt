@@ -1,7 +1,8 @@
 //! The rule of a log's table, and its kinds of step.
 
-ghost use Rattle.std.specs.Prelude.{ℕ};
+ghost use Rattle.std.specs.Prelude.{ℕ, ◌+◌, ◌%◌, ◌∷◌, []};
 ghost use Rattle.theory.specs.Bytes.{Identity};
+ghost use Rattle.word_calls.specs.declared.step.WordStep.TheVariants as steps;
 ghost use Rattle.tail_claim.specs.Closing.{no_identity};
 
 use crate::view::{Key, View};
@@ -39,6 +40,19 @@ impl Chosen for Brand {
     ghost number = { 0 };
 }
 
+/// A seat has the chosen number from then on, and nothing goes to another.
+pub struct Renumber<N> {
+    chosen: PhantomData<N>,
+}
+
+impl<N: Chosen> Split<View> for Renumber<N> {
+    ghost use Rattle.tail_claim.specs.Closing.{numbered_seat, spent_seat};
+
+    ghost left = { numbered_seat N.number };
+
+    ghost right = { λ v. spent_seat v.pass.identity v.pass.start };
+}
+
 /// The limit is loaded.
 pub struct See;
 
@@ -46,7 +60,7 @@ impl Play<(), View> for See {
     ghost use Rattle.tail_claim.specs.Plays.{playing};
     ghost use Rattle.word_calls.specs.Steps.{Sees};
 
-    ghost then = { playing Sees };
+    ghost then = { playing Sees (λ _ n. steps.Limit n ∷ []) };
 }
 
 /// The active count is loaded.
@@ -56,7 +70,7 @@ impl Play<(), View> for Count {
     ghost use Rattle.tail_claim.specs.Plays.{playing};
     ghost use Rattle.word_calls.specs.Steps.{Counts};
 
-    ghost then = { playing Counts };
+    ghost then = { playing Counts (λ _ n. steps.Count n ∷ []) };
 }
 
 /// The tail of the count that was seen is loaded.
@@ -64,9 +78,9 @@ pub struct Arm;
 
 impl Play<(), View> for Arm {
     ghost use Rattle.tail_claim.specs.Plays.{playing};
-    ghost use Rattle.word_calls.specs.Steps.{Arms};
+    ghost use Rattle.word_calls.specs.Steps.{Arms, tail_step};
 
-    ghost then = { playing Arms };
+    ghost then = { playing Arms (λ v n. tail_step v n ∷ []) };
 }
 
 /// What a message of the chosen size covers is added to a tail.
@@ -76,9 +90,9 @@ pub struct Add<N> {
 
 impl<N: Chosen> Play<(), View> for Add<N> {
     ghost use Rattle.tail_claim.specs.Plays.{playing};
-    ghost use Rattle.word_calls.specs.Steps.{Adds};
+    ghost use Rattle.word_calls.specs.Steps.{Adds, addition};
 
-    ghost then = { playing (λ v n w. Adds v N.number n w) };
+    ghost then = { playing (λ v n w. Adds v N.number n w) (λ v n. addition v N.number n ∷ []) };
 }
 
 /// The tail behind the chosen count's is loaded.
@@ -90,7 +104,7 @@ impl<N: Chosen> Play<(), View> for Next<N> {
     ghost use Rattle.tail_claim.specs.Plays.{playing};
     ghost use Rattle.word_calls.specs.Steps.{Nexts};
 
-    ghost then = { playing (λ v n w. Nexts v N.number n w) };
+    ghost then = { playing (λ v n w. Nexts v N.number n w) (λ _ n. steps.NextTail ((N.number + 1) % 3) n ∷ []) };
 }
 
 /// The tail behind the chosen count's is exchanged.
@@ -100,9 +114,9 @@ pub struct Rotate<N> {
 
 impl<N: Chosen> Play<(), View> for Rotate<N> {
     ghost use Rattle.tail_claim.specs.Plays.{playing};
-    ghost use Rattle.word_calls.specs.Steps.{Rotates};
+    ghost use Rattle.word_calls.specs.Steps.{Rotates, tail_exchange};
 
-    ghost then = { λ st. playing (λ v n w. Rotates v N.number st.first n w) st };
+    ghost then = { λ st. playing (λ v n w. Rotates v N.number st.first n w) (λ v n. tail_exchange v N.number st.first n ∷ []) st };
 }
 
 /// The active count is exchanged.
@@ -112,7 +126,7 @@ impl Play<(), View> for Advance {
     ghost use Rattle.tail_claim.specs.Plays.{playing};
     ghost use Rattle.word_calls.specs.Steps.{Advances};
 
-    ghost then = { playing Advances };
+    ghost then = { λ st. playing (λ v n w. Advances v st.first n w) (λ _ n. steps.CountExchange st.first n ∷ []) st };
 }
 
 /// A word of an open frame is stored, at the chosen position.
@@ -124,7 +138,7 @@ impl<N: Chosen> Play<(), View> for Store<N> {
     ghost use Rattle.tail_claim.specs.Plays.{playing};
     ghost use Rattle.word_calls.specs.Steps.{Stores};
 
-    ghost then = { playing (λ v n w. Stores v N.number n w) };
+    ghost then = { playing (λ v n w. Stores v N.number n w) (λ _ _. []) };
 }
 
 /// The first word of the open frame at the chosen position is stored.
@@ -136,7 +150,7 @@ impl<N: Chosen> Play<(), View> for Commit<N> {
     ghost use Rattle.tail_claim.specs.Plays.{playing};
     ghost use Rattle.word_calls.specs.Steps.{Commits};
 
-    ghost then = { playing (λ v n w. Commits v N.number n w) };
+    ghost then = { playing (λ v n w. Commits v N.number n w) (λ _ _. []) };
 }
 
 /// The stream of a log, which a call picks for its step.

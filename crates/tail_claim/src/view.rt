@@ -1,11 +1,15 @@
 //! What a seat of a log's table knows, and what the table is told.
 
-use word_calls::{Identity, Pass};
+use word_calls::{Controls, Identity, Pass};
 
-/// A pass, and the word steps that it has made. No value of this type is made.
+/// A pass, the word steps that it has made, and what it knows of the control words. No value of this type is made.
 pub struct View {
     pub pass: Pass,
     pub steps: u64,
+    /// The control words, where the pass is sure of them.
+    pub controls: Controls,
+    /// 1 where it is sure: it has all parts, and nobody else changes a control word.
+    pub sure: u64,
 }
 
 /// What a log's table is told when it is made: the stream that it carries, and the position at which it begins.

@@ -1,15 +1,15 @@
-use Rattle.std.proofs.Common.{rules, ◌≡◌, ℕ, suc, ◌+◌, ◌-◌, ◌*◌, ◌/◌, ◌%◌, ◌^◌, ◌<◌, ◌≤◌, eqb, sym, refl, ap, ◌∙◌, subst, arith}
-use prog.Atomic.{either}
-use Rattle.theory.specs.Position.{Geometry, framed_length, id_of, max_message}
+use Rattle.std.proofs.Common.{rules, ◌≡◌, ℕ, suc, ◌+◌, ◌%◌, ◌^◌, ◌<◌, ◌≤◌, [], ◌∷◌, inl, sym, ap, ◌∙◌, subst, arith}
+use Rattle.theory.specs.Position.{Geometry, framed_length, max_message}
 use Rattle.theory.specs.Bytes.{Identity}
-use Rattle.theory.specs.Words.{id_before, id_in, tail_word}
 use Rattle.atomic_table.specs.Table.{Allows}
 use Rattle.word_calls.specs.declared.pass.Pass.{Pass}
-use Rattle.word_calls.specs.Steps.{Adds, Advances, Arms, BeginsFrame, Commits, Counts, HasWord, Nexts, Rotates, Sees, Stores}
-use Rattle.tail_claim.specs.Packs.{slot, tail_place}
+use Rattle.word_calls.specs.Steps.{Adds, addition}
+use Rattle.tail_claim.specs.Packs.{tail_place}
 use Rattle.tail_claim.specs.Admits.{Same}
-use Rattle.tail_claim.specs.Plays.{Mine, TableRuled, bounds_of}
-use Rattle.tail_claim.proofs.Lifting.{lifted, lifted_at}
+use Rattle.tail_claim.specs.Sure.{Learns}
+use Rattle.tail_claim.specs.Plays.{Mine, TableRuled}
+use Rattle.tail_claim.proofs.Sures.{add_turns}
+use Rattle.tail_claim.proofs.Lifting.{lifted_at}
 use Rattle.tail_claim.proofs.Whole as whole
 use Rattle.tail_claim.proofs.log.TableLog.add_as.Goals as goal
 
@@ -20,7 +20,7 @@ fetch_add-requires g c = let me : Mine = c.publisher.inside.seat.me in let v : P
     let short : size ≤ max_message v.identity.geometry = subst (λ (z : ℕ × Geometry). z.0 ≤ max_message z.1) (λ j. (sym is j, ap (λ (i : Identity). i.geometry) (sym c.requires.fits.identity ∙ ap (λ (p : Pass). p.identity) (sym vi)) j)) c.requires.short in (
       search rules,
       omega arith,
-      subst (λ (k : ℕ). Allows (TableRuled c.self.inside.table.shared.key) c.self.inside.table.shared.table_id.slots c.publisher.inside.seat.id me c.place_of.result (λ n. (n + k) % 2 ^ 64) (λ n m'. (m'.1 ≡ me.1) × (m'.0.steps ≡ suc me.0.steps) × Same v m'.0.pass × Adds v size n m'.0.pass)) (sym covered)
-          (lifted_at _ _ _ (tail_place v.seen.term) me (λ n. (n + framed_length v.identity.geometry size) % 2 ^ 64) (λ n w. Adds v size n w) c.place_of.result (c.place_of.ensures.is ∙ ap tail_place (sym (ap (λ (p : Pass). p.seen.term) vi ∙ c.requires.count)))
+      subst (λ (k : ℕ). Allows (TableRuled c.self.inside.table.shared.key) c.self.inside.table.shared.table_id.slots c.publisher.inside.seat.id me c.place_of.result (λ n. (n + k) % 2 ^ 64) (λ n m'. (m'.1 ≡ me.1) × (m'.0.steps ≡ suc me.0.steps) × Same v m'.0.pass × Learns (addition v size n ∷ []) me.0 m'.0 × Adds v size n m'.0.pass)) (sym covered)
+          (lifted_at _ _ _ (tail_place v.seen.term) me (λ n. (n + framed_length v.identity.geometry size) % 2 ^ 64) (λ n w. Adds v size n w) (λ n. addition v size n ∷ []) c.place_of.result (c.place_of.ensures.is ∙ ap tail_place (sym (ap (λ (p : Pass). p.seen.term) vi ∙ c.requires.count))) (add_turns v.seen.term (framed_length v.identity.geometry size)) (inl (let able = c.publisher.invariant.1 in let q : 0 < v.right.parts = omega arith in q))
           (whole.add _ _ v size c.publisher.invariant.1 (ap (λ (p : Pass). p.right.armed) vi ∙ c.requires.armed) short)),
     )

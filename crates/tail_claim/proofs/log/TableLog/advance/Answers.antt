@@ -1,16 +1,13 @@
-use Rattle.std.proofs.Common.{rules, ◌≡◌, ℕ, suc, ◌+◌, ◌-◌, ◌*◌, ◌/◌, ◌%◌, ◌^◌, ◌<◌, ◌≤◌, eqb, sym, refl, ap, ◌∙◌, subst, arith}
+use Rattle.std.proofs.Common.{rules, ◌≡◌, ℕ, ◌+◌, ◌<◌, [], ◌∷◌, eqb, inl, sym, ap, ◌∙◌, arith}
 use prog.Atomic.{either}
-use Rattle.theory.specs.Position.{Geometry, framed_length, id_of, max_message}
-use Rattle.theory.specs.Bytes.{Identity}
-use Rattle.theory.specs.Words.{id_before, id_in, tail_word}
-use Rattle.atomic_table.specs.Table.{Allows}
+use Rattle.word_calls.specs.declared.step.WordStep.TheVariants as steps
 use Rattle.word_calls.specs.declared.pass.Pass.{Pass}
-use Rattle.word_calls.specs.Steps.{Adds, Advances, Arms, BeginsFrame, Commits, Counts, HasWord, Nexts, Rotates, Sees, Stores}
-use Rattle.tail_claim.specs.Packs.{slot, tail_place}
-use Rattle.tail_claim.specs.Plays.{Mine, TableRuled, bounds_of}
-use Rattle.tail_claim.proofs.Lifting.{lifted, lifted_at}
+use Rattle.word_calls.specs.Steps.{Advances}
+use Rattle.tail_claim.specs.Plays.{Mine}
+use Rattle.tail_claim.proofs.Sures.{advance_turns}
+use Rattle.tail_claim.proofs.Lifting.{lifted}
 use Rattle.tail_claim.proofs.Whole as whole
 use Rattle.tail_claim.proofs.log.TableLog.advance.Goals as goal
 
 pub compare_exchange-requires : goal.compare_exchange-requires
-compare_exchange-requires c = let me : Mine = c.publisher.inside.seat.me in let v : Pass = me.0.pass in let vi : v ≡ c.args.publisher.now.pass = ap (λ p. p.pass) c.publisher.view_is in let wide = c.self.invariant.words in (search rules, omega arith, lifted _ _ _ 16 me (λ n. either (eqb n c.from-from.result) (c.from-from.result + 1) n) (λ n w. Advances v n w) (whole.advance _ _ v c.from-from.result (ap (λ (p : Pass). p.seen.begun) vi ∙ c.requires.begun ∙ ap (λ (z : ℕ). z + 1) (sym c.from-from.ensures))))
+compare_exchange-requires c = let me : Mine = c.publisher.inside.seat.me in let v : Pass = me.0.pass in let vi : v ≡ c.args.publisher.now.pass = ap (λ p. p.pass) c.publisher.view_is in let wide = c.self.invariant.words in (search rules, omega arith, lifted _ _ _ 16 me (λ n. either (eqb n c.from-from.result) (c.from-from.result + 1) n) (λ n w. Advances v c.from-from.result n w) (λ n. steps.CountExchange c.from-from.result n ∷ []) (advance_turns c.from-from.result) (inl (let able = c.publisher.invariant.1 in let q : 0 < v.right.parts = omega arith in q)) (whole.advance _ _ v c.from-from.result (ap (λ (p : Pass). p.seen.begun) vi ∙ c.requires.begun ∙ ap (λ (z : ℕ). z + 1) (sym c.from-from.ensures))))

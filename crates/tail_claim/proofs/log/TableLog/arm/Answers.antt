@@ -1,17 +1,13 @@
-use Rattle.std.proofs.Common.{rules, ◌≡◌, ℕ, suc, ◌+◌, ◌-◌, ◌*◌, ◌/◌, ◌%◌, ◌^◌, ◌<◌, ◌≤◌, eqb, sym, refl, ap, ◌∙◌, subst, arith}
-use prog.Atomic.{either}
-use Rattle.theory.specs.Position.{Geometry, framed_length, id_of, max_message}
-use Rattle.theory.specs.Bytes.{Identity}
-use Rattle.theory.specs.Words.{id_before, id_in, tail_word}
-use Rattle.atomic_table.specs.Table.{Allows}
+use Rattle.std.proofs.Common.{rules, ◌≡◌, [], ◌∷◌, inr, sym, ap, ◌∙◌, arith}
 use Rattle.word_calls.specs.declared.pass.Pass.{Pass}
-use Rattle.word_calls.specs.Steps.{Adds, Advances, Arms, BeginsFrame, Commits, Counts, HasWord, Nexts, Rotates, Sees, Stores}
-use Rattle.tail_claim.specs.Packs.{slot, tail_place}
-use Rattle.tail_claim.specs.Plays.{Mine, TableRuled, bounds_of}
-use Rattle.tail_claim.proofs.Lifting.{lifted, lifted_at}
+use Rattle.word_calls.specs.Steps.{Arms, tail_step}
+use Rattle.tail_claim.specs.Packs.{tail_place}
+use Rattle.tail_claim.specs.Plays.{Mine}
+use Rattle.tail_claim.proofs.Sures.{load_leaves, tail_turns}
+use Rattle.tail_claim.proofs.Lifting.{lifted_at}
 use Rattle.tail_claim.proofs.Whole as whole
 use Rattle.tail_claim.proofs.log.TableLog.arm.Goals as goal
 
 pub load-requires : goal.load-requires
 load-requires c = let me : Mine = c.publisher.inside.seat.me in let v : Pass = me.0.pass in let vi : v ≡ c.args.publisher.now.pass = ap (λ p. p.pass) c.publisher.view_is in let wide = c.self.invariant.words in let low = c.place_of.ensures.low in
-    (search rules, omega arith, lifted_at _ _ _ (tail_place v.seen.count) me (λ n. n) (λ n w. Arms v n w) c.place_of.result (c.place_of.ensures.is ∙ ap tail_place (sym (ap (λ (p : Pass). p.seen.count) vi ∙ c.requires.count))) (whole.arm _ _ v c.publisher.invariant.1))
+    (search rules, omega arith, lifted_at _ _ _ (tail_place v.seen.count) me (λ n. n) (λ n w. Arms v n w) (λ n. tail_step v n ∷ []) c.place_of.result (c.place_of.ensures.is ∙ ap tail_place (sym (ap (λ (p : Pass). p.seen.count) vi ∙ c.requires.count))) (tail_turns v.seen.count) (inr (load_leaves (tail_place v.seen.count))) (whole.arm _ _ v c.publisher.invariant.1))

@@ -1,16 +1,14 @@
-use Rattle.std.proofs.Common.{rules, ◌≡◌, ℕ, List, [], ◌∷◌, sym, ap, ◌∙◌, subst}
-use Rattle.std.specs.Slots.{slots_items}
-use Rattle.theory.specs.Bytes.{Identity}
+use Rattle.std.proofs.Common.{ap, ◌∙◌, subst}
 use Rattle.word_calls.specs.declared.pass.Pass.{Pass}
 use Rattle.tail_claim.specs.Closing.{IsClosed}
-use Rattle.tail_claim.specs.Handles.{IsIdle, IsOf, gathered_all}
-use Rattle.tail_claim.proofs.Ending.{all_parts, closing}
+use Rattle.tail_claim.proofs.Ending.{all_idle, all_parts}
 use Rattle.tail_claim.proofs.log.TableLog.close.Goals as goal
 
+pub close_whole-requires-clause-publisher : goal.close_whole-requires-clause-publisher
+close_whole-requires-clause-publisher c = record { of = c.gather-publisher.ensures.fits; unarmed = ap (λ (p : Pass). p.right.armed) c.gather-publisher.ensures.all ∙ all_idle c.args.self c.args.publishers c.requires.publishers }
+
+pub close_whole-requires-clause-whole : goal.close_whole-requires-clause-whole
+close_whole-requires-clause-whole c = ap (λ (p : Pass). p.right.parts) c.gather-publisher.ensures.all ∙ all_parts c.args.self c.args.publishers ∙ c.requires.whole
+
 pub returns-clause-closed : goal.returns-clause-closed
-returns-clause-closed c =
-    let v = c.seat.inside.seat.me.0 in let key = c.self.inside.table.shared.key in
-    let vi : v.pass ≡ gathered_all c.args.self c.args.publishers = ap (λ p. p.pass) c.seat.view_is ∙ c.gather.ensures.all in
-    let all : v.pass.right.parts ≡ 1024 = ap (λ (p : Pass). p.right.parts) vi ∙ all_parts c.args.self c.args.publishers ∙ c.requires.whole in
-    subst (λ (x : Identity × ℕ × Pass). IsClosed x.0 x.1 x.2 (slots_items c.close_with.result.words)) (λ i. ((c.self.invariant.identity_is ∙ ap (λ l. l.identity) c.self.view_is) i, (c.self.invariant.start_is ∙ ap (λ l. l.start) c.self.view_is) i, vi i))
-    (closing key c.seat.inside.seat.id v (slots_items c.close_with.result.words) (slots_items c.close_with.result.slots) c.close_with.ensures.values.2 all)
+returns-clause-closed c = subst (λ (p : Pass). IsClosed c.args.self.identity c.args.self.start p c.close_whole.result.words) c.gather-publisher.ensures.all c.close_whole.ensures.closed

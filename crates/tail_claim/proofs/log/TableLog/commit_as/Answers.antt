@@ -1,14 +1,11 @@
-use Rattle.std.proofs.Common.{rules, ◌≡◌, ℕ, suc, ◌+◌, ◌-◌, ◌*◌, ◌/◌, ◌%◌, ◌^◌, ◌<◌, ◌≤◌, eqb, sym, refl, ap, ◌∙◌, subst, arith}
-use prog.Atomic.{either}
-use Rattle.theory.specs.Position.{Geometry, framed_length, id_of, max_message}
+use Rattle.std.proofs.Common.{rules, ◌≡◌, ℕ, [], inr, sym, ap, ◌∙◌, subst, arith}
 use Rattle.theory.specs.Bytes.{Identity}
-use Rattle.theory.specs.Words.{id_before, id_in, tail_word}
-use Rattle.atomic_table.specs.Table.{Allows}
 use Rattle.word_calls.specs.declared.pass.Pass.{Pass}
-use Rattle.word_calls.specs.Steps.{Adds, Advances, Arms, BeginsFrame, Commits, Counts, HasWord, Nexts, Rotates, Sees, Stores}
-use Rattle.tail_claim.specs.Packs.{slot, tail_place}
-use Rattle.tail_claim.specs.Plays.{Mine, TableRuled, bounds_of}
-use Rattle.tail_claim.proofs.Lifting.{lifted, lifted_at}
+use Rattle.word_calls.specs.Steps.{BeginsFrame, Commits}
+use Rattle.tail_claim.specs.Packs.{slot}
+use Rattle.tail_claim.specs.Plays.{Mine}
+use Rattle.tail_claim.proofs.Sures.{data_leaves, data_turns}
+use Rattle.tail_claim.proofs.Lifting.{lifted_at}
 use Rattle.tail_claim.proofs.Whole as whole
 use Rattle.tail_claim.proofs.log.TableLog.commit_as.Goals as goal
 
@@ -17,6 +14,6 @@ store-requires g c = let me : Mine = c.publisher.inside.seat.me in let v : Pass 
     let shape : v.identity.geometry ≡ c.args.self.now.identity.geometry = ap (λ (i : Identity). i.geometry) (ap (λ (p : Pass). p.identity) vi ∙ c.requires.fits.identity) in (
       search rules,
       search rules,
-      lifted_at _ _ _ (slot v.identity.geometry p) me (λ _. c.args.word) (λ _ w. Commits v p c.args.word w) c.slot_of.result (c.slot_of.ensures.is ∙ (λ j. slot (sym shape j) (sym is j)))
+      lifted_at _ _ _ (slot v.identity.geometry p) me (λ _. c.args.word) (λ _ w. Commits v p c.args.word w) (λ _. []) c.slot_of.result (c.slot_of.ensures.is ∙ (λ j. slot (sym shape j) (sym is j))) (data_turns (slot v.identity.geometry p) c.args.word (omega arith)) (inr (data_leaves (slot v.identity.geometry p) c.args.word (omega arith)))
           (whole.commit _ _ v p c.args.word (subst (λ (z : Pass × ℕ). BeginsFrame z.0 z.1) (λ j. (sym vi j, sym is j)) c.requires.inside) c.requires.word),
     )

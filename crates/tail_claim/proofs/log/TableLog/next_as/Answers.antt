@@ -1,14 +1,11 @@
-use Rattle.std.proofs.Common.{rules, ◌≡◌, ℕ, suc, ◌+◌, ◌-◌, ◌*◌, ◌/◌, ◌%◌, ◌^◌, ◌<◌, ◌≤◌, eqb, sym, refl, ap, ◌∙◌, subst, arith}
-use prog.Atomic.{either}
-use Rattle.theory.specs.Position.{Geometry, framed_length, id_of, max_message}
-use Rattle.theory.specs.Bytes.{Identity}
-use Rattle.theory.specs.Words.{id_before, id_in, tail_word}
-use Rattle.atomic_table.specs.Table.{Allows}
+use Rattle.std.proofs.Common.{rules, ◌≡◌, ℕ, suc, ◌+◌, ◌%◌, [], ◌∷◌, inr, sym, ap, ◌∙◌, arith}
+use Rattle.word_calls.specs.declared.step.WordStep.TheVariants as steps
 use Rattle.word_calls.specs.declared.pass.Pass.{Pass}
-use Rattle.word_calls.specs.Steps.{Adds, Advances, Arms, BeginsFrame, Commits, Counts, HasWord, Nexts, Rotates, Sees, Stores}
-use Rattle.tail_claim.specs.Packs.{slot, tail_place}
-use Rattle.tail_claim.specs.Plays.{Mine, TableRuled, bounds_of}
-use Rattle.tail_claim.proofs.Lifting.{lifted, lifted_at}
+use Rattle.word_calls.specs.Steps.{Nexts}
+use Rattle.tail_claim.specs.Packs.{tail_place}
+use Rattle.tail_claim.specs.Plays.{Mine}
+use Rattle.tail_claim.proofs.Sures.{load_leaves, next_turns}
+use Rattle.tail_claim.proofs.Lifting.{lifted_at}
 use Rattle.tail_claim.proofs.Whole as whole
 use Rattle.tail_claim.proofs.log.TableLog.next_as.Goals as goal
 
@@ -16,6 +13,6 @@ pub load-requires : goal.load-requires
 load-requires g c = let me : Mine = c.publisher.inside.seat.me in let v : Pass = me.0.pass in let vi : v ≡ c.args.publisher.now.pass = ap (λ p. p.pass) c.publisher.view_is in let wide = c.self.invariant.words in let low = c.place_of.ensures.low in let k : ℕ = g.N.Chosen.number in let is : k ≡ c.args.count = c.requires.chosen in let last = c.requires.last in (
   search rules,
   omega arith,
-  lifted_at _ _ _ (tail_place (k + 1)) me (λ n. n) (λ n w. Nexts v k n w) c.place_of.result (c.place_of.ensures.is ∙ ap (λ (z : ℕ). tail_place (z + 1)) (sym is))
+  lifted_at _ _ _ (tail_place (k + 1)) me (λ n. n) (λ n w. Nexts v k n w) (λ n. steps.NextTail ((k + 1) % 3) n ∷ []) c.place_of.result (c.place_of.ensures.is ∙ ap (λ (z : ℕ). tail_place (z + 1)) (sym is)) (next_turns (k + 1)) (inr (load_leaves (tail_place (k + 1))))
       (whole.next _ _ v k (ap (λ (p : Pass). p.seen.full) vi ∙ c.requires.full ∙ ap suc (sym is)) (omega arith)),
 )

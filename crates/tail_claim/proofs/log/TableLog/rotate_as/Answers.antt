@@ -1,14 +1,15 @@
-use Rattle.std.proofs.Common.{rules, ◌≡◌, ℕ, suc, ◌+◌, ◌-◌, ◌*◌, ◌/◌, ◌%◌, ◌^◌, ◌<◌, ◌≤◌, eqb, sym, refl, ap, ◌∙◌, subst, arith}
+use Rattle.std.proofs.Common.{rules, ◌≡◌, ℕ, suc, ◌+◌, ◌%◌, ◌<◌, [], ◌∷◌, eqb, inl, sym, ap, ◌∙◌, subst, arith}
 use prog.Atomic.{either}
-use Rattle.theory.specs.Position.{Geometry, framed_length, id_of, max_message}
+use Rattle.word_calls.specs.declared.step.WordStep.TheVariants as steps
+use Rattle.theory.specs.Position.{id_of}
 use Rattle.theory.specs.Bytes.{Identity}
-use Rattle.theory.specs.Words.{id_before, id_in, tail_word}
-use Rattle.atomic_table.specs.Table.{Allows}
+use Rattle.theory.specs.Words.{id_before, tail_word}
 use Rattle.word_calls.specs.declared.pass.Pass.{Pass}
-use Rattle.word_calls.specs.Steps.{Adds, Advances, Arms, BeginsFrame, Commits, Counts, HasWord, Nexts, Rotates, Sees, Stores}
-use Rattle.tail_claim.specs.Packs.{slot, tail_place}
-use Rattle.tail_claim.specs.Plays.{Mine, TableRuled, bounds_of}
-use Rattle.tail_claim.proofs.Lifting.{lifted, lifted_at}
+use Rattle.word_calls.specs.Steps.{Rotates, tail_exchange}
+use Rattle.tail_claim.specs.Packs.{tail_place}
+use Rattle.tail_claim.specs.Plays.{Mine}
+use Rattle.tail_claim.proofs.Sures.{Turns, rotate_turns}
+use Rattle.tail_claim.proofs.Lifting.{lifted_at}
 use Rattle.std.specs.Int.{w32, cast_signed, cast_unsigned}
 use Rattle.std.proofs.lemmas.Int.{to_z-of_z}
 use Rattle.tail_claim.proofs.Packs.{id_fits}
@@ -22,7 +23,8 @@ compare_exchange-requires g c = let me : Mine = c.publisher.inside.seat.me in le
     let to : ℕ = c.packed-to.result in let to_is : to ≡ tail_word (id_of v.identity.geometry (k + 1)) 0 = c.packed-to.ensures ∙ ap (λ z. tail_word (cast_signed w32 (cast_unsigned w32 z)) 0) id_is ∙ ap (λ z. tail_word z 0) (to_z-of_z w32 (id_of v.identity.geometry (k + 1)) (id_fits v.identity.geometry (k + 1))) in (
       search rules,
       omega arith,
-      lifted_at _ _ _ (tail_place (k + 1)) me (λ n. either (eqb n c.args.from) to n) (λ n w. Rotates v k c.args.from n w) c.place_of.result (c.place_of.ensures.is ∙ ap (λ (z : ℕ). tail_place (z + 1)) (sym is))
+      lifted_at _ _ _ (tail_place (k + 1)) me (λ n. either (eqb n c.args.from) to n) (λ n w. Rotates v k c.args.from n w) (λ n. tail_exchange v k c.args.from n ∷ []) c.place_of.result (c.place_of.ensures.is ∙ ap (λ (z : ℕ). tail_place (z + 1)) (sym is))
+          (subst (λ (z : ℕ). Turns (tail_place (k + 1)) (λ n. either (eqb n c.args.from) to n) (λ n. steps.TailExchange ((k + 1) % 3) c.args.from z n ∷ [])) to_is (rotate_turns (k + 1) c.args.from to)) (inl (let able = c.publisher.invariant.1 in let q : 0 < v.right.parts = omega arith in q))
           (whole.rotate _ _ v k c.args.from to (ap (λ (p : Pass). p.seen.full) vi ∙ c.requires.full ∙ ap suc (sym is)) (omega arith)
           (c.requires.from ∙ (λ j. id_before (ap (λ (i : Identity). i.geometry) (sym c.requires.fits.identity ∙ ap (λ (p : Pass). p.identity) (sym vi)) j) (sym is j) 2)) to_is),
     )

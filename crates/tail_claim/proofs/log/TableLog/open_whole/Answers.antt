@@ -1,9 +1,9 @@
-use Rattle.std.proofs.Common.{rules, ◌≡◌, ℕ, ◌+◌, ◌*◌, ◌/◌, ◌%◌, ◌<◌, ◌≤◌, List, [], ◌∷◌, sym, refl, ap, is_ok, true≢false, ◌∙◌, subst, arith}
+use Rattle.std.proofs.Common.{rules, ◌<◌, sym, ap, is_ok, true≢false, subst}
 use Rattle.tail_claim.specs.Plays.{bounds_of}
 use Rattle.tail_claim.specs.Openings.{Fresh}
 use Rattle.theory.specs.Position.{IsGeometry, max_position}
 use Rattle.tail_claim.proofs.Begun.{opens, sound_key}
-use Rattle.tail_claim.proofs.log.TableLog.open.Goals as goal
+use Rattle.tail_claim.proofs.log.TableLog.open_whole.Goals as goal
 
 pub first_words-requires : goal.first_words-requires
 first_words-requires c = let shape = ap (λ i. i.geometry) c.new-identity.ensures in
