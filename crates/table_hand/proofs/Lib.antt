@@ -5,3 +5,4 @@ pub mod Pieced
 pub mod Handed
 pub mod Answered
 pub mod Ended
+pub mod InHand

@@ -1,6 +1,7 @@
 //! A log on a table that one hand holds: one caller has the log, and one pass with all its publishers.
 #![tactic(auto)]
 
+mod acting;
 mod held;
 
 pub use held::Held;

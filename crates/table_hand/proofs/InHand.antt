@@ -1,0 +1,83 @@
+-- What the calls of the pass that has all publishers come to in one hand.
+use Rattle.std.proofs.Common.{◌≡◌, ◌∙◌, ℕ, ◌+◌, ◌-◌, ◌*◌, ◌<◌, ◌≤◌, List, [], ◌∷◌, ◌++◌, length, Some, None, sym, refl, ap, subst, arith}
+use Rattle.std.specs.Prelude.{Option, Result, Ok, Err, slice_get, slice_set}
+use Rattle.theory.specs.Position.{IsGeometry, aligned, framed_length, max_message, max_payload}
+use Rattle.theory.specs.Placed.{Data, Pad}
+use Rattle.publication.specs.declared.refusal.Refusal.{Refusal}
+use Rattle.word_calls.specs.declared.pass.Pass.{Pass}
+use Rattle.word_calls.specs.declared.refusal.Refusal as calls
+use Rattle.word_calls.specs.declared.refusal.Refusal.TheVariants as whys
+use Rattle.word_calls.specs.Controls.{Leads}
+use Rattle.word_calls.specs.Claims.{Claimed, Fills, Justified}
+use Rattle.word_calls.specs.Offers.{Offered, Opened}
+use Rattle.word_calls.proofs.Alone as alone
+use Rattle.tail_claim.specs.Handles.{IsOf, LogValue, PublisherValue}
+use Rattle.one_hand.specs.Stream.{Aborts, Commits, with_claim, with_message}
+use Rattle.table_hand.specs.declared.held.Held.{Held}
+use Rattle.table_hand.specs.Shown.{IsWhole, said, stream_of}
+use Rattle.table_hand.specs.Hands.{AbortsClaim, Claims, ClaimsNone, CommitsClaim, IsFree, IsInHand, MayEnd, Offers, range, stream_in}
+use Rattle.table_hand.proofs.Said.{IsSmall}
+use Rattle.table_hand.proofs.Answered as answered
+use Rattle.table_hand.proofs.Ended as ended
+
+idle_after : (p q : Pass) (size : ℕ) (why : calls.Refusal) → Justified p size why q → p.right.armed ≡ 0 → q.right.armed ≡ 0
+idle_after p q size whys.NotConnected h e = h.idle e
+idle_after p q size whys.BackPressured h e = h.idle e
+idle_after p q size whys.AdminAction h e = h.idle e
+idle_after p q size whys.Closed h e = h.armed ∙ e
+idle_after p q size whys.MaxPositionExceeded h e = h.idle e
+
+module _ (l : LogValue) (p q : PublisherValue) (number : ℕ) (low : number < 8) (free : IsFree l p) (of : IsOf l q) (sure : q.sure ≡ 1) where
+  abbrev acting : Pass
+  acting = record p.pass { number = number }
+
+  in_hand : (held : List (Option Held)) → q.pass.right.armed ≡ 0 → IsWhole q.pass q.controls held → IsInHand l q held
+  in_hand held idle whole = record { free = record { of = of; sure = sure; idle = idle }; whole = whole }
+
+  module _ (leads : Leads p.controls q.pass.call q.controls) where
+    pub offers : (message : List ℕ) (end : ℕ) → IsSmall message → length message < 2147483648 → Offered acting message end q.pass → Offers l p number message (Ok end) q
+    offers message end small short h held hand =
+        let w = hand.whole in
+        let call : q.pass.call ≡ h.between.call = ap (λ (x : Pass). x.call) h.after in
+        let t = alone.accepted acting (length message) h.start (stream_in p held).tail p.controls.count h.between p.controls q.controls w.stream.geometry w.settled h.claimed (subst (λ xs. Leads p.controls xs q.controls) call leads) in
+        let r = answered.offered acting p.controls held w low message h.start end h.between q.pass q.controls small short t t.after h.after h.end_is in
+        record { answered = r.0; after = r.1.0; hand = in_hand held (ap (λ (x : Pass). x.right.armed) h.after ∙ h.claimed.idle) r.1.1 }
+
+    pub offers_none : (message : List ℕ) (why : calls.Refusal) → length message ≤ max_message p.pass.identity.geometry → Justified acting (length message) why q.pass → Offers l p number message (Err (said why)) q
+    offers_none message why short h held hand =
+        let w = hand.whole in
+        let t = alone.refused acting (length message) (stream_in p held).tail p.controls.count q.pass p.controls q.controls w.stream.geometry w.settled why short h leads in
+        let r = answered.refused acting p.controls held w low (length message) (with_message (stream_in p held) number message) q.pass q.controls why t in
+        record { answered = r.0; after = r.1.0; hand = in_hand held (idle_after acting q.pass (length message) why h free.idle) r.1.1 }
+
+    pub claims : (size start : ℕ) → size ≤ max_payload p.pass.identity.geometry → Opened acting size start q.pass → Claims l p number size start q
+    claims size start short h held hand =
+        let w = hand.whole in
+        let t = alone.accepted acting size start (stream_in p held).tail p.controls.count q.pass p.controls q.controls w.stream.geometry w.settled h.claimed leads in
+        let r = answered.opens acting p.controls held w low size start (range start size) q.pass q.controls short t h.one refl refl in
+        record { begins = r.1; answered = sym r.0; after = r.2.0; hand = in_hand (slice_set held number (Some (range start size))) h.claimed.idle r.2.1 }
+
+    pub claims_none : (size : ℕ) (why : calls.Refusal) → size ≤ max_message p.pass.identity.geometry → Justified acting size why q.pass → ClaimsNone l p number size (said why) q
+    claims_none size why short h held hand =
+        let w = hand.whole in
+        let t = alone.refused acting size (stream_in p held).tail p.controls.count q.pass p.controls q.controls w.stream.geometry w.settled why short h leads in
+        let r = answered.refused acting p.controls held w low size (with_claim (stream_in p held) number size) q.pass q.controls why t in
+        record { answered = sym r.0; after = r.1.0; hand = in_hand held (idle_after acting q.pass size why h free.idle) r.1.1 }
+
+  -- no step on a control word
+  module _ (leads : Leads p.controls [] q.controls) where
+    pub commits : (h : Held) (payload : List ℕ) (end : ℕ) → IsSmall payload → length payload ≡ h.size → Fills acting h.start (Data 192 payload) q.pass → end ≡ h.start + aligned (32 + length payload) → CommitsClaim l p number h payload end q
+    commits h payload end small size fills ends held hand holds =
+        let r = ended.committed acting p.controls held hand.whole low h holds payload q.pass end small size fills ends in
+        record {
+          ends = subst (λ c. Commits (stream_in p held) number payload end (stream_of q.pass c (slice_set held number None))) (sym leads) r.0;
+          hand = in_hand (slice_set held number None) (r.2 ∙ free.idle) (subst (λ c. IsWhole q.pass c (slice_set held number None)) (sym leads) r.1);
+        }
+
+    pub aborts : (h : Held) (end : ℕ) → Fills acting h.start (Pad (32 + h.size)) q.pass → end ≡ h.start + aligned (32 + h.size) → AbortsClaim l p number h end q
+    aborts h end fills ends held hand holds =
+        let r = ended.aborted acting p.controls held hand.whole low h holds q.pass end fills ends in
+        record {
+          ends = subst (λ c. Aborts (stream_in p held) number end (stream_of q.pass c (slice_set held number None))) (sym leads) r.0;
+          hand = in_hand (slice_set held number None) (r.2 ∙ free.idle) (subst (λ c. IsWhole q.pass c (slice_set held number None)) (sym leads) r.1);
+        }

@@ -1,0 +1,95 @@
+//! The calls of one publisher after another, by the pass that has all of them.
+
+ghost use Rattle.std.specs.Prelude.{◌≡◌, ◌+◌, ◌<◌, ◌≤◌, IfOk, IfErr, length};
+ghost use Rattle.theory.specs.Position.{max_message, max_payload};
+ghost use Rattle.table_hand.specs.Hands.{AbortsClaim, Claims, ClaimsNone, CommitsClaim, IsFree, MayEnd, Offers};
+ghost use Rattle.table_hand.specs.Shown.{said as said_by};
+
+use crate::held::Held;
+use publication::Refusal;
+use tail_claim::{OnTable, Publisher, TableLog};
+
+/// A refusal, in the words of the log's publishers.
+fn said(refusal: word_calls::Refusal) -> Refusal
+    ensures { result ≡ said_by refusal }
+{
+    match refusal {
+        word_calls::Refusal::NotConnected => Refusal::NotConnected,
+        word_calls::Refusal::BackPressured => Refusal::BackPressured,
+        word_calls::Refusal::AdminAction => Refusal::AdminAction,
+        word_calls::Refusal::Closed => Refusal::Closed,
+        word_calls::Refusal::MaxPositionExceeded => Refusal::MaxPositionExceeded,
+    }
+}
+
+/// Offers a message as the publisher of a number.
+pub(crate) fn offer_as(
+    log: &TableLog,
+    all: &mut Publisher,
+    number: u64,
+    message: &[u8],
+) -> Result<u64, Refusal>
+    requires free { IsFree log.now all.old }
+    requires number { number < 8 }
+    requires short { length message.now ≤ max_message log.now.identity.geometry }
+    ensures { Offers log.now all.old number message.now result all.new }
+{
+    log.renumber(all, number);
+    let mut words = OnTable { log };
+    match word_calls::offer(&mut words, all, message) {
+        Ok(end) => Ok(end),
+        Err(refusal) => Err(said(refusal)),
+    }
+}
+
+/// Claims a range for a message of `size` bytes as the publisher of a number. The answer is where the range begins.
+pub(crate) fn claim_as(
+    log: &TableLog,
+    all: &mut Publisher,
+    number: u64,
+    size: u32,
+) -> Result<u64, Refusal>
+    requires free { IsFree log.now all.old }
+    requires number { number < 8 }
+    requires short { size ≤ max_payload log.now.identity.geometry }
+    ensures accepted { IfOk result (λ start. Claims log.now all.old number size start all.new) }
+    ensures refused { IfErr result (λ why. ClaimsNone log.now all.old number size why all.new) }
+{
+    log.renumber(all, number);
+    let mut words = OnTable { log };
+    match word_calls::try_claim(&mut words, all, size) {
+        Ok(start) => Ok(start),
+        Err(refusal) => Err(said(refusal)),
+    }
+}
+
+/// Commits an open claim as the publisher of a number. The answer is the position behind it.
+pub(crate) fn commit_as(
+    log: &TableLog,
+    all: &mut Publisher,
+    number: u64,
+    held: Held,
+    payload: &[u8],
+) -> u64
+    requires free { IsFree log.now all.old }
+    requires number { number < 8 }
+    requires size { length payload.now ≡ held.size }
+    requires may { MayEnd all.old.pass held (32 + held.size) }
+    ensures { CommitsClaim log.now all.old number held payload.now result all.new }
+{
+    log.renumber(all, number);
+    let mut words = OnTable { log };
+    word_calls::commit(&mut words, all, held.start, payload)
+}
+
+/// Makes an open claim a padding, as the publisher of a number. The answer is the position behind it.
+pub(crate) fn abort_as(log: &TableLog, all: &mut Publisher, number: u64, held: Held) -> u64
+    requires free { IsFree log.now all.old }
+    requires number { number < 8 }
+    requires may { MayEnd all.old.pass held (32 + held.size) }
+    ensures { AbortsClaim log.now all.old number held result all.new }
+{
+    log.renumber(all, number);
+    let mut words = OnTable { log };
+    word_calls::abort(&mut words, all, held.start, held.size)
+}
