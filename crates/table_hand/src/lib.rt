@@ -3,5 +3,7 @@
 
 mod acting;
 mod held;
+mod table_hand;
 
 pub use held::Held;
+pub use table_hand::TableHand;
