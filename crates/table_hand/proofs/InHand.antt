@@ -1,6 +1,6 @@
 -- What the calls of the pass that has all publishers come to in one hand.
-use Rattle.std.proofs.Common.{◌≡◌, ◌∙◌, ℕ, ◌+◌, ◌-◌, ◌*◌, ◌<◌, ◌≤◌, List, [], ◌∷◌, ◌++◌, length, get_or, Some, None, sym, refl, ap, subst, arith}
-use Rattle.std.specs.Prelude.{Option, Result, Ok, Err, slice_get, slice_set}
+use Rattle.std.proofs.Common.{◌≡◌, ◌∙◌, ℕ, zero, suc, ◌+◌, ◌-◌, ◌*◌, ◌<◌, ◌≤◌, List, [], ◌∷◌, ◌++◌, length, get_or, Some, None, sym, refl, ap, subst, arith}
+use Rattle.std.specs.Prelude.{Option, Result, Ok, Err, slice_get, slice_index_or, slice_set}
 use Rattle.theory.specs.Position.{IsGeometry, aligned, framed_length, max_message, max_payload}
 use Rattle.theory.specs.Placed.{Data, Frame, Pad, frame_length}
 use Rattle.publication.specs.declared.refusal.Refusal.{Refusal}
@@ -154,3 +154,17 @@ module _ (l m : LogValue) (p r q : PublisherValue) (number : ℕ) (low : number 
 
   pub abort_ok : (stored : ℕ) (noted : List WordStep) → Took r noted stored q → q.pass.call ≡ r.pass.call ++ noted → (h : Held) (end : ℕ) → MayEnd p.pass h (32 + h.size) → Fills r.pass h.start (Pad (32 + h.size)) q.pass → end ≡ h.start + aligned (32 + h.size) → AbortsClaim l p number h end q
   abort_ok stored noted took call h end may fills ends = aborts l p q number low free of_log (sure_is noted stored took) (stays stored noted took call h (Pad (32 + h.size)) refl fills may) h end (filled_as stored noted took call h (Pad (32 + h.size)) refl fills may) ends
+
+-- ---- a claim that a publisher holds
+
+pub held_at : (held : List (Option Held)) (by : ℕ) (h : Held) → slice_index_or held by None ≡ Some h → slice_get held by ≡ Some (Some h)
+held_at [] by h e = absurd (cc)
+held_at (x ∷ xs) zero h e = ap (λ y. Some y) e
+held_at (x ∷ xs) (suc by) h e = held_at xs by h e
+
+pub may_end : (l : LogValue) (p : PublisherValue) (held : List (Option Held)) (number : ℕ) (h : Held) → number < 8 → IsInHand l p held → slice_get held number ≡ Some (Some h) → MayEnd p.pass h (32 + h.size)
+may_end l p held number h low hand holds = let v : Pass = record p.pass { number = number } in let b = ended.has_blank v p.controls held hand.whole low h holds in record {
+  blank = record { front = b.front; behind = b.behind; parts = b.parts };
+  in_stream = ended.in_stream v p.controls held hand.whole low h holds;
+  short = ended.short v p.controls held hand.whole low h holds;
+}

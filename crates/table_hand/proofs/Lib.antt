@@ -6,3 +6,4 @@ pub mod Handed
 pub mod Answered
 pub mod Ended
 pub mod InHand
+pub mod Opened

@@ -65,7 +65,9 @@ impl Claims for TableHand {
         self.log.identity().geometry()
     }
 
-    fn is_whole(&self) {}
+    fn is_whole(&self) {
+        let _ = self.all.number();
+    }
 
     fn claimed(&self, publisher: usize) -> Option<u32> {
         match self.held[publisher] {
