@@ -1,0 +1,15 @@
+//! Tests of a log on a table that threads share.
+#![tactic(auto)]
+
+#[cfg(test)]
+mod closing;
+#[cfg(test)]
+mod crowd;
+#[cfg(test)]
+mod draws;
+#[cfg(test)]
+mod publishing;
+#[cfg(test)]
+mod rows;
+#[cfg(test)]
+mod walk;
