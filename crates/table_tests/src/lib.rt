@@ -2,11 +2,7 @@
 #![tactic(auto)]
 
 #[cfg(test)]
-mod closing;
-#[cfg(test)]
 mod crowd;
-#[cfg(test)]
-mod draws;
 #[cfg(test)]
 mod publishing;
 #[cfg(test)]

@@ -1,58 +1,84 @@
-//! Publishers that draw what they publish.
+//! A publisher that draws what it publishes.
 
-ghost use Rattle.std.specs.Prelude.{◌≡◌, ◌≤◌, length};
+ghost use Rattle.std.specs.Prelude.{◌≡◌, ◌≤◌, ◌<◌, length};
 ghost use Rattle.theory.specs.Position.{max_message, max_payload};
 ghost use Rattle.tail_claim.specs.Handles.{IsOf};
 ghost use Rattle.table_tests.specs.Stays.{Stays};
 
-use crate::draws::{LONGEST, Task, Way, draw_task, fill};
 use position::Geometry;
+use rand_core::utils::NextWord;
 use rand_pcg::Pcg32;
+use std::alloc::Global;
 use std::process::Abort;
 use std::thread;
 use tail_claim::{OnTable, Publisher, TableLog};
 use word_calls::{Refusal, abort, commit, offer, try_claim};
 
+/// The greatest length of a message that is drawn.
+pub(crate) const LONGEST: usize = 5504;
+
 /// How often a publisher tries, at the most.
 const TRIES: usize = 10_000;
 
-/// A range of the stream that a publisher claimed, and what it put there.
-#[derive(Clone, Copy, Debug, PartialEq, Eq, PartialOrd, Ord)]
+/// A range of the stream that a publisher claimed, and what it put there: a padding, or a message whose bytes are drawn.
+#[derive(Clone, Copy)]
 pub(crate) struct Claimed {
     pub(crate) start: u64,
     pub(crate) end: u64,
-    pub(crate) size: u32,
+    pub(crate) size: usize,
     pub(crate) key: u32,
     pub(crate) aborted: bool,
 }
 
-/// A publisher, what it draws by, what it claimed, and why it stopped.
-#[derive(Drop)]
-pub(crate) struct Worker {
-    pub(crate) publisher: Publisher,
-    pub(crate) draws: Pcg32,
-    pub(crate) claims: Vec<Claimed>,
-    pub(crate) stopped: Option<Refusal>,
+/// A number below a bound.
+pub(crate) fn below(draws: &mut Pcg32, bound: u32) -> u32
+    requires { 0 < bound }
+    ensures { result < bound }
+{
+    draws.next_word() % bound
 }
 
-/// Claims a range for a message, and then fills or aborts it.
+/// A length, from 0 to several frames. Most are short, and some fill their frames.
+fn draw_size(draws: &mut Pcg32, geometry: &Geometry) -> usize
+    ensures short { result ≤ 5504 }
+    ensures fits { result ≤ max_message geometry.now }
+{
+    let most = geometry.max_payload();
+    let size = match below(draws, 16) {
+        0 => below(draws, 5) * most,
+        1 => below(draws, 4 * most + 1),
+        2..=4 => below(draws, most + 1),
+        _ => below(draws, 128),
+    };
+    LONGEST.min(size.min(geometry.max_message()) as usize)
+}
+
+/// Draws the bytes of a message.
+pub(crate) fn fill(message: &mut [u8], key: u32) {
+    let mut draws = Pcg32::new(u64::from(key), 0);
+    for byte in message.iter_mut() {
+        *byte = (draws.next_word() >> 24) as u8;
+    }
+}
+
+/// Claims a range for a message, and fills or aborts it.
 fn publish_claim(
     log: &TableLog,
     publisher: &mut Publisher,
     message: &[u8],
-    commits: bool,
+    aborts: bool,
 ) -> Result<u64, Refusal>
     requires fits { IsOf log.now publisher.old }
     requires short { length message.now ≤ max_payload log.now.identity.geometry }
-    ensures { Stays log.now publisher.old publisher.new }
+    ensures { IsOf log.now publisher.new }
 {
     let mut words = OnTable { log };
     let size = message.len() as u32;
     let start = try_claim(&mut words, publisher, size)?;
-    if commits {
-        return Ok(commit(&mut words, publisher, start, message));
+    if aborts {
+        return Ok(abort(&mut words, publisher, start, size));
     }
-    Ok(abort(&mut words, publisher, start, size))
+    Ok(commit(&mut words, publisher, start, message))
 }
 
 /// Offers a message.
@@ -68,72 +94,61 @@ pub(crate) fn publish_offer(
     offer(&mut OnTable { log }, publisher, message)
 }
 
-/// Publishes a message. The answer is whether its range was aborted, and the position behind it.
-fn publish(
+/// Draws a message and publishes it, by an offer or by a claim.
+fn publish_next(
     log: &TableLog,
     publisher: &mut Publisher,
-    message: &[u8],
-    way: Way,
-) -> (bool, Result<u64, Refusal>)
-    requires fits { IsOf log.now publisher.old }
-    requires short { length message.now ≤ max_message log.now.identity.geometry }
-    ensures { Stays log.now publisher.old publisher.new }
-{
-    let whole = message.len() <= log.identity().geometry().max_payload() as usize;
-    match way {
-        Way::Commit if whole => (false, publish_claim(log, publisher, message, true)),
-        Way::Abort if whole => (true, publish_claim(log, publisher, message, false)),
-        _ => (false, publish_offer(log, publisher, message)),
-    }
-}
-
-/// Draws a message, publishes it and notes the answer.
-fn publish_next<R: Abort>(rt: &R, log: &TableLog, worker: &mut Worker)
-    requires { IsOf log.now worker.old.publisher }
-    ensures { Stays log.now worker.old.publisher worker.new.publisher }
+    draws: &mut Pcg32,
+) -> Result<Claimed, Refusal>
+    requires { IsOf log.now publisher.old }
+    ensures { IsOf log.now publisher.new }
 {
     let geometry = log.identity().geometry();
-    let task = draw_task(&mut worker.draws, &geometry);
-    let mut buffer = [0; LONGEST as usize];
-    let message = &mut buffer[..task.size as usize];
-    fill(message, task.key);
-    let (aborted, answer) = publish(log, &mut worker.publisher, message, task.way);
-    match answer {
-        Ok(end) => {
-            let claimed = claimed_by(&geometry, task, aborted, end);
-            worker.claims.push(claimed).expect(rt, "memory");
-        }
-        Err(Refusal::AdminAction) => {}
-        Err(refusal) => worker.stopped = Some(refusal),
-    }
-    if task.yields {
-        thread::yield_now();
-    }
-}
-
-/// The range behind which a task's answer stands.
-fn claimed_by(geometry: &Geometry, task: Task, aborted: bool, end: u64) -> Claimed
-    requires { task.size ≤ max_message geometry.now }
-{
-    let covered = geometry.framed_length(task.size);
-    Claimed {
-        start: end.wrapping_sub(u64::from(covered)),
+    let size = draw_size(draws, &geometry);
+    let covered = u64::from(geometry.framed_length(size as u32));
+    let key = draws.next_word();
+    let way = below(draws, 6);
+    let claims = way < 2 && size <= geometry.max_payload() as usize;
+    let aborted = claims && way == 0;
+    let mut buffer = [0; LONGEST];
+    let message = &mut buffer[..size];
+    fill(message, key);
+    let end = if claims {
+        publish_claim(log, publisher, message, aborted)?
+    } else {
+        publish_offer(log, publisher, message)?
+    };
+    Ok(Claimed {
+        start: end.wrapping_sub(covered),
         end,
-        size: task.size,
-        key: task.key,
+        size,
+        key,
         aborted,
-    }
+    })
 }
 
 /// Publishes until the log refuses for good, as far as its tries go.
-pub(crate) fn publish_all<R: Abort>(rt: &R, log: &TableLog, worker: &mut Worker)
-    requires { IsOf log.now worker.old.publisher }
-    ensures { Stays log.now worker.old.publisher worker.new.publisher }
+pub(crate) fn publish_all<R: Abort>(
+    rt: &R,
+    alloc: Global,
+    log: &TableLog,
+    mut publisher: Publisher,
+    seed: u64,
+) -> Vec<Claimed>
+    requires { IsOf log.now publisher }
 {
+    let mut draws = Pcg32::new(seed, publisher.number());
+    let mut claims = Vec::new(alloc);
     for _ in 0..TRIES {
-        if worker.stopped.is_some() {
-            break;
+        match publish_next(log, &mut publisher, &mut draws) {
+            Ok(claimed) => claims.push(claimed).expect(rt, "memory"),
+            Err(Refusal::AdminAction) => {}
+            Err(Refusal::BackPressured | Refusal::MaxPositionExceeded) => break,
+            Err(refusal) => panic!(rt; "refused with {refusal}"),
         }
-        publish_next(rt, log, worker);
+        if below(&mut draws, 4) == 0 {
+            thread::yield_now();
+        }
     }
+    claims
 }

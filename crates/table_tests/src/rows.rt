@@ -1,29 +1,26 @@
-//! One publisher, step by step.
+//! One publisher, step by step; logs that aren't opened, and one that is closed.
 
-ghost use Rattle.std.specs.Prelude.{◌≤◌, length};
-ghost use Rattle.theory.specs.Position.{max_message};
-ghost use Rattle.tail_claim.specs.Handles.{AreNew, IsOf};
+ghost use Rattle.std.specs.Prelude.{◌≡◌};
+ghost use Rattle.std.specs.List.{AllByRecursion};
+ghost use Rattle.tail_claim.specs.Handles.{AreNew, IsIdle, IsOf, parts_in};
+ghost use Rattle.tail_claim.specs.Sums.{total};
 
 use crate::publishing::publish_offer;
 use crate::walk::{Terms, shown};
-use position::{Geometry, GeometryError};
+use position::Geometry;
 use std::alloc::Global;
 use std::process::Abort;
 use std::test::*;
 use tail_claim::{OpenError, Publisher, TableLog};
-use word_calls::Refusal;
+use word_calls::Refusal::{self, AdminAction, BackPressured, MaxPositionExceeded};
 
-/// The lengths of messages that are offered in turn, and what each offer is answered.
-type Offers = &'static [(usize, Result<u64, Refusal>)];
-
-/// A log that begins at a position, offers, and what stands in the log then.
+/// A log that begins at a position, the lengths of the messages that are offered with the answers, and what stands in
+/// the log then: the end of the stream, the active count and the three raw tails, and bytes from a position on.
 struct Row {
     start: u64,
-    offers: Offers,
+    offers: &'static [(usize, Result<u64, Refusal>)],
     tail: u64,
-    /// The active count, and the raw tails of the three partitions.
     words: [u64; 4],
-    /// Bytes of the stream from a position on.
     stream: &'static [(u64, &'static str)],
 }
 
@@ -33,67 +30,75 @@ const ROWS: [Row; 7] = [
         start: 0,
         offers: &[(3, Ok(64))],
         tail: 64,
-        words: [0, 0x0000_0007_0000_0040, 0x0000_0005_0000_0000, 0x0000_0006_0000_0000],
-        stream: &[(
-            0,
-            "2300000000c001000000000001000000e9030000070000000000000000000000\
-             6162630000000000000000000000000000000000000000000000000000000000",
-        )],
+        words: [0, 0x7_0000_0040, 0x5_0000_0000, 0x6_0000_0000],
+        stream: &[
+            (
+                0,
+                "2300000000c001000000000001000000e9030000070000000000000000000000",
+            ),
+            (
+                32,
+                "6162630000000000000000000000000000000000000000000000000000000000",
+            ),
+        ],
     },
     // No bytes.
     Row {
         start: 0,
         offers: &[(0, Ok(32))],
         tail: 32,
-        words: [0, 0x0000_0007_0000_0020, 0x0000_0005_0000_0000, 0x0000_0006_0000_0000],
-        stream: &[(0, "2000000000c001000000000001000000e9030000070000000000000000000000")],
+        words: [0, 0x7_0000_0020, 0x5_0000_0000, 0x6_0000_0000],
+        stream: &[(0, "2000000000c001000000000001000000e903000007")],
     },
     // Three frames.
     Row {
         start: 0,
         offers: &[(3000, Ok(3104))],
         tail: 3104,
-        words: [0, 0x0000_0007_0000_0c20, 0x0000_0005_0000_0000, 0x0000_0006_0000_0000],
+        words: [0, 0x7_0000_0c20, 0x5_0000_0000, 0x6_0000_0000],
         stream: &[
-            (0, "80050000008001000000000001000000e9030000070000000000000000000000"),
-            (1408, "80050000000001008005000001000000e9030000070000000000000000000000"),
-            (2816, "1801000000400100000b000001000000e9030000070000000000000000000000"),
+            (0, "80050000008001000000000001000000e903000007"),
+            (1408, "80050000000001008005000001000000e903000007"),
+            (2816, "1801000000400100000b000001000000e903000007"),
         ],
     },
     // The greatest message, which ends with its term, and a message behind it.
     Row {
         start: 57_152,
-        offers: &[(8192, Ok(65_536)), (3, Err(Refusal::AdminAction)), (3, Ok(65_600))],
+        offers: &[(8192, Ok(65_536)), (3, Err(AdminAction)), (3, Ok(65_600))],
         tail: 65_600,
-        words: [1, 0x0000_0007_0001_0000, 0x0000_0008_0000_0040, 0x0000_0006_0000_0000],
+        words: [1, 0x7_0001_0000, 0x8_0000_0040, 0x6_0000_0000],
         stream: &[
-            (57_152, "800500000080010040df000001000000e9030000070000000000000000000000"),
-            (65_536, "2300000000c001000000000001000000e9030000080000000000000000000000"),
+            (57_152, "800500000080010040df000001000000e903000007"),
+            (65_536, "2300000000c001000000000001000000e903000008"),
         ],
     },
     // The greatest message, which doesn't fit its term.
     Row {
         start: 57_184,
-        offers: &[(8192, Err(Refusal::AdminAction))],
+        offers: &[(8192, Err(AdminAction))],
         tail: 65_536,
-        words: [1, 0x0000_0007_0001_0020, 0x0000_0008_0000_0000, 0x0000_0006_0000_0000],
-        stream: &[(57_184, "a020000000c0000060df000001000000e9030000070000000000000000000000")],
+        words: [1, 0x7_0001_0020, 0x8_0000_0000, 0x6_0000_0000],
+        stream: &[(
+            57_184,
+            "a020000000c0000060df000001000000e9030000070000000000000000000000",
+        )],
     },
     // The same, offered again.
     Row {
         start: 57_184,
-        offers: &[(8192, Err(Refusal::AdminAction)), (8192, Ok(73_920))],
+        offers: &[(8192, Err(AdminAction)), (8192, Ok(73_920))],
         tail: 73_920,
-        words: [1, 0x0000_0007_0001_0020, 0x0000_0008_0000_20c0, 0x0000_0006_0000_0000],
-        stream: &[(57_184, "a020000000c0000060df000001000000e9030000070000000000000000000000")],
+        words: [1, 0x7_0001_0020, 0x8_0000_20c0, 0x6_0000_0000],
+        stream: &[(65_536, "80050000008001000000000001000000e903000008")],
     },
     // The end of the last term.
     Row {
         start: 140_737_488_355_264,
         offers: &[
-            (33, Err(Refusal::MaxPositionExceeded)),
-            (33, Err(Refusal::MaxPositionExceeded)),
-            (0, Err(Refusal::MaxPositionExceeded)),
+            (33, Err(MaxPositionExceeded)),
+            (33, Err(MaxPositionExceeded)),
+            (0, Err(MaxPositionExceeded)),
         ],
         tail: 140_737_488_355_328,
         words: [
@@ -124,11 +129,22 @@ fn offer_letters(log: &TableLog, publisher: &mut Publisher, size: usize) -> Resu
     ensures { IsOf log.now publisher.new }
 {
     let most = log.identity().geometry().max_message() as usize;
-    let mut buffer = [b'a'; 8192];
+    let mut buffer = [0; 8192];
     for (index, byte) in buffer.iter_mut().enumerate() {
-        *byte += (index % 26) as u8;
+        *byte = b'a' + (index % 26) as u8;
     }
     publish_offer(log, publisher, &buffer[..size.min(most).min(8192)])
+}
+
+/// Offers a row's messages, and looks at the answers.
+fn offer_row<R: Abort>(rt: &R, log: &TableLog, publisher: &mut Publisher, row: &Row)
+    requires { IsOf log.now publisher.old }
+{
+    let start = row.start;
+    for (size, answer) in row.offers {
+        let found = offer_letters(log, publisher, *size);
+        assert_eq!(rt; found, *answer, "{size} bytes, from {start}");
+    }
 }
 
 /// The active count, and the raw tails of the three partitions.
@@ -142,29 +158,7 @@ fn count_and_tails(log: &TableLog) -> [u64; 4] {
     ]
 }
 
-/// Offers a row's messages, and looks at the answers.
-fn offer_row<R: Abort>(rt: &R, log: &TableLog, publisher: &mut Publisher, row: &Row)
-    requires { IsOf log.now publisher.old }
-    ensures { IsOf log.now publisher.new }
-{
-    let start = row.start;
-    for (size, answer) in row.offers {
-        let found = offer_letters(log, publisher, *size);
-        assert_eq!(rt; found, *answer, "{size} bytes, from {start}");
-    }
-}
-
-/// Looks at bytes of the stream.
-fn check_stream<R: Abort>(rt: &R, alloc: Global, terms: &Terms, row: &Row) -> Result<(), Fail> {
-    for (position, digits) in row.stream {
-        let bytes = terms.bytes_from(*position);
-        let found = hex::encode(alloc, bytes.get(..digits.len() / 2).unwrap_or(&[]))?;
-        assert_eq!(rt; found.as_str(), *digits, "at {position}");
-    }
-    Ok(())
-}
-
-/// Opens a log at a row's start, offers its messages, and looks at what stands there then.
+/// Plays a row, and looks at what stands in the log then.
 fn play<R: Abort>(rt: &R, alloc: Global, row: &Row) -> Result<(), Fail> {
     let geometry = Geometry::new(65_536, 1408, 7)?;
     let start = row.start;
@@ -174,18 +168,23 @@ fn play<R: Abort>(rt: &R, alloc: Global, row: &Row) -> Result<(), Fail> {
     assert_eq!(rt; shown(&log), row.tail, "from {start}");
     assert_eq!(rt; count_and_tails(&log), row.words, "from {start}");
     let terms = Terms::of(alloc, &log)?;
-    check_stream(rt, alloc, &terms, row)
+    for (position, digits) in row.stream {
+        let bytes = terms.bytes_from(*position);
+        let found = hex::encode(alloc, bytes.get(..digits.len() / 2).unwrap_or(&[]))?;
+        assert_eq!(rt; found.as_str(), *digits, "at {position}");
+    }
+    Ok(())
 }
 
 #[test]
-fn worked_rows(rt: HostRuntime) -> Result<(), Fail> {
+fn rows(rt: HostRuntime) -> Result<(), Fail> {
     for row in &ROWS {
         play(&rt, rt.alloc(), row)?;
     }
     Ok(())
 }
 
-/// Messages up to the limit, and one that passes it.
+/// Messages up to the limit and over it, and one behind it.
 #[test]
 fn limit(rt: HostRuntime) -> Result<(), Fail> {
     let geometry = Geometry::new(65_536, 1408, 7)?;
@@ -196,13 +195,11 @@ fn limit(rt: HostRuntime) -> Result<(), Fail> {
     }
     assert_eq!(rt; offer_letters(&log, &mut publisher, 320), Ok(32_736));
     assert_eq!(rt; offer_letters(&log, &mut publisher, 100), Ok(32_896));
-    assert_eq!(rt; offer_letters(&log, &mut publisher, 100), Err(Refusal::BackPressured));
+    assert_eq!(rt;
+        offer_letters(&log, &mut publisher, 100),
+        Err(BackPressured)
+    );
     Ok(())
-}
-
-/// Why a log isn't opened at a start.
-fn fault(alloc: Global, geometry: Geometry, start: u64) -> Option<OpenError> {
-    TableLog::open(alloc, geometry, 1, 1001, start).err()
 }
 
 #[test]
@@ -211,14 +208,60 @@ fn refuses_starts(rt: HostRuntime) -> Result<(), Fail> {
     for (start, want) in [
         (0, None),
         (8, Some(OpenError::Start)),
-        (65_520, Some(OpenError::Start)),
         (140_737_488_355_296, None),
         (140_737_488_355_328, Some(OpenError::Start)),
-        (18_446_744_073_709_551_584, Some(OpenError::Start)),
     ] {
-        assert_eq!(rt; fault(rt.alloc(), geometry, start), want, "at {start}");
+        let fault = TableLog::open(rt.alloc(), geometry, 1, 1001, start).err();
+        assert_eq!(rt; fault, want, "at {start}");
     }
-    assert_eq!(rt; [OpenError::Start.code(), OpenError::Memory.code()], ["L1", "L3"]);
+    assert_eq!(rt;
+        [OpenError::Start.code(), OpenError::Memory.code()],
+        ["L1", "L3"]
+    );
+    Ok(())
+}
+
+/// A publisher that has offered a message.
+fn offered(log: &TableLog, mut publisher: Publisher) -> Publisher
+    requires { IsIdle log.now publisher }
+    ensures idle { IsIdle log.now result }
+    ensures parts { parts_in result ≡ parts_in publisher }
+{
+    let _ = publish_offer(log, &mut publisher, b"hello");
+    publisher
+}
+
+/// All publishers, each of which has offered a message.
+fn all_offered(log: &TableLog, publishers: [Publisher; 8]) -> [Publisher; 8]
+    requires { AreNew log.now 0 publishers }
+    ensures idle { AllByRecursion (IsIdle log.now) result }
+    ensures whole { total parts_in result ≡ 1024 }
+{
+    let [zero, one, two, three, four, five, six, seven] = publishers;
+    [
+        offered(log, zero),
+        offered(log, one),
+        offered(log, two),
+        offered(log, three),
+        offered(log, four),
+        offered(log, five),
+        offered(log, six),
+        offered(log, seven),
+    ]
+}
+
+/// A log that has turned to its second term is closed.
+#[test]
+fn closes(rt: HostRuntime) -> Result<(), Fail> {
+    let geometry = Geometry::new(65_536, 1408, 7)?;
+    let (log, publishers) = TableLog::open(rt.alloc(), geometry, 1, 1001, 65_408)?;
+    let publishers = all_offered(&log, publishers);
+    let tail = shown(&log);
+    let closed = log.close(publishers);
+    let identity = closed.identity();
+    assert_eq!(rt; [closed.start(), tail], [65_408, 65_856]);
+    assert_eq!(rt; identity.geometry(), geometry);
+    assert_eq!(rt; [identity.session(), identity.stream()], [1, 1001]);
     Ok(())
 }
 
@@ -226,10 +269,10 @@ fn refuses_starts(rt: HostRuntime) -> Result<(), Fail> {
 fn codes(rt: HostRuntime) {
     for (refusal, code) in [
         (Refusal::NotConnected, -1),
-        (Refusal::BackPressured, -2),
-        (Refusal::AdminAction, -3),
+        (BackPressured, -2),
+        (AdminAction, -3),
         (Refusal::Closed, -4),
-        (Refusal::MaxPositionExceeded, -5),
+        (MaxPositionExceeded, -5),
     ] {
         assert_eq!(rt; refusal.code(), code);
     }

@@ -1,14 +1,15 @@
 //! The words of a log, as frames.
 
-use crate::draws::{LONGEST, fill};
-use crate::publishing::Claimed;
+ghost use Rattle.std.specs.Prelude.{◌<◌};
+
+use crate::publishing::{Claimed, LONGEST, fill};
 use frames::{Frame, Header, read_frame};
 use position::{BEGIN, END, UNFRAGMENTED};
 use std::alloc::{AllocError, Global};
 use tail_claim::TableLog;
 use word_calls::Identity;
 
-/// The most frames of half a term and what is claimed past it.
+/// More frames than a log has between its start and its limit.
 const FRAMES: usize = 4096;
 
 /// The bytes of a log's three terms.
@@ -16,11 +17,6 @@ const FRAMES: usize = 4096;
 pub(crate) struct Terms {
     identity: Identity,
     bytes: Vec<u8>,
-}
-
-/// Whether all bytes are zero.
-fn is_zero(bytes: &[u8]) -> bool {
-    bytes.iter().all(|byte| *byte == 0)
 }
 
 /// The greatest position that the raw tails show.
@@ -38,60 +34,49 @@ pub(crate) fn shown(log: &TableLog) -> u64 {
     greatest.cast_unsigned()
 }
 
-/// What a frame of a message that has it at its front or end is flagged.
-fn flags_of(first: bool, last: bool) -> u8 {
-    match (first, last) {
-        (true, true) => UNFRAGMENTED,
-        (true, false) => BEGIN,
-        (false, true) => END,
-        (false, false) => 0,
-    }
+fn is_zero(bytes: &[u8]) -> bool {
+    bytes.iter().all(|byte| *byte == 0)
 }
 
 impl Terms {
     pub(crate) fn of(alloc: Global, log: &TableLog) -> Result<Terms, AllocError> {
         let identity = log.identity();
-        let words = 3 * (identity.geometry().term_length() as usize / 8);
-        let mut bytes = Vec::with_capacity(alloc, 8 * words)?;
-        for index in 0..words {
+        let mut bytes = Vec::new(alloc);
+        for index in 0..3 * (identity.geometry().term_length() as usize / 8) {
             bytes.extend_from_slice(&log.peek(index).to_le_bytes())?;
         }
         Ok(Terms { identity, bytes })
     }
 
     fn term(&self) -> u64
-        ensures { 0 < result }
+        ensures some { 0 < result }
+        ensures small { result < 2 ^ 32 }
     {
         u64::from(self.identity.geometry().term_length())
     }
 
     /// The bytes from a position to its term's end.
     pub(crate) fn bytes_from(&self, position: u64) -> &[u8] {
-        let term = self.term();
-        let from = position % (3 * term);
-        let to = from / term * term + term;
+        let from = position % (3 * self.term());
+        let to = from / self.term() * self.term() + self.term();
         self.bytes.get(from as usize..to as usize).unwrap_or(&[])
     }
 
     /// The header of a frame at a position.
     fn header(&self, position: u64) -> Header {
-        let term = self.term();
         let first = self.identity.geometry().initial_term_id();
         Header {
-            term_offset: (position % term) as u32,
+            term_offset: (position % self.term()) as u32,
             session: self.identity.session(),
             stream: self.identity.stream(),
-            term_id: first.wrapping_add((position / term % (1 << 31)) as i32),
+            term_id: first.wrapping_add((position / self.term() % (1 << 31)) as i32),
             reserved: 0,
         }
     }
 
-    /// Whether a frame stands at a position.
+    /// Whether a frame stands at a position, and its alignment bytes are zero.
     fn has_frame(&self, position: u64, frame: Frame<'_>) -> bool {
-        match read_frame(self.bytes_from(position)) {
-            Ok((found, _)) => found == frame,
-            Err(_) => false,
-        }
+        matches!(read_frame(self.bytes_from(position)), Ok((found, _)) if found == frame)
     }
 
     /// Whether a padding stands at a position, with nothing inside.
@@ -99,8 +84,11 @@ impl Terms {
         let header = self.header(position);
         let covered = u64::from(frame_length).div_ceil(32) * 32;
         let inside = self.bytes_from(position).get(32..covered as usize);
-        self.has_frame(position, Frame::Pad { header, frame_length })
-            && inside.is_some_and(is_zero)
+        let padding = Frame::Pad {
+            header,
+            frame_length,
+        };
+        self.has_frame(position, padding) && inside.is_some_and(|bytes| is_zero(bytes))
     }
 
     /// Whether a message's frames stand from a position to another.
@@ -112,8 +100,18 @@ impl Terms {
         for index in 0..=last {
             let (payload, behind) = rest.split_at(rest.len().min(most));
             let header = self.header(position);
-            let flags = flags_of(index == 0, index == last);
-            if !self.has_frame(position, Frame::Data { header, flags, payload }) {
+            let flags = match (index == 0, index == last) {
+                (true, true) => UNFRAGMENTED,
+                (true, false) => BEGIN,
+                (false, true) => END,
+                (false, false) => 0,
+            };
+            let frame = Frame::Data {
+                header,
+                flags,
+                payload,
+            };
+            if !self.has_frame(position, frame) {
                 return false;
             }
             position = position.wrapping_add((payload.len() as u64 + 32).div_ceil(32) * 32);
@@ -122,14 +120,14 @@ impl Terms {
         position == end
     }
 
-    /// Whether what was claimed stands where it should.
+    /// Whether what was claimed stands in its range.
     fn has_claimed(&self, claimed: &Claimed) -> bool {
         let size = claimed.size.min(LONGEST);
         if claimed.aborted {
-            return self.has_padding(claimed.start, size + 32);
+            return self.has_padding(claimed.start, size as u32 + 32);
         }
-        let mut buffer = [0; LONGEST as usize];
-        let message = &mut buffer[..size as usize];
+        let mut buffer = [0; LONGEST];
+        let message = &mut buffer[..size];
         fill(message, claimed.key);
         self.has_message(claimed.start, claimed.end, message)
     }
@@ -139,11 +137,12 @@ impl Terms {
         let ring = 3 * self.term();
         let (from, to) = ((from % ring) as usize, (to % ring) as usize);
         let bytes = self.bytes.as_slice();
-        if to <= from {
-            bytes.get(from..).is_some_and(is_zero) && bytes.get(..to).is_some_and(is_zero)
+        let (front, behind) = if to <= from {
+            (bytes.get(..to), bytes.get(from..))
         } else {
-            bytes.get(from..to).is_some_and(is_zero)
-        }
+            (bytes.get(from..to), Some([].as_slice()))
+        };
+        front.is_some_and(|bytes| is_zero(bytes)) && behind.is_some_and(|bytes| is_zero(bytes))
     }
 
     /// Walks from a position to another, over what was claimed, in the order of the stream, and over paddings up to a
@@ -156,6 +155,7 @@ impl Terms {
             if position >= tail {
                 break;
             }
+            let left = self.term() - position % self.term();
             match rest.split_first() {
                 Some((claimed, others)) if claimed.start == position => {
                     if !self.has_claimed(claimed) {
@@ -164,20 +164,16 @@ impl Terms {
                     position = claimed.end;
                     rest = others;
                 }
-                _ => {
-                    let left = self.term() - position % self.term();
-                    if !self.has_padding(position, left as u32) {
-                        return Err(position);
-                    }
+                _ if self.has_padding(position, left as u32) => {
                     position = position.wrapping_add(left);
                     padded = padded.wrapping_add(left);
                 }
+                _ => return Err(position),
             }
         }
         if position == tail && rest.is_empty() && self.is_blank(tail, start) {
-            Ok(padded)
-        } else {
-            Err(position)
+            return Ok(padded);
         }
+        Err(position)
     }
 }
