@@ -1,1 +1,1 @@
-mod Kept
+mod Each

@@ -72,8 +72,10 @@ fn publish_claim(
     requires short { length message.now ≤ max_payload log.now.identity.geometry }
     ensures { IsOf log.now publisher.new }
 {
-    let mut words = OnTable { log };
+    let most = log.identity().geometry().max_payload() as usize;
+    prove!(message.len() <= most);
     let size = message.len() as u32;
+    let mut words = OnTable { log };
     let start = try_claim(&mut words, publisher, size)?;
     if aborts {
         return Ok(abort(&mut words, publisher, start, size));

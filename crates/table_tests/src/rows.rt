@@ -1,9 +1,10 @@
 //! One publisher, step by step; logs that aren't opened, and one that is closed.
 
-ghost use Rattle.std.specs.Prelude.{◌≡◌};
+ghost use Rattle.std.specs.Prelude.{◌≡◌, IfOk};
 ghost use Rattle.std.specs.List.{AllByRecursion};
 ghost use Rattle.tail_claim.specs.Handles.{AreNew, IsIdle, IsOf, parts_in};
 ghost use Rattle.tail_claim.specs.Sums.{total};
+ghost use Rattle.table_tests.specs.Stays.{Stays};
 
 use crate::publishing::publish_offer;
 use crate::walk::{Terms, shown};
@@ -114,19 +115,21 @@ const ROWS: [Row; 7] = [
     },
 ];
 
-/// The first of a log's publishers.
-fn first_of(log: &TableLog, publishers: [Publisher; 8]) -> Publisher
-    requires { AreNew log.now 0 publishers }
-    ensures { IsOf log.now result }
+/// A log that begins at a position, and the first of its publishers.
+fn open_at(alloc: Global, start: u64) -> Result<(TableLog, Publisher), Fail>
+    ensures { IfOk result (λ r. IsOf r.0 r.1) }
 {
-    let [first, _, _, _, _, _, _, _] = publishers;
-    first
+    let geometry = Geometry::new(65_536, 1408, 7)?;
+    let (log, publishers) = TableLog::open(alloc, geometry, 1, 1001, start)?;
+    let mut publishers = Vec::from_array(alloc, publishers)?;
+    let first = publishers.remove(0);
+    Ok((log, first))
 }
 
 /// Offers a message of so many letters.
 fn offer_letters(log: &TableLog, publisher: &mut Publisher, size: usize) -> Result<u64, Refusal>
     requires { IsOf log.now publisher.old }
-    ensures { IsOf log.now publisher.new }
+    ensures { Stays log.now publisher.old publisher.new }
 {
     let most = log.identity().geometry().max_message() as usize;
     let mut buffer = [0; 8192];
@@ -160,10 +163,8 @@ fn count_and_tails(log: &TableLog) -> [u64; 4] {
 
 /// Plays a row, and looks at what stands in the log then.
 fn play<R: Abort>(rt: &R, alloc: Global, row: &Row) -> Result<(), Fail> {
-    let geometry = Geometry::new(65_536, 1408, 7)?;
     let start = row.start;
-    let (log, publishers) = TableLog::open(alloc, geometry, 1, 1001, start)?;
-    let mut publisher = first_of(&log, publishers);
+    let (log, mut publisher) = open_at(alloc, start)?;
     offer_row(rt, &log, &mut publisher, row);
     assert_eq!(rt; shown(&log), row.tail, "from {start}");
     assert_eq!(rt; count_and_tails(&log), row.words, "from {start}");
@@ -187,9 +188,7 @@ fn rows(rt: HostRuntime) -> Result<(), Fail> {
 /// Messages up to the limit and over it, and one behind it.
 #[test]
 fn limit(rt: HostRuntime) -> Result<(), Fail> {
-    let geometry = Geometry::new(65_536, 1408, 7)?;
-    let (log, publishers) = TableLog::open(rt.alloc(), geometry, 1, 1001, 0)?;
-    let mut publisher = first_of(&log, publishers);
+    let (log, mut publisher) = open_at(rt.alloc(), 0)?;
     for count in 1..=23 {
         assert_eq!(rt; offer_letters(&log, &mut publisher, 1376), Ok(1408 * count));
     }
@@ -227,7 +226,7 @@ fn offered(log: &TableLog, mut publisher: Publisher) -> Publisher
     ensures idle { IsIdle log.now result }
     ensures parts { parts_in result ≡ parts_in publisher }
 {
-    let _ = publish_offer(log, &mut publisher, b"hello");
+    let _ = offer_letters(log, &mut publisher, 5);
     publisher
 }
 
@@ -263,17 +262,4 @@ fn closes(rt: HostRuntime) -> Result<(), Fail> {
     assert_eq!(rt; identity.geometry(), geometry);
     assert_eq!(rt; [identity.session(), identity.stream()], [1, 1001]);
     Ok(())
-}
-
-#[test]
-fn codes(rt: HostRuntime) {
-    for (refusal, code) in [
-        (Refusal::NotConnected, -1),
-        (BackPressured, -2),
-        (AdminAction, -3),
-        (Refusal::Closed, -4),
-        (MaxPositionExceeded, -5),
-    ] {
-        assert_eq!(rt; refusal.code(), code);
-    }
 }

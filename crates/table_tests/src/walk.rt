@@ -1,6 +1,6 @@
 //! The words of a log, as frames.
 
-ghost use Rattle.std.specs.Prelude.{◌<◌};
+ghost use Rattle.std.specs.Prelude.{◌<◌, ◌^◌};
 
 use crate::publishing::{Claimed, LONGEST, fill};
 use frames::{Frame, Header, read_frame};
@@ -58,7 +58,7 @@ impl Terms {
     /// The bytes from a position to its term's end.
     pub(crate) fn bytes_from(&self, position: u64) -> &[u8] {
         let from = position % (3 * self.term());
-        let to = from / self.term() * self.term() + self.term();
+        let to = from - from % self.term() + self.term();
         self.bytes.get(from as usize..to as usize).unwrap_or(&[])
     }
 
@@ -148,6 +148,7 @@ impl Terms {
     /// Walks from a position to another, over what was claimed, in the order of the stream, and over paddings up to a
     /// term's end. The answer is how many bytes those paddings cover, or where something else stands.
     pub(crate) fn walk(&self, start: u64, tail: u64, claims: &[Claimed]) -> Result<u64, u64> {
+        let term = self.term();
         let mut position = start;
         let mut padded: u64 = 0;
         let mut rest = claims;
@@ -155,7 +156,7 @@ impl Terms {
             if position >= tail {
                 break;
             }
-            let left = self.term() - position % self.term();
+            let left = term - position % term;
             match rest.split_first() {
                 Some((claimed, others)) if claimed.start == position => {
                     if !self.has_claimed(claimed) {
