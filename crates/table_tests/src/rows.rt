@@ -13,13 +13,12 @@ use std::alloc::Global;
 use std::process::Abort;
 use std::test::*;
 use tail_claim::{OpenError, Publisher, TableLog};
-use word_calls::Refusal::{self, AdminAction, BackPressured, MaxPositionExceeded};
 
-/// A log that begins at a position, the lengths of the messages that are offered with the answers, and what stands in
-/// the log then: the end of the stream, the active count and the three raw tails, and bytes from a position on.
+/// A log that begins at a position, offers of so many bytes with the positions or codes that answer them, and what stands
+/// in the log then: the end of the stream, the active count and the three raw tails, and bytes from a position on.
 struct Row {
     start: u64,
-    offers: &'static [(usize, Result<u64, Refusal>)],
+    offers: &'static [(usize, i64)],
     tail: u64,
     words: [u64; 4],
     stream: &'static [(u64, &'static str)],
@@ -29,78 +28,67 @@ const ROWS: [Row; 7] = [
     // A message of one frame.
     Row {
         start: 0,
-        offers: &[(3, Ok(64))],
+        offers: &[(3, 64)],
         tail: 64,
         words: [0, 0x7_0000_0040, 0x5_0000_0000, 0x6_0000_0000],
         stream: &[
-            (
-                0,
-                "2300000000c001000000000001000000e9030000070000000000000000000000",
-            ),
-            (
-                32,
-                "6162630000000000000000000000000000000000000000000000000000000000",
-            ),
+            (0, "2300000000c001000000000001000000"),
+            (16, "e9030000070000000000000000000000"),
+            (32, "61626300000000000000000000000000"),
+            (48, "00000000000000000000000000000000"),
         ],
     },
     // No bytes.
     Row {
         start: 0,
-        offers: &[(0, Ok(32))],
+        offers: &[(0, 32)],
         tail: 32,
         words: [0, 0x7_0000_0020, 0x5_0000_0000, 0x6_0000_0000],
-        stream: &[(0, "2000000000c001000000000001000000e903000007")],
+        stream: &[(0, "2000000000c001000000000001000000")],
     },
     // Three frames.
     Row {
         start: 0,
-        offers: &[(3000, Ok(3104))],
+        offers: &[(3000, 3104)],
         tail: 3104,
         words: [0, 0x7_0000_0c20, 0x5_0000_0000, 0x6_0000_0000],
         stream: &[
-            (0, "80050000008001000000000001000000e903000007"),
-            (1408, "80050000000001008005000001000000e903000007"),
-            (2816, "1801000000400100000b000001000000e903000007"),
+            (0, "80050000008001000000000001000000"),
+            (1408, "80050000000001008005000001000000"),
+            (2816, "1801000000400100000b000001000000"),
         ],
     },
-    // The greatest message, which ends with its term, and a message behind it.
+    // The greatest message, which ends with its term, and messages behind it.
     Row {
         start: 57_152,
-        offers: &[(8192, Ok(65_536)), (3, Err(AdminAction)), (3, Ok(65_600))],
+        offers: &[(8192, 65_536), (3, -3), (3, 65_600)],
         tail: 65_600,
         words: [1, 0x7_0001_0000, 0x8_0000_0040, 0x6_0000_0000],
-        stream: &[
-            (57_152, "800500000080010040df000001000000e903000007"),
-            (65_536, "2300000000c001000000000001000000e903000008"),
-        ],
+        stream: &[(57_152, "800500000080010040df000001000000")],
     },
     // The greatest message, which doesn't fit its term.
     Row {
         start: 57_184,
-        offers: &[(8192, Err(AdminAction))],
+        offers: &[(8192, -3)],
         tail: 65_536,
         words: [1, 0x7_0001_0020, 0x8_0000_0000, 0x6_0000_0000],
-        stream: &[(
-            57_184,
-            "a020000000c0000060df000001000000e9030000070000000000000000000000",
-        )],
+        stream: &[
+            (57_184, "a020000000c0000060df000001000000"),
+            (57_200, "e9030000070000000000000000000000"),
+        ],
     },
     // The same, offered again.
     Row {
         start: 57_184,
-        offers: &[(8192, Err(AdminAction)), (8192, Ok(73_920))],
+        offers: &[(8192, -3), (8192, 73_920)],
         tail: 73_920,
         words: [1, 0x7_0001_0020, 0x8_0000_20c0, 0x6_0000_0000],
-        stream: &[(65_536, "80050000008001000000000001000000e903000008")],
+        stream: &[(65_536, "80050000008001000000000001000000")],
     },
     // The end of the last term.
     Row {
         start: 140_737_488_355_264,
-        offers: &[
-            (33, Err(MaxPositionExceeded)),
-            (33, Err(MaxPositionExceeded)),
-            (0, Err(MaxPositionExceeded)),
-        ],
+        offers: &[(33, -5), (33, -5), (0, -5)],
         tail: 140_737_488_355_328,
         words: [
             0x7fff_ffff,
@@ -108,10 +96,10 @@ const ROWS: [Row; 7] = [
             0x8000_0006_0001_0020,
             0x8000_0004_0000_0000,
         ],
-        stream: &[(
-            140_737_488_355_264,
-            "4000000000c00000c0ff000001000000e9030000060000800000000000000000",
-        )],
+        stream: &[
+            (140_737_488_355_264, "4000000000c00000c0ff000001000000"),
+            (140_737_488_355_280, "e9030000060000800000000000000000"),
+        ],
     },
 ];
 
@@ -126,8 +114,8 @@ fn open_at(alloc: Global, start: u64) -> Result<(TableLog, Publisher), Fail>
     Ok((log, first))
 }
 
-/// Offers a message of so many letters.
-fn offer_letters(log: &TableLog, publisher: &mut Publisher, size: usize) -> Result<u64, Refusal>
+/// Offers a message of so many letters. The answer is a position or a code.
+fn offer_letters(log: &TableLog, publisher: &mut Publisher, size: usize) -> i64
     requires { IsOf log.now publisher.old }
     ensures { Stays log.now publisher.old publisher.new }
 {
@@ -136,7 +124,10 @@ fn offer_letters(log: &TableLog, publisher: &mut Publisher, size: usize) -> Resu
     for (index, byte) in buffer.iter_mut().enumerate() {
         *byte = b'a' + (index % 26) as u8;
     }
-    publish_offer(log, publisher, &buffer[..size.min(most).min(8192)])
+    match publish_offer(log, publisher, &buffer[..size.min(most).min(8192)]) {
+        Ok(end) => end.cast_signed(),
+        Err(refusal) => i64::from(refusal.code()),
+    }
 }
 
 /// Offers a row's messages, and looks at the answers.
@@ -189,15 +180,13 @@ fn rows(rt: HostRuntime) -> Result<(), Fail> {
 #[test]
 fn limit(rt: HostRuntime) -> Result<(), Fail> {
     let (log, mut publisher) = open_at(rt.alloc(), 0)?;
-    for count in 1..=23 {
-        assert_eq!(rt; offer_letters(&log, &mut publisher, 1376), Ok(1408 * count));
+    for count in 1..=23_u64 {
+        let answer = (1408 * count).cast_signed();
+        assert_eq!(rt; offer_letters(&log, &mut publisher, 1376), answer);
     }
-    assert_eq!(rt; offer_letters(&log, &mut publisher, 320), Ok(32_736));
-    assert_eq!(rt; offer_letters(&log, &mut publisher, 100), Ok(32_896));
-    assert_eq!(rt;
-        offer_letters(&log, &mut publisher, 100),
-        Err(BackPressured)
-    );
+    for (size, answer) in [(320, 32_736), (100, 32_896), (100, -2)] {
+        assert_eq!(rt; offer_letters(&log, &mut publisher, size), answer);
+    }
     Ok(())
 }
 
