@@ -1,0 +1,5 @@
+//! Tests of the commands of a log's publishers.
+#![tactic(auto)]
+
+#[cfg(test)]
+mod runs;
