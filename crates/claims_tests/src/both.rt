@@ -1,0 +1,86 @@
+//! The same commands on the plain state of a log and on a log on a table.
+
+ghost use Rattle.std.specs.Prelude.{◌≡◌, IfOk};
+ghost use Rattle.run_claims.specs.Commands.{IsSameBut};
+
+use one_hand::{OneHandLog, PlainHand};
+use position::Geometry;
+use rand_core::utils::NextWord;
+use rand_pcg::Pcg32;
+use run_claims::{ClaimAnswer, ClaimCommand, run_on_both};
+use std::alloc::{AllocError, Global};
+use std::process::Abort;
+use std::test::*;
+use table_hand::TableHand;
+
+/// How many runs there are, and how many commands each has.
+const SEEDS: u64 = 100;
+
+const COMMANDS: usize = 60;
+
+/// The plain state of a log, connected and with its limit raised once, and a log on a table.
+fn open_both(
+    alloc: Global,
+    geometry: Geometry,
+    start: u64,
+) -> Result<(PlainHand, TableHand), Fail>
+    ensures { IfOk result (λ r. IsSameBut r.0 r.1) }
+{
+    let table = TableHand::open(alloc, geometry, 1, 1001, start)?;
+    let mut plain = PlainHand::open(alloc, geometry, 1, 1001, start, 1)?;
+    plain.set_connected(true);
+    let _ = plain.clean_and_limit();
+    Ok((plain, table))
+}
+
+/// A command of some publisher.
+fn draw_command(alloc: Global, draws: &mut Pcg32) -> Result<ClaimCommand, AllocError> {
+    let publisher = draws.next_word() % 9;
+    let size = draws.next_word() % 1500;
+    match draws.next_word() % 6 {
+        0 => Ok(ClaimCommand::Claim {
+            publisher,
+            size: size % 16,
+        }),
+        1 => Ok(ClaimCommand::Commit {
+            publisher,
+            payload: vec![in alloc; 7; (size % 16) as usize]?,
+        }),
+        2 => Ok(ClaimCommand::Abort { publisher }),
+        _ => Ok(ClaimCommand::Offer {
+            publisher,
+            message: vec![in alloc; 9; (4 * size) as usize]?,
+        }),
+    }
+}
+
+/// Runs drawn commands on both. The answer is how often a message or a claim was accepted.
+fn run_drawn<R: Abort>(rt: &R, alloc: Global, seed: u64) -> Result<usize, Fail> {
+    let mut draws = Pcg32::new(seed, 0);
+    let geometry = Geometry::new(65_536, 1408, 7)?;
+    let start = 32 * u64::from(draws.next_word() % 4096);
+    let mut commands = Vec::new(alloc);
+    for _ in 0..COMMANDS {
+        commands.push(draw_command(alloc, &mut draws)?)?;
+    }
+    let (mut plain, mut table) = open_both(alloc, geometry, start)?;
+    let answers = run_on_both(alloc, &mut plain, &mut table, &commands);
+    let _ = plain.close();
+    let (of_plain, of_table) = answers?;
+    assert_eq!(rt; of_plain.as_slice(), of_table.as_slice());
+    let accepted = of_plain
+        .iter()
+        .filter(|answer| matches!(answer, ClaimAnswer::Ends(_) | ClaimAnswer::Begins { .. }));
+    Ok(accepted.count())
+}
+
+/// Both answer alike.
+#[test]
+fn drawn_commands(rt: HostRuntime) -> Result<(), Fail> {
+    let mut accepted = 0;
+    for seed in 0..SEEDS {
+        accepted += run_drawn(&rt, rt.alloc(), seed)?;
+    }
+    assert!(rt; accepted > 1000, "{accepted} were accepted");
+    Ok(())
+}
