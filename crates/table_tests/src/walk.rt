@@ -39,6 +39,7 @@ fn is_zero(bytes: &[u8]) -> bool {
 }
 
 impl Terms {
+    /// Peeks at all of them.
     pub(crate) fn of(alloc: Global, log: &TableLog) -> Result<Terms, AllocError> {
         let identity = log.identity();
         let mut bytes = Vec::new(alloc);

@@ -4,6 +4,7 @@ ghost use Rattle.std.specs.Prelude.{◌≡◌, ◌+◌, ◌<◌, length, slice_i
 ghost use Rattle.std.specs.List.{AllByRecursion};
 ghost use Rattle.tail_claim.specs.Closing.{IsClosed, both};
 ghost use Rattle.tail_claim.specs.Handles.{IsIdle, IsOf, gathered_all, parts_in};
+ghost use Rattle.tail_claim.specs.Packs.{table_length};
 ghost use Rattle.tail_claim.specs.Sums.{total};
 
 use crate::log::{Publisher, TableLog};
@@ -75,6 +76,7 @@ impl TableLog {
         requires whole { total parts_in publishers ≡ 1024 }
         ensures log { (result.identity ≡ self.identity) × (result.start ≡ self.start) }
         ensures closed { IsClosed self.identity self.start (gathered_all self publishers) result.words }
+        ensures wide { length result.words ≡ table_length self.identity.geometry }
     {
         let publisher = self.gather(publishers);
         self.close_whole(publisher)

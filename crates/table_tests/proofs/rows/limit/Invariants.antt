@@ -3,6 +3,3 @@ use Rattle.table_tests.proofs.rows.limit.Given as goal
 
 abbrev pub invariant-loop-count : goal.invariant-loop-count
 invariant-loop-count g l = IsOf l.log l.publisher
-
-abbrev pub invariant-loop-size : goal.invariant-loop-size
-invariant-loop-size g l = IsOf l.log l.publisher
