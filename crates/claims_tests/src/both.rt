@@ -77,9 +77,9 @@ fn run_drawn<R: Abort>(rt: &R, alloc: Global, seed: u64) -> Result<usize, Fail> 
 /// Both answer alike.
 #[test]
 fn drawn_commands(rt: HostRuntime) -> Result<(), Fail> {
-    let mut accepted = 0;
+    let mut accepted: usize = 0;
     for seed in 0..SEEDS {
-        accepted += run_drawn(&rt, rt.alloc(), seed)?;
+        accepted = accepted.saturating_add(run_drawn(&rt, rt.alloc(), seed)?);
     }
     assert!(rt; accepted > 1000, "{accepted} were accepted");
     Ok(())

@@ -89,6 +89,7 @@ impl TableLog {
         requires whole { publisher.pass.right.parts ≡ 1024 }
         ensures log { (result.identity ≡ self.identity) × (result.start ≡ self.start) }
         ensures closed { IsClosed self.identity self.start publisher.pass result.words }
+        ensures wide { length result.words ≡ table_length self.identity.geometry }
     {
         let Publisher { seat, number: _ } = publisher;
         let TableLog {
