@@ -1,15 +1,24 @@
 -- Lanes of a log that opens, of one that is filled, and of one that closes.
-use Rattle.std.proofs.Common.{◌≡◌, ℕ, suc, ◌+◌, ◌*◌, ◌<◌, List, [], ◌∷◌, map, length, get_or, sym, refl, ap, ◌∙◌, arith}
+use Rattle.std.proofs.Common.{◌≡◌, ℕ, zero, suc, ◌+◌, ◌*◌, ◌<◌, nat_eq, List, [], ◌∷◌, ◌++◌, map, length, get_or, take, drop, subst, sym, refl, ap, ◌∙◌, arith}
+use Rattle.std.specs.Prelude.{if◌then◌else◌}
+use Rattle.std.proofs.lemmas.List.{take-append-drop}
+use Rattle.std.proofs.lemmas.Bool.Decides.{nat_tests}
 use Rattle.std.specs.List.{AllByRecursion}
+use Rattle.theory.proofs.Lists.{all_append, all_behind, all_front}
 use Rattle.word_calls.specs.declared.pass.Pass.{Pass}
-use Rattle.tail_claim.specs.Closing.{IsClosed, both, gathered}
-use Rattle.tail_claim.specs.Handles.{AreNew, ClosedValue, IsIdle, LogValue, PublisherValue, gathered_all, parts_in}
+use Rattle.tail_claim.specs.Closing.{both, gathered}
+use Rattle.tail_claim.specs.Handles.{AreNew, IsIdle, LogValue, PublisherValue, gathered_all, parts_in}
 use Rattle.tail_claim.specs.Rule.{entry_of}
 use Rattle.tail_claim.specs.Sums.{total}
 use Rattle.tail_claim.proofs.Memories.{maps_append}
 use Rattle.tail_claim.proofs.Totals.{total_append, total_map}
 use Rattle.speed.specs.declared.lane.Lane.{Lane}
 use Rattle.speed.specs.Rounds.{IsLane, accepted_in, message_in, messages_of, parts_of, publisher_in}
+
+-- eight elements, by their places
+pub eight : {A : Type 0} (xs : List A) (a b c d e f g h : A) → length xs ≡ 8 → a ≡ get_or xs 0 a → b ≡ get_or xs 1 b → c ≡ get_or xs 2 c → d ≡ get_or xs 3 d → e ≡ get_or xs 4 e → f ≡ get_or xs 5 f → g ≡ get_or xs 6 g → h ≡ get_or xs 7 h → a ∷ b ∷ c ∷ d ∷ e ∷ f ∷ g ∷ h ∷ [] ≡ xs
+eight (x0 ∷ x1 ∷ x2 ∷ x3 ∷ x4 ∷ x5 ∷ x6 ∷ x7 ∷ []) a b c d e f g h long e0 e1 e2 e3 e4 e5 e6 e7 = λ i. e0 i ∷ e1 i ∷ e2 i ∷ e3 i ∷ e4 i ∷ e5 i ∷ e6 i ∷ e7 i ∷ []
+eight xs a b c d e f g h long e0 e1 e2 e3 e4 e5 e6 e7 = absurd (omega arith)
 
 -- ---- new ones
 
@@ -23,10 +32,13 @@ new_lanes l n (x ∷ xs) new none = (
   new_lanes l (suc n) xs new.1 none.1,
 )
 
+not_first : (n a b : ℕ) → (if nat_eq (suc n) 0 then a else b) ≡ b
+not_first n a b = grind (arith, nat_tests)
+
 later_parts : (l : LogValue) (n : ℕ) (lanes : List Lane) → AreNew l (suc n) (map publisher_in lanes) → total parts_of lanes + 120 * suc n ≡ 960
 later_parts l n [] new = let e : suc n ≡ 8 = new in omega arith
 later_parts l n (x ∷ xs) new =
-    let e : parts_of x ≡ 120 = ap (λ (v : Pass). v.right.parts) new.0.pass in
+    let e : parts_of x ≡ 120 = ap (λ (v : Pass). v.right.parts) new.0.pass ∙ not_first n 184 120 in
     let r = later_parts l (suc n) xs new.1 in
     omega arith
 
@@ -39,10 +51,27 @@ new_parts l (x ∷ xs) new =
 
 -- ---- filled ones
 
+pub all_taken : {A : Type 0} (P : A → Type 0) (n : ℕ) (xs : List A) → AllByRecursion P xs → AllByRecursion P (take n xs)
+all_taken P n xs all = all_front P (take n xs) (drop n xs) (subst (AllByRecursion P) (sym (take-append-drop n xs)) all)
+
+all_dropped : {A : Type 0} (P : A → Type 0) (n : ℕ) (xs : List A) → AllByRecursion P xs → AllByRecursion P (drop n xs)
+all_dropped P n xs all = all_behind P (take n xs) (drop n xs) (subst (AllByRecursion P) (sym (take-append-drop n xs)) all)
+
+-- the first ones were filled
+pub first_filled : (l : LogValue) (n : ℕ) (xs ys : List Lane) → AllByRecursion (IsLane l) xs → AllByRecursion (IsLane l) ys → AllByRecursion (IsLane l) (ys ++ drop n xs)
+first_filled l n xs ys all filled = all_append (IsLane l) ys (drop n xs) filled (all_dropped (IsLane l) n xs all)
+
+pub same_parts : (n : ℕ) (xs ys : List Lane) → total parts_of ys ≡ total parts_of (take n xs) → total parts_of (ys ++ drop n xs) ≡ total parts_of xs
+same_parts n xs ys same =
+    let a = total_append parts_of ys (drop n xs) in
+    let b = total_append parts_of (take n xs) (drop n xs) in
+    let c : total parts_of (take n xs ++ drop n xs) ≡ total parts_of xs = ap (total parts_of) (take-append-drop n xs) in
+    omega arith
+
 -- what holds of each element
 pub all_or : {A : Type 0} (P : A → Type 0) (xs : List A) (k : ℕ) (d : A) → k < length xs → AllByRecursion P xs → P (get_or xs k d)
 all_or P [] k d low all = absurd (omega arith)
-all_or P (x ∷ xs) 0 d low all = all.0
+all_or P (x ∷ xs) zero d low all = all.0
 all_or P (x ∷ xs) (suc k) d low all = all_or P xs k d (omega arith) all.1
 
 -- each lane is one of this log, and has the parts that it had

@@ -1,5 +1,5 @@
 -- What an offer leaves of the messages that its pass has claimed.
-use Rattle.std.proofs.Common.{◌≡◌, ℕ, ◌+◌, ◌<◌, ◌≤◌, ⊎_elim, List, [], ◌∷◌, ◌++◌, map, sym, refl, ap, ◌∙◌, arith}
+use Rattle.std.proofs.Common.{◌≡◌, ℕ, ◌+◌, ◌<◌, ◌≤◌, ⊎_elim, List, [], ◌∷◌, ◌++◌, map, ap, ◌∙◌, arith}
 use Rattle.std.proofs.lemmas.Bool.{cases_lt}
 use Rattle.theory.specs.Words.{offset_in}
 use Rattle.word_calls.specs.declared.pass.ClaimRange.{ClaimRange}
@@ -9,9 +9,9 @@ use Rattle.word_calls.specs.declared.refusal.Refusal.TheVariants.{NotConnected, 
 use Rattle.word_calls.specs.declared.step.WordStep.{WordStep}
 use Rattle.word_calls.specs.declared.step.WordStep.TheVariants as steps
 use Rattle.word_calls.specs.Steps.{Keeps, message_at, padding_at, term_of}
-use Rattle.word_calls.specs.Claims.{Justified, Leaves, LeavesPadding, Refused}
+use Rattle.word_calls.specs.Claims.{Justified, Leaves, LeavesPadding}
 use Rattle.word_calls.specs.Offers.{Offered}
-use Rattle.tail_claim.specs.Rule.{entries_of, entry_of}
+use Rattle.tail_claim.specs.Rule.{entry_of}
 use Rattle.tail_claim.specs.Sums.{total}
 use Rattle.tail_claim.proofs.Memories.{maps_append}
 use Rattle.tail_claim.proofs.Totals.{total_append}

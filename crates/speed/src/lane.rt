@@ -1,6 +1,6 @@
 //! What the threads of a round have, one each.
 
-ghost use Rattle.std.specs.Prelude.{◌≡◌, ◌≤◌, ◌<◌, length, map, sum_by};
+ghost use Rattle.std.specs.Prelude.{◌≡◌, ◌^◌, ◌<◌, length, map};
 ghost use Rattle.std.specs.List.{AllByRecursion};
 ghost use Rattle.tail_claim.specs.Handles.{AreNew, IsIdle};
 ghost use Rattle.tail_claim.specs.Sums.{total};
@@ -50,12 +50,22 @@ pub(crate) fn lanes_of(publishers: [Publisher; 8]) -> [Lane; 8]
     ]
 }
 
-/// Their publishers.
-pub(crate) fn publishers_of(lanes: [Lane; 8]) -> [Publisher; 8]
-    ensures { result ≡ map publisher_in lanes }
+fn count(lane: &Lane) -> u64
+    ensures value { result ≡ lane.now.accepted }
+    ensures low { result < 2 ^ 32 }
+{
+    u64::from(lane.accepted)
+}
+
+/// Their publishers, and how many offers of all of them were accepted.
+pub(crate) fn taken_apart(lanes: [Lane; 8]) -> ([Publisher; 8], u64)
+    ensures publishers { result.0 ≡ map publisher_in lanes }
+    ensures accepted { result.1 ≡ total accepted_in lanes }
 {
     let [zero, one, two, three, four, five, six, seven] = lanes;
-    [
+    let low = count(&zero) + count(&one) + count(&two) + count(&three);
+    let high = count(&four) + count(&five) + count(&six) + count(&seven);
+    let publishers = [
         zero.publisher,
         one.publisher,
         two.publisher,
@@ -64,14 +74,8 @@ pub(crate) fn publishers_of(lanes: [Lane; 8]) -> [Publisher; 8]
         five.publisher,
         six.publisher,
         seven.publisher,
-    ]
-}
-
-/// How many offers of all of them were accepted.
-pub(crate) fn accepted_by(lanes: &[Lane; 8]) -> u64
-    ensures { result ≡ sum_by accepted_in lanes.now }
-{
-    lanes.iter().map(|lane| u64::from(lane.accepted)).sum()
+    ];
+    (publishers, low + high)
 }
 
 /// From the first begin to the last end.
@@ -112,7 +116,7 @@ pub(crate) fn fill_all<R: Threads + Clock + Sync>(rt: &R, log: &TableLog, lanes:
         count,
         &|_, lane|
             requires { IsLane log.now lane.old × (lane.old.accepted ≡ 0) }
-            ensures { IsLane log.now lane.new × (parts_of lane.new ≡ parts_of lane.old) }
+            ensures { IsLane log.entry.now lane.new × (parts_of lane.new ≡ parts_of lane.old) }
         { fill(rt, log, &gate, lane) },
     );
 }

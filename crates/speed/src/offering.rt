@@ -26,6 +26,7 @@ pub(crate) fn offer_all(log: &TableLog, publisher: &mut Publisher) -> u32
     requires { IsIdle log.now publisher.old }
     ensures { Claims log.now publisher.old result publisher.new }
 {
+    let _ = log.identity().geometry();
     let message = [97; SIZE];
     let mut accepted: u32 = 0;
     for _ in 0..u32::MAX {

@@ -6,7 +6,7 @@ ghost use Rattle.tail_claim.specs.Sums.{total};
 ghost use Rattle.speed.specs.Rounds.{IsFilled, IsLane, parts_of};
 
 use crate::gate::duration;
-use crate::lane::{Lane, accepted_by, fill_all, lanes_of, lap_of, publishers_of};
+use crate::lane::{Lane, fill_all, lanes_of, lap_of, taken_apart};
 use position::Geometry;
 use std::alloc::Global;
 use std::thread::Threads;
@@ -55,6 +55,6 @@ fn close(log: TableLog, lanes: [Lane; 8]) -> (ClosedLog, u64)
     ensures log { (result.0.identity ≡ log.identity) × (result.0.start ≡ log.start) }
     ensures filled { IsFilled result.0 result.1 }
 {
-    let accepted = accepted_by(&lanes);
-    (log.close(publishers_of(lanes)), accepted)
+    let (publishers, accepted) = taken_apart(lanes);
+    (log.close(publishers), accepted)
 }

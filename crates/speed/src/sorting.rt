@@ -1,4 +1,5 @@
-ghost use Rattle.std.specs.Prelude.{◌≡◌, ◌/◌, ◌<◌, IsPermutation, IsSorted, length, nat_cmp, slice_index};
+ghost use Rattle.std.specs.Prelude.{◌≡◌, ◌/◌, ◌<◌, IsPermutation, IsSorted, length, slice_index};
+ghost use Rattle.std.specs.Ordering.{nat_cmp};
 
 /// The median of some figures, which are sorted for it.
 pub fn median(figures: &mut [u64]) -> u64
