@@ -5,8 +5,10 @@
 use anyhow::Error;
 use position::Geometry;
 use speed::{Figures, measure, play_round};
-use std::env;
-use std::io;
+use std::alloc::Global;
+use std::thread::Threads;
+use std::time::Clock;
+use std::{env, io};
 
 /// The numbers of threads.
 const THREADS: [usize; 4] = [1, 2, 4, 8];
@@ -15,16 +17,16 @@ fn main(rt: HostRuntime) -> Result<(), Error> {
     let mut words = env::args(&rt)?;
     let _program = words.next();
     match words.next() {
-        None => small(&rt),
-        Some(word) => large(&rt, word.as_str()),
+        None => small(&rt, rt.alloc()),
+        Some(word) => large(&rt, rt.alloc(), word.as_str()),
     }
 }
 
 /// Fills small logs.
-fn small(rt: &HostRuntime) -> Result<(), Error> {
+fn small<R: Threads + Clock + Print + Sync>(rt: &R, alloc: Global) -> Result<(), Error> {
     let geometry = Geometry::new(65_536, 1408, 7)?;
     for threads in THREADS {
-        let filled = play_round(rt, rt.alloc(), geometry, threads)?;
+        let filled = play_round(rt, alloc, geometry, threads)?;
         let full = filled.accepted >= 128;
         println!(rt; "threads {threads}: closed, and full: {full}")?;
     }
@@ -33,10 +35,14 @@ fn small(rt: &HostRuntime) -> Result<(), Error> {
 }
 
 /// Fills logs of the greatest term length, and prints the medians.
-fn large(rt: &HostRuntime, word: &str) -> Result<(), Error> {
+fn large<R: Threads + Clock + Print + Sync>(
+    rt: &R,
+    alloc: Global,
+    word: &str,
+) -> Result<(), Error> {
     let rounds: usize = word.parse()?;
     let geometry = Geometry::new(16_777_216, 1408, 7)?;
-    let lines = measure(rt, rt.alloc(), geometry, rounds)?;
+    let lines = measure(rt, alloc, geometry, rounds)?;
     println!(rt; "threads  ns/claim  ns/stores")?;
     for figures in lines.iter().flatten() {
         line(rt, figures)?;
@@ -45,7 +51,7 @@ fn large(rt: &HostRuntime, word: &str) -> Result<(), Error> {
 }
 
 /// One line of the table, in nanoseconds.
-fn line(rt: &HostRuntime, figures: &Figures) -> io::Result<()> {
+fn line(rt: &impl Print, figures: &Figures) -> io::Result<()> {
     let Figures {
         threads,
         claim,
