@@ -33,6 +33,9 @@ pub(crate) fn payload_word(bytes: &[u8]) -> u64
     requires { length bytes.now ≤ 8 }
     ensures { result ≡ from_le_bytes w64 bytes.now }
 {
+    if let [a, b, c, d, e, f, g, h] = bytes {
+        return u64::from_le_bytes([*a, *b, *c, *d, *e, *f, *g, *h]);
+    }
     u64::from_le_bytes(padded(bytes))
 }
 
