@@ -8,7 +8,7 @@ ghost use Rattle.word_calls.specs.Frames.{frame_flags, header_words, payload_wor
 ghost use Rattle.word_calls.specs.Claims.{Fills, HasBlank, TookMore};
 ghost use Rattle.word_calls.specs.Offers.{FillsAll, HasBlanks, HasRoom, Puts};
 
-use crate::frame_words::{first_word, pair_word, payload_word};
+use crate::frame_words::{first_word, pair_word, word_at};
 use crate::identity::Identity;
 use crate::words::WordCalls;
 use position::{BEGIN, END, UNFRAGMENTED};
@@ -47,8 +47,7 @@ fn put_payload<W: WordCalls>(words: &mut W, pass: &mut W::Pass, start: u64, payl
 {
     for index in 0..payload.len().div_ceil(8) {
         let at = 8 * index;
-        let end = payload.len().min(at + 8);
-        let word = payload_word(&payload[at..end]);
+        let word = word_at(payload, at);
         words.store_word(pass, start + 32 + at as u64, word);
     }
 }
