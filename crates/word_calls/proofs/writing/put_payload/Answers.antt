@@ -1,4 +1,4 @@
-use Rattle.std.proofs.Common.{◌≡◌, ℕ, suc, ◌+◌, ◌*◌, ◌/◌, ◌<◌, ◌≤◌, arith, refl, sym, ap, ◌∙◌, subst, length, drop, List, [], ◌∷◌, ◌++◌}
+use Rattle.std.proofs.Common.{◌≡◌, ℕ, suc, ◌+◌, ◌*◌, ◌/◌, ◌<◌, arith, refl, sym, ap, ◌∙◌, subst, length, drop, List, [], ◌∷◌, ◌++◌}
 use Rattle.std.specs.Int.{w64, from_le_bytes}
 use Rattle.word_calls.specs.Steps.{HasWord}
 use Rattle.word_calls.specs.Frames.{words_in}
