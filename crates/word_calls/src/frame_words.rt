@@ -1,6 +1,6 @@
 //! The words of a frame, as numbers.
 
-ghost use Rattle.std.specs.Prelude.{◌≡◌, ◌-◌, ◌<◌, ◌≤◌, ◌++◌, length, replicate, if◌then◌else◌};
+ghost use Rattle.std.specs.Prelude.{◌≡◌, ◌-◌, ◌<◌, ◌≤◌, ◌++◌, drop, length, replicate, if◌then◌else◌};
 ghost use Rattle.std.specs.Int.{w32, w64, from_le_bytes, to_le_bytes};
 ghost use Rattle.theory.specs.Wire.{front};
 
@@ -29,11 +29,28 @@ pub(crate) fn pair_word(low: u32, high: u32) -> u64
 }
 
 /// Up to eight bytes as a word, with zeros behind them.
-pub(crate) fn payload_word(bytes: &[u8]) -> u64
+#[inline(always)]
+fn payload_word(bytes: &[u8]) -> u64
     requires { length bytes.now ≤ 8 }
     ensures { result ≡ from_le_bytes w64 bytes.now }
 {
+    if let [a, b, c, d, e, f, g, h] = bytes {
+        return u64::from_le_bytes([*a, *b, *c, *d, *e, *f, *g, *h]);
+    }
     u64::from_le_bytes(padded(bytes))
+}
+
+/// The word of a payload that begins at a byte, with zeros behind the payload's end.
+#[inline(always)]
+pub(crate) fn word_at(payload: &[u8], at: usize) -> u64
+    requires { at ≤ length payload.now }
+    ensures { result ≡ from_le_bytes w64 (drop at payload.now) }
+{
+    if payload.len() - at >= 8 {
+        payload_word(&payload[at..at + 8])
+    } else {
+        payload_word(&payload[at..])
+    }
 }
 
 fn padded(bytes: &[u8]) -> [u8; 8]

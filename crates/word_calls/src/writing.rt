@@ -8,12 +8,13 @@ ghost use Rattle.word_calls.specs.Frames.{frame_flags, header_words, payload_wor
 ghost use Rattle.word_calls.specs.Claims.{Fills, HasBlank, TookMore};
 ghost use Rattle.word_calls.specs.Offers.{FillsAll, HasBlanks, HasRoom, Puts};
 
-use crate::frame_words::{first_word, pair_word, payload_word};
+use crate::frame_words::{first_word, pair_word, word_at};
 use crate::identity::Identity;
 use crate::words::WordCalls;
 use position::{BEGIN, END, UNFRAGMENTED};
 
 /// Stores the words of a frame's header behind the first one.
+#[inline(always)]
 fn put_header<W: WordCalls>(words: &mut W, pass: &mut W::Pass, identity: &Identity, start: u64)
     requires fits { W.fits words.old pass.old }
     requires in_stream { start ≤ max_position identity.now.geometry }
@@ -34,6 +35,7 @@ fn put_header<W: WordCalls>(words: &mut W, pass: &mut W::Pass, identity: &Identi
 }
 
 /// Stores a payload's words behind a header, the last of them with zeros up to its end.
+#[inline(always)]
 fn put_payload<W: WordCalls>(words: &mut W, pass: &mut W::Pass, start: u64, payload: &[u8])
     requires fits { W.fits words.old pass.old }
     requires below { start < 2 ^ 56 }
@@ -45,13 +47,13 @@ fn put_payload<W: WordCalls>(words: &mut W, pass: &mut W::Pass, start: u64, payl
 {
     for index in 0..payload.len().div_ceil(8) {
         let at = 8 * index;
-        let end = payload.len().min(at + 8);
-        let word = payload_word(&payload[at..end]);
+        let word = word_at(payload, at);
         words.store_word(pass, start + 32 + at as u64, word);
     }
 }
 
 /// Writes and commits a data frame into an open frame of its length, of which nothing is stored.
+#[inline(always)]
 pub(crate) fn write_data<W: WordCalls>(
     words: &mut W,
     pass: &mut W::Pass,
@@ -108,6 +110,7 @@ fn flags_of(first: bool, last: bool) -> u8
 }
 
 /// Writes and commits a message's frames, from the first to the last, into open frames of their lengths.
+#[inline(always)]
 pub(crate) fn write_message<W: WordCalls>(
     words: &mut W,
     pass: &mut W::Pass,

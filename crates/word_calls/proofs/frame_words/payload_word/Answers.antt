@@ -6,6 +6,6 @@ use Rattle.word_calls.proofs.frame_words.payload_word.Goals as goal
 
 pub returns : goal.returns
 returns c =
-    c.from_le_bytes.ensures
+    c.from_le_bytes-2.ensures
     ∙ ap (from_le_bytes w64) c.padded.ensures
     ∙ word_same (c.args.bytes.now ++ replicate (8 - length c.args.bytes.now) 0) c.args.bytes.now (λ i l. zeros_behind c.args.bytes.now (8 - length c.args.bytes.now) i)

@@ -1,0 +1,20 @@
+use std::alloc::{AllocError, AllocFailed};
+use tail_claim::OpenError;
+use thiserror::Error;
+
+/// Why nothing was measured.
+#[derive(Debug, Drop, Error)]
+pub enum SpeedError {
+    #[error("the log wasn't opened: {0}")]
+    Open(#[from] OpenError),
+    #[error("memory was refused: {0}")]
+    Memory(#[from] AllocError),
+    #[error("the clock can't be read")]
+    Clock,
+}
+
+impl<T: Drop> From<AllocFailed<T>> for SpeedError {
+    fn from(_failed: AllocFailed<T>) -> SpeedError {
+        SpeedError::Memory(AllocError)
+    }
+}

@@ -1,0 +1,58 @@
+//! A common start of several threads, and the time from it to the last one's end.
+
+use std::sync::atomic::{AtomicU64, Ordering};
+use std::time::{Duration, Instant};
+use std::{io, thread};
+
+/// How often a thread looks whether the others have come, before it goes on alone.
+const TRIES: u32 = 1_000_000_000;
+
+/// A gate that opens once so many threads have come.
+#[derive(Drop)]
+pub(crate) struct Gate {
+    wanted: u64,
+    arrived: AtomicU64,
+}
+
+impl Gate {
+    pub(crate) fn new(wanted: usize) -> Gate {
+        Gate {
+            wanted: wanted as u64,
+            arrived: AtomicU64::new(0),
+        }
+    }
+
+    /// Comes to the gate, and goes through once all have come.
+    pub(crate) fn pass(&self) {
+        self.arrived.fetch_add(1, Ordering::SeqCst);
+        for _ in 0..TRIES {
+            if self.arrived.load(Ordering::SeqCst) >= self.wanted {
+                return;
+            }
+            thread::yield_now();
+        }
+    }
+}
+
+/// When a thread began its work and when it ended it, if the clock could be read.
+pub(crate) type Lap = Option<(Instant, Instant)>;
+
+pub(crate) fn lap(began: io::Result<Instant>, ended: io::Result<Instant>) -> Lap {
+    match (began, ended) {
+        (Ok(began), Ok(ended)) => Some((began, ended)),
+        _ => None,
+    }
+}
+
+/// The lap from the earlier begin of two to the later end.
+pub(crate) fn joined(one: Lap, other: Lap) -> Lap {
+    let (began, ended) = one?;
+    let (first, last) = other?;
+    Some((began.min(first), ended.max(last)))
+}
+
+/// How long a lap took.
+pub(crate) fn duration(lap: Lap) -> Option<Duration> {
+    let (began, ended) = lap?;
+    Some(ended.duration_since(began))
+}
