@@ -59,8 +59,8 @@ kept_leaves p (steps.Count count ∷ more) q h = kept p q h
 kept_leaves p (steps.Tail partition word ∷ more) q h = kept p q h
 kept_leaves p (steps.Addition partition taken word ∷ more) q h = kept_padding p word q h
 kept_leaves p (steps.NextTail partition word ∷ more) q h = kept p q h
-kept_leaves p (steps.TailExchange partition word ∷ more) q h = kept p q h
-kept_leaves p (steps.CountExchange count ∷ more) q h = kept p q h
+kept_leaves p (steps.TailExchange partition from to word ∷ more) q h = kept p q h
+kept_leaves p (steps.CountExchange from count ∷ more) q h = kept p q h
 
 pub refused : (p : Pass) (size : ℕ) (why : Refusal) (q : Pass) → Justified p size why q → Kept p 0 q
 refused p size NotConnected q h = kept_leaves p h.rest q h.leaves
