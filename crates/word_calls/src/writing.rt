@@ -14,7 +14,6 @@ use crate::words::WordCalls;
 use position::{BEGIN, END, UNFRAGMENTED};
 
 /// Stores the words of a frame's header behind the first one.
-#[inline(always)]
 fn put_header<W: WordCalls>(words: &mut W, pass: &mut W::Pass, identity: &Identity, start: u64)
     requires fits { W.fits words.old pass.old }
     requires in_stream { start ≤ max_position identity.now.geometry }
@@ -35,7 +34,6 @@ fn put_header<W: WordCalls>(words: &mut W, pass: &mut W::Pass, identity: &Identi
 }
 
 /// Stores a payload's words behind a header, the last of them with zeros up to its end.
-#[inline(always)]
 fn put_payload<W: WordCalls>(words: &mut W, pass: &mut W::Pass, start: u64, payload: &[u8])
     requires fits { W.fits words.old pass.old }
     requires below { start < 2 ^ 56 }
@@ -53,7 +51,6 @@ fn put_payload<W: WordCalls>(words: &mut W, pass: &mut W::Pass, start: u64, payl
 }
 
 /// Writes and commits a data frame into an open frame of its length, of which nothing is stored.
-#[inline(always)]
 pub(crate) fn write_data<W: WordCalls>(
     words: &mut W,
     pass: &mut W::Pass,
@@ -110,7 +107,6 @@ fn flags_of(first: bool, last: bool) -> u8
 }
 
 /// Writes and commits a message's frames, from the first to the last, into open frames of their lengths.
-#[inline(always)]
 pub(crate) fn write_message<W: WordCalls>(
     words: &mut W,
     pass: &mut W::Pass,
