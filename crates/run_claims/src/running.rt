@@ -83,6 +83,7 @@ fn run_abort<L: Claims>(log: &mut L, publisher: u32) -> ClaimAnswer
     ClaimAnswer::Ends(log.abort(publisher as usize))
 }
 
+/// Runs one command.
 fn run_one<L: Claims>(log: &mut L, command: &ClaimCommand) -> ClaimAnswer
     ensures answer { result ≡ answer_to (L.stream log.old) command.now }
     ensures after { L.stream log.new ≡ after_command (L.stream log.old) command.now }
