@@ -1,3 +1,6 @@
+ghost use Rattle.std.specs.Prelude.{◌≡◌, alloc_error};
+ghost use Rattle.speed.specs.declared.fault.SpeedError.TheVariants.{Memory};
+
 use std::alloc::{AllocError, AllocFailed};
 use tail_claim::OpenError;
 use thiserror::Error;
@@ -14,6 +17,8 @@ pub enum SpeedError {
 }
 
 impl<T: Drop> From<AllocFailed<T>> for SpeedError {
+    ghost from_gives = { λ _ e. e ≡ Memory alloc_error };
+
     fn from(_failed: AllocFailed<T>) -> SpeedError {
         SpeedError::Memory(AllocError)
     }

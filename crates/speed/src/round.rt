@@ -1,6 +1,6 @@
 //! One round.
 
-ghost use Rattle.std.specs.Prelude.{◌≡◌, ◌<◌, ◌≤◌, pos, IfOk};
+ghost use Rattle.std.specs.Prelude.{◌≡◌, ◌<◌, ◌≤◌, pos, IfOk, IsErrOf};
 ghost use Rattle.std.specs.List.{AllByRecursion};
 ghost use Rattle.tail_claim.specs.Sums.{total};
 ghost use Rattle.speed.specs.Rounds.{IsFilled, IsLane, parts_of};
@@ -24,7 +24,7 @@ pub struct Round {
 
 /// Fills a fresh log up to its limit, by so many threads, of which each has one of the eight publishers and offers
 /// messages of 200 bytes until one is refused. Then all publishers are given back, and the log is closed: its entries tile
-/// the stream, and as many of them are messages as offers were accepted.
+/// the stream, and as many of them are messages as offers were accepted. It fails only where memory is refused.
 pub fn play_round<R: Threads + Clock + Sync>(
     rt: &R,
     alloc: Global,
@@ -35,7 +35,9 @@ pub fn play_round<R: Threads + Clock + Sync>(
     requires eight { threads ≤ 8 }
     ensures log { IfOk result (λ r. (r.closed.identity ≡ record { geometry = geometry; session = pos 1; stream = pos 1001 }) × (r.closed.start ≡ 0)) }
     ensures filled { IfOk result (λ r. IsFilled r.closed r.accepted) }
+    ensures memory { ¬ IsErrOf result OpenError.Start }
 {
+    let _ = geometry.max_position();
     let (log, publishers) = TableLog::open(alloc, geometry, 1, 1001, 0)?;
     let mut lanes = lanes_of(publishers);
     fill_all(rt, &log, &mut lanes[..threads]);
