@@ -19,11 +19,7 @@ const SEEDS: u64 = 100;
 const COMMANDS: usize = 60;
 
 /// The plain state of a log, connected and with its limit raised once, and a log on a table.
-fn open_both(
-    alloc: Global,
-    geometry: Geometry,
-    start: u64,
-) -> Result<(PlainHand, TableHand), Fail>
+fn open_both(alloc: Global, geometry: Geometry, start: u64) -> Result<(PlainHand, TableHand), Fail>
     ensures { IfOk result (λ r. IsSameBut r.0 r.1) }
 {
     let table = TableHand::open(alloc, geometry, 1, 1001, start)?;
@@ -68,9 +64,10 @@ fn run_drawn<R: Abort>(rt: &R, alloc: Global, seed: u64) -> Result<usize, Fail> 
     let _ = plain.close();
     let (of_plain, of_table) = answers?;
     assert_eq!(rt; of_plain.as_slice(), of_table.as_slice());
-    let accepted = of_plain
-        .iter()
-        .filter(|answer| matches!(answer, ClaimAnswer::Ends(_) | ClaimAnswer::Begins { .. }));
+    let accepted = of_plain.iter().filter(|answer| matches!(
+        answer,
+        ClaimAnswer::Ends(_) | ClaimAnswer::Begins { .. }
+    ));
     Ok(accepted.count())
 }
 

@@ -117,8 +117,8 @@ module _ (v : Pass) (c : Controls) (held : List (Option Held)) (w : IsWhole v c 
 
   -- by what becomes of the claim's entry
   module _ (f : Frame) (q : Pass) (fills : Fills v h.start f q) (size : frame_length f ≡ 32 + h.size) (ch : Entry → Entry)
-    (entries_are : map (entry_in (v.work.frames ++ frame_at v.identity h.start f ∷ [])) v.right.claims ≡ map ch (stream_of v c held).entries)
-    (ends : (x : Entry) → entry_end (ch x) ≡ entry_end x) (starts : (x : Entry) → (ch x).start ≡ x.start) (only : (x : Entry) → (x.start ≡ h.start → ⊥) → ch x ≡ x) (legal : IsEntry (ch (claim_of v.identity.geometry h.start v.number false h.size))) where
+      (entries_are : map (entry_in (v.work.frames ++ frame_at v.identity h.start f ∷ [])) v.right.claims ≡ map ch (stream_of v c held).entries)
+      (ends : (x : Entry) → entry_end (ch x) ≡ entry_end x) (starts : (x : Entry) → (ch x).start ≡ x.start) (only : (x : Entry) → (x.start ≡ h.start → ⊥) → ch x ≡ x) (legal : IsEntry (ch (claim_of v.identity.geometry h.start v.number false h.size))) where
     abbrev later : List (Option Held)
     later = slice_set held v.number None
 

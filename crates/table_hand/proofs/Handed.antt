@@ -98,19 +98,19 @@ module _ (i : Identity) (start : ℕ) (cs : List ClaimRange) (fs ds : List Frame
       → entry_by cl (map frame_in new) ≡ e → e.owner ≡ cl.owner → d.limit ≡ c.limit → d.count ≡ count
       → stream_by i start (cs ++ cl ∷ []) (fs ++ new) d later ≡ record (with_entry s e bytes) { active = count; claims = map claim_in later }
   grown d cl new later e bytes count at low size long inside is owner limit counts = (λ j. record {
-      identity = i;
-      start = start;
-      tail = (ap (λ (n : ℕ). start + n) (sum_more cs cl) ∙ plus start (spans cs) (span cl.cuts) bytes size) j;
-      limit = limit_in (limit j);
-      connected = is_connected (limit j);
-      closed = is_closed (limit j);
-      consumers = [];
-      active = counts j;
-      shares = (shares_more cs cl low ∙ (λ k. with_share (shares_of cs) (sym owner k) (size k))) j;
-      cleaned = start;
-      entries = (entry_more start fs new cs cl w.follow at w.past inside ∙ (λ k. map (entry_in fs) cs ++ is k ∷ [])) j;
-      claims = map claim_in later;
-    })
+    identity = i;
+    start = start;
+    tail = (ap (λ (n : ℕ). start + n) (sum_more cs cl) ∙ plus start (spans cs) (span cl.cuts) bytes size) j;
+    limit = limit_in (limit j);
+    connected = is_connected (limit j);
+    closed = is_closed (limit j);
+    consumers = [];
+    active = counts j;
+    shares = (shares_more cs cl low ∙ (λ k. with_share (shares_of cs) (sym owner k) (size k))) j;
+    cleaned = start;
+    entries = (entry_more start fs new cs cl w.follow at w.past inside ∙ (λ k. map (entry_in fs) cs ++ is k ∷ [])) j;
+    claims = map claim_in later;
+  })
     where
       plus : (a b n m : ℕ) → n ≡ m → a + (b + n) ≡ a + b + m
       plus a b n m e = omega (arith, e)
@@ -160,13 +160,15 @@ module _ (i : Identity) (start : ℕ) (cs : List ClaimRange) (fs ds : List Frame
         let same = grown d range [] later (claim_of g tail by false n) (covered s n) c.count refl low (covers_framed g n legal) long tt refl refl limit settled.count in
         let all : stream_by i start (cs ++ range ∷ []) (fs ++ []) d later ≡ with_claim s by n = same ∙ ap (λ (xs : List (Option OpenClaim)). record (with_entry s (claim_of g tail by false n) (covered s n)) { claims = xs }) (map-set claim_in held by (Some h) ∙ ap (λ (x : OpenClaim). slice_set (map claim_in held) by (Some x)) open_is) in
         let keeps : IsStream (with_claim s by n) = claim_keeps s by n w.stream low short some inside in
-        let mine : blank h.start (32 + h.size) ≡ blank tail (32 + n) = (λ j. blank (at j) (32 + size j)) in
-        (all, whole_grown d range [] (ds ++ blank tail (32 + n) ∷ []) later (framed_length g n) c.count refl (covers_framed g n legal) long tt settled settled.count (length-set held by (Some h) ∙ w.eight)
-        (λ b x e. ⊎_elim
-        (λ (q : (b ≡ by) × (Some h ≡ Some x)). let one : h ≡ x = (let o = q.1 in cc) in among_right (blank x.start (32 + x.size)) ds (blank tail (32 + n) ∷ []) (inl (ap (λ (y : Held). blank y.start (32 + y.size)) (sym one) ∙ mine)))
-        (λ (q : slice_get held b ≡ Some (Some x)). among_left (blank x.start (32 + x.size)) ds (blank tail (32 + n) ∷ []) (w.begun b x q))
-        (set_get held by b (Some h) (Some x) e))
-        (subst IsStream (sym all) keeps))
+        let mine : blank h.start (32 + h.size) ≡ blank tail (32 + n) = (λ j. blank (at j) (32 + size j)) in (
+          all,
+          whole_grown d range [] (ds ++ blank tail (32 + n) ∷ []) later (framed_length g n) c.count refl (covers_framed g n legal) long tt settled settled.count (length-set held by (Some h) ∙ w.eight)
+              (λ b x e. ⊎_elim
+              (λ (q : (b ≡ by) × (Some h ≡ Some x)). let one : h ≡ x = (let o = q.1 in cc) in among_right (blank x.start (32 + x.size)) ds (blank tail (32 + n) ∷ []) (inl (ap (λ (y : Held). blank y.start (32 + y.size)) (sym one) ∙ mine)))
+              (λ (q : slice_get held b ≡ Some (Some x)). among_left (blank x.start (32 + x.size)) ds (blank tail (32 + n) ∷ []) (w.begun b x q))
+              (set_get held by b (Some h) (Some x) e))
+              (subst IsStream (sym all) keeps),
+        )
 
   -- ---- a refusal
 
@@ -176,27 +178,31 @@ module _ (i : Identity) (start : ℕ) (cs : List ClaimRange) (fs ds : List Frame
   -- the active term was used up
   pub used_up : (d : Controls) → tail ≡ (c.count + 1) * t → c.count + 1 < 2147483648 → Settled g ((c.count + 1) * t) (c.count + 1) d → d.limit ≡ c.limit → (stream_by i start cs fs d held ≡ record s { active = c.count + 1 }) × WholeBy i start cs fs ds d held
   used_up d end low settled limit =
-      let same : stream_by i start cs fs d held ≡ record s { active = c.count + 1 } = (λ j. record s { limit = limit_in (limit j); connected = is_connected (limit j); closed = is_closed (limit j); active = settled.count j }) in
-      (same, record {
-        settled = subst (λ (x : ℕ × ℕ). Settled g x.0 x.1 d) (λ j. (sym end j, sym settled.count j)) settled;
-        eight = w.eight;
-        follow = w.follow;
-        past = w.past;
-        begun = w.begun;
-        stream = subst IsStream (sym same) (turn_keeps s w.stream end low);
-      })
+      let same : stream_by i start cs fs d held ≡ record s { active = c.count + 1 } = (λ j. record s { limit = limit_in (limit j); connected = is_connected (limit j); closed = is_closed (limit j); active = settled.count j }) in (
+        same,
+        record {
+          settled = subst (λ (x : ℕ × ℕ). Settled g x.0 x.1 d) (λ j. (sym end j, sym settled.count j)) settled;
+          eight = w.eight;
+          follow = w.follow;
+          past = w.past;
+          begun = w.begun;
+          stream = subst IsStream (sym same) (turn_keeps s w.stream end low);
+        },
+      )
 
   pub used_last : (d : Controls) → tail ≡ (c.count + 1) * t → Settled g ((c.count + 1) * t) c.count d → d.limit ≡ c.limit → (stream_by i start cs fs d held ≡ s) × WholeBy i start cs fs ds d held
   used_last d end settled limit =
-      let same : stream_by i start cs fs d held ≡ s = (λ j. record s { limit = limit_in (limit j); connected = is_connected (limit j); closed = is_closed (limit j); active = settled.count j }) in
-      (same, record {
-        settled = subst (λ (x : ℕ × ℕ). Settled g x.0 x.1 d) (λ j. (sym end j, sym settled.count j)) settled;
-        eight = w.eight;
-        follow = w.follow;
-        past = w.past;
-        begun = w.begun;
-        stream = subst IsStream (sym same) w.stream;
-      })
+      let same : stream_by i start cs fs d held ≡ s = (λ j. record s { limit = limit_in (limit j); connected = is_connected (limit j); closed = is_closed (limit j); active = settled.count j }) in (
+        same,
+        record {
+          settled = subst (λ (x : ℕ × ℕ). Settled g x.0 x.1 d) (λ j. (sym end j, sym settled.count j)) settled;
+          eight = w.eight;
+          follow = w.follow;
+          past = w.past;
+          begun = w.begun;
+          stream = subst IsStream (sym same) w.stream;
+        },
+      )
 
   -- the rest of the term became a padding
   module _ (d : Controls) (by : ℕ) (low : by < 8) (some : tail < (c.count + 1) * t) where

@@ -165,7 +165,7 @@ start_is g start not = ⊎_elim
 
 -- what a log's opening ensures
 module _ (g : Geometry) (session stream : ℤ) (start : ℕ) (l : LogValue) (p : PublisherValue) (identity : l.identity ≡ record { geometry = g; session = to_z w32 (of_z w32 session); stream = to_z w32 (of_z w32 stream) }) (begins : l.start ≡ start) (new : IsWholeNew l p)
-  (legal : IsGeometry g) (session_fits : FitsSigned w32 session) (stream_fits : FitsSigned w32 stream) (not : (IsStart g start → ⊥) → ⊥) where
+    (legal : IsGeometry g) (session_fits : FitsSigned w32 session) (stream_fits : FitsSigned w32 stream) (not : (IsStart g start → ⊥) → ⊥) where
   identity_is : l.identity ≡ record { geometry = g; session = session; stream = stream }
   identity_is = identity ∙ (λ j. record { geometry = g; session = to_z-of_z w32 session session_fits j; stream = to_z-of_z w32 stream stream_fits j })
 
