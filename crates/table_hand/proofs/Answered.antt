@@ -1,12 +1,12 @@
 -- An offer's and a claim's answer is that of the stream which the pass with all publishers shows.
-use Rattle.std.proofs.Common.{◌≡◌, ◌∙◌, ℕ, suc, ◌+◌, ◌-◌, ◌*◌, ◌<◌, ◌≤◌, ◌⊎◌, inl, inr, ⊎_elim, List, [], ◌∷◌, ◌++◌, length, append-nil, Bool, true, false, cond, Some, None, refl, sym, ap, subst, arith}
+use Rattle.std.proofs.Common.{◌≡◌, ◌∙◌, ℕ, ◌+◌, ◌-◌, ◌*◌, ◌<◌, ◌≤◌, ⊎_elim, List, [], ◌∷◌, ◌++◌, length, append-nil, Bool, true, false, cond, Some, refl, sym, ap, subst, arith}
 use Rattle.std.specs.Prelude.{Option, Result, Ok, Err, nat_eq, slice_set}
 use Rattle.std.proofs.lemmas.Bool.{cond-false, cond-true, eq-eqb, ne_eqb}
-use Rattle.theory.specs.Position.{Geometry, aligned, cuts_of, framed_length, max_message, max_payload}
+use Rattle.theory.specs.Position.{Geometry, aligned, framed_length, max_payload}
 use Rattle.theory.specs.Placed.{Pad}
 use Rattle.theory.specs.Bytes.{Identity}
 use Rattle.theory.specs.Refusal.{IsLast, IsNotLast}
-use Rattle.publication.specs.Offers.{OfferCase, IsClosed, IsStale, IsUsedUp, IsLimited, Fits, Trips, refusal_at_end}
+use Rattle.publication.specs.Offers.{OfferCase, IsClosed, IsUsedUp, IsLimited, Fits, Trips, refusal_at_end}
 use Rattle.publication.specs.declared.refusal.Refusal.{Refusal}
 use Rattle.publication.specs.declared.refusal.Refusal.TheVariants.{NotConnected, BackPressured, AdminAction, Closed, MaxPositionExceeded}
 use Rattle.word_calls.specs.declared.pass.ClaimRange.{ClaimRange}
@@ -15,11 +15,10 @@ use Rattle.word_calls.specs.declared.pass.FrameWords.{FrameWords}
 use Rattle.word_calls.specs.declared.pass.Pass.{Pass}
 use Rattle.word_calls.specs.declared.refusal.Refusal as calls
 use Rattle.word_calls.specs.declared.refusal.Refusal.TheVariants as whys
-use Rattle.word_calls.specs.Steps.{Keeps, blank, blanks, geometry_of, opened, seeing, with_work, works}
+use Rattle.word_calls.specs.Steps.{Keeps, blank, opened, with_work, works}
 use Rattle.word_calls.specs.Frames.{frame_at, message_frames}
-use Rattle.word_calls.specs.Offers.{Offered, Opened}
-use Rattle.word_calls.specs.Alone.{Ends, FindsClosed, FindsEnd, PadsEnd, Reaches, RefusedAlone, TakesAt, message_from, padded_from}
-use Rattle.one_hand.specs.Stream.{Stream, after, after_claim, after_offer, answer, answer_of, case_of, covered, room, term_of, turned, with_claim, with_message, with_padding}
+use Rattle.word_calls.specs.Alone.{Ends, FindsClosed, FindsEnd, PadsEnd, Reaches, RefusedAlone, TakesAt, message_from}
+use Rattle.one_hand.specs.Stream.{Stream, after, after_claim, after_offer, answer, answer_of, case_of, room, turned, with_claim, with_message, with_padding}
 use Rattle.table_hand.specs.declared.held.Held.{Held}
 use Rattle.table_hand.specs.Shown.{WholeBy, IsWhole, said, stream_by, stream_of}
 use Rattle.table_hand.proofs.Said.{IsSmall}

@@ -1,9 +1,8 @@
 -- What the end of an open claim makes of the stream that the pass with all publishers shows.
-use Rattle.std.proofs.Common.{◌≡◌, ◌∙◌, ℕ, zero, suc, ◌+◌, ◌-◌, ◌*◌, ◌/◌, ◌<◌, ◌≤◌, ◌⊎◌, inl, inr, ⊎_elim, List, [], ◌∷◌, ◌++◌, map, length, length-set, Bool, true, false, cond, Some, None, refl, sym, ap, subst, arith}
+use Rattle.std.proofs.Common.{◌≡◌, ◌∙◌, ℕ, zero, suc, ◌+◌, ◌*◌, ◌<◌, ◌≤◌, inl, inr, ⊎_elim, List, [], ◌∷◌, ◌++◌, map, length, length-set, Bool, true, false, cond, Some, None, refl, sym, ap, subst, arith}
 use Rattle.std.specs.Prelude.{Option, nat_eq, slice_get, slice_index_or, slice_set}
-use Rattle.std.specs.List.{AllByRecursion}
 use Rattle.std.proofs.Math.Nat.{mul-le-mul_right}
-use Rattle.std.proofs.lemmas.Bool.{cond-false, cond-true, eq-eqb, ne_eqb}
+use Rattle.std.proofs.lemmas.Bool.{cond-false, eq-eqb, ne_eqb}
 use Rattle.std.proofs.lemmas.List.{map-set}
 use Rattle.theory.specs.Position.{Geometry, aligned, cuts_of, max_payload, max_position, span}
 use Rattle.theory.specs.Placed.{Among, Data, Frame, Pad, frame_length}
@@ -19,7 +18,7 @@ use Rattle.word_calls.specs.Steps.{blank, with_work}
 use Rattle.word_calls.specs.Frames.{frame_at}
 use Rattle.word_calls.specs.Claims.{Fills, HasBlank}
 use Rattle.one_hand.specs.Legal.{IsOpenClaim, IsStream}
-use Rattle.one_hand.specs.Stream.{Aborts, Commits, OpenClaim, Stream, aborted_at, claim_by, claim_end, with_abort, with_commit, with_frame, without_claim}
+use Rattle.one_hand.specs.Stream.{Aborts, Commits, OpenClaim, Stream, aborted_at, claim_by, claim_end, with_frame, without_claim}
 use Rattle.table_hand.specs.declared.held.Held.{Held}
 use Rattle.table_hand.specs.Shown.{WholeBy, IsWhole, claim_in, entry_in, open_claim, stream_by, stream_of}
 use Rattle.table_hand.proofs.Said.{IsSmall}

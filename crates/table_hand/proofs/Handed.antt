@@ -1,42 +1,35 @@
 -- What the calls of the pass that has all publishers make of the stream that it shows.
-use Rattle.std.proofs.Common.{◌≡◌, ◌∙◌, ℕ, zero, suc, ◌+◌, ◌-◌, ◌*◌, ◌/◌, ◌%◌, ◌<◌, ◌≤◌, ◌⊎◌, inl, inr, ⊎_elim, List, [], ◌∷◌, ◌++◌, map, length, length-set, append-nil, Bool, true, false, cond, Some, None, refl, sym, ap, subst, arith}
-use Rattle.std.specs.Prelude.{Option, Result, Ok, Err, nat_eq, nat_le, slice_get, slice_index_or, slice_set}
-use Rattle.std.specs.List.{AllByRecursion, list_any}
+use Rattle.std.proofs.Common.{◌≡◌, ◌∙◌, ℕ, zero, suc, ◌+◌, ◌-◌, ◌*◌, ◌%◌, ◌<◌, ◌≤◌, inl, ⊎_elim, List, [], ◌∷◌, ◌++◌, map, length, length-set, true, false, cond, Some, refl, sym, ap, subst, arith}
+use Rattle.std.specs.Prelude.{Option, nat_eq, nat_le, slice_get, slice_set}
+use Rattle.std.specs.List.{AllByRecursion}
 use Rattle.std.proofs.lemmas.Bool.{cond-false, cond-true, eq-eqb, le-leb, lt-leb, ne_eqb}
 use Rattle.std.proofs.lemmas.List.{map-set}
-use Rattle.theory.specs.Position.{Geometry, IsGeometry, aligned, cuts_of, framed_length, max_message, max_payload, max_position, span}
-use Rattle.theory.specs.Placed.{Among, Data, Frame, Pad, is_padding}
+use Rattle.theory.specs.Position.{Geometry, IsGeometry, aligned, cuts_of, framed_length, max_payload, span}
+use Rattle.theory.specs.Placed.{Among, Frame, Pad}
 use Rattle.theory.specs.Entry.{Entry, pieces_of}
 use Rattle.theory.specs.Bytes.{Identity}
-use Rattle.theory.specs.Refusal.{IsLast, IsNotLast, is_closed, is_connected, limit_in}
+use Rattle.theory.specs.Refusal.{is_closed, is_connected, limit_in}
 use Rattle.theory.proofs.Claims.{covers_framed}
-use Rattle.theory.proofs.Cuts.{cut_units, long_cuts, short_cuts, span_unit}
+use Rattle.theory.proofs.Cuts.{cut_units, long_cuts, span_unit}
 use Rattle.theory.proofs.Holds.{holds_bytes}
 use Rattle.theory.proofs.Lists.{all_append, all_weaker, among_left, among_right}
 use Rattle.theory.proofs.Places.{power_unit}
 use Rattle.term_buffer.specs.Kept.{claim_of, padded, published, with_share}
-use Rattle.publication.specs.Offers.{OfferCase, IsClosed, IsStale, IsUsedUp, IsLimited, Fits, Trips, refusal_at_end}
-use Rattle.publication.specs.declared.refusal.Refusal.{Refusal}
-use Rattle.publication.specs.declared.refusal.Refusal.TheVariants.{NotConnected, BackPressured, AdminAction, Closed, MaxPositionExceeded}
+use Rattle.publication.specs.Offers.{IsClosed, IsUsedUp, IsLimited, Fits, Trips}
 use Rattle.word_calls.specs.declared.pass.ClaimRange.{ClaimRange}
 use Rattle.word_calls.specs.declared.pass.Controls.{Controls}
 use Rattle.word_calls.specs.declared.pass.FrameWords.{FrameWords}
-use Rattle.word_calls.specs.declared.pass.Pass.{Pass}
-use Rattle.word_calls.specs.declared.refusal.Refusal as calls
-use Rattle.word_calls.specs.declared.refusal.Refusal.TheVariants as whys
-use Rattle.word_calls.specs.Steps.{Keeps, blank, geometry_of}
-use Rattle.word_calls.specs.Frames.{frame_at, frames_at, message_frames}
-use Rattle.word_calls.specs.Claims.{Claimed}
-use Rattle.word_calls.specs.Offers.{Offered, Opened}
-use Rattle.word_calls.specs.Alone.{Ends, FindsClosed, FindsEnd, MayAdd, PadsEnd, Reaches, RefusedAlone, Settled, TakesAt, message_from, padded_from, padding_from}
-use Rattle.one_hand.specs.Legal.{IsOpenClaim, IsStream}
-use Rattle.one_hand.specs.Stream.{OpenClaim, Stream, aborted_at, after, after_claim, after_offer, answer, answer_of, case_of, covered, refusal_at_limit, room, term_of, turned, with_claim, with_entry, with_frame, with_message, with_padding, without_claim}
+use Rattle.word_calls.specs.Steps.{blank}
+use Rattle.word_calls.specs.Frames.{frame_at, message_frames}
+use Rattle.word_calls.specs.Alone.{Settled}
+use Rattle.one_hand.specs.Legal.{IsStream}
+use Rattle.one_hand.specs.Stream.{OpenClaim, Stream, case_of, covered, room, term_of, with_claim, with_entry, with_message, with_padding}
 use Rattle.table_hand.specs.declared.held.Held.{Held}
-use Rattle.table_hand.specs.Shown.{Follow, WholeBy, IsWhole, claim_in, end_of, entry_in, frame_in, open_claim, said, shares_of, spans, stream_by, stream_of}
+use Rattle.table_hand.specs.Shown.{WholeBy, claim_in, end_of, entry_in, frame_in, open_claim, shares_of, spans, stream_by}
 use Rattle.table_hand.proofs.Said.{IsSmall}
-use Rattle.table_hand.proofs.Pieced.{data_said, no_padding, pad_said, pieces_said, pieces_within}
-use Rattle.table_hand.proofs.Entries.{data_more, entry_by, entry_more, follow_more, pad_more, shares_more, sum_more}
-use Rattle.table_hand.proofs.Keeps.{claim_keeps, ends_keeps, message_keeps, padding_keeps, payload_sum, set_get, turn_keeps}
+use Rattle.table_hand.proofs.Pieced.{no_padding, pad_said, pieces_said, pieces_within}
+use Rattle.table_hand.proofs.Entries.{entry_by, entry_more, follow_more, shares_more, sum_more}
+use Rattle.table_hand.proofs.Keeps.{claim_keeps, message_keeps, payload_sum, set_get, turn_keeps}
 
 -- ---- how an offer goes
 

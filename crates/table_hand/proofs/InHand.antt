@@ -1,7 +1,7 @@
 -- What the calls of the pass that has all publishers come to in one hand.
-use Rattle.std.proofs.Common.{◌≡◌, ◌∙◌, ℕ, zero, suc, ◌+◌, ◌-◌, ◌*◌, ◌<◌, ◌≤◌, List, [], ◌∷◌, ◌++◌, length, get_or, Some, None, sym, refl, ap, subst, arith}
-use Rattle.std.specs.Prelude.{Option, Result, Ok, Err, slice_get, slice_index_or, slice_set}
-use Rattle.theory.specs.Position.{IsGeometry, aligned, framed_length, max_message, max_payload}
+use Rattle.std.proofs.Common.{◌≡◌, ◌∙◌, ℕ, zero, suc, ◌+◌, ◌<◌, ◌≤◌, List, [], ◌∷◌, ◌++◌, length, get_or, Some, None, sym, refl, ap, subst, arith}
+use Rattle.std.specs.Prelude.{Option, Ok, Err, slice_get, slice_index_or, slice_set}
+use Rattle.theory.specs.Position.{aligned, max_message, max_payload}
 use Rattle.theory.specs.Placed.{Data, Frame, Pad, frame_length}
 use Rattle.publication.specs.declared.refusal.Refusal.{Refusal}
 use Rattle.word_calls.specs.declared.pass.Pass.{Pass}
@@ -12,7 +12,7 @@ use Rattle.word_calls.specs.Steps.{blank}
 use Rattle.std.proofs.Common.{Fits, w8}
 use Rattle.theory.specs.Bytes.{Identity}
 use Rattle.word_calls.specs.declared.step.WordStep.{WordStep}
-use Rattle.word_calls.specs.Claims.{Claimed, Fills, HasBlank, Justified}
+use Rattle.word_calls.specs.Claims.{Fills, Justified}
 use Rattle.word_calls.specs.Offers.{Offered, Opened}
 use Rattle.word_calls.proofs.Alone as alone
 use Rattle.tail_claim.specs.Handles.{IsOf, LogValue, PublisherValue, Took}

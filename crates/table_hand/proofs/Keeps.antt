@@ -1,24 +1,24 @@
 -- A hand's calls keep what holds of its stream.
-use Rattle.std.proofs.Common.{◌≡◌, ◌∙◌, ℕ, zero, suc, ◌+◌, ◌-◌, ◌*◌, ◌/◌, ◌<◌, ◌≤◌, ◌⊎◌, inl, inr, ⊎_elim, List, [], ◌∷◌, ◌++◌, map, length, length-set, length-take, length-drop, take, drop, Bool, true, false, Some, None, refl, sym, ap, subst, arith}
-use Rattle.std.specs.Prelude.{Option, nat_eq, slice_get, slice_index, slice_set, sum}
+use Rattle.std.proofs.Common.{◌≡◌, ◌∙◌, ℕ, zero, suc, ◌+◌, ◌-◌, ◌*◌, ◌/◌, ◌<◌, ◌≤◌, ◌⊎◌, inl, inr, ⊎_elim, List, [], ◌∷◌, ◌++◌, map, length, length-set, length-take, length-drop, drop, Bool, true, false, Some, None, refl, sym, ap, subst, arith}
+use Rattle.std.specs.Prelude.{Option, nat_eq, slice_get, slice_index, slice_set}
 use Rattle.std.specs.List.{AllByRecursion, sum_by}
 use Rattle.std.proofs.lemmas.Bool.{cases_Bool, eq-eqb, eqb-true, false≢true}
 use Rattle.std.proofs.lemmas.List.Sums.{sum_by-cons}
 use Rattle.std.proofs.lemmas.Nat.{div-mul-add}
-use Rattle.theory.specs.Position.{Geometry, IsGeometry, aligned, cuts_of, framed_length, max_message, max_payload, span}
-use Rattle.theory.specs.Placed.{Among, Data, Frame, Pad}
-use Rattle.theory.specs.Entry.{ArePieces, Entry, HaveFrames, IsEntry, entry_end, length_of, pieces_of}
+use Rattle.theory.specs.Position.{Geometry, IsGeometry, aligned, cuts_of, max_payload, span}
+use Rattle.theory.specs.Placed.{Among}
+use Rattle.theory.specs.Entry.{ArePieces, Entry, IsEntry, entry_end, length_of, pieces_of}
 use Rattle.theory.specs.Tiling.{InOneTerm, Tiles}
 use Rattle.theory.proofs.Claims.{covers_framed}
-use Rattle.theory.proofs.Cuts.{cut_units, long_cuts, short_cuts}
+use Rattle.theory.proofs.Cuts.{cut_units, long_cuts}
 use Rattle.theory.proofs.Holds.{holds_bytes}
 use Rattle.theory.proofs.Lists.{all_append, all_map, all_weaker, among_left, among_right}
 use Rattle.theory.proofs.Pieces.{payload_in}
 use Rattle.theory.proofs.Tables.{sum_set}
 use Rattle.theory.proofs.Tiling.{Tiles-map, Tiles-push}
-use Rattle.term_buffer.specs.Kept.{claim_of, padded, published, with_share}
+use Rattle.term_buffer.specs.Kept.{claim_of, padded, published}
 use Rattle.one_hand.specs.Legal.{IsOpenClaim, IsStream}
-use Rattle.one_hand.specs.Stream.{OpenClaim, Stream, aborted_at, covered, room, term_of, with_claim, with_entry, with_frame, with_message, with_padding, without_claim}
+use Rattle.one_hand.specs.Stream.{OpenClaim, Stream, covered, room, term_of, with_claim, with_entry, with_message, with_padding, without_claim}
 
 -- ---- entries
 

@@ -1,7 +1,7 @@
 -- What a log that was just opened is in one hand.
-use Rattle.std.proofs.Common.{◌≡◌, ◌∙◌, ◌≢◌, ℕ, zero, suc, ◌+◌, ◌-◌, ◌*◌, ◌/◌, ◌%◌, ◌<◌, ◌≤◌, ◌⊎◌, inl, inr, ⊎_elim, List, [], ◌∷◌, map, min, length, length-set, get_or-set_other, Bool, true, false, Some, None, refl, sym, ap, subst, arith, mod-lt}
+use Rattle.std.proofs.Common.{◌≡◌, ◌∙◌, ◌≢◌, ℕ, zero, suc, ◌+◌, ◌*◌, ◌/◌, ◌%◌, ◌<◌, ◌≤◌, ⊎_elim, List, [], ◌∷◌, map, min, length, length-set, get_or-set_other, true, false, Some, None, refl, sym, ap, subst, arith, mod-lt}
 use Rattle.std.proofs.Common.{to_z, of_z}
-use Rattle.std.specs.Prelude.{ℤ, FitsSigned, Option, replicate, slice_get, slice_index, slice_set, nat_eq}
+use Rattle.std.specs.Prelude.{ℤ, FitsSigned, Option, replicate, slice_get, slice_set}
 use Rattle.std.proofs.lemmas.Bool.{cases_lt, eq-eqb, ne_eqb}
 use Rattle.std.proofs.Math.Nat.{div-lt_iff_lt-mul}
 use Rattle.std.proofs.lemmas.Nat.{div-add-mod'}
@@ -20,8 +20,8 @@ use Rattle.word_calls.proofs.Packed.{before_fits, id_of_word}
 use Rattle.tail_claim.specs.Handles.{IsStart, IsWholeNew, LogValue, PublisherValue}
 use Rattle.tail_claim.specs.Plays.{newcomer}
 use Rattle.tail_claim.specs.Sure.{fresh_controls}
-use Rattle.one_hand.specs.Legal.{IsOpenClaim, IsStream}
-use Rattle.one_hand.specs.Stream.{OpenClaim, Stream}
+use Rattle.one_hand.specs.Legal.{IsStream}
+use Rattle.one_hand.specs.Stream.{OpenClaim}
 use Rattle.table_hand.specs.declared.held.Held.{Held}
 use Rattle.table_hand.specs.Shown.{IsWhole, claim_in, stream_of}
 use Rattle.table_hand.specs.Hands.{IsInHand, ready, stream_in}

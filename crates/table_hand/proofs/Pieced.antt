@@ -1,11 +1,10 @@
 -- The words of a message's frames say its pieces, and the frames lie in its range.
-use Rattle.std.proofs.Common.{◌≡◌, ◌∙◌, ℕ, zero, suc, ◌+◌, ◌-◌, ◌*◌, ◌/◌, ◌<◌, ◌≤◌, ⊎_elim, List, [], ◌∷◌, map, length, length-take, length-drop, take, drop, get_or, Bool, true, false, refl, sym, ap, subst, arith}
-use Rattle.std.specs.Prelude.{slice_index}
+use Rattle.std.proofs.Common.{◌≡◌, ℕ, ◌+◌, ◌-◌, ◌/◌, ◌<◌, ◌≤◌, ⊎_elim, List, [], ◌∷◌, map, length, length-take, length-drop, take, drop, Bool, true, false, refl, sym, ap, subst, arith}
 use Rattle.std.specs.List.{AllByRecursion, list_any}
 use Rattle.std.proofs.lemmas.Bool.{cases_lt}
 use Rattle.std.proofs.lemmas.List.{get_or-drop, get_or-take, get_or_past}
 use Rattle.theory.specs.Position.{aligned, span}
-use Rattle.theory.specs.Placed.{Data, Frame, Pad, frame_length, is_padding}
+use Rattle.theory.specs.Placed.{Data, Pad, frame_length, is_padding}
 use Rattle.theory.specs.Entry.{flags_of, pieces_of}
 use Rattle.theory.specs.Bytes.{Identity}
 use Rattle.theory.proofs.Pieces.{payload_in}

@@ -1,15 +1,14 @@
 -- A frame's words say which frame it is.
-use Rattle.std.proofs.Common.{◌≡◌, ℕ, zero, suc, ◌+◌, ◌-◌, ◌*◌, ◌/◌, ◌%◌, ◌^◌, ◌<◌, ◌≤◌, ⊎_elim, List, [], ◌∷◌, ◌++◌, length, take, drop, get_or, replicate, length-append, sym, refl, ap, ◌∙◌, arith}
+use Rattle.std.proofs.Common.{◌≡◌, ℕ, zero, suc, ◌+◌, ◌-◌, ◌*◌, ◌/◌, ◌<◌, ◌≤◌, List, [], ◌++◌, length, take, drop, get_or, replicate, sym, refl, ap, ◌∙◌, arith}
 use Rattle.std.specs.Prelude.{slice_index}
-use Rattle.std.specs.Int.{w16, w32, w64, from_le_bytes, to_le_bytes}
-use Rattle.std.specs.List.{flat_map}
+use Rattle.std.specs.Int.{w64, from_le_bytes, to_le_bytes}
 use Rattle.std.proofs.lemmas.Nat.{from_le_bytes-to_le_bytes_4, le_bytes_8}
-use Rattle.std.proofs.lemmas.List.{length-replicate, take-append-le, take_all}
+use Rattle.std.proofs.lemmas.List.{take-append-le, take_all}
 use Rattle.theory.specs.Position.{aligned}
-use Rattle.theory.specs.Placed.{Data, Frame, Pad, frame_length}
+use Rattle.theory.specs.Placed.{Data, Pad}
 use Rattle.theory.specs.Wire.{front}
 use Rattle.theory.specs.Bytes.{Identity}
-use Rattle.word_calls.specs.Frames.{frame_at, frame_words, payload_words}
+use Rattle.word_calls.specs.Frames.{frame_at, payload_words}
 use Rattle.word_calls.proofs.Wordings.{data_words, pad_words, words_length, words_rest, words_spell}
 use Rattle.table_hand.specs.Shown.{bytes_in, frame_by, frame_in}
 

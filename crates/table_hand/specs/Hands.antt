@@ -1,5 +1,5 @@
 -- A log on a table in one hand: what holds between two calls, and what its calls come to.
-use Rattle.std.specs.Prelude.{◌≡◌, ℕ, ◌+◌, ◌/◌, ◌≤◌, List, Option, None, Some, Result, Ok, Err, IfOk, IfErr, length, slice_get, slice_set, true}
+use Rattle.std.specs.Prelude.{◌≡◌, ℕ, ◌+◌, ◌/◌, ◌≤◌, List, Option, None, Some, Result, Ok, Err, length, slice_get, slice_set, true}
 use Rattle.theory.specs.Position.{aligned, framed_length, max_payload, max_position}
 use Rattle.theory.specs.Bytes.{Identity}
 use Rattle.publication.specs.declared.refusal.Refusal.{Refusal}

@@ -1,5 +1,5 @@
 -- The stream that a log on a table shows, by the pass that has all its publishers.
-use Rattle.std.specs.Prelude.{◌≡◌, ℕ, ◌+◌, ◌-◌, ◌*◌, ◌<◌, ◌≤◌, ◌&&◌, ⊤, Bool, List, [], ◌∷◌, map, nat_eq, nat_le, if◌then◌else◌, length, Option, None, Some, slice_get}
+use Rattle.std.specs.Prelude.{◌≡◌, ℕ, ◌+◌, ◌-◌, ◌<◌, ◌&&◌, ⊤, Bool, List, [], ◌∷◌, map, nat_eq, nat_le, if◌then◌else◌, length, Option, None, Some, slice_get}
 use Rattle.std.specs.Int.{w32, w64, from_le_bytes, to_le_bytes}
 use Rattle.std.specs.List.{AllByRecursion, filter, flat_map, list_any}
 use Rattle.std.specs.Prelude.{drop, take, slice_index}

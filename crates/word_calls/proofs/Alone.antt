@@ -1,12 +1,12 @@
 -- A claim's answer where nobody else takes a step.
-use Rattle.std.proofs.Common.{◌≡◌, ◌≢◌, ℕ, zero, suc, ◌+◌, ◌-◌, ◌*◌, ◌/◌, ◌%◌, ◌^◌, ◌<◌, ◌≤◌, ◌⊎◌, inl, inr, ⊎_elim, Bool, true, false, cond, min, List, [], ◌∷◌, ◌++◌, length, length-set, get_or-set_other, sym, refl, ap, ◌∙◌, subst, lt_of_not-le, arith}
+use Rattle.std.proofs.Common.{◌≡◌, ◌≢◌, ℕ, ◌+◌, ◌-◌, ◌*◌, ◌%◌, ◌^◌, ◌<◌, ◌≤◌, ◌⊎◌, inl, inr, ⊎_elim, Bool, true, false, cond, min, List, [], ◌∷◌, ◌++◌, length-set, get_or-set_other, sym, refl, ap, ◌∙◌, subst, arith}
 use Rattle.std.specs.Prelude.{nat_eq, slice_set}
-use Rattle.std.proofs.lemmas.Bool.{cond-true, eq-eqb, false≢true}
+use Rattle.std.proofs.lemmas.Bool.{cond-true, eq-eqb}
 use Rattle.std.proofs.lemmas.List.{get_or-set_same}
 use Rattle.theory.specs.Placed.{Pad}
 use Rattle.theory.specs.Position.{Geometry, IsGeometry, cuts_of, framed_length, id_of, max_message}
 use Rattle.theory.specs.Refusal.{IsLast, IsNotLast, is_closed, is_connected, limit_in}
-use Rattle.theory.specs.Words.{id_before, id_in, offset_in, tail_word}
+use Rattle.theory.specs.Words.{id_in, offset_in, tail_word}
 use Rattle.theory.proofs.Claims.{claim_bounded}
 use Rattle.theory.proofs.Named.{counts}
 use Rattle.std.specs.Int.{w32, cast_unsigned}
@@ -17,11 +17,11 @@ use Rattle.word_calls.specs.declared.refusal.Refusal.{Refusal}
 use Rattle.word_calls.specs.declared.refusal.Refusal.TheVariants.{NotConnected, BackPressured, AdminAction, Closed, MaxPositionExceeded}
 use Rattle.word_calls.specs.declared.step.WordStep.{WordStep}
 use Rattle.word_calls.specs.declared.step.WordStep.TheVariants as steps
-use Rattle.word_calls.specs.Steps.{Keeps, Names, begun_word, count_in, geometry_of, message_at, opened, seeing, start_in, term_of}
+use Rattle.word_calls.specs.Steps.{Keeps, begun_word, count_in, geometry_of, opened, start_in}
 use Rattle.word_calls.specs.Frames.{frame_at}
-use Rattle.word_calls.specs.Controls.{Finds, Leads, left, tail_in, with_tail}
-use Rattle.word_calls.specs.Claims.{AtLimit, Claimed, Finished, IsTurn, Justified, Leaves, LeavesPadding, Refused, Saw, Shut, Stale, Tripped, TurnsFrom, addition_to, padded, position_in}
-use Rattle.word_calls.specs.Alone.{Ends, FindsClosed, FindsEnd, MayAdd, PadsEnd, Reaches, RefusedAlone, Settled, TakesAt, message_from, padded_from, padding_from}
+use Rattle.word_calls.specs.Controls.{Leads, tail_in, with_tail}
+use Rattle.word_calls.specs.Claims.{AtLimit, Claimed, Finished, IsTurn, Justified, Leaves, LeavesPadding, Refused, Saw, Shut, Stale, Tripped, TurnsFrom, addition_to}
+use Rattle.word_calls.specs.Alone.{Ends, FindsClosed, FindsEnd, PadsEnd, Reaches, RefusedAlone, Settled, TakesAt}
 use Rattle.word_calls.proofs.Packed.{add_to_word, before_count, before_next, id_fits, id_of_word, offset_of_word}
 
 count_is : (g : Geometry) (word k : ℕ) → IsGeometry g → k < 2147483648 → id_in word ≡ id_of g k → count_in g word ≡ k
