@@ -7,17 +7,19 @@ use Rattle.std.specs.Prelude.{slice_index}
 use Rattle.std.specs.List.{AllByRecursion}
 use Rattle.theory.specs.Position.{framed_length, id_of}
 use Rattle.theory.specs.Entry.{Entry, length_of}
+use Rattle.theory.specs.Bytes.{Identity}
 use Rattle.theory.specs.Words.{tail_word}
 use Rattle.theory.proofs.Lists.{all_behind}
 use Rattle.word_calls.specs.declared.pass.ClaimRange.{ClaimRange}
 use Rattle.word_calls.specs.declared.pass.FrameWords.{FrameWords}
 use Rattle.word_calls.specs.declared.pass.Pass.{Pass}
-use Rattle.word_calls.specs.Steps.{Adds, Advances, Arms, BeginsFrame, Commits, Counts, HasWord, Nexts, Rotates, Sees, Stores, geometry_of, noted, with_count, with_limit, written}
+use Rattle.word_calls.specs.Steps.{Adds, Advances, Arms, Commits, Counts, HasWord, Nexts, Rotates, Sees, Stores, geometry_of, noted, with_count, with_limit, written}
 use Rattle.word_calls.specs.declared.step.WordStep.TheVariants as steps
+use Rattle.word_calls.specs.Frames.{Completes}
 use Rattle.tail_claim.specs.Packs.{count_place, limit_place, slot, tail_place}
 use Rattle.tail_claim.specs.Sums.{covers, total}
 use Rattle.tail_claim.specs.Rule.{Bounds, IsClaim, entries_of, entry_of, weight}
-use Rattle.tail_claim.specs.Memory.{Ruled, tail_of}
+use Rattle.tail_claim.specs.Memory.{IsDone, Ruled, tail_of}
 use Rattle.tail_claim.specs.Admits.{Admits, Same}
 use Rattle.tail_claim.specs.Events.{Eventful, IsClaimed, IsLook, StepsAreEvents, committed_weight}
 use Rattle.tail_claim.proofs.Totals.{total_append, total_set}
@@ -80,6 +82,7 @@ eventful : (b : Bounds) (id : ℕ) (v : Pass) (i : ℕ) (f : ℕ → ℕ) (told 
 eventful b id v i f told go grows ws ps r at = let g = go ws ps r at in (
   g.0,
   g.1,
+  g.2.0,
   g.2.1,
   ⊎_elim
       (λ (s : Stays v g.0). inl (look ps id v g.0 at s.claims (ap (λ k. k.frames) s.work)))
@@ -91,18 +94,20 @@ stored : (b : Bounds) (id : ℕ) (v : Pass) (p x : ℕ) → HasWord v 1 p → Ev
 stored b id v p x h ws ps r at = let g = whole.store b id v p x h ws ps r at in let e = g.2.1 h.front h.draft h.behind h.place h.parts h.above h.inside h.position in (
   g.0,
   g.1,
+  g.2.0,
   g.2.1,
   inl (look ps id v g.0 at (ap (λ y. y.right.claims) e) (ap (λ y. y.work.frames) e)),
 )
 
-committed : (b : Bounds) (id : ℕ) (v : Pass) (p x : ℕ) → BeginsFrame v p → 0 < x → Eventful b id v (slot (geometry_of v) p) (λ _. x) (λ _ w. Commits v p x w)
+committed : (b : Bounds) (id : ℕ) (v : Pass) (p x : ℕ) → Completes v p x → 0 < x → Eventful b id v (slot (geometry_of v) p) (λ _. x) (λ _ w. Commits v p x w)
 committed b id v p x h pos ws ps r at = let g = whole.commit b id v p x h pos ws ps r at in let e = g.2.1 h.front h.draft h.behind h.parts h.inside h.position in let f : FrameWords = written h.draft 0 x in (
   g.0,
   g.1,
+  g.2.0,
   g.2.1,
   inr (inr record {
     frame = f;
-    done = subst (λ (z : ℕ). 0 < z) (sym (whole.first_set h.draft.words x h.inside)) pos;
+    done = subst (λ (i : Identity). IsDone i f) (r.claims.each id v at).identity (whole.completed v p x h pos);
     claimed = λ k. same_sum (weight k) ps id v g.0 at (ap (λ y. total k (map entry_of y.right.claims)) e);
     committed = λ k. more_sum (committed_weight k) ps id v g.0 (k f) at (ap (λ y. total k y.work.frames) e ∙ total_append k v.work.frames (f ∷ []));
   }),
@@ -110,13 +115,13 @@ committed b id v p x h pos ws ps r at = let g = whole.commit b id v p x h pos ws
 
 pub steps_are_events : StepsAreEvents
 steps_are_events = record {
-  load_limit = λ b id v. eventful b id v limit_place (λ n. n) (λ n w. Sees v n w) (whole.see b id v) (λ n w t. whole.stays v w (noted (steps.Limit n) (with_limit v n)) refl refl refl refl t);
-  load_count = λ b id v. eventful b id v count_place (λ n. n) (λ n w. Counts v n w) (whole.count b id v) (λ n w t. whole.stays v w (noted (steps.Count n) (with_count v n)) refl refl refl refl t.after);
+  load_limit = λ b id v. eventful b id v limit_place (λ n. n) (λ n w. Sees v n w) (whole.see b id v) (λ n w t. whole.stays v w (noted (steps.Limit n) (with_limit v n)) refl refl refl refl refl refl t);
+  load_count = λ b id v. eventful b id v count_place (λ n. n) (λ n w. Counts v n w) (whole.count b id v) (λ n w t. whole.stays v w (noted (steps.Count n) (with_count v n)) refl refl refl refl refl refl t.after);
   load_tail = λ b id v able. eventful b id v (tail_place v.seen.count) (λ n. n) (λ n w. Arms v n w) (whole.arm b id v able) (λ n w t. whole.arms_grows v n w t);
   add = λ b id v size able armed short. eventful b id v (tail_place v.seen.term) (λ y. (y + framed_length v.identity.geometry size) % 2 ^ 64) (λ y w. Adds v size y w) (whole.add b id v size able armed short) (λ n w t. whole.adds_grows v size n w t);
   load_next = λ b id v k full low. eventful b id v (tail_place (k + 1)) (λ n. n) (λ n w. Nexts v k n w) (whole.next b id v k full low) (λ n w t. whole.nexts_grows v k n w t);
   exchange_next = λ b id v k from full low named. eventful b id v (tail_place (k + 1)) (λ n. either (eqb n from) (tail_word (id_of v.identity.geometry (k + 1)) 0) n) (λ n w. Rotates v k from n w) (whole.rotate b id v k from (tail_word (id_of v.identity.geometry (k + 1)) 0) full low named refl) (λ n w t. whole.rotates_grows v k from n w t);
-  exchange_count = λ b id v k began. eventful b id v count_place (λ n. either (eqb n k) (k + 1) n) (λ n w. Advances v k n w) (whole.advance b id v k began) (λ n w t. whole.stays v w (noted (steps.CountExchange k n) v) refl refl refl refl t.after);
+  exchange_count = λ b id v k began. eventful b id v count_place (λ n. either (eqb n k) (k + 1) n) (λ n w. Advances v k n w) (whole.advance b id v k began) (λ n w t. whole.stays v w (noted (steps.CountExchange k n) v) refl refl refl refl refl refl t.after);
   store = stored;
   commit = committed;
 }

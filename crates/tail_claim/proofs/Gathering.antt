@@ -52,7 +52,7 @@ joined b ws ps r i j v w at ne at' off off' able =
       stands = all_cross (Stands b ws) v.work.frames w.work.frames v.work.drafts w.work.drafts m.stands m'.stands;
       placed = λ h. total_flat h ranges_of (v.right.claims ++ w.right.claims) ∙ total_append (λ c. total h (ranges_of c)) v.right.claims w.right.claims ∙ (λ x. sym (total_flat h ranges_of v.right.claims) x + sym (total_flat h ranges_of w.right.claims) x) ∙ (λ x. m.placed h x + m'.placed h x) ∙ sym (sum_cross h v.work.frames w.work.frames v.work.drafts w.work.drafts);
       aligned = all_cross IsAligned v.work.frames w.work.frames v.work.drafts w.work.drafts m.aligned m'.aligned;
-      done = all_append IsDone v.work.frames w.work.frames m.done m'.done;
+      done = all_append (IsDone b.identity) v.work.frames w.work.frames m.done m'.done;
       undone = all_append IsOpen v.work.drafts w.work.drafts m.undone m'.undone;
       kept = all_append (λ f. b.cleaned ≤ f.start) v.work.drafts w.work.drafts m.kept m'.kept;
     } in

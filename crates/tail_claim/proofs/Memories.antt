@@ -116,6 +116,8 @@ pub record Stays (v w : Pass) : Type 0 where
   pub parts : w.right.parts ≡ v.right.parts
   pub claims : w.right.claims ≡ v.right.claims
   pub work : w.work ≡ v.work
+  pub reading : w.reading ≡ v.reading
+  pub keeping : w.keeping ≡ v.keeping
 
 -- it has one claim more, in which nothing is stored
 pub record Opens (v w : Pass) : Type 0 where
@@ -125,13 +127,15 @@ pub record Opens (v w : Pass) : Type 0 where
   pub claims : w.right.claims ≡ v.right.claims ++ claim ∷ []
   pub frames : w.work.frames ≡ v.work.frames
   pub drafts : w.work.drafts ≡ v.work.drafts ++ blanks claim.start claim.cuts
+  pub reading : w.reading ≡ v.reading
+  pub keeping : w.keeping ≡ v.keeping
 
 stored_as : (b : Bounds) (ws : List ℕ) (v w : Pass) → Stays v w → Stored b ws v → Stored b ws w
 stored_as b ws v w g k = record {
   stands = subst (λ x. AllByRecursion (Stands b ws) (x.frames ++ x.drafts)) (sym g.work) k.stands;
   placed = λ h. (λ i. total h (flat_map ranges_of (g.claims i))) ∙ k.placed h ∙ (λ i. total h (map extent_of ((sym g.work i).frames ++ (sym g.work i).drafts)));
   aligned = subst (λ x. AllByRecursion IsAligned (x.frames ++ x.drafts)) (sym g.work) k.aligned;
-  done = subst (λ x. AllByRecursion IsDone x.frames) (sym g.work) k.done;
+  done = subst (λ x. AllByRecursion (IsDone b.identity) x.frames) (sym g.work) k.done;
   undone = subst (λ x. AllByRecursion IsOpen x.drafts) (sym g.work) k.undone;
   kept = subst (λ x. AllByRecursion (λ f. b.cleaned ≤ f.start) x.drafts) (sym g.work) k.kept;
 }
@@ -212,7 +216,7 @@ opened b ws ps r m id i n v w r' low at at' g =
           ∙ (λ j. sym (total_flat h ranges_of v.right.claims) j + (total h (ranges_of c) + 0)) ∙ ap (λ (z : ℕ). z + (total h (ranges_of c) + 0)) (k.placed h) ∙ (let q : total h (map extent_of (frames_of v)) + (total h (ranges_of c) + 0) ≡ total h (map extent_of (frames_of v)) + total h (ranges_of c) = omega arith in q)
           ∙ ap (λ l. total h (map extent_of (frames_of v)) + total h l) (sym (blanks_extents c.start c.cuts)) ∙ sym (total_append h (map extent_of (frames_of v)) (map extent_of (blanks c.start c.cuts))) ∙ ap (total h) (sym (maps_append extent_of (frames_of v) (blanks c.start c.cuts)) ∙ ap (map extent_of) (sym frames_is));
       aligned = subst (AllByRecursion IsAligned) (sym frames_is) (all_append IsAligned (frames_of v) (blanks c.start c.cuts) k.aligned (blanks_aligned c.start c.cuts unit));
-      done = subst (AllByRecursion IsDone) (sym g.frames) k.done;
+      done = subst (AllByRecursion (IsDone b.identity)) (sym g.frames) k.done;
       undone = subst (AllByRecursion IsOpen) (sym g.drafts) (all_append IsOpen v.work.drafts (blanks c.start c.cuts) k.undone (blanks_open c.start c.cuts));
       kept = subst (AllByRecursion (λ f. b.cleaned ≤ f.start)) (sym g.drafts) (all_append (λ f. b.cleaned ≤ f.start) v.work.drafts (blanks c.start c.cuts) k.kept (blanks_from b.cleaned c.start c.cuts begins));
     } in

@@ -51,7 +51,7 @@ pub record Rewrites (b : Bounds) (v : Pass) (pre : List FrameWords) (d : FrameWo
   pub stands : (ws : List ℕ) → AllByRecursion (Stands b ws) (pre ++ written d k n ∷ post) → AllByRecursion (Stands b ws) (frames_of w)
   pub aligned : AllByRecursion IsAligned (pre ++ written d k n ∷ post) → AllByRecursion IsAligned (frames_of w)
   pub sums : (h : Extent → ℕ) → total h (map extent_of (frames_of w)) ≡ total h (map extent_of (pre ++ written d k n ∷ post))
-  pub done : AllByRecursion IsDone w.work.frames
+  pub done : AllByRecursion (IsDone b.identity) w.work.frames
   pub undone : AllByRecursion IsOpen w.work.drafts
   pub kept : AllByRecursion (λ f. b.cleaned ≤ f.start) w.work.drafts
 

@@ -65,6 +65,6 @@ pub record IsClosed (identity : Identity) (start : ℕ) (v : Pass) (words : List
   pub fair : (h : Entry → ℕ) → total h (entries_of v) ≡ total h log
   pub entries : AllByRecursion IsEntry (entries_of v)
   pub stands : AllByRecursion (StandsIn identity.geometry words) (frames_of v)
-  pub done : AllByRecursion IsDone v.work.frames
+  pub done : AllByRecursion (IsDone identity) v.work.frames
   pub undone : AllByRecursion IsOpen v.work.drafts
   pub zeros : (x : ℕ) → x % 8 ≡ 0 → tail ≤ x → x < start + 3 * identity.geometry.term_length → slice_index words (slot identity.geometry x) ≡ 0

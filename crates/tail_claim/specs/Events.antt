@@ -8,11 +8,13 @@ use Rattle.theory.specs.Entry.{Entry, IsEntry}
 use Rattle.theory.specs.Words.{id_before, id_in, tail_word}
 use Rattle.word_calls.specs.declared.pass.FrameWords.{FrameWords}
 use Rattle.word_calls.specs.declared.pass.Pass.{Pass}
-use Rattle.word_calls.specs.Steps.{Adds, Advances, Arms, BeginsFrame, Commits, Counts, HasWord, Nexts, Rotates, Sees, Stores, geometry_of}
+use Rattle.word_calls.specs.Steps.{Adds, Advances, Arms, Commits, Counts, HasWord, Nexts, Rotates, Sees, Stores, geometry_of}
+use Rattle.word_calls.specs.Frames.{Completes}
 use Rattle.tail_claim.specs.Packs.{count_place, limit_place, slot, tail_place}
 use Rattle.tail_claim.specs.Sums.{total}
 use Rattle.tail_claim.specs.Rule.{Bounds, weight}
 use Rattle.tail_claim.specs.Memory.{IsDone, Ruled, tail_of}
+use Rattle.tail_claim.specs.Admits.{Same}
 
 -- of the committed frames of a pass
 abbrev pub committed_weight : (FrameWords → ℕ) → Pass → ℕ
@@ -38,19 +40,19 @@ pub record IsClaimed (b : Bounds) (before after : List Pass) : Type 0 where
   pub committed : SameCommitted before after
 
 -- one frame more is committed
-pub record IsCommitted (before after : List Pass) : Type 0 where
+pub record IsCommitted (b : Bounds) (before after : List Pass) : Type 0 where
   pub frame : FrameWords
-  pub done : IsDone frame
+  pub done : IsDone b.identity frame
   pub claimed : SameClaimed before after
   pub committed : (h : FrameWords → ℕ) → total (committed_weight h) after ≡ total (committed_weight h) before + h frame
 
 abbrev pub IsEvent : Bounds → List Pass → List Pass → Type 0
-IsEvent b before after = IsLook before after ⊎ (IsClaimed b before after ⊎ IsCommitted before after)
+IsEvent b before after = IsLook before after ⊎ (IsClaimed b before after ⊎ IsCommitted b before after)
 
--- a step on the word i, whatever stands, keeps the rule, tells of its pass, and is an event
+-- a step on the word i, whatever stands, keeps the rule, leaves its pass one of the log, tells of it, and is an event
 abbrev pub Eventful : Bounds → ℕ → Pass → ℕ → (ℕ → ℕ) → (ℕ → Pass → Type 0) → Type 0
 Eventful b id v i f told = (words : List ℕ) (passes : List Pass) → Ruled b words passes → get_elem? passes id ≡ some v
-    → (w : Pass) × Ruled b (slice_set words i (f (slice_index words i))) (slice_set passes id w) × told (slice_index words i) w × IsEvent b passes (slice_set passes id w)
+    → (w : Pass) × Ruled b (slice_set words i (f (slice_index words i))) (slice_set passes id w) × Same v w × told (slice_index words i) w × IsEvent b passes (slice_set passes id w)
 
 -- the nine kinds
 pub record StepsAreEvents : Type 0 where
@@ -62,4 +64,4 @@ pub record StepsAreEvents : Type 0 where
   pub exchange_next : (b : Bounds) (id : ℕ) (v : Pass) (k from : ℕ) → v.seen.full ≡ suc k → k + 1 < 2 ^ 31 → id_in from ≡ id_before (geometry_of v) k 2 → Eventful b id v (tail_place (k + 1)) (λ n. either (n == from) (tail_word (id_of (geometry_of v) (k + 1)) 0) n) (λ n w. Rotates v k from n w)
   pub exchange_count : (b : Bounds) (id : ℕ) (v : Pass) (k : ℕ) → v.seen.begun ≡ k + 1 → Eventful b id v count_place (λ n. either (n == k) (k + 1) n) (λ n w. Advances v k n w)
   pub store : (b : Bounds) (id : ℕ) (v : Pass) (p x : ℕ) → HasWord v 1 p → Eventful b id v (slot (geometry_of v) p) (λ _. x) (λ _ w. Stores v p x w)
-  pub commit : (b : Bounds) (id : ℕ) (v : Pass) (p x : ℕ) → BeginsFrame v p → 0 < x → Eventful b id v (slot (geometry_of v) p) (λ _. x) (λ _ w. Commits v p x w)
+  pub commit : (b : Bounds) (id : ℕ) (v : Pass) (p x : ℕ) → Completes v p x → 0 < x → Eventful b id v (slot (geometry_of v) p) (λ _. x) (λ _ w. Commits v p x w)

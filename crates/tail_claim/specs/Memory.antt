@@ -4,9 +4,12 @@ use Rattle.std.specs.List.{AllByRecursion, flat_map}
 use mathlib.Core.Option.{some}
 use lib.ListN.{get_elem?}
 use Rattle.theory.specs.Entry.{length_of}
+use Rattle.theory.specs.Placed.{Frame}
+use Rattle.theory.specs.Bytes.{Identity}
 use Rattle.word_calls.specs.declared.pass.FrameWords.{FrameWords}
 use Rattle.word_calls.specs.declared.pass.Pass.{Pass}
 use Rattle.word_calls.specs.Steps.{Extent, extent_of, frames_of, ranges_of}
+use Rattle.word_calls.specs.Frames.{IsLegal, frame_words}
 use Rattle.tail_claim.specs.Packs.{slot}
 use Rattle.tail_claim.specs.Sums.{total}
 use Rattle.tail_claim.specs.Rule.{Bounds, Claimed, shape_of, size_of, weight}
@@ -19,8 +22,12 @@ tail_of b passes = b.start + total (weight length_of) passes
 abbrev pub Stands : Bounds → List ℕ → FrameWords → Type 0
 Stands b words f = (i : ℕ) → i < length f.words → b.cleaned ≤ f.start + 8 * i → slice_index words (slot (shape_of b) (f.start + 8 * i)) ≡ slice_index f.words i
 
-abbrev pub IsDone : FrameWords → Type 0
-IsDone f = 0 < slice_index f.words 0
+-- it is a frame of the stream, whole
+pub record IsDone (i : Identity) (f : FrameWords) : Type 0 where
+  pub first : 0 < slice_index f.words 0
+  pub content : Frame
+  pub legal : IsLegal i.geometry content
+  pub spelt : f.words ≡ frame_words i f.start content
 
 abbrev pub IsOpen : FrameWords → Type 0
 IsOpen f = slice_index f.words 0 ≡ 0
@@ -33,7 +40,7 @@ pub record Stored (b : Bounds) (words : List ℕ) (v : Pass) : Type 0 where
   -- its frames are those of its claims, in whatever order
   pub placed : (h : Extent → ℕ) → total h (flat_map ranges_of v.right.claims) ≡ total h (map extent_of (frames_of v))
   pub aligned : AllByRecursion IsAligned (frames_of v)
-  pub done : AllByRecursion IsDone v.work.frames
+  pub done : AllByRecursion (IsDone b.identity) v.work.frames
   pub undone : AllByRecursion IsOpen v.work.drafts
   -- no open frame is cleaned
   pub kept : AllByRecursion (λ f. b.cleaned ≤ f.start) v.work.drafts

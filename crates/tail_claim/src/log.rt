@@ -4,7 +4,8 @@ ghost use Rattle.std.specs.Prelude.{◌≡◌, ℕ, ◌+◌, ◌-◌, ◌*◌, �
 ghost use Rattle.theory.specs.Position.{id_of, max_message};
 ghost use Rattle.theory.specs.Words.{id_before, id_in, tail_word};
 ghost use Rattle.word_calls.specs.declared.step.WordStep.TheVariants as steps;
-ghost use Rattle.word_calls.specs.Steps.{Adds, Advances, Arms, BeginsFrame, Commits, Counts, HasWord, Nexts, Rotates, Sees, Stores, addition, tail_exchange, tail_step};
+ghost use Rattle.word_calls.specs.Frames.{Completes};
+ghost use Rattle.word_calls.specs.Steps.{Adds, Advances, Arms, Commits, Counts, HasWord, Nexts, Rotates, Sees, Stores, addition, tail_exchange, tail_step};
 ghost use Rattle.tail_claim.specs.Packs.{slot, tail_place};
 ghost use Rattle.tail_claim.specs.Handles.{IsOf, Stepped};
 
@@ -214,7 +215,7 @@ impl TableLog {
     /// Stores the first word of an open frame.
     pub(crate) fn commit_as<N: Chosen>(&self, publisher: &mut Publisher, start: u64, word: u64)
         requires fits { IsOf self.now publisher.old }
-        requires inside { BeginsFrame publisher.old.pass start }
+        requires completes { Completes publisher.old.pass start word }
         requires word { 0 < word }
         requires chosen { N.number ≡ start }
         ensures stepped { Stepped [] publisher.old publisher.new }

@@ -1,17 +1,23 @@
 -- Open frames that are written whole.
-use Rattle.std.proofs.Common.{◌≡◌, ℕ, suc, ◌+◌, ◌-◌, ◌/◌, ◌≤◌, List, [], ◌∷◌, ◌++◌, length, replicate, sym, ap, ◌∙◌, arith}
+use Rattle.std.proofs.Common.{◌≡◌, ℕ, suc, ◌+◌, ◌-◌, ◌/◌, ◌<◌, ◌≤◌, get_or, List, [], ◌∷◌, ◌++◌, length, replicate, sym, ap, ◌∙◌, arith}
 use Rattle.std.specs.Int.{w32, w64, cast_unsigned, from_le_bytes, to_le_bytes}
+use Rattle.std.specs.List.{AllByRecursion}
 use Rattle.theory.specs.Position.{aligned, id_of, place_of}
 use Rattle.theory.specs.Bytes.{Identity}
 use Rattle.theory.specs.Placed.{Data, Pad}
 use Rattle.theory.specs.Wire.{front}
 use Rattle.word_calls.specs.declared.pass.Pass.{Pass}
-use Rattle.word_calls.specs.Steps.{BeginsFrame, Commits, HasWord, Stores}
-use Rattle.word_calls.specs.Frames.{header_words, payload_words}
-use Rattle.word_calls.specs.Claims.{Fills}
+use Rattle.word_calls.specs.Steps.{BeginsFrame, Commits, HasWord, Stores, geometry_of}
+use Rattle.word_calls.specs.Frames.{Completes, IsLegal, header_words, payload_words}
+use Rattle.word_calls.specs.Claims.{Fills, HasBlank}
 use Rattle.word_calls.specs.Offers.{HasRoom, Puts}
-use Rattle.word_calls.proofs.Patches.{filled, has_word, puts_more, puts_none}
+use Rattle.word_calls.proofs.Patches.{completed, filled, has_word, puts_more, puts_none}
 use Rattle.word_calls.proofs.Wordings.{data_words, pad_words, words_length}
+
+-- bytes, by their places
+pub all_bytes : (xs : List ℕ) → ((i : ℕ) → get_or xs i 0 < 256) → AllByRecursion (λ b. b < 256) xs
+all_bytes [] small = tt
+all_bytes (x ∷ xs) small = (small 0, all_bytes xs (λ i. small (suc i)))
 
 -- a store is noted in no call
 pub stores_call : (v w : Pass) (p x : ℕ) → HasWord v 1 p → Stores v p x w → w.call ≡ v.call
@@ -36,6 +42,24 @@ pad_filled v w y p n first long value one told =
     filled v w w y p first m (Pad n) _ _ _ [] whole (omega arith)
     (pad_words v.identity p n m whole ∙ ap (λ (n : ℕ). n ∷ (header_words v.identity p ++ ([] ++ replicate (m - 0) 0))) (sym value))
     one (puts_none w p 4) told
+
+pub data_completed : (v w x : Pass) (p flags first : ℕ) (payload : List ℕ) → first ≡ from_le_bytes w64 (front (32 + length payload) flags 1) → HasBlank v p (32 + length payload) → IsLegal (geometry_of v) (Data flags payload)
+    → Puts v p 1 (header_words v.identity p) w → Puts w p 4 (payload_words payload) x → Completes x p first
+data_completed v w x p flags first payload value blank legal one two =
+    let m : ℕ = aligned (32 + length payload) / 8 - 4 in
+    let long : aligned (32 + length payload) / 8 ≡ suc (suc (suc (suc (aligned (32 + length payload) / 8 - 4)))) = omega arith in
+    let size : length (payload_words payload) ≡ (length payload + 7) / 8 = words_length ((length payload + 7) / 8) payload in
+    completed v w x p first m (Data flags payload) _ _ _ (payload_words payload) long (omega (arith, size))
+    (data_words v.identity p flags m payload long (omega arith) ∙ ap (λ (n : ℕ). n ∷ (header_words v.identity p ++ (payload_words payload ++ replicate (m - length (payload_words payload)) 0))) (sym value))
+    blank legal one two
+
+pub pad_completed : (v w : Pass) (p n first : ℕ) → 32 ≤ n → first ≡ from_le_bytes w64 (front n 192 0) → HasBlank v p n → IsLegal (geometry_of v) (Pad n) → Puts v p 1 (header_words v.identity p) w → Completes w p first
+pad_completed v w p n first long value blank legal one =
+    let m : ℕ = aligned n / 8 - 4 in
+    let whole : aligned n / 8 ≡ suc (suc (suc (suc (aligned n / 8 - 4)))) = omega (arith, long) in
+    completed v w w p first m (Pad n) _ _ _ [] whole (omega arith)
+    (pad_words v.identity p n m whole ∙ ap (λ (n : ℕ). n ∷ (header_words v.identity p ++ ([] ++ replicate (m - 0) 0))) (sym value))
+    blank legal one (puts_none w p 4)
 
 -- ---- a header's three words
 

@@ -1,12 +1,13 @@
 -- Words that are stored one after the other in an open frame.
-use Rattle.std.proofs.Common.{◌≡◌, ℕ, zero, suc, ◌+◌, ◌-◌, ◌*◌, ◌/◌, ◌<◌, ◌≤◌, List, [], ◌∷◌, ◌++◌, length, set, replicate, length-set, length-append, sym, refl, ap, ◌∙◌, arith}
+use Rattle.std.proofs.Common.{◌≡◌, ℕ, zero, suc, ◌+◌, ◌-◌, ◌*◌, ◌/◌, ◌<◌, ◌≤◌, List, [], ◌∷◌, ◌++◌, length, set, replicate, length-set, length-append, sym, refl, ap, subst, ◌∙◌, arith}
 use Rattle.std.proofs.lemmas.List.{length-replicate}
 use Rattle.theory.specs.Position.{aligned}
+use Rattle.theory.specs.Bytes.{Identity}
 use Rattle.theory.specs.Placed.{Frame, frame_length}
 use Rattle.word_calls.specs.declared.pass.FrameWords.{FrameWords}
 use Rattle.word_calls.specs.declared.pass.Pass.{Pass}
-use Rattle.word_calls.specs.Steps.{BeginsFrame, Commits, HasWord, Stores, frame, with_work, written}
-use Rattle.word_calls.specs.Frames.{frame_words}
+use Rattle.word_calls.specs.Steps.{BeginsFrame, Commits, HasWord, Stores, frame, geometry_of, with_work, written}
+use Rattle.word_calls.specs.Frames.{Completes, IsLegal, frame_words}
 use Rattle.word_calls.specs.Claims.{Fills, HasBlank}
 use Rattle.word_calls.specs.Offers.{HasRoom, Puts, patch}
 
@@ -106,3 +107,26 @@ filled v w x y p first m f b c d ps long short words one two told front behind p
     ∙ ap (λ (u : Pass). with_work (u.work.frames ++ frame p (set (patch (patch zs 1 (b ∷ c ∷ d ∷ [])) 4 ps) 0 first) ∷ []) (front ++ behind) u) e2
     ∙ ap (λ (u : Pass). with_work (u.work.frames ++ frame p (set (patch (patch zs 1 (b ∷ c ∷ d ∷ [])) 4 ps) 0 first) ∷ []) (front ++ behind) u) e1
     ∙ ap (λ (l : List ℕ). with_work (v.work.frames ++ frame p l ∷ []) (front ++ behind) v) all
+
+-- and before the first word is stored they lack nothing but it
+pub completed : (v w x : Pass) (p first m : ℕ) (f : Frame) (b c d : ℕ) (ps : List ℕ) → aligned (frame_length f) / 8 ≡ suc (suc (suc (suc m))) → length ps ≤ m → frame_words v.identity p f ≡ first ∷ b ∷ c ∷ d ∷ (ps ++ replicate (m - length ps) 0)
+    → HasBlank v p (frame_length f) → IsLegal (geometry_of v) f → Puts v p 1 (b ∷ c ∷ d ∷ []) w → Puts w p 4 ps x → Completes x p first
+completed v w x p first m f b c d ps long short words blank legal one two =
+    let zs : List ℕ = 0 ∷ 0 ∷ 0 ∷ 0 ∷ replicate m 0 in
+    let size : length zs ≡ suc (suc (suc (suc m))) = ap (λ (n : ℕ). suc (suc (suc (suc n)))) (length-replicate m 0) in
+    let e0 : v.work.drafts ≡ blank.front ++ frame p (0 ∷ 0 ∷ 0 ∷ 0 ∷ replicate m 0) ∷ blank.behind = blank.parts ∙ ap (λ (n : ℕ). blank.front ++ frame p (replicate n 0) ∷ blank.behind) long in
+    let e1 : w ≡ with_work v.work.frames (blank.front ++ frame p (patch zs 1 (b ∷ c ∷ d ∷ [])) ∷ blank.behind) v = one blank.front zs blank.behind e0 (omega (arith, size)) in
+    let e2 : x ≡ with_work w.work.frames (blank.front ++ frame p (patch (patch zs 1 (b ∷ c ∷ d ∷ [])) 4 ps) ∷ blank.behind) w =
+    two blank.front (patch zs 1 (b ∷ c ∷ d ∷ [])) blank.behind (ap (λ (u : Pass). u.work.drafts) e1) (omega (arith, size, patch_length zs 1 (b ∷ c ∷ d ∷ []))) in
+    let same : x.identity ≡ v.identity = ap (λ (u : Pass). u.identity) e2 ∙ ap (λ (u : Pass). u.identity) e1 in
+    record {
+      front = blank.front;
+      draft = frame p (patch (patch zs 1 (b ∷ c ∷ d ∷ [])) 4 ps);
+      behind = blank.behind;
+      parts = ap (λ (u : Pass). u.work.drafts) e2;
+      inside = omega (arith, size, patch_length zs 1 (b ∷ c ∷ d ∷ []), patch_length (patch zs 1 (b ∷ c ∷ d ∷ [])) 4 ps);
+      position = refl;
+      content = f;
+      legal = subst (λ (i : Identity). IsLegal i.geometry f) (sym same) legal;
+      spelt = patch_all first b c d m ps short ∙ sym words ∙ ap (λ (i : Identity). frame_words i p f) (sym same);
+    }

@@ -1,13 +1,15 @@
 -- The words of committed frames.
-use Rattle.std.specs.Prelude.{ℕ, zero, suc, ◌+◌, ◌/◌, Bool, List, [], ◌∷◌, length, drop, if◌then◌else◌}
+use Rattle.std.specs.Prelude.{◌≡◌, ℕ, zero, suc, ◌+◌, ◌/◌, ◌<◌, ◌≤◌, Bool, List, [], ◌∷◌, ◌++◌, length, drop, slice_set, if◌then◌else◌}
+use Rattle.std.specs.List.{AllByRecursion}
 use Rattle.std.specs.Int.{w64, from_le_bytes}
-use Rattle.theory.specs.Position.{aligned, cuts_of}
-use Rattle.theory.specs.Placed.{Frame, frame_length}
+use Rattle.theory.specs.Position.{Geometry, aligned, cuts_of}
+use Rattle.theory.specs.Placed.{Data, Frame, Pad, frame_length}
 use Rattle.theory.specs.Entry.{pieces_of}
-use Rattle.theory.specs.Wire.{header_bytes}
+use Rattle.theory.specs.Wire.{IsDataFlags, header_bytes}
 use Rattle.theory.specs.Bytes.{Identity, bytes_of, header_at}
 use Rattle.word_calls.specs.declared.pass.FrameWords.{FrameWords}
-use Rattle.word_calls.specs.Steps.{frame}
+use Rattle.word_calls.specs.declared.pass.Pass.{Pass}
+use Rattle.word_calls.specs.Steps.{frame, geometry_of}
 
 -- bytes as so many words of eight, little-endian, with zeros behind the last byte
 abbrev pub words_in : ℕ → List ℕ → List ℕ
@@ -46,3 +48,22 @@ frame_flags first last = if last then (if first then 192 else 64) else (if first
 abbrev pub stored_words : List ℕ → ℕ
 stored_words [] = 0
 stored_words (cut ∷ cuts) = (cut + 7) / 8 + stored_words cuts
+
+-- ---- which frames may be committed
+
+-- a message's frame that fits the MTU, or a padding of a term at the most
+abbrev pub IsLegal : Geometry → Frame → Type 0
+IsLegal g (Data flags payload) = IsDataFlags flags × (32 + length payload ≤ g.mtu) × AllByRecursion (λ b. b < 256) payload
+IsLegal g (Pad n) = (32 ≤ n) × (n ≤ g.term_length)
+
+-- the open frame that begins at this position is a frame of the stream, once this is its first word
+pub record Completes (v : Pass) (p x : ℕ) : Type 0 where
+  pub front : List FrameWords
+  pub draft : FrameWords
+  pub behind : List FrameWords
+  pub parts : v.work.drafts ≡ front ++ draft ∷ behind
+  pub inside : 0 < length draft.words
+  pub position : p ≡ draft.start
+  pub content : Frame
+  pub legal : IsLegal (geometry_of v) content
+  pub spelt : slice_set draft.words 0 x ≡ frame_words v.identity p content

@@ -6,7 +6,8 @@ ghost use Rattle.theory.specs.Words.{id_before, id_in};
 ghost use Rattle.word_calls.specs.declared.pass.Pass.{Pass};
 ghost use Rattle.word_calls.specs.declared.step.WordStep.{WordStep};
 ghost use Rattle.word_calls.specs.declared.step.WordStep.TheVariants as steps;
-ghost use Rattle.word_calls.specs.Steps.{Adds, Advances, Arms, BeginsFrame, Commits, Counts, HasWord, Moved, Nexts, Rotates, Sees, Stores, addition, begun_word, geometry_of, tail_step};
+ghost use Rattle.word_calls.specs.Frames.{Completes};
+ghost use Rattle.word_calls.specs.Steps.{Adds, Advances, Arms, Commits, Counts, HasWord, Moved, Nexts, Rotates, Sees, Stores, addition, begun_word, geometry_of, tail_step};
 
 use crate::identity::Identity;
 
@@ -115,10 +116,10 @@ pub trait WordCalls {
         ensures took { took self.old pass.old self.new pass.new [] 1 }
         ensures told { Stores (pass_of self.old pass.old) position word (pass_of self.new pass.new) };
 
-    /// Stores the first word of an open frame of the pass, which is then committed.
+    /// Stores the first word of an open frame of the pass, which is then committed: a message's frame or a padding, whole.
     fn commit(&mut self, pass: &mut Self::Pass, start: u64, word: u64)
         requires fits { fits self.old pass.old }
-        requires inside { BeginsFrame (pass_of self.old pass.old) start }
+        requires completes { Completes (pass_of self.old pass.old) start word }
         requires word { 0 < word }
         ensures moved { Moved fits pass_of name id self.old pass.old self.new pass.new }
         ensures took { took self.old pass.old self.new pass.new [] 1 }

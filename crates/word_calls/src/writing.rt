@@ -3,6 +3,7 @@
 ghost use Rattle.std.specs.Prelude.{◌≡◌, ◌+◌, ◌-◌, ◌*◌, ◌/◌, ◌^◌, ◌<◌, ◌≤◌, ◌∷◌, [], length, true};
 ghost use Rattle.theory.specs.Position.{aligned, cuts_of, framed_length, max_message, max_position};
 ghost use Rattle.theory.specs.Placed.{Data, Pad};
+ghost use Rattle.theory.specs.Wire.{IsDataFlags};
 ghost use Rattle.word_calls.specs.Steps.{Moved};
 ghost use Rattle.word_calls.specs.Frames.{frame_flags, header_words, payload_words, stored_words};
 ghost use Rattle.word_calls.specs.Claims.{Fills, HasBlank, TookMore};
@@ -60,13 +61,15 @@ pub(crate) fn write_data<W: WordCalls>(
 )
     requires fits { W.fits words.old pass.old }
     requires in_stream { start ≤ max_position (W.pass_of words.old pass.old).identity.geometry }
-    requires short { length payload.now ≤ 65504 }
+    requires flags { IsDataFlags flags }
+    requires short { 32 + length payload.now ≤ (W.pass_of words.old pass.old).identity.geometry.mtu }
     requires blank { HasBlank (W.pass_of words.old pass.old) start (32 + length payload.now) }
     ensures moved { Moved W.fits W.pass_of W.name W.id words.old pass.old words.new pass.new }
     ensures took { TookMore W.took W.pass_of words.old pass.old words.new pass.new (stored_words ((32 + length payload.now) ∷ [])) }
     ensures fills { Fills (W.pass_of words.old pass.old) start (Data flags payload.now) (W.pass_of words.new pass.new) }
 {
     let identity = words.identity(pass);
+    let _ = identity.geometry();
     put_header(words, pass, &identity, start);
     put_payload(words, pass, start, payload);
     let word = first_word(false, flags, payload.len() as u32 + 32);
@@ -83,6 +86,7 @@ pub(crate) fn write_padding<W: WordCalls>(
     requires fits { W.fits words.old pass.old }
     requires in_stream { start ≤ max_position (W.pass_of words.old pass.old).identity.geometry }
     requires long { 32 ≤ frame_length }
+    requires short { frame_length ≤ (W.pass_of words.old pass.old).identity.geometry.term_length }
     requires blank { HasBlank (W.pass_of words.old pass.old) start frame_length }
     ensures moved { Moved W.fits W.pass_of W.name W.id words.old pass.old words.new pass.new }
     ensures took { TookMore W.took W.pass_of words.old pass.old words.new pass.new 4 }
@@ -96,7 +100,8 @@ pub(crate) fn write_padding<W: WordCalls>(
 
 /// The flags of a message's frame, by whether it is the first and the last.
 fn flags_of(first: bool, last: bool) -> u8
-    ensures { result ≡ frame_flags first last }
+    ensures value { result ≡ frame_flags first last }
+    ensures legal { IsDataFlags result }
 {
     match (first, last) {
         (true, true) => UNFRAGMENTED,

@@ -8,7 +8,7 @@ use Rattle.word_calls.specs.Offers.{Puts}
 use Rattle.word_calls.proofs.Steppings.{moves, took_more, took_store}
 use Rattle.word_calls.proofs.Patches.{begins_after, blank_room, room_after}
 use Rattle.word_calls.proofs.Wordings.{words_length}
-use Rattle.word_calls.proofs.Filling.{commits_call, data_filled}
+use Rattle.word_calls.proofs.Filling.{all_bytes, commits_call, data_completed, data_filled}
 use Rattle.word_calls.proofs.writing.write_data.Goals as goal
 
 pub put_header-requires-clause-in_stream : goal.put_header-requires-clause-in_stream
@@ -20,8 +20,11 @@ put_header-requires-clause-room g c = blank_room (g.W.WordCalls.pass_of c.args.w
 pub put_payload-requires-clause-room : goal.put_payload-requires-clause-room
 put_payload-requires-clause-room g c = (room_after (g.W.WordCalls.pass_of c.args.words.now c.args.pass.now) (g.W.WordCalls.pass_of c.put_header.new.words c.put_header.new.pass) c.args.start 1 (4 + (length c.args.payload.now + 7) / 8) (header_words (g.W.WordCalls.pass_of c.args.words.now c.args.pass.now).identity c.args.start) (blank_room (g.W.WordCalls.pass_of c.args.words.now c.args.pass.now) c.args.start (32 + length c.args.payload.now) (4 + (length c.args.payload.now + 7) / 8) (omega arith) c.requires.blank) (subst (λ (i : Identity). Puts (g.W.WordCalls.pass_of c.args.words.now c.args.pass.now) c.args.start 1 (header_words i c.args.start) (g.W.WordCalls.pass_of c.put_header.new.words c.put_header.new.pass)) c.identity-identity.ensures c.put_header.ensures.puts) (omega arith))
 
-pub commit-requires-clause-inside : goal.commit-requires-clause-inside
-commit-requires-clause-inside g c = let size : length (payload_words c.args.payload.now) ≡ (length c.args.payload.now + 7) / 8 = words_length ((length c.args.payload.now + 7) / 8) c.args.payload.now in (begins_after (g.W.WordCalls.pass_of c.put_payload.new.words c.put_payload.new.pass) c.args.start (4 + (length c.args.payload.now + 7) / 8) (omega arith) (room_after (g.W.WordCalls.pass_of c.put_header.new.words c.put_header.new.pass) (g.W.WordCalls.pass_of c.put_payload.new.words c.put_payload.new.pass) c.args.start 4 (4 + (length c.args.payload.now + 7) / 8) (payload_words c.args.payload.now) (room_after (g.W.WordCalls.pass_of c.args.words.now c.args.pass.now) (g.W.WordCalls.pass_of c.put_header.new.words c.put_header.new.pass) c.args.start 1 (4 + (length c.args.payload.now + 7) / 8) (header_words (g.W.WordCalls.pass_of c.args.words.now c.args.pass.now).identity c.args.start) (blank_room (g.W.WordCalls.pass_of c.args.words.now c.args.pass.now) c.args.start (32 + length c.args.payload.now) (4 + (length c.args.payload.now + 7) / 8) (omega arith) c.requires.blank) (subst (λ (i : Identity). Puts (g.W.WordCalls.pass_of c.args.words.now c.args.pass.now) c.args.start 1 (header_words i c.args.start) (g.W.WordCalls.pass_of c.put_header.new.words c.put_header.new.pass)) c.identity-identity.ensures c.put_header.ensures.puts) (omega arith)) c.put_payload.ensures.puts (omega (arith, size))))
+pub commit-requires-clause-completes : goal.commit-requires-clause-completes
+commit-requires-clause-completes g c =
+    let sum : length c.args.payload.now + 32 ≡ 32 + length c.args.payload.now = omega arith in
+    data_completed (g.W.WordCalls.pass_of c.args.words.now c.args.pass.now) (g.W.WordCalls.pass_of c.put_header.new.words c.put_header.new.pass) (g.W.WordCalls.pass_of c.put_payload.new.words c.put_payload.new.pass) c.args.start c.args.flags c.first_word-word.result c.args.payload.now
+    (c.first_word-word.ensures.value ∙ ap (λ (n : ℕ). from_le_bytes w64 (front n c.args.flags 1)) sum) c.requires.blank (c.requires.flags, c.requires.short, all_bytes c.args.payload.now (λ i. omega (arith, c.type_inv.payload i))) (subst (λ (i : Identity). Puts (g.W.WordCalls.pass_of c.args.words.now c.args.pass.now) c.args.start 1 (header_words i c.args.start) (g.W.WordCalls.pass_of c.put_header.new.words c.put_header.new.pass)) c.identity-identity.ensures c.put_header.ensures.puts) c.put_payload.ensures.puts
 
 pub returns-clause-moved : goal.returns-clause-moved
 returns-clause-moved g c =

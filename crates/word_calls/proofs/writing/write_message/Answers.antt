@@ -41,7 +41,7 @@ loop-rest-preserved g c =
     let front : c.split_at.result.0.now ≡ take (max_payload (geometry_of (g.W.WordCalls.pass_of c.args.words.now c.args.pass.now))) c.loop-rest.rest.now = c.split_at.ensures.front ∙ ap (λ (n : ℕ). take n c.loop-rest.rest.now) most in
     let back : c.split_at.result.1.now ≡ drop (max_payload (geometry_of (g.W.WordCalls.pass_of c.args.words.now c.args.pass.now))) c.loop-rest.rest.now = c.split_at.ensures.back ∙ ap (λ (n : ℕ). drop n c.loop-rest.rest.now) most in
     let fills : Fills (g.W.WordCalls.pass_of c.loop-rest.words c.loop-rest.pass) c.loop-rest.at (Data (frame_flags c.loop-rest.first false) (take (max_payload (geometry_of (g.W.WordCalls.pass_of c.args.words.now c.args.pass.now))) c.loop-rest.rest.now)) (g.W.WordCalls.pass_of c.write_data.new.words c.write_data.new.pass) =
-    subst (λ (n : ℕ). Fills (g.W.WordCalls.pass_of c.loop-rest.words c.loop-rest.pass) c.loop-rest.at (Data n (take (max_payload (geometry_of (g.W.WordCalls.pass_of c.args.words.now c.args.pass.now))) c.loop-rest.rest.now)) (g.W.WordCalls.pass_of c.write_data.new.words c.write_data.new.pass)) c.flags_of.ensures (subst (λ (xs : List ℕ). Fills (g.W.WordCalls.pass_of c.loop-rest.words c.loop-rest.pass) c.loop-rest.at (Data c.flags_of.result xs) (g.W.WordCalls.pass_of c.write_data.new.words c.write_data.new.pass)) front c.write_data.ensures.fills) in
+    subst (λ (n : ℕ). Fills (g.W.WordCalls.pass_of c.loop-rest.words c.loop-rest.pass) c.loop-rest.at (Data n (take (max_payload (geometry_of (g.W.WordCalls.pass_of c.args.words.now c.args.pass.now))) c.loop-rest.rest.now)) (g.W.WordCalls.pass_of c.write_data.new.words c.write_data.new.pass)) c.flags_of.ensures.value (subst (λ (xs : List ℕ). Fills (g.W.WordCalls.pass_of c.loop-rest.words c.loop-rest.pass) c.loop-rest.at (Data c.flags_of.result xs) (g.W.WordCalls.pass_of c.write_data.new.words c.write_data.new.pass)) front c.write_data.ensures.fills) in
     let mtu : c.from-at.result ≡ (geometry_of (g.W.WordCalls.pass_of c.args.words.now c.args.pass.now)).mtu = c.from-at.ensures ∙ c.mtu.ensures.value ∙ ap (λ (h : Geometry). h.mtu) geometry in
     let at : c.loop-rest.at + (geometry_of (g.W.WordCalls.pass_of c.args.words.now c.args.pass.now)).mtu ≡ c.loop-rest.at + c.from-at.result = ap (λ (n : ℕ). c.loop-rest.at + n) (sym mtu) in
     let part_long : length c.split_at.result.0.now ≡ max_payload (geometry_of (g.W.WordCalls.pass_of c.args.words.now c.args.pass.now)) = ap (λ (xs : List ℕ). length xs) front ∙ length-take-le (max_payload (geometry_of (g.W.WordCalls.pass_of c.args.words.now c.args.pass.now))) c.loop-rest.rest.now (omega (arith, high)) in
@@ -78,4 +78,4 @@ returns-clause-fills g c =
     let legal : IsGeometry (geometry_of (g.W.WordCalls.pass_of c.args.words.now c.args.pass.now)) = subst IsGeometry geometry c.geometry-geometry.ensures.legal in
     let most : c.max_payload-most.result ≡ max_payload (geometry_of (g.W.WordCalls.pass_of c.args.words.now c.args.pass.now)) = c.max_payload-most.ensures.value ∙ ap max_payload geometry in
     let low : length c.loop-rest.rest.now ≤ max_payload (geometry_of (g.W.WordCalls.pass_of c.loop-rest.words c.loop-rest.pass)) = subst (λ (h : Geometry). length c.loop-rest.rest.now ≤ max_payload h) (sym c.loop-rest.invariant.shape) (omega (arith, most, c.loop-rest-test.false)) in
-    c.loop-rest.invariant.fills (g.W.WordCalls.pass_of c.write_data-2.new.words c.write_data-2.new.pass) (last_filled (g.W.WordCalls.pass_of c.loop-rest.words c.loop-rest.pass) (g.W.WordCalls.pass_of c.write_data-2.new.words c.write_data-2.new.pass) c.loop-rest.first c.loop-rest.at c.loop-rest.rest.now low (subst (λ (n : ℕ). Fills (g.W.WordCalls.pass_of c.loop-rest.words c.loop-rest.pass) c.loop-rest.at (Data n c.loop-rest.rest.now) (g.W.WordCalls.pass_of c.write_data-2.new.words c.write_data-2.new.pass)) c.flags_of-2.ensures c.write_data-2.ensures.fills))
+    c.loop-rest.invariant.fills (g.W.WordCalls.pass_of c.write_data-2.new.words c.write_data-2.new.pass) (last_filled (g.W.WordCalls.pass_of c.loop-rest.words c.loop-rest.pass) (g.W.WordCalls.pass_of c.write_data-2.new.words c.write_data-2.new.pass) c.loop-rest.first c.loop-rest.at c.loop-rest.rest.now low (subst (λ (n : ℕ). Fills (g.W.WordCalls.pass_of c.loop-rest.words c.loop-rest.pass) c.loop-rest.at (Data n c.loop-rest.rest.now) (g.W.WordCalls.pass_of c.write_data-2.new.words c.write_data-2.new.pass)) c.flags_of-2.ensures.value c.write_data-2.ensures.fills))

@@ -5,7 +5,7 @@ use Rattle.word_calls.specs.Frames.{header_words}
 use Rattle.word_calls.specs.Offers.{Puts}
 use Rattle.word_calls.proofs.Steppings.{took_more, took_store}
 use Rattle.word_calls.proofs.Patches.{begins_after, blank_room, room_after}
-use Rattle.word_calls.proofs.Filling.{commits_call, pad_filled}
+use Rattle.word_calls.proofs.Filling.{commits_call, pad_completed, pad_filled}
 use Rattle.word_calls.proofs.writing.write_padding.Goals as goal
 
 pub put_header-requires-clause-in_stream : goal.put_header-requires-clause-in_stream
@@ -14,8 +14,8 @@ put_header-requires-clause-in_stream g c = subst (λ (i : Identity). c.args.star
 pub put_header-requires-clause-room : goal.put_header-requires-clause-room
 put_header-requires-clause-room g c = (blank_room (g.W.WordCalls.pass_of c.args.words.now c.args.pass.now) c.args.start c.args.frame_length 4 (omega (arith, c.requires.long)) c.requires.blank)
 
-pub commit-requires-clause-inside : goal.commit-requires-clause-inside
-commit-requires-clause-inside g c = (begins_after (g.W.WordCalls.pass_of c.put_header.new.words c.put_header.new.pass) c.args.start 4 (omega arith) (room_after (g.W.WordCalls.pass_of c.args.words.now c.args.pass.now) (g.W.WordCalls.pass_of c.put_header.new.words c.put_header.new.pass) c.args.start 1 4 (header_words (g.W.WordCalls.pass_of c.args.words.now c.args.pass.now).identity c.args.start) (blank_room (g.W.WordCalls.pass_of c.args.words.now c.args.pass.now) c.args.start c.args.frame_length 4 (omega (arith, c.requires.long)) c.requires.blank) (subst (λ (i : Identity). Puts (g.W.WordCalls.pass_of c.args.words.now c.args.pass.now) c.args.start 1 (header_words i c.args.start) (g.W.WordCalls.pass_of c.put_header.new.words c.put_header.new.pass)) c.identity-identity.ensures c.put_header.ensures.puts) (omega arith)))
+pub commit-requires-clause-completes : goal.commit-requires-clause-completes
+commit-requires-clause-completes g c = pad_completed (g.W.WordCalls.pass_of c.args.words.now c.args.pass.now) (g.W.WordCalls.pass_of c.put_header.new.words c.put_header.new.pass) c.args.start c.args.frame_length c.first_word-word.result c.requires.long c.first_word-word.ensures.value c.requires.blank (c.requires.long, c.requires.short) (subst (λ (i : Identity). Puts (g.W.WordCalls.pass_of c.args.words.now c.args.pass.now) c.args.start 1 (header_words i c.args.start) (g.W.WordCalls.pass_of c.put_header.new.words c.put_header.new.pass)) c.identity-identity.ensures c.put_header.ensures.puts)
 
 pub returns-clause-took : goal.returns-clause-took
 returns-clause-took g c =

@@ -1,7 +1,8 @@
 use Rattle.std.proofs.Common.{rules, ◌≡◌, ℕ, [], inr, sym, ap, ◌∙◌, subst, arith}
 use Rattle.theory.specs.Bytes.{Identity}
 use Rattle.word_calls.specs.declared.pass.Pass.{Pass}
-use Rattle.word_calls.specs.Steps.{BeginsFrame, Commits}
+use Rattle.word_calls.specs.Frames.{Completes}
+use Rattle.word_calls.specs.Steps.{Commits}
 use Rattle.tail_claim.specs.Packs.{slot}
 use Rattle.tail_claim.specs.Plays.{Mine}
 use Rattle.tail_claim.proofs.Sures.{data_leaves, data_turns}
@@ -15,5 +16,5 @@ store-requires g c = let me : Mine = c.publisher.inside.seat.me in let v : Pass 
       search rules,
       search rules,
       lifted_at _ _ _ (slot v.identity.geometry p) me (λ _. c.args.word) (λ _ w. Commits v p c.args.word w) (λ _. []) c.slot_of.result (c.slot_of.ensures.is ∙ (λ j. slot (sym shape j) (sym is j))) (data_turns (slot v.identity.geometry p) c.args.word (omega arith)) (inr (data_leaves (slot v.identity.geometry p) c.args.word (omega arith)))
-          (whole.commit _ _ v p c.args.word (subst (λ (z : Pass × ℕ). BeginsFrame z.0 z.1) (λ j. (sym vi j, sym is j)) c.requires.inside) c.requires.word),
+          (whole.commit _ _ v p c.args.word (subst (λ (z : Pass × ℕ). Completes z.0 z.1 c.args.word) (λ j. (sym vi j, sym is j)) c.requires.completes) c.requires.word),
     )
