@@ -111,6 +111,11 @@ stored_far : (b : Bounds) (ws : List ℕ) (i n : ℕ) → i < 208 → (v : Pass)
 stored_far b ws i n low v k = record { stands = all_on (Stands b ws) (Stands b (set ws i n)) (stands_far b ws i n low) (frames_of v) k.stands; placed = k.placed; aligned = k.aligned; done = k.done; undone = k.undone; kept = k.kept }
 
 -- the pass has the same claims and the same frames
+pub record Holds (v w : Pass) : Type 0 where
+  pub claims : w.right.claims ≡ v.right.claims
+  pub work : w.work ≡ v.work
+
+-- and it is the same in all but what it has seen
 pub record Stays (v w : Pass) : Type 0 where
   pub number : w.number ≡ v.number
   pub parts : w.right.parts ≡ v.right.parts
@@ -130,7 +135,7 @@ pub record Opens (v w : Pass) : Type 0 where
   pub reading : w.reading ≡ v.reading
   pub keeping : w.keeping ≡ v.keeping
 
-stored_as : (b : Bounds) (ws : List ℕ) (v w : Pass) → Stays v w → Stored b ws v → Stored b ws w
+stored_as : (b : Bounds) (ws : List ℕ) (v w : Pass) → Holds v w → Stored b ws v → Stored b ws w
 stored_as b ws v w g k = record {
   stands = subst (λ x. AllByRecursion (Stands b ws) (x.frames ++ x.drafts)) (sym g.work) k.stands;
   placed = λ h. (λ i. total h (flat_map ranges_of (g.claims i))) ∙ k.placed h ∙ (λ i. total h (map extent_of ((sym g.work i).frames ++ (sym g.work i).drafts)));
@@ -140,7 +145,7 @@ stored_as b ws v w g k = record {
   kept = subst (λ x. AllByRecursion (λ f. b.cleaned ≤ f.start) x.drafts) (sym g.work) k.kept;
 }
 
-pub stayed : (b : Bounds) (ws : List ℕ) (ps : List Pass) → Memory b ws ps → (id i n : ℕ) (v w : Pass) → i < 208 → get_elem? ps id ≡ some v → Stays v w → Memory b (set ws i n) (set ps id w)
+pub stayed : (b : Bounds) (ws : List ℕ) (ps : List Pass) → Memory b ws ps → (id i n : ℕ) (v w : Pass) → i < 208 → get_elem? ps id ≡ some v → Holds v w → Memory b (set ws i n) (set ps id w)
 stayed b ws ps m id i n v w low at g =
     let same : total (weight length_of) (set ps id w) ≡ total (weight length_of) ps = (let a = total_set (weight length_of) ps id v w at in let c : weight length_of w ≡ weight length_of v = (λ j. total length_of (map entry_of (g.claims j))) in omega arith) in
     record {

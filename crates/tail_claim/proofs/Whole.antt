@@ -50,7 +50,7 @@ framing b id v i f told low go grows ws ps r at = let g = go ws ps r.claims at i
   record {
     claims = g.1;
     memory = ⊎_elim
-        (λ (s : Stays v g.0). stayed b ws ps r.memory id i n v g.0 low at s)
+        (λ (s : Stays v g.0). stayed b ws ps r.memory id i n v g.0 low at record { claims = s.claims; work = s.work })
         (λ (o : Opens v g.0). opened b ws ps r.claims r.memory id i n v g.0 g.1 low at (set_at ps id v g.0 at) o)
         (grows (slice_index ws i) g.0 g.2);
   },

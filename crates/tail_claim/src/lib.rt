@@ -21,3 +21,4 @@ pub use closing::ClosedLog;
 pub use fault::OpenError;
 pub use law::steps_are_events;
 pub use log::{Publisher, TableLog};
+pub use view::View;

@@ -1,0 +1,7 @@
+pub mod Sums
+pub mod Edges
+pub mod Growing
+pub mod Lifting
+pub mod Resting
+pub mod Known
+pub mod InTerm

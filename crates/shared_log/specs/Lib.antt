@@ -1,0 +1,4 @@
+pub mod Edges
+pub mod Kept
+pub mod Table
+pub mod Readings

@@ -1,0 +1,51 @@
+-- The rule over a table's state, the first seat, and what each step tells.
+use Rattle.std.specs.Prelude.{◌≡◌, ℕ, zero, suc, ◌+◌, ◌/◌, List, [], ◌∷◌, map, slice_index}
+use Rattle.atomic_table.specs.Table.{State}
+use Rattle.theory.specs.Position.{greatest_claim}
+use Rattle.theory.specs.Refusal.{limit_in}
+use Rattle.word_calls.specs.declared.pass.Pass.{Pass}
+use Rattle.word_calls.specs.declared.pass.Reading.{Reading}
+use Rattle.tail_claim.specs.declared.view.View.{View}
+use Rattle.tail_claim.specs.Packs.{limit_place}
+use Rattle.tail_claim.specs.Rule.{Bounds}
+use Rattle.tail_claim.specs.Memory.{Ruled}
+use Rattle.tail_claim.specs.Sure.{AreSure, fresh_controls}
+use Rattle.tail_claim.specs.Plays.{newcomer, pass_in}
+use Rattle.shared_log.specs.declared.rule.Key.{Key}
+use Rattle.shared_log.specs.Kept.{Kept}
+
+-- what others may move: the limit word, and how far is cleaned
+abbrev pub now_at : Key → ℕ → ℕ → Bounds
+now_at key word cleaned = record {
+  identity = key.identity;
+  start = key.start;
+  greatest = greatest_claim key.identity.geometry;
+  limit = limit_in word;
+  word = word;
+  floor = cleaned;
+  cleaned = cleaned;
+}
+
+-- the three parts: claims and memory; consumers and the keeper; who is sure of the control words
+pub record LogRuled (key : Key) (s : State (Unit {0}) View) : Type 0 where
+  pub cleaned : ℕ
+  pub ruled : Ruled (now_at key (slice_index s.words limit_place) cleaned) s.words (map pass_in s.views)
+  pub kept : Kept (now_at key (slice_index s.words limit_place) cleaned) key.consumers s.words (map pass_in s.views)
+  pub sure : AreSure s.words s.views
+
+-- ---- the first seat
+
+-- so many consumers at a position, with these numbers and those behind
+abbrev pub consumers_at : ℕ → ℕ → ℕ → List Reading
+consumers_at start number zero = []
+consumers_at start number (suc n) = record { number = number; position = start; known = [] } ∷ consumers_at start (suc number) n
+
+-- all publishers, all consumers and the keeper of a log that opens, unconnected, with its limit at the start
+abbrev pub whole_pass : Key → Pass
+whole_pass key = record (newcomer key.identity key.start 7 1024) {
+  reading = consumers_at key.start 0 key.consumers;
+  keeping = record { right = 1; limit = key.start; cleaned = key.start; positions = [] };
+}
+
+abbrev pub whole_seat : Key → View
+whole_seat key = record { pass = whole_pass key; steps = 0; controls = record (fresh_controls key.identity key.start) { limit = key.start }; sure = 1 }
