@@ -5,3 +5,4 @@ pub mod Lifting
 pub mod Resting
 pub mod Known
 pub mod InTerm
+pub mod Consumers

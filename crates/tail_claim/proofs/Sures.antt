@@ -62,8 +62,9 @@ Leaves i f = (words : List ℕ) → controls_in (set words i (f (slice_index wor
 pub load_leaves : (i : ℕ) → Leaves i (λ n. n)
 load_leaves i ws = ap controls_in (set-get_or ws i 0)
 
-pub data_leaves : (i x : ℕ) → 208 ≤ i → Leaves i (λ _. x)
-data_leaves i x far ws = let other : (j : ℕ) → j < 208 → slice_index (set ws i x) j ≡ slice_index ws j = λ j low. get_or-set_other ws i j x 0 (λ e. omega arith) in
+-- words behind the control words
+pub data_leaves : (i x : ℕ) → 80 ≤ i → Leaves i (λ _. x)
+data_leaves i x far ws = let other : (j : ℕ) → j < 80 → slice_index (set ws i x) j ≡ slice_index ws j = λ j low. get_or-set_other ws i j x 0 (λ e. omega arith) in
     λ k. made (other 0 (omega arith) k) (other 16 (omega arith) k) (other 32 (omega arith) k) (other 48 (omega arith) k) (other 64 (omega arith) k)
 
 pub limit_turns : Turns limit_place (λ n. n) (λ n. steps.Limit n ∷ [])
@@ -93,7 +94,7 @@ pub advance_turns : (from : ℕ) → Turns count_place (λ n. either (eqb n from
 advance_turns from ws long = let n : ℕ = slice_index ws count_place in
     (refl, count_set ws (either (eqb n from) (from + 1) n) long ∙ ap (λ (z : ℕ). record (controls_in ws) { count = z }) (either_is (eqb n from) (from + 1) n))
 
-pub data_turns : (i x : ℕ) → 208 ≤ i → Turns i (λ _. x) (λ _. [])
+pub data_turns : (i x : ℕ) → 80 ≤ i → Turns i (λ _. x) (λ _. [])
 data_turns i x far ws long = data_leaves i x far ws
 
 -- ---- who is sure
