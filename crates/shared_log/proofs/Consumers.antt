@@ -69,6 +69,8 @@ pub kept_rest : (b : Bounds) (n : ℕ) (ws : List ℕ) (ps : List Pass) → Rule
 kept_rest b n ws ps r k id v rs kp at same right mine =
     let w : Pass = attending v rs kp in let ps' : List Pass = set ps id w in let g : Grows b ps ps' = grows b ws ws ps ps' r (rested_here b ws ps r id v rs kp at) (inl (rest_looks ps id v rs kp at)) in record {
       few = k.few;
+      any = k.any;
+      unit = k.unit;
       ahead = k.ahead;
       placed = λ j lt. placed_on b ps ps' g (slice_index ws (consumer_place j)) (k.placed j lt);
       single = λ j lt. subst (λ (t : ℕ). t ≤ 1) (sym (same_sum (readers_of j) ps id v w at (same j))) (k.single j lt);
@@ -278,6 +280,7 @@ module _ (key : Key) (slots id : ℕ) (m : Mine) (place : ℕ) (r : Reading) (is
       let keeper_kept : (y : Keeping) → IsKeeper bs key.consumers ws y → IsKeeper bs key.consumers ws' y = λ y k. record {
         limit = k.limit;
         cleaned = k.cleaned;
+        all = k.all;
         few = k.few;
         swept = λ j lt. dite (ℕ_discrete j r.number)
             (λ e. let le = k.swept j lt in let a : slice_index ws' (consumer_place j) ≡ end = ap (λ (z : ℕ). slice_index ws' (consumer_place z)) e ∙ stored in let c : slice_index ws (consumer_place j) ≡ p = ap (λ (z : ℕ). slice_index ws (consumer_place z)) e ∙ was in
@@ -290,6 +293,8 @@ module _ (key : Key) (slots id : ℕ) (m : Mine) (place : ℕ) (r : Reading) (is
       let mine_all : readers_of r.number v.pass ≤ 1 = (let a = total_at (readers_of r.number) qs id v.pass (here s q at) in below (readers_of r.number v.pass) (total (readers_of r.number) qs) a single) in
       let kept : Kept bs key.consumers ws' qs' = record {
         few = few;
+        any = q.kept.any;
+        unit = q.kept.unit;
         ahead = q.kept.ahead;
         placed = λ j lt. dite (ℕ_discrete j r.number)
             (λ e. subst (IsPlaced bs qs') (sym (ap (λ (z : ℕ). slice_index ws' (consumer_place z)) e ∙ stored)) (placed_on bs qs qs' g end there))

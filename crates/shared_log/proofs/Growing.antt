@@ -136,6 +136,7 @@ pub keeper_on : (b : Bounds) (n : ℕ) → n ≤ 8 → (ws ws' : List ℕ) → S
 keeper_on b n few ws ws' s x k = record {
   limit = k.limit;
   cleaned = k.cleaned;
+  all = k.all;
   few = k.few;
   swept = λ j lt. (let e = s.consumers j (let low = k.few in omega arith) in let le = k.swept j lt in up (slice_index x.positions j) (slice_index ws (consumer_place j)) (slice_index ws' (consumer_place j)) le e);
 }
@@ -155,6 +156,8 @@ same_sum f ps id v w at e = let a = total_set f ps id v w at in omega arith
 pub kept_on : (b : Bounds) (n : ℕ) (ws ws' : List ℕ) (ps : List Pass) (id : ℕ) (v w : Pass) → get_elem? ps id ≡ some v → Same v w → Grows b ps (set ps id w) → Spared ws ws' → Kept b n ws ps → Kept b n ws' (set ps id w)
 kept_on b n ws ws' ps id v w at same g s k = record {
   few = k.few;
+  any = k.any;
+  unit = k.unit;
   ahead = k.ahead;
   placed = λ j lt. subst (IsPlaced b (set ps id w)) (sym (s.consumers j (let few = k.few in omega arith))) (placed_on b ps (set ps id w) g (slice_index ws (consumer_place j)) (k.placed j lt));
   single = λ j lt. subst (λ (t : ℕ). t ≤ 1) (sym (same_sum (readers_of j) ps id v w at (ap (λ (l : List Reading). readers_of j (record v { reading = l })) same.reading))) (k.single j lt);

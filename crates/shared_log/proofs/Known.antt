@@ -87,7 +87,7 @@ among_at [] i x e = absurd (some-ne-none x (sym e))
 among_at (y ∷ ys) zero x e = inl (sym (some-injective y x e))
 among_at (y ∷ ys) (suc i) x e = inr (among_at ys i x e)
 
-among_total : {A : Type 0} (h : A → ℕ) (xs : List A) (x : A) → Among x xs → h x ≤ total h xs
+pub among_total : {A : Type 0} (h : A → ℕ) (xs : List A) (x : A) → Among x xs → h x ≤ total h xs
 among_total h [] x a = absurd a
 among_total h (y ∷ ys) x (inl e) = let c : h x ≡ h y = ap h e in omega arith
 among_total h (y ∷ ys) x (inr a) = let r = among_total h ys x a in omega arith

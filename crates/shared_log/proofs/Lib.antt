@@ -6,3 +6,5 @@ pub mod Resting
 pub mod Known
 pub mod InTerm
 pub mod Consumers
+pub mod Keeping
+pub mod Cleaning

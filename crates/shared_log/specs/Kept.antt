@@ -1,5 +1,5 @@
 -- The rule's part on consumers and the keeper: where consumers stand, which frames they know, and what the keeper knows.
-use Rattle.std.specs.Prelude.{◌≡◌, ℕ, ◌+◌, ◌*◌, ◌<◌, ◌≤◌, ◌==◌, cond, List, length, slice_index}
+use Rattle.std.specs.Prelude.{◌≡◌, ℕ, ◌+◌, ◌*◌, ◌%◌, ◌<◌, ◌≤◌, ◌==◌, cond, List, length, slice_index}
 use Rattle.std.specs.List.{AllByRecursion}
 use mathlib.Core.Option.{some}
 use lib.ListN.{get_elem?}
@@ -26,10 +26,11 @@ pub record IsReader (consumers : ℕ) (words : List ℕ) (passes : List Pass) (r
   pub position : r.number < consumers → slice_index words (consumer_place r.number) ≡ r.position
   pub known : AllByRecursion (IsAmong passes) r.known
 
--- who is the keeper knows the limit word and how far is cleaned; the consumers stand where it saw them, or further on
+-- who is the keeper knows the limit word and how far is cleaned; each consumer stands where it saw it last, or further on
 pub record IsKeeper (b : Bounds) (consumers : ℕ) (words : List ℕ) (k : Keeping) : Type 0 where
   pub limit : k.right ≡ 1 → k.limit ≡ b.word
   pub cleaned : k.right ≡ 1 → k.cleaned ≡ b.cleaned
+  pub all : k.right ≡ 1 → length k.positions ≡ consumers
   pub few : length k.positions ≤ consumers
   pub swept : (j : ℕ) → j < length k.positions → slice_index k.positions j ≤ slice_index words (consumer_place j)
 
@@ -39,6 +40,8 @@ pub record Attends (b : Bounds) (consumers : ℕ) (words : List ℕ) (passes : L
 
 pub record Kept (b : Bounds) (consumers : ℕ) (words : List ℕ) (passes : List Pass) : Type 0 where
   pub few : consumers ≤ 8
+  pub any : 0 < consumers
+  pub unit : b.cleaned % 8 ≡ 0
   -- what may be claimed lies below the end of three terms from what is cleaned
   pub ahead : b.limit + b.greatest * 8 < b.cleaned + 3 * size_of b
   pub placed : (j : ℕ) → j < consumers → IsPlaced b passes (slice_index words (consumer_place j))

@@ -2,3 +2,4 @@ pub mod Edges
 pub mod Kept
 pub mod Table
 pub mod Readings
+pub mod Keepings

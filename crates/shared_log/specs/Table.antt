@@ -1,5 +1,5 @@
 -- The rule over a table's state, the first seat, and what each step tells.
-use Rattle.std.specs.Prelude.{◌≡◌, ℕ, zero, suc, ◌+◌, ◌/◌, List, [], ◌∷◌, map, slice_index}
+use Rattle.std.specs.Prelude.{◌≡◌, ℕ, zero, suc, ◌+◌, ◌/◌, List, [], ◌∷◌, map, replicate, slice_index}
 use Rattle.atomic_table.specs.Table.{State}
 use Rattle.theory.specs.Position.{greatest_claim}
 use Rattle.theory.specs.Refusal.{limit_in}
@@ -44,7 +44,7 @@ consumers_at start number (suc n) = record { number = number; position = start; 
 abbrev pub whole_pass : Key → Pass
 whole_pass key = record (newcomer key.identity key.start 7 1024) {
   reading = consumers_at key.start 0 key.consumers;
-  keeping = record { right = 1; limit = key.start; cleaned = key.start; positions = [] };
+  keeping = record { right = 1; limit = key.start; cleaned = key.start; positions = replicate key.consumers key.start };
 }
 
 abbrev pub whole_seat : Key → View

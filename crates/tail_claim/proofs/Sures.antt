@@ -49,6 +49,10 @@ count_set : (ws : List ℕ) (x : ℕ) → 208 ≤ length ws → controls_in (set
 count_set ws x long = let other : (j : ℕ) → j ≢ 16 → slice_index (set ws 16 x) j ≡ slice_index ws j = λ j ne. get_or-set_other ws 16 j x 0 ne in
     λ i. made (other 0 (λ e. omega arith) i) (get_or-set_same ws 16 x 0 (let q : 16 < length ws = omega arith in q) i) (other 32 (λ e. omega arith) i) (other 48 (λ e. omega arith) i) (other 64 (λ e. omega arith) i)
 
+pub limit_set : (ws : List ℕ) (x : ℕ) → 208 ≤ length ws → controls_in (set ws limit_place x) ≡ record (controls_in ws) { limit = x }
+limit_set ws x long = let other : (j : ℕ) → j ≢ 0 → slice_index (set ws 0 x) j ≡ slice_index ws j = λ j ne. get_or-set_other ws 0 j x 0 ne in
+    λ i. made (get_or-set_same ws 0 x 0 (let q : 0 < length ws = omega arith in q) i) (other 16 (λ e. omega arith) i) (other 32 (λ e. omega arith) i) (other 48 (λ e. omega arith) i) (other 64 (λ e. omega arith) i)
+
 -- ---- what steps make of them
 
 -- a step that makes the word i what f makes of it is these steps on the control words, where the word was n

@@ -1,0 +1,36 @@
+-- What the keeper's steps tell.
+use Rattle.std.specs.Prelude.{◌≡◌, ℕ, ◌+◌, ◌-◌, ◌*◌, ◌<◌, ◌≤◌, List, length, min, max, slice_index, slice_set}
+use Rattle.std.specs.List.{fold}
+use Rattle.theory.specs.Position.{greatest_claim}
+use Rattle.theory.specs.Refusal.{limit_in}
+use Rattle.word_calls.specs.declared.pass.Keeping.{Keeping}
+use Rattle.word_calls.specs.declared.pass.Pass.{Pass}
+use Rattle.word_calls.specs.Steps.{geometry_of, term_of}
+
+abbrev pub least_of : List ℕ → ℕ
+least_of positions = fold min (slice_index positions 0) positions
+
+abbrev pub with_keeping : Pass → Keeping → Pass
+with_keeping v k = record v { keeping = k }
+
+-- it saw a consumer at a position, not below the one where it saw it before
+pub record Sees (v : Pass) (j n : ℕ) (w : Pass) : Type 0 where
+  pub further : slice_index v.keeping.positions j ≤ n
+  pub after : w ≡ with_keeping v (record v.keeping { positions = slice_set v.keeping.positions j n })
+
+-- the next word may be cleaned: it lies a term or more below each consumer that it saw
+pub record MayClean (v : Pass) : Type 0 where
+  pub keeper : v.keeping.right ≡ 1
+  pub below : v.keeping.cleaned + 8 ≤ max v.start (least_of v.keeping.positions - term_of v)
+
+abbrev pub Cleans : Pass → Pass → Type 0
+Cleans v w = w ≡ with_keeping v (record v.keeping { cleaned = v.keeping.cleaned + 8 })
+
+-- the limit may become that of this word: it doesn't fall, and what may be claimed then is clean
+pub record MayRaise (v : Pass) (word : ℕ) : Type 0 where
+  pub keeper : v.keeping.right ≡ 1
+  pub rises : limit_in v.keeping.limit ≤ limit_in word
+  pub clean : limit_in word + greatest_claim (geometry_of v) * 8 < v.keeping.cleaned + 3 * term_of v
+
+abbrev pub Raises : Pass → ℕ → Pass → Type 0
+Raises v word w = w ≡ with_keeping v (record v.keeping { limit = word })
