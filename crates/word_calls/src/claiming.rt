@@ -16,6 +16,7 @@ use crate::writing::write_padding;
 /// Claims a range for a message of `size` bytes at the tail, or says why there is none. The range's frames are open then,
 /// and nothing of them is stored. Where the message didn't fit the rest of its term, a committed padding up to the term's
 /// end is left.
+#[inline(always)]
 pub fn claim<W: WordCalls>(words: &mut W, pass: &mut W::Pass, size: u32) -> Result<u64, Refusal>
     requires fits { W.fits words.old pass.old }
     requires short { size ≤ max_message (W.pass_of words.old pass.old).identity.geometry }
@@ -33,6 +34,7 @@ pub fn claim<W: WordCalls>(words: &mut W, pass: &mut W::Pass, size: u32) -> Resu
 }
 
 /// Adds a message's range to the tail for which the pass is armed.
+#[inline(always)]
 fn add_range<W: WordCalls>(
     words: &mut W,
     pass: &mut W::Pass,
@@ -62,6 +64,7 @@ fn add_range<W: WordCalls>(
 }
 
 /// Commits the padding that an addition left open, if there is one; its answer was this word.
+#[inline(always)]
 fn pad<W: WordCalls>(words: &mut W, pass: &mut W::Pass, word: u64)
     requires fits { W.fits words.old pass.old }
     requires draft { ToPad (W.pass_of words.old pass.old) word }

@@ -20,6 +20,7 @@ pub(crate) enum Look {
 }
 
 /// Loads the limit, the active count and the count's raw tail.
+#[inline(always)]
 pub(crate) fn look_at<W: WordCalls>(words: &mut W, pass: &mut W::Pass) -> Look
     requires { W.fits words.old pass.old }
     ensures moved { Moved W.fits W.pass_of W.name W.id words.old pass.old words.new pass.new }

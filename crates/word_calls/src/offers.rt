@@ -20,6 +20,7 @@ use position::{UNFRAGMENTED, align32};
 /// the active term isn't used up, the tail is below the limit and the frames fit the rest of the term; the answer is then
 /// the position behind them. A message that doesn't fit leaves a padding up to the term's end, and the log turns to the
 /// next term.
+#[inline(always)]
 pub fn offer<W: WordCalls>(
     words: &mut W,
     pass: &mut W::Pass,

@@ -12,6 +12,7 @@ use crate::words::WordCalls;
 /// Turns from the term with this count, which the pass has seen used up and which isn't the last one, to the next:
 /// exchanges the raw tail of the next partition and then the active count, each once at the most. Another pass's turn is
 /// helped on.
+#[inline(always)]
 pub fn rotate<W: WordCalls>(words: &mut W, pass: &mut W::Pass, count: u32)
     requires fits { W.fits words.old pass.old }
     requires few { length (W.pass_of words.old pass.old).call ≤ 4 }
@@ -27,6 +28,7 @@ pub fn rotate<W: WordCalls>(words: &mut W, pass: &mut W::Pass, count: u32)
 }
 
 /// Begins the next term, if nobody has. Whether it has begun.
+#[inline(always)]
 fn begin_next<W: WordCalls>(words: &mut W, pass: &mut W::Pass, count: u32) -> bool
     requires fits { W.fits words.old pass.old }
     requires few { length (W.pass_of words.old pass.old).call ≤ 4 }
@@ -47,6 +49,7 @@ fn begin_next<W: WordCalls>(words: &mut W, pass: &mut W::Pass, count: u32) -> bo
 }
 
 /// The refusal at the end of the term with this count; the log turns to the next one, if this isn't the last.
+#[inline(always)]
 pub(crate) fn turn_from<W: WordCalls>(words: &mut W, pass: &mut W::Pass, count: u32) -> Refusal
     requires fits { W.fits words.old pass.old }
     requires few { length (W.pass_of words.old pass.old).call ≤ 4 }

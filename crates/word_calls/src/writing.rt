@@ -15,6 +15,7 @@ use crate::words::WordCalls;
 use position::{BEGIN, END, UNFRAGMENTED};
 
 /// Stores the words of a frame's header behind the first one.
+#[inline(always)]
 fn put_header<W: WordCalls>(words: &mut W, pass: &mut W::Pass, identity: &Identity, start: u64)
     requires fits { W.fits words.old pass.old }
     requires in_stream { start ≤ max_position identity.now.geometry }
@@ -35,6 +36,7 @@ fn put_header<W: WordCalls>(words: &mut W, pass: &mut W::Pass, identity: &Identi
 }
 
 /// Stores a payload's words behind a header, the last of them with zeros up to its end.
+#[inline(always)]
 fn put_payload<W: WordCalls>(words: &mut W, pass: &mut W::Pass, start: u64, payload: &[u8])
     requires fits { W.fits words.old pass.old }
     requires below { start < 2 ^ 56 }
@@ -52,6 +54,7 @@ fn put_payload<W: WordCalls>(words: &mut W, pass: &mut W::Pass, start: u64, payl
 }
 
 /// Writes and commits a data frame into an open frame of its length, of which nothing is stored.
+#[inline(always)]
 pub(crate) fn write_data<W: WordCalls>(
     words: &mut W,
     pass: &mut W::Pass,
@@ -77,6 +80,7 @@ pub(crate) fn write_data<W: WordCalls>(
 }
 
 /// Writes and commits a padding into an open frame of its length, of which nothing is stored.
+#[inline(always)]
 pub(crate) fn write_padding<W: WordCalls>(
     words: &mut W,
     pass: &mut W::Pass,
@@ -112,6 +116,7 @@ fn flags_of(first: bool, last: bool) -> u8
 }
 
 /// Writes and commits a message's frames, from the first to the last, into open frames of their lengths.
+#[inline(always)]
 pub(crate) fn write_message<W: WordCalls>(
     words: &mut W,
     pass: &mut W::Pass,
