@@ -16,3 +16,4 @@ pub mod Gathering
 pub mod Greatest
 pub mod Ending
 pub mod Eventful
+pub mod Rings

@@ -14,6 +14,7 @@ mod numbering;
 mod opening;
 mod peek;
 mod plays;
+mod ring;
 mod view;
 
 pub use calls::OnTable;

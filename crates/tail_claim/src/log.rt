@@ -6,10 +6,11 @@ ghost use Rattle.theory.specs.Words.{id_before, id_in, tail_word};
 ghost use Rattle.word_calls.specs.declared.step.WordStep.TheVariants as steps;
 ghost use Rattle.word_calls.specs.Frames.{Completes};
 ghost use Rattle.word_calls.specs.Steps.{Adds, Advances, Arms, Commits, Counts, HasWord, Nexts, Rotates, Sees, Stores, addition, tail_exchange, tail_step};
-ghost use Rattle.tail_claim.specs.Packs.{slot, tail_place};
+ghost use Rattle.tail_claim.specs.Packs.{ring_of, slot, tail_place};
 ghost use Rattle.tail_claim.specs.Handles.{IsOf, Stepped};
 
 use crate::plays::{Add, Advance, Arm, Chosen, Commit, Count, LogRule, Next, Rotate, See, Store};
+use crate::ring::Ring;
 use crate::view::{Key, View};
 use atomic_table::{Seat, Table};
 use std::alloc::Global;
@@ -98,16 +99,27 @@ impl TableLog {
         self.identity
     }
 
+    /// The places of the stream's words, behind the control words.
+    pub(crate) fn ring(&self) -> Ring
+        ensures { result ≡ ring_of self.now.identity.geometry }
+    {
+        Ring::new(3 * (self.identity.geometry().term_length() / 8))
+    }
+
     /// The place of the word of the stream at a position.
-    fn slot_of(&self, position: u64) -> usize
+    #[inline(always)]
+    fn slot_of(&self, ring: &mut Ring, position: u64) -> usize
+        requires { ring.old ≡ ring_of self.now.identity.geometry }
         ensures is { result ≡ slot self.now.identity.geometry position }
         ensures inside { result < self.now.table.words }
+        ensures same { ring.new ≡ ring.old }
     {
-        let ring = 3 * (u64::from(self.identity.geometry().term_length()) / 8);
-        (position / 8 % ring) as usize + DATA
+        let _ = &self.table;
+        ring.place_of(position / 8) as usize + DATA
     }
 
     /// Loads the limit.
+    #[inline(always)]
     pub(crate) fn see(&self, publisher: &mut Publisher) -> u64
         requires { IsOf self.now publisher.old }
         ensures stepped { Stepped (steps.Limit result ∷ []) publisher.old publisher.new }
@@ -118,6 +130,7 @@ impl TableLog {
     }
 
     /// Loads the active count.
+    #[inline(always)]
     pub(crate) fn count(&self, publisher: &mut Publisher) -> u32
         requires { IsOf self.now publisher.old }
         ensures stepped { Stepped (steps.Count result ∷ []) publisher.old publisher.new }
@@ -128,6 +141,7 @@ impl TableLog {
     }
 
     /// Loads the tail of the count that was loaded.
+    #[inline(always)]
     pub(crate) fn arm(&self, publisher: &mut Publisher, count: u32) -> u64
         requires fits { IsOf self.now publisher.old }
         requires count { publisher.old.pass.seen.count ≡ count }
@@ -139,6 +153,7 @@ impl TableLog {
     }
 
     /// Adds what a message covers to the tail for which the publisher is armed.
+    #[inline(always)]
     pub(crate) fn add_as<N: Chosen>(&self, publisher: &mut Publisher, count: u32, size: u32) -> u64
         requires fits { IsOf self.now publisher.old }
         requires armed { publisher.old.pass.right.armed ≡ 1 }
@@ -154,6 +169,7 @@ impl TableLog {
     }
 
     /// Loads the tail behind a count's.
+    #[inline(always)]
     pub(crate) fn next_as<N: Chosen>(&self, publisher: &mut Publisher, count: u32) -> u64
         requires fits { IsOf self.now publisher.old }
         requires full { publisher.old.pass.seen.full ≡ suc count }
@@ -167,6 +183,7 @@ impl TableLog {
     }
 
     /// Exchanges the tail behind a count's, from the word that was loaded to the next term's start.
+    #[inline(always)]
     pub(crate) fn rotate_as<N: Chosen>(
         &self,
         publisher: &mut Publisher,
@@ -188,6 +205,7 @@ impl TableLog {
     }
 
     /// Exchanges the active count from this one to the next.
+    #[inline(always)]
     pub(crate) fn advance(&self, publisher: &mut Publisher, count: u32) -> u32
         requires fits { IsOf self.now publisher.old }
         requires begun { publisher.old.pass.seen.begun ≡ count + 1 }
@@ -201,27 +219,47 @@ impl TableLog {
     }
 
     /// Stores a word of an open frame that isn't its first.
-    pub(crate) fn store_as<N: Chosen>(&self, publisher: &mut Publisher, position: u64, word: u64)
+    #[inline(always)]
+    pub(crate) fn store_as<N: Chosen>(
+        &self,
+        ring: &mut Ring,
+        publisher: &mut Publisher,
+        position: u64,
+        word: u64,
+    )
         requires fits { IsOf self.now publisher.old }
+        requires ring { ring.old ≡ ring_of self.now.identity.geometry }
         requires inside { HasWord publisher.old.pass 1 position }
         requires chosen { N.number ≡ position }
         ensures stepped { Stepped [] publisher.old publisher.new }
         ensures told { Stores publisher.old.pass position word publisher.new.pass }
+        ensures same { ring.new ≡ ring.old }
     {
+        let place = self.slot_of(ring, position);
         let words = &self.table.shared;
-        words.store::<Store<N>>(&mut publisher.seat, self.slot_of(position), word);
+        words.store::<Store<N>>(&mut publisher.seat, place, word);
     }
 
     /// Stores the first word of an open frame.
-    pub(crate) fn commit_as<N: Chosen>(&self, publisher: &mut Publisher, start: u64, word: u64)
+    #[inline(always)]
+    pub(crate) fn commit_as<N: Chosen>(
+        &self,
+        ring: &mut Ring,
+        publisher: &mut Publisher,
+        start: u64,
+        word: u64,
+    )
         requires fits { IsOf self.now publisher.old }
+        requires ring { ring.old ≡ ring_of self.now.identity.geometry }
         requires completes { Completes publisher.old.pass start word }
         requires word { 0 < word }
         requires chosen { N.number ≡ start }
         ensures stepped { Stepped [] publisher.old publisher.new }
         ensures told { Commits publisher.old.pass start word publisher.new.pass }
+        ensures same { ring.new ≡ ring.old }
     {
+        let place = self.slot_of(ring, start);
         let words = &self.table.shared;
-        words.store::<Commit<N>>(&mut publisher.seat, self.slot_of(start), word);
+        words.store::<Commit<N>>(&mut publisher.seat, place, word);
     }
 }
