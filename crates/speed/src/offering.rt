@@ -12,13 +12,19 @@ use word_calls::{Refusal, offer};
 pub(crate) const SIZE: usize = 200;
 
 /// Offers a message once.
-fn offer_once(log: &TableLog, publisher: &mut Publisher, message: &[u8]) -> Result<u64, Refusal>
-    requires idle { IsIdle log.now publisher.old }
-    requires short { length message.now ≤ max_message log.now.identity.geometry }
-    ensures accepted { IfOk result (λ _. Claims log.now publisher.old 1 publisher.new) }
-    ensures refused { IfErr result (λ _. Claims log.now publisher.old 0 publisher.new) }
+#[inline(always)]
+fn offer_once(
+    words: &mut OnTable,
+    publisher: &mut Publisher,
+    message: &[u8],
+) -> Result<u64, Refusal>
+    requires idle { IsIdle words.old publisher.old }
+    requires short { length message.now ≤ max_message words.old.identity.geometry }
+    ensures same { words.new ≡ words.old }
+    ensures accepted { IfOk result (λ _. Claims words.old publisher.old 1 publisher.new) }
+    ensures refused { IfErr result (λ _. Claims words.old publisher.old 0 publisher.new) }
 {
-    offer(&mut OnTable { log }, publisher, message)
+    offer(words, publisher, message)
 }
 
 /// Offers messages until one is refused at the limit, and counts those that are accepted.
@@ -28,9 +34,10 @@ pub(crate) fn offer_all(log: &TableLog, publisher: &mut Publisher) -> u32
 {
     let _ = log.identity().geometry();
     let message = [97; SIZE];
+    let mut words = OnTable::new(log);
     let mut accepted: u32 = 0;
     for _ in 0..u32::MAX {
-        match offer_once(log, publisher, &message) {
+        match offer_once(&mut words, publisher, &message) {
             Ok(_) => accepted += 1,
             Err(Refusal::AdminAction) => {}
             Err(_) => break,

@@ -14,11 +14,11 @@ claims l l' p q more same of off k = record { idle = record { of = subst (λ (x 
 pub returns-clause-accepted : goal.returns-clause-accepted
 returns-clause-accepted c =
     let p = c.args.publisher.now in let q = c.offer.new.pass in let m = c.offer.ensures.moved in
-    IfOk-weaker c.offer.result (λ end. Offered p.pass c.args.message.now end q.pass) (λ end. Claims c.args.log.now p 1 q)
-    (λ end h. claims c.args.log.now _ p q 1 m.same m.still (offered_idle p.pass c.args.message.now end q.pass h) (offered p.pass c.args.message.now end q.pass h)) c.offer.ensures.accepted
+    IfOk-weaker c.offer.result (λ end. Offered p.pass c.args.message.now end q.pass) (λ end. Claims c.args.words.now p 1 q)
+    (λ end h. claims c.args.words.now _ p q 1 m.same m.still (offered_idle p.pass c.args.message.now end q.pass h) (offered p.pass c.args.message.now end q.pass h)) c.offer.ensures.accepted
 
 pub returns-clause-refused : goal.returns-clause-refused
 returns-clause-refused c =
     let p = c.args.publisher.now in let q = c.offer.new.pass in let m = c.offer.ensures.moved in
-    IfErr-weaker c.offer.result (λ why. Justified p.pass (length c.args.message.now) why q.pass) (λ why. Claims c.args.log.now p 0 q)
-    (λ why h. claims c.args.log.now _ p q 0 m.same m.still (refused_idle p.pass (length c.args.message.now) why q.pass h c.requires.idle.unarmed) (refused p.pass (length c.args.message.now) why q.pass h)) c.offer.ensures.refused
+    IfErr-weaker c.offer.result (λ why. Justified p.pass (length c.args.message.now) why q.pass) (λ why. Claims c.args.words.now p 0 q)
+    (λ why h. claims c.args.words.now _ p q 0 m.same m.still (refused_idle p.pass (length c.args.message.now) why q.pass h c.requires.idle.unarmed) (refused p.pass (length c.args.message.now) why q.pass h)) c.offer.ensures.refused
