@@ -1,6 +1,6 @@
 //! The words of a frame, as numbers.
 
-ghost use Rattle.std.specs.Prelude.{◌≡◌, ◌-◌, ◌<◌, ◌≤◌, ◌++◌, drop, length, replicate, if◌then◌else◌};
+ghost use Rattle.std.specs.Prelude.{◌≡◌, ◌+◌, ◌-◌, ◌<◌, ◌≤◌, ◌++◌, drop, length, replicate, if◌then◌else◌};
 ghost use Rattle.std.specs.Int.{w32, w64, from_le_bytes, to_le_bytes};
 ghost use Rattle.theory.specs.Wire.{front};
 
@@ -40,17 +40,23 @@ fn payload_word(bytes: &[u8]) -> u64
     u64::from_le_bytes(padded(bytes))
 }
 
-/// The word of a payload that begins at a byte, with zeros behind the payload's end.
+/// The word of a payload whose eight bytes begin at this one.
 #[inline(always)]
-pub(crate) fn word_at(payload: &[u8], at: usize) -> u64
-    requires { at ≤ length payload.now }
+pub(crate) fn whole_word(payload: &[u8], at: usize) -> u64
+    requires { at + 8 ≤ length payload.now }
     ensures { result ≡ from_le_bytes w64 (drop at payload.now) }
 {
-    if payload.len() - at >= 8 {
-        payload_word(&payload[at..at + 8])
-    } else {
-        payload_word(&payload[at..])
-    }
+    payload_word(&payload[at..at + 8])
+}
+
+/// The word of a payload's last bytes, of which there are less than eight, with zeros behind them.
+#[inline(always)]
+pub(crate) fn last_word(payload: &[u8], at: usize) -> u64
+    requires within { at ≤ length payload.now }
+    requires few { length payload.now ≤ at + 8 }
+    ensures { result ≡ from_le_bytes w64 (drop at payload.now) }
+{
+    payload_word(&payload[at..])
 }
 
 fn padded(bytes: &[u8]) -> [u8; 8]

@@ -9,7 +9,7 @@ ghost use Rattle.word_calls.specs.Frames.{frame_flags, header_words, payload_wor
 ghost use Rattle.word_calls.specs.Claims.{Fills, HasBlank, TookMore};
 ghost use Rattle.word_calls.specs.Offers.{FillsAll, HasBlanks, HasRoom, Puts};
 
-use crate::frame_words::{first_word, pair_word, word_at};
+use crate::frame_words::{first_word, last_word, pair_word, whole_word};
 use crate::identity::Identity;
 use crate::words::WordCalls;
 use position::{BEGIN, END, UNFRAGMENTED};
@@ -46,11 +46,18 @@ fn put_payload<W: WordCalls>(words: &mut W, pass: &mut W::Pass, start: u64, payl
     ensures took { TookMore W.took W.pass_of words.old pass.old words.new pass.new ((length payload.now + 7) / 8) }
     ensures puts { Puts (W.pass_of words.old pass.old) start 4 (payload_words payload.now) (W.pass_of words.new pass.new) }
 {
-    for index in 0..payload.len().div_ceil(8) {
+    let whole = payload.len() / 8;
+    for index in 0..whole {
         let at = 8 * index;
-        let word = word_at(payload, at);
+        let word = whole_word(payload, at);
         words.store_word(pass, start + 32 + at as u64, word);
     }
+    let at = 8 * whole;
+    if at == payload.len() {
+        return;
+    }
+    let word = last_word(payload, at);
+    words.store_word(pass, start + 32 + at as u64, word);
 }
 
 /// Writes and commits a data frame into an open frame of its length, of which nothing is stored.
