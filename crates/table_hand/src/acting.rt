@@ -35,7 +35,7 @@ pub(crate) fn offer_as(
     ensures { Offers log.now all.old number message.now result all.new }
 {
     log.renumber(all, number);
-    let mut words = OnTable { log };
+    let mut words = OnTable::new(log);
     match word_calls::offer(&mut words, all, message) {
         Ok(end) => Ok(end),
         Err(refusal) => Err(said(refusal)),
@@ -56,7 +56,7 @@ pub(crate) fn claim_as(
     ensures refused { IfErr result (λ why. ClaimsNone log.now all.old number size why all.new) }
 {
     log.renumber(all, number);
-    let mut words = OnTable { log };
+    let mut words = OnTable::new(log);
     match word_calls::try_claim(&mut words, all, size) {
         Ok(start) => Ok(start),
         Err(refusal) => Err(said(refusal)),
@@ -78,7 +78,7 @@ pub(crate) fn commit_as(
     ensures { CommitsClaim log.now all.old number held payload.now result all.new }
 {
     log.renumber(all, number);
-    let mut words = OnTable { log };
+    let mut words = OnTable::new(log);
     word_calls::commit(&mut words, all, held.start, payload)
 }
 
@@ -90,6 +90,6 @@ pub(crate) fn abort_as(log: &TableLog, all: &mut Publisher, number: u64, held: H
     ensures { AbortsClaim log.now all.old number held result all.new }
 {
     log.renumber(all, number);
-    let mut words = OnTable { log };
+    let mut words = OnTable::new(log);
     word_calls::abort(&mut words, all, held.start, held.size)
 }
