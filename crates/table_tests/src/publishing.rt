@@ -75,7 +75,7 @@ fn publish_claim(
     let most = log.identity().geometry().max_payload() as usize;
     prove!(message.len() <= most);
     let size = message.len() as u32;
-    let mut words = OnTable { log };
+    let mut words = OnTable::new(log);
     let start = try_claim(&mut words, publisher, size)?;
     if aborts {
         return Ok(abort(&mut words, publisher, start, size));
@@ -93,7 +93,7 @@ pub(crate) fn publish_offer(
     requires short { length message.now ≤ max_message log.now.identity.geometry }
     ensures { Stays log.now publisher.old publisher.new }
 {
-    offer(&mut OnTable { log }, publisher, message)
+    offer(&mut OnTable::new(log), publisher, message)
 }
 
 /// Draws a message and publishes it, by an offer or by a claim.
