@@ -123,7 +123,7 @@ one_pass P p a zero v e = subst P (some-injective _ v e) a
 one_pass P p a (suc j) v e = absurd (some-ne-none v (sym e))
 
 -- the first seat knows the control words
-fresh_is : (key : Key) (ws : List ℕ) → Fresh (bounds_of key) ws → fresh_controls key.identity key.start ≡ controls_in ws
+pub fresh_is : (key : Key) (ws : List ℕ) → Fresh (bounds_of key) ws → fresh_controls key.identity key.start ≡ controls_in ws
 fresh_is key ws f = λ i. record { limit = sym f.limit i; count = sym f.count i; tails = placed (first_of b) (tail_word (id_of g (first_of b)) (key.start % g.term_length)) (tail_word (id_before g (first_of b) 2) 0) (tail_word (id_before g (first_of b) 1) 0) f.here f.next f.last i }
   where
     b : Bounds
@@ -143,7 +143,7 @@ fresh_is key ws f = λ i. record { limit = sym f.limit i; count = sym f.count i;
         by_part (suc (suc zero)) zero (suc zero) low eq er ex ey ez = λ i. sym ey i ∷ sym ez i ∷ sym ex i ∷ []
         by_part p q r low eq er ex ey ez = absurd (omega arith)
 
-ruled_first : (key : Key) (ws : List ℕ) → Sound (bounds_of key) → Fresh (bounds_of key) ws → Ruled (bounds_of key) ws (map pass_in (first_seat key ∷ []))
+pub ruled_first : (key : Key) (ws : List ℕ) → Sound (bounds_of key) → Fresh (bounds_of key) ws → Ruled (bounds_of key) ws (map pass_in (first_seat key ∷ []))
 ruled_first key ws so f =
     let b = bounds_of key in let g = shape_of b in let k : ℕ = first_of b in let off : ℕ = b.start % size_of b in let t = fresh_terms b in let s = term_short b so in let p : Pass = newcomer key.identity key.start 7 1024 in
     let low : off ≤ size_of b = (let m : off < size_of b = mod-lt b.start (omega arith) in omega arith) in
@@ -188,7 +188,7 @@ opens key ws so f = record {
 
 -- ---- a publisher is dealt
 
-split_total : (f : Pass → ℕ) (ps : List Pass) (id : ℕ) (v l r : Pass) → get_elem? ps id ≡ some v → f l + f r ≡ f v → total f (set ps id l ++ r ∷ []) ≡ total f ps
+pub split_total : (f : Pass → ℕ) (ps : List Pass) (id : ℕ) (v l r : Pass) → get_elem? ps id ≡ some v → f l + f r ≡ f v → total f (set ps id l ++ r ∷ []) ≡ total f ps
 split_total f ps id v l r at e = let a = total_set f ps id v l at in let c = total_append f (set ps id l) (r ∷ []) in omega arith
 
 -- a pass is cut in two, which have together what it had
@@ -225,7 +225,7 @@ split_ruled b ws ps r id p l q at weighs parts armed same_armed keeps gets left_
 pub plus_none : (n : ℕ) → n + 0 ≡ n
 plus_none n = omega arith
 
-shared : (b : Bounds) (ws : List ℕ) (ps : List Pass) → Ruled b ws ps → (id : ℕ) (p : Pass) → get_elem? ps id ≡ some p → p.right.armed ≡ 0 → 120 < p.right.parts → Ruled b ws (set ps id (dealer p) ++ (dealt p) ∷ [])
+pub shared : (b : Bounds) (ws : List ℕ) (ps : List Pass) → Ruled b ws ps → (id : ℕ) (p : Pass) → get_elem? ps id ≡ some p → p.right.armed ≡ 0 → 120 < p.right.parts → Ruled b ws (set ps id (dealer p) ++ (dealt p) ∷ [])
 shared b ws ps r id p at off many =
     let l : Pass = dealer p in let q : Pass = dealt p in let k = r.claims.each id p at in let m = r.memory.each id p at in let number = k.number in
     split_ruled b ws ps r id p l q at (λ h. plus_none (weight h p)) (let z : p.right.parts - 120 + 120 ≡ p.right.parts = omega arith in z) (plus_none p.right.armed)

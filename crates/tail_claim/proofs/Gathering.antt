@@ -39,7 +39,7 @@ sum_cross h fs gs ds es =
 
 -- ---- a join
 
-joined : (b : Bounds) (ws : List ℕ) (ps : List Pass) → Ruled b ws ps → (i j : ℕ) (v w : Pass) → get_elem? ps i ≡ some v → (j ≡ i → ⊥) → get_elem? (set ps i (both v w)) j ≡ some w → v.right.armed ≡ 0 → w.right.armed ≡ 0 → 0 < v.right.parts → Ruled b ws (set (set ps i (both v w)) j (newcomer b.identity b.start 0 0))
+pub joined : (b : Bounds) (ws : List ℕ) (ps : List Pass) → Ruled b ws ps → (i j : ℕ) (v w : Pass) → get_elem? ps i ≡ some v → (j ≡ i → ⊥) → get_elem? (set ps i (both v w)) j ≡ some w → v.right.armed ≡ 0 → w.right.armed ≡ 0 → 0 < v.right.parts → Ruled b ws (set (set ps i (both v w)) j (newcomer b.identity b.start 0 0))
 joined b ws ps r i j v w at ne at' off off' able =
     let l : Pass = both v w in let q : Pass = newcomer b.identity b.start 0 0 in let ps' : List Pass = set (set ps i l) j q in let t = r.claims.terms in let k = r.claims.each i v at in let m = r.memory.each i v at in
     let was : get_elem? ps j ≡ some w = sym (set_else ps i j l ne) ∙ at' in let k' = r.claims.each j w was in let m' = r.memory.each j w was in

@@ -18,18 +18,18 @@ use std::marker::Model;
 use word_calls::Identity;
 
 /// How far apart control words are, in words: a cache line.
-pub(crate) const LINE: usize = 16;
+pub const LINE: usize = 16;
 
 /// The place of the active count among the words of the table. That of the limit is 0.
-pub(crate) const COUNT: usize = 16;
+pub const COUNT: usize = 16;
 
 /// That of the first raw tail, and that of the first consumer's position; each further one is a line behind.
-pub(crate) const TAILS: usize = 32;
+pub const TAILS: usize = 32;
 
-pub(crate) const CONSUMERS: usize = 80;
+pub const CONSUMERS: usize = 80;
 
 /// That of the stream's first word.
-pub(crate) const DATA: usize = 208;
+pub const DATA: usize = 208;
 
 /// The words of a log, on a table that threads share. It is connected, and its limit stays half a term above the start.
 #[derive(Drop)]
@@ -77,7 +77,7 @@ impl Publisher {
 }
 
 /// The place of the raw tail of a count's partition.
-pub(crate) fn place_of(count: u32) -> usize
+pub fn place_of(count: u32) -> usize
     ensures is { result ≡ tail_place count }
     ensures low { result < 208 }
 {
@@ -85,7 +85,7 @@ pub(crate) fn place_of(count: u32) -> usize
 }
 
 /// A raw tail: the id in the high 32 bits, the offset in the low 32.
-pub(crate) fn packed(id: i32, offset: u32) -> u64
+pub fn packed(id: i32, offset: u32) -> u64
     ensures { result ≡ tail_word id offset }
 {
     u64::from(id.cast_unsigned()) << 32 | u64::from(offset)

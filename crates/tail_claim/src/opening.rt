@@ -15,8 +15,8 @@ use position::Geometry;
 use std::alloc::{AllocError, Global};
 use word_calls::Identity;
 
-/// The words of a log that opens.
-fn first_words(alloc: Global, key: &Key) -> Result<Vec<u64>, AllocError>
+/// The words of a log that opens, connected, with its limit half a term above the start.
+pub fn first_words(alloc: Global, key: &Key) -> Result<Vec<u64>, AllocError>
     requires { Sound (bounds_of key.now) }
     ensures { IfOk result (λ words. Fresh (bounds_of key.now) words.items) }
 {

@@ -6,7 +6,7 @@ use std::marker::Model;
 
 /// Places, so many.
 #[derive(Drop)]
-pub(crate) struct Ring {
+pub struct Ring {
     length: u32,
     /// The number of a word that is at place 0.
     lap: u64,
@@ -23,7 +23,7 @@ impl Model for Ring {
 }
 
 impl Ring {
-    pub(crate) fn new(length: u32) -> Ring
+    pub fn new(length: u32) -> Ring
         requires { 0 < length }
         ensures { result ≡ length }
     {
@@ -33,7 +33,7 @@ impl Ring {
     /// The place of the word with this number. Nothing is divided as long as the numbers are of one lap.
     #[inline(always)]
     #[tactic(auto, using(crate::proofs::Rings::in_lap))]
-    pub(crate) fn place_of(&mut self, number: u64) -> u32
+    pub fn place_of(&mut self, number: u64) -> u32
         ensures place { result ≡ number % self.old }
         ensures same { self.new ≡ self.old }
     {
