@@ -8,3 +8,4 @@ pub mod InTerm
 pub mod Consumers
 pub mod Keeping
 pub mod Cleaning
+pub mod Beginning

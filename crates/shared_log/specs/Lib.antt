@@ -3,3 +3,5 @@ pub mod Kept
 pub mod Table
 pub mod Readings
 pub mod Keepings
+pub mod Handles
+pub mod Opening

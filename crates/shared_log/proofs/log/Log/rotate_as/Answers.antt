@@ -1,0 +1,36 @@
+use Rattle.std.proofs.Common.{rules, ◌≡◌, ℕ, suc, ◌+◌, ◌%◌, ◌<◌, [], ◌∷◌, eqb, inl, sym, ap, ◌∙◌, subst, arith}
+use prog.Atomic.{either}
+use Rattle.word_calls.specs.declared.step.WordStep.TheVariants as steps
+use Rattle.theory.specs.Position.{id_of}
+use Rattle.theory.specs.Bytes.{Identity}
+use Rattle.theory.specs.Words.{id_before, tail_word}
+use Rattle.word_calls.specs.declared.pass.Pass.{Pass}
+use Rattle.word_calls.specs.Steps.{Rotates, tail_exchange}
+use Rattle.tail_claim.specs.Packs.{tail_place}
+use Rattle.atomic_table.specs.Table.{Allows}
+use Rattle.tail_claim.specs.Admits.{Same}
+use Rattle.tail_claim.specs.Sure.{Learns}
+use Rattle.tail_claim.specs.Plays.{Mine}
+use Rattle.shared_log.specs.Table.{LogRuled}
+use Rattle.tail_claim.proofs.Sures.{Turns, rotate_turns}
+use Rattle.shared_log.proofs.Lifting.{lifted_at, load_spares, other_spares}
+use Rattle.std.specs.Int.{w32, cast_signed, cast_unsigned}
+use Rattle.std.proofs.lemmas.Int.{to_z-of_z}
+use Rattle.tail_claim.proofs.Packs.{id_fits}
+use Rattle.tail_claim.proofs.Eventful.{steps_are_events}
+use Rattle.shared_log.proofs.log.Log.rotate_as.Goals as goal
+
+pub compare_exchange-requires : goal.compare_exchange-requires
+compare_exchange-requires g c = let me : Mine = c.publisher.inside.seat.me in let v : Pass = me.0.pass in let vi : v ≡ c.args.publisher.now.pass = ap (λ p. p.pass) c.publisher.view_is in let wide = c.self.invariant.words in let low = c.place_of.ensures.low in let k : ℕ = g.N.Chosen.number in let is : k ≡ c.args.count = c.requires.chosen in let last = c.requires.last in
+    let shape : v.identity.geometry ≡ c.self.inside.identity.geometry = ap (λ (i : Identity). i.geometry) (ap (λ (p : Pass). p.identity) vi ∙ c.requires.fits.identity ∙ sym (ap (λ l. l.identity) c.self.view_is)) in
+    let id_is : c.id_of-id.result ≡ id_of v.identity.geometry (k + 1) = c.id_of-id.ensures ∙ (λ j. id_of (c.geometry.ensures.value j) (sym is j + 1)) ∙ (λ j. id_of (sym shape j) (k + 1)) in
+    let to : ℕ = c.packed-to.result in let to_is : to ≡ tail_word (id_of v.identity.geometry (k + 1)) 0 = c.packed-to.ensures ∙ ap (λ z. tail_word (cast_signed w32 (cast_unsigned w32 z)) 0) id_is ∙ ap (λ z. tail_word z 0) (to_z-of_z w32 (id_of v.identity.geometry (k + 1)) (id_fits v.identity.geometry (k + 1))) in (
+      search rules,
+      omega arith,
+      subst (λ (z : ℕ). Allows (LogRuled c.self.inside.table.shared.key) c.self.inside.table.shared.table_id.slots c.publisher.inside.seat.id me c.place_of.result (λ n. either (eqb n c.args.from) z n) (λ n m'. (m'.1 ≡ me.1) × (m'.0.steps ≡ suc me.0.steps) × Same v m'.0.pass × Learns (tail_exchange v k c.args.from n ∷ []) me.0 m'.0 × Rotates v k c.args.from n m'.0.pass)) (sym to_is)
+          (lifted_at _ _ _ (tail_place (k + 1)) me (λ n. either (eqb n c.args.from) (tail_word (id_of v.identity.geometry (k + 1)) 0) n) (λ n w. Rotates v k c.args.from n w) (λ n. tail_exchange v k c.args.from n ∷ []) c.place_of.result (c.place_of.ensures.is ∙ ap (λ (z : ℕ). tail_place (z + 1)) (sym is))
+          (rotate_turns (k + 1) c.args.from (tail_word (id_of v.identity.geometry (k + 1)) 0)) (inl (let able = c.publisher.invariant.1 in let q : 0 < v.right.parts = omega arith in q))
+          (other_spares (tail_place (k + 1)) (λ n. either (eqb n c.args.from) (tail_word (id_of v.identity.geometry (k + 1)) 0) n) (λ e. omega arith) (λ j lt e. omega arith))
+          (λ b. steps_are_events.exchange_next b _ v k c.args.from (ap (λ (p : Pass). p.seen.full) vi ∙ c.requires.full ∙ ap suc (sym is)) (omega arith)
+          (c.requires.from ∙ (λ j. id_before (ap (λ (i : Identity). i.geometry) (sym c.requires.fits.identity ∙ ap (λ (p : Pass). p.identity) (sym vi)) j) (sym is j) 2)))),
+    )

@@ -1,0 +1,19 @@
+use Rattle.std.proofs.Common.{rules, ◌≡◌, ℕ, [], inr, sym, ap, ◌∙◌, subst, arith}
+use Rattle.theory.specs.Bytes.{Identity}
+use Rattle.word_calls.specs.declared.pass.Pass.{Pass}
+use Rattle.word_calls.specs.Steps.{HasWord, Stores}
+use Rattle.tail_claim.specs.Packs.{slot}
+use Rattle.tail_claim.specs.Plays.{Mine}
+use Rattle.tail_claim.proofs.Sures.{data_leaves, data_turns}
+use Rattle.shared_log.proofs.Lifting.{lifted_at, load_spares, other_spares}
+use Rattle.tail_claim.proofs.Eventful.{steps_are_events}
+use Rattle.shared_log.proofs.log.Log.store_as.Goals as goal
+
+pub store-requires : goal.store-requires
+store-requires g c = let me : Mine = c.publisher.inside.seat.me in let v : Pass = me.0.pass in let vi : v ≡ c.args.publisher.now.pass = ap (λ p. p.pass) c.publisher.view_is in let wide = c.self.invariant.words in let p : ℕ = g.N.Chosen.number in let is : p ≡ c.args.position = c.requires.chosen in
+    let shape : v.identity.geometry ≡ c.args.self.now.identity.geometry = ap (λ (i : Identity). i.geometry) (ap (λ (p : Pass). p.identity) vi ∙ c.requires.fits.identity) in (
+      search rules,
+      search rules,
+      lifted_at _ _ _ (slot v.identity.geometry p) me (λ _. c.args.word) (λ _ w. Stores v p c.args.word w) (λ _. []) c.slot_of-place.result (c.slot_of-place.ensures.is ∙ (λ j. slot (sym shape j) (sym is j))) (data_turns (slot v.identity.geometry p) c.args.word (omega arith)) (inr (data_leaves (slot v.identity.geometry p) c.args.word (omega arith)))
+          (other_spares (slot v.identity.geometry p) (λ _. c.args.word) (λ e. omega arith) (λ j lt e. omega arith)) (λ b. steps_are_events.store b _ v p c.args.word (subst (λ (z : Pass × ℕ). HasWord z.0 1 z.1) (λ j. (sym vi j, sym is j)) c.requires.inside)),
+    )

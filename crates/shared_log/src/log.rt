@@ -1,0 +1,253 @@
+//! A log that threads share, its publishers, and their steps.
+
+ghost use Rattle.std.specs.Prelude.{◌≡◌, ℕ, ◌+◌, ◌-◌, ◌*◌, ◌/◌, ◌%◌, ◌^◌, ◌<◌, ◌≤◌, suc, [], ◌∷◌};
+ghost use Rattle.theory.specs.Position.{id_of, max_message};
+ghost use Rattle.theory.specs.Words.{id_before, id_in, tail_word};
+ghost use Rattle.word_calls.specs.declared.step.WordStep.TheVariants as steps;
+ghost use Rattle.word_calls.specs.Frames.{Completes};
+ghost use Rattle.word_calls.specs.Steps.{Adds, Advances, Arms, Commits, Counts, HasWord, Nexts, Rotates, Sees, Stores, addition, tail_exchange, tail_step};
+ghost use Rattle.tail_claim.specs.Packs.{ring_of, slot, tail_place};
+ghost use Rattle.tail_claim.specs.Handles.{Stepped};
+ghost use Rattle.shared_log.specs.Handles.{IsOf};
+
+use crate::rule::{Key, LogRule};
+use atomic_table::{Seat, Table};
+use std::alloc::Global;
+use std::marker::Model;
+use tail_claim::{
+    Add, Advance, Arm, COUNT, Chosen, Commit, Count, DATA, Next, Ring, Rotate, See, Store, View, packed, place_of,
+};
+use word_calls::Identity;
+
+/// A log that threads share without a lock: its words stand in a table.
+#[derive(Drop)]
+pub struct Log {
+    pub(crate) table: Table<(), View, Key, LogRule, Global>,
+    pub(crate) identity: Identity,
+    pub(crate) start: u64,
+    pub(crate) consumers: u64,
+}
+
+impl Model for Log {
+    ghost use Rattle.shared_log.specs.Handles.{IsTable, LogValue};
+
+    ghost Value = { LogValue };
+
+    ghost view = { λ l. record { table = l.table.shared.table_id; identity = l.identity; start = l.start; consumers = l.consumers } };
+
+    ghost invariant = { λ l. IsTable l.table.shared.table_id l.table.shared.key l.identity l.start l.consumers };
+}
+
+/// A publisher of a log.
+#[derive(Drop)]
+pub struct Publisher {
+    pub(crate) seat: Seat<(), View>,
+    pub(crate) number: u64,
+}
+
+impl Model for Publisher {
+    ghost use Rattle.std.specs.Prelude.{◌≡◌, ◌≤◌, []};
+    ghost use Rattle.tail_claim.specs.Handles.{PublisherValue};
+
+    ghost Value = { PublisherValue };
+
+    ghost view = { λ p. record { of = p.seat.table_id; seat = p.seat.id; pass = p.seat.me.0.pass; steps = p.seat.me.0.steps; controls = p.seat.me.0.controls; sure = p.seat.me.0.sure } };
+
+    ghost invariant = { λ p. (p.seat.me.1 ≡ []) × (120 ≤ p.seat.me.0.pass.right.parts) × (p.number ≡ p.seat.me.0.pass.number) };
+}
+
+impl Publisher {
+    /// Its number, 0 to 7.
+    pub fn number(&self) -> u64
+        ensures { result ≡ self.now.pass.number }
+    {
+        self.number
+    }
+}
+
+impl Log {
+    /// Which stream the log carries.
+    pub fn identity(&self) -> Identity
+        ensures { result ≡ self.now.identity }
+    {
+        self.identity
+    }
+
+    /// The position at which the stream begins.
+    pub fn start(&self) -> u64
+        ensures { result ≡ self.now.start }
+    {
+        self.start
+    }
+
+    /// The number of its consumers.
+    pub fn consumers(&self) -> u64
+        ensures { result ≡ self.now.consumers }
+    {
+        self.consumers
+    }
+
+    /// The places of the stream's words, behind the control words.
+    pub(crate) fn ring(&self) -> Ring
+        ensures { result ≡ ring_of self.now.identity.geometry }
+    {
+        Ring::new(3 * (self.identity.geometry().term_length() / 8))
+    }
+
+    /// The place of the word of the stream at a position.
+    #[inline(always)]
+    pub(crate) fn slot_of(&self, ring: &mut Ring, position: u64) -> usize
+        requires { ring.old ≡ ring_of self.now.identity.geometry }
+        ensures is { result ≡ slot self.now.identity.geometry position }
+        ensures inside { result < self.now.table.words }
+        ensures same { ring.new ≡ ring.old }
+    {
+        let _ = &self.table;
+        ring.place_of(position / 8) as usize + DATA
+    }
+
+    /// Loads the limit.
+    #[inline(always)]
+    pub(crate) fn see(&self, publisher: &mut Publisher) -> u64
+        requires { IsOf self.now publisher.old }
+        ensures stepped { Stepped (steps.Limit result ∷ []) publisher.old publisher.new }
+        ensures told { Sees publisher.old.pass result publisher.new.pass }
+    {
+        let words = &self.table.shared;
+        words.load::<See>(&mut publisher.seat, 0)
+    }
+
+    /// Loads the active count.
+    #[inline(always)]
+    pub(crate) fn count(&self, publisher: &mut Publisher) -> u32
+        requires { IsOf self.now publisher.old }
+        ensures stepped { Stepped (steps.Count result ∷ []) publisher.old publisher.new }
+        ensures told { Counts publisher.old.pass result publisher.new.pass }
+    {
+        let words = &self.table.shared;
+        words.load::<Count>(&mut publisher.seat, COUNT) as u32
+    }
+
+    /// Loads the tail of the count that was loaded.
+    #[inline(always)]
+    pub(crate) fn arm(&self, publisher: &mut Publisher, count: u32) -> u64
+        requires fits { IsOf self.now publisher.old }
+        requires count { publisher.old.pass.seen.count ≡ count }
+        ensures stepped { Stepped (tail_step publisher.old.pass result ∷ []) publisher.old publisher.new }
+        ensures told { Arms publisher.old.pass result publisher.new.pass }
+    {
+        let words = &self.table.shared;
+        words.load::<Arm>(&mut publisher.seat, place_of(count))
+    }
+
+    /// Adds what a message covers to the tail for which the publisher is armed.
+    #[inline(always)]
+    pub(crate) fn add_as<N: Chosen>(&self, publisher: &mut Publisher, count: u32, size: u32) -> u64
+        requires fits { IsOf self.now publisher.old }
+        requires armed { publisher.old.pass.right.armed ≡ 1 }
+        requires count { publisher.old.pass.seen.term ≡ count }
+        requires short { size ≤ max_message self.now.identity.geometry }
+        requires chosen { N.number ≡ size }
+        ensures stepped { Stepped (addition publisher.old.pass size result ∷ []) publisher.old publisher.new }
+        ensures told { Adds publisher.old.pass size result publisher.new.pass }
+    {
+        let words = &self.table.shared;
+        let covered = u64::from(self.identity.geometry().framed_length(size));
+        words.fetch_add::<Add<N>>(&mut publisher.seat, place_of(count), covered)
+    }
+
+    /// Loads the tail behind a count's.
+    #[inline(always)]
+    pub(crate) fn next_as<N: Chosen>(&self, publisher: &mut Publisher, count: u32) -> u64
+        requires fits { IsOf self.now publisher.old }
+        requires full { publisher.old.pass.seen.full ≡ suc count }
+        requires last { count < 2 ^ 31 - 1 }
+        requires chosen { N.number ≡ count }
+        ensures stepped { Stepped (steps.NextTail ((count + 1) % 3) result ∷ []) publisher.old publisher.new }
+        ensures told { Nexts publisher.old.pass count result publisher.new.pass }
+    {
+        let words = &self.table.shared;
+        words.load::<Next<N>>(&mut publisher.seat, place_of(count + 1))
+    }
+
+    /// Exchanges the tail behind a count's, from the word that was loaded to the next term's start.
+    #[inline(always)]
+    pub(crate) fn rotate_as<N: Chosen>(
+        &self,
+        publisher: &mut Publisher,
+        count: u32,
+        from: u64,
+    ) -> u64
+        requires fits { IsOf self.now publisher.old }
+        requires full { publisher.old.pass.seen.full ≡ suc count }
+        requires last { count < 2 ^ 31 - 1 }
+        requires from { id_in from ≡ id_before self.now.identity.geometry count 2 }
+        requires chosen { N.number ≡ count }
+        ensures stepped { Stepped (tail_exchange publisher.old.pass count from result ∷ []) publisher.old publisher.new }
+        ensures told { Rotates publisher.old.pass count from result publisher.new.pass }
+    {
+        let words = &self.table.shared;
+        let id = self.identity.geometry().id_of(count + 1);
+        let to = packed(id, 0);
+        words.compare_exchange::<Rotate<N>>(&mut publisher.seat, place_of(count + 1), from, to)
+    }
+
+    /// Exchanges the active count from this one to the next.
+    #[inline(always)]
+    pub(crate) fn advance(&self, publisher: &mut Publisher, count: u32) -> u32
+        requires fits { IsOf self.now publisher.old }
+        requires begun { publisher.old.pass.seen.begun ≡ count + 1 }
+        requires last { count < 2 ^ 31 - 1 }
+        ensures stepped { Stepped (steps.CountExchange count result ∷ []) publisher.old publisher.new }
+        ensures told { Advances publisher.old.pass count result publisher.new.pass }
+    {
+        let words = &self.table.shared;
+        let from = u64::from(count);
+        words.compare_exchange::<Advance>(&mut publisher.seat, COUNT, from, from + 1) as u32
+    }
+
+    /// Stores a word of an open frame that isn't its first.
+    #[inline(always)]
+    pub(crate) fn store_as<N: Chosen>(
+        &self,
+        ring: &mut Ring,
+        publisher: &mut Publisher,
+        position: u64,
+        word: u64,
+    )
+        requires fits { IsOf self.now publisher.old }
+        requires ring { ring.old ≡ ring_of self.now.identity.geometry }
+        requires inside { HasWord publisher.old.pass 1 position }
+        requires chosen { N.number ≡ position }
+        ensures stepped { Stepped [] publisher.old publisher.new }
+        ensures told { Stores publisher.old.pass position word publisher.new.pass }
+        ensures same { ring.new ≡ ring.old }
+    {
+        let place = self.slot_of(ring, position);
+        let words = &self.table.shared;
+        words.store::<Store<N>>(&mut publisher.seat, place, word);
+    }
+
+    /// Stores the first word of an open frame.
+    #[inline(always)]
+    pub(crate) fn commit_as<N: Chosen>(
+        &self,
+        ring: &mut Ring,
+        publisher: &mut Publisher,
+        start: u64,
+        word: u64,
+    )
+        requires fits { IsOf self.now publisher.old }
+        requires ring { ring.old ≡ ring_of self.now.identity.geometry }
+        requires completes { Completes publisher.old.pass start word }
+        requires word { 0 < word }
+        requires chosen { N.number ≡ start }
+        ensures stepped { Stepped [] publisher.old publisher.new }
+        ensures told { Commits publisher.old.pass start word publisher.new.pass }
+        ensures same { ring.new ≡ ring.old }
+    {
+        let place = self.slot_of(ring, start);
+        let words = &self.table.shared;
+        words.store::<Commit<N>>(&mut publisher.seat, place, word);
+    }
+}
