@@ -65,7 +65,7 @@ pub spared_same : (ws : List ℕ) → Spared ws ws
 spared_same ws = record { limit = refl; consumers = λ j lt. refl }
 
 pub kept_rest : (b : Bounds) (n : ℕ) (ws : List ℕ) (ps : List Pass) → Ruled b ws ps → Kept b n ws ps → (id : ℕ) (v : Pass) (rs : List Reading) (k : Keeping) → get_elem? ps id ≡ some v
-    → ((j : ℕ) → total (reads_as j) rs ≡ total (reads_as j) v.reading) → k.right ≡ v.keeping.right → Attends b n ws (set ps id (attending v rs k)) (attending v rs k) → Kept b n ws (set ps id (attending v rs k))
+    → ((j : ℕ) → j < n → total (reads_as j) rs ≤ total (reads_as j) v.reading) → k.right ≤ v.keeping.right → Attends b n ws (set ps id (attending v rs k)) (attending v rs k) → Kept b n ws (set ps id (attending v rs k))
 kept_rest b n ws ps r k id v rs kp at same right mine =
     let w : Pass = attending v rs kp in let ps' : List Pass = set ps id w in let g : Grows b ps ps' = grows b ws ws ps ps' r (rested_here b ws ps r id v rs kp at) (inl (rest_looks ps id v rs kp at)) in record {
       few = k.few;
@@ -73,13 +73,16 @@ kept_rest b n ws ps r k id v rs kp at same right mine =
       unit = k.unit;
       ahead = k.ahead;
       placed = λ j lt. placed_on b ps ps' g (slice_index ws (consumer_place j)) (k.placed j lt);
-      single = λ j lt. subst (λ (t : ℕ). t ≤ 1) (sym (same_sum (readers_of j) ps id v w at (same j))) (k.single j lt);
-      keepers = subst (λ (t : ℕ). t ≤ 1) (sym (same_sum keepers_of ps id v w at right)) k.keepers;
+      single = λ j lt. (let a = total_set (readers_of j) ps id v w at in let c = k.single j lt in let d = same j lt in fewer (total (readers_of j) ps') (readers_of j v) (total (readers_of j) ps) (readers_of j w) a c d);
+      keepers = (let a = total_set keepers_of ps id v w at in let c = k.keepers in fewer (total keepers_of ps') (keepers_of v) (total keepers_of ps) (keepers_of w) a c right);
       each = λ i u e. ⊎_elim
           (λ (y : (i ≡ id) × (w ≡ u)). subst (Attends b n ws ps') y.1 mine)
           (λ (y : (i ≢ id) × (get_elem? ps i ≡ some u)). attends_on b n k.few ws ws ps ps' g (spared_same ws) u (k.each i u y.1))
           (at_set ps id i w u e);
     }
+  where
+    fewer : (now v old w : ℕ) → now + v ≡ old + w → old ≤ 1 → w ≤ v → now ≤ 1
+    fewer now v old w a c d = omega arith
 
 -- a load that tells a seat more of frames or of consumers
 pub loaded : (key : Key) (s : State (Unit {0}) View) (q : LogRuled key s) (id i : ℕ) (v : View) (rs : List Reading) (k : Keeping) → get_elem? s.views id ≡ some v
@@ -94,9 +97,12 @@ loaded key s q id i v rs k at same right mine =
     let same_words : set ws i (slice_index ws i) ≡ ws = set-get_or ws i 0 in record {
       cleaned = q.cleaned;
       ruled = subst (λ (x : List ℕ × List Pass). Ruled (now_at key (slice_index x.0 limit_place) q.cleaned) x.0 x.1) (λ j. (sym same_words j, sym is j)) (rested_here b ws ps q.ruled id v.pass rs k here);
-      kept = subst (λ (x : List ℕ × List Pass). Kept (now_at key (slice_index x.0 limit_place) q.cleaned) key.consumers x.0 x.1) (λ j. (sym same_words j, sym is j)) (kept_rest b key.consumers ws ps q.ruled q.kept id v.pass rs k here same right mine);
+      kept = subst (λ (x : List ℕ × List Pass). Kept (now_at key (slice_index x.0 limit_place) q.cleaned) key.consumers x.0 x.1) (λ j. (sym same_words j, sym is j)) (kept_rest b key.consumers ws ps q.ruled q.kept id v.pass rs k here (λ j lt. low (total (reads_as j) rs) (total (reads_as j) v.pass.reading) (same j)) (low k.right v.pass.keeping.right right) mine);
       sure = sure_on b ws s.views q.ruled q.sure id v w at i (λ n. n) (inr (load_leaves i)) record { whole = sure.whole; exact = λ one. sure.exact one ∙ ap controls_in (sym same_words) };
     }
+  where
+    low : (a c : ℕ) → a ≡ c → a ≤ c
+    low a c e = omega arith
 
 -- ---- a consumer's first look
 

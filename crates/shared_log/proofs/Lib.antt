@@ -9,3 +9,4 @@ pub mod Consumers
 pub mod Keeping
 pub mod Cleaning
 pub mod Beginning
+pub mod Dealing
