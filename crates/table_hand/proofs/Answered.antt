@@ -21,7 +21,7 @@ use Rattle.word_calls.specs.Alone.{Ends, FindsClosed, FindsEnd, PadsEnd, Reaches
 use Rattle.one_hand.specs.Stream.{Stream, after, after_claim, after_offer, answer, answer_of, case_of, room, turned, with_claim, with_message, with_padding}
 use Rattle.table_hand.specs.declared.held.Held.{Held}
 use Rattle.table_hand.specs.Shown.{WholeBy, IsWhole, said, stream_by, stream_of}
-use Rattle.table_hand.proofs.Said.{IsSmall}
+use Rattle.word_calls.proofs.Contents.{IsSmall}
 use Rattle.table_hand.proofs.Keeps.{padding_keeps, turn_keeps}
 use Rattle.table_hand.proofs.Handed.{case_closed, case_fits, case_limited, case_trips, case_used_up, claim_grown, message_grown, pad_grown, rest_unit, still, used_last, used_up}
 

@@ -13,7 +13,8 @@ use Rattle.term_buffer.specs.Kept.{with_share}
 use Rattle.word_calls.specs.declared.pass.ClaimRange.{ClaimRange}
 use Rattle.word_calls.specs.declared.pass.FrameWords.{FrameWords}
 use Rattle.one_hand.specs.Stream.{aborted_at, with_frame}
-use Rattle.table_hand.specs.Shown.{Follow, end_of, entry_in, frame_in, frames_in, lies_in, share, shares_of, spans}
+use Rattle.word_calls.specs.Contents.{frame_in}
+use Rattle.table_hand.specs.Shown.{Follow, end_of, entry_in, frames_in, lies_in, share, shares_of, spans}
 
 -- ---- tests on frames
 

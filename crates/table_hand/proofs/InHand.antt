@@ -20,7 +20,7 @@ use Rattle.one_hand.specs.Stream.{Aborts, Commits, with_claim, with_message}
 use Rattle.table_hand.specs.declared.held.Held.{Held}
 use Rattle.table_hand.specs.Shown.{IsWhole, said, stream_of}
 use Rattle.table_hand.specs.Hands.{AbortsClaim, Claims, ClaimsNone, CommitsClaim, IsFree, IsInHand, MayEnd, Offers, range, stream_in}
-use Rattle.table_hand.proofs.Said.{IsSmall}
+use Rattle.word_calls.proofs.Contents.{IsSmall}
 use Rattle.table_hand.proofs.Answered as answered
 use Rattle.table_hand.proofs.Ended as ended
 

@@ -1,4 +1,3 @@
-pub mod Said
 pub mod Entries
 pub mod Keeps
 pub mod Pieced

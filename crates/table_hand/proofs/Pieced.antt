@@ -10,14 +10,8 @@ use Rattle.theory.specs.Bytes.{Identity}
 use Rattle.theory.proofs.Pieces.{payload_in}
 use Rattle.word_calls.specs.declared.pass.FrameWords.{FrameWords}
 use Rattle.word_calls.specs.Frames.{frame_at, frames_at}
-use Rattle.table_hand.specs.Shown.{frame_in}
-use Rattle.table_hand.proofs.Said.{IsSmall, says_data, says_pad}
-
-pub data_said : (i : Identity) (p flags : ℕ) (payload : List ℕ) → flags < 256 → IsSmall payload → length payload < 2147483648 → frame_in (frame_at i p (Data flags payload)) ≡ Data flags payload
-data_said i p flags payload f small short = says_data i p flags (aligned (32 + length payload) / 8 - 4) payload f small (omega arith) (omega arith) (omega arith)
-
-pub pad_said : (i : Identity) (p n : ℕ) → 0 < n → n < 2147483648 → frame_in (frame_at i p (Pad n)) ≡ Pad n
-pad_said i p n some short = says_pad i p n (aligned n / 8 - 4) (omega arith) (omega arith)
+use Rattle.word_calls.specs.Contents.{frame_in}
+use Rattle.word_calls.proofs.Contents.{IsSmall, data_said, pad_said}
 
 flags_low : (first : Bool) (cuts : List ℕ) → flags_of first cuts < 256
 flags_low true [] = omega arith

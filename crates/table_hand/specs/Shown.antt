@@ -12,6 +12,7 @@ use Rattle.word_calls.specs.declared.pass.ClaimRange.{ClaimRange}
 use Rattle.word_calls.specs.declared.pass.Controls.{Controls}
 use Rattle.word_calls.specs.declared.pass.FrameWords.{FrameWords}
 use Rattle.word_calls.specs.declared.pass.Pass.{Pass}
+use Rattle.word_calls.specs.Contents.{frame_in}
 use Rattle.word_calls.specs.Steps.{blank}
 use Rattle.word_calls.specs.declared.refusal.Refusal as calls
 use Rattle.word_calls.specs.declared.refusal.Refusal.TheVariants as whys
@@ -21,18 +22,6 @@ use Rattle.word_calls.specs.Alone.{Settled}
 use Rattle.one_hand.specs.Stream.{OpenClaim, Stream}
 use Rattle.one_hand.specs.Legal.{IsStream}
 use Rattle.table_hand.specs.declared.held.Held.{Held}
-
--- ---- what words say
-
-abbrev pub bytes_in : List ℕ → List ℕ
-bytes_in words = flat_map (to_le_bytes w64) words
-
--- of the bytes of a frame's first word
-abbrev pub frame_by : List ℕ → List ℕ → Frame
-frame_by head payload = if nat_eq (slice_index head 6) 0 then Pad (from_le_bytes w32 (take 4 head)) else Data (slice_index head 5) (take (from_le_bytes w32 (take 4 head) - 32) payload)
-
-abbrev pub frame_in : FrameWords → Frame
-frame_in f = frame_by (to_le_bytes w64 (slice_index f.words 0)) (bytes_in (drop 4 f.words))
 
 -- ---- entries
 

@@ -12,3 +12,4 @@ pub mod Offering
 pub mod WordRows
 pub mod Packed
 pub mod Alone
+pub mod Contents

@@ -6,3 +6,4 @@ pub mod Controls
 pub mod Looks
 pub mod Offers
 pub mod Alone
+pub mod Contents

@@ -1,16 +1,17 @@
 -- A frame's words say which frame it is.
-use Rattle.std.proofs.Common.{◌≡◌, ℕ, zero, suc, ◌+◌, ◌-◌, ◌*◌, ◌/◌, ◌<◌, ◌≤◌, List, [], ◌++◌, length, take, drop, get_or, replicate, sym, refl, ap, ◌∙◌, arith}
+use Rattle.std.proofs.Common.{◌≡◌, ℕ, zero, suc, ◌+◌, ◌-◌, ◌*◌, ◌/◌, ◌<◌, ◌≤◌, ⊎_elim, List, [], ◌∷◌, ◌++◌, length, take, drop, get_or, replicate, sym, refl, ap, ◌∙◌, arith}
 use Rattle.std.specs.Prelude.{slice_index}
 use Rattle.std.specs.Int.{w64, from_le_bytes, to_le_bytes}
 use Rattle.std.proofs.lemmas.Nat.{from_le_bytes-to_le_bytes_4, le_bytes_8}
 use Rattle.std.proofs.lemmas.List.{take-append-le, take_all}
-use Rattle.theory.specs.Position.{aligned}
-use Rattle.theory.specs.Placed.{Data, Pad}
-use Rattle.theory.specs.Wire.{front}
+use Rattle.std.specs.List.{AllByRecursion}
+use Rattle.theory.specs.Position.{IsGeometry, aligned}
+use Rattle.theory.specs.Placed.{Data, Frame, Pad}
+use Rattle.theory.specs.Wire.{IsDataFlags, front}
 use Rattle.theory.specs.Bytes.{Identity}
-use Rattle.word_calls.specs.Frames.{frame_at, payload_words}
+use Rattle.word_calls.specs.Frames.{IsLegal, frame_at, payload_words}
 use Rattle.word_calls.proofs.Wordings.{data_words, pad_words, words_length, words_rest, words_spell}
-use Rattle.table_hand.specs.Shown.{bytes_in, frame_by, frame_in}
+use Rattle.word_calls.specs.Contents.{bytes_in, frame_by, frame_in}
 
 front_small : (n flags kind : ℕ) → flags < 256 → kind < 65536 → (i : ℕ) → get_or (front n flags kind) i 0 < 256
 front_small n flags kind f k zero = omega arith
@@ -50,3 +51,24 @@ says_pad i p n m short long =
     ap (λ (ws : List ℕ). frame_by (to_le_bytes w64 (slice_index ws 0)) (bytes_in (drop 4 ws))) (pad_words i p n m long)
     ∙ ap (λ (h : List ℕ). frame_by h (bytes_in ([] ++ replicate (m - 0) 0))) (head_is n 192 0 (omega arith) (omega arith))
     ∙ ap (λ (k : ℕ). Pad k) (from_le_bytes-to_le_bytes_4 n short)
+
+-- ---- any frame
+
+pub data_said : (i : Identity) (p flags : ℕ) (payload : List ℕ) → flags < 256 → IsSmall payload → length payload < 2147483648 → frame_in (frame_at i p (Data flags payload)) ≡ Data flags payload
+data_said i p flags payload f small short = says_data i p flags (aligned (32 + length payload) / 8 - 4) payload f small (omega arith) (omega arith) (omega arith)
+
+pub pad_said : (i : Identity) (p n : ℕ) → 0 < n → n < 2147483648 → frame_in (frame_at i p (Pad n)) ≡ Pad n
+pad_said i p n some short = says_pad i p n (aligned n / 8 - 4) (omega arith) (omega arith)
+
+bytes_small : (xs : List ℕ) → AllByRecursion (λ b. b < 256) xs → IsSmall xs
+bytes_small [] a i = omega arith
+bytes_small (x ∷ xs) a zero = a.0
+bytes_small (x ∷ xs) a (suc i) = bytes_small xs a.1 i
+
+flags_low : (n : ℕ) → IsDataFlags n → n < 256
+flags_low n f = ⊎_elim (λ (e : n ≡ 0). omega arith) (λ r. ⊎_elim (λ (e : n ≡ 64). omega arith) (λ r'. ⊎_elim (λ (e : n ≡ 128). omega arith) (λ (e : n ≡ 192). omega arith) r') r) f
+
+-- a frame that may be committed
+pub legal_said : (i : Identity) (p : ℕ) (f : Frame) → IsGeometry i.geometry → IsLegal i.geometry f → frame_in (frame_at i p f) ≡ f
+legal_said i p (Data flags payload) g l = data_said i p flags payload (flags_low flags l.0) (bytes_small payload l.2) (let m = g.mtu.greatest in let n = l.1 in omega arith)
+legal_said i p (Pad n) g l = pad_said i p n (omega arith) (let t = g.term.greatest in let a = l.1 in omega arith)
