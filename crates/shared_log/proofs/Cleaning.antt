@@ -38,13 +38,13 @@ use Rattle.shared_log.specs.declared.rule.Key.{Key}
 use Rattle.shared_log.specs.Edges.{AreCommitted, IsAmong, IsPlaced, begins_below, claimed_sum, committed_sum, in_entry}
 use Rattle.shared_log.specs.Kept.{Attends, IsKeeper, IsReader, Kept, keepers_of, readers_of}
 use Rattle.shared_log.specs.Table.{LogRuled, now_at}
-use Rattle.shared_log.specs.Keepings.{Cleans, MayClean, least_of, with_keeping}
+use Rattle.shared_log.specs.Keepings.{Cleans, MayClean, keeping, least_of, with_keeping}
 use Rattle.shared_log.proofs.Sums.{claimed_by, covered, covering, parted, total_both}
 use Rattle.shared_log.proofs.Edges.{edge_low}
 use Rattle.shared_log.proofs.Growing.{Grows, grows, placed_on, same_sum}
 use Rattle.shared_log.proofs.Resting.{attending, rest_looks, rested_here}
 use Rattle.shared_log.proofs.Known.{among_total}
-use Rattle.shared_log.proofs.Keeping.{keeping_step, least_low, not_keeper}
+use Rattle.shared_log.proofs.Keeping.{least_low, not_keeper}
 
 -- ---- no open frame begins below a consumer
 
@@ -209,7 +209,7 @@ module _ (b : Bounds) (ws : List ℕ) (ps : List Pass) (r : Ruled b ws ps) (p : 
 -- ---- a zero is stored
 
 module _ (key : Key) (slots id : ℕ) (m : Mine) where
-  pub clean : MayClean m.0.pass → Allows (LogRuled key) slots id m (slot key.identity.geometry m.0.pass.keeping.cleaned) (λ _. 0) (λ _ m'. keeping_step (λ v w. Learns [] v w) Cleans m m')
+  pub clean : MayClean m.0.pass → Allows (LogRuled key) slots id m (slot key.identity.geometry m.0.pass.keeping.cleaned) (λ _. 0) (λ _ m'. keeping (λ v w. Learns [] v w) Cleans m m')
   clean may s q homes at small =
       let v : View = m.0 in let ws : List ℕ = s.words in let qs : List Pass = map pass_in s.views in let old : ℕ = slice_index ws limit_place in
       let bs : Bounds = now_at key old q.cleaned in let here = at_map pass_in s.views id v at in let a = q.kept.each id v.pass here in let c = q.ruled.claims.each id v.pass here in

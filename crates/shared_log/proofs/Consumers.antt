@@ -31,7 +31,7 @@ use Rattle.shared_log.specs.declared.rule.Key.{Key}
 use Rattle.shared_log.specs.Edges.{AreCommitted, IsAmong, IsEdge, IsPlaced, begins_at, claimed_sum, committed_sum}
 use Rattle.shared_log.specs.Kept.{Attends, IsKeeper, IsReader, Kept, keepers_of, readers_of, reads_as}
 use Rattle.shared_log.specs.Table.{LogRuled, now_at}
-use Rattle.shared_log.specs.Readings.{FindsFrame, IsConsumer, IsFrameAt, Looked, Looks, MayPass, Passes, Rereads, end_of, knows_more, moved_to, with_consumer}
+use Rattle.shared_log.specs.Readings.{FindsFrame, IsConsumer, IsFrameAt, Looked, Looks, MayPass, Passes, Rereads, end_of, knows_more, moved_to, reading, with_consumer}
 use Rattle.shared_log.proofs.Sums.{covered, covering}
 use Rattle.shared_log.proofs.Edges.{among_claimed, edge_behind, passed_behind}
 use Rattle.shared_log.proofs.Growing.{Grows, Spared, attends_on, grows, placed_on, same_sum}
@@ -105,12 +105,6 @@ loaded key s q id i v rs k at same right mine =
     low a c e = omega arith
 
 -- ---- a consumer's first look
-
-abbrev pub reading : (Pass → ℕ → Pass → Type 0) → Mine → ℕ → Mine → Type 0
-reading told m n m' = (m'.1 ≡ m.1) × (m'.0.steps ≡ suc m.0.steps) × Learns [] m.0 m'.0 × told m.0.pass n m'.0.pass
-
-same_record : (v : View) → Learns [] v v
-same_record v = record { sure = refl; leads = λ one. refl }
 
 module _ (key : Key) (slots id : ℕ) (m : Mine) (place : ℕ) (r : Reading) (is : IsConsumer m.0.pass place r) where
   -- the same number, whatever else the record says

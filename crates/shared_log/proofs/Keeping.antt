@@ -36,10 +36,11 @@ use Rattle.shared_log.specs.declared.rule.Key.{Key}
 use Rattle.shared_log.specs.Edges.{IsAmong, IsPlaced}
 use Rattle.shared_log.specs.Kept.{Attends, IsKeeper, IsReader, Kept, keepers_of, readers_of, reads_as}
 use Rattle.shared_log.specs.Table.{LogRuled, now_at}
-use Rattle.shared_log.specs.Keepings.{Cleans, MayClean, MayRaise, Raises, Sees, least_of, with_keeping}
+use Rattle.shared_log.specs.Readings.{reading}
+use Rattle.shared_log.specs.Keepings.{LearnsLimit, MayRaise, Raises, Sees, keeping, least_of, with_keeping}
 use Rattle.shared_log.proofs.Growing.{Grows, attends_on, grows, placed_on, same_sum}
 use Rattle.shared_log.proofs.Resting.{attending, rest_looks, rested_here}
-use Rattle.shared_log.proofs.Consumers.{loaded, reading, spared_same}
+use Rattle.shared_log.proofs.Consumers.{loaded, spared_same}
 
 -- ---- the least position
 
@@ -136,17 +137,8 @@ pub not_keeper : (ps : List Pass) (id j : ℕ) (v u : Pass) → get_elem? ps id 
 not_keeper ps id j v u at ne at' one few two = let a = both_at keepers_of ps id j v u ne at at' in omega arith
 
 
--- a word is stored by the keeper, which tells its seat what it made of itself
-abbrev pub keeping_step : (View → View → Type 0) → (Pass → Pass → Type 0) → Mine → Mine → Type 0
-keeping_step learns told m m' = (m'.1 ≡ m.1) × (m'.0.steps ≡ suc m.0.steps) × learns m.0 m'.0 × told m.0.pass m'.0.pass
-
--- the limit word is this one then
-pub record LearnsLimit (word : ℕ) (v w : View) : Type 0 where
-  pub sure : w.sure ≡ v.sure
-  pub limit : v.sure ≡ 1 → w.controls ≡ record v.controls { limit = word }
-
 module _ (key : Key) (slots id : ℕ) (m : Mine) where
-  pub raise : (word : ℕ) → MayRaise m.0.pass word → 0 < m.0.pass.right.parts → Allows (LogRuled key) slots id m limit_place (λ _. word) (λ _ m'. keeping_step (LearnsLimit word) (λ v w. Raises v word w) m m')
+  pub raise : (word : ℕ) → MayRaise m.0.pass word → 0 < m.0.pass.right.parts → Allows (LogRuled key) slots id m limit_place (λ _. word) (λ _ m'. keeping (LearnsLimit word) (λ v w. Raises v word w) m m')
   raise word may parts s q homes at small =
       let v : View = m.0 in let ws : List ℕ = s.words in let qs : List Pass = map pass_in s.views in let old : ℕ = slice_index ws limit_place in
       let bs : Bounds = now_at key old q.cleaned in let here = at_map pass_in s.views id v at in let a = q.kept.each id v.pass here in let c = q.ruled.claims.each id v.pass here in

@@ -1,11 +1,13 @@
 -- What the keeper's steps tell.
-use Rattle.std.specs.Prelude.{◌≡◌, ℕ, ◌+◌, ◌-◌, ◌*◌, ◌<◌, ◌≤◌, List, length, min, max, slice_index, slice_set}
+use Rattle.std.specs.Prelude.{◌≡◌, ℕ, suc, ◌+◌, ◌-◌, ◌*◌, ◌<◌, ◌≤◌, List, length, min, max, slice_index, slice_set}
 use Rattle.std.specs.List.{fold}
 use Rattle.theory.specs.Position.{greatest_claim}
 use Rattle.theory.specs.Refusal.{limit_in}
 use Rattle.word_calls.specs.declared.pass.Keeping.{Keeping}
 use Rattle.word_calls.specs.declared.pass.Pass.{Pass}
 use Rattle.word_calls.specs.Steps.{geometry_of, term_of}
+use Rattle.tail_claim.specs.declared.view.View.{View}
+use Rattle.tail_claim.specs.Plays.{Mine}
 
 abbrev pub least_of : List ℕ → ℕ
 least_of positions = fold min (slice_index positions 0) positions
@@ -34,3 +36,12 @@ pub record MayRaise (v : Pass) (word : ℕ) : Type 0 where
 
 abbrev pub Raises : Pass → ℕ → Pass → Type 0
 Raises v word w = w ≡ with_keeping v (record v.keeping { limit = word })
+
+-- a word is stored by the keeper: what its seat learns, and what the keeper makes of itself
+abbrev pub keeping : (View → View → Type 0) → (Pass → Pass → Type 0) → Mine → Mine → Type 0
+keeping learns told m m' = (m'.1 ≡ m.1) × (m'.0.steps ≡ suc m.0.steps) × learns m.0 m'.0 × told m.0.pass m'.0.pass
+
+-- the limit word is this one then
+pub record LearnsLimit (word : ℕ) (v w : View) : Type 0 where
+  pub sure : w.sure ≡ v.sure
+  pub limit : v.sure ≡ 1 → w.controls ≡ record v.controls { limit = word }

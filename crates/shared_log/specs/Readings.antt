@@ -1,5 +1,5 @@
 -- What a consumer's steps tell.
-use Rattle.std.specs.Prelude.{◌≡◌, ℕ, ◌+◌, ◌*◌, ◌<◌, ◌≤◌, List, [], ◌∷◌, ◌++◌, length, slice_index, slice_set}
+use Rattle.std.specs.Prelude.{◌≡◌, ℕ, suc, ◌+◌, ◌*◌, ◌<◌, ◌≤◌, List, [], ◌∷◌, ◌++◌, length, slice_index, slice_set}
 use mathlib.Core.Option.{some}
 use lib.ListN.{get_elem?}
 use Rattle.theory.specs.Bytes.{Identity}
@@ -10,6 +10,12 @@ use Rattle.word_calls.specs.declared.pass.Pass.{Pass}
 use Rattle.word_calls.specs.declared.pass.Reading.{Reading}
 use Rattle.word_calls.specs.Steps.{term_of}
 use Rattle.tail_claim.specs.Memory.{IsDone}
+use Rattle.tail_claim.specs.Sure.{Learns}
+use Rattle.tail_claim.specs.Plays.{Mine}
+
+-- what a step of a consumer or of the keeper tells, by the word that was found; the seat learns nothing of the control words
+abbrev pub reading : (Pass → ℕ → Pass → Type 0) → Mine → ℕ → Mine → Type 0
+reading told m n m' = (m'.1 ≡ m.1) × (m'.0.steps ≡ suc m.0.steps) × Learns [] m.0 m'.0 × told m.0.pass n m'.0.pass
 
 -- the consumer at this place among those that the pass is
 abbrev pub IsConsumer : Pass → ℕ → Reading → Type 0
