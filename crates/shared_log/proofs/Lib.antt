@@ -10,3 +10,6 @@ pub mod Keeping
 pub mod Cleaning
 pub mod Beginning
 pub mod Dealing
+pub mod Looking
+pub mod Copying
+pub mod Finding

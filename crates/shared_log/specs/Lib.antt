@@ -5,3 +5,4 @@ pub mod Readings
 pub mod Keepings
 pub mod Handles
 pub mod Opening
+pub mod Readers

@@ -7,8 +7,10 @@
 
 mod calls;
 mod log;
+mod reader;
 mod rule;
 
 pub use calls::OnLog;
 pub use log::{Log, Publisher};
+pub use reader::LogReader;
 pub use rule::{Key, LogRule};

@@ -9,9 +9,12 @@ use Rattle.theory.specs.Position.{IsGeometry, aligned}
 use Rattle.theory.specs.Placed.{Data, Frame, Pad}
 use Rattle.theory.specs.Wire.{IsDataFlags, front}
 use Rattle.theory.specs.Bytes.{Identity}
-use Rattle.word_calls.specs.Frames.{IsLegal, frame_at, payload_words}
+use Rattle.word_calls.specs.Frames.{IsLegal, frame_at, frame_words, payload_words}
 use Rattle.word_calls.proofs.Wordings.{data_words, pad_words, words_length, words_rest, words_spell}
-use Rattle.word_calls.specs.Contents.{bytes_in, frame_by, frame_in}
+use Rattle.position.specs.declared.head.FrameHead.{FrameHead}
+use Rattle.position.specs.declared.head.FrameKind.TheVariants as kinds
+use Rattle.position.specs.Heads.{head_of}
+use Rattle.word_calls.specs.Contents.{bytes_in, frame_by, frame_in, head_by}
 
 front_small : (n flags kind : ℕ) → flags < 256 → kind < 65536 → (i : ℕ) → get_or (front n flags kind) i 0 < 256
 front_small n flags kind f k zero = omega arith
@@ -72,3 +75,21 @@ flags_low n f = ⊎_elim (λ (e : n ≡ 0). omega arith) (λ r. ⊎_elim (λ (e 
 pub legal_said : (i : Identity) (p : ℕ) (f : Frame) → IsGeometry i.geometry → IsLegal i.geometry f → frame_in (frame_at i p f) ≡ f
 legal_said i p (Data flags payload) g l = data_said i p flags payload (flags_low flags l.0) (bytes_small payload l.2) (let m = g.mtu.greatest in let n = l.1 in omega arith)
 legal_said i p (Pad n) g l = pad_said i p n (omega arith) (let t = g.term.greatest in let a = l.1 in omega arith)
+
+-- ---- its first word says its head
+
+data_head : (i : Identity) (p flags m : ℕ) (payload : List ℕ) → flags < 256 → 32 + length payload < 4294967296 → aligned (32 + length payload) / 8 ≡ suc (suc (suc (suc m))) → (length payload + 7) / 8 ≤ m → head_by p (to_le_bytes w64 (slice_index (frame_words i p (Data flags payload)) 0)) ≡ head_of p (Data flags payload)
+data_head i p flags m payload f short long fits =
+    ap (λ (ws : List ℕ). head_by p (to_le_bytes w64 (slice_index ws 0))) (data_words i p flags m payload long fits)
+    ∙ ap (head_by p) (head_is (32 + length payload) flags 1 f (omega arith))
+    ∙ ap (λ (k : ℕ). record { start = p; kind = kinds.Data; flags = flags; frame_length = k }) (from_le_bytes-to_le_bytes_4 (32 + length payload) short)
+
+pad_head : (i : Identity) (p n m : ℕ) → n < 4294967296 → aligned n / 8 ≡ suc (suc (suc (suc m))) → head_by p (to_le_bytes w64 (slice_index (frame_words i p (Pad n)) 0)) ≡ head_of p (Pad n)
+pad_head i p n m short long =
+    ap (λ (ws : List ℕ). head_by p (to_le_bytes w64 (slice_index ws 0))) (pad_words i p n m long)
+    ∙ ap (head_by p) (head_is n 192 0 (omega arith) (omega arith))
+    ∙ ap (λ (k : ℕ). record { start = p; kind = kinds.Pad; flags = 192; frame_length = k }) (from_le_bytes-to_le_bytes_4 n short)
+
+pub head_said : (i : Identity) (p : ℕ) (f : Frame) → IsGeometry i.geometry → IsLegal i.geometry f → head_by p (to_le_bytes w64 (slice_index (frame_words i p f) 0)) ≡ head_of p f
+head_said i p (Data flags payload) g l = let m = g.mtu.greatest in let n = l.1 in data_head i p flags (aligned (32 + length payload) / 8 - 4) payload (flags_low flags l.0) (omega arith) (omega arith) (omega arith)
+head_said i p (Pad n) g l = let t = g.term.greatest in let a = l.1 in let c = l.0 in pad_head i p n (aligned n / 8 - 4) (omega arith) (omega arith)

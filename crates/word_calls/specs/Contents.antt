@@ -3,6 +3,8 @@ use Rattle.std.specs.Prelude.{ℕ, ◌-◌, List, drop, nat_eq, slice_index, tak
 use Rattle.std.specs.Int.{w32, w64, from_le_bytes, to_le_bytes}
 use Rattle.std.specs.List.{flat_map}
 use Rattle.theory.specs.Placed.{Data, Frame, Pad}
+use Rattle.position.specs.declared.head.FrameHead.{FrameHead}
+use Rattle.position.specs.declared.head.FrameKind.TheVariants as kinds
 use Rattle.word_calls.specs.declared.pass.FrameWords.{FrameWords}
 
 abbrev pub bytes_in : List ℕ → List ℕ
@@ -14,3 +16,7 @@ frame_by head payload = if nat_eq (slice_index head 6) 0 then Pad (from_le_bytes
 
 abbrev pub frame_in : FrameWords → Frame
 frame_in f = frame_by (to_le_bytes w64 (slice_index f.words 0)) (bytes_in (drop 4 f.words))
+
+-- the head by a first word's bytes
+abbrev pub head_by : ℕ → List ℕ → FrameHead
+head_by start head = record { start = start; kind = if nat_eq (slice_index head 6) 0 then kinds.Pad else kinds.Data; flags = slice_index head 5; frame_length = from_le_bytes w32 (take 4 head) }
