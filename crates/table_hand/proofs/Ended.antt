@@ -21,8 +21,7 @@ use Rattle.one_hand.specs.Legal.{IsOpenClaim, IsStream}
 use Rattle.one_hand.specs.Stream.{Aborts, Commits, OpenClaim, Stream, aborted_at, claim_by, claim_end, with_frame, without_claim}
 use Rattle.table_hand.specs.declared.held.Held.{Held}
 use Rattle.table_hand.specs.Shown.{WholeBy, IsWhole, claim_in, entry_in, open_claim, stream_by, stream_of}
-use Rattle.word_calls.proofs.Contents.{IsSmall}
-use Rattle.table_hand.proofs.Pieced.{data_said, pad_said}
+use Rattle.word_calls.proofs.Contents.{IsSmall, data_said, pad_said}
 use Rattle.table_hand.proofs.Entries.{data_more, pad_more}
 use Rattle.table_hand.proofs.Keeps.{claim_is, ends_keeps, one_entry}
 

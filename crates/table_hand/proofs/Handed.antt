@@ -27,8 +27,8 @@ use Rattle.one_hand.specs.Stream.{OpenClaim, Stream, case_of, covered, room, ter
 use Rattle.table_hand.specs.declared.held.Held.{Held}
 use Rattle.word_calls.specs.Contents.{frame_in}
 use Rattle.table_hand.specs.Shown.{WholeBy, claim_in, end_of, entry_in, open_claim, shares_of, spans, stream_by}
-use Rattle.word_calls.proofs.Contents.{IsSmall}
-use Rattle.table_hand.proofs.Pieced.{no_padding, pad_said, pieces_said, pieces_within}
+use Rattle.word_calls.proofs.Contents.{IsSmall, pad_said}
+use Rattle.table_hand.proofs.Pieced.{no_padding, pieces_said, pieces_within}
 use Rattle.table_hand.proofs.Entries.{entry_by, entry_more, follow_more, shares_more, sum_more}
 use Rattle.table_hand.proofs.Keeps.{claim_keeps, message_keeps, payload_sum, set_get, turn_keeps}
 

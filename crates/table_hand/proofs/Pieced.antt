@@ -1,17 +1,17 @@
 -- The words of a message's frames say its pieces, and the frames lie in its range.
-use Rattle.std.proofs.Common.{◌≡◌, ℕ, ◌+◌, ◌-◌, ◌/◌, ◌<◌, ◌≤◌, ⊎_elim, List, [], ◌∷◌, map, length, length-take, length-drop, take, drop, Bool, true, false, refl, sym, ap, subst, arith}
+use Rattle.std.proofs.Common.{◌≡◌, ℕ, ◌+◌, ◌-◌, ◌<◌, ◌≤◌, ⊎_elim, List, [], ◌∷◌, map, length, length-take, length-drop, take, drop, Bool, true, false, refl, sym, ap, subst, arith}
 use Rattle.std.specs.List.{AllByRecursion, list_any}
 use Rattle.std.proofs.lemmas.Bool.{cases_lt}
 use Rattle.std.proofs.lemmas.List.{get_or-drop, get_or-take, get_or_past}
 use Rattle.theory.specs.Position.{aligned, span}
-use Rattle.theory.specs.Placed.{Data, Pad, frame_length, is_padding}
+use Rattle.theory.specs.Placed.{Data, frame_length, is_padding}
 use Rattle.theory.specs.Entry.{flags_of, pieces_of}
 use Rattle.theory.specs.Bytes.{Identity}
 use Rattle.theory.proofs.Pieces.{payload_in}
 use Rattle.word_calls.specs.declared.pass.FrameWords.{FrameWords}
-use Rattle.word_calls.specs.Frames.{frame_at, frames_at}
+use Rattle.word_calls.specs.Frames.{frames_at}
 use Rattle.word_calls.specs.Contents.{frame_in}
-use Rattle.word_calls.proofs.Contents.{IsSmall, data_said, pad_said}
+use Rattle.word_calls.proofs.Contents.{IsSmall, data_said}
 
 flags_low : (first : Bool) (cuts : List ℕ) → flags_of first cuts < 256
 flags_low true [] = omega arith

@@ -1,10 +1,8 @@
 -- The stream that a log on a table shows, by the pass that has all its publishers.
-use Rattle.std.specs.Prelude.{◌≡◌, ℕ, ◌+◌, ◌-◌, ◌<◌, ◌&&◌, ⊤, Bool, List, [], ◌∷◌, map, nat_eq, nat_le, if◌then◌else◌, length, Option, None, Some, slice_get}
-use Rattle.std.specs.Int.{w32, w64, from_le_bytes, to_le_bytes}
-use Rattle.std.specs.List.{AllByRecursion, filter, flat_map, list_any}
-use Rattle.std.specs.Prelude.{drop, take, slice_index}
+use Rattle.std.specs.Prelude.{◌≡◌, ℕ, ◌+◌, ◌<◌, ◌&&◌, ⊤, Bool, List, [], ◌∷◌, map, nat_eq, nat_le, length, Option, None, Some, slice_get}
+use Rattle.std.specs.List.{AllByRecursion, filter, list_any}
 use Rattle.theory.specs.Position.{span}
-use Rattle.theory.specs.Placed.{Among, Data, Frame, Pad, is_padding}
+use Rattle.theory.specs.Placed.{Among, Frame, is_padding}
 use Rattle.theory.specs.Entry.{Entry}
 use Rattle.theory.specs.Bytes.{Identity}
 use Rattle.theory.specs.Refusal.{is_closed, is_connected, limit_in}
