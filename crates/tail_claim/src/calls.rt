@@ -56,62 +56,54 @@ impl<'a> WordCalls for OnTable<'a> {
 
     #[inline(always)]
     fn identity(&self, pass: &Publisher) -> Identity {
-        let log = self.log;
-        log.identity()
+        self.log.identity()
     }
 
     #[inline(always)]
     fn load_limit(&mut self, pass: &mut Publisher) -> u64 {
-        let log = self.log;
-        log.see(pass)
+        self.log.see(pass)
     }
 
     #[inline(always)]
     fn load_count(&mut self, pass: &mut Publisher) -> u32 {
-        let log = self.log;
-        log.count(pass)
+        self.log.count(pass)
     }
 
     #[inline(always)]
     fn load_tail(&mut self, pass: &mut Publisher, count: u32) -> u64 {
-        let log = self.log;
-        log.arm(pass, count)
+        self.log.arm(pass, count)
     }
 
     #[inline(always)]
     fn add(&mut self, pass: &mut Publisher, count: u32, size: u32) -> u64 {
-        let log = self.log;
-        log.add_as::<Brand>(pass, count, size)
+        self.log.add_as::<Brand>(pass, count, size)
     }
 
     #[inline(always)]
     fn load_next(&mut self, pass: &mut Publisher, count: u32) -> u64 {
-        let log = self.log;
-        log.next_as::<Brand>(pass, count)
+        self.log.next_as::<Brand>(pass, count)
     }
 
     #[inline(always)]
     fn exchange_next(&mut self, pass: &mut Publisher, count: u32, from: u64) -> u64 {
-        let log = self.log;
-        log.rotate_as::<Brand>(pass, count, from)
+        self.log.rotate_as::<Brand>(pass, count, from)
     }
 
     #[inline(always)]
     fn exchange_count(&mut self, pass: &mut Publisher, count: u32) -> u32 {
-        let log = self.log;
-        log.advance(pass, count)
+        self.log.advance(pass, count)
     }
 
     #[inline(always)]
     fn store_word(&mut self, pass: &mut Publisher, position: u64, word: u64) {
-        let log = self.log;
-        log.store_as::<Brand>(&mut self.ring, pass, position, word);
+        self.log
+            .store_as::<Brand>(&mut self.ring, pass, position, word);
     }
 
     #[inline(always)]
     fn commit(&mut self, pass: &mut Publisher, start: u64, word: u64) {
-        let log = self.log;
-        log.commit_as::<Brand>(&mut self.ring, pass, start, word);
+        self.log
+            .commit_as::<Brand>(&mut self.ring, pass, start, word);
     }
 
     ghost none = { λ l p. took_none p };

@@ -21,7 +21,7 @@ pub use calls::OnTable;
 pub use closing::ClosedLog;
 pub use fault::OpenError;
 pub use law::steps_are_events;
-pub use log::{COUNT, CONSUMERS, DATA, LINE, Publisher, TAILS, TableLog, packed, place_of};
+pub use log::{CONSUMERS, COUNT, DATA, LINE, Publisher, TAILS, TableLog, packed, place_of};
 pub use opening::first_words;
 pub use plays::{Add, Advance, Arm, Chosen, Commit, Count, Next, Rotate, See, Store};
 pub use ring::Ring;

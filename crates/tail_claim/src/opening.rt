@@ -91,9 +91,8 @@ impl TableLog {
         ensures dealer { (publisher.new.pass ≡ dealer publisher.old.pass) × (publisher.new.steps ≡ publisher.old.steps) × (publisher.new.sure ≡ 0) }
         ensures dealt { (result.pass ≡ dealt publisher.old.pass) × (result.steps ≡ 0) × (result.sure ≡ 0) }
     {
-        let words = &self.table.shared;
         let number = publisher.number;
-        let seat = words.split_seat::<Deal>(&mut publisher.seat);
+        let seat = self.table.shared.split_seat::<Deal>(&mut publisher.seat);
         publisher.number = number - 1;
         Publisher { seat, number }
     }

@@ -1,6 +1,6 @@
 ghost use Rattle.std.specs.Prelude.{◌*◌, ◌/◌, ◌+◌, ◌<◌};
 
-use crate::log::{CONSUMERS, COUNT, DATA, LINE, TAILS, TableLog};
+use crate::log::{DATA, LINE, TableLog};
 
 impl TableLog {
     /// A word of the log, for tests: the words of the three terms, the limit with its flags, the active count, the three
@@ -12,22 +12,8 @@ impl TableLog {
         let place = if index < words {
             index + DATA
         } else {
-            control_place(index - words)
+            (index - words) * LINE
         };
-        let table = &self.table.shared;
-        table.peek(place)
-    }
-}
-
-/// The place in the table of a control word.
-fn control_place(number: usize) -> usize
-    requires { number < 13 }
-    ensures { result < 208 }
-{
-    match number {
-        0 => 0,
-        1 => COUNT,
-        number @ 2..=4 => (number - 2) * LINE + TAILS,
-        number => (number - 5) * LINE + CONSUMERS,
+        self.table.shared.peek(place)
     }
 }

@@ -3,7 +3,9 @@
 ghost use Rattle.std.specs.Prelude.{ℕ, ◌+◌, ◌%◌, ◌∷◌, []};
 ghost use Rattle.theory.specs.Bytes.{Identity};
 ghost use Rattle.word_calls.specs.declared.step.WordStep.TheVariants as steps;
+ghost use Rattle.word_calls.specs.Steps.{Adds, Advances, Arms, Commits, Counts, Nexts, Rotates, Sees, Stores, addition, tail_exchange, tail_step};
 ghost use Rattle.tail_claim.specs.Closing.{no_identity};
+ghost use Rattle.tail_claim.specs.Plays.{playing};
 
 use crate::view::{Key, View};
 use atomic_table::{Join, Play, Split, TableRule};
@@ -57,9 +59,6 @@ impl<N: Chosen> Split<View> for Renumber<N> {
 pub struct See;
 
 impl Play<(), View> for See {
-    ghost use Rattle.tail_claim.specs.Plays.{playing};
-    ghost use Rattle.word_calls.specs.Steps.{Sees};
-
     ghost then = { playing Sees (λ _ n. steps.Limit n ∷ []) };
 }
 
@@ -67,9 +66,6 @@ impl Play<(), View> for See {
 pub struct Count;
 
 impl Play<(), View> for Count {
-    ghost use Rattle.tail_claim.specs.Plays.{playing};
-    ghost use Rattle.word_calls.specs.Steps.{Counts};
-
     ghost then = { playing Counts (λ _ n. steps.Count n ∷ []) };
 }
 
@@ -77,9 +73,6 @@ impl Play<(), View> for Count {
 pub struct Arm;
 
 impl Play<(), View> for Arm {
-    ghost use Rattle.tail_claim.specs.Plays.{playing};
-    ghost use Rattle.word_calls.specs.Steps.{Arms, tail_step};
-
     ghost then = { playing Arms (λ v n. tail_step v n ∷ []) };
 }
 
@@ -89,9 +82,6 @@ pub struct Add<N> {
 }
 
 impl<N: Chosen> Play<(), View> for Add<N> {
-    ghost use Rattle.tail_claim.specs.Plays.{playing};
-    ghost use Rattle.word_calls.specs.Steps.{Adds, addition};
-
     ghost then = { playing (λ v n w. Adds v N.number n w) (λ v n. addition v N.number n ∷ []) };
 }
 
@@ -101,9 +91,6 @@ pub struct Next<N> {
 }
 
 impl<N: Chosen> Play<(), View> for Next<N> {
-    ghost use Rattle.tail_claim.specs.Plays.{playing};
-    ghost use Rattle.word_calls.specs.Steps.{Nexts};
-
     ghost then = { playing (λ v n w. Nexts v N.number n w) (λ _ n. steps.NextTail ((N.number + 1) % 3) n ∷ []) };
 }
 
@@ -113,9 +100,6 @@ pub struct Rotate<N> {
 }
 
 impl<N: Chosen> Play<(), View> for Rotate<N> {
-    ghost use Rattle.tail_claim.specs.Plays.{playing};
-    ghost use Rattle.word_calls.specs.Steps.{Rotates, tail_exchange};
-
     ghost then = { λ st. playing (λ v n w. Rotates v N.number st.first n w) (λ v n. tail_exchange v N.number st.first n ∷ []) st };
 }
 
@@ -123,9 +107,6 @@ impl<N: Chosen> Play<(), View> for Rotate<N> {
 pub struct Advance;
 
 impl Play<(), View> for Advance {
-    ghost use Rattle.tail_claim.specs.Plays.{playing};
-    ghost use Rattle.word_calls.specs.Steps.{Advances};
-
     ghost then = { λ st. playing (λ v n w. Advances v st.first n w) (λ _ n. steps.CountExchange st.first n ∷ []) st };
 }
 
@@ -135,9 +116,6 @@ pub struct Store<N> {
 }
 
 impl<N: Chosen> Play<(), View> for Store<N> {
-    ghost use Rattle.tail_claim.specs.Plays.{playing};
-    ghost use Rattle.word_calls.specs.Steps.{Stores};
-
     ghost then = { playing (λ v n w. Stores v N.number n w) (λ _ _. []) };
 }
 
@@ -147,9 +125,6 @@ pub struct Commit<N> {
 }
 
 impl<N: Chosen> Play<(), View> for Commit<N> {
-    ghost use Rattle.tail_claim.specs.Plays.{playing};
-    ghost use Rattle.word_calls.specs.Steps.{Commits};
-
     ghost then = { playing (λ v n w. Commits v N.number n w) (λ _ _. []) };
 }
 
