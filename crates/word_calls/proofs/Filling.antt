@@ -26,6 +26,10 @@ stores_call v w p x h told = ap (λ (u : Pass). u.call) (told h.front h.draft h.
 pub commits_call : (v w : Pass) (p x : ℕ) → BeginsFrame v p → Commits v p x w → w.call ≡ v.call
 commits_call v w p x h told = ap (λ (u : Pass). u.call) (told h.front h.draft h.behind h.parts h.inside h.position)
 
+-- the first word of a data frame, whose length was summed the other way round
+pub data_first : (payload : List ℕ) (flags first : ℕ) → first ≡ from_le_bytes w64 (front (length payload + 32) flags 1) → first ≡ from_le_bytes w64 (front (32 + length payload) flags 1)
+data_first payload flags first value = let sum : length payload + 32 ≡ 32 + length payload = omega arith in value ∙ ap (λ (n : ℕ). from_le_bytes w64 (front n flags 1)) sum
+
 pub data_filled : (v w x y : Pass) (p flags first : ℕ) (payload : List ℕ) → first ≡ from_le_bytes w64 (front (32 + length payload) flags 1) → Puts v p 1 (header_words v.identity p) w → Puts w p 4 (payload_words payload) x → Commits x p first y → Fills v p (Data flags payload) y
 data_filled v w x y p flags first payload value one two told =
     let m : ℕ = aligned (32 + length payload) / 8 - 4 in

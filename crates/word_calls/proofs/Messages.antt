@@ -1,5 +1,5 @@
 -- A message's frames, filled one after the other.
-use Rattle.std.proofs.Common.{◌≡◌, ℕ, ◌+◌, ◌-◌, ◌/◌, ◌%◌, ◌<◌, ◌≤◌, Bool, true, false, List, [], ◌∷◌, ◌++◌, length, take, drop, length-drop, append_assoc, sym, refl, ap, ◌∙◌, arith}
+use Rattle.std.proofs.Common.{◌≡◌, ℕ, ◌+◌, ◌-◌, ◌/◌, ◌%◌, ◌<◌, ◌≤◌, Bool, true, false, List, [], ◌∷◌, ◌++◌, length, take, drop, length-drop, append_assoc, sym, refl, ap, ◌∙◌, subst, arith}
 use Rattle.std.proofs.lemmas.List.{take_all, length-take-le}
 use Rattle.theory.specs.Position.{Geometry, IsGeometry, aligned, cuts_of, framed_length, max_payload, span}
 use Rattle.theory.specs.Placed.{Data, Frame}
@@ -33,6 +33,9 @@ pub last_blank : (v : Pass) (p : ℕ) (rest : List ℕ) → length rest ≤ max_
 last_blank v p rest low b =
     let cuts : cuts_of (geometry_of v) (length rest) ≡ (32 + length rest) ∷ [] = short_cuts (geometry_of v) (length rest) low ∙ ap (λ (n : ℕ). n ∷ []) (let g : length rest + 32 ≡ 32 + length rest = omega arith in g) in
     record { front = b.front; behind = b.behind; parts = b.parts ∙ ap (λ (cs : List ℕ). b.front ++ (blanks p cs ++ b.behind)) cuts }
+
+pub fits_frame : (v w : Pass) (n : ℕ) → geometry_of w ≡ geometry_of v → n ≤ max_payload (geometry_of v) → n ≤ max_payload (geometry_of w)
+fits_frame v w n shape low = subst (λ (h : Geometry). n ≤ max_payload h) (sym shape) low
 
 pub last_filled : (v w : Pass) (first : Bool) (p : ℕ) (rest : List ℕ) → length rest ≤ max_payload (geometry_of v) → Fills v p (Data (frame_flags first true) rest) w → FillsAll v first p rest w
 last_filled v w first p rest low fills front behind parts =

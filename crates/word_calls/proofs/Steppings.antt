@@ -1,9 +1,9 @@
 -- Steps that follow each other.
-use Rattle.std.proofs.Common.{◌≡◌, ℕ, ◌+◌, List, [], ◌∷◌, ◌++◌, append-nil, append_assoc, sym, refl, ap, ◌∙◌, subst}
+use Rattle.std.proofs.Common.{◌≡◌, ℕ, ◌+◌, List, [], ◌∷◌, ◌++◌, length, append-nil, append_assoc, sym, refl, ap, ◌∙◌, subst, arith}
 use Rattle.word_calls.specs.declared.pass.Pass.{Pass}
 use Rattle.word_calls.specs.declared.step.WordStep.{WordStep}
-use Rattle.word_calls.specs.Steps.{Moved}
-use Rattle.word_calls.specs.Claims.{TookCall, TookMore}
+use Rattle.word_calls.specs.Steps.{Keeps, Moved}
+use Rattle.word_calls.specs.Claims.{TookCall, TookMore, padding_words}
 
 pub moves : {L P I : Type 0} (fits : L → P → Type 0) (pass_of : L → P → Pass) (name : P → ℕ) (id : L → I) (l m n : L) (p q r : P) → Moved fits pass_of name id l p m q → Moved fits pass_of name id m q n r → Moved fits pass_of name id l p n r
 moves fits pass_of name id l m n p q r a b = record {
@@ -47,3 +47,14 @@ module _ {L P : Type 0} (took : L → P → L → P → List WordStep → ℕ �
     -- three loads, of which the first begins the call
     pub took_three : (l : L) (p : P) (l1 : L) (p1 : P) (l2 : L) (p2 : P) (l3 : L) (p3 : P) (x y z : WordStep) → took l p l1 p1 (x ∷ []) 0 → took l1 p1 l2 p2 (y ∷ []) 0 → took l2 p2 l3 p3 (z ∷ []) 0 → (pass_of l3 p3).call ≡ x ∷ y ∷ z ∷ [] → TookCall took pass_of l p l3 p3 0
     took_three l p l1 p1 l2 p2 l3 p3 x y z a b c e = subst (λ (xs : List WordStep). took l p l3 p3 xs 0) (sym e) (more l p l2 p2 l3 p3 (x ∷ y ∷ []) (z ∷ []) 0 0 (more l p l1 p1 l2 p2 (x ∷ []) (y ∷ []) 0 0 a b) c)
+
+-- ---- the words of paddings, where a pass keeps its frames
+
+pub frames_kept : (p q : Pass) → Keeps p q → length q.work.frames ≡ length p.work.frames
+frames_kept p q k = ap (λ (u : Pass). length u.work.frames) k
+
+pub none_padded : (p x q : Pass) → Keeps p x → Keeps x q → 0 + 0 ≡ padding_words p q
+none_padded p x q a b = let e = frames_kept p x a in let f = frames_kept x q b in omega (arith, e, f)
+
+pub padded_behind : (p x q : Pass) → Keeps p x → 0 + padding_words x q ≡ padding_words p q
+padded_behind p x q a = let e = frames_kept p x a in omega (arith, e)

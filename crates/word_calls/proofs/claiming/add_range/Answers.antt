@@ -7,7 +7,7 @@ use Rattle.word_calls.specs.declared.pass.Pass.{Pass}
 use Rattle.word_calls.specs.Steps.{addition, count_in, geometry_of, message_at, noted, opened, start_in}
 use Rattle.word_calls.specs.Claims.{Takes, TookMore, TurnsFrom, padding_words}
 use Rattle.word_calls.specs.Looks.{EndsTerm}
-use Rattle.word_calls.proofs.Steppings.{took_call, took_more}
+use Rattle.word_calls.proofs.Steppings.{frames_kept, took_call, took_more}
 use Rattle.word_calls.proofs.Adding.{full_then, granted, tripped_call, tripped_frames, tripping}
 use Rattle.word_calls.proofs.claiming.add_range.Goals as goal
 
@@ -55,7 +55,7 @@ returns-clause-took g c =
     let found : c.term_count-found.result ≡ count_in (geometry_of (g.W.WordCalls.pass_of c.args.words.now c.args.pass.now)) c.add-word.result = c.term_count-found.ensures ∙ ap (λ (h : Geometry). count_in h c.add-word.result) geometry in
     let over : (geometry_of (g.W.WordCalls.pass_of c.args.words.now c.args.pass.now)).term_length < offset_in c.add-word.result + framed_length (geometry_of (g.W.WordCalls.pass_of c.args.words.now c.args.pass.now)) c.args.size = omega (arith, covered, offset, term, c.if-offset-covered.false) in
     let before : length (g.W.WordCalls.pass_of c.add-word.new.self c.add-word.new.pass).work.frames ≡ length (g.W.WordCalls.pass_of c.args.words.now c.args.pass.now).work.frames = ap (λ (fs : List FrameWords). length fs) (tripped_frames (g.W.WordCalls.pass_of c.args.words.now c.args.pass.now) (g.W.WordCalls.pass_of c.add-word.new.self c.add-word.new.pass) c.args.size c.add-word.result c.add-word.ensures.told over) in
-    let after : length (g.W.WordCalls.pass_of c.turn_from.new.words c.turn_from.new.pass).work.frames ≡ length (g.W.WordCalls.pass_of c.pad.new.words c.pad.new.pass).work.frames = ap (λ (u : Pass). length u.work.frames) c.turn_from.ensures.turns.after in
+    let after : length (g.W.WordCalls.pass_of c.turn_from.new.words c.turn_from.new.pass).work.frames ≡ length (g.W.WordCalls.pass_of c.pad.new.words c.pad.new.pass).work.frames = frames_kept (g.W.WordCalls.pass_of c.pad.new.words c.pad.new.pass) (g.W.WordCalls.pass_of c.turn_from.new.words c.turn_from.new.pass) c.turn_from.ensures.turns.after in
     took_more g.W.WordCalls.took g.W.WordCalls.pass_of g.met.W.WordCalls.more _ _ _ _ _ _ (padding_words (g.W.WordCalls.pass_of c.add-word.new.self c.add-word.new.pass) (g.W.WordCalls.pass_of c.pad.new.words c.pad.new.pass)) 0 (padding_words (g.W.WordCalls.pass_of c.args.words.now c.args.pass.now) (g.W.WordCalls.pass_of c.turn_from.new.words c.turn_from.new.pass))
     (took_more g.W.WordCalls.took g.W.WordCalls.pass_of g.met.W.WordCalls.more _ _ _ _ _ _ 0 (padding_words (g.W.WordCalls.pass_of c.add-word.new.self c.add-word.new.pass) (g.W.WordCalls.pass_of c.pad.new.words c.pad.new.pass)) (padding_words (g.W.WordCalls.pass_of c.add-word.new.self c.add-word.new.pass) (g.W.WordCalls.pass_of c.pad.new.words c.pad.new.pass))
     (took_call g.W.WordCalls.took g.W.WordCalls.pass_of _ _ _ _ _ c.add-word.ensures.took (tripped_call (g.W.WordCalls.pass_of c.args.words.now c.args.pass.now) (g.W.WordCalls.pass_of c.add-word.new.self c.add-word.new.pass) c.args.size c.add-word.result c.add-word.ensures.told over))

@@ -1,23 +1,18 @@
-use Rattle.std.proofs.Common.{◌≡◌, arith, ap, length}
 use Rattle.std.proofs.lemmas.Result.{IfErr-weaker}
-use Rattle.word_calls.specs.declared.pass.Pass.{Pass}
 use Rattle.word_calls.specs.declared.refusal.Refusal.{Refusal}
 use Rattle.word_calls.specs.Claims.{Justified, padding_words}
 use Rattle.word_calls.specs.Looks.{Tripping}
-use Rattle.word_calls.proofs.Steppings.{took_all}
+use Rattle.word_calls.proofs.Steppings.{none_padded, padded_behind, took_all}
 use Rattle.word_calls.proofs.Refusing.{refused_tripping}
 use Rattle.word_calls.proofs.claiming.claim.Goals as goal
 
 pub returns-in-UsedUp-clause-took : goal.returns-in-UsedUp-clause-took
 returns-in-UsedUp-clause-took g c =
-    let seen : length (g.W.WordCalls.pass_of c.look_at.new.words c.look_at.new.pass).work.frames ≡ length (g.W.WordCalls.pass_of c.args.words.now c.args.pass.now).work.frames = ap (λ (u : Pass). length u.work.frames) c.in-UsedUp.ensures.looked.after in
-    let turned : length (g.W.WordCalls.pass_of c.turn_from.new.words c.turn_from.new.pass).work.frames ≡ length (g.W.WordCalls.pass_of c.look_at.new.words c.look_at.new.pass).work.frames = ap (λ (u : Pass). length u.work.frames) c.turn_from.ensures.turns.after in
-    took_all g.W.WordCalls.took g.W.WordCalls.pass_of g.met.W.WordCalls.more _ _ _ _ _ _ 0 0 (padding_words (g.W.WordCalls.pass_of c.args.words.now c.args.pass.now) (g.W.WordCalls.pass_of c.turn_from.new.words c.turn_from.new.pass)) c.in-UsedUp.ensures.took c.turn_from.ensures.took (omega (arith, seen, turned))
+    took_all g.W.WordCalls.took g.W.WordCalls.pass_of g.met.W.WordCalls.more _ _ _ _ _ _ 0 0 (padding_words (g.W.WordCalls.pass_of c.args.words.now c.args.pass.now) (g.W.WordCalls.pass_of c.turn_from.new.words c.turn_from.new.pass)) c.in-UsedUp.ensures.took c.turn_from.ensures.took (none_padded (g.W.WordCalls.pass_of c.args.words.now c.args.pass.now) (g.W.WordCalls.pass_of c.look_at.new.words c.look_at.new.pass) (g.W.WordCalls.pass_of c.turn_from.new.words c.turn_from.new.pass) c.in-UsedUp.ensures.looked.after c.turn_from.ensures.turns.after)
 
 pub returns-in-Open-clause-took : goal.returns-in-Open-clause-took
 returns-in-Open-clause-took g c =
-    let seen : length (g.W.WordCalls.pass_of c.look_at.new.words c.look_at.new.pass).work.frames ≡ length (g.W.WordCalls.pass_of c.args.words.now c.args.pass.now).work.frames = ap (λ (u : Pass). length u.work.frames) c.in-Open.ensures.looked.after in
-    took_all g.W.WordCalls.took g.W.WordCalls.pass_of g.met.W.WordCalls.more _ _ _ _ _ _ 0 (padding_words (g.W.WordCalls.pass_of c.look_at.new.words c.look_at.new.pass) (g.W.WordCalls.pass_of c.add_range.new.words c.add_range.new.pass)) (padding_words (g.W.WordCalls.pass_of c.args.words.now c.args.pass.now) (g.W.WordCalls.pass_of c.add_range.new.words c.add_range.new.pass)) c.in-Open.ensures.took c.add_range.ensures.took (omega (arith, seen))
+    took_all g.W.WordCalls.took g.W.WordCalls.pass_of g.met.W.WordCalls.more _ _ _ _ _ _ 0 (padding_words (g.W.WordCalls.pass_of c.look_at.new.words c.look_at.new.pass) (g.W.WordCalls.pass_of c.add_range.new.words c.add_range.new.pass)) (padding_words (g.W.WordCalls.pass_of c.args.words.now c.args.pass.now) (g.W.WordCalls.pass_of c.add_range.new.words c.add_range.new.pass)) c.in-Open.ensures.took c.add_range.ensures.took (padded_behind (g.W.WordCalls.pass_of c.args.words.now c.args.pass.now) (g.W.WordCalls.pass_of c.look_at.new.words c.look_at.new.pass) (g.W.WordCalls.pass_of c.add_range.new.words c.add_range.new.pass) c.in-Open.ensures.looked.after)
 
 pub returns-in-Open-clause-refused : goal.returns-in-Open-clause-refused
 returns-in-Open-clause-refused g c =

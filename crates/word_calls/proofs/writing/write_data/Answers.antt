@@ -1,6 +1,4 @@
-use Rattle.std.proofs.Common.{◌≡◌, ℕ, ◌+◌, ◌/◌, ◌≤◌, arith, refl, sym, ap, ◌∙◌, subst, length}
-use Rattle.std.specs.Int.{w64, from_le_bytes}
-use Rattle.theory.specs.Wire.{front}
+use Rattle.std.proofs.Common.{◌≡◌, ◌+◌, ◌/◌, ◌≤◌, arith, refl, sym, subst, length}
 use Rattle.theory.specs.Bytes.{Identity}
 use Rattle.theory.specs.Position.{max_position}
 use Rattle.word_calls.specs.Frames.{header_words, payload_words}
@@ -8,7 +6,7 @@ use Rattle.word_calls.specs.Offers.{Puts}
 use Rattle.word_calls.proofs.Steppings.{moves, took_more, took_store}
 use Rattle.word_calls.proofs.Patches.{begins_after, blank_room, room_after}
 use Rattle.word_calls.proofs.Wordings.{words_length}
-use Rattle.word_calls.proofs.Filling.{all_bytes, commits_call, data_completed, data_filled}
+use Rattle.word_calls.proofs.Filling.{all_bytes, commits_call, data_completed, data_filled, data_first}
 use Rattle.word_calls.proofs.writing.write_data.Goals as goal
 
 pub put_header-requires-clause-in_stream : goal.put_header-requires-clause-in_stream
@@ -22,9 +20,8 @@ put_payload-requires-clause-room g c = (room_after (g.W.WordCalls.pass_of c.args
 
 pub commit-requires-clause-completes : goal.commit-requires-clause-completes
 commit-requires-clause-completes g c =
-    let sum : length c.args.payload.now + 32 ≡ 32 + length c.args.payload.now = omega arith in
     data_completed (g.W.WordCalls.pass_of c.args.words.now c.args.pass.now) (g.W.WordCalls.pass_of c.put_header.new.words c.put_header.new.pass) (g.W.WordCalls.pass_of c.put_payload.new.words c.put_payload.new.pass) c.args.start c.args.flags c.first_word-word.result c.args.payload.now
-    (c.first_word-word.ensures.value ∙ ap (λ (n : ℕ). from_le_bytes w64 (front n c.args.flags 1)) sum) c.requires.blank (c.requires.flags, c.requires.short, all_bytes c.args.payload.now (λ i. omega (arith, c.type_inv.payload i))) (subst (λ (i : Identity). Puts (g.W.WordCalls.pass_of c.args.words.now c.args.pass.now) c.args.start 1 (header_words i c.args.start) (g.W.WordCalls.pass_of c.put_header.new.words c.put_header.new.pass)) c.identity-identity.ensures c.put_header.ensures.puts) c.put_payload.ensures.puts
+    (data_first c.args.payload.now c.args.flags c.first_word-word.result c.first_word-word.ensures.value) c.requires.blank (c.requires.flags, c.requires.short, all_bytes c.args.payload.now (λ i. omega (arith, c.type_inv.payload i))) (subst (λ (i : Identity). Puts (g.W.WordCalls.pass_of c.args.words.now c.args.pass.now) c.args.start 1 (header_words i c.args.start) (g.W.WordCalls.pass_of c.put_header.new.words c.put_header.new.pass)) c.identity-identity.ensures c.put_header.ensures.puts) c.put_payload.ensures.puts
 
 pub returns-clause-moved : goal.returns-clause-moved
 returns-clause-moved g c =
@@ -42,5 +39,4 @@ returns-clause-took g c =
 
 pub returns-clause-fills : goal.returns-clause-fills
 returns-clause-fills g c =
-    let sum : length c.args.payload.now + 32 ≡ 32 + length c.args.payload.now = omega arith in
-    data_filled (g.W.WordCalls.pass_of c.args.words.now c.args.pass.now) (g.W.WordCalls.pass_of c.put_header.new.words c.put_header.new.pass) (g.W.WordCalls.pass_of c.put_payload.new.words c.put_payload.new.pass) (g.W.WordCalls.pass_of c.commit.new.self c.commit.new.pass) c.args.start c.args.flags c.first_word-word.result c.args.payload.now (c.first_word-word.ensures.value ∙ ap (λ (n : ℕ). from_le_bytes w64 (front n c.args.flags 1)) sum) (subst (λ (i : Identity). Puts (g.W.WordCalls.pass_of c.args.words.now c.args.pass.now) c.args.start 1 (header_words i c.args.start) (g.W.WordCalls.pass_of c.put_header.new.words c.put_header.new.pass)) c.identity-identity.ensures c.put_header.ensures.puts) c.put_payload.ensures.puts c.commit.ensures.told
+    data_filled (g.W.WordCalls.pass_of c.args.words.now c.args.pass.now) (g.W.WordCalls.pass_of c.put_header.new.words c.put_header.new.pass) (g.W.WordCalls.pass_of c.put_payload.new.words c.put_payload.new.pass) (g.W.WordCalls.pass_of c.commit.new.self c.commit.new.pass) c.args.start c.args.flags c.first_word-word.result c.args.payload.now (data_first c.args.payload.now c.args.flags c.first_word-word.result c.first_word-word.ensures.value) (subst (λ (i : Identity). Puts (g.W.WordCalls.pass_of c.args.words.now c.args.pass.now) c.args.start 1 (header_words i c.args.start) (g.W.WordCalls.pass_of c.put_header.new.words c.put_header.new.pass)) c.identity-identity.ensures c.put_header.ensures.puts) c.put_payload.ensures.puts c.commit.ensures.told

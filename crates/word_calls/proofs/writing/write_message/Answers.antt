@@ -8,7 +8,7 @@ use Rattle.word_calls.specs.Frames.{frame_flags, stored_words}
 use Rattle.word_calls.specs.Claims.{Fills, HasBlank}
 use Rattle.word_calls.specs.Offers.{FillsAll, HasBlanks}
 use Rattle.word_calls.proofs.Steppings.{moves, moves_none, took_more, took_none}
-use Rattle.word_calls.proofs.Messages.{full_blank, full_filled, full_framed, full_left, full_shape, full_stored, last_filled, last_stored}
+use Rattle.word_calls.proofs.Messages.{fits_frame, full_blank, full_filled, full_framed, full_left, full_shape, full_stored, last_filled, last_stored}
 use Rattle.word_calls.proofs.writing.write_message.Goals as goal
 
 pub loop-rest-init : goal.loop-rest-init
@@ -69,13 +69,13 @@ returns-clause-took g c =
     let legal : IsGeometry (geometry_of (g.W.WordCalls.pass_of c.args.words.now c.args.pass.now)) = subst IsGeometry geometry c.geometry-geometry.ensures.legal in
     let most : c.max_payload-most.result ≡ max_payload (geometry_of (g.W.WordCalls.pass_of c.args.words.now c.args.pass.now)) = c.max_payload-most.ensures.value ∙ ap max_payload geometry in
     let low : length c.loop-rest.rest.now ≤ max_payload (geometry_of (g.W.WordCalls.pass_of c.args.words.now c.args.pass.now)) = omega (arith, most, c.loop-rest-test.false) in
-    took_more g.W.WordCalls.took g.W.WordCalls.pass_of g.met.W.WordCalls.more _ _ _ _ _ _ c.loop-rest.invariant.took.0 (stored_words ((32 + length c.loop-rest.rest.now) ∷ [])) _ c.loop-rest.invariant.took.1 c.write_data-2.ensures.took
-    (ap (λ (n : ℕ). c.loop-rest.invariant.took.0 + n) (sym (last_stored (geometry_of (g.W.WordCalls.pass_of c.args.words.now c.args.pass.now)) (length c.loop-rest.rest.now) low)) ∙ c.loop-rest.invariant.took.2)
+    took_more g.W.WordCalls.took g.W.WordCalls.pass_of g.met.W.WordCalls.more _ _ _ _ _ _ c.loop-rest.invariant.took.0 (stored_words ((32 + length c.loop-rest.rest.now) ∷ [])) (stored_words (cuts_of (geometry_of (g.W.WordCalls.pass_of c.args.words.now c.args.pass.now)) (length c.args.message.now))) c.loop-rest.invariant.took.1 c.write_data-2.ensures.took
+    (omega (arith, last_stored (geometry_of (g.W.WordCalls.pass_of c.args.words.now c.args.pass.now)) (length c.loop-rest.rest.now) low, c.loop-rest.invariant.took.2))
 
 pub returns-clause-fills : goal.returns-clause-fills
 returns-clause-fills g c =
     let geometry : c.geometry-geometry.result ≡ (geometry_of (g.W.WordCalls.pass_of c.args.words.now c.args.pass.now)) = c.geometry-geometry.ensures.value ∙ ap (λ (i : Identity). i.geometry) c.identity.ensures in
     let legal : IsGeometry (geometry_of (g.W.WordCalls.pass_of c.args.words.now c.args.pass.now)) = subst IsGeometry geometry c.geometry-geometry.ensures.legal in
     let most : c.max_payload-most.result ≡ max_payload (geometry_of (g.W.WordCalls.pass_of c.args.words.now c.args.pass.now)) = c.max_payload-most.ensures.value ∙ ap max_payload geometry in
-    let low : length c.loop-rest.rest.now ≤ max_payload (geometry_of (g.W.WordCalls.pass_of c.loop-rest.words c.loop-rest.pass)) = subst (λ (h : Geometry). length c.loop-rest.rest.now ≤ max_payload h) (sym c.loop-rest.invariant.shape) (omega (arith, most, c.loop-rest-test.false)) in
+    let low : length c.loop-rest.rest.now ≤ max_payload (geometry_of (g.W.WordCalls.pass_of c.loop-rest.words c.loop-rest.pass)) = fits_frame (g.W.WordCalls.pass_of c.args.words.now c.args.pass.now) (g.W.WordCalls.pass_of c.loop-rest.words c.loop-rest.pass) (length c.loop-rest.rest.now) c.loop-rest.invariant.shape (omega (arith, most, c.loop-rest-test.false)) in
     c.loop-rest.invariant.fills (g.W.WordCalls.pass_of c.write_data-2.new.words c.write_data-2.new.pass) (last_filled (g.W.WordCalls.pass_of c.loop-rest.words c.loop-rest.pass) (g.W.WordCalls.pass_of c.write_data-2.new.words c.write_data-2.new.pass) c.loop-rest.first c.loop-rest.at c.loop-rest.rest.now low (subst (λ (n : ℕ). Fills (g.W.WordCalls.pass_of c.loop-rest.words c.loop-rest.pass) c.loop-rest.at (Data n c.loop-rest.rest.now) (g.W.WordCalls.pass_of c.write_data-2.new.words c.write_data-2.new.pass)) c.flags_of-2.ensures.value c.write_data-2.ensures.fills))
