@@ -1,26 +1,22 @@
 -- What passes know goes on being true, and their claims go on tiling the stream.
-use Rattle.std.proofs.Common.{◌≡◌, ◌≢◌, ℕ, zero, suc, ◌+◌, ◌-◌, ◌*◌, ◌/◌, ◌%◌, ◌^◌, ◌<◌, ◌≤◌, Bool, true, false, cond, min, List, [], ◌∷◌, ◌++◌, map, length, set, sym, refl, ap, ◌∙◌, subst, ⊎_elim, suc-ne-zero, mul-le-mul_left, mul-suc, eq-eqb, ne_eqb, arith}
+use Rattle.std.proofs.Common.{◌≡◌, ◌≢◌, ℕ, suc, ◌+◌, ◌*◌, ◌%◌, ◌<◌, ◌≤◌, Bool, true, false, cond, List, [], ◌∷◌, map, length, set, sym, refl, ap, ◌∙◌, subst, ⊎_elim, mul-le-mul_left, mul-suc, eq-eqb, ne_eqb, arith}
 use mathlib.Core.Option.{some}
-use mathlib.Core.Logic.{dite}
-use native.Mathlib.Decide.{dec_le, ℕ_discrete}
 use lib.ListN.{get_elem?}
 use Rattle.std.specs.Prelude.{slice_index, nat_eq}
-use Rattle.std.specs.List.{AllByRecursion}
 use Rattle.std.proofs.lemmas.List.{set-get_or}
 use Rattle.atomic_table.proofs.Lists.{at_set}
-use Rattle.theory.specs.Position.{Geometry, IsGeometry}
-use Rattle.theory.specs.Entry.{Entry, length_of}
+use Rattle.theory.specs.Position.{Geometry}
+use Rattle.theory.specs.Entry.{Entry}
 use Rattle.theory.specs.Tiling.{Tiles}
 use Rattle.theory.specs.Bytes.{Identity}
-use Rattle.theory.specs.Refusal.{limit_in}
 use Rattle.word_calls.specs.declared.pass.Pass.{Pass}
 use Rattle.word_calls.specs.declared.pass.Seen.{Seen}
 use Rattle.word_calls.specs.declared.step.WordStep.{WordStep}
 use Rattle.word_calls.specs.Steps.{noted}
 use Rattle.tail_claim.specs.Sums.{total}
-use Rattle.tail_claim.specs.Terms.{Full, Tailed, Terms, end_of}
-use Rattle.tail_claim.specs.Rule.{Bounds, Claimed, Entitled, IsClaim, Knows, Saw, Sound, armed_of, armed_on, entries_of, entry_of, first_of, parts_of, shape_of, size_of, weight}
-use Rattle.tail_claim.proofs.Totals.{total_at, total_le, total_set}
+use Rattle.tail_claim.specs.Terms.{Tailed, Terms, end_of}
+use Rattle.tail_claim.specs.Rule.{Bounds, Claimed, Knows, Saw, armed_of, armed_on, entry_of, first_of, parts_of, shape_of, size_of, weight}
+use Rattle.tail_claim.proofs.Totals.{total_le, total_set}
 
 -- ---- what no step takes back
 

@@ -1,15 +1,15 @@
 -- An addition to a raw tail keeps the claims' rule: it takes one entry at the end of the stream, or nothing.
-use Rattle.std.proofs.Common.{◌≡◌, ◌≢◌, ℕ, zero, suc, ◌+◌, ◌-◌, ◌*◌, ◌/◌, ◌%◌, ◌^◌, ◌<◌, ◌≤◌, min, true, false, List, [], ◌∷◌, ◌++◌, map, length, set, sym, refl, ap, ◌∙◌, subst, lt_of_not-le, mul_assoc, length-set, get_or-set_other, arith}
+use Rattle.std.proofs.Common.{◌≡◌, ℕ, suc, ◌+◌, ◌-◌, ◌*◌, ◌/◌, ◌%◌, ◌^◌, ◌<◌, ◌≤◌, min, List, [], ◌∷◌, ◌++◌, map, set, sym, refl, ap, ◌∙◌, subst, lt_of_not-le, mul_assoc, length-set, get_or-set_other, arith}
 use mathlib.Core.Option.{some}
 use mathlib.Core.Logic.{dite}
 use native.Mathlib.Decide.{dec_le, ℕ_discrete}
 use lib.ListN.{get_elem?}
-use Rattle.std.specs.Prelude.{ℤ, pos, slice_index}
+use Rattle.std.specs.Prelude.{slice_index}
 use Rattle.std.specs.Int.{w32, cast_unsigned}
 use Rattle.std.specs.List.{AllByRecursion}
-use Rattle.std.proofs.lemmas.Nat.{div-mul-add, mod-mul-add}
-use Rattle.theory.specs.Position.{Geometry, IsGeometry, aligned, count_of, cuts_of, framed_length, id_of, max_message, span}
-use Rattle.theory.specs.Entry.{Entry, IsEntry, length_of}
+use Rattle.std.proofs.lemmas.Nat.{div-mul-add}
+use Rattle.theory.specs.Position.{Geometry, IsGeometry, count_of, cuts_of, framed_length, id_of, max_message, span}
+use Rattle.theory.specs.Entry.{Entry, length_of}
 use Rattle.theory.specs.Tiling.{InOneTerm, Tiles}
 use Rattle.theory.specs.Refusal.{limit_in}
 use Rattle.theory.specs.Words.{id_in, offset_in}
@@ -19,18 +19,17 @@ use Rattle.theory.proofs.Lists.{all_append, all_weaker}
 use Rattle.theory.proofs.Named.{counts}
 use Rattle.theory.proofs.Places.{power_unit}
 use Rattle.theory.proofs.Tiling.{Tiles-push}
-use Rattle.word_calls.specs.declared.pass.ClaimRange.{ClaimRange}
 use Rattle.word_calls.specs.declared.pass.Pass.{Pass}
 use Rattle.word_calls.specs.Steps.{Adds, IsTerm, addition, count_in, disarmed, message_at, noted, opened, padding_at, start_in, with_full}
-use Rattle.tail_claim.specs.Packs.{count_place, tail_place}
+use Rattle.tail_claim.specs.Packs.{tail_place}
 use Rattle.tail_claim.specs.Sums.{total}
-use Rattle.tail_claim.specs.Terms.{Full, Tailed, Terms, Turns, end_of}
-use Rattle.tail_claim.specs.Rule.{Bounds, Claimed, Entitled, IsClaim, Knows, Saw, Sound, armed_of, armed_on, entries_of, entry_of, first_of, shape_of, size_of, weight}
+use Rattle.tail_claim.specs.Terms.{Full, Terms, end_of}
+use Rattle.tail_claim.specs.Rule.{Bounds, Claimed, IsClaim, Knows, armed_of, armed_on, entries_of, entry_of, first_of, shape_of, size_of, weight}
 use Rattle.tail_claim.specs.Admits.{Admits}
 use Rattle.tail_claim.proofs.Packs.{at_put, put, put_else, put_here}
 use Rattle.tail_claim.proofs.Totals.{total_append}
-use Rattle.tail_claim.proofs.Tails.{Narrow, Shows, added, raised, shows}
-use Rattle.tail_claim.proofs.Accounts.{Later, Over, Room, disarms, moved, read_off, saw_on}
+use Rattle.tail_claim.proofs.Tails.{Shows, added, raised, shows}
+use Rattle.tail_claim.proofs.Accounts.{Later, disarms, moved, read_off, saw_on}
 use Rattle.tail_claim.proofs.Looks.{by_pass, ends_at, inside, narrow, newest_of, tail_low, term_short}
 
 -- ---- what the word before the addition says

@@ -1,18 +1,18 @@
 -- The tail is the greatest position that the three raw tails show.
-use Rattle.std.proofs.Common.{◌≡◌, ◌⊎◌, ℕ, zero, suc, ◌+◌, ◌-◌, ◌*◌, ◌/◌, ◌%◌, ◌^◌, ◌<◌, ◌≤◌, inl, inr, ⊎_elim, true, false, List, refl, sym, ap, ◌∙◌, subst, min, lt_of_not-le, arith}
+use Rattle.std.proofs.Common.{◌≡◌, ◌⊎◌, ℕ, zero, suc, ◌+◌, ◌-◌, ◌*◌, ◌%◌, ◌^◌, ◌<◌, ◌≤◌, inl, inr, ⊎_elim, true, false, List, sym, ap, ◌∙◌, subst, min, lt_of_not-le, arith}
 use mathlib.Core.Logic.{dite}
 use native.Mathlib.Decide.{dec_le, ℕ_discrete}
 use Rattle.std.specs.Prelude.{ℤ, pos, negsuc, neg_ℤ, ◌+ℤ◌, ◌*ℤ◌, int_lt, nat_lt, slice_index, FitsSigned}
-use Rattle.std.specs.Int.{w32, cast_signed, cast_unsigned, int_max}
+use Rattle.std.specs.Int.{w32, cast_signed, int_max}
 use Rattle.std.proofs.lemmas.Bool.{cases_Bool, ltb-true, ltb-false, lt-ltb, cond-true, cond-false}
 use Rattle.std.proofs.Math.Nat.{mul-le-mul_right}
 use Rattle.theory.specs.Position.{Geometry, count_of, id_of}
-use Rattle.theory.specs.Words.{Tails, greatest_shown, id_before, id_in, offset_in, shown, tail_word}
+use Rattle.theory.specs.Words.{greatest_shown, id_before, offset_in, shown, tail_word}
 use Rattle.theory.proofs.Named.{counts}
-use Rattle.tail_claim.specs.Packs.{count_place, tail_place}
+use Rattle.tail_claim.specs.Packs.{tail_place}
 use Rattle.tail_claim.specs.Terms.{Tailed, Terms, end_of}
 use Rattle.tail_claim.specs.Closing.{tails_in}
-use Rattle.tail_claim.proofs.Packs.{Fit, before_fits, before_is, id_fits, id_of_word, number_is, offset_of_word, seed, seed_low}
+use Rattle.tail_claim.proofs.Packs.{Fit, before_fits, before_is, id_fits, id_of_word, offset_of_word, seed, seed_low}
 use Rattle.tail_claim.proofs.Tails.{Narrow}
 
 -- at most p, or negative

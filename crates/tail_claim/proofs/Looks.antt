@@ -1,26 +1,26 @@
 -- The steps that load a word keep the claims' rule.
-use Rattle.std.proofs.Common.{◌≡◌, ◌≢◌, ℕ, zero, suc, ◌+◌, ◌-◌, ◌*◌, ◌/◌, ◌%◌, ◌^◌, ◌<◌, ◌≤◌, eqb, cond, min, Bool, List, [], ◌∷◌, length, set, sym, refl, ap, ◌∙◌, subst, lt_of_not-le, suc-ne-zero, mul-le-mul_left, arith}
+use Rattle.std.proofs.Common.{◌≡◌, ℕ, ◌+◌, ◌*◌, ◌/◌, ◌%◌, ◌<◌, ◌≤◌, min, List, length, set, sym, refl, ap, ◌∙◌, subst, lt_of_not-le, mul-le-mul_left, arith}
 use mathlib.Core.Option.{some}
 use mathlib.Core.Logic.{dite}
 use native.Mathlib.Decide.{dec_le, ℕ_discrete}
 use lib.ListN.{get_elem?}
 use lib.IntN.{ℤ_discrete}
-use Rattle.std.specs.Prelude.{ℤ, slice_index}
-use Rattle.theory.specs.Position.{Geometry, IsGeometry, greatest_claim, id_of}
+use Rattle.std.specs.Prelude.{slice_index}
+use Rattle.theory.specs.Position.{Geometry, id_of}
 use Rattle.theory.specs.Refusal.{limit_in}
 use Rattle.theory.specs.Words.{id_in, offset_in}
 use Rattle.theory.proofs.Claims.{claim_bounded}
 use Rattle.word_calls.specs.declared.pass.Pass.{Pass}
 use Rattle.word_calls.specs.declared.step.WordStep.TheVariants as steps
-use Rattle.word_calls.specs.Steps.{Arms, Counts, IsTerm, Names, Nexts, Sees, noted, tail_step, term_of, with_armed, with_begun, with_count, with_full, with_limit}
-use Rattle.tail_claim.specs.Packs.{count_place, limit_place, table_length, tail_place}
+use Rattle.word_calls.specs.Steps.{Arms, Counts, Names, Sees, noted, tail_step, with_armed, with_count, with_full, with_limit}
+use Rattle.tail_claim.specs.Packs.{count_place, limit_place, tail_place}
 use Rattle.tail_claim.specs.Sums.{total}
-use Rattle.tail_claim.specs.Terms.{Full, Tailed, Terms, Turns, end_of}
-use Rattle.tail_claim.specs.Rule.{Bounds, Claimed, Entitled, Knows, Saw, Sound, armed_of, armed_on, first_of, parts_of, shape_of, size_of}
+use Rattle.tail_claim.specs.Terms.{Full, Terms, Turns, end_of}
+use Rattle.tail_claim.specs.Rule.{Bounds, Claimed, Entitled, Knows, Sound, armed_of, armed_on, first_of, parts_of, shape_of, size_of}
 use Rattle.tail_claim.specs.Admits.{Admits}
 use Rattle.tail_claim.proofs.Packs.{one_count}
 use Rattle.tail_claim.proofs.Totals.{total_set}
-use Rattle.tail_claim.proofs.Tails.{Narrow, Shows, next_named, shows}
+use Rattle.tail_claim.proofs.Tails.{Narrow, shows}
 use Rattle.tail_claim.proofs.Accounts.{Over, Room, armed_elsewhere, each_set, few, knows_noted, on_le, peeked, read_off, reads, reads_back, sighted, unchanged}
 
 -- ---- the numbers of a log

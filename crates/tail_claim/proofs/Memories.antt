@@ -1,27 +1,27 @@
 -- The words of the stream, beside the claims: what is covered, and by whom.
-use Rattle.std.proofs.Common.{◌≡◌, ◌≢◌, ℕ, zero, suc, ◌+◌, ◌-◌, ◌*◌, ◌/◌, ◌%◌, ◌<◌, ◌≤◌, min, List, [], ◌∷◌, ◌++◌, map, replicate, length, set, length-set, get_or-set_same, get_or-set_other, sym, refl, ap, ◌∙◌, subst, ⊎_elim, lt_of_not-le, mod-lt, append_assoc, arith}
+use Rattle.std.proofs.Common.{◌≡◌, ◌≢◌, ℕ, zero, suc, ◌+◌, ◌-◌, ◌*◌, ◌/◌, ◌%◌, ◌<◌, ◌≤◌, min, List, [], ◌∷◌, ◌++◌, map, replicate, length, set, get_or-set_other, sym, refl, ap, ◌∙◌, subst, ⊎_elim, lt_of_not-le, append_assoc, arith}
 use mathlib.Core.Option.{some}
 use mathlib.Core.Logic.{dite}
-use native.Mathlib.Decide.{dec_le, ℕ_discrete}
+use native.Mathlib.Decide.{dec_le}
 use lib.ListN.{get_elem?}
 use Rattle.std.specs.Prelude.{slice_index}
 use Rattle.std.specs.List.{AllByRecursion, flat_map}
 use Rattle.std.proofs.lemmas.List.{length-replicate}
 use Rattle.atomic_table.proofs.Lists.{at_set, one_turn}
-use Rattle.theory.specs.Position.{Geometry, aligned, span}
+use Rattle.theory.specs.Position.{aligned, span}
 use Rattle.theory.specs.Entry.{Entry, length_of}
-use Rattle.theory.proofs.Lists.{all_append, all_behind, all_front, all_weaker}
+use Rattle.theory.proofs.Lists.{all_append, all_behind}
 use Rattle.theory.proofs.Places.{power_unit}
 use Rattle.word_calls.specs.declared.pass.ClaimRange.{ClaimRange}
 use Rattle.word_calls.specs.declared.pass.FrameWords.{FrameWords}
 use Rattle.word_calls.specs.declared.pass.Pass.{Pass}
-use Rattle.word_calls.specs.Steps.{Extent, blanks, extent_of, extents, frames_of, ranges_of}
-use Rattle.tail_claim.specs.Packs.{data_place, ring_of, slot}
+use Rattle.word_calls.specs.Steps.{blanks, extent_of, extents, frames_of, ranges_of}
+use Rattle.tail_claim.specs.Packs.{ring_of, slot}
 use Rattle.tail_claim.specs.Sums.{covers, total}
 use Rattle.tail_claim.specs.Terms.{end_of}
-use Rattle.tail_claim.specs.Rule.{Bounds, Claimed, IsClaim, Sound, armed_of, entries_of, entry_of, shape_of, size_of, weight}
+use Rattle.tail_claim.specs.Rule.{Bounds, Claimed, IsClaim, armed_of, entries_of, entry_of, shape_of, size_of, weight}
 use Rattle.tail_claim.specs.Memory.{IsAligned, IsDone, IsOpen, Memory, Stands, Stored, tail_of}
-use Rattle.tail_claim.proofs.Totals.{both_at, cover_of, extent_of as whole_extent, total_append, total_at, total_flat, total_map, total_same, total_set}
+use Rattle.tail_claim.proofs.Totals.{cover_of, extent_of as whole_extent, total_append, total_flat, total_map, total_same, total_set}
 
 -- ---- lists
 

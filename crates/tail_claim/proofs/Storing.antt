@@ -1,5 +1,5 @@
 -- A store in an open frame changes no other word of the stream.
-use Rattle.std.proofs.Common.{◌≡◌, ◌≢◌, ℕ, zero, suc, ◌+◌, ◌-◌, ◌*◌, ◌/◌, ◌%◌, ◌<◌, ◌≤◌, min, List, [], ◌∷◌, ◌++◌, map, length, set, length-set, get_or-set_same, get_or-set_other, sym, refl, ap, ◌∙◌, subst, ⊎_elim, lt_of_not-le, mod-lt, append_assoc, arith}
+use Rattle.std.proofs.Common.{◌≡◌, ◌≢◌, ℕ, ◌+◌, ◌-◌, ◌*◌, ◌/◌, ◌%◌, ◌<◌, ◌≤◌, min, List, [], ◌∷◌, ◌++◌, map, length, set, length-set, get_or-set_same, get_or-set_other, sym, ap, ◌∙◌, subst, ⊎_elim, mod-lt, arith}
 use mathlib.Core.Option.{some}
 use mathlib.Core.Logic.{dite}
 use native.Mathlib.Decide.{ℕ_discrete}
@@ -7,17 +7,17 @@ use lib.ListN.{get_elem?}
 use Rattle.std.specs.Prelude.{slice_index}
 use Rattle.std.specs.List.{AllByRecursion, flat_map}
 use Rattle.atomic_table.proofs.Lists.{at_set}
-use Rattle.theory.specs.Entry.{Entry, length_of}
+use Rattle.theory.specs.Entry.{length_of}
 use Rattle.theory.proofs.Lists.{all_append, all_behind, all_front}
 use Rattle.word_calls.specs.declared.pass.FrameWords.{FrameWords}
 use Rattle.word_calls.specs.declared.pass.Pass.{Pass}
 use Rattle.word_calls.specs.Steps.{Extent, extent_of, frames_of, ranges_of, written}
-use Rattle.tail_claim.specs.Packs.{data_place, ring_of, slot, table_length}
+use Rattle.tail_claim.specs.Packs.{ring_of, slot}
 use Rattle.tail_claim.specs.Sums.{covers, total}
 use Rattle.tail_claim.specs.Rule.{Bounds, Claimed, entry_of, shape_of, size_of, weight}
 use Rattle.tail_claim.specs.Memory.{IsAligned, IsDone, IsOpen, Memory, Stands, Stored, tail_of}
-use Rattle.tail_claim.proofs.Totals.{both_at, total_append, total_at, total_map, total_set}
-use Rattle.tail_claim.proofs.Memories.{Covered, InWindow, cover_passes, held_by, held_is, held_low, maps_append, slot_apart, whole_words}
+use Rattle.tail_claim.proofs.Totals.{both_at, total_append, total_at, total_set}
+use Rattle.tail_claim.proofs.Memories.{Covered, InWindow, cover_passes, held_by, held_is, held_low, slot_apart, whole_words}
 
 -- frames that don't have the position keep their words
 else_stand : (b : Bounds) (ws : List ℕ) (x n : ℕ) → size_of b % 8 ≡ 0 → x % 8 ≡ 0 → InWindow b x → (fs : List FrameWords) → ((y : ℕ) → 0 < Covered y fs → y < b.cleaned + 3 * size_of b) → Covered x fs ≡ 0 → AllByRecursion IsAligned fs → AllByRecursion (Stands b ws) fs → AllByRecursion (Stands b (set ws (slot (shape_of b) x) n)) fs

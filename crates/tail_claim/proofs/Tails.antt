@@ -1,12 +1,12 @@
 -- What the three raw tails say of the terms, and how they change.
-use Rattle.std.proofs.Common.{◌≡◌, ◌≢◌, ℕ, zero, suc, ◌+◌, ◌-◌, ◌*◌, ◌/◌, ◌%◌, ◌^◌, ◌<◌, ◌≤◌, List, length, set, refl, sym, ap, ◌∙◌, subst, lt_of_not-le, mod-lt, length-set, get_or-set_other, get_or-set_same, arith}
+use Rattle.std.proofs.Common.{◌≡◌, ◌≢◌, ℕ, ◌+◌, ◌-◌, ◌%◌, ◌^◌, ◌<◌, ◌≤◌, List, length, set, sym, ap, ◌∙◌, subst, lt_of_not-le, mod-lt, get_or-set_other, get_or-set_same, arith}
 use native.Mathlib.Decide.{dec_le, ℕ_discrete}
 use mathlib.Core.Logic.{dite}
 use Rattle.std.specs.Prelude.{slice_index}
 use Rattle.theory.specs.Position.{Geometry, id_of}
 use Rattle.theory.specs.Words.{id_before, id_in, offset_in, tail_word}
 use Rattle.tail_claim.specs.Packs.{count_place, tail_place}
-use Rattle.tail_claim.specs.Terms.{Terms, Full, Turns, Tailed}
+use Rattle.tail_claim.specs.Terms.{Terms, Turns, Tailed}
 use Rattle.tail_claim.proofs.Packs.{Fit, id_fits, before_fits, one_id, two_before, before_count, before_next, id_of_word, offset_of_word, add_to_word, one_count, holds, put, at_put, put_here, put_else}
 
 -- no offset that a tail shows spills into the id

@@ -1,5 +1,5 @@
 -- The words of a log that opens.
-use Rattle.std.specs.Prelude.{◌≡◌, ℕ, ◌+◌, ◌/◌, ◌%◌, ◌≤◌, List, length, slice_index}
+use Rattle.std.specs.Prelude.{◌≡◌, ℕ, ◌+◌, ◌%◌, ◌≤◌, List, length, slice_index}
 use Rattle.theory.specs.Position.{id_of}
 use Rattle.theory.specs.Words.{id_before, tail_word}
 use Rattle.tail_claim.specs.Packs.{count_place, data_place, limit_place, table_length, tail_place}

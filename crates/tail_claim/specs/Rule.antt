@@ -1,10 +1,10 @@
 -- The rule that a log's words and passes obey between any two steps: what is claimed, and by whom.
-use Rattle.std.specs.Prelude.{◌≡◌, ℕ, suc, ◌+◌, ◌-◌, ◌*◌, ◌/◌, ◌%◌, ◌^◌, ◌<◌, ◌≤◌, ◌==◌, cond, List, [], ◌∷◌, length, map, slice_index}
+use Rattle.std.specs.Prelude.{◌≡◌, ℕ, suc, ◌+◌, ◌*◌, ◌/◌, ◌%◌, ◌<◌, ◌≤◌, ◌==◌, cond, List, [], length, map, slice_index}
 use Rattle.std.specs.List.{AllByRecursion}
 use mathlib.Core.Option.{some}
 use lib.ListN.{get_elem?}
 use Rattle.theory.specs.Position.{Geometry, IsGeometry, greatest_claim, max_position}
-use Rattle.theory.specs.Entry.{Entry, IsEntry, length_of}
+use Rattle.theory.specs.Entry.{Entry, IsEntry}
 use Rattle.theory.specs.Tiling.{Tiles}
 use Rattle.theory.specs.Bytes.{Identity}
 use Rattle.theory.specs.Refusal.{limit_in}

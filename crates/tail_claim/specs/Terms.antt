@@ -1,5 +1,5 @@
 -- The terms of a log, and how the raw tails and the active count show them.
-use Rattle.std.specs.Prelude.{◌≡◌, ℕ, ◌+◌, ◌-◌, ◌*◌, ◌/◌, ◌%◌, ◌^◌, ◌<◌, ◌≤◌, List, slice_index, min}
+use Rattle.std.specs.Prelude.{◌≡◌, ℕ, ◌+◌, ◌-◌, ◌*◌, ◌%◌, ◌^◌, ◌<◌, ◌≤◌, List, slice_index, min}
 use Rattle.theory.specs.Position.{Geometry, id_of}
 use Rattle.theory.specs.Words.{id_before, tail_word}
 use Rattle.tail_claim.specs.Packs.{count_place, tail_place}

@@ -1,14 +1,13 @@
-use Rattle.std.proofs.Common.{rules, ◌≡◌, ℕ, ◌+◌, ◌*◌, ◌/◌, ◌%◌, ◌<◌, ◌≤◌, List, [], ◌∷◌, set, replicate, sym, refl, ap, ◌∙◌, subst, arith, Fits, w32}
-use Rattle.std.specs.Int.{cast_signed, cast_unsigned, int_wrapping_sub}
-use Rattle.std.specs.Prelude.{pos, ℤ}
+use Rattle.std.proofs.Common.{◌≡◌, ℕ, ◌+◌, ◌*◌, ◌/◌, ◌%◌, List, set, sym, ap, ◌∙◌, subst, arith, Fits, w32}
+use Rattle.std.specs.Int.{cast_signed, cast_unsigned}
 use Rattle.std.proofs.lemmas.Int.{to_z-of_z}
 use Rattle.theory.specs.Position.{Geometry, id_of}
-use Rattle.theory.specs.Words.{id_before, tail_word}
+use Rattle.theory.specs.Words.{tail_word}
 use Rattle.tail_claim.specs.Packs.{tail_place}
 use Rattle.tail_claim.specs.Plays.{bounds_of}
 use Rattle.tail_claim.specs.Rule.{first_of}
 use Rattle.tail_claim.specs.Openings.{Fresh}
-use Rattle.tail_claim.proofs.Packs.{before_fits, id_fits}
+use Rattle.tail_claim.proofs.Packs.{id_fits}
 use Rattle.tail_claim.proofs.Begun.{first_low, fresh_words}
 use Rattle.tail_claim.proofs.opening.first_words.Goals as goal
 

@@ -1,7 +1,7 @@
-use Rattle.std.proofs.Common.{rules, ◌≡◌, ℕ, List, [], ◌∷◌, length, sym, ap, ◌∙◌, subst}
+use Rattle.std.proofs.Common.{rules, ◌≡◌, length, ap, ◌∙◌}
 use Rattle.word_calls.specs.declared.pass.Pass.{Pass}
 use Rattle.tail_claim.specs.Closing.{both}
-use Rattle.tail_claim.specs.Handles.{IsIdle, IsOf, PublisherValue, gathered_all}
+use Rattle.tail_claim.specs.Handles.{PublisherValue}
 use Rattle.tail_claim.proofs.Ending.{eight}
 use Rattle.tail_claim.proofs.log.TableLog.gather.Goals as goal
 
