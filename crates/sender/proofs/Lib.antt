@@ -1,5 +1,4 @@
 pub mod NewsLemmas
-pub mod OutgoingLemmas
 pub mod PackingLemmas
 pub mod StartLemmas
 pub mod FreshLemmas

@@ -9,7 +9,7 @@ use Rattle.theory.specs.Datagrams.{MayBeSent, frames_of, sent_end, wires}
 use Rattle.frame_source.specs.Sources.{HasNone, Source}
 use Rattle.retransmit.specs.Handler.{Handler, after_note}
 use Rattle.sender.specs.Cycling.{GivesAgain, GivesNew, datagrams}
-use Rattle.sender.specs.Outgoing.{Outgoing}
+use Rattle.outbox.specs.Outgoing.{Outgoing}
 use Rattle.sender.specs.Packed.{HasPacked, Puts}
 use Rattle.sender.specs.Sending.{AreThere, LeadsOn, ReadsTo, noted}
 use Rattle.sender.specs.declared.packing.Packing.{Packing}
@@ -17,6 +17,11 @@ use Rattle.sender.specs.declared.packing.Packing.{Packing}
 -- these datagrams stand behind those that it held
 abbrev pub with_all : Outgoing → List (List Wire) → Outgoing
 with_all o sent = record o { datagrams = o.datagrams ++ datagrams sent }
+
+-- one more datagram of the stream's frames has room
+pub record HasRoom (i : Identity) (o : Outgoing) : Type 0 where
+  pub size : o.mtu ≡ i.geometry.mtu
+  pub space : length o.datagrams < 32
 
 -- ---- new frames
 

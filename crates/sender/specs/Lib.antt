@@ -1,8 +1,6 @@
 pub mod Cycling
 pub mod FirstNews
 pub mod Giving
-pub mod OutboxSlots
-pub mod Outgoing
 pub mod Packed
 pub mod Sending
 pub mod Texts

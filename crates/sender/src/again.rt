@@ -4,11 +4,11 @@ ghost use Rattle.std.specs.Prelude.{◌≡◌, length, Some};
 ghost use Rattle.sender.specs.Giving.{CanSendAgain, SendsAgain};
 
 use crate::identity::Identity;
-use crate::outbox::Outbox;
 use crate::packing::Packing;
 use crate::stream_frame::frame_end;
 use block::Block;
 use frame_source::FrameSource;
+use outbox::Outbox;
 use position::Gap;
 
 /// How many datagrams go out again in a cycle at the most.

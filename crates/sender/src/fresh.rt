@@ -4,11 +4,11 @@ ghost use Rattle.std.specs.Prelude.{◌≡◌, length};
 ghost use Rattle.sender.specs.Giving.{CanSend, CanSendNext, SendsNew, SendsNext};
 
 use crate::identity::Identity;
-use crate::outbox::Outbox;
 use crate::packing::Packing;
 use crate::stream_frame::sent_to;
 use block::Block;
 use frame_source::FrameSource;
+use outbox::Outbox;
 use retransmit::Retransmit;
 
 /// How many datagrams of new frames go out in a cycle at the most.

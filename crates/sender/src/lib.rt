@@ -8,7 +8,6 @@ mod again;
 mod fresh;
 mod identity;
 mod news;
-mod outbox;
 mod packing;
 mod sender_core;
 mod stream_frame;

@@ -5,9 +5,9 @@ ghost use Rattle.position.specs.Heads.{IsStreamFrame};
 ghost use Rattle.sender.specs.Packed.{HasPacked, MayJoin, Puts, placed_in};
 
 use crate::identity::Identity;
-use crate::outbox::Outbox;
 use crate::stream_frame::{frame_of, is_data, wire_size};
 use block::Block;
+use outbox::Outbox;
 use position::FrameHead;
 
 /// Puts frames into datagrams, up to a number of them.

@@ -9,18 +9,18 @@ ghost use Rattle.retransmit.specs.Answers.{meaning};
 ghost use Rattle.retransmit.specs.Handler.{after_due as after_answer, due_range, nak_answer_of};
 ghost use Rattle.setup.specs.Naming.{after_due, is_due};
 ghost use Rattle.sender.specs.Cycling.{alone, heartbeats, setups};
-ghost use Rattle.sender.specs.Giving.{SendsAgain, SendsNew, with_all};
+ghost use Rattle.sender.specs.Giving.{HasRoom, SendsAgain, SendsNew, with_all};
 ghost use Rattle.sender.specs.Texts.{answer_text};
 
 use crate::again::send_again;
 use crate::fresh::send_fresh;
 use crate::identity::Identity;
 use crate::news::{News, read_news};
-use crate::outbox::Outbox;
 use block::Block;
 use flow_control::FlowControl;
 use frame_source::FrameSource;
 use frames::{FrameError, Nak, Status};
+use outbox::Outbox;
 use position::Geometry;
 use retransmit::{NakResult, Retransmit};
 use setup::SenderSetup;
@@ -102,7 +102,6 @@ impl<R, F> Model for SenderCore<R, F> {
 }
 
 impl<R, F: FlowControl + Drop> SenderCore<R, F> {
-    ghost use Rattle.sender.specs.Outgoing.{HasRoom};
     ghost use Rattle.sender.specs.Sending.{BeginsAt, Cycles, GoesOn, HearsDatagram, SendsFrom, Steps, at_moment, asked, begun, told};
 
     /// A sender of a log with this geometry, these ids and this start, a multiple of 32, which it reads by these reads.

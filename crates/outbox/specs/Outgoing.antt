@@ -1,6 +1,5 @@
 -- What an outbox holds.
-use Rattle.std.specs.Prelude.{◌≡◌, ◌+◌, ◌<◌, ◌≤◌, ℕ, List, [], ◌∷◌, ◌++◌, length}
-use Rattle.theory.specs.Bytes.{Identity}
+use Rattle.std.specs.Prelude.{◌≡◌, ◌+◌, ◌≤◌, ℕ, List, [], ◌∷◌, ◌++◌, length}
 
 -- datagrams in the order in which they go out, each at most of MTU bytes
 pub record Outgoing : Type 0 where
@@ -28,8 +27,3 @@ pub record FitsLast (o : Outgoing) (bytes : List ℕ) : Type 0 where
   pub last : List ℕ
   pub parts : o.datagrams ≡ front ++ last ∷ []
   pub fits : length last + length bytes ≤ o.mtu
-
--- one more datagram of the stream's frames has room
-pub record HasRoom (i : Identity) (o : Outgoing) : Type 0 where
-  pub size : o.mtu ≡ i.geometry.mtu
-  pub space : length o.datagrams < 32

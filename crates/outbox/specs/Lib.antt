@@ -1,0 +1,2 @@
+pub mod OutboxSlots
+pub mod Outgoing
