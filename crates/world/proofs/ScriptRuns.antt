@@ -1,6 +1,6 @@
 -- Lines of a script, one after the other.
-use Rattle.std.proofs.Common.{◌≡◌, ◌∙◌, ℕ, ◌<◌, get_or, inl, inr, ◌+◌, List, [], ◌∷◌, ◌++◌, sym, ap, subst, refl, append_assoc, append-nil, length, arith, take}
-use Rattle.std.proofs.lemmas.List.{length-map, length-replicate, map-append}
+use Rattle.std.proofs.Common.{◌≡◌, ◌∙◌, ℕ, ◌<◌, ◌≤◌, get_or, inl, inr, ◌+◌, List, [], ◌∷◌, ◌++◌, sym, ap, subst, refl, append_assoc, append-nil, length, arith, take}
+use Rattle.std.proofs.lemmas.List.{length-map, length-replicate, map-append, take_all}
 use Rattle.std.proofs.lemmas.Grind.{flat_map-append}
 use Rattle.std.specs.List.{flat_map}
 use Rattle.std.specs.Prelude.{◌%◌, replicate, slice_index, suc, sum}
@@ -117,6 +117,10 @@ pub next_played : (old mid new : Simulated) (cs : List Command) (k : ℕ) (c : C
 next_played old mid new cs k c before there after below e h step =
     subst (λ (xs : List Command). Continues old (contents_of xs) before after new) (sym (one_more_command cs k c below e))
     (one_more_played old mid new (take k cs) c before there after h step)
+
+-- behind the last of them all are played
+pub all_played : (old mid : Simulated) (cs : List Command) (k : ℕ) (before there : List Line) → length cs ≤ k → Continues old (contents_of (take k cs)) before there mid → Continues old (contents_of cs) before there mid
+all_played old mid cs k before there past h = subst (λ (xs : List Command). Continues old (contents_of xs) before there mid) (take_all k cs past) h
 
 -- ---- the whole script
 

@@ -1,5 +1,5 @@
 -- What contracts see of a simulation, which states it represents, and what a line makes of them.
-use Rattle.std.specs.Prelude.{◌≡◌, ◌⊎◌, ◌≤◌, ◌+◌, ℕ, ⊤, List, [], ◌∷◌, ◌++◌, length, map, Some}
+use Rattle.std.specs.Prelude.{◌≡◌, ◌⊎◌, ◌≤◌, ◌+◌, ℕ, ⊤, List, [], ◌∷◌, ◌++◌, length, map, Some, vec_len}
 use Rattle.std.specs.List.{flat_map}
 use Rattle.theory.specs.Position.{Geometry}
 use Rattle.theory.specs.Bytes.{Identity}
@@ -21,6 +21,7 @@ use Rattle.script_run.specs.ScriptState.{ScriptState, listening_at, numbers, ope
 use Rattle.script_run.specs.Standing.{IsPlayed, handler_of}
 use Rattle.script_parts.specs.Lines.{line_contents}
 use Rattle.script_parts.specs.declared.line.Line.{Line}
+use Rattle.world.specs.declared.whole_script.Parts.{Parts}
 
 -- a log with its sender and its other readers, eight subscribers, and the packets that were given out
 pub record Simulated : Type 0 where
@@ -116,6 +117,13 @@ ContinuesOpen old commands before after new = (s : ScriptState) → RepresentsSt
 -- the eight receivers of a log that was just opened
 abbrev pub AreListening : Identity → List Subscribing → Type 0
 AreListening i vs = AllShow vs (map (listening_at i) numbers)
+
+-- a datagram fits the outbox, a frame the block, and the eight receivers listen
+pub record AreReady (i : Identity) (p : Parts) : Type 0 where
+  pub size : p.outbox.mtu ≡ i.geometry.mtu
+  pub block : i.geometry.mtu ≤ length p.block
+  pub eight : vec_len p.subscribers ≡ 8
+  pub listening : AreListening i p.subscribers.items
 
 -- the lines of a script from the opened log on, and the book
 pub record RunsTo (i : Identity) (start readers : ℕ) (commands : List CommandContent) (before after : List LineContent) : Type 0 where

@@ -1,6 +1,6 @@
 //! What each line of a script does, and what it prints.
 
-ghost use Rattle.std.specs.Prelude.{◌≡◌, ◌≤◌, ◌++◌, length, OnOk, map};
+ghost use Rattle.std.specs.Prelude.{◌≡◌, ◌≤◌, ◌++◌, ◌∷◌, [], length, OnOk, map};
 ghost use Rattle.theory.specs.Position.{max_message, max_payload};
 ghost use Rattle.receiver.specs.Subscribing.{answer_of};
 ghost use Rattle.script_run.specs.LineContents as content;
@@ -20,6 +20,14 @@ use script_parts::Line;
 use script_run::sends_again_what_it_sent;
 use sender::SenderEvent;
 use std::alloc::{AllocError, Global};
+
+/// Adds a line.
+pub fn add(lines: &mut Vec<Line>, line: Line) -> Result<(), AllocError>
+    ensures { OnOk result (lines.new.items ≡ lines.old.items ++ line ∷ []) }
+{
+    lines.push(line)?;
+    Ok(())
+}
 
 /// Adds the lines of what became of a datagram's frames.
 fn tell(lines: &mut Vec<Line>, outcomes: &[Outcome]) -> Result<(), AllocError>
@@ -97,24 +105,21 @@ impl<L: OneHandLog> Simulation<L> {
         ensures { OnOk result (IsAnswered self.old commands.Connect lines.old.items lines.new.items self.new) }
     {
         self.log.set_connected(true);
-        lines.push(Line::Done)?;
-        Ok(())
+        add(lines, Line::Done)
     }
 
     fn disconnect(&mut self, lines: &mut Vec<Line>) -> Result<(), AllocError>
         ensures { OnOk result (IsAnswered self.old commands.Disconnect lines.old.items lines.new.items self.new) }
     {
         self.log.set_connected(false);
-        lines.push(Line::Done)?;
-        Ok(())
+        add(lines, Line::Done)
     }
 
     fn close(&mut self, lines: &mut Vec<Line>) -> Result<(), AllocError>
         ensures { OnOk result (IsAnswered self.old commands.Close lines.old.items lines.new.items self.new) }
     {
         self.log.set_closed();
-        lines.push(Line::Done)?;
-        Ok(())
+        add(lines, Line::Done)
     }
 
     fn limit(&mut self, lines: &mut Vec<Line>) -> Result<(), AllocError>
@@ -122,8 +127,7 @@ impl<L: OneHandLog> Simulation<L> {
     {
         self.log.is_whole();
         let limit = self.log.clean_and_limit();
-        lines.push(Line::Limit(limit))?;
-        Ok(())
+        add(lines, Line::Limit(limit))
     }
 
     fn offer(
@@ -135,8 +139,7 @@ impl<L: OneHandLog> Simulation<L> {
         ensures { OnOk result (IsAnswered self.old (commands.Offer publisher.number message.now) lines.old.items lines.new.items self.new) }
     {
         if message.len() > self.log.geometry().max_message() as usize {
-            lines.push(Line::Bad)?;
-            return Ok(());
+            return add(lines, Line::Bad);
         }
         self.offer_short(publisher, message, lines)
     }
@@ -150,8 +153,7 @@ impl<L: OneHandLog> Simulation<L> {
         ensures { OnOk result (IsAnswered self.old (commands.OfferSize publisher.number size) lines.old.items lines.new.items self.new) }
     {
         if size > u64::from(self.log.geometry().max_message()) {
-            lines.push(Line::Bad)?;
-            return Ok(());
+            return add(lines, Line::Bad);
         }
         let message = letters(*lines.allocator(), size as usize)?;
         self.offer_short(publisher, &message, lines)
@@ -168,8 +170,7 @@ impl<L: OneHandLog> Simulation<L> {
         ensures { OnOk result (IsOffered self.old publisher.number message.now lines.old.items lines.new.items self.new) }
     {
         let line = offer_line(&mut self.log, publisher, message);
-        lines.push(line)?;
-        Ok(())
+        add(lines, line)
     }
 
     fn claim(
@@ -181,8 +182,7 @@ impl<L: OneHandLog> Simulation<L> {
         ensures { OnOk result (IsAnswered self.old (commands.Claim publisher.number size) lines.old.items lines.new.items self.new) }
     {
         if size > u64::from(self.log.geometry().max_payload()) {
-            lines.push(Line::Bad)?;
-            return Ok(());
+            return add(lines, Line::Bad);
         }
         self.claim_short(publisher, size as u32, lines)
     }
@@ -198,37 +198,32 @@ impl<L: OneHandLog> Simulation<L> {
         ensures { OnOk result (IsAnswered self.old (commands.Claim publisher.number size) lines.old.items lines.new.items self.new) }
     {
         let line = claim_line(&mut self.log, publisher, size);
-        lines.push(line)?;
-        Ok(())
+        add(lines, line)
     }
 
     fn commit(&mut self, publisher: PartyNumber, lines: &mut Vec<Line>) -> Result<(), AllocError>
         ensures { OnOk result (IsAnswered self.old (commands.Commit publisher.number) lines.old.items lines.new.items self.new) }
     {
         let line = commit_line(*lines.allocator(), &mut self.log, publisher)?;
-        lines.push(line)?;
-        Ok(())
+        add(lines, line)
     }
 
     fn abort(&mut self, publisher: PartyNumber, lines: &mut Vec<Line>) -> Result<(), AllocError>
         ensures { OnOk result (IsAnswered self.old (commands.Abort publisher.number) lines.old.items lines.new.items self.new) }
     {
         let line = abort_line(&mut self.log, publisher);
-        lines.push(line)?;
-        Ok(())
+        add(lines, line)
     }
 
     fn read(&mut self, reader: PartyNumber, lines: &mut Vec<Line>) -> Result<(), AllocError>
         ensures { OnOk result (IsAnswered self.old (commands.Read reader.number) lines.old.items lines.new.items self.new) }
     {
         if reader.number == 0 || reader.number > self.readers {
-            lines.push(Line::Bad)?;
-            return Ok(());
+            return add(lines, Line::Bad);
         }
         let alloc = *lines.allocator();
         let line = read_line(alloc, &mut self.log, reader.number, &mut self.block)?;
-        lines.push(line)?;
-        Ok(())
+        add(lines, line)
     }
 
     fn send(&mut self, now: u64, lines: &mut Vec<Line>) -> Result<(), AllocError>
@@ -248,8 +243,7 @@ impl<L: OneHandLog> Simulation<L> {
         ensures { OnOk result (IsAnswered self.old (commands.Reply packet now) lines.old.items lines.new.items self.new) }
     {
         let Some(bytes) = self.packets.get(packet) else {
-            lines.push(Line::Bad)?;
-            return Ok(());
+            return add(lines, Line::Bad);
         };
         near_starts_suffice();
         sends_again_what_it_sent();
@@ -257,7 +251,7 @@ impl<L: OneHandLog> Simulation<L> {
         let answer = self
             .sender
             .step(&mut self.log, event, now, &mut self.outbox);
-        lines.push(Line::Sender(answer))?;
+        add(lines, Line::Sender(answer))?;
         self.packets.give_all(&self.outbox, lines)
     }
 
@@ -271,8 +265,7 @@ impl<L: OneHandLog> Simulation<L> {
         ensures { OnOk result (IsAnswered self.old (commands.Deliver packet receiver.number now) lines.old.items lines.new.items self.new) }
     {
         let Some(bytes) = self.packets.get(packet) else {
-            lines.push(Line::Bad)?;
-            return Ok(());
+            return add(lines, Line::Bad);
         };
         let outcomes = self.subscribers[receiver.number].on_datagram(bytes, now)?;
         tell(lines, &outcomes)
@@ -301,7 +294,7 @@ impl<L: OneHandLog> Simulation<L> {
         let answer = self
             .sender
             .step(&mut self.log, event, now, &mut self.outbox);
-        lines.push(Line::Sender(answer))?;
+        add(lines, Line::Sender(answer))?;
         self.packets.give_all(&self.outbox, lines)
     }
 
@@ -321,15 +314,13 @@ impl<L: OneHandLog> Simulation<L> {
         ensures { OnOk result (IsAnswered self.old (commands.Poll receiver.number) lines.old.items lines.new.items self.new) }
     {
         let answer = self.subscribers[receiver.number].poll();
-        lines.push(poll_line(answer))?;
-        Ok(())
+        add(lines, poll_line(answer))
     }
 
     fn image(&self, receiver: PartyNumber, lines: &mut Vec<Line>) -> Result<(), AllocError>
         ensures { OnOk result (IsAnswered self.now (commands.Image receiver.number) lines.old.items lines.new.items self.now) }
     {
         let positions = self.subscribers[receiver.number].positions();
-        lines.push(positions_line(positions))?;
-        Ok(())
+        add(lines, positions_line(positions))
     }
 }

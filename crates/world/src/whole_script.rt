@@ -1,16 +1,18 @@
 //! A script, played from its first line to the book.
 
-ghost use Rattle.std.specs.Prelude.{◌≡◌, ◌<◌, ◌≤◌, length, suc, vec_len, IfOk, OnOk};
+ghost use Rattle.std.specs.Prelude.{◌≡◌, [], suc, vec_len, IfOk, OnOk};
 ghost use Rattle.log_buffer.specs.Openings.{IsStart};
 ghost use Rattle.one_hand.specs.Stream.{opened};
 ghost use Rattle.script_run.specs.ScriptState.{listening_at, opened_state};
 ghost use Rattle.receiver.specs.Subscribing.{RepresentsSubscriber};
-ghost use Rattle.script_run.specs.Output.{IsOutputOf};
+ghost use Rattle.script_run.specs.Output.{IsOutputOf, geometry_of};
 ghost use Rattle.script_parts.specs.Lines.{line_contents};
 ghost use Rattle.script_run.specs.Standing.{Begins};
-ghost use Rattle.world.specs.Simulated.{AreListening, Continues, ContinuesOpen, RunsTo, RepresentsState, StandsSomewhere};
+ghost use Rattle.theory.specs.Position.{IsGeometry};
+ghost use Rattle.world.specs.Simulated.{AreListening, AreReady, Continues, ContinuesOpen, RunsTo, RepresentsState, StandsSomewhere};
 ghost use Rattle.script.specs.Meaning as meaning;
 
+use crate::handlers::add;
 use crate::simulation::{RECEIVERS, Simulation};
 use block::Block;
 use flow_control::UnicastFlow;
@@ -24,22 +26,43 @@ use script_run::{images_stay_in_bounds, polls_a_prefix, shares_are_counted};
 use sender::{Denied, Outbox, SenderCore};
 use std::alloc::{AllocError, Global};
 
+/// What a script is played with beside its log.
+#[derive(Drop)]
+struct Parts {
+    outbox: Outbox,
+    block: Block,
+    subscribers: Vec<Subscriber>,
+}
+
 /// The lines that a script prints, or that memory was refused.
 pub fn play(alloc: Global, script: &Script) -> Result<Vec<Line>, AllocError>
     ensures { IfOk result (λ lines. IsOutputOf (meaning.script_content script.now) (line_contents lines.items)) }
 {
     let mut lines = Vec::new(alloc);
     let log = &script.log;
-    let geometry = match Geometry::new(log.term_length, log.mtu, log.initial_term_id) {
-        Ok(geometry) => geometry,
+    match Geometry::new(log.term_length, log.mtu, log.initial_term_id) {
+        Ok(geometry) => play_log(alloc, script, geometry, lines),
         Err(error) => {
-            lines.push(Line::BadGeometry(error))?;
-            return Ok(lines);
+            add(&mut lines, Line::BadGeometry(error))?;
+            Ok(lines)
         }
-    };
-    let outbox = Outbox::new(alloc, geometry.mtu())?;
-    let block = Block::new(alloc, geometry.mtu() as usize)?;
-    let subscribers = subscribers(alloc, log, &geometry)?;
+    }
+}
+
+/// Plays a script whose log has this geometry.
+fn play_log(
+    alloc: Global,
+    script: &Script,
+    geometry: Geometry,
+    mut lines: Vec<Line>,
+) -> Result<Vec<Line>, AllocError>
+    requires legal { IsGeometry geometry }
+    requires made { geometry ≡ geometry_of (meaning.opening script.now.log) }
+    requires empty { lines.items ≡ [] }
+    ensures { IfOk result (λ lines. IsOutputOf (meaning.script_content script.now) (line_contents lines.items)) }
+{
+    let log = &script.log;
+    let parts = prepare(alloc, log, &geometry)?;
     let consumers = log.readers as usize + 1;
     match PlainHand::open(
         alloc,
@@ -49,19 +72,51 @@ pub fn play(alloc: Global, script: &Script) -> Result<Vec<Line>, AllocError>
         log.start,
         consumers,
     ) {
-        Ok(hand) => {
-            polls_a_prefix();
-            images_stay_in_bounds();
-            let simulation = simulation(alloc, hand, log, geometry, outbox, subscribers, block)?;
-            run(simulation, &script.commands, lines)
-        }
+        Ok(hand) => play_opened(alloc, hand, script, geometry, parts, lines),
         Err(LogError::Start) => {
-            lines.push(Line::BadLog(LogError::Start))?;
+            add(&mut lines, Line::BadLog(LogError::Start))?;
             Ok(lines)
         }
         Err(LogError::Consumers) => unreachable!(),
         Err(LogError::Memory) => Err(AllocError),
     }
+}
+
+/// Plays a script on its log that was just opened.
+fn play_opened<L: OneHandLog>(
+    alloc: Global,
+    log: L,
+    script: &Script,
+    geometry: Geometry,
+    parts: Parts,
+    lines: Vec<Line>,
+) -> Result<Vec<Line>, AllocError>
+    requires opened { L.stream log ≡ opened (record { geometry = geometry; session = script.now.log.session; stream = script.now.log.stream }) script.now.log.start (suc script.now.log.readers) }
+    requires start { IsStart geometry script.now.log.start }
+    requires legal { IsGeometry geometry }
+    requires made { geometry ≡ geometry_of (meaning.opening script.now.log) }
+    requires ready { AreReady (record { geometry = geometry; session = script.now.log.session; stream = script.now.log.stream }) parts }
+    requires empty { lines.items ≡ [] }
+    ensures { IfOk result (λ lines. IsOutputOf (meaning.script_content script.now) (line_contents lines.items)) }
+{
+    polls_a_prefix();
+    images_stay_in_bounds();
+    let simulation = simulation(alloc, log, &script.log, geometry, parts)?;
+    run(simulation, &script.commands, lines)
+}
+
+/// Makes the parts for a log of this geometry.
+fn prepare(alloc: Global, log: &LogLine, geometry: &Geometry) -> Result<Parts, AllocError>
+    ensures { IfOk result (λ p. AreReady (record { geometry = geometry.now; session = log.now.session; stream = log.now.stream }) p) }
+{
+    let outbox = Outbox::new(alloc, geometry.mtu())?;
+    let block = Block::new(alloc, geometry.mtu() as usize)?;
+    let subscribers = subscribers(alloc, log, geometry)?;
+    Ok(Parts {
+        outbox,
+        block,
+        subscribers,
+    })
 }
 
 /// A receiver with half a term as its window, and its subscriber.
@@ -100,16 +155,11 @@ fn simulation<L: OneHandLog>(
     log: L,
     line: &LogLine,
     geometry: Geometry,
-    outbox: Outbox,
-    subscribers: Vec<Subscriber>,
-    block: Block,
+    parts: Parts,
 ) -> Result<Simulation<L>, AllocError>
     requires opened { L.stream log ≡ opened (record { geometry = geometry; session = line.now.session; stream = line.now.stream }) line.now.start (suc line.now.readers) }
     requires start { IsStart geometry line.now.start }
-    requires size { outbox.mtu ≡ geometry.mtu }
-    requires block { geometry.mtu ≤ length block }
-    requires eight { vec_len subscribers ≡ 8 }
-    requires listening { AreListening (record { geometry = geometry; session = line.now.session; stream = line.now.stream }) subscribers.items }
+    requires ready { AreReady (record { geometry = geometry; session = line.now.session; stream = line.now.stream }) parts }
     ensures { IfOk result (λ s. RepresentsState s (opened_state (record { geometry = geometry; session = line.now.session; stream = line.now.stream }) line.now.start line.now.readers)) }
 {
     let flow = UnicastFlow::new(line.start);
@@ -126,10 +176,10 @@ fn simulation<L: OneHandLog>(
         Ok(sender) => Ok(Simulation {
             log,
             readers: line.readers as usize,
-            block,
+            block: parts.block,
             sender,
-            outbox,
-            subscribers,
+            outbox: parts.outbox,
+            subscribers: parts.subscribers,
             packets: Packets::new(alloc),
         }),
         Err(Denied { reads: _, flow: _ }) => {
@@ -148,7 +198,7 @@ fn play_open<L: OneHandLog>(
     requires { StandsSomewhere simulation.old }
     ensures { OnOk result (ContinuesOpen simulation.old (meaning.contents_of commands.now) lines.old.items lines.new.items simulation.new) }
 {
-    lines.push(Line::Open)?;
+    add(lines, Line::Open)?;
     play_all(simulation, commands, lines)
 }
 
@@ -181,6 +231,6 @@ fn run<L: OneHandLog>(
     let played = play_open(&mut simulation, commands, &mut lines);
     let book = simulation.end();
     played?;
-    lines.push(Line::Book(book))?;
+    add(&mut lines, Line::Book(book))?;
     Ok(lines)
 }

@@ -22,4 +22,4 @@ returns-in-Ok g c =
       sender = c.in-Ok.ensures.made ∙ ap (λ (j : Identity). begun j line.start first c.new-flow.result) (sym same) ∙ ap (λ (f : ℕ). begun i line.start first f) c.new-flow.ensures;
       packets = c.new-in-Ok.ensures;
     })
-    c.requires.listening
+    c.requires.ready.listening

@@ -11,7 +11,7 @@ use Rattle.world.proofs.simulation.Simulation.deliver.Goals as goal
 pub returns-in_default : goal.returns-in_default
 returns-in_default g c =
     let none : slice_get c.self.inside.packets c.args.packet ≡ None = search rules in
-    unchanged _ _ (commands.Deliver c.args.packet c.args.receiver.number c.args.now) c.args.lines.now.items c.push.new.self.items c.self.view_is (missing_deliver _ c.args.packet c.args.receiver.number c.args.now _ c.args.lines.now.items c.push.new.self.items none refl c.in_ok-push.ensures.items)
+    on_ok_weaker c.add.result (λ told. unchanged _ _ (commands.Deliver c.args.packet c.args.receiver.number c.args.now) c.args.lines.now.items c.add.new.lines.items c.self.view_is (missing_deliver _ c.args.packet c.args.receiver.number c.args.now _ c.args.lines.now.items c.add.new.lines.items none refl told)) c.add.ensures
 
 pub returns : goal.returns
 returns g c =

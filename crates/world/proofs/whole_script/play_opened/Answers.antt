@@ -1,0 +1,43 @@
+use Rattle.std.proofs.Common.{◌≡◌, ◌∙◌, ℕ, ◌+◌, suc, arith, List, [], rules, ap, sym, subst, refl, FitsSigned, w32, to_z, of_z}
+use Rattle.std.specs.Prelude.{ℤ, Err}
+use Rattle.std.proofs.lemmas.Int.{to_z-of_z}
+use Rattle.std.proofs.lemmas.Result.{IfOk-weaker}
+use Rattle.theory.specs.Bytes.{Identity}
+use Rattle.theory.specs.Position.{Geometry, IsGeometry}
+use Rattle.log_buffer.specs.Openings.{IsStart}
+use Rattle.log_buffer.specs.declared.fault.LogError.TheVariants.{Start}
+use Rattle.one_hand.specs.Stream.{opened}
+use Rattle.script.specs.Meaning.{opening, contents_of, script_content}
+use Rattle.script.specs.declared.command.Command.{Command}
+use Rattle.script_parts.specs.Lines.{line_contents}
+use Rattle.script_parts.specs.declared.line.Line.{Line}
+use Rattle.script_run.specs.Output.{geometry_of}
+use Rattle.world.specs.Simulated.{RunsTo}
+use Rattle.world.proofs.Identities.{same_identity}
+use Rattle.world.proofs.ScriptRuns.{refused_start, stage_plays}
+use Rattle.world.proofs.whole_script.play_opened.Goals as goal
+
+pub returns : goal.returns
+returns g c =
+    let log = c.args.script.now.log in
+    let script = script_content c.args.script.now in
+    let session : FitsSigned w32 c.args.script.now.log.session = search rules in
+    let stream : FitsSigned w32 c.args.script.now.log.stream = search rules in
+    let made = c.requires.made in
+    let simulation = c.in_ok-simulation.simulation in
+    IfOk-weaker c.run.result _ _
+    (λ after runs.
+    stage_plays script simulation (record { geometry = c.args.geometry; session = log.session; stream = log.stream }) log.start log.readers (line_contents after.items)
+    (ap (λ (g : Geometry). record { geometry = g; session = log.session; stream = log.stream }) made)
+    refl
+    refl
+    (subst IsGeometry made c.requires.legal)
+    (subst (λ (g : Geometry). IsStart g log.start) made c.requires.start)
+    (record { session = session; stream = stream })
+    c.polls_a_prefix.ensures.polled
+    c.polls_a_prefix.ensures.runs
+    c.images_stay_in_bounds.ensures
+    c.in_ok-simulation.ensures
+    (subst (λ (cs : List Command). RunsTo simulation.log.identity simulation.log.start simulation.readers (contents_of cs) [] (line_contents after.items)) c.deref.ensures.value
+    (subst (λ (ls : List Line). RunsTo simulation.log.identity simulation.log.start simulation.readers (contents_of c.deref.result.now) (line_contents ls) (line_contents after.items)) c.requires.empty runs)))
+    c.run.ensures
