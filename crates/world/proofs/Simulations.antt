@@ -1,8 +1,10 @@
 -- What the calls of a line's handler left is a step of the states that the simulation shows.
-use Rattle.std.proofs.Common.{◌≡◌, ◌⊎◌, ℕ, zero, suc, ◌+◌, ◌-◌, ◌<◌, ◌≤◌, Bool, true, false, List, [], ◌∷◌, ◌++◌, map, length, Option, None, Some, inl, inr, refl, sym, ap, ◌∙◌, subst, arith, append-nil}
+use Rattle.std.proofs.Common.{◌≡◌, ◌⊎◌, ℕ, zero, suc, ◌+◌, ◌-◌, ◌<◌, ◌≤◌, Bool, true, false, List, [], ◌∷◌, ◌++◌, map, length, Option, None, Some, inl, inr, refl, sym, ap, ◌∙◌, subst, arith, append-nil, get_or, rules, Fits, w8}
 use Rattle.std.specs.Prelude.{slice_get, slice_set, slice_index, replicate, Result, Ok, Err, OnOk}
 use Rattle.std.proofs.lemmas.List.{length-set, map-append, map-set}
 use Rattle.std.proofs.lemmas.Option.{slice_get_past}
+use Rattle.std.specs.List.{AllByRecursion}
+use Rattle.std.specs.Option.{is_some, option_map}
 use Rattle.theory.specs.Bytes.{Identity}
 use Rattle.theory.specs.Consumer.{Consumer, moved}
 use Rattle.theory.specs.Entry.{Entry, committed}
@@ -11,7 +13,7 @@ use Rattle.theory.specs.Placed.{Among, Placed, end_of}
 use Rattle.theory.specs.Position.{max_message}
 use Rattle.theory.specs.Wire.{Wire, spelling}
 use Rattle.one_hand.specs.Legal.{IsStream}
-use Rattle.one_hand.specs.Stream.{Stream, clean_end, cleaned_and_limited, forgotten_below, position_of, raised, with_consumer}
+use Rattle.one_hand.specs.Stream.{OpenClaim, Stream, after_offer, answer_of, claim_by, clean_end, cleaned_and_limited, forgotten_below, position_of, raised, with_consumer}
 use Rattle.receiver.specs.Polling.{Answer, Polls, TellsPositions}
 use Rattle.receiver.specs.Receiving.{TakesDatagram, Receiver, replies, ticked}
 use Rattle.receiver.specs.Subscribing.{SubscriberBecomes, RepresentsSubscriber, Subscribing}
@@ -23,7 +25,7 @@ use Rattle.script_parts.specs.Lines.{line_content, line_contents}
 use Rattle.script_parts.specs.Packed.{bytes_of}
 use Rattle.script_parts.specs.declared.line.Line.{Line}
 use Rattle.script_parts.proofs.PacketNumbers.{none_past}
-use Rattle.script_run.specs.Answers.{Answers, AreFrames, MayNotTake, OffersMessage, Takes, given_out, lines_of, or_nothing, packet_lines, reader_at, with_log, with_reader, with_receiver}
+use Rattle.script_run.specs.Answers.{Answers, AreFrames, MayNotTake, MayOffer, Offered, OffersMessage, Takes, given_out, lines_of, or_nothing, packet_lines, reader_at, with_log, with_reader, with_receiver}
 use Rattle.script_run.specs.LineContents.{Bad, Limit, LineContent, OfReceiver, poll_line, positions_line}
 use Rattle.script_run.specs.ScriptState.{ScriptState}
 use Rattle.one_hand.specs.declared.hand_reader.HandReader.{HandReader}
@@ -54,6 +56,10 @@ bad_answered old command line before after bad answers told = λ s h standing. r
   printed = one_line before after line told ∙ ap (λ x. line_contents before ++ x ∷ []) bad;
   shows = h;
 }
+
+-- what is too long for the log
+pub too_long : (old : Simulated) (command : CommandContent) (most : Stream → ℕ) (size : ℕ) (line : Line) (before after : List Line) → line_content line ≡ Bad → most old.log < size → ((s : ScriptState) → most s.log < size → Answers s command (Bad ∷ []) s) → after ≡ before ++ line ∷ [] → IsAnswered old command before after old
+too_long old command most size line before after bad long means told = bad_answered old command line before after bad (λ s h. means s (subst (λ l. most l < size) (sym h.log) long)) told
 
 -- ---- subscribers
 
@@ -277,6 +283,31 @@ read_so old j m line before after low (inr f) told = λ s h standing.
 pub read_answered : (old : Simulated) (k j : ℕ) (m : Stream) (line : Line) (before after : List Line) → k ≡ suc j → j < old.readers → ReadsLine old.log k (line_content line) m → after ≡ before ++ line ∷ [] → IsAnswered old (commands.Read k) before after (record old { log = m })
 read_answered old k j m line before after is low reads told =
     subst (λ n. IsAnswered old (commands.Read n) before after (record old { log = m })) (sym is) (read_so old j m line before after low (subst (λ n. ReadsLine old.log n (line_content line) m) is reads) told)
+
+-- ---- what a publisher has, and its offer
+
+pub some_claim : (o : Option OpenClaim) (n : Option ℕ) (b : Bool) → n ≡ option_map (λ (c : OpenClaim). c.size) o → b ≡ is_some n → b ≡ true → (c : OpenClaim) × (o ≡ Some c)
+some_claim (Some c) n b e f t = (c, refl)
+some_claim None n b e f t = absurd (let g : is_some (option_map (λ (c : OpenClaim). c.size) None) ≡ true = ap is_some (sym e) ∙ sym f ∙ t in cc)
+
+pub no_claim : (o : Option OpenClaim) (n : Option ℕ) (b : Bool) → n ≡ option_map (λ (c : OpenClaim). c.size) o → b ≡ is_some n → b ≡ false → o ≡ None
+no_claim (Some c) n b e f t = absurd (let g : is_some (option_map (λ (c : OpenClaim). c.size) (Some c)) ≡ false = ap is_some (sym e) ∙ sym f ∙ t in cc)
+no_claim None n b e f t = refl
+
+-- the bytes of a slice, one by one
+pub all_bytes : (xs : List ℕ) → ((i : ℕ) → Fits w8 (get_or xs i 0)) → AllByRecursion (λ b. b < 256) xs
+all_bytes [] h = tt
+all_bytes (x ∷ xs) h = let fits : Fits w8 x = h 0 in (search rules, all_bytes xs (λ i. h (suc i)))
+
+pub has_claim : (l : Stream) (by : ℕ) (message : List ℕ) → (c : OpenClaim) × (claim_by l by ≡ Some c) → LeadsTo (λ s lines t. MayBeOffered s by message lines t) l Bad l
+has_claim l by message claim = λ s e. inl ((claim.0, ap (λ x. claim_by x by) e ∙ claim.1), (refl, ap (with_log s) (sym e)))
+
+pub offers : (l m : Stream) (by : ℕ) (message : List ℕ) (line : LineContent) → MayOffer l by message → claim_by l by ≡ None → ((s t : ScriptState) → t ≡ with_log s (after_offer s.log by message) → Offered s by message (answer_of l (length message)) (line ∷ []) t) → m ≡ after_offer l by message → LeadsTo (λ s lines t. MayBeOffered s by message lines t) l line m
+offers l m by message line may none shows after = λ s e. inr (
+  subst (λ x. MayOffer x by message) (sym e) may,
+  ap (λ x. claim_by x by) e ∙ none,
+  subst (λ x. Offered s by message (answer_of x (length message)) (line ∷ []) (with_log s m)) (sym e) (shows s (with_log s m) (ap (with_log s) (after ∙ ap (λ x. after_offer x by message) (sym e)))),
+)
 
 -- ---- offers, by what orders them
 

@@ -23,3 +23,6 @@ returns-in-Ok g c =
       packets = c.new-in-Ok.ensures;
     })
     c.requires.ready.listening
+
+pub new-requires-clause-begins : goal.new-requires-clause-begins
+new-requires-clause-begins g c = record { limit = c.new-flow.ensures; most = c.new-flow.ensures }
