@@ -1,13 +1,13 @@
 -- What a sender's handler of negative acknowledgements knows, where the sender sends, is told and answers.
-use Rattle.std.proofs.Common.{◌≡◌, ◌∙◌, ℕ, ◌+◌, ◌≤◌, List, [], ◌∷◌, ◌++◌, map, Option, None, Some, refl, sym, ap, subst, arith, append-nil, append_assoc, inl, inr}
+use Rattle.std.proofs.Common.{◌≡◌, ◌∙◌, ℕ, ◌≤◌, List, [], ◌∷◌, ◌++◌, map, refl, sym, ap, subst, arith, append-nil, append_assoc, inl, inr}
 use Rattle.std.specs.Prelude.{ℤ}
 use Rattle.std.specs.List.{filter}
 use Rattle.std.proofs.lemmas.List.{map-append}
 use Rattle.std.proofs.lemmas.List.Elements.{filter-append}
 use Rattle.std.proofs.Math.Nat.{le-max_left, max-eq_right}
-use Rattle.theory.specs.Placed.{Chain, Placed, covered, end_of}
+use Rattle.theory.specs.Placed.{Chain, Placed, end_of}
 use Rattle.theory.specs.Position.{Geometry}
-use Rattle.theory.specs.Resend.{Action, NakAnswer, added, answered, first_due, kept, nak_answer, nak_answer_by, nat_of}
+use Rattle.theory.specs.Resend.{NakAnswer, added, first_due, kept, nak_answer, nak_answer_by, nat_of}
 use Rattle.theory.specs.Timing.{seen}
 use Rattle.model.specs.Sender.{Sender}
 use Rattle.model.specs.Sender as model

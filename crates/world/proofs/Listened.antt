@@ -1,6 +1,6 @@
 -- Subscribers and the receivers that they show, one more at the end.
-use Rattle.std.proofs.Common.{◌≡◌, ◌∙◌, ◌<◌, ◌+◌, ℕ, List, [], ◌∷◌, ◌++◌, take, map, sym, ap, subst, refl, arith, get_or}
-use Rattle.std.specs.Prelude.{ℤ, suc, zero}
+use Rattle.std.proofs.Common.{◌≡◌, ◌∙◌, ◌<◌, ◌+◌, ℕ, List, [], ◌∷◌, ◌++◌, take, map, sym, ap, subst, arith}
+use Rattle.std.specs.Prelude.{ℤ, suc}
 use Rattle.std.proofs.Math.Seq.{take-suc}
 use Rattle.std.proofs.lemmas.List.{map-append}
 use Rattle.theory.specs.Bytes.{Identity}

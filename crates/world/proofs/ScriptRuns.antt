@@ -1,12 +1,12 @@
 -- Lines of a script, one after the other.
 use Rattle.std.proofs.Common.{◌≡◌, ◌∙◌, ℕ, ◌<◌, ◌≤◌, get_or, inl, inr, ◌+◌, List, [], ◌∷◌, ◌++◌, sym, ap, subst, refl, append_assoc, append-nil, length, arith, take}
-use Rattle.std.proofs.lemmas.List.{length-map, length-replicate, map-append, take_all}
+use Rattle.std.proofs.lemmas.List.{length-replicate, map-append, take_all}
 use Rattle.std.proofs.lemmas.Grind.{flat_map-append}
 use Rattle.std.specs.List.{flat_map}
-use Rattle.std.specs.Prelude.{◌%◌, replicate, slice_index, suc, sum}
+use Rattle.std.specs.Prelude.{◌%◌, slice_index, suc, sum}
 use Rattle.std.proofs.Math.Seq.{take-suc}
 use Rattle.theory.specs.Bytes.{Identity, IsIdentity}
-use Rattle.theory.specs.Consumer.{Consumer, consumer_at}
+use Rattle.theory.specs.Consumer.{consumer_at}
 use Rattle.theory.specs.Position.{Geometry, IsGeometry, max_position}
 use Rattle.theory.specs.Tiling.{share_of}
 use Rattle.log_buffer.specs.declared.fault.LogError.TheVariants.{Start}

@@ -1,5 +1,5 @@
 -- What a datagram told the sender is a step of the states that the simulation shows.
-use Rattle.std.proofs.Common.{◌≡◌, arith, map, ℕ, ◌≤◌, List, [], ◌∷◌, ◌++◌, length, true, Option, Some, inr, refl, sym, ap, ◌∙◌, subst, append-nil, append_assoc}
+use Rattle.std.proofs.Common.{◌≡◌, arith, map, ℕ, ◌≤◌, List, [], ◌∷◌, ◌++◌, length, true, Some, inr, refl, sym, ap, ◌∙◌, subst, append-nil, append_assoc}
 use Rattle.std.proofs.lemmas.List.{set-get_or}
 use Rattle.std.specs.Prelude.{slice_get, ℤ, pos, max, ◌+ℤ◌}
 use Rattle.theory.specs.Bytes.{Identity}
@@ -7,7 +7,7 @@ use Rattle.theory.specs.Control.{setup_at}
 use Rattle.theory.specs.FlowLimit.{clipped}
 use Rattle.theory.specs.Position as places
 use Rattle.theory.specs.Timing.{seen}
-use Rattle.theory.specs.Wire.{Nak, Wire}
+use Rattle.theory.specs.Wire.{Wire}
 use Rattle.model.specs.Sender.{Sender}
 use Rattle.frame_source.specs.Sources.{Source}
 use Rattle.one_hand.specs.HandReads.{MovesReader}

@@ -1,13 +1,12 @@
 -- What a sender's cycle left is a step of the states that the simulation shows.
-use Rattle.std.proofs.Common.{◌≡◌, map, ℕ, ◌≤◌, List, [], ◌∷◌, ◌++◌, length, Bool, true, false, Option, None, Some, refl, sym, ap, ◌∙◌, subst, arith}
-use Rattle.std.proofs.Math.Nat.{le-max_left}
+use Rattle.std.proofs.Common.{◌≡◌, map, ℕ, ◌≤◌, List, ◌∷◌, ◌++◌, length, Bool, true, false, Some, refl, sym, ap, ◌∙◌, subst, arith}
 use Rattle.std.specs.Prelude.{slice_set, ◌&&◌, if◌then◌else◌}
 use Rattle.std.specs.Option.{option_to_list}
 use Rattle.theory.specs.Bytes.{Identity}
 use Rattle.theory.specs.Datagrams.{frames_of}
 use Rattle.theory.specs.Entry.{committed}
 use Rattle.theory.specs.FlowLimit.{flow_limit}
-use Rattle.theory.specs.Placed.{Chain, Placed}
+use Rattle.theory.specs.Placed.{Chain}
 use Rattle.theory.specs.Position.{Geometry}
 use Rattle.theory.specs.Timing.{is_heartbeat_due, seen}
 use Rattle.model.specs.Sender.{Sender}
@@ -23,7 +22,6 @@ use Rattle.setup.specs.Naming.{Naming, after_due as after_naming, is_due}
 use Rattle.script_parts.specs.Lines.{line_contents}
 use Rattle.script_parts.specs.declared.line.Line.{Line}
 use Rattle.script_run.specs.Answers.{after_cycle, again_of, behind_new, clock_at, cycled, limit_of, lines_of, named, or_nothing, packet_lines, wires_of, woken}
-use Rattle.script_run.specs.ScriptState.{ScriptState}
 use Rattle.sender.specs.Cycling.{GivesAgain, GivesNew, datagrams, is_heard, is_silent, sent_wires}
 use Rattle.sender.specs.Sending.{AreThere, Cycles, Sending, SendsFrom, at_moment, noted}
 use Rattle.world.proofs.HandlerSteps.{due_is, later, noted_is, sent_chain}

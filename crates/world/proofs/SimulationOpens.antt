@@ -1,6 +1,5 @@
 -- The simulation of a log that was just opened.
 use Rattle.std.proofs.Common.{arith, ◌≡◌, ◌∙◌, ℕ, suc, List, [], ◌∷◌, refl, sym, ap, subst}
-use Rattle.std.specs.Prelude.{replicate}
 use Rattle.std.proofs.lemmas.List.{length-replicate}
 use Rattle.theory.specs.Bytes.{Identity}
 use Rattle.theory.specs.Consumer.{Consumer, consumer_at}

@@ -1,5 +1,5 @@
 -- What the calls of a line's handler left is a step of the states that the simulation shows.
-use Rattle.std.proofs.Common.{◌≡◌, ◌⊎◌, ℕ, zero, suc, ◌+◌, ◌-◌, ◌<◌, ◌≤◌, Bool, true, false, List, [], ◌∷◌, ◌++◌, map, length, Option, None, Some, inl, inr, refl, sym, ap, ◌∙◌, subst, arith, append-nil, get_or, rules, Fits, w8}
+use Rattle.std.proofs.Common.{◌≡◌, ◌⊎◌, ℕ, zero, suc, ◌-◌, ◌<◌, ◌≤◌, Bool, true, false, List, [], ◌∷◌, ◌++◌, map, length, Option, None, Some, inl, inr, refl, sym, ap, ◌∙◌, subst, arith, append-nil, get_or, rules, Fits, w8}
 use Rattle.std.specs.Prelude.{slice_get, slice_set, slice_index, replicate, Result, Ok, Err, OnOk}
 use Rattle.std.proofs.lemmas.List.{length-set, map-append, map-set}
 use Rattle.std.proofs.lemmas.Option.{slice_get_past}
