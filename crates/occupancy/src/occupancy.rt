@@ -1,5 +1,5 @@
-ghost use Rattle.std.specs.Prelude.{◌≡◌, ◌*◌, ◌/◌, ◌<◌, ◌≤◌, ◌↔◌, false, true, length, replicate, slice_index, IfOk, IsTrue};
-ghost use Rattle.occupancy.specs.Bits.{Fills, HoldsSome, holds};
+ghost use Rattle.std.specs.Prelude.{◌≡◌, ◌*◌, ◌/◌, ◌^◌, ◌<◌, ◌≤◌, ◌↔◌, false, true, length, replicate, slice_index, IfOk, IsTrue};
+ghost use Rattle.occupancy.specs.Bits.{ClearsAround, Fills, HoldsSome, holds};
 
 use crate::runs::{clear_run, set_run, some_in_run};
 use std::alloc::{AllocError, Global};
@@ -71,5 +71,17 @@ impl Occupancy {
         ensures { Fills self.old from to false self.new }
     {
         clear_run(&mut self.words, from, to);
+    }
+
+    /// Holds none of `count` units from `from` on, where the first unit comes behind the last one.
+    pub fn clear_around(&mut self, from: usize, count: usize)
+        requires few { 64 * length self.old < 2 ^ 63 }
+        requires from { from < 64 * length self.old }
+        requires count { count ≤ 64 * length self.old }
+        ensures { ClearsAround self.old from count self.new }
+    {
+        let first = count.min(64 * self.words.len() - from);
+        self.clear(from, from + first);
+        self.clear(0, count - first);
     }
 }

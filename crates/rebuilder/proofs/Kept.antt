@@ -1,6 +1,6 @@
 -- What holds of each image, and that it holds again after each call.
-use Rattle.std.proofs.Common.{◌≡◌, ℕ, ◌+◌, ◌-◌, ◌*◌, ◌%◌, ◌^◌, ◌<◌, ◌≤◌, ◌⊎◌, inl, inr, ⊎_elim, List, [], ◌∷◌, map, length, min, max, Bool, true, false, cond, Option, None, Some, refl, sym, subst, arith, length-set}
-use Rattle.std.specs.Prelude.{slice_index, slice_set, replicate, MatchOption, ℤ, pos, negsuc, nat_lt}
+use Rattle.std.proofs.Common.{◌≡◌, ℕ, ◌+◌, ◌-◌, ◌*◌, ◌/◌, ◌%◌, ◌^◌, ◌<◌, ◌≤◌, ◌⊎◌, inl, inr, ⊎_elim, List, [], ◌∷◌, map, length, min, max, Bool, true, false, cond, refl, sym, ap, subst, arith, length-set}
+use Rattle.std.specs.Prelude.{slice_index, slice_set, replicate, ℤ, pos, negsuc, nat_lt}
 use Rattle.std.specs.List.{AllByRecursion}
 use Rattle.std.proofs.lemmas.List.{length-replicate}
 use Rattle.std.proofs.lemmas.Nat.{div-add-mod'}
@@ -9,20 +9,21 @@ use Rattle.theory.specs.Position.{Geometry, IsGeometry, max_position, aligned}
 use lib.IntN.{nat_abs}
 use Rattle.theory.specs.Placed.{AllAmong, Among, Chain, Frame, IsReached, Placed, covered, end_of, frame_length, is_padding}
 use Rattle.rebuilder.specs.Stored.{IsUnit}
-use Rattle.theory.specs.Units.{HasUnit, IsContiguous}
+use Rattle.theory.specs.Units.{IsContiguous}
 use Rattle.theory.specs.Insert.{AreApart, Head, CrossesTerm, Below, OverWindow, Duplicate, Overlap, Stored, head_of, insert_answer, insert_answer_at, overlaps, window_end}
 use Rattle.theory.specs.Image.{IsWindow}
 use Rattle.theory.specs.ImageLaws.{held}
-use Rattle.rebuilder.specs.Held.{AreInOrder, AreLaid, IsNextStart, IsRunEnd, StartsAt, put}
-use Rattle.rebuilder.specs.Seen.{Image, IsBehind, IsCount, IsFit, IsJoin, IsImage, IsNextUnit, MayHold, least, with_consumer, with_frame}
+use Rattle.rebuilder.specs.Held.{AreInOrder, AreLaid, IsRunEnd, StartsAt, put}
+use Rattle.rebuilder.specs.Ring.{MayForget, Ring}
+use Rattle.rebuilder.specs.Seen.{Image, IsBehind, IsCount, IsFit, IsJoin, IsImage, IsKept, MayHold, least, with_consumer, with_frame}
 use Rattle.theory.proofs.Lists.{all_at, all_from, all_replicate, all_set, all_weaker, any_false}
 use Rattle.theory.proofs.Tables.{all_index}
 use Rattle.theory.proofs.Places.{term_ends}
-use Rattle.theory.proofs.Follow.{one_end, passed_along, passed_more}
+use Rattle.theory.proofs.Follow.{chain_span, passed_along, passed_more}
 use Rattle.theory.proofs.Held.{among_held, not_stored, stored_only}
 use Rattle.rebuilder.proofs.Lists.{all_least, none_here, least_each}
 use Rattle.rebuilder.proofs.Order.{apart, at_least, all_held, all_put, lower, order_held, order_put, put_among, raise}
-use Rattle.rebuilder.proofs.Reach.{AreFull, is_contiguous, reached_here, reached_held, reached_le, reached_tail, unit_above, unit_at}
+use Rattle.rebuilder.proofs.Reach.{AreFull, is_contiguous, not_inside, reached_here, reached_held, reached_le, reached_tail}
 
 -- ---- what follows
 
@@ -69,30 +70,37 @@ waiting i r k = all_weaker (IsBehind i.held i.join r) (λ p. p < r → StartsAt 
     first p [] c m l = let e : r ≡ p = c in absurd (omega arith)
     first p (s ∷ ss) c m l = (s, m.0, c.0)
 
-pub next_unit : (i : Image) (r : ℕ) (o : Option ℕ) → IsImage i r → MatchOption o ((s : Placed) → Among s i.held → s.at < r) (IsNextStart i.held r) → (c : ℕ) → IsContiguous i.held (least i.consumers) c → MatchOption o ((p : ℕ) → c ≤ p → HasUnit i.held p → ⊥) (IsNextUnit i.held c)
-next_unit i r None k h c end =
-    let same : c ≡ r = one_end i.held (least i.consumers) c r end (contiguous i r k) in
-    λ p l u.
-    let above : (r ≤ u.frame.at) × (u.frame.at ≤ p) = unit_above i.held (least i.consumers) r p k.order (full i r k) (reached i r k) (omega arith) u in
-    let below : u.frame.at < r = h u.frame u.among in
-    let from : r ≤ u.frame.at = above.0 in
-    absurd (omega arith)
-next_unit i r (Some q) k h c end =
-    let same : c ≡ r = one_end i.held (least i.consumers) c r end (contiguous i r k) in
-    let from : r ≤ q = h.from in
-    let start : StartsAt i.held q = h.start in
-    record {
-      above = ⊎_elim (λ (l : r < q). omega arith) (λ (l : q ≤ r). let e : q ≡ r = omega arith in absurd (k.stops (subst (StartsAt i.held) e start))) (cases_lt r q);
-      unit = subst (λ x. HasUnit i.held x) start.2 (unit_at i.held start.0 (full i r k) start.1);
-      empty = λ p l b u.
-          let above : (r ≤ u.frame.at) × (u.frame.at ≤ p) = unit_above i.held (least i.consumers) r p k.order (full i r k) (reached i r k) (omega arith) u in
-          let lower_q : q ≤ u.frame.at = h.least u.frame u.among above.0 in
-          let le : u.frame.at ≤ p = above.1 in
-          absurd (omega arith);
-    }
+-- where a consumer stands
+pub unit_of : (i : Image) (r consumer : ℕ) → IsImage i r → consumer < length i.consumers → slice_index i.consumers consumer % 32 ≡ 0
+unit_of i r consumer k l = (all_index (IsBehind i.held i.join r) i.consumers consumer l k.behind).unit
 
-pub next_start : (i : Image) (r : ℕ) (o : Option ℕ) → IsImage i r → MatchOption o ((s : Placed) → Among s i.held → s.at < r) (IsNextStart i.held r) → (c : ℕ) → IsContiguous i.held (least i.consumers) c → MatchOption o ((s : Placed) → Among s i.held → s.at < c) (IsNextStart i.held c)
-next_start i r o k h c end = subst (λ q. MatchOption o ((s : Placed) → Among s i.held → s.at < q) (IsNextStart i.held q)) (sym (one_end i.held (least i.consumers) c r end (contiguous i r k))) h
+pub rebuilt_unit : (i : Image) (r : ℕ) → IsImage i r → r % 32 ≡ 0
+rebuilt_unit i r k =
+    let least_behind : IsBehind i.held i.join r (least i.consumers) = all_least (IsBehind i.held i.join r) i.consumers k.count.0 k.behind in
+    let f = chain_span (least i.consumers) r least_behind.reached.read least_behind.reached.chain in
+    omega (arith, f.1, least_behind.unit)
+
+-- no frame lies on both sides of a position that a consumer reached
+pub parted : (i : Image) (r m : ℕ) → IsImage i r → IsBehind i.held i.join r m → (t : Placed) → Among t i.held → t.at < m → end_of t ≤ m
+parted i r m k b t a l = ahead b.reached.read b.reached.chain b.reached.among
+  where
+    full_t : 0 < covered t
+    full_t = all_at (λ (x : Placed). 0 < covered x) t i.held (full i r k) a
+
+    ahead : (read : List Placed) → Chain m r read → AllAmong i.held read → end_of t ≤ m
+    ahead [] c all =
+        let same : r ≡ m = c in
+        let from : least i.consumers ≤ t.at = at_least (least i.consumers) i.held t k.order a in
+        let way = reached i r k in
+        let ends : end_of t ≤ r = not_inside (least i.consumers) i.held way.read (least i.consumers) r t k.order (full i r k) way.chain way.among a from (omega arith) in
+        omega arith
+    ahead (s ∷ ss) c all =
+        let at : s.at ≡ m = c.0 in
+        let full_s : 0 < covered s = all_at (λ (x : Placed). 0 < covered x) s i.held (full i r k) all.0 in
+        ⊎_elim
+        (λ (e : s ≡ t). let same : s.at ≡ t.at = ap (λ (x : Placed). x.at) e in absurd (omega arith))
+        (λ (o : (end_of s ≤ t.at) ⊎ (end_of t ≤ s.at)). ⊎_elim (λ (h : end_of s ≤ t.at). absurd (omega arith)) (λ (h : end_of t ≤ s.at). omega arith) o)
+        (apart (least i.consumers) i.held s t k.order all.0 a)
 
 -- at one start one frame is held
 pub one_there : (i : Image) (r : ℕ) (s t : Placed) → IsImage i r → Among s i.held → Among t i.held → s.at ≡ t.at → s ≡ t
@@ -102,6 +110,9 @@ one_there i r s t k a b e =
     ⊎_elim (λ same. same) (λ past. ⊎_elim (λ l. absurd (omega (arith, l, e, some_s))) (λ l. absurd (omega (arith, l, e, some_t))) past) (apart (least i.consumers) i.held s t k.order a b)
 
 -- ---- it holds again
+
+pub least_same : (n join : ℕ) → 0 < n → least (replicate n join) ≡ join
+least_same n join some = all_least (λ q. q ≡ join) (replicate n join) (omega (arith, length-replicate {A = ℕ} n join)) (all_replicate (λ q. q ≡ join) n join refl)
 
 pub opened : (g : Geometry) (join window n : ℕ) → IsGeometry g → IsJoin g join → IsWindow g.term_length g.mtu window → IsCount n → IsImage (record { geometry = g; join = join; window = window; held = []; high = join; consumers = replicate n join }) join
 opened g join window n legal joined wide count =
@@ -114,12 +125,13 @@ opened g join window n legal joined wide count =
       fit = tt;
       mark = omega arith;
       high = joined.within;
-      behind = all_replicate (IsBehind [] join join) n join (record { joined = omega arith; reached = reached_here [] join });
+      near = omega (arith, least_same n join count.0);
+      behind = all_replicate (IsBehind [] join join) n join (record { unit = joined.unit; joined = omega arith; reached = reached_here [] join });
       stops = λ h. absurd h.1;
     }
 
-pub beaten : (i : Image) (r p : ℕ) → IsImage i r → i.high < p → p ≤ max_position i.geometry → IsImage (record i { high = p }) r
-beaten i r p k above low =
+pub beaten : (i : Image) (r p : ℕ) → IsImage i r → i.high < p → p ≤ max_position i.geometry → p ≤ least i.consumers + 2 * i.geometry.term_length → IsImage (record i { high = p }) r
+beaten i r p k above low close =
     let m : r ≤ i.high = k.mark in
     record {
       geometry = k.geometry;
@@ -130,6 +142,7 @@ beaten i r p k above low =
       fit = all_weaker (IsFit i.geometry.term_length i.high) (IsFit i.geometry.term_length p) (λ s f. let e : end_of s ≤ i.high = f.marked in record { unit = f.unit; long = f.long; in_term = f.in_term; marked = omega arith }) i.held k.fit;
       mark = omega arith;
       high = low;
+      near = close;
       behind = k.behind;
       stops = k.stops;
     }
@@ -157,19 +170,50 @@ stored i r next s k may run =
       fit = fit;
       mark = chain_marked (put s i.held) run.reached.read r next top (omega arith) (all_weaker (IsFit i.geometry.term_length top) (λ t. end_of t ≤ top) (λ t f. f.marked) (put s i.held) fit) run.reached.chain run.reached.among;
       high = omega arith;
-      behind = all_weaker (IsBehind i.held i.join r) (IsBehind (put s i.held) i.join next) (λ p b. record { joined = b.joined; reached = passed_along (put s i.held) p r next run.reached.read (passed_more i.held (put s i.held) (λ t a. put_among s t i.held (inr a)) p r b.reached) run.reached.chain run.reached.among }) i.consumers k.behind;
+      near = omega (arith, may.near, k.near);
+      behind = all_weaker (IsBehind i.held i.join r) (IsBehind (put s i.held) i.join next) (λ p b. record { unit = b.unit; joined = b.joined; reached = passed_along (put s i.held) p r next run.reached.read (passed_more i.held (put s i.held) (λ t a. put_among s t i.held (inr a)) p r b.reached) run.reached.chain run.reached.among }) i.consumers k.behind;
       stops = run.stops;
+    }
+
+-- the least consumer doesn't go back
+pub risen : (i : Image) (consumer end : ℕ) → IsCount (length i.consumers) → consumer < length i.consumers → slice_index i.consumers consumer ≤ end → least i.consumers ≤ least (slice_set i.consumers consumer end)
+risen i consumer end count l up =
+    all_least (λ q. least i.consumers ≤ q) (slice_set i.consumers consumer end) (omega (arith, length-set i.consumers consumer end, count.0))
+    (all_set (λ q. least i.consumers ≤ q) i.consumers consumer end (let low : least i.consumers ≤ slice_index i.consumers consumer = all_index (λ q. least i.consumers ≤ q) i.consumers consumer l (least_each i.consumers) in omega arith) (least_each i.consumers))
+
+-- each consumer, after one has moved past a frame, stands where frames lead on
+moved_behind : (i : Image) (r consumer : ℕ) (s : Placed) → IsImage i r → consumer < length i.consumers → Among s i.held → s.at ≡ slice_index i.consumers consumer → AllByRecursion (IsBehind i.held i.join r) (slice_set i.consumers consumer (end_of s))
+moved_behind i r consumer s k l a e =
+    let was : IsBehind i.held i.join r (slice_index i.consumers consumer) = all_index (IsBehind i.held i.join r) i.consumers consumer l k.behind in
+    let at : IsBehind i.held i.join r s.at = subst (IsBehind i.held i.join r) (sym e) was in
+    let joined : i.join ≤ s.at = at.joined in
+    let fit : IsFit i.geometry.term_length i.high s = all_at (IsFit i.geometry.term_length i.high) s i.held k.fit a in
+    let is : IsBehind i.held i.join r (end_of s) = record { unit = omega (arith, fit.unit); joined = omega arith; reached = reached_tail (least i.consumers) i.held s r k.order (full i r k) a (λ d. k.stops (s, a, sym d)) at.reached } in
+    all_set (IsBehind i.held i.join r) i.consumers consumer (end_of s) is k.behind
+
+-- the frames below the least consumer may then be forgotten
+pub may_forget : (i : Image) (r consumer : ℕ) (s : Placed) (ring : Ring) → IsKept i r ring → ring.frames ≡ i.held → consumer < length i.consumers → Among s i.held → s.at ≡ slice_index i.consumers consumer → MayForget ring (least (slice_set i.consumers consumer (end_of s)))
+may_forget i r consumer s ring kept same l a e =
+    let k : IsImage i r = kept.image in
+    let cs : List ℕ = slice_set i.consumers consumer (end_of s) in
+    let some : 0 < length cs = omega (arith, length-set i.consumers consumer (end_of s), k.count.0) in
+    let b : IsBehind i.held i.join r (least cs) = all_least (IsBehind i.held i.join r) cs some (moved_behind i r consumer s k l a e) in
+    let reach : least cs ≤ r = reached_le i.held (least cs) r b.reached in
+    let mark : r ≤ i.high = k.mark in
+    let near : i.high ≤ least i.consumers + 2 * i.geometry.term_length = k.near in
+    let up : least i.consumers ≤ least cs = risen i consumer (end_of s) k.count l (omega arith) in
+    record {
+      unit = b.unit;
+      from = omega (arith, kept.low);
+      near = omega (arith, kept.low, kept.term);
+      parted = λ t m h. parted i r (least cs) k b t (subst (Among t) same m) h;
     }
 
 pub moved : (i : Image) (r consumer : ℕ) (s : Placed) → IsImage i r → consumer < length i.consumers → Among s i.held → s.at ≡ slice_index i.consumers consumer → IsImage (with_consumer i consumer (end_of s)) r
 moved i r consumer s k l a e =
     let cs : List ℕ = slice_set i.consumers consumer (end_of s) in
     let m : ℕ = least cs in
-    let was : IsBehind i.held i.join r (slice_index i.consumers consumer) = all_index (IsBehind i.held i.join r) i.consumers consumer l k.behind in
-    let at : IsBehind i.held i.join r s.at = subst (IsBehind i.held i.join r) (sym e) was in
-    let joined : i.join ≤ s.at = at.joined in
-    let is : IsBehind i.held i.join r (end_of s) = record { joined = omega arith; reached = reached_tail (least i.consumers) i.held s r k.order (full i r k) a (λ d. k.stops (s, a, sym d)) at.reached } in
-    let all : AllByRecursion (IsBehind i.held i.join r) cs = all_set (IsBehind i.held i.join r) i.consumers consumer (end_of s) is k.behind in
+    let all : AllByRecursion (IsBehind i.held i.join r) cs = moved_behind i r consumer s k l a e in
     record {
       geometry = k.geometry;
       joined = k.joined;
@@ -179,7 +223,8 @@ moved i r consumer s k l a e =
       fit = all_held (IsFit i.geometry.term_length i.high) m i.held k.fit;
       mark = k.mark;
       high = k.high;
-      behind = all_from (IsBehind (held m i.held) i.join r) cs (λ p b. let old : IsBehind i.held i.join r p = all_at (IsBehind i.held i.join r) p cs all b in record { joined = old.joined; reached = reached_held i.held m p r (all_at (λ q. m ≤ q) p cs (least_each cs) b) old.reached });
+      near = omega (arith, k.near, risen i consumer (end_of s) k.count l (omega arith));
+      behind = all_from (IsBehind (held m i.held) i.join r) cs (λ p b. let old : IsBehind i.held i.join r p = all_at (IsBehind i.held i.join r) p cs all b in record { unit = old.unit; joined = old.joined; reached = reached_held i.held m p r (all_at (λ q. m ≤ q) p cs (least_each cs) b) old.reached });
       stops = λ h. k.stops (h.0, (among_held m i.held h.0 h.1).0, h.2);
     }
 
@@ -201,7 +246,9 @@ may_hold i r s k unit long e =
     let some : 65536 ≤ g.term_length = k.geometry.term.least in
     let low : end_of s ≤ max_position g = ends_within g.term_length s.at (covered s) (omega arith) in_term (omega arith) in
     let small : max_position g ≤ 2 ^ 55 = greatest g k.geometry in
-    record { unit = unit; long = long; in_term = in_term; from = from; low = low; small = omega arith; free = f.4 }
+    let wide : i.window ≤ g.term_length / 2 = k.window.greatest in
+    let ends : end_of s ≤ m + 2 * g.term_length = omega arith in
+    record { unit = unit; long = long; in_term = in_term; from = from; low = low; small = omega arith; near = ends; free = f.4 }
   where
     head_within : (b : Bool) → s.at + 32 ≤ cond b (s.at + 32) (end_of s)
     head_within true = omega arith

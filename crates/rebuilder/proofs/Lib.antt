@@ -1,7 +1,11 @@
 pub mod Lists
 pub mod Order
-pub mod Entries
 pub mod Reach
 pub mod Kept
 pub mod Fronts
 pub mod Units
+pub mod Listed
+pub mod Places
+pub mod Spelled
+pub mod Rings
+pub mod Finds

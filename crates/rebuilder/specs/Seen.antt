@@ -1,9 +1,8 @@
 -- What a contract sees of an image, and what holds of each image.
-use Rattle.std.specs.Prelude.{◌≡◌, ℕ, ◌+◌, ◌-◌, ◌%◌, ◌^◌, ◌<◌, ◌≤◌, Bool, false, ℤ, pos, negsuc, List, [], ◌∷◌, map, length, min, max, nat_lt, slice_set}
+use Rattle.std.specs.Prelude.{◌≡◌, ℕ, ◌+◌, ◌-◌, ◌*◌, ◌%◌, ◌^◌, ◌<◌, ◌≤◌, Bool, false, ℤ, pos, negsuc, List, [], ◌∷◌, map, length, min, max, nat_lt, slice_set}
 use Rattle.std.specs.List.{AllByRecursion, fold, list_any}
 use Rattle.theory.specs.Position.{Geometry, IsGeometry, max_position}
 use Rattle.theory.specs.Placed.{Among, IsReached, Placed, covered, end_of, frame_length, payload_of}
-use Rattle.theory.specs.Units.{HasUnit}
 use Rattle.theory.specs.Insert.{head_of, overlaps}
 use Rattle.theory.specs.Image.{IsWindow, is_accepted}
 use Rattle.theory.specs.ImageLaws.{held}
@@ -11,6 +10,7 @@ use Rattle.block.specs.Bytes.{with_front}
 use Rattle.position.specs.declared.head.FrameHead.{FrameHead}
 use Rattle.rebuilder.specs.Held.{AreInOrder, StartsAt, put}
 use Rattle.rebuilder.specs.Kinds.{head_at}
+use Rattle.rebuilder.specs.Ring.{Ring}
 
 pub record Image : Type 0 where
   pub geometry : Geometry
@@ -54,6 +54,7 @@ pub record IsFit (term_length high : ℕ) (s : Placed) : Type 0 where
 
 -- a consumer stands at or above the join, and held frames lead from there to the rebuilt position
 pub record IsBehind (frames : List Placed) (join rebuilt p : ℕ) : Type 0 where
+  pub unit : p % 32 ≡ 0
   pub joined : join ≤ p
   pub reached : IsReached frames p rebuilt
 
@@ -66,8 +67,15 @@ pub record IsImage (i : Image) (rebuilt : ℕ) : Type 0 where
   pub fit : AllByRecursion (IsFit i.geometry.term_length i.high) i.held
   pub mark : rebuilt ≤ i.high
   pub high : i.high ≤ max_position i.geometry
+  pub near : i.high ≤ least i.consumers + 2 * i.geometry.term_length
   pub behind : AllByRecursion (IsBehind i.held i.join rebuilt) i.consumers
   pub stops : StartsAt i.held rebuilt → ⊥
+
+-- its frames stand in a ring of its terms, from the least consumer on
+pub record IsKept (i : Image) (rebuilt : ℕ) (ring : Ring) : Type 0 where
+  pub image : IsImage i rebuilt
+  pub term : ring.term_length ≡ i.geometry.term_length
+  pub low : ring.low ≡ least i.consumers
 
 -- an image that is kept may hold this frame too
 pub record MayHold (i : Image) (s : Placed) : Type 0 where
@@ -77,13 +85,8 @@ pub record MayHold (i : Image) (s : Placed) : Type 0 where
   pub from : least i.consumers ≤ s.at
   pub low : end_of s ≤ max_position i.geometry
   pub small : end_of s ≤ 2 ^ 56
+  pub near : end_of s ≤ least i.consumers + 2 * i.geometry.term_length
   pub free : list_any (overlaps (head_of s)) (map head_of i.held) ≡ false
-
--- q is the least unit from c on, and above it
-pub record IsNextUnit (frames : List Placed) (c q : ℕ) : Type 0 where
-  pub above : c < q
-  pub unit : HasUnit frames q
-  pub empty : (p : ℕ) → c ≤ p → p < q → HasUnit frames p → ⊥
 
 -- whether a heartbeat at a position, which may be negative, is accepted
 abbrev pub accepts : Geometry → ℕ → ℕ → ℤ → Bool

@@ -1,4 +1,4 @@
-ghost use Rattle.std.specs.Prelude.{◌≡◌, ◌↔◌, ◌<◌, ◌≤◌, [], length, map, replicate, slice_index, IfOk, IsErrOf};
+ghost use Rattle.std.specs.Prelude.{◌≡◌, ◌↔◌, ◌+◌, ◌*◌, ◌%◌, ◌<◌, ◌≤◌, [], length, map, replicate, slice_index, IfOk, IsErrOf};
 ghost use Rattle.std.specs.List.{AllByRecursion};
 ghost use Rattle.theory.specs.Position.{IsGeometry, max_position};
 ghost use Rattle.theory.specs.Image.{IsWindow};
@@ -19,7 +19,6 @@ pub const CONSUMERS: usize = 8;
 /// What was rebuilt of one stream from a join on.
 #[derive(Drop)]
 pub struct Image {
-    pub(crate) alloc: Global,
     pub(crate) geometry: Geometry,
     pub(crate) join: u64,
     pub(crate) window: u32,
@@ -33,14 +32,14 @@ pub struct Image {
 }
 
 impl Model for Image {
-    ghost use Rattle.rebuilder.specs.Seen.{IsImage};
+    ghost use Rattle.rebuilder.specs.Seen.{IsKept};
     ghost use Rattle.rebuilder.specs.Seen as seen;
 
     ghost Value = { seen.Image };
 
-    ghost view = { λ i. record { geometry = i.geometry; join = i.join; window = i.window; held = i.frames; high = i.high_water; consumers = i.consumers.items } };
+    ghost view = { λ i. record { geometry = i.geometry; join = i.join; window = i.window; held = i.frames.frames; high = i.high_water; consumers = i.consumers.items } };
 
-    ghost invariant = { λ i. IsImage (record { geometry = i.geometry; join = i.join; window = i.window; held = i.frames; high = i.high_water; consumers = i.consumers.items }) i.rebuilt };
+    ghost invariant = { λ i. IsKept (record { geometry = i.geometry; join = i.join; window = i.window; held = i.frames.frames; high = i.high_water; consumers = i.consumers.items }) i.rebuilt i.frames };
 }
 
 /// The least of some positions.
@@ -56,8 +55,8 @@ pub(crate) fn least_of(positions: &[u64]) -> u64
 }
 
 impl Image {
-    /// An image that holds nothing, with all its consumers at the join. It asks for memory once, and only where the
-    /// arguments are legal.
+    /// An image that holds nothing, with all its consumers at the join. It takes all the memory that is ever needed, and
+    /// asks for it only where the arguments are legal.
     pub fn open(
         alloc: Global,
         geometry: Geometry,
@@ -84,15 +83,17 @@ impl Image {
         let Ok(consumers) = vec![in alloc; join; consumers] else {
             return Err(ImageError::Memory);
         };
+        let Ok(frames) = HeldFrames::new(alloc, geometry.term_length(), join) else {
+            return Err(ImageError::Memory);
+        };
         Ok(Image {
-            alloc,
             geometry,
             join,
             window,
             rebuilt: join,
             high_water: join,
             consumers,
-            frames: HeldFrames::new(alloc),
+            frames,
         })
     }
 
@@ -138,6 +139,7 @@ impl Image {
     /// The end of what was stored without a gap. No consumer is above it, and a frame is held at each that is below.
     pub fn rebuilt(&self) -> u64
         ensures value { IsContiguous self.now.held (least self.now.consumers) result }
+        ensures unit { result % 32 ≡ 0 }
         ensures marked { result ≤ self.now.high }
         ensures behind { AllByRecursion (λ p. (self.now.join ≤ p) × (p ≤ result)) self.now.consumers }
         ensures waiting { AllByRecursion (λ p. p < result → StartsAt self.now.held p) self.now.consumers }
@@ -149,6 +151,7 @@ impl Image {
     pub fn high_water(&self) -> u64
         ensures value { result ≡ self.now.high }
         ensures low { result ≤ max_position self.now.geometry }
+        ensures near { result ≤ least self.now.consumers + 2 * self.now.geometry.term_length }
     {
         self.high_water
     }

@@ -1,4 +1,4 @@
-ghost use Rattle.std.specs.Prelude.{◌≡◌, ◌≤◌, ◌<◌, ◌^◌, ℕ, false, true, pos, map, IfOk, OnOk, OnErr};
+ghost use Rattle.std.specs.Prelude.{◌≡◌, ◌≤◌, ◌<◌, ◌%◌, ◌^◌, ℕ, false, true, pos, map};
 ghost use Rattle.theory.specs.Insert.{head_of, insert_answer, insert_answer_at};
 ghost use Rattle.theory.specs.Placed.{frame_length, is_padding};
 ghost use Rattle.theory.specs.Position.{aligned};
@@ -9,11 +9,10 @@ ghost use Rattle.rebuilder.specs.Seen.{MayHold, accepts, crosses, least, with_fr
 ghost use Rattle.rebuilder.specs.Stored.{IsOfStream, IsUnit, meant, stream_frame};
 
 use crate::answer::Insert;
-use crate::held::{Held, measure};
+use crate::held::{covered, measure};
 use crate::image::Image;
 use frames::Frame;
 use position::{FrameKind, align32};
-use std::alloc::AllocError;
 
 impl Image {
     /// Whether the frame would pass the end of its term, whose offsets are counted from 0 up.
@@ -28,6 +27,8 @@ impl Image {
     /// What becomes of a frame at a position from 0 on that doesn't pass the end of its term.
     fn judge_inside(&self, start: u64, kind: FrameKind, frame_length: u32) -> Insert
         requires start { start < 2 ^ 63 }
+        requires unit { start % 32 ≡ 0 }
+        requires long { 32 ≤ frame_length }
         requires length { frame_length ≤ 2 ^ 24 }
         requires inside { crosses self.now.geometry.term_length (pos start) (aligned frame_length) ≡ false }
         ensures { meant result ≡ insert_answer self.now.geometry (map head_of self.now.held) (least self.now.consumers) self.now.window (record { at = start; padding = is_pad kind; length = frame_length }) }
@@ -36,9 +37,9 @@ impl Image {
         if start < least {
             return Insert::Below;
         }
-        let end = start + u64::from(align32(frame_length));
+        let size = align32(frame_length);
         let needed = match kind {
-            FrameKind::Data => end,
+            FrameKind::Data => start + u64::from(size),
             FrameKind::Pad => start + 32,
         };
         let reach = (least + u64::from(self.window)).min(self.geometry.max_position());
@@ -46,7 +47,7 @@ impl Image {
             Insert::OverWindow
         } else if self.frames.has_like(start, kind, frame_length) {
             Insert::Duplicate
-        } else if self.frames.meets(start, end) {
+        } else if self.frames.meets(start, size) {
             Insert::Overlap
         } else {
             Insert::Stored
@@ -55,7 +56,9 @@ impl Image {
 
     /// What becomes of a frame.
     fn judge(&self, position: i64, kind: FrameKind, frame_length: u32) -> Insert
-        requires { frame_length ≤ 2 ^ 24 }
+        requires unit { IsUnit position }
+        requires long { 32 ≤ frame_length }
+        requires length { frame_length ≤ 2 ^ 24 }
         ensures { meant result ≡ insert_answer_at self.now.geometry (map head_of self.now.held) (least self.now.consumers) self.now.window position (is_pad kind) frame_length }
     {
         if self.crosses_term(position, align32(frame_length)) {
@@ -68,38 +71,35 @@ impl Image {
     }
 
     /// Holds one more frame.
-    fn store(&mut self, start: u64, held: Held) -> Result<(), AllocError>
-        requires { MayHold self.old (record { at = start; frame = held }) }
-        ensures stored { OnOk result (self.new ≡ with_frame self.old (record { at = start; frame = held })) }
-        ensures refused { OnErr result (self.new ≡ self.old) }
+    fn store(&mut self, start: u64, frame: &Frame<'_>)
+        requires frame { IsFrame (wire frame.now) }
+        requires of_stream { IsOfStream frame.now }
+        requires may { MayHold self.old (record { at = start; frame = stream_frame frame.now }) }
+        ensures { self.new ≡ with_frame self.old (record { at = start; frame = stream_frame frame.now }) }
     {
-        let end = start + held.covered();
-        self.frames.put(start, held)?;
+        let end = start + u64::from(covered(frame));
+        self.frames.put(start, frame);
         self.high_water = self.high_water.max(end);
         self.rebuilt = self.frames.run_end(self.rebuilt);
-        Ok(())
     }
 
     /// Takes a DATA frame or a padding at a position, which is below every image where it is negative. The answer is
-    /// the first that applies, and the frame is held from now on only where it is [`Insert::Stored`]. At an error
-    /// memory was refused for a frame that would be stored: nothing has changed, and it may be handed in again.
-    pub fn insert(&mut self, position: i64, frame: &Frame<'_>) -> Result<Insert, AllocError>
+    /// the first that applies, and the frame is held from now on only where it is [`Insert::Stored`]. It takes no memory.
+    pub fn insert(&mut self, position: i64, frame: &Frame<'_>) -> Insert
         requires unit { IsUnit position }
         requires frame { IsFrame (wire frame.now) }
         requires of_stream { IsOfStream frame.now }
-        ensures answer { IfOk result (λ a. meant a ≡ insert_answer_at self.old.geometry (map head_of self.old.held) (least self.old.consumers) self.old.window position (is_padding (stream_frame frame.now)) (frame_length (stream_frame frame.now))) }
-        ensures stored { IfOk result (λ a. a ≡ Insert.Stored → (p : ℕ) → position ≡ pos p → self.new ≡ with_frame self.old (record { at = p; frame = stream_frame frame.now })) }
-        ensures others { IfOk result (λ a. (a ≡ Insert.Stored → ⊥) → self.new ≡ self.old) }
-        ensures wanted { OnErr result (meant Insert.Stored ≡ insert_answer_at self.old.geometry (map head_of self.old.held) (least self.old.consumers) self.old.window position (is_padding (stream_frame frame.now)) (frame_length (stream_frame frame.now))) }
-        ensures refused { OnErr result (self.new ≡ self.old) }
+        ensures answer { meant result ≡ insert_answer_at self.old.geometry (map head_of self.old.held) (least self.old.consumers) self.old.window position (is_padding (stream_frame frame.now)) (frame_length (stream_frame frame.now)) }
+        ensures stored { result ≡ Insert.Stored → (p : ℕ) → position ≡ pos p → self.new ≡ with_frame self.old (record { at = p; frame = stream_frame frame.now }) }
+        ensures others { (result ≡ Insert.Stored → ⊥) → self.new ≡ self.old }
     {
+        let _ = &self.frames;
         let (kind, frame_length) = measure(frame);
         let answer = self.judge(position, kind, frame_length);
         if answer == Insert::Stored {
-            let held = Held::new(self.alloc, frame)?;
-            self.store(position as u64, held)?;
+            self.store(position as u64, frame);
         }
-        Ok(answer)
+        answer
     }
 
     /// Takes a sender's position, a multiple of 32. It is accepted, and raises the high-water mark, if it is above the

@@ -1,13 +1,16 @@
-ghost use Rattle.std.specs.Prelude.{◌≡◌, ◌≤◌, ◌<◌, ◌++◌, ℕ, drop, length, slice_index, IfSome, MatchOption};
+ghost use Rattle.std.specs.Prelude.{◌≡◌, ◌+◌, ◌*◌, ◌/◌, ◌^◌, ◌≤◌, ◌<◌, ◌++◌, drop, length, slice_index, IfSome, MatchOption};
 ghost use Rattle.position.specs.declared.head.FrameKind.TheVariants.{Data};
 ghost use Rattle.block.specs.Bytes.{with_front};
 ghost use Rattle.theory.specs.Placed.{Among, Placed, end_of, payload_of};
-ghost use Rattle.theory.specs.Units.{HasUnit, IsContiguous};
-ghost use Rattle.rebuilder.specs.Held.{IsNextStart, StartsAt};
+ghost use Rattle.theory.specs.Units.{IsContiguous};
+ghost use Rattle.rebuilder.specs.Held.{StartsAt};
 ghost use Rattle.rebuilder.specs.Kinds.{head_at};
-ghost use Rattle.rebuilder.specs.Seen.{IsNextUnit, IsShown, least, with_consumer};
+ghost use Rattle.rebuilder.specs.Ring.{TellsUnits};
+ghost use Rattle.rebuilder.specs.Seen.{IsShown, least, with_consumer};
 
+use crate::held::{covered, head, payload};
 use crate::image::{Image, least_of};
+use crate::steps::Steps;
 use block::Block;
 use position::FrameHead;
 
@@ -40,9 +43,9 @@ impl Image {
     {
         let start = self.consumers[consumer];
         match self.frames.get(start) {
-            Some(held) => {
-                write_front(block, held.payload());
-                Some(held.head(start))
+            Some(frame) => {
+                write_front(block, payload(&frame));
+                Some(head(start, &frame))
             }
             None => None,
         }
@@ -57,20 +60,25 @@ impl Image {
         ensures moved { self.new ≡ with_consumer self.old consumer result }
     {
         let start = self.consumers[consumer];
-        let Some(held) = self.frames.get(start) else {
+        let Some(frame) = self.frames.get(start) else {
             unreachable!()
         };
-        let end = start + held.covered();
+        let end = start + u64::from(covered(&frame));
         self.consumers[consumer] = end;
         self.frames.forget_below(least_of(&self.consumers));
         end
     }
 
-    /// The least position above the rebuilt one at which something is held.
-    pub fn next_held(&self) -> Option<u64>
-        ensures unit { (c : ℕ) → IsContiguous self.now.held (least self.now.consumers) c → MatchOption result ((p : ℕ) → c ≤ p → HasUnit self.now.held p → ⊥) (IsNextUnit self.now.held c) }
-        ensures start { (c : ℕ) → IsContiguous self.now.held (least self.now.consumers) c → MatchOption result ((s : Placed) → Among s self.now.held → s.at < c) (IsNextStart self.now.held c) }
+    /// A word of the bits that say which units are held, 64 in a word: bit `p % 2048 / 32` of word `p % (3 * T) / 2048` is
+    /// set exactly where the unit at p is held, for each p from the least consumer on, below three terms T more. Each call
+    /// is a look that `steps` counts.
+    pub fn held_word(&self, index: usize, steps: &mut Steps) -> u64
+        requires index { index < 3 * self.now.geometry.term_length / 2048 }
+        requires few { steps.old < 2 ^ 63 }
+        ensures units { TellsUnits self.now.geometry.term_length (least self.now.consumers) self.now.held index result }
+        ensures counted { steps.new ≡ steps.old + 1 }
     {
-        self.frames.next_from(self.rebuilt)
+        steps.add_one();
+        self.frames.word(index)
     }
 }

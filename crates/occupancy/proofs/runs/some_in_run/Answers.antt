@@ -7,7 +7,7 @@ returns-then-words-at-ne0 c =
     let at : ℕ = c.loop-at.at in
     let count : ℕ = c.min-count.result in
     let short : at % 64 + count ≤ 64 = omega arith in
-    let here = some_here c.args.words.now at count c.mask.result (omega (arith, c.type_inv.words)) short c.mask.ensures.outside c.if-words-at-ne0.true in
+    let here = some_here c.args.words.now at count c.mask.result (omega arith) short c.mask.ensures.outside c.if-words-at-ne0.true in
     (λ t. widened c.args.words.now c.args.from at (at + count) c.args.to c.loop-at.invariant.from (omega arith) here, λ h. search rules)
 
 pub loop-at-preserved : goal.loop-at-preserved

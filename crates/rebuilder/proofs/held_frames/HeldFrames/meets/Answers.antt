@@ -1,24 +1,26 @@
-use Rattle.std.proofs.Common.{◌≡◌, List, map, nat_lt, ◌-◌, sym, subst, ap, ◌∙◌}
+use Rattle.std.proofs.Common.{◌≡◌, ◌+◌, ◌*◌, ◌/◌, ◌%◌, ◌≤◌, map, sym, ap, ◌∙◌, subst, arith}
+use Rattle.std.specs.Prelude.{IsTrue, ◌↔◌}
 use Rattle.std.specs.List.{list_any}
-use Rattle.theory.specs.Placed.{Placed}
 use Rattle.theory.specs.Insert.{head_of}
-use Rattle.rebuilder.specs.Held.{AreLaid, all_placed, placed}
-use Rattle.rebuilder.proofs.Entries.{meets_head, meets_none, meets_last, last_below, none_below, found_among, from_less}
+use Rattle.occupancy.specs.Bits.{HoldsSome}
+use Rattle.rebuilder.specs.Ring.{IsPiece, Ring, frames_in}
+use Rattle.rebuilder.proofs.Finds.{meets_head, meets_is}
+use Rattle.rebuilder.proofs.Places.{in_ring}
 use Rattle.rebuilder.proofs.held_frames.HeldFrames.meets.Goals as goal
 
-pub returns-in-Some : goal.returns-in-Some
-returns-in-Some c =
-    let m = c.self.inside.frames in
-    let r = c.range.ensures.in_range tt in
-    let entry = r.3 _ _ c.in-Some.ensures.steps in
-    let laid : AreLaid (all_placed m.entries) = subst AreLaid (sym c.self.view_is) c.requires in
-    let met = meets_last c.args.start c.args.end (all_placed m.entries) (placed (c.in-Some.at.now, c.in-Some.held.now)) laid (found_among _ _ m.entries entry.1) (from_less _ _ entry.0.1) (last_below m c.args.end (c.in-Some.at.now, c.in-Some.held.now) (r.4 _ _ c.in-Some.ensures.steps)) in
-    let same = ap (λ n. nat_lt (c.args.start - c.in-Some.at.now) n) c.covered.ensures.value in
-    subst (λ (v : List Placed). nat_lt c.saturating_sub.result c.covered.result ≡ list_any (meets_head c.args.start c.args.end) (map head_of v)) c.self.view_is (ap (λ n. nat_lt n c.covered.result) c.saturating_sub.ensures ∙ same ∙ met)
+pub holds_some-requires-clause-within : goal.holds_some-requires-clause-within
+holds_some-requires-clause-within c =
+    let h = c.self.inside in
+    let is : IsPiece (record { term_length = h.term_length; low = h.low; frames = frames_in h.term_length h.low h.bytes h.starts }) c.args.start c.args.size = subst (λ (r : Ring). IsPiece r c.args.start c.args.size) (sym c.self.view_is) c.requires in
+    let some : 65536 ≤ h.term_length = c.self.invariant.some in
+    let fits : c.args.start % (3 * h.term_length) + c.args.size ≤ 3 * h.term_length = in_ring h.term_length c.args.start c.args.size (omega arith) is.in_term in
+    let place : c.place-unit.result ≡ c.args.start % (3 * h.term_length) = c.place-unit.ensures ∙ ap (λ (r : Ring). c.args.start % (3 * r.term_length)) (sym c.self.view_is) in
+    omega (arith, place, c.self.invariant.unit_words, is.whole)
 
-pub returns-in-None : goal.returns-in-None
-returns-in-None c =
-    let m = c.self.inside.frames in
-    let r = c.range.ensures.in_range tt in
-    let met = meets_none c.args.start c.args.end (all_placed m.entries) (none_below m c.args.end (r.5 c.in-None.ensures.steps.0)) in
-    met ∙ ap (λ (v : List Placed). list_any (meets_head c.args.start c.args.end) (map head_of v)) c.self.view_is
+pub returns : goal.returns
+returns c =
+    let h = c.self.inside in
+    let is : IsPiece (record { term_length = h.term_length; low = h.low; frames = frames_in h.term_length h.low h.bytes h.starts }) c.args.start c.args.size = subst (λ (r : Ring). IsPiece r c.args.start c.args.size) (sym c.self.view_is) c.requires in
+    let place : c.place-unit.result ≡ c.args.start % (3 * h.term_length) = c.place-unit.ensures ∙ ap (λ (r : Ring). c.args.start % (3 * r.term_length)) (sym c.self.view_is) in
+    let said : IsTrue c.holds_some.result ↔ HoldsSome h.units (c.args.start % (3 * h.term_length) / 32) (c.args.start % (3 * h.term_length) / 32 + c.args.size / 32) = subst (λ n. IsTrue c.holds_some.result ↔ HoldsSome h.units (n / 32) (n / 32 + c.args.size / 32)) place c.holds_some.ensures in
+    subst (λ (r : Ring). c.holds_some.result ≡ list_any (meets_head c.args.start (c.args.start + c.args.size)) (map head_of r.frames)) c.self.view_is (meets_is h.term_length h.low h.bytes h.starts h.units c.args.start c.args.size c.holds_some.result c.self.invariant is said)

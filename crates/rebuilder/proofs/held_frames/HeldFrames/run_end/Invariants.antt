@@ -1,9 +1,9 @@
-use Rattle.std.proofs.Common.{◌^◌, ◌-◌}
+use Rattle.std.proofs.Common.{◌≡◌, ◌^◌, ◌-◌, ◌%◌}
 use Rattle.theory.specs.Placed.{IsReached}
 use Rattle.rebuilder.proofs.held_frames.HeldFrames.run_end.Given as goal
 
-abbrev pub invariant-loop-held : goal.invariant-loop-held
-invariant-loop-held l = IsReached l.self l.position l.end
+abbrev pub invariant-loop-frame : goal.invariant-loop-frame
+invariant-loop-frame l = record { unit : l.end % 32 ≡ 0; reached : IsReached l.self.frames l.position l.end }
 
-abbrev pub decreases-loop-held : goal.decreases-loop-held
-decreases-loop-held l = 2 ^ 56 - l.end
+abbrev pub decreases-loop-frame : goal.decreases-loop-frame
+decreases-loop-frame l = 2 ^ 56 - l.end

@@ -3,19 +3,17 @@ use mir.Syntax.{w64}
 use mir.Val.{to_z, of_z}
 use Rattle.std.proofs.Common.{◌≡◌, map, sym, ap, ◌∙◌, subst, rules}
 use Rattle.std.proofs.lemmas.Int.{to_z-of_z}
-use Rattle.theory.specs.Placed.{is_padding, frame_length}
 use Rattle.rebuilder.specs.declared.answer.Insert.TheVariants as answers
 use Rattle.theory.specs.Insert.{head_of, insert_answer_at}
 use Rattle.rebuilder.specs.Kinds.{is_pad}
-use Rattle.rebuilder.specs.Stored.{meant}
+use Rattle.rebuilder.specs.Stored.{meant, stream_frame}
 use Rattle.rebuilder.specs.Seen.{Image, MayHold, least}
 use Rattle.rebuilder.proofs.Kept.{may_store}
 use Rattle.rebuilder.proofs.image.Image.insert.Goals as goal
 
-pub store-requires : goal.store-requires
-store-requires c =
+pub store-requires-clause-may : goal.store-requires-clause-may
+store-requires-clause-may c =
     let stored : c.judge-answer.result ≡ answers.Stored = search rules in
-    let frame = c.in_ok-held.ensures in
     let said = ap (λ (v : Image). insert_answer_at v.geometry (map head_of v.held) (least v.consumers) v.window (to_z w64 (of_z w64 c.args.position)) (is_pad c.measure-kind.result.0) c.measure-kind.result.1) c.self.view_is ∙ sym c.judge-answer.ensures ∙ ap meant stored in
-    let may = may_store _ _ c.args.position _ _ _ c.in_ok-held.held c.self.invariant (to_z-of_z _ c.args.position c.ranges.position) c.requires.unit (c.measure-kind.ensures.kind ∙ ap is_padding (sym frame)) (c.measure-kind.ensures.length ∙ ap frame_length (sym frame)) c.measure-kind.ensures.least said in
-    subst (λ (v : Image). MayHold v (record { at = nat_abs (to_z w64 (of_z w64 c.args.position)); frame = c.in_ok-held.held })) c.self.view_is may
+    let may = may_store _ _ c.args.position _ _ _ (stream_frame c.args.frame.now) c.self.invariant.image (to_z-of_z _ c.args.position c.ranges.position) c.requires.unit c.measure-kind.ensures.kind c.measure-kind.ensures.length c.measure-kind.ensures.least said in
+    subst (λ (v : Image). MayHold v (record { at = nat_abs (to_z w64 (of_z w64 c.args.position)); frame = stream_frame c.args.frame.now })) c.self.view_is may
