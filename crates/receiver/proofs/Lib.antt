@@ -9,3 +9,4 @@ pub mod ShownImages
 pub mod ShownSteps
 pub mod Units
 mod TickRows
+pub mod Together

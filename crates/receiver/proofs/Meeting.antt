@@ -1,6 +1,6 @@
 -- What becomes of a receiver's core, told of the receivers that it shows.
 use Rattle.std.proofs.Common.{◌≡◌, ℕ, ◌<◌, inl, inr, List, [], ◌∷◌, ◌++◌, map, Option, Some, None, refl, sym, ap, ap₂, ◌∙◌, subst}
-use Rattle.std.specs.Prelude.{ℤ, Result, Ok, Err, IfOk, OnErr, Bool, true, false, max, replicate, option_map}
+use Rattle.std.specs.Prelude.{ℤ, Result, Ok, Err, IfOk, Bool, true, false, max, replicate, option_map}
 use Rattle.std.specs.Option.{option_to_list}
 use Rattle.std.proofs.lemmas.Bool.{cond-true, cond-false}
 use Rattle.theory.specs.Position.{Geometry}
@@ -20,9 +20,9 @@ use Rattle.receiver.specs.declared.receiver_core.Outcome.{Outcome}
 use Rattle.receiver.specs.declared.receiver_core.Outcome.TheVariants as outcomes
 use Rattle.frames.specs.Datagrams.{IsDatagramFault}
 use Rattle.frames.specs.declared.fault.FrameError.{FrameError}
-use Rattle.receiver.specs.Receiving.{BreaksAt, BreaksOff, IsOurs, NeedsMemory, StoresFrame, TakesDatagram, WouldOpen, Meets, MeetsAll, MeetsFrame, MeetsHeartbeat, MeetsSetup, Opened, Receiver, asking, at_moment, given_at, is_due, missing, replied, replies, scanned_at, telling, ticked, told_after}
+use Rattle.receiver.specs.Receiving.{IsOurs, TakesDatagram, WouldOpen, Meets, MeetsAll, MeetsFrame, MeetsHeartbeat, MeetsSetup, Opened, Receiver, asking, at_moment, given_at, is_due, missing, replied, replies, scanned_at, telling, ticked, told_after}
 use Rattle.receiver.specs.declared.receiver_core.Replies.{Replies}
-use Rattle.receiver.specs.Representing.{Becomes, Core, HasNoFrame, HearsBeat, Inserts, IsAtEnd, MeetsFirst, PassesFrame, ReadsPast, Represents, RepresentsImage, RepresentsOpened, beaten_at, with_reader}
+use Rattle.receiver.specs.Representing.{Becomes, Core, HasNoFrame, HearsBeat, Inserts, IsAtEnd, PassesFrame, ReadsPast, Represents, RepresentsImage, RepresentsOpened, beaten_at, with_reader}
 use Rattle.receiver.proofs.ShownSteps.{least_shown, opened_shown}
 
 -- ---- whether there is an image
@@ -237,35 +237,10 @@ heard_all items v u w now bytes frames (Ok outs) at spells met = λ r s.
     let a = met (at_moment r now) (subst (λ x. Represents x (at_moment r now)) (sym at) (seen_at v r now s)) in
     (a.0, inl (frames, spells, a.1), a.2)
 
-pub broken_off : {V E : Type 0} (v u w : Core) (now : ℕ) (bytes : List ℕ) (frames : List Wire) (out : Result V E) → u ≡ record v { clock = max v.clock now } → SpellsDatagram frames bytes
-    → OnErr out (Becomes u w (MeetsFirst frames)) → OnErr out (Becomes v w (λ r s. BreaksOff r now bytes s))
-broken_off v u w now bytes frames (Ok outs) at spells met = tt
-broken_off v u w now bytes frames (Err e) at spells met = λ r s.
-    let a = met (at_moment r now) (subst (λ x. Represents x (at_moment r now)) (sym at) (seen_at v r now s)) in
-    (a.0, inr (first (at_moment r now) a.0 a.1), a.2)
-  where
-    first : (r s : Receiver) → MeetsFirst frames r s → BreaksAt r bytes s
-    first r s m = record { taken = m.taken; next = m.next; left = m.left; outs = m.outs; spells = subst (λ ws. SpellsDatagram ws bytes) m.parts spells; met = m.met; needs = m.needs }
-
 pub refused_all : (outs : List Outcome) (v u : Core) (now : ℕ) (bytes : List ℕ) (fault : FrameError) → u ≡ record v { clock = max v.clock now } → IsDatagramFault bytes fault → outs ≡ outcomes.Refused fault ∷ [] → Becomes v u (λ r s. TakesDatagram r now bytes outs s)
 refused_all outs v u now bytes fault at why is = λ r s. (at_moment r now, inr (fault, why, is, refl), subst (λ x. Represents x (at_moment r now)) (sym at) (seen_at v r now s))
 
--- nothing was taken
-pub unchanged : (v : Core) (now : ℕ) (bytes : List ℕ) → Becomes v v (λ r s. BreaksOff r now bytes s)
-unchanged v now bytes = λ r s. (r, inl refl, s)
-
--- what was taken before a frame that needs memory
-pub first_taken : (u w : Core) (frames taken left : List Wire) (next : Wire) (outs : List Outcome) → frames ≡ taken ++ next ∷ left → ((s : Receiver) → Represents w s → NeedsMemory s next) → Becomes u w (λ r s. MeetsAll r taken outs s) → Becomes u w (MeetsFirst frames)
-first_taken u w frames taken left next outs parts needs f = λ r s.
-    let a = f r s in
-    (a.0, record { taken = taken; next = next; left = left; outs = outs; parts = parts; met = a.1; needs = needs a.0 a.2 }, a.2)
-
 -- ---- what needs memory
-
-pub frame_wanted : (v : Core) (i : seen.Image) (h : Header) (f : Frame) → v.image ≡ Some i → ((o : Opened) → RepresentsImage i o → StoresFrame (Some o) h f) → (r : Receiver) → Represents v r → StoresFrame r.image h f
-frame_wanted v i h f some wanted r s =
-    let w = shown_some i v.image r.image some s.image in
-    subst (λ x. StoresFrame x h f) (sym w.is) (wanted w.opened w.shown)
 
 pub setup_wanted : (v : Core) (f : Setup) (g : Geometry) (p : ℕ) → v.image ≡ None → OpensAt f v.window g p → (r : Receiver) → Represents v r → WouldOpen r.image r f
 setup_wanted v f g p none opens r s =

@@ -1,8 +1,7 @@
 -- What the calls of an image promise, told of the images that it shows.
-use Rattle.std.proofs.Common.{◌≡◌, ℕ, ◌+◌, ◌^◌, ◌<◌, ◌≤◌, List, map, length, Bool, true, false, Some, Result, Ok, Err, refl, sym, ap, ◌∙◌, subst, arith}
-use Rattle.std.specs.Prelude.{slice_index, IfOk, OnErr, ℤ, pos, negsuc}
+use Rattle.std.proofs.Common.{◌≡◌, ℕ, ◌+◌, ◌^◌, ◌<◌, ◌≤◌, List, map, length, Bool, true, false, refl, sym, ap, ◌∙◌, subst, arith}
+use Rattle.std.specs.Prelude.{slice_index, ℤ, pos, negsuc}
 use Rattle.std.specs.List.{AllByRecursion}
-use Rattle.std.specs.declared.alloc.AllocError.{AllocError}
 use Rattle.std.proofs.lemmas.List.{get_or-set_same, length-map}
 use Rattle.theory.specs.Position.{IsGeometry, max_position}
 use Rattle.theory.specs.Placed.{Among, Frame, Placed, end_of, frame_length, is_padding}
@@ -20,10 +19,10 @@ use Rattle.rebuilder.specs.Seen.{IsFit, IsShown, accepts, least, with_consumer, 
 use Rattle.rebuilder.specs.Stored.{meant}
 use Rattle.rebuilder.specs.declared.answer.Insert.{Insert}
 use Rattle.rebuilder.specs.declared.answer.Insert.TheVariants as answers
-use Rattle.receiver.specs.Receiving.{Opened, StoresFrame, answer_at, given_at}
+use Rattle.receiver.specs.Receiving.{Opened, answer_at, given_at}
 use Rattle.receiver.specs.Representing.{HearsBeat, Inserts, IsAtEnd, ReadsPast, RepresentsImage, with_reader}
 use Rattle.rebuilder.specs.Kinds.{head_at}
-use Rattle.receiver.proofs.ShownSteps.{answer_shown, IsConsumer, beaten_shown, consumer_of, end_shown, inserted_shown, moved_shown}
+use Rattle.receiver.proofs.ShownSteps.{IsConsumer, beaten_shown, consumer_of, end_shown, inserted_shown, moved_shown}
 
 -- ---- a heartbeat
 
@@ -50,7 +49,7 @@ HasShape v w = (w.window ≡ v.window) × (w.consumers ≡ v.consumers)
 same_shape : (v w : seen.Image) → w ≡ v → HasShape v w
 same_shape v w e = (ap (λ (i : seen.Image). i.window) e, ap (λ (i : seen.Image). i.consumers) e)
 
-frame_shape : (v w : seen.Image) (z : ℤ) (f : Frame) (a : Insert) → Answers v w z f a → HasShape v w
+pub frame_shape : (v w : seen.Image) (z : ℤ) (f : Frame) (a : Insert) → Answers v w z f a → HasShape v w
 frame_shape v w z f answers.Duplicate h = same_shape v w (h.others (λ e. cc))
 frame_shape v w z f answers.Below h = same_shape v w (h.others (λ e. cc))
 frame_shape v w z f answers.OverWindow h = same_shape v w (h.others (λ e. cc))
@@ -61,22 +60,6 @@ frame_shape v w (negsuc k) f answers.Stored h = absurd (negative v k (frame_leng
   where
     negative : (v : seen.Image) (k n : ℕ) → insert_answer_at v.geometry (map head_of v.held) (least v.consumers) v.window (negsuc k) (is_padding f) n ≡ Stored → ⊥
     negative v k n e = not_stored _ e
-
-pub result_shape : (v w : seen.Image) (z : ℤ) (f : Frame) (r : Result Insert AllocError) → IfOk r (Answers v w z f) → OnErr r (w ≡ v) → HasShape v w
-result_shape v w z f (Ok a) h refused = frame_shape v w z f a h
-result_shape v w z f (Err e) h refused = same_shape v w refused
-
-pub result_answers : (v w : seen.Image) (z : ℤ) (f : Frame) (r : Result Insert AllocError)
-    → IfOk r (λ a. meant a ≡ insert_answer_at v.geometry (map head_of v.held) (least v.consumers) v.window z (is_padding f) (frame_length f))
-    → IfOk r (λ a. a ≡ answers.Stored → (p : ℕ) → z ≡ pos p → w ≡ with_frame v (record { at = p; frame = f }))
-    → IfOk r (λ a. (a ≡ answers.Stored → ⊥) → w ≡ v)
-    → IfOk r (Answers v w z f)
-result_answers v w z f (Ok a) is stored others = record { answer = is; stored = stored; others = others }
-result_answers v w z f (Err e) is stored others = tt
-
-pub result_inserted : (v w : seen.Image) (h : Header) (z : ℤ) (f : Frame) (r : Result Insert AllocError) → z ≡ named_by v.geometry h → IfOk r (Answers v w z f) → IfOk r (λ a. Inserts v h f a w)
-result_inserted v w h z f (Ok a) named is = frame_inserted v w h z f a named is
-result_inserted v w h z f (Err e) named is = tt
 
 -- ---- a consumer reads on
 
@@ -130,9 +113,3 @@ reads_past v w k end before head after l (s, a, at, is, payload) (t, b, same, pa
   where
     stored_of : (v : seen.Image) (o : Opened) → RepresentsImage v o → (x : Placed) → Among x v.held → Among x o.image.stored
     stored_of v o h x y = (among_held (least v.consumers) o.image.stored x ((h.frames x).0 y)).0
-
--- a frame for which memory was refused would be stored
-pub result_wanted : (v : seen.Image) (h : Header) (z : ℤ) (f : Frame) (r : Result Insert AllocError) → z ≡ named_by v.geometry h
-    → OnErr r (Stored ≡ insert_answer_at v.geometry (map head_of v.held) (least v.consumers) v.window z (is_padding f) (frame_length f)) → OnErr r ((o : Opened) → RepresentsImage v o → StoresFrame (Some o) h f)
-result_wanted v h z f (Ok a) named is = tt
-result_wanted v h z f (Err e) named is = λ o s. is ∙ answer_shown v o s z (is_padding f) (frame_length f) ∙ ap (λ x. answer_at o x f) (named ∙ ap (λ g. named_by g h) s.geometry)

@@ -8,7 +8,7 @@ use Rattle.theory.specs.Image.{after_heartbeat, image_at}
 use Rattle.theory.specs.Wire.{Header, Setup, Wire, DATA, PAD, HEARTBEAT, NAK, SM, SETUP}
 use Rattle.assembler.specs.Assembling.{Assembling}
 use Rattle.receiver.specs.declared.receiver_core.Outcome.{Outcome}
-use Rattle.receiver.specs.Receiving.{BreaksOff, TakesDatagram, IfOurs, Meets, MeetsAll, MeetsFrame, MeetsHeartbeat, MeetsSetup, Opened, Receiver, answer_at, at_moment, given_at}
+use Rattle.receiver.specs.Receiving.{TakesDatagram, IfOurs, Meets, MeetsAll, MeetsFrame, MeetsHeartbeat, MeetsSetup, Opened, Receiver, answer_at, at_moment, given_at}
 use Rattle.receiver.specs.Representing as core
 use Rattle.receiver.specs.Representing.{Represents, beaten_at}
 use Rattle.receiver.specs.Subscribing.{AssemblesFor, SubscriberBecomes, Subscribing}
@@ -81,10 +81,6 @@ at_keeps b r now k = record { one = k.one; seat = k.seat; greatest = k.greatest 
 pub hears_keeps : (b : Assembling) (r : Receiver) (now : ℕ) (bytes : List ℕ) (outs : List Outcome) (s : Receiver) → TakesDatagram r now bytes outs s → IsSeated b r → IsSeated b s
 hears_keeps b r now bytes outs s (inl (ws, spells, met)) k = all_keep b (at_moment r now) ws outs s met (at_keeps b r now k)
 hears_keeps b r now bytes outs s (inr (fault, why, is, e)) k = keeps_same b (at_moment r now) s e (at_keeps b r now k)
-
-pub breaks_keeps : (b : Assembling) (r : Receiver) (now : ℕ) (bytes : List ℕ) (s : Receiver) → BreaksOff r now bytes s → IsSeated b r → IsSeated b s
-breaks_keeps b r now bytes s (inl e) k = keeps_same b r s e k
-breaks_keeps b r now bytes s (inr at) k = all_keep b (at_moment r now) at.taken at.outs s at.met (at_keeps b r now k)
 
 -- a step of the core that keeps its consumer is one of the subscriber
 pub core_step : (v w : Subscribing) (Step : Receiver → Receiver → Type 0) → ((r s : Receiver) → Step r s → IsSeated v.assembler r → IsSeated v.assembler s) → w.assembler ≡ v.assembler → core.Becomes v.core w.core Step → SubscriberBecomes v w Step

@@ -1,5 +1,5 @@
 -- What becomes of a receiver by the frames of a datagram and by a tick.
-use Rattle.std.specs.Prelude.{◌≡◌, ◌⊎◌, ℕ, ℤ, pos, negsuc, Bool, List, [], ◌∷◌, ◌++◌, map, Option, None, Some, if◌then◌else◌}
+use Rattle.std.specs.Prelude.{⊤, ◌≡◌, ◌⊎◌, ℕ, ℤ, pos, negsuc, Bool, List, [], ◌∷◌, ◌++◌, map, Option, None, Some, if◌then◌else◌}
 use Rattle.std.specs.Option.{option_to_list}
 use Rattle.theory.specs.Position.{Geometry}
 use Rattle.theory.specs.Wire.{Wire, Header, Setup, DATA, PAD, HEARTBEAT, NAK, SM, SETUP, SpellsDatagram}
@@ -139,38 +139,19 @@ RefusesDatagram r bytes outs s = (fault : FrameError) × IsDatagramFault bytes f
 abbrev pub TakesDatagram : Receiver → ℕ → List ℕ → List Outcome → Receiver → Type 0
 TakesDatagram r now bytes outs s = MeetsDatagram (at_moment r now) bytes outs s ⊎ RefusesDatagram (at_moment r now) bytes outs s
 
--- an image that stores a frame copies it
-abbrev pub StoresFrame : Option Opened → Header → placed.Frame → Type 0
-StoresFrame None h f = ⊥
-StoresFrame (Some o) h f = meaning.Stored ≡ answer_at o (named_by o.geometry h) f
-
 -- a SETUP opens an image only where there is none
 abbrev pub WouldOpen : Option Opened → Receiver → Setup → Type 0
 WouldOpen None r f = (g : Geometry) × (p : ℕ) × OpensAt f r.window g p
 WouldOpen (Some o) r f = ⊥
 
--- to meet this frame the receiver needs memory
-abbrev pub NeedsMemory : Receiver → Wire → Type 0
-NeedsMemory r (DATA h flags payload) = IsOurs r h.session h.stream × StoresFrame r.image h (placed.Data flags payload)
-NeedsMemory r (PAD h n) = IsOurs r h.session h.stream × StoresFrame r.image h (placed.Pad n)
-NeedsMemory r (HEARTBEAT h) = ⊥
-NeedsMemory r (NAK f) = ⊥
-NeedsMemory r (SM asks f) = ⊥
-NeedsMemory r (SETUP f) = IsOurs r f.session f.stream × WouldOpen r.image r f
-
--- these frames of the datagram were taken, and the next one needs memory
-pub record BreaksAt (r : Receiver) (bytes : List ℕ) (s : Receiver) : Type 0 where
-  pub taken : List Wire
-  pub next : Wire
-  pub left : List Wire
-  pub outs : List Outcome
-  pub spells : SpellsDatagram (taken ++ next ∷ left) bytes
-  pub met : MeetsAll r taken outs s
-  pub needs : NeedsMemory s next
-
--- the same, broken off for want of memory: nothing has changed, its moment isn't seen either; or the frames before some frame were taken, and no other
-abbrev pub BreaksOff : Receiver → ℕ → List ℕ → Receiver → Type 0
-BreaksOff r now bytes s = (s ≡ r) ⊎ BreaksAt (at_moment r now) bytes s
+-- only at a SETUP memory is asked for
+abbrev pub IsSetupWire : Wire → Type 0
+IsSetupWire (DATA h flags payload) = ⊥
+IsSetupWire (PAD h n) = ⊥
+IsSetupWire (HEARTBEAT h) = ⊥
+IsSetupWire (NAK f) = ⊥
+IsSetupWire (SM asks f) = ⊥
+IsSetupWire (SETUP f) = ⊤
 
 -- ---- a tick
 

@@ -1,5 +1,5 @@
 -- Which receivers the code of a receiver shows: those of its numbers whose image holds what is held from the least consumer on.
-use Rattle.std.specs.Prelude.{◌≡◌, ◌↔◌, ℕ, ◌+◌, ◌^◌, ◌<◌, ◌≤◌, ℤ, ⊤, List, ◌∷◌, ◌++◌, map, length, slice_get, slice_index, slice_set, Option, None, Some}
+use Rattle.std.specs.Prelude.{◌≡◌, ◌↔◌, ℕ, ◌+◌, ◌^◌, ◌<◌, ◌≤◌, ℤ, ⊤, List, map, length, slice_get, slice_index, slice_set, Option, None, Some}
 use Rattle.std.specs.List.{AllByRecursion}
 use Rattle.std.specs.Option.{ForSome}
 use Rattle.block.specs.Bytes.{with_front}
@@ -11,14 +11,13 @@ use Rattle.theory.specs.Image.{after_heartbeat}
 use Rattle.theory.specs.ImageLaws.{held}
 use Rattle.theory.specs.Control.{named_by}
 use Rattle.theory.specs.Timing.{LastStatus, Watch}
-use Rattle.theory.specs.Wire.{Header, IsHeader, Wire}
+use Rattle.theory.specs.Wire.{Header, IsHeader}
 use Rattle.rebuilder.specs.Kinds.{head_at}
 use Rattle.rebuilder.specs.Seen as seen
 use Rattle.rebuilder.specs.Stored.{meant}
 use Rattle.rebuilder.specs.declared.answer.Insert.{Insert}
 use Rattle.receiver.specs.declared.receiver_core.LastSent.{LastSent}
-use Rattle.receiver.specs.Receiving.{MeetsAll, NeedsMemory, Opened, Receiver, answer_at, given_at}
-use Rattle.receiver.specs.declared.receiver_core.Outcome.{Outcome}
+use Rattle.receiver.specs.Receiving.{Opened, Receiver, answer_at, given_at}
 
 -- what a contract sees of a receiver's core
 pub record Core : Type 0 where
@@ -90,16 +89,6 @@ pub record Represents (v : Core) (r : Receiver) : Type 0 where
 -- whatever receiver the old state shows becomes one by this step that the new state shows
 abbrev pub Becomes : Core → Core → (Receiver → Receiver → Type 0) → Type 0
 Becomes old new Step = (r : Receiver) → Represents old r → (s : Receiver) × Step r s × Represents new s
-
--- some of these frames were taken, the first ones, and the next one needs memory
-pub record MeetsFirst (frames : List Wire) (r s : Receiver) : Type 0 where
-  pub taken : List Wire
-  pub next : Wire
-  pub left : List Wire
-  pub outs : List Outcome
-  pub parts : frames ≡ taken ++ next ∷ left
-  pub met : MeetsAll r taken outs s
-  pub needs : NeedsMemory s next
 
 -- ---- of an image alone
 

@@ -1,6 +1,6 @@
 //! What frames, heartbeats and a consumer's reading make of a receiver's image.
 
-ghost use Rattle.std.specs.Prelude.{◌≡◌, ◌≤◌, ◌<◌, ◌+◌, ◌^◌, ◌%◌, [], length, replicate, slice_index, IfNone, IfOk, IfSome, OnErr, OnSome, Some};
+ghost use Rattle.std.specs.Prelude.{◌≡◌, ◌≤◌, ◌<◌, ◌+◌, ◌^◌, ◌%◌, [], length, replicate, slice_index, IfNone, IfOk, IfSome, OnSome};
 ghost use Rattle.position.specs.declared.head.FrameKind.TheVariants.{Data};
 ghost use Rattle.position.specs.Gaps.{gap_of};
 ghost use Rattle.rebuilder.specs.Seen.{IsCount, IsJoin};
@@ -10,14 +10,14 @@ ghost use Rattle.theory.specs.Image.{IsWindow};
 ghost use Rattle.theory.specs.Position.{IsGeometry, max_position};
 ghost use Rattle.theory.specs.Wire.{IsFrame, IsHeader};
 ghost use Rattle.frames.specs.Frames.{header_of, wire};
-ghost use Rattle.receiver.specs.Receiving.{Opened, StoresFrame, gap_in};
+ghost use Rattle.receiver.specs.Receiving.{Opened, gap_in};
 ghost use Rattle.receiver.specs.Representing.{GoesForward, HearsBeat, Inserts, IsAtEnd, ReadsPast, RepresentsImage};
 
 use block::Block;
 use frames::{Frame, Header};
 use loss_detector::first_gap;
 use position::{FrameHead, Gap, Geometry};
-use rebuilder::{Image, ImageError, Insert};
+use rebuilder::{Image, ImageError, Insert, Steps};
 use std::alloc::{AllocError, Global};
 
 /// The position that a header names.
@@ -50,16 +50,14 @@ pub fn open(
     }
 }
 
-/// Hands a DATA frame or a padding with this header to an image. At an error memory was refused, and nothing changed.
-pub fn insert(image: &mut Image, header: &Header, frame: &Frame<'_>) -> Result<Insert, AllocError>
+/// Hands a DATA frame or a padding with this header to an image.
+pub fn insert(image: &mut Image, header: &Header, frame: &Frame<'_>) -> Insert
     requires header { IsHeader (header_of header.now) }
     requires frame { IsFrame (wire frame.now) }
     requires of_stream { IsOfStream frame.now }
-    ensures inserted { IfOk result (λ a. Inserts image.old (header_of header.now) (stream_frame frame.now) a image.new) }
+    ensures inserted { Inserts image.old (header_of header.now) (stream_frame frame.now) result image.new }
     ensures window { image.new.window ≡ image.old.window }
     ensures consumers { image.new.consumers ≡ image.old.consumers }
-    ensures refused { OnErr result (image.new ≡ image.old) }
-    ensures wanted { OnErr result ((o : Opened) → RepresentsImage image.old o → StoresFrame (Some o) (header_of header.now) (stream_frame frame.now)) }
 {
     let position = position_in(&image.geometry(), header);
     image.insert(position, frame)
@@ -85,7 +83,7 @@ pub fn find_gap(image: &Image) -> Option<Gap>
     let _ = image.geometry();
     let _ = image.rebuilt();
     let _ = image.high_water();
-    first_gap(image)
+    first_gap(image, &mut Steps::new())
 }
 
 /// Reads the frame at a consumer's position to the block's front, and moves the consumer past it. There is none where it

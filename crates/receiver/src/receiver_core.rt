@@ -114,8 +114,8 @@ impl Model for ReceiverCore {
 }
 
 impl ReceiverCore {
-    ghost use Rattle.receiver.specs.Receiving.{BreaksOff, TakesDatagram, IfOurs, IsOurs, NeedsMemory, StoresFrame, WouldOpen, Meets, MeetsAll, MeetsFrame, MeetsHeartbeat, MeetsSetup, Receiver, listening, missing, replied, replies, scanned_at, telling, ticked, told_after};
-    ghost use Rattle.receiver.specs.Representing.{Becomes, GoesForward, HasNoFrame, MeetsFirst, PassesFrame, Represents, place_in};
+    ghost use Rattle.receiver.specs.Receiving.{TakesDatagram, IfOurs, IsOurs, IsSetupWire, WouldOpen, Meets, MeetsAll, MeetsFrame, MeetsHeartbeat, MeetsSetup, Receiver, listening, missing, replied, replies, scanned_at, telling, ticked, told_after};
+    ghost use Rattle.receiver.specs.Representing.{Becomes, GoesForward, HasNoFrame, PassesFrame, Represents, place_in};
 
     /// A receiver without an image, for one to eight consumers. Its window is in bytes.
     pub fn new(
@@ -178,19 +178,18 @@ impl ReceiverCore {
         self.clock = self.clock.max(now);
     }
 
-    /// Takes a datagram, and says what became of each of its frames. Room for the outcomes is made first: where it is
-    /// refused, nothing has changed, and the moment isn't seen. Later an error comes only at a frame that is to be stored
-    /// or opens an image, after the frames before it were taken. In either case the datagram may be handed in again.
+    /// Takes a datagram, and says what became of each of its frames. Memory is asked for twice: for the outcomes, and at a
+    /// SETUP that opens an image. Where it is refused, nothing has changed, the moment isn't seen either, and the datagram
+    /// may be handed in again.
     pub fn on_datagram(&mut self, bytes: &[u8], now: u64) -> Result<Vec<Outcome>, AllocError>
         ensures heard { IfOk result (λ outs. Becomes self.old self.new (λ r s. TakesDatagram r now bytes.now outs.items s)) }
-        ensures broken_off { OnErr result (Becomes self.old self.new (λ r s. BreaksOff r now bytes.now s)) }
+        ensures refused { OnErr result (self.new ≡ self.old) }
         ensures consumers { self.new.consumers ≡ self.old.consumers }
     {
         match check_datagram(bytes) {
             Ok(count) => {
                 let outcomes = Vec::with_capacity(self.alloc, count)?;
-                self.see(now);
-                self.on_frames(bytes, count, outcomes)
+                self.on_frames_at(bytes, count, now, outcomes)
             }
             Err(error) => {
                 let outcomes = self.refuse(error)?;
@@ -209,7 +208,32 @@ impl ReceiverCore {
         Ok(outcomes)
     }
 
-    /// Takes the frames of a datagram that has so many. Their outcomes go into a list that has room for them.
+    /// Takes the frames of a datagram at a moment, which isn't seen where an error comes.
+    fn on_frames_at(
+        &mut self,
+        datagram: &[u8],
+        count: usize,
+        now: u64,
+        outcomes: Vec<Outcome>,
+    ) -> Result<Vec<Outcome>, AllocError>
+        requires frames { (frames : List Wire) × SpellsDatagram frames datagram.now × (length frames ≡ count) }
+        requires empty { outcomes.items ≡ [] }
+        requires room { count ≤ vec_capacity outcomes }
+        ensures heard { IfOk result (λ outs. Becomes self.old self.new (λ r s. TakesDatagram r now datagram.now outs.items s)) }
+        ensures refused { OnErr result (self.new ≡ self.old) }
+        ensures consumers { self.new.consumers ≡ self.old.consumers }
+    {
+        let before = self.clock;
+        self.see(now);
+        let taken = self.on_frames(datagram, count, outcomes);
+        if taken.is_err() {
+            self.clock = before;
+        }
+        taken
+    }
+
+    /// Takes the frames of a datagram that has so many. Their outcomes go into a list that has room for them. Only a
+    /// SETUP that opens an image asks for memory, and it stands alone.
     fn on_frames(
         &mut self,
         datagram: &[u8],
@@ -221,8 +245,7 @@ impl ReceiverCore {
         requires room { count ≤ vec_capacity outcomes }
         ensures met { (frames : List Wire) → SpellsDatagram frames datagram.now → length frames ≡ count
             → IfOk result (λ outs. Becomes self.old self.new (λ r s. MeetsAll r frames outs.items s)) }
-        ensures broken_off { (frames : List Wire) → SpellsDatagram frames datagram.now → length frames ≡ count
-            → OnErr result (Becomes self.old self.new (MeetsFirst frames)) }
+        ensures refused { OnErr result (self.new ≡ self.old) }
         ensures consumers { self.new.consumers ≡ self.old.consumers }
     {
         let mut rest = datagram;
@@ -241,12 +264,12 @@ impl ReceiverCore {
         requires { IsFrame (wire frame.now) }
         ensures met { IfOk result (λ out. Becomes self.old self.new (λ r s. Meets r (wire frame.now) out s)) }
         ensures refused { OnErr result (self.new ≡ self.old) }
-        ensures wanted { OnErr result ((r : Receiver) → Represents self.old r → NeedsMemory r (wire frame.now)) }
+        ensures wanted { OnErr result (IsSetupWire (wire frame.now)) }
         ensures consumers { self.new.consumers ≡ self.old.consumers }
     {
         match *frame {
-            Frame::Data { header, .. } => self.on_stored(&header, frame),
-            Frame::Pad { header, .. } => self.on_stored(&header, frame),
+            Frame::Data { header, .. } => Ok(self.on_stored(&header, frame)),
+            Frame::Pad { header, .. } => Ok(self.on_stored(&header, frame)),
             Frame::Heartbeat { header } => Ok(self.on_heartbeat(&header)),
             Frame::Setup(setup) => self.on_setup(&setup),
             Frame::Nak(_) => Ok(Outcome::Other),
@@ -260,39 +283,34 @@ impl ReceiverCore {
         session == self.session && stream == self.stream
     }
 
-    fn on_stored(&mut self, header: &Header, frame: &Frame<'_>) -> Result<Outcome, AllocError>
+    fn on_stored(&mut self, header: &Header, frame: &Frame<'_>) -> Outcome
         requires header { IsHeader (header_of header.now) }
         requires frame { IsFrame (wire frame.now) }
         requires stored { IsOfStream frame.now }
-        ensures met { IfOk result (λ out. Becomes self.old self.new (λ r s.
-            IfOurs r header.now.session header.now.stream (MeetsFrame r.image r (header_of header.now) (stream_frame frame.now) out s) out s)) }
-        ensures refused { OnErr result (self.new ≡ self.old) }
-        ensures wanted { OnErr result ((r : Receiver) → Represents self.old r → IsOurs r header.now.session header.now.stream × StoresFrame r.image (header_of header.now) (stream_frame frame.now)) }
+        ensures met { Becomes self.old self.new (λ r s. IfOurs r header.now.session header.now.stream (MeetsFrame r.image r (header_of header.now) (stream_frame frame.now) result s) result s) }
         ensures consumers { self.new.consumers ≡ self.old.consumers }
     {
         if self.is_mine(header.session, header.stream) {
             self.store(header, frame)
         } else {
-            Ok(Outcome::Other)
+            Outcome::Other
         }
     }
 
     /// Hands a DATA frame or a padding with this header to the image.
-    fn store(&mut self, header: &Header, frame: &Frame<'_>) -> Result<Outcome, AllocError>
+    fn store(&mut self, header: &Header, frame: &Frame<'_>) -> Outcome
         requires header { IsHeader (header_of header.now) }
         requires frame { IsFrame (wire frame.now) }
         requires stored { IsOfStream frame.now }
-        ensures met { IfOk result (λ out. Becomes self.old self.new (λ r s. MeetsFrame r.image r (header_of header.now) (stream_frame frame.now) out s)) }
-        ensures refused { OnErr result (self.new ≡ self.old) }
-        ensures wanted { OnErr result ((r : Receiver) → Represents self.old r → StoresFrame r.image (header_of header.now) (stream_frame frame.now)) }
+        ensures met { Becomes self.old self.new (λ r s. MeetsFrame r.image r (header_of header.now) (stream_frame frame.now) result s) }
         ensures consumers { self.new.consumers ≡ self.old.consumers }
     {
         match &mut self.image {
             None => {
                 self.unmet = Some(*header);
-                Ok(Outcome::Asked)
+                Outcome::Asked
             }
-            Some(image) => Ok(Outcome::Inserted(insert(image, header, frame)?)),
+            Some(image) => Outcome::Inserted(insert(image, header, frame)),
         }
     }
 

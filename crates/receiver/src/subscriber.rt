@@ -74,7 +74,7 @@ fn assemble(
 
 impl Subscriber {
     ghost use Rattle.receiver.specs.Polling.{Polls, TellsPositions};
-    ghost use Rattle.receiver.specs.Receiving.{BreaksOff, TakesDatagram, Receiver, replied, replies, ticked};
+    ghost use Rattle.receiver.specs.Receiving.{TakesDatagram, Receiver, replied, replies, ticked};
     ghost use Rattle.receiver.specs.Representing.{GoesForward, HasNoFrame, Represents, place_in};
     ghost use Rattle.receiver.specs.Subscribing.{SubscriberBecomes, HearsFrame, answer_of, RefusesFrame, RepresentsSubscriber};
 
@@ -93,11 +93,11 @@ impl Subscriber {
         })
     }
 
-    /// Takes a datagram, and says what became of each of its frames. At an error some first frames of it were taken;
-    /// it may be handed in again.
+    /// Takes a datagram, and says what became of each of its frames. At an error memory was refused and nothing has
+    /// changed: it may be handed in again.
     pub fn on_datagram(&mut self, bytes: &[u8], now: u64) -> Result<Vec<Outcome>, AllocError>
         ensures heard { IfOk result (λ outs. SubscriberBecomes self.old self.new (λ r s. TakesDatagram r now bytes.now outs.items s)) }
-        ensures broken_off { OnErr result (SubscriberBecomes self.old self.new (λ r s. BreaksOff r now bytes.now s)) }
+        ensures refused { OnErr result (self.new ≡ self.old) }
         ensures assembler { self.new.assembler ≡ self.old.assembler }
     {
         self.core.on_datagram(bytes, now)

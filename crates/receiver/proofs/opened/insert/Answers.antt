@@ -1,29 +1,22 @@
 use Rattle.std.proofs.Common.{ap, ◌∙◌, rules, FitsSigned, to_z, of_z, w64}
 use Rattle.std.proofs.lemmas.Int.{to_z-of_z}
-use Rattle.std.specs.Prelude.{IfOk}
 use Rattle.theory.specs.Control.{named_by}
 use Rattle.frames.specs.Frames.{header_of}
 use Rattle.rebuilder.specs.Stored.{stream_frame}
-use Rattle.receiver.proofs.OpenedSteps.{Answers, result_answers, result_inserted, result_shape, result_wanted}
+use Rattle.receiver.proofs.OpenedSteps.{Answers, frame_inserted, frame_shape}
 use Rattle.receiver.proofs.opened.insert.Goals as goal
 
-answers : (c : goal.After-insert) → IfOk c.insert.result (Answers c.args.image.now c.insert.new.self (to_z w64 (of_z w64 c.position_in-position.result)) (stream_frame c.args.frame.now))
-answers c = result_answers c.args.image.now c.insert.new.self (to_z w64 (of_z w64 c.position_in-position.result)) (stream_frame c.args.frame.now) c.insert.result c.insert.ensures.answer c.insert.ensures.stored c.insert.ensures.others
+answers : (c : goal.After-insert) → Answers c.args.image.now c.insert.new.self (to_z w64 (of_z w64 c.position_in-position.result)) (stream_frame c.args.frame.now) c.insert.result
+answers c = record { answer = c.insert.ensures.answer; stored = c.insert.ensures.stored; others = c.insert.ensures.others }
 
 pub returns-clause-inserted : goal.returns-clause-inserted
 returns-clause-inserted c =
     let fits : FitsSigned w64 c.position_in-position.result = search rules in
     let named = to_z-of_z w64 c.position_in-position.result fits ∙ c.position_in-position.ensures.named ∙ ap (λ g. named_by g (header_of c.args.header.now)) c.geometry.ensures.value in
-    result_inserted c.args.image.now c.insert.new.self (header_of c.args.header.now) (to_z w64 (of_z w64 c.position_in-position.result)) (stream_frame c.args.frame.now) c.insert.result named (answers c)
+    frame_inserted c.args.image.now c.insert.new.self (header_of c.args.header.now) (to_z w64 (of_z w64 c.position_in-position.result)) (stream_frame c.args.frame.now) c.insert.result named (answers c)
 
 pub returns-clause-window : goal.returns-clause-window
-returns-clause-window c = (result_shape c.args.image.now c.insert.new.self (to_z w64 (of_z w64 c.position_in-position.result)) (stream_frame c.args.frame.now) c.insert.result (answers c) c.insert.ensures.refused).0
+returns-clause-window c = (frame_shape c.args.image.now c.insert.new.self (to_z w64 (of_z w64 c.position_in-position.result)) (stream_frame c.args.frame.now) c.insert.result (answers c)).0
 
 pub returns-clause-consumers : goal.returns-clause-consumers
-returns-clause-consumers c = (result_shape c.args.image.now c.insert.new.self (to_z w64 (of_z w64 c.position_in-position.result)) (stream_frame c.args.frame.now) c.insert.result (answers c) c.insert.ensures.refused).1
-
-pub returns-clause-wanted : goal.returns-clause-wanted
-returns-clause-wanted c =
-    let fits : FitsSigned w64 c.position_in-position.result = search rules in
-    let named = to_z-of_z w64 c.position_in-position.result fits ∙ c.position_in-position.ensures.named ∙ ap (λ g. named_by g (header_of c.args.header.now)) c.geometry.ensures.value in
-    result_wanted c.args.image.now (header_of c.args.header.now) (to_z w64 (of_z w64 c.position_in-position.result)) (stream_frame c.args.frame.now) c.insert.result named c.insert.ensures.wanted
+returns-clause-consumers c = (frame_shape c.args.image.now c.insert.new.self (to_z w64 (of_z w64 c.position_in-position.result)) (stream_frame c.args.frame.now) c.insert.result (answers c)).1

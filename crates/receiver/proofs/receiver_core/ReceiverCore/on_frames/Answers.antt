@@ -1,14 +1,15 @@
 use Rattle.std.proofs.Common.{◌≡◌, ◌∙◌, ◌++◌, ◌∷◌, ◌<◌, ◌≤◌, ◌+◌, [], suc, ℕ, List, Result, Ok, Err, length, drop, take, arith, ap, subst, sym}
 use Rattle.std.specs.Prelude.{OnErr}
 use Rattle.std.specs.List.{AllByRecursion, flat_map}
-use Rattle.std.proofs.lemmas.List.{append_assoc, take-append-drop, take_all}
+use Rattle.std.proofs.lemmas.List.{append_assoc, length-take-le, take-append-drop, take_all}
 use Rattle.frames.specs.Fronts.{FrontSpells}
-use Rattle.theory.specs.Wire.{IsFrame, Wire, spelling}
+use Rattle.theory.specs.Wire.{IsFrame, StandTogether, Wire, spelling}
 use Rattle.frames.specs.Frames.{wire}
 use Rattle.receiver.specs.Receiving.{MeetsAll}
-use Rattle.receiver.specs.Representing.{Becomes, MeetsFirst}
+use Rattle.receiver.specs.Representing.{Becomes}
 use Rattle.frames.proofs.FrameSteps.{frame_at, frame_first, front_spells, next_first, slice_to_end}
-use Rattle.receiver.proofs.Meeting.{becomes_more, first_taken}
+use Rattle.receiver.proofs.Meeting.{becomes_more}
+use Rattle.receiver.proofs.Together.{setup_alone}
 use Rattle.receiver.proofs.receiver_core.ReceiverCore.on_frames.Goals as goal
 
 pub unreachable-requires : goal.unreachable-requires
@@ -50,6 +51,7 @@ loop-turn-preserved c = record {
             (becomes_more c.args.self.now c.loop-turn.self c.on_frame.new.self (take i frames) c.loop-turn.outcomes.items (wire c.in-Ok.frame) c.in_ok-outcome.outcome before.1 c.in_ok-outcome.ensures.met)),
       );
   room = omega (arith, c.loop-turn.invariant.room, c.push_reserved.ensures.len, c.push_reserved.ensures.capacity, c.loop-turn-test.true);
+  fresh = λ e. absurd (omega arith);
   consumers = c.in_ok-outcome.ensures.consumers ∙ c.loop-turn.invariant.consumers;
 }
 
@@ -57,16 +59,21 @@ on_err : {V E : Type 0} (out : Result V E) (P : Type 0) → P → OnErr out P
 on_err (Ok v) P p = tt
 on_err (Err e) P p = p
 
-pub returns-in_err-outcome-clause-broken_off : goal.returns-in_err-outcome-clause-broken_off
-returns-in_err-outcome-clause-broken_off c = λ frames spells counted.
+-- a SETUP stands alone
+pub returns-in_err-outcome-clause-refused : goal.returns-in_err-outcome-clause-refused
+returns-in_err-outcome-clause-refused c =
+    let frames = c.requires.frames.0 in
+    let spells = c.requires.frames.1 in
+    let counted = c.requires.frames.2 in
     let i = c.loop-turn._turn in
     let before = c.loop-turn.invariant.taken frames spells counted in
     let below : i < length frames = omega (arith, counted, c.loop-turn-test.true) in
     let w : Wire = wire c.in-Ok.frame in
     let next = next_is frames i c.loop-turn.rest.now w c.in-Ok.size spells.1 below before.0 c.in-Ok.ensures.only in
     let parts : frames ≡ take i frames ++ w ∷ drop (i + 1) frames = sym (take-append-drop (i + 1) frames) ∙ ap (λ ws. ws ++ drop (i + 1) frames) (sym next.taken) ∙ append_assoc (take i frames) (w ∷ []) (drop (i + 1) frames) in
-    on_err c.from_residual.result (Becomes c.args.self.now c.on_frame.new.self (MeetsFirst frames))
-    (subst (λ x. Becomes c.args.self.now x (MeetsFirst frames)) (sym c.in_err-outcome.ensures.refused) (first_taken c.args.self.now c.loop-turn.self frames (take i frames) (drop (i + 1) frames) w c.loop-turn.outcomes.items parts c.in_err-outcome.ensures.wanted before.1))
+    let first : length (take i frames) ≡ 0 = setup_alone (take i frames) (drop (i + 1) frames) w (subst StandTogether parts spells.0) c.in_err-outcome.ensures.wanted in
+    let none : i ≡ 0 = omega (arith, length-take-le i frames (omega arith), first) in
+    on_err c.from_residual.result (c.on_frame.new.self ≡ c.args.self.now) (c.in_err-outcome.ensures.refused ∙ c.loop-turn.invariant.fresh none)
 
 pub returns-clause-met : goal.returns-clause-met
 returns-clause-met c = λ frames spells counted.

@@ -12,5 +12,6 @@ invariant-loop-turn l = record {
   taken : (frames : List Wire) → SpellsDatagram frames l.datagram → length frames ≡ l.count
       → (l.rest ≡ flat_map spelling (drop l._turn frames)) × Becomes l.fn.self l.self (λ r s. MeetsAll r (take l._turn frames) l.outcomes.items s);
   room : vec_len l.outcomes + (l.count - l._turn) ≤ vec_capacity l.outcomes;
+  fresh : l._turn ≡ 0 → l.self ≡ l.fn.self;
   consumers : l.self.consumers ≡ l.fn.self.consumers;
 }

@@ -6,5 +6,5 @@ use Rattle.receiver.proofs.receiver_core.ReceiverCore.store.Goals as goal
 pub returns-in-None-clause-met : goal.returns-in-None-clause-met
 returns-in-None-clause-met c = rw (← c.self.view_is) (frame_missed _ (header_of c.args.header.now) (stream_frame c.args.frame.now) c.in-None.is)
 
-pub returns-in_ok-insert-in-Some-clause-met : goal.returns-in_ok-insert-in-Some-clause-met
-returns-in_ok-insert-in-Some-clause-met c = rw (← c.self.view_is) (frame_met _ _ c.insert.new.image (header_of c.args.header.now) (stream_frame c.args.frame.now) c.in_ok-insert-in-Some.field-0 c.in-Some.is c.in_ok-insert-in-Some.ensures.inserted)
+pub returns-in-Some-clause-met : goal.returns-in-Some-clause-met
+returns-in-Some-clause-met c = rw (← c.self.view_is) (frame_met _ _ c.insert.new.image (header_of c.args.header.now) (stream_frame c.args.frame.now) c.insert.result c.in-Some.is c.insert.ensures.inserted)
