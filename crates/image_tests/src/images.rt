@@ -1,14 +1,15 @@
 use block::Block;
 use frames::{Frame, read_frame};
+use loss_detector::first_gap;
 use position::{FrameHead, FrameKind, Geometry};
-use rebuilder::{Image, ImageError, Insert};
+use rebuilder::{Image, ImageError, Insert, Steps};
 use std::alloc::Global;
 use std::process::Abort;
 use std::test::*;
 
-const DATA: FrameKind = FrameKind::Data;
+pub(crate) const DATA: FrameKind = FrameKind::Data;
 
-const PAD: FrameKind = FrameKind::Pad;
+pub(crate) const PAD: FrameKind = FrameKind::Pad;
 
 /// An image of terms of 65,536 bytes and an MTU of 1408.
 fn opened(alloc: Global, join: u64, window: u32, consumers: usize) -> Result<Image, ImageError> {
@@ -47,7 +48,7 @@ fn insert(
     filled(rt, alloc, image, kind, position, length, 0x61)
 }
 
-fn filled(
+pub(crate) fn filled(
     rt: &impl Abort,
     alloc: Global,
     image: &mut Image,
@@ -60,8 +61,7 @@ fn filled(
     let bytes = spelled(alloc, kind, length, byte)?;
     let (frame, _) = read_frame(&bytes)?;
     match frame {
-        Frame::Data { .. } => Ok(image.insert(position, &frame)?),
-        Frame::Pad { .. } => Ok(image.insert(position, &frame)?),
+        Frame::Data { .. } | Frame::Pad { .. } => Ok(image.insert(position, &frame)),
         _ => {
             assert!(rt; false, "neither data nor padding");
             Ok(Insert::Below)
@@ -69,7 +69,7 @@ fn filled(
     }
 }
 
-fn heartbeat(rt: &impl Abort, image: &mut Image, position: i64) -> bool {
+pub(crate) fn heartbeat(rt: &impl Abort, image: &mut Image, position: i64) -> bool {
     assert!(rt; position.rem_euclid(32) == 0);
     image.heartbeat(position)
 }
@@ -88,13 +88,15 @@ fn pass(
     Some(head)
 }
 
-/// The rebuilt position, the high-water mark, the least position and the next start above the rebuilt position.
+/// The rebuilt position, the high-water mark, the least position and the end of the first gap, where that is below the mark.
 fn shown(image: &Image) -> (u64, u64, u64, Option<u64>) {
+    let high = image.high_water();
+    let end = first_gap(image, &mut Steps::new()).map(|gap| gap.start.wrapping_add(gap.length));
     (
         image.rebuilt(),
-        image.high_water(),
+        high,
         image.least(),
-        image.next_held(),
+        end.filter(|end| *end < high),
     )
 }
 
@@ -134,7 +136,7 @@ enum Step {
     Pass(Option<u64>),
     /// A word of what was read last.
     Word(usize, u64),
-    /// The rebuilt position, the high-water mark, the least position and the next start above the rebuilt position.
+    /// The rebuilt position, the high-water mark, the least position and the end of the first gap, where that is below it.
     Show(u64, u64, u64, Option<u64>),
 }
 

@@ -1,7 +1,7 @@
 use frames::{Frame, read_frame};
 use loss_detector::{LossDetector, first_gap};
 use position::{Gap, Geometry};
-use rebuilder::{Image, Insert};
+use rebuilder::{Image, Insert, Steps};
 use std::process::Abort;
 use std::test::*;
 
@@ -14,7 +14,7 @@ fn insert(rt: &impl Abort, image: &mut Image, position: i64) -> Result<Insert, F
     bytes[6] = 1;
     let (frame, _) = read_frame(&bytes)?;
     match frame {
-        Frame::Data { .. } => Ok(image.insert(position, &frame)?),
+        Frame::Data { .. } => Ok(image.insert(position, &frame)),
         _ => {
             assert!(rt; false, "no data");
             Ok(Insert::Below)
@@ -32,7 +32,7 @@ fn heartbeat(rt: &impl Abort, image: &mut Image, position: i64) {
 fn gap_between_frames(rt: HostRuntime) -> Result<(), Fail> {
     let geometry = Geometry::new(65_536, 1408, 7)?;
     let mut image = Image::open(rt.alloc(), geometry, 0, 32_768, 1)?;
-    assert_eq!(rt; first_gap(&image), None);
+    assert_eq!(rt; first_gap(&image, &mut Steps::new()), None);
     for position in [0, 128] {
         assert_eq!(rt; insert(&rt, &mut image, position)?, Insert::Stored);
     }
@@ -40,7 +40,7 @@ fn gap_between_frames(rt: HostRuntime) -> Result<(), Fail> {
         start: 64,
         length: 64,
     });
-    assert_eq!(rt; first_gap(&image), gap);
+    assert_eq!(rt; first_gap(&image, &mut Steps::new()), gap);
     let mut detector = LossDetector::new();
     for (now, told) in [
         (0, None),
@@ -50,11 +50,11 @@ fn gap_between_frames(rt: HostRuntime) -> Result<(), Fail> {
         (1_999_999, None),
         (2_000_000, gap),
     ] {
-        assert_eq!(rt; detector.scan(now, first_gap(&image)), told, "{now}");
+        assert_eq!(rt; detector.scan(now, first_gap(&image, &mut Steps::new())), told, "{now}");
     }
     assert_eq!(rt; insert(&rt, &mut image, 64)?, Insert::Stored);
-    assert_eq!(rt; first_gap(&image), None);
-    assert_eq!(rt; detector.scan(4_000_000, first_gap(&image)), None);
+    assert_eq!(rt; first_gap(&image, &mut Steps::new()), None);
+    assert_eq!(rt; detector.scan(4_000_000, first_gap(&image, &mut Steps::new())), None);
     assert_eq!(rt; detector.scan(5_000_000, gap), None);
     Ok(())
 }
@@ -67,7 +67,7 @@ fn gap_below_mark(rt: HostRuntime) -> Result<(), Fail> {
     assert_eq!(rt; insert(&rt, &mut image, 65_408)?, Insert::Stored);
     heartbeat(&rt, &mut image, 65_504);
     assert_eq!(rt;
-        first_gap(&image),
+        first_gap(&image, &mut Steps::new()),
         Some(Gap {
             start: 65_472,
             length: 32
@@ -75,7 +75,7 @@ fn gap_below_mark(rt: HostRuntime) -> Result<(), Fail> {
     );
     heartbeat(&rt, &mut image, 65_600);
     assert_eq!(rt;
-        first_gap(&image),
+        first_gap(&image, &mut Steps::new()),
         Some(Gap {
             start: 65_472,
             length: 64
