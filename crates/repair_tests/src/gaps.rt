@@ -50,11 +50,18 @@ fn gap_between_frames(rt: HostRuntime) -> Result<(), Fail> {
         (1_999_999, None),
         (2_000_000, gap),
     ] {
-        assert_eq!(rt; detector.scan(now, first_gap(&image, &mut Steps::new())), told, "{now}");
+        assert_eq!(rt;
+            detector.scan(now, first_gap(&image, &mut Steps::new())),
+            told,
+            "{now}"
+        );
     }
     assert_eq!(rt; insert(&rt, &mut image, 64)?, Insert::Stored);
     assert_eq!(rt; first_gap(&image, &mut Steps::new()), None);
-    assert_eq!(rt; detector.scan(4_000_000, first_gap(&image, &mut Steps::new())), None);
+    assert_eq!(rt;
+        detector.scan(4_000_000, first_gap(&image, &mut Steps::new())),
+        None
+    );
     assert_eq!(rt; detector.scan(5_000_000, gap), None);
     Ok(())
 }
