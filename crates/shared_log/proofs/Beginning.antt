@@ -1,35 +1,32 @@
 -- The words of a log that opens obey the rule.
-use Rattle.std.proofs.Common.{◌≡◌, ◌≢◌, ◌⊎◌, inl, inr, ℕ, zero, suc, ◌+◌, ◌-◌, ◌*◌, ◌/◌, ◌%◌, ◌<◌, ◌≤◌, ◌==◌, eqb, cond, Bool, true, false, max, min, List, [], ◌∷◌, map, replicate, length, set, length-set, get_or-set_same, get_or-set_other, sym, refl, ap, ◌∙◌, subst, ⊎_elim, eq-eqb, ne_eqb, lt_of_not-le, arith}
+use Rattle.std.proofs.Common.{◌≡◌, inl, ℕ, zero, suc, ◌+◌, ◌*◌, ◌/◌, ◌%◌, ◌<◌, ◌≤◌, eqb, cond, Bool, true, false, List, [], ◌∷◌, replicate, sym, refl, ap, ◌∙◌, subst, ne_eqb, arith}
 use mathlib.Core.Option.{some, some-injective, some-ne-none}
 use mathlib.Core.Logic.{dite}
-use native.Mathlib.Decide.{dec_le, ℕ_discrete}
+use native.Mathlib.Decide.{dec_le}
 use lib.ListN.{get_elem?}
 use Rattle.std.specs.Prelude.{slice_index}
 use Rattle.std.specs.List.{AllByRecursion}
 use Rattle.std.proofs.lemmas.List.{length-replicate}
-use Rattle.theory.specs.Position.{greatest_claim, max_position}
-use Rattle.theory.specs.Entry.{length_of}
+use Rattle.theory.specs.Position.{greatest_claim}
 use Rattle.theory.specs.Refusal.{limit_in}
 use Rattle.word_calls.specs.declared.pass.Controls.{Controls}
-use Rattle.word_calls.specs.declared.pass.Keeping.{Keeping}
 use Rattle.word_calls.specs.declared.pass.Pass.{Pass}
-use Rattle.word_calls.specs.declared.pass.Reading.{Reading}
 use Rattle.tail_claim.specs.declared.view.View.{View}
 use Rattle.tail_claim.specs.declared.view.Key as old
-use Rattle.tail_claim.specs.Packs.{consumer_place, data_place, limit_place, ring_of, slot, table_length}
+use Rattle.tail_claim.specs.Packs.{consumer_place, ring_of, slot}
 use Rattle.tail_claim.specs.Sums.{total}
 use Rattle.tail_claim.specs.Terms.{end_of}
-use Rattle.tail_claim.specs.Rule.{Bounds, Claimed, Sound, armed_of, first_of, shape_of, size_of, weight}
+use Rattle.tail_claim.specs.Rule.{Bounds, Claimed, Sound, first_of}
 use Rattle.tail_claim.specs.Memory.{Ruled, Stored, tail_of}
 use Rattle.tail_claim.specs.Openings.{Fresh}
-use Rattle.tail_claim.specs.Sure.{IsSure, controls_in, fresh_controls}
-use Rattle.tail_claim.specs.Plays.{bounds_of, first_seat, newcomer, pass_in}
+use Rattle.tail_claim.specs.Sure.{IsSure, controls_in}
+use Rattle.tail_claim.specs.Plays.{bounds_of, newcomer}
 use Rattle.tail_claim.proofs.Tails.{elsewhere}
 use Rattle.tail_claim.proofs.Memories.{tail_is}
 use Rattle.tail_claim.proofs.Begun.{fresh_is, ruled_first}
 use Rattle.shared_log.specs.declared.rule.Key.{Key}
-use Rattle.shared_log.specs.Edges.{IsAmong, IsPlaced}
-use Rattle.shared_log.specs.Kept.{Attends, IsKeeper, IsReader, Kept, readers_of, reads_as}
+use Rattle.shared_log.specs.Edges.{IsPlaced}
+use Rattle.shared_log.specs.Kept.{Attends, IsReader, Kept, reads_as}
 use Rattle.shared_log.specs.Table.{LogRuled, consumers_at, now_at, whole_pass, whole_seat}
 use Rattle.shared_log.specs.Opening.{Begun}
 use Rattle.shared_log.specs.Handles.{IsCount}

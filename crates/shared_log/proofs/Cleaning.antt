@@ -1,31 +1,31 @@
 -- A word that all consumers have left behind by a term becomes zero.
-use Rattle.std.proofs.Common.{◌≡◌, ◌≢◌, ◌⊎◌, inl, inr, ℕ, zero, suc, ◌+◌, ◌-◌, ◌*◌, ◌%◌, ◌/◌, ◌<◌, ◌≤◌, max, min, List, [], ◌∷◌, ◌++◌, map, length, set, length-set, get_or-set_same, get_or-set_other, sym, refl, ap, ◌∙◌, subst, ⊎_elim, lt_of_not-le, mod-lt, mod-eq_of_lt, arith}
+use Rattle.std.proofs.Common.{◌≡◌, ◌≢◌, inl, inr, ℕ, suc, ◌+◌, ◌-◌, ◌*◌, ◌%◌, ◌/◌, ◌<◌, ◌≤◌, max, min, List, [], ◌∷◌, map, length, set, length-set, get_or-set_same, get_or-set_other, sym, refl, ap, ◌∙◌, subst, ⊎_elim, lt_of_not-le, arith}
 use mathlib.Core.Option.{some}
 use mathlib.Core.Logic.{dite}
-use native.Mathlib.Decide.{dec_le, ℕ_discrete}
+use native.Mathlib.Decide.{dec_le}
 use lib.ListN.{get_elem?}
 use Rattle.std.specs.Prelude.{slice_index}
 use Rattle.std.specs.List.{AllByRecursion}
 use Rattle.std.proofs.Math.Nat.{add-mod_right}
 use Rattle.std.proofs.lemmas.List.{map-set}
-use Rattle.atomic_table.specs.Table.{Allows, State, keeps}
+use Rattle.atomic_table.specs.Table.{Allows, keeps}
 use Rattle.atomic_table.proofs.Lists.{at_map, at_set}
-use Rattle.theory.specs.Position.{Geometry, aligned}
+use Rattle.theory.specs.Position.{aligned}
 use Rattle.theory.specs.Bytes.{Identity}
 use Rattle.theory.specs.Entry.{Entry, length_of}
 use Rattle.theory.specs.Placed.{Among}
-use Rattle.theory.proofs.Lists.{all_at, all_from, all_weaker, among_left, among_right}
+use Rattle.theory.proofs.Lists.{all_at, all_from, all_weaker, among_right}
 use Rattle.word_calls.specs.declared.pass.FrameWords.{FrameWords}
 use Rattle.word_calls.specs.declared.pass.Keeping.{Keeping}
 use Rattle.word_calls.specs.declared.pass.Pass.{Pass}
 use Rattle.word_calls.specs.declared.pass.Reading.{Reading}
-use Rattle.word_calls.specs.Steps.{Extent, extent_of, extents, frames_of, geometry_of, term_of}
+use Rattle.word_calls.specs.Steps.{Extent, extent_of, extents, frames_of, term_of}
 use Rattle.tail_claim.specs.declared.view.View.{View}
 use Rattle.tail_claim.specs.Packs.{consumer_place, data_place, limit_place, ring_of, slot}
 use Rattle.tail_claim.specs.Sums.{covers, total}
 use Rattle.tail_claim.specs.Terms.{end_of}
 use Rattle.tail_claim.specs.Rule.{Bounds, Claimed, IsClaim, entries_of, first_of, shape_of, size_of, weight}
-use Rattle.tail_claim.specs.Memory.{IsAligned, Memory, Ruled, Stands, Stored, tail_of}
+use Rattle.tail_claim.specs.Memory.{IsAligned, Ruled, Stands, Stored, tail_of}
 use Rattle.tail_claim.specs.Events.{committed_weight}
 use Rattle.tail_claim.specs.Sure.{Learns}
 use Rattle.tail_claim.specs.Plays.{Mine, pass_in}
@@ -42,7 +42,7 @@ use Rattle.shared_log.specs.Keepings.{Cleans, MayClean, keeping, least_of, with_
 use Rattle.shared_log.proofs.Sums.{claimed_by, covered, covering, parted, total_both}
 use Rattle.shared_log.proofs.Edges.{edge_low}
 use Rattle.shared_log.proofs.Growing.{Grows, grows, placed_on, same_sum}
-use Rattle.shared_log.proofs.Resting.{attending, rest_looks, rested_here}
+use Rattle.shared_log.proofs.Resting.{rest_looks, rested_here}
 use Rattle.shared_log.proofs.Known.{among_total}
 use Rattle.shared_log.proofs.Keeping.{least_low, not_keeper}
 
@@ -220,7 +220,7 @@ module _ (key : Key) (slots id : ℕ) (m : Mine) where
       let all = a.keeping.all may.keeper in let any = q.kept.any in
       -- what lies a term below the least consumer lies a term below each
       let under : (j : ℕ) → j < key.consumers → q.cleaned + 8 ≤ max key.start (slice_index ws (consumer_place j) - size_of bs) = λ j lt. (let lt' : j < length v.pass.keeping.positions = omega arith in let l = least_low v.pass.keeping.positions j lt' in let sw = a.keeping.swept j lt' in let mb = may.below in
-          spread v.pass.keeping.cleaned q.cleaned v.pass.start key.start (least_of v.pass.keeping.positions) (slice_index v.pass.keeping.positions j) (slice_index ws (consumer_place j)) (term_of v.pass) (size_of bs) cleaned_is c.start l sw shape mb) in
+      spread v.pass.keeping.cleaned q.cleaned v.pass.start key.start (least_of v.pass.keeping.positions) (slice_index v.pass.keeping.positions j) (slice_index ws (consumer_place j)) (term_of v.pass) (size_of bs) cleaned_is c.start l sw shape mb) in
       let pl = q.kept.placed 0 any in
       let there : slot (shape_of bs) q.cleaned ≡ i = ap (slot key.identity.geometry) (sym cleaned_is) in
       let ruled : Ruled (further bs) ws' qs' = subst (λ (z : ℕ). Ruled (further bs) (set ws z 0) qs') there (cleaned_rule_at bs ws qs q.ruled (slice_index ws (consumer_place 0)) pl q.kept.ahead q.kept.unit (under 0 any) id v.pass k here) in

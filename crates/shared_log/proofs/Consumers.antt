@@ -1,5 +1,5 @@
 -- The steps of a consumer keep the whole rule.
-use Rattle.std.proofs.Common.{◌≡◌, ◌≢◌, ◌⊎◌, inl, inr, ℕ, zero, suc, ◌+◌, ◌-◌, ◌*◌, ◌%◌, ◌/◌, ◌<◌, ◌≤◌, ◌==◌, eqb, cond, max, min, List, [], ◌∷◌, ◌++◌, map, length, set, get_or-set_same, get_or-set_other, sym, refl, ap, ◌∙◌, subst, ⊎_elim, lt_of_not-le, eq-eqb, Bool, arith}
+use Rattle.std.proofs.Common.{◌≡◌, ◌≢◌, inl, inr, ℕ, zero, suc, ◌+◌, ◌-◌, ◌*◌, ◌%◌, ◌<◌, ◌≤◌, eqb, cond, max, min, List, [], ◌∷◌, map, length, set, get_or-set_same, get_or-set_other, sym, refl, ap, ◌∙◌, subst, ⊎_elim, lt_of_not-le, eq-eqb, Bool, arith}
 use mathlib.Core.Option.{some, some-injective, some-ne-none}
 use mathlib.Core.Logic.{dite}
 use native.Mathlib.Decide.{dec_le, ℕ_discrete}
@@ -17,26 +17,26 @@ use Rattle.word_calls.specs.declared.pass.FrameWords.{FrameWords}
 use Rattle.word_calls.specs.declared.pass.Keeping.{Keeping}
 use Rattle.word_calls.specs.declared.pass.Pass.{Pass}
 use Rattle.word_calls.specs.declared.pass.Reading.{Reading}
-use Rattle.word_calls.specs.Steps.{Extent, extent_of, geometry_of, term_of}
+use Rattle.word_calls.specs.Steps.{Extent, extent_of, term_of}
 use Rattle.tail_claim.specs.declared.view.View.{View}
 use Rattle.tail_claim.specs.Packs.{consumer_place, limit_place, ring_of, slot}
 use Rattle.tail_claim.specs.Sums.{covers, total}
 use Rattle.tail_claim.specs.Rule.{Bounds, shape_of, size_of}
 use Rattle.tail_claim.specs.Memory.{Ruled, tail_of}
-use Rattle.tail_claim.specs.Sure.{AreSure, IsSure, Learns, controls_in}
+use Rattle.tail_claim.specs.Sure.{controls_in}
 use Rattle.tail_claim.specs.Plays.{Mine, pass_in}
 use Rattle.tail_claim.proofs.Totals.{both_at, total_at, total_set}
-use Rattle.tail_claim.proofs.Sures.{Leaves, data_leaves, load_leaves, sure_on}
+use Rattle.tail_claim.proofs.Sures.{data_leaves, load_leaves, sure_on}
 use Rattle.shared_log.specs.declared.rule.Key.{Key}
 use Rattle.shared_log.specs.Edges.{AreCommitted, IsAmong, IsEdge, IsPlaced, begins_at, claimed_sum, committed_sum}
 use Rattle.shared_log.specs.Kept.{Attends, IsKeeper, IsReader, Kept, keepers_of, readers_of, reads_as}
 use Rattle.shared_log.specs.Table.{LogRuled, now_at}
-use Rattle.shared_log.specs.Readings.{FindsFrame, IsConsumer, IsFrameAt, Looked, Looks, MayPass, Passes, Rereads, end_of, knows_more, moved_to, reading, with_consumer}
+use Rattle.shared_log.specs.Readings.{IsConsumer, IsFrameAt, Looked, Looks, MayPass, Passes, Rereads, knows_more, moved_to, reading, with_consumer}
 use Rattle.shared_log.proofs.Sums.{covered, covering}
 use Rattle.shared_log.proofs.Edges.{among_claimed, edge_behind, passed_behind}
 use Rattle.shared_log.proofs.Growing.{Grows, Spared, attends_on, grows, placed_on, same_sum}
 use Rattle.shared_log.proofs.Resting.{attending, rest_looks, rested, rested_here}
-use Rattle.shared_log.proofs.Known.{done_of, finds, is_among, low_enough, one_frame, stands_of, word_there}
+use Rattle.shared_log.proofs.Known.{done_of, finds, one_frame, stands_of, word_there}
 use Rattle.shared_log.proofs.InTerm.{done_long, frame_at, words_cover}
 
 -- ---- lists
@@ -306,8 +306,8 @@ module _ (key : Key) (slots id : ℕ) (m : Mine) (place : ℕ) (r : Reading) (is
               readings = all_places (IsReader key.consumers ws' qs') rs (λ j z e'. ⊎_elim
                   (λ (a : (j ≡ place) × (x ≡ z)). subst (IsReader key.consumers ws' qs') a.1 record { position = λ lt. stored; known = all_weaker (IsAmong qs) (IsAmong qs') g.among r.known cons.known })
                   (λ (a : (j ≢ place) × (get_elem? v.pass.reading j ≡ some z)). reader_kept z
-                      (λ en. let two = both_at (reads_as r.number) v.pass.reading place j r z a.0 is a.1 in let c : reads_as r.number z ≡ 1 = ap (λ (k : ℕ). cond (eqb k r.number) 1 0) en ∙ itself r.number in twofold (reads_as r.number r) (reads_as r.number z) (readers_of r.number v.pass) two mine_one c mine_all)
-                      (all_place (IsReader key.consumers ws qs) v.pass.reading j z a.1 (attends s q at).readings))
+                  (λ en. let two = both_at (reads_as r.number) v.pass.reading place j r z a.0 is a.1 in let c : reads_as r.number z ≡ 1 = ap (λ (k : ℕ). cond (eqb k r.number) 1 0) en ∙ itself r.number in twofold (reads_as r.number r) (reads_as r.number z) (readers_of r.number v.pass) two mine_one c mine_all)
+                  (all_place (IsReader key.consumers ws qs) v.pass.reading j z a.1 (attends s q at).readings))
                   (at_set v.pass.reading place j x z e'));
               keeping = keeper_kept v.pass.keeping (attends s q at).keeping;
             })

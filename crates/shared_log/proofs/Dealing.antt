@@ -1,5 +1,5 @@
 -- Seats that are dealt keep the rule.
-use Rattle.std.proofs.Common.{◌≡◌, ◌≢◌, ◌⊎◌, inl, inr, ℕ, zero, suc, ◌+◌, ◌-◌, ◌*◌, ◌%◌, ◌<◌, ◌≤◌, ◌==◌, eqb, cond, Bool, List, [], ◌∷◌, ◌++◌, map, length, set, sym, refl, ap, ◌∙◌, subst, ⊎_elim, suc-ne-zero, ne_eqb, arith}
+use Rattle.std.proofs.Common.{◌≡◌, ◌≢◌, ◌⊎◌, inl, inr, ℕ, ◌+◌, ◌-◌, ◌*◌, ◌<◌, ◌≤◌, cond, Bool, List, [], ◌∷◌, ◌++◌, map, set, sym, refl, ap, ◌∙◌, subst, ⊎_elim, suc-ne-zero, ne_eqb, arith}
 use mathlib.Core.Option.{some}
 use lib.ListN.{get_elem?}
 use Rattle.std.specs.Prelude.{slice_index}
@@ -17,7 +17,7 @@ use Rattle.word_calls.specs.declared.pass.Reading.{Reading}
 use Rattle.tail_claim.specs.declared.view.View.{View}
 use Rattle.tail_claim.specs.Packs.{consumer_place, limit_place}
 use Rattle.tail_claim.specs.Sums.{total}
-use Rattle.tail_claim.specs.Rule.{Bounds, armed_of, armed_on, parts_of, weight}
+use Rattle.tail_claim.specs.Rule.{Bounds, armed_on, weight}
 use Rattle.tail_claim.specs.Memory.{Ruled}
 use Rattle.tail_claim.specs.Events.{IsLook, committed_weight}
 use Rattle.tail_claim.specs.Plays.{dealer, dealing_seat, dealt, dealt_seat, newcomer, no_keeping, pass_in}
@@ -26,9 +26,9 @@ use Rattle.tail_claim.proofs.Accounts.{none_armed}
 use Rattle.tail_claim.proofs.Begun.{plus_none, shared, split_ruled, split_total}
 use Rattle.tail_claim.proofs.Sures.{sure_join, sure_split, unsure}
 use Rattle.shared_log.specs.declared.rule.Key.{Key}
-use Rattle.shared_log.specs.Edges.{IsAmong, IsPlaced}
+use Rattle.shared_log.specs.Edges.{IsAmong}
 use Rattle.shared_log.specs.Kept.{Attends, IsKeeper, IsReader, Kept, keepers_of, readers_of, reads_as}
-use Rattle.shared_log.specs.Table.{LogRuled, all_known, dealing, first_reading, keeper_left, keeper_right, knows_all, new_seat, news_left, news_of, news_right, now_at, other_readings, reader_left, reader_right, told_seat}
+use Rattle.shared_log.specs.Table.{LogRuled, all_known, first_reading, keeper_left, keeper_right, knows_all, news_left, news_of, news_right, now_at, other_readings, reader_left, reader_right, told_seat}
 use Rattle.shared_log.proofs.Growing.{Grows, attends_on, grows, placed_on}
 use Rattle.shared_log.proofs.Resting.{attending, rest_looks, rested_here}
 use Rattle.shared_log.proofs.Known.{is_among}

@@ -1,8 +1,8 @@
 -- What a look finds, for a reader.
-use Rattle.std.proofs.Common.{◌≡◌, ℕ, zero, suc, ◌+◌, ◌-◌, ◌*◌, ◌/◌, ◌^◌, ◌<◌, ◌≤◌, Bool, true, false, List, [], ◌∷◌, ◌++◌, length, take, drop, inl, inr, sym, refl, ap, ◌∙◌, subst, arith}
+use Rattle.std.proofs.Common.{◌≡◌, ℕ, zero, suc, ◌+◌, ◌-◌, ◌*◌, ◌^◌, ◌<◌, ◌≤◌, Bool, true, false, List, [], ◌∷◌, ◌++◌, length, take, drop, inl, sym, refl, ap, ◌∙◌, subst, arith}
 use Rattle.std.specs.Prelude.{nat_eq, slice_index, if◌then◌else◌}
 use Rattle.std.specs.Int.{w64, to_le_bytes}
-use mathlib.Core.Option.{some, some-injective}
+use mathlib.Core.Option.{some-injective}
 use Rattle.theory.specs.Position.{Geometry, IsGeometry, aligned}
 use Rattle.theory.specs.Bytes.{Identity}
 use Rattle.theory.specs.Placed.{Among, Data, Frame, Pad, frame_length, payload_of}
@@ -14,16 +14,15 @@ use Rattle.position.specs.Heads.{IsStreamFrame, head_of}
 use Rattle.word_calls.specs.declared.pass.FrameWords.{FrameWords}
 use Rattle.word_calls.specs.declared.pass.Pass.{Pass}
 use Rattle.word_calls.specs.declared.pass.Reading.{Reading}
-use Rattle.word_calls.specs.Frames.{IsLegal, frame_words}
 use Rattle.word_calls.specs.Steps.{frame, term_of}
-use Rattle.word_calls.specs.Contents.{bytes_in, frame_by, frame_in, head_by}
+use Rattle.word_calls.specs.Contents.{bytes_in, frame_in, head_by}
 use Rattle.word_calls.proofs.Contents.{head_said, legal_said}
 use Rattle.tail_claim.specs.Memory.{IsDone}
 use Rattle.shared_log.specs.Handles.{LogValue}
-use Rattle.shared_log.specs.Readers.{Advances, Copies, Finds, FindsNone, IsReaderOf, IsReading, Knows, ReaderValue, ReadsFrame, Stays}
-use Rattle.shared_log.specs.Readings.{FindsFrame, IsConsumer, IsFrameAt, Looks, Passes, end_of, knows_more, moved_to, with_consumer}
+use Rattle.shared_log.specs.Readers.{Advances, Copies, Finds, FindsNone, IsReaderOf, IsReading, Knows, ReaderValue, ReadsFrame}
+use Rattle.shared_log.specs.Readings.{IsConsumer, IsFrameAt, Looks, Passes, knows_more, moved_to, with_consumer}
 use Rattle.shared_log.proofs.InTerm.{words_cover}
-use Rattle.shared_log.proofs.Looking.{found_here, put_first}
+use Rattle.shared_log.proofs.Looking.{put_first}
 
 -- which frame its words say
 pub content_is : (i : Identity) (f : FrameWords) → IsGeometry i.geometry → (d : IsDone i f) → frame_in f ≡ d.content

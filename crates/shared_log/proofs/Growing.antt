@@ -1,5 +1,5 @@
 -- An event of the stream leaves consumers where they may stand, and the frames that are known committed.
-use Rattle.std.proofs.Common.{◌≡◌, ◌≢◌, ℕ, zero, suc, ◌+◌, ◌-◌, ◌*◌, ◌<◌, ◌≤◌, ◌⊎◌, inl, inr, min, max, List, [], ◌∷◌, ◌++◌, length, set, sym, refl, ap, ◌∙◌, subst, ⊎_elim, arith}
+use Rattle.std.proofs.Common.{◌≡◌, ◌≢◌, ℕ, ◌+◌, ◌-◌, ◌<◌, ◌≤◌, ◌⊎◌, inl, inr, min, List, [], ◌∷◌, set, sym, refl, ap, ◌∙◌, subst, ⊎_elim, arith}
 use mathlib.Core.Option.{some}
 use lib.ListN.{get_elem?}
 use Rattle.std.specs.Prelude.{slice_index}
@@ -12,10 +12,10 @@ use Rattle.word_calls.specs.declared.pass.FrameWords.{FrameWords}
 use Rattle.word_calls.specs.declared.pass.Keeping.{Keeping}
 use Rattle.word_calls.specs.declared.pass.Pass.{Pass}
 use Rattle.word_calls.specs.declared.pass.Reading.{Reading}
-use Rattle.word_calls.specs.Steps.{Extent, extent_of, extents}
+use Rattle.word_calls.specs.Steps.{extent_of, extents}
 use Rattle.tail_claim.specs.Packs.{consumer_place, limit_place}
 use Rattle.tail_claim.specs.Sums.{total}
-use Rattle.tail_claim.specs.Rule.{Bounds, size_of, weight}
+use Rattle.tail_claim.specs.Rule.{Bounds, weight}
 use Rattle.tail_claim.specs.Memory.{Ruled, tail_of}
 use Rattle.tail_claim.specs.Admits.{Same}
 use Rattle.tail_claim.specs.Events.{IsClaimed, IsCommitted, IsEvent, IsLook, committed_weight}

@@ -1,17 +1,16 @@
 -- A committed frame lies in one term of the stream.
-use Rattle.std.proofs.Common.{◌≡◌, ℕ, zero, suc, ◌+◌, ◌-◌, ◌*◌, ◌/◌, ◌%◌, ◌^◌, ◌<◌, ◌≤◌, ◌⊎◌, inl, inr, min, List, [], ◌∷◌, length, sym, refl, ap, ◌∙◌, subst, lt_of_not-le, mul-le-mul_left, mul_comm, div-add-mod', arith}
+use Rattle.std.proofs.Common.{◌≡◌, ℕ, suc, ◌+◌, ◌-◌, ◌*◌, ◌/◌, ◌%◌, ◌<◌, ◌≤◌, inr, min, List, [], ◌∷◌, length, sym, refl, ap, ◌∙◌, subst, lt_of_not-le, mul-le-mul_left, mul_comm, div-add-mod', arith}
 use mathlib.Core.Logic.{dite}
 use native.Mathlib.Decide.{dec_le}
-use Rattle.theory.specs.Position.{Geometry, IsGeometry, aligned, max_position, span}
+use Rattle.theory.specs.Position.{Geometry, aligned, max_position}
 use Rattle.theory.specs.Entry.{Entry, entry_end, length_of}
 use Rattle.theory.specs.Tiling.{InOneTerm, Tiles}
 use Rattle.theory.specs.Placed.{Data, Frame, Pad, frame_length}
 use Rattle.theory.specs.Bytes.{Identity}
 use Rattle.position.specs.Heads.{IsStreamFrame, head_of}
-use Rattle.position.specs.declared.head.FrameKind.TheVariants as kinds
 use Rattle.word_calls.specs.declared.pass.FrameWords.{FrameWords}
 use Rattle.word_calls.specs.declared.pass.Pass.{Pass}
-use Rattle.word_calls.specs.Steps.{Extent, extent_of, extents}
+use Rattle.word_calls.specs.Steps.{Extent, extents}
 use Rattle.word_calls.specs.Frames.{IsLegal, frame_words}
 use Rattle.word_calls.proofs.Wordings.{words_length}
 use Rattle.tail_claim.specs.Sums.{covers, total}
@@ -19,7 +18,7 @@ use Rattle.tail_claim.specs.Terms.{end_of}
 use Rattle.tail_claim.specs.Rule.{Bounds, shape_of, size_of}
 use Rattle.tail_claim.specs.Memory.{IsDone, Ruled, tail_of}
 use Rattle.tail_claim.proofs.Memories.{tail_is}
-use Rattle.shared_log.specs.Edges.{IsAmong, IsPlaced, claimed_sum, in_entry}
+use Rattle.shared_log.specs.Edges.{IsAmong, claimed_sum, in_entry}
 use Rattle.shared_log.specs.Readings.{IsFrameAt}
 use Rattle.shared_log.proofs.Sums.{cover_cuts, covered, covering, total_up}
 use Rattle.shared_log.proofs.Edges.{among_claimed}

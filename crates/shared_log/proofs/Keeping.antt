@@ -1,45 +1,43 @@
 -- The steps of the keeper keep the whole rule.
-use Rattle.std.proofs.Common.{◌≡◌, ◌≢◌, ◌⊎◌, inl, inr, ℕ, zero, suc, ◌+◌, ◌-◌, ◌*◌, ◌%◌, ◌/◌, ◌<◌, ◌≤◌, max, min, List, [], ◌∷◌, ◌++◌, map, length, set, length-set, get_or-set_same, get_or-set_other, sym, refl, ap, ◌∙◌, subst, ⊎_elim, lt_of_not-le, arith}
-use mathlib.Core.Option.{some, some-injective, some-ne-none}
+use Rattle.std.proofs.Common.{◌≡◌, ◌≢◌, inl, ℕ, zero, suc, ◌+◌, ◌*◌, ◌<◌, ◌≤◌, min, List, [], ◌∷◌, map, length, set, length-set, get_or-set_same, get_or-set_other, sym, refl, ap, ◌∙◌, subst, ⊎_elim, arith}
+use mathlib.Core.Option.{some}
 use mathlib.Core.Logic.{dite}
-use native.Mathlib.Decide.{dec_le, ℕ_discrete}
+use native.Mathlib.Decide.{ℕ_discrete}
 use lib.ListN.{get_elem?}
 use Rattle.std.specs.Prelude.{slice_index}
 use Rattle.std.specs.List.{AllByRecursion, fold}
-use Rattle.std.proofs.lemmas.List.{map-set, set-get_or}
-use Rattle.atomic_table.specs.Table.{Allows, State, keeps}
+use Rattle.std.proofs.lemmas.List.{map-set}
+use Rattle.atomic_table.specs.Table.{Allows, keeps}
 use Rattle.atomic_table.proofs.Lists.{at_map, at_set}
 use Rattle.theory.specs.Position.{Geometry, greatest_claim}
 use Rattle.theory.specs.Bytes.{Identity}
 use Rattle.theory.specs.Refusal.{limit_in}
-use Rattle.theory.specs.Placed.{Among}
-use Rattle.theory.proofs.Lists.{all_at, all_from, all_weaker}
+use Rattle.theory.proofs.Lists.{all_weaker}
 use Rattle.word_calls.specs.declared.pass.Controls.{Controls}
-use Rattle.word_calls.specs.declared.pass.FrameWords.{FrameWords}
 use Rattle.word_calls.specs.declared.pass.Keeping.{Keeping}
 use Rattle.word_calls.specs.declared.pass.Pass.{Pass}
 use Rattle.word_calls.specs.declared.pass.Reading.{Reading}
-use Rattle.word_calls.specs.Steps.{Extent, extent_of, frames_of, geometry_of, term_of}
+use Rattle.word_calls.specs.Steps.{geometry_of}
 use Rattle.tail_claim.specs.declared.view.View.{View}
-use Rattle.tail_claim.specs.Packs.{consumer_place, limit_place, ring_of, slot}
-use Rattle.tail_claim.specs.Sums.{covers, total}
+use Rattle.tail_claim.specs.Packs.{consumer_place, limit_place, ring_of}
+use Rattle.tail_claim.specs.Sums.{total}
 use Rattle.tail_claim.specs.Terms.{end_of}
 use Rattle.tail_claim.specs.Rule.{Bounds, Claimed, armed_of, first_of, shape_of, size_of}
-use Rattle.tail_claim.specs.Memory.{Memory, Ruled, Stands, Stored, tail_of}
-use Rattle.tail_claim.specs.Sure.{Learns, controls_in}
+use Rattle.tail_claim.specs.Memory.{Memory, Ruled, Stored}
+use Rattle.tail_claim.specs.Sure.{controls_in}
 use Rattle.tail_claim.specs.Plays.{Mine, pass_in}
-use Rattle.tail_claim.proofs.Totals.{both_at, total_at}
+use Rattle.tail_claim.proofs.Totals.{both_at}
 use Rattle.tail_claim.proofs.Sures.{limit_set, sure_on}
 use Rattle.tail_claim.proofs.Tails.{elsewhere}
 use Rattle.tail_claim.proofs.Memories.{stayed}
 use Rattle.shared_log.specs.declared.rule.Key.{Key}
 use Rattle.shared_log.specs.Edges.{IsAmong, IsPlaced}
-use Rattle.shared_log.specs.Kept.{Attends, IsKeeper, IsReader, Kept, keepers_of, readers_of, reads_as}
+use Rattle.shared_log.specs.Kept.{Attends, IsKeeper, IsReader, Kept, keepers_of, readers_of}
 use Rattle.shared_log.specs.Table.{LogRuled, now_at}
 use Rattle.shared_log.specs.Readings.{reading}
 use Rattle.shared_log.specs.Keepings.{LearnsLimit, MayRaise, Raises, Sees, keeping, least_of, with_keeping}
 use Rattle.shared_log.proofs.Growing.{Grows, attends_on, grows, placed_on, same_sum}
-use Rattle.shared_log.proofs.Resting.{attending, rest_looks, rested_here}
+use Rattle.shared_log.proofs.Resting.{rest_looks, rested_here}
 use Rattle.shared_log.proofs.Consumers.{loaded, spared_same}
 
 -- ---- the least position
@@ -135,7 +133,6 @@ raised b ws ps r id word v k at rises clean =
 -- the keeper alone is sure to be one
 pub not_keeper : (ps : List Pass) (id j : ℕ) (v u : Pass) → get_elem? ps id ≡ some v → j ≢ id → get_elem? ps j ≡ some u → v.keeping.right ≡ 1 → total keepers_of ps ≤ 1 → u.keeping.right ≡ 1 → ⊥
 not_keeper ps id j v u at ne at' one few two = let a = both_at keepers_of ps id j v u ne at at' in omega arith
-
 
 module _ (key : Key) (slots id : ℕ) (m : Mine) where
   pub raise : (word : ℕ) → MayRaise m.0.pass word → 0 < m.0.pass.right.parts → Allows (LogRuled key) slots id m limit_place (λ _. word) (λ _ m'. keeping (LearnsLimit word) (λ v w. Raises v word w) m m')

@@ -1,16 +1,15 @@
 -- Frames that are known, and the words where they stand.
-use Rattle.std.proofs.Common.{◌≡◌, ◌≢◌, ℕ, zero, suc, ◌+◌, ◌-◌, ◌*◌, ◌/◌, ◌%◌, ◌<◌, ◌≤◌, ◌⊎◌, inl, inr, min, max, List, [], ◌∷◌, ◌++◌, length, set, sym, refl, ap, ◌∙◌, subst, ⊎_elim, lt_of_not-le, arith}
+use Rattle.std.proofs.Common.{◌≡◌, ◌≢◌, ℕ, zero, suc, ◌+◌, ◌-◌, ◌*◌, ◌%◌, ◌<◌, ◌≤◌, ◌⊎◌, inl, inr, min, max, List, [], ◌∷◌, length, sym, refl, ap, ◌∙◌, subst, ⊎_elim, lt_of_not-le, arith}
 use mathlib.Core.Option.{some, some-injective, some-ne-none}
 use mathlib.Core.Logic.{dite}
 use native.Mathlib.Decide.{dec_le, ℕ_discrete}
 use lib.ListN.{get_elem?}
 use Rattle.std.specs.Prelude.{slice_index}
-use Rattle.std.specs.List.{AllByRecursion}
 use Rattle.theory.specs.Placed.{Among}
 use Rattle.theory.proofs.Lists.{all_at, among_cases, among_left}
 use Rattle.word_calls.specs.declared.pass.FrameWords.{FrameWords}
 use Rattle.word_calls.specs.declared.pass.Pass.{Pass}
-use Rattle.word_calls.specs.Steps.{Extent, extent_of, frame, frames_of}
+use Rattle.word_calls.specs.Steps.{extent_of, frame, frames_of}
 use Rattle.tail_claim.specs.Packs.{slot}
 use Rattle.tail_claim.specs.Sums.{covers, total}
 use Rattle.tail_claim.specs.Rule.{Bounds, shape_of, size_of, weight}
@@ -19,7 +18,7 @@ use Rattle.tail_claim.specs.Events.{committed_weight}
 use Rattle.tail_claim.proofs.Totals.{total_at}
 use Rattle.tail_claim.proofs.Memories.{tail_low}
 use Rattle.shared_log.specs.Edges.{IsAmong, IsPlaced, begins_at, claimed_sum, committed_sum, in_entry}
-use Rattle.shared_log.proofs.Sums.{HasSome, claimed_by, covered, covering, has_some, sum_less, total_both, total_up}
+use Rattle.shared_log.proofs.Sums.{claimed_by, covered, covering, has_some, sum_less, total_both, total_up}
 
 -- ---- a frame is told from another
 

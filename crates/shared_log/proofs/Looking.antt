@@ -1,10 +1,8 @@
 -- A reader's steps, by what it is: its seat is the consumer that stands where it says.
-use Rattle.std.proofs.Common.{◌≡◌, ℕ, zero, suc, ◌+◌, ◌*◌, ◌<◌, ◌≤◌, List, [], ◌∷◌, inr, inl, sym, refl, ap, ◌∙◌, subst, lt_of_not-le, arith}
+use Rattle.std.proofs.Common.{◌≡◌, ℕ, ◌+◌, ◌*◌, ◌<◌, ◌≤◌, [], ◌∷◌, inl, sym, refl, ap, ◌∙◌, subst, lt_of_not-le, arith}
 use mathlib.Core.Logic.{dite}
 use native.Mathlib.Decide.{dec_le}
-use Rattle.std.specs.Prelude.{slice_set}
-use mathlib.Core.Option.{some, some-injective}
-use lib.ListN.{get_elem?}
+use mathlib.Core.Option.{some-injective}
 use Rattle.atomic_table.specs.Table.{Allows}
 use Rattle.tail_claim.proofs.Whole.{set_at}
 use Rattle.theory.specs.Placed.{Among}
@@ -18,7 +16,7 @@ use Rattle.shared_log.specs.declared.rule.Key.{Key}
 use Rattle.shared_log.specs.Table.{LogRuled}
 use Rattle.word_calls.specs.Steps.{term_of}
 use Rattle.shared_log.specs.Readers.{HasWord, IsReading, ReaderValue}
-use Rattle.shared_log.specs.Readings.{FindsFrame, IsConsumer, Looked, Looks, MayPass, Passes, Rereads, end_of, knows_more, moved_to, reading, with_consumer}
+use Rattle.shared_log.specs.Readings.{FindsFrame, IsConsumer, Looks, MayPass, Passes, Rereads, end_of, knows_more, moved_to, reading, with_consumer}
 use Rattle.shared_log.proofs.Consumers.{look, pass, word}
 
 -- ---- the steps are allowed
@@ -28,20 +26,20 @@ pub look_here : (key : Key) (slots id place : ℕ) (m : Mine) (i number position
 look_here key slots id place m i number position read_to is low front at =
     let right : i ≡ slot key.identity.geometry is.consumer.position = at ∙ ap (slot key.identity.geometry) (sym is.position_is) in
     subst (λ (x : ℕ × ℕ). Allows (LogRuled key) slots id m x.0 (λ n. n) (λ n m'. reading (λ v k w. Looks v x.1 k w) m n m')) (λ j. (sym right j, sym front j))
-        (look key slots id m 0 is.consumer is.is (subst (λ (x : ℕ). x < key.consumers) (sym is.number_is) low))
+    (look key slots id m 0 is.consumer is.is (subst (λ (x : ℕ). x < key.consumers) (sym is.number_is) low))
 
 pub word_here : (key : Key) (slots id place start index : ℕ) (m : Mine) (i number position read_to : ℕ) → IsReading m.0.pass number position read_to → number < key.consumers → place ≡ 0 → i ≡ slot key.identity.geometry (start + 8 * index)
     → Allows (LogRuled key) slots id m i (λ n. n) (λ n m'. reading (λ v k w. Rereads v place start index k w) m n m')
 word_here key slots id place start index m i number position read_to is low front at =
     subst (λ (x : ℕ × ℕ). Allows (LogRuled key) slots id m x.0 (λ n. n) (λ n m'. reading (λ v k w. Rereads v x.1 start index k w) m n m')) (λ j. (sym at j, sym front j))
-        (word key slots id m 0 is.consumer is.is start index (subst (λ (x : ℕ). x < key.consumers) (sym is.number_is) low))
+    (word key slots id m 0 is.consumer is.is start index (subst (λ (x : ℕ). x < key.consumers) (sym is.number_is) low))
 
 pub pass_here : (key : Key) (slots id place end : ℕ) (m : Mine) (i number position read_to : ℕ) → IsReading m.0.pass number position read_to → number < key.consumers → place ≡ 0 → MayPass m.0.pass 0 end → i ≡ consumer_place number
     → Allows (LogRuled key) slots id m i (λ _. end) (λ _ m'. reading (λ v k w. Passes v place end w) m 0 m')
 pass_here key slots id place end m i number position read_to is low front may at =
     let right : i ≡ consumer_place is.consumer.number = at ∙ ap consumer_place (sym is.number_is) in
     subst (λ (x : ℕ × ℕ). Allows (LogRuled key) slots id m x.0 (λ _. end) (λ _ m'. reading (λ v k w. Passes v x.1 end w) m 0 m')) (λ j. (sym right j, sym front j))
-        (pass key slots id m 0 is.consumer is.is end may (subst (λ (x : ℕ). x < key.consumers) (sym is.number_is) low))
+    (pass key slots id m 0 is.consumer is.is end may (subst (λ (x : ℕ). x < key.consumers) (sym is.number_is) low))
 
 -- ---- it stays the consumer that it is
 

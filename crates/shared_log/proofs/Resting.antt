@@ -1,15 +1,12 @@
 -- What a consumer or the keeper comes to know leaves claims and memory.
-use Rattle.std.proofs.Common.{◌≡◌, ◌≢◌, ℕ, ◌+◌, ◌*◌, ◌<◌, ◌≤◌, List, map, length, set, length-set, get_or-set_other, sym, refl, ap, ◌∙◌, subst, arith}
+use Rattle.std.proofs.Common.{◌≡◌, ℕ, ◌<◌, ◌≤◌, List, set, length-set, get_or-set_other, refl, subst, arith}
 use mathlib.Core.Option.{some}
 use lib.ListN.{get_elem?}
 use Rattle.std.specs.Prelude.{slice_index}
 use Rattle.std.proofs.lemmas.List.{set-get_or}
-use Rattle.word_calls.specs.declared.pass.FrameWords.{FrameWords}
 use Rattle.word_calls.specs.declared.pass.Keeping.{Keeping}
 use Rattle.word_calls.specs.declared.pass.Pass.{Pass}
 use Rattle.word_calls.specs.declared.pass.Reading.{Reading}
-use Rattle.theory.specs.Entry.{Entry}
-use Rattle.tail_claim.specs.Sums.{total}
 use Rattle.tail_claim.specs.Rule.{Bounds, first_of, shape_of, weight}
 use Rattle.tail_claim.specs.Memory.{Ruled}
 use Rattle.tail_claim.specs.Events.{IsLook, committed_weight}

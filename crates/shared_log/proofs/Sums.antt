@@ -1,22 +1,19 @@
 -- Sums over the frames of all passes.
-use Rattle.std.proofs.Common.{◌≡◌, ℕ, zero, suc, ◌+◌, ◌-◌, ◌*◌, ◌<◌, ◌≤◌, min, List, [], ◌∷◌, ◌++◌, map, length, sym, refl, ap, ◌∙◌, ⊎_elim, lt_of_not-le, arith}
+use Rattle.std.proofs.Common.{◌≡◌, ℕ, suc, ◌+◌, ◌-◌, ◌<◌, ◌≤◌, min, List, [], ◌∷◌, sym, refl, ap, ◌∙◌, lt_of_not-le, arith}
 use mathlib.Core.Option.{some}
 use mathlib.Core.Logic.{dite}
 use native.Mathlib.Decide.{dec_le}
 use lib.ListN.{get_elem?}
-use Rattle.std.specs.List.{AllByRecursion, flat_map}
-use Rattle.theory.specs.Entry.{Entry, length_of}
+use Rattle.theory.specs.Entry.{length_of}
 use Rattle.theory.specs.Position.{aligned, span}
-use Rattle.word_calls.specs.declared.pass.ClaimRange.{ClaimRange}
-use Rattle.word_calls.specs.declared.pass.FrameWords.{FrameWords}
 use Rattle.word_calls.specs.declared.pass.Pass.{Pass}
 use Rattle.word_calls.specs.Steps.{Extent, extent_of, extents, frames_of, ranges_of}
 use Rattle.tail_claim.specs.Sums.{covers, total}
 use Rattle.tail_claim.specs.Rule.{Bounds, Claimed, entries_of, entry_of, weight}
-use Rattle.tail_claim.specs.Memory.{Memory, Ruled, Stored, tail_of}
+use Rattle.tail_claim.specs.Memory.{Memory, Stored, tail_of}
 use Rattle.tail_claim.specs.Events.{committed_weight}
 use Rattle.tail_claim.proofs.Totals.{total_append, total_at, total_flat, total_le, total_map, total_same}
-use Rattle.tail_claim.proofs.Memories.{cover_passes, held_by, maps_append}
+use Rattle.tail_claim.proofs.Memories.{cover_passes, held_by}
 use Rattle.shared_log.specs.Edges.{claimed_sum, committed_sum, in_entry}
 
 -- ---- any list

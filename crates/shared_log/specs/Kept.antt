@@ -6,7 +6,7 @@ use lib.ListN.{get_elem?}
 use Rattle.word_calls.specs.declared.pass.Pass.{Pass}
 use Rattle.word_calls.specs.declared.pass.Reading.{Reading}
 use Rattle.word_calls.specs.declared.pass.Keeping.{Keeping}
-use Rattle.tail_claim.specs.Packs.{consumer_place, limit_place}
+use Rattle.tail_claim.specs.Packs.{consumer_place}
 use Rattle.tail_claim.specs.Sums.{total}
 use Rattle.tail_claim.specs.Rule.{Bounds, size_of}
 use Rattle.shared_log.specs.Edges.{IsAmong, IsPlaced}

@@ -1,5 +1,5 @@
 -- The words of a log that opens, by those of one that is connected and has no consumers.
-use Rattle.std.specs.Prelude.{◌≡◌, ◌≢◌, ℕ, ◌+◌, ◌*◌, ◌<◌, List, length, slice_index}
+use Rattle.std.specs.Prelude.{◌≡◌, ◌≢◌, ℕ, ◌<◌, List, length, slice_index}
 use Rattle.tail_claim.specs.Packs.{consumer_place, limit_place}
 
 -- the limit stands at the start, with no flag, and so many consumers at the start

@@ -1,7 +1,6 @@
 -- What contracts see of a reader of a log that threads share.
-use Rattle.std.specs.Prelude.{◌≡◌, ℕ, ◌+◌, ◌-◌, ◌*◌, ◌/◌, ◌<◌, ◌≤◌, List, ◌++◌, drop, length, slice_index, take}
+use Rattle.std.specs.Prelude.{◌≡◌, ℕ, ◌+◌, ◌*◌, ◌/◌, ◌<◌, ◌≤◌, List, ◌++◌, drop, length, slice_index, take}
 use Rattle.atomic_table.specs.Seated.{TableId}
-use Rattle.theory.specs.Bytes.{Identity}
 use Rattle.theory.specs.Placed.{Among, payload_of}
 use Rattle.position.specs.declared.head.FrameHead.{FrameHead}
 use Rattle.position.specs.Heads.{IsStreamFrame, head_of}
@@ -11,7 +10,7 @@ use Rattle.word_calls.specs.declared.pass.Reading.{Reading}
 use Rattle.word_calls.specs.Steps.{term_of}
 use Rattle.word_calls.specs.Contents.{bytes_in, frame_in}
 use Rattle.shared_log.specs.Handles.{LogValue}
-use Rattle.shared_log.specs.Readings.{IsConsumer, IsFrameAt, MayPass, knows_more, moved_to, with_consumer}
+use Rattle.shared_log.specs.Readings.{IsConsumer, IsFrameAt, MayPass}
 
 pub record ReaderValue : Type 0 where
   pub of : TableId

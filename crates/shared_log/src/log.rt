@@ -15,7 +15,8 @@ use atomic_table::{Seat, Table};
 use std::alloc::Global;
 use std::marker::Model;
 use tail_claim::{
-    Add, Advance, Arm, COUNT, Chosen, Commit, Count, DATA, Next, Ring, Rotate, See, Store, View, packed, place_of,
+    Add, Advance, Arm, COUNT, Chosen, Commit, Count, DATA, Next, Ring, Rotate, See, Store, View,
+    packed, place_of,
 };
 use word_calls::Identity;
 

@@ -93,12 +93,7 @@ impl Log {
     }
 
     /// Loads a word of the frame that begins at a position, which the reader knows.
-    pub(crate) fn word_as<N: Word>(
-        &self,
-        reader: &mut LogReader,
-        start: u64,
-        index: u64,
-    ) -> u64
+    pub(crate) fn word_as<N: Word>(&self, reader: &mut LogReader, start: u64, index: u64) -> u64
         requires fits { IsReaderOf self.now reader.old }
         requires low { start < 2 ^ 56 }
         requires few { index < 2 ^ 32 }

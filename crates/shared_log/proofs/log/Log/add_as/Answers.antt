@@ -10,7 +10,7 @@ use Rattle.tail_claim.specs.Sure.{Learns}
 use Rattle.tail_claim.specs.Plays.{Mine}
 use Rattle.shared_log.specs.Table.{LogRuled}
 use Rattle.tail_claim.proofs.Sures.{add_turns}
-use Rattle.shared_log.proofs.Lifting.{lifted_at, load_spares, other_spares}
+use Rattle.shared_log.proofs.Lifting.{lifted_at, other_spares}
 use Rattle.tail_claim.proofs.Eventful.{steps_are_events}
 use Rattle.shared_log.proofs.log.Log.add_as.Goals as goal
 

@@ -1,8 +1,6 @@
-use Rattle.std.proofs.Common.{rules, ◌≡◌, ◌+◌, ◌-◌, ◌*◌, ◌/◌, ◌<◌, ◌≤◌, ℕ, List, length, drop, min, sym, ap, ◌∙◌, subst, get_or-drop, length-drop, arith}
+use Rattle.std.proofs.Common.{rules, ◌≡◌, ◌+◌, ◌-◌, ◌*◌, ◌/◌, ◌<◌, ◌≤◌, ℕ, length, drop, min, sym, ◌∙◌, subst, get_or-drop, length-drop, arith}
 use Rattle.std.specs.Prelude.{slice_index}
-use Rattle.word_calls.specs.Steps.{term_of}
-use Rattle.word_calls.specs.declared.pass.FrameWords.{FrameWords}
-use Rattle.shared_log.specs.Readers.{HasWord, Knows, ReaderValue}
+use Rattle.shared_log.specs.Readers.{HasWord, ReaderValue}
 use Rattle.shared_log.proofs.Copying.{copied_to}
 use Rattle.shared_log.proofs.log.Log.copy.Goals as goal
 
@@ -26,5 +24,5 @@ loop-index-preserved c = (
       let told : HasWord c.args.reader.now c.args.start (4 + i) c.word_as-word.result = subst (λ (r : ReaderValue). HasWord r c.args.start (4 + i) c.word_as-word.result) c.loop-index.invariant.0 c.word_as-word.ensures.told in
       let at_word : c.word_as-word.result ≡ slice_index (drop 4 f.words) i = told f k at (inside i n (length f.words) fits some) near ∙ sym (get_or-drop 4 f.words i 0) in
       copied_to (drop 4 f.words) i n c.args.block.now c.loop-index.block c.put_bytes.new.block c.word_as-word.result c.min.result c.min.ensures (room i n (length f.words) (length (drop 4 f.words)) fits (length-drop 4 f.words)) some at_word
-          (c.loop-index.invariant.2 f k at (less i n (8 * length f.words) 0 fits) near) c.put_bytes.ensures.stored),
+      (c.loop-index.invariant.2 f k at (less i n (8 * length f.words) 0 fits) near) c.put_bytes.ensures.stored),
 )

@@ -1,4 +1,4 @@
-use Rattle.std.proofs.Common.{◌≡◌, ◌+◌, ◌*◌, ◌≤◌, ℕ, min, length}
+use Rattle.std.proofs.Common.{◌≡◌, ◌*◌, min, length}
 use Rattle.shared_log.specs.Readers.{Copies}
 use Rattle.shared_log.proofs.log.Log.copy.Given as goal
 

@@ -1,10 +1,9 @@
-use Rattle.std.proofs.Common.{rules, ◌≡◌, ◌+◌, ◌*◌, ◌^◌, ◌<◌, ◌≤◌, ℕ, [], ap, sym, ◌∙◌, subst, arith}
+use Rattle.std.proofs.Common.{rules, ◌≡◌, ◌<◌, ℕ, ap, sym, ◌∙◌, subst}
 use Rattle.theory.specs.Bytes.{Identity}
-use Rattle.word_calls.specs.declared.pass.Pass.{Pass}
 use Rattle.tail_claim.specs.Packs.{slot}
 use Rattle.tail_claim.specs.Plays.{Mine}
 use Rattle.shared_log.specs.Handles.{LogValue}
-use Rattle.shared_log.specs.Readers.{IsReading, ReaderValue}
+use Rattle.shared_log.specs.Readers.{ReaderValue}
 use Rattle.shared_log.specs.Readings.{Looks}
 use Rattle.shared_log.proofs.Looking.{look_here, looked_still}
 use Rattle.shared_log.proofs.log.Log.look_as.Goals as goal

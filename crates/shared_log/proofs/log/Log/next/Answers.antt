@@ -1,4 +1,4 @@
-use Rattle.std.proofs.Common.{sym, subst}
+use Rattle.std.proofs.Common.{subst}
 use Rattle.theory.specs.Position.{IsGeometry}
 use Rattle.shared_log.specs.Handles.{LogValue}
 use Rattle.shared_log.proofs.Finding.{read_data, read_pad}

@@ -1,12 +1,11 @@
-use Rattle.std.proofs.Common.{rules, ◌≡◌, ◌+◌, ◌*◌, ◌<◌, ◌≤◌, ℕ, ap, sym, ◌∙◌, subst, arith}
+use Rattle.std.proofs.Common.{rules, ◌≡◌, ◌<◌, ◌≤◌, ℕ, ap, sym, ◌∙◌, subst, arith}
 use Rattle.tail_claim.specs.Plays.{Mine}
 use Rattle.shared_log.specs.Handles.{LogValue}
-use Rattle.shared_log.specs.Readers.{Advances, IsReading, ReaderValue}
+use Rattle.shared_log.specs.Readers.{Advances, ReaderValue}
 use Rattle.atomic_table.specs.Seated.{TableId}
 use Rattle.shared_log.proofs.Finding.{advances_by}
 use Rattle.shared_log.specs.Readings.{Passes}
 use Rattle.shared_log.proofs.Looking.{pass_here, passed_here}
-use Rattle.shared_log.proofs.log.Log.pass_as.Given as given
 use Rattle.shared_log.proofs.log.Log.pass_as.Goals as goal
 
 low : (l : LogValue) (r : ReaderValue) (n m : ℕ) → r.number < l.consumers → n ≡ r.number → m ≡ l.consumers → m ≤ 8 → n < 8
@@ -36,5 +35,5 @@ returns-clause-advances g c =
     let told : Passes c.reader.inside.seat.me.0.pass 0 c.reader.inside.read_to c.store.new.seat.me.0.pass = subst (λ (x : ℕ). Passes c.reader.inside.seat.me.0.pass x c.reader.inside.read_to c.store.new.seat.me.0.pass) c.requires.chosen c.store.ensures.2.3 in
     let table : c.store.new.seat.table_id ≡ c.reader.inside.seat.table_id = c.store.ensures.0 in let id : c.store.new.seat.id ≡ c.reader.inside.seat.id = c.store.ensures.1 in
     subst (λ (r : ReaderValue). Advances r record { of = c.store.new.seat.table_id; seat = c.store.new.seat.id; pass = c.store.new.seat.me.0.pass; number = c.reader.inside.number; position = c.reader.inside.read_to; read_to = c.reader.inside.read_to }) c.reader.view_is
-        (subst (λ (x : TableId × ℕ). Advances record { of = c.reader.inside.seat.table_id; seat = c.reader.inside.seat.id; pass = c.reader.inside.seat.me.0.pass; number = c.reader.inside.number; position = c.reader.inside.position; read_to = c.reader.inside.read_to } record { of = x.0; seat = x.1; pass = c.store.new.seat.me.0.pass; number = c.reader.inside.number; position = c.reader.inside.read_to; read_to = c.reader.inside.read_to }) (λ j. (sym table j, sym id j))
-            (advances_by record { of = c.reader.inside.seat.table_id; seat = c.reader.inside.seat.id; pass = c.reader.inside.seat.me.0.pass; number = c.reader.inside.number; position = c.reader.inside.position; read_to = c.reader.inside.read_to } c.store.new.seat.me.0.pass c.reader.invariant.1 told))
+    (subst (λ (x : TableId × ℕ). Advances record { of = c.reader.inside.seat.table_id; seat = c.reader.inside.seat.id; pass = c.reader.inside.seat.me.0.pass; number = c.reader.inside.number; position = c.reader.inside.position; read_to = c.reader.inside.read_to } record { of = x.0; seat = x.1; pass = c.store.new.seat.me.0.pass; number = c.reader.inside.number; position = c.reader.inside.read_to; read_to = c.reader.inside.read_to }) (λ j. (sym table j, sym id j))
+    (advances_by record { of = c.reader.inside.seat.table_id; seat = c.reader.inside.seat.id; pass = c.reader.inside.seat.me.0.pass; number = c.reader.inside.number; position = c.reader.inside.position; read_to = c.reader.inside.read_to } c.store.new.seat.me.0.pass c.reader.invariant.1 told))

@@ -1,6 +1,5 @@
-use Rattle.std.proofs.Common.{rules, ◌≡◌, ℕ, suc, ◌+◌, ◌%◌, ◌<◌, [], ◌∷◌, eqb, inl, sym, ap, ◌∙◌, subst, arith}
+use Rattle.std.proofs.Common.{rules, ◌≡◌, ℕ, suc, ◌+◌, ◌<◌, [], ◌∷◌, eqb, inl, sym, ap, ◌∙◌, subst, arith}
 use prog.Atomic.{either}
-use Rattle.word_calls.specs.declared.step.WordStep.TheVariants as steps
 use Rattle.theory.specs.Position.{id_of}
 use Rattle.theory.specs.Bytes.{Identity}
 use Rattle.theory.specs.Words.{id_before, tail_word}
@@ -12,8 +11,8 @@ use Rattle.tail_claim.specs.Admits.{Same}
 use Rattle.tail_claim.specs.Sure.{Learns}
 use Rattle.tail_claim.specs.Plays.{Mine}
 use Rattle.shared_log.specs.Table.{LogRuled}
-use Rattle.tail_claim.proofs.Sures.{Turns, rotate_turns}
-use Rattle.shared_log.proofs.Lifting.{lifted_at, load_spares, other_spares}
+use Rattle.tail_claim.proofs.Sures.{rotate_turns}
+use Rattle.shared_log.proofs.Lifting.{lifted_at, other_spares}
 use Rattle.std.specs.Int.{w32, cast_signed, cast_unsigned}
 use Rattle.std.proofs.lemmas.Int.{to_z-of_z}
 use Rattle.tail_claim.proofs.Packs.{id_fits}

@@ -5,7 +5,7 @@ use Rattle.word_calls.specs.Steps.{HasWord, Stores}
 use Rattle.tail_claim.specs.Packs.{slot}
 use Rattle.tail_claim.specs.Plays.{Mine}
 use Rattle.tail_claim.proofs.Sures.{data_leaves, data_turns}
-use Rattle.shared_log.proofs.Lifting.{lifted_at, load_spares, other_spares}
+use Rattle.shared_log.proofs.Lifting.{lifted_at, other_spares}
 use Rattle.tail_claim.proofs.Eventful.{steps_are_events}
 use Rattle.shared_log.proofs.log.Log.store_as.Goals as goal
 

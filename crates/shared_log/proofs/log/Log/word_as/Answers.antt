@@ -1,10 +1,8 @@
-use Rattle.std.proofs.Common.{rules, ◌≡◌, ◌+◌, ◌*◌, ◌^◌, ◌<◌, ◌≤◌, ℕ, [], ap, sym, ◌∙◌, subst, arith}
-use Rattle.theory.specs.Bytes.{Identity}
-use Rattle.word_calls.specs.declared.pass.Pass.{Pass}
+use Rattle.std.proofs.Common.{rules, ◌≡◌, ◌+◌, ◌*◌, ◌<◌, ℕ, ap, sym, ◌∙◌, subst}
 use Rattle.tail_claim.specs.Packs.{slot}
 use Rattle.tail_claim.specs.Plays.{Mine}
 use Rattle.shared_log.specs.Handles.{LogValue}
-use Rattle.shared_log.specs.Readers.{HasWord, IsReading, ReaderValue}
+use Rattle.shared_log.specs.Readers.{HasWord, ReaderValue}
 use Rattle.shared_log.specs.Readings.{Rereads}
 use Rattle.shared_log.proofs.Looking.{has_word, word_here}
 use Rattle.shared_log.proofs.log.Log.word_as.Goals as goal
