@@ -3,7 +3,7 @@
 ghost use Rattle.std.specs.Prelude.{◌≡◌, IfOk};
 ghost use Rattle.run_claims.specs.Commands.{IsSameBut};
 
-use one_hand::{OneHandLog, PlainHand};
+use plain_log::PlainLog;
 use position::Geometry;
 use rand_core::utils::NextWord;
 use rand_pcg::Pcg32;
@@ -18,14 +18,12 @@ const SEEDS: u64 = 100;
 
 const COMMANDS: usize = 60;
 
-/// The plain state of a log, connected and with its limit raised once, and a log on a table.
-fn open_both(alloc: Global, geometry: Geometry, start: u64) -> Result<(PlainHand, TableHand), Fail>
+/// A plain log, and a log on a table.
+fn open_both(alloc: Global, geometry: Geometry, start: u64) -> Result<(PlainLog, TableHand), Fail>
     ensures { IfOk result (λ r. IsSameBut r.0 r.1) }
 {
     let table = TableHand::open(alloc, geometry, 1, 1001, start)?;
-    let mut plain = PlainHand::open(alloc, geometry, 1, 1001, start, 1)?;
-    plain.set_connected(true);
-    let _ = plain.clean_and_limit();
+    let plain = PlainLog::open(alloc, geometry, 1, 1001, start)?;
     Ok((plain, table))
 }
 
@@ -61,7 +59,6 @@ fn run_drawn<R: Abort>(rt: &R, alloc: Global, seed: u64) -> Result<usize, Fail> 
     }
     let (mut plain, mut table) = open_both(alloc, geometry, start)?;
     let answers = run_on_both(alloc, &mut plain, &mut table, &commands);
-    let _ = plain.close();
     let (of_plain, of_table) = answers?;
     assert_eq!(rt; of_plain.as_slice(), of_table.as_slice());
     let accepted = of_plain.iter().filter(|answer| matches!(

@@ -1,10 +1,10 @@
-use log_buffer::Book;
-use one_hand::{OneHandLog, PlainHand};
+use plain_log::PlainLog;
 use position::Geometry;
-use publication::Refusal;
 use run_claims::{ClaimAnswer, ClaimCommand, run_claims, runs_agree};
 use std::alloc::{AllocError, Global};
 use std::test::*;
+use table_hand::TableHand;
+use word_calls::Refusal;
 
 /// An offer of so many bytes.
 fn offer(alloc: Global, publisher: u32, size: usize) -> Result<ClaimCommand, AllocError> {
@@ -26,20 +26,11 @@ fn abort(publisher: u32) -> ClaimCommand {
     ClaimCommand::Abort { publisher }
 }
 
-/// Runs the commands on a log that was just opened, with its limit raised where it is connected.
-fn run(
-    alloc: Global,
-    consumers: usize,
-    connected: bool,
-    commands: &[ClaimCommand],
-) -> Result<(Vec<ClaimAnswer>, Book), Fail> {
+/// Runs the commands on a plain log from this start on.
+fn run(alloc: Global, start: u64, commands: &[ClaimCommand]) -> Result<Vec<ClaimAnswer>, Fail> {
     let geometry = Geometry::new(65_536, 1408, 7)?;
-    let mut log = PlainHand::open(alloc, geometry, 1, 1001, 0, consumers)?;
-    log.set_connected(connected);
-    let _ = log.clean_and_limit();
-    let answers = run_claims(alloc, &mut log, commands);
-    let book = log.close();
-    Ok((answers?, book))
+    let mut log = PlainLog::open(alloc, geometry, 1, 1001, start)?;
+    Ok(run_claims(alloc, &mut log, commands)?)
 }
 
 /// Messages and claims one after the other, and what can't be done meanwhile.
@@ -76,9 +67,8 @@ fn answers(rt: HostRuntime) -> Result<(), Fail> {
         commands.push(command)?;
         expected.push(answer)?;
     }
-    let (answers, book) = run(alloc, 1, true, &commands)?;
+    let answers = run(alloc, 0, &commands)?;
     assert_eq!(rt; answers.as_slice(), expected.as_slice());
-    assert_eq!(rt; book.shares, [64, 224, 64, 0, 0, 0, 0, 0]);
     Ok(())
 }
 
@@ -113,13 +103,12 @@ fn greatest(rt: HostRuntime) -> Result<(), Fail> {
         commands.push(command)?;
         expected.push(answer)?;
     }
-    let (answers, book) = run(alloc, 1, true, &commands)?;
+    let answers = run(alloc, 0, &commands)?;
     assert_eq!(rt; answers.as_slice(), expected.as_slice());
-    assert_eq!(rt; book.tail, 34_944);
     Ok(())
 }
 
-/// Publishers that aren't there, and a log to which nobody listens.
+/// Publishers that aren't there.
 #[test]
 fn strangers(rt: HostRuntime) -> Result<(), Fail> {
     let alloc = rt.alloc();
@@ -128,19 +117,30 @@ fn strangers(rt: HostRuntime) -> Result<(), Fail> {
         claim(8, 3),
         commit(alloc, 4_294_967_295, 3)?,
         abort(8),
-        offer(alloc, 0, 3)?,
-        claim(7, 3),
     ];
-    let (answers, book) = run(alloc, 1, false, &commands)?;
-    let refused = ClaimAnswer::Refused(Refusal::NotConnected);
-    let unfit = ClaimAnswer::Unfit;
-    let expected = [unfit, unfit, unfit, unfit, refused, refused];
+    let answers = run(alloc, 0, &commands)?;
+    let expected = [ClaimAnswer::Unfit; 4];
     assert_eq!(rt; answers.as_slice(), expected.as_slice());
-    assert_eq!(rt; book.tail, 0);
     Ok(())
 }
 
-/// Two logs that differ in their consumers.
+/// A message that doesn't fit its term, and the last term's end.
+#[test]
+fn ends_of_terms(rt: HostRuntime) -> Result<(), Fail> {
+    let alloc = rt.alloc();
+    let commands = [offer(alloc, 0, 100)?, offer(alloc, 1, 3)?];
+    let trips = run(alloc, 65_536 - 64, &commands)?;
+    let refused = ClaimAnswer::Refused(Refusal::AdminAction);
+    let expected = [refused, ClaimAnswer::Ends(65_600)];
+    assert_eq!(rt; trips.as_slice(), expected.as_slice());
+    let last = run(alloc, (65_536 << 31) - 64, &commands)?;
+    let refused = ClaimAnswer::Refused(Refusal::MaxPositionExceeded);
+    let expected = [refused, refused];
+    assert_eq!(rt; last.as_slice(), expected.as_slice());
+    Ok(())
+}
+
+/// A plain log and one on a table.
 #[test]
 fn two_logs(rt: HostRuntime) -> Result<(), Fail> {
     let alloc = rt.alloc();
@@ -151,9 +151,10 @@ fn two_logs(rt: HostRuntime) -> Result<(), Fail> {
         abort(2),
     ];
     runs_agree();
-    let first = run(alloc, 1, true, &commands)?;
-    let second = run(alloc, 8, true, &commands)?;
-    assert_eq!(rt; first.0.as_slice(), second.0.as_slice());
-    assert_eq!(rt; first.1, second.1);
+    let first = run(alloc, 32, &commands)?;
+    let geometry = Geometry::new(65_536, 1408, 7)?;
+    let mut log = TableHand::open(alloc, geometry, 1, 1001, 32)?;
+    let second = run_claims(alloc, &mut log, &commands)?;
+    assert_eq!(rt; first.as_slice(), second.as_slice());
     Ok(())
 }

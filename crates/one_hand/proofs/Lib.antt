@@ -1,10 +1,2 @@
-mod Cleanings
-mod HandOpens
-mod Hands
-mod Held
-mod Legals
-mod Puts
-mod Readers
-mod SlotLemmas
-mod Standing
-mod Streams
+pub mod Cases
+pub mod Keeps

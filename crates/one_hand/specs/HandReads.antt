@@ -1,7 +1,8 @@
 -- What a reader's calls leave of a log in one hand.
-use Rattle.std.proofs.Common.{◌∙◌, sym, ap, refl}
+use Rattle.std.proofs.Common.{◌∙◌, sym, ap, subst, refl}
 use Rattle.std.proofs.lemmas.List.{set-get_or, set-set}
 use Rattle.std.specs.Prelude.{◌≡◌, ℕ, List}
+use Rattle.theory.specs.Placed.{Among, Placed}
 use Rattle.one_hand.specs.Stream.{Stream, position_of, with_consumer}
 
 -- the reader of this number stands elsewhere, and nothing else has changed
@@ -9,7 +10,17 @@ pub record MovesReader (number : ℕ) (old : Stream) (after : ℕ) (new : Stream
   pub number_is : after ≡ number
   pub moved : new ≡ with_consumer old number (position_of new number)
 
+-- nobody else changes the log
+abbrev pub AreSame : List Placed → List Placed → Type 0
+AreSame old new = new ≡ old
+
 -- ---- the laws of a source
+
+pub frames_on : (a b c : List Placed) → AreSame a b → AreSame b c → AreSame a c
+frames_on a b c h k = k ∙ h
+
+pub frames_keep : (a b : List Placed) → AreSame a b → (frame : Placed) → Among frame a → Among frame b
+frames_keep a b h frame among = subst (λ xs. Among frame xs) (sym h) among
 
 pub reader_stays : (number : ℕ) (l : Stream) → MovesReader number l number l
 reader_stays number l = record {

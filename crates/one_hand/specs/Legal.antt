@@ -6,7 +6,7 @@ use Rattle.theory.specs.Placed.{Among}
 use Rattle.theory.specs.Entry.{IsEntry}
 use Rattle.theory.specs.Tiling.{Tiles}
 use Rattle.theory.specs.Bytes.{IsIdentity}
-use Rattle.term_buffer.specs.Kept.{claim_of}
+use Rattle.one_hand.specs.Entries.{claim_of}
 use Rattle.one_hand.specs.Stream.{OpenClaim, Stream, term_of}
 
 -- a publisher's open claim: its entry is there, and nothing of it is committed

@@ -1,6 +1,7 @@
+pub mod Entries
+pub mod Faults
 pub mod HandReads
 pub mod Legal
-pub mod Plain
+pub mod Openings
 pub mod Reads
-pub mod Slots
 pub mod Stream

@@ -1,15 +1,13 @@
 -- A log that one hand holds with all its passes: what its calls answer, and what they make of it.
-use Rattle.std.specs.Prelude.{◌≡◌, ℕ, ◌+◌, ◌-◌, ◌*◌, ◌/◌, ◌^◌, ◌&&◌, Bool, true, false, not, List, [], ◌∷◌, ◌++◌, length, map, max, replicate, nat_eq, nat_le, if◌then◌else◌, Option, None, Some, Result, Ok, Err, slice_index, slice_index_or, slice_set}
+use Rattle.std.specs.Prelude.{◌≡◌, ℕ, ◌+◌, ◌-◌, ◌*◌, ◌/◌, ◌^◌, ◌&&◌, Bool, true, false, not, List, [], ◌∷◌, ◌++◌, length, map, fold, max, min, replicate, nat_eq, nat_le, if◌then◌else◌, Option, None, Some, Result, Ok, Err, slice_index, slice_index_or, slice_set}
 use Rattle.std.specs.List.{filter}
 use Rattle.theory.specs.Position.{aligned, framed_length}
 use Rattle.theory.specs.Placed.{Data, Frame, Pad}
 use Rattle.theory.specs.Entry.{Entry}
 use Rattle.theory.specs.Bytes.{Identity}
-use Rattle.term_buffer.specs.Kept.{claim_of, padded, published, with_share}
-use Rattle.log_buffer.specs.Limits.{least}
-use Rattle.publication.specs.Offers.{OfferCase, IsClosed, IsUsedUp, IsLimited, Fits, Trips, IsStale, refusal_at_end}
-use Rattle.publication.specs.declared.refusal.Refusal.{Refusal}
-use Rattle.publication.specs.declared.refusal.Refusal.TheVariants.{NotConnected, BackPressured, AdminAction, Closed}
+use Rattle.word_calls.specs.declared.refusal.Refusal.{Refusal}
+use Rattle.word_calls.specs.declared.refusal.Refusal.TheVariants.{NotConnected, BackPressured, AdminAction, Closed, MaxPositionExceeded}
+use Rattle.one_hand.specs.Entries.{claim_of, padded, published, with_share}
 
 -- a range that a publisher holds open, for a message of so many bytes
 pub record OpenClaim : Type 0 where
@@ -56,7 +54,20 @@ opened identity start consumers = record {
   claims = replicate 8 None;
 }
 
+-- a log that was just opened and connected, with its limit half a term above the start
+abbrev pub ready : Identity → ℕ → ℕ → Stream
+ready identity start consumers = record (opened identity start consumers) { limit = start + identity.geometry.term_length / 2; connected = true }
+
 -- ---- offers and claims
+
+-- how an offer goes: the log is closed; the active term is used up; the tail is at the limit; the message fits; it doesn't
+-- fit the rest of the term
+pub data OfferCase : Type 0 where
+  IsClosed : OfferCase
+  IsUsedUp : OfferCase
+  IsLimited : OfferCase
+  Fits : OfferCase
+  Trips : OfferCase
 
 -- what is left of the active term
 abbrev pub room : Stream → ℕ
@@ -66,7 +77,6 @@ room l = (l.active + 1) * term_of l - l.tail
 abbrev pub covered : Stream → ℕ → ℕ
 covered l bytes = framed_length l.identity.geometry bytes
 
--- nobody else turns a term meanwhile, so that the active term is never an older one
 abbrev pub case_of : Stream → ℕ → OfferCase
 case_of l bytes =
     if l.closed then IsClosed
@@ -77,10 +87,12 @@ case_of l bytes =
 abbrev pub refusal_at_limit : Stream → Refusal
 refusal_at_limit l = if l.connected then BackPressured else NotConnected
 
+abbrev pub refusal_at_end : ℕ → Refusal
+refusal_at_end count = if nat_eq count (2 ^ 31 - 1) then MaxPositionExceeded else AdminAction
+
 -- the position behind the message, or the refusal
 abbrev pub answer : Stream → ℕ → OfferCase → Result ℕ Refusal
 answer l bytes IsClosed = Err Closed
-answer l bytes IsStale = Err AdminAction
 answer l bytes IsUsedUp = Err (refusal_at_end l.active)
 answer l bytes IsLimited = Err (refusal_at_limit l)
 answer l bytes Fits = Ok (l.tail + covered l bytes)
@@ -111,7 +123,6 @@ with_claim l by size = record (with_entry l (claim_of l.identity.geometry l.tail
 -- the log behind an addition in a case; the last argument is the log where the message fits
 abbrev pub after : Stream → ℕ → OfferCase → Stream → Stream
 after l by IsClosed fitting = l
-after l by IsStale fitting = l
 after l by IsUsedUp fitting = turned l
 after l by IsLimited fitting = l
 after l by Fits fitting = fitting
@@ -169,6 +180,9 @@ pub record Aborts (old : Stream) (by : ℕ) (end : ℕ) (new : Stream) : Type 0 
   pub after : new ≡ with_abort old by claim
 
 -- ---- the keeper
+
+abbrev pub least : List ℕ → ℕ
+least positions = fold min (slice_index positions 0) positions
 
 -- how far the log may be cleaned
 abbrev pub clean_end : Stream → ℕ

@@ -1,8 +1,7 @@
 //! A reader of a log in one hand, as a source of frames.
 
 ghost use Rattle.std.specs.Prelude.{◌≡◌, ◌<◌, ⊤, length, refl};
-ghost use Rattle.log_reader.specs.Sourced.{AreSame, frames_keep, frames_on};
-ghost use Rattle.one_hand.specs.HandReads.{MovesReader, reader_goes_on, reader_stays};
+ghost use Rattle.one_hand.specs.HandReads.{AreSame, MovesReader, frames_keep, frames_on, reader_goes_on, reader_stays};
 ghost use Rattle.one_hand.specs.Reads.{source_of};
 
 use crate::one_hand::OneHandLog;

@@ -2,13 +2,14 @@
 //! and after it.
 #![tactic(auto)]
 
+mod book;
 mod claims;
+mod fault;
 mod hand_reader;
 mod one_hand;
-mod plain_hand;
-mod slots;
 
-pub use claims::Claims;
+pub use book::Book;
+pub use claims::{Claims, PUBLISHERS};
+pub use fault::LogError;
 pub use hand_reader::HandReader;
 pub use one_hand::OneHandLog;
-pub use plain_hand::PlainHand;

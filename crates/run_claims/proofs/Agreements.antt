@@ -1,8 +1,7 @@
 -- Commands see nothing of a stream's consumers.
 use Rattle.std.proofs.Common.{◌≡◌, ◌∙◌, ℕ, Bool, true, false, cond, List, [], ◌∷◌, length, refl, sym, ap}
 use Rattle.std.specs.Prelude.{◌+◌, ◌-◌, ◌^◌, Option, None, Some, nat_eq}
-use Rattle.one_hand.specs.Stream.{OpenClaim, Stream, after, after_claim, after_offer, case_of, room, turned, with_claim, with_message, with_padding}
-use Rattle.publication.specs.Offers.{OfferCase, IsClosed, IsStale, IsUsedUp, IsLimited, Fits, Trips}
+use Rattle.one_hand.specs.Stream.{Fits, IsClosed, IsLimited, IsUsedUp, OfferCase, OpenClaim, Stream, Trips, after, after_claim, after_offer, case_of, room, turned, with_claim, with_message, with_padding}
 use Rattle.run_claims.specs.declared.claim_command.ClaimAnswer.{ClaimAnswer}
 use Rattle.run_claims.specs.declared.claim_command.ClaimCommand.{ClaimCommand}
 use Rattle.run_claims.specs.declared.claim_command.ClaimCommand.TheVariants.{Abort, Claim, Commit, Offer}
@@ -26,7 +25,6 @@ lone_turned s = lone_cond (nat_eq s.active (2 ^ 31 - 1)) s (record s { active = 
 
 lone_after : (s : Stream) (by : ℕ) (k : OfferCase) (t : Stream) → lone (after s by k t) ≡ after (lone s) by k (lone t)
 lone_after s by IsClosed t = refl
-lone_after s by IsStale t = refl
 lone_after s by IsUsedUp t = lone_turned s
 lone_after s by IsLimited t = refl
 lone_after s by Fits t = refl

@@ -1,7 +1,7 @@
 -- What publishers' commands answer, and what they make of a stream.
 use Rattle.std.specs.Prelude.{◌≡◌, ℕ, ◌&&◌, Bool, List, [], ◌∷◌, length, nat_eq, nat_le, nat_lt, if◌then◌else◌, Option, None, Some, is_none, Result, Ok, Err}
 use Rattle.theory.specs.Position.{max_message, max_payload}
-use Rattle.publication.specs.declared.refusal.Refusal.{Refusal}
+use Rattle.word_calls.specs.declared.refusal.Refusal.{Refusal}
 use Rattle.one_hand.specs.Stream.{OpenClaim, Stream, after_claim, after_offer, answer_of, claim_by, claim_end, with_abort, with_commit}
 use Rattle.run_claims.specs.declared.claim_command.ClaimAnswer.{ClaimAnswer}
 use Rattle.run_claims.specs.declared.claim_command.ClaimAnswer.TheVariants.{Begins, Ends, Refused, Unfit}

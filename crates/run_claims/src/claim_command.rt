@@ -1,4 +1,4 @@
-use publication::Refusal;
+use word_calls::Refusal;
 
 /// What one of the publishers is to do; they have the numbers from 0 to 7.
 #[derive(Debug, PartialEq, Eq, Drop)]

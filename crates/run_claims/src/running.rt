@@ -7,8 +7,7 @@ ghost use Rattle.run_claims.specs.Commands.{IsSameBut, aborted, after_all, after
 
 use crate::claim_command::{ClaimAnswer, ClaimCommand};
 use crate::law::runs_agree;
-use log_buffer::PUBLISHERS;
-use one_hand::Claims;
+use one_hand::{Claims, PUBLISHERS};
 use std::alloc::{AllocError, Global};
 
 /// The size of the claim that a publisher has open. There is none where there is no such publisher.

@@ -4,9 +4,9 @@ use Rattle.std.specs.Fmt.{signed_decimal}
 use Rattle.std.specs.List.{flat_map}
 use Rattle.hexadecimal.specs.Digits.{hexadecimal, two_digits}
 use Rattle.position.specs.Fault as geometries
-use Rattle.log_buffer.specs.Faults as logs
+use Rattle.one_hand.specs.Faults as logs
 use Rattle.assembler.specs.Codes as assemblers
-use Rattle.publication.specs.Refusals.{number_of}
+use Rattle.word_calls.specs.Refusals.{number_of}
 use Rattle.receiver.specs.Texts.{outcome_text}
 use Rattle.sender.specs.Texts.{answer_text}
 use Rattle.script_run.specs.LineContents.{LineContent, Open, BadGeometry, BadLog, Done, Limit, Position, Claimed, FrameData, FramePad, Refused, Packet, Nothing, OfReceiver, OfSender, Message, NoMessage, Unassembled, Positions, Bad, Shares}

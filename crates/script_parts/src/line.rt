@@ -1,12 +1,12 @@
 //! The lines that a script prints.
 
 use assembler::{AssemblyError, Message};
-use log_buffer::{Book, LogError};
+use one_hand::{Book, LogError};
 use position::GeometryError;
-use publication::Refusal;
 use receiver::Outcome;
 use sender::SenderAnswer;
 use std::alloc::Global;
+use word_calls::Refusal;
 
 /// One line of output.
 #[derive(Debug, Drop)]

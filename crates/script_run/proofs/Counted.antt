@@ -10,9 +10,8 @@ use Rattle.theory.specs.Tiling.{share_of}
 use Rattle.theory.proofs.Claims.{covers_framed}
 use Rattle.model.proofs.Shares.{share-push}
 use Rattle.theory.proofs.Tiling.{share-cons}
-use Rattle.term_buffer.specs.Kept.{claim_of, padded, published, with_share}
-use Rattle.publication.specs.Offers.{OfferCase, IsClosed, IsStale, IsUsedUp, IsLimited, Fits, Trips}
-use Rattle.one_hand.specs.Stream.{Stream, aborted_at, after, after_claim, after_offer, answer, case_of, room, turned, with_claim, with_frame, with_message, with_padding}
+use Rattle.one_hand.specs.Entries.{claim_of, padded, published, with_share}
+use Rattle.one_hand.specs.Stream.{Fits, IsClosed, IsLimited, IsUsedUp, OfferCase, Stream, Trips, aborted_at, after, after_claim, after_offer, answer, case_of, room, turned, with_claim, with_frame, with_message, with_padding}
 use Rattle.script.specs.Meaning as commands
 use Rattle.script.specs.Meaning.{CommandContent}
 use Rattle.script_run.specs.Answers.{AbortsClaim, Answers, Claims, ClaimsRange, CommitsClaim, HasNoClaim, Limits, MayNotTake, OffersMessage, Offered, SenderHears, with_log}
@@ -61,7 +60,6 @@ turned_counts past l h =
 -- where it fits, the log is this one
 case_counts : (past : List Entry) (l : Stream) (by : ℕ) (c : OfferCase) (fitting : Stream) → length l.shares ≡ 8 → by < 8 → Counts l.shares (past ++ l.entries) → Counts fitting.shares (past ++ fitting.entries) → Counts (after l by c fitting).shares (past ++ (after l by c fitting).entries)
 case_counts past l by IsClosed fitting eight who h fits = h
-case_counts past l by IsStale fitting eight who h fits = h
 case_counts past l by IsLimited fitting eight who h fits = h
 case_counts past l by IsUsedUp fitting eight who h fits = turned_counts past l h
 case_counts past l by Fits fitting eight who h fits = fits
@@ -73,7 +71,6 @@ case_counts past l by Trips fitting eight who h fits =
 
 offered_state : (s t : ScriptState) (by : ℕ) (m : List ℕ) (lines : List LineContent) (c : OfferCase) → Offered s by m (answer s.log (length m) c) lines t → t ≡ with_log s (after_offer s.log by m)
 offered_state s t by m lines IsClosed o = o.1
-offered_state s t by m lines IsStale o = o.1
 offered_state s t by m lines IsUsedUp o = o.1
 offered_state s t by m lines IsLimited o = o.1
 offered_state s t by m lines Fits o = o.1
@@ -92,7 +89,6 @@ offer_line s t by most size m lines (inr o) h =
 
 claimed_state : (s t : ScriptState) (by size : ℕ) (lines : List LineContent) (c : OfferCase) → Claims s by size (answer s.log size c) lines t → t ≡ with_log s (after_claim s.log by size)
 claimed_state s t by size lines IsClosed o = o.1
-claimed_state s t by size lines IsStale o = o.1
 claimed_state s t by size lines IsUsedUp o = o.1
 claimed_state s t by size lines IsLimited o = o.1
 claimed_state s t by size lines Fits o = o.1

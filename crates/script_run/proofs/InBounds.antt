@@ -22,7 +22,7 @@ use Rattle.receiver.specs.declared.poll_error.PollError.TheVariants as polls
 use Rattle.receiver.specs.declared.positions.Positions as places
 use Rattle.receiver.specs.Polling.{Answer, Polls, PollsImage, PollsOf, PollsWhole, ReadsFrames, TellsOf, with_consumer}
 use Rattle.receiver.specs.Receiving.{Meets, MeetsAll, MeetsFrame, MeetsHeartbeat, MeetsSetup, Opened, PassesBy, Receiver, TakesDatagram, answer_at, at_moment, given_at, ticked}
-use Rattle.publication.specs.declared.refusal.Refusal.{Refusal}
+use Rattle.word_calls.specs.declared.refusal.Refusal.{Refusal}
 use Rattle.one_hand.specs.Stream.{answer_of}
 use Rattle.sender.specs.Cycling.{AsksSetup, Misses, NewsContent, Says, TellsNothing, Unreadable}
 use Rattle.script.specs.Meaning as commands

@@ -22,9 +22,8 @@ use Rattle.theory.proofs.Frames.{tiles_le}
 use Rattle.theory.proofs.Lists.{among_right}
 use Rattle.theory.proofs.Places.{term_ends}
 use Rattle.theory.proofs.Tables.{get_put}
-use Rattle.publication.specs.Offers.{OfferCase, IsClosed, IsUsedUp, IsLimited, Fits, Trips}
 use Rattle.one_hand.specs.Legal.{IsStream}
-use Rattle.one_hand.specs.Stream.{Stream, case_of, covered, room, term_of, turned}
+use Rattle.one_hand.specs.Stream.{Fits, IsClosed, IsLimited, IsUsedUp, OfferCase, Stream, Trips, case_of, covered, room, term_of, turned}
 use Rattle.script_run.specs.ScriptState.{ScriptState, model_log, world_of}
 use Rattle.model.proofs.Commits.{AreBytes, HaveAll, have_pieces, pieces_are, pieces_bytes}
 use Rattle.script_run.proofs.Runs.{Goes, goes_one, goes_on, stays}

@@ -4,7 +4,7 @@ use Rattle.std.specs.List.{flat_map}
 use Rattle.std.proofs.lemmas.Grind.{flat_map-append}
 use Rattle.theory.specs.Wire.{Wire}
 use Rattle.theory.specs.Control.{setup_at}
-use Rattle.publication.specs.declared.refusal.Refusal.{Refusal}
+use Rattle.word_calls.specs.declared.refusal.Refusal.{Refusal}
 use Rattle.one_hand.specs.Stream.{answer_of}
 use Rattle.receiver.specs.Receiving.{replies}
 use Rattle.sender.specs.Cycling.{AsksSetup, Misses, NewsContent, Says, TellsNothing, Unreadable, alone, datagrams}

@@ -13,7 +13,7 @@ use Rattle.model.specs.Log.{aborted_at, with_frame}
 use Rattle.theory.proofs.Claims.{covers_framed}
 use Rattle.model.proofs.LogSteps.{one_entry}
 use Rattle.theory.proofs.Pieces.{payload_in, pieces_join}
-use Rattle.term_buffer.specs.Kept.{padded, published}
+use Rattle.one_hand.specs.Entries.{padded, published}
 use Rattle.script_run.specs.Published.{Range, between, filled_at, offered_at}
 use Rattle.script_run.proofs.OfferRuns.{frame_put}
 use Rattle.model.proofs.Commits.{IsOnlyAt, one_end, payload_cuts, pieces_length}

@@ -27,9 +27,8 @@ use Rattle.theory.proofs.Lists.{all_append, all_weaker, among_right}
 use Rattle.model.proofs.Datagrams.{cycle_sends}
 use Rattle.retransmit.specs.Handler.{answered_first}
 use Rattle.theory.proofs.Places.{power_unit}
-use Rattle.log_buffer.specs.Limits.{least}
 use Rattle.one_hand.specs.Legal.{IsStream}
-use Rattle.one_hand.specs.Stream.{Stream, clean_end, cleaned_and_limited, forgotten_below, kept_from, raised}
+use Rattle.one_hand.specs.Stream.{Stream, clean_end, cleaned_and_limited, forgotten_below, kept_from, least, raised}
 use Rattle.script_run.specs.Answers.{IsCycle, after_cycle, again_for, behind_new, end_from, heard, limit_of, missed, named, place_in, resent_on, sent_on, with_log, woken}
 use Rattle.sender.specs.Cycling.{Cycle, GivesNew}
 use Rattle.script_run.specs.ScriptState.{ScriptState, model_log, world_of}

@@ -15,10 +15,9 @@ use Rattle.model.specs.Log.{Abort, Commit}
 use Rattle.model.specs.Log.{aborted_at, with_frame}
 use Rattle.theory.proofs.Cuts.{short_cuts}
 use Rattle.theory.proofs.Lists.{all_replicate, among_right}
-use Rattle.term_buffer.specs.Kept.{claim_of, padded, published}
-use Rattle.publication.specs.Offers.{OfferCase, IsClosed, IsStale, IsUsedUp, IsLimited, Fits, Trips}
+use Rattle.one_hand.specs.Entries.{claim_of, padded, published}
 use Rattle.one_hand.specs.Legal.{IsOpenClaim, IsStream}
-use Rattle.one_hand.specs.Stream.{OpenClaim, Stream, after, after_claim, after_offer, answer, case_of, clean_end, cleaned_and_limited, covered, forgotten_below, room, turned, with_abort, with_claim, with_commit, with_message, with_padding}
+use Rattle.one_hand.specs.Stream.{Fits, IsClosed, IsLimited, IsUsedUp, OfferCase, OpenClaim, Stream, Trips, after, after_claim, after_offer, answer, case_of, clean_end, cleaned_and_limited, covered, forgotten_below, room, turned, with_abort, with_claim, with_commit, with_message, with_padding}
 use Rattle.script.specs.Meaning as commands
 use Rattle.script.specs.Meaning.{CommandContent}
 use Rattle.script_run.specs.Answers.{AbortsClaim, Claims, ClaimsRange, CommitsClaim, HasClaim, HasNoClaim, IsMissing, Limits, MayClaimRange, MayNotTake, MayOffer, Offered, OffersMessage, with_log}
@@ -138,7 +137,6 @@ record MayAdd (l : Stream) (by size : ℕ) : Type 0 where
 
 taken_line : Laws → (i : Identity) (start readers only : ℕ) (played : List Played) (s : ScriptState) (by size : ℕ) (fitting : Stream) (command : CommandContent) (lines : List LineContent) (c : OfferCase) → Begins i start → IsQuiet command lines → IsSound i start readers only played s → MayAdd s.log by size → case_of s.log size ≡ c → Said i only played s fitting command lines c → IsSound i start readers only (and_line played command lines) (with_log s (after s.log by c fitting))
 taken_line laws i start readers only played s by size fitting command lines IsClosed b quiet h may e none = same_state i start readers only played command lines s s quiet none refl h
-taken_line laws i start readers only played s by size fitting command lines IsStale b quiet h may e none = same_state i start readers only played command lines s s quiet none refl h
 taken_line laws i start readers only played s by size fitting command lines IsLimited b quiet h may e none = same_state i start readers only played command lines s s quiet none refl h
 taken_line laws i start readers only played s by size fitting command lines IsUsedUp b quiet h may e none =
     let l = turned s.log in
@@ -206,7 +204,6 @@ record OfferSays (i : Identity) (only : ℕ) (played : List Played) (s : ScriptS
 
 offer_says : Laws → (i : Identity) (start readers only : ℕ) (played : List Played) (s t : ScriptState) (by : ℕ) (m : List ℕ) (command : CommandContent) (lines : List LineContent) (c : OfferCase) → Begins i start → OffersIt command m → IsSound i start readers only played s → MayOffer s.log by m → case_of s.log (length m) ≡ c → Offered s by m (answer s.log (length m) c) lines t → OfferSays i only played s by m command lines c t
 offer_says laws i start readers only played s t by m command lines IsClosed b is h may e o = record { said = offers_none command m _ lines is (λ g. refl) o.0; after = o.1 }
-offer_says laws i start readers only played s t by m command lines IsStale b is h may e o = record { said = offers_none command m _ lines is (λ g. refl) o.0; after = o.1 }
 offer_says laws i start readers only played s t by m command lines IsUsedUp b is h may e o = record { said = offers_none command m _ lines is (λ g. refl) o.0; after = o.1 }
 offer_says laws i start readers only played s t by m command lines IsLimited b is h may e o = record { said = offers_none command m _ lines is (λ g. refl) o.0; after = o.1 }
 offer_says laws i start readers only played s t by m command lines Fits b is h may e o = record { said = offer_fits laws i start readers only played s by m command lines b is h may e o.0; after = o.1 }
@@ -256,7 +253,6 @@ record ClaimSays (i : Identity) (only : ℕ) (played : List Played) (s : ScriptS
 
 claim_says : (i : Identity) (start readers only : ℕ) (played : List Played) (s t : ScriptState) (by size : ℕ) (lines : List LineContent) (c : OfferCase) → IsSound i start readers only played s → MayClaimRange s.log by size → case_of s.log size ≡ c → Claims s by size (answer s.log size c) lines t → ClaimSays i only played s by size lines c t
 claim_says i start readers only played s t by size lines IsClosed h may e o = record { said = claims_none by size _ lines refl o.0; after = o.1 }
-claim_says i start readers only played s t by size lines IsStale h may e o = record { said = claims_none by size _ lines refl o.0; after = o.1 }
 claim_says i start readers only played s t by size lines IsUsedUp h may e o = record { said = claims_none by size _ lines refl o.0; after = o.1 }
 claim_says i start readers only played s t by size lines IsLimited h may e o = record { said = claims_none by size _ lines refl o.0; after = o.1 }
 claim_says i start readers only played s t by size lines Fits h may e o = record { said = claim_fits i start readers only played s by size lines h may e o.0; after = o.1 }

@@ -15,7 +15,7 @@ use Rattle.theory.specs.Timing.{is_heartbeat_due, seen}
 use Rattle.model.specs.Sender.{Sender, after_nak}
 use Rattle.one_hand.specs.Legal.{IsStream}
 use Rattle.one_hand.specs.Stream.{OpenClaim, Stream, after_claim, after_offer, answer_of, claim_by, claim_end, clean_end, cleaned_and_limited, forgotten_below, raised, with_abort, with_commit, with_consumer}
-use Rattle.publication.specs.declared.refusal.Refusal.{Refusal}
+use Rattle.word_calls.specs.declared.refusal.Refusal.{Refusal}
 use Rattle.setup.specs.Naming.{after_due, is_due}
 use Rattle.script.specs.Meaning as commands
 use Rattle.script.specs.Meaning.{CommandContent}

@@ -1,8 +1,8 @@
 -- What a line of output says, without where its bytes lie in memory.
 use Rattle.std.specs.Prelude.{ℕ, List, Option, None, Some, Ok, Err}
 use Rattle.position.specs.declared.fault.GeometryError.{GeometryError}
-use Rattle.log_buffer.specs.declared.fault.LogError.{LogError}
-use Rattle.publication.specs.declared.refusal.Refusal.{Refusal}
+use Rattle.one_hand.specs.declared.fault.LogError.{LogError}
+use Rattle.word_calls.specs.declared.refusal.Refusal.{Refusal}
 use Rattle.assembler.specs.declared.fault.AssemblyError.{AssemblyError}
 use Rattle.receiver.specs.declared.receiver_core.Outcome.{Outcome}
 use Rattle.sender.specs.declared.sender_core.SenderAnswer.{SenderAnswer}

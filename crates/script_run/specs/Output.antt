@@ -5,8 +5,8 @@ use Rattle.theory.specs.Position.{Geometry, IsGeometry, IsMtu, IsTermLength}
 use Rattle.theory.specs.Bytes.{Identity, IsIdentity}
 use Rattle.theory.specs.Tiling.{share_of}
 use Rattle.position.specs.declared.fault.GeometryError.TheVariants.{TermLength, Mtu}
-use Rattle.log_buffer.specs.declared.fault.LogError.TheVariants.{Start}
-use Rattle.log_buffer.specs.Openings.{IsStart}
+use Rattle.one_hand.specs.declared.fault.LogError.TheVariants.{Start}
+use Rattle.one_hand.specs.Openings.{IsStart}
 use Rattle.model.specs.World.{Event, Run}
 use Rattle.script.specs.Meaning.{Opening, ScriptContent}
 use Rattle.script_run.specs.Answers.{Answers}

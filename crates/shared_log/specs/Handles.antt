@@ -5,8 +5,10 @@ use Rattle.theory.specs.Position.{Geometry, IsGeometry, max_position}
 use Rattle.theory.specs.Bytes.{Identity}
 use Rattle.tail_claim.specs.Packs.{table_length}
 use Rattle.tail_claim.specs.Handles.{PublisherValue}
+use Rattle.tail_claim.specs.Sure.{fresh_controls}
 use Rattle.tail_claim.specs.Plays.{newcomer}
-use Rattle.shared_log.specs.declared.rule.Key.{Key}
+use Rattle.log_rule.specs.declared.rule.Key.{Key}
+use Rattle.log_rule.specs.Table.{whole_pass}
 
 -- which table it is, the stream that it carries, where that begins, and how many consumers it has
 pub record LogValue : Type 0 where
@@ -41,9 +43,16 @@ abbrev pub AreNew : LogValue → ℕ → List PublisherValue → Type 0
 AreNew l number [] = number ≡ 8
 AreNew l number (p ∷ ps) = IsNew l number p × AreNew l (suc number) ps
 
--- a position at which a stream may begin
-abbrev pub IsStart : Geometry → ℕ → Type 0
-IsStart g start = (start % 32 ≡ 0) × (start < max_position g)
+-- a log of this stream
+pub record IsLogOf (identity : Identity) (start consumers : ℕ) (l : LogValue) : Type 0 where
+  pub identity_is : l.identity ≡ identity
+  pub start_is : l.start ≡ start
+  pub consumers_is : l.consumers ≡ consumers
 
-abbrev pub IsCount : ℕ → Type 0
-IsCount n = (0 < n) × (n ≤ 8)
+-- the one pass of a log that was just opened: it has all, and is sure of the control words
+pub record IsWholeNew (l : LogValue) (p : PublisherValue) : Type 0 where
+  pub of : IsOf l p
+  pub pass : p.pass ≡ whole_pass record { identity = l.identity; start = l.start; consumers = l.consumers }
+  pub steps : p.steps ≡ 0
+  pub sure : p.sure ≡ 1
+  pub controls : p.controls ≡ record (fresh_controls l.identity l.start) { limit = l.start }

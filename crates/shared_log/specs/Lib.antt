@@ -1,8 +1,1 @@
-pub mod Edges
-pub mod Kept
-pub mod Table
-pub mod Readings
-pub mod Keepings
 pub mod Handles
-pub mod Opening
-pub mod Readers

@@ -1,29 +1,31 @@
 //! A log that threads share, its publishers, and their steps.
 
-ghost use Rattle.std.specs.Prelude.{◌≡◌, ℕ, ◌+◌, ◌-◌, ◌*◌, ◌/◌, ◌%◌, ◌^◌, ◌<◌, ◌≤◌, suc, [], ◌∷◌};
+ghost use Rattle.std.specs.Prelude.{◌≡◌, ℕ, ◌+◌, ◌-◌, ◌*◌, ◌/◌, ◌%◌, ◌^◌, ◌<◌, ◌≤◌, suc, min, [], ◌∷◌};
 ghost use Rattle.theory.specs.Position.{id_of, max_message};
-ghost use Rattle.theory.specs.Words.{id_before, id_in, tail_word};
+ghost use Rattle.theory.specs.Words.{id_before, id_in, offset_in, tail_word};
 ghost use Rattle.word_calls.specs.declared.step.WordStep.TheVariants as steps;
 ghost use Rattle.word_calls.specs.Frames.{Completes};
 ghost use Rattle.word_calls.specs.Steps.{Adds, Advances, Arms, Commits, Counts, HasWord, Nexts, Rotates, Sees, Stores, addition, tail_exchange, tail_step};
 ghost use Rattle.tail_claim.specs.Packs.{ring_of, slot, tail_place};
 ghost use Rattle.tail_claim.specs.Handles.{Stepped};
+ghost use Rattle.log_rule.specs.Shares.{share_of};
 ghost use Rattle.shared_log.specs.Handles.{IsOf};
 
-use crate::rule::{Key, LogRule};
 use atomic_table::{Seat, Table};
+use log_rule::{Add, Key, LogRule};
+use position::Geometry;
 use std::alloc::Global;
 use std::marker::Model;
 use tail_claim::{
-    Add, Advance, Arm, COUNT, Chosen, Commit, Count, DATA, Next, Ring, Rotate, See, Store, View,
-    packed, place_of,
+    Advance, Arm, COUNT, Chosen, Commit, Count, DATA, Next, Ring, Rotate, See, Store, View, packed,
+    place_of,
 };
-use word_calls::Identity;
+use word_calls::{Identity, term_offset};
 
 /// A log that threads share without a lock: its words stand in a table.
 #[derive(Drop)]
 pub struct Log {
-    pub(crate) table: Table<(), View, Key, LogRule, Global>,
+    pub table: Table<(), View, Key, LogRule, Global>,
     pub(crate) identity: Identity,
     pub(crate) start: u64,
     pub(crate) consumers: u64,
@@ -42,19 +44,22 @@ impl Model for Log {
 /// A publisher of a log.
 #[derive(Drop)]
 pub struct Publisher {
-    pub(crate) seat: Seat<(), View>,
-    pub(crate) number: u64,
+    pub seat: Seat<(), View>,
+    pub number: u64,
+    /// How many bytes its claims cover.
+    pub share: u64,
 }
 
 impl Model for Publisher {
     ghost use Rattle.std.specs.Prelude.{◌≡◌, ◌≤◌, []};
     ghost use Rattle.tail_claim.specs.Handles.{PublisherValue};
+    ghost use Rattle.log_rule.specs.Shares.{share_of};
 
     ghost Value = { PublisherValue };
 
     ghost view = { λ p. record { of = p.seat.table_id; seat = p.seat.id; pass = p.seat.me.0.pass; steps = p.seat.me.0.steps; controls = p.seat.me.0.controls; sure = p.seat.me.0.sure } };
 
-    ghost invariant = { λ p. (p.seat.me.1 ≡ []) × (120 ≤ p.seat.me.0.pass.right.parts) × (p.number ≡ p.seat.me.0.pass.number) };
+    ghost invariant = { λ p. (p.seat.me.1 ≡ []) × (120 ≤ p.seat.me.0.pass.right.parts) × (p.number ≡ p.seat.me.0.pass.number) × (p.share ≡ share_of p.seat.me.0.pass) };
 }
 
 impl Publisher {
@@ -64,6 +69,20 @@ impl Publisher {
     {
         self.number
     }
+
+    /// How many bytes its claims cover.
+    pub fn share(&self) -> u64
+        ensures { result ≡ share_of self.now.pass }
+    {
+        self.share
+    }
+}
+
+/// How many bytes an addition takes, by the tail that it found: all, or what is left of the term.
+fn taken(geometry: &Geometry, word: u64, covered: u32) -> u32
+    ensures { result ≡ min covered (geometry.now.term_length - offset_in word) }
+{
+    covered.min(geometry.term_length().saturating_sub(term_offset(word)))
 }
 
 impl Log {
@@ -89,7 +108,7 @@ impl Log {
     }
 
     /// The places of the stream's words, behind the control words.
-    pub(crate) fn ring(&self) -> Ring
+    pub fn ring(&self) -> Ring
         ensures { result ≡ ring_of self.now.identity.geometry }
     {
         Ring::new(3 * (self.identity.geometry().term_length() / 8))
@@ -97,7 +116,7 @@ impl Log {
 
     /// The place of the word of the stream at a position.
     #[inline(always)]
-    pub(crate) fn slot_of(&self, ring: &mut Ring, position: u64) -> usize
+    pub fn slot_of(&self, ring: &mut Ring, position: u64) -> usize
         requires { ring.old ≡ ring_of self.now.identity.geometry }
         ensures is { result ≡ slot self.now.identity.geometry position }
         ensures inside { result < self.now.table.words }
@@ -153,8 +172,12 @@ impl Log {
         ensures told { Adds publisher.old.pass size result publisher.new.pass }
     {
         let words = &self.table.shared;
-        let covered = u64::from(self.identity.geometry().framed_length(size));
-        words.fetch_add::<Add<N>>(&mut publisher.seat, place_of(count), covered)
+        let geometry = self.identity.geometry();
+        let covered = geometry.framed_length(size);
+        let place = place_of(count);
+        let word = words.fetch_add::<Add<N>>(&mut publisher.seat, place, u64::from(covered));
+        publisher.share += u64::from(taken(&geometry, word, covered));
+        word
     }
 
     /// Loads the tail behind a count's.

@@ -6,9 +6,8 @@ use Rattle.theory.specs.Position.{Geometry, aligned, framed_length, max_payload}
 use Rattle.theory.specs.Placed.{Pad}
 use Rattle.theory.specs.Bytes.{Identity}
 use Rattle.theory.specs.Refusal.{IsLast, IsNotLast}
-use Rattle.publication.specs.Offers.{OfferCase, IsClosed, IsUsedUp, IsLimited, Fits, Trips, refusal_at_end}
-use Rattle.publication.specs.declared.refusal.Refusal.{Refusal}
-use Rattle.publication.specs.declared.refusal.Refusal.TheVariants.{NotConnected, BackPressured, AdminAction, Closed, MaxPositionExceeded}
+use Rattle.word_calls.specs.declared.refusal.Refusal.{Refusal}
+use Rattle.word_calls.specs.declared.refusal.Refusal.TheVariants.{NotConnected, BackPressured, AdminAction, Closed, MaxPositionExceeded}
 use Rattle.word_calls.specs.declared.pass.ClaimRange.{ClaimRange}
 use Rattle.word_calls.specs.declared.pass.Controls.{Controls}
 use Rattle.word_calls.specs.declared.pass.FrameWords.{FrameWords}
@@ -18,11 +17,11 @@ use Rattle.word_calls.specs.declared.refusal.Refusal.TheVariants as whys
 use Rattle.word_calls.specs.Steps.{Keeps, blank, opened, with_work, works}
 use Rattle.word_calls.specs.Frames.{frame_at, message_frames}
 use Rattle.word_calls.specs.Alone.{Ends, FindsClosed, FindsEnd, PadsEnd, Reaches, RefusedAlone, TakesAt, message_from}
-use Rattle.one_hand.specs.Stream.{Stream, after, after_claim, after_offer, answer, answer_of, case_of, room, turned, with_claim, with_message, with_padding}
+use Rattle.one_hand.specs.Stream.{Fits, IsClosed, IsLimited, IsUsedUp, OfferCase, Stream, Trips, after, after_claim, after_offer, answer, answer_of, case_of, refusal_at_end, room, turned, with_claim, with_message, with_padding}
 use Rattle.table_hand.specs.declared.held.Held.{Held}
 use Rattle.table_hand.specs.Shown.{WholeBy, IsWhole, said, stream_by, stream_of}
 use Rattle.word_calls.proofs.Contents.{IsSmall}
-use Rattle.table_hand.proofs.Keeps.{padding_keeps, turn_keeps}
+use Rattle.one_hand.proofs.Keeps.{padding_keeps, turn_keeps}
 use Rattle.table_hand.proofs.Handed.{case_closed, case_fits, case_limited, case_trips, case_used_up, claim_grown, message_grown, pad_grown, rest_unit, still, used_last, used_up}
 
 abbrev ok : ℕ → Result ℕ Refusal

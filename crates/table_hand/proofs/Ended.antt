@@ -10,7 +10,7 @@ use Rattle.theory.specs.Entry.{Entry, HaveFrames, IsEntry, entry_end}
 use Rattle.theory.specs.Tiling.{Tiles}
 use Rattle.theory.proofs.Cuts.{short_cuts}
 use Rattle.theory.proofs.Lists.{all_append, among_cases, among_left, among_right}
-use Rattle.term_buffer.specs.Kept.{claim_of}
+use Rattle.one_hand.specs.Entries.{claim_of}
 use Rattle.word_calls.specs.declared.pass.Controls.{Controls}
 use Rattle.word_calls.specs.declared.pass.FrameWords.{FrameWords}
 use Rattle.word_calls.specs.declared.pass.Pass.{Pass}
@@ -23,7 +23,7 @@ use Rattle.table_hand.specs.declared.held.Held.{Held}
 use Rattle.table_hand.specs.Shown.{WholeBy, IsWhole, claim_in, entry_in, open_claim, stream_by, stream_of}
 use Rattle.word_calls.proofs.Contents.{IsSmall, data_said, pad_said}
 use Rattle.table_hand.proofs.Entries.{data_more, pad_more}
-use Rattle.table_hand.proofs.Keeps.{claim_is, ends_keeps, one_entry}
+use Rattle.one_hand.proofs.Keeps.{claim_is, ends_keeps, one_entry}
 
 -- ---- lists
 

@@ -9,7 +9,7 @@ use Rattle.std.proofs.lemmas.List.Folds.{list_any-append}
 use Rattle.theory.specs.Position.{span}
 use Rattle.theory.specs.Placed.{Among, Data, Frame, Pad, is_padding}
 use Rattle.theory.specs.Entry.{Entry}
-use Rattle.term_buffer.specs.Kept.{with_share}
+use Rattle.one_hand.specs.Entries.{with_share}
 use Rattle.word_calls.specs.declared.pass.ClaimRange.{ClaimRange}
 use Rattle.word_calls.specs.declared.pass.FrameWords.{FrameWords}
 use Rattle.one_hand.specs.Stream.{aborted_at, with_frame}

@@ -14,8 +14,7 @@ use Rattle.theory.proofs.Cuts.{cut_units, long_cuts, span_unit}
 use Rattle.theory.proofs.Holds.{holds_bytes}
 use Rattle.theory.proofs.Lists.{all_append, all_weaker, among_left, among_right}
 use Rattle.theory.proofs.Places.{power_unit}
-use Rattle.term_buffer.specs.Kept.{claim_of, padded, published, with_share}
-use Rattle.publication.specs.Offers.{IsClosed, IsUsedUp, IsLimited, Fits, Trips}
+use Rattle.one_hand.specs.Entries.{claim_of, padded, published, with_share}
 use Rattle.word_calls.specs.declared.pass.ClaimRange.{ClaimRange}
 use Rattle.word_calls.specs.declared.pass.Controls.{Controls}
 use Rattle.word_calls.specs.declared.pass.FrameWords.{FrameWords}
@@ -23,14 +22,14 @@ use Rattle.word_calls.specs.Steps.{blank}
 use Rattle.word_calls.specs.Frames.{frame_at, message_frames}
 use Rattle.word_calls.specs.Alone.{Settled}
 use Rattle.one_hand.specs.Legal.{IsStream}
-use Rattle.one_hand.specs.Stream.{OpenClaim, Stream, case_of, covered, room, term_of, with_claim, with_entry, with_message, with_padding}
+use Rattle.one_hand.specs.Stream.{Fits, IsClosed, IsLimited, IsUsedUp, OpenClaim, Stream, Trips, case_of, covered, room, term_of, with_claim, with_entry, with_message, with_padding}
 use Rattle.table_hand.specs.declared.held.Held.{Held}
 use Rattle.word_calls.specs.Contents.{frame_in}
 use Rattle.table_hand.specs.Shown.{WholeBy, claim_in, end_of, entry_in, open_claim, shares_of, spans, stream_by}
 use Rattle.word_calls.proofs.Contents.{IsSmall, pad_said}
 use Rattle.table_hand.proofs.Pieced.{no_padding, pieces_said, pieces_within}
 use Rattle.table_hand.proofs.Entries.{entry_by, entry_more, follow_more, shares_more, sum_more}
-use Rattle.table_hand.proofs.Keeps.{claim_keeps, message_keeps, payload_sum, set_get, turn_keeps}
+use Rattle.one_hand.proofs.Keeps.{claim_keeps, message_keeps, payload_sum, set_get, turn_keeps}
 
 -- ---- how an offer goes
 

@@ -3,7 +3,7 @@ use Rattle.std.proofs.Common.{◌≡◌, ◌∙◌, ℕ, zero, suc, ◌+◌, ◌
 use Rattle.std.specs.Prelude.{Option, Ok, Err, slice_get, slice_index_or, slice_set}
 use Rattle.theory.specs.Position.{aligned, max_message, max_payload}
 use Rattle.theory.specs.Placed.{Data, Frame, Pad, frame_length}
-use Rattle.publication.specs.declared.refusal.Refusal.{Refusal}
+use Rattle.word_calls.specs.declared.refusal.Refusal.{Refusal}
 use Rattle.word_calls.specs.declared.pass.Pass.{Pass}
 use Rattle.word_calls.specs.declared.refusal.Refusal as calls
 use Rattle.word_calls.specs.declared.refusal.Refusal.TheVariants as whys

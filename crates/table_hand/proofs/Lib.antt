@@ -1,5 +1,4 @@
 pub mod Entries
-pub mod Keeps
 pub mod Pieced
 pub mod Handed
 pub mod Answered

@@ -21,10 +21,10 @@ use Rattle.tail_claim.specs.Handles.{IsStart, IsWholeNew, LogValue, PublisherVal
 use Rattle.tail_claim.specs.Plays.{newcomer}
 use Rattle.tail_claim.specs.Sure.{fresh_controls}
 use Rattle.one_hand.specs.Legal.{IsStream}
-use Rattle.one_hand.specs.Stream.{OpenClaim}
+use Rattle.one_hand.specs.Stream.{OpenClaim, ready}
 use Rattle.table_hand.specs.declared.held.Held.{Held}
 use Rattle.table_hand.specs.Shown.{IsWhole, claim_in, stream_of}
-use Rattle.table_hand.specs.Hands.{IsInHand, ready, stream_in}
+use Rattle.table_hand.specs.Hands.{IsInHand, stream_in}
 
 abbrev none_held : List (Option Held)
 none_held = replicate 8 None

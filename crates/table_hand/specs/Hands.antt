@@ -2,17 +2,13 @@
 use Rattle.std.specs.Prelude.{◌≡◌, ℕ, ◌+◌, ◌/◌, ◌≤◌, List, Option, None, Some, Result, Ok, Err, length, slice_get, slice_set, true}
 use Rattle.theory.specs.Position.{aligned, framed_length, max_payload, max_position}
 use Rattle.theory.specs.Bytes.{Identity}
-use Rattle.publication.specs.declared.refusal.Refusal.{Refusal}
+use Rattle.word_calls.specs.declared.refusal.Refusal.{Refusal}
 use Rattle.word_calls.specs.declared.pass.Pass.{Pass}
 use Rattle.word_calls.specs.Claims.{HasBlank}
 use Rattle.tail_claim.specs.Handles.{IsOf, LogValue, PublisherValue}
-use Rattle.one_hand.specs.Stream.{Aborts, Commits, Stream, after_claim, after_offer, answer_of, opened}
+use Rattle.one_hand.specs.Stream.{Aborts, Commits, Stream, after_claim, after_offer, answer_of}
 use Rattle.table_hand.specs.declared.held.Held.{Held}
 use Rattle.table_hand.specs.Shown.{IsWhole, stream_of}
-
--- a log that was just opened and connected, with its limit half a term above the start
-abbrev pub ready : Identity → ℕ → ℕ → Stream
-ready identity start consumers = record (opened identity start consumers) { limit = start + identity.geometry.term_length / 2; connected = true }
 
 abbrev pub stream_in : PublisherValue → List (Option Held) → Stream
 stream_in p held = stream_of p.pass p.controls held

@@ -14,8 +14,8 @@ use Rattle.word_calls.specs.Contents.{frame_in}
 use Rattle.word_calls.specs.Steps.{blank}
 use Rattle.word_calls.specs.declared.refusal.Refusal as calls
 use Rattle.word_calls.specs.declared.refusal.Refusal.TheVariants as whys
-use Rattle.publication.specs.declared.refusal.Refusal.{Refusal}
-use Rattle.publication.specs.declared.refusal.Refusal.TheVariants.{NotConnected, BackPressured, AdminAction, Closed, MaxPositionExceeded}
+use Rattle.word_calls.specs.declared.refusal.Refusal.{Refusal}
+use Rattle.word_calls.specs.declared.refusal.Refusal.TheVariants.{NotConnected, BackPressured, AdminAction, Closed, MaxPositionExceeded}
 use Rattle.word_calls.specs.Alone.{Settled}
 use Rattle.one_hand.specs.Stream.{OpenClaim, Stream}
 use Rattle.one_hand.specs.Legal.{IsStream}

@@ -6,8 +6,8 @@ ghost use Rattle.table_hand.specs.Hands.{AbortsClaim, Claims, ClaimsNone, Commit
 ghost use Rattle.table_hand.specs.Shown.{said as said_by};
 
 use crate::held::Held;
-use publication::Refusal;
 use tail_claim::{OnTable, Publisher, TableLog};
+use word_calls::Refusal;
 
 /// A refusal, in the words of the log's publishers.
 fn said(refusal: word_calls::Refusal) -> Refusal

@@ -2,16 +2,16 @@
 
 ghost use Rattle.std.specs.Prelude.{◌≡◌, IfOk, IsErrOf, ◌↔◌};
 ghost use Rattle.tail_claim.specs.Handles.{IsStart};
-ghost use Rattle.table_hand.specs.Hands.{ready};
+ghost use Rattle.one_hand.specs.Stream.{ready};
 
 use crate::acting::{abort_as, claim_as, commit_as, offer_as};
 use crate::held::Held;
 use one_hand::Claims;
 use position::Geometry;
-use publication::Refusal;
 use std::alloc::Global;
 use std::marker::Model;
 use tail_claim::{OpenError, Publisher, TableLog};
+use word_calls::Refusal;
 
 /// A log on a table with all its eight publishers, connected, with its limit half a term above the start for good. It has
 /// no reader, and nothing of it is cleaned.

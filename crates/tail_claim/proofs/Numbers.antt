@@ -17,7 +17,7 @@ use Rattle.tail_claim.proofs.Accounts.{none_armed}
 use Rattle.tail_claim.proofs.Begun.{plus_none, split_ruled}
 use Rattle.tail_claim.proofs.Sures.{sure_split, unsure}
 
-numbered : (b : Bounds) (ws : List ℕ) (ps : List Pass) → Ruled b ws ps → (id : ℕ) (p : Pass) → get_elem? ps id ≡ some p → (n : ℕ) → n < 8 → Ruled b ws (set ps id (record p { number = n }) ++ newcomer b.identity b.start 0 0 ∷ [])
+pub numbered : (b : Bounds) (ws : List ℕ) (ps : List Pass) → Ruled b ws ps → (id : ℕ) (p : Pass) → get_elem? ps id ≡ some p → (n : ℕ) → n < 8 → Ruled b ws (set ps id (record p { number = n }) ++ newcomer b.identity b.start 0 0 ∷ [])
 numbered b ws ps r id p at n low =
     let l : Pass = record p { number = n } in let q : Pass = newcomer b.identity b.start 0 0 in let k = r.claims.each id p at in let m = r.memory.each id p at in let from = r.claims.tailed.turns.from in
     split_ruled b ws ps r id p l q at (λ h. plus_none (weight h p)) (plus_none p.right.parts) (plus_none p.right.armed)

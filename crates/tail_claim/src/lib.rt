@@ -23,6 +23,6 @@ pub use fault::OpenError;
 pub use law::steps_are_events;
 pub use log::{CONSUMERS, COUNT, DATA, LINE, Publisher, TAILS, TableLog, packed, place_of};
 pub use opening::first_words;
-pub use plays::{Add, Advance, Arm, Chosen, Commit, Count, Next, Rotate, See, Store};
+pub use plays::{Add, Advance, Arm, Chosen, Commit, Count, Next, Renumber, Rotate, See, Store};
 pub use ring::Ring;
 pub use view::{Key, View};

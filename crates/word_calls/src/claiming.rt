@@ -33,9 +33,9 @@ pub fn claim<W: WordCalls>(words: &mut W, pass: &mut W::Pass, size: u32) -> Resu
     }
 }
 
-/// Adds a message's range to the tail for which the pass is armed.
+/// Adds a message's range to the tail for which the pass is armed: what a claim does once it has looked.
 #[inline(always)]
-fn add_range<W: WordCalls>(
+pub fn add_range<W: WordCalls>(
     words: &mut W,
     pass: &mut W::Pass,
     count: u32,

@@ -17,11 +17,13 @@ mod turn;
 mod words;
 mod writing;
 
-pub use claiming::claim;
+pub use claiming::{add_range, claim};
 pub use identity::Identity;
+pub use looking::{Look, look_at};
 pub use offers::{abort, commit, offer, try_claim};
 pub use pass::{ClaimRange, Controls, FrameWords, Keeping, Pass, Reading, Right, Seen, Work};
 pub use refusal::Refusal;
 pub use step::WordStep;
+pub use tail::term_offset;
 pub use turn::rotate;
 pub use words::WordCalls;

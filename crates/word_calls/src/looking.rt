@@ -11,7 +11,8 @@ use crate::words::WordCalls;
 
 /// What the limit word, the active count and its raw tail say.
 #[derive(Drop)]
-pub(crate) enum Look {
+pub enum Look {
+    /// Nothing may be claimed.
     Refused(Refusal),
     /// The active term, which has this count, is used up.
     UsedUp(u32),
@@ -19,9 +20,9 @@ pub(crate) enum Look {
     Open(u32),
 }
 
-/// Loads the limit, the active count and the count's raw tail.
+/// Loads the limit, the active count and the count's raw tail: what a claim does before it adds.
 #[inline(always)]
-pub(crate) fn look_at<W: WordCalls>(words: &mut W, pass: &mut W::Pass) -> Look
+pub fn look_at<W: WordCalls>(words: &mut W, pass: &mut W::Pass) -> Look
     requires { W.fits words.old pass.old }
     ensures moved { Moved W.fits W.pass_of W.name W.id words.old pass.old words.new pass.new }
     ensures took { TookCall W.took W.pass_of words.old pass.old words.new pass.new 0 }

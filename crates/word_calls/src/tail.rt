@@ -15,7 +15,7 @@ fn term_id(word: u64) -> i32
 }
 
 /// The offset in a raw tail.
-pub(crate) fn term_offset(word: u64) -> u32
+pub fn term_offset(word: u64) -> u32
     ensures { result ≡ offset_in word }
 {
     (word % (1 << 32)) as u32

@@ -9,13 +9,13 @@ use Rattle.theory.specs.Bytes.{Identity, IsIdentity}
 use Rattle.theory.specs.Consumer.{consumer_at}
 use Rattle.theory.specs.Position.{Geometry, IsGeometry, max_position}
 use Rattle.theory.specs.Tiling.{share_of}
-use Rattle.log_buffer.specs.declared.fault.LogError.TheVariants.{Start}
+use Rattle.one_hand.specs.declared.fault.LogError.TheVariants.{Start}
 use Rattle.one_hand.specs.Stream.{Stream}
-use Rattle.log_buffer.specs.declared.book.Book.{Book}
+use Rattle.one_hand.specs.declared.book.Book.{Book}
 use Rattle.script.specs.Meaning.{Opening, CommandContent, ScriptContent, content_of, contents_of}
 use Rattle.script.specs.declared.command.Command.{Command}
 use Rattle.script_run.specs.Answers.{Answers}
-use Rattle.log_buffer.specs.Openings.{IsStart}
+use Rattle.one_hand.specs.Openings.{IsStart}
 use Rattle.script_run.specs.Output.{AlwaysCounted, AlwaysInBounds, AlwaysPolled, AlwaysRuns, AnswersAll, IsOutputOf, IsOutputOfRun, PrintsBook, geometry_of, identity_of}
 use Rattle.script_run.specs.LineContents.{Open, LineContent, Shares}
 use Rattle.script_parts.specs.Lines.{line_content, line_contents}

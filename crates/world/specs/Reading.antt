@@ -2,7 +2,7 @@
 use Rattle.std.specs.Prelude.{◌≡◌, ◌⊎◌, ◌+◌, ℕ, List, [], ◌∷◌, sum}
 use Rattle.theory.specs.Placed.{Among, Frame, Placed, end_of}
 use Rattle.theory.specs.Entry.{committed}
-use Rattle.log_buffer.specs.declared.book.Book.{Book}
+use Rattle.one_hand.specs.declared.book.Book.{Book}
 use Rattle.frame_source.specs.Sources.{HasNone}
 use Rattle.one_hand.specs.Reads.{source_of}
 use Rattle.one_hand.specs.Stream.{Stream, position_of, with_consumer}

@@ -4,8 +4,7 @@ ghost use Rattle.world.specs.Reading.{ShowsBook};
 
 use block::Block;
 use flow_control::UnicastFlow;
-use log_buffer::Book;
-use one_hand::{Claims, HandReader, OneHandLog};
+use one_hand::{Book, Claims, HandReader, OneHandLog};
 use receiver::Subscriber;
 use script_parts::Packets;
 use sender::{Outbox, SenderCore};

@@ -1,7 +1,7 @@
 //! A script, played from its first line to the book.
 
 ghost use Rattle.std.specs.Prelude.{◌≡◌, [], suc, vec_len, IfOk, OnOk};
-ghost use Rattle.log_buffer.specs.Openings.{IsStart};
+ghost use Rattle.one_hand.specs.Openings.{IsStart};
 ghost use Rattle.one_hand.specs.Stream.{opened};
 ghost use Rattle.script_run.specs.ScriptState.{listening_at, opened_state};
 ghost use Rattle.receiver.specs.Subscribing.{RepresentsSubscriber};
@@ -16,8 +16,8 @@ use crate::handlers::add;
 use crate::simulation::{RECEIVERS, Simulation};
 use block::Block;
 use flow_control::UnicastFlow;
-use log_buffer::LogError;
-use one_hand::{HandReader, OneHandLog, PlainHand};
+use log_hand::LogHand;
+use one_hand::{HandReader, LogError, OneHandLog};
 use position::Geometry;
 use receiver::{ReceiverCore, Subscriber};
 use script::{Command, LogLine, Script};
@@ -64,7 +64,7 @@ fn play_log(
     let log = &script.log;
     let parts = prepare(alloc, log, &geometry)?;
     let consumers = log.readers as usize + 1;
-    match PlainHand::open(
+    match LogHand::open(
         alloc,
         geometry,
         log.session,

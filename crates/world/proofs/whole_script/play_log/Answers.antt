@@ -2,7 +2,7 @@ use Rattle.std.proofs.Common.{◌≡◌, ◌∙◌, ℕ, ◌+◌, suc, arith, ru
 use Rattle.std.specs.Prelude.{Err}
 use Rattle.std.proofs.lemmas.Int.{to_z-of_z}
 use Rattle.theory.specs.Bytes.{Identity}
-use Rattle.log_buffer.specs.declared.fault.LogError.TheVariants.{Start}
+use Rattle.one_hand.specs.declared.fault.LogError.TheVariants.{Start}
 use Rattle.one_hand.specs.Stream.{opened}
 use Rattle.script.specs.Meaning.{script_content}
 use Rattle.world.proofs.Identities.{same_identity}

@@ -1,7 +1,7 @@
 use Rattle.std.proofs.Common.{List, [], rules, ap, subst, refl, FitsSigned, w32}
 use Rattle.std.proofs.lemmas.Result.{IfOk-weaker}
 use Rattle.theory.specs.Position.{Geometry, IsGeometry}
-use Rattle.log_buffer.specs.Openings.{IsStart}
+use Rattle.one_hand.specs.Openings.{IsStart}
 use Rattle.script.specs.Meaning.{contents_of, script_content}
 use Rattle.script.specs.declared.command.Command.{Command}
 use Rattle.script_parts.specs.Lines.{line_contents}

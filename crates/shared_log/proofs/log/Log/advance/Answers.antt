@@ -5,7 +5,7 @@ use Rattle.word_calls.specs.declared.pass.Pass.{Pass}
 use Rattle.word_calls.specs.Steps.{Advances}
 use Rattle.tail_claim.specs.Plays.{Mine}
 use Rattle.tail_claim.proofs.Sures.{advance_turns}
-use Rattle.shared_log.proofs.Lifting.{lifted, other_spares}
+use Rattle.log_rule.proofs.Lifting.{lifted, other_spares}
 use Rattle.tail_claim.proofs.Eventful.{steps_are_events}
 use Rattle.shared_log.proofs.log.Log.advance.Goals as goal
 

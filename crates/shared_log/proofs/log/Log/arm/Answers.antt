@@ -4,7 +4,7 @@ use Rattle.word_calls.specs.Steps.{Arms, tail_step}
 use Rattle.tail_claim.specs.Packs.{tail_place}
 use Rattle.tail_claim.specs.Plays.{Mine}
 use Rattle.tail_claim.proofs.Sures.{load_leaves, tail_turns}
-use Rattle.shared_log.proofs.Lifting.{lifted_at, load_spares}
+use Rattle.log_rule.proofs.Lifting.{lifted_at, load_spares}
 use Rattle.tail_claim.proofs.Eventful.{steps_are_events}
 use Rattle.shared_log.proofs.log.Log.arm.Goals as goal
 

@@ -4,7 +4,7 @@ use Rattle.word_calls.specs.declared.pass.Pass.{Pass}
 use Rattle.word_calls.specs.Steps.{Counts}
 use Rattle.tail_claim.specs.Plays.{Mine}
 use Rattle.tail_claim.proofs.Sures.{count_turns, load_leaves}
-use Rattle.shared_log.proofs.Lifting.{lifted, load_spares}
+use Rattle.log_rule.proofs.Lifting.{lifted, load_spares}
 use Rattle.tail_claim.proofs.Eventful.{steps_are_events}
 use Rattle.shared_log.proofs.log.Log.count.Goals as goal
 

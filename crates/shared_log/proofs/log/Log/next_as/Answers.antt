@@ -5,7 +5,7 @@ use Rattle.word_calls.specs.Steps.{Nexts}
 use Rattle.tail_claim.specs.Packs.{tail_place}
 use Rattle.tail_claim.specs.Plays.{Mine}
 use Rattle.tail_claim.proofs.Sures.{load_leaves, next_turns}
-use Rattle.shared_log.proofs.Lifting.{lifted_at, load_spares}
+use Rattle.log_rule.proofs.Lifting.{lifted_at, load_spares}
 use Rattle.tail_claim.proofs.Eventful.{steps_are_events}
 use Rattle.shared_log.proofs.log.Log.next_as.Goals as goal
 

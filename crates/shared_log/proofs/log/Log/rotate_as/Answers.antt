@@ -10,9 +10,9 @@ use Rattle.atomic_table.specs.Table.{Allows}
 use Rattle.tail_claim.specs.Admits.{Same}
 use Rattle.tail_claim.specs.Sure.{Learns}
 use Rattle.tail_claim.specs.Plays.{Mine}
-use Rattle.shared_log.specs.Table.{LogRuled}
+use Rattle.log_rule.specs.Table.{LogRuled}
 use Rattle.tail_claim.proofs.Sures.{rotate_turns}
-use Rattle.shared_log.proofs.Lifting.{lifted_at, other_spares}
+use Rattle.log_rule.proofs.Lifting.{lifted_at, other_spares}
 use Rattle.std.specs.Int.{w32, cast_signed, cast_unsigned}
 use Rattle.std.proofs.lemmas.Int.{to_z-of_z}
 use Rattle.tail_claim.proofs.Packs.{id_fits}

@@ -1,4 +1,0 @@
-pub mod Equal
-pub mod Results
-pub mod Starts
-pub mod Tables

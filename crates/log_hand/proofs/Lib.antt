@@ -1,0 +1,17 @@
+pub mod Entries
+pub mod Pieced
+pub mod Forgetting
+pub mod Handed
+pub mod Answered
+pub mod Ended
+pub mod InHand
+pub mod Opened
+pub mod Handing
+pub mod Found
+pub mod Standing
+pub mod Told
+pub mod Flags
+pub mod Cleaned
+pub mod Swept
+pub mod Limited
+pub mod GoingOn

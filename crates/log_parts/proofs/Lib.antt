@@ -1,0 +1,4 @@
+mod Dealt
+mod Shares
+mod Gathered
+mod Together

@@ -1,0 +1,12 @@
+use Rattle.std.proofs.Common.{rules, ◌∙◌, subst}
+use Rattle.word_calls.specs.declared.pass.Pass.{Pass}
+use Rattle.log_parts.specs.Meets.{Shows}
+use Rattle.log_parts.proofs.Together.{sees_tails}
+use Rattle.log_parts.proofs.meeting.greatest_shown.Goals as goal
+
+pub returns-clause-told : goal.returns-clause-told
+returns-clause-told c =
+    let one = c.shown_as-zeroth.ensures.stays.pass in let two = c.shown_as-first.ensures.stays.pass ∙ one in
+    sees_tails c.args.seat.now.me.0.pass c.shown_as-zeroth.result c.shown_as-first.result c.shown_as-second.result _ c.shown_as-zeroth.ensures.told
+    (subst (λ (v : Pass). Shows v 1 c.shown_as-first.result) one c.shown_as-first.ensures.told)
+    (subst (λ (v : Pass). Shows v 2 c.shown_as-second.result) two c.shown_as-second.ensures.told) (search rules)

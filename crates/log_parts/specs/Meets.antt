@@ -1,0 +1,59 @@
+-- What two publishers that meet are told.
+use Rattle.std.specs.Prelude.{◌≡◌, ℕ, ◌*◌, ◌/◌, ◌≤◌, ◌⊎◌, List, ◌++◌, max}
+use Rattle.atomic_table.specs.Seated.{TableId}
+use Rattle.theory.specs.Placed.{Among}
+use Rattle.word_calls.specs.declared.pass.ClaimRange.{ClaimRange}
+use Rattle.word_calls.specs.declared.pass.Pass.{Pass}
+use Rattle.word_calls.specs.Steps.{geometry_of, term_of}
+use Rattle.tail_claim.specs.Handles.{PublisherValue}
+use Rattle.tail_claim.specs.Plays.{Mine}
+use Rattle.log_rule.specs.Meetings.{AreApart, ShowsTail, claim_end, position_in}
+
+-- the same seat but for its steps
+pub record Stays (table : TableId) (id : ℕ) (me : Mine) (table' : TableId) (id' : ℕ) (me' : Mine) : Type 0 where
+  pub of : table' ≡ table
+  pub seat : id' ≡ id
+  pub held : me'.1 ≡ me.1
+  pub pass : me'.0.pass ≡ me.0.pass
+  pub sure : me'.0.sure ≡ me.0.sure
+
+-- the raw tail of a partition was loaded, and shows this position
+pub record Shows (v : Pass) (partition position : ℕ) : Type 0 where
+  pub word : ℕ
+  pub told : ShowsTail v partition word v
+  pub is : position ≡ position_in (geometry_of v) word
+
+-- the greatest position that the three raw tails show
+pub record IsGreatestShown (v : Pass) (position : ℕ) : Type 0 where
+  pub zeroth : ℕ
+  pub first : ℕ
+  pub second : ℕ
+  pub is : position ≡ max (max (position_in (geometry_of v) zeroth) (position_in (geometry_of v) first)) (position_in (geometry_of v) second)
+
+-- and what it tells of a pass
+pub record SeesTails (v : Pass) (position : ℕ) : Type 0 where
+  pub greatest : IsGreatestShown v position
+  pub claims : (c : ClaimRange) → Among c v.right.claims → claim_end c ≤ position
+  pub terms : (k : ℕ) → v.start / term_of v ≤ k → k ≤ max v.seen.count v.seen.begun → k * term_of v ≤ position
+  pub apart : (front behind : List ClaimRange) → v.right.claims ≡ front ++ behind → (c d : ClaimRange) → Among c front → Among d behind → AreApart c d
+
+-- a publisher that comes back is as it was, but for its steps
+pub record IsBack (p q : PublisherValue) : Type 0 where
+  pub of : q.of ≡ p.of
+  pub pass : q.pass ≡ p.pass
+  pub sure : q.sure ≡ 0
+
+-- the terms that a pass has seen begin there or below
+abbrev pub SawBelow : Pass → ℕ → Type 0
+SawBelow v position = (v.seen.count * term_of v ≤ position) × (v.seen.begun * term_of v ≤ position)
+
+pub record Meets (one other one' other' : PublisherValue) (position : ℕ) : Type 0 where
+  pub one_is : IsBack one one'
+  pub other_is : IsBack other other'
+  pub seat : one'.seat ≡ one.seat
+  -- what they have claimed is apart
+  pub apart : (c d : ClaimRange) → Among c one.pass.right.claims → Among d other.pass.right.claims → AreApart c d
+  pub greatest : IsGreatestShown one.pass position
+  -- nothing that either has claimed passes it
+  pub claims : (c : ClaimRange) → Among c one.pass.right.claims ⊎ Among c other.pass.right.claims → claim_end c ≤ position
+  pub seen : SawBelow one.pass position × SawBelow other.pass position

@@ -1,5 +1,0 @@
-pub mod Entries
-pub mod Moving
-pub mod ReadFrames
-pub mod Sourced
-pub mod Standing

@@ -1,0 +1,183 @@
+-- The words of a log that opens obey the rule.
+use Rattle.std.proofs.Common.{◌≡◌, inl, ℕ, zero, suc, ◌+◌, ◌*◌, ◌/◌, ◌%◌, ◌<◌, ◌≤◌, eqb, cond, Bool, true, false, List, [], ◌∷◌, replicate, length, set, length-set, get_or-set_same, get_or-set_other, sym, refl, ap, ◌∙◌, subst, ne_eqb, arith}
+use mathlib.Core.Option.{some, some-injective, some-ne-none}
+use mathlib.Core.Logic.{dite}
+use native.Mathlib.Decide.{dec_le, ℕ_discrete}
+use lib.ListN.{get_elem?}
+use Rattle.std.specs.Prelude.{slice_index}
+use Rattle.std.specs.List.{AllByRecursion}
+use Rattle.std.proofs.lemmas.List.{length-replicate}
+use Rattle.theory.specs.Position.{greatest_claim}
+use Rattle.theory.specs.Refusal.{limit_in}
+use Rattle.word_calls.specs.declared.pass.Controls.{Controls}
+use Rattle.word_calls.specs.declared.pass.Pass.{Pass}
+use Rattle.tail_claim.specs.declared.view.View.{View}
+use Rattle.tail_claim.specs.declared.view.Key as old
+use Rattle.tail_claim.specs.Packs.{consumer_place, ring_of, slot}
+use Rattle.tail_claim.specs.Sums.{total}
+use Rattle.tail_claim.specs.Terms.{end_of}
+use Rattle.tail_claim.specs.Rule.{Bounds, Claimed, Sound, first_of}
+use Rattle.tail_claim.specs.Memory.{Ruled, Stored, tail_of}
+use Rattle.tail_claim.specs.Openings.{Fresh}
+use Rattle.tail_claim.specs.Sure.{IsSure, controls_in}
+use Rattle.tail_claim.specs.Plays.{bounds_of, newcomer}
+use Rattle.tail_claim.proofs.Tails.{elsewhere}
+use Rattle.tail_claim.proofs.Memories.{tail_is}
+use Rattle.tail_claim.proofs.Begun.{fresh_is, ruled_first}
+use Rattle.log_rule.specs.declared.rule.Key.{Key}
+use Rattle.log_rule.specs.Edges.{IsPlaced}
+use Rattle.log_rule.specs.Kept.{Attends, IsReader, Kept, reads_as}
+use Rattle.log_rule.specs.Table.{LogRuled, consumers_at, now_at, whole_pass, whole_seat}
+use Rattle.log_rule.specs.Opening.{Begun}
+
+abbrev pub old_key : Key → old.Key
+old_key key = record { identity = key.identity; start = key.start }
+
+-- ---- the limit is set, and one consumer after the other
+
+pub begun_first : (start : ℕ) (words : List ℕ) → 208 ≤ length words → Begun start words 0 (set words 0 start)
+begun_first start words wide = record {
+  wide = length-set words 0 start;
+  limit = get_or-set_same words 0 start 0 (let low : 0 < length words = omega arith in low);
+  consumers = λ j lt. absurd (omega arith);
+  others = λ i ne far. get_or-set_other words 0 i start 0 ne;
+}
+
+pub begun_next : (start n : ℕ) (words now : List ℕ) → 208 ≤ length words → n < 8 → Begun start words n now → Begun start words (n + 1) (set now (n * 16 + 80) start)
+begun_next start n words now wide few b = let i : ℕ = n * 16 + 80 in let e = b.wide in record {
+  wide = length-set now i start ∙ b.wide;
+  limit = get_or-set_other now i 0 start 0 (λ e. omega arith) ∙ b.limit;
+  consumers = λ j lt. dite (ℕ_discrete j n)
+      (λ same. (λ k. slice_index (set now i start) (consumer_place (same k))) ∙ get_or-set_same now i start 0 (let low : i < length now = omega arith in low))
+      (λ ne. get_or-set_other now i (consumer_place j) start 0 (λ e. ne (omega arith)) ∙ b.consumers j (omega arith));
+  others = λ j ne far. get_or-set_other now i j start 0 (far n few) ∙ b.others j ne far;
+}
+
+-- ---- numbers of a log that opens
+
+one_pass : (P : Pass → Type 0) (p : Pass) → P p → (j : ℕ) (v : Pass) → get_elem? (p ∷ []) j ≡ some v → P v
+one_pass P p a zero v e = subst P (some-injective p v e) a
+one_pass P p a (suc j) v e = absurd (some-ne-none v (sym e))
+
+one_view : (P : View → Type 0) (p : View) → P p → (j : ℕ) (v : View) → get_elem? (p ∷ []) j ≡ some v → P v
+one_view P p a zero v e = subst P (some-injective p v e) a
+one_view P p a (suc j) v e = absurd (some-ne-none v (sym e))
+
+readers_none : (start j k n : ℕ) → j < k → total (reads_as j) (consumers_at start k n) ≡ 0
+readers_none start j k zero lt = refl
+readers_none start j k (suc n) lt = let r = readers_none start j (suc k) n (omega arith) in let z : reads_as j (record { number = k; position = start; known = [] }) ≡ 0 = ap (λ (b : Bool). cond b 1 0) (ne_eqb k j (λ e. omega arith)) in omega arith
+
+readers_once : (start j k n : ℕ) → total (reads_as j) (consumers_at start k n) ≤ 1
+readers_once start j k zero = omega arith
+readers_once start j k (suc n) = dite (dec_le j k)
+    (λ le. let r = readers_none start j (suc k) n (omega arith) in let one = small (eqb k j) in omega arith)
+    (λ no. let z : reads_as j (record { number = k; position = start; known = [] }) ≡ 0 = ap (λ (b : Bool). cond b 1 0) (ne_eqb k j (λ e. no (let q : j ≤ k = omega arith in q))) in let r = readers_once start j (suc k) n in omega arith)
+  where
+    small : (b : Bool) → cond b 1 0 ≤ 1
+    small true = omega arith
+    small false = omega arith
+
+readers_right : (consumers : ℕ) (ws : List ℕ) (ps : List Pass) (start k n : ℕ) → ((j : ℕ) → j < consumers → slice_index ws (consumer_place j) ≡ start) → AllByRecursion (IsReader consumers ws ps) (consumers_at start k n)
+readers_right consumers ws ps start k zero at = tt
+readers_right consumers ws ps start k (suc n) at = (record { position = λ low. at k low; known = tt }, readers_right consumers ws ps start (suc k) n at)
+
+filled : (n start j : ℕ) → j < n → slice_index (replicate {A = ℕ} n start) j ≡ start
+filled zero start j lt = absurd (omega arith)
+filled (suc n) start zero lt = refl
+filled (suc n) start (suc j) lt = filled n start j (omega arith)
+
+-- ---- the rule
+
+pub opens : (key : Key) (ws0 ws : List ℕ) → Sound (bounds_of (old_key key)) → (0 < key.consumers) × (key.consumers ≤ 8) → Fresh (bounds_of (old_key key)) ws0 → Begun key.start ws0 key.consumers ws → LogRuled key record { words = ws; homes = []; views = whole_seat key ∷ [] }
+opens key ws0 ws so count f o =
+    let k0 = old_key key in let b0 : Bounds = bounds_of k0 in let g = key.identity.geometry in let r0 = ruled_first k0 ws0 so f in let c = r0.claims in let p0 : Pass = newcomer key.identity key.start 7 1024 in let p : Pass = whole_pass key in
+    let b : Bounds = now_at key key.start key.start in
+    let unit : limit_in key.start ≡ key.start = (let u = so.unit in whole key.start u) in
+    let tail0 : tail_of b0 (p0 ∷ []) ≡ key.start = none key.start in
+    let end : end_of g c.terms ≡ key.start = sym (tail_is b0 ws0 (p0 ∷ []) c) ∙ tail0 in
+    let claims : Claimed b ws (p ∷ []) = record {
+      sound = record { geometry = so.geometry; unit = so.unit; below = so.below; greatest = refl; limit = refl };
+      wide = o.wide ∙ c.wide;
+      limit = o.limit;
+      terms = c.terms;
+      tailed = elsewhere g (first_of b) c.terms ws0 ws (λ j pos low. o.others j (λ e. omega arith) (λ i lt e. omega arith)) c.tailed;
+      log = c.log;
+      tiles = c.tiles;
+      fair = c.fair;
+      reached = (let e = end in omega arith);
+      parted = refl;
+      over = c.over;
+      room = room_is (end_of g c.terms) key.start (limit_in key.start) (greatest_claim g) end unit (c.room);
+      each = one_pass _ p (let x = c.each 0 p0 refl in record { identity = refl; start = refl; number = omega arith; right = record { capped = omega arith; able = omega arith; once = omega arith; idle = λ z. refl }; entries = tt; seen = x.seen });
+    } in
+    let held : limit_in key.start + greatest_claim g * 8 < key.start + 3 * g.term_length = (let m = r0.memory.held in let h = so.geometry.term.least in below key.start (limit_in key.start) (greatest_claim g * 8) g.term_length m unit h) in
+    let ruled : Ruled b ws (p ∷ []) = record {
+      claims = claims;
+      memory = record {
+        cleaned = omega arith;
+        held = (let h = held in less (limit_in key.start + greatest_claim g * 8) (key.start + 3 * g.term_length) h);
+        zeros = λ x u above low. o.others (slot g x) (λ e. omega arith) (λ i lt e. far_off i (x / 8 % ring_of g) lt e) ∙ f.zeros (slot g x) (omega arith);
+        each = one_pass (Stored b ws) p record { stands = tt; placed = λ h. refl; aligned = tt; done = tt; undone = tt; kept = tt };
+      };
+    } in
+    let few = count.1 in
+    let kept : Kept b key.consumers ws (p ∷ []) = record {
+      few = count.1;
+      any = count.0;
+      unit = (let u = so.unit in by_eight key.start u);
+      ahead = held;
+      placed = λ j lt. subst (IsPlaced b (p ∷ [])) (sym (o.consumers j lt)) record {
+        unit = so.unit;
+        from = omega arith;
+        readable = omega arith;
+        edge = inl (sym (none key.start));
+        passed = refl;
+      };
+      single = λ j lt. (let a = readers_once key.start j 0 key.consumers in plus (total (reads_as j) (consumers_at key.start 0 key.consumers)) a);
+      keepers = omega arith;
+      each = one_pass (Attends b key.consumers ws (p ∷ [])) p record {
+        readings = readers_right key.consumers ws (p ∷ []) key.start 0 key.consumers o.consumers;
+        keeping = record {
+          limit = λ _. refl;
+          cleaned = λ _. refl;
+          all = λ _. length-replicate key.consumers key.start;
+          few = (let e = length-replicate {A = ℕ} key.consumers key.start in omega arith);
+          swept = λ j lt. (let e = length-replicate {A = ℕ} key.consumers key.start in let low : j < key.consumers = omega arith in let a = filled key.consumers key.start j low in let c' = o.consumers j low in same (slice_index (replicate {A = ℕ} key.consumers key.start) j) (slice_index ws (consumer_place j)) key.start a c');
+        };
+      };
+    } in record {
+      cleaned = key.start;
+      ruled = subst (λ (n : ℕ). Ruled (now_at key n key.start) ws (p ∷ [])) (sym o.limit) ruled;
+      kept = subst (λ (n : ℕ). Kept (now_at key n key.start) key.consumers ws (p ∷ [])) (sym o.limit) kept;
+      sure = record { each = one_view (IsSure ws) (whole_seat key) record { whole = λ _. refl; exact = λ _. ap (λ (x : Controls). record x { limit = key.start }) (fresh_is k0 ws0 f) ∙ sym (controls_as o) } };
+    }
+  where
+    whole : (s : ℕ) → s % 32 ≡ 0 → limit_in s ≡ s
+    whole s u = omega arith
+
+    none : (s : ℕ) → s + (0 + 0) ≡ s
+    none s = omega arith
+
+    room_is : (e s l c : ℕ) → e ≡ s → l ≡ s → e + c * 0 ≤ s + (key.identity.geometry.term_length / 2) + c * 8 → e + c * 0 ≤ l + c * 8
+    room_is e s l c a d old' = omega arith
+
+    below : (s l g t : ℕ) → s + t / 2 + g ≤ s + 3 * t → l ≡ s → 65536 ≤ t → l + g < s + 3 * t
+    below s l g t m e h = omega arith
+
+    less : (a c : ℕ) → a < c → a ≤ c
+    less a c lt = omega arith
+
+    far_off : (i q : ℕ) → i < 8 → 208 + q ≡ i * 16 + 80 → ⊥
+    far_off i q lt e = omega arith
+
+    by_eight : (s : ℕ) → s % 32 ≡ 0 → s % 8 ≡ 0
+    by_eight s u = omega arith
+
+    plus : (n : ℕ) → n ≤ 1 → n + 0 ≤ 1
+    plus n le = omega arith
+
+    same : (a c s : ℕ) → a ≡ s → c ≡ s → a ≤ c
+    same a c s e f = omega arith
+
+    controls_as : Begun key.start ws0 key.consumers ws → controls_in ws ≡ record (controls_in ws0) { limit = key.start }
+    controls_as o = λ i. record { limit = o.limit i; count = o.others 16 (λ e. omega arith) (λ j lt e. omega arith) i; tails = o.others 32 (λ e. omega arith) (λ j lt e. omega arith) i ∷ o.others 48 (λ e. omega arith) (λ j lt e. omega arith) i ∷ o.others 64 (λ e. omega arith) (λ j lt e. omega arith) i ∷ [] }

@@ -1,0 +1,175 @@
+-- An event of the stream leaves consumers where they may stand, and the frames that are known committed.
+use Rattle.std.proofs.Common.{◌≡◌, ◌≢◌, ℕ, ◌+◌, ◌-◌, ◌<◌, ◌≤◌, ◌⊎◌, inl, inr, min, List, [], ◌∷◌, set, sym, refl, ap, ◌∙◌, subst, ⊎_elim, arith}
+use mathlib.Core.Option.{some}
+use lib.ListN.{get_elem?}
+use Rattle.std.specs.Prelude.{slice_index}
+use Rattle.std.specs.List.{AllByRecursion}
+use Rattle.atomic_table.proofs.Lists.{at_set}
+use Rattle.theory.specs.Position.{aligned, span}
+use Rattle.theory.specs.Entry.{Entry, IsEntry, length_of}
+use Rattle.theory.proofs.Lists.{all_weaker}
+use Rattle.word_calls.specs.declared.pass.FrameWords.{FrameWords}
+use Rattle.word_calls.specs.declared.pass.Keeping.{Keeping}
+use Rattle.word_calls.specs.declared.pass.Pass.{Pass}
+use Rattle.word_calls.specs.declared.pass.Reading.{Reading}
+use Rattle.word_calls.specs.Steps.{extent_of, extents}
+use Rattle.tail_claim.specs.Packs.{consumer_place, limit_place}
+use Rattle.tail_claim.specs.Sums.{total}
+use Rattle.tail_claim.specs.Rule.{Bounds, weight}
+use Rattle.tail_claim.specs.Memory.{Ruled, tail_of}
+use Rattle.tail_claim.specs.Admits.{Same}
+use Rattle.tail_claim.specs.Events.{IsClaimed, IsCommitted, IsEvent, IsLook, committed_weight}
+use Rattle.tail_claim.proofs.Totals.{total_set}
+use Rattle.log_rule.specs.Edges.{AreCommitted, IsAmong, IsEdge, IsPlaced, begins_at, begins_below, claimed_sum, committed_sum, in_entry}
+use Rattle.log_rule.specs.Kept.{Attends, IsKeeper, IsReader, Kept, keepers_of, readers_of}
+use Rattle.log_rule.proofs.Sums.{sum_less}
+use Rattle.log_rule.proofs.Edges.{edge_low}
+
+-- ---- what an event leaves
+
+pub record Grows (b : Bounds) (ps ps' : List Pass) : Type 0 where
+  pub edge : (p : ℕ) → IsEdge b ps p → IsEdge b ps' p
+  pub passed : (p : ℕ) → IsEdge b ps p → AreCommitted ps p → AreCommitted ps' p
+  pub among : (f : FrameWords) → IsAmong ps f → IsAmong ps' f
+
+-- nothing of it begins below its start
+none_below : (p q : ℕ) (cuts : List ℕ) → p ≤ q → total (begins_below p) (extents q cuts) ≡ 0
+none_below p q [] le = refl
+none_below p q (cut ∷ cuts) le = let r = none_below p (q + aligned cut) cuts (omega arith) in zeros p q (aligned cut) (total (begins_below p) (extents (q + aligned cut) cuts)) le r
+  where
+    zeros : (p q n t : ℕ) → p ≤ q → t ≡ 0 → min 1 (min n (p - q)) + t ≡ 0
+    zeros p q n t le e = omega arith
+
+-- its first frame begins there
+one_at : (e : Entry) → IsEntry e → 0 < in_entry (begins_at e.start) e
+one_at e legal = go e.start e.cuts legal.cuts legal.long
+  where
+    go : (q : ℕ) (cuts : List ℕ) → AllByRecursion (λ cut. 0 < cut) cuts → 0 < span cuts → 0 < total (begins_at q) (extents q cuts)
+    go q [] all long = absurd (omega arith)
+    go q (cut ∷ cuts) all long = let pos = all.0 in first q cut (total (begins_at q) (extents (q + aligned cut) cuts)) pos
+      where
+        first : (q cut t : ℕ) → 0 < cut → 0 < min (aligned cut) (1 - ((q - q) + (q - q))) + t
+        first q cut t pos = omega arith
+
+looks : (b : Bounds) (ps ps' : List Pass) → IsLook ps ps' → Grows b ps ps'
+looks b ps ps' l = record {
+  edge = λ p e. ⊎_elim (λ (t : p ≡ tail_of b ps). inl (let c = l.claimed length_of in tails b.start p (total (weight length_of) ps) (total (weight length_of) ps') t c)) (λ (pos : 0 < claimed_sum (begins_at p) ps). inr (let c = l.claimed (in_entry (begins_at p)) in more (claimed_sum (begins_at p) ps) (claimed_sum (begins_at p) ps') pos c)) e;
+  passed = λ p e same. l.claimed (in_entry (begins_below p)) ∙ same ∙ sym (l.committed (λ f. begins_below p (extent_of f)));
+  among = λ f a h. (let c = l.committed h in let x = a h in least (h f) (total (committed_weight h) ps) (total (committed_weight h) ps') x c);
+}
+  where
+    tails : (s p t t' : ℕ) → p ≡ s + t → t' ≡ t → p ≡ s + t'
+    tails s p t t' e c = omega arith
+
+    more : (a c : ℕ) → 0 < a → c ≡ a → 0 < c
+    more a c pos e = omega arith
+
+    least : (f t t' : ℕ) → f ≤ t → t' ≡ t → f ≤ t'
+    least f t t' x e = omega arith
+
+claims : (b : Bounds) (ws : List ℕ) (ps ps' : List Pass) → Ruled b ws ps → IsClaimed b ps ps' → Grows b ps ps'
+claims b ws ps ps' r l = record {
+  edge = λ p e. ⊎_elim
+      (λ (t : p ≡ tail_of b ps). inr (let c = l.claimed (in_entry (begins_at p)) in let s : l.entry.start ≡ p = l.at_tail ∙ sym t in let one : 0 < in_entry (begins_at p) l.entry = subst (λ (q : ℕ). 0 < in_entry (begins_at q) l.entry) s (one_at l.entry l.legal) in add (claimed_sum (begins_at p) ps) (claimed_sum (begins_at p) ps') (in_entry (begins_at p) l.entry) c one))
+      (λ (pos : 0 < claimed_sum (begins_at p) ps). inr (let c = l.claimed (in_entry (begins_at p)) in more (claimed_sum (begins_at p) ps) (claimed_sum (begins_at p) ps') (in_entry (begins_at p) l.entry) pos c))
+      e;
+  passed = λ p e same. (let c = l.claimed (in_entry (begins_below p)) in let low = edge_low b ws ps r p e in let z : in_entry (begins_below p) l.entry ≡ 0 = none_below p l.entry.start l.entry.cuts (let s = l.at_tail in under p l.entry.start (tail_of b ps) low s) in
+      less (claimed_sum (begins_below p) ps) (claimed_sum (begins_below p) ps') (in_entry (begins_below p) l.entry) c z) ∙ same ∙ sym (l.committed (λ f. begins_below p (extent_of f)));
+  among = λ f a h. (let c = l.committed h in let x = a h in least (h f) (total (committed_weight h) ps) (total (committed_weight h) ps') x c);
+}
+  where
+    add : (a c n : ℕ) → c ≡ a + n → 0 < n → 0 < c
+    add a c n e pos = omega arith
+
+    more : (a c n : ℕ) → 0 < a → c ≡ a + n → 0 < c
+    more a c n pos e = omega arith
+
+    under : (p s t : ℕ) → p ≤ t → s ≡ t → p ≤ s
+    under p s t le e = omega arith
+
+    less : (a c n : ℕ) → c ≡ a + n → n ≡ 0 → c ≡ a
+    less a c n e z = omega arith
+
+    least : (f t t' : ℕ) → f ≤ t → t' ≡ t → f ≤ t'
+    least f t t' x e = omega arith
+
+commits : (b : Bounds) (ws' : List ℕ) (ps ps' : List Pass) → Ruled b ws' ps' → IsCommitted b ps ps' → Grows b ps ps'
+commits b ws' ps ps' r' l = record {
+  edge = λ p e. ⊎_elim (λ (t : p ≡ tail_of b ps). inl (let c = l.claimed length_of in tails b.start p (total (weight length_of) ps) (total (weight length_of) ps') t c)) (λ (pos : 0 < claimed_sum (begins_at p) ps). inr (let c = l.claimed (in_entry (begins_at p)) in more (claimed_sum (begins_at p) ps) (claimed_sum (begins_at p) ps') pos c)) e;
+  passed = λ p e same. (let c = l.claimed (in_entry (begins_below p)) in let d = l.committed (λ f. begins_below p (extent_of f)) in let up = sum_less b ws' ps' r'.memory (begins_below p) in
+      full (claimed_sum (begins_below p) ps) (claimed_sum (begins_below p) ps') (committed_sum (begins_below p) ps) (committed_sum (begins_below p) ps') (begins_below p (extent_of l.frame)) same c d up);
+  among = λ f a h. (let c = l.committed h in let x = a h in least (h f) (total (committed_weight h) ps) (total (committed_weight h) ps') (h l.frame) x c);
+}
+  where
+    tails : (s p t t' : ℕ) → p ≡ s + t → t' ≡ t → p ≡ s + t'
+    tails s p t t' e c = omega arith
+
+    more : (a c : ℕ) → 0 < a → c ≡ a → 0 < c
+    more a c pos e = omega arith
+
+    full : (s s' c c' k : ℕ) → s ≡ c → s' ≡ s → c' ≡ c + k → c' ≤ s' → s' ≡ c'
+    full s s' c c' k e f g le = omega arith
+
+    least : (f t t' k : ℕ) → f ≤ t → t' ≡ t + k → f ≤ t'
+    least f t t' k x e = omega arith
+
+pub grows : (b : Bounds) (ws ws' : List ℕ) (ps ps' : List Pass) → Ruled b ws ps → Ruled b ws' ps' → IsEvent b ps ps' → Grows b ps ps'
+grows b ws ws' ps ps' r r' e = ⊎_elim (λ (l : IsLook ps ps'). looks b ps ps' l) (λ (o : IsClaimed b ps ps' ⊎ IsCommitted b ps ps'). ⊎_elim (λ (c : IsClaimed b ps ps'). claims b ws ps ps' r c) (λ (d : IsCommitted b ps ps'). commits b ws' ps ps' r' d) o) e
+
+-- ---- what it leaves of consumers and the keeper
+
+-- the words that consumers and the keeper look at are the same
+pub record Spared (words after : List ℕ) : Type 0 where
+  pub limit : slice_index after limit_place ≡ slice_index words limit_place
+  pub consumers : (j : ℕ) → j < 8 → slice_index after (consumer_place j) ≡ slice_index words (consumer_place j)
+
+pub placed_on : (b : Bounds) (ps ps' : List Pass) → Grows b ps ps' → (p : ℕ) → IsPlaced b ps p → IsPlaced b ps' p
+placed_on b ps ps' g p k = record { unit = k.unit; from = k.from; readable = k.readable; edge = g.edge p k.edge; passed = g.passed p k.edge k.passed }
+
+pub reader_on : (b : Bounds) (n : ℕ) → n ≤ 8 → (ws ws' : List ℕ) (ps ps' : List Pass) → Grows b ps ps' → Spared ws ws' → (x : Reading) → IsReader n ws ps x → IsReader n ws' ps' x
+reader_on b n few ws ws' ps ps' g s x k = record {
+  position = λ low. s.consumers x.number (omega arith) ∙ k.position low;
+  known = all_weaker (IsAmong ps) (IsAmong ps') g.among x.known k.known;
+}
+
+pub keeper_on : (b : Bounds) (n : ℕ) → n ≤ 8 → (ws ws' : List ℕ) → Spared ws ws' → (x : Keeping) → IsKeeper b n ws x → IsKeeper b n ws' x
+keeper_on b n few ws ws' s x k = record {
+  limit = k.limit;
+  cleaned = k.cleaned;
+  all = k.all;
+  few = k.few;
+  swept = λ j lt. (let e = s.consumers j (let low = k.few in omega arith) in let le = k.swept j lt in up (slice_index x.positions j) (slice_index ws (consumer_place j)) (slice_index ws' (consumer_place j)) le e);
+}
+  where
+    up : (a c d : ℕ) → a ≤ c → d ≡ c → a ≤ d
+    up a c d le e = omega arith
+
+pub attends_on : (b : Bounds) (n : ℕ) → n ≤ 8 → (ws ws' : List ℕ) (ps ps' : List Pass) → Grows b ps ps' → Spared ws ws' → (v : Pass) → Attends b n ws ps v → Attends b n ws' ps' v
+attends_on b n few ws ws' ps ps' g s v k = record {
+  readings = all_weaker (IsReader n ws ps) (IsReader n ws' ps') (reader_on b n few ws ws' ps ps' g s) v.reading k.readings;
+  keeping = keeper_on b n few ws ws' s v.keeping k.keeping;
+}
+
+pub same_sum : (f : Pass → ℕ) (ps : List Pass) (id : ℕ) (v w : Pass) → get_elem? ps id ≡ some v → f w ≡ f v → total f (set ps id w) ≡ total f ps
+same_sum f ps id v w at e = let a = total_set f ps id v w at in omega arith
+
+pub kept_on : (b : Bounds) (n : ℕ) (ws ws' : List ℕ) (ps : List Pass) (id : ℕ) (v w : Pass) → get_elem? ps id ≡ some v → Same v w → Grows b ps (set ps id w) → Spared ws ws' → Kept b n ws ps → Kept b n ws' (set ps id w)
+kept_on b n ws ws' ps id v w at same g s k = record {
+  few = k.few;
+  any = k.any;
+  unit = k.unit;
+  ahead = k.ahead;
+  placed = λ j lt. subst (IsPlaced b (set ps id w)) (sym (s.consumers j (let few = k.few in omega arith))) (placed_on b ps (set ps id w) g (slice_index ws (consumer_place j)) (k.placed j lt));
+  single = λ j lt. subst (λ (t : ℕ). t ≤ 1) (sym (same_sum (readers_of j) ps id v w at (ap (λ (l : List Reading). readers_of j (record v { reading = l })) same.reading))) (k.single j lt);
+  keepers = subst (λ (t : ℕ). t ≤ 1) (sym (same_sum keepers_of ps id v w at (ap (λ (x : Keeping). x.right) same.keeping))) k.keepers;
+  each = λ i u e. ⊎_elim
+      (λ (y : (i ≡ id) × (w ≡ u)). subst (Attends b n ws' (set ps id w)) y.1 (moved_to (attends_on b n k.few ws ws' ps (set ps id w) g s v (k.each id v at))))
+      (λ (y : (i ≢ id) × (get_elem? ps i ≡ some u)). attends_on b n k.few ws ws' ps (set ps id w) g s u (k.each i u y.1))
+      (at_set ps id i w u e);
+}
+  where
+    moved_to : Attends b n ws' (set ps id w) v → Attends b n ws' (set ps id w) w
+    moved_to a = record {
+      readings = subst (AllByRecursion (IsReader n ws' (set ps id w))) (sym same.reading) a.readings;
+      keeping = subst (IsKeeper b n ws') (sym same.keeping) a.keeping;
+    }

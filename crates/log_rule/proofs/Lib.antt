@@ -1,0 +1,16 @@
+pub mod Sums
+pub mod Edges
+pub mod Growing
+pub mod Lifting
+pub mod Resting
+pub mod Known
+pub mod InTerm
+pub mod Consumers
+pub mod Keeping
+pub mod Cleaning
+pub mod Beginning
+pub mod Dealing
+pub mod Shares
+pub mod Gathering
+pub mod Meetings
+pub mod Showing

@@ -1,0 +1,76 @@
+-- The steps of a publisher keep the whole rule.
+use Rattle.std.proofs.Common.{◌≡◌, ◌≢◌, ◌⊎◌, ℕ, suc, ◌+◌, ◌*◌, ◌<◌, ◌≤◌, List, map, length, set, get_or-set_other, sym, refl, ap, ◌∙◌, subst, arith}
+use Rattle.std.specs.Prelude.{slice_index}
+use Rattle.std.proofs.lemmas.List.{map-set, set-get_or}
+use Rattle.atomic_table.specs.Table.{Allows, keeps}
+use Rattle.atomic_table.proofs.Lists.{at_map}
+use Rattle.word_calls.specs.declared.pass.Controls.{Controls}
+use Rattle.word_calls.specs.declared.pass.Pass.{Pass}
+use Rattle.word_calls.specs.declared.step.WordStep.{WordStep}
+use Rattle.word_calls.specs.Controls.{Leads}
+use Rattle.tail_claim.specs.declared.view.View.{View}
+use Rattle.tail_claim.specs.Packs.{consumer_place, limit_place}
+use Rattle.tail_claim.specs.Rule.{Bounds}
+use Rattle.tail_claim.specs.Memory.{Ruled}
+use Rattle.tail_claim.specs.Admits.{Same}
+use Rattle.tail_claim.specs.Events.{Eventful}
+use Rattle.tail_claim.specs.Sure.{Learns, controls_in}
+use Rattle.tail_claim.specs.Plays.{Mine, pass_in}
+use Rattle.tail_claim.proofs.Sures.{Leaves, Turns, sure_on}
+use Rattle.log_rule.specs.declared.rule.Key.{Key}
+use Rattle.log_rule.specs.Kept.{Kept}
+use Rattle.log_rule.specs.Table.{LogRuled, now_at}
+use Rattle.log_rule.proofs.Growing.{Spared, grows, kept_on}
+
+-- a step that leaves the limit word and the consumers' positions
+abbrev pub Spares : ℕ → (ℕ → ℕ) → Type 0
+Spares i f = (words : List ℕ) → Spared words (set words i (f (slice_index words i)))
+
+pub load_spares : (i : ℕ) → Spares i (λ n. n)
+load_spares i words = record {
+  limit = ap (λ (l : List ℕ). slice_index l limit_place) (set-get_or words i 0);
+  consumers = λ j lt. ap (λ (l : List ℕ). slice_index l (consumer_place j)) (set-get_or words i 0);
+}
+
+-- one elsewhere
+pub other_spares : (i : ℕ) (f : ℕ → ℕ) → i ≢ 0 → ((j : ℕ) → j < 8 → i ≢ j * 16 + 80) → Spares i f
+other_spares i f ne far words = record {
+  limit = get_or-set_other words i 0 (f (slice_index words i)) 0 (λ e. ne (sym e));
+  consumers = λ j lt. get_or-set_other words i (j * 16 + 80) (f (slice_index words i)) 0 (λ e. far j lt (sym e));
+}
+
+wide : (key : Key) (word cleaned : ℕ) (ws : List ℕ) (ps : List Pass) → Ruled (now_at key word cleaned) ws ps → 208 ≤ length ws
+wide key word cleaned ws ps r = let e = r.claims.wide in omega arith
+
+pub lifted : (key : Key) (slots id i : ℕ) (m : Mine) (f : ℕ → ℕ) (told : ℕ → Pass → Type 0) (noted : ℕ → List WordStep) → Turns i f noted → (0 < m.0.pass.right.parts) ⊎ Leaves i f → Spares i f → ((b : Bounds) → Eventful b id m.0.pass i f told)
+    → Allows (LogRuled key) slots id m i f (λ n m'. (m'.1 ≡ m.1) × (m'.0.steps ≡ suc m.0.steps) × Same m.0.pass m'.0.pass × Learns (noted n) m.0 m'.0 × told n m'.0.pass)
+lifted key slots id i m f told noted turns may spares go s r homes at small =
+    let ws : List ℕ = s.words in let n : ℕ = slice_index ws i in let v : View = m.0 in let mine = r.sure.each id v at in let ps : List Pass = map pass_in s.views in
+    let b : Bounds = now_at key (slice_index ws limit_place) r.cleaned in let ws' : List ℕ = set ws i (f n) in
+    let here = at_map pass_in s.views id v at in
+    let g = go b ws ps r.ruled here in let spared = spares ws in
+    let after : Controls = controls_in ws' in let w : View = record { pass = g.0; steps = suc v.steps; controls = after; sure = v.sure } in
+    let is : map pass_in (set s.views id w) ≡ set ps id g.0 = map-set pass_in s.views id w in
+    let kept : Kept b key.consumers ws' (set ps id g.0) = kept_on b key.consumers ws ws' ps id v.pass g.0 here g.2 (grows b ws ws' ps (set ps id g.0) r.ruled g.1 g.4) spared r.kept in (
+      w,
+      keeps,
+      tt,
+      record {
+        cleaned = r.cleaned;
+        ruled = subst (λ (x : ℕ × List Pass). Ruled (now_at key x.0 r.cleaned) ws' x.1) (λ j. (sym spared.limit j, sym is j)) g.1;
+        kept = subst (λ (x : ℕ × List Pass). Kept (now_at key x.0 r.cleaned) key.consumers ws' x.1) (λ j. (sym spared.limit j, sym is j)) kept;
+        sure = sure_on b ws s.views r.ruled r.sure id v w at i f may record { whole = λ one. g.2.parts ∙ mine.whole one; exact = λ _. refl };
+      },
+      (
+        refl,
+        refl,
+        g.2,
+        record { sure = refl; leads = λ one. subst (λ (c : Controls). Leads c (noted n) after) (sym (mine.exact one)) (turns ws (wide key (slice_index ws limit_place) r.cleaned ws ps r.ruled)) },
+        g.3,
+      ),
+    )
+
+-- the word may be named otherwise
+pub lifted_at : (key : Key) (slots id i : ℕ) (m : Mine) (f : ℕ → ℕ) (told : ℕ → Pass → Type 0) (noted : ℕ → List WordStep) (j : ℕ) → j ≡ i → Turns i f noted → (0 < m.0.pass.right.parts) ⊎ Leaves i f → Spares i f → ((b : Bounds) → Eventful b id m.0.pass i f told)
+    → Allows (LogRuled key) slots id m j f (λ n m'. (m'.1 ≡ m.1) × (m'.0.steps ≡ suc m.0.steps) × Same m.0.pass m'.0.pass × Learns (noted n) m.0 m'.0 × told n m'.0.pass)
+lifted_at key slots id i m f told noted j e turns may spares go = subst (λ (k : ℕ). Allows (LogRuled key) slots id m k f (λ n m'. (m'.1 ≡ m.1) × (m'.0.steps ≡ suc m.0.steps) × Same m.0.pass m'.0.pass × Learns (noted n) m.0 m'.0 × told n m'.0.pass)) (sym e) (lifted key slots id i m f told noted turns may spares go)

@@ -1,0 +1,65 @@
+-- Two passes that meet: what each is told before, what both are together, and what the raw tails show them.
+use Rattle.std.specs.Prelude.{◌≡◌, ℕ, suc, ◌+◌, ◌*◌, ◌/◌, ◌%◌, ◌^◌, ◌<◌, ◌≤◌, ◌⊎◌, List, ◌++◌, map, max, min, nat_lt, if◌then◌else◌}
+use Rattle.std.specs.List.{flat_map}
+use Rattle.theory.specs.Placed.{Among}
+use Rattle.theory.specs.Position.{Geometry, span}
+use Rattle.theory.specs.Words.{offset_in}
+use Rattle.word_calls.specs.declared.pass.ClaimRange.{ClaimRange}
+use Rattle.word_calls.specs.declared.pass.Pass.{Pass}
+use Rattle.word_calls.specs.Steps.{Extent, count_in, extent_of, frames_of, geometry_of, ranges_of, term_of}
+use Rattle.tail_claim.specs.declared.view.View.{View}
+use Rattle.tail_claim.specs.Sums.{total}
+use Rattle.tail_claim.specs.Closing.{both}
+use Rattle.log_rule.specs.Table.{dealing, new_seat}
+
+-- what is true of a pass for good
+pub record Steady (v : Pass) : Type 0 where
+  pub number : v.number < 8
+  pub count : v.start / term_of v ≤ v.seen.count
+  pub term : v.start / term_of v ≤ v.seen.term
+  pub full : (k : ℕ) → v.seen.full ≡ suc k → v.start / term_of v ≤ k
+  pub placed : (h : Extent → ℕ) → total h (flat_map ranges_of v.right.claims) ≡ total h (map extent_of (frames_of v))
+
+pub record Steadies (v w : Pass) : Type 0 where
+  pub steady : Steady v
+  pub same : w ≡ v
+
+-- ---- together
+
+-- one has what both have, and what both have seen of the terms
+abbrev pub meeting : Pass → Pass → Pass
+meeting v w = record (both v w) {
+  right = record (both v w).right { limit = max v.right.limit w.right.limit };
+  seen = record v.seen { full = max v.seen.full w.seen.full; begun = max v.seen.begun (max w.seen.begun (max w.seen.count w.seen.term)) };
+  reading = v.reading ++ w.reading;
+}
+
+abbrev pub meeting_seats : View → View → View
+meeting_seats v w = dealing (meeting v.pass w.pass) v
+
+-- and each what it had
+abbrev pub back_left : Pass → View → View
+back_left one v = dealing one v
+
+abbrev pub back_right : Pass → View → View
+back_right other v = new_seat other
+
+-- ---- what the raw tails show
+
+-- the position that a raw tail shows, or 0 where its partition isn't used yet
+abbrev pub position_in : Geometry → ℕ → ℕ
+position_in g word = if nat_lt (count_in g word) (2 ^ 31) then count_in g word * g.term_length + min (offset_in word) g.term_length else 0
+
+abbrev pub claim_end : ClaimRange → ℕ
+claim_end c = c.start + span c.cuts
+
+-- the one ends where the other begins, or below
+abbrev pub AreApart : ClaimRange → ClaimRange → Type 0
+AreApart c d = (claim_end c ≤ d.start) ⊎ (claim_end d ≤ c.start)
+
+-- the raw tail of a partition: what lies in a term of it doesn't pass the position that it shows
+pub record ShowsTail (v : Pass) (partition n : ℕ) (w : Pass) : Type 0 where
+  pub claims : (c : ClaimRange) → Among c v.right.claims → c.start / term_of v % 3 ≡ partition → claim_end c ≤ position_in (geometry_of v) n
+  pub terms : (k : ℕ) → v.start / term_of v ≤ k → k ≤ max v.seen.count v.seen.begun → k % 3 ≡ partition → k * term_of v ≤ position_in (geometry_of v) n
+  pub apart : (front behind : List ClaimRange) → v.right.claims ≡ front ++ behind → (c d : ClaimRange) → Among c front → Among d behind → AreApart c d
+  pub same : w ≡ v

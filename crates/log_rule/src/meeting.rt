@@ -1,0 +1,72 @@
+//! The kinds of step by which two passes meet.
+
+ghost use Rattle.word_calls.specs.declared.pass.Pass as passes;
+ghost use Rattle.tail_claim.specs.Closing.{no_identity};
+ghost use Rattle.tail_claim.specs.Plays.{newcomer};
+
+use atomic_table::{Join, Play, Split};
+use std::marker::{Brand, PhantomData};
+use tail_claim::{Chosen, View};
+
+/// A pass is told what is true of it for good.
+pub struct Settle;
+
+impl Play<(), View> for Settle {
+    ghost use Rattle.log_rule.specs.Readings.{reading};
+    ghost use Rattle.log_rule.specs.Meetings.{Steadies};
+
+    ghost then = { λ _. reading (λ v n w. Steadies v w) };
+}
+
+/// Two passes that meet, which a call picks for its steps.
+pub trait Met {
+    ghost one: { passes.Pass };
+
+    ghost other: { passes.Pass };
+}
+
+impl Met for Brand {
+    ghost one = { newcomer no_identity 0 0 0 };
+
+    ghost other = { newcomer no_identity 0 0 0 };
+}
+
+/// A seat has what both have.
+pub struct Meet<N> {
+    met: PhantomData<N>,
+}
+
+impl<N: Met> Join<View> for Meet<N> {
+    ghost use Rattle.tail_claim.specs.Closing.{spent_seat};
+    ghost use Rattle.log_rule.specs.Meetings.{meeting_seats};
+
+    ghost both = { meeting_seats };
+
+    ghost spent = { spent_seat N.one.identity N.one.start };
+}
+
+/// The raw tail of the chosen partition is loaded: a pass is told what lies below the position that it shows.
+pub struct Show<N> {
+    chosen: PhantomData<N>,
+}
+
+impl<N: Chosen> Play<(), View> for Show<N> {
+    ghost use Rattle.std.specs.Prelude.{◌%◌};
+    ghost use Rattle.log_rule.specs.Readings.{reading};
+    ghost use Rattle.log_rule.specs.Meetings.{ShowsTail};
+
+    ghost then = { λ _. reading (λ v n w. ShowsTail v (N.number % 3) n w) };
+}
+
+/// Each has again what it had.
+pub struct Part<N> {
+    met: PhantomData<N>,
+}
+
+impl<N: Met> Split<View> for Part<N> {
+    ghost use Rattle.log_rule.specs.Meetings.{back_left, back_right};
+
+    ghost left = { back_left N.one };
+
+    ghost right = { back_right N.other };
+}

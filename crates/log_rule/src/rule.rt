@@ -1,0 +1,231 @@
+//! The rule of a log's table, and the kinds of step that are its own.
+
+ghost use Rattle.std.specs.Prelude.{ℕ, ◌^◌, ◌<◌, ◌∷◌, []};
+ghost use Rattle.theory.specs.Bytes.{Identity};
+ghost use Rattle.word_calls.specs.Steps.{Adds, addition};
+ghost use Rattle.tail_claim.specs.Closing.{no_identity};
+ghost use Rattle.tail_claim.specs.Plays.{playing};
+ghost use Rattle.log_rule.specs.Shares.{share_of};
+
+use atomic_table::{Join, Play, Split, TableRule};
+use std::marker::{Brand, PhantomData};
+use tail_claim::{Chosen, View};
+use word_calls::Identity;
+
+/// What a log's table is told when it is made: the stream that it carries, the position at which it begins, and how many
+/// consumers it has.
+#[derive(Clone, Copy)]
+pub struct Key {
+    pub identity: Identity,
+    pub start: u64,
+    pub consumers: u64,
+}
+
+/// The words and passes of a log obey the rule.
+pub struct LogRule;
+
+impl TableRule<(), View, Key> for LogRule {
+    ghost use Rattle.log_rule.specs.Table.{LogRuled, whole_seat};
+
+    ghost holds = { LogRuled };
+
+    ghost first = { whole_seat };
+}
+
+/// What a message of the chosen size covers is added to a tail; and what the pass has claimed by then can be counted.
+pub struct Add<N> {
+    chosen: PhantomData<N>,
+}
+
+impl<N: Chosen> Play<(), View> for Add<N> {
+    ghost then = { playing (λ v n w. Adds v N.number n w × (share_of w < 2 ^ 63)) (λ v n. addition v N.number n ∷ []) };
+}
+
+/// A consumer looks at the first word where it stands. The chosen number is its place among those that its seat has.
+pub struct Look<N> {
+    chosen: PhantomData<N>,
+}
+
+impl<N: Chosen> Play<(), View> for Look<N> {
+    ghost use Rattle.log_rule.specs.Readings.{Looks, reading};
+
+    ghost then = { λ _. reading (λ v n w. Looks v N.number n w) };
+}
+
+/// A word of a frame, which a call picks for its step: the consumer's place, the position at which the frame begins, and
+/// the number of the word in it.
+pub trait Word {
+    ghost place: { ℕ };
+
+    ghost start: { ℕ };
+
+    ghost index: { ℕ };
+}
+
+impl Word for Brand {
+    ghost place = { 0 };
+
+    ghost start = { 0 };
+
+    ghost index = { 0 };
+}
+
+/// The chosen word of a frame that a consumer knows is loaded.
+pub struct Reread<N> {
+    chosen: PhantomData<N>,
+}
+
+impl<N: Word> Play<(), View> for Reread<N> {
+    ghost use Rattle.log_rule.specs.Readings.{Rereads, reading};
+
+    ghost then = { λ _. reading (λ v n w. Rereads v N.place N.start N.index n w) };
+}
+
+/// The position of the consumer at the chosen place is stored.
+pub struct Pass<N> {
+    chosen: PhantomData<N>,
+}
+
+impl<N: Chosen> Play<(), View> for Pass<N> {
+    ghost use Rattle.log_rule.specs.Readings.{Passes, reading};
+
+    ghost then = { λ _. reading (λ v n w. Passes v N.number n w) };
+}
+
+/// A consumer that the keeper sees, which a call picks for its step: its number, and how many consumers there are.
+pub trait Seen {
+    ghost number: { ℕ };
+
+    ghost count: { ℕ };
+}
+
+impl Seen for Brand {
+    ghost number = { 0 };
+
+    ghost count = { 0 };
+}
+
+/// The keeper loads the position of a consumer.
+pub struct Sweep<N> {
+    chosen: PhantomData<N>,
+}
+
+impl<N: Seen> Play<(), View> for Sweep<N> {
+    ghost use Rattle.log_rule.specs.Keepings.{sweeping};
+
+    ghost then = { λ _. sweeping N.count N.number };
+}
+
+/// The keeper stores zero in the next word that may be cleaned.
+pub struct Clean;
+
+impl Play<(), View> for Clean {
+    ghost use Rattle.std.specs.Prelude.{[]};
+    ghost use Rattle.tail_claim.specs.Sure.{Learns};
+    ghost use Rattle.log_rule.specs.Keepings.{Cleans, keeping};
+
+    ghost then = { λ _ m _ m'. keeping (λ v w. Learns [] v w) Cleans m m' };
+}
+
+/// The keeper stores the limit word.
+pub struct Raise;
+
+impl Play<(), View> for Raise {
+    ghost use Rattle.log_rule.specs.Keepings.{LearnsLimit, Raises, keeping};
+
+    ghost then = { λ _ m n m'. keeping (LearnsLimit n) (λ v w. Raises v n w) m m' };
+}
+
+/// The first consumer of a seat goes to one of its own.
+pub struct DealReader;
+
+impl Split<View> for DealReader {
+    ghost use Rattle.log_rule.specs.Table.{reader_left, reader_right};
+
+    ghost left = { reader_left };
+
+    ghost right = { reader_right };
+}
+
+/// The keeper goes to a seat of its own.
+pub struct DealKeeper;
+
+impl Split<View> for DealKeeper {
+    ghost use Rattle.log_rule.specs.Table.{keeper_left, keeper_right};
+
+    ghost left = { keeper_left };
+
+    ghost right = { keeper_right };
+}
+
+/// A publisher goes to a seat of its own.
+pub struct DealPublisher;
+
+impl Split<View> for DealPublisher {
+    ghost use Rattle.tail_claim.specs.Plays.{dealing_seat, dealt_seat};
+
+    ghost left = { dealing_seat };
+
+    ghost right = { dealt_seat };
+}
+
+/// What a publisher committed goes to a seat of its own, to be told.
+pub struct News;
+
+impl Split<View> for News {
+    ghost use Rattle.log_rule.specs.Table.{news_left, news_right};
+
+    ghost left = { news_left };
+
+    ghost right = { news_right };
+}
+
+/// The stream of a log, which a call picks for its step.
+pub trait Carried {
+    ghost identity: { Identity };
+
+    ghost start: { ℕ };
+}
+
+impl Carried for Brand {
+    ghost identity = { no_identity };
+
+    ghost start = { 0 };
+}
+
+/// A consumer is told what another seat knows.
+pub struct Tell<N> {
+    carried: PhantomData<N>,
+}
+
+impl<N: Carried> Join<View> for Tell<N> {
+    ghost use Rattle.tail_claim.specs.Closing.{spent_seat};
+    ghost use Rattle.log_rule.specs.Table.{told_seat};
+
+    ghost both = { told_seat };
+
+    ghost spent = { spent_seat N.identity N.start };
+}
+
+/// What another seat has goes to a seat.
+pub struct Gather<N> {
+    carried: PhantomData<N>,
+}
+
+impl<N: Carried> Join<View> for Gather<N> {
+    ghost use Rattle.tail_claim.specs.Closing.{both_seats, spent_seat};
+
+    ghost both = { both_seats };
+
+    ghost spent = { spent_seat N.identity N.start };
+}
+
+/// A pass is told how much it has claimed.
+pub struct Weigh;
+
+impl Play<(), View> for Weigh {
+    ghost use Rattle.log_rule.specs.Readings.{reading};
+    ghost use Rattle.log_rule.specs.Shares.{Weighs};
+
+    ghost then = { λ _. reading (λ v n w. Weighs v w) };
+}

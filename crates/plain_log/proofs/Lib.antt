@@ -1,0 +1,5 @@
+mod Rows
+mod Growing
+mod Ending
+mod Parts
+mod Opening

@@ -1,3 +1,0 @@
-pub mod Limited
-pub mod Rotated
-pub mod Turning

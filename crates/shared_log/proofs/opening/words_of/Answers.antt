@@ -1,0 +1,10 @@
+use Rattle.std.proofs.Common.{rules, ◌≤◌}
+use Rattle.log_rule.proofs.Beginning.{old_key, opens}
+use Rattle.tail_claim.proofs.Begun.{sound_key}
+use Rattle.shared_log.proofs.opening.words_of.Goals as goal
+
+pub first_words-requires : goal.first_words-requires
+first_words-requires c = sound_key (old_key c.args.key.now) c.requires.geometry c.requires.unit c.requires.below
+
+pub returns : goal.returns
+returns c = opens c.args.key.now c.in_ok-words.words.items c.begin.new.words.items (sound_key (old_key c.args.key.now) c.requires.geometry c.requires.unit c.requires.below) c.requires.count c.in_ok-words.ensures c.begin.ensures

@@ -1,0 +1,95 @@
+//! A log that opens.
+
+ghost use Rattle.std.specs.Prelude.{◌≡◌, ◌%◌, ◌<◌, ◌≤◌, ◌↔◌, [], ◌∷◌, IfOk, IsErrOf, length};
+ghost use Rattle.theory.specs.Position.{IsGeometry, max_position};
+ghost use Rattle.one_hand.specs.Openings.{IsConsumerCount, IsStart};
+ghost use Rattle.log_rule.specs.Opening.{Begun};
+ghost use Rattle.log_rule.specs.Table.{LogRuled, whole_seat};
+ghost use Rattle.shared_log.specs.Handles.{IsLogOf, IsWholeNew};
+
+use crate::log::{Log, Publisher};
+use atomic_table::Table;
+use log_rule::Key;
+use one_hand::LogError;
+use position::Geometry;
+use std::alloc::{AllocError, Global};
+use tail_claim::{CONSUMERS, LINE, first_words};
+use word_calls::Identity;
+
+/// The limit and this many consumers stand at a start.
+fn begin(words: &mut Vec<u64>, start: u64, consumers: u64)
+    requires few { consumers ≤ 8 }
+    requires wide { 208 ≤ length words.old.items }
+    ensures { Begun start words.old.items consumers words.new.items }
+{
+    words[0] = start;
+    for number in 0..consumers {
+        words[number as usize * LINE + CONSUMERS] = start;
+    }
+}
+
+/// The words of a log that opens.
+fn words_of(alloc: Global, key: &Key) -> Result<Vec<u64>, AllocError>
+    requires geometry { IsGeometry key.now.identity.geometry }
+    requires unit { key.now.start % 32 ≡ 0 }
+    requires below { key.now.start < max_position key.now.identity.geometry }
+    requires count { IsConsumerCount key.now.consumers }
+    ensures { IfOk result (λ words. LogRuled key.now (record { words = words.items; homes = []; views = whole_seat key.now ∷ [] })) }
+{
+    let carried = tail_claim::Key {
+        identity: key.identity,
+        start: key.start,
+    };
+    let mut words = first_words(alloc, &carried)?;
+    begin(&mut words, key.start, key.consumers);
+    Ok(words)
+}
+
+impl Log {
+    /// A log that opens at a position, unconnected, with its limit at the start and so many consumers there, and its one
+    /// pass, which has all: the publishers, as the last of them, the consumers, and the keeper. The start is judged first,
+    /// then the number of consumers; then memory is asked for.
+    pub fn open_whole(
+        alloc: Global,
+        geometry: Geometry,
+        session: i32,
+        stream: i32,
+        start: u64,
+        consumers: usize,
+    ) -> Result<(Log, Publisher), LogError>
+        ensures log { IfOk result (λ r. IsLogOf (record { geometry = geometry; session = session; stream = stream }) start consumers r.0) }
+        ensures pass { IfOk result (λ r. IsWholeNew r.0 r.1) }
+        ensures start { IsErrOf result LogError.Start ↔ (¬ IsStart geometry start) }
+        ensures consumers { IsErrOf result LogError.Consumers ↔ (IsStart geometry start × (¬ IsConsumerCount consumers)) }
+        ensures in_range { IfOk result (λ _. IsStart geometry start × IsConsumerCount consumers) }
+        ensures memory { IsErrOf result LogError.Memory → IsStart geometry start × IsConsumerCount consumers }
+    {
+        if !start.is_multiple_of(32) || start >= geometry.max_position() {
+            return Err(LogError::Start);
+        }
+        if consumers == 0 || consumers > 8 {
+            return Err(LogError::Consumers);
+        }
+        let identity = Identity::new(geometry, session, stream);
+        let consumers = consumers as u64;
+        let key = Key {
+            identity,
+            start,
+            consumers,
+        };
+        let words = words_of(alloc, &key)?;
+        let (table, seat) = Table::of_words(alloc, &words, &key)?;
+        let log = Log {
+            table,
+            identity,
+            start,
+            consumers,
+        };
+        let pass = Publisher {
+            seat,
+            number: 7,
+            share: 0,
+        };
+        Ok((log, pass))
+    }
+}

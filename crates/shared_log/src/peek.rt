@@ -1,0 +1,20 @@
+ghost use Rattle.std.specs.Prelude.{◌*◌, ◌/◌, ◌+◌, ◌<◌};
+
+use crate::log::Log;
+use tail_claim::{DATA, LINE};
+
+impl Log {
+    /// A word of the log, for tests: the words of the three terms, the limit with its flags, the active count, the three
+    /// raw tails, the eight consumer positions. Nothing is promised of its value.
+    pub fn peek(&self, index: usize) -> u64
+        requires { index < 3 * (self.now.identity.geometry.term_length / 8) + 13 }
+    {
+        let words = 3 * (self.identity.geometry().term_length() as usize / 8);
+        let place = if index < words {
+            index + DATA
+        } else {
+            (index - words) * LINE
+        };
+        self.table.shared.peek(place)
+    }
+}

@@ -1,0 +1,83 @@
+//! A publisher that stalls between two of its steps, while terms turn.
+
+ghost use Rattle.std.specs.Prelude.{◌≤◌, IfOk, length};
+ghost use Rattle.shared_log.specs.Handles.{IsOf};
+ghost use Rattle.log_reading.specs.Readers.{IsReaderOf};
+ghost use Rattle.shared_tests.specs.Parties.{IsCrew};
+
+use crate::opening::open_crew;
+use crate::publishing::publish_offer;
+use crate::rows::count_and_tails;
+use block::Block;
+use log_keeping::{Keeper, clean_and_limit};
+use log_reading::{LogReader, advance, next};
+use shared_log::{Log, OnLog, Publisher};
+use std::process::Abort;
+use std::test::*;
+use word_calls::{Look, Refusal, add_range, look_at};
+
+/// What a log needs that goes on.
+#[derive(Drop)]
+pub(crate) struct Crew {
+    pub(crate) publisher: Publisher,
+    pub(crate) reader: LogReader,
+    pub(crate) keeper: Keeper,
+    pub(crate) block: Block,
+}
+
+/// Offers a message of 992 bytes; the reader and the keeper follow.
+fn follow_one(log: &Log, crew: &mut Crew) -> Result<u64, Refusal>
+    requires { IsCrew log.now crew.old }
+    ensures { IsCrew log.now crew.new }
+{
+    let most = log.identity().geometry().max_message() as usize;
+    let message = [97; 992];
+    let answer = publish_offer(log, &mut crew.publisher, &message[..most.min(992)]);
+    if next(log, &mut crew.reader, &mut crew.block).is_some() {
+        advance(log, &mut crew.reader);
+    }
+    clean_and_limit(log, &mut crew.keeper);
+    answer
+}
+
+/// Fills a term, and turns to the next one.
+fn follow<R: Abort>(rt: &R, log: &Log, crew: &mut Crew, term: u64)
+    requires { IsCrew log.now crew.old }
+    ensures { IsCrew log.now crew.new }
+{
+    for count in 1..=64_u64 {
+        let answer = follow_one(log, crew);
+        let end = term.wrapping_mul(65_536).wrapping_add(1024 * count);
+        assert_eq!(rt; answer, Ok(end));
+    }
+    assert_eq!(rt; follow_one(log, crew), Err(Refusal::AdminAction));
+}
+
+/// Looks at a log that begins, lets others fill so many terms, and adds. The answer is where the claim begins, and the
+/// active count with the raw tails.
+fn stall<R: Abort>(rt: &R, terms: u64) -> Result<(Result<u64, Refusal>, [u64; 4]), Fail>
+    requires { terms ≤ 3 }
+{
+    let (log, mut stalled, mut crew) = open_crew(rt.alloc())?;
+    let mut words = OnLog::new(&log);
+    let Look::Open(count) = look_at(&mut words, &mut stalled) else {
+        return Err("no room".into());
+    };
+    for term in 0..terms {
+        follow(rt, &log, &mut crew, term);
+    }
+    let answer = add_range(&mut words, &mut stalled, count, 100);
+    Ok((answer, count_and_tails(&log)))
+}
+
+/// It finds its term used up, or that its partition has a later one, three terms on.
+#[test]
+fn stalled(rt: HostRuntime) -> Result<(), Fail> {
+    let (answer, words) = stall(&rt, 1)?;
+    assert_eq!(rt; answer, Err(Refusal::AdminAction));
+    assert_eq!(rt; words, [1, 0x7_0001_00a0, 0x8_0000_0000, 0x6_0000_0000]);
+    let (answer, words) = stall(&rt, 3)?;
+    assert_eq!(rt; answer, Ok(196_608));
+    assert_eq!(rt; words, [3, 0xa_0000_00a0, 0x8_0001_0000, 0x9_0001_0000]);
+    Ok(())
+}

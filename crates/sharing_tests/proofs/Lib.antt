@@ -1,2 +1,0 @@
-mod AllPasses
-mod SeenEnd

@@ -1,5 +1,0 @@
-//! Tests of a log that threads share.
-#![tactic(auto)]
-
-#[cfg(test)]
-mod sharing;

@@ -1,5 +1,0 @@
-use Rattle.tail_claim.specs.Handles.{IsOf}
-use Rattle.table_tests.proofs.rows.offer_row.Given as goal
-
-abbrev pub invariant-loop-size : goal.invariant-loop-size
-invariant-loop-size g l = IsOf l.log l.publisher

@@ -1,9 +1,0 @@
--- What a publisher keeps over a call.
-use Rattle.std.specs.Prelude.{◌≡◌}
-use Rattle.tail_claim.specs.Handles.{IsOf, LogValue, PublisherValue}
-
--- it is one of the log; it isn't armed, if it wasn't; and it has its parts of the right to close
-pub record Stays (l : LogValue) (p q : PublisherValue) : Type 0 where
-  pub of : IsOf l q
-  pub idle : p.pass.right.armed ≡ 0 → q.pass.right.armed ≡ 0
-  pub parts : q.pass.right.parts ≡ p.pass.right.parts
