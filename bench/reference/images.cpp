@@ -245,7 +245,7 @@ std::pair<std::uint64_t, std::uint64_t> run(Image &image, std::uint8_t *block, c
 int main(int count, char **words) {
     std::uint64_t frames = count > 1 ? std::strtoull(words[1], nullptr, 10) : 200'000;
     std::vector<std::uint8_t> payload(1376), block(65'536);
-    for (std::size_t at = 0; at < payload.size(); at++) payload[at] = at % 251;
+    std::fill(payload.begin(), payload.end(), 97);
     for (std::uint32_t term : {65'536u, 1'048'576u}) {
         for (std::uint64_t missing : {0, 1, 10}) {
             Image image(term, 0, term / 2, 1);

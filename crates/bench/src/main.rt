@@ -1,8 +1,9 @@
-//! Measures the log that threads share without a lock: `bench ROUNDS` prints medians of so many rounds, and `bench` fills
-//! one small log by each number of threads and prints no figures.
+//! Measures what is to be fast: `bench ROUNDS` prints medians of so many rounds of the log that threads share,
+//! `bench images FRAMES` how long an image takes for a frame, and `bench` fills small logs and images and prints no figures.
 #![tactic(auto)]
 
 use anyhow::Error;
+use image_speed::{ImageFigures, measure_image};
 use position::Geometry;
 use speed::{Figures, measure, play_round};
 use std::alloc::Global;
@@ -18,8 +19,43 @@ fn main(rt: HostRuntime) -> Result<(), Error> {
     let _program = words.next();
     match words.next() {
         None => small(&rt, rt.alloc()),
+        Some(word) if word.as_str() == "images" => match words.next() {
+            None => images(&rt, rt.alloc(), "200000"),
+            Some(frames) => images(&rt, rt.alloc(), frames.as_str()),
+        },
         Some(word) => large(&rt, rt.alloc(), word.as_str()),
     }
+}
+
+/// The term lengths of images, and how many frames of a hundred come late.
+const IMAGES: [(u32, u64); 6] = [
+    (65_536, 0),
+    (65_536, 1),
+    (65_536, 10),
+    (1_048_576, 0),
+    (1_048_576, 1),
+    (1_048_576, 10),
+];
+
+/// Gives so many frames to images and reads them, and prints what each took.
+fn images<R: Clock + Print>(rt: &R, alloc: Global, word: &str) -> Result<(), Error> {
+    let frames: u32 = word.parse()?;
+    for (term_length, missing) in IMAGES {
+        image_line(rt, &measure_image(rt, alloc, term_length, missing, frames)?)?;
+    }
+    Ok(())
+}
+
+/// One line of an image: tenths of a nanosecond for each frame, and two numbers by which to see that the work was done.
+fn image_line(rt: &impl Print, figures: &ImageFigures) -> io::Result<()> {
+    let ImageFigures {
+        term_length,
+        missing,
+        tenths,
+        sum,
+        stored,
+    } = *figures;
+    println!(rt; "image {term_length} {missing} {tenths} {sum} {stored}")
 }
 
 /// Fills small logs.
@@ -30,7 +66,14 @@ fn small<R: Threads + Clock + Print + Sync>(rt: &R, alloc: Global) -> Result<(),
         let full = filled.accepted >= 128;
         println!(rt; "threads {threads}: closed, and full: {full}")?;
     }
-    println!(rt; "bench ROUNDS measures so many rounds")?;
+    for missing in [0, 10] {
+        let played = measure_image(rt, alloc, 65_536, missing, 1000)?;
+        println!(rt;
+            "image with {missing} of 100 late: {} stored",
+            played.stored
+        )?;
+    }
+    println!(rt; "bench ROUNDS measures so many rounds, bench images FRAMES so many frames")?;
     Ok(())
 }
 
