@@ -1,8 +1,10 @@
-//! The same commands on the plain state of a log and on a log on a table.
+//! The same commands on the plain state of a log and on the log that threads share.
 
 ghost use Rattle.std.specs.Prelude.{◌≡◌, IfOk};
 ghost use Rattle.run_claims.specs.Commands.{IsSameBut};
 
+use log_hand::LogHand;
+use one_hand::OneHandLog;
 use plain_log::PlainLog;
 use position::Geometry;
 use rand_core::utils::NextWord;
@@ -11,20 +13,21 @@ use run_claims::{ClaimAnswer, ClaimCommand, run_on_both};
 use std::alloc::{AllocError, Global};
 use std::process::Abort;
 use std::test::*;
-use table_hand::TableHand;
 
 /// How many runs there are, and how many commands each has.
 const SEEDS: u64 = 100;
 
 const COMMANDS: usize = 60;
 
-/// A plain log, and a log on a table.
-fn open_both(alloc: Global, geometry: Geometry, start: u64) -> Result<(PlainLog, TableHand), Fail>
+/// A plain log, and a log that threads share, connected and with its limit raised once.
+fn open_both(alloc: Global, geometry: Geometry, start: u64) -> Result<(PlainLog, LogHand), Fail>
     ensures { IfOk result (λ r. IsSameBut r.0 r.1) }
 {
-    let table = TableHand::open(alloc, geometry, 1, 1001, start)?;
+    let mut shared = LogHand::open(alloc, geometry, 1, 1001, start, 1)?;
+    shared.set_connected(true);
+    let _ = shared.clean_and_limit();
     let plain = PlainLog::open(alloc, geometry, 1, 1001, start)?;
-    Ok((plain, table))
+    Ok((plain, shared))
 }
 
 /// A command of some publisher.
@@ -57,10 +60,10 @@ fn run_drawn<R: Abort>(rt: &R, alloc: Global, seed: u64) -> Result<usize, Fail> 
     for _ in 0..COMMANDS {
         commands.push(draw_command(alloc, &mut draws)?)?;
     }
-    let (mut plain, mut table) = open_both(alloc, geometry, start)?;
-    let answers = run_on_both(alloc, &mut plain, &mut table, &commands);
-    let (of_plain, of_table) = answers?;
-    assert_eq!(rt; of_plain.as_slice(), of_table.as_slice());
+    let (mut plain, mut shared) = open_both(alloc, geometry, start)?;
+    let answers = run_on_both(alloc, &mut plain, &mut shared, &commands);
+    let (of_plain, of_shared) = answers?;
+    assert_eq!(rt; of_plain.as_slice(), of_shared.as_slice());
     let accepted = of_plain.iter().filter(|answer| matches!(
         answer,
         ClaimAnswer::Ends(_) | ClaimAnswer::Begins { .. }

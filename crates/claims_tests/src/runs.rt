@@ -1,9 +1,10 @@
+use log_hand::LogHand;
+use one_hand::OneHandLog;
 use plain_log::PlainLog;
 use position::Geometry;
 use run_claims::{ClaimAnswer, ClaimCommand, run_claims, runs_agree};
 use std::alloc::{AllocError, Global};
 use std::test::*;
-use table_hand::TableHand;
 use word_calls::Refusal;
 
 /// An offer of so many bytes.
@@ -140,7 +141,7 @@ fn ends_of_terms(rt: HostRuntime) -> Result<(), Fail> {
     Ok(())
 }
 
-/// A plain log and one on a table.
+/// A plain log and one that threads share.
 #[test]
 fn two_logs(rt: HostRuntime) -> Result<(), Fail> {
     let alloc = rt.alloc();
@@ -153,8 +154,32 @@ fn two_logs(rt: HostRuntime) -> Result<(), Fail> {
     runs_agree();
     let first = run(alloc, 32, &commands)?;
     let geometry = Geometry::new(65_536, 1408, 7)?;
-    let mut log = TableHand::open(alloc, geometry, 1, 1001, 32)?;
+    let mut log = LogHand::open(alloc, geometry, 1, 1001, 32, 1)?;
+    log.set_connected(true);
+    let _ = log.clean_and_limit();
     let second = run_claims(alloc, &mut log, &commands)?;
     assert_eq!(rt; first.as_slice(), second.as_slice());
+    Ok(())
+}
+
+/// A log that nobody receives, and a closed one, with a claim that was open before.
+#[test]
+fn shut(rt: HostRuntime) -> Result<(), Fail> {
+    let alloc = rt.alloc();
+    let geometry = Geometry::new(65_536, 1408, 7)?;
+    let mut log = LogHand::open(alloc, geometry, 1, 1001, 0, 1)?;
+    let offered = [offer(alloc, 2, 3)?];
+    let alone = run_claims(alloc, &mut log, &offered)?;
+    let expected = [ClaimAnswer::Refused(Refusal::NotConnected)];
+    assert_eq!(rt; alone.as_slice(), expected.as_slice());
+    log.set_connected(true);
+    let _ = log.clean_and_limit();
+    let _ = run_claims(alloc, &mut log, &[claim(1, 100)])?;
+    log.set_closed();
+    let commands = [offer(alloc, 2, 3)?, claim(3, 8), commit(alloc, 1, 100)?];
+    let closed = run_claims(alloc, &mut log, &commands)?;
+    let refused = ClaimAnswer::Refused(Refusal::Closed);
+    let expected = [refused, refused, ClaimAnswer::Ends(160)];
+    assert_eq!(rt; closed.as_slice(), expected.as_slice());
     Ok(())
 }

@@ -1,6 +1,5 @@
 //! A publisher that stalls between two of its steps, while terms turn.
 
-ghost use Rattle.std.specs.Prelude.{◌≤◌, IfOk, length};
 ghost use Rattle.shared_log.specs.Handles.{IsOf};
 ghost use Rattle.log_reading.specs.Readers.{IsReaderOf};
 ghost use Rattle.shared_tests.specs.Parties.{IsCrew};
@@ -12,6 +11,7 @@ use block::Block;
 use log_keeping::{Keeper, clean_and_limit};
 use log_reading::{LogReader, advance, next};
 use shared_log::{Log, OnLog, Publisher};
+use std::alloc::Global;
 use std::process::Abort;
 use std::test::*;
 use word_calls::{Look, Refusal, add_range, look_at};
@@ -53,19 +53,29 @@ fn follow<R: Abort>(rt: &R, log: &Log, crew: &mut Crew, term: u64)
     assert_eq!(rt; follow_one(log, crew), Err(Refusal::AdminAction));
 }
 
+/// Fills so many terms, and turns from each to the next.
+fn follow_all<R: Abort>(rt: &R, log: &Log, crew: &mut Crew, terms: u64)
+    requires { IsCrew log.now crew.old }
+    ensures { IsCrew log.now crew.new }
+{
+    for term in 0..terms {
+        follow(rt, log, crew, term);
+    }
+}
+
 /// Looks at a log that begins, lets others fill so many terms, and adds. The answer is where the claim begins, and the
 /// active count with the raw tails.
-fn stall<R: Abort>(rt: &R, terms: u64) -> Result<(Result<u64, Refusal>, [u64; 4]), Fail>
-    requires { terms ≤ 3 }
-{
-    let (log, mut stalled, mut crew) = open_crew(rt.alloc())?;
+fn stall<R: Abort>(
+    rt: &R,
+    alloc: Global,
+    terms: u64,
+) -> Result<(Result<u64, Refusal>, [u64; 4]), Fail> {
+    let (log, mut stalled, mut crew) = open_crew(alloc)?;
     let mut words = OnLog::new(&log);
     let Look::Open(count) = look_at(&mut words, &mut stalled) else {
         return Err("no room".into());
     };
-    for term in 0..terms {
-        follow(rt, &log, &mut crew, term);
-    }
+    follow_all(rt, &log, &mut crew, terms);
     let answer = add_range(&mut words, &mut stalled, count, 100);
     Ok((answer, count_and_tails(&log)))
 }
@@ -73,10 +83,10 @@ fn stall<R: Abort>(rt: &R, terms: u64) -> Result<(Result<u64, Refusal>, [u64; 4]
 /// It finds its term used up, or that its partition has a later one, three terms on.
 #[test]
 fn stalled(rt: HostRuntime) -> Result<(), Fail> {
-    let (answer, words) = stall(&rt, 1)?;
+    let (answer, words) = stall(&rt, rt.alloc(), 1)?;
     assert_eq!(rt; answer, Err(Refusal::AdminAction));
     assert_eq!(rt; words, [1, 0x7_0001_00a0, 0x8_0000_0000, 0x6_0000_0000]);
-    let (answer, words) = stall(&rt, 3)?;
+    let (answer, words) = stall(&rt, rt.alloc(), 3)?;
     assert_eq!(rt; answer, Ok(196_608));
     assert_eq!(rt; words, [3, 0xa_0000_00a0, 0x8_0001_0000, 0x9_0001_0000]);
     Ok(())
