@@ -1,5 +1,5 @@
 -- Both logs begin alike.
-use Rattle.std.proofs.Common.{◌≡◌, ◌∙◌, ℕ, ◌+◌, ◌-◌, ◌/◌, ◌≤◌, [], ◌∷◌, max, min, true, refl, sym, ap, arith}
+use Rattle.std.proofs.Common.{◌≡◌, ◌∙◌, ℕ, ◌+◌, ◌-◌, ◌/◌, [], max, min, true, sym, ap, arith}
 use Rattle.theory.specs.Bytes.{Identity}
 use Rattle.one_hand.specs.Stream.{Stream, cleaned_and_limited, opened, ready}
 use Rattle.run_claims.specs.Commands.{IsSameBut}
