@@ -1,0 +1,7 @@
+pub mod Calls
+pub mod Devices
+pub mod Failing
+pub mod Memory
+pub mod OpenTexts
+pub mod Texts
+pub mod Udp
