@@ -1,0 +1,43 @@
+use Rattle.std.proofs.Common.{◌≡◌, ◌∙◌, refl, arith}
+use Rattle.agents.proofs.Carrying.{never_fall_on}
+use Rattle.agents.proofs.Hearings.{heard_all, heard_few, heard_none, heard_until, one_heard}
+use Rattle.agents.proofs.sender_end.SenderEnd.hear_all.Goals as goal
+
+pub loop-count-init : goal.loop-count-init
+loop-count-init g c = record {
+  counts = record { failures = omega arith; nones = omega arith };
+  heard = heard_none g.F.FlowControl.after_status g.F.FlowControl.reached c.args.now _ _ _;
+  source = refl;
+  from = c.requires.from;
+  stands = c.requires.stands;
+  leaves = g.met.R.FrameSource.leaves_same _ _ c.requires.stands;
+  tells = λ t. t;
+}
+
+pub loop-count-preserved : goal.loop-count-preserved
+loop-count-preserved g c =
+    let l = c.loop-count.invariant in
+    let e = c.in_ok-hear_next.ensures in
+    record {
+      counts = never_fall_on _ _ _ l.counts e.counts;
+      heard = one_heard g.F.FlowControl.after_status g.F.FlowControl.reached c.args.now _ _ _ c.in_ok-hear_next.field-0 _ _ _ _ _ _ c.if-branch-eq0.false l.tells l.heard e.hears;
+      source = e.source ∙ l.source;
+      from = e.from;
+      stands = e.stands;
+      leaves = g.met.R.FrameSource.leaves_on _ _ _ _ _ _ l.leaves e.leaves;
+      tells = λ t. e.still_tells (l.tells t);
+    }
+
+pub returns-in_err-hear_next-clause-hears : goal.returns-in_err-hear_next-clause-hears
+returns-in_err-hear_next-clause-hears g c =
+    let l = c.loop-count.invariant in
+    heard_until g.F.FlowControl.after_status g.F.FlowControl.reached c.args.now _ _ _ _ _ _ _ _ _ _ c.from_residual.result c.from_residual.ensures.0 (omega (arith, c.loop-count-test.true)) l.tells l.counts l.heard c.in_err-hear_next.ensures.hears
+
+pub returns-then-branch-eq0-clause-hears : goal.returns-then-branch-eq0-clause-hears
+returns-then-branch-eq0-clause-hears g c =
+    let l = c.loop-count.invariant in
+    heard_few g.F.FlowControl.after_status g.F.FlowControl.reached c.args.now _ _ _ _ _ _ _ _ _ (omega (arith, c.loop-count-test.true)) l.tells l.counts l.heard c.in_ok-hear_next.field-0 c.if-branch-eq0.true c.in_ok-hear_next.ensures.hears
+
+pub returns-clause-hears : goal.returns-clause-hears
+returns-clause-hears g c =
+    heard_all g.F.FlowControl.after_status g.F.FlowControl.reached c.args.now _ _ _ _ _ _ (omega (arith, c.loop-count-test.false, c.loop-count.auto.count-end)) c.loop-count.invariant.heard
