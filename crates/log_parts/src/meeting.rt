@@ -43,7 +43,7 @@ fn shown_as<N: Chosen>(log: &Log, seat: &mut Seat<(), View>, partition: u32) -> 
     requires empty { seat.old.me.1 ≡ [] }
     requires chosen { N.number ≡ partition }
     ensures stays { Stays seat.old.table_id seat.old.id seat.old.me seat.new.table_id seat.new.id seat.new.me }
-    ensures told { Shows seat.old.me.0.pass (partition % 3) result }
+    ensures told { Shows seat.old.me.0.pass (partition % 3) seat.old.me.0.controls seat.new.me.0.controls result }
 {
     let words = &log.table.shared;
     let word = words.load::<Show<N>>(seat, place_of(partition));
@@ -56,7 +56,7 @@ fn greatest_shown(log: &Log, seat: &mut Seat<(), View>) -> u64
     requires shape { geometry_of seat.old.me.0.pass ≡ log.now.identity.geometry }
     requires empty { seat.old.me.1 ≡ [] }
     ensures stays { Stays seat.old.table_id seat.old.id seat.old.me seat.new.table_id seat.new.id seat.new.me }
-    ensures told { SeesTails seat.old.me.0.pass result }
+    ensures told { SeesTails seat.old.me.0.pass seat.old.me.0.controls seat.new.me.0.controls result }
 {
     let zeroth = shown_as::<Brand>(log, seat, 0);
     let first = shown_as::<Brand>(log, seat, 1);
