@@ -1,5 +1,5 @@
 -- What two publishers that meet are told, by what their passes together were.
-use Rattle.std.proofs.Common.{◌≡◌, ◌⊎◌, inl, inr, ℕ, ◌*◌, ◌/◌, ◌%◌, ◌≤◌, max, sym, refl, ap, ◌∙◌, subst, ⊎_elim, mul-le-mul_right, arith}
+use Rattle.std.proofs.Common.{◌≡◌, ◌⊎◌, inl, inr, ℕ, ◌+◌, ◌*◌, ◌/◌, ◌%◌, ◌≤◌, max, sym, refl, ap, ◌∙◌, subst, ⊎_elim, mul-le-mul_right, arith}
 use mathlib.Core.Logic.{dite}
 use native.Mathlib.Decide.{ℕ_discrete}
 use Rattle.theory.specs.Bytes.{Identity}
@@ -48,8 +48,8 @@ sees_tails v none one two all x y z top a c d e = record {
 
 -- ---- of both
 
-pub meets : (one other one' other' : PublisherValue) (v : Pass) (before after : Controls) (position : ℕ) → v ≡ meeting one.pass other.pass → before ≡ unnoted → one'.controls ≡ after → SeesTails v before after position → Steady one.pass → Steady other.pass → other.pass.identity ≡ one.pass.identity → other.pass.start ≡ one.pass.start → IsBack one one' → IsBack other other' → one'.seat ≡ one.seat → Meets one other one' other' position
-meets one other one' other' v before after position is new back_noted told so st same from back back' seat =
+pub meets : (one other one' other' : PublisherValue) (v : Pass) (before after : Controls) (position : ℕ) → v ≡ meeting one.pass other.pass → before ≡ unnoted → one'.controls ≡ after → SeesTails v before after position → Steady one.pass → Steady other.pass → other.pass.identity ≡ one.pass.identity → other.pass.start ≡ one.pass.start → IsBack one one' → IsBack other other' → one'.seat ≡ one.seat → one'.steps ≡ one.steps + 4 → Meets one other one' other' position
+meets one other one' other' v before after position is new back_noted told so st same from back back' seat steps =
     let p : Pass = one.pass in let q : Pass = other.pass in let t : SeesTails (meeting p q) unnoted one'.controls position = subst (λ (x : Pass × Controls × Controls). SeesTails x.0 x.1 x.2 position) (λ i. (is i, new i, sym back_noted i)) told in
     let size : term_of q ≡ term_of p = ap (λ (i : Identity). i.geometry.term_length) same in
     let first : q.start / term_of q ≡ p.start / term_of p = λ i. from i / size i in
@@ -59,6 +59,7 @@ meets one other one' other' v before after position is new back_noted told so st
       one_is = back;
       other_is = back';
       seat = seat;
+      steps = steps;
       apart = λ c d here there. t.apart p.right.claims q.right.claims refl c d here there;
       greatest = record { zeroth = t.greatest.zeroth; first = t.greatest.first; second = t.greatest.second; loaded = t.greatest.loaded; noted = t.greatest.noted; is = t.greatest.is };
       claims = λ c either. t.claims c (⊎_elim (λ (a : Among c p.right.claims). among_left c p.right.claims q.right.claims a) (λ (a : Among c q.right.claims). among_right c p.right.claims q.right.claims a) either);

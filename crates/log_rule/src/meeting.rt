@@ -31,7 +31,7 @@ impl Met for Brand {
     ghost other = { newcomer no_identity 0 0 0 };
 }
 
-/// A seat has what both have.
+/// A seat has what both have, and has noted no raw tail.
 pub struct Meet<N> {
     met: PhantomData<N>,
 }
