@@ -48,7 +48,7 @@ sees_tails v none one two all x y z top a c d e = record {
 
 -- ---- of both
 
-pub meets : (one other one' other' : PublisherValue) (v : Pass) (before after : Controls) (position : ℕ) → v ≡ meeting one.pass other.pass → before ≡ unnoted → one'.controls ≡ after → SeesTails v before after position → Steady one.pass → Steady other.pass → other.pass.identity ≡ one.pass.identity → other.pass.start ≡ one.pass.start → IsBack one one' → IsBack other other' → one'.seat ≡ one.seat → one'.steps ≡ one.steps + 4 → Meets one other one' other' position
+pub meets : (one other one' other' : PublisherValue) (v : Pass) (before after : Controls) (position : ℕ) → v ≡ meeting one.pass other.pass → before ≡ unnoted → one'.controls ≡ after → SeesTails v before after position → Steady one.pass → Steady other.pass → other.pass.identity ≡ one.pass.identity → other.pass.start ≡ one.pass.start → IsBack one one' → IsBack other other' → one'.seat ≡ one.seat → (one'.steps ≡ one.steps + 4) × (other'.steps ≡ 0) → Meets one other one' other' position
 meets one other one' other' v before after position is new back_noted told so st same from back back' seat steps =
     let p : Pass = one.pass in let q : Pass = other.pass in let t : SeesTails (meeting p q) unnoted one'.controls position = subst (λ (x : Pass × Controls × Controls). SeesTails x.0 x.1 x.2 position) (λ i. (is i, new i, sym back_noted i)) told in
     let size : term_of q ≡ term_of p = ap (λ (i : Identity). i.geometry.term_length) same in

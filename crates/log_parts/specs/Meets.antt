@@ -57,8 +57,8 @@ pub record Meets (one other one' other' : PublisherValue) (position : ℕ) : Typ
   pub one_is : IsBack one one'
   pub other_is : IsBack other other'
   pub seat : one'.seat ≡ one.seat
-  -- one load of its own, and one of each raw tail
-  pub steps : one'.steps ≡ one.steps + 4
+  -- one load of its own, and one of each raw tail; the other comes back on a new seat
+  pub steps : (one'.steps ≡ one.steps + 4) × (other'.steps ≡ 0)
   -- what they have claimed is apart
   pub apart : (c d : ClaimRange) → Among c one.pass.right.claims → Among d other.pass.right.claims → AreApart c d
   -- the seat comes back with the three raw tails noted, none of which was noted when they met

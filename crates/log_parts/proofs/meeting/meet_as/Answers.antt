@@ -60,4 +60,4 @@ returns g c =
     record { of = c.split_seat-second.ensures.0 ∙ at; pass = ap (λ (m : Mine). m.0.pass) me ∙ c.requires.chosen.0; sure = ap (λ (m : Mine). m.0.sure) me }
     record { of = c.split_seat-second.ensures.3 ∙ at ∙ c.requires.one.of.table ∙ sym c.requires.other.of.table; pass = ap (λ (m : Mine). m.0.pass) c.split_seat-second.ensures.4 ∙ c.requires.chosen.1; sure = ap (λ (m : Mine). m.0.sure) c.split_seat-second.ensures.4 }
     (c.split_seat-second.ensures.1 ∙ c.greatest_shown-tail.ensures.stays.seat ∙ c.join_seat.ensures.1 ∙ c.load.ensures.1 ∙ ap (λ p. p.seat) c.one.view_is)
-    (let split = ap (λ (m : Mine). m.0.steps) me in let shown = c.greatest_shown-tail.ensures.steps in let joined = ap (λ (m : Mine). m.0.steps) c.join_seat.ensures.2 in let settled = c.load.ensures.2.1 in let first = ap (λ p. p.steps) c.one.view_is in omega (arith, split, shown, joined, settled, first))
+    ((let split = ap (λ (m : Mine). m.0.steps) me in let shown = c.greatest_shown-tail.ensures.steps in let joined = ap (λ (m : Mine). m.0.steps) c.join_seat.ensures.2 in let settled = c.load.ensures.2.1 in let first = ap (λ p. p.steps) c.one.view_is in omega (arith, split, shown, joined, settled, first)), ap (λ (m : Mine). m.0.steps) c.split_seat-second.ensures.4)
