@@ -9,7 +9,7 @@ use Rattle.word_calls.specs.declared.pass.Pass.{Pass}
 use Rattle.shared_log.specs.Handles.{IsOf, LogValue}
 use Rattle.log_rule.specs.Keepings.{MayStand, Sees, least_of, with_keeping}
 use Rattle.log_rule.proofs.Keeping.{least_low}
-use Rattle.log_keeping.specs.Keepers.{IsKeeping, Keeps, KeeperValue, Reads, Sweeps, positions_of, with_positions}
+use Rattle.log_keeping.specs.Keepers.{IsKeeping, Keeps, KeeperValue, Reads, Sweeps, TookSteps, positions_of, with_positions}
 use Rattle.log_keeping.proofs.Steps.{keeping_is, keeps_then}
 
 -- the consumers below a number were seen, and the least of them stands there
@@ -24,6 +24,7 @@ pub record SweepsSome (l : LogValue) (k : KeeperValue) (below least : ℕ) (q : 
   pub stands : MayStand k.held.pass least
   pub words : (l.start % 32 ≡ 0) × (k.cleaned % 8 ≡ 0)
   pub keeps : Keeps k (with_positions (positions_of q) k) q
+  pub steps : TookSteps k below q
 
 -- it may stand there whatever the keeper has seen
 still : (v : Pass) (ps : List ℕ) (n : ℕ) → MayStand (with_keeping v (record v.keeping { positions = ps })) n → MayStand v n
@@ -36,8 +37,8 @@ fold_high : (m a : ℕ) (ps : List ℕ) → m ≤ a → ((j : ℕ) → j < lengt
 fold_high m a [] le all = le
 fold_high m a (p ∷ ps) le all = let here = all 0 (omega arith) in fold_high m (min a p) ps (omega arith) (λ j lt. all (suc j) (omega arith))
 
-pub first : (l : LogValue) (k q : KeeperValue) (n : ℕ) → IsOf l k.held → IsKeeping k.held.pass k.limit k.cleaned → Sees k.held.pass l.consumers 0 n q.held.pass → Keeps k (with_positions (positions_of q) k) q → SweepsSome l k 1 n q
-first l k q n of is s keeps =
+pub first : (l : LogValue) (k q : KeeperValue) (n : ℕ) → IsOf l k.held → IsKeeping k.held.pass k.limit k.cleaned → Sees k.held.pass l.consumers 0 n q.held.pass → Keeps k (with_positions (positions_of q) k) q → TookSteps k 1 q → SweepsSome l k 1 n q
+first l k q n of is s keeps once =
     let put : positions_of q ≡ set (positions_of k) 0 n = ap (λ (v : Pass). v.keeping.positions) s.after in let any = s.inside in let all = s.all in
     let there : slice_index (positions_of q) 0 ≡ n = ap (λ (ps : List ℕ). slice_index ps 0) put ∙ get_or-set_same (positions_of k) 0 n 0 (omega (arith, any, all)) in
     let zero_is : (j : ℕ) → j < 1 → slice_index (positions_of q) j ≡ n = λ j lt. ap (slice_index (positions_of q)) (none j lt) ∙ there in record {
@@ -51,6 +52,7 @@ first l k q n of is s keeps =
       stands = s.stands;
       words = (ap (λ (x : ℕ). x % 32) (sym of.start) ∙ s.words.0, ap (λ (x : ℕ). x % 8) (sym is.cleaned_is) ∙ s.words.1);
       keeps = keeps;
+      steps = once;
     }
   where
     none : (j : ℕ) → j < 1 → j ≡ 0
@@ -59,8 +61,8 @@ first l k q n of is s keeps =
     same : (n x : ℕ) → x ≡ n → n ≤ x
     same n x e = omega arith
 
-pub next : (l : LogValue) (k q r : KeeperValue) (j least n : ℕ) → SweepsSome l k j least q → Sees q.held.pass l.consumers j n r.held.pass → Keeps q (with_positions (positions_of r) q) r → SweepsSome l k (j + 1) (min least n) r
-next l k q r j least n w s keeps =
+pub next : (l : LogValue) (k q r : KeeperValue) (j least n : ℕ) → SweepsSome l k j least q → Sees q.held.pass l.consumers j n r.held.pass → Keeps q (with_positions (positions_of r) q) r → TookSteps q 1 r → SweepsSome l k (j + 1) (min least n) r
+next l k q r j least n w s keeps once =
     let put : positions_of r ≡ set (positions_of q) j n = ap (λ (v : Pass). v.keeping.positions) s.after in let below = s.inside in let all = s.all in let pass = w.keeps.pass in
     let there : slice_index (positions_of r) j ≡ n = ap (λ (ps : List ℕ). slice_index ps j) put ∙ get_or-set_same (positions_of q) j n 0 (omega (arith, below, all)) in
     let other : (i : ℕ) → i ≢ j → slice_index (positions_of r) i ≡ slice_index (positions_of q) i = λ i ne. ap (λ (ps : List ℕ). slice_index ps i) put ∙ get_or-set_other (positions_of q) j i n 0 ne in
@@ -81,6 +83,7 @@ next l k q r j least n w s keeps =
       stands = min_stands k.held.pass least n w.stands here.stands;
       words = w.words;
       keeps = subst (λ (x : Keeping). Keeps k x r) (ap (λ (x : Keeping). record x { positions = positions_of r }) is) (keeps_then w.keeps keeps);
+      steps = (let before = w.steps in omega (arith, before, once));
     }
   where
     less : (i j : ℕ) → i < j + 1 → i ≢ j → i < j
@@ -104,7 +107,7 @@ last l k q least w =
     let inside : (j : ℕ) → j < length ps → j < l.consumers = λ j lt. subst (λ (n : ℕ). j < n) w.all lt in
     let up : least ≤ least_of ps = fold_high least (slice_index ps 0) ps (w.low 0 any) (λ j lt. w.low j (inside j lt)) in
     let down : least_of ps ≤ least = w.high (least_of ps) (λ j lt. least_low ps j (subst (λ (n : ℕ). j < n) (sym w.all) lt)) in
-    record { is = w.is; all = w.all; reads = w.reads; least_is = both least (least_of ps) up down; stands = w.stands; words = w.words; keeps = w.keeps }
+    record { is = w.is; all = w.all; reads = w.reads; least_is = both least (least_of ps) up down; stands = w.stands; words = w.words; keeps = w.keeps; steps = w.steps }
   where
     both : (a c : ℕ) → a ≤ c → c ≤ a → a ≡ c
     both a c x y = omega arith

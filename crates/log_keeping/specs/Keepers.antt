@@ -1,5 +1,5 @@
 -- What contracts see of the keeper of a log that threads share.
-use Rattle.std.specs.Prelude.{◌≡◌, ℕ, ◌+◌, ◌-◌, ◌*◌, ◌/◌, ◌%◌, ◌<◌, ◌≤◌, ◌&&◌, not, Bool, if◌then◌else◌, List, length, max, slice_index}
+use Rattle.std.specs.Prelude.{◌≡◌, ℕ, ◌+◌, ◌-◌, ◌*◌, ◌/◌, ◌%◌, ◌<◌, ◌≤◌, ◌&&◌, not, Bool, if◌then◌else◌, List, length, max, nat_eq, slice_index}
 use Rattle.theory.specs.Placed.{Among}
 use Rattle.theory.specs.Refusal.{is_closed, is_connected, limit_in}
 use Rattle.word_calls.specs.declared.pass.Keeping.{Keeping}
@@ -52,6 +52,10 @@ pub record Keeps (k : KeeperValue) (kept : Keeping) (q : KeeperValue) : Type 0 w
 abbrev pub Knows : KeeperValue → Type 0
 Knows k = k.held.sure ≡ 1 → k.held.controls.limit ≡ k.limit
 
+-- it took so many word steps
+abbrev pub TookSteps : KeeperValue → ℕ → KeeperValue → Type 0
+TookSteps k count q = q.held.steps ≡ k.held.steps + count
+
 -- ---- limit words
 
 abbrev pub connected_word : Bool → ℕ → ℕ
@@ -63,6 +67,10 @@ closed_word word = limit_in word + 2 + word % 2
 -- half a term above the least consumer, unless the limit is further or nobody may publish
 abbrev pub raised : ℕ → ℕ → ℕ → ℕ
 raised word least length_of = if is_connected word && not (is_closed word) then max (limit_in word) (least + length_of / 2) + 1 else word
+
+-- one store where the limit word becomes another, else none
+abbrev pub stored_once : ℕ → ℕ → ℕ
+stored_once before after = if nat_eq before after then 0 else 1
 
 -- ---- what the keeper reads
 
@@ -81,6 +89,7 @@ pub record Sweeps (l : LogValue) (k : KeeperValue) (least : ℕ) (q : KeeperValu
   pub stands : MayStand k.held.pass least
   pub words : (l.start % 32 ≡ 0) × (k.cleaned % 8 ≡ 0)
   pub keeps : Keeps k (with_positions (positions_of q) k) q
+  pub steps : TookSteps k l.consumers q
 
 -- words may be cleaned up to there: all lies a term or more below the least consumer that was seen
 pub record MayCleanTo (k : KeeperValue) (end : ℕ) : Type 0 where
@@ -100,3 +109,5 @@ pub record CleansAndLimits (l : LogValue) (k q : KeeperValue) : Type 0 where
   pub not_back : k.cleaned ≤ q.cleaned
   pub keeps : let least = least_of (positions_of q) in let length_of = l.identity.geometry.term_length in
       Keeps k (record (keeping_of k) { limit = raised k.limit least length_of; cleaned = max l.start (least - length_of); positions = positions_of q }) q
+  -- one load for each consumer, one store for each word that was cleaned, and one of the limit word where that changed
+  pub steps : TookSteps k (l.consumers + (q.cleaned - k.cleaned) / 8 + stored_once k.limit q.limit) q

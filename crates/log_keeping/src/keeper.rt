@@ -1,11 +1,11 @@
 //! A keeper of a log, and its steps.
 
-ghost use Rattle.std.specs.Prelude.{◌≡◌, ◌+◌, ◌*◌, ◌/◌, ◌%◌, ◌<◌, ◌≤◌, ◌&&◌, not};
+ghost use Rattle.std.specs.Prelude.{◌≡◌, ◌+◌, ◌-◌, ◌*◌, ◌/◌, ◌%◌, ◌<◌, ◌≤◌, ◌&&◌, not};
 ghost use Rattle.theory.specs.Refusal.{is_closed, is_connected, limit_in};
 ghost use Rattle.tail_claim.specs.Packs.{ring_of};
 ghost use Rattle.shared_log.specs.Handles.{IsOf};
 ghost use Rattle.log_rule.specs.Keepings.{MayRaise, Sees};
-ghost use Rattle.log_keeping.specs.Keepers.{CleansAndLimits, IsKeeping, Keeps, Knows, MayCleanTo, MayRaiseFrom, Sweeps, closed_word, connected_word, positions_of, raised, with_cleaned, with_limit, with_positions};
+ghost use Rattle.log_keeping.specs.Keepers.{CleansAndLimits, IsKeeping, Keeps, Knows, MayCleanTo, MayRaiseFrom, Sweeps, TookSteps, closed_word, connected_word, positions_of, raised, stored_once, with_cleaned, with_limit, with_positions};
 
 use atomic_table::Seat;
 use log_rule::{Clean, Raise, Seen, Sweep};
@@ -42,6 +42,7 @@ fn see_as<N: Seen>(log: &Log, keeper: &mut Keeper, number: u64) -> u64
     ensures is { IsKeeping keeper.old.held.pass keeper.old.limit keeper.old.cleaned }
     ensures sees { Sees keeper.old.held.pass log.now.consumers number result keeper.new.held.pass }
     ensures keeps { Keeps keeper.old (with_positions (positions_of keeper.new) keeper.old) keeper.new }
+    ensures once { TookSteps keeper.old 1 keeper.new }
 {
     let words = &log.table.shared;
     words.load::<Sweep<N>>(&mut keeper.seat, CONSUMERS + LINE * number as usize)
@@ -67,6 +68,7 @@ fn clean_next(log: &Log, ring: &mut Ring, keeper: &mut Keeper, end: u64)
     requires below { keeper.old.cleaned < end }
     requires knows { Knows keeper.old }
     ensures cleans { Keeps keeper.old (with_cleaned (keeper.old.cleaned + 8) keeper.old) keeper.new }
+    ensures once { TookSteps keeper.old 1 keeper.new }
     ensures same { ring.new ≡ ring.old }
 {
     let place = log.slot_of(ring, keeper.cleaned);
@@ -80,7 +82,8 @@ fn clean_to(log: &Log, keeper: &mut Keeper, end: u64)
     requires fits { IsOf log.now keeper.old.held }
     requires may { MayCleanTo keeper.old end }
     requires knows { Knows keeper.old }
-    ensures { Keeps keeper.old (with_cleaned end keeper.old) keeper.new }
+    ensures keeps { Keeps keeper.old (with_cleaned end keeper.old) keeper.new }
+    ensures steps { TookSteps keeper.old ((end - keeper.old.cleaned) / 8) keeper.new }
 {
     let _ = &keeper.seat;
     let mut ring = log.ring();
@@ -93,7 +96,8 @@ fn clean_to(log: &Log, keeper: &mut Keeper, end: u64)
 fn store_limit(log: &Log, keeper: &mut Keeper, word: u64)
     requires fits { IsOf log.now keeper.old.held }
     requires may { MayRaise keeper.old.held.pass word }
-    ensures { Keeps keeper.old (with_limit word keeper.old) keeper.new }
+    ensures keeps { Keeps keeper.old (with_limit word keeper.old) keeper.new }
+    ensures once { TookSteps keeper.old 1 keeper.new }
 {
     let words = &log.table.shared;
     words.store::<Raise>(&mut keeper.seat, 0, word);
@@ -105,7 +109,8 @@ fn raise(log: &Log, keeper: &mut Keeper, least: u64)
     requires fits { IsOf log.now keeper.old.held }
     requires may { MayRaiseFrom keeper.old least }
     requires knows { Knows keeper.old }
-    ensures { Keeps keeper.old (with_limit (raised keeper.old.limit least log.now.identity.geometry.term_length) keeper.old) keeper.new }
+    ensures keeps { Keeps keeper.old (with_limit (raised keeper.old.limit least log.now.identity.geometry.term_length) keeper.old) keeper.new }
+    ensures steps { TookSteps keeper.old (stored_once keeper.old.limit keeper.new.limit) keeper.new }
 {
     let half = u64::from(log.identity().geometry().term_length()) / 2;
     let limit = keeper.limit / 4 * 4;
@@ -128,19 +133,21 @@ pub fn clean_and_limit(log: &Log, keeper: &mut Keeper) -> u64
     keeper.limit / 4 * 4
 }
 
-/// Says whether somebody receives the stream.
+/// Says whether somebody receives the stream, by one store.
 pub fn set_connected(log: &Log, keeper: &mut Keeper, connected: bool)
     requires { IsOf log.now keeper.old.held }
-    ensures { Keeps keeper.old (with_limit (connected_word connected keeper.old.limit) keeper.old) keeper.new }
+    ensures keeps { Keeps keeper.old (with_limit (connected_word connected keeper.old.limit) keeper.old) keeper.new }
+    ensures once { TookSteps keeper.old 1 keeper.new }
 {
     let word = keeper.limit / 2 * 2 + u64::from(connected);
     store_limit(log, keeper, word);
 }
 
-/// Closes the log, for good.
+/// Closes the log by one store, for good.
 pub fn set_closed(log: &Log, keeper: &mut Keeper)
     requires { IsOf log.now keeper.old.held }
-    ensures { Keeps keeper.old (with_limit (closed_word keeper.old.limit) keeper.old) keeper.new }
+    ensures keeps { Keeps keeper.old (with_limit (closed_word keeper.old.limit) keeper.old) keeper.new }
+    ensures once { TookSteps keeper.old 1 keeper.new }
 {
     let word = keeper.limit / 4 * 4 + 2 + keeper.limit % 2;
     store_limit(log, keeper, word);

@@ -1,14 +1,16 @@
 -- What two publishers that meet are told, by what their passes together were.
-use Rattle.std.proofs.Common.{◌≡◌, ◌⊎◌, inl, inr, ℕ, ◌*◌, ◌/◌, ◌%◌, ◌≤◌, max, sym, refl, ap, ◌∙◌, subst, ⊎_elim, mul-le-mul_right, arith}
+use Rattle.std.proofs.Common.{◌≡◌, ◌⊎◌, inl, inr, ℕ, ◌+◌, ◌*◌, ◌/◌, ◌%◌, ◌≤◌, max, sym, refl, ap, ◌∙◌, subst, ⊎_elim, mul-le-mul_right, arith}
 use mathlib.Core.Logic.{dite}
 use native.Mathlib.Decide.{ℕ_discrete}
 use Rattle.theory.specs.Bytes.{Identity}
 use Rattle.theory.specs.Placed.{Among}
 use Rattle.theory.proofs.Lists.{among_left, among_right}
+use Rattle.word_calls.specs.declared.pass.Controls.{Controls}
 use Rattle.word_calls.specs.declared.pass.Pass.{Pass}
+use Rattle.word_calls.specs.Controls.{with_tail}
 use Rattle.word_calls.specs.Steps.{term_of}
 use Rattle.tail_claim.specs.Handles.{PublisherValue}
-use Rattle.log_rule.specs.Meetings.{Steady, claim_end, meeting}
+use Rattle.log_rule.specs.Meetings.{Steady, claim_end, meeting, unnoted}
 use Rattle.log_parts.specs.Meets.{IsBack, Meets, SeesTails, Shows}
 
 -- ---- the three together
@@ -29,9 +31,16 @@ of_third k n x y z top e a c d = ⊎_elim (λ (p : k % 3 ≡ 0). (let le = a p i
     last : (n x y z top : ℕ) → top ≡ max (max x y) z → n ≤ z → n ≤ top
     last n x y z top e le = omega arith
 
-pub sees_tails : (v : Pass) (x y z top : ℕ) → Shows v 0 x → Shows v 1 y → Shows v 2 z → top ≡ max (max x y) z → SeesTails v top
-sees_tails v x y z top a c d e = record {
-  greatest = record { zeroth = a.word; first = c.word; second = d.word; is = e ∙ (λ i. max (max (a.is i) (c.is i)) (d.is i)) };
+pub sees_tails : (v : Pass) (none one two all : Controls) (x y z top : ℕ) → Shows v 0 none one x → Shows v 1 one two y → Shows v 2 two all z → top ≡ max (max x y) z → SeesTails v none all top
+sees_tails v none one two all x y z top a c d e = record {
+  greatest = record {
+    zeroth = a.word;
+    first = c.word;
+    second = d.word;
+    loaded = (a.loaded, c.loaded, d.loaded);
+    noted = d.noted ∙ ap (λ (k : Controls). with_tail k 2 d.word) (c.noted ∙ ap (λ (k : Controls). with_tail k 1 c.word) a.noted);
+    is = e ∙ (λ i. max (max (a.is i) (c.is i)) (d.is i));
+  };
   claims = λ r among. of_third (r.start / term_of v) (claim_end r) x y z top e (λ p. subst (λ (n : ℕ). claim_end r ≤ n) (sym a.is) (a.told.claims r among p)) (λ p. subst (λ (n : ℕ). claim_end r ≤ n) (sym c.is) (c.told.claims r among p)) (λ p. subst (λ (n : ℕ). claim_end r ≤ n) (sym d.is) (d.told.claims r among p));
   terms = λ k from le. of_third k (k * term_of v) x y z top e (λ p. subst (λ (n : ℕ). k * term_of v ≤ n) (sym a.is) (a.told.terms k from le p)) (λ p. subst (λ (n : ℕ). k * term_of v ≤ n) (sym c.is) (c.told.terms k from le p)) (λ p. subst (λ (n : ℕ). k * term_of v ≤ n) (sym d.is) (d.told.terms k from le p));
   apart = a.told.apart;
@@ -39,9 +48,9 @@ sees_tails v x y z top a c d e = record {
 
 -- ---- of both
 
-pub meets : (one other one' other' : PublisherValue) (v : Pass) (position : ℕ) → v ≡ meeting one.pass other.pass → SeesTails v position → Steady one.pass → Steady other.pass → other.pass.identity ≡ one.pass.identity → other.pass.start ≡ one.pass.start → IsBack one one' → IsBack other other' → one'.seat ≡ one.seat → Meets one other one' other' position
-meets one other one' other' v position is told so st same from back back' seat =
-    let p : Pass = one.pass in let q : Pass = other.pass in let t : SeesTails (meeting p q) position = subst (λ (x : Pass). SeesTails x position) is told in
+pub meets : (one other one' other' : PublisherValue) (v : Pass) (before after : Controls) (position : ℕ) → v ≡ meeting one.pass other.pass → before ≡ unnoted → one'.controls ≡ after → SeesTails v before after position → Steady one.pass → Steady other.pass → other.pass.identity ≡ one.pass.identity → other.pass.start ≡ one.pass.start → IsBack one one' → IsBack other other' → one'.seat ≡ one.seat → (one'.steps ≡ one.steps + 4) × (other'.steps ≡ 0) → Meets one other one' other' position
+meets one other one' other' v before after position is new back_noted told so st same from back back' seat steps =
+    let p : Pass = one.pass in let q : Pass = other.pass in let t : SeesTails (meeting p q) unnoted one'.controls position = subst (λ (x : Pass × Controls × Controls). SeesTails x.0 x.1 x.2 position) (λ i. (is i, new i, sym back_noted i)) told in
     let size : term_of q ≡ term_of p = ap (λ (i : Identity). i.geometry.term_length) same in
     let first : q.start / term_of q ≡ p.start / term_of p = λ i. from i / size i in
     -- of a term that either has seen
@@ -50,8 +59,9 @@ meets one other one' other' v position is told so st same from back back' seat =
       one_is = back;
       other_is = back';
       seat = seat;
+      steps = steps;
       apart = λ c d here there. t.apart p.right.claims q.right.claims refl c d here there;
-      greatest = record { zeroth = t.greatest.zeroth; first = t.greatest.first; second = t.greatest.second; is = t.greatest.is };
+      greatest = record { zeroth = t.greatest.zeroth; first = t.greatest.first; second = t.greatest.second; loaded = t.greatest.loaded; noted = t.greatest.noted; is = t.greatest.is };
       claims = λ c either. t.claims c (⊎_elim (λ (a : Among c p.right.claims). among_left c p.right.claims q.right.claims a) (λ (a : Among c q.right.claims). among_right c p.right.claims q.right.claims a) either);
       seen = (
         (below p.seen.count p.seen.count (omega arith) one_low (omega arith), below p.seen.begun (max p.seen.count p.seen.begun) (omega arith) (omega arith) (omega arith)),

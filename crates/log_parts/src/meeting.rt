@@ -1,6 +1,6 @@
 //! Two publishers that meet.
 
-ghost use Rattle.std.specs.Prelude.{◌≡◌, ℕ, ◌%◌, ◌^◌, ◌<◌, ◌≤◌, []};
+ghost use Rattle.std.specs.Prelude.{◌≡◌, ℕ, ◌+◌, ◌%◌, ◌^◌, ◌<◌, ◌≤◌, []};
 ghost use Rattle.tail_claim.specs.Plays.{no_keeping};
 ghost use Rattle.word_calls.specs.Steps.{count_in, geometry_of};
 ghost use Rattle.log_rule.specs.Meetings.{position_in};
@@ -43,7 +43,8 @@ fn shown_as<N: Chosen>(log: &Log, seat: &mut Seat<(), View>, partition: u32) -> 
     requires empty { seat.old.me.1 ≡ [] }
     requires chosen { N.number ≡ partition }
     ensures stays { Stays seat.old.table_id seat.old.id seat.old.me seat.new.table_id seat.new.id seat.new.me }
-    ensures told { Shows seat.old.me.0.pass (partition % 3) result }
+    ensures once { seat.new.me.0.steps ≡ seat.old.me.0.steps + 1 }
+    ensures told { Shows seat.old.me.0.pass (partition % 3) seat.old.me.0.controls seat.new.me.0.controls result }
 {
     let words = &log.table.shared;
     let word = words.load::<Show<N>>(seat, place_of(partition));
@@ -56,7 +57,8 @@ fn greatest_shown(log: &Log, seat: &mut Seat<(), View>) -> u64
     requires shape { geometry_of seat.old.me.0.pass ≡ log.now.identity.geometry }
     requires empty { seat.old.me.1 ≡ [] }
     ensures stays { Stays seat.old.table_id seat.old.id seat.old.me seat.new.table_id seat.new.id seat.new.me }
-    ensures told { SeesTails seat.old.me.0.pass result }
+    ensures steps { seat.new.me.0.steps ≡ seat.old.me.0.steps + 3 }
+    ensures told { SeesTails seat.old.me.0.pass seat.old.me.0.controls seat.new.me.0.controls result }
 {
     let zeroth = shown_as::<Brand>(log, seat, 0);
     let first = shown_as::<Brand>(log, seat, 1);

@@ -7,7 +7,7 @@ use lib.ListN.{get_elem?}
 use Rattle.std.specs.Prelude.{slice_index}
 use Rattle.std.specs.List.{AllByRecursion}
 use Rattle.std.proofs.lemmas.List.{map-set, set-get_or}
-use Rattle.atomic_table.specs.Table.{Allows, Joins, Splits, keeps}
+use Rattle.atomic_table.specs.Table.{Allows, Joins, Splits, State, keeps}
 use Rattle.atomic_table.proofs.Lists.{at_map, set_else}
 use Rattle.theory.specs.Entry.{Entry}
 use Rattle.theory.specs.Refusal.{limit_in}
@@ -53,18 +53,24 @@ steady b ws ps r id v at =
       placed = (r.memory.each id v at).placed;
     }
 
+-- a load that tells a pass of itself keeps the rule
+pub told_ruled : (key : Key) (id i : ℕ) (v : View) (s : State (Unit {0}) View) (q : LogRuled key s) → get_elem? s.views id ≡ some v
+    → LogRuled key record { words = set s.words i (slice_index s.words i); homes = s.homes; views = set s.views id record { pass = v.pass; steps = suc v.steps; controls = v.controls; sure = v.sure } }
+told_ruled key id i v s q at =
+    let qs : List Pass = map pass_in s.views in let here = at_map pass_in s.views id v at in let bs : Bounds = now_at key (slice_index s.words limit_place) q.cleaned in
+    let g : Grows bs qs (set qs id v.pass) = grows bs s.words s.words qs (set qs id v.pass) q.ruled (rested_here bs s.words qs q.ruled id v.pass v.pass.reading v.pass.keeping here) (inl (rest_looks qs id v.pass v.pass.reading v.pass.keeping here)) in
+    loaded key s q id i v v.pass.reading v.pass.keeping at (λ j. refl) refl (attends_on bs key.consumers q.kept.few s.words s.words qs (set qs id v.pass) g (spared_same s.words) v.pass (q.kept.each id v.pass here))
+
 -- a step that tells a pass of itself
 pub told_here : (key : Key) (slots id i : ℕ) (m : Mine) (told : Pass → ℕ → Pass → Type 0) → ((b : Bounds) (ws : List ℕ) (ps : List Pass) → Ruled b ws ps → get_elem? ps id ≡ some m.0.pass → told m.0.pass (slice_index ws i) m.0.pass)
     → Allows (LogRuled key) slots id m i (λ n. n) (λ n m'. reading told m n m')
 told_here key slots id i m told go s q homes at small =
-    let v : View = m.0 in let qs : List Pass = map pass_in s.views in let here = at_map pass_in s.views id v at in
-    let bs : Bounds = now_at key (slice_index s.words limit_place) q.cleaned in
-    let g : Grows bs qs (set qs id v.pass) = grows bs s.words s.words qs (set qs id v.pass) q.ruled (rested_here bs s.words qs q.ruled id v.pass v.pass.reading v.pass.keeping here) (inl (rest_looks qs id v.pass v.pass.reading v.pass.keeping here)) in (
+    let v : View = m.0 in (
       record { pass = v.pass; steps = suc v.steps; controls = v.controls; sure = v.sure },
       keeps,
       tt,
-      loaded key s q id i v v.pass.reading v.pass.keeping at (λ j. refl) refl (attends_on bs key.consumers q.kept.few s.words s.words qs (set qs id v.pass) g (spared_same s.words) v.pass (q.kept.each id v.pass here)),
-      (refl, refl, record { sure = refl; leads = λ one. refl }, go bs s.words qs q.ruled here),
+      told_ruled key id i v s q at,
+      (refl, refl, record { sure = refl; leads = λ one. refl }, go (now_at key (slice_index s.words limit_place) q.cleaned) s.words (map pass_in s.views) q.ruled (at_map pass_in s.views id v at)),
     )
 
 pub steadies : (key : Key) (slots id i : ℕ) (m : Mine) → Allows (LogRuled key) slots id m i (λ n. n) (λ n m'. reading (λ v k w. Steadies v w) m n m')

@@ -1,5 +1,5 @@
 -- What a raw tail shows: nothing that was claimed in a term of its partition passes that position, and no two claims overlap.
-use Rattle.std.proofs.Common.{◌≡◌, ◌⊎◌, inl, inr, ℕ, zero, suc, ◌+◌, ◌-◌, ◌*◌, ◌/◌, ◌%◌, ◌^◌, ◌<◌, ◌≤◌, max, min, Bool, true, List, [], ◌∷◌, ◌++◌, map, sym, refl, ap, ◌∙◌, subst, lt_of_not-le, mul-le-mul_right, div-add-mod', arith}
+use Rattle.std.proofs.Common.{◌≡◌, ◌≢◌, ◌⊎◌, inl, inr, ℕ, zero, suc, ◌+◌, ◌-◌, ◌*◌, ◌/◌, ◌%◌, ◌^◌, ◌<◌, ◌≤◌, max, min, Bool, true, List, [], ◌∷◌, ◌++◌, map, set, sym, refl, ap, ◌∙◌, subst, ⊎_elim, lt_of_not-le, mod-lt, mul-le-mul_right, div-add-mod', arith}
 use mathlib.Core.Option.{some}
 use mathlib.Core.Logic.{dite}
 use native.Mathlib.Decide.{ℕ_discrete, dec_le}
@@ -8,8 +8,10 @@ use Rattle.std.specs.Prelude.{slice_index, if◌then◌else◌}
 use Rattle.std.specs.List.{AllByRecursion}
 use Rattle.std.proofs.Math.Nat.{div-mul-le_self}
 use Rattle.std.proofs.lemmas.Bool.{lt-ltb}
+use Rattle.std.proofs.lemmas.List.{map-set, set-get_or}
 use Rattle.std.proofs.lemmas.Nat.{le-div}
-use Rattle.atomic_table.specs.Table.{Allows}
+use Rattle.atomic_table.specs.Table.{Allows, State, keeps}
+use Rattle.atomic_table.proofs.Lists.{at_map, at_set, set_else}
 use Rattle.theory.specs.Bytes.{Identity}
 use Rattle.theory.specs.Entry.{Entry, entry_end, length_of}
 use Rattle.theory.specs.Placed.{Among}
@@ -18,26 +20,30 @@ use Rattle.theory.specs.Tiling.{InOneTerm, Tiles}
 use Rattle.theory.specs.Words.{offset_in}
 use Rattle.theory.proofs.Lists.{all_at, among_left, among_right}
 use Rattle.word_calls.specs.declared.pass.ClaimRange.{ClaimRange}
+use Rattle.word_calls.specs.declared.pass.Controls.{Controls}
 use Rattle.word_calls.specs.declared.pass.Pass.{Pass}
+use Rattle.word_calls.specs.Controls.{with_tail}
 use Rattle.word_calls.specs.Steps.{count_in}
-use Rattle.tail_claim.specs.Packs.{tail_place}
+use Rattle.tail_claim.specs.declared.view.View.{View}
+use Rattle.tail_claim.specs.Packs.{limit_place, tail_place}
 use Rattle.tail_claim.specs.Sums.{covers, total}
 use Rattle.tail_claim.specs.Terms.{end_of}
 use Rattle.tail_claim.specs.Rule.{Bounds, IsClaim, entry_of, first_of, shape_of, size_of, weight}
 use Rattle.tail_claim.specs.Memory.{Ruled, tail_of}
-use Rattle.tail_claim.specs.Plays.{Mine}
+use Rattle.tail_claim.specs.Plays.{Mine, pass_in}
+use Rattle.tail_claim.specs.Sure.{IsSure, controls_in}
 use Rattle.tail_claim.proofs.Adding.{count_is}
 use Rattle.tail_claim.proofs.Looks.{narrow}
 use Rattle.tail_claim.proofs.Memories.{cover_passes, held_by, tail_is}
 use Rattle.tail_claim.proofs.Tails.{shows}
 use Rattle.tail_claim.proofs.Totals.{total_append, total_at, total_map}
 use Rattle.log_rule.specs.declared.rule.Key.{Key}
-use Rattle.log_rule.specs.Table.{LogRuled}
-use Rattle.log_rule.specs.Readings.{reading}
-use Rattle.log_rule.specs.Meetings.{AreApart, ShowsTail, claim_end, position_in}
+use Rattle.log_rule.specs.Kept.{Kept}
+use Rattle.log_rule.specs.Table.{LogRuled, now_at}
+use Rattle.log_rule.specs.Meetings.{AreApart, ShowsTail, claim_end, position_in, showing}
 use Rattle.log_rule.proofs.InTerm.{entry_ends}
 use Rattle.log_rule.proofs.Known.{among_total}
-use Rattle.log_rule.proofs.Meetings.{told_here}
+use Rattle.log_rule.proofs.Meetings.{told_ruled}
 
 -- ---- the position that a word shows
 
@@ -195,5 +201,37 @@ module _ (b : Bounds) (ws : List ℕ) (ps : List Pass) (r : Ruled b ws ps) (id :
       low : (j a c n : ℕ) → j ≤ max a c → a ≤ n → c ≤ n → j ≤ n
       low j a c n le x y = omega arith
 
-pub shown : (key : Key) (slots id p : ℕ) (m : Mine) → Allows (LogRuled key) slots id m (tail_place p) (λ n. n) (λ n m'. reading (λ v k w. ShowsTail v (p % 3) k w) m n m')
-shown key slots id p m = told_here key slots id (tail_place p) m (λ v k w. ShowsTail v (p % 3) k w) (λ b ws ps r at. shows_tail b ws ps r id m.0.pass at p)
+-- ---- the word is noted
+
+-- another view of the same pass
+renewed : (key : Key) (ws : List ℕ) (s : State (Unit {0}) View) (id : ℕ) (v w : View) → w.pass ≡ v.pass → IsSure ws w → LogRuled key record { words = ws; homes = s.homes; views = set s.views id v } → LogRuled key record { words = ws; homes = s.homes; views = set s.views id w }
+renewed key ws s id v w same mine q =
+    let vs : List View = s.views in let is : map pass_in (set vs id v) ≡ map pass_in (set vs id w) = map-set pass_in vs id v ∙ ap (set (map pass_in vs) id) (sym same) ∙ sym (map-set pass_in vs id w) in record {
+      cleaned = q.cleaned;
+      ruled = subst (Ruled (now_at key (slice_index ws limit_place) q.cleaned) ws) is q.ruled;
+      kept = subst (Kept (now_at key (slice_index ws limit_place) q.cleaned) key.consumers ws) is q.kept;
+      sure = record { each = λ j u e. ⊎_elim (λ (y : (j ≡ id) × (w ≡ u)). subst (IsSure ws) y.1 mine) (λ (y : (j ≢ id) × (get_elem? vs j ≡ some u)). q.sure.each j u (set_else vs id j v y.0 ∙ y.1)) (at_set vs id j w u e) };
+    }
+
+-- who is sure of the control words knows it
+known_tail : (ws : List ℕ) (p : ℕ) → with_tail (controls_in ws) (p % 3) (slice_index ws (tail_place p)) ≡ controls_in ws
+known_tail ws p = go (p % 3) (mod-lt p (omega arith))
+  where
+    go : (k : ℕ) → k < 3 → with_tail (controls_in ws) k (slice_index ws (k * 16 + 32)) ≡ controls_in ws
+    go zero low = refl
+    go (suc zero) low = refl
+    go (suc (suc zero)) low = refl
+    go (suc (suc (suc k))) low = absurd (omega arith)
+
+pub shown : (key : Key) (slots id p : ℕ) (m : Mine) → Allows (LogRuled key) slots id m (tail_place p) (λ n. n) (λ n m'. showing (p % 3) m n m')
+shown key slots id p m s q homes at small =
+    let v : View = m.0 in let ws : List ℕ = s.words in let n : ℕ = slice_index ws (tail_place p) in let bs : Bounds = now_at key (slice_index ws limit_place) q.cleaned in let k = q.sure.each id v at in
+    let known : v.sure ≡ 1 → with_tail v.controls (p % 3) n ≡ v.controls = λ one. ap (λ (c : Controls). with_tail c (p % 3) n) (k.exact one) ∙ known_tail ws p ∙ sym (k.exact one) in
+    let same : set ws (tail_place p) n ≡ ws = set-get_or ws (tail_place p) 0 in
+    let w : View = record { pass = v.pass; steps = suc v.steps; controls = with_tail v.controls (p % 3) n; sure = v.sure } in (
+      w,
+      keeps,
+      tt,
+      renewed key (set ws (tail_place p) n) s id record { pass = v.pass; steps = suc v.steps; controls = v.controls; sure = v.sure } w refl record { whole = k.whole; exact = λ one. known one ∙ k.exact one ∙ ap controls_in (sym same) } (told_ruled key id (tail_place p) v s q at),
+      ((refl, refl, record { sure = refl; leads = known }, shows_tail bs ws (map pass_in s.views) q.ruled id v.pass (at_map pass_in s.views id v at) p), refl, small),
+    )

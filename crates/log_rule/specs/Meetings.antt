@@ -1,15 +1,19 @@
 -- Two passes that meet: what each is told before, what both are together, and what the raw tails show them.
-use Rattle.std.specs.Prelude.{◌≡◌, ℕ, suc, ◌+◌, ◌*◌, ◌/◌, ◌%◌, ◌^◌, ◌<◌, ◌≤◌, ◌⊎◌, List, ◌++◌, map, max, min, nat_lt, if◌then◌else◌}
+use Rattle.std.specs.Prelude.{◌≡◌, ℕ, suc, ◌+◌, ◌*◌, ◌/◌, ◌%◌, ◌^◌, ◌<◌, ◌≤◌, ◌⊎◌, List, [], ◌∷◌, ◌++◌, map, max, min, nat_lt, if◌then◌else◌}
 use Rattle.std.specs.List.{flat_map}
 use Rattle.theory.specs.Placed.{Among}
 use Rattle.theory.specs.Position.{Geometry, span}
 use Rattle.theory.specs.Words.{offset_in}
 use Rattle.word_calls.specs.declared.pass.ClaimRange.{ClaimRange}
+use Rattle.word_calls.specs.declared.pass.Controls.{Controls}
 use Rattle.word_calls.specs.declared.pass.Pass.{Pass}
+use Rattle.word_calls.specs.Controls.{with_tail}
 use Rattle.word_calls.specs.Steps.{Extent, count_in, extent_of, frames_of, geometry_of, ranges_of, term_of}
 use Rattle.tail_claim.specs.declared.view.View.{View}
 use Rattle.tail_claim.specs.Sums.{total}
+use Rattle.tail_claim.specs.Plays.{Mine}
 use Rattle.tail_claim.specs.Closing.{both}
+use Rattle.log_rule.specs.Readings.{reading}
 use Rattle.log_rule.specs.Table.{dealing, new_seat}
 
 -- what is true of a pass for good
@@ -34,8 +38,12 @@ meeting v w = record (both v w) {
   reading = v.reading ++ w.reading;
 }
 
+-- of a seat that has noted no raw tail yet: no word is so great
+abbrev pub unnoted : Controls
+unnoted = record { limit = 0; count = 0; tails = 2 ^ 64 ∷ 2 ^ 64 ∷ 2 ^ 64 ∷ [] }
+
 abbrev pub meeting_seats : View → View → View
-meeting_seats v w = dealing (meeting v.pass w.pass) v
+meeting_seats v w = record { pass = meeting v.pass w.pass; steps = v.steps; controls = unnoted; sure = 0 }
 
 -- and each what it had
 abbrev pub back_left : Pass → View → View
@@ -63,3 +71,7 @@ pub record ShowsTail (v : Pass) (partition n : ℕ) (w : Pass) : Type 0 where
   pub terms : (k : ℕ) → v.start / term_of v ≤ k → k ≤ max v.seen.count v.seen.begun → k % 3 ≡ partition → k * term_of v ≤ position_in (geometry_of v) n
   pub apart : (front behind : List ClaimRange) → v.right.claims ≡ front ++ behind → (c d : ClaimRange) → Among c front → Among d behind → AreApart c d
   pub same : w ≡ v
+
+-- and the seat notes the word
+abbrev pub showing : ℕ → Mine → ℕ → Mine → Type 0
+showing partition m n m' = reading (λ v k w. ShowsTail v partition k w) m n m' × (m'.0.controls ≡ with_tail m.0.controls partition n) × (n < 2 ^ 64)

@@ -31,7 +31,7 @@ impl Met for Brand {
     ghost other = { newcomer no_identity 0 0 0 };
 }
 
-/// A seat has what both have.
+/// A seat has what both have, and has noted no raw tail.
 pub struct Meet<N> {
     met: PhantomData<N>,
 }
@@ -45,17 +45,17 @@ impl<N: Met> Join<View> for Meet<N> {
     ghost spent = { spent_seat N.one.identity N.one.start };
 }
 
-/// The raw tail of the chosen partition is loaded: a pass is told what lies below the position that it shows.
+/// The raw tail of the chosen partition is loaded: a pass is told what lies below the position that it shows, and its seat
+/// notes the word.
 pub struct Show<N> {
     chosen: PhantomData<N>,
 }
 
 impl<N: Chosen> Play<(), View> for Show<N> {
     ghost use Rattle.std.specs.Prelude.{◌%◌};
-    ghost use Rattle.log_rule.specs.Readings.{reading};
-    ghost use Rattle.log_rule.specs.Meetings.{ShowsTail};
+    ghost use Rattle.log_rule.specs.Meetings.{showing};
 
-    ghost then = { λ _. reading (λ v n w. ShowsTail v (N.number % 3) n w) };
+    ghost then = { λ _. showing (N.number % 3) };
 }
 
 /// Each has again what it had.

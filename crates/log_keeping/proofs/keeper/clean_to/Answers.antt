@@ -4,7 +4,7 @@ use Rattle.log_keeping.proofs.Limits.{clean_on, cleans_none, cleans_on}
 use Rattle.log_keeping.proofs.keeper.clean_to.Goals as goal
 
 pub loop-keeper-init : goal.loop-keeper-init
-loop-keeper-init c = (c.ring-ring.ensures, c.requires.may, cleans_none c.args.keeper.now (subst (λ (k : KeeperValue). IsKeeping k.held.pass k.limit k.cleaned) c.keeper.view_is c.keeper.invariant.1) c.requires.knows)
+loop-keeper-init c = (c.ring-ring.ensures, c.requires.may, cleans_none c.args.keeper.now (subst (λ (k : KeeperValue). IsKeeping k.held.pass k.limit k.cleaned) c.keeper.view_is c.keeper.invariant.1) c.requires.knows, refl)
 
 pub loop-keeper-preserved : goal.loop-keeper-preserved
 loop-keeper-preserved c =
@@ -13,4 +13,5 @@ loop-keeper-preserved c =
       c.clean_next.ensures.same ∙ c.loop-keeper.invariant.0,
       clean_on c.loop-keeper.keeper c.clean_next.new.keeper _ c.args.end c.loop-keeper.invariant.1 c.clean_next.ensures.cleans refl more,
       cleans_on c.args.keeper.now c.loop-keeper.keeper c.clean_next.new.keeper _ c.loop-keeper.invariant.2 c.clean_next.ensures.cleans,
+      (let before = c.loop-keeper.invariant.3 in let once = c.clean_next.ensures.once in let next = c.clean_next.ensures.cleans.cleaned in omega (arith, before, once, next)),
     )

@@ -3,13 +3,13 @@ use Rattle.log_keeping.proofs.Sweeping.{SweepsSome, first, last, next}
 use Rattle.log_keeping.proofs.keeper.sweep.Goals as goal
 
 pub loop-number-init : goal.loop-number-init
-loop-number-init c = first c.args.log.now c.args.keeper.now c.see_as-least.new.keeper c.see_as-least.result c.requires.fits c.see_as-least.ensures.is c.see_as-least.ensures.sees c.see_as-least.ensures.keeps
+loop-number-init c = first c.args.log.now c.args.keeper.now c.see_as-least.new.keeper c.see_as-least.result c.requires.fits c.see_as-least.ensures.is c.see_as-least.ensures.sees c.see_as-least.ensures.keeps c.see_as-least.ensures.once
 
 pub loop-number-preserved : goal.loop-number-preserved
 loop-number-preserved c =
     let i = c.loop-number.number in
     subst (λ n. SweepsSome c.args.log.now c.args.keeper.now (i + 1) n c.see_as.new.keeper) (sym c.min-least.ensures)
-    (next c.args.log.now c.args.keeper.now c.loop-number.keeper c.see_as.new.keeper i c.loop-number.least c.see_as.result c.loop-number.invariant c.see_as.ensures.sees c.see_as.ensures.keeps)
+    (next c.args.log.now c.args.keeper.now c.loop-number.keeper c.see_as.new.keeper i c.loop-number.least c.see_as.result c.loop-number.invariant c.see_as.ensures.sees c.see_as.ensures.keeps c.see_as.ensures.once)
 
 pub returns : goal.returns
 returns c =

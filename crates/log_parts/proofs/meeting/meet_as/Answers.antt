@@ -56,7 +56,8 @@ returns g c =
     let same = c.requires.other.of.identity ∙ sym c.requires.one.of.identity in let from = c.requires.other.of.start ∙ sym c.requires.one.of.start in
     let me = c.split_seat-second.ensures.2 in let table : c.join_seat.new.seat.table_id ≡ c.args.one.of = c.join_seat.ensures.0 ∙ c.load.ensures.0 ∙ ap (λ p. p.of) c.one.view_is in
     let at : c.greatest_shown-tail.new.seat.table_id ≡ c.args.one.of = c.greatest_shown-tail.ensures.stays.of ∙ table in
-    meets c.args.one c.args.other _ _ c.join_seat.new.seat.me.0.pass c.greatest_shown-tail.result together c.greatest_shown-tail.ensures.told steady_one steady_other same from
+    meets c.args.one c.args.other _ _ c.join_seat.new.seat.me.0.pass c.join_seat.new.seat.me.0.controls c.greatest_shown-tail.new.seat.me.0.controls c.greatest_shown-tail.result together (ap (λ (m : Mine). m.0.controls) c.join_seat.ensures.2) (ap (λ (m : Mine). m.0.controls) me) c.greatest_shown-tail.ensures.told steady_one steady_other same from
     record { of = c.split_seat-second.ensures.0 ∙ at; pass = ap (λ (m : Mine). m.0.pass) me ∙ c.requires.chosen.0; sure = ap (λ (m : Mine). m.0.sure) me }
     record { of = c.split_seat-second.ensures.3 ∙ at ∙ c.requires.one.of.table ∙ sym c.requires.other.of.table; pass = ap (λ (m : Mine). m.0.pass) c.split_seat-second.ensures.4 ∙ c.requires.chosen.1; sure = ap (λ (m : Mine). m.0.sure) c.split_seat-second.ensures.4 }
     (c.split_seat-second.ensures.1 ∙ c.greatest_shown-tail.ensures.stays.seat ∙ c.join_seat.ensures.1 ∙ c.load.ensures.1 ∙ ap (λ p. p.seat) c.one.view_is)
+    ((let split = ap (λ (m : Mine). m.0.steps) me in let shown = c.greatest_shown-tail.ensures.steps in let joined = ap (λ (m : Mine). m.0.steps) c.join_seat.ensures.2 in let settled = c.load.ensures.2.1 in let first = ap (λ p. p.steps) c.one.view_is in omega (arith, split, shown, joined, settled, first)), ap (λ (m : Mine). m.0.steps) c.split_seat-second.ensures.4)
