@@ -5,7 +5,8 @@ use Rattle.rand_pcg.specs.Lcg.{Lcg}
 use Rattle.rand_pcg.specs.Pcg.{pcg32, pcg32_of_seed}
 use Rattle.theory.specs.Loss.{Rates}
 use Rattle.loss_injector.specs.Injecting.{Gives, Injecting}
-use Rattle.endpoint.specs.Devices.{Device, HasGrown}
+use Rattle.endpoint.specs.Calls.{CountsFailure}
+use Rattle.endpoint.specs.Devices.{Device}
 use Rattle.endpoint.specs.declared.datagrams.DeviceFailed.{DeviceFailed}
 
 pub record Losing (D : Type 0) : Type 0 where
@@ -34,7 +35,7 @@ pub record StopsWithin (old : Device) (out : List (List ℕ)) (new : Device) : T
 
 -- datagrams are handed to a device one after the other, up to a fault
 pub record SendsAll (tells : Type 0) (old : Device) (out : List (List ℕ)) (result : Result (Unit {0}) DeviceFailed) (new : Device) : Type 0 where
-  pub failed : OnErr result (HasGrown old.failures new.failures)
+  pub failures : CountsFailure result old.failures new.failures
   pub same_received : new.received ≡ old.received
   pub same_nones : new.nones ≡ old.nones
   pub sent : tells → OnOk result (new ≡ record old { sent = old.sent ++ out })

@@ -1,5 +1,4 @@
 use Rattle.std.proofs.Common.{◌≡◌, ◌++◌, map, take}
-use Rattle.endpoint.specs.Devices.{NeverFall}
 use Rattle.lossy.proofs.lossy.send_all.Given as goal
 
 abbrev pub invariant-loop-datagram : goal.invariant-loop-datagram
@@ -7,7 +6,7 @@ invariant-loop-datagram g l =
     let old = g.D.Datagrams.device l.initial.device in
     let new = g.D.Datagrams.device l.device in
     record {
-      counts : NeverFall old new;
+      same_failures : new.failures ≡ old.failures;
       same_received : new.received ≡ old.received;
       same_nones : new.nones ≡ old.nones;
       still_tells : g.D.Datagrams.tells l.initial.device → g.D.Datagrams.tells l.device;
