@@ -128,7 +128,7 @@ receive_failed after_status reached now tells s d e before after fault (Err othe
   hears = (refl, refl);
   part = whole_part [];
   whole = tt;
-  failed = k.failed;
+  failed = k.failures;
   carries = λ x. carries_none d e (ap (λ (y : Device). y.received) (k.unreceived x)) (ap (λ (y : Device). y.sent) (k.unreceived x));
 }
 
@@ -141,7 +141,7 @@ received_none after_status reached now tells s d e before after None h k = recor
   sent = [];
   few = omega arith;
   number = refl;
-  ended = λ _. k.none;
+  ended = λ _. k.nones;
   hears = (refl, refl);
   part = whole_part [];
   whole = refl;

@@ -17,7 +17,7 @@ falls_with_more old new m n h k = record { failures = omega (arith, h.failures, 
 -- a device that is left alone, and a failure counted beside it
 send_fails : (tells : Type 0) (old new : Device) (m n : ℕ) (datagram : List ℕ) (e : DeviceFailed) → new ≡ old → m ≡ 0 → n ≡ 1 → Sends tells (with_failures old m) datagram (Err e) (with_failures new n)
 send_fails tells old new m n datagram e same h k = record {
-  failed = grown_by_one old.failures new.failures m n (ap (λ (d : Device). d.failures) same) h k;
+  failures = grown_by_one old.failures new.failures m n (ap (λ (d : Device). d.failures) same) h k;
   same_received = ap (λ (d : Device). d.received) same;
   same_nones = ap (λ (d : Device). d.nones) same;
   sent = λ _. tt;
@@ -26,8 +26,8 @@ send_fails tells old new m n datagram e same h k = record {
 
 receive_fails : (tells : Type 0) (old new : Device) (m n : ℕ) (buffer : List ℕ) (e : DeviceFailed) → new ≡ old → m ≡ 0 → n ≡ 1 → Receives tells (with_failures old m) buffer (Err e) buffer (with_failures new n)
 receive_fails tells old new m n buffer e same h k = record {
-  failed = grown_by_one old.failures new.failures m n (ap (λ (d : Device). d.failures) same) h k;
-  none = tt;
+  failures = grown_by_one old.failures new.failures m n (ap (λ (d : Device). d.failures) same) h k;
+  nones = ap (λ (d : Device). d.nones) same;
   same_sent = ap (λ (d : Device). d.sent) same;
   filled = tt;
   handed_over = λ _. tt;
@@ -37,14 +37,14 @@ receive_fails tells old new m n buffer e same h k = record {
 -- the device's own call, with the same failures counted beside it
 send_with_more : (tells : Type 0) (old new : Device) (m n : ℕ) (datagram : List ℕ) (result : Result (Unit {0}) DeviceFailed) → n ≡ m → Sends tells old datagram result new → Sends tells (with_failures old m) datagram result (with_failures new n)
 send_with_more tells old new m n datagram (Ok u) e s = record {
-  failed = tt;
+  failures = omega (arith, e, s.failures);
   same_received = s.same_received;
   same_nones = s.same_nones;
   sent = λ t. ap (λ (d : Device). with_failures d n) (s.sent t) ∙ ap (λ k. record old { sent = old.sent ++ datagram ∷ []; failures = min (old.failures + k) greatest }) e;
   unsent = λ _. tt;
 }
 send_with_more tells old new m n datagram (Err f) e s = record {
-  failed = rw e (grown_with old.failures new.failures m s.failed);
+  failures = rw e (grown_with old.failures new.failures m s.failures);
   same_received = s.same_received;
   same_nones = s.same_nones;
   sent = λ _. tt;
@@ -53,24 +53,24 @@ send_with_more tells old new m n datagram (Err f) e s = record {
 
 receive_with_more : (tells : Type 0) (old new : Device) (m n : ℕ) (before after : List ℕ) (result : Result (Option ℕ) DeviceFailed) → n ≡ m → Receives tells old before result after new → Receives tells (with_failures old m) before result after (with_failures new n)
 receive_with_more tells old new m n before after (Ok None) e s = record {
-  failed = tt;
-  none = s.none;
+  failures = omega (arith, e, s.failures);
+  nones = s.nones;
   same_sent = s.same_sent;
   filled = tt;
   handed_over = λ t. ap (λ (d : Device). with_failures d n) (s.handed_over t) ∙ ap (λ k. record old { nones = new.nones; failures = min (old.failures + k) greatest }) e;
   unreceived = λ _. tt;
 }
 receive_with_more tells old new m n before after (Ok (Some size)) e s = record {
-  failed = tt;
-  none = tt;
+  failures = omega (arith, e, s.failures);
+  nones = s.nones;
   same_sent = s.same_sent;
   filled = s.filled;
   handed_over = λ t. ap (λ (d : Device). with_failures d n) (s.handed_over t) ∙ ap (λ k. record old { received = old.received ++ take size after ∷ []; failures = min (old.failures + k) greatest }) e;
   unreceived = λ _. tt;
 }
 receive_with_more tells old new m n before after (Err f) e s = record {
-  failed = rw e (grown_with old.failures new.failures m s.failed);
-  none = tt;
+  failures = rw e (grown_with old.failures new.failures m s.failures);
+  nones = s.nones;
   same_sent = s.same_sent;
   filled = tt;
   handed_over = λ _. tt;

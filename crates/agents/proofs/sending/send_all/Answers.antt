@@ -8,7 +8,7 @@ pub returns-in_err-send-clause-sends : goal.returns-in_err-send-clause-sends
 returns-in_err-send-clause-sends g c =
     let l = c.loop-index in
     let s = c.in_err-send.ensures.sends in
-    let grown = grown_later _ _ _ l.invariant.counts.failures s.failed in
+    let grown = grown_later _ _ _ l.invariant.counts.failures s.failures in
     record {
       sent = take l.index c.args.outbox.now.datagrams;
       part = first_part c.args.outbox.now.datagrams l.index;
