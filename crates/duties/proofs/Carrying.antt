@@ -1,9 +1,9 @@
 -- What devices carry, one part after the other.
-use Rattle.std.proofs.Common.{◌≡◌, ◌⊎◌, inl, inr, ℕ, zero, suc, ◌+◌, ◌-◌, ◌^◌, ◌<◌, ◌≤◌, List, [], ◌∷◌, ◌++◌, length, take, drop, Some, None, Ok, Err, eq-or-lt_of_le, refl, sym, ap, ◌∙◌, arith, append-nil, append_assoc}
-use Rattle.std.specs.Prelude.{slice_get, Result}
-use Rattle.std.proofs.lemmas.List.{take_all, take-append-drop}
-use Rattle.endpoint.specs.Devices.{Device, HasGrown, NeverFall, greatest}
-use Rattle.agents.specs.Traffic.{Carries, IsPart}
+use Rattle.std.proofs.Common.{◌≡◌, ◌⊎◌, inl, inr, ℕ, zero, suc, ◌+◌, ◌<◌, ◌≤◌, List, [], ◌∷◌, ◌++◌, length, take, drop, Some, None, eq-or-lt_of_le, sym, ap, ◌∙◌, arith, append-nil, append_assoc}
+use Rattle.std.specs.Prelude.{slice_get}
+use Rattle.std.proofs.lemmas.List.{take-append-drop}
+use Rattle.endpoint.specs.Devices.{Device, HasGrown, NeverFall}
+use Rattle.duties.specs.Traffic.{Carries, IsPart}
 
 take_one : (xs : List (List ℕ)) (i : ℕ) (b : List ℕ) → slice_get xs i ≡ Some b → take (suc i) xs ≡ take i xs ++ b ∷ []
 take_one [] i b h = absurd (cc)
@@ -39,3 +39,15 @@ grown_later a b c low (inr h) = either (eq-or-lt_of_le low)
 
 pub never_fall_on : (a b c : Device) → NeverFall a b → NeverFall b c → NeverFall a c
 never_fall_on a b c h k = record { failures = omega (arith, h.failures, k.failures); nones = omega (arith, h.nones, k.nones) }
+
+pub carried_on : (a b c : Device) (ins outs more_ins more_outs : List (List ℕ)) → Carries a ins outs b → Carries b more_ins more_outs c → Carries a (ins ++ more_ins) (outs ++ more_outs) c
+carried_on a b c ins outs more_ins more_outs h k = record {
+  received = k.received ∙ ap (λ xs. xs ++ more_ins) h.received ∙ append_assoc a.received ins more_ins;
+  sent = k.sent ∙ ap (λ xs. xs ++ more_outs) h.sent ∙ append_assoc a.sent outs more_outs;
+}
+
+pub part_behind : (given more sent : List (List ℕ)) → IsPart more sent → IsPart (given ++ more) (given ++ sent)
+part_behind given more sent p = record { unsent = p.unsent; parts = ap (λ xs. given ++ xs) p.parts ∙ sym (append_assoc given sent p.unsent) }
+
+pub whole_part : (given : List (List ℕ)) → IsPart given given
+whole_part given = record { unsent = []; parts = sym (append-nil given) }

@@ -1,2 +1,0 @@
-pub mod Traffic
-pub mod Sendings

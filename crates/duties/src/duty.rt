@@ -1,0 +1,149 @@
+//! A device with its room, and a party's cycle over it.
+
+ghost use Rattle.std.specs.Prelude.{◌≡◌, IfErr, IfOk};
+ghost use Rattle.endpoint.specs.Devices.{NeverFall};
+ghost use Rattle.duties.specs.Cycles.{Cycle, Fault, Hearing, Ticking};
+
+use crate::fault::AgentFault;
+use crate::party::Party;
+use crate::sending::send_all;
+use endpoint::{Datagrams, DeviceFailed};
+use outbox::Outbox;
+use std::alloc::{AllocError, Global};
+use std::marker::Model;
+
+/// How many datagrams a cycle takes at the most.
+pub const DATAGRAMS: usize = 16;
+
+/// How many bytes of a datagram are read.
+const GREATEST: usize = 65_536;
+
+/// A device, and room for the datagrams that come and go over it.
+#[derive(Drop)]
+pub struct Duty<D> {
+    device: D,
+    outbox: Outbox,
+    buffer: Vec<u8>,
+}
+
+/// The room for a device couldn't be had, since memory was refused. The device is given back.
+#[derive(Debug, Drop)]
+pub struct Denied<D> {
+    pub device: D,
+}
+
+impl<D> Model for Duty<D> {
+    ghost use Rattle.duties.specs.Cycles.{DutyState};
+
+    ghost Value = { DutyState D };
+
+    ghost view = { λ d. record { device = d.device; mtu = d.outbox.mtu } };
+}
+
+/// Room for datagrams that go out, of at most `mtu` bytes, and for one that comes.
+fn room(alloc: Global, mtu: u32) -> Result<(Outbox, Vec<u8>), AllocError>
+    ensures { IfOk result (λ r. r.0.mtu ≡ mtu) }
+{
+    let outbox = Outbox::new(alloc, mtu)?;
+    let buffer = vec![in alloc; 0; GREATEST]?;
+    Ok((outbox, buffer))
+}
+
+impl<D> Duty<D> {
+    /// Room for a party that gives out datagrams of at most `mtu` bytes, over this device.
+    pub fn new(alloc: Global, device: D, mtu: u32) -> Result<Duty<D>, Denied<D>>
+        ensures made { IfOk result (λ d. d ≡ record { device = device; mtu = mtu }) }
+        ensures denied { IfErr result (λ d. d ≡ record { device = device }) }
+    {
+        let Ok((outbox, buffer)) = room(alloc, mtu) else {
+            return Err(Denied { device });
+        };
+        Ok(Duty {
+            device,
+            outbox,
+            buffer,
+        })
+    }
+
+    /// The device.
+    pub fn device(&self) -> &D
+        ensures { result.now ≡ self.now.device }
+    {
+        &self.device
+    }
+}
+
+impl<D: Datagrams> Duty<D> {
+    /// Takes a datagram, if one has come, and sends what the party gives for it. The answer is how many had come: one or
+    /// none.
+    fn hear_next<P: Party>(&mut self, party: &mut P, now: u64) -> Result<usize, AgentFault>
+        requires stands { P.stands party.old }
+        requires size { self.old.mtu ≡ P.mtu party.old }
+        ensures counts { NeverFall (D.device self.old.device) (D.device self.new.device) }
+        ensures hears { Hearing P.hears now (D.tells self.old.device) 1 party.old (D.device self.old.device) result party.new (D.device self.new.device) }
+        ensures stands { P.stands party.new }
+        ensures size { self.new.mtu ≡ P.mtu party.new }
+        ensures still_tells { D.tells self.old.device → D.tells self.new.device }
+    {
+        let Some(length) = self.device.recv(self.buffer.as_mut_slice())? else {
+            return Ok(0);
+        };
+        let datagram = &self.buffer[..length];
+        party.hear(datagram, now, &mut self.outbox)?;
+        send_all(&mut self.device, &self.outbox)?;
+        Ok(1)
+    }
+
+    /// Takes the datagrams that have come, 16 at the most. The answer is how many there were.
+    fn hear_all<P: Party>(&mut self, party: &mut P, now: u64) -> Result<usize, AgentFault>
+        requires stands { P.stands party.old }
+        requires size { self.old.mtu ≡ P.mtu party.old }
+        ensures counts { NeverFall (D.device self.old.device) (D.device self.new.device) }
+        ensures hears { Hearing P.hears now (D.tells self.old.device) 16 party.old (D.device self.old.device) result party.new (D.device self.new.device) }
+        ensures stands { P.stands party.new }
+        ensures size { self.new.mtu ≡ P.mtu party.new }
+        ensures still_tells { D.tells self.old.device → D.tells self.new.device }
+    {
+        for count in 0..DATAGRAMS {
+            if self.hear_next(party, now)? == 0 {
+                return Ok(count);
+            }
+        }
+        Ok(DATAGRAMS)
+    }
+
+    /// Tells the party the moment, and sends what is due. Whether anything was.
+    fn tick<P: Party>(&mut self, party: &mut P, now: u64) -> Result<bool, DeviceFailed>
+        requires stands { P.stands party.old }
+        requires size { self.old.mtu ≡ P.mtu party.old }
+        ensures counts { NeverFall (D.device self.old.device) (D.device self.new.device) }
+        ensures nones { (D.device self.new.device).nones ≡ (D.device self.old.device).nones }
+        ensures ticks { Ticking P.ticks now (D.tells self.old.device) party.old (D.device self.old.device) result party.new (D.device self.new.device) }
+        ensures stands { P.stands party.new }
+        ensures size { self.new.mtu ≡ P.mtu party.new }
+        ensures still_tells { D.tells self.old.device → D.tells self.new.device }
+    {
+        party.tick(now, &mut self.outbox);
+        send_all(&mut self.device, &self.outbox)?;
+        Ok(self.outbox.len() > 0)
+    }
+
+    /// A cycle, at a moment in nanoseconds. At most 16 datagrams that have come are handed to the party, and what it gives
+    /// for each is sent; then it is told the moment, and what is due is sent. Whether a datagram came or went. At a fault
+    /// the rest of what was to be sent isn't sent, and the party stands behind its last step. The next cycle may be called
+    /// after it.
+    pub fn cycle<P: Party>(&mut self, party: &mut P, now: u64) -> Result<bool, AgentFault>
+        requires stands { P.stands party.old }
+        requires size { self.old.mtu ≡ P.mtu party.old }
+        ensures counts { NeverFall (D.device self.old.device) (D.device self.new.device) }
+        ensures cycle { IfOk result (λ busy. Cycle P.hears P.ticks now (D.tells self.old.device) party.old (D.device self.old.device) busy party.new (D.device self.new.device)) }
+        ensures fault { IfErr result (λ fault. Fault P.hears P.ticks now (D.tells self.old.device) fault party.old (D.device self.old.device) party.new (D.device self.new.device)) }
+        ensures stands { P.stands party.new }
+        ensures size { self.new.mtu ≡ P.mtu party.new }
+        ensures still_tells { D.tells self.old.device → D.tells self.new.device }
+    {
+        let heard = self.hear_all(party, now)?;
+        let sent = self.tick(party, now)?;
+        Ok(heard > 0 || sent)
+    }
+}
