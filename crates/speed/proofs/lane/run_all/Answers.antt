@@ -1,7 +1,7 @@
 use Rattle.std.proofs.Common.{rules, ap, sym, ◌∙◌, subst}
 use Rattle.speed.specs.Rounds.{IsLane, parts_of}
 use Rattle.speed.proofs.Lanes.{all_filled}
-use Rattle.speed.proofs.lane.fill_all.Goals as goal
+use Rattle.speed.proofs.lane.run_all.Goals as goal
 
 pub returns-clause-lanes : goal.returns-clause-lanes
 returns-clause-lanes g c =
