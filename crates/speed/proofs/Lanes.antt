@@ -29,7 +29,7 @@ new_lanes l n (x ∷ xs) new none = (
   record {
     sender = record {
       done = record { idle = record { of = new.0.of; unarmed = ap (λ (v : Pass). v.right.armed) new.0.pass }; ended = ap (λ (v : Pass). v.work.drafts) new.0.pass };
-      sent = subst (AllByRecursion (IsSent x.publisher.pass.number)) (sym (ap (λ (v : Pass). v.right.claims) new.0.pass)) tt;
+      sent = subst (AllByRecursion (IsSent l.identity.geometry.term_length x.publisher.pass.number)) (sym (ap (λ (v : Pass). v.right.claims) new.0.pass)) tt;
     };
     counted = ap messages_of new.0.pass ∙ sym none.0;
   },

@@ -1,8 +1,8 @@
 -- What a round's threads claim and read, and what its book shows of it.
-use Rattle.std.specs.Prelude.{◌≡◌, ℕ, ◌+◌, ◌*◌, ◌<◌, ◌≤◌, ◌==◌, false, cond, List, [], ◌∷◌, length, slice_index, sum}
+use Rattle.std.specs.Prelude.{◌≡◌, ℕ, ◌+◌, ◌*◌, ◌/◌, ◌<◌, ◌≤◌, ◌==◌, false, true, cond, List, [], ◌∷◌, length, slice_index, sum}
 use Rattle.std.specs.List.{AllByRecursion}
-use Rattle.theory.specs.Position.{Geometry}
-use Rattle.theory.specs.Entry.{Entry, length_of}
+use Rattle.theory.specs.Position.{Geometry, span}
+use Rattle.theory.specs.Entry.{Entry, entry_end, length_of}
 use Rattle.theory.specs.Placed.{Data, Frame, Pad}
 use Rattle.theory.specs.Tiling.{Tiles}
 use Rattle.word_calls.specs.declared.pass.ClaimRange.{ClaimRange}
@@ -41,15 +41,16 @@ messages_of v = weight message_in v
 
 -- ---- publishers
 
--- a claim of the publisher with this number: one frame with 200 bytes behind its header, or a padding
-pub record IsSent (number : ℕ) (c : ClaimRange) : Type 0 where
+-- a claim of the publisher with this number: one frame with 200 bytes behind its header, or a padding up to the end of its term
+pub record IsSent (term_length number : ℕ) (c : ClaimRange) : Type 0 where
   pub owner : c.owner ≡ number
-  pub size : c.padding ≡ false → c.cuts ≡ 232 ∷ []
+  pub message : c.padding ≡ false → c.cuts ≡ 232 ∷ []
+  pub padding : c.padding ≡ true → c.start / term_length * term_length + term_length ≤ c.start + span c.cuts
 
 -- a publisher of this log that has nothing open, and has claimed such messages and paddings alone
 pub record IsSender (l : LogValue) (p : PublisherValue) : Type 0 where
   pub done : IsDone l p
-  pub sent : AllByRecursion (IsSent p.pass.number) p.pass.right.claims
+  pub sent : AllByRecursion (IsSent l.identity.geometry.term_length p.pass.number) p.pass.right.claims
 
 -- and so many messages more than before
 pub record Claims (l : LogValue) (p : PublisherValue) (more : ℕ) (q : PublisherValue) : Type 0 where
@@ -110,12 +111,18 @@ pub record IsReady (g : Geometry) (r : Ready) : Type 0 where
   pub readers : AllByRecursion (IsReaderOf r.log) r.readers.items
   pub one : length r.readers.items ≡ 1
 
--- entries tile the stream from 0 to the book's tail; so many of them are messages, of 256 bytes each; and the shares are what each publisher's cover
+-- what the log was filled with: a message of 256 bytes, or a padding up to the end of its term
+pub record IsPiece (term_length : ℕ) (e : Entry) : Type 0 where
+  pub message : e.padding ≡ false → length_of e ≡ 256
+  pub padding : e.padding ≡ true → entry_end e ≡ e.start / term_length * term_length + term_length
+
+-- such entries tile the stream from 0 to the book's tail; so many of them are messages; and the shares are what each publisher's cover
 pub record IsFilled (g : Geometry) (book : Book) (accepted : ℕ) : Type 0 where
   pub start : book.start ≡ 0
   pub whole : book.start + sum book.shares ≡ book.tail
   pub log : List Entry
   pub tiles : Tiles g.term_length 0 book.tail log
+  pub pieces : AllByRecursion (IsPiece g.term_length) log
   pub shares : (n : ℕ) → n < 8 → slice_index book.shares n ≡ total (bytes_by n) log
   pub messages : total message_in log ≡ accepted
   pub bytes : book.tail ≡ accepted * 256 + total padding_in log
