@@ -1,11 +1,12 @@
 //! Measures what is to be fast: `bench ROUNDS` prints medians of so many rounds of the log that threads share,
-//! `bench images FRAMES` how long an image takes for a frame, and `bench` fills small logs and images and prints no figures.
+//! `bench stream ROUNDS MESSAGES` how long publishers and a reader take for a message, `bench images FRAMES` how long an
+//! image takes for a frame, and `bench` fills small logs and images and prints no figures.
 #![tactic(auto)]
 
 use anyhow::Error;
 use image_speed::{ImageFigures, measure_image};
 use position::Geometry;
-use speed::{Figures, measure, play_round};
+use speed::{Figures, measure, measure_stream, play_round, play_stream};
 use std::alloc::Global;
 use std::thread::Threads;
 use std::time::Clock;
@@ -22,6 +23,12 @@ fn main(rt: HostRuntime) -> Result<(), Error> {
         Some(word) if word.as_str() == "images" => match words.next() {
             None => images(&rt, rt.alloc(), "200000"),
             Some(frames) => images(&rt, rt.alloc(), frames.as_str()),
+        },
+        Some(word) if word.as_str() == "stream" => match (words.next(), words.next()) {
+            (Some(rounds), Some(messages)) => {
+                streams(&rt, rt.alloc(), rounds.as_str(), messages.as_str())
+            }
+            _ => streams(&rt, rt.alloc(), "11", "400000"),
         },
         Some(word) => large(&rt, rt.alloc(), word.as_str()),
     }
@@ -66,6 +73,11 @@ fn small<R: Threads + Clock + Print + Sync>(rt: &R, alloc: Global) -> Result<(),
         let full = filled.accepted >= 128;
         println!(rt; "threads {threads}: closed, and full: {full}")?;
     }
+    for publishers in [1, 4] {
+        let played = play_stream(rt, alloc, geometry, publishers, 1000)?;
+        let (sent, read) = (played.sent, played.read);
+        println!(rt; "stream of {publishers}: {sent} sent, {read} read")?;
+    }
     for missing in [0, 10] {
         let played = measure_image(rt, alloc, 65_536, missing, 1000)?;
         println!(rt;
@@ -74,7 +86,47 @@ fn small<R: Threads + Clock + Print + Sync>(rt: &R, alloc: Global) -> Result<(),
         )?;
     }
     println!(rt; "bench ROUNDS measures so many rounds, bench images FRAMES so many frames")?;
+    println!(rt;
+        "bench stream ROUNDS MESSAGES measures so many rounds of so many messages in all"
+    )?;
     Ok(())
+}
+
+/// The term lengths of streams.
+const TERMS: [u32; 2] = [65_536, 16_777_216];
+
+/// Streams so many messages in all, and prints the medians of so many rounds.
+fn streams<R: Threads + Clock + Print + Sync>(
+    rt: &R,
+    alloc: Global,
+    rounds: &str,
+    messages: &str,
+) -> Result<(), Error> {
+    let rounds: usize = rounds.parse()?;
+    let messages: u32 = messages.parse()?;
+    println!(rt; "    term  publishers  ns/message")?;
+    for term_length in TERMS {
+        let geometry = Geometry::new(term_length, 1408, 7)?;
+        for publishers in THREADS {
+            let each = messages / publishers as u32;
+            let median = measure_stream(rt, alloc, geometry, publishers, each, rounds)?;
+            if let Some(picoseconds) = median {
+                stream_line(rt, term_length, publishers, picoseconds)?;
+            }
+        }
+    }
+    Ok(())
+}
+
+/// One line of the table, in nanoseconds.
+fn stream_line(
+    rt: &impl Print,
+    term_length: u32,
+    publishers: usize,
+    picoseconds: u64,
+) -> io::Result<()> {
+    let (whole, part) = (picoseconds / 1000, picoseconds % 1000 / 100);
+    println!(rt; "{term_length:>8}  {publishers:>10}  {whole:>8}.{part}")
 }
 
 /// Fills logs of the greatest term length, and prints the medians.

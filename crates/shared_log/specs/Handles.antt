@@ -1,7 +1,7 @@
 -- What contracts see of a log that threads share, and of its passes.
-use Rattle.std.specs.Prelude.{◌≡◌, ℕ, suc, ◌%◌, ◌<◌, ◌≤◌, List, [], ◌∷◌, nat_eq, if◌then◌else◌}
+use Rattle.std.specs.Prelude.{◌≡◌, ℕ, suc, ◌≤◌, List, [], ◌∷◌, nat_eq, if◌then◌else◌}
 use Rattle.atomic_table.specs.Seated.{TableId}
-use Rattle.theory.specs.Position.{Geometry, IsGeometry, max_position}
+use Rattle.theory.specs.Position.{IsGeometry}
 use Rattle.theory.specs.Bytes.{Identity}
 use Rattle.tail_claim.specs.Packs.{table_length}
 use Rattle.tail_claim.specs.Handles.{PublisherValue}

@@ -1,19 +1,20 @@
--- Lanes of a log that opens, of one that is filled, and of one that closes.
+-- Lanes of a log that opens, of one that threads publish to, and of one that closes.
 use Rattle.std.proofs.Common.{◌≡◌, ℕ, zero, suc, ◌+◌, ◌*◌, ◌<◌, nat_eq, List, [], ◌∷◌, ◌++◌, map, length, get_or, take, drop, subst, sym, refl, ap, ◌∙◌, arith}
 use Rattle.std.specs.Prelude.{if◌then◌else◌}
 use Rattle.std.proofs.lemmas.List.{take-append-drop}
+use Rattle.std.proofs.lemmas.List.Elements.{All-from_recursion}
 use Rattle.std.proofs.lemmas.Bool.Decides.{nat_tests}
 use Rattle.std.specs.List.{AllByRecursion}
 use Rattle.theory.proofs.Lists.{all_append, all_behind, all_front}
 use Rattle.word_calls.specs.declared.pass.Pass.{Pass}
-use Rattle.tail_claim.specs.Closing.{both, gathered}
-use Rattle.tail_claim.specs.Handles.{AreNew, IsIdle, LogValue, PublisherValue, gathered_all, parts_in}
-use Rattle.tail_claim.specs.Rule.{entry_of}
+use Rattle.tail_claim.specs.Handles.{parts_in}
 use Rattle.tail_claim.specs.Sums.{total}
-use Rattle.tail_claim.proofs.Memories.{maps_append}
 use Rattle.tail_claim.proofs.Totals.{total_append, total_map}
+use Rattle.shared_log.specs.Handles.{AreNew, LogValue}
+use Rattle.log_keeping.specs.Keepers.{KeeperValue}
+use Rattle.log_parts.specs.Books.{AreAll, IsDone}
 use Rattle.speed.specs.declared.lane.Lane.{Lane}
-use Rattle.speed.specs.Rounds.{IsLane, accepted_in, message_in, messages_of, parts_of, publisher_in}
+use Rattle.speed.specs.Rounds.{IsKept, IsLane, IsSent, messages_of, parts_of, publisher_in}
 
 -- eight elements, by their places
 pub eight : {A : Type 0} (xs : List A) (a b c d e f g h : A) → length xs ≡ 8 → a ≡ get_or xs 0 a → b ≡ get_or xs 1 b → c ≡ get_or xs 2 c → d ≡ get_or xs 3 d → e ≡ get_or xs 4 e → f ≡ get_or xs 5 f → g ≡ get_or xs 6 g → h ≡ get_or xs 7 h → a ∷ b ∷ c ∷ d ∷ e ∷ f ∷ g ∷ h ∷ [] ≡ xs
@@ -26,7 +27,10 @@ pub new_lanes : (l : LogValue) (n : ℕ) (lanes : List Lane) → AreNew l n (map
 new_lanes l n [] new none = tt
 new_lanes l n (x ∷ xs) new none = (
   record {
-    idle = record { of = new.0.of; unarmed = ap (λ (v : Pass). v.right.armed) new.0.pass };
+    sender = record {
+      done = record { idle = record { of = new.0.of; unarmed = ap (λ (v : Pass). v.right.armed) new.0.pass }; ended = ap (λ (v : Pass). v.work.drafts) new.0.pass };
+      sent = subst (AllByRecursion (IsSent l.identity.geometry.term_length x.publisher.pass.number)) (sym (ap (λ (v : Pass). v.right.claims) new.0.pass)) tt;
+    };
     counted = ap messages_of new.0.pass ∙ sym none.0;
   },
   new_lanes l (suc n) xs new.1 none.1,
@@ -38,14 +42,14 @@ not_first n a b = grind (arith, nat_tests)
 later_parts : (l : LogValue) (n : ℕ) (lanes : List Lane) → AreNew l (suc n) (map publisher_in lanes) → total parts_of lanes + 120 * suc n ≡ 960
 later_parts l n [] new = let e : suc n ≡ 8 = new in omega arith
 later_parts l n (x ∷ xs) new =
-    let e : parts_of x ≡ 120 = ap (λ (v : Pass). v.right.parts) new.0.pass ∙ not_first n 184 120 in
+    let e : parts_of x ≡ 120 = ap (λ (v : Pass). v.right.parts) new.0.pass ∙ not_first n 176 120 in
     let r = later_parts l (suc n) xs new.1 in
     omega arith
 
-pub new_parts : (l : LogValue) (lanes : List Lane) → AreNew l 0 (map publisher_in lanes) → total parts_of lanes ≡ 1024
+pub new_parts : (l : LogValue) (lanes : List Lane) → AreNew l 0 (map publisher_in lanes) → total parts_of lanes ≡ 1016
 new_parts l [] new = let e : 0 ≡ 8 = new in absurd (omega arith)
 new_parts l (x ∷ xs) new =
-    let e : parts_of x ≡ 184 = ap (λ (v : Pass). v.right.parts) new.0.pass in
+    let e : parts_of x ≡ 176 = ap (λ (v : Pass). v.right.parts) new.0.pass in
     let r = later_parts l 0 xs new.1 in
     omega arith
 
@@ -86,28 +90,18 @@ all_filled l (x ∷ xs) (y ∷ ys) long each =
 
 -- ---- closing
 
-pub all_idle : (l : LogValue) (lanes : List Lane) → AllByRecursion (IsLane l) lanes → AllByRecursion (IsIdle l) (map publisher_in lanes)
-all_idle l [] all = tt
-all_idle l (x ∷ xs) all = (all.0.idle, all_idle l xs all.1)
+done_lanes : (l : LogValue) (lanes : List Lane) → AllByRecursion (IsLane l) lanes → AllByRecursion (IsDone l) (map publisher_in lanes)
+done_lanes l [] all = tt
+done_lanes l (x ∷ xs) all = (all.0.sender.done, done_lanes l xs all.1)
 
-pub all_parts : (lanes : List Lane) → total parts_in (map publisher_in lanes) ≡ total parts_of lanes
-all_parts lanes = total_map parts_in publisher_in lanes
-
-gathered_messages : (v : Pass) (ws : List Pass) → messages_of (gathered v ws) ≡ messages_of v + total messages_of ws
-gathered_messages v [] = omega arith
-gathered_messages v (w ∷ ws) =
-    let e = gathered_messages (both v w) ws in
-    let a : messages_of (both v w) ≡ messages_of v + messages_of w = ap (total message_in) (maps_append entry_of v.right.claims w.right.claims) ∙ total_append message_in (map entry_of v.right.claims) (map entry_of w.right.claims) in
-    sum (messages_of (gathered (both v w) ws)) (messages_of (both v w)) (messages_of v) (messages_of w) (total messages_of ws) e a
+-- they and the keeper are all
+pub all_there : (l : LogValue) (lanes : List Lane) (k : KeeperValue) → AllByRecursion (IsLane l) lanes → total parts_of lanes ≡ 1016 → IsKept l k → AreAll l (map publisher_in lanes) k
+all_there l lanes k all whole kept = record {
+  publishers_are = All-from_recursion (IsDone l) (map publisher_in lanes) (done_lanes l lanes all);
+  keeper_is = kept.done;
+  unclaimed = kept.unclaimed;
+  whole = sums (total parts_in (map publisher_in lanes)) (total parts_of lanes) k.held.pass.right.parts (total_map parts_in publisher_in lanes) whole kept.parts;
+}
   where
-    sum : (g b v w t : ℕ) → g ≡ b + t → b ≡ v + w → g ≡ v + (w + t)
-    sum g b v w t e a = omega arith
-
-counted_all : (l : LogValue) (lanes : List Lane) → AllByRecursion (IsLane l) lanes → total messages_of (map (λ (q : PublisherValue). q.pass) (map publisher_in lanes)) ≡ total accepted_in lanes
-counted_all l [] all = refl
-counted_all l (x ∷ xs) all = let here = all.0.counted in let rest = counted_all l xs all.1 in omega arith
-
--- the messages of all are the accepted offers
-pub all_messages : (l : LogValue) (lanes : List Lane) → AllByRecursion (IsLane l) lanes → messages_of (gathered_all l (map publisher_in lanes)) ≡ total accepted_in lanes
-all_messages l [] all = refl
-all_messages l (x ∷ xs) all = gathered_messages x.publisher.pass (map (λ (q : PublisherValue). q.pass) (map publisher_in xs)) ∙ (let here = all.0.counted in let rest = counted_all l xs all.1 in omega arith)
+    sums : (a b k : ℕ) → a ≡ b → b ≡ 1016 → k ≡ 8 → a + k ≡ 1024
+    sums a b k e f g = omega arith

@@ -1,2 +1,4 @@
 pub mod Messages
 pub mod Lanes
+pub mod Books
+pub mod Followers

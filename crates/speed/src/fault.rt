@@ -1,15 +1,15 @@
 ghost use Rattle.std.specs.Prelude.{◌≡◌, alloc_error};
 ghost use Rattle.speed.specs.declared.fault.SpeedError.TheVariants.{Memory};
 
+use one_hand::LogError;
 use std::alloc::{AllocError, AllocFailed};
-use tail_claim::OpenError;
 use thiserror::Error;
 
 /// Why nothing was measured.
 #[derive(Debug, Drop, Error)]
 pub enum SpeedError {
     #[error("the log wasn't opened: {0}")]
-    Open(#[from] OpenError),
+    Open(#[from] LogError),
     #[error("memory was refused: {0}")]
     Memory(#[from] AllocError),
     #[error("the clock can't be read")]

@@ -1,17 +1,16 @@
 //! What the threads of a round have, one each.
 
-ghost use Rattle.std.specs.Prelude.{◌≡◌, ◌^◌, ◌<◌, length, map};
+ghost use Rattle.std.specs.Prelude.{◌≡◌, ◌^◌, ◌<◌, ◌≤◌, length, map};
 ghost use Rattle.std.specs.List.{AllByRecursion};
-ghost use Rattle.tail_claim.specs.Handles.{AreNew, IsIdle};
 ghost use Rattle.tail_claim.specs.Sums.{total};
 ghost use Rattle.speed.specs.Rounds.{IsLane, accepted_in, parts_of, publisher_in};
 
 use crate::gate::{Gate, Lap, joined, lap};
-use crate::offering::offer_all;
+use crate::offering::{Aim, offer_all};
+use shared_log::{Log, Publisher};
 use std::thread;
 use std::thread::Threads;
 use std::time::{Clock, Instant};
-use tail_claim::{Publisher, TableLog};
 
 /// A publisher, how many of its offers were accepted, and when.
 #[derive(Drop)]
@@ -87,8 +86,8 @@ pub(crate) fn lap_of(lanes: &[Lane]) -> Lap {
     whole
 }
 
-/// Fills the log from one lane, from the common start on.
-fn fill<R: Clock>(rt: &R, log: &TableLog, gate: &Gate, lane: &mut Lane)
+/// Publishes from one lane, from the common start on.
+fn run<R: Clock>(rt: &R, log: &Log, gate: &Gate, aim: Aim, lane: &mut Lane)
     requires lane { IsLane log.now lane.old }
     requires none { lane.old.accepted ≡ 0 }
     ensures lane { IsLane log.now lane.new }
@@ -96,19 +95,18 @@ fn fill<R: Clock>(rt: &R, log: &TableLog, gate: &Gate, lane: &mut Lane)
 {
     gate.pass();
     let began = Instant::now(rt);
-    lane.accepted = offer_all(log, &mut lane.publisher);
+    lane.accepted = offer_all(log, &mut lane.publisher, aim);
     lane.lap = lap(began, Instant::now(rt));
 }
 
-/// Fills the log from all lanes together, each in a thread of its own.
-pub(crate) fn fill_all<R: Threads + Clock + Sync>(rt: &R, log: &TableLog, lanes: &mut [Lane])
+/// Publishes from all lanes together, each in a thread of its own.
+fn run_all<R: Threads + Clock + Sync>(rt: &R, log: &Log, gate: &Gate, aim: Aim, lanes: &mut [Lane])
     requires some { 0 < length lanes.old }
     requires lanes { AllByRecursion (IsLane log.now) lanes.old }
     requires none { AllByRecursion (λ lane. lane.accepted ≡ 0) lanes.old }
     ensures lanes { AllByRecursion (IsLane log.now) lanes.new }
     ensures parts { total parts_of lanes.new ≡ total parts_of lanes.old }
 {
-    let gate = Gate::new(lanes.len());
     let count = lanes.len();
     thread::for_each_mut(
         rt,
@@ -117,6 +115,26 @@ pub(crate) fn fill_all<R: Threads + Clock + Sync>(rt: &R, log: &TableLog, lanes:
         &|_, lane|
             requires { IsLane log.now lane.old × (lane.old.accepted ≡ 0) }
             ensures { IsLane log.entry.now lane.new × (parts_of lane.new ≡ parts_of lane.old) }
-        { fill(rt, log, &gate, lane) },
+        { run(rt, log, gate, aim, lane) },
     );
+}
+
+/// Publishes from the first lanes, so many, together.
+pub(crate) fn run_first<R: Threads + Clock + Sync>(
+    rt: &R,
+    log: &Log,
+    gate: &Gate,
+    aim: Aim,
+    count: usize,
+    mut lanes: [Lane; 8],
+) -> [Lane; 8]
+    requires some { 0 < count }
+    requires eight { count ≤ 8 }
+    requires lanes { AllByRecursion (IsLane log.now) lanes }
+    requires none { AllByRecursion (λ lane. lane.accepted ≡ 0) lanes }
+    ensures lanes { AllByRecursion (IsLane log.now) result }
+    ensures parts { total parts_of result ≡ total parts_of lanes }
+{
+    run_all(rt, log, gate, aim, &mut lanes[..count]);
+    lanes
 }

@@ -6,6 +6,7 @@ use crate::fault::SpeedError;
 use crate::round::play_round;
 use crate::sorting::median;
 use crate::storing::stores;
+use crate::streaming::play_stream;
 use position::Geometry;
 use std::alloc::{AllocError, Global};
 use std::thread::Threads;
@@ -83,6 +84,31 @@ fn medians_of(samples: &mut Samples) -> Option<Figures> {
         claim: median(samples.claims.as_mut_slice()),
         stores: median(samples.stores.as_mut_slice()),
     })
+}
+
+/// Measures streams of so many messages from each of so many publishers, in so many rounds. The answer is the median, in
+/// picoseconds for each message that was read.
+pub fn measure_stream<R: Threads + Clock + Sync>(
+    rt: &R,
+    alloc: Global,
+    geometry: Geometry,
+    publishers: usize,
+    messages: u32,
+    rounds: usize,
+) -> Result<Option<u64>, SpeedError>
+    requires some { 0 < publishers }
+    requires eight { publishers ≤ 8 }
+{
+    let mut figures = Vec::new(alloc);
+    for _ in 0..rounds {
+        let stream = play_stream(rt, alloc, geometry, publishers, messages)?;
+        let taken = stream.taken.ok_or(SpeedError::Clock)?;
+        figures.push(each(taken, stream.read))?;
+    }
+    if figures.is_empty() {
+        return Ok(None);
+    }
+    Ok(Some(median(figures.as_mut_slice())))
 }
 
 /// Measures with 1, 2, 4 and 8 threads by turns, in so many rounds.

@@ -5,9 +5,8 @@ use mathlib.Core.Logic.{dite}
 use native.Mathlib.Decide.{dec_le, ℕ_discrete}
 use lib.ListN.{get_elem?}
 use Rattle.std.specs.Prelude.{slice_index}
-use Rattle.std.proofs.lemmas.List.{length-replicate, map-append, map-set}
-use Rattle.atomic_table.specs.Table.{Splits}
-use Rattle.atomic_table.proofs.Lists.{at_map, at_set, at_snoc}
+use Rattle.std.proofs.lemmas.List.{length-replicate}
+use Rattle.atomic_table.proofs.Lists.{at_set, at_snoc}
 use Rattle.theory.specs.Position.{Geometry, IsGeometry, id_of, max_position}
 use Rattle.theory.specs.Entry.{Entry, length_of}
 use Rattle.theory.specs.Refusal.{limit_in}
@@ -15,20 +14,18 @@ use Rattle.theory.specs.Words.{id_before, tail_word}
 use Rattle.theory.proofs.Places.{mod_unit, power_half, power_unit}
 use Rattle.word_calls.specs.declared.pass.Pass.{Pass}
 use Rattle.tail_claim.specs.declared.view.Key.{Key}
-use Rattle.tail_claim.specs.declared.view.View.{View}
 use Rattle.tail_claim.specs.Packs.{count_place, slot, table_length, tail_place}
 use Rattle.tail_claim.specs.Sums.{total}
 use Rattle.tail_claim.specs.Terms.{Tailed, Terms, end_of}
 use Rattle.tail_claim.specs.Rule.{Bounds, Knows, Sound, armed_of, armed_on, first_of, parts_of, shape_of, size_of, weight}
 use Rattle.tail_claim.specs.Memory.{Ruled, Stored}
 use Rattle.tail_claim.specs.Openings.{Fresh}
-use Rattle.tail_claim.specs.Plays.{TableRuled, bounds_of, dealer, dealing_seat, dealt, dealt_seat, first_seat, newcomer, pass_in}
+use Rattle.tail_claim.specs.Plays.{bounds_of, dealer, dealt, first_seat, newcomer, pass_in}
 use Rattle.tail_claim.proofs.Packs.{before_count, put, at_put, put_else, put_here}
 use Rattle.tail_claim.proofs.Totals.{total_append, total_set}
 use Rattle.tail_claim.proofs.Accounts.{each_set, none_armed, unchanged}
-use Rattle.tail_claim.specs.Sure.{IsSure, controls_in, fresh_controls}
+use Rattle.tail_claim.specs.Sure.{controls_in, fresh_controls}
 use Rattle.tail_claim.proofs.Looks.{min_of_le, term_short}
-use Rattle.tail_claim.proofs.Sures.{sure_split, unsure}
 
 -- ---- the words of a log that opens
 
@@ -176,16 +173,6 @@ ruled_first key ws so f =
     room : (s t c : ℕ) → 65536 ≤ t → c ≤ t / 7 + 63 → s + t / 2 + c * 8 ≤ s + 3 * t
     room s t c long few = omega arith
 
-one_view : (P : View → Type 0) (p : View) → P p → (j : ℕ) (v : View) → get_elem? (p ∷ []) j ≡ some v → P v
-one_view P p a zero v e = subst P (some-injective _ v e) a
-one_view P p a (suc j) v e = absurd (some-ne-none v (sym e))
-
-pub opens : (key : Key) (ws : List ℕ) → Sound (bounds_of key) → Fresh (bounds_of key) ws → TableRuled key record { words = ws; homes = []; views = first_seat key ∷ [] }
-opens key ws so f = record {
-  ruled = ruled_first key ws so f;
-  sure = record { each = one_view (IsSure ws) (first_seat key) record { whole = λ _. refl; exact = λ _. fresh_is key ws f } };
-}
-
 -- ---- a publisher is dealt
 
 pub split_total : (f : Pass → ℕ) (ps : List Pass) (id : ℕ) (v l r : Pass) → get_elem? ps id ≡ some v → f l + f r ≡ f v → total f (set ps id l ++ r ∷ []) ≡ total f ps
@@ -234,11 +221,3 @@ shared b ws ps r id p at off many =
     record { identity = k.identity; start = k.start; number = k.number; right = record { capped = k.right.capped; able = omega arith; once = omega arith; idle = λ z. refl }; entries = tt; seen = k.seen }
     record { stands = m.stands; placed = m.placed; aligned = m.aligned; done = m.done; undone = m.undone; kept = m.kept }
     record { stands = tt; placed = λ h. refl; aligned = tt; done = tt; undone = tt; kept = tt }
-
-pub deals : (key : Key) (id : ℕ) (v : View) → v.pass.right.armed ≡ 0 → 120 < v.pass.right.parts → Splits (TableRuled key) id v (dealing_seat v) (dealt_seat v)
-deals key id v off many s r at =
-    let is : map pass_in (set s.views id (dealing_seat v) ++ dealt_seat v ∷ []) ≡ set (map pass_in s.views) id (dealer v.pass) ++ (dealt v.pass) ∷ [] = map-append pass_in (set s.views id (dealing_seat v)) (dealt_seat v ∷ []) ∙ ap (λ (l : List Pass). l ++ (dealt v.pass) ∷ []) (map-set pass_in s.views id (dealing_seat v)) in
-    record {
-      ruled = subst (λ (l : List Pass). Ruled (bounds_of key) s.words l) (sym is) (shared (bounds_of key) s.words (map pass_in s.views) r.ruled id v.pass (at_map pass_in s.views id v at) off many);
-      sure = sure_split s.words s.views r.sure id (dealing_seat v) (dealt_seat v) (unsure s.words (dealing_seat v) refl) (unsure s.words (dealt_seat v) refl);
-    }

@@ -3,26 +3,21 @@ use Rattle.std.proofs.Common.{◌≡◌, ◌≢◌, ℕ, ◌+◌, ◌*◌, ◌%�
 use mathlib.Core.Option.{some}
 use lib.ListN.{get_elem?}
 use Rattle.std.specs.List.{AllByRecursion}
-use Rattle.std.proofs.lemmas.List.{map-set}
-use Rattle.atomic_table.specs.Table.{Joins}
-use Rattle.atomic_table.proofs.Lists.{at_map, at_set, set_else}
+use Rattle.atomic_table.proofs.Lists.{at_set, set_else}
 use Rattle.theory.specs.Entry.{Entry, length_of}
 use Rattle.theory.proofs.Lists.{all_append, all_behind, all_front}
 use Rattle.word_calls.specs.declared.pass.FrameWords.{FrameWords}
 use Rattle.word_calls.specs.declared.pass.Pass.{Pass}
 use Rattle.word_calls.specs.Steps.{Extent, extent_of, ranges_of}
-use Rattle.tail_claim.specs.declared.view.Key.{Key}
-use Rattle.tail_claim.specs.declared.view.View.{View}
 use Rattle.tail_claim.specs.Sums.{total}
 use Rattle.tail_claim.specs.Terms.{end_of}
 use Rattle.tail_claim.specs.Rule.{Bounds, IsClaim, Knows, armed_of, armed_on, entries_of, entry_of, parts_of, shape_of, size_of, weight}
 use Rattle.tail_claim.specs.Memory.{IsAligned, IsDone, IsOpen, Ruled, Stands, Stored}
-use Rattle.tail_claim.specs.Plays.{TableRuled, bounds_of, newcomer, pass_in}
-use Rattle.tail_claim.specs.Closing.{both, both_seats, spent_seat}
+use Rattle.tail_claim.specs.Plays.{newcomer}
+use Rattle.tail_claim.specs.Closing.{both}
 use Rattle.tail_claim.proofs.Totals.{total_append, total_flat, total_set}
 use Rattle.tail_claim.proofs.Accounts.{none_armed}
 use Rattle.tail_claim.proofs.Memories.{maps_append}
-use Rattle.tail_claim.proofs.Sures.{sure_join, unsure}
 
 -- ---- sums
 
@@ -87,13 +82,3 @@ joined b ws ps r i j v w at ne at' off off' able =
   where
     plus_none : (n m : ℕ) → n ≡ m → n + 0 ≡ m
     plus_none n m e = omega arith
-
-pub joins : (key : Key) (id other : ℕ) (v w : View) → v.pass.right.armed ≡ 0 → w.pass.right.armed ≡ 0 → 0 < v.pass.right.parts → Joins (TableRuled key) id v other w (both_seats v w) (spent_seat key.identity key.start)
-joins key id other v w off off' able s r at ne at' =
-    let ps : List Pass = map pass_in s.views in let l : View = both_seats v w in let q : View = spent_seat key.identity key.start in
-    let is : map pass_in (set (set s.views id l) other q) ≡ set (set ps id l.pass) other q.pass = map-set pass_in (set s.views id l) other q ∙ ap (λ (x : List Pass). set x other q.pass) (map-set pass_in s.views id l) in
-    record {
-      ruled = subst (λ (x : List Pass). Ruled (bounds_of key) s.words x) (sym is) (joined (bounds_of key) s.words ps r.ruled id other v.pass w.pass (at_map pass_in s.views id v at) ne
-          (subst (λ (x : List Pass). get_elem? x other ≡ some w.pass) (map-set pass_in s.views id l) (at_map pass_in (set s.views id l) other w at')) off off' able);
-      sure = sure_join s.words s.views r.sure id other l q (unsure s.words l refl) (unsure s.words q refl);
-    }

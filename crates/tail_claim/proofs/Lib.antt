@@ -9,11 +9,8 @@ pub mod Memories
 pub mod Storing
 pub mod Whole
 pub mod Sures
-pub mod Lifting
 pub mod Begun
 pub mod Numbers
 pub mod Gathering
-pub mod Greatest
-pub mod Ending
 pub mod Eventful
 pub mod Rings

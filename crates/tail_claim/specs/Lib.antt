@@ -7,7 +7,6 @@ pub mod Admits
 pub mod Sure
 pub mod Plays
 pub mod Handles
-pub mod Faults
 pub mod Openings
 pub mod Closing
 pub mod Leading

@@ -1,6 +1,6 @@
--- The rule over a table's state, the first seat and how it is dealt, and what each step tells.
-use Rattle.std.specs.Prelude.{◌≡◌, ℕ, suc, ◌+◌, ◌-◌, ◌/◌, List, [], map}
-use Rattle.atomic_table.specs.Table.{Me, State, Step}
+-- The bounds of a log that opens, the first seat and how it is dealt, and what each step tells.
+use Rattle.std.specs.Prelude.{◌≡◌, ℕ, suc, ◌+◌, ◌-◌, ◌/◌, List, []}
+use Rattle.atomic_table.specs.Table.{Me, Step}
 use Rattle.theory.specs.Position.{greatest_claim}
 use Rattle.theory.specs.Bytes.{Identity}
 use Rattle.word_calls.specs.declared.pass.Keeping.{Keeping}
@@ -9,10 +9,9 @@ use Rattle.word_calls.specs.Steps.{works}
 use Rattle.tail_claim.specs.declared.view.Key.{Key}
 use Rattle.tail_claim.specs.declared.view.View.{View}
 use Rattle.tail_claim.specs.Rule.{Bounds}
-use Rattle.tail_claim.specs.Memory.{Ruled}
 use Rattle.word_calls.specs.declared.step.WordStep.{WordStep}
 use Rattle.tail_claim.specs.Admits.{Same}
-use Rattle.tail_claim.specs.Sure.{AreSure, Learns, fresh_controls, no_controls}
+use Rattle.tail_claim.specs.Sure.{Learns, fresh_controls, no_controls}
 
 abbrev pub pass_in : View → Pass
 pass_in v = v.pass
@@ -28,11 +27,6 @@ bounds_of key = record {
   floor = key.start;
   cleaned = key.start;
 }
-
--- the words and the passes obey the rule of claims, and who is sure of the control words is right
-pub record TableRuled (key : Key) (s : State (Unit {0}) View) : Type 0 where
-  pub ruled : Ruled (bounds_of key) s.words (map pass_in s.views)
-  pub sure : AreSure s.words s.views
 
 abbrev pub no_keeping : Keeping
 no_keeping = record { right = 0; limit = 0; cleaned = 0; positions = [] }

@@ -1,37 +1,13 @@
-//! The rule of a log's table, and its kinds of step.
+//! The kinds of step on a log's words.
 
 ghost use Rattle.std.specs.Prelude.{ℕ, ◌+◌, ◌%◌, ◌∷◌, []};
-ghost use Rattle.theory.specs.Bytes.{Identity};
 ghost use Rattle.word_calls.specs.declared.step.WordStep.TheVariants as steps;
 ghost use Rattle.word_calls.specs.Steps.{Adds, Advances, Arms, Commits, Counts, Nexts, Rotates, Sees, Stores, addition, tail_exchange, tail_step};
-ghost use Rattle.tail_claim.specs.Closing.{no_identity};
 ghost use Rattle.tail_claim.specs.Plays.{playing};
 
-use crate::view::{Key, View};
-use atomic_table::{Join, Play, Split, TableRule};
+use crate::view::View;
+use atomic_table::{Play, Split};
 use std::marker::{Brand, PhantomData};
-
-/// The words and passes of a log obey the rule of claims.
-pub struct LogRule;
-
-impl TableRule<(), View, Key> for LogRule {
-    ghost use Rattle.tail_claim.specs.Plays.{TableRuled, first_seat};
-
-    ghost holds = { TableRuled };
-
-    ghost first = { first_seat };
-}
-
-/// A publisher goes to a seat of its own.
-pub struct Deal;
-
-impl Split<View> for Deal {
-    ghost use Rattle.tail_claim.specs.Plays.{dealing_seat, dealt_seat};
-
-    ghost left = { dealing_seat };
-
-    ghost right = { dealt_seat };
-}
 
 /// A number that a call picks for its step.
 pub trait Chosen {
@@ -126,30 +102,4 @@ pub struct Commit<N> {
 
 impl<N: Chosen> Play<(), View> for Commit<N> {
     ghost then = { playing (λ v n w. Commits v N.number n w) (λ _ _. []) };
-}
-
-/// The stream of a log, which a call picks for its step.
-pub trait Carried {
-    ghost identity: { Identity };
-
-    ghost start: { ℕ };
-}
-
-impl Carried for Brand {
-    ghost identity = { no_identity };
-
-    ghost start = { 0 };
-}
-
-/// A publisher's seat is gathered into another's.
-pub struct Gather<N> {
-    carried: PhantomData<N>,
-}
-
-impl<N: Carried> Join<View> for Gather<N> {
-    ghost use Rattle.tail_claim.specs.Closing.{both_seats, spent_seat};
-
-    ghost both = { both_seats };
-
-    ghost spent = { spent_seat N.identity N.start };
 }

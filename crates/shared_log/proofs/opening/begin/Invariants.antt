@@ -1,4 +1,3 @@
-use Rattle.std.proofs.Common.{◌≤◌}
 use Rattle.log_rule.specs.Opening.{Begun}
 use Rattle.shared_log.proofs.opening.begin.Given as goal
 

@@ -1,4 +1,3 @@
-use Rattle.std.proofs.Common.{rules, ◌≤◌}
 use Rattle.log_rule.proofs.Beginning.{old_key, opens}
 use Rattle.tail_claim.proofs.Begun.{sound_key}
 use Rattle.shared_log.proofs.opening.words_of.Goals as goal

@@ -1,4 +1,4 @@
-use Rattle.std.proofs.Common.{rules, ◌≡◌, ◌<◌, ◌≤◌, Result, Err, IsErrAnd, ap, subst, is_ok, true≢false, arith}
+use Rattle.std.proofs.Common.{rules, ◌≡◌, Result, Err, IsErrAnd, ap, subst, is_ok, true≢false}
 use Rattle.one_hand.specs.declared.fault.LogError.{LogError}
 use Rattle.one_hand.specs.declared.fault.LogError.TheVariants as faults
 use Rattle.shared_log.proofs.log.Log.open_whole.Goals as goal

@@ -1,4 +1,0 @@
-use Rattle.tail_claim.proofs.calls.OnTableWordCalls.load_next.Given as goal
-
-abbrev pub ghosts-next_as : goal.ghosts-next_as
-ghosts-next_as a = record { number = a.count }

@@ -1,4 +1,0 @@
-use Rattle.tail_claim.proofs.log.TableLog.renumber.Given as goal
-
-abbrev pub ghosts-renumber_as : goal.ghosts-renumber_as
-ghosts-renumber_as a = record { number = a.number }
