@@ -1,4 +1,6 @@
 use endpoint::{Datagrams, DeviceFailed, UdpDevice};
+use loss_injector::Rates;
+use lossy::Lossy;
 use std::alloc::Global;
 use std::net::Net;
 use std::test::*;
@@ -45,6 +47,7 @@ fn hands_over(rt: HostRuntime) -> Result<(), Fail> {
     assert_eq!(rt; (near.failures(), far.failures()), (0, 0));
     assert!(rt; far.nones() > 0);
     may_move(&near);
+    may_move(&Lossy::new(rt.alloc(), near, Rates::new(0, 0, 0)?, 1));
     Ok(())
 }
 
