@@ -1,7 +1,7 @@
 use Rattle.std.proofs.Common.{arith}
-use Rattle.duties.proofs.Cycling.{cycle_done, fault_before, fault_behind, none_came, some_came}
-use Rattle.duties.proofs.Hearings.{err_is}
-use Rattle.duties.proofs.duty.Duty.cycle.Goals as goal
+use Rattle.agents.proofs.Cycling.{cycle_done, fault_before, fault_behind, none_came, some_came}
+use Rattle.agents.proofs.Hearings.{err_is}
+use Rattle.agents.proofs.duty.Duty.cycle.Goals as goal
 
 pub returns-in_err-heard-clause-fault : goal.returns-in_err-heard-clause-fault
 returns-in_err-heard-clause-fault g c =

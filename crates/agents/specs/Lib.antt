@@ -1,3 +1,4 @@
 pub mod Cycles
+pub mod Parties
 pub mod Texts
 pub mod Traffic

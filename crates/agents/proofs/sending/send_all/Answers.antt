@@ -1,8 +1,8 @@
 use Rattle.std.proofs.Common.{◌≡◌, ◌∙◌, Some, rules, ap, arith, take}
 use Rattle.std.specs.Prelude.{slice_get}
 use Rattle.endpoint.specs.Devices.{Device}
-use Rattle.duties.proofs.Carrying.{first_part, grown_later, sent_one}
-use Rattle.duties.proofs.sending.send_all.Goals as goal
+use Rattle.agents.proofs.Carrying.{first_part, grown_later, sent_one}
+use Rattle.agents.proofs.sending.send_all.Goals as goal
 
 pub returns-in_err-send-clause-sends : goal.returns-in_err-send-clause-sends
 returns-in_err-send-clause-sends g c =

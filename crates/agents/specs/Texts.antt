@@ -1,7 +1,7 @@
 -- What a user reads of a fault.
 use Rattle.std.specs.Prelude.{ℕ, List, codes}
-use Rattle.duties.specs.declared.fault.AgentFault.{AgentFault}
-use Rattle.duties.specs.declared.fault.AgentFault.TheVariants.{Device, Memory}
+use Rattle.agents.specs.declared.fault.AgentFault.{AgentFault}
+use Rattle.agents.specs.declared.fault.AgentFault.TheVariants.{Device, Memory}
 
 abbrev pub text_of : AgentFault → List ℕ
 text_of Device = codes "device"

@@ -2,7 +2,7 @@
 
 ghost use Rattle.std.specs.Prelude.{◌≡◌, IfErr, IfOk};
 ghost use Rattle.endpoint.specs.Devices.{NeverFall};
-ghost use Rattle.duties.specs.Cycles.{Cycle, Fault, Hearing, Ticking};
+ghost use Rattle.agents.specs.Cycles.{Cycle, Fault, Hearing, Ticking};
 
 use crate::fault::AgentFault;
 use crate::party::Party;
@@ -33,7 +33,7 @@ pub struct Denied<D> {
 }
 
 impl<D> Model for Duty<D> {
-    ghost use Rattle.duties.specs.Cycles.{DutyState};
+    ghost use Rattle.agents.specs.Cycles.{DutyState};
 
     ghost Value = { DutyState D };
 

@@ -4,12 +4,12 @@ use Rattle.std.proofs.lemmas.Bool.{lt-ltb}
 use Rattle.std.specs.Prelude.{nat_lt, IfErr}
 use Rattle.endpoint.specs.Devices.{Device, HasGrown, NeverFall}
 use Rattle.endpoint.specs.declared.datagrams.DeviceFailed.{DeviceFailed}
-use Rattle.duties.specs.Traffic.{Carries, IsPart, are_some}
-use Rattle.duties.specs.Cycles.{Cycle, Fault, Hearing, Ticking}
-use Rattle.duties.specs.declared.fault.AgentFault.{AgentFault}
-use Rattle.duties.specs.declared.fault.AgentFault.TheVariants as faults
-use Rattle.duties.proofs.Carrying.{carried_on, grown_later, part_behind}
-use Rattle.duties.proofs.Hearings.{Hears}
+use Rattle.agents.specs.Traffic.{Carries, IsPart, are_some}
+use Rattle.agents.specs.Cycles.{Cycle, Fault, Hearing, Ticking}
+use Rattle.agents.specs.declared.fault.AgentFault.{AgentFault}
+use Rattle.agents.specs.declared.fault.AgentFault.TheVariants as faults
+use Rattle.agents.proofs.Carrying.{carried_on, grown_later, part_behind}
+use Rattle.agents.proofs.Hearings.{Hears}
 
 abbrev Ticks : Type 0 → Type 1
 Ticks P = P → ℕ → P → List (List ℕ) → Type 0

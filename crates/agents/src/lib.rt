@@ -7,8 +7,11 @@
 mod duty;
 mod fault;
 mod party;
+mod receiver_party;
+mod sender_party;
 mod sending;
 
 pub use duty::{DATAGRAMS, Denied, Duty};
 pub use fault::AgentFault;
 pub use party::Party;
+pub use receiver_party::REPLY;

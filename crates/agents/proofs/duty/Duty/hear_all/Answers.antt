@@ -1,7 +1,7 @@
 use Rattle.std.proofs.Common.{arith}
-use Rattle.duties.proofs.Carrying.{never_fall_on}
-use Rattle.duties.proofs.Hearings.{err_is, heard_all, heard_few, heard_none, heard_until, one_heard}
-use Rattle.duties.proofs.duty.Duty.hear_all.Goals as goal
+use Rattle.agents.proofs.Carrying.{never_fall_on}
+use Rattle.agents.proofs.Hearings.{err_is, heard_all, heard_few, heard_none, heard_until, one_heard}
+use Rattle.agents.proofs.duty.Duty.hear_all.Goals as goal
 
 pub loop-count-init : goal.loop-count-init
 loop-count-init g c = record {

@@ -6,11 +6,11 @@ use Rattle.std.proofs.Math.Seq.{take-append_seam}
 use Rattle.endpoint.specs.Calls.{HandsOver, Receives}
 use Rattle.endpoint.specs.Devices.{Device, NeverFall}
 use Rattle.endpoint.specs.declared.datagrams.DeviceFailed.{DeviceFailed}
-use Rattle.duties.specs.Traffic.{Carries, SendsOut, are_some}
-use Rattle.duties.specs.Cycles.{Explains, Hearing, HearsAll, Ticking}
-use Rattle.duties.specs.declared.fault.AgentFault.{AgentFault}
-use Rattle.duties.specs.declared.fault.AgentFault.TheVariants as faults
-use Rattle.duties.proofs.Carrying.{carried_on, grown_later, part_behind, whole_part}
+use Rattle.agents.specs.Traffic.{Carries, SendsOut, are_some}
+use Rattle.agents.specs.Cycles.{Explains, Hearing, HearsAll, Ticking}
+use Rattle.agents.specs.declared.fault.AgentFault.{AgentFault}
+use Rattle.agents.specs.declared.fault.AgentFault.TheVariants as faults
+use Rattle.agents.proofs.Carrying.{carried_on, grown_later, part_behind, whole_part}
 
 abbrev pub Hears : Type 0 → Type 1
 Hears P = P → ℕ → List ℕ → P → List (List ℕ) → Type 0

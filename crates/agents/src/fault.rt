@@ -1,6 +1,6 @@
 ghost use Rattle.std.specs.Prelude.{◌≡◌, Some};
-ghost use Rattle.duties.specs.Texts.{text_of};
-ghost use Rattle.duties.specs.declared.fault.AgentFault.TheVariants.{Device, Memory};
+ghost use Rattle.agents.specs.Texts.{text_of};
+ghost use Rattle.agents.specs.declared.fault.AgentFault.TheVariants.{Device, Memory};
 
 use endpoint::DeviceFailed;
 use std::alloc::AllocError;

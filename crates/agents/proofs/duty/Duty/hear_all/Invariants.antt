@@ -1,7 +1,7 @@
 use Rattle.std.proofs.Common.{◌≡◌}
 use Rattle.endpoint.specs.Devices.{NeverFall}
-use Rattle.duties.proofs.Hearings.{Heard}
-use Rattle.duties.proofs.duty.Duty.hear_all.Given as goal
+use Rattle.agents.proofs.Hearings.{Heard}
+use Rattle.agents.proofs.duty.Duty.hear_all.Given as goal
 
 abbrev pub invariant-loop-count : goal.invariant-loop-count
 invariant-loop-count g l = record {

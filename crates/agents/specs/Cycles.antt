@@ -2,9 +2,9 @@
 use Rattle.std.specs.Prelude.{◌≡◌, ◌⊎◌, ℕ, ◌+◌, ◌<◌, ◌≤◌, Bool, List, [], ◌∷◌, ◌++◌, length, Result, IfErr, IfOk, OnErr, OnOk}
 use Rattle.endpoint.specs.Devices.{Device, HasGrown}
 use Rattle.endpoint.specs.declared.datagrams.DeviceFailed.{DeviceFailed}
-use Rattle.duties.specs.Traffic.{Carries, IsPart, are_some}
-use Rattle.duties.specs.declared.fault.AgentFault.{AgentFault}
-use Rattle.duties.specs.declared.fault.AgentFault.TheVariants as faults
+use Rattle.agents.specs.Traffic.{Carries, IsPart, are_some}
+use Rattle.agents.specs.declared.fault.AgentFault.{AgentFault}
+use Rattle.agents.specs.declared.fault.AgentFault.TheVariants as faults
 
 pub record DutyState (D : Type 0) : Type 0 where
   pub device : D

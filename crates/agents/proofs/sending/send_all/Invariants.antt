@@ -1,6 +1,6 @@
 use Rattle.std.proofs.Common.{◌≡◌, ◌++◌, take}
 use Rattle.endpoint.specs.Devices.{NeverFall}
-use Rattle.duties.proofs.sending.send_all.Given as goal
+use Rattle.agents.proofs.sending.send_all.Given as goal
 
 abbrev pub invariant-loop-index : goal.invariant-loop-index
 invariant-loop-index g l = record {

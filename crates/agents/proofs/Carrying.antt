@@ -3,7 +3,7 @@ use Rattle.std.proofs.Common.{◌≡◌, ◌⊎◌, inl, inr, ℕ, zero, suc, �
 use Rattle.std.specs.Prelude.{slice_get}
 use Rattle.std.proofs.lemmas.List.{take-append-drop}
 use Rattle.endpoint.specs.Devices.{Device, HasGrown, NeverFall}
-use Rattle.duties.specs.Traffic.{Carries, IsPart}
+use Rattle.agents.specs.Traffic.{Carries, IsPart}
 
 take_one : (xs : List (List ℕ)) (i : ℕ) (b : List ℕ) → slice_get xs i ≡ Some b → take (suc i) xs ≡ take i xs ++ b ∷ []
 take_one [] i b h = absurd (cc)

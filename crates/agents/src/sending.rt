@@ -2,7 +2,7 @@
 
 ghost use Rattle.std.specs.Prelude.{◌≡◌};
 ghost use Rattle.endpoint.specs.Devices.{NeverFall};
-ghost use Rattle.duties.specs.Traffic.{SendsOut};
+ghost use Rattle.agents.specs.Traffic.{SendsOut};
 
 use endpoint::{Datagrams, DeviceFailed};
 use outbox::Outbox;

@@ -1,6 +1,6 @@
 use Rattle.std.proofs.Common.{◌∙◌}
-use Rattle.duties.proofs.Hearings.{came, err_is, front_is, one_answered, one_broken, one_lost, received_none, receive_failed}
-use Rattle.duties.proofs.duty.Duty.hear_next.Goals as goal
+use Rattle.agents.proofs.Hearings.{came, err_is, front_is, one_answered, one_broken, one_lost, received_none, receive_failed}
+use Rattle.agents.proofs.duty.Duty.hear_next.Goals as goal
 
 pub returns-in_err-length-clause-hears : goal.returns-in_err-length-clause-hears
 returns-in_err-length-clause-hears g c =

@@ -1,5 +1,5 @@
-use Rattle.duties.proofs.Hearings.{any_are_some, ticked_in_part, ticked_whole}
-use Rattle.duties.proofs.duty.Duty.tick.Goals as goal
+use Rattle.agents.proofs.Hearings.{any_are_some, ticked_in_part, ticked_whole}
+use Rattle.agents.proofs.duty.Duty.tick.Goals as goal
 
 pub returns-in_err-send_all-clause-ticks : goal.returns-in_err-send_all-clause-ticks
 returns-in_err-send_all-clause-ticks g c =

@@ -1,0 +1,32 @@
+//! A sender's core has duties, where its reads need no log that is lent to them.
+
+ghost use Rattle.std.specs.Prelude.{◌≡◌};
+
+use crate::party::Party;
+use flow_control::FlowControl;
+use frame_source::FrameSource;
+use outbox::Outbox;
+use sender::{SenderCore, SenderEvent};
+use std::alloc::AllocError;
+
+impl<R: FrameSource<()>, F: FlowControl + Drop> Party for SenderCore<R, F> {
+    ghost use Rattle.sender.specs.Sending.{Cycles, SendsFrom, at_moment};
+    ghost use Rattle.agents.specs.Parties.{SenderHears};
+
+    ghost stands = { λ s. R.stands s.reads tt × SendsFrom s (R.source s.reads tt) };
+
+    ghost mtu = { λ s. s.identity.geometry.mtu };
+
+    ghost hears = { λ s now bytes t given. SenderHears F.after_status F.reached (at_moment s now) (R.source s.reads tt) bytes t (R.source t.reads tt) given };
+
+    ghost ticks = { λ s now t given. Cycles R.grown F.after_tick F.reached (at_moment s now) (R.source s.reads tt) (R.source t.reads tt) t given };
+
+    fn hear(&mut self, datagram: &[u8], now: u64, outbox: &mut Outbox) -> Result<(), AllocError> {
+        self.step(&mut (), SenderEvent::Datagram(datagram), now, outbox);
+        Ok(())
+    }
+
+    fn tick(&mut self, now: u64, outbox: &mut Outbox) {
+        self.step(&mut (), SenderEvent::Tick, now, outbox);
+    }
+}
