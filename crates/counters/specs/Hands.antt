@@ -1,0 +1,16 @@
+-- What passes know, and how it changes.
+use Rattle.std.specs.Prelude.{true, false}
+use Rattle.counters.specs.declared.hand.Hand.{Hand}
+use Rattle.counters.specs.Order.{zeros}
+
+abbrev pub nobody : Hand
+nobody = record { publishes = false; known = zeros; told = zeros }
+
+abbrev pub first_writer : Hand
+first_writer = record { publishes = true; known = zeros; told = zeros }
+
+abbrev pub teller : Hand → Hand
+teller v = record { publishes = false; known = v.known; told = v.known }
+
+abbrev pub after_hearing : Hand → Hand → Hand
+after_hearing v w = record v { told = w.known }

@@ -1,0 +1,4 @@
+pub mod Order
+pub mod Hands
+pub mod Rule
+pub mod Parties
