@@ -60,9 +60,9 @@ impl Outcome<Readings, Hand> for Sees {
 }
 
 /// The pass publishes what stands in the cell after the step.
-pub struct Publishes;
+pub struct Puts;
 
-impl Outcome<Readings, Hand> for Publishes {
+impl Outcome<Readings, Hand> for Puts {
     ghost use Rattle.std.specs.Prelude.{◌≡◌};
     ghost use Rattle.counters.specs.Hands.{after_publishing};
 

@@ -3,7 +3,7 @@ ghost use Rattle.crossbeam_utils.specs.Seq.{IsSamePass, cell_view};
 ghost use Rattle.counters.specs.Order.{IsInOrder, IsAtMost, IsAmong, zeros};
 ghost use Rattle.counters.specs.Rule.{IsSeen};
 
-use crate::hand::{CellPass, Hears, Publishes, RuledCell, Sees, Tells};
+use crate::hand::{CellPass, Hears, Puts, RuledCell, Sees, Tells};
 use crate::parties::{CounterReader, CounterWriter};
 use crate::readings::Readings;
 use std::alloc::{AllocError, Global};
@@ -58,8 +58,7 @@ impl Counters {
         requires not_back { IsAtMost writer.old.last readings }
         ensures { writer.new ≡ record writer.old { last = readings; published = readings ∷ writer.old.published } }
     {
-        self.cell
-            .swap_as::<Publishes, R>(rt, &mut writer.seat, readings);
+        self.cell.swap_as::<Puts, R>(rt, &mut writer.seat, readings);
     }
 
     fn see<R: Wait>(&self, rt: &R, pass: &mut CellPass) -> Readings
