@@ -24,8 +24,8 @@ fn marks(step: u64) -> Readings
 
 /// Publishes the marks of all steps in turn.
 fn publish_all<R: Wait>(rt: &R, counters: &Counters, writer: &mut CounterWriter)
-    requires { writer.old ≡ record { counters = counters.now; last = zeros } }
-    ensures { writer.new ≡ record writer.old { last = record { least = 10000; rebuilt = 20000; high_water = 30000 } } }
+    requires { (writer.old.counters ≡ counters.now) × (writer.old.last ≡ zeros) }
+    ensures { (writer.new.counters ≡ writer.old.counters) × (writer.new.last ≡ record { least = 10000; rebuilt = 20000; high_water = 30000 }) }
 {
     for step in 0..TIMES {
         counters.publish(rt, writer, marks(step + 1));

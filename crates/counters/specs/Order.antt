@@ -1,5 +1,5 @@
 -- How readings stand to one another.
-use Rattle.std.specs.Prelude.{◌≤◌}
+use Rattle.std.specs.Prelude.{◌≡◌, ℕ, ◌≤◌, List, Some, slice_get}
 use Rattle.counters.specs.declared.readings.Readings.{Readings}
 
 -- before anything was published
@@ -13,3 +13,7 @@ IsInOrder r = (r.least ≤ r.rebuilt) × (r.rebuilt ≤ r.high_water)
 -- none of the three is more than in the other
 abbrev pub IsAtMost : Readings → Readings → Type 0
 IsAtMost r s = (r.least ≤ s.least) × (r.rebuilt ≤ s.rebuilt) × (r.high_water ≤ s.high_water)
+
+-- it is one of these
+abbrev pub IsAmong : Readings → List Readings → Type 0
+IsAmong r rs = (k : ℕ) × (slice_get rs k ≡ Some r)

@@ -4,6 +4,7 @@ use crate::readings::Readings;
 use atomic_table::{Join, Split};
 use crossbeam_utils::atomic::seq_cell::{Pass, RuledSeqCell};
 use crossbeam_utils::rule::{Outcome, Protocol};
+use std::collections::LinkedList;
 
 /// What a pass may do, and what it knows.
 pub struct Hand {
@@ -12,6 +13,8 @@ pub struct Hand {
     pub known: Readings,
     /// What it was told last.
     pub told: Readings,
+    /// What it has published, the last first, and the zeros before.
+    pub past: LinkedList<Readings>,
 }
 
 pub struct NeverBack;
@@ -54,6 +57,16 @@ impl Outcome<Readings, Hand> for Sees {
     ghost use Rattle.counters.specs.Rule.{IsSeen};
 
     ghost then = { IsSeen };
+}
+
+/// The pass publishes what stands in the cell after the step.
+pub struct Puts;
+
+impl Outcome<Readings, Hand> for Puts {
+    ghost use Rattle.std.specs.Prelude.{◌≡◌};
+    ghost use Rattle.counters.specs.Hands.{after_publishing};
+
+    ghost then = { λ v _ y w. w ≡ after_publishing v y };
 }
 
 pub type RuledCell = RuledSeqCell<Readings, Hand, NeverBack, 3>;

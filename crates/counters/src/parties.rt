@@ -14,7 +14,7 @@ impl Model for CounterWriter {
 
     ghost Value = { WriterSeen };
 
-    ghost view = { λ w. record { counters = w.seat.table_id; last = (cell_view w.seat).known } };
+    ghost view = { λ w. record { counters = w.seat.table_id; last = (cell_view w.seat).known; published = (cell_view w.seat).past } };
 
     ghost invariant = { λ w. (cell_view w.seat).publishes ≡ true };
 }

@@ -1,9 +1,9 @@
-ghost use Rattle.std.specs.Prelude.{◌≡◌, IfOk};
+ghost use Rattle.std.specs.Prelude.{◌≡◌, [], ◌∷◌, IfOk};
 ghost use Rattle.crossbeam_utils.specs.Seq.{IsSamePass, cell_view};
-ghost use Rattle.counters.specs.Order.{IsInOrder, IsAtMost, zeros};
+ghost use Rattle.counters.specs.Order.{IsInOrder, IsAtMost, IsAmong, zeros};
 ghost use Rattle.counters.specs.Rule.{IsSeen};
 
-use crate::hand::{CellPass, Hears, RuledCell, Sees, Tells};
+use crate::hand::{CellPass, Hears, Puts, RuledCell, Sees, Tells};
 use crate::parties::{CounterReader, CounterWriter};
 use crate::readings::Readings;
 use std::alloc::{AllocError, Global};
@@ -29,7 +29,7 @@ impl Model for Counters {
 impl Counters {
     /// Counters that stand at zero, and their one writer. The error comes only where memory was refused.
     pub fn new(alloc: Global) -> Result<(Counters, CounterWriter), AllocError>
-        ensures { IfOk result (λ r. r.1 ≡ record { counters = r.0; last = zeros }) }
+        ensures { IfOk result (λ r. r.1 ≡ record { counters = r.0; last = zeros; published = zeros ∷ [] }) }
     {
         let nothing = Readings {
             least: 0,
@@ -56,9 +56,9 @@ impl Counters {
         requires counters { writer.old.counters ≡ self.now }
         requires order { IsInOrder readings }
         requires not_back { IsAtMost writer.old.last readings }
-        ensures { writer.new ≡ record writer.old { last = readings } }
+        ensures { writer.new ≡ record writer.old { last = readings; published = readings ∷ writer.old.published } }
     {
-        self.cell.swap_as::<Sees, R>(rt, &mut writer.seat, readings);
+        self.cell.swap_as::<Puts, R>(rt, &mut writer.seat, readings);
     }
 
     fn see<R: Wait>(&self, rt: &R, pass: &mut CellPass) -> Readings
@@ -92,13 +92,15 @@ impl Counters {
         self.cell.join_pass::<Hears>(&mut reader.seat, report);
     }
 
-    /// Shows that the reader's last reading was no more than what the writer has published.
+    /// Shows that what the reader read last is one of those that were published, and no more than the last of them.
+    /// Before anything was published it is the zeros.
     pub fn confirm<R: Wait>(&self, rt: &R, reader: &mut CounterReader, writer: &mut CounterWriter)
         requires reader { reader.old.counters ≡ self.now }
         requires writer { writer.old.counters ≡ self.now }
         ensures reader { reader.new ≡ reader.old }
         ensures writer { writer.new ≡ writer.old }
-        ensures published { IsAtMost reader.old.last writer.old.last }
+        ensures published { IsAmong reader.old.last writer.old.published }
+        ensures no_more { IsAtMost reader.old.last writer.old.last }
     {
         let report = self.cell.split_pass::<Tells>(&mut reader.seat);
         self.cell.join_pass::<Hears>(&mut writer.seat, report);
