@@ -5,6 +5,7 @@
 mod crowd;
 #[cfg(test)]
 mod opening;
+mod parties;
 #[cfg(test)]
 mod publishing;
 #[cfg(test)]
@@ -15,3 +16,5 @@ mod stalls;
 mod streams;
 #[cfg(test)]
 mod walk;
+
+pub use parties::{Crew, Party};

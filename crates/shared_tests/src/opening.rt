@@ -6,8 +6,8 @@ ghost use Rattle.log_reading.specs.Readers.{IsReaderOf};
 ghost use Rattle.shared_log.specs.Handles.{AreNew, IsOf};
 ghost use Rattle.shared_tests.specs.Parties.{IsCrew, IsParty};
 
-use crate::stalls::Crew;
-use crate::streams::{PUBLISHERS, Party};
+use crate::parties::{Crew, Party};
+use crate::streams::PUBLISHERS;
 use block::Block;
 use log_keeping::{clean_and_limit, set_connected};
 use log_parts::{Parts, open};

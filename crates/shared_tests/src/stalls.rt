@@ -5,25 +5,16 @@ ghost use Rattle.log_reading.specs.Readers.{IsReaderOf};
 ghost use Rattle.shared_tests.specs.Parties.{IsCrew};
 
 use crate::opening::open_crew;
+use crate::parties::Crew;
 use crate::publishing::publish_offer;
 use crate::rows::count_and_tails;
-use block::Block;
-use log_keeping::{Keeper, clean_and_limit};
-use log_reading::{LogReader, advance, next};
-use shared_log::{Log, OnLog, Publisher};
+use log_keeping::clean_and_limit;
+use log_reading::{advance, next};
+use shared_log::{Log, OnLog};
 use std::alloc::Global;
 use std::process::Abort;
 use std::test::*;
 use word_calls::{Look, Refusal, add_range, look_at};
-
-/// What a log needs that goes on.
-#[derive(Drop)]
-pub(crate) struct Crew {
-    pub(crate) publisher: Publisher,
-    pub(crate) reader: LogReader,
-    pub(crate) keeper: Keeper,
-    pub(crate) block: Block,
-}
 
 /// Offers a message of 992 bytes; the reader and the keeper follow.
 fn follow_one(log: &Log, crew: &mut Crew) -> Result<u64, Refusal>

@@ -7,6 +7,7 @@ ghost use Rattle.log_reading.specs.Readers.{IsReaderOf};
 ghost use Rattle.shared_tests.specs.Parties.{IsParty};
 
 use crate::opening::open_streams;
+use crate::parties::Party;
 use crate::publishing::publish_offer;
 use block::Block;
 use log_keeping::{Keeper, clean_and_limit};
@@ -30,14 +31,6 @@ const TRIES: u32 = 100_000_000;
 
 /// The longest message.
 const LONGEST: usize = 900;
-
-/// Who has a thread.
-#[derive(Drop)]
-pub(crate) enum Party {
-    Publishing(Publisher),
-    Reading { reader: LogReader, block: Block },
-    Keeping(Keeper),
-}
 
 /// What a thread saw: how many messages of each publisher, or that something was wrong.
 #[derive(Clone, Copy, Debug, PartialEq, Eq)]
