@@ -16,7 +16,7 @@ returns-clause-ready c =
       lanes = new_lanes l 0 xs new c.lanes_of.ensures.none;
       none = c.lanes_of.ensures.none;
       whole = new_parts l xs new;
-      keeper = kept_on l _ _ _ c.clean_and_limit.ensures.done.keeps (kept_on l _ _ _ c.set_connected.ensures (new_kept l _ p.keeper_is));
+      keeper = kept_on l _ _ _ c.clean_and_limit.ensures.done.keeps (kept_on l _ _ _ c.set_connected.ensures.keeps (new_kept l _ p.keeper_is));
       readers = new_readers l 0 rs p.readers_are (let all = p.all in from (length rs) l.consumers all);
       one = one;
     }
