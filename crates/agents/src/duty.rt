@@ -82,7 +82,7 @@ impl<D: Datagrams> Duty<D> {
         ensures counts { NeverFall (D.device self.old.device) (D.device self.new.device) }
         ensures hears { Hearing P.hears now (D.tells self.old.device) 1 party.old (D.device self.old.device) result party.new (D.device self.new.device) }
         ensures stands { P.stands party.new }
-        ensures size { self.new.mtu ≡ P.mtu party.new }
+        ensures size { (self.new.mtu ≡ self.old.mtu) × (P.mtu party.new ≡ P.mtu party.old) }
         ensures still_tells { D.tells self.old.device → D.tells self.new.device }
     {
         let Some(length) = self.device.recv(self.buffer.as_mut_slice())? else {
@@ -101,7 +101,7 @@ impl<D: Datagrams> Duty<D> {
         ensures counts { NeverFall (D.device self.old.device) (D.device self.new.device) }
         ensures hears { Hearing P.hears now (D.tells self.old.device) 16 party.old (D.device self.old.device) result party.new (D.device self.new.device) }
         ensures stands { P.stands party.new }
-        ensures size { self.new.mtu ≡ P.mtu party.new }
+        ensures size { (self.new.mtu ≡ self.old.mtu) × (P.mtu party.new ≡ P.mtu party.old) }
         ensures still_tells { D.tells self.old.device → D.tells self.new.device }
     {
         for count in 0..DATAGRAMS {
@@ -120,7 +120,7 @@ impl<D: Datagrams> Duty<D> {
         ensures nones { (D.device self.new.device).nones ≡ (D.device self.old.device).nones }
         ensures ticks { Ticking P.ticks now (D.tells self.old.device) party.old (D.device self.old.device) result party.new (D.device self.new.device) }
         ensures stands { P.stands party.new }
-        ensures size { self.new.mtu ≡ P.mtu party.new }
+        ensures size { (self.new.mtu ≡ self.old.mtu) × (P.mtu party.new ≡ P.mtu party.old) }
         ensures still_tells { D.tells self.old.device → D.tells self.new.device }
     {
         party.tick(now, &mut self.outbox);
@@ -139,7 +139,7 @@ impl<D: Datagrams> Duty<D> {
         ensures cycle { IfOk result (λ busy. Cycle P.hears P.ticks now (D.tells self.old.device) party.old (D.device self.old.device) busy party.new (D.device self.new.device)) }
         ensures fault { IfErr result (λ fault. Fault P.hears P.ticks now (D.tells self.old.device) fault party.old (D.device self.old.device) party.new (D.device self.new.device)) }
         ensures stands { P.stands party.new }
-        ensures size { self.new.mtu ≡ P.mtu party.new }
+        ensures size { (self.new.mtu ≡ self.old.mtu) × (P.mtu party.new ≡ P.mtu party.old) }
         ensures still_tells { D.tells self.old.device → D.tells self.new.device }
     {
         let heard = self.hear_all(party, now)?;

@@ -1,4 +1,4 @@
-use Rattle.std.proofs.Common.{arith}
+use Rattle.std.proofs.Common.{◌≡◌, ◌∙◌, refl, arith}
 use Rattle.agents.proofs.Carrying.{never_fall_on}
 use Rattle.agents.proofs.Hearings.{err_is, heard_all, heard_few, heard_none, heard_until, one_heard}
 use Rattle.agents.proofs.duty.Duty.hear_all.Goals as goal
@@ -8,7 +8,7 @@ loop-count-init g c = record {
   counts = record { failures = omega arith; nones = omega arith };
   heard = heard_none g.P.Party.hears c.args.now _ _ _;
   stands = c.requires.stands;
-  size = c.requires.size;
+  size = (refl, refl);
   tells = λ t. t;
 }
 
@@ -20,7 +20,7 @@ loop-count-preserved g c =
       counts = never_fall_on _ _ _ l.counts e.counts;
       heard = one_heard g.P.Party.hears c.args.now _ _ _ c.in_ok-hear_next.field-0 _ _ _ _ _ _ c.if-branch-eq0.false l.tells l.heard e.hears;
       stands = e.stands;
-      size = e.size;
+      size = (e.size.0 ∙ l.size.0, e.size.1 ∙ l.size.1);
       tells = λ t. e.still_tells (l.tells t);
     }
 
