@@ -1,0 +1,160 @@
+//! A log with its publisher and its sender, and a subscriber, with devices in memory between them.
+
+ghost use Rattle.std.specs.Prelude.{◌≡◌, ◌≤◌, ◌<◌, IfOk, length};
+ghost use Rattle.theory.specs.Position.{max_message};
+ghost use Rattle.shared_log.specs.Handles.{IsOf};
+ghost use Rattle.log_parts.specs.Parts.{IsNewReader};
+ghost use Rattle.agent_tests.specs.Senders.{IsFirstLog, IsSender};
+
+use agents::{AgentFault, Duty, REPLY};
+use endpoint::{Datagrams, MemoryDevice};
+use flow_control::UnicastFlow;
+use frames::{Frame, Status, write_frame};
+use log_keeping::{clean_and_limit, set_connected};
+use log_parts::{Parts, open};
+use log_reading::{LogFrames, LogReader};
+use position::Geometry;
+use receiver::{ReceiverCore, Subscriber};
+use sender::{Denied, SenderCore};
+use shared_log::{Log, OnLog, Publisher};
+use std::alloc::Global;
+use std::test::*;
+use word_calls::{Refusal, offer};
+
+/// The sender of these tests.
+pub(crate) type Sender<'a> = SenderCore<LogFrames<'a>, UnicastFlow>;
+
+/// A log with terms of 65,536 bytes that begins at 0, connected, with its limit half a term above that; its first
+/// publisher and its one reader.
+pub(crate) fn open_log(alloc: Global) -> Result<(Log, Publisher, LogReader), Fail>
+    ensures publisher { IfOk result (λ r. IsOf r.0 r.1) }
+    ensures reader { IfOk result (λ r. IsNewReader r.0 0 r.2) }
+    ensures log { IfOk result (λ r. IsFirstLog r.0) }
+{
+    let geometry = Geometry::new(65_536, 1408, 7)?;
+    let (log, parts) = open(alloc, geometry, 1, 1001, 0, 1)?;
+    let Parts {
+        publishers,
+        mut readers,
+        mut keeper,
+    } = parts;
+    set_connected(&log, &mut keeper, true);
+    clean_and_limit(&log, &mut keeper);
+    let mut publishers = Vec::from_array(alloc, publishers)?;
+    let first = publishers.remove(0);
+    Ok((log, first, readers.remove(0)))
+}
+
+/// A sender that has sent nothing yet.
+pub(crate) fn open_sender<'a>(
+    alloc: Global,
+    log: &'a Log,
+    reader: LogReader,
+) -> Result<Sender<'a>, Fail>
+    requires reader { IsNewReader log.now 0 reader }
+    requires log { IsFirstLog log.now }
+    ensures { IfOk result (λ s. IsSender s) }
+{
+    let geometry = log.identity().geometry();
+    let reads = LogFrames { log, reader };
+    let flow = UnicastFlow::new(0);
+    match SenderCore::new(alloc, geometry, 1, 1001, 0, reads, flow) {
+        Ok(sender) => Ok(sender),
+        Err(Denied { reads, flow: _ }) => {
+            let LogFrames { log: _, reader: _ } = reads;
+            Err("no memory".into())
+        }
+    }
+}
+
+/// Lets a sender go.
+pub(crate) fn ended(sender: Sender<'_>) {
+    let LogFrames { log: _, reader: _ } = sender.into_reads();
+}
+
+/// A subscriber that has no image yet.
+pub(crate) fn listening(alloc: Global) -> Result<Subscriber, Fail> {
+    let core = ReceiverCore::new(alloc, 1, 1001, 32_768, 3, 1);
+    Ok(Subscriber::new(alloc, core, 8192)?)
+}
+
+/// Offers a message of so many bytes, all of this value. The answer is the position behind it.
+pub(crate) fn publish(
+    log: &Log,
+    publisher: &mut Publisher,
+    value: u8,
+    size: usize,
+) -> Result<u64, Refusal>
+    requires fits { IsOf log.now publisher.old }
+    ensures { IsOf log.now publisher.new }
+{
+    let most = log.identity().geometry().max_message() as usize;
+    let message = [value; 1376];
+    offer(
+        &mut OnLog::new(log),
+        publisher,
+        &message[..size.min(1376).min(most)],
+    )
+}
+
+/// A device to which these datagrams have come.
+pub(crate) fn device_with(alloc: Global, datagrams: &[Vec<u8>]) -> Result<MemoryDevice, Fail> {
+    let mut device = MemoryDevice::new(alloc);
+    for datagram in datagrams {
+        device.put(datagram)?;
+    }
+    Ok(device)
+}
+
+/// A status message that says that a consumer stands at 0, with a window of half a term.
+pub(crate) fn status(alloc: Global) -> Result<Vec<u8>, Fail> {
+    let mut bytes = [0; 36];
+    let status = Status {
+        session: 1,
+        stream: 1001,
+        term_id: 7,
+        term_offset: 0,
+        window: 32_768,
+        receiver: 3,
+    };
+    write_frame(
+        &Frame::Status {
+            asks: false,
+            status,
+        },
+        &mut bytes,
+    );
+    Ok(Vec::from_slice(alloc, &bytes)?)
+}
+
+/// A sender's cycle over a device.
+pub(crate) fn send<D: Datagrams + Drop>(
+    alloc: Global,
+    sender: &mut Sender<'_>,
+    device: D,
+    now: u64,
+) -> Result<(Result<bool, AgentFault>, Duty<D>), Fail>
+    requires { IsSender sender.old }
+    ensures { IsSender sender.new }
+{
+    let Ok(mut duty) = Duty::new(alloc, device, 1408) else {
+        return Err("no memory".into());
+    };
+    let answer = duty.cycle(sender, now);
+    Ok((answer, duty))
+}
+
+/// A subscriber's cycle over a device to which these datagrams have come.
+pub(crate) fn receive(
+    alloc: Global,
+    subscriber: &mut Subscriber,
+    datagrams: &[Vec<u8>],
+    now: u64,
+) -> Result<(Result<bool, AgentFault>, Duty<MemoryDevice>), Fail> {
+    let device = device_with(alloc, datagrams)?;
+    let Ok(mut duty) = Duty::new(alloc, device, REPLY) else {
+        return Err("no memory".into());
+    };
+    let answer = duty.cycle(subscriber, now);
+    Ok((answer, duty))
+}
