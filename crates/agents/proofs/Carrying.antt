@@ -1,5 +1,5 @@
 -- What devices carry, one part after the other.
-use Rattle.std.proofs.Common.{◌≡◌, ◌⊎◌, inl, inr, ℕ, zero, suc, ◌+◌, ◌<◌, ◌≤◌, List, [], ◌∷◌, ◌++◌, length, take, drop, Some, None, eq-or-lt_of_le, sym, ap, ◌∙◌, arith, append-nil, append_assoc}
+use Rattle.std.proofs.Common.{◌≡◌, ◌⊎◌, inl, inr, ℕ, zero, suc, ◌+◌, ◌<◌, ◌≤◌, List, [], ◌∷◌, ◌++◌, take, drop, Some, eq-or-lt_of_le, sym, ap, ◌∙◌, arith, append-nil, append_assoc}
 use Rattle.std.specs.Prelude.{slice_get}
 use Rattle.std.proofs.lemmas.List.{take-append-drop}
 use Rattle.endpoint.specs.Devices.{Device, HasGrown, NeverFall}
@@ -10,20 +10,11 @@ take_one [] i b h = absurd (cc)
 take_one (x ∷ xs) zero b h = let same : x ≡ b = cc in ap (λ y. y ∷ []) same
 take_one (x ∷ xs) (suc i) b h = ap (λ ys. x ∷ ys) (take_one xs i b h)
 
-none_past : (xs : List (List ℕ)) (i : ℕ) → slice_get xs i ≡ None → length xs ≤ i
-none_past [] i e = omega arith
-none_past (x ∷ xs) zero e = absurd (cc)
-none_past (x ∷ xs) (suc i) e = omega (arith, none_past xs i e)
-
 -- one more was sent
 pub sent_one : (old mid new all : List (List ℕ)) (i : ℕ) (b : List ℕ) → mid ≡ old ++ take i all → slice_get all i ≡ Some b → new ≡ mid ++ b ∷ [] → new ≡ old ++ take (i + 1) all
 sent_one old mid new all i b h found more =
     let next : i + 1 ≡ suc i = omega arith in
     more ∙ ap (λ xs. xs ++ b ∷ []) h ∙ append_assoc old (take i all) (b ∷ []) ∙ ap (λ xs. old ++ xs) (sym (ap (λ k. take k all) next ∙ take_one all i b found))
-
--- there was none to send
-pub sent_same : (old mid all : List (List ℕ)) (i : ℕ) → mid ≡ old ++ take i all → i < length all → slice_get all i ≡ None → mid ≡ old ++ take (i + 1) all
-sent_same old mid all i h low none = absurd (omega (arith, low, none_past all i none))
 
 pub first_part : (all : List (List ℕ)) (i : ℕ) → IsPart all (take i all)
 first_part all i = record { unsent = drop i all; parts = sym (take-append-drop i all) }

@@ -1,4 +1,4 @@
-use Rattle.std.proofs.Common.{◌≡◌, ◌∙◌, refl, arith}
+use Rattle.std.proofs.Common.{◌∙◌, refl, arith}
 use Rattle.agents.proofs.Carrying.{never_fall_on}
 use Rattle.agents.proofs.Hearings.{err_is, heard_all, heard_few, heard_none, heard_until, one_heard}
 use Rattle.agents.proofs.duty.Duty.hear_all.Goals as goal
