@@ -1,5 +1,5 @@
 -- Frames that a poll reads, one after the other.
-use Rattle.std.proofs.Common.{◌≡◌, ◌↔◌, ℕ, inl, inr, ⊎_elim, List, [], ◌∷◌, ◌++◌, arith, true, false, Option, Some, None, Ok, Err, refl, sym, ap, ap₂, ◌∙◌, subst, append-nil}
+use Rattle.std.proofs.Common.{◌≡◌, ◌↔◌, ◌≤◌, ℕ, inl, inr, ⊎_elim, List, [], ◌∷◌, ◌++◌, arith, true, false, Option, Some, None, Ok, Err, refl, sym, ap, ap₂, ◌∙◌, subst, append-nil}
 use Rattle.std.specs.Prelude.{is_some, map}
 use Rattle.std.specs.Option.{option_to_list}
 use Rattle.std.specs.List.{AllByRecursion}
@@ -12,6 +12,7 @@ use Rattle.theory.specs.Consumer.{Consumer, moved, passed_by}
 use Rattle.theory.specs.Image.{Image}
 use Rattle.theory.proofs.Lists.{all_append}
 use Rattle.theory.proofs.Follow.{Chain-push}
+use Rattle.theory.proofs.Leasts.{fold_first}
 use Rattle.assembler.specs.Assembling.{Assembling}
 use Rattle.receiver.specs.Polling.{Answer, IsTooLong, PollsOf, PollsWhole, ReadsFrames, StaysShort, StopsAt, TellsOf, TellsPositions, gives, moved_all, passed_all, with_consumer}
 use Rattle.receiver.specs.declared.poll_error.PollError.TheVariants.{NoImage, Unassembled}
@@ -277,6 +278,11 @@ ends_fault None r v w fault h seats refused = absurd h
 ends_fault (Some o) r v w fault h seats refused = polls_fault o r v w fault h seats refused
 
 -- ---- what the image tells
+
+-- the least of positions none of which is above here
+pub least_within : (join q : ℕ) (ps : List ℕ) → AllByRecursion (λ p. (join ≤ p) × (p ≤ q)) ps → seen.least ps ≤ q
+least_within join q [] all = omega arith
+least_within join q (p ∷ ps) all = omega (arith, fold_first p ps, all.0.1)
 
 abbrev positions_at : ℕ → ℕ → ℕ → Positions
 positions_at least q high = record { least = least; rebuilt = q; high_water = high }

@@ -149,7 +149,8 @@ impl Subscriber {
 
     /// Where the consumer stands, and how far the image is rebuilt. There is nothing to tell without an image.
     pub fn positions(&self) -> Option<Positions>
-        ensures { (r : Receiver) → RepresentsSubscriber self.now r → TellsPositions r result }
+        ensures told { (r : Receiver) → RepresentsSubscriber self.now r → TellsPositions r result }
+        ensures order { IfSome result (λ p. (p.least ≤ p.rebuilt) × (p.rebuilt ≤ p.high_water)) }
     {
         match self.core.image() {
             None => None,

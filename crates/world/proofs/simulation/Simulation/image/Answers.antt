@@ -11,4 +11,4 @@ returns g c =
     let before = c.args.lines.now.items in
     let after = c.add.new.lines.items in
     on_ok_weaker c.add.result (λ told. unchanged _ _ (commands.Image k) before after c.self.view_is
-    (image_answered _ k c.index.result.now c.positions-positions.result c.positions_line.result before after (seat_at c.self.inside.subscribers.items k c.index.result.now _ c.index.ensures (search rules)) c.positions-positions.ensures c.positions_line.ensures told)) c.add.ensures
+    (image_answered _ k c.index.result.now c.positions-positions.result c.positions_line.result before after (seat_at c.self.inside.subscribers.items k c.index.result.now _ c.index.ensures (search rules)) c.positions-positions.ensures.told c.positions_line.ensures told)) c.add.ensures
