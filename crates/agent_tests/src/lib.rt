@@ -4,4 +4,6 @@
 #[cfg(test)]
 mod failing;
 #[cfg(test)]
+mod reading;
+#[cfg(test)]
 mod way;

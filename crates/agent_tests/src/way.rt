@@ -1,7 +1,9 @@
 //! A log with its publisher and its sender, and a subscriber, with devices in memory between them.
 
-ghost use Rattle.std.specs.Prelude.{◌≡◌, ◌≤◌, ◌<◌, IfOk, length};
+ghost use Rattle.std.specs.Prelude.{◌≡◌, ◌≤◌, ◌<◌, None, IfOk, length};
 ghost use Rattle.theory.specs.Position.{max_message};
+ghost use Rattle.receiver.specs.Receiving.{Receiver};
+ghost use Rattle.receiver.specs.Subscribing.{RepresentsSubscriber};
 ghost use Rattle.shared_log.specs.Handles.{IsOf};
 ghost use Rattle.log_parts.specs.Parts.{IsNewReader};
 ghost use Rattle.agent_tests.specs.Senders.{IsFirstLog, IsSender};
@@ -73,7 +75,9 @@ pub(crate) fn ended(sender: Sender<'_>) {
 }
 
 /// A subscriber that has no image yet.
-pub(crate) fn listening(alloc: Global) -> Result<Subscriber, Fail> {
+pub(crate) fn listening(alloc: Global) -> Result<Subscriber, Fail>
+    ensures { IfOk result (λ s. (r : Receiver) × RepresentsSubscriber s r × (r.image ≡ None)) }
+{
     let core = ReceiverCore::new(alloc, 1, 1001, 32_768, 3, 1);
     Ok(Subscriber::new(alloc, core, 8192)?)
 }
