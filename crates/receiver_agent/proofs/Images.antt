@@ -1,5 +1,5 @@
 -- An image that has come as far as some readings stays so.
-use Rattle.std.proofs.Common.{◌≡◌, ℕ, ◌+◌, ◌*◌, ◌/◌, ◌<◌, ◌≤◌, min, inl, inr, ⊎_elim, List, [], ◌∷◌, ◌++◌, true, false, Option, None, Some, Ok, Err, refl, sym, ap, subst, arith, le_refl, zero-le}
+use Rattle.std.proofs.Common.{◌≡◌, ℕ, ◌+◌, ◌*◌, ◌/◌, ◌<◌, ◌≤◌, min, inl, inr, ⊎_elim, List, [], ◌∷◌, ◌++◌, true, false, Option, None, Some, Ok, Err, sym, subst, arith, le_refl, zero-le}
 use Rattle.std.specs.Prelude.{ℤ, pos, negsuc, nat_le, nat_lt}
 use Rattle.std.proofs.lemmas.Bool.{and_parts, cases_Bool, cases_lt, cond-false, cond-true, ltb-true}
 use Rattle.std.proofs.lemmas.Option.{same_Some}

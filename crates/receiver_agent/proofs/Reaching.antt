@@ -56,7 +56,7 @@ met_keeps k r (SETUP f) out s met = ours_keeps k r f.session f.stream _ out s (s
 
 all_keep : (k : Readings) (r : Receiver) (ws : List Wire) (outs : List Outcome) (s : Receiver) → MeetsAll r ws outs s → Keeps k r s
 all_keep k r [] outs s met = keeps_same k r s (ap (λ (x : Receiver). x.image) met.1)
-all_keep k r (w ∷ ws) outs s met h = all_keep k met.1 ws met.2 s met.5 (met_keeps k r w met.0 met.1 met.3 h)
+all_keep k r (w ∷ ws) outs s met = λ h. all_keep k met.1 ws met.2 s met.5 (met_keeps k r w met.0 met.1 met.3 h)
 
 datagram_keeps : (k : Readings) (r : Receiver) (now : ℕ) (bytes : List ℕ) (outs : List Outcome) (s : Receiver) → TakesDatagram r now bytes outs s → Keeps k r s
 datagram_keeps k r now bytes outs s (inl met) = all_keep k (at_moment r now) met.0 outs s met.2
