@@ -94,7 +94,10 @@ fn read_cycles<N: Named + Send + Sync, R: Abort + Wait>(
     let opened = read_after(rt, alloc, counters, &mut agent, reader, &datagrams)?;
     assert!(rt; matches!(agent.poll(), Ok(Some(_))));
     let polled = read_after(rt, alloc, counters, &mut agent, reader, &[])?;
-    assert_eq!(rt; [before, opened, polled], [[0, 0, 0], [0, 2816, 2816], [1408, 2816, 2816]]);
+    assert_eq!(rt;
+        [before, opened, polled],
+        [[0, 0, 0], [0, 2816, 2816], [1408, 2816, 2816]]
+    );
     Ok(())
 }
 
