@@ -2,6 +2,10 @@
 #![tactic(auto)]
 
 #[cfg(test)]
+mod asking;
+#[cfg(test)]
 mod failing;
+#[cfg(test)]
+mod hundred;
 #[cfg(test)]
 mod way;
