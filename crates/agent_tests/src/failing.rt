@@ -1,7 +1,7 @@
 ghost use Rattle.agent_tests.specs.Senders.{IsSender};
 
 use crate::way::{
-    Sender, device_with, ended, listening, open_log, open_sender, publish, receive, send, status,
+    Sender, device_with, listening, open_log, open_sender, publish, receive, send, status,
 };
 use agents::AgentFault;
 use endpoint::{FailingDatagrams, MemoryDevice};
@@ -42,7 +42,7 @@ fn sent_before_fault<R: Abort>(
     requires { IsSender sender.old }
     ensures { IsSender sender.new }
 {
-    let device = device_with(alloc, &[status(alloc)?])?;
+    let device = device_with(alloc, &[status(alloc, false)?])?;
     let broken = FailingDatagrams::new(device, 4);
     let (answer, duty) = send(alloc, sender, broken, 0)?;
     assert_eq!(rt; answer, Err(AgentFault::Device));
@@ -119,7 +119,5 @@ fn second_send_fails(rt: HostRuntime) -> Result<(), Fail> {
     assert_eq!(rt; publish(&log, &mut publisher, 2, 1376), Ok(2816));
     let mut subscriber = listening(alloc)?;
     let mut sender = open_sender(alloc, &log, reader)?;
-    let answer = mend(&rt, alloc, &mut sender, &mut subscriber);
-    ended(sender);
-    answer
+    mend(&rt, alloc, &mut sender, &mut subscriber)
 }

@@ -2,7 +2,11 @@
 #![tactic(auto)]
 
 #[cfg(test)]
+mod asking;
+#[cfg(test)]
 mod failing;
+#[cfg(test)]
+mod hundred;
 #[cfg(test)]
 mod reading;
 #[cfg(test)]

@@ -17,7 +17,7 @@ use log_parts::{Parts, open};
 use log_reading::{LogFrames, LogReader};
 use position::Geometry;
 use receiver::{ReceiverCore, Subscriber};
-use sender::{Denied, SenderCore};
+use sender::SenderCore;
 use shared_log::{Log, OnLog, Publisher};
 use std::alloc::Global;
 use std::test::*;
@@ -62,16 +62,8 @@ pub(crate) fn open_sender<'a>(
     let flow = UnicastFlow::new(0);
     match SenderCore::new(alloc, geometry, 1, 1001, 0, reads, flow) {
         Ok(sender) => Ok(sender),
-        Err(Denied { reads, flow: _ }) => {
-            let LogFrames { log: _, reader: _ } = reads;
-            Err("no memory".into())
-        }
+        Err(_) => Err("no memory".into()),
     }
-}
-
-/// Lets a sender go.
-pub(crate) fn ended(sender: Sender<'_>) {
-    let LogFrames { log: _, reader: _ } = sender.into_reads();
 }
 
 /// A subscriber that has no image yet.
@@ -110,8 +102,8 @@ pub(crate) fn device_with(alloc: Global, datagrams: &[Vec<u8>]) -> Result<Memory
     Ok(device)
 }
 
-/// A status message that says that a consumer stands at 0, with a window of half a term.
-pub(crate) fn status(alloc: Global) -> Result<Vec<u8>, Fail> {
+/// A status message that says that a consumer stands at 0, with a window of half a term. It asks for a SETUP, or not.
+pub(crate) fn status(alloc: Global, asks: bool) -> Result<Vec<u8>, Fail> {
     let mut bytes = [0; 36];
     let status = Status {
         session: 1,
@@ -121,13 +113,7 @@ pub(crate) fn status(alloc: Global) -> Result<Vec<u8>, Fail> {
         window: 32_768,
         receiver: 3,
     };
-    write_frame(
-        &Frame::Status {
-            asks: false,
-            status,
-        },
-        &mut bytes,
-    );
+    write_frame(&Frame::Status { asks, status }, &mut bytes);
     Ok(Vec::from_slice(alloc, &bytes)?)
 }
 

@@ -1,8 +1,8 @@
 //! The command queue: eight clients hand commands to the one who conducts the stream.
 //!
 //! The queue holds at most 64 commands. What a client has submitted is taken in its order, each command once; between
-//! clients no order is promised. Passes stand for the parties: a client, the taker. They exist for the proofs and end
-//! in `finish`.
+//! clients no order is promised. Passes stand for the parties: a client, the taker. They exist for the proofs, and `finish`
+//! takes them all.
 #![tactic(auto)]
 
 mod command;

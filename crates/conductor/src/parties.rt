@@ -3,7 +3,9 @@ ghost use Rattle.std.specs.Prelude.{◌≡◌, ◌<◌};
 use crate::hand::QueuePass;
 use std::marker::Model;
 
-/// One of the eight clients of a queue. It may go to a thread of its own, and ends in `finish`.
+/// One of the eight clients of a queue. It may go to a thread of its own, and ends in `finish`. One that is dropped can't
+/// be handed to `finish` any more; nothing else follows.
+#[derive(Drop)]
 pub struct Client {
     pub(crate) number: usize,
     pub(crate) seat: QueuePass,
@@ -31,7 +33,9 @@ impl Client {
     }
 }
 
-/// The one who takes the commands of a queue. It may go to a thread of its own, and ends in `finish`.
+/// The one who takes the commands of a queue. It may go to a thread of its own, and ends in `finish`. One that is dropped
+/// can't be handed to `finish` any more; nothing else follows.
+#[derive(Drop)]
 pub struct Taker {
     pub(crate) seat: QueuePass,
 }

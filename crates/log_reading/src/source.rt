@@ -11,6 +11,7 @@ use position::FrameHead;
 use shared_log::Log;
 
 /// The committed frames of a log that threads share, as one of its readers gets them. Nothing is lent to it at a call.
+#[derive(Drop)]
 pub struct LogFrames<'a> {
     pub log: &'a Log,
     pub reader: LogReader,

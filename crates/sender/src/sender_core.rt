@@ -67,6 +67,7 @@ impl fmt::Display for SenderAnswer {
 }
 
 /// Why a sender wasn't made: memory was refused. It gives back what it was given.
+#[derive(Drop)]
 pub struct Denied<R, F> {
     pub reads: R,
     pub flow: F,
@@ -76,6 +77,7 @@ pub struct Denied<R, F> {
 const HEARTBEAT_INTERVAL: u64 = 100_000_000;
 
 /// Sends the committed frames of one log, again what got lost, its SETUPs and heartbeats.
+#[derive(Drop)]
 pub struct SenderCore<R, F> {
     identity: Identity,
     reads: R,
@@ -154,6 +156,13 @@ impl<R, F: FlowControl + Drop> SenderCore<R, F> {
             clock: _,
         } = self;
         reads
+    }
+
+    /// Whether a status message has come that doesn't ask for a SETUP.
+    pub fn has_heard(&self) -> bool
+        ensures { result ≡ self.now.naming.heard }
+    {
+        self.setup.heard()
     }
 
     /// Does what an event asks for, at a moment in nanoseconds. The outbox is emptied, and then holds what goes out.
