@@ -1,0 +1,4 @@
+pub mod Defaults
+pub mod Plans
+pub mod Ranges
+pub mod Texts
