@@ -4,9 +4,7 @@ ghost use Rattle.std.specs.Prelude.{◌≡◌};
 ghost use Rattle.agent_tests.specs.Senders.{IsSender};
 ghost use Rattle.counters.specs.Order.{zeros};
 
-use crate::way::{
-    Sender, device_with, ended, listening, open_log, open_sender, publish, send, status,
-};
+use crate::way::{Sender, device_with, listening, open_log, open_sender, publish, send, status};
 use agents::{Duty, REPLY};
 use counters::{CounterReader, CounterWriter, Counters};
 use receiver_agent::{Named, ReceiverAgent};
@@ -40,7 +38,7 @@ fn sent_by(alloc: Global, sender: &mut Sender<'_>) -> Result<Vec<Vec<u8>>, Fail>
 {
     let mut kept = Vec::new(alloc);
     keep_sent(alloc, sender, &[], &mut kept)?;
-    keep_sent(alloc, sender, &[status(alloc)?], &mut kept)?;
+    keep_sent(alloc, sender, &[status(alloc, false)?], &mut kept)?;
     Ok(kept)
 }
 
@@ -51,7 +49,6 @@ fn two_frames(alloc: Global) -> Result<Vec<Vec<u8>>, Fail> {
     let _ = publish(&log, &mut publisher, 2, 1376);
     let mut sender = open_sender(alloc, &log, reader)?;
     let datagrams = sent_by(alloc, &mut sender);
-    ended(sender);
     datagrams
 }
 
