@@ -569,7 +569,7 @@ fn flushes(rt: HostRuntime) {
 const HELP_TEXT: &str =
     "A media driver with concurrent publications (--version tells which)\n\nUsage: mdriver <COMMAND>\n\nCommands:\n  sim     Play the script on standard input\n  decode  Print the frames of a datagram\n  help    Print this message or the help of the given subcommand(s)\n\nOptions:\n  -h, --help  Print help\n";
 
-const VERSION_TEXT: &str = "mdriver 0.1.0, proved with rattle-kit-13f logic dac8208d650f15bf\n";
+const VERSION_TEXT: &str = "mdriver 0.1.0, proved with rattle-kit-13b logic dac8208d650f15bf\n";
 
 const NO_COMMAND: &str =
     "error: 'mdriver' requires a subcommand but one was not provided\n  [subcommands: sim, decode, help]\n\nUsage: mdriver <COMMAND>\n\nFor more information, try '--help'.\n";

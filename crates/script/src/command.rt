@@ -1,14 +1,14 @@
 ghost use Rattle.std.specs.Prelude.{◌<◌};
 
 /// The number of a publisher, a reader or a receiver: 0 to 7.
-#[derive(Clone, Copy, Debug, PartialEq, Eq)]
+#[derive(Clone, Copy)]
 pub struct PartyNumber {
     pub number: usize,
     pub ghost in_range: { number < 8 },
 }
 
 /// What the log is opened with.
-#[derive(Clone, Copy, Debug, PartialEq, Eq)]
+#[derive(Clone, Copy)]
 pub struct LogLine {
     /// The bytes of a term, as written: no geometry has been judged.
     pub term_length: u32,
@@ -26,7 +26,7 @@ pub struct LogLine {
 
 /// What one line of a script asks for. Packets are numbered from 0 in the order in which they were printed, and
 /// moments are nanoseconds.
-#[derive(Debug, PartialEq, Eq, Drop)]
+#[derive(Drop)]
 pub enum Command {
     /// The keeper sets the connected flag.
     Connect,
@@ -105,7 +105,7 @@ pub enum Command {
 }
 
 /// A script: how the log is opened, and the commands after that in their order.
-#[derive(Debug, PartialEq, Eq, Drop)]
+#[derive(Drop)]
 pub struct Script {
     pub log: LogLine,
     pub commands: Vec<Command>,

@@ -9,7 +9,7 @@ use std::alloc::Global;
 use word_calls::Refusal;
 
 /// One line of output.
-#[derive(Debug, Drop)]
+#[derive(Drop)]
 pub enum Line {
     Open,
     /// The log can't be opened with this geometry; the script ends.
