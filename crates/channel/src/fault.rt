@@ -1,0 +1,55 @@
+ghost use Rattle.std.specs.Prelude.{Some};
+ghost use Rattle.channel.specs.Texts.{text_of};
+
+use crate::parameter::Parameter;
+use std::error::Error;
+use std::fmt;
+
+/// Why a text is no channel: the first fault from the left.
+#[derive(Clone, Copy, Debug)]
+pub enum ChannelFault<'a> {
+    /// The text doesn't begin with `aeron:udp?`.
+    Prefix,
+    /// This part has no `=`.
+    Part(&'a str),
+    /// No parameter of this name is taken.
+    Unknown(&'a str),
+    /// The parameter stands a second time.
+    Repeated(Parameter),
+    /// The value isn't of the parameter's form, or out of its range.
+    Value(Parameter),
+    /// The endpoint's host isn't this machine: `127.0.0.1` or `localhost`.
+    Host(&'a str),
+    /// No part is an endpoint.
+    NoEndpoint,
+    /// Of `init-term-id`, `term-id` and `term-offset` one or two stand.
+    Apart,
+}
+
+impl fmt::Display for ChannelFault<'_> {
+    ghost output = { λ fault. Some (text_of fault) };
+
+    fn fmt<W: fmt::Write>(&self, f: &mut fmt::Formatter<W>) -> fmt::Result {
+        match *self {
+            ChannelFault::Prefix => write!(f, "channel: it doesn't begin with aeron:udp?"),
+            ChannelFault::Part(part) => write!(f, "channel: no name=value: {part}"),
+            ChannelFault::Unknown(name) => write!(f, "channel: {name} isn't taken"),
+            ChannelFault::Repeated(parameter) => {
+                let name = parameter.name();
+                write!(f, "channel: {name} stands twice")
+            }
+            ChannelFault::Value(parameter) => {
+                let name = parameter.name();
+                write!(f, "channel: the value of {name}")
+            }
+            ChannelFault::Host(host) => write!(f, "channel: {host} isn't this machine"),
+            ChannelFault::NoEndpoint => write!(f, "channel: no endpoint"),
+            ChannelFault::Apart => write!(
+                f,
+                "channel: init-term-id, term-id and term-offset stand together"
+            ),
+        }
+    }
+}
+
+impl Error for ChannelFault<'_> {}

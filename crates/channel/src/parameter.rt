@@ -1,0 +1,103 @@
+//! The parameters of a channel, and what a part sets.
+
+ghost use Rattle.std.specs.Prelude.{◌≡◌, ◌≢◌, IfSome, IfNone};
+ghost use Rattle.channel.specs.declared.parameter.Parameter.{Parameter};
+ghost use Rattle.channel.specs.declared.parameter.Parameter.TheVariants.{Endpoint};
+ghost use Rattle.channel.specs.Settings.{name_of, parameter_of, IsValueOf, HasNoValue};
+
+use crate::values::{number, signed, size};
+
+/// A parameter that is taken.
+#[derive(Clone, Copy, Debug, PartialEq, Eq)]
+pub enum Parameter {
+    /// `endpoint`: where the datagrams go.
+    Endpoint,
+    /// `mtu`: the most bytes of a datagram.
+    Mtu,
+    /// `term-length`: the bytes of a term.
+    TermLength,
+    /// `session-id`.
+    SessionId,
+    /// `init-term-id`: the id of the stream's first term.
+    InitialTermId,
+    /// `term-id`: the id of the term in which it starts.
+    TermId,
+    /// `term-offset`: where in that term.
+    TermOffset,
+}
+
+/// What a part of a channel sets.
+#[derive(Clone, Copy, Debug, PartialEq, Eq)]
+pub enum Setting {
+    /// The port on this machine, 1 to 65,535.
+    Endpoint(u16),
+    /// In bytes.
+    Mtu(u32),
+    /// In bytes.
+    TermLength(u32),
+    SessionId(i32),
+    InitialTermId(i32),
+    TermId(i32),
+    /// In bytes.
+    TermOffset(u32),
+}
+
+impl Parameter {
+    /// Its name in a channel.
+    pub fn name(self) -> &'static str
+        ensures { result.now ≡ name_of self }
+    {
+        match self {
+            Parameter::Endpoint => "endpoint",
+            Parameter::Mtu => "mtu",
+            Parameter::TermLength => "term-length",
+            Parameter::SessionId => "session-id",
+            Parameter::InitialTermId => "init-term-id",
+            Parameter::TermId => "term-id",
+            Parameter::TermOffset => "term-offset",
+        }
+    }
+
+    /// The parameter of this name, if it is taken.
+    pub fn named(name: &str) -> Option<Parameter>
+        ensures found { IfSome result (λ p. name.now ≡ name_of p) }
+        ensures none { IfNone result ((p : Parameter) → name.now ≢ name_of p) }
+    {
+        if name == "endpoint" {
+            Some(Parameter::Endpoint)
+        } else if name == "mtu" {
+            Some(Parameter::Mtu)
+        } else if name == "term-length" {
+            Some(Parameter::TermLength)
+        } else if name == "session-id" {
+            Some(Parameter::SessionId)
+        } else if name == "init-term-id" {
+            Some(Parameter::InitialTermId)
+        } else if name == "term-id" {
+            Some(Parameter::TermId)
+        } else if name == "term-offset" {
+            Some(Parameter::TermOffset)
+        } else {
+            None
+        }
+    }
+
+    /// What the parameter's value sets, of any parameter but the endpoint.
+    pub(crate) fn number_setting(self, value: &[u8]) -> Option<Setting>
+        requires { self ≢ Endpoint }
+        ensures set { IfSome result (λ s. (parameter_of s ≡ self) × IsValueOf value.now s) }
+        ensures none { IfNone result (HasNoValue self value.now) }
+    {
+        match self {
+            Parameter::Endpoint => None,
+            Parameter::Mtu => Some(Setting::Mtu(size(value)?)),
+            Parameter::TermLength => Some(Setting::TermLength(size(value)?)),
+            Parameter::SessionId => Some(Setting::SessionId(signed(value)?)),
+            Parameter::InitialTermId => Some(Setting::InitialTermId(signed(value)?)),
+            Parameter::TermId => Some(Setting::TermId(signed(value)?)),
+            Parameter::TermOffset => {
+                Some(Setting::TermOffset(number(value, u32::MAX as u64)? as u32))
+            }
+        }
+    }
+}

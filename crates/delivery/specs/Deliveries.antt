@@ -1,0 +1,70 @@
+-- Messages that are polled and written, and what comes behind that.
+use Rattle.std.specs.Prelude.{◌≡◌, ◌⊎◌, ◌≤◌, ℕ, Bool, true, false, List, [], ◌∷◌, length, Option, None, Some, Ok, Err}
+use Rattle.std.specs.Io.KnownBytes.{Appends}
+use Rattle.message_form.specs.Forms.{spelled, spelling}
+use Rattle.message_form.specs.declared.form.Form.{Form}
+use Rattle.endpoint.specs.Devices.{Device}
+use Rattle.agents.specs.Cycles.{Cycle, Fault}
+use Rattle.agents.specs.Parties.{ReceiverHears, ReceiverTicks}
+use Rattle.agents.specs.declared.fault.AgentFault.{AgentFault}
+use Rattle.receiver.specs.Polling.{Polls}
+use Rattle.receiver.specs.Subscribing.{Subscribing, SubscriberBecomes}
+use Rattle.receiver.specs.declared.poll_error.PollError.TheVariants.{NoImage}
+use Rattle.delivery.specs.Texts.{of_agent}
+use Rattle.delivery.specs.declared.delivering.Delivered.{Delivered}
+use Rattle.delivery.specs.declared.fault.DeliveryFault.{DeliveryFault}
+use Rattle.delivery.specs.declared.fault.DeliveryFault.TheVariants as faults
+
+-- a poll that gives this message
+abbrev pub PollsOne : Subscribing → List ℕ → Subscribing → Type 0
+PollsOne s message t = SubscriberBecomes s t (λ r q. Polls r (Ok (Some message)) q)
+
+-- a poll that gives none: no whole message is there, or no image
+abbrev pub PollsNone : Subscribing → Subscribing → Type 0
+PollsNone s t = SubscriberBecomes s t (λ r q. Polls r (Ok None) q) ⊎ SubscriberBecomes s t (λ r q. Polls r (Err NoImage) q)
+
+-- polls that give these messages, one after the other
+abbrev pub PollsAll : Subscribing → List (List ℕ) → Subscribing → Type 0
+PollsAll s [] t = t ≡ s
+PollsAll s (message ∷ messages) t = (u : Subscribing) × PollsOne s message u × PollsAll u messages t
+
+-- a poll, and its message at the end of what the output holds
+abbrev pub Steps : Form → Subscribing → Option (List ℕ) → Bool → Subscribing → Option (List ℕ) → Type 0
+Steps form s before true t after = (message : List ℕ) × PollsOne s message t × Appends before after (spelled form message)
+Steps form s before false t after = PollsNone s t × (after ≡ before)
+
+-- as many messages as there were, or so many; what the output holds has grown by these, in order
+pub record Delivers (form : Form) (most : ℕ) (s : Subscribing) (before : Option (List ℕ)) (number : ℕ) (t : Subscribing) (after : Option (List ℕ)) : Type 0 where
+  pub messages : List (List ℕ)
+  pub middle : Subscribing
+  pub polled : PollsAll s messages middle
+  pub counted : number ≡ length messages
+  pub few : length messages ≤ most
+  pub ended : ((length messages ≡ most) × (t ≡ middle)) ⊎ PollsNone middle t
+  pub written : Appends before after (spelling form messages)
+
+-- the duty's cycle begins where all that was polled is written
+pub record WritesFirst (form : Form) (now : ℕ) (tells : Type 0) (s : Subscribing) (before : Option (List ℕ)) (d : Device) (done : Delivered) (t : Subscribing) (after : Option (List ℕ)) (e : Device) : Type 0 where
+  pub middle : Subscribing
+  pub delivers : Delivers form 256 s before done.messages middle after
+  pub cycle : Cycle ReceiverHears ReceiverTicks now tells middle d done.busy t e
+
+-- a fault before anything was heard
+abbrev pub IsBeforeHearing : DeliveryFault → Type 0
+IsBeforeHearing faults.Output = Unit {0}
+IsBeforeHearing (faults.Message error) = Unit {0}
+IsBeforeHearing faults.Device = ⊥
+IsBeforeHearing faults.Memory = ⊥
+
+-- a fault of the duty's cycle, which began where all that was polled is written
+pub record FailsBehind (form : Form) (now : ℕ) (tells : Type 0) (fault : DeliveryFault) (s : Subscribing) (before : Option (List ℕ)) (d : Device) (t : Subscribing) (after : Option (List ℕ)) (e : Device) : Type 0 where
+  pub middle : Subscribing
+  pub number : ℕ
+  pub why : AgentFault
+  pub delivers : Delivers form 256 s before number middle after
+  pub named : fault ≡ of_agent why
+  pub fails : Fault ReceiverHears ReceiverTicks now tells why middle d t e
+
+-- why a cycle ended; `still` says that nothing was heard or sent
+abbrev pub Ends : Form → ℕ → Type 0 → Type 0 → DeliveryFault → Subscribing → Option (List ℕ) → Device → Subscribing → Option (List ℕ) → Device → Type 0
+Ends form now tells still fault s before d t after e = (IsBeforeHearing fault × still) ⊎ FailsBehind form now tells fault s before d t after e

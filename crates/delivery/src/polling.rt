@@ -1,0 +1,66 @@
+//! Messages that are polled, and written.
+
+ghost use Rattle.std.specs.Prelude.{◌≡◌, IfErr, IfOk};
+ghost use Rattle.delivery.specs.Deliveries.{Delivers, IsBeforeHearing, Steps};
+
+use crate::fault::DeliveryFault;
+use message_form::{Form, write_message};
+use receiver::{PollError, Subscriber};
+use std::io::Write;
+
+/// How many messages a cycle polls at the most.
+pub const MESSAGES: usize = 256;
+
+/// Polls once, and writes what that gave. Whether it was a message.
+fn write_next<W: Write>(
+    form: Form,
+    subscriber: &mut Subscriber,
+    output: &mut W,
+) -> Result<bool, DeliveryFault>
+    ensures step { IfOk result (λ any. Steps form subscriber.old (W.contents output.old) any subscriber.new (W.contents output.new)) }
+    ensures fault { IfErr result (λ f. IsBeforeHearing f) }
+{
+    match subscriber.poll() {
+        Ok(Some(message)) => {
+            write_message(form, message.bytes.as_slice(), output)?;
+            Ok(true)
+        }
+        Ok(None) => Ok(false),
+        Err(PollError::NoImage) => Ok(false),
+        Err(PollError::Unassembled(error)) => Err(DeliveryFault::Message(error)),
+    }
+}
+
+/// Polls messages until there is none, 256 at the most, and writes each. The answer is how many there were.
+fn write_each<W: Write>(
+    form: Form,
+    subscriber: &mut Subscriber,
+    output: &mut W,
+) -> Result<usize, DeliveryFault>
+    ensures delivers { IfOk result (λ n. Delivers form 256 subscriber.old (W.contents output.old) n subscriber.new (W.contents output.new)) }
+    ensures fault { IfErr result (λ f. IsBeforeHearing f) }
+{
+    for count in 0..MESSAGES {
+        if !write_next(form, subscriber, output)? {
+            return Ok(count);
+        }
+    }
+    Ok(MESSAGES)
+}
+
+/// Polls messages until there is none, 256 at the most, writes each as its form says, and flushes the output. The answer
+/// is how many there were. A fault is `Output` or `Message`.
+pub fn write_polled<W: Write>(
+    form: Form,
+    subscriber: &mut Subscriber,
+    output: &mut W,
+) -> Result<usize, DeliveryFault>
+    ensures delivers { IfOk result (λ n. Delivers form 256 subscriber.old (W.contents output.old) n subscriber.new (W.contents output.new)) }
+    ensures fault { IfErr result (λ f. IsBeforeHearing f) }
+{
+    let count = write_each(form, subscriber, output)?;
+    if output.flush().is_err() {
+        return Err(DeliveryFault::Output);
+    }
+    Ok(count)
+}

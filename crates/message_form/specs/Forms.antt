@@ -1,0 +1,26 @@
+-- How messages stand in a stream of bytes.
+use Rattle.std.specs.Prelude.{ℕ, List, [], ◌∷◌, ◌++◌, length, codes}
+use Rattle.std.specs.List.{flat_map}
+use Rattle.std.specs.Int.{w32, to_le_bytes}
+use Rattle.message_form.specs.declared.form.Form.{Form}
+use Rattle.message_form.specs.declared.form.Form.TheVariants.{Lines, Blocks}
+
+-- a line feed behind the message
+abbrev pub line : List ℕ → List ℕ
+line message = message ++ 10 ∷ []
+
+-- its length before it, of 32 bits, the lowest byte first
+abbrev pub block : List ℕ → List ℕ
+block message = to_le_bytes w32 (length message) ++ message
+
+abbrev pub spelled : Form → List ℕ → List ℕ
+spelled Lines message = line message
+spelled Blocks message = block message
+
+-- messages one behind the other
+abbrev pub spelling : Form → List (List ℕ) → List ℕ
+spelling form messages = flat_map (spelled form) messages
+
+-- what a user reads where the output fails
+abbrev pub output_text : List ℕ
+output_text = codes "output"
