@@ -58,12 +58,11 @@ impl Gate for Hold {
 
 /// Two publishers of ten messages.
 fn small() -> RunOptions {
-    RunOptions {
-        publishers: 2,
-        messages: 10,
-        turns: 1_000_000_000,
-        ..defaults()
-    }
+    let mut options = defaults();
+    options.publishers = 2;
+    options.messages = 10;
+    options.turns = 1_000_000_000;
+    options
 }
 
 /// What a run leaves in which one party is held until another has ended two cycles, if the held one could go on.
