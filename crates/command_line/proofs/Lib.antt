@@ -1,3 +1,6 @@
 pub mod CommandLineLemmas
 pub mod DecodeLines
 pub mod TakenLines
+pub mod RunMet
+pub mod NumberTexts
+mod RunRows

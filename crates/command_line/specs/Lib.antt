@@ -1,1 +1,3 @@
 pub mod CommandLines
+pub mod RunLines
+pub mod RunTold

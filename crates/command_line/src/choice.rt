@@ -1,5 +1,7 @@
 //! The command line, as it was typed.
 
+use run_options::RunOptions;
+
 /// What a command line asks for.
 #[derive(Clone, Copy, Debug, PartialEq, Eq)]
 pub enum Options<'a> {
@@ -7,4 +9,6 @@ pub enum Options<'a> {
     Sim,
     /// Print the frames of the datagram that this word spells.
     Decode(&'a str),
+    /// Run publishers, a sender and a receiver, as this tells.
+    Run(RunOptions),
 }

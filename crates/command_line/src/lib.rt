@@ -2,7 +2,10 @@
 #![tactic(auto)]
 
 mod choice;
+mod chosen;
+mod number;
 mod parser;
+mod run_parser;
 
 pub use choice::Options;
 pub use parser::{OptionsFault, options};

@@ -1,12 +1,15 @@
 //! Reading the command line.
 
-ghost use Rattle.std.specs.Prelude.{◌≡◌, ◌≢◌, ◌↔◌, ℕ, List, true, false, map, IfOk, IfErr, IsTrue, Err};
-ghost use Rattle.clap.specs.Words.{FailsBy, IsAmong, app_of, fault_of as clap_faults, is_simple, is_simple_and_free, kind_of, subcommand_of, subcommand_rows_of};
-ghost use Rattle.command_line.specs.CommandLines.{AsksFor, AsksForDecode, AsksForSim, IsChoice, driver_app};
+ghost use Rattle.std.specs.Prelude.{◌≡◌, ◌≢◌, ◌↔◌, ℕ, List, [], codes, true, false, map, IfOk, IfErr, OnOk, IsTrue, Err, MatchResult};
+ghost use Rattle.clap.specs.declared.builder.command.Command.TheViews.{out-Command};
+ghost use Rattle.clap.specs.Words.{FailsBy, IsAmong, app_of, fault_of as clap_faults, is_simple, is_simple_and_free, kind_of, new_app, subcommand_of, with_rule};
+ghost use Rattle.command_line.specs.CommandLines.{AsksFor, AsksForBareRun, AsksForDecode, AsksForSim, IsChoice, IsRunByDefault, driver_app, hex_rule};
 
 use crate::choice::Options;
+use crate::chosen::choice;
+use crate::run_parser::run_command;
 use clap::error::ErrorKind;
-use clap::{Arg, ArgMatches, Command, Error};
+use clap::{Arg, Command, Error};
 use std::alloc::{AllocError, Global};
 use std::fmt;
 
@@ -44,14 +47,19 @@ impl fmt::Display for OptionsFault {
 /// What the words of a command line ask for; the first one is the program's name.
 ///
 /// Taken are `sim`, alone or before a `--` that ends the options, and `decode` with one word: a word that doesn't begin
-/// with a hyphen or is a hyphen alone, perhaps before a `--`, or any word behind a `--`. Any other line is `Shown`, and so
-/// is a request for help.
+/// with a hyphen or is a hyphen alone, perhaps before a `--`, or any word behind a `--`. A line taken that begins with
+/// `run` may give each number of a run, in its range, and the flag: `run` alone is taken, with all numbers as they are
+/// where nothing is said. Any other line is `Shown`, and so is a request for help.
 pub fn options<'a>(alloc: Global, words: &'a [&'a str]) -> Result<Options<'a>, OptionsFault>
     ensures taken { AsksForSim (map (λ s. s.now) words.entry.now)
         → IfErr result (λ e. e ≡ OptionsFault.Memory) }
     ensures decode_taken { (word : List ℕ) → AsksForDecode (map (λ s. s.now) words.entry.now) word
         → IfErr result (λ e. e ≡ OptionsFault.Memory) }
+    ensures run_taken { AsksForBareRun (map (λ s. s.now) words.entry.now)
+        → MatchResult result IsRunByDefault (λ e. e ≡ OptionsFault.Memory) }
     ensures only { IfOk result (λ o. AsksFor o (map (λ s. s.now) words.entry.now)) }
+    // What the parser holds against a line, as a number out of its range, keeps it from being taken.
+    ensures passed { OnOk result (clap_faults driver_app (map (λ s. s.now) words.entry.now) ≡ []) }
     ensures shown { (e : Error) → result ≡ Err (OptionsFault.Shown e)
         → kind_of e ≡ ErrorKind.OutOfMemory → ⊥ }
     ensures kind { (e : Error) → result ≡ Err (OptionsFault.Shown e)
@@ -77,17 +85,6 @@ fn parsed<'a>(command: Command<'a>, words: &'a [&'a str]) -> Result<Options<'a>,
     Ok(choice(&matches))
 }
 
-/// What the subcommand that was met asks for.
-fn choice<'a>(matches: &ArgMatches<'a>) -> Options<'a>
-    ensures { IsChoice (subcommand_rows_of matches.now) result }
-{
-    // The word is required, so a parse that succeeds has it.
-    match matches.subcommand_matches("decode") {
-        Some(decode) => Options::Decode(decode.get_str("HEX").unwrap_or("")),
-        None => Options::Sim,
-    }
-}
-
 fn fault_of(error: Error) -> OptionsFault
     ensures memory { kind_of error ≡ ErrorKind.OutOfMemory → result ≡ OptionsFault.Memory }
     ensures shown { (e : Error) → result ≡ OptionsFault.Shown e
@@ -103,17 +100,33 @@ fn fault_of(error: Error) -> OptionsFault
 fn whole<'a>(alloc: Global) -> Result<Command<'a>, AllocError>
     ensures { IfOk result (λ r. app_of r ≡ driver_app) }
 {
-    let sim = Command::new(alloc, "sim").about("Play the script on standard input");
-    let hex = Arg::new(alloc, "HEX")
-        .help("The datagram in hexadecimal")
-        .required(true);
-    let decode = Command::new(alloc, "decode")
-        .about("Print the frames of a datagram")
-        .arg(hex)?;
+    let sim = sim_command(alloc);
+    let decode = decode_command(alloc)?;
+    let run = run_command(alloc)?;
     Command::new(alloc, "mdriver")
         .bin_name("mdriver")?
         .about("A media driver with concurrent publications (--version tells which)")
         .subcommand_required(true)
         .subcommand(sim)?
-        .subcommand(decode)
+        .subcommand(decode)?
+        .subcommand(run)
+}
+
+fn sim_command<'a>(alloc: Global) -> Command<'a>
+    ensures shape { app_of result ≡ new_app (codes "sim") }
+    ensures globals { (out-Command result).has_globals ≡ false }
+{
+    Command::new(alloc, "sim").about("Play the script on standard input")
+}
+
+fn decode_command<'a>(alloc: Global) -> Result<Command<'a>, AllocError>
+    ensures shape { IfOk result (λ r. app_of r ≡ with_rule (new_app (codes "decode")) hex_rule) }
+    ensures globals { IfOk result (λ r. (out-Command r).has_globals ≡ false) }
+{
+    let hex = Arg::new(alloc, "HEX")
+        .help("The datagram in hexadecimal")
+        .required(true);
+    Command::new(alloc, "decode")
+        .about("Print the frames of a datagram")
+        .arg(hex)
 }

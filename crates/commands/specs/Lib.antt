@@ -1,2 +1,3 @@
 pub mod Faults
 pub mod Scripting
+pub mod Running

@@ -7,7 +7,7 @@ use Rattle.script_run.specs.LineContents.{LineContent}
 use Rattle.script_run.specs.Output.{IsOutputOf}
 use Rattle.script_parts.specs.LineTexts.{text_of_lines}
 use Rattle.commands.specs.declared.fault.Fault.{Fault}
-use Rattle.commands.specs.declared.fault.Fault.TheVariants.{Line, Input, Memory, Hex, Frame, Read, Write}
+use Rattle.commands.specs.declared.fault.Fault.TheVariants.{Line, Input, Memory, Hex, Frame, Read, Write, Plan, Order, Device}
 
 -- it is a script, of at most 1 MiB
 abbrev pub HoldsScript : List ℕ → Type 0
@@ -30,6 +30,9 @@ ExplainsInput bytes Hex = ⊥
 ExplainsInput bytes (Frame fault) = ⊥
 ExplainsInput bytes Read = ⊤
 ExplainsInput bytes Write = ⊥
+ExplainsInput bytes (Plan fault) = ⊥
+ExplainsInput bytes Order = ⊥
+ExplainsInput bytes Device = ⊥
 
 -- why it isn't played to its end
 abbrev pub ExplainsScript : List ℕ → Fault → Type 0
@@ -40,3 +43,6 @@ ExplainsScript bytes Hex = ⊥
 ExplainsScript bytes (Frame fault) = ⊥
 ExplainsScript bytes Read = ⊤
 ExplainsScript bytes Write = HoldsScript bytes
+ExplainsScript bytes (Plan fault) = ⊥
+ExplainsScript bytes Order = ⊥
+ExplainsScript bytes Device = ⊥

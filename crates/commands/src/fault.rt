@@ -1,11 +1,13 @@
 //! What a user reads where the program gives up.
 
 ghost use Rattle.std.specs.Prelude.{◌≡◌, Some};
-ghost use Rattle.commands.specs.Faults.{of_decoding, of_script, shown_fault};
-ghost use Rattle.commands.specs.declared.fault.Fault.TheVariants.{Memory};
+ghost use Rattle.commands.specs.Faults.{of_agents, of_decoding, of_script, shown_fault};
+ghost use Rattle.commands.specs.declared.fault.Fault.TheVariants.{Memory, Plan};
 
+use agents::AgentFault;
 use decode::DecodeError;
 use frames::FrameError;
+use run_options::PlanFault;
 use script::ScriptFault;
 use std::alloc::AllocError;
 use std::error::Error;
@@ -28,6 +30,12 @@ pub enum Fault {
     Read,
     /// The standard output failed.
     Write,
+    /// What a run is told makes no plan.
+    Plan(PlanFault),
+    /// A publisher's messages weren't polled in its order, each once.
+    Order,
+    /// A socket, a thread or the clock failed.
+    Device,
 }
 
 impl fmt::Display for Fault {
@@ -42,6 +50,9 @@ impl fmt::Display for Fault {
             Fault::Frame(error) => f.write_str(error.text()),
             Fault::Read => write!(f, "read"),
             Fault::Write => write!(f, "write"),
+            Fault::Plan(fault) => f.write_str(fault.text()),
+            Fault::Order => write!(f, "order"),
+            Fault::Device => write!(f, "device"),
         }
     }
 }
@@ -77,5 +88,24 @@ impl From<ScriptFault> for Fault {
             ScriptFault::Line(number) => Fault::Line(number),
             ScriptFault::Memory => Fault::Memory,
         }
+    }
+}
+
+impl From<AgentFault> for Fault {
+    ghost from_gives = { λ from fault. fault ≡ of_agents from };
+
+    fn from(fault: AgentFault) -> Fault {
+        match fault {
+            AgentFault::Device => Fault::Device,
+            AgentFault::Memory => Fault::Memory,
+        }
+    }
+}
+
+impl From<PlanFault> for Fault {
+    ghost from_gives = { λ from fault. fault ≡ Plan from };
+
+    fn from(fault: PlanFault) -> Fault {
+        Fault::Plan(fault)
     }
 }

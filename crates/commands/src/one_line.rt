@@ -3,29 +3,44 @@
 ghost use Rattle.std.specs.Prelude.{◌≤◌};
 
 use crate::fault::Fault;
+use crate::run_command::run_driver;
 use crate::sim_command::sim;
 use command_line::{Options, OptionsFault, options};
 use decode::decode;
+use run::Ending;
+use run_options::RunOptions;
 use std::alloc::Global;
 use std::fmt::Display;
 use std::io::{Read, Write};
+use std::net::Net;
+use std::sync::Wait;
+use std::thread::Threads;
+use std::time::Clock;
 
 /// The line of `--version`: the program's name and version, and the kit that it is proved with.
 const VERSION: &str = "mdriver 0.1.0, proved with rattle-kit-13b logic dac8208d650f15bf\n";
 
 /// Carries out a command line over a reader and two writers, and gives the status: 0 where all was done, 1 at a fault,
-/// 2 for a refused command line. The first word is the program's name; `--version` alone asks for the version.
+/// 2 for a refused command line, 3 for a run whose turns were used before all was polled. The first word is the program's
+/// name; `--version` alone asks for the version.
 ///
-/// What is written for each isn't promised here: `options`, `sim` and `decode` say what they make of the words and of the
-/// input, and the texts of help and refusals are the parser's, of which no contract speaks.
-pub fn command<'a, R: Read, W: Write, E: Write>(
+/// What is written for each isn't promised here: `options`, `sim`, `decode` and `run_driver` say what they make of the words
+/// and of the input, and the texts of help and refusals are the parser's, of which no contract speaks.
+pub fn command<
+    'a,
+    C: Threads + Wait + Clock + Net + Sync,
+    R: Read,
+    W: Write,
+    E: Write,
+>(
+    rt: &C,
     alloc: Global,
     words: &'a [&'a str],
     input: &mut R,
     output: &mut W,
     errors: &mut E,
 ) -> u8
-    ensures { result ≤ 2 }
+    ensures { result ≤ 3 }
 {
     if let [_, "--version"] = words {
         return status(shown(output, &VERSION), errors);
@@ -35,6 +50,7 @@ pub fn command<'a, R: Read, W: Write, E: Write>(
         Ok(Options::Decode(word)) => {
             status(decode(alloc, word, output).map_err(Fault::from), errors)
         }
+        Ok(Options::Run(options)) => run_status(rt, alloc, &options, output, errors),
         Err(OptionsFault::Memory) => status(Err(Fault::Memory), errors),
         Err(fault) if fault.is_refusal() => {
             let _ = write!(errors, "{fault}");
@@ -54,6 +70,24 @@ fn status<E: Write>(done: Result<(), Fault>, errors: &mut E) -> u8
             let _ = writeln!(errors, "error: {fault}");
             1
         }
+    }
+}
+
+/// Runs the driver, and gives the status.
+fn run_status<C: Threads + Wait + Clock + Net + Sync, W: Write, E: Write>(
+    rt: &C,
+    alloc: Global,
+    options: &RunOptions,
+    output: &mut W,
+    errors: &mut E,
+) -> u8
+    ensures { result ≤ 3 }
+{
+    match run_driver(rt, alloc, options, output, &mut *errors) {
+        Ok(Ending::Whole) => 0,
+        Ok(Ending::Short) => 3,
+        Ok(Ending::Broken) => status(Err(Fault::Order), errors),
+        Err(fault) => status(Err(fault), errors),
     }
 }
 

@@ -1,7 +1,7 @@
 //! Plays each script of `examples/`, and says whether it prints what is expected.
 #![tactic(auto)]
 
-use commands::command;
+use commands::sim;
 use std::alloc::Global;
 use std::process::ExitCode;
 use std::{fs, io};
@@ -56,17 +56,10 @@ fn play_all(rt: &HostRuntime) -> io::Result<bool> {
     Ok(all)
 }
 
-/// Whether this script prints these lines, and nothing else.
+/// Whether this script prints these lines.
 fn prints(alloc: Global, script: &str, expected: &str) -> bool {
     let mut input = script.as_bytes();
     let mut output = Vec::new(alloc);
-    let mut errors = Vec::new(alloc);
-    let status = command(
-        alloc,
-        &["mdriver", "sim"],
-        &mut input,
-        &mut output,
-        &mut errors,
-    );
-    status == 0 && errors.is_empty() && output.as_slice() == expected.as_bytes()
+    let played = sim(alloc, &mut input, &mut output);
+    played.is_ok() && output.as_slice() == expected.as_bytes()
 }

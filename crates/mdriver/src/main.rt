@@ -1,14 +1,30 @@
-//! The media driver's program: `mdriver sim` plays a script from offer to poll, and `mdriver decode` prints the frames of
-//! a datagram.
+//! The media driver's program: `mdriver sim` plays a script from offer to poll, `mdriver run` runs the driver in threads over
+//! UDP, and `mdriver decode` prints the frames of a datagram.
 #![tactic(auto)]
 
 use commands::{Fault, command};
+use std::alloc::Global;
 use std::env;
-use std::io::{self, BufWriter};
+use std::io::{self, BufWriter, Read, Write};
+use std::net::Net;
 use std::process::ExitCode;
+use std::sync::Wait;
+use std::thread::Threads;
+use std::time::Clock;
 
 fn main(rt: HostRuntime) -> ExitCode {
-    match run(&rt) {
+    let done = match words(&rt) {
+        Ok(words) => carry_out(
+            &rt,
+            rt.alloc(),
+            &words,
+            &mut rt.stdin(),
+            rt.stdout(),
+            &mut rt.stderr(),
+        ),
+        Err(error) => Err(error),
+    };
+    match done {
         Ok(status) => ExitCode::from(status),
         Err(_) => {
             let fault = Fault::Memory;
@@ -18,20 +34,30 @@ fn main(rt: HostRuntime) -> ExitCode {
     }
 }
 
-/// Carries out the process's command line over its own streams. What fails here is memory, before anything was read.
-fn run(rt: &HostRuntime) -> io::Result<u8> {
-    let alloc = rt.alloc();
-    let mut words = Vec::new(alloc);
+/// The words of the process's command line. What fails here is memory.
+fn words(rt: &HostRuntime) -> io::Result<Vec<String>> {
+    let mut words = Vec::new(rt.alloc());
     for word in env::args(rt)? {
         words.push(word)?;
     }
+    Ok(words)
+}
+
+/// Carries out a command line. What fails here is memory, before anything was read.
+fn carry_out<
+    C: Threads + Wait + Clock + Net + Sync,
+    R: Read,
+    W: Write + Drop,
+    E: Write,
+>(
+    rt: &C,
+    alloc: Global,
+    words: &[String],
+    input: &mut R,
+    output: W,
+    errors: &mut E,
+) -> io::Result<u8> {
     let words: Vec<&str> = words.iter().map(|word| word.as_str()).collect(alloc)?;
-    let mut output = BufWriter::new(alloc, rt.stdout())?;
-    Ok(command(
-        alloc,
-        &words,
-        &mut rt.stdin(),
-        &mut output,
-        &mut rt.stderr(),
-    ))
+    let mut output = BufWriter::new(alloc, output)?;
+    Ok(command(rt, alloc, &words, input, &mut output, errors))
 }

@@ -1,7 +1,11 @@
 use commands::command;
 use std::alloc::Global;
 use std::io::{self, Error, ErrorKind, Read, Write};
+use std::net::Net;
+use std::sync::Wait;
 use std::test::*;
+use std::thread::Threads;
+use std::time::Clock;
 
 const SIM: &[&str] = &["mdriver", "sim"];
 
@@ -214,10 +218,10 @@ struct Done {
     status: u8,
 }
 
-fn run_over(alloc: Global, words: &[&str], mut input: &[u8]) -> Done {
+fn run_over<R: Threads + Wait + Clock + Net + Sync>(rt: &R, alloc: Global, words: &[&str], mut input: &[u8]) -> Done {
     let mut output = Vec::new(alloc);
     let mut errors = Vec::new(alloc);
-    let status = command(alloc, words, &mut input, &mut output, &mut errors);
+    let status = command(rt, alloc, words, &mut input, &mut output, &mut errors);
     Done {
         output,
         errors,
@@ -228,7 +232,7 @@ fn run_over(alloc: Global, words: &[&str], mut input: &[u8]) -> Done {
 #[test]
 fn scripts(rt: HostRuntime) {
     for (script, lines) in PLAYED {
-        let done = run_over(rt.alloc(), SIM, script.as_bytes());
+        let done = run_over(&rt, rt.alloc(), SIM, script.as_bytes());
         assert_eq!(rt; done.output.as_slice(), lines.as_bytes());
         assert_eq!(rt; done.errors.len(), 0);
         assert_eq!(rt; done.status, 0);
@@ -238,7 +242,7 @@ fn scripts(rt: HostRuntime) {
 #[test]
 fn readers(rt: HostRuntime) {
     for (script, lines) in READ {
-        let done = run_over(rt.alloc(), SIM, script.as_bytes());
+        let done = run_over(&rt, rt.alloc(), SIM, script.as_bytes());
         assert_eq!(rt; done.output.as_slice(), lines.as_bytes());
         assert_eq!(rt; done.errors.len(), 0);
         assert_eq!(rt; done.status, 0);
@@ -248,7 +252,7 @@ fn readers(rt: HostRuntime) {
 #[test]
 fn claims(rt: HostRuntime) {
     for (script, lines) in CLAIMED {
-        let done = run_over(rt.alloc(), SIM, script.as_bytes());
+        let done = run_over(&rt, rt.alloc(), SIM, script.as_bytes());
         assert_eq!(rt; done.output.as_slice(), lines.as_bytes());
         assert_eq!(rt; done.errors.len(), 0);
         assert_eq!(rt; done.status, 0);
@@ -258,7 +262,7 @@ fn claims(rt: HostRuntime) {
 #[test]
 fn refused_scripts(rt: HostRuntime) {
     for (script, told) in REFUSED {
-        let done = run_over(rt.alloc(), SIM, script.as_bytes());
+        let done = run_over(&rt, rt.alloc(), SIM, script.as_bytes());
         assert_eq!(rt; done.output.len(), 0);
         assert_eq!(rt; done.errors.as_slice(), told.as_bytes());
         assert_eq!(rt; done.status, 1);
@@ -270,13 +274,13 @@ fn refused_scripts(rt: HostRuntime) {
 fn longest_script(rt: HostRuntime) -> Result<(), Fail> {
     let mut script = Vec::from_slice(rt.alloc(), b"log 65536 1408 7 0 1 1001 0\n")?;
     script.resize(1_048_576, b'\n')?;
-    let done = run_over(rt.alloc(), SIM, &script);
+    let done = run_over(&rt, rt.alloc(), SIM, &script);
     assert_eq!(rt;
         done.output.as_slice(),
         b"open\nbook 0 0 0 0 0 0 0 0 0 0\n".as_slice()
     );
     script.push(b'\n')?;
-    let done = run_over(rt.alloc(), SIM, &script);
+    let done = run_over(&rt, rt.alloc(), SIM, &script);
     assert_eq!(rt; done.errors.as_slice(), b"error: input\n".as_slice());
     assert_eq!(rt; done.status, 1);
     Ok(())
@@ -298,7 +302,7 @@ fn four_terms(rt: HostRuntime) -> Result<(), Fail> {
             "limit\noffer 0 size 1376\nsend {now}\ndeliver {frame} 0 {now}\npoll 0\ntick 0 {now}\nreply {status} {now}\n"
         )?;
     }
-    let done = run_over(rt.alloc(), SIM, &script);
+    let done = run_over(&rt, rt.alloc(), SIM, &script);
     let last = b"\nstatus 311808\nbook 0 279040 279040 0 0 0 0 0 0 0\n".as_slice();
     assert!(rt; done.output.ends_with(last));
     Ok(())
@@ -326,7 +330,7 @@ fn frames_of_a_message(rt: HostRuntime) -> Result<(), Fail> {
     lines.push_str("data 2816 40 ")?;
     push_letters(&mut lines, 248)?;
     lines.push_str("none\nbook 0 3104 3104 0 0 0 0 0 0 0\n")?;
-    let done = run_over(rt.alloc(), SIM, script.as_bytes());
+    let done = run_over(&rt, rt.alloc(), SIM, script.as_bytes());
     assert_eq!(rt; done.output.as_slice(), lines.as_bytes());
     assert_eq!(rt; done.status, 0);
     Ok(())
@@ -432,14 +436,14 @@ const NOT_DECODED: &[(&str, &str)] = &[
 fn datagrams(rt: HostRuntime) {
     for (word, lines) in DECODED {
         let words = ["mdriver", "decode", *word];
-        let done = run_over(rt.alloc(), &words, b"");
+        let done = run_over(&rt, rt.alloc(), &words, b"");
         assert_eq!(rt; done.output.as_slice(), lines.as_bytes());
         assert_eq!(rt; done.errors.len(), 0);
         assert_eq!(rt; done.status, 0);
     }
     for (word, told) in NOT_DECODED {
         let words = ["mdriver", "decode", *word];
-        let done = run_over(rt.alloc(), &words, b"");
+        let done = run_over(&rt, rt.alloc(), &words, b"");
         assert_eq!(rt; done.output.len(), 0);
         assert_eq!(rt; done.errors.as_slice(), told.as_bytes());
         assert_eq!(rt; done.status, 1);
@@ -454,11 +458,11 @@ fn longest_word(rt: HostRuntime) -> Result<(), Fail> {
         digits.push('0')?;
     }
     let words = ["mdriver", "decode", digits.as_str()];
-    let done = run_over(rt.alloc(), &words, b"");
+    let done = run_over(&rt, rt.alloc(), &words, b"");
     assert_eq!(rt; done.errors.as_slice(), b"error: F4 length\n".as_slice());
     digits.push_str("00")?;
     let words = ["mdriver", "decode", digits.as_str()];
-    let done = run_over(rt.alloc(), &words, b"");
+    let done = run_over(&rt, rt.alloc(), &words, b"");
     assert_eq!(rt; done.errors.as_slice(), b"error: hex\n".as_slice());
     assert_eq!(rt; done.status, 1);
     Ok(())
@@ -488,7 +492,7 @@ impl Write for Broken {
 fn broken_input(rt: HostRuntime) {
     let mut output = Vec::new(rt.alloc());
     let mut errors = Vec::new(rt.alloc());
-    let status = command(rt.alloc(), SIM, &mut Broken, &mut output, &mut errors);
+    let status = command(&rt, rt.alloc(), SIM, &mut Broken, &mut output, &mut errors);
     assert_eq!(rt; errors.as_slice(), b"error: read\n".as_slice());
     assert_eq!(rt; status, 1);
 }
@@ -508,10 +512,10 @@ impl Write for Clogged {
 }
 
 /// What a command line tells where its output is this one, and its status.
-fn told_of<W: Write>(alloc: Global, words: &[&str], output: &mut W) -> (Vec<u8>, u8) {
+fn told_of<R: Threads + Wait + Clock + Net + Sync, W: Write>(rt: &R, alloc: Global, words: &[&str], output: &mut W) -> (Vec<u8>, u8) {
     let mut input: &[u8] = b"log 65536 1408 7 0 1 1001 0\n";
     let mut errors = Vec::new(alloc);
-    let status = command(alloc, words, &mut input, output, &mut errors);
+    let status = command(rt, alloc, words, &mut input, output, &mut errors);
     (errors, status)
 }
 
@@ -519,10 +523,10 @@ fn told_of<W: Write>(alloc: Global, words: &[&str], output: &mut W) -> (Vec<u8>,
 #[test]
 fn broken_outputs(rt: HostRuntime) {
     for words in [SIM, DECODE, HELP, VERSION] {
-        let (errors, status) = told_of(rt.alloc(), words, &mut Broken);
+        let (errors, status) = told_of(&rt, rt.alloc(), words, &mut Broken);
         assert_eq!(rt; errors.as_slice(), b"error: write\n".as_slice());
         assert_eq!(rt; status, 1);
-        let (errors, status) = told_of(rt.alloc(), words, &mut Clogged);
+        let (errors, status) = told_of(&rt, rt.alloc(), words, &mut Clogged);
         assert_eq!(rt; errors.as_slice(), b"error: write\n".as_slice());
         assert_eq!(rt; status, 1);
     }
@@ -548,26 +552,26 @@ impl Write for Counted {
 }
 
 /// Whether a command line that is carried out writes something, and flushes all of it.
-fn is_flushed<'a>(alloc: Global, words: &'a [&'a str]) -> bool {
+fn is_flushed<'a, R: Threads + Wait + Clock + Net + Sync>(rt: &R, alloc: Global, words: &'a [&'a str]) -> bool {
     let mut input: &[u8] = b"log 65536 1408 7 0 1 1001 0\n";
     let mut output = Counted {
         written: 0,
         flushed: 0,
     };
     let mut errors = Vec::new(alloc);
-    let status = command(alloc, words, &mut input, &mut output, &mut errors);
+    let status = command(rt, alloc, words, &mut input, &mut output, &mut errors);
     status == 0 && output.written > 0 && output.flushed == output.written
 }
 
 #[test]
 fn flushes(rt: HostRuntime) {
     for words in [SIM, DECODE, HELP, VERSION] {
-        assert!(rt; is_flushed(rt.alloc(), words));
+        assert!(rt; is_flushed(&rt, rt.alloc(), words));
     }
 }
 
 const HELP_TEXT: &str =
-    "A media driver with concurrent publications (--version tells which)\n\nUsage: mdriver <COMMAND>\n\nCommands:\n  sim     Play the script on standard input\n  decode  Print the frames of a datagram\n  help    Print this message or the help of the given subcommand(s)\n\nOptions:\n  -h, --help  Print help\n";
+    "A media driver with concurrent publications (--version tells which)\n\nUsage: mdriver <COMMAND>\n\nCommands:\n  sim     Play the script on standard input\n  decode  Print the frames of a datagram\n  run     Run publishers, a sender and a receiver\n  help    Print this message or the help of the given subcommand(s)\n\nOptions:\n  -h, --help  Print help\n";
 
 const VERSION_TEXT: &str = "mdriver 0.1.0, proved with rattle-kit-13b logic dac8208d650f15bf\n";
 
@@ -609,7 +613,7 @@ fn command_lines(rt: HostRuntime) {
         (["mdriver", "help"].as_slice(), HELP_TEXT, "", 0),
         (VERSION, VERSION_TEXT, "", 0),
     ] {
-        let done = run_over(rt.alloc(), words, b"");
+        let done = run_over(&rt, rt.alloc(), words, b"");
         assert_eq!(rt; done.output.as_slice(), output.as_bytes());
         assert_eq!(rt; done.errors.as_slice(), errors.as_bytes());
         assert_eq!(rt; done.status, status);

@@ -1,4 +1,4 @@
-use commands::command;
+use commands::sim;
 use std::alloc::Global;
 use std::test::*;
 
@@ -62,14 +62,7 @@ const ANSWERS: &str =
 fn printed(alloc: Global, script: &str) -> Vec<u8> {
     let mut input = script.as_bytes();
     let mut output = Vec::new(alloc);
-    let mut errors = Vec::new(alloc);
-    let _ = command(
-        alloc,
-        &["mdriver", "sim"],
-        &mut input,
-        &mut output,
-        &mut errors,
-    );
+    let _ = sim(alloc, &mut input, &mut output);
     output
 }
 

@@ -1,0 +1,21 @@
+use Rattle.std.proofs.Common.{◌∙◌, codes}
+use Rattle.clap.specs.Matches.{found_of}
+use Rattle.clap.proofs.WalkLemmas.{one_text-rows}
+use Rattle.command_line.proofs.run_parser.run_of.Goals as goal
+
+pub returns : goal.returns
+returns c =
+    let rows = one_text-rows (found_of c.args.matches.now) (codes "counters") in
+    record {
+      publishers = c.number_of.ensures;
+      messages = c.number_of-2.ensures;
+      length = c.number_of-3.ensures;
+      loss = c.number_of-4.ensures;
+      repeat = c.number_of-5.ensures;
+      hold = c.number_of-6.ensures;
+      seed = c.number_of-7.ensures;
+      turns = c.number_of-8.ensures;
+      term = c.number_of-9.ensures;
+      mtu = c.number_of-10.ensures;
+      counters = record { given = λ e. c.get_flag.ensures.value (rows ∙ e); absent = λ e. c.get_flag.ensures.other (rows ∙ e) };
+    }

@@ -1,0 +1,171 @@
+//! The options of `run`.
+
+ghost use Rattle.std.specs.Prelude.{◌≡◌, IfOk, codes, false};
+ghost use Rattle.clap.specs.declared.builder.command.Command.TheViews.{out-Command};
+ghost use Rattle.clap.specs.Words.{app_of, found_of, new_app, rows_of, with_rule};
+ghost use Rattle.command_line.specs.RunLines.{flag_rule, run_app, with_limits, with_load, with_network};
+ghost use Rattle.command_line.specs.RunTold.{IsRunOf};
+
+use crate::number::{Number, number_of, with_number};
+use clap::{Arg, ArgAction, ArgMatches, Command};
+use run_options::RunOptions;
+use std::alloc::{AllocError, Global};
+
+const PUBLISHERS: Number = Number {
+    name: "publishers",
+    least: 1,
+    most: 8,
+    otherwise: 4,
+    help: "How many publishers, 1 to 8 [default: 4]",
+};
+
+const MESSAGES: Number = Number {
+    name: "messages",
+    least: 1,
+    most: 1_000_000,
+    otherwise: 1000,
+    help: "How many messages each of them sends, 1 to 1000000 [default: 1000]",
+};
+
+const LENGTH: Number = Number {
+    name: "length",
+    least: 8,
+    most: 2_097_152,
+    otherwise: 200,
+    help: "The bytes of a message, 8 to 2097152 [default: 200]",
+};
+
+const LOSS: Number = Number {
+    name: "loss",
+    least: 0,
+    most: 1000,
+    otherwise: 0,
+    help: "How many of 1000 datagrams are lost, 0 to 1000 [default: 0]",
+};
+
+const REPEAT: Number = Number {
+    name: "repeat",
+    least: 0,
+    most: 1000,
+    otherwise: 0,
+    help: "How many of 1000 are repeated, 0 to 1000 [default: 0]",
+};
+
+const HOLD: Number = Number {
+    name: "hold",
+    least: 0,
+    most: 1000,
+    otherwise: 0,
+    help: "How many of 1000 are held back, 0 to 1000 [default: 0]",
+};
+
+const SEED: Number = Number {
+    name: "seed",
+    least: 0,
+    most: u64::MAX,
+    otherwise: 1,
+    help: "Where the random words begin, 0 to 18446744073709551615 [default: 1]",
+};
+
+const TURNS: Number = Number {
+    name: "turns",
+    least: 1,
+    most: 1_000_000_000,
+    otherwise: 1_000_000,
+    help: "The most turns of the run, 1 to 1000000000 [default: 1000000]",
+};
+
+const TERM: Number = Number {
+    name: "term",
+    least: 0,
+    most: 4_294_967_295,
+    otherwise: 65_536,
+    help: "The bytes of a term, a power of two from 65536 to 16777216 [default: 65536]",
+};
+
+const MTU: Number = Number {
+    name: "mtu",
+    least: 0,
+    most: 4_294_967_295,
+    otherwise: 1408,
+    help: "The most bytes of a datagram, a multiple of 32 from 256 to 65504 [default: 1408]",
+};
+
+/// The command `run`.
+pub(crate) fn run_command<'a>(alloc: Global) -> Result<Command<'a>, AllocError>
+    ensures shape { IfOk result (λ r. app_of r ≡ run_app) }
+    ensures globals { IfOk result (λ r. (out-Command r).has_globals ≡ false) }
+{
+    let run = with_load(alloc, without_options(alloc))?;
+    let run = with_network(alloc, run)?;
+    let run = with_limits(alloc, run)?;
+    with_counters(alloc, run)
+}
+
+fn without_options<'a>(alloc: Global) -> Command<'a>
+    ensures shape { app_of result ≡ new_app (codes "run") }
+    ensures globals { (out-Command result).has_globals ≡ false }
+{
+    Command::new(alloc, "run").about("Run publishers, a sender and a receiver")
+}
+
+/// The options of what is sent.
+fn with_load<'a>(alloc: Global, command: Command<'a>) -> Result<Command<'a>, AllocError>
+    ensures shape { IfOk result (λ r. app_of r ≡ with_load (app_of command.entry)) }
+    ensures globals { IfOk result (λ r. (out-Command command.entry).has_globals ≡ false → (out-Command r).has_globals ≡ false) }
+{
+    let command = with_number(alloc, command, PUBLISHERS)?;
+    let command = with_number(alloc, command, MESSAGES)?;
+    with_number(alloc, command, LENGTH)
+}
+
+/// The options of the network's losses.
+fn with_network<'a>(alloc: Global, command: Command<'a>) -> Result<Command<'a>, AllocError>
+    ensures shape { IfOk result (λ r. app_of r ≡ with_network (app_of command.entry)) }
+    ensures globals { IfOk result (λ r. (out-Command command.entry).has_globals ≡ false → (out-Command r).has_globals ≡ false) }
+{
+    let command = with_number(alloc, command, LOSS)?;
+    let command = with_number(alloc, command, REPEAT)?;
+    let command = with_number(alloc, command, HOLD)?;
+    with_number(alloc, command, SEED)
+}
+
+/// The options of the run's length, and of the stream's shape.
+fn with_limits<'a>(alloc: Global, command: Command<'a>) -> Result<Command<'a>, AllocError>
+    ensures shape { IfOk result (λ r. app_of r ≡ with_limits (app_of command.entry)) }
+    ensures globals { IfOk result (λ r. (out-Command command.entry).has_globals ≡ false → (out-Command r).has_globals ≡ false) }
+{
+    let command = with_number(alloc, command, TURNS)?;
+    let command = with_number(alloc, command, TERM)?;
+    with_number(alloc, command, MTU)
+}
+
+fn with_counters<'a>(alloc: Global, command: Command<'a>) -> Result<Command<'a>, AllocError>
+    ensures shape { IfOk result (λ r. app_of r ≡ with_rule (app_of command.entry) (flag_rule (codes "counters"))) }
+    ensures globals { IfOk result (λ r. (out-Command command.entry).has_globals ≡ false → (out-Command r).has_globals ≡ false) }
+{
+    let counters = Arg::new(alloc, "counters")
+        .long("counters")
+        .help("Show the counters")
+        .action(ArgAction::SetTrue);
+    command.arg(counters)
+}
+
+/// What the options that were found tell.
+pub(crate) fn run_of(matches: &ArgMatches<'_>) -> RunOptions
+    ensures { IsRunOf (rows_of (found_of matches.now)) result }
+{
+    RunOptions {
+        publishers: number_of(matches, PUBLISHERS) as u32,
+        messages: number_of(matches, MESSAGES) as u32,
+        length: number_of(matches, LENGTH) as u32,
+        loss: number_of(matches, LOSS) as u32,
+        repeat: number_of(matches, REPEAT) as u32,
+        hold: number_of(matches, HOLD) as u32,
+        seed: number_of(matches, SEED),
+        turns: number_of(matches, TURNS) as u32,
+        term: number_of(matches, TERM) as u32,
+        mtu: number_of(matches, MTU) as u32,
+        counters: matches.get_flag("counters"),
+    }
+}

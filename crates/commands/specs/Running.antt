@@ -1,0 +1,27 @@
+-- What a run's command writes.
+use Rattle.std.specs.Prelude.{◌≡◌, ℕ, List, [], ◌∷◌, ◌++◌, Option, codes, decimal, if◌then◌else◌}
+use Rattle.std.specs.Io.KnownBytes.{Appends}
+use Rattle.one_hand.specs.declared.book.Book.{Book}
+use Rattle.script_parts.specs.LineTexts.{shares_text}
+use Rattle.run_options.specs.Plans.{IsPlanOf}
+use Rattle.run_options.specs.declared.made.Plan.{Plan}
+use Rattle.run_options.specs.declared.options.RunOptions.{RunOptions}
+use Rattle.run.specs.Outcomes.{IsOutcome, ending_of}
+use Rattle.run.specs.declared.outcome.Ending.{Ending}
+use Rattle.run.specs.declared.outcome.Outcome.{Outcome}
+
+-- the three lines
+abbrev pub outcome_text : Outcome → List ℕ
+outcome_text o =
+    (codes "polled " ++ decimal o.polled ++ codes " of " ++ decimal o.wanted ++ 10 ∷ [])
+    ++ (codes "order " ++ (if o.kept then codes "kept" else codes "broken") ++ 10 ∷ [])
+    ++ (codes "book " ++ decimal o.book.start ++ codes " " ++ decimal o.book.tail ++ shares_text o.book.shares ++ 10 ∷ [])
+
+-- what a run of what was told left was written, and this is how it ended
+pub record IsLeftBy (options : RunOptions) (before after : Option (List ℕ)) (ending : Ending) : Type 0 where
+  pub plan : Plan
+  pub planned : IsPlanOf options plan
+  pub outcome : Outcome
+  pub left : IsOutcome plan outcome
+  pub ended : ending ≡ ending_of outcome
+  pub written : Appends before after (outcome_text outcome)

@@ -1,0 +1,51 @@
+//! A run, and the three lines that tell what it left.
+
+ghost use Rattle.std.specs.Prelude.{◌≡◌, IfErr, IfOk, OnOk};
+ghost use Rattle.std.specs.Io.KnownBytes.{Appends};
+ghost use Rattle.run.specs.Outcomes.{ending_of};
+ghost use Rattle.commands.specs.Running.{IsLeftBy, outcome_text};
+
+use crate::fault::Fault;
+use run::{Ending, Open, Outcome, run};
+use run_options::{RunOptions, plan};
+use script_parts::Line;
+use std::alloc::Global;
+use std::io::Write;
+use std::net::Net;
+use std::sync::Wait;
+use std::thread::Threads;
+use std::time::Clock;
+
+/// Runs the driver as it is told, and writes what it left: how many messages were polled, whether each publisher's came in
+/// its order, and the log's book, a line each. Where counters are asked for, `errors` gets a line of them once a second. The
+/// answer is how it ended.
+///
+/// The fault is that of the plan, `Device` where a socket, a thread or the clock failed, or `Memory`, and then nothing was
+/// written; or `Write`.
+pub fn run_driver<R: Threads + Wait + Clock + Net + Sync, W: Write, E: Write + Drop>(
+    rt: &R,
+    alloc: Global,
+    options: &RunOptions,
+    output: &mut W,
+    errors: E,
+) -> Result<Ending, Fault>
+    ensures { IfOk result (λ ending. IsLeftBy options.now (W.contents output.old) (W.contents output.new) ending) }
+{
+    let plan = plan(options)?;
+    let outcome = run(rt, alloc, &plan, &Open, errors)?;
+    write_outcome(&outcome, output)?;
+    output.flush().map_err(|_| Fault::Write)?;
+    Ok(outcome.ending())
+}
+
+/// Writes the three lines.
+fn write_outcome<W: Write>(outcome: &Outcome, output: &mut W) -> Result<(), Fault>
+    ensures done { OnOk result (Appends (W.contents output.old) (W.contents output.new) (outcome_text outcome.now)) }
+    ensures fault { IfErr result (λ fault. fault ≡ Fault.Write) }
+{
+    let order = if outcome.kept { "kept" } else { "broken" };
+    writeln!(output, "polled {} of {}", outcome.polled, outcome.wanted)
+        .map_err(|_| Fault::Write)?;
+    writeln!(output, "order {order}").map_err(|_| Fault::Write)?;
+    writeln!(output, "{}", Line::Book(outcome.book)).map_err(|_| Fault::Write)
+}

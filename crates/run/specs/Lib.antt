@@ -1,0 +1,4 @@
+pub mod Threads
+pub mod Senders
+pub mod Outcomes
+pub mod Openings

@@ -1,0 +1,84 @@
+//! The log of a run, and its subscriber.
+
+ghost use Rattle.std.specs.Prelude.{◌≡◌, ◌≤◌, ◌+◌, None, IfOk, take, drop};
+ghost use Rattle.receiver.specs.Receiving.{Receiver};
+ghost use Rattle.receiver.specs.Subscribing.{RepresentsSubscriber};
+ghost use Rattle.run.specs.Openings.{IsOpened};
+
+use agents::AgentFault;
+use log_keeping::Keeper;
+use log_parts::{Parts, open};
+use log_reading::LogReader;
+use position::Geometry;
+use receiver::{ReceiverCore, Subscriber};
+use shared_log::{Log, Publisher};
+use std::alloc::{AllocError, Global};
+
+/// The ids of the stream that a run sends.
+pub(crate) const SESSION: i32 = 1;
+
+pub(crate) const STREAM: i32 = 1001;
+
+/// The receiver's id.
+const RECEIVER: i64 = 1;
+
+/// The log of a run with its passes, of which some publishers aren't used.
+#[derive(Drop)]
+pub(crate) struct Opened {
+    pub(crate) log: Log,
+    pub(crate) publishers: Vec<Publisher>,
+    pub(crate) unused: Vec<Publisher>,
+    pub(crate) reader: LogReader,
+    pub(crate) keeper: Keeper,
+}
+
+/// The first elements, so many, and the others.
+fn parted(
+    alloc: Global,
+    all: [Publisher; 8],
+    count: usize,
+) -> Result<(Vec<Publisher>, Vec<Publisher>), AllocError>
+    requires { count ≤ 8 }
+    ensures { IfOk result (λ r. (r.0.items ≡ take count all) × (r.1.items ≡ drop count all)) }
+{
+    let mut first = Vec::from_array(alloc, all)?;
+    let others = first.split_off(count)?;
+    Ok((first, others))
+}
+
+/// Opens the log of a run with so many publishers. It fails only where memory is refused.
+pub(crate) fn open_run(
+    alloc: Global,
+    geometry: Geometry,
+    count: usize,
+) -> Result<Opened, AgentFault>
+    requires { count ≤ 8 }
+    ensures { IfOk result (λ o. IsOpened geometry o) }
+{
+    let Ok((log, parts)) = open(alloc, geometry, SESSION, STREAM, 0, 1) else {
+        return Err(AgentFault::Memory);
+    };
+    let Parts {
+        publishers,
+        mut readers,
+        keeper,
+    } = parts;
+    let (publishers, unused) = parted(alloc, publishers, count)?;
+    Ok(Opened {
+        log,
+        publishers,
+        unused,
+        reader: readers.remove(0),
+        keeper,
+    })
+}
+
+/// A subscriber that has met nothing.
+pub(crate) fn listening(alloc: Global, geometry: &Geometry) -> Result<Subscriber, AllocError>
+    ensures { IfOk result (λ s. (r : Receiver) × RepresentsSubscriber s r × (r.image ≡ None)) }
+{
+    let window = geometry.term_length() / 2;
+    let core = ReceiverCore::new(alloc, SESSION, STREAM, window, RECEIVER, 1);
+    let greatest = geometry.max_message() as usize;
+    Ok(Subscriber::new(alloc, core, greatest)?)
+}

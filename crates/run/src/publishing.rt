@@ -1,0 +1,83 @@
+//! A publisher's turns.
+
+ghost use Rattle.std.specs.Prelude.{◌≡◌, ◌≤◌, IfOk, length, vec_len};
+ghost use Rattle.theory.specs.Position.{max_message};
+ghost use Rattle.log_parts.specs.Books.{IsDone};
+ghost use Rattle.run.specs.Threads.{Ends};
+
+use crate::gate::{Gate, Role};
+use crate::stage::{Stage, rest};
+use agents::AgentFault;
+use shared_log::{Log, OnLog, Publisher};
+use std::alloc::{AllocError, Global};
+use std::time::Clock;
+use word_calls::{Refusal, offer};
+
+/// What a publisher has to do.
+#[derive(Clone, Copy)]
+pub(crate) struct Task {
+    /// How many messages.
+    pub(crate) messages: u32,
+    /// Their length in bytes.
+    pub(crate) length: usize,
+    /// How many offers it may make.
+    pub(crate) turns: u32,
+}
+
+/// A publisher's first message: its number, 0, and then zeros.
+fn first_message(alloc: Global, number: u64, size: usize) -> Result<Vec<u8>, AllocError>
+    requires { 8 ≤ size }
+    ensures { IfOk result (λ m. vec_len m ≡ size) }
+{
+    let mut message = vec![in alloc; 0; size]?;
+    message[..4].copy_from_slice(&number.to_le_bytes()[..4]);
+    Ok(message)
+}
+
+/// Offers a message.
+fn offer_once(log: &Log, publisher: &mut Publisher, message: &[u8]) -> Result<u64, Refusal>
+    requires done { IsDone log.now publisher.old }
+    requires short { length message.now ≤ max_message log.now.identity.geometry }
+    ensures { Ends log.now publisher.old publisher.new }
+{
+    offer(&mut OnLog::new(log), publisher, message)
+}
+
+/// Offers a publisher's messages one after the other, each until it is accepted. It ends behind the last one, where the
+/// log is closed or used up, when all is to stop, and after its turns, when it stops all.
+pub(crate) fn publish<R: Clock, G: Gate>(
+    rt: &R,
+    alloc: Global,
+    stage: &Stage,
+    gate: &G,
+    task: Task,
+    mut publisher: Publisher,
+) -> Result<Publisher, AgentFault>
+    requires done { IsDone stage.now.log publisher }
+    requires whole { 8 ≤ task.length }
+    requires short { task.length ≤ max_message stage.now.log.identity.geometry }
+    ensures { IfOk result (λ q. Ends stage.now.log publisher q) }
+{
+    let number = publisher.number();
+    let mut message = first_message(alloc, number, task.length)?;
+    let mut count: u32 = 0;
+    for turn in 0..task.turns {
+        if count >= task.messages || stage.is_stopped() {
+            return Ok(publisher);
+        }
+        gate.enter(Role::Publisher(number), turn);
+        message[4..8].copy_from_slice(&count.to_le_bytes());
+        let answer = offer_once(&stage.log, &mut publisher, &message);
+        gate.leave(Role::Publisher(number), turn);
+        match answer {
+            Ok(_) => count += 1,
+            Err(Refusal::AdminAction) => {}
+            Err(Refusal::BackPressured | Refusal::NotConnected) => rest(rt),
+            Err(Refusal::Closed | Refusal::MaxPositionExceeded) => return Ok(publisher),
+        }
+    }
+    if count < task.messages {
+        stage.stop();
+    }
+    Ok(publisher)
+}

@@ -1,0 +1,110 @@
+//! The receiver's turns, and the subscriber's.
+
+ghost use Rattle.std.specs.Prelude.{◌≡◌, ◌+◌, ◌≤◌, ◌<◌, ◌^◌, IfOk};
+
+use crate::gate::{Gate, Role};
+use crate::stage::{Stage, rest};
+use agents::{AgentFault, Duty, REPLY};
+use assembler::AssemblyError;
+use counters::Counters;
+use endpoint::Datagrams;
+use receiver::PollError;
+use receiver_agent::{Named, ReceiverAgent};
+use std::alloc::Global;
+use std::sync::{Mutex, Wait};
+use std::time::Clock;
+use tally::Tally;
+
+/// A cycle of the receiver, under the lock.
+fn receive_once<N: Named, R: Wait + Clock, D: Datagrams>(
+    rt: &R,
+    stage: &Stage,
+    counters: &Counters,
+    agent: &Mutex<ReceiverAgent<N>>,
+    duty: &mut Duty<D>,
+) -> Result<bool, AgentFault>
+    requires counters { counters.now ≡ N.counters }
+    requires size { duty.old.mtu ≡ 40 }
+    ensures { duty.new.mtu ≡ duty.old.mtu }
+{
+    let now = stage.moment(rt)?;
+    agent.lock(rt).cycle(rt, counters, duty, now)
+}
+
+/// Receives until all is to stop or its turns are used, when it stops all.
+pub(crate) fn receive<N: Named, R: Wait + Clock, D: Datagrams + Drop, G: Gate>(
+    rt: &R,
+    alloc: Global,
+    stage: &Stage,
+    gate: &G,
+    turns: u32,
+    counters: &Counters,
+    agent: &Mutex<ReceiverAgent<N>>,
+    device: D,
+) -> Result<(), AgentFault>
+    requires { counters.now ≡ N.counters }
+{
+    let Ok(mut duty) = Duty::new(alloc, device, REPLY) else {
+        return Err(AgentFault::Memory);
+    };
+    for turn in 0..turns {
+        if stage.is_stopped() {
+            return Ok(());
+        }
+        gate.enter(Role::Receiver, turn);
+        let busy = receive_once(rt, stage, counters, agent, &mut duty)?;
+        gate.leave(Role::Receiver, turn);
+        if !busy {
+            rest(rt);
+        }
+    }
+    stage.stop();
+    Ok(())
+}
+
+/// Polls once, under the lock. The answer is whether there was a message.
+fn poll_once<N: Named, R: Wait>(
+    rt: &R,
+    agent: &Mutex<ReceiverAgent<N>>,
+    tally: &mut Tally,
+) -> Result<bool, AgentFault>
+    requires room { tally.old.polled < 2 ^ 63 }
+    ensures { IfOk result (λ any. tally.new.polled ≤ tally.old.polled + 1) }
+{
+    let polled = agent.lock(rt).poll();
+    match polled {
+        Ok(Some(message)) => {
+            tally.take(&message.bytes);
+            Ok(true)
+        }
+        Ok(None) | Err(PollError::NoImage) => Ok(false),
+        Err(PollError::Unassembled(AssemblyError::TooLong)) => Ok(true),
+        Err(PollError::Unassembled(AssemblyError::Memory)) => Err(AgentFault::Memory),
+    }
+}
+
+/// Polls until so many messages were there, when it stops all; or all is to stop, or its turns are used, when it stops all,
+/// too. The answer is the tally of what was polled.
+pub(crate) fn subscribe<N: Named, R: Wait + Clock>(
+    rt: &R,
+    stage: &Stage,
+    agent: &Mutex<ReceiverAgent<N>>,
+    wanted: u64,
+    turns: u32,
+) -> Result<Tally, AgentFault>
+    requires { wanted < 2 ^ 63 }
+    ensures { IfOk result (λ tally. tally.polled ≤ wanted) }
+{
+    let mut tally = Tally::new();
+    for _ in 0..turns {
+        if tally.polled() >= wanted || stage.is_stopped() {
+            break;
+        }
+        if !poll_once(rt, agent, &mut tally)? {
+            rest(rt);
+        }
+        stage.tell_polled(tally.polled());
+    }
+    stage.stop();
+    Ok(tally)
+}

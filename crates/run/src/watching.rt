@@ -1,0 +1,68 @@
+//! What the starting thread does while the others run.
+
+ghost use Rattle.std.specs.Prelude.{◌≡◌};
+
+use crate::stage::{Done, Stage};
+use counters::{CounterReader, Counters};
+use std::io::Write;
+use std::sync::Wait;
+use std::thread;
+use std::time::{Clock, Duration};
+
+/// How often it looks whether all is to stop, in milliseconds, and after how many looks it tells what was done.
+const LOOK: u64 = 1;
+
+const LOOKS: u32 = 1000;
+
+/// A line: the three positions, and what was done since the line before.
+fn tell<R: Wait, E: Write>(
+    rt: &R,
+    stage: &Stage,
+    counters: &Counters,
+    errors: &mut E,
+    reader: &mut CounterReader,
+    before: Done,
+) -> Done
+    requires { reader.old.counters ≡ counters.now }
+    ensures { reader.new.counters ≡ reader.old.counters }
+{
+    let done = stage.done();
+    let readings = counters.read(rt, reader);
+    let sent = done.sent.wrapping_sub(before.sent);
+    let resent = done.resent.wrapping_sub(before.resent);
+    let polled = done.polled.wrapping_sub(before.polled);
+    let _ = writeln!(
+        errors,
+        "least {} rebuilt {} high-water {} sent {sent} resent {resent} polled {polled}",
+        readings.least, readings.rebuilt, readings.high_water
+    );
+    done
+}
+
+/// Waits until all is to stop, and tells once a second what was done, if it is to be shown.
+pub(crate) fn watch_until<R: Wait + Clock, E: Write>(
+    rt: &R,
+    stage: &Stage,
+    counters: &Counters,
+    errors: &mut E,
+    reader: &mut CounterReader,
+    shows: bool,
+)
+    requires { reader.old.counters ≡ counters.now }
+{
+    let mut done = stage.done();
+    let mut looks: u32 = 0;
+    for _ in rt.forever() {
+        if stage.is_stopped() {
+            return;
+        }
+        let _ = thread::sleep(rt, Duration::from_millis(LOOK));
+        looks = looks.wrapping_add(1);
+        if looks >= LOOKS {
+            looks = 0;
+            if shows {
+                done = tell(rt, stage, counters, errors, reader, done);
+            }
+        }
+    }
+}

@@ -1,0 +1,7 @@
+//! Tests of whole runs, in threads and over UDP.
+#![tactic(auto)]
+
+#[cfg(test)]
+mod gates;
+#[cfg(test)]
+mod losses;
