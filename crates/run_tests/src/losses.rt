@@ -49,6 +49,18 @@ fn with_losses(rt: HostRuntime) {
     assert!(rt; prints(&rt, rt.alloc(), &words, lines, 0));
 }
 
+/// Where all datagrams are lost the turns are used before anything was polled. A line of counters comes each second.
+#[test]
+fn without_a_network(rt: HostRuntime) {
+    let words = ["mdriver", "run", "--messages=1", "--loss=1000", "--turns=60000", "--counters"];
+    let (output, errors, status) = told_by(&rt, rt.alloc(), &words);
+    let lines = "polled 0 of 4\norder kept\nbook 0 0 0 0 0 0 0 0 0 0\n";
+    let line = "least 0 rebuilt 0 high-water 0 sent 0 resent 0 polled 0\n";
+    assert_eq!(rt; output.as_slice(), lines.as_bytes());
+    assert!(rt; errors.as_slice().starts_with(line.as_bytes()));
+    assert_eq!(rt; status, 3);
+}
+
 /// Whether a command line prints nothing, this fault, and has status 1.
 fn fails<R: Threads + Wait + Clock + Net + Sync>(
     rt: &R,
