@@ -52,8 +52,7 @@ fn write_outcome<W: Write>(outcome: &Outcome, output: &mut W) -> Result<(), Faul
     ensures fault { IfErr result (λ fault. fault ≡ Fault.Write) }
 {
     let order = if outcome.kept { "kept" } else { "broken" };
-    writeln!(output, "polled {} of {}", outcome.polled, outcome.wanted)
-        .map_err(|_| Fault::Write)?;
+    writeln!(output, "polled {} of {}", outcome.polled, outcome.wanted).map_err(|_| Fault::Write)?;
     writeln!(output, "order {order}").map_err(|_| Fault::Write)?;
     writeln!(output, "{}", Line::Book(outcome.book)).map_err(|_| Fault::Write)
 }
