@@ -1,7 +1,6 @@
 -- What a run's command writes.
 use Rattle.std.specs.Prelude.{◌≡◌, ℕ, List, [], ◌∷◌, ◌++◌, Option, codes, decimal, if◌then◌else◌}
 use Rattle.std.specs.Io.KnownBytes.{Appends}
-use Rattle.one_hand.specs.declared.book.Book.{Book}
 use Rattle.script_parts.specs.LineTexts.{shares_text}
 use Rattle.run_options.specs.Plans.{IsPlanOf}
 use Rattle.run_options.specs.declared.made.Plan.{Plan}

@@ -26,13 +26,7 @@ const VERSION: &str = "mdriver 0.1.0, proved with rattle-kit-13b logic dac8208d6
 ///
 /// What is written for each isn't promised here: `options`, `sim`, `decode` and `run_driver` say what they make of the words
 /// and of the input, and the texts of help and refusals are the parser's, of which no contract speaks.
-pub fn command<
-    'a,
-    C: Threads + Wait + Clock + Net + Sync,
-    R: Read,
-    W: Write,
-    E: Write,
->(
+pub fn command<'a, C: Threads + Wait + Clock + Net + Sync, R: Read, W: Write, E: Write>(
     rt: &C,
     alloc: Global,
     words: &'a [&'a str],

@@ -33,9 +33,17 @@ pub fn run_driver<R: Threads + Wait + Clock + Net + Sync, W: Write, E: Write + D
 {
     let plan = plan(options)?;
     let outcome = run(rt, alloc, &plan, &Open, errors)?;
-    write_outcome(&outcome, output)?;
-    output.flush().map_err(|_| Fault::Write)?;
+    show_outcome(&outcome, output)?;
     Ok(outcome.ending())
+}
+
+/// Writes the three lines, and flushes.
+fn show_outcome<W: Write>(outcome: &Outcome, output: &mut W) -> Result<(), Fault>
+    ensures done { OnOk result (Appends (W.contents output.old) (W.contents output.new) (outcome_text outcome.now)) }
+    ensures fault { IfErr result (λ fault. fault ≡ Fault.Write) }
+{
+    write_outcome(outcome, output)?;
+    output.flush().map_err(|_| Fault::Write)
 }
 
 /// Writes the three lines.
@@ -44,8 +52,7 @@ fn write_outcome<W: Write>(outcome: &Outcome, output: &mut W) -> Result<(), Faul
     ensures fault { IfErr result (λ fault. fault ≡ Fault.Write) }
 {
     let order = if outcome.kept { "kept" } else { "broken" };
-    writeln!(output, "polled {} of {}", outcome.polled, outcome.wanted)
-        .map_err(|_| Fault::Write)?;
+    writeln!(output, "polled {} of {}", outcome.polled, outcome.wanted).map_err(|_| Fault::Write)?;
     writeln!(output, "order {order}").map_err(|_| Fault::Write)?;
     writeln!(output, "{}", Line::Book(outcome.book)).map_err(|_| Fault::Write)
 }

@@ -44,12 +44,7 @@ fn words(rt: &HostRuntime) -> io::Result<Vec<String>> {
 }
 
 /// Carries out a command line. What fails here is memory, before anything was read.
-fn carry_out<
-    C: Threads + Wait + Clock + Net + Sync,
-    R: Read,
-    W: Write + Drop,
-    E: Write,
->(
+fn carry_out<C: Threads + Wait + Clock + Net + Sync, R: Read, W: Write + Drop, E: Write>(
     rt: &C,
     alloc: Global,
     words: &[String],

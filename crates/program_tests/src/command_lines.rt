@@ -218,7 +218,12 @@ struct Done {
     status: u8,
 }
 
-fn run_over<R: Threads + Wait + Clock + Net + Sync>(rt: &R, alloc: Global, words: &[&str], mut input: &[u8]) -> Done {
+fn run_over<R: Threads + Wait + Clock + Net + Sync>(
+    rt: &R,
+    alloc: Global,
+    words: &[&str],
+    mut input: &[u8],
+) -> Done {
     let mut output = Vec::new(alloc);
     let mut errors = Vec::new(alloc);
     let status = command(rt, alloc, words, &mut input, &mut output, &mut errors);
@@ -512,7 +517,12 @@ impl Write for Clogged {
 }
 
 /// What a command line tells where its output is this one, and its status.
-fn told_of<R: Threads + Wait + Clock + Net + Sync, W: Write>(rt: &R, alloc: Global, words: &[&str], output: &mut W) -> (Vec<u8>, u8) {
+fn told_of<R: Threads + Wait + Clock + Net + Sync, W: Write>(
+    rt: &R,
+    alloc: Global,
+    words: &[&str],
+    output: &mut W,
+) -> (Vec<u8>, u8) {
     let mut input: &[u8] = b"log 65536 1408 7 0 1 1001 0\n";
     let mut errors = Vec::new(alloc);
     let status = command(rt, alloc, words, &mut input, output, &mut errors);
@@ -552,7 +562,11 @@ impl Write for Counted {
 }
 
 /// Whether a command line that is carried out writes something, and flushes all of it.
-fn is_flushed<'a, R: Threads + Wait + Clock + Net + Sync>(rt: &R, alloc: Global, words: &'a [&'a str]) -> bool {
+fn is_flushed<'a, R: Threads + Wait + Clock + Net + Sync>(
+    rt: &R,
+    alloc: Global,
+    words: &'a [&'a str],
+) -> bool {
     let mut input: &[u8] = b"log 65536 1408 7 0 1 1001 0\n";
     let mut output = Counted {
         written: 0,

@@ -113,7 +113,10 @@ fn each_goes_on(rt: HostRuntime) -> Result<(), Fail> {
     for pair in 0..25usize {
         let (held, awaited) = (ROLES[pair / 5], ROLES[pair % 5]);
         if held != awaited {
-            assert!(rt; is_whole(&rt, rt.alloc(), &plan, held, awaited), "{held:?} {awaited:?}");
+            assert!(rt;
+                is_whole(&rt, rt.alloc(), &plan, held, awaited),
+                "{held:?} {awaited:?}"
+            );
         }
     }
     Ok(())

@@ -1,11 +1,9 @@
-use Rattle.std.proofs.Common.{◌≡◌, ◌≤◌, ◌∙◌, ℕ, List, Option, None, Some, Result, Ok, Err, length, sym, ap, subst, rules}
+use Rattle.std.proofs.Common.{◌≡◌, ◌≤◌, ℕ, List, Option, None, Some, Result, Ok, Err, length, sym, subst, rules}
 use Rattle.std.specs.Prelude.{IfErr, IfSome, OnOk}
 use Rattle.std.specs.Io.KnownBytes.{Appends}
 use Rattle.std.proofs.lemmas.Result.{IfErr-weaker}
 use Rattle.script.specs.Language.{IsScript}
 use Rattle.script.specs.Meaning.{ScriptContent, script_content}
-use Rattle.script_run.specs.LineContents.{LineContent}
-use Rattle.script_run.specs.Output.{IsOutputOf}
 use Rattle.script_parts.specs.LineTexts.{text_of_lines}
 use Rattle.script_parts.specs.Lines.{line_contents}
 use Rattle.commands.specs.Scripting.{ExplainsScript, HoldsScript, PlaysInput}

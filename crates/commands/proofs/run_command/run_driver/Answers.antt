@@ -1,0 +1,11 @@
+use Rattle.commands.proofs.run_command.run_driver.Goals as goal
+
+pub returns : goal.returns
+returns g c = record {
+  plan = c.in_ok-plan.plan;
+  planned = c.in_ok-plan.ensures.made;
+  outcome = c.in_ok-outcome.outcome;
+  left = c.in_ok-outcome.ensures;
+  ended = c.ending.ensures;
+  written = c.in_ok-show_outcome.ensures.done;
+}
