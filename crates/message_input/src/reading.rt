@@ -1,0 +1,31 @@
+//! A message of an input.
+
+ghost use Rattle.std.specs.Prelude.{IfErr, IfOk};
+ghost use Rattle.message_input.specs.Inputs.{Explains, Gives};
+
+use crate::blocks::next_block;
+use crate::fault::InputFault;
+use crate::lines::next_line;
+use message_form::Form;
+use std::io::Read;
+
+/// Reads the next message, of at most `greatest` bytes, and says whether there was one; none is there only at the end of
+/// the input. `number` is the message's, counted from 1, for the faults. A carriage return is kept, and an empty line is an
+/// empty message. The last line may lack its line feed.
+///
+/// At a fault the input has lost what was taken of the message, so nothing sensible can be read behind it.
+pub fn read_message<R: Read>(
+    form: Form,
+    number: u64,
+    greatest: usize,
+    input: &mut R,
+    message: &mut Vec<u8>,
+) -> Result<bool, InputFault>
+    ensures gives { IfOk result (λ any. Gives form greatest (R.remaining input.old) (R.remaining input.new) any message.new.items) }
+    ensures fault { IfErr result (λ fault. Explains form number greatest (R.remaining input.old) (R.remaining input.new) fault) }
+{
+    match form {
+        Form::Lines => next_line(number, greatest, input, message),
+        Form::Blocks => next_block(number, greatest, input, message),
+    }
+}
