@@ -9,7 +9,7 @@ use plain_log::PlainLog;
 use position::Geometry;
 use rand_core::utils::NextWord;
 use rand_pcg::Pcg32;
-use run_claims::{ClaimAnswer, ClaimCommand, run_on_both};
+use run_claims::{ClaimAnswer, ClaimCommand, run_on_both, runs_agree};
 use std::alloc::{AllocError, Global};
 use std::process::Abort;
 use std::test::*;
@@ -63,7 +63,7 @@ fn run_drawn<R: Abort>(rt: &R, alloc: Global, seed: u64) -> Result<usize, Fail> 
     let (mut plain, mut shared) = open_both(alloc, geometry, start)?;
     let answers = run_on_both(alloc, &mut plain, &mut shared, &commands);
     let (of_plain, of_shared) = answers?;
-    assert_eq!(rt; of_plain.as_slice(), of_shared.as_slice());
+    assert!(rt; of_plain.as_slice() == of_shared.as_slice());
     let accepted = of_plain.iter().filter(|answer| matches!(
         answer,
         ClaimAnswer::Ends(_) | ClaimAnswer::Begins { .. }
@@ -79,5 +79,59 @@ fn drawn_commands(rt: HostRuntime) -> Result<(), Fail> {
         accepted = accepted.saturating_add(run_drawn(&rt, rt.alloc(), seed)?);
     }
     assert!(rt; accepted > 1000, "{accepted} were accepted");
+    Ok(())
+}
+
+/// Publishers that aren't there, and a payload that isn't as long as its claim, on both.
+#[test]
+fn unfit_commands(rt: HostRuntime) -> Result<(), Fail> {
+    let alloc = rt.alloc();
+    let payload = vec![in alloc; 98; 99]?;
+    let commands = [
+        ClaimCommand::Claim {
+            publisher: 8,
+            size: 3,
+        },
+        ClaimCommand::Abort { publisher: 8 },
+        ClaimCommand::Offer {
+            publisher: 8,
+            message: Vec::new(alloc),
+        },
+        ClaimCommand::Commit {
+            publisher: 4_294_967_295,
+            payload: Vec::new(alloc),
+        },
+        ClaimCommand::Claim {
+            publisher: 1,
+            size: 100,
+        },
+        ClaimCommand::Commit {
+            publisher: 1,
+            payload,
+        },
+        ClaimCommand::Commit {
+            publisher: 1,
+            payload: vec![in alloc; 98; 100]?,
+        },
+    ];
+    let claimed = ClaimAnswer::Begins {
+        start: 32,
+        end: 192,
+    };
+    let unfit = ClaimAnswer::Unfit;
+    let expected = [
+        unfit,
+        unfit,
+        unfit,
+        unfit,
+        claimed,
+        unfit,
+        ClaimAnswer::Ends(192),
+    ];
+    runs_agree();
+    let (mut plain, mut shared) = open_both(alloc, Geometry::new(65_536, 1408, 7)?, 32)?;
+    let (of_plain, of_shared) = run_on_both(alloc, &mut plain, &mut shared, &commands)?;
+    assert!(rt; of_plain.as_slice() == expected.as_slice());
+    assert!(rt; of_shared.as_slice() == expected.as_slice());
     Ok(())
 }

@@ -3,5 +3,3 @@
 
 #[cfg(test)]
 mod both;
-#[cfg(test)]
-mod runs;

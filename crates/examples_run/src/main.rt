@@ -1,9 +1,16 @@
-//! Plays each script of `examples/`, and says whether it prints what is expected.
+//! Plays each script of `examples/` and carries out each row, and says whether it prints what is expected.
 #![tactic(auto)]
 
-use commands::sim;
+mod rows;
+mod streams;
+
+use rows::play_rows;
 use std::alloc::Global;
+use std::net::Net;
 use std::process::ExitCode;
+use std::sync::Wait;
+use std::thread::Threads;
+use std::time::Clock;
 use std::{fs, io};
 
 /// The examples by their names: each is a file `NAME.script`, and what it prints a file `NAME.expected`.
@@ -28,8 +35,21 @@ const NAMES: [&str; 18] = [
     "forgeries",
 ];
 
+/// The files of rows by their names: each is a file `NAME.expected`.
+const ROWS: [&str; 9] = [
+    "log_rows",
+    "claim_rows",
+    "long_rows",
+    "hostile_rows",
+    "place_rows",
+    "line_rows",
+    "decode_rows",
+    "command_rows",
+    "run_rows",
+];
+
 fn main(rt: HostRuntime) -> ExitCode {
-    match play_all(&rt) {
+    match carry_out_all(&rt) {
         Ok(true) => ExitCode::from(0),
         Ok(false) => ExitCode::from(1),
         Err(_) => {
@@ -39,6 +59,21 @@ fn main(rt: HostRuntime) -> ExitCode {
     }
 }
 
+/// Whether all does what is expected.
+fn carry_out_all(rt: &HostRuntime) -> io::Result<bool> {
+    let played = play_all(rt)?;
+    let alike = compare_all(rt)?;
+    let told = streams::faults_are_told(rt, rt.alloc());
+    let bounded = streams::lengths_are_bounded(rt, rt.alloc())?;
+    println!(rt; "streams: {}", word_of(told))?;
+    println!(rt; "lengths: {}", word_of(bounded))?;
+    Ok(played && alike && told && bounded)
+}
+
+fn word_of(expected: bool) -> &'static str {
+    if expected { "as expected" } else { "differ" }
+}
+
 /// Whether all examples print what is expected. They lie in the folder that this program runs in.
 fn play_all(rt: &HostRuntime) -> io::Result<bool> {
     let alloc = rt.alloc();
@@ -46,20 +81,35 @@ fn play_all(rt: &HostRuntime) -> io::Result<bool> {
     for name in NAMES {
         let script = fs::read_to_string(rt, &format!(in alloc; "{name}.script")?)?;
         let expected = fs::read_to_string(rt, &format!(in alloc; "{name}.expected")?)?;
-        if prints(alloc, &script, &expected) {
-            println!(rt; "{name}: as expected")?;
-        } else {
-            println!(rt; "{name}: differs")?;
-            all = false;
-        }
+        let alike = prints(rt, alloc, &script, &expected);
+        println!(rt; "{name}: {}", word_of(alike))?;
+        all &= alike;
     }
     Ok(all)
 }
 
-/// Whether this script prints these lines.
-fn prints(alloc: Global, script: &str, expected: &str) -> bool {
-    let mut input = script.as_bytes();
-    let mut output = Vec::new(alloc);
-    let played = sim(alloc, &mut input, &mut output);
-    played.is_ok() && output.as_slice() == expected.as_bytes()
+/// Whether this script prints these lines, and nothing else.
+fn prints<C: Threads + Wait + Clock + Net + Sync>(
+    rt: &C,
+    alloc: Global,
+    script: &str,
+    expected: &str,
+) -> bool {
+    let done = streams::run_over(rt, alloc, &["mdriver", "sim"], script.as_bytes());
+    done.status == 0 && done.errors.is_empty() && done.output.as_slice() == expected.as_bytes()
+}
+
+/// Whether all rows do what is expected.
+fn compare_all(rt: &HostRuntime) -> io::Result<bool> {
+    let mut all = true;
+    for name in ROWS {
+        let text = fs::read_to_string(rt, &format!(in rt.alloc(); "{name}.expected")?)?;
+        let found = play_rows(rt, rt.alloc(), &text)?;
+        println!(rt; "{name}: {} rows", found.rows)?;
+        for line in found.differing.as_slice() {
+            println!(rt; "line {line}: differs")?;
+            all = false;
+        }
+    }
+    Ok(all)
 }

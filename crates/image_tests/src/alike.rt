@@ -1,22 +1,21 @@
 ghost use Rattle.std.specs.Prelude.{◌<◌};
 
-use crate::images::{DATA, PAD, filled, heartbeat};
+use crate::images::{DATA, PAD, filled};
 use crate::map_image::{Kept, MapImage, TERM};
 use block::Block;
 use loss_detector::first_gap;
-use position::{FrameHead, Geometry};
+use position::Geometry;
 use rand_core::utils::NextWord;
 use rand_pcg::Pcg32;
 use rebuilder::{Image, Steps};
 use std::alloc::Global;
-use std::process::Abort;
 use std::test::*;
 
 /// How many images there are.
 const IMAGES: u64 = 500;
 
 /// How many lists of frames, heartbeats and reads each of them is given, one after the other.
-const LISTS: u64 = 20;
+const LISTS: u32 = 20;
 
 /// How long each of them is.
 const STEPS: u32 = 12;
@@ -63,129 +62,100 @@ fn draw_frame(draws: &mut Pcg32, position: i64) -> Kept {
     }
 }
 
-/// Gives both a frame.
+/// Gives both a frame. Whether they answer alike.
 fn give(
-    rt: &impl Abort,
     alloc: Global,
     draws: &mut Pcg32,
     image: &mut Image,
     map: &mut MapImage,
-) -> Result<(), Fail> {
+) -> Result<bool, Fail> {
     let position = draw_position(draws, map);
     let kept = draw_frame(draws, position);
-    let answer = filled(
-        rt,
-        alloc,
-        image,
-        kept.kind,
-        position,
-        kept.length,
-        kept.byte,
-    )?;
-    assert_eq!(rt; answer, map.insert(position, kept)?, "{position} {kept:?}");
-    Ok(())
+    let answer = filled(alloc, image, kept.kind, position, kept.length, kept.byte)?;
+    Ok(answer == map.insert(position, kept)?)
 }
 
-/// Reads the frame at a consumer's position from both, and moves past it.
-fn pass(
-    rt: &impl Abort,
-    image: &mut Image,
-    map: &mut MapImage,
-    consumer: usize,
-    block: &mut Block,
-) {
-    assert!(rt; consumer < image.consumers());
-    assert!(rt; block.len() >= 65_472);
+/// Gives both a heartbeat. Whether they answer alike.
+fn beat(draws: &mut Pcg32, image: &mut Image, map: &mut MapImage) -> bool {
+    let position = draw_position(draws, map);
+    position.rem_euclid(32) == 0 && image.heartbeat(position) == map.heartbeat(position)
+}
+
+/// Reads the frame at a consumer's position from both, and moves past it. Whether they answer alike.
+fn pass(image: &mut Image, map: &mut MapImage, consumer: usize, block: &mut Block) -> bool {
+    if consumer >= image.consumers() || block.len() < 65_472 {
+        return false;
+    }
     let head = image.read(consumer, block);
-    let found = map.pass(consumer);
-    assert_eq!(rt;
-        head,
-        found.map(|found| FrameHead {
-            start: found.0.cast_unsigned(),
-            kind: found.1.kind,
-            flags: 0xc0,
-            frame_length: found.1.length,
-        })
-    );
     if head.is_some() {
         let _ = image.advance(consumer);
     }
-    if let Some((_, kept)) = found
-        && kept.kind == DATA
-    {
-        let size = kept.length.saturating_sub(32) as usize;
-        assert!(rt;
-            block
-                .bytes()
-                .iter()
-                .take(size)
-                .all(|byte| *byte == kept.byte)
-        );
+    match map.pass(consumer) {
+        None => head.is_none(),
+        Some((start, kept)) => {
+            let size = if kept.kind == DATA {
+                kept.length.saturating_sub(32) as usize
+            } else {
+                0
+            };
+            let mut payload = block.bytes().iter().take(size);
+            head == Some(kept.head(start)) && payload.all(|byte| *byte == kept.byte)
+        }
     }
 }
 
-/// One step of a list: a frame, a heartbeat or a read; and what both say then.
+/// Whether both stand alike, with the same first gap.
+fn stand(image: &Image, map: &MapImage) -> bool {
+    image.least() == map.least().cast_unsigned()
+        && image.rebuilt() == map.rebuilt().cast_unsigned()
+        && image.high_water() == map.high().cast_unsigned()
+        && first_gap(image, &mut Steps::new()) == map.first_gap()
+}
+
+/// One step of a list: a frame, a heartbeat or a read. Whether both answer alike, and stand alike then.
 fn step(
-    rt: &impl Abort,
     alloc: Global,
     draws: &mut Pcg32,
     image: &mut Image,
     map: &mut MapImage,
     block: &mut Block,
-) -> Result<(), Fail> {
-    match below(draws, 8) {
-        0 => {
-            let position = draw_position(draws, map);
-            assert_eq!(rt;
-                heartbeat(rt, image, position),
-                map.heartbeat(position),
-                "{position}"
-            );
-        }
+) -> Result<bool, Fail> {
+    let alike = match below(draws, 8) {
+        0 => beat(draws, image, map),
         1..=3 => {
             let consumer = below(draws, image.consumers() as u32) as usize;
-            pass(rt, image, map, consumer, block);
+            pass(image, map, consumer, block)
         }
-        _ => give(rt, alloc, draws, image, map)?,
+        _ => give(alloc, draws, image, map)?,
+    };
+    Ok(alike && stand(image, map))
+}
+
+/// Opens both by these draws, and gives them all lists. Whether they always answer alike.
+fn are_alike(alloc: Global, draws: &mut Pcg32, block: &mut Block) -> Result<bool, Fail> {
+    let geometry = Geometry::new(65_536, 1408, 7)?;
+    let join = 32 * below(draws, 8192);
+    let window = 1408 + 32 * below(draws, 981);
+    let consumers = 1 + below(draws, 3) as usize;
+    let mut image = Image::open(alloc, geometry, u64::from(join), window, consumers)?;
+    let mut map = MapImage::open(alloc, i64::from(join), i64::from(window), consumers)?;
+    let mut alike = true;
+    for _ in 0..LISTS * STEPS {
+        alike &= step(alloc, draws, &mut image, &mut map, block)?;
     }
-    let seen = (image.least(), image.rebuilt(), image.high_water());
-    assert_eq!(rt;
-        seen,
-        (
-            map.least().cast_unsigned(),
-            map.rebuilt().cast_unsigned(),
-            map.high().cast_unsigned()
-        )
-    );
-    assert_eq!(rt; first_gap(image, &mut Steps::new()), map.first_gap());
-    Ok(())
+    Ok(alike)
 }
 
 /// An image in three terms and one by a map give the same answers to ten thousand lists, from any join on, also round the
 /// three terms.
 #[test]
 fn alike(rt: HostRuntime) -> Result<(), Fail> {
-    let geometry = Geometry::new(65_536, 1408, 7)?;
     let mut block = Block::new(rt.alloc(), 65_472)?;
     for number in 0..IMAGES {
-        let mut draws = Pcg32::new(number, 0);
-        let join = 32 * below(&mut draws, 8192);
-        let window = 1408 + 32 * below(&mut draws, 981);
-        let consumers = 1 + below(&mut draws, 3) as usize;
-        let mut image = Image::open(rt.alloc(), geometry, u64::from(join), window, consumers)?;
-        let mut map = MapImage::open(rt.alloc(), i64::from(join), i64::from(window), consumers)?;
-        for _list in 0..LISTS {
-            for _ in 0..STEPS {
-                step(
-                    &rt,
-                    rt.alloc(),
-                    &mut draws,
-                    &mut image,
-                    &mut map,
-                    &mut block,
-                )?;
-            }
-        }
+        assert!(rt;
+            are_alike(rt.alloc(), &mut Pcg32::new(number, 0), &mut block)?,
+            "image {number}"
+        );
     }
     Ok(())
 }

@@ -1,7 +1,7 @@
 //! An image as a map of whole frames, in the simplest form. No contract says what it answers.
 
 use crate::images::DATA;
-use position::{FrameKind, Gap};
+use position::{FrameHead, FrameKind, Gap};
 use rebuilder::Insert;
 use std::alloc::{AllocError, Global};
 use std::collections::BTreeMap;
@@ -10,11 +10,23 @@ use std::collections::BTreeMap;
 pub(crate) const TERM: i64 = 65_536;
 
 /// A frame, of which each payload byte is the same.
-#[derive(Clone, Copy, Debug, PartialEq, Eq)]
+#[derive(Clone, Copy)]
 pub(crate) struct Kept {
     pub(crate) kind: FrameKind,
     pub(crate) length: u32,
     pub(crate) byte: u8,
+}
+
+impl Kept {
+    /// What an image tells of it, where it starts there.
+    pub(crate) fn head(&self, start: i64) -> FrameHead {
+        FrameHead {
+            start: start.cast_unsigned(),
+            kind: self.kind,
+            flags: 0xc0,
+            frame_length: self.length,
+        }
+    }
 }
 
 #[derive(Drop)]

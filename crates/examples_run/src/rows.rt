@@ -1,0 +1,141 @@
+//! Rows of a text: each is a command line with what it reads, and what it is to print and to tell.
+
+use crate::streams::run_over;
+use script::hexadecimal;
+use std::alloc::{AllocError, Global};
+use std::net::Net;
+use std::sync::Wait;
+use std::thread::Threads;
+use std::time::Clock;
+
+/// A row, as far as it was read.
+#[derive(Drop)]
+struct Row<'a> {
+    words: Vec<&'a str>,
+    input: Vec<u8>,
+    output: Vec<u8>,
+    errors: Vec<u8>,
+    is_end: bool,
+}
+
+/// How many rows there were, and on which lines those end that differ.
+#[derive(Drop)]
+pub(crate) struct Found {
+    pub(crate) rows: u32,
+    pub(crate) differing: Vec<u32>,
+}
+
+fn push_line(bytes: &mut Vec<u8>, line: &str) -> Result<(), AllocError> {
+    bytes.extend_from_slice(line.as_bytes())?;
+    bytes.push(b'\n')?;
+    Ok(())
+}
+
+/// Adds a line as often as the number before it says.
+fn push_often(bytes: &mut Vec<u8>, text: &str) -> Result<(), AllocError> {
+    if let Some((count, line)) = text.split_once(' ') {
+        for _ in 0..count.parse::<u32>().unwrap_or(0) {
+            push_line(bytes, line)?;
+        }
+    }
+    Ok(())
+}
+
+/// Adds the bytes that digits spell.
+fn push_bytes(alloc: Global, bytes: &mut Vec<u8>, digits: &str) -> Result<(), AllocError> {
+    if let Some(spelled) = hexadecimal(alloc, digits.as_bytes())? {
+        bytes.extend_from_slice(&spelled)?;
+    }
+    Ok(())
+}
+
+impl<'a> Row<'a> {
+    fn new(alloc: Global) -> Row<'a> {
+        Row {
+            words: Vec::new(alloc),
+            input: Vec::new(alloc),
+            output: Vec::new(alloc),
+            errors: Vec::new(alloc),
+            is_end: false,
+        }
+    }
+
+    /// Takes a line that tells something of the row: by its mark the words of the command line, a line that is read, one
+    /// that is read so often, bytes that are read, that only the end of what is printed follows, a line that is printed or
+    /// one that is told.
+    fn learn(&mut self, alloc: Global, mark: &str, text: &'a str) -> Result<(), AllocError> {
+        match mark {
+            "$" => self.words = text.split('|').collect(alloc)?,
+            "<" => push_line(&mut self.input, text)?,
+            "*" => push_often(&mut self.input, text)?,
+            "x" => push_bytes(alloc, &mut self.input, text)?,
+            "~" => self.is_end = true,
+            ">" => push_line(&mut self.output, text)?,
+            "!" => push_line(&mut self.errors, text)?,
+            _ => {}
+        }
+        Ok(())
+    }
+
+    /// Whether the command line does what the row says, and ends with this status.
+    fn is_met<C: Threads + Wait + Clock + Net + Sync>(
+        &self,
+        rt: &C,
+        alloc: Global,
+        status: &str,
+    ) -> bool {
+        let done = run_over(rt, alloc, &self.words, &self.input);
+        let printed = if self.is_end {
+            done.output.as_slice().ends_with(&self.output)
+        } else {
+            done.output.as_slice() == self.output.as_slice()
+        };
+        let ended = status.parse::<u8>() == Ok(done.status);
+        printed && ended && done.errors.as_slice() == self.errors.as_slice()
+    }
+}
+
+/// Whether no proper beginning of a frame can be read.
+fn is_short<C: Threads + Wait + Clock + Net + Sync>(rt: &C, alloc: Global, digits: &str) -> bool {
+    let mut short = true;
+    for end in (0..digits.len()).step_by(2) {
+        let beginning = digits.get(..end).unwrap_or("none");
+        let done = run_over(rt, alloc, &["mdriver", "decode", beginning], b"");
+        short &= done.errors.as_slice() == b"error: F1 short\n".as_slice() && done.status == 1;
+    }
+    short
+}
+
+/// Carries out the rows of a text.
+pub(crate) fn play_rows<C: Threads + Wait + Clock + Net + Sync>(
+    rt: &C,
+    alloc: Global,
+    text: &str,
+) -> Result<Found, AllocError> {
+    let mut found = Found {
+        rows: 0,
+        differing: Vec::new(alloc),
+    };
+    let mut row = Row::new(alloc);
+    let mut number: u32 = 0;
+    for line in text.lines() {
+        number = number.wrapping_add(1);
+        let Some((mark, rest)) = line.split_once(' ') else {
+            continue;
+        };
+        let met = match mark {
+            "=" => row.is_met(rt, alloc, rest),
+            "%" => is_short(rt, alloc, rest),
+            _ => {
+                row.learn(alloc, mark, rest)?;
+                continue;
+            }
+        };
+        found.rows = found.rows.wrapping_add(1);
+        if !met {
+            found.differing.push(number)?;
+        }
+        row = Row::new(alloc);
+    }
+    Ok(found)
+}

@@ -1,0 +1,190 @@
+//! Command lines over streams of memory, over such as fail, and of the greatest lengths.
+
+use commands::command;
+use std::alloc::{AllocError, Global};
+use std::io::{self, Error, ErrorKind, Read, Write};
+use std::net::Net;
+use std::sync::Wait;
+use std::thread::Threads;
+use std::time::Clock;
+
+const SIM: &[&str] = &["mdriver", "sim"];
+
+const DECODE: &[&str] = &[
+    "mdriver",
+    "decode",
+    "0000000000c001004000000001000000e9030000070000000000000000000000",
+];
+
+const HELP: &[&str] = &["mdriver", "--help"];
+
+const VERSION: &[&str] = &["mdriver", "--version"];
+
+/// What a command line prints and tells, and its status.
+#[derive(Drop)]
+pub(crate) struct Done {
+    pub(crate) output: Vec<u8>,
+    pub(crate) errors: Vec<u8>,
+    pub(crate) status: u8,
+}
+
+/// Carries out a command line. The answer is what it tells, and its status.
+fn carry_out<'a, C: Threads + Wait + Clock + Net + Sync, R: Read, W: Write>(
+    rt: &C,
+    alloc: Global,
+    words: &'a [&'a str],
+    input: &mut R,
+    output: &mut W,
+) -> (Vec<u8>, u8) {
+    let mut errors = Vec::new(alloc);
+    let status = command(rt, alloc, words, input, output, &mut errors);
+    (errors, status)
+}
+
+pub(crate) fn run_over<'a, C: Threads + Wait + Clock + Net + Sync>(
+    rt: &C,
+    alloc: Global,
+    words: &'a [&'a str],
+    mut input: &[u8],
+) -> Done {
+    let mut output = Vec::new(alloc);
+    let (errors, status) = carry_out(rt, alloc, words, &mut input, &mut output);
+    Done {
+        output,
+        errors,
+        status,
+    }
+}
+
+/// A stream that always fails.
+#[derive(Drop)]
+struct Broken;
+
+impl Read for Broken {
+    fn read(&mut self, _buffer: &mut [u8]) -> io::Result<usize> {
+        Err(Error::from(ErrorKind::Other))
+    }
+}
+
+impl Write for Broken {
+    fn write(&mut self, _bytes: &[u8]) -> io::Result<usize> {
+        Err(Error::from(ErrorKind::Other))
+    }
+
+    fn flush(&mut self) -> io::Result<()> {
+        Err(Error::from(ErrorKind::Other))
+    }
+}
+
+/// A writer that takes all bytes, counts them, and tells how many were there at the last flush, or can't be flushed.
+#[derive(Drop)]
+struct Counted {
+    fails: bool,
+    written: usize,
+    flushed: usize,
+}
+
+impl Write for Counted {
+    fn write(&mut self, bytes: &[u8]) -> io::Result<usize> {
+        self.written = self.written.saturating_add(bytes.len());
+        Ok(bytes.len())
+    }
+
+    fn flush(&mut self) -> io::Result<()> {
+        if self.fails {
+            return Err(Error::from(ErrorKind::Other));
+        }
+        self.flushed = self.written;
+        Ok(())
+    }
+}
+
+/// Whether the input that can't be read is told.
+fn is_read_told<C: Threads + Wait + Clock + Net + Sync>(rt: &C, alloc: Global) -> bool {
+    let mut output = Vec::new(alloc);
+    let (errors, status) = carry_out(rt, alloc, SIM, &mut Broken, &mut output);
+    errors.as_slice() == b"error: read\n".as_slice() && status == 1
+}
+
+/// Whether a command line tells that this output can't be written or flushed.
+fn is_write_told<'a, C: Threads + Wait + Clock + Net + Sync, W: Write>(
+    rt: &C,
+    alloc: Global,
+    words: &'a [&'a str],
+    output: &mut W,
+) -> bool {
+    let mut input: &[u8] = b"log 65536 1408 7 0 1 1001 0\n";
+    let (errors, status) = carry_out(rt, alloc, words, &mut input, output);
+    errors.as_slice() == b"error: write\n".as_slice() && status == 1
+}
+
+/// Whether a command line writes something, and flushes all of it.
+fn is_flushed<'a, C: Threads + Wait + Clock + Net + Sync>(
+    rt: &C,
+    alloc: Global,
+    words: &'a [&'a str],
+) -> bool {
+    let mut input: &[u8] = b"log 65536 1408 7 0 1 1001 0\n";
+    let mut output = counting(false);
+    let (_, status) = carry_out(rt, alloc, words, &mut input, &mut output);
+    status == 0 && output.written > 0 && output.flushed == output.written
+}
+
+fn counting(fails: bool) -> Counted {
+    Counted {
+        fails,
+        written: 0,
+        flushed: 0,
+    }
+}
+
+/// Whether each command line tells that a stream fails, and flushes one that doesn't.
+pub(crate) fn faults_are_told<C: Threads + Wait + Clock + Net + Sync>(
+    rt: &C,
+    alloc: Global,
+) -> bool {
+    let mut told = is_read_told(rt, alloc);
+    for words in [SIM, DECODE, HELP, VERSION] {
+        told &= is_write_told(rt, alloc, words, &mut Broken);
+        told &= is_write_told(rt, alloc, words, &mut counting(true));
+        told &= is_flushed(rt, alloc, words);
+    }
+    told
+}
+
+/// Whether a script of 1 MiB is played, and a word of 131,072 digits read, and one byte or two digits more aren't.
+pub(crate) fn lengths_are_bounded<C: Threads + Wait + Clock + Net + Sync>(
+    rt: &C,
+    alloc: Global,
+) -> Result<bool, AllocError> {
+    let mut script = Vec::from_slice(alloc, b"log 65536 1408 7 0 1 1001 0\n")?;
+    script.resize(1_048_576, b'\n')?;
+    let played = run_over(rt, alloc, SIM, &script);
+    script.push(b'\n')?;
+    let longer = run_over(rt, alloc, SIM, &script);
+    Ok(
+        played.output.as_slice() == b"open\nbook 0 0 0 0 0 0 0 0 0 0\n".as_slice()
+            && longer.errors.as_slice() == b"error: input\n".as_slice()
+            && longer.status == 1
+            && is_word_bounded(rt, alloc)?,
+    )
+}
+
+fn is_word_bounded<C: Threads + Wait + Clock + Net + Sync>(
+    rt: &C,
+    alloc: Global,
+) -> Result<bool, AllocError> {
+    let mut digits = String::new(alloc);
+    for _ in 0..131_072 {
+        digits.push('0')?;
+    }
+    let read = run_over(rt, alloc, &["mdriver", "decode", digits.as_str()], b"");
+    let faults = read.errors;
+    digits.push_str("00")?;
+    let longer = run_over(rt, alloc, &["mdriver", "decode", digits.as_str()], b"");
+    Ok(
+        faults.as_slice() == b"error: F4 length\n".as_slice()
+            && longer.errors.as_slice() == b"error: hex\n".as_slice()
+            && longer.status == 1,
+    )
+}
