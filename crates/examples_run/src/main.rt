@@ -49,7 +49,7 @@ const ROWS: [&str; 9] = [
 ];
 
 fn main(rt: HostRuntime) -> ExitCode {
-    match carry_out_all(&rt) {
+    match carry_out_all(&rt, &rt) {
         Ok(true) => ExitCode::from(0),
         Ok(false) => ExitCode::from(1),
         Err(_) => {
@@ -60,13 +60,16 @@ fn main(rt: HostRuntime) -> ExitCode {
 }
 
 /// Whether all does what is expected.
-fn carry_out_all(rt: &HostRuntime) -> io::Result<bool> {
-    let played = play_all(rt)?;
-    let alike = compare_all(rt)?;
-    let told = streams::faults_are_told(rt, rt.alloc());
-    let bounded = streams::lengths_are_bounded(rt, rt.alloc())?;
-    println!(rt; "streams: {}", word_of(told))?;
-    println!(rt; "lengths: {}", word_of(bounded))?;
+fn carry_out_all<C: Threads + Wait + Clock + Net + Sync>(
+    host: &HostRuntime,
+    rt: &C,
+) -> io::Result<bool> {
+    let played = play_all(host, rt)?;
+    let alike = compare_all(host, rt)?;
+    let told = streams::faults_are_told(rt, host.alloc());
+    let bounded = streams::lengths_are_bounded(rt, host.alloc())?;
+    println!(host; "streams: {}", word_of(told))?;
+    println!(host; "lengths: {}", word_of(bounded))?;
     Ok(played && alike && told && bounded)
 }
 
@@ -75,14 +78,17 @@ fn word_of(expected: bool) -> &'static str {
 }
 
 /// Whether all examples print what is expected. They lie in the folder that this program runs in.
-fn play_all(rt: &HostRuntime) -> io::Result<bool> {
-    let alloc = rt.alloc();
+fn play_all<C: Threads + Wait + Clock + Net + Sync>(
+    host: &HostRuntime,
+    rt: &C,
+) -> io::Result<bool> {
+    let alloc = host.alloc();
     let mut all = true;
     for name in NAMES {
-        let script = fs::read_to_string(rt, &format!(in alloc; "{name}.script")?)?;
-        let expected = fs::read_to_string(rt, &format!(in alloc; "{name}.expected")?)?;
+        let script = fs::read_to_string(host, &format!(in alloc; "{name}.script")?)?;
+        let expected = fs::read_to_string(host, &format!(in alloc; "{name}.expected")?)?;
         let alike = prints(rt, alloc, &script, &expected);
-        println!(rt; "{name}: {}", word_of(alike))?;
+        println!(host; "{name}: {}", word_of(alike))?;
         all &= alike;
     }
     Ok(all)
@@ -100,14 +106,17 @@ fn prints<C: Threads + Wait + Clock + Net + Sync>(
 }
 
 /// Whether all rows do what is expected.
-fn compare_all(rt: &HostRuntime) -> io::Result<bool> {
+fn compare_all<C: Threads + Wait + Clock + Net + Sync>(
+    host: &HostRuntime,
+    rt: &C,
+) -> io::Result<bool> {
     let mut all = true;
     for name in ROWS {
-        let text = fs::read_to_string(rt, &format!(in rt.alloc(); "{name}.expected")?)?;
-        let found = play_rows(rt, rt.alloc(), &text)?;
-        println!(rt; "{name}: {} rows", found.rows)?;
+        let text = fs::read_to_string(host, &format!(in host.alloc(); "{name}.expected")?)?;
+        let found = play_rows(rt, host.alloc(), &text)?;
+        println!(host; "{name}: {} rows", found.rows)?;
         for line in found.differing.as_slice() {
-            println!(rt; "line {line}: differs")?;
+            println!(host; "line {line}: differs")?;
             all = false;
         }
     }
