@@ -99,16 +99,12 @@ fn run<R: Threads + Abort + Sync>(rt: &R, alloc: Global, seed: u64) -> Result<bo
     match terms.walk(start, tail, claims.as_slice()) {
         Ok(padded) => {
             let shares = covered(claims.as_slice()).wrapping_add(padded);
-            assert_eq!(rt;
-                start.wrapping_add(shares),
-                tail,
-                "the shares of seed {seed}"
-            );
+            assert!(rt; start.wrapping_add(shares) == tail);
         }
         Err(position) => panic!(rt; "seed {seed} is wrong at {position}"),
     }
     let limit = start.wrapping_add(32_768).min(geometry.max_position());
-    assert!(rt; tail >= limit, "seed {seed} stopped at {tail}");
+    assert!(rt; tail >= limit);
     Ok(start / 65_536 != tail / 65_536)
 }
 
@@ -121,6 +117,6 @@ fn eight_publishers(rt: HostRuntime) -> Result<(), Fail> {
             turns += 1;
         }
     }
-    assert!(rt; turns > SEEDS / 2, "{turns} runs turned");
+    assert!(rt; turns > SEEDS / 2);
     Ok(())
 }
