@@ -4,8 +4,9 @@ use Rattle.std.specs.Prelude.{◌==◌}
 use Rattle.std.specs.List.{onto_first, position_or_len, before_first, after_first}
 use Rattle.std.proofs.lemmas.Bool.{ne_eqb, eq-eqb}
 use Rattle.std.proofs.lemmas.List.Splits.{slice_split_first}
-use Rattle.channel.specs.Settings.{Lacks, IsHost, HasNoValue}
-use Rattle.channel.specs.declared.parameter.Parameter.TheVariants.{Endpoint}
+use Rattle.channel.specs.Settings.{name_of, Lacks, IsHost, HasNoValue}
+use Rattle.channel.specs.declared.parameter.Parameter.{Parameter}
+use Rattle.channel.specs.declared.parameter.Parameter.TheVariants.{Endpoint, Mtu, TermLength, SessionId, InitialTermId, TermId, TermOffset}
 use Rattle.channel.specs.Values.{number_of}
 use Rattle.channel.specs.Channels.{parts}
 
@@ -48,6 +49,15 @@ lacks_from c (x ∷ xs) h (suc i) low = lacks_from c xs (test_step c x (lacks_te
 pub host_lacks : (host : List ℕ) → IsHost host → Lacks 58 host
 host_lacks host (inl e) = lacks_from 58 host (rw e refl)
 host_lacks host (inr e) = lacks_from 58 host (rw e refl)
+
+pub name_lacks : (p : Parameter) → Lacks 61 (name_of p)
+name_lacks Endpoint = lacks_from 61 (name_of Endpoint) refl
+name_lacks Mtu = lacks_from 61 (name_of Mtu) refl
+name_lacks TermLength = lacks_from 61 (name_of TermLength) refl
+name_lacks SessionId = lacks_from 61 (name_of SessionId) refl
+name_lacks InitialTermId = lacks_from 61 (name_of InitialTermId) refl
+name_lacks TermId = lacks_from 61 (name_of TermId) refl
+name_lacks TermOffset = lacks_from 61 (name_of TermOffset) refl
 
 -- ---- the parts of a text
 

@@ -1,3 +1,6 @@
 pub mod Digits
 pub mod Cuts
 pub mod Endings
+pub mod Meanings
+pub mod Exact
+mod Rows

@@ -1,7 +1,8 @@
 //! A channel, read from its text.
 
-ghost use Rattle.std.specs.Prelude.{◌≡◌, IfOk, IfErr, Some, None};
+ghost use Rattle.std.specs.Prelude.{◌≡◌, IfOk, IfErr, IsOkAnd};
 ghost use Rattle.channel.specs.Settings.{Sets, nothing};
+ghost use Rattle.channel.specs.declared.channel.Channel.{Channel};
 ghost use Rattle.channel.specs.Channels.{IsChannel, IsEndFault, IsFaultAmong, IsFirstFault, IsMadeOf, parts, start_of};
 
 use crate::endpoint::part_setting;
@@ -84,9 +85,8 @@ fn made(settings: &Settings) -> Result<Channel, ChannelFault<'static>>
     })
 }
 
-/// The channel that a text is, or its first fault from the left; what is missing is judged behind the last part, the
-/// endpoint first.
-pub fn read_channel(text: &str) -> Result<Channel, ChannelFault<'_>>
+/// What the text is, as it is read from the left.
+fn read(text: &str) -> Result<Channel, ChannelFault<'_>>
     ensures read { IfOk result (λ c. IsChannel text.now c) }
     ensures fault { IfErr result (λ f. IsFirstFault text.now f) }
 {
@@ -95,4 +95,16 @@ pub fn read_channel(text: &str) -> Result<Channel, ChannelFault<'_>>
     };
     let settings = settings(rest)?;
     made(&settings)
+}
+
+/// The channel that a text is, or its first fault from the left; what is missing is judged behind the last part, the
+/// endpoint first.
+pub fn read_channel(text: &str) -> Result<Channel, ChannelFault<'_>>
+    // What is read is what the text is.
+    ensures read { IfOk result (λ c. IsChannel text.now c) }
+    // What the text is is read, and it is nothing else.
+    ensures only { (meant : Channel) → IsChannel text.now meant → IsOkAnd result (λ c. c ≡ meant) }
+    ensures fault { IfErr result (λ f. IsFirstFault text.now f) }
+{
+    read(text)
 }

@@ -14,5 +14,4 @@ mod values;
 
 pub use channel::{Channel, Start, read_channel};
 pub use fault::ChannelFault;
-pub use parameter::{Parameter, Setting};
-pub use settings::Settings;
+pub use parameter::Parameter;

@@ -27,7 +27,7 @@ pub enum Parameter {
 }
 
 /// What a part of a channel sets.
-#[derive(Clone, Copy, Debug, PartialEq, Eq)]
+#[derive(Clone, Copy)]
 pub enum Setting {
     /// The port on this machine, 1 to 65,535.
     Endpoint(u16),

@@ -5,7 +5,7 @@ ghost use Rattle.std.specs.Prelude.{◌≡◌};
 use crate::parameter::{Parameter, Setting};
 
 /// What the parts of a channel have set, each parameter once at the most.
-#[derive(Clone, Copy, Debug, PartialEq, Eq)]
+#[derive(Clone, Copy)]
 pub struct Settings {
     pub port: Option<u16>,
     pub mtu: Option<u32>,

@@ -1,0 +1,32 @@
+-- A few texts and what they spell.
+use Rattle.std.proofs.Common.{◌≡◌, None, Some, refl}
+use Rattle.std.specs.Prelude.{codes, negsuc}
+use Rattle.channel.specs.Values.{signed_of, size_of, number_of}
+
+sixty_four_k : size_of (codes "64k") ≡ Some 65536
+unfolding size_of number_of
+sixty_four_k = refl
+
+capital_m : size_of (codes "016M") ≡ Some 16777216
+unfolding size_of number_of
+capital_m = refl
+
+plain : size_of (codes "1408") ≡ Some 1408
+unfolding size_of number_of
+plain = refl
+
+too_large : size_of (codes "4g") ≡ None
+unfolding size_of number_of
+too_large = refl
+
+unit_alone : size_of (codes "k") ≡ None
+unfolding size_of number_of
+unit_alone = refl
+
+two_units : size_of (codes "1kk") ≡ None
+unfolding size_of number_of
+two_units = refl
+
+minus_seven : signed_of (codes "-7") ≡ Some (negsuc 6)
+unfolding signed_of number_of
+minus_seven = refl
