@@ -590,7 +590,7 @@ const HELP_TEXT: &str =
 const VERSION_TEXT: &str = "mdriver 0.1.0, proved with rattle-kit-13b logic dac8208d650f15bf\n";
 
 const NO_COMMAND: &str =
-    "error: 'mdriver' requires a subcommand but one was not provided\n  [subcommands: sim, decode, help]\n\nUsage: mdriver <COMMAND>\n\nFor more information, try '--help'.\n";
+    "error: 'mdriver' requires a subcommand but one was not provided\n  [subcommands: sim, decode, run, help]\n\nUsage: mdriver <COMMAND>\n\nFor more information, try '--help'.\n";
 
 const ONE_MORE: &str =
     "error: unexpected argument 'more' found\n\nUsage: mdriver sim\n\nFor more information, try '--help'.\n";
