@@ -1,12 +1,14 @@
 -- Messages that are written one after the other.
-use Rattle.std.proofs.Common.{◌≡◌, ◌∙◌, ℕ, Bool, true, false, ◌+◌, List, [], ◌∷◌, ◌++◌, length, Option, refl, sym, ap, subst, arith, append-nil, length-append}
+use Rattle.std.proofs.Common.{◌≡◌, ◌∙◌, ℕ, Bool, true, false, ◌+◌, List, [], ◌∷◌, ◌++◌, length, Option, refl, sym, ap, subst, arith, append-nil, length-append, ◌⊎◌, inl, inr}
 use Rattle.std.specs.Io.KnownBytes.{Appends}
 use Rattle.std.proofs.KnownBytes.{Appends-nil, Appends-trans}
 use Rattle.std.proofs.lemmas.Grind.{flat_map-append}
 use Rattle.message_form.specs.Forms.{spelled, spelling}
 use Rattle.message_form.specs.declared.form.Form.{Form}
 use Rattle.receiver.specs.Subscribing.{Subscribing}
-use Rattle.delivery.specs.Deliveries.{PollsOne, PollsAll, Steps}
+use Rattle.delivery.specs.declared.fault.DeliveryFault.{DeliveryFault}
+use Rattle.delivery.specs.declared.fault.DeliveryFault.TheVariants as faults
+use Rattle.delivery.specs.Deliveries.{Stops, StopsAtOne, PollsNone, Delivers, PollsOne, PollsAll, Steps}
 
 -- so many messages were polled and written
 pub record Written (form : Form) (s : Subscribing) (before : Option (List ℕ)) (number : ℕ) (t : Subscribing) (after : Option (List ℕ)) : Type 0 where
@@ -38,3 +40,18 @@ written_more form s t u a b c number message w one more = record {
 pub step_more : (form : Form) (s t u : Subscribing) (a b c : Option (List ℕ)) (number : ℕ) (any : Bool) → any ≡ true → Written form s a number t b → Steps form t b any u c → Written form s a (number + 1) u c
 step_more form s t u a b c number true e w (message, one, more) = written_more form s t u a b c number message w one more
 step_more form s t u a b c number false e w none = absurd (cc)
+
+-- a step that failed
+pub step_failed : (form : Form) (s t u : Subscribing) (a b c : Option (List ℕ)) (number : ℕ) (fault : DeliveryFault) → Written form s a number t b → StopsAtOne fault t b u c → Stops form fault s a u c
+step_failed form s t u a b c number faults.Output w (message, one) = (w.messages ++ message ∷ [], u, polled_more s t u w.messages message w.polled one, inl refl)
+step_failed form s t u a b c number (faults.Message error) w (refused, same) = (w.messages, t, w.polled, refused, subst (λ x. Appends a x (spelling form w.messages)) (sym same) w.written)
+step_failed form s t u a b c number faults.Device w wrong = wrong
+step_failed form s t u a b c number faults.Memory w wrong = wrong
+
+-- a flush that failed
+pub flush_failed : (form : Form) (s t : Subscribing) (a b c : Option (List ℕ)) (number : ℕ) → Delivers form 256 s a number t b → Stops form faults.Output s a t c
+flush_failed form s t a b c number d = (d.messages, d.middle, d.polled, either d.ended)
+  where
+    either : ((length d.messages ≡ 256) × (t ≡ d.middle)) ⊎ PollsNone d.middle t → (t ≡ d.middle) ⊎ PollsNone d.middle t
+    either (inl x) = inl x.1
+    either (inr x) = inr x

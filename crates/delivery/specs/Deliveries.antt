@@ -9,7 +9,8 @@ use Rattle.agents.specs.Parties.{ReceiverHears, ReceiverTicks}
 use Rattle.agents.specs.declared.fault.AgentFault.{AgentFault}
 use Rattle.receiver.specs.Polling.{Polls}
 use Rattle.receiver.specs.Subscribing.{Subscribing, SubscriberBecomes}
-use Rattle.receiver.specs.declared.poll_error.PollError.TheVariants.{NoImage}
+use Rattle.receiver.specs.declared.poll_error.PollError.TheVariants.{NoImage, Unassembled}
+use Rattle.assembler.specs.declared.fault.AssemblyError.{AssemblyError}
 use Rattle.delivery.specs.Texts.{of_agent}
 use Rattle.delivery.specs.declared.delivering.Delivered.{Delivered}
 use Rattle.delivery.specs.declared.fault.DeliveryFault.{DeliveryFault}
@@ -49,12 +50,24 @@ pub record WritesFirst (form : Form) (now : ℕ) (tells : Type 0) (s : Subscribi
   pub delivers : Delivers form 256 s before done.messages middle after
   pub cycle : Cycle ReceiverHears ReceiverTicks now tells middle d done.busy t e
 
--- a fault before anything was heard
-abbrev pub IsBeforeHearing : DeliveryFault → Type 0
-IsBeforeHearing faults.Output = Unit {0}
-IsBeforeHearing (faults.Message error) = Unit {0}
-IsBeforeHearing faults.Device = ⊥
-IsBeforeHearing faults.Memory = ⊥
+-- a poll whose frame the assembler refuses
+abbrev pub PollsRefused : Subscribing → AssemblyError → Subscribing → Type 0
+PollsRefused s error t = SubscriberBecomes s t (λ r q. Polls r (Err (Unassembled error)) q)
+
+-- why a poll with its writing failed: the message that it gave may be written in part, or none was given
+abbrev pub StopsAtOne : DeliveryFault → Subscribing → Option (List ℕ) → Subscribing → Option (List ℕ) → Type 0
+StopsAtOne faults.Output s before t after = (message : List ℕ) × PollsOne s message t
+StopsAtOne (faults.Message error) s before t after = PollsRefused s error t × (after ≡ before)
+StopsAtOne faults.Device s before t after = ⊥
+StopsAtOne faults.Memory s before t after = ⊥
+
+-- why it ended before anything was heard: behind some messages the output failed, or a frame was refused when they were written
+abbrev pub Stops : Form → DeliveryFault → Subscribing → Option (List ℕ) → Subscribing → Option (List ℕ) → Type 0
+Stops form faults.Output s before t after = (messages : List (List ℕ)) × (middle : Subscribing) × PollsAll s messages middle × ((t ≡ middle) ⊎ PollsNone middle t)
+Stops form (faults.Message error) s before t after =
+    (messages : List (List ℕ)) × (middle : Subscribing) × PollsAll s messages middle × PollsRefused middle error t × Appends before after (spelling form messages)
+Stops form faults.Device s before t after = ⊥
+Stops form faults.Memory s before t after = ⊥
 
 -- a fault of the duty's cycle, which began where all that was polled is written
 pub record FailsBehind (form : Form) (now : ℕ) (tells : Type 0) (fault : DeliveryFault) (s : Subscribing) (before : Option (List ℕ)) (d : Device) (t : Subscribing) (after : Option (List ℕ)) (e : Device) : Type 0 where
@@ -67,4 +80,4 @@ pub record FailsBehind (form : Form) (now : ℕ) (tells : Type 0) (fault : Deliv
 
 -- why a cycle ended; `still` says that nothing was heard or sent
 abbrev pub Ends : Form → ℕ → Type 0 → Type 0 → DeliveryFault → Subscribing → Option (List ℕ) → Device → Subscribing → Option (List ℕ) → Device → Type 0
-Ends form now tells still fault s before d t after e = (IsBeforeHearing fault × still) ⊎ FailsBehind form now tells fault s before d t after e
+Ends form now tells still fault s before d t after e = (Stops form fault s before t after × still) ⊎ FailsBehind form now tells fault s before d t after e

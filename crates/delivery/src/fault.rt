@@ -1,10 +1,8 @@
 ghost use Rattle.std.specs.Prelude.{◌≡◌, Some};
 ghost use Rattle.delivery.specs.Texts.{of_agent, text_of};
-ghost use Rattle.delivery.specs.declared.fault.DeliveryFault.TheVariants.{Output};
 
 use agents::AgentFault;
 use assembler::AssemblyError;
-use message_form::OutputFailed;
 use std::error::Error;
 use std::fmt;
 
@@ -35,14 +33,6 @@ impl fmt::Display for DeliveryFault {
 }
 
 impl Error for DeliveryFault {}
-
-impl From<OutputFailed> for DeliveryFault {
-    ghost from_gives = { λ _ fault. fault ≡ Output };
-
-    fn from(_failed: OutputFailed) -> DeliveryFault {
-        DeliveryFault::Output
-    }
-}
 
 impl From<AgentFault> for DeliveryFault {
     ghost from_gives = { λ from fault. fault ≡ of_agent from };

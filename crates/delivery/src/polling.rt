@@ -1,7 +1,7 @@
 //! Messages that are polled, and written.
 
 ghost use Rattle.std.specs.Prelude.{◌≡◌, IfErr, IfOk};
-ghost use Rattle.delivery.specs.Deliveries.{Delivers, IsBeforeHearing, Steps};
+ghost use Rattle.delivery.specs.Deliveries.{Delivers, Steps, Stops, StopsAtOne};
 
 use crate::fault::DeliveryFault;
 use message_form::{Form, write_message};
@@ -18,11 +18,13 @@ fn write_next<W: Write>(
     output: &mut W,
 ) -> Result<bool, DeliveryFault>
     ensures step { IfOk result (λ any. Steps form subscriber.old (W.contents output.old) any subscriber.new (W.contents output.new)) }
-    ensures fault { IfErr result (λ f. IsBeforeHearing f) }
+    ensures fault { IfErr result (λ f. StopsAtOne f subscriber.old (W.contents output.old) subscriber.new (W.contents output.new)) }
 {
     match subscriber.poll() {
         Ok(Some(message)) => {
-            write_message(form, message.bytes.as_slice(), output)?;
+            if write_message(form, message.bytes.as_slice(), output).is_err() {
+                return Err(DeliveryFault::Output);
+            }
             Ok(true)
         }
         Ok(None) => Ok(false),
@@ -38,7 +40,7 @@ fn write_each<W: Write>(
     output: &mut W,
 ) -> Result<usize, DeliveryFault>
     ensures delivers { IfOk result (λ n. Delivers form 256 subscriber.old (W.contents output.old) n subscriber.new (W.contents output.new)) }
-    ensures fault { IfErr result (λ f. IsBeforeHearing f) }
+    ensures fault { IfErr result (λ f. Stops form f subscriber.old (W.contents output.old) subscriber.new (W.contents output.new)) }
 {
     for count in 0..MESSAGES {
         if !write_next(form, subscriber, output)? {
@@ -56,7 +58,7 @@ pub fn write_polled<W: Write>(
     output: &mut W,
 ) -> Result<usize, DeliveryFault>
     ensures delivers { IfOk result (λ n. Delivers form 256 subscriber.old (W.contents output.old) n subscriber.new (W.contents output.new)) }
-    ensures fault { IfErr result (λ f. IsBeforeHearing f) }
+    ensures fault { IfErr result (λ f. Stops form f subscriber.old (W.contents output.old) subscriber.new (W.contents output.new)) }
 {
     let count = write_each(form, subscriber, output)?;
     if output.flush().is_err() {
