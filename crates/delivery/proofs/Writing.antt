@@ -1,5 +1,5 @@
 -- Messages that are written one after the other.
-use Rattle.std.proofs.Common.{◌≡◌, ◌∙◌, ℕ, Bool, true, false, ◌+◌, List, [], ◌∷◌, ◌++◌, length, Option, refl, sym, ap, subst, arith, append-nil, length-append, ◌⊎◌, inl, inr}
+use Rattle.std.proofs.Common.{◌≡◌, ◌∙◌, ℕ, Bool, true, false, ◌+◌, List, [], ◌∷◌, ◌++◌, length, Option, refl, sym, ap, subst, arith, append-nil, length-append, inl}
 use Rattle.std.specs.Io.KnownBytes.{Appends}
 use Rattle.std.proofs.KnownBytes.{Appends-nil, Appends-trans}
 use Rattle.std.proofs.lemmas.Grind.{flat_map-append}
@@ -8,7 +8,7 @@ use Rattle.message_form.specs.declared.form.Form.{Form}
 use Rattle.receiver.specs.Subscribing.{Subscribing}
 use Rattle.delivery.specs.declared.fault.DeliveryFault.{DeliveryFault}
 use Rattle.delivery.specs.declared.fault.DeliveryFault.TheVariants as faults
-use Rattle.delivery.specs.Deliveries.{Stops, StopsAtOne, PollsNone, Delivers, PollsOne, PollsAll, Steps}
+use Rattle.delivery.specs.Deliveries.{Stops, StopsAtOne, PollsOne, PollsAll, Steps}
 
 -- so many messages were polled and written
 pub record Written (form : Form) (s : Subscribing) (before : Option (List ℕ)) (number : ℕ) (t : Subscribing) (after : Option (List ℕ)) : Type 0 where
@@ -47,11 +47,3 @@ step_failed form s t u a b c number faults.Output w (message, one) = (w.messages
 step_failed form s t u a b c number (faults.Message error) w (refused, same) = (w.messages, t, w.polled, refused, subst (λ x. Appends a x (spelling form w.messages)) (sym same) w.written)
 step_failed form s t u a b c number faults.Device w wrong = wrong
 step_failed form s t u a b c number faults.Memory w wrong = wrong
-
--- a flush that failed
-pub flush_failed : (form : Form) (s t : Subscribing) (a b c : Option (List ℕ)) (number : ℕ) → Delivers form 256 s a number t b → Stops form faults.Output s a t c
-flush_failed form s t a b c number d = (d.messages, d.middle, d.polled, either d.ended)
-  where
-    either : ((length d.messages ≡ 256) × (t ≡ d.middle)) ⊎ PollsNone d.middle t → (t ≡ d.middle) ⊎ PollsNone d.middle t
-    either (inl x) = inl x.1
-    either (inr x) = inr x
