@@ -1,3 +1,2 @@
-pub mod Begun
 pub mod Openers
 pub mod Closing

@@ -14,7 +14,7 @@ use Rattle.log_keeping.specs.Keepers.{KeeperValue}
 use Rattle.log_parts.specs.Books.{IsDone}
 use Rattle.log_reading.specs.Readers.{ReaderValue}
 use Rattle.log_parts.specs.Parts.{AreReaders, IsNewKeeper, IsNewReader}
-use Rattle.run.specs.Threads.{IsKept}
+use Rattle.run_parties.specs.Passes.{IsKept}
 
 -- they have nothing open
 pub new_done : (l : LogValue) (n : ℕ) (ps : List PublisherValue) → AreNew l n ps → AllByRecursion (IsDone l) ps

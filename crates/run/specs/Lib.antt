@@ -1,4 +1,3 @@
 pub mod Threads
-pub mod Senders
 pub mod Outcomes
 pub mod Openings

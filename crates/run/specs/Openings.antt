@@ -7,8 +7,8 @@ use Rattle.shared_log.specs.Handles.{LogValue}
 use Rattle.tail_claim.specs.Sums.{total}
 use Rattle.log_parts.specs.Books.{IsDone}
 use Rattle.log_parts.specs.Parts.{IsNewReader}
-use Rattle.run.specs.Senders.{IsRunLog}
-use Rattle.run.specs.Threads.{IsKept}
+use Rattle.run_parties.specs.Senders.{IsRunLog}
+use Rattle.run_parties.specs.Passes.{IsKept}
 use Rattle.run.specs.declared.opening.Opened.{Opened}
 use Rattle.run.specs.declared.threads.Played.{Played}
 

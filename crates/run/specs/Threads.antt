@@ -1,29 +1,15 @@
--- What the threads of a run give back.
-use Rattle.std.specs.Prelude.{◌≡◌, ◌≤◌, [], map}
+-- Who plays, and what they give back.
+use Rattle.std.specs.Prelude.{◌≡◌, ◌≤◌, map}
 use Rattle.std.specs.List.{AllByRecursion}
 use Rattle.atomic_table.specs.Seated.{TableId}
-use Rattle.tail_claim.specs.Handles.{PublisherValue, parts_in}
+use Rattle.tail_claim.specs.Handles.{parts_in}
 use Rattle.shared_log.specs.Handles.{LogValue}
-use Rattle.log_keeping.specs.Keepers.{KeeperValue}
 use Rattle.log_parts.specs.Books.{IsDone}
 use Rattle.log_parts.specs.Parts.{IsNewReader}
+use Rattle.run_parties.specs.Passes.{IsKept}
 use Rattle.run.specs.declared.threads.Cast.{Cast}
 use Rattle.run.specs.declared.threads.Played.{Played}
 use Rattle.run.specs.declared.threads.Size.{Size}
-
--- a publisher that has published: it is one of the log with nothing open, and has its number and its parts
-pub record Ends (l : LogValue) (p q : PublisherValue) : Type 0 where
-  pub done : IsDone l q
-  pub parts : q.pass.right.parts ≡ p.pass.right.parts
-  pub number : q.pass.number ≡ p.pass.number
-
--- the log's keeper, which has claimed nothing
-pub record IsKept (l : LogValue) (k : KeeperValue) : Type 0 where
-  pub done : IsDone l k.held
-  pub unclaimed : k.held.pass.right.claims ≡ []
-  pub parts : k.held.pass.right.parts ≡ 8
-
--- ---- who plays
 
 -- what the threads of a run have: publishers, a reader and the keeper of a log, and clients and the taker of a queue
 pub record IsCast {D : Type 0} (l : LogValue) (queue : TableId) (c : Cast D) : Type 0 where

@@ -2,19 +2,12 @@
 //! datagrams over UDP between sender and receiver, with losses made on purpose.
 #![tactic(auto)]
 
-mod gate;
-mod meter;
 mod opening;
 mod outcome;
-mod publishing;
-mod receiving;
 mod running;
-mod sending;
-mod stage;
-mod steering;
 mod threads;
 mod watching;
 
-pub use gate::{Gate, Open, Role};
 pub use outcome::{Ending, Outcome};
+pub use run_parties::{Gate, Open, Role};
 pub use running::run;

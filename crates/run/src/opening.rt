@@ -11,13 +11,9 @@ use log_parts::{Parts, open};
 use log_reading::LogReader;
 use position::Geometry;
 use receiver::{ReceiverCore, Subscriber};
+use run_parties::{SESSION, STREAM};
 use shared_log::{Log, Publisher};
 use std::alloc::{AllocError, Global};
-
-/// The ids of the stream that a run sends.
-pub(crate) const SESSION: i32 = 1;
-
-pub(crate) const STREAM: i32 = 1001;
 
 /// The receiver's id.
 const RECEIVER: i64 = 1;

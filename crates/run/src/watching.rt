@@ -2,8 +2,8 @@
 
 ghost use Rattle.std.specs.Prelude.{◌≡◌};
 
-use crate::stage::{Done, Stage};
 use counters::{CounterReader, Counters};
+use run_parties::{Done, Stage};
 use std::io::Write;
 use std::sync::Wait;
 use std::thread;

@@ -3,7 +3,7 @@
 ghost use Rattle.std.specs.Prelude.{◌≡◌, ◌≤◌, IfOk, length, vec_len};
 ghost use Rattle.theory.specs.Position.{max_message};
 ghost use Rattle.log_parts.specs.Books.{IsDone};
-ghost use Rattle.run.specs.Threads.{Ends};
+ghost use Rattle.run_parties.specs.Passes.{Ends};
 
 use crate::gate::{Gate, Role};
 use crate::stage::{Stage, rest};
@@ -15,13 +15,13 @@ use word_calls::{Refusal, offer};
 
 /// What a publisher has to do.
 #[derive(Clone, Copy)]
-pub(crate) struct Task {
+pub struct Task {
     /// How many messages.
-    pub(crate) messages: u32,
+    pub messages: u32,
     /// Their length in bytes.
-    pub(crate) length: usize,
+    pub length: usize,
     /// How many offers it may make.
-    pub(crate) turns: u32,
+    pub turns: u32,
 }
 
 /// A publisher's first message: its number, 0, and then zeros.
@@ -45,7 +45,7 @@ fn offer_once(log: &Log, publisher: &mut Publisher, message: &[u8]) -> Result<u6
 
 /// Offers a publisher's messages one after the other, each until it is accepted. It ends behind the last one, where the
 /// log is closed or used up, when all is to stop, and after its turns, when it stops all.
-pub(crate) fn publish<R: Clock, G: Gate>(
+pub fn publish<R: Clock, G: Gate>(
     rt: &R,
     alloc: Global,
     stage: &Stage,

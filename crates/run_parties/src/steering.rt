@@ -1,7 +1,7 @@
 //! The conductor's turns.
 
 ghost use Rattle.std.specs.Prelude.{◌≡◌};
-ghost use Rattle.run.specs.Threads.{IsKept};
+ghost use Rattle.run_parties.specs.Passes.{IsKept};
 
 use crate::gate::{Gate, Role};
 use crate::stage::{Stage, rest};
@@ -22,7 +22,7 @@ fn steer_once<R: Wait>(rt: &R, stage: &Stage, keeper: &mut Keeper, taker: &mut T
 }
 
 /// Takes commands, cleans and raises the limit, until all is to stop or its turns are used, when it stops all.
-pub(crate) fn steer<R: Wait + Clock, G: Gate>(
+pub fn steer<R: Wait + Clock, G: Gate>(
     rt: &R,
     stage: &Stage,
     gate: &G,

@@ -32,7 +32,7 @@ fn receive_once<N: Named, R: Wait + Clock, D: Datagrams>(
 }
 
 /// Receives until all is to stop or its turns are used, when it stops all.
-pub(crate) fn receive<N: Named, R: Wait + Clock, D: Datagrams + Drop, G: Gate>(
+pub fn receive<N: Named, R: Wait + Clock, D: Datagrams + Drop, G: Gate>(
     rt: &R,
     alloc: Global,
     stage: &Stage,
@@ -85,7 +85,7 @@ fn poll_once<N: Named, R: Wait>(
 
 /// Polls until so many messages were there, when it stops all; or all is to stop, or its turns are used, when it stops all,
 /// too. The answer is the tally of what was polled.
-pub(crate) fn subscribe<N: Named, R: Wait + Clock>(
+pub fn subscribe<N: Named, R: Wait + Clock>(
     rt: &R,
     stage: &Stage,
     agent: &Mutex<ReceiverAgent<N>>,

@@ -8,7 +8,7 @@ use Rattle.log_reading.specs.declared.source.LogFrames.{LogFrames}
 use Rattle.log_parts.specs.Parts.{IsNewReader}
 use Rattle.flow_control.specs.declared.unicast.UnicastFlow.{UnicastFlow}
 use Rattle.sender_agent.specs.Duties.{Agent}
-use Rattle.run.specs.Senders.{IsAgentOf, IsRunLog}
+use Rattle.run_parties.specs.Senders.{IsAgentOf, IsRunLog}
 
 pub is_agent : (log : Bor LogValue) (r : ReaderValue) (g : Geometry) (flow : UnicastFlow) (s : Sending LogFrames UnicastFlow) (a : Agent LogFrames UnicastFlow) → IsNewReader log.now 0 r → IsRunLog log.now → g ≡ log.now.identity.geometry → s ≡ begun (record { geometry = g; session = pos 1; stream = pos 1001 }) 0 (record { log = log; reader = r }) flow → a ≡ record { core = s; asked = false } → IsAgentOf log.now a
 is_agent log r g flow s a new is same begins made = subst (IsAgentOf log.now) (sym made) (subst (λ (x : Sending LogFrames UnicastFlow). IsAgentOf log.now (record { core = x; asked = false })) (sym begins) (record {

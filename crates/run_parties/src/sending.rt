@@ -2,11 +2,10 @@
 
 ghost use Rattle.std.specs.Prelude.{◌≡◌, IfOk};
 ghost use Rattle.log_parts.specs.Parts.{IsNewReader};
-ghost use Rattle.run.specs.Senders.{IsAgentOf, IsRunLog};
+ghost use Rattle.run_parties.specs.Senders.{IsAgentOf, IsRunLog};
 
 use crate::gate::{Gate, Role};
 use crate::meter::Metered;
-use crate::opening::{SESSION, STREAM};
 use crate::stage::{Stage, rest};
 use agents::{AgentFault, Duty};
 use conductor::Client;
@@ -19,6 +18,12 @@ use shared_log::Log;
 use std::alloc::Global;
 use std::sync::Wait;
 use std::time::Clock;
+
+/// The session of a run's stream.
+pub const SESSION: i32 = 1;
+
+/// The id of a run's stream.
+pub const STREAM: i32 = 1001;
 
 /// The sender of a run.
 type Agent<'a> = SenderAgent<LogFrames<'a>, UnicastFlow>;
@@ -61,7 +66,7 @@ fn send_once<R: Wait + Clock, D: Datagrams>(
 }
 
 /// Sends until all is to stop or its turns are used, when it stops all. At a fault of the device it stops all, too.
-pub(crate) fn send<R: Wait + Clock, D: Datagrams + Drop, G: Gate>(
+pub fn send<R: Wait + Clock, D: Datagrams + Drop, G: Gate>(
     rt: &R,
     alloc: Global,
     stage: &Stage,

@@ -8,7 +8,7 @@ use position::Geometry;
 
 /// A device, and how many datagrams of frames it was given for the first time, and again.
 #[derive(Drop)]
-pub(crate) struct Metered<D> {
+pub struct Metered<D> {
     inner: D,
     geometry: Geometry,
     /// No frame that begins here or further was given yet.
@@ -26,7 +26,7 @@ fn first_header(datagram: &[u8]) -> Option<Header> {
 }
 
 impl<D> Metered<D> {
-    pub(crate) fn new(inner: D, geometry: Geometry) -> Metered<D> {
+    pub fn new(inner: D, geometry: Geometry) -> Metered<D> {
         Metered {
             inner,
             geometry,
@@ -36,11 +36,11 @@ impl<D> Metered<D> {
         }
     }
 
-    pub(crate) fn sent(&self) -> u64 {
+    pub fn sent(&self) -> u64 {
         self.sent
     }
 
-    pub(crate) fn resent(&self) -> u64 {
+    pub fn resent(&self) -> u64 {
         self.resent
     }
 
