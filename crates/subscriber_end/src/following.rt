@@ -1,6 +1,6 @@
 //! A subscriber with an image.
 
-ghost use Rattle.std.specs.Prelude.{◌≡◌, ◌≤◌, IfOk};
+ghost use Rattle.std.specs.Prelude.{◌≡◌, ◌≤◌, ◌+◌, ◌-◌, IfOk};
 ghost use Rattle.subscriber_end.specs.Writings.{Writes};
 
 use crate::fault::SubscribeFault;
@@ -58,9 +58,9 @@ fn cycle_once<W: Write>(
     Ok(done)
 }
 
-/// Whether the image is left at this moment, and why.
-fn leaving(plan: &SubscribePlan, watch: &Watch, written: u64, now: u64) -> Option<Leaving> {
-    if written >= plan.messages || watch.is_quiet(plan, now) {
+/// Whether the image is left at this moment, and why; it is where there were enough messages.
+fn why_left(plan: &SubscribePlan, watch: &Watch, is_enough: bool, now: u64) -> Option<Leaving> {
+    if is_enough || watch.is_quiet(plan, now) {
         return Some(Leaving::Ended);
     }
     if watch.is_silent(now) {
@@ -89,6 +89,7 @@ fn tell<E: Write>(
 }
 
 /// Writes messages until the image is left. The answer is how many were written in all, and why.
+#[tactic(auto, using(crate::proofs::Written::writes_more, crate::proofs::Written::writes_none))]
 pub(crate) fn follow<R: Wait + Clock, W: Write, E: Write>(
     rt: &R,
     plan: &SubscribePlan,
@@ -104,13 +105,14 @@ pub(crate) fn follow<R: Wait + Clock, W: Write, E: Write>(
     ensures few { IfOk result (λ r. r.0 ≤ plan.now.messages) }
     ensures writes { IfOk result (λ r. Writes plan.now.end.form before (W.contents output.old) r.0 (W.contents output.new)) }
 {
+    let wanted = plan.messages;
     let mut written = before;
     for _ in rt.forever() {
         let now = watch.moment(rt)?;
         let done = cycle_once(plan, joined, output, watch, written, now)?;
         written += done.messages as u64;
         tell(plan, joined, errors, watch, written, now);
-        if let Some(leaving) = leaving(plan, watch, written, now) {
+        if let Some(leaving) = why_left(plan, watch, written >= wanted, now) {
             return Ok((written, leaving));
         }
         if done.messages == 0 && !done.busy {

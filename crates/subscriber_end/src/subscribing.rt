@@ -66,6 +66,7 @@ fn follow_one<R: Wait + Clock, W: Write, E: Write>(
 /// The fault is `Taken` where another socket has the port, `Output` where the output failed, `Message` where a message was
 /// refused, `Device` where the socket or the clock failed, and `Memory` where memory was refused. Behind a fault the
 /// output may end within a message.
+#[tactic(auto, using(crate::proofs::Written::writes_more, crate::proofs::Written::writes_none))]
 pub fn subscribe<R: Wait + Clock + Net, W: Write, E: Write>(
     rt: &R,
     alloc: Global,
