@@ -1,6 +1,6 @@
 //! The log of a publisher, and its sender.
 
-ghost use Rattle.std.specs.Prelude.{◌≡◌, IfOk};
+ghost use Rattle.std.specs.Prelude.{◌≡◌, IfOk, slice_index_or};
 ghost use Rattle.log_parts.specs.Parts.{IsNewReader};
 ghost use Rattle.publisher_end.specs.Openings.{IsAgentOf, IsOpened, IsPlanned};
 
@@ -13,7 +13,7 @@ use log_reading::{LogFrames, LogReader};
 use sender::SenderCore;
 use sender_agent::SenderAgent;
 use shared_log::{Log, Publisher};
-use std::alloc::Global;
+use std::alloc::{AllocError, Global};
 
 /// The sender of a publisher.
 pub(crate) type Agent<'a> = SenderAgent<LogFrames<'a>, UnicastFlow>;
@@ -25,6 +25,14 @@ pub(crate) struct Opened {
     pub(crate) publisher: Publisher,
     pub(crate) reader: LogReader,
     pub(crate) keeper: Keeper,
+}
+
+/// The first of all publishers; the others aren't used.
+fn first_of(alloc: Global, all: [Publisher; 8]) -> Result<Publisher, AllocError>
+    ensures { IfOk result (λ p. p ≡ slice_index_or all 0 p) }
+{
+    let mut all = Vec::from_array(alloc, all)?;
+    Ok(all.remove(0))
 }
 
 /// Opens the log of a plan. It fails only where memory is refused.
@@ -46,10 +54,10 @@ pub(crate) fn open_log(alloc: Global, plan: &PublishPlan) -> Result<Opened, Publ
         mut readers,
         keeper,
     } = parts;
-    let mut publishers = Vec::from_array(alloc, publishers)?;
+    let publisher = first_of(alloc, publishers)?;
     Ok(Opened {
         log,
-        publisher: publishers.remove(0),
+        publisher,
         reader: readers.remove(0),
         keeper,
     })
