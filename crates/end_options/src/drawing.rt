@@ -13,10 +13,9 @@ pub struct Drawn {
     pub receiver: i64,
 }
 
-/// Ids that a generator makes of a moment, in nanoseconds, and of the channel's port.
-pub fn draw(moment: u64, port: u16) -> Drawn {
-    let seed = moment ^ (u64::from(port) << 48);
-    let mut words = Pcg32::seed_from_u64(seed);
+/// Ids that a generator makes of a moment, in nanoseconds.
+pub fn draw(moment: u64) -> Drawn {
+    let mut words = Pcg32::seed_from_u64(moment);
     let session = words.next_word().cast_signed();
     let initial_term_id = words.next_word().cast_signed();
     let high = u64::from(words.next_word());
