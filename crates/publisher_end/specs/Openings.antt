@@ -11,6 +11,9 @@ use Rattle.log_parts.specs.Parts.{IsNewReader}
 use Rattle.sender_agent.specs.Duties.{Agent}
 use Rattle.end_options.specs.declared.plans.PublishPlan.{PublishPlan}
 use Rattle.publisher_end.specs.declared.opening.Opened.{Opened}
+use Rattle.publisher_end.specs.declared.publishing.Begun.{Begun}
+use Rattle.publisher_end.specs.declared.sending.Tools.{Tools}
+use Rattle.publisher_end.specs.declared.stage.Stage.{Stage}
 
 abbrev pub identity_of : PublishPlan → Identity
 identity_of p = record { geometry = p.geometry; session = p.session; stream = p.end.stream }
@@ -33,3 +36,17 @@ pub record IsAgentOf (p : PublishPlan) (a : Agent LogFrames ℕ) : Type 0 where
   pub stands : IsReaderOf a.core.reads.log.now a.core.reads.reader
   pub from : SendsFrom a.core (source_of a.core.reads.log.now a.core.reads.reader)
   pub size : a.core.identity.geometry.mtu ≡ p.geometry.mtu
+
+-- the duty has the plan's MTU, the passes are those of the log and the queue
+pub record AreTools {D : Type 0} (p : PublishPlan) (s : Stage) (t : Tools D) : Type 0 where
+  pub size : t.duty.mtu ≡ p.geometry.mtu
+  pub client : t.client.queue ≡ s.conductor
+  pub taker : t.taker.queue ≡ s.conductor
+  pub keeper : IsOf s.log t.keeper.held
+
+-- a log of the plan with its passes, a queue and a device
+pub record IsBegun (p : PublishPlan) (b : Begun) : Type 0 where
+  pub log_is : IsPlanned p b.stage.log
+  pub publisher : IsDone b.stage.log b.publisher
+  pub reader : IsNewReader b.stage.log 0 b.reader
+  pub tools : AreTools p b.stage b.tools

@@ -1,20 +1,20 @@
 //! A publisher from its begin to its end.
 
 ghost use Rattle.std.specs.Prelude.{◌≡◌, IfOk};
-ghost use Rattle.shared_log.specs.Handles.{IsOf};
 ghost use Rattle.log_parts.specs.Books.{IsDone};
-ghost use Rattle.publisher_end.specs.Openings.{IsAgentOf};
+ghost use Rattle.publisher_end.specs.Openings.{AreTools, IsAgentOf, IsBegun};
 
 use crate::fault::PublishFault;
 use crate::opening::{Opened, open_agent, open_log};
 use crate::reading::read_input;
-use crate::sending::{Crew, send_all};
+use crate::sending::{Crew, Tools, send_all};
 use crate::stage::Stage;
 use agents::Duty;
 use attendance::Ending;
 use conductor::{Client, Conductor, Taker};
 use end_options::PublishPlan;
 use endpoint::{Datagrams, OpenError, UdpDevice};
+use log_reading::LogReader;
 use lossy::Lossy;
 use peer::{Attended, Sent};
 use shared_log::Publisher;
@@ -81,9 +81,7 @@ fn play<'s, S, R: Threads + Wait + Clock + Sync, D: Datagrams + Drop, I: Read + 
 ) -> Result<Ending, PublishFault>
     requires done { IsDone stage.now.log publisher }
     requires agent { IsAgentOf plan.now crew.agent }
-    requires size { crew.duty.mtu ≡ plan.now.geometry.mtu }
-    requires queue { (crew.client.queue ≡ stage.now.conductor) × (crew.taker.queue ≡ stage.now.conductor) }
-    requires keeper { IsOf stage.now.log crew.keeper.held }
+    requires tools { AreTools plan.now stage.now crew.tools }
 {
     let form = plan.end.form;
     let Ok(reader) = scope.spawn(
@@ -118,15 +116,13 @@ fn play_in_scope<
 ) -> Result<Ending, PublishFault>
     requires done { IsDone stage.now.log publisher }
     requires agent { IsAgentOf plan.now crew.agent }
-    requires size { crew.duty.mtu ≡ plan.now.geometry.mtu }
-    requires queue { (crew.client.queue ≡ stage.now.conductor) × (crew.taker.queue ≡ stage.now.conductor) }
-    requires keeper { IsOf stage.now.log crew.keeper.held }
+    requires tools { AreTools plan.now stage.now crew.tools }
 {
     thread::scope(
         thread::scope_env(),
         rt,
         move |scope| -> Result<Ending, PublishFault>
-            requires { IsDone stage.now.log publisher × IsAgentOf plan.now crew.agent × (crew.duty.mtu ≡ plan.now.geometry.mtu) × (crew.client.queue ≡ stage.now.conductor) × (crew.taker.queue ≡ stage.now.conductor) × IsOf stage.now.log crew.keeper.held }
+            requires { IsDone stage.now.log publisher × IsAgentOf plan.now crew.agent × AreTools plan.now stage.now crew.tools }
         {
             play(
                 scope, rt, alloc, plan, stage, publisher, crew, input, errors,
@@ -135,18 +131,24 @@ fn play_in_scope<
     )
 }
 
-/// Publishes over a device.
-fn publish_over<R: Threads + Wait + Clock + Sync, I: Read + Send + Drop, E: Write>(
-    rt: &R,
+/// What a publisher begins with, but for its sender.
+#[derive(Drop)]
+pub(crate) struct Begun {
+    pub(crate) stage: Stage,
+    pub(crate) publisher: Publisher,
+    pub(crate) reader: LogReader,
+    pub(crate) tools: Tools<Lossy<UdpDevice>>,
+}
+
+/// Has all that a publisher begins with, over a device.
+fn begin(
     alloc: Global,
     plan: &PublishPlan,
+    began: Instant,
     device: UdpDevice,
-    input: I,
-    errors: &mut E,
-) -> Result<Ending, PublishFault> {
-    let Ok(began) = Instant::now(rt) else {
-        return Err(PublishFault::Device);
-    };
+) -> Result<Begun, PublishFault>
+    ensures { IfOk result (λ b. IsBegun plan.now b) }
+{
     let duty = duty_of(alloc, plan, device)?;
     let (conductor, client, taker) = queue(alloc)?;
     let Opened {
@@ -155,15 +157,38 @@ fn publish_over<R: Threads + Wait + Clock + Sync, I: Read + Send + Drop, E: Writ
         reader,
         keeper,
     } = open_log(alloc, plan)?;
-    let stage = Stage::new(log, conductor, began);
+    Ok(Begun {
+        stage: Stage::new(log, conductor, began),
+        publisher,
+        reader,
+        tools: Tools {
+            client,
+            duty,
+            keeper,
+            taker,
+        },
+    })
+}
+
+/// Plays with all that a publisher begins with.
+fn publish_over<R: Threads + Wait + Clock + Sync, I: Read + Send + Drop, E: Write>(
+    rt: &R,
+    alloc: Global,
+    plan: &PublishPlan,
+    begun: Begun,
+    input: I,
+    errors: &mut E,
+) -> Result<Ending, PublishFault>
+    requires { IsBegun plan.now begun }
+{
+    let Begun {
+        stage,
+        publisher,
+        reader,
+        tools,
+    } = begun;
     let agent = open_agent(alloc, plan, &stage.log, reader)?;
-    let crew = Crew {
-        agent,
-        client,
-        duty,
-        keeper,
-        taker,
-    };
+    let crew = Crew { agent, tools };
     play_in_scope(rt, alloc, plan, &stage, publisher, crew, input, errors)
 }
 
@@ -180,9 +205,13 @@ pub fn publish<R: Threads + Wait + Clock + Net + Sync, I: Read + Send + Drop, E:
     input: I,
     errors: &mut E,
 ) -> Result<Ending, PublishFault> {
+    let Ok(began) = Instant::now(rt) else {
+        return Err(PublishFault::Device);
+    };
     let device = bind(rt, alloc, plan.end.port)?;
+    let begun = begin(alloc, plan, began, device)?;
     let Ok(input) = BufReader::new(alloc, input) else {
         return Err(PublishFault::Memory);
     };
-    publish_over(rt, alloc, plan, device, input, errors)
+    publish_over(rt, alloc, plan, begun, input, errors)
 }

@@ -1,8 +1,6 @@
 //! The thread that sends, keeps the log, and decides the end.
 
-ghost use Rattle.std.specs.Prelude.{◌≡◌};
-ghost use Rattle.shared_log.specs.Handles.{IsOf};
-ghost use Rattle.publisher_end.specs.Openings.{IsAgentOf};
+ghost use Rattle.publisher_end.specs.Openings.{AreTools, IsAgentOf};
 
 use crate::fault::PublishFault;
 use crate::opening::Agent;
@@ -23,14 +21,20 @@ use std::time::Clock;
 /// Nanoseconds from one line of counters to the next.
 const SECOND: u64 = 1_000_000_000;
 
-/// What sends and keeps.
+/// The device of a sender with its room, and the passes beside it.
 #[derive(Drop)]
-pub(crate) struct Crew<'a, D> {
-    pub(crate) agent: Agent<'a>,
+pub(crate) struct Tools<D> {
     pub(crate) client: Client,
     pub(crate) duty: Duty<Attended<D>>,
     pub(crate) keeper: Keeper,
     pub(crate) taker: Taker,
+}
+
+/// What sends and keeps.
+#[derive(Drop)]
+pub(crate) struct Crew<'a, D> {
+    pub(crate) agent: Agent<'a>,
+    pub(crate) tools: Tools<D>,
 }
 
 /// The progress that was seen: how often receivers changed, what was told, whether the input had ended, and when any of
@@ -95,27 +99,23 @@ fn cycle<R: Wait + Clock, D: Datagrams>(
     now: u64,
 ) -> Result<bool, PublishFault>
     requires agent { IsAgentOf plan.now crew.old.agent }
-    requires size { crew.old.duty.mtu ≡ plan.now.geometry.mtu }
-    requires queue { (crew.old.client.queue ≡ stage.now.conductor) × (crew.old.taker.queue ≡ stage.now.conductor) }
-    requires keeper { IsOf stage.now.log crew.old.keeper.held }
+    requires tools { AreTools plan.now stage.now crew.old.tools }
     ensures agent { IsAgentOf plan.now crew.new.agent }
-    ensures size { crew.new.duty.mtu ≡ plan.now.geometry.mtu }
-    ensures queue { (crew.new.client.queue ≡ stage.now.conductor) × (crew.new.taker.queue ≡ stage.now.conductor) }
-    ensures keeper { IsOf stage.now.log crew.new.keeper.held }
+    ensures tools { AreTools plan.now stage.now crew.new.tools }
 {
     let sent = crew.agent.cycle(
         rt,
         &stage.conductor,
-        &mut crew.client,
-        &mut crew.duty,
+        &mut crew.tools.client,
+        &mut crew.tools.duty,
         now,
     )?;
     let kept = conduct(
         rt,
         &stage.log,
-        &mut crew.keeper,
+        &mut crew.tools.keeper,
         &stage.conductor,
-        &mut crew.taker,
+        &mut crew.tools.taker,
     );
     Ok(sent || kept)
 }
@@ -159,15 +159,13 @@ pub(crate) fn send_all<R: Wait + Clock, D: Datagrams, E: Write>(
     errors: &mut E,
 ) -> Result<Ending, PublishFault>
     requires agent { IsAgentOf plan.now crew.old.agent }
-    requires size { crew.old.duty.mtu ≡ plan.now.geometry.mtu }
-    requires queue { (crew.old.client.queue ≡ stage.now.conductor) × (crew.old.taker.queue ≡ stage.now.conductor) }
-    requires keeper { IsOf stage.now.log crew.old.keeper.held }
+    requires tools { AreTools plan.now stage.now crew.old.tools }
 {
     let mut progress = Progress::new();
     for _ in rt.forever() {
         let now = stage.moment(rt)?;
         let busy = cycle(rt, plan, stage, crew, now)?;
-        let device = crew.duty.device();
+        let device = crew.tools.duty.device();
         let (attendance, datagrams) = (device.attendance(), device.datagrams());
         let ending = judge(
             plan,
