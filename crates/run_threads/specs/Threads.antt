@@ -1,15 +1,24 @@
 -- Who plays, and what they give back.
-use Rattle.std.specs.Prelude.{◌≡◌, ◌≤◌, map}
+use Rattle.std.specs.Prelude.{◌≡◌, ◌≤◌, ◌<◌, ◌^◌, map}
 use Rattle.std.specs.List.{AllByRecursion}
+use Rattle.theory.specs.Position.{max_message}
 use Rattle.atomic_table.specs.Seated.{TableId}
 use Rattle.tail_claim.specs.Handles.{parts_in}
 use Rattle.shared_log.specs.Handles.{LogValue}
 use Rattle.log_parts.specs.Books.{IsDone}
 use Rattle.log_parts.specs.Parts.{IsNewReader}
 use Rattle.run_parties.specs.Passes.{IsKept}
-use Rattle.run.specs.declared.threads.Cast.{Cast}
-use Rattle.run.specs.declared.threads.Played.{Played}
-use Rattle.run.specs.declared.threads.Size.{Size}
+use Rattle.run_parties.specs.Senders.{IsRunLog}
+use Rattle.run_threads.specs.declared.scene.Cast.{Cast}
+use Rattle.run_threads.specs.declared.scene.Played.{Played}
+use Rattle.run_threads.specs.declared.scene.Size.{Size}
+
+-- a log that a run begins with, and no more to be done than it has room for
+pub record IsSet (l : LogValue) (size : Size) : Type 0 where
+  pub log : IsRunLog l
+  pub whole : 8 ≤ size.task.length
+  pub short : size.task.length ≤ max_message l.identity.geometry
+  pub wanted : size.wanted < 2 ^ 63
 
 -- what the threads of a run have: publishers, a reader and the keeper of a log, and clients and the taker of a queue
 pub record IsCast {D : Type 0} (l : LogValue) (queue : TableId) (c : Cast D) : Type 0 where
