@@ -1,31 +1,19 @@
 //! The threads, joined.
 
 ghost use Rattle.std.specs.Prelude.{◌≡◌, ◌≤◌, IfOk, Ok};
-ghost use Rattle.run_parties.specs.Passes.{Ends, IsKept};
+ghost use Rattle.run_parties.specs.Passes.{IsKept};
 
 use crate::scene::{Played, Scene};
-use crate::starting::{Agent, Publishing, Steering, Subscribing};
+use crate::starting::{Agent, Steering, Subscribing};
 use agents::AgentFault;
 use log_keeping::Keeper;
+use receiver_agent::Named;
 use shared_log::Publisher;
 use std::thread::Threads;
 use tally::Tally;
 
-/// A publisher that comes back.
-pub(crate) fn publisher_of<N, R: Threads, G>(
-    scene: &Scene<'_, N, R, G>,
-    started: Result<Publishing, AgentFault>,
-) -> Result<Publisher, AgentFault>
-    ensures { IfOk result (λ q. IfOk started (λ h. Ends h.promise.log.value h.promise.before.value q)) }
-{
-    match started {
-        Ok(handle) => handle.join(scene.rt),
-        Err(fault) => Err(fault),
-    }
-}
-
 /// The keeper that comes back.
-fn keeper_of<N, R: Threads, G>(
+fn keeper_of<N: Named, R: Threads, G>(
     scene: &Scene<'_, N, R, G>,
     started: Result<Steering, AgentFault>,
 ) -> Result<Keeper, AgentFault>
@@ -39,7 +27,7 @@ fn keeper_of<N, R: Threads, G>(
 }
 
 /// The tally of the subscriber.
-fn tally_of<N, R: Threads, G>(
+fn tally_of<N: Named, R: Threads, G>(
     scene: &Scene<'_, N, R, G>,
     started: Result<Subscribing, AgentFault>,
 ) -> Result<Tally, AgentFault>
@@ -53,7 +41,7 @@ fn tally_of<N, R: Threads, G>(
 }
 
 /// How a sender or a receiver ended.
-fn end_of<N, R: Threads, G>(
+fn end_of<N: Named, R: Threads, G>(
     scene: &Scene<'_, N, R, G>,
     started: Result<Agent, AgentFault>,
 ) -> Result<(), AgentFault> {
@@ -79,7 +67,7 @@ fn played(
 }
 
 /// Joins all threads but the publishers', of which this came back.
-pub(crate) fn gather<N, R: Threads, G>(
+pub(crate) fn gather<N: Named, R: Threads, G>(
     scene: &Scene<'_, N, R, G>,
     publishers: Result<Vec<Publisher>, AgentFault>,
     conductor: Result<Steering, AgentFault>,

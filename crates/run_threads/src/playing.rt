@@ -6,7 +6,7 @@ ghost use Rattle.log_parts.specs.Books.{IsDone};
 ghost use Rattle.tail_claim.specs.Handles.{parts_in};
 ghost use Rattle.run_threads.specs.Threads.{IsCast, IsPlayed, IsSet};
 
-use crate::joining::{gather, publisher_of};
+use crate::joining::gather;
 use crate::scene::{Cast, Played, Scene};
 use crate::starting::{
     start_conductor, start_publisher, start_receiver, start_sender, start_subscriber,
@@ -28,13 +28,13 @@ use std::time::Clock;
 fn run_publishers<
     's,
     S,
-    N: Send,
+    N: Named + Send,
     R: Threads + Wait + Clock + Sync,
     G: Gate + Sync,
     E: Write,
 >(
     scope: &'s Scope<'s, S>,
-    scene: &'s Scene<'s, N, R, G>,
+    scene: &Scene<'s, N, R, G>,
     mut waiting: Vec<Publisher>,
     watch: &mut Watch<E>,
 ) -> Result<Vec<Publisher>, AgentFault>
@@ -48,9 +48,9 @@ fn run_publishers<
         watch.until_stopped(scene.rt, scene.stage, scene.counters);
         return Ok(Vec::new(scene.alloc));
     };
-    let handle = start_publisher(scope, scene, publisher);
+    let handle = start_publisher(scope, scene, publisher)?;
     let others = run_publishers(scope, scene, waiting, watch);
-    let publisher = publisher_of(scene, handle);
+    let publisher = handle.join(scene.rt);
     let mut all = others?;
     if all.push(publisher?).is_err() {
         return Err(AgentFault::Memory);
@@ -69,7 +69,7 @@ fn play_in<
     E: Write + Drop,
 >(
     scope: &'s Scope<'s, S>,
-    scene: &'s Scene<'s, N, R, G>,
+    scene: &Scene<'s, N, R, G>,
     cast: Cast<D>,
     mut watch: Watch<E>,
 ) -> Result<Played, AgentFault>

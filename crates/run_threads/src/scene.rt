@@ -4,7 +4,7 @@ use conductor::{Client, Taker};
 use counters::Counters;
 use log_keeping::Keeper;
 use log_reading::LogReader;
-use receiver_agent::ReceiverAgent;
+use receiver_agent::{Named, ReceiverAgent};
 use run_parties::{Stage, Task};
 use shared_log::Publisher;
 use std::alloc::Global;
@@ -43,7 +43,7 @@ pub struct Size {
 }
 
 /// What all threads are lent.
-pub struct Scene<'a, N, R, G> {
+pub struct Scene<'a, N: Named, R, G> {
     pub rt: &'a R,
     pub alloc: Global,
     pub stage: &'a Stage,

@@ -1,23 +1,27 @@
 //! The threads, started. A thread that can't be started stops all.
 
-ghost use Rattle.std.specs.Prelude.{◌≡◌, ◌≤◌, IfOk};
+ghost use Rattle.std.specs.Prelude.{◌≡◌, ◌≤◌, ◌<◌, ◌^◌, IfOk};
+ghost use Rattle.theory.specs.Position.{max_message};
 ghost use Rattle.agents.specs.declared.fault.AgentFault.TheVariants.{Device};
 ghost use Rattle.log_parts.specs.Books.{IsDone};
 ghost use Rattle.log_parts.specs.Parts.{IsNewReader};
 ghost use Rattle.run_parties.specs.Passes.{Ends, IsKept};
+ghost use Rattle.run_parties.specs.Senders.{IsRunLog};
 ghost use Rattle.run_threads.specs.Threads.{IsSet};
 
 use crate::scene::{Scene, Size};
 use agents::AgentFault;
 use conductor::{Client, Taker};
+use counters::Counters;
 use endpoint::Datagrams;
 use log_keeping::Keeper;
 use log_reading::LogReader;
-use receiver_agent::Named;
-use run_parties::{Gate, Stage, publish, receive, send, steer, subscribe};
+use receiver_agent::{Named, ReceiverAgent};
+use run_parties::{Gate, Stage, Task, publish, receive, send, steer, subscribe};
 use shared_log::{Log, Publisher};
+use std::alloc::Global;
 use std::snapshot::Snapshot;
-use std::sync::Wait;
+use std::sync::{Mutex, Wait};
 use std::thread::{JoinHandle, Promise, PromisedHandle, Scope, Threads};
 use std::time::Clock;
 use tally::Tally;
@@ -83,65 +87,77 @@ fn halted(stage: &Stage) -> AgentFault
     AgentFault::Device
 }
 
-fn publish_there<N, R: Clock, G: Gate>(
-    scene: &Scene<'_, N, R, G>,
+fn publish_there<R: Clock, G: Gate>(
+    rt: &R,
+    alloc: Global,
+    stage: &Stage,
+    gate: &G,
+    task: Task,
     publisher: Publisher,
 ) -> Result<Publisher, AgentFault>
-    requires done { IsDone scene.now.stage.now.log publisher }
-    requires set { IsSet scene.now.stage.now.log scene.now.size }
-    ensures { IfOk result (λ q. Ends scene.now.stage.now.log publisher q) }
+    requires done { IsDone stage.now.log publisher }
+    requires whole { 8 ≤ task.length }
+    requires short { task.length ≤ max_message stage.now.log.identity.geometry }
+    ensures { IfOk result (λ q. Ends stage.now.log publisher q) }
 {
-    let task = scene.size.task;
-    let answer = publish(scene.rt, scene.alloc, scene.stage, scene.gate, task, publisher);
-    or_stop(scene.stage, answer)
+    or_stop(stage, publish(rt, alloc, stage, gate, task, publisher))
 }
 
-pub(crate) fn start_publisher<'s, S, N: Send, R: Clock + Sync, G: Gate + Sync>(
+/// Starts the thread of a publisher.
+pub(crate) fn start_publisher<'s, S, N: Named + Send, R: Clock + Sync, G: Gate + Sync>(
     scope: &'s Scope<'s, S>,
-    scene: &'s Scene<'s, N, R, G>,
+    scene: &Scene<'s, N, R, G>,
     publisher: Publisher,
 ) -> Result<Publishing, AgentFault>
     requires done { IsDone scene.now.stage.now.log publisher }
     requires set { IsSet scene.now.stage.now.log scene.now.size }
     ensures { IfOk result (λ h. (h.promise.log.value ≡ scene.now.stage.now.log) × (h.promise.before.value ≡ publisher)) }
 {
+    let (rt, alloc, stage, gate) = (scene.rt, scene.alloc, scene.stage, scene.gate);
+    let task = scene.size.task;
     let promise = PublisherBack {
-        log: Snapshot::of(&scene.stage.log),
+        log: Snapshot::of(&stage.log),
         before: Snapshot::of(&publisher),
     };
-    match scope.spawn_with(promise, move || publish_there(scene, publisher)) {
-        Ok(handle) => Ok(handle),
-        Err(_) => Err(halted(scene.stage)),
-    }
+    let Ok(handle) = scope.spawn_with(promise, move || {
+        publish_there(rt, alloc, stage, gate, task, publisher)
+    }) else {
+        return Err(halted(stage));
+    };
+    Ok(handle)
 }
 
-fn send_there<N, R: Wait + Clock, D: Datagrams + Drop, G: Gate>(
-    scene: &Scene<'_, N, R, G>,
+fn send_there<R: Wait + Clock, D: Datagrams + Drop, G: Gate>(
+    rt: &R,
+    alloc: Global,
+    stage: &Stage,
+    gate: &G,
+    turns: u32,
     device: D,
     reader: LogReader,
     client: Client,
 ) -> Result<(), AgentFault>
-    requires reader { IsNewReader scene.now.stage.now.log 0 reader }
-    requires set { IsSet scene.now.stage.now.log scene.now.size }
-    requires queue { client.queue ≡ scene.now.stage.now.conductor }
+    requires reader { IsNewReader stage.now.log 0 reader }
+    requires log { IsRunLog stage.now.log }
+    requires queue { client.queue ≡ stage.now.conductor }
 {
-    let turns = scene.size.turns;
-    let answer = send(
-        scene.rt, scene.alloc, scene.stage, scene.gate, turns, device, reader, client,
-    );
-    or_stop(scene.stage, answer)
+    or_stop(
+        stage,
+        send(rt, alloc, stage, gate, turns, device, reader, client),
+    )
 }
 
+/// Starts the thread of the sender.
 pub(crate) fn start_sender<
     's,
     S,
-    N: Send,
+    N: Named + Send,
     R: Wait + Clock + Sync,
     D: Datagrams + Send + Drop + 's,
     G: Gate + Sync,
 >(
     scope: &'s Scope<'s, S>,
-    scene: &'s Scene<'s, N, R, G>,
+    scene: &Scene<'s, N, R, G>,
     device: D,
     reader: LogReader,
     client: Client,
@@ -150,31 +166,35 @@ pub(crate) fn start_sender<
     requires set { IsSet scene.now.stage.now.log scene.now.size }
     requires queue { client.queue ≡ scene.now.stage.now.conductor }
 {
-    match scope.spawn(move || send_there(scene, device, reader, client)) {
-        Ok(handle) => Ok(handle),
-        Err(_) => Err(halted(scene.stage)),
-    }
+    let (rt, alloc, stage, gate) = (scene.rt, scene.alloc, scene.stage, scene.gate);
+    let turns = scene.size.turns;
+    let Ok(handle) = scope.spawn(move || {
+        send_there(rt, alloc, stage, gate, turns, device, reader, client)
+    }) else {
+        return Err(halted(stage));
+    };
+    Ok(handle)
 }
 
 fn receive_there<N: Named + Send, R: Wait + Clock, D: Datagrams + Drop, G: Gate>(
-    scene: &Scene<'_, N, R, G>,
+    rt: &R,
+    alloc: Global,
+    stage: &Stage,
+    gate: &G,
+    turns: u32,
+    counters: &Counters,
+    agent: &Mutex<ReceiverAgent<N>>,
     device: D,
 ) -> Result<(), AgentFault>
-    requires { scene.now.counters.now ≡ N.counters }
+    requires { counters.now ≡ N.counters }
 {
-    let answer = receive(
-        scene.rt,
-        scene.alloc,
-        scene.stage,
-        scene.gate,
-        scene.size.turns,
-        scene.counters,
-        scene.agent,
-        device,
-    );
-    or_stop(scene.stage, answer)
+    or_stop(
+        stage,
+        receive(rt, alloc, stage, gate, turns, counters, agent, device),
+    )
 }
 
+/// Starts the thread of the receiver.
 pub(crate) fn start_receiver<
     's,
     S,
@@ -184,62 +204,62 @@ pub(crate) fn start_receiver<
     G: Gate + Sync,
 >(
     scope: &'s Scope<'s, S>,
-    scene: &'s Scene<'s, N, R, G>,
+    scene: &Scene<'s, N, R, G>,
     device: D,
 ) -> Result<Agent, AgentFault>
     requires { scene.now.counters.now ≡ N.counters }
 {
-    match scope.spawn(
+    let (rt, alloc, stage, gate) = (scene.rt, scene.alloc, scene.stage, scene.gate);
+    let (turns, counters, agent) = (scene.size.turns, scene.counters, scene.agent);
+    let Ok(handle) = scope.spawn(
         move || -> Result<(), AgentFault>
-            requires { scene.now.counters.now ≡ N.counters }
-        { receive_there(scene, device) },
-    ) {
-        Ok(handle) => Ok(handle),
-        Err(_) => Err(halted(scene.stage)),
-    }
+            requires { counters.now ≡ N.counters }
+        { receive_there(rt, alloc, stage, gate, turns, counters, agent, device) },
+    ) else {
+        return Err(halted(stage));
+    };
+    Ok(handle)
 }
 
-fn subscribe_there<N: Named + Send, R: Wait + Clock, G: Gate>(
-    scene: &Scene<'_, N, R, G>,
+fn subscribe_there<N: Named + Send, R: Wait + Clock>(
+    rt: &R,
+    stage: &Stage,
+    agent: &Mutex<ReceiverAgent<N>>,
+    wanted: u64,
+    turns: u32,
 ) -> Result<Tally, AgentFault>
-    requires { IsSet scene.now.stage.now.log scene.now.size }
-    ensures { IfOk result (λ tally. tally.polled ≤ scene.now.size.wanted) }
+    requires { wanted < 2 ^ 63 }
+    ensures { IfOk result (λ tally. tally.polled ≤ wanted) }
 {
-    let Size { wanted, turns, .. } = scene.size;
-    or_stop(scene.stage, subscribe(scene.rt, scene.stage, scene.agent, wanted, turns))
+    or_stop(stage, subscribe(rt, stage, agent, wanted, turns))
 }
 
+/// Starts the thread of the subscriber.
 pub(crate) fn start_subscriber<'s, S, N: Named + Send, R: Wait + Clock + Sync, G: Gate + Sync>(
     scope: &'s Scope<'s, S>,
-    scene: &'s Scene<'s, N, R, G>,
+    scene: &Scene<'s, N, R, G>,
 ) -> Result<Subscribing, AgentFault>
     requires { IsSet scene.now.stage.now.log scene.now.size }
     ensures { IfOk result (λ h. h.promise.wanted ≡ scene.now.size.wanted) }
 {
-    let promise = TallyOf {
-        wanted: scene.size.wanted,
+    let (rt, stage, agent) = (scene.rt, scene.stage, scene.agent);
+    let Size { wanted, turns, .. } = scene.size;
+    let Ok(handle) = scope.spawn_with(
+        TallyOf { wanted },
+        move || -> Result<Tally, AgentFault>
+            requires { wanted < 2 ^ 63 }
+            ensures { IfOk result (λ tally. tally.polled ≤ wanted) }
+        { subscribe_there(rt, stage, agent, wanted, turns) },
+    ) else {
+        return Err(halted(stage));
     };
-    match scope.spawn_with(promise, move || subscribe_there(scene)) {
-        Ok(handle) => Ok(handle),
-        Err(_) => Err(halted(scene.stage)),
-    }
+    Ok(handle)
 }
 
-fn steer_there<N, R: Wait + Clock, G: Gate>(
-    scene: &Scene<'_, N, R, G>,
-    keeper: Keeper,
-    taker: Taker,
-) -> Keeper
-    requires keeper { IsKept scene.now.stage.now.log keeper }
-    requires taker { taker.queue ≡ scene.now.stage.now.conductor }
-    ensures { IsKept scene.now.stage.now.log result }
-{
-    steer(scene.rt, scene.stage, scene.gate, scene.size.turns, keeper, taker)
-}
-
-pub(crate) fn start_conductor<'s, S, N: Send, R: Wait + Clock + Sync, G: Gate + Sync>(
+/// Starts the thread of the conductor.
+pub(crate) fn start_conductor<'s, S, N: Named + Send, R: Wait + Clock + Sync, G: Gate + Sync>(
     scope: &'s Scope<'s, S>,
-    scene: &'s Scene<'s, N, R, G>,
+    scene: &Scene<'s, N, R, G>,
     keeper: Keeper,
     taker: Taker,
 ) -> Result<Steering, AgentFault>
@@ -247,11 +267,15 @@ pub(crate) fn start_conductor<'s, S, N: Send, R: Wait + Clock + Sync, G: Gate + 
     requires taker { taker.queue ≡ scene.now.stage.now.conductor }
     ensures { IfOk result (λ h. h.promise.log.value ≡ scene.now.stage.now.log) }
 {
+    let (rt, stage, gate, turns) = (scene.rt, scene.stage, scene.gate, scene.size.turns);
     let promise = KeeperBack {
-        log: Snapshot::of(&scene.stage.log),
+        log: Snapshot::of(&stage.log),
     };
-    match scope.spawn_with(promise, move || steer_there(scene, keeper, taker)) {
-        Ok(handle) => Ok(handle),
-        Err(_) => Err(halted(scene.stage)),
-    }
+    let Ok(handle) = scope.spawn_with(
+        promise,
+        move || steer(rt, stage, gate, turns, keeper, taker),
+    ) else {
+        return Err(halted(stage));
+    };
+    Ok(handle)
 }
