@@ -59,7 +59,7 @@ struct Queue {
     taker: Taker,
 }
 
-fn queue(alloc: Global) -> Result<Queue, AllocError>
+fn make_queue(alloc: Global) -> Result<Queue, AllocError>
     ensures { IfOk result (λ q. (q.asking.queue ≡ q.conductor) × (q.closing.queue ≡ q.conductor) × (q.taker.queue ≡ q.conductor)) }
 {
     let (conductor, mut clients, taker) = Conductor::new(alloc)?;
@@ -158,7 +158,7 @@ fn begin<R: Clock>(rt: &R, alloc: Global, geometry: &Geometry) -> Result<Begun, 
     let Ok(began) = Instant::now(rt) else {
         return Err(AgentFault::Device);
     };
-    let queue = queue(alloc)?;
+    let queue = make_queue(alloc)?;
     let (counters, mut writer) = Counters::new(alloc)?;
     let reader = counters.reader(&mut writer);
     let subscriber = listening(alloc, geometry)?;
@@ -215,36 +215,48 @@ fn run_on<
     requires opened { IsOpened plan.now.geometry opened }
     ensures { IfOk result (λ o. IsOutcome plan.now o) }
 {
+    let Begun {
+        began,
+        queue,
+        subscriber,
+        counters,
+        writer,
+        reader: counting,
+    } = begun;
+    let Queue {
+        conductor,
+        asking,
+        closing,
+        taker,
+    } = queue;
+    let Opened {
+        log,
+        publishers,
+        unused,
+        reader,
+        keeper,
+    } = opened;
     let size = size_of(plan);
-    let stage = Stage::new(opened.log, begun.queue.conductor, begun.began);
+    let stage = Stage::new(log, conductor, began);
     let cast = Cast {
-        publishers: opened.publishers,
-        reader: opened.reader,
-        keeper: opened.keeper,
-        asking: begun.queue.asking,
-        closing: begun.queue.closing,
-        taker: begun.queue.taker,
+        publishers,
+        reader,
+        keeper,
+        asking,
+        closing,
+        taker,
         sends,
         replies,
     };
     let watch = Watch {
         errors,
-        reader: begun.reader,
+        reader: counting,
         shows: plan.counters,
     };
     let played = play_named::<Brand, R, D, G, E>(
-        rt,
-        alloc,
-        &stage,
-        &begun.counters,
-        gate,
-        size,
-        begun.subscriber,
-        begun.writer,
-        cast,
-        watch,
+        rt, alloc, &stage, &counters, gate, size, subscriber, writer, cast, watch,
     )?;
-    Ok(left(alloc, stage.into_log(), size.wanted, played, opened.unused)?)
+    Ok(left(alloc, stage.into_log(), size.wanted, played, unused)?)
 }
 
 /// Runs over two devices: the sender's and the receiver's.

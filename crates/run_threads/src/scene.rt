@@ -43,6 +43,7 @@ pub struct Size {
 }
 
 /// What all threads are lent.
+#[derive(Drop)]
 pub struct Scene<'a, N: Named, R, G> {
     pub rt: &'a R,
     pub alloc: Global,
