@@ -114,24 +114,8 @@ fn joined<'a>(
         → IfOk subcommand.entry (λ r. app_of r ≡ b) → IfOk subcommand.entry (λ r. (out-Command r).has_globals ≡ false)
         → IfOk result (λ r. app_of r ≡ with_subcommand a b.top) }
 {
-    match command {
-        Ok(command) => with_one(command, subcommand),
-        Err(error) => Err(error),
-    }
-}
-
-/// The command with one subcommand more, where that could be made.
-fn with_one<'a>(
-    command: Command<'a>,
-    subcommand: Result<Command<'a>, AllocError>,
-) -> Result<Command<'a>, AllocError>
-    ensures { (b : App) → IfOk subcommand.entry (λ r. app_of r ≡ b) → IfOk subcommand.entry (λ r. (out-Command r).has_globals ≡ false)
-        → IfOk result (λ r. app_of r ≡ with_subcommand (app_of command.entry) b.top) }
-{
-    match subcommand {
-        Ok(subcommand) => command.subcommand(subcommand),
-        Err(error) => Err(error),
-    }
+    let command = command?;
+    command.subcommand(subcommand?)
 }
 
 /// The program's command without those below it.
