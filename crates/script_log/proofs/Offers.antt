@@ -1,9 +1,8 @@
 -- Offers and claims of a publisher on a log in one hand.
-use Rattle.std.proofs.Common.{◌≡◌, ℕ, suc, ◌-◌, ◌<◌, Bool, true, false, List, [], ◌∷◌, length, Option, None, Some, inl, inr, refl, sym, ap, ◌∙◌, subst, get_or, rules, Fits, w8}
+use Rattle.std.proofs.Common.{◌≡◌, ℕ, suc, ◌<◌, Bool, true, false, List, [], ◌∷◌, length, Option, None, Some, inl, inr, refl, sym, ap, ◌∙◌, subst, get_or, rules, Fits, w8}
 use Rattle.std.specs.List.{AllByRecursion}
 use Rattle.std.specs.Option.{is_some, option_map}
 use Rattle.one_hand.specs.Stream.{OpenClaim, Stream, after_offer, answer_of, claim_by}
-use Rattle.script.specs.Meaning as commands
 use Rattle.script_run.specs.Answers.{MayOffer, Offered, with_log}
 use Rattle.script_run.specs.LineContents.{Bad, LineContent}
 use Rattle.script_run.specs.ScriptState.{ScriptState}
