@@ -2,13 +2,12 @@
 
 ghost use Rattle.std.specs.Prelude.{◌≤◌};
 
-use crate::fault::Fault;
 use crate::run_command::run_driver;
-use crate::sim_command::sim;
 use command_line::{Options, OptionsFault, options};
 use decode::decode;
 use run::Ending;
 use run_options::RunOptions;
+use sim_command::{Fault, sim};
 use std::alloc::Global;
 use std::fmt::Display;
 use std::io::{Read, Write};
