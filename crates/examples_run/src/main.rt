@@ -1,6 +1,7 @@
 //! Plays each script of `examples/` and carries out each row, and says whether it prints what is expected.
 #![tactic(auto)]
 
+mod options;
 mod rows;
 mod streams;
 
@@ -36,7 +37,7 @@ const NAMES: [&str; 18] = [
 ];
 
 /// The files of rows by their names: each is a file `NAME.expected`.
-const ROWS: [&str; 9] = [
+const ROWS: [&str; 10] = [
     "log_rows",
     "claim_rows",
     "long_rows",
@@ -45,6 +46,7 @@ const ROWS: [&str; 9] = [
     "line_rows",
     "decode_rows",
     "command_rows",
+    "option_rows",
     "run_rows",
 ];
 
@@ -68,9 +70,11 @@ fn carry_out_all<C: Threads + Wait + Clock + Net + Sync>(
     let alike = compare_all(host, rt)?;
     let told = streams::faults_are_told(rt, host.alloc());
     let bounded = streams::lengths_are_bounded(rt, host.alloc())?;
+    let options = options::are_told(host.alloc());
     println!(host; "streams: {}", word_of(told))?;
     println!(host; "lengths: {}", word_of(bounded))?;
-    Ok(played && alike && told && bounded)
+    println!(host; "options: {}", word_of(options))?;
+    Ok(played && alike && told && bounded && options)
 }
 
 fn word_of(expected: bool) -> &'static str {

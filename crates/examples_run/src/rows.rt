@@ -16,6 +16,7 @@ struct Row<'a> {
     output: Vec<u8>,
     errors: Vec<u8>,
     is_end: bool,
+    is_start: bool,
 }
 
 /// How many rows there were, and on which lines those end that differ.
@@ -57,12 +58,13 @@ impl<'a> Row<'a> {
             output: Vec::new(alloc),
             errors: Vec::new(alloc),
             is_end: false,
+            is_start: false,
         }
     }
 
     /// Takes a line that tells something of the row: by its mark the words of the command line, a line that is read, one
-    /// that is read so often, bytes that are read, that only the end of what is printed follows, a line that is printed or
-    /// one that is told.
+    /// that is read so often, bytes that are read, that only the end of what is printed or the start of what is told
+    /// follows, a line that is printed or one that is told.
     fn learn(&mut self, alloc: Global, mark: &str, text: &'a str) -> Result<(), AllocError> {
         match mark {
             "$" => self.words = text.split('|').collect(alloc)?,
@@ -70,6 +72,7 @@ impl<'a> Row<'a> {
             "*" => push_often(&mut self.input, text)?,
             "x" => push_bytes(alloc, &mut self.input, text)?,
             "~" => self.is_end = true,
+            "^" => self.is_start = true,
             ">" => push_line(&mut self.output, text)?,
             "!" => push_line(&mut self.errors, text)?,
             _ => {}
@@ -90,8 +93,12 @@ impl<'a> Row<'a> {
         } else {
             done.output.as_slice() == self.output.as_slice()
         };
-        let ended = status.parse::<u8>() == Ok(done.status);
-        printed && ended && done.errors.as_slice() == self.errors.as_slice()
+        let told = if self.is_start {
+            done.errors.as_slice().starts_with(&self.errors)
+        } else {
+            done.errors.as_slice() == self.errors.as_slice()
+        };
+        printed && told && status.parse::<u8>() == Ok(done.status)
     }
 }
 
