@@ -113,6 +113,31 @@ fn is_short<C: Threads + Wait + Clock + Net + Sync>(rt: &C, alloc: Global, digit
     short
 }
 
+/// Takes a line: one that tells something of the row, or one that ends it.
+fn take_line<'a, C: Threads + Wait + Clock + Net + Sync>(
+    rt: &C,
+    alloc: Global,
+    row: &mut Row<'a>,
+    found: &mut Found,
+    number: u32,
+    line: &'a str,
+) -> Result<(), AllocError> {
+    let Some((mark, rest)) = line.split_once(' ') else {
+        return Ok(());
+    };
+    let met = match mark {
+        "=" => row.is_met(rt, alloc, rest),
+        "%" => is_short(rt, alloc, rest),
+        _ => return row.learn(alloc, mark, rest),
+    };
+    found.rows = found.rows.wrapping_add(1);
+    if !met {
+        found.differing.push(number)?;
+    }
+    *row = Row::new(alloc);
+    Ok(())
+}
+
 /// Carries out the rows of a text.
 pub(crate) fn play_rows<C: Threads + Wait + Clock + Net + Sync>(
     rt: &C,
@@ -127,22 +152,7 @@ pub(crate) fn play_rows<C: Threads + Wait + Clock + Net + Sync>(
     let mut number: u32 = 0;
     for line in text.lines() {
         number = number.wrapping_add(1);
-        let Some((mark, rest)) = line.split_once(' ') else {
-            continue;
-        };
-        let met = match mark {
-            "=" => row.is_met(rt, alloc, rest),
-            "%" => is_short(rt, alloc, rest),
-            _ => {
-                row.learn(alloc, mark, rest)?;
-                continue;
-            }
-        };
-        found.rows = found.rows.wrapping_add(1);
-        if !met {
-            found.differing.push(number)?;
-        }
-        row = Row::new(alloc);
+        take_line(rt, alloc, &mut row, &mut found, number, line)?;
     }
     Ok(found)
 }
