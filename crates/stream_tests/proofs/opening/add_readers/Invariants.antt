@@ -1,8 +1,8 @@
 use Rattle.std.proofs.Common.{length}
 use Rattle.std.specs.List.{AllByRecursion}
 use Rattle.log_reading.specs.Readers.{IsReaderOf}
-use Rattle.shared_tests.specs.Parties.{IsParty}
-use Rattle.shared_tests.proofs.opening.add_readers.Given as goal
+use Rattle.stream_tests.specs.Parties.{IsParty}
+use Rattle.stream_tests.proofs.opening.add_readers.Given as goal
 
 abbrev pub invariant-loop-reader : goal.invariant-loop-reader
 invariant-loop-reader l = AllByRecursion (IsReaderOf l.log) l.readers.items × AllByRecursion (IsParty l.log) l.parties.items

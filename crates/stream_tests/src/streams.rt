@@ -4,22 +4,21 @@ ghost use Rattle.std.specs.Prelude.{◌≤◌, length};
 ghost use Rattle.theory.specs.Position.{max_message};
 ghost use Rattle.shared_log.specs.Handles.{IsOf};
 ghost use Rattle.log_reading.specs.Readers.{IsReaderOf};
-ghost use Rattle.shared_tests.specs.Parties.{IsParty};
+ghost use Rattle.stream_tests.specs.Parties.{IsParty};
 
 use crate::opening::open_streams;
 use crate::parties::Party;
-use crate::publishing::publish_offer;
 use block::Block;
 use log_keeping::{Keeper, clean_and_limit};
 use log_reading::{LogReader, advance, next};
 use position::FrameKind;
-use shared_log::{Log, Publisher};
+use shared_log::{Log, OnLog, Publisher};
 use std::process::Abort;
 use std::sync::atomic::{AtomicU64, Ordering};
 use std::test::*;
 use std::thread;
 use std::thread::Threads;
-use word_calls::Refusal;
+use word_calls::{Refusal, offer};
 
 /// How many publishers there are, and how many messages each has.
 pub(crate) const PUBLISHERS: usize = 4;
@@ -85,7 +84,7 @@ fn offer_until(log: &Log, publisher: &mut Publisher, message: &[u8]) -> bool
     ensures { IsOf log.now publisher.new }
 {
     for _ in 0..TRIES {
-        match publish_offer(log, publisher, message) {
+        match offer(&mut OnLog::new(log), publisher, message) {
             Ok(_) => return true,
             Err(Refusal::AdminAction) => {}
             Err(Refusal::BackPressured) => thread::yield_now(),

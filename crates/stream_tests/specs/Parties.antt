@@ -2,9 +2,9 @@
 use Rattle.std.specs.Prelude.{◌≤◌, length}
 use Rattle.shared_log.specs.Handles.{IsOf, LogValue}
 use Rattle.log_reading.specs.Readers.{IsReaderOf}
-use Rattle.shared_tests.specs.declared.parties.Crew.{Crew}
-use Rattle.shared_tests.specs.declared.parties.Party.{Party}
-use Rattle.shared_tests.specs.declared.parties.Party.TheVariants.{Keeping, Publishing, Reading}
+use Rattle.stream_tests.specs.declared.parties.Crew.{Crew}
+use Rattle.stream_tests.specs.declared.parties.Party.{Party}
+use Rattle.stream_tests.specs.declared.parties.Party.TheVariants.{Keeping, Publishing, Reading}
 
 -- what it has is of this log
 abbrev pub IsParty : LogValue → Party → Type 0
