@@ -5,6 +5,7 @@ ghost use Rattle.std.specs.Prelude.{◌≤◌};
 use crate::run_command::run_driver;
 use command_line::{Options, OptionsFault, options};
 use decode::decode;
+use end_commands::{publish_command, subscribe_command};
 use run::Ending;
 use run_options::RunOptions;
 use sim_command::{Fault, sim};
@@ -21,11 +22,12 @@ const VERSION: &str = "mdriver 0.1.0, proved with rattle-kit-13b logic dac8208d6
 
 /// Carries out a command line over a reader and two writers, and gives the status: 0 where all was done, 1 at a fault,
 /// 2 for a refused command line, 3 for a run whose turns were used before all was polled. The first word is the program's
-/// name; `--version` alone asks for the version.
+/// name; `--version` alone asks for the version, and `publish` and `subscribe` are carried out by `publish_command` and
+/// `subscribe_command`.
 ///
 /// What is written for each isn't promised here: `options`, `sim`, `decode` and `run_driver` say what they make of the words
 /// and of the input, and the texts of help and refusals are the parser's, of which no contract speaks.
-pub fn command<'a, C: Threads + Wait + Clock + Net + Sync, R: Read, W: Write, E: Write>(
+pub fn command<'a, C: Threads + Wait + Clock + Net + Sync, R: Read + Send, W: Write, E: Write>(
     rt: &C,
     alloc: Global,
     words: &'a [&'a str],
@@ -38,6 +40,24 @@ pub fn command<'a, C: Threads + Wait + Clock + Net + Sync, R: Read, W: Write, E:
     if let [_, "--version"] = words {
         return status(shown(output, &VERSION), errors);
     }
+    match words {
+        [_, "publish", ..] => publish_command(rt, alloc, &words[1..], input, output, errors),
+        [_, "subscribe", ..] => subscribe_command(rt, alloc, &words[1..], output, errors),
+        _ => parsed_command(rt, alloc, words, input, output, errors),
+    }
+}
+
+/// Carries out a line that the parser of the other commands reads, and gives the status.
+fn parsed_command<'a, C: Threads + Wait + Clock + Net + Sync, R: Read, W: Write, E: Write>(
+    rt: &C,
+    alloc: Global,
+    words: &'a [&'a str],
+    input: &mut R,
+    output: &mut W,
+    errors: &mut E,
+) -> u8
+    ensures { result ≤ 3 }
+{
     match options(alloc, words) {
         Ok(Options::Sim) => status(sim(alloc, input, output), errors),
         Ok(Options::Decode(word)) => {

@@ -1,5 +1,5 @@
 -- Messages that are polled and written, and what comes behind that.
-use Rattle.std.specs.Prelude.{◌≡◌, ◌⊎◌, ◌≤◌, ℕ, Bool, true, false, List, [], ◌∷◌, length, Option, None, Some, Ok, Err}
+use Rattle.std.specs.Prelude.{◌≡◌, ◌⊎◌, ◌≤◌, ℕ, min, Bool, true, false, List, [], ◌∷◌, length, Option, None, Some, Ok, Err}
 use Rattle.std.specs.Io.KnownBytes.{Appends}
 use Rattle.message_form.specs.Forms.{spelled, spelling}
 use Rattle.message_form.specs.declared.form.Form.{Form}
@@ -45,9 +45,9 @@ pub record Delivers (form : Form) (most : ℕ) (s : Subscribing) (before : Optio
   pub written : Appends before after (spelling form messages)
 
 -- the duty's cycle begins where all that was polled is written
-pub record WritesFirst (form : Form) (now : ℕ) (tells : Type 0) (s : Subscribing) (before : Option (List ℕ)) (d : Device) (done : Delivered) (t : Subscribing) (after : Option (List ℕ)) (e : Device) : Type 0 where
+pub record WritesFirst (form : Form) (most now : ℕ) (tells : Type 0) (s : Subscribing) (before : Option (List ℕ)) (d : Device) (done : Delivered) (t : Subscribing) (after : Option (List ℕ)) (e : Device) : Type 0 where
   pub middle : Subscribing
-  pub delivers : Delivers form 256 s before done.messages middle after
+  pub delivers : Delivers form (min 256 most) s before done.messages middle after
   pub cycle : Cycle ReceiverHears ReceiverTicks now tells middle d done.busy t e
 
 -- a poll whose frame the assembler refuses
@@ -70,14 +70,14 @@ Stops form faults.Device s before t after = ⊥
 Stops form faults.Memory s before t after = ⊥
 
 -- a fault of the duty's cycle, which began where all that was polled is written
-pub record FailsBehind (form : Form) (now : ℕ) (tells : Type 0) (fault : DeliveryFault) (s : Subscribing) (before : Option (List ℕ)) (d : Device) (t : Subscribing) (after : Option (List ℕ)) (e : Device) : Type 0 where
+pub record FailsBehind (form : Form) (most now : ℕ) (tells : Type 0) (fault : DeliveryFault) (s : Subscribing) (before : Option (List ℕ)) (d : Device) (t : Subscribing) (after : Option (List ℕ)) (e : Device) : Type 0 where
   pub middle : Subscribing
   pub number : ℕ
   pub why : AgentFault
-  pub delivers : Delivers form 256 s before number middle after
+  pub delivers : Delivers form (min 256 most) s before number middle after
   pub named : fault ≡ of_agent why
   pub fails : Fault ReceiverHears ReceiverTicks now tells why middle d t e
 
 -- why a cycle ended; `still` says that nothing was heard or sent
-abbrev pub Ends : Form → ℕ → Type 0 → Type 0 → DeliveryFault → Subscribing → Option (List ℕ) → Device → Subscribing → Option (List ℕ) → Device → Type 0
-Ends form now tells still fault s before d t after e = (Stops form fault s before t after × still) ⊎ FailsBehind form now tells fault s before d t after e
+abbrev pub Ends : Form → ℕ → ℕ → Type 0 → Type 0 → DeliveryFault → Subscribing → Option (List ℕ) → Device → Subscribing → Option (List ℕ) → Device → Type 0
+Ends form most now tells still fault s before d t after e = (Stops form fault s before t after × still) ⊎ FailsBehind form most now tells fault s before d t after e

@@ -1,6 +1,6 @@
 //! Messages that are polled, and written.
 
-ghost use Rattle.std.specs.Prelude.{◌≡◌, IfErr, IfOk};
+ghost use Rattle.std.specs.Prelude.{◌≡◌, min, IfErr, IfOk};
 ghost use Rattle.delivery.specs.Deliveries.{Delivers, Steps, Stops, StopsAtOne};
 
 use crate::fault::DeliveryFault;
@@ -33,34 +33,37 @@ fn write_next<W: Write>(
     }
 }
 
-/// Polls messages until there is none, 256 at the most, and writes each. The answer is how many there were.
+/// Polls messages until there is none, 256 and `most` at the most, and writes each. The answer is how many there were.
 fn write_each<W: Write>(
     form: Form,
+    most: usize,
     subscriber: &mut Subscriber,
     output: &mut W,
 ) -> Result<usize, DeliveryFault>
-    ensures delivers { IfOk result (λ n. Delivers form 256 subscriber.old (W.contents output.old) n subscriber.new (W.contents output.new)) }
+    ensures delivers { IfOk result (λ n. Delivers form (min 256 most) subscriber.old (W.contents output.old) n subscriber.new (W.contents output.new)) }
     ensures fault { IfErr result (λ f. Stops form f subscriber.old (W.contents output.old) subscriber.new (W.contents output.new)) }
 {
-    for count in 0..MESSAGES {
+    let limit = MESSAGES.min(most);
+    for count in 0..limit {
         if !write_next(form, subscriber, output)? {
             return Ok(count);
         }
     }
-    Ok(MESSAGES)
+    Ok(limit)
 }
 
-/// Polls messages until there is none, 256 at the most, writes each as its form says, and flushes the output. The answer
-/// is how many there were. A fault is `Output` or `Message`.
+/// Polls messages until there is none, 256 and `most` at the most, writes each as its form says, and flushes the output.
+/// The answer is how many there were. A fault is `Output` or `Message`.
 pub fn write_polled<W: Write>(
     form: Form,
+    most: usize,
     subscriber: &mut Subscriber,
     output: &mut W,
 ) -> Result<usize, DeliveryFault>
-    ensures delivers { IfOk result (λ n. Delivers form 256 subscriber.old (W.contents output.old) n subscriber.new (W.contents output.new)) }
+    ensures delivers { IfOk result (λ n. Delivers form (min 256 most) subscriber.old (W.contents output.old) n subscriber.new (W.contents output.new)) }
     ensures fault { IfErr result (λ f. Stops form f subscriber.old (W.contents output.old) subscriber.new (W.contents output.new)) }
 {
-    let count = write_each(form, subscriber, output)?;
+    let count = write_each(form, most, subscriber, output)?;
     if output.flush().is_err() {
         return Err(DeliveryFault::Output);
     }

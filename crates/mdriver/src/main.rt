@@ -1,5 +1,6 @@
 //! The media driver's program: `mdriver sim` plays a script from offer to poll, `mdriver run` runs the driver in threads over
-//! UDP, and `mdriver decode` prints the frames of a datagram.
+//! UDP, `mdriver decode` prints the frames of a datagram, and `mdriver publish` and `mdriver subscribe` carry messages from
+//! one process to another.
 #![tactic(auto)]
 
 use commands::{Fault, command};
@@ -44,7 +45,7 @@ fn words(rt: &HostRuntime) -> io::Result<Vec<String>> {
 }
 
 /// Carries out a command line. What fails here is memory, before anything was read.
-fn carry_out<C: Threads + Wait + Clock + Net + Sync, R: Read, W: Write + Drop, E: Write>(
+fn carry_out<C: Threads + Wait + Clock + Net + Sync, R: Read + Send, W: Write + Drop, E: Write>(
     rt: &C,
     alloc: Global,
     words: &[String],

@@ -1,0 +1,39 @@
+use clap::Error;
+use clap::error::ErrorKind;
+use std::fmt;
+
+/// Why a command line isn't carried out.
+#[derive(Debug, Drop)]
+pub enum LineFault {
+    /// It was refused, or it asked for help: what to print.
+    Shown(Error),
+    /// Memory was refused.
+    Memory,
+}
+
+impl LineFault {
+    /// Whether the line was refused: its text belongs to the error output. Help that was asked for is no refusal.
+    pub fn is_refusal(&self) -> bool {
+        match self {
+            LineFault::Shown(error) => error.use_stderr(),
+            LineFault::Memory => false,
+        }
+    }
+}
+
+impl fmt::Display for LineFault {
+    fn fmt<W: fmt::Write>(&self, f: &mut fmt::Formatter<W>) -> fmt::Result {
+        match self {
+            LineFault::Shown(error) => write!(f, "{error}"),
+            LineFault::Memory => f.write_str("memory"),
+        }
+    }
+}
+
+/// A parser's error.
+pub(crate) fn fault_of(error: Error) -> LineFault {
+    if error.kind() == ErrorKind::OutOfMemory {
+        return LineFault::Memory;
+    }
+    LineFault::Shown(error)
+}

@@ -1,0 +1,12 @@
+//! The command lines of the two ends of a channel: what the words of `publish` and `subscribe` tell.
+#![tactic(auto)]
+
+mod fault;
+mod number;
+mod publishing;
+mod shared;
+mod subscribing;
+
+pub use fault::LineFault;
+pub use publishing::publish_options;
+pub use subscribing::subscribe_options;

@@ -1,0 +1,50 @@
+//! The command `publish`.
+
+ghost use Rattle.std.specs.Prelude.{◌<◌, ◌^◌, IfOk};
+
+use crate::fault::{LineFault, fault_of};
+use crate::number::{Number, number_of, with_number};
+use crate::shared::{shared_of, with_channel, with_shared};
+use clap::Command;
+use end_options::PublishOptions;
+use std::alloc::{AllocError, Global};
+
+const LINGER: Number = Number {
+    name: "linger",
+    least: 0,
+    most: 1_000_000,
+    otherwise: 5,
+    help: "How many seconds without progress it waits once its input has ended [default: 5]",
+};
+
+const EXAMPLE: &str = "Example:\n  mdriver publish 'aeron:udp?endpoint=127.0.0.1:40123' < lines";
+
+/// The command.
+fn command<'a>(alloc: Global) -> Result<Command<'a>, AllocError> {
+    let command = Command::new(alloc, "publish")
+        .bin_name("mdriver publish")?
+        .about("Publish each line of standard input as a message")
+        .after_help(EXAMPLE);
+    let command = with_channel(alloc, command)?;
+    let command = with_shared(alloc, command)?;
+    with_number(alloc, command, LINGER)
+}
+
+/// What the words of a line of `publish` tell; the first of them is `publish`.
+pub fn publish_options<'a>(
+    alloc: Global,
+    words: &'a [&'a str],
+) -> Result<PublishOptions<'a>, LineFault>
+    ensures { IfOk result (λ o. o.end.stream < 2 ^ 31) }
+{
+    let Ok(command) = command(alloc) else {
+        return Err(LineFault::Memory);
+    };
+    match command.try_get_matches_from(words) {
+        Ok(matches) => Ok(PublishOptions {
+            end: shared_of(&matches),
+            linger: number_of(&matches, LINGER) as u32,
+        }),
+        Err(error) => Err(fault_of(error)),
+    }
+}

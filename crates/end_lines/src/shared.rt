@@ -1,0 +1,91 @@
+//! What both commands have.
+
+ghost use Rattle.std.specs.Prelude.{◌<◌, ◌^◌};
+
+use crate::number::{Number, number_of, with_flag, with_number};
+use clap::{Arg, ArgMatches, Command};
+use end_options::EndOptions;
+use std::alloc::{AllocError, Global};
+
+const STREAM: Number = Number {
+    name: "stream",
+    least: 0,
+    most: 2_147_483_647,
+    otherwise: 1001,
+    help: "The stream's id, 0 to 2147483647 [default: 1001]",
+};
+
+const LOSS: Number = Number {
+    name: "loss",
+    least: 0,
+    most: 1000,
+    otherwise: 0,
+    help: "How many of 1000 datagrams that it sends are lost, 0 to 1000 [default: 0]",
+};
+
+const REPEAT: Number = Number {
+    name: "repeat",
+    least: 0,
+    most: 1000,
+    otherwise: 0,
+    help: "How many of 1000 are repeated, 0 to 1000 [default: 0]",
+};
+
+const HOLD: Number = Number {
+    name: "hold",
+    least: 0,
+    most: 1000,
+    otherwise: 0,
+    help: "How many of 1000 are held back, 0 to 1000 [default: 0]",
+};
+
+const SEED: Number = Number {
+    name: "seed",
+    least: 0,
+    most: u64::MAX,
+    otherwise: 1,
+    help: "Where the random words begin, 0 to 18446744073709551615 [default: 1]",
+};
+
+/// The command with its channel.
+pub(crate) fn with_channel<'a>(
+    alloc: Global,
+    command: Command<'a>,
+) -> Result<Command<'a>, AllocError> {
+    let channel = Arg::new(alloc, "CHANNEL")
+        .help("The channel, as aeron:udp?endpoint=127.0.0.1:40123|term-length=64k")
+        .required(true);
+    command.arg(channel)
+}
+
+/// The command with the options that both have.
+pub(crate) fn with_shared<'a>(
+    alloc: Global,
+    command: Command<'a>,
+) -> Result<Command<'a>, AllocError> {
+    let command = with_number(alloc, command, STREAM)?;
+    let command = with_number(alloc, command, LOSS)?;
+    let command = with_number(alloc, command, REPEAT)?;
+    let command = with_number(alloc, command, HOLD)?;
+    let command = with_number(alloc, command, SEED)?;
+    let help = "A message stands behind its length, 32 bits with the lowest byte first";
+    let command = with_flag(alloc, command, "blocks", help)?;
+    with_flag(alloc, command, "counters", "Show the counters once a second")
+}
+
+/// What the options that both have tell.
+pub(crate) fn shared_of<'a>(matches: &ArgMatches<'a>) -> EndOptions<'a>
+    ensures { result.stream < 2 ^ 31 }
+{
+    EndOptions {
+        // The word is required, so a parse that succeeds has it.
+        channel: matches.get_str("CHANNEL").unwrap_or(""),
+        stream: number_of(matches, STREAM) as u32,
+        loss: number_of(matches, LOSS) as u32,
+        repeat: number_of(matches, REPEAT) as u32,
+        hold: number_of(matches, HOLD) as u32,
+        seed: number_of(matches, SEED),
+        blocks: matches.get_flag("blocks"),
+        counters: matches.get_flag("counters"),
+    }
+}

@@ -1,0 +1,60 @@
+//! The command `subscribe`.
+
+ghost use Rattle.std.specs.Prelude.{◌<◌, ◌^◌, IfOk};
+
+use crate::fault::{LineFault, fault_of};
+use crate::number::{Number, number_of, with_number};
+use crate::shared::{shared_of, with_channel, with_shared};
+use clap::Command;
+use end_options::SubscribeOptions;
+use std::alloc::{AllocError, Global};
+
+const MESSAGES: Number = Number {
+    name: "messages",
+    least: 1,
+    most: u64::MAX,
+    otherwise: u64::MAX,
+    help: "End after so many messages [default: 18446744073709551615]",
+};
+
+const QUIET: Number = Number {
+    name: "quiet",
+    least: 1,
+    most: 4_294_967_295,
+    otherwise: 4_294_967_295,
+    help: "End after so many seconds without a datagram [default: 4294967295]",
+};
+
+const EXAMPLE: &str = "Example:\n  mdriver subscribe 'aeron:udp?endpoint=127.0.0.1:40123' > lines";
+
+/// The command.
+fn command<'a>(alloc: Global) -> Result<Command<'a>, AllocError> {
+    let command = Command::new(alloc, "subscribe")
+        .bin_name("mdriver subscribe")?
+        .about("Write each message to standard output as a line")
+        .after_help(EXAMPLE);
+    let command = with_channel(alloc, command)?;
+    let command = with_shared(alloc, command)?;
+    let command = with_number(alloc, command, MESSAGES)?;
+    with_number(alloc, command, QUIET)
+}
+
+/// What the words of a line of `subscribe` tell; the first of them is `subscribe`.
+pub fn subscribe_options<'a>(
+    alloc: Global,
+    words: &'a [&'a str],
+) -> Result<SubscribeOptions<'a>, LineFault>
+    ensures { IfOk result (λ o. o.end.stream < 2 ^ 31) }
+{
+    let Ok(command) = command(alloc) else {
+        return Err(LineFault::Memory);
+    };
+    match command.try_get_matches_from(words) {
+        Ok(matches) => Ok(SubscribeOptions {
+            end: shared_of(&matches),
+            messages: number_of(&matches, MESSAGES),
+            quiet: number_of(&matches, QUIET) as u32,
+        }),
+        Err(error) => Err(fault_of(error)),
+    }
+}

@@ -1,0 +1,38 @@
+/// What either end of a channel is told.
+#[derive(Clone, Copy, Debug)]
+pub struct EndOptions<'a> {
+    /// The channel's text.
+    pub channel: &'a str,
+    /// The stream's id, 0 to 2,147,483,647.
+    pub stream: u32,
+    /// How many of a thousand datagrams are lost, 0 to 1,000.
+    pub loss: u32,
+    /// How many of a thousand are repeated, 0 to 1,000.
+    pub repeat: u32,
+    /// How many of a thousand are held back, 0 to 1,000.
+    pub hold: u32,
+    /// Where the random words begin.
+    pub seed: u64,
+    /// Whether a message stands behind its length, and not in a line.
+    pub blocks: bool,
+    /// Whether the counters are shown.
+    pub counters: bool,
+}
+
+/// What a publisher is told.
+#[derive(Clone, Copy, Debug)]
+pub struct PublishOptions<'a> {
+    pub end: EndOptions<'a>,
+    /// After how many seconds without progress it gives up, once its input has ended.
+    pub linger: u32,
+}
+
+/// What a subscriber is told.
+#[derive(Clone, Copy, Debug)]
+pub struct SubscribeOptions<'a> {
+    pub end: EndOptions<'a>,
+    /// After how many messages it ends.
+    pub messages: u64,
+    /// After how many seconds without a datagram it ends.
+    pub quiet: u32,
+}

@@ -1,0 +1,9 @@
+-- What a user reads of an end that can't be had.
+use Rattle.std.specs.Prelude.{ℕ, List, codes}
+use Rattle.peer.specs.declared.fault.BindError.{BindError}
+use Rattle.peer.specs.declared.fault.BindError.TheVariants.{Taken, Device, Memory}
+
+abbrev pub text_of : BindError → List ℕ
+text_of Taken = codes "the port is in use"
+text_of Device = codes "device"
+text_of Memory = codes "memory"

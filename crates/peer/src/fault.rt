@@ -1,0 +1,48 @@
+ghost use Rattle.std.specs.Prelude.{◌≡◌, ◌⊎◌, ◌↔◌, Some, IsTrue};
+ghost use Rattle.std.specs.IoError.{error_kind};
+ghost use Rattle.peer.specs.Texts.{text_of};
+
+use std::fmt;
+use std::io;
+use std::io::ErrorKind;
+use thiserror::Error;
+
+/// Why a subscriber's end can't be had.
+#[derive(Clone, Copy, Debug, PartialEq, Eq, Error)]
+pub enum BindError {
+    /// Another socket of this machine has the port.
+    Taken,
+    /// The system refused the socket.
+    Device,
+    /// Memory was refused.
+    Memory,
+}
+
+impl fmt::Display for BindError {
+    ghost output = { λ error. Some (text_of error) };
+
+    fn fmt<W: fmt::Write>(&self, f: &mut fmt::Formatter<W>) -> fmt::Result {
+        f.write_str(self.text())
+    }
+}
+
+impl BindError {
+    /// What a user sees.
+    pub fn text(self) -> &'static str
+        ensures { result.now ≡ text_of self }
+    {
+        match self {
+            BindError::Taken => "the port is in use",
+            BindError::Device => "device",
+            BindError::Memory => "memory",
+        }
+    }
+}
+
+/// The system isn't ready, or the peer's port is closed.
+pub(crate) fn is_loss(error: &io::Error) -> bool
+    ensures { IsTrue result ↔ ((error_kind error.now ≡ ErrorKind.WouldBlock) ⊎ (error_kind error.now ≡ ErrorKind.ConnectionRefused)) }
+{
+    let kind = error.kind();
+    kind == ErrorKind::WouldBlock || kind == ErrorKind::ConnectionRefused
+}

@@ -1,0 +1,188 @@
+//! A publisher from its begin to its end.
+
+ghost use Rattle.std.specs.Prelude.{◌≡◌, IfOk};
+ghost use Rattle.shared_log.specs.Handles.{IsOf};
+ghost use Rattle.log_parts.specs.Books.{IsDone};
+ghost use Rattle.publisher_end.specs.Openings.{IsAgentOf};
+
+use crate::fault::PublishFault;
+use crate::opening::{Opened, open_agent, open_log};
+use crate::reading::read_input;
+use crate::sending::{Crew, send_all};
+use crate::stage::Stage;
+use agents::Duty;
+use attendance::Ending;
+use conductor::{Client, Conductor, Taker};
+use end_options::PublishPlan;
+use endpoint::{Datagrams, OpenError, UdpDevice};
+use lossy::Lossy;
+use peer::{Attended, Sent};
+use shared_log::Publisher;
+use std::alloc::{AllocError, Global};
+use std::io::{BufReader, Read, Write};
+use std::net::Net;
+use std::sync::Wait;
+use std::thread;
+use std::thread::{Scope, Threads};
+use std::time::{Clock, Instant};
+
+/// A device whose peer is the channel's port.
+fn bind<R: Net>(rt: &R, alloc: Global, port: u16) -> Result<UdpDevice, PublishFault> {
+    let mut device = match UdpDevice::bind(rt, alloc) {
+        Ok(device) => device,
+        Err(OpenError::Device) => return Err(PublishFault::Device),
+        Err(OpenError::Memory) => return Err(PublishFault::Memory),
+    };
+    device.connect(port)?;
+    Ok(device)
+}
+
+/// A command queue, one of its clients, and its taker.
+fn queue(alloc: Global) -> Result<(Conductor, Client, Taker), AllocError>
+    ensures { IfOk result (λ r. (r.1.queue ≡ r.0) × (r.2.queue ≡ r.0)) }
+{
+    let (conductor, mut clients, taker) = Conductor::new(alloc)?;
+    Ok((conductor, clients.remove(0), taker))
+}
+
+/// The device with its room: losses are made on purpose, and receivers are noted.
+fn duty_of(
+    alloc: Global,
+    plan: &PublishPlan,
+    device: UdpDevice,
+) -> Result<Duty<Attended<Lossy<UdpDevice>>>, PublishFault>
+    ensures { IfOk result (λ d. d.mtu ≡ plan.now.geometry.mtu) }
+{
+    let lossy = Lossy::new(alloc, device, plan.end.rates, plan.end.seed);
+    let sent = Sent {
+        geometry: plan.geometry,
+        session: plan.session,
+        stream: plan.end.stream,
+    };
+    let device = Attended::new(lossy, sent, plan.start);
+    match Duty::new(alloc, device, plan.geometry.mtu()) {
+        Ok(duty) => Ok(duty),
+        Err(_) => Err(PublishFault::Memory),
+    }
+}
+
+/// Starts the thread that reads, sends until the publisher ends, and joins that thread. What it says goes first: a message
+/// that couldn't be read is a fault however the others went.
+fn play<'s, S, R: Threads + Wait + Clock + Sync, D: Datagrams + Drop, I: Read + Send + Drop + 's, E: Write>(
+    scope: &'s Scope<'s, S>,
+    rt: &'s R,
+    alloc: Global,
+    plan: &'s PublishPlan,
+    stage: &'s Stage,
+    publisher: Publisher,
+    mut crew: Crew<'s, D>,
+    input: I,
+    errors: &mut E,
+) -> Result<Ending, PublishFault>
+    requires done { IsDone stage.now.log publisher }
+    requires agent { IsAgentOf plan.now crew.agent }
+    requires size { crew.duty.mtu ≡ plan.now.geometry.mtu }
+    requires queue { (crew.client.queue ≡ stage.now.conductor) × (crew.taker.queue ≡ stage.now.conductor) }
+    requires keeper { IsOf stage.now.log crew.keeper.held }
+{
+    let form = plan.end.form;
+    let Ok(reader) = scope.spawn(
+        move || -> Result<(), PublishFault>
+            requires { IsDone stage.now.log publisher }
+        { read_input(rt, alloc, stage, form, input, publisher) },
+    ) else {
+        return Err(PublishFault::Device);
+    };
+    let ending = send_all(rt, plan, stage, &mut crew, errors);
+    stage.stop();
+    reader.join(rt)?;
+    ending
+}
+
+/// Plays in a scope.
+fn play_in_scope<
+    'a,
+    R: Threads + Wait + Clock + Sync,
+    D: Datagrams + Drop,
+    I: Read + Send + Drop,
+    E: Write,
+>(
+    rt: &'a R,
+    alloc: Global,
+    plan: &'a PublishPlan,
+    stage: &'a Stage,
+    publisher: Publisher,
+    crew: Crew<'a, D>,
+    input: I,
+    errors: &'a mut E,
+) -> Result<Ending, PublishFault>
+    requires done { IsDone stage.now.log publisher }
+    requires agent { IsAgentOf plan.now crew.agent }
+    requires size { crew.duty.mtu ≡ plan.now.geometry.mtu }
+    requires queue { (crew.client.queue ≡ stage.now.conductor) × (crew.taker.queue ≡ stage.now.conductor) }
+    requires keeper { IsOf stage.now.log crew.keeper.held }
+{
+    thread::scope(
+        thread::scope_env(),
+        rt,
+        move |scope| -> Result<Ending, PublishFault>
+            requires { IsDone stage.now.log publisher × IsAgentOf plan.now crew.agent × (crew.duty.mtu ≡ plan.now.geometry.mtu) × (crew.client.queue ≡ stage.now.conductor) × (crew.taker.queue ≡ stage.now.conductor) × IsOf stage.now.log crew.keeper.held }
+        {
+            play(
+                scope, rt, alloc, plan, stage, publisher, crew, input, errors,
+            )
+        },
+    )
+}
+
+/// Publishes over a device.
+fn publish_over<R: Threads + Wait + Clock + Sync, I: Read + Send + Drop, E: Write>(
+    rt: &R,
+    alloc: Global,
+    plan: &PublishPlan,
+    device: UdpDevice,
+    input: I,
+    errors: &mut E,
+) -> Result<Ending, PublishFault> {
+    let Ok(began) = Instant::now(rt) else {
+        return Err(PublishFault::Device);
+    };
+    let duty = duty_of(alloc, plan, device)?;
+    let (conductor, client, taker) = queue(alloc)?;
+    let Opened {
+        log,
+        publisher,
+        reader,
+        keeper,
+    } = open_log(alloc, plan)?;
+    let stage = Stage::new(log, conductor, began);
+    let agent = open_agent(alloc, plan, &stage.log, reader)?;
+    let crew = Crew {
+        agent,
+        client,
+        duty,
+        keeper,
+        taker,
+    };
+    play_in_scope(rt, alloc, plan, &stage, publisher, crew, input, errors)
+}
+
+/// Publishes the messages of the input as planned, and answers how it ended. Another receiver that comes, an end before all
+/// was received, and the counters are lines of `errors`.
+///
+/// The fault is `Input` where a message couldn't be read, and what came before it was delivered or given up on, `Full` at
+/// the stream's last position, `Device` where the socket, a thread or the clock failed, and `Memory` where memory was
+/// refused.
+pub fn publish<R: Threads + Wait + Clock + Net + Sync, I: Read + Send + Drop, E: Write>(
+    rt: &R,
+    alloc: Global,
+    plan: &PublishPlan,
+    input: I,
+    errors: &mut E,
+) -> Result<Ending, PublishFault> {
+    let device = bind(rt, alloc, plan.end.port)?;
+    let Ok(input) = BufReader::new(alloc, input) else {
+        return Err(PublishFault::Memory);
+    };
+    publish_over(rt, alloc, plan, device, input, errors)
+}

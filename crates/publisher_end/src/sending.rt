@@ -1,0 +1,189 @@
+//! The thread that sends, keeps the log, and decides the end.
+
+ghost use Rattle.std.specs.Prelude.{◌≡◌};
+ghost use Rattle.shared_log.specs.Handles.{IsOf};
+ghost use Rattle.publisher_end.specs.Openings.{IsAgentOf};
+
+use crate::fault::PublishFault;
+use crate::opening::Agent;
+use crate::stage::{Stage, rest};
+use crate::telling::{tell_change, tell_counters, tell_short};
+use agents::Duty;
+use attendance::{Attendance, Ending};
+use conducting::conduct;
+use conductor::{Client, Taker};
+use end_options::PublishPlan;
+use endpoint::Datagrams;
+use log_keeping::Keeper;
+use peer::Attended;
+use std::io::Write;
+use std::sync::Wait;
+use std::time::Clock;
+
+/// Nanoseconds from one line of counters to the next.
+const SECOND: u64 = 1_000_000_000;
+
+/// What sends and keeps.
+#[derive(Drop)]
+pub(crate) struct Crew<'a, D> {
+    pub(crate) agent: Agent<'a>,
+    pub(crate) client: Client,
+    pub(crate) duty: Duty<Attended<D>>,
+    pub(crate) keeper: Keeper,
+    pub(crate) taker: Taker,
+}
+
+/// The progress that was seen: how often receivers changed, what was told, whether the input had ended, and when any of
+/// these was other than before, in nanoseconds; and when counters were told last.
+#[derive(Clone, Copy)]
+struct Progress {
+    changes: u64,
+    told: u64,
+    ended: bool,
+    moment: u64,
+    shown: u64,
+}
+
+/// What the receiver that was heard last has told.
+fn told_in(attendance: &Attendance) -> u64 {
+    match attendance.present {
+        None => attendance.start,
+        Some(heard) => heard.last,
+    }
+}
+
+impl Progress {
+    fn new() -> Progress {
+        Progress {
+            changes: 0,
+            told: 0,
+            ended: false,
+            moment: 0,
+            shown: 0,
+        }
+    }
+
+    /// Sees how far all is at a moment. Whether receivers have changed.
+    fn see(&mut self, attendance: &Attendance, ended: bool, now: u64) -> bool {
+        let told = told_in(attendance);
+        let changed = attendance.changes != self.changes;
+        if changed || told != self.told || ended != self.ended {
+            self.moment = now;
+        }
+        self.changes = attendance.changes;
+        self.told = told;
+        self.ended = ended;
+        changed
+    }
+
+    /// Whether the counters are to be shown at this moment; then the next second begins.
+    fn shows(&mut self, now: u64) -> bool {
+        if now.saturating_sub(self.shown) < SECOND {
+            return false;
+        }
+        self.shown = now;
+        true
+    }
+}
+
+/// A cycle of the sender, and one of the keeper. Whether anything was done.
+fn cycle<R: Wait + Clock, D: Datagrams>(
+    rt: &R,
+    plan: &PublishPlan,
+    stage: &Stage,
+    crew: &mut Crew<'_, D>,
+    now: u64,
+) -> Result<bool, PublishFault>
+    requires agent { IsAgentOf plan.now crew.old.agent }
+    requires size { crew.old.duty.mtu ≡ plan.now.geometry.mtu }
+    requires queue { (crew.old.client.queue ≡ stage.now.conductor) × (crew.old.taker.queue ≡ stage.now.conductor) }
+    requires keeper { IsOf stage.now.log crew.old.keeper.held }
+    ensures agent { IsAgentOf plan.now crew.new.agent }
+    ensures size { crew.new.duty.mtu ≡ plan.now.geometry.mtu }
+    ensures queue { (crew.new.client.queue ≡ stage.now.conductor) × (crew.new.taker.queue ≡ stage.now.conductor) }
+    ensures keeper { IsOf stage.now.log crew.new.keeper.held }
+{
+    let sent = crew.agent.cycle(
+        rt,
+        &stage.conductor,
+        &mut crew.client,
+        &mut crew.duty,
+        now,
+    )?;
+    let kept = conduct(
+        rt,
+        &stage.log,
+        &mut crew.keeper,
+        &stage.conductor,
+        &mut crew.taker,
+    );
+    Ok(sent || kept)
+}
+
+/// Tells what has changed, and the counters once a second where they are asked for. The answer is how the publisher ends,
+/// if it does.
+fn judge<E: Write>(
+    plan: &PublishPlan,
+    stage: &Stage,
+    progress: &mut Progress,
+    attendance: &Attendance,
+    datagrams: u64,
+    errors: &mut E,
+    now: u64,
+) -> Option<Ending> {
+    let ended = stage.has_ended();
+    if progress.see(attendance, ended, now) {
+        tell_change(errors, attendance);
+    }
+    let tail = stage.tail();
+    if plan.end.counters && progress.shows(now) {
+        tell_counters(errors, stage.messages(), tail, progress.told, datagrams);
+    }
+    if !ended {
+        return None;
+    }
+    let idle = now.saturating_sub(progress.moment);
+    let ending = attendance.ending(tail, idle, plan.linger)?;
+    if ending == Ending::Short {
+        tell_short(errors, progress.told, tail);
+    }
+    Some(ending)
+}
+
+/// Sends and keeps until the publisher ends. The answer is how.
+pub(crate) fn send_all<R: Wait + Clock, D: Datagrams, E: Write>(
+    rt: &R,
+    plan: &PublishPlan,
+    stage: &Stage,
+    crew: &mut Crew<'_, D>,
+    errors: &mut E,
+) -> Result<Ending, PublishFault>
+    requires agent { IsAgentOf plan.now crew.old.agent }
+    requires size { crew.old.duty.mtu ≡ plan.now.geometry.mtu }
+    requires queue { (crew.old.client.queue ≡ stage.now.conductor) × (crew.old.taker.queue ≡ stage.now.conductor) }
+    requires keeper { IsOf stage.now.log crew.old.keeper.held }
+{
+    let mut progress = Progress::new();
+    for _ in rt.forever() {
+        let now = stage.moment(rt)?;
+        let busy = cycle(rt, plan, stage, crew, now)?;
+        let device = crew.duty.device();
+        let (attendance, datagrams) = (device.attendance(), device.datagrams());
+        let ending = judge(
+            plan,
+            stage,
+            &mut progress,
+            &attendance,
+            datagrams,
+            errors,
+            now,
+        );
+        if let Some(ending) = ending {
+            return Ok(ending);
+        }
+        if !busy {
+            rest(rt);
+        }
+    }
+    unreachable!()
+}

@@ -1,0 +1,98 @@
+//! A subscriber from its begin to its end.
+
+ghost use Rattle.std.specs.Prelude.{◌≡◌, ◌≤◌, IfOk};
+ghost use Rattle.subscriber_end.specs.Writings.{Writes};
+
+use crate::fault::SubscribeFault;
+use crate::following::{Leaving, bid_farewell, follow};
+use crate::listening::{Joined, listen};
+use crate::telling::{tell_closed, tell_joined};
+use crate::watch::Watch;
+use end_options::SubscribePlan;
+use peer::{BindError, Listener};
+use std::alloc::Global;
+use std::io::Write;
+use std::net::Net;
+use std::sync::Wait;
+use std::time::{Clock, Instant};
+
+/// A listener at the channel's port.
+fn bind<R: Net>(rt: &R, alloc: Global, port: u16) -> Result<Listener, SubscribeFault> {
+    match Listener::bind(rt, alloc, port) {
+        Ok(listener) => Ok(listener),
+        Err(BindError::Taken) => Err(SubscribeFault::Taken(port)),
+        Err(BindError::Device) => Err(SubscribeFault::Device),
+        Err(BindError::Memory) => Err(SubscribeFault::Memory),
+    }
+}
+
+/// Where its consumer stands.
+fn place(joined: &Joined) -> u64 {
+    match joined.subscriber.positions() {
+        None => 0,
+        Some(positions) => positions.least,
+    }
+}
+
+/// Follows one image, and tells of it. The answer is how many messages were written in all, and whether the subscriber ends.
+fn follow_one<R: Wait + Clock, W: Write, E: Write>(
+    rt: &R,
+    plan: &SubscribePlan,
+    mut joined: Joined,
+    output: &mut W,
+    errors: &mut E,
+    watch: &mut Watch,
+    before: u64,
+) -> Result<(u64, bool), SubscribeFault>
+    requires size { joined.duty.mtu ≡ 40 }
+    requires few { before ≤ plan.now.messages }
+    ensures few { IfOk result (λ r. r.0 ≤ plan.now.messages) }
+    ensures writes { IfOk result (λ r. Writes plan.now.end.form before (W.contents output.old) r.0 (W.contents output.new)) }
+{
+    tell_joined(errors, joined.session, place(&joined));
+    let (written, leaving) = follow(rt, plan, &mut joined, output, errors, watch, before)?;
+    if leaving == Leaving::Silent {
+        tell_closed(errors, joined.session, place(&joined));
+        return Ok((written, false));
+    }
+    let _ = bid_farewell(rt, &mut joined, watch);
+    Ok((written, true))
+}
+
+/// Subscribes as planned, and writes each message to the output as the plan's form says, until there were as many as are
+/// wanted, or no datagram came for as long as it says. The answer is how many were written. Where it joins a stream, where a
+/// silent one is closed, and the counters are lines of `errors`.
+///
+/// The fault is `Taken` where another socket has the port, `Output` where the output failed, `Message` where a message was
+/// refused, `Device` where the socket or the clock failed, and `Memory` where memory was refused. Behind a fault the
+/// output may end within a message.
+#[tactic(auto, using(crate::proofs::Written::writes_more, crate::proofs::Written::writes_none))]
+pub fn subscribe<R: Wait + Clock + Net, W: Write, E: Write>(
+    rt: &R,
+    alloc: Global,
+    plan: &SubscribePlan,
+    output: &mut W,
+    errors: &mut E,
+) -> Result<u64, SubscribeFault>
+    // What was written is whole messages, one after the other.
+    ensures writes { IfOk result (λ n. Writes plan.now.end.form 0 (W.contents output.old) n (W.contents output.new)) }
+    ensures few { IfOk result (λ n. n ≤ plan.now.messages) }
+{
+    let Ok(began) = Instant::now(rt) else {
+        return Err(SubscribeFault::Device);
+    };
+    let mut watch = Watch::new(began);
+    let mut written: u64 = 0;
+    for _ in rt.forever() {
+        let listener = bind(rt, alloc, plan.end.port)?;
+        let Some(joined) = listen(rt, alloc, plan, listener, &mut watch)? else {
+            return Ok(written);
+        };
+        let (all, ended) = follow_one(rt, plan, joined, output, errors, &mut watch, written)?;
+        written = all;
+        if ended {
+            return Ok(written);
+        }
+    }
+    unreachable!()
+}
