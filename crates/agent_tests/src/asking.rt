@@ -1,31 +1,37 @@
 //! A sender's agent and the queue that it asks.
 
-ghost use Rattle.std.specs.Prelude.{◌≡◌};
-ghost use Rattle.agent_tests.specs.Senders.{IsSender};
+ghost use Rattle.std.specs.Prelude.{◌≡◌, IfOk};
+ghost use Rattle.log_parts.specs.Parts.{IsNewReader};
+ghost use Rattle.agent_tests.specs.Senders.{IsFirstLog, IsSender};
 
-use crate::way::{device_with, open_log, open_sender, status};
-use agents::Duty;
+use crate::way::{device_with_status, duty_over, open_log, open_sender};
 use conductor::{CAPACITY, Client, Command, Conductor, Taker};
 use flow_control::UnicastFlow;
-use log_reading::LogFrames;
+use log_reading::{LogFrames, LogReader};
 use sender_agent::SenderAgent;
+use shared_log::Log;
 use std::alloc::Global;
+use std::process::Abort;
 use std::sync::Wait;
 use std::test::*;
 
 /// The agent of these tests.
 pub(crate) type Agent<'a> = SenderAgent<LogFrames<'a>, UnicastFlow>;
 
-/// What came: nothing, or a status message that asks for a SETUP or doesn't.
-fn came(alloc: Global, asks: Option<bool>) -> Result<Vec<Vec<u8>>, Fail> {
-    let mut datagrams = Vec::new(alloc);
-    if let Some(asks) = asks {
-        datagrams.push(status(alloc, asks)?)?;
-    }
-    Ok(datagrams)
+/// An agent that has sent nothing yet.
+pub(crate) fn open_agent<'a>(
+    alloc: Global,
+    log: &'a Log,
+    reader: LogReader,
+) -> Result<Agent<'a>, Fail>
+    requires reader { IsNewReader log.now 0 reader }
+    requires log { IsFirstLog log.now }
+    ensures { IfOk result (λ a. IsSender a.core) }
+{
+    Ok(SenderAgent::new(open_sender(alloc, log, reader)?))
 }
 
-/// A cycle to which that came.
+/// A cycle to which nothing has come, or a status message that asks for a SETUP or doesn't.
 fn turn<R: Wait>(
     rt: &R,
     alloc: Global,
@@ -39,10 +45,7 @@ fn turn<R: Wait>(
     ensures sender { IsSender agent.new.core }
     ensures client { (client.new.queue ≡ client.old.queue) × (client.new.number ≡ client.old.number) }
 {
-    let device = device_with(alloc, &came(alloc, asks)?)?;
-    let Ok(mut duty) = Duty::new(alloc, device, 1408) else {
-        return Err("no memory".into());
-    };
+    let mut duty = duty_over(alloc, device_with_status(alloc, asks)?, 1408)?;
     let _ = agent.cycle(rt, conductor, client, &mut duty, 0);
     Ok(())
 }
@@ -58,25 +61,54 @@ fn taken<R: Wait>(rt: &R, conductor: &Conductor, taker: &mut Taker) -> Option<Co
     }
 }
 
-/// What is taken behind four cycles: with nothing, with a status message that asks, and twice with one that doesn't.
-fn four_turns<R: Wait>(
+/// Whether a status message that comes in a cycle asks, and the command that is taken behind it.
+const TURNS: [(Option<bool>, Option<Command>); 4] = [
+    (None, None),
+    (Some(true), None),
+    (Some(false), Some(Command::Connect)),
+    (Some(false), None),
+];
+
+/// Four cycles, and what is taken behind each.
+fn four_turns<R: Abort + Wait>(
     rt: &R,
     alloc: Global,
     agent: &mut Agent<'_>,
     conductor: &Conductor,
     client: &mut Client,
     taker: &mut Taker,
-) -> Result<Vec<Option<Command>>, Fail>
+) -> Result<(), Fail>
     requires sender { IsSender agent.old.core }
     requires client { client.old.queue ≡ conductor.now }
     requires taker { taker.old.queue ≡ conductor.now }
 {
-    let mut commands = Vec::with_capacity(alloc, 4)?;
-    for asks in [None, Some(true), Some(false), Some(false)] {
+    for (asks, command) in TURNS {
         turn(rt, alloc, agent, conductor, client, asks)?;
-        commands.push(taken(rt, conductor, taker))?;
+        assert!(rt; taken(rt, conductor, taker) == command);
     }
-    Ok(commands)
+    Ok(())
+}
+
+/// Four cycles, with a queue of their own.
+fn connect_once<R: Abort + Wait>(rt: &R, alloc: Global, agent: &mut Agent<'_>) -> Result<(), Fail>
+    requires { IsSender agent.old.core }
+{
+    let (conductor, mut clients, mut taker) = Conductor::new(alloc)?;
+    four_turns(rt, alloc, agent, &conductor, &mut clients[0], &mut taker)
+}
+
+/// Four cycles of an agent of this log.
+fn connect_over<R: Abort + Wait>(
+    rt: &R,
+    alloc: Global,
+    log: &Log,
+    reader: LogReader,
+) -> Result<(), Fail>
+    requires reader { IsNewReader log.now 0 reader }
+    requires log { IsFirstLog log.now }
+{
+    let mut agent = open_agent(alloc, log, reader)?;
+    connect_once(rt, alloc, &mut agent)
 }
 
 /// Connect is submitted behind the first status message that doesn't ask, and no more.
@@ -84,13 +116,7 @@ fn four_turns<R: Wait>(
 fn connects_once(rt: HostRuntime) -> Result<(), Fail> {
     let alloc = rt.alloc();
     let (log, _, reader) = open_log(alloc)?;
-    let mut agent = SenderAgent::new(open_sender(alloc, &log, reader)?);
-    let (conductor, mut clients, mut taker) = Conductor::new(alloc)?;
-    let first = &mut clients[0];
-    let commands = four_turns(&rt, alloc, &mut agent, &conductor, first, &mut taker)?;
-    let wanted = [None, None, Some(Command::Connect), None];
-    assert_eq!(rt; commands.as_slice(), wanted.as_slice());
-    Ok(())
+    connect_over(&rt, alloc, &log, reader)
 }
 
 /// Submits commands until the queue is full.
@@ -121,15 +147,16 @@ fn drain<R: Wait>(rt: &R, conductor: &Conductor, taker: &mut Taker) -> (usize, O
     (0, last)
 }
 
-/// What is in a full queue behind a cycle with a status message; what, once one command was taken, behind the next cycle.
-fn two_turns<R: Wait>(
+/// Where the queue is full, a cycle with a status message adds nothing; once one command was taken, the next cycle adds
+/// Connect behind the others.
+fn two_turns<R: Abort + Wait>(
     rt: &R,
     alloc: Global,
     agent: &mut Agent<'_>,
     conductor: &Conductor,
     client: &mut Client,
     taker: &mut Taker,
-) -> Result<(usize, Option<Command>), Fail>
+) -> Result<(), Fail>
     requires sender { IsSender agent.old.core }
     requires client { client.old.queue ≡ conductor.now }
     requires taker { taker.old.queue ≡ conductor.now }
@@ -137,7 +164,31 @@ fn two_turns<R: Wait>(
     turn(rt, alloc, agent, conductor, client, Some(false))?;
     let _ = taken(rt, conductor, taker);
     turn(rt, alloc, agent, conductor, client, None)?;
-    Ok(drain(rt, conductor, taker))
+    assert!(rt; drain(rt, conductor, taker) == (64, Some(Command::Connect)));
+    Ok(())
+}
+
+/// Two cycles, with a queue that another client has filled.
+fn wait_for_room<R: Abort + Wait>(rt: &R, alloc: Global, agent: &mut Agent<'_>) -> Result<(), Fail>
+    requires { IsSender agent.old.core }
+{
+    let (conductor, mut clients, mut taker) = Conductor::new(alloc)?;
+    assert!(rt; fill(rt, &conductor, &mut clients[1]) == 64);
+    two_turns(rt, alloc, agent, &conductor, &mut clients[0], &mut taker)
+}
+
+/// Two cycles of an agent of this log.
+fn wait_over<R: Abort + Wait>(
+    rt: &R,
+    alloc: Global,
+    log: &Log,
+    reader: LogReader,
+) -> Result<(), Fail>
+    requires reader { IsNewReader log.now 0 reader }
+    requires log { IsFirstLog log.now }
+{
+    let mut agent = open_agent(alloc, log, reader)?;
+    wait_for_room(rt, alloc, &mut agent)
 }
 
 /// The queue is full of another client's commands. Connect is accepted once there is room, and stands behind them.
@@ -145,12 +196,5 @@ fn two_turns<R: Wait>(
 fn waits_for_room(rt: HostRuntime) -> Result<(), Fail> {
     let alloc = rt.alloc();
     let (log, _, reader) = open_log(alloc)?;
-    let mut agent = SenderAgent::new(open_sender(alloc, &log, reader)?);
-    let (conductor, mut clients, mut taker) = Conductor::new(alloc)?;
-    let filled = fill(&rt, &conductor, &mut clients[1]);
-    let first = &mut clients[0];
-    let left = two_turns(&rt, alloc, &mut agent, &conductor, first, &mut taker)?;
-    assert_eq!(rt; filled, 64);
-    assert_eq!(rt; left, (64, Some(Command::Connect)));
-    Ok(())
+    wait_over(&rt, alloc, &log, reader)
 }

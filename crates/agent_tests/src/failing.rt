@@ -1,83 +1,142 @@
-ghost use Rattle.agent_tests.specs.Senders.{IsSender};
+ghost use Rattle.log_parts.specs.Parts.{IsNewReader};
+ghost use Rattle.agent_tests.specs.Senders.{IsFirstLog, IsSender};
 
 use crate::way::{
-    Sender, device_with, listening, open_log, open_sender, publish, receive, send, status,
+    Sender, carry, device_with, device_with_status, listening, open_log, open_sender, publish,
+    receive, send,
 };
 use agents::AgentFault;
 use endpoint::{FailingDatagrams, MemoryDevice};
+use log_reading::LogReader;
 use receiver::{Positions, Subscriber};
+use shared_log::Log;
 use std::alloc::Global;
 use std::process::Abort;
 use std::test::*;
 
-/// The one datagram that was sent over a device.
-fn only(alloc: Global, device: &MemoryDevice) -> Result<Vec<u8>, Fail> {
-    let [datagram] = device.sent() else {
+/// Adds the one datagram that was sent over a device to those that wait.
+fn carry_only(alloc: Global, device: &MemoryDevice, wire: &mut Vec<Vec<u8>>) -> Result<(), Fail> {
+    if device.sent().len() != 1 {
         return Err("not one datagram".into());
-    };
-    Ok(Vec::from_slice(alloc, datagram)?)
+    }
+    Ok(carry(alloc, device.sent(), wire)?)
 }
 
-/// The one datagram that a sender's cycle sends, to which these have come.
-fn sent_by(
+/// Adds the one datagram that a sender's cycle sends, to which nothing has come.
+fn send_one(
     alloc: Global,
     sender: &mut Sender<'_>,
-    came: &[Vec<u8>],
     now: u64,
-) -> Result<Vec<u8>, Fail>
+    wire: &mut Vec<Vec<u8>>,
+) -> Result<(), Fail>
     requires { IsSender sender.old }
     ensures { IsSender sender.new }
 {
-    let device = device_with(alloc, came)?;
-    let (_, duty) = send(alloc, sender, device, now)?;
-    only(alloc, duty.device())
+    let (_, duty) = send(alloc, sender, MemoryDevice::new(alloc), now)?;
+    carry_only(alloc, duty.device(), wire)
 }
 
-/// The one datagram that a sender's cycle sends before the device fails, in the second of its sends.
-fn sent_before_fault<R: Abort>(
+/// Adds the one datagram that a sender's cycle sends before the device fails, in the second of its sends.
+fn send_before_fault<R: Abort>(
     rt: &R,
     alloc: Global,
     sender: &mut Sender<'_>,
-) -> Result<Vec<u8>, Fail>
+    wire: &mut Vec<Vec<u8>>,
+) -> Result<(), Fail>
     requires { IsSender sender.old }
     ensures { IsSender sender.new }
 {
-    let device = device_with(alloc, &[status(alloc, false)?])?;
-    let broken = FailingDatagrams::new(device, 4);
+    let broken = FailingDatagrams::new(device_with_status(alloc, Some(false))?, 4);
     let (answer, duty) = send(alloc, sender, broken, 0)?;
-    assert_eq!(rt; answer, Err(AgentFault::Device));
-    only(alloc, duty.device().inner())
+    assert!(rt; answer == Err(AgentFault::Device));
+    carry_only(alloc, duty.device().inner(), wire)
 }
 
-/// The datagrams of three cycles: a SETUP; of two new frames the first; a heartbeat.
+/// Adds the datagrams of three cycles: a SETUP; of two new frames the first; a heartbeat.
 fn break_second<R: Abort>(
     rt: &R,
     alloc: Global,
     sender: &mut Sender<'_>,
-) -> Result<Vec<Vec<u8>>, Fail>
+    wire: &mut Vec<Vec<u8>>,
+) -> Result<(), Fail>
     requires { IsSender sender.old }
     ensures { IsSender sender.new }
 {
-    let mut datagrams = Vec::with_capacity(alloc, 3)?;
-    datagrams.push(sent_by(alloc, sender, &[], 0)?)?;
-    datagrams.push(sent_before_fault(rt, alloc, sender)?)?;
-    datagrams.push(sent_by(alloc, sender, &[], 100_000_000)?)?;
-    Ok(datagrams)
+    send_one(alloc, sender, 0, wire)?;
+    send_before_fault(rt, alloc, sender, wire)?;
+    send_one(alloc, sender, 100_000_000, wire)
 }
 
-/// What the subscriber sends in a cycle to which these datagrams have come, and where it stands then.
-fn asked_by(
+/// A subscriber's cycle to which all that waits has come. Then the one datagram that it sends waits.
+fn ask(
     alloc: Global,
     subscriber: &mut Subscriber,
-    came: &[Vec<u8>],
     now: u64,
-) -> Result<Vec<u8>, Fail> {
-    let (_, duty) = receive(alloc, subscriber, came, now)?;
-    only(alloc, duty.device())
+    wire: &mut Vec<Vec<u8>>,
+) -> Result<(), Fail> {
+    let duty = receive(alloc, subscriber, wire, now)?;
+    wire.clear();
+    carry_only(alloc, duty.device(), wire)
 }
 
-/// The receiver is told of the gap, asks for it, and gets it.
+/// A sender's cycle to which all that waits has come. Then the one datagram that it sends waits.
+fn answer(
+    alloc: Global,
+    sender: &mut Sender<'_>,
+    now: u64,
+    wire: &mut Vec<Vec<u8>>,
+) -> Result<(), Fail>
+    requires { IsSender sender.old }
+    ensures { IsSender sender.new }
+{
+    let (_, duty) = send(alloc, sender, device_with(alloc, wire)?, now)?;
+    wire.clear();
+    carry_only(alloc, duty.device(), wire)
+}
+
+/// Where the subscriber stands that was told of the gap.
+const BEHIND_FIRST: Positions = Positions {
+    least: 0,
+    rebuilt: 1408,
+    high_water: 2816,
+};
+
+/// The receiver is told of a gap, and asks for it.
+fn lose<R: Abort>(
+    rt: &R,
+    alloc: Global,
+    sender: &mut Sender<'_>,
+    subscriber: &mut Subscriber,
+    wire: &mut Vec<Vec<u8>>,
+) -> Result<(), Fail>
+    requires { IsSender sender.old }
+    ensures { IsSender sender.new }
+{
+    break_second(rt, alloc, sender, wire)?;
+    ask(alloc, subscriber, 0, wire)?;
+    assert!(rt; subscriber.positions() == Some(BEHIND_FIRST));
+    wire.clear();
+    ask(alloc, subscriber, 1_000_000, wire)
+}
+
+/// The receiver gets what it has asked for.
 fn mend<R: Abort>(
+    rt: &R,
+    alloc: Global,
+    sender: &mut Sender<'_>,
+    subscriber: &mut Subscriber,
+    wire: &mut Vec<Vec<u8>>,
+) -> Result<(), Fail>
+    requires { IsSender sender.old }
+{
+    answer(alloc, sender, 200_000_000, wire)?;
+    let _ = receive(alloc, subscriber, wire, 2_000_000)?;
+    assert!(rt; polls(subscriber, 1) && polls(subscriber, 2));
+    Ok(())
+}
+
+/// Both, over a wire of their own.
+fn lose_and_mend<R: Abort>(
     rt: &R,
     alloc: Global,
     sender: &mut Sender<'_>,
@@ -85,19 +144,17 @@ fn mend<R: Abort>(
 ) -> Result<(), Fail>
     requires { IsSender sender.old }
 {
-    let datagrams = break_second(rt, alloc, sender)?;
-    let _ = asked_by(alloc, subscriber, &datagrams, 0)?;
-    let positions = Positions {
-        least: 0,
-        rebuilt: 1408,
-        high_water: 2816,
-    };
-    assert_eq!(rt; subscriber.positions(), Some(positions));
-    let nak = asked_by(alloc, subscriber, &[], 1_000_000)?;
-    let mended = sent_by(alloc, sender, &[nak], 200_000_000)?;
-    let _ = receive(alloc, subscriber, &[mended], 2_000_000)?;
-    assert!(rt; polls(subscriber, 1) && polls(subscriber, 2));
-    Ok(())
+    let mut wire = Vec::new(alloc);
+    lose(rt, alloc, sender, subscriber, &mut wire)?;
+    mend(rt, alloc, sender, subscriber, &mut wire)
+}
+
+/// Both, with a subscriber of their own.
+fn mend_all<R: Abort>(rt: &R, alloc: Global, sender: &mut Sender<'_>) -> Result<(), Fail>
+    requires { IsSender sender.old }
+{
+    let mut subscriber = listening(alloc)?;
+    lose_and_mend(rt, alloc, sender, &mut subscriber)
 }
 
 /// Whether the next message has 1,376 bytes, each of this value.
@@ -110,14 +167,22 @@ fn polls(subscriber: &mut Subscriber, value: u8) -> bool {
     }
 }
 
+/// All of it, with the sender of this log.
+fn mend_over<R: Abort>(rt: &R, alloc: Global, log: &Log, reader: LogReader) -> Result<(), Fail>
+    requires reader { IsNewReader log.now 0 reader }
+    requires log { IsFirstLog log.now }
+{
+    let mut sender = open_sender(alloc, log, reader)?;
+    mend_all(rt, alloc, &mut sender)
+}
+
 /// Two frames go out in a cycle, and the second of its sends fails: the sender stands behind both.
 #[test]
 fn second_send_fails(rt: HostRuntime) -> Result<(), Fail> {
     let alloc = rt.alloc();
     let (log, mut publisher, reader) = open_log(alloc)?;
-    assert_eq!(rt; publish(&log, &mut publisher, 1, 1376), Ok(1408));
-    assert_eq!(rt; publish(&log, &mut publisher, 2, 1376), Ok(2816));
-    let mut subscriber = listening(alloc)?;
-    let mut sender = open_sender(alloc, &log, reader)?;
-    mend(&rt, alloc, &mut sender, &mut subscriber)
+    let first = publish(&log, &mut publisher, 1, 1376);
+    let second = publish(&log, &mut publisher, 2, 1376);
+    assert!(rt; [first, second] == [Ok(1408), Ok(2816)]);
+    mend_over(&rt, alloc, &log, reader)
 }

@@ -2,15 +2,16 @@
 
 ghost use Rattle.std.specs.Prelude.{◌≡◌, IfOk};
 ghost use Rattle.shared_log.specs.Handles.{IsOf};
-ghost use Rattle.agent_tests.specs.Senders.{IsSender};
+ghost use Rattle.log_parts.specs.Parts.{IsNewReader};
+ghost use Rattle.agent_tests.specs.Senders.{IsFirstLog, IsSender};
 
-use crate::asking::Agent;
-use crate::way::{device_with, listening, open_log, open_sender, publish};
+use crate::asking::{Agent, open_agent};
+use crate::way::{carry, device_with, duty_over, listening, open_log, publish};
 use agents::{AgentFault, DATAGRAMS, Duty, REPLY};
 use conductor::{Client, Conductor};
 use endpoint::{Datagrams, FailingDatagrams, MemoryDevice};
+use log_reading::LogReader;
 use receiver::Subscriber;
-use sender_agent::SenderAgent;
 use shared_log::{Log, Publisher};
 use std::alloc::Global;
 use std::sync::Wait;
@@ -56,6 +57,17 @@ struct Between {
 }
 
 impl Between {
+    /// Nothing was sent yet.
+    fn new(alloc: Global, sends: u64, receives: u64) -> Between {
+        Between {
+            alloc,
+            sender: Wire::new(alloc, sends),
+            receiver: Wire::new(alloc, receives),
+            polled: 0,
+            told: true,
+        }
+    }
+
     /// The calls that fail were come to, and all messages were polled.
     fn is_done(&self) -> bool {
         self.sender.fails == 0 && self.receiver.fails == 0 && self.polled == MESSAGES
@@ -65,17 +77,14 @@ impl Between {
 type Broken = Duty<FailingDatagrams<MemoryDevice>>;
 
 /// A device with what waits on a wire, and room beside it.
-fn duty_over(alloc: Global, wire: &mut Wire, mtu: u32) -> Result<Broken, Fail>
+fn duty_of(alloc: Global, wire: &mut Wire, mtu: u32) -> Result<Broken, Fail>
     ensures { IfOk result (λ d. d.mtu ≡ mtu) }
 {
     for _ in wire.came.len()..COME {
         wire.came.push(Vec::from_slice(alloc, &[0])?)?;
     }
     let device = device_with(alloc, &wire.came)?;
-    match Duty::new(alloc, FailingDatagrams::new(device, wire.fails), mtu) {
-        Ok(duty) => Ok(duty),
-        Err(_) => Err("no memory".into()),
-    }
+    duty_over(alloc, FailingDatagrams::new(device, wire.fails), mtu)
 }
 
 /// Behind a cycle what was received waits no more, and its calls are counted.
@@ -100,11 +109,8 @@ fn count(own: &mut Wire, duty: &Broken) {
 }
 
 /// What was sent waits for the peer.
-fn carry(alloc: Global, duty: &Broken, peer: &mut Wire) -> Result<(), Fail> {
-    for datagram in duty.device().inner().sent() {
-        peer.came.push(Vec::from_slice(alloc, datagram)?)?;
-    }
-    Ok(())
+fn pass_on(alloc: Global, duty: &Broken, peer: &mut Wire) -> Result<(), Fail> {
+    Ok(carry(alloc, duty.device().inner().sent(), &mut peer.came)?)
 }
 
 /// Whether a cycle's answer is its device's.
@@ -130,20 +136,20 @@ fn sender_turn<R: Wait>(
     ensures sender { IsSender agent.new.core }
     ensures client { client.new.queue ≡ client.old.queue }
 {
-    let mut duty = duty_over(between.alloc, &mut between.sender, 1408)?;
+    let mut duty = duty_of(between.alloc, &mut between.sender, 1408)?;
     let answer = agent.cycle(rt, conductor, client, &mut duty, now);
     between.told = between.told && is_told(answer, &duty);
     count(&mut between.sender, &duty);
-    carry(between.alloc, &duty, &mut between.receiver)
+    pass_on(between.alloc, &duty, &mut between.receiver)
 }
 
 /// The receiver's cycle.
 fn receiver_turn(subscriber: &mut Subscriber, between: &mut Between, now: u64) -> Result<(), Fail> {
-    let mut duty = duty_over(between.alloc, &mut between.receiver, REPLY)?;
+    let mut duty = duty_of(between.alloc, &mut between.receiver, REPLY)?;
     let answer = duty.cycle(subscriber, now);
     between.told = between.told && is_told(answer, &duty);
     count(&mut between.receiver, &duty);
-    carry(between.alloc, &duty, &mut between.sender)
+    pass_on(between.alloc, &duty, &mut between.sender)
 }
 
 /// All cycles, in turn, until all is done.
@@ -199,21 +205,54 @@ fn publish_all(log: &Log, publisher: &mut Publisher)
 fn heals<R: Wait>(rt: &R, alloc: Global, sends: u64, receives: u64) -> Result<bool, Fail> {
     let (log, mut publisher, reader) = open_log(alloc)?;
     publish_all(&log, &mut publisher);
-    let mut agent = SenderAgent::new(open_sender(alloc, &log, reader)?);
-    let mut subscriber = listening(alloc)?;
-    let mut between = Between {
-        alloc,
-        sender: Wire::new(alloc, sends),
-        receiver: Wire::new(alloc, receives),
-        polled: 0,
-        told: true,
-    };
-    play(rt, alloc, &mut agent, &mut subscriber, &mut between)?;
+    heals_over(rt, alloc, &log, reader, [sends, receives])
+}
+
+/// The same, of a log that has its messages.
+fn heals_over<R: Wait>(
+    rt: &R,
+    alloc: Global,
+    log: &Log,
+    reader: LogReader,
+    fails: [u64; 2],
+) -> Result<bool, Fail>
+    requires reader { IsNewReader log.now 0 reader }
+    requires log { IsFirstLog log.now }
+{
+    let mut agent = open_agent(alloc, log, reader)?;
+    heals_by(rt, alloc, &mut agent, fails)
+}
+
+/// The same, by this agent.
+fn heals_by<R: Wait>(
+    rt: &R,
+    alloc: Global,
+    agent: &mut Agent<'_>,
+    fails: [u64; 2],
+) -> Result<bool, Fail>
+    requires { IsSender agent.old.core }
+{
+    let mut between = Between::new(alloc, fails[0], fails[1]);
+    play(rt, alloc, agent, &mut between)?;
     Ok(between.told && between.is_done())
 }
 
-/// All cycles, with a queue of their own.
+/// All cycles, with a subscriber of their own.
 fn play<R: Wait>(
+    rt: &R,
+    alloc: Global,
+    agent: &mut Agent<'_>,
+    between: &mut Between,
+) -> Result<(), Fail>
+    requires { IsSender agent.old.core }
+    ensures { IsSender agent.new.core }
+{
+    let mut subscriber = listening(alloc)?;
+    play_with(rt, alloc, agent, &mut subscriber, between)
+}
+
+/// All cycles, with a queue of their own.
+fn play_with<R: Wait>(
     rt: &R,
     alloc: Global,
     agent: &mut Agent<'_>,
@@ -228,31 +267,17 @@ fn play<R: Wait>(
 }
 
 /// Whether all heals where the sender's device fails such a call, and where the receiver's does.
-fn each_heals<R: Wait>(rt: &R, alloc: Global, first: u64, last: u64) -> Result<bool, Fail> {
+fn each_heals<R: Wait>(rt: &R, alloc: Global) -> Result<bool, Fail> {
     let mut healed = true;
-    for nth in first..=last {
+    for nth in 1..=100 {
         healed = healed && heals(rt, alloc, nth, 0)? && heals(rt, alloc, 0, nth)?;
     }
     Ok(healed)
 }
 
-/// A device fails its first call, or its second, up to its 33rd.
+/// A device fails its first call, or its second, up to its hundredth.
 #[test]
-fn first_calls_fail(rt: HostRuntime) -> Result<(), Fail> {
-    assert!(rt; each_heals(&rt, rt.alloc(), 1, 33)?);
-    Ok(())
-}
-
-/// Or its 34th, up to its 66th.
-#[test]
-fn later_calls_fail(rt: HostRuntime) -> Result<(), Fail> {
-    assert!(rt; each_heals(&rt, rt.alloc(), 34, 66)?);
-    Ok(())
-}
-
-/// Or its 67th, up to its hundredth.
-#[test]
-fn last_calls_fail(rt: HostRuntime) -> Result<(), Fail> {
-    assert!(rt; each_heals(&rt, rt.alloc(), 67, 100)?);
+fn a_call_fails(rt: HostRuntime) -> Result<(), Fail> {
+    assert!(rt; each_heals(&rt, rt.alloc())?);
     Ok(())
 }

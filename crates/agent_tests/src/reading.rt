@@ -1,77 +1,81 @@
 //! A receiver's agent on one thread, and what its counters show.
 
 ghost use Rattle.std.specs.Prelude.{◌≡◌};
-ghost use Rattle.agent_tests.specs.Senders.{IsSender};
+ghost use Rattle.log_parts.specs.Parts.{IsNewReader};
+ghost use Rattle.agent_tests.specs.Senders.{IsFirstLog, IsSender};
 ghost use Rattle.counters.specs.Order.{zeros};
 
-use crate::way::{Sender, device_with, listening, open_log, open_sender, publish, send, status};
-use agents::{Duty, REPLY};
+use crate::way::{
+    Sender, carry, device_with, device_with_status, duty_over, listening, open_log, open_sender,
+    publish, send,
+};
+use agents::REPLY;
 use counters::{CounterReader, CounterWriter, Counters};
+use log_reading::LogReader;
 use receiver_agent::{Named, ReceiverAgent};
+use shared_log::Log;
 use std::alloc::Global;
 use std::marker::Brand;
 use std::process::Abort;
 use std::sync::Wait;
 use std::test::*;
 
-/// Keeps what a sender's cycle sends, to which these datagrams have come.
+/// Keeps what a sender's cycle sends, to which nothing has come, or a status message that asks for a SETUP or doesn't.
 fn keep_sent(
     alloc: Global,
     sender: &mut Sender<'_>,
-    came: &[Vec<u8>],
+    asks: Option<bool>,
     kept: &mut Vec<Vec<u8>>,
 ) -> Result<(), Fail>
     requires { IsSender sender.old }
     ensures { IsSender sender.new }
 {
-    let device = device_with(alloc, came)?;
-    let (_, duty) = send(alloc, sender, device, 0)?;
-    for datagram in duty.device().sent() {
-        kept.push(Vec::from_slice(alloc, datagram)?)?;
-    }
-    Ok(())
+    let (_, duty) = send(alloc, sender, device_with_status(alloc, asks)?, 0)?;
+    Ok(carry(alloc, duty.device().sent(), kept)?)
 }
 
-/// What a sender sends in two cycles: a SETUP, and two frames.
-fn sent_by(alloc: Global, sender: &mut Sender<'_>) -> Result<Vec<Vec<u8>>, Fail>
-    requires { IsSender sender.old }
-{
-    let mut kept = Vec::new(alloc);
-    keep_sent(alloc, sender, &[], &mut kept)?;
-    keep_sent(alloc, sender, &[status(alloc, false)?], &mut kept)?;
-    Ok(kept)
-}
-
-/// A SETUP, and two frames of 1,408 bytes that begin at 0.
-fn two_frames(alloc: Global) -> Result<Vec<Vec<u8>>, Fail> {
+/// Keeps a SETUP, and two frames of 1,408 bytes that begin at 0.
+fn keep_two_frames(alloc: Global, kept: &mut Vec<Vec<u8>>) -> Result<(), Fail> {
     let (log, mut publisher, reader) = open_log(alloc)?;
     let _ = publish(&log, &mut publisher, 1, 1376);
     let _ = publish(&log, &mut publisher, 2, 1376);
-    let mut sender = open_sender(alloc, &log, reader)?;
-    let datagrams = sent_by(alloc, &mut sender);
-    datagrams
+    keep_from(alloc, &log, reader, kept)
 }
 
-/// What the counters show after a cycle to which these datagrams have come.
-fn read_after<N: Named, R: Wait>(
+/// Keeps what is sent in two cycles.
+fn keep_from(
+    alloc: Global,
+    log: &Log,
+    reader: LogReader,
+    kept: &mut Vec<Vec<u8>>,
+) -> Result<(), Fail>
+    requires reader { IsNewReader log.now 0 reader }
+    requires log { IsFirstLog log.now }
+{
+    let mut sender = open_sender(alloc, log, reader)?;
+    keep_sent(alloc, &mut sender, None, kept)?;
+    keep_sent(alloc, &mut sender, Some(false), kept)
+}
+
+/// The counters show these three after a cycle to which these datagrams have come.
+fn read_after<N: Named, R: Abort + Wait>(
     rt: &R,
     alloc: Global,
     counters: &Counters,
     agent: &mut ReceiverAgent<N>,
     reader: &mut CounterReader,
     came: &[Vec<u8>],
-) -> Result<[u64; 3], Fail>
+    wanted: [u64; 3],
+) -> Result<(), Fail>
     requires counters { counters.now ≡ N.counters }
     requires reader { reader.old.counters ≡ N.counters }
     ensures { reader.new.counters ≡ N.counters }
 {
-    let device = device_with(alloc, came)?;
-    let Ok(mut duty) = Duty::new(alloc, device, REPLY) else {
-        return Err("no memory".into());
-    };
+    let mut duty = duty_over(alloc, device_with(alloc, came)?, REPLY)?;
     let _ = agent.cycle(rt, counters, &mut duty, 0);
     let seen = agent.read(rt, counters, reader);
-    Ok([seen.least, seen.rebuilt, seen.high_water])
+    assert!(rt; [seen.least, seen.rebuilt, seen.high_water] == wanted);
+    Ok(())
 }
 
 /// Cycles before there is an image, with the image, and after a poll.
@@ -80,22 +84,17 @@ fn read_cycles<N: Named + Send + Sync, R: Abort + Wait>(
     alloc: Global,
     counters: &Counters,
     reader: &mut CounterReader,
-    mut agent: ReceiverAgent<N>,
+    agent: &mut ReceiverAgent<N>,
+    came: &[Vec<u8>],
 ) -> Result<(), Fail>
     requires counters { counters.now ≡ N.counters }
     requires reader { reader.old.counters ≡ N.counters }
 {
-    may_move(&agent);
-    let before = read_after(rt, alloc, counters, &mut agent, reader, &[])?;
-    let datagrams = two_frames(alloc)?;
-    let opened = read_after(rt, alloc, counters, &mut agent, reader, &datagrams)?;
+    may_move(agent);
+    read_after(rt, alloc, counters, agent, reader, &[], [0, 0, 0])?;
+    read_after(rt, alloc, counters, agent, reader, came, [0, 2816, 2816])?;
     assert!(rt; matches!(agent.poll(), Ok(Some(_))));
-    let polled = read_after(rt, alloc, counters, &mut agent, reader, &[])?;
-    assert_eq!(rt;
-        [before, opened, polled],
-        [[0, 0, 0], [0, 2816, 2816], [1408, 2816, 2816]]
-    );
-    Ok(())
+    read_after(rt, alloc, counters, agent, reader, &[], [1408, 2816, 2816])
 }
 
 /// An agent may go to another thread.
@@ -107,17 +106,20 @@ fn read_all<N: Named + Send + Sync, R: Abort + Wait>(
     alloc: Global,
     counters: &Counters,
     mut writer: CounterWriter,
+    came: &[Vec<u8>],
 ) -> Result<(), Fail>
     requires counters { (counters.now ≡ N.counters) × (writer.counters ≡ N.counters) }
     requires nothing { writer.last ≡ zeros }
 {
     let mut reader = counters.reader(&mut writer);
-    let agent = ReceiverAgent::<N>::new(listening(alloc)?, writer);
-    read_cycles(rt, alloc, counters, &mut reader, agent)
+    let mut agent = ReceiverAgent::<N>::new(listening(alloc)?, writer);
+    read_cycles(rt, alloc, counters, &mut reader, &mut agent, came)
 }
 
 #[test]
 fn reads_what_a_cycle_left(rt: HostRuntime) -> Result<(), Fail> {
+    let mut came = Vec::new(rt.alloc());
+    keep_two_frames(rt.alloc(), &mut came)?;
     let (counters, writer) = Counters::new(rt.alloc())?;
-    read_all::<Brand, HostRuntime>(&rt, rt.alloc(), &counters, writer)
+    read_all::<Brand, HostRuntime>(&rt, rt.alloc(), &counters, writer, &came)
 }

@@ -4,7 +4,7 @@ ghost use Rattle.std.specs.Prelude.{◌≡◌, ◌≤◌, ◌<◌, None, IfOk, l
 ghost use Rattle.theory.specs.Position.{max_message};
 ghost use Rattle.receiver.specs.Receiving.{Receiver};
 ghost use Rattle.receiver.specs.Subscribing.{RepresentsSubscriber};
-ghost use Rattle.shared_log.specs.Handles.{IsOf};
+ghost use Rattle.shared_log.specs.Handles.{AreNew, IsOf};
 ghost use Rattle.log_parts.specs.Parts.{IsNewReader};
 ghost use Rattle.agent_tests.specs.Senders.{IsFirstLog, IsSender};
 
@@ -19,7 +19,7 @@ use position::Geometry;
 use receiver::{ReceiverCore, Subscriber};
 use sender::SenderCore;
 use shared_log::{Log, OnLog, Publisher};
-use std::alloc::Global;
+use std::alloc::{AllocError, Global};
 use std::test::*;
 use word_calls::{Refusal, offer};
 
@@ -42,9 +42,17 @@ pub(crate) fn open_log(alloc: Global) -> Result<(Log, Publisher, LogReader), Fai
     } = parts;
     set_connected(&log, &mut keeper, true);
     clean_and_limit(&log, &mut keeper);
-    let mut publishers = Vec::from_array(alloc, publishers)?;
-    let first = publishers.remove(0);
+    let first = first_of(alloc, &log, publishers)?;
     Ok((log, first, readers.remove(0)))
+}
+
+/// The first of a log's publishers.
+fn first_of(alloc: Global, log: &Log, publishers: [Publisher; 8]) -> Result<Publisher, Fail>
+    requires { AreNew log.now 0 publishers }
+    ensures { IfOk result (λ p. IsOf log.now p) }
+{
+    let mut publishers = Vec::from_array(alloc, publishers)?;
+    Ok(publishers.remove(0))
 }
 
 /// A sender that has sent nothing yet.
@@ -103,7 +111,7 @@ pub(crate) fn device_with(alloc: Global, datagrams: &[Vec<u8>]) -> Result<Memory
 }
 
 /// A status message that says that a consumer stands at 0, with a window of half a term. It asks for a SETUP, or not.
-pub(crate) fn status(alloc: Global, asks: bool) -> Result<Vec<u8>, Fail> {
+fn status(asks: bool) -> [u8; 36] {
     let mut bytes = [0; 36];
     let status = Status {
         session: 1,
@@ -114,7 +122,38 @@ pub(crate) fn status(alloc: Global, asks: bool) -> Result<Vec<u8>, Fail> {
         receiver: 3,
     };
     write_frame(&Frame::Status { asks, status }, &mut bytes);
-    Ok(Vec::from_slice(alloc, &bytes)?)
+    bytes
+}
+
+/// A device to which nothing has come, or a status message that asks for a SETUP or doesn't.
+pub(crate) fn device_with_status(alloc: Global, asks: Option<bool>) -> Result<MemoryDevice, Fail> {
+    let mut device = MemoryDevice::new(alloc);
+    if let Some(asks) = asks {
+        device.put(&status(asks))?;
+    }
+    Ok(device)
+}
+
+/// Room for cycles over a device.
+pub(crate) fn duty_over<D: Drop>(alloc: Global, device: D, mtu: u32) -> Result<Duty<D>, Fail>
+    ensures { IfOk result (λ d. d.mtu ≡ mtu) }
+{
+    match Duty::new(alloc, device, mtu) {
+        Ok(duty) => Ok(duty),
+        Err(_) => Err("no memory".into()),
+    }
+}
+
+/// Copies datagrams behind those that wait.
+pub(crate) fn carry(
+    alloc: Global,
+    datagrams: &[Vec<u8>],
+    wire: &mut Vec<Vec<u8>>,
+) -> Result<(), AllocError> {
+    for datagram in datagrams {
+        wire.push(Vec::from_slice(alloc, datagram)?)?;
+    }
+    Ok(())
 }
 
 /// A sender's cycle over a device.
@@ -127,24 +166,19 @@ pub(crate) fn send<D: Datagrams + Drop>(
     requires { IsSender sender.old }
     ensures { IsSender sender.new }
 {
-    let Ok(mut duty) = Duty::new(alloc, device, 1408) else {
-        return Err("no memory".into());
-    };
+    let mut duty = duty_over(alloc, device, 1408)?;
     let answer = duty.cycle(sender, now);
     Ok((answer, duty))
 }
 
-/// A subscriber's cycle over a device to which these datagrams have come.
+/// The device of a subscriber's cycle, to which these datagrams had come.
 pub(crate) fn receive(
     alloc: Global,
     subscriber: &mut Subscriber,
     datagrams: &[Vec<u8>],
     now: u64,
-) -> Result<(Result<bool, AgentFault>, Duty<MemoryDevice>), Fail> {
-    let device = device_with(alloc, datagrams)?;
-    let Ok(mut duty) = Duty::new(alloc, device, REPLY) else {
-        return Err("no memory".into());
-    };
-    let answer = duty.cycle(subscriber, now);
-    Ok((answer, duty))
+) -> Result<Duty<MemoryDevice>, Fail> {
+    let mut duty = duty_over(alloc, device_with(alloc, datagrams)?, REPLY)?;
+    let _ = duty.cycle(subscriber, now);
+    Ok(duty)
 }

@@ -35,11 +35,16 @@ AsksForDecode words word =
 abbrev pub hex_rule : Rule
 hex_rule = record (new_rule (codes "HEX")) { required = true }
 
--- what a parse reads of the program's command: three subcommands, of which one has to be there
+-- what a parse reads of the program's command, by itself
+abbrev pub bare_app : App
+bare_app =
+    let a = new_app (codes "mdriver") in
+    record a { top = record a.top { subcommand_required = true } }
+
+-- and with its three subcommands, of which one has to be there
 abbrev pub driver_app : App
 driver_app =
-    let a = new_app (codes "mdriver") in
-    with_subcommand (with_subcommand (with_subcommand (record a { top = record a.top { subcommand_required = true } })
+    with_subcommand (with_subcommand (with_subcommand bare_app
     (new_app (codes "sim")).top)
     (with_rule (new_app (codes "decode")) hex_rule).top)
     run_app.top

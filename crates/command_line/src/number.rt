@@ -4,6 +4,7 @@ ghost use Rattle.std.specs.Prelude.{◌≡◌, IfOk, false};
 ghost use Rattle.clap.specs.declared.builder.command.Command.TheViews.{out-Command};
 ghost use Rattle.clap.specs.Words.{app_of, found_of, rows_of, with_rule};
 ghost use Rattle.run_options.specs.Ranges.{IsWithin};
+ghost use Rattle.command_line.specs.Numbers.{with_numbers};
 ghost use Rattle.command_line.specs.RunLines.{IsNumber, number_rule};
 
 use clap::builder::ValueParser;
@@ -24,12 +25,12 @@ pub(crate) struct Number {
 }
 
 /// The command with one option more.
-pub(crate) fn with_number<'a>(
+fn with_number<'a>(
     alloc: Global,
     command: Command<'a>,
-    number: Number,
+    number: &Number,
 ) -> Result<Command<'a>, AllocError>
-    ensures shape { IfOk result (λ r. app_of r ≡ with_rule (app_of command.entry) (number_rule number.name.now number.least number.most)) }
+    ensures shape { IfOk result (λ r. app_of r ≡ with_rule (app_of command.entry) (number_rule number.now.name.now number.now.least number.now.most)) }
     ensures globals { IfOk result (λ r. (out-Command command.entry).has_globals ≡ false → (out-Command r).has_globals ≡ false) }
 {
     let argument = Arg::new(alloc, number.name)
@@ -37,6 +38,22 @@ pub(crate) fn with_number<'a>(
         .help(number.help)
         .value_parser(ValueParser::unsigned(number.least, number.most));
     command.arg(argument)
+}
+
+/// The command with these options more.
+pub(crate) fn with_numbers<'a>(
+    alloc: Global,
+    command: Command<'a>,
+    numbers: &[Number],
+) -> Result<Command<'a>, AllocError>
+    ensures shape { IfOk result (λ r. app_of r ≡ with_numbers numbers.now (app_of command.entry)) }
+    ensures globals { IfOk result (λ r. (out-Command command.entry).has_globals ≡ false → (out-Command r).has_globals ≡ false) }
+{
+    let mut command = command;
+    for number in numbers {
+        command = with_number(alloc, command, number)?;
+    }
+    Ok(command)
 }
 
 /// The number that the option has. The parser refuses a word that spells none in the range, so the range cuts nothing

@@ -2,8 +2,8 @@
 
 ghost use Rattle.std.specs.Prelude.{◌≡◌, ◌≢◌, ◌↔◌, ℕ, List, [], codes, true, false, map, IfOk, IfErr, OnOk, IsTrue, Err, MatchResult};
 ghost use Rattle.clap.specs.declared.builder.command.Command.TheViews.{out-Command};
-ghost use Rattle.clap.specs.Words.{FailsBy, IsAmong, app_of, fault_of as clap_faults, is_simple, is_simple_and_free, kind_of, new_app, subcommand_of, with_rule};
-ghost use Rattle.command_line.specs.CommandLines.{AsksFor, AsksForBareRun, AsksForDecode, AsksForSim, IsChoice, IsRunByDefault, driver_app, hex_rule};
+ghost use Rattle.clap.specs.Words.{App, FailsBy, IsAmong, app_of, fault_of as clap_faults, is_simple, is_simple_and_free, kind_of, new_app, subcommand_of, with_rule, with_subcommand};
+ghost use Rattle.command_line.specs.CommandLines.{AsksFor, AsksForBareRun, AsksForDecode, AsksForSim, IsChoice, IsRunByDefault, bare_app, driver_app, hex_rule};
 
 use crate::choice::Options;
 use crate::chosen::choice;
@@ -100,16 +100,34 @@ fn fault_of(error: Error) -> OptionsFault
 fn whole<'a>(alloc: Global) -> Result<Command<'a>, AllocError>
     ensures { IfOk result (λ r. app_of r ≡ driver_app) }
 {
-    let sim = sim_command(alloc);
-    let decode = decode_command(alloc)?;
-    let run = run_command(alloc)?;
-    Command::new(alloc, "mdriver")
-        .bin_name("mdriver")?
-        .about("A media driver with concurrent publications (--version tells which)")
-        .subcommand_required(true)
-        .subcommand(sim)?
-        .subcommand(decode)?
-        .subcommand(run)
+    let with_sim = joined(bare_command(alloc), Ok(sim_command(alloc)));
+    let with_decode = joined(with_sim, decode_command(alloc));
+    joined(with_decode, run_command(alloc))
+}
+
+/// The command with one subcommand more, where both could be made.
+fn joined<'a>(
+    command: Result<Command<'a>, AllocError>,
+    subcommand: Result<Command<'a>, AllocError>,
+) -> Result<Command<'a>, AllocError>
+    ensures { (a : App) (b : App) → IfOk command.entry (λ r. app_of r ≡ a)
+        → IfOk subcommand.entry (λ r. app_of r ≡ b) → IfOk subcommand.entry (λ r. (out-Command r).has_globals ≡ false)
+        → IfOk result (λ r. app_of r ≡ with_subcommand a b.top) }
+{
+    let command = command?;
+    command.subcommand(subcommand?)
+}
+
+/// The program's command without those below it.
+fn bare_command<'a>(alloc: Global) -> Result<Command<'a>, AllocError>
+    ensures { IfOk result (λ r. app_of r ≡ bare_app) }
+{
+    let command = Command::new(alloc, "mdriver").bin_name("mdriver")?;
+    Ok(
+        command
+            .about("A media driver with concurrent publications (--version tells which)")
+            .subcommand_required(true),
+    )
 }
 
 fn sim_command<'a>(alloc: Global) -> Command<'a>

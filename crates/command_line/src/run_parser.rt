@@ -3,10 +3,10 @@
 ghost use Rattle.std.specs.Prelude.{◌≡◌, IfOk, codes, false};
 ghost use Rattle.clap.specs.declared.builder.command.Command.TheViews.{out-Command};
 ghost use Rattle.clap.specs.Words.{app_of, found_of, new_app, rows_of, with_rule};
-ghost use Rattle.command_line.specs.RunLines.{flag_rule, run_app, with_limits, with_load, with_network};
+ghost use Rattle.command_line.specs.RunLines.{flag_rule, run_app};
 ghost use Rattle.command_line.specs.RunTold.{IsRunOf};
 
-use crate::number::{Number, number_of, with_number};
+use crate::number::{Number, number_of, with_numbers};
 use clap::{Arg, ArgAction, ArgMatches, Command};
 use run_options::RunOptions;
 use std::alloc::{AllocError, Global};
@@ -91,14 +91,17 @@ const MTU: Number = Number {
     help: "The most bytes of a datagram, a multiple of 32 from 256 to 65504 [default: 1408]",
 };
 
+/// The options with a number, in the order in which the help shows them.
+const NUMBERS: [Number; 10] = [
+    PUBLISHERS, MESSAGES, LENGTH, LOSS, REPEAT, HOLD, SEED, TURNS, TERM, MTU,
+];
+
 /// The command `run`.
 pub(crate) fn run_command<'a>(alloc: Global) -> Result<Command<'a>, AllocError>
     ensures shape { IfOk result (λ r. app_of r ≡ run_app) }
     ensures globals { IfOk result (λ r. (out-Command r).has_globals ≡ false) }
 {
-    let run = with_load(alloc, without_options(alloc))?;
-    let run = with_network(alloc, run)?;
-    let run = with_limits(alloc, run)?;
+    let run = with_numbers(alloc, without_options(alloc), &NUMBERS)?;
     with_counters(alloc, run)
 }
 
@@ -107,37 +110,6 @@ fn without_options<'a>(alloc: Global) -> Command<'a>
     ensures globals { (out-Command result).has_globals ≡ false }
 {
     Command::new(alloc, "run").about("Run publishers, a sender and a receiver")
-}
-
-/// The options of what is sent.
-fn with_load<'a>(alloc: Global, command: Command<'a>) -> Result<Command<'a>, AllocError>
-    ensures shape { IfOk result (λ r. app_of r ≡ with_load (app_of command.entry)) }
-    ensures globals { IfOk result (λ r. (out-Command command.entry).has_globals ≡ false → (out-Command r).has_globals ≡ false) }
-{
-    let command = with_number(alloc, command, PUBLISHERS)?;
-    let command = with_number(alloc, command, MESSAGES)?;
-    with_number(alloc, command, LENGTH)
-}
-
-/// The options of the network's losses.
-fn with_network<'a>(alloc: Global, command: Command<'a>) -> Result<Command<'a>, AllocError>
-    ensures shape { IfOk result (λ r. app_of r ≡ with_network (app_of command.entry)) }
-    ensures globals { IfOk result (λ r. (out-Command command.entry).has_globals ≡ false → (out-Command r).has_globals ≡ false) }
-{
-    let command = with_number(alloc, command, LOSS)?;
-    let command = with_number(alloc, command, REPEAT)?;
-    let command = with_number(alloc, command, HOLD)?;
-    with_number(alloc, command, SEED)
-}
-
-/// The options of the run's length, and of the stream's shape.
-fn with_limits<'a>(alloc: Global, command: Command<'a>) -> Result<Command<'a>, AllocError>
-    ensures shape { IfOk result (λ r. app_of r ≡ with_limits (app_of command.entry)) }
-    ensures globals { IfOk result (λ r. (out-Command command.entry).has_globals ≡ false → (out-Command r).has_globals ≡ false) }
-{
-    let command = with_number(alloc, command, TURNS)?;
-    let command = with_number(alloc, command, TERM)?;
-    with_number(alloc, command, MTU)
 }
 
 fn with_counters<'a>(alloc: Global, command: Command<'a>) -> Result<Command<'a>, AllocError>

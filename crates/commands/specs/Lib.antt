@@ -1,3 +1,1 @@
-pub mod Faults
-pub mod Scripting
 pub mod Running

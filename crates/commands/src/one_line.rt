@@ -2,14 +2,13 @@
 
 ghost use Rattle.std.specs.Prelude.{◌≤◌};
 
-use crate::fault::Fault;
 use crate::run_command::run_driver;
-use crate::sim_command::sim;
 use command_line::{Options, OptionsFault, options};
 use decode::decode;
 use end_commands::{publish_command, subscribe_command};
 use run::Ending;
 use run_options::RunOptions;
+use sim_command::{Fault, sim};
 use std::alloc::Global;
 use std::fmt::Display;
 use std::io::{Read, Write};

@@ -1,10 +1,11 @@
 //! Plays each script of `examples/` and carries out each row, and says whether it prints what is expected.
 #![tactic(auto)]
 
+mod options;
 mod rows;
 mod streams;
 
-use rows::play_rows;
+use rows::{Found, play_rows};
 use std::alloc::Global;
 use std::net::Net;
 use std::process::ExitCode;
@@ -36,7 +37,7 @@ const NAMES: [&str; 18] = [
 ];
 
 /// The files of rows by their names: each is a file `NAME.expected`.
-const ROWS: [&str; 9] = [
+const ROWS: [&str; 10] = [
     "log_rows",
     "claim_rows",
     "long_rows",
@@ -45,6 +46,7 @@ const ROWS: [&str; 9] = [
     "line_rows",
     "decode_rows",
     "command_rows",
+    "option_rows",
     "run_rows",
 ];
 
@@ -68,30 +70,48 @@ fn carry_out_all<C: Threads + Wait + Clock + Net + Sync>(
     let alike = compare_all(host, rt)?;
     let told = streams::faults_are_told(rt, host.alloc());
     let bounded = streams::lengths_are_bounded(rt, host.alloc())?;
-    println!(host; "streams: {}", word_of(told))?;
-    println!(host; "lengths: {}", word_of(bounded))?;
-    Ok(played && alike && told && bounded)
+    let options = options::are_told(host.alloc());
+    tell(host, "streams", told)?;
+    tell(host, "lengths", bounded)?;
+    tell(host, "options", options)?;
+    Ok(played && alike && told && bounded && options)
 }
 
-fn word_of(expected: bool) -> &'static str {
-    if expected { "as expected" } else { "differ" }
+/// Tells whether something does what is expected.
+fn tell(host: &HostRuntime, name: &str, expected: bool) -> io::Result<()> {
+    let word = if expected { "as expected" } else { "differ" };
+    println!(host; "{name}: {word}")?;
+    Ok(())
 }
 
-/// Whether all examples print what is expected. They lie in the folder that this program runs in.
+/// What stands in a file of the folder that this program runs in.
+fn read(host: &HostRuntime, name: &str, ending: &str) -> io::Result<String> {
+    fs::read_to_string(host, &format!(in host.alloc(); "{name}.{ending}")?)
+}
+
+/// Whether all examples print what is expected.
 fn play_all<C: Threads + Wait + Clock + Net + Sync>(
     host: &HostRuntime,
     rt: &C,
 ) -> io::Result<bool> {
-    let alloc = host.alloc();
     let mut all = true;
     for name in NAMES {
-        let script = fs::read_to_string(host, &format!(in alloc; "{name}.script")?)?;
-        let expected = fs::read_to_string(host, &format!(in alloc; "{name}.expected")?)?;
-        let alike = prints(rt, alloc, &script, &expected);
-        println!(host; "{name}: {}", word_of(alike))?;
+        let alike = play(host, rt, name)?;
+        tell(host, name, alike)?;
         all &= alike;
     }
     Ok(all)
+}
+
+/// Whether an example prints what is expected.
+fn play<C: Threads + Wait + Clock + Net + Sync>(
+    host: &HostRuntime,
+    rt: &C,
+    name: &str,
+) -> io::Result<bool> {
+    let script = read(host, name, "script")?;
+    let expected = read(host, name, "expected")?;
+    Ok(prints(rt, host.alloc(), &script, &expected))
 }
 
 /// Whether this script prints these lines, and nothing else.
@@ -112,13 +132,28 @@ fn compare_all<C: Threads + Wait + Clock + Net + Sync>(
 ) -> io::Result<bool> {
     let mut all = true;
     for name in ROWS {
-        let text = fs::read_to_string(host, &format!(in host.alloc(); "{name}.expected")?)?;
-        let found = play_rows(rt, host.alloc(), &text)?;
-        println!(host; "{name}: {} rows", found.rows)?;
-        for line in found.differing.as_slice() {
-            println!(host; "line {line}: differs")?;
-            all = false;
-        }
+        let found = compare(host, rt, name)?;
+        tell_rows(host, name, &found)?;
+        all &= found.differing.is_empty();
     }
     Ok(all)
+}
+
+/// Carries out the rows of a file.
+fn compare<C: Threads + Wait + Clock + Net + Sync>(
+    host: &HostRuntime,
+    rt: &C,
+    name: &str,
+) -> io::Result<Found> {
+    let text = read(host, name, "expected")?;
+    Ok(play_rows(rt, host.alloc(), &text)?)
+}
+
+/// Tells how many rows there were, and which of them differ.
+fn tell_rows(host: &HostRuntime, name: &str, found: &Found) -> io::Result<()> {
+    println!(host; "{name}: {} rows", found.rows)?;
+    for line in found.differing.as_slice() {
+        println!(host; "line {line}: differs")?;
+    }
+    Ok(())
 }

@@ -16,6 +16,7 @@ struct Row<'a> {
     output: Vec<u8>,
     errors: Vec<u8>,
     is_end: bool,
+    is_start: bool,
 }
 
 /// How many rows there were, and on which lines those end that differ.
@@ -57,12 +58,13 @@ impl<'a> Row<'a> {
             output: Vec::new(alloc),
             errors: Vec::new(alloc),
             is_end: false,
+            is_start: false,
         }
     }
 
     /// Takes a line that tells something of the row: by its mark the words of the command line, a line that is read, one
-    /// that is read so often, bytes that are read, that only the end of what is printed follows, a line that is printed or
-    /// one that is told.
+    /// that is read so often, bytes that are read, that only the end of what is printed or the start of what is told
+    /// follows, a line that is printed or one that is told.
     fn learn(&mut self, alloc: Global, mark: &str, text: &'a str) -> Result<(), AllocError> {
         match mark {
             "$" => self.words = text.split('|').collect(alloc)?,
@@ -70,6 +72,7 @@ impl<'a> Row<'a> {
             "*" => push_often(&mut self.input, text)?,
             "x" => push_bytes(alloc, &mut self.input, text)?,
             "~" => self.is_end = true,
+            "^" => self.is_start = true,
             ">" => push_line(&mut self.output, text)?,
             "!" => push_line(&mut self.errors, text)?,
             _ => {}
@@ -90,8 +93,12 @@ impl<'a> Row<'a> {
         } else {
             done.output.as_slice() == self.output.as_slice()
         };
-        let ended = status.parse::<u8>() == Ok(done.status);
-        printed && ended && done.errors.as_slice() == self.errors.as_slice()
+        let told = if self.is_start {
+            done.errors.as_slice().starts_with(&self.errors)
+        } else {
+            done.errors.as_slice() == self.errors.as_slice()
+        };
+        printed && told && status.parse::<u8>() == Ok(done.status)
     }
 }
 
@@ -104,6 +111,31 @@ fn is_short<C: Threads + Wait + Clock + Net + Sync>(rt: &C, alloc: Global, digit
         short &= done.errors.as_slice() == b"error: F1 short\n".as_slice() && done.status == 1;
     }
     short
+}
+
+/// Takes a line: one that tells something of the row, or one that ends it.
+fn take_line<'a, C: Threads + Wait + Clock + Net + Sync>(
+    rt: &C,
+    alloc: Global,
+    row: &mut Row<'a>,
+    found: &mut Found,
+    number: u32,
+    line: &'a str,
+) -> Result<(), AllocError> {
+    let Some((mark, rest)) = line.split_once(' ') else {
+        return Ok(());
+    };
+    let met = match mark {
+        "=" => row.is_met(rt, alloc, rest),
+        "%" => is_short(rt, alloc, rest),
+        _ => return row.learn(alloc, mark, rest),
+    };
+    found.rows = found.rows.wrapping_add(1);
+    if !met {
+        found.differing.push(number)?;
+    }
+    *row = Row::new(alloc);
+    Ok(())
 }
 
 /// Carries out the rows of a text.
@@ -120,22 +152,7 @@ pub(crate) fn play_rows<C: Threads + Wait + Clock + Net + Sync>(
     let mut number: u32 = 0;
     for line in text.lines() {
         number = number.wrapping_add(1);
-        let Some((mark, rest)) = line.split_once(' ') else {
-            continue;
-        };
-        let met = match mark {
-            "=" => row.is_met(rt, alloc, rest),
-            "%" => is_short(rt, alloc, rest),
-            _ => {
-                row.learn(alloc, mark, rest)?;
-                continue;
-            }
-        };
-        found.rows = found.rows.wrapping_add(1);
-        if !met {
-            found.differing.push(number)?;
-        }
-        row = Row::new(alloc);
+        take_line(rt, alloc, &mut row, &mut found, number, line)?;
     }
     Ok(found)
 }

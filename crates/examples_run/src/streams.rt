@@ -152,39 +152,73 @@ pub(crate) fn faults_are_told<C: Threads + Wait + Clock + Net + Sync>(
     told
 }
 
-/// Whether a script of 1 MiB is played, and a word of 131,072 digits read, and one byte or two digits more aren't.
-pub(crate) fn lengths_are_bounded<C: Threads + Wait + Clock + Net + Sync>(
+/// Whether a command line tells this, and nothing else, and ends with status 1.
+fn is_refused<'a, C: Threads + Wait + Clock + Net + Sync>(
+    rt: &C,
+    alloc: Global,
+    words: &'a [&'a str],
+    input: &[u8],
+    told: &[u8],
+) -> bool {
+    let done = run_over(rt, alloc, words, input);
+    done.errors.as_slice() == told && done.status == 1
+}
+
+/// A script of so many bytes that opens a log.
+fn script_of(alloc: Global, length: usize) -> Result<Vec<u8>, AllocError> {
+    let mut script = Vec::from_slice(alloc, b"log 65536 1408 7 0 1 1001 0\n")?;
+    script.resize(length, b'\n')?;
+    Ok(script)
+}
+
+/// Whether a script of 1 MiB is played, and one byte more isn't.
+fn is_script_bounded<C: Threads + Wait + Clock + Net + Sync>(
     rt: &C,
     alloc: Global,
 ) -> Result<bool, AllocError> {
-    let mut script = Vec::from_slice(alloc, b"log 65536 1408 7 0 1 1001 0\n")?;
-    script.resize(1_048_576, b'\n')?;
-    let played = run_over(rt, alloc, SIM, &script);
+    let mut script = script_of(alloc, 1_048_576)?;
+    let played = run_over(rt, alloc, SIM, &script).output;
     script.push(b'\n')?;
-    let longer = run_over(rt, alloc, SIM, &script);
     Ok(
-        played.output.as_slice() == b"open\nbook 0 0 0 0 0 0 0 0 0 0\n".as_slice()
-            && longer.errors.as_slice() == b"error: input\n".as_slice()
-            && longer.status == 1
-            && is_word_bounded(rt, alloc)?,
+        played.as_slice() == b"open\nbook 0 0 0 0 0 0 0 0 0 0\n".as_slice()
+            && is_refused(rt, alloc, SIM, &script, b"error: input\n"),
     )
 }
 
+/// So many digits 0.
+fn zeros(alloc: Global, count: u32) -> Result<String, AllocError> {
+    let mut digits = String::new(alloc);
+    for _ in 0..count {
+        digits.push('0')?;
+    }
+    Ok(digits)
+}
+
+/// Whether `decode` of a word tells this.
+fn is_word_refused<C: Threads + Wait + Clock + Net + Sync>(
+    rt: &C,
+    alloc: Global,
+    word: &str,
+    told: &[u8],
+) -> bool {
+    is_refused(rt, alloc, &["mdriver", "decode", word], b"", told)
+}
+
+/// Whether a word of 131,072 digits is read, and two digits more aren't.
 fn is_word_bounded<C: Threads + Wait + Clock + Net + Sync>(
     rt: &C,
     alloc: Global,
 ) -> Result<bool, AllocError> {
-    let mut digits = String::new(alloc);
-    for _ in 0..131_072 {
-        digits.push('0')?;
-    }
-    let read = run_over(rt, alloc, &["mdriver", "decode", digits.as_str()], b"");
-    let faults = read.errors;
+    let mut digits = zeros(alloc, 131_072)?;
+    let read = is_word_refused(rt, alloc, &digits, b"error: F4 length\n");
     digits.push_str("00")?;
-    let longer = run_over(rt, alloc, &["mdriver", "decode", digits.as_str()], b"");
-    Ok(
-        faults.as_slice() == b"error: F4 length\n".as_slice()
-            && longer.errors.as_slice() == b"error: hex\n".as_slice()
-            && longer.status == 1,
-    )
+    Ok(read && is_word_refused(rt, alloc, &digits, b"error: hex\n"))
+}
+
+/// Whether the greatest script and the greatest word are taken, and longer ones aren't.
+pub(crate) fn lengths_are_bounded<C: Threads + Wait + Clock + Net + Sync>(
+    rt: &C,
+    alloc: Global,
+) -> Result<bool, AllocError> {
+    Ok(is_script_bounded(rt, alloc)? && is_word_bounded(rt, alloc)?)
 }

@@ -71,8 +71,8 @@ fn give(
 ) -> Result<bool, Fail> {
     let position = draw_position(draws, map);
     let kept = draw_frame(draws, position);
-    let answer = filled(alloc, image, kept.kind, position, kept.length, kept.byte)?;
-    Ok(answer == map.insert(position, kept)?)
+    let answer = filled(alloc, image, kept.kind, position, kept.length, kept.byte);
+    Ok(answer == Some(map.insert(position, kept)?))
 }
 
 /// Gives both a heartbeat. Whether they answer alike.
@@ -131,6 +131,21 @@ fn step(
     Ok(alike && stand(image, map))
 }
 
+/// Gives both all lists. Whether they always answer alike.
+fn stay_alike(
+    alloc: Global,
+    draws: &mut Pcg32,
+    image: &mut Image,
+    map: &mut MapImage,
+    block: &mut Block,
+) -> Result<bool, Fail> {
+    let mut alike = true;
+    for _ in 0..LISTS * STEPS {
+        alike &= step(alloc, draws, image, map, block)?;
+    }
+    Ok(alike)
+}
+
 /// Opens both by these draws, and gives them all lists. Whether they always answer alike.
 fn are_alike(alloc: Global, draws: &mut Pcg32, block: &mut Block) -> Result<bool, Fail> {
     let geometry = Geometry::new(65_536, 1408, 7)?;
@@ -139,11 +154,7 @@ fn are_alike(alloc: Global, draws: &mut Pcg32, block: &mut Block) -> Result<bool
     let consumers = 1 + below(draws, 3) as usize;
     let mut image = Image::open(alloc, geometry, u64::from(join), window, consumers)?;
     let mut map = MapImage::open(alloc, i64::from(join), i64::from(window), consumers)?;
-    let mut alike = true;
-    for _ in 0..LISTS * STEPS {
-        alike &= step(alloc, draws, &mut image, &mut map, block)?;
-    }
-    Ok(alike)
+    stay_alike(alloc, draws, &mut image, &mut map, block)
 }
 
 /// An image in three terms and one by a map give the same answers to ten thousand lists, from any join on, also round the

@@ -3,7 +3,8 @@ use frames::{Frame, read_frame};
 use loss_detector::first_gap;
 use position::{FrameHead, FrameKind, Geometry};
 use rebuilder::{Image, ImageError, Insert, Steps};
-use std::alloc::Global;
+use std::alloc::{AllocError, Global};
+use std::process::Abort;
 use std::test::*;
 
 pub(crate) const DATA: FrameKind = FrameKind::Data;
@@ -19,23 +20,20 @@ fn opened(alloc: Global, join: u64, window: u32, consumers: usize) -> Result<Ima
 }
 
 /// The bytes of a frame of this length, header counted: a whole message with one byte over and over, or a padding.
-fn spelled(alloc: Global, kind: FrameKind, length: u32, byte: u8) -> Result<Vec<u8>, Fail> {
+fn spelled(alloc: Global, kind: FrameKind, length: u32, byte: u8) -> Result<Vec<u8>, AllocError> {
     let mut bytes = Vec::new(alloc);
     bytes.extend_from_slice(&length.to_le_bytes())?;
     bytes.extend_from_slice(&[0, 0xc0, if kind == DATA { 1 } else { 0 }, 0])?;
-    bytes.extend_from_slice(&[0; 24])?;
+    bytes.resize(32, 0)?;
     if kind == DATA {
-        for _ in 32..length {
-            bytes.push(byte)?;
-        }
-        for _ in 0..(32 - bytes.len() % 32) % 32 {
-            bytes.push(0)?;
-        }
+        bytes.resize(length.max(32) as usize, byte)?;
+        let rest = (32 - bytes.len() % 32) % 32;
+        bytes.resize(bytes.len().saturating_add(rest), 0)?;
     }
     Ok(bytes)
 }
 
-/// What becomes of such a frame, whose payload bytes are all the same.
+/// What becomes of such a frame, whose payload bytes are all the same. There is none where it can't be had.
 pub(crate) fn filled(
     alloc: Global,
     image: &mut Image,
@@ -43,25 +41,20 @@ pub(crate) fn filled(
     position: i64,
     length: u32,
     byte: u8,
-) -> Result<Insert, Fail> {
-    let bytes = spelled(alloc, kind, length, byte)?;
-    let (frame, _) = read_frame(&bytes)?;
+) -> Option<Insert> {
+    let bytes = spelled(alloc, kind, length, byte).ok()?;
+    let (frame, _) = read_frame(&bytes).ok()?;
     match frame {
         Frame::Data { .. } | Frame::Pad { .. } if position.rem_euclid(32) == 0 => {
-            Ok(image.insert(position, &frame))
+            Some(image.insert(position, &frame))
         }
-        _ => Err("neither data nor padding".into()),
+        _ => None,
     }
 }
 
 /// Whether an image answers so to such a frame.
-fn answers(
-    alloc: Global,
-    image: &mut Image,
-    frame: (FrameKind, i64, u32),
-    answer: Insert,
-) -> Result<bool, Fail> {
-    Ok(filled(alloc, image, frame.0, frame.1, frame.2, 0x61)? == answer)
+fn answers(alloc: Global, image: &mut Image, frame: (FrameKind, i64, u32), answer: Insert) -> bool {
+    filled(alloc, image, frame.0, frame.1, frame.2, 0x61) == Some(answer)
 }
 
 /// Reads the frame at a consumer's position, and moves past it.
@@ -117,57 +110,122 @@ fn openings(rt: HostRuntime) {
     }
 }
 
+/// A step of a test, and how it ends.
+#[derive(Drop)]
+enum Step {
+    /// A frame comes and is answered so: its kind, where it starts, and its length with the header.
+    Comes(FrameKind, i64, u32, Insert),
+    /// A consumer reads such a frame, and is moved past it.
+    Passes(usize, FrameKind, u64, u32),
+    /// A consumer has nothing to read.
+    Waits(usize),
+    /// All up to the high-water mark, here, is rebuilt, and the least consumer stands there.
+    Stands(u64, u64),
+}
+
+/// Whether a step ends as it says.
+fn is_met(alloc: Global, image: &mut Image, block: &mut Block, step: &Step) -> bool {
+    match step {
+        Step::Comes(kind, position, length, answer) => {
+            answers(alloc, image, (*kind, *position, *length), *answer)
+        }
+        Step::Passes(consumer, kind, start, length) => {
+            passes(image, *consumer, block, (*kind, *start, *length))
+        }
+        Step::Waits(consumer) => pass(image, *consumer, block).is_none(),
+        Step::Stands(rebuilt, least) => stands(image, *rebuilt, *least),
+    }
+}
+
+/// Takes all steps, each of which ends as it says.
+fn take_steps<R: Abort>(
+    rt: &R,
+    alloc: Global,
+    image: &mut Image,
+    block: &mut Block,
+    steps: &[Step],
+) {
+    for step in steps {
+        assert!(rt; is_met(alloc, image, block, step));
+    }
+}
+
+const ONE_BEHIND: [Step; 9] = [
+    Step::Comes(PAD, 64, 4096, Insert::Stored),
+    Step::Comes(DATA, 4160, 40, Insert::OverWindow),
+    Step::Passes(1, PAD, 64, 4096),
+    Step::Stands(4160, 64),
+    Step::Waits(1),
+    Step::Passes(0, PAD, 64, 4096),
+    Step::Stands(4160, 4160),
+    Step::Comes(DATA, 4160, 40, Insert::Stored),
+    Step::Stands(4224, 4160),
+];
+
 /// Two consumers: what the slower one has yet to read is kept.
 #[test]
 fn slower_consumer(rt: HostRuntime) -> Result<(), Fail> {
-    let alloc = rt.alloc();
-    let mut image = opened(alloc, 64, 4096, 2)?;
-    let mut block = Block::new(alloc, 65_472)?;
-    let padding = (PAD, 64, 4096);
-    assert!(rt; answers(alloc, &mut image, (PAD, 64, 4096), Insert::Stored)?);
-    assert!(rt; answers(alloc, &mut image, (DATA, 4160, 40), Insert::OverWindow)?);
-    assert!(rt; passes(&mut image, 1, &mut block, padding) && stands(&image, 4160, 64));
-    assert!(rt; pass(&mut image, 1, &mut block).is_none());
-    assert!(rt; passes(&mut image, 0, &mut block, padding) && stands(&image, 4160, 4160));
-    assert!(rt; answers(alloc, &mut image, (DATA, 4160, 40), Insert::Stored)?);
-    assert!(rt; image.consumers() == 2 && image.rebuilt() == 4224);
+    let mut image = opened(rt.alloc(), 64, 4096, 2)?;
+    let mut block = Block::new(rt.alloc(), 65_472)?;
+    take_steps(&rt, rt.alloc(), &mut image, &mut block, &ONE_BEHIND);
+    assert!(rt; image.consumers() == 2);
     assert!(rt; image.position(1) == 4160);
     Ok(())
+}
+
+const WHOLE: [Step; 3] = [
+    Step::Comes(DATA, 65_504, 65_504, Insert::Stored),
+    Step::Comes(DATA, 0, 65_504, Insert::Stored),
+    Step::Stands(131_008, 0),
+];
+
+/// Whether a frame of the greatest MTU is read there, and each byte of its payload. The block then is empty.
+fn passes_whole(image: &mut Image, block: &mut Block, start: u64) -> bool {
+    let passed = passes(image, 0, block, (DATA, start, 65_504));
+    let filled = block.bytes().iter().all(|byte| *byte == 0x61);
+    block.bytes_mut().fill(0);
+    passed && filled
 }
 
 /// Frames of the greatest MTU, one behind the other: each byte of their payloads is read.
 #[test]
 fn whole_mtu(rt: HostRuntime) -> Result<(), Fail> {
-    let alloc = rt.alloc();
     let geometry = Geometry::new(16_777_216, 65_504, 7)?;
-    let mut image = Image::open(alloc, geometry, 0, 8_388_608, 1)?;
-    let mut block = Block::new(alloc, 65_472)?;
-    assert!(rt; answers(alloc, &mut image, (DATA, 65_504, 65_504), Insert::Stored)?);
-    assert!(rt; answers(alloc, &mut image, (DATA, 0, 65_504), Insert::Stored)?);
-    assert!(rt; stands(&image, 131_008, 0));
-    for start in [0, 65_504] {
-        assert!(rt; passes(&mut image, 0, &mut block, (DATA, start, 65_504)));
-        assert!(rt; block.bytes().iter().all(|byte| *byte == 0x61));
-        block.bytes_mut().fill(0);
-    }
+    let mut image = Image::open(rt.alloc(), geometry, 0, 8_388_608, 1)?;
+    let mut block = Block::new(rt.alloc(), 65_472)?;
+    take_steps(&rt, rt.alloc(), &mut image, &mut block, &WHOLE);
+    assert!(rt; passes_whole(&mut image, &mut block, 0));
+    assert!(rt; passes_whole(&mut image, &mut block, 65_504));
     assert!(rt; pass(&mut image, 0, &mut block).is_none());
     Ok(())
+}
+
+const FIRST: [Step; 1] = [Step::Comes(DATA, 131_136, 1408, Insert::Stored)];
+
+const LAST: [Step; 2] = [
+    Step::Comes(DATA, 131_136, 1408, Insert::Below),
+    Step::Stands(132_544, 132_544),
+];
+
+/// Eight consumers pass a frame one after the other, which is there until the last of them has.
+fn pass_in_turn<R: Abort>(rt: &R, alloc: Global, image: &mut Image, block: &mut Block) {
+    for consumer in 0..8 {
+        let steps = [
+            Step::Comes(DATA, 131_136, 1408, Insert::Duplicate),
+            Step::Stands(132_544, 131_136),
+            Step::Passes(consumer, DATA, 131_136, 1408),
+        ];
+        take_steps(rt, alloc, image, block, &steps);
+    }
 }
 
 /// Eight consumers at a later join: a frame is kept until the last of them has passed it.
 #[test]
 fn eight_consumers(rt: HostRuntime) -> Result<(), Fail> {
-    let alloc = rt.alloc();
-    let mut image = opened(alloc, 131_136, 4096, 8)?;
-    let mut block = Block::new(alloc, 65_472)?;
-    let frame = (DATA, 131_136, 1408);
-    assert!(rt; answers(alloc, &mut image, frame, Insert::Stored)?);
-    for consumer in 0..8 {
-        assert!(rt; answers(alloc, &mut image, frame, Insert::Duplicate)?);
-        assert!(rt; stands(&image, 132_544, 131_136));
-        assert!(rt; passes(&mut image, consumer, &mut block, (DATA, 131_136, 1408)));
-    }
-    assert!(rt; answers(alloc, &mut image, frame, Insert::Below)?);
-    assert!(rt; stands(&image, 132_544, 132_544));
+    let mut image = opened(rt.alloc(), 131_136, 4096, 8)?;
+    let mut block = Block::new(rt.alloc(), 65_472)?;
+    take_steps(&rt, rt.alloc(), &mut image, &mut block, &FIRST);
+    pass_in_turn(&rt, rt.alloc(), &mut image, &mut block);
+    take_steps(&rt, rt.alloc(), &mut image, &mut block, &LAST);
     Ok(())
 }

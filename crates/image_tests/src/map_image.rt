@@ -79,6 +79,24 @@ impl MapImage {
         end
     }
 
+    /// Whether such a frame starts there.
+    fn is_there(&self, position: i64, kept: &Kept) -> bool {
+        match self.frames.get(&position) {
+            Some(other) => other.kind == kept.kind && other.length == kept.length,
+            None => false,
+        }
+    }
+
+    /// Whether a frame lies between two positions, or a part of one.
+    fn is_taken(&self, position: i64, end: i64) -> bool {
+        for (start, other) in &self.frames {
+            if *start < end && position < start.wrapping_add(covered(other.length)) {
+                return true;
+            }
+        }
+        false
+    }
+
     pub(crate) fn insert(&mut self, position: i64, kept: Kept) -> Result<Insert, AllocError> {
         let end = position.wrapping_add(covered(kept.length));
         if position.rem_euclid(TERM).wrapping_add(covered(kept.length)) > TERM {
@@ -95,15 +113,11 @@ impl MapImage {
         if needed > self.least().wrapping_add(self.window) {
             return Ok(Insert::OverWindow);
         }
-        for (start, other) in &self.frames {
-            if *start == position && other.kind == kept.kind && other.length == kept.length {
-                return Ok(Insert::Duplicate);
-            }
+        if self.is_there(position, &kept) {
+            return Ok(Insert::Duplicate);
         }
-        for (start, other) in &self.frames {
-            if *start < end && position < start.wrapping_add(covered(other.length)) {
-                return Ok(Insert::Overlap);
-            }
+        if self.is_taken(position, end) {
+            return Ok(Insert::Overlap);
         }
         self.frames.insert(position, kept)?;
         self.high = self.high.max(end);

@@ -61,10 +61,7 @@ fn on_one_thread(rt: HostRuntime) -> Result<(), Fail> {
     counters.publish(&rt, &mut writer, marks(7));
     let second = counters.read(&rt, &mut reader);
     let again = counters.read(&rt, &mut reader);
-    assert_eq!(rt;
-        [before, first, second, again],
-        [marks(0), marks(1), marks(7), marks(7)]
-    );
+    assert!(rt; [before, first, second, again] == [marks(0), marks(1), marks(7), marks(7)]);
     Ok(())
 }
 
@@ -79,9 +76,6 @@ fn on_two_threads(rt: HostRuntime) -> Result<(), Fail> {
         &mut || publish_all(&rt, &counters, &mut writer),
     );
     assert!(rt; fine);
-    assert_eq!(rt;
-        counters.read_with(&rt, &mut reader, &mut writer),
-        marks(TIMES)
-    );
+    assert!(rt; counters.read_with(&rt, &mut reader, &mut writer) == marks(TIMES));
     Ok(())
 }

@@ -1,8 +1,9 @@
 use endpoint::{Datagrams, DeviceFailed, UdpDevice};
 use loss_injector::Rates;
 use lossy::Lossy;
-use std::alloc::Global;
+use std::alloc::{AllocError, Global};
 use std::net::Net;
+use std::process::Abort;
 use std::test::*;
 use std::thread;
 
@@ -21,59 +22,99 @@ fn next_length(device: &mut UdpDevice, buffer: &mut [u8]) -> Result<Option<usize
     Ok(None)
 }
 
+/// Two devices that have no peer.
+fn bind_both<R: Net>(rt: &R, alloc: Global) -> Result<(UdpDevice, UdpDevice), Fail> {
+    let near = UdpDevice::bind(rt, alloc)?;
+    let far = UdpDevice::bind(rt, alloc)?;
+    Ok((near, far))
+}
+
+/// Makes each the peer of the other.
+fn join(near: &mut UdpDevice, far: &mut UdpDevice) -> Result<(), DeviceFailed> {
+    near.connect(far.port())?;
+    far.connect(near.port())
+}
+
 /// Two devices, each the peer of the other.
 fn open_pair<R: Net>(rt: &R, alloc: Global) -> Result<(UdpDevice, UdpDevice), Fail> {
-    let mut near = UdpDevice::bind(rt, alloc)?;
-    let mut far = UdpDevice::bind(rt, alloc)?;
-    near.connect(far.port())?;
-    far.connect(near.port())?;
+    let (mut near, mut far) = bind_both(rt, alloc)?;
+    join(&mut near, &mut far)?;
     Ok((near, far))
 }
 
 /// A device may go to another thread.
-fn may_move<D: Datagrams + Send>(_device: &D) {}
+fn may_move<D: Datagrams + Send>() {}
+
+/// Whether a datagram of so many bytes comes, with which eight bytes of 7 become these.
+fn brings(device: &mut UdpDevice, length: usize, bytes: &[u8; 8]) -> bool {
+    let mut buffer = [7; 8];
+    next_length(device, &mut buffer) == Ok(Some(length)) && buffer == *bytes
+}
+
+/// Nothing is there before it was sent; what is sent comes whole, or as far as the buffer goes.
+fn hand_over<R: Abort>(rt: &R, near: &mut UdpDevice, far: &mut UdpDevice) {
+    assert!(rt; far.recv(&mut [0; 8]) == Ok(None));
+    assert!(rt; near.send(b"abc").is_ok());
+    assert!(rt; brings(far, 3, b"abc\x07\x07\x07\x07\x07"));
+    assert!(rt; far.send(b"longer than eight").is_ok());
+    assert!(rt; brings(near, 8, b"longer t"));
+}
 
 #[test]
 fn hands_over(rt: HostRuntime) -> Result<(), Fail> {
     let (mut near, mut far) = open_pair(&rt, rt.alloc())?;
-    let mut buffer = [7; 8];
-    assert_eq!(rt; far.recv(&mut buffer)?, None);
-    near.send(b"abc")?;
-    assert_eq!(rt; next_length(&mut far, &mut buffer)?, Some(3));
-    assert_eq!(rt; buffer, [97, 98, 99, 7, 7, 7, 7, 7]);
-    far.send(b"longer than eight")?;
-    assert_eq!(rt; next_length(&mut near, &mut buffer)?, Some(8));
-    assert_eq!(rt; buffer, *b"longer t");
-    assert_eq!(rt; (near.failures(), far.failures()), (0, 0));
+    hand_over(&rt, &mut near, &mut far);
+    assert!(rt; near.failures() == 0 && far.failures() == 0);
     assert!(rt; far.nones() > 0);
-    may_move(&near);
-    may_move(&Lossy::new(rt.alloc(), near, Rates::new(0, 0, 0)?, 1));
+    may_move::<UdpDevice>();
+    may_move::<Lossy<UdpDevice>>();
     Ok(())
+}
+
+/// Whether a device sends, and nothing comes.
+fn is_unheard(device: &mut UdpDevice) -> bool {
+    device.send(b"abc").is_ok() && device.recv(&mut [0; 8]) == Ok(None)
 }
 
 #[test]
 fn closed_port(rt: HostRuntime) -> Result<(), Fail> {
     let (mut near, far) = open_pair(&rt, rt.alloc())?;
     drop(far);
-    let mut buffer = [0; 8];
     for _ in 0..8 {
-        near.send(b"abc")?;
-        assert_eq!(rt; near.recv(&mut buffer)?, None);
+        assert!(rt; is_unheard(&mut near));
     }
-    assert_eq!(rt; (near.failures(), near.nones()), (0, 8));
+    assert!(rt; near.failures() == 0 && near.nones() == 8);
+    Ok(())
+}
+
+/// Whether a device fails at a datagram that is too long.
+fn fails_at_length(alloc: Global, device: &mut UdpDevice) -> Result<bool, AllocError> {
+    let long = vec![in alloc; 0; 65_508]?;
+    Ok(device.send(&long) == Err(DeviceFailed))
+}
+
+/// Fails without a peer, and with one at a datagram that is too long; and goes on behind both.
+fn fail_and_go_on<R: Abort>(
+    rt: &R,
+    alloc: Global,
+    lonely: &mut UdpDevice,
+    port: u16,
+) -> Result<(), Fail> {
+    assert!(rt; lonely.send(b"abc") == Err(DeviceFailed));
+    lonely.connect(port)?;
+    assert!(rt; fails_at_length(alloc, lonely)?);
+    assert!(rt; lonely.send(b"abc").is_ok());
+    assert!(rt; lonely.failures() == 2);
     Ok(())
 }
 
 #[test]
 fn fails_and_goes_on(rt: HostRuntime) -> Result<(), Fail> {
-    let mut lonely = UdpDevice::bind(&rt, rt.alloc())?;
-    let peer = UdpDevice::bind(&rt, rt.alloc())?;
-    assert_eq!(rt; lonely.send(b"abc"), Err(DeviceFailed));
-    lonely.connect(peer.port())?;
-    let long = vec![in rt.alloc(); 0; 65_508]?;
-    assert_eq!(rt; lonely.send(&long), Err(DeviceFailed));
-    assert_eq!(rt; lonely.send(b"abc"), Ok(()));
-    assert_eq!(rt; lonely.failures(), 2);
-    assert_eq!(rt; DeviceFailed.text(), "device");
-    Ok(())
+    let (mut lonely, peer) = bind_both(&rt, rt.alloc())?;
+    fail_and_go_on(&rt, rt.alloc(), &mut lonely, peer.port())
+}
+
+#[test]
+fn text(rt: HostRuntime) {
+    assert!(rt; DeviceFailed.text() == "device");
 }

@@ -1,3 +1,2 @@
-pub mod Threads
 pub mod Outcomes
 pub mod Openings

@@ -5,8 +5,6 @@
 mod opening;
 mod outcome;
 mod running;
-mod threads;
-mod watching;
 
 pub use outcome::{Ending, Outcome};
 pub use run_parties::{Gate, Open, Role};

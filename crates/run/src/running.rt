@@ -1,18 +1,15 @@
 //! The run.
 
-ghost use Rattle.std.specs.Prelude.{◌≡◌, ◌≤◌, ◌<◌, ◌^◌, None, IfOk};
-ghost use Rattle.theory.specs.Position.{max_message};
+ghost use Rattle.std.specs.Prelude.{◌≡◌, ◌≤◌, None, IfOk};
 ghost use Rattle.counters.specs.Order.{zeros};
 ghost use Rattle.receiver.specs.Receiving.{Receiver};
 ghost use Rattle.receiver.specs.Subscribing.{RepresentsSubscriber};
-ghost use Rattle.run.specs.Openings.{IsOpened, IsStaged};
+ghost use Rattle.run.specs.Openings.{IsBegun, IsOpened, IsStaged};
 ghost use Rattle.run.specs.Outcomes.{IsBook, IsOutcome, SizeOf};
-ghost use Rattle.run_parties.specs.Senders.{IsRunLog};
-ghost use Rattle.run.specs.Threads.{IsCast, IsPlayed};
+ghost use Rattle.run_threads.specs.Threads.{IsCast, IsPlayed, IsSet};
 
 use crate::opening::{Opened, listening, open_run};
 use crate::outcome::Outcome;
-use crate::threads::{Cast, Played, Size, play};
 use agents::AgentFault;
 use conductor::{Client, Conductor, Taker};
 use counters::{CounterReader, CounterWriter, Counters};
@@ -23,14 +20,15 @@ use one_hand::Book;
 use receiver::Subscriber;
 use receiver_agent::{Named, ReceiverAgent};
 use run_options::Plan;
+use position::Geometry;
 use run_parties::{Gate, Stage, Task};
+use run_threads::{Cast, Played, Scene, Size, Watch, play};
 use shared_log::{Log, Publisher};
 use std::alloc::{AllocError, Global};
 use std::io::Write;
 use std::marker::Brand;
 use std::net::Net;
 use std::sync::{Mutex, Wait};
-use std::thread;
 use std::thread::Threads;
 use std::time::{Clock, Instant};
 
@@ -52,57 +50,27 @@ fn pair<R: Net>(rt: &R, alloc: Global) -> Result<(UdpDevice, UdpDevice), AgentFa
     Ok((one, other))
 }
 
-/// A command queue, the two clients of it that a run has, and its taker.
-fn queue(alloc: Global) -> Result<(Conductor, Client, Client, Taker), AllocError>
-    ensures { IfOk result (λ r. (r.1.queue ≡ r.0) × (r.2.queue ≡ r.0) × (r.3.queue ≡ r.0)) }
+/// The command queue, its taker, and the two clients of it that a run has.
+#[derive(Drop)]
+struct Queue {
+    conductor: Conductor,
+    asking: Client,
+    closing: Client,
+    taker: Taker,
+}
+
+fn make_queue(alloc: Global) -> Result<Queue, AllocError>
+    ensures { IfOk result (λ q. (q.asking.queue ≡ q.conductor) × (q.closing.queue ≡ q.conductor) × (q.taker.queue ≡ q.conductor)) }
 {
     let (conductor, mut clients, taker) = Conductor::new(alloc)?;
     let asking = clients.remove(0);
     let closing = clients.remove(0);
-    Ok((conductor, asking, closing, taker))
-}
-
-/// Plays in a scope, over a receiver's agent that threads share.
-fn play_shared<
-    'a,
-    N: Named + Send,
-    R: Threads + Wait + Clock + Sync,
-    D: Datagrams + Send + Drop,
-    G: Gate + Sync,
-    E: Write + Drop,
->(
-    rt: &'a R,
-    alloc: Global,
-    stage: &'a Stage,
-    counters: &'a Counters,
-    gate: &'a G,
-    size: Size,
-    agent: &'a Mutex<ReceiverAgent<N>>,
-    cast: Cast<D>,
-    errors: E,
-    counting: CounterReader,
-    shows: bool,
-) -> Result<Played, AgentFault>
-    requires cast { IsCast stage.now.log stage.now.conductor cast }
-    requires log { IsRunLog stage.now.log }
-    requires whole { 8 ≤ size.task.length }
-    requires short { size.task.length ≤ max_message stage.now.log.identity.geometry }
-    requires wanted { size.wanted < 2 ^ 63 }
-    requires counters { (counters.now ≡ N.counters) × (counting.counters ≡ counters.now) }
-    ensures { IfOk result (λ p. IsPlayed stage.now.log cast size p) }
-{
-    thread::scope(
-        thread::scope_env(),
-        rt,
-        move |scope| -> Result<Played, AgentFault>
-            requires { IsCast stage.now.log stage.now.conductor cast × IsRunLog stage.now.log × (8 ≤ size.task.length) × (size.task.length ≤ max_message stage.now.log.identity.geometry) × (size.wanted < 2 ^ 63) × (counters.now ≡ N.counters) × (counting.counters ≡ counters.now) }
-            ensures { IfOk result (λ p. IsPlayed stage.entry.now.log cast size p) }
-        {
-            play(
-                scope, rt, alloc, stage, counters, agent, gate, size, cast, errors, counting, shows,
-            )
-        },
-    )
+    Ok(Queue {
+        conductor,
+        asking,
+        closing,
+        taker,
+    })
 }
 
 /// Plays with the counters that have this name.
@@ -122,23 +90,25 @@ fn play_named<
     subscriber: Subscriber,
     writer: CounterWriter,
     cast: Cast<D>,
-    errors: E,
-    counting: CounterReader,
-    shows: bool,
+    watch: Watch<E>,
 ) -> Result<Played, AgentFault>
     requires cast { IsCast stage.now.log stage.now.conductor cast }
-    requires log { IsRunLog stage.now.log }
-    requires whole { 8 ≤ size.task.length }
-    requires short { size.task.length ≤ max_message stage.now.log.identity.geometry }
-    requires wanted { size.wanted < 2 ^ 63 }
+    requires set { IsSet stage.now.log size }
     requires subscriber { (r : Receiver) × RepresentsSubscriber subscriber r × (r.image ≡ None) }
-    requires counters { (counters.now ≡ N.counters) × (writer.counters ≡ N.counters) × (writer.last ≡ zeros) × (counting.counters ≡ counters.now) }
+    requires counters { (counters.now ≡ N.counters) × (writer.counters ≡ N.counters) × (writer.last ≡ zeros) × (watch.reader.counters ≡ counters.now) }
     ensures { IfOk result (λ p. IsPlayed stage.now.log cast size p) }
 {
     let agent = Mutex::new(ReceiverAgent::<N>::new(subscriber, writer));
-    play_shared(
-        rt, alloc, stage, counters, gate, size, &agent, cast, errors, counting, shows,
-    )
+    let scene = Scene {
+        rt,
+        alloc,
+        stage,
+        counters,
+        agent: &agent,
+        gate,
+        size,
+    };
+    play(&scene, cast, watch)
 }
 
 /// The book of a log that was played on.
@@ -171,6 +141,124 @@ fn size_of(plan: &Plan) -> Size
     }
 }
 
+/// What a run begins with, but for its log and its devices.
+#[derive(Drop)]
+struct Begun {
+    began: Instant,
+    queue: Queue,
+    subscriber: Subscriber,
+    counters: Counters,
+    writer: CounterWriter,
+    reader: CounterReader,
+}
+
+fn begin<R: Clock>(rt: &R, alloc: Global, geometry: &Geometry) -> Result<Begun, AgentFault>
+    ensures { IfOk result (λ b. IsBegun b) }
+{
+    let Ok(began) = Instant::now(rt) else {
+        return Err(AgentFault::Device);
+    };
+    let queue = make_queue(alloc)?;
+    let (counters, mut writer) = Counters::new(alloc)?;
+    let reader = counters.reader(&mut writer);
+    let subscriber = listening(alloc, geometry)?;
+    Ok(Begun {
+        began,
+        queue,
+        subscriber,
+        counters,
+        writer,
+        reader,
+    })
+}
+
+/// What a run leaves whose threads gave this back.
+fn left(
+    alloc: Global,
+    log: Log,
+    wanted: u64,
+    played: Played,
+    unused: Vec<Publisher>,
+) -> Result<Outcome, AllocError>
+    requires staged { IsStaged log played unused.items }
+    requires polled { played.tally.polled ≤ wanted }
+    ensures { IfOk result (λ o. (o.wanted ≡ wanted) × (o.polled ≤ wanted) × IsBook log.identity.geometry o.book) }
+{
+    let (polled, kept) = (played.tally.polled(), played.tally.is_in_order());
+    let book = closed(log, played, unused, alloc)?;
+    Ok(Outcome {
+        polled,
+        wanted,
+        kept,
+        book,
+    })
+}
+
+/// Runs on a log that was opened, over two devices: the sender's and the receiver's.
+fn run_on<
+    R: Threads + Wait + Clock + Sync,
+    D: Datagrams + Send + Drop,
+    G: Gate + Sync,
+    E: Write + Drop,
+>(
+    rt: &R,
+    alloc: Global,
+    plan: &Plan,
+    gate: &G,
+    errors: E,
+    begun: Begun,
+    opened: Opened,
+    sends: D,
+    replies: D,
+) -> Result<Outcome, AgentFault>
+    requires begun { IsBegun begun }
+    requires opened { IsOpened plan.now.geometry opened }
+    ensures { IfOk result (λ o. IsOutcome plan.now o) }
+{
+    let Begun {
+        began,
+        queue,
+        subscriber,
+        counters,
+        writer,
+        reader: counting,
+    } = begun;
+    let Queue {
+        conductor,
+        asking,
+        closing,
+        taker,
+    } = queue;
+    let Opened {
+        log,
+        publishers,
+        unused,
+        reader,
+        keeper,
+    } = opened;
+    let size = size_of(plan);
+    let stage = Stage::new(log, conductor, began);
+    let cast = Cast {
+        publishers,
+        reader,
+        keeper,
+        asking,
+        closing,
+        taker,
+        sends,
+        replies,
+    };
+    let watch = Watch {
+        errors,
+        reader: counting,
+        shows: plan.counters,
+    };
+    let played = play_named::<Brand, R, D, G, E>(
+        rt, alloc, &stage, &counters, gate, size, subscriber, writer, cast, watch,
+    )?;
+    Ok(left(alloc, stage.into_log(), size.wanted, played, unused)?)
+}
+
 /// Runs over two devices: the sender's and the receiver's.
 fn run_over<
     R: Threads + Wait + Clock + Sync,
@@ -188,54 +276,9 @@ fn run_over<
 ) -> Result<Outcome, AgentFault>
     ensures { IfOk result (λ o. IsOutcome plan.now o) }
 {
-    let Ok(began) = Instant::now(rt) else {
-        return Err(AgentFault::Device);
-    };
-    let size = size_of(plan);
-    let subscriber = listening(alloc, &plan.geometry)?;
-    let (conductor, asking, closing, taker) = queue(alloc)?;
-    let (counters, mut writer) = Counters::new(alloc)?;
-    let reader = counters.reader(&mut writer);
-    let Opened {
-        log,
-        publishers,
-        unused,
-        reader: first,
-        keeper,
-    } = open_run(alloc, plan.geometry, plan.publishers)?;
-    let cast = Cast {
-        publishers,
-        reader: first,
-        keeper,
-        asking,
-        closing,
-        taker,
-        sends,
-        replies,
-    };
-    let stage = Stage::new(log, conductor, began);
-    let played = play_named::<Brand, R, D, G, E>(
-        rt,
-        alloc,
-        &stage,
-        &counters,
-        gate,
-        size,
-        subscriber,
-        writer,
-        cast,
-        errors,
-        reader,
-        plan.counters,
-    )?;
-    let (polled, kept) = (played.tally.polled(), played.tally.is_in_order());
-    let book = closed(stage.into_log(), played, unused, alloc)?;
-    Ok(Outcome {
-        polled,
-        wanted: size.wanted,
-        kept,
-        book,
-    })
+    let begun = begin(rt, alloc, &plan.geometry)?;
+    let opened = open_run(alloc, plan.geometry, plan.publishers)?;
+    run_on(rt, alloc, plan, gate, errors, begun, opened, sends, replies)
 }
 
 /// Runs the driver as planned: each publisher's messages are offered, sent as datagrams over UDP on this machine, received,

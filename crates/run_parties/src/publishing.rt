@@ -43,6 +43,42 @@ fn offer_once(log: &Log, publisher: &mut Publisher, message: &[u8]) -> Result<u6
     offer(&mut OnLog::new(log), publisher, message)
 }
 
+/// Offers messages one after the other, each until it is accepted.
+fn publish_on<R: Clock, G: Gate>(
+    rt: &R,
+    stage: &Stage,
+    gate: &G,
+    task: Task,
+    publisher: &mut Publisher,
+    message: &mut [u8],
+)
+    requires done { IsDone stage.now.log publisher.old }
+    requires whole { 8 ≤ length message.old }
+    requires short { length message.old ≤ max_message stage.now.log.identity.geometry }
+    ensures { Ends stage.now.log publisher.old publisher.new }
+{
+    let number = publisher.number();
+    let mut count: u32 = 0;
+    for turn in 0..task.turns {
+        if count >= task.messages || stage.is_stopped() {
+            return;
+        }
+        gate.enter(Role::Publisher(number), turn);
+        message[4..8].copy_from_slice(&count.to_le_bytes());
+        let answer = offer_once(&stage.log, publisher, message);
+        gate.leave(Role::Publisher(number), turn);
+        match answer {
+            Ok(_) => count += 1,
+            Err(Refusal::AdminAction) => {}
+            Err(Refusal::BackPressured | Refusal::NotConnected) => rest(rt),
+            Err(Refusal::Closed | Refusal::MaxPositionExceeded) => return,
+        }
+    }
+    if count < task.messages {
+        stage.stop();
+    }
+}
+
 /// Offers a publisher's messages one after the other, each until it is accepted. It ends behind the last one, where the
 /// log is closed or used up, when all is to stop, and after its turns, when it stops all.
 pub fn publish<R: Clock, G: Gate>(
@@ -58,26 +94,7 @@ pub fn publish<R: Clock, G: Gate>(
     requires short { task.length ≤ max_message stage.now.log.identity.geometry }
     ensures { IfOk result (λ q. Ends stage.now.log publisher q) }
 {
-    let number = publisher.number();
-    let mut message = first_message(alloc, number, task.length)?;
-    let mut count: u32 = 0;
-    for turn in 0..task.turns {
-        if count >= task.messages || stage.is_stopped() {
-            return Ok(publisher);
-        }
-        gate.enter(Role::Publisher(number), turn);
-        message[4..8].copy_from_slice(&count.to_le_bytes());
-        let answer = offer_once(&stage.log, &mut publisher, &message);
-        gate.leave(Role::Publisher(number), turn);
-        match answer {
-            Ok(_) => count += 1,
-            Err(Refusal::AdminAction) => {}
-            Err(Refusal::BackPressured | Refusal::NotConnected) => rest(rt),
-            Err(Refusal::Closed | Refusal::MaxPositionExceeded) => return Ok(publisher),
-        }
-    }
-    if count < task.messages {
-        stage.stop();
-    }
+    let mut message = first_message(alloc, publisher.number(), task.length)?;
+    publish_on(rt, stage, gate, task, &mut publisher, &mut message);
     Ok(publisher)
 }

@@ -3,7 +3,7 @@
 ghost use Rattle.std.specs.Prelude.{◌≡◌, ◌+◌, ◌≤◌, ◌<◌, ◌^◌, IfOk};
 
 use crate::gate::{Gate, Role};
-use crate::stage::{Stage, rest};
+use crate::stage::{Stage, new_duty, rest};
 use agents::{AgentFault, Duty, REPLY};
 use assembler::AssemblyError;
 use counters::Counters;
@@ -32,6 +32,34 @@ fn receive_once<N: Named, R: Wait + Clock, D: Datagrams>(
 }
 
 /// Receives until all is to stop or its turns are used, when it stops all.
+fn receive_on<N: Named, R: Wait + Clock, D: Datagrams, G: Gate>(
+    rt: &R,
+    stage: &Stage,
+    gate: &G,
+    turns: u32,
+    counters: &Counters,
+    agent: &Mutex<ReceiverAgent<N>>,
+    duty: &mut Duty<D>,
+) -> Result<(), AgentFault>
+    requires counters { counters.now ≡ N.counters }
+    requires size { duty.old.mtu ≡ 40 }
+{
+    for turn in 0..turns {
+        if stage.is_stopped() {
+            return Ok(());
+        }
+        gate.enter(Role::Receiver, turn);
+        let busy = receive_once(rt, stage, counters, agent, duty)?;
+        gate.leave(Role::Receiver, turn);
+        if !busy {
+            rest(rt);
+        }
+    }
+    stage.stop();
+    Ok(())
+}
+
+/// Receives until all is to stop or its turns are used, when it stops all.
 pub fn receive<N: Named, R: Wait + Clock, D: Datagrams + Drop, G: Gate>(
     rt: &R,
     alloc: Global,
@@ -44,22 +72,8 @@ pub fn receive<N: Named, R: Wait + Clock, D: Datagrams + Drop, G: Gate>(
 ) -> Result<(), AgentFault>
     requires { counters.now ≡ N.counters }
 {
-    let Ok(mut duty) = Duty::new(alloc, device, REPLY) else {
-        return Err(AgentFault::Memory);
-    };
-    for turn in 0..turns {
-        if stage.is_stopped() {
-            return Ok(());
-        }
-        gate.enter(Role::Receiver, turn);
-        let busy = receive_once(rt, stage, counters, agent, &mut duty)?;
-        gate.leave(Role::Receiver, turn);
-        if !busy {
-            rest(rt);
-        }
-    }
-    stage.stop();
-    Ok(())
+    let mut duty = new_duty(alloc, device, REPLY)?;
+    receive_on(rt, stage, gate, turns, counters, agent, &mut duty)
 }
 
 /// Polls once, under the lock. The answer is whether there was a message.

@@ -6,7 +6,7 @@ ghost use Rattle.run_parties.specs.Senders.{IsAgentOf, IsRunLog};
 
 use crate::gate::{Gate, Role};
 use crate::meter::Metered;
-use crate::stage::{Stage, rest};
+use crate::stage::{Stage, new_duty, rest};
 use agents::{AgentFault, Duty};
 use conductor::Client;
 use endpoint::Datagrams;
@@ -65,6 +65,35 @@ fn send_once<R: Wait + Clock, D: Datagrams>(
     Ok(busy)
 }
 
+/// Sends until all is to stop or its turns are used, when it stops all.
+fn send_on<R: Wait + Clock, D: Datagrams, G: Gate>(
+    rt: &R,
+    stage: &Stage,
+    gate: &G,
+    turns: u32,
+    agent: &mut Agent<'_>,
+    client: &mut Client,
+    duty: &mut Duty<Metered<D>>,
+) -> Result<(), AgentFault>
+    requires agent { IsAgentOf stage.now.log agent.old }
+    requires size { duty.old.mtu ≡ stage.now.log.identity.geometry.mtu }
+    requires queue { client.old.queue ≡ stage.now.conductor }
+{
+    for turn in 0..turns {
+        if stage.is_stopped() {
+            return Ok(());
+        }
+        gate.enter(Role::Sender, turn);
+        let busy = send_once(rt, stage, agent, client, duty)?;
+        gate.leave(Role::Sender, turn);
+        if !busy {
+            rest(rt);
+        }
+    }
+    stage.stop();
+    Ok(())
+}
+
 /// Sends until all is to stop or its turns are used, when it stops all. At a fault of the device it stops all, too.
 pub fn send<R: Wait + Clock, D: Datagrams + Drop, G: Gate>(
     rt: &R,
@@ -83,20 +112,6 @@ pub fn send<R: Wait + Clock, D: Datagrams + Drop, G: Gate>(
     let geometry = stage.log.identity().geometry();
     let mut agent = open_agent(alloc, &stage.log, reader)?;
     let device = Metered::new(device, geometry);
-    let Ok(mut duty) = Duty::new(alloc, device, geometry.mtu()) else {
-        return Err(AgentFault::Memory);
-    };
-    for turn in 0..turns {
-        if stage.is_stopped() {
-            return Ok(());
-        }
-        gate.enter(Role::Sender, turn);
-        let busy = send_once(rt, stage, &mut agent, &mut client, &mut duty)?;
-        gate.leave(Role::Sender, turn);
-        if !busy {
-            rest(rt);
-        }
-    }
-    stage.stop();
-    Ok(())
+    let mut duty = new_duty(alloc, device, geometry.mtu())?;
+    send_on(rt, stage, gate, turns, &mut agent, &mut client, &mut duty)
 }

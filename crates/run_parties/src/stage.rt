@@ -1,10 +1,11 @@
 //! What the threads of a run share.
 
-ghost use Rattle.std.specs.Prelude.{◌≡◌};
+ghost use Rattle.std.specs.Prelude.{◌≡◌, IfOk};
 
-use agents::AgentFault;
+use agents::{AgentFault, Duty};
 use conductor::Conductor;
 use shared_log::Log;
+use std::alloc::Global;
 use std::sync::atomic::{AtomicBool, AtomicU64, Ordering};
 use std::thread;
 use std::time::{Clock, Duration, Instant};
@@ -95,4 +96,18 @@ impl Stage {
 /// Gives the processor away for a while.
 pub fn rest<R: Clock>(rt: &R) {
     let _ = thread::sleep(rt, Duration::from_micros(REST));
+}
+
+/// A duty over a device, with room for datagrams of so many bytes.
+pub(crate) fn new_duty<D: Drop>(
+    alloc: Global,
+    device: D,
+    mtu: u32,
+) -> Result<Duty<D>, AgentFault>
+    ensures { IfOk result (λ d. d.mtu ≡ mtu) }
+{
+    match Duty::new(alloc, device, mtu) {
+        Ok(duty) => Ok(duty),
+        Err(_) => Err(AgentFault::Memory),
+    }
 }

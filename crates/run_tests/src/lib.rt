@@ -3,5 +3,3 @@
 
 #[cfg(test)]
 mod gates;
-#[cfg(test)]
-mod losses;

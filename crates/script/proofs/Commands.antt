@@ -1,110 +1,62 @@
 -- The commands of lines: reading one, and being said, are the same.
-use Rattle.std.proofs.Common.{◌≡◌, ℕ, true, cond, List, [], ◌∷◌, Option, Some, None, inl, inr, sym, ap, subst, ◌∙◌}
+use Rattle.std.proofs.Common.{◌≡◌, ℕ, Bool, true, false, ◌&&◌, List, [], ◌∷◌, Option, Some, None, inl, inr, refl, sym, ap, subst, ◌∙◌}
 use Rattle.std.specs.Prelude.{bytes_eq, codes, nat_lt}
 use Rattle.std.proofs.lemmas.Bool.{cond-true, ltb-true, lt-ltb}
 use Rattle.script.specs.Meaning.{CommandContent, Connect, Disconnect, Close, Limit, Offer, OfferSize, Claim, Commit, Abort, Read, Send, Deliver, Raw, Tick, Reply, RawBack, Poll, Image}
 use Rattle.script.specs.Pieces.{words}
 use Rattle.script.specs.Values.{◌>>=◌, hex_of}
-use Rattle.script.specs.Reading.{word_at, number_at, most_wide, whole, last_bytes, named_of, raw_of, raw_back_of, offer_hex_of, offer_size_of, form_of, offer_of, claim_of, commit_of, abort_of, reader_of, read_of, send_of, deliver_of, tick_of, reply_of, poll_of, image_of, plain_of, command_of}
+use Rattle.script.specs.Reading.{word_at, number_at, most_wide, end_of, whole, last_number, last_bytes, named_of, raw_of, raw_back_of, offer_hex_of, offer_size_of, form_of, offer_of, send_of, deliver_of, reply_of, bare_of, party_alone_of, party_and_number_of, left_of, of_party, numbered_of, plain_of, command_of}
 use Rattle.script.specs.Language.{IsPartyNumber, IsWide, IsHex, SayCommand, Says}
 use Rattle.script.proofs.Options.{bind_some, some_bind, chosen, guarded_step}
 use Rattle.script.proofs.Words.{hex_found, hex_only}
 use Rattle.script.proofs.Fields.{same_name, word_found, number_at_found, number_at_only, whole_found, whole_only}
 
+-- a command that was given is the one that was said
+given : (ws : List (List ℕ)) (x o : CommandContent) → Some x ≡ Some o → SayCommand ws x → SayCommand ws o
+given ws x o e says =
+    let same : x ≡ o = cc in
+    subst (SayCommand ws) same says
+
+last_number_found : (ws : List (List ℕ)) (n : ℕ) → last_number ws ≡ Some n → (w : List ℕ) × (ws ≡ w ∷ []) × IsWide w n
+unfolding last_number
+last_number_found ws n e =
+    let v = bind_some (number_at most_wide ws) (λ v. whole v.0 v.1) n e in
+    let a = number_at_found most_wide ws v.0 v.1 in
+    let end = whole_found v.0.0 v.0.1 n v.2 in
+    (a.0, a.1 ∙ ap (λ rest. a.0 ∷ rest) end.0, subst (IsWide a.0) end.1 a.2)
+
+last_number_only : (w : List ℕ) (n : ℕ) → IsWide w n → last_number (w ∷ []) ≡ Some n
+unfolding last_number
+last_number_only w n is = some_bind (number_at most_wide (w ∷ [])) _ (n, []) (number_at_only most_wide w [] n is) ∙ whole_only n
+
 send_found : (ws : List (List ℕ)) (o : CommandContent) → send_of ws ≡ Some o → SayCommand (codes "send" ∷ ws) o
 unfolding send_of
 send_found ws o e =
-    let now = bind_some (number_at most_wide ws) (λ now. whole (Send now.0) now.1) o e in
-    let a = number_at_found most_wide ws now.0 now.1 in
-    let end = whole_found (Send now.0.0) now.0.1 o now.2 in
-    subst (SayCommand (codes "send" ∷ ws)) end.1 (a.0, ap (λ rest. codes "send" ∷ rest) (a.1 ∙ ap (λ rest. a.0 ∷ rest) end.0), a.2)
-
-poll_found : (ws : List (List ℕ)) (o : CommandContent) → poll_of ws ≡ Some o → SayCommand (codes "poll" ∷ ws) o
-unfolding poll_of
-poll_found ws o e =
-    let r = bind_some (number_at 7 ws) (λ r. whole (Poll r.0) r.1) o e in
-    let a = number_at_found 7 ws r.0 r.1 in
-    let end = whole_found (Poll r.0.0) r.0.1 o r.2 in
-    subst (SayCommand (codes "poll" ∷ ws)) end.1 (a.0, ap (λ rest. codes "poll" ∷ rest) (a.1 ∙ ap (λ rest. a.0 ∷ rest) end.0), a.2)
-
-image_found : (ws : List (List ℕ)) (o : CommandContent) → image_of ws ≡ Some o → SayCommand (codes "image" ∷ ws) o
-unfolding image_of
-image_found ws o e =
-    let r = bind_some (number_at 7 ws) (λ r. whole (Image r.0) r.1) o e in
-    let a = number_at_found 7 ws r.0 r.1 in
-    let end = whole_found (Image r.0.0) r.0.1 o r.2 in
-    subst (SayCommand (codes "image" ∷ ws)) end.1 (a.0, ap (λ rest. codes "image" ∷ rest) (a.1 ∙ ap (λ rest. a.0 ∷ rest) end.0), a.2)
-
-tick_found : (ws : List (List ℕ)) (o : CommandContent) → tick_of ws ≡ Some o → SayCommand (codes "tick" ∷ ws) o
-unfolding tick_of
-tick_found ws o e =
-    let r = bind_some (number_at 7 ws) (λ r. number_at most_wide r.1 >>= λ now. whole (Tick r.0 now.0) now.1) o e in
-    let a = number_at_found 7 ws r.0 r.1 in
-    let now = bind_some (number_at most_wide r.0.1) (λ now. whole (Tick r.0.0 now.0) now.1) o r.2 in
-    let b = number_at_found most_wide r.0.1 now.0 now.1 in
-    let end = whole_found (Tick r.0.0 now.0.0) now.0.1 o now.2 in
-    subst (SayCommand (codes "tick" ∷ ws)) end.1
-    (a.0, b.0, ap (λ rest. codes "tick" ∷ rest) (a.1 ∙ ap (λ rest. a.0 ∷ rest) (b.1 ∙ ap (λ rest. b.0 ∷ rest) end.0)), a.2, b.2)
+    let now = bind_some (last_number ws) (λ now. Some (Send now)) o e in
+    let a = last_number_found ws now.0 now.1 in
+    given (codes "send" ∷ ws) (Send now.0) o now.2 (a.0, ap (λ rest. codes "send" ∷ rest) a.1, a.2)
 
 reply_found : (ws : List (List ℕ)) (o : CommandContent) → reply_of ws ≡ Some o → SayCommand (codes "reply" ∷ ws) o
 unfolding reply_of
 reply_found ws o e =
-    let k = bind_some (number_at most_wide ws) (λ k. number_at most_wide k.1 >>= λ now. whole (Reply k.0 now.0) now.1) o e in
+    let k = bind_some (number_at most_wide ws) (λ k. last_number k.1 >>= λ now. Some (Reply k.0 now)) o e in
     let a = number_at_found most_wide ws k.0 k.1 in
-    let now = bind_some (number_at most_wide k.0.1) (λ now. whole (Reply k.0.0 now.0) now.1) o k.2 in
-    let b = number_at_found most_wide k.0.1 now.0 now.1 in
-    let end = whole_found (Reply k.0.0 now.0.0) now.0.1 o now.2 in
-    subst (SayCommand (codes "reply" ∷ ws)) end.1
-    (a.0, b.0, ap (λ rest. codes "reply" ∷ rest) (a.1 ∙ ap (λ rest. a.0 ∷ rest) (b.1 ∙ ap (λ rest. b.0 ∷ rest) end.0)), a.2, b.2)
+    let now = bind_some (last_number k.0.1) (λ now. Some (Reply k.0.0 now)) o k.2 in
+    let b = last_number_found k.0.1 now.0 now.1 in
+    given (codes "reply" ∷ ws) (Reply k.0.0 now.0) o now.2
+    (a.0, b.0, ap (λ rest. codes "reply" ∷ rest) (a.1 ∙ ap (λ rest. a.0 ∷ rest) b.1), a.2, b.2)
 
 deliver_found : (ws : List (List ℕ)) (o : CommandContent) → deliver_of ws ≡ Some o → SayCommand (codes "deliver" ∷ ws) o
 unfolding deliver_of
 deliver_found ws o e =
-    let k = bind_some (number_at most_wide ws) (λ k. number_at 7 k.1 >>= λ r. number_at most_wide r.1 >>= λ now. whole (Deliver k.0 r.0 now.0) now.1) o e in
+    let k = bind_some (number_at most_wide ws) (λ k. number_at 7 k.1 >>= λ r. last_number r.1 >>= λ now. Some (Deliver k.0 r.0 now)) o e in
     let a = number_at_found most_wide ws k.0 k.1 in
-    let r = bind_some (number_at 7 k.0.1) (λ r. number_at most_wide r.1 >>= λ now. whole (Deliver k.0.0 r.0 now.0) now.1) o k.2 in
+    let r = bind_some (number_at 7 k.0.1) (λ r. last_number r.1 >>= λ now. Some (Deliver k.0.0 r.0 now)) o k.2 in
     let b = number_at_found 7 k.0.1 r.0 r.1 in
-    let now = bind_some (number_at most_wide r.0.1) (λ now. whole (Deliver k.0.0 r.0.0 now.0) now.1) o r.2 in
-    let c = number_at_found most_wide r.0.1 now.0 now.1 in
-    let end = whole_found (Deliver k.0.0 r.0.0 now.0.0) now.0.1 o now.2 in
-    subst (SayCommand (codes "deliver" ∷ ws)) end.1
-    (a.0, b.0, c.0, ap (λ rest. codes "deliver" ∷ rest) (a.1 ∙ ap (λ rest. a.0 ∷ rest) (b.1 ∙ ap (λ rest. b.0 ∷ rest) (c.1 ∙ ap (λ rest. c.0 ∷ rest) end.0))), a.2, b.2, c.2)
-
-commit_found : (ws : List (List ℕ)) (o : CommandContent) → commit_of ws ≡ Some o → SayCommand (codes "commit" ∷ ws) o
-unfolding commit_of
-commit_found ws o e =
-    let r = bind_some (number_at 7 ws) (λ r. whole (Commit r.0) r.1) o e in
-    let a = number_at_found 7 ws r.0 r.1 in
-    let end = whole_found (Commit r.0.0) r.0.1 o r.2 in
-    subst (SayCommand (codes "commit" ∷ ws)) end.1 (a.0, ap (λ rest. codes "commit" ∷ rest) (a.1 ∙ ap (λ rest. a.0 ∷ rest) end.0), a.2)
-
-abort_found : (ws : List (List ℕ)) (o : CommandContent) → abort_of ws ≡ Some o → SayCommand (codes "abort" ∷ ws) o
-unfolding abort_of
-abort_found ws o e =
-    let r = bind_some (number_at 7 ws) (λ r. whole (Abort r.0) r.1) o e in
-    let a = number_at_found 7 ws r.0 r.1 in
-    let end = whole_found (Abort r.0.0) r.0.1 o r.2 in
-    subst (SayCommand (codes "abort" ∷ ws)) end.1 (a.0, ap (λ rest. codes "abort" ∷ rest) (a.1 ∙ ap (λ rest. a.0 ∷ rest) end.0), a.2)
-
-claim_found : (ws : List (List ℕ)) (o : CommandContent) → claim_of ws ≡ Some o → SayCommand (codes "claim" ∷ ws) o
-unfolding claim_of
-claim_found ws o e =
-    let r = bind_some (number_at 7 ws) (λ r. number_at most_wide r.1 >>= λ n. whole (Claim r.0 n.0) n.1) o e in
-    let a = number_at_found 7 ws r.0 r.1 in
-    let n = bind_some (number_at most_wide r.0.1) (λ n. whole (Claim r.0.0 n.0) n.1) o r.2 in
-    let b = number_at_found most_wide r.0.1 n.0 n.1 in
-    let end = whole_found (Claim r.0.0 n.0.0) n.0.1 o n.2 in
-    subst (SayCommand (codes "claim" ∷ ws)) end.1
-    (a.0, b.0, ap (λ rest. codes "claim" ∷ rest) (a.1 ∙ ap (λ rest. a.0 ∷ rest) (b.1 ∙ ap (λ rest. b.0 ∷ rest) end.0)), a.2, b.2)
-
-read_found : (ws : List (List ℕ)) (o : CommandContent) → read_of ws ≡ Some o → SayCommand (codes "read" ∷ ws) o
-unfolding read_of
-read_found ws o e =
-    let r = bind_some (number_at 7 ws) (λ r. reader_of r.0 r.1) o e in
-    let a = number_at_found 7 ws r.0 r.1 in
-    let h = guarded_step (nat_lt 0 r.0.0) (whole (Read r.0.0) r.0.1) o r.2 in
-    let end = whole_found (Read r.0.0) r.0.1 o h.1 in
-    subst (SayCommand (codes "read" ∷ ws)) end.1 (a.0, ap (λ rest. codes "read" ∷ rest) (a.1 ∙ ap (λ rest. a.0 ∷ rest) end.0), (a.2, ltb-true 0 r.0.0 h.0))
+    let now = bind_some (last_number r.0.1) (λ now. Some (Deliver k.0.0 r.0.0 now)) o r.2 in
+    let c = last_number_found r.0.1 now.0 now.1 in
+    given (codes "deliver" ∷ ws) (Deliver k.0.0 r.0.0 now.0) o now.2
+    (a.0, b.0, c.0, ap (λ rest. codes "deliver" ∷ rest) (a.1 ∙ ap (λ rest. a.0 ∷ rest) (b.1 ∙ ap (λ rest. b.0 ∷ rest) c.1)), a.2, b.2, c.2)
 
 -- the words of an offer, whose form passes a test
 offered : (a form name b : List ℕ) (ws : List (List ℕ)) → bytes_eq form name ≡ true → ws ≡ b ∷ [] → codes "offer" ∷ a ∷ form ∷ ws ≡ codes "offer" ∷ a ∷ name ∷ b ∷ []
@@ -156,10 +108,10 @@ raw_back_found ws o e =
 size_offered : (p : ℕ) (ws : List (List ℕ)) (o : CommandContent) → offer_size_of p ws ≡ Some o → (b : List ℕ) × (n : ℕ) × (ws ≡ b ∷ []) × IsWide b n × (OfferSize p n ≡ o)
 unfolding offer_size_of
 size_offered p ws o e =
-    let size = bind_some (number_at most_wide ws) (λ size. whole (OfferSize p size.0) size.1) o e in
-    let b = number_at_found most_wide ws size.0 size.1 in
-    let end = whole_found (OfferSize p size.0.0) size.0.1 o size.2 in
-    (b.0, size.0.0, b.1 ∙ ap (λ rest. b.0 ∷ rest) end.0, b.2, end.1)
+    let size = bind_some (last_number ws) (λ size. Some (OfferSize p size)) o e in
+    let b = last_number_found ws size.0 size.1 in
+    let same : OfferSize p size.0 ≡ o = cc in
+    (b.0, size.0, b.1, b.2, same)
 
 -- an offer, behind its publisher
 form_found : (a : List ℕ) (p : ℕ) (form : List ℕ) (ws : List (List ℕ)) (o : CommandContent) → IsPartyNumber a p → form_of p form ws ≡ Some o → SayCommand (codes "offer" ∷ a ∷ form ∷ ws) o
@@ -187,82 +139,86 @@ offer_found ws o e =
 named_says : (name : List ℕ) (word : List ℕ) (ws : List (List ℕ)) (o : CommandContent) → bytes_eq name word ≡ true → SayCommand (word ∷ ws) o → SayCommand (name ∷ ws) o
 named_says name word ws o e says = subst (λ n. SayCommand (n ∷ ws) o) (sym (same_name name word e)) says
 
-connect_found : (ws : List (List ℕ)) (o : CommandContent) → whole Connect ws ≡ Some o → SayCommand (codes "connect" ∷ ws) o
-connect_found ws o e =
-    let end = whole_found Connect ws o e in
-    subst (SayCommand (codes "connect" ∷ ws)) end.1 (ap (λ rest. codes "connect" ∷ rest) end.0)
-
-disconnect_found : (ws : List (List ℕ)) (o : CommandContent) → whole Disconnect ws ≡ Some o → SayCommand (codes "disconnect" ∷ ws) o
-disconnect_found ws o e =
-    let end = whole_found Disconnect ws o e in
-    subst (SayCommand (codes "disconnect" ∷ ws)) end.1 (ap (λ rest. codes "disconnect" ∷ rest) end.0)
-
-close_found : (ws : List (List ℕ)) (o : CommandContent) → whole Close ws ≡ Some o → SayCommand (codes "close" ∷ ws) o
-close_found ws o e =
-    let end = whole_found Close ws o e in
-    subst (SayCommand (codes "close" ∷ ws)) end.1 (ap (λ rest. codes "close" ∷ rest) end.0)
-
-limit_found : (ws : List (List ℕ)) (o : CommandContent) → whole Limit ws ≡ Some o → SayCommand (codes "limit" ∷ ws) o
-limit_found ws o e =
-    let end = whole_found Limit ws o e in
-    subst (SayCommand (codes "limit" ∷ ws)) end.1 (ap (λ rest. codes "limit" ∷ rest) end.0)
-
--- what stands behind the names of the claims and the readers
-later_of : List ℕ → List (List ℕ) → Option CommandContent
-later_of name ws =
-    cond (bytes_eq name (codes "claim")) (claim_of ws)
-    (cond (bytes_eq name (codes "commit")) (commit_of ws)
-    (cond (bytes_eq name (codes "abort")) (abort_of ws)
-    (cond (bytes_eq name (codes "read")) (read_of ws) None)))
-
-named_later : (name : List ℕ) (ws : List (List ℕ)) (o : CommandContent) → later_of name ws ≡ Some o → SayCommand (name ∷ ws) o
-unfolding later_of
-named_later name ws o e = elim (chosen (bytes_eq name (codes "claim")) _ _ _ e) [
-  | inl h ↦ named_says name (codes "claim") ws o h.0 (claim_found ws o h.1)
-  | inr f1 ↦ elim (chosen (bytes_eq name (codes "commit")) _ _ _ f1.1) [
-    | inl h ↦ named_says name (codes "commit") ws o h.0 (commit_found ws o h.1)
-    | inr f2 ↦ elim (chosen (bytes_eq name (codes "abort")) _ _ _ f2.1) [
-      | inl h ↦ named_says name (codes "abort") ws o h.0 (abort_found ws o h.1)
+bare_found : (name : List ℕ) (o : CommandContent) → bare_of name ≡ Some o → SayCommand (name ∷ []) o
+unfolding bare_of
+bare_found name o e = elim (chosen (bytes_eq name (codes "connect")) _ _ _ e) [
+  | inl h ↦ named_says name (codes "connect") [] o h.0 (given (codes "connect" ∷ []) Connect o h.1 refl)
+  | inr f1 ↦ elim (chosen (bytes_eq name (codes "disconnect")) _ _ _ f1.1) [
+    | inl h ↦ named_says name (codes "disconnect") [] o h.0 (given (codes "disconnect" ∷ []) Disconnect o h.1 refl)
+    | inr f2 ↦ elim (chosen (bytes_eq name (codes "close")) _ _ _ f2.1) [
+      | inl h ↦ named_says name (codes "close") [] o h.0 (given (codes "close" ∷ []) Close o h.1 refl)
       | inr f3 ↦
-          let h = guarded_step (bytes_eq name (codes "read")) (read_of ws) o f3.1 in
-          named_says name (codes "read") ws o h.0 (read_found ws o h.1)
+          let h = guarded_step (bytes_eq name (codes "limit")) (Some Limit) o f3.1 in
+          named_says name (codes "limit") [] o h.0 (given (codes "limit" ∷ []) Limit o h.1 refl)
+    ]
+  ]
+]
+
+both : (a b : Bool) → (a && b) ≡ true → (a ≡ true) × (b ≡ true)
+both true b e = (refl, e)
+both false b e = absurd (cc)
+
+party_alone_found : (name a : List ℕ) (p : ℕ) (o : CommandContent) → IsPartyNumber a p → party_alone_of name p ≡ Some o → SayCommand (name ∷ a ∷ []) o
+unfolding party_alone_of
+party_alone_found name a p o is e = elim (chosen (bytes_eq name (codes "commit")) _ _ _ e) [
+  | inl h ↦ named_says name (codes "commit") (a ∷ []) o h.0 (given (codes "commit" ∷ a ∷ []) (Commit p) o h.1 (a, refl, is))
+  | inr f1 ↦ elim (chosen (bytes_eq name (codes "abort")) _ _ _ f1.1) [
+    | inl h ↦ named_says name (codes "abort") (a ∷ []) o h.0 (given (codes "abort" ∷ a ∷ []) (Abort p) o h.1 (a, refl, is))
+    | inr f2 ↦ elim (chosen (bytes_eq name (codes "poll")) _ _ _ f2.1) [
+      | inl h ↦ named_says name (codes "poll") (a ∷ []) o h.0 (given (codes "poll" ∷ a ∷ []) (Poll p) o h.1 (a, refl, is))
+      | inr f3 ↦ elim (chosen (bytes_eq name (codes "image")) _ _ _ f3.1) [
+        | inl h ↦ named_says name (codes "image") (a ∷ []) o h.0 (given (codes "image" ∷ a ∷ []) (Image p) o h.1 (a, refl, is))
+        | inr f4 ↦
+            let h = guarded_step (bytes_eq name (codes "read") && nat_lt 0 p) (Some (Read p)) o f4.1 in
+            let t = both (bytes_eq name (codes "read")) (nat_lt 0 p) h.0 in
+            named_says name (codes "read") (a ∷ []) o t.0 (given (codes "read" ∷ a ∷ []) (Read p) o h.1 (a, refl, (is, ltb-true 0 p t.1)))
+      ]
+    ]
+  ]
+]
+
+party_and_number_found : (name a b : List ℕ) (p n : ℕ) (o : CommandContent) → IsPartyNumber a p → IsWide b n → party_and_number_of name p n ≡ Some o → SayCommand (name ∷ a ∷ b ∷ []) o
+unfolding party_and_number_of
+party_and_number_found name a b p n o is_a is_b e = elim (chosen (bytes_eq name (codes "claim")) _ _ _ e) [
+  | inl h ↦ named_says name (codes "claim") (a ∷ b ∷ []) o h.0 (given (codes "claim" ∷ a ∷ b ∷ []) (Claim p n) o h.1 (a, b, refl, is_a, is_b))
+  | inr f1 ↦
+      let h = guarded_step (bytes_eq name (codes "tick")) (Some (Tick p n)) o f1.1 in
+      named_says name (codes "tick") (a ∷ b ∷ []) o h.0 (given (codes "tick" ∷ a ∷ b ∷ []) (Tick p n) o h.1 (a, b, refl, is_a, is_b))
+]
+
+behind_party : (name a : List ℕ) (p : ℕ) (ws : List (List ℕ)) (o : CommandContent) → IsPartyNumber a p
+    → left_of (end_of ws) (party_alone_of name p) (last_number ws >>= λ n. party_and_number_of name p n) ≡ Some o → SayCommand (name ∷ a ∷ ws) o
+unfolding end_of
+behind_party name a p [] o is e = party_alone_found name a p o is e
+behind_party name a p (w ∷ ws) o is e =
+    let n = bind_some (last_number (w ∷ ws)) (λ n. party_and_number_of name p n) o e in
+    let b = last_number_found (w ∷ ws) n.0 n.1 in
+    subst (λ rest. SayCommand (name ∷ a ∷ rest) o) (sym b.1) (party_and_number_found name a b.0 p n.0 o is b.2 n.2)
+
+of_party_found : (name : List ℕ) (ws : List (List ℕ)) (o : CommandContent) → of_party name ws ≡ Some o → SayCommand (name ∷ ws) o
+unfolding of_party
+of_party_found name ws o e =
+    let p = bind_some (number_at 7 ws) (λ p. left_of (end_of p.1) (party_alone_of name p.0) (last_number p.1 >>= λ n. party_and_number_of name p.0 n)) o e in
+    let a = number_at_found 7 ws p.0 p.1 in
+    subst (λ ws. SayCommand (name ∷ ws) o) (sym a.1) (behind_party name a.0 p.0.0 p.0.1 o a.2 p.2)
+
+numbered_found : (name : List ℕ) (ws : List (List ℕ)) (o : CommandContent) → numbered_of name ws ≡ Some o → SayCommand (name ∷ ws) o
+unfolding numbered_of
+numbered_found name ws o e = elim (chosen (bytes_eq name (codes "send")) _ _ _ e) [
+  | inl h ↦ named_says name (codes "send") ws o h.0 (send_found ws o h.1)
+  | inr f1 ↦ elim (chosen (bytes_eq name (codes "deliver")) _ _ _ f1.1) [
+    | inl h ↦ named_says name (codes "deliver") ws o h.0 (deliver_found ws o h.1)
+    | inr f2 ↦ elim (chosen (bytes_eq name (codes "reply")) _ _ _ f2.1) [
+      | inl h ↦ named_says name (codes "reply") ws o h.0 (reply_found ws o h.1)
+      | inr h ↦ of_party_found name ws o h.1
     ]
   ]
 ]
 
 plain_found : (name : List ℕ) (ws : List (List ℕ)) (o : CommandContent) → plain_of name ws ≡ Some o → SayCommand (name ∷ ws) o
-unfolding plain_of later_of
-plain_found name ws o e = elim (chosen (bytes_eq name (codes "connect")) _ _ _ e) [
-  | inl h ↦ named_says name (codes "connect") ws o h.0 (connect_found ws o h.1)
-  | inr f1 ↦ elim (chosen (bytes_eq name (codes "disconnect")) _ _ _ f1.1) [
-    | inl h ↦ named_says name (codes "disconnect") ws o h.0 (disconnect_found ws o h.1)
-    | inr f2 ↦ elim (chosen (bytes_eq name (codes "close")) _ _ _ f2.1) [
-      | inl h ↦ named_says name (codes "close") ws o h.0 (close_found ws o h.1)
-      | inr f3 ↦ elim (chosen (bytes_eq name (codes "limit")) _ _ _ f3.1) [
-        | inl h ↦ named_says name (codes "limit") ws o h.0 (limit_found ws o h.1)
-        | inr f4 ↦ elim (chosen (bytes_eq name (codes "send")) _ _ _ f4.1) [
-          | inl h ↦ named_says name (codes "send") ws o h.0 (send_found ws o h.1)
-          | inr f5 ↦ elim (chosen (bytes_eq name (codes "deliver")) _ _ _ f5.1) [
-            | inl h ↦ named_says name (codes "deliver") ws o h.0 (deliver_found ws o h.1)
-            | inr f6 ↦ elim (chosen (bytes_eq name (codes "tick")) _ _ _ f6.1) [
-              | inl h ↦ named_says name (codes "tick") ws o h.0 (tick_found ws o h.1)
-              | inr f7 ↦ elim (chosen (bytes_eq name (codes "reply")) _ _ _ f7.1) [
-                | inl h ↦ named_says name (codes "reply") ws o h.0 (reply_found ws o h.1)
-                | inr f8 ↦ elim (chosen (bytes_eq name (codes "poll")) _ _ _ f8.1) [
-                  | inl h ↦ named_says name (codes "poll") ws o h.0 (poll_found ws o h.1)
-                  | inr f9 ↦ elim (chosen (bytes_eq name (codes "image")) _ _ _ f9.1) [
-                    | inl h ↦ named_says name (codes "image") ws o h.0 (image_found ws o h.1)
-                    | inr f10 ↦ named_later name ws o f10.1
-                  ]
-                ]
-              ]
-            ]
-          ]
-        ]
-      ]
-    ]
-  ]
-]
+unfolding plain_of end_of
+plain_found name [] o e = bare_found name o e
+plain_found name (w ∷ ws) o e = numbered_found name (w ∷ ws) o e
 
 named_found : (name : List ℕ) (ws : List (List ℕ)) (o : CommandContent) → named_of name ws ≡ Some o → SayCommand (name ∷ ws) o
 unfolding named_of
@@ -289,11 +245,11 @@ read_words : List (List ℕ) → Option CommandContent
 read_words ws = word_at ws >>= λ name. named_of name.0 name.1
 
 words_only : (ws : List (List ℕ)) (command : CommandContent) → SayCommand ws command → read_words ws ≡ Some command
-unfolding read_words word_at named_of plain_of offer_of form_of raw_of raw_back_of offer_hex_of offer_size_of claim_of commit_of abort_of read_of send_of deliver_of tick_of reply_of poll_of image_of
-words_only ws Connect is = ap read_words is ∙ whole_only Connect
-words_only ws Disconnect is = ap read_words is ∙ whole_only Disconnect
-words_only ws Close is = ap read_words is ∙ whole_only Close
-words_only ws Limit is = ap read_words is ∙ whole_only Limit
+unfolding read_words word_at end_of named_of plain_of bare_of numbered_of of_party party_alone_of party_and_number_of offer_of form_of raw_of raw_back_of offer_hex_of offer_size_of send_of deliver_of reply_of
+words_only ws Connect is = ap read_words is
+words_only ws Disconnect is = ap read_words is
+words_only ws Close is = ap read_words is
+words_only ws Limit is = ap read_words is
 words_only ws (Offer p m) (a, b, is, is_a, is_b) =
     ap read_words is
     ∙ some_bind (number_at 7 (a ∷ codes "hex" ∷ b ∷ [])) _ (p, codes "hex" ∷ b ∷ []) (number_at_only 7 a (codes "hex" ∷ b ∷ []) p is_a)
@@ -301,25 +257,22 @@ words_only ws (Offer p m) (a, b, is, is_a, is_b) =
 words_only ws (OfferSize p n) (a, b, is, is_a, is_b) =
     ap read_words is
     ∙ some_bind (number_at 7 (a ∷ codes "size" ∷ b ∷ [])) _ (p, codes "size" ∷ b ∷ []) (number_at_only 7 a (codes "size" ∷ b ∷ []) p is_a)
-    ∙ some_bind (number_at most_wide (b ∷ [])) _ (n, []) (number_at_only most_wide b [] n is_b) ∙ whole_only (OfferSize p n)
+    ∙ some_bind (last_number (b ∷ [])) _ n (last_number_only b n is_b)
 words_only ws (Claim p n) (a, b, is, is_a, is_b) =
     ap read_words is
     ∙ some_bind (number_at 7 (a ∷ b ∷ [])) _ (p, b ∷ []) (number_at_only 7 a (b ∷ []) p is_a)
-    ∙ some_bind (number_at most_wide (b ∷ [])) _ (n, []) (number_at_only most_wide b [] n is_b) ∙ whole_only (Claim p n)
-words_only ws (Commit p) (a, is, is_a) =
-    ap read_words is ∙ some_bind (number_at 7 (a ∷ [])) _ (p, []) (number_at_only 7 a [] p is_a) ∙ whole_only (Commit p)
-words_only ws (Abort p) (a, is, is_a) =
-    ap read_words is ∙ some_bind (number_at 7 (a ∷ [])) _ (p, []) (number_at_only 7 a [] p is_a) ∙ whole_only (Abort p)
+    ∙ some_bind (last_number (b ∷ [])) _ n (last_number_only b n is_b)
+words_only ws (Commit p) (a, is, is_a) = ap read_words is ∙ some_bind (number_at 7 (a ∷ [])) _ (p, []) (number_at_only 7 a [] p is_a)
+words_only ws (Abort p) (a, is, is_a) = ap read_words is ∙ some_bind (number_at 7 (a ∷ [])) _ (p, []) (number_at_only 7 a [] p is_a)
 words_only ws (Read r) (a, is, (is_a, above)) =
     ap read_words is ∙ some_bind (number_at 7 (a ∷ [])) _ (r, []) (number_at_only 7 a [] r is_a)
-    ∙ cond-true (nat_lt 0 r) (whole (Read r) []) None (lt-ltb 0 r above) ∙ whole_only (Read r)
-words_only ws (Send now) (a, is, is_a) =
-    ap read_words is ∙ some_bind (number_at most_wide (a ∷ [])) _ (now, []) (number_at_only most_wide a [] now is_a) ∙ whole_only (Send now)
+    ∙ cond-true (nat_lt 0 r) (Some (Read r)) None (lt-ltb 0 r above)
+words_only ws (Send now) (a, is, is_a) = ap read_words is ∙ some_bind (last_number (a ∷ [])) _ now (last_number_only a now is_a)
 words_only ws (Deliver k r now) (a, b, c, is, is_a, is_b, is_c) =
     ap read_words is
     ∙ some_bind (number_at most_wide (a ∷ b ∷ c ∷ [])) _ (k, b ∷ c ∷ []) (number_at_only most_wide a (b ∷ c ∷ []) k is_a)
     ∙ some_bind (number_at 7 (b ∷ c ∷ [])) _ (r, c ∷ []) (number_at_only 7 b (c ∷ []) r is_b)
-    ∙ some_bind (number_at most_wide (c ∷ [])) _ (now, []) (number_at_only most_wide c [] now is_c) ∙ whole_only (Deliver k r now)
+    ∙ some_bind (last_number (c ∷ [])) _ now (last_number_only c now is_c)
 words_only ws (Raw r now m) (a, b, c, is, is_a, is_b, is_c) =
     ap read_words is
     ∙ some_bind (number_at 7 (a ∷ b ∷ c ∷ [])) _ (r, b ∷ c ∷ []) (number_at_only 7 a (b ∷ c ∷ []) r is_a)
@@ -332,15 +285,13 @@ words_only ws (RawBack now m) (a, b, is, is_a, is_b) =
 words_only ws (Tick r now) (a, b, is, is_a, is_b) =
     ap read_words is
     ∙ some_bind (number_at 7 (a ∷ b ∷ [])) _ (r, b ∷ []) (number_at_only 7 a (b ∷ []) r is_a)
-    ∙ some_bind (number_at most_wide (b ∷ [])) _ (now, []) (number_at_only most_wide b [] now is_b) ∙ whole_only (Tick r now)
+    ∙ some_bind (last_number (b ∷ [])) _ now (last_number_only b now is_b)
 words_only ws (Reply k now) (a, b, is, is_a, is_b) =
     ap read_words is
     ∙ some_bind (number_at most_wide (a ∷ b ∷ [])) _ (k, b ∷ []) (number_at_only most_wide a (b ∷ []) k is_a)
-    ∙ some_bind (number_at most_wide (b ∷ [])) _ (now, []) (number_at_only most_wide b [] now is_b) ∙ whole_only (Reply k now)
-words_only ws (Poll r) (a, is, is_a) =
-    ap read_words is ∙ some_bind (number_at 7 (a ∷ [])) _ (r, []) (number_at_only 7 a [] r is_a) ∙ whole_only (Poll r)
-words_only ws (Image r) (a, is, is_a) =
-    ap read_words is ∙ some_bind (number_at 7 (a ∷ [])) _ (r, []) (number_at_only 7 a [] r is_a) ∙ whole_only (Image r)
+    ∙ some_bind (last_number (b ∷ [])) _ now (last_number_only b now is_b)
+words_only ws (Poll r) (a, is, is_a) = ap read_words is ∙ some_bind (number_at 7 (a ∷ [])) _ (r, []) (number_at_only 7 a [] r is_a)
+words_only ws (Image r) (a, is, is_a) = ap read_words is ∙ some_bind (number_at 7 (a ∷ [])) _ (r, []) (number_at_only 7 a [] r is_a)
 
 pub command_only : (line : List ℕ) (command : CommandContent) → Says line command → command_of line ≡ Some command
 unfolding command_of read_words

@@ -1,5 +1,5 @@
 -- Reading from the first line to the last, and in a line from the first word to the last.
-use Rattle.std.specs.Prelude.{◌≡◌, ℕ, ◌+◌, ◌-◌, ◌^◌, ℤ, Bool, false, nat_lt, List, [], ◌∷◌, ◌++◌, length, max, Option, Some, None, Result, Ok, Err, if◌then◌else◌, codes, bytes_eq}
+use Rattle.std.specs.Prelude.{◌≡◌, ℕ, ◌+◌, ◌-◌, ◌^◌, ℤ, Bool, false, nat_lt, ◌&&◌, List, [], ◌∷◌, ◌++◌, length, max, Option, Some, None, Result, Ok, Err, if◌then◌else◌, codes, bytes_eq}
 use Rattle.std.specs.List.{list_any}
 use Rattle.script.specs.declared.fault.ScriptFault.{ScriptFault}
 use Rattle.script.specs.declared.fault.ScriptFault.TheVariants as faults
@@ -45,6 +45,10 @@ end_of (word ∷ rest) = None
 abbrev pub whole : {A : Type 0} → A → List (List ℕ) → Option A
 whole x ws = end_of ws >>= λ _. Some x
 
+-- the number of the last word
+unfoldable pub last_number : List (List ℕ) → Option ℕ
+last_number ws = number_at most_wide ws >>= λ n. whole n.0 n.1
+
 -- the bytes of the last word
 unfoldable pub last_bytes : List (List ℕ) → Option (List ℕ)
 last_bytes ws = word_at ws >>= λ digits. hex_of digits.0 >>= λ bytes. whole bytes digits.1
@@ -54,44 +58,25 @@ unfoldable pub offer_hex_of : ℕ → List (List ℕ) → Option CommandContent
 offer_hex_of publisher ws = last_bytes ws >>= λ message. Some (Offer publisher message)
 
 unfoldable pub offer_size_of : ℕ → List (List ℕ) → Option CommandContent
-offer_size_of publisher ws = number_at most_wide ws >>= λ size. whole (OfferSize publisher size.0) size.1
+offer_size_of publisher ws = last_number ws >>= λ size. Some (OfferSize publisher size)
 
 unfoldable pub form_of : ℕ → List ℕ → List (List ℕ) → Option CommandContent
 form_of publisher form ws =
     if bytes_eq form (codes "hex") then offer_hex_of publisher ws
     else (if bytes_eq form (codes "size") then offer_size_of publisher ws else None)
 
--- what stands behind the name of each command
+-- what stands behind the names of some commands
 unfoldable pub offer_of : List (List ℕ) → Option CommandContent
 offer_of ws = number_at 7 ws >>= λ p. word_at p.1 >>= λ form. form_of p.0 form.0 form.1
 
-unfoldable pub claim_of : List (List ℕ) → Option CommandContent
-claim_of ws = number_at 7 ws >>= λ publisher. number_at most_wide publisher.1 >>= λ size. whole (Claim publisher.0 size.0) size.1
-
-unfoldable pub commit_of : List (List ℕ) → Option CommandContent
-commit_of ws = number_at 7 ws >>= λ publisher. whole (Commit publisher.0) publisher.1
-
-unfoldable pub abort_of : List (List ℕ) → Option CommandContent
-abort_of ws = number_at 7 ws >>= λ publisher. whole (Abort publisher.0) publisher.1
-
--- reader 0 is the sender, which no line names
-abbrev pub reader_of : ℕ → List (List ℕ) → Option CommandContent
-reader_of reader ws = if nat_lt 0 reader then whole (Read reader) ws else None
-
-unfoldable pub read_of : List (List ℕ) → Option CommandContent
-read_of ws = number_at 7 ws >>= λ reader. reader_of reader.0 reader.1
-
 unfoldable pub send_of : List (List ℕ) → Option CommandContent
-send_of ws = number_at most_wide ws >>= λ now. whole (Send now.0) now.1
+send_of ws = last_number ws >>= λ now. Some (Send now)
 
 unfoldable pub deliver_of : List (List ℕ) → Option CommandContent
-deliver_of ws = number_at most_wide ws >>= λ packet. number_at 7 packet.1 >>= λ receiver. number_at most_wide receiver.1 >>= λ now. whole (Deliver packet.0 receiver.0 now.0) now.1
-
-unfoldable pub tick_of : List (List ℕ) → Option CommandContent
-tick_of ws = number_at 7 ws >>= λ receiver. number_at most_wide receiver.1 >>= λ now. whole (Tick receiver.0 now.0) now.1
+deliver_of ws = number_at most_wide ws >>= λ packet. number_at 7 packet.1 >>= λ receiver. last_number receiver.1 >>= λ now. Some (Deliver packet.0 receiver.0 now)
 
 unfoldable pub reply_of : List (List ℕ) → Option CommandContent
-reply_of ws = number_at most_wide ws >>= λ packet. number_at most_wide packet.1 >>= λ now. whole (Reply packet.0 now.0) now.1
+reply_of ws = number_at most_wide ws >>= λ packet. last_number packet.1 >>= λ now. Some (Reply packet.0 now)
 
 unfoldable pub raw_of : List (List ℕ) → Option CommandContent
 raw_of ws = number_at 7 ws >>= λ receiver. number_at most_wide receiver.1 >>= λ now. last_bytes now.1 >>= λ bytes. Some (Raw receiver.0 now.0 bytes)
@@ -99,29 +84,47 @@ raw_of ws = number_at 7 ws >>= λ receiver. number_at most_wide receiver.1 >>= �
 unfoldable pub raw_back_of : List (List ℕ) → Option CommandContent
 raw_back_of ws = number_at most_wide ws >>= λ now. last_bytes now.1 >>= λ bytes. Some (RawBack now.0 bytes)
 
-unfoldable pub poll_of : List (List ℕ) → Option CommandContent
-poll_of ws = number_at 7 ws >>= λ receiver. whole (Poll receiver.0) receiver.1
+-- the command of a name behind which nothing stands
+unfoldable pub bare_of : List ℕ → Option CommandContent
+bare_of name =
+    if bytes_eq name (codes "connect") then Some Connect
+    else (if bytes_eq name (codes "disconnect") then Some Disconnect
+    else (if bytes_eq name (codes "close") then Some Close
+    else (if bytes_eq name (codes "limit") then Some Limit else None)))
 
-unfoldable pub image_of : List (List ℕ) → Option CommandContent
-image_of ws = number_at 7 ws >>= λ receiver. whole (Image receiver.0) receiver.1
+-- of a name behind which a party stands alone; reader 0 is the sender, which no line names
+unfoldable pub party_alone_of : List ℕ → ℕ → Option CommandContent
+party_alone_of name party =
+    if bytes_eq name (codes "commit") then Some (Commit party)
+    else (if bytes_eq name (codes "abort") then Some (Abort party)
+    else (if bytes_eq name (codes "poll") then Some (Poll party)
+    else (if bytes_eq name (codes "image") then Some (Image party)
+    else (if bytes_eq name (codes "read") && nat_lt 0 party then Some (Read party) else None))))
 
--- the command of a name, and of what stands behind it
-unfoldable pub plain_of : List ℕ → List (List ℕ) → Option CommandContent
-plain_of name ws =
-    if bytes_eq name (codes "connect") then whole Connect ws
-    else (if bytes_eq name (codes "disconnect") then whole Disconnect ws
-    else (if bytes_eq name (codes "close") then whole Close ws
-    else (if bytes_eq name (codes "limit") then whole Limit ws
-    else (if bytes_eq name (codes "send") then send_of ws
+-- of a name behind which a party and a number stand
+unfoldable pub party_and_number_of : List ℕ → ℕ → ℕ → Option CommandContent
+party_and_number_of name party number =
+    if bytes_eq name (codes "claim") then Some (Claim party number)
+    else (if bytes_eq name (codes "tick") then Some (Tick party number) else None)
+
+-- one of two, as nothing is left or something
+abbrev pub left_of : {A : Type 0} → Option (Unit {0}) → A → A → A
+left_of (Some _) nothing something = nothing
+left_of None nothing something = something
+
+unfoldable pub of_party : List ℕ → List (List ℕ) → Option CommandContent
+of_party name ws = number_at 7 ws >>= λ party.
+    left_of (end_of party.1) (party_alone_of name party.0) (last_number party.1 >>= λ number. party_and_number_of name party.0 number)
+
+-- of a name with words behind it
+unfoldable pub numbered_of : List ℕ → List (List ℕ) → Option CommandContent
+numbered_of name ws =
+    if bytes_eq name (codes "send") then send_of ws
     else (if bytes_eq name (codes "deliver") then deliver_of ws
-    else (if bytes_eq name (codes "tick") then tick_of ws
-    else (if bytes_eq name (codes "reply") then reply_of ws
-    else (if bytes_eq name (codes "poll") then poll_of ws
-    else (if bytes_eq name (codes "image") then image_of ws
-    else (if bytes_eq name (codes "claim") then claim_of ws
-    else (if bytes_eq name (codes "commit") then commit_of ws
-    else (if bytes_eq name (codes "abort") then abort_of ws
-    else (if bytes_eq name (codes "read") then read_of ws else None)))))))))))))
+    else (if bytes_eq name (codes "reply") then reply_of ws else of_party name ws))
+
+unfoldable pub plain_of : List ℕ → List (List ℕ) → Option CommandContent
+plain_of name ws = left_of (end_of ws) (bare_of name) (numbered_of name ws)
 
 -- of those that hold bytes, and the others
 unfoldable pub named_of : List ℕ → List (List ℕ) → Option CommandContent
@@ -133,12 +136,23 @@ named_of name ws =
 unfoldable pub command_of : List ℕ → Option CommandContent
 command_of line = word_at (words line) >>= λ name. named_of name.0 name.1
 
+-- how a log is shaped
+pub record ShapeContent : Type 0 where
+  pub term_length : ℕ
+  pub mtu : ℕ
+  pub initial_term_id : ℤ
+  pub start : ℕ
+
 -- the fields of the line that opens the log
+unfoldable pub shape_at : List (List ℕ) → Option (ShapeContent × List (List ℕ))
+shape_at ws =
+    number_at (2 ^ 32 - 1) ws >>= λ term_length. number_at (2 ^ 32 - 1) term_length.1 >>= λ mtu. signed_at mtu.1 >>= λ initial.
+    number_at most_wide initial.1 >>= λ start. Some (record { term_length = term_length.0; mtu = mtu.0; initial_term_id = initial.0; start = start.0 }, start.1)
+
 unfoldable pub opening_of : List (List ℕ) → Option Opening
 opening_of ws =
-    number_at (2 ^ 32 - 1) ws >>= λ term_length. number_at (2 ^ 32 - 1) term_length.1 >>= λ mtu. signed_at mtu.1 >>= λ initial.
-    number_at most_wide initial.1 >>= λ start. signed_at start.1 >>= λ session. signed_at session.1 >>= λ stream. number_at 7 stream.1 >>= λ readers.
-    whole (record { term_length = term_length.0; mtu = mtu.0; initial_term_id = initial.0; start = start.0; session = session.0; stream = stream.0; readers = readers.0 }) readers.1
+    shape_at ws >>= λ shape. signed_at shape.1 >>= λ session. signed_at session.1 >>= λ stream. number_at 7 stream.1 >>= λ readers.
+    whole (record { term_length = shape.0.term_length; mtu = shape.0.mtu; initial_term_id = shape.0.initial_term_id; start = shape.0.start; session = session.0; stream = stream.0; readers = readers.0 }) readers.1
 
 unfoldable pub log_of : List ℕ → Option Opening
 log_of line = word_at (words line) >>= λ name. (if bytes_eq name.0 (codes "log") then opening_of name.1 else None)

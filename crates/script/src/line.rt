@@ -1,7 +1,7 @@
 ghost use Rattle.std.specs.Prelude.{◌≡◌, ◌^◌, ◌≤◌, IfSome};
 ghost use Rattle.script.specs.Meaning.{opening, content_of};
-ghost use Rattle.script.specs.Reading.{ReturnsRead, GivesAt, number_at, signed_at, last_bytes, offer_hex_of, offer_size_of, form_of, offer_of, raw_of, raw_back_of, named_of, claim_of, commit_of, abort_of, read_of, send_of, deliver_of, tick_of, reply_of, poll_of, image_of, plain_of, command_of, opening_of, log_of, is_log};
-ghost use Rattle.script.specs.Rests.{words_left};
+ghost use Rattle.script.specs.Reading.{ReturnsRead, GivesAt, number_at, signed_at, last_number, last_bytes, offer_hex_of, offer_size_of, form_of, offer_of, raw_of, raw_back_of, named_of, send_of, deliver_of, reply_of, bare_of, party_alone_of, party_and_number_of, of_party, numbered_of, plain_of, command_of, shape_at, opening_of, log_of, is_log};
+ghost use Rattle.script.specs.Rests.{shaped, words_left};
 
 use crate::command::{Command, LogLine, PartyNumber};
 use crate::fault::ScriptFault;
@@ -41,52 +41,21 @@ fn party_number_at(words: Words<'_>) -> Option<(PartyNumber, Words<'_>)>
     Some((party, rest))
 }
 
-#[tactic(auto, unfolding(crate::specs::Reading::claim_of))]
-fn claim(words: Words<'_>) -> Option<Command>
-    ensures { ReturnsRead content_of result (claim_of (words_left words.entry)) }
+/// The number that the only word spells, if it is one of 64 bits.
+#[tactic(auto, unfolding(crate::specs::Reading::last_number))]
+fn last_number(words: Words<'_>) -> Option<u64>
+    ensures { ReturnsRead (λ found. found) result (last_number (words_left words.entry)) }
 {
-    let (publisher, rest) = party_number_at(words)?;
-    let (size, rest) = number_at(rest, u64::MAX)?;
+    let (value, rest) = number_at(words, u64::MAX)?;
     rest.end()?;
-    Some(Command::Claim { publisher, size })
-}
-
-#[tactic(auto, unfolding(crate::specs::Reading::commit_of))]
-fn commit(words: Words<'_>) -> Option<Command>
-    ensures { ReturnsRead content_of result (commit_of (words_left words.entry)) }
-{
-    let (publisher, rest) = party_number_at(words)?;
-    rest.end()?;
-    Some(Command::Commit { publisher })
-}
-
-#[tactic(auto, unfolding(crate::specs::Reading::abort_of))]
-fn abort(words: Words<'_>) -> Option<Command>
-    ensures { ReturnsRead content_of result (abort_of (words_left words.entry)) }
-{
-    let (publisher, rest) = party_number_at(words)?;
-    rest.end()?;
-    Some(Command::Abort { publisher })
-}
-
-#[tactic(auto, unfolding(crate::specs::Reading::read_of))]
-fn read(words: Words<'_>) -> Option<Command>
-    ensures { ReturnsRead content_of result (read_of (words_left words.entry)) }
-{
-    let (reader, rest) = party_number_at(words)?;
-    if reader.number == 0 {
-        return None;
-    }
-    rest.end()?;
-    Some(Command::Read { reader })
+    Some(value)
 }
 
 #[tactic(auto, unfolding(crate::specs::Reading::send_of))]
 fn send(words: Words<'_>) -> Option<Command>
     ensures { ReturnsRead content_of result (send_of (words_left words.entry)) }
 {
-    let (now, rest) = number_at(words, u64::MAX)?;
-    rest.end()?;
+    let now = last_number(words)?;
     Some(Command::Send { now })
 }
 
@@ -96,8 +65,7 @@ fn deliver(words: Words<'_>) -> Option<Command>
 {
     let (packet, rest) = number_at(words, u64::MAX)?;
     let (receiver, rest) = party_number_at(rest)?;
-    let (now, rest) = number_at(rest, u64::MAX)?;
-    rest.end()?;
+    let now = last_number(rest)?;
     Some(Command::Deliver {
         packet,
         receiver,
@@ -105,42 +73,13 @@ fn deliver(words: Words<'_>) -> Option<Command>
     })
 }
 
-#[tactic(auto, unfolding(crate::specs::Reading::tick_of))]
-fn tick(words: Words<'_>) -> Option<Command>
-    ensures { ReturnsRead content_of result (tick_of (words_left words.entry)) }
-{
-    let (receiver, rest) = party_number_at(words)?;
-    let (now, rest) = number_at(rest, u64::MAX)?;
-    rest.end()?;
-    Some(Command::Tick { receiver, now })
-}
-
 #[tactic(auto, unfolding(crate::specs::Reading::reply_of))]
 fn reply(words: Words<'_>) -> Option<Command>
     ensures { ReturnsRead content_of result (reply_of (words_left words.entry)) }
 {
     let (packet, rest) = number_at(words, u64::MAX)?;
-    let (now, rest) = number_at(rest, u64::MAX)?;
-    rest.end()?;
+    let now = last_number(rest)?;
     Some(Command::Reply { packet, now })
-}
-
-#[tactic(auto, unfolding(crate::specs::Reading::poll_of))]
-fn poll(words: Words<'_>) -> Option<Command>
-    ensures { ReturnsRead content_of result (poll_of (words_left words.entry)) }
-{
-    let (receiver, rest) = party_number_at(words)?;
-    rest.end()?;
-    Some(Command::Poll { receiver })
-}
-
-#[tactic(auto, unfolding(crate::specs::Reading::image_of))]
-fn image(words: Words<'_>) -> Option<Command>
-    ensures { ReturnsRead content_of result (image_of (words_left words.entry)) }
-{
-    let (receiver, rest) = party_number_at(words)?;
-    rest.end()?;
-    Some(Command::Image { receiver })
 }
 
 /// The bytes that the last word spells, of the line with this number.
@@ -199,8 +138,7 @@ fn offer_hex(
 fn offer_size(publisher: PartyNumber, words: Words<'_>) -> Option<Command>
     ensures { ReturnsRead content_of result (offer_size_of publisher.number (words_left words.entry)) }
 {
-    let (size, rest) = number_at(words, u64::MAX)?;
-    rest.end()?;
+    let size = last_number(words)?;
     Some(Command::OfferSize { publisher, size })
 }
 
@@ -235,45 +173,100 @@ fn offer(alloc: Global, number: u64, words: Words<'_>) -> Result<Command, Script
     offer_in_form(alloc, number, publisher, form, rest)
 }
 
+/// The command of this name, behind which nothing stands.
+#[tactic(auto, unfolding(crate::specs::Reading::bare_of))]
+fn bare(name: &[u8]) -> Option<Command>
+    ensures { ReturnsRead content_of result (bare_of name.now) }
+{
+    if name == b"connect".as_slice() {
+        Some(Command::Connect)
+    } else if name == b"disconnect".as_slice() {
+        Some(Command::Disconnect)
+    } else if name == b"close".as_slice() {
+        Some(Command::Close)
+    } else if name == b"limit".as_slice() {
+        Some(Command::Limit)
+    } else {
+        None
+    }
+}
+
+/// The command of this name, behind which a party stands alone.
+#[tactic(auto, unfolding(crate::specs::Reading::party_alone_of))]
+fn party_alone(name: &[u8], party: PartyNumber) -> Option<Command>
+    ensures { ReturnsRead content_of result (party_alone_of name.now party.number) }
+{
+    if name == b"commit".as_slice() {
+        Some(Command::Commit { publisher: party })
+    } else if name == b"abort".as_slice() {
+        Some(Command::Abort { publisher: party })
+    } else if name == b"poll".as_slice() {
+        Some(Command::Poll { receiver: party })
+    } else if name == b"image".as_slice() {
+        Some(Command::Image { receiver: party })
+    } else if name == b"read".as_slice() && party.number > 0 {
+        Some(Command::Read { reader: party })
+    } else {
+        None
+    }
+}
+
+/// The command of this name, behind which a party and a number stand.
+#[tactic(auto, unfolding(crate::specs::Reading::party_and_number_of))]
+fn party_and_number(name: &[u8], party: PartyNumber, number: u64) -> Option<Command>
+    ensures { ReturnsRead content_of result (party_and_number_of name.now party.number number) }
+{
+    if name == b"claim".as_slice() {
+        Some(Command::Claim {
+            publisher: party,
+            size: number,
+        })
+    } else if name == b"tick".as_slice() {
+        Some(Command::Tick {
+            receiver: party,
+            now: number,
+        })
+    } else {
+        None
+    }
+}
+
+/// The command of this name, behind which the words begin with a party.
+#[tactic(auto, unfolding(crate::specs::Reading::of_party))]
+fn of_party(name: &[u8], words: Words<'_>) -> Option<Command>
+    ensures { ReturnsRead content_of result (of_party name.now (words_left words.entry)) }
+{
+    let (party, rest) = party_number_at(words)?;
+    match rest.end() {
+        Some(()) => party_alone(name, party),
+        None => party_and_number(name, party, last_number(rest)?),
+    }
+}
+
+/// The command of this name, with the words behind it: any that has some, and holds no bytes.
+#[tactic(auto, unfolding(crate::specs::Reading::numbered_of))]
+fn numbered(name: &[u8], words: Words<'_>) -> Option<Command>
+    ensures { ReturnsRead content_of result (numbered_of name.now (words_left words.entry)) }
+{
+    if name == b"send".as_slice() {
+        send(words)
+    } else if name == b"deliver".as_slice() {
+        deliver(words)
+    } else if name == b"reply".as_slice() {
+        reply(words)
+    } else {
+        of_party(name, words)
+    }
+}
+
 /// The command of this name, with the words behind it: any that holds no bytes.
 #[tactic(auto, unfolding(crate::specs::Reading::plain_of))]
 fn plain(name: &[u8], words: Words<'_>) -> Option<Command>
     ensures { ReturnsRead content_of result (plain_of name.now (words_left words.entry)) }
 {
-    if name == b"connect".as_slice() {
-        words.end()?;
-        Some(Command::Connect)
-    } else if name == b"disconnect".as_slice() {
-        words.end()?;
-        Some(Command::Disconnect)
-    } else if name == b"close".as_slice() {
-        words.end()?;
-        Some(Command::Close)
-    } else if name == b"limit".as_slice() {
-        words.end()?;
-        Some(Command::Limit)
-    } else if name == b"send".as_slice() {
-        send(words)
-    } else if name == b"deliver".as_slice() {
-        deliver(words)
-    } else if name == b"tick".as_slice() {
-        tick(words)
-    } else if name == b"reply".as_slice() {
-        reply(words)
-    } else if name == b"poll".as_slice() {
-        poll(words)
-    } else if name == b"image".as_slice() {
-        image(words)
-    } else if name == b"claim".as_slice() {
-        claim(words)
-    } else if name == b"commit".as_slice() {
-        commit(words)
-    } else if name == b"abort".as_slice() {
-        abort(words)
-    } else if name == b"read".as_slice() {
-        read(words)
-    } else {
-        None
+    match words.end() {
+        Some(()) => bare(name),
+        None => numbered(name, words),
     }
 }
 
@@ -306,24 +299,48 @@ pub fn command(alloc: Global, number: u64, line: &[u8]) -> Result<Command, Scrip
 /// The greatest READERS.
 const MOST_READERS: u64 = 7;
 
-/// What stands behind `log`.
-#[tactic(auto, unfolding(crate::specs::Reading::opening_of))]
-fn log_fields(words: Words<'_>) -> Option<LogLine>
-    ensures { ReturnsRead opening result (opening_of (words_left words.entry)) }
+/// How a log is shaped: the words from TERM_LENGTH to START.
+#[derive(Clone, Copy)]
+struct Shape {
+    term_length: u32,
+    mtu: u32,
+    initial_term_id: i32,
+    start: u64,
+}
+
+/// The shape of a log, and the words after it.
+#[tactic(auto, unfolding(crate::specs::Reading::shape_at))]
+fn shape_at(words: Words<'_>) -> Option<(Shape, Words<'_>)>
+    ensures { ReturnsRead (λ found. (shaped found.0, words_left found.1)) result (shape_at (words_left words.entry)) }
 {
     let (term_length, rest) = number_at(words, u32::MAX as u64)?;
     let (mtu, rest) = number_at(rest, u32::MAX as u64)?;
     let (initial_term_id, rest) = signed_at(rest)?;
     let (start, rest) = number_at(rest, u64::MAX)?;
+    let shape = Shape {
+        term_length: term_length as u32,
+        mtu: mtu as u32,
+        initial_term_id,
+        start,
+    };
+    Some((shape, rest))
+}
+
+/// What stands behind `log`.
+#[tactic(auto, unfolding(crate::specs::Reading::opening_of))]
+fn log_fields(words: Words<'_>) -> Option<LogLine>
+    ensures { ReturnsRead opening result (opening_of (words_left words.entry)) }
+{
+    let (shape, rest) = shape_at(words)?;
     let (session, rest) = signed_at(rest)?;
     let (stream, rest) = signed_at(rest)?;
     let (readers, rest) = number_at(rest, MOST_READERS)?;
     rest.end()?;
     Some(LogLine {
-        term_length: term_length as u32,
-        mtu: mtu as u32,
-        initial_term_id,
-        start,
+        term_length: shape.term_length,
+        mtu: shape.mtu,
+        initial_term_id: shape.initial_term_id,
+        start: shape.start,
         session,
         stream,
         readers: readers as u32,

@@ -85,6 +85,42 @@ fn covered(claims: &[Claimed]) -> u64 {
     lengths.fold(0, |sum: u64, length| sum.wrapping_add(length))
 }
 
+/// Lets eight publishers fill a log. The answer is what they claimed, in the order of the stream.
+fn fill<R: Threads + Abort + Sync>(
+    rt: &R,
+    alloc: Global,
+    log: &Log,
+    publishers: [Publisher; 8],
+    seed: u64,
+) -> Result<Vec<Claimed>, AllocError>
+    requires { AreNew log.now 0 publishers }
+{
+    let publishers = Vec::from_array(alloc, publishers)?;
+    let claimed = publish_each(rt, alloc, log, publishers, seed)?;
+    in_order(alloc, claimed.as_slice())
+}
+
+/// Walks a log over what was claimed from its start on. The answer is where it ends.
+fn walk<R: Abort>(
+    rt: &R,
+    alloc: Global,
+    log: &Log,
+    start: u64,
+    claims: &[Claimed],
+    seed: u64,
+) -> Result<u64, AllocError> {
+    let terms = Terms::of(alloc, log)?;
+    let tail = shown(log);
+    match terms.walk(start, tail, claims) {
+        Ok(padded) => {
+            let shares = covered(claims).wrapping_add(padded);
+            assert!(rt; start.wrapping_add(shares) == tail);
+        }
+        Err(position) => panic!(rt; "seed {seed} is wrong at {position}"),
+    }
+    Ok(tail)
+}
+
 /// Lets eight publishers fill a log, and walks it. The answer is whether the stream turned to another term.
 fn run<R: Threads + Abort + Sync>(rt: &R, alloc: Global, seed: u64) -> Result<bool, Fail> {
     let mut draws = Pcg32::new(seed, 8);
@@ -92,17 +128,8 @@ fn run<R: Threads + Abort + Sync>(rt: &R, alloc: Global, seed: u64) -> Result<bo
     let geometry = Geometry::new(65_536, mtu, 7)?;
     let start = draw_start(&mut draws, &geometry);
     let (log, publishers) = open_ready(alloc, geometry, start)?;
-    let claimed = publish_each(rt, alloc, &log, Vec::from_array(alloc, publishers)?, seed)?;
-    let claims = in_order(alloc, claimed.as_slice())?;
-    let terms = Terms::of(alloc, &log)?;
-    let tail = shown(&log);
-    match terms.walk(start, tail, claims.as_slice()) {
-        Ok(padded) => {
-            let shares = covered(claims.as_slice()).wrapping_add(padded);
-            assert!(rt; start.wrapping_add(shares) == tail);
-        }
-        Err(position) => panic!(rt; "seed {seed} is wrong at {position}"),
-    }
+    let claims = fill(rt, alloc, &log, publishers, seed)?;
+    let tail = walk(rt, alloc, &log, start, claims.as_slice(), seed)?;
     let limit = start.wrapping_add(32_768).min(geometry.max_position());
     assert!(rt; tail >= limit);
     Ok(start / 65_536 != tail / 65_536)

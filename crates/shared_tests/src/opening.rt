@@ -1,22 +1,14 @@
 //! Logs that open.
 
-ghost use Rattle.std.specs.Prelude.{IfOk, OnOk};
-ghost use Rattle.std.specs.List.{AllByRecursion};
-ghost use Rattle.log_reading.specs.Readers.{IsReaderOf};
-ghost use Rattle.shared_log.specs.Handles.{AreNew, IsOf};
-ghost use Rattle.shared_tests.specs.Parties.{IsCrew, IsParty};
+ghost use Rattle.std.specs.Prelude.{IfOk};
+ghost use Rattle.shared_log.specs.Handles.{AreNew};
 
-use crate::parties::{Crew, Party};
-use crate::streams::PUBLISHERS;
-use block::Block;
 use log_keeping::{clean_and_limit, set_connected};
 use log_parts::{Parts, open};
-use log_reading::LogReader;
 use one_hand::LogError;
 use position::Geometry;
 use shared_log::{Log, Publisher};
-use std::alloc::{AllocError, Global};
-use std::test::Fail;
+use std::alloc::Global;
 
 /// A log that begins at a position, connected, with its limit half a term above it, and its publishers.
 pub(crate) fn open_ready(
@@ -35,94 +27,4 @@ pub(crate) fn open_ready(
     set_connected(&log, &mut keeper, true);
     clean_and_limit(&log, &mut keeper);
     Ok((log, publishers))
-}
-
-/// What threads have that publish.
-fn publishing(log: &Log, publishers: [Publisher; 8]) -> [Party; 8]
-    requires { AreNew log.now 0 publishers }
-    ensures { AllByRecursion (IsParty log.now) result }
-{
-    let [zero, one, two, three, four, five, six, seven] = publishers;
-    [
-        Party::Publishing(zero),
-        Party::Publishing(one),
-        Party::Publishing(two),
-        Party::Publishing(three),
-        Party::Publishing(four),
-        Party::Publishing(five),
-        Party::Publishing(six),
-        Party::Publishing(seven),
-    ]
-}
-
-/// What a thread has that reads.
-fn reading(alloc: Global, log: &Log, reader: LogReader) -> Result<Party, AllocError>
-    requires { IsReaderOf log.now reader }
-    ensures { IfOk result (λ party. IsParty log.now party) }
-{
-    let block = Block::new(alloc, log.identity().geometry().mtu() as usize)?;
-    Ok(Party::Reading { reader, block })
-}
-
-/// Adds those that read.
-fn add_readers(
-    alloc: Global,
-    log: &Log,
-    mut readers: Vec<LogReader>,
-    parties: &mut Vec<Party>,
-) -> Result<(), Fail>
-    requires readers { AllByRecursion (IsReaderOf log.now) readers.items }
-    requires parties { AllByRecursion (IsParty log.now) parties.old.items }
-    ensures { OnOk result (AllByRecursion (IsParty log.now) parties.new.items) }
-{
-    while let Some(reader) = readers.pop() {
-        let party = reading(alloc, log, reader)?;
-        parties.push(party)?;
-    }
-    Ok(())
-}
-
-/// A log with short terms, connected, and for four publishers, two readers and the keeper what each has.
-pub(crate) fn open_streams(alloc: Global) -> Result<(Log, Vec<Party>), Fail>
-    ensures { IfOk result (λ r. AllByRecursion (IsParty r.0) r.1.items) }
-{
-    let geometry = Geometry::new(65_536, 1408, 7)?;
-    let (log, parts) = open(alloc, geometry, 1, 1001, 0, 2)?;
-    let Parts {
-        publishers,
-        readers,
-        mut keeper,
-    } = parts;
-    set_connected(&log, &mut keeper, true);
-    let mut parties = Vec::from_array(alloc, publishing(&log, publishers))?;
-    parties.truncate(PUBLISHERS);
-    parties.push(Party::Keeping(keeper))?;
-    add_readers(alloc, &log, readers, &mut parties)?;
-    Ok((log, parties))
-}
-
-/// A log with short terms, connected, its first publisher, and its second one with a reader and the keeper.
-pub(crate) fn open_crew(alloc: Global) -> Result<(Log, Publisher, Crew), Fail>
-    ensures { IfOk result (λ r. IsOf r.0 r.1 × IsCrew r.0 r.2) }
-{
-    let geometry = Geometry::new(65_536, 1408, 7)?;
-    let (log, parts) = open(alloc, geometry, 1, 1001, 0, 1)?;
-    let Parts {
-        publishers,
-        mut readers,
-        mut keeper,
-    } = parts;
-    set_connected(&log, &mut keeper, true);
-    clean_and_limit(&log, &mut keeper);
-    let block = Block::new(alloc, 1408)?;
-    let mut publishers = Vec::from_array(alloc, publishers)?;
-    let stalled = publishers.remove(0);
-    let publisher = publishers.remove(0);
-    let crew = Crew {
-        publisher,
-        reader: readers.remove(0),
-        keeper,
-        block,
-    };
-    Ok((log, stalled, crew))
 }

@@ -10,7 +10,7 @@ use crate::walk::{Terms, shown};
 use one_hand::LogError;
 use position::Geometry;
 use shared_log::{Log, Publisher};
-use std::alloc::Global;
+use std::alloc::{AllocError, Global};
 use std::process::Abort;
 use std::test::*;
 
@@ -141,7 +141,7 @@ fn offer_row<R: Abort>(rt: &R, log: &Log, publisher: &mut Publisher, row: &Row)
 }
 
 /// The active count, and the raw tails of the three partitions.
-pub(crate) fn count_and_tails(log: &Log) -> [u64; 4] {
+fn count_and_tails(log: &Log) -> [u64; 4] {
     let control = 3 * (log.identity().geometry().term_length() as usize / 8);
     [
         log.peek(control + 1),
@@ -149,6 +149,12 @@ pub(crate) fn count_and_tails(log: &Log) -> [u64; 4] {
         log.peek(control + 3),
         log.peek(control + 4),
     ]
+}
+
+/// Whether these bytes stand in the stream from a position on.
+fn stand(alloc: Global, terms: &Terms, position: u64, digits: &str) -> Result<bool, AllocError> {
+    let bytes = terms.bytes_from(position).get(..digits.len() / 2);
+    Ok(hex::encode(alloc, bytes.unwrap_or(&[]))?.as_str() == digits)
 }
 
 /// Plays a row, and looks at what stands in the log then.
@@ -159,9 +165,7 @@ fn play<R: Abort>(rt: &R, alloc: Global, row: &Row) -> Result<(), Fail> {
     assert!(rt; count_and_tails(&log) == row.words);
     let terms = Terms::of(alloc, &log)?;
     for (position, digits) in row.stream {
-        let bytes = terms.bytes_from(*position);
-        let found = hex::encode(alloc, bytes.get(..digits.len() / 2).unwrap_or(&[]))?;
-        assert!(rt; found.as_str() == *digits);
+        assert!(rt; stand(alloc, &terms, *position, digits)?);
     }
     Ok(())
 }

@@ -53,24 +53,60 @@ fn each(taken: Duration, count: u64) -> u64 {
     u64::try_from(each).unwrap_or(u64::MAX)
 }
 
-/// Takes a sample of both. There are as many stores as the claims make, shared out among the threads.
+/// What each claim of a round took, and how many offers were accepted.
+fn claim_figure<R: Threads + Clock + Sync>(
+    rt: &R,
+    alloc: Global,
+    geometry: Geometry,
+    threads: usize,
+) -> Result<(u64, u64), SpeedError>
+    requires some { 0 < threads }
+    requires eight { threads ≤ 8 }
+{
+    let filled = play_round(rt, alloc, geometry, threads)?;
+    let taken = filled.taken.ok_or(SpeedError::Clock)?;
+    Ok((each(taken, filled.accepted), filled.accepted))
+}
+
+/// What as many plain stores took as so many claims make, shared out among the threads.
+fn store_figure<R: Threads + Clock + Sync>(
+    rt: &R,
+    alloc: Global,
+    threads: usize,
+    accepted: u64,
+) -> Result<u64, SpeedError>
+    requires some { 0 < threads }
+{
+    let shared = accepted / threads as u64;
+    let length = shared.min(1 << 32) as usize * STORES;
+    let taken = stores(rt, alloc, threads, length)?.ok_or(SpeedError::Clock)?;
+    Ok(each(taken, shared.saturating_mul(threads as u64)))
+}
+
+/// Takes a sample of both.
 fn sample<R: Threads + Clock + Sync>(
     rt: &R,
     alloc: Global,
     geometry: Geometry,
     samples: &mut Samples,
 ) -> Result<(), SpeedError> {
-    let threads = samples.threads;
-    let filled = play_round(rt, alloc, geometry, threads)?;
-    let taken = filled.taken.ok_or(SpeedError::Clock)?;
-    samples.claims.push(each(taken, filled.accepted))?;
-    let shared = filled.accepted / threads as u64;
-    let length = shared.min(1 << 32) as usize * STORES;
-    let stored = stores(rt, alloc, threads, length)?;
-    let taken = stored.ok_or(SpeedError::Clock)?;
-    samples
-        .stores
-        .push(each(taken, shared.saturating_mul(threads as u64)))?;
+    let (claim, accepted) = claim_figure(rt, alloc, geometry, samples.threads)?;
+    samples.claims.push(claim)?;
+    let stored = store_figure(rt, alloc, samples.threads, accepted)?;
+    samples.stores.push(stored)?;
+    Ok(())
+}
+
+/// Takes a sample for each number of threads.
+fn sample_all<R: Threads + Clock + Sync>(
+    rt: &R,
+    alloc: Global,
+    geometry: Geometry,
+    all: &mut [Samples],
+) -> Result<(), SpeedError> {
+    for samples in all {
+        sample(rt, alloc, geometry, samples)?;
+    }
     Ok(())
 }
 
@@ -84,6 +120,29 @@ fn medians_of(samples: &mut Samples) -> Option<Figures> {
         claim: median(samples.claims.as_mut_slice()),
         stores: median(samples.stores.as_mut_slice()),
     })
+}
+
+/// What each message of a stream took that was read.
+fn stream_figure<R: Threads + Clock + Sync>(
+    rt: &R,
+    alloc: Global,
+    geometry: Geometry,
+    publishers: usize,
+    messages: u32,
+) -> Result<u64, SpeedError>
+    requires some { 0 < publishers }
+    requires eight { publishers ≤ 8 }
+{
+    let stream = play_stream(rt, alloc, geometry, publishers, messages)?;
+    let taken = stream.taken.ok_or(SpeedError::Clock)?;
+    Ok(each(taken, stream.read))
+}
+
+fn median_of(figures: &mut [u64]) -> Option<u64> {
+    if figures.is_empty() {
+        return None;
+    }
+    Some(median(figures))
 }
 
 /// Measures streams of so many messages from each of so many publishers, in so many rounds. The answer is the median, in
@@ -101,14 +160,10 @@ pub fn measure_stream<R: Threads + Clock + Sync>(
 {
     let mut figures = Vec::new(alloc);
     for _ in 0..rounds {
-        let stream = play_stream(rt, alloc, geometry, publishers, messages)?;
-        let taken = stream.taken.ok_or(SpeedError::Clock)?;
-        figures.push(each(taken, stream.read))?;
+        let figure = stream_figure(rt, alloc, geometry, publishers, messages)?;
+        figures.push(figure)?;
     }
-    if figures.is_empty() {
-        return Ok(None);
-    }
-    Ok(Some(median(figures.as_mut_slice())))
+    Ok(median_of(figures.as_mut_slice()))
 }
 
 /// Measures with 1, 2, 4 and 8 threads by turns, in so many rounds.
@@ -118,20 +173,19 @@ pub fn measure<R: Threads + Clock + Sync>(
     geometry: Geometry,
     rounds: usize,
 ) -> Result<[Option<Figures>; 4], SpeedError> {
-    let mut one = no_samples(alloc, 1);
-    let mut two = no_samples(alloc, 2);
-    let mut four = no_samples(alloc, 4);
-    let mut eight = no_samples(alloc, 8);
+    let mut all = [
+        no_samples(alloc, 1),
+        no_samples(alloc, 2),
+        no_samples(alloc, 4),
+        no_samples(alloc, 8),
+    ];
     for _ in 0..rounds {
-        sample(rt, alloc, geometry, &mut one)?;
-        sample(rt, alloc, geometry, &mut two)?;
-        sample(rt, alloc, geometry, &mut four)?;
-        sample(rt, alloc, geometry, &mut eight)?;
+        sample_all(rt, alloc, geometry, &mut all)?;
     }
     Ok([
-        medians_of(&mut one),
-        medians_of(&mut two),
-        medians_of(&mut four),
-        medians_of(&mut eight),
+        medians_of(&mut all[0]),
+        medians_of(&mut all[1]),
+        medians_of(&mut all[2]),
+        medians_of(&mut all[3]),
     ])
 }

@@ -42,6 +42,15 @@ fn store_all<R: Clock>(rt: &R, gate: &Gate, row: &mut Row) {
     row.lap = lap(began, Instant::now(rt));
 }
 
+/// From the first one's begin to the last one's end.
+fn whole_lap(rows: &[Row]) -> Lap {
+    let mut whole = rows.first()?.lap;
+    for row in rows {
+        whole = joined(whole, row.lap);
+    }
+    whole
+}
+
 /// The time in which so many threads make so many sequentially consistent stores each, from their common start to the last
 /// one's end, if the clock could be read. Each has words of its own.
 pub fn stores<R: Threads + Clock + Sync>(
@@ -60,12 +69,5 @@ pub fn stores<R: Threads + Clock + Sync>(
         threads,
         &|_, row| store_all(rt, &gate, row),
     );
-    let Some(first) = rows.first() else {
-        return Ok(None);
-    };
-    let mut whole = first.lap;
-    for row in &rows {
-        whole = joined(whole, row.lap);
-    }
-    Ok(duration(whole))
+    Ok(duration(whole_lap(rows.as_slice())))
 }

@@ -84,6 +84,7 @@ pub fn play_stream<R: Threads + Clock + Sync>(
     ensures read { IfOk result (λ s. s.read ≤ publishers * messages) }
     ensures memory { IfErr result (λ e. e ≡ LogError.Memory) }
 {
+    let block = Block::new(alloc, geometry.mtu() as usize)?;
     let Ready {
         log,
         lanes,
@@ -93,7 +94,7 @@ pub fn play_stream<R: Threads + Clock + Sync>(
     let follower = Follower {
         reader: readers.remove(0),
         keeper,
-        block: Block::new(alloc, geometry.mtu() as usize)?,
+        block,
         read: 0,
         lap: None,
     };

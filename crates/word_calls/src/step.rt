@@ -1,5 +1,5 @@
 /// A word call, and what it answered. A tail is named by its partition, 0 to 2.
-#[derive(Clone, Copy, Debug, PartialEq, Eq)]
+#[derive(Clone, Copy)]
 pub enum WordStep {
     /// The limit word was loaded.
     Limit(u64),

@@ -7,7 +7,7 @@ use Rattle.theory.specs.Bytes.{Identity}
 use Rattle.receiver.specs.Receiving.{Receiver, listening}
 use Rattle.receiver.specs.Representing.{Core, Represents}
 use Rattle.script_run.specs.ScriptState.{listening_at, numbers}
-use Rattle.world.specs.Simulated.{AllShow}
+use Rattle.simulated.specs.Simulated.{AllShow}
 use Rattle.script_run.proofs.Numbers.{number_at}
 use Rattle.receiver.specs.Subscribing.{RepresentsSubscriber, Subscribing}
 

@@ -22,8 +22,9 @@ use Rattle.script_parts.specs.Lines.{line_content, line_contents}
 use Rattle.script_run.specs.Published.{Played}
 use Rattle.script_run.specs.ScriptState.{ScriptState, entries_of, opened_state}
 use Rattle.script_run.specs.Standing.{Begins, IsPlayed}
-use Rattle.world.specs.Reading.{ShowsBook}
-use Rattle.world.specs.Simulated.{Answered, Continued, Continues, ContinuesOpen, IsAnswered, RunsTo, RepresentsState, Simulated, StandsSomewhere}
+use Rattle.simulated.specs.Books.{ShowsBook}
+use Rattle.simulated.specs.Simulated.{Answered, IsAnswered, RepresentsState, Simulated, StandsSomewhere}
+use Rattle.world.specs.Runs.{Continued, Continues, ContinuesOpen, RunsTo}
 use Rattle.script_parts.specs.declared.line.Line.{Line}
 use Rattle.script_parts.specs.declared.line.Line.TheVariants as lines
 

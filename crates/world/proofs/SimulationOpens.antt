@@ -8,7 +8,8 @@ use Rattle.one_hand.specs.Stream.{opened}
 use Rattle.receiver.specs.Subscribing.{Subscribing}
 use Rattle.sender.specs.Sending.{begun}
 use Rattle.script_run.specs.ScriptState.{opened_state}
-use Rattle.world.specs.Simulated.{AreListening, RepresentsState, Simulated}
+use Rattle.simulated.specs.Simulated.{RepresentsState, Simulated}
+use Rattle.world.specs.Runs.{AreListening}
 
 -- such a simulation
 pub record IsOpened (i : Identity) (start readers : ℕ) (v : Simulated) : Type 0 where

@@ -5,9 +5,6 @@
 //! log is a run of the model, of which `every_run` speaks.
 #![tactic(auto)]
 
-mod handlers;
-mod log_lines;
-mod simulation;
 mod whole_script;
 
 pub use model::every_run;

@@ -9,11 +9,10 @@ ghost use Rattle.script_run.specs.Output.{IsOutputOf, geometry_of};
 ghost use Rattle.script_parts.specs.Lines.{line_contents};
 ghost use Rattle.script_run.specs.Standing.{Begins};
 ghost use Rattle.theory.specs.Position.{IsGeometry};
-ghost use Rattle.world.specs.Simulated.{AreListening, AreReady, Continues, ContinuesOpen, RunsTo, RepresentsState, StandsSomewhere};
+ghost use Rattle.simulated.specs.Simulated.{RepresentsState, StandsSomewhere};
+ghost use Rattle.world.specs.Runs.{AreListening, AreReady, Continues, ContinuesOpen, RunsTo};
 ghost use Rattle.script.specs.Meaning as meaning;
 
-use crate::handlers::add;
-use crate::simulation::{RECEIVERS, Simulation};
 use block::Block;
 use flow_control::UnicastFlow;
 use log_hand::LogHand;
@@ -24,6 +23,7 @@ use script::{Command, LogLine, Script};
 use script_parts::{Line, Packets};
 use script_run::{images_stay_in_bounds, polls_a_prefix, shares_are_counted};
 use sender::{Denied, Outbox, SenderCore};
+use simulated::{RECEIVERS, Simulation, add};
 use std::alloc::{AllocError, Global};
 
 /// What a script is played with beside its log.

@@ -1,13 +1,14 @@
-use Rattle.std.proofs.Common.{◌≡◌, ◌∙◌, ap, ap₂, codes, true, rules}
-use Rattle.std.proofs.lemmas.Result.{IfOk-weaker}
-use Rattle.clap.specs.Words.{App, app_of, new_app, with_subcommand}
+use Rattle.std.proofs.Common.{codes}
+use Rattle.clap.specs.Words.{new_app, with_rule, with_subcommand}
+use Rattle.command_line.specs.CommandLines.{bare_app, hex_rule}
+use Rattle.command_line.specs.RunLines.{run_app}
 use Rattle.command_line.proofs.parser.whole.Goals as goal
 
 pub returns : goal.returns
 returns c =
-    let top = λ (a : App). a.top in
-    let a = new_app (codes "mdriver") in
-    let top_is : app_of c.subcommand_required.result ≡ record a { top = record a.top { subcommand_required = true } } = search rules in
-    let first = c.in_ok-subcommand.ensures.shape c.sim_command-sim.ensures.globals ∙ ap₂ with_subcommand top_is (ap top c.sim_command-sim.ensures.shape) in
-    let second = c.in_ok-subcommand-2.ensures.shape c.in_ok-decode.ensures.globals ∙ ap₂ with_subcommand first (ap top c.in_ok-decode.ensures.shape) in
-    IfOk-weaker c.subcommand-3.result _ _ (λ r h. h.shape c.in_ok-run.ensures.globals ∙ ap₂ with_subcommand second (ap top c.in_ok-run.ensures.shape)) c.subcommand-3.ensures
+    let sim = new_app (codes "sim") in
+    let decode = with_rule (new_app (codes "decode")) hex_rule in
+    let with_sim = with_subcommand bare_app sim.top in
+    let first = c.joined-with_sim.ensures bare_app sim c.bare_command.ensures c.sim_command.ensures.shape c.sim_command.ensures.globals in
+    let second = c.joined-with_decode.ensures with_sim decode first c.decode_command.ensures.shape c.decode_command.ensures.globals in
+    c.joined.ensures (with_subcommand with_sim decode.top) run_app second c.run_command.ensures.shape c.run_command.ensures.globals

@@ -1,6 +1,6 @@
 use Rattle.std.proofs.Common.{take}
 use Rattle.script.specs.Meaning.{contents_of}
-use Rattle.world.specs.Simulated.{Continues}
+use Rattle.world.specs.Runs.{Continues}
 use Rattle.world.proofs.whole_script.play_all.Given as goal
 
 abbrev pub invariant-loop-command : goal.invariant-loop-command

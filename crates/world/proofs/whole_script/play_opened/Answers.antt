@@ -6,7 +6,7 @@ use Rattle.script.specs.Meaning.{contents_of, script_content}
 use Rattle.script.specs.declared.command.Command.{Command}
 use Rattle.script_parts.specs.Lines.{line_contents}
 use Rattle.script_parts.specs.declared.line.Line.{Line}
-use Rattle.world.specs.Simulated.{RunsTo}
+use Rattle.world.specs.Runs.{RunsTo}
 use Rattle.world.proofs.ScriptRuns.{stage_plays}
 use Rattle.world.proofs.whole_script.play_opened.Goals as goal
 

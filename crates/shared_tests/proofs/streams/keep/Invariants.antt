@@ -1,5 +1,0 @@
-use Rattle.shared_log.specs.Handles.{IsOf}
-use Rattle.shared_tests.proofs.streams.keep.Given as goal
-
-abbrev pub invariant-loop : goal.invariant-loop
-invariant-loop l = IsOf l.log l.keeper.held

@@ -1,5 +1,0 @@
-use Rattle.shared_log.specs.Handles.{IsOf}
-use Rattle.shared_tests.proofs.streams.publish.Given as goal
-
-abbrev pub invariant-loop-count : goal.invariant-loop-count
-invariant-loop-count l = IsOf l.log l.publisher

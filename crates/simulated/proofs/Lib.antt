@@ -1,0 +1,4 @@
+pub mod HandlerSteps
+pub mod SimulatedNews
+pub mod SimulatedSender
+pub mod Simulations

@@ -1,0 +1,153 @@
+//! Logs that open.
+
+ghost use Rattle.std.specs.Prelude.{IfOk, OnOk};
+ghost use Rattle.std.specs.List.{AllByRecursion};
+ghost use Rattle.log_reading.specs.Readers.{IsReaderOf};
+ghost use Rattle.shared_log.specs.Handles.{AreNew, IsOf};
+ghost use Rattle.stream_tests.specs.Parties.{IsCrew, IsParty};
+
+use crate::parties::{Crew, Party};
+use crate::streams::PUBLISHERS;
+use block::Block;
+use log_keeping::{Keeper, clean_and_limit, set_connected};
+use log_parts::{Parts, open};
+use log_reading::LogReader;
+use position::Geometry;
+use shared_log::{Log, Publisher};
+use std::alloc::{AllocError, Global};
+use std::test::Fail;
+
+/// What threads have that publish.
+fn publishing(log: &Log, publishers: [Publisher; 8]) -> [Party; 8]
+    requires { AreNew log.now 0 publishers }
+    ensures { AllByRecursion (IsParty log.now) result }
+{
+    let [zero, one, two, three, four, five, six, seven] = publishers;
+    [
+        Party::Publishing(zero),
+        Party::Publishing(one),
+        Party::Publishing(two),
+        Party::Publishing(three),
+        Party::Publishing(four),
+        Party::Publishing(five),
+        Party::Publishing(six),
+        Party::Publishing(seven),
+    ]
+}
+
+/// What a thread has that reads.
+fn reading(alloc: Global, log: &Log, reader: LogReader) -> Result<Party, AllocError>
+    requires { IsReaderOf log.now reader }
+    ensures { IfOk result (λ party. IsParty log.now party) }
+{
+    let block = Block::new(alloc, log.identity().geometry().mtu() as usize)?;
+    Ok(Party::Reading { reader, block })
+}
+
+/// Adds those that read.
+fn add_readers(
+    alloc: Global,
+    log: &Log,
+    mut readers: Vec<LogReader>,
+    parties: &mut Vec<Party>,
+) -> Result<(), Fail>
+    requires readers { AllByRecursion (IsReaderOf log.now) readers.items }
+    requires parties { AllByRecursion (IsParty log.now) parties.old.items }
+    ensures { OnOk result (AllByRecursion (IsParty log.now) parties.new.items) }
+{
+    while let Some(reader) = readers.pop() {
+        let party = reading(alloc, log, reader)?;
+        parties.push(party)?;
+    }
+    Ok(())
+}
+
+/// For four publishers, the keeper and the readers what each has.
+fn parties_of(
+    alloc: Global,
+    log: &Log,
+    publishers: [Publisher; 8],
+    keeper: Keeper,
+    readers: Vec<LogReader>,
+) -> Result<Vec<Party>, Fail>
+    requires publishers { AreNew log.now 0 publishers }
+    requires keeper { IsOf log.now keeper.held }
+    requires readers { AllByRecursion (IsReaderOf log.now) readers.items }
+    ensures { IfOk result (λ parties. AllByRecursion (IsParty log.now) parties.items) }
+{
+    let mut parties = Vec::from_array(alloc, publishing(log, publishers))?;
+    parties.truncate(PUBLISHERS);
+    parties.push(Party::Keeping(keeper))?;
+    add_readers(alloc, log, readers, &mut parties)?;
+    Ok(parties)
+}
+
+/// A log with short terms, connected, and for four publishers, two readers and the keeper what each has.
+pub(crate) fn open_streams(alloc: Global) -> Result<(Log, Vec<Party>), Fail>
+    ensures { IfOk result (λ r. AllByRecursion (IsParty r.0) r.1.items) }
+{
+    let geometry = Geometry::new(65_536, 1408, 7)?;
+    let (log, parts) = open(alloc, geometry, 1, 1001, 0, 2)?;
+    let Parts {
+        publishers,
+        readers,
+        mut keeper,
+    } = parts;
+    set_connected(&log, &mut keeper, true);
+    let parties = parties_of(alloc, &log, publishers, keeper, readers)?;
+    Ok((log, parties))
+}
+
+/// The first two of a log's publishers.
+fn first_two(
+    alloc: Global,
+    log: &Log,
+    publishers: [Publisher; 8],
+) -> Result<(Publisher, Publisher), Fail>
+    requires { AreNew log.now 0 publishers }
+    ensures { IfOk result (λ r. IsOf log.now r.0 × IsOf log.now r.1) }
+{
+    let mut publishers = Vec::from_array(alloc, publishers)?;
+    let first = publishers.remove(0);
+    Ok((first, publishers.remove(0)))
+}
+
+/// What a log needs that goes on.
+fn crew_of(
+    alloc: Global,
+    log: &Log,
+    publisher: Publisher,
+    reader: LogReader,
+    keeper: Keeper,
+) -> Result<Crew, AllocError>
+    requires publisher { IsOf log.now publisher }
+    requires reader { IsReaderOf log.now reader }
+    requires keeper { IsOf log.now keeper.held }
+    ensures { IfOk result (λ crew. IsCrew log.now crew) }
+{
+    let block = Block::new(alloc, log.identity().geometry().mtu() as usize)?;
+    Ok(Crew {
+        publisher,
+        reader,
+        keeper,
+        block,
+    })
+}
+
+/// A log with short terms, connected, its first publisher, and its second one with a reader and the keeper.
+pub(crate) fn open_crew(alloc: Global) -> Result<(Log, Publisher, Crew), Fail>
+    ensures { IfOk result (λ r. IsOf r.0 r.1 × IsCrew r.0 r.2) }
+{
+    let geometry = Geometry::new(65_536, 1408, 7)?;
+    let (log, parts) = open(alloc, geometry, 1, 1001, 0, 1)?;
+    let Parts {
+        publishers,
+        mut readers,
+        mut keeper,
+    } = parts;
+    set_connected(&log, &mut keeper, true);
+    clean_and_limit(&log, &mut keeper);
+    let (stalled, publisher) = first_two(alloc, &log, publishers)?;
+    let crew = crew_of(alloc, &log, publisher, readers.remove(0), keeper)?;
+    Ok((log, stalled, crew))
+}
