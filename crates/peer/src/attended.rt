@@ -27,13 +27,15 @@ pub struct Attended<D> {
 /// The status message that a datagram is, if it is one that doesn't ask for a SETUP.
 fn status_in(datagram: &[u8]) -> Option<Status> {
     match read_frame(datagram) {
-        Ok((
-            Frame::Status {
-                asks: false,
-                status,
-            },
-            _,
-        )) => Some(status),
+        Ok(
+            (
+                Frame::Status {
+                    asks: false,
+                    status,
+                },
+                _,
+            ),
+        ) => Some(status),
         _ => None,
     }
 }

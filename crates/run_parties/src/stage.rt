@@ -99,11 +99,7 @@ pub fn rest<R: Clock>(rt: &R) {
 }
 
 /// A duty over a device, with room for datagrams of so many bytes.
-pub(crate) fn new_duty<D: Drop>(
-    alloc: Global,
-    device: D,
-    mtu: u32,
-) -> Result<Duty<D>, AgentFault>
+pub(crate) fn new_duty<D: Drop>(alloc: Global, device: D, mtu: u32) -> Result<Duty<D>, AgentFault>
     ensures { IfOk result (λ d. d.mtu ≡ mtu) }
 {
     match Duty::new(alloc, device, mtu) {

@@ -94,7 +94,10 @@ fn play_in<
     let subscriber = start_subscriber(scope, scene);
     let conductor = start_conductor(scope, scene, keeper, taker);
     let publishers = run_publishers(scope, scene, publishers, &mut watch);
-    let _ = scene.stage.conductor.submit(scene.rt, &mut closing, Command::Close);
+    let _ = scene
+        .stage
+        .conductor
+        .submit(scene.rt, &mut closing, Command::Close);
     gather(scene, publishers, conductor, subscriber, sender, receiver)
 }
 
@@ -108,11 +111,7 @@ pub fn play<
     D: Datagrams + Send + Drop,
     G: Gate + Sync,
     E: Write + Drop,
->(
-    scene: &Scene<'_, N, R, G>,
-    cast: Cast<D>,
-    watch: Watch<E>,
-) -> Result<Played, AgentFault>
+>(scene: &Scene<'_, N, R, G>, cast: Cast<D>, watch: Watch<E>) -> Result<Played, AgentFault>
     requires cast { IsCast scene.now.stage.now.log scene.now.stage.now.conductor cast }
     requires set { IsSet scene.now.stage.now.log scene.now.size }
     requires named { scene.now.counters.now ≡ N.counters }

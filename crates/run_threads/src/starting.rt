@@ -202,11 +202,7 @@ pub(crate) fn start_receiver<
     R: Wait + Clock + Sync,
     D: Datagrams + Send + Drop + 's,
     G: Gate + Sync,
->(
-    scope: &'s Scope<'s, S>,
-    scene: &Scene<'s, N, R, G>,
-    device: D,
-) -> Result<Agent, AgentFault>
+>(scope: &'s Scope<'s, S>, scene: &Scene<'s, N, R, G>, device: D) -> Result<Agent, AgentFault>
     requires { scene.now.counters.now ≡ N.counters }
 {
     let (rt, alloc, stage, gate) = (scene.rt, scene.alloc, scene.stage, scene.gate);

@@ -42,7 +42,12 @@ impl<E: Write> Watch<E> {
     }
 
     /// Waits until all is to stop, and tells once a second what was done, if it is to be shown.
-    pub(crate) fn until_stopped<R: Wait + Clock>(&mut self, rt: &R, stage: &Stage, counters: &Counters)
+    pub(crate) fn until_stopped<R: Wait + Clock>(
+        &mut self,
+        rt: &R,
+        stage: &Stage,
+        counters: &Counters,
+    )
         requires { self.old.reader.counters ≡ counters.now }
     {
         let mut done = stage.done();
