@@ -118,6 +118,11 @@ fn joined<'a>(
     command.subcommand(subcommand?)
 }
 
+/// What the help says of the commands that this parser doesn't read.
+const ENDS: &str = "From process to process:
+  publish    Publish each line of standard input as a message
+  subscribe  Write each message to standard output as a line";
+
 /// The program's command without those below it.
 fn bare_command<'a>(alloc: Global) -> Result<Command<'a>, AllocError>
     ensures { IfOk result (λ r. app_of r ≡ bare_app) }
@@ -126,6 +131,7 @@ fn bare_command<'a>(alloc: Global) -> Result<Command<'a>, AllocError>
     Ok(
         command
             .about("A media driver with concurrent publications (--version tells which)")
+            .after_help(ENDS)
             .subcommand_required(true),
     )
 }
