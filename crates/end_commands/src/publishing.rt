@@ -48,14 +48,7 @@ pub fn publish_command<
     R: Read + Send,
     W: Write,
     E: Write,
->(
-    rt: &C,
-    alloc: Global,
-    words: &'a [&'a str],
-    input: &mut R,
-    output: &mut W,
-    errors: &mut E,
-) -> u8
+>(rt: &C, alloc: Global, words: &'a [&'a str], input: &mut R, output: &mut W, errors: &mut E) -> u8
     ensures { result ≤ 3 }
 {
     match publish_options(alloc, words) {

@@ -70,7 +70,12 @@ pub(crate) fn with_shared<'a>(
     let command = with_number(alloc, command, SEED)?;
     let help = "A message stands behind its length, 32 bits with the lowest byte first";
     let command = with_flag(alloc, command, "blocks", help)?;
-    with_flag(alloc, command, "counters", "Show the counters once a second")
+    with_flag(
+        alloc,
+        command,
+        "counters",
+        "Show the counters once a second",
+    )
 }
 
 /// What the options that both have tell.

@@ -29,4 +29,5 @@ named g count offset whole few unit inside = (unit_of count g.term_length offset
 pub placed : (g : Geometry) (s : Start) (count at : ℕ) → g.term_length % 65536 ≡ 0 → count_of g s.term_id ≡ pos count → count < 2 ^ 31 → s.term_offset % 32 ≡ 0 → s.term_offset < g.term_length → at ≡ count * g.term_length + s.term_offset → IsPlace s g at × IsStart g at
 placed g s count at whole counted few unit inside here = (
   record { count = count; counted = counted; unit = unit; inside = inside; here = here },
-  subst (IsStart g) (sym here) (named g count s.term_offset whole few unit inside))
+  subst (IsStart g) (sym here) (named g count s.term_offset whole few unit inside),
+)

@@ -2,9 +2,8 @@ ghost use Rattle.std.specs.Prelude.{◌≡◌, ◌⊎◌, ◌↔◌, Some, IsTru
 ghost use Rattle.std.specs.IoError.{error_kind};
 ghost use Rattle.peer.specs.Texts.{text_of};
 
-use std::fmt;
-use std::io;
 use std::io::ErrorKind;
+use std::{fmt, io};
 use thiserror::Error;
 
 /// Why a subscriber's end can't be had.

@@ -56,8 +56,7 @@ impl Listener {
     }
 
     /// Makes this the one peer: the system keeps others away from now on. The error comes where it refuses that.
-    pub fn tie(self, peer: SocketAddr) -> Result<TiedDevice, DeviceFailed>
-    {
+    pub fn tie(self, peer: SocketAddr) -> Result<TiedDevice, DeviceFailed> {
         let Listener { socket, arrived } = self;
         if socket.connect(peer).is_err() {
             return Err(DeviceFailed);

@@ -68,7 +68,14 @@ fn duty_of(
 
 /// Starts the thread that reads, sends until the publisher ends, and joins that thread. What it says goes first: a message
 /// that couldn't be read is a fault however the others went.
-fn play<'s, S, R: Threads + Wait + Clock + Sync, D: Datagrams + Drop, I: Read + Send + Drop + 's, E: Write>(
+fn play<
+    's,
+    S,
+    R: Threads + Wait + Clock + Sync,
+    D: Datagrams + Drop,
+    I: Read + Send + Drop + 's,
+    E: Write,
+>(
     scope: &'s Scope<'s, S>,
     rt: &'s R,
     alloc: Global,

@@ -12,7 +12,10 @@ pub(crate) fn tell_joined<E: Write>(errors: &mut E, session: i32, position: u64)
 
 /// The publisher was silent, and its image is closed.
 pub(crate) fn tell_closed<E: Write>(errors: &mut E, session: i32, position: u64) {
-    let _ = writeln!(errors, "silent: session {session} closed at position {position}");
+    let _ = writeln!(
+        errors,
+        "silent: session {session} closed at position {position}"
+    );
 }
 
 /// The counters.
