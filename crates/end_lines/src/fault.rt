@@ -1,3 +1,6 @@
+ghost use Rattle.std.specs.Prelude.{◌≡◌, ◌≢◌, ◌↔◌, IsTrue, false};
+ghost use Rattle.clap.specs.Words.{kind_of};
+
 use clap::Error;
 use clap::error::ErrorKind;
 use std::fmt;
@@ -13,7 +16,10 @@ pub enum LineFault {
 
 impl LineFault {
     /// Whether the line was refused: its text belongs to the error output. Help that was asked for is no refusal.
-    pub fn is_refusal(&self) -> bool {
+    pub fn is_refusal(&self) -> bool
+        ensures memory { self.now ≡ LineFault.Memory → result ≡ false }
+        ensures shown { (e : Error) → self.now ≡ LineFault.Shown e → (IsTrue result ↔ ((kind_of e ≢ ErrorKind.DisplayHelp) × (kind_of e ≢ ErrorKind.DisplayVersion))) }
+    {
         match self {
             LineFault::Shown(error) => error.use_stderr(),
             LineFault::Memory => false,
@@ -31,7 +37,11 @@ impl fmt::Display for LineFault {
 }
 
 /// A parser's error.
-pub(crate) fn fault_of(error: Error) -> LineFault {
+pub(crate) fn fault_of(error: Error) -> LineFault
+    ensures memory { kind_of error ≡ ErrorKind.OutOfMemory → result ≡ LineFault.Memory }
+    ensures shown { (e : Error) → result ≡ LineFault.Shown e
+        → (kind_of e ≡ kind_of error) × (kind_of e ≡ ErrorKind.OutOfMemory → ⊥) }
+{
     if error.kind() == ErrorKind::OutOfMemory {
         return LineFault::Memory;
     }

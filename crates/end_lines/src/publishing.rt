@@ -1,11 +1,13 @@
 //! The command `publish`.
 
-ghost use Rattle.std.specs.Prelude.{◌<◌, ◌^◌, IfOk};
+ghost use Rattle.std.specs.Prelude.{◌≡◌, ◌<◌, ◌^◌, IfOk, map, true};
+ghost use Rattle.clap.specs.Words.{app_of, is_simple, matches_of};
+ghost use Rattle.end_lines.specs.Lines.{IsPublishOf, publish_app};
 
 use crate::fault::{LineFault, fault_of};
 use crate::number::{Number, number_of, with_number};
 use crate::shared::{shared_of, with_channel, with_shared};
-use clap::Command;
+use clap::{Command, Error};
 use end_options::PublishOptions;
 use std::alloc::{AllocError, Global};
 
@@ -20,7 +22,9 @@ const LINGER: Number = Number {
 const EXAMPLE: &str = "Example:\n  mdriver publish 'aeron:udp?endpoint=127.0.0.1:40123' < lines";
 
 /// The command.
-fn command<'a>(alloc: Global) -> Result<Command<'a>, AllocError> {
+fn command<'a>(alloc: Global) -> Result<Command<'a>, AllocError>
+    ensures { IfOk result (λ r. app_of r ≡ publish_app) }
+{
     let command = Command::new(alloc, "publish")
         .bin_name("mdriver publish")?
         .about("Publish each line of standard input as a message")
@@ -30,21 +34,31 @@ fn command<'a>(alloc: Global) -> Result<Command<'a>, AllocError> {
     with_number(alloc, command, LINGER)
 }
 
+/// What the words tell, read by a command.
+fn read<'a>(command: Command<'a>, words: &'a [&'a str]) -> Result<PublishOptions<'a>, Error>
+    ensures told { IfOk result (λ o. is_simple (app_of command.entry) ≡ true → IsPublishOf (matches_of (app_of command.entry) (map (λ s. s.now) words.entry.now)) o) }
+    ensures stream { IfOk result (λ o. o.end.stream < 2 ^ 31) }
+{
+    let matches = command.try_get_matches_from(words)?;
+    Ok(PublishOptions {
+        end: shared_of(&matches),
+        linger: number_of(&matches, LINGER) as u32,
+    })
+}
+
 /// What the words of a line of `publish` tell; the first of them is `publish`.
 pub fn publish_options<'a>(
     alloc: Global,
     words: &'a [&'a str],
 ) -> Result<PublishOptions<'a>, LineFault>
-    ensures { IfOk result (λ o. o.end.stream < 2 ^ 31) }
+    ensures told { IfOk result (λ o. IsPublishOf (matches_of publish_app (map (λ s. s.now) words.entry.now)) o) }
+    ensures stream { IfOk result (λ o. o.end.stream < 2 ^ 31) }
 {
     let Ok(command) = command(alloc) else {
         return Err(LineFault::Memory);
     };
-    match command.try_get_matches_from(words) {
-        Ok(matches) => Ok(PublishOptions {
-            end: shared_of(&matches),
-            linger: number_of(&matches, LINGER) as u32,
-        }),
+    match read(command, words) {
+        Ok(options) => Ok(options),
         Err(error) => Err(fault_of(error)),
     }
 }

@@ -1,6 +1,8 @@
 //! What both commands have.
 
-ghost use Rattle.std.specs.Prelude.{◌<◌, ◌^◌};
+ghost use Rattle.std.specs.Prelude.{◌≡◌, IfOk};
+ghost use Rattle.clap.specs.Words.{app_of, found_of, rows_of};
+ghost use Rattle.end_lines.specs.Lines.{IsSharedOf, with_channel, with_shared};
 
 use crate::number::{Number, number_of, with_flag, with_number};
 use clap::{Arg, ArgMatches, Command};
@@ -51,7 +53,9 @@ const SEED: Number = Number {
 pub(crate) fn with_channel<'a>(
     alloc: Global,
     command: Command<'a>,
-) -> Result<Command<'a>, AllocError> {
+) -> Result<Command<'a>, AllocError>
+    ensures { IfOk result (λ r. app_of r ≡ with_channel (app_of command.entry)) }
+{
     let channel = Arg::new(alloc, "CHANNEL")
         .help("The channel, as aeron:udp?endpoint=127.0.0.1:40123|term-length=64k")
         .required(true);
@@ -62,7 +66,9 @@ pub(crate) fn with_channel<'a>(
 pub(crate) fn with_shared<'a>(
     alloc: Global,
     command: Command<'a>,
-) -> Result<Command<'a>, AllocError> {
+) -> Result<Command<'a>, AllocError>
+    ensures { IfOk result (λ r. app_of r ≡ with_shared (app_of command.entry)) }
+{
     let command = with_number(alloc, command, STREAM)?;
     let command = with_number(alloc, command, LOSS)?;
     let command = with_number(alloc, command, REPEAT)?;
@@ -80,7 +86,7 @@ pub(crate) fn with_shared<'a>(
 
 /// What the options that both have tell.
 pub(crate) fn shared_of<'a>(matches: &ArgMatches<'a>) -> EndOptions<'a>
-    ensures { result.stream < 2 ^ 31 }
+    ensures { IsSharedOf (rows_of (found_of matches.now)) result }
 {
     EndOptions {
         // The word is required, so a parse that succeeds has it.

@@ -1,2 +1,3 @@
 pub mod Texts
 pub mod Ties
+pub mod Watching

@@ -1,11 +1,17 @@
 //! A publisher's end.
 
-ghost use Rattle.std.specs.Prelude.{◌≡◌};
+ghost use Rattle.std.specs.Prelude.{◌≡◌, IfOk};
+ghost use Rattle.endpoint.specs.Calls.{Receives};
+ghost use Rattle.endpoint.specs.Devices.{NeverFall};
+ghost use Rattle.frames.specs.Frames.{status_of, wire};
+ghost use Rattle.attendance.specs.Attending.{nobody};
+ghost use Rattle.peer.specs.Watching.{HearsFound, Notes, is_own, noted, told_at, told_of, told_status};
 
 use attendance::Attendance;
 use endpoint::{Datagrams, DeviceFailed};
 use frames::{Frame, Status, read_frame};
 use position::Geometry;
+use std::marker::Model;
 
 /// Which stream a publisher sends, and its shape.
 #[derive(Clone, Copy)]
@@ -24,25 +30,58 @@ pub struct Attended<D> {
     datagrams: u64,
 }
 
-/// The status message that a datagram is, if it is one that doesn't ask for a SETUP.
-fn status_in(datagram: &[u8]) -> Option<Status> {
-    match read_frame(datagram) {
-        Ok(
-            (
-                Frame::Status {
-                    asks: false,
-                    status,
-                },
-                _,
-            ),
-        ) => Some(status),
+impl<D> Model for Attended<D> {
+    ghost use Rattle.peer.specs.Watching.{Watching};
+
+    ghost Value = { Watching D };
+
+    ghost view = { λ a. record { inner = a.inner; sent = a.sent; attendance = a.attendance; datagrams = a.datagrams } };
+}
+
+/// Whether a status message is of a stream.
+fn is_of(sent: Sent, status: Status) -> bool
+    ensures { result ≡ is_own sent (status_of status) }
+{
+    status.session == sent.session && status.stream == sent.stream
+}
+
+/// A receiver with its position, if that isn't negative.
+#[tactic(auto, using(crate::proofs::Told::told_there, crate::proofs::Told::told_nowhere))]
+fn with_position(receiver: i64, position: i64) -> Option<(i64, u64)>
+    ensures { result ≡ told_at receiver position }
+{
+    match u64::try_from(position) {
+        Ok(position) => Some((receiver, position)),
+        Err(_) => None,
+    }
+}
+
+/// The receiver and the position that a status message tells of a stream.
+fn told_by(sent: Sent, status: Status) -> Option<(i64, u64)>
+    ensures { result ≡ told_status sent (status_of status) }
+{
+    if !is_of(sent, status) {
+        return None;
+    }
+    let position = sent.geometry.position(status.term_id, status.term_offset);
+    with_position(status.receiver, position)
+}
+
+/// The receiver and the position that a frame tells of a stream, if it is a status message that doesn't ask for a SETUP.
+fn told_in(sent: Sent, frame: &Frame<'_>) -> Option<(i64, u64)>
+    ensures { result ≡ told_of sent (wire frame.now) }
+{
+    match *frame {
+        Frame::Status { asks, status } => { if asks { None } else { told_by(sent, status) } }
         _ => None,
     }
 }
 
 impl<D> Attended<D> {
     /// A device round this one that has heard nobody yet.
-    pub fn new(inner: D, sent: Sent, start: u64) -> Attended<D> {
+    pub fn new(inner: D, sent: Sent, start: u64) -> Attended<D>
+        ensures { result ≡ record { inner = inner; sent = sent; attendance = nobody start; datagrams = 0 } }
+    {
         Attended {
             inner,
             sent,
@@ -52,31 +91,40 @@ impl<D> Attended<D> {
     }
 
     /// Which receivers were heard.
-    pub fn attendance(&self) -> Attendance {
+    pub fn attendance(&self) -> Attendance
+        ensures { result ≡ self.now.attendance }
+    {
         self.attendance
     }
 
-    /// How many datagrams it was given to send.
-    pub fn datagrams(&self) -> u64 {
+    /// How many datagrams it was given to send, modulo 2^64.
+    pub fn datagrams(&self) -> u64
+        ensures { result ≡ self.now.datagrams }
+    {
         self.datagrams
+    }
+
+    /// Notes what a frame tells.
+    fn note_frame(&mut self, frame: &Frame<'_>)
+        ensures { self.new ≡ record self.old { attendance = noted (told_of self.old.sent (wire frame.now)) self.old.attendance } }
+    {
+        if let Some((receiver, position)) = told_in(self.sent, frame) {
+            self.attendance.hear(receiver, position);
+        }
     }
 
     /// Notes what a datagram tells.
     fn note(&mut self, datagram: &[u8])
-        ensures { self.new.inner ≡ self.old.inner }
+        ensures notes { Notes self.old.sent datagram.now self.old.attendance self.new.attendance }
+        ensures same { self.new ≡ record self.old { attendance = self.new.attendance } }
     {
-        let Some(status) = status_in(datagram) else {
-            return;
-        };
-        if status.session != self.sent.session || status.stream != self.sent.stream {
-            return;
-        }
-        let position = self
-            .sent
-            .geometry
-            .position(status.term_id, status.term_offset);
-        if let Ok(position) = u64::try_from(position) {
-            self.attendance.hear(status.receiver, position);
+        match read_frame(datagram) {
+            Ok((frame, size)) => {
+                if size == datagram.len() {
+                    self.note_frame(&frame);
+                }
+            }
+            Err(_) => {}
         }
     }
 }
@@ -91,7 +139,12 @@ impl<D: Datagrams> Datagrams for Attended<D> {
         self.inner.send(datagram)
     }
 
-    fn recv(&mut self, buffer: &mut [u8]) -> Result<Option<usize>, DeviceFailed> {
+    fn recv(&mut self, buffer: &mut [u8]) -> Result<Option<usize>, DeviceFailed>
+        ensures counts { NeverFall (D.device self.old.inner) (D.device self.new.inner) }
+        ensures receives { Receives (D.tells self.old.inner) (D.device self.old.inner) buffer.old result buffer.new (D.device self.new.inner) }
+        ensures still_tells { D.tells self.old.inner → D.tells self.new.inner }
+        ensures hears { IfOk result (λ found. HearsFound self.old found buffer.new self.new.attendance) }
+    {
         let found = self.inner.recv(buffer)?;
         if let Some(length) = found {
             self.note(&buffer[..length]);

@@ -1,0 +1,13 @@
+-- What is read of the two commands is simple enough for all that the parser promises.
+use Rattle.std.proofs.Common.{◌≡◌, true, refl}
+use Rattle.clap.specs.Words.{is_simple}
+use Rattle.clap.proofs.OnLiterals.{clap_on_literals}
+use Rattle.end_lines.specs.Lines.{publish_app, subscribe_app}
+
+pub publish_simple : is_simple publish_app ≡ true
+unfolding clap_on_literals
+publish_simple = refl
+
+pub subscribe_simple : is_simple subscribe_app ≡ true
+unfolding clap_on_literals
+subscribe_simple = refl
