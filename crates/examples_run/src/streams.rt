@@ -29,7 +29,7 @@ pub(crate) struct Done {
 }
 
 /// Carries out a command line. The answer is what it tells, and its status.
-fn carry_out<'a, C: Threads + Wait + Clock + Net + Sync, R: Read, W: Write>(
+fn carry_out<'a, C: Threads + Wait + Clock + Net + Sync, R: Read + Send, W: Write>(
     rt: &C,
     alloc: Global,
     words: &'a [&'a str],

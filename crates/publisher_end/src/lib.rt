@@ -2,14 +2,8 @@
 //! who has received what.
 #![tactic(auto)]
 
-mod fault;
-mod opening;
 mod publishing;
-mod reading;
-mod sending;
-mod stage;
-mod telling;
 
 pub use attendance::Ending;
-pub use fault::PublishFault;
+pub use publisher_parties::PublishFault;
 pub use publishing::publish;

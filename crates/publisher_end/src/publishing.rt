@@ -2,13 +2,9 @@
 
 ghost use Rattle.std.specs.Prelude.{◌≡◌, IfOk};
 ghost use Rattle.log_parts.specs.Books.{IsDone};
-ghost use Rattle.publisher_end.specs.Openings.{AreTools, IsAgentOf, IsBegun};
+ghost use Rattle.publisher_end.specs.Openings.{IsBegun};
+ghost use Rattle.publisher_parties.specs.Openings.{AreTools, IsAgentOf};
 
-use crate::fault::PublishFault;
-use crate::opening::{Opened, open_agent, open_log};
-use crate::reading::read_input;
-use crate::sending::{Crew, Tools, send_all};
-use crate::stage::Stage;
 use agents::Duty;
 use attendance::Ending;
 use conductor::{Client, Conductor, Taker};
@@ -17,6 +13,9 @@ use endpoint::{Datagrams, OpenError, UdpDevice};
 use log_reading::LogReader;
 use lossy::Lossy;
 use peer::{Attended, Sent};
+use publisher_parties::{
+    Crew, Opened, PublishFault, Stage, Tools, open_agent, open_log, read_input, send_all,
+};
 use shared_log::Publisher;
 use std::alloc::{AllocError, Global};
 use std::io::{BufReader, Read, Write};

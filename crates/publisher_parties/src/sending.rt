@@ -1,6 +1,6 @@
 //! The thread that sends, keeps the log, and decides the end.
 
-ghost use Rattle.publisher_end.specs.Openings.{AreTools, IsAgentOf};
+ghost use Rattle.publisher_parties.specs.Openings.{AreTools, IsAgentOf};
 
 use crate::fault::PublishFault;
 use crate::opening::Agent;
@@ -23,18 +23,18 @@ const SECOND: u64 = 1_000_000_000;
 
 /// The device of a sender with its room, and the passes beside it.
 #[derive(Drop)]
-pub(crate) struct Tools<D> {
-    pub(crate) client: Client,
-    pub(crate) duty: Duty<Attended<D>>,
-    pub(crate) keeper: Keeper,
-    pub(crate) taker: Taker,
+pub struct Tools<D> {
+    pub client: Client,
+    pub duty: Duty<Attended<D>>,
+    pub keeper: Keeper,
+    pub taker: Taker,
 }
 
 /// What sends and keeps.
 #[derive(Drop)]
-pub(crate) struct Crew<'a, D> {
-    pub(crate) agent: Agent<'a>,
-    pub(crate) tools: Tools<D>,
+pub struct Crew<'a, D> {
+    pub agent: Agent<'a>,
+    pub tools: Tools<D>,
 }
 
 /// The progress that was seen: how often receivers changed, what was told, whether the input had ended, and when any of
@@ -151,7 +151,7 @@ fn judge<E: Write>(
 }
 
 /// Sends and keeps until the publisher ends. The answer is how.
-pub(crate) fn send_all<R: Wait + Clock, D: Datagrams, E: Write>(
+pub fn send_all<R: Wait + Clock, D: Datagrams, E: Write>(
     rt: &R,
     plan: &PublishPlan,
     stage: &Stage,

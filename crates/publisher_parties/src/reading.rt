@@ -76,7 +76,7 @@ fn offer_all<R: Clock, I: Read>(
 }
 
 /// Offers all, and tells that no message comes any more.
-pub(crate) fn read_input<R: Clock, I: Read + Drop>(
+pub fn read_input<R: Clock, I: Read + Drop>(
     rt: &R,
     alloc: Global,
     stage: &Stage,

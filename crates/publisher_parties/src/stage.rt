@@ -15,9 +15,9 @@ const REST: u64 = 20;
 /// The log, the command queue, the moment of the begin, how many messages were accepted and where they end, whether the
 /// input has ended, and whether all is to stop.
 #[derive(Drop)]
-pub(crate) struct Stage {
-    pub(crate) log: Log,
-    pub(crate) conductor: Conductor,
+pub struct Stage {
+    pub log: Log,
+    pub conductor: Conductor,
     began: Instant,
     stopped: AtomicBool,
     ended: AtomicBool,
@@ -26,7 +26,7 @@ pub(crate) struct Stage {
 }
 
 impl Stage {
-    pub(crate) fn new(log: Log, conductor: Conductor, began: Instant) -> Stage
+    pub fn new(log: Log, conductor: Conductor, began: Instant) -> Stage
         ensures log { result.log ≡ log }
         ensures conductor { result.conductor ≡ conductor }
     {
@@ -43,7 +43,7 @@ impl Stage {
     }
 
     /// Lets the other thread end at its next turn.
-    pub(crate) fn stop(&self) {
+    pub fn stop(&self) {
         self.stopped.store(true, Ordering::SeqCst);
     }
 

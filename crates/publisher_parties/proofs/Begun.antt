@@ -11,7 +11,7 @@ use Rattle.log_parts.specs.Parts.{IsNewReader}
 use Rattle.flow_control.specs.declared.unicast.UnicastFlow.{UnicastFlow}
 use Rattle.sender_agent.specs.Duties.{Agent}
 use Rattle.end_options.specs.declared.plans.PublishPlan.{PublishPlan}
-use Rattle.publisher_end.specs.Openings.{IsAgentOf, IsPlanned, identity_of}
+use Rattle.publisher_parties.specs.Openings.{IsAgentOf, IsPlanned, identity_of}
 
 pub start_fits : (g : Geometry) (start : ℕ) → IsGeometry g → IsStart g start → start < 2 ^ 63
 start_fits g start legal is = let most = legal.term.greatest in omega (arith, is.1, most)

@@ -3,8 +3,8 @@ use Rattle.std.specs.Prelude.{ℕ, List, codes}
 use Rattle.agents.specs.declared.fault.AgentFault.{AgentFault}
 use Rattle.agents.specs.declared.fault.AgentFault.TheVariants as agents
 use Rattle.message_input.specs.Texts as inputs
-use Rattle.publisher_end.specs.declared.fault.PublishFault.{PublishFault}
-use Rattle.publisher_end.specs.declared.fault.PublishFault.TheVariants.{Input, Full, Device, Memory}
+use Rattle.publisher_parties.specs.declared.fault.PublishFault.{PublishFault}
+use Rattle.publisher_parties.specs.declared.fault.PublishFault.TheVariants.{Input, Full, Device, Memory}
 
 abbrev pub text_of : PublishFault → List ℕ
 text_of (Input fault) = inputs.text_of fault

@@ -1,6 +1,6 @@
 ghost use Rattle.std.specs.Prelude.{◌≡◌, Some};
-ghost use Rattle.publisher_end.specs.Texts.{of_agent, text_of};
-ghost use Rattle.publisher_end.specs.declared.fault.PublishFault.TheVariants.{Device, Input, Memory};
+ghost use Rattle.publisher_parties.specs.Texts.{of_agent, text_of};
+ghost use Rattle.publisher_parties.specs.declared.fault.PublishFault.TheVariants.{Device, Input, Memory};
 
 use agents::AgentFault;
 use endpoint::DeviceFailed;

@@ -2,7 +2,7 @@
 
 ghost use Rattle.std.specs.Prelude.{◌≡◌, IfOk, slice_index_or};
 ghost use Rattle.log_parts.specs.Parts.{IsNewReader};
-ghost use Rattle.publisher_end.specs.Openings.{IsAgentOf, IsOpened, IsPlanned};
+ghost use Rattle.publisher_parties.specs.Openings.{IsAgentOf, IsOpened, IsPlanned};
 
 use crate::fault::PublishFault;
 use end_options::PublishPlan;
@@ -16,15 +16,15 @@ use shared_log::{Log, Publisher};
 use std::alloc::{AllocError, Global};
 
 /// The sender of a publisher.
-pub(crate) type Agent<'a> = SenderAgent<LogFrames<'a>, UnicastFlow>;
+pub type Agent<'a> = SenderAgent<LogFrames<'a>, UnicastFlow>;
 
 /// A log with the passes that a publisher needs.
 #[derive(Drop)]
-pub(crate) struct Opened {
-    pub(crate) log: Log,
-    pub(crate) publisher: Publisher,
-    pub(crate) reader: LogReader,
-    pub(crate) keeper: Keeper,
+pub struct Opened {
+    pub log: Log,
+    pub publisher: Publisher,
+    pub reader: LogReader,
+    pub keeper: Keeper,
 }
 
 /// The first of all publishers; the others aren't used.
@@ -36,7 +36,7 @@ fn first_of(alloc: Global, all: [Publisher; 8]) -> Result<Publisher, AllocError>
 }
 
 /// Opens the log of a plan. It fails only where memory is refused.
-pub(crate) fn open_log(alloc: Global, plan: &PublishPlan) -> Result<Opened, PublishFault>
+pub fn open_log(alloc: Global, plan: &PublishPlan) -> Result<Opened, PublishFault>
     ensures { IfOk result (λ o. IsOpened plan.now o) }
 {
     let Ok((log, parts)) = open(
@@ -74,7 +74,7 @@ fn flow_of(plan: &PublishPlan) -> UnicastFlow
 
 /// A sender that has sent nothing.
 #[tactic(auto, using(crate::proofs::Begun::is_agent, crate::proofs::Begun::start_below))]
-pub(crate) fn open_agent<'a>(
+pub fn open_agent<'a>(
     alloc: Global,
     plan: &PublishPlan,
     log: &'a Log,
