@@ -2,6 +2,4 @@ pub mod CommandLineLemmas
 pub mod DecodeLines
 pub mod TakenLines
 pub mod RunMet
-pub mod NumberTexts
-pub mod Numbers
 mod RunRows

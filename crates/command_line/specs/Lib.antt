@@ -1,4 +1,3 @@
 pub mod CommandLines
-pub mod Numbers
 pub mod RunLines
 pub mod RunTold

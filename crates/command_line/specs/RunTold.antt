@@ -2,7 +2,8 @@
 use Rattle.std.specs.Prelude.{List, codes}
 use Rattle.clap.specs.Words.{Row}
 use Rattle.run_options.specs.declared.options.RunOptions.{RunOptions}
-use Rattle.command_line.specs.RunLines.{IsFlag, IsNumber}
+use Rattle.number_options.specs.Flags.{IsFlag}
+use Rattle.number_options.specs.Numbers.{IsNumber}
 
 pub record IsRunOf (rows : List Row) (o : RunOptions) : Type 0 where
   pub publishers : IsNumber rows (codes "publishers") 1 8 4 o.publishers

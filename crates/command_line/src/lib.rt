@@ -3,7 +3,6 @@
 
 mod choice;
 mod chosen;
-mod number;
 mod parser;
 mod run_parser;
 

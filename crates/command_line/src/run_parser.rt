@@ -2,12 +2,12 @@
 
 ghost use Rattle.std.specs.Prelude.{◌≡◌, IfOk, codes, false};
 ghost use Rattle.clap.specs.declared.builder.command.Command.TheViews.{out-Command};
-ghost use Rattle.clap.specs.Words.{app_of, found_of, new_app, rows_of, with_rule};
-ghost use Rattle.command_line.specs.RunLines.{flag_rule, run_app};
+ghost use Rattle.clap.specs.Words.{app_of, found_of, new_app, rows_of};
+ghost use Rattle.command_line.specs.RunLines.{run_app};
 ghost use Rattle.command_line.specs.RunTold.{IsRunOf};
 
-use crate::number::{Number, number_of, with_numbers};
-use clap::{Arg, ArgAction, ArgMatches, Command};
+use clap::{ArgMatches, Command};
+use number_options::{Number, flag_of, number_of, with_flag, with_numbers};
 use run_options::RunOptions;
 use std::alloc::{AllocError, Global};
 
@@ -102,7 +102,7 @@ pub(crate) fn run_command<'a>(alloc: Global) -> Result<Command<'a>, AllocError>
     ensures globals { IfOk result (λ r. (out-Command r).has_globals ≡ false) }
 {
     let run = with_numbers(alloc, without_options(alloc), &NUMBERS)?;
-    with_counters(alloc, run)
+    with_flag(alloc, run, "counters", "Show the counters")
 }
 
 fn without_options<'a>(alloc: Global) -> Command<'a>
@@ -110,17 +110,6 @@ fn without_options<'a>(alloc: Global) -> Command<'a>
     ensures globals { (out-Command result).has_globals ≡ false }
 {
     Command::new(alloc, "run").about("Run publishers, a sender and a receiver")
-}
-
-fn with_counters<'a>(alloc: Global, command: Command<'a>) -> Result<Command<'a>, AllocError>
-    ensures shape { IfOk result (λ r. app_of r ≡ with_rule (app_of command.entry) (flag_rule (codes "counters"))) }
-    ensures globals { IfOk result (λ r. (out-Command command.entry).has_globals ≡ false → (out-Command r).has_globals ≡ false) }
-{
-    let counters = Arg::new(alloc, "counters")
-        .long("counters")
-        .help("Show the counters")
-        .action(ArgAction::SetTrue);
-    command.arg(counters)
 }
 
 /// What the options that were found tell.
@@ -138,6 +127,6 @@ pub(crate) fn run_of(matches: &ArgMatches<'_>) -> RunOptions
         turns: number_of(matches, TURNS) as u32,
         term: number_of(matches, TERM) as u32,
         mtu: number_of(matches, MTU) as u32,
-        counters: matches.get_flag("counters"),
+        counters: flag_of(matches, "counters"),
     }
 }

@@ -1,2 +1,1 @@
-pub mod NumberTexts
 pub mod Simple

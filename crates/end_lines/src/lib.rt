@@ -2,7 +2,6 @@
 #![tactic(auto)]
 
 mod fault;
-mod number;
 mod publishing;
 mod shared;
 mod subscribing;

@@ -5,10 +5,10 @@ ghost use Rattle.clap.specs.Words.{app_of, is_simple, matches_of};
 ghost use Rattle.end_lines.specs.Lines.{IsPublishOf, publish_app};
 
 use crate::fault::{LineFault, fault_of};
-use crate::number::{Number, number_of, with_number};
 use crate::shared::{shared_of, with_channel, with_shared};
 use clap::{Command, Error};
 use end_options::PublishOptions;
+use number_options::{Number, number_of, with_numbers};
 use std::alloc::{AllocError, Global};
 
 const LINGER: Number = Number {
@@ -31,7 +31,7 @@ fn command<'a>(alloc: Global) -> Result<Command<'a>, AllocError>
         .after_help(EXAMPLE);
     let command = with_channel(alloc, command)?;
     let command = with_shared(alloc, command)?;
-    with_number(alloc, command, LINGER)
+    with_numbers(alloc, command, &[LINGER])
 }
 
 /// What the words tell, read by a command.

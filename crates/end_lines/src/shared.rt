@@ -4,9 +4,9 @@ ghost use Rattle.std.specs.Prelude.{◌≡◌, IfOk};
 ghost use Rattle.clap.specs.Words.{app_of, found_of, rows_of};
 ghost use Rattle.end_lines.specs.Lines.{IsSharedOf, with_channel, with_shared};
 
-use crate::number::{Number, number_of, with_flag, with_number};
 use clap::{Arg, ArgMatches, Command};
 use end_options::EndOptions;
+use number_options::{Number, flag_of, number_of, with_flag, with_numbers};
 use std::alloc::{AllocError, Global};
 
 const STREAM: Number = Number {
@@ -49,6 +49,9 @@ const SEED: Number = Number {
     help: "Where the random words begin, 0 to 18446744073709551615 [default: 1]",
 };
 
+/// The options with a number that both have, in the order in which the help shows them.
+const NUMBERS: [Number; 5] = [STREAM, LOSS, REPEAT, HOLD, SEED];
+
 /// The command with its channel.
 pub(crate) fn with_channel<'a>(
     alloc: Global,
@@ -69,11 +72,7 @@ pub(crate) fn with_shared<'a>(
 ) -> Result<Command<'a>, AllocError>
     ensures { IfOk result (λ r. app_of r ≡ with_shared (app_of command.entry)) }
 {
-    let command = with_number(alloc, command, STREAM)?;
-    let command = with_number(alloc, command, LOSS)?;
-    let command = with_number(alloc, command, REPEAT)?;
-    let command = with_number(alloc, command, HOLD)?;
-    let command = with_number(alloc, command, SEED)?;
+    let command = with_numbers(alloc, command, &NUMBERS)?;
     let help = "A message stands behind its length, 32 bits with the lowest byte first";
     let command = with_flag(alloc, command, "blocks", help)?;
     with_flag(
@@ -96,7 +95,7 @@ pub(crate) fn shared_of<'a>(matches: &ArgMatches<'a>) -> EndOptions<'a>
         repeat: number_of(matches, REPEAT) as u32,
         hold: number_of(matches, HOLD) as u32,
         seed: number_of(matches, SEED),
-        blocks: matches.get_flag("blocks"),
-        counters: matches.get_flag("counters"),
+        blocks: flag_of(matches, "blocks"),
+        counters: flag_of(matches, "counters"),
     }
 }

@@ -1,11 +1,7 @@
-use Rattle.std.proofs.Common.{◌∙◌, codes}
-use Rattle.clap.specs.Matches.{found_of}
-use Rattle.clap.proofs.WalkLemmas.{one_text-rows}
 use Rattle.command_line.proofs.run_parser.run_of.Goals as goal
 
 pub returns : goal.returns
 returns c =
-    let rows = one_text-rows (found_of c.args.matches.now) (codes "counters") in
     record {
       publishers = c.number_of.ensures;
       messages = c.number_of-2.ensures;
@@ -17,5 +13,5 @@ returns c =
       turns = c.number_of-8.ensures;
       term = c.number_of-9.ensures;
       mtu = c.number_of-10.ensures;
-      counters = record { given = λ e. c.get_flag.ensures.value (rows ∙ e); absent = λ e. c.get_flag.ensures.other (rows ∙ e) };
+      counters = c.flag_of.ensures;
     }

@@ -3,7 +3,7 @@ use Rattle.std.specs.Prelude.{option_map, unwrap_or}
 use Rattle.std.specs.Borrow.{Bor}
 use Rattle.clap.specs.Matches.{found_of}
 use Rattle.clap.specs.Walk.{Text}
-use Rattle.clap.proofs.WalkLemmas.{first_value-rows, one_text-rows}
+use Rattle.clap.proofs.WalkLemmas.{first_value-rows}
 use Rattle.end_lines.proofs.shared.shared_of.Goals as goal
 
 one_word : (found : Option (Bor Text)) (other own : Bor Text) (word : Text) → option_map (λ s. s.now) found ≡ Some word → own ≡ unwrap_or found other → own.now ≡ word
@@ -13,8 +13,6 @@ one_word (Some s) other own word e is = let same : own ≡ s = is in let text : 
 pub returns : goal.returns
 returns c =
     let f = found_of c.args.matches.now in
-    let blocks = one_text-rows f (codes "blocks") in
-    let counters = one_text-rows f (codes "counters") in
     record {
       channel = λ text met. one_word c.get_str.result _ c.unwrap_or.result text (c.get_str.ensures ∙ (first_value-rows f (codes "CHANNEL") ∙ met)) c.unwrap_or.ensures;
       stream = c.number_of.ensures;
@@ -22,6 +20,6 @@ returns c =
       repeat = c.number_of-3.ensures;
       hold = c.number_of-4.ensures;
       seed = c.number_of-5.ensures;
-      blocks = record { given = λ e. c.get_flag.ensures.value (blocks ∙ e); absent = λ e. c.get_flag.ensures.other (blocks ∙ e) };
-      counters = record { given = λ e. c.get_flag-2.ensures.value (counters ∙ e); absent = λ e. c.get_flag-2.ensures.other (counters ∙ e) };
+      blocks = c.flag_of.ensures;
+      counters = c.flag_of-2.ensures;
     }

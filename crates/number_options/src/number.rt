@@ -1,11 +1,9 @@
-//! Options of a command line that have a number.
+//! Options that have a number.
 
-ghost use Rattle.std.specs.Prelude.{◌≡◌, IfOk, false};
+ghost use Rattle.std.specs.Prelude.{◌≡◌, ◌≤◌, IfOk, false};
 ghost use Rattle.clap.specs.declared.builder.command.Command.TheViews.{out-Command};
-ghost use Rattle.clap.specs.Words.{app_of, found_of, rows_of, with_rule};
-ghost use Rattle.run_options.specs.Ranges.{IsWithin};
-ghost use Rattle.command_line.specs.Numbers.{with_numbers};
-ghost use Rattle.command_line.specs.RunLines.{IsNumber, number_rule};
+ghost use Rattle.clap.specs.Words.{app_of, found_of, rows_of};
+ghost use Rattle.number_options.specs.Numbers.{IsNumber, plus, with_numbers};
 
 use clap::builder::ValueParser;
 use clap::{Arg, ArgMatches, Command};
@@ -13,7 +11,7 @@ use std::alloc::{AllocError, Global};
 
 /// An option `--NAME` with a number.
 #[derive(Clone, Copy)]
-pub(crate) struct Number {
+pub struct Number {
     pub name: &'static str,
     /// The least number that is taken.
     pub least: u64,
@@ -30,7 +28,7 @@ fn with_number<'a>(
     command: Command<'a>,
     number: &Number,
 ) -> Result<Command<'a>, AllocError>
-    ensures shape { IfOk result (λ r. app_of r ≡ with_rule (app_of command.entry) (number_rule number.now.name.now number.now.least number.now.most)) }
+    ensures shape { IfOk result (λ r. app_of r ≡ plus number.now.name.now number.now.least number.now.most (app_of command.entry)) }
     ensures globals { IfOk result (λ r. (out-Command command.entry).has_globals ≡ false → (out-Command r).has_globals ≡ false) }
 {
     let argument = Arg::new(alloc, number.name)
@@ -41,7 +39,7 @@ fn with_number<'a>(
 }
 
 /// The command with these options more.
-pub(crate) fn with_numbers<'a>(
+pub fn with_numbers<'a>(
     alloc: Global,
     command: Command<'a>,
     numbers: &[Number],
@@ -58,8 +56,9 @@ pub(crate) fn with_numbers<'a>(
 
 /// The number that the option has. The parser refuses a word that spells none in the range, so the range cuts nothing
 /// off.
-pub(crate) fn number_of(matches: &ArgMatches<'_>, number: Number) -> u64
-    requires { IsWithin number.least number.most number.otherwise }
+pub fn number_of(matches: &ArgMatches<'_>, number: Number) -> u64
+    requires low { number.least ≤ number.otherwise }
+    requires high { number.otherwise ≤ number.most }
     ensures { IsNumber (rows_of (found_of matches.now)) number.name.now number.least number.most number.otherwise result }
 {
     let found = matches.get_one::<u64>(number.name);

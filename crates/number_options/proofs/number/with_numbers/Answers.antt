@@ -1,6 +1,6 @@
 use Rattle.std.proofs.Common.{◌∙◌, arith}
-use Rattle.command_line.proofs.Numbers.{one_more}
-use Rattle.command_line.proofs.number.with_numbers.Goals as goal
+use Rattle.number_options.proofs.Numbers.{one_more}
+use Rattle.number_options.proofs.number.with_numbers.Goals as goal
 
 pub loop-number-preserved : goal.loop-number-preserved
 loop-number-preserved c = record {

@@ -1,9 +1,8 @@
 -- Options of a row, one after the other.
 use Rattle.std.proofs.Common.{◌≡◌, ◌∙◌, ◌<◌, ◌+◌, ℕ, suc, List, ◌∷◌, length, get_or, drop, drop-cons, sym, ap, arith}
 use Rattle.clap.specs.Words.{App}
-use Rattle.command_line.specs.Numbers.{with_numbers}
-use Rattle.command_line.specs.RunLines.{plus}
-use Rattle.command_line.specs.declared.number.Number.{Number}
+use Rattle.number_options.specs.Numbers.{plus, with_numbers}
+use Rattle.number_options.specs.declared.number.Number.{Number}
 
 -- the option at a place, and those behind it
 at_place : (ns : List Number) (i : ℕ) (d : Number) → i < length ns → drop i ns ≡ get_or ns i d ∷ drop (i + 1) ns

@@ -1,8 +1,8 @@
 use Rattle.std.proofs.Common.{◌≡◌, ◌≤◌, false, drop, length}
 use Rattle.clap.specs.declared.builder.command.Command.TheViews.{out-Command}
 use Rattle.clap.specs.Words.{app_of}
-use Rattle.command_line.specs.Numbers.{with_numbers}
-use Rattle.command_line.proofs.number.with_numbers.Given as goal
+use Rattle.number_options.specs.Numbers.{with_numbers}
+use Rattle.number_options.proofs.number.with_numbers.Given as goal
 
 abbrev pub invariant-loop-number : goal.invariant-loop-number
 invariant-loop-number l = record {
