@@ -2,9 +2,9 @@
 
 ghost use Rattle.std.specs.Prelude.{◌≡◌, IfOk};
 ghost use Rattle.log_parts.specs.Parts.{IsNewReader};
-ghost use Rattle.agent_tests.specs.Senders.{IsFirstLog, IsSender};
+ghost use Rattle.agent_way.specs.Senders.{IsFirstLog, IsSender};
 
-use crate::way::{device_with_status, duty_over, open_log, open_sender};
+use agent_way::{device_with_status, duty_over, open_log, open_sender};
 use conductor::{CAPACITY, Client, Command, Conductor, Taker};
 use flow_control::UnicastFlow;
 use log_reading::{LogFrames, LogReader};

@@ -3,10 +3,10 @@
 ghost use Rattle.std.specs.Prelude.{◌≡◌, IfOk};
 ghost use Rattle.shared_log.specs.Handles.{IsOf};
 ghost use Rattle.log_parts.specs.Parts.{IsNewReader};
-ghost use Rattle.agent_tests.specs.Senders.{IsFirstLog, IsSender};
+ghost use Rattle.agent_way.specs.Senders.{IsFirstLog, IsSender};
 
 use crate::asking::{Agent, open_agent};
-use crate::way::{carry, device_with, duty_over, listening, open_log, publish};
+use agent_way::{carry, device_with, duty_over, listening, open_log, publish};
 use agents::{AgentFault, DATAGRAMS, Duty, REPLY};
 use conductor::{Client, Conductor};
 use endpoint::{Datagrams, FailingDatagrams, MemoryDevice};

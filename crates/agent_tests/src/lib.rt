@@ -1,13 +1,7 @@
-//! Tests of duty cycles over devices in memory.
+//! Tests of a sender's agent, and of both agents where a call of a device fails.
 #![tactic(auto)]
 
 #[cfg(test)]
 mod asking;
 #[cfg(test)]
-mod failing;
-#[cfg(test)]
 mod hundred;
-#[cfg(test)]
-mod reading;
-#[cfg(test)]
-mod way;

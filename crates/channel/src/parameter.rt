@@ -5,7 +5,8 @@ ghost use Rattle.channel.specs.declared.parameter.Parameter.{Parameter};
 ghost use Rattle.channel.specs.declared.parameter.Parameter.TheVariants.{Endpoint};
 ghost use Rattle.channel.specs.Settings.{name_of, parameter_of, IsValueOf, HasNoValue};
 
-use crate::values::{number, signed, size};
+use crate::values::size;
+use decimals::{number, signed};
 
 /// A parameter that is taken.
 #[derive(Clone, Copy, Debug, PartialEq, Eq)]

@@ -18,7 +18,7 @@ use std::thread::Threads;
 use std::time::Clock;
 
 /// The line of `--version`: the program's name and version, and the kit that it is proved with.
-const VERSION: &str = "mdriver 0.1.0, proved with rattle-kit-13b logic dac8208d650f15bf\n";
+const VERSION: &str = "mdriver 0.1.0, proved with rattle-kit-13f logic dac8208d650f15bf\n";
 
 /// Carries out a command line over a reader and two writers, and gives the status: 0 where all was done, 1 at a fault,
 /// 2 for a refused command line, 3 for a run whose turns were used before all was polled. The first word is the program's

@@ -1,5 +1,4 @@
 pub mod Cuts
-pub mod Digits
 pub mod Whole
 pub mod Options
 pub mod Words

@@ -5,7 +5,8 @@ use Rattle.script.specs.declared.fault.ScriptFault.{ScriptFault}
 use Rattle.script.specs.declared.fault.ScriptFault.TheVariants as faults
 use Rattle.script.specs.Meaning.{Opening, CommandContent, ScriptContent, Connect, Disconnect, Close, Limit, Offer, OfferSize, Claim, Commit, Abort, Read, Send, Deliver, Raw, Tick, Reply, RawBack, Poll, Image}
 use Rattle.script.specs.Pieces.{lines, words}
-use Rattle.script.specs.Values.{◌>>=◌, number_of, signed_of, hex_of}
+use Rattle.decimals.specs.Decimals.{◌>>=◌, number_of, signed_of}
+use Rattle.script.specs.Values.{hex_of}
 
 -- What was returned, seen by `view`, is what reading gives.
 abbrev pub ReturnsRead : {X Y : Type 0} → (X → Y) → Option X → Option Y → Type 0

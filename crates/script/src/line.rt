@@ -6,7 +6,8 @@ ghost use Rattle.script.specs.Rests.{shaped, words_left};
 use crate::command::{Command, LogLine, PartyNumber};
 use crate::fault::ScriptFault;
 use crate::pieces::Words;
-use crate::values::{message_bytes, number, signed};
+use crate::values::message_bytes;
+use decimals::{number, signed};
 use std::alloc::Global;
 
 /// The number that the first word spells, if it is at most `most`, and the words after it.

@@ -3,11 +3,9 @@
 ghost use Rattle.std.specs.Prelude.{◌<◌, ◌≤◌, vec_len};
 
 use crate::fault::SpeedError;
-use crate::round::play_round;
 use crate::sorting::median;
-use crate::storing::stores;
-use crate::streaming::play_stream;
 use position::Geometry;
+use rounds::{play_round, play_stream, stores};
 use std::alloc::{AllocError, Global};
 use std::thread::Threads;
 use std::time::{Clock, Duration};

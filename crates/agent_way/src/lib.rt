@@ -1,0 +1,10 @@
+//! What tests of duty cycles share: a log with its publisher and its sender, a subscriber, and devices in memory between
+//! them.
+#![tactic(auto)]
+
+mod way;
+
+pub use way::{
+    Sender, carry, device_with, device_with_status, duty_over, listening, open_log, open_sender,
+    publish, receive, send,
+};
