@@ -1,8 +1,9 @@
 //! Command lines over streams of memory, over such as fail, and of the greatest lengths.
 
 use commands::command;
+use example_rows::{Broken, Carrier, Counted, Done};
 use std::alloc::{AllocError, Global};
-use std::io::{self, Error, ErrorKind, Read, Write};
+use std::io::{Read, Write};
 use std::net::Net;
 use std::sync::Wait;
 use std::thread::Threads;
@@ -19,14 +20,6 @@ const DECODE: &[&str] = &[
 const HELP: &[&str] = &["mdriver", "--help"];
 
 const VERSION: &[&str] = &["mdriver", "--version"];
-
-/// What a command line prints and tells, and its status.
-#[derive(Drop)]
-pub(crate) struct Done {
-    pub(crate) output: Vec<u8>,
-    pub(crate) errors: Vec<u8>,
-    pub(crate) status: u8,
-}
 
 /// Carries out a command line. The answer is what it tells, and its status.
 fn carry_out<'a, C: Threads + Wait + Clock + Net + Sync, R: Read + Send, W: Write>(
@@ -56,46 +49,17 @@ pub(crate) fn run_over<'a, C: Threads + Wait + Clock + Net + Sync>(
     }
 }
 
-/// A stream that always fails.
-#[derive(Drop)]
-struct Broken;
+/// The program's command lines.
+pub(crate) struct Lines;
 
-impl Read for Broken {
-    fn read(&mut self, _buffer: &mut [u8]) -> io::Result<usize> {
-        Err(Error::from(ErrorKind::Other))
-    }
-}
-
-impl Write for Broken {
-    fn write(&mut self, _bytes: &[u8]) -> io::Result<usize> {
-        Err(Error::from(ErrorKind::Other))
-    }
-
-    fn flush(&mut self) -> io::Result<()> {
-        Err(Error::from(ErrorKind::Other))
-    }
-}
-
-/// A writer that takes all bytes, counts them, and tells how many were there at the last flush, or can't be flushed.
-#[derive(Drop)]
-struct Counted {
-    fails: bool,
-    written: usize,
-    flushed: usize,
-}
-
-impl Write for Counted {
-    fn write(&mut self, bytes: &[u8]) -> io::Result<usize> {
-        self.written = self.written.saturating_add(bytes.len());
-        Ok(bytes.len())
-    }
-
-    fn flush(&mut self) -> io::Result<()> {
-        if self.fails {
-            return Err(Error::from(ErrorKind::Other));
-        }
-        self.flushed = self.written;
-        Ok(())
+impl Carrier for Lines {
+    fn carry_out<C: Threads + Wait + Clock + Net + Sync>(
+        rt: &C,
+        alloc: Global,
+        words: &[&str],
+        input: &[u8],
+    ) -> Done {
+        run_over(rt, alloc, words, input)
     }
 }
 

@@ -21,7 +21,8 @@ use Rattle.log_hand.specs.declared.held.Held.{Held}
 use Rattle.log_hand.specs.Shown.{WholeBy, IsWhole, stream_by, stream_of}
 use Rattle.word_calls.proofs.Contents.{IsSmall}
 use Rattle.one_hand.proofs.Keeps.{padding_keeps, turn_keeps}
-use Rattle.log_hand.proofs.Handed.{case_closed, case_fits, case_limited, case_trips, case_used_up, claim_grown, message_grown, pad_grown, rest_unit, still, used_last, used_up}
+use Rattle.one_hand.proofs.Cases.{case_closed, case_fits, case_limited, case_trips, case_used_up}
+use Rattle.log_hand.proofs.Handed.{claim_grown, message_grown, pad_grown, rest_unit, still, used_last, used_up}
 
 abbrev ok : ℕ → Result ℕ Refusal
 ok k = Ok k

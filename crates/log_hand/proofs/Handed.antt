@@ -1,8 +1,7 @@
 -- What the calls of the pass that has all publishers make of the stream that it shows.
-use Rattle.std.proofs.Common.{◌≡◌, ◌∙◌, ℕ, zero, suc, ◌+◌, ◌-◌, ◌*◌, ◌%◌, ◌<◌, ◌≤◌, inl, ⊎_elim, List, [], ◌∷◌, ◌++◌, map, length, length-set, true, false, cond, Some, refl, sym, ap, subst, arith}
-use Rattle.std.specs.Prelude.{Option, nat_eq, nat_le, slice_get, slice_set}
+use Rattle.std.proofs.Common.{◌≡◌, ◌∙◌, ℕ, zero, suc, ◌+◌, ◌-◌, ◌*◌, ◌%◌, ◌<◌, ◌≤◌, inl, ⊎_elim, List, [], ◌∷◌, ◌++◌, map, length, length-set, true, false, Some, refl, sym, ap, subst, arith}
+use Rattle.std.specs.Prelude.{Option, slice_get, slice_set}
 use Rattle.std.specs.List.{AllByRecursion}
-use Rattle.std.proofs.lemmas.Bool.{cond-false, cond-true, eq-eqb, le-leb, lt-leb, ne_eqb}
 use Rattle.std.proofs.lemmas.List.{map-set}
 use Rattle.theory.specs.Position.{Geometry, IsGeometry, aligned, cuts_of, framed_length, max_payload, span}
 use Rattle.theory.specs.Placed.{Among, Frame, Pad}
@@ -22,7 +21,7 @@ use Rattle.word_calls.specs.Steps.{blank}
 use Rattle.word_calls.specs.Frames.{frame_at, message_frames}
 use Rattle.word_calls.specs.Alone.{Settled}
 use Rattle.one_hand.specs.Legal.{IsStream}
-use Rattle.one_hand.specs.Stream.{Fits, IsClosed, IsLimited, IsUsedUp, OpenClaim, Stream, Trips, case_of, covered, room, term_of, with_claim, with_entry, with_message, with_padding}
+use Rattle.one_hand.specs.Stream.{OpenClaim, Stream, covered, with_claim, with_entry, with_message, with_padding}
 use Rattle.log_hand.specs.declared.held.Held.{Held}
 use Rattle.word_calls.specs.Contents.{frame_in}
 use Rattle.log_hand.specs.Shown.{Chained, WholeBy, claim_in, end_of, entry_in, open_claim, shares_of, spans, stream_by}
@@ -30,36 +29,6 @@ use Rattle.word_calls.proofs.Contents.{IsSmall, pad_said}
 use Rattle.log_hand.proofs.Pieced.{no_padding, pieces_chained, pieces_said, pieces_within}
 use Rattle.log_hand.proofs.Entries.{chained_more, entry_by, entry_more, follow_more, shares_more, sum_more}
 use Rattle.one_hand.proofs.Keeps.{claim_keeps, message_keeps, payload_sum, set_get, turn_keeps}
-
--- ---- how an offer goes
-
-module _ (s : Stream) (n : ℕ) where
-  pub case_closed : s.closed ≡ true → case_of s n ≡ IsClosed
-  case_closed e = cond-true s.closed IsClosed (cond (nat_eq (room s) 0) IsUsedUp (cond (nat_le s.limit s.tail) IsLimited (cond (nat_le (covered s n) (room s)) Fits Trips))) e
-
-  module _ (unclosed : s.closed ≡ false) where
-    opened_case : case_of s n ≡ cond (nat_eq (room s) 0) IsUsedUp (cond (nat_le s.limit s.tail) IsLimited (cond (nat_le (covered s n) (room s)) Fits Trips))
-    opened_case = cond-false s.closed IsClosed (cond (nat_eq (room s) 0) IsUsedUp (cond (nat_le s.limit s.tail) IsLimited (cond (nat_le (covered s n) (room s)) Fits Trips))) unclosed
-
-    pub case_used_up : s.tail ≡ (s.active + 1) * term_of s → case_of s n ≡ IsUsedUp
-    case_used_up end = opened_case ∙ cond-true (nat_eq (room s) 0) IsUsedUp (cond (nat_le s.limit s.tail) IsLimited (cond (nat_le (covered s n) (room s)) Fits Trips)) (eq-eqb (room s) 0 (omega (arith, end)))
-
-    module _ (some : s.tail < (s.active + 1) * term_of s) where
-      roomy : case_of s n ≡ cond (nat_le s.limit s.tail) IsLimited (cond (nat_le (covered s n) (room s)) Fits Trips)
-      roomy = opened_case ∙ cond-false (nat_eq (room s) 0) IsUsedUp (cond (nat_le s.limit s.tail) IsLimited (cond (nat_le (covered s n) (room s)) Fits Trips)) (ne_eqb (room s) 0 (λ none. omega (arith, none, some)))
-
-      pub case_limited : s.limit ≤ s.tail → case_of s n ≡ IsLimited
-      case_limited le = roomy ∙ cond-true (nat_le s.limit s.tail) IsLimited (cond (nat_le (covered s n) (room s)) Fits Trips) (le-leb s.limit s.tail le)
-
-      module _ (below : s.tail < s.limit) where
-        unlimited : case_of s n ≡ cond (nat_le (covered s n) (room s)) Fits Trips
-        unlimited = roomy ∙ cond-false (nat_le s.limit s.tail) IsLimited (cond (nat_le (covered s n) (room s)) Fits Trips) (lt-leb s.limit s.tail below)
-
-        pub case_fits : s.tail + covered s n ≤ (s.active + 1) * term_of s → case_of s n ≡ Fits
-        case_fits inside = unlimited ∙ cond-true (nat_le (covered s n) (room s)) Fits Trips (le-leb (covered s n) (room s) (omega (arith, inside)))
-
-        pub case_trips : (s.active + 1) * term_of s < s.tail + covered s n → case_of s n ≡ Trips
-        case_trips over = unlimited ∙ cond-false (nat_le (covered s n) (room s)) Fits Trips (lt-leb (covered s n) (room s) (omega (arith, over, some)))
 
 -- ---- claims more
 

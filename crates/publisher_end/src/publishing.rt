@@ -1,69 +1,22 @@
 //! A publisher from its begin to its end.
 
-ghost use Rattle.std.specs.Prelude.{◌≡◌, IfOk};
 ghost use Rattle.log_parts.specs.Books.{IsDone};
-ghost use Rattle.publisher_end.specs.Openings.{IsBegun};
+ghost use Rattle.publisher_begin.specs.Openings.{IsBegun};
 ghost use Rattle.publisher_parties.specs.Openings.{AreTools, IsAgentOf};
 
-use agents::Duty;
 use attendance::Ending;
-use conductor::{Client, Conductor, Taker};
 use end_options::PublishPlan;
-use endpoint::{Datagrams, OpenError, UdpDevice};
-use log_reading::LogReader;
-use lossy::Lossy;
-use peer::{Attended, Sent};
-use publisher_parties::{
-    Crew, Opened, PublishFault, Stage, Tools, open_agent, open_log, read_input, send_all,
-};
+use endpoint::Datagrams;
+use publisher_begin::{Begun, begin, bind};
+use publisher_parties::{Crew, PublishFault, Stage, open_agent, read_input, send_all};
 use shared_log::Publisher;
-use std::alloc::{AllocError, Global};
+use std::alloc::Global;
 use std::io::{BufReader, Read, Write};
 use std::net::Net;
 use std::sync::Wait;
 use std::thread;
 use std::thread::{Scope, Threads};
 use std::time::{Clock, Instant};
-
-/// A device whose peer is the channel's port.
-fn bind<R: Net>(rt: &R, alloc: Global, port: u16) -> Result<UdpDevice, PublishFault> {
-    let mut device = match UdpDevice::bind(rt, alloc) {
-        Ok(device) => device,
-        Err(OpenError::Device) => return Err(PublishFault::Device),
-        Err(OpenError::Memory) => return Err(PublishFault::Memory),
-    };
-    device.connect(port)?;
-    Ok(device)
-}
-
-/// A command queue, one of its clients, and its taker.
-fn queue(alloc: Global) -> Result<(Conductor, Client, Taker), AllocError>
-    ensures { IfOk result (λ r. (r.1.queue ≡ r.0) × (r.2.queue ≡ r.0)) }
-{
-    let (conductor, mut clients, taker) = Conductor::new(alloc)?;
-    Ok((conductor, clients.remove(0), taker))
-}
-
-/// The device with its room: losses are made on purpose, and receivers are noted.
-fn duty_of(
-    alloc: Global,
-    plan: &PublishPlan,
-    device: UdpDevice,
-) -> Result<Duty<Attended<Lossy<UdpDevice>>>, PublishFault>
-    ensures { IfOk result (λ d. d.mtu ≡ plan.now.geometry.mtu) }
-{
-    let lossy = Lossy::new(alloc, device, plan.end.rates, plan.end.seed);
-    let sent = Sent {
-        geometry: plan.geometry,
-        session: plan.session,
-        stream: plan.end.stream,
-    };
-    let device = Attended::new(lossy, sent, plan.start);
-    match Duty::new(alloc, device, plan.geometry.mtu()) {
-        Ok(duty) => Ok(duty),
-        Err(_) => Err(PublishFault::Memory),
-    }
-}
 
 /// Starts the thread that reads, sends until the publisher ends, and joins that thread. What it says goes first: a message
 /// that couldn't be read is a fault however the others went.
@@ -135,45 +88,6 @@ fn play_in_scope<
             )
         },
     )
-}
-
-/// What a publisher begins with, but for its sender.
-#[derive(Drop)]
-pub(crate) struct Begun {
-    pub(crate) stage: Stage,
-    pub(crate) publisher: Publisher,
-    pub(crate) reader: LogReader,
-    pub(crate) tools: Tools<Lossy<UdpDevice>>,
-}
-
-/// Has all that a publisher begins with, over a device.
-fn begin(
-    alloc: Global,
-    plan: &PublishPlan,
-    began: Instant,
-    device: UdpDevice,
-) -> Result<Begun, PublishFault>
-    ensures { IfOk result (λ b. IsBegun plan.now b) }
-{
-    let duty = duty_of(alloc, plan, device)?;
-    let (conductor, client, taker) = queue(alloc)?;
-    let Opened {
-        log,
-        publisher,
-        reader,
-        keeper,
-    } = open_log(alloc, plan)?;
-    Ok(Begun {
-        stage: Stage::new(log, conductor, began),
-        publisher,
-        reader,
-        tools: Tools {
-            client,
-            duty,
-            keeper,
-            taker,
-        },
-    })
 }
 
 /// Plays with all that a publisher begins with.

@@ -12,10 +12,10 @@ use Rattle.log_parts.specs.Books.{AreAll, IsDone, ShowsBook}
 use Rattle.one_hand.specs.declared.book.Book.{Book}
 use Rattle.theory.specs.Position.{Geometry}
 use Rattle.run.specs.declared.opening.Opened.{Opened}
-use Rattle.run_threads.specs.declared.scene.Cast.{Cast}
-use Rattle.run_threads.specs.declared.scene.Played.{Played}
-use Rattle.run_threads.specs.declared.scene.Size.{Size}
-use Rattle.run_threads.specs.Threads.{IsPlayed}
+use Rattle.run_starts.specs.declared.scene.Cast.{Cast}
+use Rattle.run_starts.specs.declared.scene.Played.{Played}
+use Rattle.run_starts.specs.declared.scene.Size.{Size}
+use Rattle.run_starts.specs.Threads.{IsPlayed}
 use Rattle.run.specs.Openings.{IsOpened, IsStaged}
 use Rattle.run.specs.Outcomes.{IsBook}
 

@@ -14,7 +14,7 @@ use Rattle.receiver.specs.Receiving.{Receiver}
 use Rattle.receiver.specs.Subscribing.{RepresentsSubscriber}
 use Rattle.run.specs.declared.opening.Opened.{Opened}
 use Rattle.run.specs.declared.running.Begun.{Begun}
-use Rattle.run_threads.specs.declared.scene.Played.{Played}
+use Rattle.run_starts.specs.declared.scene.Played.{Played}
 
 -- a log of this shape that begins at 0, with its passes: publishers that take part, and the others
 pub record IsOpened (g : Geometry) (o : Opened) : Type 0 where

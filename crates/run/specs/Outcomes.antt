@@ -5,7 +5,7 @@ use Rattle.theory.specs.Entry.{Entry}
 use Rattle.theory.specs.Tiling.{Tiles}
 use Rattle.one_hand.specs.declared.book.Book.{Book}
 use Rattle.run_options.specs.declared.made.Plan.{Plan}
-use Rattle.run_threads.specs.declared.scene.Size.{Size}
+use Rattle.run_starts.specs.declared.scene.Size.{Size}
 use Rattle.run.specs.declared.outcome.Outcome.{Outcome}
 use Rattle.run.specs.declared.outcome.Ending.{Ending}
 use Rattle.run.specs.declared.outcome.Ending.TheVariants.{Broken, Short, Whole}

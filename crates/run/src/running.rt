@@ -6,7 +6,7 @@ ghost use Rattle.receiver.specs.Receiving.{Receiver};
 ghost use Rattle.receiver.specs.Subscribing.{RepresentsSubscriber};
 ghost use Rattle.run.specs.Openings.{IsBegun, IsOpened, IsStaged};
 ghost use Rattle.run.specs.Outcomes.{IsBook, IsOutcome, SizeOf};
-ghost use Rattle.run_threads.specs.Threads.{IsCast, IsPlayed, IsSet};
+ghost use Rattle.run_starts.specs.Threads.{IsCast, IsPlayed, IsSet};
 
 use crate::opening::{Opened, listening, open_run};
 use crate::outcome::Outcome;

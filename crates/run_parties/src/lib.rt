@@ -3,7 +3,6 @@
 #![tactic(auto)]
 
 mod gate;
-mod meter;
 mod publishing;
 mod receiving;
 mod sending;

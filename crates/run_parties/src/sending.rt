@@ -5,13 +5,13 @@ ghost use Rattle.log_parts.specs.Parts.{IsNewReader};
 ghost use Rattle.run_parties.specs.Senders.{IsAgentOf, IsRunLog};
 
 use crate::gate::{Gate, Role};
-use crate::meter::Metered;
 use crate::stage::{Stage, new_duty, rest};
 use agents::{AgentFault, Duty};
 use conductor::Client;
 use endpoint::Datagrams;
 use flow_control::UnicastFlow;
 use log_reading::{LogFrames, LogReader};
+use metered::Metered;
 use sender::{Denied, SenderCore};
 use sender_agent::SenderAgent;
 use shared_log::Log;

@@ -3,11 +3,10 @@
 ghost use Rattle.std.specs.Prelude.{◌≡◌, ◌≤◌, IfOk, Ok};
 ghost use Rattle.run_parties.specs.Passes.{IsKept};
 
-use crate::scene::{Played, Scene};
-use crate::starting::{Agent, Steering, Subscribing};
 use agents::AgentFault;
 use log_keeping::Keeper;
 use receiver_agent::Named;
+use run_starts::{Agent, Played, Scene, Steering, Subscribing};
 use shared_log::Publisher;
 use std::thread::Threads;
 use tally::Tally;

@@ -4,19 +4,19 @@ ghost use Rattle.std.specs.Prelude.{◌≡◌, IfOk, map};
 ghost use Rattle.std.specs.List.{AllByRecursion};
 ghost use Rattle.log_parts.specs.Books.{IsDone};
 ghost use Rattle.tail_claim.specs.Handles.{parts_in};
-ghost use Rattle.run_threads.specs.Threads.{IsCast, IsPlayed, IsSet};
+ghost use Rattle.run_starts.specs.Threads.{IsCast, IsPlayed, IsSet};
 
 use crate::joining::gather;
-use crate::scene::{Cast, Played, Scene};
-use crate::starting::{
-    start_conductor, start_publisher, start_receiver, start_sender, start_subscriber,
-};
 use crate::watching::Watch;
 use agents::AgentFault;
 use conductor::Command;
 use endpoint::Datagrams;
 use receiver_agent::Named;
 use run_parties::Gate;
+use run_starts::{
+    Cast, Played, Scene, start_conductor, start_publisher, start_receiver, start_sender,
+    start_subscriber,
+};
 use shared_log::Publisher;
 use std::io::Write;
 use std::sync::Wait;

@@ -2,9 +2,8 @@
 
 ghost use Rattle.shared_log.specs.Handles.{AreNew, IsOf};
 
-use crate::opening::open_ready;
-use crate::publishing::{Claimed, below, publish_all};
-use crate::walk::{Terms, shown};
+use crate::publishing::{below, publish_all};
+use log_walk::{Claimed, Terms, open_ready, shown};
 use position::Geometry;
 use rand_pcg::Pcg32;
 use shared_log::{Log, Publisher};

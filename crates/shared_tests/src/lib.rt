@@ -4,10 +4,6 @@
 #[cfg(test)]
 mod crowd;
 #[cfg(test)]
-mod opening;
-#[cfg(test)]
 mod publishing;
 #[cfg(test)]
 mod rows;
-#[cfg(test)]
-mod walk;

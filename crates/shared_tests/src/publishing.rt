@@ -5,6 +5,7 @@ ghost use Rattle.theory.specs.Position.{max_message, max_payload};
 ghost use Rattle.shared_log.specs.Handles.{IsOf};
 ghost use Rattle.shared_tests.specs.Stays.{Stays};
 
+use log_walk::{Claimed, LONGEST, fill};
 use position::Geometry;
 use rand_core::utils::NextWord;
 use rand_pcg::Pcg32;
@@ -14,21 +15,8 @@ use std::process::Abort;
 use std::thread;
 use word_calls::{Refusal, abort, commit, offer, try_claim};
 
-/// The greatest length of a message that is drawn.
-pub(crate) const LONGEST: usize = 5504;
-
 /// How often a publisher tries, at the most.
 const TRIES: usize = 10_000;
-
-/// A range of the stream that a publisher claimed, and what it put there: a padding, or a message whose bytes are drawn.
-#[derive(Clone, Copy)]
-pub(crate) struct Claimed {
-    pub(crate) start: u64,
-    pub(crate) end: u64,
-    pub(crate) size: usize,
-    pub(crate) key: u32,
-    pub(crate) aborted: bool,
-}
 
 /// A number below a bound.
 pub(crate) fn below(draws: &mut Pcg32, bound: u32) -> u32
@@ -51,14 +39,6 @@ fn draw_size(draws: &mut Pcg32, geometry: &Geometry) -> usize
         _ => below(draws, 128),
     };
     LONGEST.min(size.min(geometry.max_message()) as usize)
-}
-
-/// Draws the bytes of a message.
-pub(crate) fn fill(message: &mut [u8], key: u32) {
-    let mut draws = Pcg32::new(u64::from(key), 0);
-    for byte in message.iter_mut() {
-        *byte = (draws.next_word() >> 24) as u8;
-    }
 }
 
 /// Claims a range for a message, and fills or aborts it.

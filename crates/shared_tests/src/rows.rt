@@ -4,9 +4,8 @@ ghost use Rattle.std.specs.Prelude.{IfOk};
 ghost use Rattle.shared_log.specs.Handles.{IsOf};
 ghost use Rattle.shared_tests.specs.Stays.{Stays};
 
-use crate::opening::open_ready;
 use crate::publishing::publish_offer;
-use crate::walk::{Terms, shown};
+use log_walk::{Terms, open_ready, shown};
 use one_hand::LogError;
 use position::Geometry;
 use shared_log::{Log, Publisher};

@@ -3,15 +3,12 @@
 ghost use Rattle.std.specs.Prelude.{◌≡◌, ◌≤◌, ◌+◌, ◌-◌, IfOk};
 ghost use Rattle.subscriber_end.specs.Writings.{Writes};
 
-use crate::fault::SubscribeFault;
-use crate::listening::Joined;
-use crate::telling::tell_counters;
-use crate::watch::{Watch, rest};
 use delivery::{Delivered, cycle};
 use end_options::SubscribePlan;
 use std::io::Write;
 use std::sync::Wait;
 use std::time::Clock;
+use subscriber_parts::{Joined, SubscribeFault, Watch, rest, tell_counters};
 
 /// How long a subscriber that has ended still tells where it stands, in nanoseconds.
 const FAREWELL: u64 = 1_000_000_000;

@@ -2,12 +2,8 @@
 //! it is polled, and only then hears and answers.
 #![tactic(auto)]
 
-mod fault;
 mod following;
-mod listening;
 mod subscribing;
-mod telling;
-mod watch;
 
-pub use fault::SubscribeFault;
+pub use subscriber_parts::SubscribeFault;
 pub use subscribing::subscribe;

@@ -3,11 +3,7 @@
 ghost use Rattle.std.specs.Prelude.{◌≡◌, ◌≤◌, IfOk};
 ghost use Rattle.subscriber_end.specs.Writings.{Writes};
 
-use crate::fault::SubscribeFault;
 use crate::following::{Leaving, bid_farewell, follow};
-use crate::listening::{Joined, listen};
-use crate::telling::{tell_closed, tell_joined};
-use crate::watch::Watch;
 use end_options::SubscribePlan;
 use peer::{BindError, Listener};
 use std::alloc::Global;
@@ -15,6 +11,7 @@ use std::io::Write;
 use std::net::Net;
 use std::sync::Wait;
 use std::time::{Clock, Instant};
+use subscriber_parts::{Joined, SubscribeFault, Watch, listen, tell_closed, tell_joined};
 
 /// A listener at the channel's port.
 fn bind<R: Net>(rt: &R, alloc: Global, port: u16) -> Result<Listener, SubscribeFault> {

@@ -21,7 +21,8 @@ use Rattle.tail_claim.specs.Rule.{Bounds, Knows, Sound, armed_of, armed_on, firs
 use Rattle.tail_claim.specs.Memory.{Ruled, Stored}
 use Rattle.tail_claim.specs.Openings.{Fresh}
 use Rattle.tail_claim.specs.Plays.{bounds_of, dealer, dealt, first_seat, newcomer, pass_in}
-use Rattle.tail_claim.proofs.Packs.{before_count, put, at_put, put_else, put_here}
+use Rattle.word_calls.proofs.Packed.{before_count}
+use Rattle.tail_claim.proofs.Packs.{put, at_put, put_else, put_here}
 use Rattle.tail_claim.proofs.Totals.{total_append, total_set}
 use Rattle.tail_claim.proofs.Accounts.{each_set, none_armed, unchanged}
 use Rattle.tail_claim.specs.Sure.{controls_in, fresh_controls}

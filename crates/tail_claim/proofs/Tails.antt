@@ -7,7 +7,8 @@ use Rattle.theory.specs.Position.{Geometry, id_of}
 use Rattle.theory.specs.Words.{id_before, id_in, offset_in, tail_word}
 use Rattle.tail_claim.specs.Packs.{count_place, tail_place}
 use Rattle.tail_claim.specs.Terms.{Terms, Turns, Tailed}
-use Rattle.tail_claim.proofs.Packs.{Fit, id_fits, before_fits, one_id, two_before, before_count, before_next, id_of_word, offset_of_word, add_to_word, one_count, holds, put, at_put, put_here, put_else}
+use Rattle.word_calls.proofs.Packed.{Fit, id_fits, before_fits, one_id, two_before, before_count, before_next, id_of_word, offset_of_word, add_to_word}
+use Rattle.tail_claim.proofs.Packs.{one_count, holds, put, at_put, put_here, put_else}
 
 -- no offset that a tail shows spills into the id
 abbrev pub Narrow : Terms → Type 0

@@ -7,7 +7,7 @@ use Rattle.tail_claim.specs.Packs.{tail_place}
 use Rattle.tail_claim.specs.Plays.{bounds_of}
 use Rattle.tail_claim.specs.Rule.{first_of}
 use Rattle.tail_claim.specs.Openings.{Fresh}
-use Rattle.tail_claim.proofs.Packs.{id_fits}
+use Rattle.word_calls.proofs.Packed.{id_fits}
 use Rattle.tail_claim.proofs.Begun.{first_low, fresh_words}
 use Rattle.tail_claim.proofs.opening.first_words.Goals as goal
 

@@ -15,7 +15,7 @@ use Rattle.tail_claim.proofs.Sures.{rotate_turns}
 use Rattle.log_rule.proofs.Lifting.{lifted_at, other_spares}
 use Rattle.std.specs.Int.{w32, cast_signed, cast_unsigned}
 use Rattle.std.proofs.lemmas.Int.{to_z-of_z}
-use Rattle.tail_claim.proofs.Packs.{id_fits}
+use Rattle.word_calls.proofs.Packed.{id_fits}
 use Rattle.tail_claim.proofs.Eventful.{steps_are_events}
 use Rattle.shared_log.proofs.log.Log.rotate_as.Goals as goal
 

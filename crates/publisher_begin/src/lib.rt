@@ -1,0 +1,6 @@
+//! What a publisher's end of a channel begins with: its socket, its log with the passes, and its command queue.
+#![tactic(auto)]
+
+mod beginning;
+
+pub use beginning::{Begun, begin, bind};
