@@ -38,8 +38,8 @@ struct Geometry {
     std::uint64_t max_position() const { return std::uint64_t{term_length} << 31; }
 
     std::uint32_t framed_length(std::uint32_t size) const {
-        std::uint32_t rest = size % max_payload();
         if (size <= max_payload()) return align32(size + HEADER);
+        std::uint32_t rest = size % max_payload();
         return size / max_payload() * mtu + (rest == 0 ? 0 : align32(rest + HEADER));
     }
 
