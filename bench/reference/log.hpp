@@ -1,5 +1,6 @@
 // The log of `shared_log` in plain C++: claims by one addition over words that threads share, readers that walk committed
-// frames, and a keeper that cleans behind them and moves the limit. Every step on a word is sequentially consistent.
+// frames, and a keeper that cleans behind them and moves the limit. Every step on a word is sequentially consistent, but
+// with WEAK_STORES the stores aren't: those of words that a later store publishes are relaxed, and that one releases them.
 #pragma once
 #include "geometry.hpp"
 #include <atomic>
@@ -10,6 +11,14 @@
 
 using Word = std::atomic<std::uint64_t>;
 static_assert(sizeof(Word) == 8 && Word::is_always_lock_free);
+
+#ifdef WEAK_STORES
+constexpr bool HAS_WEAK_STORES = true;
+constexpr auto FILLS = std::memory_order_relaxed, PUBLISHES = std::memory_order_release;
+#else
+constexpr bool HAS_WEAK_STORES = false;
+constexpr auto FILLS = std::memory_order_seq_cst, PUBLISHES = std::memory_order_seq_cst;
+#endif
 
 // Places of the control words, two cache lines apart, and of the stream's first word.
 constexpr std::size_t LINE = 16;
@@ -99,21 +108,21 @@ struct Log {
                      const std::uint8_t *payload, std::uint32_t size) {
         Word *frame = at(start);
         Place place = geometry.place_of(start);
-        frame[1].store(packed(session, place.offset));
-        frame[2].store(packed(place.term_id, stream));
-        frame[3].store(0);
+        frame[1].store(packed(session, place.offset), FILLS);
+        frame[2].store(packed(place.term_id, stream), FILLS);
+        frame[3].store(0, FILLS);
         Word *into = frame + 4;
         for (; size >= 8; size -= 8, payload += 8) {
             std::uint64_t word;
             std::memcpy(&word, payload, 8);
-            (into++)->store(word);
+            (into++)->store(word, FILLS);
         }
         if (size > 0) {
             std::uint64_t word = 0;
             std::memcpy(&word, payload, size);
-            into->store(word);
+            into->store(word, FILLS);
         }
-        frame[0].store(frame_length | std::uint64_t{flags} << 40 | std::uint64_t{is_data} << 48);
+        frame[0].store(frame_length | std::uint64_t{flags} << 40 | std::uint64_t{is_data} << 48, PUBLISHES);
     }
 
     void write_message(std::uint64_t start, const std::uint8_t *message, std::uint32_t size) {
@@ -174,7 +183,7 @@ struct Reader {
 
     void advance() {
         position = read_to;
-        told.store(position);
+        told.store(position, PUBLISHES);
     }
 };
 
@@ -188,12 +197,12 @@ struct Keeper {
 
     void set_connected() {
         limit |= CONNECTED;
-        log.words[LIMIT].store(limit);
+        log.words[LIMIT].store(limit, PUBLISHES);
     }
 
     // Stores zeros up to a position in the term of the cleaned one.
     void clean_to(std::uint64_t end) {
-        for (Word *word = log.at(cleaned); cleaned < end; cleaned += 8) (word++)->store(0);
+        for (Word *word = log.at(cleaned); cleaned < end; cleaned += 8) (word++)->store(0, FILLS);
     }
 
     // Whether the limit has grown.
@@ -206,7 +215,7 @@ struct Keeper {
         std::uint64_t wanted = least + term / 2;
         if ((limit & FLAGS) != CONNECTED || (limit & ~FLAGS) >= wanted) return false;
         limit = wanted | CONNECTED;
-        log.words[LIMIT].store(limit);
+        log.words[LIMIT].store(limit, PUBLISHES);
         return true;
     }
 };

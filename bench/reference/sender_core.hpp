@@ -69,7 +69,7 @@ class SenderCore {
             if (run.size == 0) break;
             send_run(position, run.size, out);
             position = run.end;
-            told.store(position);
+            told.store(position, PUBLISHES);
         }
         return position != begin;
     }
