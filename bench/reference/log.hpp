@@ -1,33 +1,34 @@
 // The log of `shared_log` in plain C++: claims by one addition over words that threads share, readers that walk committed
-// frames, and a keeper that cleans behind them and moves the limit. Every step on a word is sequentially consistent.
+// frames, and a keeper that cleans behind them and moves the limit. Every step on a word is sequentially consistent, but
+// with WEAK_STORES the stores aren't: those of words that a later store publishes are relaxed, and that one releases them.
 #pragma once
-#include <algorithm>
-#include <array>
+#include "geometry.hpp"
 #include <atomic>
-#include <chrono>
-#include <cstdint>
-#include <cstdio>
-#include <cstdlib>
 #include <cstring>
-#include <functional>
 #include <memory>
-#include <thread>
-#include <vector>
+#include <new>
+#include <optional>
 
 using Word = std::atomic<std::uint64_t>;
-using Clock = std::chrono::steady_clock;
+static_assert(sizeof(Word) == 8 && Word::is_always_lock_free);
 
-// Places of the control words, a cache line apart, and of the stream's first word.
-constexpr std::size_t LIMIT = 0;
-constexpr std::size_t COUNT = 16;
+#ifdef WEAK_STORES
+constexpr bool HAS_WEAK_STORES = true;
+constexpr auto FILLS = std::memory_order_relaxed, PUBLISHES = std::memory_order_release;
+#else
+constexpr bool HAS_WEAK_STORES = false;
+constexpr auto FILLS = std::memory_order_seq_cst, PUBLISHES = std::memory_order_seq_cst;
+#endif
+
+// Places of the control words, two cache lines apart, and of the stream's first word.
 constexpr std::size_t LINE = 16;
-constexpr std::size_t TAILS = 32;
-constexpr std::size_t CONSUMERS = 80;
-constexpr std::size_t DATA = 208;
+constexpr std::size_t LIMIT = 0;
+constexpr std::size_t COUNT = LINE;
+constexpr std::size_t TAILS = 2 * LINE;
+constexpr std::size_t CONSUMERS = 5 * LINE;
+constexpr std::size_t DATA = 13 * LINE;
 
-constexpr std::uint32_t HEADER = 32;
-constexpr std::uint32_t LAST_COUNT = 0x7fffffff;
-constexpr std::uint8_t BEGIN = 0x80, END = 0x40, UNFRAGMENTED = 0xc0;
+constexpr std::uint64_t CONNECTED = 1, CLOSED_FLAG = 2, FLAGS = 3;
 
 enum Refusal : std::int64_t {
     NOT_CONNECTED = -1,
@@ -37,56 +38,61 @@ enum Refusal : std::int64_t {
     MAX_POSITION_EXCEEDED = -5
 };
 
-std::uint32_t align32(std::uint32_t length) { return (length + 31) / 32 * 32; }
+// What a frame's first word says.
+struct Head {
+    std::uint32_t length;
+    std::uint8_t flags;
+    bool is_data;
+
+    explicit Head(std::uint64_t word)
+        : length(static_cast<std::uint32_t>(word)), flags(static_cast<std::uint8_t>(word >> 40)), is_data(word >> 48 != 0) {}
+
+    std::uint32_t covered() const { return align32(length); }
+    std::uint32_t on_wire() const { return is_data ? covered() : HEADER; }
+};
+
+class Words {
+    struct Free {
+        void operator()(Word *words) const { ::operator delete[](words, std::align_val_t{8 * LINE}); }
+    };
+    std::unique_ptr<Word[], Free> words;
+
+  public:
+    explicit Words(std::size_t count) : words(new (std::align_val_t{8 * LINE}) Word[count]()) {}
+    Word &operator[](std::size_t place) { return words[place]; }
+};
 
 struct Log {
-    std::uint32_t term_length, mtu;
-    std::int32_t initial_id, session, stream;
-    std::unique_ptr<Word[]> words;
+    Geometry geometry;
+    std::int32_t session, stream;
+    Words words;
 
-    // Connected, the limit half a term above the start, and all consumers there.
-    Log(std::uint32_t term_length, std::uint32_t mtu, std::int32_t initial_id, std::int32_t session, std::int32_t stream,
-        std::uint64_t start)
-        : term_length(term_length), mtu(mtu), initial_id(initial_id), session(session), stream(stream),
-          words(new Word[DATA + 3 * (term_length / 8)]()) {
-        std::uint32_t count = start / term_length;
-        words[LIMIT] = start + term_length / 2 + 1;
+    // Unconnected, the limit and all consumers at the start.
+    Log(const Geometry &geometry, std::int32_t session, std::int32_t stream, std::uint64_t start)
+        : geometry(geometry), session(session), stream(stream), words(DATA + 3 * (geometry.term_length / 8)) {
+        std::uint32_t count = geometry.count_of(start);
+        words[LIMIT] = start;
         words[COUNT] = count;
-        tail(count) = packed(id_of(count), start % term_length);
-        tail(count + 1) = packed(id_of(count) - 2, 0);
-        tail(count + 2) = packed(id_of(count) - 1, 0);
+        tail(count) = packed(geometry.id_of(count), geometry.offset_of(start));
+        tail(count + 1) = packed(geometry.id_of(count - 2), 0);
+        tail(count + 2) = packed(geometry.id_of(count - 1), 0);
         for (std::size_t i = 0; i < 8; i++) words[CONSUMERS + i * LINE] = start;
     }
 
-    static std::uint64_t packed(std::uint32_t id, std::uint32_t offset) { return std::uint64_t(id) << 32 | offset; }
-
-    std::uint32_t id_of(std::uint32_t count) const { return std::uint32_t(initial_id) + count; }
+    static std::uint64_t packed(std::uint32_t high, std::uint32_t low) { return std::uint64_t{high} << 32 | low; }
 
     Word &tail(std::uint32_t count) { return words[TAILS + count % 3 * LINE]; }
 
-    // The word at an offset of a term.
-    Word *place(std::uint32_t count, std::uint32_t offset) {
-        return &words[DATA + std::size_t(count % 3) * (term_length / 8) + offset / 8];
-    }
-
-    std::uint32_t framed_length(std::uint32_t size) const {
-        std::uint32_t payload = mtu - HEADER;
-        if (size <= payload) return align32(size + HEADER);
-        std::uint32_t rest = size % payload;
-        return size / payload * mtu + (rest == 0 ? 0 : align32(rest + HEADER));
-    }
+    // The words of the stream from a position on. They go on up to the end of its term.
+    Word *at(std::uint64_t position) { return &words[DATA + geometry.ring_place(position) / 8]; }
 
     void rotate(std::uint32_t count) {
         Word &next = tail(count + 1);
+        auto before = static_cast<std::uint32_t>(geometry.id_of(count - 2));
+        auto after = static_cast<std::uint32_t>(geometry.id_of(count + 1));
         std::uint64_t found = next.load();
-        if (std::uint32_t(found >> 32) == id_of(count) - 2) {
-            std::uint64_t was = found;
-            if (!next.compare_exchange_strong(was, packed(id_of(count + 1), 0)) &&
-                std::uint32_t(was >> 32) != id_of(count + 1))
-                return;
-        } else if (std::uint32_t(found >> 32) != id_of(count + 1)) {
-            return;
-        }
+        if (found >> 32 == before && next.compare_exchange_strong(found, packed(after, 0))) found = packed(after, 0);
+        if (found >> 32 != after) return;
         std::uint64_t from = count;
         words[COUNT].compare_exchange_strong(from, from + 1);
     }
@@ -98,95 +104,86 @@ struct Log {
     }
 
     // The words behind the first, and then the first one.
-    void write_frame(std::uint32_t count, std::uint32_t offset, bool padding, std::uint8_t flags, std::uint32_t frame_length,
+    void write_frame(std::uint64_t start, bool is_data, std::uint8_t flags, std::uint32_t frame_length,
                      const std::uint8_t *payload, std::uint32_t size) {
-        Word *frame = place(count, offset);
-        frame[1].store(packed(session, offset));
-        frame[2].store(packed(id_of(count), stream));
-        frame[3].store(0);
-        std::uint32_t at = 0;
-        for (; at + 8 <= size; at += 8) {
+        Word *frame = at(start);
+        Place place = geometry.place_of(start);
+        frame[1].store(packed(session, place.offset), FILLS);
+        frame[2].store(packed(place.term_id, stream), FILLS);
+        frame[3].store(0, FILLS);
+        Word *into = frame + 4;
+        for (; size >= 8; size -= 8, payload += 8) {
             std::uint64_t word;
-            std::memcpy(&word, payload + at, 8);
-            frame[4 + at / 8].store(word);
+            std::memcpy(&word, payload, 8);
+            (into++)->store(word, FILLS);
         }
-        if (at < size) {
+        if (size > 0) {
             std::uint64_t word = 0;
-            std::memcpy(&word, payload + at, size - at);
-            frame[4 + at / 8].store(word);
+            std::memcpy(&word, payload, size);
+            into->store(word, FILLS);
         }
-        std::uint64_t kind = padding ? 0 : 1;
-        frame[0].store(frame_length | std::uint64_t(flags) << 40 | kind << 48);
+        frame[0].store(frame_length | std::uint64_t{flags} << 40 | std::uint64_t{is_data} << 48, PUBLISHES);
     }
 
-    void write_message(std::uint32_t count, std::uint32_t offset, const std::uint8_t *message, std::uint32_t size) {
-        std::uint32_t most = mtu - HEADER;
+    void write_message(std::uint64_t start, const std::uint8_t *message, std::uint32_t size) {
+        std::uint32_t most = geometry.max_payload();
         std::uint8_t first = BEGIN;
-        while (size > most) {
-            write_frame(count, offset, false, first, most + HEADER, message, most);
+        for (; size > most; size -= most, message += most, start += geometry.mtu) {
+            write_frame(start, true, first, most + HEADER, message, most);
             first = 0;
-            offset += mtu;
-            message += most;
-            size -= most;
         }
-        write_frame(count, offset, false, first | END, size + HEADER, message, size);
+        write_frame(start, true, first | END, size + HEADER, message, size);
     }
 
     // The position behind the message, or a refusal.
     std::int64_t offer(const std::uint8_t *message, std::uint32_t size) {
         std::uint64_t limit = words[LIMIT].load();
-        if (limit & 2) return CLOSED;
-        std::uint32_t count = words[COUNT].load();
+        if (limit & CLOSED_FLAG) return CLOSED;
+        auto count = static_cast<std::uint32_t>(words[COUNT].load());
         std::uint64_t seen = tail(count).load();
-        if (std::uint32_t(seen >> 32) != id_of(count)) return ADMIN_ACTION;
-        std::uint32_t offset = seen;
-        if (offset >= term_length) return turn_from(count);
-        if (std::uint64_t(count) * term_length + offset >= (limit & ~std::uint64_t(3)))
-            return limit & 1 ? BACK_PRESSURED : NOT_CONNECTED;
-        std::uint32_t covered = framed_length(size);
+        if (static_cast<std::int32_t>(seen >> 32) != geometry.id_of(count)) return ADMIN_ACTION;
+        std::uint64_t term_start = std::uint64_t{count} * geometry.term_length;
+        auto offset = static_cast<std::uint32_t>(seen);
+        if (offset >= geometry.term_length) return turn_from(count);
+        if (term_start + offset >= (limit & ~FLAGS)) return limit & CONNECTED ? BACK_PRESSURED : NOT_CONNECTED;
+        std::uint32_t covered = geometry.framed_length(size);
         std::uint64_t word = tail(count).fetch_add(covered);
-        std::uint32_t found = std::uint32_t(word >> 32) - std::uint32_t(initial_id);
-        std::uint32_t from = word;
-        if (from + covered <= term_length) {
-            write_message(found, from, message, size);
-            return std::int64_t(found) * term_length + from + covered;
+        std::uint32_t found = static_cast<std::uint32_t>(word >> 32) - static_cast<std::uint32_t>(geometry.initial_id);
+        auto from = static_cast<std::uint32_t>(word);
+        std::uint64_t start = std::uint64_t{found} * geometry.term_length + from;
+        if (from + covered <= geometry.term_length) {
+            write_message(start, message, size);
+            return static_cast<std::int64_t>(start + covered);
         }
-        if (from < term_length) write_frame(found, from, true, UNFRAGMENTED, term_length - from, nullptr, 0);
+        if (from < geometry.term_length) write_frame(start, false, UNFRAGMENTED, geometry.term_length - from, nullptr, 0);
         return turn_from(found);
     }
-
-    // The word of the stream at a position.
-    Word &at(std::uint64_t position) { return words[DATA + position % (3 * std::uint64_t(term_length)) / 8]; }
 };
 
 // One of the log's consumers.
 struct Reader {
     Log &log;
-    std::size_t number;
-    std::uint64_t position;
-    std::uint64_t read_to = 0;
+    Word &told;
+    std::uint64_t position, read_to;
 
-    Reader(Log &log, std::size_t number, std::uint64_t start) : log(log), number(number), position(start) {}
+    Reader(Log &log, std::size_t number, std::uint64_t start)
+        : log(log), told(log.words[CONSUMERS + number * LINE]), position(start), read_to(start) {}
 
-    // The length of the frame that is committed where the reader stands, and its payload in the block; 0 if there is none.
-    std::uint32_t next(std::uint8_t *block) {
-        Word *frame = &log.at(position);
+    // The frame that is committed where the reader stands, and its payload in the block, which has room for an MTU.
+    std::optional<Head> next(std::uint64_t *block) {
+        Word *frame = log.at(position);
         std::uint64_t first = frame[0].load();
-        if (first == 0) return 0;
-        std::uint32_t length = first;
-        read_to = position + align32(length);
-        if (first >> 48 == 0) return length;
-        std::uint32_t size = length - HEADER;
-        for (std::uint32_t at = 0; at < size; at += 8) {
-            std::uint64_t word = frame[4 + at / 8].load();
-            std::memcpy(block + at, &word, std::min<std::uint32_t>(8, size - at));
-        }
-        return length;
+        if (first == 0) return std::nullopt;
+        Head head(first);
+        read_to = position + head.covered();
+        if (head.is_data)
+            for (std::uint32_t at = HEADER / 8; at < (head.length + 7) / 8; at++) *block++ = frame[at].load();
+        return head;
     }
 
     void advance() {
         position = read_to;
-        log.words[CONSUMERS + number * LINE].store(position);
+        told.store(position, PUBLISHES);
     }
 };
 
@@ -198,16 +195,27 @@ struct Keeper {
     Keeper(Log &log, std::size_t consumers, std::uint64_t start)
         : log(log), consumers(consumers), start(start), cleaned(start), limit(log.words[LIMIT].load()) {}
 
-    std::uint64_t clean_and_limit() {
-        std::uint64_t least = ~std::uint64_t(0);
-        for (std::size_t i = 0; i < consumers; i++) least = std::min(least, log.words[CONSUMERS + i * LINE].load());
-        std::uint64_t end = std::max(start, least < log.term_length ? 0 : least - log.term_length);
-        for (; cleaned < end; cleaned += 8) log.at(cleaned).store(0);
-        std::uint64_t wanted = least + log.term_length / 2;
-        if ((limit & 3) == 1 && (limit & ~std::uint64_t(3)) < wanted) {
-            limit = wanted + 1;
-            log.words[LIMIT].store(limit);
-        }
-        return limit & ~std::uint64_t(3);
+    void set_connected() {
+        limit |= CONNECTED;
+        log.words[LIMIT].store(limit, PUBLISHES);
+    }
+
+    // Stores zeros up to a position in the term of the cleaned one.
+    void clean_to(std::uint64_t end) {
+        for (Word *word = log.at(cleaned); cleaned < end; cleaned += 8) (word++)->store(0, FILLS);
+    }
+
+    // Whether the limit has grown.
+    bool clean_and_limit() {
+        std::uint64_t least = log.words[CONSUMERS].load();
+        for (std::size_t i = 1; i < consumers; i++) least = std::min(least, log.words[CONSUMERS + i * LINE].load());
+        std::uint32_t term = log.geometry.term_length;
+        std::uint64_t end = std::max(start, least < term ? 0 : least - term);
+        while (cleaned < end) clean_to(std::min(end, log.geometry.term_end(cleaned)));
+        std::uint64_t wanted = least + term / 2;
+        if ((limit & FLAGS) != CONNECTED || (limit & ~FLAGS) >= wanted) return false;
+        limit = wanted | CONNECTED;
+        log.words[LIMIT].store(limit, PUBLISHES);
+        return true;
     }
 };

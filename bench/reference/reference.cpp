@@ -1,7 +1,14 @@
 // Claims by one addition: measures what `bench` measures, and prints the same table.
 #include "log.hpp"
+#include <array>
+#include <chrono>
+#include <cstdio>
+#include <cstdlib>
+#include <functional>
+#include <thread>
+#include <vector>
 
-// ---- rounds
+using Clock = std::chrono::steady_clock;
 
 constexpr std::uint32_t TERM = 16777216, MTU = 1408, SIZE = 200;
 constexpr std::size_t STORES = 29;
@@ -32,7 +39,10 @@ double together(std::vector<Lane> &lanes, const std::function<void(std::size_t, 
 
 // A fresh log, filled up to its limit: nanoseconds for each claim.
 double claims(int count) {
-    Log log(TERM, MTU, 7, 1, 1001, 0);
+    Log log({TERM, MTU, 7}, 1, 1001, 0);
+    Keeper keeper(log, 1, 0);
+    keeper.set_connected();
+    keeper.clean_and_limit();
     std::vector<Lane> lanes(count);
     double taken = together(lanes, [&](std::size_t, Lane &lane) {
         std::array<std::uint8_t, SIZE> message;

@@ -1,13 +1,24 @@
 // Publishers, a reader and the keeper over one log, over many terms: measures what `bench stream` measures, and prints the
 // same table.
 #include "log.hpp"
+#include <array>
+#include <chrono>
+#include <cstdio>
+#include <cstdlib>
+#include <thread>
+#include <vector>
+
+using Clock = std::chrono::steady_clock;
 
 constexpr std::uint32_t MTU = 1408, SIZE = 200;
 constexpr std::array<int, 4> PUBLISHERS = {1, 2, 4, 8};
 
 // Nanoseconds for each message, from the common start to the moment at which the reader has read them all.
 double stream(std::uint32_t term, int count, std::uint64_t messages) {
-    Log log(term, MTU, 7, 1, 1001, 0);
+    Log log({term, MTU, 7}, 1, 1001, 0);
+    Keeper keeper(log, 1, 0);
+    keeper.set_connected();
+    keeper.clean_and_limit();
     std::atomic<int> arrived = 0;
     auto meet = [&] {
         arrived.fetch_add(1);
@@ -25,18 +36,17 @@ double stream(std::uint32_t term, int count, std::uint64_t messages) {
             }
         });
     Reader reader(log, 0, 0);
-    Keeper keeper(log, 1, 0);
-    auto block = std::make_unique<std::uint8_t[]>(MTU);
+    std::array<std::uint64_t, MTU / 8> block;
     meet();
     auto began = Clock::now();
     std::uint64_t kept = 0, step = term / 64;
     for (std::uint64_t read = 0; read < messages * count;) {
-        std::uint32_t length = reader.next(block.get());
-        if (length == 0) {
+        auto head = reader.next(block.data());
+        if (!head) {
             std::this_thread::yield();
             continue;
         }
-        if (length == SIZE + HEADER) read++;
+        if (head->is_data) read++;
         reader.advance();
         if (reader.position - kept >= step) {
             keeper.clean_and_limit();

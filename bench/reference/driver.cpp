@@ -1,0 +1,132 @@
+// The whole driver over UDP at 127.0.0.1: publishers, a sender, a conductor, a receiver and a subscriber, each in a thread
+// of its own.
+#include "log.hpp"
+#include "measure.hpp"
+#include "receiver_core.hpp"
+#include "sender_core.hpp"
+#include <chrono>
+#include <mutex>
+
+constexpr std::int32_t SESSION = 1, STREAM = 1001, INITIAL_ID = 7;
+constexpr int DATAGRAMS = 16; // that a cycle receives
+constexpr std::size_t GREATEST_DATAGRAM = 65'536;
+constexpr std::size_t CACHE_LINE = 64;
+
+// What an idle turn does.
+void rest() { std::this_thread::sleep_for(std::chrono::microseconds(20)); }
+
+// What the threads share.
+struct Stage {
+    Options options;
+    Start start;
+    Log log;
+    alignas(CACHE_LINE) Udp sends;
+    alignas(CACHE_LINE) Udp replies;
+    alignas(CACHE_LINE) std::atomic<bool> is_heard = false;
+    std::atomic<bool> is_stopped = false;
+    alignas(CACHE_LINE) std::mutex lock; // of the receiver
+    ReceiverCore receiver;
+
+    Stage(const Options &options, const Geometry &geometry)
+        : options(options), start(options.publishers + 4), log(geometry, SESSION, STREAM, 0), sends(options.loss, 1),
+          replies(options.loss, 2), receiver(SESSION, STREAM, geometry.term_length / 2, 1, geometry.max_message()) {
+        Udp::join(sends, replies);
+    }
+
+    void publish_all(std::uint32_t number) {
+        publish(options, number, start.meet(), [&](const std::uint8_t *message) {
+            for (;;) {
+                std::int64_t answer = log.offer(message, options.length);
+                if (answer >= 0) return;
+                if (answer == BACK_PRESSURED || answer == NOT_CONNECTED) rest();
+                else if (answer != ADMIN_ACTION) fail("the log is closed or used up");
+            }
+        });
+    }
+
+    // Takes a party's turns until all is to stop. A turn answers whether something was done.
+    template <typename Turn> void go_on(Turn turn) {
+        start.meet();
+        while (!is_stopped)
+            if (!turn()) rest();
+    }
+
+    // Hands over what has come, as much as a cycle takes. Whether anything has.
+    template <typename Take> static bool receive(Udp &socket, std::span<std::uint8_t> room, Take take) {
+        for (int count = 0; count < DATAGRAMS; count++) {
+            auto datagram = socket.receive(room);
+            if (!datagram) return count > 0;
+            take(*datagram);
+        }
+        return true;
+    }
+
+    void send_all() {
+        SenderCore sender(log, 0, 0);
+        std::vector<std::uint8_t> room(GREATEST_DATAGRAM);
+        go_on([&] {
+            std::uint64_t moment = now();
+            bool heard = receive(sends, room, [&](Bytes datagram) { sender.on_datagram(datagram, moment, sends); });
+            bool sent = sender.tick(moment, sends);
+            if (sender.has_heard()) is_heard = true;
+            return heard || sent;
+        });
+    }
+
+    void keep_all() {
+        Keeper keeper(log, 1, 0);
+        bool is_connected = false;
+        go_on([&] {
+            bool connects = !is_connected && is_heard;
+            if (connects) keeper.set_connected();
+            is_connected |= connects;
+            return keeper.clean_and_limit() || connects;
+        });
+    }
+
+    void receive_all() {
+        std::vector<std::uint8_t> room(GREATEST_DATAGRAM);
+        go_on([&] {
+            std::uint64_t moment = now();
+            std::lock_guard guard(lock);
+            bool heard = receive(replies, room, [&](Bytes datagram) { receiver.on_datagram(datagram); });
+            return receiver.tick(moment, replies) || heard;
+        });
+    }
+
+    std::uint64_t subscribe(Tally &tally) {
+        std::uint64_t began = start.meet();
+        while (!tally.is_complete()) {
+            bool has_come;
+            {
+                std::lock_guard guard(lock);
+                has_come = receiver.poll([&](Bytes message) { tally.take(message.data(), message.size()); });
+            }
+            if (!has_come) rest();
+        }
+        is_stopped = true;
+        return began;
+    }
+};
+
+int main(int count, char **words) {
+    Options options = Options::read(
+        count, words, {"--publishers", "--length", "--term", "--mtu", "--messages", "--rate", "--loss"});
+    Geometry geometry{options.term, options.mtu, INITIAL_ID};
+    if (!geometry.is_legal()) refuse("not of a log", "--term or --mtu");
+    if (options.length > geometry.max_message()) refuse("too long", "--length");
+    if (options.publishers > 8) refuse("too many", "--publishers");
+    if (options.loss >= 1000) refuse("loses all", "--loss");
+
+    Stage stage(options, geometry);
+    Tally tally(options);
+    std::vector<std::thread> threads;
+    for (std::uint32_t number = 0; number < options.publishers; number++)
+        threads.emplace_back([&, number] { stage.publish_all(number); });
+    threads.emplace_back([&] { stage.send_all(); });
+    threads.emplace_back([&] { stage.keep_all(); });
+    threads.emplace_back([&] { stage.receive_all(); });
+    std::uint64_t began = stage.subscribe(tally);
+    for (auto &thread : threads) thread.join();
+    tally.print("cpp-driver", began);
+}
