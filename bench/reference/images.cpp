@@ -157,7 +157,7 @@ class Image {
         std::uint32_t size = align32(frame.frame_length);
         std::int64_t offset = position % static_cast<std::int64_t>(term_length);
         if (offset < 0) offset += term_length;
-        if (offset + size > term_length) return Insert::CrossesTerm;
+        if (std::uint64_t(offset) + size > term_length) return Insert::CrossesTerm;
         if (position < 0) return Insert::Below;
         std::uint64_t start = position, lowest = least();
         if (start < lowest) return Insert::Below;

@@ -1,35 +1,17 @@
 //! A sender's agent and the queue that it asks.
 
-ghost use Rattle.std.specs.Prelude.{◌≡◌, IfOk};
+ghost use Rattle.std.specs.Prelude.{◌≡◌};
 ghost use Rattle.log_parts.specs.Parts.{IsNewReader};
 ghost use Rattle.agent_way.specs.Senders.{IsFirstLog, IsSender};
 
-use agent_way::{device_with_status, duty_over, open_log, open_sender};
+use agent_way::{Agent, device_with_status, duty_over, open_agent, open_log};
 use conductor::{CAPACITY, Client, Command, Conductor, Taker};
-use flow_control::UnicastFlow;
-use log_reading::{LogFrames, LogReader};
-use sender_agent::SenderAgent;
+use log_reading::LogReader;
 use shared_log::Log;
 use std::alloc::Global;
 use std::process::Abort;
 use std::sync::Wait;
 use std::test::*;
-
-/// The agent of these tests.
-pub(crate) type Agent<'a> = SenderAgent<LogFrames<'a>, UnicastFlow>;
-
-/// An agent that has sent nothing yet.
-pub(crate) fn open_agent<'a>(
-    alloc: Global,
-    log: &'a Log,
-    reader: LogReader,
-) -> Result<Agent<'a>, Fail>
-    requires reader { IsNewReader log.now 0 reader }
-    requires log { IsFirstLog log.now }
-    ensures { IfOk result (λ a. IsSender a.core) }
-{
-    Ok(SenderAgent::new(open_sender(alloc, log, reader)?))
-}
 
 /// A cycle to which nothing has come, or a status message that asks for a SETUP or doesn't.
 fn turn<R: Wait>(

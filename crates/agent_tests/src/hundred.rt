@@ -5,8 +5,7 @@ ghost use Rattle.shared_log.specs.Handles.{IsOf};
 ghost use Rattle.log_parts.specs.Parts.{IsNewReader};
 ghost use Rattle.agent_way.specs.Senders.{IsFirstLog, IsSender};
 
-use crate::asking::{Agent, open_agent};
-use agent_way::{carry, device_with, duty_over, listening, open_log, publish};
+use agent_way::{Agent, carry, device_with, duty_over, listening, open_agent, open_log, publish};
 use agents::{AgentFault, DATAGRAMS, Duty, REPLY};
 use conductor::{Client, Conductor};
 use endpoint::{Datagrams, FailingDatagrams, MemoryDevice};

@@ -18,6 +18,7 @@ use log_reading::{LogFrames, LogReader};
 use position::Geometry;
 use receiver::{ReceiverCore, Subscriber};
 use sender::SenderCore;
+use sender_agent::SenderAgent;
 use shared_log::{Log, OnLog, Publisher};
 use std::alloc::{AllocError, Global};
 use std::test::Fail;
@@ -68,6 +69,18 @@ pub fn open_sender<'a>(alloc: Global, log: &'a Log, reader: LogReader) -> Result
         Ok(sender) => Ok(sender),
         Err(_) => Err("no memory".into()),
     }
+}
+
+/// The agent of these tests.
+pub type Agent<'a> = SenderAgent<LogFrames<'a>, UnicastFlow>;
+
+/// An agent that has sent nothing yet.
+pub fn open_agent<'a>(alloc: Global, log: &'a Log, reader: LogReader) -> Result<Agent<'a>, Fail>
+    requires reader { IsNewReader log.now 0 reader }
+    requires log { IsFirstLog log.now }
+    ensures { IfOk result (λ a. IsSender a.core) }
+{
+    Ok(SenderAgent::new(open_sender(alloc, log, reader)?))
 }
 
 /// A subscriber that has no image yet.

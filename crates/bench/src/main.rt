@@ -1,37 +1,134 @@
 //! Measures what is to be fast: `bench ROUNDS` prints medians of so many rounds of the log that threads share,
 //! `bench stream ROUNDS MESSAGES` how long publishers and a reader take for a message, `bench images FRAMES` how long an
-//! image takes for a frame, and `bench` fills small logs and images and prints no figures.
+//! image takes for a frame, `bench log OPTIONS` and `bench driver OPTIONS` a row on the time from a message's offer to its
+//! poll, of which `bench header` prints the head, and `bench` plays small rounds and prints no figures.
 #![tactic(auto)]
 
 use anyhow::Error;
+use driver_latency::time_driver;
 use image_speed::{ImageFigures, measure_image};
+use log_latency::time_log;
 use position::Geometry;
 use speed::{Figures, measure, measure_stream, play_round, play_stream};
 use std::alloc::Global;
+use std::net::Net;
+use std::process::ExitCode;
+use std::sync::Wait;
 use std::thread::Threads;
 use std::time::Clock;
 use std::{env, io};
+use timing::{DRIVER, HEADER, LOG, Number, Plan, Row, read_plan};
 
 /// The numbers of threads.
 const THREADS: [usize; 4] = [1, 2, 4, 8];
 
-fn main(rt: HostRuntime) -> Result<(), Error> {
-    let mut words = env::args(&rt)?;
-    let _program = words.next();
-    match words.next() {
-        None => small(&rt, rt.alloc()),
-        Some(word) if word.as_str() == "images" => match words.next() {
-            None => images(&rt, rt.alloc(), "200000"),
-            Some(frames) => images(&rt, rt.alloc(), frames.as_str()),
-        },
-        Some(word) if word.as_str() == "stream" => match (words.next(), words.next()) {
-            (Some(rounds), Some(messages)) => {
-                streams(&rt, rt.alloc(), rounds.as_str(), messages.as_str())
-            }
-            _ => streams(&rt, rt.alloc(), "11", "400000"),
-        },
-        Some(word) => large(&rt, rt.alloc(), word.as_str()),
+fn main(rt: HostRuntime) -> ExitCode {
+    let done = match words(&rt) {
+        Ok(words) => carry_out(&rt, rt.alloc(), &words),
+        Err(error) => Err(Error::from(error)),
+    };
+    match done {
+        Ok(()) => ExitCode::from(0),
+        Err(error) => {
+            let _ = eprintln!(rt; "error: {error}");
+            ExitCode::from(1)
+        }
     }
+}
+
+/// The words of the process's command line.
+fn words(rt: &HostRuntime) -> io::Result<Vec<String>> {
+    let mut words = Vec::new(rt.alloc());
+    for word in env::args(rt)? {
+        words.push(word)?;
+    }
+    Ok(words)
+}
+
+/// Carries out the process's command line.
+fn carry_out<R: Threads + Wait + Clock + Net + Print + Sync>(
+    rt: &R,
+    alloc: Global,
+    words: &[String],
+) -> Result<(), Error> {
+    let words: Vec<&str> = words.iter().map(|word| word.as_str()).collect(alloc)?;
+    command(rt, alloc, &words)
+}
+
+/// Carries out a command line; the first word is the program's.
+fn command<R: Threads + Wait + Clock + Net + Print + Sync>(
+    rt: &R,
+    alloc: Global,
+    words: &[&str],
+) -> Result<(), Error> {
+    match words {
+        [] | [_] => small(rt, alloc),
+        [_, "header"] => Ok(rt.println(HEADER)?),
+        [_, "log", ..] => log_row(rt, alloc, &words[2..]),
+        [_, "driver", ..] => driver_row(rt, alloc, &words[2..]),
+        [_, "images"] => images(rt, alloc, "200000"),
+        [_, "images", frames, ..] => images(rt, alloc, *frames),
+        [_, "stream", rounds, messages, ..] => streams(rt, alloc, *rounds, *messages),
+        [_, "stream", ..] => streams(rt, alloc, "11", "400000"),
+        [_, rounds, ..] => large(rt, alloc, *rounds),
+    }
+}
+
+/// The measurement that words tell.
+fn told(words: &[&str], numbers: &[Number]) -> Result<Plan, Error> {
+    match read_plan(words, numbers) {
+        Ok(plan) => Ok(plan),
+        Err(fault) => Err(Error::from(fault)),
+    }
+}
+
+/// Times a log as the words tell, and prints a row.
+fn log_row<R: Threads + Wait + Clock + Print + Sync>(
+    rt: &R,
+    alloc: Global,
+    words: &[&str],
+) -> Result<(), Error> {
+    let plan = told(words, &LOG)?;
+    let timed = time_log(rt, alloc, &plan)?;
+    let program = "pechvang-log";
+    let row = Row {
+        program,
+        plan,
+        timed,
+    };
+    println!(rt; "{row}")?;
+    Ok(())
+}
+
+/// Times the driver as the words tell, and prints a row.
+fn driver_row<R: Threads + Wait + Clock + Net + Print + Sync>(
+    rt: &R,
+    alloc: Global,
+    words: &[&str],
+) -> Result<(), Error> {
+    let plan = told(words, &DRIVER)?;
+    let timed = time_driver(rt, alloc, &plan)?;
+    let program = "pechvang-driver";
+    let row = Row {
+        program,
+        plan,
+        timed,
+    };
+    println!(rt; "{row}")?;
+    Ok(())
+}
+
+/// Times a log and the driver for a few messages.
+fn latencies<R: Threads + Wait + Clock + Net + Print + Sync>(
+    rt: &R,
+    alloc: Global,
+) -> Result<(), Error> {
+    let plan = told(&["--publishers", "4", "--messages", "400"], &LOG)?;
+    let timed = time_log(rt, alloc, &plan)?;
+    println!(rt; "log latency: {} of 400", timed.messages)?;
+    let timed = time_driver(rt, alloc, &plan)?;
+    println!(rt; "driver latency: {} of 400", timed.messages)?;
+    Ok(())
 }
 
 /// The term lengths of images, and how many frames of a hundred come late.
@@ -65,8 +162,11 @@ fn image_line(rt: &impl Print, figures: &ImageFigures) -> io::Result<()> {
     println!(rt; "image {term_length} {missing} {tenths} {sum} {stored}")
 }
 
-/// Fills small logs.
-fn small<R: Threads + Clock + Print + Sync>(rt: &R, alloc: Global) -> Result<(), Error> {
+/// Plays small rounds.
+fn small<R: Threads + Wait + Clock + Net + Print + Sync>(
+    rt: &R,
+    alloc: Global,
+) -> Result<(), Error> {
     let geometry = Geometry::new(65_536, 1408, 7)?;
     for threads in THREADS {
         let filled = play_round(rt, alloc, geometry, threads)?;
@@ -85,10 +185,12 @@ fn small<R: Threads + Clock + Print + Sync>(rt: &R, alloc: Global) -> Result<(),
             played.stored
         )?;
     }
+    latencies(rt, alloc)?;
     println!(rt; "bench ROUNDS measures so many rounds, bench images FRAMES so many frames")?;
     println!(rt;
         "bench stream ROUNDS MESSAGES measures so many rounds of so many messages in all"
     )?;
+    println!(rt; "bench log OPTIONS and bench driver OPTIONS print a row, bench header its head")?;
     Ok(())
 }
 

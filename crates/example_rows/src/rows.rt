@@ -1,16 +1,11 @@
 //! Rows of a text: each is a command line with what it reads, and what it is to print and to tell.
 
-use crate::carrier::Carrier;
 use script::hexadecimal;
 use std::alloc::{AllocError, Global};
-use std::net::Net;
-use std::sync::Wait;
-use std::thread::Threads;
-use std::time::Clock;
 
-/// A row, as far as it was read.
+/// A row, as far as it was read: the words of a command line, what that reads, and what it is to print and to tell.
 #[derive(Drop)]
-struct Row<'a> {
+pub struct Row<'a> {
     words: Vec<&'a str>,
     input: Vec<u8>,
     output: Vec<u8>,
@@ -19,11 +14,12 @@ struct Row<'a> {
     is_start: bool,
 }
 
-/// How many rows there were, and on which lines those end that differ.
+/// What a command line prints and tells, and its status.
 #[derive(Drop)]
-pub struct Found {
-    pub rows: u32,
-    pub differing: Vec<u32>,
+pub struct Done {
+    pub output: Vec<u8>,
+    pub errors: Vec<u8>,
+    pub status: u8,
 }
 
 fn push_line(bytes: &mut Vec<u8>, line: &str) -> Result<(), AllocError> {
@@ -51,7 +47,8 @@ fn push_bytes(alloc: Global, bytes: &mut Vec<u8>, digits: &str) -> Result<(), Al
 }
 
 impl<'a> Row<'a> {
-    fn new(alloc: Global) -> Row<'a> {
+    /// A row of which nothing was read.
+    pub fn new(alloc: Global) -> Row<'a> {
         Row {
             words: Vec::new(alloc),
             input: Vec::new(alloc),
@@ -65,7 +62,7 @@ impl<'a> Row<'a> {
     /// Takes a line that tells something of the row: by its mark the words of the command line, a line that is read, one
     /// that is read so often, bytes that are read, that only the end of what is printed or the start of what is told
     /// follows, a line that is printed or one that is told.
-    fn learn(&mut self, alloc: Global, mark: &str, text: &'a str) -> Result<(), AllocError> {
+    pub fn learn(&mut self, alloc: Global, mark: &str, text: &'a str) -> Result<(), AllocError> {
         match mark {
             "$" => self.words = text.split('|').collect(alloc)?,
             "<" => push_line(&mut self.input, text)?,
@@ -80,14 +77,28 @@ impl<'a> Row<'a> {
         Ok(())
     }
 
-    /// Whether the command line does what the row says, and ends with this status.
-    fn is_met<L: Carrier, C: Threads + Wait + Clock + Net + Sync>(
-        &self,
-        rt: &C,
-        alloc: Global,
-        status: &str,
-    ) -> bool {
-        let done = L::carry_out(rt, alloc, &self.words, &self.input);
+    /// The words of the command line.
+    pub fn words(&self) -> &[&'a str] {
+        &self.words
+    }
+
+    /// What it reads.
+    pub fn input(&self) -> &[u8] {
+        &self.input
+    }
+
+    /// Forgets what was read of the row.
+    pub fn clear(&mut self) {
+        self.words.clear();
+        self.input.clear();
+        self.output.clear();
+        self.errors.clear();
+        self.is_end = false;
+        self.is_start = false;
+    }
+
+    /// Whether a command line that did this does what the row says, and ends with this status.
+    pub fn is_met(&self, done: &Done, status: &str) -> bool {
         let printed = if self.is_end {
             done.output.as_slice().ends_with(&self.output)
         } else {
@@ -100,63 +111,4 @@ impl<'a> Row<'a> {
         };
         printed && told && status.parse::<u8>() == Ok(done.status)
     }
-}
-
-/// Whether no proper beginning of a frame can be read.
-fn is_short<L: Carrier, C: Threads + Wait + Clock + Net + Sync>(
-    rt: &C,
-    alloc: Global,
-    digits: &str,
-) -> bool {
-    let mut short = true;
-    for end in (0..digits.len()).step_by(2) {
-        let beginning = digits.get(..end).unwrap_or("none");
-        let done = L::carry_out(rt, alloc, &["mdriver", "decode", beginning], b"");
-        short &= done.errors.as_slice() == b"error: F1 short\n".as_slice() && done.status == 1;
-    }
-    short
-}
-
-/// Takes a line: one that tells something of the row, or one that ends it.
-fn take_line<'a, L: Carrier, C: Threads + Wait + Clock + Net + Sync>(
-    rt: &C,
-    alloc: Global,
-    row: &mut Row<'a>,
-    found: &mut Found,
-    number: u32,
-    line: &'a str,
-) -> Result<(), AllocError> {
-    let Some((mark, rest)) = line.split_once(' ') else {
-        return Ok(());
-    };
-    let met = match mark {
-        "=" => row.is_met::<L, C>(rt, alloc, rest),
-        "%" => is_short::<L, C>(rt, alloc, rest),
-        _ => return row.learn(alloc, mark, rest),
-    };
-    found.rows = found.rows.wrapping_add(1);
-    if !met {
-        found.differing.push(number)?;
-    }
-    *row = Row::new(alloc);
-    Ok(())
-}
-
-/// Carries out the rows of a text.
-pub fn play_rows<L: Carrier, C: Threads + Wait + Clock + Net + Sync>(
-    rt: &C,
-    alloc: Global,
-    text: &str,
-) -> Result<Found, AllocError> {
-    let mut found = Found {
-        rows: 0,
-        differing: Vec::new(alloc),
-    };
-    let mut row = Row::new(alloc);
-    let mut number: u32 = 0;
-    for line in text.lines() {
-        number = number.wrapping_add(1);
-        take_line::<L, C>(rt, alloc, &mut row, &mut found, number, line)?;
-    }
-    Ok(found)
 }

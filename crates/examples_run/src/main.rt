@@ -2,9 +2,10 @@
 #![tactic(auto)]
 
 mod options;
+mod rows;
 mod streams;
 
-use example_rows::{Found, play_rows};
+use rows::{Found, play_rows};
 use std::alloc::Global;
 use std::net::Net;
 use std::process::ExitCode;
@@ -145,7 +146,7 @@ fn compare<C: Threads + Wait + Clock + Net + Sync>(
     name: &str,
 ) -> io::Result<Found> {
     let text = read(host, name, "expected")?;
-    Ok(play_rows::<streams::Lines, C>(rt, host.alloc(), &text)?)
+    Ok(play_rows(rt, host.alloc(), &text)?)
 }
 
 /// Tells how many rows there were, and which of them differ.

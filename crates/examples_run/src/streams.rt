@@ -1,7 +1,7 @@
 //! Command lines over streams of memory, over such as fail, and of the greatest lengths.
 
 use commands::command;
-use example_rows::{Broken, Carrier, Counted, Done};
+use example_rows::{Broken, Counted, Done};
 use std::alloc::{AllocError, Global};
 use std::io::{Read, Write};
 use std::net::Net;
@@ -46,20 +46,6 @@ pub(crate) fn run_over<'a, C: Threads + Wait + Clock + Net + Sync>(
         output,
         errors,
         status,
-    }
-}
-
-/// The program's command lines.
-pub(crate) struct Lines;
-
-impl Carrier for Lines {
-    fn carry_out<C: Threads + Wait + Clock + Net + Sync>(
-        rt: &C,
-        alloc: Global,
-        words: &[&str],
-        input: &[u8],
-    ) -> Done {
-        run_over(rt, alloc, words, input)
     }
 }
 

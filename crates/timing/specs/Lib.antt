@@ -1,0 +1,2 @@
+pub mod Percentiles
+pub mod Stamps

@@ -1,0 +1,35 @@
+use agents::AgentFault;
+use std::alloc::AllocError;
+use thiserror::Error;
+
+/// Why nothing was timed.
+#[derive(Clone, Copy, Debug, Error)]
+pub enum LatencyError {
+    #[error("memory was refused")]
+    Memory,
+    #[error("the clock can't be read")]
+    Clock,
+    #[error("a thread couldn't be started")]
+    Thread,
+    #[error("a socket couldn't be had, or failed")]
+    Device,
+    #[error("the log is used up")]
+    Full,
+    #[error("no message was read")]
+    Nothing,
+}
+
+impl From<AllocError> for LatencyError {
+    fn from(_error: AllocError) -> LatencyError {
+        LatencyError::Memory
+    }
+}
+
+impl From<AgentFault> for LatencyError {
+    fn from(fault: AgentFault) -> LatencyError {
+        match fault {
+            AgentFault::Device => LatencyError::Device,
+            AgentFault::Memory => LatencyError::Memory,
+        }
+    }
+}
