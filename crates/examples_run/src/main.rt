@@ -1,10 +1,10 @@
 //! Plays each script of `examples/` and carries out each row, and says whether it prints what is expected.
 #![tactic(auto)]
 
-mod options;
+mod lines;
 mod rows;
-mod streams;
 
+use lines::run_over;
 use rows::{Found, play_rows};
 use std::alloc::Global;
 use std::net::Net;
@@ -68,13 +68,7 @@ fn carry_out_all<C: Threads + Wait + Clock + Net + Sync>(
 ) -> io::Result<bool> {
     let played = play_all(host, rt)?;
     let alike = compare_all(host, rt)?;
-    let told = streams::faults_are_told(rt, host.alloc());
-    let bounded = streams::lengths_are_bounded(rt, host.alloc())?;
-    let options = options::are_told(host.alloc());
-    tell(host, "streams", told)?;
-    tell(host, "lengths", bounded)?;
-    tell(host, "options", options)?;
-    Ok(played && alike && told && bounded && options)
+    Ok(played && alike)
 }
 
 /// Tells whether something does what is expected.
@@ -121,7 +115,7 @@ fn prints<C: Threads + Wait + Clock + Net + Sync>(
     script: &str,
     expected: &str,
 ) -> bool {
-    let done = streams::run_over(rt, alloc, &["mdriver", "sim"], script.as_bytes());
+    let done = run_over(rt, alloc, &["mdriver", "sim"], script.as_bytes());
     done.status == 0 && done.errors.is_empty() && done.output.as_slice() == expected.as_bytes()
 }
 

@@ -1,6 +1,6 @@
 //! The rows of a text, carried out.
 
-use crate::streams::run_over;
+use crate::lines::run_over;
 use example_rows::Row;
 use std::alloc::{AllocError, Global};
 use std::net::Net;

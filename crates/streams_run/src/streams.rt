@@ -34,7 +34,7 @@ fn carry_out<'a, C: Threads + Wait + Clock + Net + Sync, R: Read + Send, W: Writ
     (errors, status)
 }
 
-pub(crate) fn run_over<'a, C: Threads + Wait + Clock + Net + Sync>(
+fn run_over<'a, C: Threads + Wait + Clock + Net + Sync>(
     rt: &C,
     alloc: Global,
     words: &'a [&'a str],
