@@ -1,6 +1,6 @@
 //! The driver, timed.
 
-ghost use Rattle.std.specs.Prelude.{◌≡◌, ◌*◌, ◌≤◌, None, IfOk, OnOk, vec_len};
+ghost use Rattle.std.specs.Prelude.{◌≡◌, ◌*◌, ◌≤◌, None, IfOk, vec_len};
 ghost use Rattle.std.specs.List.{AllByRecursion};
 ghost use Rattle.theory.specs.Position.{max_message};
 ghost use Rattle.counters.specs.Order.{zeros};
@@ -14,9 +14,10 @@ ghost use Rattle.log_latency.specs.Openings.{IsOpened};
 use agents::AgentFault;
 use conductor::{Client, Conductor, Taker};
 use counters::{CounterWriter, Counters};
-use driver_parties::{Cast, Device, Parties, await_stream, poll_all, start_parties};
+use driver_parties::{Cast, Device};
+use driver_play::play;
 use endpoint::{OpenError, UdpDevice};
-use log_latency::{Idle, Offers, Opened, open_log, start_publishers};
+use log_latency::{Opened, open_log};
 use lossy::Lossy;
 use position::Geometry;
 use receiver::{ReceiverCore, Subscriber};
@@ -27,8 +28,7 @@ use std::alloc::{AllocError, Global};
 use std::marker::Brand;
 use std::net::Net;
 use std::sync::{Mutex, Wait};
-use std::thread;
-use std::thread::{Scope, Threads};
+use std::thread::Threads;
 use std::time::Clock;
 use timing::{Course, LatencyError, Load, Plan, Samples, Timed, timed_by};
 
@@ -89,106 +89,6 @@ fn make_tools(alloc: Global, geometry: &Geometry) -> Result<Tools, AllocError>
         counters,
         writer,
     })
-}
-
-/// Waits for the stream, begins once all publishers have come, and polls so many messages.
-fn poll_from_begin<N: Named, R: Wait + Clock>(
-    parties: &Parties<'_, N, R>,
-    publishers: u32,
-    wanted: u64,
-    samples: &mut Samples,
-) -> Result<(), LatencyError>
-    requires { vec_len samples.old.taken ≡ 0 }
-    ensures { OnOk result (vec_len samples.new.taken ≤ wanted) }
-{
-    await_stream(parties)?;
-    parties.course.begin(parties.rt, publishers)?;
-    poll_all(parties, wanted, samples)
-}
-
-/// Starts all threads, polls so many messages, and then lets all end.
-fn play_in<'s, S, N: Named + Send, R: Wait + Clock + Sync>(
-    scope: &'s Scope<'s, S>,
-    rt: &'s R,
-    alloc: Global,
-    stage: &'s Stage,
-    course: &'s Course,
-    counters: &'s Counters,
-    agent: &'s Mutex<ReceiverAgent<N>>,
-    load: Load,
-    wanted: u64,
-    cast: Cast,
-    publishers: Vec<Publisher>,
-    mut samples: Samples,
-) -> Result<Samples, LatencyError>
-    requires cast { IsCast stage.now.log stage.now.conductor cast }
-    requires counters { counters.now ≡ N.counters }
-    requires done { AllByRecursion (IsDone stage.now.log) publishers.items }
-    requires short { load.length ≤ max_message stage.now.log.identity.geometry }
-    requires none { vec_len samples.taken ≡ 0 }
-    ensures { IfOk result (λ s. vec_len s.taken ≤ wanted) }
-{
-    let parties = Parties {
-        rt,
-        alloc,
-        stage,
-        course,
-        counters,
-        agent,
-    };
-    let offers = Offers {
-        rt,
-        alloc,
-        log: &stage.log,
-        course,
-        load,
-        idle: Idle::Rest,
-    };
-    start_parties(scope, &parties, cast);
-    start_publishers(scope, &offers, publishers);
-    let polled = poll_from_begin(&parties, load.publishers, wanted, &mut samples);
-    course.stop();
-    stage.stop();
-    match polled {
-        Ok(()) => Ok(samples),
-        Err(fault) => Err(fault),
-    }
-}
-
-/// The same, in a scope of its own. It is left once all threads have ended.
-fn play<N: Named + Send, R: Threads + Wait + Clock + Sync>(
-    rt: &R,
-    alloc: Global,
-    stage: &Stage,
-    course: &Course,
-    counters: &Counters,
-    agent: &Mutex<ReceiverAgent<N>>,
-    load: Load,
-    wanted: u64,
-    cast: Cast,
-    publishers: Vec<Publisher>,
-    samples: Samples,
-) -> Result<Samples, LatencyError>
-    requires cast { IsCast stage.now.log stage.now.conductor cast }
-    requires counters { counters.now ≡ N.counters }
-    requires done { AllByRecursion (IsDone stage.now.log) publishers.items }
-    requires short { load.length ≤ max_message stage.now.log.identity.geometry }
-    requires none { vec_len samples.taken ≡ 0 }
-    ensures { IfOk result (λ s. vec_len s.taken ≤ wanted) }
-{
-    thread::scope(
-        thread::scope_env(),
-        rt,
-        move |scope| -> Result<Samples, LatencyError>
-            requires { IsCast stage.now.log stage.now.conductor cast × (counters.now ≡ N.counters) × AllByRecursion (IsDone stage.now.log) publishers.items × (load.length ≤ max_message stage.now.log.identity.geometry) × (vec_len samples.taken ≡ 0) }
-            ensures { IfOk result (λ s. vec_len s.taken ≤ wanted) }
-        {
-            play_in(
-                scope, rt, alloc, stage, course, counters, agent, load, wanted, cast, publishers,
-                samples,
-            )
-        },
-    )
 }
 
 /// Plays with the counters that have this name.

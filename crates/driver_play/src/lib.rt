@@ -1,0 +1,6 @@
+//! The threads of the driver whose messages are timed, from their start to their end.
+#![tactic(auto)]
+
+mod playing;
+
+pub use playing::play;
