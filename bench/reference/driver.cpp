@@ -1,19 +1,16 @@
 // The whole driver over UDP at 127.0.0.1: publishers, a sender, a conductor, a receiver and a subscriber, each in a thread
 // of its own.
+#include "idle.hpp"
 #include "log.hpp"
 #include "measure.hpp"
 #include "receiver_core.hpp"
 #include "sender_core.hpp"
-#include <chrono>
 #include <mutex>
 
 constexpr std::int32_t SESSION = 1, STREAM = 1001, INITIAL_ID = 7;
 constexpr int DATAGRAMS = 16; // that a cycle receives
 constexpr std::size_t GREATEST_DATAGRAM = 65'536;
 constexpr std::size_t CACHE_LINE = 64;
-
-// What an idle turn does.
-void rest() { std::this_thread::sleep_for(std::chrono::microseconds(20)); }
 
 // What the threads share.
 struct Stage {
@@ -35,10 +32,10 @@ struct Stage {
 
     void publish_all(std::uint32_t number) {
         publish(options, number, start.meet(), [&](const std::uint8_t *message) {
-            for (;;) {
+            for (Idle idle;;) {
                 std::int64_t answer = log.offer(message, options.length);
                 if (answer >= 0) return;
-                if (answer == BACK_PRESSURED || answer == NOT_CONNECTED) rest();
+                if (answer == BACK_PRESSURED || answer == NOT_CONNECTED) idle.after(false);
                 else if (answer != ADMIN_ACTION) fail("the log is closed or used up");
             }
         });
@@ -47,8 +44,7 @@ struct Stage {
     // Takes a party's turns until all is to stop. A turn answers whether something was done.
     template <typename Turn> void go_on(Turn turn) {
         start.meet();
-        while (!is_stopped)
-            if (!turn()) rest();
+        for (Idle idle; !is_stopped;) idle.after(turn());
     }
 
     // Hands over what has come, as much as a cycle takes. Whether anything has.
@@ -96,13 +92,13 @@ struct Stage {
 
     std::uint64_t subscribe(Tally &tally) {
         std::uint64_t began = start.meet();
-        while (!tally.is_complete()) {
+        for (Idle idle; !tally.is_complete();) {
             bool has_come;
             {
                 std::lock_guard guard(lock);
                 has_come = receiver.poll([&](Bytes message) { tally.take(message.data(), message.size()); });
             }
-            if (!has_come) rest();
+            idle.after(has_come);
         }
         is_stopped = true;
         return began;

@@ -1,4 +1,5 @@
 // Claims by one addition: measures what `bench` measures, and prints the same table.
+#include "gate.hpp"
 #include "log.hpp"
 #include <array>
 #include <chrono>
@@ -19,14 +20,13 @@ struct Lane {
     Clock::time_point began, ended;
 };
 
-// All threads begin once the last one is there. The nanoseconds from the first's begin to the last's end.
+// All threads begin together. The nanoseconds from the first's begin to the last's end.
 double together(std::vector<Lane> &lanes, const std::function<void(std::size_t, Lane &)> &work) {
-    std::atomic<std::size_t> arrived = 0;
+    Gate gate(lanes.size());
     std::vector<std::thread> threads;
     for (std::size_t i = 0; i < lanes.size(); i++)
         threads.emplace_back([&, i] {
-            arrived.fetch_add(1);
-            while (arrived.load() < lanes.size()) std::this_thread::yield();
+            gate.pass();
             lanes[i].began = Clock::now();
             work(i, lanes[i]);
             lanes[i].ended = Clock::now();

@@ -1,5 +1,6 @@
 // Publishers, a reader and the keeper over one log, over many terms: measures what `bench stream` measures, and prints the
 // same table.
+#include "gate.hpp"
 #include "log.hpp"
 #include <array>
 #include <chrono>
@@ -19,17 +20,13 @@ double stream(std::uint32_t term, int count, std::uint64_t messages) {
     Keeper keeper(log, 1, 0);
     keeper.set_connected();
     keeper.clean_and_limit();
-    std::atomic<int> arrived = 0;
-    auto meet = [&] {
-        arrived.fetch_add(1);
-        while (arrived.load() < count + 1) std::this_thread::yield();
-    };
+    Gate gate(static_cast<std::size_t>(count) + 1);
     std::vector<std::thread> threads;
     for (int i = 0; i < count; i++)
         threads.emplace_back([&] {
             std::array<std::uint8_t, SIZE> message;
             message.fill(97);
-            meet();
+            gate.pass();
             for (std::uint64_t sent = 0; sent < messages;) {
                 if (log.offer(message.data(), SIZE) >= 0) sent++;
                 else std::this_thread::yield();
@@ -37,7 +34,7 @@ double stream(std::uint32_t term, int count, std::uint64_t messages) {
         });
     Reader reader(log, 0, 0);
     std::array<std::uint64_t, MTU / 8> block;
-    meet();
+    gate.pass();
     auto began = Clock::now();
     std::uint64_t kept = 0, step = term / 64;
     for (std::uint64_t read = 0; read < messages * count;) {

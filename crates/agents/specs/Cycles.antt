@@ -61,7 +61,14 @@ pub record Cycle {P : Type 0} (hears : P → ℕ → List ℕ → P → List (Li
   pub carries : tells → Carries d heard (answers ++ given) e
   pub is_busy : busy ≡ are_some (heard ++ given)
 
--- a fault ended it, before the tick or when that was done; of what the party gave out a part was sent
+-- the tick was done behind 16 datagrams, or as many as there were, each heard and answered; then a part of what that gave was sent
+pub record TicksBehind {P : Type 0} (ticks : P → ℕ → P → List (List ℕ) → Type 0) (now : ℕ) (heard lost answers given sent : List (List ℕ)) (middle : P) (d : Device) (t : P) (e : Device) : Type 0 where
+  pub ended : (length heard ≡ 16) ⊎ HasGrown d.nones e.nones
+  pub none_lost : lost ≡ []
+  pub answered : IsPart sent answers
+  pub ticked : ticks middle now t given
+
+-- a fault ended it, while datagrams were heard, and then there was no tick, or behind the tick; of what the party gave out a part was sent
 pub record Fault {P : Type 0} (hears : P → ℕ → List ℕ → P → List (List ℕ) → Type 0) (ticks : P → ℕ → P → List (List ℕ) → Type 0) (now : ℕ) (tells : Type 0) (fault : AgentFault) (s : P) (d : Device) (t : P) (e : Device) : Type 0 where
   pub heard : List (List ℕ)
   pub lost : List (List ℕ)
@@ -71,7 +78,7 @@ pub record Fault {P : Type 0} (hears : P → ℕ → List ℕ → P → List (Li
   pub middle : P
   pub few : length heard + length lost ≤ 16
   pub all_heard : HearsAll hears now s heard middle answers
-  pub ticked : ((t ≡ middle) × (given ≡ [])) ⊎ ticks middle now t given
+  pub ticked : ((t ≡ middle) × (given ≡ [])) ⊎ TicksBehind ticks now heard lost answers given sent middle d t e
   pub part : IsPart (answers ++ given) sent
   pub explained : Explains fault d lost e
   pub carries : tells → Carries d (heard ++ lost) sent e

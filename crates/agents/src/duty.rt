@@ -130,8 +130,8 @@ impl<D: Datagrams> Duty<D> {
 
     /// A cycle, at a moment in nanoseconds. At most 16 datagrams that have come are handed to the party, and what it gives
     /// for each is sent; then it is told the moment, and what is due is sent. Whether a datagram came or went. At a fault
-    /// the rest of what was to be sent isn't sent, and the party stands behind its last step. The next cycle may be called
-    /// after it.
+    /// the rest of what the party gave isn't sent. Where it came while datagrams were taken or answered, the party isn't told
+    /// the moment; it has been told where the device failed behind that. The next cycle may be called after it.
     pub fn cycle<P: Party>(&mut self, party: &mut P, now: u64) -> Result<bool, AgentFault>
         requires stands { P.stands party.old }
         requires size { self.old.mtu ≡ P.mtu party.old }

@@ -3,7 +3,7 @@
 ghost use Rattle.std.specs.Prelude.{◌≡◌, ◌≢◌, ◌↔◌, ℕ, List, [], codes, true, false, map, IfOk, IfErr, OnOk, IsTrue, Err, MatchResult};
 ghost use Rattle.clap.specs.declared.builder.command.Command.TheViews.{out-Command};
 ghost use Rattle.clap.specs.Words.{App, FailsBy, IsAmong, app_of, fault_of as clap_faults, is_simple, is_simple_and_free, kind_of, new_app, subcommand_of, with_rule, with_subcommand};
-ghost use Rattle.command_line.specs.CommandLines.{AsksFor, AsksForBareRun, AsksForDecode, AsksForSim, IsChoice, IsRunByDefault, bare_app, driver_app, hex_rule};
+ghost use Rattle.command_line.specs.CommandLines.{AsksFor, AsksForBareRun, AsksForDecode, AsksForSim, IsChoice, IsRunByDefault, bare_app, driver_app, hex_rule, output_of};
 
 use crate::choice::Options;
 use crate::chosen::choice;
@@ -36,6 +36,8 @@ impl OptionsFault {
 }
 
 impl fmt::Display for OptionsFault {
+    ghost output = { λ fault. output_of fault };
+
     fn fmt<W: fmt::Write>(&self, f: &mut fmt::Formatter<W>) -> fmt::Result {
         match self {
             OptionsFault::Shown(error) => write!(f, "{error}"),
@@ -85,8 +87,9 @@ fn parsed<'a>(command: Command<'a>, words: &'a [&'a str]) -> Result<Options<'a>,
     Ok(choice(&matches))
 }
 
+/// A parser's error: `Memory` where memory was refused, and only there.
 fn fault_of(error: Error) -> OptionsFault
-    ensures memory { kind_of error ≡ ErrorKind.OutOfMemory → result ≡ OptionsFault.Memory }
+    ensures memory { (kind_of error ≡ ErrorKind.OutOfMemory) ↔ (result ≡ OptionsFault.Memory) }
     ensures shown { (e : Error) → result ≡ OptionsFault.Shown e
         → (kind_of e ≡ kind_of error) × (kind_of e ≡ ErrorKind.OutOfMemory → ⊥) }
 {

@@ -72,7 +72,7 @@ const TURNS: Number = Number {
     least: 1,
     most: 1_000_000_000,
     otherwise: 1_000_000,
-    help: "The most turns of the run, 1 to 1000000000 [default: 1000000]",
+    help: "The most turns of each thread, 1 to 1000000000 [default: 1000000]",
 };
 
 const TERM: Number = Number {

@@ -1,6 +1,8 @@
 //! One command line, carried out.
 
-ghost use Rattle.std.specs.Prelude.{◌≤◌};
+ghost use Rattle.std.specs.Prelude.{◌≡◌, ◌≤◌};
+ghost use Rattle.commands.specs.Running.{IsLeftBy};
+ghost use Rattle.commands.specs.Statuses.{done_status, ran_status};
 
 use crate::run_command::run_driver;
 use command_line::{Options, OptionsFault, options};
@@ -21,9 +23,10 @@ use std::time::Clock;
 const VERSION: &str = "mdriver 0.1.0, proved with rattle-kit-13f logic dac8208d650f15bf\n";
 
 /// Carries out a command line over a reader and two writers, and gives the status: 0 where all was done, 1 at a fault,
-/// 2 for a refused command line, 3 for a run whose turns were used before all was polled. The first word is the program's
-/// name; `--version` alone asks for the version, and `publish` and `subscribe` are carried out by `publish_command` and
-/// `subscribe_command`.
+/// 2 for a refused command line, and for an end's refused channel or rates, 3 for a run whose turns were used before all was
+/// polled, and for a publisher that ended before one receiver had received all from the start on. The first word is the
+/// program's name; `--version` alone asks for the version, and `publish` and `subscribe` are carried out by
+/// `publish_command` and `subscribe_command`.
 ///
 /// What is written for each isn't promised here: `options`, `sim`, `decode` and `run_driver` say what they make of the words
 /// and of the input, and the texts of help and refusals are the parser's, of which no contract speaks.
@@ -75,7 +78,7 @@ fn parsed_command<'a, C: Threads + Wait + Clock + Net + Sync, R: Read, W: Write,
 
 /// Tells a fault, and gives the status.
 fn status<E: Write>(done: Result<(), Fault>, errors: &mut E) -> u8
-    ensures { result ≤ 1 }
+    ensures { result ≡ done_status done }
 {
     match done {
         Ok(()) => 0,
@@ -86,7 +89,7 @@ fn status<E: Write>(done: Result<(), Fault>, errors: &mut E) -> u8
     }
 }
 
-/// Runs the driver, and gives the status.
+/// Runs the driver, and gives the status. At 0 the run was whole, and at 3 short, as the lines that were written tell.
 fn run_status<C: Threads + Wait + Clock + Net + Sync, W: Write, E: Write>(
     rt: &C,
     alloc: Global,
@@ -94,9 +97,19 @@ fn run_status<C: Threads + Wait + Clock + Net + Sync, W: Write, E: Write>(
     output: &mut W,
     errors: &mut E,
 ) -> u8
-    ensures { result ≤ 3 }
+    ensures most { result ≤ 3 }
+    ensures whole { result ≡ 0 → IsLeftBy options.now (W.contents output.old) (W.contents output.new) Ending.Whole }
+    ensures short { result ≡ 3 → IsLeftBy options.now (W.contents output.old) (W.contents output.new) Ending.Short }
 {
-    match run_driver(rt, alloc, options, output, &mut *errors) {
+    let ended = run_driver(rt, alloc, options, output, &mut *errors);
+    ran(ended, errors)
+}
+
+/// The status of a run that ended; a fault is told, and so is a broken order.
+fn ran<E: Write>(ended: Result<Ending, Fault>, errors: &mut E) -> u8
+    ensures { result ≡ ran_status ended }
+{
+    match ended {
         Ok(Ending::Whole) => 0,
         Ok(Ending::Short) => 3,
         Ok(Ending::Broken) => status(Err(Fault::Order), errors),

@@ -1,6 +1,6 @@
 //! The frames of one datagram, as lines.
 
-ghost use Rattle.std.specs.Prelude.{◌≡◌, ◌⊎◌, ℕ, List, length, IfErr, IfOk, OnOk};
+ghost use Rattle.std.specs.Prelude.{◌≡◌, ◌≢◌, ◌≤◌, ◌%◌, ◌⊎◌, ℕ, List, length, IfErr, IfOk, OnOk};
 ghost use Rattle.std.specs.Io.KnownBytes.{Appends, Keeps};
 ghost use Rattle.theory.specs.Wire.{SpellsDatagram, Wire};
 ghost use Rattle.decode.specs.Decoding.{Explains, SaysFrames, SpellsWord};
@@ -18,8 +18,9 @@ const GREATEST_WORD: usize = 131_072;
 
 /// Prints a line for each frame of the datagram that the word spells in hexadecimal, in order.
 ///
-/// The word is an even number of digits, large or small, at most 131,072; else the fault is `Hex`. Where its bytes are no
-/// datagram, the fault is the datagram's first one. At any fault but `Write` nothing was printed.
+/// The word is an even number of digits, large or small, at most 131,072; else the fault is `Hex`. `Memory` comes only for an
+/// even number of characters, at most as many. Where its bytes are no datagram, the fault is the datagram's first one. At any
+/// fault but `Write` nothing was printed.
 pub fn decode<W: Write>(alloc: Global, word: &str, output: &mut W) -> Result<(), DecodeError>
     // What is printed are the lines of the datagram's frames.
     ensures done { OnOk result ((frames : List Wire) × SaysFrames word.now frames
@@ -36,10 +37,10 @@ pub fn decode<W: Write>(alloc: Global, word: &str, output: &mut W) -> Result<(),
 }
 
 /// The bytes that the word spells, two hexadecimal digits a byte. The fault is `Hex` where it spells none, or want of
-/// memory.
+/// memory, which is asked for only where its length can be right.
 fn bytes_of(alloc: Global, word: &str) -> Result<Vec<u8>, DecodeError>
     ensures found { IfOk result (λ bytes. SpellsWord word.now bytes.items) }
-    ensures fault { IfErr result (λ fault. (fault ≡ DecodeError.Memory)
+    ensures fault { IfErr result (λ fault. ((fault ≡ DecodeError.Memory) × (length word.now ≤ 131072) × (length word.now % 2 ≢ 1))
         ⊎ ((fault ≡ DecodeError.Hex) × ((bytes : List ℕ) → SpellsWord word.now bytes → ⊥))) }
 {
     let digits = word.as_bytes();

@@ -1,14 +1,14 @@
 -- Messages that are written one after the other.
-use Rattle.std.proofs.Common.{◌≡◌, ◌∙◌, ℕ, Bool, true, false, ◌+◌, List, [], ◌∷◌, ◌++◌, length, Option, refl, sym, ap, subst, arith, append-nil, length-append, inl}
-use Rattle.std.specs.Io.KnownBytes.{Appends}
-use Rattle.std.proofs.KnownBytes.{Appends-nil, Appends-trans}
+use Rattle.std.proofs.Common.{◌≡◌, ◌∙◌, ℕ, Bool, true, false, ◌+◌, ◌<◌, List, [], ◌∷◌, ◌++◌, length, Option, refl, sym, ap, subst, arith, append-nil, length-append, inl}
+use Rattle.std.specs.Io.KnownBytes.{Appends, Keeps}
+use Rattle.std.proofs.KnownBytes.{Appends-kept, Appends-nil, Appends-trans}
 use Rattle.std.proofs.lemmas.Grind.{flat_map-append}
 use Rattle.message_form.specs.Forms.{spelled, spelling}
 use Rattle.message_form.specs.declared.form.Form.{Form}
 use Rattle.receiver.specs.Subscribing.{Subscribing}
 use Rattle.delivery.specs.declared.fault.DeliveryFault.{DeliveryFault}
 use Rattle.delivery.specs.declared.fault.DeliveryFault.TheVariants as faults
-use Rattle.delivery.specs.Deliveries.{Stops, StopsAtOne, PollsOne, PollsAll, Steps}
+use Rattle.delivery.specs.Deliveries.{Delivers, Stops, StopsAtOne, PollsOne, PollsAll, Steps}
 
 -- so many messages were polled and written
 pub record Written (form : Form) (s : Subscribing) (before : Option (List ℕ)) (number : ℕ) (t : Subscribing) (after : Option (List ℕ)) : Type 0 where
@@ -42,8 +42,22 @@ step_more form s t u a b c number true e w (message, one, more) = written_more f
 step_more form s t u a b c number false e w none = absurd (cc)
 
 -- a step that failed
-pub step_failed : (form : Form) (s t u : Subscribing) (a b c : Option (List ℕ)) (number : ℕ) (fault : DeliveryFault) → Written form s a number t b → StopsAtOne fault t b u c → Stops form fault s a u c
-step_failed form s t u a b c number faults.Output w (message, one) = (w.messages ++ message ∷ [], u, polled_more s t u w.messages message w.polled one, inl refl)
-step_failed form s t u a b c number (faults.Message error) w (refused, same) = (w.messages, t, w.polled, refused, subst (λ x. Appends a x (spelling form w.messages)) (sym same) w.written)
-step_failed form s t u a b c number faults.Device w wrong = wrong
-step_failed form s t u a b c number faults.Memory w wrong = wrong
+pub step_failed : (form : Form) (most : ℕ) (s t u : Subscribing) (a b c : Option (List ℕ)) (number : ℕ) (fault : DeliveryFault) → number < most → Written form s a number t b → StopsAtOne form fault t b u c → Stops form most fault s a u c
+step_failed form most s t u a b c number faults.Output low w (message, one, part) =
+    inl (record { messages = w.messages; middle = t; last = message; between = b; polled = w.polled; one = one; few = omega (arith, w.counted, low); written = w.written; part = part })
+step_failed form most s t u a b c number (faults.Message error) low w (refused, same) =
+    (w.messages, t, omega (arith, w.counted, low), w.polled, refused, subst (λ x. Appends a x (spelling form w.messages)) (sym same) w.written)
+step_failed form most s t u a b c number faults.Device low w wrong = wrong
+step_failed form most s t u a b c number faults.Memory low w wrong = wrong
+
+-- all was written, and then the output kept that
+pub delivered_kept : (form : Form) (most : ℕ) (s t : Subscribing) (a b c : Option (List ℕ)) (number : ℕ) → Delivers form most s a number t b → Keeps b c → Delivers form most s a number t c
+delivered_kept form most s t a b c number h kept = record {
+  messages = h.messages;
+  middle = h.middle;
+  polled = h.polled;
+  counted = h.counted;
+  few = h.few;
+  ended = h.ended;
+  written = Appends-kept a b c _ h.written kept;
+}

@@ -1,7 +1,7 @@
 -- Messages that are polled and written, and what comes behind that.
-use Rattle.std.specs.Prelude.{◌≡◌, ◌⊎◌, ◌≤◌, ℕ, min, Bool, true, false, List, [], ◌∷◌, length, Option, None, Some, Ok, Err}
+use Rattle.std.specs.Prelude.{◌≡◌, ◌⊎◌, ◌<◌, ◌≤◌, ℕ, min, Bool, true, false, List, [], ◌∷◌, length, Option, None, Some, Ok, Err}
 use Rattle.std.specs.Io.KnownBytes.{Appends}
-use Rattle.message_form.specs.Forms.{spelled, spelling}
+use Rattle.message_form.specs.Forms.{AppendsPart, spelled, spelling}
 use Rattle.message_form.specs.declared.form.Form.{Form}
 use Rattle.endpoint.specs.Devices.{Device}
 use Rattle.agents.specs.Cycles.{Cycle, Fault}
@@ -54,20 +54,33 @@ pub record WritesFirst (form : Form) (most now : ℕ) (tells : Type 0) (s : Subs
 abbrev pub PollsRefused : Subscribing → AssemblyError → Subscribing → Type 0
 PollsRefused s error t = SubscriberBecomes s t (λ r q. Polls r (Err (Unassembled error)) q)
 
--- why a poll with its writing failed: the message that it gave may be written in part, or none was given
-abbrev pub StopsAtOne : DeliveryFault → Subscribing → Option (List ℕ) → Subscribing → Option (List ℕ) → Type 0
-StopsAtOne faults.Output s before t after = (message : List ℕ) × PollsOne s message t
-StopsAtOne (faults.Message error) s before t after = PollsRefused s error t × (after ≡ before)
-StopsAtOne faults.Device s before t after = ⊥
-StopsAtOne faults.Memory s before t after = ⊥
+-- why a poll with its writing failed: the message that it gave is written in part, perhaps none of it; or none was given
+abbrev pub StopsAtOne : Form → DeliveryFault → Subscribing → Option (List ℕ) → Subscribing → Option (List ℕ) → Type 0
+StopsAtOne form faults.Output s before t after = (message : List ℕ) × PollsOne s message t × AppendsPart before after (spelled form message)
+StopsAtOne form (faults.Message error) s before t after = PollsRefused s error t × (after ≡ before)
+StopsAtOne form faults.Device s before t after = ⊥
+StopsAtOne form faults.Memory s before t after = ⊥
 
--- why it ended before anything was heard: behind some messages the output failed, or a frame was refused when they were written
-abbrev pub Stops : Form → DeliveryFault → Subscribing → Option (List ℕ) → Subscribing → Option (List ℕ) → Type 0
-Stops form faults.Output s before t after = (messages : List (List ℕ)) × (middle : Subscribing) × PollsAll s messages middle × ((t ≡ middle) ⊎ PollsNone middle t)
-Stops form (faults.Message error) s before t after =
-    (messages : List (List ℕ)) × (middle : Subscribing) × PollsAll s messages middle × PollsRefused middle error t × Appends before after (spelling form messages)
-Stops form faults.Device s before t after = ⊥
-Stops form faults.Memory s before t after = ⊥
+-- some messages are written; of one more that was polled a part is, perhaps none of it, and no more was polled
+pub record BreaksOff (form : Form) (most : ℕ) (s : Subscribing) (before : Option (List ℕ)) (t : Subscribing) (after : Option (List ℕ)) : Type 0 where
+  pub messages : List (List ℕ)
+  pub middle : Subscribing
+  pub last : List ℕ
+  pub between : Option (List ℕ)
+  pub polled : PollsAll s messages middle
+  pub one : PollsOne middle last t
+  pub few : length messages < most
+  pub written : Appends before between (spelling form messages)
+  pub part : AppendsPart between after (spelled form last)
+
+-- why it ended before anything was heard: the output failed within a message, or at the flush, when all that was polled was written; or
+-- behind some messages, which are written, a frame was refused
+abbrev pub Stops : Form → ℕ → DeliveryFault → Subscribing → Option (List ℕ) → Subscribing → Option (List ℕ) → Type 0
+Stops form most faults.Output s before t after = BreaksOff form most s before t after ⊎ ((number : ℕ) × Delivers form most s before number t after)
+Stops form most (faults.Message error) s before t after =
+    (messages : List (List ℕ)) × (middle : Subscribing) × (length messages < most) × PollsAll s messages middle × PollsRefused middle error t × Appends before after (spelling form messages)
+Stops form most faults.Device s before t after = ⊥
+Stops form most faults.Memory s before t after = ⊥
 
 -- a fault of the duty's cycle, which began where all that was polled is written
 pub record FailsBehind (form : Form) (most now : ℕ) (tells : Type 0) (fault : DeliveryFault) (s : Subscribing) (before : Option (List ℕ)) (d : Device) (t : Subscribing) (after : Option (List ℕ)) (e : Device) : Type 0 where
@@ -80,4 +93,4 @@ pub record FailsBehind (form : Form) (most now : ℕ) (tells : Type 0) (fault : 
 
 -- why a cycle ended; `still` says that nothing was heard or sent
 abbrev pub Ends : Form → ℕ → ℕ → Type 0 → Type 0 → DeliveryFault → Subscribing → Option (List ℕ) → Device → Subscribing → Option (List ℕ) → Device → Type 0
-Ends form most now tells still fault s before d t after e = (Stops form fault s before t after × still) ⊎ FailsBehind form most now tells fault s before d t after e
+Ends form most now tells still fault s before d t after e = (Stops form (min 256 most) fault s before t after × still) ⊎ FailsBehind form most now tells fault s before d t after e

@@ -9,7 +9,8 @@ use std::fmt;
 /// Why a cycle ended before its end.
 #[derive(Clone, Copy, Debug, PartialEq, Eq)]
 pub enum DeliveryFault {
-    /// The output failed. Nothing was heard or sent in this cycle. The messages that this cycle polled may be lost.
+    /// The output failed: the message that was polled last is written in part, or all are written and the flush failed. Nothing
+    /// was heard or sent in this cycle. The messages that this cycle polled may be lost.
     Output,
     /// The assembler refused a frame, and a message is lost. Nothing was heard or sent in this cycle.
     Message(AssemblyError),

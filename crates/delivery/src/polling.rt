@@ -18,7 +18,7 @@ fn write_next<W: Write>(
     output: &mut W,
 ) -> Result<bool, DeliveryFault>
     ensures step { IfOk result (λ any. Steps form subscriber.old (W.contents output.old) any subscriber.new (W.contents output.new)) }
-    ensures fault { IfErr result (λ f. StopsAtOne f subscriber.old (W.contents output.old) subscriber.new (W.contents output.new)) }
+    ensures fault { IfErr result (λ f. StopsAtOne form f subscriber.old (W.contents output.old) subscriber.new (W.contents output.new)) }
 {
     match subscriber.poll() {
         Ok(Some(message)) => {
@@ -41,7 +41,7 @@ fn write_each<W: Write>(
     output: &mut W,
 ) -> Result<usize, DeliveryFault>
     ensures delivers { IfOk result (λ n. Delivers form (min 256 most) subscriber.old (W.contents output.old) n subscriber.new (W.contents output.new)) }
-    ensures fault { IfErr result (λ f. Stops form f subscriber.old (W.contents output.old) subscriber.new (W.contents output.new)) }
+    ensures fault { IfErr result (λ f. Stops form (min 256 most) f subscriber.old (W.contents output.old) subscriber.new (W.contents output.new)) }
 {
     let limit = MESSAGES.min(most);
     for count in 0..limit {
@@ -53,7 +53,9 @@ fn write_each<W: Write>(
 }
 
 /// Polls messages until there is none, 256 and `most` at the most, writes each as its form says, and flushes the output.
-/// The answer is how many there were. A fault is `Output` or `Message`.
+/// The answer is how many there were. A fault is `Output` or `Message`. At `Output` the message that was polled last is
+/// written in part and those before it are written, or all are and the flush failed; at `Message` those before the refused
+/// frame are written.
 pub fn write_polled<W: Write>(
     form: Form,
     most: usize,
@@ -61,7 +63,7 @@ pub fn write_polled<W: Write>(
     output: &mut W,
 ) -> Result<usize, DeliveryFault>
     ensures delivers { IfOk result (λ n. Delivers form (min 256 most) subscriber.old (W.contents output.old) n subscriber.new (W.contents output.new)) }
-    ensures fault { IfErr result (λ f. Stops form f subscriber.old (W.contents output.old) subscriber.new (W.contents output.new)) }
+    ensures fault { IfErr result (λ f. Stops form (min 256 most) f subscriber.old (W.contents output.old) subscriber.new (W.contents output.new)) }
 {
     let count = write_each(form, most, subscriber, output)?;
     if output.flush().is_err() {

@@ -1,57 +1,24 @@
 //! The driver, timed.
 
-ghost use Rattle.std.specs.Prelude.{◌≡◌, ◌*◌, ◌≤◌, None, IfOk, vec_len};
-ghost use Rattle.std.specs.List.{AllByRecursion};
-ghost use Rattle.theory.specs.Position.{max_message};
-ghost use Rattle.counters.specs.Order.{zeros};
-ghost use Rattle.log_parts.specs.Books.{IsDone};
-ghost use Rattle.receiver.specs.Receiving.{Receiver};
-ghost use Rattle.receiver.specs.Subscribing.{RepresentsSubscriber};
+ghost use Rattle.std.specs.Prelude.{◌*◌, ◌≤◌, IfOk};
 ghost use Rattle.driver_latency.specs.Drivers.{AreTools};
-ghost use Rattle.driver_parties.specs.Casts.{IsCast};
 ghost use Rattle.log_latency.specs.Openings.{IsOpened};
 
-use agents::AgentFault;
 use conductor::{Client, Conductor, Taker};
 use counters::{CounterWriter, Counters};
 use driver_parties::{Cast, Device};
-use driver_play::play;
-use endpoint::{OpenError, UdpDevice};
+use driver_play::play_named;
 use log_latency::{Opened, open_log};
-use lossy::Lossy;
 use position::Geometry;
-use receiver::{ReceiverCore, Subscriber};
-use receiver_agent::{Named, ReceiverAgent};
-use run_parties::{SESSION, STREAM, Stage};
-use shared_log::Publisher;
+use receiver::Subscriber;
+use run_parties::{Stage, device_pair, new_subscriber};
 use std::alloc::{AllocError, Global};
 use std::marker::Brand;
 use std::net::Net;
-use std::sync::{Mutex, Wait};
+use std::sync::Wait;
 use std::thread::Threads;
 use std::time::Clock;
-use timing::{Course, LatencyError, Load, Plan, Samples, Timed, timed_by};
-
-/// The receiver's id.
-const RECEIVER: i64 = 1;
-
-/// A device over UDP.
-fn bind<R: Net>(rt: &R, alloc: Global) -> Result<UdpDevice, AgentFault> {
-    match UdpDevice::bind(rt, alloc) {
-        Ok(device) => Ok(device),
-        Err(OpenError::Device) => Err(AgentFault::Device),
-        Err(OpenError::Memory) => Err(AgentFault::Memory),
-    }
-}
-
-/// Two devices over UDP, each the other's peer.
-fn pair<R: Net>(rt: &R, alloc: Global) -> Result<(UdpDevice, UdpDevice), AgentFault> {
-    let mut one = bind(rt, alloc)?;
-    let mut other = bind(rt, alloc)?;
-    one.connect(other.port())?;
-    other.connect(one.port())?;
-    Ok((one, other))
-}
+use timing::{Course, LatencyError, Plan, Samples, Timed, timed_by};
 
 /// The command queue with a client and its taker, a subscriber, and the counters with their writer.
 #[derive(Drop)]
@@ -64,23 +31,13 @@ struct Tools {
     writer: CounterWriter,
 }
 
-/// A subscriber that has met nothing.
-fn listening(alloc: Global, geometry: &Geometry) -> Result<Subscriber, AllocError>
-    ensures { IfOk result (λ s. (r : Receiver) × RepresentsSubscriber s r × (r.image ≡ None)) }
-{
-    let window = geometry.term_length() / 2;
-    let core = ReceiverCore::new(alloc, SESSION, STREAM, window, RECEIVER, 1);
-    let greatest = geometry.max_message() as usize;
-    Ok(Subscriber::new(alloc, core, greatest)?)
-}
-
 fn make_tools(alloc: Global, geometry: &Geometry) -> Result<Tools, AllocError>
-    ensures { IfOk result (λ t. AreTools t) }
+    ensures { IfOk result (AreTools geometry.now) }
 {
     let (conductor, mut clients, taker) = Conductor::new(alloc)?;
     let client = clients.remove(0);
     let (counters, writer) = Counters::new(alloc)?;
-    let subscriber = listening(alloc, geometry)?;
+    let subscriber = new_subscriber(alloc, geometry)?;
     Ok(Tools {
         conductor,
         client,
@@ -89,35 +46,6 @@ fn make_tools(alloc: Global, geometry: &Geometry) -> Result<Tools, AllocError>
         counters,
         writer,
     })
-}
-
-/// Plays with the counters that have this name.
-fn play_named<N: Named + Send, R: Threads + Wait + Clock + Sync>(
-    rt: &R,
-    alloc: Global,
-    stage: &Stage,
-    course: &Course,
-    counters: &Counters,
-    load: Load,
-    wanted: u64,
-    subscriber: Subscriber,
-    writer: CounterWriter,
-    cast: Cast,
-    publishers: Vec<Publisher>,
-    samples: Samples,
-) -> Result<Samples, LatencyError>
-    requires cast { IsCast stage.now.log stage.now.conductor cast }
-    requires counters { (counters.now ≡ N.counters) × (writer.counters ≡ N.counters) × (writer.last ≡ zeros) }
-    requires subscriber { (r : Receiver) × RepresentsSubscriber subscriber r × (r.image ≡ None) }
-    requires done { AllByRecursion (IsDone stage.now.log) publishers.items }
-    requires short { load.length ≤ max_message stage.now.log.identity.geometry }
-    requires none { vec_len samples.taken ≡ 0 }
-    ensures { IfOk result (λ s. vec_len s.taken ≤ wanted) }
-{
-    let agent = Mutex::new(ReceiverAgent::<N>::new(subscriber, writer));
-    play(
-        rt, alloc, stage, course, counters, &agent, load, wanted, cast, publishers, samples,
-    )
 }
 
 /// Times the driver on a log that was opened.
@@ -131,7 +59,7 @@ fn time_on<R: Threads + Wait + Clock + Sync>(
     replies: Device,
 ) -> Result<Timed, LatencyError>
     requires opened { IsOpened plan.now.geometry opened }
-    requires tools { AreTools tools }
+    requires tools { AreTools plan.now.geometry tools }
     ensures { IfOk result (λ t. t.messages ≤ plan.now.load.publishers * plan.now.load.messages) }
 {
     let load = plan.load;
@@ -184,9 +112,7 @@ pub fn time_driver<R: Threads + Wait + Clock + Net + Sync>(
 ) -> Result<Timed, LatencyError>
     ensures { IfOk result (λ t. t.messages ≤ plan.now.load.publishers * plan.now.load.messages) }
 {
-    let (one, other) = pair(rt, alloc)?;
-    let sends = Lossy::new(alloc, one, plan.rates, plan.seed);
-    let replies = Lossy::new(alloc, other, plan.rates, plan.seed.wrapping_add(1));
+    let (sends, replies) = device_pair(rt, alloc, plan.rates, plan.seed)?;
     let tools = make_tools(alloc, &plan.geometry)?;
     let opened = open_log(alloc, plan.geometry, plan.load.publishers)?;
     time_on(rt, alloc, plan, opened, tools, sends, replies)

@@ -4,7 +4,7 @@ ghost use Rattle.std.specs.Prelude.{◌≡◌, ◌≤◌, OnOk, vec_len};
 
 use crate::parties::Parties;
 use assembler::AssemblyError;
-use log_latency::rest;
+use idle::Idle;
 use receiver::PollError;
 use receiver_agent::Named;
 use std::sync::Wait;
@@ -30,12 +30,13 @@ fn is_over<N: Named, R: Clock>(
 pub fn await_stream<N: Named, R: Wait + Clock>(
     parties: &Parties<'_, N, R>,
 ) -> Result<(), LatencyError> {
+    let mut idle = Idle::new();
     for _ in parties.rt.forever() {
         let positions = parties.agent.lock(parties.rt).positions();
         if positions.is_some() || is_over(parties, 0)? {
             return Ok(());
         }
-        rest(parties.rt);
+        idle.rest(parties.rt);
     }
     unreachable!()
 }
@@ -56,12 +57,13 @@ fn poll_message<N: Named, R: Wait + Clock>(
     parties: &Parties<'_, N, R>,
     since: u64,
 ) -> Result<Option<u64>, LatencyError> {
+    let mut idle = Idle::new();
     for _ in parties.rt.forever() {
         let polled = poll_once(parties)?;
         if polled.is_some() || is_over(parties, since)? {
             return Ok(polled);
         }
-        rest(parties.rt);
+        idle.rest(parties.rt);
     }
     unreachable!()
 }

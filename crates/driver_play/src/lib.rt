@@ -3,4 +3,4 @@
 
 mod playing;
 
-pub use playing::play;
+pub use playing::play_named;

@@ -1,14 +1,18 @@
 //! All threads of the driver, timed.
 
-ghost use Rattle.std.specs.Prelude.{◌≡◌, ◌≤◌, IfOk, OnOk, vec_len};
+ghost use Rattle.std.specs.Prelude.{◌≡◌, ◌≤◌, None, IfOk, OnOk, vec_len};
 ghost use Rattle.std.specs.List.{AllByRecursion};
 ghost use Rattle.theory.specs.Position.{max_message};
+ghost use Rattle.counters.specs.Order.{zeros};
 ghost use Rattle.log_parts.specs.Books.{IsDone};
+ghost use Rattle.receiver.specs.Receiving.{Receiver};
+ghost use Rattle.receiver.specs.Subscribing.{RepresentsSubscriber};
 ghost use Rattle.driver_parties.specs.Casts.{IsCast};
 
-use counters::Counters;
+use counters::{CounterWriter, Counters};
 use driver_parties::{Cast, Parties, await_stream, poll_all, start_parties};
-use log_latency::{Idle, Offers, start_publishers};
+use log_latency::{Offers, WhenFull, start_publishers};
+use receiver::Subscriber;
 use receiver_agent::{Named, ReceiverAgent};
 use run_parties::Stage;
 use shared_log::Publisher;
@@ -70,7 +74,7 @@ fn play_in<'s, S, N: Named + Send, R: Wait + Clock + Sync>(
         log: &stage.log,
         course,
         load,
-        idle: Idle::Rest,
+        when_full: WhenFull::Rest,
     };
     start_parties(scope, &parties, cast);
     start_publishers(scope, &offers, publishers);
@@ -84,7 +88,7 @@ fn play_in<'s, S, N: Named + Send, R: Wait + Clock + Sync>(
 }
 
 /// The same, in a scope of its own. It is left once all threads have ended.
-pub fn play<N: Named + Send, R: Threads + Wait + Clock + Sync>(
+fn play<N: Named + Send, R: Threads + Wait + Clock + Sync>(
     rt: &R,
     alloc: Global,
     stage: &Stage,
@@ -116,5 +120,34 @@ pub fn play<N: Named + Send, R: Threads + Wait + Clock + Sync>(
                 samples,
             )
         },
+    )
+}
+
+/// Plays with the counters that have this name, from a subscriber that has no image yet.
+pub fn play_named<N: Named + Send, R: Threads + Wait + Clock + Sync>(
+    rt: &R,
+    alloc: Global,
+    stage: &Stage,
+    course: &Course,
+    counters: &Counters,
+    load: Load,
+    wanted: u64,
+    subscriber: Subscriber,
+    writer: CounterWriter,
+    cast: Cast,
+    publishers: Vec<Publisher>,
+    samples: Samples,
+) -> Result<Samples, LatencyError>
+    requires cast { IsCast stage.now.log stage.now.conductor cast }
+    requires counters { (counters.now ≡ N.counters) × (writer.counters ≡ N.counters) × (writer.last ≡ zeros) }
+    requires subscriber { (r : Receiver) × RepresentsSubscriber subscriber r × (r.image ≡ None) }
+    requires done { AllByRecursion (IsDone stage.now.log) publishers.items }
+    requires short { load.length ≤ max_message stage.now.log.identity.geometry }
+    requires none { vec_len samples.taken ≡ 0 }
+    ensures { IfOk result (λ s. vec_len s.taken ≤ wanted) }
+{
+    let agent = Mutex::new(ReceiverAgent::<N>::new(subscriber, writer));
+    play(
+        rt, alloc, stage, course, counters, &agent, load, wanted, cast, publishers, samples,
     )
 }

@@ -1,11 +1,12 @@
 //! The command `publish`.
 
-ghost use Rattle.std.specs.Prelude.{◌≤◌, ◌<◌, ◌^◌};
+ghost use Rattle.std.specs.Prelude.{◌≡◌, ◌≢◌, ◌≤◌, ◌<◌, ◌^◌};
+ghost use Rattle.end_commands.specs.Statuses.{HasPublishPlan, NoPublishPlan, published_status};
 
 use crate::telling::{drawn, line_status, tell};
 use end_lines::publish_options;
 use end_options::{PublishOptions, publish_plan};
-use publisher_end::{Ending, publish};
+use publisher_end::{Ending, PublishFault, publish};
 use std::alloc::Global;
 use std::io::{Read, Write};
 use std::net::Net;
@@ -13,7 +14,7 @@ use std::sync::Wait;
 use std::thread::Threads;
 use std::time::Clock;
 
-/// Publishes as it is told, and gives the status.
+/// Publishes as it is told, and gives the status: 2 where the channel or the rates make no plan.
 fn publish_told<C: Threads + Wait + Clock + Net + Sync, R: Read + Send, E: Write>(
     rt: &C,
     alloc: Global,
@@ -22,20 +23,31 @@ fn publish_told<C: Threads + Wait + Clock + Net + Sync, R: Read + Send, E: Write
     errors: &mut E,
 ) -> u8
     requires { options.now.end.stream < 2 ^ 31 }
-    ensures { result ≤ 3 }
+    ensures most { result ≤ 3 }
+    ensures refused { result ≡ 2 → NoPublishPlan options.now }
+    ensures planned { result ≢ 2 → HasPublishPlan options.now }
 {
-    let plan = match publish_plan(options, drawn(rt)) {
-        Ok(plan) => plan,
+    match publish_plan(options, drawn(rt)) {
+        Ok(plan) => {
+            let ended = publish(rt, alloc, &plan, input, errors);
+            published(&ended, errors)
+        }
         Err(fault) => {
             tell(errors, &fault);
-            return 2;
+            2
         }
-    };
-    match publish(rt, alloc, &plan, input, errors) {
+    }
+}
+
+/// The status of a publisher that ended; a fault is told.
+fn published<E: Write>(ended: &Result<Ending, PublishFault>, errors: &mut E) -> u8
+    ensures { result ≡ published_status ended.now }
+{
+    match ended {
         Ok(Ending::Whole) => 0,
         Ok(Ending::Short) => 3,
         Err(fault) => {
-            tell(errors, &fault);
+            tell(errors, fault);
             1
         }
     }

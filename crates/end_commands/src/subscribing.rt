@@ -1,6 +1,7 @@
 //! The command `subscribe`.
 
-ghost use Rattle.std.specs.Prelude.{◌≤◌, ◌<◌, ◌^◌};
+ghost use Rattle.std.specs.Prelude.{◌≡◌, ◌≢◌, ◌≤◌, ◌<◌, ◌^◌};
+ghost use Rattle.end_commands.specs.Statuses.{HasSubscribePlan, NoSubscribePlan, subscribed_status};
 
 use crate::telling::{drawn, line_status, tell};
 use end_lines::subscribe_options;
@@ -10,9 +11,9 @@ use std::io::Write;
 use std::net::Net;
 use std::sync::Wait;
 use std::time::Clock;
-use subscriber_end::subscribe;
+use subscriber_end::{SubscribeFault, subscribe};
 
-/// Subscribes as it is told, and gives the status.
+/// Subscribes as it is told, and gives the status: 2 where the channel or the rates make no plan.
 fn subscribe_told<C: Wait + Clock + Net, W: Write, E: Write>(
     rt: &C,
     alloc: Global,
@@ -21,19 +22,30 @@ fn subscribe_told<C: Wait + Clock + Net, W: Write, E: Write>(
     errors: &mut E,
 ) -> u8
     requires { options.now.end.stream < 2 ^ 31 }
-    ensures { result ≤ 2 }
+    ensures most { result ≤ 2 }
+    ensures refused { result ≡ 2 → NoSubscribePlan options.now }
+    ensures planned { result ≢ 2 → HasSubscribePlan options.now }
 {
-    let plan = match subscribe_plan(options, drawn(rt)) {
-        Ok(plan) => plan,
+    match subscribe_plan(options, drawn(rt)) {
+        Ok(plan) => {
+            let ended = subscribe(rt, alloc, &plan, output, errors);
+            subscribed(&ended, errors)
+        }
         Err(fault) => {
             tell(errors, &fault);
-            return 2;
+            2
         }
-    };
-    match subscribe(rt, alloc, &plan, output, errors) {
+    }
+}
+
+/// The status of a subscriber that ended; a fault is told.
+fn subscribed<E: Write>(ended: &Result<u64, SubscribeFault>, errors: &mut E) -> u8
+    ensures { result ≡ subscribed_status ended.now }
+{
+    match ended {
         Ok(_) => 0,
         Err(fault) => {
-            tell(errors, &fault);
+            tell(errors, fault);
             1
         }
     }

@@ -1,6 +1,6 @@
 //! What a user reads.
 
-ghost use Rattle.std.specs.Prelude.{◌≡◌, ◌≤◌};
+ghost use Rattle.end_commands.specs.Statuses.{IsLineStatus};
 
 use end_lines::LineFault;
 use end_options::{Drawn, draw};
@@ -19,7 +19,7 @@ pub(crate) fn line_status<W: Write, E: Write>(
     output: &mut W,
     errors: &mut E,
 ) -> u8
-    ensures { result ≤ 2 }
+    ensures { IsLineStatus fault.now result }
 {
     if let LineFault::Memory = fault {
         tell(errors, fault);

@@ -1,8 +1,11 @@
 -- What a parse reads of the options, and what they tell of what it found.
-use Rattle.std.specs.Prelude.{◌≡◌, List, codes, true, Some}
-use Rattle.clap.specs.Words.{App, Row, Text, first_of, new_app, new_rule, with_rule}
+use Rattle.std.specs.Prelude.{◌≡◌, ◌≢◌, ℕ, List, codes, true, Option, None, Some}
+use Rattle.clap.specs.Words.{App, Row, Text, first_of, kind_of, new_app, new_rule, with_rule}
+use Rattle.clap.specs.declared.error.kind.ErrorKind.TheVariants.{DisplayHelp, DisplayVersion}
 use Rattle.number_options.specs.Flags.{IsFlag, plus_flag}
 use Rattle.number_options.specs.Numbers.{IsNumber, plus}
+use Rattle.end_lines.specs.declared.fault.LineFault.{LineFault}
+use Rattle.end_lines.specs.declared.fault.LineFault.TheVariants.{Memory, Shown}
 use Rattle.end_options.specs.declared.options.EndOptions.{EndOptions}
 use Rattle.end_options.specs.declared.options.PublishOptions.{PublishOptions}
 use Rattle.end_options.specs.declared.options.SubscribeOptions.{SubscribeOptions}
@@ -42,3 +45,15 @@ publish_app = plus (codes "linger") 0 1000000 (with_shared (with_channel (new_ap
 
 abbrev pub subscribe_app : App
 subscribe_app = plus (codes "quiet") 1 4294967295 (plus (codes "messages") 1 18446744073709551615 (with_shared (with_channel (new_app (codes "subscribe")))))
+
+-- ---- a line that isn't carried out
+
+-- the parser refused it; help or the version that it asked for is no refusal
+abbrev pub IsRefusal : LineFault → Type 0
+IsRefusal (Shown e) = (kind_of e ≢ DisplayHelp) × (kind_of e ≢ DisplayVersion)
+IsRefusal Memory = ⊥
+
+-- the text of a fault that isn't the parser's
+abbrev pub output_of : LineFault → Option (List ℕ)
+output_of (Shown e) = None
+output_of Memory = Some (codes "memory")

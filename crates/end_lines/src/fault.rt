@@ -1,5 +1,6 @@
-ghost use Rattle.std.specs.Prelude.{◌≡◌, ◌≢◌, ◌↔◌, IsTrue, false};
+ghost use Rattle.std.specs.Prelude.{◌≡◌, ◌↔◌, IsTrue};
 ghost use Rattle.clap.specs.Words.{kind_of};
+ghost use Rattle.end_lines.specs.Lines.{IsRefusal, output_of};
 
 use clap::Error;
 use clap::error::ErrorKind;
@@ -17,8 +18,7 @@ pub enum LineFault {
 impl LineFault {
     /// Whether the line was refused: its text belongs to the error output. Help that was asked for is no refusal.
     pub fn is_refusal(&self) -> bool
-        ensures memory { self.now ≡ LineFault.Memory → result ≡ false }
-        ensures shown { (e : Error) → self.now ≡ LineFault.Shown e → (IsTrue result ↔ ((kind_of e ≢ ErrorKind.DisplayHelp) × (kind_of e ≢ ErrorKind.DisplayVersion))) }
+        ensures { IsTrue result ↔ IsRefusal self.now }
     {
         match self {
             LineFault::Shown(error) => error.use_stderr(),
@@ -28,6 +28,8 @@ impl LineFault {
 }
 
 impl fmt::Display for LineFault {
+    ghost output = { λ fault. output_of fault };
+
     fn fmt<W: fmt::Write>(&self, f: &mut fmt::Formatter<W>) -> fmt::Result {
         match self {
             LineFault::Shown(error) => write!(f, "{error}"),
@@ -36,9 +38,9 @@ impl fmt::Display for LineFault {
     }
 }
 
-/// A parser's error.
+/// A parser's error: `Memory` where memory was refused, and only there.
 pub(crate) fn fault_of(error: Error) -> LineFault
-    ensures memory { kind_of error ≡ ErrorKind.OutOfMemory → result ≡ LineFault.Memory }
+    ensures memory { (kind_of error ≡ ErrorKind.OutOfMemory) ↔ (result ≡ LineFault.Memory) }
     ensures shown { (e : Error) → result ≡ LineFault.Shown e
         → (kind_of e ≡ kind_of error) × (kind_of e ≡ ErrorKind.OutOfMemory → ⊥) }
 {

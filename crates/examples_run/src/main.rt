@@ -1,18 +1,15 @@
-//! Plays each script of `examples/` and carries out each row, and says whether it prints what is expected.
+//! Plays each script of `examples/` and carries out each row, and says whether it prints what is expected; then whether
+//! command lines over streams that fail and of the greatest lengths, and the options of `run`, tell what is expected.
 #![tactic(auto)]
 
-mod lines;
-mod rows;
-
-use lines::run_over;
-use rows::{Found, play_rows};
-use std::alloc::Global;
+use example_play::{Found, play_rows, prints};
 use std::net::Net;
 use std::process::ExitCode;
 use std::sync::Wait;
 use std::thread::Threads;
 use std::time::Clock;
 use std::{fs, io};
+use streams_play::{are_told, faults_are_told, lengths_are_bounded};
 
 /// The examples by their names: each is a file `NAME.script`, and what it prints a file `NAME.expected`.
 const NAMES: [&str; 18] = [
@@ -68,7 +65,22 @@ fn carry_out_all<C: Threads + Wait + Clock + Net + Sync>(
 ) -> io::Result<bool> {
     let played = play_all(host, rt)?;
     let alike = compare_all(host, rt)?;
-    Ok(played && alike)
+    let told = tell_streams(host, rt)?;
+    Ok(played && alike && told)
+}
+
+/// Whether command lines over other streams, and options, tell what is expected.
+fn tell_streams<C: Threads + Wait + Clock + Net + Sync>(
+    host: &HostRuntime,
+    rt: &C,
+) -> io::Result<bool> {
+    let told = faults_are_told(rt, host.alloc());
+    let bounded = lengths_are_bounded(rt, host.alloc())?;
+    let options = are_told(host.alloc());
+    tell(host, "streams", told)?;
+    tell(host, "lengths", bounded)?;
+    tell(host, "options", options)?;
+    Ok(told && bounded && options)
 }
 
 /// Tells whether something does what is expected.
@@ -106,17 +118,6 @@ fn play<C: Threads + Wait + Clock + Net + Sync>(
     let script = read(host, name, "script")?;
     let expected = read(host, name, "expected")?;
     Ok(prints(rt, host.alloc(), &script, &expected))
-}
-
-/// Whether this script prints these lines, and nothing else.
-fn prints<C: Threads + Wait + Clock + Net + Sync>(
-    rt: &C,
-    alloc: Global,
-    script: &str,
-    expected: &str,
-) -> bool {
-    let done = run_over(rt, alloc, &["mdriver", "sim"], script.as_bytes());
-    done.status == 0 && done.errors.is_empty() && done.output.as_slice() == expected.as_bytes()
 }
 
 /// Whether all rows do what is expected.

@@ -100,8 +100,8 @@ fn next_draw(draw: u64) -> u64 {
         .wrapping_add(1_442_695_040_888_963_407)
 }
 
-/// Gives an image so many data frames with this payload, of which so many of a hundred come late, and reads each as soon as
-/// all before it have come.
+/// Gives an image that begins at 0 so many data frames with this payload, of which about so many of a hundred come eight
+/// frames late, and reads each as soon as all before it have come. Late ones among the last eight never come.
 pub fn play(
     image: &mut Image,
     block: &mut Block,

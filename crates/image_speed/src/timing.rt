@@ -1,6 +1,7 @@
 //! How long a list of frames takes.
 
-ghost use Rattle.std.specs.Prelude.{◌≡◌, IfOk};
+ghost use Rattle.std.specs.Prelude.{◌≡◌, ◌*◌, ◌/◌, ◌-◌, ◌^◌, max, min, IfOk};
+ghost use Rattle.std.specs.Duration.{as_nanos};
 
 use crate::fault::ImageSpeedError;
 use crate::playing::play;
@@ -8,7 +9,7 @@ use block::Block;
 use position::Geometry;
 use rebuilder::Image;
 use std::alloc::Global;
-use std::time::{Clock, Instant};
+use std::time::{Clock, Duration, Instant};
 
 /// What was measured with one term length and one share of frames that come late.
 #[derive(Clone, Copy, Debug, PartialEq, Eq)]
@@ -16,10 +17,18 @@ pub struct ImageFigures {
     pub term_length: u32,
     /// How many frames of a hundred came late.
     pub missing: u64,
-    /// For each frame that was inserted and read, in tenths of a nanosecond.
+    /// For each of the data frames, those that never came too, in tenths of a nanosecond, rounded down.
     pub tenths: u64,
     pub sum: u64,
     pub stored: u64,
+}
+
+/// A duration's tenths of a nanosecond for each of so many frames, rounded down. No frames at all are taken for one.
+fn tenths_each(taken: Duration, frames: u32) -> u64
+    ensures { result ≡ min (as_nanos taken * 10 / max frames 1) (2 ^ 64 - 1) }
+{
+    let each = taken.as_nanos() * 10 / u128::from(frames.max(1));
+    each.min(u128::from(u64::MAX)) as u64
 }
 
 /// Gives a fresh image so many frames, of which so many of a hundred come late, and reads them.
@@ -43,12 +52,10 @@ pub fn measure_image<R: Clock>(
     let Ok(ended) = Instant::now(rt) else {
         return Err(ImageSpeedError::Clock);
     };
-    let nanoseconds = ended.duration_since(began).as_nanos();
-    let tenths = nanoseconds * 10 / u128::from(frames.max(1));
     Ok(ImageFigures {
         term_length,
         missing,
-        tenths: u64::try_from(tenths).unwrap_or(u64::MAX),
+        tenths: tenths_each(ended.duration_since(began), frames),
         sum: played.sum,
         stored: played.stored,
     })

@@ -9,4 +9,4 @@ mod publishing;
 
 pub use log_timing::time_log;
 pub use opening::{Opened, open_log};
-pub use publishing::{Idle, Offers, rest, start_publishers};
+pub use publishing::{Offers, WhenFull, start_publishers};

@@ -8,7 +8,7 @@ ghost use Rattle.log_latency.specs.Followers.{IsFollower};
 
 use crate::following::{Follower, follower_of, read_all};
 use crate::opening::{Opened, open_log};
-use crate::publishing::{Idle, Offers, start_publishers};
+use crate::publishing::{Offers, WhenFull, start_publishers};
 use shared_log::{Log, Publisher};
 use std::alloc::Global;
 use std::sync::Wait;
@@ -58,7 +58,7 @@ fn play_in<'s, S, R: Wait + Clock + Sync>(
         log,
         course,
         load,
-        idle: Idle::Yield,
+        when_full: WhenFull::Yield,
     };
     start_publishers(scope, &offers, publishers);
     let read = read_from_begin(&offers, wanted, &mut follower, &mut samples);
@@ -105,7 +105,8 @@ fn play<R: Threads + Wait + Clock + Sync>(
 /// log. A message is timed from its stamp to the moment at which its last frame was read; at full load the stamp is the
 /// moment before its first offer, and else the moment at which it is due.
 ///
-/// It fails where memory is refused, a thread can't be started, the clock can't be read or the log is used up.
+/// It fails where memory is refused, a thread can't be started, the clock can't be read, the log is used up, or no message
+/// was read.
 pub fn time_log<R: Threads + Wait + Clock + Sync>(
     rt: &R,
     alloc: Global,

@@ -5,35 +5,30 @@ ghost use Rattle.std.specs.List.{AllByRecursion};
 ghost use Rattle.theory.specs.Position.{max_message};
 ghost use Rattle.log_parts.specs.Books.{IsDone};
 
+use idle::Idle;
 use shared_log::{Log, OnLog, Publisher};
 use std::alloc::Global;
 use std::sync::Wait;
 use std::thread;
 use std::thread::Scope;
-use std::time::{Clock, Duration};
+use std::time::Clock;
 use timing::{Course, LatencyError, Load, first_message, put_stamp};
 use word_calls::{Refusal, offer};
 
-/// How long an idle turn rests, in microseconds.
-const REST: u64 = 20;
-
-/// Gives the processor away for a while.
-pub fn rest<R: Clock>(rt: &R) {
-    let _ = thread::sleep(rt, Duration::from_micros(REST));
-}
-
 /// What a publisher does where the log is full.
 #[derive(Clone, Copy)]
-pub enum Idle {
+pub enum WhenFull {
+    /// It yields, however long it takes.
     Yield,
+    /// It yields for a while, and then sleeps.
     Rest,
 }
 
-impl Idle {
-    fn turn<R: Clock>(self, rt: &R) {
+impl WhenFull {
+    fn turn<R: Clock>(self, rt: &R, idle: &mut Idle) {
         match self {
-            Idle::Yield => thread::yield_now(),
-            Idle::Rest => rest(rt),
+            WhenFull::Yield => thread::yield_now(),
+            WhenFull::Rest => idle.rest(rt),
         }
     }
 }
@@ -46,7 +41,7 @@ pub struct Offers<'a, R> {
     pub log: &'a Log,
     pub course: &'a Course,
     pub load: Load,
-    pub idle: Idle,
+    pub when_full: WhenFull,
 }
 
 /// Offers a message.
@@ -63,7 +58,7 @@ fn offer_once(words: &mut OnLog, publisher: &mut Publisher, message: &[u8]) -> R
 fn offer_until_accepted<R: Wait + Clock>(
     rt: &R,
     course: &Course,
-    idle: Idle,
+    when_full: WhenFull,
     words: &mut OnLog,
     publisher: &mut Publisher,
     message: &[u8],
@@ -73,11 +68,12 @@ fn offer_until_accepted<R: Wait + Clock>(
     ensures same { words.new ≡ words.old }
     ensures done { IsDone words.old publisher.new }
 {
+    let mut idle = Idle::new();
     for _ in rt.forever() {
         match offer_once(words, publisher, message) {
             Ok(_) => return Ok(true),
             Err(Refusal::AdminAction) => {}
-            Err(Refusal::BackPressured | Refusal::NotConnected) => idle.turn(rt),
+            Err(Refusal::BackPressured | Refusal::NotConnected) => when_full.turn(rt, &mut idle),
             Err(Refusal::Closed | Refusal::MaxPositionExceeded) => return Err(LatencyError::Full),
         }
         if course.is_stopped() {
@@ -93,7 +89,7 @@ fn offer_all<R: Wait + Clock>(
     log: &Log,
     course: &Course,
     load: Load,
-    idle: Idle,
+    when_full: WhenFull,
     publisher: &mut Publisher,
     message: &mut [u8],
 ) -> Result<(), LatencyError>
@@ -105,7 +101,7 @@ fn offer_all<R: Wait + Clock>(
     for number in 0..load.messages {
         let stamp = course.stamp(rt, load.due(number))?;
         put_stamp(message, number, stamp);
-        if !offer_until_accepted(rt, course, idle, &mut words, publisher, message)? {
+        if !offer_until_accepted(rt, course, when_full, &mut words, publisher, message)? {
             break;
         }
     }
@@ -119,7 +115,7 @@ fn publish<R: Wait + Clock>(
     log: &Log,
     course: &Course,
     load: Load,
-    idle: Idle,
+    when_full: WhenFull,
     mut publisher: Publisher,
 ) -> Result<(), LatencyError>
     requires done { IsDone log.now publisher }
@@ -127,7 +123,15 @@ fn publish<R: Wait + Clock>(
 {
     let mut message = first_message(alloc, publisher.number(), load.length)?;
     course.arrive(rt);
-    offer_all(rt, log, course, load, idle, &mut publisher, &mut message)
+    offer_all(
+        rt,
+        log,
+        course,
+        load,
+        when_full,
+        &mut publisher,
+        &mut message,
+    )
 }
 
 /// Starts the thread of a publisher. Where it fails, or can't be started, all end.
@@ -140,9 +144,9 @@ fn start_publisher<'s, S, R: Wait + Clock + Sync>(
     requires short { offers.now.load.length ≤ max_message offers.now.log.now.identity.geometry }
 {
     let (rt, alloc, log, course) = (offers.rt, offers.alloc, offers.log, offers.course);
-    let (load, idle) = (offers.load, offers.idle);
+    let (load, when_full) = (offers.load, offers.when_full);
     let started = scope.spawn(move || {
-        if let Err(fault) = publish(rt, alloc, log, course, load, idle, publisher) {
+        if let Err(fault) = publish(rt, alloc, log, course, load, when_full, publisher) {
             course.fail(fault);
         }
     });

@@ -71,13 +71,29 @@ fn head_in(word: u64, start: u64) -> FrameHead
     }
 }
 
+/// Stores a word in a block.
+#[inline(always)]
+fn put_word(block: &mut Block, at: usize, word: u64)
+    requires inside { at + 8 ≤ length block.old }
+    ensures stored { block.new ≡ take at block.old ++ (take 8 (to_le_bytes w64 word) ++ drop (at + 8) block.old) }
+    ensures same_length { length block.new ≡ length block.old }
+{
+    let bytes = block.bytes_mut();
+    bytes[at..at + 8].copy_from_slice(&word.to_le_bytes());
+}
+
 /// Stores a word's first bytes in a block.
+#[inline(always)]
 fn put_bytes(block: &mut Block, at: usize, word: u64, count: usize)
     requires few { count ≤ 8 }
     requires inside { at + count ≤ length block.old }
     ensures stored { block.new ≡ take at block.old ++ (take count (to_le_bytes w64 word) ++ drop (at + count) block.old) }
     ensures same_length { length block.new ≡ length block.old }
 {
+    if count == 8 {
+        put_word(block, at, word);
+        return;
+    }
     let bytes = block.bytes_mut();
     bytes[at..at + count].copy_from_slice(&word.to_le_bytes()[..count]);
 }
@@ -201,8 +217,8 @@ pub fn advance(log: &Log, reader: &mut LogReader) -> u64
     pass_as::<Brand>(log, reader)
 }
 
-/// Reads a frame again that the reader has: a message's part is copied to the block's front. The frame begins below the
-/// reader's position, by three quarters of a term at the most.
+/// Reads a frame again that the reader has: a message's part is copied to the block's front. The frame begins at
+/// the reader's position or below it, by three quarters of a term at the most.
 pub fn reread(log: &Log, reader: &mut LogReader, position: u64, block: &mut Block) -> FrameHead
     requires fits { IsReaderOf log.now reader.old }
     requires room { log.now.identity.geometry.mtu ≤ length block.old }

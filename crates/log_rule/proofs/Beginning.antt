@@ -23,7 +23,7 @@ use Rattle.tail_claim.specs.Sure.{IsSure, controls_in}
 use Rattle.tail_claim.specs.Plays.{bounds_of, newcomer}
 use Rattle.tail_claim.proofs.Tails.{elsewhere}
 use Rattle.tail_claim.proofs.Memories.{tail_is}
-use Rattle.tail_claim.proofs.Begun.{fresh_is, ruled_first}
+use Rattle.tail_claim.proofs.Begun.{fresh_is, fresh_zeros, ruled_first}
 use Rattle.log_rule.specs.declared.rule.Key.{Key}
 use Rattle.log_rule.specs.Edges.{IsPlaced}
 use Rattle.log_rule.specs.Kept.{Attends, IsReader, Kept, reads_as}
@@ -116,7 +116,7 @@ opens key ws0 ws so count f o =
       memory = record {
         cleaned = omega arith;
         held = (let h = held in less (limit_in key.start + greatest_claim g * 8) (key.start + 3 * g.term_length) h);
-        zeros = λ x u above low. o.others (slot g x) (λ e. omega arith) (λ i lt e. far_off i (x / 8 % ring_of g) lt e) ∙ f.zeros (slot g x) (omega arith);
+        zeros = λ x u above low. o.others (slot g x) (λ e. omega arith) (λ i lt e. far_off i (x / 8 % ring_of g) lt e) ∙ fresh_zeros b0 ws0 f (slot g x) (omega arith);
         each = one_pass (Stored b ws) p record { stands = tt; placed = λ h. refl; aligned = tt; done = tt; undone = tt; kept = tt };
       };
     } in

@@ -1,8 +1,9 @@
 //! A device round another, through which datagrams get lost.
 
-ghost use Rattle.std.specs.Prelude.{◌≡◌, map};
+ghost use Rattle.std.specs.Prelude.{◌≡◌, IfOk, OnErr, map};
 ghost use Rattle.endpoint.specs.Calls.{Receives, Sends};
 ghost use Rattle.endpoint.specs.Devices.{NeverFall};
+ghost use Rattle.loss_injector.specs.Injecting.{Gives};
 ghost use Rattle.lossy.specs.Losing.{Injects, SendsAll, SendsThrough, begun};
 
 use endpoint::{Datagrams, DeviceFailed};
@@ -10,7 +11,7 @@ use loss_injector::{Injector, Rates};
 use rand_core::SeedableRng;
 use rand_core::utils::NextWord;
 use rand_pcg::Pcg32;
-use std::alloc::Global;
+use std::alloc::{AllocError, Global};
 use std::marker::Model;
 
 /// A device round another. Each send draws one word of its generator, and hands the inner device what the injector
@@ -55,14 +56,26 @@ impl<D> Lossy<D> {
     }
 }
 
-/// What the injector makes of a datagram. Where memory is refused the datagram is lost.
-fn inject(alloc: Global, injector: &mut Injector, datagram: &[u8], word: u32) -> Vec<Vec<u8>>
+/// What the injector makes of a datagram by a random word. The error comes only where memory was refused; then the injector
+/// is as before.
+fn inject(
+    alloc: Global,
+    injector: &mut Injector,
+    datagram: &[u8],
+    word: u32,
+) -> Result<Vec<Vec<u8>>, AllocError>
+    ensures given { IfOk result (λ out. Gives injector.old word datagram.now (map (λ d. d.items) out.items) injector.new) }
+    ensures refused { OnErr result (injector.new ≡ injector.old) }
+{
+    let copy = Vec::from_slice(alloc, datagram)?;
+    injector.push(copy, word)
+}
+
+/// What goes on its way of a datagram. Where memory is refused it is lost.
+fn made_of(alloc: Global, injector: &mut Injector, datagram: &[u8], word: u32) -> Vec<Vec<u8>>
     ensures { Injects injector.old word datagram.now (map (λ d. d.items) result.items) injector.new }
 {
-    let Ok(copy) = Vec::from_slice(alloc, datagram) else {
-        return Vec::new(alloc);
-    };
-    match injector.push(copy, word) {
+    match inject(alloc, injector, datagram, word) {
         Ok(out) => out,
         Err(_) => Vec::new(alloc),
     }
@@ -92,7 +105,7 @@ impl<D: Datagrams> Datagrams for Lossy<D> {
         ensures inner_tells { D.tells self.old.inner → D.tells self.new.inner }
     {
         let word = self.draws.next_word();
-        let out = inject(self.alloc, &mut self.injector, datagram, word);
+        let out = made_of(self.alloc, &mut self.injector, datagram, word);
         send_all(&mut self.inner, &out)
     }
 

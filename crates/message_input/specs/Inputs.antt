@@ -1,5 +1,5 @@
 -- Which bytes of an input a message takes, and why none is read. What an input has left is known or not.
-use Rattle.std.specs.Prelude.{◌≡◌, ◌≢◌, ◌⊎◌, ◌≤◌, ◌<◌, ◌+◌, ℕ, Bool, true, false, List, [], ◌∷◌, ◌++◌, length, slice_index, Option, None, Some, ⊤}
+use Rattle.std.specs.Prelude.{◌≡◌, ◌≢◌, ◌⊎◌, ◌≤◌, ◌<◌, ◌+◌, ℕ, Bool, true, false, List, [], ◌∷◌, ◌++◌, length, slice_index, Option, None, Some}
 use Rattle.std.specs.Int.{w32, to_le_bytes}
 use Rattle.std.specs.Io.KnownBytes.{Consumes, IsAtEnd}
 use Rattle.message_form.specs.Forms.{block, line}
@@ -40,9 +40,19 @@ abbrev pub IsCut : Form → List ℕ → Type 0
 IsCut Lines front = ⊥
 IsCut Blocks front = ((0 < length front) × (length front < 4)) ⊎ ((n : ℕ) × (part : List ℕ) × (front ≡ to_le_bytes w32 n ++ part) × (length part < n))
 
--- why no message is read
-abbrev pub Explains : Form → ℕ → ℕ → Option (List ℕ) → Option (List ℕ) → InputFault → Type 0
-Explains form number greatest old new Read = ⊤
-Explains form number greatest old new (TooLong n most) = (n ≡ number) × (most ≡ greatest) × ((front : List ℕ) × Consumes old new front × IsTooLong form greatest front)
-Explains form number greatest old new (Cut n) = (n ≡ number) × ((front : List ℕ) × Consumes old new front × IsAtEnd new × IsCut form front)
-Explains form number greatest old new Memory = ⊤
+-- what was taken of a message where the input failed: it isn't whole, nor longer than the greatest. Of a block's bytes these are held
+abbrev pub IsPart : Form → ℕ → List ℕ → List ℕ → Type 0
+IsPart Lines greatest held front = (front ≡ held) × IsOneLine held × (length held ≤ greatest)
+IsPart Blocks greatest held front = (length front < 4) ⊎ ((n : ℕ) × (n ≤ greatest) × (length held < n) × (front ≡ to_le_bytes w32 n ++ held))
+
+-- what was taken of a message where memory was refused: the last byte is one of the message's, and all before it are held
+abbrev pub LacksRoom : Form → ℕ → List ℕ → List ℕ → Type 0
+LacksRoom Lines greatest held front = (byte : ℕ) × (front ≡ held ++ byte ∷ []) × IsOneLine front × (length front ≤ greatest)
+LacksRoom Blocks greatest held front = (n : ℕ) × (byte : ℕ) × (n ≤ greatest) × (length held < n) × (front ≡ to_le_bytes w32 n ++ (held ++ byte ∷ []))
+
+-- why no message is read, and what is held of it
+abbrev pub Explains : Form → ℕ → ℕ → Option (List ℕ) → Option (List ℕ) → List ℕ → InputFault → Type 0
+Explains form number greatest old new held Read = (front : List ℕ) × Consumes old new front × IsPart form greatest held front
+Explains form number greatest old new held (TooLong n most) = (n ≡ number) × (most ≡ greatest) × ((front : List ℕ) × Consumes old new front × IsTooLong form greatest front)
+Explains form number greatest old new held (Cut n) = (n ≡ number) × ((front : List ℕ) × Consumes old new front × IsAtEnd new × IsCut form front)
+Explains form number greatest old new held Memory = (front : List ℕ) × Consumes old new front × LacksRoom form greatest held front

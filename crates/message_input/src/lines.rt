@@ -16,7 +16,7 @@ pub fn next_line<R: Read>(
     message: &mut Vec<u8>,
 ) -> Result<bool, InputFault>
     ensures gives { IfOk result (λ any. Gives Lines greatest (R.remaining input.old) (R.remaining input.new) any message.new.items) }
-    ensures fault { IfErr result (λ fault. Explains Lines number greatest (R.remaining input.old) (R.remaining input.new) fault) }
+    ensures fault { IfErr result (λ fault. Explains Lines number greatest (R.remaining input.old) (R.remaining input.new) message.new.items fault) }
 {
     message.clear();
     'bytes: loop {

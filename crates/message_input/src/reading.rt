@@ -13,7 +13,9 @@ use std::io::Read;
 /// the input. `number` is the message's, counted from 1, for the faults. A carriage return is kept, and an empty line is an
 /// empty message. The last line may lack its line feed.
 ///
-/// At a fault the input has lost what was taken of the message, so nothing sensible can be read behind it.
+/// At a fault the input has lost what was taken of the message, so nothing sensible can be read behind it. `Read` and
+/// `Memory` come only where what was taken isn't longer than a message may be; at `Memory` the message holds all of its bytes
+/// that were taken but the last.
 pub fn read_message<R: Read>(
     form: Form,
     number: u64,
@@ -22,7 +24,7 @@ pub fn read_message<R: Read>(
     message: &mut Vec<u8>,
 ) -> Result<bool, InputFault>
     ensures gives { IfOk result (λ any. Gives form greatest (R.remaining input.old) (R.remaining input.new) any message.new.items) }
-    ensures fault { IfErr result (λ fault. Explains form number greatest (R.remaining input.old) (R.remaining input.new) fault) }
+    ensures fault { IfErr result (λ fault. Explains form number greatest (R.remaining input.old) (R.remaining input.new) message.new.items fault) }
 {
     match form {
         Form::Lines => next_line(number, greatest, input, message),

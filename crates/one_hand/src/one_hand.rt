@@ -51,7 +51,7 @@ pub trait OneHandLog: Claims {
     fn set_closed(&mut self)
         ensures { Self.stream self.new ≡ record (Self.stream self.old) { closed = true } };
 
-    /// Ends the log, and tells what each publisher claimed of it. A claim that is open becomes a padding.
+    /// Ends the log, and tells what each publisher claimed of it. A claim that is open counts for its publisher.
     fn close(self) -> Book
         ensures start { result.start ≡ (Self.stream self).start }
         ensures tail { result.tail ≡ (Self.stream self).tail }

@@ -1,10 +1,10 @@
 -- What a contract sees of a publisher's device, and what a datagram tells it.
-use Rattle.std.specs.Prelude.{◌≡◌, ℕ, ℤ, Bool, pos, negsuc, nat_eq, ◌&&◌, if◌then◌else◌, List, length, take, Option, None, Some}
+use Rattle.std.specs.Prelude.{◌≡◌, ℕ, ◌+◌, ◌%◌, ◌^◌, ℤ, Bool, pos, negsuc, nat_eq, ◌&&◌, if◌then◌else◌, List, length, take, Option, None, Some}
 use Rattle.std.specs.Ordering.{int_eq}
 use Rattle.theory.specs.Position.{position_of}
 use Rattle.theory.specs.Wire.{Wire, DATA, PAD, HEARTBEAT, NAK, SM, SETUP, Status}
 use Rattle.frames.specs.Fronts.{FrontSpells}
-use Rattle.attendance.specs.Attending.{after_status}
+use Rattle.attendance.specs.Attending.{after_status, nobody}
 use Rattle.attendance.specs.declared.attending.Attendance.{Attendance}
 use Rattle.peer.specs.declared.attended.Sent.{Sent}
 
@@ -14,6 +14,14 @@ pub record Watching (D : Type 0) : Type 0 where
   pub attendance : Attendance
   -- how many it was given to send
   pub datagrams : ℕ
+
+-- it has heard nobody yet, and was given nothing to send
+abbrev pub watching : {D : Type 0} → D → Sent → ℕ → Watching D
+watching inner sent start = record { inner = inner; sent = sent; attendance = nobody start; datagrams = 0 }
+
+-- it was given one more to send, and heard nothing by that; modulo 2 ^ 64
+abbrev pub given_one : {D : Type 0} → Watching D → D → Watching D
+given_one w inner = record w { inner = inner; datagrams = (w.datagrams + 1) % 2 ^ 64 }
 
 -- a position that isn't negative, with its receiver
 abbrev pub told_at : ℤ → ℤ → Option (ℤ × ℕ)

@@ -1,11 +1,10 @@
 //! A publisher's end.
 
-ghost use Rattle.std.specs.Prelude.{◌≡◌, IfOk};
-ghost use Rattle.endpoint.specs.Calls.{Receives};
+ghost use Rattle.std.specs.Prelude.{◌≡◌, IfOk, OnErr};
+ghost use Rattle.endpoint.specs.Calls.{Receives, Sends};
 ghost use Rattle.endpoint.specs.Devices.{NeverFall};
 ghost use Rattle.frames.specs.Frames.{status_of, wire};
-ghost use Rattle.attendance.specs.Attending.{nobody};
-ghost use Rattle.peer.specs.Watching.{HearsFound, Notes, is_own, noted, told_at, told_of, told_status};
+ghost use Rattle.peer.specs.Watching.{HearsFound, Notes, given_one, is_own, noted, told_at, told_of, told_status, watching};
 
 use attendance::Attendance;
 use endpoint::{Datagrams, DeviceFailed};
@@ -80,7 +79,7 @@ fn told_in(sent: Sent, frame: &Frame<'_>) -> Option<(i64, u64)>
 impl<D> Attended<D> {
     /// A device round this one that has heard nobody yet.
     pub fn new(inner: D, sent: Sent, start: u64) -> Attended<D>
-        ensures { result ≡ record { inner = inner; sent = sent; attendance = nobody start; datagrams = 0 } }
+        ensures { result ≡ watching inner sent start }
     {
         Attended {
             inner,
@@ -134,7 +133,13 @@ impl<D: Datagrams> Datagrams for Attended<D> {
 
     ghost tells = { λ a. D.tells a.inner };
 
-    fn send(&mut self, datagram: &[u8]) -> Result<(), DeviceFailed> {
+    /// Hands a datagram to the inner device, and counts it, whether that fails or not.
+    fn send(&mut self, datagram: &[u8]) -> Result<(), DeviceFailed>
+        ensures counts { NeverFall (D.device self.old.inner) (D.device self.new.inner) }
+        ensures sends { Sends (D.tells self.old.inner) (D.device self.old.inner) datagram.now result (D.device self.new.inner) }
+        ensures still_tells { D.tells self.old.inner → D.tells self.new.inner }
+        ensures given { self.new ≡ given_one self.old self.new.inner }
+    {
         self.datagrams = self.datagrams.wrapping_add(1);
         self.inner.send(datagram)
     }
@@ -144,6 +149,8 @@ impl<D: Datagrams> Datagrams for Attended<D> {
         ensures receives { Receives (D.tells self.old.inner) (D.device self.old.inner) buffer.old result buffer.new (D.device self.new.inner) }
         ensures still_tells { D.tells self.old.inner → D.tells self.new.inner }
         ensures hears { IfOk result (λ found. HearsFound self.old found buffer.new self.new.attendance) }
+        ensures failed { OnErr result (self.new.attendance ≡ self.old.attendance) }
+        ensures same { self.new ≡ record self.old { inner = self.new.inner; attendance = self.new.attendance } }
     {
         let found = self.inner.recv(buffer)?;
         if let Some(length) = found {

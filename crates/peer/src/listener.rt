@@ -1,5 +1,8 @@
 //! A subscriber's end that isn't tied yet.
 
+ghost use Rattle.std.specs.Prelude.{◌≡◌, ◌≢◌};
+ghost use Rattle.std.specs.IoError.{error_kind};
+
 use crate::fault::{BindError, is_loss};
 use crate::tied::TiedDevice;
 use endpoint::DeviceFailed;
@@ -26,7 +29,10 @@ fn open<R: Net>(rt: &R, port: u16) -> io::Result<UdpSocket> {
 }
 
 /// Why it can't be had.
-fn fault_of(error: &io::Error) -> BindError {
+fn fault_of(error: &io::Error) -> BindError
+    ensures taken { error_kind error.now ≡ ErrorKind.AddrInUse → result ≡ BindError.Taken }
+    ensures others { error_kind error.now ≢ ErrorKind.AddrInUse → result ≡ BindError.Device }
+{
     if error.kind() == ErrorKind::AddrInUse {
         return BindError::Taken;
     }

@@ -1,23 +1,46 @@
 //! A subscriber's end that is tied to one peer.
 
-ghost use Rattle.std.specs.Prelude.{◌≡◌};
-ghost use Rattle.endpoint.specs.Devices.{HasGrown, NeverFall, fresh, with_failure, with_none};
+ghost use Rattle.std.specs.Prelude.{◌≡◌, ◌↔◌, IsTrue, OnErr, OnOk, if◌then◌else◌};
+ghost use Rattle.endpoint.specs.Calls.{Receives, Sends};
+ghost use Rattle.endpoint.specs.Devices.{HasGrown, NeverFall, fresh};
+ghost use Rattle.peer.specs.Ties.{Takes, tie_heard, tie_passed, with_fault, with_nothing};
 
 use crate::fault::is_loss;
 use endpoint::{Datagrams, DeviceFailed};
 use std::marker::Model;
 use std::net::{SocketAddr, UdpSocket};
 
+/// The one peer, how many datagrams of it came, and how many of others.
+#[derive(Clone, Copy, Debug, PartialEq, Eq)]
+struct Tie {
+    peer: SocketAddr,
+    heard: u64,
+    strangers: u64,
+}
+
+impl Tie {
+    /// Counts a datagram that came from somebody. Whether that is the peer.
+    fn count(&mut self, from: SocketAddr) -> bool
+        ensures peer { IsTrue result ↔ (from ≡ self.old.peer) }
+        ensures counted { self.new ≡ (if result then tie_heard self.old else tie_passed self.old) }
+    {
+        if from == self.peer {
+            self.heard = self.heard.saturating_add(1);
+            return true;
+        }
+        self.strangers = self.strangers.saturating_add(1);
+        false
+    }
+}
+
 /// A device with one peer. What others have sent, before the system kept them away, it throws away and counts. A call that
 /// finds the system not ready, or its peer's port closed, hasn't failed: what was to be sent is lost, and nothing has come.
 #[derive(Drop)]
 pub struct TiedDevice {
     socket: UdpSocket,
-    peer: SocketAddr,
     // What came is taken here first, so that a caller's buffer changes only where a datagram stands.
     arrived: Vec<u8>,
-    heard: u64,
-    strangers: u64,
+    tie: Tie,
     failures: u64,
     nones: u64,
 }
@@ -28,7 +51,7 @@ impl Model for TiedDevice {
 
     ghost Value = { Tied };
 
-    ghost view = { λ t. record { device = record { sent = []; received = []; failures = t.failures; nones = t.nones }; heard = t.heard; strangers = t.strangers } };
+    ghost view = { λ t. record { device = record { sent = []; received = []; failures = t.failures; nones = t.nones }; heard = t.tie.heard; strangers = t.tie.strangers } };
 }
 
 impl TiedDevice {
@@ -38,10 +61,12 @@ impl TiedDevice {
     {
         TiedDevice {
             socket,
-            peer,
             arrived,
-            heard: 0,
-            strangers: 0,
+            tie: Tie {
+                peer,
+                heard: 0,
+                strangers: 0,
+            },
             failures: 0,
             nones: 0,
         }
@@ -51,19 +76,19 @@ impl TiedDevice {
     pub fn heard(&self) -> u64
         ensures { result ≡ self.now.heard }
     {
-        self.heard
+        self.tie.heard
     }
 
     /// How many datagrams of others it has thrown away. At the greatest `u64` it stays.
     pub fn strangers(&self) -> u64
         ensures { result ≡ self.now.strangers }
     {
-        self.strangers
+        self.tie.strangers
     }
 
     /// Counts a failure.
     fn fail(&mut self) -> DeviceFailed
-        ensures counted { self.new ≡ record self.old { device = with_failure self.old.device } }
+        ensures counted { self.new ≡ with_fault self.old }
         ensures grown { HasGrown self.old.device.failures self.new.device.failures }
         ensures not_fallen { NeverFall self.old.device self.new.device }
     {
@@ -73,7 +98,7 @@ impl TiedDevice {
 
     /// Counts a receive that found nothing.
     fn find_none(&mut self)
-        ensures counted { self.new ≡ record self.old { device = with_none self.old.device } }
+        ensures counted { self.new ≡ with_nothing self.old }
         ensures grown { HasGrown self.old.device.nones self.new.device.nones }
         ensures not_fallen { NeverFall self.old.device self.new.device }
     {
@@ -87,25 +112,32 @@ impl Datagrams for TiedDevice {
     ghost tells = { λ _. ⊥ };
 
     /// Hands a datagram to the system.
-    fn send(&mut self, datagram: &[u8]) -> Result<(), DeviceFailed> {
+    fn send(&mut self, datagram: &[u8]) -> Result<(), DeviceFailed>
+        ensures counts { NeverFall self.old.device self.new.device }
+        ensures sends { Sends ⊥ self.old.device datagram.now result self.new.device }
+        ensures sent { OnOk result (self.new ≡ self.old) }
+        ensures failed { OnErr result (self.new ≡ with_fault self.old) }
+    {
         match self.socket.send(datagram) {
             Err(error) if !is_loss(&error) => Err(self.fail()),
             _ => Ok(()),
         }
     }
 
-    fn recv(&mut self, buffer: &mut [u8]) -> Result<Option<usize>, DeviceFailed> {
+    fn recv(&mut self, buffer: &mut [u8]) -> Result<Option<usize>, DeviceFailed>
+        ensures counts { NeverFall self.old.device self.new.device }
+        ensures receives { Receives ⊥ self.old.device buffer.old result buffer.new self.new.device }
+        ensures takes { Takes self.old result self.new }
+    {
         match self.socket.recv_from(self.arrived.as_mut_slice()) {
-            Ok((arrived, from)) if from == self.peer => {
+            Ok((arrived, from)) => {
+                if !self.tie.count(from) {
+                    self.find_none();
+                    return Ok(None);
+                }
                 let length = arrived.min(buffer.len());
                 buffer[..length].copy_from_slice(&self.arrived[..length]);
-                self.heard = self.heard.saturating_add(1);
                 Ok(Some(length))
-            }
-            Ok(_) => {
-                self.strangers = self.strangers.saturating_add(1);
-                self.find_none();
-                Ok(None)
             }
             Err(error) if is_loss(&error) => {
                 self.find_none();

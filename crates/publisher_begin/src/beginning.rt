@@ -1,12 +1,13 @@
 //! What a publisher begins with.
 
 ghost use Rattle.std.specs.Prelude.{◌≡◌, IfOk};
-ghost use Rattle.publisher_begin.specs.Openings.{IsBegun};
+ghost use Rattle.endpoint.specs.Devices.{fresh};
+ghost use Rattle.publisher_begin.specs.Openings.{IsBegun, device_of};
 
 use agents::Duty;
 use conductor::{Client, Conductor, Taker};
 use end_options::PublishPlan;
-use endpoint::{OpenError, UdpDevice};
+use endpoint::UdpDevice;
 use log_reading::LogReader;
 use lossy::Lossy;
 use peer::{Attended, Sent};
@@ -16,13 +17,12 @@ use std::alloc::{AllocError, Global};
 use std::net::Net;
 use std::time::Instant;
 
-/// A device whose peer is the channel's port.
-pub fn bind<R: Net>(rt: &R, alloc: Global, port: u16) -> Result<UdpDevice, PublishFault> {
-    let mut device = match UdpDevice::bind(rt, alloc) {
-        Ok(device) => device,
-        Err(OpenError::Device) => return Err(PublishFault::Device),
-        Err(OpenError::Memory) => return Err(PublishFault::Memory),
-    };
+/// A device whose peer is the channel's port, and which has carried nothing. The fault is `Device` where the system refuses
+/// it, and `Memory` where memory is refused.
+pub fn bind<R: Net>(rt: &R, alloc: Global, port: u16) -> Result<UdpDevice, PublishFault>
+    ensures { IfOk result (λ u. u.device ≡ fresh) }
+{
+    let mut device = UdpDevice::bind(rt, alloc)?;
     device.connect(port)?;
     Ok(device)
 }
@@ -41,7 +41,7 @@ fn duty_of(
     plan: &PublishPlan,
     device: UdpDevice,
 ) -> Result<Duty<Attended<Lossy<UdpDevice>>>, PublishFault>
-    ensures { IfOk result (λ d. d.mtu ≡ plan.now.geometry.mtu) }
+    ensures { IfOk result (λ d. d ≡ record { device = device_of plan.now device; mtu = plan.now.geometry.mtu }) }
 {
     let lossy = Lossy::new(alloc, device, plan.end.rates, plan.end.seed);
     let sent = Sent {
@@ -65,14 +65,15 @@ pub struct Begun {
     pub tools: Tools<Lossy<UdpDevice>>,
 }
 
-/// Has all that a publisher begins with, over a device.
+/// Has all that a publisher begins with, over a device. It fails only where memory is refused.
 pub fn begin(
     alloc: Global,
     plan: &PublishPlan,
     began: Instant,
     device: UdpDevice,
 ) -> Result<Begun, PublishFault>
-    ensures { IfOk result (λ b. IsBegun plan.now b) }
+    ensures begun { IfOk result (λ b. IsBegun plan.now b) }
+    ensures device { IfOk result (λ b. b.tools.duty.device ≡ device_of plan.now device) }
 {
     let duty = duty_of(alloc, plan, device)?;
     let (conductor, client, taker) = queue(alloc)?;

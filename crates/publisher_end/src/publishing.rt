@@ -1,5 +1,6 @@
 //! A publisher from its begin to its end.
 
+ghost use Rattle.std.specs.Prelude.{◌≡◌, Err, IfErr, OnOk};
 ghost use Rattle.log_parts.specs.Books.{IsDone};
 ghost use Rattle.publisher_begin.specs.Openings.{IsBegun};
 ghost use Rattle.publisher_parties.specs.Openings.{AreTools, IsAgentOf};
@@ -18,8 +19,20 @@ use std::thread;
 use std::thread::{Scope, Threads};
 use std::time::{Clock, Instant};
 
-/// Starts the thread that reads, sends until the publisher ends, and joins that thread. What it says goes first: a message
-/// that couldn't be read is a fault however the others went.
+/// How a publisher ended, by what was read and what was sent. The reading goes first: a message that couldn't be read is a
+/// fault however the sending went.
+fn ended(
+    read: Result<(), PublishFault>,
+    sent: Result<Ending, PublishFault>,
+) -> Result<Ending, PublishFault>
+    ensures read { IfErr read (λ fault. result ≡ Err fault) }
+    ensures sent { OnOk read (result ≡ sent) }
+{
+    read?;
+    sent
+}
+
+/// Starts the thread that reads, sends until the publisher ends, and joins that thread.
 fn play<
     's,
     S,
@@ -50,10 +63,9 @@ fn play<
     ) else {
         return Err(PublishFault::Device);
     };
-    let ending = send_all(rt, plan, stage, &mut crew, errors);
+    let sent = send_all(rt, plan, stage, &mut crew, errors);
     stage.stop();
-    reader.join(rt)?;
-    ending
+    ended(reader.join(rt), sent)
 }
 
 /// Plays in a scope.

@@ -1,2 +1,5 @@
 pub mod Begun
+pub mod Ends
+pub mod Inputs
+pub mod Lines
 pub mod Openers

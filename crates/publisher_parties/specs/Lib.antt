@@ -1,2 +1,4 @@
+pub mod Inputs
 pub mod Openings
+pub mod Progress
 pub mod Texts

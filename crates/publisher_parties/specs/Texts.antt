@@ -1,8 +1,14 @@
--- What a user reads of a fault.
-use Rattle.std.specs.Prelude.{ℕ, List, codes}
+-- What a user reads of a fault, and what a publisher tells on its error output.
+use Rattle.std.specs.Prelude.{ℕ, List, [], ◌∷◌, ◌++◌, Option, None, Some, codes, decimal, nat_lt, if◌then◌else◌}
+use Rattle.std.specs.Fmt.{signed_decimal}
 use Rattle.agents.specs.declared.fault.AgentFault.{AgentFault}
 use Rattle.agents.specs.declared.fault.AgentFault.TheVariants as agents
+use Rattle.attendance.specs.declared.attending.Attendance.{Attendance}
+use Rattle.attendance.specs.declared.attending.Heard.{Heard}
+use Rattle.endpoint.specs.declared.udp.OpenError.{OpenError}
+use Rattle.endpoint.specs.declared.udp.OpenError.TheVariants as opens
 use Rattle.message_input.specs.Texts as inputs
+use Rattle.publisher_parties.specs.declared.telling.Counts.{Counts}
 use Rattle.publisher_parties.specs.declared.fault.PublishFault.{PublishFault}
 use Rattle.publisher_parties.specs.declared.fault.PublishFault.TheVariants.{Input, Full, Device, Memory}
 
@@ -16,3 +22,43 @@ text_of Memory = codes "memory"
 abbrev pub of_agent : AgentFault → PublishFault
 of_agent agents.Device = Device
 of_agent agents.Memory = Memory
+
+-- why a device can't be opened, as a publisher's fault
+abbrev pub of_open : OpenError → PublishFault
+of_open opens.Device = Device
+of_open opens.Memory = Memory
+
+-- ---- lines
+
+-- texts one after the other
+abbrev pub joined : List (List ℕ) → List ℕ
+joined [] = []
+joined (text ∷ []) = text
+joined (text ∷ next ∷ texts) = text ++ joined (next ∷ texts)
+
+-- the one that was heard before, and the one that is heard now
+abbrev pub left_text : Heard → List ℕ
+left_text h = joined (codes "receiver " ∷ signed_decimal h.receiver ∷ codes " left at position " ∷ decimal h.last ∷ [])
+
+abbrev pub joined_text : Heard → List ℕ
+joined_text h = joined (codes "receiver " ∷ signed_decimal h.receiver ∷ codes " joined at position " ∷ decimal h.first ∷ [])
+
+abbrev pub change_line : Heard → Heard → List ℕ
+change_line left present = left_text left ++ codes ", " ++ joined_text present ++ 10 ∷ []
+
+abbrev pub change_between : Option Heard → Option Heard → List ℕ
+change_between None present = []
+change_between (Some left) None = []
+change_between (Some left) (Some present) = change_line left present
+
+abbrev pub change_text : Attendance → List ℕ
+change_text a = change_between a.left a.present
+
+-- a line only where less than the tail was told
+abbrev pub short_text : ℕ → ℕ → List ℕ
+short_text told tail = if nat_lt told tail then codes "no progress: position " ++ decimal told ++ codes " of " ++ decimal tail ++ codes " was told" ++ 10 ∷ [] else []
+
+abbrev pub counters_line : Counts → List ℕ
+counters_line c = joined (
+    codes "messages " ∷ decimal c.messages ∷ codes " tail " ∷ decimal c.tail
+    ∷ codes " told " ∷ decimal c.told ∷ codes " datagrams " ∷ decimal c.datagrams ∷ [])

@@ -1,9 +1,9 @@
 ghost use Rattle.std.specs.Prelude.{◌≡◌, Some};
-ghost use Rattle.publisher_parties.specs.Texts.{of_agent, text_of};
+ghost use Rattle.publisher_parties.specs.Texts.{of_agent, of_open, text_of};
 ghost use Rattle.publisher_parties.specs.declared.fault.PublishFault.TheVariants.{Device, Input, Memory};
 
 use agents::AgentFault;
-use endpoint::DeviceFailed;
+use endpoint::{DeviceFailed, OpenError};
 use message_input::InputFault;
 use std::alloc::AllocError;
 use std::error::Error;
@@ -52,6 +52,17 @@ impl From<AgentFault> for PublishFault {
         match fault {
             AgentFault::Device => PublishFault::Device,
             AgentFault::Memory => PublishFault::Memory,
+        }
+    }
+}
+
+impl From<OpenError> for PublishFault {
+    ghost from_gives = { λ from fault. fault ≡ of_open from };
+
+    fn from(error: OpenError) -> PublishFault {
+        match error {
+            OpenError::Device => PublishFault::Device,
+            OpenError::Memory => PublishFault::Memory,
         }
     }
 }

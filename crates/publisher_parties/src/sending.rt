@@ -1,17 +1,20 @@
 //! The thread that sends, keeps the log, and decides the end.
 
+ghost use Rattle.std.specs.Prelude.{◌≡◌, IfOk, nat_eq, not};
 ghost use Rattle.publisher_parties.specs.Openings.{AreTools, IsAgentOf};
+ghost use Rattle.publisher_parties.specs.Progress.{Ends, Judges, ending_seen, is_shown, nothing_seen, seen, shown_at, told_of};
 
 use crate::fault::PublishFault;
 use crate::opening::Agent;
-use crate::stage::{Stage, rest};
-use crate::telling::{tell_change, tell_counters, tell_short};
+use crate::stage::Stage;
+use crate::telling::{Counts, tell_change, tell_counters, tell_short};
 use agents::Duty;
 use attendance::{Attendance, Ending};
 use conducting::conduct;
 use conductor::{Client, Taker};
 use end_options::PublishPlan;
 use endpoint::Datagrams;
+use idle::Idle;
 use log_keeping::Keeper;
 use peer::Attended;
 use std::io::Write;
@@ -48,8 +51,10 @@ struct Progress {
     shown: u64,
 }
 
-/// What the receiver that was heard last has told.
-fn told_in(attendance: &Attendance) -> u64 {
+/// What the receiver that was heard last has told; before anybody was heard it is the start.
+fn told_in(attendance: &Attendance) -> u64
+    ensures { result ≡ told_of attendance.now }
+{
     match attendance.present {
         None => attendance.start,
         Some(heard) => heard.last,
@@ -57,7 +62,9 @@ fn told_in(attendance: &Attendance) -> u64 {
 }
 
 impl Progress {
-    fn new() -> Progress {
+    fn new() -> Progress
+        ensures { result ≡ nothing_seen }
+    {
         Progress {
             changes: 0,
             told: 0,
@@ -68,7 +75,10 @@ impl Progress {
     }
 
     /// Sees how far all is at a moment. Whether receivers have changed.
-    fn see(&mut self, attendance: &Attendance, ended: bool, now: u64) -> bool {
+    fn see(&mut self, attendance: &Attendance, ended: bool, now: u64) -> bool
+        ensures changed { result ≡ not (nat_eq attendance.now.changes self.old.changes) }
+        ensures seen { self.new ≡ seen self.old attendance.now ended now }
+    {
         let told = told_in(attendance);
         let changed = attendance.changes != self.changes;
         if changed || told != self.told || ended != self.ended {
@@ -81,12 +91,25 @@ impl Progress {
     }
 
     /// Whether the counters are to be shown at this moment; then the next second begins.
-    fn shows(&mut self, now: u64) -> bool {
+    fn shows(&mut self, now: u64) -> bool
+        ensures due { result ≡ is_shown self.old now }
+        ensures shown { self.new ≡ shown_at self.old now }
+    {
         if now.saturating_sub(self.shown) < SECOND {
             return false;
         }
         self.shown = now;
         true
+    }
+
+    /// How the publisher ends by what was seen, if it does: not before the input has ended.
+    fn ending(&self, attendance: &Attendance, tail: u64, linger: u64, now: u64) -> Option<Ending>
+        ensures { result ≡ ending_seen self.now attendance.now tail linger now }
+    {
+        if !self.ended {
+            return None;
+        }
+        attendance.ending(tail, now.saturating_sub(self.moment), linger)
     }
 }
 
@@ -130,27 +153,34 @@ fn judge<E: Write>(
     datagrams: u64,
     errors: &mut E,
     now: u64,
-) -> Option<Ending> {
-    let ended = stage.has_ended();
-    if progress.see(attendance, ended, now) {
-        tell_change(errors, attendance);
+) -> Option<Ending>
+    ensures progress { progress.new ≡ record (seen progress.old attendance.now progress.new.ended now) { shown = progress.new.shown } }
+    ensures judges { Judges progress.new attendance.now plan.now.linger now result }
+{
+    if progress.see(attendance, stage.has_ended(), now) {
+        let _ = tell_change(errors, attendance);
     }
     let tail = stage.tail();
     if plan.end.counters && progress.shows(now) {
-        tell_counters(errors, stage.messages(), tail, progress.told, datagrams);
+        let messages = stage.messages();
+        let told = progress.told;
+        let counts = Counts {
+            messages,
+            tail,
+            told,
+            datagrams,
+        };
+        let _ = tell_counters(errors, counts);
     }
-    if !ended {
-        return None;
+    let ending = progress.ending(attendance, tail, plan.linger, now);
+    if ending == Some(Ending::Short) {
+        let _ = tell_short(errors, progress.told, tail);
     }
-    let idle = now.saturating_sub(progress.moment);
-    let ending = attendance.ending(tail, idle, plan.linger)?;
-    if ending == Ending::Short {
-        tell_short(errors, progress.told, tail);
-    }
-    Some(ending)
+    ending
 }
 
-/// Sends and keeps until the publisher ends. The answer is how.
+/// Sends and keeps until the publisher ends. The answer is how, by the receivers that its device has heard.
+#[tactic(auto, using(crate::proofs::Ends::ends))]
 pub fn send_all<R: Wait + Clock, D: Datagrams, E: Write>(
     rt: &R,
     plan: &PublishPlan,
@@ -160,8 +190,10 @@ pub fn send_all<R: Wait + Clock, D: Datagrams, E: Write>(
 ) -> Result<Ending, PublishFault>
     requires agent { IsAgentOf plan.now crew.old.agent }
     requires tools { AreTools plan.now stage.now crew.old.tools }
+    ensures { IfOk result (λ ending. Ends crew.new.tools.duty.device.attendance plan.now.linger ending) }
 {
     let mut progress = Progress::new();
+    let mut idle = Idle::new();
     for _ in rt.forever() {
         let now = stage.moment(rt)?;
         let busy = cycle(rt, plan, stage, crew, now)?;
@@ -179,9 +211,7 @@ pub fn send_all<R: Wait + Clock, D: Datagrams, E: Write>(
         if let Some(ending) = ending {
             return Ok(ending);
         }
-        if !busy {
-            rest(rt);
-        }
+        idle.after(rt, busy);
     }
     unreachable!()
 }

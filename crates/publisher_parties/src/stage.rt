@@ -6,11 +6,7 @@ use crate::fault::PublishFault;
 use conductor::Conductor;
 use shared_log::Log;
 use std::sync::atomic::{AtomicBool, AtomicU64, Ordering};
-use std::thread;
-use std::time::{Clock, Duration, Instant};
-
-/// How long an idle turn rests, in microseconds.
-const REST: u64 = 20;
+use std::time::{Clock, Instant};
 
 /// The log, the command queue, the moment of the begin, how many messages were accepted and where they end, whether the
 /// input has ended, and whether all is to stop.
@@ -85,9 +81,4 @@ impl Stage {
             Err(_) => Err(PublishFault::Device),
         }
     }
-}
-
-/// Gives the processor away for a while.
-pub(crate) fn rest<R: Clock>(rt: &R) {
-    let _ = thread::sleep(rt, Duration::from_micros(REST));
 }

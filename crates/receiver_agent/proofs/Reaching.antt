@@ -2,7 +2,7 @@
 use Rattle.std.proofs.Common.{◌≡◌, ◌⊎◌, ℕ, Bool, inl, inr, List, [], ◌∷◌, Option, None, Some, refl, sym, ap, subst}
 use Rattle.std.specs.Prelude.{ℤ}
 use Rattle.endpoint.specs.Devices.{Device}
-use Rattle.agents.specs.Cycles.{Cycle, Fault, HearsAll}
+use Rattle.agents.specs.Cycles.{Cycle, Fault, HearsAll, TicksBehind}
 use Rattle.agents.specs.Parties.{ReceiverHears, ReceiverTicks}
 use Rattle.agents.specs.declared.fault.AgentFault.{AgentFault}
 use Rattle.theory.specs.Consumer.{least_of}
@@ -82,9 +82,9 @@ fault_reached k now tells fault s d t e c h = either c.ticked
     before : HasReached c.middle k
     before = hears_all k now s c.heard c.middle c.answers c.all_heard h
 
-    either : ((t ≡ c.middle) × (c.given ≡ [])) ⊎ ReceiverTicks c.middle now t c.given → HasReached t k
+    either : ((t ≡ c.middle) × (c.given ≡ [])) ⊎ TicksBehind ReceiverTicks now c.heard c.lost c.answers c.given c.sent c.middle d t e → HasReached t k
     either (inl stays) = subst (λ v. HasReached v k) (sym stays.0) before
-    either (inr told) = ticks k now c.middle t c.given told before
+    either (inr told) = ticks k now c.middle t c.given told.ticked before
 
 -- ---- a poll
 

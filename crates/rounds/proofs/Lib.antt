@@ -2,3 +2,4 @@ pub mod Messages
 pub mod Lanes
 pub mod Books
 pub mod Followers
+pub mod Limits

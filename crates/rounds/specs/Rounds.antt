@@ -4,6 +4,7 @@ use Rattle.std.specs.List.{AllByRecursion}
 use Rattle.theory.specs.Position.{Geometry, span}
 use Rattle.theory.specs.Entry.{Entry, entry_end, length_of}
 use Rattle.theory.specs.Placed.{Data, Frame, Pad}
+use Rattle.theory.specs.Refusal.{is_connected, limit_in}
 use Rattle.theory.specs.Tiling.{Tiles}
 use Rattle.word_calls.specs.declared.pass.ClaimRange.{ClaimRange}
 use Rattle.word_calls.specs.declared.pass.FrameWords.{FrameWords}
@@ -100,7 +101,7 @@ pub record IsFollower (l : LogValue) (f : Follower) : Type 0 where
 
 -- ---- rounds
 
--- a log of this shape that begins at 0, and all that it has
+-- a log of this shape that begins at 0, connected, with its limit half a term above or further; and all that it has
 pub record IsReady (g : Geometry) (r : Ready) : Type 0 where
   pub shape : r.log.identity.geometry ≡ g
   pub start : r.log.start ≡ 0
@@ -108,6 +109,8 @@ pub record IsReady (g : Geometry) (r : Ready) : Type 0 where
   pub none : AllByRecursion (λ lane. lane.accepted ≡ 0) r.lanes
   pub whole : total parts_of r.lanes ≡ 1016
   pub keeper : IsKept r.log r.keeper
+  pub connected : is_connected r.keeper.limit ≡ true
+  pub limit : g.term_length / 2 ≤ limit_in r.keeper.limit
   pub readers : AllByRecursion (IsReaderOf r.log) r.readers.items
   pub one : length r.readers.items ≡ 1
 

@@ -7,11 +7,26 @@ use std::{io, thread};
 /// How often a thread looks whether the others have come, before it goes on alone.
 const TRIES: u32 = 1_000_000_000;
 
-/// A gate that opens once so many threads have come.
+/// How often a thread yields between the two meetings: some milliseconds, in which the system gives each a core of its own.
+const SETTLING: u32 = 20_000;
+
+/// A gate that opens once so many threads have come and had time to settle.
 #[derive(Drop)]
 pub(crate) struct Gate {
     wanted: u64,
     arrived: AtomicU64,
+    settled: AtomicU64,
+}
+
+/// Waits until so many have met here.
+fn meet(count: &AtomicU64, wanted: u64) {
+    count.fetch_add(1, Ordering::SeqCst);
+    for _ in 0..TRIES {
+        if count.load(Ordering::SeqCst) >= wanted {
+            return;
+        }
+        thread::yield_now();
+    }
 }
 
 impl Gate {
@@ -19,18 +34,17 @@ impl Gate {
         Gate {
             wanted: wanted as u64,
             arrived: AtomicU64::new(0),
+            settled: AtomicU64::new(0),
         }
     }
 
-    /// Comes to the gate, and goes through once all have come.
+    /// Comes to the gate, and goes through with the others.
     pub(crate) fn pass(&self) {
-        self.arrived.fetch_add(1, Ordering::SeqCst);
-        for _ in 0..TRIES {
-            if self.arrived.load(Ordering::SeqCst) >= self.wanted {
-                return;
-            }
+        meet(&self.arrived, self.wanted);
+        for _ in 0..SETTLING {
             thread::yield_now();
         }
+        meet(&self.settled, self.wanted);
     }
 }
 

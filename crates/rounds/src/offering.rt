@@ -14,9 +14,9 @@ pub(crate) const SIZE: usize = 200;
 /// What a thread offers.
 #[derive(Clone, Copy)]
 pub(crate) enum Aim {
-    /// Messages until one is refused at the limit.
+    /// Messages until one is refused at the limit, of at most 2^32 - 1 offers.
     Fill,
-    /// So many messages, each again and again until it is accepted.
+    /// So many messages, each again and again until it is accepted, or none can be any more; of at most 2^32 - 1 offers.
     Send(u32),
 }
 
@@ -33,7 +33,8 @@ fn offer_once(words: &mut OnLog, publisher: &mut Publisher, message: &[u8]) -> R
     offer(words, publisher, message)
 }
 
-/// Offers messages until one is refused at the limit, and counts those that are accepted.
+/// Offers messages until one is refused, but for an administrative action, or 2^32 - 1 were offered. It counts those that are
+/// accepted.
 fn fill(log: &Log, publisher: &mut Publisher) -> u32
     requires { IsSender log.now publisher.old }
     ensures { Claims log.now publisher.old result publisher.new }
@@ -52,7 +53,8 @@ fn fill(log: &Log, publisher: &mut Publisher) -> u32
     accepted
 }
 
-/// Offers so many messages, each until it is accepted, and counts them.
+/// Offers so many messages, each until it is accepted, and counts them. It ends early where nobody receives the stream, the
+/// log is closed or the stream is at its last position, and after 2^32 - 1 offers.
 fn send(log: &Log, publisher: &mut Publisher, messages: u32) -> u32
     requires { IsSender log.now publisher.old }
     ensures { Claims log.now publisher.old result publisher.new }

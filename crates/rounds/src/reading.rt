@@ -37,7 +37,8 @@ fn keep(log: &Log, keeper: &mut Keeper)
     clean_and_limit(log, keeper);
 }
 
-/// Reads until it has read so many messages, and counts them. The keeper follows each 64th of a term.
+/// Reads until it has read so many messages, or has tried 2^32 - 1 times, and counts them. The keeper follows each 64th of a
+/// term.
 pub(crate) fn follow(
     log: &Log,
     reader: &mut LogReader,

@@ -1,5 +1,5 @@
 -- What a run begins with.
-use Rattle.std.specs.Prelude.{◌≡◌, ◌+◌, List, None}
+use Rattle.std.specs.Prelude.{◌≡◌, ◌+◌, List}
 use Rattle.std.specs.List.{AllByRecursion}
 use Rattle.theory.specs.Position.{Geometry}
 use Rattle.tail_claim.specs.Handles.{PublisherValue, parts_in}
@@ -9,8 +9,8 @@ use Rattle.log_parts.specs.Books.{IsDone}
 use Rattle.log_parts.specs.Parts.{IsNewReader}
 use Rattle.run_parties.specs.Senders.{IsRunLog}
 use Rattle.run_parties.specs.Passes.{IsKept}
+use Rattle.run_parties.specs.Receivers.{new_receiver}
 use Rattle.counters.specs.Order.{zeros}
-use Rattle.receiver.specs.Receiving.{Receiver}
 use Rattle.receiver.specs.Subscribing.{RepresentsSubscriber}
 use Rattle.run.specs.declared.opening.Opened.{Opened}
 use Rattle.run.specs.declared.running.Begun.{Begun}
@@ -34,14 +34,13 @@ pub record IsStaged (l : LogValue) (p : Played) (unused : List PublisherValue) :
   pub whole : total parts_in p.publishers.items + total parts_in unused ≡ 1016
   pub keeper : IsKept l p.keeper
 
--- what stands beside the log: a queue's clients and its taker, a subscriber that has met nothing, and counters at zero
-pub record IsBegun (b : Begun) : Type 0 where
+-- what stands beside a log of this shape: a queue's clients and its taker, a subscriber that has met nothing, and counters
+-- at zero
+pub record IsBegun (g : Geometry) (b : Begun) : Type 0 where
   pub asking : b.queue.asking.queue ≡ b.queue.conductor
   pub closing : b.queue.closing.queue ≡ b.queue.conductor
   pub taker : b.queue.taker.queue ≡ b.queue.conductor
-  pub receiver : Receiver
-  pub subscriber : RepresentsSubscriber b.subscriber receiver
-  pub nothing : receiver.image ≡ None
+  pub subscriber : RepresentsSubscriber b.subscriber (new_receiver g)
   pub writer : b.writer.counters ≡ b.counters
   pub zero : b.writer.last ≡ zeros
   pub reader : b.reader.counters ≡ b.counters

@@ -29,6 +29,9 @@ ending_of o = if o.kept then (if nat_lt o.polled o.wanted then Short else Whole)
 
 -- what a plan asks for
 pub record SizeOf (plan : Plan) (size : Size) : Type 0 where
+  pub messages : size.task.messages ≡ plan.messages
+  pub offers : size.task.turns ≡ plan.turns
+  pub turns : size.turns ≡ plan.turns
   pub length : size.task.length ≡ plan.length
   pub wanted : size.wanted ≡ plan.publishers * plan.messages
   pub few : size.wanted < 2 ^ 63

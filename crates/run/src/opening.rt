@@ -1,8 +1,6 @@
-//! The log of a run, and its subscriber.
+//! The log of a run.
 
-ghost use Rattle.std.specs.Prelude.{◌≡◌, ◌≤◌, ◌+◌, None, IfOk, take, drop};
-ghost use Rattle.receiver.specs.Receiving.{Receiver};
-ghost use Rattle.receiver.specs.Subscribing.{RepresentsSubscriber};
+ghost use Rattle.std.specs.Prelude.{◌≡◌, ◌≤◌, ◌+◌, IfOk, take, drop};
 ghost use Rattle.run.specs.Openings.{IsOpened};
 
 use agents::AgentFault;
@@ -10,13 +8,9 @@ use log_keeping::Keeper;
 use log_parts::{Parts, open};
 use log_reading::LogReader;
 use position::Geometry;
-use receiver::{ReceiverCore, Subscriber};
 use run_parties::{SESSION, STREAM};
 use shared_log::{Log, Publisher};
 use std::alloc::{AllocError, Global};
-
-/// The receiver's id.
-const RECEIVER: i64 = 1;
 
 /// The log of a run with its passes, of which some publishers aren't used.
 #[derive(Drop)]
@@ -67,14 +61,4 @@ pub(crate) fn open_run(
         reader: readers.remove(0),
         keeper,
     })
-}
-
-/// A subscriber that has met nothing.
-pub(crate) fn listening(alloc: Global, geometry: &Geometry) -> Result<Subscriber, AllocError>
-    ensures { IfOk result (λ s. (r : Receiver) × RepresentsSubscriber s r × (r.image ≡ None)) }
-{
-    let window = geometry.term_length() / 2;
-    let core = ReceiverCore::new(alloc, SESSION, STREAM, window, RECEIVER, 1);
-    let greatest = geometry.max_message() as usize;
-    Ok(Subscriber::new(alloc, core, greatest)?)
 }

@@ -8,20 +8,19 @@ ghost use Rattle.run.specs.Openings.{IsBegun, IsOpened, IsStaged};
 ghost use Rattle.run.specs.Outcomes.{IsBook, IsOutcome, SizeOf};
 ghost use Rattle.run_starts.specs.Threads.{IsCast, IsPlayed, IsSet};
 
-use crate::opening::{Opened, listening, open_run};
+use crate::opening::{Opened, open_run};
 use crate::outcome::Outcome;
 use agents::AgentFault;
 use conductor::{Client, Conductor, Taker};
 use counters::{CounterReader, CounterWriter, Counters};
-use endpoint::{Datagrams, OpenError, UdpDevice};
+use endpoint::Datagrams;
 use log_parts::close;
-use lossy::Lossy;
 use one_hand::Book;
 use position::Geometry;
 use receiver::Subscriber;
 use receiver_agent::{Named, ReceiverAgent};
 use run_options::Plan;
-use run_parties::{Gate, Stage, Task};
+use run_parties::{Gate, Stage, Task, device_pair, new_subscriber};
 use run_threads::{Cast, Played, Scene, Size, Watch, play};
 use shared_log::{Log, Publisher};
 use std::alloc::{AllocError, Global};
@@ -31,24 +30,6 @@ use std::net::Net;
 use std::sync::{Mutex, Wait};
 use std::thread::Threads;
 use std::time::{Clock, Instant};
-
-/// A device over UDP.
-fn bind<R: Net>(rt: &R, alloc: Global) -> Result<UdpDevice, AgentFault> {
-    match UdpDevice::bind(rt, alloc) {
-        Ok(device) => Ok(device),
-        Err(OpenError::Device) => Err(AgentFault::Device),
-        Err(OpenError::Memory) => Err(AgentFault::Memory),
-    }
-}
-
-/// Two devices over UDP, each the other's peer.
-fn pair<R: Net>(rt: &R, alloc: Global) -> Result<(UdpDevice, UdpDevice), AgentFault> {
-    let mut one = bind(rt, alloc)?;
-    let mut other = bind(rt, alloc)?;
-    one.connect(other.port())?;
-    other.connect(one.port())?;
-    Ok((one, other))
-}
 
 /// The command queue, its taker, and the two clients of it that a run has.
 #[derive(Drop)]
@@ -153,7 +134,7 @@ struct Begun {
 }
 
 fn begin<R: Clock>(rt: &R, alloc: Global, geometry: &Geometry) -> Result<Begun, AgentFault>
-    ensures { IfOk result (λ b. IsBegun b) }
+    ensures { IfOk result (IsBegun geometry.now) }
 {
     let Ok(began) = Instant::now(rt) else {
         return Err(AgentFault::Device);
@@ -161,7 +142,7 @@ fn begin<R: Clock>(rt: &R, alloc: Global, geometry: &Geometry) -> Result<Begun, 
     let queue = make_queue(alloc)?;
     let (counters, mut writer) = Counters::new(alloc)?;
     let reader = counters.reader(&mut writer);
-    let subscriber = listening(alloc, geometry)?;
+    let subscriber = new_subscriber(alloc, geometry)?;
     Ok(Begun {
         began,
         queue,
@@ -182,7 +163,8 @@ fn left(
 ) -> Result<Outcome, AllocError>
     requires staged { IsStaged log played unused.items }
     requires polled { played.tally.polled ≤ wanted }
-    ensures { IfOk result (λ o. (o.wanted ≡ wanted) × (o.polled ≤ wanted) × IsBook log.identity.geometry o.book) }
+    ensures tally { IfOk result (λ o. (o.polled ≡ played.tally.polled) × (o.kept ≡ played.tally.kept)) }
+    ensures outcome { IfOk result (λ o. (o.wanted ≡ wanted) × (o.polled ≤ wanted) × IsBook log.identity.geometry o.book) }
 {
     let (polled, kept) = (played.tally.polled(), played.tally.is_in_order());
     let book = closed(log, played, unused, alloc)?;
@@ -211,7 +193,7 @@ fn run_on<
     sends: D,
     replies: D,
 ) -> Result<Outcome, AgentFault>
-    requires begun { IsBegun begun }
+    requires begun { IsBegun plan.now.geometry begun }
     requires opened { IsOpened plan.now.geometry opened }
     ensures { IfOk result (λ o. IsOutcome plan.now o) }
 {
@@ -297,8 +279,6 @@ pub fn run<R: Threads + Wait + Clock + Net + Sync, G: Gate + Sync, E: Write + Dr
 ) -> Result<Outcome, AgentFault>
     ensures { IfOk result (λ o. IsOutcome plan.now o) }
 {
-    let (one, other) = pair(rt, alloc)?;
-    let sends = Lossy::new(alloc, one, plan.rates, plan.seed);
-    let replies = Lossy::new(alloc, other, plan.rates, plan.seed.wrapping_add(1));
+    let (sends, replies) = device_pair(rt, alloc, plan.rates, plan.seed)?;
     run_over(rt, alloc, plan, gate, errors, sends, replies)
 }

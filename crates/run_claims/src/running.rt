@@ -1,6 +1,6 @@
 //! The commands, one after the other.
 
-ghost use Rattle.std.specs.Prelude.{◌≡◌, ◌&&◌, IfOk, OnOk, OnErr, is_none, nat_lt};
+ghost use Rattle.std.specs.Prelude.{◌≡◌, ◌≤◌, ◌&&◌, [], IfOk, OnOk, OnErr, is_none, length, nat_lt, vec_capacity};
 ghost use Rattle.std.specs.Option.{option_map};
 ghost use Rattle.one_hand.specs.Stream.{OpenClaim, claim_by};
 ghost use Rattle.run_claims.specs.Commands.{IsSameBut, aborted, after_all, after_command, answer_to, answers_of, claim_after, claim_answer, claim_for, claim_of, committed, ended, offer_after, offer_answer};
@@ -95,6 +95,23 @@ fn run_one<L: Claims>(log: &mut L, command: &ClaimCommand) -> ClaimAnswer
     }
 }
 
+/// Runs the commands in order, and puts what became of each behind one another into this list, which has room for all.
+fn answer_all<L: Claims>(
+    mut answers: Vec<ClaimAnswer>,
+    log: &mut L,
+    commands: &[ClaimCommand],
+) -> Vec<ClaimAnswer>
+    requires empty { answers.items ≡ [] }
+    requires room { length commands.now ≤ vec_capacity answers }
+    ensures answers { result.items ≡ answers_of (L.stream log.old) commands.now }
+    ensures after { L.stream log.new ≡ after_all (L.stream log.old) commands.now }
+{
+    for command in commands {
+        answers.push_reserved(run_one(log, command));
+    }
+    answers
+}
+
 /// Runs the commands in order, and tells what became of each. All memory is asked for at first: where there is none, nothing
 /// happened to the log.
 pub fn run_claims<L: Claims>(
@@ -106,15 +123,12 @@ pub fn run_claims<L: Claims>(
     ensures after { OnOk result (L.stream log.new ≡ after_all (L.stream log.old) commands.now) }
     ensures same { OnErr result (L.stream log.new ≡ L.stream log.old) }
 {
-    let mut answers = Vec::with_capacity(alloc, commands.len())?;
-    for command in commands {
-        answers.push_reserved(run_one(log, command));
-    }
-    Ok(answers)
+    let answers = Vec::with_capacity(alloc, commands.len())?;
+    Ok(answer_all(answers, log, commands))
 }
 
 /// Runs the commands on two logs whose streams differ in nothing but their consumers. Both give the same answers, and their
-/// streams have the same entries then.
+/// streams have the same entries then. All memory is asked for at first: where there is none, nothing happened to either.
 pub fn run_on_both<L: Claims, M: Claims>(
     alloc: Global,
     one: &mut L,
@@ -124,9 +138,12 @@ pub fn run_on_both<L: Claims, M: Claims>(
     requires same { IsSameBut (L.stream one.old) (M.stream other.old) }
     ensures answers { IfOk result (λ r. (r.0.items ≡ answers_of (L.stream one.old) commands.now) × (r.1.items ≡ r.0.items)) }
     ensures after { OnOk result ((L.stream one.new ≡ after_all (L.stream one.old) commands.now) × IsSameBut (L.stream one.new) (M.stream other.new)) }
+    ensures same { OnErr result ((L.stream one.new ≡ L.stream one.old) × (M.stream other.new ≡ M.stream other.old)) }
 {
-    let of_one = run_claims(alloc, one, commands)?;
-    let of_other = run_claims(alloc, other, commands)?;
+    let for_one = Vec::with_capacity(alloc, commands.len())?;
+    let for_other = Vec::with_capacity(alloc, commands.len())?;
+    let of_one = answer_all(for_one, one, commands);
+    let of_other = answer_all(for_other, other, commands);
     runs_agree();
     Ok((of_one, of_other))
 }

@@ -18,7 +18,7 @@ pub struct Plan {
     pub length: usize,
     /// Where the random words begin.
     pub seed: u64,
-    /// The most turns that the run takes, 1 to 1,000,000,000.
+    /// The most turns that each thread takes, 1 to 1,000,000,000.
     pub turns: u32,
     /// Whether the counters are shown.
     pub counters: bool,

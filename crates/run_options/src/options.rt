@@ -17,7 +17,7 @@ pub struct RunOptions {
     pub hold: u32,
     /// Where the random words begin.
     pub seed: u64,
-    /// The most turns that the run takes, 1 to 1,000,000,000.
+    /// The most turns that each thread takes, 1 to 1,000,000,000.
     pub turns: u32,
     /// The bytes of a term; a plan judges them.
     pub term: u32,

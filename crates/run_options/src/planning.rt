@@ -14,7 +14,7 @@ use position::Geometry;
 const FIRST_TERM: i32 = 7;
 
 /// What a run is told where nothing else is said: 4 publishers of 1,000 messages of 200 bytes each, no losses, the seed
-/// 1, at most 1,000,000 turns, terms of 65,536 bytes, an MTU of 1,408 bytes and no counters.
+/// 1, at most 1,000,000 turns of each thread, terms of 65,536 bytes, an MTU of 1,408 bytes and no counters.
 pub fn defaults() -> RunOptions
     ensures { IsByDefault result }
 {

@@ -1,2 +1,4 @@
+pub mod Devices
 pub mod Passes
+pub mod Receivers
 pub mod Senders

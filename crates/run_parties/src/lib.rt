@@ -3,6 +3,7 @@
 #![tactic(auto)]
 
 mod gate;
+mod opening;
 mod publishing;
 mod receiving;
 mod sending;
@@ -10,6 +11,7 @@ mod stage;
 mod steering;
 
 pub use gate::{Gate, Open, Role};
+pub use opening::{device_pair, new_subscriber};
 pub use publishing::{Task, publish};
 pub use receiving::{receive, subscribe};
 pub use sending::{SESSION, STREAM, send};

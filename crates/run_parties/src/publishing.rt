@@ -6,8 +6,9 @@ ghost use Rattle.log_parts.specs.Books.{IsDone};
 ghost use Rattle.run_parties.specs.Passes.{Ends};
 
 use crate::gate::{Gate, Role};
-use crate::stage::{Stage, rest};
+use crate::stage::Stage;
 use agents::AgentFault;
+use idle::Idle;
 use shared_log::{Log, OnLog, Publisher};
 use std::alloc::{AllocError, Global};
 use std::time::Clock;
@@ -59,6 +60,7 @@ fn publish_on<R: Clock, G: Gate>(
 {
     let number = publisher.number();
     let mut count: u32 = 0;
+    let mut idle = Idle::new();
     for turn in 0..task.turns {
         if count >= task.messages || stage.is_stopped() {
             return;
@@ -68,9 +70,12 @@ fn publish_on<R: Clock, G: Gate>(
         let answer = offer_once(&stage.log, publisher, message);
         gate.leave(Role::Publisher(number), turn);
         match answer {
-            Ok(_) => count += 1,
+            Ok(_) => {
+                count += 1;
+                idle.stir();
+            }
             Err(Refusal::AdminAction) => {}
-            Err(Refusal::BackPressured | Refusal::NotConnected) => rest(rt),
+            Err(Refusal::BackPressured | Refusal::NotConnected) => idle.rest(rt),
             Err(Refusal::Closed | Refusal::MaxPositionExceeded) => return,
         }
     }

@@ -3,11 +3,12 @@
 ghost use Rattle.std.specs.Prelude.{◌≡◌, ◌+◌, ◌≤◌, ◌<◌, ◌^◌, IfOk};
 
 use crate::gate::{Gate, Role};
-use crate::stage::{Stage, new_duty, rest};
+use crate::stage::{Stage, new_duty};
 use agents::{AgentFault, Duty, REPLY};
 use assembler::AssemblyError;
 use counters::Counters;
 use endpoint::Datagrams;
+use idle::Idle;
 use receiver::PollError;
 use receiver_agent::{Named, ReceiverAgent};
 use std::alloc::Global;
@@ -44,6 +45,7 @@ fn receive_on<N: Named, R: Wait + Clock, D: Datagrams, G: Gate>(
     requires counters { counters.now ≡ N.counters }
     requires size { duty.old.mtu ≡ 40 }
 {
+    let mut idle = Idle::new();
     for turn in 0..turns {
         if stage.is_stopped() {
             return Ok(());
@@ -51,9 +53,7 @@ fn receive_on<N: Named, R: Wait + Clock, D: Datagrams, G: Gate>(
         gate.enter(Role::Receiver, turn);
         let busy = receive_once(rt, stage, counters, agent, duty)?;
         gate.leave(Role::Receiver, turn);
-        if !busy {
-            rest(rt);
-        }
+        idle.after(rt, busy);
     }
     stage.stop();
     Ok(())
@@ -76,7 +76,8 @@ pub fn receive<N: Named, R: Wait + Clock, D: Datagrams + Drop, G: Gate>(
     receive_on(rt, stage, gate, turns, counters, agent, &mut duty)
 }
 
-/// Polls once, under the lock. The answer is whether there was a message.
+/// Polls once, under the lock. The answer is whether there was a message; one that is refused as too long counts as one here,
+/// and not in the tally.
 fn poll_once<N: Named, R: Wait>(
     rt: &R,
     agent: &Mutex<ReceiverAgent<N>>,
@@ -110,14 +111,14 @@ pub fn subscribe<N: Named, R: Wait + Clock>(
     ensures { IfOk result (λ tally. tally.polled ≤ wanted) }
 {
     let mut tally = Tally::new();
+    let mut idle = Idle::new();
     for _ in 0..turns {
         if tally.polled() >= wanted || stage.is_stopped() {
             break;
         }
-        if !poll_once(rt, agent, &mut tally)? {
-            rest(rt);
-        }
+        let busy = poll_once(rt, agent, &mut tally)?;
         stage.tell_polled(tally.polled());
+        idle.after(rt, busy);
     }
     stage.stop();
     Ok(tally)

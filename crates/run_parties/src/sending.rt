@@ -5,11 +5,12 @@ ghost use Rattle.log_parts.specs.Parts.{IsNewReader};
 ghost use Rattle.run_parties.specs.Senders.{IsAgentOf, IsRunLog};
 
 use crate::gate::{Gate, Role};
-use crate::stage::{Stage, new_duty, rest};
+use crate::stage::{Stage, new_duty};
 use agents::{AgentFault, Duty};
 use conductor::Client;
 use endpoint::Datagrams;
 use flow_control::UnicastFlow;
+use idle::Idle;
 use log_reading::{LogFrames, LogReader};
 use metered::Metered;
 use sender::{Denied, SenderCore};
@@ -79,6 +80,7 @@ fn send_on<R: Wait + Clock, D: Datagrams, G: Gate>(
     requires size { duty.old.mtu ≡ stage.now.log.identity.geometry.mtu }
     requires queue { client.old.queue ≡ stage.now.conductor }
 {
+    let mut idle = Idle::new();
     for turn in 0..turns {
         if stage.is_stopped() {
             return Ok(());
@@ -86,15 +88,14 @@ fn send_on<R: Wait + Clock, D: Datagrams, G: Gate>(
         gate.enter(Role::Sender, turn);
         let busy = send_once(rt, stage, agent, client, duty)?;
         gate.leave(Role::Sender, turn);
-        if !busy {
-            rest(rt);
-        }
+        idle.after(rt, busy);
     }
     stage.stop();
     Ok(())
 }
 
-/// Sends until all is to stop or its turns are used, when it stops all. At a fault of the device it stops all, too.
+/// Sends until all is to stop or its turns are used, when it stops all. The fault is `Device` where the device failed or the
+/// clock can't be read, and `Memory` where memory was refused; then it is the caller's to stop the others.
 pub fn send<R: Wait + Clock, D: Datagrams + Drop, G: Gate>(
     rt: &R,
     alloc: Global,

@@ -7,11 +7,7 @@ use conductor::Conductor;
 use shared_log::Log;
 use std::alloc::Global;
 use std::sync::atomic::{AtomicBool, AtomicU64, Ordering};
-use std::thread;
-use std::time::{Clock, Duration, Instant};
-
-/// How long an idle turn rests, in microseconds.
-const REST: u64 = 20;
+use std::time::{Clock, Instant};
 
 /// The log, the command queue, the moment of the begin, whether all is to stop, and what was done so far.
 #[derive(Drop)]
@@ -91,11 +87,6 @@ impl Stage {
             Err(_) => Err(AgentFault::Device),
         }
     }
-}
-
-/// Gives the processor away for a while.
-pub fn rest<R: Clock>(rt: &R) {
-    let _ = thread::sleep(rt, Duration::from_micros(REST));
 }
 
 /// A duty over a device, with room for datagrams of so many bytes.

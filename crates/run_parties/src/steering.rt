@@ -4,9 +4,10 @@ ghost use Rattle.std.specs.Prelude.{◌≡◌};
 ghost use Rattle.run_parties.specs.Passes.{IsKept};
 
 use crate::gate::{Gate, Role};
-use crate::stage::{Stage, rest};
+use crate::stage::Stage;
 use conducting::conduct;
 use conductor::Taker;
+use idle::Idle;
 use log_keeping::Keeper;
 use std::sync::Wait;
 use std::time::Clock;
@@ -34,6 +35,7 @@ pub fn steer<R: Wait + Clock, G: Gate>(
     requires taker { taker.queue ≡ stage.now.conductor }
     ensures { IsKept stage.now.log result }
 {
+    let mut idle = Idle::new();
     for turn in 0..turns {
         if stage.is_stopped() {
             return keeper;
@@ -41,9 +43,7 @@ pub fn steer<R: Wait + Clock, G: Gate>(
         gate.enter(Role::Conductor, turn);
         let busy = steer_once(rt, stage, &mut keeper, &mut taker);
         gate.leave(Role::Conductor, turn);
-        if !busy {
-            rest(rt);
-        }
+        idle.after(rt, busy);
     }
     stage.stop();
     keeper

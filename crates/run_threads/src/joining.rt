@@ -1,6 +1,6 @@
 //! The threads, joined.
 
-ghost use Rattle.std.specs.Prelude.{◌≡◌, ◌≤◌, IfOk, Ok};
+ghost use Rattle.std.specs.Prelude.{◌≡◌, ◌⊎◌, ◌≤◌, Err, IfErr, IfOk, IsOk, Ok, OnOk};
 ghost use Rattle.run_parties.specs.Passes.{IsKept};
 
 use agents::AgentFault;
@@ -55,14 +55,21 @@ fn played(
     publishers: Result<Vec<Publisher>, AgentFault>,
     keeper: Result<Keeper, AgentFault>,
     tally: Result<Tally, AgentFault>,
+    sent: Result<(), AgentFault>,
+    received: Result<(), AgentFault>,
 ) -> Result<Played, AgentFault>
-    ensures { IfOk result (λ p. (publishers ≡ Ok p.publishers) × (keeper ≡ Ok p.keeper) × (tally ≡ Ok p.tally)) }
+    ensures backs { IfOk result (λ p. (publishers ≡ Ok p.publishers) × (keeper ≡ Ok p.keeper) × (tally ≡ Ok p.tally)) }
+    ensures ends { OnOk result (IsOk sent × IsOk received) }
+    ensures fault { IfErr result (λ f. (publishers ≡ Err f) ⊎ (keeper ≡ Err f) ⊎ (tally ≡ Err f) ⊎ (sent ≡ Err f) ⊎ (received ≡ Err f)) }
 {
-    Ok(Played {
+    let played = Played {
         publishers: publishers?,
         keeper: keeper?,
         tally: tally?,
-    })
+    };
+    sent?;
+    received?;
+    Ok(played)
 }
 
 /// Joins all threads but the publishers', of which this came back.
@@ -84,8 +91,5 @@ pub(crate) fn gather<N: Named, R: Threads, G>(
     let tally = tally_of(scene, subscriber);
     let sent = end_of(scene, sender);
     let received = end_of(scene, receiver);
-    let played = played(publishers, keeper, tally)?;
-    sent?;
-    received?;
-    Ok(played)
+    played(publishers, keeper, tally, sent, received)
 }

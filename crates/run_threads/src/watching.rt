@@ -1,6 +1,7 @@
 //! What the starting thread does while the others run.
 
 ghost use Rattle.std.specs.Prelude.{◌≡◌};
+ghost use Rattle.run_threads.specs.Doings.{done_since};
 
 use counters::{CounterReader, Counters};
 use run_parties::{Done, Stage};
@@ -22,6 +23,17 @@ pub struct Watch<E> {
     pub shows: bool,
 }
 
+/// What was done between two looks, modulo 2^64.
+fn done_since(before: Done, done: Done) -> Done
+    ensures { result ≡ done_since before done }
+{
+    Done {
+        sent: done.sent.wrapping_sub(before.sent),
+        resent: done.resent.wrapping_sub(before.resent),
+        polled: done.polled.wrapping_sub(before.polled),
+    }
+}
+
 impl<E: Write> Watch<E> {
     /// A line: the three positions, and what was done since the line before.
     fn tell<R: Wait>(&mut self, rt: &R, stage: &Stage, counters: &Counters, before: Done) -> Done
@@ -30,13 +42,16 @@ impl<E: Write> Watch<E> {
     {
         let done = stage.done();
         let readings = counters.read(rt, &mut self.reader);
-        let sent = done.sent.wrapping_sub(before.sent);
-        let resent = done.resent.wrapping_sub(before.resent);
-        let polled = done.polled.wrapping_sub(before.polled);
+        let since = done_since(before, done);
         let _ = writeln!(
             self.errors,
-            "least {} rebuilt {} high-water {} sent {sent} resent {resent} polled {polled}",
-            readings.least, readings.rebuilt, readings.high_water
+            "least {} rebuilt {} high-water {} sent {} resent {} polled {}",
+            readings.least,
+            readings.rebuilt,
+            readings.high_water,
+            since.sent,
+            since.resent,
+            since.polled
         );
         done
     }

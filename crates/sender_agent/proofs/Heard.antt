@@ -8,7 +8,7 @@ use Rattle.endpoint.specs.Devices.{Device}
 use Rattle.sender.specs.Cycling.{IsNews, NewsContent, Says, AsksSetup, Misses, TellsNothing, Unreadable}
 use Rattle.sender.specs.Sending.{HearsNews, Sending, at_moment}
 use Rattle.sender.specs.declared.sender_core.SenderAnswer.{SenderAnswer}
-use Rattle.agents.specs.Cycles.{Cycle, Fault, HearsAll}
+use Rattle.agents.specs.Cycles.{Cycle, Fault, HearsAll, TicksBehind}
 use Rattle.agents.specs.declared.fault.AgentFault.{AgentFault}
 use Rattle.sender_agent.specs.Duties.{HaveStatus, Hears, Ticks}
 
@@ -73,6 +73,6 @@ fault_keeps {R} {F} source after_status reached grown after_tick now tells fault
     heard : c.middle.naming.heard ≡ true
     heard = keeps s c.middle _ (by_all source after_status reached now s c.heard c.middle c.answers c.all_heard) on
 
-    either : ((t ≡ c.middle) × (c.given ≡ [])) ⊎ Ticks source grown after_tick reached c.middle now t c.given → t.naming.heard ≡ true
+    either : ((t ≡ c.middle) × (c.given ≡ [])) ⊎ TicksBehind (Ticks source grown after_tick reached) now c.heard c.lost c.answers c.given c.sent c.middle d t e → t.naming.heard ≡ true
     either (inl same) = ap heard_of same.0 ∙ heard
-    either (inr k) = ap heard_of k.state ∙ heard
+    either (inr k) = ap heard_of k.ticked.state ∙ heard

@@ -31,8 +31,8 @@ fn geometry_of(setup: &Setup) -> Option<Geometry>
     Geometry::new(term_length, mtu, setup.initial_term_id).ok()
 }
 
-/// The position: its count from 0, its offset a multiple of 32 below the term length, which only the greatest position
-/// has.
+/// The position: its count from 0, its offset a multiple of 32 below the term length, or equal to it at the greatest
+/// position.
 fn position_of(geometry: &Geometry, setup: &Setup) -> Option<u64>
     requires { NamesGeometry (setup_of setup.now) geometry.now }
     ensures named { IfSome result (NamesPosition (setup_of setup.now) geometry.now) }

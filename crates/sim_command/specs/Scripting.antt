@@ -1,6 +1,6 @@
 -- The script on an input, played, and why it isn't, where the input's bytes are known.
-use Rattle.std.specs.Prelude.{◌≤◌, ◌<◌, ℕ, List, length, Option, IfSome, ⊤}
-use Rattle.std.specs.Io.KnownBytes.{Appends}
+use Rattle.std.specs.Prelude.{◌≤◌, ◌<◌, ℕ, List, length, Option, IfSome}
+use Rattle.std.specs.Io.KnownBytes.{Appends, Consumes}
 use Rattle.script.specs.Language.{IsFaultLine, IsScript}
 use Rattle.script.specs.Meaning.{ScriptContent}
 use Rattle.script_run.specs.LineContents.{LineContent}
@@ -21,28 +21,32 @@ pub record PlaysInput (input before after : Option (List ℕ)) : Type 0 where
   pub output : IsOutputOf script lines
   pub written : Appends before after (text_of_lines lines)
 
--- why not all of it is taken; for want of memory, or where the input fails, any may be refused
-abbrev pub ExplainsInput : List ℕ → Fault → Type 0
-ExplainsInput bytes (Line n) = ⊥
-ExplainsInput bytes Input = 1048576 < length bytes
-ExplainsInput bytes Memory = ⊤
-ExplainsInput bytes Hex = ⊥
-ExplainsInput bytes (Frame fault) = ⊥
-ExplainsInput bytes Read = ⊤
-ExplainsInput bytes Write = ⊥
-ExplainsInput bytes (Plan fault) = ⊥
-ExplainsInput bytes Order = ⊥
-ExplainsInput bytes Device = ⊥
+-- so many bytes were taken of an input
+abbrev pub Takes : Option (List ℕ) → Option (List ℕ) → (ℕ → Type 0) → Type 0
+Takes old new number = (front : List ℕ) × Consumes old new front × number (length front)
+
+-- why not all of it is taken; for want of memory, or where the input fails, any may be refused of which no more than 1 MiB was taken
+abbrev pub ExplainsInput : Option (List ℕ) → Option (List ℕ) → Fault → Type 0
+ExplainsInput old new (Line n) = ⊥
+ExplainsInput old new Input = Takes old new (λ n. 1048576 < n)
+ExplainsInput old new Memory = Takes old new (λ n. n ≤ 1048576)
+ExplainsInput old new Hex = ⊥
+ExplainsInput old new (Frame fault) = ⊥
+ExplainsInput old new Read = Takes old new (λ n. n ≤ 1048576)
+ExplainsInput old new Write = ⊥
+ExplainsInput old new (Plan fault) = ⊥
+ExplainsInput old new Order = ⊥
+ExplainsInput old new Device = ⊥
 
 -- why it isn't played to its end
-abbrev pub ExplainsScript : List ℕ → Fault → Type 0
-ExplainsScript bytes (Line n) = (length bytes ≤ 1048576) × IsFaultLine bytes n
-ExplainsScript bytes Input = 1048576 < length bytes
-ExplainsScript bytes Memory = ⊤
-ExplainsScript bytes Hex = ⊥
-ExplainsScript bytes (Frame fault) = ⊥
-ExplainsScript bytes Read = ⊤
-ExplainsScript bytes Write = HoldsScript bytes
-ExplainsScript bytes (Plan fault) = ⊥
-ExplainsScript bytes Order = ⊥
-ExplainsScript bytes Device = ⊥
+abbrev pub ExplainsScript : Option (List ℕ) → Option (List ℕ) → Fault → Type 0
+ExplainsScript old new (Line n) = IfSome old (λ bytes. (length bytes ≤ 1048576) × IsFaultLine bytes n)
+ExplainsScript old new Input = Takes old new (λ n. 1048576 < n)
+ExplainsScript old new Memory = Takes old new (λ n. n ≤ 1048576)
+ExplainsScript old new Hex = ⊥
+ExplainsScript old new (Frame fault) = ⊥
+ExplainsScript old new Read = Takes old new (λ n. n ≤ 1048576)
+ExplainsScript old new Write = IfSome old HoldsScript
+ExplainsScript old new (Plan fault) = ⊥
+ExplainsScript old new Order = ⊥
+ExplainsScript old new Device = ⊥

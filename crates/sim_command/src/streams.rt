@@ -1,7 +1,7 @@
 //! A script from a reader, its lines to a writer.
 
 ghost use Rattle.std.specs.Prelude.{◌≡◌, ◌≤◌, ◌⊎◌, ◌++◌, ◌∷◌, [], length, vec_len, IfErr, IfOk, IfSome, OnOk};
-ghost use Rattle.std.specs.Io.KnownBytes.{Appends, Keeps};
+ghost use Rattle.std.specs.Io.KnownBytes.{Appends, Consumes, Keeps};
 ghost use Rattle.script_parts.specs.LineTexts.{line_text, text_of_lines};
 ghost use Rattle.script_parts.specs.Lines.{line_content, line_contents};
 ghost use Rattle.sim_command.specs.Scripting.{ExplainsInput, ExplainsScript, PlaysInput};
@@ -15,13 +15,14 @@ use world::{Line, play};
 /// The most bytes of a script: 1 MiB.
 const GREATEST_INPUT: usize = 1_048_576;
 
-/// Plays the script that the input holds, and writes its lines. At any fault but `Write` nothing was written; at `Write`
-/// some of the output's bytes may have been.
+/// Plays the script that the input holds, and writes its lines. An input of more than 1 MiB is `Input`, once so much was
+/// taken of it; `Read` and `Memory` come only before. At any fault but `Write` nothing was written; at `Write` some of the
+/// output's bytes may have been.
 pub fn sim<R: Read, W: Write>(alloc: Global, input: &mut R, output: &mut W) -> Result<(), Fault>
     // What is written is an output of the script, line by line.
     ensures done { OnOk result (PlaysInput (R.remaining input.old) (W.contents output.old) (W.contents output.new)) }
     // A fault has its reason in the input.
-    ensures fault { IfErr result (λ fault. IfSome (R.remaining input.old) (λ bytes. ExplainsScript bytes fault)) }
+    ensures fault { IfErr result (λ fault. ExplainsScript (R.remaining input.old) (R.remaining input.new) fault) }
     ensures kept { IfErr result (λ fault. (fault ≡ Fault.Write)
         ⊎ Keeps (W.contents output.old) (W.contents output.new)) }
 {
@@ -55,8 +56,9 @@ fn write_line<W: Write>(line: &Line, output: &mut W) -> Result<(), Fault>
 /// memory.
 fn text_of<R: Read>(alloc: Global, input: &mut R) -> Result<Vec<u8>, Fault>
     ensures whole { IfOk result (λ text. IfSome (R.remaining input.old) (λ bytes. text.items ≡ bytes)) }
+    ensures taken { IfOk result (λ text. Consumes (R.remaining input.old) (R.remaining input.new) text.items) }
     ensures short { IfOk result (λ text. vec_len text ≤ 1048576) }
-    ensures fault { IfErr result (λ fault. IfSome (R.remaining input.old) (λ bytes. ExplainsInput bytes fault)) }
+    ensures fault { IfErr result (λ fault. ExplainsInput (R.remaining input.old) (R.remaining input.new) fault) }
 {
     let mut text = Vec::new(alloc);
     let mut buffer = [0; 4096];

@@ -38,7 +38,7 @@ impl<L: OneHandLog> Model for Simulation<L> {
 }
 
 impl<L: OneHandLog> Simulation<L> {
-    /// Ends the log. Claims that are open become paddings, which the book doesn't show.
+    /// Ends the log. A claim that is open counts for its publisher.
     pub fn end(self) -> Book
         ensures { ShowsBook self.log result }
     {

@@ -2,6 +2,7 @@
 #![tactic(auto)]
 
 mod fault;
+mod samples;
 mod sampling;
 mod sorting;
 

@@ -1,8 +1,11 @@
 //! Many rounds.
 
-ghost use Rattle.std.specs.Prelude.{◌<◌, ◌≤◌, vec_len};
+ghost use Rattle.std.specs.Prelude.{◌≡◌, ◌*◌, ◌/◌, ◌-◌, ◌^◌, ◌<◌, ◌≤◌, max, min, IfOk, IfSome};
+ghost use Rattle.std.specs.Duration.{as_nanos};
+ghost use Rattle.speed.specs.Figures.{AreByTurns, AreFigures, ByTurns, IsMedian};
 
 use crate::fault::SpeedError;
+use crate::samples::{All, Samples, no_samples};
 use crate::sorting::median;
 use position::Geometry;
 use rounds::{play_round, play_stream, stores};
@@ -12,17 +15,6 @@ use std::time::{Clock, Duration};
 
 /// The words that one accepted offer stores: four of the header and 25 of the payload.
 const STORES: usize = 29;
-
-/// What was measured with so many threads, a figure for each round, in picoseconds: for each claim, and for as many plain
-/// stores as one makes.
-#[derive(Drop)]
-struct Samples {
-    threads: usize,
-    claims: Vec<u64>,
-    stores: Vec<u64>,
-    ghost some: { 0 < threads },
-    ghost eight: { threads ≤ 8 },
-}
 
 /// The medians for so many threads, in picoseconds.
 #[derive(Clone, Copy, Debug, PartialEq, Eq)]
@@ -34,21 +26,12 @@ pub struct Figures {
     pub stores: u64,
 }
 
-fn no_samples(alloc: Global, threads: usize) -> Samples
-    requires some { 0 < threads }
-    requires eight { threads ≤ 8 }
+/// A duration's picoseconds for each of so many, rounded down. None at all are taken for one.
+fn each(taken: Duration, count: u64) -> u64
+    ensures { result ≡ min (as_nanos taken * 1000 / max count 1) (2 ^ 64 - 1) }
 {
-    Samples {
-        threads,
-        claims: Vec::new(alloc),
-        stores: Vec::new(alloc),
-    }
-}
-
-/// A duration's picoseconds for each of so many.
-fn each(taken: Duration, count: u64) -> u64 {
     let each = taken.as_nanos() * 1000 / u128::from(count.max(1));
-    u64::try_from(each).unwrap_or(u64::MAX)
+    each.min(u128::from(u64::MAX)) as u64
 }
 
 /// What each claim of a round took, and how many offers were accepted.
@@ -87,7 +70,9 @@ fn sample<R: Threads + Clock + Sync>(
     alloc: Global,
     geometry: Geometry,
     samples: &mut Samples,
-) -> Result<(), SpeedError> {
+) -> Result<(), SpeedError>
+    ensures { samples.new.threads ≡ samples.old.threads }
+{
     let (claim, accepted) = claim_figure(rt, alloc, geometry, samples.threads)?;
     samples.claims.push(claim)?;
     let stored = store_figure(rt, alloc, samples.threads, accepted)?;
@@ -100,16 +85,21 @@ fn sample_all<R: Threads + Clock + Sync>(
     rt: &R,
     alloc: Global,
     geometry: Geometry,
-    all: &mut [Samples],
-) -> Result<(), SpeedError> {
-    for samples in all {
-        sample(rt, alloc, geometry, samples)?;
-    }
-    Ok(())
+    all: &mut All,
+) -> Result<(), SpeedError>
+    requires { ByTurns all.old }
+    ensures { ByTurns all.new }
+{
+    sample(rt, alloc, geometry, &mut all.one)?;
+    sample(rt, alloc, geometry, &mut all.two)?;
+    sample(rt, alloc, geometry, &mut all.four)?;
+    sample(rt, alloc, geometry, &mut all.eight)
 }
 
 /// The medians of what was measured.
-fn medians_of(samples: &mut Samples) -> Option<Figures> {
+fn medians_of(samples: &mut Samples) -> Option<Figures>
+    ensures { IfSome result (λ figures. AreFigures samples.old figures) }
+{
     if samples.claims.is_empty() || samples.stores.is_empty() {
         return None;
     }
@@ -136,7 +126,10 @@ fn stream_figure<R: Threads + Clock + Sync>(
     Ok(each(taken, stream.read))
 }
 
-fn median_of(figures: &mut [u64]) -> Option<u64> {
+/// The median of some figures, if there are any.
+fn median_of(figures: &mut [u64]) -> Option<u64>
+    ensures { IfSome result (λ median. IsMedian figures.old median) }
+{
     if figures.is_empty() {
         return None;
     }
@@ -164,26 +157,28 @@ pub fn measure_stream<R: Threads + Clock + Sync>(
     Ok(median_of(figures.as_mut_slice()))
 }
 
-/// Measures with 1, 2, 4 and 8 threads by turns, in so many rounds.
+/// Measures with 1, 2, 4 and 8 threads by turns, in so many rounds. The answer is the figures of each in this order.
 pub fn measure<R: Threads + Clock + Sync>(
     rt: &R,
     alloc: Global,
     geometry: Geometry,
     rounds: usize,
-) -> Result<[Option<Figures>; 4], SpeedError> {
-    let mut all = [
-        no_samples(alloc, 1),
-        no_samples(alloc, 2),
-        no_samples(alloc, 4),
-        no_samples(alloc, 8),
-    ];
+) -> Result<[Option<Figures>; 4], SpeedError>
+    ensures { IfOk result (λ all. AreByTurns all) }
+{
+    let mut all = All {
+        one: no_samples(alloc, 1),
+        two: no_samples(alloc, 2),
+        four: no_samples(alloc, 4),
+        eight: no_samples(alloc, 8),
+    };
     for _ in 0..rounds {
         sample_all(rt, alloc, geometry, &mut all)?;
     }
     Ok([
-        medians_of(&mut all[0]),
-        medians_of(&mut all[1]),
-        medians_of(&mut all[2]),
-        medians_of(&mut all[3]),
+        medians_of(&mut all.one),
+        medians_of(&mut all.two),
+        medians_of(&mut all.four),
+        medians_of(&mut all.eight),
     ])
 }

@@ -2,7 +2,6 @@
 use Rattle.std.specs.Prelude.{◌≤◌, length}
 use Rattle.shared_log.specs.Handles.{IsOf, LogValue}
 use Rattle.log_reading.specs.Readers.{IsReaderOf}
-use Rattle.stream_tests.specs.declared.parties.Crew.{Crew}
 use Rattle.stream_tests.specs.declared.parties.Party.{Party}
 use Rattle.stream_tests.specs.declared.parties.Party.TheVariants.{Keeping, Publishing, Reading}
 
@@ -11,10 +10,3 @@ abbrev pub IsParty : LogValue → Party → Type 0
 IsParty l (Publishing publisher) = IsOf l publisher
 IsParty l (Reading reader block) = IsReaderOf l reader × (l.identity.geometry.mtu ≤ length block)
 IsParty l (Keeping keeper) = IsOf l keeper.held
-
--- all that goes on is of this log
-pub record IsCrew (l : LogValue) (c : Crew) : Type 0 where
-  pub publisher : IsOf l c.publisher
-  pub reader : IsReaderOf l c.reader
-  pub keeper : IsOf l c.keeper.held
-  pub room : l.identity.geometry.mtu ≤ length c.block

@@ -1,12 +1,10 @@
-//! Tests of a log that threads share, over many terms.
+//! A test of a log that threads share, over many terms.
 #![tactic(auto)]
 
 #[cfg(test)]
 mod opening;
 mod parties;
 #[cfg(test)]
-mod stalls;
-#[cfg(test)]
 mod streams;
 
-pub use parties::{Crew, Party};
+pub use parties::Party;

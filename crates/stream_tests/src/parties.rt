@@ -12,12 +12,3 @@ pub enum Party {
     Reading { reader: LogReader, block: Block },
     Keeping(Keeper),
 }
-
-/// What a log needs that goes on.
-#[derive(Drop)]
-pub struct Crew {
-    pub publisher: Publisher,
-    pub reader: LogReader,
-    pub keeper: Keeper,
-    pub block: Block,
-}

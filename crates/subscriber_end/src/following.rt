@@ -1,14 +1,16 @@
 //! A subscriber with an image.
 
-ghost use Rattle.std.specs.Prelude.{◌≡◌, ◌≤◌, ◌+◌, ◌-◌, IfOk};
+ghost use Rattle.std.specs.Prelude.{◌≡◌, ◌≤◌, IfOk, OnOk, Some};
+ghost use Rattle.subscriber_end.specs.Leavings.{IsWhyLeft, NotesHeard};
 ghost use Rattle.subscriber_end.specs.Writings.{Writes};
 
-use delivery::{Delivered, cycle};
+use delivery::{MESSAGES, cycle};
 use end_options::SubscribePlan;
+use idle::Idle;
 use std::io::Write;
 use std::sync::Wait;
 use std::time::Clock;
-use subscriber_parts::{Joined, SubscribeFault, Watch, rest, tell_counters};
+use subscriber_parts::{Joined, SubscribeFault, Watch, tell_counters};
 
 /// How long a subscriber that has ended still tells where it stands, in nanoseconds.
 const FAREWELL: u64 = 1_000_000_000;
@@ -25,42 +27,46 @@ pub(crate) enum Leaving {
     Silent,
 }
 
-/// A cycle: messages are written, at most so many as are still wanted, and then the device is heard and answered.
+/// A cycle: messages are written, at most so many as are still wanted, and then the device is heard and answered. The answer
+/// is how many were written in all, and whether there was anything to do.
 fn cycle_once<W: Write>(
     plan: &SubscribePlan,
     joined: &mut Joined,
     output: &mut W,
     watch: &mut Watch,
     written: u64,
-    now: u64,
-) -> Result<Delivered, SubscribeFault>
+) -> Result<(u64, bool), SubscribeFault>
     requires size { joined.old.duty.mtu ≡ 40 }
     requires few { written ≤ plan.now.messages }
     ensures size { joined.new.duty.mtu ≡ 40 }
-    ensures writes { IfOk result (λ d. (d.messages ≤ plan.now.messages - written) × Writes plan.now.end.form written (W.contents output.old) (written + d.messages) (W.contents output.new)) }
+    ensures heard { OnOk result (NotesHeard joined.old.duty.device.inner.heard joined.new.duty.device.inner.heard watch.old watch.new) }
+    ensures writes { IfOk result (λ r. (r.0 ≤ plan.now.messages) × Writes plan.now.end.form written (W.contents output.old) r.0 (W.contents output.new)) }
 {
     let before = joined.duty.device().inner().heard();
-    let most = (plan.messages - written).min(256) as usize;
+    let most = (plan.messages - written).min(MESSAGES as u64) as usize;
     let done = cycle(
         plan.end.form,
         most,
         &mut joined.subscriber,
         output,
         &mut joined.duty,
-        now,
+        watch.moment(),
     )?;
     if joined.duty.device().inner().heard() != before {
-        watch.hear(now);
+        watch.hear();
     }
-    Ok(done)
+    let all = written + done.messages as u64;
+    Ok((all, done.messages > 0 || done.busy))
 }
 
-/// Whether the image is left at this moment, and why; it is where there were enough messages.
-fn why_left(plan: &SubscribePlan, watch: &Watch, is_enough: bool, now: u64) -> Option<Leaving> {
-    if is_enough || watch.is_quiet(plan, now) {
+/// Whether the image is left at the moment, behind so many messages, and why.
+fn why_left(plan: &SubscribePlan, watch: &Watch, written: u64) -> Option<Leaving>
+    ensures { IsWhyLeft plan.now written watch.now result }
+{
+    if written >= plan.messages || watch.is_quiet(plan) {
         return Some(Leaving::Ended);
     }
-    if watch.is_silent(now) {
+    if watch.is_silent() {
         return Some(Leaving::Silent);
     }
     None
@@ -73,14 +79,13 @@ fn tell<E: Write>(
     errors: &mut E,
     watch: &mut Watch,
     written: u64,
-    now: u64,
 ) {
-    if !watch.tells(plan, now) {
+    if !watch.tells(plan) {
         return;
     }
     if let Some(positions) = joined.subscriber.positions() {
         let strangers = joined.duty.device().inner().strangers();
-        let strangers = watch.strangers.saturating_add(strangers);
+        let strangers = watch.strangers().saturating_add(strangers);
         tell_counters(errors, &positions, written, strangers);
     }
 }
@@ -99,22 +104,20 @@ pub(crate) fn follow<R: Wait + Clock, W: Write, E: Write>(
     requires size { joined.old.duty.mtu ≡ 40 }
     requires few { before ≤ plan.now.messages }
     ensures size { joined.new.duty.mtu ≡ 40 }
-    ensures few { IfOk result (λ r. r.0 ≤ plan.now.messages) }
+    ensures left { IfOk result (λ r. (r.0 ≤ plan.now.messages) × IsWhyLeft plan.now r.0 watch.new (Some r.1)) }
     ensures writes { IfOk result (λ r. Writes plan.now.end.form before (W.contents output.old) r.0 (W.contents output.new)) }
 {
-    let wanted = plan.messages;
     let mut written = before;
+    let mut idle = Idle::new();
     for _ in rt.forever() {
-        let now = watch.moment(rt)?;
-        let done = cycle_once(plan, joined, output, watch, written, now)?;
-        written += done.messages as u64;
-        tell(plan, joined, errors, watch, written, now);
-        if let Some(leaving) = why_left(plan, watch, written >= wanted, now) {
+        watch.see(rt)?;
+        let (all, busy) = cycle_once(plan, joined, output, watch, written)?;
+        written = all;
+        tell(plan, joined, errors, watch, written);
+        if let Some(leaving) = why_left(plan, watch, written) {
             return Ok((written, leaving));
         }
-        if done.messages == 0 && !done.busy {
-            rest(rt);
-        }
+        idle.after(rt, busy);
     }
     unreachable!()
 }
@@ -124,20 +127,21 @@ pub(crate) fn follow<R: Wait + Clock, W: Write, E: Write>(
 pub(crate) fn bid_farewell<R: Wait + Clock>(
     rt: &R,
     joined: &mut Joined,
-    watch: &Watch,
+    watch: &mut Watch,
 ) -> Result<(), SubscribeFault>
     requires { joined.old.duty.mtu ≡ 40 }
 {
-    let ended = watch.moment(rt)?;
+    watch.see(rt)?;
+    let ended = watch.moment();
+    let mut idle = Idle::new();
     for _ in rt.forever() {
-        let now = watch.moment(rt)?;
-        if now.saturating_sub(ended) >= FAREWELL {
+        watch.see(rt)?;
+        if watch.moment().saturating_sub(ended) >= FAREWELL {
             return Ok(());
         }
-        let ahead = now.saturating_add(STATUS_INTERVAL);
-        if !joined.duty.cycle(&mut joined.subscriber, ahead)? {
-            rest(rt);
-        }
+        let ahead = watch.moment().saturating_add(STATUS_INTERVAL);
+        let busy = joined.duty.cycle(&mut joined.subscriber, ahead)?;
+        idle.after(rt, busy);
     }
     unreachable!()
 }

@@ -1,6 +1,8 @@
 //! A subscriber from its begin to its end.
 
-ghost use Rattle.std.specs.Prelude.{◌≡◌, ◌≤◌, IfOk};
+ghost use Rattle.std.specs.Prelude.{◌≡◌, ◌<◌, ◌≤◌, false, IfErr, IfOk};
+ghost use Rattle.peer.specs.declared.fault.BindError.{BindError};
+ghost use Rattle.subscriber_end.specs.Leavings.{of_bind};
 ghost use Rattle.subscriber_end.specs.Writings.{Writes};
 
 use crate::following::{Leaving, bid_farewell, follow};
@@ -13,13 +15,24 @@ use std::sync::Wait;
 use std::time::{Clock, Instant};
 use subscriber_parts::{Joined, SubscribeFault, Watch, listen, tell_closed, tell_joined};
 
+/// Why there is no listener at this port.
+fn fault_of(port: u16, error: BindError) -> SubscribeFault
+    ensures { result ≡ of_bind port error }
+{
+    match error {
+        BindError::Taken => SubscribeFault::Taken(port),
+        BindError::Device => SubscribeFault::Device,
+        BindError::Memory => SubscribeFault::Memory,
+    }
+}
+
 /// A listener at the channel's port.
-fn bind<R: Net>(rt: &R, alloc: Global, port: u16) -> Result<Listener, SubscribeFault> {
+fn bind<R: Net>(rt: &R, alloc: Global, port: u16) -> Result<Listener, SubscribeFault>
+    ensures { IfErr result (λ fault. (error : BindError) × (fault ≡ of_bind port error)) }
+{
     match Listener::bind(rt, alloc, port) {
         Ok(listener) => Ok(listener),
-        Err(BindError::Taken) => Err(SubscribeFault::Taken(port)),
-        Err(BindError::Device) => Err(SubscribeFault::Device),
-        Err(BindError::Memory) => Err(SubscribeFault::Memory),
+        Err(error) => Err(fault_of(port, error)),
     }
 }
 
@@ -42,8 +55,10 @@ fn follow_one<R: Wait + Clock, W: Write, E: Write>(
     before: u64,
 ) -> Result<(u64, bool), SubscribeFault>
     requires size { joined.duty.mtu ≡ 40 }
-    requires few { before ≤ plan.now.messages }
+    // Behind some messages only where more are wanted.
+    requires more { 0 < before → before < plan.now.messages }
     ensures few { IfOk result (λ r. r.0 ≤ plan.now.messages) }
+    ensures more { IfOk result (λ r. r.1 ≡ false → r.0 < plan.now.messages) }
     ensures writes { IfOk result (λ r. Writes plan.now.end.form before (W.contents output.old) r.0 (W.contents output.new)) }
 {
     tell_joined(errors, joined.session, place(&joined));

@@ -1,1 +1,3 @@
+pub mod Meetings
 pub mod Texts
+pub mod Watches

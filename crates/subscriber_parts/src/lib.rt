@@ -10,4 +10,4 @@ mod watch;
 pub use fault::SubscribeFault;
 pub use listening::{Joined, SubscriberDevice, listen};
 pub use telling::{tell_closed, tell_counters, tell_joined};
-pub use watch::{Watch, rest};
+pub use watch::Watch;

@@ -1,12 +1,16 @@
 //! A subscriber without an image.
 
-ghost use Rattle.std.specs.Prelude.{◌≡◌, IfOk, IfSome};
+ghost use Rattle.std.specs.Prelude.{◌≡◌, ◌↔◌, IfNone, IfOk, IfSome, IsTrue};
+ghost use Rattle.frames.specs.Frames.{wire};
+ghost use Rattle.subscriber_parts.specs.Meetings.{HasMet, Invites, IsJoined, MeetsOne, Takes, invitation_of};
+ghost use Rattle.subscriber_parts.specs.Watches.{IsQuiet};
 
 use crate::fault::SubscribeFault;
-use crate::watch::{Watch, rest};
+use crate::watch::Watch;
 use agents::{Duty, Party, REPLY};
 use end_options::SubscribePlan;
-use frames::{Frame, read_frame};
+use frames::{Frame, Header, read_frame};
+use idle::Idle;
 use lossy::Lossy;
 use outbox::Outbox;
 use peer::{Listener, TiedDevice};
@@ -30,7 +34,7 @@ pub struct Joined {
     pub duty: Duty<SubscriberDevice>,
 }
 
-/// Whose stream a datagram is of, and the window that its receiver may have, in bytes; that is 0 but for a SETUP.
+/// Whose stream a datagram is of, and the bytes of its terms, which only a SETUP tells; else they are 0.
 #[derive(Clone, Copy)]
 struct Invitation {
     session: i32,
@@ -38,30 +42,48 @@ struct Invitation {
     term_length: u32,
 }
 
-/// What a datagram's first frame invites to.
-fn invitation_in(datagram: &[u8]) -> Option<Invitation> {
-    let Ok((frame, _)) = read_frame(datagram) else {
-        return None;
-    };
+/// What a frame with this header invites to.
+fn invitation_with(header: &Header) -> Invitation
+    ensures { result ≡ record { session = header.now.session; stream = header.now.stream; term_length = 0 } }
+{
+    Invitation {
+        session: header.session,
+        stream: header.stream,
+        term_length: 0,
+    }
+}
+
+/// What a frame invites to.
+fn invitation_of(frame: &Frame<'_>) -> Option<Invitation>
+    ensures { result ≡ invitation_of (wire frame.now) }
+{
     match frame {
         Frame::Setup(setup) => Some(Invitation {
             session: setup.session,
             stream: setup.stream,
-            term_length: setup.term_length.max(0).cast_unsigned(),
+            term_length: u32::try_from(setup.term_length).unwrap_or(0),
         }),
         Frame::Data { header, .. } | Frame::Pad { header, .. } | Frame::Heartbeat { header } => {
-            Some(Invitation {
-                session: header.session,
-                stream: header.stream,
-                term_length: 0,
-            })
+            Some(invitation_with(header))
         }
         Frame::Nak(_) | Frame::Status { .. } => None,
     }
 }
 
+/// What a datagram's first frame invites to.
+fn invitation_in(datagram: &[u8]) -> Option<Invitation>
+    ensures { Invites datagram.now result }
+{
+    match read_frame(datagram) {
+        Ok((frame, _)) => invitation_of(&frame),
+        Err(_) => None,
+    }
+}
+
 /// Whether the plan takes it.
-fn is_taken(plan: &SubscribePlan, invitation: &Invitation) -> bool {
+fn is_taken(plan: &SubscribePlan, invitation: &Invitation) -> bool
+    ensures { IsTrue result ↔ Takes plan.now invitation.now }
+{
     let is_session = match plan.session {
         None => true,
         Some(session) => session == invitation.session,
@@ -71,14 +93,16 @@ fn is_taken(plan: &SubscribePlan, invitation: &Invitation) -> bool {
         && invitation.term_length <= plan.greatest_term
 }
 
-/// A subscriber of this stream that has met this datagram.
+/// A subscriber of this stream that has met this datagram. Its window is half a term.
 fn met(
     alloc: Global,
     plan: &SubscribePlan,
     invitation: &Invitation,
     datagram: &[u8],
     now: u64,
-) -> Result<Subscriber, AllocError> {
+) -> Result<Subscriber, AllocError>
+    ensures { IfOk result (λ s. HasMet plan.now invitation.now datagram.now now s) }
+{
     let window = invitation.term_length / 2;
     let core = ReceiverCore::new(
         alloc,
@@ -107,21 +131,22 @@ fn meet(
     plan: &SubscribePlan,
     listener: &mut Listener,
     watch: &mut Watch,
-    now: u64,
-) -> Result<Option<Meeting>, SubscribeFault> {
+) -> Result<Option<Meeting>, SubscribeFault>
+    ensures { IfOk result (λ found. MeetsOne plan.now watch.old found watch.new) }
+{
     let Some((from, datagram)) = listener.hear()? else {
         return Ok(None);
     };
-    watch.hear(now);
+    watch.hear();
     let Some(invitation) = invitation_in(datagram) else {
-        watch.strangers = watch.strangers.saturating_add(1);
+        watch.count_stranger();
         return Ok(None);
     };
     if !is_taken(plan, &invitation) {
-        watch.strangers = watch.strangers.saturating_add(1);
+        watch.count_stranger();
         return Ok(None);
     }
-    let subscriber = met(alloc, plan, &invitation, datagram, now)?;
+    let subscriber = met(alloc, plan, &invitation, datagram, watch.moment())?;
     Ok(Some(Meeting {
         from,
         session: invitation.session,
@@ -149,7 +174,7 @@ fn join(
     listener: Listener,
     meeting: Meeting,
 ) -> Result<Joined, SubscribeFault>
-    ensures { IfOk result (λ j. j.duty.mtu ≡ 40) }
+    ensures { IfOk result (λ j. (j.session ≡ meeting.session) × (j.subscriber ≡ meeting.subscriber) × (j.duty.mtu ≡ 40)) }
 {
     let Meeting {
         from,
@@ -168,7 +193,8 @@ fn join(
     })
 }
 
-/// Listens until a SETUP opens an image. There is none where no datagram came for as long as the plan says.
+/// Listens until a SETUP of a stream that the plan takes opens an image. There is none where no datagram came for as long as
+/// the plan says.
 pub fn listen<R: Wait + Clock>(
     rt: &R,
     alloc: Global,
@@ -176,22 +202,25 @@ pub fn listen<R: Wait + Clock>(
     mut listener: Listener,
     watch: &mut Watch,
 ) -> Result<Option<Joined>, SubscribeFault>
-    ensures { IfOk result (λ found. IfSome found (λ j. j.duty.mtu ≡ 40)) }
+    ensures joined { IfOk result (λ found. IfSome found (IsJoined plan.now watch.new)) }
+    ensures quiet { IfOk result (λ found. IfNone found (IsQuiet plan.now watch.new)) }
 {
     let mut outbox = Outbox::new(alloc, REPLY)?;
+    let mut idle = Idle::new();
     for _ in rt.forever() {
-        let now = watch.moment(rt)?;
-        if watch.is_quiet(plan, now) {
+        watch.see(rt)?;
+        if watch.is_quiet(plan) {
             return Ok(None);
         }
-        let Some(mut meeting) = meet(alloc, plan, &mut listener, watch, now)? else {
-            rest(rt);
+        let Some(mut meeting) = meet(alloc, plan, &mut listener, watch)? else {
+            idle.rest(rt);
             continue;
         };
+        idle.stir();
         if meeting.subscriber.positions().is_some() {
             return Ok(Some(join(alloc, plan, listener, meeting)?));
         }
-        ask(&listener, &mut meeting, &mut outbox, now);
+        ask(&listener, &mut meeting, &mut outbox, watch.moment());
     }
     unreachable!()
 }

@@ -14,7 +14,7 @@ use Rattle.theory.specs.Words.{id_before, tail_word}
 use Rattle.theory.proofs.Places.{mod_unit, power_half, power_unit}
 use Rattle.word_calls.specs.declared.pass.Pass.{Pass}
 use Rattle.tail_claim.specs.declared.view.Key.{Key}
-use Rattle.tail_claim.specs.Packs.{count_place, slot, table_length, tail_place}
+use Rattle.tail_claim.specs.Packs.{count_place, data_place, slot, table_length, tail_place}
 use Rattle.tail_claim.specs.Sums.{total}
 use Rattle.tail_claim.specs.Terms.{Tailed, Terms, end_of}
 use Rattle.tail_claim.specs.Rule.{Bounds, Knows, Sound, armed_of, armed_on, first_of, parts_of, shape_of, size_of, weight}
@@ -95,7 +95,7 @@ fresh_words key so n i j k x y z wide ei ej ek ex ey ez =
       here = ap (slice_index w5) (sym ei) ∙ get_or-set_other w4 k i z 0 ik ∙ get_or-set_other w3 j i y 0 ij ∙ get_or-set_same w2 i x 0 (let q : i < length w2 = omega arith in q) ∙ ex;
       next = ap (slice_index w5) (sym ej) ∙ get_or-set_other w4 k j z 0 jk ∙ get_or-set_same w3 j y 0 (let q : j < length w3 = omega arith in q) ∙ ey;
       last = ap (slice_index w5) (sym ek) ∙ get_or-set_same w4 k z 0 (let q : k < length w4 = omega arith in q) ∙ ez;
-      zeros = λ m far. else_is m (λ e. omega arith) (λ e. omega arith) (λ e. omega arith) ∙ get_or-set_other w1 16 m c 0 (λ e. omega arith) ∙ get_or-set_other w0 0 m l 0 (λ e. omega arith) ∙ zero_at n m;
+      others = λ m o. else_is m (λ e. o.here (e ∙ ei)) (λ e. o.next (e ∙ ej)) (λ e. o.last (e ∙ ek)) ∙ get_or-set_other w1 16 m c 0 o.count ∙ get_or-set_other w0 0 m l 0 o.limit ∙ zero_at n m;
     }
   where
     apart : (c d : ℕ) → 0 < d → d < 3 → tail_place c ≡ tail_place (c + d) → ⊥
@@ -103,6 +103,13 @@ fresh_words key so n i j k x y z wide ei ej ek ex ey ez =
 
     apart_next : (c : ℕ) → tail_place (c + 1) ≡ tail_place (c + 2) → ⊥
     apart_next c e = omega arith
+
+-- the words of the stream are zero
+pub fresh_zeros : (b : Bounds) (ws : List ℕ) → Fresh b ws → (i : ℕ) → data_place ≤ i → slice_index ws i ≡ 0
+fresh_zeros b ws f i far = f.others i (record { limit = λ e. omega (arith, e, far); count = λ e. omega (arith, e, far); here = past (first_of b) i far; next = past (first_of b + 1) i far; last = past (first_of b + 2) i far })
+  where
+    past : (c i : ℕ) → data_place ≤ i → i ≢ tail_place c
+    past c i far e = omega (arith, e, far)
 
 -- ---- the first pass
 
@@ -166,7 +173,7 @@ ruled_first key ws so f =
       memory = record {
         cleaned = omega arith;
         held = room key.start (size_of b) b.greatest s.1 s.2;
-        zeros = λ x unit above below. f.zeros (slot g x) (omega arith);
+        zeros = λ x unit above below. fresh_zeros b ws f (slot g x) (omega arith);
         each = one_pass (Stored b ws) p record { stands = tt; placed = λ h. refl; aligned = tt; done = tt; undone = tt; kept = tt };
       };
     }

@@ -1,3 +1,7 @@
+ghost use Rattle.std.specs.Prelude.{◌≡◌};
+ghost use Rattle.timing.specs.Faults.{of_agent};
+ghost use Rattle.timing.specs.declared.fault.LatencyError.TheVariants.{Memory};
+
 use agents::AgentFault;
 use std::alloc::AllocError;
 use thiserror::Error;
@@ -20,12 +24,16 @@ pub enum LatencyError {
 }
 
 impl From<AllocError> for LatencyError {
+    ghost from_gives = { λ _ fault. fault ≡ Memory };
+
     fn from(_error: AllocError) -> LatencyError {
         LatencyError::Memory
     }
 }
 
 impl From<AgentFault> for LatencyError {
+    ghost from_gives = { λ from fault. fault ≡ of_agent from };
+
     fn from(fault: AgentFault) -> LatencyError {
         match fault {
             AgentFault::Device => LatencyError::Device,

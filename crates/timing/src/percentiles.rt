@@ -4,7 +4,8 @@ ghost use Rattle.std.specs.Prelude.{◌≡◌, ◌*◌, ◌^◌, ◌<◌, ◌≤
 ghost use Rattle.std.specs.Ordering.{nat_cmp};
 ghost use Rattle.timing.specs.Percentiles.{ArePercentiles, percentile_of};
 
-/// The sample below or at which so many hundredths of all lie, or thousandths; and the greatest of all.
+/// Samples in order: those at the indices that are 500, 900, 990 and 999 thousandths of the last one's, rounded down; and the
+/// greatest of all.
 #[derive(Clone, Copy)]
 pub struct Percentiles {
     pub p50: u64,

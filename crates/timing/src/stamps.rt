@@ -2,7 +2,7 @@
 //! eight, the lowest byte first.
 
 ghost use Rattle.std.specs.Prelude.{◌≡◌, ◌<◌, ◌≤◌, ◌↔◌, IfOk, IfSome, IsNone, length, vec_len};
-ghost use Rattle.timing.specs.Stamps.{stamp_of};
+ghost use Rattle.timing.specs.Stamps.{stamp_of, stamped};
 
 use byteorder::{ByteOrder, LittleEndian};
 use std::alloc::{AllocError, Global};
@@ -21,7 +21,8 @@ pub fn first_message(alloc: Global, number: u64, size: usize) -> Result<Vec<u8>,
 #[tactic(auto, using(crate::proofs::Stamped::reads_back))]
 pub fn put_stamp(message: &mut [u8], number: u32, stamp: u64)
     requires { 16 ≤ length message.old }
-    ensures { stamp_of message.new ≡ stamp }
+    ensures stamp { stamp_of message.new ≡ stamp }
+    ensures bytes { message.new ≡ stamped message.old number stamp }
 {
     LittleEndian::write_u32(&mut message[4..], number);
     LittleEndian::write_u64(&mut message[8..], stamp);

@@ -14,8 +14,8 @@ use crate::words::WordCalls;
 use crate::writing::write_padding;
 
 /// Claims a range for a message of `size` bytes at the tail, or says why there is none. The range's frames are open then,
-/// and nothing of them is stored. Where the message didn't fit the rest of its term, a committed padding up to the term's
-/// end is left.
+/// and nothing of them is stored. Where the message didn't fit the rest of its term, and the addition began in it, a
+/// committed padding up to the term's end is left.
 #[inline(always)]
 pub fn claim<W: WordCalls>(words: &mut W, pass: &mut W::Pass, size: u32) -> Result<u64, Refusal>
     requires fits { W.fits words.old pass.old }

@@ -18,8 +18,8 @@ use position::{UNFRAGMENTED, align32};
 
 /// Publishes a message of up to the greatest length, as one frame or as several. It is accepted if the log isn't closed,
 /// the active term isn't used up, the tail is below the limit and the frames fit the rest of the term; the answer is then
-/// the position behind them. A message that doesn't fit leaves a padding up to the term's end, and the log turns to the
-/// next term.
+/// the position behind them. A message that doesn't fit leaves a padding up to the term's end, unless another publisher's
+/// addition had passed it before, and the log turns to the next term.
 #[inline(always)]
 pub fn offer<W: WordCalls>(
     words: &mut W,

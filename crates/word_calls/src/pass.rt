@@ -60,8 +60,8 @@ pub struct Reading {
     pub known: LinkedList<FrameWords>,
 }
 
-/// What a keeper knows: 1 where the pass is one, the limit and how far bytes are zero again, and the positions of
-/// consumers that it has seen.
+/// What a keeper knows: 1 where the pass is one, the limit word with its flags, how far bytes are zero again, and the
+/// positions of consumers that it has seen.
 pub struct Keeping {
     pub right: u64,
     pub limit: u64,

@@ -5,8 +5,8 @@ ghost use Rattle.std.specs.Fmt.{signed_decimal};
 use std::fmt;
 use thiserror::Error;
 
-/// Why an offer isn't accepted. No entry was added then but, where the message didn't fit the rest of its term, a
-/// padding up to the term's end, which is counted to the publisher.
+/// Why an offer isn't accepted. No entry was added then but, where the message didn't fit the rest of its term and its
+/// addition began in it, a padding up to the term's end, which is counted to the publisher.
 #[derive(Clone, Copy, Debug, PartialEq, Eq, Error)]
 pub enum Refusal {
     /// Nobody is connected, and the tail is at the limit.

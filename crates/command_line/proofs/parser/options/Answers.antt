@@ -18,14 +18,14 @@ returns-in-Err-parsed-clause-taken c = λ asks.
     let is = c.in-Ok.ensures in
     let words = map (λ s. s.now) c.args.words.now in
     let kinds = c.in-Err-parsed.ensures.kinds (ap is_simple_and_free is ∙ is_free) in
-    c.fault_of.ensures.memory (by_memory _ c.in-Err-parsed.error (ap (λ a. fault_of a words) is ∙ sim_asked_passes words asks) kinds)
+    c.fault_of.ensures.memory.0 (by_memory _ c.in-Err-parsed.error (ap (λ a. fault_of a words) is ∙ sim_asked_passes words asks) kinds)
 
 pub returns-in-Err-parsed-clause-decode_taken : goal.returns-in-Err-parsed-clause-decode_taken
 returns-in-Err-parsed-clause-decode_taken c = λ word asks.
     let is = c.in-Ok.ensures in
     let words = map (λ s. s.now) c.args.words.now in
     let kinds = c.in-Err-parsed.ensures.kinds (ap is_simple_and_free is ∙ is_free) in
-    c.fault_of.ensures.memory (by_memory _ c.in-Err-parsed.error (ap (λ a. fault_of a words) is ∙ decode_asked_passes words word asks) kinds)
+    c.fault_of.ensures.memory.0 (by_memory _ c.in-Err-parsed.error (ap (λ a. fault_of a words) is ∙ decode_asked_passes words word asks) kinds)
 
 pub returns-in-Ok-parsed-clause-run_taken : goal.returns-in-Ok-parsed-clause-run_taken
 returns-in-Ok-parsed-clause-run_taken c = λ asks.
@@ -39,7 +39,7 @@ returns-in-Err-parsed-clause-run_taken c = λ asks.
     let is = c.in-Ok.ensures in
     let words = map (λ s. s.now) c.args.words.now in
     let kinds = c.in-Err-parsed.ensures.kinds (ap is_simple_and_free is ∙ is_free) in
-    c.fault_of.ensures.memory (by_memory _ c.in-Err-parsed.error (ap (λ a. fault_of a words) is ∙ bare_asked_passes words asks) kinds)
+    c.fault_of.ensures.memory.0 (by_memory _ c.in-Err-parsed.error (ap (λ a. fault_of a words) is ∙ bare_asked_passes words asks) kinds)
 
 pub returns-in-Err-parsed-clause-kind : goal.returns-in-Err-parsed-clause-kind
 returns-in-Err-parsed-clause-kind c = λ e shown.

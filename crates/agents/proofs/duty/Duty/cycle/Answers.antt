@@ -12,7 +12,7 @@ pub returns-in_err-sent-clause-fault : goal.returns-in_err-sent-clause-fault
 returns-in_err-sent-clause-fault g c =
     let h = c.in_ok-heard.ensures in
     let e = c.from_residual-in_err-sent in
-    fault_behind g.P.Party.hears g.P.Party.ticks c.args.now _ _ _ _ _ _ _ _ _ _ e.result (err_is e.result _ e.ensures.1) h.still_tells h.counts h.hears c.in_err-sent.ensures.ticks
+    fault_behind g.P.Party.hears g.P.Party.ticks c.args.now _ _ _ _ _ _ _ _ _ _ e.result (err_is e.result _ e.ensures.1) h.still_tells h.counts h.hears c.in_err-sent.ensures.nones c.in_err-sent.ensures.ticks
 
 pub returns-then-heard-gt0-clause-cycle : goal.returns-then-heard-gt0-clause-cycle
 returns-then-heard-gt0-clause-cycle g c =

@@ -1,5 +1,0 @@
-use Rattle.stream_tests.specs.Parties.{IsCrew}
-use Rattle.stream_tests.proofs.stalls.follow.Given as goal
-
-abbrev pub invariant-loop-count : goal.invariant-loop-count
-invariant-loop-count g l = IsCrew l.log l.crew
