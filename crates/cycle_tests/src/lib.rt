@@ -1,7 +1,5 @@
-//! Tests of duty cycles over devices in memory: what a send that fails leaves, and what a receiver's counters show.
+//! Tests of duty cycles over devices in memory: what a send that fails leaves.
 #![tactic(auto)]
 
 #[cfg(test)]
 mod failing;
-#[cfg(test)]
-mod reading;
