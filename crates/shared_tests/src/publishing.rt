@@ -3,7 +3,6 @@
 ghost use Rattle.std.specs.Prelude.{◌≡◌, ◌≤◌, ◌<◌, length};
 ghost use Rattle.theory.specs.Position.{max_message, max_payload};
 ghost use Rattle.shared_log.specs.Handles.{IsOf};
-ghost use Rattle.shared_tests.specs.Stays.{Stays};
 
 use log_walk::{Claimed, LONGEST, fill};
 use position::Geometry;
@@ -64,14 +63,10 @@ fn publish_claim(
 }
 
 /// Offers a message.
-pub(crate) fn publish_offer(
-    log: &Log,
-    publisher: &mut Publisher,
-    message: &[u8],
-) -> Result<u64, Refusal>
+fn publish_offer(log: &Log, publisher: &mut Publisher, message: &[u8]) -> Result<u64, Refusal>
     requires fits { IsOf log.now publisher.old }
     requires short { length message.now ≤ max_message log.now.identity.geometry }
-    ensures { Stays log.now publisher.old publisher.new }
+    ensures { IsOf log.now publisher.new }
 {
     offer(&mut OnLog::new(log), publisher, message)
 }
