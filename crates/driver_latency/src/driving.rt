@@ -1,52 +1,20 @@
 //! The driver, timed.
 
 ghost use Rattle.std.specs.Prelude.{◌*◌, ◌≤◌, IfOk};
-ghost use Rattle.driver_latency.specs.Drivers.{AreTools};
+ghost use Rattle.driver_play.specs.Tools.{AreTools};
 ghost use Rattle.log_latency.specs.Openings.{IsOpened};
 
-use conductor::{Client, Conductor, Taker};
-use counters::{CounterWriter, Counters};
 use driver_parties::{Cast, Device};
-use driver_play::play_named;
+use driver_play::{Tools, make_tools, play_named};
 use log_latency::{Opened, open_log};
-use position::Geometry;
-use receiver::Subscriber;
-use run_parties::{Stage, device_pair, new_subscriber};
-use std::alloc::{AllocError, Global};
+use run_parties::{Stage, device_pair};
+use std::alloc::Global;
 use std::marker::Brand;
 use std::net::Net;
 use std::sync::Wait;
 use std::thread::Threads;
 use std::time::Clock;
 use timing::{Course, LatencyError, Plan, Samples, Timed, timed_by};
-
-/// The command queue with a client and its taker, a subscriber, and the counters with their writer.
-#[derive(Drop)]
-struct Tools {
-    conductor: Conductor,
-    client: Client,
-    taker: Taker,
-    subscriber: Subscriber,
-    counters: Counters,
-    writer: CounterWriter,
-}
-
-fn make_tools(alloc: Global, geometry: &Geometry) -> Result<Tools, AllocError>
-    ensures { IfOk result (AreTools geometry.now) }
-{
-    let (conductor, mut clients, taker) = Conductor::new(alloc)?;
-    let client = clients.remove(0);
-    let (counters, writer) = Counters::new(alloc)?;
-    let subscriber = new_subscriber(alloc, geometry)?;
-    Ok(Tools {
-        conductor,
-        client,
-        taker,
-        subscriber,
-        counters,
-        writer,
-    })
-}
 
 /// Times the driver on a log that was opened.
 fn time_on<R: Threads + Wait + Clock + Sync>(

@@ -2,5 +2,7 @@
 #![tactic(auto)]
 
 mod playing;
+mod tools;
 
 pub use playing::play_named;
+pub use tools::{Tools, make_tools};

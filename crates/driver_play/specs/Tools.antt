@@ -4,7 +4,7 @@ use Rattle.theory.specs.Position.{Geometry}
 use Rattle.counters.specs.Order.{zeros}
 use Rattle.receiver.specs.Subscribing.{RepresentsSubscriber}
 use Rattle.run_parties.specs.Receivers.{new_receiver}
-use Rattle.driver_latency.specs.declared.driving.Tools.{Tools}
+use Rattle.driver_play.specs.declared.tools.Tools.{Tools}
 
 -- beside a log of this shape: a client and the taker of the queue, a subscriber that has met nothing, and counters at zero
 pub record AreTools (g : Geometry) (t : Tools) : Type 0 where
