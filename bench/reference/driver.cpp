@@ -9,6 +9,7 @@
 
 constexpr std::int32_t SESSION = 1, STREAM = 1001, INITIAL_ID = 7;
 constexpr int DATAGRAMS = 16; // that a cycle receives
+constexpr int MESSAGES = 16;  // that are polled under one lock
 constexpr std::size_t GREATEST_DATAGRAM = 65'536;
 constexpr std::size_t CACHE_LINE = 64;
 
@@ -25,8 +26,8 @@ struct Stage {
     ReceiverCore receiver;
 
     Stage(const Options &options, const Geometry &geometry)
-        : options(options), start(options.publishers + 4), log(geometry, SESSION, STREAM, 0), sends(options.loss, 1),
-          replies(options.loss, 2), receiver(SESSION, STREAM, geometry.term_length / 2, 1, geometry.max_message()) {
+        : options(options), start(options.publishers + 4), log(geometry, SESSION, STREAM, 0), sends(options.loss, options.seed),
+          replies(options.loss, options.seed + 1), receiver(SESSION, STREAM, geometry.term_length / 2, 1, geometry.max_message()) {
         Udp::join(sends, replies);
     }
 
@@ -90,16 +91,19 @@ struct Stage {
         });
     }
 
+    // Polls under one lock until there is no message. Whether there was one.
+    bool poll_some(Tally &tally) {
+        std::lock_guard guard(lock);
+        for (int count = 0; count < MESSAGES && !tally.is_complete(); count++) {
+            bool has_come = receiver.poll([&](Bytes message) { tally.take(message.data(), message.size()); });
+            if (!has_come) return count > 0;
+        }
+        return true;
+    }
+
     std::uint64_t subscribe(Tally &tally) {
         std::uint64_t began = start.meet();
-        for (Idle idle; !tally.is_complete();) {
-            bool has_come;
-            {
-                std::lock_guard guard(lock);
-                has_come = receiver.poll([&](Bytes message) { tally.take(message.data(), message.size()); });
-            }
-            idle.after(has_come);
-        }
+        for (Idle idle; !tally.is_complete();) idle.after(poll_some(tally));
         is_stopped = true;
         return began;
     }
@@ -107,7 +111,7 @@ struct Stage {
 
 int main(int count, char **words) {
     Options options = Options::read(
-        count, words, {"--publishers", "--length", "--term", "--mtu", "--messages", "--rate", "--loss"});
+        count, words, {"--publishers", "--length", "--term", "--mtu", "--messages", "--rate", "--loss", "--seed"});
     Geometry geometry{options.term, options.mtu, INITIAL_ID};
     if (!geometry.is_legal()) refuse("not of a log", "--term or --mtu");
     if (options.length > geometry.max_message()) refuse("too long", "--length");

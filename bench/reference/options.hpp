@@ -26,6 +26,7 @@ struct Options {
     std::uint32_t term = 65'536;
     std::uint32_t mtu = 1'408;
     std::uint32_t loss = 0;       // datagrams of a thousand
+    std::uint32_t seed = 1;       // by which these are drawn
     std::uint64_t rate = 0;       // messages a second, in all; 0 is full load
     std::uint64_t messages = 100'000; // in all
     std::string_view transport;
@@ -64,6 +65,7 @@ struct Options {
         else if (name == "--term") parse(value, term);
         else if (name == "--mtu") parse(value, mtu);
         else if (name == "--loss") parse(value, loss);
+        else if (name == "--seed") parse(value, seed);
         else if (name == "--rate") parse(value, rate);
         else if (name == "--messages") parse(value, messages);
         else transport = value;

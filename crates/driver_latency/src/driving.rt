@@ -1,6 +1,6 @@
 //! The driver, timed.
 
-ghost use Rattle.std.specs.Prelude.{◌*◌, ◌≤◌, IfOk};
+ghost use Rattle.std.specs.Prelude.{◌≡◌, ◌*◌, ◌≤◌, IfOk, vec_len};
 ghost use Rattle.driver_play.specs.Tools.{AreTools};
 ghost use Rattle.log_latency.specs.Openings.{IsOpened};
 
@@ -25,15 +25,16 @@ fn time_on<R: Threads + Wait + Clock + Sync>(
     tools: Tools,
     sends: Device,
     replies: Device,
+    samples: Samples,
+    course: Course,
 ) -> Result<Timed, LatencyError>
+    requires none { vec_len samples.taken ≡ 0 }
     requires opened { IsOpened plan.now.geometry opened }
     requires tools { AreTools plan.now.geometry tools }
     ensures { IfOk result (λ t. t.messages ≤ plan.now.load.publishers * plan.now.load.messages) }
 {
     let load = plan.load;
     let wanted = load.wanted();
-    let samples = Samples::new(alloc, wanted)?;
-    let course = Course::new(rt)?;
     let Tools {
         conductor,
         client,
@@ -80,8 +81,12 @@ pub fn time_driver<R: Threads + Wait + Clock + Net + Sync>(
 ) -> Result<Timed, LatencyError>
     ensures { IfOk result (λ t. t.messages ≤ plan.now.load.publishers * plan.now.load.messages) }
 {
+    let samples = Samples::new(alloc, plan.load.wanted())?;
+    let course = Course::new(rt)?;
     let (sends, replies) = device_pair(rt, alloc, plan.rates, plan.seed)?;
     let tools = make_tools(alloc, &plan.geometry)?;
     let opened = open_log(alloc, plan.geometry, plan.load.publishers)?;
-    time_on(rt, alloc, plan, opened, tools, sends, replies)
+    time_on(
+        rt, alloc, plan, opened, tools, sends, replies, samples, course,
+    )
 }

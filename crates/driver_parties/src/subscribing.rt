@@ -1,18 +1,22 @@
 //! The subscriber of the driver, which takes samples.
 
-ghost use Rattle.std.specs.Prelude.{◌≡◌, ◌≤◌, OnOk, vec_len};
+ghost use Rattle.std.specs.Prelude.{◌≡◌, ◌≤◌, ◌+◌, IfOk, OnOk, vec_len};
 
 use crate::parties::Parties;
-use assembler::AssemblyError;
+use assembler::{AssemblyError, Message};
 use idle::Idle;
 use receiver::PollError;
 use receiver_agent::Named;
+use std::alloc::Global;
 use std::sync::Wait;
 use std::time::Clock;
 use timing::{LatencyError, Samples, stamp_in};
 
 /// After how many nanoseconds without a message the subscriber gives up.
 const PATIENCE: u64 = 60_000_000_000;
+
+/// How many messages are polled under one lock, at the most.
+const BATCH: u64 = 16;
 
 /// Whether nothing is to be waited for any more: all ends, or there was no message for too long.
 fn is_over<N: Named, R: Clock>(
@@ -41,31 +45,36 @@ pub fn await_stream<N: Named, R: Wait + Clock>(
     unreachable!()
 }
 
-/// Polls once. The answer is the stamp of a message, if there was one.
-fn poll_once<N: Named, R: Wait>(parties: &Parties<'_, N, R>) -> Result<Option<u64>, LatencyError> {
-    let polled = parties.agent.lock(parties.rt).poll();
+/// Polls under one lock until there is no message, and takes a sample of each; of so many at the most. The answer is how many
+/// there were.
+fn poll_some<N: Named, R: Wait + Clock>(
+    parties: &Parties<'_, N, R>,
+    most: u64,
+    samples: &mut Samples,
+) -> Result<u64, LatencyError>
+    ensures { IfOk result (λ count. (count ≤ most) × (vec_len samples.new.taken ≤ vec_len samples.old.taken + count)) }
+{
+    let mut agent = parties.agent.lock(parties.rt);
+    for count in 0..most {
+        let Some(stamp) = stamp_of(agent.poll())? else {
+            return Ok(count);
+        };
+        let now = parties.course.moment(parties.rt)?;
+        samples.take(stamp, now)?;
+    }
+    Ok(most)
+}
+
+/// The stamp of a message that was polled, if there was one.
+fn stamp_of(
+    polled: Result<Option<Message<Global>>, PollError>,
+) -> Result<Option<u64>, LatencyError> {
     match polled {
         Ok(Some(message)) => Ok(stamp_in(&message.bytes)),
         Ok(None) | Err(PollError::NoImage) => Ok(None),
         Err(PollError::Unassembled(AssemblyError::TooLong)) => Ok(None),
         Err(PollError::Unassembled(AssemblyError::Memory)) => Err(LatencyError::Memory),
     }
-}
-
-/// Polls until there is a message. The answer is its stamp; there is none where nothing is to be waited for any more.
-fn poll_message<N: Named, R: Wait + Clock>(
-    parties: &Parties<'_, N, R>,
-    since: u64,
-) -> Result<Option<u64>, LatencyError> {
-    let mut idle = Idle::new();
-    for _ in parties.rt.forever() {
-        let polled = poll_once(parties)?;
-        if polled.is_some() || is_over(parties, since)? {
-            return Ok(polled);
-        }
-        idle.rest(parties.rt);
-    }
-    unreachable!()
 }
 
 /// Polls so many messages, and takes a sample of each; fewer where nothing is to be waited for any more.
@@ -77,12 +86,15 @@ pub fn poll_all<N: Named, R: Wait + Clock>(
     requires { vec_len samples.old.taken ≡ 0 }
     ensures { OnOk result (vec_len samples.new.taken ≤ wanted) }
 {
-    for _ in 0..wanted {
-        let Some(stamp) = poll_message(parties, samples.last)? else {
-            break;
-        };
-        let now = parties.course.moment(parties.rt)?;
-        samples.take(stamp, now)?;
+    let mut left = wanted;
+    let mut idle = Idle::new();
+    for _ in parties.rt.forever() {
+        let count = poll_some(parties, left.min(BATCH), samples)?;
+        left -= count;
+        if left == 0 || count == 0 && is_over(parties, samples.last)? {
+            return Ok(());
+        }
+        idle.after(parties.rt, count > 0);
     }
-    Ok(())
+    unreachable!()
 }

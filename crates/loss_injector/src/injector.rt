@@ -1,4 +1,4 @@
-ghost use Rattle.std.specs.Prelude.{◌≡◌, None, map, IsOk, IfOk, IfErr};
+ghost use Rattle.std.specs.Prelude.{◌≡◌, ◌↔◌, ◌∷◌, [], ℕ, List, None, map, IsTrue, IsOk, IfOk, IfErr};
 ghost use Rattle.theory.specs.Loss.{IsVerdict};
 ghost use Rattle.theory.specs.Loss as meant;
 ghost use Rattle.loss_injector.specs.Injecting.{Gives};
@@ -34,6 +34,15 @@ impl Injector {
             rates,
             held: None,
         }
+    }
+
+    /// Whether a datagram that comes with this random word is given alone, and nothing is held before or behind it.
+    pub fn passes(&self, word: u32) -> bool
+        ensures passes { IsTrue result ↔ (IsVerdict self.now.rates word meant.Pass × (self.now.held ≡ None)) }
+        ensures alone { IsTrue result → (datagram : List ℕ) → Gives self.now word datagram (datagram ∷ []) self.now }
+    {
+        let verdict = decide(word, &self.rates);
+        verdict == Verdict::Pass && self.held.is_none()
     }
 
     /// Takes a datagram and a random word, and gives what goes on its way now, in order. Where nothing does, no memory

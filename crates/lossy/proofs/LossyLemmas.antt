@@ -1,5 +1,5 @@
 -- What a device that loses datagrams hands on.
-use Rattle.std.proofs.Common.{◌≡◌, ◌∙◌, ◌++◌, ◌<◌, ℕ, List, length, take, Result, Ok, Err, IsErr, ap}
+use Rattle.std.proofs.Common.{◌≡◌, ◌∙◌, ◌++◌, ◌<◌, ◌∷◌, [], ℕ, List, length, take, Result, Ok, Err, IsErr, ap, sym, arith, append-nil}
 use Rattle.endpoint.specs.Calls.{Sends}
 use Rattle.endpoint.specs.Devices.{Device}
 use Rattle.endpoint.specs.declared.datagrams.DeviceFailed.{DeviceFailed}
@@ -17,5 +17,26 @@ stops tells tells_mid old mid new out front count datagram (Err f) e failed same
     count = count;
     within = within;
     sent = s.unsent (still t) ∙ ap (λ (d : Device). record d { failures = new.failures }) (sent t) ∙ ap (λ f. record old { sent = old.sent ++ f; failures = new.failures }) is;
+  };
+}
+
+-- one datagram was handed over
+pub alone : (tells : Type 0) (old new : Device) (datagram : List ℕ) (result : Result (Unit {0}) DeviceFailed) → Sends tells old datagram result new → SendsAll tells old (datagram ∷ []) result new
+alone tells old new datagram (Ok u) s = record {
+  failures = s.failures;
+  same_received = s.same_received;
+  same_nones = s.same_nones;
+  sent = s.sent;
+  stopped = λ _. tt;
+}
+alone tells old new datagram (Err e) s = record {
+  failures = s.failures;
+  same_received = s.same_received;
+  same_nones = s.same_nones;
+  sent = λ _. tt;
+  stopped = λ t. record {
+    count = 0;
+    within = omega arith;
+    sent = s.unsent t ∙ ap (λ f. record old { sent = f; failures = new.failures }) (sym (append-nil old.sent));
   };
 }

@@ -1,4 +1,4 @@
-//! Tests of the machines that need no log: messages joined, limits, losses by chance, devices.
+//! Tests of the machines that need no log: messages joined, limits, losses by chance.
 #![tactic(auto)]
 
 #[cfg(test)]
@@ -6,10 +6,4 @@ mod assembly;
 #[cfg(test)]
 mod chances;
 #[cfg(test)]
-mod failing;
-#[cfg(test)]
 mod limits;
-#[cfg(test)]
-mod losses;
-#[cfg(test)]
-mod udp;

@@ -4,6 +4,7 @@ ghost use Rattle.std.specs.Prelude.{◌≡◌, IfOk};
 ghost use Rattle.endpoint.specs.Devices.{fresh};
 ghost use Rattle.publisher_begin.specs.Openings.{IsBegun, device_of};
 
+use crate::opening::{Opened, open_log};
 use agents::Duty;
 use conductor::{Client, Conductor, Taker};
 use end_options::PublishPlan;
@@ -11,7 +12,7 @@ use endpoint::UdpDevice;
 use log_reading::LogReader;
 use lossy::Lossy;
 use peer::{Attended, Sent};
-use publisher_parties::{Opened, PublishFault, Stage, Tools, open_log};
+use publisher_parties::{PublishFault, Stage, Tools};
 use shared_log::Publisher;
 use std::alloc::{AllocError, Global};
 use std::net::Net;

@@ -2,5 +2,6 @@
 #![tactic(auto)]
 
 mod beginning;
+mod opening;
 
 pub use beginning::{Begun, begin, bind};

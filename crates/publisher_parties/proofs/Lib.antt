@@ -2,4 +2,3 @@ pub mod Begun
 pub mod Ends
 pub mod Inputs
 pub mod Lines
-pub mod Openers

@@ -6,11 +6,8 @@ use Rattle.sender.specs.Sending.{SendsFrom}
 use Rattle.log_reading.specs.Readers.{IsReaderOf}
 use Rattle.log_reading.specs.Sourced.{source_of}
 use Rattle.log_reading.specs.declared.source.LogFrames.{LogFrames}
-use Rattle.log_parts.specs.Books.{IsDone}
-use Rattle.log_parts.specs.Parts.{IsNewReader}
 use Rattle.sender_agent.specs.Duties.{Agent}
 use Rattle.end_options.specs.declared.plans.PublishPlan.{PublishPlan}
-use Rattle.publisher_parties.specs.declared.opening.Opened.{Opened}
 use Rattle.publisher_parties.specs.declared.sending.Tools.{Tools}
 use Rattle.publisher_parties.specs.declared.stage.Stage.{Stage}
 
@@ -22,13 +19,6 @@ pub record IsPlanned (p : PublishPlan) (l : LogValue) : Type 0 where
   pub identity : l.identity ≡ identity_of p
   pub start : l.start ≡ p.start
   pub consumers : l.consumers ≡ 1
-
--- a log of this plan, with a publisher, a reader and the keeper
-pub record IsOpened (p : PublishPlan) (o : Opened) : Type 0 where
-  pub log_is : IsPlanned p o.log
-  pub publisher : IsDone o.log o.publisher
-  pub reader : IsNewReader o.log 0 o.reader
-  pub keeper : IsOf o.log o.keeper.held
 
 -- it reads a log, has sent what comes before its position, and its datagrams have the plan's MTU
 pub record IsAgentOf (p : PublishPlan) (a : Agent LogFrames ℕ) : Type 0 where

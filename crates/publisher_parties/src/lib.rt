@@ -10,7 +10,7 @@ mod stage;
 mod telling;
 
 pub use fault::PublishFault;
-pub use opening::{Agent, Opened, open_agent, open_log};
+pub use opening::{Agent, open_agent};
 pub use reading::read_input;
 pub use sending::{Crew, Tools, send_all};
 pub use stage::Stage;

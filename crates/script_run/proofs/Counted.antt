@@ -2,7 +2,7 @@
 use Rattle.std.proofs.Common.{◌≡◌, ◌⊎◌, ℕ, ◌+◌, ◌<◌, List, [], ◌∷◌, ◌++◌, map, length, true, false, cond, inl, inr, ⊎_elim, refl, sym, ap, ◌∙◌, subst, arith, append_assoc}
 use Rattle.std.specs.Prelude.{◌==◌, replicate, slice_index}
 use Rattle.std.proofs.lemmas.Bool.{cases_Bool, eqb-true, eqb-false}
-use Rattle.std.proofs.lemmas.List.{get_or-replicate, get_or-set_other, get_or-set_same}
+use Rattle.std.proofs.lemmas.List.{ext_get_or, get_or-replicate, get_or-set_other, get_or-set_same}
 use Rattle.theory.specs.Position.{max_message, max_payload}
 use Rattle.theory.specs.Placed.{Data}
 use Rattle.theory.specs.Entry.{Entry, length_of}
@@ -16,8 +16,8 @@ use Rattle.script.specs.Meaning as commands
 use Rattle.script.specs.Meaning.{CommandContent}
 use Rattle.script_run.specs.Answers.{AbortsClaim, Answers, Claims, ClaimsRange, CommitsClaim, HasNoClaim, Limits, MayNotTake, OffersMessage, Offered, SenderHears, with_log}
 use Rattle.sender.specs.Cycling.{AsksSetup, Misses, NewsContent, Says, TellsNothing, Unreadable}
-use Rattle.script_run.specs.Output.{AlwaysCounted, AnswersAll, identity_of}
-use Rattle.script_run.specs.LineContents.{LineContent}
+use Rattle.script_run.specs.Output.{AlwaysCounted, AnswersAll, HasOneBook, PrintsBook, identity_of}
+use Rattle.script_run.specs.LineContents.{LineContent, Shares}
 use Rattle.script_run.specs.Published.{Played}
 use Rattle.script_run.specs.ScriptState.{ScriptState, entries_of, opened_state}
 use Rattle.script_run.proofs.OfferRuns.{turned_same}
@@ -178,3 +178,11 @@ none_yet k h = get_or-replicate 8 k 0 0 h
 
 pub always_counted : AlwaysCounted
 always_counted o played last m = all_count (opened_state (identity_of o) o.start o.readers) last played m none_yet
+
+-- ---- the book
+
+shares_agree : (s : ScriptState) (one other : LineContent) (p : PrintsBook s one) (q : PrintsBook s other) → p.shares ≡ q.shares
+shares_agree s one other p q = ext_get_or 0 p.shares q.shares (p.eight ∙ sym q.eight) (λ i low. p.each i (subst (λ n. i < n) p.eight low) ∙ sym (q.each i (subst (λ n. i < n) p.eight low)))
+
+pub one_book : HasOneBook
+one_book s one other p q = p.shown ∙ ap (Shares s.log.start s.log.tail) (shares_agree s one other p q) ∙ sym q.shown

@@ -34,6 +34,10 @@ pub record PrintsBook (s : ScriptState) (line : LineContent) : Type 0 where
   pub whole : s.log.start + sum shares ≡ s.log.tail
   pub shown : line ≡ Shares s.log.start s.log.tail shares
 
+-- a book can be printed in one way
+abbrev pub HasOneBook : Type 0
+HasOneBook = (s : ScriptState) (one other : LineContent) → PrintsBook s one → PrintsBook s other → one ≡ other
+
 -- the lines are events of the world, with the image of the receiver of this number, whose premise holds; with none where no receiver has the number
 abbrev pub RunsInWorld : Opening → List Played → ScriptState → Type 0
 RunsInWorld o played s = (k : ℕ) → (k < 8 → AllHonest k played) → (events : List Event) × Run (world_of (opened_state (identity_of o) o.start o.readers)) events (world_of (lone k s))

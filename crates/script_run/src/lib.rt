@@ -4,7 +4,7 @@
 //! here stands for a law on them; it does nothing, and its contract is the law.
 #![tactic(auto)]
 
-ghost use Rattle.script_run.specs.Output.{AlwaysCounted, AlwaysInBounds, AlwaysPolled, AlwaysRuns};
+ghost use Rattle.script_run.specs.Output.{AlwaysCounted, AlwaysInBounds, AlwaysPolled, AlwaysRuns, HasOneBook};
 ghost use Rattle.script_run.specs.Standing.{AlwaysAgain, AlwaysThere};
 
 use frames::one_reading;
@@ -12,9 +12,10 @@ use model::{every_run, steps_keep};
 use retransmit::near_starts_suffice;
 use theory::names_place;
 
-/// Whatever is answered, the shares are those of all entries.
+/// Whatever is answered, the shares are those of all entries; and a state's book has one text.
 pub fn shares_are_counted()
-    ensures { AlwaysCounted }
+    ensures counted { AlwaysCounted }
+    ensures book { HasOneBook }
 {}
 
 /// Whatever is answered line by line: what the polls of a receiver printed is what was published between its join and its

@@ -36,14 +36,6 @@ fn bind<R: Net>(rt: &R, alloc: Global, port: u16) -> Result<Listener, SubscribeF
     }
 }
 
-/// Where its consumer stands.
-fn place(joined: &Joined) -> u64 {
-    match joined.subscriber.positions() {
-        None => 0,
-        Some(positions) => positions.least,
-    }
-}
-
 /// Follows one image, and tells of it. The answer is how many messages were written in all, and whether the subscriber ends.
 fn follow_one<R: Wait + Clock, W: Write, E: Write>(
     rt: &R,
@@ -61,10 +53,10 @@ fn follow_one<R: Wait + Clock, W: Write, E: Write>(
     ensures more { IfOk result (λ r. r.1 ≡ false → r.0 < plan.now.messages) }
     ensures writes { IfOk result (λ r. Writes plan.now.end.form before (W.contents output.old) r.0 (W.contents output.new)) }
 {
-    tell_joined(errors, joined.session, place(&joined));
+    tell_joined(errors, joined.session, joined.place());
     let (written, leaving) = follow(rt, plan, &mut joined, output, errors, watch, before)?;
     if leaving == Leaving::Silent {
-        tell_closed(errors, joined.session, place(&joined));
+        tell_closed(errors, joined.session, joined.place());
         return Ok((written, false));
     }
     let _ = bid_farewell(rt, &mut joined, watch);

@@ -1,8 +1,9 @@
 -- Whose stream a datagram is of, and the subscriber that meets it.
 use Rattle.std.specs.Prelude.{◌≡◌, ◌⊎◌, ◌≤◌, ◌/◌, ⊤, ℕ, ℤ, pos, negsuc, List, Option, None, Some}
+use Rattle.theory.specs.Consumer.{least_of}
 use Rattle.theory.specs.Wire.{Wire, DATA, PAD, HEARTBEAT, NAK, SM, SETUP}
 use Rattle.frames.specs.Fronts.{FrontSpells}
-use Rattle.receiver.specs.Receiving.{Receiver, TakesDatagram, listening}
+use Rattle.receiver.specs.Receiving.{Opened, Receiver, TakesDatagram, listening}
 use Rattle.receiver.specs.Subscribing.{RepresentsSubscriber, Subscribing}
 use Rattle.receiver.specs.declared.receiver_core.Outcome.{Outcome}
 use Rattle.end_options.specs.declared.plans.SubscribePlan.{SubscribePlan}
@@ -70,3 +71,8 @@ MeetsOne plan old None new = (new ≡ old) ⊎ (new ≡ with_stranger (hearing o
 pub record IsJoined (plan : SubscribePlan) (s : Seen) (j : Joined) : Type 0 where
   pub met : IsMet plan s.moment j.session j.subscriber
   pub size : j.duty.mtu ≡ 40
+
+-- where the consumer of an image stands, the least one; 0 without an image
+abbrev pub StandsAt : Option Opened → ℕ → Type 0
+StandsAt None at = at ≡ 0
+StandsAt (Some o) at = at ≡ least_of o.image.consumers

@@ -2,7 +2,9 @@
 
 ghost use Rattle.std.specs.Prelude.{◌≡◌, ◌↔◌, IfNone, IfOk, IfSome, IsTrue};
 ghost use Rattle.frames.specs.Frames.{wire};
-ghost use Rattle.subscriber_parts.specs.Meetings.{HasMet, Invites, IsJoined, MeetsOne, Takes, invitation_of};
+ghost use Rattle.receiver.specs.Receiving.{Receiver};
+ghost use Rattle.receiver.specs.Subscribing.{RepresentsSubscriber};
+ghost use Rattle.subscriber_parts.specs.Meetings.{HasMet, Invites, IsJoined, MeetsOne, StandsAt, Takes, invitation_of};
 ghost use Rattle.subscriber_parts.specs.Watches.{IsQuiet};
 
 use crate::fault::SubscribeFault;
@@ -32,6 +34,18 @@ pub struct Joined {
     pub session: i32,
     pub subscriber: Subscriber,
     pub duty: Duty<SubscriberDevice>,
+}
+
+impl Joined {
+    /// Where its consumer stands, in bytes of the stream: 0 without an image.
+    pub fn place(&self) -> u64
+        ensures { (r : Receiver) → RepresentsSubscriber self.now.subscriber r → StandsAt r.image result }
+    {
+        match self.subscriber.positions() {
+            None => 0,
+            Some(positions) => positions.least,
+        }
+    }
 }
 
 /// Whose stream a datagram is of, and the bytes of its terms, which only a SETUP tells; else they are 0.

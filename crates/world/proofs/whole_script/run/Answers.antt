@@ -8,4 +8,4 @@ play_open-played-requires g c = begins_somewhere _ _ _ _ c.requires.begins c.req
 pub returns : goal.returns
 returns g c =
     let eight : length c.end-book.result.shares ≡ 8 = search rules in
-    runs_to c.shares_are_counted.ensures _ _ _ _ _ _ _ _ _ c.end-book.result eight c.requires.begins c.requires.opened c.in_ok-played.ensures c.end-book.ensures c.in_ok-add.ensures
+    runs_to c.shares_are_counted.ensures.counted _ _ _ _ _ _ _ _ _ c.end-book.result eight c.requires.begins c.requires.opened c.in_ok-played.ensures c.end-book.ensures c.in_ok-add.ensures

@@ -1,4 +1,5 @@
-use Rattle.std.proofs.Common.{ap, map}
+use Rattle.std.proofs.Common.{◌∷◌, [], ap, inl, map}
+use Rattle.lossy.proofs.LossyLemmas.{alone}
 use Rattle.lossy.proofs.lossy.LossyDatagrams.send.Goals as goal
 
 pub returns-clause-through : goal.returns-clause-through
@@ -7,4 +8,12 @@ returns-clause-through g c = rw (← c.self.view_is) (record {
   injects = rw (← ap (λ p. p.0) c.next_word-word.ensures) c.made_of-out.ensures;
   drew = ap (λ p. p.1) c.next_word-word.ensures;
   sends = rw (← c.deref.ensures.value) c.send_all.ensures.sends;
+})
+
+pub returns-then-passes-clause-through : goal.returns-then-passes-clause-through
+returns-then-passes-clause-through g c = rw (← c.self.view_is) (record {
+  out = c.args.datagram.now ∷ [];
+  injects = inl (rw (← ap (λ p. p.0) c.next_word-word.ensures) (c.passes.ensures.alone c.if-passes.true c.args.datagram.now));
+  drew = ap (λ p. p.1) c.next_word-word.ensures;
+  sends = alone _ _ _ _ _ c.send.ensures.sends;
 })

@@ -1,5 +1,4 @@
 use endpoint::{Datagrams, DeviceFailed, UdpDevice};
-use loss_injector::Rates;
 use lossy::Lossy;
 use std::alloc::{AllocError, Global};
 use std::net::Net;
