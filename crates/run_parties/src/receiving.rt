@@ -5,7 +5,7 @@ ghost use Rattle.std.specs.Prelude.{◌≡◌, ◌+◌, ◌≤◌, ◌<◌, ◌^
 use crate::gate::{Gate, Role};
 use crate::stage::{Stage, new_duty};
 use agents::{AgentFault, Duty, REPLY};
-use assembler::AssemblyError;
+use assembler::{AssemblyError, Message};
 use counters::Counters;
 use endpoint::Datagrams;
 use idle::Idle;
@@ -15,6 +15,9 @@ use std::alloc::Global;
 use std::sync::{Mutex, Wait};
 use std::time::Clock;
 use tally::Tally;
+
+/// How many messages are polled under one lock, at the most.
+const MESSAGES: u64 = 16;
 
 /// A cycle of the receiver, under the lock.
 fn receive_once<N: Named, R: Wait + Clock, D: Datagrams>(
@@ -76,17 +79,15 @@ pub fn receive<N: Named, R: Wait + Clock, D: Datagrams + Drop, G: Gate>(
     receive_on(rt, stage, gate, turns, counters, agent, &mut duty)
 }
 
-/// Polls once, under the lock. The answer is whether there was a message; one that is refused as too long counts as one here,
-/// and not in the tally.
-fn poll_once<N: Named, R: Wait>(
-    rt: &R,
-    agent: &Mutex<ReceiverAgent<N>>,
+/// Takes what was polled. The answer is whether there was a message; one that is refused as too long counts as one here, and
+/// not in the tally.
+fn take(
+    polled: Result<Option<Message<Global>>, PollError>,
     tally: &mut Tally,
 ) -> Result<bool, AgentFault>
     requires room { tally.old.polled < 2 ^ 63 }
     ensures { IfOk result (λ any. tally.new.polled ≤ tally.old.polled + 1) }
 {
-    let polled = agent.lock(rt).poll();
     match polled {
         Ok(Some(message)) => {
             tally.take(&message.bytes);
@@ -98,8 +99,27 @@ fn poll_once<N: Named, R: Wait>(
     }
 }
 
-/// Polls until so many messages were there, when it stops all; or all is to stop, or its turns are used, when it stops all,
-/// too. The answer is the tally of what was polled.
+/// Polls under one lock until there is no message, or so many were there. The answer is whether there was one.
+fn poll_some<N: Named, R: Wait>(
+    rt: &R,
+    agent: &Mutex<ReceiverAgent<N>>,
+    most: u64,
+    tally: &mut Tally,
+) -> Result<bool, AgentFault>
+    requires room { tally.old.polled + most < 2 ^ 63 }
+    ensures { IfOk result (λ any. tally.new.polled ≤ tally.old.polled + most) }
+{
+    let mut agent = agent.lock(rt);
+    for count in 0..most {
+        if !take(agent.poll(), tally)? {
+            return Ok(count > 0);
+        }
+    }
+    Ok(true)
+}
+
+/// Polls, at most 16 messages in a turn, until so many were there, when it stops all; or all is to stop, or its turns are
+/// used, when it stops all, too. The answer is the tally of what was polled.
 pub fn subscribe<N: Named, R: Wait + Clock>(
     rt: &R,
     stage: &Stage,
@@ -116,7 +136,8 @@ pub fn subscribe<N: Named, R: Wait + Clock>(
         if tally.polled() >= wanted || stage.is_stopped() {
             break;
         }
-        let busy = poll_once(rt, agent, &mut tally)?;
+        let most = (wanted - tally.polled()).min(MESSAGES);
+        let busy = poll_some(rt, agent, most, &mut tally)?;
         stage.tell_polled(tally.polled());
         idle.after(rt, busy);
     }
