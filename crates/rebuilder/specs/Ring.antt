@@ -77,6 +77,15 @@ pub record IsRing (term low : ℕ) (bytes starts units : List ℕ) (frames : Lis
   pub stand : AllByRecursion (StandsAt term low bytes) frames
   pub bits : (p : ℕ) → p % 32 ≡ 0 → low ≤ p → p < low + 3 * term → IsUnitBit term units frames p
 
+-- and its first position stands at this place
+pub record IsRingAt (term low first : ℕ) (bytes starts units : List ℕ) (frames : List Placed) : Type 0 where
+  pub ring : IsRing term low bytes starts units frames
+  pub place : first ≡ low % (3 * term)
+
+-- a position from the first one on, at most three terms above it
+abbrev pub IsNear : Ring → ℕ → Type 0
+IsNear r p = (r.low ≤ p) × (p ≤ r.low + 3 * r.term_length)
+
 -- one more frame that fits
 pub record MayPut (r : Ring) (s : Placed) : Type 0 where
   pub unit : s.at % 32 ≡ 0

@@ -10,7 +10,7 @@ ghost use Rattle.frames.specs.Frames.{wire};
 ghost use Rattle.position.specs.declared.head.FrameKind.TheVariants.{Data};
 ghost use Rattle.rebuilder.specs.Held.{AreLaid, IsRunEnd, StartsAt, put};
 ghost use Rattle.rebuilder.specs.Kinds.{is_pad};
-ghost use Rattle.rebuilder.specs.Ring.{IsPiece, MayForget, MayPut, TellsUnits, with_bytes};
+ghost use Rattle.rebuilder.specs.Ring.{IsNear, IsPiece, MayForget, MayPut, TellsUnits, with_bytes};
 ghost use Rattle.rebuilder.specs.Seen.{HasHead, IsShown};
 ghost use Rattle.rebuilder.specs.Stored.{IsOfStream, stream_frame};
 
@@ -28,6 +28,8 @@ pub struct HeldFrames {
     term_length: u32,
     /// The position from which on frames are held, a multiple of 32.
     low: u64,
+    /// Where that position stands.
+    low_place: usize,
     bytes: Block,
     /// The units at which a frame starts.
     starts: Occupancy,
@@ -36,13 +38,13 @@ pub struct HeldFrames {
 }
 
 impl Model for HeldFrames {
-    ghost use Rattle.rebuilder.specs.Ring.{IsRing, Ring, frames_in};
+    ghost use Rattle.rebuilder.specs.Ring.{IsRingAt, Ring, frames_in};
 
     ghost Value = { Ring };
 
     ghost view = { λ h. record { term_length = h.term_length; low = h.low; frames = frames_in h.term_length h.low h.bytes h.starts } };
 
-    ghost invariant = { λ h. IsRing h.term_length h.low h.bytes h.starts h.units (frames_in h.term_length h.low h.bytes h.starts) };
+    ghost invariant = { λ h. IsRingAt h.term_length h.low h.low_place h.bytes h.starts h.units (frames_in h.term_length h.low h.bytes h.starts) };
 }
 
 /// Writes a frame among bytes, from a place on.
@@ -94,17 +96,21 @@ impl HeldFrames {
         Ok(HeldFrames {
             term_length,
             low,
+            low_place: (low % (3 * u64::from(term_length))) as usize,
             bytes: Block::new(alloc, size)?,
             starts: Occupancy::new(alloc, size / 2048)?,
             units: Occupancy::new(alloc, size / 2048)?,
         })
     }
 
-    /// Where a position stands.
+    /// Where a position stands, counted from where the first one does.
     fn place(&self, position: u64) -> usize
+        requires { IsNear self.now position }
         ensures { result ≡ position % (3 * self.now.term_length) }
     {
-        (position % (3 * u64::from(self.term_length))) as usize
+        let size = 3 * self.term_length as usize;
+        let place = self.low_place + (position - self.low) as usize;
+        if place < size { place } else { place - size }
     }
 
     /// The place of the frame that starts at a position.
@@ -212,10 +218,12 @@ impl HeldFrames {
         requires { MayForget self.old position }
         ensures { self.new ≡ record self.old { low = position; frames = held position self.old.frames } }
     {
-        let unit = self.place(self.low) / 32;
+        let unit = self.low_place / 32;
         let count = (position - self.low) as usize / 32;
+        let place = self.place(position);
         self.starts.clear_around(unit, count);
         self.units.clear_around(unit, count);
         self.low = position;
+        self.low_place = place;
     }
 }
