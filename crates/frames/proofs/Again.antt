@@ -115,7 +115,7 @@ data_parts h flags payload rest = append_assoc ((front (32 + length payload) fla
 data_length : (h : Header) (flags : ℕ) (payload rest : List ℕ) → length (spelling (DATA h flags payload) ++ rest) ≡ aligned (32 + length payload) + length rest
 data_length h flags payload rest = omega (arith, length-append (spelling (DATA h flags payload)) rest, data_size h flags payload)
 
-data_payload : (h : Header) (flags : ℕ) (payload rest : List ℕ) → slice_range (spelling (DATA h flags payload) ++ rest) 32 (32 + length payload) ≡ payload
+pub data_payload : (h : Header) (flags : ℕ) (payload rest : List ℕ) → slice_range (spelling (DATA h flags payload) ++ rest) 32 (32 + length payload) ≡ payload
 data_payload h flags payload rest =
     let few : 32 + length payload - 32 ≡ length payload = omega arith in
     let behind : drop 32 (spelling (DATA h flags payload) ++ rest) ≡ payload ++ (zeros_after (32 + length payload) ++ rest) = ap (drop 32) (data_parts h flags payload rest) in

@@ -1,5 +1,5 @@
 -- A datagram's frames, one after the other.
-use Rattle.std.proofs.Common.{◌≡◌, ◌∙◌, ◌<◌, ◌≤◌, ◌-◌, ℕ, List, [], ◌∷◌, ◌++◌, zero, suc, length, take, drop, refl, sym, ap, ap₂, arith, length-append, length-drop}
+use Rattle.std.proofs.Common.{◌≡◌, ◌∙◌, ◌<◌, ◌-◌, ℕ, List, [], ◌∷◌, ◌++◌, zero, suc, length, take, drop, refl, sym, ap, ap₂, arith, length-append, length-drop}
 use Rattle.std.proofs.Math.Seq.{take-append_seam, drop-append_seam, take-length}
 use Rattle.std.specs.List.{AllByRecursion, flat_map}
 use Rattle.theory.specs.Wire.{Wire, IsFrame, spelling}

@@ -5,6 +5,7 @@ pub mod Again
 pub mod Found
 pub mod Written
 pub mod Laws
+pub mod Fronts
 pub mod Faults
 pub mod Together
 pub mod OneFault

@@ -17,7 +17,7 @@ use crate::frame::{BEGIN, END, Frame, Header, Nak, Setup, Status, UNFRAGMENTED};
 /// What every frame begins with.
 const FRONT: usize = 8;
 /// The header of a DATA frame, a padding and a heartbeat.
-const HEADER: usize = 32;
+pub(crate) const HEADER: usize = 32;
 
 const NAK: usize = 28;
 

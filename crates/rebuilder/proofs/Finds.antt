@@ -8,15 +8,16 @@ use Rattle.occupancy.specs.Bits.{HoldsSome, holds}
 use Rattle.theory.specs.Insert.{Head, head_end, head_of, is_duplicate, same_kind}
 use Rattle.theory.specs.Placed.{Among, Placed, covered, end_of, frame_length, is_padding}
 use Rattle.theory.specs.Units.{HasUnit}
-use Rattle.theory.specs.Wire.{Wire, spelling}
+use Rattle.theory.specs.Wire.{Wire}
 use Rattle.theory.proofs.Lists.{all_at, any_here}
 use Rattle.frames.specs.Frames.{wire}
-use Rattle.frames.specs.Fronts.{FrontSpells}
+use Rattle.frames.specs.Fronts.{BeginsWith, IsStreamWire}
+use Rattle.frames.specs.Reading.{reading}
 use Rattle.frames.specs.declared.frame.Frame.{Frame}
 use Rattle.frames.specs.declared.frame.Frame.TheVariants.{Data, Pad, Heartbeat, Nak, Status, Setup}
 use Rattle.frames.proofs.FrameSteps.{slice_to_end}
 use Rattle.rebuilder.specs.Held.{AreLaid, StartsAt}
-use Rattle.rebuilder.specs.Ring.{IsRing, IsStreamWire, IsPiece, StandsAt, TellsUnits, found, frame_in, frames_in}
+use Rattle.rebuilder.specs.Ring.{IsRing, IsPiece, Ring, StandsAt, TellsUnits, found, frame_in, frame_read, frames_in}
 use Rattle.rebuilder.specs.Stored.{IsOfStream, stream_frame}
 use Rattle.rebuilder.proofs.Lists.{none_here}
 use Rattle.rebuilder.proofs.Listed.{listed_among}
@@ -26,14 +27,6 @@ use Rattle.rebuilder.proofs.Rings.{bit_frame, found_bit, full_ring}
 
 -- ---- frames of the code and of the wire
 
-pub legal : (f : Frame) (w : Wire) → wire f ≡ w → IsStreamWire w → IsOfStream f × (stream_frame f ≡ frame_in w)
-legal (Data header flags payload) w e s = (tt, ap frame_in e)
-legal (Pad header n) w e s = (tt, ap frame_in e)
-legal (Heartbeat header) w e s = absurd (subst IsStreamWire (sym e) s)
-legal (Nak f) w e s = absurd (subst IsStreamWire (sym e) s)
-legal (Status asks f) w e s = absurd (subst IsStreamWire (sym e) s)
-legal (Setup f) w e s = absurd (subst IsStreamWire (sym e) s)
-
 pub of_wire : (f : Frame) → IsOfStream f → IsStreamWire (wire f) × (frame_in (wire f) ≡ stream_frame f)
 of_wire (Data header flags payload) s = (tt, refl)
 of_wire (Pad header n) s = (tt, refl)
@@ -42,25 +35,32 @@ of_wire (Nak f) s = absurd s
 of_wire (Status asks f) s = absurd s
 of_wire (Setup f) s = absurd s
 
--- the same bytes, cut off at the end
-pub sliced : (bytes now : List ℕ) (o place : ℕ) (w : Wire) (n : ℕ) → now ≡ bytes → place ≡ o → FrontSpells (drop o bytes) w n → FrontSpells (take (length now - place) (drop place now)) w n
-sliced bytes now o place w n same at f =
-    let there : FrontSpells (drop place now) w n = subst (λ (b : List ℕ). FrontSpells (drop place b) w n) (sym same) (subst (λ k. FrontSpells (drop k bytes) w n) (sym at) f) in
-    subst (λ (b : List ℕ). FrontSpells b w n) (sym (slice_to_end now place)) there
-
 -- ---- the frame at a position
 
-pub record StandsThere (term low : ℕ) (bytes starts : List ℕ) (p : ℕ) : Type 0 where
-  pub wire : Wire
-  pub of_stream : IsStreamWire wire
-  pub spelled : FrontSpells (drop (p % (3 * term)) bytes) wire (length (spelling wire))
-  pub among : Among (record { at = p; frame = frame_in wire }) (frames_in term low bytes starts)
+-- where a bit says that one starts
+pub starts_there : (term low : ℕ) (bytes starts units : List ℕ) (p : ℕ) → IsRing term low bytes starts units (frames_in term low bytes starts) → p % 32 ≡ 0 → low ≤ p → p < low + 3 * term → holds starts (p % (3 * term) / 32) ≡ true → StartsAt (frames_in term low bytes starts) p
+starts_there term low bytes starts units p k unit l h bit = (record { at = p; frame = frame_read (reading (drop (p % (3 * term)) bytes)) }, bit_frame term low bytes starts p k.whole k.from unit l h bit, refl)
 
-pub stands_there : (term low : ℕ) (bytes starts units : List ℕ) (p : ℕ) → IsRing term low bytes starts units (frames_in term low bytes starts) → p % 32 ≡ 0 → low ≤ p → p < low + 3 * term → holds starts (p % (3 * term) / 32) ≡ true → StandsThere term low bytes starts p
-stands_there term low bytes starts units p k unit l h bit =
-    let a = bit_frame term low bytes starts p k.whole k.from unit l h bit in
-    let st = all_at (StandsAt term low bytes) _ (frames_in term low bytes starts) k.stand a in
-    record { wire = st.wire; of_stream = st.of_stream; spelled = st.spelled; among = subst (λ f. Among (record { at = p; frame = f }) (frames_in term low bytes starts)) (sym st.same) a }
+-- the bytes from its place on
+pub record ReadsThere (ring : Ring) (p : ℕ) (bytes : List ℕ) : Type 0 where
+  pub wire : Wire
+  pub begins : BeginsWith bytes wire
+  pub among : Among (record { at = p; frame = frame_in wire }) ring.frames
+
+pub reads_there : (term low : ℕ) (bytes starts units now : List ℕ) (ring : Ring) (p place : ℕ) → IsRing term low bytes starts units (frames_in term low bytes starts) → record { term_length = term; low = low; frames = frames_in term low bytes starts } ≡ ring → now ≡ bytes → (place ≡ p % (3 * ring.term_length)) × StartsAt ring.frames p → ReadsThere ring p (take (length now - place) (drop place now))
+reads_there term low bytes starts units now ring p place k view same found =
+    subst (λ (r : Ring). (place ≡ p % (3 * r.term_length)) × StartsAt r.frames p → ReadsThere r p (take (length now - place) (drop place now))) view here found
+  where
+    here : (place ≡ p % (3 * term)) × StartsAt (frames_in term low bytes starts) p → ReadsThere (record { term_length = term; low = low; frames = frames_in term low bytes starts }) p (take (length now - place) (drop place now))
+    here (at, (s, a, e)) =
+        let st : StandsAt term low bytes s = all_at (StandsAt term low bytes) s (frames_in term low bytes starts) k.stand a in
+        let place_is : s.at % (3 * term) ≡ place = ap (λ q. q % (3 * term)) e ∙ sym at in
+        let begins : BeginsWith (drop place now) st.wire = subst (λ (x : List ℕ). BeginsWith (drop place x) st.wire) (sym same) (subst (λ q. BeginsWith (drop q bytes) st.wire) place_is st.begins) in
+        record {
+          wire = st.wire;
+          begins = subst (λ (x : List ℕ). BeginsWith x st.wire) (sym (slice_to_end now place)) begins;
+          among = subst (λ q. Among (record { at = q; frame = frame_in st.wire }) (frames_in term low bytes starts)) e (subst (λ f. Among (record { at = s.at; frame = f }) (frames_in term low bytes starts)) (sym st.same) a);
+        }
 
 pub none_there : (term low : ℕ) (bytes starts units : List ℕ) (p : ℕ) → IsRing term low bytes starts units (frames_in term low bytes starts) → holds starts (p % (3 * term) / 32) ≡ false → StartsAt (frames_in term low bytes starts) p → ⊥
 none_there term low bytes starts units p k bit (s, a, e) =

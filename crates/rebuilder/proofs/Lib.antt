@@ -9,3 +9,5 @@ pub mod Places
 pub mod Spelled
 pub mod Rings
 pub mod Finds
+pub mod Heads
+pub mod Shown

@@ -22,6 +22,15 @@ shifted m x d some few =
     far : m ≤ x % m + d → x + d ≡ (x / m + 1) * m + (x % m + d - m)
     far high = omega (arith, div-add-mod' x m)
 
+-- the place of a position at most one round above another whose place is known
+pub place_near : (m low position place : ℕ) → 0 < m → low ≤ position → position ≤ low + m → place ≡ low % m → (place + (position - low) < m → place + (position - low) ≡ position % m) × (m ≤ place + (position - low) → place + (position - low) - m ≡ position % m)
+place_near m low position place some from near at =
+    let further : low + (position - low) ≡ position = omega arith in
+    ⊎_elim
+    (λ (e : (low + (position - low)) % m ≡ low % m + (position - low)). let there : position % m ≡ low % m + (position - low) = ap (λ z. z % m) (sym further) ∙ e in (λ l. omega arith, λ l. omega arith))
+    (λ (e : (low + (position - low)) % m + m ≡ low % m + (position - low)). let there : position % m + m ≡ low % m + (position - low) = ap (λ z. z % m + m) (sym further) ∙ e in (λ l. omega arith, λ l. omega arith))
+    (shifted m low (position - low) some (omega arith))
+
 -- two pieces have no byte in common
 abbrev pub Apart : ℕ → ℕ → ℕ → ℕ → ℕ → Type 0
 Apart m x n y k = (x % m + n ≤ y % m) ⊎ (y % m + k ≤ x % m)

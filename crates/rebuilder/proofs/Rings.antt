@@ -15,9 +15,10 @@ use Rattle.theory.specs.Wire.{Wire, IsFrame, spelling}
 use Rattle.theory.specs.ImageLaws.{held}
 use Rattle.theory.proofs.Held.{among_held, held_among}
 use Rattle.theory.proofs.Lists.{all_at, all_from, all_weaker, any_false}
+use Rattle.frames.specs.Fronts.{IsStreamWire}
 use Rattle.frames.specs.Reading.{reading}
 use Rattle.rebuilder.specs.Held.{put}
-use Rattle.rebuilder.specs.Ring.{IsRing, Ring, IsStreamWire, IsUnitBit, MayPut, StandsAt, found, frame_in, frame_read, frames_in, listed, with_bytes}
+use Rattle.rebuilder.specs.Ring.{IsRing, Ring, IsUnitBit, MayPut, StandsAt, found, frame_in, frame_read, frames_in, listed, with_bytes}
 use Rattle.rebuilder.proofs.Listed.{among_listed, listed_among, listed_held, listed_put}
 use Rattle.rebuilder.proofs.Order.{all_put, at_least, order_held, order_put, raise}
 use Rattle.rebuilder.proofs.Places.{Apart, apart_places, in_ring, inside_place, other_unit, shifted, unit_place}
@@ -43,10 +44,10 @@ found_bit size bytes starts p f e =
 -- ---- what a ring's frames are
 
 pub stand_long : (term low : ℕ) (bytes : List ℕ) (s : Placed) → StandsAt term low bytes s → 32 ≤ frame_length s.frame
-stand_long term low bytes s t = subst (λ (f : Frame). 32 ≤ frame_length f) t.same (wire_long t.wire t.spelled.spelled.0 t.of_stream)
+stand_long term low bytes s t = subst (λ (f : Frame). 32 ≤ frame_length f) t.same (wire_long t.wire t.begins.spelled.spelled.0 t.begins.of_stream)
 
 pub stand_short : (term low : ℕ) (bytes : List ℕ) (s : Placed) (t : StandsAt term low bytes s) → length (spelling t.wire) ≤ covered s
-stand_short term low bytes s t = subst (λ (f : Frame). length (spelling t.wire) ≤ covered (record { at = s.at; frame = f })) t.same (wire_short t.wire t.spelled.spelled.0 t.of_stream)
+stand_short term low bytes s t = subst (λ (f : Frame). length (spelling t.wire) ≤ covered (record { at = s.at; frame = f })) t.same (wire_short t.wire t.begins.spelled.spelled.0 t.begins.of_stream)
 
 pub full_ring : (term low : ℕ) (bytes : List ℕ) (frames : List Placed) → AllByRecursion (StandsAt term low bytes) frames → AreFull frames
 full_ring term low bytes frames stand = all_weaker (StandsAt term low bytes) (λ s. 0 < covered s) (λ s t. let long : 32 ≤ frame_length s.frame = stand_long term low bytes s t in omega arith) frames stand
@@ -82,9 +83,8 @@ stand_kept term low bytes front s t some size short in_term from near from_t apa
       in_term = st.in_term;
       near = st.near;
       wire = st.wire;
-      of_stream = st.of_stream;
       same = st.same;
-      spelled = front_kept bytes front (s.at % (3 * term)) (t.at % (3 * term)) (length (spelling st.wire)) st.wire (omega arith) clear st.spelled;
+      begins = front_kept bytes front (s.at % (3 * term)) (t.at % (3 * term)) st.wire (omega arith) clear st.begins;
     }
 
 -- what a put writes
@@ -138,7 +138,7 @@ put_others term low bytes starts units new_starts new_units s w p k may puts uni
     let a : Among f (frames_in term low bytes starts) = bit_frame term low bytes starts p k.whole k.from unit l h t in
     let st : StandsAt term low bytes f = all_at (StandsAt term low bytes) f (frames_in term low bytes starts) k.stand a in
     let st2 : StandsAt term low bytes2 f = stand_kept term low bytes (spelling w) s f (omega arith) k.size short may.in_term from near l (apart_from (frames_in term low bytes starts) s f may.free a) st in
-    found_here (3 * term) bytes2 new_starts p (bit ∙ t) ∙ ap Some (read_there (drop (p % (3 * term)) bytes2) st2.wire (length (spelling st2.wire)) st2.spelled ∙ st2.same) ∙ sym (found_here (3 * term) bytes starts p t))
+    found_here (3 * term) bytes2 new_starts p (bit ∙ t) ∙ ap Some (read_there (drop (p % (3 * term)) bytes2) st2.wire st2.begins ∙ st2.same) ∙ sym (found_here (3 * term) bytes starts p t))
     (λ (n : holds starts u ≡ false). found_none (3 * term) bytes2 new_starts p (bit ∙ n) ∙ sym (found_none (3 * term) bytes starts p n))
     (cases_Bool (holds starts u))
 
@@ -151,7 +151,7 @@ put_list term low bytes starts units new_starts new_units s w k may puts =
     let short : length (spelling w) ≤ covered s = put_short s w puts.frame puts.of_stream puts.same in
     let fits : s.at % (3 * term) + covered s ≤ 3 * term = in_ring term s.at (covered s) (omega arith) may.in_term in
     let bytes2 : List ℕ = with_bytes bytes (s.at % (3 * term)) (spelling w) in
-    let there : found (3 * term) bytes2 new_starts s.at ≡ Some s.frame = found_here (3 * term) bytes2 new_starts s.at (puts.starts_set.inside (s.at % (3 * term) / 32) (omega arith) (omega arith)) ∙ ap Some (read_there (drop (s.at % (3 * term)) bytes2) w (length (spelling w)) (front_written bytes (s.at % (3 * term)) w puts.frame (omega (arith, k.size))) ∙ puts.same) in
+    let there : found (3 * term) bytes2 new_starts s.at ≡ Some s.frame = found_here (3 * term) bytes2 new_starts s.at (puts.starts_set.inside (s.at % (3 * term) / 32) (omega arith) (omega arith)) ∙ ap Some (read_there (drop (s.at % (3 * term)) bytes2) w (front_written bytes (s.at % (3 * term)) w puts.frame puts.of_stream (omega (arith, k.size))) ∙ puts.same) in
     listed_put (found (3 * term) bytes starts) (found (3 * term) bytes2 new_starts) (3 * term / 32) low ((s.at - low) / 32) s k.order (full_ring term low bytes (frames_in term low bytes starts) k.stand) (omega arith)
     (λ t a. apart_from (frames_in term low bytes starts) s t may.free a)
     (omega (arith, units_in term k.whole)) (omega (arith, may.unit, k.from))
@@ -205,7 +205,7 @@ put_ring term low bytes starts units new_starts new_units s w k may puts =
     let fits : s.at % (3 * term) + covered s ≤ 3 * term = in_ring term s.at (covered s) (omega arith) may.in_term in
     let bytes2 : List ℕ = with_bytes bytes (s.at % (3 * term)) (spelling w) in
     let old : List Placed = frames_in term low bytes starts in
-    let spelled = front_written bytes (s.at % (3 * term)) w puts.frame (omega (arith, k.size)) in
+    let begins = front_written bytes (s.at % (3 * term)) w puts.frame puts.of_stream (omega (arith, k.size)) in
     record {
       whole = k.whole;
       some = k.some;
@@ -216,7 +216,7 @@ put_ring term low bytes starts units new_starts new_units s w k may puts =
       unit_words = ap (λ n. 2048 * n) puts.units_set.same_length ∙ k.unit_words;
       order = order_put low s old (omega arith) from (λ t a. apart_from old s t may.free a) k.order;
       stand = all_put (StandsAt term low bytes2) s old
-          (record { unit = may.unit; in_term = may.in_term; near = may.near; wire = w; of_stream = puts.of_stream; same = puts.same; spelled = spelled })
+          (record { unit = may.unit; in_term = may.in_term; near = may.near; wire = w; same = puts.same; begins = begins })
           (all_from (StandsAt term low bytes2) old (λ t a. stand_kept term low bytes (spelling w) s t (omega arith) k.size short may.in_term from near (at_least low old t k.order a) (apart_from old s t may.free a) (all_at (StandsAt term low bytes) t old k.stand a)));
       bits = put_bits term low bytes starts units new_starts new_units s w k may puts;
     }
@@ -335,7 +335,7 @@ forget_ring term low m bytes starts units new_starts new_units k f =
       stand = all_from (StandsAt term m bytes) (held m old) (λ t a.
           let st : StandsAt term low bytes t = all_at (StandsAt term low bytes) t old k.stand (among_held m old t a).0 in
           let near : end_of t ≤ low + 3 * term = st.near in
-          record { unit = st.unit; in_term = st.in_term; near = omega arith; wire = st.wire; of_stream = st.of_stream; same = st.same; spelled = st.spelled });
+          record { unit = st.unit; in_term = st.in_term; near = omega arith; wire = st.wire; same = st.same; begins = st.begins });
       bits = forget_bits term low m bytes starts units new_starts new_units k f;
     }
 

@@ -6,11 +6,11 @@ use Rattle.theory.specs.Placed.{frame_length}
 use Rattle.theory.specs.Position.{aligned}
 use Rattle.theory.specs.Wire.{Wire, DATA, PAD, HEARTBEAT, NAK, SM, SETUP, IsFrame, spelling}
 use Rattle.theory.proofs.Lengths.{data_size}
-use Rattle.frames.specs.Fronts.{FrontSpells}
+use Rattle.frames.specs.Fronts.{BeginsWith, FrontSpells, IsStreamWire}
 use Rattle.frames.specs.Reading.{reading}
 use Rattle.frames.proofs.FrameSteps.{front_spells}
 use Rattle.frames.proofs.Laws.{front_read}
-use Rattle.rebuilder.specs.Ring.{IsStreamWire, frame_in, frame_read, with_bytes}
+use Rattle.rebuilder.specs.Ring.{frame_in, frame_read, with_bytes}
 
 pub length-with_bytes : (bytes front : List ℕ) (o : ℕ) → o + length front ≤ length bytes → length (with_bytes bytes o front) ≡ length bytes
 length-with_bytes bytes front o l = omega (arith, length-append (take o bytes) (front ++ drop (o + length front) bytes), length-append front (drop (o + length front) bytes), length-drop (o + length front) bytes, length-take-le o bytes (omega arith))
@@ -37,23 +37,28 @@ kept_bytes bytes front o q n l (inr h) =
     ∙ drop-drop (q - o - length front) (o + length front) bytes
     ∙ ap (λ k. drop k bytes) (sym back))
 
-pub front_kept : (bytes front : List ℕ) (o q n : ℕ) (w : Wire) → o + length front ≤ length bytes → (q + n ≤ o) ⊎ (o + length front ≤ q) → FrontSpells (drop q bytes) w n → FrontSpells (drop q (with_bytes bytes o front)) w n
-front_kept bytes front o q n w l apart f =
-    let within : n ≤ length (drop q bytes) = f.within in
+pub front_kept : (bytes front : List ℕ) (o q : ℕ) (w : Wire) → o + length front ≤ length bytes → (q + length (spelling w) ≤ o) ⊎ (o + length front ≤ q) → BeginsWith (drop q bytes) w → BeginsWith (drop q (with_bytes bytes o front)) w
+front_kept bytes front o q w l apart b =
+    let f : FrontSpells (drop q bytes) w (length (spelling w)) = b.spelled in
+    let within : length (spelling w) ≤ length (drop q bytes) = f.within in
     record {
-      within = omega (arith, length-drop q bytes, length-drop q (with_bytes bytes o front), length-with_bytes bytes front o l);
-      spelled = (f.spelled.0, kept_bytes bytes front o q n l apart ∙ f.spelled.1);
+      of_stream = b.of_stream;
+      spelled = record {
+        within = omega (arith, length-drop q bytes, length-drop q (with_bytes bytes o front), length-with_bytes bytes front o l);
+        spelled = (f.spelled.0, kept_bytes bytes front o q (length (spelling w)) l apart ∙ f.spelled.1);
+      };
     }
 
-pub front_written : (bytes : List ℕ) (o : ℕ) (w : Wire) → IsFrame w → o + length (spelling w) ≤ length bytes → FrontSpells (drop o (with_bytes bytes o (spelling w))) w (length (spelling w))
-front_written bytes o w is l =
+pub front_written : (bytes : List ℕ) (o : ℕ) (w : Wire) → IsFrame w → IsStreamWire w → o + length (spelling w) ≤ length bytes → BeginsWith (drop o (with_bytes bytes o (spelling w))) w
+front_written bytes o w is of l =
     let size : length (take o bytes) ≡ o = length-take-le o bytes (omega arith) in
-    front_spells w (drop o (with_bytes bytes o (spelling w))) (drop (o + length (spelling w)) bytes) is
-    (ap (λ k. drop k (with_bytes bytes o (spelling w))) (sym size) ∙ drop-append_seam (take o bytes) (spelling w ++ drop (o + length (spelling w)) bytes))
+    let spelled : FrontSpells (drop o (with_bytes bytes o (spelling w))) w (length (spelling w)) = front_spells w (drop o (with_bytes bytes o (spelling w))) (drop (o + length (spelling w)) bytes) is
+    (ap (λ k. drop k (with_bytes bytes o (spelling w))) (sym size) ∙ drop-append_seam (take o bytes) (spelling w ++ drop (o + length (spelling w)) bytes)) in
+    record { of_stream = of; spelled = spelled }
 
 -- what is spelled is read
-pub read_there : (bytes : List ℕ) (w : Wire) (n : ℕ) → FrontSpells bytes w n → frame_read (reading bytes) ≡ frame_in w
-read_there bytes w n f = ap frame_read (front_read bytes w n f)
+pub read_there : (bytes : List ℕ) (w : Wire) → BeginsWith bytes w → frame_read (reading bytes) ≡ frame_in w
+read_there bytes w b = ap frame_read (front_read bytes w (length (spelling w)) b.spelled)
 
 -- ---- the frames of a stream
 

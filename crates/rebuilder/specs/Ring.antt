@@ -1,14 +1,14 @@
 -- Frames in the bytes of three cyclic terms: position p stands at p mod their length.
-use Rattle.std.specs.Prelude.{◌≡◌, ℕ, zero, suc, ◌+◌, ◌*◌, ◌/◌, ◌%◌, ◌^◌, ◌<◌, ◌≤◌, ◌↔◌, ⊤, false, true, List, [], ◌∷◌, ◌++◌, length, map, take, drop, if◌then◌else◌, Option, None, Some, Result, Ok, Err}
+use Rattle.std.specs.Prelude.{◌≡◌, ℕ, zero, suc, ◌+◌, ◌*◌, ◌/◌, ◌%◌, ◌^◌, ◌<◌, ◌≤◌, ◌↔◌, false, true, List, [], ◌∷◌, ◌++◌, length, map, take, drop, if◌then◌else◌, Option, None, Some, Result, Ok, Err}
 use Rattle.std.specs.Int.{bit_at}
 use Rattle.std.specs.List.{AllByRecursion, list_any}
 use Rattle.occupancy.specs.Bits.{holds}
 use Rattle.theory.specs.Insert.{head_of, overlaps}
 use Rattle.theory.specs.Placed.{Among, Frame, Data, Pad, Placed, covered, end_of}
 use Rattle.theory.specs.Units.{HasUnit}
-use Rattle.theory.specs.Wire.{Wire, DATA, PAD, HEARTBEAT, NAK, SM, SETUP, spelling}
+use Rattle.theory.specs.Wire.{Wire, DATA, PAD, HEARTBEAT, NAK, SM, SETUP}
 use Rattle.frames.specs.declared.fault.FrameError.{FrameError}
-use Rattle.frames.specs.Fronts.{FrontSpells}
+use Rattle.frames.specs.Fronts.{BeginsWith}
 use Rattle.frames.specs.Reading.{reading}
 use Rattle.rebuilder.specs.Held.{AreInOrder}
 
@@ -18,16 +18,7 @@ pub record Ring : Type 0 where
   pub low : ℕ
   pub frames : List Placed
 
--- a frame that stands in a stream: DATA or a padding
-abbrev pub IsStreamWire : Wire → Type 0
-IsStreamWire (DATA header flags payload) = ⊤
-IsStreamWire (PAD header n) = ⊤
-IsStreamWire (HEARTBEAT header) = ⊥
-IsStreamWire (NAK f) = ⊥
-IsStreamWire (SM asks f) = ⊥
-IsStreamWire (SETUP f) = ⊥
-
--- such a frame, without its header; what the others are doesn't matter
+-- a frame of a stream, without its header; what the others are doesn't matter
 abbrev pub frame_in : Wire → Frame
 frame_in (DATA header flags payload) = Data flags payload
 frame_in (PAD header n) = Pad n
@@ -67,9 +58,8 @@ pub record StandsAt (term low : ℕ) (bytes : List ℕ) (s : Placed) : Type 0 wh
   pub in_term : s.at % term + covered s ≤ term
   pub near : end_of s ≤ low + 3 * term
   pub wire : Wire
-  pub of_stream : IsStreamWire wire
   pub same : frame_in wire ≡ s.frame
-  pub spelled : FrontSpells (drop (s.at % (3 * term)) bytes) wire (length (spelling wire))
+  pub begins : BeginsWith (drop (s.at % (3 * term)) bytes) wire
 
 -- the bit of a unit, which frames have
 abbrev pub IsUnitBit : ℕ → List ℕ → List Placed → ℕ → Type 0
@@ -86,6 +76,15 @@ pub record IsRing (term low : ℕ) (bytes starts units : List ℕ) (frames : Lis
   pub order : AreInOrder low frames
   pub stand : AllByRecursion (StandsAt term low bytes) frames
   pub bits : (p : ℕ) → p % 32 ≡ 0 → low ≤ p → p < low + 3 * term → IsUnitBit term units frames p
+
+-- and its first position stands at this place
+pub record IsRingAt (term low first : ℕ) (bytes starts units : List ℕ) (frames : List Placed) : Type 0 where
+  pub ring : IsRing term low bytes starts units frames
+  pub place : first ≡ low % (3 * term)
+
+-- a position from the first one on, at most three terms above it
+abbrev pub IsNear : Ring → ℕ → Type 0
+IsNear r p = (r.low ≤ p) × (p ≤ r.low + 3 * r.term_length)
 
 -- one more frame that fits
 pub record MayPut (r : Ring) (s : Placed) : Type 0 where

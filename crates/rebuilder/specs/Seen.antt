@@ -2,7 +2,7 @@
 use Rattle.std.specs.Prelude.{◌≡◌, ℕ, ◌+◌, ◌-◌, ◌*◌, ◌%◌, ◌^◌, ◌<◌, ◌≤◌, Bool, false, ℤ, pos, negsuc, List, [], ◌∷◌, map, length, min, max, nat_lt, slice_set}
 use Rattle.std.specs.List.{AllByRecursion, fold, list_any}
 use Rattle.theory.specs.Position.{Geometry, IsGeometry, max_position}
-use Rattle.theory.specs.Placed.{Among, IsReached, Placed, covered, end_of, frame_length, payload_of}
+use Rattle.theory.specs.Placed.{Among, Frame, IsReached, Placed, covered, end_of, frame_length, payload_of}
 use Rattle.theory.specs.Insert.{head_of, overlaps}
 use Rattle.theory.specs.Image.{IsWindow, is_accepted}
 use Rattle.theory.specs.ImageLaws.{held}
@@ -98,7 +98,13 @@ abbrev pub crosses : ℕ → ℤ → ℕ → Bool
 crosses term_length (pos p) bytes = nat_lt term_length (p % term_length + bytes)
 crosses term_length (negsuc n) bytes = nat_lt term_length (term_length - 1 - n % term_length + bytes)
 
--- the frame that starts at p is shown by this head, and its payload stands in front of the block's other bytes
+-- the frame that starts at p is shown by this head
+pub record HasHead (frames : List Placed) (p : ℕ) (head : FrameHead) : Type 0 where
+  pub frame : Frame
+  pub among : Among (record { at = p; frame = frame }) frames
+  pub shown : head ≡ head_at p frame
+
+-- the same, and its payload stands in front of the block's other bytes
 abbrev pub IsShown : List Placed → ℕ → List ℕ → FrameHead → List ℕ → Type 0
 IsShown frames p before head after =
     (s : Placed) × Among s frames × (s.at ≡ p) × (head ≡ head_at p s.frame) × (after ≡ with_front before (payload_of s.frame))

@@ -1,16 +1,18 @@
 //! Frames of a stream: what is kept of one, and what is shown.
-ghost use Rattle.std.specs.Prelude.{◌≡◌, ◌≤◌, ◌^◌, ◌&&◌, length, nat_eq};
+ghost use Rattle.std.specs.Prelude.{◌≡◌, ◌≤◌, ◌^◌, ◌&&◌, nat_eq, if◌then◌else◌};
 ghost use Rattle.theory.specs.Insert.{same_kind};
-ghost use Rattle.theory.specs.Placed.{frame_length, is_padding, payload_of};
+ghost use Rattle.theory.specs.Placed.{frame_length, is_padding};
 ghost use Rattle.theory.specs.Position.{aligned};
-ghost use Rattle.theory.specs.Wire.{IsFrame};
+ghost use Rattle.theory.specs.Wire.{IsFrame, Wire};
+ghost use Rattle.frames.specs.Fronts.{BeginsWith};
 ghost use Rattle.frames.specs.Frames.{wire};
-ghost use Rattle.position.specs.declared.head.FrameKind.TheVariants.{Data};
+ghost use Rattle.position.specs.declared.head.FrameKind.TheVariants.{Data, Pad};
 ghost use Rattle.rebuilder.specs.Kinds.{head_at, is_pad};
+ghost use Rattle.rebuilder.specs.Ring.{frame_in};
 ghost use Rattle.rebuilder.specs.Stored.{IsOfStream, stream_frame};
 
-use frames::Frame;
-use position::{FrameHead, FrameKind, UNFRAGMENTED, align32};
+use frames::{Frame, front_of};
+use position::{FrameHead, FrameKind, align32};
 
 /// The kind and the length of a frame of a stream.
 pub(crate) fn measure(frame: &Frame<'_>) -> (FrameKind, u32)
@@ -40,45 +42,36 @@ pub(crate) fn covered(frame: &Frame<'_>) -> u32
     align32(frame_length)
 }
 
-/// Whether it has this kind and length.
-pub(crate) fn is_like(frame: &Frame<'_>, kind: FrameKind, length: u32) -> bool
-    requires frame { IsFrame (wire frame.now) }
-    requires stored { IsOfStream frame.now }
-    ensures { result ≡ (same_kind (is_pad kind) (is_padding (stream_frame frame.now)) && nat_eq length (frame_length (stream_frame frame.now))) }
+fn kind_of(is_padding: bool) -> FrameKind
+    ensures { result ≡ (if is_padding then Pad else Data) }
 {
-    let (own_kind, own_length) = measure(frame);
-    kind == own_kind && length == own_length
+    if is_padding {
+        FrameKind::Pad
+    } else {
+        FrameKind::Data
+    }
 }
 
-/// What a reader is shown of it, where it starts at this position.
-pub(crate) fn head(start: u64, frame: &Frame<'_>) -> FrameHead
-    requires frame { IsFrame (wire frame.now) }
-    requires stored { IsOfStream frame.now }
-    ensures value { result ≡ head_at start (stream_frame frame.now) }
-    ensures data { result.kind ≡ Data → (32 ≤ result.frame_length) × (result.frame_length ≤ 65504) }
+/// What a reader is shown of the frame that the bytes begin with, where it starts at this position.
+pub(crate) fn read_head(start: u64, bytes: &[u8]) -> FrameHead
+    requires { (w : Wire) × BeginsWith bytes.now w }
+    ensures value { (w : Wire) → BeginsWith bytes.now w → result ≡ head_at start (frame_in w) }
+    ensures least { 32 ≤ result.frame_length }
+    ensures greatest { result.frame_length ≤ 2 ^ 24 }
+    ensures data { result.kind ≡ Data → result.frame_length ≤ 65504 }
 {
-    let (kind, frame_length) = measure(frame);
-    let flags = match *frame {
-        Frame::Data { flags, .. } => flags,
-        _ => UNFRAGMENTED,
-    };
+    let front = front_of(bytes);
     FrameHead {
         start,
-        kind,
-        flags,
-        frame_length,
+        kind: kind_of(front.is_padding),
+        flags: front.flags,
+        frame_length: front.frame_length,
     }
 }
 
-/// The bytes behind its header.
-pub(crate) fn payload<'a>(frame: &Frame<'a>) -> &'a [u8]
-    requires frame { IsFrame (wire frame.now) }
-    requires stored { IsOfStream frame.now }
-    ensures value { result.now ≡ payload_of (stream_frame frame.now) }
-    ensures room { length result.now ≤ 65472 }
+/// Whether it is of this kind and length.
+pub(crate) fn is_like(head: &FrameHead, kind: FrameKind, length: u32) -> bool
+    ensures { result ≡ (same_kind (is_pad kind) (is_pad head.now.kind) && nat_eq length head.now.frame_length) }
 {
-    match *frame {
-        Frame::Data { payload, .. } => payload,
-        _ => &[],
-    }
+    kind == head.kind && length == head.frame_length
 }

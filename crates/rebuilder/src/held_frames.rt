@@ -1,21 +1,24 @@
 //! Frames in the bytes of three terms, and their bits.
-ghost use Rattle.std.specs.Prelude.{◌≡◌, ◌+◌, ◌-◌, ◌*◌, ◌%◌, ◌<◌, ◌≤◌, ◌^◌, ◌&&◌, ◌++◌, nat_lt, length, map, [], IfOk, IfSome, MatchOption, slice_index};
+ghost use Rattle.std.specs.Prelude.{◌≡◌, ◌+◌, ◌-◌, ◌*◌, ◌%◌, ◌<◌, ◌≤◌, ◌^◌, ◌&&◌, ◌++◌, drop, nat_lt, length, map, [], IfOk, IfSome, MatchOption, slice_index};
 ghost use Rattle.std.specs.List.{AllByRecursion, list_any};
-ghost use Rattle.theory.specs.Placed.{Among, Placed, covered as cover, end_of};
+ghost use Rattle.theory.specs.Placed.{Placed, end_of};
 ghost use Rattle.theory.specs.Insert.{Head, head_end, head_of, is_duplicate};
 ghost use Rattle.theory.specs.ImageLaws.{held};
 ghost use Rattle.theory.specs.Wire.{IsFrame, spelling};
+ghost use Rattle.block.specs.Bytes.{with_front};
 ghost use Rattle.frames.specs.Frames.{wire};
+ghost use Rattle.position.specs.declared.head.FrameKind.TheVariants.{Data};
 ghost use Rattle.rebuilder.specs.Held.{AreLaid, IsRunEnd, StartsAt, put};
 ghost use Rattle.rebuilder.specs.Kinds.{is_pad};
-ghost use Rattle.rebuilder.specs.Ring.{IsPiece, MayForget, MayPut, TellsUnits, with_bytes};
+ghost use Rattle.rebuilder.specs.Ring.{IsNear, IsPiece, MayForget, MayPut, TellsUnits, with_bytes};
+ghost use Rattle.rebuilder.specs.Seen.{HasHead, IsShown};
 ghost use Rattle.rebuilder.specs.Stored.{IsOfStream, stream_frame};
 
-use crate::held::{covered, is_like};
+use crate::held::{covered, is_like, read_head};
 use block::Block;
-use frames::{Frame, read_frame, write_frame};
+use frames::{Frame, payload_of, write_frame};
 use occupancy::Occupancy;
-use position::FrameKind;
+use position::{FrameHead, FrameKind, align32};
 use std::alloc::{AllocError, Global};
 use std::marker::Model;
 
@@ -25,6 +28,8 @@ pub struct HeldFrames {
     term_length: u32,
     /// The position from which on frames are held, a multiple of 32.
     low: u64,
+    /// Where that position stands.
+    low_place: usize,
     bytes: Block,
     /// The units at which a frame starts.
     starts: Occupancy,
@@ -33,13 +38,13 @@ pub struct HeldFrames {
 }
 
 impl Model for HeldFrames {
-    ghost use Rattle.rebuilder.specs.Ring.{IsRing, Ring, frames_in};
+    ghost use Rattle.rebuilder.specs.Ring.{IsRingAt, Ring, frames_in};
 
     ghost Value = { Ring };
 
     ghost view = { λ h. record { term_length = h.term_length; low = h.low; frames = frames_in h.term_length h.low h.bytes h.starts } };
 
-    ghost invariant = { λ h. IsRing h.term_length h.low h.bytes h.starts h.units (frames_in h.term_length h.low h.bytes h.starts) };
+    ghost invariant = { λ h. IsRingAt h.term_length h.low h.low_place h.bytes h.starts h.units (frames_in h.term_length h.low h.bytes h.starts) };
 }
 
 /// Writes a frame among bytes, from a place on.
@@ -49,6 +54,23 @@ fn write_at(bytes: &mut [u8], place: usize, frame: &Frame<'_>)
     ensures { bytes.new ≡ with_bytes bytes.old place (spelling (wire frame.now)) }
 {
     write_frame(frame, &mut bytes[place..]);
+}
+
+/// Writes bytes over the front of others.
+fn put_front(bytes: &mut [u8], front: &[u8])
+    requires { length front.now ≤ length bytes.old }
+    ensures { bytes.new ≡ front.now ++ drop (length front.now) bytes.old }
+{
+    bytes[..front.len()].copy_from_slice(front);
+}
+
+/// Writes bytes over a block's front.
+#[tactic(auto, using(crate::proofs::Fronts::front_again))]
+fn write_front(block: &mut Block, front: &[u8])
+    requires { length front.now ≤ length block.old }
+    ensures { block.new ≡ with_front block.old front.now }
+{
+    put_front(block.bytes_mut(), front);
 }
 
 /// Writes a frame among a block's bytes.
@@ -74,24 +96,27 @@ impl HeldFrames {
         Ok(HeldFrames {
             term_length,
             low,
+            low_place: (low % (3 * u64::from(term_length))) as usize,
             bytes: Block::new(alloc, size)?,
             starts: Occupancy::new(alloc, size / 2048)?,
             units: Occupancy::new(alloc, size / 2048)?,
         })
     }
 
-    /// Where a position stands.
+    /// Where a position stands, counted from where the first one does.
     fn place(&self, position: u64) -> usize
+        requires { IsNear self.now position }
         ensures { result ≡ position % (3 * self.now.term_length) }
     {
-        (position % (3 * u64::from(self.term_length))) as usize
+        let size = 3 * self.term_length as usize;
+        let place = self.low_place + (position - self.low) as usize;
+        if place < size { place } else { place - size }
     }
 
-    /// The frame that starts there.
-    pub fn get(&self, start: u64) -> Option<Frame<'_>>
+    /// The place of the frame that starts at a position.
+    fn seek(&self, start: u64) -> Option<usize>
         requires { start % 32 ≡ 0 }
-        ensures found { MatchOption result (StartsAt self.now.frames start → ⊥) (λ f. Among (record { at = start; frame = stream_frame f }) self.now.frames) }
-        ensures legal { IfSome result (λ f. IsFrame (wire f) × IsOfStream f) }
+        ensures { MatchOption result (StartsAt self.now.frames start → ⊥) (λ place. (place ≡ start % (3 * self.now.term_length)) × StartsAt self.now.frames start) }
     {
         if start < self.low || start - self.low >= 3 * u64::from(self.term_length) {
             return None;
@@ -100,9 +125,35 @@ impl HeldFrames {
         if !self.starts.holds(place / 32) {
             return None;
         }
-        match read_frame(&self.bytes.bytes()[place..]) {
-            Ok((frame, _)) => Some(frame),
-            Err(_) => unreachable!(),
+        Some(place)
+    }
+
+    /// What a reader is shown of the frame that starts there.
+    pub fn head(&self, start: u64) -> Option<FrameHead>
+        requires { start % 32 ≡ 0 }
+        ensures found { MatchOption result (StartsAt self.now.frames start → ⊥) (λ head. HasHead self.now.frames start head) }
+        ensures legal { IfSome result (λ head. (32 ≤ head.frame_length) × (head.frame_length ≤ 2 ^ 24)) }
+    {
+        match self.seek(start) {
+            Some(place) => Some(read_head(start, &self.bytes.bytes()[place..])),
+            None => None,
+        }
+    }
+
+    /// Shows the frame that starts there: its payload is copied to the block's front.
+    pub fn show(&self, start: u64, block: &mut Block) -> Option<FrameHead>
+        requires unit { start % 32 ≡ 0 }
+        requires room { 65472 ≤ length block.old }
+        ensures shown { MatchOption result ((StartsAt self.now.frames start → ⊥) × (block.new ≡ block.old)) (λ head. IsShown self.now.frames start block.old head block.new) }
+        ensures data { IfSome result (λ head. head.kind ≡ Data → (32 ≤ head.frame_length) × (head.frame_length ≤ 65504)) }
+    {
+        match self.seek(start) {
+            Some(place) => {
+                let bytes = &self.bytes.bytes()[place..];
+                write_front(block, payload_of(bytes));
+                Some(read_head(start, bytes))
+            }
+            None => None,
         }
     }
 
@@ -112,8 +163,8 @@ impl HeldFrames {
         requires laid { AreLaid self.now.frames }
         ensures { result ≡ list_any (is_duplicate (record { at = start; padding = is_pad kind; length = frame_length })) (map head_of self.now.frames) }
     {
-        match self.get(start) {
-            Some(frame) => is_like(&frame, kind, frame_length),
+        match self.head(start) {
+            Some(head) => is_like(&head, kind, frame_length),
             None => false,
         }
     }
@@ -142,8 +193,8 @@ impl HeldFrames {
         ensures { IsRunEnd self.now.frames position result }
     {
         let mut end = position;
-        while let Some(frame) = self.get(end) {
-            end += u64::from(covered(&frame));
+        while let Some(head) = self.head(end) {
+            end += u64::from(align32(head.frame_length));
         }
         end
     }
@@ -167,10 +218,12 @@ impl HeldFrames {
         requires { MayForget self.old position }
         ensures { self.new ≡ record self.old { low = position; frames = held position self.old.frames } }
     {
-        let unit = self.place(self.low) / 32;
+        let unit = self.low_place / 32;
         let count = (position - self.low) as usize / 32;
+        let place = self.place(position);
         self.starts.clear_around(unit, count);
         self.units.clear_around(unit, count);
         self.low = position;
+        self.low_place = place;
     }
 }

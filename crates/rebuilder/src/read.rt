@@ -1,4 +1,4 @@
-ghost use Rattle.std.specs.Prelude.{◌≡◌, ◌+◌, ◌*◌, ◌/◌, ◌^◌, ◌≤◌, ◌<◌, ◌++◌, drop, length, slice_index, IfSome, MatchOption};
+ghost use Rattle.std.specs.Prelude.{◌≡◌, ◌+◌, ◌*◌, ◌/◌, ◌^◌, ◌≤◌, ◌<◌, length, slice_index, IfSome, MatchOption};
 ghost use Rattle.position.specs.declared.head.FrameKind.TheVariants.{Data};
 ghost use Rattle.block.specs.Bytes.{with_front};
 ghost use Rattle.theory.specs.Placed.{Among, Placed, end_of, payload_of};
@@ -8,28 +8,10 @@ ghost use Rattle.rebuilder.specs.Kinds.{head_at};
 ghost use Rattle.rebuilder.specs.Ring.{TellsUnits};
 ghost use Rattle.rebuilder.specs.Seen.{IsShown, least, with_consumer};
 
-use crate::held::{covered, head, payload};
 use crate::image::{Image, least_of};
 use crate::steps::Steps;
 use block::Block;
-use position::FrameHead;
-
-/// Writes bytes over the front of others.
-fn put_front(bytes: &mut [u8], front: &[u8])
-    requires { length front.now ≤ length bytes.old }
-    ensures { bytes.new ≡ front.now ++ drop (length front.now) bytes.old }
-{
-    bytes[..front.len()].copy_from_slice(front);
-}
-
-/// Writes bytes over a block's front.
-#[tactic(auto, using(crate::proofs::Fronts::front_again))]
-fn write_front(block: &mut Block, front: &[u8])
-    requires { length front.now ≤ length block.old }
-    ensures { block.new ≡ with_front block.old front.now }
-{
-    put_front(block.bytes_mut(), front);
-}
+use position::{FrameHead, align32};
 
 impl Image {
     /// Reads the frame at a consumer's position: its payload is copied to the block's front, and the consumer stays.
@@ -42,13 +24,7 @@ impl Image {
         ensures data { IfSome result (λ head. head.kind ≡ Data → (32 ≤ head.frame_length) × (head.frame_length ≤ 65504)) }
     {
         let start = self.consumers[consumer];
-        match self.frames.get(start) {
-            Some(frame) => {
-                write_front(block, payload(&frame));
-                Some(head(start, &frame))
-            }
-            None => None,
-        }
+        self.frames.show(start, block)
     }
 
     /// Moves a consumer past the frame at its position, where one is held: `read` shows it, and there is one below the
@@ -60,10 +36,10 @@ impl Image {
         ensures moved { self.new ≡ with_consumer self.old consumer result }
     {
         let start = self.consumers[consumer];
-        let Some(frame) = self.frames.get(start) else {
+        let Some(head) = self.frames.head(start) else {
             unreachable!()
         };
-        let end = start + u64::from(covered(&frame));
+        let end = start + u64::from(align32(head.frame_length));
         self.consumers[consumer] = end;
         self.frames.forget_below(least_of(&self.consumers));
         end

@@ -14,6 +14,9 @@ use Rattle.rebuilder.proofs.Rings.{Puts, put_list, put_ring}
 use Rattle.rebuilder.proofs.Spelled.{wire_short}
 use Rattle.rebuilder.proofs.held_frames.HeldFrames.put.Goals as goal
 
+pub place-place-requires : goal.place-place-requires
+place-place-requires c = (c.requires.may.from, omega (arith, c.requires.may.near))
+
 -- what the requirement says of the frame at its place
 room : (term low : ℕ) (bytes starts units : List ℕ) (start place : ℕ) (f : Frame) → IsRing term low bytes starts units (frames_in term low bytes starts) → IsFrame (wire f) → IsOfStream f → MayPut (record { term_length = term; low = low; frames = frames_in term low bytes starts }) (record { at = start; frame = stream_frame f }) → place ≡ start % (3 * term) → (place + length (spelling (wire f)) ≤ length bytes) × (place + covered (record { at = start; frame = stream_frame f }) ≤ 3 * term)
 room term low bytes starts units start place f k is of may at =
@@ -29,15 +32,15 @@ store_at-requires-clause-room c =
     let h = c.self.inside in
     let s : Placed = record { at = c.args.start; frame = stream_frame c.args.frame.now } in
     let place : c.place-place.result ≡ c.args.start % (3 * h.term_length) = c.place-place.ensures ∙ ap (λ (r : Ring). c.args.start % (3 * r.term_length)) (sym c.self.view_is) in
-    (room h.term_length h.low h.bytes h.starts h.units c.args.start c.place-place.result c.args.frame.now c.self.invariant c.requires.frame c.requires.of_stream (subst (λ (r : Ring). MayPut r s) (sym c.self.view_is) c.requires.may) place).0
+    (room h.term_length h.low h.bytes h.starts h.units c.args.start c.place-place.result c.args.frame.now c.self.invariant.ring c.requires.frame c.requires.of_stream (subst (λ (r : Ring). MayPut r s) (sym c.self.view_is) c.requires.may) place).0
 
 pub set-requires-2-clause-within : goal.set-requires-2-clause-within
 set-requires-2-clause-within c =
     let h = c.self.inside in
     let s : Placed = record { at = c.args.start; frame = stream_frame c.args.frame.now } in
     let place : c.place-place.result ≡ c.args.start % (3 * h.term_length) = c.place-place.ensures ∙ ap (λ (r : Ring). c.args.start % (3 * r.term_length)) (sym c.self.view_is) in
-    let fits = (room h.term_length h.low h.bytes h.starts h.units c.args.start c.place-place.result c.args.frame.now c.self.invariant c.requires.frame c.requires.of_stream (subst (λ (r : Ring). MayPut r s) (sym c.self.view_is) c.requires.may) place).1 in
-    omega (arith, fits, c.covered.ensures.value, c.self.invariant.unit_words)
+    let fits = (room h.term_length h.low h.bytes h.starts h.units c.args.start c.place-place.result c.args.frame.now c.self.invariant.ring c.requires.frame c.requires.of_stream (subst (λ (r : Ring). MayPut r s) (sym c.self.view_is) c.requires.may) place).1 in
+    omega (arith, fits, c.covered.ensures.value, c.self.invariant.ring.unit_words)
 
 puts : (c : goal.After-set-2) → Puts c.self.inside.term_length c.self.inside.bytes c.self.inside.starts c.self.inside.units (record { at = c.args.start; frame = stream_frame c.args.frame.now }) (wire c.args.frame.now) c.set.new.self c.set-2.new.self
 puts c =
@@ -62,17 +65,18 @@ invariant_of-self c =
     let h = c.self.inside in
     let s : Placed = record { at = c.args.start; frame = stream_frame c.args.frame.now } in
     let may = subst (λ (r : Ring). MayPut r s) (sym c.self.view_is) c.requires.may in
-    let list = put_list h.term_length h.low h.bytes h.starts h.units _ _ s (wire c.args.frame.now) c.self.invariant may (puts c) in
-    let kept = put_ring h.term_length h.low h.bytes h.starts h.units _ _ s (wire c.args.frame.now) c.self.invariant may (puts c) in
-    subst (λ (b : List ℕ). IsRing h.term_length h.low b c.set.new.self c.set-2.new.self (frames_in h.term_length h.low b c.set.new.self)) (sym (bytes_are c))
-    (subst (λ (fs : List Placed). IsRing h.term_length h.low (with_bytes h.bytes (c.args.start % (3 * h.term_length)) (spelling (wire c.args.frame.now))) c.set.new.self c.set-2.new.self fs) (sym list) kept)
+    let list = put_list h.term_length h.low h.bytes h.starts h.units _ _ s (wire c.args.frame.now) c.self.invariant.ring may (puts c) in
+    let kept = put_ring h.term_length h.low h.bytes h.starts h.units _ _ s (wire c.args.frame.now) c.self.invariant.ring may (puts c) in
+    let ring = subst (λ (b : List ℕ). IsRing h.term_length h.low b c.set.new.self c.set-2.new.self (frames_in h.term_length h.low b c.set.new.self)) (sym (bytes_are c))
+    (subst (λ (fs : List Placed). IsRing h.term_length h.low (with_bytes h.bytes (c.args.start % (3 * h.term_length)) (spelling (wire c.args.frame.now))) c.set.new.self c.set-2.new.self fs) (sym list) kept) in
+    record { ring = ring; place = c.self.invariant.place }
 
 pub returns : goal.returns
 returns c =
     let h = c.self.inside in
     let s : Placed = record { at = c.args.start; frame = stream_frame c.args.frame.now } in
     let may = subst (λ (r : Ring). MayPut r s) (sym c.self.view_is) c.requires.may in
-    let list = put_list h.term_length h.low h.bytes h.starts h.units _ _ s (wire c.args.frame.now) c.self.invariant may (puts c) in
+    let list = put_list h.term_length h.low h.bytes h.starts h.units _ _ s (wire c.args.frame.now) c.self.invariant.ring may (puts c) in
     ap (λ (b : List ℕ). record { term_length = h.term_length; low = h.low; frames = frames_in h.term_length h.low b c.set.new.self }) (bytes_are c)
     ∙ ap (λ (fs : List Placed). record { term_length = h.term_length; low = h.low; frames = fs }) list
     ∙ ap (λ (r : Ring). record { term_length = r.term_length; low = r.low; frames = put s r.frames }) c.self.view_is
