@@ -6,6 +6,7 @@ pub mod Found
 pub mod Written
 pub mod Laws
 pub mod Fronts
+pub mod Known
 pub mod Faults
 pub mod Together
 pub mod OneFault

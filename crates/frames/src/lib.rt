@@ -16,6 +16,6 @@ mod writing;
 pub use datagram::{check_datagram, one_reading, one_spelling};
 pub use fault::FrameError;
 pub use frame::{Frame, Header, Nak, Setup, Status};
-pub use front::{Front, front_of, payload_of};
+pub use front::{Front, front_of, known_frame, payload_of};
 pub use reading::read_frame;
 pub use writing::write_frame;

@@ -234,7 +234,7 @@ fn read_setup(bytes: &[u8]) -> Result<(Frame<'_>, usize), FrameError>
 }
 
 #[tactic(auto, unfolding(crate::specs::Reading::header_at))]
-fn header_at(bytes: &[u8]) -> Header
+pub(crate) fn header_at(bytes: &[u8]) -> Header
     requires { 32 ≤ length bytes.now }
     ensures offset { result.term_offset ≡ field.u32_at bytes.now 8 }
     ensures fields { header_of result ≡ list.header_at bytes.now }
@@ -307,7 +307,7 @@ fn is_zero(bytes: &[u8]) -> bool
 }
 
 /// The least multiple of 32 that is at least `length`.
-fn align32(length: u32) -> u32
+pub(crate) fn align32(length: u32) -> u32
     requires { length ≤ 16777216 }
     ensures value { result ≡ aligned length }
     ensures bound { result ≤ 16777216 }

@@ -71,30 +71,28 @@ fn head_in(word: u64, start: u64) -> FrameHead
     }
 }
 
-/// Stores a word in a block.
+/// Stores a word among bytes.
 #[inline(always)]
-fn put_word(block: &mut Block, at: usize, word: u64)
-    requires inside { at + 8 ≤ length block.old }
-    ensures stored { block.new ≡ take at block.old ++ (take 8 (to_le_bytes w64 word) ++ drop (at + 8) block.old) }
-    ensures same_length { length block.new ≡ length block.old }
+fn put_word(bytes: &mut [u8], at: usize, word: u64)
+    requires inside { at + 8 ≤ length bytes.old }
+    ensures stored { bytes.new ≡ take at bytes.old ++ (take 8 (to_le_bytes w64 word) ++ drop (at + 8) bytes.old) }
+    ensures same_length { length bytes.new ≡ length bytes.old }
 {
-    let bytes = block.bytes_mut();
     bytes[at..at + 8].copy_from_slice(&word.to_le_bytes());
 }
 
-/// Stores a word's first bytes in a block.
+/// Stores a word's first bytes among bytes.
 #[inline(always)]
-fn put_bytes(block: &mut Block, at: usize, word: u64, count: usize)
+fn put_bytes(bytes: &mut [u8], at: usize, word: u64, count: usize)
     requires few { count ≤ 8 }
-    requires inside { at + count ≤ length block.old }
-    ensures stored { block.new ≡ take at block.old ++ (take count (to_le_bytes w64 word) ++ drop (at + count) block.old) }
-    ensures same_length { length block.new ≡ length block.old }
+    requires inside { at + count ≤ length bytes.old }
+    ensures stored { bytes.new ≡ take at bytes.old ++ (take count (to_le_bytes w64 word) ++ drop (at + count) bytes.old) }
+    ensures same_length { length bytes.new ≡ length bytes.old }
 {
     if count == 8 {
-        put_word(block, at, word);
+        put_word(bytes, at, word);
         return;
     }
-    let bytes = block.bytes_mut();
     bytes[at..at + count].copy_from_slice(&word.to_le_bytes()[..count]);
 }
 
@@ -133,6 +131,24 @@ fn word_as<N: Word>(
     words.load::<Reread<N>>(&mut reader.seat, place)
 }
 
+/// Copies the first bytes behind the header of the frame that begins at a position to the front of others.
+fn copy_words(log: &Log, reader: &mut LogReader, start: u64, count: usize, bytes: &mut [u8])
+    requires fits { IsReaderOf log.now reader.old }
+    requires low { start < 2 ^ 56 }
+    requires few { count < 2 ^ 32 }
+    requires inside { count ≤ length bytes.old }
+    ensures rests { Rests reader.old reader.new }
+    ensures copies { Copies reader.old start count bytes.old bytes.new }
+    ensures same_length { length bytes.new ≡ length bytes.old }
+{
+    let mut ring = log.ring();
+    for index in 0..(count + 7) / 8 {
+        let at = 8 * index;
+        let word = word_as::<Brand>(log, &mut ring, reader, start, 4 + index as u64);
+        put_bytes(bytes, at, word, (count - at).min(8));
+    }
+}
+
 /// Copies the first bytes behind the header of the frame that begins at a position to a block's front.
 fn copy(log: &Log, reader: &mut LogReader, start: u64, count: usize, block: &mut Block)
     requires fits { IsReaderOf log.now reader.old }
@@ -143,12 +159,7 @@ fn copy(log: &Log, reader: &mut LogReader, start: u64, count: usize, block: &mut
     ensures copies { Copies reader.old start count block.old block.new }
     ensures same_length { length block.new ≡ length block.old }
 {
-    let mut ring = log.ring();
-    for index in 0..(count + 7) / 8 {
-        let at = 8 * index;
-        let word = word_as::<Brand>(log, &mut ring, reader, start, 4 + index as u64);
-        put_bytes(block, at, word, (count - at).min(8));
-    }
+    copy_words(log, reader, start, count, block.bytes_mut());
 }
 
 /// Stores where the frame ends that the reader has read.

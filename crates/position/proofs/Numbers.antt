@@ -5,7 +5,10 @@ use Rattle.std.proofs.lemmas.Bool.{cases_lt}
 use Rattle.std.proofs.Math.Pow.{pow_mono, pow-lt}
 use Rattle.std.proofs.Math.Nat.{two-pow-succ, mul-le-mul, mul-mod_left, mul-zero, zero-mod}
 use Rattle.std.proofs.lemmas.Nat.{pow-add, mul-mod, div-add-mod'}
-use Rattle.std.specs.Int.{w32, w64, IsPowerOfTwo}
+use Rattle.std.proofs.lemmas.Nat.{and_mask, pow_pos}
+use Rattle.std.proofs.lemmas.Nat.Bits.{bit_at-trailing_zeros, bit_at-pow_other}
+use Rattle.std.specs.Prelude.{bit_and}
+use Rattle.std.specs.Int.{w32, w64, IsPowerOfTwo, bit_at, trailing_zeros}
 use Rattle.std.specs.Int.RustNames.{unsigned_abs}
 use Rattle.theory.specs.Position.{Geometry, count_of, position_of}
 use mir.Val.{to_z, of_z, SFits}
@@ -47,6 +50,30 @@ same_power m n (i, pm) (j, pn) le below =
 -- a position, from the parts that the code multiplies and adds
 pub placed : (g : Geometry) (id offset a b o : ℤ) → a ≡ count_of g id → b ≡ pos g.term_length → o ≡ offset → (a *ℤ b) +ℤ o ≡ position_of g id offset
 placed g id offset a b o ea eb eo = rw (ea, eb, eo) refl
+
+-- the one bit of a power is at its exponent
+one_bit : (k i : ℕ) → bit_at (2 ^ k) i ≡ 1 → i ≡ k
+one_bit k i set =
+    elim (cases_lt i k) [
+      | inl less ↦ absurd (omega (arith, set, bit_at-pow_other k i (λ e. omega (arith, e))))
+      | inr more ↦
+          elim (cases_lt k i) [
+            | inl less ↦ absurd (omega (arith, set, bit_at-pow_other k i (λ e. omega (arith, e))))
+            | inr same ↦ omega arith
+          ]
+    ]
+
+-- a number shifted by the zeros of a power is divided by it
+pub power_shift : (p n : ℕ) → IsPowerOfTwo n → n < 2 ^ 32 → p / 2 ^ trailing_zeros w32 n ≡ p / n
+power_shift p n (k, is) fits =
+    let some : 0 < n = rw is (pow_pos k) in
+    let low = bit_at-trailing_zeros w32 n some fits in
+    let place : trailing_zeros w32 n ≡ k = one_bit k (trailing_zeros w32 n) (ap (λ x. bit_at x (trailing_zeros w32 n)) (sym is) ∙ low.1) in
+    ap (λ j. p / 2 ^ j) place ∙ ap (λ x. p / x) (sym is)
+
+-- the bits below a power are the rest that it leaves
+pub power_mask : (p n : ℕ) → IsPowerOfTwo n → bit_and p (n - 1) ≡ p % n
+power_mask p n (k, is) = ap (λ x. bit_and p (x - 1)) is ∙ and_mask p k ∙ ap (λ x. p % x) (sym is)
 
 multiple : (k m d : ℕ) → m % d ≡ 0 → (k * m) % d ≡ 0
 multiple k m d h = mul-mod k m d ∙ rw (h, mul-zero) (zero-mod d)

@@ -4,7 +4,7 @@ ghost use Rattle.theory.specs.Position as shape;
 ghost use Rattle.theory.specs.Image.{IsWindow};
 
 use crate::fault::GeometryError;
-use crate::lengths::align32;
+use crate::lengths::{align32, split_by};
 use std::marker::Model;
 
 /// The shape of a stream: its term length, its MTU and the id of its first term.
@@ -125,8 +125,8 @@ impl Geometry {
         ensures unit { result % 32 ≡ 0 }
         ensures whole { result % self.now.term_length ≡ 0 }
     {
-        let length = u64::from(self.term_length);
-        position / length * length
+        let (_, offset) = split_by(position, self.term_length);
+        position - u64::from(offset)
     }
 
     /// The most payload bytes of one frame.
@@ -181,11 +181,11 @@ impl Geometry {
         ensures unit { position % 32 ≡ 0 → result.offset % 32 ≡ 0 }
         ensures legal { IsGeometry self.now }
     {
-        let length = u64::from(self.term_length);
         let (count, offset) = if position == self.max_position() {
             (i32::MAX, self.term_length)
         } else {
-            ((position / length) as i32, (position % length) as u32)
+            let (count, offset) = split_by(position, self.term_length);
+            (count as i32, offset)
         };
         Place {
             term_id: self.initial_term_id.wrapping_add(count),

@@ -1,4 +1,5 @@
-ghost use Rattle.std.specs.Prelude.{◌≡◌, ◌%◌, ◌^◌, ◌≤◌, ◌<◌};
+ghost use Rattle.std.specs.Prelude.{◌≡◌, ◌/◌, ◌%◌, ◌^◌, ◌≤◌, ◌<◌};
+ghost use Rattle.std.specs.Int.{IsPowerOfTwo};
 ghost use Rattle.theory.specs.Position.{aligned};
 
 /// The bytes of one unit of a stream: frames start at multiples of it.
@@ -18,4 +19,16 @@ pub fn partition_of(count: u32) -> u32
     ensures in_range { result < 3 }
 {
     count % 3
+}
+
+/// How often a power of two goes into a number, and what is left. It takes no division.
+pub fn split_by(number: u64, power: u32) -> (u64, u32)
+    requires { IsPowerOfTwo power }
+    ensures times { result.0 ≡ number / power }
+    ensures rest { result.1 ≡ number % power }
+    ensures less { result.1 < power }
+{
+    let times = number >> power.trailing_zeros();
+    let rest = number & u64::from(power - 1);
+    (times, rest as u32)
 }

@@ -14,4 +14,4 @@ pub use fault::GeometryError;
 pub use gap::Gap;
 pub use geometry::{Geometry, Place};
 pub use head::{BEGIN, END, FrameHead, FrameKind, UNFRAGMENTED};
-pub use lengths::{align32, partition_of};
+pub use lengths::{align32, partition_of, split_by};

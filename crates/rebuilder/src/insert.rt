@@ -12,7 +12,7 @@ use crate::answer::Insert;
 use crate::held::{covered, measure};
 use crate::image::Image;
 use frames::Frame;
-use position::{FrameKind, align32};
+use position::{FrameKind, align32, split_by};
 
 impl Image {
     /// Whether the frame would pass the end of its term, whose offsets are counted from 0 up.
@@ -20,8 +20,12 @@ impl Image {
         requires { covered ≤ 2 ^ 24 }
         ensures { result ≡ crosses self.now.geometry.term_length position covered }
     {
-        let length = i64::from(self.geometry.term_length());
-        position.rem_euclid(length) + i64::from(covered) > length
+        let length = self.geometry.term_length();
+        if position < 0 {
+            return position.rem_euclid(i64::from(length)) + i64::from(covered) > i64::from(length);
+        }
+        let (_, offset) = split_by(position as u64, length);
+        offset + covered > length
     }
 
     /// What becomes of a frame at a position from 0 on that doesn't pass the end of its term.

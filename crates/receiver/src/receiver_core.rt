@@ -17,7 +17,7 @@ ghost use Rattle.receiver.specs.Texts.{outcome_text};
 
 use crate::opened::{find_gap, hear, insert, open, read_past};
 use block::Block;
-use frames::{Frame, FrameError, Header, Nak, Setup, Status, check_datagram, read_frame};
+use frames::{Frame, FrameError, Header, Nak, Setup, Status, check_datagram, known_frame};
 use loss_detector::LossDetector;
 use position::{FrameHead, Gap, Geometry};
 use rebuilder::{Image, Insert};
@@ -250,9 +250,7 @@ impl ReceiverCore {
     {
         let mut rest = datagram;
         for _turn in 0..count {
-            let Ok((frame, size)) = read_frame(rest) else {
-                unreachable!()
-            };
+            let (frame, size) = known_frame(rest);
             let outcome = self.on_frame(&frame)?;
             outcomes.push_reserved(outcome);
             rest = &rest[size..];

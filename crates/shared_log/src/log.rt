@@ -111,7 +111,7 @@ impl Log {
     pub fn ring(&self) -> Ring
         ensures { result ≡ ring_of self.now.identity.geometry }
     {
-        Ring::new(3 * (self.identity.geometry().term_length() / 8))
+        Ring::new(&self.identity.geometry())
     }
 
     /// The place of the word of the stream at a position.

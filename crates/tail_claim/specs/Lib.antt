@@ -1,4 +1,5 @@
 pub mod Packs
+pub mod Rings
 pub mod Sums
 pub mod Terms
 pub mod Rule

@@ -1,43 +1,50 @@
-//! The places of words that lie one behind the other, and round.
+//! The places of words that lie one behind the other in three terms, and round.
 
-ghost use Rattle.std.specs.Prelude.{◌≡◌, ◌%◌, ◌<◌};
+ghost use Rattle.std.specs.Prelude.{◌≡◌, ◌*◌, ◌%◌};
+ghost use Rattle.tail_claim.specs.Packs.{ring_of};
 
+use position::{Geometry, split_by};
 use std::marker::Model;
 
-/// Places, so many.
+/// The places of three terms' words.
 #[derive(Drop)]
 pub struct Ring {
-    length: u32,
+    /// The words of a term, a power of two.
+    term: u32,
     /// The number of a word that is at place 0.
     lap: u64,
 }
 
 impl Model for Ring {
-    ghost use Rattle.std.specs.Prelude.{◌≡◌, ℕ, ◌%◌, ◌<◌};
+    ghost use Rattle.std.specs.Prelude.{◌≡◌, ℕ, ◌*◌, ◌%◌};
+    ghost use Rattle.tail_claim.specs.Rings.{IsPart};
 
     ghost Value = { ℕ };
 
-    ghost view = { λ r. r.length };
+    ghost view = { λ r. 3 * r.term };
 
-    ghost invariant = { λ r. (0 < r.length) × (r.lap % r.length ≡ 0) };
+    ghost invariant = { λ r. IsPart r.term × (r.lap % (3 * r.term) ≡ 0) };
 }
 
 impl Ring {
-    pub fn new(length: u32) -> Ring
-        requires { 0 < length }
-        ensures { result ≡ length }
+    #[tactic(auto, using(crate::proofs::Rings::eighth))]
+    pub fn new(geometry: &Geometry) -> Ring
+        ensures { result ≡ ring_of geometry.now }
     {
-        Ring { length, lap: 0 }
+        Ring {
+            term: geometry.term_length() / 8,
+            lap: 0,
+        }
     }
 
-    /// The place of the word with this number. Nothing is divided as long as the numbers are of one lap.
+    /// The place of the word with this number.
     #[inline(always)]
     #[tactic(auto, using(crate::proofs::Rings::in_lap))]
     pub fn place_of(&mut self, number: u64) -> u32
         ensures place { result ≡ number % self.old }
         ensures same { self.new ≡ self.old }
     {
-        if number >= self.lap && number - self.lap < u64::from(self.length) {
+        if number >= self.lap && number - self.lap < 3 * u64::from(self.term) {
             return (number - self.lap) as u32;
         }
         self.begin_lap(number)
@@ -45,13 +52,14 @@ impl Ring {
 
     /// Finds the lap of a number, and its place there.
     #[inline(always)]
-    #[tactic(auto, using(crate::proofs::Rings::begins_lap))]
+    #[tactic(auto, using(crate::proofs::Rings::begins_lap, crate::proofs::Rings::in_thirds))]
     fn begin_lap(&mut self, number: u64) -> u32
         ensures place { result ≡ number % self.old }
         ensures same { self.new ≡ self.old }
     {
-        let place = number % u64::from(self.length);
-        self.lap = number - place;
-        place as u32
+        let (terms, rest) = split_by(number, self.term);
+        let place = (terms % 3) as u32 * self.term + rest;
+        self.lap = number - u64::from(place);
+        place
     }
 }

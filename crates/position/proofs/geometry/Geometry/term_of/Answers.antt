@@ -7,4 +7,4 @@ pub returns-clause-unit : goal.returns-clause-unit
 returns-clause-unit c = λ unit.
     let whole : c.self.inside.term_length % 65536 ≡ 0 = whole_power c.self.inside.term_length c.self.invariant.term.power c.self.invariant.term.least in
     let inner : (c.args.position % c.self.inside.term_length) % 32 ≡ 0 = unit_offset c.args.position c.self.inside.term_length whole unit in
-    elim c.if-position-max_position.branch [ then-position-max_position w ↦ grind (arith, whole) | else-position-max_position w ↦ grind (arith, inner, c.from-length.ensures) ]
+    elim c.if-position-max_position.branch [ then-position-max_position w ↦ grind (arith, whole) | else-position-max_position w ↦ grind (arith, inner) ]

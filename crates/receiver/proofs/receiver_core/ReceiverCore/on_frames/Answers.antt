@@ -12,15 +12,15 @@ use Rattle.receiver.proofs.Meeting.{becomes_more}
 use Rattle.receiver.proofs.Together.{setup_alone}
 use Rattle.receiver.proofs.receiver_core.ReceiverCore.on_frames.Goals as goal
 
-pub unreachable-requires : goal.unreachable-requires
-unreachable-requires c =
+pub known_frame-size-requires : goal.known_frame-size-requires
+known_frame-size-requires c =
     let frames = c.requires.frames.0 in
     let i = c.loop-turn._turn in
     let before = c.loop-turn.invariant.taken frames c.requires.frames.1 c.requires.frames.2 in
     let below : i < length frames = omega (arith, c.requires.frames.2, c.loop-turn-test.true) in
     let at = frame_at frames i c.requires.frames.1.1 below in
     let parts = frame_first frames c.loop-turn.rest.now i at before.0 in
-    c.in_default.ensures.only at.frame (length (spelling at.frame)) (front_spells at.frame c.loop-turn.rest.now (flat_map spelling (drop (suc i) frames)) at.is parts)
+    (at.frame, length (spelling at.frame), front_spells at.frame c.loop-turn.rest.now (flat_map spelling (drop (suc i) frames)) at.is parts)
 
 -- the frame that was read is the next one of the datagram
 record IsNext (frames : List Wire) (i : ℕ) (rest : List ℕ) (w : Wire) (size : ℕ) : Type 0 where
@@ -44,11 +44,11 @@ loop-turn-preserved c = record {
       let i = c.loop-turn._turn in
       let before = c.loop-turn.invariant.taken frames spells counted in
       let below : i < length frames = omega (arith, counted, c.loop-turn-test.true) in
-      let next = next_is frames i c.loop-turn.rest.now (wire c.in-Ok.frame) c.in-Ok.size spells.1 below before.0 c.in-Ok.ensures.only in (
-        slice_to_end c.loop-turn.rest.now c.in-Ok.size ∙ next.dropped,
+      let next = next_is frames i c.loop-turn.rest.now (wire c.known_frame-size.result.0) c.known_frame-size.result.1 spells.1 below before.0 c.known_frame-size.ensures.only in (
+        slice_to_end c.loop-turn.rest.now c.known_frame-size.result.1 ∙ next.dropped,
         subst (λ ws. Becomes c.args.self.now c.on_frame.new.self (λ r s. MeetsAll r ws c.push_reserved.new.self.items s)) next.taken
-            (subst (λ outs. Becomes c.args.self.now c.on_frame.new.self (λ r s. MeetsAll r (take i frames ++ wire c.in-Ok.frame ∷ []) outs s)) (sym c.push_reserved.ensures.items)
-            (becomes_more c.args.self.now c.loop-turn.self c.on_frame.new.self (take i frames) c.loop-turn.outcomes.items (wire c.in-Ok.frame) c.in_ok-outcome.outcome before.1 c.in_ok-outcome.ensures.met)),
+            (subst (λ outs. Becomes c.args.self.now c.on_frame.new.self (λ r s. MeetsAll r (take i frames ++ wire c.known_frame-size.result.0 ∷ []) outs s)) (sym c.push_reserved.ensures.items)
+            (becomes_more c.args.self.now c.loop-turn.self c.on_frame.new.self (take i frames) c.loop-turn.outcomes.items (wire c.known_frame-size.result.0) c.in_ok-outcome.outcome before.1 c.in_ok-outcome.ensures.met)),
       );
   room = omega (arith, c.loop-turn.invariant.room, c.push_reserved.ensures.len, c.push_reserved.ensures.capacity, c.loop-turn-test.true);
   fresh = λ e. absurd (omega arith);
@@ -68,8 +68,8 @@ returns-in_err-outcome-clause-refused c =
     let i = c.loop-turn._turn in
     let before = c.loop-turn.invariant.taken frames spells counted in
     let below : i < length frames = omega (arith, counted, c.loop-turn-test.true) in
-    let w : Wire = wire c.in-Ok.frame in
-    let next = next_is frames i c.loop-turn.rest.now w c.in-Ok.size spells.1 below before.0 c.in-Ok.ensures.only in
+    let w : Wire = wire c.known_frame-size.result.0 in
+    let next = next_is frames i c.loop-turn.rest.now w c.known_frame-size.result.1 spells.1 below before.0 c.known_frame-size.ensures.only in
     let parts : frames ≡ take i frames ++ w ∷ drop (i + 1) frames = sym (take-append-drop (i + 1) frames) ∙ ap (λ ws. ws ++ drop (i + 1) frames) (sym next.taken) ∙ append_assoc (take i frames) (w ∷ []) (drop (i + 1) frames) in
     let first : length (take i frames) ≡ 0 = setup_alone (take i frames) (drop (i + 1) frames) w (subst StandTogether parts spells.0) c.in_err-outcome.ensures.wanted in
     let none : i ≡ 0 = omega (arith, length-take-le i frames (omega arith), first) in

@@ -5,7 +5,7 @@ use Rattle.word_calls.specs.Steps.{term_of}
 use Rattle.log_reading.specs.Readers.{ReaderValue, Rests}
 use Rattle.log_reading.proofs.Looking.{has_on, reader_on, rests_on}
 use Rattle.log_reading.proofs.Copying.{copied_to}
-use Rattle.log_reading.proofs.reader.copy.Goals as goal
+use Rattle.log_reading.proofs.reader.copy_words.Goals as goal
 
 room : (k n w d : ℕ) → 32 + min (8 * (k + 1)) n ≤ 8 * w → d ≡ w - 4 → min (8 * (k + 1)) n ≤ 8 * d
 room k n w d le e = omega arith
@@ -29,7 +29,7 @@ loop-index-preserved c =
           let is = c.word_as-word.ensures.told f (has_on c.args.reader.now c.loop-index.reader a f has) at in
           let near' : c.loop-index.reader.position ≤ c.args.start + term_of c.loop-index.reader.held.pass = subst (λ (x : ℕ × Pass). x.0 ≤ c.args.start + term_of x.1) (λ j. (sym (ap (λ (r : ReaderValue). r.position) a.same) j, sym a.pass j)) near in
           let at_word : c.word_as-word.result ≡ slice_index (drop 4 f.words) i = is.word (inside i n (length f.words) fits some) near' ∙ sym (get_or-drop 4 f.words i 0) in
-          copied_to (drop 4 f.words) i n c.args.block.now c.loop-index.block c.put_bytes.new.block c.word_as-word.result c.min.result c.min.ensures (room i n (length f.words) (length (drop 4 f.words)) fits (length-drop 4 f.words)) some at_word
+          copied_to (drop 4 f.words) i n c.args.bytes.now c.loop-index.bytes c.put_bytes.new.bytes c.word_as-word.result c.min.result c.min.ensures (room i n (length f.words) (length (drop 4 f.words)) fits (length-drop 4 f.words)) some at_word
           (c.loop-index.invariant.3 f has at (less i n (8 * length f.words) 0 fits) near) c.put_bytes.ensures.stored),
     )
 
