@@ -1,5 +1,5 @@
 -- What is known of a DATA frame that is known to be read.
-use Rattle.std.proofs.Common.{◌≡◌, ℕ, ◌+◌, ◌≤◌, ◌%◌, ◌||◌, not, eqb, ltb, List, length, Ok, ap, sym, subst, ◌∙◌, inl, inr}
+use Rattle.std.proofs.Common.{◌≡◌, ℕ, ◌+◌, ◌≤◌, ◌%◌, ◌||◌, not, eqb, ltb, List, length, Ok, subst, inl, inr}
 use Rattle.std.specs.Prelude.{slice_index, slice_range}
 use Rattle.std.proofs.lemmas.Bool.{ltb-false, or_parts, eqb-true}
 use Rattle.theory.specs.Position.{aligned}

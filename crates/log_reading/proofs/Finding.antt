@@ -2,7 +2,6 @@
 use Rattle.std.proofs.Common.{◌≡◌, ℕ, zero, suc, ◌+◌, ◌-◌, ◌*◌, ◌/◌, ◌^◌, ◌<◌, ◌≤◌, Bool, true, false, List, [], ◌∷◌, ◌++◌, length, take, drop, inl, inr, sym, refl, ap, ◌∙◌, subst, arith}
 use Rattle.std.specs.Prelude.{nat_eq, slice_index, if◌then◌else◌}
 use Rattle.std.specs.Int.{w64, to_le_bytes}
-use mathlib.Core.Option.{some-injective}
 use Rattle.theory.specs.Position.{Geometry, IsGeometry, aligned, max_position}
 use Rattle.theory.specs.Bytes.{Identity}
 use Rattle.theory.specs.Placed.{Among, Data, Frame, Pad, frame_length, payload_of}

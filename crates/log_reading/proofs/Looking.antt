@@ -8,7 +8,7 @@ use Rattle.atomic_table.specs.Table.{Allows}
 use Rattle.tail_claim.proofs.Whole.{set_at}
 use Rattle.theory.specs.Bytes.{Identity}
 use Rattle.theory.specs.Placed.{Among}
-use Rattle.theory.proofs.Lists.{among_left, among_right}
+use Rattle.theory.proofs.Lists.{among_left}
 use Rattle.word_calls.specs.declared.pass.FrameWords.{FrameWords}
 use Rattle.word_calls.specs.declared.pass.Pass.{Pass}
 use Rattle.word_calls.specs.declared.pass.Reading.{Reading}

@@ -1,5 +1,5 @@
 -- A reader meets what is asked of a source of frames.
-use Rattle.std.proofs.Common.{◌≡◌, ◌⊎◌, ℕ, ◌+◌, ◌*◌, ◌/◌, ◌<◌, ◌≤◌, List, [], ◌∷◌, ◌++◌, map, length, inl, inr, sym, refl, ap, ◌∙◌, subst, ⊎_elim, arith}
+use Rattle.std.proofs.Common.{◌≡◌, ℕ, ◌+◌, ◌*◌, ◌<◌, ◌≤◌, List, [], ◌∷◌, map, length, inl, inr, sym, refl, ap, ◌∙◌, subst, ⊎_elim, arith}
 use Rattle.std.proofs.lemmas.List.{map-append}
 use Rattle.theory.specs.Position.{IsGeometry, aligned}
 use Rattle.theory.specs.Bytes.{Identity}
@@ -10,9 +10,7 @@ use Rattle.position.specs.declared.head.FrameHead.{FrameHead}
 use Rattle.frame_source.specs.Sources as sources
 use Rattle.frame_source.specs.Sources.{FindsNone, Passes, ReadsAt, ReadsNext}
 use Rattle.word_calls.specs.declared.pass.FrameWords.{FrameWords}
-use Rattle.word_calls.specs.declared.pass.Pass.{Pass}
 use Rattle.word_calls.specs.Contents.{frame_in}
-use Rattle.tail_claim.specs.Memory.{IsDone}
 use Rattle.log_rule.specs.Readings.{IsFrameAt, end_of}
 use Rattle.log_rule.proofs.InTerm.{done_long, words_cover}
 use Rattle.shared_log.specs.Handles.{LogValue}

@@ -1,6 +1,6 @@
 -- A reader that is told what a pass committed.
-use Rattle.std.proofs.Common.{◌≡◌, ℕ, zero, suc, ◌<◌, ◌≤◌, List, [], ◌∷◌, ◌++◌, map, sym, refl, ap, ◌∙◌, subst}
-use mathlib.Core.Option.{some, some-injective, some-ne-none}
+use Rattle.std.proofs.Common.{◌≡◌, ℕ, zero, suc, List, [], ◌∷◌, ◌++◌, map, sym, refl, ap, ◌∙◌, subst}
+use mathlib.Core.Option.{some, some-ne-none}
 use lib.ListN.{get_elem?}
 use Rattle.atomic_table.proofs.Lists.{at_map}
 use Rattle.theory.proofs.Lists.{among_left}
@@ -9,7 +9,7 @@ use Rattle.word_calls.specs.declared.pass.Pass.{Pass}
 use Rattle.word_calls.specs.declared.pass.Reading.{Reading}
 use Rattle.tail_claim.specs.Handles.{PublisherValue}
 use Rattle.log_rule.specs.Table.{knows_all}
-use Rattle.log_reading.specs.Readers.{IsReading, Learns, OnlyReads, ReaderValue, SameSeat, known_at, numbers_of, positions_of}
+use Rattle.log_reading.specs.Readers.{IsReading, Learns, OnlyReads, ReaderValue, SameSeat, known_at, positions_of}
 
 same_of : (h : Reading → ℕ) (fs : List FrameWords) (rs : List Reading) → ((r : Reading) → h (knows_all fs r) ≡ h r) → map h (map (knows_all fs) rs) ≡ map h rs
 same_of h fs [] same = refl

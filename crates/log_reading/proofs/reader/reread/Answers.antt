@@ -1,6 +1,5 @@
-use Rattle.std.proofs.Common.{◌≡◌, ◌-◌, ◌*◌, ◌≤◌, ℕ, length, ap, sym, ◌∙◌, subst, arith}
+use Rattle.std.proofs.Common.{subst, arith}
 use Rattle.theory.specs.Position.{IsGeometry}
-use Rattle.position.specs.declared.head.FrameHead.{FrameHead}
 use Rattle.shared_log.specs.Handles.{LogValue}
 use Rattle.log_reading.proofs.Finding.{reread_data, reread_low, reread_pad, shows}
 use Rattle.log_reading.proofs.reader.reread.Goals as goal
