@@ -5,7 +5,7 @@ ghost use Rattle.clap.specs.Words.{app_of, is_simple, matches_of};
 ghost use Rattle.end_lines.specs.Lines.{IsPublishOf, publish_app};
 
 use crate::fault::{LineFault, fault_of};
-use crate::shared::{shared_of, with_channel, with_shared};
+use crate::shared::{command_of, shared_of};
 use clap::{Command, Error};
 use end_options::PublishOptions;
 use number_options::{Number, number_of, with_numbers};
@@ -25,12 +25,13 @@ const EXAMPLE: &str = "Example:\n  mdriver publish 'aeron:udp?endpoint=127.0.0.1
 fn command<'a>(alloc: Global) -> Result<Command<'a>, AllocError>
     ensures { IfOk result (λ r. app_of r ≡ publish_app) }
 {
-    let command = Command::new(alloc, "publish")
-        .bin_name("mdriver publish")?
-        .about("Publish each line of standard input as a message")
-        .after_help(EXAMPLE);
-    let command = with_channel(alloc, command)?;
-    let command = with_shared(alloc, command)?;
+    let command = command_of(
+        alloc,
+        "publish",
+        "mdriver publish",
+        "Publish each line of standard input as a message",
+        EXAMPLE,
+    )?;
     with_numbers(alloc, command, &[LINGER])
 }
 

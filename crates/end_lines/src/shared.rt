@@ -1,7 +1,7 @@
 //! What both commands have.
 
 ghost use Rattle.std.specs.Prelude.{◌≡◌, IfOk};
-ghost use Rattle.clap.specs.Words.{app_of, found_of, rows_of};
+ghost use Rattle.clap.specs.Words.{app_of, found_of, new_app, rows_of};
 ghost use Rattle.end_lines.specs.Lines.{IsSharedOf, with_channel, with_shared};
 
 use clap::{Arg, ArgMatches, Command};
@@ -53,10 +53,7 @@ const SEED: Number = Number {
 const NUMBERS: [Number; 5] = [STREAM, LOSS, REPEAT, HOLD, SEED];
 
 /// The command with its channel.
-pub(crate) fn with_channel<'a>(
-    alloc: Global,
-    command: Command<'a>,
-) -> Result<Command<'a>, AllocError>
+fn with_channel<'a>(alloc: Global, command: Command<'a>) -> Result<Command<'a>, AllocError>
     ensures { IfOk result (λ r. app_of r ≡ with_channel (app_of command.entry)) }
 {
     let channel = Arg::new(alloc, "CHANNEL")
@@ -66,10 +63,7 @@ pub(crate) fn with_channel<'a>(
 }
 
 /// The command with the options that both have.
-pub(crate) fn with_shared<'a>(
-    alloc: Global,
-    command: Command<'a>,
-) -> Result<Command<'a>, AllocError>
+fn with_shared<'a>(alloc: Global, command: Command<'a>) -> Result<Command<'a>, AllocError>
     ensures { IfOk result (λ r. app_of r ≡ with_shared (app_of command.entry)) }
 {
     let command = with_numbers(alloc, command, &NUMBERS)?;
@@ -81,6 +75,35 @@ pub(crate) fn with_shared<'a>(
         "counters",
         "Show the counters once a second",
     )
+}
+
+/// A command with its texts, and no argument.
+fn named<'a>(
+    alloc: Global,
+    name: &'static str,
+    line: &'static str,
+    about: &'static str,
+    example: &'static str,
+) -> Result<Command<'a>, AllocError>
+    ensures { IfOk result (λ r. app_of r ≡ new_app name.now) }
+{
+    let command = Command::new(alloc, name).bin_name(line)?;
+    Ok(command.about(about).after_help(example))
+}
+
+/// A command with all that both have.
+pub(crate) fn command_of<'a>(
+    alloc: Global,
+    name: &'static str,
+    line: &'static str,
+    about: &'static str,
+    example: &'static str,
+) -> Result<Command<'a>, AllocError>
+    ensures { IfOk result (λ r. app_of r ≡ with_shared (with_channel (new_app name.now))) }
+{
+    let command = named(alloc, name, line, about, example)?;
+    let command = with_channel(alloc, command)?;
+    with_shared(alloc, command)
 }
 
 /// What the options that both have tell.

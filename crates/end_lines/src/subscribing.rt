@@ -5,7 +5,7 @@ ghost use Rattle.clap.specs.Words.{app_of, is_simple, matches_of};
 ghost use Rattle.end_lines.specs.Lines.{IsSubscribeOf, subscribe_app};
 
 use crate::fault::{LineFault, fault_of};
-use crate::shared::{shared_of, with_channel, with_shared};
+use crate::shared::{command_of, shared_of};
 use clap::{Command, Error};
 use end_options::SubscribeOptions;
 use number_options::{Number, number_of, with_numbers};
@@ -33,12 +33,13 @@ const EXAMPLE: &str = "Example:\n  mdriver subscribe 'aeron:udp?endpoint=127.0.0
 fn command<'a>(alloc: Global) -> Result<Command<'a>, AllocError>
     ensures { IfOk result (λ r. app_of r ≡ subscribe_app) }
 {
-    let command = Command::new(alloc, "subscribe")
-        .bin_name("mdriver subscribe")?
-        .about("Write each message to standard output as a line")
-        .after_help(EXAMPLE);
-    let command = with_channel(alloc, command)?;
-    let command = with_shared(alloc, command)?;
+    let command = command_of(
+        alloc,
+        "subscribe",
+        "mdriver subscribe",
+        "Write each message to standard output as a line",
+        EXAMPLE,
+    )?;
     with_numbers(alloc, command, &[MESSAGES, QUIET])
 }
 
