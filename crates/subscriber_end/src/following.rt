@@ -27,6 +27,15 @@ pub(crate) enum Leaving {
     Silent,
 }
 
+/// Notes that a datagram came, where the device has heard its peer more often than before.
+fn note_heard(joined: &Joined, watch: &mut Watch, before: u64)
+    ensures { NotesHeard before joined.now.duty.device.inner.heard watch.old watch.new }
+{
+    if joined.duty.device().inner().heard() != before {
+        watch.hear();
+    }
+}
+
 /// A cycle: messages are written, at most so many as are still wanted, and then the device is heard and answered. The answer
 /// is how many were written in all, and whether there was anything to do.
 fn cycle_once<W: Write>(
@@ -52,9 +61,7 @@ fn cycle_once<W: Write>(
         &mut joined.duty,
         watch.moment(),
     )?;
-    if joined.duty.device().inner().heard() != before {
-        watch.hear();
-    }
+    note_heard(joined, watch, before);
     let all = written + done.messages as u64;
     Ok((all, done.messages > 0 || done.busy))
 }
@@ -91,7 +98,6 @@ fn tell<E: Write>(
 }
 
 /// Writes messages until the image is left. The answer is how many were written in all, and why.
-#[tactic(auto, using(crate::proofs::Written::writes_more, crate::proofs::Written::writes_none))]
 pub(crate) fn follow<R: Wait + Clock, W: Write, E: Write>(
     rt: &R,
     plan: &SubscribePlan,

@@ -1,6 +1,6 @@
 //! A subscriber from its begin to its end.
 
-ghost use Rattle.std.specs.Prelude.{◌≡◌, ◌<◌, ◌≤◌, false, IfErr, IfOk};
+ghost use Rattle.std.specs.Prelude.{◌≡◌, ◌<◌, ◌≤◌, false, IfErr, IfOk, IfSome};
 ghost use Rattle.peer.specs.declared.fault.BindError.{BindError};
 ghost use Rattle.subscriber_end.specs.Leavings.{of_bind};
 ghost use Rattle.subscriber_end.specs.Writings.{Writes};
@@ -36,7 +36,37 @@ fn bind<R: Net>(rt: &R, alloc: Global, port: u16) -> Result<Listener, SubscribeF
     }
 }
 
-/// Follows one image, and tells of it. The answer is how many messages were written in all, and whether the subscriber ends.
+/// Follows an image, and tells of it. The answer is how many messages were written in all, and whether the subscriber ends.
+fn follow_image<R: Wait + Clock, W: Write, E: Write>(
+    rt: &R,
+    plan: &SubscribePlan,
+    joined: &mut Joined,
+    output: &mut W,
+    errors: &mut E,
+    watch: &mut Watch,
+    before: u64,
+) -> Result<(u64, bool), SubscribeFault>
+    requires size { joined.old.duty.mtu ≡ 40 }
+    requires few { before ≤ plan.now.messages }
+    ensures few { IfOk result (λ r. r.0 ≤ plan.now.messages) }
+    ensures more { IfOk result (λ r. r.1 ≡ false → r.0 < plan.now.messages) }
+    ensures writes { IfOk result (λ r. Writes plan.now.end.form before (W.contents output.old) r.0 (W.contents output.new)) }
+{
+    tell_joined(errors, joined.session, joined.place());
+    let (written, leaving) = follow(rt, plan, joined, output, errors, watch, before)?;
+    match leaving {
+        Leaving::Silent => {
+            tell_closed(errors, joined.session, joined.place());
+            Ok((written, false))
+        }
+        Leaving::Ended => {
+            let _ = bid_farewell(rt, joined, watch);
+            Ok((written, true))
+        }
+    }
+}
+
+/// Follows one image to its end, and lets it go. The answer is the same.
 fn follow_one<R: Wait + Clock, W: Write, E: Write>(
     rt: &R,
     plan: &SubscribePlan,
@@ -53,14 +83,45 @@ fn follow_one<R: Wait + Clock, W: Write, E: Write>(
     ensures more { IfOk result (λ r. r.1 ≡ false → r.0 < plan.now.messages) }
     ensures writes { IfOk result (λ r. Writes plan.now.end.form before (W.contents output.old) r.0 (W.contents output.new)) }
 {
-    tell_joined(errors, joined.session, joined.place());
-    let (written, leaving) = follow(rt, plan, &mut joined, output, errors, watch, before)?;
-    if leaving == Leaving::Silent {
-        tell_closed(errors, joined.session, joined.place());
-        return Ok((written, false));
+    follow_image(rt, plan, &mut joined, output, errors, watch, before)
+}
+
+/// Listens at the channel's port until an image opens. There is none where no datagram came for as long as the plan says.
+fn join_image<R: Wait + Clock + Net>(
+    rt: &R,
+    alloc: Global,
+    plan: &SubscribePlan,
+    watch: &mut Watch,
+) -> Result<Option<Joined>, SubscribeFault>
+    ensures { IfOk result (λ found. IfSome found (λ joined. joined.duty.mtu ≡ 40)) }
+{
+    let listener = bind(rt, alloc, plan.end.port)?;
+    match listen(rt, alloc, plan, listener, watch)? {
+        Some(joined) => Ok(Some(joined)),
+        None => Ok(None),
     }
-    let _ = bid_farewell(rt, &mut joined, watch);
-    Ok((written, true))
+}
+
+/// Listens until an image opens, and follows it. The answer is how many messages were written in all, and whether the
+/// subscriber ends, as it does where no datagram came for as long as the plan says.
+fn subscribe_once<R: Wait + Clock + Net, W: Write, E: Write>(
+    rt: &R,
+    alloc: Global,
+    plan: &SubscribePlan,
+    output: &mut W,
+    errors: &mut E,
+    watch: &mut Watch,
+    before: u64,
+) -> Result<(u64, bool), SubscribeFault>
+    requires { 0 < before → before < plan.now.messages }
+    ensures few { IfOk result (λ r. r.0 ≤ plan.now.messages) }
+    ensures more { IfOk result (λ r. r.1 ≡ false → r.0 < plan.now.messages) }
+    ensures writes { IfOk result (λ r. Writes plan.now.end.form before (W.contents output.old) r.0 (W.contents output.new)) }
+{
+    let Some(joined) = join_image(rt, alloc, plan, watch)? else {
+        return Ok((before, true));
+    };
+    follow_one(rt, plan, joined, output, errors, watch, before)
 }
 
 /// Subscribes as planned, and writes each message to the output as the plan's form says, until there were as many as are
@@ -70,7 +131,6 @@ fn follow_one<R: Wait + Clock, W: Write, E: Write>(
 /// The fault is `Taken` where another socket has the port, `Output` where the output failed, `Message` where a message was
 /// refused, `Device` where the socket or the clock failed, and `Memory` where memory was refused. Behind a fault the
 /// output may end within a message.
-#[tactic(auto, using(crate::proofs::Written::writes_more, crate::proofs::Written::writes_none))]
 pub fn subscribe<R: Wait + Clock + Net, W: Write, E: Write>(
     rt: &R,
     alloc: Global,
@@ -88,11 +148,7 @@ pub fn subscribe<R: Wait + Clock + Net, W: Write, E: Write>(
     let mut watch = Watch::new(began);
     let mut written: u64 = 0;
     for _ in rt.forever() {
-        let listener = bind(rt, alloc, plan.end.port)?;
-        let Some(joined) = listen(rt, alloc, plan, listener, &mut watch)? else {
-            return Ok(written);
-        };
-        let (all, ended) = follow_one(rt, plan, joined, output, errors, &mut watch, written)?;
+        let (all, ended) = subscribe_once(rt, alloc, plan, output, errors, &mut watch, written)?;
         written = all;
         if ended {
             return Ok(written);
