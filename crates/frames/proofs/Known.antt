@@ -10,11 +10,11 @@ use Rattle.frames.specs.Order.{is_data_flags, is_padded}
 use Rattle.frames.specs.Reading.{data_at, data_or_heartbeat_at, header_at, heartbeat_at, kind_at, reading}
 use Rattle.frames.proofs.Guards.{chosen, guard, ok_is}
 
-pub record IsData (bytes : List ℕ) (n : ℕ) (x : Wire × ℕ) : Type 0 where
+pub record HasDataAt (bytes : List ℕ) (n : ℕ) (x : Wire × ℕ) : Type 0 where
   pub room : aligned n ≤ length bytes
   pub same : (DATA (header_at bytes) (slice_index bytes 5) (slice_range bytes 32 n), aligned n) ≡ x
 
-data_is : (bytes : List ℕ) (n : ℕ) (x : Wire × ℕ) → data_at bytes n ≡ Ok x → IsData bytes n x
+data_is : (bytes : List ℕ) (n : ℕ) (x : Wire × ℕ) → data_at bytes n ≡ Ok x → HasDataAt bytes n x
 unfolding data_at
 data_is bytes n x e =
     let a = guard (not (is_data_flags (slice_index bytes 5))) Flags _ x e in
@@ -25,12 +25,12 @@ data_is bytes n x e =
     record { room = ltb-false _ _ b.0; same = ok_is (DATA (header_at bytes) (slice_index bytes 5) (slice_range bytes 32 n), aligned n) x v.1 }
 
 -- its length is one of a DATA frame
-pub record IsLong (bytes : List ℕ) (n : ℕ) (x : Wire × ℕ) : Type 0 where
+pub record HasDataLength (bytes : List ℕ) (n : ℕ) (x : Wire × ℕ) : Type 0 where
   pub least : 32 ≤ n
   pub greatest : n ≤ 65504
-  pub inner : IsData bytes n x
+  pub inner : HasDataAt bytes n x
 
-some_data : (bytes : List ℕ) (x : Wire × ℕ) → data_or_heartbeat_at bytes ≡ Ok x → (u32_at bytes 0 ≡ 0 → ⊥) → IsLong bytes (u32_at bytes 0) x
+some_data : (bytes : List ℕ) (x : Wire × ℕ) → data_or_heartbeat_at bytes ≡ Ok x → (u32_at bytes 0 ≡ 0 → ⊥) → HasDataLength bytes (u32_at bytes 0) x
 unfolding data_or_heartbeat_at
 some_data bytes x e some =
     let n : ℕ = u32_at bytes 0 in
@@ -47,7 +47,7 @@ of_kind : (bytes : List ℕ) (x : Wire × ℕ) → kind_at bytes 1 ≡ Ok x → 
 unfolding kind_at
 of_kind bytes x e = e
 
-pub known_data : (bytes : List ℕ) (x : Wire × ℕ) → reading bytes ≡ Ok x → u16_at bytes 6 ≡ 1 → (u32_at bytes 0 ≡ 0 → ⊥) → IsLong bytes (u32_at bytes 0) x
+pub known_data : (bytes : List ℕ) (x : Wire × ℕ) → reading bytes ≡ Ok x → u16_at bytes 6 ≡ 1 → (u32_at bytes 0 ≡ 0 → ⊥) → HasDataLength bytes (u32_at bytes 0) x
 unfolding reading
 known_data bytes x e kind some =
     let a = guard (ltb (length bytes) 8) Short _ x e in

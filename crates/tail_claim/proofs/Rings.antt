@@ -5,7 +5,7 @@ use Rattle.std.proofs.Math.Pow.{pow-lt}
 use Rattle.std.proofs.lemmas.Bool.{cases_lt}
 use Rattle.std.proofs.lemmas.Nat.{pow-add, pow_pos}
 use Rattle.std.specs.Int.{IsPowerOfTwo}
-use Rattle.tail_claim.specs.Rings.{IsPart}
+use Rattle.tail_claim.specs.Rings.{IsThird}
 
 -- a number of the lap that begins with another
 pub in_lap : (n lap length : ℕ) → lap % length ≡ 0 → lap ≤ n → n - lap < length → n - lap ≡ n % length
@@ -22,7 +22,7 @@ begins_lap n length =
     ap (λ (z : ℕ). z % length) first ∙ mul-mod_right length (n / length)
 
 -- a term's words are a power of two, as its bytes are
-pub eighth : (n : ℕ) → IsPowerOfTwo n → 65536 ≤ n → n ≤ 16777216 → IsPart (n / 8)
+pub eighth : (n : ℕ) → IsPowerOfTwo n → 65536 ≤ n → n ≤ 16777216 → IsThird (n / 8)
 eighth n (k, is) least greatest =
     elim (cases_lt k 3) [
       | inl less ↦
@@ -34,7 +34,7 @@ eighth n (k, is) least greatest =
     ]
 
 -- a place among three terms, by the term and the place there
-pub in_thirds : (n t : ℕ) → IsPart t → n / t % 3 * t + n % t ≡ n % (3 * t)
+pub in_thirds : (n t : ℕ) → IsThird t → n / t % 3 * t + n % t ≡ n % (3 * t)
 in_thirds n t part =
     let some : 0 < t = rw part.power.1 (pow_pos part.power.0) in
     let low : n % t < t = mod-lt n some in

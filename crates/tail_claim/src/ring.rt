@@ -17,13 +17,13 @@ pub struct Ring {
 
 impl Model for Ring {
     ghost use Rattle.std.specs.Prelude.{◌≡◌, ℕ, ◌*◌, ◌%◌};
-    ghost use Rattle.tail_claim.specs.Rings.{IsPart};
+    ghost use Rattle.tail_claim.specs.Rings.{IsThird};
 
     ghost Value = { ℕ };
 
     ghost view = { λ r. 3 * r.term };
 
-    ghost invariant = { λ r. IsPart r.term × (r.lap % (3 * r.term) ≡ 0) };
+    ghost invariant = { λ r. IsThird r.term × (r.lap % (3 * r.term) ≡ 0) };
 }
 
 impl Ring {

@@ -2,7 +2,7 @@ use Rattle.std.proofs.Common.{◌≡◌, ◌∙◌, ℕ, ap, sym, subst, arith}
 use Rattle.frames.specs.Fields.{u32_at}
 use Rattle.frames.specs.Frames.{wire}
 use Rattle.frames.specs.Fronts.{FrontSpells}
-use Rattle.frames.proofs.Known.{IsLong, known_data}
+use Rattle.frames.proofs.Known.{HasDataLength, known_data}
 use Rattle.frames.proofs.Laws.{front_read}
 use Rattle.std.specs.Prelude.{slice_index, slice_range}
 use Rattle.theory.specs.Wire.{DATA, Wire}
@@ -10,7 +10,7 @@ use Rattle.frames.specs.Reading.{header_at}
 use Rattle.frames.proofs.front.known_frame.Goals as goal
 
 -- the frame is DATA
-given : (c : goal.Then-u32_at-gt0) (w : Wire) (n : ℕ) → FrontSpells c.args.bytes.now w n → IsLong c.args.bytes.now (u32_at c.args.bytes.now 0) (w, n)
+given : (c : goal.Then-u32_at-gt0) (w : Wire) (n : ℕ) → FrontSpells c.args.bytes.now w n → HasDataLength c.args.bytes.now (u32_at c.args.bytes.now 0) (w, n)
 given c w n is =
     known_data c.args.bytes.now (w, n) (front_read c.args.bytes.now w n is) (sym c.u16_at.ensures ∙ c.if-u16_at-eq1.true) (λ e. omega (arith, e, c.u32_at.ensures, c.if-u32_at-gt0.true))
 
