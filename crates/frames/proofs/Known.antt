@@ -1,14 +1,16 @@
 -- What is known of a DATA frame that is known to be read.
-use Rattle.std.proofs.Common.{◌≡◌, ℕ, ◌+◌, ◌≤◌, ◌%◌, ◌||◌, not, eqb, ltb, List, length, Ok, subst, inl, inr}
+use Rattle.std.proofs.Common.{◌≡◌, ℕ, ◌+◌, ◌<◌, ◌≤◌, ◌%◌, ◌||◌, ◌∙◌, not, eqb, ltb, List, length, Ok, subst, sym, inl, inr, arith}
 use Rattle.std.specs.Prelude.{slice_index, slice_range}
 use Rattle.std.proofs.lemmas.Bool.{ltb-false, or_parts, eqb-true}
 use Rattle.theory.specs.Position.{aligned}
 use Rattle.theory.specs.Wire.{Wire, DATA}
 use Rattle.frames.specs.declared.fault.FrameError.TheVariants.{Short, Version, Length, Flags, Alignment, Range}
 use Rattle.frames.specs.Fields.{u16_at, u32_at}
+use Rattle.frames.specs.Fronts.{FrontSpells}
 use Rattle.frames.specs.Order.{is_data_flags, is_padded}
 use Rattle.frames.specs.Reading.{data_at, data_or_heartbeat_at, header_at, heartbeat_at, kind_at, reading}
 use Rattle.frames.proofs.Guards.{chosen, guard, ok_is}
+use Rattle.frames.proofs.Laws.{front_read}
 
 pub record HasDataAt (bytes : List ℕ) (n : ℕ) (x : Wire × ℕ) : Type 0 where
   pub room : aligned n ≤ length bytes
@@ -47,14 +49,13 @@ of_kind : (bytes : List ℕ) (x : Wire × ℕ) → kind_at bytes 1 ≡ Ok x → 
 unfolding kind_at
 of_kind bytes x e = e
 
-pub known_data : (bytes : List ℕ) (x : Wire × ℕ) → reading bytes ≡ Ok x → u16_at bytes 6 ≡ 1 → (u32_at bytes 0 ≡ 0 → ⊥) → HasDataLength bytes (u32_at bytes 0) x
+known_data : (bytes : List ℕ) (x : Wire × ℕ) → reading bytes ≡ Ok x → u16_at bytes 6 ≡ 1 → (u32_at bytes 0 ≡ 0 → ⊥) → HasDataLength bytes (u32_at bytes 0) x
 unfolding reading
 known_data bytes x e kind some =
     let a = guard (ltb (length bytes) 8) Short _ x e in
     let b = guard (not (eqb (slice_index bytes 4) 0)) Version _ x a.1 in
     some_data bytes x (of_kind bytes x (subst (λ (k : ℕ). kind_at bytes k ≡ Ok x) kind b.1)) some
 
--- what is read has the eight bytes that every frame begins with
-pub known_long : (bytes : List ℕ) (x : Wire × ℕ) → reading bytes ≡ Ok x → 8 ≤ length bytes
-unfolding reading
-known_long bytes x e = ltb-false _ _ (guard (ltb (length bytes) 8) Short _ x e).0
+-- a frame of kind 1 whose length isn't 0 is DATA
+pub spelled_data : (bytes : List ℕ) (w : Wire) (n kind size : ℕ) → FrontSpells bytes w n → kind ≡ u16_at bytes 6 → kind ≡ 1 → size ≡ u32_at bytes 0 → 0 < size → HasDataLength bytes (u32_at bytes 0) (w, n)
+spelled_data bytes w n kind size is at one length some = known_data bytes (w, n) (front_read bytes w n is) (sym at ∙ one) (λ e. omega (arith, e, length, some))
