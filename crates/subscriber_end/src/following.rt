@@ -19,7 +19,7 @@ const FAREWELL: u64 = 1_000_000_000;
 const STATUS_INTERVAL: u64 = 200_000_000;
 
 /// Why a subscriber leaves an image.
-#[derive(Clone, Copy, PartialEq, Eq)]
+#[derive(Clone, Copy)]
 pub(crate) enum Leaving {
     /// All messages that were wanted were written, or no datagram came for as long as the plan says.
     Ended,
