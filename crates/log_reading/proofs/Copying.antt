@@ -1,5 +1,5 @@
 -- A frame's payload is copied by words.
-use Rattle.std.proofs.Common.{◌≡◌, ℕ, zero, suc, ◌+◌, ◌-◌, ◌*◌, ◌<◌, ◌≤◌, min, List, [], ◌∷◌, ◌++◌, length, take, drop, sym, refl, ap, ◌∙◌, arith}
+use Rattle.std.proofs.Common.{◌≡◌, ℕ, zero, suc, ◌+◌, ◌*◌, ◌<◌, ◌≤◌, List, [], ◌∷◌, ◌++◌, length, take, drop, sym, refl, ap, ◌∙◌, arith}
 use Rattle.std.specs.Prelude.{slice_index}
 use Rattle.std.specs.Int.{w64, to_le_bytes}
 use Rattle.std.proofs.lemmas.List.{append_assoc, length-take-le, take-append-le}
@@ -41,12 +41,7 @@ copied_on ws k c before lt le =
     next : take c (to_le_bytes w64 (slice_index ws k)) ≡ take c (drop (8 * k) (bytes_in ws))
     next = sym (ap (take c) (eight ws k lt) ∙ take-append-le c (to_le_bytes w64 (slice_index ws k)) (bytes_in (drop (suc k) ws)) le)
 
--- the next word's bytes, up to a count
-pub copied_to : (ws : List ℕ) (k n : ℕ) (before block after : List ℕ) (word c : ℕ) → c ≡ min (n - 8 * k) 8 → min (8 * (k + 1)) n ≤ 8 * length ws → 8 * k < n → word ≡ slice_index ws k → block ≡ copied ws (min (8 * k) n) before → after ≡ take (8 * k) block ++ (take c (to_le_bytes w64 word) ++ drop (8 * k + c) block) → after ≡ copied ws (min (8 * (k + 1)) n) before
-copied_to ws k n before block after word c few fits lt is e f =
-    f ∙ (λ j. take (8 * k) (now j) ++ (take c (to_le_bytes w64 (is j)) ++ drop (8 * k + c) (now j)))
-    ∙ copied_on ws k c before (let l : k < length ws = omega (arith, fits, lt) in l) (let l : c ≤ 8 = omega (arith, few) in l)
-    ∙ ap (λ (m : ℕ). copied ws m before) (let m : 8 * k + c ≡ min (8 * (k + 1)) n = omega (arith, few, lt) in m)
-  where
-    now : block ≡ copied ws (8 * k) before
-    now = e ∙ ap (λ (m : ℕ). copied ws m before) (let m : min (8 * k) n ≡ 8 * k = omega (arith, lt) in m)
+-- the next word's first bytes
+pub copied_to : (ws : List ℕ) (k c n : ℕ) (before block after : List ℕ) (word : ℕ) → k < length ws → c ≤ 8 → 8 * k + c ≡ n → word ≡ slice_index ws k → block ≡ copied ws (8 * k) before → after ≡ take (8 * k) block ++ (take c (to_le_bytes w64 word) ++ drop (8 * k + c) block) → after ≡ copied ws n before
+copied_to ws k c n before block after word lt few end is now e =
+    e ∙ (λ j. take (8 * k) (now j) ++ (take c (to_le_bytes w64 (is j)) ++ drop (8 * k + c) (now j))) ∙ copied_on ws k c before lt few ∙ ap (λ (m : ℕ). copied ws m before) end

@@ -3,7 +3,7 @@
 ghost use Rattle.std.specs.Prelude.{◌≡◌, ◌+◌, ◌*◌, ◌^◌, ◌<◌, ◌≤◌, ◌++◌, IfNone, IfSome, drop, length, take};
 ghost use Rattle.std.specs.Int.{w64, to_le_bytes};
 ghost use Rattle.word_calls.specs.Contents.{head_by};
-ghost use Rattle.tail_claim.specs.Packs.{ring_of};
+ghost use Rattle.tail_claim.specs.Packs.{slot};
 ghost use Rattle.log_rule.specs.Readings.{Looks};
 ghost use Rattle.log_reading.specs.Readers.{Advances, Copies, Finds, FindsNone, HasWord, IsReaderOf, MayReread, ReadsFrame, ReadsNone, Rereads, Rests, SameSeat};
 
@@ -13,7 +13,7 @@ use log_rule::{Look, Pass, Reread, Word};
 use position::{FrameHead, FrameKind, align32};
 use shared_log::Log;
 use std::marker::{Brand, Model};
-use tail_claim::{CONSUMERS, Chosen, LINE, Ring, View};
+use tail_claim::{CONSUMERS, Chosen, LINE, View};
 
 /// A reader of a log's committed frames, one of its consumers.
 #[derive(Drop)]
@@ -82,17 +82,12 @@ fn put_word(bytes: &mut [u8], at: usize, word: u64)
 }
 
 /// Stores a word's first bytes among bytes.
-#[inline(always)]
 fn put_bytes(bytes: &mut [u8], at: usize, word: u64, count: usize)
     requires few { count ≤ 8 }
     requires inside { at + count ≤ length bytes.old }
     ensures stored { bytes.new ≡ take at bytes.old ++ (take count (to_le_bytes w64 word) ++ drop (at + count) bytes.old) }
     ensures same_length { length bytes.new ≡ length bytes.old }
 {
-    if count == 8 {
-        put_word(bytes, at, word);
-        return;
-    }
     bytes[at..at + count].copy_from_slice(&word.to_le_bytes()[..count]);
 }
 
@@ -109,26 +104,35 @@ fn look_as<N: Chosen>(log: &Log, reader: &mut LogReader) -> u64
     words.load::<Look<N>>(&mut reader.seat, place)
 }
 
-/// Loads a word of the frame that begins at a position, which the reader has.
-fn word_as<N: Word>(
-    log: &Log,
-    ring: &mut Ring,
-    reader: &mut LogReader,
-    start: u64,
-    index: u64,
-) -> u64
+/// Loads a word of the frame that begins at a position, which the reader has, from its place.
+fn word_as<N: Word>(log: &Log, reader: &mut LogReader, place: usize, start: u64, index: u64) -> u64
     requires fits { IsReaderOf log.now reader.old }
-    requires ring { ring.old ≡ ring_of log.now.identity.geometry }
-    requires low { start < 2 ^ 56 }
-    requires few { index < 2 ^ 32 }
+    requires there { place ≡ slot log.now.identity.geometry (start + 8 * index) }
     requires chosen { (N.place ≡ reader.old.place) × (N.start ≡ start) × (N.index ≡ index) }
     ensures rests { Rests reader.old reader.new }
     ensures told { HasWord log.now reader.old start index result }
-    ensures same { ring.new ≡ ring.old }
 {
-    let place = log.slot_of(ring, start + 8 * index);
     let words = &log.table.shared;
     words.load::<Reread<N>>(&mut reader.seat, place)
+}
+
+/// Copies so many words behind the header of the frame that begins at a position to the front of bytes.
+fn copy_whole(log: &Log, reader: &mut LogReader, start: u64, words: usize, bytes: &mut [u8])
+    requires fits { IsReaderOf log.now reader.old }
+    requires low { start < 2 ^ 56 }
+    requires few { words < 2 ^ 29 }
+    requires inside { 8 * words ≤ length bytes.old }
+    ensures rests { Rests reader.old reader.new }
+    ensures copies { Copies reader.old start (8 * words) bytes.old bytes.new }
+    ensures same_length { length bytes.new ≡ length bytes.old }
+{
+    let mut ring = log.ring();
+    let mut place = log.slot_of(&mut ring, start + 32);
+    for index in 0..words {
+        let word = word_as::<Brand>(log, reader, place, start, 4 + index as u64);
+        put_word(bytes, 8 * index, word);
+        place = log.slot_behind(&ring, place);
+    }
 }
 
 /// Copies the first bytes behind the header of the frame that begins at a position to the front of others.
@@ -141,11 +145,13 @@ fn copy_words(log: &Log, reader: &mut LogReader, start: u64, count: usize, bytes
     ensures copies { Copies reader.old start count bytes.old bytes.new }
     ensures same_length { length bytes.new ≡ length bytes.old }
 {
-    let mut ring = log.ring();
-    for index in 0..(count + 7) / 8 {
-        let at = 8 * index;
-        let word = word_as::<Brand>(log, &mut ring, reader, start, 4 + index as u64);
-        put_bytes(bytes, at, word, (count - at).min(8));
+    let words = count / 8;
+    copy_whole(log, reader, start, words, bytes);
+    if count % 8 > 0 {
+        let index = 4 + words as u64;
+        let place = log.slot_of(&mut log.ring(), start + 8 * index);
+        let word = word_as::<Brand>(log, reader, place, start, index);
+        put_bytes(bytes, 8 * words, word, count % 8);
     }
 }
 
@@ -239,7 +245,8 @@ pub fn reread(log: &Log, reader: &mut LogReader, position: u64, block: &mut Bloc
 {
     let _ = &log.table;
     let _ = &reader.seat;
-    let word = word_as::<Brand>(log, &mut log.ring(), reader, position, 0);
+    let place = log.slot_of(&mut log.ring(), position);
+    let word = word_as::<Brand>(log, reader, place, position, 0);
     let head = head_in(word, position);
     match head.kind {
         FrameKind::Data => {

@@ -6,7 +6,7 @@ ghost use Rattle.theory.specs.Words.{id_before, id_in, offset_in, tail_word};
 ghost use Rattle.word_calls.specs.declared.step.WordStep.TheVariants as steps;
 ghost use Rattle.word_calls.specs.Frames.{Completes};
 ghost use Rattle.word_calls.specs.Steps.{Adds, Advances, Arms, Commits, Counts, HasWord, Nexts, Rotates, Sees, Stores, addition, tail_exchange, tail_step};
-ghost use Rattle.tail_claim.specs.Packs.{ring_of, slot, tail_place};
+ghost use Rattle.tail_claim.specs.Packs.{data_place, ring_of, slot, table_length, tail_place};
 ghost use Rattle.tail_claim.specs.Handles.{Stepped};
 ghost use Rattle.log_rule.specs.Shares.{share_of};
 ghost use Rattle.shared_log.specs.Handles.{IsOf};
@@ -124,6 +124,18 @@ impl Log {
     {
         let _ = &self.table;
         ring.place_of(position / 8) as usize + DATA
+    }
+
+    /// The place of the word 8 bytes behind the one that stands at a place.
+    #[inline(always)]
+    pub fn slot_behind(&self, ring: &Ring, place: usize) -> usize
+        requires ring { ring.now ≡ ring_of self.now.identity.geometry }
+        requires least { data_place ≤ place }
+        requires inside { place < table_length self.now.identity.geometry }
+        ensures is { (position : ℕ) → place ≡ slot self.now.identity.geometry position → result ≡ slot self.now.identity.geometry (position + 8) }
+    {
+        let _ = &self.table;
+        ring.behind((place - DATA) as u32) as usize + DATA
     }
 
     /// Loads the limit.

@@ -49,3 +49,13 @@ in_thirds n t part =
     let most : d * t ≤ 2 * t = mul-le-mul_right t (omega (arith, third)) in
     let inside : d * t + n % t < 3 * t = omega (arith, low, most) in
     sym (mod-eq_of_lt inside) ∙ sym (add-mul-mod_self_left (d * t + n % t) (3 * t) q) ∙ ap (λ (z : ℕ). z % (3 * t)) sum
+
+-- the place behind one, among so many
+pub behind_one : (place length : ℕ) → place + 1 < length → place + 1 ≡ (place + 1) % length
+behind_one place length low = sym (mod-eq_of_lt low)
+
+-- behind the last is the first
+pub behind_last : (place length : ℕ) → place < length → (place + 1 < length → ⊥) → 0 ≡ (place + 1) % length
+behind_last place length low last =
+    let same : place + 1 ≡ length * 1 = omega (arith, low, last) in
+    sym (ap (λ (n : ℕ). n % length) same ∙ mul-mod_right length 1)

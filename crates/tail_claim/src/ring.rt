@@ -1,6 +1,6 @@
 //! The places of words that lie one behind the other in three terms, and round.
 
-ghost use Rattle.std.specs.Prelude.{◌≡◌, ◌*◌, ◌%◌};
+ghost use Rattle.std.specs.Prelude.{◌≡◌, ◌+◌, ◌*◌, ◌%◌, ◌<◌};
 ghost use Rattle.tail_claim.specs.Packs.{ring_of};
 
 use position::{Geometry, split_by};
@@ -48,6 +48,17 @@ impl Ring {
             return (number - self.lap) as u32;
         }
         self.begin_lap(number)
+    }
+
+    /// The place behind one, that of the next number.
+    #[inline(always)]
+    #[tactic(auto, using(crate::proofs::Rings::behind_one, crate::proofs::Rings::behind_last))]
+    pub fn behind(&self, place: u32) -> u32
+        requires { place < self.now }
+        ensures { result ≡ (place + 1) % self.now }
+    {
+        let length = 3 * self.term;
+        if place + 1 < length { place + 1 } else { 0 }
     }
 
     /// Finds the lap of a number, and its place there.

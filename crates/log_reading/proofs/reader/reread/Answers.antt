@@ -4,9 +4,6 @@ use Rattle.shared_log.specs.Handles.{LogValue}
 use Rattle.log_reading.proofs.Finding.{reread_data, reread_low, reread_pad, shows}
 use Rattle.log_reading.proofs.reader.reread.Goals as goal
 
-pub word_as-word-requires-clause-low : goal.word_as-word-requires-clause-low
-word_as-word-requires-clause-low c = reread_low c.args.log.now _ c.args.reader.now c.args.position c.reader.view_is (subst (λ (l : LogValue). IsGeometry l.identity.geometry) c.log.view_is c.log.invariant.geometry) c.requires.fits c.reader.invariant.1 c.requires.may
-
 pub overflow_sub-count : goal.overflow_sub-count
 overflow_sub-count c = let g : IsGeometry c.args.log.now.identity.geometry = subst (λ (l : LogValue). IsGeometry l.identity.geometry) c.log.view_is c.log.invariant.geometry in
     (shows c.args.log.now c.args.reader.now c.args.position c.word_as-word.result c.head_in-head.result g c.requires.fits c.requires.may c.word_as-word.ensures.told c.head_in-head.ensures).legal.long

@@ -16,8 +16,8 @@ load-requires g c =
     let shape : c.log.inside.table.shared.key.identity ≡ c.args.log.now.identity = c.log.invariant.identity_is ∙ ap (λ (l : LogValue). l.identity) c.log.view_is in (
       search rules,
       search rules,
-      word_here c.log.inside.table.shared.key _ _ g.N.Word.place g.N.Word.start g.N.Word.index me c.slot_of-place.result c.reader.inside.place c.reader.inside.number c.reader.inside.position c.reader.inside.read_to c.reader.invariant.1 low (c.requires.chosen.0 ∙ sym (ap (λ (r : ReaderValue). r.place) c.reader.view_is))
-          (c.slot_of-place.ensures.is ∙ (λ j. slot (sym shape j).geometry (sym chosen j))),
+      word_here c.log.inside.table.shared.key _ _ g.N.Word.place g.N.Word.start g.N.Word.index me c.args.place c.reader.inside.place c.reader.inside.number c.reader.inside.position c.reader.inside.read_to c.reader.invariant.1 low (c.requires.chosen.0 ∙ sym (ap (λ (r : ReaderValue). r.place) c.reader.view_is))
+          (c.requires.there ∙ (λ j. slot (sym shape j).geometry (sym chosen j))),
     )
 
 pub returns-clause-told : goal.returns-clause-told
