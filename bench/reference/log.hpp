@@ -62,7 +62,8 @@ class Words {
     Word &operator[](std::size_t place) { return words[place]; }
 };
 
-struct Log {
+// It has cache lines of its own, as have its readers and its keeper: what one thread changes lies on no line that others read.
+struct alignas(8 * LINE) Log {
     Geometry geometry;
     std::int32_t session, stream;
     Words words;
@@ -161,7 +162,7 @@ struct Log {
 };
 
 // One of the log's consumers.
-struct Reader {
+struct alignas(8 * LINE) Reader {
     Log &log;
     Word &told;
     std::uint64_t position, read_to;
@@ -187,7 +188,7 @@ struct Reader {
     }
 };
 
-struct Keeper {
+struct alignas(8 * LINE) Keeper {
     Log &log;
     std::size_t consumers;
     std::uint64_t start, cleaned, limit;

@@ -2,7 +2,7 @@
 
 ghost use Rattle.std.specs.Prelude.{◌≡◌, ◌+◌, ◌-◌, ◌*◌, ◌/◌, ◌%◌, ◌<◌, ◌≤◌, ◌&&◌, not};
 ghost use Rattle.theory.specs.Refusal.{is_closed, is_connected, limit_in};
-ghost use Rattle.tail_claim.specs.Packs.{ring_of};
+ghost use Rattle.tail_claim.specs.Packs.{slot};
 ghost use Rattle.shared_log.specs.Handles.{IsOf};
 ghost use Rattle.log_rule.specs.Keepings.{MayRaise, Sees};
 ghost use Rattle.log_keeping.specs.Keepers.{CleansAndLimits, IsKeeping, Keeps, Knows, MayCleanTo, MayRaiseFrom, Sweeps, TookSteps, closed_word, connected_word, positions_of, raised, stored_once, with_cleaned, with_limit, with_positions};
@@ -11,7 +11,7 @@ use atomic_table::Seat;
 use log_rule::{Clean, Raise, Seen, Sweep};
 use shared_log::Log;
 use std::marker::{Brand, Model};
-use tail_claim::{CONSUMERS, LINE, Ring, View};
+use tail_claim::{CONSUMERS, LINE, View};
 
 /// The keeper of a log.
 #[derive(Drop)]
@@ -60,18 +60,16 @@ fn sweep(log: &Log, keeper: &mut Keeper) -> u64
     least
 }
 
-/// Stores zero in the next word, which lies below an end.
-fn clean_next(log: &Log, ring: &mut Ring, keeper: &mut Keeper, end: u64)
+/// Stores zero in the next word, which lies below an end, at its place.
+fn clean_next(log: &Log, place: usize, keeper: &mut Keeper, end: u64)
     requires fits { IsOf log.now keeper.old.held }
-    requires ring { ring.old ≡ ring_of log.now.identity.geometry }
+    requires there { place ≡ slot log.now.identity.geometry keeper.old.cleaned }
     requires may { MayCleanTo keeper.old end }
     requires below { keeper.old.cleaned < end }
     requires knows { Knows keeper.old }
     ensures cleans { Keeps keeper.old (with_cleaned (keeper.old.cleaned + 8) keeper.old) keeper.new }
     ensures once { TookSteps keeper.old 1 keeper.new }
-    ensures same { ring.new ≡ ring.old }
 {
-    let place = log.slot_of(ring, keeper.cleaned);
     let words = &log.table.shared;
     words.store::<Clean>(&mut keeper.seat, place, 0);
     keeper.cleaned += 8;
@@ -87,8 +85,10 @@ fn clean_to(log: &Log, keeper: &mut Keeper, end: u64)
 {
     let _ = &keeper.seat;
     let mut ring = log.ring();
+    let mut place = log.slot_of(&mut ring, keeper.cleaned);
     while keeper.cleaned < end {
-        clean_next(log, &mut ring, keeper, end);
+        clean_next(log, place, keeper, end);
+        place = log.slot_behind(&ring, place);
     }
 }
 

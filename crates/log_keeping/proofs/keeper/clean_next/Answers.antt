@@ -1,5 +1,4 @@
 use Rattle.std.proofs.Common.{rules, ◌≡◌, ap, sym, ◌∙◌}
-use Rattle.theory.specs.Bytes.{Identity}
 use Rattle.tail_claim.specs.Packs.{slot}
 use Rattle.shared_log.specs.Handles.{LogValue}
 use Rattle.log_keeping.specs.Keepers.{KeeperValue}
@@ -11,6 +10,6 @@ store-requires c =
     let shape : c.args.log.now.identity ≡ c.log.inside.table.shared.key.identity = sym (c.log.invariant.identity_is ∙ ap (λ (l : LogValue). l.identity) c.log.view_is) in (
       search rules,
       search rules,
-      clean_here c.log.inside.table.shared.key _ _ c.keeper.inside.seat.me c.args.keeper.now c.args.end c.slot_of-place.result c.keeper.inside.limit c.keeper.inside.cleaned (ap (λ (k : KeeperValue). k.held.pass) c.keeper.view_is) (ap (λ (k : KeeperValue). k.cleaned) c.keeper.view_is) c.keeper.invariant.1 c.requires.may c.requires.below
-          (c.slot_of-place.ensures.is ∙ ap (λ (i : Identity). slot i.geometry c.keeper.inside.cleaned) shape),
+      clean_here c.log.inside.table.shared.key _ _ c.keeper.inside.seat.me c.args.keeper.now c.args.end c.args.place c.keeper.inside.limit c.keeper.inside.cleaned (ap (λ (k : KeeperValue). k.held.pass) c.keeper.view_is) (ap (λ (k : KeeperValue). k.cleaned) c.keeper.view_is) c.keeper.invariant.1 c.requires.may c.requires.below
+          (c.requires.there ∙ (λ j. slot (shape j).geometry (sym (ap (λ (k : KeeperValue). k.cleaned) c.keeper.view_is) j))),
     )
