@@ -71,8 +71,9 @@ inline void print_row(const Options &options, const char *program, std::uint64_t
                 static_cast<unsigned long long>(static_cast<double>(messages) / seconds), percentiles);
 }
 
-// The messages that a subscriber got: each publisher's in order, each once, none of another length.
-class Tally {
+// The messages that a subscriber got: each publisher's in order, each once, none of another length. Its cache lines are its
+// own, since publishers read the options that stand beside it.
+class alignas(128) Tally {
     Options options;
     std::vector<std::uint32_t> next;
     std::vector<std::uint64_t> samples;
