@@ -2,16 +2,15 @@
 
 ghost use Rattle.std.specs.Prelude.{◌≡◌, IfOk};
 ghost use Rattle.shared_log.specs.Handles.{IsOf};
-ghost use Rattle.log_parts.specs.Parts.{IsNewReader};
+ghost use Rattle.shared_log.specs.Parts.{IsNewReader};
 ghost use Rattle.agent_way.specs.Senders.{IsFirstLog, IsSender};
 
 use agent_way::{Agent, carry, device_with, duty_over, listening, open_agent, open_log, publish};
-use agents::{AgentFault, DATAGRAMS, Duty, REPLY};
+use agents::{CYCLE_DATAGRAMS, Duty, REPLY};
 use conductor::{Client, Conductor};
-use endpoint::{Datagrams, FailingDatagrams, MemoryDevice};
-use log_reading::LogReader;
+use endpoint::{Datagrams, DeviceError, FailingDatagrams, MemoryDevice};
 use receiver::Subscriber;
-use shared_log::{Log, Publisher};
+use shared_log::{Log, LogReader, Publisher};
 use std::alloc::Global;
 use std::sync::Wait;
 use std::test::*;
@@ -90,7 +89,7 @@ fn duty_of(alloc: Global, wire: &mut Wire, mtu: u32) -> Result<Broken, Fail>
 fn count(own: &mut Wire, duty: &Broken) {
     let inner = duty.device().inner();
     let others = (inner.sent().len() as u64).saturating_add(inner.nones());
-    let waiting = own.came.len().min(DATAGRAMS) as u64;
+    let waiting = own.came.len().min(CYCLE_DATAGRAMS) as u64;
     let (received, fails) = if duty.device().failures() > 0 {
         (own.fails.saturating_sub(others).saturating_sub(1), 0)
     } else {
@@ -113,9 +112,9 @@ fn pass_on(alloc: Global, duty: &Broken, peer: &mut Wire) -> Result<(), Fail> {
 }
 
 /// Whether a cycle's answer is its device's.
-fn is_told(answer: Result<bool, AgentFault>, duty: &Broken) -> bool {
+fn is_told(answer: Result<bool, DeviceError>, duty: &Broken) -> bool {
     if duty.device().failures() > 0 {
-        answer == Err(AgentFault::Device)
+        answer == Err(DeviceError::Device)
     } else {
         answer.is_ok()
     }

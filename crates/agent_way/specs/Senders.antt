@@ -2,9 +2,9 @@
 use Rattle.std.specs.Prelude.{◌≡◌, ℕ, pos}
 use Rattle.shared_log.specs.Handles.{LogValue}
 use Rattle.sender.specs.Sending.{Sending, SendsFrom}
-use Rattle.log_reading.specs.Readers.{IsReaderOf}
-use Rattle.log_reading.specs.Sourced.{source_of}
-use Rattle.log_reading.specs.declared.source.LogFrames.{LogFrames}
+use Rattle.shared_log.specs.Readers.{IsReaderOf}
+use Rattle.shared_log.specs.Sourced.{source_of}
+use Rattle.shared_log.specs.declared.reader.source.LogFrames.{LogFrames}
 
 -- it reads its log, and has sent what comes before its position
 pub record IsSender (s : Sending LogFrames ℕ) : Type 0 where
@@ -16,6 +16,7 @@ pub record IsSender (s : Sending LogFrames ℕ) : Type 0 where
 pub record IsFirstLog (l : LogValue) : Type 0 where
   pub session : l.identity.session ≡ pos 1
   pub stream : l.identity.stream ≡ pos 1001
+  pub term : l.identity.geometry.term_length ≡ 65536
   pub mtu : l.identity.geometry.mtu ≡ 1408
   pub start : l.start ≡ 0
   pub consumers : l.consumers ≡ 1

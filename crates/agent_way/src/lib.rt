@@ -1,5 +1,5 @@
-//! What tests of duty cycles share: a log with its publisher and its sender, a subscriber, and devices in memory between
-//! them.
+//! What tests of duty cycles share: a log with its publisher and its sender, a subscriber, and devices in memory
+//! between them.
 #![tactic(auto)]
 
 mod way;

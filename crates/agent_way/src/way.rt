@@ -4,56 +4,55 @@ ghost use Rattle.std.specs.Prelude.{◌≡◌, ◌≤◌, ◌<◌, None, IfOk, l
 ghost use Rattle.theory.specs.Position.{max_message};
 ghost use Rattle.receiver.specs.Receiving.{Receiver};
 ghost use Rattle.receiver.specs.Subscribing.{RepresentsSubscriber};
-ghost use Rattle.shared_log.specs.Handles.{AreNew, IsOf};
-ghost use Rattle.log_parts.specs.Parts.{IsNewReader};
+ghost use Rattle.shared_log.specs.Handles.{IsOf};
+ghost use Rattle.shared_log.specs.Parts.{IsNewReader};
 ghost use Rattle.agent_way.specs.Senders.{IsFirstLog, IsSender};
 
-use agents::{AgentFault, Duty, REPLY};
-use endpoint::{Datagrams, MemoryDevice};
+use agents::{Duty, LogPasses, LogSender, REPLY};
+use endpoint::{Datagrams, DeviceError, MemoryDevice};
 use flow_control::UnicastFlow;
 use frames::{Frame, Status, write_frame};
-use log_keeping::{clean_and_limit, set_connected};
-use log_parts::{Parts, open};
-use log_reading::{LogFrames, LogReader};
-use position::Geometry;
+use position::{Geometry, Identity};
+use publication::{Refusal, offer};
 use receiver::{ReceiverCore, Subscriber};
 use sender::SenderCore;
-use sender_agent::SenderAgent;
-use shared_log::{Log, OnLog, Publisher};
+use shared_log::{Log, LogFrames, LogReader, OnLog, Publisher, clean_and_limit, set_connected};
 use std::alloc::{AllocError, Global};
 use std::test::Fail;
-use word_calls::{Refusal, offer};
 
 /// The sender of these tests.
 pub type Sender<'a> = SenderCore<LogFrames<'a>, UnicastFlow>;
 
+/// The agent of these tests.
+pub type Agent<'a> = LogSender<'a>;
+
 /// A log with terms of 65,536 bytes that begins at 0, connected, with its limit half a term above that; its first
 /// publisher and its one reader.
+#[tactic(auto, using(agents::proofs::NewPublishers::first_done))]
 pub fn open_log(alloc: Global) -> Result<(Log, Publisher, LogReader), Fail>
     ensures publisher { IfOk result (λ r. IsOf r.0 r.1) }
     ensures reader { IfOk result (λ r. IsNewReader r.0 0 r.2) }
     ensures log { IfOk result (λ r. IsFirstLog r.0) }
 {
     let geometry = Geometry::new(65_536, 1408, 7)?;
-    let (log, parts) = open(alloc, geometry, 1, 1001, 0, 1)?;
-    let Parts {
-        publishers,
-        mut readers,
+    let LogPasses {
+        log,
+        mut publishers,
+        reader,
         mut keeper,
-    } = parts;
+    } = agents::open_log(alloc, Identity::new(geometry, 1, 1001), 0)?;
     set_connected(&log, &mut keeper, true);
     clean_and_limit(&log, &mut keeper);
-    let first = first_of(alloc, &log, publishers)?;
-    Ok((log, first, readers.remove(0)))
+    Ok((log, publishers.remove(0), reader))
 }
 
-/// The first of a log's publishers.
-fn first_of(alloc: Global, log: &Log, publishers: [Publisher; 8]) -> Result<Publisher, Fail>
-    requires { AreNew log.now 0 publishers }
-    ensures { IfOk result (λ p. IsOf log.now p) }
+/// An agent that has sent nothing yet.
+pub fn open_agent<'a>(alloc: Global, log: &'a Log, reader: LogReader) -> Result<Agent<'a>, Fail>
+    requires reader { IsNewReader log.now 0 reader }
+    requires log { IsFirstLog log.now }
+    ensures { IfOk result (λ a. IsSender a.core) }
 {
-    let mut publishers = Vec::from_array(alloc, publishers)?;
-    Ok(publishers.remove(0))
+    Ok(agents::open_sender(alloc, log, reader)?)
 }
 
 /// A sender that has sent nothing yet.
@@ -62,25 +61,7 @@ pub fn open_sender<'a>(alloc: Global, log: &'a Log, reader: LogReader) -> Result
     requires log { IsFirstLog log.now }
     ensures { IfOk result (λ s. IsSender s) }
 {
-    let geometry = log.identity().geometry();
-    let reads = LogFrames { log, reader };
-    let flow = UnicastFlow::new(0);
-    match SenderCore::new(alloc, geometry, 1, 1001, 0, reads, flow) {
-        Ok(sender) => Ok(sender),
-        Err(_) => Err("no memory".into()),
-    }
-}
-
-/// The agent of these tests.
-pub type Agent<'a> = SenderAgent<LogFrames<'a>, UnicastFlow>;
-
-/// An agent that has sent nothing yet.
-pub fn open_agent<'a>(alloc: Global, log: &'a Log, reader: LogReader) -> Result<Agent<'a>, Fail>
-    requires reader { IsNewReader log.now 0 reader }
-    requires log { IsFirstLog log.now }
-    ensures { IfOk result (λ a. IsSender a.core) }
-{
-    Ok(SenderAgent::new(open_sender(alloc, log, reader)?))
+    Ok(open_agent(alloc, log, reader)?.into_core())
 }
 
 /// A subscriber that has no image yet.
@@ -166,7 +147,7 @@ pub fn send<D: Datagrams + Drop>(
     sender: &mut Sender<'_>,
     device: D,
     now: u64,
-) -> Result<(Result<bool, AgentFault>, Duty<D>), Fail>
+) -> Result<(Result<bool, DeviceError>, Duty<D>), Fail>
     requires { IsSender sender.old }
     ensures { IsSender sender.new }
 {

@@ -6,8 +6,8 @@ use Rattle.endpoint.specs.Devices.{Device, HasGrown, NeverFall}
 use Rattle.endpoint.specs.declared.datagrams.DeviceFailed.{DeviceFailed}
 use Rattle.agents.specs.Traffic.{Carries, IsPart, are_some}
 use Rattle.agents.specs.Cycles.{Cycle, Explains, Fault, Hearing, TicksBehind, Ticking}
-use Rattle.agents.specs.declared.fault.AgentFault.{AgentFault}
-use Rattle.agents.specs.declared.fault.AgentFault.TheVariants as faults
+use Rattle.endpoint.specs.declared.device_error.DeviceError.{DeviceError}
+use Rattle.endpoint.specs.declared.device_error.DeviceError.TheVariants as faults
 use Rattle.agents.proofs.Carrying.{carried_on, grown_later, part_behind}
 use Rattle.agents.proofs.Hearings.{Hears}
 
@@ -54,7 +54,7 @@ cycle_done hears ticks now tells still s m t d e f n any busy on h stays k is =
     }
 
 -- one came before the tick
-pub fault_before : {P : Type 0} (hears : Hears P) (ticks : Ticks P) (now : ℕ) (tells : Type 0) (s m : P) (d e : Device) (fault : AgentFault) (r : Result Bool AgentFault) →
+pub fault_before : {P : Type 0} (hears : Hears P) (ticks : Ticks P) (now : ℕ) (tells : Type 0) (s m : P) (d e : Device) (fault : DeviceError) (r : Result Bool DeviceError) →
     r ≡ Err fault → Hearing hears now tells 16 s d (Err fault) m e → IfErr r (λ why. Fault hears ticks now tells why s d m e)
 fault_before hears ticks now tells s m d e fault r is h = subst (λ x. IfErr x (λ why. Fault hears ticks now tells why s d m e)) (sym is) (record {
   heard = h.heard;
@@ -72,7 +72,7 @@ fault_before hears ticks now tells s m d e fault r is h = subst (λ x. IfErr x (
 })
 
 -- one came when the tick was done
-pub fault_behind : {P : Type 0} (hears : Hears P) (ticks : Ticks P) (now : ℕ) (tells still : Type 0) (s m t : P) (d e f : Device) (n : ℕ) (failed : DeviceFailed) (r : Result Bool AgentFault) →
+pub fault_behind : {P : Type 0} (hears : Hears P) (ticks : Ticks P) (now : ℕ) (tells still : Type 0) (s m t : P) (d e f : Device) (n : ℕ) (failed : DeviceFailed) (r : Result Bool DeviceError) →
     r ≡ Err faults.Device → (tells → still) → NeverFall d e → Hearing hears now tells 16 s d (Ok n) m e → f.nones ≡ e.nones → Ticking ticks now still m e (Err failed) t f → IfErr r (λ why. Fault hears ticks now tells why s d t f)
 fault_behind hears ticks now tells still s m t d e f n failed r is on counts h stays k = subst (λ x. IfErr x (λ why. Fault hears ticks now tells why s d t f)) (sym is) (record {
   heard = h.heard;

@@ -8,8 +8,8 @@ use Rattle.endpoint.specs.Devices.{Device, NeverFall}
 use Rattle.endpoint.specs.declared.datagrams.DeviceFailed.{DeviceFailed}
 use Rattle.agents.specs.Traffic.{Carries, SendsOut, are_some}
 use Rattle.agents.specs.Cycles.{Explains, Hearing, HearsAll, Ticking}
-use Rattle.agents.specs.declared.fault.AgentFault.{AgentFault}
-use Rattle.agents.specs.declared.fault.AgentFault.TheVariants as faults
+use Rattle.endpoint.specs.declared.device_error.DeviceError.{DeviceError}
+use Rattle.endpoint.specs.declared.device_error.DeviceError.TheVariants as faults
 use Rattle.agents.proofs.Carrying.{carried_on, grown_later, part_behind, whole_part}
 
 abbrev pub Hears : Type 0 → Type 1
@@ -84,12 +84,12 @@ heard_few hears now tells still count s d t e u f low on counts h n none k =
       carries = λ x. subst (λ xs. Carries d xs m.given f) (sym (append-nil m.heard)) (m.carries x);
     }
 
-explained_later : (fault : AgentFault) (d e f : Device) (lost : List (List ℕ)) → NeverFall d e → Explains fault e lost f → Explains fault d lost f
+explained_later : (fault : DeviceError) (d e f : Device) (lost : List (List ℕ)) → NeverFall d e → Explains fault e lost f → Explains fault d lost f
 explained_later faults.Device d e f lost counts h = (grown_later _ _ _ counts.failures h.0, h.1)
 explained_later faults.Memory d e f lost counts h = h
 
 -- so many were heard, and then a fault came
-pub heard_until : {P : Type 0} (hears : Hears P) (now : ℕ) (tells still : Type 0) (count : ℕ) (s : P) (d : Device) (t : P) (e : Device) (u : P) (f : Device) (fault : AgentFault) (r : Result ℕ AgentFault) → r ≡ Err fault → count < 16 → (tells → still) → NeverFall d e → Heard hears now tells count s d t e → Hearing hears now still 1 t e (Err fault) u f → Hearing hears now tells 16 s d r u f
+pub heard_until : {P : Type 0} (hears : Hears P) (now : ℕ) (tells still : Type 0) (count : ℕ) (s : P) (d : Device) (t : P) (e : Device) (u : P) (f : Device) (fault : DeviceError) (r : Result ℕ DeviceError) → r ≡ Err fault → count < 16 → (tells → still) → NeverFall d e → Heard hears now tells count s d t e → Hearing hears now still 1 t e (Err fault) u f → Hearing hears now tells 16 s d r u f
 heard_until hears now tells still count s d t e u f fault r is low on counts h k = subst (λ x. Hearing hears now tells 16 s d x u f) (sym is) (record {
   heard = h.heard ++ k.heard;
   lost = k.lost;
@@ -112,7 +112,7 @@ carries_none : (d e : Device) → e.received ≡ d.received → e.sent ≡ d.sen
 carries_none d e r s = record { received = r ∙ sym (append-nil d.received); sent = s ∙ sym (append-nil d.sent) }
 
 -- the device failed
-pub receive_failed : {P : Type 0} (hears : Hears P) (now : ℕ) (tells : Type 0) (s : P) (d e : Device) (before after : List ℕ) (failed : DeviceFailed) (r : Result ℕ AgentFault) → r ≡ Err faults.Device → Receives tells d before (Err failed) after e → Hearing hears now tells 1 s d r s e
+pub receive_failed : {P : Type 0} (hears : Hears P) (now : ℕ) (tells : Type 0) (s : P) (d e : Device) (before after : List ℕ) (failed : DeviceFailed) (r : Result ℕ DeviceError) → r ≡ Err faults.Device → Receives tells d before (Err failed) after e → Hearing hears now tells 1 s d r s e
 receive_failed hears now tells s d e before after failed r is k = subst (λ x. Hearing hears now tells 1 s d x s e) (sym is) (record {
   heard = [];
   lost = [];
@@ -166,7 +166,7 @@ pub front_is : (after items bytes : List ℕ) (size n : ℕ) → bytes ≡ take 
 front_is after items bytes size n shown long = ap (take n) (shown ∙ ap (λ k. take k (after ++ drop (length after) items)) (sym long) ∙ take-append_seam after (drop (length after) items))
 
 -- memory was refused for it
-pub one_lost : {P : Type 0} (hears : Hears P) (now : ℕ) (tells : Type 0) (s t : P) (d e : Device) (bytes : List ℕ) (r : Result ℕ AgentFault) → r ≡ Err faults.Memory → t ≡ s → Came tells d bytes e → Hearing hears now tells 1 s d r t e
+pub one_lost : {P : Type 0} (hears : Hears P) (now : ℕ) (tells : Type 0) (s t : P) (d e : Device) (bytes : List ℕ) (r : Result ℕ DeviceError) → r ≡ Err faults.Memory → t ≡ s → Came tells d bytes e → Hearing hears now tells 1 s d r t e
 one_lost hears now tells s t d e bytes r is same c = subst (λ x. Hearing hears now tells 1 s d x t e) (sym is) (record {
   heard = [];
   lost = bytes ∷ [];
@@ -202,7 +202,7 @@ one_answered hears now tells still s t d e f bytes given u on c heard stays send
 }
 
 -- or a part of that, and then the device failed
-pub one_broken : {P : Type 0} (hears : Hears P) (now : ℕ) (tells still : Type 0) (s t : P) (d e f : Device) (bytes : List ℕ) (given : List (List ℕ)) (failed : DeviceFailed) (r : Result ℕ AgentFault) → r ≡ Err faults.Device → (tells → still) → Came tells d bytes e → hears s now bytes t given → f.received ≡ e.received → SendsOut still e given (Err failed) f → Hearing hears now tells 1 s d r t f
+pub one_broken : {P : Type 0} (hears : Hears P) (now : ℕ) (tells still : Type 0) (s t : P) (d e f : Device) (bytes : List ℕ) (given : List (List ℕ)) (failed : DeviceFailed) (r : Result ℕ DeviceError) → r ≡ Err faults.Device → (tells → still) → Came tells d bytes e → hears s now bytes t given → f.received ≡ e.received → SendsOut still e given (Err failed) f → Hearing hears now tells 1 s d r t f
 one_broken hears now tells still s t d e f bytes given failed r is on c heard stays sends = subst (λ x. Hearing hears now tells 1 s d x t f) (sym is) (record {
   heard = bytes ∷ [];
   lost = [];
@@ -252,6 +252,6 @@ any_are_some (d ∷ ds) n h = lt-ltb 0 n (omega (arith, h))
 
 -- ---- an answer that is this error
 
-pub err_is : {X : Type 0} (r : Result X AgentFault) (fault : AgentFault) → IsErrAnd r (λ e. e ≡ fault) → r ≡ Err fault
+pub err_is : {X : Type 0} (r : Result X DeviceError) (fault : DeviceError) → IsErrAnd r (λ e. e ≡ fault) → r ≡ Err fault
 err_is (Ok x) fault h = absurd h
 err_is (Err e) fault h = ap Err h

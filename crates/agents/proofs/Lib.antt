@@ -1,3 +1,9 @@
 pub mod Carrying
 pub mod Hearings
 pub mod Cycling
+pub mod Heard
+pub mod Runs
+pub mod Images
+pub mod Reaching
+pub mod NewSenders
+pub mod NewPublishers

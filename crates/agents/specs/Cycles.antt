@@ -3,8 +3,8 @@ use Rattle.std.specs.Prelude.{◌≡◌, ◌⊎◌, ℕ, ◌+◌, ◌<◌, ◌�
 use Rattle.endpoint.specs.Devices.{Device, HasGrown}
 use Rattle.endpoint.specs.declared.datagrams.DeviceFailed.{DeviceFailed}
 use Rattle.agents.specs.Traffic.{Carries, IsPart, are_some}
-use Rattle.agents.specs.declared.fault.AgentFault.{AgentFault}
-use Rattle.agents.specs.declared.fault.AgentFault.TheVariants as faults
+use Rattle.endpoint.specs.declared.device_error.DeviceError.{DeviceError}
+use Rattle.endpoint.specs.declared.device_error.DeviceError.TheVariants as faults
 
 pub record DutyState (D : Type 0) : Type 0 where
   pub device : D
@@ -17,12 +17,12 @@ HearsAll hears now s [] t given = (t ≡ s) × (given ≡ [])
 HearsAll {P} hears now s (d ∷ ds) t given = (u : P) × (first rest : List (List ℕ)) × hears s now d u first × HearsAll hears now u ds t rest × (given ≡ first ++ rest)
 
 -- a device failed that has counted it, or memory was refused to one datagram, which is lost
-abbrev pub Explains : AgentFault → Device → List (List ℕ) → Device → Type 0
+abbrev pub Explains : DeviceError → Device → List (List ℕ) → Device → Type 0
 Explains faults.Device d lost e = HasGrown d.failures e.failures × (lost ≡ [])
 Explains faults.Memory d lost e = length lost ≡ 1
 
 -- datagrams that had come, and what the party gave out for them; of that a part was sent, all of it but at a fault
-pub record Hearing {P : Type 0} (hears : P → ℕ → List ℕ → P → List (List ℕ) → Type 0) (now : ℕ) (tells : Type 0) (most : ℕ) (s : P) (d : Device) (result : Result ℕ AgentFault) (t : P) (e : Device) : Type 0 where
+pub record Hearing {P : Type 0} (hears : P → ℕ → List ℕ → P → List (List ℕ) → Type 0) (now : ℕ) (tells : Type 0) (most : ℕ) (s : P) (d : Device) (result : Result ℕ DeviceError) (t : P) (e : Device) : Type 0 where
   pub heard : List (List ℕ)
   pub lost : List (List ℕ)
   pub given : List (List ℕ)
@@ -69,7 +69,7 @@ pub record TicksBehind {P : Type 0} (ticks : P → ℕ → P → List (List ℕ)
   pub ticked : ticks middle now t given
 
 -- a fault ended it, while datagrams were heard, and then there was no tick, or behind the tick; of what the party gave out a part was sent
-pub record Fault {P : Type 0} (hears : P → ℕ → List ℕ → P → List (List ℕ) → Type 0) (ticks : P → ℕ → P → List (List ℕ) → Type 0) (now : ℕ) (tells : Type 0) (fault : AgentFault) (s : P) (d : Device) (t : P) (e : Device) : Type 0 where
+pub record Fault {P : Type 0} (hears : P → ℕ → List ℕ → P → List (List ℕ) → Type 0) (ticks : P → ℕ → P → List (List ℕ) → Type 0) (now : ℕ) (tells : Type 0) (fault : DeviceError) (s : P) (d : Device) (t : P) (e : Device) : Type 0 where
   pub heard : List (List ℕ)
   pub lost : List (List ℕ)
   pub answers : List (List ℕ)

@@ -1,4 +1,9 @@
 pub mod Cycles
 pub mod Parties
-pub mod Texts
 pub mod Traffic
+pub mod Asking
+pub mod Duties
+pub mod Publishing
+pub mod Conducting
+pub mod NewPasses
+pub mod LogSenders

@@ -1,22 +1,19 @@
 //! A device with its room, and a party's cycle over it.
 
 ghost use Rattle.std.specs.Prelude.{◌≡◌, IfErr, IfOk};
+ghost use Rattle.endpoint.specs.declared.device_error.DeviceError.TheVariants.{Memory};
 ghost use Rattle.endpoint.specs.Devices.{NeverFall};
 ghost use Rattle.agents.specs.Cycles.{Cycle, Fault, Hearing, Ticking};
 
-use crate::fault::AgentFault;
 use crate::party::Party;
 use crate::sending::send_all;
-use endpoint::{Datagrams, DeviceFailed};
+use endpoint::{Datagrams, DeviceError, DeviceFailed, GREATEST_DATAGRAM};
 use outbox::Outbox;
 use std::alloc::{AllocError, Global};
 use std::marker::Model;
 
 /// How many datagrams a cycle takes at the most.
-pub const DATAGRAMS: usize = 16;
-
-/// How many bytes of a datagram are read.
-const GREATEST: usize = 65_536;
+pub const CYCLE_DATAGRAMS: usize = 16;
 
 /// A device, and room for the datagrams that come and go over it.
 #[derive(Drop)]
@@ -32,6 +29,14 @@ pub struct Denied<D> {
     pub device: D,
 }
 
+impl<D: Drop> From<Denied<D>> for DeviceError {
+    ghost from_gives = { λ _ error. error ≡ Memory };
+
+    fn from(_denied: Denied<D>) -> DeviceError {
+        DeviceError::Memory
+    }
+}
+
 impl<D> Model for Duty<D> {
     ghost use Rattle.agents.specs.Cycles.{DutyState};
 
@@ -45,7 +50,7 @@ fn room(alloc: Global, mtu: u32) -> Result<(Outbox, Vec<u8>), AllocError>
     ensures { IfOk result (λ r. r.0.mtu ≡ mtu) }
 {
     let outbox = Outbox::new(alloc, mtu)?;
-    let buffer = vec![in alloc; 0; GREATEST]?;
+    let buffer = vec![in alloc; 0; GREATEST_DATAGRAM]?;
     Ok((outbox, buffer))
 }
 
@@ -76,7 +81,7 @@ impl<D> Duty<D> {
 impl<D: Datagrams> Duty<D> {
     /// Takes a datagram, if one has come, and sends what the party gives for it. The answer is how many had come: one or
     /// none.
-    fn hear_next<P: Party>(&mut self, party: &mut P, now: u64) -> Result<usize, AgentFault>
+    fn hear_next<P: Party>(&mut self, party: &mut P, now: u64) -> Result<usize, DeviceError>
         requires stands { P.stands party.old }
         requires size { self.old.mtu ≡ P.mtu party.old }
         ensures counts { NeverFall (D.device self.old.device) (D.device self.new.device) }
@@ -95,7 +100,7 @@ impl<D: Datagrams> Duty<D> {
     }
 
     /// Takes the datagrams that have come, 16 at the most. The answer is how many there were.
-    fn hear_all<P: Party>(&mut self, party: &mut P, now: u64) -> Result<usize, AgentFault>
+    fn hear_all<P: Party>(&mut self, party: &mut P, now: u64) -> Result<usize, DeviceError>
         requires stands { P.stands party.old }
         requires size { self.old.mtu ≡ P.mtu party.old }
         ensures counts { NeverFall (D.device self.old.device) (D.device self.new.device) }
@@ -104,12 +109,12 @@ impl<D: Datagrams> Duty<D> {
         ensures size { (self.new.mtu ≡ self.old.mtu) × (P.mtu party.new ≡ P.mtu party.old) }
         ensures still_tells { D.tells self.old.device → D.tells self.new.device }
     {
-        for count in 0..DATAGRAMS {
+        for count in 0..CYCLE_DATAGRAMS {
             if self.hear_next(party, now)? == 0 {
                 return Ok(count);
             }
         }
-        Ok(DATAGRAMS)
+        Ok(CYCLE_DATAGRAMS)
     }
 
     /// Tells the party the moment, and sends what is due. Whether anything was.
@@ -132,7 +137,7 @@ impl<D: Datagrams> Duty<D> {
     /// for each is sent; then it is told the moment, and what is due is sent. Whether a datagram came or went. At a fault
     /// the rest of what the party gave isn't sent. Where it came while datagrams were taken or answered, the party isn't told
     /// the moment; it has been told where the device failed behind that. The next cycle may be called after it.
-    pub fn cycle<P: Party>(&mut self, party: &mut P, now: u64) -> Result<bool, AgentFault>
+    pub fn cycle<P: Party>(&mut self, party: &mut P, now: u64) -> Result<bool, DeviceError>
         requires stands { P.stands party.old }
         requires size { self.old.mtu ≡ P.mtu party.old }
         ensures counts { NeverFall (D.device self.old.device) (D.device self.new.device) }

@@ -1,17 +1,48 @@
-//! Duty cycles: what a sender and a receiver do over and over, each with its device.
+//! Duty cycles: what the agents of a sender, a receiver and a conductor do over and over, and the idle strategy
+//! between cycles.
 //!
-//! A cycle takes at most 16 datagrams that have come, hands each to the party, and sends what that gives; then the party
-//! is told the moment, and what is due goes out. No cycle waits.
+//! A cycle, for any party and any device (`Duty::cycle`): the party heard datagrams one after the other, 16 or as
+//! many as there were before a receive found none; then came one tick. Where the device tells, which one over UDP
+//! doesn't, these are the datagrams that it handed over, and what it has carried away is exactly what these steps
+//! gave out, in order. At a fault it's a beginning of that, with a tick only where all was heard and answered, and
+//! either the device has counted a failure or memory was refused to one datagram, which is lost. The answer is true
+//! exactly where a datagram came or went at the tick. A sender's core and a receiver with its subscriber are such
+//! parties (`Party`).
+//!
+//! A sender asks for Connect exactly where a status message that doesn't ask for a SETUP has been heard and the queue
+//! hasn't taken the command yet; at a fault nothing is asked, and over any run of cycles a fresh client has submitted
+//! nothing or Connect alone (`SenderAgent::cycle`; the lemmas `asks_at_most_once`, `runs_ask_once`, `by_cycle`). A
+//! receiver's cycle without a fault publishes the subscriber's positions, all three together and once, if there is an
+//! image; a poll publishes nothing (`ReceiverAgent`). Whoever has that agent, out of a lock too, knows that the
+//! subscriber stands no lower than what was published last. A conductor's cycle does the command that was submitted
+//! first, by one store of the limit word, or finds the queue empty; then the keeper cleans and limits (`conduct`).
+//!
+//! A log opens for the agents of one stream with one reader and all its passes (`open_log`, by `AreNewPasses`), and its
+//! sender's agent has sent nothing yet (`open_sender`, by `IsNewSender`). `IdleStrategy::after` counts the idle turns
+//! in a row, up to 200; that a thread yields or sleeps no contract can say.
 #![tactic(auto)]
 
+mod began;
+mod conductor_agent;
 mod duty;
-mod fault;
+mod idle_strategy;
+mod log_passes;
+mod log_sender;
 mod party;
+mod receiver_agent;
 mod receiver_party;
+mod sender_agent;
 mod sender_party;
 mod sending;
 
-pub use duty::{DATAGRAMS, Denied, Duty};
-pub use fault::AgentFault;
+pub use began::Began;
+pub use conductor_agent::conduct;
+pub use duty::{CYCLE_DATAGRAMS, Denied, Duty};
+pub use idle_strategy::IdleStrategy;
+pub use log_passes::{LogPasses, open_log};
+pub use log_sender::{LogSender, open_sender};
 pub use party::Party;
+pub use receiver_agent::ReceiverAgent;
+pub use receiver_agent::named::Named;
 pub use receiver_party::REPLY;
+pub use sender_agent::SenderAgent;

@@ -7,7 +7,7 @@ use Rattle.std.proofs.lemmas.List.Splits.{slice_split_first}
 use Rattle.channel.specs.Settings.{name_of, Lacks, IsHost, HasNoValue}
 use Rattle.channel.specs.declared.parameter.Parameter.{Parameter}
 use Rattle.channel.specs.declared.parameter.Parameter.TheVariants.{Endpoint, Mtu, TermLength, SessionId, InitialTermId, TermId, TermOffset}
-use Rattle.decimals.specs.Decimals.{number_of}
+use Rattle.text.specs.Decimals.{number_of}
 use Rattle.channel.specs.Channels.{parts}
 
 -- a text with the byte doesn't lack it

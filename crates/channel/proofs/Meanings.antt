@@ -8,7 +8,7 @@ use Rattle.channel.specs.declared.settings.Settings.{Settings}
 use Rattle.channel.specs.declared.fault.ChannelFault.{ChannelFault}
 use Rattle.channel.specs.declared.fault.ChannelFault.TheVariants.{Prefix, Part, Unknown, Repeated, Value, Host, NoEndpoint, Apart}
 use Rattle.channel.specs.Settings.{name_of, parameter_of, is_set, with_setting, Says, Sets, IsEndpoint, IsForeign, IsHost, IsValueOf, HasNoValue}
-use Rattle.decimals.specs.Decimals.{number_of}
+use Rattle.text.specs.Decimals.{number_of}
 use Rattle.channel.specs.Channels.{IsPartFault}
 use Rattle.channel.proofs.Cuts.{cut_once, host_lacks, lacks_none, name_lacks}
 

@@ -1,7 +1,7 @@
 -- A few texts and what they spell.
 use Rattle.std.proofs.Common.{◌≡◌, None, Some, refl}
 use Rattle.std.specs.Prelude.{codes, negsuc}
-use Rattle.decimals.specs.Decimals.{signed_of, number_of}
+use Rattle.text.specs.Decimals.{signed_of, number_of}
 use Rattle.channel.specs.Values.{size_of}
 
 sixty_four_k : size_of (codes "64k") ≡ Some 65536

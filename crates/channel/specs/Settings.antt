@@ -5,7 +5,7 @@ use Rattle.channel.specs.declared.parameter.Parameter.TheVariants.{Endpoint, Mtu
 use Rattle.channel.specs.declared.parameter.Setting.{Setting}
 use Rattle.channel.specs.declared.parameter.Setting.TheVariants as sets
 use Rattle.channel.specs.declared.settings.Settings.{Settings}
-use Rattle.decimals.specs.Decimals.{number_of, signed_of}
+use Rattle.text.specs.Decimals.{number_of, signed_of}
 use Rattle.channel.specs.Values.{size_of}
 
 abbrev pub name_of : Parameter → List ℕ

@@ -1,6 +1,6 @@
 -- Which text spells which size.
 use Rattle.std.specs.Prelude.{◌==◌, ℕ, ◌-◌, ◌*◌, ◌^◌, ◌||◌, nat_lt, List, length, take, slice_index, Option, Some, None, if◌then◌else◌}
-use Rattle.decimals.specs.Decimals.{◌>>=◌, number_of}
+use Rattle.text.specs.Decimals.{◌>>=◌, number_of}
 
 -- what a last letter stands for: k and K, m and M, g and G; any other is none of the unit
 abbrev pub unit_of : ℕ → ℕ

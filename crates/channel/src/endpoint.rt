@@ -3,13 +3,13 @@
 ghost use Rattle.std.specs.Prelude.{◌≡◌, ◌<◌, ◌↔◌, ℕ, IsTrue, IfOk, IfErr, IfSome, IfNone, Some, false};
 ghost use Rattle.channel.specs.Channels.{IsPartFault};
 ghost use Rattle.channel.specs.Endpoints.{IsValueFault};
-ghost use Rattle.decimals.specs.Decimals.{number_of};
+ghost use Rattle.text.specs.Decimals.{number_of};
 ghost use Rattle.channel.specs.Settings.{IsHost, IsValueOf, Says, is_set, parameter_of};
 
 use crate::fault::ChannelFault;
 use crate::parameter::{Parameter, Setting};
 use crate::settings::Settings;
-use decimals::number;
+use text::number;
 
 /// Whether the host is this machine.
 fn is_here(host: &str) -> bool

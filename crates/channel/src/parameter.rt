@@ -6,7 +6,7 @@ ghost use Rattle.channel.specs.declared.parameter.Parameter.TheVariants.{Endpoin
 ghost use Rattle.channel.specs.Settings.{name_of, parameter_of, IsValueOf, HasNoValue};
 
 use crate::values::size;
-use decimals::{number, signed};
+use text::{number, signed};
 
 /// A parameter that is taken.
 #[derive(Clone, Copy, Debug, PartialEq, Eq)]

@@ -3,7 +3,7 @@
 ghost use Rattle.std.specs.Prelude.{◌≡◌, ◌≤◌};
 ghost use Rattle.channel.specs.Values.{digits_in, size_of, unit_in, unit_of};
 
-use decimals::number;
+use text::number;
 
 /// How many bytes a letter behind a number stands for: a power of 1,024 for k, m and g, small or capital, and 1 for any
 /// other byte.

@@ -1,15 +1,13 @@
 //! The same commands on the plain state of a log and on the log that threads share.
 
 ghost use Rattle.std.specs.Prelude.{◌≡◌, IfOk};
-ghost use Rattle.run_claims.specs.Commands.{IsSameBut};
+ghost use Rattle.plain_log.specs.Commands.{IsSameBut};
 
-use log_hand::LogHand;
-use one_hand::OneHandLog;
-use plain_log::PlainLog;
+use one_hand::{LogHand, OneHandLog};
+use plain_log::{ClaimAnswer, ClaimCommand, PlainLog, run_on_both, runs_agree};
 use position::Geometry;
 use rand_core::utils::NextWord;
 use rand_pcg::Pcg32;
-use run_claims::{ClaimAnswer, ClaimCommand, run_on_both, runs_agree};
 use std::alloc::{AllocError, Global};
 use std::process::Abort;
 use std::test::*;

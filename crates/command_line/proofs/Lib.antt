@@ -3,3 +3,7 @@ pub mod DecodeLines
 pub mod TakenLines
 pub mod RunMet
 mod RunRows
+pub mod NumberTexts
+pub mod Numbers
+pub mod Faults
+pub mod Simple

@@ -5,8 +5,8 @@ use Rattle.clap.specs.Simple.{entered, filled_from, help_rule, names_of, subcomm
 use Rattle.clap.specs.Faults.{built_fault, fault_of}
 use Rattle.clap.proofs.OnLiterals.{clap_on_literals}
 use Rattle.clap.proofs.WalkLemmas.{walk_stopped}
-use Rattle.run_options.specs.Defaults.{IsByDefault}
-use Rattle.run_options.specs.declared.options.RunOptions.{RunOptions}
+use Rattle.options.specs.Run.Defaults.{IsByDefault}
+use Rattle.options.specs.declared.run.options.RunOptions.{RunOptions}
 use Rattle.command_line.specs.CommandLines.{AsksFor, AsksForBareRun, IsChoice, IsRunByDefault, IsRunChoice, driver_app}
 use Rattle.command_line.specs.RunLines.{run_app}
 use Rattle.command_line.specs.RunTold.{IsRunOf}

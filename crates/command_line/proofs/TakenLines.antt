@@ -5,11 +5,7 @@ use Rattle.std.specs.Option.{option_map_or}
 use Rattle.std.specs.Str.{bytes_eq}
 use Rattle.clap.specs.Walk.{Text, idle, nothing_held, rows_after, subcommand_met}
 use Rattle.clap.specs.Simple.{is_simple, names_of, subcommand_of}
-use Rattle.clap.specs.Kinds.{HasKind, IsAmong, Kinds}
 use Rattle.clap.specs.Faults.{built_fault, fault_of, is_simple_and_free, walk_fault}
-use Rattle.clap.specs.Values.{kind_of}
-use Rattle.clap.specs.declared.error.Error.{Error}
-use Rattle.clap.specs.declared.error.kind.ErrorKind.TheVariants.{OutOfMemory}
 use Rattle.clap.proofs.OnLiterals.{clap_on_literals}
 use Rattle.command_line.specs.CommandLines.{AsksFor, AsksForDecode, AsksForSim, GiveWord, IsChoice, IsDecodeOf, driver_app}
 use Rattle.command_line.specs.declared.choice.Options.{Options}
@@ -117,7 +113,3 @@ only_asks words o e choice = ⊎_elim (λ is. sim_chosen words o is choice)
     (λ others. ⊎_elim (λ line. decode_chosen words o line.0 line.1 line.2 line.3 choice)
     (λ line. run_chosen words line.0 o line.1 choice) others)
     (only_lines (drop 1 words) e)
-
--- where the words pass, only memory fails
-pub by_memory : (ks : Kinds) (e : Error) → ks ≡ [] → HasKind ks e → kind_of e ≡ OutOfMemory
-by_memory ks e none h = ⊎_elim (λ m. m) (λ among. absurd (subst (IsAmong (kind_of e)) none among)) h

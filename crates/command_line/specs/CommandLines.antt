@@ -1,15 +1,13 @@
 -- The command lines that the program takes.
-use Rattle.std.specs.Prelude.{◌≡◌, ◌≢◌, ◌⊎◌, ℕ, List, [], ◌∷◌, drop, codes, true, ⊤, Option, None, Some, option_map}
+use Rattle.std.specs.Prelude.{◌≡◌, ◌≢◌, ◌⊎◌, ℕ, List, [], ◌∷◌, drop, codes, true, ⊤, Option, Some, option_map}
 use Rattle.std.specs.Str.{chars}
 use Rattle.clap.specs.Words.{App, Row, Rule, first_of, new_app, new_rule, subcommand_of, with_rule, with_subcommand}
-use Rattle.run_options.specs.Defaults.{IsByDefault}
-use Rattle.run_options.specs.declared.options.RunOptions.{RunOptions}
+use Rattle.options.specs.Run.Defaults.{IsByDefault}
+use Rattle.options.specs.declared.run.options.RunOptions.{RunOptions}
 use Rattle.command_line.specs.RunLines.{run_app}
 use Rattle.command_line.specs.RunTold.{IsRunOf}
 use Rattle.command_line.specs.declared.choice.Options.{Options}
 use Rattle.command_line.specs.declared.choice.Options.TheVariants.{Sim, Decode, Run}
-use Rattle.command_line.specs.declared.parser.OptionsFault.{OptionsFault}
-use Rattle.command_line.specs.declared.parser.OptionsFault.TheVariants.{Memory, Shown}
 
 -- the words after the program's name are `sim`, and perhaps the `--` that ends the options
 abbrev pub AsksForSim : List (List ℕ) → Type 0
@@ -92,8 +90,3 @@ pub record IsChoiceButRun (found : Option (List ℕ × List Row)) (options : Opt
 pub record IsChoice (found : Option (List ℕ × List Row)) (options : Options) : Type 0 where
   pub run : (rows : List Row) → found ≡ Some (codes "run", rows) → IsRunChoice rows options
   pub others : option_map (λ p. p.0) found ≢ Some (codes "run") → IsChoiceButRun found options
-
--- the text of a fault that isn't the parser's
-abbrev pub output_of : OptionsFault → Option (List ℕ)
-output_of (Shown e) = None
-output_of Memory = Some (codes "memory")

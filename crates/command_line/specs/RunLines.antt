@@ -1,8 +1,8 @@
 -- The options of `run`.
 use Rattle.std.specs.Prelude.{codes}
 use Rattle.clap.specs.Words.{App, new_app}
-use Rattle.number_options.specs.Flags.{plus_flag}
-use Rattle.number_options.specs.Numbers.{plus}
+use Rattle.command_line.specs.Flags.{plus_flag}
+use Rattle.command_line.specs.Numbers.{plus}
 
 abbrev pub with_load : App → App
 with_load a = plus (codes "length") 8 2097152 (plus (codes "messages") 1 1000000 (plus (codes "publishers") 1 8 a))

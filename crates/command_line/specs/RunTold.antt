@@ -1,9 +1,9 @@
 -- What a run is told by what a parse found.
 use Rattle.std.specs.Prelude.{List, codes}
 use Rattle.clap.specs.Words.{Row}
-use Rattle.run_options.specs.declared.options.RunOptions.{RunOptions}
-use Rattle.number_options.specs.Flags.{IsFlag}
-use Rattle.number_options.specs.Numbers.{IsNumber}
+use Rattle.options.specs.declared.run.options.RunOptions.{RunOptions}
+use Rattle.command_line.specs.Flags.{IsFlag}
+use Rattle.command_line.specs.Numbers.{IsNumber}
 
 pub record IsRunOf (rows : List Row) (o : RunOptions) : Type 0 where
   pub publishers : IsNumber rows (codes "publishers") 1 8 4 o.publishers

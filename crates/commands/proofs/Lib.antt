@@ -1,1 +1,4 @@
 pub mod Ran
+pub mod Taken
+pub mod WrittenLines
+pub mod LineStatuses

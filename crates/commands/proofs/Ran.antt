@@ -1,16 +1,10 @@
 -- How a run ended that has this status.
-use Rattle.std.proofs.Common.{◌≡◌, ◌≤◌, Result, Ok, Err, arith}
+use Rattle.std.proofs.Common.{◌≡◌, Result, Ok, Err, arith}
 use Rattle.std.specs.Prelude.{IfOk}
 use Rattle.run.specs.declared.outcome.Ending.{Ending}
 use Rattle.run.specs.declared.outcome.Ending.TheVariants.{Broken, Short, Whole}
-use Rattle.sim_command.specs.declared.fault.Fault.{Fault}
+use Rattle.commands.specs.declared.fault.Fault.{Fault}
 use Rattle.commands.specs.Statuses.{ran_status}
-
-pub ran_few : (ended : Result Ending Fault) → ran_status ended ≤ 3
-ran_few (Ok Whole) = omega arith
-ran_few (Ok Short) = omega arith
-ran_few (Ok Broken) = omega arith
-ran_few (Err fault) = omega arith
 
 pub ran_whole : (ended : Result Ending Fault) (P : Ending → Type 0) → IfOk ended P → ran_status ended ≡ 0 → P Whole
 ran_whole (Ok Whole) P h e = h

@@ -1,2 +1,4 @@
 pub mod Running
 pub mod Statuses
+pub mod Faults
+pub mod Scripting

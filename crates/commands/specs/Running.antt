@@ -1,10 +1,10 @@
 -- What a run's command writes.
 use Rattle.std.specs.Prelude.{◌≡◌, ℕ, List, [], ◌∷◌, ◌++◌, Option, codes, decimal, if◌then◌else◌}
 use Rattle.std.specs.Io.KnownBytes.{Appends}
-use Rattle.script_parts.specs.LineTexts.{shares_text}
-use Rattle.run_options.specs.Plans.{IsPlanOf}
-use Rattle.run_options.specs.declared.made.Plan.{Plan}
-use Rattle.run_options.specs.declared.options.RunOptions.{RunOptions}
+use Rattle.simulation.specs.LineTexts.{shares_text}
+use Rattle.options.specs.Run.Plans.{IsPlanOf}
+use Rattle.options.specs.declared.run.made.Plan.{Plan}
+use Rattle.options.specs.declared.run.options.RunOptions.{RunOptions}
 use Rattle.run.specs.Outcomes.{IsOutcome, ending_of}
 use Rattle.run.specs.declared.outcome.Ending.{Ending}
 use Rattle.run.specs.declared.outcome.Outcome.{Outcome}

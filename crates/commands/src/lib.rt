@@ -1,9 +1,32 @@
 //! The program's commands, over any reader and writers: one command line is carried out, and the status is given.
+//!
+//! `sim`, of a reader that tells its bytes, succeeds only where they are a script of at most 1 MiB, and then has
+//! written the lines of an output of that script, in order, each spelled as its text is and ended by a line feed (of
+//! a writer that tells what it holds). `Input` comes only where more than 1 MiB was taken, `Read` and `Memory` only
+//! where no more was, `Line` only where the script's fault is on that line, `Write` only where it has none; at any
+//! fault but `Write` nothing was written. `Fault` has the texts, as `Display` writes them, and which fault a
+//! script's, a word's or a run's becomes.
+//!
+//! `run_driver` succeeds only with a plan of what it was told, and has then written the three lines of what a run of
+//! that plan left; the answer is how it ended, and which status that has (`ran`): 0 or 3 only with the lines of a run
+//! that ended whole or short.
+//!
+//! A command line whose words the parser refuses ends with 2, one that asks for help or the version with 0; or either
+//! with 1, for want of memory or where the help can't be written. 2 comes only of such words, and of an end's channel
+//! and rates that make no plan; 3 only of words that the parser takes, and no status is greater (`command`, by
+//! `IsStatusOf` and `RefusesLine`). The functions behind it pin the status of each fault and ending (`done_status`,
+//! `ran_status`, `published_status`).
 #![tactic(auto)]
 
-mod one_line;
+mod drawn_ids;
+mod fault;
+mod line;
+mod publish_command;
 mod run_command;
+mod script_command;
+mod status;
+mod subscribe_command;
 
-pub use one_line::command;
+pub use fault::Fault;
+pub use line::command;
 pub use run_command::run_driver;
-pub use sim_command::{Fault, sim};

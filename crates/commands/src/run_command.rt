@@ -5,10 +5,10 @@ ghost use Rattle.std.specs.Io.KnownBytes.{Appends};
 ghost use Rattle.run.specs.Outcomes.{ending_of};
 ghost use Rattle.commands.specs.Running.{IsLeftBy, outcome_text};
 
+use crate::fault::Fault;
+use options::{RunOptions, plan};
 use run::{Ending, Open, Outcome, run};
-use run_options::{RunOptions, plan};
-use script_parts::Line;
-use sim_command::Fault;
+use simulation::Line;
 use std::alloc::Global;
 use std::io::Write;
 use std::net::Net;

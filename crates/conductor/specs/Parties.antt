@@ -13,6 +13,10 @@ pub record ClientSeen : Type 0 where
   pub number : ℕ
   pub accepted : List Command
 
+-- a client of which nothing was accepted
+abbrev pub fresh_client : TableId → ℕ → ClientSeen
+fresh_client queue number = record { queue = queue; number = number; accepted = [] }
+
 -- the taker of a queue: what it took, in order, and what clients told it of
 pub record TakerSeen : Type 0 where
   pub queue : TableId

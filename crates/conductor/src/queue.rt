@@ -1,6 +1,6 @@
 ghost use Rattle.std.specs.Prelude.{◌≡◌, ℕ, ◌<◌, ◌++◌, ◌∷◌, [], Ok, Err, IfOk, MatchResult, MatchOption, All};
 ghost use Rattle.conductor.specs.Rule.{AreThere};
-ghost use Rattle.conductor.specs.Parties.{AreFirst, AreFresh, AreLeft, WasFull};
+ghost use Rattle.conductor.specs.Parties.{AreFirst, AreFresh, AreLeft, WasFull, fresh_client};
 
 use crate::command::{Command, Submitted};
 use crate::hand::{Ends, Hears, Opens, QueuePass, RuledQueue, Submits, Takes, Tells, Totals};
@@ -52,6 +52,30 @@ impl Conductor {
             clients.push(client).unwrap();
         }
         Ok((Conductor { line }, clients, Taker { seat }))
+    }
+
+    /// An empty queue with the first of its clients, and its taker; the other clients are let go. The error comes only where
+    /// memory was refused.
+    #[tactic(auto, using(crate::proofs::Firsts::client_is))]
+    pub fn with_client(alloc: Global) -> Result<(Conductor, Client, Taker), AllocError>
+        ensures client { IfOk result (λ r. r.1 ≡ fresh_client r.0 0) }
+        ensures taker { IfOk result (λ r. r.2 ≡ record { queue = r.0; taken = []; heard = [] }) }
+    {
+        let (conductor, mut clients, taker) = Conductor::new(alloc)?;
+        Ok((conductor, clients.remove(0), taker))
+    }
+
+    /// The same with the first two of its clients.
+    #[tactic(auto, using(crate::proofs::Firsts::client_is, crate::proofs::Firsts::front_is))]
+    pub fn with_two_clients(alloc: Global) -> Result<(Conductor, Client, Client, Taker), AllocError>
+        ensures first { IfOk result (λ r. r.1 ≡ fresh_client r.0 0) }
+        ensures second { IfOk result (λ r. r.2 ≡ fresh_client r.0 1) }
+        ensures taker { IfOk result (λ r. r.3 ≡ record { queue = r.0; taken = []; heard = [] }) }
+    {
+        let (conductor, mut clients, taker) = Conductor::new(alloc)?;
+        let second = clients.remove(1);
+        let first = clients.remove(0);
+        Ok((conductor, first, second, taker))
     }
 
     /// Hands a command to the queue. It is given back where the queue was full at one moment of the call, which this

@@ -1,8 +1,12 @@
 //! Three positions of a stream that one thread publishes and others read: where the consumer stands that is furthest
-//! behind, up to where the stream is whole, and how far it has come.
+//! behind, up to where the stream is whole, and how far it has come. Passes stand for the writer and each reader;
+//! they exist for the proofs and may be dropped. A call may wait.
 //!
-//! The three are read together, as they were published together, and no reading of a reader goes back. Passes stand
-//! for the parties: the one writer, and each reader. They exist for the proofs and may be dropped.
+//! For one writer and its readers in any threads: the three positions of a reading are in order, and none is less
+//! than in the reader's reading before, nor than what it was told or had been published when it was made. Once both
+//! are in one hand, what a reader read last is shown to be one of those that the writer published, whole, and a
+//! reading made there is exactly what it published last (`Counters::new`, `reader`, `publish`, `read`, `learn`,
+//! `confirm`, `read_with`).
 #![tactic(auto)]
 
 mod hand;

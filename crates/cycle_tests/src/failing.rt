@@ -1,15 +1,13 @@
-ghost use Rattle.log_parts.specs.Parts.{IsNewReader};
+ghost use Rattle.shared_log.specs.Parts.{IsNewReader};
 ghost use Rattle.agent_way.specs.Senders.{IsFirstLog, IsSender};
 
 use agent_way::{
     Sender, carry, device_with, device_with_status, listening, open_log, open_sender, publish,
     receive, send,
 };
-use agents::AgentFault;
-use endpoint::{FailingDatagrams, MemoryDevice};
-use log_reading::LogReader;
+use endpoint::{DeviceError, FailingDatagrams, MemoryDevice};
 use receiver::{Positions, Subscriber};
-use shared_log::Log;
+use shared_log::{Log, LogReader};
 use std::alloc::Global;
 use std::process::Abort;
 use std::test::*;
@@ -48,7 +46,7 @@ fn send_before_fault<R: Abort>(
 {
     let broken = FailingDatagrams::new(device_with_status(alloc, Some(false))?, 4);
     let (answer, duty) = send(alloc, sender, broken, 0)?;
-    assert!(rt; answer == Err(AgentFault::Device));
+    assert!(rt; answer == Err(DeviceError::Device));
     carry_only(alloc, duty.device().inner(), wire)
 }
 

@@ -2,7 +2,7 @@
 use Rattle.std.specs.Prelude.{ℕ, ◌+◌, List, [], ◌∷◌, ◌++◌, length, codes, decimal}
 use Rattle.std.specs.Fmt.{signed_decimal}
 use Rattle.std.specs.List.{flat_map}
-use Rattle.hexadecimal.specs.Digits.{hexadecimal, two_digits}
+use Rattle.text.specs.Digits.{hexadecimal, two_digits}
 use Rattle.theory.specs.Wire.{Wire, Header, Nak, Status, Setup, DATA, PAD, HEARTBEAT, NAK, SM, SETUP}
 
 -- texts one after the other

@@ -5,8 +5,8 @@ ghost use Rattle.frames.specs.Frames.{asks_of, header_of, nak_of, setup_of, stat
 ghost use Rattle.decode.specs.FrameLines.{frame_line, header_text, nak_text, setup_lengths_text, setup_text, status_text};
 
 use frames::{Frame, Header, Nak, Setup, Status};
-use hexadecimal::Hexadecimal;
 use std::fmt;
+use text::Hexadecimal;
 
 /// A frame as a line of text, without its line feed.
 #[derive(Clone, Copy)]

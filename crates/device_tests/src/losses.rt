@@ -1,6 +1,5 @@
 use endpoint::{Datagrams, FailingDatagrams, MemoryDevice};
-use loss_injector::{Injector, Rates};
-use lossy::Lossy;
+use loss_injector::{Injector, Lossy, Rates};
 use rand_core::SeedableRng;
 use rand_core::utils::NextWord;
 use rand_pcg::Pcg32;

@@ -1,7 +1,6 @@
 use endpoint::{Datagrams, DeviceFailed, UdpDevice};
-use lossy::Lossy;
+use loss_injector::Lossy;
 use std::alloc::{AllocError, Global};
-use std::net::Net;
 use std::process::Abort;
 use std::test::*;
 use std::thread;
@@ -19,26 +18,6 @@ fn next_length(device: &mut UdpDevice, buffer: &mut [u8]) -> Result<Option<usize
         thread::yield_now();
     }
     Ok(None)
-}
-
-/// Two devices that have no peer.
-fn bind_both<R: Net>(rt: &R, alloc: Global) -> Result<(UdpDevice, UdpDevice), Fail> {
-    let near = UdpDevice::bind(rt, alloc)?;
-    let far = UdpDevice::bind(rt, alloc)?;
-    Ok((near, far))
-}
-
-/// Makes each the peer of the other.
-fn join(near: &mut UdpDevice, far: &mut UdpDevice) -> Result<(), DeviceFailed> {
-    near.connect(far.port())?;
-    far.connect(near.port())
-}
-
-/// Two devices, each the peer of the other.
-fn open_pair<R: Net>(rt: &R, alloc: Global) -> Result<(UdpDevice, UdpDevice), Fail> {
-    let (mut near, mut far) = bind_both(rt, alloc)?;
-    join(&mut near, &mut far)?;
-    Ok((near, far))
 }
 
 /// A device may go to another thread.
@@ -61,7 +40,7 @@ fn hand_over<R: Abort>(rt: &R, near: &mut UdpDevice, far: &mut UdpDevice) {
 
 #[test]
 fn hands_over(rt: HostRuntime) -> Result<(), Fail> {
-    let (mut near, mut far) = open_pair(&rt, rt.alloc())?;
+    let (mut near, mut far) = UdpDevice::pair(&rt, rt.alloc())?;
     hand_over(&rt, &mut near, &mut far);
     assert!(rt; near.failures() == 0 && far.failures() == 0);
     assert!(rt; far.nones() > 0);
@@ -77,7 +56,7 @@ fn is_unheard(device: &mut UdpDevice) -> bool {
 
 #[test]
 fn closed_port(rt: HostRuntime) -> Result<(), Fail> {
-    let (mut near, far) = open_pair(&rt, rt.alloc())?;
+    let (mut near, far) = UdpDevice::pair(&rt, rt.alloc())?;
     drop(far);
     for _ in 0..8 {
         assert!(rt; is_unheard(&mut near));
@@ -109,7 +88,8 @@ fn fail_and_go_on<R: Abort>(
 
 #[test]
 fn fails_and_goes_on(rt: HostRuntime) -> Result<(), Fail> {
-    let (mut lonely, peer) = bind_both(&rt, rt.alloc())?;
+    let peer = UdpDevice::bind(&rt, rt.alloc())?;
+    let mut lonely = UdpDevice::bind(&rt, rt.alloc())?;
     fail_and_go_on(&rt, rt.alloc(), &mut lonely, peer.port())
 }
 

@@ -2,6 +2,5 @@ pub mod Calls
 pub mod Devices
 pub mod Failing
 pub mod Memory
-pub mod OpenTexts
 pub mod Texts
 pub mod Udp

@@ -7,6 +7,9 @@ ghost use Rattle.endpoint.specs.Texts.{device_text};
 use std::fmt;
 use thiserror::Error;
 
+/// How many bytes a datagram has at the most.
+pub const GREATEST_DATAGRAM: usize = 65_536;
+
 /// The device failed in this call, and has counted it. It may be used again.
 #[derive(Clone, Copy, Debug, PartialEq, Eq, Error)]
 pub struct DeviceFailed;

@@ -3,47 +3,15 @@
 ghost use Rattle.std.specs.Prelude.{◌≡◌, ◌⊎◌, ◌↔◌, Some, IsTrue, IfOk, OnErr, OnOk};
 ghost use Rattle.std.specs.IoError.{error_kind};
 ghost use Rattle.endpoint.specs.Devices.{HasGrown, NeverFall, fresh, with_failure, with_none};
-ghost use Rattle.endpoint.specs.OpenTexts.{text_of};
 
-use crate::datagrams::{Datagrams, DeviceFailed};
+use crate::datagrams::{Datagrams, DeviceFailed, GREATEST_DATAGRAM};
+use crate::device_error::DeviceError;
 use std::alloc::Global;
 use std::io::ErrorKind;
 use std::marker::Model;
 use std::net::{Ipv4Addr, Net, UdpSocket};
 use std::{fmt, io};
 use thiserror::Error;
-
-/// How many bytes a datagram over UDP has at the most.
-const GREATEST: usize = 65_536;
-
-/// Why a device can't be opened.
-#[derive(Clone, Copy, Debug, PartialEq, Eq, Error)]
-pub enum OpenError {
-    /// The system refused the socket.
-    Device,
-    /// Memory was refused.
-    Memory,
-}
-
-impl fmt::Display for OpenError {
-    ghost output = { λ error. Some (text_of error) };
-
-    fn fmt<W: fmt::Write>(&self, f: &mut fmt::Formatter<W>) -> fmt::Result {
-        f.write_str(self.text())
-    }
-}
-
-impl OpenError {
-    /// What a user sees.
-    pub fn text(self) -> &'static str
-        ensures { result.now ≡ text_of self }
-    {
-        match self {
-            OpenError::Device => "device",
-            OpenError::Memory => "memory",
-        }
-    }
-}
 
 /// A device over UDP on this machine, at 127.0.0.1. A call that finds the system not ready, or its peer's port closed,
 /// hasn't failed: what was to be sent is lost, and nothing has come.
@@ -84,11 +52,11 @@ fn is_loss(error: &io::Error) -> bool
 
 impl UdpDevice {
     /// A device at a port that the system chooses, with no peer yet.
-    pub fn bind<R: Net>(rt: &R, alloc: Global) -> Result<UdpDevice, OpenError>
+    pub fn bind<R: Net>(rt: &R, alloc: Global) -> Result<UdpDevice, DeviceError>
         ensures { IfOk result (λ u. u.device ≡ fresh) }
     {
-        let arrived = vec![in alloc; 0; GREATEST].map_err(|_| OpenError::Memory)?;
-        let (socket, port) = open(rt).map_err(|_| OpenError::Device)?;
+        let arrived = vec![in alloc; 0; GREATEST_DATAGRAM].map_err(|_| DeviceError::Memory)?;
+        let (socket, port) = open(rt).map_err(|_| DeviceError::Device)?;
         Ok(UdpDevice {
             socket,
             port,
@@ -96,6 +64,25 @@ impl UdpDevice {
             failures: 0,
             nones: 0,
         })
+    }
+
+    /// A device at a port that the system chooses, whose one peer is the device at this port.
+    pub fn bind_to<R: Net>(rt: &R, alloc: Global, peer: u16) -> Result<UdpDevice, DeviceError>
+        ensures { IfOk result (λ u. u.device ≡ fresh) }
+    {
+        let mut device = UdpDevice::bind(rt, alloc)?;
+        device.connect(peer)?;
+        Ok(device)
+    }
+
+    /// Two devices at ports that the system chooses, each the other's peer.
+    pub fn pair<R: Net>(rt: &R, alloc: Global) -> Result<(UdpDevice, UdpDevice), DeviceError>
+        ensures { IfOk result (λ pair. (pair.0.device ≡ fresh) × (pair.1.device ≡ fresh)) }
+    {
+        let mut one = UdpDevice::bind(rt, alloc)?;
+        let other = UdpDevice::bind_to(rt, alloc, one.port())?;
+        one.connect(other.port())?;
+        Ok((one, other))
     }
 
     /// Its own port.

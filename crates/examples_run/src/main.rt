@@ -1,15 +1,25 @@
-//! Plays each script of `examples/` and carries out each row, and says whether it prints what is expected; then whether
-//! command lines over streams that fail and of the greatest lengths, and the options of `run`, tell what is expected.
+//! Plays each script of `examples/` and carries out each row there, by the program's own commands over streams of
+//! memory, and says whether it prints and tells what is expected; then whether command lines over streams that fail
+//! and of the greatest lengths, and the options of `run`, do.
 #![tactic(auto)]
 
-use example_play::{Found, play_rows, prints};
+mod broken;
+mod lines;
+mod rows;
+mod run_options;
+mod streams;
+mod table;
+
+use crate::lines::prints;
+use crate::rows::{Found, play_rows};
+use crate::run_options::are_told;
+use crate::streams::{faults_are_told, lengths_are_bounded};
 use std::net::Net;
 use std::process::ExitCode;
 use std::sync::Wait;
 use std::thread::Threads;
 use std::time::Clock;
 use std::{fs, io};
-use streams_play::{are_told, faults_are_told, lengths_are_bounded};
 
 /// The examples by their names: each is a file `NAME.script`, and what it prints a file `NAME.expected`.
 const NAMES: [&str; 18] = [

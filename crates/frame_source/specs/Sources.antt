@@ -1,4 +1,6 @@
 -- What a contract sees of a source of frames, and what is read from it.
+-- A source is what a reader shows of its log: which stream it is of, where it stands, and the frames that it knows to
+-- be committed. Others may add to these meanwhile; how they may grow is the source's own (`grown`).
 use Rattle.std.specs.Prelude.{◌≡◌, ℕ, ◌+◌, ◌*◌, ◌/◌, ◌≤◌, List, ◌++◌, length, drop}
 use Rattle.theory.specs.Position.{Geometry}
 use Rattle.theory.specs.Bytes.{Identity}

@@ -1,8 +1,15 @@
-//! The frames of the wire: what a frame is, and its bytes.
+//! The frames of the wire: what a frame is, and its bytes. All numbers are little-endian. No call takes memory, and
+//! no payload is copied but by `write_frame`.
 //!
-//! A frame is read from the front of a list of bytes, checked as part of a datagram, and written into the front of a
-//! buffer. Of bytes that are known to begin with a frame of a stream, what is asked for is read and nothing is checked. All
-//! numbers are little-endian. No call takes memory, and no payload is copied but by [`write_frame`].
+//! `read_frame` succeeds exactly where the input begins with a frame's spelling, and gives that frame and how many
+//! bytes it takes; its fault is the first in the fixed order. `check_datagram` says the same of a datagram.
+//! `write_frame` writes the one spelling and leaves the rest of the buffer. No length is bounded. `Frame::size` is
+//! what a frame takes, `FrameError` has the faults with their texts.
+//!
+//! Of bytes that are known to begin with a DATA frame or a padding, `front_of` gives which of the two it is, its
+//! flags and its length, and `payload_of` its payload, with no test; of bytes that begin with any frame,
+//! `known_frame` gives it and its size, a DATA frame without a test. A spelling is of one frame, and a datagram of
+//! one list of frames (`one_spelling`, `one_reading`).
 #![tactic(auto)]
 
 mod datagram;

@@ -3,11 +3,10 @@ ghost use Rattle.std.specs.Prelude.{◌<◌};
 use crate::images::{DATA, PAD, filled};
 use crate::map_image::{Kept, MapImage, TERM};
 use block::Block;
-use loss_detector::first_gap;
+use image::{Image, Steps, first_gap};
 use position::Geometry;
 use rand_core::utils::NextWord;
 use rand_pcg::Pcg32;
-use rebuilder::{Image, Steps};
 use std::alloc::Global;
 use std::test::*;
 

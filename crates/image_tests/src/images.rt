@@ -1,8 +1,7 @@
 use block::Block;
 use frames::{Frame, read_frame};
-use loss_detector::first_gap;
+use image::{Image, ImageError, Insert, Steps, first_gap};
 use position::{FrameHead, FrameKind, Geometry};
-use rebuilder::{Image, ImageError, Insert, Steps};
 use std::alloc::{AllocError, Global};
 use std::process::Abort;
 use std::test::*;

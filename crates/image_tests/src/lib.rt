@@ -1,4 +1,4 @@
-//! Tests of a receiver's image.
+//! A test of a receiver's image: it and one by a map of whole frames answer drawn frames, heartbeats and reads alike.
 #![tactic(auto)]
 
 #[cfg(test)]

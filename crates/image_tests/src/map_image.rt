@@ -1,8 +1,8 @@
 //! An image as a map of whole frames, in the simplest form. No contract says what it answers.
 
 use crate::images::DATA;
+use image::Insert;
 use position::{FrameHead, FrameKind, Gap};
-use rebuilder::Insert;
 use std::alloc::{AllocError, Global};
 use std::collections::BTreeMap;
 

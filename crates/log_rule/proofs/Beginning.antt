@@ -9,29 +9,29 @@ use Rattle.std.specs.List.{AllByRecursion}
 use Rattle.std.proofs.lemmas.List.{length-replicate}
 use Rattle.theory.specs.Position.{greatest_claim}
 use Rattle.theory.specs.Refusal.{limit_in}
-use Rattle.word_calls.specs.declared.pass.Controls.{Controls}
-use Rattle.word_calls.specs.declared.pass.Pass.{Pass}
-use Rattle.tail_claim.specs.declared.view.View.{View}
-use Rattle.tail_claim.specs.declared.view.Key as old
-use Rattle.tail_claim.specs.Packs.{consumer_place, ring_of, slot}
-use Rattle.tail_claim.specs.Sums.{total}
-use Rattle.tail_claim.specs.Terms.{end_of}
-use Rattle.tail_claim.specs.Rule.{Bounds, Claimed, Sound, first_of}
-use Rattle.tail_claim.specs.Memory.{Ruled, Stored, tail_of}
-use Rattle.tail_claim.specs.Openings.{Fresh}
-use Rattle.tail_claim.specs.Sure.{IsSure, controls_in}
-use Rattle.tail_claim.specs.Plays.{bounds_of, newcomer}
-use Rattle.tail_claim.proofs.Tails.{elsewhere}
-use Rattle.tail_claim.proofs.Memories.{tail_is}
-use Rattle.tail_claim.proofs.Begun.{fresh_is, fresh_zeros, ruled_first}
+use Rattle.publication.specs.declared.pass.Controls.{Controls}
+use Rattle.publication.specs.declared.pass.Pass.{Pass}
+use Rattle.log_rule.specs.declared.claims.view.View.{View}
+use Rattle.log_rule.specs.declared.claims.view.Origin.{Origin}
+use Rattle.log_rule.specs.Claims.Packs.{consumer_place, ring_of, slot}
+use Rattle.log_rule.specs.Claims.Sums.{total}
+use Rattle.log_rule.specs.Claims.Terms.{claimed_to}
+use Rattle.log_rule.specs.Claims.Rule.{Bounds, ClaimsHold, Sound, first_of}
+use Rattle.log_rule.specs.Claims.Memory.{Ruled, Stored, tail_of}
+use Rattle.log_rule.specs.Claims.Openings.{Fresh}
+use Rattle.log_rule.specs.Claims.Sure.{IsSure, controls_in}
+use Rattle.log_rule.specs.Claims.Plays.{bounds_of, newcomer}
+use Rattle.log_rule.proofs.Claimed.Tails.{elsewhere}
+use Rattle.log_rule.proofs.Claimed.Memories.{tail_is}
+use Rattle.log_rule.proofs.Claimed.Begun.{fresh_is, fresh_zeros, ruled_first}
 use Rattle.log_rule.specs.declared.rule.Key.{Key}
 use Rattle.log_rule.specs.Edges.{IsPlaced}
 use Rattle.log_rule.specs.Kept.{Attends, IsReader, Kept, reads_as}
 use Rattle.log_rule.specs.Table.{LogRuled, consumers_at, now_at, whole_pass, whole_seat}
 use Rattle.log_rule.specs.Opening.{Begun}
 
-abbrev pub old_key : Key → old.Key
-old_key key = record { identity = key.identity; start = key.start }
+abbrev pub origin_of : Key → Origin
+origin_of key = record { identity = key.identity; start = key.start }
 
 -- ---- the limit is set, and one consumer after the other
 
@@ -88,14 +88,14 @@ filled (suc n) start (suc j) lt = filled n start j (omega arith)
 
 -- ---- the rule
 
-pub opens : (key : Key) (ws0 ws : List ℕ) → Sound (bounds_of (old_key key)) → (0 < key.consumers) × (key.consumers ≤ 8) → Fresh (bounds_of (old_key key)) ws0 → Begun key.start ws0 key.consumers ws → LogRuled key record { words = ws; homes = []; views = whole_seat key ∷ [] }
+pub opens : (key : Key) (ws0 ws : List ℕ) → Sound (bounds_of (origin_of key)) → (0 < key.consumers) × (key.consumers ≤ 8) → Fresh (bounds_of (origin_of key)) ws0 → Begun key.start ws0 key.consumers ws → LogRuled key record { words = ws; homes = []; views = whole_seat key ∷ [] }
 opens key ws0 ws so count f o =
-    let k0 = old_key key in let b0 : Bounds = bounds_of k0 in let g = key.identity.geometry in let r0 = ruled_first k0 ws0 so f in let c = r0.claims in let p0 : Pass = newcomer key.identity key.start 7 1024 in let p : Pass = whole_pass key in
+    let k0 = origin_of key in let b0 : Bounds = bounds_of k0 in let g = key.identity.geometry in let r0 = ruled_first k0 ws0 so f in let c = r0.claims in let p0 : Pass = newcomer key.identity key.start 7 1024 in let p : Pass = whole_pass key in
     let b : Bounds = now_at key key.start key.start in
     let unit : limit_in key.start ≡ key.start = (let u = so.unit in whole key.start u) in
     let tail0 : tail_of b0 (p0 ∷ []) ≡ key.start = none key.start in
-    let end : end_of g c.terms ≡ key.start = sym (tail_is b0 ws0 (p0 ∷ []) c) ∙ tail0 in
-    let claims : Claimed b ws (p ∷ []) = record {
+    let end : claimed_to g c.terms ≡ key.start = sym (tail_is b0 ws0 (p0 ∷ []) c) ∙ tail0 in
+    let claims : ClaimsHold b ws (p ∷ []) = record {
       sound = record { geometry = so.geometry; unit = so.unit; below = so.below; greatest = refl; limit = refl };
       wide = o.wide ∙ c.wide;
       limit = o.limit;
@@ -107,7 +107,7 @@ opens key ws0 ws so count f o =
       reached = (let e = end in omega arith);
       parted = refl;
       over = c.over;
-      room = room_is (end_of g c.terms) key.start (limit_in key.start) (greatest_claim g) end unit (c.room);
+      room = room_is (claimed_to g c.terms) key.start (limit_in key.start) (greatest_claim g) end unit (c.room);
       each = one_pass _ p (let x = c.each 0 p0 refl in record { identity = refl; start = refl; number = omega arith; right = record { capped = omega arith; able = omega arith; once = omega arith; idle = λ z. refl }; entries = tt; seen = x.seen });
     } in
     let held : limit_in key.start + greatest_claim g * 8 < key.start + 3 * g.term_length = (let m = r0.memory.held in let h = so.geometry.term.least in below key.start (limit_in key.start) (greatest_claim g * 8) g.term_length m unit h) in

@@ -15,30 +15,30 @@ use Rattle.theory.specs.Bytes.{Identity}
 use Rattle.theory.specs.Entry.{Entry, length_of}
 use Rattle.theory.specs.Placed.{Among}
 use Rattle.theory.proofs.Lists.{all_at, all_from, all_weaker, among_right}
-use Rattle.word_calls.specs.declared.pass.FrameWords.{FrameWords}
-use Rattle.word_calls.specs.declared.pass.Keeping.{Keeping}
-use Rattle.word_calls.specs.declared.pass.Pass.{Pass}
-use Rattle.word_calls.specs.declared.pass.Reading.{Reading}
-use Rattle.word_calls.specs.Steps.{Extent, extent_of, extents, frames_of, term_of}
-use Rattle.tail_claim.specs.declared.view.View.{View}
-use Rattle.tail_claim.specs.Packs.{consumer_place, data_place, limit_place, ring_of, slot}
-use Rattle.tail_claim.specs.Sums.{covers, total}
-use Rattle.tail_claim.specs.Terms.{end_of}
-use Rattle.tail_claim.specs.Rule.{Bounds, Claimed, IsClaim, entries_of, first_of, shape_of, size_of, weight}
-use Rattle.tail_claim.specs.Memory.{IsAligned, Ruled, Stands, Stored, tail_of}
-use Rattle.tail_claim.specs.Events.{committed_weight}
-use Rattle.tail_claim.specs.Sure.{Learns}
-use Rattle.tail_claim.specs.Plays.{Mine, pass_in}
-use Rattle.tail_claim.proofs.Totals.{total_at, total_le}
-use Rattle.tail_claim.proofs.Accounts.{moved, same_over, same_room, unchanged}
-use Rattle.tail_claim.proofs.Tails.{elsewhere}
-use Rattle.tail_claim.proofs.Memories.{slot_apart, tail_is, tail_low, whole_words}
-use Rattle.tail_claim.proofs.Sures.{data_leaves, sure_on}
+use Rattle.publication.specs.declared.pass.FrameWords.{FrameWords}
+use Rattle.publication.specs.declared.pass.Keeping.{Keeping}
+use Rattle.publication.specs.declared.pass.Pass.{Pass}
+use Rattle.publication.specs.declared.pass.Reading.{Reading}
+use Rattle.publication.specs.Steps.{Extent, extent_of, extents, frames_of, term_of}
+use Rattle.log_rule.specs.declared.claims.view.View.{View}
+use Rattle.log_rule.specs.Claims.Packs.{consumer_place, data_place, limit_place, ring_of, slot}
+use Rattle.log_rule.specs.Claims.Sums.{covers, total}
+use Rattle.log_rule.specs.Claims.Terms.{claimed_to}
+use Rattle.log_rule.specs.Claims.Rule.{Bounds, ClaimsHold, IsClaimEntry, entries_of, first_of, shape_of, size_of, weight}
+use Rattle.log_rule.specs.Claims.Memory.{IsAligned, Ruled, StandsInTable, Stored, tail_of}
+use Rattle.log_rule.specs.Claims.Events.{committed_weight}
+use Rattle.log_rule.specs.Claims.Sure.{LearnsControls}
+use Rattle.log_rule.specs.Claims.Plays.{Mine, pass_in}
+use Rattle.log_rule.proofs.Claimed.Totals.{total_at, total_le}
+use Rattle.log_rule.proofs.Claimed.Accounts.{moved, same_over, same_room, unchanged}
+use Rattle.log_rule.proofs.Claimed.Tails.{elsewhere}
+use Rattle.log_rule.proofs.Claimed.Memories.{slot_apart, tail_is, tail_low, whole_words}
+use Rattle.log_rule.proofs.Claimed.Sures.{data_leaves, sure_on}
 use Rattle.log_rule.specs.declared.rule.Key.{Key}
 use Rattle.log_rule.specs.Edges.{AreCommitted, IsAmong, IsPlaced, begins_below, claimed_sum, committed_sum, in_entry}
 use Rattle.log_rule.specs.Kept.{Attends, IsKeeper, IsReader, Kept, keepers_of, readers_of}
 use Rattle.log_rule.specs.Table.{LogRuled, now_at}
-use Rattle.log_rule.specs.Keepings.{Cleans, MayClean, keeping, least_of, with_keeping}
+use Rattle.log_rule.specs.Keepings.{CleansWord, MayClean, keeping, least_of, with_keeping}
 use Rattle.log_rule.proofs.Sums.{claimed_by, covered, covering, parted, total_both}
 use Rattle.log_rule.proofs.Edges.{edge_low}
 use Rattle.log_rule.proofs.Growing.{Grows, grows, placed_on, same_sum}
@@ -59,7 +59,7 @@ full_cuts p (cut ∷ cuts) all = let r = full_cuts (p + aligned cut) cuts all.1 
     go : (cut t : ℕ) → 0 < cut → t ≡ 0 → (1 - aligned cut) + t ≡ 0
     go cut t pos z = omega arith
 
-full_entries : (es : List Entry) → AllByRecursion IsClaim es → total (in_entry (λ r. 1 - r.bytes)) es ≡ 0
+full_entries : (es : List Entry) → AllByRecursion IsClaimEntry es → total (in_entry (λ r. 1 - r.bytes)) es ≡ 0
 full_entries [] a = refl
 full_entries (e ∷ es) a = let r = full_entries es a.1 in let h = full_cuts e.start e.cuts a.0.entry.cuts in omega arith
 
@@ -124,15 +124,15 @@ module _ (b : Bounds) (ws : List ℕ) (ps : List Pass) (r : Ruled b ws ps) (p : 
   cleaned_rule_at =
       let t = r.claims.terms in let c = r.claims.each id v at in let w : Pass = with_keeping v k in let ps' : List Pass = set ps id w in let i : ℕ = slot (shape_of b) b.cleaned in let ws' : List ℕ = set ws i 0 in let whole = whole_words b ws ps r.claims in
       let inside : i < length ws = (let e = r.claims.wide in let so = r.claims.sound.geometry in let q = mod_low (b.cleaned / 8) (ring_of (shape_of b)) (ring_some (size_of b) so.term.least) in within (b.cleaned / 8 % ring_of (shape_of b)) (ring_of (shape_of b)) (length ws) q e) in
-      let claims : Claimed b ws' ps' = moved b ws ps r.claims id v w ws' r.claims.log t at (unchanged (shape_of b) t) (elsewhere (shape_of b) (first_of b) t ws ws' (λ j some' lt. get_or-set_other ws i j 0 0 (λ e. omega arith)) r.claims.tailed)
+      let claims : ClaimsHold b ws' ps' = moved b ws ps r.claims id v w ws' r.claims.log t at (unchanged (shape_of b) t) (elsewhere (shape_of b) (first_of b) t ws ws' (λ j some' lt. get_or-set_other ws i j 0 0 (λ e. omega arith)) r.claims.tailed)
       (record { identity = c.identity; start = c.start; number = c.number; right = c.right; entries = c.entries; seen = c.seen }) refl (length-set ws i 0) (get_or-set_other ws i 0 0 0 (λ e. omega arith)) (same_over b ws ps r.claims id v w at refl refl) r.claims.tiles (λ h. refl) (same_room b ws ps r.claims id v w at refl) r.claims.reached in
       let up = tail_up in let same_tail : tail_of b ps' ≡ tail_of b ps = ap (λ (n : ℕ). b.start + n) (same_sum (weight length_of) ps id v w at refl) in
       let top = tail_low b ws ps r.claims in
       let apart : (x : ℕ) → x % 8 ≡ 0 → b.cleaned + 8 ≤ x → x < b.cleaned + 3 * size_of b → slice_index ws' (slot (shape_of b) x) ≡ slice_index ws (slot (shape_of b) x) = λ x u from under. get_or-set_other ws i (slot (shape_of b) x) 0 0
       (slot_apart b whole x b.cleaned u unit (let q : b.cleaned ≤ x = omega arith in q, under) (let q : b.cleaned ≤ b.cleaned = omega arith in q, (let so = r.claims.sound.geometry in some_room b.cleaned (size_of b) so.term.least)) (λ e. omega arith)) in
       let stored : (j : ℕ) (u : Pass) → get_elem? ps j ≡ some u → Stored (further b) ws' u = λ j u e. (let m = r.memory.each j u e in record {
-        stands = all_from (Stands (further b) ws') (frames_of u) (λ f among n lt from. (let a = all_at IsAligned f (frames_of u) m.aligned among in let y = word_low b ws ps r j u e f among n lt in
-            apart (f.start + 8 * n) (even f.start n a) from (under_top (f.start + 8 * n) (tail_of b ps) (b.limit + b.greatest * 8) (b.cleaned + 3 * size_of b) y top ahead) ∙ all_at (Stands b ws) f (frames_of u) m.stands among n lt (let q : b.cleaned ≤ f.start + 8 * n = omega arith in q)));
+        stands = all_from (StandsInTable (further b) ws') (frames_of u) (λ f among n lt from. (let a = all_at IsAligned f (frames_of u) m.aligned among in let y = word_low b ws ps r j u e f among n lt in
+            apart (f.start + 8 * n) (even f.start n a) from (under_top (f.start + 8 * n) (tail_of b ps) (b.limit + b.greatest * 8) (b.cleaned + 3 * size_of b) y top ahead) ∙ all_at (StandsInTable b ws) f (frames_of u) m.stands among n lt (let q : b.cleaned ≤ f.start + 8 * n = omega arith in q)));
         placed = m.placed;
         aligned = m.aligned;
         done = m.done;
@@ -149,7 +149,7 @@ module _ (b : Bounds) (ws : List ℕ) (ps : List Pass) (r : Ruled b ws ps) (p : 
           log = claims.log;
           tiles = claims.tiles;
           fair = claims.fair;
-          reached = (let e = tail_is b ws' ps' claims in reach (b.cleaned + 8) (tail_of b ps) (tail_of b ps') (end_of (shape_of b) claims.terms) up same_tail e);
+          reached = (let e = tail_is b ws' ps' claims in reach (b.cleaned + 8) (tail_of b ps) (tail_of b ps') (claimed_to (shape_of b) claims.terms) up same_tail e);
           parted = claims.parted;
           over = claims.over;
           room = claims.room;
@@ -209,7 +209,7 @@ module _ (b : Bounds) (ws : List ℕ) (ps : List Pass) (r : Ruled b ws ps) (p : 
 -- ---- a zero is stored
 
 module _ (key : Key) (slots id : ℕ) (m : Mine) where
-  pub clean : MayClean m.0.pass → Allows (LogRuled key) slots id m (slot key.identity.geometry m.0.pass.keeping.cleaned) (λ _. 0) (λ _ m'. keeping (λ v w. Learns [] v w) Cleans m m')
+  pub clean : MayClean m.0.pass → Allows (LogRuled key) slots id m (slot key.identity.geometry m.0.pass.keeping.cleaned) (λ _. 0) (λ _ m'. keeping (λ v w. LearnsControls [] v w) CleansWord m m')
   clean may s q homes at small =
       let v : View = m.0 in let ws : List ℕ = s.words in let qs : List Pass = map pass_in s.views in let old : ℕ = slice_index ws limit_place in
       let bs : Bounds = now_at key old q.cleaned in let here = at_map pass_in s.views id v at in let a = q.kept.each id v.pass here in let c = q.ruled.claims.each id v.pass here in

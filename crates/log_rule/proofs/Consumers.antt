@@ -13,25 +13,25 @@ use Rattle.theory.specs.Position.{aligned}
 use Rattle.theory.specs.Bytes.{Identity}
 use Rattle.theory.specs.Placed.{Among, frame_length}
 use Rattle.theory.proofs.Lists.{all_at, all_pushed, all_weaker}
-use Rattle.word_calls.specs.declared.pass.FrameWords.{FrameWords}
-use Rattle.word_calls.specs.declared.pass.Keeping.{Keeping}
-use Rattle.word_calls.specs.declared.pass.Pass.{Pass}
-use Rattle.word_calls.specs.declared.pass.Reading.{Reading}
-use Rattle.word_calls.specs.Steps.{Extent, extent_of, term_of}
-use Rattle.tail_claim.specs.declared.view.View.{View}
-use Rattle.tail_claim.specs.Packs.{consumer_place, limit_place, ring_of, slot}
-use Rattle.tail_claim.specs.Sums.{covers, total}
-use Rattle.tail_claim.specs.Rule.{Bounds, shape_of, size_of}
-use Rattle.tail_claim.specs.Memory.{Ruled, tail_of}
-use Rattle.tail_claim.specs.Sure.{controls_in}
-use Rattle.tail_claim.specs.Plays.{Mine, pass_in}
-use Rattle.tail_claim.proofs.Totals.{both_at, total_at, total_set}
-use Rattle.tail_claim.proofs.Sures.{data_leaves, load_leaves, sure_on}
+use Rattle.publication.specs.declared.pass.FrameWords.{FrameWords}
+use Rattle.publication.specs.declared.pass.Keeping.{Keeping}
+use Rattle.publication.specs.declared.pass.Pass.{Pass}
+use Rattle.publication.specs.declared.pass.Reading.{Reading}
+use Rattle.publication.specs.Steps.{Extent, extent_of, term_of}
+use Rattle.log_rule.specs.declared.claims.view.View.{View}
+use Rattle.log_rule.specs.Claims.Packs.{consumer_place, limit_place, ring_of, slot}
+use Rattle.log_rule.specs.Claims.Sums.{covers, total}
+use Rattle.log_rule.specs.Claims.Rule.{Bounds, shape_of, size_of}
+use Rattle.log_rule.specs.Claims.Memory.{Ruled, tail_of}
+use Rattle.log_rule.specs.Claims.Sure.{controls_in}
+use Rattle.log_rule.specs.Claims.Plays.{Mine, pass_in}
+use Rattle.log_rule.proofs.Claimed.Totals.{both_at, total_at, total_set}
+use Rattle.log_rule.proofs.Claimed.Sures.{data_leaves, load_leaves, sure_on}
 use Rattle.log_rule.specs.declared.rule.Key.{Key}
 use Rattle.log_rule.specs.Edges.{AreCommitted, IsAmong, IsEdge, IsPlaced, begins_at, claimed_sum, committed_sum}
 use Rattle.log_rule.specs.Kept.{Attends, IsKeeper, IsReader, Kept, keepers_of, readers_of, reads_as}
 use Rattle.log_rule.specs.Table.{LogRuled, now_at}
-use Rattle.log_rule.specs.Readings.{Has, IsConsumer, IsFrameAt, Looked, Looks, MayPass, Passed, Passes, Rereads, end_of, knows_more, moved_to, reading, with_consumer}
+use Rattle.log_rule.specs.Readings.{Consumed, Consumes, Has, IsConsumer, IsFrameAt, LookedHere, Looks, MayPass, Rereads, end_of, knows_more, moved_to, reading, with_consumer}
 use Rattle.log_rule.proofs.Sums.{covered, covering}
 use Rattle.log_rule.proofs.Edges.{among_claimed, edge_behind, passed_behind}
 use Rattle.log_rule.proofs.Growing.{Grows, Spared, attends_on, grows, placed_on, same_sum}
@@ -185,7 +185,7 @@ module _ (key : Key) (slots id : ℕ) (m : Mine) (place : ℕ) (r : Reading) (is
           refl,
           refl,
           record { sure = refl; leads = λ one. refl },
-          λ r' is'. subst (λ (y : Reading). Looked v.pass place y n w.pass) (some-injective r r' (sym is ∙ is')) record {
+          λ r' is'. subst (λ (y : Reading). LookedHere v.pass place y n w.pass) (some-injective r r' (sym is ∙ is')) record {
             none = λ z. absurd (clash n pos z);
             found = λ _. record {
               frame = f.frame_there;
@@ -207,7 +207,7 @@ module _ (key : Key) (slots id : ℕ) (m : Mine) (place : ℕ) (r : Reading) (is
           refl,
           refl,
           record { sure = refl; leads = λ one. refl },
-          λ r' is'. subst (λ (y : Reading). Looked v.pass place y n w.pass) (some-injective r r' (sym is ∙ is')) record {
+          λ r' is'. subst (λ (y : Reading). LookedHere v.pass place y n w.pass) (some-injective r r' (sym is ∙ is')) record {
             none = λ z. (refl, λ g among here. stops n (slice_index g.words 0) z (word_there bs ws qs q.ruled r.position pl g (had s q at g among) here (long_had s q at g among)) (done_of bs ws qs q.ruled g (had s q at g among)).first);
             found = λ pos. absurd (clash n pos zero_here);
           },
@@ -258,7 +258,7 @@ module _ (key : Key) (slots id : ℕ) (m : Mine) (place : ℕ) (r : Reading) (is
 
   -- ---- the consumer's position is stored
 
-  pub pass : (end : ℕ) → MayPass m.0.pass place end → r.number < key.consumers → Allows (LogRuled key) slots id m (consumer_place r.number) (λ _. end) (λ _ m'. reading (λ v k w. Passes v place end w) m 0 m')
+  pub pass : (end : ℕ) → MayPass m.0.pass place end → r.number < key.consumers → Allows (LogRuled key) slots id m (consumer_place r.number) (λ _. end) (λ _ m'. reading (λ v k w. Consumes v place end w) m 0 m')
   pass end may low s q homes at small =
       let v : View = m.0 in let ws : List ℕ = s.words in let qs : List Pass = map pass_in s.views in let i : ℕ = consumer_place r.number in
       let bs : Bounds = now_at key (slice_index ws limit_place) q.cleaned in let pl = stands s q at low in let cons = consumer s q at in let few = q.kept.few in
@@ -343,7 +343,7 @@ module _ (key : Key) (slots id : ℕ) (m : Mine) (place : ℕ) (r : Reading) (is
           refl,
           refl,
           record { sure = refl; leads = λ one'. refl },
-          λ r' is'. subst (λ (y : Reading). Passed v.pass place end y w.pass) (some-injective r r' (sym is ∙ is')) record {
+          λ r' is'. subst (λ (y : Reading). Consumed v.pass place end y w.pass) (some-injective r r' (sym is ∙ is')) record {
             after = refl;
             ends = λ g has at_g. (let same_f : g ≡ f = one_frame bs ws qs q.ruled g f (had s q at g has) among (at_g ∙ sym at_it) (long_had s q at g has) (done_long bs.identity f d) in may.ends ∙ ap end_of (sym same_f));
             here = λ g has at_g. subst (λ (j : Identity). IsFrameAt j r.position g) (sym (identity_is s q at)) (frame_at bs ws qs q.ruled r.position pl.unit g (had s q at g has) at_g);

@@ -10,23 +10,23 @@ use Rattle.atomic_table.proofs.Lists.{at_map, at_set, at_snoc, set_else}
 use Rattle.theory.specs.Bytes.{Identity}
 use Rattle.theory.specs.Entry.{Entry}
 use Rattle.theory.proofs.Lists.{all_append, all_from, all_weaker}
-use Rattle.word_calls.specs.declared.pass.FrameWords.{FrameWords}
-use Rattle.word_calls.specs.declared.pass.Keeping.{Keeping}
-use Rattle.word_calls.specs.declared.pass.Pass.{Pass}
-use Rattle.word_calls.specs.declared.pass.Reading.{Reading}
-use Rattle.tail_claim.specs.declared.view.View.{View}
-use Rattle.tail_claim.specs.Packs.{consumer_place, limit_place}
-use Rattle.tail_claim.specs.Sums.{total}
-use Rattle.tail_claim.specs.Rule.{Bounds, armed_on, weight}
-use Rattle.tail_claim.specs.Memory.{Ruled}
-use Rattle.tail_claim.specs.Events.{IsLook, committed_weight}
-use Rattle.tail_claim.specs.Sure.{IsSure}
-use Rattle.tail_claim.specs.Plays.{dealer, dealing_seat, dealt, dealt_seat, newcomer, no_keeping, pass_in}
-use Rattle.tail_claim.specs.Closing.{numbered_seat, spent_seat}
-use Rattle.tail_claim.proofs.Accounts.{none_armed}
-use Rattle.tail_claim.proofs.Begun.{plus_none, shared, split_ruled, split_total}
-use Rattle.tail_claim.proofs.Numbers.{numbered}
-use Rattle.tail_claim.proofs.Sures.{sure_join, sure_split, unsure}
+use Rattle.publication.specs.declared.pass.FrameWords.{FrameWords}
+use Rattle.publication.specs.declared.pass.Keeping.{Keeping}
+use Rattle.publication.specs.declared.pass.Pass.{Pass}
+use Rattle.publication.specs.declared.pass.Reading.{Reading}
+use Rattle.log_rule.specs.declared.claims.view.View.{View}
+use Rattle.log_rule.specs.Claims.Packs.{consumer_place, limit_place}
+use Rattle.log_rule.specs.Claims.Sums.{total}
+use Rattle.log_rule.specs.Claims.Rule.{Bounds, armed_on, weight}
+use Rattle.log_rule.specs.Claims.Memory.{Ruled}
+use Rattle.log_rule.specs.Claims.Events.{IsLook, committed_weight}
+use Rattle.log_rule.specs.Claims.Sure.{IsSure}
+use Rattle.log_rule.specs.Claims.Plays.{dealer, dealing_seat, dealt, dealt_seat, newcomer, no_keeping, pass_in}
+use Rattle.log_rule.specs.Claims.Closing.{numbered_seat, spent_seat}
+use Rattle.log_rule.proofs.Claimed.Accounts.{none_armed}
+use Rattle.log_rule.proofs.Claimed.Begun.{plus_none, shared, split_ruled, split_total}
+use Rattle.log_rule.proofs.Claimed.Numbers.{numbered}
+use Rattle.log_rule.proofs.Claimed.Sures.{sure_join, sure_split, unsure}
 use Rattle.log_rule.specs.declared.rule.Key.{Key}
 use Rattle.log_rule.specs.Edges.{IsAmong}
 use Rattle.log_rule.specs.Kept.{Attends, IsKeeper, IsReader, Kept, keepers_of, readers_of, reads_as}

@@ -4,14 +4,14 @@ use mathlib.Core.Logic.{dite}
 use native.Mathlib.Decide.{dec_le}
 use Rattle.std.proofs.Math.Nat.{mul-le-mul_left}
 use Rattle.theory.specs.Position.{max_position}
-use Rattle.word_calls.specs.declared.pass.FrameWords.{FrameWords}
-use Rattle.word_calls.specs.declared.pass.Pass.{Pass}
-use Rattle.word_calls.specs.Steps.{Extent, extent_of}
-use Rattle.tail_claim.specs.Sums.{covers}
-use Rattle.tail_claim.specs.Terms.{end_of}
-use Rattle.tail_claim.specs.Rule.{Bounds, shape_of, size_of}
-use Rattle.tail_claim.specs.Memory.{Ruled, tail_of}
-use Rattle.tail_claim.proofs.Memories.{tail_is}
+use Rattle.publication.specs.declared.pass.FrameWords.{FrameWords}
+use Rattle.publication.specs.declared.pass.Pass.{Pass}
+use Rattle.publication.specs.Steps.{Extent, extent_of}
+use Rattle.log_rule.specs.Claims.Sums.{covers}
+use Rattle.log_rule.specs.Claims.Terms.{claimed_to}
+use Rattle.log_rule.specs.Claims.Rule.{Bounds, shape_of, size_of}
+use Rattle.log_rule.specs.Claims.Memory.{Ruled, tail_of}
+use Rattle.log_rule.proofs.Claimed.Memories.{tail_is}
 use Rattle.log_rule.specs.Edges.{AreCommitted, IsAmong, IsEdge, begins_at, begins_below, claimed_sum, committed_sum}
 use Rattle.log_rule.proofs.Sums.{HasRange, committed_both, committed_up, covered, covering, has_range, sum_both, sum_less, sum_up}
 
@@ -21,7 +21,7 @@ among_claimed b ws ps r f among h = let a = among (λ g. h (extent_of g)) in let
 
 -- the tail isn't above the greatest position
 pub tail_low : (b : Bounds) (ws : List ℕ) (ps : List Pass) → Ruled b ws ps → tail_of b ps ≤ max_position (shape_of b)
-tail_low b ws ps r = let t = tail_is b ws ps r.claims in let to = r.claims.tailed.turns.to in low (tail_of b ps) (end_of (shape_of b) r.claims.terms) r.claims.terms.newest (size_of b) (r.claims.terms.offset r.claims.terms.newest) t to refl
+tail_low b ws ps r = let t = tail_is b ws ps r.claims in let to = r.claims.tailed.turns.to in low (tail_of b ps) (claimed_to (shape_of b) r.claims.terms) r.claims.terms.newest (size_of b) (r.claims.terms.offset r.claims.terms.newest) t to refl
   where
     low : (tail end k t o : ℕ) → tail ≡ end → k < 2 ^ 31 → end ≡ k * t + min o t → tail ≤ t * 2 ^ 31
     low tail end k t o is lt e = let m : t * suc k ≤ t * 2 ^ 31 = mul-le-mul_left t lt in omega arith

@@ -10,24 +10,24 @@ use Rattle.theory.specs.Bytes.{Identity}
 use Rattle.theory.specs.Entry.{Entry, length_of}
 use Rattle.theory.specs.Position.{max_position}
 use Rattle.theory.specs.Tiling.{Tiles}
-use Rattle.word_calls.specs.declared.pass.FrameWords.{FrameWords}
-use Rattle.word_calls.specs.declared.pass.Pass.{Pass}
-use Rattle.tail_claim.specs.declared.view.View.{View}
-use Rattle.tail_claim.specs.Packs.{consumer_place, limit_place}
-use Rattle.tail_claim.specs.Sums.{total}
-use Rattle.tail_claim.specs.Rule.{Bounds, entries_of, entry_of, parts_of, shape_of, weight}
-use Rattle.tail_claim.specs.Memory.{Ruled}
-use Rattle.tail_claim.specs.Events.{IsLook, committed_weight}
-use Rattle.tail_claim.specs.Plays.{Mine, pass_in}
-use Rattle.tail_claim.specs.Closing.{both_seats, spent_seat}
-use Rattle.tail_claim.proofs.Gathering.{joined}
-use Rattle.tail_claim.proofs.Memories.{maps_append, tail_is}
-use Rattle.tail_claim.proofs.Sures.{sure_join, unsure}
-use Rattle.tail_claim.proofs.Totals.{total_append, total_at, total_map, total_one, total_set}
+use Rattle.publication.specs.declared.pass.FrameWords.{FrameWords}
+use Rattle.publication.specs.declared.pass.Pass.{Pass}
+use Rattle.log_rule.specs.declared.claims.view.View.{View}
+use Rattle.log_rule.specs.Claims.Packs.{consumer_place, limit_place}
+use Rattle.log_rule.specs.Claims.Sums.{total}
+use Rattle.log_rule.specs.Claims.Rule.{Bounds, entries_of, entry_of, parts_of, shape_of, weight}
+use Rattle.log_rule.specs.Claims.Memory.{Ruled}
+use Rattle.log_rule.specs.Claims.Events.{IsLook, committed_weight}
+use Rattle.log_rule.specs.Claims.Plays.{Mine, pass_in}
+use Rattle.log_rule.specs.Claims.Closing.{both_seats, spent_seat}
+use Rattle.log_rule.proofs.Claimed.Gathering.{joined}
+use Rattle.log_rule.proofs.Claimed.Memories.{maps_append, tail_is}
+use Rattle.log_rule.proofs.Claimed.Sures.{sure_join, unsure}
+use Rattle.log_rule.proofs.Claimed.Totals.{total_append, total_at, total_map, total_one, total_set}
 use Rattle.log_rule.specs.declared.rule.Key.{Key}
 use Rattle.log_rule.specs.Kept.{Attends, Kept, keepers_of, readers_of}
 use Rattle.log_rule.specs.Readings.{reading}
-use Rattle.log_rule.specs.Shares.{Weighs, share_of}
+use Rattle.log_rule.specs.Shares.{Weighs, claimed_bytes}
 use Rattle.log_rule.specs.Table.{LogRuled, now_at}
 use Rattle.log_rule.proofs.Growing.{Grows, attends_on, grows, placed_on}
 use Rattle.log_rule.proofs.Consumers.{loaded, spared_same}
@@ -97,13 +97,13 @@ gathers key id other v w off off' able s r at ne at' =
 weighs : (b : Bounds) (ws : List ℕ) (ps : List Pass) → Ruled b ws ps → (id : ℕ) (v : Pass) → get_elem? ps id ≡ some v → Weighs v v
 weighs b ws ps r id v at =
     let k = r.claims.each id v at in let most = tail_low b ws ps r in let mine = total_at (weight length_of) ps id v at in
-    let share : weight length_of v ≡ share_of v = total_map length_of entry_of v.right.claims in
+    let share : weight length_of v ≡ claimed_bytes v = total_map length_of entry_of v.right.claims in
     let all : v.right.parts ≡ 1024 → (h : Entry → ℕ) → total (weight h) ps ≡ weight h v = λ e h. total_one parts_of (weight h) ps id v at (r.claims.parted ∙ sym e) (λ j w e' none. ap (λ cs. total h (map entry_of cs)) ((r.claims.each j w e').right.idle none)) in record {
       number = k.number;
-      low = subst (λ (x : ℕ × Identity). x.0 + share_of v ≤ max_position x.1.geometry) (λ i. (sym k.start i, sym k.identity i)) (below b.start (share_of v) (weight length_of v) (total (weight length_of) ps) (max_position (shape_of b)) share mine most);
+      low = subst (λ (x : ℕ × Identity). x.0 + claimed_bytes v ≤ max_position x.1.geometry) (λ i. (sym k.start i, sym k.identity i)) (below b.start (claimed_bytes v) (weight length_of v) (total (weight length_of) ps) (max_position (shape_of b)) share mine most);
       whole = λ e. record {
         log = r.claims.log;
-        tiles = subst (λ (x : Identity × ℕ × ℕ). Tiles x.0.geometry.term_length x.1 x.2 r.claims.log) (λ i. (sym k.identity i, sym k.start i, (sym (tail_is b ws ps r.claims) ∙ ap (λ (n : ℕ). b.start + n) (all e length_of ∙ share) ∙ ap (λ (n : ℕ). n + share_of v) (sym k.start)) i)) r.claims.tiles;
+        tiles = subst (λ (x : Identity × ℕ × ℕ). Tiles x.0.geometry.term_length x.1 x.2 r.claims.log) (λ i. (sym k.identity i, sym k.start i, (sym (tail_is b ws ps r.claims) ∙ ap (λ (n : ℕ). b.start + n) (all e length_of ∙ share) ∙ ap (λ (n : ℕ). n + claimed_bytes v) (sym k.start)) i)) r.claims.tiles;
         fair = λ h. sym (all e h) ∙ r.claims.fair h;
       };
       same = refl;

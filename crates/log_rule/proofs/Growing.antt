@@ -8,18 +8,18 @@ use Rattle.atomic_table.proofs.Lists.{at_set}
 use Rattle.theory.specs.Position.{aligned, span}
 use Rattle.theory.specs.Entry.{Entry, IsEntry, length_of}
 use Rattle.theory.proofs.Lists.{all_weaker}
-use Rattle.word_calls.specs.declared.pass.FrameWords.{FrameWords}
-use Rattle.word_calls.specs.declared.pass.Keeping.{Keeping}
-use Rattle.word_calls.specs.declared.pass.Pass.{Pass}
-use Rattle.word_calls.specs.declared.pass.Reading.{Reading}
-use Rattle.word_calls.specs.Steps.{extent_of, extents}
-use Rattle.tail_claim.specs.Packs.{consumer_place, limit_place}
-use Rattle.tail_claim.specs.Sums.{total}
-use Rattle.tail_claim.specs.Rule.{Bounds, weight}
-use Rattle.tail_claim.specs.Memory.{Ruled, tail_of}
-use Rattle.tail_claim.specs.Admits.{Same}
-use Rattle.tail_claim.specs.Events.{IsClaimed, IsCommitted, IsEvent, IsLook, committed_weight}
-use Rattle.tail_claim.proofs.Totals.{total_set}
+use Rattle.publication.specs.declared.pass.FrameWords.{FrameWords}
+use Rattle.publication.specs.declared.pass.Keeping.{Keeping}
+use Rattle.publication.specs.declared.pass.Pass.{Pass}
+use Rattle.publication.specs.declared.pass.Reading.{Reading}
+use Rattle.publication.specs.Steps.{extent_of, extents}
+use Rattle.log_rule.specs.Claims.Packs.{consumer_place, limit_place}
+use Rattle.log_rule.specs.Claims.Sums.{total}
+use Rattle.log_rule.specs.Claims.Rule.{Bounds, weight}
+use Rattle.log_rule.specs.Claims.Memory.{Ruled, tail_of}
+use Rattle.log_rule.specs.Claims.Admits.{Same}
+use Rattle.log_rule.specs.Claims.Events.{IsClaimed, IsCommitted, IsEvent, IsLook, committed_weight}
+use Rattle.log_rule.proofs.Claimed.Totals.{total_set}
 use Rattle.log_rule.specs.Edges.{AreCommitted, IsAmong, IsEdge, IsPlaced, begins_at, begins_below, claimed_sum, committed_sum, in_entry}
 use Rattle.log_rule.specs.Kept.{Attends, IsKeeper, IsReader, Kept, keepers_of, readers_of}
 use Rattle.log_rule.proofs.Sums.{sum_less}

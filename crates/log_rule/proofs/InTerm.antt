@@ -8,16 +8,16 @@ use Rattle.theory.specs.Tiling.{InOneTerm, Tiles}
 use Rattle.theory.specs.Placed.{Data, Frame, Pad, frame_length}
 use Rattle.theory.specs.Bytes.{Identity}
 use Rattle.position.specs.Heads.{IsStreamFrame, head_of}
-use Rattle.word_calls.specs.declared.pass.FrameWords.{FrameWords}
-use Rattle.word_calls.specs.declared.pass.Pass.{Pass}
-use Rattle.word_calls.specs.Steps.{Extent, extents}
-use Rattle.word_calls.specs.Frames.{IsLegal, frame_words}
-use Rattle.word_calls.proofs.Wordings.{words_length}
-use Rattle.tail_claim.specs.Sums.{covers, total}
-use Rattle.tail_claim.specs.Terms.{end_of}
-use Rattle.tail_claim.specs.Rule.{Bounds, shape_of, size_of}
-use Rattle.tail_claim.specs.Memory.{IsDone, Ruled, tail_of}
-use Rattle.tail_claim.proofs.Memories.{tail_is}
+use Rattle.publication.specs.declared.pass.FrameWords.{FrameWords}
+use Rattle.publication.specs.declared.pass.Pass.{Pass}
+use Rattle.publication.specs.Steps.{Extent, extents}
+use Rattle.publication.specs.Frames.{IsLegal, frame_words}
+use Rattle.publication.proofs.Wordings.{words_length}
+use Rattle.log_rule.specs.Claims.Sums.{covers, total}
+use Rattle.log_rule.specs.Claims.Terms.{claimed_to}
+use Rattle.log_rule.specs.Claims.Rule.{Bounds, shape_of, size_of}
+use Rattle.log_rule.specs.Claims.Memory.{IsCommittedFrame, Ruled, tail_of}
+use Rattle.log_rule.proofs.Claimed.Memories.{tail_is}
 use Rattle.log_rule.specs.Edges.{IsAmong, claimed_sum, in_entry}
 use Rattle.log_rule.specs.Readings.{IsFrameAt}
 use Rattle.log_rule.proofs.Sums.{cover_cuts, covered, covering, total_up}
@@ -83,18 +83,18 @@ tiles_cross t k p q (e ∷ es) tiles pos =
     none a r m c z e = omega arith
 
 pub nothing_crosses : (b : Bounds) (ws : List ℕ) (ps : List Pass) → Ruled b ws ps → (k : ℕ) → 0 < k * size_of b → claimed_sum (crossing (k * size_of b)) ps ≡ 0
-nothing_crosses b ws ps r k pos = r.claims.fair (in_entry (crossing (k * size_of b))) ∙ tiles_cross (size_of b) k b.start (end_of (shape_of b) r.claims.terms) r.claims.log r.claims.tiles pos
+nothing_crosses b ws ps r k pos = r.claims.fair (in_entry (crossing (k * size_of b))) ∙ tiles_cross (size_of b) k b.start (claimed_to (shape_of b) r.claims.terms) r.claims.log r.claims.tiles pos
 
 -- ---- where a frame ends
 
-pub words_cover : (i : Identity) (f : FrameWords) (d : IsDone i f) → 8 * length f.words ≡ aligned (frame_length d.content)
+pub words_cover : (i : Identity) (f : FrameWords) (d : IsCommittedFrame i f) → 8 * length f.words ≡ aligned (frame_length d.content)
 unfolding frame_words
 words_cover i f d = ap (λ (l : List ℕ). 8 * length l) d.spelt ∙ ap (λ (n : ℕ). 8 * n) (words_length (aligned (frame_length d.content) / 8) _) ∙ whole (frame_length d.content)
   where
     whole : (n : ℕ) → 8 * (aligned n / 8) ≡ aligned n
     whole n = omega arith
 
-pub done_long : (i : Identity) (f : FrameWords) → IsDone i f → 0 < length f.words
+pub done_long : (i : Identity) (f : FrameWords) → IsCommittedFrame i f → 0 < length f.words
 done_long i f d = go f.words d.first
   where
     go : (ws : List ℕ) → 0 < Rattle.std.specs.Prelude.slice_index ws 0 → 0 < length ws

@@ -13,23 +13,23 @@ use Rattle.theory.specs.Position.{Geometry, greatest_claim, max_position}
 use Rattle.theory.specs.Bytes.{Identity}
 use Rattle.theory.specs.Refusal.{limit_in}
 use Rattle.theory.proofs.Lists.{all_at, all_weaker}
-use Rattle.word_calls.specs.declared.pass.Controls.{Controls}
-use Rattle.word_calls.specs.declared.pass.Keeping.{Keeping}
-use Rattle.word_calls.specs.declared.pass.Pass.{Pass}
-use Rattle.word_calls.specs.declared.pass.Reading.{Reading}
-use Rattle.word_calls.specs.Steps.{geometry_of}
-use Rattle.tail_claim.specs.declared.view.View.{View}
-use Rattle.tail_claim.specs.Packs.{consumer_place, limit_place, ring_of}
-use Rattle.tail_claim.specs.Sums.{total}
-use Rattle.tail_claim.specs.Terms.{end_of}
-use Rattle.tail_claim.specs.Rule.{Bounds, Claimed, armed_of, first_of, shape_of, size_of}
-use Rattle.tail_claim.specs.Memory.{Memory, Ruled, Stored, tail_of}
-use Rattle.tail_claim.specs.Sure.{controls_in}
-use Rattle.tail_claim.specs.Plays.{Mine, pass_in}
-use Rattle.tail_claim.proofs.Totals.{both_at}
-use Rattle.tail_claim.proofs.Sures.{limit_set, sure_on}
-use Rattle.tail_claim.proofs.Tails.{elsewhere}
-use Rattle.tail_claim.proofs.Memories.{stayed}
+use Rattle.publication.specs.declared.pass.Controls.{Controls}
+use Rattle.publication.specs.declared.pass.Keeping.{Keeping}
+use Rattle.publication.specs.declared.pass.Pass.{Pass}
+use Rattle.publication.specs.declared.pass.Reading.{Reading}
+use Rattle.publication.specs.Steps.{geometry_of}
+use Rattle.log_rule.specs.declared.claims.view.View.{View}
+use Rattle.log_rule.specs.Claims.Packs.{consumer_place, limit_place, ring_of}
+use Rattle.log_rule.specs.Claims.Sums.{total}
+use Rattle.log_rule.specs.Claims.Terms.{claimed_to}
+use Rattle.log_rule.specs.Claims.Rule.{Bounds, ClaimsHold, armed_of, first_of, shape_of, size_of}
+use Rattle.log_rule.specs.Claims.Memory.{Memory, Ruled, Stored, tail_of}
+use Rattle.log_rule.specs.Claims.Sure.{controls_in}
+use Rattle.log_rule.specs.Claims.Plays.{Mine, pass_in}
+use Rattle.log_rule.proofs.Claimed.Totals.{both_at}
+use Rattle.log_rule.proofs.Claimed.Sures.{limit_set, sure_on}
+use Rattle.log_rule.proofs.Claimed.Tails.{elsewhere}
+use Rattle.log_rule.proofs.Claimed.Memories.{stayed}
 use Rattle.log_rule.specs.declared.rule.Key.{Key}
 use Rattle.log_rule.specs.Edges.{IsAmong, IsPlaced}
 use Rattle.log_rule.specs.Kept.{Attends, IsKeeper, IsReader, Kept, keepers_of, readers_of}
@@ -131,7 +131,7 @@ raised : (b : Bounds) (ws : List ℕ) (ps : List Pass) → Ruled b ws ps → (id
     → Ruled (limited b word) (set ws 0 word) (set ps id (with_keeping v k))
 raised b ws ps r id word v k at rises clean =
     let t = r.claims.terms in let w : Pass = with_keeping v k in let b' : Bounds = limited b word in
-    let c : Claimed b ws (set ps id w) = (rested_here b ws ps r id v v.reading k at).claims in
+    let c : ClaimsHold b ws (set ps id w) = (rested_here b ws ps r id v v.reading k at).claims in
     let m : Memory b (set ws 0 word) (set ps id w) = stayed b ws ps r.memory id 0 word v w (omega arith) at record { claims = refl; work = refl } in record {
       claims = record {
         sound = record { geometry = r.claims.sound.geometry; unit = r.claims.sound.unit; below = r.claims.sound.below; greatest = r.claims.sound.greatest; limit = refl };
@@ -145,7 +145,7 @@ raised b ws ps r id word v k at rises clean =
         reached = c.reached;
         parted = c.parted;
         over = c.over;
-        room = (let a = c.room in room_more (end_of (shape_of b) c.terms) (b.greatest * total armed_of (set ps id w)) b.limit (limit_in word) (b.greatest * 8) a rises);
+        room = (let a = c.room in room_more (claimed_to (shape_of b) c.terms) (b.greatest * total armed_of (set ps id w)) b.limit (limit_in word) (b.greatest * 8) a rises);
         each = λ j u e. (let x = c.each j u e in record { identity = x.identity; start = x.start; number = x.number; right = record { capped = (let a = x.right.capped in omega arith); able = x.right.able; once = x.right.once; idle = x.right.idle }; entries = x.entries; seen = x.seen });
       };
       memory = record {

@@ -10,17 +10,17 @@ use Rattle.theory.specs.Position.{aligned}
 use Rattle.theory.specs.Entry.{Entry}
 use Rattle.theory.specs.Placed.{Among}
 use Rattle.theory.proofs.Lists.{all_at, among_cases, among_left}
-use Rattle.word_calls.specs.declared.pass.ClaimRange.{ClaimRange}
-use Rattle.word_calls.specs.declared.pass.FrameWords.{FrameWords}
-use Rattle.word_calls.specs.declared.pass.Pass.{Pass}
-use Rattle.word_calls.specs.Steps.{Extent, extent_of, extents, frame, frames_of}
-use Rattle.tail_claim.specs.Packs.{slot}
-use Rattle.tail_claim.specs.Sums.{covers, total}
-use Rattle.tail_claim.specs.Rule.{Bounds, IsClaim, entries_of, entry_of, parts_of, shape_of, size_of, weight}
-use Rattle.tail_claim.specs.Memory.{IsDone, IsOpen, Ruled, Stands, tail_of}
-use Rattle.tail_claim.specs.Events.{committed_weight}
-use Rattle.tail_claim.proofs.Totals.{both_at, total_at}
-use Rattle.tail_claim.proofs.Memories.{tail_low}
+use Rattle.publication.specs.declared.pass.ClaimRange.{ClaimRange}
+use Rattle.publication.specs.declared.pass.FrameWords.{FrameWords}
+use Rattle.publication.specs.declared.pass.Pass.{Pass}
+use Rattle.publication.specs.Steps.{Extent, extent_of, extents, frame, frames_of}
+use Rattle.log_rule.specs.Claims.Packs.{slot}
+use Rattle.log_rule.specs.Claims.Sums.{covers, total}
+use Rattle.log_rule.specs.Claims.Rule.{Bounds, IsClaimEntry, entries_of, entry_of, parts_of, shape_of, size_of, weight}
+use Rattle.log_rule.specs.Claims.Memory.{IsCommittedFrame, IsOpen, Ruled, StandsInTable, tail_of}
+use Rattle.log_rule.specs.Claims.Events.{committed_weight}
+use Rattle.log_rule.proofs.Claimed.Totals.{both_at, total_at}
+use Rattle.log_rule.proofs.Claimed.Memories.{tail_low}
 use Rattle.log_rule.specs.Edges.{IsAmong, IsPlaced, begins_at, claimed_sum, committed_sum, in_entry}
 use Rattle.log_rule.proofs.Sums.{claimed_by, covered, covering, has_some, sum_less, total_both, total_up}
 
@@ -115,11 +115,11 @@ is_among ps i v f at among h = let a = among_total h v.work.frames f among in le
     up : (x y z : ℕ) → x ≤ y → y ≤ z → x ≤ z
     up x y z p q = omega arith
 
-pub done_of : (b : Bounds) (ws : List ℕ) (ps : List Pass) → Ruled b ws ps → (f : FrameWords) → IsAmong ps f → IsDone b.identity f
-done_of b ws ps r f among = let i = found ps f among in all_at (IsDone b.identity) f i.holder.work.frames (r.memory.each i.place i.holder i.at).done i.among
+pub done_of : (b : Bounds) (ws : List ℕ) (ps : List Pass) → Ruled b ws ps → (f : FrameWords) → IsAmong ps f → IsCommittedFrame b.identity f
+done_of b ws ps r f among = let i = found ps f among in all_at (IsCommittedFrame b.identity) f i.holder.work.frames (r.memory.each i.place i.holder i.at).done i.among
 
-pub stands_of : (b : Bounds) (ws : List ℕ) (ps : List Pass) → Ruled b ws ps → (f : FrameWords) → IsAmong ps f → Stands b ws f
-stands_of b ws ps r f among = let i = found ps f among in all_at (Stands b ws) f (frames_of i.holder) (r.memory.each i.place i.holder i.at).stands (among_left f i.holder.work.frames i.holder.work.drafts i.among)
+pub stands_of : (b : Bounds) (ws : List ℕ) (ps : List Pass) → Ruled b ws ps → (f : FrameWords) → IsAmong ps f → StandsInTable b ws f
+stands_of b ws ps r f among = let i = found ps f among in all_at (StandsInTable b ws) f (frames_of i.holder) (r.memory.each i.place i.holder i.at).stands (among_left f i.holder.work.frames i.holder.work.drafts i.among)
 
 -- ---- no two begin at one position
 
@@ -197,7 +197,7 @@ finds b ws ps r ahead p k pos =
     let start : f.one.start ≡ p = at_it p f.one.start (8 * length f.one.words) f.some in let long : 0 < length f.one.words = is_long p f.one.start (length f.one.words) f.some in
     let within = among_at (frames_of v.one) f.place f.one f.at in
     let low = low_enough b ps p k in let e : f.one.start + 8 * 0 ≡ p = omega arith in let from : b.cleaned ≤ f.one.start + 8 * 0 = omega arith in
-    let word : n ≡ slice_index f.one.words 0 = ap (λ (q : ℕ). slice_index ws (slot (shape_of b) q)) (sym e) ∙ all_at (Stands b ws) f.one (frames_of v.one) m.stands within 0 long from in
+    let word : n ≡ slice_index f.one.words 0 = ap (λ (q : ℕ). slice_index ws (slot (shape_of b) q)) (sym e) ∙ all_at (StandsInTable b ws) f.one (frames_of v.one) m.stands within 0 long from in
     let done : Among f.one v.one.work.frames = ⊎_elim (λ (l : Among f.one v.one.work.frames). l) (λ (d : Among f.one v.one.work.drafts). absurd (let z : slice_index f.one.words 0 ≡ 0 = all_at IsOpen f.one v.one.work.drafts m.undone d in clash n (slice_index f.one.words 0) pos word z)) (among_cases f.one v.one.work.frames v.one.work.drafts within) in
     record { frame_there = f.one; among = is_among ps v.place v.one f.one v.at done; at = start; long = long; word = sym word })
     k.edge
@@ -253,14 +253,14 @@ units_in p (c ∷ cs) u = let next : (p + aligned c) % 32 ≡ 0 = omega arith in
     none : (a c : ℕ) → a ≡ 0 → c ≡ 0 → a + c ≡ 0
     none a c e f = omega arith
 
-units_of : (es : List Entry) → AllByRecursion IsClaim es → total (in_entry (λ x. x.start % 32)) es ≡ 0
+units_of : (es : List Entry) → AllByRecursion IsClaimEntry es → total (in_entry (λ x. x.start % 32)) es ≡ 0
 units_of [] all = refl
 units_of (e ∷ es) all = let a = units_in e.start e.cuts all.0.unit in let c = units_of es all.1 in none (in_entry (λ x. x.start % 32) e) (total (in_entry (λ x. x.start % 32)) es) a c
   where
     none : (a c : ℕ) → a ≡ 0 → c ≡ 0 → a + c ≡ 0
     none a c e f = omega arith
 
-pub units_sum : (ps : List Pass) → ((i : ℕ) (v : Pass) → get_elem? ps i ≡ some v → AllByRecursion IsClaim (entries_of v)) → claimed_sum (λ x. x.start % 32) ps ≡ 0
+pub units_sum : (ps : List Pass) → ((i : ℕ) (v : Pass) → get_elem? ps i ≡ some v → AllByRecursion IsClaimEntry (entries_of v)) → claimed_sum (λ x. x.start % 32) ps ≡ 0
 units_sum [] each = refl
 units_sum (v ∷ vs) each = let a = units_of (entries_of v) (each 0 v refl) in let c = units_sum vs (λ i. each (suc i)) in none (weight (in_entry (λ x. x.start % 32)) v) (claimed_sum (λ x. x.start % 32) vs) a c
   where

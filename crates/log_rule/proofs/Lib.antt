@@ -14,3 +14,4 @@ pub mod Shares
 pub mod Gathering
 pub mod Meetings
 pub mod Showing
+pub mod Claimed

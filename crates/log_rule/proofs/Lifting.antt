@@ -4,19 +4,19 @@ use Rattle.std.specs.Prelude.{slice_index}
 use Rattle.std.proofs.lemmas.List.{map-set, set-get_or}
 use Rattle.atomic_table.specs.Table.{Allows, keeps}
 use Rattle.atomic_table.proofs.Lists.{at_map}
-use Rattle.word_calls.specs.declared.pass.Controls.{Controls}
-use Rattle.word_calls.specs.declared.pass.Pass.{Pass}
-use Rattle.word_calls.specs.declared.step.WordStep.{WordStep}
-use Rattle.word_calls.specs.Controls.{Leads}
-use Rattle.tail_claim.specs.declared.view.View.{View}
-use Rattle.tail_claim.specs.Packs.{consumer_place, limit_place}
-use Rattle.tail_claim.specs.Rule.{Bounds}
-use Rattle.tail_claim.specs.Memory.{Ruled}
-use Rattle.tail_claim.specs.Admits.{Same}
-use Rattle.tail_claim.specs.Events.{Eventful}
-use Rattle.tail_claim.specs.Sure.{Learns, controls_in}
-use Rattle.tail_claim.specs.Plays.{Mine, pass_in}
-use Rattle.tail_claim.proofs.Sures.{Leaves, Turns, sure_on}
+use Rattle.publication.specs.declared.pass.Controls.{Controls}
+use Rattle.publication.specs.declared.pass.Pass.{Pass}
+use Rattle.publication.specs.declared.step.WordStep.{WordStep}
+use Rattle.publication.specs.Controls.{Leads}
+use Rattle.log_rule.specs.declared.claims.view.View.{View}
+use Rattle.log_rule.specs.Claims.Packs.{consumer_place, limit_place}
+use Rattle.log_rule.specs.Claims.Rule.{Bounds}
+use Rattle.log_rule.specs.Claims.Memory.{Ruled}
+use Rattle.log_rule.specs.Claims.Admits.{Same}
+use Rattle.log_rule.specs.Claims.Events.{Eventful}
+use Rattle.log_rule.specs.Claims.Sure.{LearnsControls, controls_in}
+use Rattle.log_rule.specs.Claims.Plays.{Mine, pass_in}
+use Rattle.log_rule.proofs.Claimed.Sures.{Leaves, Turns, sure_on}
 use Rattle.log_rule.specs.declared.rule.Key.{Key}
 use Rattle.log_rule.specs.Kept.{Kept}
 use Rattle.log_rule.specs.Table.{LogRuled, now_at}
@@ -43,7 +43,7 @@ wide : (key : Key) (word cleaned : ℕ) (ws : List ℕ) (ps : List Pass) → Rul
 wide key word cleaned ws ps r = let e = r.claims.wide in omega arith
 
 pub lifted : (key : Key) (slots id i : ℕ) (m : Mine) (f : ℕ → ℕ) (told : ℕ → Pass → Type 0) (noted : ℕ → List WordStep) → Turns i f noted → (0 < m.0.pass.right.parts) ⊎ Leaves i f → Spares i f → ((b : Bounds) → Eventful b id m.0.pass i f told)
-    → Allows (LogRuled key) slots id m i f (λ n m'. (m'.1 ≡ m.1) × (m'.0.steps ≡ suc m.0.steps) × Same m.0.pass m'.0.pass × Learns (noted n) m.0 m'.0 × told n m'.0.pass)
+    → Allows (LogRuled key) slots id m i f (λ n m'. (m'.1 ≡ m.1) × (m'.0.steps ≡ suc m.0.steps) × Same m.0.pass m'.0.pass × LearnsControls (noted n) m.0 m'.0 × told n m'.0.pass)
 lifted key slots id i m f told noted turns may spares go s r homes at small =
     let ws : List ℕ = s.words in let n : ℕ = slice_index ws i in let v : View = m.0 in let mine = r.sure.each id v at in let ps : List Pass = map pass_in s.views in
     let b : Bounds = now_at key (slice_index ws limit_place) r.cleaned in let ws' : List ℕ = set ws i (f n) in
@@ -72,5 +72,5 @@ lifted key slots id i m f told noted turns may spares go s r homes at small =
 
 -- the word may be named otherwise
 pub lifted_at : (key : Key) (slots id i : ℕ) (m : Mine) (f : ℕ → ℕ) (told : ℕ → Pass → Type 0) (noted : ℕ → List WordStep) (j : ℕ) → j ≡ i → Turns i f noted → (0 < m.0.pass.right.parts) ⊎ Leaves i f → Spares i f → ((b : Bounds) → Eventful b id m.0.pass i f told)
-    → Allows (LogRuled key) slots id m j f (λ n m'. (m'.1 ≡ m.1) × (m'.0.steps ≡ suc m.0.steps) × Same m.0.pass m'.0.pass × Learns (noted n) m.0 m'.0 × told n m'.0.pass)
-lifted_at key slots id i m f told noted j e turns may spares go = subst (λ (k : ℕ). Allows (LogRuled key) slots id m k f (λ n m'. (m'.1 ≡ m.1) × (m'.0.steps ≡ suc m.0.steps) × Same m.0.pass m'.0.pass × Learns (noted n) m.0 m'.0 × told n m'.0.pass)) (sym e) (lifted key slots id i m f told noted turns may spares go)
+    → Allows (LogRuled key) slots id m j f (λ n m'. (m'.1 ≡ m.1) × (m'.0.steps ≡ suc m.0.steps) × Same m.0.pass m'.0.pass × LearnsControls (noted n) m.0 m'.0 × told n m'.0.pass)
+lifted_at key slots id i m f told noted j e turns may spares go = subst (λ (k : ℕ). Allows (LogRuled key) slots id m k f (λ n m'. (m'.1 ≡ m.1) × (m'.0.steps ≡ suc m.0.steps) × Same m.0.pass m'.0.pass × LearnsControls (noted n) m.0 m'.0 × told n m'.0.pass)) (sym e) (lifted key slots id i m f told noted turns may spares go)

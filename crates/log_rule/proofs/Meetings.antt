@@ -12,22 +12,22 @@ use Rattle.atomic_table.proofs.Lists.{at_map, set_else}
 use Rattle.theory.specs.Entry.{Entry}
 use Rattle.theory.specs.Refusal.{limit_in}
 use Rattle.theory.proofs.Lists.{all_append, all_behind, all_front}
-use Rattle.word_calls.specs.declared.pass.Pass.{Pass}
-use Rattle.tail_claim.specs.declared.view.View.{View}
-use Rattle.tail_claim.specs.Packs.{limit_place}
-use Rattle.tail_claim.specs.Sums.{total}
-use Rattle.tail_claim.specs.Terms.{Full, Terms}
-use Rattle.tail_claim.specs.Rule.{Bounds, Claimed, IsClaim, Knows, entries_of, entry_of, first_of, shape_of, size_of, weight}
-use Rattle.tail_claim.specs.Memory.{IsAligned, IsDone, IsOpen, Memory, Ruled, Stands, Stored}
-use Rattle.tail_claim.specs.Events.{committed_weight}
-use Rattle.tail_claim.specs.Plays.{Mine, newcomer, no_keeping, pass_in}
-use Rattle.tail_claim.specs.Closing.{spent_seat}
-use Rattle.tail_claim.proofs.Accounts.{none_armed, sighted}
-use Rattle.tail_claim.proofs.Begun.{split_ruled}
-use Rattle.tail_claim.proofs.Gathering.{joined}
-use Rattle.tail_claim.proofs.Memories.{maps_append, stayed}
-use Rattle.tail_claim.proofs.Sures.{sure_join, unsure}
-use Rattle.tail_claim.proofs.Totals.{total_append}
+use Rattle.publication.specs.declared.pass.Pass.{Pass}
+use Rattle.log_rule.specs.declared.claims.view.View.{View}
+use Rattle.log_rule.specs.Claims.Packs.{limit_place}
+use Rattle.log_rule.specs.Claims.Sums.{total}
+use Rattle.log_rule.specs.Claims.Terms.{Full, Terms}
+use Rattle.log_rule.specs.Claims.Rule.{Bounds, ClaimsHold, IsClaimEntry, Knows, entries_of, entry_of, first_of, shape_of, size_of, weight}
+use Rattle.log_rule.specs.Claims.Memory.{IsAligned, IsCommittedFrame, IsOpen, Memory, Ruled, StandsInTable, Stored}
+use Rattle.log_rule.specs.Claims.Events.{committed_weight}
+use Rattle.log_rule.specs.Claims.Plays.{Mine, newcomer, no_keeping, pass_in}
+use Rattle.log_rule.specs.Claims.Closing.{spent_seat}
+use Rattle.log_rule.proofs.Claimed.Accounts.{none_armed, sighted}
+use Rattle.log_rule.proofs.Claimed.Begun.{split_ruled}
+use Rattle.log_rule.proofs.Claimed.Gathering.{joined}
+use Rattle.log_rule.proofs.Claimed.Memories.{maps_append, stayed}
+use Rattle.log_rule.proofs.Claimed.Sures.{sure_join, unsure}
+use Rattle.log_rule.proofs.Claimed.Totals.{total_append}
 use Rattle.log_rule.specs.declared.rule.Key.{Key}
 use Rattle.log_rule.specs.Kept.{Attends, IsReader, Kept, keepers_of, readers_of, reads_as}
 use Rattle.log_rule.specs.Readings.{reading}
@@ -38,7 +38,7 @@ use Rattle.log_rule.proofs.Resting.{rest_looks, rested_here}
 use Rattle.log_rule.proofs.Consumers.{loaded, spared_same}
 use Rattle.log_rule.proofs.Dealing.{cut, kept_split, none_kept}
 use Rattle.log_rule.proofs.Gathering.{kept_join}
-use Rattle.tail_claim.proofs.Whole.{set_at}
+use Rattle.log_rule.proofs.Claimed.Whole.{set_at}
 
 -- ---- what is true for good
 
@@ -124,7 +124,7 @@ module _ (p q : Pass) where
       start = k.start;
       number = k.number;
       right = record { capped = capped p.right.limit q.right.limit b.limit cap; able = omega arith; once = omega arith; idle = λ z. absurd (omega (arith, z, some)) };
-      entries = all_front IsClaim (entries_of p) (entries_of q) (subst (AllByRecursion IsClaim) (maps_append entry_of p.right.claims q.right.claims) k.entries);
+      entries = all_front IsClaimEntry (entries_of p) (entries_of q) (subst (AllByRecursion IsClaimEntry) (maps_append entry_of p.right.claims q.right.claims) k.entries);
       seen = record {
         count = k.seen.count;
         term = k.seen.term;
@@ -142,7 +142,7 @@ module _ (p q : Pass) where
       start = from ∙ k.start;
       number = sq.number;
       right = record { capped = capped p.right.limit q.right.limit b.limit cap; able = omega arith; once = omega arith; idle = λ z. absurd (omega (arith, z, more)) };
-      entries = all_behind IsClaim (entries_of p) (entries_of q) (subst (AllByRecursion IsClaim) (maps_append entry_of p.right.claims q.right.claims) k.entries);
+      entries = all_behind IsClaimEntry (entries_of p) (entries_of q) (subst (AllByRecursion IsClaimEntry) (maps_append entry_of p.right.claims q.right.claims) k.entries);
       seen = record {
         count = (subst (λ (n : ℕ). n ≤ q.seen.count) first_q sq.count, omega arith);
         term = (subst (λ (n : ℕ). n ≤ q.seen.term) first_q sq.term, omega arith);
@@ -156,20 +156,20 @@ module _ (p q : Pass) where
 
     stored_p : Stored b ws p
     stored_p = record {
-      stands = front_of (Stands b ws) p.work.frames q.work.frames p.work.drafts q.work.drafts s.stands;
+      stands = front_of (StandsInTable b ws) p.work.frames q.work.frames p.work.drafts q.work.drafts s.stands;
       placed = sp.placed;
       aligned = front_of IsAligned p.work.frames q.work.frames p.work.drafts q.work.drafts s.aligned;
-      done = all_front (IsDone b.identity) p.work.frames q.work.frames s.done;
+      done = all_front (IsCommittedFrame b.identity) p.work.frames q.work.frames s.done;
       undone = all_front IsOpen p.work.drafts q.work.drafts s.undone;
       kept = all_front (λ f. b.cleaned ≤ f.start) p.work.drafts q.work.drafts s.kept;
     }
 
     stored_q : Stored b ws q
     stored_q = record {
-      stands = behind_of (Stands b ws) p.work.frames q.work.frames p.work.drafts q.work.drafts s.stands;
+      stands = behind_of (StandsInTable b ws) p.work.frames q.work.frames p.work.drafts q.work.drafts s.stands;
       placed = sq.placed;
       aligned = behind_of IsAligned p.work.frames q.work.frames p.work.drafts q.work.drafts s.aligned;
-      done = all_behind (IsDone b.identity) p.work.frames q.work.frames s.done;
+      done = all_behind (IsCommittedFrame b.identity) p.work.frames q.work.frames s.done;
       undone = all_behind IsOpen p.work.drafts q.work.drafts s.undone;
       kept = all_behind (λ f. b.cleaned ≤ f.start) p.work.drafts q.work.drafts s.kept;
     }
@@ -185,7 +185,7 @@ parts_again key id v p q is sp sq off off' able more same from none s r at =
     let ruled = parted p q b s.words ps r.ruled id h sp sq off off' able more same from in
     cut key id v s r at (back_left p v) (back_right q v) ruled
     (kept_split b key.consumers s.words ps r.ruled r.kept id (meeting p q) p q h ruled (weighs p q) (λ f. sym (total_append f p.work.frames q.work.frames))
-    (λ j lt. sym (total_append (reads_as j) p.reading q.reading)) (let z = ap (λ (x : Rattle.word_calls.specs.declared.pass.Keeping.Keeping). x.right) none in omega arith)
+    (λ j lt. sym (total_append (reads_as j) p.reading q.reading)) (let z = ap (λ (x : Rattle.publication.specs.declared.pass.Keeping.Keeping). x.right) none in omega arith)
     record { readings = all_front (IsReader key.consumers s.words ps) p.reading q.reading a.readings; keeping = a.keeping }
     record { readings = all_behind (IsReader key.consumers s.words ps) p.reading q.reading a.readings; keeping = subst (Rattle.log_rule.specs.Kept.IsKeeper b key.consumers s.words) (sym none) (none_kept b key.consumers s.words) })
     (unsure s.words (back_left p v) refl) refl
@@ -221,7 +221,7 @@ sees_both b ws ps r i j v w at at' =
         begun = (let a = kv.seen.begun in let c = kw.seen.begun in let d = kw.seen.count.1 in let e = kw.seen.term.1 in most v.seen.begun w.seen.begun w.seen.count w.seen.term r.claims.terms.newest a c d e);
       };
     } in record {
-      claims = subst (λ (l : List ℕ). Claimed b l (set ps i u)) (set-get_or ws 80 0) (sighted b ws ps r.claims i 80 v u at knows refl refl refl refl);
+      claims = subst (λ (l : List ℕ). ClaimsHold b l (set ps i u)) (set-get_or ws 80 0) (sighted b ws ps r.claims i 80 v u at knows refl refl refl refl);
       memory = subst (λ (l : List ℕ). Memory b l (set ps i u)) (set-get_or ws 80 0) (stayed b ws ps r.memory i 80 (slice_index ws 80) v u (omega arith) at record { claims = refl; work = refl });
     }
   where

@@ -4,15 +4,15 @@ use mathlib.Core.Option.{some}
 use lib.ListN.{get_elem?}
 use Rattle.std.specs.Prelude.{slice_index}
 use Rattle.std.proofs.lemmas.List.{set-get_or}
-use Rattle.word_calls.specs.declared.pass.Keeping.{Keeping}
-use Rattle.word_calls.specs.declared.pass.Pass.{Pass}
-use Rattle.word_calls.specs.declared.pass.Reading.{Reading}
-use Rattle.tail_claim.specs.Rule.{Bounds, first_of, shape_of, weight}
-use Rattle.tail_claim.specs.Memory.{Ruled}
-use Rattle.tail_claim.specs.Events.{IsLook, committed_weight}
-use Rattle.tail_claim.proofs.Accounts.{moved, same_over, same_room, unchanged}
-use Rattle.tail_claim.proofs.Tails.{elsewhere}
-use Rattle.tail_claim.proofs.Memories.{stayed}
+use Rattle.publication.specs.declared.pass.Keeping.{Keeping}
+use Rattle.publication.specs.declared.pass.Pass.{Pass}
+use Rattle.publication.specs.declared.pass.Reading.{Reading}
+use Rattle.log_rule.specs.Claims.Rule.{Bounds, first_of, shape_of, weight}
+use Rattle.log_rule.specs.Claims.Memory.{Ruled}
+use Rattle.log_rule.specs.Claims.Events.{IsLook, committed_weight}
+use Rattle.log_rule.proofs.Claimed.Accounts.{moved, same_over, same_room, unchanged}
+use Rattle.log_rule.proofs.Claimed.Tails.{elsewhere}
+use Rattle.log_rule.proofs.Claimed.Memories.{stayed}
 use Rattle.log_rule.proofs.Growing.{same_sum}
 
 abbrev pub attending : Pass → List Reading → Keeping → Pass

@@ -6,56 +6,56 @@ use Rattle.theory.specs.Position.{Geometry, IsGeometry, aligned, cuts_of, framed
 use Rattle.theory.specs.Words.{offset_in}
 use Rattle.theory.proofs.Claims.{covers_framed}
 use Rattle.theory.proofs.Places.{power_unit}
-use Rattle.word_calls.specs.declared.pass.ClaimRange.{ClaimRange}
-use Rattle.word_calls.specs.Frames.{Completes}
-use Rattle.word_calls.specs.Steps.{Adds, Commits, HasWord, Stores, geometry_of, message_at, padding_at, term_of}
+use Rattle.publication.specs.declared.pass.ClaimRange.{ClaimRange}
+use Rattle.publication.specs.Frames.{CompletesFrame}
+use Rattle.publication.specs.Steps.{Adds, Commits, HasWord, Stores, geometry_of, message_at, padding_at, term_of}
 use Rattle.theory.specs.Entry.{length_of}
-use Rattle.word_calls.specs.declared.pass.Pass.{Pass}
-use Rattle.tail_claim.specs.Sums.{total}
-use Rattle.tail_claim.specs.Terms.{end_of}
-use Rattle.tail_claim.specs.Rule.{Bounds, entry_of, shape_of, size_of, weight}
-use Rattle.tail_claim.specs.Memory.{Ruled}
-use Rattle.tail_claim.specs.Events.{Eventful}
-use Rattle.tail_claim.proofs.Looks.{term_short}
-use Rattle.tail_claim.proofs.Totals.{extent_of, total_at, total_append, total_map, total_set}
-use Rattle.log_rule.specs.Shares.{bytes_in, share_of}
+use Rattle.publication.specs.declared.pass.Pass.{Pass}
+use Rattle.log_rule.specs.Claims.Sums.{total}
+use Rattle.log_rule.specs.Claims.Terms.{claimed_to}
+use Rattle.log_rule.specs.Claims.Rule.{Bounds, entry_of, shape_of, size_of, weight}
+use Rattle.log_rule.specs.Claims.Memory.{Ruled}
+use Rattle.log_rule.specs.Claims.Events.{Eventful}
+use Rattle.log_rule.proofs.Claimed.Looks.{term_short}
+use Rattle.log_rule.proofs.Claimed.Totals.{extent_of, total_at, total_append, total_map, total_set}
+use Rattle.log_rule.specs.Shares.{claimed_bytes, range_bytes}
 
 pub claimed_low : (b : Bounds) (ws : List ℕ) (ps : List Pass) → Ruled b ws ps → total (weight length_of) ps < 2 ^ 63
 claimed_low b ws ps r =
     let t = r.claims.terms in let s = term_short b r.claims.sound in let to = r.claims.tailed.turns.to in
     let most : t.newest ≤ 2147483647 = omega arith in let up : t.newest * size_of b ≤ 2147483647 * 16777216 = mul-le-mul most s.0 in
-    low b.start (total length_of r.claims.log) (t.newest * size_of b) (t.offset t.newest) (size_of b) (total (weight length_of) ps) (r.claims.fair length_of) (extent_of (size_of b) b.start (end_of (shape_of b) t) r.claims.log r.claims.tiles) up s.0
+    low b.start (total length_of r.claims.log) (t.newest * size_of b) (t.offset t.newest) (size_of b) (total (weight length_of) ps) (r.claims.fair length_of) (extent_of (size_of b) b.start (claimed_to (shape_of b) t) r.claims.log r.claims.tiles) up s.0
   where
     low : (start all base offset term sum : ℕ) → sum ≡ all → start + all ≡ base + min offset term → base ≤ 2147483647 * 16777216 → term ≤ 16777216 → sum < 2 ^ 63
     low start all base offset term sum e tiles up short = omega arith
 
 -- the step tells that too
-pub with_low_share : (b : Bounds) (id : ℕ) (v : Pass) (i : ℕ) (f : ℕ → ℕ) (told : ℕ → Pass → Type 0) → Eventful b id v i f told → Eventful b id v i f (λ n w. told n w × (share_of w < 2 ^ 63))
+pub with_low_share : (b : Bounds) (id : ℕ) (v : Pass) (i : ℕ) (f : ℕ → ℕ) (told : ℕ → Pass → Type 0) → Eventful b id v i f told → Eventful b id v i f (λ n w. told n w × (claimed_bytes w < 2 ^ 63))
 with_low_share b id v i f told go words passes r at =
     let g = go words passes r at in let low = claimed_low b _ _ g.1 in let sum = total_set (weight length_of) passes id v g.0 at in let mine = total_at (weight length_of) passes id v at in
-    let is : weight length_of g.0 ≡ share_of g.0 = total_map length_of entry_of g.0.right.claims in (g.0, g.1, g.2, (g.3, omega arith), g.4)
+    let is : weight length_of g.0 ≡ claimed_bytes g.0 = total_map length_of entry_of g.0.right.claims in (g.0, g.1, g.2, (g.3, omega arith), g.4)
 
 -- ---- what steps make of it
 
-adds_bytes : (v w : Pass) (size n : ℕ) → IsGeometry (geometry_of v) → Adds v size n w → share_of w ≡ share_of v + min (framed_length (geometry_of v) size) (term_of v - offset_in n)
+adds_bytes : (v w : Pass) (size n : ℕ) → IsGeometry (geometry_of v) → Adds v size n w → claimed_bytes w ≡ claimed_bytes v + min (framed_length (geometry_of v) size) (term_of v - offset_in n)
 adds_bytes v w size n is a =
-    let t : ℕ = term_of v in let o : ℕ = offset_in n in let f : ℕ = framed_length (geometry_of v) size in let unit = power_unit t is.term.power is.term.least in let more = λ (c : ClaimRange). total_append bytes_in v.right.claims (c ∷ []) in
+    let t : ℕ = term_of v in let o : ℕ = offset_in n in let f : ℕ = framed_length (geometry_of v) size in let unit = power_unit t is.term.power is.term.least in let more = λ (c : ClaimRange). total_append range_bytes v.right.claims (c ∷ []) in
     dite (dec_le (o + f) t)
-    (λ (le : o + f ≤ t). let e = ap share_of (a.fits le) in let m = more (message_at v n size) in let c = covers_framed (geometry_of v) size is in let s : ℕ = span (cuts_of (geometry_of v) size) in omega arith)
+    (λ (le : o + f ≤ t). let e = ap claimed_bytes (a.fits le) in let m = more (message_at v n size) in let c = covers_framed (geometry_of v) size is in let s : ℕ = span (cuts_of (geometry_of v) size) in omega arith)
     (λ no. let far = lt_of_not-le no in dite (dec_le t o)
-    (λ (le : t ≤ o). let e = ap share_of (a.over le) in omega arith)
-    (λ off. let low = lt_of_not-le off in let e = ap share_of (a.trips low far) in let m = more (padding_at v n) in let u = a.unit in whole t o f (share_of v) (share_of w) unit u low far (e ∙ m)))
+    (λ (le : t ≤ o). let e = ap claimed_bytes (a.over le) in omega arith)
+    (λ off. let low = lt_of_not-le off in let e = ap claimed_bytes (a.trips low far) in let m = more (padding_at v n) in let u = a.unit in whole t o f (claimed_bytes v) (claimed_bytes w) unit u low far (e ∙ m)))
   where
     whole : (t o f s s' : ℕ) → t % 32 ≡ 0 → o % 32 ≡ 0 → o < t → t < o + f → s' ≡ s + (aligned (t - o) + 0 + 0) → s' ≡ s + min f (t - o)
     whole t o f s s' u v low far e = omega arith
 
 -- by numbers that a call has
-pub adds_share : (v w : Pass) (size n : ℕ) (g : Geometry) → geometry_of v ≡ g → IsGeometry g → Adds v size n w → (share covered took : ℕ) → share ≡ share_of v → covered ≡ framed_length g size → took ≡ min covered (g.term_length - offset_in n) → share + took ≡ share_of w
+pub adds_share : (v w : Pass) (size n : ℕ) (g : Geometry) → geometry_of v ≡ g → IsGeometry g → Adds v size n w → (share covered took : ℕ) → share ≡ claimed_bytes v → covered ≡ framed_length g size → took ≡ min covered (g.term_length - offset_in n) → share + took ≡ claimed_bytes w
 adds_share v w size n g e is a share covered took now c t =
-    (λ j. now j + t j) ∙ (λ j. share_of v + min (c j) (g.term_length - offset_in n)) ∙ (λ j. share_of v + min (framed_length (sym e j) size) ((sym e j).term_length - offset_in n)) ∙ sym (adds_bytes v w size n (subst IsGeometry (sym e) is) a)
+    (λ j. now j + t j) ∙ (λ j. claimed_bytes v + min (c j) (g.term_length - offset_in n)) ∙ (λ j. claimed_bytes v + min (framed_length (sym e j) size) ((sym e j).term_length - offset_in n)) ∙ sym (adds_bytes v w size n (subst IsGeometry (sym e) is) a)
 
-pub stores_share : (v w : Pass) (p x : ℕ) → HasWord v 1 p → Stores v p x w → share_of w ≡ share_of v
-stores_share v w p x h s = ap share_of (s h.front h.draft h.behind h.place h.parts h.above h.inside h.position)
+pub stores_share : (v w : Pass) (p x : ℕ) → HasWord v 1 p → Stores v p x w → claimed_bytes w ≡ claimed_bytes v
+stores_share v w p x h s = ap claimed_bytes (s h.front h.draft h.behind h.place h.parts h.above h.inside h.position)
 
-pub commits_share : (v w : Pass) (p x : ℕ) → Completes v p x → Commits v p x w → share_of w ≡ share_of v
-commits_share v w p x h s = ap share_of (s h.front h.draft h.behind h.parts h.inside h.position)
+pub commits_share : (v w : Pass) (p x : ℕ) → CompletesFrame v p x → Commits v p x w → claimed_bytes w ≡ claimed_bytes v
+commits_share v w p x h s = ap claimed_bytes (s h.front h.draft h.behind h.parts h.inside h.position)

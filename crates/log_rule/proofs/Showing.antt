@@ -19,35 +19,35 @@ use Rattle.theory.specs.Position.{Geometry, span}
 use Rattle.theory.specs.Tiling.{InOneTerm, Tiles}
 use Rattle.theory.specs.Words.{offset_in}
 use Rattle.theory.proofs.Lists.{all_at, among_left, among_right}
-use Rattle.word_calls.specs.declared.pass.ClaimRange.{ClaimRange}
-use Rattle.word_calls.specs.declared.pass.Controls.{Controls}
-use Rattle.word_calls.specs.declared.pass.Pass.{Pass}
-use Rattle.word_calls.specs.Controls.{with_tail}
-use Rattle.word_calls.specs.Steps.{count_in}
-use Rattle.tail_claim.specs.declared.view.View.{View}
-use Rattle.tail_claim.specs.Packs.{limit_place, tail_place}
-use Rattle.tail_claim.specs.Sums.{covers, total}
-use Rattle.tail_claim.specs.Terms.{end_of}
-use Rattle.tail_claim.specs.Rule.{Bounds, IsClaim, entry_of, first_of, shape_of, size_of, weight}
-use Rattle.tail_claim.specs.Memory.{Ruled, tail_of}
-use Rattle.tail_claim.specs.Plays.{Mine, pass_in}
-use Rattle.tail_claim.specs.Sure.{IsSure, controls_in}
-use Rattle.tail_claim.proofs.Adding.{count_is}
-use Rattle.tail_claim.proofs.Looks.{narrow}
-use Rattle.tail_claim.proofs.Memories.{cover_passes, held_by, tail_is}
-use Rattle.tail_claim.proofs.Tails.{shows}
-use Rattle.tail_claim.proofs.Totals.{total_append, total_at, total_map}
+use Rattle.publication.specs.declared.pass.ClaimRange.{ClaimRange}
+use Rattle.publication.specs.declared.pass.Controls.{Controls}
+use Rattle.publication.specs.declared.pass.Pass.{Pass}
+use Rattle.publication.specs.Controls.{with_tail}
+use Rattle.publication.specs.Steps.{count_in}
+use Rattle.log_rule.specs.declared.claims.view.View.{View}
+use Rattle.log_rule.specs.Claims.Packs.{limit_place, tail_place}
+use Rattle.log_rule.specs.Claims.Sums.{covers, total}
+use Rattle.log_rule.specs.Claims.Terms.{claimed_to}
+use Rattle.log_rule.specs.Claims.Rule.{Bounds, IsClaimEntry, entry_of, first_of, shape_of, size_of, weight}
+use Rattle.log_rule.specs.Claims.Memory.{Ruled, tail_of}
+use Rattle.log_rule.specs.Claims.Plays.{Mine, pass_in}
+use Rattle.log_rule.specs.Claims.Sure.{IsSure, controls_in}
+use Rattle.log_rule.proofs.Claimed.Adding.{count_is}
+use Rattle.log_rule.proofs.Claimed.Looks.{narrow}
+use Rattle.log_rule.proofs.Claimed.Memories.{cover_passes, held_by, tail_is}
+use Rattle.log_rule.proofs.Claimed.Tails.{shows}
+use Rattle.log_rule.proofs.Claimed.Totals.{total_append, total_at, total_map}
 use Rattle.log_rule.specs.declared.rule.Key.{Key}
 use Rattle.log_rule.specs.Kept.{Kept}
 use Rattle.log_rule.specs.Table.{LogRuled, now_at}
-use Rattle.log_rule.specs.Meetings.{AreApart, ShowsTail, claim_end, position_in, showing}
+use Rattle.log_rule.specs.Meetings.{AreApart, ShowsTail, claim_end, showing, shown_position}
 use Rattle.log_rule.proofs.InTerm.{entry_ends}
 use Rattle.log_rule.proofs.Known.{among_total}
 use Rattle.log_rule.proofs.Meetings.{told_ruled}
 
 -- ---- the position that a word shows
 
-position_is : (g : Geometry) (n k o : ℕ) → count_in g n ≡ k → k < 2 ^ 31 → offset_in n ≡ o → position_in g n ≡ k * g.term_length + min o g.term_length
+position_is : (g : Geometry) (n k o : ℕ) → count_in g n ≡ k → k < 2 ^ 31 → offset_in n ≡ o → shown_position g n ≡ k * g.term_length + min o g.term_length
 position_is g n k o e low f =
     ap (λ (b : Bool). if b then count_in g n * g.term_length + min (offset_in n) g.term_length else 0) (lt-ltb (count_in g n) (2 ^ 31) (subst (λ (x : ℕ). x < 2 ^ 31) (sym e) low))
     ∙ (λ i. e i * g.term_length + min (f i) g.term_length)
@@ -75,9 +75,9 @@ module _ (b : Bounds) (ws : List ℕ) (ps : List Pass) (r : Ruled b ws ps) (id :
       through x y w z a e up = omega arith
 
   long : (c : ClaimRange) → Among c v.right.claims → 0 < span c.cuts
-  long c among = (all_at (λ (d : ClaimRange). IsClaim (entry_of d)) c v.right.claims (entries v.right.claims (r.claims.each id v at).entries) among).entry.long
+  long c among = (all_at (λ (d : ClaimRange). IsClaimEntry (entry_of d)) c v.right.claims (entries v.right.claims (r.claims.each id v at).entries) among).entry.long
     where
-      entries : (cs : List ClaimRange) → AllByRecursion IsClaim (map entry_of cs) → AllByRecursion (λ (d : ClaimRange). IsClaim (entry_of d)) cs
+      entries : (cs : List ClaimRange) → AllByRecursion IsClaimEntry (map entry_of cs) → AllByRecursion (λ (d : ClaimRange). IsClaimEntry (entry_of d)) cs
       entries [] a = tt
       entries (d ∷ ds) a = (a.0, entries ds a.1)
 
@@ -100,7 +100,7 @@ module _ (b : Bounds) (ws : List ℕ) (ps : List Pass) (r : Ruled b ws ps) (id :
       let k : ℕ = suc (c.start / size_of b) in let q : ℕ = c.start / size_of b in
       let up : k * size_of b ≡ q * size_of b + size_of b = (let z : suc q * size_of b ≡ q * size_of b + size_of b = omega arith in z) in
       let some : 0 < k * size_of b = more (k * size_of b) (q * size_of b) (size_of b) up pos in
-      let none = r.claims.fair (crosses (k * size_of b)) ∙ none_cross (size_of b) k b.start (end_of (shape_of b) r.claims.terms) r.claims.log r.claims.tiles some in
+      let none = r.claims.fair (crosses (k * size_of b)) ∙ none_cross (size_of b) k b.start (claimed_to (shape_of b) r.claims.terms) r.claims.log r.claims.tiles some in
       let mine = counted (crosses (k * size_of b)) c among in
       ends (k * size_of b) (q * size_of b) (size_of b) (c.start % size_of b) c.start (span c.cuts) (total (weight (crosses (k * size_of b))) ps) up (div-add-mod' c.start (size_of b)) (Rattle.std.proofs.Common.mod-lt c.start pos) mine none
     where
@@ -117,9 +117,9 @@ module _ (b : Bounds) (ws : List ℕ) (ps : List Pass) (r : Ruled b ws ps) (id :
     n = slice_index ws (tail_place p)
 
     record Reaches (k : ℕ) : Type 0 where
-      begins : k * size_of b ≤ position_in (shape_of b) n
-      newest : k ≡ r.claims.terms.newest → end_of (shape_of b) r.claims.terms ≤ position_in (shape_of b) n
-      full : k < r.claims.terms.newest → suc k * size_of b ≤ position_in (shape_of b) n
+      begins : k * size_of b ≤ shown_position (shape_of b) n
+      newest : k ≡ r.claims.terms.newest → claimed_to (shape_of b) r.claims.terms ≤ shown_position (shape_of b) n
+      full : k < r.claims.terms.newest → suc k * size_of b ≤ shown_position (shape_of b) n
 
     reaches : (k : ℕ) → first_of b ≤ k → k ≤ r.claims.terms.newest → k % 3 ≡ p % 3 → Reaches k
     unfolding n
@@ -128,15 +128,15 @@ module _ (b : Bounds) (ws : List ℕ) (ps : List Pass) (r : Ruled b ws ps) (id :
         let sh = shows (shape_of b) (first_of b) t ws r.claims.sound.geometry.initial r.claims.tailed (narrow b ws ps r.claims) k le in
         let place : tail_place k ≡ tail_place p = ap (λ (x : ℕ). x * 16 + 32) same in
         let low = sh.low in let small : sh.k < 2 ^ 31 = omega arith in
-        let is : position_in (shape_of b) (slice_index ws (tail_place p)) ≡ sh.k * size_of b + min (t.offset sh.k) (size_of b) = subst (λ (x : ℕ). position_in (shape_of b) (slice_index ws x) ≡ sh.k * size_of b + min (t.offset sh.k) (size_of b)) place
+        let is : shown_position (shape_of b) (slice_index ws (tail_place p)) ≡ sh.k * size_of b + min (t.offset sh.k) (size_of b) = subst (λ (x : ℕ). shown_position (shape_of b) (slice_index ws x) ≡ sh.k * size_of b + min (t.offset sh.k) (size_of b)) place
         (position_is (shape_of b) (slice_index ws (tail_place k)) sh.k (t.offset sh.k) (count_is (shape_of b) (slice_index ws (tail_place k)) sh.k r.claims.sound.geometry small sh.id) small sh.off) in
         let rise : k * size_of b ≤ sh.k * size_of b = mul-le-mul_right (size_of b) sh.up in record {
-          begins = up (k * size_of b) (sh.k * size_of b) (min (t.offset sh.k) (size_of b)) (position_in (shape_of b) (slice_index ws (tail_place p))) rise is;
-          newest = λ e. (let one : sh.k ≡ t.newest = (let a = sh.up in both sh.k t.newest k low a e) in same_end (position_in (shape_of b) (slice_index ws (tail_place p))) (end_of (shape_of b) t) (is ∙ (λ i. one i * size_of b + min (t.offset (one i)) (size_of b))));
+          begins = up (k * size_of b) (sh.k * size_of b) (min (t.offset sh.k) (size_of b)) (shown_position (shape_of b) (slice_index ws (tail_place p))) rise is;
+          newest = λ e. (let one : sh.k ≡ t.newest = (let a = sh.up in both sh.k t.newest k low a e) in same_end (shown_position (shape_of b) (slice_index ws (tail_place p))) (claimed_to (shape_of b) t) (is ∙ (λ i. one i * size_of b + min (t.offset (one i)) (size_of b))));
           full = λ lt. dite (ℕ_discrete sh.k k)
-              (λ e. (let done = r.claims.tailed.turns.done k from lt in let here : position_in (shape_of b) (slice_index ws (tail_place p)) ≡ k * size_of b + min (t.offset k) (size_of b) = is ∙ (λ i. e i * size_of b + min (t.offset (e i)) (size_of b)) in
-              let z : suc k * size_of b ≡ k * size_of b + size_of b = omega arith in whole (suc k * size_of b) (k * size_of b) (size_of b) (t.offset k) (position_in (shape_of b) (slice_index ws (tail_place p))) z done here))
-              (λ ne. (let more : suc k ≤ sh.k = (let a = sh.up in omega (arith, a, ne)) in let rise' : suc k * size_of b ≤ sh.k * size_of b = mul-le-mul_right (size_of b) more in up (suc k * size_of b) (sh.k * size_of b) (min (t.offset sh.k) (size_of b)) (position_in (shape_of b) (slice_index ws (tail_place p))) rise' is));
+              (λ e. (let done = r.claims.tailed.turns.done k from lt in let here : shown_position (shape_of b) (slice_index ws (tail_place p)) ≡ k * size_of b + min (t.offset k) (size_of b) = is ∙ (λ i. e i * size_of b + min (t.offset (e i)) (size_of b)) in
+              let z : suc k * size_of b ≡ k * size_of b + size_of b = omega arith in whole (suc k * size_of b) (k * size_of b) (size_of b) (t.offset k) (shown_position (shape_of b) (slice_index ws (tail_place p))) z done here))
+              (λ ne. (let more : suc k ≤ sh.k = (let a = sh.up in omega (arith, a, ne)) in let rise' : suc k * size_of b ≤ sh.k * size_of b = mul-le-mul_right (size_of b) more in up (suc k * size_of b) (sh.k * size_of b) (min (t.offset sh.k) (size_of b)) (shown_position (shape_of b) (slice_index ws (tail_place p))) rise' is));
         }
       where
         up : (a c m x : ℕ) → a ≤ c → x ≡ c + m → a ≤ x
@@ -151,17 +151,17 @@ module _ (b : Bounds) (ws : List ℕ) (ps : List Pass) (r : Ruled b ws ps) (id :
         whole : (s y t o x : ℕ) → s ≡ y + t → t ≤ o → x ≡ y + min o t → s ≤ x
         whole s y t o x e le f = omega arith
 
-    claim_below : (c : ClaimRange) → Among c v.right.claims → c.start / size_of b % 3 ≡ p % 3 → claim_end c ≤ position_in (shape_of b) n
+    claim_below : (c : ClaimRange) → Among c v.right.claims → c.start / size_of b % 3 ≡ p % 3 → claim_end c ≤ shown_position (shape_of b) n
     claim_below c among same =
         let t = r.claims.terms in let k : ℕ = c.start / size_of b in let lies = inside c among in let some = long c among in let least = r.claims.sound.geometry.term.least in let pos : 0 < size_of b = omega arith in
         let tail = tail_is b ws ps r.claims in let within = in_term c among pos in
         let from : first_of b ≤ k = le-div (b.start / size_of b) c.start (size_of b) pos (let below = div-mul-le_self b.start (size_of b) in let x = lies.0 in less (b.start / size_of b * size_of b) b.start c.start below x) in
-        let under : k * size_of b < end_of (shape_of b) t = begun (k * size_of b) (c.start % size_of b) c.start (span c.cuts) (tail_of b ps) (end_of (shape_of b) t) (div-add-mod' c.start (size_of b)) some lies.1 tail in
+        let under : k * size_of b < claimed_to (shape_of b) t = begun (k * size_of b) (c.start % size_of b) c.start (span c.cuts) (tail_of b ps) (claimed_to (shape_of b) t) (div-add-mod' c.start (size_of b)) some lies.1 tail in
         let le : k ≤ t.newest = dite (dec_le k t.newest) (λ y. y) (λ no. (let lt = lt_of_not-le no in let rise : suc t.newest * size_of b ≤ k * size_of b = mul-le-mul_right (size_of b) lt in let z : suc t.newest * size_of b ≡ t.newest * size_of b + size_of b = omega arith in
-        absurd (over (suc t.newest * size_of b) (k * size_of b) (t.newest * size_of b) (size_of b) (t.offset t.newest) (end_of (shape_of b) t) rise under z refl))) in
+        absurd (over (suc t.newest * size_of b) (k * size_of b) (t.newest * size_of b) (size_of b) (t.offset t.newest) (claimed_to (shape_of b) t) rise under z refl))) in
         let x = reaches k from le same in dite (ℕ_discrete k t.newest)
-        (λ e. (let top = x.newest e in let up = lies.1 in through (claim_end c) (tail_of b ps) (end_of (shape_of b) t) (position_in (shape_of b) n) up tail top))
-        (λ ne. (let full = x.full (omega (arith, le, ne)) in less (claim_end c) (suc k * size_of b) (position_in (shape_of b) n) within full))
+        (λ e. (let top = x.newest e in let up = lies.1 in through (claim_end c) (tail_of b ps) (claimed_to (shape_of b) t) (shown_position (shape_of b) n) up tail top))
+        (λ ne. (let full = x.full (omega (arith, le, ne)) in less (claim_end c) (suc k * size_of b) (shown_position (shape_of b) n) within full))
       where
         begun : (y m x len tail end : ℕ) → y + m ≡ x → 0 < len → x + len ≤ tail → tail ≡ end → y < end
         begun y m x len tail end e pos le f = omega arith
@@ -191,8 +191,8 @@ module _ (b : Bounds) (ws : List ℕ) (ps : List Pass) (r : Ruled b ws ps) (id :
   shows_tail p =
       let k = r.claims.each id v at in let word : ℕ = slice_index ws (tail_place p) in
       let shape : (P : Identity → ℕ → Type 0) → P b.identity b.start → P v.identity v.start = λ P x. subst (λ (y : Identity × ℕ). P y.0 y.1) (λ i. (sym k.identity i, sym k.start i)) x in record {
-        claims = λ c among e. shape (λ i s. c.start / i.geometry.term_length % 3 ≡ p % 3 → claim_end c ≤ position_in i.geometry word) (λ e'. claim_below p c among e') e;
-        terms = shape (λ i s. (j : ℕ) → s / i.geometry.term_length ≤ j → j ≤ max v.seen.count v.seen.begun → j % 3 ≡ p % 3 → j * i.geometry.term_length ≤ position_in i.geometry word)
+        claims = λ c among e. shape (λ i s. c.start / i.geometry.term_length % 3 ≡ p % 3 → claim_end c ≤ shown_position i.geometry word) (λ e'. claim_below p c among e') e;
+        terms = shape (λ i s. (j : ℕ) → s / i.geometry.term_length ≤ j → j ≤ max v.seen.count v.seen.begun → j % 3 ≡ p % 3 → j * i.geometry.term_length ≤ shown_position i.geometry word)
             (λ j from le same. (reaches p j from (let a = k.seen.count.1 in let c = k.seen.begun in low j v.seen.count v.seen.begun r.claims.terms.newest le a c) same).begins);
         apart = apart;
         same = refl;

@@ -6,14 +6,14 @@ use native.Mathlib.Decide.{dec_le}
 use lib.ListN.{get_elem?}
 use Rattle.theory.specs.Entry.{length_of}
 use Rattle.theory.specs.Position.{aligned, span}
-use Rattle.word_calls.specs.declared.pass.Pass.{Pass}
-use Rattle.word_calls.specs.Steps.{Extent, extent_of, extents, frames_of, ranges_of}
-use Rattle.tail_claim.specs.Sums.{covers, total}
-use Rattle.tail_claim.specs.Rule.{Bounds, Claimed, entries_of, entry_of, weight}
-use Rattle.tail_claim.specs.Memory.{Memory, Stored, tail_of}
-use Rattle.tail_claim.specs.Events.{committed_weight}
-use Rattle.tail_claim.proofs.Totals.{total_append, total_at, total_flat, total_le, total_map, total_same}
-use Rattle.tail_claim.proofs.Memories.{cover_passes, held_by}
+use Rattle.publication.specs.declared.pass.Pass.{Pass}
+use Rattle.publication.specs.Steps.{Extent, extent_of, extents, frames_of, ranges_of}
+use Rattle.log_rule.specs.Claims.Sums.{covers, total}
+use Rattle.log_rule.specs.Claims.Rule.{Bounds, ClaimsHold, entries_of, entry_of, weight}
+use Rattle.log_rule.specs.Claims.Memory.{Memory, Stored, tail_of}
+use Rattle.log_rule.specs.Claims.Events.{committed_weight}
+use Rattle.log_rule.proofs.Claimed.Totals.{total_append, total_at, total_flat, total_le, total_map, total_same}
+use Rattle.log_rule.proofs.Claimed.Memories.{cover_passes, held_by}
 use Rattle.log_rule.specs.Edges.{claimed_sum, committed_sum, in_entry}
 
 -- ---- any list
@@ -61,7 +61,7 @@ cover_cuts x p (cut ∷ cuts) = ap (λ (n : ℕ). covers x p (aligned cut) + n) 
 abbrev pub covering : ℕ → Extent → ℕ
 covering x r = covers x r.start r.bytes
 
-pub covered : (b : Bounds) (ws : List ℕ) (ps : List Pass) → Claimed b ws ps → (x : ℕ) → claimed_sum (covering x) ps ≡ min 1 (min (x + 1 - b.start) (tail_of b ps - x))
+pub covered : (b : Bounds) (ws : List ℕ) (ps : List Pass) → ClaimsHold b ws ps → (x : ℕ) → claimed_sum (covering x) ps ≡ min 1 (min (x + 1 - b.start) (tail_of b ps - x))
 covered b ws ps r x = total_same (weight (in_entry (covering x))) (held_by x) ps (λ v. total_same (in_entry (covering x)) (λ e. covers x e.start (length_of e)) (entries_of v) (λ e. cover_cuts x e.start e.cuts)) ∙ cover_passes b ws ps r x
 
 -- ---- over frames

@@ -1,13 +1,13 @@
 -- Where frames of a stream begin, and where a consumer may stand.
 use Rattle.std.specs.Prelude.{◌≡◌, ℕ, ◌+◌, ◌-◌, ◌%◌, ◌<◌, ◌≤◌, ◌⊎◌, List, max, min}
 use Rattle.theory.specs.Entry.{Entry}
-use Rattle.word_calls.specs.declared.pass.FrameWords.{FrameWords}
-use Rattle.word_calls.specs.declared.pass.Pass.{Pass}
-use Rattle.word_calls.specs.Steps.{Extent, extent_of, extents}
-use Rattle.tail_claim.specs.Sums.{total}
-use Rattle.tail_claim.specs.Rule.{Bounds, size_of, weight}
-use Rattle.tail_claim.specs.Memory.{tail_of}
-use Rattle.tail_claim.specs.Events.{committed_weight}
+use Rattle.publication.specs.declared.pass.FrameWords.{FrameWords}
+use Rattle.publication.specs.declared.pass.Pass.{Pass}
+use Rattle.publication.specs.Steps.{Extent, extent_of, extents}
+use Rattle.log_rule.specs.Claims.Sums.{total}
+use Rattle.log_rule.specs.Claims.Rule.{Bounds, size_of, weight}
+use Rattle.log_rule.specs.Claims.Memory.{tail_of}
+use Rattle.log_rule.specs.Claims.Events.{committed_weight}
 
 -- over the frames that passes claimed, whatever is committed of them
 abbrev pub in_entry : (Extent → ℕ) → Entry → ℕ

@@ -4,12 +4,12 @@ use Rattle.std.specs.List.{fold}
 use Rattle.theory.specs.Placed.{Among}
 use Rattle.theory.specs.Position.{greatest_claim, max_position}
 use Rattle.theory.specs.Refusal.{limit_in}
-use Rattle.word_calls.specs.declared.pass.Keeping.{Keeping}
-use Rattle.word_calls.specs.declared.pass.Pass.{Pass}
-use Rattle.word_calls.specs.declared.pass.Reading.{Reading}
-use Rattle.word_calls.specs.Steps.{geometry_of, term_of}
-use Rattle.tail_claim.specs.declared.view.View.{View}
-use Rattle.tail_claim.specs.Plays.{Mine}
+use Rattle.publication.specs.declared.pass.Keeping.{Keeping}
+use Rattle.publication.specs.declared.pass.Pass.{Pass}
+use Rattle.publication.specs.declared.pass.Reading.{Reading}
+use Rattle.publication.specs.Steps.{geometry_of, term_of}
+use Rattle.log_rule.specs.declared.claims.view.View.{View}
+use Rattle.log_rule.specs.Claims.Plays.{Mine}
 use Rattle.log_rule.specs.Readings.{reading}
 
 abbrev pub least_of : List ℕ → ℕ
@@ -25,7 +25,7 @@ pub record MayStand (v : Pass) (n : ℕ) : Type 0 where
   pub readable : v.keeping.cleaned ≤ max v.start (n - term_of v)
 
 -- the keeper saw one of so many consumers at a position, not below the one where it saw it before
-pub record Sees (v : Pass) (count j n : ℕ) (w : Pass) : Type 0 where
+pub record SeesConsumer (v : Pass) (count j n : ℕ) (w : Pass) : Type 0 where
   pub all : length v.keeping.positions ≡ count
   pub inside : j < count
   pub further : slice_index v.keeping.positions j ≤ n
@@ -37,15 +37,15 @@ pub record Sees (v : Pass) (count j n : ℕ) (w : Pass) : Type 0 where
 
 -- and if its seat is sure of the control words, it has the limit word that the keeper knows
 abbrev pub sweeping : ℕ → ℕ → Mine → ℕ → Mine → Type 0
-sweeping count j m n m' = reading (λ v k w. Sees v count j k w) m n m' × (m.0.sure ≡ 1 → m.0.controls.limit ≡ m.0.pass.keeping.limit)
+sweeping count j m n m' = reading (λ v k w. SeesConsumer v count j k w) m n m' × (m.0.sure ≡ 1 → m.0.controls.limit ≡ m.0.pass.keeping.limit)
 
 -- the next word may be cleaned: it lies a term or more below each consumer that it saw
 pub record MayClean (v : Pass) : Type 0 where
   pub keeper : v.keeping.right ≡ 1
   pub below : v.keeping.cleaned + 8 ≤ max v.start (least_of v.keeping.positions - term_of v)
 
-abbrev pub Cleans : Pass → Pass → Type 0
-Cleans v w = w ≡ with_keeping v (record v.keeping { cleaned = v.keeping.cleaned + 8 })
+abbrev pub CleansWord : Pass → Pass → Type 0
+CleansWord v w = w ≡ with_keeping v (record v.keeping { cleaned = v.keeping.cleaned + 8 })
 
 -- the limit may become that of this word: it doesn't fall, and where it rises, what may be claimed then is clean
 pub record MayRaise (v : Pass) (word : ℕ) : Type 0 where

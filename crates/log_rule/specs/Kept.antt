@@ -1,14 +1,17 @@
 -- The rule's part on consumers and the keeper: where consumers stand, which frames they know, and what the keeper knows.
+-- A consumer stands in whole units, at a frame's edge with all below committed (`IsPlaced`), and a frame that it
+-- knows is a committed one. One pass at the most is the consumer of a number, and one the keeper. What eight
+-- publishers may still add ends below three terms from what is cleaned (`ahead`).
 use Rattle.std.specs.Prelude.{◌≡◌, ℕ, ◌+◌, ◌*◌, ◌%◌, ◌<◌, ◌≤◌, ◌==◌, cond, List, length, slice_index}
 use Rattle.std.specs.List.{AllByRecursion}
 use mathlib.Core.Option.{some}
 use lib.ListN.{get_elem?}
-use Rattle.word_calls.specs.declared.pass.Pass.{Pass}
-use Rattle.word_calls.specs.declared.pass.Reading.{Reading}
-use Rattle.word_calls.specs.declared.pass.Keeping.{Keeping}
-use Rattle.tail_claim.specs.Packs.{consumer_place}
-use Rattle.tail_claim.specs.Sums.{total}
-use Rattle.tail_claim.specs.Rule.{Bounds, size_of}
+use Rattle.publication.specs.declared.pass.Pass.{Pass}
+use Rattle.publication.specs.declared.pass.Reading.{Reading}
+use Rattle.publication.specs.declared.pass.Keeping.{Keeping}
+use Rattle.log_rule.specs.Claims.Packs.{consumer_place}
+use Rattle.log_rule.specs.Claims.Sums.{total}
+use Rattle.log_rule.specs.Claims.Rule.{Bounds, size_of}
 use Rattle.log_rule.specs.Edges.{IsAmong, IsPlaced}
 
 -- how often a pass is the consumer of a number

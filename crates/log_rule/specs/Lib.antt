@@ -6,3 +6,4 @@ pub mod Keepings
 pub mod Opening
 pub mod Shares
 pub mod Meetings
+pub mod Claims

@@ -4,15 +4,15 @@ use Rattle.std.specs.List.{flat_map}
 use Rattle.theory.specs.Placed.{Among}
 use Rattle.theory.specs.Position.{Geometry, span}
 use Rattle.theory.specs.Words.{offset_in}
-use Rattle.word_calls.specs.declared.pass.ClaimRange.{ClaimRange}
-use Rattle.word_calls.specs.declared.pass.Controls.{Controls}
-use Rattle.word_calls.specs.declared.pass.Pass.{Pass}
-use Rattle.word_calls.specs.Controls.{with_tail}
-use Rattle.word_calls.specs.Steps.{Extent, count_in, extent_of, frames_of, geometry_of, ranges_of, term_of}
-use Rattle.tail_claim.specs.declared.view.View.{View}
-use Rattle.tail_claim.specs.Sums.{total}
-use Rattle.tail_claim.specs.Plays.{Mine}
-use Rattle.tail_claim.specs.Closing.{both}
+use Rattle.publication.specs.declared.pass.ClaimRange.{ClaimRange}
+use Rattle.publication.specs.declared.pass.Controls.{Controls}
+use Rattle.publication.specs.declared.pass.Pass.{Pass}
+use Rattle.publication.specs.Controls.{with_tail}
+use Rattle.publication.specs.Steps.{Extent, count_in, extent_of, frames_of, geometry_of, ranges_of, term_of}
+use Rattle.log_rule.specs.declared.claims.view.View.{View}
+use Rattle.log_rule.specs.Claims.Sums.{total}
+use Rattle.log_rule.specs.Claims.Plays.{Mine}
+use Rattle.log_rule.specs.Claims.Closing.{both}
 use Rattle.log_rule.specs.Readings.{reading}
 use Rattle.log_rule.specs.Table.{dealing, new_seat}
 
@@ -55,8 +55,8 @@ back_right other v = new_seat other
 -- ---- what the raw tails show
 
 -- the position that a raw tail shows, or 0 where its partition isn't used yet
-abbrev pub position_in : Geometry → ℕ → ℕ
-position_in g word = if nat_lt (count_in g word) (2 ^ 31) then count_in g word * g.term_length + min (offset_in word) g.term_length else 0
+abbrev pub shown_position : Geometry → ℕ → ℕ
+shown_position g word = if nat_lt (count_in g word) (2 ^ 31) then count_in g word * g.term_length + min (offset_in word) g.term_length else 0
 
 abbrev pub claim_end : ClaimRange → ℕ
 claim_end c = c.start + span c.cuts
@@ -67,8 +67,8 @@ AreApart c d = (claim_end c ≤ d.start) ⊎ (claim_end d ≤ c.start)
 
 -- the raw tail of a partition: what lies in a term of it doesn't pass the position that it shows
 pub record ShowsTail (v : Pass) (partition n : ℕ) (w : Pass) : Type 0 where
-  pub claims : (c : ClaimRange) → Among c v.right.claims → c.start / term_of v % 3 ≡ partition → claim_end c ≤ position_in (geometry_of v) n
-  pub terms : (k : ℕ) → v.start / term_of v ≤ k → k ≤ max v.seen.count v.seen.begun → k % 3 ≡ partition → k * term_of v ≤ position_in (geometry_of v) n
+  pub claims : (c : ClaimRange) → Among c v.right.claims → c.start / term_of v % 3 ≡ partition → claim_end c ≤ shown_position (geometry_of v) n
+  pub terms : (k : ℕ) → v.start / term_of v ≤ k → k ≤ max v.seen.count v.seen.begun → k % 3 ≡ partition → k * term_of v ≤ shown_position (geometry_of v) n
   pub apart : (front behind : List ClaimRange) → v.right.claims ≡ front ++ behind → (c d : ClaimRange) → Among c front → Among d behind → AreApart c d
   pub same : w ≡ v
 

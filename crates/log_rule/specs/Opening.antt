@@ -1,6 +1,6 @@
 -- The words of a log that opens, by those of one that is connected and has no consumers.
 use Rattle.std.specs.Prelude.{◌≡◌, ◌≢◌, ℕ, ◌<◌, List, length, slice_index}
-use Rattle.tail_claim.specs.Packs.{consumer_place, limit_place}
+use Rattle.log_rule.specs.Claims.Packs.{consumer_place, limit_place}
 
 -- the limit stands at the start, with no flag, and so many consumers at the start
 pub record Begun (start : ℕ) (words : List ℕ) (count : ℕ) (after : List ℕ) : Type 0 where

@@ -5,17 +5,17 @@ use lib.ListN.{get_elem?}
 use Rattle.theory.specs.Bytes.{Identity}
 use Rattle.theory.specs.Placed.{Among}
 use Rattle.position.specs.Heads.{IsStreamFrame, head_of}
-use Rattle.word_calls.specs.declared.pass.FrameWords.{FrameWords}
-use Rattle.word_calls.specs.declared.pass.Pass.{Pass}
-use Rattle.word_calls.specs.declared.pass.Reading.{Reading}
-use Rattle.word_calls.specs.Steps.{term_of}
-use Rattle.tail_claim.specs.Memory.{IsDone}
-use Rattle.tail_claim.specs.Sure.{Learns}
-use Rattle.tail_claim.specs.Plays.{Mine}
+use Rattle.publication.specs.declared.pass.FrameWords.{FrameWords}
+use Rattle.publication.specs.declared.pass.Pass.{Pass}
+use Rattle.publication.specs.declared.pass.Reading.{Reading}
+use Rattle.publication.specs.Steps.{term_of}
+use Rattle.log_rule.specs.Claims.Memory.{IsCommittedFrame}
+use Rattle.log_rule.specs.Claims.Sure.{LearnsControls}
+use Rattle.log_rule.specs.Claims.Plays.{Mine}
 
 -- what a step of a consumer or of the keeper tells, by the word that was found; the seat learns nothing of the control words
 abbrev pub reading : (Pass → ℕ → Pass → Type 0) → Mine → ℕ → Mine → Type 0
-reading told m n m' = (m'.1 ≡ m.1) × (m'.0.steps ≡ suc m.0.steps) × Learns [] m.0 m'.0 × told m.0.pass n m'.0.pass
+reading told m n m' = (m'.1 ≡ m.1) × (m'.0.steps ≡ suc m.0.steps) × LearnsControls [] m.0 m'.0 × told m.0.pass n m'.0.pass
 
 -- the consumer at this place among those that the pass is
 abbrev pub IsConsumer : Pass → ℕ → Reading → Type 0
@@ -36,7 +36,7 @@ end_of f = f.start + 8 * length f.words
 -- a committed frame of the stream, which begins at a position
 pub record IsFrameAt (i : Identity) (p : ℕ) (f : FrameWords) : Type 0 where
   pub at : f.start ≡ p
-  pub done : IsDone i f
+  pub done : IsCommittedFrame i f
   pub head : IsStreamFrame i.geometry (head_of p done.content)
 
 -- a frame that the consumer knows, or that its own pass committed
@@ -55,12 +55,12 @@ pub record FindsFrame (v : Pass) (place : ℕ) (r : Reading) (n : ℕ) (w : Pass
   pub after : w ≡ with_consumer v place (knows_more r frame)
 
 -- the first word where the consumer stands: none is committed there while it is zero
-pub record Looked (v : Pass) (place : ℕ) (r : Reading) (n : ℕ) (w : Pass) : Type 0 where
+pub record LookedHere (v : Pass) (place : ℕ) (r : Reading) (n : ℕ) (w : Pass) : Type 0 where
   pub none : n ≡ 0 → (w ≡ v) × ((g : FrameWords) → Has v r g → g.start ≡ r.position → ⊥)
   pub found : 0 < n → FindsFrame v place r n w
 
 abbrev pub Looks : Pass → ℕ → ℕ → Pass → Type 0
-Looks v place n w = (r : Reading) → IsConsumer v place r → Looked v place r n w
+Looks v place n w = (r : Reading) → IsConsumer v place r → LookedHere v place r n w
 
 -- a word of a frame that the consumer has, a term below it at the most; the frame is one of the stream
 pub record Rereads (v : Pass) (place p i n : ℕ) (w : Pass) : Type 0 where
@@ -79,10 +79,10 @@ pub record MayPass (v : Pass) (place end : ℕ) : Type 0 where
   pub ends : end ≡ end_of frame
 
 -- it stands there, which is where each frame ends that it had where it stood
-pub record Passed (v : Pass) (place end : ℕ) (r : Reading) (w : Pass) : Type 0 where
+pub record Consumed (v : Pass) (place end : ℕ) (r : Reading) (w : Pass) : Type 0 where
   pub after : w ≡ with_consumer v place (moved_to r end)
   pub ends : (g : FrameWords) → Has v r g → g.start ≡ r.position → end ≡ end_of g
   pub here : (g : FrameWords) → Has v r g → g.start ≡ r.position → IsFrameAt v.identity r.position g
 
-abbrev pub Passes : Pass → ℕ → ℕ → Pass → Type 0
-Passes v place end w = (r : Reading) → IsConsumer v place r → Passed v place end r w
+abbrev pub Consumes : Pass → ℕ → ℕ → Pass → Type 0
+Consumes v place end w = (r : Reading) → IsConsumer v place r → Consumed v place end r w

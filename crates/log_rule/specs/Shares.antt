@@ -4,18 +4,18 @@ use Rattle.theory.specs.Position.{max_position, span}
 use Rattle.theory.specs.Bytes.{Identity}
 use Rattle.theory.specs.Entry.{Entry}
 use Rattle.theory.specs.Tiling.{Tiles}
-use Rattle.word_calls.specs.declared.pass.ClaimRange.{ClaimRange}
-use Rattle.word_calls.specs.declared.pass.Pass.{Pass}
-use Rattle.word_calls.specs.Steps.{geometry_of}
-use Rattle.tail_claim.specs.Sums.{total}
-use Rattle.tail_claim.specs.Rule.{weight}
+use Rattle.publication.specs.declared.pass.ClaimRange.{ClaimRange}
+use Rattle.publication.specs.declared.pass.Pass.{Pass}
+use Rattle.publication.specs.Steps.{geometry_of}
+use Rattle.log_rule.specs.Claims.Sums.{total}
+use Rattle.log_rule.specs.Claims.Rule.{weight}
 
-abbrev pub bytes_in : ClaimRange → ℕ
-bytes_in c = span c.cuts
+abbrev pub range_bytes : ClaimRange → ℕ
+range_bytes c = span c.cuts
 
 -- how many bytes its claims cover
-abbrev pub share_of : Pass → ℕ
-share_of v = total bytes_in v.right.claims
+abbrev pub claimed_bytes : Pass → ℕ
+claimed_bytes v = total range_bytes v.right.claims
 
 -- entries that weigh so much tile the stream, from its start to there
 pub record IsTiled (i : Identity) (start tail : ℕ) (weighs : (Entry → ℕ) → ℕ) : Type 0 where
@@ -27,6 +27,6 @@ pub record IsTiled (i : Identity) (start tail : ℕ) (weighs : (Entry → ℕ) �
 -- what a pass claimed lies in the stream; where it has all parts, that is all
 pub record Weighs (v w : Pass) : Type 0 where
   pub number : v.number < 8
-  pub low : v.start + share_of v ≤ max_position (geometry_of v)
-  pub whole : v.right.parts ≡ 1024 → IsTiled v.identity v.start (v.start + share_of v) (λ h. weight h v)
+  pub low : v.start + claimed_bytes v ≤ max_position (geometry_of v)
+  pub whole : v.right.parts ≡ 1024 → IsTiled v.identity v.start (v.start + claimed_bytes v) (λ h. weight h v)
   pub same : w ≡ v

@@ -3,15 +3,15 @@ use Rattle.std.specs.Prelude.{ℕ, zero, suc, ◌-◌, List, [], ◌∷◌, ◌+
 use Rattle.atomic_table.specs.Table.{State}
 use Rattle.theory.specs.Position.{greatest_claim}
 use Rattle.theory.specs.Refusal.{limit_in}
-use Rattle.word_calls.specs.declared.pass.FrameWords.{FrameWords}
-use Rattle.word_calls.specs.declared.pass.Pass.{Pass}
-use Rattle.word_calls.specs.declared.pass.Reading.{Reading}
-use Rattle.tail_claim.specs.declared.view.View.{View}
-use Rattle.tail_claim.specs.Packs.{limit_place}
-use Rattle.tail_claim.specs.Rule.{Bounds}
-use Rattle.tail_claim.specs.Memory.{Ruled}
-use Rattle.tail_claim.specs.Sure.{AreSure, fresh_controls, no_controls}
-use Rattle.tail_claim.specs.Plays.{newcomer, no_keeping, pass_in}
+use Rattle.publication.specs.declared.pass.FrameWords.{FrameWords}
+use Rattle.publication.specs.declared.pass.Pass.{Pass}
+use Rattle.publication.specs.declared.pass.Reading.{Reading}
+use Rattle.log_rule.specs.declared.claims.view.View.{View}
+use Rattle.log_rule.specs.Claims.Packs.{limit_place}
+use Rattle.log_rule.specs.Claims.Rule.{Bounds}
+use Rattle.log_rule.specs.Claims.Memory.{Ruled}
+use Rattle.log_rule.specs.Claims.Sure.{AreSure, fresh_controls, no_controls}
+use Rattle.log_rule.specs.Claims.Plays.{newcomer, no_keeping, pass_in}
 use Rattle.log_rule.specs.declared.rule.Key.{Key}
 use Rattle.log_rule.specs.Kept.{Kept}
 

@@ -1,15 +1,34 @@
-//! The rule of a log that threads share without a lock, and the kinds of step of its consumers and its keeper.
+//! The rule of a log that threads share without a lock: what holds of its words and its passes between any two word
+//! steps, in any schedule, and the kinds of step that keep it.
 //!
-//! Between any two word steps, in any schedule, its words and what its passes know obey one rule: what publishers claimed
-//! tiles the stream up to the tail; committed frames stand in the words until they are cleaned; consumers stand at frames'
-//! edges, above open ones; the keeper alone moves the limit, and cleans what lies a term below each consumer.
+//! Of publishers' claims (`Ruled`): the claims of all publishers tile the stream from the start to the tail, which is
+//! the greatest that the three raw tails show; there is room; the words of committed frames stand, the first word of
+//! an open one is zero, and so is all from the tail on. Each kind of word step keeps that, is one event of the stream
+//! or a look (`steps_are_events`), and tells its pass what `publication` says of it. Who has all parts is sure of the
+//! limit, the active count and the three raw tails: each of its steps answers the very word that its earlier ones
+//! left.
+//!
+//! Of the whole log (`LogRuled`), beside that: each consumer stands in whole units at a frame's edge, with no open
+//! claim and nothing uncommitted below it; a frame that a reader knows is committed; the keeper alone moves the limit
+//! and cleans, it cleans a word only where every consumer stands a term or more above it, and what may be claimed is
+//! clean. Each kind of step keeps it, and so do passes that are dealt, told what others committed, gathered, and that
+//! meet. `first_words` and `Ring` give the words of a log that opens, and their places.
 #![tactic(auto)]
 
+mod claims;
 mod meeting;
 mod rule;
 
+pub use claims::law::steps_are_events;
+pub use claims::opening::first_words;
+pub use claims::places::{CONSUMERS, COUNT, DATA, LINE, TAILS, packed, place_of};
+pub use claims::plays::{
+    Arm, Chosen, Commit, Count, ExchangeCount, Next, Renumber, Rotate, See, Store,
+};
+pub use claims::ring::Ring;
+pub use claims::view::{Origin, View};
 pub use meeting::{Meet, Met, Part, Settle, Show};
 pub use rule::{
-    Add, Carried, Clean, DealKeeper, DealPublisher, DealReader, Gather, Key, LogRule, Look, News,
-    Pass, Raise, Reread, Seen, Sweep, Tell, Weigh, Word,
+    Add, Carried, Clean, Consume, DealKeeper, DealPublisher, DealReader, Gather, Key, LogRule,
+    LookHere, News, Raise, Reread, Sweep, Swept, Tell, Weigh, Word,
 };

@@ -1,12 +1,13 @@
 //! The kinds of step by which two passes meet.
 
-ghost use Rattle.word_calls.specs.declared.pass.Pass as passes;
-ghost use Rattle.tail_claim.specs.Closing.{no_identity};
-ghost use Rattle.tail_claim.specs.Plays.{newcomer};
+ghost use Rattle.publication.specs.declared.pass.Pass as passes;
+ghost use Rattle.log_rule.specs.Claims.Closing.{no_identity};
+ghost use Rattle.log_rule.specs.Claims.Plays.{newcomer};
 
+use crate::claims::plays::Chosen;
+use crate::claims::view::View;
 use atomic_table::{Join, Play, Split};
 use std::marker::{Brand, PhantomData};
-use tail_claim::{Chosen, View};
 
 /// A pass is told what is true of it for good.
 pub struct Settle;
@@ -37,7 +38,7 @@ pub struct Meet<N> {
 }
 
 impl<N: Met> Join<View> for Meet<N> {
-    ghost use Rattle.tail_claim.specs.Closing.{spent_seat};
+    ghost use Rattle.log_rule.specs.Claims.Closing.{spent_seat};
     ghost use Rattle.log_rule.specs.Meetings.{meeting_seats};
 
     ghost both = { meeting_seats };

@@ -2,15 +2,16 @@
 
 ghost use Rattle.std.specs.Prelude.{ℕ, ◌^◌, ◌<◌, ◌∷◌, []};
 ghost use Rattle.theory.specs.Bytes.{Identity};
-ghost use Rattle.word_calls.specs.Steps.{Adds, addition};
-ghost use Rattle.tail_claim.specs.Closing.{no_identity};
-ghost use Rattle.tail_claim.specs.Plays.{playing};
-ghost use Rattle.log_rule.specs.Shares.{share_of};
+ghost use Rattle.publication.specs.Steps.{Adds, addition};
+ghost use Rattle.log_rule.specs.Claims.Closing.{no_identity};
+ghost use Rattle.log_rule.specs.Claims.Plays.{playing};
+ghost use Rattle.log_rule.specs.Shares.{claimed_bytes};
 
+use crate::claims::plays::Chosen;
+use crate::claims::view::View;
 use atomic_table::{Join, Play, Split, TableRule};
+use position::Identity;
 use std::marker::{Brand, PhantomData};
-use tail_claim::{Chosen, View};
-use word_calls::Identity;
 
 /// What a log's table is told when it is made: the stream that it carries, the position at which it begins, and how many
 /// consumers it has.
@@ -38,15 +39,15 @@ pub struct Add<N> {
 }
 
 impl<N: Chosen> Play<(), View> for Add<N> {
-    ghost then = { playing (λ v n w. Adds v N.number n w × (share_of w < 2 ^ 63)) (λ v n. addition v N.number n ∷ []) };
+    ghost then = { playing (λ v n w. Adds v N.number n w × (claimed_bytes w < 2 ^ 63)) (λ v n. addition v N.number n ∷ []) };
 }
 
 /// A consumer looks at the first word where it stands. The chosen number is its place among those that its seat has.
-pub struct Look<N> {
+pub struct LookHere<N> {
     chosen: PhantomData<N>,
 }
 
-impl<N: Chosen> Play<(), View> for Look<N> {
+impl<N: Chosen> Play<(), View> for LookHere<N> {
     ghost use Rattle.log_rule.specs.Readings.{Looks, reading};
 
     ghost then = { λ _. reading (λ v n w. Looks v N.number n w) };
@@ -82,24 +83,24 @@ impl<N: Word> Play<(), View> for Reread<N> {
 }
 
 /// The position of the consumer at the chosen place is stored.
-pub struct Pass<N> {
+pub struct Consume<N> {
     chosen: PhantomData<N>,
 }
 
-impl<N: Chosen> Play<(), View> for Pass<N> {
-    ghost use Rattle.log_rule.specs.Readings.{Passes, reading};
+impl<N: Chosen> Play<(), View> for Consume<N> {
+    ghost use Rattle.log_rule.specs.Readings.{Consumes, reading};
 
-    ghost then = { λ _. reading (λ v n w. Passes v N.number n w) };
+    ghost then = { λ _. reading (λ v n w. Consumes v N.number n w) };
 }
 
 /// A consumer that the keeper sees, which a call picks for its step: its number, and how many consumers there are.
-pub trait Seen {
+pub trait Swept {
     ghost number: { ℕ };
 
     ghost count: { ℕ };
 }
 
-impl Seen for Brand {
+impl Swept for Brand {
     ghost number = { 0 };
 
     ghost count = { 0 };
@@ -110,7 +111,7 @@ pub struct Sweep<N> {
     chosen: PhantomData<N>,
 }
 
-impl<N: Seen> Play<(), View> for Sweep<N> {
+impl<N: Swept> Play<(), View> for Sweep<N> {
     ghost use Rattle.log_rule.specs.Keepings.{sweeping};
 
     ghost then = { λ _. sweeping N.count N.number };
@@ -121,10 +122,10 @@ pub struct Clean;
 
 impl Play<(), View> for Clean {
     ghost use Rattle.std.specs.Prelude.{[]};
-    ghost use Rattle.tail_claim.specs.Sure.{Learns};
-    ghost use Rattle.log_rule.specs.Keepings.{Cleans, keeping};
+    ghost use Rattle.log_rule.specs.Claims.Sure.{LearnsControls};
+    ghost use Rattle.log_rule.specs.Keepings.{CleansWord, keeping};
 
-    ghost then = { λ _ m _ m'. keeping (λ v w. Learns [] v w) Cleans m m' };
+    ghost then = { λ _ m _ m'. keeping (λ v w. LearnsControls [] v w) CleansWord m m' };
 }
 
 /// The keeper stores the limit word.
@@ -162,7 +163,7 @@ impl Split<View> for DealKeeper {
 pub struct DealPublisher;
 
 impl Split<View> for DealPublisher {
-    ghost use Rattle.tail_claim.specs.Plays.{dealing_seat, dealt_seat};
+    ghost use Rattle.log_rule.specs.Claims.Plays.{dealing_seat, dealt_seat};
 
     ghost left = { dealing_seat };
 
@@ -199,7 +200,7 @@ pub struct Tell<N> {
 }
 
 impl<N: Carried> Join<View> for Tell<N> {
-    ghost use Rattle.tail_claim.specs.Closing.{spent_seat};
+    ghost use Rattle.log_rule.specs.Claims.Closing.{spent_seat};
     ghost use Rattle.log_rule.specs.Table.{told_seat};
 
     ghost both = { told_seat };
@@ -213,7 +214,7 @@ pub struct Gather<N> {
 }
 
 impl<N: Carried> Join<View> for Gather<N> {
-    ghost use Rattle.tail_claim.specs.Closing.{both_seats, spent_seat};
+    ghost use Rattle.log_rule.specs.Claims.Closing.{both_seats, spent_seat};
 
     ghost both = { both_seats };
 

@@ -1,3 +1,5 @@
 pub mod Injecting
 pub mod Texts
 pub mod Verdicts
+pub mod Losing
+pub mod Metering

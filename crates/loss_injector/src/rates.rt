@@ -1,7 +1,7 @@
 ghost use Rattle.std.specs.Prelude.{◌≡◌, ◌+◌, ◌≤◌, ◌<◌, ◌↔◌, IfOk, IsOk, Some};
 ghost use Rattle.theory.specs.Loss.{IsRates, IsVerdict};
 ghost use Rattle.loss_injector.specs.Texts.{rates_text};
-ghost use Rattle.loss_injector.specs.Verdicts.{meaning};
+ghost use Rattle.loss_injector.specs.Verdicts.{verdict_of};
 
 use std::fmt;
 use std::marker::Model;
@@ -79,7 +79,7 @@ pub enum Verdict {
 /// What a random word decides: its remainder by a thousand is below the first rate, below the first two, below all
 /// three, or none of these.
 pub fn decide(word: u32, rates: &Rates) -> Verdict
-    ensures { IsVerdict rates.now word (meaning result) }
+    ensures { IsVerdict rates.now word (verdict_of result) }
 {
     let rest = word % 1000;
     if rest < rates.drop {

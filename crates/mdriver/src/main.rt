@@ -1,11 +1,12 @@
-//! The media driver's program: `mdriver sim` plays a script from offer to poll, `mdriver run` runs the driver in threads over
-//! UDP, `mdriver decode` prints the frames of a datagram, and `mdriver publish` and `mdriver subscribe` carry messages from
-//! one process to another.
+//! The media driver's program: `mdriver sim` plays a script from offer to poll, `mdriver run` runs the driver in
+//! threads over UDP, `mdriver decode` prints the frames of a datagram, and `mdriver publish` and `mdriver subscribe`
+//! carry messages from one process to another. `main` is proved safe.
 #![tactic(auto)]
 
+use command_line::process_words;
 use commands::{Fault, command};
-use std::alloc::Global;
-use std::env;
+use std::alloc::AllocGlobal;
+use std::env::Env;
 use std::io::{self, BufWriter, Read, Write};
 use std::net::Net;
 use std::process::ExitCode;
@@ -14,18 +15,7 @@ use std::thread::Threads;
 use std::time::Clock;
 
 fn main(rt: HostRuntime) -> ExitCode {
-    let done = match words(&rt) {
-        Ok(words) => carry_out(
-            &rt,
-            rt.alloc(),
-            &words,
-            &mut rt.stdin(),
-            rt.stdout(),
-            &mut rt.stderr(),
-        ),
-        Err(error) => Err(error),
-    };
-    match done {
+    match carry_out(&rt, &mut rt.stdin(), rt.stdout(), &mut rt.stderr()) {
         Ok(status) => ExitCode::from(status),
         Err(_) => {
             let fault = Fault::Memory;
@@ -35,24 +25,15 @@ fn main(rt: HostRuntime) -> ExitCode {
     }
 }
 
-/// The words of the process's command line. What fails here is memory.
-fn words(rt: &HostRuntime) -> io::Result<Vec<String>> {
-    let mut words = Vec::new(rt.alloc());
-    for word in env::args(rt)? {
-        words.push(word)?;
-    }
-    Ok(words)
-}
-
-/// Carries out a command line. What fails here is memory, before anything was read.
-fn carry_out<C: Threads + Wait + Clock + Net + Sync, R: Read + Send, W: Write + Drop, E: Write>(
-    rt: &C,
-    alloc: Global,
-    words: &[String],
-    input: &mut R,
-    output: W,
-    errors: &mut E,
-) -> io::Result<u8> {
+/// Carries out the process's command line. What fails here is memory, before anything was read.
+fn carry_out<
+    C: Threads + Wait + Clock + Net + Sync + Env + AllocGlobal,
+    R: Read + Send,
+    W: Write + Drop,
+    E: Write,
+>(rt: &C, input: &mut R, output: W, errors: &mut E) -> io::Result<u8> {
+    let alloc = rt.alloc();
+    let words = process_words(rt)?;
     let words: Vec<&str> = words.iter().map(|word| word.as_str()).collect(alloc)?;
     let mut output = BufWriter::new(alloc, output)?;
     Ok(command(rt, alloc, &words, input, &mut output, errors))

@@ -1,4 +1,5 @@
 -- What holds after every list of events.
+-- What is assumed stands in `IsOpened` and in the steps, which say what each event needs.
 use Rattle.std.specs.Prelude.{◌≡◌, ℕ, ◌+◌, ◌-◌, ◌%◌, max, ◌<◌, ◌≤◌, ⊤, true, false, Bool, List, [], ◌∷◌, map, Option, None, Some, slice_get}
 use Rattle.std.specs.List.{AllByRecursion}
 use Rattle.theory.specs.Position.{Geometry, cuts_of, max_message, max_position}

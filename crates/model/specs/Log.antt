@@ -1,4 +1,8 @@
 -- A log, and what may happen to it.
+-- An addition takes two steps of its publisher, as it does in threads. Who has seen a limit above the tail is armed
+-- (`Arm`), and who is armed may add once: at the tail (`Add`), or nothing, where its term was finished meanwhile
+-- (`Miss`). So several may be armed at one limit, which is why room counts them. Loads, stores of a frame's words but
+-- for the first, and a turn of the term change nothing here.
 use Rattle.std.specs.Prelude.{◌≡◌, ℕ, ◌+◌, ◌-◌, ◌*◌, ◌/◌, ◌%◌, ◌<◌, ◌≤◌, Bool, true, false, not, List, [], ◌∷◌, ◌++◌, map, max, nat_eq, nat_le, if◌then◌else◌, Option, None, Some, ◌⊎◌, slice_get, slice_set}
 use Rattle.std.specs.List.{count_by, AllByRecursion}
 use Rattle.theory.specs.Position.{cuts_of, greatest_claim, max_message, max_position, span}

@@ -1,4 +1,7 @@
 -- A sender, and what may happen to it.
+-- A sender's position follows the frames that it sends first. What it sends again are those of the NAK that was taken
+-- first and isn't answered. It may send a SETUP at any time: when one is due is no part of the model, nor when a
+-- datagram arrives, if it does.
 use Rattle.std.specs.Prelude.{◌≡◌, ℕ, List, ◌∷◌, ◌++◌, max, Some, ℤ}
 use Rattle.std.specs.List.{AllByRecursion}
 use Rattle.theory.specs.Position.{Geometry}

@@ -1,4 +1,7 @@
 -- One log, one sender and up to eight images, and what may happen to them.
+-- A run is any list of events from an opened world. What may be lost, repeated, delayed or reordered needs no event:
+-- an image may be given any frame that was ever sent, at any time, any number of times, and opens at a SETUP that was
+-- ever sent.
 use Rattle.std.specs.Prelude.{◌≡◌, ℕ, ◌%◌, ◌<◌, ◌≤◌, false, List, [], ◌∷◌, replicate, Option, None, Some, slice_get, slice_set}
 use Rattle.theory.specs.Position.{IsGeometry, max_position}
 use Rattle.theory.specs.Placed.{Among}

@@ -1,8 +1,19 @@
 //! The driver as a whole, as a model: one log, its sender and up to eight images, the events that may happen to them,
-//! and what holds after every list of events. No code.
+//! and what holds after every list of events; no code.
 //!
-//! `every_run` is the headline, and `a_run` shows that there are runs. The other functions stand for the laws that the
-//! headline rests on. Each does nothing, and its contract is the law.
+//! `every_run` is the headline: for every opened world and every list of events the stream is tiled and the shares
+//! add up, rebuilt bytes are the publisher's, consumers stay below the contiguous end, and what was polled is a
+//! prefix's messages. Beside it: there is room, nothing readable is cleaned, entries are published ones, each frame
+//! that was sent has a spelling, and the gap that an image tells is its first one.
+//!
+//! Each function stands for a law; it does nothing, and its contract is the law. `a_run`: there are such runs.
+//! `shares_follow_owners`: shares follow their owners, and a retired number is retired for good. `messages_between`:
+//! frames that follow each other are assembled to the messages between their ends. `computes_end_and_gap`: the
+//! computed contiguous end and gap are the defined ones, and a unit has one content. `cycle_sends`: a cycle and a
+//! resend send what a sender may send, and a cycle all of it. `steps_keep`: a limit never falls, and no clock does.
+//!
+//! No contract here says that anything happens, or that a message is what its publisher meant: `offer` and `commit`
+//! of `publication` say that.
 #![tactic(auto)]
 
 ghost use Rattle.model.specs.CycleLaws.{CycleMaySend, CycleSendsAll, GroupsWell, ResendsFirst, ResendsAsked};

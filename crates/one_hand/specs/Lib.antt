@@ -1,7 +1,11 @@
 pub mod Entries
-pub mod Faults
 pub mod HandReads
 pub mod Legal
-pub mod Openings
 pub mod Reads
 pub mod Stream
+pub mod Shown
+pub mod Hands
+pub mod Parts
+pub mod Readers
+pub mod Keepings
+pub mod Passings

@@ -1,12 +1,16 @@
 -- A log that one hand holds with all its passes: what its calls answer, and what they make of it.
+-- No raw tail, partition or pass is part of a stream: between two calls no turn is half done, so a term is used up
+-- exactly where the tail stands at its end. Where a message doesn't fit its term, the next term is the active one
+-- behind the padding, if there is a next. Cleaning forgets the entries that begin more than a term below the least
+-- consumer.
 use Rattle.std.specs.Prelude.{◌≡◌, ℕ, ◌+◌, ◌-◌, ◌*◌, ◌/◌, ◌^◌, ◌&&◌, Bool, true, false, not, List, [], ◌∷◌, ◌++◌, length, map, fold, max, min, replicate, nat_eq, nat_le, if◌then◌else◌, Option, None, Some, Result, Ok, Err, slice_index, slice_index_or, slice_set}
 use Rattle.std.specs.List.{filter}
 use Rattle.theory.specs.Position.{aligned, framed_length}
 use Rattle.theory.specs.Placed.{Data, Frame, Pad}
 use Rattle.theory.specs.Entry.{Entry}
 use Rattle.theory.specs.Bytes.{Identity}
-use Rattle.word_calls.specs.declared.refusal.Refusal.{Refusal}
-use Rattle.word_calls.specs.declared.refusal.Refusal.TheVariants.{NotConnected, BackPressured, AdminAction, Closed, MaxPositionExceeded}
+use Rattle.publication.specs.declared.refusal.Refusal.{Refusal}
+use Rattle.publication.specs.declared.refusal.Refusal.TheVariants.{NotConnected, BackPressured, AdminAction, Closed, MaxPositionExceeded}
 use Rattle.one_hand.specs.Entries.{claim_of, padded, published, with_share}
 
 -- a range that a publisher holds open, for a message of so many bytes

@@ -7,10 +7,7 @@ ghost use Rattle.one_hand.specs.Legal.{IsStream};
 ghost use Rattle.one_hand.specs.Stream.{Aborts, Commits, OpenClaim, Stream, after_claim, after_offer, answer_of, claim_by};
 
 use position::Geometry;
-use word_calls::Refusal;
-
-/// How many publishers a log has.
-pub const PUBLISHERS: usize = 8;
+use publication::Refusal;
 
 /// A log of which one hand holds every publisher, eight of them. What a call does is seen of the stream before and after.
 pub trait Claims {

@@ -1,15 +1,24 @@
-//! A log that one hand holds: one caller owns the log and all its passes, so that a call can be said by the stream before
-//! and after it.
+//! A log that one hand holds: one caller has the log with all its passes, so that a call is said by the stream before
+//! and after it (`Claims`, `OneHandLog`). Scripts are played on it.
+//!
+//! Exactly: an offer and a claim are answered by the stream alone (closed, used up, at the limit, fitting or not) and
+//! add one entry, one padding or nothing; a commit and an abort end the publisher's claim; a read finds the one
+//! committed frame at the reader's position, and none only where there is none; an advance goes to that frame's end;
+//! a cleaning forgets what begins more than a term below the least consumer, and raises the limit by it; the book has
+//! the shares. Nothing else changes in any call. `IsStream` says what holds of each such stream (`is_whole`).
+//!
+//! `LogHand` is the log that threads share, in one hand, and meets all of that: every answer, and the stream after
+//! every call, read off the very words (`LogHand::open`). `HandReader` is a reader by its number, as a source of
+//! frames for a sender.
 #![tactic(auto)]
 
-mod book;
 mod claims;
-mod fault;
 mod hand_reader;
+mod log_hand;
 mod one_hand;
 
-pub use book::Book;
-pub use claims::{Claims, PUBLISHERS};
-pub use fault::LogError;
+pub use claims::Claims;
 pub use hand_reader::HandReader;
+pub use log_hand::LogHand;
+pub use log_hand::held::Held;
 pub use one_hand::OneHandLog;

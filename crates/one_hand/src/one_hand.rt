@@ -5,10 +5,10 @@ ghost use Rattle.frame_source.specs.Sources.{HasFrame, MayReread};
 ghost use Rattle.one_hand.specs.Reads.{Advances, ShowsFrame, ShowsNone, source_of};
 ghost use Rattle.one_hand.specs.Stream.{cleaned_and_limited, position_of, raised};
 
-use crate::book::Book;
 use crate::claims::Claims;
 use block::Block;
 use position::FrameHead;
+use shared_log::Book;
 
 /// A log of which one hand holds every pass: publishers, one to eight readers by their numbers, and the keeper.
 pub trait OneHandLog: Claims {

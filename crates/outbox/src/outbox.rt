@@ -11,7 +11,7 @@ use std::alloc::{AllocError, Global};
 use std::marker::Model;
 
 /// How many datagrams an outbox holds at the most.
-pub const DATAGRAMS: usize = 32;
+pub const OUTBOX_DATAGRAMS: usize = 32;
 
 /// Room for one datagram.
 #[derive(Drop)]
@@ -77,8 +77,8 @@ impl Outbox {
     pub fn new(alloc: Global, mtu: u32) -> Result<Outbox, AllocError>
         ensures { IfOk result (λ o. o ≡ record { mtu = mtu; datagrams = [] }) }
     {
-        let mut slots = Vec::with_capacity(alloc, DATAGRAMS)?;
-        for _ in 0..DATAGRAMS {
+        let mut slots = Vec::with_capacity(alloc, OUTBOX_DATAGRAMS)?;
+        for _ in 0..OUTBOX_DATAGRAMS {
             let bytes = vec![in alloc; 0; mtu as usize]?;
             slots.push(Slot { bytes, length: 0 })?;
         }

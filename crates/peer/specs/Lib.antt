@@ -1,3 +1,5 @@
 pub mod Texts
 pub mod Ties
 pub mod Watching
+pub mod Attending
+pub mod Endings

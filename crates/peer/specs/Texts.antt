@@ -1,9 +1,9 @@
 -- What a user reads of an end that can't be had.
 use Rattle.std.specs.Prelude.{ℕ, List, codes}
+use Rattle.endpoint.specs.Texts as devices
 use Rattle.peer.specs.declared.fault.BindError.{BindError}
-use Rattle.peer.specs.declared.fault.BindError.TheVariants.{Taken, Device, Memory}
+use Rattle.peer.specs.declared.fault.BindError.TheVariants.{Taken, Failed}
 
 abbrev pub text_of : BindError → List ℕ
 text_of Taken = codes "the port is in use"
-text_of Device = codes "device"
-text_of Memory = codes "memory"
+text_of (Failed error) = devices.text_of error

@@ -33,7 +33,7 @@ abbrev pub with_fault : Tied → Tied
 with_fault t = record t { device = with_failure t.device }
 
 -- a receive: what was handed over is the peer's, and counted as heard; nothing came, or another's, which is counted; or it failed
-abbrev pub Takes : Tied → Result (Option ℕ) DeviceFailed → Tied → Type 0
-Takes old (Ok (Some n)) new = new ≡ with_heard old
-Takes old (Ok None) new = (new ≡ with_nothing old) ⊎ (new ≡ with_stranger old)
-Takes old (Err e) new = new ≡ with_fault old
+abbrev pub HandsOver : Tied → Result (Option ℕ) DeviceFailed → Tied → Type 0
+HandsOver old (Ok (Some n)) new = new ≡ with_heard old
+HandsOver old (Ok None) new = (new ≡ with_nothing old) ⊎ (new ≡ with_stranger old)
+HandsOver old (Err e) new = new ≡ with_fault old

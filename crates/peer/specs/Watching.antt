@@ -4,8 +4,8 @@ use Rattle.std.specs.Ordering.{int_eq}
 use Rattle.theory.specs.Position.{position_of}
 use Rattle.theory.specs.Wire.{Wire, DATA, PAD, HEARTBEAT, NAK, SM, SETUP, Status}
 use Rattle.frames.specs.Fronts.{FrontSpells}
-use Rattle.attendance.specs.Attending.{after_status, nobody}
-use Rattle.attendance.specs.declared.attending.Attendance.{Attendance}
+use Rattle.peer.specs.Attending.{after_status, nobody}
+use Rattle.peer.specs.declared.attendance.Attendance.{Attendance}
 use Rattle.peer.specs.declared.attended.Sent.{Sent}
 
 pub record Watching (D : Type 0) : Type 0 where
@@ -47,13 +47,13 @@ told_of s (NAK m) = None
 told_of s (SM flags m) = if nat_eq flags 0 then told_status s m else None
 told_of s (SETUP m) = None
 
-abbrev pub noted : Option (ℤ × ℕ) → Attendance → Attendance
-noted None a = a
-noted (Some told) a = after_status a told.0 told.1
+abbrev pub after_telling : Option (ℤ × ℕ) → Attendance → Attendance
+after_telling None a = a
+after_telling (Some told) a = after_status a told.0 told.1
 
 -- what the one frame of a datagram tells is noted; of any other bytes nothing is
 pub record Notes (s : Sent) (bytes : List ℕ) (a b : Attendance) : Type 0 where
-  pub frame : (w : Wire) → FrontSpells bytes w (length bytes) → b ≡ noted (told_of s w) a
+  pub frame : (w : Wire) → FrontSpells bytes w (length bytes) → b ≡ after_telling (told_of s w) a
   pub others : ((w : Wire) → FrontSpells bytes w (length bytes) → ⊥) → b ≡ a
 
 -- of a datagram that was found what it tells is noted

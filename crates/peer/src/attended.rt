@@ -4,9 +4,9 @@ ghost use Rattle.std.specs.Prelude.{◌≡◌, IfOk, OnErr};
 ghost use Rattle.endpoint.specs.Calls.{Receives, Sends};
 ghost use Rattle.endpoint.specs.Devices.{NeverFall};
 ghost use Rattle.frames.specs.Frames.{status_of, wire};
-ghost use Rattle.peer.specs.Watching.{HearsFound, Notes, given_one, is_own, noted, told_at, told_of, told_status, watching};
+ghost use Rattle.peer.specs.Watching.{HearsFound, Notes, given_one, is_own, after_telling, told_at, told_of, told_status, watching};
 
-use attendance::Attendance;
+use crate::attendance::Attendance;
 use endpoint::{Datagrams, DeviceFailed};
 use frames::{Frame, Status, read_frame};
 use position::Geometry;
@@ -105,7 +105,7 @@ impl<D> Attended<D> {
 
     /// Notes what a frame tells.
     fn note_frame(&mut self, frame: &Frame<'_>)
-        ensures { self.new ≡ record self.old { attendance = noted (told_of self.old.sent (wire frame.now)) self.old.attendance } }
+        ensures { self.new ≡ record self.old { attendance = after_telling (told_of self.old.sent (wire frame.now)) self.old.attendance } }
     {
         if let Some((receiver, position)) = told_in(self.sent, frame) {
             self.attendance.hear(receiver, position);

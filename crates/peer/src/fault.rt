@@ -2,6 +2,7 @@ ghost use Rattle.std.specs.Prelude.{◌≡◌, ◌⊎◌, ◌↔◌, Some, IsTru
 ghost use Rattle.std.specs.IoError.{error_kind};
 ghost use Rattle.peer.specs.Texts.{text_of};
 
+use endpoint::DeviceError;
 use std::io::ErrorKind;
 use std::{fmt, io};
 use thiserror::Error;
@@ -11,10 +12,8 @@ use thiserror::Error;
 pub enum BindError {
     /// Another socket of this machine has the port.
     Taken,
-    /// The system refused the socket.
-    Device,
-    /// Memory was refused.
-    Memory,
+    /// The system refused the socket, or memory was refused.
+    Failed(DeviceError),
 }
 
 impl fmt::Display for BindError {
@@ -32,8 +31,7 @@ impl BindError {
     {
         match self {
             BindError::Taken => "the port is in use",
-            BindError::Device => "device",
-            BindError::Memory => "memory",
+            BindError::Failed(error) => error.text(),
         }
     }
 }

@@ -5,14 +5,11 @@ ghost use Rattle.std.specs.IoError.{error_kind};
 
 use crate::fault::{BindError, is_loss};
 use crate::tied::TiedDevice;
-use endpoint::DeviceFailed;
+use endpoint::{DeviceError, DeviceFailed, GREATEST_DATAGRAM};
 use std::alloc::Global;
 use std::io;
 use std::io::ErrorKind;
 use std::net::{Ipv4Addr, Net, SocketAddr, UdpSocket};
-
-/// How many bytes a datagram over UDP has at the most.
-const GREATEST: usize = 65_536;
 
 /// A socket at a port of 127.0.0.1 that hears anybody. No call waits.
 #[derive(Drop)]
@@ -31,18 +28,20 @@ fn open<R: Net>(rt: &R, port: u16) -> io::Result<UdpSocket> {
 /// Why it can't be had.
 fn fault_of(error: &io::Error) -> BindError
     ensures taken { error_kind error.now ≡ ErrorKind.AddrInUse → result ≡ BindError.Taken }
-    ensures others { error_kind error.now ≢ ErrorKind.AddrInUse → result ≡ BindError.Device }
+    ensures others { error_kind error.now ≢ ErrorKind.AddrInUse → result ≡ BindError.Failed DeviceError.Device }
 {
     if error.kind() == ErrorKind::AddrInUse {
         return BindError::Taken;
     }
-    BindError::Device
+    BindError::Failed(DeviceError::Device)
 }
 
 impl Listener {
     /// A listener at this port.
     pub fn bind<R: Net>(rt: &R, alloc: Global, port: u16) -> Result<Listener, BindError> {
-        let arrived = vec![in alloc; 0; GREATEST].map_err(|_| BindError::Memory)?;
+        let arrived = vec![in alloc; 0; GREATEST_DATAGRAM].map_err(|_| BindError::Failed(
+            DeviceError::Memory,
+        ))?;
         let socket = open(rt, port).map_err(|error| fault_of(&error))?;
         Ok(Listener { socket, arrived })
     }

@@ -3,7 +3,7 @@
 ghost use Rattle.std.specs.Prelude.{◌≡◌, ◌↔◌, IsTrue, OnErr, OnOk, if◌then◌else◌};
 ghost use Rattle.endpoint.specs.Calls.{Receives, Sends};
 ghost use Rattle.endpoint.specs.Devices.{HasGrown, NeverFall, fresh};
-ghost use Rattle.peer.specs.Ties.{Takes, tie_heard, tie_passed, with_fault, with_nothing};
+ghost use Rattle.peer.specs.Ties.{HandsOver, tie_heard, tie_passed, with_fault, with_nothing};
 
 use crate::fault::is_loss;
 use endpoint::{Datagrams, DeviceFailed};
@@ -127,7 +127,7 @@ impl Datagrams for TiedDevice {
     fn recv(&mut self, buffer: &mut [u8]) -> Result<Option<usize>, DeviceFailed>
         ensures counts { NeverFall self.old.device self.new.device }
         ensures receives { Receives ⊥ self.old.device buffer.old result buffer.new self.new.device }
-        ensures takes { Takes self.old result self.new }
+        ensures takes { HandsOver self.old result self.new }
     {
         match self.socket.recv_from(self.arrived.as_mut_slice()) {
             Ok((arrived, from)) => {

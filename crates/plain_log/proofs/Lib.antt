@@ -3,3 +3,6 @@ mod Growing
 mod Ending
 mod Parts
 mod Opening
+pub mod Agreements
+pub mod Steps
+mod ClaimRows

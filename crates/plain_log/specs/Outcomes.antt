@@ -1,6 +1,6 @@
 -- How an addition is judged.
 use Rattle.std.specs.Prelude.{◌≡◌, ℕ, ◌+◌, Err}
-use Rattle.word_calls.specs.declared.refusal.Refusal.{Refusal}
+use Rattle.publication.specs.declared.refusal.Refusal.{Refusal}
 use Rattle.one_hand.specs.Stream.{Fits, Stream, after, answer_of, case_of, covered}
 
 -- a message fits and would end there; nothing has changed

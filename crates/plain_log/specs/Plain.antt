@@ -1,4 +1,6 @@
 -- What a plain log shows of its stream, and what holds of its parts between two calls.
+-- The parts are what each addition took, and the bytes of the messages, in the order in which they were committed. No
+-- entry is forgotten, so the tail is at most a term above the start.
 use Rattle.std.specs.Prelude.{◌≡◌, ℕ, ◌+◌, ◌/◌, ◌≤◌, ⊤, true, false, List, [], ◌∷◌, length, map, take, drop, Option, Some, slice_get}
 use Rattle.std.specs.List.{AllByRecursion}
 use Rattle.std.specs.Option.{option_map}

@@ -2,16 +2,17 @@
 
 ghost use Rattle.std.specs.Prelude.{◌≡◌, ◌<◌, ◌≤◌, ◌+◌, ◌*◌, None, Some, IfOk, IfErr, IsErrOf, ◌↔◌, length};
 ghost use Rattle.theory.specs.Position.{max_message, max_payload};
-ghost use Rattle.one_hand.specs.Openings.{IsStart};
+ghost use Rattle.position.specs.Openings.{IsStart};
 ghost use Rattle.one_hand.specs.Stream.{Fits, claim_by, case_of, ready, refusal_at_end, room as rest_of, term_of, turned, with_claim, with_message, with_padding};
 ghost use Rattle.plain_log.specs.Outcomes.{Admits, Refuses};
 
 use crate::addition::{Addition, Content, Held};
-use one_hand::{Claims, LogError, PUBLISHERS};
+use one_hand::Claims;
 use position::{Geometry, align32};
+use publication::Refusal;
+use shared_log::{LogError, PUBLISHERS};
 use std::alloc::Global;
 use std::marker::Model;
-use word_calls::Refusal;
 
 /// A log with its eight publishers, connected, with its limit half a term above the start for good. It has no reader, and
 /// nothing of it is cleaned.

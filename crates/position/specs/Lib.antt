@@ -1,3 +1,4 @@
 pub mod Fault
 pub mod Gaps
 pub mod Heads
+pub mod Openings

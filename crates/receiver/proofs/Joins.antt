@@ -7,7 +7,7 @@ use Rattle.std.proofs.Math.Facts.{sfits_to_z}
 use Rattle.theory.specs.Position.{Geometry, IsGeometry, count_of}
 use Rattle.theory.specs.Setup.{NamesPosition, OpensAt}
 use Rattle.theory.specs.Wire.{Setup}
-use Rattle.rebuilder.specs.Seen.{IsJoin}
+use Rattle.image.specs.Seen.{IsJoin}
 use Rattle.theory.proofs.Places.{power_unit}
 use Rattle.receiver.proofs.Units.{whole_times}
 

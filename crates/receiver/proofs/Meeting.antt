@@ -13,9 +13,9 @@ use Rattle.theory.specs.Image.{image_at}
 use Rattle.theory.specs.Setup.{OpensAt}
 use Rattle.theory.specs.Wire.{Header, NAK, SM, Setup, SpellsDatagram, Wire}
 use Rattle.position.specs.declared.head.FrameHead.{FrameHead}
-use Rattle.rebuilder.specs.Seen as seen
-use Rattle.rebuilder.specs.Seen.{least}
-use Rattle.rebuilder.specs.declared.answer.Insert.{Insert}
+use Rattle.image.specs.Seen as seen
+use Rattle.image.specs.Seen.{least}
+use Rattle.image.specs.declared.answer.Insert.{Insert}
 use Rattle.receiver.specs.declared.receiver_core.Outcome.{Outcome}
 use Rattle.receiver.specs.declared.receiver_core.Outcome.TheVariants as outcomes
 use Rattle.frames.specs.Datagrams.{IsDatagramFault}

@@ -13,8 +13,8 @@ use Rattle.theory.proofs.Held.{among_held, held_among}
 use Rattle.theory.proofs.Lists.{all_at, all_from, all_weaker}
 use Rattle.position.specs.Gaps as code
 use Rattle.position.specs.declared.gap.Gap as declared
-use Rattle.rebuilder.specs.Seen as seen
-use Rattle.rebuilder.specs.Seen.{IsFit, least}
+use Rattle.image.specs.Seen as seen
+use Rattle.image.specs.Seen.{IsFit, least}
 use Rattle.receiver.specs.Receiving.{Opened, gap_in}
 use Rattle.receiver.specs.Representing.{RepresentsImage}
 use Rattle.receiver.proofs.ShownSteps.{end_shown, parted_least}

@@ -14,14 +14,14 @@ use Rattle.theory.specs.Wire.{Header}
 use Rattle.theory.proofs.Held.{among_held, not_stored}
 use Rattle.theory.proofs.Lists.{all_at}
 use Rattle.position.specs.declared.head.FrameHead.{FrameHead}
-use Rattle.rebuilder.specs.Seen as seen
-use Rattle.rebuilder.specs.Seen.{IsFit, IsShown, accepts, least, with_consumer, with_frame}
-use Rattle.rebuilder.specs.Stored.{meant}
-use Rattle.rebuilder.specs.declared.answer.Insert.{Insert}
-use Rattle.rebuilder.specs.declared.answer.Insert.TheVariants as answers
+use Rattle.image.specs.Seen as seen
+use Rattle.image.specs.Seen.{IsFit, IsShown, accepts, least, after_move, with_frame}
+use Rattle.image.specs.Stored.{meant}
+use Rattle.image.specs.declared.answer.Insert.{Insert}
+use Rattle.image.specs.declared.answer.Insert.TheVariants as answers
 use Rattle.receiver.specs.Receiving.{Opened, answer_at, given_at}
 use Rattle.receiver.specs.Representing.{HearsBeat, Inserts, IsAtEnd, ReadsPast, RepresentsImage, with_reader}
-use Rattle.rebuilder.specs.Kinds.{head_at}
+use Rattle.image.specs.Kinds.{head_at}
 use Rattle.receiver.proofs.ShownSteps.{IsConsumer, beaten_shown, consumer_of, end_shown, inserted_shown, moved_shown}
 
 -- ---- a heartbeat
@@ -67,7 +67,7 @@ frame_shape v w (negsuc k) f answers.Stored h = absurd (negative v k (frame_leng
 abbrev pub Passes : seen.Image → ℕ → ℕ → Type 0
 Passes v k end = (s : Placed) × Among s v.held × (s.at ≡ slice_index v.consumers k) × (end ≡ end_of s)
 
-pub place_after : (v w : seen.Image) (k end : ℕ) → k < length v.consumers → w ≡ with_consumer v k end → slice_index w.consumers k ≡ end
+pub place_after : (v w : seen.Image) (k end : ℕ) → k < length v.consumers → w ≡ after_move v k end → slice_index w.consumers k ≡ end
 place_after v w k end l e = ap (λ (i : seen.Image). slice_index i.consumers k) e ∙ get_or-set_same v.consumers k end 0 l
 
 pub forward : (v : seen.Image) (k end : ℕ) → Passes v k end → AllByRecursion (IsFit v.geometry.term_length v.high) v.held → slice_index v.consumers k + 32 ≤ end
@@ -92,7 +92,7 @@ at_end v k l end o h =
     record { consumer = c.consumer; which = c.is; end = subst (λ p. IsContiguous o.image.stored o.image.join p) (sym c.here) (end_shown v o (slice_index v.consumers k) h end) }
 
 pub reads_past : (v w : seen.Image) (k end : ℕ) (before : List ℕ) (head : FrameHead) (after : List ℕ) → k < length v.consumers → IsShown v.held (slice_index v.consumers k) before head after
-    → Passes v k end → w ≡ with_consumer v k end → AllByRecursion (IsFit v.geometry.term_length v.high) v.held → (o : Opened) → RepresentsImage v o → ReadsPast o k before head after (RepresentsImage w)
+    → Passes v k end → w ≡ after_move v k end → AllByRecursion (IsFit v.geometry.term_length v.high) v.held → (o : Opened) → RepresentsImage v o → ReadsPast o k before head after (RepresentsImage w)
 reads_past v w k end before head after l (s, a, at, is, payload) (t, b, same, past) moves fit o h =
     let c = reader v o k h l in
     let stored : (x : Placed) → Among x v.held → Among x o.image.stored = λ x y. stored_of v o h x y in
@@ -108,7 +108,7 @@ reads_past v w k end before head after l (s, a, at, is, payload) (t, b, same, pa
       here = at ∙ sym c.here;
       head_is = subst (λ p. head ≡ head_at p s.frame) (sym at) is;
       payload = payload;
-      shown = λ d e. subst (λ x. RepresentsImage x (with_reader o k d)) (sym (moves ∙ ap (with_consumer v k) (ends ∙ sym e))) (moved_shown v o k c.consumer d s h c.is (stored s a) (at ∙ sym c.here) e);
+      shown = λ d e. subst (λ x. RepresentsImage x (with_reader o k d)) (sym (moves ∙ ap (after_move v k) (ends ∙ sym e))) (moved_shown v o k c.consumer d s h c.is (stored s a) (at ∙ sym c.here) e);
     }
   where
     stored_of : (v : seen.Image) (o : Opened) → RepresentsImage v o → (x : Placed) → Among x v.held → Among x o.image.stored

@@ -14,7 +14,7 @@ use Rattle.theory.proofs.Lists.{all_append}
 use Rattle.theory.proofs.Follow.{Chain-push}
 use Rattle.theory.proofs.Leasts.{fold_first}
 use Rattle.assembler.specs.Assembling.{Assembling}
-use Rattle.receiver.specs.Polling.{Answer, IsTooLong, PollsOf, PollsWhole, ReadsFrames, StaysShort, StopsAt, TellsOf, TellsPositions, gives, moved_all, passed_all, with_consumer}
+use Rattle.receiver.specs.Polling.{Answer, IsTooLong, PollsOf, PollsWhole, ReadsFrames, StaysShort, StopsAt, TellsOf, TellsPositions, gives, moved_all, passed_all, with_only_consumer}
 use Rattle.receiver.specs.declared.poll_error.PollError.TheVariants.{NoImage, Unassembled}
 use Rattle.receiver.specs.declared.positions.Positions.{Positions}
 use Rattle.assembler.specs.declared.fault.AssemblyError.{AssemblyError}
@@ -25,7 +25,7 @@ use Rattle.receiver.proofs.Meeting.{shown_none, shown_some}
 use Rattle.receiver.proofs.PollFrames.{moved_at, passed_lost}
 use Rattle.theory.proofs.Stays.{after_last}
 use Rattle.receiver.proofs.ShownSteps.{end_shown, least_shown}
-use Rattle.rebuilder.specs.Seen as seen
+use Rattle.image.specs.Seen as seen
 use Rattle.std.proofs.lemmas.Option.{same_Some}
 use Rattle.receiver.specs.Subscribing.{AssemblesFor, HasReadOn, HearsFrame, IsPolling, PassesOn, RefusesFrame, RepresentsSubscriber, Subscribing, heard_of}
 
@@ -84,7 +84,7 @@ short_with g c frames s a most begun h k = short_more g c frames s h (λ t. k (s
 -- ---- the start of a poll
 
 -- another consumer at the same place is shown as well
-seat_shown : (v : seen.Image) (o : Opened) (c d : Consumer) → o.image.consumers ≡ c ∷ [] → d.at ≡ c.at → RepresentsImage v o → RepresentsImage v (with_consumer o d)
+seat_shown : (v : seen.Image) (o : Opened) (c d : Consumer) → o.image.consumers ≡ c ∷ [] → d.at ≡ c.at → RepresentsImage v o → RepresentsImage v (with_only_consumer o d)
 seat_shown v o c d one at h = record {
   geometry = h.geometry;
   join = h.join;
@@ -98,7 +98,7 @@ seat_shown v o c d one at h = record {
   reached = (subst (IsReached o.image.stored o.image.join) (sym at) (subst (λ rs. AllByRecursion (λ (x : Consumer). IsReached o.image.stored o.image.join x.at) rs) one h.reached).0, tt);
 }
 
-opened_shown : (i : Option seen.Image) (o : Opened) (c d : Consumer) → o.image.consumers ≡ c ∷ [] → d.at ≡ c.at → RepresentsOpened i (Some o) → RepresentsOpened i (Some (with_consumer o d))
+opened_shown : (i : Option seen.Image) (o : Opened) (c d : Consumer) → o.image.consumers ≡ c ∷ [] → d.at ≡ c.at → RepresentsOpened i (Some o) → RepresentsOpened i (Some (with_only_consumer o d))
 opened_shown None o c d one at h = h
 opened_shown (Some v) o c d one at h = seat_shown v o c d one at h
 
@@ -113,7 +113,7 @@ poll_starts v (Some o) r is some h = reading (subst (AssemblesFor v.assembler.be
       frames = [];
       at = c.at;
       reads = record { chain = refl; among = tt };
-      shown = λ d e. record { numbers = ap (λ (x : Receiver). record x { image = Some (with_consumer o d) }) h.core.numbers; image = opened_shown v.core.image o c d one e (subst (RepresentsOpened v.core.image) is h.core.image) };
+      shown = λ d e. record { numbers = ap (λ (x : Receiver). record x { image = Some (with_only_consumer o d) }) h.core.numbers; image = opened_shown v.core.image o c d one e (subst (RepresentsOpened v.core.image) is h.core.image) };
       nothing = λ l. refl;
       short = λ l. tt;
       begun = begun;
@@ -132,14 +132,14 @@ abbrev pub stood : Consumer → ℕ → Consumer
 stood c at = record c { at = at }
 
 abbrev pub now_at : Opened → Receiver → Consumer → ℕ → Receiver
-now_at o r c at = record r { image = Some (with_consumer o (stood c at)) }
+now_at o r c at = record r { image = Some (with_only_consumer o (stood c at)) }
 
-passed_here : (o : Opened) (r : Receiver) (c : Consumer) (at : ℕ) (s : Placed) (w : Core) → PassesOn (with_consumer o (stood c at)) (now_at o r c at) s w → s.at ≡ at
+passed_here : (o : Opened) (r : Receiver) (c : Consumer) (at : ℕ) (s : Placed) (w : Core) → PassesOn (with_only_consumer o (stood c at)) (now_at o r c at) s w → s.at ≡ at
 passed_here o r c at s w h =
     let same : stood c at ≡ h.consumer = same_Some (stood c at) h.consumer h.which in
     h.here ∙ ap (λ (x : Consumer). x.at) (sym same)
 
-pub hears_on : (o : Opened) (r : Receiver) (v w : Subscribing) (h : HasReadOn o r v) → HearsFrame (Some (with_consumer o (stood h.consumer h.at))) (now_at o r h.consumer h.at) v.assembler None w → HasReadOn o r w
+pub hears_on : (o : Opened) (r : Receiver) (v w : Subscribing) (h : HasReadOn o r v) → HearsFrame (Some (with_only_consumer o (stood h.consumer h.at))) (now_at o r h.consumer h.at) v.assembler None w → HasReadOn o r w
 hears_on o r v w h (s, passes, state, message, fits) =
     let c = h.consumer in
     let begun : w.assembler.begun ≡ (heard_of v.assembler.begun s.frame).begun = ap (λ (x : Assembling). x.begun) state in
@@ -169,25 +169,25 @@ record Whole (greatest : ℕ) (o : Opened) (c : Consumer) (answer : Answer) (at 
   begun : after.lost ≡ false → w.assembler.begun ≡ after.assembly.begun
 
 finish : (o : Opened) (r : Receiver) (w : Subscribing) (answer : Answer) (c : Consumer) (frames : List Placed) (at : ℕ) → r.consumers ≡ 1 → o.image.consumers ≡ c ∷ [] → ReadsFrames o.image c frames at
-    → ((d : Consumer) → d.at ≡ at → Represents w.core (record r { image = Some (with_consumer o d) })) → w.assembler.greatest ≡ r.greatest → StopsAt o.image frames answer at → (c.lost ≡ false → Whole r.greatest o c answer at w) → Polled (Some o) r answer w
+    → ((d : Consumer) → d.at ≡ at → Represents w.core (record r { image = Some (with_only_consumer o d) })) → w.assembler.greatest ≡ r.greatest → StopsAt o.image frames answer at → (c.lost ≡ false → Whole r.greatest o c answer at w) → Polled (Some o) r answer w
 finish o r w answer c frames at seats one reads shown most stops whole =
     ⊎_elim
     (λ (lost : c.lost ≡ true).
     let d = passed_all c frames in
     let here : d.at ≡ at = passed_at c frames at reads.chain in (
-      record r { image = Some (with_consumer o d) },
+      record r { image = Some (with_only_consumer o d) },
       (c, d, one, inr (lost, record { frames = frames; reads = subst (ReadsFrames o.image c frames) (sym here) reads; stops = subst (StopsAt o.image frames answer) (sym here) stops; after = refl }), refl),
       record { core = shown d here; one = seats; begun = (d, refl, λ l. absurd (both_ways d.lost l (passed_lost c frames lost))); greatest = most },
     ))
     (λ (kept : c.lost ≡ false).
     let h = whole kept in (
-      record r { image = Some (with_consumer o h.after) },
+      record r { image = Some (with_only_consumer o h.after) },
       (c, h.after, one, inl (kept, h.polls), refl),
       record { core = shown h.after h.here; one = seats; begun = (h.after, refl, h.begun); greatest = most },
     ))
     (cases_Bool c.lost)
 
-pub polls_none : (o : Opened) (r : Receiver) (v : Subscribing) (h : HasReadOn o r v) → r.consumers ≡ 1 → HasNoFrame (Some (with_consumer o (stood h.consumer h.at))) 0 → Polled (Some o) r (Ok None) v
+pub polls_none : (o : Opened) (r : Receiver) (v : Subscribing) (h : HasReadOn o r v) → r.consumers ≡ 1 → HasNoFrame (Some (with_only_consumer o (stood h.consumer h.at))) 0 → Polled (Some o) r (Ok None) v
 polls_none o r v h seats end =
     let c = h.consumer in
     let d = moved_all c h.frames in
@@ -207,7 +207,7 @@ gives_data : (begun : Option (List ℕ)) (f : Frame) (bytes : List ℕ) → (hea
 gives_data begun (Data flags payload) bytes e = refl
 gives_data begun (Pad n) bytes e = absurd (cc)
 
-pub polls_message : (o : Opened) (r : Receiver) (v w : Subscribing) (bytes : List ℕ) (h : HasReadOn o r v) → r.consumers ≡ 1 → HearsFrame (Some (with_consumer o (stood h.consumer h.at))) (now_at o r h.consumer h.at) v.assembler (Some bytes) w → Polled (Some o) r (Ok (Some bytes)) w
+pub polls_message : (o : Opened) (r : Receiver) (v w : Subscribing) (bytes : List ℕ) (h : HasReadOn o r v) → r.consumers ≡ 1 → HearsFrame (Some (with_only_consumer o (stood h.consumer h.at))) (now_at o r h.consumer h.at) v.assembler (Some bytes) w → Polled (Some o) r (Ok (Some bytes)) w
 polls_message o r v w bytes h seats (s, passes, state, message, fits) =
     let c = h.consumer in
     let frames = h.frames ++ s ∷ [] in
@@ -234,7 +234,7 @@ polls_message o r v w bytes h seats (s, passes, state, message, fits) =
 named_with : (g : ℕ) (c : Consumer) (frames : List Placed) (s : Placed) (a : Assembling) (fault : AssemblyError) → a.greatest ≡ g → a.begun ≡ (moved_all c frames).assembly.begun → ((fault ≡ TooLong) ↔ IsTooLong a.greatest a.begun s.frame) → (fault ≡ TooLong) ↔ IsTooLong g (moved_all c frames).assembly.begun s.frame
 named_with g c frames s a fault most begun h = subst (λ n. (fault ≡ TooLong) ↔ IsTooLong n (moved_all c frames).assembly.begun s.frame) most (subst (λ b. (fault ≡ TooLong) ↔ IsTooLong a.greatest b s.frame) begun h)
 
-pub polls_fault : (o : Opened) (r : Receiver) (v w : Subscribing) (fault : AssemblyError) (h : HasReadOn o r v) → r.consumers ≡ 1 → RefusesFrame (Some (with_consumer o (stood h.consumer h.at))) (now_at o r h.consumer h.at) v.assembler fault w → Polled (Some o) r (Err (Unassembled fault)) w
+pub polls_fault : (o : Opened) (r : Receiver) (v w : Subscribing) (fault : AssemblyError) (h : HasReadOn o r v) → r.consumers ≡ 1 → RefusesFrame (Some (with_only_consumer o (stood h.consumer h.at))) (now_at o r h.consumer h.at) v.assembler fault w → Polled (Some o) r (Err (Unassembled fault)) w
 polls_fault o r v w fault h seats (s, passes, state, of_data, named) =
     let c = h.consumer in
     let frames = h.frames ++ s ∷ [] in

@@ -7,7 +7,7 @@ use Rattle.theory.specs.Consumer.{Consumer, least_from, least_of}
 use Rattle.theory.specs.ImageLaws.{AreParted}
 use Rattle.theory.proofs.Lists.{all_at, all_from, all_weaker}
 use Rattle.theory.proofs.Parted.{IsCovered, is_covered}
-use Rattle.rebuilder.specs.Seen.{least}
+use Rattle.image.specs.Seen.{least}
 use Rattle.receiver.specs.Representing.{AreOneWhereMet}
 
 -- ---- the least consumer

@@ -16,12 +16,12 @@ use Rattle.theory.proofs.Lists.{all_at, all_get, all_replicate, all_set, all_wea
 use Rattle.theory.proofs.Held.{among_held, answer_held, held_among, stored_apart, not_stored}
 use Rattle.theory.proofs.Parted.{stored_from}
 use Rattle.theory.proofs.Follow.{chain_units, passed_along, passed_more, chain_span}
-use Rattle.rebuilder.specs.Held.{put}
-use Rattle.rebuilder.specs.Stored.{meant}
-use Rattle.rebuilder.specs.declared.answer.Insert as code
-use Rattle.rebuilder.specs.declared.answer.Insert.TheVariants as answers
-use Rattle.rebuilder.specs.Seen as seen
-use Rattle.rebuilder.specs.Seen.{accepts, least, with_consumer, with_frame}
+use Rattle.image.specs.Held.{put}
+use Rattle.image.specs.Stored.{meant}
+use Rattle.image.specs.declared.answer.Insert as code
+use Rattle.image.specs.declared.answer.Insert.TheVariants as answers
+use Rattle.image.specs.Seen as seen
+use Rattle.image.specs.Seen.{accepts, least, after_move, with_frame}
 use Rattle.receiver.specs.Representing.{AreOneWhereMet, RepresentsImage}
 use Rattle.receiver.specs.Receiving.{Opened, answer_at, given_at}
 use Rattle.theory.proofs.Tables.{map_replicate}
@@ -215,7 +215,7 @@ consumer_of (r ∷ rs) zero l = record { consumer = r; is = refl; here = refl }
 consumer_of (r ∷ rs) (suc k) l = let c = consumer_of rs k (omega arith) in record { consumer = c.consumer; is = c.is; here = c.here }
 
 pub moved_shown : (v : seen.Image) (o : Opened) (k : ℕ) (c d : Consumer) (s : Placed) → RepresentsImage v o → slice_get o.image.consumers k ≡ Some c → Among s o.image.stored → s.at ≡ c.at → d.at ≡ end_of s
-    → RepresentsImage (with_consumer v k d.at) (record o { image = record o.image { consumers = slice_set o.image.consumers k d } })
+    → RepresentsImage (after_move v k d.at) (record o { image = record o.image { consumers = slice_set o.image.consumers k d } })
 moved_shown v o k c d s h is among here past =
     let n : List Consumer = slice_set o.image.consumers k d in
     let m = least v.consumers in

@@ -4,7 +4,7 @@ use Rattle.std.proofs.lemmas.Int.{ints}
 use lib.IntN.{neg_ℤ}
 use Rattle.theory.specs.Position.{Geometry, IsGeometry, count_of, position_of}
 use Rattle.theory.proofs.Places.{power_unit}
-use Rattle.rebuilder.specs.Stored.{IsUnit}
+use Rattle.image.specs.Stored.{IsUnit}
 
 unit_by : (z : ℤ) → ((p : ℕ) → z ≡ pos p → p % 32 ≡ 0) → IsUnit z
 unit_by (pos p) f = f p refl

@@ -1,4 +1,8 @@
 -- What a poll reads of an image, and what it answers.
+-- A poll reads the frames that are there from the consumer's position on, one after the other. It stops behind the
+-- first that completes a message, or behind a DATA frame that the assembler refuses, else at the contiguous end.
+-- Behind a refusal the polls go on, and where they may stop is still said (`StopsAt`), but not which message they
+-- give (`PollsOn`).
 use Rattle.std.specs.Prelude.{◌≡◌, ◌⊎◌, ◌↔◌, ◌<◌, ℕ, ⊤, length, true, false, Option, None, Some, Result, Ok, Err, List, [], ◌∷◌, ◌++◌, map}
 use Rattle.theory.specs.Placed.{AllAmong, Chain, Data, Frame, Pad, Placed, is_padding}
 use Rattle.theory.specs.Units.{IsContiguous}
@@ -106,13 +110,13 @@ PollsImage greatest i c answer d = ((c.lost ≡ false) × PollsWhole greatest i 
 
 -- ---- by a receiver with one consumer
 
-abbrev pub with_consumer : Opened → Consumer → Opened
-with_consumer o d = record o { image = record o.image { consumers = d ∷ [] } }
+abbrev pub with_only_consumer : Opened → Consumer → Opened
+with_only_consumer o d = record o { image = record o.image { consumers = d ∷ [] } }
 
 abbrev pub PollsOf : Option Opened → Receiver → Answer → Receiver → Type 0
 PollsOf None r answer s = (answer ≡ Err NoImage) × (s ≡ r)
 PollsOf (Some o) r answer s =
-    (c : Consumer) × (d : Consumer) × (o.image.consumers ≡ c ∷ []) × PollsImage r.greatest o.image c answer d × (s ≡ record r { image = Some (with_consumer o d) })
+    (c : Consumer) × (d : Consumer) × (o.image.consumers ≡ c ∷ []) × PollsImage r.greatest o.image c answer d × (s ≡ record r { image = Some (with_only_consumer o d) })
 
 abbrev pub Polls : Receiver → Answer → Receiver → Type 0
 Polls r answer s = PollsOf r.image r answer s

@@ -1,4 +1,7 @@
 -- What becomes of a receiver by the frames of a datagram and by a tick.
+-- A receiver's image opens at the position of a SETUP, and a later SETUP changes nothing. The last frame that met no
+-- image is remembered until the next tick, which asks for a SETUP. Frames of another session or stream, NAKs and
+-- status messages pass it by. Of what an image answers only `Stored` changes it.
 use Rattle.std.specs.Prelude.{⊤, ◌≡◌, ◌⊎◌, ℕ, ℤ, pos, negsuc, Bool, List, [], ◌∷◌, ◌++◌, map, Option, None, Some, if◌then◌else◌}
 use Rattle.std.specs.Option.{option_to_list}
 use Rattle.theory.specs.Position.{Geometry}
@@ -14,8 +17,8 @@ use Rattle.theory.specs.Setup.{HasSetupFault, OpensAt}
 use Rattle.theory.specs.Timing.{LastStatus, Scanned, Watch, is_status_due, scan, seen}
 use Rattle.frames.specs.Datagrams.{IsDatagramFault}
 use Rattle.frames.specs.Frames.{nak_of, status_of}
-use Rattle.rebuilder.specs.Stored.{meant}
-use Rattle.rebuilder.specs.declared.answer.Insert.{Insert}
+use Rattle.image.specs.Stored.{meant}
+use Rattle.image.specs.declared.answer.Insert.{Insert}
 use Rattle.setup.specs.Faults.{fault_of}
 use Rattle.setup.specs.declared.fault.SetupError.{SetupError}
 use Rattle.frames.specs.declared.fault.FrameError.{FrameError}

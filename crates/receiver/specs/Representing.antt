@@ -1,4 +1,6 @@
 -- Which receivers the code of a receiver shows: those of its numbers whose image holds what is held from the least consumer on.
+-- A receiver of the definitions has all that its image ever stored; the code's image holds what lies from the least
+-- consumer on. One state of the code shows many receivers, and what a call makes of it is promised for each of them.
 use Rattle.std.specs.Prelude.{◌≡◌, ◌↔◌, ℕ, ◌+◌, ◌^◌, ◌<◌, ◌≤◌, ℤ, ⊤, List, map, length, slice_get, slice_index, slice_set, Option, None, Some}
 use Rattle.std.specs.List.{AllByRecursion}
 use Rattle.std.specs.Option.{ForSome}
@@ -12,10 +14,10 @@ use Rattle.theory.specs.ImageLaws.{held}
 use Rattle.theory.specs.Control.{named_by}
 use Rattle.theory.specs.Timing.{LastStatus, Watch}
 use Rattle.theory.specs.Wire.{Header, IsHeader}
-use Rattle.rebuilder.specs.Kinds.{head_at}
-use Rattle.rebuilder.specs.Seen as seen
-use Rattle.rebuilder.specs.Stored.{meant}
-use Rattle.rebuilder.specs.declared.answer.Insert.{Insert}
+use Rattle.image.specs.Kinds.{head_at}
+use Rattle.image.specs.Seen as seen
+use Rattle.image.specs.Stored.{meant}
+use Rattle.image.specs.declared.answer.Insert.{Insert}
 use Rattle.receiver.specs.declared.receiver_core.LastSent.{LastSent}
 use Rattle.receiver.specs.Receiving.{Opened, Receiver, answer_at, given_at}
 

@@ -8,7 +8,7 @@ use Rattle.assembler.specs.declared.fault.AssemblyError.{AssemblyError}
 use Rattle.assembler.specs.declared.fault.AssemblyError.TheVariants.{TooLong}
 use Rattle.assembler.specs.declared.assembler.Message.{Message}
 use Rattle.receiver.specs.declared.poll_error.PollError.{PollError}
-use Rattle.receiver.specs.Polling.{Answer, IsTooLong, ReadsFrames, StaysShort, gives, moved_all, with_consumer}
+use Rattle.receiver.specs.Polling.{Answer, IsTooLong, ReadsFrames, StaysShort, gives, moved_all, with_only_consumer}
 use Rattle.receiver.specs.Receiving.{Opened, Receiver}
 use Rattle.receiver.specs.Representing.{Core, Represents, with_reader}
 
@@ -73,7 +73,7 @@ pub record HasReadOn (o : Opened) (r : Receiver) (v : Subscribing) : Type 0 wher
   pub frames : List Placed
   pub at : ℕ
   pub reads : ReadsFrames o.image consumer frames at
-  pub shown : (d : Consumer) → d.at ≡ at → Represents v.core (record r { image = Some (with_consumer o d) })
+  pub shown : (d : Consumer) → d.at ≡ at → Represents v.core (record r { image = Some (with_only_consumer o d) })
   pub nothing : consumer.lost ≡ false → gives consumer frames ≡ []
   pub short : consumer.lost ≡ false → StaysShort r.greatest consumer frames
   pub begun : consumer.lost ≡ false → v.assembler.begun ≡ (moved_all consumer frames).assembly.begun

@@ -1,7 +1,19 @@
-//! A receiver's core and its subscriber: datagrams and moments in, outcomes, replies and messages out.
+//! A receiver's core and its subscriber: datagrams and moments in, outcomes, replies (status messages and NAKs) and
+//! messages out. No thread, socket or clock is here.
 //!
-//! The core judges each frame of a datagram, keeps the image that a SETUP opens, asks for a SETUP where it has none, and
-//! says where its consumers stand. No thread, socket or clock is here: a caller hands in bytes and moments.
+//! The core judges each frame of a datagram, keeps the image that a SETUP opens, asks for a SETUP where it has none,
+//! and says where its consumers stand. Whatever receiver its state represents (all frames that its image ever stored,
+//! its consumers and what their assemblers were given), each datagram and each tick make of it what the definitions
+//! say, and the state then represents that (`ReceiverCore::on_datagram`, `tick`, `read_past`). Memory is asked for
+//! twice, for the list of outcomes and for an image that a SETUP opens; where it was refused, nothing changed, not
+//! even the moment that was seen. What a tick sends are frames that can be written.
+//!
+//! A poll reads the frames at the subscriber's position, in order, up to the first message, to a frame that its
+//! assembler refuses, or to the contiguous end (`Subscriber::poll`). A refusal is `A2` exactly where the message
+//! would be longer than the greatest, else `A1`; `NoImage` is answered exactly where no SETUP has opened an image.
+//! From its assembler's first refusal on, which message a poll gives, and where, isn't said. `Subscriber::positions`
+//! gives the least consumer, the contiguous end and the high-water mark of its image, none less than the one before,
+//! if there is an image.
 #![tactic(auto)]
 
 mod opened;
@@ -12,5 +24,5 @@ mod subscriber;
 
 pub use poll_error::PollError;
 pub use positions::Positions;
-pub use receiver_core::{Outcome, ReceiverCore, Replies};
+pub use receiver_core::{Outcome, ReceiverCore, Replies, STATUS_INTERVAL};
 pub use subscriber::Subscriber;

@@ -3,8 +3,8 @@
 ghost use Rattle.std.specs.Prelude.{◌≡◌, ◌≤◌, ◌<◌, ◌+◌, ◌^◌, ◌%◌, [], length, replicate, slice_index, IfNone, IfOk, IfSome, OnSome};
 ghost use Rattle.position.specs.declared.head.FrameKind.TheVariants.{Data};
 ghost use Rattle.position.specs.Gaps.{gap_of};
-ghost use Rattle.rebuilder.specs.Seen.{IsCount, IsJoin};
-ghost use Rattle.rebuilder.specs.Stored.{IsOfStream, IsUnit, stream_frame};
+ghost use Rattle.image.specs.Seen.{IsCount, IsJoin};
+ghost use Rattle.image.specs.Stored.{IsOfStream, IsUnit, stream_frame};
 ghost use Rattle.theory.specs.Control.{named_by};
 ghost use Rattle.theory.specs.Image.{IsWindow};
 ghost use Rattle.theory.specs.Position.{IsGeometry, max_position};
@@ -15,9 +15,8 @@ ghost use Rattle.receiver.specs.Representing.{GoesForward, HearsBeat, Inserts, I
 
 use block::Block;
 use frames::{Frame, Header};
-use loss_detector::first_gap;
+use image::{Image, ImageError, Insert, Steps, first_gap};
 use position::{FrameHead, Gap, Geometry};
-use rebuilder::{Image, ImageError, Insert, Steps};
 use std::alloc::{AllocError, Global};
 
 /// The position that a header names.
@@ -79,6 +78,7 @@ pub fn find_gap(image: &Image) -> Option<Gap>
     ensures first { (o : Opened) → RepresentsImage image.now o → gap_of result ≡ gap_in o }
     ensures low { IfSome result (λ gap. (gap.start ≤ max_position image.now.geometry) × (gap.length < 2 ^ 31)) }
 {
+    // What always holds of it, for the proof.
     image.held_apart();
     let _ = image.geometry();
     let _ = image.rebuilt();
@@ -98,6 +98,7 @@ pub fn read_past(image: &mut Image, consumer: usize, block: &mut Block) -> Optio
     ensures forward { OnSome result (GoesForward (slice_index image.old.consumers consumer) (slice_index image.new.consumers consumer)) }
     ensures payload { IfSome result (λ head. head.kind ≡ Data → (32 ≤ head.frame_length) × (head.frame_length ≤ 65504)) }
 {
+    // What always holds of it, for the proof.
     image.held_apart();
     let _ = image.high_water();
     let _ = image.geometry();

@@ -10,24 +10,23 @@ ghost use Rattle.theory.specs.Position.{max_position};
 ghost use Rattle.theory.specs.Timing as timing;
 ghost use Rattle.theory.specs.Wire.{IsFrame, IsHeader, NAK, SM, SpellsDatagram, Wire};
 ghost use Rattle.frames.specs.Frames.{header_of, nak_of, setup_of, status_of, wire};
-ghost use Rattle.rebuilder.specs.Seen.{IsCount};
-ghost use Rattle.rebuilder.specs.Stored.{IsOfStream, stream_frame};
+ghost use Rattle.image.specs.Seen.{IsCount};
+ghost use Rattle.image.specs.Stored.{IsOfStream, stream_frame};
 ghost use Rattle.receiver.specs.Representing.{last_status_of};
 ghost use Rattle.receiver.specs.Texts.{outcome_text};
 
 use crate::opened::{find_gap, hear, insert, open, read_past};
 use block::Block;
 use frames::{Frame, FrameError, Header, Nak, Setup, Status, check_datagram, known_frame};
-use loss_detector::LossDetector;
+use image::{Image, Insert, LossDetector};
 use position::{FrameHead, Gap, Geometry};
-use rebuilder::{Image, Insert};
 use setup::{SetupError, judge};
 use std::alloc::{AllocError, Global};
 use std::fmt;
 use std::marker::Model;
 
 /// Nanoseconds after which a status message goes out again.
-const STATUS_INTERVAL: u64 = 200_000_000;
+pub const STATUS_INTERVAL: u64 = 200_000_000;
 
 /// What became of one frame of a datagram, or of the datagram.
 #[derive(Clone, Copy, Debug, PartialEq, Eq)]

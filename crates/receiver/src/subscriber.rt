@@ -6,7 +6,7 @@ ghost use Rattle.block.specs.Bytes.{with_front};
 ghost use Rattle.position.specs.declared.head.FrameKind.TheVariants.{Data};
 ghost use Rattle.theory.specs.Placed.{Placed, is_padding, payload_of};
 ghost use Rattle.theory.specs.Wire.{IsFrame};
-ghost use Rattle.rebuilder.specs.Kinds.{head_at};
+ghost use Rattle.image.specs.Kinds.{head_at};
 ghost use Rattle.receiver.specs.Polling.{IsTooLong};
 ghost use Rattle.receiver.specs.Subscribing.{heard_of};
 

@@ -7,17 +7,17 @@ use Rattle.theory.specs.Position.{Geometry}
 use Rattle.theory.specs.Gap.{Gap}
 use Rattle.theory.specs.Resend.{Action, first_resent, is_in_range, range_end, resend_range}
 use Rattle.retransmit.specs.Handler.{is_near, starts_at}
-use Rattle.retransmit.specs.Laws.{IsAskedFor, IsFirstAsked, NearGiveRange, RangeBeginsFirst}
+use Rattle.retransmit.specs.Laws.{IsWanted, IsFirstAsked, NearGiveRange, RangeBeginsFirst}
 use Rattle.retransmit.specs.Spaced.{AreSpaced}
 
-asked_if : (g : Geometry) (s : ℕ) (a : Action) (p : ℕ) → is_in_range g s a p ≡ true → IsAskedFor g s a p
+asked_if : (g : Geometry) (s : ℕ) (a : Action) (p : ℕ) → is_in_range g s a p ≡ true → IsWanted g s a p
 asked_if g s a p t =
     let both = and_parts (nat_le (first_resent g s a.at) p) (nat_lt p (range_end g s a)) t in
     let low : max a.at (s - 3 * g.term_length / 4) ≤ p = leb-true (first_resent g s a.at) p both.0 in
     let high : p < min (min (a.at + a.length) s) (a.at / g.term_length * g.term_length + g.term_length) = ltb-true p (range_end g s a) both.1 in
     record { from = omega arith; near = omega arith; within = omega arith; behind = omega arith; one_term = omega arith }
 
-in_range_if : (g : Geometry) (s : ℕ) (a : Action) (p : ℕ) → IsAskedFor g s a p → is_in_range g s a p ≡ true
+in_range_if : (g : Geometry) (s : ℕ) (a : Action) (p : ℕ) → IsWanted g s a p → is_in_range g s a p ≡ true
 in_range_if g s a p is =
     and_from (nat_le (first_resent g s a.at) p) (nat_lt p (range_end g s a))
     (le-leb (first_resent g s a.at) p (omega (arith, is.from, is.near)))
@@ -63,7 +63,7 @@ pub range_begins_first : RangeBeginsFirst
 range_begins_first g s lower upper starts a h = of (find (is_in_range g s a) starts) (found (is_in_range g s a) lower upper starts h)
   where
     of : (o : Option ℕ) → MatchOption o ((p : ℕ) → starts_at starts p ≡ true → is_in_range g s a p ≡ true → ⊥) (IsFirst (is_in_range g s a) starts)
-        → MatchOption (option_map (λ p. record { start = p; length = range_end g s a - p }) o) ((p : ℕ) → starts_at starts p ≡ true → IsAskedFor g s a p → ⊥) (IsFirstAsked g s starts a)
+        → MatchOption (option_map (λ p. record { start = p; length = range_end g s a - p }) o) ((p : ℕ) → starts_at starts p ≡ true → IsWanted g s a p → ⊥) (IsFirstAsked g s starts a)
     of None none = λ p there asked. none p there (in_range_if g s a p asked)
     of (Some q) is =
         let asked = asked_if g s a q is.passes in

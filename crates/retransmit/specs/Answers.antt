@@ -11,9 +11,9 @@ code_of Full = codes "N3"
 code_of OutOfRange = codes "N4"
 code_of NotAFrameStart = codes "N5"
 
-abbrev pub meaning : NakResult → meant.NakAnswer
-meaning Taken = meant.Taken
-meaning Lingering = meant.Lingering
-meaning Full = meant.Full
-meaning OutOfRange = meant.OutOfRange
-meaning NotAFrameStart = meant.NotAFrameStart
+abbrev pub nak_result : NakResult → meant.NakAnswer
+nak_result Taken = meant.Taken
+nak_result Lingering = meant.Lingering
+nak_result Full = meant.Full
+nak_result OutOfRange = meant.OutOfRange
+nak_result NotAFrameStart = meant.NotAFrameStart

@@ -21,8 +21,8 @@ pub record Handler : Type 0 where
   pub starts : List ℕ
   pub actions : List meant.Action
 
-abbrev pub meaning : Action → meant.Action
-meaning a = record { at = a.at; length = a.length; lingers = a.lingers; until = a.until }
+abbrev pub action_of : Action → meant.Action
+action_of a = record { at = a.at; length = a.length; lingers = a.lingers; until = a.until }
 
 abbrev pub fresh : Geometry → ℕ → Handler
 fresh g start = record { geometry = g; start = start; at = start; clock = 0; starts = []; actions = [] }

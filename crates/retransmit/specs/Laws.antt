@@ -22,7 +22,7 @@ abbrev pub NearGiveRange : Type 0
 NearGiveRange = (g : Geometry) (s : ℕ) (starts : List ℕ) (a : Action) → resend_range g s (filter (is_near g s) starts) a ≡ resend_range g s starts a
 
 -- what starts there is asked for: near enough behind the sender, and in the term in which the asking begins
-pub record IsAskedFor (g : Geometry) (s : ℕ) (a : Action) (p : ℕ) : Type 0 where
+pub record IsWanted (g : Geometry) (s : ℕ) (a : Action) (p : ℕ) : Type 0 where
   pub from : a.at ≤ p
   pub near : s ≤ p + 3 * g.term_length / 4
   pub within : p < a.at + a.length
@@ -32,11 +32,11 @@ pub record IsAskedFor (g : Geometry) (s : ℕ) (a : Action) (p : ℕ) : Type 0 w
 -- it begins at the first start that is asked for, and from there on has each position that is
 pub record IsFirstAsked (g : Geometry) (s : ℕ) (starts : List ℕ) (a : Action) (range : Gap) : Type 0 where
   pub start : starts_at starts range.start ≡ true
-  pub asked : IsAskedFor g s a range.start
-  pub first : (p : ℕ) → starts_at starts p ≡ true → IsAskedFor g s a p → range.start ≤ p
-  pub all : (p : ℕ) → range.start ≤ p → (p < range.start + range.length) ↔ IsAskedFor g s a p
+  pub asked : IsWanted g s a range.start
+  pub first : (p : ℕ) → starts_at starts p ≡ true → IsWanted g s a p → range.start ≤ p
+  pub all : (p : ℕ) → range.start ≤ p → (p < range.start + range.length) ↔ IsWanted g s a p
 
 -- there is no range only where no start is asked for
 abbrev pub RangeBeginsFirst : Type 0
 RangeBeginsFirst = (g : Geometry) (s lower upper : ℕ) (starts : List ℕ) (a : Action) → AreSpaced lower upper starts
-    → MatchOption (resend_range g s starts a) ((p : ℕ) → starts_at starts p ≡ true → IsAskedFor g s a p → ⊥) (IsFirstAsked g s starts a)
+    → MatchOption (resend_range g s starts a) ((p : ℕ) → starts_at starts p ≡ true → IsWanted g s a p → ⊥) (IsFirstAsked g s starts a)

@@ -7,7 +7,7 @@ ghost use Rattle.theory.specs.Timing.{seen};
 ghost use Rattle.theory.specs.Resend.{first_due, first_resent, kept, range_end, resend_range, nak_answer_at, nak_answer_by, answered as answered_by};
 ghost use Rattle.position.specs.Gaps.{gap_of};
 ghost use Rattle.retransmit.specs.Answers as answers;
-ghost use Rattle.retransmit.specs.Handler.{fresh, after_note, after_nak, nak_answer_of, after_due, due_range, starts_at, meaning};
+ghost use Rattle.retransmit.specs.Handler.{fresh, after_note, after_nak, nak_answer_of, after_due, due_range, starts_at, action_of};
 
 use crate::action::Action;
 use crate::actions::{asks_for, first_waiting, forget_until, linger_until};
@@ -38,11 +38,11 @@ pub struct Retransmit {
 impl Model for Retransmit {
     ghost use Rattle.std.specs.Prelude.{map, vec_capacity};
     ghost use Rattle.std.specs.VecDeque.{deque_capacity};
-    ghost use Rattle.retransmit.specs.Handler.{Handler, IsHandler, meaning};
+    ghost use Rattle.retransmit.specs.Handler.{Handler, IsHandler, action_of};
 
     ghost Value = { Handler };
 
-    ghost view = { λ r. record { geometry = r.geometry; start = r.start; at = r.at; clock = r.clock; starts = r.starts.items; actions = map meaning r.actions.items } };
+    ghost view = { λ r. record { geometry = r.geometry; start = r.start; at = r.at; clock = r.clock; starts = r.starts.items; actions = map action_of r.actions.items } };
 
     ghost invariant = { λ r. IsHandler r.geometry r.start r.at r.starts.items (deque_capacity r.starts) r.actions.items (vec_capacity r.actions) };
 }
@@ -95,7 +95,7 @@ impl Retransmit {
     /// Judges a negative acknowledgement of so many bytes from a position on, at a moment in nanoseconds. What was
     /// answered 60 ms ago or before is forgotten first. A moment before one that was seen counts as that one.
     pub fn on_nak(&mut self, now: u64, position: i64, length: i32) -> NakResult
-        ensures answer { answers.meaning result ≡ nak_answer_of self.old now position length }
+        ensures answer { answers.nak_result result ≡ nak_answer_of self.old now position length }
         ensures state { self.new ≡ after_nak self.old now position length }
     {
         self.see(now);
@@ -137,7 +137,7 @@ impl Retransmit {
 
     /// The first answer that applies, by the actions that are kept.
     fn judge(&self, position: i64, length: i32) -> NakResult
-        ensures { answers.meaning result ≡ nak_answer_by self.now.geometry self.now.start self.now.at (starts_at self.now.starts) self.now.actions position length }
+        ensures { answers.nak_result result ≡ nak_answer_by self.now.geometry self.now.start self.now.at (starts_at self.now.starts) self.now.actions position length }
     {
         if length <= 0 || position < 0 {
             return NakResult::OutOfRange;
@@ -146,7 +146,7 @@ impl Retransmit {
     }
 
     fn judge_at(&self, at: u64) -> NakResult
-        ensures { answers.meaning result ≡ nak_answer_at self.now.geometry self.now.start self.now.at (starts_at self.now.starts) self.now.actions at }
+        ensures { answers.nak_result result ≡ nak_answer_at self.now.geometry self.now.start self.now.at (starts_at self.now.starts) self.now.actions at }
     {
         if self.is_outside(at) {
             NakResult::OutOfRange
@@ -200,14 +200,14 @@ impl Retransmit {
 
     /// The action that was taken first of those that aren't answered.
     fn first(&self) -> Option<Action>
-        ensures { option_map meaning result ≡ first_due self.now.actions }
+        ensures { option_map action_of result ≡ first_due self.now.actions }
     {
         first_waiting(&self.actions)
     }
 
     /// From now on the action is answered, and forgotten after a while.
     fn linger(&mut self, answered: Action)
-        ensures { self.new ≡ record self.old { actions = answered_by self.old.clock (meaning answered) self.old.actions } }
+        ensures { self.new ≡ record self.old { actions = answered_by self.old.clock (action_of answered) self.old.actions } }
     {
         linger_until(
             &mut self.actions,
@@ -220,7 +220,7 @@ impl Retransmit {
     /// sender, and in the term of its position.
     fn bounds(&self, action: Action) -> (u64, u64)
         ensures from { result.0 ≡ first_resent self.now.geometry self.now.at action.at }
-        ensures end { result.1 ≡ range_end self.now.geometry self.now.at (meaning action) }
+        ensures end { result.1 ≡ range_end self.now.geometry self.now.at (action_of action) }
     {
         let from = action.at.max(self.at.saturating_sub(self.reach()));
         let term_length = u64::from(self.geometry.term_length());
@@ -231,7 +231,7 @@ impl Retransmit {
 
     /// What an action asks for, from the first frame start in it.
     fn range(&self, action: Action) -> Option<Gap>
-        ensures { gap_of result ≡ resend_range self.now.geometry self.now.at self.now.starts (meaning action) }
+        ensures { gap_of result ≡ resend_range self.now.geometry self.now.at self.now.starts (action_of action) }
     {
         let (from, end) = self.bounds(action);
         let start = first_in(&self.starts, from, end)?;

@@ -1,7 +1,11 @@
-//! What a sender sends again: which negative acknowledgements are taken, and which range is due.
+//! What a sender sends again: which NAKs are taken, and which range is due. It knows where the frames start that can
+//! still be asked for, finds one by halving, and keeps at most sixteen actions; all memory is taken by `new`.
 //!
-//! A handler knows where the frames start that can still be asked for, and keeps at most sixteen actions. All memory is
-//! taken by `new`.
+//! Call by call it is said which NAK is taken, and which of the other four answers comes first
+//! (`Retransmit::on_nak`); what is kept, lingers and is forgotten (`note`); which range is due, from the first frame
+//! start that is asked for, and that there is none only where no such start is (`due`). The laws `range_begins_first`
+//! and `near_starts_suffice`: by the starts that it keeps it answers what all frames that were sent would make it
+//! answer.
 #![tactic(auto)]
 
 ghost use Rattle.retransmit.specs.Laws.{NearAreEnough, NearGiveRange, NearStayNear, RangeBeginsFirst};

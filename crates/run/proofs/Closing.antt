@@ -4,19 +4,17 @@ use Rattle.std.proofs.lemmas.List.Elements.{All-from_recursion}
 use Rattle.std.specs.List.{AllByRecursion}
 use Rattle.theory.specs.Tiling.{Tiles}
 use Rattle.theory.proofs.Lists.{all_append}
-use Rattle.tail_claim.specs.Handles.{PublisherValue, parts_in}
-use Rattle.tail_claim.specs.Sums.{total}
-use Rattle.tail_claim.proofs.Totals.{total_append}
+use Rattle.log_rule.specs.Claims.Handles.{PublisherValue, parts_in}
+use Rattle.log_rule.specs.Claims.Sums.{total}
+use Rattle.log_rule.proofs.Claimed.Totals.{total_append}
 use Rattle.shared_log.specs.Handles.{LogValue}
-use Rattle.log_parts.specs.Books.{AreAll, IsDone, ShowsBook}
-use Rattle.one_hand.specs.declared.book.Book.{Book}
+use Rattle.shared_log.specs.Books.{AreAll, IsDone, ShowsBook}
+use Rattle.shared_log.specs.declared.book.Book.{Book}
 use Rattle.theory.specs.Position.{Geometry}
-use Rattle.run.specs.declared.opening.Opened.{Opened}
-use Rattle.run_starts.specs.declared.scene.Cast.{Cast}
-use Rattle.run_starts.specs.declared.scene.Played.{Played}
-use Rattle.run_starts.specs.declared.scene.Size.{Size}
-use Rattle.run_starts.specs.Threads.{IsPlayed}
-use Rattle.run.specs.Openings.{IsOpened, IsStaged}
+use Rattle.run.specs.declared.passes.Returned.{Returned}
+use Rattle.run.specs.declared.planned_run.Beginning.{Beginning}
+use Rattle.run.specs.Threads.{AreReturned}
+use Rattle.run.specs.Beginnings.{CanClose, IsBeginning}
 use Rattle.run.specs.Outcomes.{IsBook}
 
 -- the same parts one by one are the same in all
@@ -29,26 +27,26 @@ same_total (x ∷ xs) (y ∷ ys) e =
     let t = same_total xs ys (ap (drop 1) e) in
     omega arith
 
--- what threads gave back of a log that was opened
-pub staged : {D : Type 0} → (g : Geometry) (o : Opened) (l : LogValue) (c : Cast D) (size : Size) (p : Played) → IsOpened g o → IsPlayed l c size p → l ≡ o.log → o.publishers ≡ c.publishers → IsStaged l p o.unused.items
-staged g o l c size p is played e s = record {
-  start = ap (λ (x : LogValue). x.start) e ∙ is.log_is.start;
-  publishers = played.publishers;
-  unused_are = subst (λ (x : LogValue). AllByRecursion (IsDone x) o.unused.items) (sym e) is.unused;
-  whole = sums (total parts_in p.publishers.items) (total parts_in c.publishers.items) (total parts_in o.publishers.items) (total parts_in o.unused.items) (same_total p.publishers.items c.publishers.items played.parts) (rw s refl) is.whole;
-  keeper = played.keeper;
-}
+-- what threads gave back of a log that a run began with
+pub can_close : {D : Type 0} → (g : Geometry) (b : Beginning D) (l : LogValue) (wanted : ℕ) (r : Returned) → IsBeginning g b → AreReturned b.state.log b.passes wanted r → l ≡ b.state.log → CanClose l r b.others.items
+can_close g b l wanted r is back e = subst (λ (x : LogValue). CanClose x r b.others.items) (sym e) (record {
+  start = is.log_is.start;
+  publishers = back.publishers;
+  others_are = is.others;
+  whole = sums (total parts_in r.publishers.items) (total parts_in b.passes.publishers.items) (total parts_in b.others.items) (same_total r.publishers.items b.passes.publishers.items back.parts) is.whole;
+  keeper = back.keeper;
+})
   where
-    sums : (a b c u : ℕ) → a ≡ b → b ≡ c → c + u ≡ 1016 → a + u ≡ 1016
-    sums a b c u e f g = omega arith
+    sums : (a b u : ℕ) → a ≡ b → b + u ≡ 1016 → a + u ≡ 1016
+    sums a b u e f = omega arith
 
 -- they are all
-pub all_there : (l : LogValue) (p : Played) (unused all : List PublisherValue) → IsStaged l p unused → all ≡ p.publishers.items ++ unused → AreAll l all p.keeper
-all_there l p unused all is e = subst (λ (xs : List PublisherValue). AreAll l xs p.keeper) (sym e) (record {
-  publishers_are = All-from_recursion (IsDone l) (p.publishers.items ++ unused) (all_append (IsDone l) p.publishers.items unused is.publishers is.unused_are);
+pub all_there : (l : LogValue) (r : Returned) (others all : List PublisherValue) → CanClose l r others → all ≡ r.publishers.items ++ others → AreAll l all r.keeper
+all_there l r others all is e = subst (λ (xs : List PublisherValue). AreAll l xs r.keeper) (sym e) (record {
+  publishers_are = All-from_recursion (IsDone l) (r.publishers.items ++ others) (all_append (IsDone l) r.publishers.items others is.publishers is.others_are);
   keeper_is = is.keeper.done;
   unclaimed = is.keeper.unclaimed;
-  whole = sums (total parts_in (p.publishers.items ++ unused)) (total parts_in p.publishers.items) (total parts_in unused) p.keeper.held.pass.right.parts (total_append parts_in p.publishers.items unused) is.whole is.keeper.parts;
+  whole = sums (total parts_in (r.publishers.items ++ others)) (total parts_in r.publishers.items) (total parts_in others) r.keeper.held.pass.right.parts (total_append parts_in r.publishers.items others) is.whole is.keeper.parts;
 })
   where
     sums : (a b c k : ℕ) → a ≡ b + c → b + c ≡ 1016 → k ≡ 8 → a + k ≡ 1024

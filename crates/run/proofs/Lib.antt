@@ -1,2 +1,1 @@
-pub mod Openers
 pub mod Closing

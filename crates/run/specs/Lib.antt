@@ -1,2 +1,4 @@
 pub mod Outcomes
-pub mod Openings
+pub mod Beginnings
+pub mod Threads
+pub mod Doings

@@ -3,9 +3,9 @@ use Rattle.std.specs.Prelude.{◌≡◌, ◌*◌, ◌^◌, ◌<◌, ◌≤◌, L
 use Rattle.theory.specs.Position.{Geometry}
 use Rattle.theory.specs.Entry.{Entry}
 use Rattle.theory.specs.Tiling.{Tiles}
-use Rattle.one_hand.specs.declared.book.Book.{Book}
-use Rattle.run_options.specs.declared.made.Plan.{Plan}
-use Rattle.run_starts.specs.declared.scene.Size.{Size}
+use Rattle.shared_log.specs.declared.book.Book.{Book}
+use Rattle.options.specs.declared.run.made.Plan.{Plan}
+use Rattle.run.specs.declared.passes.Size.{Size}
 use Rattle.run.specs.declared.outcome.Outcome.{Outcome}
 use Rattle.run.specs.declared.outcome.Ending.{Ending}
 use Rattle.run.specs.declared.outcome.Ending.TheVariants.{Broken, Short, Whole}
@@ -31,7 +31,6 @@ ending_of o = if o.kept then (if nat_lt o.polled o.wanted then Short else Whole)
 pub record SizeOf (plan : Plan) (size : Size) : Type 0 where
   pub messages : size.task.messages ≡ plan.messages
   pub offers : size.task.turns ≡ plan.turns
-  pub turns : size.turns ≡ plan.turns
   pub length : size.task.length ≡ plan.length
   pub wanted : size.wanted ≡ plan.publishers * plan.messages
   pub few : size.wanted < 2 ^ 63

@@ -3,7 +3,7 @@
 ghost use Rattle.std.specs.Prelude.{◌≡◌};
 ghost use Rattle.run.specs.Outcomes.{ending_of};
 
-use one_hand::Book;
+use shared_log::Book;
 
 /// What a run leaves: how many messages were polled, and how many there were to poll; whether each publisher's came in its
 /// order, each once; and the book of the log.

@@ -1,18 +1,9 @@
 -- The devices of a run.
 use Rattle.std.specs.Prelude.{◌≡◌, ◌+◌, ◌%◌, ◌^◌, ℕ}
 use Rattle.theory.specs.Loss.{Rates}
-use Rattle.agents.specs.declared.fault.AgentFault.{AgentFault}
-use Rattle.agents.specs.declared.fault.AgentFault.TheVariants as agents
 use Rattle.endpoint.specs.Devices.{fresh}
 use Rattle.endpoint.specs.Udp.{Udp}
-use Rattle.endpoint.specs.declared.udp.OpenError.{OpenError}
-use Rattle.endpoint.specs.declared.udp.OpenError.TheVariants as opens
-use Rattle.lossy.specs.Losing.{Losing, begun}
-
--- the fault of a device that can't be opened
-abbrev pub of_open : OpenError → AgentFault
-of_open opens.Device = agents.Device
-of_open opens.Memory = agents.Memory
+use Rattle.loss_injector.specs.Losing.{Losing, begun}
 
 -- nothing was sent yet; what goes out is lost at these rates, by words of the seed, and of the other device by those of the
 -- next seed

@@ -1,4 +1,5 @@
 pub mod Devices
 pub mod Passes
 pub mod Receivers
-pub mod Senders
+pub mod RunLogs
+pub mod Tallies

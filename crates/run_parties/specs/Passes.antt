@@ -1,9 +1,9 @@
 -- What the threads of a run give back.
 use Rattle.std.specs.Prelude.{◌≡◌, []}
-use Rattle.tail_claim.specs.Handles.{PublisherValue}
+use Rattle.log_rule.specs.Claims.Handles.{PublisherValue}
 use Rattle.shared_log.specs.Handles.{LogValue}
-use Rattle.log_keeping.specs.Keepers.{KeeperValue}
-use Rattle.log_parts.specs.Books.{IsDone}
+use Rattle.shared_log.specs.Keepers.{KeeperValue}
+use Rattle.shared_log.specs.Books.{IsDone}
 
 -- a publisher that has published: it is one of the log with nothing open, and has its number and its parts
 pub record Ends (l : LogValue) (p q : PublisherValue) : Type 0 where

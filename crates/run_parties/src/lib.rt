@@ -1,19 +1,41 @@
-//! What each thread of a run of the driver does, turn by turn: a publisher, the sender, the receiver, the subscriber and the
-//! conductor, over what they share (`Stage`).
+//! What each thread of a run of the driver does, turn by turn: a publisher, the sender, the receiver, the subscriber
+//! and the conductor, over what they share (`RunState`) and are lent (`Context`); and a tally of what was polled.
+//!
+//! A run begins with a log of its session and stream that begins at 0, and all its passes (`open_run_log`, by
+//! `IsNewRunLog`), with a receiver that has met nothing, its window half a term, and counters at zero
+//! (`receiver_parts`, by `AreReceiverParts`), and with two devices that lose by words of two seeds (`device_pair`, by
+//! `AreLossy`). Each thread gives its pass of
+//! the log back as it got it, with nothing open (`Ends`, `IsKept`); cycles, polls and counters keep what their crates
+//! ask for, and each message is offered at its length of the plan (`publish`, `subscribe`, `steer`; `send`,
+//! `receive`).
+//!
+//! A tally of messages tells how many they are, and whether each publisher's are its 0, 1, 2 and so on
+//! (`Tally::take`, `polled`, `is_in_order`; `IsTallyOf`, `AreInOrder`); the subscriber's counts no more than was
+//! wanted. What the threads tell one another by what they share isn't said, nor that one gets on.
 #![tactic(auto)]
 
+mod conductor_turns;
+mod context;
+mod devices;
 mod gate;
-mod opening;
-mod publishing;
-mod receiving;
-mod sending;
-mod stage;
-mod steering;
+mod publisher_turns;
+mod receiver_turns;
+mod run_log;
+mod run_state;
+mod sender_turns;
+mod shared_receiver;
+mod subscriber_turns;
+mod tally;
 
+pub use conductor_turns::steer;
+pub use context::Context;
+pub use devices::device_pair;
 pub use gate::{Gate, Open, Role};
-pub use opening::{device_pair, new_subscriber};
-pub use publishing::{Task, publish};
-pub use receiving::{receive, subscribe};
-pub use sending::{SESSION, STREAM, send};
-pub use stage::{Done, Stage};
-pub use steering::steer;
+pub use publisher_turns::{Task, publish};
+pub use receiver_turns::receive;
+pub use run_log::{RunLog, open_run_log};
+pub use run_state::{Done, RunState};
+pub use sender_turns::send;
+pub use shared_receiver::{ReceiverParts, SharedReceiver, receiver_parts};
+pub use subscriber_turns::subscribe;
+pub use tally::{PUBLISHERS, Tally};

@@ -1,8 +1,8 @@
 //! Each party goes on while another is held.
 
-use agents::AgentFault;
+use endpoint::DeviceError;
+use options::{Plan, RunOptions, defaults, plan};
 use run::{Ending, Gate, Outcome, Role, run};
-use run_options::{Plan, RunOptions, defaults, plan};
 use std::alloc::Global;
 use std::net::Net;
 use std::sync::Wait;
@@ -72,7 +72,7 @@ fn run_held<R: Threads + Wait + Clock + Net + Sync>(
     plan: &Plan,
     held: Role,
     awaited: Role,
-) -> Result<Option<Outcome>, AgentFault> {
+) -> Result<Option<Outcome>, DeviceError> {
     let gate = Hold {
         held,
         awaited,

@@ -4,7 +4,7 @@ use Rattle.std.specs.Prelude.{bytes_eq, codes, nat_lt}
 use Rattle.std.proofs.lemmas.Bool.{cond-true, ltb-true, lt-ltb}
 use Rattle.script.specs.Meaning.{CommandContent, Connect, Disconnect, Close, Limit, Offer, OfferSize, Claim, Commit, Abort, Read, Send, Deliver, Raw, Tick, Reply, RawBack, Poll, Image}
 use Rattle.script.specs.Pieces.{words}
-use Rattle.decimals.specs.Decimals.{◌>>=◌}
+use Rattle.text.specs.Decimals.{◌>>=◌}
 use Rattle.script.specs.Values.{hex_of}
 use Rattle.script.specs.Reading.{word_at, number_at, most_wide, end_of, whole, last_number, last_bytes, named_of, raw_of, raw_back_of, offer_hex_of, offer_size_of, form_of, offer_of, send_of, deliver_of, reply_of, bare_of, party_alone_of, party_and_number_of, left_of, of_party, numbered_of, plain_of, command_of}
 use Rattle.script.specs.Language.{IsPartyNumber, IsWide, IsHex, SayCommand, Says}

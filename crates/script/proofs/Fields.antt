@@ -2,7 +2,7 @@
 use Rattle.std.proofs.Common.{◌≡◌, ℕ, ℤ, true, List, [], ◌∷◌, Some, refl, ap, subst, ◌∙◌}
 use Rattle.std.specs.Prelude.{bytes_eq}
 use Rattle.std.proofs.lemmas.Slice.Eq.{bytes_eq-Decides}
-use Rattle.decimals.specs.Decimals.{◌>>=◌, number_of, signed_of}
+use Rattle.text.specs.Decimals.{◌>>=◌, number_of, signed_of}
 use Rattle.script.specs.Reading.{word_at, number_at, signed_at, end_of, whole}
 use Rattle.script.specs.Language.{IsUpTo, IsSigned}
 use Rattle.script.proofs.Options.{bind_some, some_bind}

@@ -3,7 +3,7 @@ use Rattle.std.proofs.Common.{◌≡◌, ℕ, ◌-◌, ◌^◌, true, false, con
 use Rattle.std.specs.Prelude.{bytes_eq, codes}
 use Rattle.script.specs.Meaning.{Opening}
 use Rattle.script.specs.Pieces.{words}
-use Rattle.decimals.specs.Decimals.{◌>>=◌}
+use Rattle.text.specs.Decimals.{◌>>=◌}
 use Rattle.script.specs.Reading.{ShapeContent, word_at, number_at, signed_at, most_wide, shape_at, opening_of, log_of, is_log, is_log_name}
 use Rattle.script.specs.Language.{AreLogWords, IsUpTo, IsSigned, IsWide, SayLog, SaysOpening, BeginsLog}
 use Rattle.script.proofs.Options.{bind_some, some_bind, guarded_step}

@@ -1,6 +1,6 @@
 -- Steps that may lack a value, taken apart.
 use Rattle.std.proofs.Common.{◌≡◌, Bool, true, false, cond, ◌⊎◌, inl, inr, Option, Some, None, refl, ap}
-use Rattle.decimals.specs.Decimals.{◌>>=◌}
+use Rattle.text.specs.Decimals.{◌>>=◌}
 
 pub either : {A : Type 0} (found : Option A) → (found ≡ None) ⊎ ((x : A) × (found ≡ Some x))
 either None = inl refl

@@ -11,11 +11,11 @@ use Rattle.std.proofs.lemmas.Option.{cond_some}
 use Rattle.hex.specs.Hex.{decode_of}
 use Rattle.hex.specs.declared.error.FromHexError.{FromHexError}
 use Rattle.hex.proofs.HexLemmas.{decode_of-ok}
-use Rattle.decimals.specs.Decimals.{◌>>=◌, is_number, number_of, signed_of}
+use Rattle.text.specs.Decimals.{◌>>=◌, is_number, number_of, signed_of}
 use Rattle.script.specs.Values.{read_bytes, hex_of}
 use Rattle.script.specs.Language.{IsUpTo, IsSigned, SpellsBytes, IsHex}
 use Rattle.script.proofs.Options.{bind_some, some_bind, chosen}
-use Rattle.decimals.proofs.Digits.{a_number}
+use Rattle.text.proofs.Digits.{a_number}
 
 pub number_found : (most : ℕ) (word : List ℕ) (n : ℕ) → number_of most word ≡ Some n → IsUpTo most word n
 unfolding number_of

@@ -5,7 +5,7 @@ use Rattle.script.specs.declared.fault.ScriptFault.{ScriptFault}
 use Rattle.script.specs.declared.fault.ScriptFault.TheVariants as faults
 use Rattle.script.specs.Meaning.{Opening, CommandContent, ScriptContent, Connect, Disconnect, Close, Limit, Offer, OfferSize, Claim, Commit, Abort, Read, Send, Deliver, Raw, Tick, Reply, RawBack, Poll, Image}
 use Rattle.script.specs.Pieces.{lines, words}
-use Rattle.decimals.specs.Decimals.{◌>>=◌, number_of, signed_of}
+use Rattle.text.specs.Decimals.{◌>>=◌, number_of, signed_of}
 use Rattle.script.specs.Values.{hex_of}
 
 -- What was returned, seen by `view`, is what reading gives.

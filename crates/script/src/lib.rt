@@ -3,6 +3,10 @@
 //! A script is a text of lines, each ended by a line feed, which the last may lack. The words of a line are parted by
 //! single spaces. A line without any byte does nothing. The first line that isn't empty opens the log, and each later
 //! one that isn't empty is a command.
+//!
+//! A script that is read says line by line what its bytes say. A fault names the line that is at fault; want of
+//! memory is the only other answer, and only for a text with a `log` line (`read_script`; the fault's text:
+//! `ScriptFault`). Bytes are read from hexadecimal exactly where the digits spell them.
 #![tactic(auto)]
 
 mod command;

@@ -7,8 +7,8 @@ use crate::command::{Command, LogLine, PartyNumber};
 use crate::fault::ScriptFault;
 use crate::pieces::Words;
 use crate::values::message_bytes;
-use decimals::{number, signed};
 use std::alloc::Global;
+use text::{number, signed};
 
 /// The number that the first word spells, if it is at most `most`, and the words after it.
 #[tactic(auto, unfolding(crate::specs::Reading::number_at))]

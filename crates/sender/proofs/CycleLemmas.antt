@@ -18,7 +18,7 @@ use Rattle.setup.specs.Naming.{after_due as named_after, is_due}
 use Rattle.sender.specs.Cycling.{Cycle, GivesAgain, GivesNew, alone, datagrams, heartbeats, is_heard, is_silent, sent_wires, setups}
 use Rattle.sender.specs.Giving.{SendsAgain, SendsNew, with_all}
 use Rattle.outbox.specs.Outgoing.{Outgoing, with_datagram}
-use Rattle.sender.specs.Sending.{Cycles, ReadsTo, Sending, SendsFrom, cycled, noted}
+use Rattle.sender.specs.Sending.{Cycles, ReadsTo, Sending, SendsFrom, cycled, all_noted}
 
 -- ---- what is told
 
@@ -29,7 +29,7 @@ setup_given o p v i j a b c e f same at there =
     ∙ ap (λ (x : Wire). with_datagram o (spelling x)) (f ∙ ap (λ (x : Identity). setup_at x a) same ∙ ap (λ (x : ℕ). setup_at j x) (at ∙ there))
     ∙ ap (λ (x : List ℕ). with_datagram o x) (sym (append-nil (spelling (setup_at j c))))
 
-pub noted_geometry : (h : Handler) (ss : List Placed) → (noted h ss).geometry ≡ h.geometry
+pub noted_geometry : (h : Handler) (ss : List Placed) → (all_noted h ss).geometry ≡ h.geometry
 noted_geometry h [] = refl
 noted_geometry h (s ∷ ss) = noted_geometry (after_note h s.at (end_of s)) ss
 

@@ -7,7 +7,7 @@ use Rattle.theory.specs.Control.{heartbeat_at, setup_at}
 use Rattle.theory.proofs.Rows.{frame_of, identity, pad_of, the_geometry}
 use Rattle.retransmit.specs.Handler.{fresh}
 use Rattle.sender.specs.Cycling.{Cycle, is_heard, sent_wires}
-use Rattle.sender.specs.Sending.{Sending, is_beat_due, noted}
+use Rattle.sender.specs.Sending.{Sending, is_beat_due, all_noted}
 
 -- a sender that sent something last at 7
 abbrev sender : ℕ → Bool → Sending ℕ ℕ
@@ -35,5 +35,5 @@ goes_out : sent_wires identity 64 96 (cycle true ((frame_of 64 32 ∷ []) ∷ []
 goes_out = refl
 
 -- frames can be asked for again until the sender is more than three quarters of a term further
-starts : ((noted (fresh the_geometry 0) (frame_of 0 64 ∷ frame_of 64 32 ∷ [])).starts ∷ (noted (fresh the_geometry 0) (frame_of 0 64 ∷ frame_of 64 32 ∷ pad_of 96 49088 ∷ [])).starts ∷ []) ≡ ((0 ∷ 64 ∷ []) ∷ (64 ∷ 96 ∷ []) ∷ [])
+starts : ((all_noted (fresh the_geometry 0) (frame_of 0 64 ∷ frame_of 64 32 ∷ [])).starts ∷ (all_noted (fresh the_geometry 0) (frame_of 0 64 ∷ frame_of 64 32 ∷ pad_of 96 49088 ∷ [])).starts ∷ []) ≡ ((0 ∷ 64 ∷ []) ∷ (64 ∷ 96 ∷ []) ∷ [])
 starts = refl

@@ -17,7 +17,7 @@ use Rattle.sender.specs.Cycling.{AreRead, GivesNew, datagrams}
 use Rattle.sender.specs.Giving.{FrameGoes, FrameStays, IsBarred, SendsNew, with_all}
 use Rattle.outbox.specs.Outgoing.{Outgoing}
 use Rattle.sender.specs.Packed.{HasPacked, Packs, Puts, placed_in}
-use Rattle.sender.specs.Sending.{AreThere, ReadsTo, noted}
+use Rattle.sender.specs.Sending.{AreThere, ReadsTo, all_noted}
 use Rattle.sender.specs.declared.packing.Packing.{Packing}
 use Rattle.sender.proofs.StartLemmas.{there_after_note, there_in_more}
 
@@ -44,7 +44,7 @@ pub chain_push : (j q : ℕ) (ss : List Placed) (s : Placed) → Chain j q ss �
 chain_push j q [] s h e = (e ∙ h, refl)
 chain_push j q (t ∷ ts) s h e = (h.0, chain_push (end_of t) q ts s h.1 e)
 
-noted_push : (h : Handler) (ss : List Placed) (s : Placed) → noted h (ss ++ s ∷ []) ≡ after_note (noted h ss) s.at (end_of s)
+noted_push : (h : Handler) (ss : List Placed) (s : Placed) → all_noted h (ss ++ s ∷ []) ≡ after_note (all_noted h ss) s.at (end_of s)
 noted_push h [] s = refl
 noted_push h (t ∷ ts) s = noted_push (after_note h t.at (end_of t)) ts s
 
@@ -77,7 +77,7 @@ pub record Sent (grown : List Placed → List Placed → Type 0) (i : Identity) 
   pub frames : List Placed
   pub read : AreRead new.frames h.at k.at frames
   pub allowed : AllByRecursion (MayBeSent limit) frames
-  pub handler : k ≡ noted h frames
+  pub handler : k ≡ all_noted h frames
   pub reads : ReadsTo grown old k.at new
   pub packs : Packs i 16 o.datagrams p n frames
   pub there : AreThere new.frames k
@@ -165,7 +165,7 @@ sent_all grown i limit old h o mid k p n new k' p' n' on keeps size unit s g =
     record {
       fresh = grouped i.geometry s.frames;
       gives = gives_new grown i limit old h o mid k p n new more s g.stops;
-      handler = g.handler ∙ s.handler ∙ ap (noted h) (sym (grouped_is i.geometry s.frames));
+      handler = g.handler ∙ s.handler ∙ ap (all_noted h) (sym (grouped_is i.geometry s.frames));
       reads = subst (λ (to : ℕ). ReadsTo grown old to new) stood (reads_on grown old k.at mid k.at new on s.reads g.reads);
       out = g.out ∙ packed_out i 16 p o n s.frames size s.packs;
       few = few i o p n s.frames s.packs;

@@ -11,7 +11,7 @@ use Rattle.retransmit.specs.Handler.{Handler, after_note}
 use Rattle.sender.specs.Cycling.{GivesAgain, GivesNew, datagrams}
 use Rattle.outbox.specs.Outgoing.{Outgoing}
 use Rattle.sender.specs.Packed.{HasPacked, Puts}
-use Rattle.sender.specs.Sending.{AreThere, LeadsOn, ReadsTo, noted}
+use Rattle.sender.specs.Sending.{AreThere, LeadsOn, ReadsTo, all_noted}
 use Rattle.sender.specs.declared.packing.Packing.{Packing}
 
 -- these datagrams stand behind those that it held
@@ -19,7 +19,7 @@ abbrev pub with_all : Outgoing → List (List Wire) → Outgoing
 with_all o sent = record o { datagrams = o.datagrams ++ datagrams sent }
 
 -- one more datagram of the stream's frames has room
-pub record HasRoom (i : Identity) (o : Outgoing) : Type 0 where
+pub record HasSpace (i : Identity) (o : Outgoing) : Type 0 where
   pub size : o.mtu ≡ i.geometry.mtu
   pub space : length o.datagrams < 32
 
@@ -79,7 +79,7 @@ pub record CanSend (i : Identity) (s : Source) (h : Handler) (block : List ℕ) 
 pub record SendsNew (grown : List Placed → List Placed → Type 0) (i : Identity) (limit : ℕ) (old : Source) (h : Handler) (o : Outgoing) (new : Source) (k : Handler) (n : Outgoing) : Type 0 where
   pub fresh : List (List Placed)
   pub gives : GivesNew i.geometry new.frames h.at limit fresh
-  pub handler : k ≡ noted h (frames_of fresh)
+  pub handler : k ≡ all_noted h (frames_of fresh)
   pub reads : ReadsTo grown old k.at new
   pub out : n ≡ with_all o (map (wires i) fresh)
   pub few : length fresh ≤ 16

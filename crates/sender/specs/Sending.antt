@@ -8,7 +8,7 @@ use Rattle.theory.specs.Bytes.{Identity}
 use Rattle.theory.specs.Datagrams.{frames_of}
 use Rattle.theory.specs.Timing.{is_heartbeat_due, seen}
 use Rattle.frame_source.specs.Sources.{Source}
-use Rattle.retransmit.specs.Answers.{meaning}
+use Rattle.retransmit.specs.Answers.{nak_result}
 use Rattle.retransmit.specs.Handler.{Handler, after_due, after_nak, after_note, due_range, fresh, nak_answer_of}
 use Rattle.retransmit.specs.declared.answer.NakResult.{NakResult}
 use Rattle.setup.specs.Naming.{Naming, after_due as named_after, is_due}
@@ -81,12 +81,12 @@ pub record GoesOn {R F : Type 0} (s t : Sending R F) (source : Source) : Type 0 
 -- ---- a tick
 
 -- the frames were sent, one after the other
-abbrev pub noted : Handler → List Placed → Handler
-noted h [] = h
-noted h (s ∷ ss) = noted (after_note h s.at (end_of s)) ss
+abbrev pub all_noted : Handler → List Placed → Handler
+all_noted h [] = h
+all_noted h (s ∷ ss) = all_noted (after_note h s.at (end_of s)) ss
 
 abbrev pub after_fresh : {R F : Type 0} → Sending R F → Cycle → Handler
-after_fresh s y = noted s.handler (frames_of y.fresh)
+after_fresh s y = all_noted s.handler (frames_of y.fresh)
 
 -- where it sends nothing else, and a status message has come, and a tenth of a second has passed
 abbrev pub is_beat_due : {R F : Type 0} → Sending R F → Cycle → Bool
@@ -139,7 +139,7 @@ abbrev pub HearsNews : {R F : Type 0} → (F → ℤ → ℤ → ℤ → ℕ →
 HearsNews after_status reached s (Says f) answer t sent = (t ≡ told after_status s f) × (answer ≡ answers.Status (pos (reached t.flow))) × (sent ≡ [])
 HearsNews after_status reached s AsksSetup answer t sent = (t ≡ s) × (answer ≡ answers.Asked) × (sent ≡ datagrams (alone (setups s.identity s.handler.at true)))
 HearsNews after_status reached s (Misses f) answer t sent =
-    (n : NakResult) × (answer ≡ answers.Missed n) × (meaning n ≡ nak_answer_of s.handler s.clock (position_of s.identity.geometry f.term_id f.term_offset) f.length) × (t ≡ asked s f) × (sent ≡ [])
+    (n : NakResult) × (answer ≡ answers.Missed n) × (nak_result n ≡ nak_answer_of s.handler s.clock (position_of s.identity.geometry f.term_id f.term_offset) f.length) × (t ≡ asked s f) × (sent ≡ [])
 HearsNews after_status reached s TellsNothing answer t sent = (t ≡ s) × (answer ≡ answers.Other) × (sent ≡ [])
 HearsNews after_status reached s (Unreadable fault) answer t sent = (t ≡ s) × (answer ≡ answers.Refused fault) × (sent ≡ [])
 

@@ -3,16 +3,15 @@
 ghost use Rattle.std.specs.Prelude.{◌≡◌, length, Some};
 ghost use Rattle.sender.specs.Giving.{CanSendAgain, SendsAgain};
 
-use crate::identity::Identity;
 use crate::packing::Packing;
 use crate::stream_frame::frame_end;
 use block::Block;
 use frame_source::FrameSource;
 use outbox::Outbox;
-use position::Gap;
+use position::{Gap, Identity};
 
 /// How many datagrams go out again in a cycle at the most.
-const DATAGRAMS: usize = 15;
+const RESENT_DATAGRAMS: usize = 15;
 
 /// Gives out the frames that start in the range, up to the first that has no place in 15 datagrams.
 pub fn send_again<L, R: FrameSource<L>>(
@@ -31,7 +30,7 @@ pub fn send_again<L, R: FrameSource<L>>(
     ensures leaves { R.leaves reads.old log.old reads.new log.new }
     ensures same_length { length block.new ≡ length block.old }
 {
-    let mut packing = Packing::new(DATAGRAMS);
+    let mut packing = Packing::new(RESENT_DATAGRAMS);
     let mut at = range.start;
     while at - range.start < range.length {
         let head = reads.reread(log, at, block);

@@ -3,16 +3,16 @@
 ghost use Rattle.std.specs.Prelude.{◌≡◌, length};
 ghost use Rattle.sender.specs.Giving.{CanSend, CanSendNext, SendsNew, SendsNext};
 
-use crate::identity::Identity;
 use crate::packing::Packing;
 use crate::stream_frame::sent_to;
 use block::Block;
 use frame_source::FrameSource;
 use outbox::Outbox;
+use position::Identity;
 use retransmit::Retransmit;
 
 /// How many datagrams of new frames go out in a cycle at the most.
-const DATAGRAMS: usize = 16;
+const NEW_DATAGRAMS: usize = 16;
 
 /// Gives out the frames from the reader's position on, up to the first that isn't committed, ends above the limit, or has
 /// no place in 16 datagrams, and notes them.
@@ -32,7 +32,7 @@ pub fn send_fresh<L, R: FrameSource<L>>(
     ensures leaves { R.leaves reads.old log.old reads.new log.new }
     ensures same_length { length block.new ≡ length block.old }
 {
-    let mut packing = Packing::new(DATAGRAMS);
+    let mut packing = Packing::new(NEW_DATAGRAMS);
     while send_next(
         reads,
         log,

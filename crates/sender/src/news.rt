@@ -5,8 +5,9 @@ ghost use Rattle.frames.specs.Frames.{wire, asks_of, nak_of, status_of};
 ghost use Rattle.sender.specs.Cycling.{IsNews};
 ghost use Rattle.sender.specs.FirstNews.{FirstTells, news_of};
 
-use crate::identity::Identity;
+use crate::identity::is_own;
 use frames::{Frame, FrameError, Nak, Status, check_datagram, read_frame};
+use position::Identity;
 
 /// What a sender takes from a datagram.
 #[derive(Clone, Copy, Debug)]
@@ -49,7 +50,7 @@ fn first_news(frame: &Frame<'_>, identity: &Identity) -> News
 fn status_news(asks: bool, status: &Status, identity: &Identity) -> News
     ensures { FirstTells identity.now (SM (asks_of asks) (status_of status.now)) (news_of result) }
 {
-    if !identity.is_own(status.session, status.stream) {
+    if !is_own(identity, status.session, status.stream) {
         return News::TellsNothing;
     }
     if asks {
@@ -62,7 +63,7 @@ fn status_news(asks: bool, status: &Status, identity: &Identity) -> News
 fn nak_news(nak: &Nak, identity: &Identity) -> News
     ensures { FirstTells identity.now (NAK (nak_of nak.now)) (news_of result) }
 {
-    if identity.is_own(nak.session, nak.stream) {
+    if is_own(identity, nak.session, nak.stream) {
         News::Misses(*nak)
     } else {
         News::TellsNothing

@@ -4,11 +4,10 @@ ghost use Rattle.std.specs.Prelude.{◌≡◌, ◌≤◌, ◌↔◌, IsTrue, fal
 ghost use Rattle.position.specs.Heads.{IsStreamFrame};
 ghost use Rattle.sender.specs.Packed.{HasPacked, MayJoin, Puts, placed_in};
 
-use crate::identity::Identity;
 use crate::stream_frame::{frame_of, is_data, wire_size};
 use block::Block;
 use outbox::Outbox;
-use position::FrameHead;
+use position::{FrameHead, Identity};
 
 /// Puts frames into datagrams, up to a number of them.
 #[derive(Drop)]

@@ -5,23 +5,23 @@ ghost use Rattle.std.specs.Option.{option_to_list};
 ghost use Rattle.theory.specs.Position.{max_position, position_of};
 ghost use Rattle.theory.specs.Timing.{is_heartbeat_due};
 ghost use Rattle.frames.specs.Frames.{nak_of, status_of};
-ghost use Rattle.retransmit.specs.Answers.{meaning};
+ghost use Rattle.retransmit.specs.Answers.{nak_result};
 ghost use Rattle.retransmit.specs.Handler.{after_due as after_answer, due_range, nak_answer_of};
 ghost use Rattle.setup.specs.Naming.{after_due, is_due};
 ghost use Rattle.sender.specs.Cycling.{alone, heartbeats, setups};
-ghost use Rattle.sender.specs.Giving.{HasRoom, SendsAgain, SendsNew, with_all};
+ghost use Rattle.sender.specs.Giving.{HasSpace, SendsAgain, SendsNew, with_all};
 ghost use Rattle.sender.specs.Texts.{answer_text};
 
 use crate::again::send_again;
 use crate::fresh::send_fresh;
-use crate::identity::Identity;
+use crate::identity::{heartbeat_frame, setup_frame};
 use crate::news::{News, read_news};
 use block::Block;
 use flow_control::FlowControl;
 use frame_source::FrameSource;
 use frames::{FrameError, Nak, Status};
 use outbox::Outbox;
-use position::Geometry;
+use position::{Geometry, Identity};
 use retransmit::{NakResult, Retransmit};
 use setup::SenderSetup;
 use std::alloc::Global;
@@ -236,7 +236,7 @@ impl<R, F: FlowControl + Drop> SenderCore<R, F> {
 
     /// Gives out a SETUP, if it is due.
     fn name_stream(&mut self, outbox: &mut Outbox)
-        requires room { HasRoom self.old.identity outbox.old }
+        requires room { HasSpace self.old.identity outbox.old }
         ensures state { self.new ≡ record self.old { naming = after_due self.old.naming self.old.clock } }
         ensures out { outbox.new ≡ with_all outbox.old (alone (setups self.old.identity self.old.handler.at (is_due self.old.naming self.old.clock))) }
     {
@@ -304,7 +304,7 @@ impl<R, F: FlowControl + Drop> SenderCore<R, F> {
         ensures { outbox.new ≡ with_all outbox.old (alone (heartbeats self.now.identity self.now.handler.at (nat_eq (length outbox.old.datagrams) 0 && is_heartbeat_due (option_to_list self.now.last) self.now.naming.heard self.now.clock))) }
     {
         if outbox.len() == 0 && self.is_silent_long() {
-            outbox.push(&self.identity.heartbeat_frame(self.handler.position()));
+            outbox.push(&heartbeat_frame(&self.identity, self.handler.position()));
         }
     }
 
@@ -354,7 +354,7 @@ impl<R, F: FlowControl + Drop> SenderCore<R, F> {
     /// Takes a negative acknowledgement.
     fn on_nak(&mut self, nak: &Nak) -> SenderAnswer
         ensures state { self.new ≡ asked self.old (nak_of nak.now) }
-        ensures answer { (n : NakResult) × (result ≡ SenderAnswer.Missed n) × (meaning n ≡ nak_answer_of self.old.handler self.old.clock (position_of self.old.identity.geometry nak.now.term_id nak.now.term_offset) nak.now.length) }
+        ensures answer { (n : NakResult) × (result ≡ SenderAnswer.Missed n) × (nak_result n ≡ nak_answer_of self.old.handler self.old.clock (position_of self.old.identity.geometry nak.now.term_id nak.now.term_offset) nak.now.length) }
     {
         let geometry = self.identity.geometry();
         let position = geometry.position(nak.term_id, nak.term_offset);
@@ -363,10 +363,10 @@ impl<R, F: FlowControl + Drop> SenderCore<R, F> {
 
     /// Gives out the SETUP of its position.
     fn give_setup(&self, outbox: &mut Outbox)
-        requires room { HasRoom self.now.identity outbox.old }
+        requires room { HasSpace self.now.identity outbox.old }
         ensures { outbox.new ≡ with_all outbox.old (alone (setups self.now.identity self.now.handler.at true)) }
     {
         let position = self.handler.position();
-        outbox.push(&self.identity.setup_frame(position));
+        outbox.push(&setup_frame(&self.identity, position));
     }
 }

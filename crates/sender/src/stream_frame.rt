@@ -11,16 +11,17 @@ ghost use Rattle.position.specs.Heads.{IsStreamFrame, head_of};
 ghost use Rattle.frames.specs.Frames.{wire};
 ghost use Rattle.sender.specs.Packed.{placed_in, size_in};
 
-use crate::identity::Identity;
+use crate::identity::header;
 use block::Block;
 use frames::Frame;
-use position::{FrameHead, FrameKind, align32};
+use position::{FrameHead, FrameKind, Identity, align32};
 
 /// Where a frame ends.
 pub fn frame_end(identity: &Identity, head: &FrameHead) -> u64
     requires { IsStreamFrame identity.now.geometry head.now }
     ensures { result ≡ head.now.start + aligned head.now.frame_length }
 {
+    // What always holds of it, for the proof.
     let _geometry = identity.geometry();
     head.start + u64::from(align32(head.frame_length))
 }
@@ -30,6 +31,7 @@ pub fn sent_to(identity: &Identity, head: &FrameHead) -> u64
     requires { IsStreamFrame identity.now.geometry head.now }
     ensures { (at : ℕ) → (frame : Framed) → head.now ≡ head_of at frame → result ≡ sent_end (record { at = at; frame = frame }) frame }
 {
+    // What always holds of it, for the proof.
     let _geometry = identity.geometry();
     match head.kind {
         FrameKind::Pad => head.start + 32,
@@ -83,7 +85,7 @@ fn padding(identity: &Identity, head: &FrameHead) -> Frame<'static>
     ensures short { length (spelling (wire result)) ≤ identity.now.geometry.mtu }
 {
     Frame::Pad {
-        header: identity.header(head),
+        header: header(identity, head),
         frame_length: head.frame_length,
     }
 }
@@ -99,7 +101,7 @@ fn data_frame<'a>(identity: &Identity, head: &FrameHead, payload: &'a [u8]) -> F
     ensures short { length (spelling (wire result)) ≤ identity.now.geometry.mtu }
 {
     Frame::Data {
-        header: identity.header(head),
+        header: header(identity, head),
         flags: head.flags,
         payload,
     }

@@ -2,7 +2,7 @@
 use Rattle.std.proofs.Common.{◌≡◌, ℕ, ◌+◌, ◌-◌, ◌/◌, ◌%◌, ap, ◌∙◌, arith}
 use Rattle.std.proofs.Math.Nat.{mod-add-mod}
 use Rattle.theory.specs.Position.{Geometry}
-use Rattle.tail_claim.specs.Packs.{data_place, ring_of, slot}
+use Rattle.log_rule.specs.Claims.Packs.{data_place, ring_of, slot}
 
 -- behind a word of the stream stands the next
 pub behind_is : (g : Geometry) (place next position : ℕ) → place ≡ slot g position → next ≡ (place - data_place + 1) % ring_of g → next + data_place ≡ slot g (position + 8)

@@ -1,1 +1,13 @@
 mod Behind
+pub mod Looking
+pub mod Copying
+pub mod Finding
+pub mod Sourced
+pub mod Told
+mod Steps
+mod Sweeping
+mod Limits
+mod Dealt
+mod Shares
+mod Gathered
+mod Together

@@ -3,11 +3,13 @@ use Rattle.std.specs.Prelude.{◌≡◌, ℕ, suc, ◌≤◌, List, [], ◌∷�
 use Rattle.atomic_table.specs.Seated.{TableId}
 use Rattle.theory.specs.Position.{IsGeometry}
 use Rattle.theory.specs.Bytes.{Identity}
-use Rattle.tail_claim.specs.Packs.{table_length}
-use Rattle.tail_claim.specs.Handles.{PublisherValue}
-use Rattle.tail_claim.specs.Sure.{fresh_controls}
-use Rattle.tail_claim.specs.Plays.{newcomer}
+use Rattle.log_rule.specs.Claims.Packs.{table_length}
+use Rattle.log_rule.specs.Claims.Handles.{PublisherValue}
+use Rattle.log_rule.specs.Claims.Sure.{fresh_controls}
+use Rattle.log_rule.specs.Claims.Plays.{newcomer}
+use Rattle.publication.specs.declared.pass.Pass.{Pass}
 use Rattle.log_rule.specs.declared.rule.Key.{Key}
+use Rattle.log_rule.specs.Shares.{claimed_bytes}
 use Rattle.log_rule.specs.Table.{whole_pass}
 
 -- which table it is, the stream that it carries, where that begins, and how many consumers it has
@@ -32,6 +34,12 @@ pub record IsOf (l : LogValue) (p : PublisherValue) : Type 0 where
   pub table : p.of ≡ l.table
   pub identity : p.pass.identity ≡ l.identity
   pub start : p.pass.start ≡ l.start
+
+-- the pass has a publisher's parts of the right, this number, and claims that cover so many bytes
+pub record IsPublishing (v : Pass) (number share : ℕ) : Type 0 where
+  pub parts : 120 ≤ v.right.parts
+  pub number_is : number ≡ v.number
+  pub share_is : share ≡ claimed_bytes v
 
 -- the publishers of a log that was just opened, from this number on
 pub record IsNew (l : LogValue) (number : ℕ) (p : PublisherValue) : Type 0 where

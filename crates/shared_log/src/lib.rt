@@ -1,13 +1,49 @@
-//! A log that threads share without a lock.
+//! The log that threads share without a lock: a table of words, with eight publishers, its readers and its keeper,
+//! each by a pass of its own. Its type holds it to the rule of `log_rule`. No call waits, and none takes memory but
+//! `open`.
 //!
-//! Between any two word steps, in any schedule, its words and what its passes know obey `log_rule`'s rule.
+//! A log opens unconnected, its limit and its consumers at the start, or for three causes of refusal in order
+//! (`open`, `Log::open_whole`, `LogError`). A publisher's word calls are those of `publication` (`OnLog`); it knows
+//! how many bytes its claims cover (`Publisher::share`). Two publishers that meet come back as they were, their
+//! claims apart, none above the answer: the greatest position that the three raw tails show, each loaded in that call
+//! (`meet`). One that retires leaves all that it claimed to another (`retire`). Closed with all its passes, a log's
+//! `Book` has each publisher's share, and the entries of all tile the stream from the start to its tail (`close`).
+//!
+//! A reader: `next` gives the committed frame where it stands, and none only where no frame begins that the reader
+//! knows; `advance` goes to its end; `reread` gives a frame again that it knows, up to three quarters of a term
+//! below; after `learn` it knows all that a publisher has committed. Whoever has every part of the log finds what its
+//! own pass committed, and nothing else. A reader is a source of frames for a sender (`LogFrames`). For one that was
+//! told nothing, a `next` that never looks meets its contract.
+//!
+//! The keeper (`clean_and_limit`) reads each consumer's position once, cleans up to a term below the least, and
+//! raises the limit to half a term above that where the log is connected and not closed, never lower; the flags are
+//! set as asked, closing for good (`set_connected`, `set_closed`). All of it exactly, and in so many word steps.
+//!
+//! Who has several roles in one pass, as `Log::open_whole` gives it, acts in one after the other: a publisher becomes a
+//! reader or the keeper (`into_reader`, `into_keeper`), and a publisher again (`into_publisher`), with the same pass.
 #![tactic(auto)]
 
-mod calls;
+mod book;
+mod closing;
+mod fault;
+mod keeper;
 mod log;
-mod numbering;
 mod opening;
+mod parts;
 mod peek;
+mod publisher;
+mod reader;
+mod roles;
 
-pub use calls::OnLog;
+pub use book::{Book, PUBLISHERS};
+pub use closing::close;
+pub use fault::LogError;
+pub use keeper::{Keeper, clean_and_limit, set_closed, set_connected};
 pub use log::{Log, Publisher};
+pub use parts::{Parts, open};
+pub use publisher::calls::OnLog;
+pub use publisher::meeting::meet;
+pub use publisher::retiring::retire;
+pub use reader::learning::learn;
+pub use reader::source::LogFrames;
+pub use reader::{LogReader, advance, next, reread};

@@ -3,29 +3,28 @@
 ghost use Rattle.std.specs.Prelude.{◌≡◌, ℕ, ◌+◌, ◌-◌, ◌*◌, ◌/◌, ◌%◌, ◌^◌, ◌<◌, ◌≤◌, suc, min, [], ◌∷◌};
 ghost use Rattle.theory.specs.Position.{id_of, max_message};
 ghost use Rattle.theory.specs.Words.{id_before, id_in, offset_in, tail_word};
-ghost use Rattle.word_calls.specs.declared.step.WordStep.TheVariants as steps;
-ghost use Rattle.word_calls.specs.Frames.{Completes};
-ghost use Rattle.word_calls.specs.Steps.{Adds, Advances, Arms, Commits, Counts, HasWord, Nexts, Rotates, Sees, Stores, addition, tail_exchange, tail_step};
-ghost use Rattle.tail_claim.specs.Packs.{data_place, ring_of, slot, table_length, tail_place};
-ghost use Rattle.tail_claim.specs.Handles.{Stepped};
-ghost use Rattle.log_rule.specs.Shares.{share_of};
+ghost use Rattle.publication.specs.declared.step.WordStep.TheVariants as steps;
+ghost use Rattle.publication.specs.Frames.{CompletesFrame};
+ghost use Rattle.publication.specs.Steps.{Adds, Arms, Commits, Counts, ExchangesCount, HasWord, Nexts, Rotates, Sees, Stores, addition, tail_exchange, tail_step};
+ghost use Rattle.log_rule.specs.Claims.Packs.{data_place, ring_of, slot, table_length, tail_place};
+ghost use Rattle.log_rule.specs.Claims.Handles.{Stepped};
+ghost use Rattle.log_rule.specs.Shares.{claimed_bytes};
 ghost use Rattle.shared_log.specs.Handles.{IsOf};
 
 use atomic_table::{Seat, Table};
-use log_rule::{Add, Key, LogRule};
-use position::Geometry;
+use log_rule::{
+    Add, Arm, COUNT, Chosen, Commit, Count, DATA, ExchangeCount, Key, LogRule, Next, Ring, Rotate,
+    See, Store, View, packed, place_of,
+};
+use position::{Geometry, Identity};
+use publication::term_offset;
 use std::alloc::Global;
 use std::marker::Model;
-use tail_claim::{
-    Advance, Arm, COUNT, Chosen, Commit, Count, DATA, Next, Ring, Rotate, See, Store, View, packed,
-    place_of,
-};
-use word_calls::{Identity, term_offset};
 
 /// A log that threads share without a lock: its words stand in a table.
 #[derive(Drop)]
 pub struct Log {
-    pub table: Table<(), View, Key, LogRule, Global>,
+    pub(crate) table: Table<(), View, Key, LogRule, Global>,
     pub(crate) identity: Identity,
     pub(crate) start: u64,
     pub(crate) consumers: u64,
@@ -44,22 +43,22 @@ impl Model for Log {
 /// A publisher of a log.
 #[derive(Drop)]
 pub struct Publisher {
-    pub seat: Seat<(), View>,
-    pub number: u64,
+    pub(crate) seat: Seat<(), View>,
+    pub(crate) number: u64,
     /// How many bytes its claims cover.
-    pub share: u64,
+    pub(crate) share: u64,
 }
 
 impl Model for Publisher {
     ghost use Rattle.std.specs.Prelude.{◌≡◌, ◌≤◌, []};
-    ghost use Rattle.tail_claim.specs.Handles.{PublisherValue};
-    ghost use Rattle.log_rule.specs.Shares.{share_of};
+    ghost use Rattle.log_rule.specs.Claims.Handles.{PublisherValue};
+    ghost use Rattle.log_rule.specs.Shares.{claimed_bytes};
 
     ghost Value = { PublisherValue };
 
     ghost view = { λ p. record { of = p.seat.table_id; seat = p.seat.id; pass = p.seat.me.0.pass; steps = p.seat.me.0.steps; controls = p.seat.me.0.controls; sure = p.seat.me.0.sure } };
 
-    ghost invariant = { λ p. (p.seat.me.1 ≡ []) × (120 ≤ p.seat.me.0.pass.right.parts) × (p.number ≡ p.seat.me.0.pass.number) × (p.share ≡ share_of p.seat.me.0.pass) };
+    ghost invariant = { λ p. (p.seat.me.1 ≡ []) × (120 ≤ p.seat.me.0.pass.right.parts) × (p.number ≡ p.seat.me.0.pass.number) × (p.share ≡ claimed_bytes p.seat.me.0.pass) };
 }
 
 impl Publisher {
@@ -72,7 +71,7 @@ impl Publisher {
 
     /// How many bytes its claims cover.
     pub fn share(&self) -> u64
-        ensures { result ≡ share_of self.now.pass }
+        ensures { result ≡ claimed_bytes self.now.pass }
     {
         self.share
     }
@@ -230,16 +229,16 @@ impl Log {
 
     /// Exchanges the active count from this one to the next.
     #[inline(always)]
-    pub(crate) fn advance(&self, publisher: &mut Publisher, count: u32) -> u32
+    pub(crate) fn exchange_count(&self, publisher: &mut Publisher, count: u32) -> u32
         requires fits { IsOf self.now publisher.old }
         requires begun { publisher.old.pass.seen.begun ≡ count + 1 }
         requires last { count < 2 ^ 31 - 1 }
         ensures stepped { Stepped (steps.CountExchange count result ∷ []) publisher.old publisher.new }
-        ensures told { Advances publisher.old.pass count result publisher.new.pass }
+        ensures told { ExchangesCount publisher.old.pass count result publisher.new.pass }
     {
         let words = &self.table.shared;
         let from = u64::from(count);
-        words.compare_exchange::<Advance>(&mut publisher.seat, COUNT, from, from + 1) as u32
+        words.compare_exchange::<ExchangeCount>(&mut publisher.seat, COUNT, from, from + 1) as u32
     }
 
     /// Stores a word of an open frame that isn't its first.
@@ -275,7 +274,7 @@ impl Log {
     )
         requires fits { IsOf self.now publisher.old }
         requires ring { ring.old ≡ ring_of self.now.identity.geometry }
-        requires completes { Completes publisher.old.pass start word }
+        requires completes { CompletesFrame publisher.old.pass start word }
         requires word { 0 < word }
         requires chosen { N.number ≡ start }
         ensures stepped { Stepped [] publisher.old publisher.new }

@@ -2,19 +2,17 @@
 
 ghost use Rattle.std.specs.Prelude.{◌≡◌, ◌%◌, ◌<◌, ◌≤◌, ◌↔◌, [], ◌∷◌, IfOk, IsErrOf, length};
 ghost use Rattle.theory.specs.Position.{IsGeometry, max_position};
-ghost use Rattle.one_hand.specs.Openings.{IsConsumerCount, IsStart};
+ghost use Rattle.position.specs.Openings.{IsConsumerCount, IsStart};
 ghost use Rattle.log_rule.specs.Opening.{Begun};
 ghost use Rattle.log_rule.specs.Table.{LogRuled, whole_seat};
 ghost use Rattle.shared_log.specs.Handles.{IsLogOf, IsWholeNew};
 
+use crate::fault::LogError;
 use crate::log::{Log, Publisher};
 use atomic_table::Table;
-use log_rule::Key;
-use one_hand::LogError;
-use position::Geometry;
+use log_rule::{CONSUMERS, Key, LINE, Origin, first_words};
+use position::{Geometry, Identity};
 use std::alloc::{AllocError, Global};
-use tail_claim::{CONSUMERS, LINE, first_words};
-use word_calls::Identity;
 
 /// The limit and this many consumers stand at a start.
 fn begin(words: &mut Vec<u64>, start: u64, consumers: u64)
@@ -36,7 +34,7 @@ fn words_of(alloc: Global, key: &Key) -> Result<Vec<u64>, AllocError>
     requires count { IsConsumerCount key.now.consumers }
     ensures { IfOk result (λ words. LogRuled key.now (record { words = words.items; homes = []; views = whole_seat key.now ∷ [] })) }
 {
-    let carried = tail_claim::Key {
+    let carried = Origin {
         identity: key.identity,
         start: key.start,
     };

@@ -1,7 +1,7 @@
 ghost use Rattle.std.specs.Prelude.{◌*◌, ◌/◌, ◌+◌, ◌<◌};
 
 use crate::log::Log;
-use tail_claim::{DATA, LINE};
+use log_rule::{DATA, LINE};
 
 impl Log {
     /// A word of the log, for tests: the words of the three terms, the limit with its flags, the active count, the three

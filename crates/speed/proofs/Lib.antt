@@ -1,0 +1,5 @@
+pub mod Messages
+pub mod Lanes
+pub mod Books
+pub mod Followers
+pub mod Limits

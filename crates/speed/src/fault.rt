@@ -1,7 +1,7 @@
 ghost use Rattle.std.specs.Prelude.{◌≡◌, alloc_error};
 ghost use Rattle.speed.specs.declared.fault.SpeedError.TheVariants.{Memory};
 
-use one_hand::LogError;
+use shared_log::LogError;
 use std::alloc::{AllocError, AllocFailed};
 use thiserror::Error;
 

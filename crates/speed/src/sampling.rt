@@ -5,10 +5,12 @@ ghost use Rattle.std.specs.Duration.{as_nanos};
 ghost use Rattle.speed.specs.Figures.{AreByTurns, AreFigures, ByTurns, IsMedian};
 
 use crate::fault::SpeedError;
+use crate::rounds::round::play_round;
+use crate::rounds::storing::stores;
+use crate::rounds::streaming::play_stream;
 use crate::samples::{All, Samples, no_samples};
 use crate::sorting::median;
 use position::Geometry;
-use rounds::{play_round, play_stream, stores};
 use std::alloc::{AllocError, Global};
 use std::thread::Threads;
 use std::time::{Clock, Duration};

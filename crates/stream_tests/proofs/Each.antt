@@ -1,11 +1,11 @@
 -- The readers of a log that was just opened are its own.
 use Rattle.std.proofs.Common.{◌≡◌, ℕ, suc, ◌+◌, ◌<◌, List, [], ◌∷◌, length, arith}
 use Rattle.std.specs.List.{AllByRecursion}
-use Rattle.log_reading.specs.Readers.{IsReaderOf, ReaderValue}
-use Rattle.log_keeping.specs.Keepers.{KeeperValue}
-use Rattle.log_parts.specs.Parts.{AreDealt, AreReaders}
+use Rattle.shared_log.specs.Readers.{IsReaderOf, ReaderValue}
+use Rattle.shared_log.specs.Keepers.{KeeperValue}
+use Rattle.shared_log.specs.Parts.{AreDealt, AreReaders}
 use Rattle.shared_log.specs.Handles.{LogValue}
-use Rattle.tail_claim.specs.Handles.{PublisherValue}
+use Rattle.log_rule.specs.Claims.Handles.{PublisherValue}
 
 readers_from : (l : LogValue) (n : ℕ) (rs : List ReaderValue) → AreReaders l n rs → n + length rs ≡ l.consumers → AllByRecursion (IsReaderOf l) rs
 readers_from l n [] are all = tt

@@ -1,7 +1,7 @@
 -- The threads' parts of a log.
 use Rattle.std.specs.Prelude.{◌≤◌, length}
 use Rattle.shared_log.specs.Handles.{IsOf, LogValue}
-use Rattle.log_reading.specs.Readers.{IsReaderOf}
+use Rattle.shared_log.specs.Readers.{IsReaderOf}
 use Rattle.stream_tests.specs.declared.parties.Party.{Party}
 use Rattle.stream_tests.specs.declared.parties.Party.TheVariants.{Keeping, Publishing, Reading}
 

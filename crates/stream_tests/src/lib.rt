@@ -1,10 +1,19 @@
-//! A test of a log that threads share, over many terms.
+//! Tests of a log that threads share, over many terms: publishers, readers and the keeper in threads of their own;
+//! and a publisher that stalls between two of its steps while terms turn.
 #![tactic(auto)]
 
+mod crew;
+mod library;
 #[cfg(test)]
 mod opening;
 mod parties;
 #[cfg(test)]
+mod stalled;
+#[cfg(test)]
+mod stalls;
+#[cfg(test)]
 mod streams;
 
+pub use crew::Crew;
+pub use library::pass_on;
 pub use parties::Party;

@@ -2,18 +2,15 @@
 
 ghost use Rattle.std.specs.Prelude.{IfOk, OnOk};
 ghost use Rattle.std.specs.List.{AllByRecursion};
-ghost use Rattle.log_reading.specs.Readers.{IsReaderOf};
+ghost use Rattle.shared_log.specs.Readers.{IsReaderOf};
 ghost use Rattle.shared_log.specs.Handles.{AreNew, IsOf};
 ghost use Rattle.stream_tests.specs.Parties.{IsParty};
 
 use crate::parties::Party;
 use crate::streams::PUBLISHERS;
 use block::Block;
-use log_keeping::{Keeper, set_connected};
-use log_parts::{Parts, open};
-use log_reading::LogReader;
 use position::Geometry;
-use shared_log::{Log, Publisher};
+use shared_log::{Keeper, Log, LogReader, Parts, Publisher, open, set_connected};
 use std::alloc::{AllocError, Global};
 use std::test::Fail;
 

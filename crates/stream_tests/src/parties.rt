@@ -1,9 +1,7 @@
 //! What the threads of these tests have.
 
 use block::Block;
-use log_keeping::Keeper;
-use log_reading::LogReader;
-use shared_log::Publisher;
+use shared_log::{Keeper, LogReader, Publisher};
 
 /// Who has a thread.
 #[derive(Drop)]

@@ -3,22 +3,20 @@
 ghost use Rattle.std.specs.Prelude.{◌≤◌, length};
 ghost use Rattle.theory.specs.Position.{max_message};
 ghost use Rattle.shared_log.specs.Handles.{IsOf};
-ghost use Rattle.log_reading.specs.Readers.{IsReaderOf};
+ghost use Rattle.shared_log.specs.Readers.{IsReaderOf};
 ghost use Rattle.stream_tests.specs.Parties.{IsParty};
 
 use crate::opening::open_streams;
 use crate::parties::Party;
 use block::Block;
-use log_keeping::{Keeper, clean_and_limit};
-use log_reading::{LogReader, advance, next};
 use position::FrameKind;
-use shared_log::{Log, OnLog, Publisher};
+use publication::{Refusal, offer};
+use shared_log::{Keeper, Log, LogReader, OnLog, Publisher, advance, clean_and_limit, next};
 use std::process::Abort;
 use std::sync::atomic::{AtomicU64, Ordering};
 use std::test::*;
 use std::thread;
 use std::thread::Threads;
-use word_calls::{Refusal, offer};
 
 /// How many publishers there are, and how many messages each has.
 pub(crate) const PUBLISHERS: usize = 4;

@@ -1,4 +1,6 @@
 -- Messages put together from the frames of a stream, one frame after the other.
+-- A single-frame message is given at once. A begin drops what was begun; a middle and an end add to what is begun, or
+-- are dropped where nothing is; an end gives the message.
 use Rattle.std.specs.Prelude.{ℕ, List, [], ◌∷◌, ◌++◌, nat_eq, if◌then◌else◌, Option, None, Some}
 use Rattle.std.specs.Option.{option_to_list}
 use Rattle.theory.specs.Wire.{front}

@@ -1,4 +1,5 @@
 -- The bytes of committed frames, and the byte at a position.
+-- Where no committed frame covers a position it is `Undefined`; inside a padding, behind its header, it is `Empty`.
 use Rattle.std.specs.Prelude.{ℕ, ◌-◌, ℤ, pos, Bool, ◌&&◌, List, [], ◌∷◌, nat_le, nat_lt, if◌then◌else◌, slice_get, Option, None, Some, FitsSigned}
 use Rattle.std.specs.Int.{w32}
 use Rattle.theory.specs.Position.{Geometry, id_of, place_of}

@@ -1,4 +1,7 @@
 -- A consumer of a log or an image, and its assembler.
+-- A consumer reads a log or an image frame by frame. Its assembler has missed a frame where memory was refused to it,
+-- where the message was too long, or where there is no assembler; from then on it counts as lost, and `heard_to`
+-- stays where it is.
 use Rattle.std.specs.Prelude.{◌≡◌, ℕ, Bool, true, false, List, [], ◌∷◌, min}
 use Rattle.theory.specs.Placed.{Among, Placed, end_of}
 use Rattle.theory.specs.Assembly.{Assembly, after, nothing_heard}

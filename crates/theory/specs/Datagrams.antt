@@ -1,4 +1,6 @@
 -- Which frames a datagram takes, and which of them a cycle sends.
+-- Frames go one after the other into a datagram, as long as they are of one term and their sum stays within the MTU.
+-- A padding counts with its header alone, and ends its datagram.
 use Rattle.std.specs.Prelude.{map, ℕ, ◌+◌, ◌/◌, ◌≤◌, Bool, true, not, ◌&&◌, List, [], ◌∷◌, ◌++◌, take, nat_eq, nat_le, if◌then◌else◌}
 use Rattle.std.specs.List.{list_any, flat_map}
 use Rattle.theory.specs.Position.{Geometry}

@@ -1,4 +1,7 @@
 -- How far a sender may send to a group of receivers.
+-- The group is fixed, and receivers outside it don't count. Once all were heard, each status message of the group and
+-- each tick raises the limit to the least of the live receivers' best sums of position and window, if that is more
+-- than before. A receiver is live for 5 s after its last such message.
 use Rattle.std.specs.Prelude.{ℕ, zero, suc, ◌+◌, Bool, true, false, ◌&&◌, min, max, nat_eq, nat_le, List, [], ◌∷◌, if◌then◌else◌, ℤ, pos, ◌+ℤ◌, Option, None, Some, negsuc, nat_lt}
 use Rattle.std.specs.List.{list_any}
 use Rattle.theory.specs.FlowLimit.{Said, clipped}

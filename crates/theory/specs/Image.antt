@@ -1,4 +1,6 @@
 -- An image, and what may happen to it.
+-- An image changes by frames that it stores, by heartbeats, and by consumers that move. A heartbeat above the
+-- high-water mark, and at most three quarters of a term above the least consumer, raises the mark and stores no unit.
 use Rattle.std.specs.Prelude.{◌≡◌, ℕ, ◌+◌, ◌*◌, ◌/◌, ◌%◌, ◌≤◌, Bool, false, ◌&&◌, List, [], ◌∷◌, map, min, max, nat_le, nat_lt, if◌then◌else◌, replicate, Some, slice_get, slice_set, ℤ, pos, negsuc}
 use Rattle.std.specs.List.{AllByRecursion}
 use Rattle.theory.specs.Position.{Geometry, max_position}

@@ -1,4 +1,8 @@
 -- Terms, positions and lengths, as arithmetic on whole numbers.
+-- A term has a count, from 0, and an id: the first term's id plus the count, wrapping at 32 bits. A stream has 2^31
+-- terms at the most; the end of the last is the greatest position, which belongs to that term, with the term's length
+-- as its offset. What a message covers is said twice, by its frames (`cuts_of`, `span`) and by a formula
+-- (`framed_length`).
 use Rattle.std.specs.Prelude.{◌≡◌, ℕ, ◌+◌, ◌-◌, ◌*◌, ◌/◌, ◌%◌, ◌^◌, ◌≤◌, ℤ, pos, ◌+ℤ◌, ◌*ℤ◌, List, [], ◌∷◌, ◌++◌, replicate, nat_eq, nat_le, if◌then◌else◌, min, FitsSigned}
 use Rattle.std.specs.Int.{w32, int_wrapping_add, int_wrapping_sub, IsPowerOfTwo}
 

@@ -1,4 +1,8 @@
 -- What a publisher has to have seen for a refusal.
+-- A refusal is justified by the words that the same call loaded or added to, not by the log. Each but `Closed` needs
+-- a limit word that isn't closed. Where the active term is used up, where its partition has another term by then, or
+-- where the addition passed its end, an offer is to be tried again (`AdminAction`); in the last term no offer fits
+-- any more (`MaxPositionExceeded`).
 use Rattle.std.specs.Prelude.{◌≡◌, ℕ, ◌+◌, ◌-◌, ◌*◌, ◌/◌, ◌%◌, ◌^◌, ◌<◌, ◌≤◌, ◌⊎◌, Bool, true, false, nat_eq, List, ◌∷◌, ◌++◌, pos}
 use Rattle.theory.specs.Position.{Geometry, count_of, id_of}
 use Rattle.theory.specs.Placed.{Among}

@@ -1,4 +1,7 @@
 -- What is asked for again, and what is sent again.
+-- A NAK that is taken is due at once. It is answered by the frames that start in its range, as far as these are no
+-- more than three quarters of a term behind the sender, below where it stands, and in the NAK's term. Once answered
+-- it lingers for 60 ms and is then forgotten. At most sixteen are kept.
 use Rattle.std.specs.Prelude.{◌≡◌, ◌<◌, ◌≤◌, ℕ, ◌+◌, ◌-◌, ◌*◌, ◌/◌, Bool, true, false, not, ◌&&◌, ◌||◌, List, [], ◌∷◌, length, min, max, nat_eq, nat_le, nat_lt, if◌then◌else◌, ℤ, pos, negsuc, Option, None, Some, map}
 use Rattle.std.specs.List.{list_any, find, filter, AllByRecursion}
 use Rattle.std.specs.Option.{option_map}

@@ -1,4 +1,7 @@
 -- Frames and datagrams as bytes: what a frame is, and its one spelling.
+-- A padding is 32 bytes on the wire, whatever the length that it names. A datagram has DATA frames and behind them at
+-- most one padding, or a single frame of any other kind; nothing stands before, between or behind its frames. Which
+-- fault of some bytes comes first isn't said here: that stands beside the error type of who reads them.
 use Rattle.std.specs.Prelude.{◌≡◌, ℕ, ◌+◌, ◌-◌, ◌%◌, ◌<◌, ◌≤◌, ◌⊎◌, ⊤, ℤ, List, [], ◌∷◌, ◌++◌, length, replicate, FitsSigned}
 use Rattle.std.specs.Int.{w16, w32, w64, cast_unsigned, to_le_bytes}
 use Rattle.std.specs.List.{flat_map, AllByRecursion}

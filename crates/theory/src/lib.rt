@@ -1,8 +1,17 @@
-//! What the words of the driver's contracts mean: definitions and their laws, no code.
+//! What the words of the driver's contracts mean: definitions of terms, positions, frames, claims, images, flow
+//! limits, resends and moments, and the laws that hold of them; no code.
 //!
-//! A log's entries and words, frames and their bytes, an image and its consumers, what a sender and a receiver tell each
-//! other, and moments. Each function here stands for laws on these definitions; it does nothing, and its contract is the
-//! law. What happens to a log, a sender and images in a run stands in `model`. `docs/DEFINITIONS.md` reads both aloud.
+//! Each function stands for a law; it does nothing, and its contract is the law. A term id and an offset name their
+//! position (`names_place`). A message's frames cover its framed length (`frames_cover_message`). A spelling is of
+//! one frame, and a datagram of one list of frames (`one_spelling`). The three raw tails of a log that opens show its
+//! start (`fresh_words`). An assembler gives a message exactly where a frame completes one (`whole_messages`).
+//! Whatever an image is given, the frames that it holds are apart, and its high-water mark is the greatest of its
+//! sources (`held_apart`); those below every consumer may be forgotten (`forgets_below`). The flow limit is the
+//! greatest sum, and a group's is within it (`limit_is_greatest`). A NAK is taken exactly where it is to be
+//! (`takes_exactly`). A sender's SETUP opens an image, and a SETUP has one fault at the most (`setup_opens`).
+//!
+//! What happens to a log, a sender and images in a run stands in `model`. `docs/DEFINITIONS.md` gives the picture of
+//! both.
 #![tactic(auto)]
 
 ghost use Rattle.theory.specs.Completion.{GivesWhole};

@@ -6,9 +6,9 @@ use Rattle.std.proofs.lemmas.List.{map-append}
 use Rattle.theory.specs.Bytes.{Identity}
 use Rattle.receiver.specs.Receiving.{Receiver, listening}
 use Rattle.receiver.specs.Representing.{Core, Represents}
-use Rattle.script_run.specs.ScriptState.{listening_at, numbers}
-use Rattle.simulated.specs.Simulated.{AllShow}
-use Rattle.script_run.proofs.Numbers.{number_at}
+use Rattle.script_meaning.specs.ScriptState.{listening_at, numbers}
+use Rattle.simulation.specs.Simulated.{AllShow}
+use Rattle.script_meaning.proofs.Numbers.{number_at}
 use Rattle.receiver.specs.Subscribing.{RepresentsSubscriber, Subscribing}
 
 snoc_shows : (vs : List Subscribing) (rs : List Receiver) (v : Subscribing) (r : Receiver) → AllShow vs rs → RepresentsSubscriber v r → AllShow (vs ++ v ∷ []) (rs ++ r ∷ [])

@@ -9,24 +9,24 @@ use Rattle.theory.specs.Bytes.{Identity, IsIdentity}
 use Rattle.theory.specs.Consumer.{consumer_at}
 use Rattle.theory.specs.Position.{Geometry, IsGeometry, max_position}
 use Rattle.theory.specs.Tiling.{share_of}
-use Rattle.one_hand.specs.declared.fault.LogError.TheVariants.{Start}
+use Rattle.shared_log.specs.declared.fault.LogError.TheVariants.{Start}
 use Rattle.one_hand.specs.Stream.{Stream}
-use Rattle.one_hand.specs.declared.book.Book.{Book}
+use Rattle.shared_log.specs.declared.book.Book.{Book}
 use Rattle.script.specs.Meaning.{Opening, CommandContent, ScriptContent, content_of, contents_of}
 use Rattle.script.specs.declared.command.Command.{Command}
-use Rattle.script_run.specs.Answers.{Answers}
-use Rattle.one_hand.specs.Openings.{IsStart}
-use Rattle.script_run.specs.Output.{AlwaysCounted, AlwaysInBounds, AlwaysPolled, AlwaysRuns, AnswersAll, IsOutputOf, IsOutputOfRun, PrintsBook, geometry_of, identity_of}
-use Rattle.script_run.specs.LineContents.{Open, LineContent, Shares}
-use Rattle.script_parts.specs.Lines.{line_content, line_contents}
-use Rattle.script_run.specs.Published.{Played}
-use Rattle.script_run.specs.ScriptState.{ScriptState, entries_of, opened_state}
-use Rattle.script_run.specs.Standing.{Begins, IsPlayed}
-use Rattle.simulated.specs.Books.{ShowsBook}
-use Rattle.simulated.specs.Simulated.{Answered, IsAnswered, RepresentsState, Simulated, StandsSomewhere}
+use Rattle.script_meaning.specs.Answers.{Answers}
+use Rattle.position.specs.Openings.{IsStart}
+use Rattle.script_meaning.specs.Output.{AlwaysCounted, AlwaysInBounds, AlwaysPolled, AlwaysRuns, AnswersAll, IsOutputOf, IsOutputOfRun, PrintsBook, geometry_of, identity_of}
+use Rattle.script_meaning.specs.LineContents.{Open, LineContent, Shares}
+use Rattle.simulation.specs.Lines.{line_content, line_contents}
+use Rattle.script_meaning.specs.Published.{Played}
+use Rattle.script_meaning.specs.ScriptState.{ScriptState, entries_of, opened_state}
+use Rattle.script_meaning.specs.Standing.{Begins, IsPlayed}
+use Rattle.simulation.specs.Books.{ShowsBook}
+use Rattle.simulation.specs.Simulated.{Answered, IsAnswered, RepresentsState, Simulated, StandsSomewhere}
 use Rattle.world.specs.Runs.{Continued, Continues, ContinuesOpen, RunsTo}
-use Rattle.script_parts.specs.declared.line.Line.{Line}
-use Rattle.script_parts.specs.declared.line.Line.TheVariants as lines
+use Rattle.simulation.specs.declared.line.Line.{Line}
+use Rattle.simulation.specs.declared.line.Line.TheVariants as lines
 
 answers_snoc : (old mid new : ScriptState) (ps : List Played) (p : Played) → AnswersAll old ps mid → Answers mid p.command p.lines new → AnswersAll old (ps ++ p ∷ []) new
 answers_snoc old mid new [] p h k = (new, subst (λ (s : ScriptState). Answers s p.command p.lines new) h k, refl)

@@ -7,8 +7,8 @@ use Rattle.theory.proofs.Tables.{map_replicate}
 use Rattle.one_hand.specs.Stream.{opened}
 use Rattle.receiver.specs.Subscribing.{Subscribing}
 use Rattle.sender.specs.Sending.{begun}
-use Rattle.script_run.specs.ScriptState.{opened_state}
-use Rattle.simulated.specs.Simulated.{RepresentsState, Simulated}
+use Rattle.script_meaning.specs.ScriptState.{opened_state}
+use Rattle.simulation.specs.Simulated.{RepresentsState, Simulated}
 use Rattle.world.specs.Runs.{AreListening}
 
 -- such a simulation

@@ -4,14 +4,14 @@ use Rattle.std.specs.List.{flat_map}
 use Rattle.theory.specs.Bytes.{Identity}
 use Rattle.script.specs.Meaning.{CommandContent}
 use Rattle.receiver.specs.Subscribing.{Subscribing}
-use Rattle.script_run.specs.LineContents.{Open, LineContent}
-use Rattle.script_run.specs.Output.{AnswersAll, PrintsBook}
-use Rattle.script_run.specs.Published.{Played}
-use Rattle.script_run.specs.ScriptState.{ScriptState, listening_at, numbers, opened_state}
-use Rattle.script_run.specs.Standing.{IsPlayed}
-use Rattle.script_parts.specs.Lines.{line_contents}
-use Rattle.script_parts.specs.declared.line.Line.{Line}
-use Rattle.simulated.specs.Simulated.{AllShow, RepresentsState, Simulated}
+use Rattle.script_meaning.specs.LineContents.{Open, LineContent}
+use Rattle.script_meaning.specs.Output.{AnswersAll, PrintsBook}
+use Rattle.script_meaning.specs.Published.{Played}
+use Rattle.script_meaning.specs.ScriptState.{ScriptState, listening_at, numbers, opened_state}
+use Rattle.script_meaning.specs.Standing.{IsPlayed}
+use Rattle.simulation.specs.Lines.{line_contents}
+use Rattle.simulation.specs.declared.line.Line.{Line}
+use Rattle.simulation.specs.Simulated.{AllShow, RepresentsState, Simulated}
 use Rattle.world.specs.declared.whole_script.Parts.{Parts}
 
 -- lines of a script one after the other

@@ -1,29 +1,28 @@
 //! A script, played from its first line to the book.
 
 ghost use Rattle.std.specs.Prelude.{◌≡◌, [], suc, vec_len, IfOk, OnOk};
-ghost use Rattle.one_hand.specs.Openings.{IsStart};
+ghost use Rattle.position.specs.Openings.{IsStart};
 ghost use Rattle.one_hand.specs.Stream.{opened};
-ghost use Rattle.script_run.specs.ScriptState.{listening_at, opened_state};
+ghost use Rattle.script_meaning.specs.ScriptState.{listening_at, opened_state};
 ghost use Rattle.receiver.specs.Subscribing.{RepresentsSubscriber};
-ghost use Rattle.script_run.specs.Output.{IsOutputOf, geometry_of};
-ghost use Rattle.script_parts.specs.Lines.{line_contents};
-ghost use Rattle.script_run.specs.Standing.{Begins};
+ghost use Rattle.script_meaning.specs.Output.{IsOutputOf, geometry_of};
+ghost use Rattle.simulation.specs.Lines.{line_contents};
+ghost use Rattle.script_meaning.specs.Standing.{Begins};
 ghost use Rattle.theory.specs.Position.{IsGeometry};
-ghost use Rattle.simulated.specs.Simulated.{RepresentsState, StandsSomewhere};
+ghost use Rattle.simulation.specs.Simulated.{RepresentsState, StandsSomewhere};
 ghost use Rattle.world.specs.Runs.{AreListening, AreReady, Continues, ContinuesOpen, RunsTo};
 ghost use Rattle.script.specs.Meaning as meaning;
 
 use block::Block;
 use flow_control::UnicastFlow;
-use log_hand::LogHand;
-use one_hand::{HandReader, LogError, OneHandLog};
+use one_hand::{HandReader, LogHand, OneHandLog};
 use position::Geometry;
 use receiver::{ReceiverCore, Subscriber};
 use script::{Command, LogLine, Script};
-use script_parts::{Line, Packets};
-use script_run::{images_stay_in_bounds, polls_a_prefix, shares_are_counted};
+use script_meaning::{images_stay_in_bounds, polls_a_prefix, shares_are_counted};
 use sender::{Denied, Outbox, SenderCore};
-use simulated::{RECEIVERS, Simulation, add};
+use shared_log::LogError;
+use simulation::{Line, Packets, RECEIVERS, Simulation, add_line};
 use std::alloc::{AllocError, Global};
 
 /// What a script is played with beside its log.
@@ -41,16 +40,16 @@ pub fn play(alloc: Global, script: &Script) -> Result<Vec<Line>, AllocError>
     let mut lines = Vec::new(alloc);
     let log = &script.log;
     match Geometry::new(log.term_length, log.mtu, log.initial_term_id) {
-        Ok(geometry) => play_log(alloc, script, geometry, lines),
+        Ok(geometry) => log_lines(alloc, script, geometry, lines),
         Err(error) => {
-            add(&mut lines, Line::BadGeometry(error))?;
+            add_line(&mut lines, Line::BadGeometry(error))?;
             Ok(lines)
         }
     }
 }
 
 /// Plays a script whose log has this geometry.
-fn play_log(
+fn log_lines(
     alloc: Global,
     script: &Script,
     geometry: Geometry,
@@ -72,9 +71,9 @@ fn play_log(
         log.start,
         consumers,
     ) {
-        Ok(hand) => play_opened(alloc, hand, script, geometry, parts, lines),
+        Ok(hand) => opened_lines(alloc, hand, script, geometry, parts, lines),
         Err(LogError::Start) => {
-            add(&mut lines, Line::BadLog(LogError::Start))?;
+            add_line(&mut lines, Line::BadLog(LogError::Start))?;
             Ok(lines)
         }
         Err(LogError::Consumers) => unreachable!(),
@@ -83,7 +82,7 @@ fn play_log(
 }
 
 /// Plays a script on its log that was just opened.
-fn play_opened<L: OneHandLog>(
+fn opened_lines<L: OneHandLog>(
     alloc: Global,
     log: L,
     script: &Script,
@@ -99,10 +98,11 @@ fn play_opened<L: OneHandLog>(
     requires empty { lines.items ≡ [] }
     ensures { IfOk result (λ lines. IsOutputOf (meaning.script_content script.now) (line_contents lines.items)) }
 {
+    // Laws that the proof cites.
     polls_a_prefix();
     images_stay_in_bounds();
     let simulation = simulation(alloc, log, &script.log, geometry, parts)?;
-    run(simulation, &script.commands, lines)
+    ended_lines(simulation, &script.commands, lines)
 }
 
 /// Makes the parts for a log of this geometry.
@@ -190,7 +190,7 @@ fn simulation<L: OneHandLog>(
 }
 
 /// Adds the line of an opened log, and then those of the commands, one after the other.
-fn play_open<L: OneHandLog>(
+fn answer_opened<L: OneHandLog>(
     simulation: &mut Simulation<L>,
     commands: &[Command],
     lines: &mut Vec<Line>,
@@ -198,12 +198,12 @@ fn play_open<L: OneHandLog>(
     requires { StandsSomewhere simulation.old }
     ensures { OnOk result (ContinuesOpen simulation.old (meaning.contents_of commands.now) lines.old.items lines.new.items simulation.new) }
 {
-    add(lines, Line::Open)?;
-    play_all(simulation, commands, lines)
+    add_line(lines, Line::Open)?;
+    answer_all(simulation, commands, lines)
 }
 
 /// Plays the commands one after the other, and adds their lines.
-fn play_all<L: OneHandLog>(
+fn answer_all<L: OneHandLog>(
     simulation: &mut Simulation<L>,
     commands: &[Command],
     lines: &mut Vec<Line>,
@@ -218,7 +218,7 @@ fn play_all<L: OneHandLog>(
 }
 
 /// Plays the commands from the opened log on, and ends it.
-fn run<L: OneHandLog>(
+fn ended_lines<L: OneHandLog>(
     mut simulation: Simulation<L>,
     commands: &[Command],
     mut lines: Vec<Line>,
@@ -227,10 +227,11 @@ fn run<L: OneHandLog>(
     requires begins { Begins simulation.log.identity simulation.log.start }
     ensures { IfOk result (λ after. RunsTo simulation.log.identity simulation.log.start simulation.readers (meaning.contents_of commands.now) (line_contents lines.items) (line_contents after.items)) }
 {
+    // A law that the proof cites.
     shares_are_counted();
-    let played = play_open(&mut simulation, commands, &mut lines);
+    let played = answer_opened(&mut simulation, commands, &mut lines);
     let book = simulation.end();
     played?;
-    add(&mut lines, Line::Book(book))?;
+    add_line(&mut lines, Line::Book(book))?;
     Ok(lines)
 }

@@ -2,7 +2,7 @@ use Rattle.std.proofs.Common.{ap, ◌∙◌, rules, FitsSigned, to_z, of_z, w64}
 use Rattle.std.proofs.lemmas.Int.{to_z-of_z}
 use Rattle.theory.specs.Control.{named_by}
 use Rattle.frames.specs.Frames.{header_of}
-use Rattle.rebuilder.specs.Stored.{stream_frame}
+use Rattle.image.specs.Stored.{stream_frame}
 use Rattle.receiver.proofs.OpenedSteps.{Answers, frame_inserted, frame_shape}
 use Rattle.receiver.proofs.opened.insert.Goals as goal
 

@@ -1,6 +1,6 @@
 use Rattle.std.proofs.Common.{◌≡◌, sym, ap₂, ◌∙◌, subst, arith, rules, pos, FitsSigned, to_z, of_z, w32, w64}
 use Rattle.std.proofs.lemmas.Int.{ints, to_z-of_z}
-use Rattle.rebuilder.specs.Stored.{IsUnit}
+use Rattle.image.specs.Stored.{IsUnit}
 use Rattle.theory.specs.Position.{position_of}
 use Rattle.receiver.proofs.Units.{unit_position}
 use Rattle.receiver.proofs.opened.position_in.Goals as goal

@@ -2,11 +2,11 @@ use Rattle.std.proofs.Common.{rules, tests, ◌≡◌, nat_eq, sym, ◌∙◌}
 use Rattle.std.specs.List.{list_any}
 use Rattle.std.proofs.lemmas.Iterator.{YieldsList-from_slice}
 use Rattle.std.proofs.lemmas.Iterator.Search.{any_from_yields_List}
-use Rattle.retransmit.specs.Handler.{meaning}
+use Rattle.retransmit.specs.Handler.{action_of}
 use Rattle.retransmit.proofs.Due.{any_map}
 use Rattle.retransmit.proofs.actions.asks_for.Goals as goal
 
 pub returns : goal.returns
 returns c =
     let e : c.any.result ≡ list_any (λ a. nat_eq a.at c.args.at) c.args.actions.now = any_from_yields_List (λ a. nat_eq a.at c.args.at) _ _ _ c.any.ensures.ran (YieldsList-from_slice c.args.actions.now (cc)) (λ x b q k. search (rules, tests)) in
-    e ∙ sym (any_map (λ a. nat_eq a.at c.args.at) meaning c.args.actions.now)
+    e ∙ sym (any_map (λ a. nat_eq a.at c.args.at) action_of c.args.actions.now)

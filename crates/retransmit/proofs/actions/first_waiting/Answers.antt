@@ -3,7 +3,7 @@ use Rattle.std.specs.Option.{option_map}
 use Rattle.std.proofs.lemmas.List.{map_more}
 use Rattle.theory.specs.Resend.{first_due}
 use Rattle.retransmit.specs.declared.action.Action.{Action}
-use Rattle.retransmit.specs.Handler.{meaning}
+use Rattle.retransmit.specs.Handler.{action_of}
 use Rattle.retransmit.proofs.Due.{due_of_first, due_of_others}
 use Rattle.retransmit.proofs.actions.first_waiting.Goals as goal
 use Rattle.retransmit.proofs.actions.first_waiting.Goals.{then-not-action, else-not-action}
@@ -15,9 +15,9 @@ pub loop-action-preserved : goal.loop-action-preserved
 loop-action-preserved c =
     let i = c.loop-action.action-index in
     let xs = c.args.actions.now in
-    let a = meaning (get_or xs i none) in
-    let more = ap first_due (map_more meaning xs i none c.loop-action-test.true) in
+    let a = action_of (get_or xs i none) in
+    let more = ap first_due (map_more action_of xs i none c.loop-action-test.true) in
     elim c.if-not-action.branch [
-      | then-not-action w ↦ ap (option_map meaning) w.first-is ∙ sym (more ∙ due_of_first (map meaning (take i xs)) a w.if-not-action.true)
-      | else-not-action w ↦ ap (option_map meaning) w.first-is ∙ c.loop-action.invariant ∙ sym (more ∙ due_of_others (map meaning (take i xs)) a w.if-not-action.false)
+      | then-not-action w ↦ ap (option_map action_of) w.first-is ∙ sym (more ∙ due_of_first (map action_of (take i xs)) a w.if-not-action.true)
+      | else-not-action w ↦ ap (option_map action_of) w.first-is ∙ c.loop-action.invariant ∙ sym (more ∙ due_of_others (map action_of (take i xs)) a w.if-not-action.false)
     ]

@@ -1,6 +1,6 @@
 use Rattle.std.proofs.Common.{◌<◌, length, false, arith}
 use Rattle.retransmit.specs.declared.action.Action.{Action}
-use Rattle.retransmit.specs.Handler.{meaning, lingering_until}
+use Rattle.retransmit.specs.Handler.{action_of, lingering_until}
 use Rattle.retransmit.proofs.Due.{written, written_rest}
 use Rattle.retransmit.proofs.actions.linger_until.Goals as goal
 
@@ -16,6 +16,6 @@ loop-action-preserved c =
     let lx : i < length xs = omega (arith, same, c.loop-action-test.true) in
     let ly : i < length ys = omega (arith, same, c.loop-action-test.true) in
     record {
-      done = written meaning (lingering_until c.args.at c.args.until) xs ys i c.lingering.result none lx ly c.loop-action.invariant.done c.loop-action.invariant.rest c.lingering.ensures;
+      done = written action_of (lingering_until c.args.at c.args.until) xs ys i c.lingering.result none lx ly c.loop-action.invariant.done c.loop-action.invariant.rest c.lingering.ensures;
       rest = written_rest xs ys i c.lingering.result none lx ly c.loop-action.invariant.rest;
     }

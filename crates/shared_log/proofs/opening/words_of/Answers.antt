@@ -1,9 +1,9 @@
-use Rattle.log_rule.proofs.Beginning.{old_key, opens}
-use Rattle.tail_claim.proofs.Begun.{sound_key}
+use Rattle.log_rule.proofs.Beginning.{origin_of, opens}
+use Rattle.log_rule.proofs.Claimed.Begun.{sound_key}
 use Rattle.shared_log.proofs.opening.words_of.Goals as goal
 
 pub first_words-requires : goal.first_words-requires
-first_words-requires c = sound_key (old_key c.args.key.now) c.requires.geometry c.requires.unit c.requires.below
+first_words-requires c = sound_key (origin_of c.args.key.now) c.requires.geometry c.requires.unit c.requires.below
 
 pub returns : goal.returns
-returns c = opens c.args.key.now c.in_ok-words.words.items c.begin.new.words.items (sound_key (old_key c.args.key.now) c.requires.geometry c.requires.unit c.requires.below) c.requires.count c.in_ok-words.ensures c.begin.ensures
+returns c = opens c.args.key.now c.in_ok-words.words.items c.begin.new.words.items (sound_key (origin_of c.args.key.now) c.requires.geometry c.requires.unit c.requires.below) c.requires.count c.in_ok-words.ensures c.begin.ensures

@@ -1,6 +1,6 @@
 use Rattle.std.proofs.Common.{length}
 use Rattle.std.specs.List.{AllByRecursion}
-use Rattle.log_reading.specs.Readers.{IsReaderOf}
+use Rattle.shared_log.specs.Readers.{IsReaderOf}
 use Rattle.stream_tests.specs.Parties.{IsParty}
 use Rattle.stream_tests.proofs.opening.add_readers.Given as goal
 

@@ -1,5 +1,5 @@
 use Rattle.std.proofs.Common.{◌≤◌, length}
-use Rattle.log_reading.specs.Readers.{IsReaderOf}
+use Rattle.shared_log.specs.Readers.{IsReaderOf}
 use Rattle.stream_tests.proofs.streams.read.Given as goal
 
 abbrev pub invariant-loop : goal.invariant-loop

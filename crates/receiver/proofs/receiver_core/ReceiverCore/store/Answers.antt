@@ -1,5 +1,5 @@
 use Rattle.frames.specs.Frames.{header_of}
-use Rattle.rebuilder.specs.Stored.{stream_frame}
+use Rattle.image.specs.Stored.{stream_frame}
 use Rattle.receiver.proofs.Meeting.{frame_met, frame_missed}
 use Rattle.receiver.proofs.receiver_core.ReceiverCore.store.Goals as goal
 

@@ -1,6 +1,6 @@
 use Rattle.std.proofs.Common.{◌≡◌, ℕ, ◌-◌, ◌*◌, ◌/◌, ◌≤◌, List, [], ◌∷◌, ◌++◌, map, filter, max, nat_le, arith, subst, sym, ap, ◌∙◌}
 use Rattle.theory.specs.Position.{max_position}
-use Rattle.retransmit.specs.Handler.{Handler, meaning, is_near, after_note}
+use Rattle.retransmit.specs.Handler.{Handler, action_of, is_near, after_note}
 use Rattle.retransmit.specs.Spaced.{AreSpaced}
 use Rattle.retransmit.proofs.Ascending.{same_near}
 use Rattle.retransmit.proofs.Noted.{still_kept}
@@ -33,5 +33,5 @@ returns c =
     let from : c.saturating_sub-from.result ≡ c.args.end - 3 * c.self.inside.geometry.term_length / 4 = c.saturating_sub-from.ensures ∙ ap (λ (r : ℕ). c.args.end - r) reach in
     let noted : c.slide.new.starts.items ≡ filter (is_near c.self.inside.geometry c.args.end) (c.self.inside.starts.items ++ c.args.start ∷ []) =
     c.slide.ensures.items ∙ ap (λ (f : ℕ). filter (nat_le f) (c.self.inside.starts.items ++ c.args.start ∷ [])) from ∙ sym (same_near (3 * c.self.inside.geometry.term_length / 4) c.args.end (c.self.inside.starts.items ++ c.args.start ∷ [])) in
-    let view : List ℕ → Handler = λ zs. record { geometry = c.self.inside.geometry; start = c.self.inside.start; at = c.args.end; clock = c.self.inside.clock; starts = zs; actions = map meaning c.self.inside.actions.items } in
+    let view : List ℕ → Handler = λ zs. record { geometry = c.self.inside.geometry; start = c.self.inside.start; at = c.args.end; clock = c.self.inside.clock; starts = zs; actions = map action_of c.self.inside.actions.items } in
     subst (λ (h : Handler). view c.slide.new.starts.items ≡ after_note h c.args.start c.args.end) c.self.view_is (ap view noted)

@@ -2,18 +2,18 @@ use Rattle.std.proofs.Common.{rules, ◌≡◌, ℕ, suc, ◌+◌, ◌%◌, ◌^
 use Rattle.theory.specs.Position.{Geometry, framed_length, max_message}
 use Rattle.theory.specs.Bytes.{Identity}
 use Rattle.atomic_table.specs.Table.{Allows}
-use Rattle.word_calls.specs.declared.pass.Pass.{Pass}
-use Rattle.word_calls.specs.Steps.{Adds, addition}
-use Rattle.tail_claim.specs.Packs.{tail_place}
-use Rattle.tail_claim.specs.Admits.{Same}
-use Rattle.tail_claim.specs.Sure.{Learns}
-use Rattle.tail_claim.specs.Plays.{Mine}
-use Rattle.log_rule.specs.Shares.{share_of}
+use Rattle.publication.specs.declared.pass.Pass.{Pass}
+use Rattle.publication.specs.Steps.{Adds, addition}
+use Rattle.log_rule.specs.Claims.Packs.{tail_place}
+use Rattle.log_rule.specs.Claims.Admits.{Same}
+use Rattle.log_rule.specs.Claims.Sure.{LearnsControls}
+use Rattle.log_rule.specs.Claims.Plays.{Mine}
+use Rattle.log_rule.specs.Shares.{claimed_bytes}
 use Rattle.log_rule.specs.Table.{LogRuled}
-use Rattle.tail_claim.proofs.Sures.{add_turns}
+use Rattle.log_rule.proofs.Claimed.Sures.{add_turns}
 use Rattle.log_rule.proofs.Lifting.{lifted_at, other_spares}
 use Rattle.log_rule.proofs.Shares.{adds_share, with_low_share}
-use Rattle.tail_claim.proofs.Eventful.{steps_are_events}
+use Rattle.log_rule.proofs.Claimed.Eventful.{steps_are_events}
 use Rattle.shared_log.proofs.log.Log.add_as.Goals as goal
 
 pub fetch_add-word-requires : goal.fetch_add-word-requires
@@ -23,8 +23,8 @@ fetch_add-word-requires g c = let me : Mine = c.publisher.inside.seat.me in let 
     let short : size ≤ max_message v.identity.geometry = subst (λ (z : ℕ × Geometry). z.0 ≤ max_message z.1) (λ j. (sym is j, ap (λ (i : Identity). i.geometry) (sym c.requires.fits.identity ∙ ap (λ (p : Pass). p.identity) (sym vi)) j)) c.requires.short in (
       search rules,
       omega arith,
-      subst (λ (k : ℕ). Allows (LogRuled c.self.inside.table.shared.key) c.self.inside.table.shared.table_id.slots c.publisher.inside.seat.id me c.place_of-place.result (λ n. (n + k) % 2 ^ 64) (λ n m'. (m'.1 ≡ me.1) × (m'.0.steps ≡ suc me.0.steps) × Same v m'.0.pass × Learns (addition v size n ∷ []) me.0 m'.0 × (Adds v size n m'.0.pass × (share_of m'.0.pass < 2 ^ 63)))) (sym covered)
-          (lifted_at _ _ _ (tail_place v.seen.term) me (λ n. (n + framed_length v.identity.geometry size) % 2 ^ 64) (λ n w. Adds v size n w × (share_of w < 2 ^ 63)) (λ n. addition v size n ∷ []) c.place_of-place.result (c.place_of-place.ensures.is ∙ ap tail_place (sym (ap (λ (p : Pass). p.seen.term) vi ∙ c.requires.count))) (add_turns v.seen.term (framed_length v.identity.geometry size)) (inl (let able = c.publisher.invariant.1 in let q : 0 < v.right.parts = omega arith in q))
+      subst (λ (k : ℕ). Allows (LogRuled c.self.inside.table.shared.key) c.self.inside.table.shared.table_id.slots c.publisher.inside.seat.id me c.place_of-place.result (λ n. (n + k) % 2 ^ 64) (λ n m'. (m'.1 ≡ me.1) × (m'.0.steps ≡ suc me.0.steps) × Same v m'.0.pass × LearnsControls (addition v size n ∷ []) me.0 m'.0 × (Adds v size n m'.0.pass × (claimed_bytes m'.0.pass < 2 ^ 63)))) (sym covered)
+          (lifted_at _ _ _ (tail_place v.seen.term) me (λ n. (n + framed_length v.identity.geometry size) % 2 ^ 64) (λ n w. Adds v size n w × (claimed_bytes w < 2 ^ 63)) (λ n. addition v size n ∷ []) c.place_of-place.result (c.place_of-place.ensures.is ∙ ap tail_place (sym (ap (λ (p : Pass). p.seen.term) vi ∙ c.requires.count))) (add_turns v.seen.term (framed_length v.identity.geometry size)) (inl (let able = c.publisher.invariant.1 in let q : 0 < v.right.parts = omega arith in q))
           (other_spares (tail_place v.seen.term) (λ n. (n + framed_length v.identity.geometry size) % 2 ^ 64) (λ e. omega arith) (λ j lt e. omega arith)) (λ b. with_low_share b _ v (tail_place v.seen.term) (λ n. (n + framed_length v.identity.geometry size) % 2 ^ 64) (λ n w. Adds v size n w) (steps_are_events.add b _ v size c.publisher.invariant.1 (ap (λ (p : Pass). p.right.armed) vi ∙ c.requires.armed) short))),
     )
 

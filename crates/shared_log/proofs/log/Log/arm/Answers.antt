@@ -1,11 +1,11 @@
 use Rattle.std.proofs.Common.{rules, ◌≡◌, [], ◌∷◌, inr, sym, ap, ◌∙◌, arith}
-use Rattle.word_calls.specs.declared.pass.Pass.{Pass}
-use Rattle.word_calls.specs.Steps.{Arms, tail_step}
-use Rattle.tail_claim.specs.Packs.{tail_place}
-use Rattle.tail_claim.specs.Plays.{Mine}
-use Rattle.tail_claim.proofs.Sures.{load_leaves, tail_turns}
+use Rattle.publication.specs.declared.pass.Pass.{Pass}
+use Rattle.publication.specs.Steps.{Arms, tail_step}
+use Rattle.log_rule.specs.Claims.Packs.{tail_place}
+use Rattle.log_rule.specs.Claims.Plays.{Mine}
+use Rattle.log_rule.proofs.Claimed.Sures.{load_leaves, tail_turns}
 use Rattle.log_rule.proofs.Lifting.{lifted_at, load_spares}
-use Rattle.tail_claim.proofs.Eventful.{steps_are_events}
+use Rattle.log_rule.proofs.Claimed.Eventful.{steps_are_events}
 use Rattle.shared_log.proofs.log.Log.arm.Goals as goal
 
 pub load-requires : goal.load-requires

@@ -1,14 +1,14 @@
 use Rattle.std.proofs.Common.{rules, ◌≡◌, ℕ, [], inr, sym, ap, ◌∙◌, subst, arith}
 use Rattle.theory.specs.Bytes.{Identity}
-use Rattle.word_calls.specs.declared.pass.Pass.{Pass}
-use Rattle.word_calls.specs.Frames.{Completes}
-use Rattle.word_calls.specs.Steps.{Commits}
-use Rattle.tail_claim.specs.Packs.{slot}
-use Rattle.tail_claim.specs.Plays.{Mine}
-use Rattle.tail_claim.proofs.Sures.{data_leaves, data_turns}
+use Rattle.publication.specs.declared.pass.Pass.{Pass}
+use Rattle.publication.specs.Frames.{CompletesFrame}
+use Rattle.publication.specs.Steps.{Commits}
+use Rattle.log_rule.specs.Claims.Packs.{slot}
+use Rattle.log_rule.specs.Claims.Plays.{Mine}
+use Rattle.log_rule.proofs.Claimed.Sures.{data_leaves, data_turns}
 use Rattle.log_rule.proofs.Lifting.{lifted_at, other_spares}
 use Rattle.log_rule.proofs.Shares.{commits_share}
-use Rattle.tail_claim.proofs.Eventful.{steps_are_events}
+use Rattle.log_rule.proofs.Claimed.Eventful.{steps_are_events}
 use Rattle.shared_log.proofs.log.Log.commit_as.Goals as goal
 
 pub store-requires : goal.store-requires
@@ -17,7 +17,7 @@ store-requires g c = let me : Mine = c.publisher.inside.seat.me in let v : Pass 
       search rules,
       search rules,
       lifted_at _ _ _ (slot v.identity.geometry p) me (λ _. c.args.word) (λ _ w. Commits v p c.args.word w) (λ _. []) c.slot_of-place.result (c.slot_of-place.ensures.is ∙ (λ j. slot (sym shape j) (sym is j))) (data_turns (slot v.identity.geometry p) c.args.word (omega arith)) (inr (data_leaves (slot v.identity.geometry p) c.args.word (omega arith)))
-          (other_spares (slot v.identity.geometry p) (λ _. c.args.word) (λ e. omega arith) (λ j lt e. omega arith)) (λ b. steps_are_events.commit b _ v p c.args.word (subst (λ (z : Pass × ℕ). Completes z.0 z.1 c.args.word) (λ j. (sym vi j, sym is j)) c.requires.completes) c.requires.word),
+          (other_spares (slot v.identity.geometry p) (λ _. c.args.word) (λ e. omega arith) (λ j lt e. omega arith)) (λ b. steps_are_events.commit b _ v p c.args.word (subst (λ (z : Pass × ℕ). CompletesFrame z.0 z.1 c.args.word) (λ j. (sym vi j, sym is j)) c.requires.completes) c.requires.word),
     )
 
 pub invariant_of-publisher : goal.invariant_of-publisher
@@ -26,5 +26,5 @@ invariant_of-publisher g c =
       told.0 ∙ c.publisher.invariant.0,
       (let e = told.2.parts in let able = c.publisher.invariant.1 in omega arith),
       c.publisher.invariant.2 ∙ sym told.2.number,
-      c.publisher.invariant.3 ∙ sym (commits_share _ _ g.N.Chosen.number c.args.word (subst (λ (z : Pass × ℕ). Completes z.0 z.1 c.args.word) (λ j. (sym vi j, sym is j)) c.requires.completes) told.4),
+      c.publisher.invariant.3 ∙ sym (commits_share _ _ g.N.Chosen.number c.args.word (subst (λ (z : Pass × ℕ). CompletesFrame z.0 z.1 c.args.word) (λ j. (sym vi j, sym is j)) c.requires.completes) told.4),
     )

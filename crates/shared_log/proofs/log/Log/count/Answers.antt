@@ -1,11 +1,11 @@
 use Rattle.std.proofs.Common.{rules, ◌≡◌, [], ◌∷◌, inr, ap, arith}
-use Rattle.word_calls.specs.declared.step.WordStep.TheVariants as steps
-use Rattle.word_calls.specs.declared.pass.Pass.{Pass}
-use Rattle.word_calls.specs.Steps.{Counts}
-use Rattle.tail_claim.specs.Plays.{Mine}
-use Rattle.tail_claim.proofs.Sures.{count_turns, load_leaves}
+use Rattle.publication.specs.declared.step.WordStep.TheVariants as steps
+use Rattle.publication.specs.declared.pass.Pass.{Pass}
+use Rattle.publication.specs.Steps.{Counts}
+use Rattle.log_rule.specs.Claims.Plays.{Mine}
+use Rattle.log_rule.proofs.Claimed.Sures.{count_turns, load_leaves}
 use Rattle.log_rule.proofs.Lifting.{lifted, load_spares}
-use Rattle.tail_claim.proofs.Eventful.{steps_are_events}
+use Rattle.log_rule.proofs.Claimed.Eventful.{steps_are_events}
 use Rattle.shared_log.proofs.log.Log.count.Goals as goal
 
 pub load-requires : goal.load-requires

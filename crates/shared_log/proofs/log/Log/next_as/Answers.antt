@@ -1,12 +1,12 @@
 use Rattle.std.proofs.Common.{rules, ◌≡◌, ℕ, suc, ◌+◌, ◌%◌, [], ◌∷◌, inr, sym, ap, ◌∙◌, arith}
-use Rattle.word_calls.specs.declared.step.WordStep.TheVariants as steps
-use Rattle.word_calls.specs.declared.pass.Pass.{Pass}
-use Rattle.word_calls.specs.Steps.{Nexts}
-use Rattle.tail_claim.specs.Packs.{tail_place}
-use Rattle.tail_claim.specs.Plays.{Mine}
-use Rattle.tail_claim.proofs.Sures.{load_leaves, next_turns}
+use Rattle.publication.specs.declared.step.WordStep.TheVariants as steps
+use Rattle.publication.specs.declared.pass.Pass.{Pass}
+use Rattle.publication.specs.Steps.{Nexts}
+use Rattle.log_rule.specs.Claims.Packs.{tail_place}
+use Rattle.log_rule.specs.Claims.Plays.{Mine}
+use Rattle.log_rule.proofs.Claimed.Sures.{load_leaves, next_turns}
 use Rattle.log_rule.proofs.Lifting.{lifted_at, load_spares}
-use Rattle.tail_claim.proofs.Eventful.{steps_are_events}
+use Rattle.log_rule.proofs.Claimed.Eventful.{steps_are_events}
 use Rattle.shared_log.proofs.log.Log.next_as.Goals as goal
 
 pub load-requires : goal.load-requires

@@ -1,6 +1,6 @@
 use Rattle.std.proofs.Common.{rules, ◌≡◌, Result, Err, IsErrAnd, ap, subst, is_ok, true≢false}
-use Rattle.one_hand.specs.declared.fault.LogError.{LogError}
-use Rattle.one_hand.specs.declared.fault.LogError.TheVariants as faults
+use Rattle.shared_log.specs.declared.fault.LogError.{LogError}
+use Rattle.shared_log.specs.declared.fault.LogError.TheVariants as faults
 use Rattle.shared_log.proofs.log.Log.open_whole.Goals as goal
 
 for_memory : {T : Type 0} (r : Result T LogError) (why : LogError) → IsErrAnd r (λ e. e ≡ faults.Memory) → r ≡ Err why → why ≡ faults.Memory

@@ -3,20 +3,20 @@ use prog.Atomic.{either}
 use Rattle.theory.specs.Position.{id_of}
 use Rattle.theory.specs.Bytes.{Identity}
 use Rattle.theory.specs.Words.{id_before, tail_word}
-use Rattle.word_calls.specs.declared.pass.Pass.{Pass}
-use Rattle.word_calls.specs.Steps.{Rotates, tail_exchange}
-use Rattle.tail_claim.specs.Packs.{tail_place}
+use Rattle.publication.specs.declared.pass.Pass.{Pass}
+use Rattle.publication.specs.Steps.{Rotates, tail_exchange}
+use Rattle.log_rule.specs.Claims.Packs.{tail_place}
 use Rattle.atomic_table.specs.Table.{Allows}
-use Rattle.tail_claim.specs.Admits.{Same}
-use Rattle.tail_claim.specs.Sure.{Learns}
-use Rattle.tail_claim.specs.Plays.{Mine}
+use Rattle.log_rule.specs.Claims.Admits.{Same}
+use Rattle.log_rule.specs.Claims.Sure.{LearnsControls}
+use Rattle.log_rule.specs.Claims.Plays.{Mine}
 use Rattle.log_rule.specs.Table.{LogRuled}
-use Rattle.tail_claim.proofs.Sures.{rotate_turns}
+use Rattle.log_rule.proofs.Claimed.Sures.{rotate_turns}
 use Rattle.log_rule.proofs.Lifting.{lifted_at, other_spares}
 use Rattle.std.specs.Int.{w32, cast_signed, cast_unsigned}
 use Rattle.std.proofs.lemmas.Int.{to_z-of_z}
-use Rattle.word_calls.proofs.Packed.{id_fits}
-use Rattle.tail_claim.proofs.Eventful.{steps_are_events}
+use Rattle.publication.proofs.Packed.{id_fits}
+use Rattle.log_rule.proofs.Claimed.Eventful.{steps_are_events}
 use Rattle.shared_log.proofs.log.Log.rotate_as.Goals as goal
 
 pub compare_exchange-requires : goal.compare_exchange-requires
@@ -26,7 +26,7 @@ compare_exchange-requires g c = let me : Mine = c.publisher.inside.seat.me in le
     let to : ℕ = c.packed-to.result in let to_is : to ≡ tail_word (id_of v.identity.geometry (k + 1)) 0 = c.packed-to.ensures ∙ ap (λ z. tail_word (cast_signed w32 (cast_unsigned w32 z)) 0) id_is ∙ ap (λ z. tail_word z 0) (to_z-of_z w32 (id_of v.identity.geometry (k + 1)) (id_fits v.identity.geometry (k + 1))) in (
       search rules,
       omega arith,
-      subst (λ (z : ℕ). Allows (LogRuled c.self.inside.table.shared.key) c.self.inside.table.shared.table_id.slots c.publisher.inside.seat.id me c.place_of.result (λ n. either (eqb n c.args.from) z n) (λ n m'. (m'.1 ≡ me.1) × (m'.0.steps ≡ suc me.0.steps) × Same v m'.0.pass × Learns (tail_exchange v k c.args.from n ∷ []) me.0 m'.0 × Rotates v k c.args.from n m'.0.pass)) (sym to_is)
+      subst (λ (z : ℕ). Allows (LogRuled c.self.inside.table.shared.key) c.self.inside.table.shared.table_id.slots c.publisher.inside.seat.id me c.place_of.result (λ n. either (eqb n c.args.from) z n) (λ n m'. (m'.1 ≡ me.1) × (m'.0.steps ≡ suc me.0.steps) × Same v m'.0.pass × LearnsControls (tail_exchange v k c.args.from n ∷ []) me.0 m'.0 × Rotates v k c.args.from n m'.0.pass)) (sym to_is)
           (lifted_at _ _ _ (tail_place (k + 1)) me (λ n. either (eqb n c.args.from) (tail_word (id_of v.identity.geometry (k + 1)) 0) n) (λ n w. Rotates v k c.args.from n w) (λ n. tail_exchange v k c.args.from n ∷ []) c.place_of.result (c.place_of.ensures.is ∙ ap (λ (z : ℕ). tail_place (z + 1)) (sym is))
           (rotate_turns (k + 1) c.args.from (tail_word (id_of v.identity.geometry (k + 1)) 0)) (inl (let able = c.publisher.invariant.1 in let q : 0 < v.right.parts = omega arith in q))
           (other_spares (tail_place (k + 1)) (λ n. either (eqb n c.args.from) (tail_word (id_of v.identity.geometry (k + 1)) 0) n) (λ e. omega arith) (λ j lt e. omega arith))

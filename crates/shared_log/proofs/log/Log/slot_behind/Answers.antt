@@ -1,5 +1,5 @@
 use Rattle.std.proofs.Common.{ℕ, ◌+◌, ◌-◌, ◌%◌, ap, ◌∙◌}
-use Rattle.tail_claim.specs.Packs.{data_place}
+use Rattle.log_rule.specs.Claims.Packs.{data_place}
 use Rattle.shared_log.proofs.Behind.{behind_is}
 use Rattle.shared_log.proofs.log.Log.slot_behind.Goals as goal
 

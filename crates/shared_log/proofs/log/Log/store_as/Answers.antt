@@ -1,13 +1,13 @@
 use Rattle.std.proofs.Common.{rules, ◌≡◌, ℕ, [], inr, sym, ap, ◌∙◌, subst, arith}
 use Rattle.theory.specs.Bytes.{Identity}
-use Rattle.word_calls.specs.declared.pass.Pass.{Pass}
-use Rattle.word_calls.specs.Steps.{HasWord, Stores}
-use Rattle.tail_claim.specs.Packs.{slot}
-use Rattle.tail_claim.specs.Plays.{Mine}
-use Rattle.tail_claim.proofs.Sures.{data_leaves, data_turns}
+use Rattle.publication.specs.declared.pass.Pass.{Pass}
+use Rattle.publication.specs.Steps.{HasWord, Stores}
+use Rattle.log_rule.specs.Claims.Packs.{slot}
+use Rattle.log_rule.specs.Claims.Plays.{Mine}
+use Rattle.log_rule.proofs.Claimed.Sures.{data_leaves, data_turns}
 use Rattle.log_rule.proofs.Lifting.{lifted_at, other_spares}
 use Rattle.log_rule.proofs.Shares.{stores_share}
-use Rattle.tail_claim.proofs.Eventful.{steps_are_events}
+use Rattle.log_rule.proofs.Claimed.Eventful.{steps_are_events}
 use Rattle.shared_log.proofs.log.Log.store_as.Goals as goal
 
 pub store-requires : goal.store-requires

@@ -1,0 +1,38 @@
+-- What a sender's core becomes in its agent, by a datagram at a moment and by a moment; and which of them are status messages.
+use Rattle.std.specs.Prelude.{◌⊎◌, ℕ, ℤ, Bool, List, [], ◌∷◌, Result, IfErr, IfOk, MatchResult}
+use Rattle.theory.specs.Bytes.{Identity}
+use Rattle.theory.specs.Placed.{Placed}
+use Rattle.theory.specs.Wire.{Status}
+use Rattle.frame_source.specs.Sources.{Source}
+use Rattle.sender.specs.Cycling.{IsNews, Says}
+use Rattle.sender.specs.Sending.{Cycles, Sending, at_moment}
+use Rattle.conductor.specs.Parties.{ClientSeen}
+use Rattle.endpoint.specs.Devices.{Device}
+use Rattle.endpoint.specs.declared.device_error.DeviceError.{DeviceError}
+use Rattle.agents.specs.Asking.{AsksOnce, IsQuiet}
+use Rattle.agents.specs.Cycles.{Cycle, Fault}
+use Rattle.agents.specs.Parties.{SenderHears}
+
+-- a core, and whether the queue has taken its command
+pub record Agent (R F : Type 0) : Type 0 where
+  pub core : Sending R F
+  pub asked : Bool
+
+-- a datagram, by what its reads are a source of
+abbrev pub Hears : {R F : Type 0} → (R → Source) → (F → ℤ → ℤ → ℤ → ℕ → F) → (F → ℕ) → Sending R F → ℕ → List ℕ → Sending R F → List (List ℕ) → Type 0
+Hears source after_status reached s now bytes t given = SenderHears after_status reached (at_moment s now) (source s.reads) bytes t (source t.reads) given
+
+-- a moment
+abbrev pub Ticks : {R F : Type 0} → (R → Source) → (List Placed → List Placed → Type 0) → (F → ℕ → F) → (F → ℕ) → Sending R F → ℕ → Sending R F → List (List ℕ) → Type 0
+Ticks source grown after_tick reached s now t given = Cycles grown after_tick reached (at_moment s now) (source s.reads) (source t.reads) t given
+
+-- one of these datagrams is a status message of the sender's stream that doesn't ask for a SETUP
+abbrev pub HaveStatus : Identity → List (List ℕ) → Type 0
+HaveStatus i [] = ⊥
+HaveStatus i (d ∷ ds) = ((f : Status) × IsNews i d (Says f)) ⊎ HaveStatus i ds
+
+-- a cycle of the core over a device, or a fault that ended it, and what its client asked: nothing at a fault
+pub record AgentCycle {R F : Type 0} (hears : Sending R F → ℕ → List ℕ → Sending R F → List (List ℕ) → Type 0) (ticks : Sending R F → ℕ → Sending R F → List (List ℕ) → Type 0) (now : ℕ) (tells : Type 0) (a : Agent R F) (c : ClientSeen) (d : Device) (result : Result Bool DeviceError) (b : Agent R F) (after : ClientSeen) (e : Device) : Type 0 where
+  pub cycle : IfOk result (λ busy. Cycle hears ticks now tells a.core d busy b.core e)
+  pub fault : IfErr result (λ fault. Fault hears ticks now tells fault a.core d b.core e)
+  pub asks : MatchResult result (λ _. AsksOnce a.asked b.core.naming.heard c b.asked after) (λ _. IsQuiet a.asked c b.asked after)

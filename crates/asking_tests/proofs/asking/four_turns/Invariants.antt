@@ -1,6 +1,0 @@
-use Rattle.std.proofs.Common.{◌≡◌}
-use Rattle.agent_way.specs.Senders.{IsSender}
-use Rattle.asking_tests.proofs.asking.four_turns.Given as goal
-
-abbrev pub invariant-loop-asks : goal.invariant-loop-asks
-invariant-loop-asks g l = IsSender l.agent.core × (l.client.queue ≡ l.conductor) × (l.taker.queue ≡ l.conductor)

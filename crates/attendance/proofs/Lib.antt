@@ -1,2 +1,0 @@
-pub mod Alone
-mod Rows

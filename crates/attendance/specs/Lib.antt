@@ -1,2 +1,0 @@
-pub mod Attending
-pub mod Endings

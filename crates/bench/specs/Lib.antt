@@ -1,0 +1,2 @@
+pub mod TimingLines
+pub mod TimingPlans

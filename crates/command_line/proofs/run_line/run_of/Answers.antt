@@ -1,0 +1,17 @@
+use Rattle.command_line.proofs.run_line.run_of.Goals as goal
+
+pub returns : goal.returns
+returns c =
+    record {
+      publishers = c.number_of.ensures;
+      messages = c.number_of-2.ensures;
+      length = c.number_of-3.ensures;
+      loss = c.number_of-4.ensures;
+      repeat = c.number_of-5.ensures;
+      hold = c.number_of-6.ensures;
+      seed = c.number_of-7.ensures;
+      turns = c.number_of-8.ensures;
+      term = c.number_of-9.ensures;
+      mtu = c.number_of-10.ensures;
+      counters = c.flag_of.ensures;
+    }

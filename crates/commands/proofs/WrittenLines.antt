@@ -1,0 +1,25 @@
+-- Lines that are written one after the other.
+use Rattle.std.proofs.Common.{◌≡◌, ◌∙◌, ℕ, ◌+◌, ◌<◌, List, [], ◌∷◌, ◌++◌, suc, length, get_or, take, sym, ap, arith, append-nil}
+use Rattle.std.proofs.Math.Seq.{take-suc}
+use Rattle.std.proofs.lemmas.List.{map-append}
+use Rattle.std.proofs.lemmas.Grind.{flat_map-append}
+use Rattle.script_meaning.specs.LineContents.{LineContent}
+use Rattle.simulation.specs.LineTexts.{line_text, text_of_lines}
+use Rattle.simulation.specs.Lines.{line_content, line_contents}
+use Rattle.simulation.specs.declared.line.Line.{Line}
+
+abbrev text_of : List Line → List ℕ
+text_of lines = text_of_lines (line_contents lines)
+
+one_more : (lines : List Line) (k : ℕ) (line : Line) → k < length lines → line ≡ get_or lines k line → take (k + 1) lines ≡ take k lines ++ line ∷ []
+one_more lines k line below e =
+    let next : k + 1 ≡ suc k = omega arith in
+    ap (λ (n : ℕ). take n lines) next ∙ take-suc lines k line below ∙ ap (λ (x : Line). take k lines ++ x ∷ []) (sym e)
+
+-- with one line more
+pub text_more : (lines : List Line) (k : ℕ) (line : Line) → k < length lines → line ≡ get_or lines k line → text_of_lines (line_contents (take k lines)) ++ (line_text (line_content line) ++ 10 ∷ []) ≡ text_of_lines (line_contents (take (k + 1) lines))
+text_more lines k line below e =
+    sym (ap text_of (one_more lines k line below e)
+    ∙ ap text_of_lines (map-append line_content (take k lines) (line ∷ []))
+    ∙ flat_map-append (λ (x : LineContent). line_text x ++ 10 ∷ []) (line_contents (take k lines)) (line_content line ∷ [])
+    ∙ ap (λ (t : List ℕ). text_of (take k lines) ++ t) (append-nil (line_text (line_content line) ++ 10 ∷ [])))

@@ -1,0 +1,41 @@
+-- The fault texts.
+use Rattle.std.specs.Prelude.{ℕ, List, ◌++◌, codes, decimal}
+use Rattle.frames.specs.Fault.{text_of}
+use Rattle.decode.specs.declared.fault.DecodeError.{DecodeError}
+use Rattle.decode.specs.declared.fault.DecodeError.TheVariants as decoding
+use Rattle.script.specs.declared.fault.ScriptFault.{ScriptFault}
+use Rattle.script.specs.declared.fault.ScriptFault.TheVariants as script
+use Rattle.endpoint.specs.declared.device_error.DeviceError.{DeviceError}
+use Rattle.endpoint.specs.declared.device_error.DeviceError.TheVariants as devices
+use Rattle.options.specs.Run.Texts as plans
+use Rattle.commands.specs.declared.fault.Fault.{Fault}
+use Rattle.commands.specs.declared.fault.Fault.TheVariants.{Line, Input, Memory, Hex, Frame, Read, Write, Plan, Order, Device}
+
+abbrev pub shown_fault : Fault → List ℕ
+shown_fault (Line n) = codes "line " ++ decimal n ++ codes ": script"
+shown_fault Input = codes "input"
+shown_fault Memory = codes "memory"
+shown_fault Hex = codes "hex"
+shown_fault (Frame error) = text_of error
+shown_fault Read = codes "read"
+shown_fault Write = codes "write"
+shown_fault (Plan fault) = plans.text_of fault
+shown_fault Order = codes "order"
+shown_fault Device = codes "device"
+
+-- a script's fault as the program's
+abbrev pub of_script : ScriptFault → Fault
+of_script (script.Line n) = Line n
+of_script script.Memory = Memory
+
+-- a word's fault as the program's
+abbrev pub of_decoding : DecodeError → Fault
+of_decoding decoding.Hex = Hex
+of_decoding (decoding.Frame error) = Frame error
+of_decoding decoding.Memory = Memory
+of_decoding decoding.Write = Write
+
+-- a run's fault as the program's
+abbrev pub of_device : DeviceError → Fault
+of_device devices.Device = Device
+of_device devices.Memory = Memory

@@ -1,0 +1,127 @@
+//! One command line, carried out.
+
+ghost use Rattle.std.specs.Prelude.{◌≡◌, ◌≢◌, ◌≤◌, map};
+ghost use Rattle.clap.specs.Words.{fault_of};
+ghost use Rattle.command_line.specs.CommandLines.{driver_app};
+ghost use Rattle.command_line.specs.Readers.{faults_of};
+ghost use Rattle.command_line.specs.Refusals.{HoldRefusal};
+ghost use Rattle.commands.specs.Running.{IsLeftBy};
+ghost use Rattle.commands.specs.Statuses.{IsStatusOf, RefusesLine, ran_status};
+
+use crate::fault::Fault;
+use crate::publish_command::publish_command;
+use crate::run_command::run_driver;
+use crate::script_command::sim;
+use crate::status::{done, failed, line_status, shown};
+use crate::subscribe_command::subscribe_command;
+use command_line::{Options, Reader, line_reader, line_words, options};
+use decode::decode;
+use options::RunOptions;
+use run::Ending;
+use std::alloc::Global;
+use std::io::{Read, Write};
+use std::net::Net;
+use std::sync::Wait;
+use std::thread::Threads;
+use std::time::Clock;
+
+/// The line of `--version`: the program's name and version, and the kit that it is proved with.
+const VERSION: &str = "mdriver 0.1.0, proved with rattle-kit-13f logic dac8208d650f15bf\n";
+
+/// Carries out a command line over a reader and two writers, and gives the status: 0 where all was done, 1 at a fault,
+/// 2 for a refused command line, and for an end's refused channel or rates, 3 for a run whose turns were used before all was
+/// polled, and for a publisher that ended before one receiver had received all from the start on. The first word is the
+/// program's name; `--version` alone asks for the version, and `publish` and `subscribe` are carried out by
+/// `publish_command` and `subscribe_command`.
+///
+/// What is written for each isn't promised here: `options`, `sim`, `decode` and `run_driver` say what they make of the words
+/// and of the input, and the texts of help and refusals are the parser's, of which no contract speaks.
+pub fn command<'a, C: Threads + Wait + Clock + Net + Sync, R: Read + Send, W: Write, E: Write>(
+    rt: &C,
+    alloc: Global,
+    words: &'a [&'a str],
+    input: &mut R,
+    output: &mut W,
+    errors: &mut E,
+) -> u8
+    // Refused words end with 2, and help with 0; or with 1, for want of memory or where the help isn't written.
+    ensures status { IsStatusOf (faults_of (map (λ s. s.now) words.entry.now)) result }
+    // Only such words, and an end's channel and rates, end with 2.
+    ensures refused { result ≡ 2 → RefusesLine (map (λ s. s.now) words.entry.now) }
+{
+    let line = line_words(words);
+    match line_reader(line) {
+        Reader::Version => shown(&VERSION, output, errors),
+        Reader::Publish => publish_command(rt, alloc, line, input, output, errors),
+        Reader::Subscribe => subscribe_command(rt, alloc, line, output, errors),
+        Reader::Driver => driver_command(rt, alloc, words, input, output, errors),
+    }
+}
+
+/// Carries out a line of `sim`, `decode` or `run`, and gives the status.
+fn driver_command<'a, C: Threads + Wait + Clock + Net + Sync, R: Read, W: Write, E: Write>(
+    rt: &C,
+    alloc: Global,
+    words: &'a [&'a str],
+    input: &mut R,
+    output: &mut W,
+    errors: &mut E,
+) -> u8
+    ensures status { IsStatusOf (fault_of driver_app (map (λ s. s.now) words.entry.now)) result }
+    ensures refused { result ≡ 2 → HoldRefusal (fault_of driver_app (map (λ s. s.now) words.entry.now)) }
+{
+    match options(alloc, words) {
+        Ok(options) => driver_status(rt, alloc, &options, input, output, errors),
+        Err(fault) => line_status(&fault, output, errors),
+    }
+}
+
+/// Carries out what a line asks for, and gives the status.
+fn driver_status<C: Threads + Wait + Clock + Net + Sync, R: Read, W: Write, E: Write>(
+    rt: &C,
+    alloc: Global,
+    options: &Options<'_>,
+    input: &mut R,
+    output: &mut W,
+    errors: &mut E,
+) -> u8
+    ensures most { result ≤ 3 }
+    ensures accepted { result ≢ 2 }
+{
+    match *options {
+        Options::Sim => done(&sim(alloc, input, output), errors),
+        Options::Decode(word) => done(&decode(alloc, word, output).map_err(Fault::from), errors),
+        Options::Run(options) => run_status(rt, alloc, &options, output, errors),
+    }
+}
+
+/// Runs the driver, and gives the status. At 0 the run was whole, and at 3 short, as the lines that were written tell.
+fn run_status<C: Threads + Wait + Clock + Net + Sync, W: Write, E: Write>(
+    rt: &C,
+    alloc: Global,
+    options: &RunOptions,
+    output: &mut W,
+    errors: &mut E,
+) -> u8
+    ensures most { result ≤ 3 }
+    ensures accepted { result ≢ 2 }
+    ensures whole { result ≡ 0 → IsLeftBy options.now (W.contents output.old) (W.contents output.new) Ending.Whole }
+    ensures short { result ≡ 3 → IsLeftBy options.now (W.contents output.old) (W.contents output.new) Ending.Short }
+{
+    let ended = run_driver(rt, alloc, options, output, &mut *errors);
+    ran(&ended, errors)
+}
+
+/// The status of a run that ended; a fault is told, and so is a broken order.
+fn ran<E: Write>(ended: &Result<Ending, Fault>, errors: &mut E) -> u8
+    ensures value { result ≡ ran_status ended.now }
+    ensures most { result ≤ 3 }
+    ensures accepted { result ≢ 2 }
+{
+    match ended {
+        Ok(Ending::Whole) => 0,
+        Ok(Ending::Short) => 3,
+        Ok(Ending::Broken) => failed(&Fault::Order, errors),
+        Err(fault) => failed(fault, errors),
+    }
+}

@@ -1,0 +1,70 @@
+//! The command `publish`.
+
+ghost use Rattle.std.specs.Prelude.{◌≡◌, ◌≢◌, ◌≤◌, ◌<◌, ◌^◌, map};
+ghost use Rattle.clap.specs.Words.{fault_of};
+ghost use Rattle.command_line.specs.Lines.{publish_app};
+ghost use Rattle.commands.specs.Statuses.{HasPublishPlan, IsStatusOf, NoPublishPlan, RefusesPublish, published_status};
+
+use crate::drawn_ids::drawn_ids;
+use crate::status::{failed, line_status, unplanned};
+use command_line::publish_options;
+use options::{PublishOptions, publish_plan};
+use publisher::{Ending, PublishFault, publish};
+use std::alloc::Global;
+use std::io::{Read, Write};
+use std::net::Net;
+use std::sync::Wait;
+use std::thread::Threads;
+use std::time::Clock;
+
+/// Publishes as it is told, and gives the status: 2 where the channel or the rates make no plan.
+fn publish_told<C: Threads + Wait + Clock + Net + Sync, R: Read + Send, E: Write>(
+    rt: &C,
+    alloc: Global,
+    options: &PublishOptions<'_>,
+    input: &mut R,
+    errors: &mut E,
+) -> u8
+    requires { options.now.end.stream < 2 ^ 31 }
+    ensures most { result ≤ 3 }
+    ensures refused { result ≡ 2 → NoPublishPlan options.now }
+    ensures planned { result ≢ 2 → HasPublishPlan options.now }
+{
+    match publish_plan(options, drawn_ids(rt)) {
+        Ok(plan) => {
+            let ended = publish(rt, alloc, &plan, input, errors);
+            published(&ended, errors)
+        }
+        Err(fault) => unplanned(&fault, errors),
+    }
+}
+
+/// The status of a publisher that ended; a fault is told.
+fn published<E: Write>(ended: &Result<Ending, PublishFault>, errors: &mut E) -> u8
+    ensures value { result ≡ published_status ended.now }
+    ensures most { result ≤ 3 }
+    ensures accepted { result ≢ 2 }
+{
+    match ended {
+        Ok(Ending::Whole) => 0,
+        Ok(Ending::Short) => 3,
+        Err(fault) => failed(fault, errors),
+    }
+}
+
+/// Carries out a line whose first word is `publish`, and gives the status.
+pub(crate) fn publish_command<
+    'a,
+    C: Threads + Wait + Clock + Net + Sync,
+    R: Read + Send,
+    W: Write,
+    E: Write,
+>(rt: &C, alloc: Global, words: &'a [&'a str], input: &mut R, output: &mut W, errors: &mut E) -> u8
+    ensures status { IsStatusOf (fault_of publish_app (map (λ s. s.now) words.entry.now)) result }
+    ensures refused { result ≡ 2 → RefusesPublish (map (λ s. s.now) words.entry.now) }
+{
+    match publish_options(alloc, words) {
+        Ok(options) => publish_told(rt, alloc, &options, input, errors),
+        Err(fault) => line_status(&fault, output, errors),
+    }
+}

@@ -1,7 +1,0 @@
-//! Tests of channels, and of messages as lines and as blocks.
-#![tactic(auto)]
-
-#[cfg(test)]
-mod channels;
-#[cfg(test)]
-mod messages;

@@ -1,0 +1,16 @@
+pub mod Lists
+pub mod Order
+pub mod Reach
+pub mod Kept
+pub mod Fronts
+pub mod Units
+pub mod Listed
+pub mod Places
+pub mod Spelled
+pub mod Rings
+pub mod Finds
+pub mod Heads
+pub mod Shown
+pub mod Masks
+pub mod Ends
+pub mod Words

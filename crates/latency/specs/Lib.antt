@@ -1,0 +1,4 @@
+pub mod Faults
+pub mod Percentiles
+pub mod Stamps
+pub mod Followers

@@ -1,0 +1,33 @@
+//! How long messages take from their offer to their poll, on a log that threads share; with what a measurement of
+//! times is made of and tells: its plan, its course, stamps in messages, the samples and their percentiles, and its
+//! row of a table.
+//!
+//! Percentiles are the samples at their indices, of the samples sorted (`percentiles_of`); no more messages are timed
+//! than were asked for (`timed_by`, `time_log`). A stamp that was put into a message reads back, and leaves the rest
+//! of its message (`put_stamp`, `stamp_in`). A message at a fixed rate has the moment at which it is due as its stamp
+//! (`Course::stamp`); a rate's moments are exact (`Load::due`). Passes are used as asked. That anything is timed isn't
+//! said.
+#![tactic(auto)]
+
+mod course;
+mod fault;
+mod load;
+mod log_follower;
+mod log_timing;
+mod percentiles;
+mod plan;
+mod publisher_threads;
+mod row;
+mod samples;
+mod stamps;
+
+pub use course::Course;
+pub use fault::LatencyError;
+pub use load::Load;
+pub use log_timing::time_log;
+pub use percentiles::{Percentiles, percentile, percentiles_of};
+pub use plan::Plan;
+pub use publisher_threads::{Offers, WhenFull, start_publishers};
+pub use row::{HEADER, Row};
+pub use samples::{Samples, Timed, timed_by};
+pub use stamps::stamp_in;

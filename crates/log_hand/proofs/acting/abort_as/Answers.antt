@@ -1,6 +1,0 @@
-use Rattle.std.proofs.Common.{◌∙◌}
-use Rattle.log_hand.proofs.InHand.{abort_ok}
-use Rattle.log_hand.proofs.acting.abort_as.Goals as goal
-
-pub returns : goal.returns
-returns c = abort_ok c.args.log.now _ c.args.all.now c.renumber.new.publisher c.abort.new.pass c.args.number c.requires.number c.requires.free c.renumber.ensures c.abort.ensures.moved.still (c.abort.ensures.moved.same ∙ c.new-words.ensures) _ c.abort.ensures.took.noted c.abort.ensures.took.steps c.abort.ensures.took.call c.args.held c.abort.result c.requires.may c.abort.ensures.aborted c.abort.ensures.end

@@ -1,8 +1,0 @@
-use Rattle.log_keeping.proofs.Sweeping.{SweepsSome}
-use Rattle.log_keeping.proofs.keeper.sweep.Given as goal
-
-abbrev pub ghosts-see_as : goal.ghosts-see_as
-ghosts-see_as a = record { number = a.number; count = a.log.now.consumers }
-
-abbrev pub invariant-loop-number : goal.invariant-loop-number
-invariant-loop-number l = SweepsSome l.log l.fn.keeper l.number l.least l.keeper

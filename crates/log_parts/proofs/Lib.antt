@@ -1,4 +1,0 @@
-mod Dealt
-mod Shares
-mod Gathered
-mod Together

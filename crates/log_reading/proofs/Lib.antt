@@ -1,5 +1,0 @@
-pub mod Looking
-pub mod Copying
-pub mod Finding
-pub mod Sourced
-pub mod Told

@@ -1,8 +1,0 @@
-use Rattle.std.proofs.Common.{subst}
-use Rattle.theory.specs.Position.{IsGeometry}
-use Rattle.shared_log.specs.Handles.{LogValue}
-use Rattle.log_reading.proofs.Sourced.{passes}
-use Rattle.log_reading.proofs.source.LogFramesFrameSource.advance.Goals as goal
-
-pub returns-clause-passes : goal.returns-clause-passes
-returns-clause-passes g c = passes c.args.self.now.log.now c.args.self.now.reader c.advance.new.reader c.advance.result (subst (λ (l : LogValue). IsGeometry l.identity.geometry) c.log.view_is c.log.invariant.geometry) c.requires.stands c.advance.ensures.advances c.advance.ensures.answer

@@ -1,0 +1,5 @@
+use Rattle.shared_log.specs.Handles.{IsOf}
+use Rattle.log_tests.proofs.publishing.publish_all.Given as goal
+
+abbrev pub invariant-loop : goal.invariant-loop
+invariant-loop g l = IsOf l.log l.publisher

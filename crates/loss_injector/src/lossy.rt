@@ -1,0 +1,132 @@
+//! A device round another, through which datagrams get lost.
+
+ghost use Rattle.std.specs.Prelude.{◌≡◌, IfOk, OnErr, map};
+ghost use Rattle.endpoint.specs.Calls.{Receives, Sends};
+ghost use Rattle.endpoint.specs.Devices.{NeverFall};
+ghost use Rattle.loss_injector.specs.Injecting.{Gives};
+ghost use Rattle.loss_injector.specs.Losing.{Injects, SendsAll, SendsThrough, begun};
+
+use crate::injector::Injector;
+use crate::rates::Rates;
+use endpoint::{Datagrams, DeviceFailed};
+use rand_core::SeedableRng;
+use rand_core::utils::NextWord;
+use rand_pcg::Pcg32;
+use std::alloc::{AllocError, Global};
+use std::marker::Model;
+
+/// A device round another. Each send draws one word of its generator, and hands the inner device what the injector
+/// makes of the datagram by that word, in order, up to a fault. A receive is the inner device's, and draws none.
+///
+/// What it tells is the inner device's traffic, and not what was handed to it: so as a device it tells nothing of its
+/// own, and what becomes of a datagram is said of its `send` by name, wherever the inner device tells.
+#[derive(Drop)]
+pub struct Lossy<D> {
+    alloc: Global,
+    inner: D,
+    injector: Injector,
+    draws: Pcg32,
+}
+
+impl<D> Model for Lossy<D> {
+    ghost use Rattle.loss_injector.specs.Losing.{Losing};
+
+    ghost Value = { Losing D };
+
+    ghost view = { λ l. record { inner = l.inner; injector = l.injector; draws = l.draws } };
+}
+
+impl<D> Lossy<D> {
+    /// A device round this one, with a generator of this seed, that holds nothing back yet.
+    pub fn new(alloc: Global, device: D, rates: Rates, seed: u64) -> Lossy<D>
+        ensures { result ≡ begun device rates seed }
+    {
+        Lossy {
+            alloc,
+            inner: device,
+            injector: Injector::new(alloc, rates),
+            draws: Pcg32::seed_from_u64(seed),
+        }
+    }
+
+    /// The device behind it.
+    pub fn inner(&self) -> &D
+        ensures { result.now ≡ self.now.inner }
+    {
+        &self.inner
+    }
+}
+
+/// What the injector makes of a datagram by a random word. The error comes only where memory was refused; then the injector
+/// is as before.
+fn inject(
+    alloc: Global,
+    injector: &mut Injector,
+    datagram: &[u8],
+    word: u32,
+) -> Result<Vec<Vec<u8>>, AllocError>
+    ensures given { IfOk result (λ out. Gives injector.old word datagram.now (map (λ d. d.items) out.items) injector.new) }
+    ensures refused { OnErr result (injector.new ≡ injector.old) }
+{
+    let copy = Vec::from_slice(alloc, datagram)?;
+    injector.push(copy, word)
+}
+
+/// What goes on its way of a datagram. Where memory is refused it is lost.
+fn made_of(alloc: Global, injector: &mut Injector, datagram: &[u8], word: u32) -> Vec<Vec<u8>>
+    ensures { Injects injector.old word datagram.now (map (λ d. d.items) result.items) injector.new }
+{
+    match inject(alloc, injector, datagram, word) {
+        Ok(out) => out,
+        Err(_) => Vec::new(alloc),
+    }
+}
+
+/// Hands datagrams to a device one after the other, up to a fault.
+fn send_all<D: Datagrams>(device: &mut D, out: &[Vec<u8>]) -> Result<(), DeviceFailed>
+    ensures counts { NeverFall (D.device device.old) (D.device device.new) }
+    ensures sends { SendsAll (D.tells device.old) (D.device device.old) (map (λ d. d.items) out.now) result (D.device device.new) }
+    ensures still_tells { D.tells device.old → D.tells device.new }
+{
+    for datagram in out {
+        device.send(datagram)?;
+    }
+    Ok(())
+}
+
+impl<D: Datagrams> Datagrams for Lossy<D> {
+    ghost device = { λ l. D.device l.inner };
+
+    ghost tells = { λ _. ⊥ };
+
+    fn send(&mut self, datagram: &[u8]) -> Result<(), DeviceFailed>
+        ensures counts { NeverFall (D.device self.old.inner) (D.device self.new.inner) }
+        ensures sends { Sends ⊥ (D.device self.old.inner) datagram.now result (D.device self.new.inner) }
+        ensures through { SendsThrough D.device D.tells self.old datagram.now result self.new }
+        ensures inner_tells { D.tells self.old.inner → D.tells self.new.inner }
+    {
+        let word = self.draws.next_word();
+        if self.injector.passes(word) {
+            return self.inner.send(datagram);
+        }
+        let out = made_of(self.alloc, &mut self.injector, datagram, word);
+        send_all(&mut self.inner, &out)
+    }
+
+    fn recv(&mut self, buffer: &mut [u8]) -> Result<Option<usize>, DeviceFailed>
+        ensures counts { NeverFall (D.device self.old.inner) (D.device self.new.inner) }
+        ensures receives { Receives (D.tells self.old.inner) (D.device self.old.inner) buffer.old result buffer.new (D.device self.new.inner) }
+        ensures same { self.new ≡ record self.old { inner = self.new.inner } }
+        ensures inner_tells { D.tells self.old.inner → D.tells self.new.inner }
+    {
+        self.inner.recv(buffer)
+    }
+
+    fn failures(&self) -> u64 {
+        self.inner.failures()
+    }
+
+    fn nones(&self) -> u64 {
+        self.inner.nones()
+    }
+}

@@ -1,7 +1,0 @@
-use Rattle.std.proofs.Common.{[]}
-use Rattle.std.specs.Io.KnownBytes.{Consumes}
-use Rattle.message_input.proofs.bytes.next_byte.Given as goal
-
--- nothing was taken so far
-abbrev pub invariant-loop-turn : goal.invariant-loop-turn
-invariant-loop-turn g l = Consumes (g.R.Read.remaining l.fn.input) (g.R.Read.remaining l.input) []

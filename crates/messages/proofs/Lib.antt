@@ -1,0 +1,4 @@
+pub mod Parts
+mod Rows
+pub mod Taking
+pub mod Shown

@@ -1,0 +1,5 @@
+pub mod Forms
+pub mod Blocks
+pub mod Inputs
+pub mod Texts
+pub mod Shown

@@ -1,6 +1,0 @@
-//! A device that counts what frames it is given (`Metered`).
-#![tactic(auto)]
-
-mod meter;
-
-pub use meter::Metered;

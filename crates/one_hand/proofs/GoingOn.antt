@@ -1,0 +1,290 @@
+-- What a reader's step past a frame comes to in one hand.
+use Rattle.std.proofs.Common.{◌≡◌, ◌∙◌, ℕ, take, zero, suc, ◌+◌, ◌-◌, ◌%◌, ◌<◌, ◌≤◌, inl, inr, ⊎_elim, max, List, [], ◌∷◌, map, length, Some, refl, sym, ap, subst, arith}
+use Rattle.std.specs.Prelude.{false, Option, slice_get, slice_index, slice_set}
+use Rattle.std.specs.List.{AllByRecursion}
+use Rattle.std.proofs.lemmas.Bool.{cases_lt}
+use Rattle.std.proofs.lemmas.List.{get_or-set_same}
+use Rattle.std.proofs.Math.Seq.{take-set-lt}
+use Rattle.theory.specs.Position.{IsGeometry, aligned}
+use Rattle.theory.specs.Placed.{Among, Frame, Placed, frame_length, place_all}
+use Rattle.theory.specs.Placed as frames
+use Rattle.theory.specs.Entry.{Entry, IsEntry, committed, entry_end}
+use Rattle.theory.proofs.Frames.{are_cut, committed_below, in_order_from, placed_below, placed_in_order}
+use Rattle.theory.specs.Tiling.{Tiles}
+use Rattle.theory.proofs.Lists.{all_at, among_cases, all_set}
+use Rattle.theory.proofs.Single.{one_at}
+use Rattle.position.specs.declared.head.FrameHead.{FrameHead}
+use Rattle.theory.specs.Bytes.{Identity}
+use Rattle.frame_source.specs.Sources.{HasFrame}
+use Rattle.publication.specs.declared.pass.Controls.{Controls}
+use Rattle.publication.specs.declared.pass.FrameWords.{FrameWords}
+use Rattle.publication.specs.declared.pass.Pass.{Pass}
+use Rattle.log_rule.specs.Claims.Handles.{PublisherValue}
+use Rattle.log_rule.specs.Readings.{IsFrameAt}
+use Rattle.log_rule.proofs.InTerm.{words_cover}
+use Rattle.shared_log.specs.Handles.{LogValue}
+use Rattle.shared_log.specs.Readers as reading
+use Rattle.shared_log.specs.Readers.{OnlyReads, ReaderValue, SameSeat, positions_of}
+use Rattle.shared_log.proofs.Finding.{content_is}
+use Rattle.one_hand.specs.Entries.{claim_of}
+use Rattle.one_hand.specs.Legal.{IsStream}
+use Rattle.one_hand.specs.Reads.{Advances, source_of}
+use Rattle.one_hand.specs.Stream.{Stream, kept_from, position_of, with_consumer}
+use Rattle.one_hand.proofs.Keeps.{one_entry}
+use Rattle.one_hand.specs.declared.log_hand.held.Held.{Held}
+use Rattle.one_hand.specs.Hands.{IsInHand, stream_in}
+use Rattle.one_hand.specs.Shown.{WholeBy, shares_of, claim_in, entry_in, kept, open_claim, spans, stream_of}
+use Rattle.one_hand.specs.Parts.{Numbers, Stands}
+use Rattle.one_hand.specs.Passings.{HasHere, Passed}
+use Rattle.one_hand.specs.Readers.{reader_of}
+use Rattle.one_hand.proofs.Forgetting.{kept_among}
+use Rattle.one_hand.proofs.Found.{placed_of}
+use Rattle.one_hand.proofs.Standing.{known_in, one_of, same_place}
+use Rattle.one_hand.proofs.InHand.{is_stream, stood_count}
+
+-- ---- lists
+
+at_index : (P : ℕ → Type 0) (xs : List ℕ) (i : ℕ) → AllByRecursion P xs → i < length xs → P (slice_index xs i)
+at_index P [] i h lt = absurd (omega (arith, lt))
+at_index P (x ∷ xs) zero h lt = h.0
+at_index P (x ∷ xs) (suc i) h lt = at_index P xs i h.1 (omega (arith, lt))
+
+held_claim : (held : List (Option Held)) (by : ℕ) (h : Held) → slice_get held by ≡ Some (Some h) → slice_get (map claim_in held) by ≡ Some (Some (open_claim h))
+held_claim [] by h e = absurd (cc)
+held_claim (x ∷ xs) zero h e = let same : x ≡ Some h = cc in ap (λ y. Some (claim_in y)) same
+held_claim (x ∷ xs) (suc by) h e = held_claim xs by h e
+
+-- ---- entries
+
+-- the entry in which a frame stands
+record IsOfEntry (es : List Entry) (s : Placed) : Type 0 where
+  entry : Entry
+  among : Among entry es
+  placed_there : Among s (place_all entry.start entry.frames)
+
+of_entry : (es : List Entry) (s : Placed) → Among s (committed es) → IsOfEntry es s
+of_entry [] s a = absurd a
+of_entry (e ∷ es) s a = ⊎_elim
+    (λ (here : Among s (place_all e.start e.frames)). record { entry = e; among = inl refl; placed_there = here })
+    (λ (later : Among s (committed es)). let r = of_entry es s later in record { entry = r.entry; among = inr r.among; placed_there = r.placed_there })
+    (among_cases s (place_all e.start e.frames) (committed es) a)
+
+-- ---- entries that tile
+
+entry_from : (t p tail : ℕ) (es : List Entry) (a : Entry) → Tiles t p tail es → Among a es → p ≤ a.start
+entry_from t p tail [] a h k = absurd k
+entry_from t p tail (e ∷ es) a h (inl same) = let at : a.start ≡ e.start = ap (λ (y : Entry). y.start) same in let first = h.0 in omega (arith, at, first)
+entry_from t p tail (e ∷ es) a h (inr k) = let r = entry_from t (entry_end e) tail es a h.2 k in let first = h.0 in omega (arith, r, first)
+
+behind_entry : (t p tail : ℕ) (es : List Entry) (d e : Entry) → Tiles t p tail es → AllByRecursion IsEntry es → Among d es → Among e es → d.start < e.start → entry_end d ≤ e.start
+behind_entry t p tail [] d e h k a b lt = absurd a
+behind_entry t p tail (x ∷ es) d e h k (inl same) (inl there) lt = absurd (let s = ap (λ (y : Entry). y.start) same in let r = ap (λ (y : Entry). y.start) there in omega (arith, lt, s, r))
+behind_entry t p tail (x ∷ es) d e h k (inl same) (inr b) lt = let from = entry_from t (entry_end x) tail es e h.2 b in let end : entry_end d ≡ entry_end x = ap entry_end same in omega (arith, from, end)
+behind_entry t p tail (x ∷ es) d e h k (inr a) (inl there) lt = absurd (let from = entry_from t (entry_end x) tail es d h.2 a in let at : e.start ≡ x.start = ap (λ (y : Entry). y.start) there in omega (arith, lt, from, at))
+behind_entry t p tail (x ∷ es) d e h k (inr a) (inr b) lt = behind_entry t (entry_end x) tail es d e h.2 k.1 a b lt
+
+-- ---- the pass is back
+
+module _ (l : LogValue) (p : PublisherValue) (held : List (Option Held)) (hand : IsInHand l p held) where
+  abbrev t : ℕ
+  t = p.pass.identity.geometry.term_length
+
+  abbrev tail : ℕ
+  tail = p.pass.start + spans p.pass.right.claims
+
+  abbrev all : List Entry
+  all = map (entry_in p.pass.work.frames) p.pass.right.claims
+
+  -- where the readers may stand
+  abbrev IsStand : ℕ → Type 0
+  IsStand x = (x % 32 ≡ 0) × (p.pass.keeping.cleaned ≤ max p.pass.start (x - t)) × (p.pass.start ≤ x) × (x ≤ tail) × ((by : ℕ) (h : Held) → slice_get held by ≡ Some (Some h) → x ≤ h.start)
+
+  stands_at : (k : ℕ) → k < l.consumers → IsStand (slice_index (positions_of p.pass) k)
+  stands_at k lt =
+      let w = hand.whole in let n = stood_count l p.pass p.controls hand.all in let low : k < length (positions_of p.pass) = omega (arith, lt, n) in
+      let r = at_index (λ x. (p.pass.start ≤ x) × (x ≤ tail)) (positions_of p.pass) k w.reached low in
+      (at_index (λ x. x % 32 ≡ 0) (positions_of p.pass) k w.stream.consumer_units low, at_index (λ x. p.pass.keeping.cleaned ≤ max p.pass.start (x - t)) (positions_of p.pass) k w.stream.readable low, r.0, r.1, λ by h at. at_index (λ x. x ≤ h.start) (positions_of p.pass) k (w.above by h at) low)
+
+  -- its consumers stand there
+  module _ (q : PublisherValue) (seat : SameSeat p q) (only : OnlyReads p.pass q.pass) (ps : List ℕ) (stand : positions_of q.pass ≡ ps) (units : AllByRecursion (λ x. x % 32 ≡ 0) ps) (readable : AllByRecursion (λ x. p.pass.keeping.cleaned ≤ max p.pass.start (x - t)) ps)
+      (reached : AllByRecursion (λ x. (p.pass.start ≤ x) × (x ≤ tail)) ps) (above : (by : ℕ) (h : Held) → slice_get held by ≡ Some (Some h) → AllByRecursion (λ x. x ≤ h.start) ps) where
+    controls_same : q.controls ≡ p.controls
+    controls_same = seat.controls hand.free.sure
+
+    abbrev moved : Stream
+    moved = record (stream_of p.pass p.controls held) { consumers = ps }
+
+    shown_moved : stream_of q.pass q.controls held ≡ moved
+    shown_moved = (λ j. record (stream_of (only.rest j) (controls_same j) held) { consumers = stand j })
+
+    moved_is : IsStream moved
+    moved_is = let is = hand.whole.stream in record { geometry = is.geometry; identity = is.identity; unit = is.unit; below = is.below; from = is.from; to = is.to; last = is.last; first = is.first; tiles = is.tiles; entries = is.entries; eight = is.eight; shares = is.shares; numbers = is.numbers; claims = λ by c h. (let o = is.claims by c h in record { entry = o.entry; short = o.short }); word = is.word; consumer_units = units; readable = readable }
+
+    abbrev Whole : Pass → Controls → List ℕ → Type 0
+    Whole x c xs = WholeBy x.identity x.start xs x.keeping.cleaned x.right.claims x.work.frames x.work.drafts c held
+
+    whole_moved : Whole p.pass p.controls ps
+    whole_moved = let w = hand.whole in record { settled = w.settled; eight = w.eight; follow = w.follow; past = w.past; chained = w.chained; begun = w.begun; above = above; reached = reached; stream = moved_is }
+
+    back : IsInHand l q held
+    back = let of = hand.free.of in let a = hand.all in record {
+      free = record { of = record { table = seat.of ∙ of.table; identity = ap (λ (x : Pass). x.identity) only.rest ∙ of.identity; start = ap (λ (x : Pass). x.start) only.rest ∙ of.start }; sure = seat.sure ∙ hand.free.sure; idle = ap (λ (x : Pass). x.right.armed) only.rest ∙ hand.free.idle };
+      whole = subst (λ (z : Pass × Controls × List ℕ). Whole z.0 z.1 z.2) (λ j. (sym only.rest j, sym controls_same j, sym stand j)) whole_moved;
+      all = record {
+        parts = ap (λ (x : Pass). x.right.parts) only.rest ∙ a.parts;
+        numbers = only.numbers ∙ a.numbers;
+        few = a.few;
+        any = a.any;
+        keeper = ap (λ (x : Pass). x.keeping.right) only.rest ∙ a.keeper;
+        limit = ap (λ (x : Pass). x.keeping.limit) only.rest ∙ a.limit ∙ ap (λ (c : Controls). c.limit) (sym controls_same);
+      };
+    }
+
+    shows : stream_in q held ≡ kept moved
+    shows = ap kept shown_moved
+
+  abbrev shown : List Placed
+  shown = committed (kept_from p.pass.keeping.cleaned all)
+
+  one_shown : (s x : Placed) → Among s shown → Among x shown → s.at ≡ x.at → s ≡ x
+  one_shown s x a b e = let is = is_stream l p held hand in one_at t is.first tail (kept_from p.pass.keeping.cleaned all) s x is.tiles is.entries a b e
+
+  shape : l.identity ≡ p.pass.identity
+  shape = sym hand.free.of.identity
+
+  module _ (k : ℕ) (low : k < l.consumers) where
+    abbrev position : ℕ
+    position = slice_index (positions_of p.pass) k
+
+    abbrev r : ReaderValue
+    r = reader_of p k position
+
+    -- past the frame that was read
+    module _ (r1 r2 : ReaderValue) (head : FrameHead) (before after : List ℕ) (has : HasFrame (source_of (stream_in p held) k) (position_of (stream_in p held) k)) (h : reading.ReadsFrame l (reader_of p k position) head before r1 after) (a : reading.Advances r1 r2) where
+      abbrev stays : reading.Stays r r1
+      stays = h.finds.stays
+
+      abbrev stood : Placed
+      stood = record { at = r.position; frame = has.frame }
+
+      abbrev one : (f : FrameWords) × Among f p.pass.work.frames × (stood ≡ placed_of f)
+      one = one_of l p held hand stood has.among
+
+      begins : one.0.start ≡ r.position
+      begins = sym (ap (λ (x : Placed). x.at) one.2)
+
+      at1 : r1.position ≡ r.position
+      at1 = ap (λ (z : ReaderValue). z.position) stays.same
+
+      mine : reading.Has r1 one.0
+      mine = inr (subst (λ (x : Pass). Among one.0 x.work.frames) (sym stays.pass.rest) one.1)
+
+      here : IsFrameAt l.identity r1.position one.0
+      here = subst (λ (i : Identity). IsFrameAt i r1.position one.0) (ap (λ (x : Pass). x.identity) stays.pass.rest ∙ sym shape) (a.here one.0 mine (begins ∙ sym at1))
+
+      legal : IsGeometry l.identity.geometry
+      legal = subst (λ (i : Identity). IsGeometry i.geometry) (sym shape) hand.whole.stream.geometry
+
+      end_is : r2.position ≡ frames.end_of stood
+      end_is =
+          ap (λ (z : ReaderValue). z.position) a.same ∙ a.ends one.0 mine (begins ∙ sym at1)
+          ∙ ap (λ (n : ℕ). one.0.start + n) (words_cover l.identity one.0 here.done ∙ ap (λ (x : Frame). aligned (frame_length x)) (sym (content_is l.identity one.0 legal here.done)))
+          ∙ ap frames.end_of (sym one.2)
+
+      below_tail : r2.position ≤ tail
+      below_tail = let is = is_stream l p held hand in let b = all_at (λ (s : Placed). frames.end_of s ≤ tail) stood shown (committed_below t is.first tail (kept_from p.pass.keeping.cleaned all) is.tiles is.entries) has.among in omega (arith, end_is, b)
+
+      below_open : (by : ℕ) (x : Held) → slice_get held by ≡ Some (Some x) → r2.position ≤ x.start
+      below_open by x holds =
+          let w = hand.whole in let c = w.stream.claims by (open_claim x) (held_claim held by x holds) in let e : Entry = claim_of p.pass.identity.geometry x.start by false x.size in
+          let d = of_entry (kept_from p.pass.keeping.cleaned all) stood has.among in
+          let d_among : Among d.entry all = kept_among p.pass.keeping.cleaned all d.entry d.among in
+          let from : d.entry.start ≤ r.position = in_order_from d.entry.start (place_all d.entry.start d.entry.frames) stood (placed_in_order d.entry.start d.entry.frames) d.placed_there in
+          let entry = all_at IsEntry d.entry all w.stream.entries d_among in
+          let inside : frames.end_of stood ≤ entry_end d.entry = all_at (λ (s : Placed). frames.end_of s ≤ entry_end d.entry) stood (place_all d.entry.start d.entry.frames) (placed_below d.entry.start d.entry.cuts d.entry.frames (are_cut d.entry.padding d.entry.cuts d.entry.frames entry.frames)) d.placed_there in
+          let le : r.position ≤ x.start = (stands_at k low).4 by x holds in
+          ⊎_elim
+          (λ (lt : d.entry.start < e.start). let b = behind_entry t w.stream.first tail all d.entry e w.stream.tiles w.stream.entries d_among c.entry lt in omega (arith, end_is, inside, b))
+          (λ (ge : e.start ≤ d.entry.start). absurd (subst (λ (y : Entry). Among stood (place_all y.start y.frames)) (one_entry t w.stream.first tail all d.entry e w.stream.tiles w.stream.entries d_among c.entry (omega (arith, from, le, ge))) d.placed_there))
+          (cases_lt d.entry.start e.start)
+
+      further : IsStand r2.position
+      further =
+          let s = stands_at k low in let s0 = s.0 in let s1 = s.1 in let s2 = s.2 in let e : r2.position ≡ r.position + aligned (frame_length has.frame) = end_is in
+          (unit r2.position r.position (frame_length has.frame) e s0, omega (arith, e, s1), omega (arith, e, s2), below_tail, below_open)
+        where
+          unit : (e x n : ℕ) → e ≡ x + aligned n → x % 32 ≡ 0 → e % 32 ≡ 0
+          unit e x n same even = omega (arith, same, even)
+
+      goes : SameSeat p r2.held × OnlyReads p.pass r2.held.pass × (positions_of r2.held.pass ≡ slice_set (positions_of p.pass) k r2.position)
+      goes =
+          let s = stays.seat in let b = a.seat in let sure1 : r1.held.sure ≡ 1 = s.sure ∙ hand.free.sure in (
+            record { of = b.of ∙ s.of; seat = b.seat ∙ s.seat; sure = b.sure ∙ s.sure; controls = λ sure. b.controls sure1 ∙ s.controls sure },
+            record { rest = a.pass.rest ∙ ap (λ (x : Pass). record x { reading = r2.held.pass.reading }) stays.pass.rest; numbers = a.pass.numbers ∙ stays.pass.numbers },
+            a.positions ∙ (λ j. slice_set (stays.positions j) ((stays.same j).place) ((sym (ap (λ (z : ReaderValue). z.position) a.same)) j)),
+          )
+
+      abbrev ps : List ℕ
+      ps = slice_set (positions_of p.pass) k r2.position
+
+      each : (P : ℕ → Type 0) → P r2.position → AllByRecursion P (positions_of p.pass) → AllByRecursion P ps
+      each P h all' = all_set P (positions_of p.pass) k r2.position h all'
+
+      goes_on : Advances (stream_in p held) k r2.position (stream_in r2.held held) × IsInHand l r2.held held
+      goes_on =
+          let w = hand.whole in let f = further in
+          let units = each (λ x. x % 32 ≡ 0) f.0 w.stream.consumer_units in
+          let readable = each (λ x. p.pass.keeping.cleaned ≤ max p.pass.start (x - t)) f.1 w.stream.readable in
+          let reached = each (λ x. (p.pass.start ≤ x) × (x ≤ tail)) (f.2, f.3) w.reached in
+          let above : (by : ℕ) (x : Held) → slice_get held by ≡ Some (Some x) → AllByRecursion (λ y. y ≤ x.start) ps = λ by x holds. each (λ y. y ≤ x.start) (f.4 by x holds) (w.above by x holds) in
+          let after : stream_in r2.held held ≡ with_consumer (stream_in p held) k r2.position = shows r2.held goes.0 goes.1 ps goes.2 units readable reached above in
+          let n = stood_count l p.pass p.controls hand.all in (
+            record {
+              passes = record {
+                behind = λ s among at. end_is ∙ ap frames.end_of (one_shown stood s has.among among (sym at));
+                moved = ap (λ (x : Stream). source_of x k) after ∙ ap (λ (x : ℕ). record (source_of (stream_in p held) k) { position = x }) (get_or-set_same (positions_of p.pass) k r2.position 0 (omega (arith, low, n)));
+              };
+              after = after;
+            },
+            back r2.held goes.0 goes.1 ps goes.2 units readable reached above,
+          )
+
+-- ---- what a hand has
+
+module _ (l : LogValue) (p : PublisherValue) (held : List (Option Held)) (n : Numbers) (st : Stands l p held n) (number position : ℕ) (now : Stream) (e : stream_in p held ≡ now) (lt : number < length now.consumers) (stands : slice_index n.positions number ≡ position) where
+  known : number < l.consumers
+  known = known_in l p held st.hand now number e lt
+
+  at_place : slice_index (positions_of p.pass) number ≡ position
+  at_place = sym (same_place l p held st.hand n.positions number st.numbers.positions known) ∙ stands
+
+  has_frame : HasFrame (source_of now number) (position_of now number) → HasFrame (source_of (stream_in p held) number) (position_of (stream_in p held) number)
+  has_frame has = subst (λ (x : Stream). HasFrame (source_of x number) (position_of x number)) (sym e) has
+
+  -- a frame of the pass begins where the reader stands
+  pub has_here : HasFrame (source_of now number) (position_of now number) → HasHere p position
+  has_here has =
+      let h = has_frame has in let f = one_of l p held st.hand (record { at = slice_index (positions_of p.pass) number; frame = h.frame }) h.among in
+      record { frame = f.0; among = f.1; here = sym (ap (λ (x : Placed). x.at) f.2) ∙ at_place }
+
+  pub passes : (before : List ℕ) (q : PublisherValue) (end : ℕ) → HasFrame (source_of now number) (position_of now number) → Passed l p number position before q end → Advances now number end (stream_in q held) × Stands l q held (record n { positions = slice_set n.positions number end })
+  passes before q end has h =
+      let reads : reading.ReadsFrame l (reader_of p number (slice_index (positions_of p.pass) number)) h.head before h.between h.after = subst (λ (x : ℕ). reading.ReadsFrame l (reader_of p number x) h.head before h.between h.after) (sym at_place) h.reads in
+      let g = goes_on l p held st.hand number known h.between h.reader h.head before h.after (has_frame has) reads h.advances in
+      let moves = goes l p held st.hand number known h.between h.reader h.head before h.after (has_frame has) reads h.advances in
+      let was = st.numbers in let rest = moves.1.rest in
+      let stood : take l.consumers (slice_set n.positions number h.reader.position) ≡ positions_of h.reader.held.pass = take-set-lt l.consumers n.positions number h.reader.position known ∙ ap (λ (xs : List ℕ). slice_set xs number h.reader.position) was.positions ∙ sym moves.2 in
+      let all' : Advances now number h.reader.position (stream_in h.reader.held held) × Stands l h.reader.held held (record n { positions = slice_set n.positions number h.reader.position }) = (
+        subst (λ (x : Stream). Advances x number h.reader.position (stream_in h.reader.held held)) e g.0,
+        record {
+          hand = g.1;
+          numbers = record {
+            shares = was.shares ∙ ap (λ (x : Pass). shares_of x.right.claims) (sym rest);
+            positions = stood;
+            limit = was.limit ∙ ap (λ (x : Pass). x.keeping.limit) (sym rest);
+            cleaned = was.cleaned ∙ ap (λ (x : Pass). x.keeping.cleaned) (sym rest);
+            block = was.block;
+          };
+        },
+      ) in
+      subst (λ (z : ℕ × PublisherValue). Advances now number z.0 (stream_in z.1 held) × Stands l z.1 held (record n { positions = slice_set n.positions number z.0 })) (λ j. (sym h.end_is j, h.seat j)) all'

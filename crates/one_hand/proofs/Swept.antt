@@ -1,0 +1,42 @@
+-- The positions that the keeper saw are those of the pass's own consumers, and the limit word that it stores.
+use Rattle.std.proofs.Common.{◌≡◌, ◌∙◌, ℕ, zero, suc, ◌+◌, ◌*◌, ◌/◌, ◌%◌, ◌<◌, inl, inr, max, Bool, true, false, cond, List, [], ◌∷◌, map, length, drop, refl, sym, ap, arith}
+use Rattle.std.specs.Prelude.{◌&&◌, not, slice_index}
+use Rattle.std.proofs.lemmas.Bool.{eq-eqb, ne_eqb}
+use Rattle.theory.specs.Placed.{Among}
+use Rattle.theory.specs.Refusal.{is_closed, is_connected, limit_in}
+use Rattle.publication.specs.declared.pass.Reading.{Reading}
+use Rattle.shared_log.specs.Keepers.{raised}
+use Rattle.one_hand.specs.Hands.{counted}
+
+-- a number for each consumer, in their order
+pub seen_all : (rs : List Reading) (from k : ℕ) → map (λ (r : Reading). r.number) rs ≡ counted from k → (ps : List ℕ) → length ps ≡ k → ((j : ℕ) → j < k → (r : Reading) → Among r rs → r.number ≡ from + j → slice_index ps j ≡ r.position) → ps ≡ map (λ (r : Reading). r.position) rs
+seen_all [] from zero e [] long own = refl
+seen_all [] from zero e (p ∷ ps) long own = absurd (omega arith)
+seen_all [] from (suc k) e ps long own = absurd (cc)
+seen_all (r ∷ rs) from zero e ps long own = absurd (cc)
+seen_all (r ∷ rs) from (suc k) e [] long own = absurd (omega arith)
+seen_all (r ∷ rs) from (suc k) e (p ∷ ps) long own =
+    let here : r.number ≡ from = ap (λ (xs : List ℕ). slice_index xs 0) e in
+    let first : p ≡ r.position = own 0 (omega arith) r (inl refl) (omega arith) in
+    let rest : ps ≡ map (λ (x : Reading). x.position) rs = seen_all rs (suc from) k (ap (λ (xs : List ℕ). drop 1 xs) e) ps (omega arith) (λ j lt x a n. own (suc j) (omega arith) x (inr a) (omega arith)) in
+    (λ j. first j ∷ rest j)
+
+-- ---- the limit word
+
+pub record Word (w least t : ℕ) (after : ℕ) : Type 0 where
+  pub limit : limit_in after ≡ cond (is_connected w && not (is_closed w)) (max (limit_in w) (least + t / 2)) (limit_in w)
+  pub connected : is_connected after ≡ is_connected w
+  pub closed : is_closed after ≡ is_closed w
+
+raised_by : (w least t : ℕ) (a b : Bool) → is_connected w ≡ a → is_closed w ≡ b → least % 32 ≡ 0 → t % 64 ≡ 0 → Word w least t (cond (a && not b) (max (limit_in w) (least + t / 2) + 1) w)
+raised_by w least t false b ea eb u v = record { limit = ap (λ (x : Bool). cond (x && not (is_closed w)) (max (limit_in w) (least + t / 2)) (limit_in w)) (sym ea); connected = refl; closed = refl }
+raised_by w least t true true ea eb u v = record { limit = (λ j. cond (sym ea j && not (sym eb j)) (max (limit_in w) (least + t / 2)) (limit_in w)); connected = refl; closed = refl }
+raised_by w least t true false ea eb u v =
+    let m : ℕ = max (w / 4 * 4) (least + t / 2) in let unit : m % 4 ≡ 0 = omega arith in record {
+      limit = (let e : (m + 1) / 4 * 4 ≡ m = omega arith in e) ∙ (λ j. cond (sym ea j && not (sym eb j)) (max (limit_in w) (least + t / 2)) (limit_in w));
+      connected = eq-eqb ((m + 1) % 2) 1 (omega arith) ∙ sym ea;
+      closed = ne_eqb ((m + 1) / 2 % 2) 1 (λ e. omega arith) ∙ sym eb;
+    }
+
+pub raised_is : (w least t : ℕ) → least % 32 ≡ 0 → t % 64 ≡ 0 → Word w least t (raised w least t)
+raised_is w least t u v = raised_by w least t (is_connected w) (is_closed w) refl refl u v

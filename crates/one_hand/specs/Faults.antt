@@ -1,9 +1,0 @@
--- The codes that a user sees.
-use Rattle.std.specs.Prelude.{ℕ, List, codes}
-use Rattle.one_hand.specs.declared.fault.LogError.{LogError}
-use Rattle.one_hand.specs.declared.fault.LogError.TheVariants.{Start, Consumers, Memory}
-
-abbrev pub code_of : LogError → List ℕ
-code_of Start = codes "L1"
-code_of Consumers = codes "L2"
-code_of Memory = codes "L3"

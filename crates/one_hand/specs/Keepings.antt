@@ -1,0 +1,32 @@
+-- What the keeper's calls of the pass that has all come to.
+use Rattle.std.specs.Prelude.{◌≡◌, ℕ}
+use Rattle.theory.specs.Refusal.{limit_in}
+use Rattle.log_rule.specs.Claims.Handles.{PublisherValue}
+use Rattle.shared_log.specs.Handles.{IsOf, LogValue}
+use Rattle.log_rule.specs.Keepings.{with_keeping}
+use Rattle.shared_log.specs.Keepers.{CleansAndLimits, IsKeeping, KeeperValue}
+
+-- the pass is the keeper, which knows the limit word and how far is cleaned
+pub record MayKeep (l : LogValue) (p : PublisherValue) (limit cleaned : ℕ) : Type 0 where
+  pub of : IsOf l p
+  pub is : IsKeeping p.pass limit cleaned
+
+-- the limit word is this one then
+pub record SetsLimit (p : PublisherValue) (word cleaned : ℕ) (q : PublisherValue) (answer : ℕ) : Type 0 where
+  pub of : q.of ≡ p.of
+  pub pass : q.pass ≡ with_keeping p.pass (record p.pass.keeping { limit = word })
+  pub sure : q.sure ≡ p.sure
+  pub controls : p.sure ≡ 1 → q.controls ≡ record p.controls { limit = word }
+  pub answer_is : answer ≡ word
+
+abbrev pub keeper_of : PublisherValue → ℕ → ℕ → KeeperValue
+keeper_of p limit cleaned = record { held = p; limit = limit; cleaned = cleaned }
+
+-- all was cleaned that may be, and the limit raised
+pub record Cleans (l : LogValue) (p : PublisherValue) (limit cleaned : ℕ) (q : PublisherValue) (word low answer : ℕ) : Type 0 where
+  pub keeper : KeeperValue
+  pub cleans : CleansAndLimits l (keeper_of p limit cleaned) keeper
+  pub seat : keeper.held ≡ q
+  pub word_is : word ≡ keeper.limit
+  pub low_is : low ≡ keeper.cleaned
+  pub answer_is : answer ≡ limit_in keeper.limit

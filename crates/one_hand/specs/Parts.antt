@@ -1,0 +1,41 @@
+-- What a hand holds beside its log, and what it shows.
+use Rattle.std.specs.Prelude.{◌≡◌, ℕ, ◌≤◌, List, take, Option, None, Some}
+use Rattle.log_rule.specs.Claims.Handles.{PublisherValue}
+use Rattle.log_rule.specs.Claims.Closing.{no_identity}
+use Rattle.log_rule.specs.Claims.Plays.{newcomer}
+use Rattle.log_rule.specs.Claims.Sure.{no_controls}
+use Rattle.shared_log.specs.Readers.{positions_of}
+use Rattle.shared_log.specs.Handles.{LogValue}
+use Rattle.one_hand.specs.Stream.{Stream}
+use Rattle.one_hand.specs.declared.log_hand.held.Held.{Held}
+use Rattle.one_hand.specs.Shown.{kept, shares_of, stream_of}
+use Rattle.one_hand.specs.Hands.{IsInHand, stream_in}
+
+-- the shares, the readers' positions, the limit word, how far is cleaned, and the length of the block
+pub record Numbers : Type 0 where
+  pub shares : List ℕ
+  pub positions : List ℕ
+  pub limit : ℕ
+  pub cleaned : ℕ
+  pub block : ℕ
+
+-- they are those of the pass that has all
+pub record AreNumbers (l : LogValue) (p : PublisherValue) (n : Numbers) : Type 0 where
+  pub shares : n.shares ≡ shares_of p.pass.right.claims
+  pub positions : take l.consumers n.positions ≡ positions_of p.pass
+  pub limit : n.limit ≡ p.pass.keeping.limit
+  pub cleaned : n.cleaned ≡ p.pass.keeping.cleaned
+  pub block : l.identity.geometry.mtu ≤ n.block
+
+pub record Stands (l : LogValue) (p : PublisherValue) (held : List (Option Held)) (n : Numbers) : Type 0 where
+  pub hand : IsInHand l p held
+  pub numbers : AreNumbers l p n
+
+-- between two calls the pass is there
+abbrev pub IsHand : LogValue → Option PublisherValue → List (Option Held) → Numbers → Type 0
+IsHand l None held n = ⊥
+IsHand l (Some p) held n = Stands l p held n
+
+abbrev pub stream_at : Option PublisherValue → List (Option Held) → Stream
+stream_at None held = kept (stream_of (newcomer no_identity 0 0 0) no_controls held)
+stream_at (Some p) held = stream_in p held

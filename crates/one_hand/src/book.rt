@@ -1,9 +1,0 @@
-use crate::claims::PUBLISHERS;
-
-/// What a closed log held: from where to where, and how many bytes of that each publisher claimed.
-#[derive(Clone, Copy, Debug, PartialEq, Eq)]
-pub struct Book {
-    pub start: u64,
-    pub tail: u64,
-    pub shares: [u64; PUBLISHERS],
-}

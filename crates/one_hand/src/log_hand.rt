@@ -1,0 +1,241 @@
+//! One hand over a log.
+
+ghost use Rattle.std.specs.Prelude.{◌≡◌, IfOk, IsErrOf, ◌↔◌};
+ghost use Rattle.position.specs.Openings.{IsConsumerCount, IsStart};
+ghost use Rattle.one_hand.specs.Stream.{opened};
+
+pub(crate) mod acting;
+pub(crate) mod held;
+pub(crate) mod keeping;
+pub(crate) mod passing;
+pub(crate) mod reading;
+
+use crate::claims::Claims;
+use crate::log_hand::acting::{abort_as, claim_as, commit_as, offer_as};
+use crate::log_hand::held::Held;
+use crate::log_hand::keeping::{clean_as, set_closed_as, set_connected_as};
+use crate::log_hand::passing::advance_as;
+use crate::log_hand::reading::{next_as, reread_as};
+use crate::one_hand::OneHandLog;
+use block::Block;
+use position::{FrameHead, Geometry};
+use publication::Refusal;
+use shared_log::{Book, Log, LogError, PUBLISHERS, Publisher};
+use std::alloc::Global;
+use std::marker::Model;
+
+/// A log with all its eight publishers, its readers and its keeper.
+#[derive(Drop)]
+pub struct LogHand {
+    log: Log,
+    /// The pass that has all. It is out only within a call.
+    all: Option<Publisher>,
+    /// By the publishers' numbers.
+    held: [Option<Held>; PUBLISHERS],
+    shares: [u64; PUBLISHERS],
+    /// The readers' positions, by their numbers.
+    positions: [u64; 8],
+    /// The limit word, and the position below which nothing is readable any more.
+    limit: u64,
+    cleaned: u64,
+    /// The frame that a reader goes past.
+    block: Block,
+}
+
+impl Model for LogHand {
+    ghost use Rattle.std.specs.Prelude.{length};
+    ghost use Rattle.one_hand.specs.Stream.{Stream};
+    ghost use Rattle.one_hand.specs.Parts.{IsHand, stream_at};
+
+    ghost Value = { Stream };
+
+    ghost view = { λ h. stream_at h.all h.held };
+
+    ghost invariant = { λ h. IsHand h.log h.all h.held (record { shares = h.shares; positions = h.positions; limit = h.limit; cleaned = h.cleaned; block = length h.block }) };
+}
+
+impl LogHand {
+    /// A log at a start, unconnected, with its limit at the start, and all its passes. The start is judged first, then
+    /// the number of consumers; then memory is asked for.
+    pub fn open(
+        alloc: Global,
+        geometry: Geometry,
+        session: i32,
+        stream: i32,
+        start: u64,
+        consumers: usize,
+    ) -> Result<LogHand, LogError>
+        ensures opened { IfOk result (λ h. h ≡ opened (record { geometry = geometry; session = session; stream = stream }) start consumers) }
+        ensures start { IsErrOf result LogError.Start ↔ (¬ IsStart geometry start) }
+        ensures consumers { IsErrOf result LogError.Consumers ↔ (IsStart geometry start × (¬ IsConsumerCount consumers)) }
+        ensures in_range { IfOk result (λ _. IsStart geometry start × IsConsumerCount consumers) }
+        ensures memory { IsErrOf result LogError.Memory → IsStart geometry start × IsConsumerCount consumers }
+    {
+        let (log, all) = Log::open_whole(alloc, geometry, session, stream, start, consumers)?;
+        let block = Block::new(alloc, geometry.mtu() as usize)?;
+        Ok(LogHand {
+            log,
+            all: Some(all),
+            held: [None; PUBLISHERS],
+            shares: [0; PUBLISHERS],
+            positions: [start; 8],
+            limit: start,
+            cleaned: start,
+            block,
+        })
+    }
+}
+
+impl Claims for LogHand {
+    ghost stream = { λ s. s };
+
+    fn geometry(&self) -> Geometry {
+        self.log.identity().geometry()
+    }
+
+    fn is_whole(&self) {
+        let _ = self.log.start();
+    }
+
+    fn claimed(&self, publisher: usize) -> Option<u32> {
+        match self.held[publisher] {
+            None => None,
+            Some(held) => Some(held.size),
+        }
+    }
+
+    fn offer(&mut self, publisher: usize, message: &[u8]) -> Result<u64, Refusal> {
+        let Some(mut all) = self.all.take() else {
+            unreachable!();
+        };
+        let before = all.share();
+        let answer = offer_as(&self.log, &mut all, publisher as u64, message);
+        self.shares[publisher] += all.share() - before;
+        self.all = Some(all);
+        answer
+    }
+
+    fn claim(&mut self, publisher: usize, size: u32) -> Result<(u64, u64), Refusal> {
+        let covered = self.geometry().framed_length(size);
+        let Some(mut all) = self.all.take() else {
+            unreachable!();
+        };
+        let before = all.share();
+        let answer = claim_as(&self.log, &mut all, publisher as u64, size);
+        self.shares[publisher] += all.share() - before;
+        self.all = Some(all);
+        let start = answer?;
+        self.held[publisher] = Some(Held { start, size });
+        Ok((start, start + u64::from(covered)))
+    }
+
+    fn commit(&mut self, publisher: usize, payload: &[u8]) -> u64 {
+        let Some(mut all) = self.all.take() else {
+            unreachable!();
+        };
+        let Some(held) = self.held[publisher] else {
+            unreachable!();
+        };
+        let end = commit_as(&self.log, &mut all, publisher as u64, held, payload);
+        self.held[publisher] = None;
+        self.all = Some(all);
+        end
+    }
+
+    fn abort(&mut self, publisher: usize) -> u64 {
+        let Some(mut all) = self.all.take() else {
+            unreachable!();
+        };
+        let Some(held) = self.held[publisher] else {
+            unreachable!();
+        };
+        let end = abort_as(&self.log, &mut all, publisher as u64, held);
+        self.held[publisher] = None;
+        self.all = Some(all);
+        end
+    }
+}
+
+impl OneHandLog for LogHand {
+    fn next(&mut self, reader: usize, block: &mut Block) -> Option<FrameHead> {
+        let Some(all) = self.all.take() else {
+            unreachable!();
+        };
+        let position = self.positions[reader];
+        let (all, head) = next_as(&self.log, all, reader as u64, position, block);
+        self.all = Some(all);
+        head
+    }
+
+    fn advance(&mut self, reader: usize) -> u64 {
+        let Some(all) = self.all.take() else {
+            unreachable!();
+        };
+        let position = self.positions[reader];
+        let (all, end) = advance_as(&self.log, all, reader as u64, position, &mut self.block);
+        self.positions[reader] = end;
+        self.all = Some(all);
+        end
+    }
+
+    fn reread(&mut self, reader: usize, position: u64, block: &mut Block) -> FrameHead {
+        let Some(all) = self.all.take() else {
+            unreachable!();
+        };
+        let stands = self.positions[reader];
+        let (all, head) = reread_as(&self.log, all, reader as u64, stands, position, block);
+        self.all = Some(all);
+        head
+    }
+
+    fn clean_and_limit(&mut self) -> u64 {
+        let Some(all) = self.all.take() else {
+            unreachable!();
+        };
+        let (all, word, cleaned, limit) = clean_as(&self.log, all, self.limit, self.cleaned);
+        self.limit = word;
+        self.cleaned = cleaned;
+        self.all = Some(all);
+        limit
+    }
+
+    fn set_connected(&mut self, connected: bool) {
+        let Some(all) = self.all.take() else {
+            unreachable!();
+        };
+        let (all, limit) = set_connected_as(&self.log, all, self.limit, self.cleaned, connected);
+        self.limit = limit;
+        self.all = Some(all);
+    }
+
+    fn set_closed(&mut self) {
+        let Some(all) = self.all.take() else {
+            unreachable!();
+        };
+        let (all, limit) = set_closed_as(&self.log, all, self.limit, self.cleaned);
+        self.limit = limit;
+        self.all = Some(all);
+    }
+
+    fn close(self) -> Book {
+        let LogHand {
+            log,
+            all,
+            held: _,
+            shares,
+            positions: _,
+            limit: _,
+            cleaned: _,
+            block: _,
+        } = self;
+        let Some(all) = all else {
+            unreachable!();
+        };
+        let start = log.start();
+        Book {
+            start,
+            tail: start + all.share(),
+            shares,
+        }
+    }
+}

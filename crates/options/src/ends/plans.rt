@@ -1,0 +1,52 @@
+ghost use Rattle.position.specs.Openings.{IsStart};
+
+use loss_injector::Rates;
+use messages::Form;
+use position::Geometry;
+
+/// What both ends are made of.
+#[derive(Clone, Copy, Debug)]
+pub struct EndPlan {
+    /// The port on this machine.
+    pub port: u16,
+    /// The stream's id.
+    pub stream: i32,
+    /// What becomes of the datagrams that it sends.
+    pub rates: Rates,
+    /// Where the random words begin.
+    pub seed: u64,
+    /// How messages stand in its input or output.
+    pub form: Form,
+    /// Whether the counters are shown.
+    pub counters: bool,
+}
+
+/// What a publisher is made of.
+#[derive(Clone, Copy, Debug)]
+pub struct PublishPlan {
+    pub end: EndPlan,
+    /// The stream's shape.
+    pub geometry: Geometry,
+    pub session: i32,
+    /// Where the stream starts.
+    pub start: u64,
+    /// After how many nanoseconds without progress it gives up, once its input has ended.
+    pub linger: u64,
+    pub ghost legal: { IsStart geometry start },
+}
+
+/// What a subscriber is made of.
+#[derive(Clone, Copy, Debug)]
+pub struct SubscribePlan {
+    pub end: EndPlan,
+    /// The one session that it takes; any where it names none.
+    pub session: Option<i32>,
+    /// The longest term of a stream that it takes, in bytes.
+    pub greatest_term: u32,
+    /// Its own id.
+    pub receiver: i64,
+    /// After how many messages it ends.
+    pub messages: u64,
+    /// After how many nanoseconds without a datagram it ends.
+    pub quiet: u64,
+}

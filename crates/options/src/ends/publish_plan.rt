@@ -1,0 +1,130 @@
+//! A publisher's plan.
+
+ghost use Rattle.std.specs.Prelude.{◌≡◌, ◌<◌, ◌^◌, ℕ, pos, IfErr, IfOk, IfSome, IfNone, IsErrOf};
+ghost use Rattle.theory.specs.Position.{IsGeometry, IsMtu, IsTermLength, count_of};
+ghost use Rattle.position.specs.Openings.{IsStart};
+ghost use Rattle.options.specs.Ends.Plans.{ExplainsNoPublishPlan, IsPlace, IsPublishFault, IsPublishPlanOf, IsPublishPlanWith, StartsAt, first_term, geometry_of, mtu_of, term_of};
+
+use crate::ends::end_plan::{NANOSECONDS_PER_SECOND, end_plan};
+use crate::ends::fault::EndFault;
+use crate::ends::ids::Drawn;
+use crate::ends::options::PublishOptions;
+use crate::ends::plans::PublishPlan;
+use channel::{Channel, Start, read_channel};
+use position::{Geometry, GeometryError};
+
+/// The bytes of a term where none are named.
+const TERM: u32 = 65_536;
+
+/// The most bytes of a datagram where none are named.
+const MTU: u32 = 1408;
+
+/// The id of the first term: the one that is named, or a drawn one.
+fn first_term(start: Option<Start>, drawn: Drawn) -> i32
+    ensures { result ≡ first_term start drawn }
+{
+    match start {
+        None => drawn.initial_term_id,
+        Some(start) => start.initial_term_id,
+    }
+}
+
+/// The shape of the channel's stream: terms of 65,536 bytes and an MTU of 1,408 bytes where none are named.
+fn shape(channel: &Channel, drawn: Drawn) -> Result<Geometry, GeometryError>
+    ensures made { IfOk result (λ g. (g ≡ geometry_of channel.now drawn) × IsGeometry g) }
+    ensures term_length { IsErrOf result GeometryError.TermLength → ¬ IsTermLength (term_of channel.now) }
+    ensures mtu { IsErrOf result GeometryError.Mtu → IsTermLength (term_of channel.now) × (¬ IsMtu (term_of channel.now) (mtu_of channel.now)) }
+{
+    let term = channel.term_length.unwrap_or(TERM);
+    let mtu = channel.mtu.unwrap_or(MTU);
+    Geometry::new(term, mtu, first_term(channel.start, drawn))
+}
+
+/// The position at which a stream starts, if it is one.
+fn start_in(geometry: &Geometry, start: Option<Start>) -> Option<u64>
+    ensures found { IfSome result (λ at. StartsAt start geometry.now at × IsStart geometry.now at) }
+    ensures none { IfNone result ((at : ℕ) → StartsAt start geometry.now at → ⊥) }
+{
+    match start {
+        None => Some(beginning(geometry)),
+        Some(start) => named_start(geometry, start),
+    }
+}
+
+/// The stream's first position.
+#[tactic(auto, using(crate::proofs::Starts::first))]
+fn beginning(geometry: &Geometry) -> u64
+    ensures { (result ≡ 0) × IsStart geometry.now 0 }
+{
+    let _term_length = geometry.term_length();
+    0
+}
+
+/// How many terms stand before the one with this id, if it isn't before the first one.
+fn count_in(geometry: &Geometry, term_id: i32) -> Option<u32>
+    ensures found { IfSome result (λ n. (count_of geometry.now term_id ≡ pos n) × (n < 2 ^ 31)) }
+    ensures none { IfNone result ((n : ℕ) → count_of geometry.now term_id ≡ pos n → ⊥) }
+{
+    let count = term_id.wrapping_sub(geometry.initial_term_id());
+    u32::try_from(count).ok()
+}
+
+/// The position that a start names: a term id that isn't before the first one, and an offset in that term, a multiple of
+/// 32.
+fn named_start(geometry: &Geometry, start: Start) -> Option<u64>
+    ensures found { IfSome result (λ at. IsPlace start geometry.now at × IsStart geometry.now at) }
+    ensures none { IfNone result ((at : ℕ) → IsPlace start geometry.now at → ⊥) }
+{
+    let count = count_in(geometry, start.term_id)?;
+    let length = geometry.term_length();
+    if !start.term_offset.is_multiple_of(32) || start.term_offset >= length {
+        return None;
+    }
+    Some(u64::from(count) * u64::from(length) + u64::from(start.term_offset))
+}
+
+/// The plan of a channel that was read.
+fn plan_of<'a>(
+    options: &PublishOptions<'a>,
+    drawn: Drawn,
+    channel: &Channel,
+) -> Result<PublishPlan, EndFault<'a>>
+    requires { options.now.end.stream < 2 ^ 31 }
+    ensures made { IfOk result (λ p. IsPublishPlanWith options.now drawn channel.now p) }
+    ensures fault { IfErr result (λ f. IsPublishFault options.now.end channel.now drawn f) }
+{
+    let geometry = match shape(channel, drawn) {
+        Ok(geometry) => geometry,
+        Err(GeometryError::TermLength) => return Err(EndFault::TermLength),
+        Err(GeometryError::Mtu) => return Err(EndFault::Mtu),
+    };
+    let Some(start) = start_in(&geometry, channel.start) else {
+        return Err(EndFault::Start);
+    };
+    let Ok(end) = end_plan(&options.end, channel) else {
+        return Err(EndFault::Rates);
+    };
+    Ok(PublishPlan {
+        end,
+        geometry,
+        session: channel.session_id.unwrap_or(drawn.session),
+        start,
+        linger: u64::from(options.linger) * NANOSECONDS_PER_SECOND,
+    })
+}
+
+/// What a publisher is made of, with a drawn session and first term where none are named. The channel is judged first, then
+/// the term length, the MTU, the start and the rates.
+pub fn publish_plan<'a>(
+    options: &PublishOptions<'a>,
+    drawn: Drawn,
+) -> Result<PublishPlan, EndFault<'a>>
+    requires { options.now.end.stream < 2 ^ 31 }
+    ensures made { IfOk result (λ p. IsPublishPlanOf options.now drawn p) }
+    ensures fault { IfErr result (λ f. ExplainsNoPublishPlan options.now drawn f) }
+{
+    match read_channel(options.end.channel) {
+        Ok(channel) => plan_of(options, drawn, &channel),
+        Err(fault) => Err(EndFault::Channel(fault)),
+    }
+}

@@ -1,0 +1,117 @@
+-- Computed rows: the words of frames, what tails say, and a whole claim.
+use Rattle.std.proofs.Common.{◌≡◌, [], ◌∷◌, take, refl, lit<, lit≤, arith}
+use Rattle.std.specs.Prelude.{pos}
+use Rattle.theory.specs.Bytes.{Identity}
+use Rattle.theory.specs.Placed.{Data, Pad}
+use Rattle.theory.specs.Position.{Geometry}
+use Rattle.publication.specs.declared.pass.Pass.{Pass}
+use Rattle.publication.specs.declared.step.WordStep.TheVariants as steps
+use Rattle.publication.specs.Steps.{Adds, Arms, Counts, Sees, addition, count_in, message_at, noted, opened, start_in, tail_step, with_armed, with_count, with_limit}
+use Rattle.publication.specs.Frames.{frame_words, stored_words}
+use Rattle.publication.specs.Claims.{Claimed}
+
+abbrev shape : Geometry
+shape = record { term_length = 65536; mtu = 1408; initial_term_id = pos 7 }
+
+abbrev stream : Identity
+stream = record { geometry = shape; session = pos 1; stream = pos 1001 }
+
+-- three bytes at the start
+three_bytes : frame_words stream 0 (Data 192 (97 ∷ 98 ∷ 99 ∷ [])) ≡ 0x0001c00000000023 ∷ 0x0000000100000000 ∷ 0x00000007000003e9 ∷ 0 ∷ 0x636261 ∷ 0 ∷ 0 ∷ 0 ∷ []
+unfolding frame_words
+three_bytes = refl
+
+-- a padding up to the term's end
+term_end : take 6 (frame_words stream 57184 (Pad 8352)) ≡ 0x0000c000000020a0 ∷ 0x000000010000df60 ∷ 0x00000007000003e9 ∷ 0 ∷ 0 ∷ 0 ∷ []
+unfolding frame_words
+term_end = refl
+
+-- four words of a header, and one of three bytes
+five_words : stored_words (35 ∷ []) ≡ 5
+five_words = refl
+
+-- tails: at the start, behind 57,184 bytes, in the next term, and in the one before the first
+at_start : start_in shape 0x0000000700000000 ≡ 0
+at_start = refl
+
+further : start_in shape 0x000000070000df60 ≡ 57184
+further = refl
+
+next_term : start_in shape 0x0000000800000020 ≡ 65568
+next_term = refl
+
+wrapped : start_in (record { term_length = 65536; mtu = 1408; initial_term_id = pos 2147483647 }) 0x8000000000000000 ≡ 65536
+wrapped = refl
+
+unused : count_in shape 0x0000000500000000 ≡ 4294967294
+unused = refl
+
+-- ---- a claim of three bytes on a log that was just opened and connected, its limit at half a term
+
+abbrev fresh : Pass
+fresh = record {
+  identity = stream;
+  start = 0;
+  number = 0;
+  call = [];
+  right = record { parts = 1; limit = 0; armed = 0; claims = [] };
+  work = record { frames = []; drafts = [] };
+  seen = record { count = 0; term = 0; full = 0; begun = 0 };
+  reading = [];
+  keeping = record { right = 0; limit = 0; cleaned = 0; positions = [] };
+}
+
+abbrev seen_limit : Pass
+seen_limit = noted (steps.Limit 32769) (with_limit fresh 32769)
+
+abbrev seen_count : Pass
+seen_count = noted (steps.Count 0) (with_count seen_limit 0)
+
+abbrev armed : Pass
+armed = noted (tail_step seen_count 0x0000000700000000) (with_armed seen_count)
+
+abbrev claimed : Pass
+claimed = noted (addition armed 3 0x0000000700000000) (opened armed (message_at armed 0x0000000700000000 3))
+
+sees : Sees fresh 32769 seen_limit
+sees = refl
+
+counts : Counts seen_limit 0 seen_count
+counts = record { term = record { begun = lit≤ tt; small = lit< tt }; after = refl }
+
+arms : Arms seen_count 0x0000000700000000 armed
+arms = record {
+  below = λ id room below. refl;
+  limited = λ id room reached. absurd (omega (arith, reached));
+  used_up = λ id over. absurd (omega (arith, over));
+  other = λ other. absurd (other refl);
+}
+
+adds : Adds armed 3 0x0000000700000000 claimed
+adds = record {
+  term = record { begun = lit≤ tt; small = lit< tt };
+  unit = refl;
+  narrow = lit< tt;
+  fits = λ inside. refl;
+  trips = λ below over. absurd (omega (arith, over));
+  over = λ over. absurd (omega (arith, over));
+}
+
+is_claimed : Claimed fresh 3 0 claimed
+is_claimed = record {
+  limit = 32769;
+  count = 0;
+  tail = 0x0000000700000000;
+  word = 0x0000000700000000;
+  call = refl;
+  unclosed = refl;
+  id = refl;
+  room = lit< tt;
+  below = lit< tt;
+  term = record { begun = lit≤ tt; small = lit< tt };
+  inside = lit≤ tt;
+  from = refl;
+  in_stream = lit≤ tt;
+  after = refl;
+  idle = refl;
+}

@@ -1,0 +1,50 @@
+-- What an accepted offer leaves of its pass, and what ends a claim.
+use Rattle.std.specs.Prelude.{◌≡◌, ℕ, ◌+◌, ◌≤◌, Bool, true, List, [], ◌∷◌, ◌++◌, length, slice_set, suc}
+use Rattle.theory.specs.Position.{cuts_of, framed_length}
+use Rattle.publication.specs.declared.pass.FrameWords.{FrameWords}
+use Rattle.publication.specs.declared.pass.Pass.{Pass}
+use Rattle.publication.specs.Steps.{blank, blanks, frame, geometry_of, with_work, works}
+use Rattle.publication.specs.Frames.{message_frames}
+use Rattle.publication.specs.Claims.{Claimed}
+
+-- words with these over them, from the kth on
+abbrev pub patch : List ℕ → ℕ → List ℕ → List ℕ
+patch old k [] = old
+patch old k (x ∷ xs) = patch (slice_set old k x) (suc k) xs
+
+-- words are stored in the open frame that begins here, from the kth on
+abbrev pub Puts : Pass → ℕ → ℕ → List ℕ → Pass → Type 0
+Puts v p k xs w = (front : List FrameWords) (words : List ℕ) (behind : List FrameWords) → v.work.drafts ≡ front ++ frame p words ∷ behind → k + length xs ≤ length words
+    → w ≡ with_work v.work.frames (front ++ frame p (patch words k xs) ∷ behind) v
+
+-- one of the open frames begins here, and has so many words at least
+pub record HasRoom (v : Pass) (p count : ℕ) : Type 0 where
+  pub front : List FrameWords
+  pub words : List ℕ
+  pub behind : List FrameWords
+  pub parts : v.work.drafts ≡ front ++ frame p words ∷ behind
+  pub room : count ≤ length words
+
+-- open frames of these lengths follow each other from here, and nothing of them is stored
+pub record HasBlanks (v : Pass) (p : ℕ) (cuts : List ℕ) : Type 0 where
+  pub front : List FrameWords
+  pub behind : List FrameWords
+  pub parts : v.work.drafts ≡ front ++ (blanks p cuts ++ behind)
+
+-- they are committed as the frames of what is left of a message
+abbrev pub FillsAll : Pass → Bool → ℕ → List ℕ → Pass → Type 0
+FillsAll v first p message w = (front behind : List FrameWords) → v.work.drafts ≡ front ++ (blanks p (cuts_of (geometry_of v) (length message)) ++ behind)
+    → w ≡ with_work (v.work.frames ++ message_frames v.identity first p message) (front ++ behind) v
+
+-- one claim more, and its frames are committed whole with the message as payload
+pub record Offered (p : Pass) (message : List ℕ) (end : ℕ) (q : Pass) : Type 0 where
+  pub start : ℕ
+  pub between : Pass
+  pub claimed : Claimed p (length message) start between
+  pub end_is : end ≡ start + framed_length (geometry_of p) (length message)
+  pub after : q ≡ with_work (p.work.frames ++ message_frames p.identity true start message) p.work.drafts between
+
+-- one claim more, of one frame, which is open
+pub record Opened (p : Pass) (size start : ℕ) (q : Pass) : Type 0 where
+  pub claimed : Claimed p size start q
+  pub one : q.work ≡ works p.work.frames (p.work.drafts ++ blank start (32 + size) ∷ [])

@@ -1,0 +1,131 @@
+//! The word calls.
+
+ghost use Rattle.std.specs.Prelude.{◌≡◌, ℕ, ◌+◌, ◌-◌, ◌%◌, ◌^◌, ◌<◌, ◌≤◌, ◌∷◌, ◌++◌, [], List, suc, length};
+ghost use Rattle.theory.specs.Position.{max_message};
+ghost use Rattle.theory.specs.Words.{id_before, id_in};
+ghost use Rattle.publication.specs.declared.pass.Pass.{Pass};
+ghost use Rattle.publication.specs.declared.step.WordStep.{WordStep};
+ghost use Rattle.publication.specs.declared.step.WordStep.TheVariants as steps;
+ghost use Rattle.publication.specs.Frames.{CompletesFrame};
+ghost use Rattle.publication.specs.Steps.{Adds, Arms, Commits, Counts, ExchangesCount, HasWord, Moved, Nexts, Rotates, Sees, Stores, addition, begun_word, geometry_of, tail_step};
+
+use position::Identity;
+
+/// What has the words of a log. Each call but `identity` is one step on one word, and its contract speaks of its pass and
+/// of the word that it answers. Counts of terms lie below 2^31, positions at or below the greatest.
+pub trait WordCalls {
+    type Pass;
+
+    // The pass is one of this log, and what it knows is true.
+    ghost fits: { Self → Self.Pass → Type 0 };
+
+    // What is seen of a pass.
+    ghost pass_of: { Self → Self.Pass → Pass };
+
+    // What stays of a log, whatever its passes do.
+    ghost Id: { Type 0 };
+
+    ghost id: { Self → Id };
+
+    // Two passes of a log with different names are two.
+    ghost name: { Self.Pass → ℕ };
+
+    // From the one state to the other the pass made these steps on control words, and so many stores.
+    ghost took: { Self → Self.Pass → Self → Self.Pass → List WordStep → ℕ → Type 0 };
+
+    /// Which stream the log carries.
+    fn identity(&self, pass: &Self::Pass) -> Identity
+        requires { fits self.now pass.now }
+        ensures { result ≡ (pass_of self.now pass.now).identity };
+
+    /// Loads the limit word; a call begins.
+    fn load_limit(&mut self, pass: &mut Self::Pass) -> u64
+        requires fits { fits self.old pass.old }
+        ensures moved { Moved fits pass_of name id self.old pass.old self.new pass.new }
+        ensures took { took self.old pass.old self.new pass.new (steps.Limit result ∷ []) 0 }
+        ensures told { Sees (pass_of self.old pass.old) result (pass_of self.new pass.new) };
+
+    /// Loads the active count.
+    fn load_count(&mut self, pass: &mut Self::Pass) -> u32
+        requires fits { fits self.old pass.old }
+        requires few { length (pass_of self.old pass.old).call < 7 }
+        ensures moved { Moved fits pass_of name id self.old pass.old self.new pass.new }
+        ensures took { took self.old pass.old self.new pass.new (steps.Count result ∷ []) 0 }
+        ensures told { Counts (pass_of self.old pass.old) result (pass_of self.new pass.new) };
+
+    /// Loads the raw tail of the count that was loaded last. Where it shows room below the limit that was loaded, the
+    /// pass may add to it once.
+    fn load_tail(&mut self, pass: &mut Self::Pass, count: u32) -> u64
+        requires fits { fits self.old pass.old }
+        requires few { length (pass_of self.old pass.old).call < 7 }
+        requires count { (pass_of self.old pass.old).seen.count ≡ count }
+        ensures moved { Moved fits pass_of name id self.old pass.old self.new pass.new }
+        ensures took { took self.old pass.old self.new pass.new (tail_step (pass_of self.old pass.old) result ∷ []) 0 }
+        ensures told { Arms (pass_of self.old pass.old) result (pass_of self.new pass.new) };
+
+    /// Adds what a message of `size` bytes covers to the raw tail of a count's partition. The answer is the word before
+    /// that, perhaps of a later term than this count's.
+    fn add(&mut self, pass: &mut Self::Pass, count: u32, size: u32) -> u64
+        requires fits { fits self.old pass.old }
+        requires few { length (pass_of self.old pass.old).call < 7 }
+        requires armed { (pass_of self.old pass.old).right.armed ≡ 1 }
+        requires count { (pass_of self.old pass.old).seen.term ≡ count }
+        requires short { size ≤ max_message (pass_of self.old pass.old).identity.geometry }
+        ensures moved { Moved fits pass_of name id self.old pass.old self.new pass.new }
+        ensures took { took self.old pass.old self.new pass.new (addition (pass_of self.old pass.old) size result ∷ []) 0 }
+        ensures told { Adds (pass_of self.old pass.old) size result (pass_of self.new pass.new) };
+
+    /// Loads the raw tail of the partition behind a count's, whose term is used up.
+    fn load_next(&mut self, pass: &mut Self::Pass, count: u32) -> u64
+        requires fits { fits self.old pass.old }
+        requires few { length (pass_of self.old pass.old).call < 7 }
+        requires full { (pass_of self.old pass.old).seen.full ≡ suc count }
+        requires last { count < 2 ^ 31 - 1 }
+        ensures moved { Moved fits pass_of name id self.old pass.old self.new pass.new }
+        ensures took { took self.old pass.old self.new pass.new (steps.NextTail ((count + 1) % 3) result ∷ []) 0 }
+        ensures told { Nexts (pass_of self.old pass.old) count result (pass_of self.new pass.new) };
+
+    /// Exchanges the raw tail of the partition behind a count's, from the word that was loaded to the start of the next
+    /// term. The answer is the word that was there.
+    fn exchange_next(&mut self, pass: &mut Self::Pass, count: u32, from: u64) -> u64
+        requires fits { fits self.old pass.old }
+        requires few { length (pass_of self.old pass.old).call < 7 }
+        requires full { (pass_of self.old pass.old).seen.full ≡ suc count }
+        requires last { count < 2 ^ 31 - 1 }
+        requires from { id_in from ≡ id_before (pass_of self.old pass.old).identity.geometry count 2 }
+        ensures moved { Moved fits pass_of name id self.old pass.old self.new pass.new }
+        ensures took { took self.old pass.old self.new pass.new (steps.TailExchange ((count + 1) % 3) from (begun_word (geometry_of (pass_of self.old pass.old)) count) result ∷ []) 0 }
+        ensures told { Rotates (pass_of self.old pass.old) count from result (pass_of self.new pass.new) };
+
+    /// Exchanges the active count from this one to the next, whose term has begun. The answer is the count that was
+    /// there.
+    fn exchange_count(&mut self, pass: &mut Self::Pass, count: u32) -> u32
+        requires fits { fits self.old pass.old }
+        requires few { length (pass_of self.old pass.old).call < 7 }
+        requires begun { (pass_of self.old pass.old).seen.begun ≡ count + 1 }
+        requires last { count < 2 ^ 31 - 1 }
+        ensures moved { Moved fits pass_of name id self.old pass.old self.new pass.new }
+        ensures took { took self.old pass.old self.new pass.new (steps.CountExchange count result ∷ []) 0 }
+        ensures told { ExchangesCount (pass_of self.old pass.old) count result (pass_of self.new pass.new) };
+
+    /// Stores a word of an open frame of the pass that isn't its first.
+    fn store_word(&mut self, pass: &mut Self::Pass, position: u64, word: u64)
+        requires fits { fits self.old pass.old }
+        requires inside { HasWord (pass_of self.old pass.old) 1 position }
+        ensures moved { Moved fits pass_of name id self.old pass.old self.new pass.new }
+        ensures took { took self.old pass.old self.new pass.new [] 1 }
+        ensures told { Stores (pass_of self.old pass.old) position word (pass_of self.new pass.new) };
+
+    /// Stores the first word of an open frame of the pass, which is then committed: a message's frame or a padding, whole.
+    fn commit(&mut self, pass: &mut Self::Pass, start: u64, word: u64)
+        requires fits { fits self.old pass.old }
+        requires completes { CompletesFrame (pass_of self.old pass.old) start word }
+        requires word { 0 < word }
+        ensures moved { Moved fits pass_of name id self.old pass.old self.new pass.new }
+        ensures took { took self.old pass.old self.new pass.new [] 1 }
+        ensures told { Commits (pass_of self.old pass.old) start word (pass_of self.new pass.new) };
+
+    ghost none: { (l : Self) (p : Self.Pass) → took l p l p [] 0 };
+
+    ghost more: { (l : Self) (p : Self.Pass) (m : Self) (q : Self.Pass) (n : Self) (r : Self.Pass) (xs ys : List WordStep) (a b : ℕ) → took l p m q xs a → took m q n r ys b → took l p n r (xs ++ ys) (a + b) };
+}

@@ -1,0 +1,147 @@
+//! Frames, stored into open claims.
+
+ghost use Rattle.std.specs.Prelude.{◌≡◌, ◌+◌, ◌-◌, ◌*◌, ◌/◌, ◌^◌, ◌<◌, ◌≤◌, ◌∷◌, [], length, true};
+ghost use Rattle.theory.specs.Position.{aligned, cuts_of, framed_length, max_message, max_position};
+ghost use Rattle.theory.specs.Placed.{Data, Pad};
+ghost use Rattle.theory.specs.Wire.{IsDataFlags};
+ghost use Rattle.publication.specs.Frames.{frame_flags, header_words, payload_words, stored_words};
+ghost use Rattle.publication.specs.Claims.{Fills, HasBlank, PartOfCall, exactly, message_words};
+ghost use Rattle.publication.specs.Offers.{FillsAll, HasBlanks, HasRoom, Puts};
+
+use crate::frame_words::{first_word, last_word, pair_word, whole_word};
+use crate::words::WordCalls;
+use position::{BEGIN, END, Identity, UNFRAGMENTED};
+
+/// Stores the words of a frame's header behind the first one.
+#[inline(always)]
+fn put_header<W: WordCalls>(words: &mut W, pass: &mut W::Pass, identity: &Identity, start: u64)
+    requires fits { W.fits words.old pass.old }
+    requires in_stream { start ≤ max_position identity.now.geometry }
+    requires room { HasRoom (W.pass_of words.old pass.old) start 4 }
+    ensures part { PartOfCall W.fits W.pass_of W.name W.id W.took words.old pass.old words.new pass.new (exactly 3) }
+    ensures puts { Puts (W.pass_of words.old pass.old) start 1 (header_words identity.now start) (W.pass_of words.new pass.new) }
+    ensures below { start < 2 ^ 56 }
+{
+    let place = identity.geometry().term_of(start);
+    let session = identity.session().cast_unsigned();
+    let stream = identity.stream().cast_unsigned();
+    let first = pair_word(place.offset, session);
+    let second = pair_word(stream, place.term_id.cast_unsigned());
+    words.store_word(pass, start + 8, first);
+    words.store_word(pass, start + 16, second);
+    words.store_word(pass, start + 24, 0);
+}
+
+/// Stores a payload's words behind a header, the last of them with zeros up to its end.
+#[inline(always)]
+fn put_payload<W: WordCalls>(words: &mut W, pass: &mut W::Pass, start: u64, payload: &[u8])
+    requires fits { W.fits words.old pass.old }
+    requires below { start < 2 ^ 56 }
+    requires short { length payload.now < 2 ^ 32 }
+    requires room { HasRoom (W.pass_of words.old pass.old) start (4 + (length payload.now + 7) / 8) }
+    ensures part { PartOfCall W.fits W.pass_of W.name W.id W.took words.old pass.old words.new pass.new (exactly ((length payload.now + 7) / 8)) }
+    ensures puts { Puts (W.pass_of words.old pass.old) start 4 (payload_words payload.now) (W.pass_of words.new pass.new) }
+{
+    let whole = payload.len() / 8;
+    for index in 0..whole {
+        let at = 8 * index;
+        let word = whole_word(payload, at);
+        words.store_word(pass, start + 32 + at as u64, word);
+    }
+    let at = 8 * whole;
+    if at == payload.len() {
+        return;
+    }
+    let word = last_word(payload, at);
+    words.store_word(pass, start + 32 + at as u64, word);
+}
+
+/// Writes and commits a data frame into an open frame of its length, of which nothing is stored.
+#[inline(always)]
+pub(crate) fn write_data<W: WordCalls>(
+    words: &mut W,
+    pass: &mut W::Pass,
+    start: u64,
+    flags: u8,
+    payload: &[u8],
+)
+    requires fits { W.fits words.old pass.old }
+    requires in_stream { start ≤ max_position (W.pass_of words.old pass.old).identity.geometry }
+    requires flags { IsDataFlags flags }
+    requires short { 32 + length payload.now ≤ (W.pass_of words.old pass.old).identity.geometry.mtu }
+    requires blank { HasBlank (W.pass_of words.old pass.old) start (32 + length payload.now) }
+    ensures part { PartOfCall W.fits W.pass_of W.name W.id W.took words.old pass.old words.new pass.new (exactly (stored_words ((32 + length payload.now) ∷ []))) }
+    ensures fills { Fills (W.pass_of words.old pass.old) start (Data flags payload.now) (W.pass_of words.new pass.new) }
+{
+    let identity = words.identity(pass);
+    let _ = identity.geometry();
+    put_header(words, pass, &identity, start);
+    put_payload(words, pass, start, payload);
+    let word = first_word(false, flags, payload.len() as u32 + 32);
+    words.commit(pass, start, word);
+}
+
+/// Writes and commits a padding into an open frame of its length, of which nothing is stored.
+#[inline(always)]
+pub(crate) fn write_padding<W: WordCalls>(
+    words: &mut W,
+    pass: &mut W::Pass,
+    start: u64,
+    frame_length: u32,
+)
+    requires fits { W.fits words.old pass.old }
+    requires in_stream { start ≤ max_position (W.pass_of words.old pass.old).identity.geometry }
+    requires long { 32 ≤ frame_length }
+    requires short { frame_length ≤ (W.pass_of words.old pass.old).identity.geometry.term_length }
+    requires blank { HasBlank (W.pass_of words.old pass.old) start frame_length }
+    ensures part { PartOfCall W.fits W.pass_of W.name W.id W.took words.old pass.old words.new pass.new (exactly 4) }
+    ensures fills { Fills (W.pass_of words.old pass.old) start (Pad frame_length) (W.pass_of words.new pass.new) }
+{
+    let identity = words.identity(pass);
+    put_header(words, pass, &identity, start);
+    let word = first_word(true, UNFRAGMENTED, frame_length);
+    words.commit(pass, start, word);
+}
+
+/// The flags of a message's frame, by whether it is the first and the last.
+fn flags_of(first: bool, last: bool) -> u8
+    ensures value { result ≡ frame_flags first last }
+    ensures legal { IsDataFlags result }
+{
+    match (first, last) {
+        (true, true) => UNFRAGMENTED,
+        (true, false) => BEGIN,
+        (false, true) => END,
+        (false, false) => 0,
+    }
+}
+
+/// Writes and commits a message's frames, from the first to the last, into open frames of their lengths.
+#[inline(always)]
+pub(crate) fn write_message<W: WordCalls>(
+    words: &mut W,
+    pass: &mut W::Pass,
+    start: u64,
+    message: &[u8],
+)
+    requires fits { W.fits words.old pass.old }
+    requires in_stream { start + framed_length (W.pass_of words.old pass.old).identity.geometry (length message.now) ≤ max_position (W.pass_of words.old pass.old).identity.geometry }
+    requires short { length message.now ≤ max_message (W.pass_of words.old pass.old).identity.geometry }
+    requires blanks { HasBlanks (W.pass_of words.old pass.old) start (cuts_of (W.pass_of words.old pass.old).identity.geometry (length message.now)) }
+    ensures part { PartOfCall W.fits W.pass_of W.name W.id W.took words.old pass.old words.new pass.new (message_words (length message.now)) }
+    ensures fills { FillsAll (W.pass_of words.old pass.old) true start message.now (W.pass_of words.new pass.new) }
+{
+    let geometry = words.identity(pass).geometry();
+    let most = geometry.max_payload() as usize;
+    let mut first = true;
+    let mut at = start;
+    let mut rest = message;
+    while rest.len() > most {
+        let (part, behind) = rest.split_at(most);
+        write_data(words, pass, at, flags_of(first, false), part);
+        first = false;
+        at += u64::from(geometry.mtu());
+        rest = behind;
+    }
+    write_data(words, pass, at, flags_of(first, true), rest);
+}

@@ -1,0 +1,25 @@
+-- What a publisher begins with.
+use Rattle.endpoint.specs.Udp.{Udp}
+use Rattle.loss_injector.specs.Losing.{Losing, begun}
+use Rattle.peer.specs.Watching.{Watching, watching}
+use Rattle.peer.specs.declared.attended.Sent.{Sent}
+use Rattle.shared_log.specs.Books.{IsDone}
+use Rattle.shared_log.specs.Parts.{IsNewReader}
+use Rattle.options.specs.declared.ends.plans.PublishPlan.{PublishPlan}
+use Rattle.publisher.specs.Openings.{ArePasses, IsPlanned}
+use Rattle.publisher.specs.declared.publisher_parts.PublisherParts.{PublisherParts}
+
+-- the stream of the plan
+abbrev pub sent_by : PublishPlan → Sent
+sent_by p = record { geometry = p.geometry; session = p.session; stream = p.end.stream }
+
+-- datagrams get lost by the plan's rates and seed, and the receivers of its stream are noted, which starts where the plan says
+abbrev pub device_of : PublishPlan → Udp → Watching (Losing Udp)
+device_of p device = watching (begun device p.end.rates p.end.seed) (sent_by p) p.start
+
+-- a log of the plan with its passes, a queue and a device
+pub record ArePublisherParts (p : PublishPlan) (b : PublisherParts) : Type 0 where
+  pub log_is : IsPlanned p b.state.log
+  pub publisher : IsDone b.state.log b.publisher
+  pub reader : IsNewReader b.state.log 0 b.reader
+  pub passes : ArePasses b.state b.passes

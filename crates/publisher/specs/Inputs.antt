@@ -1,0 +1,20 @@
+-- Why a publisher reads and offers nothing more.
+use Rattle.std.specs.Prelude.{◌≡◌, ◌≤◌, ⊤}
+use Rattle.theory.specs.Position.{Geometry, max_message}
+use Rattle.messages.specs.declared.fault.InputFault.{InputFault}
+use Rattle.messages.specs.declared.fault.InputFault.TheVariants as inputs
+use Rattle.publisher.specs.declared.fault.PublishFault.{PublishFault}
+use Rattle.publisher.specs.declared.fault.PublishFault.TheVariants.{Input, Full, Failed}
+
+-- messages are counted from 1, and the greatest is that of the stream
+abbrev pub IsOfMessage : Geometry → InputFault → Type 0
+IsOfMessage g inputs.Read = ⊤
+IsOfMessage g (inputs.TooLong number greatest) = (1 ≤ number) × (greatest ≡ max_message g)
+IsOfMessage g (inputs.Cut number) = 1 ≤ number
+IsOfMessage g inputs.Memory = ⊤
+
+-- a message couldn't be read, or the stream is at its last position
+abbrev pub StopsReading : Geometry → PublishFault → Type 0
+StopsReading g (Input fault) = IsOfMessage g fault
+StopsReading g Full = ⊤
+StopsReading g (Failed error) = ⊥

@@ -1,0 +1,5 @@
+pub mod Inputs
+pub mod Openings
+pub mod Progress
+pub mod Texts
+pub mod Beginnings

@@ -1,0 +1,50 @@
+-- What a user reads of a fault, and what a publisher tells on its error output.
+use Rattle.std.specs.Prelude.{ℕ, List, [], ◌∷◌, ◌++◌, Option, None, Some, codes, decimal, nat_lt, if◌then◌else◌}
+use Rattle.std.specs.Fmt.{signed_decimal}
+use Rattle.peer.specs.declared.attendance.Attendance.{Attendance}
+use Rattle.peer.specs.declared.attendance.Heard.{Heard}
+use Rattle.endpoint.specs.Texts as devices
+use Rattle.messages.specs.Texts as inputs
+use Rattle.publisher.specs.declared.telling.Counts.{Counts}
+use Rattle.publisher.specs.declared.fault.PublishFault.{PublishFault}
+use Rattle.publisher.specs.declared.fault.PublishFault.TheVariants.{Input, Full, Failed}
+
+abbrev pub text_of : PublishFault → List ℕ
+text_of (Input fault) = inputs.text_of fault
+text_of Full = codes "the stream is at its last position"
+text_of (Failed error) = devices.text_of error
+
+-- ---- lines
+
+-- texts one after the other
+abbrev pub joined : List (List ℕ) → List ℕ
+joined [] = []
+joined (text ∷ []) = text
+joined (text ∷ next ∷ texts) = text ++ joined (next ∷ texts)
+
+-- the one that was heard before, and the one that is heard now
+abbrev pub left_text : Heard → List ℕ
+left_text h = joined (codes "receiver " ∷ signed_decimal h.receiver ∷ codes " left at position " ∷ decimal h.last ∷ [])
+
+abbrev pub joined_text : Heard → List ℕ
+joined_text h = joined (codes "receiver " ∷ signed_decimal h.receiver ∷ codes " joined at position " ∷ decimal h.first ∷ [])
+
+abbrev pub change_line : Heard → Heard → List ℕ
+change_line left present = left_text left ++ codes ", " ++ joined_text present ++ 10 ∷ []
+
+abbrev pub change_between : Option Heard → Option Heard → List ℕ
+change_between None present = []
+change_between (Some left) None = []
+change_between (Some left) (Some present) = change_line left present
+
+abbrev pub change_text : Attendance → List ℕ
+change_text a = change_between a.left a.present
+
+-- a line only where less than the tail was told
+abbrev pub short_text : ℕ → ℕ → List ℕ
+short_text told tail = if nat_lt told tail then codes "no progress: position " ++ decimal told ++ codes " of " ++ decimal tail ++ codes " was told" ++ 10 ∷ [] else []
+
+abbrev pub counters_line : Counts → List ℕ
+counters_line c = joined (
+    codes "messages " ∷ decimal c.messages ∷ codes " tail " ∷ decimal c.tail
+    ∷ codes " told " ∷ decimal c.told ∷ codes " datagrams " ∷ decimal c.datagrams ∷ [])

@@ -1,0 +1,67 @@
+ghost use Rattle.std.specs.Prelude.{◌≡◌, Some};
+ghost use Rattle.publisher.specs.Texts.{text_of};
+ghost use Rattle.endpoint.specs.declared.device_error.DeviceError.TheVariants.{Device, Memory};
+ghost use Rattle.publisher.specs.declared.fault.PublishFault.TheVariants.{Failed, Input};
+
+use endpoint::{DeviceError, DeviceFailed};
+use messages::InputFault;
+use std::alloc::AllocError;
+use std::error::Error;
+use std::fmt;
+
+/// Why a publisher did nothing more.
+#[derive(Clone, Copy, Debug, PartialEq, Eq)]
+pub enum PublishFault {
+    /// The next message couldn't be read; those before it were delivered, or it gave up on them.
+    Input(InputFault),
+    /// The stream has come to its last position.
+    Full,
+    /// The socket, a thread or the clock failed, or memory was refused.
+    Failed(DeviceError),
+}
+
+impl fmt::Display for PublishFault {
+    ghost output = { λ fault. Some (text_of fault) };
+
+    fn fmt<W: fmt::Write>(&self, f: &mut fmt::Formatter<W>) -> fmt::Result {
+        match *self {
+            PublishFault::Input(fault) => write!(f, "{fault}"),
+            PublishFault::Full => write!(f, "the stream is at its last position"),
+            PublishFault::Failed(error) => write!(f, "{error}"),
+        }
+    }
+}
+
+impl Error for PublishFault {}
+
+impl From<InputFault> for PublishFault {
+    ghost from_gives = { λ from fault. fault ≡ Input from };
+
+    fn from(fault: InputFault) -> PublishFault {
+        PublishFault::Input(fault)
+    }
+}
+
+impl From<DeviceError> for PublishFault {
+    ghost from_gives = { λ from fault. fault ≡ Failed from };
+
+    fn from(error: DeviceError) -> PublishFault {
+        PublishFault::Failed(error)
+    }
+}
+
+impl From<DeviceFailed> for PublishFault {
+    ghost from_gives = { λ _ fault. fault ≡ Failed Device };
+
+    fn from(_failed: DeviceFailed) -> PublishFault {
+        PublishFault::Failed(DeviceError::Device)
+    }
+}
+
+impl From<AllocError> for PublishFault {
+    ghost from_gives = { λ _ fault. fault ≡ Failed Memory };
+
+    fn from(_error: AllocError) -> PublishFault {
+        PublishFault::Failed(DeviceError::Memory)
+    }
+}

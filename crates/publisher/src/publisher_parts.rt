@@ -1,0 +1,85 @@
+//! What a publisher begins with.
+
+ghost use Rattle.std.specs.Prelude.{◌≡◌, IfOk};
+ghost use Rattle.publisher.specs.Beginnings.{ArePublisherParts, device_of};
+ghost use Rattle.publisher.specs.Openings.{identity_of};
+
+use crate::fault::PublishFault;
+use crate::publisher_state::PublisherState;
+use crate::sender_thread::SenderPasses;
+use agents::{Began, Duty, LogPasses, open_log};
+use conductor::Conductor;
+use endpoint::{DeviceError, UdpDevice};
+use loss_injector::Lossy;
+use options::PublishPlan;
+use peer::{Attended, Sent};
+use position::Identity;
+use shared_log::{LogReader, Publisher};
+use std::alloc::Global;
+
+/// What a publisher begins with, but for its sender's agent.
+#[derive(Drop)]
+pub struct PublisherParts {
+    pub state: PublisherState,
+    pub publisher: Publisher,
+    pub reader: LogReader,
+    pub passes: SenderPasses<Lossy<UdpDevice>>,
+}
+
+/// The device with its room: losses are made on purpose, and receivers are noted.
+fn duty_of(
+    alloc: Global,
+    plan: &PublishPlan,
+    device: UdpDevice,
+) -> Result<Duty<Attended<Lossy<UdpDevice>>>, DeviceError>
+    ensures { IfOk result (λ d. d ≡ record { device = device_of plan.now device; mtu = plan.now.geometry.mtu }) }
+{
+    let lossy = Lossy::new(alloc, device, plan.end.rates, plan.end.seed);
+    let sent = Sent {
+        geometry: plan.geometry,
+        session: plan.session,
+        stream: plan.end.stream,
+    };
+    let device = Attended::new(lossy, sent, plan.start);
+    Ok(Duty::new(alloc, device, plan.geometry.mtu())?)
+}
+
+/// The stream of a plan.
+fn planned_stream(plan: &PublishPlan) -> Identity
+    ensures { result ≡ identity_of plan.now }
+{
+    Identity::new(plan.geometry, plan.session, plan.end.stream)
+}
+
+/// All that a publisher begins with, over a device. It fails only where memory is refused.
+pub fn publisher_parts(
+    alloc: Global,
+    plan: &PublishPlan,
+    began: Began,
+    device: UdpDevice,
+) -> Result<PublisherParts, PublishFault>
+    ensures parts { IfOk result (λ p. ArePublisherParts plan.now p) }
+    ensures device { IfOk result (λ p. p.passes.duty.device ≡ device_of plan.now device) }
+{
+    let duty = duty_of(alloc, plan, device)?;
+    let (conductor, client, taker) = Conductor::with_client(alloc)?;
+    let identity = planned_stream(plan);
+    let LogPasses {
+        log,
+        mut publishers,
+        reader,
+        keeper,
+    } = open_log(alloc, identity, plan.start)?;
+    let publisher = publishers.remove(0);
+    Ok(PublisherParts {
+        state: PublisherState::new(log, conductor, began),
+        publisher,
+        reader,
+        passes: SenderPasses {
+            client,
+            duty,
+            keeper,
+            taker,
+        },
+    })
+}

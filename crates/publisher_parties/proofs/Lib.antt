@@ -1,4 +1,0 @@
-pub mod Begun
-pub mod Ends
-pub mod Inputs
-pub mod Lines

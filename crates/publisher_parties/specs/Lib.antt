@@ -1,4 +1,0 @@
-pub mod Inputs
-pub mod Openings
-pub mod Progress
-pub mod Texts

@@ -1,5 +1,0 @@
-pub mod Messages
-pub mod Lanes
-pub mod Books
-pub mod Followers
-pub mod Limits

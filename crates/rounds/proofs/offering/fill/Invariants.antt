@@ -1,6 +1,0 @@
-use Rattle.std.proofs.Common.{◌≡◌, ◌≤◌}
-use Rattle.rounds.specs.Rounds.{Claims, IsSender}
-use Rattle.rounds.proofs.offering.fill.Given as goal
-
-abbrev pub invariant-loop : goal.invariant-loop
-invariant-loop l = record { same : l.words ≡ l.log; sender : IsSender l.log l.publisher; claims : Claims l.log l.fn.publisher l.accepted l.publisher; low : l.accepted ≤ l.counter }

@@ -1,0 +1,5 @@
+use Rattle.run.proofs.Closing.{all_there}
+use Rattle.run.proofs.planned_run.closed.Goals as goal
+
+pub close-requires : goal.close-requires
+close-requires c = all_there c.args.log c.args.returned c.args.others.items c.append.new.self.items c.requires c.in_ok-append.ensures.items

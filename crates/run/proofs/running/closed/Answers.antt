@@ -1,5 +1,0 @@
-use Rattle.run.proofs.Closing.{all_there}
-use Rattle.run.proofs.running.closed.Goals as goal
-
-pub close-requires : goal.close-requires
-close-requires c = all_there c.args.log c.args.played c.args.unused.items c.append.new.self.items c.requires c.in_ok-append.ensures.items

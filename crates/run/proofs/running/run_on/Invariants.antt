@@ -1,4 +1,0 @@
-use Rattle.run.proofs.running.run_on.Given as goal
-
-abbrev pub ghosts-play_named : goal.ghosts-play_named
-ghosts-play_named g a = record { counters = a.counters.now }

@@ -1,0 +1,127 @@
+//! All threads, from their start to their end.
+
+ghost use Rattle.std.specs.Prelude.{◌≡◌, IfOk, map};
+ghost use Rattle.std.specs.List.{AllByRecursion};
+ghost use Rattle.shared_log.specs.Books.{IsDone};
+ghost use Rattle.log_rule.specs.Claims.Handles.{parts_in};
+ghost use Rattle.run.specs.Threads.{ArePasses, AreReturned, IsSet};
+
+use crate::passes::{Agents, Passes, Returned};
+use crate::thread_joins::gather;
+use crate::thread_starts::{
+    start_conductor, start_publisher, start_receiver, start_sender, start_subscriber,
+};
+use crate::watch::Watch;
+use agents::Named;
+use conductor::Command;
+use endpoint::{Datagrams, DeviceError};
+use run_parties::Gate;
+use shared_log::Publisher;
+use std::io::Write;
+use std::sync::Wait;
+use std::thread;
+use std::thread::{Scope, Threads};
+use std::time::Clock;
+
+/// Starts a thread for each publisher, the last one first, then waits until all is to stop, and then joins them.
+fn run_publishers<
+    's,
+    S,
+    N: Named + Send,
+    R: Threads + Wait + Clock + Sync,
+    G: Gate + Sync,
+    E: Write,
+>(
+    scope: &'s Scope<'s, S>,
+    agents: &'s Agents<'s, N, R, G>,
+    mut waiting: Vec<Publisher>,
+    watch: &mut Watch<E>,
+) -> Result<Vec<Publisher>, DeviceError>
+    requires done { AllByRecursion (IsDone agents.now.context.now.state.now.log) waiting.items }
+    requires set { IsSet agents.now.context.now.state.now.log agents.now.size }
+    requires counters { watch.old.reader.counters ≡ agents.now.receiver.now.counters }
+    ensures done { IfOk result (λ r. AllByRecursion (IsDone agents.now.context.now.state.now.log) r.items) }
+    ensures parts { IfOk result (λ r. map parts_in r.items ≡ map parts_in waiting.items) }
+{
+    let Some(publisher) = waiting.pop() else {
+        let context = agents.context;
+        watch.until_stopped(context.rt, context.state, &agents.receiver.counters);
+        return Ok(Vec::new(context.alloc));
+    };
+    let handle = start_publisher(scope, agents, publisher)?;
+    let others = run_publishers(scope, agents, waiting, watch);
+    let publisher = handle.join(agents.context.rt);
+    let mut all = others?;
+    if all.push(publisher?).is_err() {
+        return Err(DeviceError::Memory);
+    }
+    Ok(all)
+}
+
+/// Starts all threads, waits until all is to stop, and joins them.
+fn run_in<
+    's,
+    S,
+    N: Named + Send,
+    R: Threads + Wait + Clock + Sync,
+    D: Datagrams + Send + Drop + 's,
+    G: Gate + Sync,
+    E: Write + Drop,
+>(
+    scope: &'s Scope<'s, S>,
+    agents: &'s Agents<'s, N, R, G>,
+    passes: Passes<D>,
+    mut watch: Watch<E>,
+) -> Result<Returned, DeviceError>
+    requires passes { ArePasses agents.now.context.now.state.now.log agents.now.context.now.state.now.conductor passes }
+    requires set { IsSet agents.now.context.now.state.now.log agents.now.size }
+    requires named { agents.now.receiver.now.counters ≡ N.counters }
+    requires counters { watch.reader.counters ≡ agents.now.receiver.now.counters }
+    ensures { IfOk result (λ r. AreReturned agents.now.context.now.state.now.log passes agents.now.size.wanted r) }
+{
+    let Passes {
+        publishers,
+        reader,
+        keeper,
+        asking,
+        mut closing,
+        taker,
+        sends,
+        replies,
+    } = passes;
+    let sender = start_sender(scope, agents, sends, reader, asking);
+    let receiver = start_receiver(scope, agents, replies);
+    let subscriber = start_subscriber(scope, agents);
+    let conductor = start_conductor(scope, agents, keeper, taker);
+    let publishers = run_publishers(scope, agents, publishers, &mut watch);
+    let (rt, queue) = (agents.context.rt, &agents.context.state.conductor);
+    let _ = queue.submit(rt, &mut closing, Command::Close);
+    gather(agents, publishers, conductor, subscriber, sender, receiver)
+}
+
+/// Runs a thread for each publisher, one for the sender, the receiver, the subscriber and the conductor; the calling thread
+/// watches. It ends when all of them have stopped.
+///
+/// The fault is that of a thread, or `Device` where one can't be started; then the others have stopped, too.
+pub fn run_agents<
+    N: Named + Send,
+    R: Threads + Wait + Clock + Sync,
+    D: Datagrams + Send + Drop,
+    G: Gate + Sync,
+    E: Write + Drop,
+>(agents: &Agents<'_, N, R, G>, passes: Passes<D>, watch: Watch<E>) -> Result<Returned, DeviceError>
+    requires passes { ArePasses agents.now.context.now.state.now.log agents.now.context.now.state.now.conductor passes }
+    requires set { IsSet agents.now.context.now.state.now.log agents.now.size }
+    requires named { agents.now.receiver.now.counters ≡ N.counters }
+    requires counters { watch.reader.counters ≡ agents.now.receiver.now.counters }
+    ensures { IfOk result (λ r. AreReturned agents.now.context.now.state.now.log passes agents.now.size.wanted r) }
+{
+    thread::scope(
+        thread::scope_env(),
+        agents.context.rt,
+        move |scope| -> Result<Returned, DeviceError>
+            requires { ArePasses agents.now.context.now.state.now.log agents.now.context.now.state.now.conductor passes × IsSet agents.now.context.now.state.now.log agents.now.size × (agents.now.receiver.now.counters ≡ N.counters) × (watch.reader.counters ≡ agents.now.receiver.now.counters) }
+            ensures { IfOk result (λ r. AreReturned agents.entry.now.context.now.state.now.log passes agents.entry.now.size.wanted r) }
+        { run_in(scope, agents, passes, watch) },
+    )
+}

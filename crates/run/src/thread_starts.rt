@@ -1,0 +1,223 @@
+//! The threads, started. A thread that can't be started stops all.
+//!
+//! What a thread promises is known of a closure that holds plain references, and not of one that holds a struct of them: so
+//! the context is taken apart before such a closure, and put together in it.
+
+ghost use Rattle.std.specs.Prelude.{◌≡◌, ◌≤◌, ◌<◌, ◌^◌, IfOk};
+ghost use Rattle.endpoint.specs.declared.device_error.DeviceError.TheVariants.{Device};
+ghost use Rattle.shared_log.specs.Books.{IsDone};
+ghost use Rattle.shared_log.specs.Parts.{IsNewReader};
+ghost use Rattle.run_parties.specs.Passes.{Ends, IsKept};
+ghost use Rattle.run.specs.Threads.{IsSet};
+
+use crate::passes::Agents;
+use agents::Named;
+use conductor::{Client, Taker};
+use endpoint::{Datagrams, DeviceError};
+use run_parties::{Context, Gate, RunState, Tally, publish, receive, send, steer, subscribe};
+use shared_log::{Keeper, Log, LogReader, Publisher};
+use std::snapshot::Snapshot;
+use std::sync::Wait;
+use std::thread::{JoinHandle, Promise, PromisedHandle, Scope, Threads};
+use std::time::Clock;
+
+/// A thread gives its publisher back.
+#[derive(Drop)]
+pub struct PublisherBack {
+    pub log: Snapshot<Log>,
+    pub before: Snapshot<Publisher>,
+}
+
+impl Promise<Result<Publisher, DeviceError>> for PublisherBack {
+    ghost kept_by = { λ p r. IfOk r (λ q. Ends p.log.value p.before.value q) };
+}
+
+/// A thread gives the keeper back.
+#[derive(Drop)]
+pub struct KeeperBack {
+    pub log: Snapshot<Log>,
+}
+
+impl Promise<Keeper> for KeeperBack {
+    ghost kept_by = { λ p k. IsKept p.log.value k };
+}
+
+/// A thread gives the tally of what was polled, of at most so many messages.
+#[derive(Drop)]
+pub struct TallyOf {
+    pub wanted: u64,
+}
+
+impl Promise<Result<Tally, DeviceError>> for TallyOf {
+    ghost kept_by = { λ p r. IfOk r (λ tally. tally.polled ≤ p.wanted) };
+}
+
+/// The thread of a sender, or of a receiver.
+pub type Agent = JoinHandle<Result<(), DeviceError>>;
+
+/// The thread of a publisher.
+pub type Publishing = PromisedHandle<Result<Publisher, DeviceError>, PublisherBack>;
+
+/// The thread of the conductor.
+pub type Steering = PromisedHandle<Keeper, KeeperBack>;
+
+/// The thread of the subscriber.
+pub type Subscribing = PromisedHandle<Result<Tally, DeviceError>, TallyOf>;
+
+/// No thread could be started: that stops all.
+fn halted(state: &RunState) -> DeviceError
+    ensures { result ≡ Device }
+{
+    state.stop();
+    DeviceError::Device
+}
+
+/// Starts the thread of a publisher.
+pub fn start_publisher<'s, S, N: Named + Send, R: Clock + Sync, G: Gate + Sync>(
+    scope: &'s Scope<'s, S>,
+    agents: &'s Agents<'s, N, R, G>,
+    publisher: Publisher,
+) -> Result<Publishing, DeviceError>
+    requires done { IsDone agents.now.context.now.state.now.log publisher }
+    requires set { IsSet agents.now.context.now.state.now.log agents.now.size }
+    ensures { IfOk result (λ h. (h.promise.log.value ≡ agents.now.context.now.state.now.log) × (h.promise.before.value ≡ publisher)) }
+{
+    let task = agents.size.task;
+    let &Context {
+        rt,
+        alloc,
+        state,
+        gate,
+        turns,
+    } = agents.context;
+    let promise = PublisherBack {
+        log: Snapshot::of(&state.log),
+        before: Snapshot::of(&publisher),
+    };
+    let Ok(handle) = scope.spawn_with(promise, move || {
+        let context = Context {
+            rt,
+            alloc,
+            state,
+            gate,
+            turns,
+        };
+        publish(&context, task, publisher)
+    }) else {
+        return Err(halted(state));
+    };
+    Ok(handle)
+}
+
+/// Starts the thread of the sender.
+pub fn start_sender<
+    's,
+    S,
+    N: Named + Send,
+    R: Wait + Clock + Sync,
+    D: Datagrams + Send + Drop + 's,
+    G: Gate + Sync,
+>(
+    scope: &'s Scope<'s, S>,
+    agents: &'s Agents<'s, N, R, G>,
+    device: D,
+    reader: LogReader,
+    client: Client,
+) -> Result<Agent, DeviceError>
+    requires reader { IsNewReader agents.now.context.now.state.now.log 0 reader }
+    requires set { IsSet agents.now.context.now.state.now.log agents.now.size }
+    requires queue { client.queue ≡ agents.now.context.now.state.now.conductor }
+{
+    let Ok(handle) = scope.spawn(move || send(agents.context, device, reader, client)) else {
+        return Err(halted(agents.context.state));
+    };
+    Ok(handle)
+}
+
+/// Starts the thread of the receiver.
+pub fn start_receiver<
+    's,
+    S,
+    N: Named + Send,
+    R: Wait + Clock + Sync,
+    D: Datagrams + Send + Drop + 's,
+    G: Gate + Sync,
+>(scope: &'s Scope<'s, S>, agents: &'s Agents<'s, N, R, G>, device: D) -> Result<Agent, DeviceError>
+    requires { agents.now.receiver.now.counters ≡ N.counters }
+{
+    let Ok(handle) = scope.spawn(
+        move || -> Result<(), DeviceError>
+            requires { agents.now.receiver.now.counters ≡ N.counters }
+        { receive(agents.context, agents.receiver, device) },
+    ) else {
+        return Err(halted(agents.context.state));
+    };
+    Ok(handle)
+}
+
+/// Starts the thread of the subscriber.
+pub fn start_subscriber<'s, S, N: Named + Send, R: Wait + Clock + Sync, G: Gate + Sync>(
+    scope: &'s Scope<'s, S>,
+    agents: &'s Agents<'s, N, R, G>,
+) -> Result<Subscribing, DeviceError>
+    requires { IsSet agents.now.context.now.state.now.log agents.now.size }
+    ensures { IfOk result (λ h. h.promise.wanted ≡ agents.now.size.wanted) }
+{
+    let (receiver, wanted) = (agents.receiver, agents.size.wanted);
+    let &Context {
+        rt,
+        alloc,
+        state,
+        gate,
+        turns,
+    } = agents.context;
+    let Ok(handle) = scope.spawn_with(TallyOf { wanted }, move || {
+        let context = Context {
+            rt,
+            alloc,
+            state,
+            gate,
+            turns,
+        };
+        subscribe(&context, receiver, wanted)
+    }) else {
+        return Err(halted(state));
+    };
+    Ok(handle)
+}
+
+/// Starts the thread of the conductor.
+pub fn start_conductor<'s, S, N: Named + Send, R: Wait + Clock + Sync, G: Gate + Sync>(
+    scope: &'s Scope<'s, S>,
+    agents: &'s Agents<'s, N, R, G>,
+    keeper: Keeper,
+    taker: Taker,
+) -> Result<Steering, DeviceError>
+    requires keeper { IsKept agents.now.context.now.state.now.log keeper }
+    requires taker { taker.queue ≡ agents.now.context.now.state.now.conductor }
+    ensures { IfOk result (λ h. h.promise.log.value ≡ agents.now.context.now.state.now.log) }
+{
+    let &Context {
+        rt,
+        alloc,
+        state,
+        gate,
+        turns,
+    } = agents.context;
+    let promise = KeeperBack {
+        log: Snapshot::of(&state.log),
+    };
+    let Ok(handle) = scope.spawn_with(promise, move || {
+        let context = Context {
+            rt,
+            alloc,
+            state,
+            gate,
+            turns,
+        };
+        steer(&context, keeper, taker)
+    }) else {
+        return Err(halted(state));
+    };
+    Ok(handle)
+}

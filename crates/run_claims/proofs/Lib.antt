@@ -1,3 +1,0 @@
-pub mod Agreements
-pub mod Steps
-mod ClaimRows

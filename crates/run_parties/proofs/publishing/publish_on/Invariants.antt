@@ -1,6 +1,0 @@
-use Rattle.std.proofs.Common.{◌≡◌, length}
-use Rattle.run_parties.specs.Passes.{Ends}
-use Rattle.run_parties.proofs.publishing.publish_on.Given as goal
-
-abbrev pub invariant-loop-turn : goal.invariant-loop-turn
-invariant-loop-turn g l = Ends l.stage.log l.initial.publisher l.publisher × (length l.message ≡ length l.initial.message)

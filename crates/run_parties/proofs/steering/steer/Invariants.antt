@@ -1,6 +1,0 @@
-use Rattle.std.proofs.Common.{◌≡◌}
-use Rattle.run_parties.specs.Passes.{IsKept}
-use Rattle.run_parties.proofs.steering.steer.Given as goal
-
-abbrev pub invariant-loop-turn : goal.invariant-loop-turn
-invariant-loop-turn g l = IsKept l.stage.log l.keeper × (l.taker.queue ≡ l.stage.conductor)

@@ -1,0 +1,5 @@
+use Rattle.std.proofs.Common.{◌≤◌, ◌+◌}
+use Rattle.run_parties.proofs.subscriber_turns.poll_some.Given as goal
+
+abbrev pub invariant-loop-count : goal.invariant-loop-count
+invariant-loop-count g l = l.tally.polled ≤ l.initial.tally.polled + l.count

@@ -1,0 +1,79 @@
+//! The receiver of a run, its subscriber and its counters.
+
+ghost use Rattle.std.specs.Prelude.{◌≡◌, None, IfOk};
+ghost use Rattle.counters.specs.Order.{zeros};
+ghost use Rattle.receiver.specs.Receiving.{Receiver};
+ghost use Rattle.receiver.specs.Subscribing.{RepresentsSubscriber};
+ghost use Rattle.run_parties.specs.Receivers.{AreReceiverParts, new_receiver};
+
+use crate::run_log::{SESSION, STREAM};
+use agents::{Named, ReceiverAgent};
+use counters::{CounterReader, CounterWriter, Counters};
+use position::Geometry;
+use receiver::{ReceiverCore, Subscriber};
+use std::alloc::{AllocError, Global};
+use std::sync::Mutex;
+
+/// The receiver's id.
+const RECEIVER: i64 = 1;
+
+/// A subscriber of a run's stream that has met nothing, and counters at zero with their writer and a reader of them.
+#[derive(Drop)]
+pub struct ReceiverParts {
+    pub subscriber: Subscriber,
+    pub counters: Counters,
+    pub writer: CounterWriter,
+    pub reader: CounterReader,
+}
+
+/// The agent of a receiver with its subscriber, and the counters that it writes: what their two threads share.
+#[derive(Drop)]
+pub struct SharedReceiver<N: Named> {
+    pub agent: Mutex<ReceiverAgent<N>>,
+    pub counters: Counters,
+}
+
+impl<N: Named> SharedReceiver<N> {
+    /// Puts a subscriber that has no image and counters at zero together.
+    pub fn new(
+        subscriber: Subscriber,
+        writer: CounterWriter,
+        counters: Counters,
+    ) -> SharedReceiver<N>
+        requires image { (r : Receiver) × RepresentsSubscriber subscriber r × (r.image ≡ None) }
+        requires nothing { writer.last ≡ zeros }
+        requires writer { writer.counters ≡ N.counters }
+        ensures { result.counters ≡ counters }
+    {
+        SharedReceiver {
+            agent: Mutex::new(ReceiverAgent::new(subscriber, writer)),
+            counters,
+        }
+    }
+}
+
+/// A subscriber of a run's stream that has met nothing. Its window is half a term, and it takes messages as long as the
+/// geometry lets one be.
+fn new_subscriber(alloc: Global, geometry: &Geometry) -> Result<Subscriber, AllocError>
+    ensures { IfOk result (λ s. RepresentsSubscriber s (new_receiver geometry.now)) }
+{
+    let window = geometry.term_length() / 2;
+    let core = ReceiverCore::new(alloc, SESSION, STREAM, window, RECEIVER, 1);
+    let greatest = geometry.max_message() as usize;
+    Ok(Subscriber::new(alloc, core, greatest)?)
+}
+
+/// What the receiver of a run over this geometry begins with. The error comes only where memory is refused.
+pub fn receiver_parts(alloc: Global, geometry: &Geometry) -> Result<ReceiverParts, AllocError>
+    ensures { IfOk result (AreReceiverParts geometry.now) }
+{
+    let (counters, mut writer) = Counters::new(alloc)?;
+    let reader = counters.reader(&mut writer);
+    let subscriber = new_subscriber(alloc, geometry)?;
+    Ok(ReceiverParts {
+        subscriber,
+        counters,
+        writer,
+        reader,
+    })
+}

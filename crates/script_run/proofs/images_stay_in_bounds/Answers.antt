@@ -1,5 +1,0 @@
-use Rattle.script_run.proofs.InBounds.{always_in_bounds}
-use Rattle.script_run.proofs.images_stay_in_bounds.Goals as goal
-
-pub returns : goal.returns
-returns c = always_in_bounds

@@ -1,0 +1,30 @@
+-- Passes are dealt one after the other.
+use Rattle.std.proofs.Common.{◌≡◌, ℕ, suc, ◌+◌, ◌-◌, ◌<◌, List, [], ◌∷◌, ◌++◌, length, ap, ◌∙◌, subst, arith}
+use Rattle.publication.specs.declared.pass.Pass.{Pass}
+use Rattle.publication.specs.declared.pass.Reading.{Reading}
+use Rattle.log_rule.specs.Claims.Handles.{PublisherValue}
+use Rattle.log_rule.specs.Claims.Plays.{newcomer}
+use Rattle.log_rule.specs.Table.{consumers_at, other_readings}
+use Rattle.shared_log.specs.Handles.{LogValue}
+use Rattle.shared_log.specs.Readers.{ReaderValue}
+use Rattle.shared_log.specs.Parts.{AreReaders, IsDealing, IsNewReader}
+
+-- of the consumers that are left, the first is this one
+pub next_is : (start number n : ℕ) → number < n → consumers_at start number (n - number) ≡ record { number = number; position = start; known = [] } ∷ consumers_at start (number + 1) (n - (number + 1))
+next_is start number n lt = (λ i. consumers_at start number (some i)) ∙ (λ i. record { number = number; position = start; known = [] } ∷ consumers_at start (more i) (n - (number + 1)))
+  where
+    some : n - number ≡ suc (n - (number + 1))
+    some = omega arith
+
+    more : suc number ≡ number + 1
+    more = omega arith
+
+pub dealing_on : (l : LogValue) (number : ℕ) (p q : PublisherValue) → IsDealing l number p → number < l.consumers → q.of ≡ p.of → q.pass ≡ record p.pass { reading = other_readings p.pass.reading } → q.steps ≡ p.steps → q.sure ≡ 0 → IsDealing l (number + 1) q
+dealing_on l number p q d lt of pass steps sure =
+    let left : List Reading → Pass = λ rs. record (newcomer l.identity l.start 7 1016) { reading = other_readings rs } in
+    let is = pass ∙ ap (λ (v : Pass). record v { reading = other_readings v.reading }) d.pass_is ∙ ap left (next_is l.start number l.consumers lt) in
+    record { of = record { table = of ∙ d.of.table; identity = ap (λ (v : Pass). v.identity) is; start = ap (λ (v : Pass). v.start) is }; pass_is = is; steps = steps ∙ d.steps; sure = sure }
+
+pub readers_on : (l : LogValue) (n : ℕ) (rs : List ReaderValue) (r : ReaderValue) → AreReaders l n rs → IsNewReader l (n + length rs) r → AreReaders l n (rs ++ r ∷ [])
+readers_on l n [] r a is = (subst (λ (k : ℕ). IsNewReader l k r) (let e : n + 0 ≡ n = omega arith in e) is, tt)
+readers_on l n (x ∷ xs) r a is = (a.0, readers_on l (suc n) xs r a.1 (subst (λ (k : ℕ). IsNewReader l k r) (let e : n + suc (length xs) ≡ suc n + length xs = omega arith in e) is))

@@ -1,0 +1,131 @@
+-- Publishers are gathered one after the other, and their shares are counted.
+use Rattle.std.proofs.Common.{◌≡◌, ℕ, ◌+◌, ◌^◌, ◌<◌, ◌≤◌, cond, Bool, List, [], ◌∷◌, ◌++◌, length, set, map, replicate, All, get_or-set_same, get_or-set_other, length-set, eq-eqb, ne_eqb, sym, refl, ap, ◌∙◌, subst, arith}
+use Rattle.std.proofs.lemmas.List.{get_or-replicate}
+use Rattle.std.proofs.lemmas.List.Sums.{sum_by-set}
+use mathlib.Core.Logic.{dite}
+use native.Mathlib.Decide.{ℕ_discrete}
+use Rattle.std.specs.Prelude.{slice_index, slice_set, sum}
+use Rattle.theory.specs.Bytes.{Identity}
+use Rattle.theory.specs.Entry.{Entry}
+use Rattle.theory.proofs.Tables.{sum_set}
+use Rattle.publication.specs.declared.pass.ClaimRange.{ClaimRange}
+use Rattle.publication.specs.declared.pass.Pass.{Pass}
+use Rattle.log_rule.specs.Claims.Sums.{total}
+use Rattle.log_rule.specs.Claims.Rule.{entries_of, entry_of, weight}
+use Rattle.log_rule.specs.Claims.Handles.{PublisherValue, parts_in}
+use Rattle.log_rule.proofs.Claimed.Memories.{maps_append}
+use Rattle.log_rule.proofs.Claimed.Totals.{total_append}
+use Rattle.log_rule.specs.Shares.{IsTiled, Weighs, claimed_bytes}
+use Rattle.shared_log.specs.Handles.{LogValue}
+use Rattle.shared_log.specs.Keepers.{KeeperValue}
+use Rattle.shared_log.specs.Books.{AreAll, Gathers, IsDone, IsIdle, ShowsBook, share_as, weight_in}
+use Rattle.shared_log.proofs.Shares.{both_share}
+
+-- these publishers are left: what is counted of the others, and what the keeper has of them
+pub record IsGathering (l : LogValue) (all left : List PublisherValue) (shares : List ℕ) (tail : ℕ) (k : PublisherValue) : Type 0 where
+  pub idle : IsIdle l k
+  pub undone : All (IsDone l) left
+  pub parts : total parts_in left + k.pass.right.parts ≡ 1024
+  pub weighed : (h : Entry → ℕ) → total (weight_in h) left + weight h k.pass ≡ total (weight_in h) all
+  pub eight : length shares ≡ 8
+  pub counted : (n : ℕ) → n < 8 → slice_index shares n + total (share_as n) left ≡ total (share_as n) all
+  pub summed : sum shares ≡ claimed_bytes k.pass
+  pub tail_is : tail ≡ l.start + claimed_bytes k.pass
+  pub weighs : Weighs k.pass k.pass
+
+pub begun : (l : LogValue) (ps : List PublisherValue) (k q : KeeperValue) → AreAll l ps k → Weighs k.held.pass q.held.pass → IsIdle l q.held → IsGathering l ps ps (replicate 8 0) l.start q.held
+begun l ps k q a w idle =
+    let none : q.held.pass.right.claims ≡ [] = ap (λ (v : Pass). v.right.claims) w.same ∙ a.unclaimed in let some = a.whole in let same = ap (λ (v : Pass). v.right.parts) w.same in record {
+      idle = idle;
+      undone = a.publishers_are;
+      parts = ap (λ (n : ℕ). total parts_in ps + n) same ∙ a.whole;
+      weighed = λ h. plus_none (total (weight_in h) ps) (weight h q.held.pass) (ap (λ (cs : List ClaimRange). total h (map entry_of cs)) none);
+      eight = refl;
+      counted = λ n lt. none_plus (slice_index (replicate {A = ℕ} 8 0) n) (total (share_as n) ps) (get_or-replicate 8 n 0 0 lt);
+      summed = sym (nothing q.held.pass none);
+      tail_is = sym (plus_none l.start (claimed_bytes q.held.pass) (nothing q.held.pass none));
+      weighs = subst (λ (v : Pass). Weighs v q.held.pass) (sym w.same) w;
+    }
+  where
+    plus_none : (n m : ℕ) → m ≡ 0 → n + m ≡ n
+    plus_none n m e = omega arith
+
+    none_plus : (n m : ℕ) → n ≡ 0 → n + m ≡ m
+    none_plus n m e = omega arith
+
+    nothing : (v : Pass) → v.right.claims ≡ [] → claimed_bytes v ≡ 0
+    nothing v e = ap (total Rattle.log_rule.specs.Shares.range_bytes) e
+
+-- one publisher more
+pub gathered_on : (l : LogValue) (all left rest : List PublisherValue) (shares : List ℕ) (tail number share : ℕ) (p k q : PublisherValue) → IsGathering l all left shares tail k → left ≡ rest ++ p ∷ [] → All (IsDone l) rest → IsIdle l q → Gathers k.pass p q.pass (number, share)
+    → IsGathering l all rest (slice_set shares number (slice_index shares number + share)) (tail + share) q
+gathered_on l all left rest shares tail number share p k q g e undone idle x =
+    let last : (f : PublisherValue → ℕ) → total f left ≡ total f rest + f p = λ f. ap (total f) e ∙ total_append f rest (p ∷ []) ∙ (let z : total f rest + (f p + 0) ≡ total f rest + f p = omega arith in z) in
+    let eight = g.eight in let low = x.number.1 in let at = x.number.0 in let inside : number < length shares = omega (arith, eight, low, at) in
+    let more : claimed_bytes q.pass ≡ claimed_bytes k.pass + share = ap claimed_bytes x.pass ∙ both_share k.pass p.pass ∙ ap (λ (n : ℕ). claimed_bytes k.pass + n) (sym x.share) in record {
+      idle = idle;
+      undone = undone;
+      parts = (let a = last parts_in in let c = g.parts in let d = ap (λ (v : Pass). v.right.parts) x.pass in three (total parts_in left) (total parts_in rest) p.pass.right.parts k.pass.right.parts q.pass.right.parts 1024 a c d);
+      weighed = λ h. (let a = last (weight_in h) in let c = g.weighed h in let d = ap (weight h) x.pass ∙ ap (total h) (maps_append entry_of k.pass.right.claims p.pass.right.claims) ∙ total_append h (entries_of k.pass) (entries_of p.pass) in
+          three (total (weight_in h) left) (total (weight_in h) rest) (weight h p.pass) (weight h k.pass) (weight h q.pass) (total (weight_in h) all) a c d);
+      eight = length-set shares number (slice_index shares number + share) ∙ g.eight;
+      counted = λ n lt. (let a = last (share_as n) in let c = g.counted n lt in dite (ℕ_discrete n number)
+          (λ same. (let put : slice_index (set shares number (slice_index shares number + share)) n ≡ slice_index shares n + share = ap (slice_index (set shares number (slice_index shares number + share))) same ∙ get_or-set_same shares number (slice_index shares number + share) 0 inside ∙ ap (λ (i : ℕ). slice_index shares i + share) (sym same) in
+          let mine : share_as n p ≡ share = ap (λ (b : Bool). cond b (claimed_bytes p.pass) 0) (eq-eqb p.pass.number n (sym at ∙ sym same)) ∙ sym x.share in
+          counts (slice_index (set shares number (slice_index shares number + share)) n) (slice_index shares n) (total (share_as n) left) (total (share_as n) rest) (share_as n p) share (total (share_as n) all) put a mine c))
+          (λ ne. (let put : slice_index (set shares number (slice_index shares number + share)) n ≡ slice_index shares n = get_or-set_other shares number n (slice_index shares number + share) 0 ne in
+          let none : share_as n p ≡ 0 = ap (λ (b : Bool). cond b (claimed_bytes p.pass) 0) (ne_eqb p.pass.number n (λ y. ne (sym y ∙ sym at))) in
+          stays (slice_index (set shares number (slice_index shares number + share)) n) (slice_index shares n) (total (share_as n) left) (total (share_as n) rest) (share_as n p) (total (share_as n) all) put a none c)));
+      summed = sum_set shares number share inside ∙ ap (λ (n : ℕ). n + share) g.summed ∙ sym more;
+      tail_is = (let t = g.tail_is in tails tail l.start (claimed_bytes k.pass) share (claimed_bytes q.pass) t more);
+      weighs = x.weighs;
+    }
+  where
+    three : (left rest p k q all : ℕ) → left ≡ rest + p → left + k ≡ all → q ≡ k + p → rest + q ≡ all
+    three left rest p k q all a c d = omega arith
+
+    counts : (new old left rest p share all : ℕ) → new ≡ old + share → left ≡ rest + p → p ≡ share → old + left ≡ all → new + rest ≡ all
+    counts new old left rest p share all a c d f = omega arith
+
+    stays : (new old left rest p all : ℕ) → new ≡ old → left ≡ rest + p → p ≡ 0 → old + left ≡ all → new + rest ≡ all
+    stays new old left rest p all a c d f = omega arith
+
+    tails : (t s k m q : ℕ) → t ≡ s + k → q ≡ k + m → t + m ≡ s + q
+    tails t s k m q a c = omega arith
+
+-- a number isn't above the sum
+index_low : (xs : List ℕ) (k : ℕ) → k < length xs → slice_index xs k ≤ sum xs
+index_low xs k lt = let e = sum_by-set (λ (x : ℕ). x) xs k 0 0 lt in omega arith
+
+-- each sum fits a word
+pub sums_low : (l : LogValue) (all left : List PublisherValue) (shares : List ℕ) (tail number share : ℕ) (q : PublisherValue) → IsGathering l all left (slice_set shares number (slice_index shares number + share)) (tail + share) q → number < 8 → q.pass.start + claimed_bytes q.pass ≤ 2 ^ 55
+    → (tail + share ≤ 2 ^ 55) × (slice_index shares number + share ≤ 2 ^ 55)
+sums_low l all left shares tail number share q g low most =
+    let eight = g.eight in let at = g.idle.of.start in let sum_is = g.summed in let t = g.tail_is in
+    let n : ℕ = slice_index shares number + share in let long : length (set shares number n) ≡ length shares = length-set shares number n in
+    let there : slice_index (set shares number n) number ≡ n = get_or-set_same shares number n 0 (omega (arith, eight, long, low)) in
+    let less = index_low (set shares number n) number (omega (arith, eight, low)) in
+    (by_tail (tail + share) l.start (claimed_bytes q.pass) q.pass.start t at most, by_share n (slice_index (set shares number n) number) (sum (set shares number n)) (claimed_bytes q.pass) q.pass.start there less sum_is most)
+  where
+    by_tail : (t s m p : ℕ) → t ≡ s + m → p ≡ s → p + m ≤ 2 ^ 55 → t ≤ 2 ^ 55
+    by_tail t s m p e f le = omega arith
+
+    by_share : (n x all m p : ℕ) → x ≡ n → x ≤ all → all ≡ m → p + m ≤ 2 ^ 55 → n ≤ 2 ^ 55
+    by_share n x all m p e le f low = omega arith
+
+-- all of them
+pub shows : (l : LogValue) (all : List PublisherValue) (shares : List ℕ) (tail : ℕ) (k : PublisherValue) → IsGathering l all [] shares tail k → ShowsBook l all (record { start = l.start; tail = tail; shares = shares })
+shows l all shares tail k g =
+    let p = g.parts in let whole : k.pass.right.parts ≡ 1024 = omega arith in let t = g.weighs.whole whole in
+    let tiled : IsTiled l.identity l.start tail (λ h. weight h k.pass) = subst (λ (x : Identity × ℕ × ℕ). IsTiled x.0 x.1 x.2 (λ h. weight h k.pass)) (λ i. (g.idle.of.identity i, g.idle.of.start i, (ap (λ (n : ℕ). n + claimed_bytes k.pass) g.idle.of.start ∙ sym g.tail_is) i)) t in record {
+      start = refl;
+      shares = λ n lt. (let c = g.counted n lt in none (slice_index shares n) (total (share_as n) all) c);
+      whole = ap (λ (n : ℕ). l.start + n) g.summed ∙ sym g.tail_is;
+      tiled = record { log = tiled.log; tiles = tiled.tiles; fair = λ h. all_of (weight h k.pass) (total (weight_in h) all) (g.weighed h) ∙ tiled.fair h };
+    }
+  where
+    none : (a c : ℕ) → a + 0 ≡ c → a ≡ c
+    none a c e = omega arith
+
+    all_of : (a c : ℕ) → 0 + a ≡ c → c ≡ a
+    all_of a c e = omega arith

@@ -1,0 +1,160 @@
+-- A reader's steps, by what it is: its seat is the consumer that stands where it says.
+use Rattle.std.proofs.Common.{◌≡◌, ℕ, ◌+◌, ◌*◌, ◌<◌, ◌≤◌, zero, suc, List, [], ◌∷◌, map, set, inl, inr, sym, refl, ap, ◌∙◌, subst, lt_of_not-le, arith}
+use mathlib.Core.Logic.{dite}
+use native.Mathlib.Decide.{dec_le}
+use mathlib.Core.Option.{some, some-injective, some-ne-none}
+use lib.ListN.{get_elem?}
+use Rattle.atomic_table.specs.Table.{Allows}
+use Rattle.log_rule.proofs.Claimed.Whole.{set_at}
+use Rattle.theory.specs.Bytes.{Identity}
+use Rattle.theory.specs.Placed.{Among}
+use Rattle.theory.proofs.Lists.{among_left}
+use Rattle.publication.specs.declared.pass.FrameWords.{FrameWords}
+use Rattle.publication.specs.declared.pass.Pass.{Pass}
+use Rattle.publication.specs.declared.pass.Reading.{Reading}
+use Rattle.log_rule.specs.Claims.Packs.{consumer_place, slot}
+use Rattle.log_rule.specs.Claims.Plays.{Mine}
+use Rattle.log_rule.specs.declared.rule.Key.{Key}
+use Rattle.log_rule.specs.Table.{LogRuled}
+use Rattle.publication.specs.Steps.{term_of}
+use Rattle.log_rule.specs.Claims.Handles.{PublisherValue}
+use Rattle.shared_log.specs.Handles.{LogValue}
+use Rattle.shared_log.specs.Readers.{Has, IsReaderOf, IsReading, LoadsWord, OnlyReads, ReaderValue, Rests, SameSeat, known_at, known_of}
+use Rattle.log_rule.specs.Readings as Frames
+use Rattle.log_rule.specs.Readings.{Consumes, FindsFrame, IsConsumer, IsFrameAt, Looks, MayPass, Rereads, end_of, knows_more, moved_to, reading, with_consumer}
+use Rattle.log_rule.proofs.Consumers.{look, pass, word}
+
+-- ---- the steps are allowed
+
+pub look_here : (key : Key) (slots id chosen : ℕ) (m : Mine) (i place number position read_to : ℕ) → IsReading m.0.pass place number position read_to → number < key.consumers → chosen ≡ place → i ≡ slot key.identity.geometry position
+    → Allows (LogRuled key) slots id m i (λ n. n) (λ n m'. reading (λ v k w. Looks v chosen k w) m n m')
+look_here key slots id chosen m i place number position read_to is low front at =
+    let right : i ≡ slot key.identity.geometry is.consumer.position = at ∙ ap (slot key.identity.geometry) (sym is.position_is) in
+    subst (λ (x : ℕ × ℕ). Allows (LogRuled key) slots id m x.0 (λ n. n) (λ n m'. reading (λ v k w. Looks v x.1 k w) m n m')) (λ j. (sym right j, sym front j))
+    (look key slots id m place is.consumer is.is (subst (λ (x : ℕ). x < key.consumers) (sym is.number_is) low))
+
+pub word_here : (key : Key) (slots id chosen start index : ℕ) (m : Mine) (i place number position read_to : ℕ) → IsReading m.0.pass place number position read_to → number < key.consumers → chosen ≡ place → i ≡ slot key.identity.geometry (start + 8 * index)
+    → Allows (LogRuled key) slots id m i (λ n. n) (λ n m'. reading (λ v k w. Rereads v chosen start index k w) m n m')
+word_here key slots id chosen start index m i place number position read_to is low front at =
+    subst (λ (x : ℕ × ℕ). Allows (LogRuled key) slots id m x.0 (λ n. n) (λ n m'. reading (λ v k w. Rereads v x.1 start index k w) m n m')) (λ j. (sym at j, sym front j))
+    (word key slots id m place is.consumer is.is start index (subst (λ (x : ℕ). x < key.consumers) (sym is.number_is) low))
+
+pub pass_here : (key : Key) (slots id chosen end : ℕ) (m : Mine) (i place number position read_to : ℕ) → IsReading m.0.pass place number position read_to → number < key.consumers → chosen ≡ place → MayPass m.0.pass place end → i ≡ consumer_place number
+    → Allows (LogRuled key) slots id m i (λ _. end) (λ _ m'. reading (λ v k w. Consumes v chosen end w) m 0 m')
+pass_here key slots id chosen end m i place number position read_to is low front may at =
+    let right : i ≡ consumer_place is.consumer.number = at ∙ ap consumer_place (sym is.number_is) in
+    subst (λ (x : ℕ × ℕ). Allows (LogRuled key) slots id m x.0 (λ _. end) (λ _ m'. reading (λ v k w. Consumes v x.1 end w) m 0 m')) (λ j. (sym right j, sym front j))
+    (pass key slots id m place is.consumer is.is end may (subst (λ (x : ℕ). x < key.consumers) (sym is.number_is) low))
+
+-- ---- it stays the consumer that it is
+
+pub put_there : (v : Pass) (place : ℕ) (r s : Reading) → IsConsumer v place r → IsConsumer (with_consumer v place s) place s
+put_there v place r s is = set_at v.reading place r s is
+
+pub knows_still : (v : Pass) (place : ℕ) (r : Reading) (f : FrameWords) (end : ℕ) → IsConsumer v place r → MayPass v place end → MayPass (with_consumer v place (knows_more r f)) place end
+knows_still v place r f end is m =
+    let same : m.consumer ≡ r = some-injective m.consumer r (sym m.is ∙ is) in record {
+      consumer = knows_more r f;
+      is = put_there v place r (knows_more r f) is;
+      frame = m.frame;
+      known = among_left m.frame r.known (f ∷ []) (subst (λ (x : Reading). Among m.frame x.known) same m.known);
+      here = m.here ∙ ap (λ (x : Reading). x.position) same;
+      ends = m.ends;
+    }
+
+pub looked_still : (v w : Pass) (place number position read_to n : ℕ) → IsReading v place number position read_to → Looks v place n w → IsReading w place number position read_to
+looked_still v w place number position read_to n is told =
+    let l = told is.consumer is.is in
+    dite (dec_le 1 n)
+    (λ pos. let f = l.found pos in subst (λ (x : Pass). IsReading x place number position read_to) (sym f.after) record {
+      consumer = knows_more is.consumer f.frame;
+      is = put_there v place is.consumer (knows_more is.consumer f.frame) is.is;
+      number_is = is.number_is;
+      position_is = is.position_is;
+      read = λ lt. knows_still v place is.consumer f.frame read_to is.is (is.read lt);
+      low = is.low;
+      low_end = is.low_end;
+    })
+    (λ no. subst (λ (x : Pass). IsReading x place number position read_to) (sym (l.none (zero_is n (lt_of_not-le no))).0) is)
+  where
+    zero_is : (n : ℕ) → n < 1 → n ≡ 0
+    zero_is n lt = omega arith
+
+pub passed_here : (v w : Pass) (place number position read_to : ℕ) → IsReading v place number position read_to → Consumes v place read_to w → IsReading w place number read_to read_to
+passed_here v w place number position read_to is told =
+    subst (λ (x : Pass). IsReading x place number read_to read_to) (sym (told is.consumer is.is).after) record {
+      consumer = moved_to is.consumer read_to;
+      is = put_there v place is.consumer (moved_to is.consumer read_to) is.is;
+      number_is = is.number_is;
+      position_is = refl;
+      read = λ lt. absurd (self read_to lt);
+      low = is.low_end;
+      low_end = is.low_end;
+    }
+  where
+    self : (n : ℕ) → n < n → ⊥
+    self n lt = omega arith
+
+-- ---- what it knows
+
+pub known_is : (rs : List Reading) (place : ℕ) (r : Reading) → get_elem? rs place ≡ some r → known_at rs place ≡ r.known
+known_is [] place r e = absurd (some-ne-none r (sym e))
+known_is (x ∷ xs) zero r e = ap (λ (y : Reading). y.known) (some-injective x r e)
+known_is (x ∷ xs) (suc place) r e = known_is xs place r e
+
+-- ---- what a loaded word is
+
+pub has_word : (l : LogValue) (r : ReaderValue) (w : Pass) (start index n : ℕ) → IsReaderOf l r → IsReading r.held.pass r.place r.number r.position r.read_to → Rereads r.held.pass r.place start index n w → LoadsWord l r start index n
+has_word l r w start index n of is told f has at =
+    let h : Frames.Has r.held.pass is.consumer f = had f has in record {
+      here = subst (λ (i : Identity). IsFrameAt i start f) of.of.identity (told.here is.consumer f is.is h at);
+      word = λ inside near. told.word is.consumer f is.is h at inside (subst (λ (p : ℕ). p ≤ start + term_of r.held.pass) (sym is.position_is) near);
+      only = λ g has' at'. told.only is.consumer f g is.is h at (had g has') at';
+    }
+  where
+    had : (f : FrameWords) → Has r f → Frames.Has r.held.pass is.consumer f
+    had f (inl k) = inl (subst (Among f) (known_is r.held.pass.reading r.place is.consumer is.is) k)
+    had f (inr a) = inr a
+
+-- ---- it rests
+
+pub same_seat : (p : PublisherValue) → SameSeat p p
+same_seat p = record { of = refl; seat = refl; sure = refl; controls = λ one. refl }
+
+pub same_on : (p q s : PublisherValue) → SameSeat p q → SameSeat q s → SameSeat p s
+same_on p q s a c = record { of = c.of ∙ a.of; seat = c.seat ∙ a.seat; sure = c.sure ∙ a.sure; controls = λ one. c.controls (a.sure ∙ one) ∙ a.controls one }
+
+pub rests_same : (r : ReaderValue) → Rests r r
+rests_same r = record { seat = same_seat r.held; pass = refl; same = refl }
+
+pub rests_on : (r q s : ReaderValue) → Rests r q → Rests q s → Rests r s
+rests_on r q s a c = record { seat = same_on r.held q.held s.held a.seat c.seat; pass = c.pass ∙ a.pass; same = c.same ∙ ap (λ (x : ReaderValue). record x { held = s.held }) a.same }
+
+pub known_on : (r q : ReaderValue) → Rests r q → known_of q ≡ known_of r
+known_on r q a = (λ j. known_at (a.pass j).reading (place_is j))
+  where
+    place_is : q.place ≡ r.place
+    place_is = ap (λ (x : ReaderValue). x.place) a.same
+
+pub has_on : (r q : ReaderValue) → Rests r q → (f : FrameWords) → Has r f → Has q f
+has_on r q a f (inl k) = inl (subst (Among f) (sym (known_on r q a)) k)
+has_on r q a f (inr among) = inr (subst (λ (v : Pass). Among f v.work.frames) (sym a.pass) among)
+
+-- the same of what consumers are, where one is changed alike
+pub put_equal : (h : Reading → ℕ) (rs : List Reading) (i : ℕ) (r x : Reading) → get_elem? rs i ≡ some r → h x ≡ h r → map h (set rs i x) ≡ map h rs
+put_equal h [] i r x at e = refl
+put_equal h (y ∷ ys) zero r x at e = let same : h x ≡ h y = e ∙ ap h (sym (some-injective y r at)) in ap (λ (n : ℕ). n ∷ map h ys) same
+put_equal h (y ∷ ys) (suc i) r x at e = ap (λ (ns : List ℕ). h y ∷ ns) (put_equal h ys i r x at e)
+
+pub reader_on : (l : LogValue) (r q : ReaderValue) → Rests r q → IsReaderOf l r → IsReaderOf l q
+reader_on l r q a is = record {
+  of = record { table = a.seat.of ∙ is.of.table; identity = ap (λ (v : Pass). v.identity) a.pass ∙ is.of.identity; start = ap (λ (v : Pass). v.start) a.pass ∙ is.of.start };
+  number = subst (λ (x : ReaderValue). x.number < l.consumers) (sym a.same) is.number;
+}
+
+-- it stays one of the log's readers
+pub still_reader : (l : LogValue) (r q : ReaderValue) → IsReaderOf l r → SameSeat r.held q.held → OnlyReads r.held.pass q.held.pass → q.number ≡ r.number → IsReaderOf l q
+still_reader l r q is seat only same = record {
+  of = record { table = seat.of ∙ is.of.table; identity = ap (λ (v : Pass). v.identity) only.rest ∙ is.of.identity; start = ap (λ (v : Pass). v.start) only.rest ∙ is.of.start };
+  number = subst (λ (n : ℕ). n < l.consumers) (sym same) is.number;
+}

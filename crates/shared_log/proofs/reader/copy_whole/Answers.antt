@@ -1,0 +1,41 @@
+use Rattle.std.proofs.Common.{rules, ◌≡◌, ◌+◌, ◌-◌, ◌*◌, ◌<◌, ◌≤◌, ℕ, length, drop, sym, ap, ◌∙◌, subst, get_or-drop, length-drop, arith}
+use Rattle.std.specs.Prelude.{slice_index}
+use Rattle.publication.specs.declared.pass.Pass.{Pass}
+use Rattle.publication.specs.Steps.{term_of}
+use Rattle.log_rule.specs.Claims.Packs.{slot}
+use Rattle.shared_log.specs.Readers.{ReaderValue, Rests}
+use Rattle.shared_log.proofs.Looking.{has_on, reader_on, rests_on}
+use Rattle.shared_log.proofs.Copying.{copied_to}
+use Rattle.shared_log.proofs.reader.copy_whole.Goals as goal
+
+inside : (k w d : ℕ) → 32 + 8 * (k + 1) ≤ 8 * w → d ≡ w - 4 → k < d
+inside k w d le e = omega arith
+
+within : (k w : ℕ) → 32 + 8 * (k + 1) ≤ 8 * w → 4 + k < w
+within k w le = omega arith
+
+less : (k w : ℕ) → 32 + 8 * (k + 1) ≤ w → 32 + 8 * k ≤ w
+less k w le = omega arith
+
+on : (s k : ℕ) → s + 8 * (4 + k) + 8 ≡ s + 8 * (4 + (k + 1))
+on s k = omega arith
+
+one : (k : ℕ) → 8 * k + 8 ≡ 8 * (k + 1)
+one k = omega arith
+
+pub loop-index-preserved : goal.loop-index-preserved
+loop-index-preserved c =
+    let i : ℕ = c.loop-index.index in
+    let a = c.loop-index.invariant.1 in let still : Rests c.args.reader.now c.word_as-word.new.reader = rests_on c.args.reader.now c.loop-index.reader c.word_as-word.new.reader a c.word_as-word.ensures.rests in (
+      c.slot_behind-place.ensures.is (c.args.start + 8 * (4 + i)) c.loop-index.invariant.0 ∙ ap (slot c.args.log.now.identity.geometry) (on c.args.start i),
+      still,
+      search rules,
+      λ f has at fits near. (let is = c.word_as-word.ensures.told f (has_on c.args.reader.now c.loop-index.reader a f has) at in
+          let near' : c.loop-index.reader.position ≤ c.args.start + term_of c.loop-index.reader.held.pass = subst (λ (x : ℕ × Pass). x.0 ≤ c.args.start + term_of x.1) (λ j. (sym (ap (λ (r : ReaderValue). r.position) a.same) j, sym a.pass j)) near in
+          let at_word : c.word_as-word.result ≡ slice_index (drop 4 f.words) i = is.word (within i (length f.words) fits) near' ∙ sym (get_or-drop 4 f.words i 0) in
+          copied_to (drop 4 f.words) i 8 (8 * (i + 1)) c.args.bytes.now c.loop-index.bytes c.put_word.new.bytes c.word_as-word.result (inside i (length f.words) (length (drop 4 f.words)) fits (length-drop 4 f.words)) (omega arith) (one i) at_word
+          (c.loop-index.invariant.3 f has at (less i (8 * length f.words) fits) near) c.put_word.ensures.stored),
+    )
+
+pub word_as-word-requires-clause-fits : goal.word_as-word-requires-clause-fits
+word_as-word-requires-clause-fits c = reader_on c.args.log.now c.args.reader.now c.loop-index.reader c.loop-index.invariant.1 c.requires.fits

@@ -1,0 +1,60 @@
+-- What becomes of passes that end, and what the book of a log says.
+use Rattle.std.specs.Prelude.{◌≡◌, ℕ, ◌+◌, ◌<◌, ◌==◌, cond, List, [], All, slice_index, sum}
+use Rattle.theory.specs.Entry.{Entry}
+use Rattle.publication.specs.declared.pass.Pass.{Pass}
+use Rattle.log_rule.specs.Claims.Sums.{total}
+use Rattle.log_rule.specs.Claims.Rule.{weight}
+use Rattle.log_rule.specs.Claims.Handles.{PublisherValue, parts_in}
+use Rattle.log_rule.specs.Claims.Closing.{both}
+use Rattle.log_rule.specs.Shares.{IsTiled, Weighs, claimed_bytes}
+use Rattle.shared_log.specs.Handles.{IsOf, LogValue}
+use Rattle.shared_log.specs.Keepers.{KeeperValue}
+use Rattle.shared_log.specs.declared.book.Book.{Book}
+
+-- the pass is one of this log, and isn't armed
+pub record IsIdle (l : LogValue) (p : PublisherValue) : Type 0 where
+  pub of : IsOf l p
+  pub unarmed : p.pass.right.armed ≡ 0
+
+-- the first has what both had
+pub record Retires (p other q : PublisherValue) : Type 0 where
+  pub of : q.of ≡ p.of
+  pub seat : q.seat ≡ p.seat
+  pub pass : q.pass ≡ both p.pass other.pass
+  pub sure : q.sure ≡ 0
+
+-- ---- closing
+
+-- a publisher of this log that has nothing open
+pub record IsDone (l : LogValue) (p : PublisherValue) : Type 0 where
+  pub idle : IsIdle l p
+  pub ended : p.pass.work.drafts ≡ []
+
+-- all publishers and the keeper, which has claimed nothing
+pub record AreAll (l : LogValue) (publishers : List PublisherValue) (keeper : KeeperValue) : Type 0 where
+  pub publishers_are : All (IsDone l) publishers
+  pub keeper_is : IsDone l keeper.held
+  pub unclaimed : keeper.held.pass.right.claims ≡ []
+  pub whole : total parts_in publishers + keeper.held.pass.right.parts ≡ 1024
+
+-- what all of them claimed
+abbrev pub weight_in : (Entry → ℕ) → PublisherValue → ℕ
+weight_in h p = weight h p.pass
+
+-- the share of the pass with a number
+abbrev pub share_as : ℕ → PublisherValue → ℕ
+share_as number p = cond (p.pass.number == number) (claimed_bytes p.pass) 0
+
+-- what each publisher has claimed; and together that tiles the stream from the start to the tail
+pub record ShowsBook (l : LogValue) (publishers : List PublisherValue) (book : Book) : Type 0 where
+  pub start : book.start ≡ l.start
+  pub shares : (n : ℕ) → n < 8 → slice_index book.shares n ≡ total (share_as n) publishers
+  pub whole : book.start + sum book.shares ≡ book.tail
+  pub tiled : IsTiled l.identity l.start book.tail (λ h. total (weight_in h) publishers)
+
+-- a publisher's claims go to another pass, which is told how much it has then
+pub record Gathers (v : Pass) (p : PublisherValue) (w : Pass) (answer : ℕ × ℕ) : Type 0 where
+  pub number : (answer.0 ≡ p.pass.number) × (p.pass.number < 8)
+  pub share : answer.1 ≡ claimed_bytes p.pass
+  pub pass : w ≡ both v p.pass
+  pub weighs : Weighs w w

@@ -1,0 +1,113 @@
+-- What contracts see of the keeper of a log that threads share.
+use Rattle.std.specs.Prelude.{◌≡◌, ℕ, ◌+◌, ◌-◌, ◌*◌, ◌/◌, ◌%◌, ◌<◌, ◌≤◌, ◌&&◌, not, Bool, if◌then◌else◌, List, length, max, nat_eq, slice_index}
+use Rattle.theory.specs.Placed.{Among}
+use Rattle.theory.specs.Refusal.{is_closed, is_connected, limit_in}
+use Rattle.publication.specs.declared.pass.Keeping.{Keeping}
+use Rattle.publication.specs.declared.pass.Pass.{Pass}
+use Rattle.publication.specs.declared.pass.Reading.{Reading}
+use Rattle.publication.specs.Steps.{term_of}
+use Rattle.log_rule.specs.Claims.Handles.{PublisherValue}
+use Rattle.log_rule.specs.Keepings.{MayStand, least_of, with_keeping}
+use Rattle.shared_log.specs.Handles.{LogValue}
+
+-- its seat, the limit word, and the position below which nothing is readable any more
+pub record KeeperValue : Type 0 where
+  pub held : PublisherValue
+  pub limit : ℕ
+  pub cleaned : ℕ
+
+-- the pass is the keeper, which knows this limit word and how far is cleaned
+pub record IsKeeping (v : Pass) (limit cleaned : ℕ) : Type 0 where
+  pub some : 0 < v.right.parts
+  pub keeper : v.keeping.right ≡ 1
+  pub limit_is : v.keeping.limit ≡ limit
+  pub cleaned_is : v.keeping.cleaned ≡ cleaned
+
+abbrev pub keeping_of : KeeperValue → Keeping
+keeping_of k = k.held.pass.keeping
+
+abbrev pub seen_positions : KeeperValue → List ℕ
+seen_positions k = k.held.pass.keeping.positions
+
+abbrev pub with_positions : List ℕ → KeeperValue → Keeping
+with_positions positions k = record (keeping_of k) { positions = positions }
+
+abbrev pub with_cleaned : ℕ → KeeperValue → Keeping
+with_cleaned cleaned k = record (keeping_of k) { cleaned = cleaned }
+
+abbrev pub with_limit : ℕ → KeeperValue → Keeping
+with_limit word k = record (keeping_of k) { limit = word }
+
+-- the keeper keeps this from then on: of the rest its steps alone are others, and the limit among the control words, where its seat is sure of them
+pub record KeepsAs (k : KeeperValue) (kept : Keeping) (q : KeeperValue) : Type 0 where
+  pub of : q.held.of ≡ k.held.of
+  pub seat : q.held.seat ≡ k.held.seat
+  pub pass : q.held.pass ≡ with_keeping k.held.pass kept
+  pub sure : q.held.sure ≡ k.held.sure
+  pub controls : k.held.sure ≡ 1 → q.held.controls ≡ record k.held.controls { limit = kept.limit }
+  pub limit : q.limit ≡ kept.limit
+  pub cleaned : q.cleaned ≡ kept.cleaned
+
+-- a seat that is sure of the control words knows the limit word
+abbrev pub KnowsLimit : KeeperValue → Type 0
+KnowsLimit k = k.held.sure ≡ 1 → k.held.controls.limit ≡ k.limit
+
+-- it took so many word steps
+abbrev pub TookSteps : KeeperValue → ℕ → KeeperValue → Type 0
+TookSteps k count q = q.held.steps ≡ k.held.steps + count
+
+-- ---- limit words
+
+abbrev pub connected_word : Bool → ℕ → ℕ
+connected_word connected word = word / 2 * 2 + (if connected then 1 else 0)
+
+abbrev pub closed_word : ℕ → ℕ
+closed_word word = limit_in word + 2 + word % 2
+
+-- half a term above the least consumer, unless the limit is further or nobody may publish
+abbrev pub raised : ℕ → ℕ → ℕ → ℕ
+raised word least length_of = if is_connected word && not (is_closed word) then max (limit_in word) (least + length_of / 2) + 1 else word
+
+-- one store where the limit word becomes another, else none
+abbrev pub stored_once : ℕ → ℕ → ℕ
+stored_once before after = if nat_eq before after then 0 else 1
+
+-- ---- what the keeper reads
+
+-- the consumer with this number stood there: not below where it was seen before, and at its own position where the keeper's pass is that consumer
+pub record ReadsConsumer (k : KeeperValue) (j n : ℕ) : Type 0 where
+  pub further : slice_index (seen_positions k) j ≤ n
+  pub stands : MayStand k.held.pass n
+  pub own : (r : Reading) → Among r k.held.pass.reading → r.number ≡ j → n ≡ r.position
+
+-- each consumer was read once, and the least stood there
+pub record Sweeps (l : LogValue) (k : KeeperValue) (least : ℕ) (q : KeeperValue) : Type 0 where
+  pub is : IsKeeping k.held.pass k.limit k.cleaned
+  pub all : length (seen_positions q) ≡ l.consumers
+  pub reads : (j : ℕ) → j < l.consumers → ReadsConsumer k j (slice_index (seen_positions q) j)
+  pub least_is : least ≡ least_of (seen_positions q)
+  pub stands : MayStand k.held.pass least
+  pub words : (l.start % 32 ≡ 0) × (k.cleaned % 8 ≡ 0)
+  pub keeps : KeepsAs k (with_positions (seen_positions q) k) q
+  pub steps : TookSteps k l.consumers q
+
+-- words may be cleaned up to there: all lies a term or more below the least consumer that was seen
+pub record MayCleanTo (k : KeeperValue) (end : ℕ) : Type 0 where
+  pub further : k.cleaned ≤ end
+  pub words : (k.cleaned % 8 ≡ 0) × (end % 8 ≡ 0)
+  pub below : end ≤ max k.held.pass.start (least_of (seen_positions k) - term_of k.held.pass)
+
+-- the limit may be raised to half a term above there: what lies a term below is clean
+pub record MayRaiseFrom (k : KeeperValue) (least : ℕ) : Type 0 where
+  pub stands : MayStand k.held.pass least
+  pub clean : least ≤ k.cleaned + term_of k.held.pass
+
+-- each consumer was read once; what lies a term or more below the least is cleaned, and the limit raised by it
+pub record CleansAndLimits (l : LogValue) (k q : KeeperValue) : Type 0 where
+  pub all : length (seen_positions q) ≡ l.consumers
+  pub reads : (j : ℕ) → j < l.consumers → ReadsConsumer k j (slice_index (seen_positions q) j)
+  pub not_back : k.cleaned ≤ q.cleaned
+  pub keeps : let least = least_of (seen_positions q) in let length_of = l.identity.geometry.term_length in
+      KeepsAs k (record (keeping_of k) { limit = raised k.limit least length_of; cleaned = max l.start (least - length_of); positions = seen_positions q }) q
+  -- one load for each consumer, one store for each word that was cleaned, and one of the limit word where that changed
+  pub steps : TookSteps k (l.consumers + (q.cleaned - k.cleaned) / 8 + stored_once k.limit q.limit) q

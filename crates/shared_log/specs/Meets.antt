@@ -1,0 +1,68 @@
+-- What two publishers that meet are told.
+use Rattle.std.specs.Prelude.{◌≡◌, ℕ, ◌+◌, ◌*◌, ◌/◌, ◌^◌, ◌<◌, ◌≤◌, ◌⊎◌, List, ◌++◌, max}
+use Rattle.atomic_table.specs.Seated.{TableId}
+use Rattle.theory.specs.Placed.{Among}
+use Rattle.publication.specs.declared.pass.ClaimRange.{ClaimRange}
+use Rattle.publication.specs.declared.pass.Controls.{Controls}
+use Rattle.publication.specs.declared.pass.Pass.{Pass}
+use Rattle.publication.specs.Controls.{with_tail}
+use Rattle.publication.specs.Steps.{geometry_of, term_of}
+use Rattle.log_rule.specs.Claims.Handles.{PublisherValue}
+use Rattle.log_rule.specs.Claims.Plays.{Mine}
+use Rattle.log_rule.specs.Meetings.{AreApart, ShowsTail, claim_end, shown_position, unnoted}
+
+-- the same seat but for its steps
+pub record SeatStays (table : TableId) (id : ℕ) (me : Mine) (table' : TableId) (id' : ℕ) (me' : Mine) : Type 0 where
+  pub of : table' ≡ table
+  pub seat : id' ≡ id
+  pub held : me'.1 ≡ me.1
+  pub pass : me'.0.pass ≡ me.0.pass
+  pub sure : me'.0.sure ≡ me.0.sure
+
+-- the raw tail of a partition was loaded, which the seat has noted, and shows this position
+pub record Shows (v : Pass) (partition : ℕ) (before after : Controls) (position : ℕ) : Type 0 where
+  pub word : ℕ
+  pub loaded : word < 2 ^ 64
+  pub noted : after ≡ with_tail before partition word
+  pub told : ShowsTail v partition word v
+  pub is : position ≡ shown_position (geometry_of v) word
+
+-- the greatest position that the three raw tails show, each of which was loaded and noted
+pub record IsGreatestShown (v : Pass) (before after : Controls) (position : ℕ) : Type 0 where
+  pub zeroth : ℕ
+  pub first : ℕ
+  pub second : ℕ
+  pub loaded : (zeroth < 2 ^ 64) × (first < 2 ^ 64) × (second < 2 ^ 64)
+  pub noted : after ≡ with_tail (with_tail (with_tail before 0 zeroth) 1 first) 2 second
+  pub is : position ≡ max (max (shown_position (geometry_of v) zeroth) (shown_position (geometry_of v) first)) (shown_position (geometry_of v) second)
+
+-- and what it tells of a pass
+pub record SeesTails (v : Pass) (before after : Controls) (position : ℕ) : Type 0 where
+  pub greatest : IsGreatestShown v before after position
+  pub claims : (c : ClaimRange) → Among c v.right.claims → claim_end c ≤ position
+  pub terms : (k : ℕ) → v.start / term_of v ≤ k → k ≤ max v.seen.count v.seen.begun → k * term_of v ≤ position
+  pub apart : (front behind : List ClaimRange) → v.right.claims ≡ front ++ behind → (c d : ClaimRange) → Among c front → Among d behind → AreApart c d
+
+-- a publisher that comes back is as it was, but for its steps
+pub record IsBack (p q : PublisherValue) : Type 0 where
+  pub of : q.of ≡ p.of
+  pub pass : q.pass ≡ p.pass
+  pub sure : q.sure ≡ 0
+
+-- the terms that a pass has seen begin there or below
+abbrev pub SawBelow : Pass → ℕ → Type 0
+SawBelow v position = (v.seen.count * term_of v ≤ position) × (v.seen.begun * term_of v ≤ position)
+
+pub record Meets (one other one' other' : PublisherValue) (position : ℕ) : Type 0 where
+  pub one_is : IsBack one one'
+  pub other_is : IsBack other other'
+  pub seat : one'.seat ≡ one.seat
+  -- one load of its own, and one of each raw tail; the other comes back on a new seat
+  pub steps : (one'.steps ≡ one.steps + 4) × (other'.steps ≡ 0)
+  -- what they have claimed is apart
+  pub apart : (c d : ClaimRange) → Among c one.pass.right.claims → Among d other.pass.right.claims → AreApart c d
+  -- the seat comes back with the three raw tails noted, none of which was noted when they met
+  pub greatest : IsGreatestShown one.pass unnoted one'.controls position
+  -- nothing that either has claimed passes it
+  pub claims : (c : ClaimRange) → Among c one.pass.right.claims ⊎ Among c other.pass.right.claims → claim_end c ≤ position
+  pub seen : SawBelow one.pass position × SawBelow other.pass position

@@ -1,0 +1,171 @@
+-- What contracts see of a reader of a log that threads share.
+use Rattle.std.specs.Prelude.{◌≡◌, ℕ, ◌+◌, ◌*◌, ◌/◌, ◌<◌, ◌≤◌, ◌⊎◌, zero, suc, List, [], ◌∷◌, ◌++◌, drop, length, map, slice_index, slice_set, take}
+use Rattle.theory.specs.Position.{max_position}
+use Rattle.theory.specs.Placed.{Among, payload_of}
+use Rattle.position.specs.declared.head.FrameHead.{FrameHead}
+use Rattle.position.specs.Heads.{IsStreamFrame, head_of}
+use Rattle.publication.specs.declared.pass.FrameWords.{FrameWords}
+use Rattle.publication.specs.declared.pass.Pass.{Pass}
+use Rattle.publication.specs.declared.pass.Reading.{Reading}
+use Rattle.publication.specs.Steps.{term_of}
+use Rattle.publication.specs.Contents.{bytes_in, frame_in}
+use Rattle.log_rule.specs.Claims.Handles.{PublisherValue}
+use Rattle.log_rule.specs.Readings.{IsConsumer, IsFrameAt, MayPass, end_of}
+use Rattle.shared_log.specs.Handles.{IsOf, LogValue}
+
+pub record ReaderValue : Type 0 where
+  -- the seat that it has
+  pub held : PublisherValue
+  -- the place of this consumer among those of its pass, and its number
+  pub place : ℕ
+  pub number : ℕ
+  -- where it stands, and where the frame ends that it read there
+  pub position : ℕ
+  pub read_to : ℕ
+
+-- the consumer at this place has this number and stands there, and knows the frame that it read there
+pub record IsReading (v : Pass) (place number position read_to : ℕ) : Type 0 where
+  pub consumer : Reading
+  pub is : IsConsumer v place consumer
+  pub number_is : consumer.number ≡ number
+  pub position_is : consumer.position ≡ position
+  pub read : position < read_to → MayPass v place read_to
+  pub low : position ≤ max_position v.identity.geometry
+  pub low_end : read_to ≤ max_position v.identity.geometry
+
+-- the reader is one of this log
+pub record IsReaderOf (l : LogValue) (r : ReaderValue) : Type 0 where
+  pub of : IsOf l r.held
+  pub number : r.number < l.consumers
+
+-- the frames that the reader knows to be committed
+abbrev pub known_at : List Reading → ℕ → List FrameWords
+known_at [] place = []
+known_at (r ∷ rs) zero = r.known
+known_at (r ∷ rs) (suc place) = known_at rs place
+
+abbrev pub known_of : ReaderValue → List FrameWords
+known_of r = known_at r.held.pass.reading r.place
+
+-- it knows the frame, or its own pass committed it
+abbrev pub Has : ReaderValue → FrameWords → Type 0
+Has r f = Among f (known_of r) ⊎ Among f r.held.pass.work.frames
+
+abbrev pub HasNone : ReaderValue → ℕ → Type 0
+HasNone r position = (f : FrameWords) → Has r f → f.start ≡ position → ⊥
+
+-- ---- what a call leaves
+
+-- the same seat, which knows the control words that it was sure of
+pub record SameSeat (p q : PublisherValue) : Type 0 where
+  pub of : q.of ≡ p.of
+  pub seat : q.seat ≡ p.seat
+  pub sure : q.sure ≡ p.sure
+  pub controls : p.sure ≡ 1 → q.controls ≡ p.controls
+
+-- it made steps that told it nothing
+pub record Rests (r q : ReaderValue) : Type 0 where
+  pub seat : SameSeat r.held q.held
+  pub pass : q.held.pass ≡ r.held.pass
+  pub same : q ≡ record r { held = q.held }
+
+abbrev pub positions_of : Pass → List ℕ
+positions_of v = map (λ r. r.position) v.reading
+
+abbrev pub numbers_of : Pass → List ℕ
+numbers_of v = map (λ r. r.number) v.reading
+
+-- its pass is another one only in what its consumers know and where they stand
+pub record OnlyReads (v w : Pass) : Type 0 where
+  pub rest : w ≡ record v { reading = w.reading }
+  pub numbers : numbers_of w ≡ numbers_of v
+
+-- the same reader, which stands where it stood
+pub record Stays (r q : ReaderValue) : Type 0 where
+  pub seat : SameSeat r.held q.held
+  pub pass : OnlyReads r.held.pass q.held.pass
+  pub positions : positions_of q.held.pass ≡ positions_of r.held.pass
+  pub same : q ≡ record r { held = q.held; read_to = q.read_to }
+
+-- the reader stands behind the frame that it read
+pub record Advances (r : ReaderValue) (q : ReaderValue) : Type 0 where
+  pub seat : SameSeat r.held q.held
+  pub pass : OnlyReads r.held.pass q.held.pass
+  pub positions : positions_of q.held.pass ≡ slice_set (positions_of r.held.pass) r.place r.read_to
+  pub same : q ≡ record r { held = q.held; position = r.read_to }
+  pub known : known_of q ≡ known_of r
+  -- which is where each frame ends that it had there
+  pub ends : (g : FrameWords) → Has r g → g.start ≡ r.position → r.read_to ≡ end_of g
+  pub here : (g : FrameWords) → Has r g → g.start ≡ r.position → IsFrameAt r.held.pass.identity r.position g
+
+-- it knows what a pass committed, beside what it knew
+pub record Learns (r : ReaderValue) (v : Pass) (q : ReaderValue) : Type 0 where
+  pub stays : Stays r q
+  pub read_to : q.read_to ≡ r.read_to
+  pub known : known_of q ≡ known_of r ++ v.work.frames
+
+-- ---- reading
+
+-- it has found the frame where it stands, which it knows from then on
+pub record Finds (l : LogValue) (r : ReaderValue) (head : FrameHead) (q : ReaderValue) : Type 0 where
+  pub frame : FrameWords
+  pub here : IsFrameAt l.identity r.position frame
+  pub shown : head ≡ head_of r.position (frame_in frame)
+  pub legal : IsStreamFrame l.identity.geometry head
+  pub known : known_of q ≡ known_of r ++ frame ∷ []
+  -- what it had there is this frame
+  pub only : (g : FrameWords) → Has r g → g.start ≡ r.position → g ≡ frame
+  -- who has all parts of a log committed it
+  pub own : r.held.pass.right.parts ≡ 1024 → Among frame r.held.pass.work.frames
+  pub stays : Stays r q
+  pub read : q.read_to ≡ frame.start + 8 * length frame.words
+
+-- the frame was read: its payload stands in the block's front
+pub record ReadsFrame (l : LogValue) (r : ReaderValue) (head : FrameHead) (before : List ℕ) (q : ReaderValue) (after : List ℕ) : Type 0 where
+  pub finds : Finds l r head q
+  pub copied : after ≡ payload_of (frame_in finds.frame) ++ drop (length (payload_of (frame_in finds.frame))) before
+
+-- no frame is committed there that the reader has, and it has learnt nothing
+pub record FindsNone (r q : ReaderValue) : Type 0 where
+  pub none : HasNone r r.position
+  pub rests : Rests r q
+
+pub record ReadsNone (r : ReaderValue) (before : List ℕ) (q : ReaderValue) (after : List ℕ) : Type 0 where
+  pub finds : FindsNone r q
+  pub untouched : after ≡ before
+
+-- ---- reading again
+
+-- the reader has a frame that begins there, below it, by three quarters of a term at the most
+pub record MayReread (l : LogValue) (r : ReaderValue) (position : ℕ) : Type 0 where
+  pub frame : FrameWords
+  pub has : Has r frame
+  pub here : frame.start ≡ position
+  pub below : position ≤ r.position
+  pub near : r.position ≤ position + 3 * l.identity.geometry.term_length / 4
+
+-- the frame that begins there was read again, the one of those that the reader has
+pub record Rereads (l : LogValue) (r : ReaderValue) (position : ℕ) (head : FrameHead) (before : List ℕ) (q : ReaderValue) (after : List ℕ) : Type 0 where
+  pub frame : FrameWords
+  pub has : Has r frame
+  pub at : frame.start ≡ position
+  pub only : (g : FrameWords) → Has r g → g.start ≡ position → g ≡ frame
+  pub shown : head ≡ head_of position (frame_in frame)
+  pub legal : IsStreamFrame l.identity.geometry head
+  pub copied : after ≡ payload_of (frame_in frame) ++ drop (length (payload_of (frame_in frame))) before
+  pub rests : Rests r q
+
+-- ---- words
+
+-- what was loaded is a word of the frame that the reader has there, which is one of the stream
+pub record IsWord (l : LogValue) (r : ReaderValue) (f : FrameWords) (start index n : ℕ) : Type 0 where
+  pub here : IsFrameAt l.identity start f
+  pub word : index < length f.words → r.position ≤ start + term_of r.held.pass → n ≡ slice_index f.words index
+  pub only : (g : FrameWords) → Has r g → g.start ≡ start → g ≡ f
+
+abbrev pub LoadsWord : LogValue → ReaderValue → ℕ → ℕ → ℕ → Type 0
+LoadsWord l r start index n = (f : FrameWords) → Has r f → f.start ≡ start → IsWord l r f start index n
+
+-- the first bytes behind the header of the frame that the reader has there stand in the block's front
+abbrev pub Copies : ReaderValue → ℕ → ℕ → List ℕ → List ℕ → Type 0
+Copies r start count before after = (f : FrameWords) → Has r f → f.start ≡ start → 32 + count ≤ 8 * length f.words → r.position ≤ start + term_of r.held.pass → after ≡ take count (bytes_in (drop 4 f.words)) ++ drop count before

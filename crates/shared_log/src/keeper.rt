@@ -1,0 +1,169 @@
+//! A keeper of a log, and its steps.
+
+ghost use Rattle.std.specs.Prelude.{◌≡◌, ◌+◌, ◌-◌, ◌*◌, ◌/◌, ◌%◌, ◌<◌, ◌≤◌, ◌&&◌, not};
+ghost use Rattle.theory.specs.Refusal.{is_closed, is_connected, limit_in};
+ghost use Rattle.log_rule.specs.Claims.Packs.{slot};
+ghost use Rattle.shared_log.specs.Handles.{IsOf};
+ghost use Rattle.log_rule.specs.Keepings.{MayRaise, SeesConsumer};
+ghost use Rattle.shared_log.specs.Keepers.{CleansAndLimits, IsKeeping, KeepsAs, KnowsLimit, MayCleanTo, MayRaiseFrom, Sweeps, TookSteps, closed_word, connected_word, raised, seen_positions, stored_once, with_cleaned, with_limit, with_positions};
+
+use crate::log::Log;
+use atomic_table::Seat;
+use log_rule::{CONSUMERS, Clean, LINE, Raise, Sweep, Swept, View};
+use std::marker::{Brand, Model};
+
+/// The keeper of a log.
+#[derive(Drop)]
+pub struct Keeper {
+    pub(crate) seat: Seat<(), View>,
+    /// The limit word: the limit with its two flags.
+    pub(crate) limit: u64,
+    /// The position below which nothing is readable any more.
+    pub(crate) cleaned: u64,
+}
+
+impl Model for Keeper {
+    ghost use Rattle.std.specs.Prelude.{◌≡◌, []};
+    ghost use Rattle.shared_log.specs.Keepers.{IsKeeping, KeeperValue};
+
+    ghost Value = { KeeperValue };
+
+    ghost view = { λ k. record { held = record { of = k.seat.table_id; seat = k.seat.id; pass = k.seat.me.0.pass; steps = k.seat.me.0.steps; controls = k.seat.me.0.controls; sure = k.seat.me.0.sure }; limit = k.limit; cleaned = k.cleaned } };
+
+    ghost invariant = { λ k. (k.seat.me.1 ≡ []) × IsKeeping k.seat.me.0.pass k.limit k.cleaned };
+}
+
+impl Keeper {
+    /// The limit word that it knows: the limit with its two flags.
+    pub fn limit_word(&self) -> u64
+        ensures { result ≡ self.now.limit }
+    {
+        self.limit
+    }
+
+    /// The position below which nothing is readable any more.
+    pub fn cleaned(&self) -> u64
+        ensures { result ≡ self.now.cleaned }
+    {
+        self.cleaned
+    }
+}
+
+/// Loads the position of a consumer.
+fn see_as<N: Swept>(log: &Log, keeper: &mut Keeper, number: u64) -> u64
+    requires fits { IsOf log.now keeper.old.held }
+    requires inside { 0 < number → number < log.now.consumers }
+    requires chosen { (N.number ≡ number) × (N.count ≡ log.now.consumers) }
+    ensures is { IsKeeping keeper.old.held.pass keeper.old.limit keeper.old.cleaned }
+    ensures sees { SeesConsumer keeper.old.held.pass log.now.consumers number result keeper.new.held.pass }
+    ensures keeps { KeepsAs keeper.old (with_positions (seen_positions keeper.new) keeper.old) keeper.new }
+    ensures once { TookSteps keeper.old 1 keeper.new }
+{
+    let words = &log.table.shared;
+    words.load::<Sweep<N>>(&mut keeper.seat, CONSUMERS + LINE * number as usize)
+}
+
+/// The least position of the consumers, each loaded once.
+fn sweep(log: &Log, keeper: &mut Keeper) -> u64
+    requires fits { IsOf log.now keeper.old.held }
+    ensures { Sweeps log.now keeper.old result keeper.new }
+{
+    let mut least = see_as::<Brand>(log, keeper, 0);
+    for number in 1..log.consumers() {
+        least = least.min(see_as::<Brand>(log, keeper, number));
+    }
+    least
+}
+
+/// Stores zero in the next word, which lies below an end, at its place.
+fn clean_next(log: &Log, place: usize, keeper: &mut Keeper, end: u64)
+    requires fits { IsOf log.now keeper.old.held }
+    requires there { place ≡ slot log.now.identity.geometry keeper.old.cleaned }
+    requires may { MayCleanTo keeper.old end }
+    requires below { keeper.old.cleaned < end }
+    requires knows { KnowsLimit keeper.old }
+    ensures cleans { KeepsAs keeper.old (with_cleaned (keeper.old.cleaned + 8) keeper.old) keeper.new }
+    ensures once { TookSteps keeper.old 1 keeper.new }
+{
+    let words = &log.table.shared;
+    words.store::<Clean>(&mut keeper.seat, place, 0);
+    keeper.cleaned += 8;
+}
+
+/// Cleans word after word up to a position.
+fn clean_to(log: &Log, keeper: &mut Keeper, end: u64)
+    requires fits { IsOf log.now keeper.old.held }
+    requires may { MayCleanTo keeper.old end }
+    requires knows { KnowsLimit keeper.old }
+    ensures keeps { KeepsAs keeper.old (with_cleaned end keeper.old) keeper.new }
+    ensures steps { TookSteps keeper.old ((end - keeper.old.cleaned) / 8) keeper.new }
+{
+    let _ = &keeper.seat;
+    let mut ring = log.ring();
+    let mut place = log.slot_of(&mut ring, keeper.cleaned);
+    while keeper.cleaned < end {
+        clean_next(log, place, keeper, end);
+        place = log.slot_behind(&ring, place);
+    }
+}
+
+/// Stores the limit word.
+fn store_limit(log: &Log, keeper: &mut Keeper, word: u64)
+    requires fits { IsOf log.now keeper.old.held }
+    requires may { MayRaise keeper.old.held.pass word }
+    ensures keeps { KeepsAs keeper.old (with_limit word keeper.old) keeper.new }
+    ensures once { TookSteps keeper.old 1 keeper.new }
+{
+    let words = &log.table.shared;
+    words.store::<Raise>(&mut keeper.seat, 0, word);
+    keeper.limit = word;
+}
+
+/// If the log is connected and not closed, raises its limit to half a term above a position.
+fn raise(log: &Log, keeper: &mut Keeper, least: u64)
+    requires fits { IsOf log.now keeper.old.held }
+    requires may { MayRaiseFrom keeper.old least }
+    requires knows { KnowsLimit keeper.old }
+    ensures keeps { KeepsAs keeper.old (with_limit (raised keeper.old.limit least log.now.identity.geometry.term_length) keeper.old) keeper.new }
+    ensures steps { TookSteps keeper.old (stored_once keeper.old.limit keeper.new.limit) keeper.new }
+{
+    let half = u64::from(log.identity().geometry().term_length()) / 2;
+    let limit = keeper.limit / 4 * 4;
+    if keeper.limit % 4 == 1 && limit < least + half {
+        store_limit(log, keeper, least + half + 1);
+    }
+}
+
+/// Cleans all that is a term or more below the least consumer. Then, if the log is connected and not closed, raises the
+/// limit to half a term above that consumer. The answer is the limit.
+pub fn clean_and_limit(log: &Log, keeper: &mut Keeper) -> u64
+    requires { IsOf log.now keeper.old.held }
+    ensures done { CleansAndLimits log.now keeper.old keeper.new }
+    ensures answer { result ≡ limit_in keeper.new.limit }
+{
+    let least = sweep(log, keeper);
+    let length = u64::from(log.identity().geometry().term_length());
+    clean_to(log, keeper, log.start().max(least.saturating_sub(length)));
+    raise(log, keeper, least);
+    keeper.limit / 4 * 4
+}
+
+/// Says whether somebody receives the stream, by one store.
+pub fn set_connected(log: &Log, keeper: &mut Keeper, connected: bool)
+    requires { IsOf log.now keeper.old.held }
+    ensures keeps { KeepsAs keeper.old (with_limit (connected_word connected keeper.old.limit) keeper.old) keeper.new }
+    ensures once { TookSteps keeper.old 1 keeper.new }
+{
+    let word = keeper.limit / 2 * 2 + u64::from(connected);
+    store_limit(log, keeper, word);
+}
+
+/// Closes the log by one store, for good.
+pub fn set_closed(log: &Log, keeper: &mut Keeper)
+    requires { IsOf log.now keeper.old.held }
+    ensures keeps { KeepsAs keeper.old (with_limit (closed_word keeper.old.limit) keeper.old) keeper.new }
+    ensures once { TookSteps keeper.old 1 keeper.new }
+{
+    let word = keeper.limit / 4 * 4 + 2 + keeper.limit % 2;
+    store_limit(log, keeper, word);
+}

@@ -1,0 +1,139 @@
+//! A log that opens, with all its passes.
+
+ghost use Rattle.std.specs.Prelude.{◌≡◌, ℕ, ◌+◌, ◌<◌, ◌≤◌, ◌↔◌, [], IfOk, IsErrOf, length, vec_capacity, vec_len};
+ghost use Rattle.theory.specs.Position.{max_position};
+ghost use Rattle.position.specs.Openings.{IsConsumerCount, IsStart};
+ghost use Rattle.shared_log.specs.Handles.{AreNew, IsLogOf, IsWholeNew};
+ghost use Rattle.shared_log.specs.Parts.{AreDealt, AreReaders, IsDealing, IsDealer, IsNewKeeper, IsNewReader, IsNewPublisher};
+
+use crate::fault::LogError;
+use crate::keeper::Keeper;
+use crate::log::{Log, Publisher};
+use crate::reader::LogReader;
+use log_rule::{DealKeeper, DealPublisher, DealReader};
+use position::Geometry;
+use std::alloc::{AllocFailed, Global};
+
+/// All passes of a log that was just opened.
+#[derive(Drop)]
+pub struct Parts {
+    /// By their numbers, 0 to 7.
+    pub publishers: [Publisher; 8],
+    /// As many as were asked for, by their numbers, all at the start.
+    pub readers: Vec<LogReader>,
+    pub keeper: Keeper,
+}
+
+/// The keeper goes to a seat of its own.
+fn deal_keeper(log: &Log, pass: &mut Publisher) -> Keeper
+    requires { IsWholeNew log.now pass.old }
+    ensures dealing { IsDealing log.now 0 pass.new }
+    ensures keeper { IsNewKeeper log.now result }
+{
+    let start = log.start();
+    let words = &log.table.shared;
+    Keeper {
+        seat: words.split_seat::<DealKeeper>(&mut pass.seat),
+        limit: start,
+        cleaned: start,
+    }
+}
+
+/// A consumer goes to a seat of its own.
+fn deal_reader(log: &Log, pass: &mut Publisher, number: u64) -> LogReader
+    requires dealing { IsDealing log.now number pass.old }
+    requires inside { number < log.now.consumers }
+    requires below { log.now.start < max_position log.now.identity.geometry }
+    ensures dealing { IsDealing log.now (number + 1) pass.new }
+    ensures reader { IsNewReader log.now number result }
+{
+    let start = log.start();
+    let words = &log.table.shared;
+    LogReader {
+        seat: words.split_seat::<DealReader>(&mut pass.seat),
+        place: 0,
+        number,
+        position: start,
+        read_to: start,
+    }
+}
+
+/// All consumers do, by their numbers.
+fn deal_readers(log: &Log, pass: &mut Publisher, mut readers: Vec<LogReader>) -> Vec<LogReader>
+    requires dealing { IsDealing log.now 0 pass.old }
+    requires below { log.now.start < max_position log.now.identity.geometry }
+    requires none { readers.items ≡ [] }
+    requires room { log.now.consumers ≤ vec_capacity readers }
+    ensures dealing { IsDealing log.now log.now.consumers pass.new }
+    ensures readers { AreReaders log.now 0 result.items }
+    ensures all { vec_len result ≡ log.now.consumers }
+{
+    for number in 0..log.consumers() {
+        readers.push(deal_reader(log, pass, number)).unwrap();
+    }
+    readers
+}
+
+/// The last of the publishers that are left goes to a seat of its own.
+fn deal_publisher(log: &Log, pass: &mut Publisher) -> Publisher
+    requires dealer { IsDealer log.now pass.old }
+    requires number { 0 < pass.old.pass.number }
+    ensures dealer { IsDealer log.now pass.new }
+    ensures fewer { pass.new.pass.number + 1 ≡ pass.old.pass.number }
+    ensures dealt { IsNewPublisher log.now pass.old.pass.number result }
+{
+    let number = pass.number;
+    let words = &log.table.shared;
+    let seat = words.split_seat::<DealPublisher>(&mut pass.seat);
+    pass.number = number - 1;
+    Publisher {
+        seat,
+        number,
+        share: 0,
+    }
+}
+
+/// All publishers do, by their numbers.
+fn deal_publishers(log: &Log, mut last: Publisher) -> [Publisher; 8]
+    requires { IsDealing log.now log.now.consumers last }
+    ensures { AreNew log.now 0 result }
+{
+    let seven = deal_publisher(log, &mut last);
+    let six = deal_publisher(log, &mut last);
+    let five = deal_publisher(log, &mut last);
+    let four = deal_publisher(log, &mut last);
+    let three = deal_publisher(log, &mut last);
+    let two = deal_publisher(log, &mut last);
+    let one = deal_publisher(log, &mut last);
+    [last, one, two, three, four, five, six, seven]
+}
+
+/// A log that opens at a position, unconnected, with its limit and so many consumers at the start, and all its passes.
+/// The start is judged first, then the number of consumers; then memory is asked for.
+pub fn open(
+    alloc: Global,
+    geometry: Geometry,
+    session: i32,
+    stream: i32,
+    start: u64,
+    consumers: usize,
+) -> Result<(Log, Parts), LogError>
+    ensures log { IfOk result (λ r. IsLogOf (record { geometry = geometry; session = session; stream = stream }) start consumers r.0) }
+    ensures parts { IfOk result (λ r. AreDealt r.0 r.1.publishers r.1.readers.items r.1.keeper) }
+    ensures start { IsErrOf result LogError.Start ↔ (¬ IsStart geometry start) }
+    ensures consumers { IsErrOf result LogError.Consumers ↔ (IsStart geometry start × (¬ IsConsumerCount consumers)) }
+    ensures in_range { IfOk result (λ _. IsStart geometry start × IsConsumerCount consumers) }
+    ensures memory { IsErrOf result LogError.Memory → IsStart geometry start × IsConsumerCount consumers }
+{
+    let (log, mut pass) = Log::open_whole(alloc, geometry, session, stream, start, consumers)?;
+    let readers = Vec::with_capacity(alloc, consumers)?;
+    let keeper = deal_keeper(&log, &mut pass);
+    let readers = deal_readers(&log, &mut pass, readers);
+    let publishers = deal_publishers(&log, pass);
+    let parts = Parts {
+        publishers,
+        readers,
+        keeper,
+    };
+    Ok((log, parts))
+}

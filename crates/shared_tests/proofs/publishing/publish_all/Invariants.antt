@@ -1,5 +1,0 @@
-use Rattle.shared_log.specs.Handles.{IsOf}
-use Rattle.shared_tests.proofs.publishing.publish_all.Given as goal
-
-abbrev pub invariant-loop : goal.invariant-loop
-invariant-loop g l = IsOf l.log l.publisher

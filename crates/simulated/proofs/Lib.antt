@@ -1,4 +1,0 @@
-pub mod HandlerSteps
-pub mod SimulatedNews
-pub mod SimulatedSender
-pub mod Simulations

@@ -1,0 +1,11 @@
+use Rattle.std.proofs.lemmas.Result.{on_ok_weaker}
+use Rattle.script.specs.Meaning as commands
+use Rattle.simulation.proofs.Simulations.{log_answered, seen_as}
+use Rattle.simulation.proofs.simulation.Simulation.claim_short.Goals as goal
+
+pub returns : goal.returns
+returns g c =
+    let command = commands.Claim c.args.publisher.number c.args.size in
+    let before = c.args.lines.now.items in
+    let after = c.add_line.new.lines.items in
+    on_ok_weaker c.add_line.result (λ told. seen_as _ _ _ command before after c.self.view_is (log_answered _ (g.L.Claims.stream c.claim_line-line.new.log) command c.claim_line-line.result before after c.claim_line-line.ensures.still c.claim_line-line.ensures.leads told)) c.add_line.ensures

@@ -1,0 +1,5 @@
+//! Image speed.
+
+pub(crate) mod fault;
+pub(crate) mod playing;
+pub(crate) mod timing;

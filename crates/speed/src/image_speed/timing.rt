@@ -1,0 +1,62 @@
+//! How long a list of frames takes.
+
+ghost use Rattle.std.specs.Prelude.{◌≡◌, ◌*◌, ◌/◌, ◌-◌, ◌^◌, max, min, IfOk};
+ghost use Rattle.std.specs.Duration.{as_nanos};
+
+use crate::image_speed::fault::ImageSpeedError;
+use crate::image_speed::playing::play;
+use block::Block;
+use image::Image;
+use position::Geometry;
+use std::alloc::Global;
+use std::time::{Clock, Duration, Instant};
+
+/// What was measured with one term length and one share of frames that come late.
+#[derive(Clone, Copy, Debug, PartialEq, Eq)]
+pub struct ImageFigures {
+    pub term_length: u32,
+    /// How many frames of a hundred came late.
+    pub missing: u64,
+    /// For each of the data frames, those that never came too, in tenths of a nanosecond, rounded down.
+    pub tenths: u64,
+    pub sum: u64,
+    pub stored: u64,
+}
+
+/// A duration's tenths of a nanosecond for each of so many frames, rounded down. No frames at all are taken for one.
+fn tenths_each(taken: Duration, frames: u32) -> u64
+    ensures { result ≡ min (as_nanos taken * 10 / max frames 1) (2 ^ 64 - 1) }
+{
+    let each = taken.as_nanos() * 10 / u128::from(frames.max(1));
+    each.min(u128::from(u64::MAX)) as u64
+}
+
+/// Gives a fresh image so many frames, of which so many of a hundred come late, and reads them.
+pub fn measure_image<R: Clock>(
+    rt: &R,
+    alloc: Global,
+    term_length: u32,
+    missing: u64,
+    frames: u32,
+) -> Result<ImageFigures, ImageSpeedError>
+    ensures { IfOk result (λ figures. (figures.term_length ≡ term_length) × (figures.missing ≡ missing)) }
+{
+    let geometry = Geometry::new(term_length, 1408, 7)?;
+    let mut image = Image::open(alloc, geometry, 0, geometry.term_length() / 2, 1)?;
+    let mut block = Block::new(alloc, 65_536)?;
+    let payload = [97; 1376];
+    let Ok(began) = Instant::now(rt) else {
+        return Err(ImageSpeedError::Clock);
+    };
+    let played = play(&mut image, &mut block, &payload, frames, missing);
+    let Ok(ended) = Instant::now(rt) else {
+        return Err(ImageSpeedError::Clock);
+    };
+    Ok(ImageFigures {
+        term_length,
+        missing,
+        tenths: tenths_each(ended.duration_since(began), frames),
+        sum: played.sum,
+        stored: played.stored,
+    })
+}

@@ -1,5 +1,0 @@
-use Rattle.stall_tests.specs.Crews.{IsCrew}
-use Rattle.stall_tests.proofs.stalls.follow_all.Given as goal
-
-abbrev pub invariant-loop-term : goal.invariant-loop-term
-invariant-loop-term g l = IsCrew l.log l.crew

@@ -1,5 +1,0 @@
-use Rattle.shared_log.specs.Handles.{IsOf}
-use Rattle.step_tests.proofs.rows.offer_row.Given as goal
-
-abbrev pub invariant-loop-size : goal.invariant-loop-size
-invariant-loop-size g l = IsOf l.log l.publisher

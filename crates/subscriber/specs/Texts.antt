@@ -1,0 +1,19 @@
+-- What a user reads of a fault.
+use Rattle.std.specs.Prelude.{ℕ, List, ◌++◌, codes, decimal}
+use Rattle.endpoint.specs.Texts as devices
+use Rattle.subscriber.specs.declared.delivery.fault.DeliveryFault.{DeliveryFault}
+use Rattle.subscriber.specs.declared.delivery.fault.DeliveryFault.TheVariants as deliveries
+use Rattle.subscriber.specs.declared.fault.SubscribeFault.{SubscribeFault}
+use Rattle.subscriber.specs.declared.fault.SubscribeFault.TheVariants.{Taken, Output, Message, Failed}
+
+abbrev pub text_of : SubscribeFault → List ℕ
+text_of (Taken port) = codes "port " ++ decimal port ++ codes " is in use"
+text_of Output = codes "output"
+text_of Message = codes "message"
+text_of (Failed error) = devices.text_of error
+
+-- a cycle's fault as a subscriber's
+abbrev pub of_delivery : DeliveryFault → SubscribeFault
+of_delivery deliveries.Output = Output
+of_delivery (deliveries.Message error) = Message
+of_delivery (deliveries.Failed error) = Failed error

@@ -1,0 +1,74 @@
+ghost use Rattle.std.specs.Prelude.{◌≡◌, Some};
+ghost use Rattle.subscriber.specs.Texts.{of_delivery, text_of};
+ghost use Rattle.endpoint.specs.declared.device_error.DeviceError.TheVariants.{Device, Memory};
+ghost use Rattle.subscriber.specs.declared.fault.SubscribeFault.TheVariants.{Failed};
+
+use crate::delivery::fault::DeliveryFault;
+use endpoint::{DeviceError, DeviceFailed};
+use std::alloc::AllocError;
+use std::error::Error;
+use std::fmt;
+
+/// Why a subscriber did nothing more.
+#[derive(Clone, Copy, Debug, PartialEq, Eq)]
+pub enum SubscribeFault {
+    /// Another socket of this machine has the port.
+    Taken(u16),
+    /// The output failed. What was polled last may be lost; no status message went out for it.
+    Output,
+    /// A message was refused, and is lost.
+    Message,
+    /// The socket or the clock failed, or memory was refused.
+    Failed(DeviceError),
+}
+
+impl fmt::Display for SubscribeFault {
+    ghost output = { λ fault. Some (text_of fault) };
+
+    fn fmt<W: fmt::Write>(&self, f: &mut fmt::Formatter<W>) -> fmt::Result {
+        match *self {
+            SubscribeFault::Taken(port) => write!(f, "port {port} is in use"),
+            SubscribeFault::Output => write!(f, "output"),
+            SubscribeFault::Message => write!(f, "message"),
+            SubscribeFault::Failed(error) => write!(f, "{error}"),
+        }
+    }
+}
+
+impl Error for SubscribeFault {}
+
+impl From<DeliveryFault> for SubscribeFault {
+    ghost from_gives = { λ from fault. fault ≡ of_delivery from };
+
+    fn from(fault: DeliveryFault) -> SubscribeFault {
+        match fault {
+            DeliveryFault::Output => SubscribeFault::Output,
+            DeliveryFault::Message(_) => SubscribeFault::Message,
+            DeliveryFault::Failed(error) => SubscribeFault::Failed(error),
+        }
+    }
+}
+
+impl From<DeviceError> for SubscribeFault {
+    ghost from_gives = { λ from fault. fault ≡ Failed from };
+
+    fn from(error: DeviceError) -> SubscribeFault {
+        SubscribeFault::Failed(error)
+    }
+}
+
+impl From<DeviceFailed> for SubscribeFault {
+    ghost from_gives = { λ _ fault. fault ≡ Failed Device };
+
+    fn from(_failed: DeviceFailed) -> SubscribeFault {
+        SubscribeFault::Failed(DeviceError::Device)
+    }
+}
+
+impl From<AllocError> for SubscribeFault {
+    ghost from_gives = { λ _ fault. fault ≡ Failed Memory };
+
+    fn from(_error: AllocError) -> SubscribeFault {
+        SubscribeFault::Failed(DeviceError::Memory)
+    }
+}

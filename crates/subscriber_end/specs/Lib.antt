@@ -1,2 +1,0 @@
-pub mod Leavings
-pub mod Writings

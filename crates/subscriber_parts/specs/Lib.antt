@@ -1,3 +1,0 @@
-pub mod Meetings
-pub mod Texts
-pub mod Watches

@@ -1,0 +1,36 @@
+use Rattle.std.proofs.Common.{List, [], rules, ap, subst, refl, FitsSigned, w32}
+use Rattle.std.proofs.lemmas.Result.{IfOk-weaker}
+use Rattle.theory.specs.Position.{Geometry, IsGeometry}
+use Rattle.position.specs.Openings.{IsStart}
+use Rattle.script.specs.Meaning.{contents_of, script_content}
+use Rattle.script.specs.declared.command.Command.{Command}
+use Rattle.simulation.specs.Lines.{line_contents}
+use Rattle.simulation.specs.declared.line.Line.{Line}
+use Rattle.world.specs.Runs.{RunsTo}
+use Rattle.world.proofs.ScriptRuns.{stage_plays}
+use Rattle.world.proofs.whole_script.opened_lines.Goals as goal
+
+pub returns : goal.returns
+returns g c =
+    let log = c.args.script.now.log in
+    let script = script_content c.args.script.now in
+    let session : FitsSigned w32 c.args.script.now.log.session = search rules in
+    let stream : FitsSigned w32 c.args.script.now.log.stream = search rules in
+    let made = c.requires.made in
+    let simulation = c.in_ok-simulation.simulation in
+    IfOk-weaker c.ended_lines.result _ _
+    (λ after runs.
+    stage_plays script simulation (record { geometry = c.args.geometry; session = log.session; stream = log.stream }) log.start log.readers (line_contents after.items)
+    (ap (λ (g : Geometry). record { geometry = g; session = log.session; stream = log.stream }) made)
+    refl
+    refl
+    (subst IsGeometry made c.requires.legal)
+    (subst (λ (g : Geometry). IsStart g log.start) made c.requires.start)
+    (record { session = session; stream = stream })
+    c.polls_a_prefix.ensures.polled
+    c.polls_a_prefix.ensures.runs
+    c.images_stay_in_bounds.ensures
+    c.in_ok-simulation.ensures
+    (subst (λ (cs : List Command). RunsTo simulation.log.identity simulation.log.start simulation.readers (contents_of cs) [] (line_contents after.items)) c.deref.ensures.value
+    (subst (λ (ls : List Line). RunsTo simulation.log.identity simulation.log.start simulation.readers (contents_of c.deref.result.now) (line_contents ls) (line_contents after.items)) c.requires.empty runs)))
+    c.ended_lines.ensures
