@@ -1,19 +1,8 @@
-//! Plays each script of `examples/` and carries out each row there, by the program's own commands over streams of
-//! memory, and says whether it prints and tells what is expected; then whether command lines over streams that fail
-//! and of the greatest lengths, and the options of `run`, do.
+//! Plays each script of `examples/` and carries out each row there, and says whether it prints and tells what is
+//! expected; then whether the other command lines of `command_tests` do.
 #![tactic(auto)]
 
-mod broken;
-mod lines;
-mod rows;
-mod run_options;
-mod streams;
-mod table;
-
-use crate::lines::prints;
-use crate::rows::{Found, play_rows};
-use crate::run_options::are_told;
-use crate::streams::{faults_are_told, lengths_are_bounded};
+use command_tests::{Found, are_told, faults_are_told, lengths_are_bounded, play_rows, prints};
 use std::net::Net;
 use std::process::ExitCode;
 use std::sync::Wait;
