@@ -7,10 +7,16 @@ use std::time::{Clock, Duration};
 /// After how many idle turns in a row a thread sleeps in each further one.
 const YIELDS: u32 = 200;
 
-/// How long it sleeps, in microseconds. The system makes it longer.
-const SLEEP: u64 = 20;
+/// After how many it sleeps longer: after a second or so.
+const SHORT_TURNS: u32 = 15_200;
 
-/// How many idle turns there were in a row, up to 200.
+/// How long it sleeps, in microseconds. The system makes it longer, some 70 in all.
+const SHORT_SLEEP: u64 = 20;
+
+/// How long it sleeps where there was nothing to do for long, in microseconds.
+const LONG_SLEEP: u64 = 1000;
+
+/// How many idle turns there were in a row, up to 15,200.
 #[derive(Debug, Drop)]
 pub struct IdleStrategy {
     turns: u32,
@@ -23,7 +29,7 @@ impl Model for IdleStrategy {
 
     ghost view = { λ i. i.turns };
 
-    ghost invariant = { λ i. i.turns ≤ 200 };
+    ghost invariant = { λ i. i.turns ≤ 15200 };
 }
 
 impl IdleStrategy {
@@ -41,21 +47,24 @@ impl IdleStrategy {
         self.turns = 0;
     }
 
-    /// A turn in which there was nothing to do: the thread yields, and from the 201st in a row on it sleeps.
+    /// A turn in which there was nothing to do: the thread yields, from the 201st in a row on it sleeps for some 70
+    /// microseconds, and from the 15,201st on, after a second or so, for a millisecond.
     pub fn rest<R: Clock>(&mut self, rt: &R)
-        ensures { self.new ≡ min (self.old + 1) 200 }
+        ensures { self.new ≡ min (self.old + 1) 15200 }
     {
         if self.turns < YIELDS {
-            self.turns += 1;
             thread::yield_now();
+        } else if self.turns < SHORT_TURNS {
+            thread::sleep(rt, Duration::from_micros(SHORT_SLEEP));
         } else {
-            let _ = thread::sleep(rt, Duration::from_micros(SLEEP));
+            thread::sleep(rt, Duration::from_micros(LONG_SLEEP));
         }
+        self.turns = (self.turns + 1).min(SHORT_TURNS);
     }
 
     /// A turn, which was busy or not.
     pub fn after<R: Clock>(&mut self, rt: &R, busy: bool)
-        ensures { self.new ≡ (if busy then 0 else min (self.old + 1) 200) }
+        ensures { self.new ≡ (if busy then 0 else min (self.old + 1) 15200) }
     {
         if busy {
             self.stir();

@@ -5,7 +5,8 @@ use Rattle.channel.specs.declared.parameter.Setting.{Setting}
 use Rattle.channel.specs.declared.settings.Settings.{Settings}
 use Rattle.channel.specs.declared.fault.ChannelFault.{ChannelFault}
 use Rattle.channel.specs.declared.fault.ChannelFault.TheVariants.{Prefix, Part, Unknown, Repeated, Value, Host, NoEndpoint, Apart}
-use Rattle.channel.specs.Settings.{name_of, parameter_of, is_set, with_setting, Says, Sets, IsValueOf}
+use Rattle.channel.specs.declared.parameter.Parameter.TheVariants.{Endpoint}
+use Rattle.channel.specs.Settings.{name_of, parameter_of, is_set, with_setting, Says, Sets, IsForeign, IsValueOf}
 use Rattle.channel.specs.Endpoints.{IsValueFault}
 use Rattle.channel.specs.Channels.{IsPartFault}
 
@@ -20,8 +21,9 @@ value_wrong s p part value Prefix e free wrong = wrong
 value_wrong s p part value (Part whole) e free wrong = absurd wrong
 value_wrong s p part value (Unknown name) e free wrong = absurd wrong
 value_wrong s p part value (Repeated q) e free wrong = absurd wrong
-value_wrong s p part value (Value q) e free (same, none) = (value, rw same e, rw same free, rw same none)
-value_wrong s p part value (Host host) e free (same, foreign) = (value, subst (λ q. part ≡ name_of q ++ 61 ∷ value) same e, subst (λ q. is_set s q ≡ false) same free, foreign)
+value_wrong s p part value (Value q own) e free (same, is, none) = (rw (same, is) e, rw same free, rw (same, is) none)
+value_wrong s p part value (Host own) e free (same, is, host, foreign) =
+    (subst (λ v. part ≡ name_of Endpoint ++ 61 ∷ v) (sym is) (subst (λ q. part ≡ name_of q ++ 61 ∷ value) same e), subst (λ q. is_set s q ≡ false) same free, host, subst (λ v. IsForeign v host) (sym is) foreign)
 value_wrong s p part value NoEndpoint e free wrong = wrong
 value_wrong s p part value Apart e free wrong = wrong
 

@@ -35,8 +35,8 @@ no_end_fault s c Prefix h wrong = wrong
 no_end_fault s c (Part whole) h wrong = wrong
 no_end_fault s c (Unknown name) h wrong = wrong
 no_end_fault s c (Repeated p) h wrong = wrong
-no_end_fault s c (Value p) h wrong = wrong
-no_end_fault s c (Host host) h wrong = wrong
+no_end_fault s c (Value p value) h wrong = wrong
+no_end_fault s c (Host value) h wrong = wrong
 no_end_fault s c NoEndpoint h wrong = let there = h.port in cc
 no_end_fault s c Apart h (some, none) = let there = h.start in cc
 

@@ -99,12 +99,12 @@ no_part_fault s part a (Unknown name) h free (v, is, lacks, none) =
 no_part_fault s part a (Repeated q) h free (v, is, set) =
     let same = (named_once q (parameter_of a) part v h.value is h.parts).0 in
     let again : is_set s (parameter_of a) ≡ true = subst (λ p. is_set s p ≡ true) same set in cc
-no_part_fault s part a (Value q) h free (v, is, unset, none) =
-    let same = named_once q (parameter_of a) part v h.value is h.parts in
+no_part_fault s part a (Value q v) h free (is, unset, none) =
+    let same = named_once q (parameter_of a) part v.now h.value is h.parts in
     no_value h.value a h.is (subst (λ p. HasNoValue p h.value) same.0 (subst (HasNoValue q) same.1 none))
-no_part_fault s part a (Host host) h free (v, is, unset, foreign) =
-    let same = named_once Endpoint (parameter_of a) part v h.value is h.parts in
-    not_foreign h.value host.now a (sym same.0) h.is (subst (λ x. IsForeign x host.now) same.1 foreign)
+no_part_fault s part a (Host v) h free (is, unset, host, foreign) =
+    let same = named_once Endpoint (parameter_of a) part v.now h.value is h.parts in
+    not_foreign h.value host a (sym same.0) h.is (subst (λ x. IsForeign x host) same.1 foreign)
 no_part_fault s part a NoEndpoint h free wrong = wrong
 no_part_fault s part a Apart h free wrong = wrong
 

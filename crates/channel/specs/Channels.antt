@@ -57,8 +57,8 @@ IsPartFault s part Prefix = ⊥
 IsPartFault s part (Part whole) = (part ≡ whole.now) × Lacks 61 part
 IsPartFault s part (Unknown name) = (value : List ℕ) × (part ≡ name.now ++ 61 ∷ value) × Lacks 61 name.now × ((p : Parameter) → name.now ≢ name_of p)
 IsPartFault s part (Repeated p) = (value : List ℕ) × (part ≡ name_of p ++ 61 ∷ value) × (is_set s p ≡ true)
-IsPartFault s part (Value p) = (value : List ℕ) × (part ≡ name_of p ++ 61 ∷ value) × (is_set s p ≡ false) × HasNoValue p value
-IsPartFault s part (Host host) = (value : List ℕ) × (part ≡ name_of Endpoint ++ 61 ∷ value) × (is_set s Endpoint ≡ false) × IsForeign value host.now
+IsPartFault s part (Value p value) = (part ≡ name_of p ++ 61 ∷ value.now) × (is_set s p ≡ false) × HasNoValue p value.now
+IsPartFault s part (Host value) = (part ≡ name_of Endpoint ++ 61 ∷ value.now) × (is_set s Endpoint ≡ false) × (host : List ℕ) × IsForeign value.now host
 IsPartFault s part NoEndpoint = ⊥
 IsPartFault s part Apart = ⊥
 
@@ -68,8 +68,8 @@ IsEndFault s Prefix = ⊥
 IsEndFault s (Part whole) = ⊥
 IsEndFault s (Unknown name) = ⊥
 IsEndFault s (Repeated p) = ⊥
-IsEndFault s (Value p) = ⊥
-IsEndFault s (Host host) = ⊥
+IsEndFault s (Value p value) = ⊥
+IsEndFault s (Host value) = ⊥
 IsEndFault s NoEndpoint = s.port ≡ None
 IsEndFault s Apart = IsSome s.port × (start_of s.initial_term_id s.term_id s.term_offset ≡ None)
 

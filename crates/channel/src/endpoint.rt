@@ -37,13 +37,13 @@ fn endpoint(value: &str) -> Result<Setting, ChannelFault<'_>>
     ensures fault { IfErr result (λ f. IsValueFault Parameter.Endpoint value.now f) }
 {
     let Some((host, digits)) = value.split_once(':') else {
-        return Err(ChannelFault::Value(Parameter::Endpoint));
+        return Err(ChannelFault::Value(Parameter::Endpoint, value));
     };
     if !is_here(host) {
-        return Err(ChannelFault::Host(host));
+        return Err(ChannelFault::Host(value));
     }
     match port(digits.as_bytes()) {
-        None => Err(ChannelFault::Value(Parameter::Endpoint)),
+        None => Err(ChannelFault::Value(Parameter::Endpoint, value)),
         Some(port) => Ok(Setting::Endpoint(port)),
     }
 }
@@ -58,7 +58,7 @@ fn setting(parameter: Parameter, value: &str) -> Result<Setting, ChannelFault<'_
     }
     match parameter.number_setting(value.as_bytes()) {
         Some(setting) => Ok(setting),
-        None => Err(ChannelFault::Value(parameter)),
+        None => Err(ChannelFault::Value(parameter, value)),
     }
 }
 

@@ -16,9 +16,9 @@ pub enum ChannelFault<'a> {
     Unknown(&'a str),
     /// The parameter stands a second time.
     Repeated(Parameter),
-    /// The value isn't of the parameter's form, or out of its range.
-    Value(Parameter),
-    /// The endpoint's host isn't this machine: `127.0.0.1` or `localhost`.
+    /// This value isn't of the parameter's form, or out of its range.
+    Value(Parameter, &'a str),
+    /// The host of this endpoint isn't `127.0.0.1` or `localhost`, the names of this machine that are taken.
     Host(&'a str),
     /// No part is an endpoint.
     NoEndpoint,
@@ -38,12 +38,15 @@ impl fmt::Display for ChannelFault<'_> {
                 let name = parameter.name();
                 write!(f, "channel: {name} stands twice")
             }
-            ChannelFault::Value(parameter) => {
-                let name = parameter.name();
-                write!(f, "channel: the value of {name}")
+            ChannelFault::Value(parameter, value) => {
+                let (name, range) = (parameter.name(), parameter.range());
+                write!(f, "channel: {name}={value}: {range}")
             }
-            ChannelFault::Host(host) => write!(f, "channel: {host} isn't this machine"),
-            ChannelFault::NoEndpoint => write!(f, "channel: no endpoint"),
+            ChannelFault::Host(value) => {
+                let range = Parameter::Endpoint.range();
+                write!(f, "channel: endpoint={value}: {range}")
+            }
+            ChannelFault::NoEndpoint => write!(f, "channel: no endpoint=HOST:PORT"),
             ChannelFault::Apart => write!(
                 f,
                 "channel: init-term-id, term-id and term-offset stand together"

@@ -3,6 +3,7 @@
 ghost use Rattle.std.specs.Prelude.{◌≡◌, ◌≢◌, IfSome, IfNone};
 ghost use Rattle.channel.specs.declared.parameter.Parameter.{Parameter};
 ghost use Rattle.channel.specs.declared.parameter.Parameter.TheVariants.{Endpoint};
+ghost use Rattle.channel.specs.Texts.{range_of};
 ghost use Rattle.channel.specs.Settings.{name_of, parameter_of, IsValueOf, HasNoValue};
 
 use crate::values::size;
@@ -56,6 +57,25 @@ impl Parameter {
             Parameter::InitialTermId => "init-term-id",
             Parameter::TermId => "term-id",
             Parameter::TermOffset => "term-offset",
+        }
+    }
+
+    /// Which values it takes, for a user to read.
+    pub fn range(self) -> &'static str
+        ensures { result.now ≡ range_of self }
+    {
+        match self {
+            Parameter::Endpoint => {
+                "127.0.0.1 or localhost, a colon and a port from 1 to 65535"
+            }
+            Parameter::Mtu => {
+                "a multiple of 32 from 256 to an eighth of the term, at most 65504"
+            }
+            Parameter::TermLength => "a power of two from 65536 to 16777216, as 64k or 16m",
+            Parameter::SessionId | Parameter::InitialTermId | Parameter::TermId => {
+                "a whole number of 32 bits"
+            }
+            Parameter::TermOffset => "a multiple of 32 below the term's length",
         }
     }
 

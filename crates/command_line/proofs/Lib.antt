@@ -7,3 +7,4 @@ pub mod NumberTexts
 pub mod Numbers
 pub mod Faults
 pub mod Simple
+mod Words

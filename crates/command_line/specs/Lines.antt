@@ -21,12 +21,14 @@ pub record IsSharedOf (rows : List Row) (o : EndOptions) : Type 0 where
 
 pub record IsPublishOf (rows : List Row) (o : PublishOptions) : Type 0 where
   pub shared : IsSharedOf rows o.end
-  pub linger : IsNumber rows (codes "linger") 0 1000000 5 o.linger
+  pub linger : IsNumber rows (codes "linger") 1 1000000 5 o.linger
+  pub wait : IsNumber rows (codes "wait") 1 4294967295 4294967295 o.wait
 
 pub record IsSubscribeOf (rows : List Row) (o : SubscribeOptions) : Type 0 where
   pub shared : IsSharedOf rows o.end
   pub messages : IsNumber rows (codes "messages") 1 18446744073709551615 18446744073709551615 o.messages
   pub quiet : IsNumber rows (codes "quiet") 1 4294967295 4294967295 o.quiet
+  pub once : IsFlag rows (codes "once") o.once
 
 -- ---- what a parse reads of the two commands
 
@@ -39,7 +41,7 @@ with_shared a =
     (with_network (plus (codes "stream") 0 2147483647 a)))
 
 abbrev pub publish_app : App
-publish_app = plus (codes "linger") 0 1000000 (with_shared (with_channel (new_app (codes "publish"))))
+publish_app = plus (codes "wait") 1 4294967295 (plus (codes "linger") 1 1000000 (with_shared (with_channel (new_app (codes "publish")))))
 
 abbrev pub subscribe_app : App
-subscribe_app = plus (codes "quiet") 1 4294967295 (plus (codes "messages") 1 18446744073709551615 (with_shared (with_channel (new_app (codes "subscribe")))))
+subscribe_app = plus_flag (codes "once") (plus (codes "quiet") 1 4294967295 (plus (codes "messages") 1 18446744073709551615 (with_shared (with_channel (new_app (codes "subscribe"))))))

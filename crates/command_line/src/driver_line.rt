@@ -63,9 +63,17 @@ fn joined<'a>(
 }
 
 /// What the help says of the commands that this parser doesn't read.
-const ENDS: &str = "From process to process:
+const MORE: &str = "From process to process:
   publish    Publish each line of standard input as a message
-  subscribe  Write each message to standard output as a line";
+  subscribe  Write each message to standard output as a line
+
+Help of one command is shown by help COMMAND or COMMAND --help, the version by -V or --version.
+
+Exit status:
+  0  done
+  1  a fault, told in one line: also a run's term, MTU, length or rates out of their bounds
+  2  the command line is refused
+  3  a run whose turns were used up, or an end of a channel that gave up";
 
 /// The program's command without those below it.
 fn bare_command<'a>(alloc: Global) -> Result<Command<'a>, AllocError>
@@ -75,7 +83,7 @@ fn bare_command<'a>(alloc: Global) -> Result<Command<'a>, AllocError>
     Ok(
         command
             .about("A media driver with concurrent publications (--version tells which)")
-            .after_help(ENDS)
+            .after_help(MORE)
             .subcommand_required(true),
     )
 }

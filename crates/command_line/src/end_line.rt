@@ -33,7 +33,7 @@ fn with_channel<'a>(alloc: Global, command: Command<'a>) -> Result<Command<'a>, 
     ensures { IfOk result (λ r. app_of r ≡ with_channel (app_of command.entry)) }
 {
     let channel = Arg::new(alloc, "CHANNEL")
-        .help("The channel, as aeron:udp?endpoint=127.0.0.1:40123|term-length=64k")
+        .help("The channel, as aeron:udp?endpoint=127.0.0.1:40123|term-length=1m")
         .required(true);
     command.arg(channel)
 }
@@ -59,12 +59,12 @@ fn named<'a>(
     name: &'static str,
     line: &'static str,
     about: &'static str,
-    example: &'static str,
+    more: &'static str,
 ) -> Result<Command<'a>, AllocError>
     ensures { IfOk result (λ r. app_of r ≡ new_app name.now) }
 {
     let command = Command::new(alloc, name).bin_name(line)?;
-    Ok(command.about(about).after_help(example))
+    Ok(command.about(about).after_help(more))
 }
 
 /// A command with all that both have.
@@ -73,11 +73,11 @@ pub(crate) fn command_of<'a>(
     name: &'static str,
     line: &'static str,
     about: &'static str,
-    example: &'static str,
+    more: &'static str,
 ) -> Result<Command<'a>, AllocError>
     ensures { IfOk result (λ r. app_of r ≡ with_shared (with_channel (new_app name.now))) }
 {
-    let command = named(alloc, name, line, about, example)?;
+    let command = named(alloc, name, line, about, more)?;
     let command = with_channel(alloc, command)?;
     with_shared(alloc, command)
 }

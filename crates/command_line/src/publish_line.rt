@@ -15,13 +15,37 @@ use std::alloc::{AllocError, Global};
 
 const LINGER: Number = Number {
     name: "linger",
-    least: 0,
+    least: 1,
     most: 1_000_000,
     otherwise: 5,
-    help: "How many seconds without progress it waits once its input has ended [default: 5]",
+    help: "Give up after so many seconds without word of a subscriber that was heard, 1 to 1000000 [default: 5]",
 };
 
-const EXAMPLE: &str = "Example:\n  mdriver publish 'aeron:udp?endpoint=127.0.0.1:40123' < lines";
+const WAIT: Number = Number {
+    name: "wait",
+    least: 1,
+    most: 4_294_967_295,
+    otherwise: 4_294_967_295,
+    help: "Give up after so many seconds in which no subscriber was ever heard, from 1 on [default: none]",
+};
+
+const MORE: &str = "Example:
+  mdriver publish 'aeron:udp?endpoint=127.0.0.1:40123' < lines
+
+Parameters of the channel, parted by |:
+  endpoint=HOST:PORT  127.0.0.1 or localhost, and a port from 1 to 65535
+  term-length=BYTES   a power of two from 64k to 16m [default: 1m]
+  mtu=BYTES           a multiple of 32 from 256 to an eighth of the term, at most 65504 [default: 1408]
+  session-id=ID       the stream's session [default: drawn]
+  init-term-id=ID     with term-id=ID and term-offset=BYTES: where the stream starts [default: at 0, the id drawn]
+
+A message has at most an eighth of the term.
+
+Exit status:
+  0  one subscriber has written all, from the first message to the last
+  1  a fault, told in one line
+  2  the command line, the channel or the rates are refused
+  3  it gave up, or all was written but not by one subscriber";
 
 /// The command.
 fn command<'a>(alloc: Global) -> Result<Command<'a>, AllocError>
@@ -32,9 +56,9 @@ fn command<'a>(alloc: Global) -> Result<Command<'a>, AllocError>
         "publish",
         "mdriver publish",
         "Publish each line of standard input as a message",
-        EXAMPLE,
+        MORE,
     )?;
-    with_numbers(alloc, command, &[LINGER])
+    with_numbers(alloc, command, &[LINGER, WAIT])
 }
 
 /// What the options that were found tell.
@@ -45,6 +69,7 @@ fn publish_of<'a>(matches: &ArgMatches<'a>) -> PublishOptions<'a>
     PublishOptions {
         end: shared_of(matches),
         linger: number_of(matches, LINGER) as u32,
+        wait: number_of(matches, WAIT) as u32,
     }
 }
 

@@ -1,13 +1,17 @@
 //! Who reads a line.
 
 ghost use Rattle.std.specs.Prelude.{◌≡◌, drop, map};
-ghost use Rattle.command_line.specs.Readers.{reader_at, reader_of};
+ghost use Rattle.command_line.specs.Readers.{reader_at, reader_of, reader_of_two};
 
 /// Who reads a line.
 #[derive(Clone, Copy, Debug, PartialEq, Eq)]
 pub enum Reader {
     /// The line asks for the version alone.
     Version,
+    /// It asks for the help of `publish`, as `help publish`.
+    PublishHelp,
+    /// It asks for the help of `subscribe`, as `help subscribe`.
+    SubscribeHelp,
     /// It is one of `publish`.
     Publish,
     /// It is one of `subscribe`.
@@ -31,8 +35,24 @@ pub fn line_reader(line: &[&str]) -> Reader
     ensures { result ≡ reader_of (map (λ s. s.now) line.now) }
 {
     match line {
-        [first, rest @ ..] => reader_at(first, rest.is_empty()),
         [] => Reader::Driver,
+        [first] => reader_at(first, true),
+        [first, second] => reader_of_two(first, second),
+        [first, ..] => reader_at(first, false),
+    }
+}
+
+/// Who reads a line of these two words.
+fn reader_of_two(first: &str, second: &str) -> Reader
+    ensures { result ≡ reader_of_two first.now second.now }
+{
+    if first != "help" {
+        return reader_at(first, false);
+    }
+    match second {
+        "publish" => Reader::PublishHelp,
+        "subscribe" => Reader::SubscribeHelp,
+        _ => Reader::Driver,
     }
 }
 
@@ -43,7 +63,7 @@ fn reader_at(first: &str, is_alone: bool) -> Reader
     match first {
         "publish" => Reader::Publish,
         "subscribe" => Reader::Subscribe,
-        "--version" if is_alone => Reader::Version,
+        "--version" | "-V" if is_alone => Reader::Version,
         _ => Reader::Driver,
     }
 }

@@ -50,7 +50,7 @@ const TERM: Number = Number {
     least: 0,
     most: 4_294_967_295,
     otherwise: 65_536,
-    help: "The bytes of a term, a power of two from 65536 to 16777216 [default: 65536]",
+    help: "The bytes of a term, a power of two from 65536 to 16777216, else status 1 [default: 65536]",
 };
 
 const MTU: Number = Number {
@@ -58,7 +58,7 @@ const MTU: Number = Number {
     least: 0,
     most: 4_294_967_295,
     otherwise: 1408,
-    help: "The most bytes of a datagram, a multiple of 32 from 256 to 65504 [default: 1408]",
+    help: "The most bytes of a datagram, a multiple of 32 from 256 to 65504, else status 1 [default: 1408]",
 };
 
 /// The options with a number, in the order in which the help shows them.

@@ -7,6 +7,7 @@ ghost use Rattle.command_line.specs.Refusals.{IsFaultOf};
 
 use crate::end_line::{command_of, shared_of};
 use crate::fault::LineFault;
+use crate::flag::{flag_of, with_flag};
 use crate::number::{Number, number_of, with_numbers};
 use crate::parse::parsed;
 use clap::{ArgMatches, Command};
@@ -18,7 +19,7 @@ const MESSAGE_LIMIT: Number = Number {
     least: 1,
     most: u64::MAX,
     otherwise: u64::MAX,
-    help: "End after so many messages [default: 18446744073709551615]",
+    help: "End after so many messages, from 1 on [default: none]",
 };
 
 const QUIET: Number = Number {
@@ -26,10 +27,23 @@ const QUIET: Number = Number {
     least: 1,
     most: 4_294_967_295,
     otherwise: 4_294_967_295,
-    help: "End after so many seconds without a datagram [default: 4294967295]",
+    help: "End after so many seconds without a datagram of the stream, from 1 on [default: none, with --once 30]",
 };
 
-const EXAMPLE: &str = "Example:\n  mdriver subscribe 'aeron:udp?endpoint=127.0.0.1:40123' > lines";
+const MORE: &str = "Example:
+  mdriver subscribe 'aeron:udp?endpoint=127.0.0.1:40123' > lines
+
+Parameters of the channel, parted by |:
+  endpoint=HOST:PORT  127.0.0.1 or localhost, and a port from 1 to 65535
+  term-length=BYTES   the longest term that is taken, a power of two from 64k to 16m [default: 16m]
+  session-id=ID       the one session that is taken [default: any]
+The others of a publisher's channel are taken, and say nothing here.
+
+Exit status:
+  0  it ended as it was told: by --messages, by --quiet, or with --once by the stream's end, all of it written
+  1  a fault, told in one line
+  2  the command line, the channel or the rates are refused
+  3  with --once: the stream was silent for --quiet before its end was told and all was written";
 
 /// The command.
 fn command<'a>(alloc: Global) -> Result<Command<'a>, AllocError>
@@ -40,9 +54,10 @@ fn command<'a>(alloc: Global) -> Result<Command<'a>, AllocError>
         "subscribe",
         "mdriver subscribe",
         "Write each message to standard output as a line",
-        EXAMPLE,
+        MORE,
     )?;
-    with_numbers(alloc, command, &[MESSAGE_LIMIT, QUIET])
+    let command = with_numbers(alloc, command, &[MESSAGE_LIMIT, QUIET])?;
+    with_flag(alloc, command, "once", "End with the stream")
 }
 
 /// What the options that were found tell.
@@ -54,6 +69,7 @@ fn subscribe_of<'a>(matches: &ArgMatches<'a>) -> SubscribeOptions<'a>
         end: shared_of(matches),
         messages: number_of(matches, MESSAGE_LIMIT),
         quiet: number_of(matches, QUIET) as u32,
+        once: flag_of(matches, "once"),
     }
 }
 

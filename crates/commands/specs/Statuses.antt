@@ -1,8 +1,11 @@
 -- The statuses that a command line ends with.
-use Rattle.std.specs.Prelude.{◌≡◌, ◌≤◌, ◌↔◌, ◌⊎◌, ℕ, List, [], drop, Result, Ok, Err}
+use Rattle.std.specs.Prelude.{◌≡◌, ◌≤◌, ◌↔◌, ◌⊎◌, ℕ, List, [], codes, drop, Result, Ok, Err}
 use Rattle.clap.specs.Words.{Kinds, Text, fault_of, matches_of}
 use Rattle.peer.specs.declared.ending.Ending.{Ending as Published}
 use Rattle.peer.specs.declared.ending.Ending.TheVariants as published
+use Rattle.subscriber.specs.declared.subscribed.Ending.{Ending as EndedAs}
+use Rattle.subscriber.specs.declared.subscribed.Ending.TheVariants as subscribed
+use Rattle.subscriber.specs.declared.subscribed.Subscribed.{Subscribed}
 use Rattle.run.specs.declared.outcome.Ending.{Ending as Ran}
 use Rattle.run.specs.declared.outcome.Ending.TheVariants as ran
 use Rattle.options.specs.Ends.Plans.{ExplainsNoPublishPlan, ExplainsNoSubscribePlan, IsPublishPlanOf, IsSubscribePlanOf}
@@ -14,12 +17,12 @@ use Rattle.options.specs.declared.ends.plans.PublishPlan.{PublishPlan}
 use Rattle.options.specs.declared.ends.plans.SubscribePlan.{SubscribePlan}
 use Rattle.command_line.specs.CommandLines.{driver_app}
 use Rattle.command_line.specs.Lines.{IsPublishOf, IsSubscribeOf, publish_app, subscribe_app}
-use Rattle.command_line.specs.Readers.{reader_of}
+use Rattle.command_line.specs.Readers.{help_line, reader_of}
 use Rattle.command_line.specs.Refusals.{AreRefused, AskForHelp, HoldRefusal, IsRefusal}
 use Rattle.command_line.specs.declared.fault.LineFault.{LineFault}
 use Rattle.command_line.specs.declared.fault.LineFault.TheVariants.{Memory}
 use Rattle.command_line.specs.declared.readers.Reader.{Reader}
-use Rattle.command_line.specs.declared.readers.Reader.TheVariants.{Version, Publish, Subscribe, Driver}
+use Rattle.command_line.specs.declared.readers.Reader.TheVariants.{Version, PublishHelp, SubscribeHelp, Publish, Subscribe, Driver}
 
 -- all was done, or a fault came
 abbrev pub done_status : {T F : Type 0} → Result T F → ℕ
@@ -38,6 +41,15 @@ abbrev pub published_status : {F : Type 0} → Result Published F → ℕ
 published_status (Ok published.Whole) = 0
 published_status (Ok published.Short) = 3
 published_status (Err fault) = 1
+
+abbrev pub subscribed_as : EndedAs → ℕ
+subscribed_as subscribed.Whole = 0
+subscribed_as subscribed.Short = 3
+
+-- a subscriber ended: as it was told to, or behind a silence before the stream's end; or by a fault
+abbrev pub subscribed_status : {F : Type 0} → Result Subscribed F → ℕ
+subscribed_status (Ok done) = subscribed_as done.ending
+subscribed_status (Err fault) = 1
 
 -- a line isn't carried out: 2 where it was refused, 1 where memory was, else 0, or 1 where the help couldn't be written
 pub record IsLineStatus (fault : LineFault) (status : ℕ) : Type 0 where
@@ -83,6 +95,8 @@ RefusesSubscribe words =
 -- by who reads a line; its first word is the program's name
 abbrev pub RefusesBy : Reader → List Text → Type 0
 RefusesBy Version words = ⊥
+RefusesBy PublishHelp words = RefusesPublish (help_line (codes "publish"))
+RefusesBy SubscribeHelp words = RefusesSubscribe (help_line (codes "subscribe"))
 RefusesBy Publish words = RefusesPublish (drop 1 words)
 RefusesBy Subscribe words = RefusesSubscribe (drop 1 words)
 RefusesBy Driver words = HoldRefusal (fault_of driver_app words)

@@ -1,12 +1,11 @@
-//! Ids that are drawn by the clock.
+//! Ids that are drawn.
 
 use options::{Drawn, draw};
-use std::time::{Clock, UNIX_EPOCH};
+use std::random::RandomSource;
 
-/// Ids that are drawn by the clock. A clock that can't be read draws the same ids each time.
-pub(crate) fn drawn_ids<R: Clock>(rt: &R) -> Drawn {
-    match UNIX_EPOCH.elapsed(rt) {
-        Ok(time) => draw(u64::try_from(time.as_nanos()).unwrap_or(0)),
-        Err(_) => draw(0),
-    }
+/// Ids that the system's random bytes spell, and whether it gave any; where it gives none they spell 0.
+pub(crate) fn drawn_ids<R: RandomSource>(rt: &R) -> (Drawn, bool) {
+    let mut bytes = [0; 16];
+    let given = rt.fill_bytes(&mut bytes).is_ok();
+    (draw(&bytes), given)
 }

@@ -21,6 +21,7 @@ use run::Ending;
 use std::alloc::Global;
 use std::io::{Read, Write};
 use std::net::Net;
+use std::random::RandomSource;
 use std::sync::Wait;
 use std::thread::Threads;
 use std::time::Clock;
@@ -28,19 +29,32 @@ use std::time::Clock;
 /// The line of `--version`: the program's name and version, and the kit that it is proved with.
 const VERSION: &str = "mdriver 0.1.0, proved with rattle-kit-13f logic dac8208d650f15bf\n";
 
+/// The line that asks for the help of `publish`.
+const PUBLISH_HELP: [&str; 2] = ["publish", "--help"];
+
+/// The line that asks for the help of `subscribe`.
+const SUBSCRIBE_HELP: [&str; 2] = ["subscribe", "--help"];
+
 /// Carries out a command line over a reader and two writers, and gives the status: 0 where all was done, 1 at a fault,
 /// 2 for a refused command line, and for an end's refused channel or rates, 3 for a run whose turns were used before all was
-/// polled, and for a publisher that ended before one receiver had received all from the start on. The first word is the
-/// program's name; `--version` alone asks for the version, and `publish` and `subscribe` are carried out by
-/// `publish_command` and `subscribe_command`.
+/// polled, for a publisher that ended before one receiver had received all from the start on, and for a subscriber that was
+/// to end with the stream and didn't. The first word is the program's name; `--version` or `-V` alone asks for the version,
+/// and `publish` and `subscribe` are carried out by `publish_command` and `subscribe_command`. The input is taken over, since
+/// the thread that reads it may outlive the command.
 ///
 /// What is written for each isn't promised here: `options`, `sim`, `decode` and `run_driver` say what they make of the words
 /// and of the input, and the texts of help and refusals are the parser's, of which no contract speaks.
-pub fn command<'a, C: Threads + Wait + Clock + Net + Sync, R: Read + Send, W: Write, E: Write>(
+pub fn command<
+    'a,
+    C: Threads + Wait + Clock + Net + RandomSource + Sync + Send + Copy + 'static,
+    R: Read + Send + Drop + 'static,
+    W: Write,
+    E: Write,
+>(
     rt: &C,
     alloc: Global,
     words: &'a [&'a str],
-    input: &mut R,
+    mut input: R,
     output: &mut W,
     errors: &mut E,
 ) -> u8
@@ -52,9 +66,11 @@ pub fn command<'a, C: Threads + Wait + Clock + Net + Sync, R: Read + Send, W: Wr
     let line = line_words(words);
     match line_reader(line) {
         Reader::Version => shown(&VERSION, output, errors),
+        Reader::PublishHelp => publish_command(rt, alloc, &PUBLISH_HELP, input, output, errors),
+        Reader::SubscribeHelp => subscribe_command(rt, alloc, &SUBSCRIBE_HELP, output, errors),
         Reader::Publish => publish_command(rt, alloc, line, input, output, errors),
         Reader::Subscribe => subscribe_command(rt, alloc, line, output, errors),
-        Reader::Driver => driver_command(rt, alloc, words, input, output, errors),
+        Reader::Driver => driver_command(rt, alloc, words, &mut input, output, errors),
     }
 }
 

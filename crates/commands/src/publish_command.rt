@@ -6,6 +6,7 @@ ghost use Rattle.command_line.specs.Lines.{publish_app};
 ghost use Rattle.commands.specs.Statuses.{HasPublishPlan, IsStatusOf, NoPublishPlan, RefusesPublish, published_status};
 
 use crate::drawn_ids::drawn_ids;
+use crate::fault::Fault;
 use crate::status::{failed, line_status, unplanned};
 use command_line::publish_options;
 use options::{PublishOptions, publish_plan};
@@ -13,16 +14,21 @@ use publisher::{Ending, PublishFault, publish};
 use std::alloc::Global;
 use std::io::{Read, Write};
 use std::net::Net;
+use std::random::RandomSource;
 use std::sync::Wait;
 use std::thread::Threads;
 use std::time::Clock;
 
 /// Publishes as it is told, and gives the status: 2 where the channel or the rates make no plan.
-fn publish_told<C: Threads + Wait + Clock + Net + Sync, R: Read + Send, E: Write>(
+fn publish_told<
+    C: Threads + Wait + Clock + Net + RandomSource + Sync + Send + Copy + 'static,
+    R: Read + Send + Drop + 'static,
+    E: Write,
+>(
     rt: &C,
     alloc: Global,
     options: &PublishOptions<'_>,
-    input: &mut R,
+    input: R,
     errors: &mut E,
 ) -> u8
     requires { options.now.end.stream < 2 ^ 31 }
@@ -30,7 +36,9 @@ fn publish_told<C: Threads + Wait + Clock + Net + Sync, R: Read + Send, E: Write
     ensures refused { result ≡ 2 → NoPublishPlan options.now }
     ensures planned { result ≢ 2 → HasPublishPlan options.now }
 {
-    match publish_plan(options, drawn_ids(rt)) {
+    let (drawn, given) = drawn_ids(rt);
+    match publish_plan(options, drawn) {
+        Ok(_) if !given => failed(&Fault::Device, errors),
         Ok(plan) => {
             let ended = publish(rt, alloc, &plan, input, errors);
             published(&ended, errors)
@@ -55,11 +63,11 @@ fn published<E: Write>(ended: &Result<Ending, PublishFault>, errors: &mut E) -> 
 /// Carries out a line whose first word is `publish`, and gives the status.
 pub(crate) fn publish_command<
     'a,
-    C: Threads + Wait + Clock + Net + Sync,
-    R: Read + Send,
+    C: Threads + Wait + Clock + Net + RandomSource + Sync + Send + Copy + 'static,
+    R: Read + Send + Drop + 'static,
     W: Write,
     E: Write,
->(rt: &C, alloc: Global, words: &'a [&'a str], input: &mut R, output: &mut W, errors: &mut E) -> u8
+>(rt: &C, alloc: Global, words: &'a [&'a str], input: R, output: &mut W, errors: &mut E) -> u8
     ensures status { IsStatusOf (fault_of publish_app (map (λ s. s.now) words.entry.now)) result }
     ensures refused { result ≡ 2 → RefusesPublish (map (λ s. s.now) words.entry.now) }
 {

@@ -1,23 +1,25 @@
 //! The command `subscribe`.
 
-ghost use Rattle.std.specs.Prelude.{◌≡◌, ◌≢◌, ◌≤◌, ◌<◌, ◌^◌, map};
+ghost use Rattle.std.specs.Prelude.{◌≡◌, ◌≢◌, ◌≤◌, ◌<◌, ◌^◌, map, true};
 ghost use Rattle.clap.specs.Words.{fault_of};
 ghost use Rattle.command_line.specs.Lines.{subscribe_app};
-ghost use Rattle.commands.specs.Statuses.{HasSubscribePlan, IsStatusOf, NoSubscribePlan, RefusesSubscribe};
+ghost use Rattle.commands.specs.Statuses.{HasSubscribePlan, IsStatusOf, NoSubscribePlan, RefusesSubscribe, subscribed_status};
 
 use crate::drawn_ids::drawn_ids;
-use crate::status::{done, line_status, unplanned};
+use crate::fault::Fault;
+use crate::status::{failed, line_status, unplanned};
 use command_line::subscribe_options;
 use options::{SubscribeOptions, subscribe_plan};
 use std::alloc::Global;
 use std::io::Write;
 use std::net::Net;
+use std::random::RandomSource;
 use std::sync::Wait;
 use std::time::Clock;
-use subscriber::subscribe;
+use subscriber::{Ending, SubscribeFault, Subscribed, subscribe};
 
 /// Subscribes as it is told, and gives the status: 2 where the channel or the rates make no plan.
-fn subscribe_told<C: Wait + Clock + Net, W: Write, E: Write>(
+fn subscribe_told<C: Wait + Clock + Net + RandomSource, W: Write, E: Write>(
     rt: &C,
     alloc: Global,
     options: &SubscribeOptions<'_>,
@@ -25,28 +27,45 @@ fn subscribe_told<C: Wait + Clock + Net, W: Write, E: Write>(
     errors: &mut E,
 ) -> u8
     requires { options.now.end.stream < 2 ^ 31 }
-    ensures most { result ≤ 2 }
+    ensures most { result ≤ 3 }
     ensures refused { result ≡ 2 → NoSubscribePlan options.now }
     ensures planned { result ≢ 2 → HasSubscribePlan options.now }
+    ensures told { result ≡ 3 → options.now.once ≡ true }
 {
-    match subscribe_plan(options, drawn_ids(rt)) {
+    let (drawn, given) = drawn_ids(rt);
+    match subscribe_plan(options, drawn) {
+        Ok(_) if !given => failed(&Fault::Device, errors),
         Ok(plan) => {
             let ended = subscribe(rt, alloc, &plan, output, errors);
-            done(&ended, errors)
+            subscribed(&ended, errors)
         }
         Err(fault) => unplanned(&fault, errors),
     }
 }
 
+/// The status of a subscriber that ended; a fault is told.
+fn subscribed<E: Write>(ended: &Result<Subscribed, SubscribeFault>, errors: &mut E) -> u8
+    ensures value { result ≡ subscribed_status ended.now }
+    ensures most { result ≤ 3 }
+    ensures accepted { result ≢ 2 }
+{
+    match ended {
+        Ok(done) => match done.ending {
+            Ending::Whole => 0,
+            Ending::Short => 3,
+        },
+        Err(fault) => failed(fault, errors),
+    }
+}
+
 /// Carries out a line whose first word is `subscribe`, and gives the status.
-pub(crate) fn subscribe_command<'a, C: Wait + Clock + Net, W: Write, E: Write>(
+pub(crate) fn subscribe_command<'a, C: Wait + Clock + Net + RandomSource, W: Write, E: Write>(
     rt: &C,
     alloc: Global,
     words: &'a [&'a str],
     output: &mut W,
     errors: &mut E,
 ) -> u8
-    ensures most { result ≤ 2 }
     ensures status { IsStatusOf (fault_of subscribe_app (map (λ s. s.now) words.entry.now)) result }
     ensures refused { result ≡ 2 → RefusesSubscribe (map (λ s. s.now) words.entry.now) }
 {

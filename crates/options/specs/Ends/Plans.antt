@@ -1,5 +1,5 @@
 -- What the plans are made of, and why what an end is told makes none.
-use Rattle.std.specs.Prelude.{◌≡◌, ◌+◌, ◌*◌, ◌%◌, ◌<◌, ◌⊎◌, ℕ, ℤ, Bool, List, pos, Option, None, Some, unwrap_or, if◌then◌else◌}
+use Rattle.std.specs.Prelude.{nat_eq, ◌&&◌, ◌≡◌, ◌+◌, ◌*◌, ◌%◌, ◌<◌, ◌⊎◌, ℕ, ℤ, Bool, List, pos, Option, None, Some, unwrap_or, if◌then◌else◌}
 use Rattle.theory.specs.Loss as loss
 use Rattle.theory.specs.Position.{Geometry, IsGeometry, IsMtu, IsTermLength, count_of}
 use Rattle.messages.specs.declared.form.Form.{Form}
@@ -40,7 +40,7 @@ first_term None d = d.initial_term_id
 first_term (Some s) d = s.initial_term_id
 
 abbrev pub term_of : Channel → ℕ
-term_of c = unwrap_or c.term_length 65536
+term_of c = unwrap_or c.term_length 1048576
 
 abbrev pub mtu_of : Channel → ℕ
 mtu_of c = unwrap_or c.mtu 1408
@@ -67,6 +67,7 @@ pub record IsPublishPlanWith (o : PublishOptions) (d : Drawn) (c : Channel) (p :
   pub session : p.session ≡ unwrap_or c.session_id d.session
   pub starts : StartsAt c.start (geometry_of c d) p.start
   pub linger : p.linger ≡ o.linger * 1000000000
+  pub wait : p.wait ≡ o.wait * 1000000000
 
 -- the text is a channel, and the plan is the one of that
 abbrev pub IsPublishPlanOf : PublishOptions → Drawn → PublishPlan → Type 0
@@ -75,16 +76,16 @@ IsPublishPlanOf o d p = (c : Channel) × IsChannel o.end.channel.now c × IsPubl
 -- what is wrong with a channel that was read; the first fault is judged first
 abbrev pub IsPublishFault : EndOptions → Channel → Drawn → EndFault → Type 0
 IsPublishFault o c d (faults.Channel fault) = ⊥
-IsPublishFault o c d faults.TermLength = ¬ IsTermLength (term_of c)
-IsPublishFault o c d faults.Mtu = IsTermLength (term_of c) × (¬ IsMtu (term_of c) (mtu_of c))
+IsPublishFault o c d (faults.TermLength bytes) = (bytes ≡ term_of c) × (¬ IsTermLength bytes)
+IsPublishFault o c d (faults.Mtu bytes) = (bytes ≡ mtu_of c) × IsTermLength (term_of c) × (¬ IsMtu (term_of c) bytes)
 IsPublishFault o c d faults.Start = IsGeometry (geometry_of c d) × ((start : ℕ) → StartsAt c.start (geometry_of c d) start → ⊥)
 IsPublishFault o c d faults.Rates = IsGeometry (geometry_of c d) × ((start : ℕ) × StartsAt c.start (geometry_of c d) start) × (1000 < o.loss + o.repeat + o.hold)
 
 -- the text is no channel
 abbrev pub IsNoChannel : List ℕ → EndFault → Type 0
 IsNoChannel text (faults.Channel fault) = IsFirstFault text fault
-IsNoChannel text faults.TermLength = ⊥
-IsNoChannel text faults.Mtu = ⊥
+IsNoChannel text (faults.TermLength bytes) = ⊥
+IsNoChannel text (faults.Mtu bytes) = ⊥
 IsNoChannel text faults.Start = ⊥
 IsNoChannel text faults.Rates = ⊥
 
@@ -94,20 +95,40 @@ ExplainsNoPublishPlan o d f = IsNoChannel o.end.channel.now f ⊎ ((c : Channel)
 
 -- ---- a subscriber
 
-pub record IsSubscribePlanOf (o : SubscribeOptions) (d : Drawn) (p : SubscribePlan) : Type 0 where
-  pub channel : Channel
-  pub read : IsChannel o.end.channel.now channel
-  pub end : IsEndPlan o.end channel p.end
-  pub session : p.session ≡ channel.session_id
-  pub greatest_term : p.greatest_term ≡ unwrap_or channel.term_length 16777216
+-- for how many seconds without a datagram: as it was told; where nothing was told and it ends with the stream, 30
+abbrev pub quiet_of : SubscribeOptions → ℕ
+quiet_of o = if o.once && nat_eq o.quiet 4294967295 then 30 else o.quiet
+
+-- the longest term that it takes: the one that is named, or the longest that there is
+abbrev pub greatest_term_of : Channel → ℕ
+greatest_term_of c = unwrap_or c.term_length 16777216
+
+pub record IsSubscribePlanWith (o : SubscribeOptions) (d : Drawn) (c : Channel) (p : SubscribePlan) : Type 0 where
+  pub end : IsEndPlan o.end c p.end
+  pub session : p.session ≡ c.session_id
+  pub greatest_term : p.greatest_term ≡ greatest_term_of c
+  pub legal : IsTermLength p.greatest_term
   pub receiver : p.receiver ≡ d.receiver
   pub messages : p.messages ≡ o.messages
-  pub quiet : p.quiet ≡ o.quiet * 1000000000
+  pub quiet : p.quiet ≡ quiet_of o * 1000000000
+  pub once : p.once ≡ o.once
+
+-- the text is a channel, and the plan is the one of that
+abbrev pub IsSubscribePlanOf : SubscribeOptions → Drawn → SubscribePlan → Type 0
+IsSubscribePlanOf o d p = (c : Channel) × IsChannel o.end.channel.now c × IsSubscribePlanWith o d c p
 
 -- the rates pass a thousand
 abbrev pub IsRatesFault : EndOptions → EndFault → Type 0
 IsRatesFault o f = (f ≡ faults.Rates) × (1000 < o.loss + o.repeat + o.hold)
 
--- the text is no channel, or the rates are wrong
+-- what is wrong with a channel that was read: it names a length that no term has; and only then the rates
+abbrev pub IsSubscribeFault : EndOptions → Channel → EndFault → Type 0
+IsSubscribeFault o c (faults.Channel fault) = ⊥
+IsSubscribeFault o c (faults.TermLength bytes) = (bytes ≡ greatest_term_of c) × (¬ IsTermLength bytes)
+IsSubscribeFault o c (faults.Mtu bytes) = ⊥
+IsSubscribeFault o c faults.Start = ⊥
+IsSubscribeFault o c faults.Rates = IsTermLength (greatest_term_of c) × (1000 < o.loss + o.repeat + o.hold)
+
+-- the text is no channel, or one with this fault
 abbrev pub ExplainsNoSubscribePlan : SubscribeOptions → EndFault → Type 0
-ExplainsNoSubscribePlan o f = IsNoChannel o.end.channel.now f ⊎ IsRatesFault o.end f
+ExplainsNoSubscribePlan o f = IsNoChannel o.end.channel.now f ⊎ ((c : Channel) × IsChannel o.end.channel.now c × IsSubscribeFault o.end c f)

@@ -1,12 +1,14 @@
 -- What a user reads of a fault.
-use Rattle.std.specs.Prelude.{ℕ, List, codes}
+use Rattle.std.specs.Prelude.{ℕ, List, ◌++◌, codes, decimal}
 use Rattle.channel.specs.Texts as channels
+use Rattle.channel.specs.Texts.{range_of}
+use Rattle.channel.specs.declared.parameter.Parameter.TheVariants as parameters
 use Rattle.options.specs.declared.ends.fault.EndFault.{EndFault}
 use Rattle.options.specs.declared.ends.fault.EndFault.TheVariants.{Channel, TermLength, Mtu, Start, Rates}
 
 abbrev pub text_of : EndFault → List ℕ
 text_of (Channel fault) = channels.text_of fault
-text_of TermLength = codes "channel: the value of term-length"
-text_of Mtu = codes "channel: the value of mtu"
-text_of Start = codes "channel: term-id and term-offset are no start"
+text_of (TermLength bytes) = codes "channel: term-length=" ++ decimal bytes ++ codes ": " ++ range_of parameters.TermLength
+text_of (Mtu bytes) = codes "channel: mtu=" ++ decimal bytes ++ codes ": " ++ range_of parameters.Mtu
+text_of Start = codes "channel: term-id isn't before init-term-id, and term-offset is " ++ range_of parameters.TermOffset
 text_of Rates = codes "E1 rates"

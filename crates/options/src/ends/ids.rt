@@ -1,11 +1,8 @@
 //! Ids that are drawn.
 
-use rand_core::SeedableRng;
-use rand_core::utils::NextWord;
-use rand_pcg::Pcg32;
+use byteorder::{ByteOrder, LittleEndian};
 
-/// The ids that a process draws at its start. They are not random in the cryptographic sense: who knows the moment knows
-/// them.
+/// The ids that a process draws at its start.
 #[derive(Clone, Copy, Debug, PartialEq, Eq)]
 pub struct Drawn {
     pub session: i32,
@@ -13,16 +10,11 @@ pub struct Drawn {
     pub receiver: i64,
 }
 
-/// Ids that a generator makes of a moment, in nanoseconds.
-pub fn draw(moment: u64) -> Drawn {
-    let mut words = Pcg32::seed_from_u64(moment);
-    let session = words.next_word().cast_signed();
-    let initial_term_id = words.next_word().cast_signed();
-    let high = u64::from(words.next_word());
-    let low = u64::from(words.next_word());
+/// The ids that 16 random bytes spell.
+pub fn draw(bytes: &[u8; 16]) -> Drawn {
     Drawn {
-        session,
-        initial_term_id,
-        receiver: ((high << 32) | low).cast_signed(),
+        session: LittleEndian::read_i32(&bytes[..4]),
+        initial_term_id: LittleEndian::read_i32(&bytes[4..8]),
+        receiver: LittleEndian::read_i64(&bytes[8..]),
     }
 }

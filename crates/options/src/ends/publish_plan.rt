@@ -14,7 +14,7 @@ use channel::{Channel, Start, read_channel};
 use position::{Geometry, GeometryError};
 
 /// The bytes of a term where none are named.
-const TERM: u32 = 65_536;
+const TERM: u32 = 1_048_576;
 
 /// The most bytes of a datagram where none are named.
 const MTU: u32 = 1408;
@@ -29,15 +29,31 @@ fn first_term(start: Option<Start>, drawn: Drawn) -> i32
     }
 }
 
-/// The shape of the channel's stream: terms of 65,536 bytes and an MTU of 1,408 bytes where none are named.
+/// The bytes of a term, 1 MiB where none are named.
+fn term_in(channel: &Channel) -> u32
+    ensures { result ≡ term_of channel.now }
+{
+    channel.term_length.unwrap_or(TERM)
+}
+
+/// The most bytes of a datagram, 1,408 where none are named.
+fn mtu_in(channel: &Channel) -> u32
+    ensures { result ≡ mtu_of channel.now }
+{
+    channel.mtu.unwrap_or(MTU)
+}
+
+/// The shape of the channel's stream: terms of 1 MiB and an MTU of 1,408 bytes where none are named.
 fn shape(channel: &Channel, drawn: Drawn) -> Result<Geometry, GeometryError>
     ensures made { IfOk result (λ g. (g ≡ geometry_of channel.now drawn) × IsGeometry g) }
     ensures term_length { IsErrOf result GeometryError.TermLength → ¬ IsTermLength (term_of channel.now) }
     ensures mtu { IsErrOf result GeometryError.Mtu → IsTermLength (term_of channel.now) × (¬ IsMtu (term_of channel.now) (mtu_of channel.now)) }
 {
-    let term = channel.term_length.unwrap_or(TERM);
-    let mtu = channel.mtu.unwrap_or(MTU);
-    Geometry::new(term, mtu, first_term(channel.start, drawn))
+    Geometry::new(
+        term_in(channel),
+        mtu_in(channel),
+        first_term(channel.start, drawn),
+    )
 }
 
 /// The position at which a stream starts, if it is one.
@@ -95,8 +111,8 @@ fn plan_of<'a>(
 {
     let geometry = match shape(channel, drawn) {
         Ok(geometry) => geometry,
-        Err(GeometryError::TermLength) => return Err(EndFault::TermLength),
-        Err(GeometryError::Mtu) => return Err(EndFault::Mtu),
+        Err(GeometryError::TermLength) => return Err(EndFault::TermLength(term_in(channel))),
+        Err(GeometryError::Mtu) => return Err(EndFault::Mtu(mtu_in(channel))),
     };
     let Some(start) = start_in(&geometry, channel.start) else {
         return Err(EndFault::Start);
@@ -110,6 +126,7 @@ fn plan_of<'a>(
         session: channel.session_id.unwrap_or(drawn.session),
         start,
         linger: u64::from(options.linger) * NANOSECONDS_PER_SECOND,
+        wait: u64::from(options.wait) * NANOSECONDS_PER_SECOND,
     })
 }
 
