@@ -7,6 +7,10 @@
 //! leaves the attendance by that; of each datagram that is one frame it notes exactly what a status message of its
 //! stream tells, and of others nothing (`Attended`, by `Notes`).
 //!
+//! A device round another that never fails takes a failed call for a lost datagram, and counts exactly those
+//! (`PatientDevice`). The farewell of a stream, a SETUP that no sender writes, tells the position where that stream
+//! ends, and no other (`end_told`, `farewells_tell_ends`).
+//!
 //! What each status message makes of the receivers that were heard, and when and how a publisher ends by that, is
 //! exact (`Attendance::hear`, `Attendance::ending`). It ends whole only where all messages were of one receiver, the
 //! first tells the start and one tells the tail (`one_from_the_start`). That anybody is heard isn't said.
@@ -15,13 +19,17 @@
 mod attendance;
 mod attended;
 mod ending;
+mod farewell;
 mod fault;
 mod listener;
+mod patient;
 mod tied;
 
 pub use attendance::{Attendance, Heard};
 pub use attended::{Attended, Sent};
 pub use ending::{Ending, one_from_the_start};
+pub use farewell::{end_told, farewell_bytes, farewell_of, farewells_tell_ends};
 pub use fault::BindError;
 pub use listener::Listener;
+pub use patient::PatientDevice;
 pub use tied::TiedDevice;
