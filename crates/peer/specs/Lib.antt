@@ -5,3 +5,5 @@ pub mod Attending
 pub mod Endings
 pub mod Patience
 pub mod Farewells
+pub mod Screening
+pub mod Silences
