@@ -7,3 +7,4 @@ pub mod Publishing
 pub mod Conducting
 pub mod NewPasses
 pub mod LogSenders
+pub mod DutyLends

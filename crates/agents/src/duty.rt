@@ -3,7 +3,9 @@
 ghost use Rattle.std.specs.Prelude.{◌≡◌, IfErr, IfOk};
 ghost use Rattle.endpoint.specs.declared.device_error.DeviceError.TheVariants.{Memory};
 ghost use Rattle.endpoint.specs.Devices.{NeverFall};
+ghost use Rattle.std.specs.Borrow.{sem};
 ghost use Rattle.agents.specs.Cycles.{Cycle, Fault, Hearing, Ticking};
+ghost use Rattle.agents.specs.DutyLends.{lends_device};
 
 use crate::party::Party;
 use crate::sending::send_all;
@@ -75,6 +77,14 @@ impl<D> Duty<D> {
         ensures { result.now ≡ self.now.device }
     {
         &self.device
+    }
+
+    /// The device, to be told something.
+    pub fn device_mut(&mut self) -> &mut D
+        ensures* writes_back { sem 𝓛 (lends_device D.row self.entry result) }
+        ensures value { result.now ≡ self.old.device }
+    {
+        &mut self.device
     }
 }
 

@@ -49,6 +49,13 @@ impl<R, F: FlowControl + Drop> SenderAgent<R, F> {
         core
     }
 
+    /// The position of its core: the end of what that has sent of the stream.
+    pub fn position(&self) -> u64
+        ensures { result ≡ self.now.core.handler.at }
+    {
+        self.core.position()
+    }
+
     /// Asks for Connect, where a status message was heard and the queue hasn't taken the command yet.
     fn ask_once<W: Wait>(&mut self, rt: &W, conductor: &Conductor, client: &mut Client)
         requires { client.old.queue ≡ conductor.now }

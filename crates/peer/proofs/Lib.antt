@@ -1,3 +1,4 @@
-pub mod Told
+pub mod Screened
 pub mod Alone
 mod Rows
+pub mod Farewells

@@ -1,24 +1,45 @@
 -- When a publisher may end.
-use Rattle.std.specs.Prelude.{◌≡◌, ◌≤◌, ◌⊎◌, ℕ, ℤ, Bool, List, [], ◌∷◌, Option, None, Some, ⊤, nat_eq, nat_le, ◌&&◌, ◌||◌, if◌then◌else◌}
+use Rattle.std.specs.Prelude.{◌≡◌, ◌≤◌, ◌⊎◌, ℕ, ℤ, Bool, false, List, [], ◌∷◌, Option, None, Some, ⊤, nat_eq, nat_le, ◌&&◌, ◌||◌, if◌then◌else◌}
 use Rattle.peer.specs.declared.attendance.Heard.{Heard}
 use Rattle.peer.specs.declared.attendance.Attendance.{Attendance}
 use Rattle.peer.specs.declared.ending.Ending.{Ending}
 use Rattle.peer.specs.declared.ending.Ending.TheVariants.{Whole, Short}
 
 -- no other was heard, it joined at the start, and has told the tail
-abbrev pub is_whole : Attendance → Heard → ℕ → Bool
-is_whole a heard tail = nat_eq a.changes 0 && (nat_eq heard.first a.start && nat_le tail heard.last)
+abbrev pub is_alone : Attendance → Heard → ℕ → Bool
+is_alone a heard tail = nat_eq a.changes 0 && (nat_eq heard.first a.start && nat_le tail heard.last)
 
--- the tail was told, or this long nothing more than before
-abbrev pub is_over : Heard → ℕ → ℕ → ℕ → Bool
-is_over heard tail idle linger = nat_le tail heard.last || nat_le linger idle
+abbrev pub is_one : Attendance → Option Heard → ℕ → Bool
+is_one a None tail = false
+is_one a (Some heard) tail = is_alone a heard tail
 
-abbrev pub ending_of_heard : Attendance → Option Heard → ℕ → ℕ → ℕ → Option Ending
-ending_of_heard a None tail idle linger = None
-ending_of_heard a (Some heard) tail idle linger = if is_whole a heard tail then Some Whole else (if is_over heard tail idle linger then Some Short else None)
+-- the input has ended, and there was nothing to deliver, or one receiver was heard from the start to the tail, and no other
+abbrev pub is_whole : Attendance → Option ℕ → Bool
+is_whole a None = false
+is_whole a (Some tail) = nat_eq tail a.start || is_one a a.present tail
 
-abbrev pub ending_of : Attendance → ℕ → ℕ → ℕ → Option Ending
-ending_of a tail idle linger = ending_of_heard a a.present tail idle linger
+abbrev pub has_told : Option Heard → ℕ → Bool
+has_told None tail = false
+has_told (Some heard) tail = nat_le tail heard.last
+
+-- the input has ended, and the one that was heard last has told the tail
+abbrev pub is_told : Attendance → Option ℕ → Bool
+is_told a None = false
+is_told a (Some tail) = has_told a.present tail
+
+-- so long is waited for a status message: for the first one, and from then on for a further one
+abbrev pub patience : Option Heard → ℕ → ℕ → ℕ
+patience None linger wait = wait
+patience (Some heard) linger wait = linger
+
+-- so long none came
+abbrev pub is_silent : Attendance → Option ℕ → ℕ → ℕ → Bool
+is_silent a None linger wait = false
+is_silent a (Some silence) linger wait = nat_le (patience a.present linger wait) silence
+
+-- where the stream ends, if the input has ended; and how long it was silent, if that is judged
+abbrev pub ending_of : Attendance → Option ℕ → Option ℕ → ℕ → ℕ → Option Ending
+ending_of a end silence linger wait = if is_whole a end then Some Whole else (if is_told a end || is_silent a silence linger wait then Some Short else None)
 
 -- all messages are of this receiver
 abbrev pub AllOf : ℤ → List (ℤ × ℕ) → Type 0
@@ -41,3 +62,8 @@ pub record IsOneFromStart (start tail : ℕ) (messages : List (ℤ × ℕ)) : Ty
   pub one : AllOf receiver messages
   pub start_told : FirstTells start messages
   pub tail_told : Tell tail messages
+
+-- the input has ended, and nothing was to be delivered, or one told its positions from the start to the tail and no other was heard
+abbrev pub IsWhole : ℕ → Option ℕ → List (ℤ × ℕ) → Type 0
+IsWhole start None messages = ⊥
+IsWhole start (Some tail) messages = (tail ≡ start) ⊎ IsOneFromStart start tail messages

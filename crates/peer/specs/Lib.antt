@@ -3,3 +3,7 @@ pub mod Ties
 pub mod Watching
 pub mod Attending
 pub mod Endings
+pub mod Patience
+pub mod Farewells
+pub mod Screening
+pub mod Silences

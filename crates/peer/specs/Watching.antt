@@ -1,62 +1,189 @@
--- What a contract sees of a publisher's device, and what a datagram tells it.
-use Rattle.std.specs.Prelude.{◌≡◌, ℕ, ◌+◌, ◌%◌, ◌^◌, ℤ, Bool, pos, negsuc, nat_eq, ◌&&◌, if◌then◌else◌, List, length, take, Option, None, Some}
-use Rattle.std.specs.Ordering.{int_eq}
+-- What a contract sees of a publisher's device, and what a datagram makes of it.
+use Rattle.std.specs.Prelude.{◌≡◌, ◌≤◌, ℕ, ◌+◌, ◌%◌, ◌^◌, ℤ, Bool, true, false, pos, negsuc, nat_lt, if◌then◌else◌, min, List, [], length, take, Option, None, Some, Result, Ok, Err}
+use Rattle.std.specs.Int.{cast_signed, w32}
 use Rattle.theory.specs.Position.{position_of}
-use Rattle.theory.specs.Wire.{Wire, DATA, PAD, HEARTBEAT, NAK, SM, SETUP, Status}
+use Rattle.theory.specs.Wire.{Header, Nak, Wire, DATA, PAD, HEARTBEAT, NAK, SM, SETUP, spelling}
 use Rattle.frames.specs.Fronts.{FrontSpells}
+use Rattle.endpoint.specs.Calls.{Receives, Sends}
+use Rattle.endpoint.specs.Devices.{Device, HasGrown, NeverFall, counted, greatest}
+use Rattle.endpoint.specs.declared.datagrams.DeviceFailed.{DeviceFailed}
 use Rattle.peer.specs.Attending.{after_status, nobody}
+use Rattle.peer.specs.Screening.{asked_bytes, is_handed, verdict_of}
 use Rattle.peer.specs.declared.attendance.Attendance.{Attendance}
 use Rattle.peer.specs.declared.attended.Sent.{Sent}
+use Rattle.peer.specs.declared.screen.Bounds.{Bounds}
+use Rattle.peer.specs.declared.screen.Verdict.{Verdict}
+use Rattle.peer.specs.declared.screen.Verdict.TheVariants.{Passes, Tells, Misses, Disbelieved, Held}
+use Rattle.peer.specs.declared.watch.Tally.{Tally}
+
+-- the stream, what was heard of it, and what the next frame is judged by
+pub record Watched : Type 0 where
+  pub sent : Sent
+  pub attendance : Attendance
+  pub bounds : Bounds
+  -- a negative acknowledgement that is held back
+  pub held : Option Nak
+  pub tally : Tally
+  -- how many receives found nothing
+  pub nones : ℕ
 
 pub record Watching (D : Type 0) : Type 0 where
   pub inner : D
-  pub sent : Sent
-  pub attendance : Attendance
-  -- how many it was given to send
-  pub datagrams : ℕ
+  pub watch : Watched
 
--- it has heard nobody yet, and was given nothing to send
+-- nothing of the stream was sent or heard yet
+abbrev pub new_watch : Sent → ℕ → Watched
+new_watch sent start = record {
+  sent = sent;
+  attendance = nobody start;
+  bounds = record { sent_to = start; asked = None };
+  held = None;
+  tally = record { datagrams = 0; resends = 0; statuses = 0; naks = 0; disbelieved = 0 };
+  nones = 0;
+}
+
 abbrev pub watching : {D : Type 0} → D → Sent → ℕ → Watching D
-watching inner sent start = record { inner = inner; sent = sent; attendance = nobody start; datagrams = 0 }
+watching inner sent start = record { inner = inner; watch = new_watch sent start }
 
--- it was given one more to send, and heard nothing by that; modulo 2 ^ 64
-abbrev pub given_one : {D : Type 0} → Watching D → D → Watching D
-given_one w inner = record w { inner = inner; datagrams = (w.datagrams + 1) % 2 ^ 64 }
+-- as a device it fails where the inner one does, finds nothing where it screens, and doesn't tell what it carried
+abbrev pub watching_device : Device → ℕ → Device
+watching_device inner nones = record { sent = []; received = []; failures = inner.failures; nones = nones }
 
--- a position that isn't negative, with its receiver
-abbrev pub told_at : ℤ → ℤ → Option (ℤ × ℕ)
-told_at receiver (pos p) = Some (receiver, p)
-told_at receiver (negsuc n) = None
+-- a cycle begins, with the stream sent up to here
+abbrev pub told : Watched → ℕ → Watched
+told w position = record w { bounds = record { sent_to = position; asked = None } }
 
-abbrev pub is_own : Sent → Status → Bool
-is_own s m = int_eq m.session s.session && int_eq m.stream s.stream
+abbrev pub with_none : Watched → Watched
+with_none w = record w { nones = counted w.nones }
 
--- what a status message tells of a stream: its receiver and its position
-abbrev pub told_status : Sent → Status → Option (ℤ × ℕ)
-told_status s m =
-    if is_own s m
-    then told_at m.receiver (position_of s.geometry m.term_id m.term_offset)
-    else None
+-- one more, modulo 2 ^ 64
+abbrev pub plus_one : ℕ → ℕ
+plus_one n = (n + 1) % 2 ^ 64
 
--- what a frame tells of it: a status message that doesn't ask for a SETUP does
-abbrev pub told_of : Sent → Wire → Option (ℤ × ℕ)
-told_of s (DATA h flags payload) = None
-told_of s (PAD h n) = None
-told_of s (HEARTBEAT h) = None
-told_of s (NAK m) = None
-told_of s (SM flags m) = if nat_eq flags 0 then told_status s m else None
-told_of s (SETUP m) = None
+-- ---- what comes
 
-abbrev pub after_telling : Option (ℤ × ℕ) → Attendance → Attendance
-after_telling None a = a
-after_telling (Some told) a = after_status a told.0 told.1
+abbrev pub asked_before : Option ℕ → ℕ
+asked_before None = 0
+asked_before (Some asked) = asked
 
--- what the one frame of a datagram tells is noted; of any other bytes nothing is
-pub record Notes (s : Sent) (bytes : List ℕ) (a b : Attendance) : Type 0 where
-  pub frame : (w : Wire) → FrontSpells bytes w (length bytes) → b ≡ after_telling (told_of s w) a
-  pub others : ((w : Wire) → FrontSpells bytes w (length bytes) → ⊥) → b ≡ a
+-- a negative acknowledgement that asks for so many bytes is handed over
+abbrev pub missed : Watched → ℕ → Watched
+missed w bytes = record w {
+  bounds = record w.bounds { asked = Some (min (asked_before w.bounds.asked + bytes) greatest) };
+  tally = record w.tally { naks = plus_one w.tally.naks };
+}
 
--- of a datagram that was found what it tells is noted
-abbrev pub HearsFound : {D : Type 0} → Watching D → Option ℕ → List ℕ → Attendance → Type 0
-HearsFound a None buffer b = b ≡ a.attendance
-HearsFound a (Some n) buffer b = Notes a.sent (take n buffer) a.attendance b
+-- a receiver has told a position
+abbrev pub told_by : Watched → ℤ → ℕ → Watched
+told_by w receiver position = record w {
+  attendance = after_status w.attendance receiver position;
+  tally = record w.tally { statuses = plus_one w.tally.statuses };
+}
+
+-- a status message wasn't believed
+abbrev pub disbelieving : Watched → Watched
+disbelieving w = record (with_none w) { tally = record w.tally { disbelieved = plus_one w.tally.disbelieved } }
+
+-- what isn't handed over was found by nobody
+abbrev pub after_verdict : Watched → Verdict → Watched
+after_verdict w Passes = w
+after_verdict w (Tells receiver position) = told_by w receiver position
+after_verdict w (Misses bytes) = missed w bytes
+after_verdict w Disbelieved = disbelieving w
+after_verdict w Held = with_none w
+
+-- what is held back: it is a negative acknowledgement
+abbrev pub held_of : Wire → Option Nak
+held_of (DATA h flags payload) = None
+held_of (PAD h n) = None
+held_of (HEARTBEAT h) = None
+held_of (NAK m) = Some m
+held_of (SM flags m) = None
+held_of (SETUP m) = None
+
+abbrev pub held_after : Option Nak → Verdict → Wire → Option Nak
+held_after held Passes f = held
+held_after held (Tells receiver position) f = held
+held_after held (Misses bytes) f = held
+held_after held Disbelieved f = held
+held_after held Held f = held_of f
+
+abbrev pub after_judged : Watched → Verdict → Wire → Watched
+after_judged w v f = record (after_verdict w v) { held = held_after w.held v f }
+
+-- a frame came, alone in a datagram
+abbrev pub after_frame : Watched → Wire → Watched
+after_frame w f = after_judged w (verdict_of w.sent w.bounds f) f
+
+-- a receive that hands something over isn't one that found nothing
+abbrev pub CountsHanded : Bool → ℕ → ℕ → Type 0
+CountsHanded true old new = new ≡ old
+CountsHanded false old new = HasGrown old new
+
+abbrev pub found_of : Bool → ℕ → Option ℕ
+found_of handed n = if handed then Some n else None
+
+-- a datagram that is one frame is judged, and any other bytes are handed over as they came
+pub record Screens (old : Watched) (bytes : List ℕ) (found : Option ℕ) (new : Watched) : Type 0 where
+  pub frame : (f : Wire) → FrontSpells bytes f (length bytes) → (found ≡ found_of (is_handed (verdict_of old.sent old.bounds f)) (length bytes)) × (new ≡ after_frame old f)
+  pub others : ((f : Wire) → FrontSpells bytes f (length bytes) → ⊥) → (found ≡ Some (length bytes)) × (new ≡ old)
+
+-- by what the inner device answered
+abbrev pub Judges : {D : Type 0} → Watching D → Result (Option ℕ) DeviceFailed → List ℕ → Result (Option ℕ) DeviceFailed → Watching D → Type 0
+Judges old (Err e) after result new = (result ≡ Err e) × (new ≡ record old { inner = new.inner })
+Judges old (Ok None) after result new = (result ≡ Ok None) × (new ≡ record { inner = new.inner; watch = with_none old.watch })
+Judges old (Ok (Some n)) after (Ok found) new = Screens old.watch (take n after) found new.watch
+Judges old (Ok (Some n)) after (Err e) new = ⊥
+
+-- a receive of the inner device, and what becomes of that
+pub record Screened {D : Type 0} (device : D → Device) (tells : D → Type 0) (old : Watching D) (before : List ℕ) (result : Result (Option ℕ) DeviceFailed) (after : List ℕ) (new : Watching D) : Type 0 where
+  pub answer : Result (Option ℕ) DeviceFailed
+  pub counts : NeverFall (device old.inner) (device new.inner)
+  pub receives : Receives (tells old.inner) (device old.inner) before answer after (device new.inner)
+  pub still_tells : tells old.inner → tells new.inner
+  pub judged : Judges old answer after result new
+
+-- one that was held back is handed over as it came, as far as it has room
+abbrev pub released : Watched → Nak → Watched
+released w m = record (missed w (asked_bytes m.length)) { held = None }
+
+pub record Releases {D : Type 0} (old : Watching D) (m : Nak) (before : List ℕ) (result : Result (Option ℕ) DeviceFailed) (after : List ℕ) (new : Watching D) : Type 0 where
+  pub found : result ≡ Ok (Some (min 28 (length before)))
+  pub front : take (min 28 (length before)) after ≡ take (min 28 (length before)) (spelling (NAK m))
+  pub is : new ≡ record old { watch = released old.watch m }
+
+-- what is held back goes first
+abbrev pub Takes : {D : Type 0} → (D → Device) → (D → Type 0) → Option Nak → Watching D → List ℕ → Result (Option ℕ) DeviceFailed → List ℕ → Watching D → Type 0
+Takes device tells None old before result after new = Screened device tells old before result after new
+Takes device tells (Some m) old before result after new = Releases old m before result after new
+
+-- ---- what is sent
+
+-- the header of a frame that carries bytes of a stream
+abbrev pub header_in : Wire → Option Header
+header_in (DATA h flags payload) = Some h
+header_in (PAD h n) = Some h
+header_in (HEARTBEAT h) = None
+header_in (NAK m) = None
+header_in (SM flags m) = None
+header_in (SETUP m) = None
+
+abbrev pub is_below : ℤ → ℕ → Bool
+is_below (pos n) most = nat_lt n most
+is_below (negsuc n) most = true
+
+abbrev pub begins_below : Watched → Option Header → Bool
+begins_below w None = false
+begins_below w (Some h) = is_below (position_of w.sent.geometry h.term_id (cast_signed w32 h.term_offset)) w.bounds.sent_to
+
+-- it begins below what was sent before this cycle
+abbrev pub is_again : Watched → Wire → Bool
+is_again w f = begins_below w (header_in f)
+
+abbrev pub given : Watched → Bool → Watched
+given w again = record w { tally = record w.tally { datagrams = plus_one w.tally.datagrams; resends = if again then plus_one w.tally.resends else w.tally.resends } }
+
+-- a datagram counts by its first frame
+pub record Gives (old : Watched) (bytes : List ℕ) (new : Watched) : Type 0 where
+  pub frame : (f : Wire) (n : ℕ) → FrontSpells bytes f n → new ≡ given old (is_again old f)
+  pub others : ((f : Wire) (n : ℕ) → FrontSpells bytes f n → ⊥) → new ≡ given old false

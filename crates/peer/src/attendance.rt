@@ -14,6 +14,9 @@ pub struct Heard {
 }
 
 /// The receivers that were heard.
+///
+/// A receiver is known by its id alone. That all that one id tells is told of one image is the subscriber's promise: it takes
+/// a new id for each new image.
 #[derive(Clone, Copy, Debug, PartialEq, Eq)]
 pub struct Attendance {
     /// Where the stream begins.

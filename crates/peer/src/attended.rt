@@ -1,16 +1,21 @@
 //! A publisher's end.
 
-ghost use Rattle.std.specs.Prelude.{◌≡◌, IfOk, OnErr};
+ghost use Rattle.std.specs.Prelude.{◌≡◌, min, length, take, drop};
 ghost use Rattle.endpoint.specs.Calls.{Receives, Sends};
 ghost use Rattle.endpoint.specs.Devices.{NeverFall};
-ghost use Rattle.frames.specs.Frames.{status_of, wire};
-ghost use Rattle.peer.specs.Watching.{HearsFound, Notes, given_one, is_own, after_telling, told_at, told_of, told_status, watching};
+ghost use Rattle.theory.specs.Wire.{NAK, spelling};
+ghost use Rattle.frames.specs.Frames.{nak_of};
+ghost use Rattle.peer.specs.Watching.{Gives, Takes, plus_one, told, watching, watching_device};
 
 use crate::attendance::Attendance;
+use crate::watch::{Tally, Watch};
 use endpoint::{Datagrams, DeviceFailed};
-use frames::{Frame, Status, read_frame};
+use frames::{Frame, Nak, write_frame};
 use position::Geometry;
 use std::marker::Model;
+
+/// The bytes of a negative acknowledgement.
+const NAK_BYTES: usize = 28;
 
 /// Which stream a publisher sends, and its shape.
 #[derive(Clone, Copy)]
@@ -20,13 +25,14 @@ pub struct Sent {
     pub stream: i32,
 }
 
-/// A device that notes which receivers of a stream it hears, and counts what it sends.
+/// A device that screens what comes of a stream, notes which receivers it hears, and counts what it sends.
+///
+/// What a screen doesn't hand over is a receive that found nothing (`Verdict`). A negative acknowledgement that is held
+/// back is the first datagram that the next receive hands over. What it carried isn't told.
 #[derive(Drop)]
 pub struct Attended<D> {
     inner: D,
-    sent: Sent,
-    attendance: Attendance,
-    datagrams: u64,
+    watch: Watch,
 }
 
 impl<D> Model for Attended<D> {
@@ -34,129 +40,96 @@ impl<D> Model for Attended<D> {
 
     ghost Value = { Watching D };
 
-    ghost view = { λ a. record { inner = a.inner; sent = a.sent; attendance = a.attendance; datagrams = a.datagrams } };
+    ghost view = { λ a. record { inner = a.inner; watch = a.watch } };
 }
 
-/// Whether a status message is of a stream.
-fn is_of(sent: Sent, status: Status) -> bool
-    ensures { result ≡ is_own sent (status_of status) }
+/// Puts a negative acknowledgement into a buffer, as far as it has room. How many bytes that are.
+fn put_nak(nak: Nak, buffer: &mut [u8]) -> usize
+    ensures length { result ≡ min 28 (length buffer.old) }
+    ensures front { take result buffer.new ≡ take result (spelling (NAK (nak_of nak))) }
+    ensures rest { drop result buffer.new ≡ drop result buffer.old }
 {
-    status.session == sent.session && status.stream == sent.stream
-}
-
-/// A receiver with its position, if that isn't negative.
-#[tactic(auto, using(crate::proofs::Told::told_there, crate::proofs::Told::told_nowhere))]
-fn with_position(receiver: i64, position: i64) -> Option<(i64, u64)>
-    ensures { result ≡ told_at receiver position }
-{
-    match u64::try_from(position) {
-        Ok(position) => Some((receiver, position)),
-        Err(_) => None,
-    }
-}
-
-/// The receiver and the position that a status message tells of a stream.
-fn told_by(sent: Sent, status: Status) -> Option<(i64, u64)>
-    ensures { result ≡ told_status sent (status_of status) }
-{
-    if !is_of(sent, status) {
-        return None;
-    }
-    let position = sent.geometry.position(status.term_id, status.term_offset);
-    with_position(status.receiver, position)
-}
-
-/// The receiver and the position that a frame tells of a stream, if it is a status message that doesn't ask for a SETUP.
-fn told_in(sent: Sent, frame: &Frame<'_>) -> Option<(i64, u64)>
-    ensures { result ≡ told_of sent (wire frame.now) }
-{
-    match *frame {
-        Frame::Status { asks, status } => { if asks { None } else { told_by(sent, status) } }
-        _ => None,
-    }
+    let mut bytes = [0; NAK_BYTES];
+    write_frame(&Frame::Nak(nak), &mut bytes);
+    let length = NAK_BYTES.min(buffer.len());
+    buffer[..length].copy_from_slice(&bytes[..length]);
+    length
 }
 
 impl<D> Attended<D> {
-    /// A device round this one that has heard nobody yet.
+    /// A device round this one that has heard nobody yet of a stream that begins here.
     pub fn new(inner: D, sent: Sent, start: u64) -> Attended<D>
         ensures { result ≡ watching inner sent start }
     {
         Attended {
             inner,
-            sent,
-            attendance: Attendance::new(start),
-            datagrams: 0,
+            watch: Watch::new(sent, start),
         }
+    }
+
+    /// The device behind it.
+    pub fn inner(&self) -> &D
+        ensures { result.now ≡ self.now.inner }
+    {
+        &self.inner
     }
 
     /// Which receivers were heard.
     pub fn attendance(&self) -> Attendance
-        ensures { result ≡ self.now.attendance }
+        ensures { result ≡ self.now.watch.attendance }
     {
-        self.attendance
+        self.watch.attendance()
     }
 
-    /// How many datagrams it was given to send, modulo 2^64.
-    pub fn datagrams(&self) -> u64
-        ensures { result ≡ self.now.datagrams }
+    /// What it has counted.
+    pub fn tally(&self) -> Tally
+        ensures { result ≡ self.now.watch.tally }
     {
-        self.datagrams
+        self.watch.tally()
     }
 
-    /// Notes what a frame tells.
-    fn note_frame(&mut self, frame: &Frame<'_>)
-        ensures { self.new ≡ record self.old { attendance = after_telling (told_of self.old.sent (wire frame.now)) self.old.attendance } }
+    /// A cycle begins. The stream was sent up to this position, so no status message of a greater one is believed.
+    pub fn believe(&mut self, position: u64)
+        ensures { self.new ≡ record self.old { watch = told self.old.watch position } }
     {
-        if let Some((receiver, position)) = told_in(self.sent, frame) {
-            self.attendance.hear(receiver, position);
-        }
-    }
-
-    /// Notes what a datagram tells.
-    fn note(&mut self, datagram: &[u8])
-        ensures notes { Notes self.old.sent datagram.now self.old.attendance self.new.attendance }
-        ensures same { self.new ≡ record self.old { attendance = self.new.attendance } }
-    {
-        match read_frame(datagram) {
-            Ok((frame, size)) => {
-                if size == datagram.len() {
-                    self.note_frame(&frame);
-                }
-            }
-            Err(_) => {}
-        }
+        self.watch.tell(position);
     }
 }
 
 impl<D: Datagrams> Datagrams for Attended<D> {
-    ghost device = { λ a. D.device a.inner };
+    ghost device = { λ a. watching_device (D.device a.inner) a.watch.nones };
 
-    ghost tells = { λ a. D.tells a.inner };
+    ghost tells = { λ _. ⊥ };
 
     /// Hands a datagram to the inner device, and counts it, whether that fails or not.
     fn send(&mut self, datagram: &[u8]) -> Result<(), DeviceFailed>
-        ensures counts { NeverFall (D.device self.old.inner) (D.device self.new.inner) }
-        ensures sends { Sends (D.tells self.old.inner) (D.device self.old.inner) datagram.now result (D.device self.new.inner) }
-        ensures still_tells { D.tells self.old.inner → D.tells self.new.inner }
-        ensures given { self.new ≡ given_one self.old self.new.inner }
+        ensures counts { NeverFall (watching_device (D.device self.old.inner) self.old.watch.nones) (watching_device (D.device self.new.inner) self.new.watch.nones) }
+        ensures sends { Sends ⊥ (watching_device (D.device self.old.inner) self.old.watch.nones) datagram.now result (watching_device (D.device self.new.inner) self.new.watch.nones) }
+        ensures given { Gives self.old.watch datagram.now self.new.watch }
+        ensures counted { self.new.watch.tally.datagrams ≡ plus_one self.old.watch.tally.datagrams }
+        ensures through { Sends (D.tells self.old.inner) (D.device self.old.inner) datagram.now result (D.device self.new.inner) }
+        ensures inner_counts { NeverFall (D.device self.old.inner) (D.device self.new.inner) }
+        ensures inner_tells { D.tells self.old.inner → D.tells self.new.inner }
     {
-        self.datagrams = self.datagrams.wrapping_add(1);
+        self.watch.give(datagram);
         self.inner.send(datagram)
     }
 
+    /// Hands over what was held back, or what the inner device does, unless the screen keeps that.
     fn recv(&mut self, buffer: &mut [u8]) -> Result<Option<usize>, DeviceFailed>
-        ensures counts { NeverFall (D.device self.old.inner) (D.device self.new.inner) }
-        ensures receives { Receives (D.tells self.old.inner) (D.device self.old.inner) buffer.old result buffer.new (D.device self.new.inner) }
-        ensures still_tells { D.tells self.old.inner → D.tells self.new.inner }
-        ensures hears { IfOk result (λ found. HearsFound self.old found buffer.new self.new.attendance) }
-        ensures failed { OnErr result (self.new.attendance ≡ self.old.attendance) }
-        ensures same { self.new ≡ record self.old { inner = self.new.inner; attendance = self.new.attendance } }
+        ensures counts { NeverFall (watching_device (D.device self.old.inner) self.old.watch.nones) (watching_device (D.device self.new.inner) self.new.watch.nones) }
+        ensures receives { Receives ⊥ (watching_device (D.device self.old.inner) self.old.watch.nones) buffer.old result buffer.new (watching_device (D.device self.new.inner) self.new.watch.nones) }
+        ensures takes { Takes D.device D.tells self.old.watch.held self.old buffer.old result buffer.new self.new }
     {
-        let found = self.inner.recv(buffer)?;
-        if let Some(length) = found {
-            self.note(&buffer[..length]);
+        if let Some(nak) = self.watch.held() {
+            self.watch.release(&nak);
+            return Ok(Some(put_nak(nak, buffer)));
         }
-        Ok(found)
+        let Some(length) = self.inner.recv(buffer)? else {
+            self.watch.find_none();
+            return Ok(None);
+        };
+        Ok(self.watch.screen(&buffer[..length]))
     }
 
     fn failures(&self) -> u64 {
@@ -164,6 +137,6 @@ impl<D: Datagrams> Datagrams for Attended<D> {
     }
 
     fn nones(&self) -> u64 {
-        self.inner.nones()
+        self.watch.nones()
     }
 }

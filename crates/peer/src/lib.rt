@@ -1,27 +1,45 @@
 //! The two ends of a channel, over UDP on this machine: a subscriber's device, which hears anybody until it is tied
-//! to one peer, and a publisher's, which notes which receivers it hears and when it may end by that.
+//! to one peer, and a publisher's, which screens what comes, notes which receivers it hears and when it ends by that.
 //!
 //! A tied device meets the trait of devices: it fails only where it counts that; what it hands over came from its
 //! peer and is counted as heard, and a receive that met another's datagram counts that and is one that found nothing
-//! (`TiedDevice`). A publisher's device meets the trait round any other, counts each datagram that it sends and
-//! leaves the attendance by that; of each datagram that is one frame it notes exactly what a status message of its
-//! stream tells, and of others nothing (`Attended`, by `Notes`).
+//! (`TiedDevice`). A device round another that never fails takes a failed call for a lost datagram, and counts exactly
+//! those (`PatientDevice`). The farewell of a stream, a SETUP that no sender writes, tells the position where that
+//! stream ends, and no other (`end_told`, `farewells_tell_ends`).
+//!
+//! What becomes of a frame that comes to a publisher is exact (`judge`): a status message of its stream that tells more
+//! than was sent, or a greater window than a receiver can have, isn't believed; of the negative acknowledgements of a
+//! cycle those are held back that would ask for more than a window together; all else is handed over. A publisher's
+//! device meets the trait round any other, and does by each datagram that is one frame exactly what that verdict says,
+//! and by others nothing; what it held back goes first in the next receive; each datagram that it sends is counted
+//! (`Attended`, by `Takes` and `Gives`).
 //!
 //! What each status message makes of the receivers that were heard, and when and how a publisher ends by that, is
-//! exact (`Attendance::hear`, `Attendance::ending`). It ends whole only where all messages were of one receiver, the
-//! first tells the start and one tells the tail (`one_from_the_start`). That anybody is heard isn't said.
+//! exact (`Attendance::hear`, `Attendance::ending`). It ends whole exactly where its input has ended, and nothing was to
+//! be delivered or all messages were of one receiver, the first tells the start and one tells the tail
+//! (`one_from_the_start`). That anybody is heard isn't said.
 #![tactic(auto)]
 
 mod attendance;
 mod attended;
 mod ending;
+mod farewell;
 mod fault;
 mod listener;
+mod patient;
+mod screen;
+mod silence;
 mod tied;
+mod watch;
 
 pub use attendance::{Attendance, Heard};
 pub use attended::{Attended, Sent};
 pub use ending::{Ending, one_from_the_start};
+pub use farewell::{end_told, farewell_bytes, farewell_of, farewells_tell_ends};
 pub use fault::BindError;
 pub use listener::Listener;
+pub use patient::PatientDevice;
+pub use screen::{Bounds, Verdict, judge};
+pub use silence::Silence;
 pub use tied::TiedDevice;
+pub use watch::Tally;

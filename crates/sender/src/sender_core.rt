@@ -165,6 +165,13 @@ impl<R, F: FlowControl + Drop> SenderCore<R, F> {
         self.setup.heard()
     }
 
+    /// Its position: the end of what it has sent of the stream.
+    pub fn position(&self) -> u64
+        ensures { result ≡ self.now.handler.at }
+    {
+        self.handler.position()
+    }
+
     /// Does what an event asks for, at a moment in nanoseconds. The outbox is emptied, and then holds what goes out.
     pub fn step<L>(
         &mut self,

@@ -1,0 +1,46 @@
+-- How a publisher tells where its stream ends: by a SETUP of that position whose time to live is -1, which no sender writes.
+use Rattle.std.specs.Prelude.{◌≡◌, ◌≤◌, ℕ, ℤ, pos, negsuc}
+use Rattle.theory.specs.Bytes.{Identity}
+use Rattle.theory.specs.Control.{setup_fields}
+use Rattle.theory.specs.Position.{Geometry, IsGeometry, max_position, position_of}
+use Rattle.theory.specs.Setup.{NamesGeometry}
+use Rattle.theory.specs.Wire.{Wire, DATA, PAD, HEARTBEAT, NAK, SM, SETUP, Setup}
+use Rattle.peer.specs.declared.attended.Sent.{Sent}
+
+abbrev pub identity_of : Sent → Identity
+identity_of s = record { geometry = s.geometry; session = s.session; stream = s.stream }
+
+-- the sender's SETUP at the position where the stream ends, but for the time to live
+abbrev pub farewell_fields : Sent → ℕ → Setup
+farewell_fields s tail = record (setup_fields (identity_of s) tail) { ttl = negsuc 0 }
+
+-- it tells an end of this session's stream
+pub record IsFarewell (session stream : ℤ) (f : Setup) : Type 0 where
+  pub own_session : f.session ≡ session
+  pub own_stream : f.stream ≡ stream
+  pub told : f.ttl ≡ negsuc 0
+
+-- and that is the position that it names by the shape that it names
+pub record EndsAt (session stream : ℤ) (f : Setup) (end : ℕ) : Type 0 where
+  pub farewell : IsFarewell session stream f
+  pub shape : Geometry
+  pub named : NamesGeometry f shape
+  pub here : position_of shape f.active_term_id f.term_offset ≡ pos end
+
+-- only a SETUP tells one
+abbrev pub TellsEnd : ℤ → ℤ → Wire → ℕ → Type 0
+TellsEnd session stream (DATA h flags payload) end = ⊥
+TellsEnd session stream (PAD h n) end = ⊥
+TellsEnd session stream (HEARTBEAT h) end = ⊥
+TellsEnd session stream (NAK f) end = ⊥
+TellsEnd session stream (SM asks f) end = ⊥
+TellsEnd session stream (SETUP f) end = EndsAt session stream f end
+
+-- the farewell of a stream tells that stream's end, and no other
+pub record TellsItsEnd (s : Sent) (tail : ℕ) : Type 0 where
+  pub told : TellsEnd s.session s.stream (SETUP (farewell_fields s tail)) tail
+  pub only : (end : ℕ) → TellsEnd s.session s.stream (SETUP (farewell_fields s tail)) end → end ≡ tail
+
+-- that of any stream, at any position that it can come to
+abbrev pub FarewellsTellEnds : Type 0
+FarewellsTellEnds = (s : Sent) (tail : ℕ) → IsGeometry s.geometry → tail ≤ max_position s.geometry → TellsItsEnd s tail

@@ -1,0 +1,281 @@
+//! What a publisher notes of what comes and goes.
+
+ghost use Rattle.std.specs.Prelude.{◌≡◌, ◌≤◌, IfSome, Ok, Some, length};
+ghost use Rattle.std.specs.Option.{option_map};
+ghost use Rattle.endpoint.specs.Calls.{CountsNone};
+ghost use Rattle.endpoint.specs.Devices.{HasGrown};
+ghost use Rattle.frames.specs.Frames.{header_of, nak_of, wire};
+ghost use Rattle.peer.specs.Screening.{is_handed, verdict_of};
+ghost use Rattle.peer.specs.Watching.{CountsHanded, Gives, Screens, after_frame, after_verdict, begins_below, disbelieving, given, header_in, held_after, is_again, is_below, missed, new_watch, plus_one, released, told, told_by, with_none};
+
+use crate::attendance::Attendance;
+use crate::attended::Sent;
+use crate::screen::{Bounds, Verdict, asked_bytes, judge};
+use frames::{Frame, Header, Nak, read_frame};
+use std::marker::Model;
+
+/// What a publisher's device has counted, each modulo 2^64.
+#[derive(Clone, Copy, Debug, PartialEq, Eq)]
+pub struct Tally {
+    /// The datagrams that it was given to send.
+    pub datagrams: u64,
+    /// Those of them that begin below what was sent before.
+    pub resends: u64,
+    /// The status messages that it noted.
+    pub statuses: u64,
+    /// The negative acknowledgements that it handed over.
+    pub naks: u64,
+    /// The status messages that it didn't believe.
+    pub disbelieved: u64,
+}
+
+/// The stream, what was heard of it, and what the next frame is judged by.
+#[derive(Drop)]
+pub(crate) struct Watch {
+    sent: Sent,
+    attendance: Attendance,
+    bounds: Bounds,
+    held: Option<Nak>,
+    tally: Tally,
+    nones: u64,
+}
+
+impl Model for Watch {
+    ghost use Rattle.std.specs.Option.{option_map};
+    ghost use Rattle.frames.specs.Frames.{nak_of};
+    ghost use Rattle.peer.specs.Watching.{Watched};
+
+    ghost Value = { Watched };
+
+    ghost view = { λ w. record { sent = w.sent; attendance = w.attendance; bounds = w.bounds; held = option_map nak_of w.held; tally = w.tally; nones = w.nones } };
+}
+
+/// Whether a position lies below this one.
+#[tactic(auto, using(crate::proofs::Screened::lies_below, crate::proofs::Screened::below_any))]
+fn is_below(position: i64, most: u64) -> bool
+    ensures { result ≡ is_below position most }
+{
+    match u64::try_from(position) {
+        Ok(position) => position < most,
+        Err(_) => true,
+    }
+}
+
+/// The header of a frame, if it carries bytes of a stream.
+fn header_in(frame: &Frame<'_>) -> Option<Header>
+    ensures { option_map header_of result ≡ header_in (wire frame.now) }
+{
+    match *frame {
+        Frame::Data { header, .. } | Frame::Pad { header, .. } => Some(header),
+        _ => None,
+    }
+}
+
+impl Watch {
+    /// Nothing of this stream was sent or heard yet; it begins here.
+    pub(crate) fn new(sent: Sent, start: u64) -> Watch
+        ensures { result ≡ new_watch sent start }
+    {
+        Watch {
+            sent,
+            attendance: Attendance::new(start),
+            bounds: Bounds {
+                sent_to: start,
+                asked: None,
+            },
+            held: None,
+            tally: Tally {
+                datagrams: 0,
+                resends: 0,
+                statuses: 0,
+                naks: 0,
+                disbelieved: 0,
+            },
+            nones: 0,
+        }
+    }
+
+    pub(crate) fn attendance(&self) -> Attendance
+        ensures { result ≡ self.now.attendance }
+    {
+        self.attendance
+    }
+
+    pub(crate) fn tally(&self) -> Tally
+        ensures { result ≡ self.now.tally }
+    {
+        self.tally
+    }
+
+    pub(crate) fn nones(&self) -> u64
+        ensures { result ≡ self.now.nones }
+    {
+        self.nones
+    }
+
+    /// What is held back.
+    pub(crate) fn held(&self) -> Option<Nak>
+        ensures { option_map nak_of result ≡ self.now.held }
+    {
+        self.held
+    }
+
+    /// A cycle begins, with the stream sent up to here.
+    pub(crate) fn tell(&mut self, position: u64)
+        ensures { self.new ≡ told self.old position }
+    {
+        self.bounds = Bounds {
+            sent_to: position,
+            asked: None,
+        };
+    }
+
+    /// Counts a receive that found nothing.
+    pub(crate) fn find_none(&mut self)
+        ensures counted { self.new ≡ with_none self.old }
+        ensures grown { HasGrown self.old.nones self.new.nones }
+        ensures not_fallen { self.old.nones ≤ self.new.nones }
+    {
+        self.nones = self.nones.saturating_add(1);
+    }
+
+    /// Notes that this receiver has told this position.
+    fn hear_status(&mut self, receiver: i64, position: u64)
+        ensures told { self.new ≡ told_by self.old receiver position }
+        ensures nones { self.new.nones ≡ self.old.nones }
+    {
+        self.attendance.hear(receiver, position);
+        self.tally.statuses = self.tally.statuses.wrapping_add(1);
+    }
+
+    /// Counts a negative acknowledgement that asks for so many bytes.
+    fn miss(&mut self, bytes: u64)
+        ensures missed { self.new ≡ missed self.old bytes }
+        ensures nones { self.new.nones ≡ self.old.nones }
+    {
+        let before = self.bounds.asked.unwrap_or(0);
+        self.bounds.asked = Some(before.saturating_add(bytes));
+        self.tally.naks = self.tally.naks.wrapping_add(1);
+    }
+
+    /// Counts a status message that isn't believed, and a receive that found nothing.
+    fn disbelieve(&mut self)
+        ensures counted { self.new ≡ disbelieving self.old }
+        ensures grown { HasGrown self.old.nones self.new.nones }
+        ensures not_fallen { self.old.nones ≤ self.new.nones }
+    {
+        self.find_none();
+        self.tally.disbelieved = self.tally.disbelieved.wrapping_add(1);
+    }
+
+    /// Notes what a frame's verdict says.
+    fn note(&mut self, verdict: Verdict)
+        ensures noted { self.new ≡ after_verdict self.old verdict }
+        ensures nones { CountsHanded (is_handed verdict) self.old.nones self.new.nones }
+        ensures not_fallen { self.old.nones ≤ self.new.nones }
+    {
+        match verdict {
+            Verdict::Passes => {}
+            Verdict::Tells { receiver, position } => self.hear_status(receiver, position),
+            Verdict::Misses(bytes) => self.miss(bytes),
+            Verdict::Disbelieved => self.disbelieve(),
+            Verdict::Held => self.find_none(),
+        }
+    }
+
+    /// Holds a frame back that its verdict says to.
+    fn hold(&mut self, verdict: Verdict, frame: &Frame<'_>)
+        ensures { self.new ≡ record self.old { held = held_after self.old.held verdict (wire frame.now) } }
+    {
+        if verdict != Verdict::Held {
+            return;
+        }
+        self.held = match *frame {
+            Frame::Nak(nak) => Some(nak),
+            _ => None,
+        };
+    }
+
+    /// A frame came, alone in a datagram. Whether it is handed over.
+    fn hear(&mut self, frame: &Frame<'_>) -> bool
+        ensures handed { result ≡ is_handed (verdict_of self.old.sent self.old.bounds (wire frame.now)) }
+        ensures heard { self.new ≡ after_frame self.old (wire frame.now) }
+        ensures nones { CountsHanded result self.old.nones self.new.nones }
+        ensures not_fallen { self.old.nones ≤ self.new.nones }
+    {
+        let verdict = judge(&self.sent, &self.bounds, frame);
+        self.note(verdict);
+        self.hold(verdict, frame);
+        verdict.is_handed()
+    }
+
+    /// A datagram came. Its length, where it is handed over.
+    pub(crate) fn screen(&mut self, datagram: &[u8]) -> Option<usize>
+        ensures screens { Screens self.old datagram.now result self.new }
+        ensures whole { IfSome result (λ n. n ≡ length datagram.now) }
+        ensures nones { CountsNone (Ok result) self.old.nones self.new.nones }
+        ensures not_fallen { self.old.nones ≤ self.new.nones }
+    {
+        match read_frame(datagram) {
+            Ok((frame, size)) => {
+                if size == datagram.len() && !self.hear(&frame) {
+                    return None;
+                }
+                Some(datagram.len())
+            }
+            Err(_) => Some(datagram.len()),
+        }
+    }
+
+    /// What was held back is handed over.
+    pub(crate) fn release(&mut self, nak: &Nak)
+        ensures released { self.new ≡ released self.old (nak_of nak.now) }
+        ensures nones { self.new.nones ≡ self.old.nones }
+    {
+        self.miss(asked_bytes(nak.length));
+        self.held = None;
+    }
+
+    /// Whether a frame begins below what was sent before this cycle.
+    fn is_again(&self, frame: &Frame<'_>) -> bool
+        ensures { result ≡ is_again self.now (wire frame.now) }
+    {
+        match header_in(frame) {
+            None => false,
+            Some(header) => self.begins_below(&header),
+        }
+    }
+
+    fn begins_below(&self, header: &Header) -> bool
+        ensures { result ≡ begins_below self.now (Some (header_of header.now)) }
+    {
+        let offset = header.term_offset.cast_signed();
+        let begin = self.sent.geometry.position(header.term_id, offset);
+        is_below(begin, self.bounds.sent_to)
+    }
+
+    /// Counts a datagram that is given to be sent, perhaps again.
+    fn count(&mut self, again: bool)
+        ensures given { self.new ≡ given self.old again }
+        ensures counted { self.new.tally.datagrams ≡ plus_one self.old.tally.datagrams }
+        ensures nones { self.new.nones ≡ self.old.nones }
+    {
+        self.tally.datagrams = self.tally.datagrams.wrapping_add(1);
+        if again {
+            self.tally.resends = self.tally.resends.wrapping_add(1);
+        }
+    }
+
+    /// Counts a datagram that is given to be sent, by its first frame.
+    pub(crate) fn give(&mut self, datagram: &[u8])
+        ensures gives { Gives self.old datagram.now self.new }
+        ensures counted { self.new.tally.datagrams ≡ plus_one self.old.tally.datagrams }
+        ensures nones { self.new.nones ≡ self.old.nones }
+    {
+        let again = match read_frame(datagram) {
+            Ok((frame, _size)) => self.is_again(&frame),
+            Err(_) => false,
+        };
+        self.count(again);
+    }
+}
