@@ -20,7 +20,7 @@ use Rattle.receiver.specs.declared.receiver_core.Outcome.{Outcome}
 use Rattle.receiver.specs.declared.receiver_core.Outcome.TheVariants as outcomes
 use Rattle.frames.specs.Datagrams.{IsDatagramFault}
 use Rattle.frames.specs.declared.fault.FrameError.{FrameError}
-use Rattle.receiver.specs.Receiving.{IsOurs, TakesDatagram, WouldOpen, Meets, MeetsAll, MeetsFrame, MeetsHeartbeat, MeetsSetup, Opened, Receiver, asking, at_moment, given_at, is_due, missing, replied, replies, scanned_at, telling, ticked, told_after}
+use Rattle.receiver.specs.Receiving.{counted_at, place_of, IsOurs, TakesDatagram, WouldOpen, Meets, MeetsAll, MeetsFrame, MeetsHeartbeat, MeetsSetup, Opened, Receiver, asking, at_moment, given_at, is_due, missing, replied, replies, scanned_at, telling, ticked, told_after}
 use Rattle.receiver.specs.declared.receiver_core.Replies.{Replies}
 use Rattle.receiver.specs.Representing.{Becomes, Core, HasNoFrame, HearsBeat, Inserts, IsAtEnd, PassesFrame, ReadsPast, Represents, RepresentsImage, RepresentsOpened, beaten_at, with_reader}
 use Rattle.receiver.proofs.ShownSteps.{least_shown, opened_shown}
@@ -237,8 +237,13 @@ heard_all items v u w now bytes frames (Ok outs) at spells met = λ r s.
     let a = met (at_moment r now) (subst (λ x. Represents x (at_moment r now)) (sym at) (seen_at v r now s)) in
     (a.0, inl (frames, spells, a.1), a.2)
 
-pub refused_all : (outs : List Outcome) (v u : Core) (now : ℕ) (bytes : List ℕ) (fault : FrameError) → u ≡ record v { clock = max v.clock now } → IsDatagramFault bytes fault → outs ≡ outcomes.Refused fault ∷ [] → Becomes v u (λ r s. TakesDatagram r now bytes outs s)
-refused_all outs v u now bytes fault at why is = λ r s. (at_moment r now, inr (fault, why, is, refl), subst (λ x. Represents x (at_moment r now)) (sym at) (seen_at v r now s))
+counted_shown : (v : Core) (p : ℕ) (r : Receiver) → Represents v r → Represents (record v { faults = counted_at p v.faults }) (record r { faults = counted_at p r.faults })
+counted_shown v p r s = record { numbers = ap (λ (x : Receiver). record x { faults = counted_at p x.faults }) s.numbers; image = s.image }
+
+pub refused_all : (outs : List Outcome) (v u : Core) (now : ℕ) (bytes : List ℕ) (fault : FrameError) → u ≡ record v { clock = max v.clock now; faults = counted_at (place_of fault) v.faults } → IsDatagramFault bytes fault → outs ≡ outcomes.Refused fault ∷ [] → Becomes v u (λ r s. TakesDatagram r now bytes outs s)
+refused_all outs v u now bytes fault at why is = λ r s.
+    let t = record (at_moment r now) { faults = counted_at (place_of fault) r.faults } in
+    (t, inr (fault, why, is, refl), subst (λ x. Represents x t) (sym at) (counted_shown (record v { clock = max v.clock now }) (place_of fault) (at_moment r now) (seen_at v r now s)))
 
 -- ---- what needs memory
 

@@ -14,11 +14,11 @@ use Rattle.theory.proofs.Lists.{all_append}
 use Rattle.theory.proofs.Follow.{Chain-push}
 use Rattle.theory.proofs.Leasts.{fold_first}
 use Rattle.assembler.specs.Assembling.{Assembling}
-use Rattle.receiver.specs.Polling.{Answer, IsTooLong, PollsOf, PollsWhole, ReadsFrames, StaysShort, StopsAt, TellsOf, TellsPositions, gives, moved_all, passed_all, with_only_consumer}
+use Rattle.receiver.specs.Polling.{AsksMemory, Answer, IsTooLong, PollsOf, PollsWhole, ReadsFrames, StaysShort, StopsAt, TellsOf, TellsPositions, gives, moved_all, passed_all, with_only_consumer}
 use Rattle.receiver.specs.declared.poll_error.PollError.TheVariants.{NoImage, Unassembled}
 use Rattle.receiver.specs.declared.positions.Positions.{Positions}
 use Rattle.assembler.specs.declared.fault.AssemblyError.{AssemblyError}
-use Rattle.assembler.specs.declared.fault.AssemblyError.TheVariants.{TooLong}
+use Rattle.assembler.specs.declared.fault.AssemblyError.TheVariants.{Memory, TooLong}
 use Rattle.receiver.specs.Receiving.{Opened, Receiver}
 use Rattle.receiver.specs.Representing.{Core, HasNoFrame, Represents, RepresentsImage, RepresentsOpened}
 use Rattle.receiver.proofs.Meeting.{shown_none, shown_some}
@@ -234,15 +234,18 @@ polls_message o r v w bytes h seats (s, passes, state, message, fits) =
 named_with : (g : ℕ) (c : Consumer) (frames : List Placed) (s : Placed) (a : Assembling) (fault : AssemblyError) → a.greatest ≡ g → a.begun ≡ (moved_all c frames).assembly.begun → ((fault ≡ TooLong) ↔ IsTooLong a.greatest a.begun s.frame) → (fault ≡ TooLong) ↔ IsTooLong g (moved_all c frames).assembly.begun s.frame
 named_with g c frames s a fault most begun h = subst (λ n. (fault ≡ TooLong) ↔ IsTooLong n (moved_all c frames).assembly.begun s.frame) most (subst (λ b. (fault ≡ TooLong) ↔ IsTooLong a.greatest b s.frame) begun h)
 
+asked_with : (c : Consumer) (frames : List Placed) (s : Placed) (a : Assembling) (fault : AssemblyError) → a.begun ≡ (moved_all c frames).assembly.begun → (fault ≡ Memory → AsksMemory a.begun s.frame) → fault ≡ Memory → AsksMemory (moved_all c frames).assembly.begun s.frame
+asked_with c frames s a fault begun h = subst (λ b. fault ≡ Memory → AsksMemory b s.frame) begun h
+
 pub polls_fault : (o : Opened) (r : Receiver) (v w : Subscribing) (fault : AssemblyError) (h : HasReadOn o r v) → r.consumers ≡ 1 → RefusesFrame (Some (with_only_consumer o (stood h.consumer h.at))) (now_at o r h.consumer h.at) v.assembler fault w → Polled (Some o) r (Err (Unassembled fault)) w
-polls_fault o r v w fault h seats (s, passes, state, of_data, named) =
+polls_fault o r v w fault h seats (s, passes, state, of_data, named, asked) =
     let c = h.consumer in
     let frames = h.frames ++ s ∷ [] in
     let reads : ReadsFrames o.image c frames (end_of s) = reads_more o.image c h.frames h.at s h.reads passes.among (passed_here o r c h.at s w.core passes) in
     finish o r w (Err (Unassembled fault)) c frames (end_of s) seats h.one reads passes.shown (ap (λ (x : Assembling). x.greatest) state ∙ h.greatest) (h.frames, s, refl, of_data)
     (λ kept. record {
       after = passed_by (moved_all c h.frames) s;
-      polls = record { earlier = h.frames; last = s; reads = reads; nothing = h.nothing kept; not_padding = of_data; short = h.short kept; named = named_with r.greatest c h.frames s v.assembler fault h.greatest (h.begun kept) named; after = refl };
+      polls = record { earlier = h.frames; last = s; reads = reads; nothing = h.nothing kept; not_padding = of_data; short = h.short kept; named = named_with r.greatest c h.frames s v.assembler fault h.greatest (h.begun kept) named; asked = asked_with c h.frames s v.assembler fault (h.begun kept) asked; after = refl };
       here = refl;
       begun = λ l. absurd (both_ways true l refl);
     })

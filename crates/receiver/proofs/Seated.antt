@@ -8,7 +8,7 @@ use Rattle.theory.specs.Image.{after_heartbeat, image_at}
 use Rattle.theory.specs.Wire.{Header, Setup, Wire, DATA, PAD, HEARTBEAT, NAK, SM, SETUP}
 use Rattle.assembler.specs.Assembling.{Assembling}
 use Rattle.receiver.specs.declared.receiver_core.Outcome.{Outcome}
-use Rattle.receiver.specs.Receiving.{TakesDatagram, IfOurs, Meets, MeetsAll, MeetsFrame, MeetsHeartbeat, MeetsSetup, Opened, Receiver, answer_at, at_moment, given_at}
+use Rattle.receiver.specs.Receiving.{counted_at, place_of, TakesDatagram, IfOurs, Meets, MeetsAll, MeetsFrame, MeetsHeartbeat, MeetsSetup, Opened, Receiver, answer_at, at_moment, given_at}
 use Rattle.receiver.specs.Representing as core
 use Rattle.receiver.specs.Representing.{Represents, beaten_at}
 use Rattle.receiver.specs.Subscribing.{AssemblesFor, SubscriberBecomes, Subscribing}
@@ -78,9 +78,12 @@ all_keep b r (w ∷ ws) outs s (out, mid, rest, first, is, more) = λ k. all_kee
 at_keeps : (b : Assembling) (r : Receiver) (now : ℕ) → Keeps b r (at_moment r now)
 at_keeps b r now k = record { one = k.one; seat = k.seat; greatest = k.greatest }
 
+counts_keeps : (b : Assembling) (r s : Receiver) (p : ℕ) → s ≡ record r { faults = counted_at p r.faults } → Keeps b r s
+counts_keeps b r s p e k = subst (IsSeated b) (sym e) (record { one = k.one; seat = k.seat; greatest = k.greatest })
+
 pub hears_keeps : (b : Assembling) (r : Receiver) (now : ℕ) (bytes : List ℕ) (outs : List Outcome) (s : Receiver) → TakesDatagram r now bytes outs s → IsSeated b r → IsSeated b s
 hears_keeps b r now bytes outs s (inl (ws, spells, met)) k = all_keep b (at_moment r now) ws outs s met (at_keeps b r now k)
-hears_keeps b r now bytes outs s (inr (fault, why, is, e)) k = keeps_same b (at_moment r now) s e (at_keeps b r now k)
+hears_keeps b r now bytes outs s (inr (fault, why, is, e)) k = counts_keeps b (at_moment r now) s (place_of fault) e (at_keeps b r now k)
 
 -- a step of the core that keeps its consumer is one of the subscriber
 pub core_step : (v w : Subscribing) (Step : Receiver → Receiver → Type 0) → ((r s : Receiver) → Step r s → IsSeated v.assembler r → IsSeated v.assembler s) → w.assembler ≡ v.assembler → core.Becomes v.core w.core Step → SubscriberBecomes v w Step

@@ -9,9 +9,9 @@ use Rattle.theory.specs.Units.{IsContiguous}
 use Rattle.theory.specs.Assembly.{after_all}
 use Rattle.theory.specs.Consumer.{Consumer, least_of, moved, passed_by}
 use Rattle.theory.specs.Image.{Image}
-use Rattle.assembler.specs.Assembling.{held_with}
+use Rattle.assembler.specs.Assembling.{held_with, is_dropped}
 use Rattle.assembler.specs.declared.fault.AssemblyError.{AssemblyError}
-use Rattle.assembler.specs.declared.fault.AssemblyError.TheVariants.{TooLong}
+use Rattle.assembler.specs.declared.fault.AssemblyError.TheVariants.{Memory, TooLong}
 use Rattle.receiver.specs.declared.poll_error.PollError.{PollError}
 use Rattle.receiver.specs.declared.poll_error.PollError.TheVariants.{NoImage, Unassembled}
 use Rattle.receiver.specs.declared.positions.Positions.{Positions}
@@ -40,6 +40,11 @@ gives c frames = (after_all (record { begun = c.assembly.begun; given = [] }) (m
 abbrev pub IsTooLong : ℕ → Option (List ℕ) → Frame → Type 0
 IsTooLong greatest begun (Data flags payload) = greatest < length (held_with begun flags payload)
 IsTooLong greatest begun (Pad n) = ⊥
+
+-- its payload has bytes, and is kept: only such a frame asks for memory
+abbrev pub AsksMemory : Option (List ℕ) → Frame → Type 0
+AsksMemory begun (Data flags payload) = (is_dropped begun flags ≡ false) × (0 < length payload)
+AsksMemory begun (Pad n) = ⊥
 
 -- with none of these frames, one after the other
 abbrev pub StaysShort : ℕ → Consumer → List Placed → Type 0
@@ -74,6 +79,7 @@ pub record PollsFault (greatest : ℕ) (i : Image) (c : Consumer) (fault : Assem
   pub not_padding : is_padding last.frame ≡ false
   pub short : StaysShort greatest c earlier
   pub named : (fault ≡ TooLong) ↔ IsTooLong greatest (moved_all c earlier).assembly.begun last.frame
+  pub asked : fault ≡ Memory → AsksMemory (moved_all c earlier).assembly.begun last.frame
   pub after : d ≡ passed_by (moved_all c earlier) last
 
 -- the last of these frames is a message's

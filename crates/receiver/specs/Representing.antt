@@ -33,6 +33,7 @@ pub record Core : Type 0 where
   pub told : Option LastStatus
   pub watch : Watch
   pub clock : ℕ
+  pub faults : List ℕ
 
 abbrev pub last_status_of : LastSent → LastStatus
 last_status_of t = record { now = t.moment; position = t.position }
@@ -43,6 +44,7 @@ pub record IsCore (v : Core) : Type 0 where
   pub width : ForSome v.image (λ (i : seen.Image). i.window ≡ v.window)
   pub seats : ForSome v.image (λ (i : seen.Image). length i.consumers ≡ v.consumers)
   pub unmet : ForSome v.unmet IsHeader
+  pub faults : length v.faults ≡ 8
 
 -- the core's numbers, with this image; the core knows of no messages, and so not of the greatest
 abbrev pub with_image : Core → ℕ → Option Opened → Receiver
@@ -58,6 +60,7 @@ with_image v greatest image = record {
   told = v.told;
   watch = v.watch;
   clock = v.clock;
+  faults = v.faults;
 }
 
 -- frames that have a byte in common are one

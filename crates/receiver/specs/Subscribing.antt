@@ -5,10 +5,10 @@ use Rattle.theory.specs.Assembly.{Heard, on_frame}
 use Rattle.theory.specs.Consumer.{Consumer}
 use Rattle.assembler.specs.Assembling.{Assembling}
 use Rattle.assembler.specs.declared.fault.AssemblyError.{AssemblyError}
-use Rattle.assembler.specs.declared.fault.AssemblyError.TheVariants.{TooLong}
+use Rattle.assembler.specs.declared.fault.AssemblyError.TheVariants.{Memory, TooLong}
 use Rattle.assembler.specs.declared.assembler.Message.{Message}
 use Rattle.receiver.specs.declared.poll_error.PollError.{PollError}
-use Rattle.receiver.specs.Polling.{Answer, IsTooLong, ReadsFrames, StaysShort, gives, moved_all, with_only_consumer}
+use Rattle.receiver.specs.Polling.{Answer, AsksMemory, IsTooLong, ReadsFrames, StaysShort, gives, moved_all, with_only_consumer}
 use Rattle.receiver.specs.Receiving.{Opened, Receiver}
 use Rattle.receiver.specs.Representing.{Core, Represents, with_reader}
 
@@ -62,7 +62,7 @@ HearsFrame (Some o) r before message new =
 abbrev pub RefusesFrame : Option Opened → Receiver → Assembling → AssemblyError → Subscribing → Type 0
 RefusesFrame None r before fault new = ⊥
 RefusesFrame (Some o) r before fault new =
-    (s : Placed) × PassesOn o r s new.core × (new.assembler ≡ record before { begun = None }) × (is_padding s.frame ≡ false) × ((fault ≡ TooLong) ↔ IsTooLong before.greatest before.begun s.frame)
+    (s : Placed) × PassesOn o r s new.core × (new.assembler ≡ record before { begun = None }) × (is_padding s.frame ≡ false) × ((fault ≡ TooLong) ↔ IsTooLong before.greatest before.begun s.frame) × (fault ≡ Memory → AsksMemory before.begun s.frame)
 
 -- ---- in the course of a poll
 

@@ -2,7 +2,8 @@
 
 ghost use Rattle.std.specs.Prelude.{◌≡◌, ◌≤◌, ◌<◌, ◌^◌, ◌+◌, ◌↔◌, ◌∷◌, [], ℕ, List, None, Some, Err, length, map, max, IfNone, IfOk, IfSome, OnErr, OnSome, IsTrue, vec_capacity};
 ghost use Rattle.std.specs.List.{AllByRecursion};
-ghost use Rattle.std.specs.Option.{option_copied, option_map, option_to_list};
+ghost use Rattle.std.specs.Option.{ForSome, option_copied, option_map, option_to_list};
+ghost use Rattle.theory.specs.Insert.{AreApart, head_of};
 ghost use Rattle.position.specs.declared.head.FrameKind.TheVariants.{Data};
 ghost use Rattle.theory.specs.Control as control;
 ghost use Rattle.theory.specs.Control.{asking_at};
@@ -12,6 +13,7 @@ ghost use Rattle.theory.specs.Wire.{IsFrame, IsHeader, NAK, SM, SpellsDatagram, 
 ghost use Rattle.frames.specs.Frames.{header_of, nak_of, setup_of, status_of, wire};
 ghost use Rattle.image.specs.Seen.{IsCount};
 ghost use Rattle.image.specs.Stored.{IsOfStream, stream_frame};
+ghost use Rattle.receiver.specs.Receiving.{counted_at, place_of};
 ghost use Rattle.receiver.specs.Representing.{last_status_of};
 ghost use Rattle.receiver.specs.Texts.{outcome_text};
 
@@ -98,6 +100,8 @@ pub struct ReceiverCore {
     detector: LossDetector,
     /// The greatest moment that it has seen.
     clock: u64,
+    /// How many datagrams it has refused, by their fault.
+    faults: [u64; 8],
 }
 
 impl Model for ReceiverCore {
@@ -107,9 +111,9 @@ impl Model for ReceiverCore {
 
     ghost Value = { Core };
 
-    ghost view = { λ c. record { session = c.session; stream = c.stream; window = c.window; id = c.receiver; consumers = c.consumers; image = c.image; unmet = option_map header_of c.unmet; told = option_map last_status_of c.told; watch = c.detector; clock = c.clock } };
+    ghost view = { λ c. record { session = c.session; stream = c.stream; window = c.window; id = c.receiver; consumers = c.consumers; image = c.image; unmet = option_map header_of c.unmet; told = option_map last_status_of c.told; watch = c.detector; clock = c.clock; faults = c.faults } };
 
-    ghost invariant = { λ c. IsCore (record { session = c.session; stream = c.stream; window = c.window; id = c.receiver; consumers = c.consumers; image = c.image; unmet = option_map header_of c.unmet; told = option_map last_status_of c.told; watch = c.detector; clock = c.clock }) };
+    ghost invariant = { λ c. IsCore (record { session = c.session; stream = c.stream; window = c.window; id = c.receiver; consumers = c.consumers; image = c.image; unmet = option_map header_of c.unmet; told = option_map last_status_of c.told; watch = c.detector; clock = c.clock; faults = c.faults }) };
 }
 
 impl ReceiverCore {
@@ -142,6 +146,7 @@ impl ReceiverCore {
             told: None,
             detector: LossDetector::new(),
             clock: 0,
+            faults: [0; 8],
         }
     }
 
@@ -177,10 +182,32 @@ impl ReceiverCore {
         self.clock = self.clock.max(now);
     }
 
-    /// Takes a datagram, and says what became of each of its frames. Memory is asked for twice: for the outcomes, and at a
-    /// SETUP that opens an image. Where it is refused, nothing has changed, the moment isn't seen either, and the datagram
-    /// may be handed in again.
+    /// Takes a datagram, and says what became of each of its frames. One that can't be read is counted by its fault.
+    /// Memory is asked for twice: for the outcomes, and at a SETUP that opens an image. Where it is refused, nothing has
+    /// changed, the moment isn't seen either, and the datagram may be handed in again.
     pub fn on_datagram(&mut self, bytes: &[u8], now: u64) -> Result<Vec<Outcome>, AllocError>
+        ensures heard { IfOk result (λ outs. Becomes self.old self.new (λ r s. TakesDatagram r now bytes.now outs.items s)) }
+        ensures refused { OnErr result (self.new ≡ self.old) }
+        ensures consumers { self.new.consumers ≡ self.old.consumers }
+        // Whatever bytes came, frames that the image holds have no byte in common.
+        ensures apart { ForSome self.new.image (λ i. AreApart (map head_of i.held)) }
+    {
+        let taken = self.take(bytes, now);
+        self.held_apart();
+        taken
+    }
+
+    /// Does nothing, and says what holds of its image, whatever it was handed.
+    fn held_apart(&self)
+        ensures { ForSome self.now.image (λ i. AreApart (map head_of i.held)) }
+    {
+        if let Some(image) = &self.image {
+            image.held_apart();
+        }
+    }
+
+    /// Takes a datagram.
+    fn take(&mut self, bytes: &[u8], now: u64) -> Result<Vec<Outcome>, AllocError>
         ensures heard { IfOk result (λ outs. Becomes self.old self.new (λ r s. TakesDatagram r now bytes.now outs.items s)) }
         ensures refused { OnErr result (self.new ≡ self.old) }
         ensures consumers { self.new.consumers ≡ self.old.consumers }
@@ -191,20 +218,27 @@ impl ReceiverCore {
                 self.on_frames_at(bytes, count, now, outcomes)
             }
             Err(error) => {
-                let outcomes = self.refuse(error)?;
+                let outcomes = refused(self.alloc, error)?;
                 self.see(now);
+                self.count(error);
                 Ok(outcomes)
             }
         }
     }
 
-    /// The one outcome of a datagram that can't be read.
-    fn refuse(&self, error: FrameError) -> Result<Vec<Outcome>, AllocError>
-        ensures { IfOk result (λ outs. outs.items ≡ Outcome.Refused error ∷ []) }
+    /// How many datagrams it has refused by `F1`, `F2` and so on to `F8`. A count stays at the greatest `u64`.
+    pub fn faults(&self) -> [u64; 8]
+        ensures { result ≡ self.now.faults }
     {
-        let mut outcomes = Vec::new(self.alloc);
-        outcomes.push(Outcome::Refused(error))?;
-        Ok(outcomes)
+        self.faults
+    }
+
+    /// Counts a datagram that was refused for this fault.
+    fn count(&mut self, error: FrameError)
+        ensures { self.new ≡ record self.old { faults = counted_at (place_of error) self.old.faults } }
+    {
+        let place = place_of(error);
+        self.faults[place] = self.faults[place].saturating_add(1);
     }
 
     /// Takes the frames of a datagram at a moment, which isn't seen where an error comes.
@@ -450,6 +484,32 @@ impl ReceiverCore {
                 Some(status)
             }
         }
+    }
+}
+
+/// The one outcome of a datagram that can't be read.
+fn refused(alloc: Global, error: FrameError) -> Result<Vec<Outcome>, AllocError>
+    ensures { IfOk result (λ outs. outs.items ≡ Outcome.Refused error ∷ []) }
+{
+    let mut outcomes = Vec::new(alloc);
+    outcomes.push(Outcome::Refused(error))?;
+    Ok(outcomes)
+}
+
+/// Where a fault is counted.
+fn place_of(error: FrameError) -> usize
+    ensures place { result ≡ place_of error }
+    ensures few { result < 8 }
+{
+    match error {
+        FrameError::Short => 0,
+        FrameError::Version => 1,
+        FrameError::Kind => 2,
+        FrameError::Length => 3,
+        FrameError::Flags => 4,
+        FrameError::Alignment => 5,
+        FrameError::Range => 6,
+        FrameError::Datagram => 7,
     }
 }
 

@@ -7,7 +7,7 @@ ghost use Rattle.position.specs.declared.head.FrameKind.TheVariants.{Data};
 ghost use Rattle.theory.specs.Placed.{Placed, is_padding, payload_of};
 ghost use Rattle.theory.specs.Wire.{IsFrame};
 ghost use Rattle.image.specs.Kinds.{head_at};
-ghost use Rattle.receiver.specs.Polling.{IsTooLong};
+ghost use Rattle.receiver.specs.Polling.{AsksMemory, IsTooLong};
 ghost use Rattle.receiver.specs.Subscribing.{heard_of};
 
 use crate::poll_error::PollError;
@@ -60,6 +60,8 @@ fn assemble(
     ensures refused { IfErr result (λ _. (s : Placed) → head.now ≡ head_at s.at s.frame → is_padding s.frame ≡ false) }
     ensures named { IfErr result (λ fault. (s : Placed) (before : List ℕ) → head.now ≡ head_at s.at s.frame → block.now ≡ with_front before (payload_of s.frame)
         → ((fault ≡ AssemblyError.TooLong) ↔ IsTooLong assembler.old.greatest assembler.old.begun s.frame)) }
+    ensures asked { IfErr result (λ fault. (s : Placed) (before : List ℕ) → head.now ≡ head_at s.at s.frame → block.now ≡ with_front before (payload_of s.frame)
+        → fault ≡ AssemblyError.Memory → AsksMemory assembler.old.begun s.frame) }
     ensures dropped { IfErr result (λ _. assembler.new ≡ record assembler.old { begun = None }) }
     ensures greatest { assembler.new.greatest ≡ assembler.old.greatest }
 {

@@ -98,7 +98,7 @@ pub record At (s : ScriptState) (k : ℕ) (r : Receiver) (joins : List ℕ) (giv
   pub there : HasImage s k r
   pub follows : Follows s.log.identity r joins given Whole
 
-no_more : (i : Identity) (r mid : Receiver) (joins more : List ℕ) (given : List (List ℕ)) (Whole : Type 0) → Follows i r joins given Whole → mid.consumers ≡ r.consumers → mid.image ≡ r.image → more ≡ [] → Follows i mid (joins ++ more) given Whole
+pub no_more : (i : Identity) (r mid : Receiver) (joins more : List ℕ) (given : List (List ℕ)) (Whole : Type 0) → Follows i r joins given Whole → mid.consumers ≡ r.consumers → mid.image ≡ r.image → more ≡ [] → Follows i mid (joins ++ more) given Whole
 no_more i r mid joins more given Whole h c same none =
     let all : joins ++ more ≡ joins = ap (λ xs. joins ++ xs) none ∙ append-nil joins in
     record {

@@ -15,13 +15,13 @@ use Rattle.script_meaning.specs.Answers.{AreFrames, Delivered, IsMissing, PollsB
 use Rattle.sender.specs.Cycling.{alone, datagrams}
 use Rattle.script_meaning.specs.LineContents.{LineContent, OfReceiver, poll_line as poll_content}
 use Rattle.script_meaning.specs.Published.{AllWhole, AreHonestFrames, IsHonestLine, Played, is_fault, joined_by, joins, joins_in, joins_of, messages_in, polled, polled_by, read_by}
-use Rattle.receiver.specs.Receiving.{TakesDatagram, MeetsAll, Receiver, at_moment, replies, ticked}
+use Rattle.receiver.specs.Receiving.{counted_at, place_of, TakesDatagram, MeetsAll, Receiver, at_moment, replies, ticked}
 use Rattle.script_meaning.specs.ScriptState.{ScriptState, entries_of, image_of, lone, opened_state, world_of}
 use Rattle.script_meaning.proofs.Honest.{AreEntering, AreGivenOut, AreHonest, IsHonest, all_entering, alone_given, frames_given_out, honest_given, printed_entering, replies_given}
 use Rattle.script_meaning.proofs.Lone.{lone_other, lone_put}
 use Rattle.script_meaning.specs.Standing.{Begins}
 use Rattle.script_meaning.proofs.PollFollows.{StillWhole, polls_met}
-use Rattle.script_meaning.proofs.ReceiverRuns.{At, Follows, IsSending, Met, meets, unchanged}
+use Rattle.script_meaning.proofs.ReceiverRuns.{At, Follows, IsSending, Met, meets, no_more, unchanged}
 use Rattle.script_meaning.proofs.Runs.{Goes, goes_on}
 use Rattle.theory.proofs.Tables.{get_other, get_put}
 use Rattle.script_meaning.proofs.Sound.{HasFollowed, IsSound, Laws, and_line, at_number, followed_stays, follows_as, follows_quiet, joins_more, polled_more, readers_stay, sending, whole_parts, SaysNoRange}
@@ -120,6 +120,13 @@ none_met s k r mid outs joins given Whole a none same = record {
   follows = subst (λ x. Follows s.log.identity x (joins ++ flat_map joins_of outs) given Whole) (sym same) (subst (λ xs. Follows s.log.identity r xs given Whole) (sym (ap (λ xs. joins ++ xs) none ∙ append-nil joins)) a.follows);
 }
 
+-- a datagram that was refused is counted, and nothing more
+refused_met : (s : ScriptState) (k p : ℕ) (r mid : Receiver) (outs : List Outcome) (joins : List ℕ) (given : List (List ℕ)) (Whole : Type 0) → At s k r joins given Whole → flat_map joins_of outs ≡ [] → mid ≡ record r { faults = counted_at p r.faults } → MetAll s k mid outs joins given Whole
+refused_met s k p r mid outs joins given Whole a none same = record {
+  goes = unchanged s k r mid a.there (ap image_of same);
+  follows = no_more s.log.identity r mid joins (flat_map joins_of outs) given Whole a.follows (ap (λ x. x.consumers) same) (ap (λ x. x.image) same) none;
+}
+
 -- the receiver behind one of its frames
 met_at : (s : ScriptState) (k : ℕ) (r mid : Receiver) (out : Outcome) (joins : List ℕ) (given : List (List ℕ)) (Whole : Type 0) → At s k r joins given Whole → Met s k mid out joins given Whole → At (with_receiver s k mid) k mid (joins ++ joins_of out) given Whole
 met_at s k r mid out joins given Whole a m = record {
@@ -151,7 +158,7 @@ IsTaken i s bytes outs = (frames : List Wire) → SpellsDatagram frames bytes �
 takes_met : Laws → (i : Identity) (s : ScriptState) (k now : ℕ) (r mid : Receiver) (bytes : List ℕ) (outs : List Outcome) (joins : List ℕ) (given : List (List ℕ)) (Whole : Type 0) → s.log.identity ≡ i → IsSending s → At s k (at_moment r now) joins given Whole → IsTaken i s bytes outs → TakesDatagram r now bytes outs mid → MetAll s k mid outs joins given Whole
 takes_met laws i s k now r mid bytes outs joins given Whole same x a honest (inl m) =
     all_met laws s k (at_moment r now) mid m.0 outs joins given Whole x a (subst (λ j. AreEntering j s.sender m.0 outs) (sym same) (honest m.0 m.1)) m.2
-takes_met laws i s k now r mid bytes outs joins given Whole same x a honest (inr m) = none_met s k (at_moment r now) mid outs joins given Whole a (ap (flat_map joins_of) m.2) m.3
+takes_met laws i s k now r mid bytes outs joins given Whole same x a honest (inr m) = refused_met s k (place_of m.0) (at_moment r now) mid outs joins given Whole a (ap (flat_map joins_of) m.2) m.3
 
 all_joins : (outs : List Outcome) → flat_map joins_in (map OfReceiver outs) ≡ flat_map joins_of outs
 all_joins [] = refl
