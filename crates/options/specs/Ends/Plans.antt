@@ -67,6 +67,7 @@ pub record IsPublishPlanWith (o : PublishOptions) (d : Drawn) (c : Channel) (p :
   pub session : p.session ≡ unwrap_or c.session_id d.session
   pub starts : StartsAt c.start (geometry_of c d) p.start
   pub linger : p.linger ≡ o.linger * 1000000000
+  pub wait : p.wait ≡ o.wait * 1000000000
 
 -- the text is a channel, and the plan is the one of that
 abbrev pub IsPublishPlanOf : PublishOptions → Drawn → PublishPlan → Type 0

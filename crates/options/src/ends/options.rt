@@ -23,8 +23,10 @@ pub struct EndOptions<'a> {
 #[derive(Clone, Copy, Debug)]
 pub struct PublishOptions<'a> {
     pub end: EndOptions<'a>,
-    /// After how many seconds without progress it gives up, once its input has ended.
+    /// After how many seconds without a status message of a receiver that was heard it gives up.
     pub linger: u32,
+    /// After how many seconds it gives up where nobody was ever heard.
+    pub wait: u32,
 }
 
 /// What a subscriber is told.

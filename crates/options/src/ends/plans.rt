@@ -30,8 +30,10 @@ pub struct PublishPlan {
     pub session: i32,
     /// Where the stream starts.
     pub start: u64,
-    /// After how many nanoseconds without progress it gives up, once its input has ended.
+    /// After how many nanoseconds without a status message of a receiver that was heard it gives up.
     pub linger: u64,
+    /// After how many nanoseconds it gives up where nobody was ever heard.
+    pub wait: u64,
     pub ghost legal: { IsStart geometry start },
 }
 

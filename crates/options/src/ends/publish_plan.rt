@@ -110,6 +110,7 @@ fn plan_of<'a>(
         session: channel.session_id.unwrap_or(drawn.session),
         start,
         linger: u64::from(options.linger) * NANOSECONDS_PER_SECOND,
+        wait: u64::from(options.wait) * NANOSECONDS_PER_SECOND,
     })
 }
 
