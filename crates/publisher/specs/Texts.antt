@@ -1,8 +1,10 @@
 -- What a user reads of a fault, and what a publisher tells on its error output.
-use Rattle.std.specs.Prelude.{ℕ, List, [], ◌∷◌, ◌++◌, Option, None, Some, codes, decimal, nat_lt, if◌then◌else◌}
+use Rattle.std.specs.Prelude.{ℕ, List, [], ◌∷◌, ◌++◌, Option, None, Some, codes, decimal, nat_eq, nat_lt, if◌then◌else◌}
 use Rattle.std.specs.Fmt.{signed_decimal}
 use Rattle.peer.specs.declared.attendance.Attendance.{Attendance}
 use Rattle.peer.specs.declared.attendance.Heard.{Heard}
+use Rattle.peer.specs.declared.ending.Ending.{Ending}
+use Rattle.peer.specs.declared.ending.Ending.TheVariants.{Whole, Short}
 use Rattle.endpoint.specs.Texts as devices
 use Rattle.messages.specs.Texts as inputs
 use Rattle.publisher.specs.declared.telling.Counts.{Counts}
@@ -46,6 +48,11 @@ short_text told tail = if nat_lt told tail then codes "no progress: position " +
 
 abbrev pub empty_line : List ℕ
 empty_line = codes "the input was empty: nothing was published" ++ 10 ∷ []
+
+-- nothing where all of a stream was received
+abbrev pub ending_text : Ending → ℕ → ℕ → ℕ → List ℕ
+ending_text Whole start told tail = if nat_eq tail start then empty_line else []
+ending_text Short start told tail = short_text told tail
 
 abbrev pub alone_line : List ℕ
 alone_line = codes "nobody was heard for 5 s: no subscriber is at this port, or it takes another stream or session, or only shorter terms" ++ 10 ∷ []

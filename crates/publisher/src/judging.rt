@@ -1,18 +1,16 @@
 //! What a publisher tells after a cycle, and whether it ends by it.
 
-ghost use Rattle.std.specs.Prelude.{◌≡◌, ◌||◌, true, IfOk, IfSome, OnOk};
+ghost use Rattle.std.specs.Prelude.{◌≡◌, ◌||◌, true, ℕ, if◌then◌else◌, IfOk, IfSome, OnErr, OnOk};
 ghost use Rattle.publisher.specs.Inputs.{IsStop};
 ghost use Rattle.publisher.specs.Judging.{device_fault, end_in, fault_in, input_fault};
-ghost use Rattle.publisher.specs.Progress.{Ends, is_alone, is_broken, seen, with_work};
+ghost use Rattle.publisher.specs.Progress.{Ends, is_alone, is_broken, seen, shown_at, with_work};
 
 use crate::fault::PublishFault;
 use crate::looking::Seen;
 use crate::progress::{Progress, told_in};
 use crate::publisher_context::PublisherContext;
 use crate::reading::Reading;
-use crate::telling::{
-    Counts, tell_alone, tell_change, tell_counters, tell_empty, tell_fault, tell_short,
-};
+use crate::telling::{Counts, tell_alone, tell_change, tell_counters, tell_ending, tell_fault};
 use endpoint::DeviceError;
 use peer::Ending;
 use std::io::Write;
@@ -63,6 +61,7 @@ fn check_input<E: Write>(
 ) -> Result<(), PublishFault>
     ensures stops { result ≡ input_fault fault messages }
     ensures told { OnOk result (progress.new ≡ record progress.old { faulted = true }) }
+    ensures kept { OnErr result (progress.new ≡ progress.old) }
 {
     if messages == 0 {
         return Err(fault);
@@ -94,7 +93,7 @@ fn tell_counts<R, E: Write>(
     errors: &mut E,
     now: u64,
 )
-    ensures { progress.new ≡ record progress.old { shown = progress.new.shown; messages = progress.new.messages } }
+    ensures { (messages : ℕ) × (progress.new ≡ (if context.now.plan.now.end.counters then shown_at progress.old messages now else progress.old)) }
 {
     let (plan, messages) = (context.plan, context.state.messages());
     if !plan.end.counters {
@@ -112,15 +111,6 @@ fn tell_counts<R, E: Write>(
         };
         let _ = tell_counters(errors, counts);
     }
-}
-
-/// Tells how it ends, where that isn't that all was received.
-fn tell_ending<E: Write>(ending: Ending, cycle: &Seen, tail: u64, errors: &mut E) {
-    let _ = match ending {
-        Ending::Whole if tail == cycle.attendance.start => tell_empty(errors),
-        Ending::Whole => Ok(()),
-        Ending::Short => tell_short(errors, told_in(&cycle.attendance), tail),
-    };
 }
 
 /// Tells what has changed and what is due. The answer is how the publisher ends, if it does.
@@ -147,7 +137,8 @@ pub(crate) fn judge<R, E: Write>(
     tell_counts(context, progress, cycle, errors, now);
     let ending = progress.ending(cycle, end_in(&reading, tail), plan.linger, plan.wait, now);
     if let Some(ending) = ending {
-        tell_ending(ending, cycle, tail, errors);
+        let (start, told) = (cycle.attendance.start, told_in(&cycle.attendance));
+        let _ = tell_ending(errors, ending, start, told, tail);
     }
     Ok(ending)
 }

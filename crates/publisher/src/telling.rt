@@ -2,10 +2,10 @@
 
 ghost use Rattle.std.specs.Prelude.{OnOk, Some};
 ghost use Rattle.std.specs.Io.KnownBytes.{Appends};
-ghost use Rattle.publisher.specs.Texts.{alone_line, change_text, counters_line, empty_line, fault_line, joined_text, left_text, short_text, stream_text, traffic_text};
+ghost use Rattle.publisher.specs.Texts.{alone_line, change_text, counters_line, empty_line, ending_text, fault_line, joined_text, left_text, short_text, stream_text, traffic_text};
 
 use crate::fault::PublishFault;
-use peer::{Attendance, Heard, Tally};
+use peer::{Attendance, Ending, Heard, Tally};
 use std::io::Write;
 use std::{fmt, io};
 
@@ -102,7 +102,7 @@ pub(crate) fn tell_change<E: Write>(errors: &mut E, attendance: &Attendance) -> 
 }
 
 /// It ends before all was received, where less than the tail was told.
-pub(crate) fn tell_short<E: Write>(errors: &mut E, told: u64, tail: u64) -> io::Result<()>
+fn tell_short<E: Write>(errors: &mut E, told: u64, tail: u64) -> io::Result<()>
     ensures { OnOk result (Appends (E.contents errors.old) (E.contents errors.new) (short_text told tail)) }
 {
     if told < tail {
@@ -112,10 +112,31 @@ pub(crate) fn tell_short<E: Write>(errors: &mut E, told: u64, tail: u64) -> io::
 }
 
 /// The input was empty.
-pub(crate) fn tell_empty<E: Write>(errors: &mut E) -> io::Result<()>
+fn tell_empty<E: Write>(errors: &mut E) -> io::Result<()>
     ensures { OnOk result (Appends (E.contents errors.old) (E.contents errors.new) empty_line) }
 {
     writeln!(errors, "the input was empty: nothing was published")
+}
+
+/// How it ends, where that isn't that all was received: of a stream from `start` to `tail` this was told.
+pub(crate) fn tell_ending<E: Write>(
+    errors: &mut E,
+    ending: Ending,
+    start: u64,
+    told: u64,
+    tail: u64,
+) -> io::Result<()>
+    ensures { OnOk result (Appends (E.contents errors.old) (E.contents errors.new) (ending_text ending start told tail)) }
+{
+    match ending {
+        Ending::Whole => {
+            if tail == start {
+                return tell_empty(errors);
+            }
+            Ok(())
+        }
+        Ending::Short => tell_short(errors, told, tail),
+    }
 }
 
 /// Nobody was heard for five seconds.
