@@ -1,8 +1,15 @@
 -- A publisher that ends does so by its receivers.
-use Rattle.std.proofs.Common.{◌≡◌, ℕ, Option, Some, IfSome, subst}
+use Rattle.std.proofs.Common.{◌≡◌, ◌∙◌, ℕ, Option, Some, sym, subst}
 use Rattle.peer.specs.declared.attendance.Attendance.{Attendance}
 use Rattle.peer.specs.declared.ending.Ending.{Ending}
-use Rattle.publisher.specs.Progress.{Ends}
+use Rattle.peer.specs.Silences.{judged}
+use Rattle.publisher.specs.declared.looking.Seen.{Seen}
+use Rattle.publisher.specs.declared.progress.Progress.{Progress}
+use Rattle.publisher.specs.Progress.{Ends, Judges}
 
-pub ends : (a b : Attendance) (linger wait : ℕ) (answer : Option Ending) (ending : Ending) → IfSome answer (λ e. Ends a linger wait e) → answer ≡ Some ending → a ≡ b → Ends b linger wait ending
-ends a b linger wait answer ending told is same = subst (λ (x : Attendance). Ends x linger wait ending) same (subst (λ (r : Option Ending). IfSome r (λ e. Ends a linger wait e)) is told)
+pub ends : (p : Progress) (s : Seen) (b : Attendance) (linger wait now : ℕ) (answer : Option Ending) (ending : Ending) → Judges p s linger wait now answer → answer ≡ Some ending → s.attendance ≡ b → Ends b linger wait ending
+ends p s b linger wait now answer ending told is same = subst (λ (x : Attendance). Ends x linger wait ending) same (record {
+  end = told.end;
+  silence = judged p.statuses s.at_rest now;
+  is = sym told.is ∙ is;
+})

@@ -55,6 +55,11 @@ is_alone p a now = not p.alone && (is_nobody a.present && nat_le 5000000000 now)
 abbrev pub ending_seen : Progress → Seen → Option ℕ → ℕ → ℕ → ℕ → Option Ending
 ending_seen p s end linger wait now = ending_of s.attendance end (judged p.statuses s.at_rest now) linger wait
 
+-- wherever its stream ends, if it has ended, this is how the publisher ends, if it does
+pub record Judges (p : Progress) (s : Seen) (linger wait now : ℕ) (answer : Option Ending) : Type 0 where
+  pub end : Option ℕ
+  pub is : answer ≡ ending_seen p s end linger wait now
+
 -- receivers that were heard end a publisher this way
 pub record Ends (a : Attendance) (linger wait : ℕ) (ending : Ending) : Type 0 where
   pub end : Option ℕ

@@ -1,9 +1,12 @@
 //! What a publisher tells after a cycle, and whether it ends by it.
 
-ghost use Rattle.std.specs.Prelude.{◌≡◌, ◌||◌, true, ℕ, if◌then◌else◌, IfOk, IfSome, OnErr, OnOk};
+ghost use Rattle.std.specs.Prelude.{◌≡◌, ◌||◌, true, ℕ, if◌then◌else◌, Err, IfOk, IfSome, IsTrue, OnErr, OnOk};
+ghost use Rattle.endpoint.specs.declared.device_error.DeviceError.TheVariants.{Device};
+ghost use Rattle.peer.specs.Silences.{seen_at};
+ghost use Rattle.publisher.specs.declared.fault.PublishFault.TheVariants.{Failed};
 ghost use Rattle.publisher.specs.Inputs.{IsStop};
 ghost use Rattle.publisher.specs.Judging.{device_fault, end_in, fault_in, input_fault};
-ghost use Rattle.publisher.specs.Progress.{Ends, is_alone, is_broken, seen, shown_at, with_work};
+ghost use Rattle.publisher.specs.Progress.{Judges, is_alone, is_broken, seen, shown_at, with_work};
 
 use crate::fault::PublishFault;
 use crate::looking::Seen;
@@ -124,7 +127,9 @@ pub(crate) fn judge<R, E: Write>(
     errors: &mut E,
     now: u64,
 ) -> Result<Option<Ending>, PublishFault>
-    ensures { IfOk result (λ ending. IfSome ending (λ e. Ends cycle.now.attendance context.now.plan.now.linger context.now.plan.now.wait e)) }
+    ensures judges { IfOk result (λ ending. Judges progress.new cycle.now context.now.plan.now.linger context.now.plan.now.wait now ending) }
+    ensures seen { IfOk result (λ _. progress.new.statuses ≡ seen_at progress.old.statuses cycle.now.tally.statuses now) }
+    ensures broken { IsTrue (is_broken progress.old cycle.now.worked context.now.plan.now.linger now) → result ≡ Err (Failed Device) }
 {
     let (plan, state) = (context.plan, context.state);
     let reading = state.reading();

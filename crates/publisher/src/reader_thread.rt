@@ -78,15 +78,15 @@ fn offer_all<R: Clock, I: BufRead>(
     Ok(())
 }
 
-/// Offers all, and tells how that ended: the fault is `Input` or `Full`.
+/// Offers all. The answer is how that ended.
 pub fn read_input<R: Clock, I: BufRead + Drop>(
     context: &PublisherContext<'_, R>,
     mut input: I,
     mut publisher: Publisher,
-)
+) -> Reading
     requires { IsDone context.now.state.now.log publisher }
+    ensures { result.geometry ≡ context.now.state.now.log.identity.geometry }
 {
     let fault = offer_all(context, &mut input, &mut publisher).err();
-    let geometry = context.state.log.identity().geometry();
-    context.state.end_input(Reading::new(geometry, fault));
+    Reading::new(context.state.log.identity().geometry(), fault)
 }

@@ -37,11 +37,22 @@ pub struct ChannelSender<'a, D> {
     pub passes: SenderPasses<D>,
 }
 
-/// Tells the device up to where the stream was sent, as a cycle begins.
+/// Tells a device up to where the stream was sent, as a cycle begins.
 fn believe<D>(duty: &mut Duty<Attended<D>>, position: u64)
     ensures { duty.new ≡ record duty.old { device = record duty.old.device { watch = told duty.old.device.watch position } } }
 {
     duty.device_mut().believe(position);
+}
+
+/// Tells the device up to where the sender has sent, as a cycle begins.
+fn begin<D>(sender: &mut ChannelSender<'_, D>)
+    ensures told { sender.new.passes.duty.device.watch ≡ told sender.old.passes.duty.device.watch sender.old.agent.core.handler.at }
+    ensures inner { sender.new.passes.duty.device.inner ≡ sender.old.passes.duty.device.inner }
+    ensures agent { sender.new.agent ≡ sender.old.agent }
+    ensures passes { sender.new.passes ≡ record sender.old.passes { duty = record sender.old.passes.duty { device = sender.new.passes.duty.device } } }
+{
+    let position = sender.agent.position();
+    believe(&mut sender.passes.duty, position);
 }
 
 /// A cycle of the sender, and one of the conductor. Whether anything was done.
@@ -86,14 +97,14 @@ fn cycle<R: Wait + Clock, D: Datagrams>(
     ensures seen { IfOk result (λ r. r.1 ≡ seen_of (calls_of sender.old.passes.duty.device) sender.new.passes.duty.device) }
 {
     let before = calls_of(sender.passes.duty.device());
-    let position = sender.agent.position();
-    believe(&mut sender.passes.duty, position);
+    begin(sender);
     let busy = run_cycle(context, sender, now)?;
     let cycle = look(before, sender.passes.duty.device());
     Ok((busy, cycle))
 }
 
 /// Sends and keeps until the publisher ends. The answer is how, by the receivers that its device has heard.
+#[tactic(auto, using(crate::proofs::Ends::ends))]
 pub fn send_all<R: Wait + Clock, D: Datagrams, E: Write>(
     context: &PublisherContext<'_, R>,
     sender: &mut ChannelSender<'_, D>,

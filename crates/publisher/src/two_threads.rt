@@ -50,7 +50,7 @@ fn ended(
     }
 }
 
-/// What the thread that reads does.
+/// What the thread that reads does: it reads, and leaves in the state how that ended.
 fn read_there<R: Clock + Copy, I: BufRead + Drop>(
     rt: R,
     alloc: Global,
@@ -67,7 +67,8 @@ fn read_there<R: Clock + Copy, I: BufRead + Drop>(
         plan: &plan,
         state: &state,
     };
-    read_input(&context, input, publisher);
+    let reading = read_input(&context, input, publisher);
+    state.end_input(reading);
 }
 
 /// Starts the thread that reads. Nobody joins it: how the reading ended stands in the state, once it has.
