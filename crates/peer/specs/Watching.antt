@@ -1,10 +1,10 @@
 -- What a contract sees of a publisher's device, and what a datagram makes of it.
-use Rattle.std.specs.Prelude.{◌≡◌, ◌≤◌, ℕ, ◌+◌, ◌%◌, ◌^◌, ℤ, Bool, true, false, pos, negsuc, nat_lt, if◌then◌else◌, min, List, [], length, take, Option, None, Some, Result, Ok, Err}
+use Rattle.std.specs.Prelude.{◌≡◌, ℕ, ◌+◌, ◌%◌, ◌^◌, ℤ, Bool, true, false, pos, negsuc, nat_lt, if◌then◌else◌, min, List, [], length, take, Option, None, Some, Result, Ok, Err}
 use Rattle.std.specs.Int.{cast_signed, w32}
 use Rattle.theory.specs.Position.{position_of}
 use Rattle.theory.specs.Wire.{Header, Nak, Wire, DATA, PAD, HEARTBEAT, NAK, SM, SETUP, spelling}
 use Rattle.frames.specs.Fronts.{FrontSpells}
-use Rattle.endpoint.specs.Calls.{Receives, Sends}
+use Rattle.endpoint.specs.Calls.{Receives}
 use Rattle.endpoint.specs.Devices.{Device, HasGrown, NeverFall, counted, greatest}
 use Rattle.endpoint.specs.declared.datagrams.DeviceFailed.{DeviceFailed}
 use Rattle.peer.specs.Attending.{after_status, nobody}

@@ -240,15 +240,9 @@ impl Watch {
     fn is_again(&self, frame: &Frame<'_>) -> bool
         ensures { result ≡ is_again self.now (wire frame.now) }
     {
-        match header_in(frame) {
-            None => false,
-            Some(header) => self.begins_below(&header),
-        }
-    }
-
-    fn begins_below(&self, header: &Header) -> bool
-        ensures { result ≡ begins_below self.now (Some (header_of header.now)) }
-    {
+        let Some(header) = header_in(frame) else {
+            return false;
+        };
         let offset = header.term_offset.cast_signed();
         let begin = self.sent.geometry.position(header.term_id, offset);
         is_below(begin, self.bounds.sent_to)

@@ -1,6 +1,7 @@
 -- What a publisher begins with.
 use Rattle.endpoint.specs.Udp.{Udp}
 use Rattle.loss_injector.specs.Losing.{Losing, begun}
+use Rattle.peer.specs.Patience.{Patient, patient}
 use Rattle.peer.specs.Watching.{Watching, watching}
 use Rattle.peer.specs.declared.attended.Sent.{Sent}
 use Rattle.shared_log.specs.Books.{IsDone}
@@ -13,9 +14,9 @@ use Rattle.publisher.specs.declared.publisher_parts.PublisherParts.{PublisherPar
 abbrev pub sent_by : PublishPlan → Sent
 sent_by p = record { geometry = p.geometry; session = p.session; stream = p.end.stream }
 
--- datagrams get lost by the plan's rates and seed, and the receivers of its stream are noted, which starts where the plan says
-abbrev pub device_of : PublishPlan → Udp → Watching (Losing Udp)
-device_of p device = watching (begun device p.end.rates p.end.seed) (sent_by p) p.start
+-- what fails is lost, datagrams get lost by the plan's rates and seed, and what comes of its stream is screened and noted, which starts where the plan says
+abbrev pub device_of : PublishPlan → Udp → Watching (Losing (Patient Udp))
+device_of p device = watching (begun (patient device) p.end.rates p.end.seed) (sent_by p) p.start
 
 -- a log of the plan with its passes, a queue and a device
 pub record ArePublisherParts (p : PublishPlan) (b : PublisherParts) : Type 0 where

@@ -18,3 +18,7 @@ abbrev pub StopsReading : Geometry → PublishFault → Type 0
 StopsReading g (Input fault) = IsOfMessage g fault
 StopsReading g Full = ⊤
 StopsReading g (Failed error) = ⊥
+
+-- for some shape of a stream
+abbrev pub IsStop : PublishFault → Type 0
+IsStop fault = (g : Geometry) × StopsReading g fault

@@ -1,4 +1,6 @@
 pub mod Inputs
+pub mod Judging
+pub mod Looking
 pub mod Openings
 pub mod Progress
 pub mod Texts

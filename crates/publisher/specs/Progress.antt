@@ -1,10 +1,12 @@
--- What a publisher has seen of its receivers and of its input, and how it ends by that.
-use Rattle.std.specs.Prelude.{◌≡◌, ℕ, ◌-◌, ◌&&◌, Bool, not, false, nat_eq, nat_le, if◌then◌else◌, Option, None, Some}
+-- What a publisher has seen and told, and how it ends by that.
+use Rattle.std.specs.Prelude.{◌≡◌, ℕ, ◌-◌, ◌&&◌, Bool, not, true, false, nat_eq, nat_le, if◌then◌else◌, Option, None, Some}
 use Rattle.peer.specs.declared.attendance.Attendance.{Attendance}
 use Rattle.peer.specs.declared.attendance.Heard.{Heard}
 use Rattle.peer.specs.declared.ending.Ending.{Ending}
 use Rattle.peer.specs.Endings.{ending_of}
-use Rattle.publisher.specs.declared.sender_thread.Progress.{Progress}
+use Rattle.peer.specs.Silences.{judged, never, seen_at}
+use Rattle.publisher.specs.declared.looking.Seen.{Seen}
+use Rattle.publisher.specs.declared.progress.Progress.{Progress}
 
 abbrev pub told_from : ℕ → Option Heard → ℕ
 told_from start None = start
@@ -14,40 +16,52 @@ told_from start (Some heard) = heard.last
 abbrev pub told_of : Attendance → ℕ
 told_of a = told_from a.start a.present
 
--- nothing was seen yet
+-- nothing was seen or told yet
 abbrev pub nothing_seen : Progress
-nothing_seen = record { changes = 0; told = 0; ended = false; moment = 0; shown = 0 }
+nothing_seen = record { changes = 0; statuses = never; worked = never; shown = 0; messages = 0; alone = false; faulted = false }
 
-abbrev pub are_same : Bool → Bool → Bool
-are_same a b = if a then b else not b
+-- which receivers are there, and since when none was heard
+abbrev pub seen : Progress → Seen → ℕ → Progress
+seen p s now = record p { changes = s.attendance.changes; statuses = seen_at p.statuses s.tally.statuses now }
 
--- neither the receivers, nor what was told, nor the input's end is other than was seen
-abbrev pub is_same : Progress → Attendance → Bool → Bool
-is_same p a ended = nat_eq a.changes p.changes && nat_eq (told_of a) p.told && are_same ended p.ended
+-- each call of the device failed for so long
+abbrev pub is_broken : Progress → ℕ → ℕ → ℕ → Bool
+is_broken p worked linger now = nat_eq worked p.worked.count && nat_le linger (now - p.worked.since)
 
--- what is seen at a moment
-abbrev pub seen : Progress → Attendance → Bool → ℕ → Progress
-seen p a ended now = record p { changes = a.changes; told = told_of a; ended = ended; moment = if is_same p a ended then p.moment else now }
+abbrev pub with_work : Progress → ℕ → ℕ → Progress
+with_work p worked now = record p { worked = seen_at p.worked worked now }
 
 -- a second has gone by since the counters were told
 abbrev pub is_shown : Progress → ℕ → Bool
 is_shown p now = nat_le 1000000000 (now - p.shown)
 
--- then the next second begins
-abbrev pub shown_at : Progress → ℕ → Progress
-shown_at p now = record p { shown = if is_shown p now then now else p.shown }
+-- then so many messages were accepted in it
+abbrev pub shown_messages : Progress → ℕ → ℕ → Option ℕ
+shown_messages p messages now = if is_shown p now then Some (messages - p.messages) else None
 
--- a publisher whose input hasn't ended doesn't end; another ends by its receivers and the time in which all was as before
-abbrev pub ending_seen : Progress → Attendance → ℕ → ℕ → ℕ → Option Ending
-ending_seen p a tail linger now = if p.ended then ending_of a tail (now - p.moment) linger else None
+-- and the next second begins
+abbrev pub shown_at : Progress → ℕ → ℕ → Progress
+shown_at p messages now = if is_shown p now then record p { shown = now; messages = messages } else p
 
--- wherever the accepted messages end, this is how the publisher ends, if it does
-pub record Judges (p : Progress) (a : Attendance) (linger now : ℕ) (answer : Option Ending) : Type 0 where
-  pub tail : ℕ
-  pub answer_is : answer ≡ ending_seen p a tail linger now
+abbrev pub is_nobody : Option Heard → Bool
+is_nobody None = true
+is_nobody (Some heard) = false
+
+-- nobody was heard for five seconds, and that wasn't told yet
+abbrev pub is_alone : Progress → Attendance → ℕ → Bool
+is_alone p a now = not p.alone && (is_nobody a.present && nat_le 5000000000 now)
+
+-- how it ends where its stream ends there, if its input has ended
+abbrev pub ending_seen : Progress → Seen → Option ℕ → ℕ → ℕ → ℕ → Option Ending
+ending_seen p s end linger wait now = ending_of s.attendance end (judged p.statuses s.at_rest now) linger wait
+
+-- wherever its stream ends, if it has ended, this is how the publisher ends, if it does
+pub record Judges (p : Progress) (s : Seen) (linger wait now : ℕ) (answer : Option Ending) : Type 0 where
+  pub end : Option ℕ
+  pub is : answer ≡ ending_seen p s end linger wait now
 
 -- receivers that were heard end a publisher this way
-pub record Ends (a : Attendance) (linger : ℕ) (ending : Ending) : Type 0 where
-  pub tail : ℕ
-  pub idle : ℕ
-  pub is : ending_of a tail idle linger ≡ Some ending
+pub record Ends (a : Attendance) (linger wait : ℕ) (ending : Ending) : Type 0 where
+  pub end : Option ℕ
+  pub silence : Option ℕ
+  pub is : ending_of a end silence linger wait ≡ Some ending

@@ -1,8 +1,10 @@
 -- What a user reads of a fault, and what a publisher tells on its error output.
-use Rattle.std.specs.Prelude.{ℕ, List, [], ◌∷◌, ◌++◌, Option, None, Some, codes, decimal, nat_lt, if◌then◌else◌}
+use Rattle.std.specs.Prelude.{ℕ, List, [], ◌∷◌, ◌++◌, Option, None, Some, codes, decimal, nat_eq, nat_lt, if◌then◌else◌}
 use Rattle.std.specs.Fmt.{signed_decimal}
 use Rattle.peer.specs.declared.attendance.Attendance.{Attendance}
 use Rattle.peer.specs.declared.attendance.Heard.{Heard}
+use Rattle.peer.specs.declared.ending.Ending.{Ending}
+use Rattle.peer.specs.declared.ending.Ending.TheVariants.{Whole, Short}
 use Rattle.endpoint.specs.Texts as devices
 use Rattle.messages.specs.Texts as inputs
 use Rattle.publisher.specs.declared.telling.Counts.{Counts}
@@ -44,7 +46,30 @@ change_text a = change_between a.left a.present
 abbrev pub short_text : ℕ → ℕ → List ℕ
 short_text told tail = if nat_lt told tail then codes "no progress: position " ++ decimal told ++ codes " of " ++ decimal tail ++ codes " was told" ++ 10 ∷ [] else []
 
+abbrev pub empty_line : List ℕ
+empty_line = codes "the input was empty: nothing was published" ++ 10 ∷ []
+
+-- nothing where all of a stream was received
+abbrev pub ending_text : Ending → ℕ → ℕ → ℕ → List ℕ
+ending_text Whole start told tail = if nat_eq tail start then empty_line else []
+ending_text Short start told tail = short_text told tail
+
+abbrev pub alone_line : List ℕ
+alone_line = codes "nobody was heard for 5 s: no subscriber is at this port, or it takes another stream or session, or only shorter terms" ++ 10 ∷ []
+
+abbrev pub fault_line : PublishFault → List ℕ
+fault_line fault = text_of fault ++ (codes "; what came before it is delivered first" ++ 10 ∷ [])
+
+abbrev pub stream_text : Counts → List ℕ
+stream_text c = joined (
+    codes "session " ∷ signed_decimal c.session ∷ codes " messages " ∷ decimal c.messages
+    ∷ codes " recent " ∷ decimal c.recent ∷ codes " tail " ∷ decimal c.tail ∷ codes " told " ∷ decimal c.told ∷ [])
+
+abbrev pub traffic_text : Counts → List ℕ
+traffic_text c = joined (
+    codes "datagrams " ∷ decimal c.tally.datagrams ∷ codes " resends " ∷ decimal c.tally.resends
+    ∷ codes " naks " ∷ decimal c.tally.naks ∷ codes " lost " ∷ decimal c.lost
+    ∷ codes " disbelieved " ∷ decimal c.tally.disbelieved ∷ [])
+
 abbrev pub counters_line : Counts → List ℕ
-counters_line c = joined (
-    codes "messages " ∷ decimal c.messages ∷ codes " tail " ∷ decimal c.tail
-    ∷ codes " told " ∷ decimal c.told ∷ codes " datagrams " ∷ decimal c.datagrams ∷ [])
+counters_line c = stream_text c ++ codes " " ++ traffic_text c ++ 10 ∷ []

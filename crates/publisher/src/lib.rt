@@ -1,11 +1,14 @@
 //! A publisher's end of a channel: one thread reads messages and offers them (`read_input`), another sends them,
 //! keeps the log, notes who has received what, and decides the end (`send_all`), over what they share (`PublisherState`).
+//! Nobody waits for the one that reads: it may stay at its input for ever.
 //!
 //! Its sender stands where the plan starts and sends from there, cycles and offers keep what their crates ask for,
-//! and each message is offered at a length that the log takes. Its device notes the plan's stream from the plan's
-//! start, and loses by the plan's rates and seed (`publisher_parts`, by `ArePublisherParts` and `device_of`). It ends by its device's
-//! attendance, never before the input's end was seen. Reading fails only at a full stream or the input's fault, which
-//! is told before one of sending; the texts that are told are exact.
+//! and each message is offered at a length that the log takes. Its device takes what fails for lost, loses by the plan's
+//! rates and seed, and screens and notes the plan's stream from the plan's start (`publisher_parts`, by
+//! `ArePublisherParts` and `device_of`); in each cycle it is told up to where the sender has sent. It ends by its
+//! device's attendance, the plan's linger and wait, and a silence that is judged only where the socket was empty
+//! (`send_all`, by `Ends`; `Progress`). Reading stops only at a full stream or the input's fault, which is told before
+//! one of sending; the texts that are told are exact, and at its end so is how often the stream's end is told.
 //!
 //! `publish` itself says none of this and is proved safe alone. That anything is offered or sent isn't said:
 //! `tools/channels` shows it.
@@ -13,10 +16,14 @@
 
 mod channel_publisher;
 mod fault;
+mod judging;
+mod looking;
+mod progress;
 mod publisher_context;
 mod publisher_parts;
 mod publisher_state;
 mod reader_thread;
+mod reading;
 mod sender_thread;
 mod telling;
 mod two_threads;

@@ -1,7 +1,7 @@
 //! What a publisher begins with.
 
 ghost use Rattle.std.specs.Prelude.{◌≡◌, IfOk};
-ghost use Rattle.publisher.specs.Beginnings.{ArePublisherParts, device_of};
+ghost use Rattle.publisher.specs.Beginnings.{ArePublisherParts, device_of, sent_by};
 ghost use Rattle.publisher.specs.Openings.{identity_of};
 
 use crate::fault::PublishFault;
@@ -12,7 +12,7 @@ use conductor::Conductor;
 use endpoint::{DeviceError, UdpDevice};
 use loss_injector::Lossy;
 use options::PublishPlan;
-use peer::{Attended, Sent};
+use peer::{Attended, PatientDevice, Sent};
 use position::Identity;
 use shared_log::{LogReader, Publisher};
 use std::alloc::Global;
@@ -23,24 +23,31 @@ pub struct PublisherParts {
     pub state: PublisherState,
     pub publisher: Publisher,
     pub reader: LogReader,
-    pub passes: SenderPasses<Lossy<UdpDevice>>,
+    pub passes: SenderPasses<UdpDevice>,
 }
 
-/// The device with its room: losses are made on purpose, and receivers are noted.
+/// Which stream a plan sends, and its shape.
+pub(crate) fn sent_by(plan: &PublishPlan) -> Sent
+    ensures { result ≡ sent_by plan.now }
+{
+    Sent {
+        geometry: plan.geometry,
+        session: plan.session,
+        stream: plan.end.stream,
+    }
+}
+
+/// The device with its room: what fails is lost, losses are made on purpose, and what comes is screened and noted.
 fn duty_of(
     alloc: Global,
     plan: &PublishPlan,
     device: UdpDevice,
-) -> Result<Duty<Attended<Lossy<UdpDevice>>>, DeviceError>
+) -> Result<Duty<Attended<Lossy<PatientDevice<UdpDevice>>>>, DeviceError>
     ensures { IfOk result (λ d. d ≡ record { device = device_of plan.now device; mtu = plan.now.geometry.mtu }) }
 {
-    let lossy = Lossy::new(alloc, device, plan.end.rates, plan.end.seed);
-    let sent = Sent {
-        geometry: plan.geometry,
-        session: plan.session,
-        stream: plan.end.stream,
-    };
-    let device = Attended::new(lossy, sent, plan.start);
+    let patient = PatientDevice::new(device);
+    let lossy = Lossy::new(alloc, patient, plan.end.rates, plan.end.seed);
+    let device = Attended::new(lossy, sent_by(plan), plan.start);
     Ok(Duty::new(alloc, device, plan.geometry.mtu())?)
 }
 

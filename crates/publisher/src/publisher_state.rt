@@ -2,20 +2,23 @@
 
 ghost use Rattle.std.specs.Prelude.{◌≡◌};
 
+use crate::fault::PublishFault;
+use crate::reading::Reading;
 use agents::Began;
 use conductor::Conductor;
 use shared_log::Log;
+use std::sync::OnceLock;
 use std::sync::atomic::{AtomicBool, AtomicU64, Ordering};
 
-/// The log, the command queue, the moment of the begin, how many messages were accepted and where they end, whether the
-/// input has ended, and whether all is to stop.
+/// The log, the command queue, the moment of the begin, how many messages were accepted and where they end, how the reading
+/// ended, once it has, and whether it is to stop.
 #[derive(Drop)]
 pub struct PublisherState {
     pub log: Log,
     pub conductor: Conductor,
     pub(crate) began: Began,
     stopped: AtomicBool,
-    ended: AtomicBool,
+    reading: OnceLock<Reading>,
     tail: AtomicU64,
     messages: AtomicU64,
 }
@@ -31,13 +34,13 @@ impl PublisherState {
             conductor,
             began,
             stopped: AtomicBool::new(false),
-            ended: AtomicBool::new(false),
+            reading: OnceLock::new(),
             tail: AtomicU64::new(start),
             messages: AtomicU64::new(0),
         }
     }
 
-    /// Lets the other thread end at its next turn.
+    /// Lets the thread that reads end at its next turn, if it isn't waiting for input.
     pub fn stop(&self) {
         self.stopped.store(true, Ordering::SeqCst);
     }
@@ -54,9 +57,9 @@ impl PublisherState {
             .store(messages.wrapping_add(1), Ordering::SeqCst);
     }
 
-    /// No message comes any more.
-    pub(crate) fn end_input(&self) {
-        self.ended.store(true, Ordering::SeqCst);
+    /// No message comes any more, since the reading ended like this.
+    pub(crate) fn end_input(&self, reading: Reading) {
+        let _ = self.reading.try_set(reading);
     }
 
     /// Where the accepted messages end.
@@ -64,12 +67,21 @@ impl PublisherState {
         self.tail.load(Ordering::SeqCst)
     }
 
+    /// Where they end, if no message comes any more.
+    pub(crate) fn end(&self) -> Option<u64> {
+        match self.reading.get() {
+            Some(_) => Some(self.tail()),
+            None => None,
+        }
+    }
+
     /// How many messages were accepted.
     pub(crate) fn messages(&self) -> u64 {
         self.messages.load(Ordering::SeqCst)
     }
 
-    pub(crate) fn has_ended(&self) -> bool {
-        self.ended.load(Ordering::SeqCst)
+    /// How the reading ended, if it has.
+    pub(crate) fn reading(&self) -> Option<Reading> {
+        self.reading.get().copied()
     }
 }

@@ -1,4 +1,4 @@
-//! The thread that reads messages and offers them.
+//! The thread that reads messages and offers them. Nobody waits for it: it may stay at its input for ever.
 
 ghost use Rattle.std.specs.Prelude.{◌≡◌, ◌≤◌, IfErr, length};
 ghost use Rattle.theory.specs.Position.{max_message};
@@ -7,6 +7,7 @@ ghost use Rattle.publisher.specs.Inputs.{StopsReading};
 
 use crate::fault::PublishFault;
 use crate::publisher_context::PublisherContext;
+use crate::reading::Reading;
 use agents::IdleStrategy;
 use messages::read_message;
 use publication::{Refusal, offer};
@@ -77,16 +78,15 @@ fn offer_all<R: Clock, I: BufRead>(
     Ok(())
 }
 
-/// Offers all, and tells that no message comes any more. The fault is `Input` or `Full`.
+/// Offers all. The answer is how that ended.
 pub fn read_input<R: Clock, I: BufRead + Drop>(
     context: &PublisherContext<'_, R>,
     mut input: I,
     mut publisher: Publisher,
-) -> Result<(), PublishFault>
+) -> Reading
     requires { IsDone context.now.state.now.log publisher }
-    ensures { IfErr result (λ fault. StopsReading context.now.state.now.log.identity.geometry fault) }
+    ensures { result.geometry ≡ context.now.state.now.log.identity.geometry }
 {
-    let done = offer_all(context, &mut input, &mut publisher);
-    context.state.end_input();
-    done
+    let fault = offer_all(context, &mut input, &mut publisher).err();
+    Reading::new(context.state.log.identity().geometry(), fault)
 }

@@ -1,30 +1,31 @@
 //! The thread that sends, keeps the log, and decides the end.
 
-ghost use Rattle.std.specs.Prelude.{◌≡◌, IfOk, nat_eq, not};
+ghost use Rattle.std.specs.Prelude.{◌≡◌, IfErr, IfOk, Option, ℕ};
 ghost use Rattle.agents.specs.LogSenders.{SendsLog};
+ghost use Rattle.peer.specs.Watching.{told};
+ghost use Rattle.publisher.specs.Looking.{calls_of, seen_of};
 ghost use Rattle.publisher.specs.Openings.{ArePasses};
-ghost use Rattle.publisher.specs.Progress.{Ends, Judges, ending_seen, is_shown, nothing_seen, seen, shown_at, told_of};
+ghost use Rattle.publisher.specs.Progress.{Ends};
 
 use crate::fault::PublishFault;
+use crate::judging::judge;
+use crate::looking::{ChannelDevice, Seen, calls_of, look};
+use crate::progress::Progress;
 use crate::publisher_context::PublisherContext;
-use crate::telling::{Counts, tell_change, tell_counters, tell_short};
 use agents::{Duty, IdleStrategy, LogSender, conduct};
 use conductor::{Client, Taker};
 use endpoint::Datagrams;
-use peer::{Attendance, Attended, Ending};
+use peer::{Attended, Ending};
 use shared_log::Keeper;
 use std::io::Write;
 use std::sync::Wait;
 use std::time::Clock;
 
-/// Nanoseconds from one line of counters to the next.
-const SECOND: u64 = 1_000_000_000;
-
 /// The device of a sender with its room, its client of the queue, and the conductor's passes.
 #[derive(Drop)]
 pub struct SenderPasses<D> {
     pub client: Client,
-    pub duty: Duty<Attended<D>>,
+    pub duty: Duty<ChannelDevice<D>>,
     pub keeper: Keeper,
     pub taker: Taker,
 }
@@ -36,81 +37,26 @@ pub struct ChannelSender<'a, D> {
     pub passes: SenderPasses<D>,
 }
 
-/// The progress that was seen: how often receivers changed, what was told, whether the input had ended, and when any of
-/// these was other than before, in nanoseconds; and when counters were told last.
-#[derive(Clone, Copy)]
-struct Progress {
-    changes: u64,
-    told: u64,
-    ended: bool,
-    moment: u64,
-    shown: u64,
-}
-
-/// What the receiver that was heard last has told; before anybody was heard it is the start.
-fn told_in(attendance: &Attendance) -> u64
-    ensures { result ≡ told_of attendance.now }
+/// Tells a device up to where the stream was sent, as a cycle begins.
+fn believe<D>(duty: &mut Duty<Attended<D>>, position: u64)
+    ensures { duty.new ≡ record duty.old { device = record duty.old.device { watch = told duty.old.device.watch position } } }
 {
-    match attendance.present {
-        None => attendance.start,
-        Some(heard) => heard.last,
-    }
+    duty.device_mut().believe(position);
 }
 
-impl Progress {
-    fn new() -> Progress
-        ensures { result ≡ nothing_seen }
-    {
-        Progress {
-            changes: 0,
-            told: 0,
-            ended: false,
-            moment: 0,
-            shown: 0,
-        }
-    }
-
-    /// Sees how far all is at a moment. Whether receivers have changed.
-    fn see(&mut self, attendance: &Attendance, ended: bool, now: u64) -> bool
-        ensures changed { result ≡ not (nat_eq attendance.now.changes self.old.changes) }
-        ensures seen { self.new ≡ seen self.old attendance.now ended now }
-    {
-        let told = told_in(attendance);
-        let changed = attendance.changes != self.changes;
-        if changed || told != self.told || ended != self.ended {
-            self.moment = now;
-        }
-        self.changes = attendance.changes;
-        self.told = told;
-        self.ended = ended;
-        changed
-    }
-
-    /// Whether the counters are to be shown at this moment; then the next second begins.
-    fn shows(&mut self, now: u64) -> bool
-        ensures due { result ≡ is_shown self.old now }
-        ensures shown { self.new ≡ shown_at self.old now }
-    {
-        if now.saturating_sub(self.shown) < SECOND {
-            return false;
-        }
-        self.shown = now;
-        true
-    }
-
-    /// How the publisher ends by what was seen, if it does: not before the input has ended.
-    fn ending(&self, attendance: &Attendance, tail: u64, linger: u64, now: u64) -> Option<Ending>
-        ensures { result ≡ ending_seen self.now attendance.now tail linger now }
-    {
-        if !self.ended {
-            return None;
-        }
-        attendance.ending(tail, now.saturating_sub(self.moment), linger)
-    }
+/// Tells the device up to where the sender has sent, as a cycle begins.
+fn begin<D>(sender: &mut ChannelSender<'_, D>)
+    ensures told { sender.new.passes.duty.device.watch ≡ told sender.old.passes.duty.device.watch sender.old.agent.core.handler.at }
+    ensures inner { sender.new.passes.duty.device.inner ≡ sender.old.passes.duty.device.inner }
+    ensures agent { sender.new.agent ≡ sender.old.agent }
+    ensures passes { sender.new.passes ≡ record sender.old.passes { duty = record sender.old.passes.duty { device = sender.new.passes.duty.device } } }
+{
+    let position = sender.agent.position();
+    believe(&mut sender.passes.duty, position);
 }
 
 /// A cycle of the sender, and one of the conductor. Whether anything was done.
-fn cycle<R: Wait + Clock, D: Datagrams>(
+fn run_cycle<R: Wait + Clock, D: Datagrams>(
     context: &PublisherContext<'_, R>,
     sender: &mut ChannelSender<'_, D>,
     now: u64,
@@ -138,40 +84,23 @@ fn cycle<R: Wait + Clock, D: Datagrams>(
     Ok(sent || kept)
 }
 
-/// Tells what has changed, and the counters once a second where they are asked for. The answer is how the publisher ends,
-/// if it does.
-fn judge<R, E: Write>(
+/// A cycle, with the device told up to where the stream was sent. Whether anything was done, and what it has shown.
+fn cycle<R: Wait + Clock, D: Datagrams>(
     context: &PublisherContext<'_, R>,
-    progress: &mut Progress,
-    attendance: &Attendance,
-    datagrams: u64,
-    errors: &mut E,
+    sender: &mut ChannelSender<'_, D>,
     now: u64,
-) -> Option<Ending>
-    ensures progress { progress.new ≡ record (seen progress.old attendance.now progress.new.ended now) { shown = progress.new.shown } }
-    ensures judges { Judges progress.new attendance.now context.now.plan.now.linger now result }
+) -> Result<(bool, Seen), PublishFault>
+    requires agent { SendsLog context.now.state.now.log sender.old.agent }
+    requires passes { ArePasses context.now.state.now sender.old.passes }
+    ensures agent { SendsLog context.now.state.now.log sender.new.agent }
+    ensures passes { ArePasses context.now.state.now sender.new.passes }
+    ensures seen { IfOk result (λ r. r.1 ≡ seen_of (calls_of sender.old.passes.duty.device) sender.new.passes.duty.device) }
 {
-    let (plan, state) = (context.plan, context.state);
-    if progress.see(attendance, state.has_ended(), now) {
-        let _ = tell_change(errors, attendance);
-    }
-    let tail = state.tail();
-    if plan.end.counters && progress.shows(now) {
-        let messages = state.messages();
-        let told = progress.told;
-        let counts = Counts {
-            messages,
-            tail,
-            told,
-            datagrams,
-        };
-        let _ = tell_counters(errors, counts);
-    }
-    let ending = progress.ending(attendance, tail, plan.linger, now);
-    if ending == Some(Ending::Short) {
-        let _ = tell_short(errors, progress.told, tail);
-    }
-    ending
+    let before = calls_of(sender.passes.duty.device());
+    begin(sender);
+    let busy = run_cycle(context, sender, now)?;
+    let cycle = look(before, sender.passes.duty.device());
+    Ok((busy, cycle))
 }
 
 /// Sends and keeps until the publisher ends. The answer is how, by the receivers that its device has heard.
@@ -183,17 +112,14 @@ pub fn send_all<R: Wait + Clock, D: Datagrams, E: Write>(
 ) -> Result<Ending, PublishFault>
     requires agent { SendsLog context.now.state.now.log sender.old.agent }
     requires passes { ArePasses context.now.state.now sender.old.passes }
-    ensures { IfOk result (λ ending. Ends sender.new.passes.duty.device.attendance context.now.plan.now.linger ending) }
+    ensures { IfOk result (λ ending. Ends sender.new.passes.duty.device.watch.attendance context.now.plan.now.linger context.now.plan.now.wait ending) }
 {
     let mut progress = Progress::new();
     let mut idle = IdleStrategy::new();
     for _ in context.rt.forever() {
         let now = context.state.began.moment(context.rt)?;
-        let busy = cycle(context, sender, now)?;
-        let device = sender.passes.duty.device();
-        let (attendance, datagrams) = (device.attendance(), device.datagrams());
-        let ending = judge(context, &mut progress, &attendance, datagrams, errors, now);
-        if let Some(ending) = ending {
+        let (busy, seen) = cycle(context, sender, now)?;
+        if let Some(ending) = judge(context, &mut progress, &seen, errors, now)? {
             return Ok(ending);
         }
         idle.after(context.rt, busy);

@@ -1,10 +1,11 @@
 //! What a publisher tells on its error output, a line each. An error is the output's.
 
-ghost use Rattle.std.specs.Prelude.{[], ◌∷◌, ◌++◌, OnOk, Some};
+ghost use Rattle.std.specs.Prelude.{OnOk, Some};
 ghost use Rattle.std.specs.Io.KnownBytes.{Appends};
-ghost use Rattle.publisher.specs.Texts.{change_text, counters_line, joined_text, left_text, short_text};
+ghost use Rattle.publisher.specs.Texts.{alone_line, change_text, counters_line, empty_line, ending_text, fault_line, joined_text, left_text, short_text, stream_text, traffic_text};
 
-use peer::{Attendance, Heard};
+use crate::fault::PublishFault;
+use peer::{Attendance, Ending, Heard, Tally};
 use std::io::Write;
 use std::{fmt, io};
 
@@ -34,24 +35,56 @@ impl fmt::Display for Joined {
     }
 }
 
-/// How many messages were accepted, where they end, what was told, and how many datagrams were sent.
+/// The session, how many messages were accepted in all and since this was told, where they end, what was told, and what the
+/// device has counted.
 #[derive(Clone, Copy)]
 pub(crate) struct Counts {
+    pub(crate) session: i32,
     pub(crate) messages: u64,
+    pub(crate) recent: u64,
     pub(crate) tail: u64,
     pub(crate) told: u64,
-    pub(crate) datagrams: u64,
+    pub(crate) tally: Tally,
+    pub(crate) lost: u64,
 }
 
-impl fmt::Display for Counts {
-    ghost output = { λ counts. Some (counters_line counts) };
+/// How far the stream is.
+#[derive(Clone, Copy)]
+struct Stream(Counts);
+
+impl fmt::Display for Stream {
+    ghost output = { λ stream. Some (stream_text stream.0) };
 
     fn fmt<W: fmt::Write>(&self, f: &mut fmt::Formatter<W>) -> fmt::Result {
-        let (messages, tail) = (self.messages, self.tail);
-        let (told, datagrams) = (self.told, self.datagrams);
+        let Counts {
+            session,
+            messages,
+            recent,
+            tail,
+            told,
+            ..
+        } = self.0;
         write!(
             f,
-            "messages {messages} tail {tail} told {told} datagrams {datagrams}"
+            "session {session} messages {messages} recent {recent} tail {tail} told {told}"
+        )
+    }
+}
+
+/// What went over the device.
+#[derive(Clone, Copy)]
+struct Traffic(Counts);
+
+impl fmt::Display for Traffic {
+    ghost output = { λ traffic. Some (traffic_text traffic.0) };
+
+    fn fmt<W: fmt::Write>(&self, f: &mut fmt::Formatter<W>) -> fmt::Result {
+        let (tally, lost) = (self.0.tally, self.0.lost);
+        let (datagrams, resends) = (tally.datagrams, tally.resends);
+        let (naks, disbelieved) = (tally.naks, tally.disbelieved);
+        write!(
+            f,
+            "datagrams {datagrams} resends {resends} naks {naks} lost {lost} disbelieved {disbelieved}"
         )
     }
 }
@@ -69,7 +102,7 @@ pub(crate) fn tell_change<E: Write>(errors: &mut E, attendance: &Attendance) -> 
 }
 
 /// It ends before all was received, where less than the tail was told.
-pub(crate) fn tell_short<E: Write>(errors: &mut E, told: u64, tail: u64) -> io::Result<()>
+fn tell_short<E: Write>(errors: &mut E, told: u64, tail: u64) -> io::Result<()>
     ensures { OnOk result (Appends (E.contents errors.old) (E.contents errors.new) (short_text told tail)) }
 {
     if told < tail {
@@ -78,9 +111,55 @@ pub(crate) fn tell_short<E: Write>(errors: &mut E, told: u64, tail: u64) -> io::
     Ok(())
 }
 
+/// The input was empty.
+fn tell_empty<E: Write>(errors: &mut E) -> io::Result<()>
+    ensures { OnOk result (Appends (E.contents errors.old) (E.contents errors.new) empty_line) }
+{
+    writeln!(errors, "the input was empty: nothing was published")
+}
+
+/// How it ends, where that isn't that all was received: of a stream from `start` to `tail` this was told.
+pub(crate) fn tell_ending<E: Write>(
+    errors: &mut E,
+    ending: Ending,
+    start: u64,
+    told: u64,
+    tail: u64,
+) -> io::Result<()>
+    ensures { OnOk result (Appends (E.contents errors.old) (E.contents errors.new) (ending_text ending start told tail)) }
+{
+    match ending {
+        Ending::Whole => {
+            if tail == start {
+                return tell_empty(errors);
+            }
+            Ok(())
+        }
+        Ending::Short => tell_short(errors, told, tail),
+    }
+}
+
+/// Nobody was heard for five seconds.
+pub(crate) fn tell_alone<E: Write>(errors: &mut E) -> io::Result<()>
+    ensures { OnOk result (Appends (E.contents errors.old) (E.contents errors.new) alone_line) }
+{
+    writeln!(
+        errors,
+        "nobody was heard for 5 s: no subscriber is at this port, or it takes another stream or session, or only shorter terms"
+    )
+}
+
+/// Why no message comes any more.
+pub(crate) fn tell_fault<E: Write>(errors: &mut E, fault: PublishFault) -> io::Result<()>
+    ensures { OnOk result (Appends (E.contents errors.old) (E.contents errors.new) (fault_line fault)) }
+{
+    writeln!(errors, "{fault}; what came before it is delivered first")
+}
+
 /// The counters.
 pub(crate) fn tell_counters<E: Write>(errors: &mut E, counts: Counts) -> io::Result<()>
-    ensures { OnOk result (Appends (E.contents errors.old) (E.contents errors.new) (counters_line counts ++ 10 ∷ [])) }
+    ensures { OnOk result (Appends (E.contents errors.old) (E.contents errors.new) (counters_line counts)) }
 {
-    writeln!(errors, "{counts}")
+    let (stream, traffic) = (Stream(counts), Traffic(counts));
+    writeln!(errors, "{stream} {traffic}")
 }

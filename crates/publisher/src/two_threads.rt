@@ -1,92 +1,140 @@
 //! The two threads of a publisher: one reads messages and offers them, the other sends, keeps the log and decides the end.
 
-ghost use Rattle.std.specs.Prelude.{◌≡◌, Err, IfErr, OnOk};
+ghost use Rattle.std.specs.Prelude.{◌≡◌, ◌+◌, ◌%◌, ◌^◌, ◌≤◌};
+ghost use Rattle.std.specs.Arc.{arc_value};
+ghost use Rattle.theory.specs.Position.{max_position};
 ghost use Rattle.shared_log.specs.Books.{IsDone};
 ghost use Rattle.agents.specs.LogSenders.{SendsLog};
+ghost use Rattle.peer.specs.Watching.{plus_one};
+ghost use Rattle.publisher.specs.Judging.{ended_by, fault_in};
 ghost use Rattle.publisher.specs.Openings.{ArePasses};
 
 use crate::fault::PublishFault;
+use crate::judging::fault_in;
+use crate::looking::ChannelDevice;
 use crate::publisher_context::PublisherContext;
+use crate::publisher_parts::sent_by;
+use crate::publisher_state::PublisherState;
 use crate::reader_thread::read_input;
+use crate::reading::Reading;
 use crate::sender_thread::{ChannelSender, send_all};
+use agents::Duty;
 use endpoint::{Datagrams, DeviceError};
-use peer::Ending;
+use options::PublishPlan;
+use peer::{Ending, farewell_bytes};
 use shared_log::Publisher;
+use std::alloc::Global;
 use std::io::{BufRead, Write};
-use std::sync::Wait;
+use std::sync::{Arc, Wait};
 use std::thread;
-use std::thread::{Scope, Threads};
-use std::time::Clock;
+use std::thread::Threads;
+use std::time::{Clock, Duration};
 
-/// How a publisher ended, by what was read and what was sent. The reading goes first: a message that couldn't be read is a
-/// fault however the sending went.
+/// How many times the stream's end is told.
+const FAREWELLS: u32 = 5;
+
+/// Milliseconds from one time to the next.
+const FAREWELL_PAUSE: u64 = 20;
+
+/// How a publisher ended, by how the reading ended, if it has, and by what was sent. The reading goes first: a message that
+/// couldn't be read is a fault however the sending went.
 fn ended(
-    read: Result<(), PublishFault>,
+    reading: &Option<Reading>,
     sent: Result<Ending, PublishFault>,
 ) -> Result<Ending, PublishFault>
-    ensures read { IfErr read (λ fault. result ≡ Err fault) }
-    ensures sent { OnOk read (result ≡ sent) }
+    ensures { result ≡ ended_by (fault_in reading.now) sent }
 {
-    read?;
-    sent
+    match fault_in(reading) {
+        Some(fault) => Err(fault),
+        None => sent,
+    }
 }
 
-/// Starts the thread that reads, sends until the publisher ends, and joins that thread.
-fn run_in<
-    's,
-    S,
-    R: Threads + Wait + Clock + Sync,
-    D: Datagrams + Drop,
-    I: BufRead + Send + Drop + 's,
-    E: Write,
->(
-    scope: &'s Scope<'s, S>,
-    context: &'s PublisherContext<'s, R>,
-    publisher: Publisher,
-    mut sender: ChannelSender<'_, D>,
+/// What the thread that reads does: it reads, and leaves in the state how that ended.
+fn read_there<R: Clock + Copy, I: BufRead + Drop>(
+    rt: R,
+    alloc: Global,
+    plan: PublishPlan,
+    state: Arc<PublisherState>,
     input: I,
+    publisher: Publisher,
+)
+    requires { IsDone (arc_value state).log publisher }
+{
+    let context = PublisherContext {
+        rt: &rt,
+        alloc,
+        plan: &plan,
+        state: &state,
+    };
+    let reading = read_input(&context, input, publisher);
+    state.end_input(reading);
+}
+
+/// Starts the thread that reads. Nobody joins it: how the reading ended stands in the state, once it has.
+pub(crate) fn start_reader<
+    R: Threads + Clock + Send + Copy + 'static,
+    I: BufRead + Send + Drop + 'static,
+>(
+    rt: &R,
+    alloc: Global,
+    plan: PublishPlan,
+    state: Arc<PublisherState>,
+    input: I,
+    publisher: Publisher,
+) -> Result<(), PublishFault>
+    requires { IsDone (arc_value state).log publisher }
+{
+    let there = *rt;
+    match thread::spawn(
+        rt,
+        move ||
+            requires { IsDone (arc_value state).log publisher }
+        { read_there(there, alloc, plan, state, input, publisher) },
+    ) {
+        Ok(_) => Ok(()),
+        Err(_) => Err(PublishFault::Failed(DeviceError::Device)),
+    }
+}
+
+/// Gives the device a datagram.
+fn give<D: Datagrams>(duty: &mut Duty<ChannelDevice<D>>, datagram: &[u8])
+    ensures { duty.new.device.watch.tally.datagrams ≡ plus_one duty.old.device.watch.tally.datagrams }
+{
+    let _ = duty.device_mut().send(datagram);
+}
+
+/// Tells the receivers where the stream ends: five times, 20 ms apart.
+fn tell_end<R: Clock, D: Datagrams>(
+    context: &PublisherContext<'_, R>,
+    duty: &mut Duty<ChannelDevice<D>>,
+    tail: u64,
+)
+    requires { tail ≤ max_position context.now.plan.now.geometry }
+    ensures { duty.new.device.watch.tally.datagrams ≡ (duty.old.device.watch.tally.datagrams + 5) % 2 ^ 64 }
+{
+    let farewell = farewell_bytes(&sent_by(context.plan), tail);
+    give(duty, &farewell);
+    for _count in 1..FAREWELLS {
+        let _ = thread::sleep(context.rt, Duration::from_millis(FAREWELL_PAUSE));
+        give(duty, &farewell);
+    }
+}
+
+/// Sends until the publisher ends, and tells the stream's end unless that is by a fault.
+pub(crate) fn run<R: Wait + Clock, D: Datagrams + Drop, E: Write>(
+    context: &PublisherContext<'_, R>,
+    mut sender: ChannelSender<'_, D>,
     errors: &mut E,
 ) -> Result<Ending, PublishFault>
-    requires done { IsDone context.now.state.now.log publisher }
     requires agent { SendsLog context.now.state.now.log sender.agent }
     requires passes { ArePasses context.now.state.now sender.passes }
 {
-    let Ok(reader) = scope.spawn(
-        move || -> Result<(), PublishFault>
-            requires { IsDone context.now.state.now.log publisher }
-        { read_input(context, input, publisher) },
-    ) else {
-        return Err(PublishFault::Failed(DeviceError::Device));
-    };
     let sent = send_all(context, &mut sender, errors);
     context.state.stop();
-    ended(reader.join(context.rt), sent)
-}
-
-/// Reads messages in a thread of its own, and sends here until the publisher ends. The answer is how it ended. The fault of the
-/// reading goes before that of the sending; it is `Device`, too, where the thread can't be started.
-pub fn run_threads<
-    'a,
-    R: Threads + Wait + Clock + Sync,
-    D: Datagrams + Drop,
-    I: BufRead + Send + Drop,
-    E: Write,
->(
-    context: &'a PublisherContext<'a, R>,
-    publisher: Publisher,
-    sender: ChannelSender<'a, D>,
-    input: I,
-    errors: &'a mut E,
-) -> Result<Ending, PublishFault>
-    requires done { IsDone context.now.state.now.log publisher }
-    requires agent { SendsLog context.now.state.now.log sender.agent }
-    requires passes { ArePasses context.now.state.now sender.passes }
-{
-    thread::scope(
-        thread::scope_env(),
-        context.rt,
-        move |scope| -> Result<Ending, PublishFault>
-            requires { IsDone context.now.state.now.log publisher × SendsLog context.now.state.now.log sender.agent × ArePasses context.now.state.now sender.passes }
-        { run_in(scope, context, publisher, sender, input, errors) },
-    )
+    let ending = ended(&context.state.reading(), sent)?;
+    let greatest = context.plan.geometry.max_position();
+    let tail = context.state.tail().min(greatest);
+    tell_end(context, &mut sender.passes.duty, tail);
+    Ok(ending)
 }

@@ -1,0 +1,149 @@
+//! What a publisher tells after a cycle, and whether it ends by it.
+
+ghost use Rattle.std.specs.Prelude.{◌≡◌, ◌||◌, true, ℕ, if◌then◌else◌, Err, IfOk, IfSome, IsTrue, OnErr, OnOk};
+ghost use Rattle.endpoint.specs.declared.device_error.DeviceError.TheVariants.{Device};
+ghost use Rattle.peer.specs.Silences.{seen_at};
+ghost use Rattle.publisher.specs.declared.fault.PublishFault.TheVariants.{Failed};
+ghost use Rattle.publisher.specs.Inputs.{IsStop};
+ghost use Rattle.publisher.specs.Judging.{device_fault, end_in, fault_in, input_fault};
+ghost use Rattle.publisher.specs.Progress.{Judges, is_alone, is_broken, seen, shown_at, with_work};
+
+use crate::fault::PublishFault;
+use crate::looking::Seen;
+use crate::progress::{Progress, told_in};
+use crate::publisher_context::PublisherContext;
+use crate::reading::Reading;
+use crate::telling::{Counts, tell_alone, tell_change, tell_counters, tell_ending, tell_fault};
+use endpoint::DeviceError;
+use peer::Ending;
+use std::io::Write;
+
+/// Why the reading stopped, if that wasn't the input's end.
+pub(crate) fn fault_in(reading: &Option<Reading>) -> Option<PublishFault>
+    ensures fault { result ≡ fault_in reading.now }
+    ensures stops { IfSome result (λ fault. ∥ IsStop fault ∥₁) }
+{
+    match *reading {
+        None => None,
+        Some(ref reading) => reading.fault,
+    }
+}
+
+/// Where the stream ends, if the reading has: where the accepted messages do.
+fn end_in(reading: &Option<Reading>, tail: u64) -> Option<u64>
+    ensures { result ≡ end_in reading.now tail }
+{
+    match *reading {
+        None => None,
+        Some(_) => Some(tail),
+    }
+}
+
+/// The fault is `Device` where each call of the device failed for `linger` nanoseconds.
+fn check_device(
+    progress: &mut Progress,
+    cycle: &Seen,
+    linger: u64,
+    now: u64,
+) -> Result<(), PublishFault>
+    ensures broken { result ≡ device_fault (is_broken progress.old cycle.now.worked linger now) }
+    ensures seen { progress.new ≡ with_work progress.old cycle.now.worked now }
+{
+    if progress.is_broken(cycle.worked, linger, now) {
+        return Err(PublishFault::Failed(DeviceError::Device));
+    }
+    Ok(())
+}
+
+/// Tells once why no message comes any more, where messages came before. Where none did, that is the publisher's fault.
+fn check_input<E: Write>(
+    progress: &mut Progress,
+    fault: PublishFault,
+    messages: u64,
+    errors: &mut E,
+) -> Result<(), PublishFault>
+    ensures stops { result ≡ input_fault fault messages }
+    ensures told { OnOk result (progress.new ≡ record progress.old { faulted = true }) }
+    ensures kept { OnErr result (progress.new ≡ progress.old) }
+{
+    if messages == 0 {
+        return Err(fault);
+    }
+    if !progress.faulted {
+        progress.faulted = true;
+        let _ = tell_fault(errors, fault);
+    }
+    Ok(())
+}
+
+/// Tells which receivers come and go, and once that none does.
+fn tell_receivers<E: Write>(progress: &mut Progress, cycle: &Seen, errors: &mut E, now: u64)
+    ensures { progress.new ≡ record (seen progress.old cycle.now now) { alone = progress.old.alone || is_alone progress.old cycle.now.attendance now } }
+{
+    if progress.see(cycle, now) {
+        let _ = tell_change(errors, &cycle.attendance);
+    }
+    if progress.is_alone(&cycle.attendance, now) {
+        let _ = tell_alone(errors);
+    }
+}
+
+/// Tells the counters once a second, where they are asked for.
+fn tell_counts<R, E: Write>(
+    context: &PublisherContext<'_, R>,
+    progress: &mut Progress,
+    cycle: &Seen,
+    errors: &mut E,
+    now: u64,
+)
+    ensures { (messages : ℕ) × (progress.new ≡ (if context.now.plan.now.end.counters then shown_at progress.old messages now else progress.old)) }
+{
+    let (plan, messages) = (context.plan, context.state.messages());
+    if !plan.end.counters {
+        return;
+    }
+    if let Some(recent) = progress.shows(messages, now) {
+        let counts = Counts {
+            session: plan.session,
+            messages,
+            recent,
+            tail: context.state.tail(),
+            told: told_in(&cycle.attendance),
+            tally: cycle.tally,
+            lost: cycle.lost,
+        };
+        let _ = tell_counters(errors, counts);
+    }
+}
+
+/// Tells what has changed and what is due. The answer is how the publisher ends, if it does.
+///
+/// The fault is `Device` where each call of the device failed for the plan's linger, and the input's where no message was
+/// accepted before it.
+pub(crate) fn judge<R, E: Write>(
+    context: &PublisherContext<'_, R>,
+    progress: &mut Progress,
+    cycle: &Seen,
+    errors: &mut E,
+    now: u64,
+) -> Result<Option<Ending>, PublishFault>
+    ensures judges { IfOk result (λ ending. Judges progress.new cycle.now context.now.plan.now.linger context.now.plan.now.wait now ending) }
+    ensures seen { IfOk result (λ _. progress.new.statuses ≡ seen_at progress.old.statuses cycle.now.tally.statuses now) }
+    ensures broken { IsTrue (is_broken progress.old cycle.now.worked context.now.plan.now.linger now) → result ≡ Err (Failed Device) }
+{
+    let (plan, state) = (context.plan, context.state);
+    let reading = state.reading();
+    let (messages, tail) = (state.messages(), state.tail());
+    check_device(progress, cycle, plan.linger, now)?;
+    if let Some(fault) = fault_in(&reading) {
+        check_input(progress, fault, messages, errors)?;
+    }
+    tell_receivers(progress, cycle, errors, now);
+    tell_counts(context, progress, cycle, errors, now);
+    let ending = progress.ending(cycle, end_in(&reading, tail), plan.linger, plan.wait, now);
+    if let Some(ending) = ending {
+        let (start, told) = (cycle.attendance.start, told_in(&cycle.attendance));
+        let _ = tell_ending(errors, ending, start, told, tail);
+    }
+    Ok(ending)
+}

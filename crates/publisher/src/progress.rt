@@ -1,0 +1,119 @@
+//! What a publisher has seen and told.
+
+ghost use Rattle.std.specs.Prelude.{◌≡◌, ◌||◌, not, nat_eq};
+ghost use Rattle.publisher.specs.Progress.{ending_seen, is_alone, is_broken, is_nobody, is_shown, nothing_seen, seen, shown_at, shown_messages, told_of, with_work};
+
+use crate::looking::Seen;
+use peer::{Attendance, Ending, Silence};
+
+/// Nanoseconds from one line of counters to the next.
+const SECOND: u64 = 1_000_000_000;
+
+/// Nanoseconds after which it is told that nobody was heard.
+const ALONE: u64 = 5_000_000_000;
+
+/// How often receivers had changed, since when no status message was noted and no call of the device worked, when counters
+/// were told last and how many messages there were then, and whether it was told that nobody was heard, and why the input
+/// stopped.
+#[derive(Clone, Copy)]
+pub(crate) struct Progress {
+    changes: u64,
+    pub(crate) statuses: Silence,
+    worked: Silence,
+    shown: u64,
+    messages: u64,
+    alone: bool,
+    pub(crate) faulted: bool,
+}
+
+/// What the receiver that was heard last has told; before anybody was heard it is the start.
+pub(crate) fn told_in(attendance: &Attendance) -> u64
+    ensures { result ≡ told_of attendance.now }
+{
+    match attendance.present {
+        None => attendance.start,
+        Some(heard) => heard.last,
+    }
+}
+
+fn is_nobody(attendance: &Attendance) -> bool
+    ensures { result ≡ is_nobody attendance.now.present }
+{
+    attendance.present.is_none()
+}
+
+impl Progress {
+    pub(crate) fn new() -> Progress
+        ensures { result ≡ nothing_seen }
+    {
+        Progress {
+            changes: 0,
+            statuses: Silence::new(),
+            worked: Silence::new(),
+            shown: 0,
+            messages: 0,
+            alone: false,
+            faulted: false,
+        }
+    }
+
+    /// Sees what was heard up to a moment. Whether receivers have changed.
+    pub(crate) fn see(&mut self, cycle: &Seen, now: u64) -> bool
+        ensures changed { result ≡ not (nat_eq cycle.now.attendance.changes self.old.changes) }
+        ensures seen { self.new ≡ seen self.old cycle.now now }
+    {
+        let changed = cycle.attendance.changes != self.changes;
+        self.changes = cycle.attendance.changes;
+        self.statuses.see(cycle.tally.statuses, now);
+        changed
+    }
+
+    /// Sees how many calls of the device have worked. Whether none did for so long, in nanoseconds.
+    pub(crate) fn is_broken(&mut self, worked: u64, linger: u64, now: u64) -> bool
+        ensures broken { result ≡ is_broken self.old worked linger now }
+        ensures seen { self.new ≡ with_work self.old worked now }
+    {
+        let works = self.worked.see(worked, now);
+        !works && linger <= self.worked.lasts(now)
+    }
+
+    /// How many messages were accepted since counters were told, if they are to be told at this moment; then the next second
+    /// begins.
+    pub(crate) fn shows(&mut self, messages: u64, now: u64) -> Option<u64>
+        ensures due { result ≡ shown_messages self.old messages now }
+        ensures shown { self.new ≡ shown_at self.old messages now }
+    {
+        if now.saturating_sub(self.shown) < SECOND {
+            return None;
+        }
+        let recent = messages.saturating_sub(self.messages);
+        self.shown = now;
+        self.messages = messages;
+        Some(recent)
+    }
+
+    /// Whether it is to be told at this moment that nobody was heard. Once it was, it isn't again.
+    pub(crate) fn is_alone(&mut self, attendance: &Attendance, now: u64) -> bool
+        ensures due { result ≡ is_alone self.old attendance.now now }
+        ensures told { self.new ≡ record self.old { alone = self.old.alone || result } }
+    {
+        let alone = !self.alone && is_nobody(attendance) && ALONE <= now;
+        self.alone = self.alone || alone;
+        alone
+    }
+
+    /// How the publisher ends by what was seen, if it does: its stream ends at `end`, if its input has ended.
+    pub(crate) fn ending(
+        &self,
+        cycle: &Seen,
+        end: Option<u64>,
+        linger: u64,
+        wait: u64,
+        now: u64,
+    ) -> Option<Ending>
+        ensures { result ≡ ending_seen self.now cycle.now end linger wait now }
+    {
+        let silence = self.statuses.judged(cycle.at_rest, now);
+        cycle.attendance.ending(end, silence, linger, wait)
+    }
+}
