@@ -1,5 +1,5 @@
 -- What the plans are made of, and why what an end is told makes none.
-use Rattle.std.specs.Prelude.{◌≡◌, ◌+◌, ◌*◌, ◌%◌, ◌<◌, ◌⊎◌, ℕ, ℤ, Bool, List, pos, Option, None, Some, unwrap_or, if◌then◌else◌}
+use Rattle.std.specs.Prelude.{◌≡◌, ◌+◌, ◌*◌, ◌%◌, ◌<◌, ◌⊎◌, ℕ, ℤ, Bool, ◌&&◌, nat_eq, List, pos, Option, None, Some, unwrap_or, if◌then◌else◌}
 use Rattle.theory.specs.Loss as loss
 use Rattle.theory.specs.Position.{Geometry, IsGeometry, IsMtu, IsTermLength, count_of}
 use Rattle.messages.specs.declared.form.Form.{Form}
@@ -94,6 +94,10 @@ ExplainsNoPublishPlan o d f = IsNoChannel o.end.channel.now f ⊎ ((c : Channel)
 
 -- ---- a subscriber
 
+-- one that ends with the stream waits for 30 seconds where none are told
+abbrev pub quiet_of : SubscribeOptions → ℕ
+quiet_of o = if o.once && nat_eq o.quiet 4294967295 then 30 else o.quiet
+
 pub record IsSubscribePlanOf (o : SubscribeOptions) (d : Drawn) (p : SubscribePlan) : Type 0 where
   pub channel : Channel
   pub read : IsChannel o.end.channel.now channel
@@ -102,7 +106,8 @@ pub record IsSubscribePlanOf (o : SubscribeOptions) (d : Drawn) (p : SubscribePl
   pub greatest_term : p.greatest_term ≡ unwrap_or channel.term_length 16777216
   pub receiver : p.receiver ≡ d.receiver
   pub messages : p.messages ≡ o.messages
-  pub quiet : p.quiet ≡ o.quiet * 1000000000
+  pub quiet : p.quiet ≡ quiet_of o * 1000000000
+  pub once : p.once ≡ o.once
 
 -- the rates pass a thousand
 abbrev pub IsRatesFault : EndOptions → EndFault → Type 0

@@ -35,4 +35,6 @@ pub struct SubscribeOptions<'a> {
     pub messages: u64,
     /// After how many seconds without a datagram it ends.
     pub quiet: u32,
+    /// Whether it ends with the stream.
+    pub once: bool,
 }

@@ -49,4 +49,6 @@ pub struct SubscribePlan {
     pub messages: u64,
     /// After how many nanoseconds without a datagram it ends.
     pub quiet: u64,
+    /// Whether it ends with the stream.
+    pub once: bool,
 }

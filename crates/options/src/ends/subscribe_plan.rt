@@ -1,7 +1,7 @@
 //! A subscriber's plan.
 
-ghost use Rattle.std.specs.Prelude.{◌<◌, ◌^◌, IfErr, IfOk};
-ghost use Rattle.options.specs.Ends.Plans.{ExplainsNoSubscribePlan, IsSubscribePlanOf};
+ghost use Rattle.std.specs.Prelude.{◌≡◌, ◌<◌, ◌^◌, IfErr, IfOk};
+ghost use Rattle.options.specs.Ends.Plans.{ExplainsNoSubscribePlan, IsSubscribePlanOf, quiet_of};
 
 use crate::ends::end_plan::{NANOSECONDS_PER_SECOND, end_plan};
 use crate::ends::fault::EndFault;
@@ -12,6 +12,22 @@ use channel::read_channel;
 
 /// The longest term that there is.
 const GREATEST_TERM: u32 = 16_777_216;
+
+/// The seconds without a datagram that a subscriber is told where none are named.
+const NO_QUIET: u32 = u32::MAX;
+
+/// How long one that ends with the stream waits where none are named, in seconds.
+const ONCE_QUIET: u32 = 30;
+
+/// After how many seconds without a datagram it ends.
+fn quiet_of(options: &SubscribeOptions<'_>) -> u32
+    ensures { result ≡ quiet_of options.now }
+{
+    if options.once && options.quiet == NO_QUIET {
+        return ONCE_QUIET;
+    }
+    options.quiet
+}
 
 /// What a subscriber is made of, with a drawn id. The channel is judged first, then the rates.
 pub fn subscribe_plan<'a>(
@@ -33,6 +49,7 @@ pub fn subscribe_plan<'a>(
         greatest_term: channel.term_length.unwrap_or(GREATEST_TERM),
         receiver: drawn.receiver,
         messages: options.messages,
-        quiet: u64::from(options.quiet) * NANOSECONDS_PER_SECOND,
+        quiet: u64::from(quiet_of(options)) * NANOSECONDS_PER_SECOND,
+        once: options.once,
     })
 }
