@@ -1,6 +1,8 @@
 //! A device round another, through which datagrams get lost.
 
 ghost use Rattle.std.specs.Prelude.{◌≡◌, IfOk, OnErr, map};
+ghost use Rattle.std.specs.Borrow.{Lends, sem};
+ghost use Rattle.loss_injector.specs.contracts.lossy.Lossy.{the_row};
 ghost use Rattle.endpoint.specs.Calls.{Receives, Sends};
 ghost use Rattle.endpoint.specs.Devices.{NeverFall};
 ghost use Rattle.loss_injector.specs.Injecting.{Gives};
@@ -54,6 +56,14 @@ impl<D> Lossy<D> {
         ensures { result.now ≡ self.now.inner }
     {
         &self.inner
+    }
+
+    /// The device behind it, to be changed.
+    pub fn inner_mut(&mut self) -> &mut D
+        ensures value { result.now ≡ self.old.inner }
+        ensures* writes_back { sem 𝓛 (Lends (the_row D.row) D.row self.entry result (λ w. record self.old { inner = w })) }
+    {
+        &mut self.inner
     }
 }
 

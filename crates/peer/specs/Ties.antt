@@ -1,16 +1,30 @@
--- What a contract sees of a device that is tied to a peer.
-use Rattle.std.specs.Prelude.{◌≡◌, ◌⊎◌, ℕ, Option, None, Some, Result, Ok, Err}
-use Rattle.endpoint.specs.Devices.{Device, counted, with_failure, with_none}
+-- What a contract sees of a subscriber's socket, and of a device over it that is tied to a peer.
+use Rattle.std.specs.Prelude.{◌≡◌, ◌≢◌, ◌⊎◌, ℕ, List, length, take, min, Option, None, Some, Result, Ok, Err}
+use Rattle.std.specs.declared.net.SocketAddr.{SocketAddr}
+use Rattle.endpoint.specs.Devices.{Device, counted, fresh, with_failure, with_none}
 use Rattle.endpoint.specs.declared.datagrams.DeviceFailed.{DeviceFailed}
 use Rattle.peer.specs.declared.tied.Tie.{Tie}
+
+-- a datagram that came, and who sent it
+pub record Came : Type 0 where
+  pub from : SocketAddr
+  pub bytes : List ℕ
 
 pub record Tied : Type 0 where
   -- its counts; the system doesn't tell what was carried
   pub device : Device
+  -- the one whose datagrams it hands over, and to whom it sends
+  pub peer : SocketAddr
   -- how many datagrams of the peer it has handed over
   pub heard : ℕ
   -- how many of others it has thrown away
   pub strangers : ℕ
+  -- what came at the last receive
+  pub last : Option Came
+
+-- a socket is tied to a peer
+abbrev pub tied_to : Option Came → SocketAddr → Tied
+tied_to last peer = record { device = fresh; peer = peer; heard = 0; strangers = 0; last = last }
 
 -- a datagram of the peer came
 abbrev pub tie_heard : Tie → Tie
@@ -32,8 +46,24 @@ with_stranger t = record (with_nothing t) { strangers = counted t.strangers }
 abbrev pub with_fault : Tied → Tied
 with_fault t = record t { device = with_failure t.device }
 
--- a receive: what was handed over is the peer's, and counted as heard; nothing came, or another's, which is counted; or it failed
-abbrev pub HandsOver : Tied → Result (Option ℕ) DeviceFailed → Tied → Type 0
-HandsOver old (Ok (Some n)) new = new ≡ with_heard old
-HandsOver old (Ok None) new = (new ≡ with_nothing old) ⊎ (new ≡ with_stranger old)
-HandsOver old (Err e) new = new ≡ with_fault old
+-- what came was the peer's: its first bytes stand at the buffer's front, and it is counted as heard
+pub record HandsPeers (old : Tied) (n : ℕ) (buffer : List ℕ) (new : Tied) : Type 0 where
+  pub bytes : List ℕ
+  pub came : new.last ≡ Some (record { from = old.peer; bytes = bytes })
+  pub size : n ≡ min (length bytes) (length buffer)
+  pub front : take n buffer ≡ take n bytes
+  pub is : new ≡ record (with_heard old) { last = new.last }
+
+-- what came was another's, which is counted
+pub record PassesStranger (old new : Tied) : Type 0 where
+  pub from : SocketAddr
+  pub bytes : List ℕ
+  pub came : new.last ≡ Some (record { from = from; bytes = bytes })
+  pub other : from ≢ old.peer
+  pub is : new ≡ record (with_stranger old) { last = new.last }
+
+-- a receive hands over what came from the peer; nothing or another's came; or it failed
+abbrev pub HandsOver : Tied → Result (Option ℕ) DeviceFailed → List ℕ → Tied → Type 0
+HandsOver old (Ok (Some n)) buffer new = HandsPeers old n buffer new
+HandsOver old (Ok None) buffer new = (new ≡ record (with_nothing old) { last = None }) ⊎ PassesStranger old new
+HandsOver old (Err e) buffer new = new ≡ record (with_fault old) { last = None }

@@ -3,6 +3,8 @@
 ghost use Rattle.std.specs.Prelude.{◌≡◌, ◌≤◌, IsOk, Ok};
 ghost use Rattle.endpoint.specs.Calls.{CountsNone, Receives, Sends};
 ghost use Rattle.endpoint.specs.Devices.{HasGrown, NeverFall};
+ghost use Rattle.std.specs.Borrow.{Lends, sem};
+ghost use Rattle.peer.specs.contracts.patient.PatientDevice.{the_row};
 ghost use Rattle.peer.specs.Patience.{ReceivesPatiently, SendsPatiently, after_receive, after_send, found_by, patient, patient_device, with_loss, with_nothing, with_work};
 
 use endpoint::{Datagrams, DeviceFailed};
@@ -44,6 +46,14 @@ impl<D> PatientDevice<D> {
         ensures { result.now ≡ self.now.inner }
     {
         &self.inner
+    }
+
+    /// The device behind it, to be changed.
+    pub fn inner_mut(&mut self) -> &mut D
+        ensures value { result.now ≡ self.old.inner }
+        ensures* writes_back { sem 𝓛 (Lends (the_row D.row) D.row self.entry result (λ w. record self.old { inner = w })) }
+    {
+        &mut self.inner
     }
 
     /// How many calls of the inner device failed. At the greatest `u64` it stays.

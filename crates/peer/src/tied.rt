@@ -1,14 +1,14 @@
 //! A subscriber's end that is tied to one peer.
 
-ghost use Rattle.std.specs.Prelude.{◌≡◌, ◌↔◌, IsTrue, OnErr, OnOk, if◌then◌else◌};
+ghost use Rattle.std.specs.Prelude.{◌≡◌, ◌↔◌, IsTrue, OnErr, OnOk, if◌then◌else◌, option_map};
 ghost use Rattle.endpoint.specs.Calls.{Receives, Sends};
-ghost use Rattle.endpoint.specs.Devices.{HasGrown, NeverFall, fresh};
-ghost use Rattle.peer.specs.Ties.{HandsOver, tie_heard, tie_passed, with_fault, with_nothing};
+ghost use Rattle.endpoint.specs.Devices.{HasGrown, NeverFall};
+ghost use Rattle.peer.specs.Ties.{HandsOver, tie_heard, tie_passed, tied_to, with_fault, with_nothing};
 
-use crate::fault::is_loss;
+use crate::listener::Listener;
 use endpoint::{Datagrams, DeviceFailed};
 use std::marker::Model;
-use std::net::{SocketAddr, UdpSocket};
+use std::net::SocketAddr;
 
 /// The one peer, how many datagrams of it came, and how many of others.
 #[derive(Clone, Copy, Debug, PartialEq, Eq)]
@@ -33,13 +33,11 @@ impl Tie {
     }
 }
 
-/// A device with one peer. What others have sent, before the system kept them away, it throws away and counts. A call that
-/// finds the system not ready, or its peer's port closed, hasn't failed: what was to be sent is lost, and nothing has come.
+/// A device with one peer, over a subscriber's socket. What others send it throws away and counts. A call that finds the
+/// system not ready hasn't failed: what was to be sent is lost, and nothing has come.
 #[derive(Drop)]
 pub struct TiedDevice {
-    socket: UdpSocket,
-    // What came is taken here first, so that a caller's buffer changes only where a datagram stands.
-    arrived: Vec<u8>,
+    listener: Listener,
     tie: Tie,
     failures: u64,
     nones: u64,
@@ -51,17 +49,16 @@ impl Model for TiedDevice {
 
     ghost Value = { Tied };
 
-    ghost view = { λ t. record { device = record { sent = []; received = []; failures = t.failures; nones = t.nones }; heard = t.tie.heard; strangers = t.tie.strangers } };
+    ghost view = { λ t. record { device = record { sent = []; received = []; failures = t.failures; nones = t.nones }; peer = t.tie.peer; heard = t.tie.heard; strangers = t.tie.strangers; last = t.listener } };
 }
 
 impl TiedDevice {
-    /// A device over a socket that is connected to this peer.
-    pub(crate) fn new(socket: UdpSocket, arrived: Vec<u8>, peer: SocketAddr) -> TiedDevice
-        ensures { result ≡ record { device = fresh; heard = 0; strangers = 0 } }
+    /// A device over this socket whose peer this is.
+    pub fn new(listener: Listener, peer: SocketAddr) -> TiedDevice
+        ensures { result ≡ tied_to listener peer }
     {
         TiedDevice {
-            socket,
-            arrived,
+            listener,
             tie: Tie {
                 peer,
                 heard: 0,
@@ -70,6 +67,27 @@ impl TiedDevice {
             failures: 0,
             nones: 0,
         }
+    }
+
+    /// Makes this its peer from now on.
+    pub fn tie(&mut self, peer: SocketAddr)
+        ensures { self.new ≡ record self.old { peer = peer } }
+    {
+        self.tie.peer = peer;
+    }
+
+    /// Its peer.
+    pub fn peer(&self) -> SocketAddr
+        ensures { result ≡ self.now.peer }
+    {
+        self.tie.peer
+    }
+
+    /// The datagram that came at the last receive, and who sent it, the peer or another.
+    pub fn last(&self) -> Option<(SocketAddr, &[u8])>
+        ensures { option_map (λ r. record { from = r.0; bytes = r.1.now }) result ≡ self.now.last }
+    {
+        self.listener.last()
     }
 
     /// How many datagrams of the peer it has handed over. At the greatest `u64` it stays.
@@ -111,40 +129,38 @@ impl Datagrams for TiedDevice {
 
     ghost tells = { λ _. ⊥ };
 
-    /// Hands a datagram to the system.
+    /// Hands a datagram for the peer to the system.
     fn send(&mut self, datagram: &[u8]) -> Result<(), DeviceFailed>
         ensures counts { NeverFall self.old.device self.new.device }
         ensures sends { Sends ⊥ self.old.device datagram.now result self.new.device }
         ensures sent { OnOk result (self.new ≡ self.old) }
         ensures failed { OnErr result (self.new ≡ with_fault self.old) }
     {
-        match self.socket.send(datagram) {
-            Err(error) if !is_loss(&error) => Err(self.fail()),
-            _ => Ok(()),
+        match self.listener.send(self.tie.peer, datagram) {
+            Ok(()) => Ok(()),
+            Err(_) => Err(self.fail()),
         }
     }
 
     fn recv(&mut self, buffer: &mut [u8]) -> Result<Option<usize>, DeviceFailed>
         ensures counts { NeverFall self.old.device self.new.device }
         ensures receives { Receives ⊥ self.old.device buffer.old result buffer.new self.new.device }
-        ensures takes { HandsOver self.old result self.new }
+        ensures takes { HandsOver self.old result buffer.new self.new }
     {
-        match self.socket.recv_from(self.arrived.as_mut_slice()) {
-            Ok((arrived, from)) => {
-                if !self.tie.count(from) {
-                    self.find_none();
-                    return Ok(None);
-                }
-                let length = arrived.min(buffer.len());
-                buffer[..length].copy_from_slice(&self.arrived[..length]);
-                Ok(Some(length))
-            }
-            Err(error) if is_loss(&error) => {
-                self.find_none();
-                Ok(None)
-            }
-            Err(_) => Err(self.fail()),
+        if self.listener.hear().is_err() {
+            return Err(self.fail());
         }
+        let Some((from, datagram)) = self.listener.last() else {
+            self.find_none();
+            return Ok(None);
+        };
+        if !self.tie.count(from) {
+            self.find_none();
+            return Ok(None);
+        }
+        let length = datagram.len().min(buffer.len());
+        buffer[..length].copy_from_slice(&datagram[..length]);
+        Ok(Some(length))
     }
 
     fn failures(&self) -> u64 {

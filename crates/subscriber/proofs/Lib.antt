@@ -1,2 +1,5 @@
 pub mod Writing
 pub mod Written
+pub mod Openings
+pub mod Windows
+pub mod Calling

@@ -1,9 +1,9 @@
 -- Messages that were written, and more behind them.
-use Rattle.std.proofs.Common.{◌≡◌, ◌∙◌, ℕ, ◌+◌, List, [], ◌∷◌, ◌++◌, length, Option, refl, sym, ap, subst, arith, length-append}
+use Rattle.std.proofs.Common.{ℕ, List, [], ◌++◌, Option, sym, subst, arith, length-append}
 use Rattle.std.specs.Io.KnownBytes.{Appends}
 use Rattle.std.proofs.KnownBytes.{Appends-nil, Appends-trans}
 use Rattle.std.proofs.lemmas.Grind.{flat_map-append}
-use Rattle.messages.specs.Forms.{spelled, spelling}
+use Rattle.messages.specs.Forms.{spelled}
 use Rattle.messages.specs.declared.form.Form.{Form}
 use Rattle.subscriber.specs.Writings.{Writes}
 

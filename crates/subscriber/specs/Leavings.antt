@@ -1,29 +1,56 @@
--- When a subscriber has heard its peer, why it leaves an image, and why it can't begin.
-use Rattle.std.specs.Prelude.{◌≡◌, ◌⊎◌, ◌<◌, ◌≤◌, ℕ, Option, None, Some}
+-- When a subscriber has heard its session, why it ends, and why it can't begin.
+use Rattle.std.specs.Prelude.{◌≡◌, ◌⊎◌, ◌≤◌, ℕ, false, IsTrue, Option, None, Some}
 use Rattle.peer.specs.declared.fault.BindError.{BindError}
 use Rattle.peer.specs.declared.fault.BindError.TheVariants as binds
 use Rattle.options.specs.declared.ends.plans.SubscribePlan.{SubscribePlan}
-use Rattle.subscriber.specs.Watches.{IsQuiet, IsSilent, Seen, hearing}
+use Rattle.receiver.specs.Receiving.{Receiver}
+use Rattle.receiver.specs.Subscribing.{RepresentsSubscriber, Subscribing}
+use Rattle.subscriber.specs.Meetings.{StandsAt}
+use Rattle.subscriber.specs.Watches.{IsQuiet, Seen, hearing, working}
 use Rattle.subscriber.specs.declared.fault.SubscribeFault.{SubscribeFault}
 use Rattle.subscriber.specs.declared.fault.SubscribeFault.TheVariants.{Taken, Failed}
-use Rattle.subscriber.specs.declared.following.Leaving.{Leaving}
-use Rattle.subscriber.specs.declared.following.Leaving.TheVariants.{Ended, Silent}
+use Rattle.subscriber.specs.declared.ended.Ending.{Ending}
+use Rattle.subscriber.specs.declared.ended.Ending.TheVariants.{Whole, Short}
 
--- a peer was heard so often before a cycle and behind it; where that is more, a datagram came at the moment
+-- frames of the session were counted before a cycle and behind it; where that is another number, one came at the moment
 pub record NotesHeard (before after : ℕ) (old new : Seen) : Type 0 where
   pub still : after ≡ before → new ≡ old
   pub heard : (after ≡ before → ⊥) → new ≡ hearing old
 
--- more messages are wanted, and a datagram came lately enough
-pub record Waits (plan : SubscribePlan) (written : ℕ) (s : Seen) : Type 0 where
-  pub more : written < plan.messages
-  pub heard : ¬ IsQuiet plan s
+-- calls of its socket that worked were counted before a cycle and behind it; where that is another number, one did at the moment
+pub record NotesWork (before after : ℕ) (old new : Seen) : Type 0 where
+  pub still : after ≡ before → new ≡ old
+  pub worked : (after ≡ before → ⊥) → new ≡ working old
 
--- behind so many messages, at the watch's moment
-abbrev pub IsWhyLeft : SubscribePlan → ℕ → Seen → Option Leaving → Type 0
-IsWhyLeft plan written s (Some Ended) = (plan.messages ≤ written) ⊎ IsQuiet plan s
-IsWhyLeft plan written s (Some Silent) = Waits plan written s × IsSilent s
-IsWhyLeft plan written s None = Waits plan written s × ¬ IsSilent s
+-- the subscriber's consumer stands here
+abbrev pub StandsHere : Subscribing → ℕ → Type 0
+StandsHere s at = (r : Receiver) → RepresentsSubscriber s r → StandsAt r.image at
+
+-- the stream was told to end, and the consumer stands there or behind it
+abbrev pub HasAll : Option ℕ → ℕ → Type 0
+HasAll None at = ⊥
+HasAll (Some end) at = end ≤ at
+
+-- as many messages are written as were wanted; or it was to end with the stream, and has all of it
+abbrev pub IsDone : SubscribePlan → ℕ → Option ℕ → ℕ → Type 0
+IsDone plan written end at = (plan.messages ≤ written) ⊎ (IsTrue plan.once × HasAll end at)
+
+-- how one ends that is quiet: short where it was to end with the stream
+abbrev pub IsQuietEnding : SubscribePlan → Ending → Type 0
+IsQuietEnding plan Whole = plan.once ≡ false
+IsQuietEnding plan Short = IsTrue plan.once
+
+-- it isn't done yet, but quiet
+pub record IsGivenUp (plan : SubscribePlan) (written : ℕ) (s : Seen) (end : Option ℕ) (at : ℕ) (how : Ending) : Type 0 where
+  pub undone : ¬ IsDone plan written end at
+  pub quiet : IsQuiet plan s
+  pub ending : IsQuietEnding plan how
+
+-- how it ends behind so many messages, at the watch's moment, where its consumer stands here
+abbrev pub IsEnding : SubscribePlan → ℕ → Seen → Option ℕ → ℕ → Option Ending → Type 0
+IsEnding plan written s end at (Some Whole) = IsDone plan written end at ⊎ IsGivenUp plan written s end at Whole
+IsEnding plan written s end at (Some Short) = IsGivenUp plan written s end at Short
+IsEnding plan written s end at None = (¬ IsDone plan written end at) × (¬ IsQuiet plan s)
 
 -- why there is no listener at this port
 abbrev pub of_bind : ℕ → BindError → SubscribeFault

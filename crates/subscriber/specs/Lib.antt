@@ -1,7 +1,12 @@
 pub mod Deliveries
 pub mod DeliveryTexts
-pub mod Meetings
 pub mod Texts
 pub mod Watches
+pub mod Windows
+pub mod Meetings
+pub mod Hearings
+pub mod Offers
+pub mod Turning
+pub mod Calls
 pub mod Leavings
 pub mod Writings

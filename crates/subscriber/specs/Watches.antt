@@ -1,5 +1,5 @@
 -- What a subscriber has seen of the time, and what comes of it.
-use Rattle.std.specs.Prelude.{◌-◌, ◌≤◌, ℕ, Bool, IsTrue, if◌then◌else◌}
+use Rattle.std.specs.Prelude.{◌+◌, ◌-◌, ◌≤◌, ℕ, nat_lt, Bool, IsTrue, min, if◌then◌else◌}
 use Rattle.endpoint.specs.Devices.{counted}
 use Rattle.options.specs.declared.ends.plans.SubscribePlan.{SubscribePlan}
 
@@ -7,26 +7,48 @@ use Rattle.options.specs.declared.ends.plans.SubscribePlan.{SubscribePlan}
 pub record Seen : Type 0 where
   -- the moment that it noted last
   pub moment : ℕ
-  -- when a datagram came last
+  -- when what it waits for came last
   pub heard : ℕ
+  -- when a call of its socket worked last
+  pub worked : ℕ
   -- when it told its counters last
   pub told : ℕ
-  -- how many datagrams of strangers there were
+  -- how many messages were written then
+  pub written : ℕ
+  -- how many datagrams of strangers there were before an image
   pub strangers : ℕ
+  -- how many calls of its socket failed before an image
+  pub lost : ℕ
 
 -- it has seen its begin
 abbrev pub begun : Seen
-begun = record { moment = 0; heard = 0; told = 0; strangers = 0 }
+begun = record { moment = 0; heard = 0; worked = 0; told = 0; written = 0; strangers = 0; lost = 0 }
 
--- a datagram came at the moment
+-- a second or more in which it didn't look at the clock is no silence of others: it heard nobody then, and couldn't have
+abbrev pub heard_at : Seen → ℕ → ℕ
+heard_at s now = if nat_lt (now - s.moment) 1000000000 then s.heard else min now (s.heard + (now - s.moment))
+
+-- it looks at the clock
+abbrev pub looking : Seen → ℕ → Seen
+looking s now = record s { moment = now; heard = heard_at s now }
+
+-- what it waits for came at the moment
 abbrev pub hearing : Seen → Seen
 hearing s = record s { heard = s.moment }
 
--- and it was a stranger's
+-- a call of its socket worked at the moment
+abbrev pub working : Seen → Seen
+working s = record s { worked = s.moment }
+
+-- one failed
+abbrev pub losing : Seen → Seen
+losing s = record s { lost = counted s.lost }
+
+-- a datagram was a stranger's
 abbrev pub with_stranger : Seen → Seen
 with_stranger s = record s { strangers = counted s.strangers }
 
--- for how long no datagram came
+-- for how long what it waits for hasn't come
 abbrev pub silence_of : Seen → ℕ
 silence_of s = s.moment - s.heard
 
@@ -34,15 +56,19 @@ silence_of s = s.moment - s.heard
 abbrev pub IsQuiet : SubscribePlan → Seen → Type 0
 IsQuiet plan s = plan.quiet ≤ silence_of s
 
--- so long that the publisher is given up
+-- so long that another publisher may take the place
 abbrev pub IsSilent : Seen → Type 0
 IsSilent s = 10000000000 ≤ silence_of s
+
+-- no call of its socket has worked for so long that it's given up
+abbrev pub IsBroken : Seen → Type 0
+IsBroken s = 5000000000 ≤ s.moment - s.worked
 
 -- the counters are shown, and were told a second ago or earlier
 pub record IsDue (plan : SubscribePlan) (s : Seen) : Type 0 where
   pub shown : IsTrue plan.end.counters
   pub second : 1000000000 ≤ s.moment - s.told
 
--- they are told at the moment, or not
-abbrev pub told_if : Bool → Seen → Seen
-told_if tells s = if tells then record s { told = s.moment } else s
+-- they are told at the moment, behind so many messages, or not
+abbrev pub told_if : Bool → ℕ → Seen → Seen
+told_if tells written s = if tells then record s { told = s.moment; written = written } else s

@@ -1,18 +1,24 @@
 //! A subscriber with an image.
 
-ghost use Rattle.std.specs.Prelude.{◌≡◌, ◌≤◌, IfOk, OnOk, Some};
-ghost use Rattle.subscriber.specs.Leavings.{IsWhyLeft, NotesHeard};
+ghost use Rattle.std.specs.Prelude.{◌≡◌, ◌≤◌, ◌↔◌, ℕ, IfErr, IfOk, IsTrue, OnOk, Some};
+ghost use Rattle.endpoint.specs.declared.device_error.DeviceError.TheVariants.{Device};
+ghost use Rattle.subscriber.specs.Leavings.{HasAll, IsDone, IsEnding, IsQuietEnding, NotesHeard, NotesWork, StandsHere};
+ghost use Rattle.subscriber.specs.Watches.{IsBroken};
+ghost use Rattle.subscriber.specs.declared.fault.SubscribeFault.TheVariants.{Failed};
 ghost use Rattle.subscriber.specs.Writings.{Writes};
 
 use crate::delivery::cycle;
 use crate::delivery::polling::CYCLE_MESSAGES;
+use crate::ended::Ending;
 use crate::fault::SubscribeFault;
-use crate::listening::Joined;
-use crate::telling::tell_counters;
+use crate::joined::{Joined, tied_of};
+use crate::telling::{Counts, tell_again, tell_counters, tell_silent};
+use crate::turning::attend;
 use crate::watch::Watch;
 use agents::IdleStrategy;
 use options::SubscribePlan;
 use receiver::STATUS_INTERVAL;
+use std::alloc::Global;
 use std::io::Write;
 use std::sync::Wait;
 use std::time::Clock;
@@ -20,20 +26,11 @@ use std::time::Clock;
 /// How long a subscriber that has ended still tells where it stands, in nanoseconds.
 const FAREWELL: u64 = 1_000_000_000;
 
-/// Why a subscriber leaves an image.
-#[derive(Clone, Copy)]
-pub(crate) enum Leaving {
-    /// All messages that were wanted were written, or no datagram came for as long as the plan says.
-    Ended,
-    /// The publisher was silent.
-    Silent,
-}
-
-/// Notes that a datagram came, where the device has heard its peer more often than before.
+/// Notes that a frame of the session came, where the device has counted another number than before.
 fn note_heard(joined: &Joined, watch: &mut Watch, before: u64)
-    ensures { NotesHeard before joined.now.duty.device.inner.heard watch.old watch.new }
+    ensures { NotesHeard before joined.now.duty.device.notes.frames watch.old watch.new }
 {
-    if joined.duty.device().inner().heard() != before {
+    if joined.duty.device().notes().frames != before {
         watch.hear();
     }
 }
@@ -50,10 +47,10 @@ fn cycle_once<W: Write>(
     requires size { joined.old.duty.mtu ≡ 40 }
     requires few { written ≤ plan.now.messages }
     ensures size { joined.new.duty.mtu ≡ 40 }
-    ensures heard { OnOk result (NotesHeard joined.old.duty.device.inner.heard joined.new.duty.device.inner.heard watch.old watch.new) }
+    ensures heard { OnOk result (NotesHeard joined.old.duty.device.notes.frames joined.new.duty.device.notes.frames watch.old watch.new) }
     ensures writes { IfOk result (λ r. (r.0 ≤ plan.now.messages) × Writes plan.now.end.form written (W.contents output.old) r.0 (W.contents output.new)) }
 {
-    let before = joined.duty.device().inner().heard();
+    let before = joined.duty.device().notes().frames;
     let most = (plan.messages - written).min(CYCLE_MESSAGES as u64) as usize;
     let done = cycle(
         plan.end.form,
@@ -68,17 +65,80 @@ fn cycle_once<W: Write>(
     Ok((all, done.messages > 0 || done.busy))
 }
 
-/// Whether the image is left at the moment, behind so many messages, and why.
-fn why_left(plan: &SubscribePlan, watch: &Watch, written: u64) -> Option<Leaving>
-    ensures { IsWhyLeft plan.now written watch.now result }
+/// Notes whether a call of the socket worked in a cycle, before which so many had. The fault comes where none has for 5
+/// seconds.
+fn check_works(joined: &Joined, watch: &mut Watch, before: u64) -> Result<(), SubscribeFault>
+    ensures noted { NotesWork before joined.now.duty.device.inner.inner.worked watch.old watch.new }
+    ensures works { OnOk result (¬ IsBroken watch.new) }
+    ensures broken { IfErr result (λ fault. (fault ≡ Failed Device) × IsBroken watch.new) }
 {
-    if written >= plan.messages || watch.is_quiet(plan) {
-        return Some(Leaving::Ended);
+    if joined.duty.device().inner().inner().worked() != before {
+        watch.work();
     }
-    if watch.is_silent() {
-        return Some(Leaving::Silent);
+    watch.check_works()
+}
+
+/// Whether the stream was told to end where the consumer stands, or before that.
+fn has_all(end: Option<u64>, place: u64) -> bool
+    ensures { IsTrue result ↔ HasAll end place }
+{
+    match end {
+        None => false,
+        Some(end) => end <= place,
+    }
+}
+
+/// Whether a subscriber has done what was wanted of it.
+fn is_done(plan: &SubscribePlan, written: u64, end: Option<u64>, place: u64) -> bool
+    ensures { IsTrue result ↔ IsDone plan.now written end place }
+{
+    written >= plan.messages || (plan.once && has_all(end, place))
+}
+
+/// How one ends that is quiet.
+pub(crate) fn quiet_ending(plan: &SubscribePlan) -> Ending
+    ensures { IsQuietEnding plan.now result }
+{
+    if plan.once {
+        Ending::Short
+    } else {
+        Ending::Whole
+    }
+}
+
+/// How the subscriber ends at the moment, behind so many messages, if it does.
+fn ending_of(
+    plan: &SubscribePlan,
+    watch: &Watch,
+    written: u64,
+    end: Option<u64>,
+    place: u64,
+) -> Option<Ending>
+    ensures { IsEnding plan.now written watch.now end place result }
+{
+    if is_done(plan, written, end, place) {
+        return Some(Ending::Whole);
+    }
+    if watch.is_quiet(plan) {
+        return Some(quiet_ending(plan));
     }
     None
+}
+
+/// Tells once that the session is silent, and once that it goes on.
+fn tell_silence<E: Write>(joined: &mut Joined, errors: &mut E, watch: &Watch)
+    ensures { joined.new ≡ record joined.old { silent = joined.new.silent } }
+{
+    let silent = watch.is_silent();
+    if silent == joined.silent {
+        return;
+    }
+    joined.silent = silent;
+    if silent {
+        tell_silent(errors, joined.opening.session, joined.place());
+    } else {
+        tell_again(errors, joined.opening.session, joined.place());
+    }
 }
 
 /// Tells the counters, once a second.
@@ -88,43 +148,59 @@ fn tell<E: Write>(
     errors: &mut E,
     watch: &mut Watch,
     written: u64,
-) {
-    if !watch.tells(plan) {
+)
+    ensures { watch.new ≡ record watch.old { told = watch.new.told; written = watch.new.written } }
+{
+    let Some(since) = watch.tells(plan, written) else {
         return;
-    }
+    };
+    let device = joined.duty.device();
+    let lost = device.inner().inner().lost();
+    let strangers = tied_of(device).strangers();
+    let counts = Counts {
+        messages: written,
+        since,
+        naks: device.naks(),
+        lost: watch.lost().saturating_add(lost),
+        strangers: watch.strangers().saturating_add(strangers),
+    };
     if let Some(positions) = joined.subscriber.positions() {
-        let strangers = joined.duty.device().inner().strangers();
-        let strangers = watch.strangers().saturating_add(strangers);
-        tell_counters(errors, &positions, written, strangers);
+        tell_counters(errors, joined.opening.session, &positions, &counts);
     }
 }
 
-/// Writes messages until the image is left. The answer is how many were written in all, and why.
+/// Writes messages until the subscriber ends, and makes of SETUPs what is to be made of them. The answer is how many were
+/// written, and how it ends.
 pub(crate) fn follow<R: Wait + Clock, W: Write, E: Write>(
     rt: &R,
+    alloc: Global,
     plan: &SubscribePlan,
     joined: &mut Joined,
     output: &mut W,
     errors: &mut E,
     watch: &mut Watch,
-    before: u64,
-) -> Result<(u64, Leaving), SubscribeFault>
+) -> Result<(u64, Ending), SubscribeFault>
     requires size { joined.old.duty.mtu ≡ 40 }
-    requires few { before ≤ plan.now.messages }
     ensures size { joined.new.duty.mtu ≡ 40 }
-    ensures left { IfOk result (λ r. (r.0 ≤ plan.now.messages) × IsWhyLeft plan.now r.0 watch.new (Some r.1)) }
-    ensures writes { IfOk result (λ r. Writes plan.now.end.form before (W.contents output.old) r.0 (W.contents output.new)) }
+    ensures few { IfOk result (λ r. r.0 ≤ plan.now.messages) }
+    ensures ended { IfOk result (λ r. (place : ℕ) × StandsHere joined.new.subscriber place × IsEnding plan.now r.0 watch.new joined.new.duty.device.notes.end place (Some r.1)) }
+    ensures writes { IfOk result (λ r. Writes plan.now.end.form 0 (W.contents output.old) r.0 (W.contents output.new)) }
 {
-    let mut written = before;
+    let mut written: u64 = 0;
     let mut idle = IdleStrategy::new();
     for _ in rt.forever() {
         watch.see(rt)?;
+        let worked = joined.duty.device().inner().inner().worked();
         let (all, busy) = cycle_once(plan, joined, output, watch, written)?;
         written = all;
+        check_works(joined, watch, worked)?;
+        tell_silence(joined, errors, watch);
         tell(plan, joined, errors, watch, written);
-        if let Some(leaving) = why_left(plan, watch, written) {
-            return Ok((written, leaving));
+        let end = joined.duty.device().notes().end;
+        if let Some(ending) = ending_of(plan, watch, written, end, joined.place()) {
+            return Ok((written, ending));
         }
+        attend(alloc, plan, joined, errors, watch)?;
         idle.after(rt, busy);
     }
     unreachable!()
@@ -132,7 +208,7 @@ pub(crate) fn follow<R: Wait + Clock, W: Write, E: Write>(
 
 /// Tells for a second where the subscriber stands, at once and each 200 ms, and polls nothing more. Its moments are ahead
 /// by 200 ms, so that a status message is due at the first one.
-pub(crate) fn bid_farewell<R: Wait + Clock>(
+fn bid_farewell<R: Wait + Clock>(
     rt: &R,
     joined: &mut Joined,
     watch: &mut Watch,
@@ -152,4 +228,15 @@ pub(crate) fn bid_farewell<R: Wait + Clock>(
         idle.after(rt, busy);
     }
     unreachable!()
+}
+
+/// Leaves an image. Where the publisher hasn't told an end at which the subscriber has all, it is told for a second where that
+/// stands.
+pub(crate) fn leave<R: Wait + Clock>(rt: &R, joined: &mut Joined, watch: &mut Watch)
+    requires { joined.old.duty.mtu ≡ 40 }
+{
+    let end = joined.duty.device().notes().end;
+    if !has_all(end, joined.place()) {
+        let _ = bid_farewell(rt, joined, watch);
+    }
 }

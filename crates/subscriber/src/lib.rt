@@ -2,10 +2,16 @@
 //! soon as it is polled, and only then hears and answers, so that a status message never tells of a message that
 //! isn't written.
 //!
-//! Which datagrams a plan takes, by session, stream and the bytes of its terms, is exact (`Takes`); the others are
-//! counted. What it joins is a receiver of that session and stream with a window of half a term, which has met that
-//! datagram (`HasMet`). When it is quiet or the publisher silent is exact, and where its consumer stands (`listen`,
-//! `Joined::place`, `Watch`).
+//! What a datagram is to it without an image, and which SETUP opens one for its plan, is exact (`call_of`,
+//! `opening_of`; a farewell of an ended stream opens none). The image with a number, from 0, has the plan's receiver
+//! id and that number for its id, and a window that the socket's buffer is sure to hold (`opened`, `window_of`, which
+//! is a window that the rules allow). Which datagrams of its peer are heard of the session, and the greatest end that
+//! farewells told, is exact (`Followed`). When it is silent, quiet or broken is exact (`Watch`).
+//!
+//! While the session isn't silent no SETUP changes anything; of a silent one a SETUP of its own ties the device to
+//! who sent it and changes nothing else, and another one that would open an image opens it, with the next number, in
+//! the old one's place (`attend`). A subscriber ends whole or short only as `IsEnding` says, by where its consumer
+//! stands (`follow`).
 //!
 //! A cycle that succeeds has polled up to 256 messages and as many as were asked for, all that were there if they are
 //! fewer, and a writer that tells what it holds has grown by exactly these, in order, each spelled by its form; then
@@ -15,20 +21,27 @@
 //! output fails, and that a flush carries bytes on, no contract says.
 //!
 //! Where `subscribe` ends without a fault, a writer that tells what it holds has grown by whole messages, one behind
-//! the other, at most as many as were wanted, and it has counted them (`Writes`). An image is left only for the
-//! reasons that the plan and the watch give (`IsWhyLeft`): the functions behind `subscribe` say that. That anything
-//! comes isn't said: `tools/channels` shows it.
+//! the other, at most as many as were wanted, and it has counted them (`Writes`). That anything comes isn't said:
+//! `tools/channels` shows it.
 #![tactic(auto)]
 
 mod delivery;
+mod ended;
 mod fault;
+mod followed;
 mod following;
+mod invitation;
+mod joined;
 mod listening;
+mod meeting;
+mod opening;
 mod subscribing;
 mod telling;
+mod turning;
 mod watch;
+mod window;
 
 pub use delivery::Delivered;
+pub use ended::{Ending, Subscribed};
 pub use fault::SubscribeFault;
-pub use listening::SubscriberDevice;
 pub use subscribing::subscribe;

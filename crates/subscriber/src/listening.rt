@@ -1,219 +1,187 @@
 //! A subscriber without an image.
 
-ghost use Rattle.std.specs.Prelude.{◌≡◌, ◌↔◌, IfNone, IfOk, IfSome, IsTrue};
-ghost use Rattle.frames.specs.Frames.{wire};
-ghost use Rattle.receiver.specs.Receiving.{Receiver};
-ghost use Rattle.receiver.specs.Subscribing.{RepresentsSubscriber};
-ghost use Rattle.subscriber.specs.Meetings.{HasMet, Invites, IsJoined, MeetsOne, StandsAt, Admits, invitation_of};
-ghost use Rattle.subscriber.specs.Watches.{IsQuiet};
+ghost use Rattle.std.specs.Prelude.{◌≡◌, ◌⊎◌, None, IfNone, IfOk, IfSome};
+ghost use Rattle.frames.specs.Frames.{setup_of};
+ghost use Rattle.subscriber.specs.Calls.{Heeds, IsCall, IsCallWith, IsJoined, IsJoinedBy};
+ghost use Rattle.subscriber.specs.Meetings.{Opens};
+ghost use Rattle.subscriber.specs.Watches.{IsQuiet, losing, working};
 
 use crate::fault::SubscribeFault;
+use crate::followed::Followed;
+use crate::invitation::{asking, ids_in, opened, setup_in, takes_session};
+use crate::joined::Joined;
+use crate::meeting::{Meeting, meeting_of};
+use crate::telling::{Counts, tell_waiting};
 use crate::watch::Watch;
 use agents::{Duty, IdleStrategy, Party, REPLY};
 use endpoint::DeviceError;
-use frames::{Frame, Header, read_frame};
 use loss_injector::Lossy;
 use options::SubscribePlan;
 use outbox::Outbox;
-use peer::{Listener, TiedDevice};
-use receiver::{ReceiverCore, Subscriber};
+use peer::{Listener, PatientDevice, TiedDevice};
 use std::alloc::{AllocError, Global};
+use std::io::Write;
 use std::net::SocketAddr;
 use std::sync::Wait;
 use std::time::Clock;
 
-/// The greatest message that any stream has, in bytes.
-const GREATEST_MESSAGE: usize = 2_097_152;
-
-/// The device of a subscriber with an image.
-pub type SubscriberDevice = Lossy<TiedDevice>;
-
-/// A subscriber with an image, and its device, which is tied to the publisher.
-#[derive(Drop)]
-pub struct Joined {
-    pub session: i32,
-    pub subscriber: Subscriber,
-    pub duty: Duty<SubscriberDevice>,
-}
-
-impl Joined {
-    /// Where its consumer stands, in bytes of the stream: 0 without an image.
-    pub fn place(&self) -> u64
-        ensures { (r : Receiver) → RepresentsSubscriber self.now.subscriber r → StandsAt r.image result }
-    {
-        match self.subscriber.positions() {
-            None => 0,
-            Some(positions) => positions.least,
-        }
-    }
-}
-
-/// Whose stream a datagram is of, and the bytes of its terms, which only a SETUP tells; else they are 0.
+/// What a datagram is to a subscriber without an image.
 #[derive(Clone, Copy)]
-struct Invitation {
-    session: i32,
-    stream: i32,
-    term_length: u32,
+pub(crate) enum Call {
+    /// A SETUP that opens an image.
+    Opens(Meeting),
+    /// A frame of this session's stream, which the plan takes: a SETUP is asked for.
+    Asks(i32),
+    /// Anything else.
+    Stranger,
 }
 
-/// What a frame with this header invites to.
-fn invitation_with(header: &Header) -> Invitation
-    ensures { result ≡ record { session = header.now.session; stream = header.now.stream; term_length = 0 } }
+/// What a frame of a stream is, by its session and its stream.
+fn frame_call(plan: &SubscribePlan, from: SocketAddr, datagram: &[u8]) -> Call
+    ensures { IsCallWith plan.now from datagram.now None result }
 {
-    Invitation {
-        session: header.session,
-        stream: header.stream,
-        term_length: 0,
-    }
-}
-
-/// What a frame invites to.
-fn invitation_of(frame: &Frame<'_>) -> Option<Invitation>
-    ensures { result ≡ invitation_of (wire frame.now) }
-{
-    match frame {
-        Frame::Setup(setup) => Some(Invitation {
-            session: setup.session,
-            stream: setup.stream,
-            term_length: u32::try_from(setup.term_length).unwrap_or(0),
-        }),
-        Frame::Data { header, .. } | Frame::Pad { header, .. } | Frame::Heartbeat { header } => {
-            Some(invitation_with(header))
+    match ids_in(datagram) {
+        Some((session, stream)) if stream == plan.end.stream && takes_session(plan, session) => {
+            Call::Asks(session)
         }
-        Frame::Nak(_) | Frame::Status { .. } => None,
+        _ => Call::Stranger,
     }
 }
 
-/// What a datagram's first frame invites to.
-fn invitation_in(datagram: &[u8]) -> Option<Invitation>
-    ensures { Invites datagram.now result }
+/// What a datagram is that this one sent.
+fn call_of(plan: &SubscribePlan, from: SocketAddr, datagram: &[u8]) -> Call
+    ensures { IsCall plan.now from datagram.now result }
 {
-    match read_frame(datagram) {
-        Ok((frame, _)) => invitation_of(&frame),
-        Err(_) => None,
+    match setup_in(datagram) {
+        None => frame_call(plan, from, datagram),
+        Some(setup) => match meeting_of(plan, from, &setup) {
+            None => Call::Stranger,
+            Some(meeting) => Call::Opens(meeting),
+        },
     }
 }
 
-/// Whether the plan takes it.
-fn is_taken(plan: &SubscribePlan, invitation: &Invitation) -> bool
-    ensures { IsTrue result ↔ Admits plan.now invitation.now }
+/// Takes a datagram, if one has come, and notes whether the call worked.
+fn hear(listener: &mut Listener, watch: &mut Watch)
+    ensures { (watch.new ≡ working watch.old) ⊎ (watch.new ≡ losing watch.old) }
 {
-    let is_session = match plan.session {
-        None => true,
-        Some(session) => session == invitation.session,
-    };
-    is_session
-        && invitation.stream == plan.end.stream
-        && invitation.term_length <= plan.greatest_term
+    match listener.hear() {
+        Ok(()) => watch.work(),
+        Err(_) => watch.lose(),
+    }
 }
 
-/// A subscriber of this stream that has met this datagram. Its window is half a term.
-fn met(
+/// Asks the one who sent what came for a SETUP of a session.
+fn ask(
     alloc: Global,
     plan: &SubscribePlan,
-    invitation: &Invitation,
-    datagram: &[u8],
-    now: u64,
-) -> Result<Subscriber, AllocError>
-    ensures { IfOk result (λ s. HasMet plan.now invitation.now datagram.now now s) }
-{
-    let window = invitation.term_length / 2;
-    let core = ReceiverCore::new(
-        alloc,
-        invitation.session,
-        invitation.stream,
-        window,
-        plan.receiver,
-        1,
-    );
-    let mut subscriber = Subscriber::new(alloc, core, GREATEST_MESSAGE)?;
-    subscriber.on_datagram(datagram, now)?;
-    Ok(subscriber)
-}
-
-/// Who sent a datagram, its session, and the subscriber that has met it.
-#[derive(Drop)]
-struct Meeting {
-    from: SocketAddr,
+    listener: &Listener,
     session: i32,
-    subscriber: Subscriber,
-}
-
-/// Takes a datagram, if one has come. One that isn't taken is counted.
-fn meet(
-    alloc: Global,
-    plan: &SubscribePlan,
-    listener: &mut Listener,
-    watch: &mut Watch,
-) -> Result<Option<Meeting>, SubscribeFault>
-    ensures { IfOk result (λ found. MeetsOne plan.now watch.old found watch.new) }
-{
-    let Some((from, datagram)) = listener.hear()? else {
-        return Ok(None);
-    };
-    watch.hear();
-    let Some(invitation) = invitation_in(datagram) else {
-        watch.count_stranger();
-        return Ok(None);
-    };
-    if !is_taken(plan, &invitation) {
-        watch.count_stranger();
-        return Ok(None);
-    }
-    let subscriber = met(alloc, plan, &invitation, datagram, watch.moment())?;
-    Ok(Some(Meeting {
-        from,
-        session: invitation.session,
-        subscriber,
-    }))
-}
-
-/// Asks for a SETUP where the datagram opened no image.
-fn ask(listener: &Listener, meeting: &mut Meeting, outbox: &mut Outbox, now: u64)
+    outbox: &mut Outbox,
+    now: u64,
+) -> Result<(), AllocError>
     requires { outbox.old.mtu ≡ 40 }
-    ensures { outbox.new.mtu ≡ outbox.old.mtu }
+    ensures { outbox.new.mtu ≡ 40 }
 {
-    Party::tick(&mut meeting.subscriber, now, outbox);
+    let Some((from, datagram)) = listener.last() else {
+        return Ok(());
+    };
+    let mut asking = asking(alloc, plan, session, datagram, now)?;
+    Party::tick(&mut asking, now, outbox);
     for index in 0..outbox.len() {
         if let Some(datagram) = outbox.datagram(index) {
-            listener.answer(meeting.from, datagram);
+            let _ = listener.send(from, datagram);
+        }
+    }
+    Ok(())
+}
+
+/// Heeds what came. The answer is the SETUP that opens an image, if it was one.
+fn heed(
+    alloc: Global,
+    plan: &SubscribePlan,
+    listener: &Listener,
+    outbox: &mut Outbox,
+    watch: &mut Watch,
+) -> Result<Option<Meeting>, SubscribeFault>
+    requires size { outbox.old.mtu ≡ 40 }
+    ensures size { outbox.new.mtu ≡ 40 }
+    ensures heeds { IfOk result (λ found. Heeds plan.now listener.now watch.old found watch.new) }
+    ensures opens { IfOk result (λ found. IfSome found (λ m. Opens plan.now (setup_of m.setup) m.opening)) }
+    ensures moment { watch.new.moment ≡ watch.old.moment }
+{
+    let Some((from, datagram)) = listener.last() else {
+        return Ok(None);
+    };
+    match call_of(plan, from, datagram) {
+        Call::Opens(meeting) => {
+            watch.hear();
+            Ok(Some(meeting))
+        }
+        Call::Asks(session) => {
+            watch.hear();
+            ask(alloc, plan, listener, session, outbox, watch.moment())?;
+            Ok(None)
+        }
+        Call::Stranger => {
+            watch.count_stranger();
+            Ok(None)
         }
     }
 }
 
-/// Ties the device to the one who opened the image.
+/// Opens the first image, and ties the device to the one who sent the SETUP.
 fn join(
     alloc: Global,
     plan: &SubscribePlan,
     listener: Listener,
-    meeting: Meeting,
+    meeting: &Meeting,
+    now: u64,
 ) -> Result<Joined, SubscribeFault>
-    ensures { IfOk result (λ j. (j.session ≡ meeting.session) × (j.subscriber ≡ meeting.subscriber) × (j.duty.mtu ≡ 40)) }
+    ensures { IfOk result (IsJoinedBy plan.now now meeting.now listener) }
 {
-    let Meeting {
-        from,
-        session,
-        subscriber,
-    } = meeting;
-    let device = listener.tie(from)?;
-    let lossy = Lossy::new(alloc, device, plan.end.rates, plan.end.seed);
-    let Ok(duty) = Duty::new(alloc, lossy, REPLY) else {
+    let subscriber = opened(alloc, plan, 0, &meeting.setup, now)?;
+    let tied = PatientDevice::new(TiedDevice::new(listener, meeting.from));
+    let lossy = Lossy::new(alloc, tied, plan.end.rates, plan.end.seed);
+    let device = Followed::new(lossy, meeting.opening.session, plan.end.stream);
+    let Ok(duty) = Duty::new(alloc, device, REPLY) else {
         return Err(SubscribeFault::Failed(DeviceError::Memory));
     };
     Ok(Joined {
-        session,
+        opening: meeting.opening,
+        number: 0,
         subscriber,
         duty,
+        silent: false,
+        warned: false,
     })
 }
 
-/// Listens until a SETUP of a stream that the plan takes opens an image. There is none where no datagram came for as long as
-/// the plan says.
-pub fn listen<R: Wait + Clock>(
+/// Tells the counters, once a second.
+fn tell<E: Write>(plan: &SubscribePlan, errors: &mut E, watch: &mut Watch)
+    ensures { watch.new ≡ record watch.old { told = watch.new.told; written = watch.new.written } }
+{
+    let Some(since) = watch.tells(plan, 0) else {
+        return;
+    };
+    let counts = Counts {
+        messages: 0,
+        since,
+        naks: 0,
+        lost: watch.lost(),
+        strangers: watch.strangers(),
+    };
+    tell_waiting(errors, &counts);
+}
+
+/// Listens until a SETUP opens an image for the plan. There is none where no datagram came that the plan takes for as long as
+/// it says. The fault is that memory was refused, the clock can't be read, or every call of the socket failed for 5 seconds.
+pub(crate) fn listen<R: Wait + Clock, E: Write>(
     rt: &R,
     alloc: Global,
     plan: &SubscribePlan,
     mut listener: Listener,
+    errors: &mut E,
     watch: &mut Watch,
 ) -> Result<Option<Joined>, SubscribeFault>
     ensures joined { IfOk result (λ found. IfSome found (IsJoined plan.now watch.new)) }
@@ -223,18 +191,17 @@ pub fn listen<R: Wait + Clock>(
     let mut idle = IdleStrategy::new();
     for _ in rt.forever() {
         watch.see(rt)?;
+        hear(&mut listener, watch);
+        let came = listener.last().is_some();
+        if let Some(meeting) = heed(alloc, plan, &listener, &mut outbox, watch)? {
+            return Ok(Some(join(alloc, plan, listener, &meeting, watch.moment())?));
+        }
+        tell(plan, errors, watch);
+        watch.check_works()?;
         if watch.is_quiet(plan) {
             return Ok(None);
         }
-        let Some(mut meeting) = meet(alloc, plan, &mut listener, watch)? else {
-            idle.rest(rt);
-            continue;
-        };
-        idle.stir();
-        if meeting.subscriber.positions().is_some() {
-            return Ok(Some(join(alloc, plan, listener, meeting)?));
-        }
-        ask(&listener, &mut meeting, &mut outbox, watch.moment());
+        idle.after(rt, came);
     }
     unreachable!()
 }

@@ -1,14 +1,17 @@
 //! A subscriber from its begin to its end.
 
-ghost use Rattle.std.specs.Prelude.{◌≡◌, ◌<◌, ◌≤◌, false, IfErr, IfOk, IfSome};
+ghost use Rattle.std.specs.Prelude.{◌≡◌, ◌≤◌, IfErr, IfOk, IsTrue};
 ghost use Rattle.peer.specs.declared.fault.BindError.{BindError};
 ghost use Rattle.subscriber.specs.Leavings.{of_bind};
 ghost use Rattle.subscriber.specs.Writings.{Writes};
+ghost use Rattle.subscriber.specs.declared.ended.Ending.TheVariants.{Short};
 
+use crate::ended::Subscribed;
 use crate::fault::SubscribeFault;
-use crate::following::{Leaving, bid_farewell, follow};
-use crate::listening::{Joined, listen};
-use crate::telling::{tell_closed, tell_joined};
+use crate::following::{follow, leave, quiet_ending};
+use crate::joined::Joined;
+use crate::listening::listen;
+use crate::telling::tell_joined;
 use crate::watch::Watch;
 use endpoint::DeviceError;
 use options::SubscribePlan;
@@ -39,123 +42,66 @@ fn bind<R: Net>(rt: &R, alloc: Global, port: u16) -> Result<Listener, SubscribeF
     }
 }
 
-/// Follows an image, and tells of it. The answer is how many messages were written in all, and whether the subscriber ends.
-fn follow_image<R: Wait + Clock, W: Write, E: Write>(
+/// Follows the image to the end, and leaves it.
+fn follow_all<R: Wait + Clock, W: Write, E: Write>(
     rt: &R,
+    alloc: Global,
     plan: &SubscribePlan,
     joined: &mut Joined,
     output: &mut W,
     errors: &mut E,
     watch: &mut Watch,
-    before: u64,
-) -> Result<(u64, bool), SubscribeFault>
+) -> Result<Subscribed, SubscribeFault>
     requires size { joined.old.duty.mtu ≡ 40 }
-    requires few { before ≤ plan.now.messages }
-    ensures few { IfOk result (λ r. r.0 ≤ plan.now.messages) }
-    ensures more { IfOk result (λ r. r.1 ≡ false → r.0 < plan.now.messages) }
-    ensures writes { IfOk result (λ r. Writes plan.now.end.form before (W.contents output.old) r.0 (W.contents output.new)) }
+    ensures few { IfOk result (λ s. s.messages ≤ plan.now.messages) }
+    ensures short { IfOk result (λ s. s.ending ≡ Short → IsTrue plan.now.once) }
+    ensures writes { IfOk result (λ s. Writes plan.now.end.form 0 (W.contents output.old) s.messages (W.contents output.new)) }
 {
-    tell_joined(errors, joined.session, joined.place());
-    let (written, leaving) = follow(rt, plan, joined, output, errors, watch, before)?;
-    match leaving {
-        Leaving::Silent => {
-            tell_closed(errors, joined.session, joined.place());
-            Ok((written, false))
-        }
-        Leaving::Ended => {
-            let _ = bid_farewell(rt, joined, watch);
-            Ok((written, true))
-        }
-    }
+    tell_joined(errors, joined.opening.session, joined.place());
+    let (messages, ending) = follow(rt, alloc, plan, joined, output, errors, watch)?;
+    leave(rt, joined, watch);
+    Ok(Subscribed { messages, ending })
 }
 
-/// Follows one image to its end, and lets it go. The answer is the same.
-fn follow_one<R: Wait + Clock, W: Write, E: Write>(
-    rt: &R,
-    plan: &SubscribePlan,
-    mut joined: Joined,
-    output: &mut W,
-    errors: &mut E,
-    watch: &mut Watch,
-    before: u64,
-) -> Result<(u64, bool), SubscribeFault>
-    requires size { joined.duty.mtu ≡ 40 }
-    // Behind some messages only where more are wanted.
-    requires more { 0 < before → before < plan.now.messages }
-    ensures few { IfOk result (λ r. r.0 ≤ plan.now.messages) }
-    ensures more { IfOk result (λ r. r.1 ≡ false → r.0 < plan.now.messages) }
-    ensures writes { IfOk result (λ r. Writes plan.now.end.form before (W.contents output.old) r.0 (W.contents output.new)) }
-{
-    follow_image(rt, plan, &mut joined, output, errors, watch, before)
-}
-
-/// Listens at the channel's port until an image opens. There is none where no datagram came for as long as the plan says.
-fn join_image<R: Wait + Clock + Net>(
-    rt: &R,
-    alloc: Global,
-    plan: &SubscribePlan,
-    watch: &mut Watch,
-) -> Result<Option<Joined>, SubscribeFault>
-    ensures { IfOk result (λ found. IfSome found (λ joined. joined.duty.mtu ≡ 40)) }
-{
-    let listener = bind(rt, alloc, plan.end.port)?;
-    match listen(rt, alloc, plan, listener, watch)? {
-        Some(joined) => Ok(Some(joined)),
-        None => Ok(None),
-    }
-}
-
-/// Listens until an image opens, and follows it. The answer is how many messages were written in all, and whether the
-/// subscriber ends, as it does where no datagram came for as long as the plan says.
-fn subscribe_once<R: Wait + Clock + Net, W: Write, E: Write>(
-    rt: &R,
-    alloc: Global,
-    plan: &SubscribePlan,
-    output: &mut W,
-    errors: &mut E,
-    watch: &mut Watch,
-    before: u64,
-) -> Result<(u64, bool), SubscribeFault>
-    requires { 0 < before → before < plan.now.messages }
-    ensures few { IfOk result (λ r. r.0 ≤ plan.now.messages) }
-    ensures more { IfOk result (λ r. r.1 ≡ false → r.0 < plan.now.messages) }
-    ensures writes { IfOk result (λ r. Writes plan.now.end.form before (W.contents output.old) r.0 (W.contents output.new)) }
-{
-    let Some(joined) = join_image(rt, alloc, plan, watch)? else {
-        return Ok((before, true));
-    };
-    follow_one(rt, plan, joined, output, errors, watch, before)
-}
-
-/// Subscribes as planned, and writes each message to the output as the plan's form says, until there were as many as are
-/// wanted, or no datagram came for as long as it says. The answer is how many were written. Where it joins a stream, where a
-/// silent one is closed, and the counters are lines of `errors`.
+/// Subscribes as planned, and writes each message to the output as the plan's form says. The answer is how many were written,
+/// and how it ended.
+///
+/// It ends whole behind as many messages as are wanted. One that is to end with the stream ends whole where the publisher told
+/// the stream's end and all before that is written and flushed, and short where it was quiet before: no DATA frame, padding or
+/// heartbeat of its session came from its peer for as long as the plan says, or before it had an image no datagram that the
+/// plan takes. One that isn't ends whole where it was quiet.
+///
+/// Its socket is bound once. An image is kept while its session is silent. After 10 seconds of silence another SETUP that the
+/// plan takes closes it, and opens a new one under a receiver id of its own: the plan's and the image's number, from 0. What is
+/// joined, silent, heard again and closed, another sender of a session that isn't silent, and the counters are lines of
+/// `errors`.
 ///
 /// The fault is `Taken` where another socket has the port, `Output` where the output failed, `Message` where a message was
-/// refused, `Device` where the socket or the clock failed, and `Memory` where memory was refused. Behind a fault the
-/// output may end within a message.
+/// refused, and `Failed`: `Device` where the socket can't be bound, all its calls failed for 5 seconds, or the clock can't be
+/// read, and `Memory` where memory was refused. Behind a fault the output may end within a message.
 pub fn subscribe<R: Wait + Clock + Net, W: Write, E: Write>(
     rt: &R,
     alloc: Global,
     plan: &SubscribePlan,
     output: &mut W,
     errors: &mut E,
-) -> Result<u64, SubscribeFault>
+) -> Result<Subscribed, SubscribeFault>
     // What was written is whole messages, one after the other.
-    ensures writes { IfOk result (λ n. Writes plan.now.end.form 0 (W.contents output.old) n (W.contents output.new)) }
-    ensures few { IfOk result (λ n. n ≤ plan.now.messages) }
+    ensures writes { IfOk result (λ s. Writes plan.now.end.form 0 (W.contents output.old) s.messages (W.contents output.new)) }
+    ensures few { IfOk result (λ s. s.messages ≤ plan.now.messages) }
+    // Only one that was to end with the stream ends short.
+    ensures short { IfOk result (λ s. s.ending ≡ Short → IsTrue plan.now.once) }
 {
     let Ok(began) = Instant::now(rt) else {
         return Err(SubscribeFault::Failed(DeviceError::Device));
     };
     let mut watch = Watch::new(began);
-    let mut written: u64 = 0;
-    for _ in rt.forever() {
-        let (all, ended) = subscribe_once(rt, alloc, plan, output, errors, &mut watch, written)?;
-        written = all;
-        if ended {
-            return Ok(written);
-        }
+    let listener = bind(rt, alloc, plan.end.port)?;
+    match listen(rt, alloc, plan, listener, errors, &mut watch)? {
+        None => Ok(Subscribed {
+            messages: 0,
+            ending: quiet_ending(plan),
+        }),
+        Some(mut joined) => follow_all(rt, alloc, plan, &mut joined, output, errors, &mut watch),
     }
-    unreachable!()
 }

@@ -2,32 +2,89 @@
 
 use receiver::Positions;
 use std::io::Write;
+use std::net::SocketAddr;
 
-/// It joined a stream behind its first position.
+/// An image was opened at a position.
 pub fn tell_joined<E: Write>(errors: &mut E, session: i32, position: u64) {
-    if position > 0 {
-        let _ = writeln!(errors, "joined session {session} at position {position}");
-    }
+    let _ = writeln!(errors, "joined session {session} at position {position}");
 }
 
-/// The publisher was silent, and its image is closed.
-pub fn tell_closed<E: Write>(errors: &mut E, session: i32, position: u64) {
+/// Nothing has come of the session for 10 seconds.
+pub fn tell_silent<E: Write>(errors: &mut E, session: i32, position: u64) {
     let _ = writeln!(
         errors,
-        "silent: session {session} closed at position {position}"
+        "silent: session {session} at position {position}, its image is kept"
     );
 }
 
-/// The counters.
-pub fn tell_counters<E: Write>(
-    errors: &mut E,
-    positions: &Positions,
-    messages: u64,
-    strangers: u64,
-) {
+/// Something has come again of a session that was silent.
+pub fn tell_again<E: Write>(errors: &mut E, session: i32, position: u64) {
+    let _ = writeln!(errors, "session {session} goes on at position {position}");
+}
+
+/// The image was closed, since another one is opened.
+pub fn tell_closed<E: Write>(errors: &mut E, session: i32, position: u64) {
+    let _ = writeln!(errors, "closed: session {session} at position {position}");
+}
+
+/// A SETUP of the session came from another than the peer.
+pub fn tell_another<E: Write>(errors: &mut E, session: i32, from: SocketAddr) {
     let _ = writeln!(
         errors,
-        "least {} rebuilt {} high-water {} messages {messages} strangers {strangers}",
-        positions.least, positions.rebuilt, positions.high_water
+        "another sender at {from} for session {session}, not heard"
+    );
+}
+
+/// What the counters show, but for the positions.
+#[derive(Clone, Copy)]
+pub struct Counts {
+    /// How many messages were written.
+    pub messages: u64,
+    /// How many of them since the line before.
+    pub since: u64,
+    /// How many negative acknowledgements were sent.
+    pub naks: u64,
+    /// How many calls of the socket failed.
+    pub lost: u64,
+    /// How many datagrams of strangers came.
+    pub strangers: u64,
+}
+
+/// Where a subscriber without an image stands.
+const NOWHERE: Positions = Positions {
+    least: 0,
+    rebuilt: 0,
+    high_water: 0,
+};
+
+/// The counters of a subscriber with an image of this session.
+pub fn tell_counters<E: Write>(
+    errors: &mut E,
+    session: i32,
+    positions: &Positions,
+    counts: &Counts,
+) {
+    let _ = write!(errors, "session {session} ");
+    tell_counts(errors, positions, counts);
+}
+
+/// The counters of a subscriber without an image.
+pub fn tell_waiting<E: Write>(errors: &mut E, counts: &Counts) {
+    let _ = write!(errors, "session none ");
+    tell_counts(errors, &NOWHERE, counts);
+}
+
+fn tell_counts<E: Write>(errors: &mut E, positions: &Positions, counts: &Counts) {
+    let _ = writeln!(
+        errors,
+        "messages {} this-second {} least {} rebuilt {} high-water {} naks {} lost {} strangers {}",
+        counts.messages,
+        counts.since,
+        positions.least,
+        positions.rebuilt,
+        positions.high_water,
+        counts.naks,
+        counts.lost,
+        counts.strangers
     );
 }

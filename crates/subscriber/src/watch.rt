@@ -1,8 +1,8 @@
 //! The time that a subscriber has seen.
 
-ghost use Rattle.std.specs.Prelude.{◌≡◌, ◌↔◌, IfErr, IsTrue, OnOk};
+ghost use Rattle.std.specs.Prelude.{◌≡◌, ◌-◌, ◌↔◌, is_some, IfErr, IfSome, IsSome, IsTrue, OnOk};
 ghost use Rattle.endpoint.specs.declared.device_error.DeviceError.TheVariants.{Device};
-ghost use Rattle.subscriber.specs.Watches.{IsDue, IsQuiet, IsSilent, begun, hearing, told_if, with_stranger};
+ghost use Rattle.subscriber.specs.Watches.{IsBroken, IsDue, IsQuiet, IsSilent, begun, heard_at, hearing, looking, losing, told_if, with_stranger, working};
 ghost use Rattle.subscriber.specs.declared.fault.SubscribeFault.TheVariants.{Failed};
 
 use crate::fault::SubscribeFault;
@@ -11,21 +11,29 @@ use options::SubscribePlan;
 use std::marker::Model;
 use std::time::{Clock, Instant};
 
-/// Nanoseconds from one line of counters to the next.
+/// Nanoseconds from one line of counters to the next. A longer time in which the clock wasn't looked at is no silence.
 const SECOND: u64 = 1_000_000_000;
 
-/// Nanoseconds after which a publisher that is silent is given up.
+/// Nanoseconds after which a session is silent.
 const SILENCE: u64 = 10_000_000_000;
 
-/// When a subscriber began, the moment that it noted last, when a datagram came last, when it told its counters last, and
-/// how many datagrams of strangers there were. All moments are in nanoseconds from the begin.
+/// Nanoseconds after which a socket is given up all of whose calls fail.
+const PATIENCE: u64 = 5_000_000_000;
+
+/// When a subscriber began, and what it has seen since. All moments are in nanoseconds from the begin.
+///
+/// What it waits for is: without an image a datagram that its plan takes, with one a DATA frame, a padding or a heartbeat of
+/// that stream from its peer.
 #[derive(Drop)]
 pub struct Watch {
     began: Instant,
     moment: u64,
     heard: u64,
+    worked: u64,
     told: u64,
+    written: u64,
     strangers: u64,
+    lost: u64,
 }
 
 impl Model for Watch {
@@ -33,7 +41,7 @@ impl Model for Watch {
 
     ghost Value = { Seen };
 
-    ghost view = { λ w. record { moment = w.moment; heard = w.heard; told = w.told; strangers = w.strangers } };
+    ghost view = { λ w. record { moment = w.moment; heard = w.heard; worked = w.worked; told = w.told; written = w.written; strangers = w.strangers; lost = w.lost } };
 }
 
 impl Watch {
@@ -44,21 +52,37 @@ impl Watch {
             began,
             moment: 0,
             heard: 0,
+            worked: 0,
             told: 0,
+            written: 0,
             strangers: 0,
+            lost: 0,
         }
     }
 
     /// Notes the moment. A clock that can't be read is a device that failed.
     pub fn see<R: Clock>(&mut self, rt: &R) -> Result<(), SubscribeFault>
-        ensures seen { OnOk result (self.new ≡ record self.old { moment = self.new.moment }) }
+        ensures seen { OnOk result (self.new ≡ looking self.old self.new.moment) }
         ensures failed { IfErr result (λ fault. (fault ≡ Failed Device) × (self.new ≡ self.old)) }
     {
         let Ok(time) = self.began.elapsed(rt) else {
             return Err(SubscribeFault::Failed(DeviceError::Device));
         };
-        self.moment = u64::try_from(time.as_nanos()).unwrap_or(u64::MAX);
+        let now = u64::try_from(time.as_nanos()).unwrap_or(u64::MAX);
+        self.heard = self.heard_at(now);
+        self.moment = now;
         Ok(())
+    }
+
+    /// When what it waits for counts as come, where it looks at the clock now.
+    fn heard_at(&self, now: u64) -> u64
+        ensures { result ≡ heard_at self.now now }
+    {
+        let unseen = now.saturating_sub(self.moment);
+        if unseen < SECOND {
+            return self.heard;
+        }
+        now.min(self.heard.saturating_add(unseen))
     }
 
     /// The moment that it noted last.
@@ -68,50 +92,86 @@ impl Watch {
         self.moment
     }
 
-    /// How many datagrams of strangers there were. At the greatest `u64` it stays.
+    /// How many datagrams of strangers there were before an image. At the greatest `u64` it stays.
     pub fn strangers(&self) -> u64
         ensures { result ≡ self.now.strangers }
     {
         self.strangers
     }
 
-    /// A datagram came at the moment.
+    /// How many calls of the socket failed before an image. At the greatest `u64` it stays.
+    pub fn lost(&self) -> u64
+        ensures { result ≡ self.now.lost }
+    {
+        self.lost
+    }
+
+    /// What it waits for came at the moment.
     pub fn hear(&mut self)
         ensures { self.new ≡ hearing self.old }
     {
         self.heard = self.moment;
     }
 
-    /// A datagram was a stranger's.
+    /// A call of the socket worked at the moment.
+    pub fn work(&mut self)
+        ensures { self.new ≡ working self.old }
+    {
+        self.worked = self.moment;
+    }
+
+    /// A call of the socket failed before an image.
+    pub(crate) fn lose(&mut self)
+        ensures { self.new ≡ losing self.old }
+    {
+        self.lost = self.lost.saturating_add(1);
+    }
+
+    /// A datagram before an image was a stranger's.
     pub(crate) fn count_stranger(&mut self)
         ensures { self.new ≡ with_stranger self.old }
     {
         self.strangers = self.strangers.saturating_add(1);
     }
 
-    /// Whether no datagram came for as long as the plan says.
+    /// Whether what it waits for hasn't come for as long as the plan says.
     pub fn is_quiet(&self, plan: &SubscribePlan) -> bool
         ensures { IsTrue result ↔ IsQuiet plan.now self.now }
     {
         self.moment.saturating_sub(self.heard) >= plan.quiet
     }
 
-    /// Whether no datagram came for 10 seconds: the publisher is given up.
+    /// Whether it hasn't come for 10 seconds.
     pub fn is_silent(&self) -> bool
         ensures { IsTrue result ↔ IsSilent self.now }
     {
         self.moment.saturating_sub(self.heard) >= SILENCE
     }
 
-    /// Whether the counters are to be told at the moment; then the next second begins.
-    pub fn tells(&mut self, plan: &SubscribePlan) -> bool
-        ensures due { IsTrue result ↔ IsDue plan.now self.old }
-        ensures begins { self.new ≡ told_if result self.old }
+    /// The fault where every call of the socket has failed for 5 seconds.
+    pub fn check_works(&self) -> Result<(), SubscribeFault>
+        ensures works { OnOk result (¬ IsBroken self.now) }
+        ensures broken { IfErr result (λ fault. (fault ≡ Failed Device) × IsBroken self.now) }
+    {
+        if self.moment.saturating_sub(self.worked) >= PATIENCE {
+            return Err(SubscribeFault::Failed(DeviceError::Device));
+        }
+        Ok(())
+    }
+
+    /// Where the counters are to be told at the moment, behind so many messages: how many of these came since they were told
+    /// last. Then the next second begins.
+    pub fn tells(&mut self, plan: &SubscribePlan, written: u64) -> Option<u64>
+        ensures due { IsSome result ↔ IsDue plan.now self.old }
+        ensures since { IfSome result (λ n. n ≡ written - self.old.written) }
+        ensures begins { self.new ≡ told_if (is_some result) written self.old }
     {
         if !plan.end.counters || self.moment.saturating_sub(self.told) < SECOND {
-            return false;
+            return None;
         }
+        let since = written.saturating_sub(self.written);
         self.told = self.moment;
-        true
+        self.written = written;
+        Some(since)
     }
 }

@@ -1,6 +1,0 @@
-use Rattle.std.proofs.Common.{◌<◌}
-use Rattle.subscriber.specs.Writings.{Writes}
-use Rattle.subscriber.proofs.subscribing.subscribe.Given as goal
-
-abbrev pub invariant-loop : goal.invariant-loop
-invariant-loop g l = (0 < l.written → l.written < l.plan.messages) × Writes l.plan.end.form 0 (g.W.Write.contents l.initial.output) l.written (g.W.Write.contents l.output)

@@ -1,0 +1,19 @@
+//! How a subscriber ends.
+
+/// How a subscriber ends.
+#[derive(Clone, Copy, Debug, PartialEq, Eq)]
+pub enum Ending {
+    /// As many messages were written as were wanted; or all up to the end that the publisher told, where the subscriber was
+    /// to end with the stream; or it was quiet, where it wasn't.
+    Whole,
+    /// It was to end with the stream, and was quiet before it heard of the end or had all up to it.
+    Short,
+}
+
+/// What a subscriber has done.
+#[derive(Clone, Copy, Debug, PartialEq, Eq)]
+pub struct Subscribed {
+    /// How many messages were written.
+    pub messages: u64,
+    pub ending: Ending,
+}
