@@ -3,9 +3,9 @@ use Rattle.std.specs.Prelude.{◌≡◌, ◌≤◌, ◌↔◌, ◌⊎◌, ℕ, L
 use Rattle.clap.specs.Words.{Kinds, Text, fault_of, matches_of}
 use Rattle.peer.specs.declared.ending.Ending.{Ending as Published}
 use Rattle.peer.specs.declared.ending.Ending.TheVariants as published
-use Rattle.subscriber.specs.declared.subscribed.Ending.{Ending as EndedAs}
-use Rattle.subscriber.specs.declared.subscribed.Ending.TheVariants as subscribed
-use Rattle.subscriber.specs.declared.subscribed.Subscribed.{Subscribed}
+use Rattle.subscriber.specs.declared.ended.Ending.{Ending as EndedAs}
+use Rattle.subscriber.specs.declared.ended.Ending.TheVariants as subscribed
+use Rattle.subscriber.specs.declared.ended.Subscribed.{Subscribed}
 use Rattle.run.specs.declared.outcome.Ending.{Ending as Ran}
 use Rattle.run.specs.declared.outcome.Ending.TheVariants as ran
 use Rattle.options.specs.Ends.Plans.{ExplainsNoPublishPlan, ExplainsNoSubscribePlan, IsPublishPlanOf, IsSubscribePlanOf}

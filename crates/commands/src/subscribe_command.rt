@@ -1,6 +1,6 @@
 //! The command `subscribe`.
 
-ghost use Rattle.std.specs.Prelude.{◌≡◌, ◌≢◌, ◌≤◌, ◌<◌, ◌^◌, map, true};
+ghost use Rattle.std.specs.Prelude.{◌≡◌, ◌≢◌, ◌≤◌, ◌<◌, ◌^◌, map, IsTrue};
 ghost use Rattle.clap.specs.Words.{fault_of};
 ghost use Rattle.command_line.specs.Lines.{subscribe_app};
 ghost use Rattle.commands.specs.Statuses.{HasSubscribePlan, IsStatusOf, NoSubscribePlan, RefusesSubscribe, subscribed_status};
@@ -30,7 +30,7 @@ fn subscribe_told<C: Wait + Clock + Net + RandomSource, W: Write, E: Write>(
     ensures most { result ≤ 3 }
     ensures refused { result ≡ 2 → NoSubscribePlan options.now }
     ensures planned { result ≢ 2 → HasSubscribePlan options.now }
-    ensures told { result ≡ 3 → options.now.once ≡ true }
+    ensures told { result ≡ 3 → IsTrue options.now.once }
 {
     let (drawn, given) = drawn_ids(rt);
     match subscribe_plan(options, drawn) {

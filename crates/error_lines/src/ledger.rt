@@ -68,16 +68,23 @@ impl Ledger {
         }
     }
 
-    /// What is to be shown for a line: what the counts tell, and the line, each ended by a line feed. The error comes
-    /// where memory was refused.
-    pub fn text(&self, alloc: Global, line: &[u8]) -> Result<Vec<u8>, AllocError>
-        ensures { IfOk result (λ text. text.items ≡ shown_text self.now line.now) }
+    /// What the counts tell. The error comes where memory was refused.
+    pub fn notices(&self, alloc: Global) -> Result<Vec<u8>, AllocError>
+        ensures { IfOk result (λ text. text.items ≡ notices_text self.now.repeats self.now.lost) }
     {
         let notices = Notices {
             repeats: self.repeats,
             lost: self.lost,
         };
-        let mut text = format!(in alloc; "{notices}")?.into_bytes();
+        Ok(format!(in alloc; "{notices}")?.into_bytes())
+    }
+
+    /// What is to be shown for a line: what the counts tell, and the line, each ended by a line feed. The error comes
+    /// where memory was refused.
+    pub fn text(&self, alloc: Global, line: &[u8]) -> Result<Vec<u8>, AllocError>
+        ensures { IfOk result (λ text. text.items ≡ shown_text self.now line.now) }
+    {
+        let mut text = self.notices(alloc)?;
         text.extend_from_slice(line)?;
         text.push(b'\n')?;
         Ok(text)

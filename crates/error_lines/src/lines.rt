@@ -70,11 +70,12 @@ impl<
         }
     }
 
-    /// Ends the line that stands, and waits until all are written, a fifth of a second at the most.
+    /// Ends the line that stands, tells what was counted, and waits until all is written, a fifth of a second at the most.
     pub fn finish(mut self) {
         if !self.line.is_empty() {
             self.tell();
         }
+        self.tell_counts();
         let Way::Thread(shared) = &self.way else {
             return;
         };
@@ -94,6 +95,15 @@ impl<R: Wait, E: Write> ErrorLines<R, E> {
         match &self.way {
             Way::Thread(shared) => shared.queue.push(&self.rt, text).is_ok(),
             _ => self.errors.write_all(&text).is_ok(),
+        }
+    }
+
+    /// Shows what the counts tell, if they tell anything.
+    fn tell_counts(&mut self) {
+        if let Ok(text) = self.ledger.notices(self.alloc) {
+            if !text.is_empty() {
+                self.send(text);
+            }
         }
     }
 
