@@ -28,7 +28,8 @@ use Rattle.one_hand.specs.Legal.{IsStream}
 use Rattle.one_hand.specs.Stream.{Aborts, Commits, OpenClaim, Stream, after_claim, after_offer, with_claim, with_message}
 use Rattle.one_hand.specs.declared.log_hand.held.Held.{Held}
 use Rattle.one_hand.specs.Shown.{IsWhole, kept, shares_of, stream_of}
-use Rattle.one_hand.specs.Hands.{HasAll, Shares, counted, AbortsClaim, Claims, ClaimsNone, CommitsClaim, IsFree, IsInHand, MayEnd, Offers, range, stream_in}
+use Rattle.shared_log.specs.Keepers.{counted}
+use Rattle.one_hand.specs.Hands.{HasAll, Shares, AbortsClaim, Claims, ClaimsNone, CommitsClaim, IsFree, IsInHand, MayEnd, Offers, range, stream_in}
 use Rattle.publication.proofs.Contents.{IsSmall}
 use Rattle.one_hand.proofs.Answered as answered
 use Rattle.one_hand.proofs.Answered.{Rests}
@@ -85,7 +86,7 @@ module _ (l : LogValue) (p q : PublisherValue) (number : ℕ) (low : number < 8)
 
   in_hand : (held : List (Option Held)) → q.pass.right.armed ≡ 0 → IsWhole q.pass q.controls held → HasAll l p.pass p.controls → Rests acting p.controls q.pass q.controls → IsInHand l q held
   in_hand held idle whole all r = record {
-    free = record { of = of; sure = sure; idle = idle };
+    free = record { of = of; sure = sure; parts = r.parts ∙ all.parts; idle = idle };
     whole = whole;
     all = record {
       parts = r.parts ∙ all.parts;

@@ -23,7 +23,8 @@ use Rattle.one_hand.specs.Stream.{Stream, position_of}
 use Rattle.frame_source.specs.Sources.{HasNone}
 use Rattle.one_hand.specs.declared.log_hand.held.Held.{Held}
 use Rattle.one_hand.specs.Shown.{IsWhole, WholeBy, kept, spans, stream_of}
-use Rattle.one_hand.specs.Hands.{IsInHand, counted, stream_in}
+use Rattle.shared_log.specs.Keepers.{counted}
+use Rattle.one_hand.specs.Hands.{IsInHand, stream_in}
 use Rattle.one_hand.specs.Readers.{Reads}
 use Rattle.one_hand.proofs.InHand.{stood_count}
 use Rattle.one_hand.proofs.Found.{from_frames, placed_of, to_stream}
@@ -102,6 +103,7 @@ module _ (l : LogValue) (p : PublisherValue) (held : List (Option Held)) (hand :
           free = record {
             of = record { table = seat.of ∙ hand.free.of.table; identity = ap (λ (v : Pass). v.identity) is ∙ hand.free.of.identity; start = start ∙ hand.free.of.start };
             sure = seat.sure ∙ hand.free.sure;
+            parts = ap (λ (v : Pass). v.right.parts) is ∙ hand.all.parts;
             idle = ap (λ (v : Pass). v.right.armed) is ∙ hand.free.idle;
           };
           whole = subst (λ (x : Pass × Controls). IsWhole x.0 x.1 held) (λ j. (sym is j, sym same j)) whole;

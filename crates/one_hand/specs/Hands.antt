@@ -1,5 +1,5 @@
 -- A log in one hand: what holds between two calls, and what its calls come to.
-use Rattle.std.specs.Prelude.{◌≡◌, ℕ, zero, suc, ◌+◌, ◌-◌, ◌<◌, ◌≤◌, List, [], ◌∷◌, Option, None, Some, Result, Ok, Err, length, slice_get, slice_set}
+use Rattle.std.specs.Prelude.{◌≡◌, ℕ, ◌+◌, ◌-◌, ◌<◌, ◌≤◌, List, Option, None, Some, Result, Ok, Err, length, slice_get, slice_set}
 use Rattle.theory.specs.Position.{aligned, framed_length, max_payload, max_position}
 use Rattle.publication.specs.declared.refusal.Refusal.{Refusal}
 use Rattle.publication.specs.declared.pass.Controls.{Controls}
@@ -7,6 +7,7 @@ use Rattle.publication.specs.declared.pass.Pass.{Pass}
 use Rattle.publication.specs.Claims.{HasBlank}
 use Rattle.log_rule.specs.Claims.Handles.{PublisherValue}
 use Rattle.shared_log.specs.Handles.{IsOf, LogValue}
+use Rattle.shared_log.specs.Keepers.{counted}
 use Rattle.shared_log.specs.Readers.{numbers_of}
 use Rattle.log_rule.specs.Shares.{claimed_bytes}
 use Rattle.one_hand.specs.Entries.{with_share}
@@ -17,16 +18,12 @@ use Rattle.one_hand.specs.Shown.{IsWhole, kept, shares_of, stream_of}
 abbrev pub stream_in : PublisherValue → List (Option Held) → Stream
 stream_in p held = kept (stream_of p.pass p.controls held)
 
--- the publisher is one of this log, has nothing armed, and is sure of the words
+-- the publisher is one of this log, has all parts and nothing armed, and is sure of the words
 pub record IsFree (l : LogValue) (p : PublisherValue) : Type 0 where
   pub of : IsOf l p
   pub sure : p.sure ≡ 1
+  pub parts : p.pass.right.parts ≡ 1024
   pub idle : p.pass.right.armed ≡ 0
-
--- these numbers, one after the other
-abbrev pub counted : ℕ → ℕ → List ℕ
-counted from zero = []
-counted from (suc n) = from ∷ counted (suc from) n
 
 -- the pass has all parts, each consumer by its number, and the keeper, which knows the limit word
 pub record HasAll (l : LogValue) (v : Pass) (c : Controls) : Type 0 where

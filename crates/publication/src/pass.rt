@@ -51,22 +51,27 @@ pub struct Seen {
     pub full: u64,
     /// The count of a term that has begun.
     pub begun: u64,
+    /// The greatest position that the active count or a raw tail has shown it.
+    pub shown: u64,
 }
 
-/// A consumer: its number, where it stands, and the frames that it knows.
+/// A consumer: its number, where it stands, the frames that it knows, and how often it looked where it stood and found
+/// none.
 pub struct Reading {
     pub number: u64,
     pub position: u64,
     pub known: LinkedList<FrameWords>,
+    pub misses: u64,
 }
 
-/// What a keeper knows: 1 where the pass is one, the limit word with its flags, how far bytes are zero again, and the
-/// positions of consumers that it has seen.
+/// What a keeper knows: 1 where the pass is one, the limit word with its flags, how far bytes are zero again, the
+/// positions of consumers that it has seen, and the numbers of the consumers that it read, in order.
 pub struct Keeping {
     pub right: u64,
     pub limit: u64,
     pub cleaned: u64,
     pub positions: LinkedList<u64>,
+    pub reads: LinkedList<u64>,
 }
 
 /// The words of a log that no pass owns: the limit word, the active count, and the raw tails by their partitions.

@@ -5,19 +5,23 @@
 //! A log opens unconnected, its limit and its consumers at the start, or for three causes of refusal in order
 //! (`open`, `Log::open_whole`, `LogError`). A publisher's word calls are those of `publication` (`OnLog`); it knows
 //! how many bytes its claims cover (`Publisher::share`). Two publishers that meet come back as they were, their
-//! claims apart, none above the answer: the greatest position that the three raw tails show, each loaded in that call
-//! (`meet`). One that retires leaves all that it claimed to another (`retire`). Closed with all its passes, a log's
-//! `Book` has each publisher's share, and the entries of all tile the stream from the start to its tail (`close`).
+//! claims apart, none above the answer: the greatest position that the three raw tails show, each loaded in that call,
+//! and none that a word had shown to either is above it (`meet`). One that retires leaves all that it claimed to
+//! another, whose it is then (`retire`). Closed with all its passes, a log's `Book` has each publisher's share, which is
+//! that of the entries' owners, and the entries of all tile the stream from the start to its tail (`close`).
 //!
-//! A reader: `next` gives the committed frame where it stands, and none only where no frame begins that the reader
-//! knows; `advance` goes to its end; `reread` gives a frame again that it knows, up to three quarters of a term
-//! below; after `learn` it knows all that a publisher has committed. Whoever has every part of the log finds what its
-//! own pass committed, and nothing else. A reader is a source of frames for a sender (`LogFrames`). For one that was
-//! told nothing, a `next` that never looks meets its contract.
+//! A reader: `next` gives the committed frame where it stands, and none only where the word there, loaded once in that
+//! call, was zero, and no frame begins that the reader knows; `advance` goes to its end; `reread` gives a frame again
+//! that it knows, up to three quarters of a term below; after `learn` it knows all that a publisher has committed.
+//! Whoever has every part of the log finds what its own pass committed, and nothing else. A reader is a source of
+//! frames for a sender (`LogFrames`).
 //!
 //! The keeper (`clean_and_limit`) reads each consumer's position once, cleans up to a term below the least, and
 //! raises the limit to half a term above that where the log is connected and not closed, never lower; the flags are
 //! set as asked, closing for good (`set_connected`, `set_closed`). All of it exactly, and in so many word steps.
+//!
+//! Counted are the steps on words that a pass makes: loads, stores, additions and exchanges. `Log::peek` is for tests,
+//! and no call can make it, since it wants the log for itself.
 //!
 //! Who has several roles in one pass, as `Log::open_whole` gives it, acts in one after the other: a publisher becomes a
 //! reader or the keeper (`into_reader`, `into_keeper`), and a publisher again (`into_publisher`), with the same pass.

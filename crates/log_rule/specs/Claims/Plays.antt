@@ -29,7 +29,7 @@ bounds_of key = record {
 }
 
 abbrev pub no_keeping : Keeping
-no_keeping = record { right = 0; limit = 0; cleaned = 0; positions = [] }
+no_keeping = record { right = 0; limit = 0; cleaned = 0; positions = []; reads = [] }
 
 -- a pass with this number and so many parts, which has seen the term in which the log begins, and claimed nothing
 abbrev pub newcomer : Identity → ℕ → ℕ → ℕ → Pass
@@ -42,7 +42,7 @@ newcomer identity start number parts =
       call = [];
       right = record { parts = parts; limit = 0; armed = 0; claims = [] };
       work = works [] [];
-      seen = record { count = first; term = first; full = 0; begun = first };
+      seen = record { count = first; term = first; full = 0; begun = first; shown = 0 };
       reading = [];
       keeping = no_keeping;
     }
