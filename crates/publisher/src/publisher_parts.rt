@@ -1,6 +1,6 @@
 //! What a publisher begins with.
 
-ghost use Rattle.std.specs.Prelude.{◌≡◌, IfOk};
+ghost use Rattle.std.specs.Prelude.{◌≡◌, IfErr, IfOk};
 ghost use Rattle.publisher.specs.Beginnings.{ArePublisherParts, device_of, sent_by};
 ghost use Rattle.publisher.specs.Openings.{identity_of};
 
@@ -43,7 +43,8 @@ fn duty_of(
     plan: &PublishPlan,
     device: UdpDevice,
 ) -> Result<Duty<Attended<Lossy<PatientDevice<UdpDevice>>>>, DeviceError>
-    ensures { IfOk result (λ d. d ≡ record { device = device_of plan.now device; mtu = plan.now.geometry.mtu }) }
+    ensures made { IfOk result (λ d. d ≡ record { device = device_of plan.now device; mtu = plan.now.geometry.mtu }) }
+    ensures refused { IfErr result (λ error. error ≡ DeviceError.Memory) }
 {
     let patient = PatientDevice::new(device);
     let lossy = Lossy::new(alloc, patient, plan.end.rates, plan.end.seed);
@@ -67,6 +68,7 @@ pub fn publisher_parts(
 ) -> Result<PublisherParts, PublishFault>
     ensures parts { IfOk result (λ p. ArePublisherParts plan.now p) }
     ensures device { IfOk result (λ p. p.passes.duty.device ≡ device_of plan.now device) }
+    ensures refused { IfErr result (λ fault. fault ≡ PublishFault.Failed DeviceError.Memory) }
 {
     let duty = duty_of(alloc, plan, device)?;
     let (conductor, client, taker) = Conductor::with_client(alloc)?;
