@@ -3,3 +3,4 @@ pub mod Written
 pub mod Openings
 pub mod Windows
 pub mod Calling
+pub mod Patience

@@ -1,6 +1,7 @@
 -- What a subscriber has seen of the time, and what comes of it.
-use Rattle.std.specs.Prelude.{◌+◌, ◌-◌, ◌≤◌, ℕ, nat_lt, Bool, IsTrue, min, if◌then◌else◌}
+use Rattle.std.specs.Prelude.{Result, Ok, Err, ◌+◌, ◌-◌, ◌≤◌, ℕ, nat_lt, Bool, IsTrue, min, if◌then◌else◌}
 use Rattle.endpoint.specs.Devices.{counted}
+use Rattle.endpoint.specs.declared.datagrams.DeviceFailed.{DeviceFailed}
 use Rattle.options.specs.declared.ends.plans.SubscribePlan.{SubscribePlan}
 
 -- moments are nanoseconds from its begin
@@ -43,6 +44,11 @@ working s = record s { worked = s.moment }
 -- one failed
 abbrev pub losing : Seen → Seen
 losing s = record s { lost = counted s.lost }
+
+-- by what it answered
+abbrev pub after_call : Result (Unit {0}) DeviceFailed → Seen → Seen
+after_call (Ok done) s = working s
+after_call (Err failed) s = losing s
 
 -- a datagram was a stranger's
 abbrev pub with_stranger : Seen → Seen

@@ -1,9 +1,9 @@
 //! A subscriber with an image.
 
-ghost use Rattle.std.specs.Prelude.{◌≡◌, ◌≤◌, ◌↔◌, ℕ, IfErr, IfOk, IsTrue, OnOk, Some};
+ghost use Rattle.std.specs.Prelude.{◌≡◌, ◌≢◌, ◌≤◌, ◌↔◌, ℕ, IfErr, IfOk, IsTrue, OnOk, Some};
 ghost use Rattle.endpoint.specs.declared.device_error.DeviceError.TheVariants.{Device};
 ghost use Rattle.subscriber.specs.Leavings.{HasAll, IsDone, IsEnding, IsQuietEnding, NotesHeard, NotesWork, StandsHere};
-ghost use Rattle.subscriber.specs.Watches.{IsBroken};
+ghost use Rattle.subscriber.specs.Watches.{IsBroken, IsSilent};
 ghost use Rattle.subscriber.specs.declared.fault.SubscribeFault.TheVariants.{Failed};
 ghost use Rattle.subscriber.specs.Writings.{Writes};
 
@@ -47,6 +47,8 @@ fn cycle_once<W: Write>(
     requires size { joined.old.duty.mtu ≡ 40 }
     requires few { written ≤ plan.now.messages }
     ensures size { joined.new.duty.mtu ≡ 40 }
+    // No fault of the socket ends it.
+    ensures patient { IfErr result (λ fault. fault ≢ Failed Device) }
     ensures heard { OnOk result (NotesHeard joined.old.duty.device.notes.frames joined.new.duty.device.notes.frames watch.old watch.new) }
     ensures writes { IfOk result (λ r. (r.0 ≤ plan.now.messages) × Writes plan.now.end.form written (W.contents output.old) r.0 (W.contents output.new)) }
 {
@@ -127,7 +129,8 @@ fn ending_of(
 
 /// Tells once that the session is silent, and once that it goes on.
 fn tell_silence<E: Write>(joined: &mut Joined, errors: &mut E, watch: &Watch)
-    ensures { joined.new ≡ record joined.old { silent = joined.new.silent } }
+    ensures noted { IsTrue joined.new.silent ↔ IsSilent watch.now }
+    ensures same { joined.new ≡ record joined.old { silent = joined.new.silent } }
 {
     let silent = watch.is_silent();
     if silent == joined.silent {

@@ -1,10 +1,10 @@
 //! A subscriber without an image.
 
-ghost use Rattle.std.specs.Prelude.{◌≡◌, ◌⊎◌, None, IfNone, IfOk, IfSome};
+ghost use Rattle.std.specs.Prelude.{◌≡◌, None, IfNone, IfOk, IfSome};
 ghost use Rattle.frames.specs.Frames.{setup_of};
 ghost use Rattle.subscriber.specs.Calls.{Heeds, IsCall, IsCallWith, IsJoined, IsJoinedBy};
 ghost use Rattle.subscriber.specs.Meetings.{Opens};
-ghost use Rattle.subscriber.specs.Watches.{IsQuiet, losing, working};
+ghost use Rattle.subscriber.specs.Watches.{IsQuiet, after_call};
 
 use crate::fault::SubscribeFault;
 use crate::followed::Followed;
@@ -14,7 +14,7 @@ use crate::meeting::{Meeting, meeting_of};
 use crate::telling::{Counts, tell_waiting};
 use crate::watch::Watch;
 use agents::{Duty, IdleStrategy, Party, REPLY};
-use endpoint::DeviceError;
+use endpoint::{DeviceError, DeviceFailed};
 use loss_injector::Lossy;
 use options::SubscribePlan;
 use outbox::Outbox;
@@ -61,11 +61,11 @@ fn call_of(plan: &SubscribePlan, from: SocketAddr, datagram: &[u8]) -> Call
     }
 }
 
-/// Takes a datagram, if one has come, and notes whether the call worked.
-fn hear(listener: &mut Listener, watch: &mut Watch)
-    ensures { (watch.new ≡ working watch.old) ⊎ (watch.new ≡ losing watch.old) }
+/// Notes whether a call of the socket worked.
+fn note_call(answer: Result<(), DeviceFailed>, watch: &mut Watch)
+    ensures { watch.new ≡ after_call answer watch.old }
 {
-    match listener.hear() {
+    match answer {
         Ok(()) => watch.work(),
         Err(_) => watch.lose(),
     }
@@ -191,7 +191,7 @@ pub(crate) fn listen<R: Wait + Clock, E: Write>(
     let mut idle = IdleStrategy::new();
     for _ in rt.forever() {
         watch.see(rt)?;
-        hear(&mut listener, watch);
+        note_call(listener.hear(), watch);
         let came = listener.last().is_some();
         if let Some(meeting) = heed(alloc, plan, &listener, &mut outbox, watch)? {
             return Ok(Some(join(alloc, plan, listener, &meeting, watch.moment())?));

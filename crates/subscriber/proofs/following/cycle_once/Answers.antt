@@ -1,0 +1,9 @@
+use Rattle.std.proofs.Common.{refl}
+use Rattle.std.proofs.lemmas.Result.{err_from_is_err_and}
+use Rattle.subscriber.proofs.Patience.{patient}
+use Rattle.subscriber.proofs.following.cycle_once.Goals as goal
+
+pub returns-in_err-done-clause-patient : goal.returns-in_err-done-clause-patient
+returns-in_err-done-clause-patient g c =
+    let p = err_from_is_err_and c.from_residual.result c.from_residual.ensures.1 in
+    rw (p.1, p.2) (patient _ _ _ _ _ _ _ _ _ _ _ _ refl refl c.in_err-done.ensures.fault)
