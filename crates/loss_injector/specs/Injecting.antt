@@ -1,6 +1,6 @@
 -- What a contract sees of an injector, and what a datagram makes it give.
-use Rattle.std.specs.Prelude.{◌≡◌, ℕ, List, Option}
-use Rattle.theory.specs.Loss.{Rates, Verdict, IsVerdict, given}
+use Rattle.std.specs.Prelude.{◌≡◌, ℕ, List, Option, None}
+use Rattle.theory.specs.Loss.{Rates, Verdict, IsVerdict, given, Hold}
 
 pub record Injecting : Type 0 where
   pub rates : Rates
@@ -12,3 +12,7 @@ pub record Gives (old : Injecting) (word : ℕ) (datagram : List ℕ) (out : Lis
   pub decided : IsVerdict old.rates word verdict
   pub out_is : out ≡ (given old.held datagram verdict).out
   pub new_is : new ≡ record old { held = (given old.held datagram verdict).held }
+
+-- a datagram that comes with this word is held back, as none is yet
+abbrev pub IsKeeping : Injecting → ℕ → Type 0
+IsKeeping i word = IsVerdict i.rates word Hold × (i.held ≡ None)

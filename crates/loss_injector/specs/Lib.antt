@@ -3,3 +3,4 @@ pub mod Texts
 pub mod Verdicts
 pub mod Losing
 pub mod Metering
+pub mod Ways

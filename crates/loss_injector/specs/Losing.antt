@@ -4,7 +4,7 @@ use Rattle.rand_core.specs.Pcg32Seed.{pcg32_seed}
 use Rattle.rand_pcg.specs.Lcg.{Lcg}
 use Rattle.rand_pcg.specs.Pcg.{pcg32, pcg32_of_seed}
 use Rattle.theory.specs.Loss.{Rates}
-use Rattle.loss_injector.specs.Injecting.{Gives, Injecting}
+use Rattle.loss_injector.specs.Injecting.{Gives, Injecting, IsKeeping}
 use Rattle.endpoint.specs.Calls.{CountsFailure}
 use Rattle.endpoint.specs.Devices.{Device}
 use Rattle.endpoint.specs.declared.datagrams.DeviceFailed.{DeviceFailed}
@@ -23,9 +23,9 @@ begun device rates seed = record {
   draws = pcg32_of_seed (pcg32_seed 16 seed);
 }
 
--- the injector makes this of a datagram; or memory for it was refused, and it's lost
+-- the injector makes this of a datagram; or it was to be held back and memory for that was refused, and it's lost
 abbrev pub Injects : Injecting → ℕ → List ℕ → List (List ℕ) → Injecting → Type 0
-Injects old word datagram out new = Gives old word datagram out new ⊎ ((out ≡ []) × (new ≡ old))
+Injects old word datagram out new = Gives old word datagram out new ⊎ (IsKeeping old word × (out ≡ []) × (new ≡ old))
 
 -- some of these datagrams, the first ones, were carried away, and then the device failed
 pub record StopsWithin (old : Device) (out : List (List ℕ)) (new : Device) : Type 0 where

@@ -1,11 +1,26 @@
-ghost use Rattle.std.specs.Prelude.{◌≡◌, ◌↔◌, ◌∷◌, [], ℕ, List, None, map, IsTrue, IsOk, IfOk, IfErr};
+ghost use Rattle.std.specs.Prelude.{◌≡◌, ℕ, List, None, Some, map, IsOk, IfOk, IfErr, OnErr, OnOk};
 ghost use Rattle.theory.specs.Loss.{IsVerdict};
 ghost use Rattle.theory.specs.Loss as meant;
-ghost use Rattle.loss_injector.specs.Injecting.{Gives};
+ghost use Rattle.loss_injector.specs.Injecting.{Gives, IsKeeping};
+ghost use Rattle.loss_injector.specs.Ways.{given_by, keeping};
 
 use crate::rates::{Rates, Verdict, decide};
 use std::alloc::{AllocError, Global};
 use std::marker::Model;
+
+/// What becomes of a datagram.
+#[derive(Drop)]
+pub enum Way {
+    /// It is lost.
+    Nowhere,
+    /// It is held back.
+    Kept,
+    /// It goes, once or twice, and behind it what was held.
+    Goes {
+        twice: bool,
+        behind: Option<Vec<u8>>,
+    },
+}
 
 /// Drops, repeats and holds back datagrams. At most one is held.
 #[derive(Drop)]
@@ -36,13 +51,29 @@ impl Injector {
         }
     }
 
-    /// Whether a datagram that comes with this random word is given alone, and nothing is held before or behind it.
-    pub fn passes(&self, word: u32) -> bool
-        ensures passes { IsTrue result ↔ (IsVerdict self.now.rates word meant.Pass × (self.now.held ≡ None)) }
-        ensures alone { IsTrue result → (datagram : List ℕ) → Gives self.now word datagram (datagram ∷ []) self.now }
+    /// Decides what becomes of a datagram that comes with this random word, which needs no memory. A held one goes behind
+    /// the first that goes.
+    pub fn way(&mut self, word: u32) -> Way
+        ensures gives { (datagram : List ℕ) → Gives self.old word datagram (given_by result datagram) (keeping result datagram self.new) }
+        ensures keeps { result ≡ Way.Kept → IsKeeping self.old word × (self.new ≡ self.old) }
     {
-        let verdict = decide(word, &self.rates);
-        verdict == Verdict::Pass && self.held.is_none()
+        match decide(word, &self.rates) {
+            Verdict::Drop => Way::Nowhere,
+            Verdict::Hold if self.held.is_none() => Way::Kept,
+            verdict => Way::Goes {
+                twice: verdict == Verdict::Repeat,
+                behind: self.held.take(),
+            },
+        }
+    }
+
+    /// Holds a copy of a datagram. Where memory is refused nothing has changed.
+    pub fn keep(&mut self, datagram: &[u8]) -> Result<(), AllocError>
+        ensures kept { OnOk result (self.new ≡ record self.old { held = Some datagram.now }) }
+        ensures refused { OnErr result (self.new ≡ self.old) }
+    {
+        self.held = Some(Vec::from_slice(self.alloc, datagram)?);
+        Ok(())
     }
 
     /// Takes a datagram and a random word, and gives what goes on its way now, in order. Where nothing does, no memory

@@ -1,30 +1,31 @@
 //! A device round another, through which datagrams get lost.
 
-ghost use Rattle.std.specs.Prelude.{◌≡◌, IfOk, OnErr, map};
+ghost use Rattle.std.specs.Prelude.{◌≡◌, ◌++◌, map};
 ghost use Rattle.std.specs.Borrow.{Lends, sem};
+ghost use Rattle.std.specs.Option.{option_map, option_to_list};
 ghost use Rattle.loss_injector.specs.contracts.lossy.Lossy.{the_row};
 ghost use Rattle.endpoint.specs.Calls.{Receives, Sends};
 ghost use Rattle.endpoint.specs.Devices.{NeverFall};
-ghost use Rattle.loss_injector.specs.Injecting.{Gives};
-ghost use Rattle.loss_injector.specs.Losing.{Injects, SendsAll, SendsThrough, begun};
+ghost use Rattle.loss_injector.specs.Losing.{SendsAll, SendsThrough, begun};
+ghost use Rattle.loss_injector.specs.Ways.{repeated};
 
-use crate::injector::Injector;
+use crate::injector::{Injector, Way};
 use crate::rates::Rates;
 use endpoint::{Datagrams, DeviceFailed};
 use rand_core::SeedableRng;
 use rand_core::utils::NextWord;
 use rand_pcg::Pcg32;
-use std::alloc::{AllocError, Global};
+use std::alloc::Global;
 use std::marker::Model;
 
 /// A device round another. Each send draws one word of its generator, and hands the inner device what the injector
-/// makes of the datagram by that word, in order, up to a fault. A receive is the inner device's, and draws none.
+/// makes of the datagram by that word, in order, up to a fault. A datagram that is to be held back is lost where memory is
+/// refused; nothing else asks for any. A receive is the inner device's, and draws none.
 ///
 /// What it tells is the inner device's traffic, and not what was handed to it: so as a device it tells nothing of its
 /// own, and what becomes of a datagram is said of its `send` by name, wherever the inner device tells.
 #[derive(Drop)]
 pub struct Lossy<D> {
-    alloc: Global,
     inner: D,
     injector: Injector,
     draws: Pcg32,
@@ -44,7 +45,6 @@ impl<D> Lossy<D> {
         ensures { result ≡ begun device rates seed }
     {
         Lossy {
-            alloc,
             inner: device,
             injector: Injector::new(alloc, rates),
             draws: Pcg32::seed_from_u64(seed),
@@ -67,41 +67,35 @@ impl<D> Lossy<D> {
     }
 }
 
-/// What the injector makes of a datagram by a random word. The error comes only where memory was refused; then the injector
-/// is as before.
-fn inject(
-    alloc: Global,
-    injector: &mut Injector,
-    datagram: &[u8],
-    word: u32,
-) -> Result<Vec<Vec<u8>>, AllocError>
-    ensures given { IfOk result (λ out. Gives injector.old word datagram.now (map (λ d. d.items) out.items) injector.new) }
-    ensures refused { OnErr result (injector.new ≡ injector.old) }
-{
-    let copy = Vec::from_slice(alloc, datagram)?;
-    injector.push(copy, word)
-}
-
-/// What goes on its way of a datagram. Where memory is refused it is lost.
-fn made_of(alloc: Global, injector: &mut Injector, datagram: &[u8], word: u32) -> Vec<Vec<u8>>
-    ensures { Injects injector.old word datagram.now (map (λ d. d.items) result.items) injector.new }
-{
-    match inject(alloc, injector, datagram, word) {
-        Ok(out) => out,
-        Err(_) => Vec::new(alloc),
-    }
-}
-
 /// Hands datagrams to a device one after the other, up to a fault.
-fn send_all<D: Datagrams>(device: &mut D, out: &[Vec<u8>]) -> Result<(), DeviceFailed>
+fn send_all<D: Datagrams>(device: &mut D, out: &[&[u8]]) -> Result<(), DeviceFailed>
     ensures counts { NeverFall (D.device device.old) (D.device device.new) }
-    ensures sends { SendsAll (D.tells device.old) (D.device device.old) (map (λ d. d.items) out.now) result (D.device device.new) }
+    ensures sends { SendsAll (D.tells device.old) (D.device device.old) (map (λ d. d.now) out.now) result (D.device device.new) }
     ensures still_tells { D.tells device.old → D.tells device.new }
 {
     for datagram in out {
         device.send(datagram)?;
     }
     Ok(())
+}
+
+/// Hands a datagram to a device, once or twice, and then the one that goes behind it, up to a fault.
+fn send_out<D: Datagrams>(
+    device: &mut D,
+    datagram: &[u8],
+    twice: bool,
+    behind: Option<Vec<u8>>,
+) -> Result<(), DeviceFailed>
+    ensures counts { NeverFall (D.device device.old) (D.device device.new) }
+    ensures sends { SendsAll (D.tells device.old) (D.device device.old) (repeated twice datagram.now ++ option_to_list (option_map (λ d. d.items) behind)) result (D.device device.new) }
+    ensures still_tells { D.tells device.old → D.tells device.new }
+{
+    match (twice, &behind) {
+        (false, None) => send_all(device, &[datagram]),
+        (true, None) => send_all(device, &[datagram, datagram]),
+        (false, Some(held)) => send_all(device, &[datagram, held.as_slice()]),
+        (true, Some(held)) => send_all(device, &[datagram, datagram, held.as_slice()]),
+    }
 }
 
 impl<D: Datagrams> Datagrams for Lossy<D> {
@@ -116,11 +110,14 @@ impl<D: Datagrams> Datagrams for Lossy<D> {
         ensures inner_tells { D.tells self.old.inner → D.tells self.new.inner }
     {
         let word = self.draws.next_word();
-        if self.injector.passes(word) {
-            return self.inner.send(datagram);
+        match self.injector.way(word) {
+            Way::Nowhere => Ok(()),
+            Way::Kept => {
+                let _ = self.injector.keep(datagram);
+                Ok(())
+            }
+            Way::Goes { twice, behind } => send_out(&mut self.inner, datagram, twice, behind),
         }
-        let out = made_of(self.alloc, &mut self.injector, datagram, word);
-        send_all(&mut self.inner, &out)
     }
 
     fn recv(&mut self, buffer: &mut [u8]) -> Result<Option<usize>, DeviceFailed>

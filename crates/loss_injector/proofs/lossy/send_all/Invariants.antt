@@ -10,5 +10,5 @@ invariant-loop-datagram g l =
       same_received : new.received ≡ old.received;
       same_nones : new.nones ≡ old.nones;
       still_tells : g.D.Datagrams.tells l.initial.device → g.D.Datagrams.tells l.device;
-      sent : g.D.Datagrams.tells l.initial.device → new ≡ record old { sent = old.sent ++ map (λ d. d.items) (take l.datagram-index l.out) };
+      sent : g.D.Datagrams.tells l.initial.device → new ≡ record old { sent = old.sent ++ map (λ d. d.now) (take l.datagram-index l.out) };
     }

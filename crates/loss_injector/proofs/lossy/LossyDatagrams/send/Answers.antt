@@ -1,19 +1,29 @@
-use Rattle.std.proofs.Common.{◌∷◌, [], ap, inl, map}
-use Rattle.loss_injector.proofs.LossyLemmas.{alone}
+use Rattle.std.proofs.Common.{[], ◌++◌, ap, inl, refl}
+use Rattle.std.specs.Option.{option_map, option_to_list}
+use Rattle.loss_injector.specs.Ways.{repeated}
+use Rattle.loss_injector.proofs.LossyLemmas.{kept_or_lost, none_sent}
 use Rattle.loss_injector.proofs.lossy.LossyDatagrams.send.Goals as goal
 
-pub returns-clause-through : goal.returns-clause-through
-returns-clause-through g c = rw (← c.self.view_is) (record {
-  out = map (λ d. d.items) c.made_of-out.result.items;
-  injects = rw (← ap (λ p. p.0) c.next_word-word.ensures) c.made_of-out.ensures;
+pub returns-in-Nowhere-clause-through : goal.returns-in-Nowhere-clause-through
+returns-in-Nowhere-clause-through g c = rw (← c.self.view_is) (record {
+  out = [];
+  injects = inl (rw (← ap (λ p. p.0) c.next_word-word.ensures) (c.in-Nowhere.ensures.gives c.args.datagram.now));
   drew = ap (λ p. p.1) c.next_word-word.ensures;
-  sends = rw (← c.deref.ensures.value) c.send_all.ensures.sends;
+  sends = none_sent _ _;
 })
 
-pub returns-then-passes-clause-through : goal.returns-then-passes-clause-through
-returns-then-passes-clause-through g c = rw (← c.self.view_is) (record {
-  out = c.args.datagram.now ∷ [];
-  injects = inl (rw (← ap (λ p. p.0) c.next_word-word.ensures) (c.passes.ensures.alone c.if-passes.true c.args.datagram.now));
+pub returns-in-Kept-clause-through : goal.returns-in-Kept-clause-through
+returns-in-Kept-clause-through g c = rw (← c.self.view_is) (record {
+  out = [];
+  injects = rw (← ap (λ p. p.0) c.next_word-word.ensures) (kept_or_lost _ c.way.new.self c.keep.new.self _ c.args.datagram.now c.keep.result (c.in-Kept.ensures.gives c.args.datagram.now) (c.in-Kept.ensures.keeps refl) c.keep.ensures.kept c.keep.ensures.refused);
   drew = ap (λ p. p.1) c.next_word-word.ensures;
-  sends = alone _ _ _ _ _ c.send.ensures.sends;
+  sends = none_sent _ _;
+})
+
+pub returns-in-Goes-clause-through : goal.returns-in-Goes-clause-through
+returns-in-Goes-clause-through g c = rw (← c.self.view_is) (record {
+  out = repeated c.in-Goes.twice c.args.datagram.now ++ option_to_list (option_map (λ d. d.items) c.in-Goes.behind);
+  injects = inl (rw (← ap (λ p. p.0) c.next_word-word.ensures) (c.in-Goes.ensures.gives c.args.datagram.now));
+  drew = ap (λ p. p.1) c.next_word-word.ensures;
+  sends = c.send_out.ensures.sends;
 })
