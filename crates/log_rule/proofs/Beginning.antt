@@ -65,13 +65,13 @@ one_view P p a (suc j) v e = absurd (some-ne-none v (sym e))
 
 readers_none : (start j k n : ℕ) → j < k → total (reads_as j) (consumers_at start k n) ≡ 0
 readers_none start j k zero lt = refl
-readers_none start j k (suc n) lt = let r = readers_none start j (suc k) n (omega arith) in let z : reads_as j (record { number = k; position = start; known = [] }) ≡ 0 = ap (λ (b : Bool). cond b 1 0) (ne_eqb k j (λ e. omega arith)) in omega arith
+readers_none start j k (suc n) lt = let r = readers_none start j (suc k) n (omega arith) in let z : reads_as j (record { number = k; position = start; known = []; misses = 0 }) ≡ 0 = ap (λ (b : Bool). cond b 1 0) (ne_eqb k j (λ e. omega arith)) in omega arith
 
 readers_once : (start j k n : ℕ) → total (reads_as j) (consumers_at start k n) ≤ 1
 readers_once start j k zero = omega arith
 readers_once start j k (suc n) = dite (dec_le j k)
     (λ le. let r = readers_none start j (suc k) n (omega arith) in let one = small (eqb k j) in omega arith)
-    (λ no. let z : reads_as j (record { number = k; position = start; known = [] }) ≡ 0 = ap (λ (b : Bool). cond b 1 0) (ne_eqb k j (λ e. no (let q : j ≤ k = omega arith in q))) in let r = readers_once start j (suc k) n in omega arith)
+    (λ no. let z : reads_as j (record { number = k; position = start; known = []; misses = 0 }) ≡ 0 = ap (λ (b : Bool). cond b 1 0) (ne_eqb k j (λ e. no (let q : j ≤ k = omega arith in q))) in let r = readers_once start j (suc k) n in omega arith)
   where
     small : (b : Bool) → cond b 1 0 ≤ 1
     small true = omega arith

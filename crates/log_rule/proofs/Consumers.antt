@@ -31,7 +31,7 @@ use Rattle.log_rule.specs.declared.rule.Key.{Key}
 use Rattle.log_rule.specs.Edges.{AreCommitted, IsAmong, IsEdge, IsPlaced, begins_at, claimed_sum, committed_sum}
 use Rattle.log_rule.specs.Kept.{Attends, IsKeeper, IsReader, Kept, keepers_of, readers_of, reads_as}
 use Rattle.log_rule.specs.Table.{LogRuled, now_at}
-use Rattle.log_rule.specs.Readings.{Consumed, Consumes, Has, IsConsumer, IsFrameAt, LookedHere, Looks, MayPass, Rereads, end_of, knows_more, moved_to, reading, with_consumer}
+use Rattle.log_rule.specs.Readings.{Consumed, Consumes, Has, IsConsumer, IsFrameAt, LookedHere, Looks, MayPass, Rereads, end_of, knows_more, missed, moved_to, reading, with_consumer}
 use Rattle.log_rule.proofs.Sums.{covered, covering}
 use Rattle.log_rule.proofs.Edges.{among_claimed, edge_behind, passed_behind}
 use Rattle.log_rule.proofs.Growing.{Grows, Spared, attends_on, grows, placed_on, same_sum}
@@ -146,6 +146,16 @@ module _ (key : Key) (slots id : ℕ) (m : Mine) (place : ℕ) (r : Reading) (is
           keeping = base.keeping;
         }
 
+    -- it has looked once more
+    looked : Attends b key.consumers s.words (set (map pass_in s.views) id (with_consumer m.0.pass place (missed r))) (with_consumer m.0.pass place (missed r))
+    looked =
+        let v : Pass = m.0.pass in let w : Pass = with_consumer v place (missed r) in let qs : List Pass = map pass_in s.views in let qs' : List Pass = set qs id w in
+        let g : Grows b qs qs' = grows b s.words s.words qs qs' q.ruled (rested_here b s.words qs q.ruled id v w.reading v.keeping here) (inl (rest_looks qs id v w.reading v.keeping here)) in
+        let base = attends_on b key.consumers q.kept.few s.words s.words qs qs' g (spared_same s.words) v attends in record {
+          readings = all_put (IsReader key.consumers s.words qs') v.reading place (missed r) record { position = consumer.position; known = all_weaker (IsAmong qs) (IsAmong qs') g.among r.known consumer.known } base.readings;
+          keeping = base.keeping;
+        }
+
     -- nothing more is known
     unmoved : Attends b key.consumers s.words (set (map pass_in s.views) id m.0.pass) m.0.pass
     unmoved =
@@ -198,11 +208,12 @@ module _ (key : Key) (slots id : ℕ) (m : Mine) (place : ℕ) (r : Reading) (is
           },
         ),
       ))
-      (λ no. let zero_here : n ≡ 0 = none_is n (lt_of_not-le no) in let w : View = record { pass = v.pass; steps = suc v.steps; controls = v.controls; sure = v.sure } in (
+      (λ no. let zero_here : n ≡ 0 = none_is n (lt_of_not-le no) in let x : Reading = missed r in let rs : List Reading = set v.pass.reading place x in
+      let w : View = record { pass = with_consumer v.pass place x; steps = suc v.steps; controls = v.controls; sure = v.sure } in (
         w,
         keeps,
         tt,
-        loaded key s q id i v v.pass.reading v.pass.keeping at (λ j. refl) refl (unmoved s q at),
+        loaded key s q id i v rs v.pass.keeping at (renumbered x refl) refl (looked s q at),
         (
           refl,
           refl,
@@ -381,7 +392,7 @@ module _ (key : Key) (slots id : ℕ) (m : Mine) (place : ℕ) (r : Reading) (is
       stays : (a old new : ℕ) → a ≤ old → new ≡ old → a ≤ new
       stays a old new le e = omega arith
 
-      itself : (k : ℕ) → reads_as k (record { number = k; position = 0; known = [] }) ≡ 1
+      itself : (k : ℕ) → reads_as k (record { number = k; position = 0; known = []; misses = 0 }) ≡ 1
       itself k = ap (λ (t : Bool). cond t 1 0) (eq-eqb k k refl)
 
       least : (a t : ℕ) → a ≤ t → a ≡ 1 → 1 ≤ t

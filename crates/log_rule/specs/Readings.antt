@@ -27,6 +27,10 @@ with_consumer v place r = record v { reading = slice_set v.reading place r }
 abbrev pub knows_more : Reading → FrameWords → Reading
 knows_more r f = record r { known = r.known ++ f ∷ [] }
 
+-- it has looked once more, and found none
+abbrev pub missed : Reading → Reading
+missed r = record r { misses = suc r.misses }
+
 abbrev pub moved_to : Reading → ℕ → Reading
 moved_to r p = record r { position = p }
 
@@ -54,9 +58,9 @@ pub record FindsFrame (v : Pass) (place : ℕ) (r : Reading) (n : ℕ) (w : Pass
   pub own : v.right.parts ≡ 1024 → Among frame v.work.frames
   pub after : w ≡ with_consumer v place (knows_more r frame)
 
--- the first word where the consumer stands: none is committed there while it is zero
+-- the first word where the consumer stands: none is committed there while it is zero, and the look is counted then
 pub record LookedHere (v : Pass) (place : ℕ) (r : Reading) (n : ℕ) (w : Pass) : Type 0 where
-  pub none : n ≡ 0 → (w ≡ v) × ((g : FrameWords) → Has v r g → g.start ≡ r.position → ⊥)
+  pub none : n ≡ 0 → (w ≡ with_consumer v place (missed r)) × ((g : FrameWords) → Has v r g → g.start ≡ r.position → ⊥)
   pub found : 0 < n → FindsFrame v place r n w
 
 abbrev pub Looks : Pass → ℕ → ℕ → Pass → Type 0

@@ -39,7 +39,7 @@ pub record LogRuled (key : Key) (s : State (Unit {0}) View) : Type 0 where
 -- so many consumers at a position, with these numbers and those behind
 abbrev pub consumers_at : ℕ → ℕ → ℕ → List Reading
 consumers_at start number zero = []
-consumers_at start number (suc n) = record { number = number; position = start; known = [] } ∷ consumers_at start (suc number) n
+consumers_at start number (suc n) = record { number = number; position = start; known = []; misses = 0 } ∷ consumers_at start (suc number) n
 
 -- all publishers, all consumers and the keeper of a log that opens, unconnected, with its limit at the start
 abbrev pub whole_pass : Key → Pass
@@ -87,7 +87,7 @@ keeper_right v = new_seat (record (newcomer v.pass.identity v.pass.start 0 8) { 
 
 -- what is known alone, of no consumer
 abbrev pub news_of : Pass → Reading
-news_of v = record { number = 8; position = 0; known = v.work.frames }
+news_of v = record { number = 8; position = 0; known = v.work.frames; misses = 0 }
 
 abbrev pub news_left : View → View
 news_left v = v

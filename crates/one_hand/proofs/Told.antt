@@ -17,6 +17,7 @@ use Rattle.one_hand.specs.Shown.{shares_of}
 use Rattle.one_hand.specs.Hands.{stream_in}
 use Rattle.one_hand.specs.Parts.{Numbers, Stands}
 use Rattle.one_hand.specs.Readers.{Found, FoundNone, Reads, Reread, reader_of}
+use Rattle.shared_log.proofs.Looking.{misses_stand, only_misses}
 use Rattle.one_hand.proofs.Standing.{known_in, may_read, one_of, reads, reads_again, reads_none, reads_on, same_place}
 
 same_pass : (v w : Pass) → w ≡ v → OnlyReads v w
@@ -44,7 +45,7 @@ module _ (l : LogValue) (p : PublisherValue) (held : List (Option Held)) (n : Nu
   module _ (number position : ℕ) (before after : List ℕ) where
     pub next_stays : (q : PublisherValue) (answer : Option FrameHead) → IfSome answer (λ head. Found l p number position head before q after) → IfNone answer (FoundNone p number position before q after) → Same q
     next_stays q (Some head) f none = let k = f.reads.finds.stays in subst Same f.seat (stays f.reader.held k.seat k.pass k.positions)
-    next_stays q None found f = let k = f.reads.finds.rests in subst Same f.seat (stays f.reader.held k.seat (same_pass p.pass f.reader.held.pass k.pass) (ap positions_of k.pass))
+    next_stays q None found f = let r = reader_of p number position in let k = f.reads.finds.rests in subst Same f.seat (stays f.reader.held k.seat (only_misses r f.reader k) (misses_stand r f.reader k))
 
     pub reread_stays : (q : PublisherValue) (at : ℕ) (head : FrameHead) → Reread l p number position at head before q after → Same q
     reread_stays q at head f = let k = f.reads.rests in subst Same f.seat (stays f.reader.held k.seat (same_pass p.pass f.reader.held.pass k.pass) (ap positions_of k.pass))

@@ -53,11 +53,13 @@ pub struct Seen {
     pub begun: u64,
 }
 
-/// A consumer: its number, where it stands, and the frames that it knows.
+/// A consumer: its number, where it stands, the frames that it knows, and how often it looked where it stood and found
+/// none.
 pub struct Reading {
     pub number: u64,
     pub position: u64,
     pub known: LinkedList<FrameWords>,
+    pub misses: u64,
 }
 
 /// What a keeper knows: 1 where the pass is one, the limit word with its flags, how far bytes are zero again, and the

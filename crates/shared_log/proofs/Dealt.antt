@@ -10,8 +10,8 @@ use Rattle.shared_log.specs.Readers.{ReaderValue}
 use Rattle.shared_log.specs.Parts.{AreReaders, IsDealing, IsNewReader}
 
 -- of the consumers that are left, the first is this one
-pub next_is : (start number n : ℕ) → number < n → consumers_at start number (n - number) ≡ record { number = number; position = start; known = [] } ∷ consumers_at start (number + 1) (n - (number + 1))
-next_is start number n lt = (λ i. consumers_at start number (some i)) ∙ (λ i. record { number = number; position = start; known = [] } ∷ consumers_at start (more i) (n - (number + 1)))
+pub next_is : (start number n : ℕ) → number < n → consumers_at start number (n - number) ≡ record { number = number; position = start; known = []; misses = 0 } ∷ consumers_at start (number + 1) (n - (number + 1))
+next_is start number n lt = (λ i. consumers_at start number (some i)) ∙ (λ i. record { number = number; position = start; known = []; misses = 0 } ∷ consumers_at start (more i) (n - (number + 1)))
   where
     some : n - number ≡ suc (n - (number + 1))
     some = omega arith

@@ -19,12 +19,12 @@ use Rattle.publication.proofs.Contents.{head_said, legal_said}
 use Rattle.log_rule.specs.Claims.Memory.{IsCommittedFrame}
 use Rattle.shared_log.specs.Handles.{LogValue}
 use Rattle.log_rule.specs.Claims.Handles.{PublisherValue}
-use Rattle.shared_log.specs.Readers.{Advances, Copies, Finds, FindsNone, Has, IsReaderOf, IsReading, LoadsWord, MayReread, OnlyReads, ReaderValue, ReadsFrame, Rereads, Rests, SameSeat, Stays, known_at, known_of, positions_of}
+use Rattle.shared_log.specs.Readers.{Advances, Copies, Finds, FindsNone, Has, IsReaderOf, IsReading, LoadsWord, MayReread, Misses, OnlyReads, ReaderValue, ReadsFrame, Rereads, Rests, SameSeat, Stays, known_at, known_of, misses_at, positions_of}
 use Rattle.log_rule.specs.Readings as Frames
-use Rattle.log_rule.specs.Readings.{Consumes, IsConsumer, IsFrameAt, Looks, knows_more, moved_to, with_consumer}
+use Rattle.log_rule.specs.Readings.{Consumes, IsConsumer, IsFrameAt, Looks, knows_more, missed, moved_to, with_consumer}
 use Rattle.log_rule.proofs.InTerm.{done_long, words_cover}
 use Rattle.std.proofs.lemmas.List.{map-set}
-use Rattle.shared_log.proofs.Looking.{has_on, known_is, known_on, rests_on, put_equal, put_there, same_on}
+use Rattle.shared_log.proofs.Looking.{has_on, known_is, known_missing, known_on, misses_is, misses_on, missing_is, rests_on, put_equal, put_there, same_on}
 
 -- which frame its words say
 pub content_is : (i : Identity) (f : FrameWords) → IsGeometry i.geometry → (d : IsCommittedFrame i f) → frame_in f ≡ d.content
@@ -58,6 +58,10 @@ stays_by r w consumer x end is seat after number position = record {
 known_put : (v w : Pass) (place : ℕ) (consumer x : Reading) → IsConsumer v place consumer → w ≡ with_consumer v place x → known_at w.reading place ≡ x.known
 known_put v w place consumer x is after = ap (λ (u : Pass). known_at u.reading place) after ∙ known_is (with_consumer v place x).reading place x (put_there v place consumer x is)
 
+-- and how often it missed
+misses_put : (v w : Pass) (place : ℕ) (consumer x : Reading) → IsConsumer v place consumer → w ≡ with_consumer v place x → misses_at w.reading place ≡ x.misses
+misses_put v w place consumer x is after = ap (λ (u : Pass). misses_at u.reading place) after ∙ misses_is (with_consumer v place x).reading place x (put_there v place consumer x is)
+
 had_by : (r : ReaderValue) (consumer : Reading) → IsConsumer r.held.pass r.place consumer → (f : FrameWords) → Has r f → Frames.Has r.held.pass consumer f
 had_by r consumer is f (inl k) = inl (subst (Among f) (known_is r.held.pass.reading r.place consumer is) k)
 had_by r consumer is f (inr a) = inr a
@@ -76,6 +80,7 @@ finds_by l r w n end head g of is seat told pos shown ends =
       shown = said;
       legal = subst (IsStreamFrame l.identity.geometry) (ap (head_of p) (sym (content_is l.identity x g here.done)) ∙ sym said) here.head;
       known = known_put r.held.pass w.pass r.place is.consumer (knows_more is.consumer x) is.is after ∙ ap (λ (fs : List FrameWords). fs ++ x ∷ []) (sym (known_is r.held.pass.reading r.place is.consumer is.is));
+      looked = misses_put r.held.pass w.pass r.place is.consumer (knows_more is.consumer x) is.is after ∙ sym (misses_is r.held.pass.reading r.place is.consumer is.is);
       only = λ y has here'. f.only y (had_by r is.consumer is.is y has) (here' ∙ sym is.position_is);
       own = f.own;
       stays = stays_by r w is.consumer (knows_more is.consumer x) end is.is seat after refl refl;
@@ -84,9 +89,14 @@ finds_by l r w n end head g of is seat told pos shown ends =
 
 pub finds_none : (r q : ReaderValue) (n : ℕ) → IsReading r.held.pass r.place r.number r.position r.read_to → SameSeat r.held q.held → Looks r.held.pass r.place n q.held.pass → q ≡ record r { held = q.held } → n ≡ 0 → FindsNone r q
 finds_none r q n is seat told same e =
-    let l = (told is.consumer is.is).none e in record {
+    let l = (told is.consumer is.is).none e in let gone : Misses r q = record { seat = seat; pass = l.0 ∙ ap (λ (rs : List Reading). record r.held.pass { reading = rs }) (missing_is r.held.pass.reading r.place is.consumer is.is); same = same } in record {
       none = λ f has at. l.1 f (had_by r is.consumer is.is f has) (at ∙ sym is.position_is);
-      rests = record { seat = seat; pass = l.0; same = same };
+      looked =
+          ap (λ (k : ℕ). misses_at q.held.pass.reading k) (ap (λ (x : ReaderValue). x.place) same)
+          ∙ misses_put r.held.pass q.held.pass r.place is.consumer (missed is.consumer) is.is l.0
+          ∙ ap suc (sym (misses_is r.held.pass.reading r.place is.consumer is.is));
+      known = known_missing r q gone;
+      rests = gone;
     }
 
 pub advances_by : (r : ReaderValue) (w : PublisherValue) → IsReading r.held.pass r.place r.number r.position r.read_to → SameSeat r.held w → Consumes r.held.pass r.place r.read_to w.pass → Advances r (record r { held = w; position = r.read_to })
@@ -97,6 +107,7 @@ advances_by r w is seat told =
       positions = ap positions_of after ∙ map-set (λ (z : Reading). z.position) r.held.pass.reading r.place y;
       same = refl;
       known = known_put r.held.pass w.pass r.place is.consumer y is.is after ∙ sym (known_is r.held.pass.reading r.place is.consumer is.is);
+      looked = misses_put r.held.pass w.pass r.place is.consumer y is.is after ∙ sym (misses_is r.held.pass.reading r.place is.consumer is.is);
       ends = λ g has at. (told is.consumer is.is).ends g (had_by r is.consumer is.is g has) (at ∙ sym is.position_is);
       here = λ g has at. subst (λ (p : ℕ). IsFrameAt r.held.pass.identity p g) is.position_is ((told is.consumer is.is).here g (had_by r is.consumer is.is g has) (at ∙ sym is.position_is));
     }
@@ -171,6 +182,7 @@ finds_rests l r head q s f a = record {
   shown = f.shown;
   legal = f.legal;
   known = known_on q s a ∙ f.known;
+  looked = misses_on q s a ∙ f.looked;
   only = f.only;
   own = f.own;
   stays = record {

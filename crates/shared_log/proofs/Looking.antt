@@ -19,9 +19,9 @@ use Rattle.log_rule.specs.Table.{LogRuled}
 use Rattle.publication.specs.Steps.{term_of}
 use Rattle.log_rule.specs.Claims.Handles.{PublisherValue}
 use Rattle.shared_log.specs.Handles.{LogValue}
-use Rattle.shared_log.specs.Readers.{Has, IsReaderOf, IsReading, LoadsWord, OnlyReads, ReaderValue, Rests, SameSeat, known_at, known_of}
+use Rattle.shared_log.specs.Readers.{Has, IsReaderOf, IsReading, LoadsWord, Misses, OnlyReads, ReaderValue, Rests, SameSeat, known_at, known_of, misses_at, misses_of, missing_at, positions_of}
 use Rattle.log_rule.specs.Readings as Frames
-use Rattle.log_rule.specs.Readings.{Consumes, FindsFrame, IsConsumer, IsFrameAt, Looks, MayPass, Rereads, end_of, knows_more, moved_to, reading, with_consumer}
+use Rattle.log_rule.specs.Readings.{Consumes, FindsFrame, IsConsumer, IsFrameAt, Looks, MayPass, Rereads, end_of, knows_more, missed, moved_to, reading, with_consumer}
 use Rattle.log_rule.proofs.Consumers.{look, pass, word}
 
 -- ---- the steps are allowed
@@ -62,6 +62,17 @@ knows_still v place r f end is m =
       ends = m.ends;
     }
 
+missed_still : (v : Pass) (place : ℕ) (r : Reading) (end : ℕ) → IsConsumer v place r → MayPass v place end → MayPass (with_consumer v place (missed r)) place end
+missed_still v place r end is m =
+    let same : m.consumer ≡ r = some-injective m.consumer r (sym m.is ∙ is) in record {
+      consumer = missed r;
+      is = put_there v place r (missed r) is;
+      frame = m.frame;
+      known = subst (λ (x : Reading). Among m.frame x.known) same m.known;
+      here = m.here ∙ ap (λ (x : Reading). x.position) same;
+      ends = m.ends;
+    }
+
 pub looked_still : (v w : Pass) (place number position read_to n : ℕ) → IsReading v place number position read_to → Looks v place n w → IsReading w place number position read_to
 looked_still v w place number position read_to n is told =
     let l = told is.consumer is.is in
@@ -75,7 +86,15 @@ looked_still v w place number position read_to n is told =
       low = is.low;
       low_end = is.low_end;
     })
-    (λ no. subst (λ (x : Pass). IsReading x place number position read_to) (sym (l.none (zero_is n (lt_of_not-le no))).0) is)
+    (λ no. subst (λ (x : Pass). IsReading x place number position read_to) (sym (l.none (zero_is n (lt_of_not-le no))).0) record {
+      consumer = missed is.consumer;
+      is = put_there v place is.consumer (missed is.consumer) is.is;
+      number_is = is.number_is;
+      position_is = is.position_is;
+      read = λ lt. missed_still v place is.consumer read_to is.is (is.read lt);
+      low = is.low;
+      low_end = is.low_end;
+    })
   where
     zero_is : (n : ℕ) → n < 1 → n ≡ 0
     zero_is n lt = omega arith
@@ -101,6 +120,37 @@ pub known_is : (rs : List Reading) (place : ℕ) (r : Reading) → get_elem? rs 
 known_is [] place r e = absurd (some-ne-none r (sym e))
 known_is (x ∷ xs) zero r e = ap (λ (y : Reading). y.known) (some-injective x r e)
 known_is (x ∷ xs) (suc place) r e = known_is xs place r e
+
+pub misses_is : (rs : List Reading) (place : ℕ) (r : Reading) → get_elem? rs place ≡ some r → misses_at rs place ≡ r.misses
+misses_is [] place r e = absurd (some-ne-none r (sym e))
+misses_is (x ∷ xs) zero r e = ap (λ (y : Reading). y.misses) (some-injective x r e)
+misses_is (x ∷ xs) (suc place) r e = misses_is xs place r e
+
+-- ---- a look that found zero
+
+pub missing_is : (rs : List Reading) (place : ℕ) (r : Reading) → get_elem? rs place ≡ some r → set rs place (missed r) ≡ missing_at rs place
+missing_is [] place r e = refl
+missing_is (x ∷ xs) zero r e = ap (λ (y : Reading). missed y ∷ xs) (sym (some-injective x r e))
+missing_is (x ∷ xs) (suc place) r e = ap (λ (ys : List Reading). x ∷ ys) (missing_is xs place r e)
+
+missing_same : (h : Reading → ℕ) (rs : List Reading) (place : ℕ) → ((x : Reading) → h (missed x) ≡ h x) → map h (missing_at rs place) ≡ map h rs
+missing_same h [] place same = refl
+missing_same h (x ∷ xs) zero same = ap (λ (n : ℕ). n ∷ map h xs) (same x)
+missing_same h (x ∷ xs) (suc place) same = ap (λ (ns : List ℕ). h x ∷ ns) (missing_same h xs place same)
+
+missing_known : (rs : List Reading) (place : ℕ) → known_at (missing_at rs place) place ≡ known_at rs place
+missing_known [] place = refl
+missing_known (x ∷ xs) zero = refl
+missing_known (x ∷ xs) (suc place) = missing_known xs place
+
+pub only_misses : (r q : ReaderValue) → Misses r q → OnlyReads r.held.pass q.held.pass
+only_misses r q a = subst (OnlyReads r.held.pass) (sym a.pass) record { rest = refl; numbers = missing_same (λ (x : Reading). x.number) r.held.pass.reading r.place (λ x. refl) }
+
+pub misses_stand : (r q : ReaderValue) → Misses r q → positions_of q.held.pass ≡ positions_of r.held.pass
+misses_stand r q a = ap positions_of a.pass ∙ missing_same (λ (x : Reading). x.position) r.held.pass.reading r.place (λ x. refl)
+
+pub known_missing : (r q : ReaderValue) → Misses r q → known_of q ≡ known_of r
+known_missing r q a = (λ j. known_at (a.pass j).reading (ap (λ (x : ReaderValue). x.place) a.same j)) ∙ missing_known r.held.pass.reading r.place
 
 -- ---- what a loaded word is
 
@@ -135,6 +185,9 @@ known_on r q a = (λ j. known_at (a.pass j).reading (place_is j))
   where
     place_is : q.place ≡ r.place
     place_is = ap (λ (x : ReaderValue). x.place) a.same
+
+pub misses_on : (r q : ReaderValue) → Rests r q → misses_of q ≡ misses_of r
+misses_on r q a = (λ j. misses_at (a.pass j).reading (ap (λ (x : ReaderValue). x.place) a.same j))
 
 pub has_on : (r q : ReaderValue) → Rests r q → (f : FrameWords) → Has r f → Has q f
 has_on r q a f (inl k) = inl (subst (Among f) (sym (known_on r q a)) k)

@@ -17,7 +17,7 @@ use Rattle.shared_log.specs.Handles.{LogValue}
 use Rattle.shared_log.specs.Readers.{Advances, IsReaderOf, MayReread, ReaderValue, ReadsFrame, ReadsNone, Rereads, known_of}
 use Rattle.shared_log.specs.Sourced.{Grows, source_of, placed}
 use Rattle.shared_log.proofs.Finding.{content_is}
-use Rattle.shared_log.proofs.Looking.{known_on}
+use Rattle.shared_log.proofs.Looking.{known_missing, known_on}
 
 -- ---- lists
 
@@ -72,7 +72,7 @@ pub none : (l : LogValue) (r q : ReaderValue) (before after : List ℕ) → Read
 none l r q before after h =
     let rests = h.finds.rests in record {
       none = λ y among at. (let m = mapped placed (known_of r) y among in h.finds.none m.one (inl m.among) (sym (ap (λ (z : Placed). z.at) m.is) ∙ at));
-      same = (λ j. record { identity = l.identity; position = ap (λ (z : ReaderValue). z.position) rests.same j; frames = map placed (known_on r q rests j) });
+      same = (λ j. record { identity = l.identity; position = ap (λ (z : ReaderValue). z.position) rests.same j; frames = map placed (known_missing r q rests j) });
       untouched = h.untouched;
     }
 

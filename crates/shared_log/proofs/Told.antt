@@ -9,7 +9,7 @@ use Rattle.publication.specs.declared.pass.Pass.{Pass}
 use Rattle.publication.specs.declared.pass.Reading.{Reading}
 use Rattle.log_rule.specs.Claims.Handles.{PublisherValue}
 use Rattle.log_rule.specs.Table.{knows_all}
-use Rattle.shared_log.specs.Readers.{IsReading, Learns, OnlyReads, ReaderValue, SameSeat, known_at, positions_of}
+use Rattle.shared_log.specs.Readers.{IsReading, Learns, OnlyReads, ReaderValue, SameSeat, known_at, misses_at, positions_of}
 
 same_of : (h : Reading → ℕ) (fs : List FrameWords) (rs : List Reading) → ((r : Reading) → h (knows_all fs r) ≡ h r) → map h (map (knows_all fs) rs) ≡ map h rs
 same_of h fs [] same = refl
@@ -19,6 +19,11 @@ known_told : (fs : List FrameWords) (rs : List Reading) (place : ℕ) (r : Readi
 known_told fs [] place r e = absurd (some-ne-none r (sym e))
 known_told fs (x ∷ xs) zero r e = refl
 known_told fs (x ∷ xs) (suc place) r e = known_told fs xs place r e
+
+misses_told : (fs : List FrameWords) (rs : List Reading) (place : ℕ) → misses_at (map (knows_all fs) rs) place ≡ misses_at rs place
+misses_told fs [] place = refl
+misses_told fs (x ∷ xs) zero = refl
+misses_told fs (x ∷ xs) (suc place) = misses_told fs xs place
 
 abbrev pub told : Pass → List FrameWords → Pass
 told v fs = record v { reading = map (knows_all fs) v.reading }
@@ -51,4 +56,5 @@ learns_by r w v fs is seat after all = record {
   };
   read_to = refl;
   known = ap (λ (x : Pass). known_at x.reading r.place) after ∙ known_told fs r.held.pass.reading r.place is.consumer is.is ∙ ap (λ (gs : List FrameWords). known_at r.held.pass.reading r.place ++ gs) all;
+  looked = ap (λ (x : Pass). misses_at x.reading r.place) after ∙ misses_told fs r.held.pass.reading r.place;
 }

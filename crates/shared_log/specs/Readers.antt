@@ -10,7 +10,7 @@ use Rattle.publication.specs.declared.pass.Reading.{Reading}
 use Rattle.publication.specs.Steps.{term_of}
 use Rattle.publication.specs.Contents.{bytes_in, frame_in}
 use Rattle.log_rule.specs.Claims.Handles.{PublisherValue}
-use Rattle.log_rule.specs.Readings.{IsConsumer, IsFrameAt, MayPass, end_of}
+use Rattle.log_rule.specs.Readings.{IsConsumer, IsFrameAt, MayPass, end_of, missed}
 use Rattle.shared_log.specs.Handles.{IsOf, LogValue}
 
 pub record ReaderValue : Type 0 where
@@ -47,6 +47,24 @@ known_at (r ∷ rs) (suc place) = known_at rs place
 abbrev pub known_of : ReaderValue → List FrameWords
 known_of r = known_at r.held.pass.reading r.place
 
+-- how often the reader loaded the word where it stood and found zero
+abbrev pub misses_at : List Reading → ℕ → ℕ
+misses_at [] place = 0
+misses_at (r ∷ rs) zero = r.misses
+misses_at (r ∷ rs) (suc place) = misses_at rs place
+
+abbrev pub misses_of : ReaderValue → ℕ
+misses_of r = misses_at r.held.pass.reading r.place
+
+-- the pass once its consumer at a place did so again
+abbrev pub missing_at : List Reading → ℕ → List Reading
+missing_at [] place = []
+missing_at (r ∷ rs) zero = missed r ∷ rs
+missing_at (r ∷ rs) (suc place) = r ∷ missing_at rs place
+
+abbrev pub missing : ℕ → Pass → Pass
+missing place v = record v { reading = missing_at v.reading place }
+
 -- it knows the frame, or its own pass committed it
 abbrev pub Has : ReaderValue → FrameWords → Type 0
 Has r f = Among f (known_of r) ⊎ Among f r.held.pass.work.frames
@@ -67,6 +85,12 @@ pub record SameSeat (p q : PublisherValue) : Type 0 where
 pub record Rests (r q : ReaderValue) : Type 0 where
   pub seat : SameSeat r.held q.held
   pub pass : q.held.pass ≡ r.held.pass
+  pub same : q ≡ record r { held = q.held }
+
+-- it looked where it stands, found zero, and learnt nothing else
+pub record Misses (r q : ReaderValue) : Type 0 where
+  pub seat : SameSeat r.held q.held
+  pub pass : q.held.pass ≡ missing r.place r.held.pass
   pub same : q ≡ record r { held = q.held }
 
 abbrev pub positions_of : Pass → List ℕ
@@ -94,6 +118,7 @@ pub record Advances (r : ReaderValue) (q : ReaderValue) : Type 0 where
   pub positions : positions_of q.held.pass ≡ slice_set (positions_of r.held.pass) r.place r.read_to
   pub same : q ≡ record r { held = q.held; position = r.read_to }
   pub known : known_of q ≡ known_of r
+  pub looked : misses_of q ≡ misses_of r
   -- which is where each frame ends that it had there
   pub ends : (g : FrameWords) → Has r g → g.start ≡ r.position → r.read_to ≡ end_of g
   pub here : (g : FrameWords) → Has r g → g.start ≡ r.position → IsFrameAt r.held.pass.identity r.position g
@@ -103,6 +128,7 @@ pub record Learns (r : ReaderValue) (v : Pass) (q : ReaderValue) : Type 0 where
   pub stays : Stays r q
   pub read_to : q.read_to ≡ r.read_to
   pub known : known_of q ≡ known_of r ++ v.work.frames
+  pub looked : misses_of q ≡ misses_of r
 
 -- ---- reading
 
@@ -113,6 +139,7 @@ pub record Finds (l : LogValue) (r : ReaderValue) (head : FrameHead) (q : Reader
   pub shown : head ≡ head_of r.position (frame_in frame)
   pub legal : IsStreamFrame l.identity.geometry head
   pub known : known_of q ≡ known_of r ++ frame ∷ []
+  pub looked : misses_of q ≡ misses_of r
   -- what it had there is this frame
   pub only : (g : FrameWords) → Has r g → g.start ≡ r.position → g ≡ frame
   -- who has all parts of a log committed it
@@ -125,10 +152,13 @@ pub record ReadsFrame (l : LogValue) (r : ReaderValue) (head : FrameHead) (befor
   pub finds : Finds l r head q
   pub copied : after ≡ payload_of (frame_in finds.frame) ++ drop (length (payload_of (frame_in finds.frame))) before
 
--- no frame is committed there that the reader has, and it has learnt nothing
+-- the word there was loaded once, and it was zero: no frame is committed there that the reader has, and it has learnt
+-- nothing
 pub record FindsNone (r q : ReaderValue) : Type 0 where
   pub none : HasNone r r.position
-  pub rests : Rests r q
+  pub looked : misses_of q ≡ suc (misses_of r)
+  pub known : known_of q ≡ known_of r
+  pub rests : Misses r q
 
 pub record ReadsNone (r : ReaderValue) (before : List ℕ) (q : ReaderValue) (after : List ℕ) : Type 0 where
   pub finds : FindsNone r q

@@ -9,11 +9,11 @@
 //! (`meet`). One that retires leaves all that it claimed to another (`retire`). Closed with all its passes, a log's
 //! `Book` has each publisher's share, and the entries of all tile the stream from the start to its tail (`close`).
 //!
-//! A reader: `next` gives the committed frame where it stands, and none only where no frame begins that the reader
-//! knows; `advance` goes to its end; `reread` gives a frame again that it knows, up to three quarters of a term
-//! below; after `learn` it knows all that a publisher has committed. Whoever has every part of the log finds what its
-//! own pass committed, and nothing else. A reader is a source of frames for a sender (`LogFrames`). For one that was
-//! told nothing, a `next` that never looks meets its contract.
+//! A reader: `next` gives the committed frame where it stands, and none only where the word there, loaded once in that
+//! call, was zero, and no frame begins that the reader knows; `advance` goes to its end; `reread` gives a frame again
+//! that it knows, up to three quarters of a term below; after `learn` it knows all that a publisher has committed.
+//! Whoever has every part of the log finds what its own pass committed, and nothing else. A reader is a source of
+//! frames for a sender (`LogFrames`).
 //!
 //! The keeper (`clean_and_limit`) reads each consumer's position once, cleans up to a term below the least, and
 //! raises the limit to half a term above that where the log is connected and not closed, never lower; the flags are

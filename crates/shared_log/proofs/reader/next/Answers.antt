@@ -3,7 +3,7 @@ use Rattle.theory.specs.Position.{IsGeometry}
 use Rattle.shared_log.specs.Handles.{LogValue}
 use Rattle.shared_log.proofs.Finding.{read_data, read_pad}
 use Rattle.shared_log.specs.Readers.{ReaderValue}
-use Rattle.shared_log.proofs.Looking.{reader_on, still_reader}
+use Rattle.shared_log.proofs.Looking.{only_misses, still_reader}
 use Rattle.shared_log.proofs.Sourced.{has_read}
 use Rattle.shared_log.proofs.reader.next.Goals as goal
 
@@ -20,7 +20,7 @@ pub returns-in-Pad-clause-read : goal.returns-in-Pad-clause-read
 returns-in-Pad-clause-read c = has_read c.args.log.now c.args.reader.now c.look.new.reader c.in_ok-head.head c.args.block.now c.args.block.now (returns-in-Pad-clause-found c)
 
 pub returns-in_err-head-clause-fits : goal.returns-in_err-head-clause-fits
-returns-in_err-head-clause-fits c = reader_on c.args.log.now c.args.reader.now c.look.new.reader c.in_err-head.ensures.none.rests c.requires.fits
+returns-in_err-head-clause-fits c = let a = c.in_err-head.ensures.none.rests in still_reader c.args.log.now c.args.reader.now c.look.new.reader c.requires.fits a.seat (only_misses c.args.reader.now c.look.new.reader a) (ap (λ (x : ReaderValue). x.number) a.same)
 
 pub returns-in-Data-clause-fits : goal.returns-in-Data-clause-fits
 returns-in-Data-clause-fits c = let f = (returns-in-Data-clause-found c).finds.stays in still_reader c.args.log.now c.args.reader.now c.copy.new.reader c.requires.fits f.seat f.pass (ap (λ (x : ReaderValue). x.number) f.same)
