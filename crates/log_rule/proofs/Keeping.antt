@@ -1,5 +1,5 @@
 -- The steps of the keeper keep the whole rule.
-use Rattle.std.proofs.Common.{◌≡◌, ◌≢◌, inl, ℕ, zero, suc, ◌+◌, ◌-◌, ◌*◌, ◌%◌, ◌<◌, ◌≤◌, max, min, List, [], ◌∷◌, map, length, set, length-set, get_or-set_same, get_or-set_other, sym, refl, ap, ◌∙◌, subst, ⊎_elim, lt_of_not-le, arith}
+use Rattle.std.proofs.Common.{◌≡◌, ◌≢◌, inl, ℕ, zero, suc, ◌+◌, ◌-◌, ◌*◌, ◌%◌, ◌<◌, ◌≤◌, max, min, List, [], ◌∷◌, ◌++◌, map, length, set, length-set, get_or-set_same, get_or-set_other, sym, refl, ap, ◌∙◌, subst, ⊎_elim, lt_of_not-le, arith}
 use mathlib.Core.Option.{some}
 use mathlib.Core.Logic.{dite}
 use native.Mathlib.Decide.{dec_le, ℕ_discrete}
@@ -68,7 +68,7 @@ module _ (key : Key) (slots id : ℕ) (m : Mine) where
       let v : View = m.0 in let ws : List ℕ = s.words in let qs : List Pass = map pass_in s.views in let n : ℕ = slice_index ws (consumer_place j) in
       let low : j < key.consumers = (let any = q.kept.any in dite (dec_le 1 j) (λ pos. inside pos) (λ none. let z = lt_of_not-le none in omega arith)) in
       let bs : Bounds = now_at key (slice_index ws limit_place) q.cleaned in let here = at_map pass_in s.views id v at in let a = q.kept.each id v.pass here in
-      let k : Keeping = record v.pass.keeping { positions = set v.pass.keeping.positions j n } in
+      let k : Keeping = record v.pass.keeping { positions = set v.pass.keeping.positions j n; reads = v.pass.keeping.reads ++ j ∷ [] } in
       let w : View = record { pass = with_keeping v.pass k; steps = suc v.steps; controls = v.controls; sure = v.sure } in
       let g : Grows bs qs (set qs id w.pass) = grows bs ws ws qs (set qs id w.pass) q.ruled (rested_here bs ws qs q.ruled id v.pass v.pass.reading k here) (inl (rest_looks qs id v.pass v.pass.reading k here)) in
       let base = attends_on bs key.consumers q.kept.few ws ws qs (set qs id w.pass) g (spared_same ws) v.pass a in

@@ -1,5 +1,5 @@
 -- What the keeper's steps tell.
-use Rattle.std.specs.Prelude.{◌≡◌, ℕ, suc, ◌+◌, ◌-◌, ◌*◌, ◌%◌, ◌<◌, ◌≤◌, List, length, min, max, slice_index, slice_set}
+use Rattle.std.specs.Prelude.{◌≡◌, ℕ, suc, ◌+◌, ◌-◌, ◌*◌, ◌%◌, ◌<◌, ◌≤◌, List, [], ◌∷◌, ◌++◌, length, min, max, slice_index, slice_set}
 use Rattle.std.specs.List.{fold}
 use Rattle.theory.specs.Placed.{Among}
 use Rattle.theory.specs.Position.{greatest_claim, max_position}
@@ -24,7 +24,7 @@ pub record MayStand (v : Pass) (n : ℕ) : Type 0 where
   pub low : n ≤ max_position (geometry_of v)
   pub readable : v.keeping.cleaned ≤ max v.start (n - term_of v)
 
--- the keeper saw one of so many consumers at a position, not below the one where it saw it before
+-- the keeper read one of so many consumers, which stood at a position, not below the one where it saw it before
 pub record SeesConsumer (v : Pass) (count j n : ℕ) (w : Pass) : Type 0 where
   pub all : length v.keeping.positions ≡ count
   pub inside : j < count
@@ -33,7 +33,7 @@ pub record SeesConsumer (v : Pass) (count j n : ℕ) (w : Pass) : Type 0 where
   pub words : (v.start % 32 ≡ 0) × (v.keeping.cleaned % 8 ≡ 0)
   -- if the pass is that consumer, it is where that stands
   pub own : (r : Reading) → Among r v.reading → r.number ≡ j → n ≡ r.position
-  pub after : w ≡ with_keeping v (record v.keeping { positions = slice_set v.keeping.positions j n })
+  pub after : w ≡ with_keeping v (record v.keeping { positions = slice_set v.keeping.positions j n; reads = v.keeping.reads ++ j ∷ [] })
 
 -- and if its seat is sure of the control words, it has the limit word that the keeper knows
 abbrev pub sweeping : ℕ → ℕ → Mine → ℕ → Mine → Type 0

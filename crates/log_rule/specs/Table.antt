@@ -45,7 +45,7 @@ consumers_at start number (suc n) = record { number = number; position = start; 
 abbrev pub whole_pass : Key → Pass
 whole_pass key = record (newcomer key.identity key.start 7 1024) {
   reading = consumers_at key.start 0 key.consumers;
-  keeping = record { right = 1; limit = key.start; cleaned = key.start; positions = replicate key.consumers key.start };
+  keeping = record { right = 1; limit = key.start; cleaned = key.start; positions = replicate key.consumers key.start; reads = [] };
 }
 
 abbrev pub whole_seat : Key → View

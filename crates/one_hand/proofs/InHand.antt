@@ -28,7 +28,8 @@ use Rattle.one_hand.specs.Legal.{IsStream}
 use Rattle.one_hand.specs.Stream.{Aborts, Commits, OpenClaim, Stream, after_claim, after_offer, with_claim, with_message}
 use Rattle.one_hand.specs.declared.log_hand.held.Held.{Held}
 use Rattle.one_hand.specs.Shown.{IsWhole, kept, shares_of, stream_of}
-use Rattle.one_hand.specs.Hands.{HasAll, Shares, counted, AbortsClaim, Claims, ClaimsNone, CommitsClaim, IsFree, IsInHand, MayEnd, Offers, range, stream_in}
+use Rattle.shared_log.specs.Keepers.{counted}
+use Rattle.one_hand.specs.Hands.{HasAll, Shares, AbortsClaim, Claims, ClaimsNone, CommitsClaim, IsFree, IsInHand, MayEnd, Offers, range, stream_in}
 use Rattle.publication.proofs.Contents.{IsSmall}
 use Rattle.one_hand.proofs.Answered as answered
 use Rattle.one_hand.proofs.Answered.{Rests}

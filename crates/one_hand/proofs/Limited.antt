@@ -38,7 +38,7 @@ module _ (l : LogValue) (p : PublisherValue) (held : List (Option Held)) (n : Nu
   w = raised p.controls.limit (least (positions_of p.pass)) p.pass.identity.geometry.term_length
 
   abbrev v : Pass
-  v = with_keeping p.pass (record p.pass.keeping { limit = raised p.controls.limit (least (positions_of p.pass)) p.pass.identity.geometry.term_length; cleaned = clean_end (stream_of p.pass p.controls held); positions = k.keeper.held.pass.keeping.positions })
+  v = with_keeping p.pass (record p.pass.keeping { limit = raised p.controls.limit (least (positions_of p.pass)) p.pass.identity.geometry.term_length; cleaned = clean_end (stream_of p.pass p.controls held); positions = k.keeper.held.pass.keeping.positions; reads = k.keeper.held.pass.keeping.reads })
 
   word_then : raised n.limit (least_of seen) l.identity.geometry.term_length ≡ w
   word_then = λ j. raised ((st.numbers.limit ∙ st.hand.all.limit) j) (least (seen_is j)) ((sym st.hand.free.of.identity j).geometry.term_length)
@@ -47,7 +47,7 @@ module _ (l : LogValue) (p : PublisherValue) (held : List (Option Held)) (n : Nu
   low_then = λ j. max (sym st.hand.free.of.start j) (least (seen_is j) - (sym st.hand.free.of.identity j).geometry.term_length)
 
   pass_is : q.pass ≡ v
-  pass_is = ap (λ (x : PublisherValue). x.pass) (sym k.seat) ∙ k.cleans.keeps.pass ∙ (λ j. with_keeping p.pass (record p.pass.keeping { limit = word_then j; cleaned = low_then j; positions = seen }))
+  pass_is = ap (λ (x : PublisherValue). x.pass) (sym k.seat) ∙ k.cleans.keeps.pass ∙ (λ j. with_keeping p.pass (record p.pass.keeping { limit = word_then j; cleaned = low_then j; positions = seen; reads = k.keeper.held.pass.keeping.reads }))
 
   controls_are : q.controls ≡ record p.controls { limit = w }
   controls_are = ap (λ (x : PublisherValue). x.controls) (sym k.seat) ∙ k.cleans.keeps.controls st.hand.free.sure ∙ ap (λ (x : ℕ). record p.controls { limit = x }) word_then

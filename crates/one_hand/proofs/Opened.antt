@@ -30,7 +30,8 @@ use Rattle.one_hand.specs.Stream.{OpenClaim, opened}
 use Rattle.one_hand.specs.declared.log_hand.held.Held.{Held}
 use Rattle.one_hand.specs.Shown.{IsWhole, claim_in, kept, shares_of, stream_of}
 use Rattle.one_hand.specs.Parts.{Stands}
-use Rattle.one_hand.specs.Hands.{HasAll, IsInHand, counted, stream_in}
+use Rattle.shared_log.specs.Keepers.{counted}
+use Rattle.one_hand.specs.Hands.{HasAll, IsInHand, stream_in}
 
 abbrev none_held : List (Option Held)
 none_held = replicate 8 None

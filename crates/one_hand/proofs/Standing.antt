@@ -23,7 +23,8 @@ use Rattle.one_hand.specs.Stream.{Stream, position_of}
 use Rattle.frame_source.specs.Sources.{HasNone}
 use Rattle.one_hand.specs.declared.log_hand.held.Held.{Held}
 use Rattle.one_hand.specs.Shown.{IsWhole, WholeBy, kept, spans, stream_of}
-use Rattle.one_hand.specs.Hands.{IsInHand, counted, stream_in}
+use Rattle.shared_log.specs.Keepers.{counted}
+use Rattle.one_hand.specs.Hands.{IsInHand, stream_in}
 use Rattle.one_hand.specs.Readers.{Reads}
 use Rattle.one_hand.proofs.InHand.{stood_count}
 use Rattle.one_hand.proofs.Found.{from_frames, placed_of, to_stream}

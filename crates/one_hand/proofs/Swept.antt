@@ -5,8 +5,7 @@ use Rattle.std.proofs.lemmas.Bool.{eq-eqb, ne_eqb}
 use Rattle.theory.specs.Placed.{Among}
 use Rattle.theory.specs.Refusal.{is_closed, is_connected, limit_in}
 use Rattle.publication.specs.declared.pass.Reading.{Reading}
-use Rattle.shared_log.specs.Keepers.{raised}
-use Rattle.one_hand.specs.Hands.{counted}
+use Rattle.shared_log.specs.Keepers.{counted, raised}
 
 -- a number for each consumer, in their order
 pub seen_all : (rs : List Reading) (from k : ℕ) → map (λ (r : Reading). r.number) rs ≡ counted from k → (ps : List ℕ) → length ps ≡ k → ((j : ℕ) → j < k → (r : Reading) → Among r rs → r.number ≡ from + j → slice_index ps j ≡ r.position) → ps ≡ map (λ (r : Reading). r.position) rs

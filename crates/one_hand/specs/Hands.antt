@@ -7,6 +7,7 @@ use Rattle.publication.specs.declared.pass.Pass.{Pass}
 use Rattle.publication.specs.Claims.{HasBlank}
 use Rattle.log_rule.specs.Claims.Handles.{PublisherValue}
 use Rattle.shared_log.specs.Handles.{IsOf, LogValue}
+use Rattle.shared_log.specs.Keepers.{counted}
 use Rattle.shared_log.specs.Readers.{numbers_of}
 use Rattle.log_rule.specs.Shares.{claimed_bytes}
 use Rattle.one_hand.specs.Entries.{with_share}
@@ -22,11 +23,6 @@ pub record IsFree (l : LogValue) (p : PublisherValue) : Type 0 where
   pub of : IsOf l p
   pub sure : p.sure ≡ 1
   pub idle : p.pass.right.armed ≡ 0
-
--- these numbers, one after the other
-abbrev pub counted : ℕ → ℕ → List ℕ
-counted from zero = []
-counted from (suc n) = from ∷ counted (suc from) n
 
 -- the pass has all parts, each consumer by its number, and the keeper, which knows the limit word
 pub record HasAll (l : LogValue) (v : Pass) (c : Controls) : Type 0 where

@@ -58,7 +58,7 @@ fresh = record {
   work = record { frames = []; drafts = [] };
   seen = record { count = 0; term = 0; full = 0; begun = 0 };
   reading = [];
-  keeping = record { right = 0; limit = 0; cleaned = 0; positions = [] };
+  keeping = record { right = 0; limit = 0; cleaned = 0; positions = []; reads = [] };
 }
 
 abbrev seen_limit : Pass

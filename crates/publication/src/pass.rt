@@ -62,13 +62,14 @@ pub struct Reading {
     pub misses: u64,
 }
 
-/// What a keeper knows: 1 where the pass is one, the limit word with its flags, how far bytes are zero again, and the
-/// positions of consumers that it has seen.
+/// What a keeper knows: 1 where the pass is one, the limit word with its flags, how far bytes are zero again, the
+/// positions of consumers that it has seen, and the numbers of the consumers that it read, in order.
 pub struct Keeping {
     pub right: u64,
     pub limit: u64,
     pub cleaned: u64,
     pub positions: LinkedList<u64>,
+    pub reads: LinkedList<u64>,
 }
 
 /// The words of a log that no pass owns: the limit word, the active count, and the raw tails by their partitions.

@@ -1,5 +1,5 @@
 -- What contracts see of the keeper of a log that threads share.
-use Rattle.std.specs.Prelude.{◌≡◌, ℕ, ◌+◌, ◌-◌, ◌*◌, ◌/◌, ◌%◌, ◌<◌, ◌≤◌, ◌&&◌, not, Bool, if◌then◌else◌, List, length, max, nat_eq, slice_index}
+use Rattle.std.specs.Prelude.{◌≡◌, ℕ, zero, suc, ◌+◌, ◌-◌, ◌*◌, ◌/◌, ◌%◌, ◌<◌, ◌≤◌, ◌&&◌, not, Bool, if◌then◌else◌, List, [], ◌∷◌, ◌++◌, length, max, nat_eq, slice_index}
 use Rattle.theory.specs.Placed.{Among}
 use Rattle.theory.specs.Refusal.{is_closed, is_connected, limit_in}
 use Rattle.publication.specs.declared.pass.Keeping.{Keeping}
@@ -29,8 +29,12 @@ keeping_of k = k.held.pass.keeping
 abbrev pub seen_positions : KeeperValue → List ℕ
 seen_positions k = k.held.pass.keeping.positions
 
-abbrev pub with_positions : List ℕ → KeeperValue → Keeping
-with_positions positions k = record (keeping_of k) { positions = positions }
+-- the numbers of the consumers that it read, in order
+abbrev pub reads_of : KeeperValue → List ℕ
+reads_of k = k.held.pass.keeping.reads
+
+abbrev pub with_reads : List ℕ → List ℕ → KeeperValue → Keeping
+with_reads positions reads k = record (keeping_of k) { positions = positions; reads = reads }
 
 abbrev pub with_cleaned : ℕ → KeeperValue → Keeping
 with_cleaned cleaned k = record (keeping_of k) { cleaned = cleaned }
@@ -74,21 +78,27 @@ stored_once before after = if nat_eq before after then 0 else 1
 
 -- ---- what the keeper reads
 
+-- so many numbers, from this one on
+abbrev pub counted : ℕ → ℕ → List ℕ
+counted from zero = []
+counted from (suc n) = from ∷ counted (suc from) n
+
 -- the consumer with this number stood there: not below where it was seen before, and at its own position where the keeper's pass is that consumer
 pub record ReadsConsumer (k : KeeperValue) (j n : ℕ) : Type 0 where
   pub further : slice_index (seen_positions k) j ≤ n
   pub stands : MayStand k.held.pass n
   pub own : (r : Reading) → Among r k.held.pass.reading → r.number ≡ j → n ≡ r.position
 
--- each consumer was read once, and the least stood there
+-- each consumer was read once, in the order of their numbers, and the least stood there
 pub record Sweeps (l : LogValue) (k : KeeperValue) (least : ℕ) (q : KeeperValue) : Type 0 where
   pub is : IsKeeping k.held.pass k.limit k.cleaned
+  pub once : reads_of q ≡ reads_of k ++ counted 0 l.consumers
   pub all : length (seen_positions q) ≡ l.consumers
   pub reads : (j : ℕ) → j < l.consumers → ReadsConsumer k j (slice_index (seen_positions q) j)
   pub least_is : least ≡ least_of (seen_positions q)
   pub stands : MayStand k.held.pass least
   pub words : (l.start % 32 ≡ 0) × (k.cleaned % 8 ≡ 0)
-  pub keeps : KeepsAs k (with_positions (seen_positions q) k) q
+  pub keeps : KeepsAs k (with_reads (seen_positions q) (reads_of q) k) q
   pub steps : TookSteps k l.consumers q
 
 -- words may be cleaned up to there: all lies a term or more below the least consumer that was seen
@@ -102,12 +112,13 @@ pub record MayRaiseFrom (k : KeeperValue) (least : ℕ) : Type 0 where
   pub stands : MayStand k.held.pass least
   pub clean : least ≤ k.cleaned + term_of k.held.pass
 
--- each consumer was read once; what lies a term or more below the least is cleaned, and the limit raised by it
+-- each consumer was read once in this call; what lies a term or more below the least is cleaned, and the limit raised by it
 pub record CleansAndLimits (l : LogValue) (k q : KeeperValue) : Type 0 where
+  pub once : reads_of q ≡ reads_of k ++ counted 0 l.consumers
   pub all : length (seen_positions q) ≡ l.consumers
   pub reads : (j : ℕ) → j < l.consumers → ReadsConsumer k j (slice_index (seen_positions q) j)
   pub not_back : k.cleaned ≤ q.cleaned
   pub keeps : let least = least_of (seen_positions q) in let length_of = l.identity.geometry.term_length in
-      KeepsAs k (record (keeping_of k) { limit = raised k.limit least length_of; cleaned = max l.start (least - length_of); positions = seen_positions q }) q
+      KeepsAs k (record (keeping_of k) { limit = raised k.limit least length_of; cleaned = max l.start (least - length_of); positions = seen_positions q; reads = reads_of q }) q
   -- one load for each consumer, one store for each word that was cleaned, and one of the limit word where that changed
   pub steps : TookSteps k (l.consumers + (q.cleaned - k.cleaned) / 8 + stored_once k.limit q.limit) q

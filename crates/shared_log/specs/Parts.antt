@@ -19,7 +19,7 @@ pub record IsFresh (l : LogValue) (pass : Pass) (p : PublisherValue) : Type 0 wh
 -- ---- the keeper and the readers
 
 abbrev pub first_keeping : LogValue → Keeping
-first_keeping l = record { right = 1; limit = l.start; cleaned = l.start; positions = replicate l.consumers l.start }
+first_keeping l = record { right = 1; limit = l.start; cleaned = l.start; positions = replicate l.consumers l.start; reads = [] }
 
 pub record IsNewKeeper (l : LogValue) (k : KeeperValue) : Type 0 where
   pub held : IsFresh l (record (newcomer l.identity l.start 0 8) { keeping = first_keeping l }) k.held

@@ -5,7 +5,7 @@ ghost use Rattle.theory.specs.Refusal.{is_closed, is_connected, limit_in};
 ghost use Rattle.log_rule.specs.Claims.Packs.{slot};
 ghost use Rattle.shared_log.specs.Handles.{IsOf};
 ghost use Rattle.log_rule.specs.Keepings.{MayRaise, SeesConsumer};
-ghost use Rattle.shared_log.specs.Keepers.{CleansAndLimits, IsKeeping, KeepsAs, KnowsLimit, MayCleanTo, MayRaiseFrom, Sweeps, TookSteps, closed_word, connected_word, raised, seen_positions, stored_once, with_cleaned, with_limit, with_positions};
+ghost use Rattle.shared_log.specs.Keepers.{CleansAndLimits, IsKeeping, KeepsAs, KnowsLimit, MayCleanTo, MayRaiseFrom, Sweeps, TookSteps, closed_word, connected_word, raised, reads_of, seen_positions, stored_once, with_cleaned, with_limit, with_reads};
 
 use crate::log::Log;
 use atomic_table::Seat;
@@ -56,7 +56,7 @@ fn see_as<N: Swept>(log: &Log, keeper: &mut Keeper, number: u64) -> u64
     requires chosen { (N.number ≡ number) × (N.count ≡ log.now.consumers) }
     ensures is { IsKeeping keeper.old.held.pass keeper.old.limit keeper.old.cleaned }
     ensures sees { SeesConsumer keeper.old.held.pass log.now.consumers number result keeper.new.held.pass }
-    ensures keeps { KeepsAs keeper.old (with_positions (seen_positions keeper.new) keeper.old) keeper.new }
+    ensures keeps { KeepsAs keeper.old (with_reads (seen_positions keeper.new) (reads_of keeper.new) keeper.old) keeper.new }
     ensures once { TookSteps keeper.old 1 keeper.new }
 {
     let words = &log.table.shared;

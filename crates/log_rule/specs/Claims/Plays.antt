@@ -29,7 +29,7 @@ bounds_of key = record {
 }
 
 abbrev pub no_keeping : Keeping
-no_keeping = record { right = 0; limit = 0; cleaned = 0; positions = [] }
+no_keeping = record { right = 0; limit = 0; cleaned = 0; positions = []; reads = [] }
 
 -- a pass with this number and so many parts, which has seen the term in which the log begins, and claimed nothing
 abbrev pub newcomer : Identity → ℕ → ℕ → ℕ → Pass
