@@ -2,6 +2,7 @@ pub mod Packs
 pub mod Tails
 pub mod Totals
 pub mod Accounts
+pub mod Shown
 pub mod Looks
 pub mod Turning
 pub mod Adding

@@ -1,5 +1,5 @@
 -- Seats that are dealt keep the rule.
-use Rattle.std.proofs.Common.{◌≡◌, ◌≢◌, inl, ℕ, ◌+◌, ◌-◌, ◌*◌, ◌<◌, ◌≤◌, cond, Bool, List, [], ◌∷◌, ◌++◌, map, set, sym, refl, ap, ◌∙◌, subst, ⊎_elim, suc-ne-zero, ne_eqb, arith}
+use Rattle.std.proofs.Common.{zero-le, ◌≡◌, ◌≢◌, inl, ℕ, ◌+◌, ◌-◌, ◌*◌, ◌<◌, ◌≤◌, cond, Bool, List, [], ◌∷◌, ◌++◌, map, set, sym, refl, ap, ◌∙◌, subst, ⊎_elim, suc-ne-zero, ne_eqb, arith}
 use mathlib.Core.Option.{some}
 use lib.ListN.{get_elem?}
 use Rattle.std.specs.Prelude.{slice_index}
@@ -77,7 +77,7 @@ split_off b ws ps r id n left p rs rs' k k' at off sum idle =
     split_ruled b ws ps r id p l q at (λ h. plus_none (weight h p)) sum (plus_none p.right.armed)
     (λ j. let d = none_armed j q refl in none (armed_on j p) (armed_on j q) d)
     record { identity = c.identity; start = c.start; number = c.number; right = record { capped = c.right.capped; able = unarmed p.right.armed left off; once = c.right.once; idle = idle }; entries = c.entries; seen = c.seen }
-    record { identity = refl; start = refl; number = omega arith; right = record { capped = omega arith; able = omega arith; once = omega arith; idle = λ z. refl }; entries = tt; seen = record { count = (omega arith, from); term = (omega arith, from); full = λ i e. absurd (suc-ne-zero i (sym e)); begun = from } }
+    record { identity = refl; start = refl; number = omega arith; right = record { capped = omega arith; able = omega arith; once = omega arith; idle = λ z. refl }; entries = tt; seen = record { count = (omega arith, from); term = (omega arith, from); full = λ i e. absurd (suc-ne-zero i (sym e)); begun = from; shown = zero-le } }
     record { stands = m.stands; placed = m.placed; aligned = m.aligned; done = m.done; undone = m.undone; kept = m.kept }
     record { stands = tt; placed = λ h. refl; aligned = tt; done = tt; undone = tt; kept = tt }
   where

@@ -16,7 +16,7 @@ use Rattle.publication.specs.declared.pass.Pass.{Pass}
 use Rattle.log_rule.specs.declared.claims.view.View.{View}
 use Rattle.log_rule.specs.Claims.Packs.{limit_place}
 use Rattle.log_rule.specs.Claims.Sums.{total}
-use Rattle.log_rule.specs.Claims.Terms.{Full, Terms}
+use Rattle.log_rule.specs.Claims.Terms.{Full, Terms, claimed_to}
 use Rattle.log_rule.specs.Claims.Rule.{Bounds, ClaimsHold, IsClaimEntry, Knows, entries_of, entry_of, first_of, shape_of, size_of, weight}
 use Rattle.log_rule.specs.Claims.Memory.{IsAligned, IsCommittedFrame, IsOpen, Memory, Ruled, StandsInTable, Stored}
 use Rattle.log_rule.specs.Claims.Events.{committed_weight}
@@ -130,11 +130,15 @@ module _ (p q : Pass) where
         term = k.seen.term;
         full = full_back b r.claims.terms p.seen.full (omega arith) (λ j e. subst (λ (n : ℕ). n ≤ j) first_p (sp.full j e)) k.seen.full r.claims.tailed.turns.done;
         begun = omega arith;
+        shown = left_of p.seen.shown q.seen.shown (claimed_to (shape_of b) r.claims.terms) k.seen.shown;
       };
     }
       where
         capped : (a c l : ℕ) → limit_in (max a c) ≤ l → limit_in a ≤ l
         capped a c l le = omega arith
+
+        left_of : (a c n : ℕ) → max a c ≤ n → a ≤ n
+        left_of a c n le = omega arith
 
     knows_q : Knows b r.claims.terms q
     knows_q = let cap = k.right.capped in let top = k.seen.begun in record {
@@ -148,11 +152,15 @@ module _ (p q : Pass) where
         term = (subst (λ (n : ℕ). n ≤ q.seen.term) first_q sq.term, omega arith);
         full = full_back b r.claims.terms q.seen.full (omega arith) (λ j e. subst (λ (n : ℕ). n ≤ j) first_q (sq.full j e)) k.seen.full r.claims.tailed.turns.done;
         begun = omega arith;
+        shown = right_of p.seen.shown q.seen.shown (claimed_to (shape_of b) r.claims.terms) k.seen.shown;
       };
     }
       where
         capped : (a c l : ℕ) → limit_in (max a c) ≤ l → limit_in c ≤ l
         capped a c l le = omega arith
+
+        right_of : (a c n : ℕ) → max a c ≤ n → c ≤ n
+        right_of a c n le = omega arith
 
     stored_p : Stored b ws p
     stored_p = record {
@@ -201,7 +209,7 @@ set_again (z ∷ zs) (suc i) x y = ap (λ (ys : List _). z ∷ ys) (set_again zs
 abbrev seeing_both : Pass → Pass → Pass
 seeing_both v w = record v {
   right = record v.right { limit = max v.right.limit w.right.limit };
-  seen = record v.seen { full = max v.seen.full w.seen.full; begun = max v.seen.begun (max w.seen.begun (max w.seen.count w.seen.term)) };
+  seen = record v.seen { full = max v.seen.full w.seen.full; begun = max v.seen.begun (max w.seen.begun (max w.seen.count w.seen.term)); shown = max v.seen.shown w.seen.shown };
   reading = v.reading ++ w.reading;
 }
 
@@ -219,6 +227,7 @@ sees_both b ws ps r i j v w at at' =
         term = kv.seen.term;
         full = λ n e. dite (dec_le w.seen.full v.seen.full) (λ le. kv.seen.full n (omega (arith, e, le))) (λ no. let lt = lt_of_not-le no in kw.seen.full n (omega (arith, e, lt)));
         begun = (let a = kv.seen.begun in let c = kw.seen.begun in let d = kw.seen.count.1 in let e = kw.seen.term.1 in most v.seen.begun w.seen.begun w.seen.count w.seen.term r.claims.terms.newest a c d e);
+        shown = both_low v.seen.shown w.seen.shown (claimed_to (shape_of b) r.claims.terms) kv.seen.shown kw.seen.shown;
       };
     } in record {
       claims = subst (λ (l : List ℕ). ClaimsHold b l (set ps i u)) (set-get_or ws 80 0) (sighted b ws ps r.claims i 80 v u at knows refl refl refl refl);
@@ -227,6 +236,9 @@ sees_both b ws ps r i j v w at at' =
   where
     capped : (a c l : ℕ) → limit_in a ≤ l → limit_in c ≤ l → limit_in (max a c) ≤ l
     capped a c l x y = omega arith
+
+    both_low : (a c n : ℕ) → a ≤ n → c ≤ n → max a c ≤ n
+    both_low a c n x y = omega arith
 
     most : (a c d e n : ℕ) → a ≤ n → c ≤ n → d ≤ n → e ≤ n → max a (max c (max d e)) ≤ n
     most a c d e n x y z u = omega arith

@@ -7,7 +7,6 @@ use lib.ListN.{get_elem?}
 use Rattle.std.specs.Prelude.{slice_index, if◌then◌else◌}
 use Rattle.std.specs.List.{AllByRecursion}
 use Rattle.std.proofs.Math.Nat.{div-mul-le_self}
-use Rattle.std.proofs.lemmas.Bool.{lt-ltb}
 use Rattle.std.proofs.lemmas.List.{map-set, set-get_or}
 use Rattle.std.proofs.lemmas.Nat.{le-div}
 use Rattle.atomic_table.specs.Table.{Allows, State, keeps}
@@ -23,7 +22,7 @@ use Rattle.publication.specs.declared.pass.ClaimRange.{ClaimRange}
 use Rattle.publication.specs.declared.pass.Controls.{Controls}
 use Rattle.publication.specs.declared.pass.Pass.{Pass}
 use Rattle.publication.specs.Controls.{with_tail}
-use Rattle.publication.specs.Steps.{count_in}
+use Rattle.publication.specs.Steps.{shown_position}
 use Rattle.log_rule.specs.declared.claims.view.View.{View}
 use Rattle.log_rule.specs.Claims.Packs.{limit_place, tail_place}
 use Rattle.log_rule.specs.Claims.Sums.{covers, total}
@@ -32,7 +31,7 @@ use Rattle.log_rule.specs.Claims.Rule.{Bounds, IsClaimEntry, entry_of, first_of,
 use Rattle.log_rule.specs.Claims.Memory.{Ruled, tail_of}
 use Rattle.log_rule.specs.Claims.Plays.{Mine, pass_in}
 use Rattle.log_rule.specs.Claims.Sure.{IsSure, controls_in}
-use Rattle.log_rule.proofs.Claimed.Adding.{count_is}
+use Rattle.log_rule.proofs.Claimed.Shown.{count_is, position_is}
 use Rattle.log_rule.proofs.Claimed.Looks.{narrow}
 use Rattle.log_rule.proofs.Claimed.Memories.{cover_passes, held_by, tail_is}
 use Rattle.log_rule.proofs.Claimed.Tails.{shows}
@@ -40,17 +39,10 @@ use Rattle.log_rule.proofs.Claimed.Totals.{total_append, total_at, total_map}
 use Rattle.log_rule.specs.declared.rule.Key.{Key}
 use Rattle.log_rule.specs.Kept.{Kept}
 use Rattle.log_rule.specs.Table.{LogRuled, now_at}
-use Rattle.log_rule.specs.Meetings.{AreApart, ShowsTail, claim_end, showing, shown_position}
+use Rattle.log_rule.specs.Meetings.{AreApart, ShowsTail, claim_end, showing}
 use Rattle.log_rule.proofs.InTerm.{entry_ends}
 use Rattle.log_rule.proofs.Known.{among_total}
 use Rattle.log_rule.proofs.Meetings.{told_ruled}
-
--- ---- the position that a word shows
-
-position_is : (g : Geometry) (n k o : ℕ) → count_in g n ≡ k → k < 2 ^ 31 → offset_in n ≡ o → shown_position g n ≡ k * g.term_length + min o g.term_length
-position_is g n k o e low f =
-    ap (λ (b : Bool). if b then count_in g n * g.term_length + min (offset_in n) g.term_length else 0) (lt-ltb (count_in g n) (2 ^ 31) (subst (λ (x : ℕ). x < 2 ^ 31) (sym e) low))
-    ∙ (λ i. e i * g.term_length + min (f i) g.term_length)
 
 -- the end of a term isn't inside a claim
 crosses : ℕ → Entry → ℕ
@@ -151,6 +143,56 @@ module _ (b : Bounds) (ws : List ℕ) (ps : List Pass) (r : Ruled b ws ps) (id :
         whole : (s y t o x : ℕ) → s ≡ y + t → t ≤ o → x ≡ y + min o t → s ≤ x
         whole s y t o x e le f = omega arith
 
+    newest_or : (k : ℕ) → k * size_of b < claimed_to (shape_of b) r.claims.terms → k ≤ r.claims.terms.newest
+    newest_or k under = let t = r.claims.terms in dite (dec_le k t.newest) (λ y. y) (λ no. (let lt = lt_of_not-le no in let rise : suc t.newest * size_of b ≤ k * size_of b = mul-le-mul_right (size_of b) lt in let z : suc t.newest * size_of b ≡ t.newest * size_of b + size_of b = omega arith in
+        absurd (over (suc t.newest * size_of b) (k * size_of b) (t.newest * size_of b) (size_of b) (t.offset t.newest) (claimed_to (shape_of b) t) rise under z refl)))
+      where
+        over : (s k y t o end : ℕ) → s ≤ k → k < end → s ≡ y + t → end ≡ y + min o t → ⊥
+        over s k y t o end le lt e f = omega arith
+
+    -- a position above the start that was reached lies in a term that has begun, or at the end of one
+    reached : (x : ℕ) → b.start < x → x ≤ claimed_to (shape_of b) r.claims.terms → (x - 1) / size_of b % 3 ≡ p % 3 → x ≤ shown_position (shape_of b) n
+    reached x above up same =
+        let t = r.claims.terms in let y : ℕ = x - 1 in let k : ℕ = y / size_of b in let least = r.claims.sound.geometry.term.least in let pos : 0 < size_of b = omega arith in
+        let from : first_of b ≤ k = le-div (b.start / size_of b) y (size_of b) pos (let below = div-mul-le_self b.start (size_of b) in before (b.start / size_of b * size_of b) b.start x below above) in
+        let parts : k * size_of b + y % size_of b ≡ y = div-add-mod' y (size_of b) in let inside = mod-lt y pos in
+        let under : k * size_of b < claimed_to (shape_of b) t = begun (k * size_of b) (y % size_of b) x (claimed_to (shape_of b) t) b.start parts above up in
+        let le : k ≤ t.newest = newest_or k under in
+        let z = reaches k from le same in dite (ℕ_discrete k t.newest)
+        (λ e. let top = z.newest e in through x (claimed_to (shape_of b) t) (shown_position (shape_of b) n) up top)
+        (λ ne. let full = z.full (omega (arith, le, ne)) in let q : suc k * size_of b ≡ k * size_of b + size_of b = omega arith in
+        ends x b.start (k * size_of b) (y % size_of b) (size_of b) (suc k * size_of b) (shown_position (shape_of b) n) above parts inside q full)
+      where
+        before : (y s x : ℕ) → y ≤ s → s < x → y ≤ x - 1
+        before y s x le lt = omega arith
+
+        begun : (y m x end s : ℕ) → y + m ≡ x - 1 → s < x → x ≤ end → y < end
+        begun y m x end s e lt le = omega arith
+
+        through : (a c d : ℕ) → a ≤ c → c ≤ d → a ≤ d
+        through a c d x y = omega arith
+
+        ends : (x s y m l next top : ℕ) → s < x → y + m ≡ x - 1 → m < l → next ≡ y + l → next ≤ top → x ≤ top
+        ends x s y m l next top above e lt f le = omega arith
+
+    start_below : first_of b % 3 ≡ p % 3 → b.start ≤ shown_position (shape_of b) n
+    start_below same =
+        let t = r.claims.terms in let from = r.claims.tailed.turns.from in let least = r.claims.sound.geometry.term.least in let pos : 0 < size_of b = omega arith in
+        let z = reaches (first_of b) (same_le (first_of b)) from same in let tail = tail_is b ws ps r.claims in let inside = mod-lt b.start pos in
+        dite (ℕ_discrete (first_of b) t.newest)
+        (λ e. let top = z.newest e in past b.start (total (weight length_of) ps) (claimed_to (shape_of b) t) (shown_position (shape_of b) n) tail top)
+        (λ ne. let full = z.full (omega (arith, from, ne)) in let q : suc (first_of b) * size_of b ≡ first_of b * size_of b + size_of b = omega arith in
+        within b.start (first_of b * size_of b) (b.start % size_of b) (size_of b) (suc (first_of b) * size_of b) (shown_position (shape_of b) n) (div-add-mod' b.start (size_of b)) inside q full)
+      where
+        same_le : (k : ℕ) → k ≤ k
+        same_le k = omega arith
+
+        past : (s m end top : ℕ) → s + m ≡ end → end ≤ top → s ≤ top
+        past s m end top e le = omega arith
+
+        within : (s y m l next top : ℕ) → y + m ≡ s → m < l → next ≡ y + l → next ≤ top → s ≤ top
+        within s y m l next top e lt f le = omega arith
+
     claim_below : (c : ClaimRange) → Among c v.right.claims → c.start / size_of b % 3 ≡ p % 3 → claim_end c ≤ shown_position (shape_of b) n
     claim_below c among same =
         let t = r.claims.terms in let k : ℕ = c.start / size_of b in let lies = inside c among in let some = long c among in let least = r.claims.sound.geometry.term.least in let pos : 0 < size_of b = omega arith in
@@ -194,12 +236,18 @@ module _ (b : Bounds) (ws : List ℕ) (ps : List Pass) (r : Ruled b ws ps) (id :
         claims = λ c among e. shape (λ i s. c.start / i.geometry.term_length % 3 ≡ p % 3 → claim_end c ≤ shown_position i.geometry word) (λ e'. claim_below p c among e') e;
         terms = shape (λ i s. (j : ℕ) → s / i.geometry.term_length ≤ j → j ≤ max v.seen.count v.seen.begun → j % 3 ≡ p % 3 → j * i.geometry.term_length ≤ shown_position i.geometry word)
             (λ j from le same. (reaches p j from (let a = k.seen.count.1 in let c = k.seen.begun in low j v.seen.count v.seen.begun r.claims.terms.newest le a c) same).begins);
+        shown = shape (λ i s. (x : ℕ) → x ≤ v.seen.shown → s < x → (x - 1) / i.geometry.term_length % 3 ≡ p % 3 → x ≤ shown_position i.geometry word)
+            (λ x le above same. reached p x above (up x v.seen.shown (claimed_to (shape_of b) r.claims.terms) le k.seen.shown) same);
+        from = shape (λ i s. s / i.geometry.term_length % 3 ≡ p % 3 → s ≤ shown_position i.geometry word) (λ same. start_below p same);
         apart = apart;
         same = refl;
       }
     where
       low : (j a c n : ℕ) → j ≤ max a c → a ≤ n → c ≤ n → j ≤ n
       low j a c n le x y = omega arith
+
+      up : (a c d : ℕ) → a ≤ c → c ≤ d → a ≤ d
+      up a c d x y = omega arith
 
 -- ---- the word is noted
 

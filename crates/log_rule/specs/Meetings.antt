@@ -1,14 +1,13 @@
 -- Two passes that meet: what each is told before, what both are together, and what the raw tails show them.
-use Rattle.std.specs.Prelude.{◌≡◌, ℕ, suc, ◌+◌, ◌*◌, ◌/◌, ◌%◌, ◌^◌, ◌<◌, ◌≤◌, ◌⊎◌, List, [], ◌∷◌, ◌++◌, map, max, min, nat_lt, if◌then◌else◌}
+use Rattle.std.specs.Prelude.{◌≡◌, ℕ, suc, ◌+◌, ◌-◌, ◌*◌, ◌/◌, ◌%◌, ◌^◌, ◌<◌, ◌≤◌, ◌⊎◌, List, [], ◌∷◌, ◌++◌, map, max}
 use Rattle.std.specs.List.{flat_map}
 use Rattle.theory.specs.Placed.{Among}
-use Rattle.theory.specs.Position.{Geometry, span}
-use Rattle.theory.specs.Words.{offset_in}
+use Rattle.theory.specs.Position.{span}
 use Rattle.publication.specs.declared.pass.ClaimRange.{ClaimRange}
 use Rattle.publication.specs.declared.pass.Controls.{Controls}
 use Rattle.publication.specs.declared.pass.Pass.{Pass}
 use Rattle.publication.specs.Controls.{with_tail}
-use Rattle.publication.specs.Steps.{Extent, count_in, extent_of, frames_of, geometry_of, ranges_of, term_of}
+use Rattle.publication.specs.Steps.{Extent, extent_of, frames_of, geometry_of, ranges_of, shown_position, term_of}
 use Rattle.log_rule.specs.declared.claims.view.View.{View}
 use Rattle.log_rule.specs.Claims.Sums.{total}
 use Rattle.log_rule.specs.Claims.Plays.{Mine}
@@ -34,7 +33,7 @@ pub record Steadies (v w : Pass) : Type 0 where
 abbrev pub meeting : Pass → Pass → Pass
 meeting v w = record (both v w) {
   right = record (both v w).right { limit = max v.right.limit w.right.limit };
-  seen = record v.seen { full = max v.seen.full w.seen.full; begun = max v.seen.begun (max w.seen.begun (max w.seen.count w.seen.term)) };
+  seen = record v.seen { full = max v.seen.full w.seen.full; begun = max v.seen.begun (max w.seen.begun (max w.seen.count w.seen.term)); shown = max v.seen.shown w.seen.shown };
   reading = v.reading ++ w.reading;
 }
 
@@ -54,10 +53,6 @@ back_right other v = new_seat other
 
 -- ---- what the raw tails show
 
--- the position that a raw tail shows, or 0 where its partition isn't used yet
-abbrev pub shown_position : Geometry → ℕ → ℕ
-shown_position g word = if nat_lt (count_in g word) (2 ^ 31) then count_in g word * g.term_length + min (offset_in word) g.term_length else 0
-
 abbrev pub claim_end : ClaimRange → ℕ
 claim_end c = c.start + span c.cuts
 
@@ -69,6 +64,9 @@ AreApart c d = (claim_end c ≤ d.start) ⊎ (claim_end d ≤ c.start)
 pub record ShowsTail (v : Pass) (partition n : ℕ) (w : Pass) : Type 0 where
   pub claims : (c : ClaimRange) → Among c v.right.claims → c.start / term_of v % 3 ≡ partition → claim_end c ≤ shown_position (geometry_of v) n
   pub terms : (k : ℕ) → v.start / term_of v ≤ k → k ≤ max v.seen.count v.seen.begun → k % 3 ≡ partition → k * term_of v ≤ shown_position (geometry_of v) n
+  -- nor does a position that the pass was shown before, nor the stream's start
+  pub shown : (p : ℕ) → p ≤ v.seen.shown → v.start < p → (p - 1) / term_of v % 3 ≡ partition → p ≤ shown_position (geometry_of v) n
+  pub from : v.start / term_of v % 3 ≡ partition → v.start ≤ shown_position (geometry_of v) n
   pub apart : (front behind : List ClaimRange) → v.right.claims ≡ front ++ behind → (c d : ClaimRange) → Among c front → Among d behind → AreApart c d
   pub same : w ≡ v
 

@@ -56,7 +56,7 @@ fresh = record {
   call = [];
   right = record { parts = 1; limit = 0; armed = 0; claims = [] };
   work = record { frames = []; drafts = [] };
-  seen = record { count = 0; term = 0; full = 0; begun = 0 };
+  seen = record { count = 0; term = 0; full = 0; begun = 0; shown = 0 };
   reading = [];
   keeping = record { right = 0; limit = 0; cleaned = 0; positions = []; reads = [] };
 }

@@ -5,7 +5,7 @@
 -- An addition opens all frames of a claim at once, each of zeros; storing a word changes a draft, and storing its
 -- first word makes it a committed frame. An addition answers the word before it, and start, end, padding and the term
 -- to turn from are computed from that word.
-use Rattle.std.specs.Prelude.{◌≡◌, ◌≢◌, ℕ, suc, ◌+◌, ◌-◌, ◌*◌, ◌/◌, ◌%◌, ◌^◌, ◌<◌, ◌≤◌, ◌⊎◌, true, false, List, [], ◌∷◌, ◌++◌, length, replicate, slice_set}
+use Rattle.std.specs.Prelude.{◌≡◌, ◌≢◌, ℕ, suc, ◌+◌, ◌-◌, ◌*◌, ◌/◌, ◌%◌, ◌^◌, ◌<◌, ◌≤◌, ◌⊎◌, true, false, List, [], ◌∷◌, ◌++◌, length, max, min, nat_lt, if◌then◌else◌, replicate, slice_set}
 use Rattle.std.specs.Int.{w32, cast_unsigned}
 use Rattle.theory.specs.Position.{Geometry, aligned, count_of, cuts_of, framed_length, id_of}
 use Rattle.theory.specs.Refusal.{limit_in}
@@ -70,9 +70,27 @@ with_work fs ds v = record v { work = works fs ds }
 abbrev pub with_limit : Pass → ℕ → Pass
 with_limit v n = record v { call = []; right = record v.right { limit = n } }
 
--- one word call more in the call
+-- the count of a word's id, which is below 2 ^ 31 where a term has that id
+abbrev pub count_in : Geometry → ℕ → ℕ
+count_in g word = cast_unsigned w32 (count_of g (id_in word))
+
+-- the position that a raw tail shows, or 0 where its partition isn't used yet
+abbrev pub shown_position : Geometry → ℕ → ℕ
+shown_position g word = if nat_lt (count_in g word) (2 ^ 31) then count_in g word * g.term_length + min (offset_in word) g.term_length else 0
+
+-- the position that the word of a word call shows: the start of the active term, or that of a raw tail
+abbrev pub shown_in : Geometry → WordStep → ℕ
+shown_in g (steps.Limit word) = 0
+shown_in g (steps.Count count) = count * g.term_length
+shown_in g (steps.Tail partition word) = shown_position g word
+shown_in g (steps.Addition partition taken word) = shown_position g word
+shown_in g (steps.NextTail partition word) = shown_position g word
+shown_in g (steps.TailExchange partition from to word) = shown_position g word
+shown_in g (steps.CountExchange from count) = count * g.term_length
+
+-- one word call more in the call, and what it showed
 abbrev pub noted : WordStep → Pass → Pass
-noted x v = record v { call = v.call ++ x ∷ [] }
+noted x v = record v { call = v.call ++ x ∷ []; seen = record v.seen { shown = max v.seen.shown (shown_in v.identity.geometry x) } }
 
 abbrev pub with_count : Pass → ℕ → Pass
 with_count v n = record v { seen = record v.seen { count = n } }
@@ -111,10 +129,6 @@ Keeps v w = w ≡ seeing v w
 -- the word has the id of the count
 abbrev pub Names : Pass → ℕ → ℕ → Type 0
 Names v word k = id_in word ≡ id_of (geometry_of v) k
-
--- the count of its id, which is below 2 ^ 31 where a term has that id
-abbrev pub count_in : Geometry → ℕ → ℕ
-count_in g word = cast_unsigned w32 (count_of g (id_in word))
 
 -- the position at which a word stands, or that it passed
 abbrev pub start_in : Geometry → ℕ → ℕ

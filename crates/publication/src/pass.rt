@@ -51,6 +51,8 @@ pub struct Seen {
     pub full: u64,
     /// The count of a term that has begun.
     pub begun: u64,
+    /// The greatest position that the active count or a raw tail has shown it.
+    pub shown: u64,
 }
 
 /// A consumer: its number, where it stands, the frames that it knows, and how often it looked where it stood and found

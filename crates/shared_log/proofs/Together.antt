@@ -1,7 +1,7 @@
 -- What two publishers that meet are told, by what their passes together were.
-use Rattle.std.proofs.Common.{◌≡◌, ◌⊎◌, inl, inr, ℕ, ◌+◌, ◌*◌, ◌/◌, ◌%◌, ◌≤◌, max, sym, refl, ap, ◌∙◌, subst, ⊎_elim, mul-le-mul_right, arith}
+use Rattle.std.proofs.Common.{◌≡◌, ◌⊎◌, inl, inr, ℕ, ◌+◌, ◌-◌, ◌*◌, ◌/◌, ◌%◌, ◌≤◌, max, sym, refl, ap, ◌∙◌, subst, ⊎_elim, lt_of_not-le, mul-le-mul_right, arith}
 use mathlib.Core.Logic.{dite}
-use native.Mathlib.Decide.{ℕ_discrete}
+use native.Mathlib.Decide.{dec_le, ℕ_discrete}
 use Rattle.theory.specs.Bytes.{Identity}
 use Rattle.theory.specs.Placed.{Among}
 use Rattle.theory.proofs.Lists.{among_left, among_right}
@@ -43,8 +43,18 @@ sees_tails v none one two all x y z top a c d e = record {
   };
   claims = λ r among. of_third (r.start / term_of v) (claim_end r) x y z top e (λ p. subst (λ (n : ℕ). claim_end r ≤ n) (sym a.is) (a.told.claims r among p)) (λ p. subst (λ (n : ℕ). claim_end r ≤ n) (sym c.is) (c.told.claims r among p)) (λ p. subst (λ (n : ℕ). claim_end r ≤ n) (sym d.is) (d.told.claims r among p));
   terms = λ k from le. of_third k (k * term_of v) x y z top e (λ p. subst (λ (n : ℕ). k * term_of v ≤ n) (sym a.is) (a.told.terms k from le p)) (λ p. subst (λ (n : ℕ). k * term_of v ≤ n) (sym c.is) (c.told.terms k from le p)) (λ p. subst (λ (n : ℕ). k * term_of v ≤ n) (sym d.is) (d.told.terms k from le p));
+  shown = dite (dec_le v.seen.shown v.start)
+      (λ low. (let from : v.start ≤ top = of_third (v.start / term_of v) v.start x y z top e (λ p. subst (λ (n : ℕ). v.start ≤ n) (sym a.is) (a.told.from p)) (λ p. subst (λ (n : ℕ). v.start ≤ n) (sym c.is) (c.told.from p)) (λ p. subst (λ (n : ℕ). v.start ≤ n) (sym d.is) (d.told.from p)) in under v.seen.shown v.start top low from))
+      (λ no. (let above = lt_of_not-le no in let s : ℕ = v.seen.shown in
+      of_third ((s - 1) / term_of v) s x y z top e (λ p. subst (λ (n : ℕ). s ≤ n) (sym a.is) (a.told.shown s (same s) above p)) (λ p. subst (λ (n : ℕ). s ≤ n) (sym c.is) (c.told.shown s (same s) above p)) (λ p. subst (λ (n : ℕ). s ≤ n) (sym d.is) (d.told.shown s (same s) above p))));
   apart = a.told.apart;
 }
+  where
+    under : (a c d : ℕ) → a ≤ c → c ≤ d → a ≤ d
+    under a c d x y = omega arith
+
+    same : (n : ℕ) → n ≤ n
+    same n = omega arith
 
 -- ---- of both
 
@@ -64,10 +74,16 @@ meets one other one' other' v before after position is new back_noted told so st
       greatest = record { zeroth = t.greatest.zeroth; first = t.greatest.first; second = t.greatest.second; loaded = t.greatest.loaded; noted = t.greatest.noted; is = t.greatest.is };
       claims = λ c either. t.claims c (⊎_elim (λ (a : Among c p.right.claims). among_left c p.right.claims q.right.claims a) (λ (a : Among c q.right.claims). among_right c p.right.claims q.right.claims a) either);
       seen = (
-        (below p.seen.count p.seen.count (omega arith) one_low (omega arith), below p.seen.begun (max p.seen.count p.seen.begun) (omega arith) (omega arith) (omega arith)),
-        subst (λ (n : ℕ). (q.seen.count * n ≤ position) × (q.seen.begun * n ≤ position)) (sym size) (below q.seen.count q.seen.count (omega arith) other_low (omega arith), below q.seen.begun (max q.seen.count q.seen.begun) (omega arith) (omega arith) (omega arith)),
+        (below p.seen.count p.seen.count (omega arith) one_low (omega arith), below p.seen.begun (max p.seen.count p.seen.begun) (omega arith) (omega arith) (omega arith), left_of p.seen.shown q.seen.shown position t.shown),
+        subst (λ (n : ℕ). (q.seen.count * n ≤ position) × (q.seen.begun * n ≤ position) × (q.seen.shown ≤ position)) (sym size) (below q.seen.count q.seen.count (omega arith) other_low (omega arith), below q.seen.begun (max q.seen.count q.seen.begun) (omega arith) (omega arith) (omega arith), right_of p.seen.shown q.seen.shown position t.shown),
       );
     }
   where
     through : (a c d : ℕ) → a ≤ c → c ≤ d → a ≤ d
     through a c d x y = omega arith
+
+    left_of : (a c n : ℕ) → max a c ≤ n → a ≤ n
+    left_of a c n le = omega arith
+
+    right_of : (a c n : ℕ) → max a c ≤ n → c ≤ n
+    right_of a c n le = omega arith

@@ -6,10 +6,10 @@ use Rattle.publication.specs.declared.pass.ClaimRange.{ClaimRange}
 use Rattle.publication.specs.declared.pass.Controls.{Controls}
 use Rattle.publication.specs.declared.pass.Pass.{Pass}
 use Rattle.publication.specs.Controls.{with_tail}
-use Rattle.publication.specs.Steps.{geometry_of, term_of}
+use Rattle.publication.specs.Steps.{geometry_of, shown_position, term_of}
 use Rattle.log_rule.specs.Claims.Handles.{PublisherValue}
 use Rattle.log_rule.specs.Claims.Plays.{Mine}
-use Rattle.log_rule.specs.Meetings.{AreApart, ShowsTail, claim_end, shown_position, unnoted}
+use Rattle.log_rule.specs.Meetings.{AreApart, ShowsTail, claim_end, unnoted}
 
 -- the same seat but for its steps
 pub record SeatStays (table : TableId) (id : ℕ) (me : Mine) (table' : TableId) (id' : ℕ) (me' : Mine) : Type 0 where
@@ -41,6 +41,7 @@ pub record SeesTails (v : Pass) (before after : Controls) (position : ℕ) : Typ
   pub greatest : IsGreatestShown v before after position
   pub claims : (c : ClaimRange) → Among c v.right.claims → claim_end c ≤ position
   pub terms : (k : ℕ) → v.start / term_of v ≤ k → k ≤ max v.seen.count v.seen.begun → k * term_of v ≤ position
+  pub shown : v.seen.shown ≤ position
   pub apart : (front behind : List ClaimRange) → v.right.claims ≡ front ++ behind → (c d : ClaimRange) → Among c front → Among d behind → AreApart c d
 
 -- a publisher that comes back is as it was, but for its steps
@@ -49,9 +50,9 @@ pub record IsBack (p q : PublisherValue) : Type 0 where
   pub pass : q.pass ≡ p.pass
   pub sure : q.sure ≡ 0
 
--- the terms that a pass has seen begin there or below
+-- the terms that a pass has seen begin there or below, and no word has shown it a position above
 abbrev pub SawBelow : Pass → ℕ → Type 0
-SawBelow v position = (v.seen.count * term_of v ≤ position) × (v.seen.begun * term_of v ≤ position)
+SawBelow v position = (v.seen.count * term_of v ≤ position) × (v.seen.begun * term_of v ≤ position) × (v.seen.shown ≤ position)
 
 pub record Meets (one other one' other' : PublisherValue) (position : ℕ) : Type 0 where
   pub one_is : IsBack one one'

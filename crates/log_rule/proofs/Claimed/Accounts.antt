@@ -1,5 +1,5 @@
 -- What passes know goes on being true, and their claims go on tiling the stream.
-use Rattle.std.proofs.Common.{◌≡◌, ◌≢◌, ℕ, suc, ◌+◌, ◌*◌, ◌%◌, ◌<◌, ◌≤◌, Bool, true, false, cond, List, [], ◌∷◌, map, length, set, sym, refl, ap, ◌∙◌, subst, ⊎_elim, mul-le-mul_left, mul-suc, eq-eqb, ne_eqb, arith}
+use Rattle.std.proofs.Common.{◌≡◌, ◌≢◌, ℕ, suc, ◌+◌, ◌*◌, ◌%◌, ◌<◌, ◌≤◌, max, Bool, true, false, cond, List, [], ◌∷◌, map, length, set, sym, refl, ap, ◌∙◌, subst, ⊎_elim, mul-le-mul_left, mul-suc, eq-eqb, ne_eqb, arith}
 use mathlib.Core.Option.{some}
 use lib.ListN.{get_elem?}
 use Rattle.std.specs.Prelude.{slice_index, nat_eq}
@@ -12,7 +12,7 @@ use Rattle.theory.specs.Bytes.{Identity}
 use Rattle.publication.specs.declared.pass.Pass.{Pass}
 use Rattle.publication.specs.declared.pass.Seen.{Seen}
 use Rattle.publication.specs.declared.step.WordStep.{WordStep}
-use Rattle.publication.specs.Steps.{noted}
+use Rattle.publication.specs.Steps.{noted, shown_in}
 use Rattle.log_rule.specs.Claims.Sums.{total}
 use Rattle.log_rule.specs.Claims.Terms.{Tailed, Terms, claimed_to}
 use Rattle.log_rule.specs.Claims.Rule.{Bounds, ClaimsHold, HasSeen, Knows, armed_of, armed_on, entry_of, first_of, parts_of, shape_of, size_of, weight}
@@ -23,9 +23,13 @@ use Rattle.log_rule.proofs.Claimed.Totals.{total_le, total_set}
 pub record Later (g : Geometry) (t u : Terms) : Type 0 where
   pub grows : t.newest ≤ u.newest
   pub fills : (k : ℕ) → g.term_length ≤ t.offset k → g.term_length ≤ u.offset k
+  pub rises : claimed_to g t ≤ claimed_to g u
 
 pub unchanged : (g : Geometry) (t : Terms) → Later g t t
-unchanged g t = record { grows = omega arith; fills = λ k le. le }
+unchanged g t = record { grows = omega arith; fills = λ k le. le; rises = same (claimed_to g t) }
+  where
+    same : (n : ℕ) → n ≤ n
+    same n = omega arith
 
 pub saw_on : (g : Geometry) (first : ℕ) (t u : Terms) → Later g t u → (s : Seen) → HasSeen g first t s → HasSeen g first u s
 saw_on g first t u l s w = let rise = l.grows in record {
@@ -33,13 +37,24 @@ saw_on g first t u l s w = let rise = l.grows in record {
   term = (let c = w.term in (c.0, omega arith));
   full = λ k e. (let f = w.full k e in (f.0, omega arith, l.fills k f.2));
   begun = (let b = w.begun in omega arith);
+  shown = through s.shown (claimed_to g t) (claimed_to g u) w.shown l.rises;
 }
+  where
+    through : (a c d : ℕ) → a ≤ c → c ≤ d → a ≤ d
+    through a c d x y = omega arith
+
+-- a position more was shown
+pub saw_more : (g : Geometry) (first : ℕ) (t : Terms) (s : Seen) (n : ℕ) → n ≤ claimed_to g t → HasSeen g first t s → HasSeen g first t (record s { shown = max s.shown n })
+saw_more g first t s n le w = record { count = w.count; term = w.term; full = w.full; begun = w.begun; shown = most s.shown n (claimed_to g t) w.shown le }
+  where
+    most : (a c d : ℕ) → a ≤ d → c ≤ d → max a c ≤ d
+    most a c d x y = omega arith
 
 pub knows_on : (b : Bounds) (t u : Terms) → Later (shape_of b) t u → (v : Pass) → Knows b t v → Knows b u v
 knows_on b t u l v k = record { identity = k.identity; start = k.start; number = k.number; right = k.right; entries = k.entries; seen = saw_on (shape_of b) (first_of b) t u l v.seen k.seen }
 
-pub knows_noted : (b : Bounds) (t : Terms) (x : WordStep) (v : Pass) → Knows b t v → Knows b t (noted x v)
-knows_noted b t x v k = record { identity = k.identity; start = k.start; number = k.number; right = k.right; entries = k.entries; seen = k.seen }
+pub knows_noted : (b : Bounds) (t : Terms) (x : WordStep) (v : Pass) → shown_in v.identity.geometry x ≤ claimed_to (shape_of b) t → Knows b t v → Knows b t (noted x v)
+knows_noted b t x v low k = record { identity = k.identity; start = k.start; number = k.number; right = k.right; entries = k.entries; seen = saw_more (shape_of b) (first_of b) t v.seen (shown_in v.identity.geometry x) low k.seen }
 
 pub each_set : (b : Bounds) (t u : Terms) (ps : List Pass) (id : ℕ) (w : Pass) → Later (shape_of b) t u → ((j : ℕ) (v : Pass) → get_elem? ps j ≡ some v → Knows b t v) → Knows b u w
     → (j : ℕ) (v : Pass) → get_elem? (set ps id w) j ≡ some v → Knows b u v

@@ -1,5 +1,5 @@
 -- An addition to a raw tail keeps the claims' rule: it takes one entry at the end of the stream, or nothing.
-use Rattle.std.proofs.Common.{◌≡◌, ℕ, suc, ◌+◌, ◌-◌, ◌*◌, ◌/◌, ◌%◌, ◌^◌, ◌<◌, ◌≤◌, min, List, [], ◌∷◌, ◌++◌, map, set, sym, refl, ap, ◌∙◌, subst, lt_of_not-le, mul_assoc, length-set, get_or-set_other, arith}
+use Rattle.std.proofs.Common.{◌≡◌, ℕ, suc, ◌+◌, ◌-◌, ◌*◌, ◌/◌, ◌%◌, ◌^◌, ◌<◌, ◌≤◌, max, min, List, [], ◌∷◌, ◌++◌, map, set, sym, refl, ap, ◌∙◌, subst, lt_of_not-le, mul_assoc, length-set, get_or-set_other, arith}
 use mathlib.Core.Option.{some}
 use mathlib.Core.Logic.{dite}
 use native.Mathlib.Decide.{dec_le, ℕ_discrete}
@@ -20,7 +20,7 @@ use Rattle.theory.proofs.Named.{counts}
 use Rattle.theory.proofs.Places.{power_unit}
 use Rattle.theory.proofs.Tiling.{Tiles-push}
 use Rattle.publication.specs.declared.pass.Pass.{Pass}
-use Rattle.publication.specs.Steps.{Adds, IsTerm, addition, count_in, disarmed, message_at, noted, opened, padding_at, start_in, with_full}
+use Rattle.publication.specs.Steps.{Adds, IsTerm, addition, count_in, disarmed, message_at, noted, opened, padding_at, shown_position, start_in, with_full}
 use Rattle.log_rule.specs.Claims.Packs.{tail_place}
 use Rattle.log_rule.specs.Claims.Sums.{total}
 use Rattle.log_rule.specs.Claims.Terms.{Full, Terms, claimed_to}
@@ -30,12 +30,8 @@ use Rattle.log_rule.proofs.Claimed.Packs.{at_put, put, put_else, put_here}
 use Rattle.log_rule.proofs.Claimed.Totals.{total_append}
 use Rattle.log_rule.proofs.Claimed.Tails.{Shows, added, raised, shows}
 use Rattle.log_rule.proofs.Claimed.Accounts.{Later, disarms, moved, read_off, saw_on}
+use Rattle.log_rule.proofs.Claimed.Shown.{count_is, tail_shows}
 use Rattle.log_rule.proofs.Claimed.Looks.{by_pass, ends_at, inside, narrow, newest_of, tail_low, term_short}
-
--- ---- what the word before the addition says
-
-pub count_is : (g : Geometry) (word k : ℕ) → IsGeometry g → k < 2 ^ 31 → id_in word ≡ id_of g k → count_in g word ≡ k
-count_is g word k is low e = ap (λ z. cast_unsigned w32 (count_of g z)) e ∙ ap (cast_unsigned w32) (counts g k is.initial low)
 
 -- ---- the entries that it takes
 
@@ -71,7 +67,13 @@ padding_claim v n number unit low = record {
 -- ---- the stream after it
 
 raised_later : (g : Geometry) (t : Terms) (k n : ℕ) → Later g t (raised t k n)
-raised_later g t k n = record { grows = omega arith; fills = λ j le. at_put t.offset k (t.offset k + n) (λ x. g.term_length ≤ x) j (λ e. let e' : t.offset j ≡ t.offset k = ap t.offset e in omega arith) (λ _. le) }
+raised_later g t k n = record { grows = omega arith; fills = λ j le. at_put t.offset k (t.offset k + n) (λ x. g.term_length ≤ x) j (λ e. let e' : t.offset j ≡ t.offset k = ap t.offset e in omega arith) (λ _. le); rises = ends (t.newest * g.term_length) (t.offset t.newest) (put t.offset k (t.offset k + n) t.newest) g.term_length (at_put t.offset k (t.offset k + n) (λ x. t.offset t.newest ≤ x) t.newest (λ e. let e' : t.offset t.newest ≡ t.offset k = ap t.offset e in omega arith) (λ _. same (t.offset t.newest))) }
+  where
+    same : (o : ℕ) → o ≤ o
+    same o = omega arith
+
+    ends : (y o o' l : ℕ) → o ≤ o' → y + min o l ≤ y + min o' l
+    ends y o o' l le = omega arith
 
 -- what an addition makes of the stream: the end goes on by what is taken
 record Grown (b : Bounds) (t u : Terms) (n : ℕ) (log more : List Entry) : Type 0 where
@@ -156,8 +158,8 @@ adding b ws ps r id v n at armed unit le =
 
 -- what a pass knows that has added, and is armed no more
 knows_added : (b : Bounds) (t u : Terms) → Later (shape_of b) t u → (v w : Pass) → Knows b t v → w.identity ≡ v.identity → w.start ≡ v.start → w.number ≡ v.number → w.right.limit ≡ v.right.limit → w.right.armed ≡ 0 → w.right.parts ≡ v.right.parts → 0 < v.right.parts
-    → w.seen.count ≡ v.seen.count → w.seen.term ≡ v.seen.term → w.seen.begun ≡ v.seen.begun → ((k : ℕ) → w.seen.full ≡ suc k → Full (shape_of b) (first_of b) u k) → AllByRecursion IsClaimEntry (entries_of w) → Knows b u w
-knows_added b t u later v w k identity start number limit off parts able count term begun full entries = let saw = saw_on (shape_of b) (first_of b) t u later v.seen k.seen in record {
+    → w.seen.count ≡ v.seen.count → w.seen.term ≡ v.seen.term → w.seen.begun ≡ v.seen.begun → ((k : ℕ) → w.seen.full ≡ suc k → Full (shape_of b) (first_of b) u k) → w.seen.shown ≤ claimed_to (shape_of b) u → AllByRecursion IsClaimEntry (entries_of w) → Knows b u w
+knows_added b t u later v w k identity start number limit off parts able count term begun full shown entries = let saw = saw_on (shape_of b) (first_of b) t u later v.seen k.seen in record {
   identity = identity ∙ k.identity;
   start = start ∙ k.start;
   number = (let n = k.number in omega arith);
@@ -168,6 +170,7 @@ knows_added b t u later v w k identity start number limit off parts able count t
     term = subst (λ (n : ℕ). (first_of b ≤ n) × (n ≤ u.newest)) (sym term) saw.term;
     full = full;
     begun = subst (λ (n : ℕ). n ≤ u.newest) (sym begun) saw.begun;
+    shown = shown;
   };
 }
 
@@ -246,11 +249,12 @@ add_at id v size able armed short b' ws ps r at =
     let term : IsTerm v (count_in g y) = subst (IsTerm v) (sym f.count) record { begun = f.from; small = f.small } in
     let unit_y : offset_in y % 32 ≡ 0 = ap (λ (z : ℕ). z % 32) off_is ∙ f.unit in
     let fits = ad.fits in let thin : offset_in y + n < 4294967296 = subst (λ (z : ℕ). z + n < 4294967296) (sym off_is) fits in
+    let shown : max v.seen.shown (shown_position g y) ≤ claimed_to g u = most v.seen.shown (shown_position g y) (claimed_to g t) (claimed_to g u) kn.seen.shown (tail_shows g (first_of b) t ws is r.tailed (narrow b ws ps r) v.seen.term) later.rises in
     let some_parts : 0 < v.right.parts = omega arith in let some_n : 0 < n = subst (λ (z : ℕ). 0 < z) taken (long_cuts g size (let q = is.mtu.least in omega arith)) in
     dite (dec_le long o)
     (λ (full : long ≤ o). let w = noted x (with_full (disarmed v) (count_in g y)) in (
       w,
-      ad.build w [] (knows_added b t u later v w kn refl refl refl refl refl refl some_parts refl refl refl (λ j e. full_after b t k n f.from f.low (let q : long ≤ o + n = omega arith in q) (count_in g y) j f.count e) kn.entries) refl refl (sym (append_none (entries_of v)))
+      ad.build w [] (knows_added b t u later v w kn refl refl refl refl refl refl some_parts refl refl refl (λ j e. full_after b t k n f.from f.low (let q : long ≤ o + n = omega arith in q) (count_in g y) j f.count e) shown kn.entries) refl refl (sym (append_none (entries_of v)))
           (grows_none b t u n r.log r.tiles (ends_full g t k n full)),
       record { term = term; unit = unit_y; narrow = thin; fits = λ q. absurd (let z : offset_in y + n ≤ long = q in omega arith); trips = λ q _. absurd (omega arith); over = λ _. refl },
     ))
@@ -258,7 +262,7 @@ add_at id v size able armed short b' ws ps r at =
     dite (dec_le (o + n) long)
     (λ (le' : o + n ≤ long). let c = message_at v y size in let e = entry_of c in let w = noted x (opened v c) in (
       w,
-      ad.build w (e ∷ []) (knows_added b t u later v w kn refl refl refl refl refl refl some_parts refl refl refl (saw_on g (first_of b) t u later v.seen kn.seen).full
+      ad.build w (e ∷ []) (knows_added b t u later v w kn refl refl refl refl refl refl some_parts refl refl refl (saw_on g (first_of b) t u later v.seen kn.seen).full shown
           (subst (AllByRecursion IsClaimEntry) (sym (maps_append entry_of v.right.claims (c ∷ []))) (all_append IsClaimEntry (entries_of v) (e ∷ []) kn.entries (message_claim v y size is kn.number f.start_unit, tt)))) refl refl (maps_append entry_of v.right.claims (c ∷ []))
           (grows_one b t u n k o r.log e r.tiles (ends_at g t k o top refl lt) lt f.start (subst (λ (z : ℕ). o + z ≤ long) (sym taken) le') (let q : span (cuts_of g size) ≤ n = omega arith in q)
           (ends_more g t k n n top lt (let q : min (o + n) long ≡ o + n = omega arith in q) ∙ ap (λ (z : ℕ). claimed_to g t + z) (sym taken))),
@@ -268,13 +272,16 @@ add_at id v size able armed short b' ws ps r at =
     let rest : ℕ = long - o in let room : offset_in y < long = subst (λ (z : ℕ). z < long) (sym off_is) lt in
     let padded : length_of e ≡ rest = (let cut : long - offset_in y ≡ rest = ap (λ (z : ℕ). long - z) off_is in ap (λ (z : ℕ). span (z ∷ [])) cut ∙ rest_span rest (let a = f.unit in let d = f.size_unit in let q : rest % 32 ≡ 0 = omega arith in q)) in (
       w,
-      ad.build w (e ∷ []) (knows_added b t u later v w kn refl refl refl refl refl refl some_parts refl refl refl (λ j q. full_after b t k n f.from f.low (let z : long ≤ o + n = omega arith in z) (count_in g y) j f.count q)
+      ad.build w (e ∷ []) (knows_added b t u later v w kn refl refl refl refl refl refl some_parts refl refl refl (λ j q. full_after b t k n f.from f.low (let z : long ≤ o + n = omega arith in z) (count_in g y) j f.count q) shown
           (subst (AllByRecursion IsClaimEntry) (sym (maps_append entry_of v.right.claims (c ∷ []))) (all_append IsClaimEntry (entries_of v) (e ∷ []) kn.entries (padding_claim v y kn.number f.start_unit room, tt)))) refl refl (maps_append entry_of v.right.claims (c ∷ []))
           (grows_one b t u n k o r.log e r.tiles (ends_at g t k o top refl lt) lt f.start (subst (λ (z : ℕ). o + z ≤ long) (sym padded) (let q : o + rest ≤ long = omega arith in q)) (subst (λ (z : ℕ). z ≤ n) (sym padded) (let q : rest ≤ n = omega arith in q))
           (ends_more g t k n rest top lt (let q : min (o + n) long ≡ o + rest = omega arith in q) ∙ ap (λ (z : ℕ). claimed_to g t + z) (sym padded))),
       record { term = term; unit = unit_y; narrow = thin; fits = λ q. absurd (omega arith); trips = λ _ _. refl; over = λ q. absurd (omega arith) },
     )))
   where
+    most : (a c d e : ℕ) → a ≤ d → c ≤ d → d ≤ e → max a c ≤ e
+    most a c d e x y z = omega arith
+
     rest_span : (n : ℕ) → n % 32 ≡ 0 → span (n ∷ []) ≡ n
     rest_span n e = omega arith
 

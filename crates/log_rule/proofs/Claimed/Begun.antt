@@ -1,5 +1,5 @@
 -- The words of a log that opens obey the rule, and so do its first passes.
-use Rattle.std.proofs.Common.{◌≡◌, ◌≢◌, ℕ, zero, suc, ◌+◌, ◌-◌, ◌*◌, ◌/◌, ◌%◌, ◌<◌, ◌≤◌, min, List, [], ◌∷◌, ◌++◌, map, replicate, length, set, length-set, get_or-set_same, get_or-set_other, sym, refl, ap, ◌∙◌, subst, ⊎_elim, suc-ne-zero, mul-zero, mul-le-mul_left, mul_comm, mod-lt, lt_of_not-le, div-add-mod', arith}
+use Rattle.std.proofs.Common.{zero-le, ◌≡◌, ◌≢◌, ℕ, zero, suc, ◌+◌, ◌-◌, ◌*◌, ◌/◌, ◌%◌, ◌<◌, ◌≤◌, min, List, [], ◌∷◌, ◌++◌, map, replicate, length, set, length-set, get_or-set_same, get_or-set_other, sym, refl, ap, ◌∙◌, subst, ⊎_elim, suc-ne-zero, mul-zero, mul-le-mul_left, mul_comm, mod-lt, lt_of_not-le, div-add-mod', arith}
 use mathlib.Core.Option.{some, some-injective, some-ne-none}
 use mathlib.Core.Logic.{dite}
 use native.Mathlib.Decide.{dec_le, ℕ_discrete}
@@ -120,7 +120,7 @@ first_knows key so t e = record {
   number = omega arith;
   right = record { capped = omega arith; able = omega arith; once = omega arith; idle = λ z. refl };
   entries = tt;
-  seen = record { count = (omega arith, omega arith); term = (omega arith, omega arith); full = λ k z. absurd (suc-ne-zero k (sym z)); begun = omega arith };
+  seen = record { count = (omega arith, omega arith); term = (omega arith, omega arith); full = λ k z. absurd (suc-ne-zero k (sym z)); begun = omega arith; shown = zero-le };
 }
 
 one_pass : (P : Pass → Type 0) (p : Pass) → P p → (j : ℕ) (v : Pass) → get_elem? (p ∷ []) j ≡ some v → P v

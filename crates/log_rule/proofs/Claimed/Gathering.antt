@@ -1,5 +1,5 @@
 -- Passes that are gathered keep the rule, and one that has all parts has all that was claimed.
-use Rattle.std.proofs.Common.{◌≡◌, ◌≢◌, ℕ, ◌+◌, ◌*◌, ◌%◌, ◌<◌, ◌≤◌, List, ◌++◌, map, set, sym, refl, ap, ◌∙◌, subst, ⊎_elim, suc-ne-zero, arith}
+use Rattle.std.proofs.Common.{zero-le, ◌≡◌, ◌≢◌, ℕ, ◌+◌, ◌*◌, ◌%◌, ◌<◌, ◌≤◌, List, ◌++◌, map, set, sym, refl, ap, ◌∙◌, subst, ⊎_elim, suc-ne-zero, arith}
 use mathlib.Core.Option.{some}
 use lib.ListN.{get_elem?}
 use Rattle.std.specs.List.{AllByRecursion}
@@ -42,7 +42,7 @@ joined b ws ps r i j v w at ne at' off off' able =
     let entries : entries_of l ≡ entries_of v ++ entries_of w = maps_append entry_of v.right.claims w.right.claims in
     let weighs : (h : Entry → ℕ) → total (weight h) ps' ≡ total (weight h) ps = λ h. join_total (weight h) ps i j v w l q at at' (plus_none (weight h l) (weight h v + weight h w) (ap (total h) entries ∙ total_append h (entries_of v) (entries_of w))) in
     let keeps : Knows b t l = record { identity = k.identity; start = k.start; number = k.number; right = record { capped = k.right.capped; able = omega arith; once = k.right.once; idle = λ z. absurd (omega arith) }; entries = subst (AllByRecursion IsClaimEntry) (sym entries) (all_append IsClaimEntry (entries_of v) (entries_of w) k.entries k'.entries); seen = k.seen } in
-    let gets : Knows b t q = record { identity = refl; start = refl; number = omega arith; right = record { capped = omega arith; able = omega arith; once = omega arith; idle = λ z. refl }; entries = tt; seen = record { count = (omega arith, from); term = (omega arith, from); full = λ n e. absurd (suc-ne-zero n (sym e)); begun = from } } in
+    let gets : Knows b t q = record { identity = refl; start = refl; number = omega arith; right = record { capped = omega arith; able = omega arith; once = omega arith; idle = λ z. refl }; entries = tt; seen = record { count = (omega arith, from); term = (omega arith, from); full = λ n e. absurd (suc-ne-zero n (sym e)); begun = from; shown = zero-le } } in
     let has : Stored b ws l = record {
       stands = all_cross (StandsInTable b ws) v.work.frames w.work.frames v.work.drafts w.work.drafts m.stands m'.stands;
       placed = λ h. total_flat h ranges_of (v.right.claims ++ w.right.claims) ∙ total_append (λ c. total h (ranges_of c)) v.right.claims w.right.claims ∙ (λ x. sym (total_flat h ranges_of v.right.claims) x + sym (total_flat h ranges_of w.right.claims) x) ∙ (λ x. m.placed h x + m'.placed h x) ∙ sym (sum_cross h v.work.frames w.work.frames v.work.drafts w.work.drafts);

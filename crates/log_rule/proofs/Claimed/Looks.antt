@@ -1,5 +1,5 @@
 -- The steps that load a word keep the claims' rule.
-use Rattle.std.proofs.Common.{◌≡◌, ℕ, ◌+◌, ◌*◌, ◌/◌, ◌%◌, ◌<◌, ◌≤◌, min, List, length, set, sym, refl, ap, ◌∙◌, subst, lt_of_not-le, mul-le-mul_left, arith}
+use Rattle.std.proofs.Common.{◌≡◌, ℕ, ◌+◌, ◌*◌, ◌/◌, ◌%◌, ◌<◌, ◌≤◌, min, List, length, zero-le, set, sym, refl, ap, ◌∙◌, subst, lt_of_not-le, mul-le-mul_left, arith}
 use mathlib.Core.Option.{some}
 use mathlib.Core.Logic.{dite}
 use native.Mathlib.Decide.{dec_le, ℕ_discrete}
@@ -12,7 +12,7 @@ use Rattle.theory.specs.Words.{id_in, offset_in}
 use Rattle.theory.proofs.Claims.{claim_bounded}
 use Rattle.publication.specs.declared.pass.Pass.{Pass}
 use Rattle.publication.specs.declared.step.WordStep.TheVariants as steps
-use Rattle.publication.specs.Steps.{Arms, Counts, Names, Sees, noted, tail_step, with_armed, with_count, with_full, with_limit}
+use Rattle.publication.specs.Steps.{Arms, Counts, Names, Sees, noted, shown_position, tail_step, with_armed, with_count, with_full, with_limit}
 use Rattle.log_rule.specs.Claims.Packs.{count_place, limit_place, tail_place}
 use Rattle.log_rule.specs.Claims.Sums.{total}
 use Rattle.log_rule.specs.Claims.Terms.{Full, Terms, Turns, claimed_to}
@@ -21,7 +21,8 @@ use Rattle.log_rule.specs.Claims.Admits.{Admits}
 use Rattle.log_rule.proofs.Claimed.Packs.{one_count}
 use Rattle.log_rule.proofs.Claimed.Totals.{total_set}
 use Rattle.log_rule.proofs.Claimed.Tails.{Narrow, shows}
-use Rattle.log_rule.proofs.Claimed.Accounts.{Over, Room, armed_elsewhere, each_set, few, knows_noted, on_le, peeked, read_off, reads, reads_back, sighted, unchanged}
+use Rattle.log_rule.proofs.Claimed.Accounts.{Over, Room, armed_elsewhere, each_set, few, knows_noted, on_le, peeked, read_off, reads, reads_back, saw_more, sighted, unchanged}
+use Rattle.log_rule.proofs.Claimed.Shown.{active_shows, tail_shows}
 
 -- ---- the numbers of a log
 
@@ -51,17 +52,17 @@ pub see : (b : Bounds) (id : ℕ) (v : Pass) → Admits (ClaimsHold b) id v limi
 see b id v ws ps r at = let n : ℕ = slice_index ws 0 in let w = noted (steps.Limit n) (with_limit v n) in let k = r.each id v at in (
   w,
   sighted b ws ps r id 0 v w at
-      record { identity = k.identity; start = k.start; number = k.number; right = record { capped = (let e : limit_in n ≡ b.limit = ap limit_in r.limit ∙ r.sound.limit in omega arith); able = k.right.able; once = k.right.once; idle = k.right.idle }; entries = k.entries; seen = k.seen } refl refl refl refl,
+      record { identity = k.identity; start = k.start; number = k.number; right = record { capped = (let e : limit_in n ≡ b.limit = ap limit_in r.limit ∙ r.sound.limit in omega arith); able = k.right.able; once = k.right.once; idle = k.right.idle }; entries = k.entries; seen = saw_more (shape_of b) (first_of b) r.terms v.seen 0 zero-le k.seen } refl refl refl refl,
   refl,
 )
 
 -- ---- the active count
 
 count_at : (id : ℕ) (v : Pass) (b : Bounds) → Admits (ClaimsHold (read_off b v)) id v count_place (λ n. n) (λ n w. Counts v n w)
-count_at id v b ws ps r at = let n : ℕ = slice_index ws count_place in let w = noted (steps.Count n) (with_count v n) in let k = r.each id v at in let a = r.tailed.active in let to = r.tailed.turns.to in (
+count_at id v b ws ps r at = let n : ℕ = slice_index ws count_place in let g : Geometry = v.identity.geometry in let first : ℕ = first_of (read_off b v) in let x = with_count v n in let w = noted (steps.Count n) x in let k = r.each id v at in let a = r.tailed.active in let to = r.tailed.turns.to in (
   w,
   sighted (read_off b v) ws ps r id count_place v w at
-      record { identity = k.identity; start = k.start; number = k.number; right = k.right; entries = k.entries; seen = record { count = a; term = k.seen.term; full = k.seen.full; begun = k.seen.begun } } refl refl refl refl,
+      record { identity = k.identity; start = k.start; number = k.number; right = k.right; entries = k.entries; seen = saw_more g first r.terms x.seen (n * g.term_length) (active_shows g first r.terms ws r.sound.geometry r.tailed (narrow (read_off b v) ws ps r)) record { count = a; term = k.seen.term; full = k.seen.full; begun = k.seen.begun; shown = k.seen.shown } } refl refl refl refl,
   record { term = record { begun = a.0; small = omega arith }; after = refl },
 )
 
@@ -112,21 +113,21 @@ arm_at id v able b' ws ps r at =
     let nar = narrow b ws ps r in let sh = shows g (first_of b) t ws so.geometry.initial r.tailed nar p seen_count.1 in let to = r.tailed.turns.to in
     let found : Names v n p → sh.k ≡ p = λ e. sh.only p (omega arith) e in
     let off : ℕ = offset_in n in let off_of : Names v n p → off ≡ t.offset p = λ e. sh.off ∙ ap t.offset (found e) in
-    let same : Pass = noted (tail_step v n) v in
+    let same : Pass = noted (tail_step v n) v in let there = tail_shows g (first_of b) t ws so.geometry r.tailed nar p in
     dite (ℤ_discrete (id_in n) (id_of g p))
     (λ named. dite (dec_le size off)
     (λ full. let w = noted (tail_step v n) (with_full v p) in let o = off_of named in
     let whole : Full g (first_of b) t p = (seen_count.0, seen_count.1, (let q : size ≤ t.offset p = omega arith in q)) in (
       w,
       sighted b ws ps r id i v w at
-          record { identity = k.identity; start = k.start; number = k.number; right = k.right; entries = k.entries; seen = record { count = k.seen.count; term = k.seen.term; full = λ j e. subst (Full g (first_of b) t) (let q : p ≡ j = omega arith in q) whole; begun = k.seen.begun } } refl refl refl refl,
+          record { identity = k.identity; start = k.start; number = k.number; right = k.right; entries = k.entries; seen = saw_more g (first_of b) t (with_full v p).seen (shown_position g n) there record { count = k.seen.count; term = k.seen.term; full = λ j e. subst (Full g (first_of b) t) (let q : p ≡ j = omega arith in q) whole; begun = k.seen.begun; shown = k.seen.shown } } refl refl refl refl,
       record { below = λ _ lt _. absurd (omega arith); limited = λ _ lt _. absurd (omega arith); used_up = λ _ _. refl; other = λ no. absurd (no named) },
     ))
     (λ not_full. let lt = lt_of_not-le not_full in dite (dec_le (limit_in v.right.limit) (p * size + off))
-    (λ past. (same, sighted b ws ps r id i v same at (knows_noted b t (tail_step v n) v k) refl refl refl refl, record { below = λ _ _ low. absurd (omega arith); limited = λ _ _ _. refl; used_up = λ _ le. absurd (not_full le); other = λ no. absurd (no named) }))
+    (λ past. (same, sighted b ws ps r id i v same at (knows_noted b t (tail_step v n) v there k) refl refl refl refl, record { below = λ _ _ low. absurd (omega arith); limited = λ _ _ _. refl; used_up = λ _ le. absurd (not_full le); other = λ no. absurd (no named) }))
     (λ not_past. let below = lt_of_not-le not_past in let w = noted (tail_step v n) (with_armed v) in let o = off_of named in
     let right : Entitled b w.right = record { capped = k.right.capped; able = able; once = omega arith; idle = k.right.idle } in
-    let knows : Knows b t w = record { identity = k.identity; start = k.start; number = k.number; right = right; entries = k.entries; seen = record { count = k.seen.count; term = k.seen.count; full = k.seen.full; begun = k.seen.begun } } in
+    let knows : Knows b t w = record { identity = k.identity; start = k.start; number = k.number; right = right; entries = k.entries; seen = saw_more g (first_of b) t (with_armed v).seen (shown_position g n) there record { count = k.seen.count; term = k.seen.count; full = k.seen.full; begun = k.seen.begun; shown = k.seen.shown } } in
     let top : p ≡ t.newest = newest_of g (first_of b) t r.tailed.turns p seen_count.0 seen_count.1 (let q : t.offset p < size = omega arith in q) in
     let ends : claimed_to g t ≡ p * size + off = ends_at g t p off top o lt in let cap = k.right.capped in
     let a = arming b ws ps r id v w at knows refl top (subst (λ (z : ℕ). t.offset z < size) top (let q : t.offset p < size = omega arith in q)) (let z : ℕ = claimed_to g t in let y : ℕ = p * size in let e : z ≡ y + off = ends in let l : y + off < limit_in v.right.limit = below in let q : z < b.limit = omega arith in q) in (
@@ -134,7 +135,7 @@ arm_at id v able b' ws ps r at =
       peeked b ws ps r id i v w at knows refl refl a.over a.room,
       record { below = λ _ _ _. refl; limited = λ _ _ le. absurd (not_past le); used_up = λ _ le. absurd (not_full le); other = λ no. absurd (no named) },
     ))))
-    (λ other. (same, sighted b ws ps r id i v same at (knows_noted b t (tail_step v n) v k) refl refl refl refl, record { below = λ e. absurd (other e); limited = λ e. absurd (other e); used_up = λ e. absurd (other e); other = λ _. refl }))
+    (λ other. (same, sighted b ws ps r id i v same at (knows_noted b t (tail_step v n) v there k) refl refl refl refl, record { below = λ e. absurd (other e); limited = λ e. absurd (other e); used_up = λ e. absurd (other e); other = λ _. refl }))
 
 pub arm : (b : Bounds) (id : ℕ) (v : Pass) → 120 ≤ v.right.parts → Admits (ClaimsHold b) id v (tail_place v.seen.count) (λ n. n) (λ n w. Arms v n w)
 arm b id v able = by_pass id v (tail_place v.seen.count) (λ n. n) (λ n w. Arms v n w) (arm_at id v able) b

@@ -1,5 +1,5 @@
 -- A publisher that claims under another number keeps the rule.
-use Rattle.std.proofs.Common.{◌≡◌, ℕ, ◌+◌, ◌<◌, List, [], ◌∷◌, ◌++◌, set, sym, refl, suc-ne-zero, arith}
+use Rattle.std.proofs.Common.{zero-le, ◌≡◌, ℕ, ◌+◌, ◌<◌, List, [], ◌∷◌, ◌++◌, set, sym, refl, suc-ne-zero, arith}
 use mathlib.Core.Option.{some}
 use lib.ListN.{get_elem?}
 use Rattle.publication.specs.declared.pass.Pass.{Pass}
@@ -15,7 +15,7 @@ numbered b ws ps r id p at n low =
     split_ruled b ws ps r id p l q at (λ h. plus_none (weight h p)) (plus_none p.right.parts) (plus_none p.right.armed)
     (λ j. let c = none_armed j q refl in none (armed_on j p) (armed_on j q) c)
     record { identity = k.identity; start = k.start; number = low; right = k.right; entries = k.entries; seen = k.seen }
-    record { identity = refl; start = refl; number = omega arith; right = record { capped = omega arith; able = omega arith; once = omega arith; idle = λ z. refl }; entries = tt; seen = record { count = (omega arith, from); term = (omega arith, from); full = λ i e. absurd (suc-ne-zero i (sym e)); begun = from } }
+    record { identity = refl; start = refl; number = omega arith; right = record { capped = omega arith; able = omega arith; once = omega arith; idle = λ z. refl }; entries = tt; seen = record { count = (omega arith, from); term = (omega arith, from); full = λ i e. absurd (suc-ne-zero i (sym e)); begun = from; shown = zero-le } }
     record { stands = m.stands; placed = m.placed; aligned = m.aligned; done = m.done; undone = m.undone; kept = m.kept }
     record { stands = tt; placed = λ h. refl; aligned = tt; done = tt; undone = tt; kept = tt }
   where

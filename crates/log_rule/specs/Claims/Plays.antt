@@ -42,7 +42,7 @@ newcomer identity start number parts =
       call = [];
       right = record { parts = parts; limit = 0; armed = 0; claims = [] };
       work = works [] [];
-      seen = record { count = first; term = first; full = 0; begun = first };
+      seen = record { count = first; term = first; full = 0; begun = first; shown = 0 };
       reading = [];
       keeping = no_keeping;
     }

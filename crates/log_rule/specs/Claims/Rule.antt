@@ -86,6 +86,7 @@ pub record HasSeen (g : Geometry) (first : ℕ) (t : Terms) (s : Seen) : Type 0 
   pub term : (first ≤ s.term) × (s.term ≤ t.newest)
   pub full : (k : ℕ) → s.full ≡ suc k → Full g first t k
   pub begun : s.begun ≤ t.newest
+  pub shown : s.shown ≤ claimed_to g t
 
 -- what a pass knows is true
 pub record Knows (b : Bounds) (t : Terms) (v : Pass) : Type 0 where

@@ -2,8 +2,7 @@
 
 ghost use Rattle.std.specs.Prelude.{◌≡◌, ℕ, ◌+◌, ◌%◌, ◌^◌, ◌<◌, ◌≤◌, []};
 ghost use Rattle.log_rule.specs.Claims.Plays.{no_keeping};
-ghost use Rattle.publication.specs.Steps.{count_in, geometry_of};
-ghost use Rattle.log_rule.specs.Meetings.{shown_position};
+ghost use Rattle.publication.specs.Steps.{count_in, geometry_of, shown_position};
 ghost use Rattle.shared_log.specs.Books.{IsIdle};
 ghost use Rattle.shared_log.specs.Meets.{Meets, SeatStays, SeesTails, Shows};
 
@@ -102,7 +101,7 @@ fn meet_as<N: Met>(log: &Log, one: Publisher, other: Publisher) -> (Publisher, P
 }
 
 /// Two publishers meet: what they have claimed is apart. The answer is the greatest position that the three raw tails
-/// show, each loaded in this call.
+/// show, each loaded in this call; none that either has claimed or was shown before lies above it.
 pub fn meet(log: &Log, one: Publisher, other: Publisher) -> (Publisher, Publisher, u64)
     requires one { IsIdle log.now one }
     requires other { IsIdle log.now other }

@@ -8,7 +8,10 @@ use Rattle.publication.specs.Steps.{Rotates, tail_exchange}
 use Rattle.log_rule.specs.Claims.Packs.{tail_place}
 use Rattle.atomic_table.specs.Table.{Allows}
 use Rattle.log_rule.specs.Claims.Admits.{Same}
+use Rattle.publication.specs.Controls.{Leads}
 use Rattle.log_rule.specs.Claims.Sure.{LearnsControls}
+use Rattle.log_rule.specs.Claims.Handles.{PublisherValue}
+use Rattle.log_rule.specs.declared.claims.view.View.{View}
 use Rattle.log_rule.specs.Claims.Plays.{Mine}
 use Rattle.log_rule.specs.Table.{LogRuled}
 use Rattle.log_rule.proofs.Claimed.Sures.{rotate_turns}
@@ -33,3 +36,13 @@ compare_exchange-requires g c = let me : Mine = c.publisher.inside.seat.me in le
           (λ b. steps_are_events.exchange_next b _ v k c.args.from (ap (λ (p : Pass). p.seen.full) vi ∙ c.requires.full ∙ ap suc (sym is)) (omega arith)
           (c.requires.from ∙ (λ j. id_before (ap (λ (i : Identity). i.geometry) (sym c.requires.fits.identity ∙ ap (λ (p : Pass). p.identity) (sym vi)) j) (sym is j) 2)))),
     )
+
+pub returns-clause-stepped : goal.returns-clause-stepped
+returns-clause-stepped g c = let told = c.compare_exchange.ensures.2 in let w : View = c.compare_exchange.new.seat.me.0 in let was = c.publisher.view_is in let made = told.1 in let before = ap (λ (p : PublisherValue). p.steps) was in record {
+  of = c.compare_exchange.ensures.0 ∙ ap (λ (p : PublisherValue). p.of) was;
+  seat = c.compare_exchange.ensures.1 ∙ ap (λ (p : PublisherValue). p.seat) was;
+  steps = omega (arith, made, before);
+  same = subst (λ (p : PublisherValue). Same p.pass w.pass) was told.2;
+  sure = told.3.sure ∙ ap (λ (p : PublisherValue). p.sure) was;
+  leads = subst (λ (x : PublisherValue × ℕ). x.0.sure ≡ 1 → Leads x.0.controls (tail_exchange x.0.pass x.1 c.args.from c.compare_exchange.result ∷ []) w.controls) (λ i. (was i, c.requires.chosen i)) told.3.leads;
+}

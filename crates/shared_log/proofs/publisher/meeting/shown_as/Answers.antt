@@ -6,7 +6,8 @@ use Rattle.publication.specs.declared.pass.Pass.{Pass}
 use Rattle.publication.specs.Controls.{with_tail}
 use Rattle.log_rule.specs.Claims.Packs.{tail_place}
 use Rattle.log_rule.specs.Claims.Plays.{Mine}
-use Rattle.log_rule.specs.Meetings.{ShowsTail, showing, shown_position}
+use Rattle.publication.specs.Steps.{shown_position}
+use Rattle.log_rule.specs.Meetings.{ShowsTail, showing}
 use Rattle.log_rule.specs.Table.{LogRuled}
 use Rattle.log_rule.proofs.Showing.{shown}
 use Rattle.shared_log.proofs.publisher.meeting.shown_as.Goals as goal
