@@ -105,7 +105,7 @@ fn fill<R: Threads + Abort + Sync>(
 fn walk<R: Abort>(
     rt: &R,
     alloc: Global,
-    log: &Log,
+    log: &mut Log,
     start: u64,
     claims: &[Claimed],
     seed: u64,
@@ -128,9 +128,9 @@ fn run<R: Threads + Abort + Sync>(rt: &R, alloc: Global, seed: u64) -> Result<bo
     let mtu = if below(&mut draws, 2) == 0 { 256 } else { 1408 };
     let geometry = Geometry::new(65_536, mtu, 7)?;
     let start = draw_start(&mut draws, &geometry);
-    let (log, publishers) = open_ready(alloc, geometry, start)?;
+    let (mut log, publishers) = open_ready(alloc, geometry, start)?;
     let claims = fill(rt, alloc, &log, publishers, seed)?;
-    let tail = walk(rt, alloc, &log, start, claims.as_slice(), seed)?;
+    let tail = walk(rt, alloc, &mut log, start, claims.as_slice(), seed)?;
     let limit = start.wrapping_add(32_768).min(geometry.max_position());
     assert!(rt; tail >= limit);
     Ok(start / 65_536 != tail / 65_536)

@@ -1,6 +1,6 @@
 //! One publisher, step by step; logs that aren't opened.
 
-ghost use Rattle.std.specs.Prelude.{◌≤◌, length, IfOk};
+ghost use Rattle.std.specs.Prelude.{◌≡◌, ◌≤◌, length, IfOk};
 ghost use Rattle.theory.specs.Position.{max_message};
 ghost use Rattle.shared_log.specs.Handles.{IsOf};
 ghost use Rattle.log_tests.specs.Stays.{Stays};
@@ -113,7 +113,7 @@ const ROWS: [Row; 7] = [
 ];
 
 /// A log that begins at a position, and the first of its publishers.
-fn open_at(alloc: Global, start: u64) -> Result<(Log, Publisher), Fail>
+pub(crate) fn open_at(alloc: Global, start: u64) -> Result<(Log, Publisher), Fail>
     ensures { IfOk result (λ r. IsOf r.0 r.1) }
 {
     let geometry = Geometry::new(65_536, 1408, 7)?;
@@ -124,7 +124,7 @@ fn open_at(alloc: Global, start: u64) -> Result<(Log, Publisher), Fail>
 }
 
 /// Offers a message of so many letters. The answer is a position or a code.
-fn offer_letters(log: &Log, publisher: &mut Publisher, size: usize) -> i64
+pub(crate) fn offer_letters(log: &Log, publisher: &mut Publisher, size: usize) -> i64
     requires { IsOf log.now publisher.old }
     ensures { Stays log.now publisher.old publisher.new }
 {
@@ -150,7 +150,9 @@ fn offer_row<R: Abort>(rt: &R, log: &Log, publisher: &mut Publisher, row: &Row)
 }
 
 /// The active count, and the raw tails of the three partitions.
-fn count_and_tails(log: &Log) -> [u64; 4] {
+pub(crate) fn count_and_tails(log: &mut Log) -> [u64; 4]
+    ensures { log.new ≡ log.old }
+{
     let control = 3 * (log.identity().geometry().term_length() as usize / 8);
     [
         log.peek(control + 1),
@@ -168,11 +170,12 @@ fn stand(alloc: Global, terms: &Terms, position: u64, digits: &str) -> Result<bo
 
 /// Plays a row, and looks at what stands in the log then.
 fn play<R: Abort>(rt: &R, alloc: Global, row: &Row) -> Result<(), Fail> {
-    let (log, mut publisher) = open_at(alloc, row.start)?;
+    let (mut log, mut publisher) = open_at(alloc, row.start)?;
     offer_row(rt, &log, &mut publisher, row);
-    assert!(rt; shown(&log) == row.tail);
-    assert!(rt; count_and_tails(&log) == row.words);
-    let terms = Terms::of(alloc, &log)?;
+    let (tail, words) = (shown(&mut log), count_and_tails(&mut log));
+    assert!(rt; tail == row.tail);
+    assert!(rt; words == row.words);
+    let terms = Terms::of(alloc, &mut log)?;
     for (position, digits) in row.stream {
         assert!(rt; stand(alloc, &terms, *position, digits)?);
     }

@@ -19,7 +19,7 @@ pub struct Terms {
 }
 
 /// The greatest position that the raw tails show.
-pub fn shown(log: &Log) -> u64 {
+pub fn shown(log: &mut Log) -> u64 {
     let geometry = log.identity().geometry();
     let term = geometry.term_length();
     let control = 3 * (term as usize / 8);
@@ -39,7 +39,7 @@ fn is_zero(bytes: &[u8]) -> bool {
 
 impl Terms {
     /// Peeks at all of them.
-    pub fn of(alloc: Global, log: &Log) -> Result<Terms, AllocError> {
+    pub fn of(alloc: Global, log: &mut Log) -> Result<Terms, AllocError> {
         let identity = log.identity();
         let mut bytes = Vec::new(alloc);
         for index in 0..3 * (identity.geometry().term_length() as usize / 8) {

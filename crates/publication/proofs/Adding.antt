@@ -133,4 +133,5 @@ module _ (p w : Pass) (size word : ℕ) (told : Adds p size word w) where
         };
         turns = subst (λ (g : Geometry). TurnsFrom g (count_in (geometry_of p) word) turns.taken) shape_then turns.such;
         idle = turns.armed ∙ armed_then;
+        full = turns.full ∙ full_then;
       }

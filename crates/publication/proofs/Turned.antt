@@ -31,8 +31,8 @@ either_or : (A B : Type 0) → A ⊎ (¬ A) → B ⊎ (¬ B) → (A ⊎ B) ⊎ (
 either_or A B a b = ⊎_elim (λ x. inl (inl x)) (λ not. ⊎_elim (λ y. inl (inr y)) (λ nor. inr (λ h. ⊎_elim not nor h)) b) a
 
 -- one step that notes this, and changes nothing but what was seen
-seen_by : (p e q : Pass) → q ≡ e → e ≡ seeing p e → e.right.armed ≡ p.right.armed → Keeps p q × (q.right.armed ≡ p.right.armed)
-seen_by p e q is same armed = (keeps_by p e q is same, ap (λ (u : Pass). u.right.armed) is ∙ armed)
+seen_by : (p e q : Pass) → q ≡ e → e ≡ seeing p e → e.right.armed ≡ p.right.armed → e.seen.full ≡ p.seen.full → Keeps p q × (q.right.armed ≡ p.right.armed) × (q.seen.full ≡ p.seen.full)
+seen_by p e q is same armed full = (keeps_by p e q is same, ap (λ (u : Pass). u.right.armed) is ∙ armed, ap (λ (u : Pass). u.seen.full) is ∙ full)
 
 -- the word has the id of the count, or another
 names_or : (v : Pass) (n k : ℕ) → Names v n k ⊎ (¬ Names v n k)
@@ -66,26 +66,26 @@ arms_call v w n told =
 
 -- ---- what the three steps of a turn leave
 
-pub found : (p q : Pass) (k n : ℕ) → Nexts p k n q → Keeps p q × (q.right.armed ≡ p.right.armed)
+pub found : (p q : Pass) (k n : ℕ) → Nexts p k n q → Keeps p q × (q.right.armed ≡ p.right.armed) × (q.seen.full ≡ p.seen.full)
 found p q k n told =
     ⊎_elim
-    (λ (id : Names p n (k + 1)). seen_by p (noted (steps.NextTail ((k + 1) % 3) n) (with_begun p (k + 1))) q (told.begun id) refl refl)
-    (λ (other : ¬ Names p n (k + 1)). seen_by p (noted (steps.NextTail ((k + 1) % 3) n) p) q (told.other other) refl refl)
+    (λ (id : Names p n (k + 1)). seen_by p (noted (steps.NextTail ((k + 1) % 3) n) (with_begun p (k + 1))) q (told.begun id) refl refl refl)
+    (λ (other : ¬ Names p n (k + 1)). seen_by p (noted (steps.NextTail ((k + 1) % 3) n) p) q (told.other other) refl refl refl)
     (names_or p n (k + 1))
 
-pub exchanged : (p q : Pass) (k from n : ℕ) → Rotates p k from n q → Keeps p q × (q.right.armed ≡ p.right.armed)
+pub exchanged : (p q : Pass) (k from n : ℕ) → Rotates p k from n q → Keeps p q × (q.right.armed ≡ p.right.armed) × (q.seen.full ≡ p.seen.full)
 exchanged p q k from n told =
     ⊎_elim
     (λ (id : Names p n (k + 1)). begun (inr id))
     (λ (other : ¬ Names p n (k + 1)).
     ⊎_elim
     (λ (e : n ≡ from). begun (inl e))
-    (λ (apart : n ≢ from). seen_by p (noted (tail_exchange p k from n) p) q (told.other apart other) refl refl)
+    (λ (apart : n ≢ from). seen_by p (noted (tail_exchange p k from n) p) q (told.other apart other) refl refl refl)
     (word_or n from))
     (names_or p n (k + 1))
   where
-    begun : (n ≡ from) ⊎ Names p n (k + 1) → Keeps p q × (q.right.armed ≡ p.right.armed)
-    begun h = seen_by p (noted (tail_exchange p k from n) (with_begun p (k + 1))) q (told.begun h) refl refl
+    begun : (n ≡ from) ⊎ Names p n (k + 1) → Keeps p q × (q.right.armed ≡ p.right.armed) × (q.seen.full ≡ p.seen.full)
+    begun h = seen_by p (noted (tail_exchange p k from n) (with_begun p (k + 1))) q (told.begun h) refl refl refl
 
 pub found_call : (p q : Pass) (k n : ℕ) → Nexts p k n q → q.call ≡ p.call ++ steps.NextTail ((k + 1) % 3) n ∷ []
 found_call p q k n told = ⊎_elim (λ (id : Names p n (k + 1)). ap (λ (u : Pass). u.call) (told.begun id)) (λ (other : ¬ Names p n (k + 1)). ap (λ (u : Pass). u.call) (told.other other)) (names_or p n (k + 1))
@@ -114,6 +114,7 @@ begins_exchanging p x q k from was has loads exchanges two says =
     record {
       after = keeps p x q a.0 b.0;
       armed = b.1 ∙ a.1;
+      full = b.2 ∙ a.2;
       next = from;
       rest = tail_exchange p k from was ∷ [];
       call = exchanged_call x q k from was exchanges ∙ (λ j. found_call p x k from loads j ++ same j ∷ []) ∙ append_assoc p.call (steps.NextTail ((k + 1) % 3) from ∷ []) (tail_exchange p k from was ∷ []);
@@ -126,6 +127,7 @@ pub begins_looking : (p q : Pass) (k from : ℕ) (has : Bool) → Nexts p k from
 begins_looking p q k from has loads other says = let a = found p q k from loads in record {
   after = a.0;
   armed = a.1;
+  full = a.2;
   next = from;
   rest = [];
   call = found_call p q k from loads;
@@ -138,6 +140,7 @@ pub turn_counted : (p x q : Pass) (k n : ℕ) (has : Bool) → BeginsNext p k ha
 turn_counted p x q k n has begins true_is advances = record {
   after = keeps p x q begins.after (keeps_by x (noted (steps.CountExchange k n) x) q advances.after refl);
   armed = ap (λ (u : Pass). u.right.armed) advances.after ∙ begins.armed;
+  full = ap (λ (u : Pass). u.seen.full) advances.after ∙ begins.full;
   taken = steps.NextTail ((k + 1) % 3) begins.next ∷ (begins.rest ++ steps.CountExchange k n ∷ []);
   call = ap (λ (u : Pass). u.call) advances.after ∙ ap (λ (c : List WordStep). c ++ steps.CountExchange k n ∷ []) begins.call ∙ append_assoc p.call (steps.NextTail ((k + 1) % 3) begins.next ∷ begins.rest) (steps.CountExchange k n ∷ []);
   such = record {
@@ -162,6 +165,7 @@ pub turn_left : (p q : Pass) (k : ℕ) (has : Bool) → BeginsNext p k has q →
 turn_left p q k has begins false_is = record {
   after = begins.after;
   armed = begins.armed;
+  full = begins.full;
   taken = steps.NextTail ((k + 1) % 3) begins.next ∷ begins.rest;
   call = begins.call;
   such = record {
@@ -196,4 +200,4 @@ turns_few g k taken which h = ⊎_elim (λ last. subst (λ (xs : List WordStep).
 
 -- the term wasn't the last
 pub turned_from : (g : Geometry) (p q : Pass) (k : ℕ) → k ≢ 2147483647 → Takes (IsTurn g k) p q → Takes (TurnsFrom g k) p q
-turned_from g p q k apart h = record { after = h.after; armed = h.armed; taken = h.taken; call = h.call; such = record { turns = λ _. h.such; ends = λ last. absurd (apart last) } }
+turned_from g p q k apart h = record { after = h.after; armed = h.armed; full = h.full; taken = h.taken; call = h.call; such = record { turns = λ _. h.such; ends = λ last. absurd (apart last) } }

@@ -87,6 +87,8 @@ pub record TurnsFrom (g : Geometry) (k : ℕ) (taken : List WordStep) : Type 0 w
 pub record Takes (Such : List WordStep → Type 0) (p q : Pass) : Type 0 where
   pub after : Keeps p q
   pub armed : q.right.armed ≡ p.right.armed
+  -- the term that it knows is used up
+  pub full : q.seen.full ≡ p.seen.full
   pub taken : List WordStep
   pub call : q.call ≡ p.call ++ taken
   pub such : Such taken

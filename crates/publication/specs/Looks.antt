@@ -61,7 +61,7 @@ EndsTerm count AdminAction = IsNotLast count
 EndsTerm count Closed = ⊥
 EndsTerm count MaxPositionExceeded = IsLast count
 
--- it passed the end of its term
+-- it passed the end of its term, which the pass knows is used up
 pub record Tripping (p : Pass) (count size : ℕ) (why : Refusal) (q : Pass) : Type 0 where
   pub word : ℕ
   pub more : List WordStep
@@ -72,6 +72,7 @@ pub record Tripping (p : Pass) (count size : ℕ) (why : Refusal) (q : Pass) : T
   pub leaves : LeavesPadding p word q
   pub turns : TurnsFrom (geometry_of p) (count_in (geometry_of p) word) more
   pub idle : q.right.armed ≡ 0
+  pub full : q.seen.full ≡ suc (count_in (geometry_of p) word)
 
 -- the padding that an addition left open, if there is one, is committed
 pub record Pads (v : Pass) (word : ℕ) (w : Pass) : Type 0 where
@@ -87,6 +88,7 @@ pub record ToPad (v : Pass) (word : ℕ) : Type 0 where
 pub record BeginsNext (p : Pass) (k : ℕ) (has : Bool) (q : Pass) : Type 0 where
   pub after : Keeps p q
   pub armed : q.right.armed ≡ p.right.armed
+  pub full : q.seen.full ≡ p.seen.full
   pub next : ℕ
   pub rest : List WordStep
   pub call : q.call ≡ p.call ++ steps.NextTail ((k + 1) % 3) next ∷ rest

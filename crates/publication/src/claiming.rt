@@ -39,7 +39,6 @@ pub fn add_range<W: WordCalls>(
     size: u32,
 ) -> Result<u64, Refusal>
     requires fits { W.fits words.old pass.old }
-    requires few { length (W.pass_of words.old pass.old).call ≤ 3 }
     requires armed { (W.pass_of words.old pass.old).right.armed ≡ 1 }
     requires count { (W.pass_of words.old pass.old).seen.term ≡ count }
     requires short { size ≤ max_message (W.pass_of words.old pass.old).identity.geometry }

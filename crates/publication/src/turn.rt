@@ -14,7 +14,6 @@ use crate::words::WordCalls;
 #[inline(always)]
 pub fn rotate<W: WordCalls>(words: &mut W, pass: &mut W::Pass, count: u32)
     requires fits { W.fits words.old pass.old }
-    requires few { length (W.pass_of words.old pass.old).call ≤ 4 }
     requires full { (W.pass_of words.old pass.old).seen.full ≡ suc count }
     requires last { count < 2 ^ 31 - 1 }
     ensures part { PartOfCall W.fits W.pass_of W.name W.id W.took words.old pass.old words.new pass.new (exactly 0) }
@@ -29,7 +28,6 @@ pub fn rotate<W: WordCalls>(words: &mut W, pass: &mut W::Pass, count: u32)
 #[inline(always)]
 fn begin_next<W: WordCalls>(words: &mut W, pass: &mut W::Pass, count: u32) -> bool
     requires fits { W.fits words.old pass.old }
-    requires few { length (W.pass_of words.old pass.old).call ≤ 4 }
     requires full { (W.pass_of words.old pass.old).seen.full ≡ suc count }
     requires last { count < 2 ^ 31 - 1 }
     ensures part { PartOfCall W.fits W.pass_of W.name W.id W.took words.old pass.old words.new pass.new (exactly 0) }
@@ -49,7 +47,6 @@ fn begin_next<W: WordCalls>(words: &mut W, pass: &mut W::Pass, count: u32) -> bo
 #[inline(always)]
 pub(crate) fn turn_from<W: WordCalls>(words: &mut W, pass: &mut W::Pass, count: u32) -> Refusal
     requires fits { W.fits words.old pass.old }
-    requires few { length (W.pass_of words.old pass.old).call ≤ 4 }
     requires full { (W.pass_of words.old pass.old).seen.full ≡ suc count }
     requires last { count < 2 ^ 31 }
     ensures part { PartOfCall W.fits W.pass_of W.name W.id W.took words.old pass.old words.new pass.new (exactly 0) }

@@ -48,7 +48,6 @@ pub trait WordCalls {
     /// Loads the active count.
     fn load_count(&mut self, pass: &mut Self::Pass) -> u32
         requires fits { fits self.old pass.old }
-        requires few { length (pass_of self.old pass.old).call < 7 }
         ensures moved { Moved fits pass_of name id self.old pass.old self.new pass.new }
         ensures took { took self.old pass.old self.new pass.new (steps.Count result ∷ []) 0 }
         ensures told { Counts (pass_of self.old pass.old) result (pass_of self.new pass.new) };
@@ -57,7 +56,6 @@ pub trait WordCalls {
     /// pass may add to it once.
     fn load_tail(&mut self, pass: &mut Self::Pass, count: u32) -> u64
         requires fits { fits self.old pass.old }
-        requires few { length (pass_of self.old pass.old).call < 7 }
         requires count { (pass_of self.old pass.old).seen.count ≡ count }
         ensures moved { Moved fits pass_of name id self.old pass.old self.new pass.new }
         ensures took { took self.old pass.old self.new pass.new (tail_step (pass_of self.old pass.old) result ∷ []) 0 }
@@ -67,7 +65,6 @@ pub trait WordCalls {
     /// that, perhaps of a later term than this count's.
     fn add(&mut self, pass: &mut Self::Pass, count: u32, size: u32) -> u64
         requires fits { fits self.old pass.old }
-        requires few { length (pass_of self.old pass.old).call < 7 }
         requires armed { (pass_of self.old pass.old).right.armed ≡ 1 }
         requires count { (pass_of self.old pass.old).seen.term ≡ count }
         requires short { size ≤ max_message (pass_of self.old pass.old).identity.geometry }
@@ -78,7 +75,6 @@ pub trait WordCalls {
     /// Loads the raw tail of the partition behind a count's, whose term is used up.
     fn load_next(&mut self, pass: &mut Self::Pass, count: u32) -> u64
         requires fits { fits self.old pass.old }
-        requires few { length (pass_of self.old pass.old).call < 7 }
         requires full { (pass_of self.old pass.old).seen.full ≡ suc count }
         requires last { count < 2 ^ 31 - 1 }
         ensures moved { Moved fits pass_of name id self.old pass.old self.new pass.new }
@@ -89,7 +85,6 @@ pub trait WordCalls {
     /// term. The answer is the word that was there.
     fn exchange_next(&mut self, pass: &mut Self::Pass, count: u32, from: u64) -> u64
         requires fits { fits self.old pass.old }
-        requires few { length (pass_of self.old pass.old).call < 7 }
         requires full { (pass_of self.old pass.old).seen.full ≡ suc count }
         requires last { count < 2 ^ 31 - 1 }
         requires from { id_in from ≡ id_before (pass_of self.old pass.old).identity.geometry count 2 }
@@ -101,7 +96,6 @@ pub trait WordCalls {
     /// there.
     fn exchange_count(&mut self, pass: &mut Self::Pass, count: u32) -> u32
         requires fits { fits self.old pass.old }
-        requires few { length (pass_of self.old pass.old).call < 7 }
         requires begun { (pass_of self.old pass.old).seen.begun ≡ count + 1 }
         requires last { count < 2 ^ 31 - 1 }
         ensures moved { Moved fits pass_of name id self.old pass.old self.new pass.new }

@@ -1,11 +1,13 @@
--- The readers of a log that was just opened are its own.
-use Rattle.std.proofs.Common.{◌≡◌, ℕ, suc, ◌+◌, ◌<◌, List, [], ◌∷◌, length, arith}
+-- The readers of a log that was just opened are its own; and who has published isn't armed.
+use Rattle.std.proofs.Common.{◌≡◌, ℕ, suc, ◌+◌, ◌<◌, List, [], ◌∷◌, length, ap, ◌∙◌, arith}
 use Rattle.std.specs.List.{AllByRecursion}
 use Rattle.shared_log.specs.Readers.{IsReaderOf, ReaderValue}
 use Rattle.shared_log.specs.Keepers.{KeeperValue}
 use Rattle.shared_log.specs.Parts.{AreDealt, AreReaders}
 use Rattle.shared_log.specs.Handles.{LogValue}
 use Rattle.log_rule.specs.Claims.Handles.{PublisherValue}
+use Rattle.publication.specs.declared.pass.Pass.{Pass}
+use Rattle.publication.specs.Offers.{Offered}
 
 readers_from : (l : LogValue) (n : ℕ) (rs : List ReaderValue) → AreReaders l n rs → n + length rs ≡ l.consumers → AllByRecursion (IsReaderOf l) rs
 readers_from l n [] are all = tt
@@ -25,3 +27,6 @@ readers_of l ps rs k are = readers_from l 0 rs are.readers_are (let e = are.all 
   where
     none : (n c : ℕ) → n ≡ c → 0 + n ≡ c
     none n c e = omega arith
+
+pub offered_idle : (p q : Pass) (message : List ℕ) (end : ℕ) → Offered p message end q → q.right.armed ≡ 0
+offered_idle p q message end o = ap (λ (v : Pass). v.right.armed) o.after ∙ o.claimed.idle

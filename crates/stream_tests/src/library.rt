@@ -7,7 +7,7 @@ use block::Block;
 use position::{FrameHead, Geometry};
 use publication::offer;
 use shared_log::{
-    Log, LogError, LogReader, OnLog, Parts, clean_and_limit, next, open, set_closed, set_connected,
+    Log, LogError, LogReader, OnLog, Parts, clean_and_limit, learn, next, open, set_closed, set_connected,
 };
 use std::alloc::Global;
 use std::thread::{Threads, join, yield_now};
@@ -58,5 +58,30 @@ use std::test::Fail;
 fn what_is_offered_is_found(rt: HostRuntime) -> Result<(), Fail> {
     let geometry = Geometry::new(65_536, 1_408, 7)?;
     assert!(rt; pass_on(&rt, rt.alloc(), geometry)?);
+    Ok(())
+}
+
+/// A frame that a reader was told is found at the first look.
+#[test]
+#[tactic(auto, using(crate::proofs::Each::offered_idle))]
+fn what_is_learned_is_found(rt: HostRuntime) -> Result<(), Fail> {
+    let mut block = Block::new(rt.alloc(), 1_408)?;
+    let geometry = Geometry::new(65_536, 1_408, 7)?;
+    let (log, parts) = open(rt.alloc(), geometry, 1, 1001, 0, 1)?;
+    let Parts {
+        publishers,
+        mut readers,
+        mut keeper,
+    } = parts;
+    let mut publishers = Vec::from_array(rt.alloc(), publishers)?;
+    let mut publisher = publishers.remove(0);
+    let mut reader = readers.remove(0);
+    set_connected(&log, &mut keeper, true);
+    clean_and_limit(&log, &mut keeper);
+    if offer(&mut OnLog::new(&log), &mut publisher, b"hello").is_err() {
+        return Err("the offer is refused".into());
+    }
+    learn(&log, &mut reader, &mut publisher);
+    assert!(rt; next(&log, &mut reader, &mut block).is_some());
     Ok(())
 }
