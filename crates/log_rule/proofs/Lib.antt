@@ -14,4 +14,6 @@ pub mod Shares
 pub mod Gathering
 pub mod Meetings
 pub mod Showing
+pub mod Saying
+pub mod Looked
 pub mod Claimed

@@ -1,7 +1,9 @@
 -- What passes have claimed ends far below the greatest number of a word.
-use Rattle.std.proofs.Common.{◌≡◌, ℕ, ◌+◌, ◌*◌, ◌^◌, ◌<◌, ◌≤◌, min, ◌-◌, ◌%◌, List, [], ◌∷◌, sym, ap, ◌∙◌, subst, mul-le-mul, lt_of_not-le, arith}
+use Rattle.std.proofs.Common.{◌≡◌, ℕ, zero, suc, cond, ◌+◌, ◌*◌, ◌^◌, ◌<◌, ◌≤◌, min, ◌-◌, ◌%◌, List, [], ◌∷◌, refl, sym, ap, ◌∙◌, subst, mul-le-mul, lt_of_not-le, arith}
 use mathlib.Core.Logic.{dite}
 use native.Mathlib.Decide.{dec_le}
+use Rattle.std.specs.Prelude.{◌==◌}
+use Rattle.std.specs.List.{AllByRecursion}
 use Rattle.theory.specs.Position.{Geometry, IsGeometry, aligned, cuts_of, framed_length, span}
 use Rattle.theory.specs.Words.{offset_in}
 use Rattle.theory.proofs.Claims.{covers_framed}
@@ -9,7 +11,9 @@ use Rattle.theory.proofs.Places.{power_unit}
 use Rattle.publication.specs.declared.pass.ClaimRange.{ClaimRange}
 use Rattle.publication.specs.Frames.{CompletesFrame}
 use Rattle.publication.specs.Steps.{Adds, Commits, HasWord, Stores, geometry_of, message_at, padding_at, term_of}
-use Rattle.theory.specs.Entry.{length_of}
+use Rattle.theory.specs.Entry.{Entry, length_of}
+use Rattle.theory.specs.Tiling.{share_of}
+use Rattle.theory.proofs.Tiling.{share-cons}
 use Rattle.publication.specs.declared.pass.Pass.{Pass}
 use Rattle.log_rule.specs.Claims.Sums.{total}
 use Rattle.log_rule.specs.Claims.Terms.{claimed_to}
@@ -18,7 +22,7 @@ use Rattle.log_rule.specs.Claims.Memory.{Ruled}
 use Rattle.log_rule.specs.Claims.Events.{Eventful}
 use Rattle.log_rule.proofs.Claimed.Looks.{term_short}
 use Rattle.log_rule.proofs.Claimed.Totals.{extent_of, total_at, total_append, total_map, total_set}
-use Rattle.log_rule.specs.Shares.{claimed_bytes, range_bytes}
+use Rattle.log_rule.specs.Shares.{claimed_bytes, owner_bytes, range_bytes}
 
 pub claimed_low : (b : Bounds) (ws : List ℕ) (ps : List Pass) → Ruled b ws ps → total (weight length_of) ps < 2 ^ 63
 claimed_low b ws ps r =
@@ -59,3 +63,29 @@ stores_share v w p x h s = ap claimed_bytes (s h.front h.draft h.behind h.place 
 
 pub commits_share : (v w : Pass) (p x : ℕ) → CompletesFrame v p x → Commits v p x w → claimed_bytes w ≡ claimed_bytes v
 commits_share v w p x h s = ap claimed_bytes (s h.front h.draft h.behind h.parts h.inside h.position)
+
+-- ---- the share of an owner
+
+pub share_is : (owner : ℕ) (es : List Entry) → total (owner_bytes owner) es ≡ share_of owner es
+share_is owner [] = refl
+share_is owner (e ∷ es) = ap (λ (n : ℕ). owner_bytes owner e + n) (share_is owner es) ∙ sym (share-cons owner e es)
+
+one_of_eight : (o n : ℕ) → o < 8 → cond (o == 0) n 0 + cond (o == 1) n 0 + cond (o == 2) n 0 + cond (o == 3) n 0 + cond (o == 4) n 0 + cond (o == 5) n 0 + cond (o == 6) n 0 + cond (o == 7) n 0 ≡ n
+one_of_eight zero n h = omega arith
+one_of_eight (suc zero) n h = omega arith
+one_of_eight (suc (suc zero)) n h = omega arith
+one_of_eight (suc (suc (suc zero))) n h = omega arith
+one_of_eight (suc (suc (suc (suc zero)))) n h = omega arith
+one_of_eight (suc (suc (suc (suc (suc zero))))) n h = omega arith
+one_of_eight (suc (suc (suc (suc (suc (suc zero)))))) n h = omega arith
+one_of_eight (suc (suc (suc (suc (suc (suc (suc zero))))))) n h = omega arith
+one_of_eight (suc (suc (suc (suc (suc (suc (suc (suc o)))))))) n h = absurd (omega arith)
+
+-- the shares of the eight are all that the entries cover
+pub eight_shares : (es : List Entry) → AllByRecursion (λ e. e.owner < 8) es → total (owner_bytes 0) es + total (owner_bytes 1) es + total (owner_bytes 2) es + total (owner_bytes 3) es + total (owner_bytes 4) es + total (owner_bytes 5) es + total (owner_bytes 6) es + total (owner_bytes 7) es ≡ total length_of es
+eight_shares [] low = refl
+eight_shares (e ∷ es) low = let one = one_of_eight e.owner (length_of e) low.0 in let r = eight_shares es low.1 in
+    sums (owner_bytes 0 e) (owner_bytes 1 e) (owner_bytes 2 e) (owner_bytes 3 e) (owner_bytes 4 e) (owner_bytes 5 e) (owner_bytes 6 e) (owner_bytes 7 e) (length_of e) (total (owner_bytes 0) es) (total (owner_bytes 1) es) (total (owner_bytes 2) es) (total (owner_bytes 3) es) (total (owner_bytes 4) es) (total (owner_bytes 5) es) (total (owner_bytes 6) es) (total (owner_bytes 7) es) (total length_of es) one r
+  where
+    sums : (a b c d e f g h n a' b' c' d' e' f' g' h' n' : ℕ) → a + b + c + d + e + f + g + h ≡ n → a' + b' + c' + d' + e' + f' + g' + h' ≡ n' → (a + a') + (b + b') + (c + c') + (d + d') + (e + e') + (f + f') + (g + g') + (h + h') ≡ n + n'
+    sums a b c d e f g h n a' b' c' d' e' f' g' h' n' x y = omega arith

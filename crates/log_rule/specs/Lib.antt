@@ -6,4 +6,6 @@ pub mod Keepings
 pub mod Opening
 pub mod Shares
 pub mod Meetings
+pub mod Says
+pub mod Lookings
 pub mod Claims

@@ -1,8 +1,8 @@
 -- What a pass has claimed.
-use Rattle.std.specs.Prelude.{◌≡◌, ℕ, ◌+◌, ◌<◌, ◌≤◌, List}
+use Rattle.std.specs.Prelude.{◌≡◌, ℕ, ◌+◌, ◌<◌, ◌≤◌, ◌==◌, if◌then◌else◌, List}
 use Rattle.theory.specs.Position.{max_position, span}
 use Rattle.theory.specs.Bytes.{Identity}
-use Rattle.theory.specs.Entry.{Entry}
+use Rattle.theory.specs.Entry.{Entry, length_of}
 use Rattle.theory.specs.Tiling.{Tiles}
 use Rattle.publication.specs.declared.pass.ClaimRange.{ClaimRange}
 use Rattle.publication.specs.declared.pass.Pass.{Pass}
@@ -16,6 +16,10 @@ range_bytes c = span c.cuts
 -- how many bytes its claims cover
 abbrev pub claimed_bytes : Pass → ℕ
 claimed_bytes v = total range_bytes v.right.claims
+
+-- how many bytes of an entry are an owner's
+abbrev pub owner_bytes : ℕ → Entry → ℕ
+owner_bytes owner e = if e.owner == owner then length_of e else 0
 
 -- entries that weigh so much tile the stream, from its start to there
 pub record IsTiled (i : Identity) (start tail : ℕ) (weighs : (Entry → ℕ) → ℕ) : Type 0 where

@@ -13,9 +13,13 @@
 //! and cleans, it cleans a word only where every consumer stands a term or more above it, and what may be claimed is
 //! clean. Each kind of step keeps it, and so do passes that are dealt, told what others committed, gathered, and that
 //! meet. `first_words` and `Ring` give the words of a log that opens, and their places.
+//!
+//! Two laws say this in the words of streams, for any words and passes that a log's table may have: what there is then
+//! (`rule_says`), and that the steps of consumers and of the keeper change nothing of it (`others_are_looks`).
 #![tactic(auto)]
 
 mod claims;
+mod law;
 mod meeting;
 mod rule;
 
@@ -27,6 +31,7 @@ pub use claims::plays::{
 };
 pub use claims::ring::Ring;
 pub use claims::view::{Origin, View};
+pub use law::{others_are_looks, rule_says};
 pub use meeting::{Meet, Met, Part, Settle, Show};
 pub use rule::{
     Add, Carried, Clean, Consume, DealKeeper, DealPublisher, DealReader, Gather, Key, LogRule,

@@ -36,7 +36,7 @@ more_sum f ps id v w n at e = let a = total_set f ps id v w at in omega arith
 
 -- ---- events
 
-look : (ps : List Pass) (id : ℕ) (v w : Pass) → get_elem? ps id ≡ some v → w.right.claims ≡ v.right.claims → w.work.frames ≡ v.work.frames → IsLook ps (set ps id w)
+pub look : (ps : List Pass) (id : ℕ) (v w : Pass) → get_elem? ps id ≡ some v → w.right.claims ≡ v.right.claims → w.work.frames ≡ v.work.frames → IsLook ps (set ps id w)
 look ps id v w at a c = record {
   claimed = λ h. same_sum (weight h) ps id v w at (ap (λ l. total h (map entry_of l)) a);
   committed = λ h. same_sum (committed_weight h) ps id v w at (ap (total h) c);

@@ -1,5 +1,5 @@
 -- The positions that the active count and the raw tails show lie within what was claimed.
-use Rattle.std.proofs.Common.{◌≡◌, ◌≢◌, ◌⊎◌, inl, inr, ℕ, suc, ◌+◌, ◌-◌, ◌*◌, ◌%◌, ◌^◌, ◌<◌, ◌≤◌, min, Bool, List, zero-le, sym, ap, ◌∙◌, subst, ⊎_elim, mul-le-mul_right, arith}
+use Rattle.std.proofs.Common.{◌≡◌, ℕ, suc, ◌+◌, ◌-◌, ◌*◌, ◌%◌, ◌^◌, ◌<◌, ◌≤◌, max, min, Bool, List, sym, ap, ◌∙◌, subst, mul-le-mul_right, arith}
 use mathlib.Core.Logic.{dite}
 use native.Mathlib.Decide.{dec_le, ℕ_discrete}
 use Rattle.std.specs.Prelude.{slice_index, if◌then◌else◌}
@@ -80,6 +80,38 @@ module _ (g : Geometry) (first : ℕ) (t : Terms) (ws : List ℕ) (is : IsGeomet
       (λ a. dite (ℕ_discrete ((n + 2) % 3) (p % 3))
       (λ e. dite (dec_le 1 n) (λ le. used p (n - 1) (omega arith) (omega arith) (omega arith)) (λ no. unused p 1 (omega (arith, no)) (omega arith) (omega (arith, no))))
       (λ c. dite (dec_le 2 n) (λ le. used p (n - 2) (omega arith) (omega arith) (omega (arith, a, c))) (λ no. unused p 2 (omega (arith, no)) (omega arith) (omega (arith, a, c, no)))))
+
+  -- that of the newest count shows the end
+  newest_shows : claimed_to g t ≤ shown_position g (slice_index ws (tail_place t.newest))
+  newest_shows =
+      let n : ℕ = t.newest in let word = r.tails n (omega arith) (omega arith) in let thin = nar n (omega arith) (omega arith) in
+      let named : id_in (slice_index ws (tail_place n)) ≡ id_of g n = ap id_in word ∙ id_of_word (id_of g n) (t.offset n) (id_fits g n) thin in
+      let off : offset_in (slice_index ws (tail_place n)) ≡ t.offset n = ap offset_in word ∙ offset_of_word (id_of g n) (t.offset n) thin in
+      let at = position_is g (slice_index ws (tail_place n)) n (t.offset n) (count_is g (slice_index ws (tail_place n)) n is r.turns.to named) r.turns.to off in
+      equal (shown_position g (slice_index ws (tail_place n))) (claimed_to g t) at
+    where
+      equal : (a c : ℕ) → a ≡ c → c ≤ a
+      equal a c e = omega arith
+
+  pub greatest_is : max (max (shown_position g (slice_index ws (tail_place 0))) (shown_position g (slice_index ws (tail_place 1)))) (shown_position g (slice_index ws (tail_place 2))) ≡ claimed_to g t
+  greatest_is =
+      let x : ℕ = shown_position g (slice_index ws (tail_place 0)) in let y : ℕ = shown_position g (slice_index ws (tail_place 1)) in let z : ℕ = shown_position g (slice_index ws (tail_place 2)) in
+      let n : ℕ = t.newest in
+      dite (ℕ_discrete (n % 3) 0) (λ e. zeroth_top x y z (claimed_to g t) (tail_shows 0) (tail_shows 1) (tail_shows 2) (there 0 (omega arith)))
+      (λ a. dite (ℕ_discrete (n % 3) 1) (λ e. second x y z (claimed_to g t) (tail_shows 0) (tail_shows 1) (tail_shows 2) (there 1 (omega arith)))
+      (λ c. third x y z (claimed_to g t) (tail_shows 0) (tail_shows 1) (tail_shows 2) (there 2 (omega (arith, a, c)))))
+    where
+      there : (p : ℕ) → tail_place t.newest ≡ tail_place p → claimed_to g t ≤ shown_position g (slice_index ws (tail_place p))
+      there p e = subst (λ (k : ℕ). claimed_to g t ≤ shown_position g (slice_index ws k)) e newest_shows
+
+      zeroth_top : (x y z n : ℕ) → x ≤ n → y ≤ n → z ≤ n → n ≤ x → max (max x y) z ≡ n
+      zeroth_top x y z n a c d e = omega arith
+
+      second : (x y z n : ℕ) → x ≤ n → y ≤ n → z ≤ n → n ≤ y → max (max x y) z ≡ n
+      second x y z n a c d e = omega arith
+
+      third : (x y z n : ℕ) → x ≤ n → y ≤ n → z ≤ n → n ≤ z → max (max x y) z ≡ n
+      third x y z n a c d e = omega arith
 
   -- ---- a count
 

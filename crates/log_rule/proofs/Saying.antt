@@ -1,0 +1,83 @@
+-- What the rule says of a table's state, by its parts.
+use Rattle.std.proofs.Common.{◌≡◌, ℕ, suc, ◌+◌, ◌*◌, ◌<◌, ◌≤◌, List, [], ◌∷◌, map, sym, refl, ap, ◌∙◌, subst, arith}
+use mathlib.Core.Option.{some}
+use lib.ListN.{get_elem?}
+use Rattle.std.specs.Prelude.{slice_index}
+use Rattle.std.specs.List.{AllByRecursion}
+use Rattle.theory.specs.Entry.{Entry, length_of}
+use Rattle.theory.specs.Tiling.{Tiles, all_shares, share_of}
+use Rattle.theory.proofs.Lists.{all_behind, all_front}
+use Rattle.publication.specs.declared.pass.FrameWords.{FrameWords}
+use Rattle.publication.specs.declared.pass.Pass.{Pass}
+use Rattle.log_rule.specs.Claims.Memory.{IsCommittedFrame, IsOpen, StandsInTable, tail_of}
+use Rattle.log_rule.specs.Claims.Packs.{consumer_place, limit_place, slot}
+use Rattle.log_rule.specs.Claims.Plays.{pass_in}
+use Rattle.log_rule.specs.Claims.Rule.{Bounds, IsClaimEntry, armed_of, entries_of, first_of, shape_of, weight}
+use Rattle.log_rule.specs.Claims.Sums.{total}
+use Rattle.log_rule.specs.Claims.Terms.{claimed_to}
+use Rattle.log_rule.specs.Says.{IsBegun, IsSpelt, RuleSays, tail_shown}
+use Rattle.log_rule.specs.Shares.{owner_bytes}
+use Rattle.log_rule.specs.Table.{now_at}
+use Rattle.log_rule.proofs.Claimed.Looks.{narrow}
+use Rattle.log_rule.proofs.Claimed.Memories.{tail_is}
+use Rattle.log_rule.proofs.Claimed.Shown.{greatest_is}
+use Rattle.log_rule.proofs.Claimed.Totals.{extent_of}
+use Rattle.log_rule.proofs.Edges.{edge_low}
+use Rattle.log_rule.proofs.Shares.{eight_shares, share_is}
+
+-- ---- the shares
+
+owners_low : (es : List Entry) → AllByRecursion IsClaimEntry es → AllByRecursion (λ e. e.owner < 8) es
+owners_low [] a = tt
+owners_low (e ∷ es) a = (a.0.entry.owner, owners_low es a.1)
+
+-- the eight shares of all passes are all that was claimed
+eight_of : (ps : List Pass) → ((i : ℕ) (v : Pass) → get_elem? ps i ≡ some v → AllByRecursion IsClaimEntry (entries_of v)) → total (weight (owner_bytes 0)) ps + total (weight (owner_bytes 1)) ps + total (weight (owner_bytes 2)) ps + total (weight (owner_bytes 3)) ps + total (weight (owner_bytes 4)) ps + total (weight (owner_bytes 5)) ps + total (weight (owner_bytes 6)) ps + total (weight (owner_bytes 7)) ps ≡ total (weight length_of) ps
+eight_of [] each = refl
+eight_of (v ∷ ps) each =
+    let one = eight_shares (entries_of v) (owners_low (entries_of v) (each 0 v refl)) in let r = eight_of ps (λ i. each (suc i)) in
+    sums (weight (owner_bytes 0) v) (weight (owner_bytes 1) v) (weight (owner_bytes 2) v) (weight (owner_bytes 3) v) (weight (owner_bytes 4) v) (weight (owner_bytes 5) v) (weight (owner_bytes 6) v) (weight (owner_bytes 7) v) (weight length_of v) (total (weight (owner_bytes 0)) ps) (total (weight (owner_bytes 1)) ps) (total (weight (owner_bytes 2)) ps) (total (weight (owner_bytes 3)) ps) (total (weight (owner_bytes 4)) ps) (total (weight (owner_bytes 5)) ps) (total (weight (owner_bytes 6)) ps) (total (weight (owner_bytes 7)) ps) (total (weight length_of) ps) one r
+  where
+    sums : (a b c d e f g h n a' b' c' d' e' f' g' h' n' : ℕ) → a + b + c + d + e + f + g + h ≡ n → a' + b' + c' + d' + e' + f' + g' + h' ≡ n' → (a + a') + (b + b') + (c + c') + (d + d') + (e + e') + (f + f') + (g + g') + (h + h') ≡ n + n'
+    sums a b c d e f g h n a' b' c' d' e' f' g' h' n' x y = omega arith
+
+-- ---- frames
+
+spelt : (b : Bounds) (ws : List ℕ) (fs : List FrameWords) → AllByRecursion (IsCommittedFrame b.identity) fs → AllByRecursion (StandsInTable b ws) fs → AllByRecursion (IsSpelt b.identity b.cleaned ws) fs
+spelt b ws [] d a = tt
+spelt b ws (f ∷ fs) d a = (record { done = d.0; stands = a.0 }, spelt b ws fs d.1 a.1)
+
+begun : (b : Bounds) (ws : List ℕ) (fs : List FrameWords) → AllByRecursion IsOpen fs → AllByRecursion (λ f. b.cleaned ≤ f.start) fs → AllByRecursion (StandsInTable b ws) fs → AllByRecursion (IsBegun b.identity b.cleaned ws) fs
+begun b ws [] o k a = tt
+begun b ws (f ∷ fs) o k a = (
+  record {
+    kept = k.0;
+    first = λ some'. (let none : f.start + 8 * 0 ≡ f.start = omega arith in let low = k.0 in ap (λ (x : ℕ). slice_index ws (slot (shape_of b) x)) (sym none) ∙ a.0 0 some' (subst (λ (x : ℕ). b.cleaned ≤ x) (sym none) low) ∙ o.0);
+  },
+  begun b ws fs o.1 k.1 a.1,
+)
+
+-- ---- all of it
+
+pub rule_says : RuleSays
+rule_says key s q =
+    let ws : List ℕ = s.words in let ps : List Pass = map pass_in s.views in let b : Bounds = now_at key (slice_index ws limit_place) q.cleaned in let c = q.ruled.claims in let t = c.terms in
+    let tail : tail_shown key.identity.geometry ws ≡ claimed_to (shape_of b) t = greatest_is (shape_of b) (first_of b) t ws c.sound.geometry c.tailed (narrow b ws ps c) in
+    let end : tail_of b ps ≡ tail_shown key.identity.geometry ws = tail_is b ws ps c ∙ sym tail in
+    let share : (owner : ℕ) → share_of owner c.log ≡ total (weight (owner_bytes owner)) ps = λ owner. sym (share_is owner c.log) ∙ sym (c.fair (owner_bytes owner)) in
+    let all : all_shares c.log ≡ total length_of c.log = (λ j. share 0 j + share 1 j + share 2 j + share 3 j + share 4 j + share 5 j + share 6 j + share 7 j) ∙ eight_of ps (λ i v at. (c.each i v at).entries) ∙ c.fair length_of in record {
+      log = c.log;
+      cleaned = q.cleaned;
+      tiles = subst (λ (z : ℕ). Tiles key.identity.geometry.term_length key.start z c.log) (sym tail) c.tiles;
+      claimed = c.fair;
+      shares = share;
+      whole = ap (λ (n : ℕ). key.start + n) all ∙ extent_of key.identity.geometry.term_length key.start (claimed_to (shape_of b) t) c.log c.tiles ∙ sym tail;
+      room = subst (λ (z : ℕ). z + b.greatest * total armed_of ps ≤ b.limit + b.greatest * 8) (sym tail) c.room;
+      ahead = q.ruled.memory.held;
+      zeros = λ x unit above below. q.ruled.memory.zeros x unit (subst (λ (z : ℕ). z ≤ x) (sym end) above) below;
+      frames = λ i v at. (let m = q.ruled.memory.each i v at in spelt b ws v.work.frames m.done (all_front (StandsInTable b ws) v.work.frames v.work.drafts m.stands));
+      drafts = λ i v at. (let m = q.ruled.memory.each i v at in begun b ws v.work.drafts m.undone m.kept (all_behind (StandsInTable b ws) v.work.frames v.work.drafts m.stands));
+      consumers = λ j low. subst (λ (z : ℕ). slice_index ws (consumer_place j) ≤ z) end (edge_low b ws ps q.ruled (slice_index ws (consumer_place j)) (q.kept.placed j low).edge);
+      passed = λ j low. (q.kept.placed j low).passed;
+      readable = λ j low. (q.kept.placed j low).readable;
+    }

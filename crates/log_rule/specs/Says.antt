@@ -1,0 +1,63 @@
+-- What the rule says of a log's table, whatever its words and passes are, in the words of the stream.
+use Rattle.std.specs.Prelude.{◌≡◌, ℕ, ◌+◌, ◌-◌, ◌*◌, ◌%◌, ◌<◌, ◌≤◌, List, length, map, max, slice_index}
+use Rattle.std.specs.List.{AllByRecursion}
+use mathlib.Core.Option.{some}
+use lib.ListN.{get_elem?}
+use Rattle.atomic_table.specs.Table.{State}
+use Rattle.theory.specs.Bytes.{Identity}
+use Rattle.theory.specs.Entry.{Entry}
+use Rattle.theory.specs.Position.{Geometry, greatest_claim}
+use Rattle.theory.specs.Refusal.{limit_in}
+use Rattle.theory.specs.Tiling.{Tiles, all_shares, share_of}
+use Rattle.publication.specs.declared.pass.FrameWords.{FrameWords}
+use Rattle.publication.specs.declared.pass.Pass.{Pass}
+use Rattle.publication.specs.Steps.{shown_position}
+use Rattle.log_rule.specs.declared.claims.view.View.{View}
+use Rattle.log_rule.specs.declared.rule.Key.{Key}
+use Rattle.log_rule.specs.Claims.Memory.{IsCommittedFrame}
+use Rattle.log_rule.specs.Claims.Packs.{consumer_place, limit_place, slot, tail_place}
+use Rattle.log_rule.specs.Claims.Plays.{pass_in}
+use Rattle.log_rule.specs.Claims.Rule.{armed_of, weight}
+use Rattle.log_rule.specs.Claims.Sums.{total}
+use Rattle.log_rule.specs.Edges.{AreCommitted}
+use Rattle.log_rule.specs.Shares.{owner_bytes}
+use Rattle.log_rule.specs.Table.{LogRuled}
+
+-- the greatest position that the three raw tails show
+abbrev pub tail_shown : Geometry → List ℕ → ℕ
+tail_shown g words = max (max (shown_position g (slice_index words (tail_place 0))) (shown_position g (slice_index words (tail_place 1)))) (shown_position g (slice_index words (tail_place 2)))
+
+-- a committed frame's words stand in the table, as far as they aren't cleaned: it is spelt there as a frame of the stream
+pub record IsSpelt (i : Identity) (cleaned : ℕ) (words : List ℕ) (f : FrameWords) : Type 0 where
+  pub done : IsCommittedFrame i f
+  pub stands : (k : ℕ) → k < length f.words → cleaned ≤ f.start + 8 * k → slice_index words (slot i.geometry (f.start + 8 * k)) ≡ slice_index f.words k
+
+-- the first word of an open frame isn't cleaned, and is zero
+pub record IsBegun (i : Identity) (cleaned : ℕ) (words : List ℕ) (f : FrameWords) : Type 0 where
+  pub kept : cleaned ≤ f.start
+  pub first : 0 < length f.words → slice_index words (slot i.geometry f.start) ≡ 0
+
+pub record Says (key : Key) (words : List ℕ) (passes : List Pass) : Type 0 where
+  -- the entries in the order of the stream, of which no frame is told, and the position below which all may be cleaned
+  pub log : List Entry
+  pub cleaned : ℕ
+  pub tiles : Tiles key.identity.geometry.term_length key.start (tail_shown key.identity.geometry words) log
+  -- they are what the passes claimed
+  pub claimed : (h : Entry → ℕ) → total (weight h) passes ≡ total h log
+  -- each owner's share is what was claimed under its number, and all shares are all that was claimed
+  pub shares : (owner : ℕ) → share_of owner log ≡ total (weight (owner_bytes owner)) passes
+  pub whole : key.start + all_shares log ≡ tail_shown key.identity.geometry words
+  -- there is room for what those who are armed may add, and for what eight may add up to the limit
+  pub room : tail_shown key.identity.geometry words + greatest_claim key.identity.geometry * total armed_of passes ≤ limit_in (slice_index words limit_place) + greatest_claim key.identity.geometry * 8
+  pub ahead : limit_in (slice_index words limit_place) + greatest_claim key.identity.geometry * 8 ≤ cleaned + 3 * key.identity.geometry.term_length
+  pub zeros : (x : ℕ) → x % 8 ≡ 0 → tail_shown key.identity.geometry words ≤ x → x < cleaned + 3 * key.identity.geometry.term_length → slice_index words (slot key.identity.geometry x) ≡ 0
+  pub frames : (i : ℕ) (v : Pass) → get_elem? passes i ≡ some v → AllByRecursion (IsSpelt key.identity cleaned words) v.work.frames
+  pub drafts : (i : ℕ) (v : Pass) → get_elem? passes i ≡ some v → AllByRecursion (IsBegun key.identity cleaned words) v.work.drafts
+  -- each consumer stands within the stream, with all committed that begins below it, and what lies a term below is readable
+  pub consumers : (j : ℕ) → j < key.consumers → slice_index words (consumer_place j) ≤ tail_shown key.identity.geometry words
+  pub passed : (j : ℕ) → j < key.consumers → AreCommitted passes (slice_index words (consumer_place j))
+  pub readable : (j : ℕ) → j < key.consumers → cleaned ≤ max key.start (slice_index words (consumer_place j) - key.identity.geometry.term_length)
+
+-- whatever state the rule holds of
+abbrev pub RuleSays : Type 0
+RuleSays = (key : Key) (s : State (Unit {0}) View) → LogRuled key s → Says key s.words (map pass_in s.views)
