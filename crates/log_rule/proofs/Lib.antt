@@ -12,6 +12,7 @@ pub mod Beginning
 pub mod Dealing
 pub mod Shares
 pub mod Gathering
+pub mod Handing
 pub mod Meetings
 pub mod Showing
 pub mod Saying

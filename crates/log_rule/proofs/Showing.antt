@@ -4,7 +4,7 @@ use mathlib.Core.Option.{some}
 use mathlib.Core.Logic.{dite}
 use native.Mathlib.Decide.{ℕ_discrete, dec_le}
 use lib.ListN.{get_elem?}
-use Rattle.std.specs.Prelude.{slice_index, if◌then◌else◌}
+use Rattle.std.specs.Prelude.{slice_index}
 use Rattle.std.specs.List.{AllByRecursion}
 use Rattle.std.proofs.Math.Nat.{div-mul-le_self}
 use Rattle.std.proofs.lemmas.List.{map-set, set-get_or}
@@ -14,9 +14,8 @@ use Rattle.atomic_table.proofs.Lists.{at_map, at_set, set_else}
 use Rattle.theory.specs.Bytes.{Identity}
 use Rattle.theory.specs.Entry.{Entry, entry_end, length_of}
 use Rattle.theory.specs.Placed.{Among}
-use Rattle.theory.specs.Position.{Geometry, span}
+use Rattle.theory.specs.Position.{span}
 use Rattle.theory.specs.Tiling.{InOneTerm, Tiles}
-use Rattle.theory.specs.Words.{offset_in}
 use Rattle.theory.proofs.Lists.{all_at, among_left, among_right}
 use Rattle.publication.specs.declared.pass.ClaimRange.{ClaimRange}
 use Rattle.publication.specs.declared.pass.Controls.{Controls}

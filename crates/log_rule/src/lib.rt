@@ -34,6 +34,6 @@ pub use claims::view::{Origin, View};
 pub use law::{others_are_looks, rule_says};
 pub use meeting::{Meet, Met, Part, Settle, Show};
 pub use rule::{
-    Add, Carried, Clean, Consume, DealKeeper, DealPublisher, DealReader, Gather, Key, LogRule,
-    LookHere, News, Raise, Reread, Sweep, Swept, Tell, Weigh, Word,
+    Add, Carried, Clean, Consume, DealKeeper, DealPublisher, DealReader, Gather, HandOver, Key,
+    LogRule, LookHere, News, Raise, Reread, Sweep, Swept, Tell, Weigh, Word,
 };

@@ -221,6 +221,19 @@ impl<N: Carried> Join<View> for Gather<N> {
     ghost spent = { spent_seat N.identity N.start };
 }
 
+/// What another seat has goes to a seat, whose publisher owns what the other's claimed.
+pub struct HandOver<N> {
+    carried: PhantomData<N>,
+}
+
+impl<N: Carried> Join<View> for HandOver<N> {
+    ghost use Rattle.log_rule.specs.Claims.Closing.{handing_seats, spent_seat};
+
+    ghost both = { handing_seats };
+
+    ghost spent = { spent_seat N.identity N.start };
+}
+
 /// A pass is told how much it has claimed.
 pub struct Weigh;
 

@@ -72,6 +72,7 @@ module _ (l : LogValue) (p : PublisherValue) (held : List (Option Held)) (n : Nu
           free = record {
             of = record { table = k.of ∙ st.hand.free.of.table; identity = ap (λ (x : Pass). x.identity) is ∙ st.hand.free.of.identity; start = ap (λ (x : Pass). x.start) is ∙ st.hand.free.of.start };
             sure = k.sure ∙ st.hand.free.sure;
+            parts = ap (λ (x : Pass). x.right.parts) is ∙ st.hand.all.parts;
             idle = ap (λ (x : Pass). x.right.armed) is ∙ st.hand.free.idle;
           };
           whole = subst (λ (x : Pass × Controls). IsWhole x.0 x.1 held) (λ j. (sym is j, sym same j)) whole;

@@ -128,7 +128,7 @@ module _ (l : LogValue) (p : PublisherValue) (held : List (Option Held)) (hand :
 
     back : IsInHand l q held
     back = let of = hand.free.of in let a = hand.all in record {
-      free = record { of = record { table = seat.of ∙ of.table; identity = ap (λ (x : Pass). x.identity) only.rest ∙ of.identity; start = ap (λ (x : Pass). x.start) only.rest ∙ of.start }; sure = seat.sure ∙ hand.free.sure; idle = ap (λ (x : Pass). x.right.armed) only.rest ∙ hand.free.idle };
+      free = record { of = record { table = seat.of ∙ of.table; identity = ap (λ (x : Pass). x.identity) only.rest ∙ of.identity; start = ap (λ (x : Pass). x.start) only.rest ∙ of.start }; sure = seat.sure ∙ hand.free.sure; parts = ap (λ (x : Pass). x.right.parts) only.rest ∙ hand.all.parts; idle = ap (λ (x : Pass). x.right.armed) only.rest ∙ hand.free.idle };
       whole = subst (λ (z : Pass × Controls × List ℕ). Whole z.0 z.1 z.2) (λ j. (sym only.rest j, sym controls_same j, sym stand j)) whole_moved;
       all = record {
         parts = ap (λ (x : Pass). x.right.parts) only.rest ∙ a.parts;

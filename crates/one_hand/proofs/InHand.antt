@@ -86,7 +86,7 @@ module _ (l : LogValue) (p q : PublisherValue) (number : ℕ) (low : number < 8)
 
   in_hand : (held : List (Option Held)) → q.pass.right.armed ≡ 0 → IsWhole q.pass q.controls held → HasAll l p.pass p.controls → Rests acting p.controls q.pass q.controls → IsInHand l q held
   in_hand held idle whole all r = record {
-    free = record { of = of; sure = sure; idle = idle };
+    free = record { of = of; sure = sure; parts = r.parts ∙ all.parts; idle = idle };
     whole = whole;
     all = record {
       parts = r.parts ∙ all.parts;

@@ -104,6 +104,7 @@ module _ (l : LogValue) (p : PublisherValue) (held : List (Option Held)) (n : Nu
       free = record {
         of = record { table = ap (λ (x : PublisherValue). x.of) (sym k.seat) ∙ k.cleans.keeps.of ∙ st.hand.free.of.table; identity = ap (λ (x : Pass). x.identity) pass_is ∙ st.hand.free.of.identity; start = ap (λ (x : Pass). x.start) pass_is ∙ st.hand.free.of.start };
         sure = ap (λ (x : PublisherValue). x.sure) (sym k.seat) ∙ k.cleans.keeps.sure ∙ st.hand.free.sure;
+        parts = ap (λ (x : Pass). x.right.parts) pass_is ∙ st.hand.all.parts;
         idle = ap (λ (x : Pass). x.right.armed) pass_is ∙ st.hand.free.idle;
       };
       whole = whole;

@@ -179,7 +179,7 @@ opens l q new legal ids at any =
     let key : Key = record { identity = l.identity; start = l.start; consumers = l.consumers } in
     let whole : IsWhole q.pass q.controls none_held = subst (λ (x : Pass × Controls). IsWhole x.0 x.1 none_held) (λ j. (sym new.pass j, sym new.controls j)) (whole_is l.identity l.start legal ids at l.consumers any) in
     let all : HasAll l (whole_pass key) (record (fresh_controls l.identity l.start) { limit = l.start }) = record { parts = refl; numbers = numbered l.start 0 l.consumers; few = any.1; any = any.0; keeper = refl; limit = refl } in (
-      record { free = record { of = new.of; sure = new.sure; idle = ap (λ (x : Pass). x.right.armed) new.pass }; whole = whole; all = subst (λ (x : Pass × Controls). HasAll l x.0 x.1) (λ j. (sym new.pass j, sym new.controls j)) all },
+      record { free = record { of = new.of; sure = new.sure; parts = ap (λ (x : Pass). x.right.parts) new.pass; idle = ap (λ (x : Pass). x.right.armed) new.pass }; whole = whole; all = subst (λ (x : Pass × Controls). HasAll l x.0 x.1) (λ j. (sym new.pass j, sym new.controls j)) all },
       (λ j. kept (stream_of (new.pass j) (new.controls j) none_held)) ∙ ap kept (shown_is l.identity l.start legal ids at l.consumers any),
     )
 

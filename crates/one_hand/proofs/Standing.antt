@@ -103,6 +103,7 @@ module _ (l : LogValue) (p : PublisherValue) (held : List (Option Held)) (hand :
           free = record {
             of = record { table = seat.of ∙ hand.free.of.table; identity = ap (λ (v : Pass). v.identity) is ∙ hand.free.of.identity; start = start ∙ hand.free.of.start };
             sure = seat.sure ∙ hand.free.sure;
+            parts = ap (λ (v : Pass). v.right.parts) is ∙ hand.all.parts;
             idle = ap (λ (v : Pass). v.right.armed) is ∙ hand.free.idle;
           };
           whole = subst (λ (x : Pass × Controls). IsWhole x.0 x.1 held) (λ j. (sym is j, sym same j)) whole;

@@ -1,5 +1,5 @@
 -- A log in one hand: what holds between two calls, and what its calls come to.
-use Rattle.std.specs.Prelude.{◌≡◌, ℕ, zero, suc, ◌+◌, ◌-◌, ◌<◌, ◌≤◌, List, [], ◌∷◌, Option, None, Some, Result, Ok, Err, length, slice_get, slice_set}
+use Rattle.std.specs.Prelude.{◌≡◌, ℕ, ◌+◌, ◌-◌, ◌<◌, ◌≤◌, List, Option, None, Some, Result, Ok, Err, length, slice_get, slice_set}
 use Rattle.theory.specs.Position.{aligned, framed_length, max_payload, max_position}
 use Rattle.publication.specs.declared.refusal.Refusal.{Refusal}
 use Rattle.publication.specs.declared.pass.Controls.{Controls}
@@ -18,10 +18,11 @@ use Rattle.one_hand.specs.Shown.{IsWhole, kept, shares_of, stream_of}
 abbrev pub stream_in : PublisherValue → List (Option Held) → Stream
 stream_in p held = kept (stream_of p.pass p.controls held)
 
--- the publisher is one of this log, has nothing armed, and is sure of the words
+-- the publisher is one of this log, has all parts and nothing armed, and is sure of the words
 pub record IsFree (l : LogValue) (p : PublisherValue) : Type 0 where
   pub of : IsOf l p
   pub sure : p.sure ≡ 1
+  pub parts : p.pass.right.parts ≡ 1024
   pub idle : p.pass.right.armed ≡ 0
 
 -- the pass has all parts, each consumer by its number, and the keeper, which knows the limit word

@@ -15,10 +15,12 @@ use Rattle.log_rule.specs.Claims.Rule.{entries_of, entry_of, weight}
 use Rattle.log_rule.specs.Claims.Handles.{PublisherValue, parts_in}
 use Rattle.log_rule.proofs.Claimed.Memories.{maps_append}
 use Rattle.log_rule.proofs.Claimed.Totals.{total_append}
-use Rattle.log_rule.specs.Shares.{IsTiled, Weighs, claimed_bytes}
+use Rattle.log_rule.specs.Shares.{IsTiled, Weighs, claimed_bytes, owner_bytes}
 use Rattle.shared_log.specs.Handles.{LogValue}
 use Rattle.shared_log.specs.Keepers.{KeeperValue}
 use Rattle.shared_log.specs.Books.{AreAll, Gathers, IsDone, IsIdle, ShowsBook, share_as, weight_in}
+use Rattle.log_rule.proofs.Shares.{share_is}
+use Rattle.shared_log.proofs.Owned.{own_share}
 use Rattle.shared_log.proofs.Shares.{both_share}
 
 -- these publishers are left: what is counted of the others, and what the keeper has of them
@@ -29,6 +31,7 @@ pub record IsGathering (l : LogValue) (all left : List PublisherValue) (shares :
   pub weighed : (h : Entry → ℕ) → total (weight_in h) left + weight h k.pass ≡ total (weight_in h) all
   pub eight : length shares ≡ 8
   pub counted : (n : ℕ) → n < 8 → slice_index shares n + total (share_as n) left ≡ total (share_as n) all
+  pub owned : (n : ℕ) → n < 8 → slice_index shares n + total (weight_in (owner_bytes n)) left ≡ total (weight_in (owner_bytes n)) all
   pub summed : sum shares ≡ claimed_bytes k.pass
   pub tail_is : tail ≡ l.start + claimed_bytes k.pass
   pub weighs : Weighs k.pass k.pass
@@ -42,6 +45,7 @@ begun l ps k q a w idle =
       weighed = λ h. plus_none (total (weight_in h) ps) (weight h q.held.pass) (ap (λ (cs : List ClaimRange). total h (map entry_of cs)) none);
       eight = refl;
       counted = λ n lt. none_plus (slice_index (replicate {A = ℕ} 8 0) n) (total (share_as n) ps) (get_or-replicate 8 n 0 0 lt);
+      owned = λ n lt. none_plus (slice_index (replicate {A = ℕ} 8 0) n) (total (weight_in (owner_bytes n)) ps) (get_or-replicate 8 n 0 0 lt);
       summed = sym (nothing q.held.pass none);
       tail_is = sym (plus_none l.start (claimed_bytes q.held.pass) (nothing q.held.pass none));
       weighs = subst (λ (v : Pass). Weighs v q.held.pass) (sym w.same) w;
@@ -62,6 +66,8 @@ pub gathered_on : (l : LogValue) (all left rest : List PublisherValue) (shares :
 gathered_on l all left rest shares tail number share p k q g e undone idle x =
     let last : (f : PublisherValue → ℕ) → total f left ≡ total f rest + f p = λ f. ap (total f) e ∙ total_append f rest (p ∷ []) ∙ (let z : total f rest + (f p + 0) ≡ total f rest + f p = omega arith in z) in
     let eight = g.eight in let low = x.number.1 in let at = x.number.0 in let inside : number < length shares = omega (arith, eight, low, at) in
+    let less : p.pass.right.parts < 1024 = few (total parts_in left) (total parts_in rest) p.pass.right.parts k.pass.right.parts (last parts_in) g.parts x.some in
+    let own : (n : ℕ) → weight_in (owner_bytes n) p ≡ share_as n p = λ n. own_share n p.pass.number p.pass.right.claims (x.owns.mine less) in
     let more : claimed_bytes q.pass ≡ claimed_bytes k.pass + share = ap claimed_bytes x.pass ∙ both_share k.pass p.pass ∙ ap (λ (n : ℕ). claimed_bytes k.pass + n) (sym x.share) in record {
       idle = idle;
       undone = undone;
@@ -76,6 +82,13 @@ gathered_on l all left rest shares tail number share p k q g e undone idle x =
           (λ ne. (let put : slice_index (set shares number (slice_index shares number + share)) n ≡ slice_index shares n = get_or-set_other shares number n (slice_index shares number + share) 0 ne in
           let none : share_as n p ≡ 0 = ap (λ (b : Bool). cond b (claimed_bytes p.pass) 0) (ne_eqb p.pass.number n (λ y. ne (sym y ∙ sym at))) in
           stays (slice_index (set shares number (slice_index shares number + share)) n) (slice_index shares n) (total (share_as n) left) (total (share_as n) rest) (share_as n p) (total (share_as n) all) put a none c)));
+      owned = λ n lt. (let a = last (weight_in (owner_bytes n)) in let c = g.owned n lt in dite (ℕ_discrete n number)
+          (λ same. (let put : slice_index (set shares number (slice_index shares number + share)) n ≡ slice_index shares n + share = ap (slice_index (set shares number (slice_index shares number + share))) same ∙ get_or-set_same shares number (slice_index shares number + share) 0 inside ∙ ap (λ (i : ℕ). slice_index shares i + share) (sym same) in
+          let mine : weight_in (owner_bytes n) p ≡ share = own n ∙ ap (λ (b : Bool). cond b (claimed_bytes p.pass) 0) (eq-eqb p.pass.number n (sym at ∙ sym same)) ∙ sym x.share in
+          counts (slice_index (set shares number (slice_index shares number + share)) n) (slice_index shares n) (total (weight_in (owner_bytes n)) left) (total (weight_in (owner_bytes n)) rest) (weight_in (owner_bytes n) p) share (total (weight_in (owner_bytes n)) all) put a mine c))
+          (λ ne. (let put : slice_index (set shares number (slice_index shares number + share)) n ≡ slice_index shares n = get_or-set_other shares number n (slice_index shares number + share) 0 ne in
+          let none : weight_in (owner_bytes n) p ≡ 0 = own n ∙ ap (λ (b : Bool). cond b (claimed_bytes p.pass) 0) (ne_eqb p.pass.number n (λ y. ne (sym y ∙ sym at))) in
+          stays (slice_index (set shares number (slice_index shares number + share)) n) (slice_index shares n) (total (weight_in (owner_bytes n)) left) (total (weight_in (owner_bytes n)) rest) (weight_in (owner_bytes n) p) (total (weight_in (owner_bytes n)) all) put a none c)));
       summed = sum_set shares number share inside ∙ ap (λ (n : ℕ). n + share) g.summed ∙ sym more;
       tail_is = (let t = g.tail_is in tails tail l.start (claimed_bytes k.pass) share (claimed_bytes q.pass) t more);
       weighs = x.weighs;
@@ -83,6 +96,9 @@ gathered_on l all left rest shares tail number share p k q g e undone idle x =
   where
     three : (left rest p k q all : ℕ) → left ≡ rest + p → left + k ≡ all → q ≡ k + p → rest + q ≡ all
     three left rest p k q all a c d = omega arith
+
+    few : (left rest p k : ℕ) → left ≡ rest + p → left + k ≡ 1024 → 0 < k → p < 1024
+    few left rest p k a c pos = omega arith
 
     counts : (new old left rest p share all : ℕ) → new ≡ old + share → left ≡ rest + p → p ≡ share → old + left ≡ all → new + rest ≡ all
     counts new old left rest p share all a c d f = omega arith
@@ -122,6 +138,7 @@ shows l all shares tail k g =
       shares = λ n lt. (let c = g.counted n lt in none (slice_index shares n) (total (share_as n) all) c);
       whole = ap (λ (n : ℕ). l.start + n) g.summed ∙ sym g.tail_is;
       tiled = record { log = tiled.log; tiles = tiled.tiles; fair = λ h. all_of (weight h k.pass) (total (weight_in h) all) (g.weighed h) ∙ tiled.fair h };
+      owned = λ n lt. none (slice_index shares n) (total (weight_in (owner_bytes n)) all) (g.owned n lt) ∙ all_of (weight (owner_bytes n) k.pass) (total (weight_in (owner_bytes n)) all) (g.weighed (owner_bytes n)) ∙ tiled.fair (owner_bytes n) ∙ share_is n tiled.log;
     }
   where
     none : (a c : ℕ) → a + 0 ≡ c → a ≡ c

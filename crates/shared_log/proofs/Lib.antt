@@ -9,5 +9,6 @@ mod Sweeping
 mod Limits
 mod Dealt
 mod Shares
+mod Owned
 mod Gathered
 mod Together

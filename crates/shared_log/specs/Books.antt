@@ -1,13 +1,14 @@
 -- What becomes of passes that end, and what the book of a log says.
 use Rattle.std.specs.Prelude.{◌≡◌, ℕ, ◌+◌, ◌<◌, ◌==◌, cond, List, [], All, slice_index, sum}
 use Rattle.theory.specs.Entry.{Entry}
+use Rattle.theory.specs.Tiling.{share_of}
 use Rattle.publication.specs.declared.pass.Pass.{Pass}
 use Rattle.log_rule.specs.Claims.Sums.{total}
 use Rattle.log_rule.specs.Claims.Rule.{weight}
 use Rattle.log_rule.specs.Claims.Handles.{PublisherValue, parts_in}
-use Rattle.log_rule.specs.Claims.Closing.{both}
+use Rattle.log_rule.specs.Claims.Closing.{both, handed_over}
 use Rattle.log_rule.specs.Shares.{IsTiled, Weighs, claimed_bytes}
-use Rattle.shared_log.specs.Handles.{IsOf, LogValue}
+use Rattle.shared_log.specs.Handles.{IsOf, LogValue, OwnsClaims}
 use Rattle.shared_log.specs.Keepers.{KeeperValue}
 use Rattle.shared_log.specs.declared.book.Book.{Book}
 
@@ -16,11 +17,11 @@ pub record IsIdle (l : LogValue) (p : PublisherValue) : Type 0 where
   pub of : IsOf l p
   pub unarmed : p.pass.right.armed ≡ 0
 
--- the first has what both had
+-- the first has what both had, and it is the first's
 pub record Retires (p other q : PublisherValue) : Type 0 where
   pub of : q.of ≡ p.of
   pub seat : q.seat ≡ p.seat
-  pub pass : q.pass ≡ both p.pass other.pass
+  pub pass : q.pass ≡ handed_over p.pass other.pass
   pub sure : q.sure ≡ 0
 
 -- ---- closing
@@ -51,9 +52,13 @@ pub record ShowsBook (l : LogValue) (publishers : List PublisherValue) (book : B
   pub shares : (n : ℕ) → n < 8 → slice_index book.shares n ≡ total (share_as n) publishers
   pub whole : book.start + sum book.shares ≡ book.tail
   pub tiled : IsTiled l.identity l.start book.tail (λ h. total (weight_in h) publishers)
+  -- and the shares are those of the entries' owners
+  pub owned : (n : ℕ) → n < 8 → slice_index book.shares n ≡ share_of n tiled.log
 
 -- a publisher's claims go to another pass, which is told how much it has then
 pub record Gathers (v : Pass) (p : PublisherValue) (w : Pass) (answer : ℕ × ℕ) : Type 0 where
+  pub some : 0 < v.right.parts
+  pub owns : OwnsClaims p.pass
   pub number : (answer.0 ≡ p.pass.number) × (p.pass.number < 8)
   pub share : answer.1 ≡ claimed_bytes p.pass
   pub pass : w ≡ both v p.pass

@@ -1,5 +1,6 @@
 -- What contracts see of a log that threads share, and of its passes.
-use Rattle.std.specs.Prelude.{◌≡◌, ℕ, suc, ◌≤◌, List, [], ◌∷◌, nat_eq, if◌then◌else◌}
+use Rattle.std.specs.Prelude.{◌≡◌, ℕ, suc, ◌<◌, ◌≤◌, List, [], ◌∷◌, nat_eq, if◌then◌else◌}
+use Rattle.std.specs.List.{AllByRecursion}
 use Rattle.atomic_table.specs.Seated.{TableId}
 use Rattle.theory.specs.Position.{IsGeometry}
 use Rattle.theory.specs.Bytes.{Identity}
@@ -7,6 +8,7 @@ use Rattle.log_rule.specs.Claims.Packs.{table_length}
 use Rattle.log_rule.specs.Claims.Handles.{PublisherValue}
 use Rattle.log_rule.specs.Claims.Sure.{fresh_controls}
 use Rattle.log_rule.specs.Claims.Plays.{newcomer}
+use Rattle.publication.specs.declared.pass.ClaimRange.{ClaimRange}
 use Rattle.publication.specs.declared.pass.Pass.{Pass}
 use Rattle.log_rule.specs.declared.rule.Key.{Key}
 use Rattle.log_rule.specs.Shares.{claimed_bytes}
@@ -35,8 +37,18 @@ pub record IsOf (l : LogValue) (p : PublisherValue) : Type 0 where
   pub identity : p.pass.identity ≡ l.identity
   pub start : p.pass.start ≡ l.start
 
+-- these claims of a pass with this number and so many parts are its own, where it isn't the one that has all: that one
+-- may act for any number
+pub record AreOwn (own parts : ℕ) (claims : List ClaimRange) : Type 0 where
+  pub number : own < 8
+  pub mine : parts < 1024 → AllByRecursion (λ c. c.owner ≡ own) claims
+
+abbrev pub OwnsClaims : Pass → Type 0
+OwnsClaims v = AreOwn v.number v.right.parts v.right.claims
+
 -- the pass has a publisher's parts of the right, this number, and claims that cover so many bytes
 pub record IsPublishing (v : Pass) (number share : ℕ) : Type 0 where
+  pub owns : OwnsClaims v
   pub parts : 120 ≤ v.right.parts
   pub number_is : number ≡ v.number
   pub share_is : share ≡ claimed_bytes v

@@ -9,7 +9,7 @@ ghost use Rattle.publication.specs.Steps.{Adds, Arms, Commits, Counts, Exchanges
 ghost use Rattle.log_rule.specs.Claims.Packs.{data_place, ring_of, slot, table_length, tail_place};
 ghost use Rattle.log_rule.specs.Claims.Handles.{Stepped};
 ghost use Rattle.log_rule.specs.Shares.{claimed_bytes};
-ghost use Rattle.shared_log.specs.Handles.{IsOf};
+ghost use Rattle.shared_log.specs.Handles.{IsOf, OwnsClaims};
 
 use atomic_table::{Seat, Table};
 use log_rule::{
@@ -53,18 +53,20 @@ impl Model for Publisher {
     ghost use Rattle.std.specs.Prelude.{◌≡◌, ◌≤◌, []};
     ghost use Rattle.log_rule.specs.Claims.Handles.{PublisherValue};
     ghost use Rattle.log_rule.specs.Shares.{claimed_bytes};
+    ghost use Rattle.shared_log.specs.Handles.{OwnsClaims};
 
     ghost Value = { PublisherValue };
 
     ghost view = { λ p. record { of = p.seat.table_id; seat = p.seat.id; pass = p.seat.me.0.pass; steps = p.seat.me.0.steps; controls = p.seat.me.0.controls; sure = p.seat.me.0.sure } };
 
-    ghost invariant = { λ p. (p.seat.me.1 ≡ []) × (120 ≤ p.seat.me.0.pass.right.parts) × (p.number ≡ p.seat.me.0.pass.number) × (p.share ≡ claimed_bytes p.seat.me.0.pass) };
+    ghost invariant = { λ p. (p.seat.me.1 ≡ []) × (120 ≤ p.seat.me.0.pass.right.parts) × (p.number ≡ p.seat.me.0.pass.number) × (p.share ≡ claimed_bytes p.seat.me.0.pass) × OwnsClaims p.seat.me.0.pass };
 }
 
 impl Publisher {
     /// Its number, 0 to 7.
     pub fn number(&self) -> u64
-        ensures { result ≡ self.now.pass.number }
+        ensures is { result ≡ self.now.pass.number }
+        ensures owns { OwnsClaims self.now.pass }
     {
         self.number
     }

@@ -5,18 +5,16 @@ use mathlib.Core.Logic.{dite}
 use native.Mathlib.Decide.{dec_le, ℕ_discrete}
 use lib.ListN.{get_elem?}
 use Rattle.std.specs.Prelude.{slice_index}
-use Rattle.std.specs.Int.{w32, cast_unsigned}
 use Rattle.std.specs.List.{AllByRecursion}
 use Rattle.std.proofs.lemmas.Nat.{div-mul-add}
-use Rattle.theory.specs.Position.{Geometry, IsGeometry, count_of, cuts_of, framed_length, id_of, max_message, span}
+use Rattle.theory.specs.Position.{Geometry, IsGeometry, cuts_of, framed_length, max_message, span}
 use Rattle.theory.specs.Entry.{Entry, length_of}
 use Rattle.theory.specs.Tiling.{InOneTerm, Tiles}
 use Rattle.theory.specs.Refusal.{limit_in}
-use Rattle.theory.specs.Words.{id_in, offset_in}
+use Rattle.theory.specs.Words.{offset_in}
 use Rattle.theory.proofs.Claims.{claim_bounded, span_is}
 use Rattle.theory.proofs.Cuts.{cut_units, long_cuts, span_unit}
 use Rattle.theory.proofs.Lists.{all_append, all_weaker}
-use Rattle.theory.proofs.Named.{counts}
 use Rattle.theory.proofs.Places.{power_unit}
 use Rattle.theory.proofs.Tiling.{Tiles-push}
 use Rattle.publication.specs.declared.pass.Pass.{Pass}

@@ -4,7 +4,7 @@ ghost use Rattle.std.specs.Prelude.{◌≡◌};
 ghost use Rattle.shared_log.specs.Books.{IsIdle, Retires};
 
 use crate::log::{Log, Publisher};
-use log_rule::{Carried, Gather, Weigh};
+use log_rule::{Carried, HandOver, Weigh};
 use std::marker::Brand;
 
 /// What the second has goes to the first.
@@ -20,12 +20,13 @@ fn join_as<N: Carried>(log: &Log, publisher: &mut Publisher, other: Publisher)
         number: _,
         share,
     } = other;
-    words.join_seat::<Gather<N>>(&mut publisher.seat, seat);
+    words.join_seat::<HandOver<N>>(&mut publisher.seat, seat);
     words.load::<Weigh>(&mut publisher.seat, 0);
     publisher.share += share;
 }
 
-/// Ends the second publisher: its parts, its claims and their frames, and its share go to the first, which keeps its number.
+/// Ends the second publisher: its parts, its claims and their frames, and its share go to the first, which keeps its
+/// number and owns all that it has.
 pub fn retire(log: &Log, mut publisher: Publisher, other: Publisher) -> Publisher
     requires publisher { IsIdle log.now publisher }
     requires other { IsIdle log.now other }

@@ -1,8 +1,9 @@
-use Rattle.std.proofs.Common.{◌+◌, refl, arith}
+use Rattle.std.proofs.Common.{◌≡◌, ℕ, ◌+◌, List, [], ◌∷◌, length, sym, refl, ◌∙◌, subst, arith}
 use Rattle.std.specs.Prelude.{slice_index, slice_set}
 use Rattle.std.proofs.lemmas.List.Elements.{All-pop}
-use Rattle.shared_log.specs.Books.{IsDone}
-use Rattle.shared_log.proofs.Gathered.{IsGathering, gathered_on, sums_low}
+use Rattle.log_rule.specs.Claims.Handles.{PublisherValue}
+use Rattle.shared_log.specs.Books.{IsDone, ShowsBook}
+use Rattle.shared_log.proofs.Gathered.{IsGathering, gathered_on, shows, sums_low}
 use Rattle.shared_log.proofs.closing.close.Goals as goal
 
 gathered : (c : goal.After-gather_as-number) → IsGathering c.args.log c.args.publishers.items c.pop.new.self.items (slice_set c.loop-publisher.shares c.gather_as-number.result.0 (slice_index c.loop-publisher.shares c.gather_as-number.result.0 + c.gather_as-number.result.1)) (c.loop-publisher.tail + c.gather_as-number.result.1) c.gather_as-number.new.keeper.held
@@ -18,3 +19,14 @@ overflow_add-tail c = let n = c.gather_as-number.ensures.gathers.number in let l
 
 pub loop-publisher-preserved : goal.loop-publisher-preserved
 loop-publisher-preserved c = (refl, c.loop-publisher.invariant.1, gathered c)
+
+pub returns : goal.returns
+returns c =
+    let none : c.loop-publisher.publishers.items ≡ [] = empty c.loop-publisher.publishers.items (sym c.loop-publisher.publishers.ok.0 ∙ c.in_default.ensures.cases.0) in
+    let all = subst (λ (ps : List PublisherValue). IsGathering c.args.log c.args.publishers.items ps c.loop-publisher.shares c.loop-publisher.tail c.loop-publisher.keeper.held) none c.loop-publisher.invariant.2 in
+    subst (λ (n : ℕ). ShowsBook c.args.log c.args.publishers.items (record { start = n; tail = c.loop-publisher.tail; shares = c.loop-publisher.shares })) (sym c.loop-publisher.invariant.1)
+    (shows c.args.log c.args.publishers.items c.loop-publisher.shares c.loop-publisher.tail c.loop-publisher.keeper.held all)
+  where
+    empty : (ps : List PublisherValue) → length ps ≡ 0 → ps ≡ []
+    empty [] e = refl
+    empty (p ∷ ps) e = absurd (omega (arith, e))

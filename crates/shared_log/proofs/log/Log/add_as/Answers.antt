@@ -13,6 +13,7 @@ use Rattle.log_rule.specs.Table.{LogRuled}
 use Rattle.log_rule.proofs.Claimed.Sures.{add_turns}
 use Rattle.log_rule.proofs.Lifting.{lifted_at, other_spares}
 use Rattle.log_rule.proofs.Shares.{adds_share, with_low_share}
+use Rattle.shared_log.proofs.Owned.{adds_owns}
 use Rattle.log_rule.proofs.Claimed.Eventful.{steps_are_events}
 use Rattle.shared_log.proofs.log.Log.add_as.Goals as goal
 
@@ -46,4 +47,5 @@ invariant_of-publisher g c =
       (let e = told.2.parts in let able = c.publisher.invariant.1 in omega arith),
       c.publisher.invariant.2 ∙ sym told.2.number,
       grown,
+      adds_owns v size c.fetch_add-word.result w told.4.0 c.publisher.invariant.4,
     )

@@ -8,6 +8,7 @@ use Rattle.log_rule.specs.Claims.Plays.{Mine}
 use Rattle.log_rule.proofs.Claimed.Sures.{data_leaves, data_turns}
 use Rattle.log_rule.proofs.Lifting.{lifted_at, other_spares}
 use Rattle.log_rule.proofs.Shares.{commits_share}
+use Rattle.shared_log.proofs.Owned.{commits_owns}
 use Rattle.log_rule.proofs.Claimed.Eventful.{steps_are_events}
 use Rattle.shared_log.proofs.log.Log.commit_as.Goals as goal
 
@@ -27,4 +28,5 @@ invariant_of-publisher g c =
       (let e = told.2.parts in let able = c.publisher.invariant.1 in omega arith),
       c.publisher.invariant.2 ∙ sym told.2.number,
       c.publisher.invariant.3 ∙ sym (commits_share _ _ g.N.Chosen.number c.args.word (subst (λ (z : Pass × ℕ). CompletesFrame z.0 z.1 c.args.word) (λ j. (sym vi j, sym is j)) c.requires.completes) told.4),
+      commits_owns _ _ g.N.Chosen.number c.args.word (subst (λ (z : Pass × ℕ). CompletesFrame z.0 z.1 c.args.word) (λ j. (sym vi j, sym is j)) c.requires.completes) told.4 c.publisher.invariant.4,
     )

@@ -1,4 +1,8 @@
-use Rattle.std.proofs.Common.{rules, ◌≡◌, Result, Err, IsErrAnd, ap, subst, is_ok, true≢false}
+use Rattle.std.proofs.Common.{rules, ◌≡◌, Result, Err, IsErrAnd, sym, ap, subst, is_ok, true≢false, arith}
+use Rattle.publication.specs.declared.pass.Pass.{Pass}
+use Rattle.log_rule.specs.Claims.Plays.{Mine}
+use Rattle.log_rule.specs.Shares.{claimed_bytes}
+use Rattle.shared_log.proofs.Owned.{owns_all}
 use Rattle.shared_log.specs.declared.fault.LogError.{LogError}
 use Rattle.shared_log.specs.declared.fault.LogError.TheVariants as faults
 use Rattle.shared_log.proofs.log.Log.open_whole.Goals as goal
@@ -17,3 +21,8 @@ returns-clause-start c = (λ e _. true≢false (ap is_ok e), λ no. absurd (no (
 
 pub returns-clause-consumers : goal.returns-clause-consumers
 returns-clause-consumers c = (λ e. absurd (true≢false (ap is_ok e)), λ h. absurd (h.1 (search rules, search rules)))
+
+pub invariant_of-pass : goal.invariant_of-pass
+invariant_of-pass c = let v : Pass = c.in_ok-table.seat.me.0.pass in let is = c.in_ok-table.ensures.4 in
+    let parts : v.right.parts ≡ 1024 = ap (λ (m : Mine). m.0.pass.right.parts) is in let number : v.number ≡ 7 = ap (λ (m : Mine). m.0.pass.number) is in
+    (ap (λ (m : Mine). m.1) is, omega (arith, parts), sym number, sym (ap (λ (m : Mine). claimed_bytes m.0.pass) is), owns_all v number parts)

@@ -1,4 +1,4 @@
-use Rattle.std.proofs.Common.{rules, ◌≡◌, ℕ, suc, ◌+◌, ◌<◌, [], ◌∷◌, eqb, inl, sym, ap, ◌∙◌, subst, arith}
+use Rattle.std.proofs.Common.{rules, ◌≡◌, ℕ, suc, ◌+◌, ◌<◌, List, [], ◌∷◌, eqb, inl, sym, ap, ◌∙◌, subst, arith}
 use prog.Atomic.{either}
 use Rattle.theory.specs.Position.{id_of}
 use Rattle.theory.specs.Bytes.{Identity}
@@ -20,6 +20,10 @@ use Rattle.std.specs.Int.{w32, cast_signed, cast_unsigned}
 use Rattle.std.proofs.lemmas.Int.{to_z-of_z}
 use Rattle.publication.proofs.Packed.{id_fits}
 use Rattle.log_rule.proofs.Claimed.Eventful.{steps_are_events}
+use Rattle.log_rule.specs.Shares.{range_bytes}
+use Rattle.log_rule.specs.Claims.Sums.{total}
+use Rattle.publication.specs.declared.pass.ClaimRange.{ClaimRange}
+use Rattle.shared_log.proofs.Owned.{owns_same, rotates_claims}
 use Rattle.shared_log.proofs.log.Log.rotate_as.Goals as goal
 
 pub compare_exchange-requires : goal.compare_exchange-requires
@@ -35,6 +39,16 @@ compare_exchange-requires g c = let me : Mine = c.publisher.inside.seat.me in le
           (other_spares (tail_place (k + 1)) (λ n. either (eqb n c.args.from) (tail_word (id_of v.identity.geometry (k + 1)) 0) n) (λ e. omega arith) (λ j lt e. omega arith))
           (λ b. steps_are_events.exchange_next b _ v k c.args.from (ap (λ (p : Pass). p.seen.full) vi ∙ c.requires.full ∙ ap suc (sym is)) (omega arith)
           (c.requires.from ∙ (λ j. id_before (ap (λ (i : Identity). i.geometry) (sym c.requires.fits.identity ∙ ap (λ (p : Pass). p.identity) (sym vi)) j) (sym is j) 2)))),
+    )
+
+pub invariant_of-publisher : goal.invariant_of-publisher
+invariant_of-publisher g c = let v : Pass = c.publisher.inside.seat.me.0.pass in let w : Pass = c.compare_exchange.new.seat.me.0.pass in let told = c.compare_exchange.ensures.2 in
+    let claims = rotates_claims v g.N.Chosen.number c.args.from c.compare_exchange.result w told.4 in (
+      told.0 ∙ c.publisher.invariant.0,
+      (let e = told.2.parts in let able = c.publisher.invariant.1 in omega arith),
+      c.publisher.invariant.2 ∙ sym told.2.number,
+      c.publisher.invariant.3 ∙ ap (λ (cs : List ClaimRange). total range_bytes cs) (sym claims),
+      owns_same v w told.2.number told.2.parts claims c.publisher.invariant.4,
     )
 
 pub returns-clause-stepped : goal.returns-clause-stepped

@@ -7,6 +7,7 @@ use Rattle.log_rule.specs.Claims.Plays.{Mine}
 use Rattle.log_rule.proofs.Claimed.Sures.{data_leaves, data_turns}
 use Rattle.log_rule.proofs.Lifting.{lifted_at, other_spares}
 use Rattle.log_rule.proofs.Shares.{stores_share}
+use Rattle.shared_log.proofs.Owned.{stores_owns}
 use Rattle.log_rule.proofs.Claimed.Eventful.{steps_are_events}
 use Rattle.shared_log.proofs.log.Log.store_as.Goals as goal
 
@@ -26,4 +27,5 @@ invariant_of-publisher g c =
       (let e = told.2.parts in let able = c.publisher.invariant.1 in omega arith),
       c.publisher.invariant.2 ∙ sym told.2.number,
       c.publisher.invariant.3 ∙ sym (stores_share _ _ g.N.Chosen.number c.args.word (subst (λ (z : Pass × ℕ). HasWord z.0 1 z.1) (λ j. (sym vi j, sym is j)) c.requires.inside) told.4),
+      stores_owns _ _ g.N.Chosen.number c.args.word (subst (λ (z : Pass × ℕ). HasWord z.0 1 z.1) (λ j. (sym vi j, sym is j)) c.requires.inside) told.4 c.publisher.invariant.4,
     )
