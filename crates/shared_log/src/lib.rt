@@ -20,6 +20,9 @@
 //! raises the limit to half a term above that where the log is connected and not closed, never lower; the flags are
 //! set as asked, closing for good (`set_connected`, `set_closed`). All of it exactly, and in so many word steps.
 //!
+//! Counted are the steps on words that a pass makes: loads, stores, additions and exchanges. `Log::peek` is for tests,
+//! and no call can make it, since it wants the log for itself.
+//!
 //! Who has several roles in one pass, as `Log::open_whole` gives it, acts in one after the other: a publisher becomes a
 //! reader or the keeper (`into_reader`, `into_keeper`), and a publisher again (`into_publisher`), with the same pass.
 #![tactic(auto)]
