@@ -10,12 +10,15 @@
 //! where its term is two before and only there, and that the active count is exchanged where the next term has begun
 //! and only there, each once. Where nobody else steps between, the answer is the one that the tail, the active count
 //! and the limit make it (a lemma). No call takes memory or waits.
+//!
+//! Nothing but these calls claims or commits (`InOrder`): a message's frames are committed from the first to the last.
 #![tactic(auto)]
 
 mod claiming;
 mod frame_words;
 mod looking;
 mod offers;
+mod order;
 mod pass;
 mod refusal;
 mod step;
@@ -24,9 +27,10 @@ mod turn;
 mod words;
 mod writing;
 
-pub use claiming::{add_range, claim};
+pub use claiming::add_range;
 pub use looking::{Look, look_at};
 pub use offers::{abort, commit, offer, try_claim};
+pub use order::InOrder;
 pub use pass::{ClaimRange, Controls, FrameWords, Keeping, Pass, Reading, Right, Seen, Work};
 pub use refusal::Refusal;
 pub use step::WordStep;

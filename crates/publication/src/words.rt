@@ -9,6 +9,7 @@ ghost use Rattle.publication.specs.declared.step.WordStep.TheVariants as steps;
 ghost use Rattle.publication.specs.Frames.{CompletesFrame};
 ghost use Rattle.publication.specs.Steps.{Adds, Arms, Commits, Counts, ExchangesCount, HasWord, Moved, Nexts, Rotates, Sees, Stores, addition, begun_word, geometry_of, tail_step};
 
+use crate::order::InOrder;
 use position::Identity;
 
 /// What has the words of a log. Each call but `identity` is one step on one word, and its contract speaks of its pass and
@@ -63,7 +64,7 @@ pub trait WordCalls {
 
     /// Adds what a message of `size` bytes covers to the raw tail of a count's partition. The answer is the word before
     /// that, perhaps of a later term than this count's.
-    fn add(&mut self, pass: &mut Self::Pass, count: u32, size: u32) -> u64
+    fn add(&mut self, order: &InOrder, pass: &mut Self::Pass, count: u32, size: u32) -> u64
         requires fits { fits self.old pass.old }
         requires armed { (pass_of self.old pass.old).right.armed ≡ 1 }
         requires count { (pass_of self.old pass.old).seen.term ≡ count }
@@ -111,7 +112,7 @@ pub trait WordCalls {
         ensures told { Stores (pass_of self.old pass.old) position word (pass_of self.new pass.new) };
 
     /// Stores the first word of an open frame of the pass, which is then committed: a message's frame or a padding, whole.
-    fn commit(&mut self, pass: &mut Self::Pass, start: u64, word: u64)
+    fn commit(&mut self, order: &InOrder, pass: &mut Self::Pass, start: u64, word: u64)
         requires fits { fits self.old pass.old }
         requires completes { CompletesFrame (pass_of self.old pass.old) start word }
         requires word { 0 < word }

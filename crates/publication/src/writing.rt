@@ -9,6 +9,7 @@ ghost use Rattle.publication.specs.Claims.{Fills, HasBlank, PartOfCall, exactly,
 ghost use Rattle.publication.specs.Offers.{FillsAll, HasBlanks, HasRoom, Puts};
 
 use crate::frame_words::{first_word, last_word, pair_word, whole_word};
+use crate::order::InOrder;
 use crate::words::WordCalls;
 use position::{BEGIN, END, Identity, UNFRAGMENTED};
 
@@ -78,7 +79,7 @@ pub(crate) fn write_data<W: WordCalls>(
     put_header(words, pass, &identity, start);
     put_payload(words, pass, start, payload);
     let word = first_word(false, flags, payload.len() as u32 + 32);
-    words.commit(pass, start, word);
+    words.commit(&InOrder::new(), pass, start, word);
 }
 
 /// Writes and commits a padding into an open frame of its length, of which nothing is stored.
@@ -100,7 +101,7 @@ pub(crate) fn write_padding<W: WordCalls>(
     let identity = words.identity(pass);
     put_header(words, pass, &identity, start);
     let word = first_word(true, UNFRAGMENTED, frame_length);
-    words.commit(pass, start, word);
+    words.commit(&InOrder::new(), pass, start, word);
 }
 
 /// The flags of a message's frame, by whether it is the first and the last.

@@ -55,7 +55,7 @@ fn follow_all<R: Abort>(rt: &R, log: &Log, crew: &mut Crew, terms: u64)
 }
 
 /// The active count, and the raw tails of the three partitions.
-fn count_and_tails(log: &Log) -> [u64; 4] {
+fn count_and_tails(log: &mut Log) -> [u64; 4] {
     let control = 3 * (log.identity().geometry().term_length() as usize / 8);
     [
         log.peek(control + 1),
@@ -72,14 +72,16 @@ fn stall<R: Abort>(
     alloc: Global,
     terms: u64,
 ) -> Result<(Result<u64, Refusal>, [u64; 4]), Fail> {
-    let (log, mut stalled, mut crew) = open_crew(alloc)?;
-    let mut words = OnLog::new(&log);
-    let Look::Open(count) = look_at(&mut words, &mut stalled) else {
-        return Err("no room".into());
+    let (mut log, mut stalled, mut crew) = open_crew(alloc)?;
+    let answer = {
+        let mut words = OnLog::new(&log);
+        let Look::Open(count) = look_at(&mut words, &mut stalled) else {
+            return Err("no room".into());
+        };
+        follow_all(rt, &log, &mut crew, terms);
+        add_range(&mut words, &mut stalled, count, 100)
     };
-    follow_all(rt, &log, &mut crew, terms);
-    let answer = add_range(&mut words, &mut stalled, count, 100);
-    Ok((answer, count_and_tails(&log)))
+    Ok((answer, count_and_tails(&mut log)))
 }
 
 /// How many terms others fill, what answers the publisher that stalled, and the words then.

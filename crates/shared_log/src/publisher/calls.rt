@@ -8,7 +8,7 @@ ghost use Rattle.log_rule.specs.Claims.Leading.{took_more, took_none};
 use crate::log::{Log, Publisher};
 use log_rule::Ring;
 use position::Identity;
-use publication::WordCalls;
+use publication::{InOrder, WordCalls};
 use std::marker::{Brand, Model};
 
 /// A log, for the calls of one thread.
@@ -81,7 +81,7 @@ impl<'a> WordCalls for OnLog<'a> {
     }
 
     #[inline(always)]
-    fn add(&mut self, pass: &mut Publisher, count: u32, size: u32) -> u64 {
+    fn add(&mut self, _order: &InOrder, pass: &mut Publisher, count: u32, size: u32) -> u64 {
         let log = self.log;
         log.add_as::<Brand>(pass, count, size)
     }
@@ -111,7 +111,7 @@ impl<'a> WordCalls for OnLog<'a> {
     }
 
     #[inline(always)]
-    fn commit(&mut self, pass: &mut Publisher, start: u64, word: u64) {
+    fn commit(&mut self, _order: &InOrder, pass: &mut Publisher, start: u64, word: u64) {
         let log = self.log;
         log.commit_as::<Brand>(&mut self.ring, pass, start, word);
     }

@@ -30,11 +30,11 @@ returns-in-UsedUp-clause-called g c =
 
 pub returns-in-Open-clause-called : goal.returns-in-Open-clause-called
 returns-in-Open-clause-called g c =
-    calls_further g.W.WordCalls.fits g.W.WordCalls.pass_of g.W.WordCalls.name g.W.WordCalls.id g.W.WordCalls.took g.met.W.WordCalls.more _ _ _ _ _ _ (exactly 0) padding_words padding_words c.in-Open.ensures.called c.add_range.ensures.part
-    (few_added (g.W.WordCalls.pass_of c.args.words.now c.args.pass.now) (g.W.WordCalls.pass_of c.look_at.new.words c.look_at.new.pass) (g.W.WordCalls.pass_of c.add_range.new.words c.add_range.new.pass) c.args.size c.in-Open.count c.add_range.result c.in-Open.ensures.looked c.add_range.ensures.accepted c.add_range.ensures.refused)
-    (padded_behind (g.W.WordCalls.pass_of c.args.words.now c.args.pass.now) (g.W.WordCalls.pass_of c.look_at.new.words c.look_at.new.pass) (g.W.WordCalls.pass_of c.add_range.new.words c.add_range.new.pass) c.in-Open.ensures.looked.after)
+    calls_further g.W.WordCalls.fits g.W.WordCalls.pass_of g.W.WordCalls.name g.W.WordCalls.id g.W.WordCalls.took g.met.W.WordCalls.more _ _ _ _ _ _ (exactly 0) padding_words padding_words c.in-Open.ensures.called c.add_frames.ensures.part
+    (few_added (g.W.WordCalls.pass_of c.args.words.now c.args.pass.now) (g.W.WordCalls.pass_of c.look_at.new.words c.look_at.new.pass) (g.W.WordCalls.pass_of c.add_frames.new.words c.add_frames.new.pass) c.args.size c.in-Open.count c.add_frames.result c.in-Open.ensures.looked c.add_frames.ensures.accepted c.add_frames.ensures.refused)
+    (padded_behind (g.W.WordCalls.pass_of c.args.words.now c.args.pass.now) (g.W.WordCalls.pass_of c.look_at.new.words c.look_at.new.pass) (g.W.WordCalls.pass_of c.add_frames.new.words c.add_frames.new.pass) c.in-Open.ensures.looked.after)
 
 pub returns-in-Open-clause-refused : goal.returns-in-Open-clause-refused
 returns-in-Open-clause-refused g c =
-    IfErr-weaker c.add_range.result (λ (why : Refusal). Tripping (g.W.WordCalls.pass_of c.look_at.new.words c.look_at.new.pass) c.in-Open.count c.args.size why (g.W.WordCalls.pass_of c.add_range.new.words c.add_range.new.pass)) (λ (why : Refusal). Justified (g.W.WordCalls.pass_of c.args.words.now c.args.pass.now) c.args.size why (g.W.WordCalls.pass_of c.add_range.new.words c.add_range.new.pass))
-    (λ why t. refused_tripping (g.W.WordCalls.pass_of c.args.words.now c.args.pass.now) c.args.size (g.W.WordCalls.pass_of c.look_at.new.words c.look_at.new.pass) (g.W.WordCalls.pass_of c.add_range.new.words c.add_range.new.pass) why c.in-Open.count c.in-Open.ensures.looked t) c.add_range.ensures.refused
+    IfErr-weaker c.add_frames.result (λ (why : Refusal). Tripping (g.W.WordCalls.pass_of c.look_at.new.words c.look_at.new.pass) c.in-Open.count c.args.size why (g.W.WordCalls.pass_of c.add_frames.new.words c.add_frames.new.pass)) (λ (why : Refusal). Justified (g.W.WordCalls.pass_of c.args.words.now c.args.pass.now) c.args.size why (g.W.WordCalls.pass_of c.add_frames.new.words c.add_frames.new.pass))
+    (λ why t. refused_tripping (g.W.WordCalls.pass_of c.args.words.now c.args.pass.now) c.args.size (g.W.WordCalls.pass_of c.look_at.new.words c.look_at.new.pass) (g.W.WordCalls.pass_of c.add_frames.new.words c.add_frames.new.pass) why c.in-Open.count c.in-Open.ensures.looked t) c.add_frames.ensures.refused
