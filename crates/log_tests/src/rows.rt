@@ -1,6 +1,6 @@
 //! One publisher, step by step; logs that aren't opened.
 
-ghost use Rattle.std.specs.Prelude.{◌≤◌, length, IfOk};
+ghost use Rattle.std.specs.Prelude.{◌≡◌, ◌≤◌, length, IfOk};
 ghost use Rattle.theory.specs.Position.{max_message};
 ghost use Rattle.shared_log.specs.Handles.{IsOf};
 ghost use Rattle.log_tests.specs.Stays.{Stays};
@@ -150,7 +150,9 @@ fn offer_row<R: Abort>(rt: &R, log: &Log, publisher: &mut Publisher, row: &Row)
 }
 
 /// The active count, and the raw tails of the three partitions.
-pub(crate) fn count_and_tails(log: &mut Log) -> [u64; 4] {
+pub(crate) fn count_and_tails(log: &mut Log) -> [u64; 4]
+    ensures { log.new ≡ log.old }
+{
     let control = 3 * (log.identity().geometry().term_length() as usize / 8);
     [
         log.peek(control + 1),

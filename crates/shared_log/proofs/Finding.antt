@@ -19,12 +19,12 @@ use Rattle.publication.proofs.Contents.{head_said, legal_said}
 use Rattle.log_rule.specs.Claims.Memory.{IsCommittedFrame}
 use Rattle.shared_log.specs.Handles.{LogValue}
 use Rattle.log_rule.specs.Claims.Handles.{PublisherValue}
-use Rattle.shared_log.specs.Readers.{Advances, Copies, Finds, FindsNone, Has, IsReaderOf, IsReading, LoadsWord, MayReread, OnlyReads, ReaderValue, ReadsFrame, Rereads, Rests, SameSeat, Stays, known_at, known_of, misses_at, positions_of}
+use Rattle.shared_log.specs.Readers.{Advances, Copies, Finds, FindsNone, Has, IsReaderOf, IsReading, LoadsWord, MayReread, Misses, OnlyReads, ReaderValue, ReadsFrame, Rereads, Rests, SameSeat, Stays, known_at, known_of, misses_at, positions_of}
 use Rattle.log_rule.specs.Readings as Frames
 use Rattle.log_rule.specs.Readings.{Consumes, IsConsumer, IsFrameAt, Looks, knows_more, missed, moved_to, with_consumer}
 use Rattle.log_rule.proofs.InTerm.{done_long, words_cover}
 use Rattle.std.proofs.lemmas.List.{map-set}
-use Rattle.shared_log.proofs.Looking.{has_on, known_is, known_on, misses_is, misses_on, missing_is, rests_on, put_equal, put_there, same_on}
+use Rattle.shared_log.proofs.Looking.{has_on, known_is, known_missing, known_on, misses_is, misses_on, missing_is, rests_on, put_equal, put_there, same_on}
 
 -- which frame its words say
 pub content_is : (i : Identity) (f : FrameWords) → IsGeometry i.geometry → (d : IsCommittedFrame i f) → frame_in f ≡ d.content
@@ -89,13 +89,14 @@ finds_by l r w n end head g of is seat told pos shown ends =
 
 pub finds_none : (r q : ReaderValue) (n : ℕ) → IsReading r.held.pass r.place r.number r.position r.read_to → SameSeat r.held q.held → Looks r.held.pass r.place n q.held.pass → q ≡ record r { held = q.held } → n ≡ 0 → FindsNone r q
 finds_none r q n is seat told same e =
-    let l = (told is.consumer is.is).none e in record {
+    let l = (told is.consumer is.is).none e in let gone : Misses r q = record { seat = seat; pass = l.0 ∙ ap (λ (rs : List Reading). record r.held.pass { reading = rs }) (missing_is r.held.pass.reading r.place is.consumer is.is); same = same } in record {
       none = λ f has at. l.1 f (had_by r is.consumer is.is f has) (at ∙ sym is.position_is);
       looked =
           ap (λ (k : ℕ). misses_at q.held.pass.reading k) (ap (λ (x : ReaderValue). x.place) same)
           ∙ misses_put r.held.pass q.held.pass r.place is.consumer (missed is.consumer) is.is l.0
           ∙ ap suc (sym (misses_is r.held.pass.reading r.place is.consumer is.is));
-      rests = record { seat = seat; pass = l.0 ∙ ap (λ (rs : List Reading). record r.held.pass { reading = rs }) (missing_is r.held.pass.reading r.place is.consumer is.is); same = same };
+      known = known_missing r q gone;
+      rests = gone;
     }
 
 pub advances_by : (r : ReaderValue) (w : PublisherValue) → IsReading r.held.pass r.place r.number r.position r.read_to → SameSeat r.held w → Consumes r.held.pass r.place r.read_to w.pass → Advances r (record r { held = w; position = r.read_to })

@@ -157,6 +157,7 @@ pub record ReadsFrame (l : LogValue) (r : ReaderValue) (head : FrameHead) (befor
 pub record FindsNone (r q : ReaderValue) : Type 0 where
   pub none : HasNone r r.position
   pub looked : misses_of q ≡ suc (misses_of r)
+  pub known : known_of q ≡ known_of r
   pub rests : Misses r q
 
 pub record ReadsNone (r : ReaderValue) (before : List ℕ) (q : ReaderValue) (after : List ℕ) : Type 0 where

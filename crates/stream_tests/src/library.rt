@@ -76,6 +76,7 @@ fn what_is_learned_is_found(rt: HostRuntime) -> Result<(), Fail> {
     let mut publishers = Vec::from_array(rt.alloc(), publishers)?;
     let mut publisher = publishers.remove(0);
     let mut reader = readers.remove(0);
+    set_connected(&log, &mut keeper, true);
     clean_and_limit(&log, &mut keeper);
     if offer(&mut OnLog::new(&log), &mut publisher, b"hello").is_err() {
         return Err("the offer is refused".into());
