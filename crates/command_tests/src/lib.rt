@@ -3,6 +3,7 @@
 #![tactic(auto)]
 
 mod broken;
+mod bytes;
 mod lines;
 mod rows;
 mod run_options;

@@ -4,6 +4,7 @@ use crate::lines::run_over;
 use crate::table::Row;
 use std::alloc::{AllocError, Global};
 use std::net::Net;
+use std::random::RandomSource;
 use std::sync::Wait;
 use std::thread::Threads;
 use std::time::Clock;
@@ -16,29 +17,33 @@ pub struct Found {
 }
 
 /// Whether the command line does what the row says, and ends with this status.
-fn is_met<C: Threads + Wait + Clock + Net + Sync>(
+fn is_met<C: Threads + Wait + Clock + Net + RandomSource + Sync + Send + Copy + 'static>(
     rt: &C,
     alloc: Global,
     row: &Row<'_>,
     status: &str,
-) -> bool {
-    let done = run_over(rt, alloc, row.words(), row.input());
-    row.is_met(&done, status)
+) -> Result<bool, AllocError> {
+    let done = run_over(rt, alloc, row.words(), row.input())?;
+    Ok(row.is_met(&done, status))
 }
 
 /// Whether no proper beginning of a frame can be read.
-fn is_short<C: Threads + Wait + Clock + Net + Sync>(rt: &C, alloc: Global, digits: &str) -> bool {
+fn is_short<C: Threads + Wait + Clock + Net + RandomSource + Sync + Send + Copy + 'static>(
+    rt: &C,
+    alloc: Global,
+    digits: &str,
+) -> Result<bool, AllocError> {
     let mut short = true;
     for end in (0..digits.len()).step_by(2) {
         let beginning = digits.get(..end).unwrap_or("none");
-        let done = run_over(rt, alloc, &["mdriver", "decode", beginning], b"");
+        let done = run_over(rt, alloc, &["mdriver", "decode", beginning], b"")?;
         short &= done.errors.as_slice() == b"error: F1 short\n".as_slice() && done.status == 1;
     }
-    short
+    Ok(short)
 }
 
 /// Takes a line: one that tells something of the row, or one that ends it.
-fn take_line<'a, C: Threads + Wait + Clock + Net + Sync>(
+fn take_line<'a, C: Threads + Wait + Clock + Net + RandomSource + Sync + Send + Copy + 'static>(
     rt: &C,
     alloc: Global,
     row: &mut Row<'a>,
@@ -50,8 +55,8 @@ fn take_line<'a, C: Threads + Wait + Clock + Net + Sync>(
         return Ok(());
     };
     let met = match mark {
-        "=" => is_met(rt, alloc, row, rest),
-        "%" => is_short(rt, alloc, rest),
+        "=" => is_met(rt, alloc, row, rest)?,
+        "%" => is_short(rt, alloc, rest)?,
         _ => return row.learn(alloc, mark, rest),
     };
     found.rows = found.rows.wrapping_add(1);
@@ -63,7 +68,7 @@ fn take_line<'a, C: Threads + Wait + Clock + Net + Sync>(
 }
 
 /// Carries out the rows of a text.
-pub fn play_rows<C: Threads + Wait + Clock + Net + Sync>(
+pub fn play_rows<C: Threads + Wait + Clock + Net + RandomSource + Sync + Send + Copy + 'static>(
     rt: &C,
     alloc: Global,
     text: &str,

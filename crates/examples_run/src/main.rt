@@ -5,6 +5,7 @@
 use command_tests::{Found, are_told, faults_are_told, lengths_are_bounded, play_rows, prints};
 use std::net::Net;
 use std::process::ExitCode;
+use std::random::RandomSource;
 use std::sync::Wait;
 use std::thread::Threads;
 use std::time::Clock;
@@ -58,7 +59,7 @@ fn main(rt: HostRuntime) -> ExitCode {
 }
 
 /// Whether all does what is expected.
-fn carry_out_all<C: Threads + Wait + Clock + Net + Sync>(
+fn carry_out_all<C: Threads + Wait + Clock + Net + RandomSource + Sync + Send + Copy + 'static>(
     host: &HostRuntime,
     rt: &C,
 ) -> io::Result<bool> {
@@ -69,11 +70,11 @@ fn carry_out_all<C: Threads + Wait + Clock + Net + Sync>(
 }
 
 /// Whether command lines over other streams, and options, tell what is expected.
-fn tell_streams<C: Threads + Wait + Clock + Net + Sync>(
+fn tell_streams<C: Threads + Wait + Clock + Net + RandomSource + Sync + Send + Copy + 'static>(
     host: &HostRuntime,
     rt: &C,
 ) -> io::Result<bool> {
-    let told = faults_are_told(rt, host.alloc());
+    let told = faults_are_told(rt, host.alloc())?;
     let bounded = lengths_are_bounded(rt, host.alloc())?;
     let options = are_told(host.alloc());
     tell(host, "streams", told)?;
@@ -95,7 +96,7 @@ fn read(host: &HostRuntime, name: &str, ending: &str) -> io::Result<String> {
 }
 
 /// Whether all examples print what is expected.
-fn play_all<C: Threads + Wait + Clock + Net + Sync>(
+fn play_all<C: Threads + Wait + Clock + Net + RandomSource + Sync + Send + Copy + 'static>(
     host: &HostRuntime,
     rt: &C,
 ) -> io::Result<bool> {
@@ -109,18 +110,18 @@ fn play_all<C: Threads + Wait + Clock + Net + Sync>(
 }
 
 /// Whether an example prints what is expected.
-fn play<C: Threads + Wait + Clock + Net + Sync>(
+fn play<C: Threads + Wait + Clock + Net + RandomSource + Sync + Send + Copy + 'static>(
     host: &HostRuntime,
     rt: &C,
     name: &str,
 ) -> io::Result<bool> {
     let script = read(host, name, "script")?;
     let expected = read(host, name, "expected")?;
-    Ok(prints(rt, host.alloc(), &script, &expected))
+    Ok(prints(rt, host.alloc(), &script, &expected)?)
 }
 
 /// Whether all rows do what is expected.
-fn compare_all<C: Threads + Wait + Clock + Net + Sync>(
+fn compare_all<C: Threads + Wait + Clock + Net + RandomSource + Sync + Send + Copy + 'static>(
     host: &HostRuntime,
     rt: &C,
 ) -> io::Result<bool> {
@@ -134,7 +135,7 @@ fn compare_all<C: Threads + Wait + Clock + Net + Sync>(
 }
 
 /// Carries out the rows of a file.
-fn compare<C: Threads + Wait + Clock + Net + Sync>(
+fn compare<C: Threads + Wait + Clock + Net + RandomSource + Sync + Send + Copy + 'static>(
     host: &HostRuntime,
     rt: &C,
     name: &str,

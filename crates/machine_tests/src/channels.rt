@@ -20,14 +20,14 @@ fn all_parameters(rt: HostRuntime) -> Result<(), Fail> {
 /// What a user reads of each text, none of which is a channel.
 const FAULTS: [(&str, &str); 9] = [
     ("aeron:ipc", "channel: it doesn't begin with aeron:udp?"),
-    ("aeron:udp?mtu=1408", "channel: no endpoint"),
+    ("aeron:udp?mtu=1408", "channel: no endpoint=HOST:PORT"),
     (
         "aeron:udp?endpoint=127.0.0.1:0",
-        "channel: the value of endpoint",
+        "channel: endpoint=127.0.0.1:0: 127.0.0.1 or localhost, a colon and a port from 1 to 65535",
     ),
     (
         "aeron:udp?endpoint=10.0.0.1:4|ttl=3",
-        "channel: 10.0.0.1 isn't this machine",
+        "channel: endpoint=10.0.0.1:4: 127.0.0.1 or localhost, a colon and a port from 1 to 65535",
     ),
     (
         "aeron:udp?endpoint=localhost:4|ttl=3",
@@ -43,7 +43,7 @@ const FAULTS: [(&str, &str); 9] = [
     ),
     (
         "aeron:udp?endpoint=localhost:4|term-length=4g",
-        "channel: the value of term-length",
+        "channel: term-length=4g: a power of two from 65536 to 16777216, as 64k or 16m",
     ),
     (
         "aeron:udp?endpoint=localhost:4|term-offset=0",

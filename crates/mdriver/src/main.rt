@@ -32,7 +32,17 @@ fn main(rt: HostRuntime) -> ExitCode {
 
 /// Carries out the process's command line. What fails here is memory, before anything was read.
 fn carry_out<
-    C: Threads + Wait + Clock + Net + RandomSource + Sync + Send + Copy + Env + AllocGlobal + 'static,
+    C: Threads
+        + Wait
+        + Clock
+        + Net
+        + RandomSource
+        + Sync
+        + Send
+        + Copy
+        + Env
+        + AllocGlobal
+        + 'static,
     R: Read + Send + Drop + 'static,
     W: Write + Drop,
     E: Write,
