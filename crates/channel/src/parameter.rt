@@ -65,9 +65,7 @@ impl Parameter {
         ensures { result.now ≡ range_of self }
     {
         match self {
-            Parameter::Endpoint => {
-                "127.0.0.1 or localhost, a colon and a port from 1 to 65535"
-            }
+            Parameter::Endpoint => { "127.0.0.1 or localhost, a colon and a port from 1 to 65535" }
             Parameter::Mtu => {
                 "a multiple of 32 from 256 to an eighth of the term, at most 65504"
             }

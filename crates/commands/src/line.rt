@@ -50,14 +50,7 @@ pub fn command<
     R: Read + Send + Drop + 'static,
     W: Write,
     E: Write,
->(
-    rt: &C,
-    alloc: Global,
-    words: &'a [&'a str],
-    mut input: R,
-    output: &mut W,
-    errors: &mut E,
-) -> u8
+>(rt: &C, alloc: Global, words: &'a [&'a str], mut input: R, output: &mut W, errors: &mut E) -> u8
     // Refused words end with 2, and help with 0; or with 1, for want of memory or where the help isn't written.
     ensures status { IsStatusOf (faults_of (map (λ s. s.now) words.entry.now)) result }
     // Only such words, and an end's channel and rates, end with 2.

@@ -24,13 +24,7 @@ fn publish_told<
     C: Threads + Wait + Clock + Net + RandomSource + Sync + Send + Copy + 'static,
     R: Read + Send + Drop + 'static,
     E: Write,
->(
-    rt: &C,
-    alloc: Global,
-    options: &PublishOptions<'_>,
-    input: R,
-    errors: &mut E,
-) -> u8
+>(rt: &C, alloc: Global, options: &PublishOptions<'_>, input: R, errors: &mut E) -> u8
     requires { options.now.end.stream < 2 ^ 31 }
     ensures most { result ≤ 3 }
     ensures refused { result ≡ 2 → NoPublishPlan options.now }

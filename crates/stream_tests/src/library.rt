@@ -7,7 +7,8 @@ use block::Block;
 use position::{FrameHead, Geometry};
 use publication::offer;
 use shared_log::{
-    Log, LogError, LogReader, OnLog, Parts, clean_and_limit, learn, next, open, set_closed, set_connected,
+    Log, LogError, LogReader, OnLog, Parts, clean_and_limit, learn, next, open, set_closed,
+    set_connected,
 };
 use std::alloc::Global;
 use std::thread::{Threads, join, yield_now};

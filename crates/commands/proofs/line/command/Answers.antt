@@ -15,14 +15,26 @@ returns-in-Version g c =
       refused = λ two. absurd (omega (arith, c.shown.ensures, two));
     }
 
+pub returns-in-PublishHelp-clause-refused : goal.returns-in-PublishHelp-clause-refused
+returns-in-PublishHelp-clause-refused g c =
+    let words = map (λ s. s.now) c.args.words.now in
+    let behind = texts_behind c.args.words.now c.line_words-line.result.now c.line_words-line.ensures in
+    λ two. refused_by words _ (c.in-PublishHelp.ensures ∙ ap reader_of behind) (c.publish_command.ensures.refused two)
+
+pub returns-in-SubscribeHelp-clause-refused : goal.returns-in-SubscribeHelp-clause-refused
+returns-in-SubscribeHelp-clause-refused g c =
+    let words = map (λ s. s.now) c.args.words.now in
+    let behind = texts_behind c.args.words.now c.line_words-line.result.now c.line_words-line.ensures in
+    λ two. refused_by words _ (c.in-SubscribeHelp.ensures ∙ ap reader_of behind) (c.subscribe_command.ensures.refused two)
+
 pub returns-in-Publish : goal.returns-in-Publish
 returns-in-Publish g c =
     let words = map (λ s. s.now) c.args.words.now in
     let behind = texts_behind c.args.words.now c.line_words-line.result.now c.line_words-line.ensures in
     let is = c.in-Publish.ensures ∙ ap reader_of behind in
     record {
-      status = by_reader words _ c.publish_command.result is (subst (λ (ws : List Text). IsStatusOf (fault_of publish_app ws) c.publish_command.result) behind c.publish_command.ensures.status);
-      refused = λ two. refused_by words _ is (subst (λ (ws : List Text). RefusesPublish ws) behind (c.publish_command.ensures.refused two));
+      status = by_reader words _ c.publish_command-in-Publish.result is (subst (λ (ws : List Text). IsStatusOf (fault_of publish_app ws) c.publish_command-in-Publish.result) behind c.publish_command-in-Publish.ensures.status);
+      refused = λ two. refused_by words _ is (subst (λ (ws : List Text). RefusesPublish ws) behind (c.publish_command-in-Publish.ensures.refused two));
     }
 
 pub returns-in-Subscribe : goal.returns-in-Subscribe
@@ -31,8 +43,8 @@ returns-in-Subscribe g c =
     let behind = texts_behind c.args.words.now c.line_words-line.result.now c.line_words-line.ensures in
     let is = c.in-Subscribe.ensures ∙ ap reader_of behind in
     record {
-      status = by_reader words _ c.subscribe_command.result is (subst (λ (ws : List Text). IsStatusOf (fault_of subscribe_app ws) c.subscribe_command.result) behind c.subscribe_command.ensures.status);
-      refused = λ two. refused_by words _ is (subst (λ (ws : List Text). RefusesSubscribe ws) behind (c.subscribe_command.ensures.refused two));
+      status = by_reader words _ c.subscribe_command-in-Subscribe.result is (subst (λ (ws : List Text). IsStatusOf (fault_of subscribe_app ws) c.subscribe_command-in-Subscribe.result) behind c.subscribe_command-in-Subscribe.ensures.status);
+      refused = λ two. refused_by words _ is (subst (λ (ws : List Text). RefusesSubscribe ws) behind (c.subscribe_command-in-Subscribe.ensures.refused two));
     }
 
 pub returns-in-Driver : goal.returns-in-Driver
