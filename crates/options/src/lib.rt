@@ -7,8 +7,8 @@
 //! The plan of an end is the one of the channel that the text is, of a drawn session and first term where none are
 //! named, and of what was told; its start is a position at which a log may open. Else the fault is the first: of the
 //! channel, the term length, the MTU, the start, the rates (`publish_plan`, by `IsPublishPlanOf` and
-//! `ExplainsNoPublishPlan`; `subscribe_plan`, by `IsSubscribePlanOf` and `ExplainsNoSubscribePlan`). Which ids random
-//! bytes spell isn't said.
+//! `ExplainsNoPublishPlan`; `subscribe_plan`, by `IsSubscribePlanOf` and `ExplainsNoSubscribePlan`). The ids that random
+//! bytes spell are exact (`draw`).
 #![tactic(auto)]
 
 mod ends;
