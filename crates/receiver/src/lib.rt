@@ -6,7 +6,8 @@
 //! its consumers and what their assemblers were given), each datagram and each tick make of it what the definitions
 //! say, and the state then represents that (`ReceiverCore::on_datagram`, `tick`, `read_past`). Memory is asked for
 //! twice, for the list of outcomes and for an image that a SETUP opens; where it was refused, nothing changed, not
-//! even the moment that was seen. What a tick sends are frames that can be written.
+//! even the moment that was seen. A datagram that can't be read is counted by its fault (`ReceiverCore::faults`), and
+//! whatever came, held frames are apart. What a tick sends are frames that can be written.
 //!
 //! A poll reads the frames at the subscriber's position, in order, up to the first message, to a frame that its
 //! assembler refuses, or to the contiguous end (`Subscriber::poll`). A refusal is `A2` exactly where the message
