@@ -1,4 +1,5 @@
 pub mod Fault
+pub mod FaultCounts
 pub mod Frames
 pub mod Fields
 pub mod Fronts

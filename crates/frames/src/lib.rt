@@ -4,7 +4,7 @@
 //! `read_frame` succeeds exactly where the input begins with a frame's spelling, and gives that frame and how many
 //! bytes it takes; its fault is the first in the fixed order. `check_datagram` says the same of a datagram.
 //! `write_frame` writes the one spelling and leaves the rest of the buffer. No length is bounded. `Frame::size` is
-//! what a frame takes, `FrameError` has the faults with their texts.
+//! what a frame takes, `FrameError` has the faults with their texts, `FaultCounts` how often each came.
 //!
 //! Of bytes that are known to begin with a DATA frame or a padding, `front_of` gives which of the two it is, its
 //! flags and its length, and `payload_of` its payload, with no test; of bytes that begin with any frame,
@@ -14,6 +14,7 @@
 
 mod datagram;
 mod fault;
+mod fault_counts;
 mod fields;
 mod frame;
 mod front;
@@ -22,6 +23,7 @@ mod writing;
 
 pub use datagram::{check_datagram, one_reading, one_spelling};
 pub use fault::FrameError;
+pub use fault_counts::FaultCounts;
 pub use frame::{Frame, Header, Nak, Setup, Status};
 pub use front::{Front, front_of, known_frame, payload_of};
 pub use reading::read_frame;

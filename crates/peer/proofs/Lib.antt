@@ -2,3 +2,4 @@ pub mod Screened
 pub mod Alone
 mod Rows
 pub mod Farewells
+pub mod Refused

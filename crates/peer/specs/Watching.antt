@@ -2,7 +2,10 @@
 use Rattle.std.specs.Prelude.{◌≡◌, ℕ, ◌+◌, ◌%◌, ◌^◌, ℤ, Bool, true, false, pos, negsuc, nat_lt, if◌then◌else◌, min, List, [], length, take, Option, None, Some, Result, Ok, Err}
 use Rattle.std.specs.Int.{cast_signed, w32}
 use Rattle.theory.specs.Position.{position_of}
-use Rattle.theory.specs.Wire.{Header, Nak, Wire, DATA, PAD, HEARTBEAT, NAK, SM, SETUP, spelling}
+use Rattle.theory.specs.Wire.{Header, Nak, Wire, DATA, PAD, HEARTBEAT, NAK, SM, SETUP, SpellsDatagram, spelling}
+use Rattle.frames.specs.Datagrams.{IsDatagramFault}
+use Rattle.frames.specs.FaultCounts.{counting, uncounted}
+use Rattle.frames.specs.declared.fault.FrameError.{FrameError}
 use Rattle.frames.specs.Fronts.{FrontSpells}
 use Rattle.endpoint.specs.Calls.{Receives}
 use Rattle.endpoint.specs.Devices.{Device, HasGrown, NeverFall, counted, greatest}
@@ -38,7 +41,7 @@ new_watch sent start = record {
   attendance = nobody start;
   bounds = record { sent_to = start; asked = None };
   held = None;
-  tally = record { datagrams = 0; resends = 0; statuses = 0; naks = 0; disbelieved = 0 };
+  tally = record { datagrams = 0; resends = 0; statuses = 0; naks = 0; disbelieved = 0; refused = uncounted };
   nones = 0;
 }
 
@@ -123,10 +126,19 @@ CountsHanded false old new = HasGrown old new
 abbrev pub found_of : Bool → ℕ → Option ℕ
 found_of handed n = if handed then Some n else None
 
+-- a datagram can't be read, by this fault
+abbrev pub refusing : Watched → FrameError → Watched
+refusing w fault = record w { tally = record w.tally { refused = counting w.tally.refused fault } }
+
+-- one that can't be read is counted by its fault, and no other is
+pub record CountsRefused (old : Watched) (bytes : List ℕ) (new : Watched) : Type 0 where
+  pub fault : (fault : FrameError) → IsDatagramFault bytes fault → new ≡ refusing old fault
+  pub readable : (frames : List Wire) → SpellsDatagram frames bytes → new ≡ old
+
 -- a datagram that is one frame is judged, and any other bytes are handed over as they came
 pub record Screens (old : Watched) (bytes : List ℕ) (found : Option ℕ) (new : Watched) : Type 0 where
   pub frame : (f : Wire) → FrontSpells bytes f (length bytes) → (found ≡ found_of (is_handed (verdict_of old.sent old.bounds f)) (length bytes)) × (new ≡ after_frame old f)
-  pub others : ((f : Wire) → FrontSpells bytes f (length bytes) → ⊥) → (found ≡ Some (length bytes)) × (new ≡ old)
+  pub others : ((f : Wire) → FrontSpells bytes f (length bytes) → ⊥) → (found ≡ Some (length bytes)) × CountsRefused old bytes new
 
 -- by what the inner device answered
 abbrev pub Judges : {D : Type 0} → Watching D → Result (Option ℕ) DeviceFailed → List ℕ → Result (Option ℕ) DeviceFailed → Watching D → Type 0

@@ -6,15 +6,15 @@ ghost use Rattle.endpoint.specs.Calls.{CountsNone};
 ghost use Rattle.endpoint.specs.Devices.{HasGrown};
 ghost use Rattle.frames.specs.Frames.{header_of, nak_of, wire};
 ghost use Rattle.peer.specs.Screening.{is_handed, verdict_of};
-ghost use Rattle.peer.specs.Watching.{CountsHanded, Gives, Screens, after_frame, after_verdict, begins_below, disbelieving, given, header_in, held_after, is_again, is_below, missed, new_watch, plus_one, released, told, told_by, with_none};
+ghost use Rattle.peer.specs.Watching.{CountsHanded, CountsRefused, Gives, Screens, after_frame, after_verdict, begins_below, disbelieving, given, header_in, held_after, is_again, is_below, missed, new_watch, plus_one, refusing, released, told, told_by, with_none};
 
 use crate::attendance::Attendance;
 use crate::attended::Sent;
 use crate::screen::{Bounds, Verdict, asked_bytes, judge};
-use frames::{Frame, Header, Nak, read_frame};
+use frames::{FaultCounts, Frame, FrameError, Header, Nak, check_datagram, read_frame};
 use std::marker::Model;
 
-/// What a publisher's device has counted, each modulo 2^64.
+/// What a publisher's device has counted, each modulo 2^64 but for the last.
 #[derive(Clone, Copy, Debug, PartialEq, Eq)]
 pub struct Tally {
     /// The datagrams that it was given to send.
@@ -27,6 +27,8 @@ pub struct Tally {
     pub naks: u64,
     /// The status messages that it didn't believe.
     pub disbelieved: u64,
+    /// The datagrams that can't be read, by their faults. These counts stay at the greatest `u64`.
+    pub refused: FaultCounts,
 }
 
 /// The stream, what was heard of it, and what the next frame is judged by.
@@ -90,6 +92,7 @@ impl Watch {
                 statuses: 0,
                 naks: 0,
                 disbelieved: 0,
+                refused: FaultCounts::new(),
             },
             nones: 0,
         }
@@ -209,6 +212,25 @@ impl Watch {
         verdict.is_handed()
     }
 
+    /// Counts a datagram that can't be read, by its fault.
+    fn refuse(&mut self, fault: FrameError)
+        ensures refused { self.new ≡ refusing self.old fault }
+        ensures nones { self.new.nones ≡ self.old.nones }
+    {
+        self.tally.refused.count(fault);
+    }
+
+    /// Counts a datagram by its fault, if it can't be read.
+    fn count_refused(&mut self, datagram: &[u8])
+        ensures counts { CountsRefused self.old datagram.now self.new }
+        ensures nones { self.new.nones ≡ self.old.nones }
+    {
+        match check_datagram(datagram) {
+            Ok(_) => {}
+            Err(fault) => self.refuse(fault),
+        }
+    }
+
     /// A datagram came. Its length, where it is handed over.
     pub(crate) fn screen(&mut self, datagram: &[u8]) -> Option<usize>
         ensures screens { Screens self.old datagram.now result self.new }
@@ -217,14 +239,14 @@ impl Watch {
         ensures not_fallen { self.old.nones ≤ self.new.nones }
     {
         match read_frame(datagram) {
-            Ok((frame, size)) => {
-                if size == datagram.len() && !self.hear(&frame) {
+            Ok((frame, size)) if size == datagram.len() => {
+                if !self.hear(&frame) {
                     return None;
                 }
-                Some(datagram.len())
             }
-            Err(_) => Some(datagram.len()),
+            _ => self.count_refused(datagram),
         }
+        Some(datagram.len())
     }
 
     /// What was held back is handed over.

@@ -6,6 +6,8 @@ use Rattle.peer.specs.declared.attendance.Heard.{Heard}
 use Rattle.peer.specs.declared.ending.Ending.{Ending}
 use Rattle.peer.specs.declared.ending.Ending.TheVariants.{Whole, Short}
 use Rattle.endpoint.specs.Texts as devices
+use Rattle.frames.specs.FaultCounts.{counts_text}
+use Rattle.frames.specs.declared.fault_counts.FaultCounts.{FaultCounts}
 use Rattle.messages.specs.Texts as inputs
 use Rattle.publisher.specs.declared.telling.Counts.{Counts}
 use Rattle.publisher.specs.declared.fault.PublishFault.{PublishFault}
@@ -69,7 +71,11 @@ abbrev pub traffic_text : Counts → List ℕ
 traffic_text c = joined (
     codes "datagrams " ∷ decimal c.tally.datagrams ∷ codes " resends " ∷ decimal c.tally.resends
     ∷ codes " naks " ∷ decimal c.tally.naks ∷ codes " lost " ∷ decimal c.lost
-    ∷ codes " disbelieved " ∷ decimal c.tally.disbelieved ∷ [])
+    ∷ codes " disbelieved " ∷ decimal c.tally.disbelieved ∷ codes " refused" ∷ counts_text c.tally.refused.counts ∷ [])
 
 abbrev pub counters_line : Counts → List ℕ
 counters_line c = stream_text c ++ codes " " ++ traffic_text c ++ 10 ∷ []
+
+-- how many datagrams were refused, by their faults
+abbrev pub refused_line : FaultCounts → List ℕ
+refused_line c = codes "refused" ++ counts_text c.counts ++ 10 ∷ []

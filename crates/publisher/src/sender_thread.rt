@@ -55,7 +55,14 @@ fn begin<D>(sender: &mut ChannelSender<'_, D>)
     believe(&mut sender.passes.duty, position);
 }
 
-/// A cycle of the sender, and one of the conductor. Whether anything was done.
+/// Up to where the stream was sent, and how many datagrams were sent again. What else comes and goes is no work: while nothing
+/// is published heartbeats and status messages go on, and the thread rests between them.
+fn work_of<D>(sender: &ChannelSender<'_, D>) -> (u64, u64) {
+    let tally = sender.passes.duty.device().tally();
+    (sender.agent.position(), tally.resends)
+}
+
+/// A cycle of the sender, and one of the conductor. Whether there was work.
 fn run_cycle<R: Wait + Clock, D: Datagrams>(
     context: &PublisherContext<'_, R>,
     sender: &mut ChannelSender<'_, D>,
@@ -67,7 +74,8 @@ fn run_cycle<R: Wait + Clock, D: Datagrams>(
     ensures passes { ArePasses context.now.state.now sender.new.passes }
 {
     let (rt, state) = (context.rt, context.state);
-    let sent = sender.agent.cycle(
+    let before = work_of(sender);
+    sender.agent.cycle(
         rt,
         &state.conductor,
         &mut sender.passes.client,
@@ -81,10 +89,10 @@ fn run_cycle<R: Wait + Clock, D: Datagrams>(
         &state.conductor,
         &mut sender.passes.taker,
     );
-    Ok(sent || kept)
+    Ok(kept || work_of(sender) != before)
 }
 
-/// A cycle, with the device told up to where the stream was sent. Whether anything was done, and what it has shown.
+/// A cycle, with the device told up to where the stream was sent. Whether there was work, and what it has shown.
 fn cycle<R: Wait + Clock, D: Datagrams>(
     context: &PublisherContext<'_, R>,
     sender: &mut ChannelSender<'_, D>,

@@ -1,10 +1,12 @@
 //! What a publisher tells on its error output, a line each. An error is the output's.
 
-ghost use Rattle.std.specs.Prelude.{OnOk, Some};
+ghost use Rattle.std.specs.Prelude.{◌≡◌, ◌≢◌, OnOk, Some};
 ghost use Rattle.std.specs.Io.KnownBytes.{Appends};
-ghost use Rattle.publisher.specs.Texts.{alone_line, change_text, counters_line, empty_line, ending_text, fault_line, joined_text, left_text, short_text, stream_text, traffic_text};
+ghost use Rattle.frames.specs.FaultCounts.{uncounted};
+ghost use Rattle.publisher.specs.Texts.{alone_line, change_text, counters_line, empty_line, ending_text, fault_line, joined_text, left_text, refused_line, short_text, stream_text, traffic_text};
 
 use crate::fault::PublishFault;
+use frames::FaultCounts;
 use peer::{Attendance, Ending, Heard, Tally};
 use std::io::Write;
 use std::{fmt, io};
@@ -81,10 +83,10 @@ impl fmt::Display for Traffic {
     fn fmt<W: fmt::Write>(&self, f: &mut fmt::Formatter<W>) -> fmt::Result {
         let (tally, lost) = (self.0.tally, self.0.lost);
         let (datagrams, resends) = (tally.datagrams, tally.resends);
-        let (naks, disbelieved) = (tally.naks, tally.disbelieved);
+        let (naks, disbelieved, refused) = (tally.naks, tally.disbelieved, tally.refused);
         write!(
             f,
-            "datagrams {datagrams} resends {resends} naks {naks} lost {lost} disbelieved {disbelieved}"
+            "datagrams {datagrams} resends {resends} naks {naks} lost {lost} disbelieved {disbelieved} refused{refused}"
         )
     }
 }
@@ -162,4 +164,15 @@ pub(crate) fn tell_counters<E: Write>(errors: &mut E, counts: Counts) -> io::Res
 {
     let (stream, traffic) = (Stream(counts), Traffic(counts));
     writeln!(errors, "{stream} {traffic}")
+}
+
+/// How many datagrams were refused, by their faults, where any was.
+pub(crate) fn tell_refused<E: Write>(errors: &mut E, refused: FaultCounts) -> io::Result<()>
+    ensures told { refused ≢ uncounted → OnOk result (Appends (E.contents errors.old) (E.contents errors.new) (refused_line refused)) }
+    ensures quiet { refused ≡ uncounted → OnOk result (E.contents errors.new ≡ E.contents errors.old) }
+{
+    if refused.is_none() {
+        return Ok(());
+    }
+    writeln!(errors, "refused{refused}")
 }

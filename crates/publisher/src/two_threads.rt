@@ -18,6 +18,7 @@ use crate::publisher_state::PublisherState;
 use crate::reader_thread::read_input;
 use crate::reading::Reading;
 use crate::sender_thread::{ChannelSender, send_all};
+use crate::telling::tell_refused;
 use agents::Duty;
 use endpoint::{Datagrams, DeviceError};
 use options::PublishPlan;
@@ -132,6 +133,7 @@ pub(crate) fn run<R: Wait + Clock, D: Datagrams + Drop, E: Write>(
 {
     let sent = send_all(context, &mut sender, errors);
     context.state.stop();
+    let _ = tell_refused(errors, sender.passes.duty.device().tally().refused);
     let ending = ended(&context.state.reading(), sent)?;
     let greatest = context.plan.geometry.max_position();
     let tail = context.state.tail().min(greatest);

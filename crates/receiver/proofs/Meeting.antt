@@ -20,7 +20,8 @@ use Rattle.receiver.specs.declared.receiver_core.Outcome.{Outcome}
 use Rattle.receiver.specs.declared.receiver_core.Outcome.TheVariants as outcomes
 use Rattle.frames.specs.Datagrams.{IsDatagramFault}
 use Rattle.frames.specs.declared.fault.FrameError.{FrameError}
-use Rattle.receiver.specs.Receiving.{counted_at, place_of, IsOurs, TakesDatagram, WouldOpen, Meets, MeetsAll, MeetsFrame, MeetsHeartbeat, MeetsSetup, Opened, Receiver, asking, at_moment, given_at, is_due, missing, replied, replies, scanned_at, telling, ticked, told_after}
+use Rattle.frames.specs.FaultCounts.{counted_at, place_of}
+use Rattle.receiver.specs.Receiving.{IsOurs, TakesDatagram, WouldOpen, Meets, MeetsAll, MeetsFrame, MeetsHeartbeat, MeetsSetup, Opened, Receiver, asking, at_moment, given_at, is_due, missing, replied, replies, scanned_at, telling, ticked, told_after}
 use Rattle.receiver.specs.declared.receiver_core.Replies.{Replies}
 use Rattle.receiver.specs.Representing.{Becomes, Core, HasNoFrame, HearsBeat, Inserts, IsAtEnd, PassesFrame, ReadsPast, Represents, RepresentsImage, RepresentsOpened, beaten_at, with_reader}
 use Rattle.receiver.proofs.ShownSteps.{least_shown, opened_shown}

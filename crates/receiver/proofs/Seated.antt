@@ -8,7 +8,8 @@ use Rattle.theory.specs.Image.{after_heartbeat, image_at}
 use Rattle.theory.specs.Wire.{Header, Setup, Wire, DATA, PAD, HEARTBEAT, NAK, SM, SETUP}
 use Rattle.assembler.specs.Assembling.{Assembling}
 use Rattle.receiver.specs.declared.receiver_core.Outcome.{Outcome}
-use Rattle.receiver.specs.Receiving.{counted_at, place_of, TakesDatagram, IfOurs, Meets, MeetsAll, MeetsFrame, MeetsHeartbeat, MeetsSetup, Opened, Receiver, answer_at, at_moment, given_at}
+use Rattle.frames.specs.FaultCounts.{counted_at, place_of}
+use Rattle.receiver.specs.Receiving.{TakesDatagram, IfOurs, Meets, MeetsAll, MeetsFrame, MeetsHeartbeat, MeetsSetup, Opened, Receiver, answer_at, at_moment, given_at}
 use Rattle.receiver.specs.Representing as core
 use Rattle.receiver.specs.Representing.{Represents, beaten_at}
 use Rattle.receiver.specs.Subscribing.{AssemblesFor, SubscriberBecomes, Subscribing}

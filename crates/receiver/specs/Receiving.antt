@@ -2,7 +2,7 @@
 -- A receiver's image opens at the position of a SETUP, and a later SETUP changes nothing. The last frame that met no
 -- image is remembered until the next tick, which asks for a SETUP. Frames of another session or stream, NAKs and
 -- status messages pass it by. Of what an image answers only `Stored` changes it.
-use Rattle.std.specs.Prelude.{⊤, ◌≡◌, ◌⊎◌, ℕ, ◌+◌, slice_index, slice_set, ◌-◌, ◌^◌, min, ℤ, pos, negsuc, Bool, List, [], ◌∷◌, ◌++◌, map, Option, None, Some, if◌then◌else◌}
+use Rattle.std.specs.Prelude.{⊤, ◌≡◌, ◌⊎◌, ℕ, ◌+◌, ℤ, pos, negsuc, Bool, List, [], ◌∷◌, ◌++◌, map, Option, None, Some, if◌then◌else◌}
 use Rattle.std.specs.Option.{option_to_list}
 use Rattle.theory.specs.Position.{Geometry}
 use Rattle.theory.specs.Wire.{Wire, Header, Setup, DATA, PAD, HEARTBEAT, NAK, SM, SETUP, SpellsDatagram}
@@ -16,13 +16,13 @@ use Rattle.theory.specs.Control.{asking_at, nak_at, named_by, status_at}
 use Rattle.theory.specs.Setup.{HasSetupFault, OpensAt}
 use Rattle.theory.specs.Timing.{LastStatus, Scanned, Watch, is_status_due, scan, seen}
 use Rattle.frames.specs.Datagrams.{IsDatagramFault}
+use Rattle.frames.specs.FaultCounts.{counted_at, none_refused, place_of}
 use Rattle.frames.specs.Frames.{nak_of, status_of}
 use Rattle.image.specs.Stored.{meant}
 use Rattle.image.specs.declared.answer.Insert.{Insert}
 use Rattle.setup.specs.Faults.{fault_of}
 use Rattle.setup.specs.declared.fault.SetupError.{SetupError}
 use Rattle.frames.specs.declared.fault.FrameError.{FrameError}
-use Rattle.frames.specs.declared.fault.FrameError.TheVariants.{Short, Version, Kind, Length, Flags, Alignment, Range, Datagram}
 use Rattle.receiver.specs.declared.receiver_core.Outcome.{Outcome}
 use Rattle.receiver.specs.declared.receiver_core.Outcome.TheVariants as outcomes
 use Rattle.receiver.specs.declared.receiver_core.Replies.{Replies}
@@ -52,10 +52,6 @@ pub record Receiver : Type 0 where
   pub clock : ℕ
   -- how many datagrams it has refused, by their fault, `F1` to `F8`
   pub faults : List ℕ
-
--- no datagram was refused
-abbrev pub none_refused : List ℕ
-none_refused = 0 ∷ 0 ∷ 0 ∷ 0 ∷ 0 ∷ 0 ∷ 0 ∷ 0 ∷ []
 
 -- it has met nothing yet
 abbrev pub listening : ℤ → ℤ → ℕ → ℤ → ℕ → ℕ → Receiver
@@ -141,21 +137,6 @@ MeetsAll r (w ∷ ws) outs s = (out : Outcome) × (mid : Receiver) × (rest : Li
 -- a datagram that can be read: each of its frames
 abbrev pub MeetsDatagram : Receiver → List ℕ → List Outcome → Receiver → Type 0
 MeetsDatagram r bytes outs s = (frames : List Wire) × SpellsDatagram frames bytes × MeetsAll r frames outs s
-
--- the place of a fault among the eight
-abbrev pub place_of : FrameError → ℕ
-place_of Short = 0
-place_of Version = 1
-place_of Kind = 2
-place_of Length = 3
-place_of Flags = 4
-place_of Alignment = 5
-place_of Range = 6
-place_of Datagram = 7
-
--- one more at a place; at the greatest of 64 bits it stays
-abbrev pub counted_at : ℕ → List ℕ → List ℕ
-counted_at place faults = slice_set faults place (min (slice_index faults place + 1) (2 ^ 64 - 1))
 
 -- one that can't: its first fault, which is counted in its place
 abbrev pub RefusesDatagram : Receiver → List ℕ → List Outcome → Receiver → Type 0

@@ -10,16 +10,16 @@ ghost use Rattle.theory.specs.Control.{asking_at};
 ghost use Rattle.theory.specs.Position.{max_position};
 ghost use Rattle.theory.specs.Timing as timing;
 ghost use Rattle.theory.specs.Wire.{IsFrame, IsHeader, NAK, SM, SpellsDatagram, Wire};
+ghost use Rattle.frames.specs.FaultCounts.{counted_at, place_of};
 ghost use Rattle.frames.specs.Frames.{header_of, nak_of, setup_of, status_of, wire};
 ghost use Rattle.image.specs.Seen.{IsCount};
 ghost use Rattle.image.specs.Stored.{IsOfStream, stream_frame};
-ghost use Rattle.receiver.specs.Receiving.{counted_at, place_of};
 ghost use Rattle.receiver.specs.Representing.{last_status_of};
 ghost use Rattle.receiver.specs.Texts.{outcome_text};
 
 use crate::opened::{find_gap, hear, insert, open, read_past};
 use block::Block;
-use frames::{Frame, FrameError, Header, Nak, Setup, Status, check_datagram, known_frame};
+use frames::{FaultCounts, Frame, FrameError, Header, Nak, Setup, Status, check_datagram, known_frame};
 use image::{Image, Insert, LossDetector};
 use position::{FrameHead, Gap, Geometry};
 use setup::{SetupError, judge};
@@ -101,7 +101,7 @@ pub struct ReceiverCore {
     /// The greatest moment that it has seen.
     clock: u64,
     /// How many datagrams it has refused, by their fault.
-    faults: [u64; 8],
+    faults: FaultCounts,
 }
 
 impl Model for ReceiverCore {
@@ -111,9 +111,9 @@ impl Model for ReceiverCore {
 
     ghost Value = { Core };
 
-    ghost view = { λ c. record { session = c.session; stream = c.stream; window = c.window; id = c.receiver; consumers = c.consumers; image = c.image; unmet = option_map header_of c.unmet; told = option_map last_status_of c.told; watch = c.detector; clock = c.clock; faults = c.faults } };
+    ghost view = { λ c. record { session = c.session; stream = c.stream; window = c.window; id = c.receiver; consumers = c.consumers; image = c.image; unmet = option_map header_of c.unmet; told = option_map last_status_of c.told; watch = c.detector; clock = c.clock; faults = c.faults.counts } };
 
-    ghost invariant = { λ c. IsCore (record { session = c.session; stream = c.stream; window = c.window; id = c.receiver; consumers = c.consumers; image = c.image; unmet = option_map header_of c.unmet; told = option_map last_status_of c.told; watch = c.detector; clock = c.clock; faults = c.faults }) };
+    ghost invariant = { λ c. IsCore (record { session = c.session; stream = c.stream; window = c.window; id = c.receiver; consumers = c.consumers; image = c.image; unmet = option_map header_of c.unmet; told = option_map last_status_of c.told; watch = c.detector; clock = c.clock; faults = c.faults.counts }) };
 }
 
 impl ReceiverCore {
@@ -146,7 +146,7 @@ impl ReceiverCore {
             told: None,
             detector: LossDetector::new(),
             clock: 0,
-            faults: [0; 8],
+            faults: FaultCounts::new(),
         }
     }
 
@@ -230,6 +230,13 @@ impl ReceiverCore {
     pub fn faults(&self) -> [u64; 8]
         ensures { result ≡ self.now.faults }
     {
+        self.faults.counts
+    }
+
+    /// The same, as they are counted.
+    pub(crate) fn refused(&self) -> FaultCounts
+        ensures { result.counts ≡ self.now.faults }
+    {
         self.faults
     }
 
@@ -237,8 +244,7 @@ impl ReceiverCore {
     fn count(&mut self, error: FrameError)
         ensures { self.new ≡ record self.old { faults = counted_at (place_of error) self.old.faults } }
     {
-        let place = place_of(error);
-        self.faults[place] = self.faults[place].saturating_add(1);
+        self.faults.count(error);
     }
 
     /// Takes the frames of a datagram at a moment, which isn't seen where an error comes.
@@ -494,23 +500,6 @@ fn refused(alloc: Global, error: FrameError) -> Result<Vec<Outcome>, AllocError>
     let mut outcomes = Vec::new(alloc);
     outcomes.push(Outcome::Refused(error))?;
     Ok(outcomes)
-}
-
-/// Where a fault is counted.
-fn place_of(error: FrameError) -> usize
-    ensures place { result ≡ place_of error }
-    ensures few { result < 8 }
-{
-    match error {
-        FrameError::Short => 0,
-        FrameError::Version => 1,
-        FrameError::Kind => 2,
-        FrameError::Length => 3,
-        FrameError::Flags => 4,
-        FrameError::Alignment => 5,
-        FrameError::Range => 6,
-        FrameError::Datagram => 7,
-    }
 }
 
 /// The message that asks for a SETUP, with the place of the frame that met no image.

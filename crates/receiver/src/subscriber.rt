@@ -15,6 +15,7 @@ use crate::positions::Positions;
 use crate::receiver_core::{Outcome, ReceiverCore, Replies};
 use assembler::{Assembler, AssemblyError, Message};
 use block::Block;
+use frames::FaultCounts;
 use position::{FrameHead, FrameKind};
 use std::alloc::{AllocError, Global};
 use std::marker::Model;
@@ -103,6 +104,13 @@ impl Subscriber {
         ensures assembler { self.new.assembler ≡ self.old.assembler }
     {
         self.core.on_datagram(bytes, now)
+    }
+
+    /// How many datagrams it has refused, by their faults.
+    pub fn refused(&self) -> FaultCounts
+        ensures { (r : Receiver) → RepresentsSubscriber self.now r → result.counts ≡ r.faults }
+    {
+        self.core.refused()
     }
 
     /// Takes a moment, and gives what goes out then.

@@ -15,7 +15,8 @@ use Rattle.script_meaning.specs.Answers.{AreFrames, Delivered, IsMissing, PollsB
 use Rattle.sender.specs.Cycling.{alone, datagrams}
 use Rattle.script_meaning.specs.LineContents.{LineContent, OfReceiver, poll_line as poll_content}
 use Rattle.script_meaning.specs.Published.{AllWhole, AreHonestFrames, IsHonestLine, Played, is_fault, joined_by, joins, joins_in, joins_of, messages_in, polled, polled_by, read_by}
-use Rattle.receiver.specs.Receiving.{counted_at, place_of, TakesDatagram, MeetsAll, Receiver, at_moment, replies, ticked}
+use Rattle.frames.specs.FaultCounts.{counted_at, place_of}
+use Rattle.receiver.specs.Receiving.{TakesDatagram, MeetsAll, Receiver, at_moment, replies, ticked}
 use Rattle.script_meaning.specs.ScriptState.{ScriptState, entries_of, image_of, lone, opened_state, world_of}
 use Rattle.script_meaning.proofs.Honest.{AreEntering, AreGivenOut, AreHonest, IsHonest, all_entering, alone_given, frames_given_out, honest_given, printed_entering, replies_given}
 use Rattle.script_meaning.proofs.Lone.{lone_other, lone_put}

@@ -5,7 +5,7 @@ use Rattle.frames.specs.Frames.{setup_of}
 use Rattle.frames.specs.declared.frame.Setup.{Setup}
 use Rattle.options.specs.declared.ends.plans.SubscribePlan.{SubscribePlan}
 use Rattle.subscriber.specs.Calls.{IsCall, IsCallWith, IsFrameCall}
-use Rattle.subscriber.specs.Meetings.{Opens}
+use Rattle.subscription.specs.Meetings.{Opens}
 use Rattle.subscriber.specs.declared.listening.Call.TheVariants as calls
 use Rattle.subscriber.specs.declared.meeting.Meeting.{Meeting}
 

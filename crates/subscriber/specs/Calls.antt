@@ -7,8 +7,8 @@ use Rattle.loss_injector.specs.Losing.{begun}
 use Rattle.options.specs.declared.ends.plans.SubscribePlan.{SubscribePlan}
 use Rattle.peer.specs.Patience.{patient}
 use Rattle.peer.specs.Ties.{Came, tied_to}
-use Rattle.subscriber.specs.Hearings.{following}
-use Rattle.subscriber.specs.Meetings.{HasMet, Opens, OpensNothing, TakesSession, TellsIds, TellsSetup}
+use Rattle.subscription.specs.Hearings.{following}
+use Rattle.subscription.specs.Meetings.{HasMet, Opens, OpensNothing, TakesSession, TellsIds, TellsSetup}
 use Rattle.subscriber.specs.Turning.{IsMeeting}
 use Rattle.subscriber.specs.Watches.{Seen, hearing, with_stranger}
 use Rattle.subscriber.specs.declared.joined.Joined.{Joined}

@@ -2,9 +2,7 @@ pub mod Deliveries
 pub mod DeliveryTexts
 pub mod Texts
 pub mod Watches
-pub mod Windows
-pub mod Meetings
-pub mod Hearings
+pub mod Places
 pub mod Offers
 pub mod Turning
 pub mod Calls

@@ -6,8 +6,8 @@ use Rattle.frames.specs.declared.frame.Setup.{Setup}
 use Rattle.loss_injector.specs.Losing.{Losing}
 use Rattle.peer.specs.Patience.{Patient}
 use Rattle.peer.specs.Ties.{Came, Tied}
-use Rattle.subscriber.specs.Hearings.{Following}
-use Rattle.subscriber.specs.Meetings.{TellsSetup}
+use Rattle.subscription.specs.Hearings.{Following}
+use Rattle.subscription.specs.Meetings.{TellsSetup}
 
 -- a subscriber's device
 abbrev pub SubscriberDevice : Type 0

@@ -9,12 +9,13 @@ use Rattle.frames.specs.declared.frame.Setup.{Setup}
 use Rattle.options.specs.declared.ends.plans.SubscribePlan.{SubscribePlan}
 use Rattle.receiver.specs.Receiving.{Receiver}
 use Rattle.receiver.specs.Subscribing.{RepresentsSubscriber, Subscribing}
-use Rattle.subscriber.specs.Hearings.{turned_to}
-use Rattle.subscriber.specs.Meetings.{HasMet, IsRebuiltTo, Opens, OpensNothing}
+use Rattle.subscription.specs.Hearings.{turned_to}
+use Rattle.subscriber.specs.Places.{IsRebuiltTo}
+use Rattle.subscription.specs.Meetings.{HasMet, Opens, OpensNothing}
 use Rattle.subscriber.specs.Offers.{IsOffered, Offer, SubscriberDevice, setup_taken, tied_anew}
 use Rattle.subscriber.specs.Watches.{IsSilent, Seen, hearing}
 use Rattle.subscriber.specs.declared.joined.Joined.{Joined}
-use Rattle.subscriber.specs.declared.opening.Opening.{Opening}
+use Rattle.subscription.specs.declared.opening.Opening.{Opening}
 use Rattle.subscriber.specs.declared.meeting.Meeting.{Meeting}
 
 -- the subscriber's image is rebuilt up to here

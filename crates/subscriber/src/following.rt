@@ -1,6 +1,6 @@
 //! A subscriber with an image.
 
-ghost use Rattle.std.specs.Prelude.{◌≡◌, ◌≢◌, ◌≤◌, ◌↔◌, ℕ, IfErr, IfOk, IsTrue, OnOk, Some};
+ghost use Rattle.std.specs.Prelude.{◌≡◌, ◌≢◌, ◌≤◌, ◌↔◌, ◌+◌, ◌-◌, ◌^◌, min, ℕ, IfErr, IfOk, IsTrue, OnOk, Some};
 ghost use Rattle.endpoint.specs.declared.device_error.DeviceError.TheVariants.{Device};
 ghost use Rattle.subscriber.specs.Leavings.{HasAll, IsDone, IsEnding, IsQuietEnding, NotesHeard, NotesWork, StandsHere};
 ghost use Rattle.subscriber.specs.Watches.{IsBroken, IsSilent};
@@ -36,7 +36,8 @@ fn note_heard(joined: &Joined, watch: &mut Watch, before: u64)
 }
 
 /// A cycle: messages are written, at most so many as are still wanted, and then the device is heard and answered. The answer
-/// is how many were written in all, and whether there was anything to do.
+/// is how many were written in all, and whether there was work: messages to write, or an image that got further. Heartbeats
+/// and answers to them are none, so that the thread rests between them.
 fn cycle_once<W: Write>(
     plan: &SubscribePlan,
     joined: &mut Joined,
@@ -53,6 +54,7 @@ fn cycle_once<W: Write>(
     ensures writes { IfOk result (λ r. (r.0 ≤ plan.now.messages) × Writes plan.now.end.form written (W.contents output.old) r.0 (W.contents output.new)) }
 {
     let before = joined.duty.device().notes().frames;
+    let stood = joined.subscriber.positions();
     let most = (plan.messages - written).min(CYCLE_MESSAGES as u64) as usize;
     let done = cycle(
         plan.end.form,
@@ -64,7 +66,8 @@ fn cycle_once<W: Write>(
     )?;
     note_heard(joined, watch, before);
     let all = written + done.messages as u64;
-    Ok((all, done.messages > 0 || done.busy))
+    let worked = done.messages > 0 || joined.subscriber.positions() != stood;
+    Ok((all, worked))
 }
 
 /// Notes whether a call of the socket worked in a cycle, before which so many had. The fault comes where none has for 5
@@ -144,6 +147,14 @@ fn tell_silence<E: Write>(joined: &mut Joined, errors: &mut E, watch: &Watch)
     }
 }
 
+/// How many datagrams of strangers there were in all.
+pub(crate) fn strangers(joined: &Joined, watch: &Watch) -> u64
+    ensures { result ≡ min (watch.now.strangers + joined.now.duty.device.inner.inner.inner.strangers) (2 ^ 64 - 1) }
+{
+    let strangers = tied_of(joined.duty.device()).strangers();
+    watch.strangers().saturating_add(strangers)
+}
+
 /// Tells the counters, once a second.
 fn tell<E: Write>(
     plan: &SubscribePlan,
@@ -159,13 +170,13 @@ fn tell<E: Write>(
     };
     let device = joined.duty.device();
     let lost = device.inner().inner().lost();
-    let strangers = tied_of(device).strangers();
     let counts = Counts {
         messages: written,
         since,
         naks: device.naks(),
         lost: watch.lost().saturating_add(lost),
-        strangers: watch.strangers().saturating_add(strangers),
+        strangers: strangers(joined, watch),
+        refused: joined.subscriber.refused(),
     };
     if let Some(positions) = joined.subscriber.positions() {
         tell_counters(errors, joined.opening.session, &positions, &counts);

@@ -4,18 +4,16 @@ ghost use Rattle.std.specs.Prelude.{◌≡◌, ◌↔◌, IsTrue, None, option_m
 ghost use Rattle.frames.specs.Frames.{setup_of};
 ghost use Rattle.receiver.specs.Receiving.{Receiver};
 ghost use Rattle.receiver.specs.Subscribing.{RepresentsSubscriber};
-ghost use Rattle.subscriber.specs.Meetings.{IsRebuiltTo, StandsAt};
+ghost use Rattle.subscriber.specs.Places.{IsRebuiltTo, StandsAt};
 ghost use Rattle.subscriber.specs.Offers.{IsIn, IsOffered, setup_taken, tied_anew};
 
-use crate::followed::Followed;
-use crate::invitation::setup_in;
-use crate::opening::Opening;
 use agents::Duty;
 use frames::Setup;
 use loss_injector::Lossy;
 use peer::{PatientDevice, TiedDevice};
 use receiver::Subscriber;
 use std::net::SocketAddr;
+use subscription::{Followed, Opening, setup_in};
 
 /// The device of a subscriber with an image.
 pub type SubscriberDevice = Followed<Lossy<PatientDevice<TiedDevice>>>;

@@ -2,11 +2,8 @@
 //! soon as it is polled, and only then hears and answers, so that a status message never tells of a message that
 //! isn't written.
 //!
-//! What a datagram is to it without an image, and which SETUP opens one for its plan, is exact (`call_of`,
-//! `opening_of`; a farewell of an ended stream opens none). The image with a number, from 0, has the plan's receiver
-//! id and that number for its id, and a window that the socket's buffer is sure to hold (`opened`, `window_of`, which
-//! is a window that the rules allow). Which datagrams of its peer are heard of the session, and the greatest end that
-//! farewells told, is exact (`Followed`). When it is silent, quiet or broken is exact (`Watch`).
+//! What a datagram is to it without an image is exact (`call_of`); which SETUP opens which image, and what is heard of
+//! one, `subscription` says. When it is silent, quiet or broken is exact (`Watch`).
 //!
 //! While the session isn't silent no SETUP changes anything; of a silent one a SETUP of its own ties the device to
 //! who sent it and changes nothing else, and another one that would open an image opens it, with the next number, in
@@ -28,18 +25,14 @@
 mod delivery;
 mod ended;
 mod fault;
-mod followed;
 mod following;
-mod invitation;
 mod joined;
 mod listening;
 mod meeting;
-mod opening;
 mod subscribing;
 mod telling;
 mod turning;
 mod watch;
-mod window;
 
 pub use delivery::Delivered;
 pub use ended::{Ending, Subscribed};

@@ -3,27 +3,28 @@
 ghost use Rattle.std.specs.Prelude.{◌≡◌, None, IfNone, IfOk, IfSome};
 ghost use Rattle.frames.specs.Frames.{setup_of};
 ghost use Rattle.subscriber.specs.Calls.{Heeds, IsCall, IsCallWith, IsJoined, IsJoinedBy};
-ghost use Rattle.subscriber.specs.Meetings.{Opens};
+ghost use Rattle.subscription.specs.Meetings.{Opens};
 ghost use Rattle.subscriber.specs.Watches.{IsQuiet, after_call};
 
 use crate::fault::SubscribeFault;
-use crate::followed::Followed;
-use crate::invitation::{asking, ids_in, opened, setup_in, takes_session};
 use crate::joined::Joined;
 use crate::meeting::{Meeting, meeting_of};
 use crate::telling::{Counts, tell_waiting};
 use crate::watch::Watch;
 use agents::{Duty, IdleStrategy, Party, REPLY};
 use endpoint::{DeviceError, DeviceFailed};
+use frames::FaultCounts;
 use loss_injector::Lossy;
 use options::SubscribePlan;
 use outbox::Outbox;
 use peer::{Listener, PatientDevice, TiedDevice};
+use receiver::{ReceiverCore, Subscriber};
 use std::alloc::{AllocError, Global};
 use std::io::Write;
 use std::net::SocketAddr;
 use std::sync::Wait;
 use std::time::Clock;
+use subscription::{Followed, GREATEST_MESSAGE, id_of, ids_in, opened, setup_in, takes_session};
 
 /// What a datagram is to a subscriber without an image.
 #[derive(Clone, Copy)]
@@ -69,6 +70,20 @@ fn note_call(answer: Result<(), DeviceFailed>, watch: &mut Watch)
         Ok(()) => watch.work(),
         Err(_) => watch.lose(),
     }
+}
+
+/// A receiver without an image that has met a datagram of a session's stream, and will ask for a SETUP.
+fn asking(
+    alloc: Global,
+    plan: &SubscribePlan,
+    session: i32,
+    datagram: &[u8],
+    now: u64,
+) -> Result<Subscriber, AllocError> {
+    let core = ReceiverCore::new(alloc, session, plan.end.stream, 0, id_of(plan, 0), 1);
+    let mut subscriber = Subscriber::new(alloc, core, GREATEST_MESSAGE)?;
+    subscriber.on_datagram(datagram, now)?;
+    Ok(subscriber)
 }
 
 /// Asks the one who sent what came for a SETUP of a session.
@@ -170,6 +185,7 @@ fn tell<E: Write>(plan: &SubscribePlan, errors: &mut E, watch: &mut Watch)
         naks: 0,
         lost: watch.lost(),
         strangers: watch.strangers(),
+        refused: FaultCounts::new(),
     };
     tell_waiting(errors, &counts);
 }

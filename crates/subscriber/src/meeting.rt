@@ -2,14 +2,13 @@
 
 ghost use Rattle.std.specs.Prelude.{IfNone, IfSome};
 ghost use Rattle.frames.specs.Frames.{setup_of};
-ghost use Rattle.subscriber.specs.Meetings.{OpensNothing};
+ghost use Rattle.subscription.specs.Meetings.{OpensNothing};
 ghost use Rattle.subscriber.specs.Turning.{IsMeeting};
 
-use crate::invitation::opening_of;
-use crate::opening::Opening;
 use frames::Setup;
 use options::SubscribePlan;
 use std::net::SocketAddr;
+use subscription::{Opening, opening_of};
 
 /// A SETUP, who sent it, and the image that it would open.
 #[derive(Clone, Copy)]

@@ -8,12 +8,13 @@ ghost use Rattle.subscriber.specs.declared.ended.Ending.TheVariants.{Short};
 
 use crate::ended::Subscribed;
 use crate::fault::SubscribeFault;
-use crate::following::{follow, leave, quiet_ending};
+use crate::following::{follow, leave, quiet_ending, strangers};
 use crate::joined::Joined;
 use crate::listening::listen;
-use crate::telling::tell_joined;
+use crate::telling::{tell_joined, tell_refused};
 use crate::watch::Watch;
 use endpoint::DeviceError;
+use frames::FaultCounts;
 use options::SubscribePlan;
 use peer::{BindError, Listener};
 use std::alloc::Global;
@@ -58,7 +59,9 @@ fn follow_all<R: Wait + Clock, W: Write, E: Write>(
     ensures writes { IfOk result (λ s. Writes plan.now.end.form 0 (W.contents output.old) s.messages (W.contents output.new)) }
 {
     tell_joined(errors, joined.opening.session, joined.place());
-    let (messages, ending) = follow(rt, alloc, plan, joined, output, errors, watch)?;
+    let followed = follow(rt, alloc, plan, joined, output, errors, watch);
+    tell_refused(errors, joined.subscriber.refused(), strangers(joined, watch));
+    let (messages, ending) = followed?;
     leave(rt, joined, watch);
     Ok(Subscribed { messages, ending })
 }
@@ -74,7 +77,7 @@ fn follow_all<R: Wait + Clock, W: Write, E: Write>(
 /// Its socket is bound once. An image is kept while its session is silent. After 10 seconds of silence another SETUP that the
 /// plan takes closes it, and opens a new one under a receiver id of its own: the plan's and the image's number, from 0. What is
 /// joined, silent, heard again and closed, another sender of a session that isn't silent, and the counters are lines of
-/// `errors`.
+/// `errors`, and at the end what was refused, where anything was.
 ///
 /// The fault is `Taken` where another socket has the port, `Output` where the output failed, `Message` where a message was
 /// refused, and `Failed`: `Device` where the socket can't be bound, all its calls failed for 5 seconds, or the clock can't be
@@ -98,10 +101,13 @@ pub fn subscribe<R: Wait + Clock + Net, W: Write, E: Write>(
     let mut watch = Watch::new(began);
     let listener = bind(rt, alloc, plan.end.port)?;
     match listen(rt, alloc, plan, listener, errors, &mut watch)? {
-        None => Ok(Subscribed {
-            messages: 0,
-            ending: quiet_ending(plan),
-        }),
+        None => {
+            tell_refused(errors, FaultCounts::new(), watch.strangers());
+            Ok(Subscribed {
+                messages: 0,
+                ending: quiet_ending(plan),
+            })
+        }
         Some(mut joined) => follow_all(rt, alloc, plan, &mut joined, output, errors, &mut watch),
     }
 }

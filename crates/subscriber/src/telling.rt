@@ -1,5 +1,6 @@
 //! What a subscriber tells on its error output, a line each.
 
+use frames::FaultCounts;
 use receiver::Positions;
 use std::io::Write;
 use std::net::SocketAddr;
@@ -22,9 +23,12 @@ pub fn tell_again<E: Write>(errors: &mut E, session: i32, position: u64) {
     let _ = writeln!(errors, "session {session} goes on at position {position}");
 }
 
-/// The image was closed, since another one is opened.
-pub fn tell_closed<E: Write>(errors: &mut E, session: i32, position: u64) {
-    let _ = writeln!(errors, "closed: session {session} at position {position}");
+/// The image was closed, since another one is opened; its receiver has refused so many datagrams.
+pub fn tell_closed<E: Write>(errors: &mut E, session: i32, position: u64, refused: FaultCounts) {
+    let _ = writeln!(
+        errors,
+        "closed: session {session} at position {position}, refused{refused}"
+    );
 }
 
 /// A SETUP of the session came from another than the peer.
@@ -48,6 +52,8 @@ pub struct Counts {
     pub lost: u64,
     /// How many datagrams of strangers came.
     pub strangers: u64,
+    /// How many datagrams the image's receiver refused, by their faults.
+    pub refused: FaultCounts,
 }
 
 /// Where a subscriber without an image stands.
@@ -77,7 +83,7 @@ pub fn tell_waiting<E: Write>(errors: &mut E, counts: &Counts) {
 fn tell_counts<E: Write>(errors: &mut E, positions: &Positions, counts: &Counts) {
     let _ = writeln!(
         errors,
-        "messages {} this-second {} least {} rebuilt {} high-water {} naks {} lost {} strangers {}",
+        "messages {} this-second {} least {} rebuilt {} high-water {} naks {} lost {} strangers {} refused{}",
         counts.messages,
         counts.since,
         positions.least,
@@ -85,6 +91,15 @@ fn tell_counts<E: Write>(errors: &mut E, positions: &Positions, counts: &Counts)
         positions.high_water,
         counts.naks,
         counts.lost,
-        counts.strangers
+        counts.strangers,
+        counts.refused
     );
+}
+
+/// What an image's receiver has refused, and how many datagrams came from strangers, where there was any of these.
+pub fn tell_refused<E: Write>(errors: &mut E, refused: FaultCounts, strangers: u64) {
+    if refused.is_none() && strangers == 0 {
+        return;
+    }
+    let _ = writeln!(errors, "refused{refused} strangers {strangers}");
 }

@@ -2,15 +2,13 @@
 
 ghost use Rattle.std.specs.Prelude.{◌≡◌, ◌↔◌, IsTrue, OnOk};
 ghost use Rattle.frames.specs.Frames.{setup_of};
-ghost use Rattle.subscriber.specs.Hearings.{turned_to};
+ghost use Rattle.subscription.specs.Hearings.{turned_to};
 ghost use Rattle.subscriber.specs.Offers.{tied_anew};
 ghost use Rattle.subscriber.specs.Turning.{Attends, Considers, GoesOn, IsKept, IsRenewed, IsTiedTo, Turns};
 
 use crate::fault::SubscribeFault;
-use crate::invitation::opened;
 use crate::joined::{Joined, SubscriberDevice, offered, tie, tied_of};
 use crate::meeting::{Meeting, meeting_of};
-use crate::opening::Opening;
 use crate::telling::{tell_another, tell_closed, tell_joined};
 use crate::watch::Watch;
 use agents::Duty;
@@ -19,6 +17,7 @@ use options::SubscribePlan;
 use std::alloc::Global;
 use std::io::Write;
 use std::net::SocketAddr;
+use subscription::{Opening, opened};
 
 /// Whether a SETUP is the session's own, so that an image goes on that is rebuilt up to here.
 fn goes_on(was: &Opening, rebuilt: u64, opening: &Opening) -> bool
@@ -92,7 +91,8 @@ fn replace<E: Write>(
     ensures renewed { OnOk result (IsRenewed plan.now now meeting.now joined.old joined.new) }
     ensures size { joined.new.duty.mtu ≡ joined.old.duty.mtu }
 {
-    tell_closed(errors, joined.opening.session, joined.place());
+    let refused = joined.subscriber.refused();
+    tell_closed(errors, joined.opening.session, joined.place(), refused);
     renew(alloc, plan, joined, meeting, now)?;
     tell_joined(errors, joined.opening.session, joined.place());
     Ok(())

@@ -1,5 +1,5 @@
 use Rattle.std.proofs.Common.{◌∙◌, ap}
-use Rattle.receiver.specs.Receiving.{counted_at, place_of}
+use Rattle.frames.specs.FaultCounts.{counted_at, place_of}
 use Rattle.receiver.specs.Representing.{Core}
 use Rattle.receiver.proofs.Meeting.{refused_all}
 use Rattle.receiver.proofs.receiver_core.ReceiverCore.take.Goals as goal

@@ -1,0 +1,78 @@
+-- What a device notes of what it hears of a session, and of what it is given to send.
+use Rattle.std.specs.Prelude.{◌≡◌, ◌+◌, ◌%◌, ◌^◌, ℕ, ℤ, Bool, false, ◌&&◌, nat_eq, List, length, take, max, Option, None, Some, option_map, if◌then◌else◌}
+use Rattle.std.specs.Ordering.{int_eq}
+use Rattle.theory.specs.Wire.{Setup}
+use Rattle.frames.specs.Frames.{setup_of}
+use Rattle.peer.specs.Farewells.{EndsAt}
+use Rattle.endpoint.specs.Devices.{counted}
+use Rattle.subscription.specs.Meetings.{TellsIds, TellsSetup}
+use Rattle.subscription.specs.declared.followed.Notes.{Notes}
+
+pub record Following (D : Type 0) : Type 0 where
+  pub inner : D
+  -- whose frames it notes
+  pub session : ℤ
+  pub stream : ℤ
+  pub notes : Notes
+  -- how many negative acknowledgements it was given to send
+  pub naks : ℕ
+
+-- nothing was heard yet
+abbrev pub unheard : Notes
+unheard = record { frames = 0; end = None; setup = None }
+
+-- nothing was heard of this session yet, nor sent
+abbrev pub following : {D : Type 0} → D → ℤ → ℤ → Following D
+following inner session stream = record { inner = inner; session = session; stream = stream; notes = unheard; naks = 0 }
+
+-- it turns to another session, of which it has heard nothing
+abbrev pub turned_to : {D : Type 0} → Following D → ℤ → Following D
+turned_to f session = record f { session = session; notes = record (f.notes) { end = None; setup = None } }
+
+-- these ids are the session's and the stream's
+abbrev pub are_own : ℤ → ℤ → Option (ℤ × ℤ) → Bool
+are_own session stream None = false
+are_own session stream (Some ids) = int_eq ids.0 session && int_eq ids.1 stream
+
+-- how many frames were heard, with one more or not; modulo 2 ^ 64
+abbrev pub frames_after : Bool → ℕ → ℕ
+frames_after own frames = if own then (frames + 1) % 2 ^ 64 else frames
+
+-- the later one
+abbrev pub latest : Option Setup → Option Setup → Option Setup
+latest before None = before
+latest before (Some f) = Some f
+
+-- the greatest end that was told, with this one
+abbrev pub with_end : Option ℕ → ℕ → Option ℕ
+with_end None end = Some end
+with_end (Some before) end = Some (max before end)
+
+-- the end that a SETUP tells of the session's stream is noted, if it tells one
+pub record NotesEnd (session stream : ℤ) (f : Setup) (old new : Option ℕ) : Type 0 where
+  pub told : (end : ℕ) → EndsAt session stream f end → new ≡ with_end old end
+  pub untold : ((end : ℕ) → EndsAt session stream f end → ⊥) → new ≡ old
+
+abbrev pub NotesEndIn : ℤ → ℤ → Option Setup → Option ℕ → Option ℕ → Type 0
+NotesEndIn session stream None old new = new ≡ old
+NotesEndIn session stream (Some f) old new = NotesEnd session stream f old new
+
+-- what a datagram tells of the session's stream
+pub record NotesDatagram (session stream : ℤ) (bytes : List ℕ) (old new : Notes) : Type 0 where
+  pub ids : Option (ℤ × ℤ)
+  pub tells_ids : TellsIds bytes ids
+  pub found : Option Setup
+  pub tells_setup : TellsSetup bytes found
+  -- a frame of the stream in front counts
+  pub frames : new.frames ≡ frames_after (are_own session stream ids) old.frames
+  pub end : NotesEndIn session stream found old.end new.end
+  pub setup : option_map setup_of new.setup ≡ latest (option_map setup_of old.setup) found
+
+-- of a datagram that was found what it tells is noted
+abbrev pub HearsFound : {D : Type 0} → Following D → Option ℕ → List ℕ → Notes → Type 0
+HearsFound f None buffer new = new ≡ f.notes
+HearsFound f (Some n) buffer new = NotesDatagram f.session f.stream (take n buffer) f.notes new
+
+-- of what a receiver sends only a negative acknowledgement has 28 bytes
+abbrev pub after_sending : {D : Type 0} → Following D → List ℕ → D → Following D
+after_sending f bytes inner = record f { inner = inner; naks = if nat_eq (length bytes) 28 then counted f.naks else f.naks }

@@ -1,0 +1,97 @@
+-- What a datagram is to a subscriber, and the subscriber that meets a SETUP.
+use Rattle.std.specs.Prelude.{◌≡◌, ◌≤◌, ⊤, ℕ, ℤ, pos, negsuc, List, length, Option, None, Some}
+use Rattle.std.specs.Int.{w64, cast_signed, cast_unsigned}
+use Rattle.std.specs.Prelude.{◌+◌, ◌%◌, ◌^◌}
+use Rattle.theory.specs.Setup.{OpensAt}
+use Rattle.theory.specs.Wire.{Wire, DATA, PAD, HEARTBEAT, NAK, SM, SETUP, Setup, spelling}
+use Rattle.frames.specs.Fronts.{FrontSpells}
+use Rattle.peer.specs.Farewells.{TellsEnd}
+use Rattle.receiver.specs.Receiving.{Receiver, TakesDatagram, listening}
+use Rattle.receiver.specs.Subscribing.{RepresentsSubscriber, Subscribing}
+use Rattle.receiver.specs.declared.receiver_core.Outcome.{Outcome}
+use Rattle.options.specs.declared.ends.plans.SubscribePlan.{SubscribePlan}
+use Rattle.subscription.specs.Windows.{window_of}
+use Rattle.subscription.specs.declared.opening.Opening.{Opening}
+
+-- ---- what a datagram says
+
+-- the SETUP that a frame is
+abbrev pub setup_told : Wire → Option Setup
+setup_told (DATA h flags payload) = None
+setup_told (PAD h n) = None
+setup_told (HEARTBEAT h) = None
+setup_told (NAK f) = None
+setup_told (SM asks f) = None
+setup_told (SETUP f) = Some f
+
+-- the session and the stream that a DATA frame, a padding or a heartbeat is of
+abbrev pub ids_told : Wire → Option (ℤ × ℤ)
+ids_told (DATA h flags payload) = Some (h.session, h.stream)
+ids_told (PAD h n) = Some (h.session, h.stream)
+ids_told (HEARTBEAT h) = Some (h.session, h.stream)
+ids_told (NAK f) = None
+ids_told (SM asks f) = None
+ids_told (SETUP f) = None
+
+-- the SETUP that a datagram of one frame is; other bytes are none
+pub record TellsSetup (bytes : List ℕ) (found : Option Setup) : Type 0 where
+  pub frame : (w : Wire) → FrontSpells bytes w (length bytes) → found ≡ setup_told w
+  pub others : ((w : Wire) → FrontSpells bytes w (length bytes) → ⊥) → found ≡ None
+
+-- whose stream the frame at a datagram's front is of
+pub record TellsIds (bytes : List ℕ) (found : Option (ℤ × ℤ)) : Type 0 where
+  pub frame : (w : Wire) (n : ℕ) → FrontSpells bytes w n → found ≡ ids_told w
+  pub others : ((w : Wire) (n : ℕ) → FrontSpells bytes w n → ⊥) → found ≡ None
+
+-- ---- what a plan takes
+
+-- a session that was named, or any
+abbrev pub TakesSession : Option ℤ → ℤ → Type 0
+TakesSession None session = ⊤
+TakesSession (Some named) session = session ≡ named
+
+-- a number of bytes, 0 for a negative one
+abbrev pub bytes_of : ℤ → ℕ
+bytes_of (pos n) = n
+bytes_of (negsuc n) = 0
+
+-- a SETUP tells no end of its stream
+abbrev pub IsOngoing : Setup → Type 0
+IsOngoing f = (end : ℕ) → TellsEnd f.session f.stream (SETUP f) end → ⊥
+
+-- a session that the plan takes, its stream, and terms that aren't too long; and the stream goes on
+pub record Admits (plan : SubscribePlan) (f : Setup) : Type 0 where
+  pub session : TakesSession plan.session f.session
+  pub stream : f.stream ≡ plan.end.stream
+  pub short : bytes_of f.term_length ≤ plan.greatest_term
+  pub ongoing : IsOngoing f
+
+-- the window of an image that a SETUP opens
+abbrev pub window_in : Setup → ℕ
+window_in f = window_of (bytes_of f.term_length) (bytes_of f.mtu)
+
+-- a SETUP opens an image of this session and shape for a plan, at this position
+pub record Opens (plan : SubscribePlan) (f : Setup) (o : Opening) : Type 0 where
+  pub admitted : Admits plan f
+  pub session : o.session ≡ f.session
+  pub at : OpensAt f (window_in f) o.geometry o.position
+
+abbrev pub OpensNothing : SubscribePlan → Setup → Type 0
+OpensNothing plan f = (o : Opening) → Opens plan f o → ⊥
+
+-- ---- a subscriber that meets a SETUP
+
+-- the receiver id of the image with this number, from 0: each image has one of its own
+abbrev pub id_of : SubscribePlan → ℕ → ℤ
+id_of plan number = cast_signed w64 ((cast_unsigned w64 plan.receiver + number) % 2 ^ 64)
+
+-- a receiver that has met nothing
+abbrev pub invited : SubscribePlan → ℕ → Setup → Receiver
+invited plan number f = listening f.session f.stream (window_in f) (id_of plan number) 1 2097152
+
+-- it has met this SETUP at a moment
+pub record HasMet (plan : SubscribePlan) (number : ℕ) (f : Setup) (moment : ℕ) (s : Subscribing) : Type 0 where
+  pub receiver : Receiver
+  pub outcomes : List Outcome
+  pub takes : TakesDatagram (invited plan number f) moment (spelling (SETUP f)) outcomes receiver
+  pub shown : RepresentsSubscriber s receiver

@@ -1,0 +1,21 @@
+//! Which images a channel's subscription takes, and what is heard of an image's session.
+//!
+//! What a datagram tells is exact (`setup_in`, `ids_in`), and so is which SETUP opens an image for a plan, and which
+//! (`opening_of`): one of the plan's stream, and of its session if it names one, whose terms are no longer than it takes, and
+//! which tells no end of its stream (`Opens`). The image with a number, from 0, has the plan's receiver id and that number for
+//! its id (`id_of`), and the subscriber that is opened has met that SETUP (`opened`). Its window is one that the rules allow,
+//! and that the socket's buffer is sure to hold (`window_of`).
+//!
+//! A device that follows a session counts the datagrams that begin with a frame of it, and keeps the last SETUP and the
+//! greatest end that was told, exactly (`Followed`).
+#![tactic(auto)]
+
+mod followed;
+mod invitation;
+mod opening;
+mod window;
+
+pub use followed::{Followed, Notes};
+pub use invitation::{GREATEST_MESSAGE, id_of, ids_in, opened, opening_of, setup_in, takes_session};
+pub use opening::Opening;
+pub use window::window_of;
