@@ -13,28 +13,28 @@ use Rattle.endpoint.specs.declared.device_error.DeviceError.{DeviceError}
 use Rattle.agents.specs.Duties.{HaveStatus, Hears, Ticks}
 
 abbrev heard_of : {R F : Type 0} → Sending R F → Bool
-heard_of s = s.naming.heard
+heard_of s = s.heard
 
 abbrev identity_of : {R F : Type 0} → Sending R F → Identity
 identity_of s = s.identity
 
-same_identity : {R F : Type 0} (after_status : F → ℤ → ℤ → ℤ → ℕ → F) (reached : F → ℕ) (s : Sending R F) (news : NewsContent) (answer : SenderAnswer) (t : Sending R F) (sent : List (List ℕ)) → HearsNews after_status reached s news answer t sent → t.identity ≡ s.identity
-same_identity after_status reached s (Says f) answer t sent h = ap identity_of h.0
-same_identity after_status reached s AsksSetup answer t sent h = ap identity_of h.0
-same_identity after_status reached s (Misses f) answer t sent h = ap identity_of h.3
-same_identity after_status reached s TellsNothing answer t sent h = ap identity_of h.0
-same_identity after_status reached s (Unreadable fault) answer t sent h = ap identity_of h.0
+same_identity : {R F : Type 0} (after_status : F → ℤ → ℤ → ℤ → ℕ → F) (reached : F → ℕ) (has_heard : F → Bool) (s : Sending R F) (news : NewsContent) (answer : SenderAnswer) (t : Sending R F) (sent : List (List ℕ)) → HearsNews after_status reached has_heard s news answer t sent → t.identity ≡ s.identity
+same_identity after_status reached has_heard s (Says f) answer t sent h = ap identity_of h.0
+same_identity after_status reached has_heard s AsksSetup answer t sent h = ap identity_of h.0
+same_identity after_status reached has_heard s (Misses f) answer t sent h = ap identity_of h.3
+same_identity after_status reached has_heard s TellsNothing answer t sent h = ap identity_of h.0
+same_identity after_status reached has_heard s (Unreadable fault) answer t sent h = ap identity_of h.0
 
 -- it stays as it was, or a status message came
 abbrev Heard : {R F : Type 0} → Sending R F → Sending R F → Type 0 → Type 0
-Heard s t Came = (t.naming.heard ≡ s.naming.heard) ⊎ ((t.naming.heard ≡ true) × Came)
+Heard s t Came = (t.heard ≡ s.heard) ⊎ ((t.heard ≡ true) × Came)
 
-by_news : {R F : Type 0} (after_status : F → ℤ → ℤ → ℤ → ℕ → F) (reached : F → ℕ) (i : Identity) (bytes : List ℕ) (s : Sending R F) (news : NewsContent) (answer : SenderAnswer) (t : Sending R F) (sent : List (List ℕ)) → HearsNews after_status reached s news answer t sent → IsNews i bytes news → Heard s t ((f : Status) × IsNews i bytes (Says f))
-by_news after_status reached i bytes s (Says f) answer t sent h is = inr (ap heard_of h.0, (f, is))
-by_news after_status reached i bytes s AsksSetup answer t sent h is = inl (ap heard_of h.0)
-by_news after_status reached i bytes s (Misses f) answer t sent h is = inl (ap heard_of h.3)
-by_news after_status reached i bytes s TellsNothing answer t sent h is = inl (ap heard_of h.0)
-by_news after_status reached i bytes s (Unreadable fault) answer t sent h is = inl (ap heard_of h.0)
+by_news : {R F : Type 0} (after_status : F → ℤ → ℤ → ℤ → ℕ → F) (reached : F → ℕ) (has_heard : F → Bool) (i : Identity) (bytes : List ℕ) (s : Sending R F) (news : NewsContent) (answer : SenderAnswer) (t : Sending R F) (sent : List (List ℕ)) → HearsNews after_status reached has_heard s news answer t sent → IsNews i bytes news → Heard s t ((f : Status) × IsNews i bytes (Says f))
+by_news after_status reached has_heard i bytes s (Says f) answer t sent h is = inr (ap heard_of h.0, (f, is))
+by_news after_status reached has_heard i bytes s AsksSetup answer t sent h is = inl (ap heard_of h.0)
+by_news after_status reached has_heard i bytes s (Misses f) answer t sent h is = inl (ap heard_of h.3)
+by_news after_status reached has_heard i bytes s TellsNothing answer t sent h is = inl (ap heard_of h.0)
+by_news after_status reached has_heard i bytes s (Unreadable fault) answer t sent h is = inl (ap heard_of h.0)
 
 joined : {R F : Type 0} (s t u : Sending R F) (First Rest : Type 0) → Heard s t First → Heard t u Rest → Heard s u (First ⊎ Rest)
 joined s t u First Rest (inl a) (inl b) = inl (b ∙ a)
@@ -42,37 +42,37 @@ joined s t u First Rest (inr a) (inl b) = inr (b ∙ a.0, inl a.1)
 joined s t u First Rest a (inr b) = inr (b.0, inr b.1)
 
 -- over datagrams one after the other
-by_all : {R F : Type 0} (source : R → Source) (after_status : F → ℤ → ℤ → ℤ → ℕ → F) (reached : F → ℕ) (now : ℕ) (s : Sending R F) (ds : List (List ℕ)) (t : Sending R F) (given : List (List ℕ)) → HearsAll (Hears source after_status reached) now s ds t given → Heard s t (HaveStatus s.identity ds)
-by_all source after_status reached now s [] t given h = inl (ap heard_of h.0)
-by_all source after_status reached now s (d ∷ ds) t given h =
+by_all : {R F : Type 0} (source : R → Source) (after_status : F → ℤ → ℤ → ℤ → ℕ → F) (reached : F → ℕ) (has_heard : F → Bool) (now : ℕ) (s : Sending R F) (ds : List (List ℕ)) (t : Sending R F) (given : List (List ℕ)) → HearsAll (Hears source after_status reached has_heard) now s ds t given → Heard s t (HaveStatus s.identity ds)
+by_all source after_status reached has_heard now s [] t given h = inl (ap heard_of h.0)
+by_all source after_status reached has_heard now s (d ∷ ds) t given h =
     let k = h.3.hears in
     joined s h.0 t _ _
-    (by_news after_status reached s.identity d (at_moment s now) k.news h.3.answer h.0 h.1 k.hears k.is)
-    (subst (λ i. Heard h.0 t (HaveStatus i ds)) (same_identity after_status reached (at_moment s now) k.news h.3.answer h.0 h.1 k.hears) (by_all source after_status reached now h.0 ds t h.2 h.4))
+    (by_news after_status reached has_heard s.identity d (at_moment s now) k.news h.3.answer h.0 h.1 k.hears k.is)
+    (subst (λ i. Heard h.0 t (HaveStatus i ds)) (same_identity after_status reached has_heard (at_moment s now) k.news h.3.answer h.0 h.1 k.hears) (by_all source after_status reached has_heard now h.0 ds t h.2 h.4))
 
 -- and then a moment, which doesn't change it
-on_tick : {R F : Type 0} (s t u : Sending R F) (Came : Type 0) → Heard s t Came → u.naming.heard ≡ t.naming.heard → Heard s u Came
+on_tick : {R F : Type 0} (s t u : Sending R F) (Came : Type 0) → Heard s t Came → u.heard ≡ t.heard → Heard s u Came
 on_tick s t u Came (inl a) e = inl (e ∙ a)
 on_tick s t u Came (inr a) e = inr (e ∙ a.0, a.1)
 
 -- a sender that has heard after a cycle had heard before, or a status message came in it
-pub by_cycle : {R F : Type 0} (source : R → Source) (after_status : F → ℤ → ℤ → ℤ → ℕ → F) (reached : F → ℕ) (grown : List Placed → List Placed → Type 0) (after_tick : F → ℕ → F) (now : ℕ) (tells : Type 0) (s : Sending R F) (d : Device) (busy : Bool) (t : Sending R F) (e : Device) → (c : Cycle (Hears source after_status reached) (Ticks source grown after_tick reached) now tells s d busy t e) → Heard s t (HaveStatus s.identity c.heard)
-by_cycle source after_status reached grown after_tick now tells s d busy t e c = on_tick s c.middle t _ (by_all source after_status reached now s c.heard c.middle c.answers c.all_heard) (ap heard_of c.ticked.state)
+pub by_cycle : {R F : Type 0} (source : R → Source) (after_status : F → ℤ → ℤ → ℤ → ℕ → F) (reached : F → ℕ) (has_heard : F → Bool) (grown : List Placed → List Placed → Type 0) (after_tick : F → ℕ → F) (now : ℕ) (tells : Type 0) (s : Sending R F) (d : Device) (busy : Bool) (t : Sending R F) (e : Device) → (c : Cycle (Hears source after_status reached has_heard) (Ticks source grown after_tick reached) now tells s d busy t e) → Heard s t (HaveStatus s.identity c.heard)
+by_cycle source after_status reached has_heard grown after_tick now tells s d busy t e c = on_tick s c.middle t _ (by_all source after_status reached has_heard now s c.heard c.middle c.answers c.all_heard) (ap heard_of c.ticked.state)
 
-keeps : {R F : Type 0} (s t : Sending R F) (Came : Type 0) → Heard s t Came → s.naming.heard ≡ true → t.naming.heard ≡ true
+keeps : {R F : Type 0} (s t : Sending R F) (Came : Type 0) → Heard s t Came → s.heard ≡ true → t.heard ≡ true
 keeps s t Came (inl a) on = a ∙ on
 keeps s t Came (inr a) on = a.0
 
 -- what it has heard it has heard for good
-pub cycle_keeps : {R F : Type 0} (source : R → Source) (after_status : F → ℤ → ℤ → ℤ → ℕ → F) (reached : F → ℕ) (grown : List Placed → List Placed → Type 0) (after_tick : F → ℕ → F) (now : ℕ) (tells : Type 0) (s : Sending R F) (d : Device) (busy : Bool) (t : Sending R F) (e : Device) → Cycle (Hears source after_status reached) (Ticks source grown after_tick reached) now tells s d busy t e → s.naming.heard ≡ true → t.naming.heard ≡ true
-cycle_keeps source after_status reached grown after_tick now tells s d busy t e c on = keeps s t _ (by_cycle source after_status reached grown after_tick now tells s d busy t e c) on
+pub cycle_keeps : {R F : Type 0} (source : R → Source) (after_status : F → ℤ → ℤ → ℤ → ℕ → F) (reached : F → ℕ) (has_heard : F → Bool) (grown : List Placed → List Placed → Type 0) (after_tick : F → ℕ → F) (now : ℕ) (tells : Type 0) (s : Sending R F) (d : Device) (busy : Bool) (t : Sending R F) (e : Device) → Cycle (Hears source after_status reached has_heard) (Ticks source grown after_tick reached) now tells s d busy t e → s.heard ≡ true → t.heard ≡ true
+cycle_keeps source after_status reached has_heard grown after_tick now tells s d busy t e c on = keeps s t _ (by_cycle source after_status reached has_heard grown after_tick now tells s d busy t e c) on
 
-pub fault_keeps : {R F : Type 0} (source : R → Source) (after_status : F → ℤ → ℤ → ℤ → ℕ → F) (reached : F → ℕ) (grown : List Placed → List Placed → Type 0) (after_tick : F → ℕ → F) (now : ℕ) (tells : Type 0) (fault : DeviceError) (s : Sending R F) (d : Device) (t : Sending R F) (e : Device) → Fault (Hears source after_status reached) (Ticks source grown after_tick reached) now tells fault s d t e → s.naming.heard ≡ true → t.naming.heard ≡ true
-fault_keeps {R} {F} source after_status reached grown after_tick now tells fault s d t e c on = either c.ticked
+pub fault_keeps : {R F : Type 0} (source : R → Source) (after_status : F → ℤ → ℤ → ℤ → ℕ → F) (reached : F → ℕ) (has_heard : F → Bool) (grown : List Placed → List Placed → Type 0) (after_tick : F → ℕ → F) (now : ℕ) (tells : Type 0) (fault : DeviceError) (s : Sending R F) (d : Device) (t : Sending R F) (e : Device) → Fault (Hears source after_status reached has_heard) (Ticks source grown after_tick reached) now tells fault s d t e → s.heard ≡ true → t.heard ≡ true
+fault_keeps {R} {F} source after_status reached has_heard grown after_tick now tells fault s d t e c on = either c.ticked
   where
-    heard : c.middle.naming.heard ≡ true
-    heard = keeps s c.middle _ (by_all source after_status reached now s c.heard c.middle c.answers c.all_heard) on
+    heard : c.middle.heard ≡ true
+    heard = keeps s c.middle _ (by_all source after_status reached has_heard now s c.heard c.middle c.answers c.all_heard) on
 
-    either : ((t ≡ c.middle) × (c.given ≡ [])) ⊎ TicksBehind (Ticks source grown after_tick reached) now c.heard c.lost c.answers c.given c.sent c.middle d t e → t.naming.heard ≡ true
+    either : ((t ≡ c.middle) × (c.given ≡ [])) ⊎ TicksBehind (Ticks source grown after_tick reached) now c.heard c.lost c.answers c.given c.sent c.middle d t e → t.heard ≡ true
     either (inl same) = ap heard_of same.0 ∙ heard
     either (inr k) = ap heard_of k.ticked.state ∙ heard

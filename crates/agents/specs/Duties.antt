@@ -19,8 +19,8 @@ pub record Agent (R F : Type 0) : Type 0 where
   pub asked : Bool
 
 -- a datagram, by what its reads are a source of
-abbrev pub Hears : {R F : Type 0} → (R → Source) → (F → ℤ → ℤ → ℤ → ℕ → F) → (F → ℕ) → Sending R F → ℕ → List ℕ → Sending R F → List (List ℕ) → Type 0
-Hears source after_status reached s now bytes t given = SenderHears after_status reached (at_moment s now) (source s.reads) bytes t (source t.reads) given
+abbrev pub Hears : {R F : Type 0} → (R → Source) → (F → ℤ → ℤ → ℤ → ℕ → F) → (F → ℕ) → (F → Bool) → Sending R F → ℕ → List ℕ → Sending R F → List (List ℕ) → Type 0
+Hears source after_status reached has_heard s now bytes t given = SenderHears after_status reached has_heard (at_moment s now) (source s.reads) bytes t (source t.reads) given
 
 -- a moment
 abbrev pub Ticks : {R F : Type 0} → (R → Source) → (List Placed → List Placed → Type 0) → (F → ℕ → F) → (F → ℕ) → Sending R F → ℕ → Sending R F → List (List ℕ) → Type 0
@@ -35,4 +35,4 @@ HaveStatus i (d ∷ ds) = ((f : Status) × IsNews i d (Says f)) ⊎ HaveStatus i
 pub record AgentCycle {R F : Type 0} (hears : Sending R F → ℕ → List ℕ → Sending R F → List (List ℕ) → Type 0) (ticks : Sending R F → ℕ → Sending R F → List (List ℕ) → Type 0) (now : ℕ) (tells : Type 0) (a : Agent R F) (c : ClientSeen) (d : Device) (result : Result Bool DeviceError) (b : Agent R F) (after : ClientSeen) (e : Device) : Type 0 where
   pub cycle : IfOk result (λ busy. Cycle hears ticks now tells a.core d busy b.core e)
   pub fault : IfErr result (λ fault. Fault hears ticks now tells fault a.core d b.core e)
-  pub asks : MatchResult result (λ _. AsksOnce a.asked b.core.naming.heard c b.asked after) (λ _. IsQuiet a.asked c b.asked after)
+  pub asks : MatchResult result (λ _. AsksOnce a.asked b.core.heard c b.asked after) (λ _. IsQuiet a.asked c b.asked after)

@@ -1,5 +1,6 @@
 -- The sender of a log that threads share.
-use Rattle.std.specs.Prelude.{◌≡◌, ℕ, false}
+use Rattle.std.specs.Prelude.{◌≡◌, false}
+use Rattle.flow_control.specs.Unicast.{Unicast}
 use Rattle.shared_log.specs.Handles.{LogValue}
 use Rattle.sender.specs.Sending.{SendsFrom, begun}
 use Rattle.shared_log.specs.Readers.{IsReaderOf, ReaderValue}
@@ -8,13 +9,13 @@ use Rattle.shared_log.specs.declared.reader.source.LogFrames.{LogFrames}
 use Rattle.agents.specs.Duties.{Agent}
 
 -- it reads a log, has sent what comes before its position, and its datagrams have this log's MTU
-pub record SendsLog (l : LogValue) (a : Agent LogFrames ℕ) : Type 0 where
+pub record SendsLog (l : LogValue) (a : Agent LogFrames Unicast) : Type 0 where
   pub stands : IsReaderOf a.core.reads.log.now a.core.reads.reader
   pub from : SendsFrom a.core (source_of a.core.reads.log.now a.core.reads.reader)
   pub size : a.core.identity.geometry.mtu ≡ l.identity.geometry.mtu
 
 -- it has heard and sent nothing, sends this log's stream from its start, which its flow control allows, and reads it by this reader
-pub record IsNewSender (l : LogValue) (r : ReaderValue) (a : Agent LogFrames ℕ) : Type 0 where
-  pub made : a ≡ record { core = begun l.identity l.start a.core.reads l.start; asked = false }
+pub record IsNewSender (l : LogValue) (r : ReaderValue) (a : Agent LogFrames Unicast) : Type 0 where
+  pub made : a ≡ record { core = begun l.identity l.start a.core.reads (record { limit = l.start; heard = false }); asked = false }
   pub log_is : a.core.reads.log.now ≡ l
   pub reader_is : a.core.reads.reader ≡ r

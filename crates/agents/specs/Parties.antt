@@ -1,5 +1,5 @@
 -- What a sender and a receiver make of a datagram and of a moment, and what they give out.
-use Rattle.std.specs.Prelude.{◌≡◌, ℕ, ℤ, List, [], map}
+use Rattle.std.specs.Prelude.{◌≡◌, ℕ, ℤ, Bool, List, [], map}
 use Rattle.theory.specs.Wire.{spelling}
 use Rattle.frame_source.specs.Sources.{Source}
 use Rattle.sender.specs.Sending.{HearsDatagram, Sending}
@@ -9,9 +9,9 @@ use Rattle.receiver.specs.Subscribing.{RepresentsSubscriber, Subscribing, Subscr
 use Rattle.receiver.specs.declared.receiver_core.Outcome.{Outcome}
 
 -- a sender hears a datagram; what it reads stays as it is
-pub record SenderHears {R F : Type 0} (after_status : F → ℤ → ℤ → ℤ → ℕ → F) (reached : F → ℕ) (s : Sending R F) (old : Source) (bytes : List ℕ) (t : Sending R F) (new : Source) (given : List (List ℕ)) : Type 0 where
+pub record SenderHears {R F : Type 0} (after_status : F → ℤ → ℤ → ℤ → ℕ → F) (reached : F → ℕ) (has_heard : F → Bool) (s : Sending R F) (old : Source) (bytes : List ℕ) (t : Sending R F) (new : Source) (given : List (List ℕ)) : Type 0 where
   pub answer : SenderAnswer
-  pub hears : HearsDatagram after_status reached s bytes answer t given
+  pub hears : HearsDatagram after_status reached has_heard s bytes answer t given
   pub same : new ≡ old
 
 -- a receiver takes a datagram, and gives nothing out

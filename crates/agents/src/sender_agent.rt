@@ -30,7 +30,7 @@ impl<R, F> Model for SenderAgent<R, F> {
 
     ghost view = { λ a. record { core = a.core; asked = a.asked } };
 
-    ghost invariant = { λ a. a.asked ≡ true → a.core.naming.heard ≡ true };
+    ghost invariant = { λ a. a.asked ≡ true → a.core.heard ≡ true };
 }
 
 impl<R, F: FlowControl + Drop> SenderAgent<R, F> {
@@ -60,7 +60,7 @@ impl<R, F: FlowControl + Drop> SenderAgent<R, F> {
     fn ask_once<W: Wait>(&mut self, rt: &W, conductor: &Conductor, client: &mut Client)
         requires { client.old.queue ≡ conductor.now }
         ensures core { self.new.core ≡ self.old.core }
-        ensures asks { AsksOnce self.old.asked self.old.core.naming.heard client.old self.new.asked client.new }
+        ensures asks { AsksOnce self.old.asked self.old.core.heard client.old self.new.asked client.new }
         ensures client { (client.new.queue ≡ client.old.queue) × (client.new.number ≡ client.old.number) }
     {
         if self.asked || !self.core.has_heard() {
@@ -88,7 +88,7 @@ impl<R: FrameSource<()>, F: FlowControl + Drop> SenderAgent<R, F> {
         requires stands { R.stands self.old.core.reads tt × SendsFrom self.old.core (R.source self.old.core.reads tt) }
         requires size { duty.old.mtu ≡ self.old.core.identity.geometry.mtu }
         requires queue { client.old.queue ≡ conductor.now }
-        ensures cycle { AgentCycle (Hears (λ r. R.source r tt) F.after_status F.reached) (Ticks (λ r. R.source r tt) R.grown F.after_tick F.reached) now (D.tells duty.old.device) self.old client.old (D.device duty.old.device) result self.new client.new (D.device duty.new.device) }
+        ensures cycle { AgentCycle (Hears (λ r. R.source r tt) F.after_status F.reached F.has_heard) (Ticks (λ r. R.source r tt) R.grown F.after_tick F.reached) now (D.tells duty.old.device) self.old client.old (D.device duty.old.device) result self.new client.new (D.device duty.new.device) }
         ensures stands { R.stands self.new.core.reads tt × SendsFrom self.new.core (R.source self.new.core.reads tt) }
         ensures size { (duty.new.mtu ≡ duty.old.mtu) × (self.new.core.identity.geometry.mtu ≡ self.old.core.identity.geometry.mtu) }
         ensures device { NeverFall (D.device duty.old.device) (D.device duty.new.device) × (D.tells duty.old.device → D.tells duty.new.device) }

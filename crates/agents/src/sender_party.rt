@@ -17,7 +17,7 @@ impl<R: FrameSource<()>, F: FlowControl + Drop> Party for SenderCore<R, F> {
 
     ghost mtu = { λ s. s.identity.geometry.mtu };
 
-    ghost hears = { λ s now bytes t given. SenderHears F.after_status F.reached (at_moment s now) (R.source s.reads tt) bytes t (R.source t.reads tt) given };
+    ghost hears = { λ s now bytes t given. SenderHears F.after_status F.reached F.has_heard (at_moment s now) (R.source s.reads tt) bytes t (R.source t.reads tt) given };
 
     ghost ticks = { λ s now t given. Cycles R.grown F.after_tick F.reached (at_moment s now) (R.source s.reads tt) (R.source t.reads tt) t given };
 

@@ -1,4 +1,4 @@
-ghost use Rattle.std.specs.Prelude.{◌≡◌, ◌≤◌, ℕ, ℤ, max, pos, ◌+ℤ◌};
+ghost use Rattle.std.specs.Prelude.{◌≡◌, ◌≤◌, ℕ, ℤ, Bool, max, pos, ◌+ℤ◌};
 ghost use Rattle.theory.specs.FlowLimit.{clipped};
 
 /// What a sender asks before it sends. The limit never falls, and is never above what status messages have allowed.
@@ -6,6 +6,8 @@ pub trait FlowControl {
     ghost reached: { Self → ℕ };
 
     ghost allowed: { Self → ℕ };
+
+    ghost has_heard: { Self → Bool };
 
     /// What a status message makes of it: by its position, its window, its receiver's id and the moment.
     ghost after_status: { Self → ℤ → ℤ → ℤ → ℕ → Self };
@@ -24,6 +26,11 @@ pub trait FlowControl {
     fn limit(&self) -> i64
         ensures value { result ≡ pos (reached self.now) }
         ensures within { reached self.now ≤ allowed self.now };
+
+    /// Whether such a status message has come of each receiver that is waited for: of one, whatever its id, or of all in a
+    /// group.
+    fn heard(&self) -> bool
+        ensures { result ≡ has_heard self.now };
 
     /// Takes a moment, in nanoseconds.
     fn tick(&mut self, now: u64)

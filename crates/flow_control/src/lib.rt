@@ -3,11 +3,25 @@
 //!
 //! The limit never falls and is never above what status messages have allowed (`FlowControl`, a trait with these
 //! laws). For one receiver it is exactly the greatest of the start and of what each allowed, for any numbers
-//! (`UnicastFlow`).
+//! (`UnicastFlow`). For a group it is exactly the group's limit by the definition, for any ids, numbers and moments
+//! (`LeastFlow`); that each keeps enough for that is `keeps_enough`. `StreamFlow` is either.
 #![tactic(auto)]
 
+ghost use Rattle.flow_control.specs.Laws.{GroupKeepsEnough, OneKeepsEnough};
+
 mod flow;
+mod least;
+mod reach;
+mod stream;
 mod unicast;
 
 pub use flow::FlowControl;
+pub use least::LeastFlow;
+pub use stream::StreamFlow;
 pub use unicast::UnicastFlow;
+
+/// Whatever status messages and moments came, what a flow control keeps of them gives what all of them give.
+pub fn keeps_enough()
+    ensures one { OneKeepsEnough }
+    ensures group { GroupKeepsEnough }
+{}

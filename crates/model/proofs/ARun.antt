@@ -7,7 +7,7 @@ use Rattle.theory.specs.Consumer.{Consumer, consumer_at, moved, passed_by}
 use Rattle.theory.specs.Image.{Image, image_at, after_insert, Inserted, Poll}
 use Rattle.model.specs.Log.{Log, entry_for, with_frame, aborted_at, Connect, Raise, Arm, Add, Commit, Abort, Join, Leave, Move, Pass}
 use Rattle.theory.specs.Resend.{answered}
-use Rattle.model.specs.Sender.{Sender, after_nak, SendSetup, HearStatus, Send, HearNak, Resend}
+use Rattle.model.specs.Sender.{Sender, after_nak, after_status, in_cycle, SendSetup, HearStatus, Send, HearNak, Resend}
 use Rattle.model.specs.World.{World, Event, AtLog, AtSender, AtImage, Open, IsOpened, Run, opened_sender}
 use Rattle.model.specs.ExampleRun.{start, log_at_start, world_at_start, begin, end, aborted, tripped, abc, ItRuns}
 use Rattle.theory.proofs.Lists.{all_replicate}
@@ -125,7 +125,7 @@ abbrev log24 : Log
 log24 = seats (passed_by r1 end) late4
 
 abbrev sender1 : Sender
-sender1 = record (opened_sender start) { setups = 65088 ∷ [] }
+sender1 = record (opened_sender start (Some 2)) { setups = 65088 ∷ [] }
 
 abbrev a0 : Image
 a0 = image_at 65088 32768 1
@@ -134,10 +134,13 @@ abbrev b0 : Image
 b0 = image_at 65088 16384 2
 
 abbrev sender2 : Sender
-sender2 = record sender1 { said = record { position = pos 65088; window = pos 32768 } ∷ [] }
+sender2 = after_status sender1 3 (pos 0) (record { position = pos 65088; window = pos 32768 })
+
+abbrev both_heard : Sender
+both_heard = after_status sender2 4 (pos 1) (record { position = pos 65088; window = pos 16384 })
 
 abbrev sender3 : Sender
-sender3 = record sender2 { at = 65600; passed = begin ∷ end ∷ aborted ∷ tripped ∷ abc ∷ []; sent = begin ∷ end ∷ aborted ∷ tripped ∷ abc ∷ [] }
+sender3 = record (in_cycle both_heard 5) { at = 65600; passed = begin ∷ end ∷ aborted ∷ tripped ∷ abc ∷ []; sent = begin ∷ end ∷ aborted ∷ tripped ∷ abc ∷ [] }
 
 abbrev a1 : Image
 a1 = after_insert a0 abc Stored
@@ -392,7 +395,7 @@ from_22 = (
 )
 
 abbrev rest_18 : List Event
-rest_18 = Open 0 65088 32768 1 ∷ Open 3 65088 16384 2 ∷ AtSender (HearStatus (record { position = pos 65088; window = pos 32768 })) ∷ AtSender (Send (begin ∷ end ∷ aborted ∷ tripped ∷ abc ∷ []) 65600) ∷ rest_22
+rest_18 = Open 0 65088 32768 1 ∷ Open 3 65088 16384 2 ∷ AtSender (HearStatus 3 (pos 0) (record { position = pos 65088; window = pos 32768 })) ∷ AtSender (HearStatus 4 (pos 1) (record { position = pos 65088; window = pos 16384 })) ∷ AtSender (Send 5 (begin ∷ end ∷ aborted ∷ tripped ∷ abc ∷ []) 65600) ∷ rest_22
 
 from_18 : Run (world log17 sender1 (replicate 8 None)) rest_18 last
 from_18 = (
@@ -405,9 +408,13 @@ from_18 = (
       world log17 sender2 (both (Some a0) (Some b0)),
       (sender2, refl, refl),
       (
-        world log17 sender3 (both (Some a0) (Some b0)),
-        (sender3, ((refl, (refl, (refl, (refl, (refl, refl))))), (inl refl, (inr (inl refl), (inr (inr (inl refl)), (inr (inr (inr (inl refl))), (inr (inr (inr (inr (inl refl)))), tt))))), (omega arith, (omega arith, (omega arith, (omega arith, (omega arith, tt))))), refl), refl),
-        from_22,
+        world log17 both_heard (both (Some a0) (Some b0)),
+        (both_heard, refl, refl),
+        (
+          world log17 sender3 (both (Some a0) (Some b0)),
+          (sender3, ((refl, (refl, (refl, (refl, (refl, refl))))), (inl refl, (inr (inl refl), (inr (inr (inl refl)), (inr (inr (inr (inl refl))), (inr (inr (inr (inr (inl refl)))), tt))))), (omega arith, (omega arith, (omega arith, (omega arith, (omega arith, tt))))), refl), refl),
+          from_22,
+        ),
       ),
     ),
   ),
@@ -416,21 +423,21 @@ from_18 = (
 abbrev rest_12 : List Event
 rest_12 = AtLog (Arm 0 97856) ∷ AtLog (Add 0 3) ∷ AtLog (Commit 65536 abc.frame) ∷ AtLog (Join 1 65088) ∷ AtLog (Leave 1) ∷ AtSender SendSetup ∷ rest_18
 
-from_12 : Run (world log12 (opened_sender start) (replicate 8 None)) rest_12 last
+from_12 : Run (world log12 (opened_sender start (Some 2)) (replicate 8 None)) rest_12 last
 from_12 = (
-  world log13 (opened_sender start) (replicate 8 None),
+  world log13 (opened_sender start (Some 2)) (replicate 8 None),
   (log13, ((omega arith, refl), omega arith, omega arith, refl), refl),
   (
-    world log14 (opened_sender start) (replicate 8 None),
+    world log14 (opened_sender start (Some 2)) (replicate 8 None),
     (log14, ((omega arith, refl), refl, omega arith, omega arith, refl), refl),
     (
-      world log15 (opened_sender start) (replicate 8 None),
+      world log15 (opened_sender start (Some 2)) (replicate 8 None),
       (log15, (record { entry = entry_for log13 0 3; among = inr (inr (inr (inl refl))); here = refl; frames = ((refl, refl), tt); bytes = (omega arith, (omega arith, (omega arith, tt))) }, refl), refl),
       (
-        world log16 (opened_sender start) (replicate 8 None),
+        world log16 (opened_sender start (Some 2)) (replicate 8 None),
         (log16, (refl, record { read = []; chain = refl; among = tt }, record { others_above = (omega arith, tt); readers_above = (omega arith, (tt, tt)) }, omega arith, refl), refl),
         (
-          world log17 (opened_sender start) (replicate 8 None),
+          world log17 (opened_sender start (Some 2)) (replicate 8 None),
           (log17, (consumer_at 65088, refl, inr (0, consumer_at start, λ e. absurd (omega arith), refl), refl), refl),
           (
             world log17 sender1 (replicate 8 None),
@@ -446,24 +453,24 @@ from_12 = (
 abbrev rest_6 : List Event
 rest_6 = AtLog (Commit 65088 begin.frame) ∷ AtLog (Abort 65408) ∷ AtLog (Commit 65088 end.frame) ∷ AtLog (Arm 0 97856) ∷ AtLog (Add 0 100) ∷ AtLog (Commit 65472 tripped.frame) ∷ rest_12
 
-from_6 : Run (world log6 (opened_sender start) (replicate 8 None)) rest_6 last
+from_6 : Run (world log6 (opened_sender start (Some 2)) (replicate 8 None)) rest_6 last
 from_6 = (
-  world log7 (opened_sender start) (replicate 8 None),
+  world log7 (opened_sender start (Some 2)) (replicate 8 None),
   (log7, (record { entry = entry_for log3 0 230; among = inl refl; here = refl; frames = ((refl, refl), tt); bytes = all_replicate (λ b. b < 256) 224 1 (omega arith) }, refl), refl),
   (
-    world log8 (opened_sender start) (replicate 8 None),
+    world log8 (opened_sender start (Some 2)) (replicate 8 None),
     (log8, (record { entry = entry_for log5 1 10; among = inr (inl refl); here = refl; open_message = refl; untouched = refl; cut = 42; single = refl }, refl), refl),
     (
-      world log9 (opened_sender start) (replicate 8 None),
+      world log9 (opened_sender start (Some 2)) (replicate 8 None),
       (log9, (record { entry = record (entry_for log3 0 230) { frames = begin.frame ∷ [] }; among = inl refl; here = refl; frames = ((refl, refl), ((refl, refl), tt)); bytes = all_replicate (λ b. b < 256) 6 2 (omega arith) }, refl), refl),
       (
-        world log10 (opened_sender start) (replicate 8 None),
+        world log10 (opened_sender start (Some 2)) (replicate 8 None),
         (log10, ((omega arith, refl), omega arith, omega arith, refl), refl),
         (
-          world log11 (opened_sender start) (replicate 8 None),
+          world log11 (opened_sender start (Some 2)) (replicate 8 None),
           (log11, ((omega arith, refl), refl, omega arith, omega arith, refl), refl),
           (
-            world log12 (opened_sender start) (replicate 8 None),
+            world log12 (opened_sender start (Some 2)) (replicate 8 None),
             (log12, (record { entry = entry_for log10 0 100; among = inr (inr (inl refl)); here = refl; frames = refl; bytes = tt }, refl), refl),
             from_12,
           ),
@@ -478,22 +485,22 @@ rest_0 = AtLog (Connect true) ∷ AtLog (Raise 65088) ∷ AtLog (Arm 0 97856) �
 
 from_0 : Run (world_at_start) rest_0 last
 from_0 = (
-  world log1 (opened_sender start) (replicate 8 None),
+  world log1 (opened_sender start (Some 2)) (replicate 8 None),
   (log1, refl, refl),
   (
-    world log2 (opened_sender start) (replicate 8 None),
+    world log2 (opened_sender start (Some 2)) (replicate 8 None),
     (log2, (refl, record { others_above = (omega arith, tt); readers_above = (omega arith, (tt, tt)) }, omega arith, refl, refl, refl), refl),
     (
-      world log3 (opened_sender start) (replicate 8 None),
+      world log3 (opened_sender start (Some 2)) (replicate 8 None),
       (log3, ((omega arith, refl), omega arith, omega arith, refl), refl),
       (
-        world log4 (opened_sender start) (replicate 8 None),
+        world log4 (opened_sender start (Some 2)) (replicate 8 None),
         (log4, ((omega arith, refl), refl, omega arith, omega arith, refl), refl),
         (
-          world log5 (opened_sender start) (replicate 8 None),
+          world log5 (opened_sender start (Some 2)) (replicate 8 None),
           (log5, ((omega arith, refl), omega arith, omega arith, refl), refl),
           (
-            world log6 (opened_sender start) (replicate 8 None),
+            world log6 (opened_sender start (Some 2)) (replicate 8 None),
             (log6, ((omega arith, refl), refl, omega arith, omega arith, refl), refl),
             from_6,
           ),

@@ -67,10 +67,10 @@ log_behind n old (Pass which past) new k h =
 log_behind n old (Retire a b) new k h = subst (IsKeptBehind n) (sym h.4) k
 
 sender_on : (l : Log) (old : Sender) (e : SenderEvent) (new : Sender) → SenderStep l.identity.geometry l.start (committed l.entries) old e new → old.at ≤ new.at
-sender_on l old (Send frames to) new h = subst (λ (s : Sender). old.at ≤ s.at) (sym h.3) (chain_le old.at to frames h.0)
+sender_on l old (Send now frames to) new h = subst (λ (s : Sender). old.at ≤ s.at) (sym h.3) (chain_le old.at to frames h.0)
 sender_on l old (Resend now a frames) new h = subst (λ (s : Sender). old.at ≤ s.at) (sym h.2) (omega arith)
 sender_on l old SendSetup new h = subst (λ (s : Sender). old.at ≤ s.at) (sym h) (omega arith)
-sender_on l old (HearStatus said) new h = subst (λ (s : Sender). old.at ≤ s.at) (sym h) (omega arith)
+sender_on l old (HearStatus now receiver said) new h = subst (λ (s : Sender). old.at ≤ s.at) (sym h) (omega arith)
 sender_on l old (See now) new h = subst (λ (s : Sender). old.at ≤ s.at) (sym h) (omega arith)
 sender_on l old (HearNak now p n) new h = subst (λ (s : Sender). old.at ≤ s.at) (sym h) (omega arith)
 

@@ -11,7 +11,7 @@ use Rattle.theory.proofs.Lists.{all_replicate}
 abbrev world_at : Identity → ℕ → ℕ → World
 world_at i start readers = record {
   log = record { identity = i; start = start; tail = start; entries = []; armed = replicate 8 false; retired = replicate 8 false; limit = start; connected = false; closed = false; cleaned = start; readers = replicate readers (Some (consumer_at start)) };
-  sender = opened_sender start;
+  sender = opened_sender start None;
   images = replicate 8 None;
 }
 

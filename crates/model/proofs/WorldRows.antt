@@ -4,10 +4,11 @@ use Rattle.std.proofs.Common.{zero, suc, ℕ, refl, inl, inr, sym, ◌∙◌, ar
 use Rattle.theory.specs.Placed.{Data, Placed}
 use Rattle.theory.specs.Bytes.{Byte}
 use Rattle.theory.specs.Consumer.{Consumer, consumer_at}
+use Rattle.theory.specs.GroupLimit.{StatusCame}
 use Rattle.theory.specs.Resend.{Action}
 use Rattle.model.specs.Headline.{HasLogBytes}
 use Rattle.model.specs.Log.{Log, LogStep, Add, Arm, Clean, Close, Connect, Leave, Raise, Retire}
-use Rattle.model.specs.Sender.{Sender, SenderStep, HearNak, See}
+use Rattle.model.specs.Sender.{Sender, SenderStep, HearNak, See, Send, in_cycle, sender_limit}
 use Rattle.theory.proofs.Rows.{abc, frame_of, the_geometry}
 use Rattle.model.proofs.LogRows.{log_at}
 
@@ -90,7 +91,7 @@ abbrev answered_one : ℕ → Action
 answered_one until = record { at = 64; length = 64; lingers = true; until = until }
 
 abbrev sender_with : ℕ → List Action → Sender
-sender_with clock actions = record { at = 128; clock = clock; passed = frame_of 0 64 ∷ frame_of 64 64 ∷ []; sent = []; setups = []; said = []; actions = actions }
+sender_with clock actions = record { at = 128; clock = clock; passed = frame_of 0 64 ∷ frame_of 64 64 ∷ []; sent = []; setups = []; group = None; heard = []; actions = actions }
 
 -- what was answered lingers for 60 ms, and is forgotten then: the same position is taken again
 lingers_still : SenderStep the_geometry 0 [] (sender_with 0 (answered_one 60000000 ∷ [])) (HearNak 59999999 (pos 64) (pos 64)) (sender_with 59999999 (answered_one 60000000 ∷ []))
@@ -102,3 +103,25 @@ is_forgotten = refl
 -- a moment that was seen before changes no clock
 no_step_back : SenderStep the_geometry 0 [] (sender_with 9 []) (See 4) (sender_with 9 [])
 no_step_back = refl
+
+-- ---- a sender to a group
+
+abbrev half_heard : Sender
+half_heard = record (sender_with 0 []) { at = 0; passed = []; group = Some 2; heard = StatusCame (pos 0) (pos 0) (pos 32768) 0 ∷ [] }
+
+-- a group of which one wasn't heard gets nothing
+no_early_send : (new : Sender) → SenderStep the_geometry 0 (frame_of 0 64 ∷ []) half_heard (Send 0 (frame_of 0 64 ∷ []) 64) new → ⊥
+no_early_send new h = absurd (omega (arith, h.2.0))
+
+-- a cycle that sends nothing counts: 5 s and a nanosecond after the other receiver's message the limit is the first one's
+abbrev one_silent : Sender
+one_silent = record half_heard { clock = 5000000000; heard = StatusCame (pos 0) (pos 0) (pos 32768) 5000000000 ∷ StatusCame (pos 1) (pos 0) (pos 64) 0 ∷ [] }
+
+abbrev one_left : Sender
+one_left = in_cycle one_silent 5000000001
+
+waits : SenderStep the_geometry 0 [] one_silent (Send 5000000001 [] 0) one_left
+waits = (refl, tt, tt, refl)
+
+limits : (sender_limit 0 half_heard ∷ sender_limit 0 one_silent ∷ sender_limit 0 one_left ∷ []) ≡ (0 ∷ 64 ∷ 32768 ∷ [])
+limits = refl

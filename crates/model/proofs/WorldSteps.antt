@@ -153,7 +153,7 @@ pub record SendsMore (l : Log) (old new : Sender) : Type 0 where
   pub more : (s : Placed) → Among s old.sent → Among s new.sent
 
 sender_step : (l : Log) (old : Sender) (e : SenderEvent) (new : Sender) → KeptSender l old → SenderStep l.identity.geometry l.start (committed l.entries) old e new → SendsMore l old new
-sender_step l old (Send frames to) new k h =
+sender_step l old (Send now frames to) new k h =
     subst (SendsMore l old) (sym h.3) (record {
       kept = record {
         passed = Chain-append l.start old.at to old.passed frames k.passed h.0;
@@ -171,7 +171,7 @@ sender_step l old (Resend now a frames) new k h =
       more = λ s b. among_right s frames old.sent b;
     })
 sender_step l old SendSetup new k h = subst (SendsMore l old) (sym h) (record { kept = record { passed = k.passed; sent = k.sent; read = k.read; unit = k.unit; setups = (k.unit, k.setups) }; more = λ s a. a })
-sender_step l old (HearStatus said) new k h = subst (SendsMore l old) (sym h) (record { kept = record { passed = k.passed; sent = k.sent; read = k.read; unit = k.unit; setups = k.setups }; more = λ s a. a })
+sender_step l old (HearStatus now receiver said) new k h = subst (SendsMore l old) (sym h) (record { kept = record { passed = k.passed; sent = k.sent; read = k.read; unit = k.unit; setups = k.setups }; more = λ s a. a })
 sender_step l old (See now) new k h = subst (SendsMore l old) (sym h) (record { kept = record { passed = k.passed; sent = k.sent; read = k.read; unit = k.unit; setups = k.setups }; more = λ s a. a })
 sender_step l old (HearNak now p n) new k h = subst (SendsMore l old) (sym h) (record { kept = record { passed = k.passed; sent = k.sent; read = k.read; unit = k.unit; setups = k.setups }; more = λ s a. a })
 

@@ -1,4 +1,4 @@
--- A run that there is: a message in two frames, a claim that is aborted, a trip of the term's end, a message in the next term; two images, one of which loses a frame and gets the others out of order, and one with two consumers, of which one lags; readers of the log that pass a frame by, and that join in the middle of a message.
+-- A run that there is: a message in two frames, a claim that is aborted, a trip of the term's end, a message in the next term; two images, one of which loses a frame and gets the others out of order, and one with two consumers, of which one lags; a sender to a group of two, which begins once both were heard; readers of the log that pass a frame by, and that join in the middle of a message.
 use Rattle.std.specs.Prelude.{◌≡◌, ℕ, pos, true, false, List, [], ◌∷◌, ◌++◌, replicate, None, Some, slice_get, ◌<◌, ◌%◌}
 use Rattle.theory.specs.Position.{IsGeometry, max_position}
 use Rattle.theory.specs.Placed.{Data, Pad, Placed}
@@ -30,7 +30,7 @@ log_at_start = record {
 }
 
 abbrev pub world_at_start : World
-world_at_start = record { log = log_at_start; sender = opened_sender start; images = replicate 8 None }
+world_at_start = record { log = log_at_start; sender = opened_sender start (Some 2); images = replicate 8 None }
 
 -- a message of 230 bytes
 abbrev pub begin : Placed
@@ -57,8 +57,8 @@ events =
     ∷ AtLog (Commit 65088 begin.frame) ∷ AtLog (Abort 65408) ∷ AtLog (Commit 65088 end.frame) ∷ AtLog (Arm 0 97856) ∷ AtLog (Add 0 100)
     ∷ AtLog (Commit 65472 tripped.frame) ∷ AtLog (Arm 0 97856) ∷ AtLog (Add 0 3) ∷ AtLog (Commit 65536 abc.frame)
     ∷ AtLog (Join 1 65088) ∷ AtLog (Leave 1)
-    ∷ AtSender SendSetup ∷ Open 0 65088 32768 1 ∷ Open 3 65088 16384 2 ∷ AtSender (HearStatus (record { position = pos 65088; window = pos 32768 }))
-    ∷ AtSender (Send (begin ∷ end ∷ aborted ∷ tripped ∷ abc ∷ []) 65600)
+    ∷ AtSender SendSetup ∷ Open 0 65088 32768 1 ∷ Open 3 65088 16384 2 ∷ AtSender (HearStatus 3 (pos 0) (record { position = pos 65088; window = pos 32768 })) ∷ AtSender (HearStatus 4 (pos 1) (record { position = pos 65088; window = pos 16384 }))
+    ∷ AtSender (Send 5 (begin ∷ end ∷ aborted ∷ tripped ∷ abc ∷ []) 65600)
     ∷ AtLog (Move 0 begin) ∷ AtLog (Join 1 65344) ∷ AtLog (Move 1 end) ∷ AtLog (Move 1 aborted) ∷ AtLog (Move 1 tripped) ∷ AtLog (Move 1 abc) ∷ AtLog (Pass 0 end)
     ∷ AtImage 0 (Inserted 65088 abc) ∷ AtImage 0 (Inserted 65088 begin) ∷ AtImage 0 (Inserted 65088 tripped) ∷ AtImage 0 (Inserted 65088 aborted)
     ∷ AtImage 0 (Poll 0 begin)

@@ -7,7 +7,7 @@ use Rattle.theory.specs.Entry.{committed}
 use Rattle.theory.specs.Numbered.{Each}
 use Rattle.theory.specs.Resend.{IsTaken, kept, nat_of}
 use Rattle.model.specs.Log.{Log, LogEvent, LogStep}
-use Rattle.model.specs.Sender.{HearNak, Sender, SenderEvent, SenderStep}
+use Rattle.model.specs.Sender.{HearNak, Sender, SenderEvent, SenderStep, sender_limit}
 use Rattle.model.specs.World.{World}
 
 -- the limit never falls, and stays while the log is unconnected or closed; a log is closed for good
@@ -22,6 +22,10 @@ KeepsLimit = (others : List ℕ) (old new : Log) (e : LogEvent) → LogStep othe
 -- no event takes a sender's clock back
 abbrev pub ClockNeverFalls : Type 0
 ClockNeverFalls = (g : Geometry) (start : ℕ) (read : List Placed) (old new : Sender) (e : SenderEvent) → SenderStep g start read old e new → old.clock ≤ new.clock
+
+-- how far a sender may send never falls, to one receiver or to a group
+abbrev pub FlowLimitNeverFalls : Type 0
+FlowLimitNeverFalls = (g : Geometry) (start : ℕ) (read : List Placed) (old new : Sender) (e : SenderEvent) → SenderStep g start read old e new → sender_limit start old ≤ sender_limit start new
 
 -- what a sender keeps of NAKs at the moment of another: those that haven't lingered long enough, and that one where it is taken
 pub record KeepsNak (g : Geometry) (start : ℕ) (old new : Sender) (now : ℕ) (position length : ℤ) : Type 0 where

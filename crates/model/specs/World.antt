@@ -39,8 +39,9 @@ abbrev pub Run : World → List Event → World → Type 0
 Run old [] new = new ≡ old
 Run old (e ∷ es) new = (mid : World) × Step old e mid × Run mid es new
 
-abbrev pub opened_sender : ℕ → Sender
-opened_sender start = record { at = start; clock = 0; passed = []; sent = []; setups = []; said = []; actions = [] }
+-- to a group of so many receivers, or to one
+abbrev pub opened_sender : ℕ → Option ℕ → Sender
+opened_sender start group = record { at = start; clock = 0; passed = []; sent = []; setups = []; group = group; heard = []; actions = [] }
 
 -- nothing is added, sent or opened yet; the readers that are there stand at the start
 pub record IsOpened (w : World) : Type 0 where
@@ -57,5 +58,5 @@ pub record IsOpened (w : World) : Type 0 where
   pub closed : w.log.closed ≡ false
   pub cleaned : w.log.cleaned ≡ w.log.start
   pub readers : Each (λ r. r ≡ consumer_at w.log.start) w.log.readers
-  pub sender : w.sender ≡ opened_sender w.log.start
+  pub sender : w.sender ≡ opened_sender w.log.start w.sender.group
   pub images : w.images ≡ replicate 8 None

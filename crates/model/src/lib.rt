@@ -20,7 +20,7 @@ ghost use Rattle.model.specs.CycleLaws.{CycleMaySend, CycleSendsAll, GroupsWell,
 ghost use Rattle.model.specs.ExampleRun.{ItRuns, AlwaysOpens};
 ghost use Rattle.model.specs.GapLaws.{ComputesContiguous, ComputesGap, HasOneContent};
 ghost use Rattle.model.specs.Headline.{Always, IsTiled, IsRebuiltRight, IsBounded, IsPrefixPolled, IsReadable, ArePublished, AreSpelled, AreGapsTold, HasItsRoom};
-ghost use Rattle.model.specs.StepLaws.{AreReached, ClockNeverFalls, HavePassed, KeepsLimit, KeepsNaks};
+ghost use Rattle.model.specs.StepLaws.{AreReached, ClockNeverFalls, FlowLimitNeverFalls, HavePassed, KeepsLimit, KeepsNaks};
 ghost use Rattle.model.specs.StreamLaws.{GivesMessages, HaveNoShare, RetiresForGood, SharesFollow};
 
 /// Whose the bytes of the stream are: an addition's are its publisher's, a retired publisher's are the other's, for good.
@@ -30,11 +30,12 @@ pub fn shares_follow_owners()
     ensures nothing { Always HaveNoShare }
 {}
 
-/// What each step keeps: the limit, a sender's clock, the NAKs that it answered; where consumers stand, and what a sender
+/// What each step keeps: the limit, a sender's clock and how far it may send, the NAKs that it answered; where consumers stand, and what a sender
 /// passed and sent.
 pub fn steps_keep()
     ensures limit { KeepsLimit }
     ensures clock { ClockNeverFalls }
+    ensures flow { FlowLimitNeverFalls }
     ensures naks { KeepsNaks }
     ensures reached { Always AreReached }
     ensures passed { Always HavePassed }

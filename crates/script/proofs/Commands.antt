@@ -1,13 +1,13 @@
 -- The commands of lines: reading one, and being said, are the same.
-use Rattle.std.proofs.Common.{◌≡◌, ℕ, Bool, true, false, ◌&&◌, List, [], ◌∷◌, Option, Some, None, inl, inr, refl, sym, ap, subst, ◌∙◌}
+use Rattle.std.proofs.Common.{◌≡◌, ℕ, Bool, true, false, cond, ◌&&◌, List, [], ◌∷◌, Option, Some, None, inl, inr, refl, sym, ap, subst, ◌∙◌}
 use Rattle.std.specs.Prelude.{bytes_eq, codes, nat_lt}
-use Rattle.std.proofs.lemmas.Bool.{cond-true, ltb-true, lt-ltb}
-use Rattle.script.specs.Meaning.{CommandContent, Connect, Disconnect, Close, Limit, Offer, OfferSize, Claim, Commit, Abort, Read, Send, Deliver, Raw, Tick, Reply, RawBack, Poll, Image}
+use Rattle.std.proofs.lemmas.Bool.{cond-false, cond-true, ltb-true, lt-ltb}
+use Rattle.script.specs.Meaning.{CommandContent, is_group, Group, Connect, Disconnect, Close, Limit, Offer, OfferSize, Claim, Commit, Abort, Read, Send, Deliver, Raw, Tick, Reply, RawBack, Poll, Image}
 use Rattle.script.specs.Pieces.{words}
 use Rattle.text.specs.Decimals.{◌>>=◌}
 use Rattle.script.specs.Values.{hex_of}
-use Rattle.script.specs.Reading.{word_at, number_at, most_wide, end_of, whole, last_number, last_bytes, named_of, raw_of, raw_back_of, offer_hex_of, offer_size_of, form_of, offer_of, send_of, deliver_of, reply_of, bare_of, party_alone_of, party_and_number_of, left_of, of_party, numbered_of, plain_of, command_of}
-use Rattle.script.specs.Language.{IsPartyNumber, IsWide, IsHex, SayCommand, Says}
+use Rattle.script.specs.Reading.{word_at, number_at, most_wide, end_of, whole, last_number, last_bytes, named_of, raw_of, raw_back_of, offer_hex_of, offer_size_of, form_of, offer_of, send_of, deliver_of, reply_of, bare_of, party_alone_of, party_and_number_of, left_of, of_party, numbered_of, plain_of, command_of, command_at, group_of, group_size_of, placed}
+use Rattle.script.specs.Language.{IsPartyNumber, IsUpTo, IsWide, IsHex, MayStand, SayCommand, Says}
 use Rattle.script.proofs.Options.{bind_some, some_bind, chosen, guarded_step}
 use Rattle.script.proofs.Words.{hex_found, hex_only}
 use Rattle.script.proofs.Fields.{same_name, word_found, number_at_found, number_at_only, whole_found, whole_only}
@@ -29,6 +29,26 @@ last_number_found ws n e =
 last_number_only : (w : List ℕ) (n : ℕ) → IsWide w n → last_number (w ∷ []) ≡ Some n
 unfolding last_number
 last_number_only w n is = some_bind (number_at most_wide (w ∷ [])) _ (n, []) (number_at_only most_wide w [] n is) ∙ whole_only n
+
+group_size_found : (ws : List (List ℕ)) (n : ℕ) → group_size_of ws ≡ Some n → (w : List ℕ) × (ws ≡ w ∷ []) × IsUpTo 8 w n
+unfolding group_size_of
+group_size_found ws n e =
+    let v = bind_some (number_at 8 ws) (λ v. whole v.0 v.1) n e in
+    let a = number_at_found 8 ws v.0 v.1 in
+    let end = whole_found v.0.0 v.0.1 n v.2 in
+    (a.0, a.1 ∙ ap (λ rest. a.0 ∷ rest) end.0, subst (IsUpTo 8 a.0) end.1 a.2)
+
+group_size_only : (w : List ℕ) (n : ℕ) → IsUpTo 8 w n → group_size_of (w ∷ []) ≡ Some n
+unfolding group_size_of
+group_size_only w n is = some_bind (number_at 8 (w ∷ [])) _ (n, []) (number_at_only 8 w [] n is) ∙ whole_only n
+
+group_found : (ws : List (List ℕ)) (o : CommandContent) → group_of ws ≡ Some o → SayCommand (codes "group" ∷ ws) o
+unfolding group_of
+group_found ws o e =
+    let n = bind_some (group_size_of ws) (λ size. cond (nat_lt 0 size) (Some (Group size)) None) o e in
+    let a = group_size_found ws n.0 n.1 in
+    let h = guarded_step (nat_lt 0 n.0) (Some (Group n.0)) o n.2 in
+    given (codes "group" ∷ ws) (Group n.0) o h.1 (a.0, ap (λ rest. codes "group" ∷ rest) a.1, a.2, ltb-true 0 n.0 h.0)
 
 send_found : (ws : List (List ℕ)) (o : CommandContent) → send_of ws ≡ Some o → SayCommand (codes "send" ∷ ws) o
 unfolding send_of
@@ -211,7 +231,10 @@ numbered_found name ws o e = elim (chosen (bytes_eq name (codes "send")) _ _ _ e
     | inl h ↦ named_says name (codes "deliver") ws o h.0 (deliver_found ws o h.1)
     | inr f2 ↦ elim (chosen (bytes_eq name (codes "reply")) _ _ _ f2.1) [
       | inl h ↦ named_says name (codes "reply") ws o h.0 (reply_found ws o h.1)
-      | inr h ↦ of_party_found name ws o h.1
+      | inr f3 ↦ elim (chosen (bytes_eq name (codes "group")) _ _ _ f3.1) [
+        | inl h ↦ named_says name (codes "group") ws o h.0 (group_found ws o h.1)
+        | inr h ↦ of_party_found name ws o h.1
+      ]
     ]
   ]
 ]
@@ -246,7 +269,10 @@ read_words : List (List ℕ) → Option CommandContent
 read_words ws = word_at ws >>= λ name. named_of name.0 name.1
 
 words_only : (ws : List (List ℕ)) (command : CommandContent) → SayCommand ws command → read_words ws ≡ Some command
-unfolding read_words word_at end_of named_of plain_of bare_of numbered_of of_party party_alone_of party_and_number_of offer_of form_of raw_of raw_back_of offer_hex_of offer_size_of send_of deliver_of reply_of
+unfolding read_words word_at end_of named_of plain_of bare_of numbered_of of_party party_alone_of party_and_number_of offer_of form_of raw_of raw_back_of offer_hex_of offer_size_of send_of deliver_of reply_of group_of
+words_only ws (Group n) (a, is, is_a, above) =
+    ap read_words is ∙ some_bind (group_size_of (a ∷ [])) _ n (group_size_only a n is_a)
+    ∙ cond-true (nat_lt 0 n) (Some (Group n)) None (lt-ltb 0 n above)
 words_only ws Connect is = ap read_words is
 words_only ws Disconnect is = ap read_words is
 words_only ws Close is = ap read_words is
@@ -297,3 +323,26 @@ words_only ws (Image r) (a, is, is_a) = ap read_words is ∙ some_bind (number_a
 pub command_only : (line : List ℕ) (command : CommandContent) → Says line command → command_of line ≡ Some command
 unfolding command_of read_words
 command_only line command says = words_only (words line) command says
+
+-- a command where it stands
+placed_found : (first : Bool) (x o : CommandContent) → placed first x ≡ Some o → (x ≡ o) × MayStand first x
+placed_found true x o e = (cc, tt)
+placed_found false x o e = elim (chosen (is_group x) None (Some x) (Some o) e) [
+  | inl h ↦ let wrong = h.1 in absurd (cc)
+  | inr h ↦ (let same = h.1 in cc, h.0)
+]
+
+pub command_at_found : (first : Bool) (line : List ℕ) (command : CommandContent) → command_at first line ≡ Some command → Says line command × MayStand first command
+unfolding command_at
+command_at_found first line command e =
+    let x = bind_some (command_of line) (placed first) command e in
+    let p = placed_found first x.0 command x.2 in
+    (subst (Says line) p.0 (command_found line x.0 x.1), subst (MayStand first) p.0 p.1)
+
+placed_only : (first : Bool) (command : CommandContent) → MayStand first command → placed first command ≡ Some command
+placed_only true command stands = refl
+placed_only false command stands = cond-false (is_group command) None (Some command) stands
+
+pub command_at_only : (first : Bool) (line : List ℕ) (command : CommandContent) → Says line command → MayStand first command → command_at first line ≡ Some command
+unfolding command_at
+command_at_only first line command says stands = some_bind (command_of line) (placed first) command (command_only line command says) ∙ placed_only first command stands

@@ -1,10 +1,10 @@
 -- The script language: what texts say, apart from how they are read.
-use Rattle.std.specs.Prelude.{◌≡◌, ℕ, ◌+◌, ◌-◌, ◌^◌, ◌<◌, ◌≤◌, ℤ, pos, neg_ℤ, Bool, true, false, ◌⊎◌, List, [], ◌∷◌, length, max, take, get_or, codes, Ok}
+use Rattle.std.specs.Prelude.{◌≡◌, ℕ, ◌+◌, ◌-◌, ◌^◌, ◌<◌, ◌≤◌, ℤ, pos, neg_ℤ, Bool, true, false, ◌⊎◌, List, [], ◌∷◌, length, max, nat_eq, take, get_or, codes, Ok}
 use Rattle.std.specs.List.{AllPass, Any, filter}
 use Rattle.std.specs.Char.{is_ascii_digit}
 use Rattle.std.specs.Str.Parse.{digits_value}
 use Rattle.hex.specs.Hex.{decode_of}
-use Rattle.script.specs.Meaning.{Opening, CommandContent, ScriptContent, Connect, Disconnect, Close, Limit, Offer, OfferSize, Claim, Commit, Abort, Read, Send, Deliver, Raw, Tick, Reply, RawBack, Poll, Image}
+use Rattle.script.specs.Meaning.{Opening, CommandContent, ScriptContent, is_group, Group, Connect, Disconnect, Close, Limit, Offer, OfferSize, Claim, Commit, Abort, Read, Send, Deliver, Raw, Tick, Reply, RawBack, Poll, Image}
 use Rattle.script.specs.Pieces.{lines, words}
 
 -- the word is a number, in decimal digits, with any leading zeros
@@ -43,6 +43,7 @@ IsHex word bytes = (0 < length bytes) × SpellsBytes word bytes
 
 -- words that say a command
 abbrev pub SayCommand : List (List ℕ) → CommandContent → Type 0
+SayCommand ws (Group size) = (a : List ℕ) × (ws ≡ codes "group" ∷ a ∷ []) × IsUpTo 8 a size × (0 < size)
 SayCommand ws Connect = ws ≡ codes "connect" ∷ []
 SayCommand ws Disconnect = ws ≡ codes "disconnect" ∷ []
 SayCommand ws Close = ws ≡ codes "close" ∷ []
@@ -87,22 +88,27 @@ abbrev pub is_full : List ℕ → Bool
 is_full [] = false
 is_full (byte ∷ line) = true
 
--- each line says its command
-abbrev pub AllSay : List (List ℕ) → List CommandContent → Type 0
-AllSay [] [] = Unit {0}
-AllSay [] (command ∷ commands) = ⊥
-AllSay (line ∷ ls) [] = ⊥
-AllSay (line ∷ ls) (command ∷ commands) = Says line command × AllSay ls commands
+-- a group is named only by the first command
+abbrev pub MayStand : Bool → CommandContent → Type 0
+MayStand true command = Unit {0}
+MayStand false command = is_group command ≡ false
 
--- Of the lines that aren't empty the first opens the log, and the others say the commands.
+-- each line says its command, the first of which is the first of all or not
+abbrev pub AllSay : Bool → List (List ℕ) → List CommandContent → Type 0
+AllSay first [] [] = Unit {0}
+AllSay first [] (command ∷ commands) = ⊥
+AllSay first (line ∷ ls) [] = ⊥
+AllSay first (line ∷ ls) (command ∷ commands) = Says line command × MayStand first command × AllSay false ls commands
+
+-- Of the lines that aren't empty the first opens the log, and the others say the commands; a group stands only right behind the log.
 abbrev pub IsScript : List ℕ → ScriptContent → Type 0
-IsScript text script = (first : List ℕ) × (rest : List (List ℕ)) × (filter is_full (lines text) ≡ first ∷ rest) × SaysOpening first script.log × AllSay rest script.commands
+IsScript text script = (first : List ℕ) × (rest : List (List ℕ)) × (filter is_full (lines text) ≡ first ∷ rest) × SaysOpening first script.log × AllSay true rest script.commands
 
--- A line fits behind others: it is empty; or it opens the log, and they are empty; or it says a command, and they aren't.
+-- A line fits behind others: it is empty; or it opens the log, and they are empty; or it says a command, and they aren't, and where it names a group, only one of them isn't.
 abbrev pub FitsBehind : List (List ℕ) → List ℕ → Type 0
 FitsBehind before line =
     (line ≡ []) ⊎ (((filter is_full before ≡ []) × ((log : Opening) × SaysOpening line log))
-    ⊎ ((0 < length (filter is_full before)) × ((command : CommandContent) × Says line command)))
+    ⊎ ((0 < length (filter is_full before)) × ((command : CommandContent) × Says line command × MayStand (nat_eq (length (filter is_full before)) 1) command)))
 
 -- the line at this place, counted from 0, fits behind those above it
 abbrev pub FitsAt : List (List ℕ) → ℕ → Type 0

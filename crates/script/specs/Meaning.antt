@@ -1,5 +1,5 @@
 -- What a script says, without where it lies in memory.
-use Rattle.std.specs.Prelude.{ℕ, ℤ, List, Option, Some, None, map}
+use Rattle.std.specs.Prelude.{ℕ, ℤ, Bool, true, false, List, [], ◌∷◌, Option, Some, None, map}
 use Rattle.script.specs.declared.command.Command.{Command}
 use Rattle.script.specs.declared.command.Command.TheVariants as commands
 use Rattle.script.specs.declared.command.LogLine.{LogLine}
@@ -15,8 +15,9 @@ pub record Opening : Type 0 where
   pub stream : ℤ
   pub readers : ℕ
 
--- what one line asks for; a message is its bytes or how many they are, a publisher, reader or receiver its number
+-- what one line asks for; a message is its bytes or how many they are, a publisher, reader or receiver its number, and a group how many receivers it has
 pub data CommandContent : Type 0 where
+  Group : ℕ → CommandContent
   Connect : CommandContent
   Disconnect : CommandContent
   Close : CommandContent
@@ -36,6 +37,16 @@ pub data CommandContent : Type 0 where
   Poll : ℕ → CommandContent
   Image : ℕ → CommandContent
 
+abbrev pub is_group : CommandContent → Bool
+is_group (Group size) = true
+is_group command = false
+
+-- the size of the group to which the sender sends, if the first command names it
+abbrev pub group_in : List CommandContent → Option ℕ
+group_in [] = None
+group_in (Group size ∷ commands) = Some size
+group_in (command ∷ commands) = None
+
 -- a whole script
 pub record ScriptContent : Type 0 where
   pub log : Opening
@@ -49,6 +60,7 @@ opened None = None
 opened (Some log) = Some (opening log)
 
 abbrev pub content_of : Command → CommandContent
+content_of (commands.Group size) = Group size.receivers
 content_of commands.Connect = Connect
 content_of commands.Disconnect = Disconnect
 content_of commands.Close = Close

@@ -1,9 +1,9 @@
 -- Reading from the first line to the last, and in a line from the first word to the last.
-use Rattle.std.specs.Prelude.{◌≡◌, ℕ, ◌+◌, ◌-◌, ◌^◌, ℤ, Bool, false, nat_lt, ◌&&◌, List, [], ◌∷◌, ◌++◌, length, max, Option, Some, None, Result, Ok, Err, if◌then◌else◌, codes, bytes_eq}
+use Rattle.std.specs.Prelude.{◌≡◌, ℕ, ◌+◌, ◌-◌, ◌^◌, ℤ, Bool, true, false, not, nat_lt, ◌&&◌, List, [], ◌∷◌, ◌++◌, length, max, Option, Some, None, Result, Ok, Err, if◌then◌else◌, codes, bytes_eq}
 use Rattle.std.specs.List.{list_any}
 use Rattle.script.specs.declared.fault.ScriptFault.{ScriptFault}
 use Rattle.script.specs.declared.fault.ScriptFault.TheVariants as faults
-use Rattle.script.specs.Meaning.{Opening, CommandContent, ScriptContent, Connect, Disconnect, Close, Limit, Offer, OfferSize, Claim, Commit, Abort, Read, Send, Deliver, Raw, Tick, Reply, RawBack, Poll, Image}
+use Rattle.script.specs.Meaning.{Opening, CommandContent, ScriptContent, is_group, Group, Connect, Disconnect, Close, Limit, Offer, OfferSize, Claim, Commit, Abort, Read, Send, Deliver, Raw, Tick, Reply, RawBack, Poll, Image}
 use Rattle.script.specs.Pieces.{lines, words}
 use Rattle.text.specs.Decimals.{◌>>=◌, number_of, signed_of}
 use Rattle.script.specs.Values.{hex_of}
@@ -66,7 +66,14 @@ form_of publisher form ws =
     if bytes_eq form (codes "hex") then offer_hex_of publisher ws
     else (if bytes_eq form (codes "size") then offer_size_of publisher ws else None)
 
+-- the size of a group, 1 to 8, as the last word
+unfoldable pub group_size_of : List (List ℕ) → Option ℕ
+group_size_of ws = number_at 8 ws >>= λ n. whole n.0 n.1
+
 -- what stands behind the names of some commands
+unfoldable pub group_of : List (List ℕ) → Option CommandContent
+group_of ws = group_size_of ws >>= λ size. (if nat_lt 0 size then Some (Group size) else None)
+
 unfoldable pub offer_of : List (List ℕ) → Option CommandContent
 offer_of ws = number_at 7 ws >>= λ p. word_at p.1 >>= λ form. form_of p.0 form.0 form.1
 
@@ -122,7 +129,8 @@ unfoldable pub numbered_of : List ℕ → List (List ℕ) → Option CommandCont
 numbered_of name ws =
     if bytes_eq name (codes "send") then send_of ws
     else (if bytes_eq name (codes "deliver") then deliver_of ws
-    else (if bytes_eq name (codes "reply") then reply_of ws else of_party name ws))
+    else (if bytes_eq name (codes "reply") then reply_of ws
+    else (if bytes_eq name (codes "group") then group_of ws else of_party name ws)))
 
 unfoldable pub plain_of : List ℕ → List (List ℕ) → Option CommandContent
 plain_of name ws = left_of (end_of ws) (bare_of name) (numbered_of name ws)
@@ -136,6 +144,17 @@ named_of name ws =
 
 unfoldable pub command_of : List ℕ → Option CommandContent
 command_of line = word_at (words line) >>= λ name. named_of name.0 name.1
+
+-- a command where it stands, the first or not
+abbrev pub placed : Bool → CommandContent → Option CommandContent
+placed first command = if not first && is_group command then None else Some command
+
+unfoldable pub command_at : Bool → List ℕ → Option CommandContent
+command_at first line = command_of line >>= λ command. placed first command
+
+abbrev pub are_none : List CommandContent → Bool
+are_none [] = true
+are_none (command ∷ commands) = false
 
 -- how a log is shaped
 pub record ShapeContent : Type 0 where
@@ -176,16 +195,16 @@ abbrev pub behind : {A B : Type 0} → ℕ → Option A → (A → Result B ℕ)
 behind number None next = Err number
 behind number (Some x) next = next x
 
--- what the lines from this number on say, once the log is opened or not; an error is the number of a line that doesn't fit
-unfoldable pub script_from : ℕ → Option Opening → List (List ℕ) → Result (Option Opening × List CommandContent) ℕ
-script_from number log [] = Ok (log, [])
-script_from number log ([] ∷ rest) = script_from (number + 1) log rest
-script_from number None ((byte ∷ line) ∷ rest) = behind number (log_of (byte ∷ line)) (λ log. script_from (number + 1) (Some log) rest)
-script_from number (Some log) ((byte ∷ line) ∷ rest) = behind number (command_of (byte ∷ line)) (λ command. with_front (command ∷ []) (script_from (number + 1) (Some log) rest))
+-- what the lines from this number on say, before the first command or behind it, once the log is opened or not; an error is the number of a line that doesn't fit
+unfoldable pub script_from : ℕ → Bool → Option Opening → List (List ℕ) → Result (Option Opening × List CommandContent) ℕ
+script_from number first log [] = Ok (log, [])
+script_from number first log ([] ∷ rest) = script_from (number + 1) first log rest
+script_from number first None ((byte ∷ line) ∷ rest) = behind number (log_of (byte ∷ line)) (λ log. script_from (number + 1) first (Some log) rest)
+script_from number first (Some log) ((byte ∷ line) ∷ rest) = behind number (command_at first (byte ∷ line)) (λ command. with_front (command ∷ []) (script_from (number + 1) false (Some log) rest))
 
 -- a line on, the rest says the same
 abbrev pub ReadsOn : ℕ → List ℕ → Option Opening → List CommandContent → Option Opening → List CommandContent → Type 0
-ReadsOn number line log commands next_log next_commands = (rest : List (List ℕ)) → with_front next_commands (script_from (number + 1) next_log rest) ≡ with_front commands (script_from number log (line ∷ rest))
+ReadsOn number line log commands next_log next_commands = (rest : List (List ℕ)) → with_front next_commands (script_from (number + 1) (are_none next_commands) next_log rest) ≡ with_front commands (script_from number (are_none commands) log (line ∷ rest))
 
 abbrev pub finished : Result (Option Opening × List CommandContent) ℕ → Result ScriptContent ℕ
 finished (Err number) = Err number
@@ -194,7 +213,7 @@ finished (Ok (Some log, commands)) = Ok (record { log = log; commands = commands
 
 -- the script that a text is, or the number of the line of its fault
 unfoldable pub script_of : List ℕ → Result ScriptContent ℕ
-script_of bytes = if list_any is_log (lines bytes) then finished (script_from 1 None (lines bytes)) else Err (max 1 (length (lines bytes)))
+script_of bytes = if list_any is_log (lines bytes) then finished (script_from 1 true None (lines bytes)) else Err (max 1 (length (lines bytes)))
 
 -- What was returned is what reading gives, unless memory runs out.
 abbrev pub FaultIs : {Y : Type 0} → ScriptFault → Result Y ℕ → Type 0

@@ -1,10 +1,17 @@
-ghost use Rattle.std.specs.Prelude.{◌<◌};
+ghost use Rattle.std.specs.Prelude.{◌<◌, ◌≤◌};
 
 /// The number of a publisher, a reader or a receiver: 0 to 7.
 #[derive(Clone, Copy)]
 pub struct PartyNumber {
     pub number: usize,
     pub ghost in_range: { number < 8 },
+}
+
+/// How many receivers a group has: 1 to 8.
+#[derive(Clone, Copy)]
+pub struct GroupSize {
+    pub receivers: usize,
+    pub ghost in_range: { receivers ≤ 8 },
 }
 
 /// What the log is opened with.
@@ -28,6 +35,10 @@ pub struct LogLine {
 /// moments are nanoseconds.
 #[derive(Drop)]
 pub enum Command {
+    /// The sender serves a group of receivers, with the ids from 0 on. Only the first command names one.
+    Group {
+        size: GroupSize,
+    },
     /// The keeper sets the connected flag.
     Connect,
     /// The keeper clears the connected flag.

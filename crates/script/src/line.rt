@@ -1,9 +1,9 @@
 ghost use Rattle.std.specs.Prelude.{◌≡◌, ◌^◌, ◌≤◌, IfSome};
-ghost use Rattle.script.specs.Meaning.{opening, content_of};
-ghost use Rattle.script.specs.Reading.{ReturnsRead, GivesAt, number_at, signed_at, last_number, last_bytes, offer_hex_of, offer_size_of, form_of, offer_of, raw_of, raw_back_of, named_of, send_of, deliver_of, reply_of, bare_of, party_alone_of, party_and_number_of, of_party, numbered_of, plain_of, command_of, shape_at, opening_of, log_of, is_log};
+ghost use Rattle.script.specs.Meaning.{opening, content_of, is_group};
+ghost use Rattle.script.specs.Reading.{ReturnsRead, GivesAt, number_at, signed_at, last_number, last_bytes, offer_hex_of, offer_size_of, form_of, offer_of, raw_of, raw_back_of, named_of, send_of, deliver_of, reply_of, bare_of, party_alone_of, party_and_number_of, of_party, numbered_of, plain_of, command_of, command_at, group_of, group_size_of, shape_at, opening_of, log_of, is_log};
 ghost use Rattle.script.specs.Rests.{shaped, words_left};
 
-use crate::command::{Command, LogLine, PartyNumber};
+use crate::command::{Command, GroupSize, LogLine, PartyNumber};
 use crate::fault::ScriptFault;
 use crate::pieces::Words;
 use crate::values::message_bytes;
@@ -50,6 +50,35 @@ fn last_number(words: Words<'_>) -> Option<u64>
     let (value, rest) = number_at(words, u64::MAX)?;
     rest.end()?;
     Some(value)
+}
+
+/// How many receivers a group has at the most.
+const MOST_RECEIVERS: u64 = 8;
+
+/// The number that the only word spells, if a group can have so many receivers.
+#[tactic(auto, unfolding(crate::specs::Reading::group_size_of))]
+fn group_size(words: Words<'_>) -> Option<u64>
+    ensures value { ReturnsRead (λ found. found) result (group_size_of (words_left words.entry)) }
+    ensures bound { IfSome result (λ size. size ≤ 8) }
+{
+    let (size, rest) = number_at(words, MOST_RECEIVERS)?;
+    rest.end()?;
+    Some(size)
+}
+
+#[tactic(auto, unfolding(crate::specs::Reading::group_of))]
+fn group(words: Words<'_>) -> Option<Command>
+    ensures { ReturnsRead content_of result (group_of (words_left words.entry)) }
+{
+    let size = group_size(words)?;
+    if size > 0 {
+        let size = GroupSize {
+            receivers: size as usize,
+        };
+        Some(Command::Group { size })
+    } else {
+        None
+    }
 }
 
 #[tactic(auto, unfolding(crate::specs::Reading::send_of))]
@@ -255,6 +284,8 @@ fn numbered(name: &[u8], words: Words<'_>) -> Option<Command>
         deliver(words)
     } else if name == b"reply".as_slice() {
         reply(words)
+    } else if name == b"group".as_slice() {
+        group(words)
     } else {
         of_party(name, words)
     }
@@ -289,12 +320,35 @@ fn named(alloc: Global, number: u64, name: &[u8], words: Words<'_>) -> Result<Co
 
 /// The command that a line says, which has this number.
 #[tactic(auto, unfolding(crate::specs::Reading::command_of))]
-pub fn command(alloc: Global, number: u64, line: &[u8]) -> Result<Command, ScriptFault>
+fn command(alloc: Global, number: u64, line: &[u8]) -> Result<Command, ScriptFault>
     ensures { GivesAt number content_of result (command_of line.now) }
 {
     let fault = ScriptFault::Line(number);
     let (name, rest) = Words::new(line).first().ok_or(fault)?;
     named(alloc, number, name, rest)
+}
+
+fn is_group(command: &Command) -> bool
+    ensures { result ≡ is_group (content_of command.now) }
+{
+    matches!(command, Command::Group { .. })
+}
+
+/// The command that a line says, which has this number and is the first command or not. Only the first names a group.
+#[tactic(auto, unfolding(crate::specs::Reading::command_at))]
+pub fn command_at(
+    alloc: Global,
+    number: u64,
+    first: bool,
+    line: &[u8],
+) -> Result<Command, ScriptFault>
+    ensures { GivesAt number content_of result (command_at first line.now) }
+{
+    let next = command(alloc, number, line)?;
+    if !first && is_group(&next) {
+        return Err(ScriptFault::Line(number));
+    }
+    Ok(next)
 }
 
 /// The greatest READERS.

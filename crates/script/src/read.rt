@@ -3,11 +3,11 @@ ghost use Rattle.std.specs.List.{Any, list_any};
 ghost use Rattle.script.specs.Language.{BeginsLog, IsScript, IsFaultLine};
 ghost use Rattle.script.specs.Meaning.{ScriptContent, opened, contents_of, script_content};
 ghost use Rattle.script.specs.Pieces.{lines};
-ghost use Rattle.script.specs.Reading.{FaultIs, GivesScript, ReadsOn, is_log, finished, script_from, script_of};
+ghost use Rattle.script.specs.Reading.{FaultIs, GivesScript, ReadsOn, are_none, is_log, finished, script_from, script_of};
 
 use crate::command::{Command, LogLine, Script};
 use crate::fault::ScriptFault;
-use crate::line::{command, is_log_line, log_line};
+use crate::line::{command_at, is_log_line, log_line};
 use crate::pieces::Lines;
 use std::alloc::Global;
 
@@ -20,7 +20,7 @@ fn read_line(
     commands: &mut Vec<Command>,
 ) -> Result<(), ScriptFault>
     ensures ok { OnOk result (ReadsOn number line.now (opened log.old) (contents_of commands.old.items) (opened log.new) (contents_of commands.new.items)) }
-    ensures err { IfErr result (λ fault. (rest : List (List ℕ)) → FaultIs fault (script_from number (opened log.old) (line.now ∷ rest))) }
+    ensures err { IfErr result (λ fault. (rest : List (List ℕ)) → FaultIs fault (script_from number (are_none (contents_of commands.old.items)) (opened log.old) (line.now ∷ rest))) }
 {
     if line.is_empty() {
         return Ok(());
@@ -33,7 +33,7 @@ fn read_line(
             *log = Some(opening);
         }
         Some(_) => {
-            let next = command(alloc, number, line)?;
+            let next = command_at(alloc, number, commands.is_empty(), line)?;
             commands.push(next)?;
         }
     }
@@ -42,7 +42,7 @@ fn read_line(
 
 /// The script of a text that has a line whose first word is `log`.
 fn read_lines(alloc: Global, bytes: &[u8]) -> Result<Script, ScriptFault>
-    ensures { GivesScript script_content result (finished (script_from 1 None (lines bytes.now))) }
+    ensures { GivesScript script_content result (finished (script_from 1 true None (lines bytes.now))) }
 {
     let mut log = None;
     let mut commands = Vec::new(alloc);
@@ -91,7 +91,7 @@ fn read(alloc: Global, bytes: &[u8]) -> Result<Script, ScriptFault>
 ///
 /// A text without any line whose first word is `log` has its fault on its last line, or on line 1 if it has no line.
 /// In any other the fault is on the first line from the top that doesn't fit: a line before the `log` line that isn't
-/// empty, another `log` line, a line of no form, or a number out of its range.
+/// empty, another `log` line, a `group` line that isn't the first behind it, a line of no form, or a number out of its range.
 pub fn read_script(alloc: Global, bytes: &[u8]) -> Result<Script, ScriptFault>
     // What is read is what the text says.
     ensures found { IfOk result (λ script. IsScript bytes.now (script_content script)) }

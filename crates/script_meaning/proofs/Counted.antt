@@ -145,6 +145,7 @@ hears_line s t now TellsNothing lines m h = subst IsCounted (sym m.1) h
 hears_line s t now (Unreadable fault) lines m h = subst IsCounted (sym m.1) h
 
 line_counts : (s t : ScriptState) (command : CommandContent) (lines : List LineContent) → Answers s command lines t → IsCounted s → IsCounted t
+line_counts s t (commands.Group size) lines m h = subst IsCounted (sym m.1) h
 line_counts s t commands.Connect lines m h = subst IsCounted (sym m.1) h
 line_counts s t commands.Disconnect lines m h = subst IsCounted (sym m.1) h
 line_counts s t commands.Close lines m h = subst IsCounted (sym m.1) h
@@ -177,7 +178,7 @@ none_yet : Counts (replicate 8 0) []
 none_yet k h = get_or-replicate 8 k 0 0 h
 
 pub always_counted : AlwaysCounted
-always_counted o played last m = all_count (opened_state (identity_of o) o.start o.readers) last played m none_yet
+always_counted o group played last m = all_count (opened_state (identity_of o) group o.start o.readers) last played m none_yet
 
 -- ---- the book
 

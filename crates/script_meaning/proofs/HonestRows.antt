@@ -1,14 +1,13 @@
 -- Which frames may come from a script's own bytes, at worked examples: term length 65536, MTU 1408, first term 7, session 1, stream 1001.
-use Rattle.std.specs.Prelude.{◌≡◌, ℕ, pos, List, [], ◌∷◌}
+use Rattle.std.specs.Prelude.{pos, [], ◌∷◌}
 use Rattle.std.proofs.Common.{append-nil, inl, refl, sym}
-use Rattle.theory.specs.Wire.{DATA, HEARTBEAT, IsFrame, SETUP, Setup, Wire, spelling}
+use Rattle.theory.specs.Wire.{DATA, HEARTBEAT, IsFrame, SETUP, Wire, spelling}
 use Rattle.theory.specs.Bytes.{header_at}
 use Rattle.theory.specs.Control.{setup_fields}
 use Rattle.image.specs.declared.answer.Insert.TheVariants as answers
-use Rattle.setup.specs.declared.fault.SetupError.TheVariants as faults
 use Rattle.receiver.specs.declared.receiver_core.Outcome.TheVariants as outcomes
 use Rattle.script_meaning.specs.LineContents.{OfReceiver}
-use Rattle.script_meaning.specs.Published.{AreHonestFrames, IsHonestFrame, WasPrinted}
+use Rattle.script_meaning.specs.Published.{AreHonestFrames, IsHonestFrame}
 use Rattle.theory.proofs.Readings.{stands_alone}
 use Rattle.theory.proofs.Rows.{abc, identity}
 

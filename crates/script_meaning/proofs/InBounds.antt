@@ -1,11 +1,11 @@
 -- Whatever bytes its receiver was handed, an image is in bounds.
-use Rattle.std.proofs.Common.{◌≡◌, ◌⊎◌, ◌∙◌, ℕ, ◌+◌, ◌*◌, ◌/◌, ◌<◌, ◌≤◌, max, min, List, [], ◌∷◌, ◌++◌, map, Bool, true, false, Option, None, Some, Result, Ok, Err, inl, inr, ⊎_elim, refl, sym, ap, subst, arith}
+use Rattle.std.proofs.Common.{◌≡◌, ℕ, ◌+◌, ◌*◌, ◌/◌, ◌<◌, ◌≤◌, max, min, List, [], ◌∷◌, ◌++◌, map, true, false, Option, None, Some, Result, Ok, Err, inl, inr, ⊎_elim, refl, sym, ap, subst, arith}
 use Rattle.std.specs.Prelude.{⊤, ℤ, pos, negsuc, nat_le, nat_lt, slice_get, slice_set}
 use Rattle.std.specs.List.{AllByRecursion, list_any}
 use Rattle.std.proofs.lemmas.Bool.{and_parts, cases_Bool, cond-false, cond-true, ltb-true}
 use Rattle.theory.specs.Position.{Geometry, max_position}
 use Rattle.theory.specs.Wire.{DATA, HEARTBEAT, Header, NAK, PAD, SETUP, SM, Setup, Wire}
-use Rattle.theory.specs.Placed.{AllAmong, Among, Chain, Data, Frame, IsReached, Pad, Placed, end_of}
+use Rattle.theory.specs.Placed.{Data, Frame, IsReached, Pad, Placed, end_of}
 use Rattle.theory.specs.Consumer.{Consumer, consumer_at, least_from, least_of}
 use Rattle.theory.specs.Control.{named_by}
 use Rattle.theory.specs.Insert.{AreApart, Below, CrossesTerm, Duplicate, Insert, OverWindow, Overlap, Stored, head_of, overlaps}
@@ -15,12 +15,12 @@ use Rattle.theory.proofs.Contiguous.{chain_bound, contiguous_is, end_below}
 use Rattle.theory.proofs.Follow.{one_end, passed_along, passed_more}
 use Rattle.theory.proofs.Frames.{AllBelow}
 use Rattle.theory.proofs.Held.{stored_apart}
-use Rattle.theory.proofs.Lists.{all_append, all_get, all_replicate, all_set, all_weaker}
+use Rattle.theory.proofs.Lists.{all_get, all_replicate, all_set, all_weaker}
 use Rattle.model.specs.Headline.{StayWithin}
 use Rattle.receiver.specs.declared.receiver_core.Outcome.{Outcome}
 use Rattle.receiver.specs.declared.poll_error.PollError.TheVariants as polls
 use Rattle.receiver.specs.declared.positions.Positions as places
-use Rattle.receiver.specs.Polling.{Answer, Polls, PollsImage, PollsOf, PollsWhole, ReadsFrames, TellsOf, with_only_consumer}
+use Rattle.receiver.specs.Polling.{Answer, PollsImage, PollsOf, ReadsFrames, TellsOf}
 use Rattle.receiver.specs.Receiving.{Meets, MeetsAll, MeetsFrame, MeetsHeartbeat, MeetsSetup, Opened, PassesBy, Receiver, TakesDatagram, answer_at, at_moment, given_at, ticked}
 use Rattle.publication.specs.declared.refusal.Refusal.{Refusal}
 use Rattle.one_hand.specs.Stream.{answer_of}
@@ -32,7 +32,7 @@ use Rattle.script_meaning.specs.Bounds.{AreInBounds, IsInBounds, IsInOrder, Tell
 use Rattle.script_meaning.specs.LineContents.{LineContent, positions_line}
 use Rattle.script_meaning.specs.Output.{AlwaysInBounds, AnswersAll, identity_of}
 use Rattle.script_meaning.specs.Published.{Played}
-use Rattle.script_meaning.specs.ScriptState.{ScriptState, listening_at, numbers, opened_state}
+use Rattle.script_meaning.specs.ScriptState.{ScriptState, opened_state}
 
 -- ---- an image
 
@@ -186,6 +186,7 @@ news_stays s t now TellsNothing lines h = ap (λ x. x.receivers) h.1
 news_stays s t now (Unreadable fault) lines h = ap (λ x. x.receivers) h.1
 
 line_kept : (s t : ScriptState) (command : CommandContent) (lines : List LineContent) → AllKept s → Answers s command lines t → AllKept t
+line_kept s t (commands.Group size) lines k m = same_receivers s t (ap (λ x. x.receivers) m.1) k
 line_kept s t commands.Connect lines k m = same_receivers s t (ap (λ x. x.receivers) m.1) k
 line_kept s t commands.Disconnect lines k m = same_receivers s t (ap (λ x. x.receivers) m.1) k
 line_kept s t commands.Close lines k m = same_receivers s t (ap (λ x. x.receivers) m.1) k
@@ -252,6 +253,7 @@ told_in_order (Some o) told k m =
     subst (λ x. IsInOrder (positions_line x)) (sym m.2) (omega (arith, same, least_low w.0 i.consumers w.3), omega (arith, same, w.2))
 
 tells_in_order : (s t : ScriptState) (command : CommandContent) (lines : List LineContent) → AllKept s → Answers s command lines t → TellsInOrder command lines
+tells_in_order s t (commands.Group size) lines k m = tt
 tells_in_order s t commands.Connect lines k m = tt
 tells_in_order s t commands.Disconnect lines k m = tt
 tells_in_order s t commands.Close lines k m = tt
@@ -280,4 +282,4 @@ always s last (p ∷ ps) k m =
     (later.0, (tells_in_order s m.0 p.command p.lines k m.1, later.1))
 
 pub always_in_bounds : AlwaysInBounds
-always_in_bounds o played last m = always (opened_state (identity_of o) o.start o.readers) last played (tt, (tt, (tt, (tt, (tt, (tt, (tt, (tt, tt)))))))) m
+always_in_bounds o group played last m = always (opened_state (identity_of o) group o.start o.readers) last played (tt, (tt, (tt, (tt, (tt, (tt, (tt, (tt, tt)))))))) m

@@ -31,39 +31,40 @@ use Rattle.theory.proofs.Tables.{map_replicate}
 use Rattle.script_meaning.specs.Standing.{Begins}
 use Rattle.script_meaning.proofs.Lone.{lone_closed, lone_there}
 use Rattle.script_meaning.proofs.Sound.{IsSound, Laws, and_line, law_of}
-use Rattle.script_meaning.proofs.SoundLines.{abort_line, claim_line, close_line, commit_line, connect_line, limit_line, offer_line}
+use Rattle.script_meaning.proofs.SoundLines.{abort_line, claim_line, close_line, commit_line, connect_line, limit_line, offer_line, same_state}
 use Rattle.script_meaning.proofs.SoundReceivers.{deliver_line, image_line, poll_line, raw_line, tick_line}
 use Rattle.script_meaning.proofs.SoundSenders.{back_line, reply_line, send_line}
 
-line : Laws → (i : Identity) (start readers only : ℕ) (played : List Played) (command : CommandContent) (lines : List LineContent) (s t : ScriptState) → Begins i start → (only < 8 → IsHonestLine only s.packets command lines) → IsSound i start readers only played s → Answers s command lines t → IsSound i start readers only (and_line played command lines) t
-line laws i start readers only played commands.Connect lines s t b honest h m = subst (λ x. IsSound i start readers only (and_line played commands.Connect lines) x) (sym m.1) (connect_line i start readers only played commands.Connect lines s true (record { joins = λ k. refl; polls = λ k. refl; reads = λ k. refl }) (λ g ranges. refl) h)
-line laws i start readers only played commands.Disconnect lines s t b honest h m = subst (λ x. IsSound i start readers only (and_line played commands.Disconnect lines) x) (sym m.1) (connect_line i start readers only played commands.Disconnect lines s false (record { joins = λ k. refl; polls = λ k. refl; reads = λ k. refl }) (λ g ranges. refl) h)
-line laws i start readers only played commands.Close lines s t b honest h m = subst (λ x. IsSound i start readers only (and_line played commands.Close lines) x) (sym m.1) (close_line i start readers only played lines s h)
-line laws i start readers only played commands.Limit lines s t b honest h m = limit_line i start readers only played lines s t h m
-line laws i start readers only played (commands.Offer by message) lines s t b honest h m = offer_line laws i start readers only played s t by (max_message s.log.identity.geometry) (length message) message (commands.Offer by message) lines b (record { joins = λ k. refl; polls = λ k. refl; reads = λ k. refl }) (λ g ranges ls. refl) h m
-line laws i start readers only played (commands.OfferSize by size) lines s t b honest h m = offer_line laws i start readers only played s t by (max_message s.log.identity.geometry) size (replicate size 97) (commands.OfferSize by size) lines b (record { joins = λ k. refl; polls = λ k. refl; reads = λ k. refl }) (λ g ranges ls. refl) h m
-line laws i start readers only played (commands.Claim by size) lines s t b honest h m = claim_line laws i start readers only played s t by (max_payload s.log.identity.geometry) size lines b h m
-line laws i start readers only played (commands.Commit by) lines s t b honest h m = commit_line laws i start readers only played s t by lines b h m
-line laws i start readers only played (commands.Abort by) lines s t b honest h m = abort_line laws i start readers only played s t by lines b h m
-line laws i start readers only played (commands.Read r) lines s t b honest h m = read_line i start readers only played s t r lines h m
-line laws i start readers only played (commands.Send now) lines s t b honest h m = send_line laws i start readers only played s t now lines b h m
-line laws i start readers only played (commands.Deliver k n now) lines s t b honest h m = deliver_line laws i start readers only played k n now lines s t b h m
-line laws i start readers only played (commands.Raw n now bytes) lines s t b honest h m = raw_line laws i start readers only played n now bytes lines s t b honest h m
-line laws i start readers only played (commands.Tick n now) lines s t b honest h m = tick_line i start readers only played n now lines s t h m
-line laws i start readers only played (commands.Reply k now) lines s t b honest h m = reply_line laws i start readers only played k now lines s t b h m
-line laws i start readers only played (commands.RawBack now bytes) lines s t b honest h m = back_line laws i start readers only played now bytes lines s t b h m
-line laws i start readers only played (commands.Poll n) lines s t b honest h m = poll_line i start readers only played n lines s t h m
-line laws i start readers only played (commands.Image n) lines s t b honest h m = image_line i start readers only played n lines s t h m
+line : Laws → (i : Identity) (group : Option ℕ) (start readers only : ℕ) (played : List Played) (command : CommandContent) (lines : List LineContent) (s t : ScriptState) → Begins i start → (only < 8 → IsHonestLine only s.packets command lines) → IsSound i group start readers only played s → Answers s command lines t → IsSound i group start readers only (and_line played command lines) t
+line laws i group start readers only played (commands.Group size) lines s t b honest h m = same_state i group start readers only played (commands.Group size) lines s t (record { joins = λ k. refl; polls = λ k. refl; reads = λ k. refl }) (λ g ranges. refl) m.1 h
+line laws i group start readers only played commands.Connect lines s t b honest h m = subst (λ x. IsSound i group start readers only (and_line played commands.Connect lines) x) (sym m.1) (connect_line i group start readers only played commands.Connect lines s true (record { joins = λ k. refl; polls = λ k. refl; reads = λ k. refl }) (λ g ranges. refl) h)
+line laws i group start readers only played commands.Disconnect lines s t b honest h m = subst (λ x. IsSound i group start readers only (and_line played commands.Disconnect lines) x) (sym m.1) (connect_line i group start readers only played commands.Disconnect lines s false (record { joins = λ k. refl; polls = λ k. refl; reads = λ k. refl }) (λ g ranges. refl) h)
+line laws i group start readers only played commands.Close lines s t b honest h m = subst (λ x. IsSound i group start readers only (and_line played commands.Close lines) x) (sym m.1) (close_line i group start readers only played lines s h)
+line laws i group start readers only played commands.Limit lines s t b honest h m = limit_line i group start readers only played lines s t h m
+line laws i group start readers only played (commands.Offer by message) lines s t b honest h m = offer_line laws i group start readers only played s t by (max_message s.log.identity.geometry) (length message) message (commands.Offer by message) lines b (record { joins = λ k. refl; polls = λ k. refl; reads = λ k. refl }) (λ g ranges ls. refl) h m
+line laws i group start readers only played (commands.OfferSize by size) lines s t b honest h m = offer_line laws i group start readers only played s t by (max_message s.log.identity.geometry) size (replicate size 97) (commands.OfferSize by size) lines b (record { joins = λ k. refl; polls = λ k. refl; reads = λ k. refl }) (λ g ranges ls. refl) h m
+line laws i group start readers only played (commands.Claim by size) lines s t b honest h m = claim_line laws i group start readers only played s t by (max_payload s.log.identity.geometry) size lines b h m
+line laws i group start readers only played (commands.Commit by) lines s t b honest h m = commit_line laws i group start readers only played s t by lines b h m
+line laws i group start readers only played (commands.Abort by) lines s t b honest h m = abort_line laws i group start readers only played s t by lines b h m
+line laws i group start readers only played (commands.Read r) lines s t b honest h m = read_line i group start readers only played s t r lines h m
+line laws i group start readers only played (commands.Send now) lines s t b honest h m = send_line laws i group start readers only played s t now lines b h m
+line laws i group start readers only played (commands.Deliver k n now) lines s t b honest h m = deliver_line laws i group start readers only played k n now lines s t b h m
+line laws i group start readers only played (commands.Raw n now bytes) lines s t b honest h m = raw_line laws i group start readers only played n now bytes lines s t b honest h m
+line laws i group start readers only played (commands.Tick n now) lines s t b honest h m = tick_line i group start readers only played n now lines s t h m
+line laws i group start readers only played (commands.Reply k now) lines s t b honest h m = reply_line laws i group start readers only played k now lines s t b h m
+line laws i group start readers only played (commands.RawBack now bytes) lines s t b honest h m = back_line laws i group start readers only played now bytes lines s t b h m
+line laws i group start readers only played (commands.Poll n) lines s t b honest h m = poll_line i group start readers only played n lines s t h m
+line laws i group start readers only played (commands.Image n) lines s t b honest h m = image_line i group start readers only played n lines s t h m
 
-goes_on : Laws → (i : Identity) (start readers only : ℕ) (done rest : List Played) (s last : ScriptState) → Begins i start → (only < 8 → AllHonest only (done ++ rest)) → s.packets ≡ printed done → IsSound i start readers only done s → AnswersAll s rest last → IsSound i start readers only (done ++ rest) last
-goes_on laws i start readers only done [] s last b honest shown h m = subst (λ x. IsSound i start readers only (done ++ []) x) (sym m) (subst (λ ps. IsSound i start readers only ps s) (sym (append-nil done)) h)
-goes_on laws i start readers only done (p ∷ ps) s last b honest shown h m =
+goes_on : Laws → (i : Identity) (group : Option ℕ) (start readers only : ℕ) (done rest : List Played) (s last : ScriptState) → Begins i start → (only < 8 → AllHonest only (done ++ rest)) → s.packets ≡ printed done → IsSound i group start readers only done s → AnswersAll s rest last → IsSound i group start readers only (done ++ rest) last
+goes_on laws i group start readers only done [] s last b honest shown h m = subst (λ x. IsSound i group start readers only (done ++ []) x) (sym m) (subst (λ ps. IsSound i group start readers only ps s) (sym (append-nil done)) h)
+goes_on laws i group start readers only done (p ∷ ps) s last b honest shown h m =
     let again : (done ++ p ∷ []) ++ ps ≡ done ++ p ∷ ps = append_assoc done (p ∷ []) ps in
-    subst (λ qs. IsSound i start readers only qs last) again
-    (goes_on laws i start readers only (done ++ p ∷ []) ps m.0 last b
+    subst (λ qs. IsSound i group start readers only qs last) again
+    (goes_on laws i group start readers only (done ++ p ∷ []) ps m.0 last b
     (λ low. subst (AllHonest only) (sym again) (honest low))
     (prints_more s m.0 done p shown m.1)
-    (line laws i start readers only done p.command p.lines s m.0 b (λ low. subst (λ xs. IsHonestLine only xs p.command p.lines) (sym shown) (honest low done ps p refl)) h m.1) m.2)
+    (line laws i group start readers only done p.command p.lines s m.0 b (λ low. subst (λ xs. IsHonestLine only xs p.command p.lines) (sym shown) (honest low done ps p refl)) h m.1) m.2)
 
 -- ---- where it begins
 
@@ -75,9 +76,9 @@ reader_there start zero k h = absurd (omega (arith, h))
 reader_there start (suc n) zero h = refl
 reader_there start (suc n) (suc k) h = reader_there start n k (omega (arith, h))
 
-begins : (i : Identity) (start readers only : ℕ) → Begins i start → IsSound i start readers only [] (opened_state i start readers)
-begins i start readers only b =
-    let s = opened_state i start readers in
+begins : (i : Identity) (group : Option ℕ) (start readers only : ℕ) → Begins i start → IsSound i group start readers only [] (opened_state i group start readers)
+begins i group start readers only b =
+    let s = opened_state i group start readers in
     record {
       runs = stays (world_of s) (world_of (lone only s)) (lone_closed only s (refl, (refl, (refl, (refl, (refl, (refl, (refl, (refl, tt)))))))));
       identity = refl;
@@ -95,10 +96,10 @@ begins i start readers only b =
 
 -- ---- what was polled
 
-has_polled : Laws → (i : Identity) (start readers k : ℕ) (played : List Played) (s : ScriptState) (r : Receiver) (o : Opened) (c : Consumer) → Begins i start → IsSound i start readers k played s → slice_get s.receivers k ≡ Some r → r.image ≡ Some o → o.image.consumers ≡ c ∷ [] → HasPolled (entries_of s) c
-has_polled laws i start readers k played s r o c b h there was one =
+has_polled : Laws → (i : Identity) (group : Option ℕ) (start readers k : ℕ) (played : List Played) (s : ScriptState) (r : Receiver) (o : Opened) (c : Consumer) → Begins i start → IsSound i group start readers k played s → slice_get s.receivers k ≡ Some r → r.image ≡ Some o → o.image.consumers ≡ c ∷ [] → HasPolled (entries_of s) c
+has_polled laws i group start readers k played s r o c b h there was one =
     let w = world_of (lone k s) in
-    let law = law_of laws.prefixes i start readers k s b h.runs in
+    let law = law_of laws.prefixes i group start readers k s b h.runs in
     let found : slice_get w.images k ≡ Some (Some o.image) = map_get image_of (lone k s).receivers k r (lone_there k s ∙ there) ∙ ap Some (ap (option_map (λ x. x.image)) was) in
     let all = each_get (λ x. AllByRecursion (λ c. HasPolled (entries_of s) c × (c.join ≡ x.join)) x.consumers) w.images k o.image found law.1 in
     (subst (λ cs. AllByRecursion (λ c. HasPolled (entries_of s) c × (c.join ≡ o.image.join)) cs) one all).0.0
@@ -115,12 +116,12 @@ told_least o c least rebuilt high told one tells e =
     let at : least ≡ least_of o.image.consumers = cc in
     sym (at ∙ ap least_of one)
 
-last_told : (i : Identity) (start readers : ℕ) (played : List Played) (last : ScriptState) (k : ℕ) (r : Receiver) (o : Opened) (c : Consumer) (least : ℕ) → AnswersAll (opened_state i start readers) played last → slice_get last.receivers k ≡ Some r → r.image ≡ Some o → o.image.consumers ≡ c ∷ [] → LastTold k least played → c.at ≡ least
-last_told i start readers played last k r o c least all there was one told =
+last_told : (i : Identity) (group : Option ℕ) (start readers : ℕ) (played : List Played) (last : ScriptState) (k : ℕ) (r : Receiver) (o : Opened) (c : Consumer) (least : ℕ) → AnswersAll (opened_state i group start readers) played last → slice_get last.receivers k ≡ Some r → r.image ≡ Some o → o.image.consumers ≡ c ∷ [] → LastTold k least played → c.at ≡ least
+last_told i group start readers played last k r o c least all there was one told =
     let rebuilt = told.1 in
     let high = told.2 in
     let lines = Positions least rebuilt high ∷ [] in
-    let parts = answers_split (opened_state i start readers) last told.0 (record { command = commands.Image k; lines = lines } ∷ []) (subst (λ ps. AnswersAll (opened_state i start readers) ps last) told.3 all) in
+    let parts = answers_split (opened_state i group start readers) last told.0 (record { command = commands.Image k; lines = lines } ∷ []) (subst (λ ps. AnswersAll (opened_state i group start readers) ps last) told.3 all) in
     let m = parts.2.1 in
     let same_state : last ≡ parts.0 = parts.2.2 ∙ m.5 in
     let found : Some m.1 ≡ Some r = sym m.2 ∙ ap (λ x. slice_get x.receivers k) (sym same_state) ∙ there in
@@ -129,59 +130,59 @@ last_told i start readers played last k r o c least all there was one told =
     let head : Positions least rebuilt high ≡ positions_line m.0 = cc in
     told_least o c least rebuilt high m.0 one (subst (λ x. TellsOf x m.0) (ap (λ x. x.image) same ∙ was) m.3) head
 
-polled_to : Laws → (i : Identity) (start readers k : ℕ) (played : List Played) (last : ScriptState) (r : Receiver) (o : Opened) → Begins i start → IsSound i start readers k played last → AnswersAll (opened_state i start readers) played last → slice_get last.receivers k ≡ Some r → r.image ≡ Some o → IsFollowed i o (joins k played) (polled k played) (AllWhole k played) → AllWhole k played → PolledTo i.geometry k played
-polled_to laws i start readers k played last r o b h all there was f whole =
+polled_to : Laws → (i : Identity) (group : Option ℕ) (start readers k : ℕ) (played : List Played) (last : ScriptState) (r : Receiver) (o : Opened) → Begins i start → IsSound i group start readers k played last → AnswersAll (opened_state i group start readers) played last → slice_get last.receivers k ≡ Some r → r.image ≡ Some o → IsFollowed i o (joins k played) (polled k played) (AllWhole k played) → AllWhole k played → PolledTo i.geometry k played
+polled_to laws i group start readers k played last r o b h all there was f whole =
     let c = f.consumer in
-    let law = has_polled laws i start readers k played last r o c b h there was f.one in
+    let law = has_polled laws i group start readers k played last r o c b h there was f.one in
     let heard = f.heard whole in
     let to : c.heard_to ≡ c.at = law.whole heard.0 in (
       c.join,
       c.at,
       f.joined,
       sym heard.1 ∙ law.given ∙ ap (λ q. messages c.join q (entries_of last)) to ∙ matched c.join c.at (entries_of last) (published i.geometry played) h.matches,
-      λ least told. last_told i start readers played last k r o c least all there was f.one told,
+      λ least told. last_told i group start readers played last k r o c least all there was f.one told,
     )
 
-of_image : Laws → (i : Identity) (start readers k : ℕ) (played : List Played) (last : ScriptState) (r : Receiver) (image : Option Opened) → Begins i start → IsSound i start readers k played last → AnswersAll (opened_state i start readers) played last → slice_get last.receivers k ≡ Some r → r.image ≡ image → FollowsImage image i (joins k played) (polled k played) (AllWhole k played) → AllWhole k played → PolledNothing k played ⊎ PolledTo i.geometry k played
-of_image laws i start readers k played last r None b h all there was f whole = inl f
-of_image laws i start readers k played last r (Some o) b h all there was f whole = inr (polled_to laws i start readers k played last r o b h all there was f whole)
+of_image : Laws → (i : Identity) (group : Option ℕ) (start readers k : ℕ) (played : List Played) (last : ScriptState) (r : Receiver) (image : Option Opened) → Begins i start → IsSound i group start readers k played last → AnswersAll (opened_state i group start readers) played last → slice_get last.receivers k ≡ Some r → r.image ≡ image → FollowsImage image i (joins k played) (polled k played) (AllWhole k played) → AllWhole k played → PolledNothing k played ⊎ PolledTo i.geometry k played
+of_image laws i group start readers k played last r None b h all there was f whole = inl f
+of_image laws i group start readers k played last r (Some o) b h all there was f whole = inr (polled_to laws i group start readers k played last r o b h all there was f whole)
 
 -- ---- what was read
 
-read_to : Laws → (i : Identity) (start readers only : ℕ) (played : List Played) (last : ScriptState) (k : ℕ) → Begins i start → IsSound i start readers only played last → k < readers → ReadTo i.geometry start (suc k) played
-read_to laws i start readers only played last k b h low =
+read_to : Laws → (i : Identity) (group : Option ℕ) (start readers only : ℕ) (played : List Played) (last : ScriptState) (k : ℕ) → Begins i start → IsSound i group start readers only played last → k < readers → ReadTo i.geometry start (suc k) played
+read_to laws i group start readers only played last k b h low =
     let found = h.reading k low in
     let c = found.0 in
     let was = found.2 in
     let shown = read (suc k) played in
     let end = start + covered_by shown in
     let ranges = published i.geometry played in
-    let law = law_of laws.prefixes i start readers only last b h.runs in
+    let law = law_of laws.prefixes i group start readers only last b h.runs in
     let has : HasPolled (entries_of last) c = each_get (HasPolled (entries_of last)) (map Some last.readers) k c (map_get Some last.readers k c found.1) law.0 in
     let to : c.heard_to ≡ end = has.whole was.whole ∙ was.at in
     sym (ap (λ a. a.given) was.heard) ∙ has.given ∙ ap (λ j. messages j c.heard_to (entries_of last)) was.join ∙ ap (λ q. messages start q (entries_of last)) to ∙ matched start end (entries_of last) ranges h.matches
 
 -- ---- after each line
 
-pub sound : Laws → (i : Identity) (start readers only : ℕ) (played : List Played) (last : ScriptState) → Begins i start → (only < 8 → AllHonest only played) → AnswersAll (opened_state i start readers) played last → IsSound i start readers only played last
-sound laws i start readers only played last b honest all = goes_on laws i start readers only [] played (opened_state i start readers) last b honest refl (begins i start readers only b) all
+pub sound : Laws → (i : Identity) (group : Option ℕ) (start readers only : ℕ) (played : List Played) (last : ScriptState) → Begins i start → (only < 8 → AllHonest only played) → AnswersAll (opened_state i group start readers) played last → IsSound i group start readers only played last
+sound laws i group start readers only played last b honest all = goes_on laws i group start readers only [] played (opened_state i group start readers) last b honest refl (begins i group start readers only b) all
 
 -- looked at through no receiver's image
-pub sound_log : Laws → (i : Identity) (start readers : ℕ) (played : List Played) (last : ScriptState) → Begins i start → AnswersAll (opened_state i start readers) played last → IsSound i start readers 8 played last
-sound_log laws i start readers played last b all = sound laws i start readers 8 played last b (λ low. absurd (omega (arith, low))) all
+pub sound_log : Laws → (i : Identity) (group : Option ℕ) (start readers : ℕ) (played : List Played) (last : ScriptState) → Begins i start → AnswersAll (opened_state i group start readers) played last → IsSound i group start readers 8 played last
+sound_log laws i group start readers played last b all = sound laws i group start readers 8 played last b (λ low. absurd (omega (arith, low))) all
 
-prefix : Laws → (i : Identity) (start readers : ℕ) (played : List Played) (last : ScriptState) → Begins i start → AnswersAll (opened_state i start readers) played last → PolledPrefix i.geometry played
-prefix laws i start readers played last b all k low whole honest =
-    let h = sound laws i start readers k played last b (λ l. honest) all in
+prefix : Laws → (i : Identity) (group : Option ℕ) (start readers : ℕ) (played : List Played) (last : ScriptState) → Begins i start → AnswersAll (opened_state i group start readers) played last → PolledPrefix i.geometry played
+prefix laws i group start readers played last b all k low whole honest =
+    let h = sound laws i group start readers k played last b (λ l. honest) all in
     let r = h.followed low in
-    of_image laws i start readers k played last r.0 r.0.image b h all r.1 refl r.2.image whole
+    of_image laws i group start readers k played last r.0 r.0.image b h all r.1 refl r.2.image whole
 
 pub always_polled : Laws → AlwaysPolled
-always_polled laws o played last legal identity starts all done later parts =
+always_polled laws o group played last legal identity starts all done later parts =
     let i = identity_of o in
-    let split = answers_split (opened_state i o.start o.readers) last done later (subst (λ ps. AnswersAll (opened_state i o.start o.readers) ps last) parts all) in
+    let split = answers_split (opened_state i group o.start o.readers) last done later (subst (λ ps. AnswersAll (opened_state i group o.start o.readers) ps last) parts all) in
     let b : Begins i o.start = record { geometry = legal; identity = identity; unit = starts.0; below = starts.1 } in
-    (prefix laws i o.start o.readers done split.0 b split.1, λ k low. read_to laws i o.start o.readers 8 done split.0 k b (sound_log laws i o.start o.readers done split.0 b split.1) low)
+    (prefix laws i group o.start o.readers done split.0 b split.1, λ k low. read_to laws i group o.start o.readers 8 done split.0 k b (sound_log laws i group o.start o.readers done split.0 b split.1) low)
 
 pub always_runs : Laws → AlwaysRuns
-always_runs laws o played last legal identity starts all k honest = (sound laws (identity_of o) o.start o.readers k played last (record { geometry = legal; identity = identity; unit = starts.0; below = starts.1 }) honest all).runs
+always_runs laws o group played last legal identity starts all k honest = (sound laws (identity_of o) group o.start o.readers k played last (record { geometry = legal; identity = identity; unit = starts.0; below = starts.1 }) honest all).runs

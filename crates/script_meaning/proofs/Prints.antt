@@ -1,5 +1,5 @@
 -- The packets of a state are those that the lines before it printed.
-use Rattle.std.proofs.Common.{◌≡◌, ◌⊎◌, ℕ, suc, List, [], ◌∷◌, ◌++◌, length, Result, Ok, Err, inl, inr, refl, sym, ap, ◌∙◌, append-nil, append_assoc}
+use Rattle.std.proofs.Common.{◌≡◌, ℕ, suc, List, [], ◌∷◌, ◌++◌, length, Result, Ok, Err, inl, inr, refl, sym, ap, ◌∙◌, append-nil}
 use Rattle.std.specs.List.{flat_map}
 use Rattle.std.proofs.lemmas.Grind.{flat_map-append}
 use Rattle.theory.specs.Wire.{Wire}
@@ -8,11 +8,10 @@ use Rattle.publication.specs.declared.refusal.Refusal.{Refusal}
 use Rattle.one_hand.specs.Stream.{answer_of}
 use Rattle.receiver.specs.Receiving.{replies}
 use Rattle.sender.specs.Cycling.{AsksSetup, Misses, NewsContent, Says, TellsNothing, Unreadable, alone, datagrams}
-use Rattle.sender.specs.declared.sender_core.SenderAnswer.TheVariants as answers
 use Rattle.script.specs.Meaning as commands
 use Rattle.script.specs.Meaning.{CommandContent}
 use Rattle.script_meaning.specs.Answers.{Answers, Claims, Offered, SenderHears, lines_of, or_nothing, packet_lines, wires_of}
-use Rattle.script_meaning.specs.LineContents.{LineContent, OfSender}
+use Rattle.script_meaning.specs.LineContents.{LineContent}
 use Rattle.script_meaning.specs.Published.{Played, packets_by, packets_in, printed}
 use Rattle.script_meaning.specs.ScriptState.{ScriptState}
 
@@ -59,6 +58,7 @@ hears s t now TellsNothing lines h = gives_none s t (flat_map packets_in lines) 
 hears s t now (Unreadable fault) lines h = gives_none s t (flat_map packets_in lines) (ap (λ x. x.packets) h.1) (ap (flat_map packets_in) h.0)
 
 line_prints : (s t : ScriptState) (command : CommandContent) (lines : List LineContent) → Answers s command lines t → Gives s t (packets_by command lines)
+line_prints s t (commands.Group size) lines m = gives_none s t [] (ap (λ x. x.packets) m.1) refl
 line_prints s t commands.Connect lines m = gives_none s t [] (ap (λ x. x.packets) m.1) refl
 line_prints s t commands.Disconnect lines m = gives_none s t [] (ap (λ x. x.packets) m.1) refl
 line_prints s t commands.Close lines m = gives_none s t [] (ap (λ x. x.packets) m.1) refl

@@ -1,5 +1,5 @@
 -- A line of a reader leaves a sound state.
-use Rattle.std.proofs.Common.{◌≡◌, ◌⊎◌, ℕ, zero, suc, ◌+◌, ◌-◌, ◌<◌, ⊎_elim, List, [], ◌∷◌, ◌++◌, Bool, true, false, cond, None, Some, inl, inr, refl, sym, ap, ◌∙◌, subst, arith, append-nil}
+use Rattle.std.proofs.Common.{Option, ◌≡◌, ◌⊎◌, ℕ, zero, suc, ◌+◌, ◌-◌, ◌<◌, ⊎_elim, List, [], ◌∷◌, ◌++◌, Bool, true, false, cond, None, Some, inl, inr, refl, sym, ap, ◌∙◌, subst, arith, append-nil}
 use Rattle.std.specs.Prelude.{nat_eq, slice_get, slice_set}
 use Rattle.std.specs.List.{flat_map}
 use Rattle.std.proofs.lemmas.Bool.{cases_eq, cond-true, cond-false, eq-eqb, ne_eqb}
@@ -57,8 +57,8 @@ own_frame : (r at : ℕ) (f : Frame) (lines : List LineContent) → lines ≡ fr
 own_frame r at f lines e = cond-true (nat_eq r r) (flat_map frames_in lines) [] (eq-eqb r r refl) ∙ ap (flat_map frames_in) e ∙ of_line at f
 
 -- the reader is known
-reader_so : (i : Identity) (start readers only : ℕ) (played : List Played) (s : ScriptState) (k : ℕ) (c : Consumer) → IsSound i start readers only played s → slice_get s.readers k ≡ Some c → (k < readers) × ReadSo start c (read (suc k) played)
-reader_so i start readers only played s k c h there =
+reader_so : (i : Identity) (group : Option ℕ) (start readers only : ℕ) (played : List Played) (s : ScriptState) (k : ℕ) (c : Consumer) → IsSound i group start readers only played s → slice_get s.readers k ≡ Some c → (k < readers) × ReadSo start c (read (suc k) played)
+reader_so i group start readers only played s k c h there =
     let low : k < readers = omega (arith, slice_get_within s.readers k c there, h.seats) in
     let known = h.reading k low in
     let found : Some c ≡ Some known.0 = sym there ∙ known.1 in
@@ -83,17 +83,17 @@ moves s k c past there among here whole =
     subst (λ rs. Goes w (record w { log = record w.log { readers = rs } })) (sym (map-set Some s.readers k after))
     (goes_one w (record w { log = l }) (AtLog (Move k past)) (l, (c, map_get Some s.readers k c there, record { among = among_kept s.past s.log.entries past among; here = here }, whole, refl), refl))
 
-frame_read : (i : Identity) (start readers only : ℕ) (played : List Played) (s t : ScriptState) (k : ℕ) (lines : List LineContent) → IsSound i start readers only played s → ReaderReads s (suc k) lines t → IsSound i start readers only (and_line played (commands.Read (suc k)) lines) t
-frame_read i start readers only played s t k lines h m =
+frame_read : (i : Identity) (group : Option ℕ) (start readers only : ℕ) (played : List Played) (s t : ScriptState) (k : ℕ) (lines : List LineContent) → IsSound i group start readers only played s → ReaderReads s (suc k) lines t → IsSound i group start readers only (and_line played (commands.Read (suc k)) lines) t
+frame_read i group start readers only played s t k lines h m =
     let c = m.0 in
     let past = m.1 in
     let d = moved c past in
     let command = commands.Read (suc k) in
-    let known = reader_so i start readers only played s k c h m.2 in
+    let known = reader_so i group start readers only played s k c h m.2 in
     let v = read_scene s k d in
     let goes = moves (lone only s) k c past m.2 m.3 m.4 known.1.whole in
-    subst (λ x. IsSound i start readers only (and_line played command lines) x) (sym (m.6 ∙ same_place s k d)) (record {
-      runs = goes_on (world_of (opened_state i start readers)) (world_of (lone only s)) (world_of (lone only v)) h.runs goes;
+    subst (λ x. IsSound i group start readers only (and_line played command lines) x) (sym (m.6 ∙ same_place s k d)) (record {
+      runs = goes_on (world_of (opened_state i group start readers)) (world_of (lone only s)) (world_of (lone only v)) h.runs goes;
       identity = h.identity;
       start_is = h.start_is;
       consumers = ap (λ ps. slice_set ps (suc k) d.at) h.consumers ∙ ap (λ ps. s.sender.at ∷ ps) (sym (map-set (λ (x : Consumer). x.at) s.readers k d));
@@ -116,13 +116,13 @@ frame_read i start readers only played s t k lines h m =
           (cases_eq k j);
     })
 
-pub read_line : (i : Identity) (start readers only : ℕ) (played : List Played) (s t : ScriptState) (r : ℕ) (lines : List LineContent) → IsSound i start readers only played s → HasNoReader s r lines t ⊎ (ReaderFindsNone s r lines t ⊎ ReaderReads s r lines t) → IsSound i start readers only (and_line played (commands.Read r) lines) t
-read_line i start readers only played s t r lines h (inl m) =
-    same_state i start readers only played (commands.Read r) lines s t (record { joins = λ k. refl; polls = λ k. refl; reads = λ k. nothing_shown r (suc k) Bad lines refl m.1.0 }) (λ g ranges. refl) m.1.1 h
-read_line i start readers only played s t r lines h (inr (inl m)) =
-    same_state i start readers only played (commands.Read r) lines s t (record { joins = λ k. refl; polls = λ k. refl; reads = λ k. nothing_shown r (suc k) NoMessage lines refl m.3 }) (λ g ranges. refl) m.4 h
-read_line i start readers only played s t zero lines h (inr (inr m)) = absurd (no_reader m.0 m.2)
+pub read_line : (i : Identity) (group : Option ℕ) (start readers only : ℕ) (played : List Played) (s t : ScriptState) (r : ℕ) (lines : List LineContent) → IsSound i group start readers only played s → HasNoReader s r lines t ⊎ (ReaderFindsNone s r lines t ⊎ ReaderReads s r lines t) → IsSound i group start readers only (and_line played (commands.Read r) lines) t
+read_line i group start readers only played s t r lines h (inl m) =
+    same_state i group start readers only played (commands.Read r) lines s t (record { joins = λ k. refl; polls = λ k. refl; reads = λ k. nothing_shown r (suc k) Bad lines refl m.1.0 }) (λ g ranges. refl) m.1.1 h
+read_line i group start readers only played s t r lines h (inr (inl m)) =
+    same_state i group start readers only played (commands.Read r) lines s t (record { joins = λ k. refl; polls = λ k. refl; reads = λ k. nothing_shown r (suc k) NoMessage lines refl m.3 }) (λ g ranges. refl) m.4 h
+read_line i group start readers only played s t zero lines h (inr (inr m)) = absurd (no_reader m.0 m.2)
   where
     no_reader : (c : Consumer) → None ≡ Some c → ⊥
     no_reader c e = absurd (cc)
-read_line i start readers only played s t (suc k) lines h (inr (inr m)) = frame_read i start readers only played s t k lines h m
+read_line i group start readers only played s t (suc k) lines h (inr (inr m)) = frame_read i group start readers only played s t k lines h m

@@ -8,7 +8,6 @@ use Rattle.theory.specs.Placed.{AllAmong, Among, Chain, Placed, end_of, place_al
 use Rattle.theory.specs.Consumer.{Consumer}
 use Rattle.theory.specs.Entry.{Entry, committed, entry_end}
 use Rattle.theory.specs.Tiling.{Tiles}
-use Rattle.theory.specs.FlowLimit.{flow_limit}
 use Rattle.theory.specs.Datagrams.{MayBeSent, frames_of}
 use Rattle.theory.specs.Position.{Geometry, position_of}
 use Rattle.theory.specs.Resend.{Action, answered, first_due, resent}
@@ -18,7 +17,7 @@ use Rattle.model.specs.CycleLaws.{MaySend}
 use Rattle.model.specs.Log as model
 use Rattle.model.specs.Log.{Clean, Close, Connect, Raise}
 use Rattle.model.specs.Log.{IsLowest}
-use Rattle.model.specs.Sender.{Sender, SenderEvent, SenderStep}
+use Rattle.model.specs.Sender.{Sender, SenderEvent, SenderStep, in_cycle, sender_limit}
 use Rattle.model.specs.Sender.{HearNak, HearStatus, Resend, See, Send, SendSetup}
 use Rattle.model.specs.World.{World}
 use Rattle.model.specs.World.{AtLog, AtSender}
@@ -29,7 +28,7 @@ use Rattle.retransmit.specs.Handler.{answered_first}
 use Rattle.theory.proofs.Places.{power_unit}
 use Rattle.one_hand.specs.Legal.{IsStream}
 use Rattle.one_hand.specs.Stream.{Stream, clean_end, cleaned_and_limited, forgotten_below, kept_from, least, raised}
-use Rattle.script_meaning.specs.Answers.{IsCycle, after_cycle, again_for, behind_new, end_from, heard, limit_of, missed, named, place_in, resent_on, sent_on, with_log, woken}
+use Rattle.script_meaning.specs.Answers.{IsCycle, after_cycle, again_for, behind_new, clock_at, cycle_limit, end_from, heard, missed, named, place_in, resent_on, sent_on, with_log, woken}
 use Rattle.sender.specs.Cycling.{Cycle, GivesNew}
 use Rattle.script_meaning.specs.ScriptState.{ScriptState, model_log, world_of}
 use Rattle.script_meaning.proofs.Runs.{Goes, goes_one, goes_on, stays}
@@ -38,16 +37,22 @@ use Rattle.script_meaning.proofs.Runs.{Goes, goes_one, goes_on, stays}
 abbrev pub with_sender : World → Sender → World
 with_sender w x = record w { sender = x }
 
-abbrev limit_in : World → ℕ
-limit_in w = flow_limit w.log.start w.sender.said
+-- in a cycle at this moment
+abbrev limit_in : World → ℕ → ℕ
+limit_in w now = sender_limit w.log.start (in_cycle w.sender (max w.sender.clock now))
 
 pub named_at : (x : Sender) (due : Bool) → (named x due).at ≡ x.at
 named_at x true = refl
 named_at x false = refl
 
-pub named_said : (x : Sender) (due : Bool) → (named x due).said ≡ x.said
-named_said x true = refl
-named_said x false = refl
+pub named_clock : (x : Sender) (due : Bool) → (named x due).clock ≡ x.clock
+named_clock x true = refl
+named_clock x false = refl
+
+-- a SETUP doesn't change how far it may send
+named_limit : (start now : ℕ) (x : Sender) (due : Bool) → sender_limit start (in_cycle x now) ≡ sender_limit start (in_cycle (named x due) now)
+named_limit start now x true = refl
+named_limit start now x false = refl
 
 at_sender : (w : World) (e : SenderEvent) (x : Sender) → SenderStep w.log.identity.geometry w.log.start (committed w.log.entries) w.sender e x → Goes w (with_sender w x)
 at_sender w e x step = goes_one w (with_sender w x) (AtSender e) (x, step, refl)
@@ -74,14 +79,14 @@ all_kept past es ss h = all_weaker (λ s. Among s (committed es)) (λ s. Among s
 pub may_send : (g : Geometry) (frames : List Placed) (at limit : ℕ) (sent : List (List Placed)) → GivesNew g frames at limit sent → MaySend frames at limit (frames_of sent)
 may_send g frames at limit sent h = subst (λ ds. MaySend frames at limit (frames_of ds)) (sym h.sent_is) (cycle_sends g frames at h.to limit h.reads h.read.chain h.read.among)
 
-pub sends : (w : World) (past es : List Entry) (limit : ℕ) (frames : List Placed) → w.log.entries ≡ past ++ es → limit ≡ limit_in w → MaySend (committed es) w.sender.at limit frames → Goes w (with_sender w (sent_on w.sender frames))
-sends w past es limit frames parts l may =
+pub sends : (w : World) (past es : List Entry) (limit now clock : ℕ) (frames : List Placed) → w.log.entries ≡ past ++ es → limit ≡ limit_in w now → clock ≡ max w.sender.clock now → MaySend (committed es) w.sender.at limit frames → Goes w (with_sender w (sent_on (in_cycle w.sender clock) frames))
+sends w past es limit now clock frames parts l seen may =
     let chain : Chain w.sender.at (end_from w.sender.at frames) frames = subst (λ to. Chain w.sender.at to frames) (chain_end w.sender.at may.to frames may.chain) may.chain in
-    at_sender w (Send frames (end_from w.sender.at frames)) (sent_on w.sender frames) (
+    at_sender w (Send now frames (end_from w.sender.at frames)) (sent_on (in_cycle w.sender clock) frames) (
       chain,
       subst (λ xs. AllAmong (committed xs) frames) (sym parts) (all_kept past es frames may.among),
       subst (λ x. AllByRecursion (MayBeSent x) frames) l may.allowed,
-      refl,
+      ap (λ c. sent_on (in_cycle w.sender c) frames) seen,
     )
 
 -- frames go out again
@@ -102,15 +107,17 @@ pub cycles : (s : ScriptState) (now : ℕ) (y : Cycle) → IsCycle s now y → G
 cycles s now y h =
     let w = world_of s in
     let g = s.log.identity.geometry in
-    let a = with_sender w (woken s now) in
-    let b = with_sender w (named (woken s now) y.setup) in
+    let b = with_sender w (named s.sender y.setup) in
     let x = behind_new s now y in
     let c = with_sender w x in
     let last = world_of (after_cycle s now y) in
-    let may : MaySend (committed s.log.entries) b.sender.at (limit_of s.log s.sender) (frames_of y.fresh) = subst (λ p. MaySend (committed s.log.entries) p (limit_of s.log s.sender) (frames_of y.fresh)) (sym (named_at (woken s now) y.setup)) (may_send g (committed s.log.entries) s.sender.at (limit_of s.log s.sender) y.fresh h.new) in
-    let new : Goes b c = sends b s.past s.log.entries (limit_of s.log s.sender) (frames_of y.fresh) refl (ap (λ said. flow_limit s.log.start said) (sym (named_said (woken s now) y.setup))) may in
+    let limit = cycle_limit s now in
+    let clock : clock_at s now ≡ max (named s.sender y.setup).clock now = ap (λ k. max k now) (sym (named_clock s.sender y.setup)) in
+    let may : MaySend (committed s.log.entries) b.sender.at limit (frames_of y.fresh) = subst (λ p. MaySend (committed s.log.entries) p limit (frames_of y.fresh)) (sym (named_at s.sender y.setup)) (may_send g (committed s.log.entries) s.sender.at limit y.fresh h.new) in
+    let allowed : limit ≡ limit_in b now = named_limit s.log.start (clock_at s now) s.sender y.setup ∙ ap (λ k. sender_limit s.log.start (in_cycle (named s.sender y.setup) k)) clock in
+    let new : Goes b c = sends b s.past s.log.entries limit now (clock_at s now) (frames_of y.fresh) refl allowed clock may in
     let again : Goes c last = subst (λ ds. Goes c (with_sender w (resent_on x (frames_of ds)))) (sym h.again) (resends c (first_due x.actions) refl) in
-    goes_on w a last (sees w now) (goes_on a b last (names a y.setup) (goes_on b c last new again))
+    goes_on w b last (names w y.setup) (goes_on b c last new again)
 
 -- a negative acknowledgement
 pub misses : (s : ScriptState) (now : ℕ) (f : Nak) → Goes (world_of s) (world_of (record s { sender = missed s now f }))
@@ -119,9 +126,7 @@ misses s now f = at_sender (world_of s) (HearNak now (place_in s f) f.length) (m
 -- a status message
 pub hears : (s : ScriptState) (now : ℕ) (f : Status) → Goes (world_of s) (with_sender (world_of s) (heard s now f))
 hears s now f =
-    let w = world_of s in
-    let a = with_sender w (woken s now) in
-    goes_on w a (with_sender w (heard s now f)) (sees w now) (at_sender a (HearStatus (record { position = position_of s.log.identity.geometry f.term_id f.term_offset; window = f.window })) (heard s now f) refl)
+    at_sender (world_of s) (HearStatus now f.receiver (record { position = position_of s.log.identity.geometry f.term_id f.term_offset; window = f.window })) (heard s now f) refl
 
 pub asked : (s : ScriptState) (now : ℕ) → Goes (world_of s) (with_sender (world_of s) (named (woken s now) true))
 asked s now =

@@ -58,8 +58,8 @@ abbrev pub HasRead : ℕ → List Played → ScriptState → ℕ → Type 0
 HasRead start played s k = (c : Consumer) × (slice_get s.readers k ≡ Some c) × ReadSo start c (read (suc k) played)
 
 -- what holds behind these lines, where the images are looked at through that of one receiver alone
-pub record IsSound (i : Identity) (start readers only : ℕ) (played : List Played) (s : ScriptState) : Type 0 where
-  pub runs : Goes (world_of (opened_state i start readers)) (world_of (lone only s))
+pub record IsSound (i : Identity) (group : Option ℕ) (start readers only : ℕ) (played : List Played) (s : ScriptState) : Type 0 where
+  pub runs : Goes (world_of (opened_state i group start readers)) (world_of (lone only s))
   pub identity : s.log.identity ≡ i
   pub start_is : s.log.start ≡ start
   pub consumers : s.log.consumers ≡ s.sender.at ∷ map (λ c. c.at) s.readers
@@ -76,8 +76,8 @@ all_there : (start n : ℕ) → Each (λ r. r ≡ consumer_at start) (map Some (
 all_there start zero = tt
 all_there start (suc n) = (refl, all_there start n)
 
-pub opened : (i : Identity) (start readers : ℕ) → Begins i start → IsOpened (world_of (opened_state i start readers))
-opened i start readers b = record {
+pub opened : (i : Identity) (group : Option ℕ) (start readers : ℕ) → Begins i start → IsOpened (world_of (opened_state i group start readers))
+opened i group start readers b = record {
   geometry = b.geometry;
   identity = b.identity;
   unit = b.unit;
@@ -98,45 +98,45 @@ opened i start readers b = record {
 -- ---- what the laws say of a sound state
 
 -- what holds of every world holds of this one
-pub law_of : {Holds : World → Type 0} → Always Holds → (i : Identity) (start readers only : ℕ) (s : ScriptState) → Begins i start → Goes (world_of (opened_state i start readers)) (world_of (lone only s)) → Holds (world_of (lone only s))
-law_of law i start readers only s b runs = law (world_of (opened_state i start readers)) (world_of (lone only s)) runs.0 (opened i start readers b) runs.1
+pub law_of : {Holds : World → Type 0} → Always Holds → (i : Identity) (group : Option ℕ) (start readers only : ℕ) (s : ScriptState) → Begins i start → Goes (world_of (opened_state i group start readers)) (world_of (lone only s)) → Holds (world_of (lone only s))
+law_of law i group start readers only s b runs = law (world_of (opened_state i group start readers)) (world_of (lone only s)) runs.0 (opened i group start readers b) runs.1
 
-pub legal : (i : Identity) (start readers only : ℕ) (played : List Played) (s : ScriptState) → Begins i start → IsSound i start readers only played s → IsGeometry s.log.identity.geometry
-legal i start readers only played s b h = subst (λ k. IsGeometry k.geometry) (sym h.identity) b.geometry
+pub legal : (i : Identity) (group : Option ℕ) (start readers only : ℕ) (played : List Played) (s : ScriptState) → Begins i start → IsSound i group start readers only played s → IsGeometry s.log.identity.geometry
+legal i group start readers only played s b h = subst (λ k. IsGeometry k.geometry) (sym h.identity) b.geometry
 
-pub holds : Laws → (i : Identity) (start readers only : ℕ) (played : List Played) (s : ScriptState) → Begins i start → IsSound i start readers only played s → LogHolds s.past s.log
-holds laws i start readers only played s b h =
-    let entries = law_of laws.entries i start readers only s b h.runs in
+pub holds : Laws → (i : Identity) (group : Option ℕ) (start readers only : ℕ) (played : List Played) (s : ScriptState) → Begins i start → IsSound i group start readers only played s → LogHolds s.past s.log
+holds laws i group start readers only played s b h =
+    let entries = law_of laws.entries i group start readers only s b h.runs in
     record {
-      geometry = legal i start readers only played s b h;
+      geometry = legal i group start readers only played s b h;
       start = subst (λ x. s.log.start < max_position x.geometry) (sym h.identity) (subst (λ p. p < max_position i.geometry) (sym h.start_is) b.below);
-      tiles = (law_of laws.tiles i start readers only s b h.runs).0;
+      tiles = (law_of laws.tiles i group start readers only s b h.runs).0;
       entries = all_weaker (IsPublished s.log.identity.geometry) IsEntry (λ e x. x.entry) (entries_of s) entries;
       published = entries;
     }
 
 -- wherever the world goes to
-pub sender_below : Laws → (i : Identity) (start readers only : ℕ) (s : ScriptState) → Begins i start → Goes (world_of (opened_state i start readers)) (world_of (lone only s)) → s.sender.at ≤ s.log.tail
-sender_below laws i start readers only s b runs = let bounded = law_of laws.bounds i start readers only s b runs in omega (arith, bounded.0.2, bounded.0.3.0)
+pub sender_below : Laws → (i : Identity) (group : Option ℕ) (start readers only : ℕ) (s : ScriptState) → Begins i start → Goes (world_of (opened_state i group start readers)) (world_of (lone only s)) → s.sender.at ≤ s.log.tail
+sender_below laws i group start readers only s b runs = let bounded = law_of laws.bounds i group start readers only s b runs in omega (arith, bounded.0.2, bounded.0.3.0)
 
-pub tail_low : Laws → (i : Identity) (start readers only : ℕ) (played : List Played) (s : ScriptState) → Begins i start → IsSound i start readers only played s → s.log.tail ≤ max_position i.geometry
-tail_low laws i start readers only played s b h =
-    let k = holds laws i start readers only played s b h in
+pub tail_low : Laws → (i : Identity) (group : Option ℕ) (start readers only : ℕ) (played : List Played) (s : ScriptState) → Begins i start → IsSound i group start readers only played s → s.log.tail ≤ max_position i.geometry
+tail_low laws i group start readers only played s b h =
+    let k = holds laws i group start readers only played s b h in
     let low : s.log.tail ≤ max_position s.log.identity.geometry = tail_in_stream s.log.identity.geometry s.log.start s.log.tail (entries_of s) (omega (arith, k.geometry.term.least)) (omega (arith, k.start)) k.tiles k.published in
     let same : max_position s.log.identity.geometry ≡ max_position i.geometry = ap (λ (x : Identity). max_position x.geometry) h.identity in
     omega (arith, low, same)
 
 -- each frame that was sent, and each SETUP, stands in the stream
-pub sending : Laws → (i : Identity) (start readers only : ℕ) (played : List Played) (s : ScriptState) → Begins i start → IsSound i start readers only played s → IsSending (lone only s)
-sending laws i start readers only played s b h =
-    let k = holds laws i start readers only played s b h in
+pub sending : Laws → (i : Identity) (group : Option ℕ) (start readers only : ℕ) (played : List Played) (s : ScriptState) → Begins i start → IsSound i group start readers only played s → IsSending (lone only s)
+sending laws i group start readers only played s b h =
+    let k = holds laws i group start readers only played s b h in
     let most = max_position s.log.identity.geometry in
     let same : max_position i.geometry ≡ most = ap (λ (x : Identity). max_position x.geometry) (sym h.identity) in
     let below = committed_below s.log.identity.geometry.term_length s.log.start s.log.tail (entries_of s) k.tiles k.entries in
-    let tail : s.log.tail ≤ most = omega (arith, tail_low laws i start readers only played s b h, same) in
+    let tail : s.log.tail ≤ most = omega (arith, tail_low laws i group start readers only played s b h, same) in
     record {
       legal = k.geometry;
-      sent = all_weaker (λ t. Among t (committed (entries_of s))) (λ t. t.at ≤ most) (λ t a. omega (arith, tail, all_at (λ t. end_of t ≤ s.log.tail) t (committed (entries_of s)) below a)) s.sender.sent (law_of laws.passed i start readers only s b h.runs).sent;
+      sent = all_weaker (λ t. Among t (committed (entries_of s))) (λ t. t.at ≤ most) (λ t a. omega (arith, tail, all_at (λ t. end_of t ≤ s.log.tail) t (committed (entries_of s)) below a)) s.sender.sent (law_of laws.passed i group start readers only s b h.runs).sent;
       setups = subst (λ p. AllByRecursion (λ q. q ≤ p) s.sender.setups) same h.named;
     }
 
@@ -206,8 +206,8 @@ readers_stay start n played command lines s t quiet same h k low =
     (r.0, ap (λ xs. slice_get xs k) same ∙ r.1, subst (ReadSo start r.0) (sym (read_more (suc k) played command lines ∙ ap (λ xs. read (suc k) played ++ xs) (quiet k) ∙ append-nil (read (suc k) played))) r.2)
 
 -- the receiver of a sound state, as the lemmas on its frames want it
-pub at_number : (i : Identity) (start readers only : ℕ) (played : List Played) (s : ScriptState) (r q : Receiver) → IsSound i start readers only played s → only < 8 → slice_get s.receivers only ≡ Some r → q.image ≡ r.image → q.consumers ≡ r.consumers → At (lone only s) only q (joins only played) (polled only played) (AllWhole only played)
-at_number i start readers only played s r q h low there image consumers =
+pub at_number : (i : Identity) (group : Option ℕ) (start readers only : ℕ) (played : List Played) (s : ScriptState) (r q : Receiver) → IsSound i group start readers only played s → only < 8 → slice_get s.receivers only ≡ Some r → q.image ≡ r.image → q.consumers ≡ r.consumers → At (lone only s) only q (joins only played) (polled only played) (AllWhole only played)
+at_number i group start readers only played s r q h low there image consumers =
     let known = h.followed low in
     let found : Some r ≡ Some known.0 = sym there ∙ known.1 in
     let same : known.0 ≡ r = cc in

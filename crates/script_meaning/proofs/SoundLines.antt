@@ -42,9 +42,9 @@ pub matches_stay : (g : Geometry) (played : List Played) (command : CommandConte
 matches_stay g played command lines xs none h = subst (Matches xs) (sym (published_more g played command lines ∙ none g (visible.published g played))) h
 
 -- nothing has changed
-pub same_state : (i : Identity) (start readers only : ℕ) (played : List Played) (command : CommandContent) (lines : List LineContent) (s t : ScriptState) → IsQuiet command lines → SaysNoRange command lines → t ≡ s → IsSound i start readers only played s → IsSound i start readers only (and_line played command lines) t
-same_state i start readers only played command lines s t quiet none same h =
-    subst (λ x. IsSound i start readers only (and_line played command lines) x) (sym same) (record {
+pub same_state : (i : Identity) (group : Option ℕ) (start readers only : ℕ) (played : List Played) (command : CommandContent) (lines : List LineContent) (s t : ScriptState) → IsQuiet command lines → SaysNoRange command lines → t ≡ s → IsSound i group start readers only played s → IsSound i group start readers only (and_line played command lines) t
+same_state i group start readers only played command lines s t quiet none same h =
+    subst (λ x. IsSound i group start readers only (and_line played command lines) x) (sym same) (record {
       runs = h.runs;
       identity = h.identity;
       start_is = h.start_is;
@@ -70,11 +70,11 @@ record IsLogNext (only : ℕ) (s : ScriptState) (past : List Entry) (l : Stream)
   consumers : l.consumers ≡ s.log.consumers
   forgotten : AllByRecursion (λ e. e.start < l.cleaned) past
 
-log_line : (i : Identity) (start readers only : ℕ) (played : List Played) (command : CommandContent) (lines : List LineContent) (s : ScriptState) (past : List Entry) (l : Stream) → IsQuiet command lines → IsLogNext only s past l → Matches (past ++ l.entries) (visible.published i.geometry (and_line played command lines)) → IsSound i start readers only played s → IsSound i start readers only (and_line played command lines) (with_stream s past l)
-log_line i start readers only played command lines s past l quiet n all h =
+log_line : (i : Identity) (group : Option ℕ) (start readers only : ℕ) (played : List Played) (command : CommandContent) (lines : List LineContent) (s : ScriptState) (past : List Entry) (l : Stream) → IsQuiet command lines → IsLogNext only s past l → Matches (past ++ l.entries) (visible.published i.geometry (and_line played command lines)) → IsSound i group start readers only played s → IsSound i group start readers only (and_line played command lines) (with_stream s past l)
+log_line i group start readers only played command lines s past l quiet n all h =
     let t = with_stream s past l in
     record {
-      runs = goes_on (world_of (opened_state i start readers)) (world_of (lone only s)) (world_of (lone only t)) h.runs n.goes;
+      runs = goes_on (world_of (opened_state i group start readers)) (world_of (lone only s)) (world_of (lone only t)) h.runs n.goes;
       identity = n.identity ∙ h.identity;
       start_is = n.start ∙ h.start_is;
       consumers = n.consumers ∙ h.consumers;
@@ -88,21 +88,21 @@ log_line i start readers only played command lines s past l quiet n all h =
       reading = readers_stay start readers played command lines s t quiet.reads refl h.reading;
     }
 
-pub connect_line : (i : Identity) (start readers only : ℕ) (played : List Played) (command : CommandContent) (lines : List LineContent) (s : ScriptState) (on : Bool) → IsQuiet command lines → SaysNoRange command lines → IsSound i start readers only played s → IsSound i start readers only (and_line played command lines) (with_log s (record s.log { connected = on }))
-connect_line i start readers only played command lines s on quiet none h =
-    log_line i start readers only played command lines s s.past (record s.log { connected = on }) quiet (record { goes = connects (lone only s) on; identity = refl; start = refl; consumers = refl; forgotten = h.forgotten }) (matches_stay i.geometry played command lines (entries_of s) none h.matches) h
+pub connect_line : (i : Identity) (group : Option ℕ) (start readers only : ℕ) (played : List Played) (command : CommandContent) (lines : List LineContent) (s : ScriptState) (on : Bool) → IsQuiet command lines → SaysNoRange command lines → IsSound i group start readers only played s → IsSound i group start readers only (and_line played command lines) (with_log s (record s.log { connected = on }))
+connect_line i group start readers only played command lines s on quiet none h =
+    log_line i group start readers only played command lines s s.past (record s.log { connected = on }) quiet (record { goes = connects (lone only s) on; identity = refl; start = refl; consumers = refl; forgotten = h.forgotten }) (matches_stay i.geometry played command lines (entries_of s) none h.matches) h
 
-pub close_line : (i : Identity) (start readers only : ℕ) (played : List Played) (lines : List LineContent) (s : ScriptState) → IsSound i start readers only played s → IsSound i start readers only (and_line played commands.Close lines) (with_log s (record s.log { closed = true }))
-close_line i start readers only played lines s h =
-    log_line i start readers only played commands.Close lines s s.past (record s.log { closed = true }) (record { joins = λ k. refl; polls = λ k. refl; reads = λ k. refl }) (record { goes = closes (lone only s); identity = refl; start = refl; consumers = refl; forgotten = h.forgotten }) (matches_stay i.geometry played commands.Close lines (entries_of s) (λ g ranges. refl) h.matches) h
+pub close_line : (i : Identity) (group : Option ℕ) (start readers only : ℕ) (played : List Played) (lines : List LineContent) (s : ScriptState) → IsSound i group start readers only played s → IsSound i group start readers only (and_line played commands.Close lines) (with_log s (record s.log { closed = true }))
+close_line i group start readers only played lines s h =
+    log_line i group start readers only played commands.Close lines s s.past (record s.log { closed = true }) (record { joins = λ k. refl; polls = λ k. refl; reads = λ k. refl }) (record { goes = closes (lone only s); identity = refl; start = refl; consumers = refl; forgotten = h.forgotten }) (matches_stay i.geometry played commands.Close lines (entries_of s) (λ g ranges. refl) h.matches) h
 
-pub limit_line : (i : Identity) (start readers only : ℕ) (played : List Played) (lines : List LineContent) (s t : ScriptState) → IsSound i start readers only played s → Limits s lines t → IsSound i start readers only (and_line played commands.Limit lines) t
-limit_line i start readers only played lines s t h m =
+pub limit_line : (i : Identity) (group : Option ℕ) (start readers only : ℕ) (played : List Played) (lines : List LineContent) (s t : ScriptState) → IsSound i group start readers only played s → Limits s lines t → IsSound i group start readers only (and_line played commands.Limit lines) t
+limit_line i group start readers only played lines s t h m =
     let past = s.past ++ forgotten_below (clean_end s.log) s.log.entries in
     let l = cleaned_and_limited s.log in
     let entries : past ++ l.entries ≡ entries_of s = limit_entries s.past s.log m.legal in
-    subst (λ x. IsSound i start readers only (and_line played commands.Limit lines) x) (sym m.new_is)
-    (log_line i start readers only played commands.Limit lines s past l (record { joins = λ k. refl; polls = λ k. refl; reads = λ k. refl }) (record { goes = limits (lone only s) m.legal h.consumers; identity = refl; start = refl; consumers = refl; forgotten = limit_forgotten s m.legal h.consumers h.forgotten })
+    subst (λ x. IsSound i group start readers only (and_line played commands.Limit lines) x) (sym m.new_is)
+    (log_line i group start readers only played commands.Limit lines s past l (record { joins = λ k. refl; polls = λ k. refl; reads = λ k. refl }) (record { goes = limits (lone only s) m.legal h.consumers; identity = refl; start = refl; consumers = refl; forgotten = limit_forgotten s m.legal h.consumers h.forgotten })
     (matches_stay i.geometry played commands.Limit lines (past ++ l.entries) (λ g ranges. refl) (subst (λ es. Matches es (visible.published i.geometry played)) (sym entries) h.matches)) h)
 
 -- ---- an offer or a claim
@@ -135,33 +135,33 @@ record MayAdd (l : Stream) (by size : ℕ) : Type 0 where
   publisher : by < 8
   short : size ≤ max_message l.identity.geometry
 
-taken_line : Laws → (i : Identity) (start readers only : ℕ) (played : List Played) (s : ScriptState) (by size : ℕ) (fitting : Stream) (command : CommandContent) (lines : List LineContent) (c : OfferCase) → Begins i start → IsQuiet command lines → IsSound i start readers only played s → MayAdd s.log by size → case_of s.log size ≡ c → Said i only played s fitting command lines c → IsSound i start readers only (and_line played command lines) (with_log s (after s.log by c fitting))
-taken_line laws i start readers only played s by size fitting command lines IsClosed b quiet h may e none = same_state i start readers only played command lines s s quiet none refl h
-taken_line laws i start readers only played s by size fitting command lines IsLimited b quiet h may e none = same_state i start readers only played command lines s s quiet none refl h
-taken_line laws i start readers only played s by size fitting command lines IsUsedUp b quiet h may e none =
+taken_line : Laws → (i : Identity) (group : Option ℕ) (start readers only : ℕ) (played : List Played) (s : ScriptState) (by size : ℕ) (fitting : Stream) (command : CommandContent) (lines : List LineContent) (c : OfferCase) → Begins i start → IsQuiet command lines → IsSound i group start readers only played s → MayAdd s.log by size → case_of s.log size ≡ c → Said i only played s fitting command lines c → IsSound i group start readers only (and_line played command lines) (with_log s (after s.log by c fitting))
+taken_line laws i group start readers only played s by size fitting command lines IsClosed b quiet h may e none = same_state i group start readers only played command lines s s quiet none refl h
+taken_line laws i group start readers only played s by size fitting command lines IsLimited b quiet h may e none = same_state i group start readers only played command lines s s quiet none refl h
+taken_line laws i group start readers only played s by size fitting command lines IsUsedUp b quiet h may e none =
     let l = turned s.log in
     let same : entries_of (with_log s l) ≡ entries_of s = ap (λ es. s.past ++ es) (turned_entries s.log) in
-    log_line i start readers only played command lines s s.past l quiet (turned_next only s s.log (record { goes = stays (world_of (lone only s)) (world_of (lone only s)) refl; identity = refl; start = refl; consumers = refl; forgotten = h.forgotten }))
+    log_line i group start readers only played command lines s s.past l quiet (turned_next only s s.log (record { goes = stays (world_of (lone only s)) (world_of (lone only s)) refl; identity = refl; start = refl; consumers = refl; forgotten = h.forgotten }))
     (matches_stay i.geometry played command lines (entries_of (with_log s l)) none (subst (λ es. Matches es (visible.published i.geometry played)) (sym same) h.matches)) h
-taken_line laws i start readers only played s by size fitting command lines Fits b quiet h may e says = log_line i start readers only played command lines s s.past fitting quiet says.next says.matches h
-taken_line laws i start readers only played s by size fitting command lines Trips b quiet h may e none =
+taken_line laws i group start readers only played s by size fitting command lines Fits b quiet h may e says = log_line i group start readers only played command lines s s.past fitting quiet says.next says.matches h
+taken_line laws i group start readers only played s by size fitting command lines Trips b quiet h may e none =
     let n = room s.log in
     let l = with_padding s.log by n in
     let one = trips_one s.past s.readers s.log by size may.legal may.publisher may.short e in
     let next : IsLogNext only s s.past l = record {
-      goes = trips (lone only s) by size n l.tail (holds laws i start readers only played s b h) one refl;
+      goes = trips (lone only s) by size n l.tail (holds laws i group start readers only played s b h) one refl;
       identity = refl;
       start = refl;
       consumers = refl;
       forgotten = h.forgotten;
     } in
     let entries : s.past ++ (turned l).entries ≡ entries_of s ++ padded s.log.tail by n ∷ [] = ap (λ es. s.past ++ es) (turned_entries l) ∙ sym (append_assoc s.past s.log.entries (padded s.log.tail by n ∷ [])) in
-    log_line i start readers only played command lines s s.past (turned l) quiet (turned_next only s l next)
+    log_line i group start readers only played command lines s s.past (turned l) quiet (turned_next only s l next)
     (matches_stay i.geometry played command lines (s.past ++ (turned l).entries) none (subst (λ es. Matches es (visible.published i.geometry played)) (sym entries) (matches_padding (entries_of s) (visible.published i.geometry played) (padded s.log.tail by n) refl h.matches))) h
 
 -- one entry and its range more
-added_matches : (i : Identity) (start readers only : ℕ) (played : List Played) (s : ScriptState) (command : CommandContent) (lines : List LineContent) (e : Entry) (r : Range) → ((ranges : List Range) → ranges_after i.geometry ranges command lines ≡ ranges ++ r ∷ []) → SameRange e r → IsSound i start readers only played s → Matches (s.past ++ (s.log.entries ++ e ∷ [])) (visible.published i.geometry (and_line played command lines))
-added_matches i start readers only played s command lines e r line same h =
+added_matches : (i : Identity) (group : Option ℕ) (start readers only : ℕ) (played : List Played) (s : ScriptState) (command : CommandContent) (lines : List LineContent) (e : Entry) (r : Range) → ((ranges : List Range) → ranges_after i.geometry ranges command lines ≡ ranges ++ r ∷ []) → SameRange e r → IsSound i group start readers only played s → Matches (s.past ++ (s.log.entries ++ e ∷ [])) (visible.published i.geometry (and_line played command lines))
+added_matches i group start readers only played s command lines e r line same h =
     let ranges = visible.published i.geometry played in
     subst (λ es. Matches es (visible.published i.geometry (and_line played command lines))) (append_assoc s.past s.log.entries (e ∷ []))
     (subst (Matches (entries_of s ++ e ∷ [])) (sym (published_more i.geometry played command lines ∙ line ranges)) (matches_more (entries_of s) ranges e r same h.matches))
@@ -179,21 +179,21 @@ offers_none command m line lines is none e g ranges =
 abbrev offered_log : Stream → ℕ → List ℕ → Stream
 offered_log l by m = with_message l by m
 
-offer_fits : Laws → (i : Identity) (start readers only : ℕ) (played : List Played) (s : ScriptState) (by : ℕ) (m : List ℕ) (command : CommandContent) (lines : List LineContent) → Begins i start → OffersIt command m → IsSound i start readers only played s → MayOffer s.log by m → case_of s.log (length m) ≡ Fits → lines ≡ Position (s.log.tail + covered s.log (length m)) ∷ [] → FitsSo i only played s (offered_log s.log by m) command lines
-offer_fits laws i start readers only played s by m command lines b is h may e line =
+offer_fits : Laws → (i : Identity) (group : Option ℕ) (start readers only : ℕ) (played : List Played) (s : ScriptState) (by : ℕ) (m : List ℕ) (command : CommandContent) (lines : List LineContent) → Begins i start → OffersIt command m → IsSound i group start readers only played s → MayOffer s.log by m → case_of s.log (length m) ≡ Fits → lines ≡ Position (s.log.tail + covered s.log (length m)) ∷ [] → FitsSo i only played s (offered_log s.log by m) command lines
+offer_fits laws i group start readers only played s by m command lines b is h may e line =
     let g = s.log.identity.geometry in
     let end = s.log.tail + covered s.log (length m) in
     let same : g ≡ i.geometry = ap (λ (x : Identity). x.geometry) h.identity in
     let one = fits_one s.past s.readers s.log by (length m) may.legal may.publisher may.short e in
     record {
       next = record {
-        goes = offers (lone only s) by m end (holds laws i start readers only played s b h) one may.bytes refl;
+        goes = offers (lone only s) by m end (holds laws i group start readers only played s b h) one may.bytes refl;
         identity = refl;
         start = refl;
         consumers = refl;
         forgotten = h.forgotten;
       };
-      matches = added_matches i start readers only played s command lines (published g s.log.tail by m) (offered_at g m end)
+      matches = added_matches i group start readers only played s command lines (published g s.log.tail by m) (offered_at g m end)
           (λ ranges. is i.geometry ranges lines ∙ ap (λ ls. ranges ++ flat_map (offers_in i.geometry m) ls) line ∙ ap (λ x. ranges ++ offered_at x m end ∷ []) (sym same))
           (same_offered g s.log.tail by m end may.legal.geometry refl) h;
     }
@@ -202,21 +202,21 @@ record OfferSays (i : Identity) (only : ℕ) (played : List Played) (s : ScriptS
   said : Said i only played s (offered_log s.log by m) command lines c
   after : t ≡ with_log s (after_offer s.log by m)
 
-offer_says : Laws → (i : Identity) (start readers only : ℕ) (played : List Played) (s t : ScriptState) (by : ℕ) (m : List ℕ) (command : CommandContent) (lines : List LineContent) (c : OfferCase) → Begins i start → OffersIt command m → IsSound i start readers only played s → MayOffer s.log by m → case_of s.log (length m) ≡ c → Offered s by m (answer s.log (length m) c) lines t → OfferSays i only played s by m command lines c t
-offer_says laws i start readers only played s t by m command lines IsClosed b is h may e o = record { said = offers_none command m _ lines is (λ g. refl) o.0; after = o.1 }
-offer_says laws i start readers only played s t by m command lines IsUsedUp b is h may e o = record { said = offers_none command m _ lines is (λ g. refl) o.0; after = o.1 }
-offer_says laws i start readers only played s t by m command lines IsLimited b is h may e o = record { said = offers_none command m _ lines is (λ g. refl) o.0; after = o.1 }
-offer_says laws i start readers only played s t by m command lines Fits b is h may e o = record { said = offer_fits laws i start readers only played s by m command lines b is h may e o.0; after = o.1 }
-offer_says laws i start readers only played s t by m command lines Trips b is h may e o = record { said = offers_none command m _ lines is (λ g. refl) o.0; after = o.1 }
+offer_says : Laws → (i : Identity) (group : Option ℕ) (start readers only : ℕ) (played : List Played) (s t : ScriptState) (by : ℕ) (m : List ℕ) (command : CommandContent) (lines : List LineContent) (c : OfferCase) → Begins i start → OffersIt command m → IsSound i group start readers only played s → MayOffer s.log by m → case_of s.log (length m) ≡ c → Offered s by m (answer s.log (length m) c) lines t → OfferSays i only played s by m command lines c t
+offer_says laws i group start readers only played s t by m command lines IsClosed b is h may e o = record { said = offers_none command m _ lines is (λ g. refl) o.0; after = o.1 }
+offer_says laws i group start readers only played s t by m command lines IsUsedUp b is h may e o = record { said = offers_none command m _ lines is (λ g. refl) o.0; after = o.1 }
+offer_says laws i group start readers only played s t by m command lines IsLimited b is h may e o = record { said = offers_none command m _ lines is (λ g. refl) o.0; after = o.1 }
+offer_says laws i group start readers only played s t by m command lines Fits b is h may e o = record { said = offer_fits laws i group start readers only played s by m command lines b is h may e o.0; after = o.1 }
+offer_says laws i group start readers only played s t by m command lines Trips b is h may e o = record { said = offers_none command m _ lines is (λ g. refl) o.0; after = o.1 }
 
-pub offer_line : Laws → (i : Identity) (start readers only : ℕ) (played : List Played) (s t : ScriptState) (by most size : ℕ) (m : List ℕ) (command : CommandContent) (lines : List LineContent) → Begins i start → IsQuiet command lines → OffersIt command m → IsSound i start readers only played s → MayNotTake s by most size lines t ⊎ OffersMessage s by m lines t → IsSound i start readers only (and_line played command lines) t
-offer_line laws i start readers only played s t by most size m command lines b quiet is h (inl bad) =
-    same_state i start readers only played command lines s t quiet (offers_none command m Bad lines is (λ g. refl) bad.1.0) bad.1.1 h
-offer_line laws i start readers only played s t by most size m command lines b quiet is h (inr o) =
+pub offer_line : Laws → (i : Identity) (group : Option ℕ) (start readers only : ℕ) (played : List Played) (s t : ScriptState) (by most size : ℕ) (m : List ℕ) (command : CommandContent) (lines : List LineContent) → Begins i start → IsQuiet command lines → OffersIt command m → IsSound i group start readers only played s → MayNotTake s by most size lines t ⊎ OffersMessage s by m lines t → IsSound i group start readers only (and_line played command lines) t
+offer_line laws i group start readers only played s t by most size m command lines b quiet is h (inl bad) =
+    same_state i group start readers only played command lines s t quiet (offers_none command m Bad lines is (λ g. refl) bad.1.0) bad.1.1 h
+offer_line laws i group start readers only played s t by most size m command lines b quiet is h (inr o) =
     let c = case_of s.log (length m) in
-    let says = offer_says laws i start readers only played s t by m command lines c b is h o.0 refl o.2 in
-    subst (λ x. IsSound i start readers only (and_line played command lines) x) (sym says.after)
-    (taken_line laws i start readers only played s by (length m) (offered_log s.log by m) command lines c b quiet h (record { legal = o.0.legal; publisher = o.0.publisher; short = o.0.short }) refl says.said)
+    let says = offer_says laws i group start readers only played s t by m command lines c b is h o.0 refl o.2 in
+    subst (λ x. IsSound i group start readers only (and_line played command lines) x) (sym says.after)
+    (taken_line laws i group start readers only played s by (length m) (offered_log s.log by m) command lines c b quiet h (record { legal = o.0.legal; publisher = o.0.publisher; short = o.0.short }) refl says.said)
 
 -- ---- a claim
 
@@ -226,8 +226,8 @@ claims_none by size line lines none e g ranges = ap (λ ls. ranges ++ flat_map (
 abbrev claimed_log : Stream → ℕ → ℕ → Stream
 claimed_log l by size = with_claim l by size
 
-claim_fits : (i : Identity) (start readers only : ℕ) (played : List Played) (s : ScriptState) (by size : ℕ) (lines : List LineContent) → IsSound i start readers only played s → MayClaimRange s.log by size → case_of s.log size ≡ Fits → lines ≡ content.Claimed s.log.tail (s.log.tail + covered s.log size) ∷ [] → FitsSo i only played s (claimed_log s.log by size) (commands.Claim by size) lines
-claim_fits i start readers only played s by size lines h may e line =
+claim_fits : (i : Identity) (group : Option ℕ) (start readers only : ℕ) (played : List Played) (s : ScriptState) (by size : ℕ) (lines : List LineContent) → IsSound i group start readers only played s → MayClaimRange s.log by size → case_of s.log size ≡ Fits → lines ≡ content.Claimed s.log.tail (s.log.tail + covered s.log size) ∷ [] → FitsSo i only played s (claimed_log s.log by size) (commands.Claim by size) lines
+claim_fits i group start readers only played s by size lines h may e line =
     let g = s.log.identity.geometry in
     let end = s.log.tail + covered s.log size in
     let short : size ≤ max_message g = message_short g size may.legal.geometry may.short in
@@ -242,7 +242,7 @@ claim_fits i start readers only played s by size lines h may e line =
         consumers = refl;
         forgotten = h.forgotten;
       };
-      matches = added_matches i start readers only played s (commands.Claim by size) lines (claim_of g s.log.tail by false size) (claimed_at s.log.tail end size)
+      matches = added_matches i group start readers only played s (commands.Claim by size) lines (claim_of g s.log.tail by false size) (claimed_at s.log.tail end size)
           (λ ranges. ap (λ ls. ranges ++ flat_map (claims_in size) ls) line)
           (subst (λ xs. SameRange (open_entry s.log.tail by false xs []) (claimed_at s.log.tail end size)) (sym cuts) (same_claimed s.log.tail by size end (ap (λ n. s.log.tail + n) covers))) h;
     }
@@ -251,23 +251,23 @@ record ClaimSays (i : Identity) (only : ℕ) (played : List Played) (s : ScriptS
   said : Said i only played s (claimed_log s.log by size) (commands.Claim by size) lines c
   after : t ≡ with_log s (after_claim s.log by size)
 
-claim_says : (i : Identity) (start readers only : ℕ) (played : List Played) (s t : ScriptState) (by size : ℕ) (lines : List LineContent) (c : OfferCase) → IsSound i start readers only played s → MayClaimRange s.log by size → case_of s.log size ≡ c → Claims s by size (answer s.log size c) lines t → ClaimSays i only played s by size lines c t
-claim_says i start readers only played s t by size lines IsClosed h may e o = record { said = claims_none by size _ lines refl o.0; after = o.1 }
-claim_says i start readers only played s t by size lines IsUsedUp h may e o = record { said = claims_none by size _ lines refl o.0; after = o.1 }
-claim_says i start readers only played s t by size lines IsLimited h may e o = record { said = claims_none by size _ lines refl o.0; after = o.1 }
-claim_says i start readers only played s t by size lines Fits h may e o = record { said = claim_fits i start readers only played s by size lines h may e o.0; after = o.1 }
-claim_says i start readers only played s t by size lines Trips h may e o = record { said = claims_none by size _ lines refl o.0; after = o.1 }
+claim_says : (i : Identity) (group : Option ℕ) (start readers only : ℕ) (played : List Played) (s t : ScriptState) (by size : ℕ) (lines : List LineContent) (c : OfferCase) → IsSound i group start readers only played s → MayClaimRange s.log by size → case_of s.log size ≡ c → Claims s by size (answer s.log size c) lines t → ClaimSays i only played s by size lines c t
+claim_says i group start readers only played s t by size lines IsClosed h may e o = record { said = claims_none by size _ lines refl o.0; after = o.1 }
+claim_says i group start readers only played s t by size lines IsUsedUp h may e o = record { said = claims_none by size _ lines refl o.0; after = o.1 }
+claim_says i group start readers only played s t by size lines IsLimited h may e o = record { said = claims_none by size _ lines refl o.0; after = o.1 }
+claim_says i group start readers only played s t by size lines Fits h may e o = record { said = claim_fits i group start readers only played s by size lines h may e o.0; after = o.1 }
+claim_says i group start readers only played s t by size lines Trips h may e o = record { said = claims_none by size _ lines refl o.0; after = o.1 }
 
-pub claim_line : Laws → (i : Identity) (start readers only : ℕ) (played : List Played) (s t : ScriptState) (by most size : ℕ) (lines : List LineContent) → Begins i start → IsSound i start readers only played s → MayNotTake s by most size lines t ⊎ ClaimsRange s by size lines t → IsSound i start readers only (and_line played (commands.Claim by size) lines) t
-claim_line laws i start readers only played s t by most size lines b h (inl bad) =
-    same_state i start readers only played (commands.Claim by size) lines s t (record { joins = λ k. refl; polls = λ k. refl; reads = λ k. refl }) (claims_none by size Bad lines refl bad.1.0) bad.1.1 h
-claim_line laws i start readers only played s t by most size lines b h (inr o) =
+pub claim_line : Laws → (i : Identity) (group : Option ℕ) (start readers only : ℕ) (played : List Played) (s t : ScriptState) (by most size : ℕ) (lines : List LineContent) → Begins i start → IsSound i group start readers only played s → MayNotTake s by most size lines t ⊎ ClaimsRange s by size lines t → IsSound i group start readers only (and_line played (commands.Claim by size) lines) t
+claim_line laws i group start readers only played s t by most size lines b h (inl bad) =
+    same_state i group start readers only played (commands.Claim by size) lines s t (record { joins = λ k. refl; polls = λ k. refl; reads = λ k. refl }) (claims_none by size Bad lines refl bad.1.0) bad.1.1 h
+claim_line laws i group start readers only played s t by most size lines b h (inr o) =
     let c = case_of s.log size in
     let command = commands.Claim by size in
-    let says = claim_says i start readers only played s t by size lines c h o.0 refl o.2 in
+    let says = claim_says i group start readers only played s t by size lines c h o.0 refl o.2 in
     let short : size ≤ max_message s.log.identity.geometry = message_short s.log.identity.geometry size o.0.legal.geometry o.0.short in
-    subst (λ x. IsSound i start readers only (and_line played command lines) x) (sym says.after)
-    (taken_line laws i start readers only played s by size (claimed_log s.log by size) command lines c b (record { joins = λ k. refl; polls = λ k. refl; reads = λ k. refl }) h (record { legal = o.0.legal; publisher = o.0.publisher; short = short }) refl says.said)
+    subst (λ x. IsSound i group start readers only (and_line played command lines) x) (sym says.after)
+    (taken_line laws i group start readers only played s by size (claimed_log s.log by size) command lines c b (record { joins = λ k. refl; polls = λ k. refl; reads = λ k. refl }) h (record { legal = o.0.legal; publisher = o.0.publisher; short = short }) refl says.said)
 
 -- ---- a claim's commit or abort
 
@@ -352,14 +352,14 @@ aborts_claim s by c holds k =
 bad_commit : (by : ℕ) (lines : List LineContent) → lines ≡ Bad ∷ [] → SaysNoRange (commands.Commit by) lines
 bad_commit by lines e g ranges = ap (λ ls. fold filled_by ranges ls) e
 
-pub commit_line : Laws → (i : Identity) (start readers only : ℕ) (played : List Played) (s t : ScriptState) (by : ℕ) (lines : List LineContent) → Begins i start → IsSound i start readers only played s → HasNoClaim s by lines t ⊎ CommitsClaim s by lines t → IsSound i start readers only (and_line played (commands.Commit by) lines) t
-commit_line laws i start readers only played s t by lines b h (inl bad) =
-    same_state i start readers only played (commands.Commit by) lines s t (record { joins = λ k. refl; polls = λ k. refl; reads = λ k. refl }) (bad_commit by lines bad.1.0) bad.1.1 h
-commit_line laws i start readers only played s t by lines b h (inr m) =
+pub commit_line : Laws → (i : Identity) (group : Option ℕ) (start readers only : ℕ) (played : List Played) (s t : ScriptState) (by : ℕ) (lines : List LineContent) → Begins i start → IsSound i group start readers only played s → HasNoClaim s by lines t ⊎ CommitsClaim s by lines t → IsSound i group start readers only (and_line played (commands.Commit by) lines) t
+commit_line laws i group start readers only played s t by lines b h (inl bad) =
+    same_state i group start readers only played (commands.Commit by) lines s t (record { joins = λ k. refl; polls = λ k. refl; reads = λ k. refl }) (bad_commit by lines bad.1.0) bad.1.1 h
+commit_line laws i group start readers only played s t by lines b h (inr m) =
     let c = m.0 in
     let command = commands.Commit by in
     let l = with_commit s.log by c (replicate c.size 97) in
-    let all = holds laws i start readers only played s b h in
+    let all = holds laws i group start readers only played s b h in
     let k = is_kept s by c m.1 in
     let ranges = visible.published i.geometry played in
     let line : visible.published i.geometry (and_line played command lines) ≡ map (filled_at (c.start + aligned (c.size + 32))) ranges = published_more i.geometry played command lines ∙ ap (λ ls. fold filled_by ranges ls) m.2 in
@@ -367,24 +367,24 @@ commit_line laws i start readers only played s t by lines b h (inr m) =
     subst (λ es. Matches es (visible.published i.geometry (and_line played command lines))) (sym (committed_entries s by c all k))
     (subst (Matches (map (with_frame c.start (filling c)) (entries_of s))) (sym line)
     (matches_commit s.log.identity.geometry.term_length s.log.start s.log.tail (entries_of s) ranges c.start by c.size all.tiles all.entries k.among h.matches)) in
-    subst (λ x. IsSound i start readers only (and_line played command lines) x) (sym m.3)
-    (log_line i start readers only played command lines s s.past l (record { joins = λ k. refl; polls = λ k. refl; reads = λ k. refl }) (record { goes = commits_claim (lone only s) by c all (record { kept = k.kept; among = k.among }); identity = refl; start = refl; consumers = refl; forgotten = h.forgotten }) matches h)
+    subst (λ x. IsSound i group start readers only (and_line played command lines) x) (sym m.3)
+    (log_line i group start readers only played command lines s s.past l (record { joins = λ k. refl; polls = λ k. refl; reads = λ k. refl }) (record { goes = commits_claim (lone only s) by c all (record { kept = k.kept; among = k.among }); identity = refl; start = refl; consumers = refl; forgotten = h.forgotten }) matches h)
 
-pub abort_line : Laws → (i : Identity) (start readers only : ℕ) (played : List Played) (s t : ScriptState) (by : ℕ) (lines : List LineContent) → Begins i start → IsSound i start readers only played s → HasNoClaim s by lines t ⊎ AbortsClaim s by lines t → IsSound i start readers only (and_line played (commands.Abort by) lines) t
-abort_line laws i start readers only played s t by lines b h (inl bad) =
-    same_state i start readers only played (commands.Abort by) lines s t (record { joins = λ k. refl; polls = λ k. refl; reads = λ k. refl }) (λ g ranges. refl) bad.1.1 h
-abort_line laws i start readers only played s t by lines b h (inr m) =
+pub abort_line : Laws → (i : Identity) (group : Option ℕ) (start readers only : ℕ) (played : List Played) (s t : ScriptState) (by : ℕ) (lines : List LineContent) → Begins i start → IsSound i group start readers only played s → HasNoClaim s by lines t ⊎ AbortsClaim s by lines t → IsSound i group start readers only (and_line played (commands.Abort by) lines) t
+abort_line laws i group start readers only played s t by lines b h (inl bad) =
+    same_state i group start readers only played (commands.Abort by) lines s t (record { joins = λ k. refl; polls = λ k. refl; reads = λ k. refl }) (λ g ranges. refl) bad.1.1 h
+abort_line laws i group start readers only played s t by lines b h (inr m) =
     let c = m.0 in
     let command = commands.Abort by in
     let l = with_abort s.log by c in
-    let all = holds laws i start readers only played s b h in
+    let all = holds laws i group start readers only played s b h in
     let k = is_kept s by c m.1 in
     let ranges = visible.published i.geometry played in
     let matches : Matches (s.past ++ l.entries) ranges =
     subst (λ es. Matches es ranges) (sym (aborted_entries s by c all k))
     (matches_abort s.log.identity.geometry.term_length s.log.start s.log.tail (entries_of s) ranges c.start by c.size all.tiles all.entries k.among h.matches) in
-    subst (λ x. IsSound i start readers only (and_line played command lines) x) (sym m.3)
-    (log_line i start readers only played command lines s s.past l (record { joins = λ k. refl; polls = λ k. refl; reads = λ k. refl }) (record { goes = aborts_claim (lone only s) by c all (record { kept = k.kept; among = k.among }); identity = refl; start = refl; consumers = refl; forgotten = h.forgotten }) (matches_stay i.geometry played command lines (s.past ++ l.entries) (λ g rs. refl) matches) h)
+    subst (λ x. IsSound i group start readers only (and_line played command lines) x) (sym m.3)
+    (log_line i group start readers only played command lines s s.past l (record { joins = λ k. refl; polls = λ k. refl; reads = λ k. refl }) (record { goes = aborts_claim (lone only s) by c all (record { kept = k.kept; among = k.among }); identity = refl; start = refl; consumers = refl; forgotten = h.forgotten }) (matches_stay i.geometry played command lines (s.past ++ l.entries) (λ g rs. refl) matches) h)
 
-pub missing_line : (i : Identity) (start readers only : ℕ) (played : List Played) (command : CommandContent) (k : ℕ) (lines : List LineContent) (s t : ScriptState) → IsQuiet command lines → SaysNoRange command lines → IsSound i start readers only played s → IsMissing s k lines t → IsSound i start readers only (and_line played command lines) t
-missing_line i start readers only played command k lines s t quiet none h m = same_state i start readers only played command lines s t quiet none m.2 h
+pub missing_line : (i : Identity) (group : Option ℕ) (start readers only : ℕ) (played : List Played) (command : CommandContent) (k : ℕ) (lines : List LineContent) (s t : ScriptState) → IsQuiet command lines → SaysNoRange command lines → IsSound i group start readers only played s → IsMissing s k lines t → IsSound i group start readers only (and_line played command lines) t
+missing_line i group start readers only played command k lines s t quiet none h m = same_state i group start readers only played command lines s t quiet none m.2 h

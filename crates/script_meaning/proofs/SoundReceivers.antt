@@ -1,5 +1,5 @@
 -- Each line of a receiver leaves a sound state.
-use Rattle.std.proofs.Common.{◌≡◌, ◌⊎◌, ℕ, suc, ◌<◌, List, [], ◌∷◌, ◌++◌, map, Bool, true, false, cond, Some, inl, inr, ⊎_elim, refl, sym, ap, ◌∙◌, subst, arith, append-nil, append_assoc}
+use Rattle.std.proofs.Common.{Option, ◌≡◌, ◌⊎◌, ℕ, suc, ◌<◌, List, [], ◌∷◌, ◌++◌, map, Bool, true, false, cond, Some, inl, inr, ⊎_elim, refl, sym, ap, ◌∙◌, subst, arith, append-nil, append_assoc}
 use Rattle.std.specs.Prelude.{nat_eq, slice_get}
 use Rattle.std.specs.List.{AllByRecursion, flat_map}
 use Rattle.std.proofs.lemmas.Bool.{cases_eq, cond-true, cond-false, eq-eqb, ne_eqb}
@@ -18,7 +18,7 @@ use Rattle.script_meaning.specs.Published.{AllWhole, AreHonestFrames, IsHonestLi
 use Rattle.frames.specs.FaultCounts.{counted_at, place_of}
 use Rattle.receiver.specs.Receiving.{TakesDatagram, MeetsAll, Receiver, at_moment, replies, ticked}
 use Rattle.script_meaning.specs.ScriptState.{ScriptState, entries_of, image_of, lone, opened_state, world_of}
-use Rattle.script_meaning.proofs.Honest.{AreEntering, AreGivenOut, AreHonest, IsHonest, all_entering, alone_given, frames_given_out, honest_given, printed_entering, replies_given}
+use Rattle.script_meaning.proofs.Honest.{AreEntering, AreHonest, IsHonest, all_entering, alone_given, frames_given_out, honest_given, printed_entering, replies_given}
 use Rattle.script_meaning.proofs.Lone.{lone_other, lone_put}
 use Rattle.script_meaning.specs.Standing.{Begins}
 use Rattle.script_meaning.proofs.PollFollows.{StillWhole, polls_met}
@@ -36,8 +36,8 @@ by_number P n only own other = ⊎_elim (λ (e : n ≡ only). subst P (sym e) ow
 abbrev moved_scene : ScriptState → ℕ → Receiver → List (List ℕ) → ScriptState
 moved_scene s n mid packets = record (with_receiver s n mid) { packets = packets }
 
-receiver_line : (i : Identity) (start readers only : ℕ) (played : List Played) (command : CommandContent) (lines : List LineContent) (s : ScriptState) (n : ℕ) (mid : Receiver) (packets : List (List ℕ)) → Goes (world_of (opened_state i start readers)) (world_of (lone only (with_receiver s n mid))) → AreHonest i s.sender packets → SaysNoRange command lines → ((k : ℕ) → read_by (suc k) command lines ≡ []) → (only < 8 → HasFollowed i (and_line played command lines) (with_receiver s n mid) only) → IsSound i start readers only played s → IsSound i start readers only (and_line played command lines) (moved_scene s n mid packets)
-receiver_line i start readers only played command lines s n mid packets runs honest none quiet followed h = record {
+receiver_line : (i : Identity) (group : Option ℕ) (start readers only : ℕ) (played : List Played) (command : CommandContent) (lines : List LineContent) (s : ScriptState) (n : ℕ) (mid : Receiver) (packets : List (List ℕ)) → Goes (world_of (opened_state i group start readers)) (world_of (lone only (with_receiver s n mid))) → AreHonest i s.sender packets → SaysNoRange command lines → ((k : ℕ) → read_by (suc k) command lines ≡ []) → (only < 8 → HasFollowed i (and_line played command lines) (with_receiver s n mid) only) → IsSound i group start readers only played s → IsSound i group start readers only (and_line played command lines) (moved_scene s n mid packets)
+receiver_line i group start readers only played command lines s n mid packets runs honest none quiet followed h = record {
   runs = runs;
   identity = h.identity;
   start_is = h.start_is;
@@ -53,60 +53,60 @@ receiver_line i start readers only played command lines s n mid packets runs hon
 }
 
 -- it isn't the one that is looked at, of which the line says nothing
-other_line : (i : Identity) (start readers only : ℕ) (played : List Played) (command : CommandContent) (lines : List LineContent) (s : ScriptState) (n : ℕ) (mid : Receiver) (packets : List (List ℕ)) → (n ≡ only → ⊥) → AreHonest i s.sender packets → (joined_by only command lines ≡ []) × (polled_by only command lines ≡ []) → SaysNoRange command lines → ((k : ℕ) → read_by (suc k) command lines ≡ []) → IsSound i start readers only played s → IsSound i start readers only (and_line played command lines) (moved_scene s n mid packets)
-other_line i start readers only played command lines s n mid packets other honest silent none quiet h =
-    receiver_line i start readers only played command lines s n mid packets
-    (subst (λ w. Goes (world_of (opened_state i start readers)) w) (sym (lone_other only n s mid other)) h.runs)
+other_line : (i : Identity) (group : Option ℕ) (start readers only : ℕ) (played : List Played) (command : CommandContent) (lines : List LineContent) (s : ScriptState) (n : ℕ) (mid : Receiver) (packets : List (List ℕ)) → (n ≡ only → ⊥) → AreHonest i s.sender packets → (joined_by only command lines ≡ []) × (polled_by only command lines ≡ []) → SaysNoRange command lines → ((k : ℕ) → read_by (suc k) command lines ≡ []) → IsSound i group start readers only played s → IsSound i group start readers only (and_line played command lines) (moved_scene s n mid packets)
+other_line i group start readers only played command lines s n mid packets other honest silent none quiet h =
+    receiver_line i group start readers only played command lines s n mid packets
+    (subst (λ w. Goes (world_of (opened_state i group start readers)) w) (sym (lone_other only n s mid other)) h.runs)
     honest none quiet
     (followed_stays i played command lines s (with_receiver s n mid) only silent (get_other s.receivers n only mid (λ e. other (sym e))) h.followed)
     h
 
 -- it is the one that is looked at
-own_line : (i : Identity) (start readers only : ℕ) (played : List Played) (command : CommandContent) (lines : List LineContent) (s : ScriptState) (r mid : Receiver) (packets : List (List ℕ)) → slice_get s.receivers only ≡ Some r → Goes (world_of (lone only s)) (world_of (with_receiver (lone only s) only mid)) → AreHonest i s.sender packets → SaysNoRange command lines → ((k : ℕ) → read_by (suc k) command lines ≡ []) → Follows i mid (joins only (and_line played command lines)) (polled only (and_line played command lines)) (AllWhole only (and_line played command lines)) → IsSound i start readers only played s → IsSound i start readers only (and_line played command lines) (moved_scene s only mid packets)
-own_line i start readers only played command lines s r mid packets there goes honest none quiet now h =
+own_line : (i : Identity) (group : Option ℕ) (start readers only : ℕ) (played : List Played) (command : CommandContent) (lines : List LineContent) (s : ScriptState) (r mid : Receiver) (packets : List (List ℕ)) → slice_get s.receivers only ≡ Some r → Goes (world_of (lone only s)) (world_of (with_receiver (lone only s) only mid)) → AreHonest i s.sender packets → SaysNoRange command lines → ((k : ℕ) → read_by (suc k) command lines ≡ []) → Follows i mid (joins only (and_line played command lines)) (polled only (and_line played command lines)) (AllWhole only (and_line played command lines)) → IsSound i group start readers only played s → IsSound i group start readers only (and_line played command lines) (moved_scene s only mid packets)
+own_line i group start readers only played command lines s r mid packets there goes honest none quiet now h =
     let t = with_receiver s only mid in
     let on : Goes (world_of (lone only s)) (world_of (lone only t)) = subst (λ z. Goes (world_of (lone only s)) (world_of z)) (sym (lone_put only s mid)) goes in
-    receiver_line i start readers only played command lines s only mid packets
-    (goes_on (world_of (opened_state i start readers)) (world_of (lone only s)) (world_of (lone only t)) h.runs on)
+    receiver_line i group start readers only played command lines s only mid packets
+    (goes_on (world_of (opened_state i group start readers)) (world_of (lone only s)) (world_of (lone only t)) h.runs on)
     honest none quiet
     (λ low. (mid, get_put s.receivers only mid (slice_get_within s.receivers only r there), now))
     h
 
-pub number_low : (i : Identity) (start readers only : ℕ) (played : List Played) (s : ScriptState) (n : ℕ) (r : Receiver) → IsSound i start readers only played s → slice_get s.receivers n ≡ Some r → n < 8
-number_low i start readers only played s n r h there = omega (arith, slice_get_within s.receivers n r there, h.eight)
+pub number_low : (i : Identity) (group : Option ℕ) (start readers only : ℕ) (played : List Played) (s : ScriptState) (n : ℕ) (r : Receiver) → IsSound i group start readers only played s → slice_get s.receivers n ≡ Some r → n < 8
+number_low i group start readers only played s n r h there = omega (arith, slice_get_within s.receivers n r there, h.eight)
 
 -- the receiver that is looked at
-own_at : (i : Identity) (start readers only : ℕ) (played : List Played) (s : ScriptState) (r q : Receiver) → IsSound i start readers only played s → slice_get s.receivers only ≡ Some r → q.image ≡ r.image → q.consumers ≡ r.consumers → At (lone only s) only q (joins only played) (polled only played) (AllWhole only played)
-own_at i start readers only played s r q h there image consumers = at_number i start readers only played s r q h (number_low i start readers only played s only r h there) there image consumers
+own_at : (i : Identity) (group : Option ℕ) (start readers only : ℕ) (played : List Played) (s : ScriptState) (r q : Receiver) → IsSound i group start readers only played s → slice_get s.receivers only ≡ Some r → q.image ≡ r.image → q.consumers ≡ r.consumers → At (lone only s) only q (joins only played) (polled only played) (AllWhole only played)
+own_at i group start readers only played s r q h there image consumers = at_number i group start readers only played s r q h (number_low i group start readers only played s only r h there) there image consumers
 
 -- ---- a tick
 
-abbrev TickIsSound : (i : Identity) (start readers only : ℕ) (played : List Played) (now : ℕ) (lines : List LineContent) (s t : ScriptState) → ℕ → Type 0
-TickIsSound i start readers only played now lines s t n = Ticks s n now lines t → IsSound i start readers only (and_line played (commands.Tick n now) lines) t
+abbrev TickIsSound : (i : Identity) (group : Option ℕ) (start readers only : ℕ) (played : List Played) (now : ℕ) (lines : List LineContent) (s t : ScriptState) → ℕ → Type 0
+TickIsSound i group start readers only played now lines s t n = Ticks s n now lines t → IsSound i group start readers only (and_line played (commands.Tick n now) lines) t
 
 -- what goes out at it
-tick_honest : (i : Identity) (start readers only : ℕ) (played : List Played) (s : ScriptState) (r : Receiver) (now : ℕ) → IsSound i start readers only played s → AreFrames (replies r now) → AreHonest i s.sender (s.packets ++ datagrams (alone (replies r now)))
-tick_honest i start readers only played s r now h frames =
+tick_honest : (i : Identity) (group : Option ℕ) (start readers only : ℕ) (played : List Played) (s : ScriptState) (r : Receiver) (now : ℕ) → IsSound i group start readers only played s → AreFrames (replies r now) → AreHonest i s.sender (s.packets ++ datagrams (alone (replies r now)))
+tick_honest i group start readers only played s r now h frames =
     let sent = alone (replies r now) in
     all_append (IsHonest i s.sender) s.packets (datagrams sent) h.honest (honest_given i s.sender sent (alone_given i s.sender (replies r now) frames (replies_given i s.sender r now)))
 
-own_tick : (i : Identity) (start readers only : ℕ) (played : List Played) (now : ℕ) (lines : List LineContent) (s t : ScriptState) → IsSound i start readers only played s → TickIsSound i start readers only played now lines s t only
-own_tick i start readers only played now lines s t h m =
+own_tick : (i : Identity) (group : Option ℕ) (start readers only : ℕ) (played : List Played) (now : ℕ) (lines : List LineContent) (s t : ScriptState) → IsSound i group start readers only played s → TickIsSound i group start readers only played now lines s t only
+own_tick i group start readers only played now lines s t h m =
     let r = m.0 in
     let mid = ticked r now in
     let command = commands.Tick only now in
     let z = lone only s in
-    let a = own_at i start readers only played s r mid h m.1 refl refl in
+    let a = own_at i group start readers only played s r mid h m.1 refl refl in
     let follows : Follows i mid (joins only played) (polled only played) (AllWhole only played) = subst (λ x. Follows x mid (joins only played) (polled only played) (AllWhole only played)) h.identity a.follows in
-    subst (λ x. IsSound i start readers only (and_line played command lines) x) (sym m.4)
-    (own_line i start readers only played command lines s r mid (s.packets ++ datagrams (alone (replies r now))) m.1 (unchanged z only r mid (own_at i start readers only played s r r h m.1 refl refl).there refl) (tick_honest i start readers only played s r now h m.2) (λ g ranges. refl) (λ k. refl) (follows_quiet i only mid played command lines refl refl follows) h)
+    subst (λ x. IsSound i group start readers only (and_line played command lines) x) (sym m.4)
+    (own_line i group start readers only played command lines s r mid (s.packets ++ datagrams (alone (replies r now))) m.1 (unchanged z only r mid (own_at i group start readers only played s r r h m.1 refl refl).there refl) (tick_honest i group start readers only played s r now h m.2) (λ g ranges. refl) (λ k. refl) (follows_quiet i only mid played command lines refl refl follows) h)
 
-pub tick_line : (i : Identity) (start readers only : ℕ) (played : List Played) (n now : ℕ) (lines : List LineContent) (s t : ScriptState) → IsSound i start readers only played s → Ticks s n now lines t → IsSound i start readers only (and_line played (commands.Tick n now) lines) t
-tick_line i start readers only played n now lines s t h =
-    by_number (TickIsSound i start readers only played now lines s t) n only
-    (own_tick i start readers only played now lines s t h)
-    (λ other m. subst (λ x. IsSound i start readers only (and_line played (commands.Tick n now) lines) x) (sym m.4)
-    (other_line i start readers only played (commands.Tick n now) lines s n (ticked m.0 now) (s.packets ++ datagrams (alone (replies m.0 now))) other (tick_honest i start readers only played s m.0 now h m.2) (refl, refl) (λ g ranges. refl) (λ k. refl) h))
+pub tick_line : (i : Identity) (group : Option ℕ) (start readers only : ℕ) (played : List Played) (n now : ℕ) (lines : List LineContent) (s t : ScriptState) → IsSound i group start readers only played s → Ticks s n now lines t → IsSound i group start readers only (and_line played (commands.Tick n now) lines) t
+tick_line i group start readers only played n now lines s t h =
+    by_number (TickIsSound i group start readers only played now lines s t) n only
+    (own_tick i group start readers only played now lines s t h)
+    (λ other m. subst (λ x. IsSound i group start readers only (and_line played (commands.Tick n now) lines) x) (sym m.4)
+    (other_line i group start readers only played (commands.Tick n now) lines s n (ticked m.0 now) (s.packets ++ datagrams (alone (replies m.0 now))) other (tick_honest i group start readers only played s m.0 now h m.2) (refl, refl) (λ g ranges. refl) (λ k. refl) h))
 
 -- ---- a datagram
 
@@ -175,35 +175,35 @@ record TellsOf (command : CommandContent) (n : ℕ) (lines : List LineContent) :
 own_joins : (n : ℕ) (command : CommandContent) (outs : List Outcome) (lines : List LineContent) → TellsOf command n lines → lines ≡ map OfReceiver outs → joined_by n command lines ≡ flat_map joins_of outs
 own_joins n command outs lines tells e = tells.joins ∙ ap (flat_map joins_in) e ∙ all_joins outs
 
-own_taking : Laws → (i : Identity) (start readers only : ℕ) (played : List Played) (command : CommandContent) (now : ℕ) (bytes : List ℕ) (lines : List LineContent) (s t : ScriptState) → Begins i start → TellsOf command only lines → IsSound i start readers only played s → (m : GetsDatagram s only now bytes lines t) → IsTaken i s bytes m.0 → IsSound i start readers only (and_line played command lines) t
-own_taking laws i start readers only played command now bytes lines s t b tells h m honest =
+own_taking : Laws → (i : Identity) (group : Option ℕ) (start readers only : ℕ) (played : List Played) (command : CommandContent) (now : ℕ) (bytes : List ℕ) (lines : List LineContent) (s t : ScriptState) → Begins i start → TellsOf command only lines → IsSound i group start readers only played s → (m : GetsDatagram s only now bytes lines t) → IsTaken i s bytes m.0 → IsSound i group start readers only (and_line played command lines) t
+own_taking laws i group start readers only played command now bytes lines s t b tells h m honest =
     let outs = m.0 in
     let r = m.1 in
     let mid = m.2 in
-    let a = own_at i start readers only played s r (at_moment r now) h m.3 refl refl in
-    let met = takes_met laws i (lone only s) only now r mid bytes outs (joins only played) (polled only played) (AllWhole only played) h.identity (sending laws i start readers only played s b h) a honest m.4 in
+    let a = own_at i group start readers only played s r (at_moment r now) h m.3 refl refl in
+    let met = takes_met laws i (lone only s) only now r mid bytes outs (joins only played) (polled only played) (AllWhole only played) h.identity (sending laws i group start readers only played s b h) a honest m.4 in
     let follows : Follows i mid (joins only played ++ flat_map joins_of outs) (polled only played) (AllWhole only played) = subst (λ x. Follows x mid (joins only played ++ flat_map joins_of outs) (polled only played) (AllWhole only played)) h.identity met.follows in
     let now_follows = follows_as i mid (joins only played ++ flat_map joins_of outs) (joins only (and_line played command lines)) (polled only played) (polled only (and_line played command lines)) (AllWhole only played) (AllWhole only (and_line played command lines))
     (sym (joins_more only played command lines ∙ ap (λ xs. joins only played ++ xs) (own_joins only command outs lines tells m.5)))
     (sym (polled_more only played command lines ∙ ap (λ xs. polled only played ++ xs) tells.polls ∙ append-nil (polled only played)))
     (λ x. (whole_parts only played command lines x).0)
     follows in
-    subst (λ x. IsSound i start readers only (and_line played command lines) x) (sym m.6)
-    (own_line i start readers only played command lines s r mid s.packets m.3 met.goes h.honest tells.ranges tells.reads now_follows h)
+    subst (λ x. IsSound i group start readers only (and_line played command lines) x) (sym m.6)
+    (own_line i group start readers only played command lines s r mid s.packets m.3 met.goes h.honest tells.ranges tells.reads now_follows h)
 
-abbrev DeliveryIsSound : (i : Identity) (start readers only : ℕ) (played : List Played) (k now : ℕ) (bytes : List ℕ) (lines : List LineContent) (s t : ScriptState) → ℕ → Type 0
-DeliveryIsSound i start readers only played k now bytes lines s t n = GetsDatagram s n now bytes lines t → IsSound i start readers only (and_line played (commands.Deliver k n now) lines) t
+abbrev DeliveryIsSound : (i : Identity) (group : Option ℕ) (start readers only : ℕ) (played : List Played) (k now : ℕ) (bytes : List ℕ) (lines : List LineContent) (s t : ScriptState) → ℕ → Type 0
+DeliveryIsSound i group start readers only played k now bytes lines s t n = GetsDatagram s n now bytes lines t → IsSound i group start readers only (and_line played (commands.Deliver k n now) lines) t
 
-own_delivery : Laws → (i : Identity) (start readers only : ℕ) (played : List Played) (k now : ℕ) (bytes : List ℕ) (lines : List LineContent) (s t : ScriptState) → Begins i start → IsSound i start readers only played s → IsHonest i s.sender bytes → DeliveryIsSound i start readers only played k now bytes lines s t only
-own_delivery laws i start readers only played k now bytes lines s t b h honest m =
-    own_taking laws i start readers only played (commands.Deliver k only now) now bytes lines s t b
+own_delivery : Laws → (i : Identity) (group : Option ℕ) (start readers only : ℕ) (played : List Played) (k now : ℕ) (bytes : List ℕ) (lines : List LineContent) (s t : ScriptState) → Begins i start → IsSound i group start readers only played s → IsHonest i s.sender bytes → DeliveryIsSound i group start readers only played k now bytes lines s t only
+own_delivery laws i group start readers only played k now bytes lines s t b h honest m =
+    own_taking laws i group start readers only played (commands.Deliver k only now) now bytes lines s t b
     (record { joins = cond-true (nat_eq only only) (flat_map joins_in lines) [] (eq-eqb only only refl); polls = refl; ranges = λ g ranges. refl; reads = λ k. refl })
     h m (λ frames spelled. all_entering i s.sender frames m.0 (frames_given_out laws.reading i s.sender bytes frames honest spelled))
 
 -- what another receiver is handed
-handed_other : (i : Identity) (start readers only : ℕ) (played : List Played) (command : CommandContent) (n now : ℕ) (bytes : List ℕ) (lines : List LineContent) (s t : ScriptState) → (n ≡ only → ⊥) → (joined_by only command lines ≡ []) × (polled_by only command lines ≡ []) → SaysNoRange command lines → ((k : ℕ) → read_by (suc k) command lines ≡ []) → IsSound i start readers only played s → GetsDatagram s n now bytes lines t → IsSound i start readers only (and_line played command lines) t
-handed_other i start readers only played command n now bytes lines s t other silent none quiet h m =
-    subst (λ x. IsSound i start readers only (and_line played command lines) x) (sym m.6) (other_line i start readers only played command lines s n m.2 s.packets other h.honest silent none quiet h)
+handed_other : (i : Identity) (group : Option ℕ) (start readers only : ℕ) (played : List Played) (command : CommandContent) (n now : ℕ) (bytes : List ℕ) (lines : List LineContent) (s t : ScriptState) → (n ≡ only → ⊥) → (joined_by only command lines ≡ []) × (polled_by only command lines ≡ []) → SaysNoRange command lines → ((k : ℕ) → read_by (suc k) command lines ≡ []) → IsSound i group start readers only played s → GetsDatagram s n now bytes lines t → IsSound i group start readers only (and_line played command lines) t
+handed_other i group start readers only played command n now bytes lines s t other silent none quiet h m =
+    subst (λ x. IsSound i group start readers only (and_line played command lines) x) (sym m.6) (other_line i group start readers only played command lines s n m.2 s.packets other h.honest silent none quiet h)
 
 missing_joins : (k n now j : ℕ) (s t : ScriptState) (lines : List LineContent) → IsMissing s k lines t → joined_by j (commands.Deliver k n now) lines ≡ []
 missing_joins k n now j s t lines m = ap (λ ls. cond (nat_eq n j) (flat_map joins_in ls) []) m.1 ∙ both (nat_eq n j)
@@ -212,31 +212,31 @@ missing_joins k n now j s t lines m = ap (λ ls. cond (nat_eq n j) (flat_map joi
     both true = refl
     both false = refl
 
-pub deliver_line : Laws → (i : Identity) (start readers only : ℕ) (played : List Played) (k n now : ℕ) (lines : List LineContent) (s t : ScriptState) → Begins i start → IsSound i start readers only played s → IsMissing s k lines t ⊎ Delivered s k n now lines t → IsSound i start readers only (and_line played (commands.Deliver k n now) lines) t
-deliver_line laws i start readers only played k n now lines s t b h (inl m) = missing_line i start readers only played (commands.Deliver k n now) k lines s t (record { joins = λ j. missing_joins k n now j s t lines m; polls = λ j. refl; reads = λ j. refl }) (λ g ranges. refl) h m
-deliver_line laws i start readers only played k n now lines s t b h (inr m) =
-    by_number (DeliveryIsSound i start readers only played k now m.0 lines s t) n only
-    (own_delivery laws i start readers only played k now m.0 lines s t b h (all_get (IsHonest i s.sender) s.packets k m.0 m.1 h.honest))
-    (λ other. handed_other i start readers only played (commands.Deliver k n now) n now m.0 lines s t other (cond-false (nat_eq n only) (flat_map joins_in lines) [] (ne_eqb n only other), refl) (λ g ranges. refl) (λ k. refl) h)
+pub deliver_line : Laws → (i : Identity) (group : Option ℕ) (start readers only : ℕ) (played : List Played) (k n now : ℕ) (lines : List LineContent) (s t : ScriptState) → Begins i start → IsSound i group start readers only played s → IsMissing s k lines t ⊎ Delivered s k n now lines t → IsSound i group start readers only (and_line played (commands.Deliver k n now) lines) t
+deliver_line laws i group start readers only played k n now lines s t b h (inl m) = missing_line i group start readers only played (commands.Deliver k n now) k lines s t (record { joins = λ j. missing_joins k n now j s t lines m; polls = λ j. refl; reads = λ j. refl }) (λ g ranges. refl) h m
+deliver_line laws i group start readers only played k n now lines s t b h (inr m) =
+    by_number (DeliveryIsSound i group start readers only played k now m.0 lines s t) n only
+    (own_delivery laws i group start readers only played k now m.0 lines s t b h (all_get (IsHonest i s.sender) s.packets k m.0 m.1 h.honest))
+    (λ other. handed_other i group start readers only played (commands.Deliver k n now) n now m.0 lines s t other (cond-false (nat_eq n only) (flat_map joins_in lines) [] (ne_eqb n only other), refl) (λ g ranges. refl) (λ k. refl) h)
     m.2
 
 -- bytes of the script's own
-abbrev RawIsSound : (i : Identity) (start readers only : ℕ) (played : List Played) (now : ℕ) (bytes : List ℕ) (lines : List LineContent) (s t : ScriptState) → ℕ → Type 0
-RawIsSound i start readers only played now bytes lines s t n = (only < 8 → IsHonestLine only s.packets (commands.Raw n now bytes) lines) → GetsDatagram s n now bytes lines t → IsSound i start readers only (and_line played (commands.Raw n now bytes) lines) t
+abbrev RawIsSound : (i : Identity) (group : Option ℕ) (start readers only : ℕ) (played : List Played) (now : ℕ) (bytes : List ℕ) (lines : List LineContent) (s t : ScriptState) → ℕ → Type 0
+RawIsSound i group start readers only played now bytes lines s t n = (only < 8 → IsHonestLine only s.packets (commands.Raw n now bytes) lines) → GetsDatagram s n now bytes lines t → IsSound i group start readers only (and_line played (commands.Raw n now bytes) lines) t
 
 -- of those that its image takes each was printed
-own_raw : Laws → (i : Identity) (start readers only : ℕ) (played : List Played) (now : ℕ) (bytes : List ℕ) (lines : List LineContent) (s t : ScriptState) → Begins i start → IsSound i start readers only played s → RawIsSound i start readers only played now bytes lines s t only
-own_raw laws i start readers only played now bytes lines s t b h honest m =
-    let low : only < 8 = number_low i start readers only played s only m.1 h m.3 in
-    own_taking laws i start readers only played (commands.Raw only now bytes) now bytes lines s t b
+own_raw : Laws → (i : Identity) (group : Option ℕ) (start readers only : ℕ) (played : List Played) (now : ℕ) (bytes : List ℕ) (lines : List LineContent) (s t : ScriptState) → Begins i start → IsSound i group start readers only played s → RawIsSound i group start readers only played now bytes lines s t only
+own_raw laws i group start readers only played now bytes lines s t b h honest m =
+    let low : only < 8 = number_low i group start readers only played s only m.1 h m.3 in
+    own_taking laws i group start readers only played (commands.Raw only now bytes) now bytes lines s t b
     (record { joins = cond-true (nat_eq only only) (flat_map joins_in lines) [] (eq-eqb only only refl); polls = refl; ranges = λ g ranges. refl; reads = λ k. refl })
     h m (λ frames spelled. printed_entering laws.reading i s.sender s.packets frames m.0 h.honest (subst (AreHonestFrames s.packets frames) m.5 (honest low refl frames spelled)))
 
-pub raw_line : Laws → (i : Identity) (start readers only : ℕ) (played : List Played) (n now : ℕ) (bytes : List ℕ) (lines : List LineContent) (s t : ScriptState) → Begins i start → (only < 8 → IsHonestLine only s.packets (commands.Raw n now bytes) lines) → IsSound i start readers only played s → GetsDatagram s n now bytes lines t → IsSound i start readers only (and_line played (commands.Raw n now bytes) lines) t
-raw_line laws i start readers only played n now bytes lines s t b honest h m =
-    by_number (RawIsSound i start readers only played now bytes lines s t) n only
-    (own_raw laws i start readers only played now bytes lines s t b h)
-    (λ other spared k. handed_other i start readers only played (commands.Raw n now bytes) n now bytes lines s t other (cond-false (nat_eq n only) (flat_map joins_in lines) [] (ne_eqb n only other), refl) (λ g ranges. refl) (λ k. refl) h k)
+pub raw_line : Laws → (i : Identity) (group : Option ℕ) (start readers only : ℕ) (played : List Played) (n now : ℕ) (bytes : List ℕ) (lines : List LineContent) (s t : ScriptState) → Begins i start → (only < 8 → IsHonestLine only s.packets (commands.Raw n now bytes) lines) → IsSound i group start readers only played s → GetsDatagram s n now bytes lines t → IsSound i group start readers only (and_line played (commands.Raw n now bytes) lines) t
+raw_line laws i group start readers only played n now bytes lines s t b honest h m =
+    by_number (RawIsSound i group start readers only played now bytes lines s t) n only
+    (own_raw laws i group start readers only played now bytes lines s t b h)
+    (λ other spared k. handed_other i group start readers only played (commands.Raw n now bytes) n now bytes lines s t other (cond-false (nat_eq n only) (flat_map joins_in lines) [] (ne_eqb n only other), refl) (λ g ranges. refl) (λ k. refl) h k)
     honest m
 
 -- ---- a poll
@@ -250,16 +250,16 @@ still_whole n played line lines e x =
     let all : AllByRecursion (λ l. is_fault l ≡ false) (line ∷ []) = subst (λ ls. AllByRecursion (λ l. is_fault l ≡ false) ls) e (parts.1 refl) in
     (parts.0, all.0)
 
-abbrev PollIsSound : (i : Identity) (start readers only : ℕ) (played : List Played) (lines : List LineContent) (s t : ScriptState) → ℕ → Type 0
-PollIsSound i start readers only played lines s t n = PollsBy s n lines t → IsSound i start readers only (and_line played (commands.Poll n) lines) t
+abbrev PollIsSound : (i : Identity) (group : Option ℕ) (start readers only : ℕ) (played : List Played) (lines : List LineContent) (s t : ScriptState) → ℕ → Type 0
+PollIsSound i group start readers only played lines s t n = PollsBy s n lines t → IsSound i group start readers only (and_line played (commands.Poll n) lines) t
 
-own_poll : (i : Identity) (start readers only : ℕ) (played : List Played) (lines : List LineContent) (s t : ScriptState) → IsSound i start readers only played s → PollIsSound i start readers only played lines s t only
-own_poll i start readers only played lines s t h m =
+own_poll : (i : Identity) (group : Option ℕ) (start readers only : ℕ) (played : List Played) (lines : List LineContent) (s t : ScriptState) → IsSound i group start readers only played s → PollIsSound i group start readers only played lines s t only
+own_poll i group start readers only played lines s t h m =
     let line = poll_content m.0 in
     let r = m.1 in
     let mid = m.2 in
     let command = commands.Poll only in
-    let a = own_at i start readers only played s r r h m.3 refl refl in
+    let a = own_at i group start readers only played s r r h m.3 refl refl in
     let met = polls_met (lone only s) only r mid m.0 (joins only played) (polled only played) (AllWhole only played) a m.4 in
     let follows : Follows i mid (joins only played) (polled only played ++ messages_in line) (StillWhole (AllWhole only played) line) = subst (λ x. Follows x mid (joins only played) (polled only played ++ messages_in line) (StillWhole (AllWhole only played) line)) h.identity met.follows in
     let now_follows = follows_as i mid (joins only played) (joins only (and_line played command lines)) (polled only played ++ messages_in line) (polled only (and_line played command lines)) (StillWhole (AllWhole only played) line) (AllWhole only (and_line played command lines))
@@ -267,15 +267,15 @@ own_poll i start readers only played lines s t h m =
     (sym (polled_more only played command lines ∙ ap (λ xs. polled only played ++ xs) (own_polls only line lines m.5)))
     (still_whole only played line lines m.5)
     follows in
-    subst (λ x. IsSound i start readers only (and_line played command lines) x) (sym m.6)
-    (own_line i start readers only played command lines s r mid s.packets m.3 met.goes h.honest (λ g ranges. refl) (λ k. refl) now_follows h)
+    subst (λ x. IsSound i group start readers only (and_line played command lines) x) (sym m.6)
+    (own_line i group start readers only played command lines s r mid s.packets m.3 met.goes h.honest (λ g ranges. refl) (λ k. refl) now_follows h)
 
-pub poll_line : (i : Identity) (start readers only : ℕ) (played : List Played) (n : ℕ) (lines : List LineContent) (s t : ScriptState) → IsSound i start readers only played s → PollsBy s n lines t → IsSound i start readers only (and_line played (commands.Poll n) lines) t
-poll_line i start readers only played n lines s t h =
-    by_number (PollIsSound i start readers only played lines s t) n only
-    (own_poll i start readers only played lines s t h)
-    (λ other m. subst (λ x. IsSound i start readers only (and_line played (commands.Poll n) lines) x) (sym m.6)
-    (other_line i start readers only played (commands.Poll n) lines s n m.2 s.packets other h.honest (refl, cond-false (nat_eq n only) (flat_map messages_in lines) [] (ne_eqb n only other)) (λ g ranges. refl) (λ k. refl) h))
+pub poll_line : (i : Identity) (group : Option ℕ) (start readers only : ℕ) (played : List Played) (n : ℕ) (lines : List LineContent) (s t : ScriptState) → IsSound i group start readers only played s → PollsBy s n lines t → IsSound i group start readers only (and_line played (commands.Poll n) lines) t
+poll_line i group start readers only played n lines s t h =
+    by_number (PollIsSound i group start readers only played lines s t) n only
+    (own_poll i group start readers only played lines s t h)
+    (λ other m. subst (λ x. IsSound i group start readers only (and_line played (commands.Poll n) lines) x) (sym m.6)
+    (other_line i group start readers only played (commands.Poll n) lines s n m.2 s.packets other h.honest (refl, cond-false (nat_eq n only) (flat_map messages_in lines) [] (ne_eqb n only other)) (λ g ranges. refl) (λ k. refl) h))
 
-pub image_line : (i : Identity) (start readers only : ℕ) (played : List Played) (n : ℕ) (lines : List LineContent) (s t : ScriptState) → IsSound i start readers only played s → TellsBy s n lines t → IsSound i start readers only (and_line played (commands.Image n) lines) t
-image_line i start readers only played n lines s t h m = same_state i start readers only played (commands.Image n) lines s t (record { joins = λ k. refl; polls = λ k. refl; reads = λ k. refl }) (λ g ranges. refl) m.5 h
+pub image_line : (i : Identity) (group : Option ℕ) (start readers only : ℕ) (played : List Played) (n : ℕ) (lines : List LineContent) (s t : ScriptState) → IsSound i group start readers only played s → TellsBy s n lines t → IsSound i group start readers only (and_line played (commands.Image n) lines) t
+image_line i group start readers only played n lines s t h m = same_state i group start readers only played (commands.Image n) lines s t (record { joins = λ k. refl; polls = λ k. refl; reads = λ k. refl }) (λ g ranges. refl) m.5 h

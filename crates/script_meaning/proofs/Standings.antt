@@ -20,7 +20,7 @@ use Rattle.model.proofs.LogSteps.{entry_from}
 use Rattle.retransmit.specs.Handler.{is_near}
 use Rattle.retransmit.specs.Laws.{NearGiveRange}
 use Rattle.sender.specs.Cycling.{Cycle, GivesNew}
-use Rattle.script_meaning.specs.Answers.{behind_new, end_from, limit_of, named, woken}
+use Rattle.script_meaning.specs.Answers.{behind_new, cycle_limit, end_from, named}
 use Rattle.script_meaning.specs.ScriptState.{ScriptState, entries_of}
 use Rattle.script_meaning.specs.Standing.{AlwaysAgain, AlwaysThere, IsPlayed}
 use Rattle.script_meaning.proofs.PolledPrefixes.{sound_log}
@@ -122,9 +122,9 @@ kept_still : Laws → (s : ScriptState) → (p : IsPlayed s) → (x : Placed) �
 kept_still laws s p x a near =
     let i = p.identity in
     let term = s.log.identity.geometry.term_length in
-    let h = sound_log laws i p.start p.readers p.played s p.begins p.answered in
-    let k = holds laws i p.start p.readers 8 p.played s p.begins h in
-    let cleaned : s.log.cleaned ≤ max s.log.start (s.sender.at - term) = (law_of laws.readable i p.start p.readers 8 s p.begins h.runs).sender in
+    let h = sound_log laws i p.group p.start p.readers p.played s p.begins p.answered in
+    let k = holds laws i p.group p.start p.readers 8 p.played s p.begins h in
+    let cleaned : s.log.cleaned ≤ max s.log.start (s.sender.at - term) = (law_of laws.readable i p.group p.start p.readers 8 s p.begins h.runs).sender in
     let far : AllByRecursion (λ e. e.start + term < s.sender.at) s.past = all_from (λ e. e.start + term < s.sender.at) s.past (λ e b.
     let low : s.log.start ≤ e.start = entry_from term s.log.start s.log.tail (entries_of s) e k.tiles (among_left e s.past s.log.entries b) in
     let forgotten : e.start < s.log.cleaned = all_at (λ e. e.start < s.log.cleaned) e s.past h.forgotten b in
@@ -138,8 +138,8 @@ pub always_there : Laws → AlwaysThere
 always_there laws s clock p q a =
     let i = p.identity in
     let g = s.log.identity.geometry in
-    let h = sound_log laws i p.start p.readers p.played s p.begins p.answered in
-    let passed = law_of laws.passed i p.start p.readers 8 s p.begins h.runs in
+    let h = sound_log laws i p.group p.start p.readers p.played s p.begins p.answered in
+    let passed = law_of laws.passed i p.group p.start p.readers 8 s p.begins h.runs in
     let l = leads (is_near g s.sender.at) (near_grows g s.sender.at) s.log.start s.sender.at q s.sender.passed passed.chain a in
     let near : s.sender.at ≤ q + 3 * g.term_length / 4 = leb-true s.sender.at (q + 3 * g.term_length / 4) l.passes in
     record {
@@ -156,20 +156,20 @@ named_passed x true = refl
 named_passed x false = refl
 
 -- the sender behind new frames
-passed_new : Laws → (s : ScriptState) (now : ℕ) (y : Cycle) → IsPlayed s → GivesNew s.log.identity.geometry (committed s.log.entries) s.sender.at (limit_of s.log s.sender) y.fresh → HasPassed (committed (entries_of s)) (committed s.log.entries) s.log.start (behind_new s now y)
+passed_new : Laws → (s : ScriptState) (now : ℕ) (y : Cycle) → IsPlayed s → GivesNew s.log.identity.geometry (committed s.log.entries) s.sender.at (cycle_limit s now) y.fresh → HasPassed (committed (entries_of s)) (committed s.log.entries) s.log.start (behind_new s now y)
 passed_new laws s now y p new =
     let i = p.identity in
-    let h = sound_log laws i p.start p.readers p.played s p.begins p.answered in
-    let k = holds laws i p.start p.readers 8 p.played s p.begins h in
-    let passed = law_of laws.passed i p.start p.readers 8 s p.begins h.runs in
-    let may = may_send s.log.identity.geometry (committed s.log.entries) s.sender.at (limit_of s.log s.sender) y.fresh new in
+    let h = sound_log laws i p.group p.start p.readers p.played s p.begins p.answered in
+    let k = holds laws i p.group p.start p.readers 8 p.played s p.begins h in
+    let passed = law_of laws.passed i p.group p.start p.readers 8 s p.begins h.runs in
+    let may = may_send s.log.identity.geometry (committed s.log.entries) s.sender.at (cycle_limit s now) y.fresh new in
     let frames = frames_of y.fresh in
-    let at = named_at (woken s now) y.setup in
-    let before = named_passed (woken s now) y.setup in
+    let at = named_at s.sender y.setup in
+    let before = named_passed s.sender y.setup in
     let on : Chain s.sender.at (end_from s.sender.at frames) frames = subst (λ to. Chain s.sender.at to frames) (chain_end s.sender.at may.to frames may.chain) may.chain in
     record {
       more = λ x a. among_kept s.past s.log.entries x a;
-      chain = subst (λ ss. Chain s.log.start (end_from (named (woken s now) y.setup).at frames) (ss ++ frames)) (sym before) (subst (λ q. Chain s.log.start (end_from q frames) (s.sender.passed ++ frames)) (sym at) (Chain-append s.log.start s.sender.at (end_from s.sender.at frames) s.sender.passed frames passed.chain on));
+      chain = subst (λ ss. Chain s.log.start (end_from (named s.sender y.setup).at frames) (ss ++ frames)) (sym before) (subst (λ q. Chain s.log.start (end_from q frames) (s.sender.passed ++ frames)) (sym at) (Chain-append s.log.start s.sender.at (end_from s.sender.at frames) s.sender.passed frames passed.chain on));
       among = subst (λ ss. AllAmong (committed (entries_of s)) (ss ++ frames)) (sym before) (all_append (λ x. Among x (committed (entries_of s))) s.sender.passed frames passed.among (all_kept s.past s.log.entries frames may.among));
       one = λ a b x z e. one_at s.log.identity.geometry.term_length s.log.start s.log.tail (entries_of s) a b k.tiles k.entries x z e;
     }

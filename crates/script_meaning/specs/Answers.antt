@@ -3,7 +3,7 @@
 -- to anybody. The sender and each receiver keep the greatest moment that they were handed, and the moment of a
 -- datagram counts, of a refused one too.
 use Rattle.std.specs.Prelude.{◌≡◌, ◌⊎◌, ◌<◌, ◌≤◌, ◌-◌, ℕ, ℤ, zero, suc, pos, Bool, true, ◌&&◌, false, List, [], ◌∷◌, ◌++◌, map, length, replicate, Option, None, Some, Result, Ok, Err, slice_get, slice_set, if◌then◌else◌}
-use Rattle.std.specs.List.{AllByRecursion, filter}
+use Rattle.std.specs.List.{AllByRecursion, filter, list_any}
 use Rattle.std.specs.Option.{option_to_list}
 use Rattle.theory.specs.Position.{Geometry, max_message, max_payload, position_of}
 use Rattle.theory.specs.Wire.{IsFrame, Nak, Status, Wire}
@@ -12,10 +12,11 @@ use Rattle.theory.specs.Consumer.{Consumer, moved}
 use Rattle.theory.specs.Entry.{committed}
 use Rattle.theory.specs.Control.{setup_at}
 use Rattle.theory.specs.Datagrams.{frames_of, resend_datagrams}
-use Rattle.theory.specs.FlowLimit.{flow_limit}
+use Rattle.theory.specs.GroupLimit.{GroupEvent, all_heard}
 use Rattle.theory.specs.Resend.{Action, NakAnswer, first_due, is_resent, kept, nak_answer}
 use Rattle.theory.specs.Timing.{is_heartbeat_due, seen}
-use Rattle.model.specs.Sender.{Sender, after_nak}
+use Rattle.model.specs.Sender.{Sender, after_nak, after_status, in_cycle, sender_limit}
+use Rattle.flow_control.specs.Laws.{is_status}
 use Rattle.one_hand.specs.Legal.{IsStream}
 use Rattle.one_hand.specs.Stream.{OpenClaim, Stream, after_claim, after_offer, answer_of, claim_by, claim_end, clean_end, cleaned_and_limited, forgotten_below, raised, with_abort, with_commit, with_consumer}
 use Rattle.publication.specs.declared.refusal.Refusal.{Refusal}
@@ -28,6 +29,7 @@ use Rattle.retransmit.specs.Answers.{nak_result}
 use Rattle.retransmit.specs.Handler.{answered_first}
 use Rattle.retransmit.specs.declared.answer.NakResult.{NakResult}
 use Rattle.sender.specs.Cycling.{Cycle, GivesNew, IsNews, NewsContent, Says, AsksSetup, Misses, TellsNothing, Unreadable, alone, datagrams, is_heard, is_silent, sent_wires}
+use Rattle.sender.specs.Sending.{named_once}
 use Rattle.receiver.specs.Polling.{Answer, Polls, TellsPositions}
 use Rattle.receiver.specs.declared.positions.Positions.{Positions}
 use Rattle.script_meaning.specs.LineContents as content
@@ -174,7 +176,19 @@ woken old now = record old.sender { clock = clock_at old now }
 
 -- how far status messages let it send
 abbrev pub limit_of : Stream → Sender → ℕ
-limit_of l x = flow_limit l.start x.said
+limit_of l x = sender_limit l.start x
+
+-- the same in a cycle, whose moment counts
+abbrev pub cycle_limit : ScriptState → ℕ → ℕ
+cycle_limit s now = limit_of s.log (in_cycle s.sender (clock_at s now))
+
+-- whether a status message that doesn't ask has come: of any receiver, and of each that is waited for
+abbrev pub has_come : List GroupEvent → Bool
+has_come heard = list_any is_status heard
+
+abbrev pub have_all_come : Option ℕ → List GroupEvent → Bool
+have_all_come None heard = has_come heard
+have_all_come (Some size) heard = all_heard size heard
 
 -- its SETUP went out
 abbrev pub named : Sender → Bool → Sender
@@ -204,14 +218,14 @@ resent_on x frames = record x { sent = frames ++ x.sent; actions = answered_firs
 
 -- the sender behind its new frames
 abbrev pub behind_new : ScriptState → ℕ → Cycle → Sender
-behind_new old now y = sent_on (named (woken old now) y.setup) (frames_of y.fresh)
+behind_new old now y = sent_on (in_cycle (named old.sender y.setup) (clock_at old now)) (frames_of y.fresh)
 
 -- what goes out in a cycle
 pub record IsCycle (old : ScriptState) (now : ℕ) (y : Cycle) : Type 0 where
   pub setup : y.setup ≡ is_due old.naming (clock_at old now)
-  pub new : GivesNew old.log.identity.geometry (committed old.log.entries) old.sender.at (limit_of old.log old.sender) y.fresh
+  pub new : GivesNew old.log.identity.geometry (committed old.log.entries) old.sender.at (cycle_limit old now) y.fresh
   pub again : y.again ≡ again_of old.log.identity.geometry (behind_new old now y)
-  pub beat : y.beat ≡ (is_silent y && is_heartbeat_due (option_to_list old.last) old.naming.heard (clock_at old now))
+  pub beat : y.beat ≡ (is_silent y && is_heartbeat_due (option_to_list old.last) (has_come old.sender.heard) (clock_at old now))
 
 abbrev pub cycled : ScriptState → ℕ → Cycle → Sender
 cycled old now y = resent_on (behind_new old now y) (frames_of y.again)
@@ -234,10 +248,7 @@ Sends old now lines new = (y : Cycle) × IsCycle old now y × (lines ≡ or_noth
 
 -- a status message raises the limit
 abbrev pub heard : ScriptState → ℕ → Status → Sender
-heard old now f = record old.sender {
-  clock = clock_at old now;
-  said = record { position = position_of old.log.identity.geometry f.term_id f.term_offset; window = f.window } ∷ old.sender.said;
-}
+heard old now f = after_status old.sender (clock_at old now) f.receiver (record { position = position_of old.log.identity.geometry f.term_id f.term_offset; window = f.window })
 
 -- the position that a negative acknowledgement names
 abbrev pub place_in : ScriptState → Nak → ℤ
@@ -253,7 +264,7 @@ missed old now f = after_nak old.log.identity.geometry old.log.start old.sender 
 abbrev pub SenderHears : ScriptState → ℕ → NewsContent → List LineContent → ScriptState → Type 0
 SenderHears old now (Says f) lines new =
     (lines ≡ OfSender (answers.Status (pos (limit_of old.log (heard old now f)))) ∷ [])
-    × (new ≡ record old { sender = heard old now f; naming = record old.naming { heard = true } })
+    × (new ≡ record old { sender = heard old now f; naming = named_once (have_all_come old.sender.group (heard old now f).heard) old.naming })
 SenderHears old now AsksSetup lines new =
     let out = alone (setup_at old.log.identity old.sender.at ∷ []) in
     (lines ≡ OfSender answers.Asked ∷ lines_of old out) × (new ≡ with_sender (given_out old out) (named (woken old now) true))
@@ -293,6 +304,7 @@ TellsBy old i lines new = (told : Option Positions) × (r : Receiver) × (slice_
 -- ---- a line of a script
 
 abbrev pub Answers : ScriptState → CommandContent → List LineContent → ScriptState → Type 0
+Answers old (commands.Group size) lines new = (lines ≡ Done ∷ []) × (new ≡ old)
 Answers old commands.Connect lines new = (lines ≡ Done ∷ []) × (new ≡ with_log old (record old.log { connected = true }))
 Answers old commands.Disconnect lines new = (lines ≡ Done ∷ []) × (new ≡ with_log old (record old.log { connected = false }))
 Answers old commands.Close lines new = (lines ≡ Done ∷ []) × (new ≡ with_log old (record old.log { closed = true }))

@@ -1,5 +1,5 @@
 -- What holds of each image, whatever bytes its receiver was handed.
-use Rattle.std.specs.Prelude.{◌≡◌, ◌≤◌, ℕ, ⊤, List, map, Option, None, Some}
+use Rattle.std.specs.Prelude.{◌≤◌, ⊤, List, map, Option, None, Some}
 use Rattle.std.specs.List.{AllByRecursion}
 use Rattle.theory.specs.Insert.{AreApart, head_of}
 use Rattle.model.specs.Headline.{StayWithin}

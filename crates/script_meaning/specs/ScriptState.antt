@@ -24,7 +24,7 @@ pub record ScriptState : Type 0 where
   -- the readers beside the sender, from number 1 on; an assembler hears each frame that one passes
   pub readers : List Consumer
   pub sender : Sender
-  -- when the sender last sent a SETUP, and whether a status message has come
+  -- when the sender last sent a SETUP, and whether each receiver was heard for which these go out
   pub naming : Naming
   -- the moment of the last datagram of its frames and of its last heartbeat
   pub last : Option ℕ
@@ -82,13 +82,13 @@ listening_at i number = listening i.session i.stream (i.geometry.term_length / 2
 abbrev pub numbers : List ℕ
 numbers = 0 ∷ 1 ∷ 2 ∷ 3 ∷ 4 ∷ 5 ∷ 6 ∷ 7 ∷ []
 
--- a log that was just opened at this start, with so many readers beside the sender
-abbrev pub opened_state : Identity → ℕ → ℕ → ScriptState
-opened_state i start readers = record {
+-- a log that was just opened at this start, with so many readers beside the sender, which serves a group of a size, or one receiver
+abbrev pub opened_state : Identity → Option ℕ → ℕ → ℕ → ScriptState
+opened_state i group start readers = record {
   log = opened i start (suc readers);
   past = [];
   readers = replicate readers (consumer_at start);
-  sender = opened_sender start;
+  sender = opened_sender start group;
   naming = record { clock = 0; last = None; heard = false };
   last = None;
   receivers = map (listening_at i) numbers;

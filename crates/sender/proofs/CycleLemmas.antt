@@ -71,7 +71,7 @@ pub record Steps {R F : Type 0} (grown : List Placed → List Placed → Type 0)
   pub again : SendsAgain c.identity mid.frames (due_range c.handler) q r
   pub answered : d ≡ record c { reads = d.reads; handler = after_due c.handler c.clock }
   pub stays : new ≡ mid
-  pub beat : t ≡ with_all r (alone (heartbeats d.identity d.handler.at (nat_eq (length r.datagrams) 0 && is_heartbeat_due (option_to_list d.last) d.naming.heard d.clock)))
+  pub beat : t ≡ with_all r (alone (heartbeats d.identity d.handler.at (nat_eq (length r.datagrams) 0 && is_heartbeat_due (option_to_list d.last) d.heard d.clock)))
   pub noted : e ≡ record d { last = if nat_lt (length p.datagrams) (length t.datagrams) then Some d.clock else d.last }
 
 -- the sender behind the SETUP, and behind the new frames
@@ -89,7 +89,7 @@ cycles {R = R} {F = F} grown after_tick reached s b c d e flow o p q r t old mid
     let id : d ≡ record (ticked s f) { reads = d.reads; handler = after_due c.handler s.clock } = h.answered ∙ ap (λ (x : S). record x { reads = d.reads; handler = after_due c.handler x.clock }) ic in
     let i = s.identity in
     let due = is_due s.naming s.clock in
-    let late = is_heartbeat_due (option_to_list s.last) s.naming.heard s.clock in
+    let late = is_heartbeat_due (option_to_list s.last) s.heard s.clock in
     let setup = alone (setups i s.handler.at due) in
     let quiet : Cycle = record { setup = due; fresh = sends.fresh; again = again.again; beat = false } in
     let y : Cycle = record { setup = due; fresh = sends.fresh; again = again.again; beat = is_silent quiet && late } in
@@ -104,7 +104,7 @@ cycles {R = R} {F = F} grown after_tick reached s b c d e flow o p q r t old mid
     ∙ sym (map-append (flat_map spelling) (setup ++ map (wires i) sends.fresh) (map (wires i) again.again)) in
     let silent : nat_eq (length r.datagrams) 0 ≡ is_silent quiet = ap (λ (x : List (List ℕ)). nat_eq (length x) 0) third ∙ silent_is i s.handler.at due sends.fresh again.again false in
     let beat : t ≡ with_all r (alone (heartbeats i c.handler.at y.beat)) =
-    subst (λ (x : S). t ≡ with_all r (alone (heartbeats x.identity x.handler.at (nat_eq (length r.datagrams) 0 && is_heartbeat_due (option_to_list x.last) x.naming.heard x.clock)))) id h.beat
+    subst (λ (x : S). t ≡ with_all r (alone (heartbeats x.identity x.handler.at (nat_eq (length r.datagrams) 0 && is_heartbeat_due (option_to_list x.last) x.heard x.clock)))) id h.beat
     ∙ ap (λ (x : Bool). with_all r (alone (heartbeats i c.handler.at (x && late)))) silent in
     let all : t.datagrams ≡ datagrams (sent_wires i s.handler.at c.handler.at y) =
     ap (λ (x : Outgoing). x.datagrams) beat

@@ -11,7 +11,7 @@ use Rattle.sender.specs.Sending.{Sending, is_beat_due, all_noted}
 
 -- a sender that sent something last at 7
 abbrev sender : ℕ → Bool → Sending ℕ ℕ
-sender clock heard = record { identity = identity; reads = 0; flow = 0; naming = record { clock = 0; last = Some 0; heard = heard }; handler = fresh the_geometry 0; last = Some 7; clock = clock }
+sender clock heard = record { identity = identity; reads = 0; flow = 0; naming = record { clock = 0; last = Some 0; heard = heard }; heard = heard; handler = fresh the_geometry 0; last = Some 7; clock = clock }
 
 abbrev cycle : Bool → List (List Placed) → List (List Placed) → Bool → Cycle
 cycle setup new again beat = record { setup = setup; fresh = new; again = again; beat = beat }

@@ -23,8 +23,10 @@ pub record Sending (R F : Type 0) : Type 0 where
   pub identity : Identity
   pub reads : R
   pub flow : F
-  -- what it remembers of its SETUPs, and whether a status message has come
+  -- what it remembers of its SETUPs, and whether each receiver was heard for which these go out
   pub naming : Naming
+  -- whether a status message has come that doesn't ask
+  pub heard : Bool
   -- its position, the end of what it sent of the stream; where the frames start that can be asked for again, and what is asked for
   pub handler : Handler
   -- the moment of the last datagram of frames and of the last heartbeat
@@ -39,6 +41,7 @@ begun identity start reads flow = record {
   reads = reads;
   flow = flow;
   naming = record { clock = 0; last = None; heard = false };
+  heard = false;
   handler = fresh identity.geometry start;
   last = None;
   clock = 0;
@@ -90,7 +93,7 @@ after_fresh s y = all_noted s.handler (frames_of y.fresh)
 
 -- where it sends nothing else, and a status message has come, and a tenth of a second has passed
 abbrev pub is_beat_due : {R F : Type 0} → Sending R F → Cycle → Bool
-is_beat_due s y = is_silent y && is_heartbeat_due (option_to_list s.last) s.naming.heard s.clock
+is_beat_due s y = is_silent y && is_heartbeat_due (option_to_list s.last) s.heard s.clock
 
 -- what goes out in a cycle at the moment that was seen last, by the limit of the flow control after a tick, where these frames are to be read in the end
 pub record IsCycle {R F : Type 0} (s : Sending R F) (limit : ℕ) (frames : List Placed) (y : Cycle) : Type 0 where
@@ -124,32 +127,41 @@ pub record Cycles {R F : Type 0} (grown : List Placed → List Placed → Type 0
 
 -- ---- a datagram
 
--- what a sender makes of a status message: by what a flow control is after one
-abbrev pub told : {R F : Type 0} → (F → ℤ → ℤ → ℤ → ℕ → F) → Sending R F → Status → Sending R F
-told after_status s f = record s {
-  flow = after_status s.flow (position_of s.identity.geometry f.term_id f.term_offset) f.window f.receiver s.clock;
-  naming = record s.naming { heard = true };
+-- once all were heard, its SETUPs go out by themselves no more
+abbrev pub named_once : Bool → Naming → Naming
+named_once all n = if all then record n { heard = true } else n
+
+-- what a flow control makes of a status message
+abbrev pub flow_told : {R F : Type 0} → (F → ℤ → ℤ → ℤ → ℕ → F) → Sending R F → Status → F
+flow_told after_status s f = after_status s.flow (position_of s.identity.geometry f.term_id f.term_offset) f.window f.receiver s.clock
+
+-- what a sender makes of a status message: by what a flow control is after one, and whether it has heard all then
+abbrev pub told : {R F : Type 0} → (F → ℤ → ℤ → ℤ → ℕ → F) → (F → Bool) → Sending R F → Status → Sending R F
+told after_status has_heard s f = record s {
+  flow = flow_told after_status s f;
+  naming = named_once (has_heard (flow_told after_status s f)) s.naming;
+  heard = true;
 }
 
 -- what it makes of a negative acknowledgement
 abbrev pub asked : {R F : Type 0} → Sending R F → Nak → Sending R F
 asked s f = record s { handler = after_nak s.handler s.clock (position_of s.identity.geometry f.term_id f.term_offset) f.length }
 
-abbrev pub HearsNews : {R F : Type 0} → (F → ℤ → ℤ → ℤ → ℕ → F) → (F → ℕ) → Sending R F → NewsContent → SenderAnswer → Sending R F → List (List ℕ) → Type 0
-HearsNews after_status reached s (Says f) answer t sent = (t ≡ told after_status s f) × (answer ≡ answers.Status (pos (reached t.flow))) × (sent ≡ [])
-HearsNews after_status reached s AsksSetup answer t sent = (t ≡ s) × (answer ≡ answers.Asked) × (sent ≡ datagrams (alone (setups s.identity s.handler.at true)))
-HearsNews after_status reached s (Misses f) answer t sent =
+abbrev pub HearsNews : {R F : Type 0} → (F → ℤ → ℤ → ℤ → ℕ → F) → (F → ℕ) → (F → Bool) → Sending R F → NewsContent → SenderAnswer → Sending R F → List (List ℕ) → Type 0
+HearsNews after_status reached has_heard s (Says f) answer t sent = (t ≡ told after_status has_heard s f) × (answer ≡ answers.Status (pos (reached t.flow))) × (sent ≡ [])
+HearsNews after_status reached has_heard s AsksSetup answer t sent = (t ≡ s) × (answer ≡ answers.Asked) × (sent ≡ datagrams (alone (setups s.identity s.handler.at true)))
+HearsNews after_status reached has_heard s (Misses f) answer t sent =
     (n : NakResult) × (answer ≡ answers.Missed n) × (nak_result n ≡ nak_answer_of s.handler s.clock (position_of s.identity.geometry f.term_id f.term_offset) f.length) × (t ≡ asked s f) × (sent ≡ [])
-HearsNews after_status reached s TellsNothing answer t sent = (t ≡ s) × (answer ≡ answers.Other) × (sent ≡ [])
-HearsNews after_status reached s (Unreadable fault) answer t sent = (t ≡ s) × (answer ≡ answers.Refused fault) × (sent ≡ [])
+HearsNews after_status reached has_heard s TellsNothing answer t sent = (t ≡ s) × (answer ≡ answers.Other) × (sent ≡ [])
+HearsNews after_status reached has_heard s (Unreadable fault) answer t sent = (t ≡ s) × (answer ≡ answers.Refused fault) × (sent ≡ [])
 
-pub record HearsDatagram {R F : Type 0} (after_status : F → ℤ → ℤ → ℤ → ℕ → F) (reached : F → ℕ) (s : Sending R F) (bytes : List ℕ) (answer : SenderAnswer) (t : Sending R F) (sent : List (List ℕ)) : Type 0 where
+pub record HearsDatagram {R F : Type 0} (after_status : F → ℤ → ℤ → ℤ → ℕ → F) (reached : F → ℕ) (has_heard : F → Bool) (s : Sending R F) (bytes : List ℕ) (answer : SenderAnswer) (t : Sending R F) (sent : List (List ℕ)) : Type 0 where
   pub news : NewsContent
   pub is : IsNews s.identity bytes news
-  pub hears : HearsNews after_status reached s news answer t sent
+  pub hears : HearsNews after_status reached has_heard s news answer t sent
 
 -- ---- an event
 
-abbrev pub Steps : {R F : Type 0} → (List Placed → List Placed → Type 0) → (F → ℤ → ℤ → ℤ → ℕ → F) → (F → ℕ → F) → (F → ℕ) → Sending R F → SenderEvent → Source → Source → SenderAnswer → Sending R F → List (List ℕ) → Type 0
-Steps grown after_status after_tick reached s events.Tick old new answer t sent = (answer ≡ answers.Ticked) × Cycles grown after_tick reached s old new t sent
-Steps grown after_status after_tick reached s (events.Datagram bytes) old new answer t sent = (new ≡ old) × HearsDatagram after_status reached s bytes.now answer t sent
+abbrev pub Steps : {R F : Type 0} → (List Placed → List Placed → Type 0) → (F → ℤ → ℤ → ℤ → ℕ → F) → (F → ℕ → F) → (F → ℕ) → (F → Bool) → Sending R F → SenderEvent → Source → Source → SenderAnswer → Sending R F → List (List ℕ) → Type 0
+Steps grown after_status after_tick reached has_heard s events.Tick old new answer t sent = (answer ≡ answers.Ticked) × Cycles grown after_tick reached s old new t sent
+Steps grown after_status after_tick reached has_heard s (events.Datagram bytes) old new answer t sent = (new ≡ old) × HearsDatagram after_status reached has_heard s bytes.now answer t sent

@@ -83,6 +83,8 @@ pub struct SenderCore<R, F> {
     reads: R,
     flow: F,
     setup: SenderSetup,
+    /// Whether a status message has come that doesn't ask for a SETUP.
+    heard: bool,
     handler: Retransmit,
     /// The payload of the frame that was read last.
     block: Block,
@@ -98,13 +100,13 @@ impl<R, F> Model for SenderCore<R, F> {
 
     ghost Value = { Sending R F };
 
-    ghost view = { λ s. record { identity = s.identity; reads = s.reads; flow = s.flow; naming = s.setup; handler = s.handler; last = s.last; clock = s.clock } };
+    ghost view = { λ s. record { identity = s.identity; reads = s.reads; flow = s.flow; naming = s.setup; heard = s.heard; handler = s.handler; last = s.last; clock = s.clock } };
 
     ghost invariant = { λ s. (s.identity.geometry.mtu ≤ length s.block) × (s.handler.geometry ≡ s.identity.geometry) × (s.handler.at % 32 ≡ 0) };
 }
 
 impl<R, F: FlowControl + Drop> SenderCore<R, F> {
-    ghost use Rattle.sender.specs.Sending.{BeginsAt, Cycles, GoesOn, HearsDatagram, SendsFrom, Steps, at_moment, asked, begun, told};
+    ghost use Rattle.sender.specs.Sending.{BeginsAt, Cycles, GoesOn, HearsDatagram, SendsFrom, Steps, at_moment, asked, begun, named_once, told};
 
     /// A sender of a log with this geometry, these ids and this start, a multiple of 32, which it reads by these reads.
     /// Where memory was refused, the reads and the flow control come back as they were.
@@ -134,6 +136,7 @@ impl<R, F: FlowControl + Drop> SenderCore<R, F> {
             reads,
             flow,
             setup: SenderSetup::new(),
+            heard: false,
             handler,
             block,
             last: None,
@@ -150,6 +153,7 @@ impl<R, F: FlowControl + Drop> SenderCore<R, F> {
             reads,
             flow: _,
             setup: _,
+            heard: _,
             handler: _,
             block: _,
             last: _,
@@ -160,9 +164,9 @@ impl<R, F: FlowControl + Drop> SenderCore<R, F> {
 
     /// Whether a status message has come that doesn't ask for a SETUP.
     pub fn has_heard(&self) -> bool
-        ensures { result ≡ self.now.naming.heard }
+        ensures { result ≡ self.now.heard }
     {
-        self.setup.heard()
+        self.heard
     }
 
     /// Its position: the end of what it has sent of the stream.
@@ -185,7 +189,7 @@ impl<R, F: FlowControl + Drop> SenderCore<R, F> {
         requires stands { R.stands self.old.reads log.old }
         requires from { SendsFrom self.old (R.source self.old.reads log.old) }
         requires size { outbox.old.mtu ≡ self.old.identity.geometry.mtu }
-        ensures step { Steps R.grown F.after_status F.after_tick F.reached (at_moment self.old now) event.entry (R.source self.old.reads log.old) (R.source self.new.reads log.new) result self.new outbox.new.datagrams }
+        ensures step { Steps R.grown F.after_status F.after_tick F.reached F.has_heard (at_moment self.old now) event.entry (R.source self.old.reads log.old) (R.source self.new.reads log.new) result self.new outbox.new.datagrams }
         ensures goes_on { GoesOn self.old self.new (R.source self.new.reads log.new) }
         ensures stands { R.stands self.new.reads log.new }
         ensures leaves { R.leaves self.old.reads log.old self.new.reads log.new }
@@ -308,7 +312,7 @@ impl<R, F: FlowControl + Drop> SenderCore<R, F> {
     /// Gives out a heartbeat, if nothing else goes out and it is due.
     fn beat(&self, outbox: &mut Outbox)
         requires size { outbox.old.mtu ≡ self.now.identity.geometry.mtu }
-        ensures { outbox.new ≡ with_all outbox.old (alone (heartbeats self.now.identity self.now.handler.at (nat_eq (length outbox.old.datagrams) 0 && is_heartbeat_due (option_to_list self.now.last) self.now.naming.heard self.now.clock))) }
+        ensures { outbox.new ≡ with_all outbox.old (alone (heartbeats self.now.identity self.now.handler.at (nat_eq (length outbox.old.datagrams) 0 && is_heartbeat_due (option_to_list self.now.last) self.now.heard self.now.clock))) }
     {
         if outbox.len() == 0 && self.is_silent_long() {
             outbox.push(&heartbeat_frame(&self.identity, self.handler.position()));
@@ -317,20 +321,20 @@ impl<R, F: FlowControl + Drop> SenderCore<R, F> {
 
     /// Whether a status message has come, and it is time for a heartbeat.
     fn is_silent_long(&self) -> bool
-        ensures { result ≡ is_heartbeat_due (option_to_list self.now.last) self.now.naming.heard self.now.clock }
+        ensures { result ≡ is_heartbeat_due (option_to_list self.now.last) self.now.heard self.now.clock }
     {
         let is_late = match self.last {
             None => true,
             Some(last) => self.clock >= last.saturating_add(HEARTBEAT_INTERVAL),
         };
-        self.setup.heard() && is_late
+        self.heard && is_late
     }
 
     /// Takes a datagram.
     fn hear(&mut self, bytes: &[u8], outbox: &mut Outbox) -> SenderAnswer
         requires empty { outbox.old.datagrams ≡ [] }
         requires size { outbox.old.mtu ≡ self.old.identity.geometry.mtu }
-        ensures hears { HearsDatagram F.after_status F.reached self.old bytes.now result self.new outbox.new.datagrams }
+        ensures hears { HearsDatagram F.after_status F.reached F.has_heard self.old bytes.now result self.new outbox.new.datagrams }
         ensures size { outbox.new.mtu ≡ outbox.old.mtu }
     {
         match read_news(bytes, &self.identity) {
@@ -347,15 +351,25 @@ impl<R, F: FlowControl + Drop> SenderCore<R, F> {
 
     /// Takes a status message that doesn't ask.
     fn on_status(&mut self, status: &Status) -> SenderAnswer
-        ensures state { self.new ≡ told F.after_status self.old (status_of status.now) }
+        ensures state { self.new ≡ told F.after_status F.has_heard self.old (status_of status.now) }
         ensures answer { result ≡ SenderAnswer.Status (pos (F.reached self.new.flow)) }
     {
         let geometry = self.identity.geometry();
         let position = geometry.position(status.term_id, status.term_offset);
         self.flow
             .on_status(position, status.window, status.receiver, self.clock);
-        self.setup.on_status();
+        self.note_heard();
+        self.heard = true;
         SenderAnswer::Status(self.flow.limit())
+    }
+
+    /// Names the stream by itself no more, once each receiver that is waited for was heard.
+    fn note_heard(&mut self)
+        ensures { self.new ≡ record self.old { naming = named_once (F.has_heard self.old.flow) self.old.naming } }
+    {
+        if self.flow.heard() {
+            self.setup.on_status();
+        }
     }
 
     /// Takes a negative acknowledgement.

@@ -1,3 +1,4 @@
+pub mod Flows
 pub mod HandlerSteps
 pub mod SimulatedNews
 pub mod SimulatedSender

@@ -1,11 +1,14 @@
 -- What a sender's cycle left is a step of the states that the simulation shows.
 use Rattle.std.proofs.Common.{◌≡◌, map, ℕ, ◌≤◌, List, ◌∷◌, ◌++◌, length, Bool, true, false, Some, refl, sym, ap, ◌∙◌, subst, arith}
-use Rattle.std.specs.Prelude.{slice_set, ◌&&◌, if◌then◌else◌}
+use Rattle.std.specs.Prelude.{IfSome, slice_set, ◌&&◌, if◌then◌else◌}
 use Rattle.std.specs.Option.{option_to_list}
 use Rattle.theory.specs.Bytes.{Identity}
 use Rattle.theory.specs.Datagrams.{frames_of}
 use Rattle.theory.specs.Entry.{committed}
-use Rattle.theory.specs.FlowLimit.{flow_limit}
+use Rattle.theory.specs.GroupLimit.{Ticked}
+use Rattle.flow_control.specs.Laws.{GroupKeepsEnough, OneKeepsEnough}
+use Rattle.flow_control.specs.Stream.{flow_after, reached_of, tick_after}
+use Rattle.flow_control.specs.declared.stream.StreamFlow.{StreamFlow}
 use Rattle.theory.specs.Placed.{Chain}
 use Rattle.theory.specs.Position.{Geometry}
 use Rattle.theory.specs.Timing.{is_heartbeat_due, seen}
@@ -18,12 +21,13 @@ use Rattle.one_hand.specs.declared.hand_reader.HandReader.{HandReader}
 use Rattle.retransmit.specs.Handler.{Handler, after_due, due_range}
 use Rattle.retransmit.specs.Laws.{NearStayNear}
 use Rattle.script.specs.Meaning as commands
-use Rattle.setup.specs.Naming.{Naming, after_due as after_naming, is_due}
+use Rattle.setup.specs.Naming.{after_due as after_naming, is_due}
 use Rattle.simulation.specs.Lines.{line_contents}
 use Rattle.simulation.specs.declared.line.Line.{Line}
-use Rattle.script_meaning.specs.Answers.{after_cycle, again_of, behind_new, clock_at, cycled, limit_of, lines_of, named, or_nothing, packet_lines, wires_of, woken}
+use Rattle.script_meaning.specs.Answers.{after_cycle, again_of, behind_new, clock_at, cycle_limit, cycled, has_come, lines_of, named, or_nothing, packet_lines, wires_of}
 use Rattle.sender.specs.Cycling.{GivesAgain, GivesNew, datagrams, is_heard, is_silent, sent_wires}
 use Rattle.sender.specs.Sending.{AreThere, Cycles, Sending, SendsFrom, at_moment, all_noted}
+use Rattle.simulation.proofs.Flows.{flow_reaches, flow_ticks}
 use Rattle.simulation.proofs.HandlerSteps.{due_is, later, noted_is, sent_chain}
 use Rattle.simulation.specs.Simulated.{IsAnswered, IsSenderOf, Simulated, StandsSomewhere}
 use Rattle.script_meaning.specs.Standing.{AlwaysAgain, AlwaysThere, handler_of}
@@ -32,13 +36,13 @@ named_at : (x : Sender) (due : Bool) → (named x due).at ≡ x.at
 named_at x true = refl
 named_at x false = refl
 
-named_said : (x : Sender) (due : Bool) → (named x due).said ≡ x.said
-named_said x true = refl
-named_said x false = refl
+named_group : (x : Sender) (due : Bool) → (named x due).group ≡ x.group
+named_group x true = refl
+named_group x false = refl
 
-named_clock : (x : Sender) (due : Bool) → (named x due).clock ≡ x.clock
-named_clock x true = refl
-named_clock x false = refl
+named_heard : (x : Sender) (due : Bool) → (named x due).heard ≡ x.heard
+named_heard x true = refl
+named_heard x false = refl
 
 named_handler : (g : Geometry) (start k : ℕ) (x : Sender) (due : Bool) → handler_of g start x k ≡ handler_of g start (named x due) k
 named_handler g start k x true = refl
@@ -54,8 +58,8 @@ behind_log others l m r q at end one zeroth h moved =
     ∙ ap (λ (cs : List ℕ). record l { consumers = slice_set cs 0 end }) one
 
 -- what is known of a cycle: where the sender is, and what it sends is what the state's sender sends
-pub send_answered : NearStayNear → AlwaysAgain → (old : Simulated) (now : ℕ) (m : Stream) (t : Sending HandReader ℕ) (packets sent : List (List ℕ)) (before after : List Line) → old.sender.reads.number ≡ 0 → IsSenderOf old.sender (source_of old.log old.sender.reads.number) → Cycles (λ fs gs. gs ≡ fs) (λ f n. f) (λ f. f) (at_moment old.sender now) (source_of old.log old.sender.reads.number) (source_of m t.reads.number) t sent → MovesReader old.sender.reads.number old.log t.reads.number m → packets ≡ old.packets ++ sent → line_contents after ≡ line_contents before ++ or_nothing (packet_lines (length old.packets) sent) → IsAnswered old (commands.Send now) before after (record old { log = m; sender = t; packets = packets })
-send_answered near always old now m t packets sent before after zeroth from c moves given told = λ s h standing.
+pub send_answered : NearStayNear → AlwaysAgain → OneKeepsEnough → GroupKeepsEnough → (old : Simulated) (now : ℕ) (m : Stream) (t : Sending HandReader StreamFlow) (packets sent : List (List ℕ)) (before after : List Line) → old.sender.reads.number ≡ 0 → IsSenderOf old.sender (source_of old.log old.sender.reads.number) → Cycles (λ fs gs. gs ≡ fs) tick_after reached_of (at_moment old.sender now) (source_of old.log old.sender.reads.number) (source_of m t.reads.number) t sent → MovesReader old.sender.reads.number old.log t.reads.number m → packets ≡ old.packets ++ sent → line_contents after ≡ line_contents before ++ or_nothing (packet_lines (length old.packets) sent) → IsAnswered old (commands.Send now) before after (record old { log = m; sender = t; packets = packets })
+send_answered near always one group old now m t packets sent before after zeroth from c moves given told = λ s h standing.
     let y = c.cycle in
     let v = old.sender in
     let g = s.log.identity.geometry in
@@ -65,19 +69,22 @@ send_answered near always old now m t packets sent before after zeroth from c mo
     let identity : v.identity ≡ s.log.identity = sym from.identity ∙ ap (λ (l : Stream). l.identity) (sym h.log) in
     let at : v.handler.at ≡ s.sender.at = ap (λ (x : Handler). x.at) h.sender.handler.is in
     let frames : committed m.entries ≡ committed s.log.entries = c.reads.grows ∙ ap (λ (l : Stream). committed l.entries) (sym h.log) in
-    let z = named (woken s now) y.setup in
-    let z_at : z.at ≡ s.sender.at = named_at (woken s now) y.setup in
-    let new : GivesNew g (committed s.log.entries) s.sender.at (limit_of s.log s.sender) y.fresh =
-    subst (λ (i : Identity). GivesNew i.geometry (committed s.log.entries) s.sender.at (limit_of s.log s.sender) y.fresh) identity
-    (subst (λ fs. GivesNew v.identity.geometry fs s.sender.at (limit_of s.log s.sender) y.fresh) frames
-    (subst (λ p. GivesNew v.identity.geometry (committed m.entries) p (limit_of s.log s.sender) y.fresh) at
-    (subst (λ n. GivesNew v.identity.geometry (committed m.entries) v.handler.at n y.fresh) h.sender.flow c.is.new))) in
+    let z = named s.sender y.setup in
+    let z_at : z.at ≡ s.sender.at = named_at s.sender y.setup in
+    let flow : tick_after v.flow (seen v.clock now) ≡ flow_after s.sender.group start (Ticked (clock_at s now) ∷ s.sender.heard) =
+    ap (λ c. tick_after v.flow c) clock ∙ ap (λ q. tick_after q (clock_at s now)) h.sender.flow ∙ flow_ticks s.sender.group start s.sender.heard (clock_at s now) in
+    let limit : reached_of (tick_after v.flow (seen v.clock now)) ≡ cycle_limit s now = ap reached_of flow ∙ flow_reaches one group s.sender.group h.sender.small start (Ticked (clock_at s now) ∷ s.sender.heard) in
+    let new : GivesNew g (committed s.log.entries) s.sender.at (cycle_limit s now) y.fresh =
+    subst (λ (i : Identity). GivesNew i.geometry (committed s.log.entries) s.sender.at (cycle_limit s now) y.fresh) identity
+    (subst (λ fs. GivesNew v.identity.geometry fs s.sender.at (cycle_limit s now) y.fresh) frames
+    (subst (λ p. GivesNew v.identity.geometry (committed m.entries) p (cycle_limit s now) y.fresh) at
+    (subst (λ n. GivesNew v.identity.geometry (committed m.entries) v.handler.at n y.fresh) limit c.is.new))) in
     let chain = sent_chain z.at new.to y.fresh new.reads _ new.ends (subst (λ p. Chain p new.to new.reads) (sym z_at) new.read.chain) in
     let x = behind_new s now y in
-    let zs : handler_of g start s.sender k ≡ handler_of g start z k = named_handler g start k (woken s now) y.setup in
+    let zs : handler_of g start s.sender k ≡ handler_of g start z k = named_handler g start k s.sender y.setup in
     let noted_so : all_noted v.handler (frames_of y.fresh) ≡ handler_of g start x k =
     ap (λ (q : Handler). all_noted q (frames_of y.fresh)) (h.sender.handler.is ∙ zs) ∙ noted_is near g start k chain.0 z (frames_of y.fresh) chain.1 in
-    let x_clock : x.clock ≡ clock_at s now = named_clock (woken s now) y.setup in
+    let x_clock : x.clock ≡ clock_at s now = refl in
     let low : k ≤ x.clock = subst (λ n. k ≤ n) (sym x_clock) (later k s.sender.clock now h.sender.handler.seen) in
     let again : y.again ≡ again_of g x =
     always s now k y standing new
@@ -86,7 +93,7 @@ send_answered near always old now m t packets sent before after zeroth from c mo
     (subst (λ fs. GivesAgain v.identity.geometry fs (due_range (all_noted v.handler (frames_of y.fresh))) y.again) frames c.is.again))) in
     let n = cycled s now y in
     let handler : t.handler ≡ handler_of g start n x.clock =
-    ap (λ (u : Sending HandReader ℕ). u.handler) c.state
+    ap (λ (u : Sending HandReader StreamFlow). u.handler) c.state
     ∙ ap (λ (q : Handler). after_due q (seen v.clock now)) noted_so
     ∙ ap (λ c. after_due (handler_of g start x k) c) (clock ∙ sym x_clock)
     ∙ due_is g start k x (frames_of y.again) low in
@@ -100,13 +107,16 @@ send_answered near always old now m t packets sent before after zeroth from c mo
     let others = map (λ c. c.at) s.readers in
     let log : m ≡ record old.log { consumers = n.at ∷ others } = behind_log others old.log m v.reads.number t.reads.number s.sender.at n.at h.consumers zeroth moves moved in
     let due : y.setup ≡ is_due s.naming (clock_at s now) = c.is.setup ∙ ap (λ n. is_due n (seen v.clock now)) h.sender.naming ∙ ap (is_due s.naming) clock in
-    let beat : y.beat ≡ (is_silent y && is_heartbeat_due (option_to_list s.last) s.naming.heard (clock_at s now)) =
+    let beat : y.beat ≡ (is_silent y && is_heartbeat_due (option_to_list s.last) (has_come s.sender.heard) (clock_at s now)) =
     c.is.beat
-    ∙ ap (λ o. is_silent y && is_heartbeat_due (option_to_list o) v.naming.heard (seen v.clock now)) h.sender.last
-    ∙ ap (λ (o : Naming). is_silent y && is_heartbeat_due (option_to_list s.last) o.heard (seen v.clock now)) h.sender.naming
-    ∙ ap (λ o. is_silent y && is_heartbeat_due (option_to_list s.last) s.naming.heard o) clock in
+    ∙ ap (λ o. is_silent y && is_heartbeat_due (option_to_list o) v.heard (seen v.clock now)) h.sender.last
+    ∙ ap (λ (b : Bool). is_silent y && is_heartbeat_due (option_to_list s.last) b (seen v.clock now)) h.sender.heard
+    ∙ ap (λ o. is_silent y && is_heartbeat_due (option_to_list s.last) (has_come s.sender.heard) o) clock in
     let n_clock : n.clock ≡ clock_at s now = x_clock in
-    let n_said : n.said ≡ s.sender.said = named_said (woken s now) y.setup in
+    let n_group = named_group s.sender y.setup in
+    let n_heard = named_heard s.sender y.setup in
+    let same_group = sym n_group in
+    let same_heard = sym n_heard in
     record {
       lines = or_nothing (lines_of s (wires_of s now y));
       state = after_cycle s now y;
@@ -115,11 +125,13 @@ send_answered near always old now m t packets sent before after zeroth from c mo
       shows = record {
         log = ap (λ (l : Stream). record l { consumers = n.at ∷ others }) h.log ∙ sym log;
         sender = record {
-          flow = ap (λ (u : Sending HandReader ℕ). u.flow) c.state ∙ h.sender.flow ∙ ap (λ ss. flow_limit s.log.start ss) (sym n_said);
-          naming = ap (λ (u : Sending HandReader ℕ). u.naming) c.state ∙ ap (λ o. after_naming o (seen v.clock now)) h.sender.naming ∙ ap (after_naming s.naming) clock;
+          flow = ap (λ (u : Sending HandReader StreamFlow). u.flow) c.state ∙ flow ∙ (λ j. flow_after (same_group j) start (Ticked (clock_at s now) ∷ same_heard j));
+          small = subst (λ o. IfSome o (λ size. size ≤ 8)) same_group h.sender.small;
+          naming = ap (λ (u : Sending HandReader StreamFlow). u.naming) c.state ∙ ap (λ o. after_naming o (seen v.clock now)) h.sender.naming ∙ ap (after_naming s.naming) clock;
+          heard = ap (λ (u : Sending HandReader StreamFlow). u.heard) c.state ∙ h.sender.heard ∙ ap has_come same_heard;
           handler = record { clock = x.clock; seen = subst (λ p. p ≤ n.clock) (n_clock ∙ sym x_clock) (omega arith); is = handler };
-          last = ap (λ (u : Sending HandReader ℕ). u.last) c.state ∙ ap (λ o. if is_heard y then Some (seen v.clock now) else o) h.sender.last ∙ ap (λ o. if is_heard y then Some o else s.last) clock;
-          clock = ap (λ (u : Sending HandReader ℕ). u.clock) c.state ∙ clock ∙ sym n_clock;
+          last = ap (λ (u : Sending HandReader StreamFlow). u.last) c.state ∙ ap (λ o. if is_heard y then Some (seen v.clock now) else o) h.sender.last ∙ ap (λ o. if is_heard y then Some o else s.last) clock;
+          clock = ap (λ (u : Sending HandReader StreamFlow). u.clock) c.state ∙ clock ∙ sym n_clock;
         };
         consumers = ap (λ (l : Stream). l.consumers) log;
         readers = h.readers;

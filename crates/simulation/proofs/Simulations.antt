@@ -6,10 +6,11 @@ use Rattle.std.proofs.lemmas.Option.{slice_get_past}
 use Rattle.theory.specs.Bytes.{Identity}
 use Rattle.theory.specs.Consumer.{Consumer, moved}
 use Rattle.theory.specs.Entry.{Entry, committed}
-use Rattle.theory.specs.FlowLimit.{flow_limit}
 use Rattle.theory.specs.Placed.{Among, Placed, end_of}
 use Rattle.theory.specs.Position.{max_message}
 use Rattle.theory.specs.Wire.{Wire, spelling}
+use Rattle.flow_control.specs.Stream.{flow_after}
+use Rattle.flow_control.specs.declared.stream.StreamFlow.{StreamFlow}
 use Rattle.one_hand.specs.Legal.{IsStream}
 use Rattle.one_hand.specs.Stream.{Stream, clean_end, cleaned_and_limited, forgotten_below, position_of, raised, with_consumer}
 use Rattle.receiver.specs.Polling.{Answer, Polls, TellsPositions}
@@ -24,7 +25,7 @@ use Rattle.simulation.specs.Packed.{bytes_of}
 use Rattle.simulation.specs.declared.line.Line.{Line}
 use Rattle.simulation.proofs.PacketNumbers.{none_past}
 use Rattle.script_meaning.specs.Answers.{Answers, AreFrames, MayNotTake, OffersMessage, GetsDatagram, given_out, lines_of, or_nothing, packet_lines, reader_at, with_log, with_reader, with_receiver}
-use Rattle.script_meaning.specs.LineContents.{Bad, Limit, LineContent, OfReceiver, poll_line, positions_line}
+use Rattle.script_meaning.specs.LineContents.{Bad, Done, Limit, LineContent, OfReceiver, poll_line, positions_line}
 use Rattle.script_meaning.specs.ScriptState.{ScriptState}
 use Rattle.one_hand.specs.declared.hand_reader.HandReader.{HandReader}
 use Rattle.sender.specs.Cycling.{alone, datagrams}
@@ -56,6 +57,16 @@ bad_answered old command line before after bad answers told = λ s h standing. r
   shows = h;
 }
 
+-- what changes nothing
+pub done_answered : (old : Simulated) (command : CommandContent) (line : Line) (before after : List Line) → line_content line ≡ Done → ((s : ScriptState) → Answers s command (Done ∷ []) s) → after ≡ before ++ line ∷ [] → IsAnswered old command before after old
+done_answered old command line before after done answers told = λ s h standing. record {
+  lines = Done ∷ [];
+  state = s;
+  answers = answers s;
+  printed = one_line before after line told ∙ ap (λ x. line_contents before ++ x ∷ []) done;
+  shows = h;
+}
+
 -- what is too long for the log
 pub too_long : (old : Simulated) (command : CommandContent) (most : Stream → ℕ) (size : ℕ) (line : Line) (before after : List Line) → line_content line ≡ Bad → most old.log < size → ((s : ScriptState) → most s.log < size → Answers s command (Bad ∷ []) s) → after ≡ before ++ line ∷ [] → IsAnswered old command before after old
 too_long old command most size line before after bad long means told = bad_answered old command line before after bad (λ s h. means s (subst (λ l. most l < size) (sym h.log) long)) told
@@ -78,10 +89,12 @@ shows_set (w ∷ ws) (q ∷ rs) (suc k) v r h s = (h.0, shows_set ws rs k v r h.
 -- ---- the log alone
 
 -- of a log with the same identity and start it is the sender too
-log_changed : (v : Sending HandReader ℕ) (s : ScriptState) (m : Stream) (past : List Entry) → RepresentsSender v s → s.log.identity ≡ m.identity → s.log.start ≡ m.start → RepresentsSender v (record s { log = m; past = past })
+log_changed : (v : Sending HandReader StreamFlow) (s : ScriptState) (m : Stream) (past : List Entry) → RepresentsSender v s → s.log.identity ≡ m.identity → s.log.start ≡ m.start → RepresentsSender v (record s { log = m; past = past })
 log_changed v s m past h identity start = record {
-  flow = h.flow ∙ ap (λ n. flow_limit n s.sender.said) start;
+  flow = h.flow ∙ ap (λ n. flow_after s.sender.group n s.sender.heard) start;
+  small = h.small;
   naming = h.naming;
+  heard = h.heard;
   handler = record {
     clock = h.handler.clock;
     seen = h.handler.seen;
@@ -135,7 +148,7 @@ limit_answered old m line before after legal is shown told = λ s h standing.
 subscriber_shown : (old : Simulated) (s : ScriptState) (k : ℕ) (v : Subscribing) (r : Receiver) → RepresentsState old s → RepresentsSubscriber v r → RepresentsState (record old { subscribers = slice_set old.subscribers k v }) (with_receiver s k r)
 subscriber_shown old s k v r h shown = record {
   log = h.log;
-  sender = record { flow = h.sender.flow; naming = h.sender.naming; handler = h.sender.handler; last = h.sender.last; clock = h.sender.clock };
+  sender = record { flow = h.sender.flow; small = h.sender.small; naming = h.sender.naming; heard = h.sender.heard; handler = h.sender.handler; last = h.sender.last; clock = h.sender.clock };
   consumers = h.consumers;
   readers = h.readers;
   receivers = shows_set old.subscribers s.receivers k v r h.receivers shown;
@@ -215,7 +228,7 @@ tick_answered old n now v w wires packets before after there out next frames giv
       printed = told ∙ ap (λ ws. line_contents before ++ or_nothing (packet_lines (length old.packets) (datagrams (alone ws)))) sent ∙ ap (λ ps. line_contents before ++ or_nothing (packet_lines (length ps) (datagrams (alone (replies r now))))) (sym h.packets);
       shows = record {
         log = base.log;
-        sender = record { flow = h.sender.flow; naming = h.sender.naming; handler = h.sender.handler; last = h.sender.last; clock = h.sender.clock };
+        sender = record { flow = h.sender.flow; small = h.sender.small; naming = h.sender.naming; heard = h.sender.heard; handler = h.sender.handler; last = h.sender.last; clock = h.sender.clock };
         consumers = base.consumers;
         readers = base.readers;
         receivers = base.receivers;
@@ -250,7 +263,7 @@ passed_by_reader old s j c p m h is =
     let index : suc j - 1 ≡ j = omega arith in
     record {
       log = ap (λ (l : Stream). with_consumer l (suc j) (end_of p)) h.log ∙ sym is;
-      sender = record { flow = h.sender.flow; naming = h.sender.naming; handler = h.sender.handler; last = h.sender.last; clock = h.sender.clock };
+      sender = record { flow = h.sender.flow; small = h.sender.small; naming = h.sender.naming; heard = h.sender.heard; handler = h.sender.handler; last = h.sender.last; clock = h.sender.clock };
       consumers = ap (λ (l : Stream). l.consumers) is ∙ ap (λ cs. slice_set cs (suc j) (end_of p)) h.consumers ∙ ap (λ xs. s.sender.at ∷ xs) (sym places ∙ ap (λ n. map (λ (x : Consumer). x.at) (slice_set s.readers n (moved c p))) (sym index));
       readers = h.readers ∙ sym (length-set s.readers (suc j - 1) (moved c p));
       receivers = h.receivers;

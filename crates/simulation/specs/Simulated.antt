@@ -1,5 +1,5 @@
 -- What contracts see of a simulation, which states it represents, and what a line makes of them.
-use Rattle.std.specs.Prelude.{◌≡◌, ◌≤◌, ◌+◌, ℕ, ⊤, List, [], ◌∷◌, ◌++◌, length, map}
+use Rattle.std.specs.Prelude.{◌≡◌, ◌≤◌, ◌+◌, ℕ, ⊤, IfSome, List, [], ◌∷◌, ◌++◌, length, map}
 use Rattle.theory.specs.Position.{Geometry}
 use Rattle.script.specs.Meaning.{CommandContent}
 use Rattle.one_hand.specs.Reads.{source_of}
@@ -7,11 +7,13 @@ use Rattle.one_hand.specs.Stream.{Stream}
 use Rattle.one_hand.specs.declared.hand_reader.HandReader.{HandReader}
 use Rattle.receiver.specs.Receiving.{Receiver}
 use Rattle.receiver.specs.Subscribing.{RepresentsSubscriber, Subscribing}
+use Rattle.flow_control.specs.Stream.{flow_after}
+use Rattle.flow_control.specs.declared.stream.StreamFlow.{StreamFlow}
 use Rattle.frame_source.specs.Sources.{Source}
 use Rattle.model.specs.Sender.{Sender}
 use Rattle.retransmit.specs.Handler.{Handler}
 use Rattle.sender.specs.Sending.{Sending}
-use Rattle.script_meaning.specs.Answers.{Answers, limit_of}
+use Rattle.script_meaning.specs.Answers.{Answers, has_come}
 use Rattle.script_meaning.specs.LineContents.{LineContent}
 use Rattle.script_meaning.specs.ScriptState.{ScriptState}
 use Rattle.script_meaning.specs.Standing.{IsPlayed, handler_of}
@@ -24,12 +26,12 @@ pub record Simulated : Type 0 where
   pub log : Stream
   -- how many readers there are beside the sender
   pub readers : ℕ
-  pub sender : Sending HandReader ℕ
+  pub sender : Sending HandReader StreamFlow
   pub subscribers : List Subscribing
   pub packets : List (List ℕ)
 
 -- the sender is of this log, and stands where its reader does
-pub record IsSenderOf (v : Sending HandReader ℕ) (source : Source) : Type 0 where
+pub record IsSenderOf (v : Sending HandReader StreamFlow) (source : Source) : Type 0 where
   pub identity : source.identity ≡ v.identity
   pub position : source.position ≡ v.handler.at
 
@@ -54,9 +56,11 @@ pub record RepresentsHandler (h : Handler) (g : Geometry) (start : ℕ) (x : Sen
   pub seen : clock ≤ x.clock
   pub is : h ≡ handler_of g start x clock
 
-pub record RepresentsSender (v : Sending HandReader ℕ) (s : ScriptState) : Type 0 where
-  pub flow : v.flow ≡ limit_of s.log s.sender
+pub record RepresentsSender (v : Sending HandReader StreamFlow) (s : ScriptState) : Type 0 where
+  pub flow : v.flow ≡ flow_after s.sender.group s.log.start s.sender.heard
+  pub small : IfSome s.sender.group (λ size. size ≤ 8)
   pub naming : v.naming ≡ s.naming
+  pub heard : v.heard ≡ has_come s.sender.heard
   pub handler : RepresentsHandler v.handler s.log.identity.geometry s.log.start s.sender
   pub last : v.last ≡ s.last
   pub clock : v.clock ≡ s.sender.clock

@@ -1,6 +1,6 @@
 //! What each line of a script does, and what it prints.
 
-ghost use Rattle.std.specs.Prelude.{◌≡◌, ◌≤◌, ◌++◌, ◌∷◌, [], length, OnOk, map};
+ghost use Rattle.std.specs.Prelude.{◌≡◌, ◌≤◌, ℕ, ◌++◌, ◌∷◌, [], length, OnOk, map};
 ghost use Rattle.theory.specs.Position.{max_message, max_payload};
 ghost use Rattle.receiver.specs.Subscribing.{answer_of};
 ghost use Rattle.script_meaning.specs.LineContents as content;
@@ -13,6 +13,7 @@ use crate::line::{Line, add_line};
 use crate::log_lines::{abort_line, claim_line, commit_line, letters, offer_line, read_line};
 use crate::simulation::Simulation;
 use assembler::Message;
+use flow_control::keeps_enough;
 use one_hand::{Claims, OneHandLog};
 use receiver::{Outcome, PollError, Positions};
 use retransmit::near_starts_suffice;
@@ -64,6 +65,7 @@ impl<L: OneHandLog> Simulation<L> {
         ensures { OnOk result (IsAnswered self.old (commands.content_of command.now) lines.old.items lines.new.items self.new) }
     {
         match command {
+            Command::Group { .. } => self.group(lines),
             Command::Connect => self.connect(lines),
             Command::Disconnect => self.disconnect(lines),
             Command::Close => self.close(lines),
@@ -91,6 +93,13 @@ impl<L: OneHandLog> Simulation<L> {
             Command::Poll { receiver } => self.poll(*receiver, lines),
             Command::Image { receiver } => self.image(*receiver, lines),
         }
+    }
+
+    /// The flow control had it as the log opened.
+    fn group(&self, lines: &mut Vec<Line>) -> Result<(), AllocError>
+        ensures { (size : ℕ) → OnOk result (IsAnswered self.now (commands.Group size) lines.old.items lines.new.items self.now) }
+    {
+        add_line(lines, Line::Done)
     }
 
     fn connect(&mut self, lines: &mut Vec<Line>) -> Result<(), AllocError>
@@ -224,6 +233,7 @@ impl<L: OneHandLog> Simulation<L> {
         ensures { OnOk result (IsAnswered self.old (commands.Send now) lines.old.items lines.new.items self.new) }
     {
         // Laws that the proof cites.
+        keeps_enough();
         near_starts_suffice();
         sends_again_what_it_sent();
         let _ = self
@@ -240,6 +250,7 @@ impl<L: OneHandLog> Simulation<L> {
             return add_line(lines, Line::Bad);
         };
         // Laws that the proof cites.
+        keeps_enough();
         near_starts_suffice();
         sends_again_what_it_sent();
         let event = SenderEvent::Datagram(bytes);
@@ -284,6 +295,7 @@ impl<L: OneHandLog> Simulation<L> {
         ensures { OnOk result (IsAnswered self.old (commands.RawBack now bytes.now) lines.old.items lines.new.items self.new) }
     {
         // Laws that the proof cites.
+        keeps_enough();
         near_starts_suffice();
         sends_again_what_it_sent();
         let event = SenderEvent::Datagram(bytes);

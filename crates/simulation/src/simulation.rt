@@ -4,7 +4,7 @@ ghost use Rattle.simulation.specs.Books.{ShowsBook};
 
 use crate::packets::Packets;
 use block::Block;
-use flow_control::UnicastFlow;
+use flow_control::StreamFlow;
 use one_hand::{Claims, HandReader, OneHandLog};
 use receiver::Subscriber;
 use sender::{Outbox, SenderCore};
@@ -21,7 +21,7 @@ pub struct Simulation<L: OneHandLog> {
     pub readers: usize,
     /// A reader's frame.
     pub block: Block,
-    pub sender: SenderCore<HandReader, UnicastFlow>,
+    pub sender: SenderCore<HandReader, StreamFlow>,
     pub outbox: Outbox,
     pub subscribers: Vec<Subscriber>,
     pub packets: Packets,

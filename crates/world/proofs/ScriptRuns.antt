@@ -1,5 +1,5 @@
 -- Lines of a script, one after the other.
-use Rattle.std.proofs.Common.{◌≡◌, ◌∙◌, ℕ, ◌<◌, ◌≤◌, get_or, inl, inr, ◌+◌, List, [], ◌∷◌, ◌++◌, sym, ap, subst, refl, append_assoc, append-nil, length, arith, take}
+use Rattle.std.proofs.Common.{Option, ◌≡◌, ◌∙◌, ℕ, ◌<◌, ◌≤◌, get_or, inl, inr, ◌+◌, List, [], ◌∷◌, ◌++◌, sym, ap, subst, refl, append_assoc, append-nil, length, arith, take}
 use Rattle.std.proofs.lemmas.List.{length-replicate, map-append, take_all}
 use Rattle.std.proofs.lemmas.Grind.{flat_map-append}
 use Rattle.std.specs.List.{flat_map}
@@ -12,7 +12,7 @@ use Rattle.theory.specs.Tiling.{share_of}
 use Rattle.shared_log.specs.declared.fault.LogError.TheVariants.{Start}
 use Rattle.one_hand.specs.Stream.{Stream}
 use Rattle.shared_log.specs.declared.book.Book.{Book}
-use Rattle.script.specs.Meaning.{Opening, CommandContent, ScriptContent, content_of, contents_of}
+use Rattle.script.specs.Meaning.{Opening, CommandContent, ScriptContent, content_of, contents_of, group_in}
 use Rattle.script.specs.declared.command.Command.{Command}
 use Rattle.script_meaning.specs.Answers.{Answers}
 use Rattle.position.specs.Openings.{IsStart}
@@ -44,7 +44,7 @@ lines_snoc ps p = flat_map-append (λ (q : Played). q.lines) ps (p ∷ []) ∙ a
 
 -- a state to which lines lead from one that a script led to
 played_on : (s t : ScriptState) (ps : List Played) → IsPlayed s → AnswersAll s ps t → IsPlayed t
-played_on s t ps h k = record { identity = h.identity; start = h.start; readers = h.readers; begins = h.begins; played = h.played ++ ps; answered = answers_join (opened_state h.identity h.start h.readers) s t h.played ps h.answered k }
+played_on s t ps h k = record { identity = h.identity; group = h.group; start = h.start; readers = h.readers; begins = h.begins; played = h.played ++ ps; answered = answers_join (opened_state h.identity h.group h.start h.readers) s t h.played ps h.answered k }
 
 continued_snoc : (old : ScriptState) (os : List CommandContent) (o : CommandContent) (before mid after : List LineContent) (there new : Simulated) → IsPlayed old → Continued old os before mid there → ((s : ScriptState) → RepresentsState there s → IsPlayed s → Answered s o mid after new) → Continued old (os ++ o ∷ []) before after new
 continued_snoc old os o before mid after there new standing h step =
@@ -90,16 +90,16 @@ shows_book s b eight counted h = record {
 all_printed : (before played book : List LineContent) → ((before ++ Open ∷ []) ++ played) ++ book ≡ before ++ Open ∷ (played ++ book)
 all_printed before played book = append_assoc (before ++ Open ∷ []) played book ∙ append_assoc before (Open ∷ []) (played ++ book)
 
-pub runs_to : AlwaysCounted → (old new : Simulated) (i : Identity) (start readers : ℕ) (os : List CommandContent) (before there after : List Line) (b : Book) → length b.shares ≡ 8 → Begins i start → RepresentsState old (opened_state i start readers) → ContinuesOpen old os before there new → ShowsBook new.log b → after ≡ there ++ lines.Book b ∷ [] → RunsTo i start readers os (line_contents before) (line_contents after)
+pub runs_to : AlwaysCounted → (old new : Simulated) (i : Identity) (start readers : ℕ) (os : List CommandContent) (before there after : List Line) (b : Book) → length b.shares ≡ 8 → Begins i start → RepresentsState old (opened_state i (group_in os) start readers) → ContinuesOpen old os before there new → ShowsBook new.log b → after ≡ there ++ lines.Book b ∷ [] → RunsTo i start readers os (line_contents before) (line_contents after)
 runs_to counted old new i start readers os before there after b eight begins shows h book e =
-    let k = h (opened_state i start readers) shows (record { identity = i; start = start; readers = readers; begins = begins; played = []; answered = refl }) in
+    let k = h (opened_state i (group_in os) start readers) shows (record { identity = i; group = group_in os; start = start; readers = readers; begins = begins; played = []; answered = refl }) in
     record {
       played = k.played;
       last = k.state;
       of_commands = k.of_commands;
       answered = k.answered;
       book = Shares b.start b.tail b.shares;
-      shown = shows_book k.state b eight (counted (opening_of i start readers) k.played k.state k.answered) (subst (λ (l : Stream). ShowsBook l b) (sym k.shows.log) book);
+      shown = shows_book k.state b eight (counted (opening_of i start readers) (group_in os) k.played k.state k.answered) (subst (λ (l : Stream). ShowsBook l b) (sym k.shows.log) book);
       printed =
           ap line_contents e
           ∙ map-append line_content there (lines.Book b ∷ [])
@@ -125,8 +125,8 @@ all_played old mid cs k before there past h = subst (λ (xs : List Command). Con
 
 -- ---- the whole script
 
-runs_from : (v : Simulated) (i : Identity) (start readers : ℕ) (os : List CommandContent) (before after : List LineContent) → RepresentsState v (opened_state i start readers) → RunsTo v.log.identity v.log.start v.readers os before after → RunsTo i start readers os before after
-runs_from v i start readers os before after h k =
+runs_from : (v : Simulated) (i : Identity) (group : Option ℕ) (start readers : ℕ) (os : List CommandContent) (before after : List LineContent) → RepresentsState v (opened_state i group start readers) → RunsTo v.log.identity v.log.start v.readers os before after → RunsTo i start readers os before after
+runs_from v i group start readers os before after h k =
     let same : i ≡ v.log.identity = ap (λ l. l.identity) h.log in
     let there : start ≡ v.log.start = ap (λ l. l.start) h.log in
     let many : readers ≡ v.readers = sym (length-replicate readers (consumer_at start)) ∙ sym h.readers in
@@ -145,18 +145,19 @@ plays_on script after legal starts identity always runs within h = record {
   book = h.book;
   shown = h.shown;
   printed = h.printed;
-  polled = λ done later parts. (always script.log h.played h.last legal identity starts h.answered done later parts).0;
-  read = λ done later parts. (always script.log h.played h.last legal identity starts h.answered done later parts).1;
-  behind = λ done later s parts answered. record { runs = runs script.log done s legal identity starts answered; bounds = (within script.log done s answered).0 };
-  order = (within script.log h.played h.last h.answered).1;
+  polled = λ done later parts. (always script.log (group_in script.commands) h.played h.last legal identity starts h.answered done later parts).0;
+  read = λ done later parts. (always script.log (group_in script.commands) h.played h.last legal identity starts h.answered done later parts).1;
+  behind = λ done later s parts answered. record { runs = runs script.log (group_in script.commands) done s legal identity starts answered; bounds = (within script.log (group_in script.commands) done s answered).0 };
+  order = (within script.log (group_in script.commands) h.played h.last h.answered).1;
 }
 
-pub stage_plays : (script : ScriptContent) (v : Simulated) (j : Identity) (start readers : ℕ) (after : List LineContent) → j ≡ identity_of script.log → start ≡ script.log.start → readers ≡ script.log.readers → IsGeometry (geometry_of script.log) → IsStart (geometry_of script.log) script.log.start → IsIdentity (identity_of script.log) → AlwaysPolled → AlwaysRuns → AlwaysInBounds → RepresentsState v (opened_state j start readers) → RunsTo v.log.identity v.log.start v.readers script.commands [] after → IsOutputOf script after
+pub stage_plays : (script : ScriptContent) (v : Simulated) (j : Identity) (start readers : ℕ) (after : List LineContent) → j ≡ identity_of script.log → start ≡ script.log.start → readers ≡ script.log.readers → IsGeometry (geometry_of script.log) → IsStart (geometry_of script.log) script.log.start → IsIdentity (identity_of script.log) → AlwaysPolled → AlwaysRuns → AlwaysInBounds → RepresentsState v (opened_state j (group_in script.commands) start readers) → RunsTo v.log.identity v.log.start v.readers script.commands [] after → IsOutputOf script after
 stage_plays script v j start readers after same there many legal starts identity always goes within shows runs =
-    let here : RepresentsState v (opened_state (identity_of script.log) script.log.start script.log.readers) =
-    subst (λ (i : Identity). RepresentsState v (opened_state i script.log.start script.log.readers)) same
-    (subst (λ (n : ℕ). RepresentsState v (opened_state j n script.log.readers)) there (subst (λ (n : ℕ). RepresentsState v (opened_state j start n)) many shows)) in
-    inr (plays_on script after legal starts identity always goes within (runs_from v (identity_of script.log) script.log.start script.log.readers script.commands [] after here runs))
+    let group = group_in script.commands in
+    let here : RepresentsState v (opened_state (identity_of script.log) group script.log.start script.log.readers) =
+    subst (λ (i : Identity). RepresentsState v (opened_state i group script.log.start script.log.readers)) same
+    (subst (λ (n : ℕ). RepresentsState v (opened_state j group n script.log.readers)) there (subst (λ (n : ℕ). RepresentsState v (opened_state j group start n)) many shows)) in
+    inr (plays_on script after legal starts identity always goes within (runs_from v (identity_of script.log) group script.log.start script.log.readers script.commands [] after here runs))
 
 -- the log can't be opened at its start
 pub refused_start : (script : ScriptContent) (g : Geometry) (before after : List Line) → g ≡ geometry_of script.log → IsGeometry g → ((script.log.start % 32 ≡ 0) × (script.log.start < max_position g) → ⊥) → before ≡ [] → after ≡ before ++ lines.BadLog Start ∷ [] → IsOutputOf script (line_contents after)
@@ -175,11 +176,11 @@ stands_on old mid os before there h k =
     let n = k h.0 h.1 h.2 in
     (n.state, n.shows, played_on h.0 n.state n.played h.2 n.answered)
 
-pub begins_somewhere : (v : Simulated) (i : Identity) (start readers : ℕ) → Begins i start → RepresentsState v (opened_state i start readers) → StandsSomewhere v
-begins_somewhere v i start readers begins shows = (opened_state i start readers, shows, record { identity = i; start = start; readers = readers; begins = begins; played = []; answered = refl })
+pub begins_somewhere : (v : Simulated) (i : Identity) (group : Option ℕ) (start readers : ℕ) → Begins i start → RepresentsState v (opened_state i group start readers) → StandsSomewhere v
+begins_somewhere v i group start readers begins shows = (opened_state i group start readers, shows, record { identity = i; group = group; start = start; readers = readers; begins = begins; played = []; answered = refl })
 
-pub begins_at : (v : Simulated) (i : Identity) (start readers : ℕ) → RepresentsState v (opened_state i start readers) → IsGeometry i.geometry → IsIdentity i → IsStart i.geometry start → Begins v.log.identity v.log.start
-begins_at v i start readers h legal identity starts =
+pub begins_at : (v : Simulated) (i : Identity) (group : Option ℕ) (start readers : ℕ) → RepresentsState v (opened_state i group start readers) → IsGeometry i.geometry → IsIdentity i → IsStart i.geometry start → Begins v.log.identity v.log.start
+begins_at v i group start readers h legal identity starts =
     let same : i ≡ v.log.identity = ap (λ (l : Stream). l.identity) h.log in
     let there : start ≡ v.log.start = ap (λ (l : Stream). l.start) h.log in
     subst (λ (j : Identity). Begins j v.log.start) same (subst (λ (n : ℕ). Begins i n) there (record { geometry = legal; identity = identity; unit = starts.0; below = starts.1 }))

@@ -1,8 +1,8 @@
 -- What a script makes of a simulation, from the opened log to the book.
-use Rattle.std.specs.Prelude.{◌≡◌, ◌≤◌, ◌+◌, ℕ, List, [], ◌∷◌, ◌++◌, length, map, vec_len}
+use Rattle.std.specs.Prelude.{◌≡◌, ◌≤◌, ℕ, List, [], ◌∷◌, ◌++◌, length, map, vec_len}
 use Rattle.std.specs.List.{flat_map}
 use Rattle.theory.specs.Bytes.{Identity}
-use Rattle.script.specs.Meaning.{CommandContent}
+use Rattle.script.specs.Meaning.{CommandContent, group_in}
 use Rattle.receiver.specs.Subscribing.{Subscribing}
 use Rattle.script_meaning.specs.LineContents.{Open, LineContent}
 use Rattle.script_meaning.specs.Output.{AnswersAll, PrintsBook}
@@ -46,7 +46,7 @@ pub record RunsTo (i : Identity) (start readers : ℕ) (commands : List CommandC
   pub played : List Played
   pub last : ScriptState
   pub of_commands : map (λ p. p.command) played ≡ commands
-  pub answered : AnswersAll (opened_state i start readers) played last
+  pub answered : AnswersAll (opened_state i (group_in commands) start readers) played last
   pub book : LineContent
   pub shown : PrintsBook last book
   pub printed : after ≡ before ++ (Open ∷ (flat_map (λ p. p.lines) played ++ book ∷ []))

@@ -1,6 +1,6 @@
 //! A script, played from its first line to the book.
 
-ghost use Rattle.std.specs.Prelude.{◌≡◌, [], suc, vec_len, IfOk, OnOk};
+ghost use Rattle.std.specs.Prelude.{◌≡◌, ◌≤◌, [], suc, vec_len, IfOk, IfSome, OnOk};
 ghost use Rattle.position.specs.Openings.{IsStart};
 ghost use Rattle.one_hand.specs.Stream.{opened};
 ghost use Rattle.script_meaning.specs.ScriptState.{listening_at, opened_state};
@@ -14,7 +14,7 @@ ghost use Rattle.world.specs.Runs.{AreListening, AreReady, Continues, ContinuesO
 ghost use Rattle.script.specs.Meaning as meaning;
 
 use block::Block;
-use flow_control::UnicastFlow;
+use flow_control::StreamFlow;
 use one_hand::{HandReader, LogHand, OneHandLog};
 use position::Geometry;
 use receiver::{ReceiverCore, Subscriber};
@@ -101,8 +101,20 @@ fn opened_lines<L: OneHandLog>(
     // Laws that the proof cites.
     polls_a_prefix();
     images_stay_in_bounds();
-    let simulation = simulation(alloc, log, &script.log, geometry, parts)?;
+    let group = group_of(&script.commands);
+    let simulation = simulation(alloc, log, &script.log, geometry, group, parts)?;
     ended_lines(simulation, &script.commands, lines)
+}
+
+/// How many receivers the group has, if the script names one.
+fn group_of(commands: &[Command]) -> Option<usize>
+    ensures group { result ≡ meaning.group_in (meaning.contents_of commands.now) }
+    ensures small { IfSome result (λ size. size ≤ 8) }
+{
+    match commands {
+        [Command::Group { size }, ..] => Some(size.receivers),
+        _ => None,
+    }
 }
 
 /// Makes the parts for a log of this geometry.
@@ -149,20 +161,22 @@ fn subscribers(
     Ok(subscribers)
 }
 
-/// The simulation of a log that was just opened, as this line of a script says.
+/// The simulation of a log that was just opened, as this line of a script says, to a group or to one receiver.
 fn simulation<L: OneHandLog>(
     alloc: Global,
     log: L,
     line: &LogLine,
     geometry: Geometry,
+    group: Option<usize>,
     parts: Parts,
 ) -> Result<Simulation<L>, AllocError>
     requires opened { L.stream log ≡ opened (record { geometry = geometry; session = line.now.session; stream = line.now.stream }) line.now.start (suc line.now.readers) }
     requires start { IsStart geometry line.now.start }
+    requires small { IfSome group (λ size. size ≤ 8) }
     requires ready { AreReady (record { geometry = geometry; session = line.now.session; stream = line.now.stream }) parts }
-    ensures { IfOk result (λ s. RepresentsState s (opened_state (record { geometry = geometry; session = line.now.session; stream = line.now.stream }) line.now.start line.now.readers)) }
+    ensures { IfOk result (λ s. RepresentsState s (opened_state (record { geometry = geometry; session = line.now.session; stream = line.now.stream }) group line.now.start line.now.readers)) }
 {
-    let flow = UnicastFlow::new(line.start);
+    let flow = StreamFlow::new(line.start, group);
     let reads = HandReader { number: 0 };
     match SenderCore::new(
         alloc,
@@ -223,7 +237,7 @@ fn ended_lines<L: OneHandLog>(
     commands: &[Command],
     mut lines: Vec<Line>,
 ) -> Result<Vec<Line>, AllocError>
-    requires opened { RepresentsState simulation (opened_state simulation.log.identity simulation.log.start simulation.readers) }
+    requires opened { RepresentsState simulation (opened_state simulation.log.identity (meaning.group_in (meaning.contents_of commands.now)) simulation.log.start simulation.readers) }
     requires begins { Begins simulation.log.identity simulation.log.start }
     ensures { IfOk result (λ after. RunsTo simulation.log.identity simulation.log.start simulation.readers (meaning.contents_of commands.now) (line_contents lines.items) (line_contents after.items)) }
 {

@@ -3,7 +3,7 @@ use Rattle.world.proofs.ScriptRuns.{begins_somewhere, runs_to}
 use Rattle.world.proofs.whole_script.ended_lines.Goals as goal
 
 pub answer_opened-played-requires : goal.answer_opened-played-requires
-answer_opened-played-requires g c = begins_somewhere _ _ _ _ c.requires.begins c.requires.opened
+answer_opened-played-requires g c = begins_somewhere _ _ _ _ _ c.requires.begins c.requires.opened
 
 pub returns : goal.returns
 returns g c =

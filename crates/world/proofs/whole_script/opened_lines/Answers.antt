@@ -1,9 +1,12 @@
-use Rattle.std.proofs.Common.{List, [], rules, ap, subst, refl, FitsSigned, w32}
+use Rattle.std.proofs.Common.{◌≡◌, ◌∙◌, ℕ, List, [], Option, rules, ap, subst, refl, FitsSigned, w32}
 use Rattle.std.proofs.lemmas.Result.{IfOk-weaker}
+use Rattle.theory.specs.Bytes.{Identity}
 use Rattle.theory.specs.Position.{Geometry, IsGeometry}
 use Rattle.position.specs.Openings.{IsStart}
-use Rattle.script.specs.Meaning.{contents_of, script_content}
+use Rattle.script.specs.Meaning.{contents_of, group_in, script_content}
 use Rattle.script.specs.declared.command.Command.{Command}
+use Rattle.script_meaning.specs.ScriptState.{opened_state}
+use Rattle.simulation.specs.Simulated.{RepresentsState}
 use Rattle.simulation.specs.Lines.{line_contents}
 use Rattle.simulation.specs.declared.line.Line.{Line}
 use Rattle.world.specs.Runs.{RunsTo}
@@ -17,10 +20,12 @@ returns g c =
     let session : FitsSigned w32 c.args.script.now.log.session = search rules in
     let stream : FitsSigned w32 c.args.script.now.log.stream = search rules in
     let made = c.requires.made in
+    let i : Identity = record { geometry = c.args.geometry; session = log.session; stream = log.stream } in
+    let group : c.group_of-group.result ≡ group_in script.commands = c.group_of-group.ensures.group ∙ ap (λ (cs : List Command). group_in (contents_of cs)) c.deref.ensures.value in
     let simulation = c.in_ok-simulation.simulation in
     IfOk-weaker c.ended_lines.result _ _
     (λ after runs.
-    stage_plays script simulation (record { geometry = c.args.geometry; session = log.session; stream = log.stream }) log.start log.readers (line_contents after.items)
+    stage_plays script simulation i log.start log.readers (line_contents after.items)
     (ap (λ (g : Geometry). record { geometry = g; session = log.session; stream = log.stream }) made)
     refl
     refl
@@ -30,7 +35,7 @@ returns g c =
     c.polls_a_prefix.ensures.polled
     c.polls_a_prefix.ensures.runs
     c.images_stay_in_bounds.ensures
-    c.in_ok-simulation.ensures
-    (subst (λ (cs : List Command). RunsTo simulation.log.identity simulation.log.start simulation.readers (contents_of cs) [] (line_contents after.items)) c.deref.ensures.value
-    (subst (λ (ls : List Line). RunsTo simulation.log.identity simulation.log.start simulation.readers (contents_of c.deref.result.now) (line_contents ls) (line_contents after.items)) c.requires.empty runs)))
+    (subst (λ (o : Option ℕ). RepresentsState simulation (opened_state i o log.start log.readers)) group c.in_ok-simulation.ensures)
+    (subst (λ (cs : List Command). RunsTo simulation.log.identity simulation.log.start simulation.readers (contents_of cs) [] (line_contents after.items)) c.deref-2.ensures.value
+    (subst (λ (ls : List Line). RunsTo simulation.log.identity simulation.log.start simulation.readers (contents_of c.deref-2.result.now) (line_contents ls) (line_contents after.items)) c.requires.empty runs)))
     c.ended_lines.ensures

@@ -10,7 +10,7 @@ returns-clause-cycle g c =
     let S = Sending g.row.R.Denot g.row.F.Denot in
     let source = g.R.FrameSource.source in
     let o = c.self.inside in
-    let s : S = record { identity = o.identity; reads = o.reads; flow = o.flow; naming = o.setup; handler = o.handler; last = o.last; clock = o.clock } in
+    let s : S = record { identity = o.identity; reads = o.reads; flow = o.flow; naming = o.setup; heard = o.heard; handler = o.handler; last = o.last; clock = o.clock } in
     let b = c.name_stream.new.self in
     let log = c.args.log.now in
     let mid = source c.send.new.self.reads c.send.new.log in

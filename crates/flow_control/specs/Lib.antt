@@ -1,0 +1,4 @@
+pub mod Group
+pub mod Laws
+pub mod Stream
+pub mod Unicast
