@@ -1,6 +1,9 @@
 //! A log that opens, and one that ends.
 
 ghost use Rattle.std.specs.Prelude.{◌≡◌, IfOk};
+ghost use Rattle.std.specs.List.{AllByRecursion};
+ghost use Rattle.log_rule.specs.Claims.Handles.{parts_in};
+ghost use Rattle.log_rule.specs.Claims.Sums.{total};
 ghost use Rattle.shared_log.specs.Books.{IsDone};
 ghost use Rattle.shared_log.specs.Handles.{AreNew, IsOf};
 ghost use Rattle.stream_tests.specs.Crews.{IsCrew, IsFollower, IsPart};
@@ -64,6 +67,36 @@ fn ended(log: &Log, claimant: Claimant) -> Publisher
     claimant.into_parts().0
 }
 
+/// The publishers of all, by their numbers.
+fn publishers_of(
+    log: &Log,
+    stalled: Claimant,
+    one: Claimant,
+    two: Claimant,
+    three: Claimant,
+    others: [Claimant; 4],
+) -> [Publisher; 8]
+    requires stalled { IsPart log.now 176 stalled }
+    requires one { IsPart log.now 120 one }
+    requires two { IsPart log.now 120 two }
+    requires three { IsPart log.now 120 three }
+    requires others { AllByRecursion (IsPart log.now 120) others }
+    ensures done { AllByRecursion (IsDone log.now) result }
+    ensures parts { total parts_in result ≡ 1016 }
+{
+    let [four, five, six, seven] = others;
+    [
+        ended(log, stalled),
+        ended(log, one),
+        ended(log, two),
+        ended(log, three),
+        ended(log, four),
+        ended(log, five),
+        ended(log, six),
+        ended(log, seven),
+    ]
+}
+
 /// Closes a log with all its passes.
 pub(crate) fn close_crew(
     alloc: Global,
@@ -74,17 +107,14 @@ pub(crate) fn close_crew(
     requires stalled { IsPart log 176 stalled }
     requires crew { IsCrew log crew }
 {
-    let [four, five, six, seven] = crew.others;
-    let publishers = [
-        ended(&log, stalled),
-        ended(&log, crew.one),
-        ended(&log, crew.two),
-        ended(&log, crew.three),
-        ended(&log, four),
-        ended(&log, five),
-        ended(&log, six),
-        ended(&log, seven),
-    ];
+    let Crew {
+        one,
+        two,
+        three,
+        others,
+        follower,
+    } = crew;
+    let publishers = publishers_of(&log, stalled, one, two, three, others);
     let publishers = Vec::from_array(alloc, publishers)?;
-    Ok(close(log, publishers, Vec::new(alloc), crew.follower.keeper))
+    Ok(close(log, publishers, Vec::new(alloc), follower.keeper))
 }

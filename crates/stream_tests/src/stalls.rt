@@ -97,7 +97,7 @@ fn count_and_tails(log: &mut Log) -> [u64; 4]
 }
 
 /// How many terms others fill, and what comes of a publisher that stalled meanwhile.
-struct Stall {
+struct Row {
     terms: u64,
     answer: Result<u64, Refusal>,
     /// The active count and the raw tails then.
@@ -105,9 +105,9 @@ struct Stall {
     book: Book,
 }
 
-const STALLS: [Stall; 2] = [
+const ROWS: [Row; 2] = [
     // Its term is used up: no padding, since others had passed its end.
-    Stall {
+    Row {
         terms: 1,
         answer: Err(Refusal::AdminAction),
         words: [1, 0x7_0001_00a0, 0x8_0000_0000, 0x6_0000_0000],
@@ -118,7 +118,7 @@ const STALLS: [Stall; 2] = [
         },
     },
     // Its partition has a later term, three terms on.
-    Stall {
+    Row {
         terms: 3,
         answer: Ok(196_768),
         words: [3, 0xa_0000_00a0, 0x8_0001_0000, 0x9_0001_0000],
@@ -131,7 +131,7 @@ const STALLS: [Stall; 2] = [
 ];
 
 /// Lets others fill terms between the halves of a claim.
-fn stall<R: Abort>(rt: &R, alloc: Global, row: &Stall) -> Result<(), Fail> {
+fn stall<R: Abort>(rt: &R, alloc: Global, row: &Row) -> Result<(), Fail> {
     let (mut log, claimant, mut crew) = open_crew(alloc)?;
     let armed = arm_early(&log, claimant)?;
     fill_all(rt, &log, &mut crew, row.terms);
@@ -146,7 +146,7 @@ fn stall<R: Abort>(rt: &R, alloc: Global, row: &Stall) -> Result<(), Fail> {
 
 #[test]
 fn stalled(rt: HostRuntime) -> Result<(), Fail> {
-    for row in &STALLS {
+    for row in &ROWS {
         stall(&rt, rt.alloc(), row)?;
     }
     Ok(())
