@@ -36,6 +36,8 @@ fn gather_as<N: Carried>(log: &Log, keeper: &mut Keeper, publisher: Publisher) -
         mut seat,
         number,
         share,
+        identity: _,
+        start: _,
     } = publisher;
     words.load::<Weigh>(&mut seat, 0);
     words.join_seat::<Gather<N>>(&mut keeper.seat, seat);
