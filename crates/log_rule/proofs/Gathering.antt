@@ -32,6 +32,7 @@ use Rattle.log_rule.specs.Table.{LogRuled, now_at}
 use Rattle.log_rule.proofs.Growing.{Grows, attends_on, grows, placed_on}
 use Rattle.log_rule.proofs.Consumers.{loaded, spared_same}
 use Rattle.log_rule.proofs.Dealing.{none_kept}
+use Rattle.log_rule.proofs.Sums.{parted}
 use Rattle.log_rule.proofs.Edges.{tail_low}
 use Rattle.log_rule.proofs.Resting.{rest_looks, rested_here}
 
@@ -106,6 +107,7 @@ weighs b ws ps r id v at =
         tiles = subst (λ (x : Identity × ℕ × ℕ). Tiles x.0.geometry.term_length x.1 x.2 r.claims.log) (λ i. (sym k.identity i, sym k.start i, (sym (tail_is b ws ps r.claims) ∙ ap (λ (n : ℕ). b.start + n) (all e length_of ∙ share) ∙ ap (λ (n : ℕ). n + claimed_bytes v) (sym k.start)) i)) r.claims.tiles;
         fair = λ h. sym (all e h) ∙ r.claims.fair h;
       };
+      parted = parted b ws v (r.memory.each id v at);
       same = refl;
     }
   where

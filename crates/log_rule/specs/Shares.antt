@@ -6,9 +6,11 @@ use Rattle.theory.specs.Entry.{Entry, length_of}
 use Rattle.theory.specs.Tiling.{Tiles}
 use Rattle.publication.specs.declared.pass.ClaimRange.{ClaimRange}
 use Rattle.publication.specs.declared.pass.Pass.{Pass}
-use Rattle.publication.specs.Steps.{geometry_of}
+use Rattle.publication.specs.Steps.{Extent, extent_of, geometry_of}
 use Rattle.log_rule.specs.Claims.Sums.{total}
 use Rattle.log_rule.specs.Claims.Rule.{weight}
+use Rattle.log_rule.specs.Claims.Events.{committed_weight}
+use Rattle.log_rule.specs.Edges.{in_entry}
 
 abbrev pub range_bytes : ClaimRange → ℕ
 range_bytes c = span c.cuts
@@ -33,4 +35,6 @@ pub record Weighs (v w : Pass) : Type 0 where
   pub number : v.number < 8
   pub low : v.start + claimed_bytes v ≤ max_position (geometry_of v)
   pub whole : v.right.parts ≡ 1024 → IsTiled v.identity v.start (v.start + claimed_bytes v) (λ h. weight h v)
+  -- each frame of its claims is committed, or open
+  pub parted : (h : Extent → ℕ) → weight (in_entry h) v ≡ committed_weight (λ f. h (extent_of f)) v + total (λ f. h (extent_of f)) v.work.drafts
   pub same : w ≡ v

@@ -12,13 +12,15 @@ use Rattle.publication.specs.declared.pass.ClaimRange.{ClaimRange}
 use Rattle.publication.specs.declared.pass.Pass.{Pass}
 use Rattle.log_rule.specs.Claims.Sums.{total}
 use Rattle.log_rule.specs.Claims.Rule.{entries_of, entry_of, weight}
+use Rattle.log_rule.specs.Edges.{in_entry}
+use Rattle.publication.specs.Steps.{Extent}
 use Rattle.log_rule.specs.Claims.Handles.{PublisherValue, parts_in}
 use Rattle.log_rule.proofs.Claimed.Memories.{maps_append}
 use Rattle.log_rule.proofs.Claimed.Totals.{total_append}
 use Rattle.log_rule.specs.Shares.{IsTiled, Weighs, claimed_bytes, owner_bytes}
 use Rattle.shared_log.specs.Handles.{LogValue}
 use Rattle.shared_log.specs.Keepers.{KeeperValue}
-use Rattle.shared_log.specs.Books.{AreAll, Gathers, IsDone, IsIdle, ShowsBook, share_as, weight_in}
+use Rattle.shared_log.specs.Books.{AreAll, Gathers, IsDone, IsIdle, IsCommitted, ShowsBook, committed_in, share_as, weight_in}
 use Rattle.log_rule.proofs.Shares.{share_is}
 use Rattle.shared_log.proofs.Owned.{own_share}
 use Rattle.shared_log.proofs.Shares.{both_share}
@@ -32,6 +34,7 @@ pub record IsGathering (l : LogValue) (all left : List PublisherValue) (shares :
   pub eight : length shares ≡ 8
   pub counted : (n : ℕ) → n < 8 → slice_index shares n + total (share_as n) left ≡ total (share_as n) all
   pub owned : (n : ℕ) → n < 8 → slice_index shares n + total (weight_in (owner_bytes n)) left ≡ total (weight_in (owner_bytes n)) all
+  pub committed : (h : Extent → ℕ) → total (weight_in (in_entry h)) all + total (committed_in h) left ≡ total (committed_in h) all + total (weight_in (in_entry h)) left
   pub summed : sum shares ≡ claimed_bytes k.pass
   pub tail_is : tail ≡ l.start + claimed_bytes k.pass
   pub weighs : Weighs k.pass k.pass
@@ -46,11 +49,15 @@ begun l ps k q a w idle =
       eight = refl;
       counted = λ n lt. none_plus (slice_index (replicate {A = ℕ} 8 0) n) (total (share_as n) ps) (get_or-replicate 8 n 0 0 lt);
       owned = λ n lt. none_plus (slice_index (replicate {A = ℕ} 8 0) n) (total (weight_in (owner_bytes n)) ps) (get_or-replicate 8 n 0 0 lt);
+      committed = λ h. turned (total (weight_in (in_entry h)) ps) (total (committed_in h) ps);
       summed = sym (nothing q.held.pass none);
       tail_is = sym (plus_none l.start (claimed_bytes q.held.pass) (nothing q.held.pass none));
       weighs = subst (λ (v : Pass). Weighs v q.held.pass) (sym w.same) w;
     }
   where
+    turned : (n m : ℕ) → n + m ≡ m + n
+    turned n m = omega arith
+
     plus_none : (n m : ℕ) → m ≡ 0 → n + m ≡ n
     plus_none n m e = omega arith
 
@@ -61,9 +68,9 @@ begun l ps k q a w idle =
     nothing v e = ap (total Rattle.log_rule.specs.Shares.range_bytes) e
 
 -- one publisher more
-pub gathered_on : (l : LogValue) (all left rest : List PublisherValue) (shares : List ℕ) (tail number share : ℕ) (p k q : PublisherValue) → IsGathering l all left shares tail k → left ≡ rest ++ p ∷ [] → All (IsDone l) rest → IsIdle l q → Gathers k.pass p q.pass (number, share)
+pub gathered_on : (l : LogValue) (all left rest : List PublisherValue) (shares : List ℕ) (tail number share : ℕ) (p k q : PublisherValue) → IsGathering l all left shares tail k → left ≡ rest ++ p ∷ [] → All (IsDone l) rest → IsCommitted p → IsIdle l q → Gathers k.pass p q.pass (number, share)
     → IsGathering l all rest (slice_set shares number (slice_index shares number + share)) (tail + share) q
-gathered_on l all left rest shares tail number share p k q g e undone idle x =
+gathered_on l all left rest shares tail number share p k q g e undone ended idle x =
     let last : (f : PublisherValue → ℕ) → total f left ≡ total f rest + f p = λ f. ap (total f) e ∙ total_append f rest (p ∷ []) ∙ (let z : total f rest + (f p + 0) ≡ total f rest + f p = omega arith in z) in
     let eight = g.eight in let low = x.number.1 in let at = x.number.0 in let inside : number < length shares = omega (arith, eight, low, at) in
     let less : p.pass.right.parts < 1024 = few (total parts_in left) (total parts_in rest) p.pass.right.parts k.pass.right.parts (last parts_in) g.parts x.some in
@@ -89,6 +96,8 @@ gathered_on l all left rest shares tail number share p k q g e undone idle x =
           (λ ne. (let put : slice_index (set shares number (slice_index shares number + share)) n ≡ slice_index shares n = get_or-set_other shares number n (slice_index shares number + share) 0 ne in
           let none : weight_in (owner_bytes n) p ≡ 0 = own n ∙ ap (λ (b : Bool). cond b (claimed_bytes p.pass) 0) (ne_eqb p.pass.number n (λ y. ne (sym y ∙ sym at))) in
           stays (slice_index (set shares number (slice_index shares number + share)) n) (slice_index shares n) (total (weight_in (owner_bytes n)) left) (total (weight_in (owner_bytes n)) rest) (weight_in (owner_bytes n) p) (total (weight_in (owner_bytes n)) all) put a none c)));
+      committed = λ h. (let a = last (weight_in (in_entry h)) in let d = last (committed_in h) in let c = g.committed h in let same = ended h in
+          levels (total (weight_in (in_entry h)) all) (total (committed_in h) all) (total (weight_in (in_entry h)) left) (total (weight_in (in_entry h)) rest) (weight_in (in_entry h) p) (total (committed_in h) left) (total (committed_in h) rest) (committed_in h p) a d same c);
       summed = sum_set shares number share inside ∙ ap (λ (n : ℕ). n + share) g.summed ∙ sym more;
       tail_is = (let t = g.tail_is in tails tail l.start (claimed_bytes k.pass) share (claimed_bytes q.pass) t more);
       weighs = x.weighs;
@@ -96,6 +105,9 @@ gathered_on l all left rest shares tail number share p k q g e undone idle x =
   where
     three : (left rest p k q all : ℕ) → left ≡ rest + p → left + k ≡ all → q ≡ k + p → rest + q ≡ all
     three left rest p k q all a c d = omega arith
+
+    levels : (all done left rest p dleft drest d : ℕ) → left ≡ rest + p → dleft ≡ drest + d → p ≡ d → all + dleft ≡ done + left → all + drest ≡ done + rest
+    levels all done left rest p dleft drest d a e same c = omega arith
 
     few : (left rest p k : ℕ) → left ≡ rest + p → left + k ≡ 1024 → 0 < k → p < 1024
     few left rest p k a c pos = omega arith
@@ -139,8 +151,12 @@ shows l all shares tail k g =
       whole = ap (λ (n : ℕ). l.start + n) g.summed ∙ sym g.tail_is;
       tiled = record { log = tiled.log; tiles = tiled.tiles; fair = λ h. all_of (weight h k.pass) (total (weight_in h) all) (g.weighed h) ∙ tiled.fair h };
       owned = λ n lt. none (slice_index shares n) (total (weight_in (owner_bytes n)) all) (g.owned n lt) ∙ all_of (weight (owner_bytes n) k.pass) (total (weight_in (owner_bytes n)) all) (g.weighed (owner_bytes n)) ∙ tiled.fair (owner_bytes n) ∙ share_is n tiled.log;
+      committed = λ h. sym (all_of (weight (in_entry h) k.pass) (total (weight_in (in_entry h)) all) (g.weighed (in_entry h)) ∙ tiled.fair (in_entry h)) ∙ ends (total (weight_in (in_entry h)) all) (total (committed_in h) all) (g.committed h);
     }
   where
+    ends : (a c : ℕ) → a + 0 ≡ c + 0 → a ≡ c
+    ends a c e = omega arith
+
     none : (a c : ℕ) → a + 0 ≡ c → a ≡ c
     none a c e = omega arith
 

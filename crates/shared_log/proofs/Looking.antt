@@ -99,6 +99,17 @@ looked_still v w place number position read_to n is told =
     zero_is : (n : ℕ) → n < 1 → n ≡ 0
     zero_is n lt = omega arith
 
+-- the pass stays one of its log
+pub looked_same : (v w : Pass) (place number position read_to n : ℕ) → IsReading v place number position read_to → Looks v place n w → (w.identity ≡ v.identity) × (w.start ≡ v.start)
+looked_same v w place number position read_to n is told =
+    let l = told is.consumer is.is in
+    dite (dec_le 1 n)
+    (λ pos. let e = (l.found pos).after in (ap (λ (x : Pass). x.identity) e, ap (λ (x : Pass). x.start) e))
+    (λ no. let e = (l.none (let low = lt_of_not-le no in omega arith)).0 in (ap (λ (x : Pass). x.identity) e, ap (λ (x : Pass). x.start) e))
+
+pub passed_same : (v w : Pass) (place number position read_to : ℕ) → IsReading v place number position read_to → Consumes v place read_to w → (w.identity ≡ v.identity) × (w.start ≡ v.start)
+passed_same v w place number position read_to is told = let e = (told is.consumer is.is).after in (ap (λ (x : Pass). x.identity) e, ap (λ (x : Pass). x.start) e)
+
 pub passed_here : (v w : Pass) (place number position read_to : ℕ) → IsReading v place number position read_to → Consumes v place read_to w → IsReading w place number read_to read_to
 passed_here v w place number position read_to is told =
     subst (λ (x : Pass). IsReading x place number read_to read_to) (sym (told is.consumer is.is).after) record {

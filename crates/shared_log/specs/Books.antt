@@ -5,6 +5,9 @@ use Rattle.theory.specs.Tiling.{share_of}
 use Rattle.publication.specs.declared.pass.Pass.{Pass}
 use Rattle.log_rule.specs.Claims.Sums.{total}
 use Rattle.log_rule.specs.Claims.Rule.{weight}
+use Rattle.log_rule.specs.Claims.Events.{committed_weight}
+use Rattle.log_rule.specs.Edges.{in_entry}
+use Rattle.publication.specs.Steps.{Extent, extent_of}
 use Rattle.log_rule.specs.Claims.Handles.{PublisherValue, parts_in}
 use Rattle.log_rule.specs.Claims.Closing.{both, handed_over}
 use Rattle.log_rule.specs.Shares.{IsTiled, Weighs, claimed_bytes}
@@ -42,6 +45,14 @@ pub record AreAll (l : LogValue) (publishers : List PublisherValue) (keeper : Ke
 abbrev pub weight_in : (Entry → ℕ) → PublisherValue → ℕ
 weight_in h p = weight h p.pass
 
+-- what frames all of them committed
+abbrev pub committed_in : (Extent → ℕ) → PublisherValue → ℕ
+committed_in h p = committed_weight (λ f. h (extent_of f)) p.pass
+
+-- each frame of its claims is committed
+abbrev pub IsCommitted : PublisherValue → Type 0
+IsCommitted p = (h : Extent → ℕ) → weight_in (in_entry h) p ≡ committed_in h p
+
 -- the share of the pass with a number
 abbrev pub share_as : ℕ → PublisherValue → ℕ
 share_as number p = cond (p.pass.number == number) (claimed_bytes p.pass) 0
@@ -54,6 +65,8 @@ pub record ShowsBook (l : LogValue) (publishers : List PublisherValue) (book : B
   pub tiled : IsTiled l.identity l.start book.tail (λ h. total (weight_in h) publishers)
   -- and the shares are those of the entries' owners
   pub owned : (n : ℕ) → n < 8 → slice_index book.shares n ≡ share_of n tiled.log
+  -- each frame of each entry is committed
+  pub committed : (h : Extent → ℕ) → total (in_entry h) tiled.log ≡ total (committed_in h) publishers
 
 -- a publisher's claims go to another pass, which is told how much it has then
 pub record Gathers (v : Pass) (p : PublisherValue) (w : Pass) (answer : ℕ × ℕ) : Type 0 where

@@ -1,8 +1,8 @@
 //! The end of a log.
 
-ghost use Rattle.std.specs.Prelude.{◌≡◌, ◌+◌, ◌^◌, ◌≤◌};
+ghost use Rattle.std.specs.Prelude.{◌≡◌, ◌+◌, ◌^◌, ◌≤◌, []};
 ghost use Rattle.log_rule.specs.Shares.{Weighs, claimed_bytes};
-ghost use Rattle.shared_log.specs.Books.{AreAll, Gathers, IsIdle, ShowsBook};
+ghost use Rattle.shared_log.specs.Books.{AreAll, Gathers, IsCommitted, IsIdle, ShowsBook};
 
 use crate::book::Book;
 use crate::keeper::Keeper;
@@ -28,6 +28,7 @@ fn gather_as<N: Carried>(log: &Log, keeper: &mut Keeper, publisher: Publisher) -
     requires carried { (N.identity ≡ log.now.identity) × (N.start ≡ log.now.start) }
     ensures idle { IsIdle log.now keeper.new.held }
     ensures gathers { Gathers keeper.old.held.pass publisher keeper.new.held.pass result }
+    ensures committed { publisher.pass.work.drafts ≡ [] → IsCommitted publisher }
     ensures low { keeper.new.held.pass.start + claimed_bytes keeper.new.held.pass ≤ 2 ^ 55 }
 {
     let words = &log.table.shared;
@@ -35,6 +36,8 @@ fn gather_as<N: Carried>(log: &Log, keeper: &mut Keeper, publisher: Publisher) -
         mut seat,
         number,
         share,
+        identity: _,
+        start: _,
     } = publisher;
     words.load::<Weigh>(&mut seat, 0);
     words.join_seat::<Gather<N>>(&mut keeper.seat, seat);

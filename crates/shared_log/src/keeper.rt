@@ -10,6 +10,7 @@ ghost use Rattle.shared_log.specs.Keepers.{CleansAndLimits, IsKeeping, KeepsAs, 
 use crate::log::Log;
 use atomic_table::Seat;
 use log_rule::{CONSUMERS, Clean, LINE, Raise, Sweep, Swept, View};
+use position::Identity;
 use std::marker::{Brand, Model};
 
 /// The keeper of a log.
@@ -20,6 +21,9 @@ pub struct Keeper {
     pub(crate) limit: u64,
     /// The position below which nothing is readable any more.
     pub(crate) cleaned: u64,
+    /// Which stream its log carries, and where that begins.
+    pub(crate) identity: Identity,
+    pub(crate) start: u64,
 }
 
 impl Model for Keeper {
@@ -30,7 +34,7 @@ impl Model for Keeper {
 
     ghost view = { λ k. record { held = record { of = k.seat.table_id; seat = k.seat.id; pass = k.seat.me.0.pass; steps = k.seat.me.0.steps; controls = k.seat.me.0.controls; sure = k.seat.me.0.sure }; limit = k.limit; cleaned = k.cleaned } };
 
-    ghost invariant = { λ k. (k.seat.me.1 ≡ []) × IsKeeping k.seat.me.0.pass k.limit k.cleaned };
+    ghost invariant = { λ k. (k.seat.me.1 ≡ []) × IsKeeping k.seat.me.0.pass k.limit k.cleaned × (k.identity ≡ k.seat.me.0.pass.identity) × (k.start ≡ k.seat.me.0.pass.start) };
 }
 
 impl Keeper {
@@ -46,6 +50,20 @@ impl Keeper {
         ensures { result ≡ self.now.cleaned }
     {
         self.cleaned
+    }
+
+    /// Which stream its log carries.
+    pub fn identity(&self) -> Identity
+        ensures { result ≡ self.now.held.pass.identity }
+    {
+        self.identity
+    }
+
+    /// The position at which that begins.
+    pub fn start(&self) -> u64
+        ensures { result ≡ self.now.held.pass.start }
+    {
+        self.start
     }
 }
 

@@ -47,6 +47,9 @@ pub struct Publisher {
     pub(crate) number: u64,
     /// How many bytes its claims cover.
     pub(crate) share: u64,
+    /// Which stream its log carries, and where that begins.
+    pub(crate) identity: Identity,
+    pub(crate) start: u64,
 }
 
 impl Model for Publisher {
@@ -59,7 +62,7 @@ impl Model for Publisher {
 
     ghost view = { λ p. record { of = p.seat.table_id; seat = p.seat.id; pass = p.seat.me.0.pass; steps = p.seat.me.0.steps; controls = p.seat.me.0.controls; sure = p.seat.me.0.sure } };
 
-    ghost invariant = { λ p. (p.seat.me.1 ≡ []) × (120 ≤ p.seat.me.0.pass.right.parts) × (p.number ≡ p.seat.me.0.pass.number) × (p.share ≡ claimed_bytes p.seat.me.0.pass) × OwnsClaims p.seat.me.0.pass };
+    ghost invariant = { λ p. (p.seat.me.1 ≡ []) × (120 ≤ p.seat.me.0.pass.right.parts) × (p.number ≡ p.seat.me.0.pass.number) × (p.share ≡ claimed_bytes p.seat.me.0.pass) × OwnsClaims p.seat.me.0.pass × (p.identity ≡ p.seat.me.0.pass.identity) × (p.start ≡ p.seat.me.0.pass.start) };
 }
 
 impl Publisher {
@@ -76,6 +79,20 @@ impl Publisher {
         ensures { result ≡ claimed_bytes self.now.pass }
     {
         self.share
+    }
+
+    /// Which stream its log carries.
+    pub fn identity(&self) -> Identity
+        ensures { result ≡ self.now.pass.identity }
+    {
+        self.identity
+    }
+
+    /// The position at which that begins.
+    pub fn start(&self) -> u64
+        ensures { result ≡ self.now.pass.start }
+    {
+        self.start
     }
 }
 

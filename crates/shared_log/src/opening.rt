@@ -87,6 +87,8 @@ impl Log {
             seat,
             number: 7,
             share: 0,
+            identity,
+            start,
         };
         Ok((log, pass))
     }

@@ -36,6 +36,8 @@ fn deal_keeper(log: &Log, pass: &mut Publisher) -> Keeper
         seat: words.split_seat::<DealKeeper>(&mut pass.seat),
         limit: start,
         cleaned: start,
+        identity: log.identity(),
+        start,
     }
 }
 
@@ -55,6 +57,8 @@ fn deal_reader(log: &Log, pass: &mut Publisher, number: u64) -> LogReader
         number,
         position: start,
         read_to: start,
+        identity: log.identity(),
+        start,
     }
 }
 
@@ -90,6 +94,8 @@ fn deal_publisher(log: &Log, pass: &mut Publisher) -> Publisher
         seat,
         number,
         share: 0,
+        identity: pass.identity,
+        start: pass.start,
     }
 }
 

@@ -14,7 +14,7 @@ use crate::log::Log;
 use atomic_table::Seat;
 use block::Block;
 use log_rule::{CONSUMERS, Chosen, Consume, LINE, LookHere, Reread, View, Word};
-use position::{FrameHead, FrameKind, align32};
+use position::{FrameHead, FrameKind, Identity, align32};
 use std::marker::{Brand, Model};
 
 /// A reader of a log's committed frames, one of its consumers.
@@ -27,6 +27,9 @@ pub struct LogReader {
     pub(crate) position: u64,
     /// Where the frame ends that it has read here; its position, if it has read none.
     pub(crate) read_to: u64,
+    /// Which stream its log carries, and where that begins.
+    pub(crate) identity: Identity,
+    pub(crate) start: u64,
 }
 
 impl Model for LogReader {
@@ -37,7 +40,7 @@ impl Model for LogReader {
 
     ghost view = { λ r. record { held = record { of = r.seat.table_id; seat = r.seat.id; pass = r.seat.me.0.pass; steps = r.seat.me.0.steps; controls = r.seat.me.0.controls; sure = r.seat.me.0.sure }; place = r.place; number = r.number; position = r.position; read_to = r.read_to } };
 
-    ghost invariant = { λ r. (r.seat.me.1 ≡ []) × IsReading r.seat.me.0.pass r.place r.number r.position r.read_to };
+    ghost invariant = { λ r. (r.seat.me.1 ≡ []) × IsReading r.seat.me.0.pass r.place r.number r.position r.read_to × (r.identity ≡ r.seat.me.0.pass.identity) × (r.start ≡ r.seat.me.0.pass.start) };
 }
 
 impl LogReader {
@@ -53,6 +56,20 @@ impl LogReader {
         ensures { result ≡ self.now.position }
     {
         self.position
+    }
+
+    /// Which stream its log carries.
+    pub fn identity(&self) -> Identity
+        ensures { result ≡ self.now.held.pass.identity }
+    {
+        self.identity
+    }
+
+    /// The position at which that begins.
+    pub fn start(&self) -> u64
+        ensures { result ≡ self.now.held.pass.start }
+    {
+        self.start
     }
 }
 

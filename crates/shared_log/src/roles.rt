@@ -21,6 +21,8 @@ impl Publisher {
             seat,
             number: _,
             share: _,
+            identity,
+            start,
         } = self;
         LogReader {
             seat,
@@ -28,6 +30,8 @@ impl Publisher {
             number,
             position,
             read_to: position,
+            identity,
+            start,
         }
     }
 
@@ -40,11 +44,15 @@ impl Publisher {
             seat,
             number: _,
             share: _,
+            identity,
+            start,
         } = self;
         Keeper {
             seat,
             limit,
             cleaned,
+            identity,
+            start,
         }
     }
 }
@@ -61,11 +69,15 @@ impl LogReader {
             number: _,
             position: _,
             read_to: _,
+            identity,
+            start,
         } = self;
         Publisher {
             seat,
             number,
             share,
+            identity,
+            start,
         }
     }
 }
@@ -80,11 +92,15 @@ impl Keeper {
             seat,
             limit: _,
             cleaned: _,
+            identity,
+            start,
         } = self;
         Publisher {
             seat,
             number,
             share,
+            identity,
+            start,
         }
     }
 }

@@ -1,12 +1,30 @@
 -- Who goes on beside a publisher that stalls.
-use Rattle.std.specs.Prelude.{◌≤◌, length}
+use Rattle.std.specs.Prelude.{◌≡◌, ℕ, ◌≤◌, [], length}
+use Rattle.std.specs.List.{AllByRecursion}
+use Rattle.log_rule.specs.Claims.Handles.{PublisherValue}
+use Rattle.shared_log.specs.Books.{IsDone}
 use Rattle.shared_log.specs.Handles.{IsOf, LogValue}
 use Rattle.shared_log.specs.Readers.{IsReaderOf}
 use Rattle.stream_tests.specs.declared.crew.Crew.{Crew}
+use Rattle.stream_tests.specs.declared.crew.Follower.{Follower}
+
+-- a publisher of this log, with so many parts of the right to close it
+pub record IsPart (l : LogValue) (parts : ℕ) (p : PublisherValue) : Type 0 where
+  pub of : IsOf l p
+  pub parts_are : p.pass.right.parts ≡ parts
+
+-- all that follows is of this log, and has claimed nothing
+pub record IsFollower (l : LogValue) (f : Follower) : Type 0 where
+  pub reader : IsReaderOf l f.reader
+  pub keeper : IsDone l f.keeper.held
+  pub unclaimed : f.keeper.held.pass.right.claims ≡ []
+  pub parts : f.keeper.held.pass.right.parts ≡ 8
+  pub room : l.identity.geometry.mtu ≤ length f.block
 
 -- all that goes on is of this log
 pub record IsCrew (l : LogValue) (c : Crew) : Type 0 where
-  pub publisher : IsOf l c.publisher
-  pub reader : IsReaderOf l c.reader
-  pub keeper : IsOf l c.keeper.held
-  pub room : l.identity.geometry.mtu ≤ length c.block
+  pub one : IsPart l 120 c.one
+  pub two : IsPart l 120 c.two
+  pub three : IsPart l 120 c.three
+  pub others : AllByRecursion (IsPart l 120) c.others
+  pub follower : IsFollower l c.follower

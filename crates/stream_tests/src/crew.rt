@@ -1,12 +1,22 @@
 //! Who goes on beside a publisher that stalls.
 
 use block::Block;
-use shared_log::{Keeper, LogReader, Publisher};
+use claims::Claimant;
+use shared_log::{Keeper, LogReader};
 
-/// What a log needs that goes on.
+/// What a log needs that goes on: publishers, of which the first three publish, its reader and its keeper.
 #[derive(Drop)]
 pub struct Crew {
-    pub publisher: Publisher,
+    pub one: Claimant,
+    pub two: Claimant,
+    pub three: Claimant,
+    pub others: [Claimant; 4],
+    pub follower: Follower,
+}
+
+/// Who follows the publishers.
+#[derive(Drop)]
+pub struct Follower {
     pub reader: LogReader,
     pub keeper: Keeper,
     pub block: Block,

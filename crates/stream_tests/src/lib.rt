@@ -12,8 +12,10 @@ mod stalled;
 #[cfg(test)]
 mod stalls;
 #[cfg(test)]
+mod stalls_among_threads;
+#[cfg(test)]
 mod streams;
 
-pub use crew::Crew;
+pub use crew::{Crew, Follower};
 pub use library::pass_on;
 pub use parties::Party;

@@ -1,67 +1,120 @@
-//! A log that opens.
+//! A log that opens, and one that ends.
 
-ghost use Rattle.std.specs.Prelude.{IfOk};
-ghost use Rattle.shared_log.specs.Readers.{IsReaderOf};
+ghost use Rattle.std.specs.Prelude.{◌≡◌, IfOk};
+ghost use Rattle.std.specs.List.{AllByRecursion};
+ghost use Rattle.log_rule.specs.Claims.Handles.{parts_in};
+ghost use Rattle.log_rule.specs.Claims.Sums.{total};
+ghost use Rattle.shared_log.specs.Books.{IsDone};
 ghost use Rattle.shared_log.specs.Handles.{AreNew, IsOf};
-ghost use Rattle.stream_tests.specs.Crews.{IsCrew};
+ghost use Rattle.stream_tests.specs.Crews.{IsCrew, IsFollower, IsPart};
 
-use crate::crew::Crew;
+use crate::crew::{Crew, Follower};
 use block::Block;
+use claims::{Claimant, Parts, open};
 use position::Geometry;
-use shared_log::{Keeper, Log, LogReader, Parts, Publisher, clean_and_limit, open, set_connected};
+use shared_log::{Book, Log, Publisher, clean_and_limit, close, set_connected};
 use std::alloc::{AllocError, Global};
 use std::test::Fail;
 
-/// The first two of a log's publishers.
-fn first_two(
-    alloc: Global,
-    log: &Log,
-    publishers: [Publisher; 8],
-) -> Result<(Publisher, Publisher), Fail>
-    requires { AreNew log.now 0 publishers }
-    ensures { IfOk result (λ r. IsOf log.now r.0 × IsOf log.now r.1) }
+/// The first publisher, and those that go on.
+fn manned(claimants: [Claimant; 8], follower: Follower, log: &Log) -> (Claimant, Crew)
+    requires claimants { AreNew log.now 0 claimants }
+    requires follower { IsFollower log.now follower }
+    ensures first { IsPart log.now 176 result.0 }
+    ensures crew { IsCrew log.now result.1 }
 {
-    let mut publishers = Vec::from_array(alloc, publishers)?;
-    let first = publishers.remove(0);
-    Ok((first, publishers.remove(0)))
+    let [zero, one, two, three, four, five, six, seven] = claimants;
+    let crew = Crew {
+        one,
+        two,
+        three,
+        others: [four, five, six, seven],
+        follower,
+    };
+    (zero, crew)
 }
 
-/// What a log needs that goes on.
-fn crew_of(
-    alloc: Global,
-    log: &Log,
-    publisher: Publisher,
-    reader: LogReader,
-    keeper: Keeper,
-) -> Result<Crew, AllocError>
-    requires publisher { IsOf log.now publisher }
-    requires reader { IsReaderOf log.now reader }
-    requires keeper { IsOf log.now keeper.held }
-    ensures { IfOk result (λ crew. IsCrew log.now crew) }
-{
-    let block = Block::new(alloc, log.identity().geometry().mtu() as usize)?;
-    Ok(Crew {
-        publisher,
-        reader,
-        keeper,
-        block,
-    })
-}
-
-/// A log with short terms, connected, its first publisher, and its second one with a reader and the keeper.
-pub(crate) fn open_crew(alloc: Global) -> Result<(Log, Publisher, Crew), Fail>
-    ensures { IfOk result (λ r. IsOf r.0 r.1 × IsCrew r.0 r.2) }
+/// A log with short terms, connected, its first publisher, and all others with its reader and its keeper.
+pub(crate) fn open_crew(alloc: Global) -> Result<(Log, Claimant, Crew), Fail>
+    ensures { IfOk result (λ r. IsPart r.0 176 r.1 × IsCrew r.0 r.2) }
 {
     let geometry = Geometry::new(65_536, 1408, 7)?;
+    let block = Block::new(alloc, geometry.mtu() as usize)?;
     let (log, parts) = open(alloc, geometry, 1, 1001, 0, 1)?;
     let Parts {
-        publishers,
+        claimants,
         mut readers,
         mut keeper,
     } = parts;
     set_connected(&log, &mut keeper, true);
     clean_and_limit(&log, &mut keeper);
-    let (stalled, publisher) = first_two(alloc, &log, publishers)?;
-    let crew = crew_of(alloc, &log, publisher, readers.remove(0), keeper)?;
+    let follower = Follower {
+        reader: readers.remove(0),
+        keeper,
+        block,
+    };
+    let (stalled, crew) = manned(claimants, follower, &log);
     Ok((log, stalled, crew))
+}
+
+/// A claimant's publisher, of which nothing is open.
+fn ended(log: &Log, claimant: Claimant) -> Publisher
+    requires { IsOf log.now claimant }
+    ensures done { IsDone log.now result }
+    ensures same { result ≡ claimant }
+{
+    let _ = log.start();
+    claimant.into_parts().0
+}
+
+/// The publishers of all, by their numbers.
+fn publishers_of(
+    log: &Log,
+    stalled: Claimant,
+    one: Claimant,
+    two: Claimant,
+    three: Claimant,
+    others: [Claimant; 4],
+) -> [Publisher; 8]
+    requires stalled { IsPart log.now 176 stalled }
+    requires one { IsPart log.now 120 one }
+    requires two { IsPart log.now 120 two }
+    requires three { IsPart log.now 120 three }
+    requires others { AllByRecursion (IsPart log.now 120) others }
+    ensures done { AllByRecursion (IsDone log.now) result }
+    ensures parts { total parts_in result ≡ 1016 }
+{
+    let [four, five, six, seven] = others;
+    [
+        ended(log, stalled),
+        ended(log, one),
+        ended(log, two),
+        ended(log, three),
+        ended(log, four),
+        ended(log, five),
+        ended(log, six),
+        ended(log, seven),
+    ]
+}
+
+/// Closes a log with all its passes.
+pub(crate) fn close_crew(
+    alloc: Global,
+    log: Log,
+    stalled: Claimant,
+    crew: Crew,
+) -> Result<Book, AllocError>
+    requires stalled { IsPart log 176 stalled }
+    requires crew { IsCrew log crew }
+{
+    let Crew {
+        one,
+        two,
+        three,
+        others,
+        follower,
+    } = crew;
+    let publishers = publishers_of(&log, stalled, one, two, three, others);
+    let publishers = Vec::from_array(alloc, publishers)?;
+    Ok(close(log, publishers, Vec::new(alloc), follower.keeper))
 }

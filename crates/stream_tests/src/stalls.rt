@@ -1,61 +1,92 @@
-//! A publisher that stalls between two of its steps, while terms turn.
+//! A publisher that stalls between the two halves of a claim, while terms turn.
 
-ghost use Rattle.shared_log.specs.Handles.{IsOf};
-ghost use Rattle.shared_log.specs.Readers.{IsReaderOf};
-ghost use Rattle.stream_tests.specs.Crews.{IsCrew};
+ghost use Rattle.std.specs.Prelude.{◌≡◌, IfOk};
+ghost use Rattle.stream_tests.specs.Crews.{IsCrew, IsFollower, IsPart};
 
-use crate::crew::Crew;
-use crate::stalled::open_crew;
-use publication::{Look, Refusal, add_range, look_at, offer};
-use shared_log::{Log, OnLog, advance, clean_and_limit, next};
+use crate::crew::{Crew, Follower};
+use crate::stalled::{close_crew, open_crew};
+use claims::{Armed, Claimant, arm, offer};
+use publication::Refusal;
+use shared_log::{Book, Log, advance, clean_and_limit, next};
 use std::alloc::Global;
 use std::process::Abort;
 use std::test::*;
 
-/// Offers a message of 992 bytes; the reader and the keeper follow.
-fn follow_one(log: &Log, crew: &mut Crew) -> Result<u64, Refusal>
-    requires { IsCrew log.now crew.old }
-    ensures { IsCrew log.now crew.new }
+/// Offers a message of 992 bytes.
+pub(crate) fn offer_one(log: &Log, claimant: &mut Claimant) -> Result<u64, Refusal>
+    requires { IsPart log.now 120 claimant.old }
+    ensures { IsPart log.now 120 claimant.new }
 {
     let most = log.identity().geometry().max_message() as usize;
     let message = [97; 992];
-    let answer = offer(
-        &mut OnLog::new(log),
-        &mut crew.publisher,
-        &message[..most.min(992)],
-    );
-    if next(log, &mut crew.reader, &mut crew.block).is_some() {
-        advance(log, &mut crew.reader);
+    offer(log, claimant, &message[..most.min(992)])
+}
+
+/// The reader goes past a frame, if one is there, and the keeper follows.
+pub(crate) fn follow(log: &Log, follower: &mut Follower)
+    requires { IsFollower log.now follower.old }
+    ensures { IsFollower log.now follower.new }
+{
+    if next(log, &mut follower.reader, &mut follower.block).is_some() {
+        advance(log, &mut follower.reader);
     }
-    clean_and_limit(log, &mut crew.keeper);
-    answer
+    clean_and_limit(log, &mut follower.keeper);
 }
 
 /// Fills a term, and turns to the next one.
-fn follow<R: Abort>(rt: &R, log: &Log, crew: &mut Crew, term: u64)
+fn fill<R: Abort>(rt: &R, log: &Log, crew: &mut Crew, term: u64)
     requires { IsCrew log.now crew.old }
     ensures { IsCrew log.now crew.new }
 {
     for count in 1..=64_u64 {
-        let answer = follow_one(log, crew);
+        let answer = offer_one(log, &mut crew.one);
+        follow(log, &mut crew.follower);
         let end = term.wrapping_mul(65_536).wrapping_add(1024 * count);
         assert!(rt; answer == Ok(end));
     }
-    assert!(rt; follow_one(log, crew) == Err(Refusal::AdminAction));
+    assert!(rt; offer_one(log, &mut crew.one) == Err(Refusal::AdminAction));
 }
 
 /// Fills so many terms, and turns from each to the next.
-fn follow_all<R: Abort>(rt: &R, log: &Log, crew: &mut Crew, terms: u64)
+fn fill_all<R: Abort>(rt: &R, log: &Log, crew: &mut Crew, terms: u64)
     requires { IsCrew log.now crew.old }
     ensures { IsCrew log.now crew.new }
 {
     for term in 0..terms {
-        follow(rt, log, crew, term);
+        fill(rt, log, crew, term);
+    }
+}
+
+/// Adds what was armed for, and commits it. The answer is the position behind it.
+pub(crate) fn add_late(log: &Log, armed: Armed) -> (Claimant, Result<u64, Refusal>)
+    requires { IsPart log.now 176 armed.publisher }
+    ensures { IsPart log.now 176 result.0 }
+{
+    match armed.add(log) {
+        Ok(claim) => {
+            let (claimant, end) = claim.commit(log);
+            (claimant, Ok(end))
+        }
+        Err(denied) => (denied.claimant, Err(denied.refusal)),
+    }
+}
+
+/// Arms for a message of 100 bytes.
+pub(crate) fn arm_early(log: &Log, claimant: Claimant) -> Result<Armed, Fail>
+    requires { IsPart log.now 176 claimant }
+    ensures { IfOk result (λ a. IsPart log.now 176 a.publisher) }
+{
+    let most = log.identity().geometry().max_payload();
+    match arm(log, claimant, most.min(100)) {
+        Ok(armed) => Ok(armed),
+        Err(_) => Err("no room".into()),
     }
 }
 
 /// The active count, and the raw tails of the three partitions.
-fn count_and_tails(log: &mut Log) -> [u64; 4] {
+fn count_and_tails(log: &mut Log) -> [u64; 4]
+    ensures { log.new ≡ log.old }
+{
     let control = 3 * (log.identity().geometry().term_length() as usize / 8);
     [
         log.peek(control + 1),
@@ -65,44 +96,58 @@ fn count_and_tails(log: &mut Log) -> [u64; 4] {
     ]
 }
 
-/// Looks at a log that begins, lets others fill so many terms, and adds. The answer is where the claim begins, and the
-/// active count with the raw tails.
-fn stall<R: Abort>(
-    rt: &R,
-    alloc: Global,
+/// How many terms others fill, and what comes of a publisher that stalled meanwhile.
+struct Row {
     terms: u64,
-) -> Result<(Result<u64, Refusal>, [u64; 4]), Fail> {
-    let (mut log, mut stalled, mut crew) = open_crew(alloc)?;
-    let answer = {
-        let mut words = OnLog::new(&log);
-        let Look::Open(count) = look_at(&mut words, &mut stalled) else {
-            return Err("no room".into());
-        };
-        follow_all(rt, &log, &mut crew, terms);
-        add_range(&mut words, &mut stalled, count, 100)
-    };
-    Ok((answer, count_and_tails(&mut log)))
+    answer: Result<u64, Refusal>,
+    /// The active count and the raw tails then.
+    words: [u64; 4],
+    book: Book,
 }
 
-/// How many terms others fill, what answers the publisher that stalled, and the words then.
-const STALLS: [(u64, Result<u64, Refusal>, [u64; 4]); 2] = [
-    (
-        1,
-        Err(Refusal::AdminAction),
-        [1, 0x7_0001_00a0, 0x8_0000_0000, 0x6_0000_0000],
-    ),
-    (
-        3,
-        Ok(196_608),
-        [3, 0xa_0000_00a0, 0x8_0001_0000, 0x9_0001_0000],
-    ),
+const ROWS: [Row; 2] = [
+    // Its term is used up: no padding, since others had passed its end.
+    Row {
+        terms: 1,
+        answer: Err(Refusal::AdminAction),
+        words: [1, 0x7_0001_00a0, 0x8_0000_0000, 0x6_0000_0000],
+        book: Book {
+            start: 0,
+            tail: 65_536,
+            shares: [0, 65_536, 0, 0, 0, 0, 0, 0],
+        },
+    },
+    // Its partition has a later term, three terms on.
+    Row {
+        terms: 3,
+        answer: Ok(196_768),
+        words: [3, 0xa_0000_00a0, 0x8_0001_0000, 0x9_0001_0000],
+        book: Book {
+            start: 0,
+            tail: 196_768,
+            shares: [160, 196_608, 0, 0, 0, 0, 0, 0],
+        },
+    },
 ];
 
-/// It finds its term used up, or that its partition has a later one, three terms on.
+/// Lets others fill terms between the halves of a claim.
+fn stall<R: Abort>(rt: &R, alloc: Global, row: &Row) -> Result<(), Fail> {
+    let (mut log, claimant, mut crew) = open_crew(alloc)?;
+    let armed = arm_early(&log, claimant)?;
+    fill_all(rt, &log, &mut crew, row.terms);
+    let (claimant, answer) = add_late(&log, armed);
+    assert!(rt; answer == row.answer);
+    let words = count_and_tails(&mut log);
+    assert!(rt; words == row.words);
+    let book = close_crew(alloc, log, claimant, crew)?;
+    assert!(rt; book == row.book);
+    Ok(())
+}
+
 #[test]
 fn stalled(rt: HostRuntime) -> Result<(), Fail> {
-    for (terms, answer, words) in STALLS {
-        assert!(rt; stall(&rt, rt.alloc(), terms)? == (answer, words));
+    for row in &ROWS {
+        stall(&rt, rt.alloc(), row)?;
     }
     Ok(())
 }

@@ -76,11 +76,15 @@ fn meet_as<N: Met>(log: &Log, one: Publisher, other: Publisher) -> (Publisher, P
         mut seat,
         number,
         share,
+        identity,
+        start,
     } = one;
     let Publisher {
         seat: mut second,
         number: second_number,
         share: second_share,
+        identity: second_identity,
+        start: second_start,
     } = other;
     words.load::<Settle>(&mut seat, 0);
     words.load::<Settle>(&mut second, 0);
@@ -91,11 +95,15 @@ fn meet_as<N: Met>(log: &Log, one: Publisher, other: Publisher) -> (Publisher, P
         seat,
         number,
         share,
+        identity,
+        start,
     };
     let other = Publisher {
         seat: second,
         number: second_number,
         share: second_share,
+        identity: second_identity,
+        start: second_start,
     };
     (one, other, tail)
 }

@@ -19,6 +19,8 @@ fn join_as<N: Carried>(log: &Log, publisher: &mut Publisher, other: Publisher)
         seat,
         number: _,
         share,
+        identity: _,
+        start: _,
     } = other;
     words.join_seat::<HandOver<N>>(&mut publisher.seat, seat);
     words.load::<Weigh>(&mut publisher.seat, 0);

@@ -1,5 +1,5 @@
 use Rattle.std.proofs.Common.{◌≡◌, ℕ, ◌+◌, List, [], ◌∷◌, length, sym, refl, ◌∙◌, subst, arith}
-use Rattle.std.specs.Prelude.{slice_index, slice_set}
+use Rattle.std.specs.Prelude.{Some, slice_index, slice_set}
 use Rattle.std.proofs.lemmas.List.Elements.{All-pop}
 use Rattle.log_rule.specs.Claims.Handles.{PublisherValue}
 use Rattle.shared_log.specs.Books.{IsDone, ShowsBook}
@@ -9,7 +9,7 @@ use Rattle.shared_log.proofs.closing.close.Goals as goal
 gathered : (c : goal.After-gather_as-number) → IsGathering c.args.log c.args.publishers.items c.pop.new.self.items (slice_set c.loop-publisher.shares c.gather_as-number.result.0 (slice_index c.loop-publisher.shares c.gather_as-number.result.0 + c.gather_as-number.result.1)) (c.loop-publisher.tail + c.gather_as-number.result.1) c.gather_as-number.new.keeper.held
 gathered c =
     gathered_on c.args.log c.args.publishers.items c.loop-publisher.publishers.items c.pop.new.self.items c.loop-publisher.shares c.loop-publisher.tail c.gather_as-number.result.0 c.gather_as-number.result.1 c.in-Some.publisher c.loop-publisher.keeper.held c.gather_as-number.new.keeper.held c.loop-publisher.invariant.2
-    c.in-Some.ensures.items (All-pop (IsDone c.args.log) _ _ c.pop.result c.pop.ensures.items c.loop-publisher.invariant.2.undone).0 c.gather_as-number.ensures.idle c.gather_as-number.ensures.gathers
+    c.in-Some.ensures.items (All-pop (IsDone c.args.log) _ _ c.pop.result c.pop.ensures.items c.loop-publisher.invariant.2.undone).0 (c.gather_as-number.ensures.committed ((All-pop (IsDone c.args.log) _ _ (Some c.in-Some.publisher) c.in-Some.ensures.items c.loop-publisher.invariant.2.undone).1.ended)) c.gather_as-number.ensures.idle c.gather_as-number.ensures.gathers
 
 pub overflow_add-shares : goal.overflow_add-shares
 overflow_add-shares c = let n = c.gather_as-number.ensures.gathers.number in let low = (sums_low c.args.log _ _ c.loop-publisher.shares c.loop-publisher.tail c.gather_as-number.result.0 c.gather_as-number.result.1 _ (gathered c) (omega (arith, n.0, n.1)) c.gather_as-number.ensures.low).1 in omega (arith, low)

@@ -1,9 +1,14 @@
-use Rattle.std.proofs.Common.{rules, ◌≡◌, ◌+◌, ◌^◌, ◌≤◌, ℕ, sym, ap, ◌∙◌, subst, arith}
+use Rattle.std.proofs.Common.{rules, ◌≡◌, ◌+◌, ◌^◌, ◌≤◌, ℕ, [], sym, ap, ◌∙◌, subst, arith}
 use Rattle.theory.specs.Bytes.{Identity}
 use Rattle.atomic_table.specs.Table.{Joins}
 use Rattle.publication.specs.declared.pass.Pass.{Pass}
 use Rattle.log_rule.specs.Claims.Closing.{both_seats, spent_seat}
+use Rattle.publication.specs.Steps.{Extent, extent_of}
+use Rattle.log_rule.specs.Claims.Events.{committed_weight}
 use Rattle.log_rule.specs.Claims.Plays.{Mine}
+use Rattle.log_rule.specs.Claims.Rule.{weight}
+use Rattle.log_rule.specs.Claims.Sums.{total}
+use Rattle.log_rule.specs.Edges.{in_entry}
 use Rattle.log_rule.specs.Shares.{claimed_bytes}
 use Rattle.log_rule.specs.Table.{LogRuled}
 use Rattle.log_rule.proofs.Gathering.{gathers, weigh}
@@ -35,3 +40,9 @@ returns-clause-low g c =
     let a = c.keeper.inside.seat.me.0 in let told = c.load-2.ensures.2.3 in
     let shape : c.join_seat.new.seat.me.0.pass.identity ≡ c.log.inside.identity = ap (λ (m : Mine). m.0.pass.identity) c.join_seat.ensures.2 ∙ ap (λ k. k.held.pass.identity) c.keeper.view_is ∙ c.requires.keeper.of.identity ∙ sym (ap (λ l. l.identity) c.log.view_is) in
     subst (λ (v : Pass). v.start + claimed_bytes v ≤ 2 ^ 55) (sym told.same) (low_share c.log.inside.identity.geometry c.log.invariant.geometry c.join_seat.new.seat.me.0.pass c.load-2.new.seat.me.0.pass (ap (λ (i : Identity). i.geometry) shape) told)
+
+pub returns-clause-committed : goal.returns-clause-committed
+returns-clause-committed g c =
+    let v : Pass = c.publisher.inside.seat.me.0.pass in
+    subst (λ (x : Pass). x.work.drafts ≡ [] → (h : Extent → ℕ) → weight (in_entry h) x ≡ committed_weight (λ f. h (extent_of f)) x) (ap (λ p. p.pass) c.publisher.view_is)
+    (λ none h. let e = c.load.ensures.2.3.parted h in let z : total (λ f. h (extent_of f)) v.work.drafts ≡ 0 = ap (total (λ f. h (extent_of f))) none in omega arith)

@@ -5,7 +5,7 @@ use Rattle.shared_log.specs.Readers.{Advances, ReaderValue, SameSeat}
 use Rattle.log_rule.specs.Claims.Handles.{PublisherValue}
 use Rattle.shared_log.proofs.Finding.{advances_by}
 use Rattle.log_rule.specs.Readings.{Consumes}
-use Rattle.shared_log.proofs.Looking.{pass_here, passed_here}
+use Rattle.shared_log.proofs.Looking.{pass_here, passed_here, passed_same}
 use Rattle.shared_log.proofs.reader.consume_as.Goals as goal
 
 low : (l : LogValue) (r : ReaderValue) (n m : ℕ) → r.number < l.consumers → n ≡ r.number → m ≡ l.consumers → m ≤ 8 → n < 8
@@ -28,7 +28,9 @@ store-requires g c =
     )
 
 pub invariant_of-reader : goal.invariant_of-reader
-invariant_of-reader g c = (search rules, passed_here _ _ c.reader.inside.place _ _ _ c.reader.invariant.1 (subst (λ (x : ℕ). Consumes c.reader.inside.seat.me.0.pass x c.reader.inside.read_to c.store.new.seat.me.0.pass) (c.requires.chosen ∙ sym (ap (λ (r : ReaderValue). r.place) c.reader.view_is)) c.store.ensures.2.3))
+invariant_of-reader g c =
+    let same = passed_same _ _ c.reader.inside.place _ _ _ c.reader.invariant.1 (subst (λ (x : ℕ). Consumes c.reader.inside.seat.me.0.pass x c.reader.inside.read_to c.store.new.seat.me.0.pass) (c.requires.chosen ∙ sym (ap (λ (r : ReaderValue). r.place) c.reader.view_is)) c.store.ensures.2.3) in
+    (search rules, passed_here _ _ c.reader.inside.place _ _ _ c.reader.invariant.1 (subst (λ (x : ℕ). Consumes c.reader.inside.seat.me.0.pass x c.reader.inside.read_to c.store.new.seat.me.0.pass) (c.requires.chosen ∙ sym (ap (λ (r : ReaderValue). r.place) c.reader.view_is)) c.store.ensures.2.3), c.reader.invariant.2 ∙ sym same.0, c.reader.invariant.3 ∙ sym same.1)
 
 pub returns-clause-advances : goal.returns-clause-advances
 returns-clause-advances g c =

@@ -29,4 +29,4 @@ pub returns-clause-found : goal.returns-clause-found
 returns-clause-found c = subst (λ (q : ReaderValue). Finds c.args.log.now c.args.reader.now c.head_in-head.result q) (sym (ap (λ (q : ReaderValue). record q { read_to = c.reader.inside.position + c.from.result }) (c.reader-2.view_is ∙ c.look_as-word.ensures.same))) (the_found c)
 
 pub invariant_of-reader : goal.invariant_of-reader
-invariant_of-reader c = (search rules, found_reading c.args.log.now c.args.reader.now _ _ _ c.from.result c.reader-2.invariant.1 c.requires.fits (returns-clause-found c) (ap (λ (r : ReaderValue). r.position + c.from.result) c.reader.view_is) (c.from.ensures ∙ c.align32.ensures))
+invariant_of-reader c = (search rules, found_reading c.args.log.now c.args.reader.now _ _ _ c.from.result c.reader-2.invariant.1 c.requires.fits (returns-clause-found c) (ap (λ (r : ReaderValue). r.position + c.from.result) c.reader.view_is) (c.from.ensures ∙ c.align32.ensures), c.reader-2.invariant.2, c.reader-2.invariant.3)

@@ -5,7 +5,7 @@ use Rattle.log_rule.specs.Claims.Plays.{Mine}
 use Rattle.shared_log.specs.Handles.{LogValue}
 use Rattle.shared_log.specs.Readers.{ReaderValue}
 use Rattle.log_rule.specs.Readings.{Looks}
-use Rattle.shared_log.proofs.Looking.{look_here, looked_still}
+use Rattle.shared_log.proofs.Looking.{look_here, looked_same, looked_still}
 use Rattle.shared_log.proofs.reader.look_as.Goals as goal
 
 -- src/reader.rt:60:9
@@ -21,4 +21,6 @@ load-requires g c =
     )
 
 pub invariant_of-reader : goal.invariant_of-reader
-invariant_of-reader g c = (search rules, looked_still _ _ c.reader.inside.place _ _ _ c.load.result c.reader.invariant.1 (subst (λ (x : ℕ). Looks c.reader.inside.seat.me.0.pass x c.load.result c.load.new.seat.me.0.pass) (c.requires.chosen ∙ sym (ap (λ (r : ReaderValue). r.place) c.reader.view_is)) c.load.ensures.2.3))
+invariant_of-reader g c =
+    let same = looked_same _ _ c.reader.inside.place _ _ _ c.load.result c.reader.invariant.1 (subst (λ (x : ℕ). Looks c.reader.inside.seat.me.0.pass x c.load.result c.load.new.seat.me.0.pass) (c.requires.chosen ∙ sym (ap (λ (r : ReaderValue). r.place) c.reader.view_is)) c.load.ensures.2.3) in
+    (search rules, looked_still _ _ c.reader.inside.place _ _ _ c.load.result c.reader.invariant.1 (subst (λ (x : ℕ). Looks c.reader.inside.seat.me.0.pass x c.load.result c.load.new.seat.me.0.pass) (c.requires.chosen ∙ sym (ap (λ (r : ReaderValue). r.place) c.reader.view_is)) c.load.ensures.2.3), c.reader.invariant.2 ∙ sym same.0, c.reader.invariant.3 ∙ sym same.1)

@@ -48,4 +48,6 @@ invariant_of-publisher g c =
       c.publisher.invariant.2 ∙ sym told.2.number,
       grown,
       adds_owns v size c.fetch_add-word.result w told.4.0 c.publisher.invariant.4,
+      c.publisher.invariant.5 ∙ sym told.2.identity,
+      c.publisher.invariant.6 ∙ sym told.2.start,
     )

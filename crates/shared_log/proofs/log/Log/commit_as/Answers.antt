@@ -29,4 +29,6 @@ invariant_of-publisher g c =
       c.publisher.invariant.2 ∙ sym told.2.number,
       c.publisher.invariant.3 ∙ sym (commits_share _ _ g.N.Chosen.number c.args.word (subst (λ (z : Pass × ℕ). CompletesFrame z.0 z.1 c.args.word) (λ j. (sym vi j, sym is j)) c.requires.completes) told.4),
       commits_owns _ _ g.N.Chosen.number c.args.word (subst (λ (z : Pass × ℕ). CompletesFrame z.0 z.1 c.args.word) (λ j. (sym vi j, sym is j)) c.requires.completes) told.4 c.publisher.invariant.4,
+      c.publisher.invariant.5 ∙ sym told.2.identity,
+      c.publisher.invariant.6 ∙ sym told.2.start,
     )

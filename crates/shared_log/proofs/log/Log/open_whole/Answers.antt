@@ -25,4 +25,4 @@ returns-clause-consumers c = (λ e. absurd (true≢false (ap is_ok e)), λ h. ab
 pub invariant_of-pass : goal.invariant_of-pass
 invariant_of-pass c = let v : Pass = c.in_ok-table.seat.me.0.pass in let is = c.in_ok-table.ensures.4 in
     let parts : v.right.parts ≡ 1024 = ap (λ (m : Mine). m.0.pass.right.parts) is in let number : v.number ≡ 7 = ap (λ (m : Mine). m.0.pass.number) is in
-    (ap (λ (m : Mine). m.1) is, omega (arith, parts), sym number, sym (ap (λ (m : Mine). claimed_bytes m.0.pass) is), owns_all v number parts)
+    (ap (λ (m : Mine). m.1) is, omega (arith, parts), sym number, sym (ap (λ (m : Mine). claimed_bytes m.0.pass) is), owns_all v number parts, sym (ap (λ (m : Mine). m.0.pass.identity) is), sym (ap (λ (m : Mine). m.0.pass.start) is))

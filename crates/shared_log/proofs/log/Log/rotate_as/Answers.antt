@@ -49,6 +49,8 @@ invariant_of-publisher g c = let v : Pass = c.publisher.inside.seat.me.0.pass in
       c.publisher.invariant.2 ∙ sym told.2.number,
       c.publisher.invariant.3 ∙ ap (λ (cs : List ClaimRange). total range_bytes cs) (sym claims),
       owns_same v w told.2.number told.2.parts claims c.publisher.invariant.4,
+      c.publisher.invariant.5 ∙ sym told.2.identity,
+      c.publisher.invariant.6 ∙ sym told.2.start,
     )
 
 pub returns-clause-stepped : goal.returns-clause-stepped

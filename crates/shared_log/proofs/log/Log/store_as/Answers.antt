@@ -28,4 +28,6 @@ invariant_of-publisher g c =
       c.publisher.invariant.2 ∙ sym told.2.number,
       c.publisher.invariant.3 ∙ sym (stores_share _ _ g.N.Chosen.number c.args.word (subst (λ (z : Pass × ℕ). HasWord z.0 1 z.1) (λ j. (sym vi j, sym is j)) c.requires.inside) told.4),
       stores_owns _ _ g.N.Chosen.number c.args.word (subst (λ (z : Pass × ℕ). HasWord z.0 1 z.1) (λ j. (sym vi j, sym is j)) c.requires.inside) told.4 c.publisher.invariant.4,
+      c.publisher.invariant.5 ∙ sym told.2.identity,
+      c.publisher.invariant.6 ∙ sym told.2.start,
     )

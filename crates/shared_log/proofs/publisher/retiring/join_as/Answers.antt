@@ -45,4 +45,6 @@ invariant_of-publisher g c =
       c.publisher.invariant.2 ∙ ap (λ (v : Pass). v.number) (sym is),
       (λ i. c.publisher.invariant.3 i + c.other.invariant.3 i) ∙ sym (ap claimed_bytes is ∙ handed_share a.pass b.pass),
       subst (λ (v : Pass). OwnsClaims v) (sym is) (owns_handed a.pass b.pass c.publisher.invariant.4),
+      c.publisher.invariant.5 ∙ ap (λ (v : Pass). v.identity) (sym is),
+      c.publisher.invariant.6 ∙ ap (λ (v : Pass). v.start) (sym is),
     )

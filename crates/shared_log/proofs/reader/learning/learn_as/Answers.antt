@@ -37,7 +37,7 @@ join_seat-requires g c =
     )
 
 pub invariant_of-reader : goal.invariant_of-reader
-invariant_of-reader g c = (ap (λ (m : Mine). m.1) c.join_seat.ensures.2 ∙ c.reader.invariant.0, told_reading c.reader.inside.seat.me.0.pass c.join_seat.new.seat.me.0.pass (all_known c.split_seat-news.result.me.0.pass.reading) _ _ _ _ c.reader.invariant.1 (ap (λ (m : Mine). m.0.pass) c.join_seat.ensures.2))
+invariant_of-reader g c = (ap (λ (m : Mine). m.1) c.join_seat.ensures.2 ∙ c.reader.invariant.0, told_reading c.reader.inside.seat.me.0.pass c.join_seat.new.seat.me.0.pass (all_known c.split_seat-news.result.me.0.pass.reading) _ _ _ _ c.reader.invariant.1 (ap (λ (m : Mine). m.0.pass) c.join_seat.ensures.2), c.reader.invariant.2 ∙ sym (ap (λ (m : Mine). m.0.pass.identity) c.join_seat.ensures.2), c.reader.invariant.3 ∙ sym (ap (λ (m : Mine). m.0.pass.start) c.join_seat.ensures.2))
 
 pub returns-clause-learns : goal.returns-clause-learns
 returns-clause-learns g c =

@@ -1,0 +1,35 @@
+use Rattle.std.proofs.Common.{◌≡◌, ℕ, ◌+◌, subst, sym, ap, ◌∙◌, arith}
+use Rattle.std.specs.Prelude.{length, vec_len}
+use Rattle.theory.specs.Bytes.{Identity}
+use Rattle.theory.specs.Placed.{Pad}
+use Rattle.theory.specs.Position.{IsGeometry, max_payload}
+use Rattle.publication.specs.Claims.{HasBlank}
+use Rattle.publication.specs.Steps.{geometry_of}
+use Rattle.log_rule.specs.Claims.Handles.{PublisherValue}
+use Rattle.shared_log.specs.Handles.{IsOf, LogValue}
+use Rattle.claims.specs.Holdings.{ClaimValue}
+use Rattle.claims.specs.Claimings.{EndsClaim}
+use Rattle.claims.proofs.Rests.{filled, filled_rests, open_blank}
+use Rattle.claims.proofs.Halves.{ends}
+use Rattle.claims.proofs.claim.Claim.abort.Goals as goal
+
+pub overflow_cast-size : goal.overflow_cast-size
+overflow_cast-size c =
+    let is : geometry_of c.self.inside.publisher.pass ≡ c.geometry.result = ap (λ (x : ClaimValue). geometry_of x.publisher.pass) c.self.view_is ∙ ap (λ (i : Identity). i.geometry) (c.requires.identity ∙ sym c.identity.ensures) ∙ sym c.geometry.ensures.value in
+    let legal : IsGeometry (geometry_of c.self.inside.publisher.pass) = subst IsGeometry (sym is) c.geometry.ensures.legal in
+    let size = c.len-size.ensures in let short = c.self.invariant.short in record { fits = omega (arith, size, short, legal.mtu.greatest, legal.mtu.least) }
+
+pub abort-requires-clause-blank : goal.abort-requires-clause-blank
+abort-requires-clause-blank c = subst (λ (n : ℕ). HasBlank c.self.inside.publisher.pass c.self.inside.start (32 + n)) (sym c.len-size.ensures) (open_blank c.self.inside.publisher c.self.inside.start c.self.inside.end (vec_len c.self.inside.bytes) _ c.self.invariant)
+
+pub invariant_of-result : goal.invariant_of-result
+invariant_of-result c = filled_rests c.self.inside.publisher c.abort.new.pass _ c.self.inside.start c.self.inside.end (vec_len c.self.inside.bytes) (Pad (32 + c.len-size.result)) (ap (λ (n : ℕ). 32 + n) c.len-size.ensures) c.self.invariant c.abort.ensures.aborted
+
+pub returns-clause-aborted : goal.returns-clause-aborted
+returns-clause-aborted c =
+    let l = c.args.log.now in let q = c.abort.new.pass in let part = c.abort.ensures.part in let p = c.self.inside.publisher in
+    let claim : ClaimValue = record { publisher = p; start = c.self.inside.start; bytes = c.self.inside.bytes.items } in
+    let whole = filled p.pass q.pass c.self.inside.start (vec_len c.self.inside.bytes) (Pad (32 + c.len-size.result)) (ap (λ (n : ℕ). 32 + n) c.len-size.ensures) c.self.invariant.one c.abort.ensures.aborted in
+    subst (λ (x : ClaimValue). EndsClaim l x (Pad (32 + length x.bytes)) 4 q) c.self.view_is
+    (subst (λ (n : ℕ). EndsClaim l claim (Pad (32 + n)) 4 q) (c.len-size.ensures ∙ c.self.inside.bytes.ok.0)
+    (ends l claim (Pad (32 + c.len-size.result)) 4 q part.took.noted (subst (λ (m : LogValue). IsOf m q) (part.moved.same ∙ c.new.ensures) part.moved.still) part.took.steps part.took.call whole))

@@ -1,0 +1,13 @@
+use Rattle.std.proofs.Common.{◌≡◌, length, subst, ◌∙◌}
+use Rattle.std.specs.Prelude.{IfErr}
+use Rattle.log_rule.specs.Claims.Handles.{PublisherValue}
+use Rattle.shared_log.specs.Handles.{IsOf, LogValue}
+use Rattle.claims.specs.Claimings.{DeniesMessage}
+use Rattle.claims.proofs.Halves.{offer_refused}
+use Rattle.claims.proofs.claimant.offer.Goals as goal
+
+pub returns-clause-refused : goal.returns-clause-refused
+returns-clause-refused c =
+    let call = c.offer.ensures.called in let q = c.offer.new.pass in let l = c.args.log.now in
+    subst (λ (p : PublisherValue). IfErr c.offer.result (λ why. DeniesMessage l p (length c.args.message.now) why q)) c.claimant.view_is
+    (offer_refused l c.claimant.inside.publisher q c.args.message.now c.offer.result (subst (λ (x : LogValue). IsOf x q) (call.moved.same ∙ c.new.ensures) call.moved.still) call.few call.took c.offer.ensures.refused)

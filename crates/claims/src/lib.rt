@@ -1,0 +1,22 @@
+//! A publisher's claims as values that must be spent, over the log that threads share.
+//!
+//! A publisher that claims (`Claimant`) brings memory of its own, for as many bytes as the MTU. `try_claim` takes it and gives a
+//! `Claim` that lends the bytes of its message, zeros at first, and ends by `commit` or `abort`, which give the claimant
+//! back. It is made of two halves: `arm` looks at the log, and `Armed::add` adds to the tail, whatever happened between.
+//! What is said of a claim is said of the two together: at most seven word steps, and a refusal justified by the words
+//! that they loaded or added to. A refused call gives the claimant back too (`Denied`).
+//!
+//! `Armed` and `Claim` can't be dropped, so a claimant has nothing open, and `close` asks for no more than all passes.
+#![tactic(auto)]
+
+mod armed;
+mod claim;
+mod claimant;
+mod denied;
+mod parts;
+
+pub use armed::{Armed, arm, try_claim};
+pub use claim::Claim;
+pub use claimant::{Claimant, offer};
+pub use denied::Denied;
+pub use parts::{Parts, open};

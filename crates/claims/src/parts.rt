@@ -1,0 +1,107 @@
+//! A log that opens, with publishers that claim.
+
+ghost use Rattle.std.specs.Prelude.{◌≡◌, ◌↔◌, IfOk, IsErrOf, vec_capacity};
+ghost use Rattle.std.specs.List.{AllByRecursion};
+ghost use Rattle.position.specs.Openings.{IsConsumerCount, IsStart};
+ghost use Rattle.shared_log.specs.Handles.{AreNew, IsLogOf};
+ghost use Rattle.shared_log.specs.Parts.{AreDealt};
+
+use crate::claimant::Claimant;
+use position::Geometry;
+use shared_log::{Keeper, Log, LogError, LogReader, Publisher};
+use std::alloc::{AllocError, Global};
+
+/// All passes of a log that was just opened.
+#[derive(Drop)]
+pub struct Parts {
+    /// By their numbers, 0 to 7.
+    pub claimants: [Claimant; 8],
+    /// As many as were asked for, by their numbers, all at the start.
+    pub readers: Vec<LogReader>,
+    pub keeper: Keeper,
+}
+
+/// Memory for a claim's bytes.
+fn block(alloc: Global, mtu: usize) -> Result<Vec<u8>, AllocError>
+    ensures { IfOk result (λ b. vec_capacity b ≡ mtu) }
+{
+    Ok(Vec::with_capacity(alloc, mtu)?)
+}
+
+/// Such memory for each publisher.
+fn blocks(alloc: Global, mtu: usize) -> Result<[Vec<u8>; 8], AllocError>
+    ensures { IfOk result (λ bs. AllByRecursion (λ b. vec_capacity b ≡ mtu) bs) }
+{
+    Ok([
+        block(alloc, mtu)?,
+        block(alloc, mtu)?,
+        block(alloc, mtu)?,
+        block(alloc, mtu)?,
+        block(alloc, mtu)?,
+        block(alloc, mtu)?,
+        block(alloc, mtu)?,
+        block(alloc, mtu)?,
+    ])
+}
+
+/// All publishers, each with its block.
+fn with_blocks(log: &Log, publishers: [Publisher; 8], blocks: [Vec<u8>; 8]) -> [Claimant; 8]
+    requires publishers { AreNew log.now 0 publishers }
+    requires blocks { AllByRecursion (λ b. vec_capacity b ≡ log.now.identity.geometry.mtu) blocks }
+    ensures { result ≡ publishers }
+{
+    let [zero, one, two, three, four, five, six, seven] = publishers;
+    let [
+        for_zero,
+        for_one,
+        for_two,
+        for_three,
+        for_four,
+        for_five,
+        for_six,
+        for_seven,
+    ] = blocks;
+    [
+        Claimant::new(zero, for_zero),
+        Claimant::new(one, for_one),
+        Claimant::new(two, for_two),
+        Claimant::new(three, for_three),
+        Claimant::new(four, for_four),
+        Claimant::new(five, for_five),
+        Claimant::new(six, for_six),
+        Claimant::new(seven, for_seven),
+    ]
+}
+
+/// A log that opens at a position, unconnected, with its limit and so many consumers at the start, and all its passes; each
+/// publisher has a block. The start is judged first, then the number of consumers; then memory is asked for.
+pub fn open(
+    alloc: Global,
+    geometry: Geometry,
+    session: i32,
+    stream: i32,
+    start: u64,
+    consumers: usize,
+) -> Result<(Log, Parts), LogError>
+    ensures log { IfOk result (λ r. IsLogOf (record { geometry = geometry; session = session; stream = stream }) start consumers r.0) }
+    ensures parts { IfOk result (λ r. AreDealt r.0 r.1.claimants r.1.readers.items r.1.keeper) }
+    ensures start { IsErrOf result LogError.Start ↔ (¬ IsStart geometry start) }
+    ensures consumers { IsErrOf result LogError.Consumers ↔ (IsStart geometry start × (¬ IsConsumerCount consumers)) }
+    ensures in_range { IfOk result (λ _. IsStart geometry start × IsConsumerCount consumers) }
+    ensures memory { IsErrOf result LogError.Memory → IsStart geometry start × IsConsumerCount consumers }
+{
+    let (log, parts) = shared_log::open(alloc, geometry, session, stream, start, consumers)?;
+    let shared_log::Parts {
+        publishers,
+        readers,
+        keeper,
+    } = parts;
+    let blocks = blocks(alloc, geometry.mtu() as usize)?;
+    let claimants = with_blocks(&log, publishers, blocks);
+    let parts = Parts {
+        claimants,
+        readers,
+        keeper,
+    };
+    Ok((log, parts))
+}
