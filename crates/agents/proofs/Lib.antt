@@ -6,4 +6,5 @@ pub mod Runs
 pub mod Images
 pub mod Reaching
 pub mod NewSenders
+mod ReplyRows
 pub mod NewPublishers

@@ -15,7 +15,7 @@ commanded Connect word = connected_word true word
 commanded Disconnect word = connected_word false word
 commanded Close word = closed_word word
 
--- the command that was submitted first was taken, and done by one store
+-- a command was taken, and done by one store
 pub record ObeysOne (k : KeeperValue) (t : TakerSeen) (q : KeeperValue) (u : TakerSeen) : Type 0 where
   pub command : Submitted
   pub taken : u ≡ record t { taken = t.taken ++ command ∷ [] }

@@ -21,6 +21,13 @@ abbrev pub Explains : DeviceError → Device → List (List ℕ) → Device → 
 Explains faults.Device d lost e = HasGrown d.failures e.failures × (lost ≡ [])
 Explains faults.Memory d lost e = length lost ≡ 1
 
+-- where memory was refused one datagram is lost, and where the device failed it has counted that, and none is
+abbrev pub MemoryLosesOne : Type 0
+MemoryLosesOne = (d e : Device) (lost : List (List ℕ)) → Explains faults.Memory d lost e → length lost ≡ 1
+
+abbrev pub FailuresAreCounted : Type 0
+FailuresAreCounted = (d e : Device) (lost : List (List ℕ)) → Explains faults.Device d lost e → HasGrown d.failures e.failures × (lost ≡ [])
+
 -- datagrams that had come, and what the party gave out for them; of that a part was sent, all of it but at a fault
 pub record Hearing {P : Type 0} (hears : P → ℕ → List ℕ → P → List (List ℕ) → Type 0) (now : ℕ) (tells : Type 0) (most : ℕ) (s : P) (d : Device) (result : Result ℕ DeviceError) (t : P) (e : Device) : Type 0 where
   pub heard : List (List ℕ)

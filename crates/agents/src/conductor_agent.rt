@@ -43,8 +43,8 @@ fn obey_next<R: Wait>(
     true
 }
 
-/// A cycle. Takes the first command that clients have submitted, if one is there, and does what it asks for; then the
-/// keeper cleans, and raises the limit. Whether a command was taken, or the limit has grown.
+/// A cycle. Takes a command that a client has submitted, if one is there, and does what it asks for; then the keeper cleans,
+/// and raises the limit. Whether a command was taken, or the limit has grown.
 pub fn conduct<R: Wait>(
     rt: &R,
     log: &Log,

@@ -4,7 +4,7 @@ ghost use Rattle.std.specs.Prelude.{◌≡◌, IfErr, IfOk};
 ghost use Rattle.endpoint.specs.declared.device_error.DeviceError.TheVariants.{Memory};
 ghost use Rattle.endpoint.specs.Devices.{NeverFall};
 ghost use Rattle.std.specs.Borrow.{sem};
-ghost use Rattle.agents.specs.Cycles.{Cycle, Fault, Hearing, Ticking};
+ghost use Rattle.agents.specs.Cycles.{Cycle, FailuresAreCounted, Fault, Hearing, MemoryLosesOne, Ticking};
 ghost use Rattle.agents.specs.DutyLends.{lends_device};
 
 use crate::party::Party;
@@ -87,6 +87,12 @@ impl<D> Duty<D> {
         &mut self.device
     }
 }
+
+/// A law: a fault of memory loses one datagram, and one of the device, which has counted it, none.
+pub fn faults_are_explained()
+    ensures memory { MemoryLosesOne }
+    ensures device { FailuresAreCounted }
+{}
 
 impl<D: Datagrams> Duty<D> {
     /// Takes a datagram, if one has come, and sends what the party gives for it. The answer is how many had come: one or

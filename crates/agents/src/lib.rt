@@ -5,7 +5,8 @@
 //! many as there were before a receive found none; then came one tick. Where the device tells, which one over UDP
 //! doesn't, these are the datagrams that it handed over, and what it has carried away is exactly what these steps
 //! gave out, in order. At a fault it's a beginning of that, with a tick only where all was heard and answered, and
-//! either the device has counted a failure or memory was refused to one datagram, which is lost. The answer is true
+//! either the device has counted a failure or memory was refused to one datagram, which is lost
+//! (`faults_are_explained`). The answer is true
 //! exactly where a datagram came or went at the tick. A sender's core and a receiver with its subscriber are such
 //! parties (`Party`).
 //!
@@ -14,8 +15,8 @@
 //! nothing or Connect alone (`SenderAgent::cycle`; the lemmas `asks_at_most_once`, `runs_ask_once`, `by_cycle`). A
 //! receiver's cycle without a fault publishes the subscriber's positions, all three together and once, if there is an
 //! image; a poll publishes nothing (`ReceiverAgent`). Whoever has that agent, out of a lock too, knows that the
-//! subscriber stands no lower than what was published last. A conductor's cycle does the command that was submitted
-//! first, by one store of the limit word, or finds the queue empty; then the keeper cleans and limits (`conduct`).
+//! subscriber stands no lower than what was published last. A conductor's cycle does one command, by one
+//! store of the limit word, or finds the queue empty; then the keeper cleans and limits (`conduct`).
 //!
 //! A log opens for the agents of one stream with one reader and all its passes (`open_log`, by `AreNewPasses`), and its
 //! sender's agent has sent nothing yet (`open_sender`, by `IsNewSender`). `IdleStrategy::after` counts the idle turns
@@ -37,7 +38,7 @@ mod sending;
 
 pub use began::Began;
 pub use conductor_agent::conduct;
-pub use duty::{CYCLE_DATAGRAMS, Denied, Duty};
+pub use duty::{CYCLE_DATAGRAMS, Denied, Duty, faults_are_explained};
 pub use idle_strategy::IdleStrategy;
 pub use log_passes::{LogPasses, open_log};
 pub use log_sender::{LogSender, open_sender};

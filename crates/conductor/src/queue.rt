@@ -103,8 +103,8 @@ impl Conductor {
         }
     }
 
-    /// Takes the command that was submitted first of those in the queue. There is none only where the queue was empty
-    /// at one moment of the call: all commands that the taker was told of are taken then.
+    /// Takes a command: of a client's the first that wasn't taken yet, as `finish` shows. There is none only where the queue
+    /// was empty at one moment of the call: all commands that the taker was told of are taken then.
     pub fn take<R: Wait>(&self, rt: &R, taker: &mut Taker) -> Option<Submitted>
         requires { taker.old.queue ≡ self.now }
         ensures { MatchOption result

@@ -23,6 +23,14 @@ counted n = min (n + 1) greatest
 abbrev pub HasGrown : ℕ → ℕ → Type 0
 HasGrown old new = (old < new) ⊎ ((old ≡ greatest) × (new ≡ greatest))
 
+-- a count that has grown isn't lower, and is the same only at its greatest
+abbrev pub IsHigherOnceGrown : Type 0
+IsHigherOnceGrown = (old new : ℕ) → HasGrown old new → (old ≤ new) × (new ≡ old → old ≡ greatest)
+
+-- one more is grown
+abbrev pub GrowsByOne : Type 0
+GrowsByOne = (n : ℕ) → n ≤ greatest → HasGrown n (counted n)
+
 -- neither count is lower
 pub record NeverFall (old new : Device) : Type 0 where
   pub failures : old.failures ≤ new.failures

@@ -1,7 +1,7 @@
 //! What carries datagrams.
 
 ghost use Rattle.std.specs.Prelude.{◌≡◌, Some};
-ghost use Rattle.endpoint.specs.Devices.{Device, NeverFall};
+ghost use Rattle.endpoint.specs.Devices.{Device, GrowsByOne, IsHigherOnceGrown, NeverFall};
 ghost use Rattle.endpoint.specs.Texts.{device_text};
 
 use std::fmt;
@@ -30,6 +30,12 @@ impl DeviceFailed {
         "device"
     }
 }
+
+/// A law: a count that has grown isn't lower, and is the same only at its greatest; one more is grown.
+pub fn counts_grow()
+    ensures higher { IsHigherOnceGrown }
+    ensures by_one { GrowsByOne }
+{}
 
 /// A device that carries datagrams to one peer and from it. No call waits. Whether the peer gets what is sent, and what
 /// comes, isn't the device's to say.

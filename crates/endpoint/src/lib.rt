@@ -3,7 +3,7 @@
 //!
 //! For any device it is said what each call leaves of it. A failure is answered exactly in a call that counts one,
 //! and a receive that found nothing in one that counts that; neither count ever falls, and at the greatest of 64 bits
-//! it stays, which is read as grown. What was found fits the buffer, whose bytes behind it stay. Where a device tells
+//! it stays, which is read as grown (`counts_grow`). What was found fits the buffer, whose bytes behind it stay. Where a device tells
 //! what it carries, a send adds the datagram to what it has carried away, or nothing where it failed, and a receive
 //! adds to what it has handed over what stands in the buffer.
 //!
@@ -19,7 +19,7 @@ mod failing;
 mod memory;
 mod udp;
 
-pub use datagrams::{Datagrams, DeviceFailed, GREATEST_DATAGRAM};
+pub use datagrams::{Datagrams, DeviceFailed, GREATEST_DATAGRAM, counts_grow};
 pub use device_error::DeviceError;
 pub use failing::FailingDatagrams;
 pub use memory::MemoryDevice;

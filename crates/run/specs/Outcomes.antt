@@ -1,36 +1,68 @@
 -- What a run leaves.
-use Rattle.std.specs.Prelude.{◌≡◌, ◌*◌, ◌^◌, ◌<◌, ◌≤◌, List, sum, nat_lt, if◌then◌else◌}
-use Rattle.theory.specs.Position.{Geometry}
-use Rattle.theory.specs.Entry.{Entry}
-use Rattle.theory.specs.Tiling.{Tiles}
+use Rattle.std.specs.Prelude.{◌≡◌, ◌*◌, ◌<◌, ◌≤◌, ◌==◌, ◌&&◌, ◌||◌, ℕ, Bool, not, cond, List, count_by, slice_index, sum, sum_by, take, nat_lt, if◌then◌else◌}
+use Rattle.std.specs.List.{list_all}
+use Rattle.theory.specs.Position.{Geometry, framed_length}
+use Rattle.theory.specs.Entry.{Entry, length_of}
+use Rattle.theory.specs.Tiling.{Tiles, share_of}
 use Rattle.shared_log.specs.declared.book.Book.{Book}
 use Rattle.options.specs.declared.run.made.Plan.{Plan}
+use Rattle.run_parties.specs.Tallies.{IsTally}
 use Rattle.run.specs.declared.passes.Size.{Size}
 use Rattle.run.specs.declared.outcome.Outcome.{Outcome}
 use Rattle.run.specs.declared.outcome.Ending.{Ending}
 use Rattle.run.specs.declared.outcome.Ending.TheVariants.{Broken, Short, Whole}
 
--- entries tile the stream from 0 to the tail, and the shares add up to that
-pub record IsBook (g : Geometry) (book : Book) : Type 0 where
+-- a message of the publisher with this number, and no padding
+abbrev pub is_message_of : ℕ → Entry → Bool
+is_message_of number e = (e.owner == number) && not e.padding
+
+-- how many there are of them, and how many bytes they cover
+abbrev pub messages_of : ℕ → List Entry → ℕ
+messages_of number log = count_by (is_message_of number) log
+
+abbrev pub message_bytes : ℕ → List Entry → ℕ
+message_bytes number log = sum_by (λ e. cond (is_message_of number e) (length_of e) 0) log
+
+-- entries tile the stream from 0 to the tail. Each publisher has the share of those that it owns, and so many messages among
+-- them as were accepted of it, of this length; those from this number on have none
+pub record IsBook (g : Geometry) (length publishers : ℕ) (accepted : List ℕ) (book : Book) : Type 0 where
   pub start : book.start ≡ 0
   pub shares : sum book.shares ≡ book.tail
   pub log : List Entry
   pub tiles : Tiles g.term_length 0 book.tail log
+  pub owned : (n : ℕ) → n < 8 → slice_index book.shares n ≡ share_of n log
+  pub messages : (n : ℕ) → n < 8 → messages_of n log ≡ slice_index accepted n
+  pub bytes : (n : ℕ) → n < 8 → message_bytes n log ≡ slice_index accepted n * framed_length g length
+  pub others : (n : ℕ) → publishers ≤ n → n < 8 → slice_index book.shares n ≡ 0
 
--- no more was polled than all publishers' messages
-pub record IsOutcome (plan : Plan) (o : Outcome) : Type 0 where
-  pub wanted : o.wanted ≡ plan.publishers * plan.messages
+-- a run of this size over a log of this shape left this: no more was polled than was wanted, and that was tallied
+pub record IsLeft (g : Geometry) (size : Size) (o : Outcome) : Type 0 where
+  pub publishers : o.publishers ≡ size.publishers
+  pub messages : o.messages ≡ size.task.messages
+  pub wanted : o.wanted ≡ size.wanted
   pub polled : o.polled ≤ o.wanted
-  pub book : IsBook plan.geometry o.book
+  pub counts : List ℕ
+  pub tally : IsTally (record { polled = o.polled; kept = o.kept; counts = counts })
+  pub book : IsBook g size.task.length size.publishers o.accepted o.book
 
--- a broken order comes first, then a message that wasn't polled
+-- of each publisher all messages were accepted
+abbrev pub all_accepted : Outcome → Bool
+all_accepted o = list_all (λ n. n == o.messages) (take o.publishers o.accepted)
+
+-- a broken order comes first, then a message that wasn't accepted or polled
 abbrev pub ending_of : Outcome → Ending
-ending_of o = if o.kept then (if nat_lt o.polled o.wanted then Short else Whole) else Broken
+ending_of o = if o.kept then (if nat_lt o.polled o.wanted || not (all_accepted o) then Short else Whole) else Broken
 
--- what a plan asks for
-pub record SizeOf (plan : Plan) (size : Size) : Type 0 where
-  pub messages : size.task.messages ≡ plan.messages
-  pub offers : size.task.turns ≡ plan.turns
-  pub length : size.task.length ≡ plan.length
-  pub wanted : size.wanted ≡ plan.publishers * plan.messages
-  pub few : size.wanted < 2 ^ 63
+-- ---- of a plan
+
+-- what it asks for
+abbrev pub size_of : Plan → Size
+size_of plan = record {
+  task = record { messages = plan.messages; length = plan.length; turns = plan.turns };
+  publishers = plan.publishers;
+  wanted = plan.publishers * plan.messages;
+}
+
+-- a run of this plan left this
+abbrev pub IsOutcome : Plan → Outcome → Type 0
+IsOutcome plan o = IsLeft plan.geometry (size_of plan) o

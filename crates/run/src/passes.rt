@@ -2,7 +2,7 @@
 
 use agents::Named;
 use conductor::{Client, Taker};
-use run_parties::{Context, SharedReceiver, Tally, Task};
+use run_parties::{Context, PUBLISHERS, SharedReceiver, Tally, Task};
 use shared_log::{Keeper, LogReader, Publisher};
 
 /// The passes of a run's threads, and the devices of its sender and its receiver.
@@ -20,10 +20,17 @@ pub struct Passes<D> {
     pub replies: D,
 }
 
+/// Publishers that came back, and how many messages were accepted of them, by their numbers.
+#[derive(Drop)]
+pub struct Publications {
+    pub publishers: Vec<Publisher>,
+    pub accepted: [u64; PUBLISHERS],
+}
+
 /// What they give back.
 #[derive(Drop)]
 pub struct Returned {
-    pub publishers: Vec<Publisher>,
+    pub published: Publications,
     pub keeper: Keeper,
     pub tally: Tally,
 }
@@ -33,6 +40,8 @@ pub struct Returned {
 pub struct Size {
     /// By each publisher.
     pub task: Task,
+    /// How many publishers.
+    pub publishers: usize,
     /// How many messages are to be polled.
     pub wanted: u64,
 }

@@ -1,10 +1,12 @@
 //! The run of a plan.
 
 ghost use Rattle.std.specs.Prelude.{◌≡◌, ◌*◌, ◌^◌, ◌<◌, ◌≤◌, IfOk};
+ghost use Rattle.run_parties.specs.Devices.{AreLossy};
 ghost use Rattle.run_parties.specs.Receivers.{AreReceiverParts};
 ghost use Rattle.run_parties.specs.RunLogs.{IsRunLog};
+ghost use Rattle.run_parties.specs.Tallies.{IsTally};
 ghost use Rattle.run.specs.Beginnings.{CanClose, IsBeginning};
-ghost use Rattle.run.specs.Outcomes.{IsBook, IsOutcome, SizeOf};
+ghost use Rattle.run.specs.Outcomes.{IsBook, IsLeft, IsOutcome, size_of};
 ghost use Rattle.run.specs.Threads.{ArePasses, AreReturned};
 
 use crate::outcome::Outcome;
@@ -13,7 +15,8 @@ use crate::thread_scope::run_agents;
 use crate::watch::Watch;
 use agents::{Began, Named};
 use conductor::Conductor;
-use endpoint::{Datagrams, DeviceError};
+use endpoint::{Datagrams, DeviceError, UdpDevice};
+use loss_injector::Lossy;
 use options::Plan;
 use run_parties::{
     Context, Gate, ReceiverParts, RunLog, RunState, SharedReceiver, Task, device_pair,
@@ -38,7 +41,8 @@ fn wanted_of(plan: &Plan) -> u64
 
 /// How much a plan asks for.
 fn size_of(plan: &Plan) -> Size
-    ensures { SizeOf plan.now result }
+    ensures value { result ≡ size_of plan.now }
+    ensures few { result.wanted < 2 ^ 63 }
 {
     Size {
         task: Task {
@@ -46,6 +50,7 @@ fn size_of(plan: &Plan) -> Size
             length: plan.length,
             turns: plan.turns,
         },
+        publishers: plan.publishers,
         wanted: wanted_of(plan),
     }
 }
@@ -66,7 +71,7 @@ fn begin<R: Clock, D: Drop>(
     plan: &Plan,
     devices: (D, D),
 ) -> Result<Beginning<D>, DeviceError>
-    ensures { IfOk result (λ b. IsBeginning plan.now.geometry b) }
+    ensures { IfOk result (λ b. IsBeginning plan.now.geometry plan.now.publishers b) }
 {
     let began = Began::now(rt)?;
     let (conductor, asking, closing, taker) = Conductor::with_two_clients(alloc)?;
@@ -109,11 +114,11 @@ fn run_named<
     passes: Passes<D>,
     errors: E,
 ) -> Result<Returned, DeviceError>
-    requires passes { ArePasses context.now.state.now.log context.now.state.now.conductor passes }
+    requires passes { ArePasses context.now.state.now.log context.now.state.now.conductor plan.now.publishers passes }
     requires log { IsRunLog context.now.state.now.log × (context.now.state.now.log.identity.geometry ≡ plan.now.geometry) }
     requires parts { AreReceiverParts plan.now.geometry parts }
     requires named { parts.counters ≡ N.counters }
-    ensures { IfOk result (λ r. AreReturned context.now.state.now.log passes (plan.now.publishers * plan.now.messages) r) }
+    ensures { IfOk result (λ r. AreReturned context.now.state.now.log (size_of plan.now) passes r) }
 {
     let ReceiverParts {
         subscriber,
@@ -136,39 +141,44 @@ fn run_named<
 }
 
 /// The book of a log whose threads gave this back.
-#[tactic(auto, using(crate::proofs::Closing::shown))]
 fn closed(
     log: Log,
-    mut returned: Returned,
+    size: &Size,
+    returned: Returned,
     mut others: Vec<Publisher>,
     alloc: Global,
 ) -> Result<Book, AllocError>
-    requires { CanClose log returned others.items }
-    ensures { IfOk result (λ book. IsBook log.identity.geometry book) }
+    requires { CanClose log size.now returned others.items }
+    ensures { IfOk result (λ book. IsBook log.identity.geometry size.now.task.length size.now.publishers returned.published.accepted book) }
 {
-    returned.publishers.append(&mut others)?;
-    Ok(close(log, returned.publishers, Vec::new(alloc), returned.keeper))
+    let mut publishers = returned.published.publishers;
+    publishers.append(&mut others)?;
+    Ok(close(log, publishers, Vec::new(alloc), returned.keeper))
 }
 
-/// What a run of a plan leaves whose threads gave this back.
+/// What a run leaves whose threads gave this back.
 fn left(
     alloc: Global,
-    plan: &Plan,
+    size: &Size,
     log: Log,
     returned: Returned,
     others: Vec<Publisher>,
 ) -> Result<Outcome, AllocError>
-    requires closes { CanClose log returned others.items }
-    requires polled { returned.tally.polled ≤ plan.now.publishers * plan.now.messages }
-    ensures tally { IfOk result (λ o. (o.polled ≡ returned.tally.polled) × (o.kept ≡ returned.tally.kept)) }
-    ensures outcome { IfOk result (λ o. (o.wanted ≡ plan.now.publishers * plan.now.messages) × (o.polled ≤ o.wanted) × IsBook log.identity.geometry o.book) }
+    requires closes { CanClose log size.now returned others.items }
+    requires polled { returned.tally.polled ≤ size.now.wanted }
+    requires tally { IsTally returned.tally }
+    ensures { IfOk result (λ o. IsLeft log.identity.geometry size.now o) }
 {
-    let wanted = wanted_of(plan);
     let (polled, kept) = (returned.tally.polled(), returned.tally.is_in_order());
-    let book = closed(log, returned, others, alloc)?;
+    let publishers = returned.published.publishers.len();
+    let accepted = returned.published.accepted;
+    let book = closed(log, size, returned, others, alloc)?;
     Ok(Outcome {
+        publishers,
+        messages: size.task.messages,
+        accepted,
         polled,
-        wanted,
+        wanted: size.wanted,
         kept,
         book,
     })
@@ -204,7 +214,22 @@ fn run_over<
         turns: plan.turns,
     };
     let returned = run_named::<Brand, R, D, G, E>(&context, plan, parts, passes, errors)?;
-    Ok(left(alloc, plan, state.into_log(), returned, others)?)
+    Ok(left(alloc, &size_of(plan), state.into_log(), returned, others)?)
+}
+
+/// Runs over two devices that lose as the plan says.
+fn run_lossy<R: Threads + Wait + Clock + Sync, G: Gate + Sync, E: Write + Drop>(
+    rt: &R,
+    alloc: Global,
+    plan: &Plan,
+    gate: &G,
+    errors: E,
+    devices: (Lossy<UdpDevice>, Lossy<UdpDevice>),
+) -> Result<Outcome, DeviceError>
+    requires { AreLossy plan.now.rates plan.now.seed devices.0 devices.1 }
+    ensures { IfOk result (λ o. IsOutcome plan.now o) }
+{
+    run_over(rt, alloc, plan, gate, errors, devices)
 }
 
 /// Runs the driver as planned: each publisher's messages are offered, sent as datagrams over UDP on this machine, received,
@@ -224,5 +249,5 @@ pub fn run<R: Threads + Wait + Clock + Net + Sync, G: Gate + Sync, E: Write + Dr
     ensures { IfOk result (λ o. IsOutcome plan.now o) }
 {
     let devices = device_pair(rt, alloc, plan.rates, plan.seed)?;
-    run_over(rt, alloc, plan, gate, errors, devices)
+    run_lossy(rt, alloc, plan, gate, errors, devices)
 }

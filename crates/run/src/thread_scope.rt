@@ -1,12 +1,10 @@
 //! All threads, from their start to their end.
 
-ghost use Rattle.std.specs.Prelude.{◌≡◌, IfOk, map};
+ghost use Rattle.std.specs.Prelude.{◌≡◌, ◌≤◌, ◌<◌, ◌^◌, ◌+◌, [], ◌∷◌, ◌++◌, IfOk, slice_index, slice_set, vec_len};
 ghost use Rattle.std.specs.List.{AllByRecursion};
-ghost use Rattle.shared_log.specs.Books.{IsDone};
-ghost use Rattle.log_rule.specs.Claims.Handles.{parts_in};
-ghost use Rattle.run.specs.Threads.{ArePasses, AreReturned, IsSet};
+ghost use Rattle.run.specs.Threads.{ArePasses, AreReturned, HaveCome, IsSet, IsWaiting};
 
-use crate::passes::{Agents, Passes, Returned};
+use crate::passes::{Agents, Passes, Publications, Returned};
 use crate::thread_joins::gather;
 use crate::thread_starts::{
     start_conductor, start_publisher, start_receiver, start_sender, start_subscriber,
@@ -15,13 +13,32 @@ use crate::watch::Watch;
 use agents::Named;
 use conductor::Command;
 use endpoint::{Datagrams, DeviceError};
-use run_parties::Gate;
+use run_parties::{Gate, PUBLISHERS, Published};
 use shared_log::Publisher;
 use std::io::Write;
 use std::sync::Wait;
 use std::thread;
 use std::thread::{Scope, Threads};
 use std::time::Clock;
+
+/// A publisher that came back, behind those that did before.
+fn with_published(mut all: Publications, published: Published) -> Result<Publications, DeviceError>
+    requires low { published.publisher.pass.number < 8 }
+    requires room { slice_index all.accepted published.publisher.pass.number + published.accepted < 2 ^ 64 }
+    ensures publishers { IfOk result (λ r. r.publishers.items ≡ all.publishers.items ++ published.publisher ∷ []) }
+    ensures accepted { IfOk result (λ r. r.accepted ≡ slice_set all.accepted published.publisher.pass.number (slice_index all.accepted published.publisher.pass.number + published.accepted)) }
+{
+    let Published {
+        publisher,
+        accepted,
+    } = published;
+    let number = publisher.number() as usize;
+    all.accepted[number] += u64::from(accepted);
+    if all.publishers.push(publisher).is_err() {
+        return Err(DeviceError::Memory);
+    }
+    Ok(all)
+}
 
 /// Starts a thread for each publisher, the last one first, then waits until all is to stop, and then joins them.
 fn run_publishers<
@@ -36,26 +53,25 @@ fn run_publishers<
     agents: &'s Agents<'s, N, R, G>,
     mut waiting: Vec<Publisher>,
     watch: &mut Watch<E>,
-) -> Result<Vec<Publisher>, DeviceError>
-    requires done { AllByRecursion (IsDone agents.now.context.now.state.now.log) waiting.items }
+) -> Result<Publications, DeviceError>
+    requires waiting { AllByRecursion (IsWaiting agents.now.context.now.state.now.log agents.now.size.publishers) waiting.items }
+    requires few { vec_len waiting ≤ 8 }
     requires set { IsSet agents.now.context.now.state.now.log agents.now.size }
     requires counters { watch.old.reader.counters ≡ agents.now.receiver.now.counters }
-    ensures done { IfOk result (λ r. AllByRecursion (IsDone agents.now.context.now.state.now.log) r.items) }
-    ensures parts { IfOk result (λ r. map parts_in r.items ≡ map parts_in waiting.items) }
+    ensures { IfOk result (HaveCome agents.now.context.now.state.now.log agents.now.size waiting.items) }
 {
     let Some(publisher) = waiting.pop() else {
         let context = agents.context;
         watch.until_stopped(context.rt, context.state, &agents.receiver.counters);
-        return Ok(Vec::new(context.alloc));
+        return Ok(Publications {
+            publishers: Vec::new(context.alloc),
+            accepted: [0; PUBLISHERS],
+        });
     };
     let handle = start_publisher(scope, agents, publisher)?;
     let others = run_publishers(scope, agents, waiting, watch);
-    let publisher = handle.join(agents.context.rt);
-    let mut all = others?;
-    if all.push(publisher?).is_err() {
-        return Err(DeviceError::Memory);
-    }
-    Ok(all)
+    let published = handle.join(agents.context.rt);
+    with_published(others?, published?)
 }
 
 /// Starts all threads, waits until all is to stop, and joins them.
@@ -73,11 +89,11 @@ fn run_in<
     passes: Passes<D>,
     mut watch: Watch<E>,
 ) -> Result<Returned, DeviceError>
-    requires passes { ArePasses agents.now.context.now.state.now.log agents.now.context.now.state.now.conductor passes }
+    requires passes { ArePasses agents.now.context.now.state.now.log agents.now.context.now.state.now.conductor agents.now.size.publishers passes }
     requires set { IsSet agents.now.context.now.state.now.log agents.now.size }
     requires named { agents.now.receiver.now.counters ≡ N.counters }
     requires counters { watch.reader.counters ≡ agents.now.receiver.now.counters }
-    ensures { IfOk result (λ r. AreReturned agents.now.context.now.state.now.log passes agents.now.size.wanted r) }
+    ensures { IfOk result (λ r. AreReturned agents.now.context.now.state.now.log agents.now.size passes r) }
 {
     let Passes {
         publishers,
@@ -93,10 +109,10 @@ fn run_in<
     let receiver = start_receiver(scope, agents, replies);
     let subscriber = start_subscriber(scope, agents);
     let conductor = start_conductor(scope, agents, keeper, taker);
-    let publishers = run_publishers(scope, agents, publishers, &mut watch);
+    let published = run_publishers(scope, agents, publishers, &mut watch);
     let (rt, queue) = (agents.context.rt, &agents.context.state.conductor);
     let _ = queue.submit(rt, &mut closing, Command::Close);
-    gather(agents, publishers, conductor, subscriber, sender, receiver)
+    gather(agents, published, conductor, subscriber, sender, receiver)
 }
 
 /// Runs a thread for each publisher, one for the sender, the receiver, the subscriber and the conductor; the calling thread
@@ -110,18 +126,18 @@ pub fn run_agents<
     G: Gate + Sync,
     E: Write + Drop,
 >(agents: &Agents<'_, N, R, G>, passes: Passes<D>, watch: Watch<E>) -> Result<Returned, DeviceError>
-    requires passes { ArePasses agents.now.context.now.state.now.log agents.now.context.now.state.now.conductor passes }
+    requires passes { ArePasses agents.now.context.now.state.now.log agents.now.context.now.state.now.conductor agents.now.size.publishers passes }
     requires set { IsSet agents.now.context.now.state.now.log agents.now.size }
     requires named { agents.now.receiver.now.counters ≡ N.counters }
     requires counters { watch.reader.counters ≡ agents.now.receiver.now.counters }
-    ensures { IfOk result (λ r. AreReturned agents.now.context.now.state.now.log passes agents.now.size.wanted r) }
+    ensures { IfOk result (λ r. AreReturned agents.now.context.now.state.now.log agents.now.size passes r) }
 {
     thread::scope(
         thread::scope_env(),
         agents.context.rt,
         move |scope| -> Result<Returned, DeviceError>
-            requires { ArePasses agents.now.context.now.state.now.log agents.now.context.now.state.now.conductor passes × IsSet agents.now.context.now.state.now.log agents.now.size × (agents.now.receiver.now.counters ≡ N.counters) × (watch.reader.counters ≡ agents.now.receiver.now.counters) }
-            ensures { IfOk result (λ r. AreReturned agents.entry.now.context.now.state.now.log passes agents.entry.now.size.wanted r) }
+            requires { ArePasses agents.now.context.now.state.now.log agents.now.context.now.state.now.conductor agents.now.size.publishers passes × IsSet agents.now.context.now.state.now.log agents.now.size × (agents.now.receiver.now.counters ≡ N.counters) × (watch.reader.counters ≡ agents.now.receiver.now.counters) }
+            ensures { IfOk result (λ r. AreReturned agents.entry.now.context.now.state.now.log agents.entry.now.size passes r) }
         { run_in(scope, agents, passes, watch) },
     )
 }

@@ -7,29 +7,34 @@ ghost use Rattle.std.specs.Prelude.{◌≡◌, ◌≤◌, ◌<◌, ◌^◌, IfOk
 ghost use Rattle.endpoint.specs.declared.device_error.DeviceError.TheVariants.{Device};
 ghost use Rattle.shared_log.specs.Books.{IsDone};
 ghost use Rattle.shared_log.specs.Parts.{IsNewReader};
-ghost use Rattle.run_parties.specs.Passes.{Ends, IsKept};
+ghost use Rattle.run_parties.specs.Messages.{HasPublished};
+ghost use Rattle.run_parties.specs.Passes.{IsKept};
+ghost use Rattle.run_parties.specs.Tallies.{IsTally};
 ghost use Rattle.run.specs.Threads.{IsSet};
 
 use crate::passes::Agents;
 use agents::Named;
 use conductor::{Client, Taker};
 use endpoint::{Datagrams, DeviceError};
-use run_parties::{Context, Gate, RunState, Tally, publish, receive, send, steer, subscribe};
+use run_parties::{
+    Context, Gate, Published, RunState, Tally, Task, publish, receive, send, steer, subscribe,
+};
 use shared_log::{Keeper, Log, LogReader, Publisher};
 use std::snapshot::Snapshot;
 use std::sync::Wait;
 use std::thread::{JoinHandle, Promise, PromisedHandle, Scope, Threads};
 use std::time::Clock;
 
-/// A thread gives its publisher back.
+/// A thread gives its publisher back, and tells how many of its messages were accepted.
 #[derive(Drop)]
 pub struct PublisherBack {
     pub log: Snapshot<Log>,
     pub before: Snapshot<Publisher>,
+    pub task: Task,
 }
 
-impl Promise<Result<Publisher, DeviceError>> for PublisherBack {
-    ghost kept_by = { λ p r. IfOk r (λ q. Ends p.log.value p.before.value q) };
+impl Promise<Result<Published, DeviceError>> for PublisherBack {
+    ghost kept_by = { λ p r. IfOk r (λ q. HasPublished p.log.value p.task.length q.accepted p.before.value q.publisher × (q.accepted ≤ p.task.messages)) };
 }
 
 /// A thread gives the keeper back.
@@ -49,14 +54,14 @@ pub struct TallyOf {
 }
 
 impl Promise<Result<Tally, DeviceError>> for TallyOf {
-    ghost kept_by = { λ p r. IfOk r (λ tally. tally.polled ≤ p.wanted) };
+    ghost kept_by = { λ p r. IfOk r (λ tally. (tally.polled ≤ p.wanted) × IsTally tally) };
 }
 
 /// The thread of a sender, or of a receiver.
 pub type Agent = JoinHandle<Result<(), DeviceError>>;
 
 /// The thread of a publisher.
-pub type Publishing = PromisedHandle<Result<Publisher, DeviceError>, PublisherBack>;
+pub type Publishing = PromisedHandle<Result<Published, DeviceError>, PublisherBack>;
 
 /// The thread of the conductor.
 pub type Steering = PromisedHandle<Keeper, KeeperBack>;
@@ -80,7 +85,7 @@ pub fn start_publisher<'s, S, N: Named + Send, R: Clock + Sync, G: Gate + Sync>(
 ) -> Result<Publishing, DeviceError>
     requires done { IsDone agents.now.context.now.state.now.log publisher }
     requires set { IsSet agents.now.context.now.state.now.log agents.now.size }
-    ensures { IfOk result (λ h. (h.promise.log.value ≡ agents.now.context.now.state.now.log) × (h.promise.before.value ≡ publisher)) }
+    ensures { IfOk result (λ h. (h.promise.log.value ≡ agents.now.context.now.state.now.log) × (h.promise.before.value ≡ publisher) × (h.promise.task ≡ agents.now.size.task)) }
 {
     let task = agents.size.task;
     let &Context {
@@ -93,6 +98,7 @@ pub fn start_publisher<'s, S, N: Named + Send, R: Clock + Sync, G: Gate + Sync>(
     let promise = PublisherBack {
         log: Snapshot::of(&state.log),
         before: Snapshot::of(&publisher),
+        task,
     };
     let Ok(handle) = scope.spawn_with(promise, move || {
         let context = Context {

@@ -1,2 +1,4 @@
 pub mod NewRunLogs
+pub mod Numbers
 pub mod Orders
+pub mod Publishing

@@ -11,6 +11,10 @@ pub record Ends (l : LogValue) (p q : PublisherValue) : Type 0 where
   pub parts : q.pass.right.parts ≡ p.pass.right.parts
   pub number : q.pass.number ≡ p.pass.number
 
+-- a publisher that has claimed nothing
+abbrev pub HasNone : PublisherValue → Type 0
+HasNone p = p.pass.right.claims ≡ []
+
 -- the log's keeper, which has claimed nothing
 pub record IsKept (l : LogValue) (k : KeeperValue) : Type 0 where
   pub done : IsDone l k.held

@@ -35,6 +35,11 @@ pub record IsTallyOf (messages : List (List ℕ)) (t : Counted) : Type 0 where
   pub order : (t.kept ≡ true) ↔ AreInOrder messages
   pub counts : t.kept ≡ true → (publisher : ℕ) → publisher < 8 → slice_index t.counts publisher ≡ count_of publisher messages
 
+-- the tally of some messages
+pub record IsTally (t : Counted) : Type 0 where
+  pub messages : List (List ℕ)
+  pub tally : IsTallyOf messages t
+
 -- by the counts, this message is the next one of its publisher
 pub record Continues (t : Counted) (message : List ℕ) : Type 0 where
   pub whole : 8 ≤ length message

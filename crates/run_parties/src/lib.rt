@@ -5,13 +5,14 @@
 //! `IsNewRunLog`), with a receiver that has met nothing, its window half a term, and counters at zero
 //! (`receiver_parts`, by `AreReceiverParts`), and with two devices that lose by words of two seeds (`device_pair`, by
 //! `AreLossy`). Each thread gives its pass of
-//! the log back as it got it, with nothing open (`Ends`, `IsKept`); cycles, polls and counters keep what their crates
-//! ask for, and each message is offered at its length of the plan (`publish`, `subscribe`, `steer`; `send`,
-//! `receive`).
+//! the log back with nothing open (`Ends`, `IsKept`); cycles, polls and counters keep what their crates ask for
+//! (`subscribe`, `steer`, `send`, `receive`). A message of a run is its publisher's number, its own count and zeros
+//! (`message_of`). What a publisher has claimed more is its messages 0, 1, 2 and so on, as many as it tells were accepted,
+//! each committed whole, and paddings (`publish`, by `HasPublished`).
 //!
 //! A tally of messages tells how many they are, and whether each publisher's are its 0, 1, 2 and so on
-//! (`Tally::take`, `polled`, `is_in_order`; `IsTallyOf`, `AreInOrder`); the subscriber's counts no more than was
-//! wanted. What the threads tell one another by what they share isn't said, nor that one gets on.
+//! (`Tally::take`, `polled`, `is_in_order`; `IsTallyOf`, `AreInOrder`); the subscriber's is one, and counts no more than
+//! was wanted. What the threads tell one another by what they share isn't said, nor that one gets on.
 #![tactic(auto)]
 
 mod conductor_turns;
@@ -31,7 +32,7 @@ pub use conductor_turns::steer;
 pub use context::Context;
 pub use devices::device_pair;
 pub use gate::{Gate, Open, Role};
-pub use publisher_turns::{Task, publish};
+pub use publisher_turns::{Published, Task, publish};
 pub use receiver_turns::receive;
 pub use run_log::{RunLog, open_run_log};
 pub use run_state::{Done, RunState};

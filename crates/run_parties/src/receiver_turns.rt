@@ -43,9 +43,9 @@ fn receive_on<N: Named, R: Wait + Clock, D: Datagrams + Drop, G: Gate>(
             break;
         }
         context.gate.enter(Role::Receiver, turn);
-        let busy = receive_once(context, receiver, &mut duty)?;
+        let ended = receive_once(context, receiver, &mut duty);
         context.gate.leave(Role::Receiver, turn);
-        idle.after(context.rt, busy);
+        idle.after(context.rt, ended?);
     }
     Ok(())
 }

@@ -26,10 +26,10 @@ pub struct RunLog {
     pub keeper: Keeper,
 }
 
-/// Opens the log of a run for so many publishers. The error comes only where memory is refused.
+/// Opens the log of a run for so many publishers, those with the lowest numbers. The error comes only where memory is refused.
 pub fn open_run_log(alloc: Global, geometry: Geometry, count: usize) -> Result<RunLog, AllocError>
     requires { count ≤ 8 }
-    ensures { IfOk result (IsNewRunLog geometry) }
+    ensures { IfOk result (IsNewRunLog geometry count) }
 {
     let identity = Identity::new(geometry, SESSION, STREAM);
     let _geometry = identity.geometry();

@@ -53,9 +53,9 @@ fn send_on<R: Wait + Clock, D: Datagrams, G: Gate>(
             break;
         }
         context.gate.enter(Role::Sender, turn);
-        let busy = send_once(context, agent, client, duty)?;
+        let ended = send_once(context, agent, client, duty);
         context.gate.leave(Role::Sender, turn);
-        idle.after(context.rt, busy);
+        idle.after(context.rt, ended?);
     }
     Ok(())
 }

@@ -1,6 +1,7 @@
 //! The subscriber's turns.
 
 ghost use Rattle.std.specs.Prelude.{◌≡◌, ◌+◌, ◌≤◌, ◌<◌, ◌^◌, IfOk};
+ghost use Rattle.run_parties.specs.Tallies.{IsTally};
 
 use crate::context::Context;
 use crate::shared_receiver::SharedReceiver;
@@ -23,7 +24,8 @@ fn take(
     tally: &mut Tally,
 ) -> Result<bool, DeviceError>
     requires room { tally.old.polled < 2 ^ 63 }
-    ensures { IfOk result (λ any. tally.new.polled ≤ tally.old.polled + 1) }
+    ensures most { IfOk result (λ any. tally.new.polled ≤ tally.old.polled + 1) }
+    ensures tally { IsTally tally.old → IsTally tally.new }
 {
     match polled {
         Ok(Some(message)) => {
@@ -44,7 +46,8 @@ fn poll_some<N: Named, R: Wait>(
     tally: &mut Tally,
 ) -> Result<bool, DeviceError>
     requires room { tally.old.polled + most < 2 ^ 63 }
-    ensures { IfOk result (λ any. tally.new.polled ≤ tally.old.polled + most) }
+    ensures most { IfOk result (λ any. tally.new.polled ≤ tally.old.polled + most) }
+    ensures tally { IsTally tally.old → IsTally tally.new }
 {
     let mut agent = agent.lock(rt);
     for count in 0..most {
@@ -62,7 +65,8 @@ fn subscribe_on<N: Named, R: Wait + Clock, G>(
     wanted: u64,
 ) -> Result<Tally, DeviceError>
     requires { wanted < 2 ^ 63 }
-    ensures { IfOk result (λ tally. tally.polled ≤ wanted) }
+    ensures most { IfOk result (λ tally. tally.polled ≤ wanted) }
+    ensures tally { IfOk result IsTally }
 {
     let mut tally = Tally::new();
     let mut idle = IdleStrategy::new();
@@ -86,7 +90,8 @@ pub fn subscribe<N: Named, R: Wait + Clock, G>(
     wanted: u64,
 ) -> Result<Tally, DeviceError>
     requires { wanted < 2 ^ 63 }
-    ensures { IfOk result (λ tally. tally.polled ≤ wanted) }
+    ensures most { IfOk result (λ tally. tally.polled ≤ wanted) }
+    ensures tally { IfOk result IsTally }
 {
     let tally = subscribe_on(context, receiver, wanted);
     context.state.stop();

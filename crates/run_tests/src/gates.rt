@@ -99,6 +99,7 @@ fn is_whole<R: Threads + Wait + Clock + Net + Sync>(
         Ok(Some(outcome)) => {
             outcome.ending() == Ending::Whole
                 && outcome.polled == 20
+                && outcome.accepted == [10, 10, 0, 0, 0, 0, 0, 0]
                 && outcome.book.tail == 5120
                 && outcome.book.shares == [2560, 2560, 0, 0, 0, 0, 0, 0]
         }
