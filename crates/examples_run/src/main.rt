@@ -12,7 +12,7 @@ use std::time::Clock;
 use std::{fs, io};
 
 /// The examples by their names: each is a file `NAME.script`, and what it prints a file `NAME.expected`.
-const NAMES: [&str; 18] = [
+const NAMES: [&str; 19] = [
     "first",
     "loss",
     "joins",
@@ -31,6 +31,7 @@ const NAMES: [&str; 18] = [
     "heartbeats",
     "forged",
     "forgeries",
+    "group",
 ];
 
 /// The files of rows by their names: each is a file `NAME.expected`.

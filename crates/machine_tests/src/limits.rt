@@ -107,7 +107,14 @@ fn group_limits(rt: HostRuntime) {
 #[test]
 fn group_heard(rt: HostRuntime) {
     let mut flow = LeastFlow::new(0, 3);
-    for (receiver, all) in [(2, false), (3, false), (0, false), (0, false), (1, true), (3, true)] {
+    for (receiver, all) in [
+        (2, false),
+        (3, false),
+        (0, false),
+        (0, false),
+        (1, true),
+        (3, true),
+    ] {
         assert!(rt; flow.limit() == 0);
         flow.on_status(0, 0, receiver, 0);
         assert!(rt; flow.heard() == all);
