@@ -35,10 +35,12 @@ fn is_read_told<C: Threads + Wait + Clock + Net + RandomSource + Sync + Send + C
 }
 
 /// Whether a command line tells that an output of which such calls fail can't be written or flushed.
-fn is_write_told<
-    'a,
-    C: Threads + Wait + Clock + Net + RandomSource + Sync + Send + Copy + 'static,
->(rt: &C, alloc: Global, words: &'a [&'a str], failing: Failing) -> Result<bool, AllocError> {
+fn is_write_told<'a, C: Threads + Wait + Clock + Net + RandomSource + Sync + Send + Copy + 'static>(
+    rt: &C,
+    alloc: Global,
+    words: &'a [&'a str],
+    failing: Failing,
+) -> Result<bool, AllocError> {
     let mut output = Output::new(alloc, failing);
     let input = Input::of(alloc, SCRIPT)?;
     let (errors, status) = carry_out(rt, alloc, words, input, &mut output);

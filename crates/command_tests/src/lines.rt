@@ -14,13 +14,7 @@ use std::time::Clock;
 pub(crate) fn carry_out<
     'a,
     C: Threads + Wait + Clock + Net + RandomSource + Sync + Send + Copy + 'static,
->(
-    rt: &C,
-    alloc: Global,
-    words: &'a [&'a str],
-    input: Input,
-    output: &mut Output,
-) -> (Vec<u8>, u8) {
+>(rt: &C, alloc: Global, words: &'a [&'a str], input: Input, output: &mut Output) -> (Vec<u8>, u8) {
     let mut errors = Vec::new(alloc);
     let status = command(rt, alloc, words, input, output, &mut errors);
     (errors, status)

@@ -2,7 +2,7 @@ ghost use Rattle.std.specs.Prelude.{◌≡◌, ◌+◌, ◌<◌, ◌^◌};
 
 use std::marker::Model;
 
-/// How many looks at words were made. Contracts alone see it.
+/// How many looks at words were made. It counts at run time, too; no code reads it.
 #[derive(Drop)]
 pub struct Steps {
     count: u64,

@@ -19,7 +19,9 @@ ghost use Rattle.receiver.specs.Texts.{outcome_text};
 
 use crate::opened::{find_gap, hear, insert, open, read_past};
 use block::Block;
-use frames::{FaultCounts, Frame, FrameError, Header, Nak, Setup, Status, check_datagram, known_frame};
+use frames::{
+    FaultCounts, Frame, FrameError, Header, Nak, Setup, Status, check_datagram, known_frame,
+};
 use image::{Image, Insert, LossDetector};
 use position::{FrameHead, Gap, Geometry};
 use setup::{SetupError, judge};

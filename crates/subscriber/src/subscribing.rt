@@ -60,7 +60,11 @@ fn follow_all<R: Wait + Clock, W: Write, E: Write>(
 {
     tell_joined(errors, joined.opening.session, joined.place());
     let followed = follow(rt, alloc, plan, joined, output, errors, watch);
-    tell_refused(errors, joined.subscriber.refused(), strangers(joined, watch));
+    tell_refused(
+        errors,
+        joined.subscriber.refused(),
+        strangers(joined, watch),
+    );
     let (messages, ending) = followed?;
     leave(rt, joined, watch);
     Ok(Subscribed { messages, ending })

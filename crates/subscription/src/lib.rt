@@ -16,6 +16,8 @@ mod opening;
 mod window;
 
 pub use followed::{Followed, Notes};
-pub use invitation::{GREATEST_MESSAGE, id_of, ids_in, opened, opening_of, setup_in, takes_session};
+pub use invitation::{
+    GREATEST_MESSAGE, id_of, ids_in, opened, opening_of, setup_in, takes_session,
+};
 pub use opening::Opening;
 pub use window::window_of;
