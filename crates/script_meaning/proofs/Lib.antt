@@ -1,6 +1,7 @@
 pub mod Counted
 pub mod Honest
 mod HonestRows
+mod WholeRows
 pub mod InBounds
 pub mod Lone
 pub mod Numbers

@@ -27,6 +27,7 @@ pub mod Places
 pub mod Readings
 pub mod RefusalRows
 pub mod Rows
+mod ShareRows
 pub mod Single
 pub mod Spelled
 pub mod Stays
