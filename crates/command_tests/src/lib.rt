@@ -2,14 +2,15 @@
 //! greatest lengths: whether they print and tell what rows and scripts expect.
 #![tactic(auto)]
 
-mod faults;
+mod broken;
+mod bytes;
 mod lines;
 mod rows;
 mod run_options;
 mod streams;
 mod table;
 
-pub use faults::{faults_are_told, lengths_are_bounded};
 pub use lines::prints;
 pub use rows::{Found, play_rows};
 pub use run_options::are_told;
+pub use streams::{faults_are_told, lengths_are_bounded};

@@ -1,6 +1,6 @@
-//! Command lines, carried out.
+//! Command lines over streams of memory.
 
-use crate::streams::{Failing, Input, Output};
+use crate::bytes::Bytes;
 use crate::table::Done;
 use commands::command;
 use std::alloc::{AllocError, Global};
@@ -10,26 +10,17 @@ use std::sync::Wait;
 use std::thread::Threads;
 use std::time::Clock;
 
-/// Carries out a command line. The answer is what it tells, and its status.
-pub(crate) fn carry_out<
-    'a,
-    C: Threads + Wait + Clock + Net + RandomSource + Sync + Send + Copy + 'static,
->(rt: &C, alloc: Global, words: &'a [&'a str], input: Input, output: &mut Output) -> (Vec<u8>, u8) {
-    let mut errors = Vec::new(alloc);
-    let status = command(rt, alloc, words, input, output, &mut errors);
-    (errors, status)
-}
-
 /// Carries out a command line with this input.
 pub(crate) fn run_over<
     'a,
     C: Threads + Wait + Clock + Net + RandomSource + Sync + Send + Copy + 'static,
 >(rt: &C, alloc: Global, words: &'a [&'a str], input: &[u8]) -> Result<Done, AllocError> {
-    let mut output = Output::new(alloc, Failing::None);
-    let input = Input::of(alloc, input)?;
-    let (errors, status) = carry_out(rt, alloc, words, input, &mut output);
+    let mut output = Vec::new(alloc);
+    let mut errors = Vec::new(alloc);
+    let input = Bytes::new(alloc, input)?;
+    let status = command(rt, alloc, words, input, &mut output, &mut errors);
     Ok(Done {
-        output: output.bytes,
+        output,
         errors,
         status,
     })
