@@ -1,3 +1,4 @@
 pub mod Rests
 pub mod Halves
 pub mod Eights
+pub mod Handed

@@ -1,3 +1,4 @@
 pub mod Holdings
 pub mod Claimings
+pub mod Endings
 pub mod Lending

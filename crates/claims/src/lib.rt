@@ -6,17 +6,20 @@
 //! What is said of a claim is said of the two together: at most seven word steps, and a refusal justified by the words
 //! that they loaded or added to. A refused call gives the claimant back too (`Denied`).
 //!
-//! `Armed` and `Claim` can't be dropped, so a claimant has nothing open, and `close` asks for no more than all passes.
+//! `Armed` and `Claim` can't be dropped, so a claimant has nothing open: `close` asks for no more than all passes, and its
+//! book has each frame of each entry committed.
 #![tactic(auto)]
 
 mod armed;
 mod claim;
 mod claimant;
+mod closing;
 mod denied;
 mod parts;
 
 pub use armed::{Armed, arm, try_claim};
 pub use claim::Claim;
 pub use claimant::{Claimant, offer};
+pub use closing::close;
 pub use denied::Denied;
 pub use parts::{Parts, open};

@@ -21,6 +21,9 @@ pub trait FrameSource<L> {
     /// What its calls leave of it and of the log.
     ghost leaves: { Self → L → Self → L → Type 0 };
 
+    /// What a call that finds no frame has done to say so. Where others store the frames' words it looked, in that very call.
+    ghost looked: { Self → Self → Type 0 } = { λ _ _. Unit {0} };
+
     /// Reads the frame that is committed at the reader's position: a message's part is copied to the block's front, and
     /// the reader stays. There is none where the frame that begins there isn't known to be committed.
     fn next(&mut self, log: &mut L, block: &mut Block) -> Option<FrameHead>
@@ -30,6 +33,7 @@ pub trait FrameSource<L> {
         ensures found { IfSome result (λ head. ReadsNext grown (source self.old log.old) head block.old (source self.new log.new) block.new) }
         ensures read { IfSome result (λ _. has_read self.new log.new) }
         ensures none { IfNone result (FindsNone (source self.old log.old) block.old (source self.new log.new) block.new) }
+        ensures looked { IfNone result (looked self.old self.new) }
         ensures leaves { leaves self.old log.old self.new log.new }
         ensures stands { stands self.new log.new };
 

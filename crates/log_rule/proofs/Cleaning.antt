@@ -35,11 +35,11 @@ use Rattle.log_rule.proofs.Claimed.Tails.{elsewhere}
 use Rattle.log_rule.proofs.Claimed.Memories.{slot_apart, tail_is, tail_low, whole_words}
 use Rattle.log_rule.proofs.Claimed.Sures.{data_leaves, sure_on}
 use Rattle.log_rule.specs.declared.rule.Key.{Key}
-use Rattle.log_rule.specs.Edges.{AreCommitted, IsAmong, IsPlaced, begins_below, claimed_sum, committed_sum, in_entry}
+use Rattle.log_rule.specs.Edges.{AreCommitted, IsAmong, IsPlaced, begins_below, claimed_sum, committed_sum, in_entry, open_sum, open_weight}
 use Rattle.log_rule.specs.Kept.{Attends, IsKeeper, IsReader, Kept, keepers_of, readers_of}
 use Rattle.log_rule.specs.Table.{LogRuled, now_at}
 use Rattle.log_rule.specs.Keepings.{CleansWord, MayClean, keeping, least_of, with_keeping}
-use Rattle.log_rule.proofs.Sums.{claimed_by, covered, covering, parted, total_both}
+use Rattle.log_rule.proofs.Sums.{all_parted, claimed_by, covered, covering}
 use Rattle.log_rule.proofs.Edges.{edge_low}
 use Rattle.log_rule.proofs.Growing.{Grows, grows, placed_on, same_sum}
 use Rattle.log_rule.proofs.Resting.{rest_looks, rested_here}
@@ -47,9 +47,6 @@ use Rattle.log_rule.proofs.Known.{among_total}
 use Rattle.log_rule.proofs.Keeping.{least_low, not_keeper}
 
 -- ---- no open frame begins below a consumer
-
-same_at : {A : Type 0} (f g : A → ℕ) (xs : List A) → ((i : ℕ) (v : A) → get_elem? xs i ≡ some v → f v ≡ g v) → total f xs ≡ total g xs
-same_at f g xs e = let a = total_le f g xs (λ i v at. let x = e i v at in omega arith) in let c = total_le g f xs (λ i v at. let x = e i v at in omega arith) in omega arith
 
 -- a claim's frames aren't empty
 full_cuts : (p : ℕ) (cuts : List ℕ) → AllByRecursion (λ cut. 0 < cut) cuts → total (λ (r : Extent). 1 - r.bytes) (extents p cuts) ≡ 0
@@ -64,19 +61,11 @@ full_entries [] a = refl
 full_entries (e ∷ es) a = let r = full_entries es a.1 in let h = full_cuts e.start e.cuts a.0.entry.cuts in omega arith
 
 module _ (b : Bounds) (ws : List ℕ) (ps : List Pass) (r : Ruled b ws ps) where
-  drafts_sum : (Extent → ℕ) → Pass → ℕ
-  drafts_sum h v = total (λ f. h (extent_of f)) v.work.drafts
-
-  no_drafts : (p : ℕ) → AreCommitted ps p → total (drafts_sum (begins_below p)) ps ≡ 0
-  unfolding drafts_sum
-  no_drafts p done =
-      let h = begins_below p in
-      let split : claimed_sum h ps ≡ total (λ v. committed_weight (λ f. h (extent_of f)) v + drafts_sum h v) ps = same_at (weight (in_entry h)) (λ v. committed_weight (λ f. h (extent_of f)) v + drafts_sum h v) ps (λ i v at. parted b ws v (r.memory.each i v at) h) in
-      let two = total_both (committed_weight (λ f. h (extent_of f))) (drafts_sum h) ps in
-      none (claimed_sum h ps) (committed_sum h ps) (total (drafts_sum h) ps) (total (λ v. committed_weight (λ f. h (extent_of f)) v + drafts_sum h v) ps) done split two
+  no_drafts : (p : ℕ) → AreCommitted ps p → open_sum (begins_below p) ps ≡ 0
+  no_drafts p done = none (claimed_sum (begins_below p) ps) (committed_sum (begins_below p) ps) (open_sum (begins_below p) ps) done (all_parted b ws ps r.memory (begins_below p))
     where
-      none : (s c d x : ℕ) → s ≡ c → s ≡ x → x ≡ c + d → d ≡ 0
-      none s c d x e f g = omega arith
+      none : (s c d : ℕ) → s ≡ c → s ≡ c + d → d ≡ 0
+      none s c d e f = omega arith
 
   -- a frame has some words
   frame_full : (j : ℕ) (v : Pass) → get_elem? ps j ≡ some v → (f : FrameWords) → Among f (frames_of v) → 0 < length f.words
@@ -88,10 +77,9 @@ module _ (b : Bounds) (ws : List ℕ) (ps : List Pass) (r : Ruled b ws ps) where
       go n w t z e a = omega arith
 
   draft_above : (p : ℕ) → AreCommitted ps p → (j : ℕ) (v : Pass) → get_elem? ps j ≡ some v → (f : FrameWords) → Among f v.work.drafts → p ≤ f.start
-  unfolding drafts_sum
   draft_above p done j v at f among =
-      let z = no_drafts p done in let a = total_at (drafts_sum (begins_below p)) ps j v at in let c = among_total (λ g. begins_below p (extent_of g)) v.work.drafts f among in let long = frame_full j v at f (among_right f v.work.frames v.work.drafts among) in
-      go p f.start (length f.words) (total (λ g. begins_below p (extent_of g)) v.work.drafts) (total (drafts_sum (begins_below p)) ps) z a c long
+      let z = no_drafts p done in let a = total_at (open_weight (begins_below p)) ps j v at in let c = among_total (λ g. begins_below p (extent_of g)) v.work.drafts f among in let long = frame_full j v at f (among_right f v.work.frames v.work.drafts among) in
+      go p f.start (length f.words) (total (λ g. begins_below p (extent_of g)) v.work.drafts) (open_sum (begins_below p) ps) z a c long
     where
       go : (p s n d t : ℕ) → t ≡ 0 → d ≤ t → min 1 (min (8 * n) (p - s)) ≤ d → 0 < n → p ≤ s
       go p s n d t z a c long = omega arith

@@ -279,10 +279,10 @@ module _ (key : Key) (slots id : ℕ) (m : Mine) (place : ℕ) (r : Reading) (is
       let f : FrameWords = may.frame in let known : Among f r.known = subst (λ (y : Reading). Among f y.known) same may.known in let at_it : f.start ≡ r.position = may.here ∙ ap (λ (y : Reading). y.position) same in
       let among = all_at (IsAmong qs) f r.known cons.known known in let p : ℕ = r.position in let n : ℕ = 8 * length f.words in let d = done_of bs ws qs q.ruled f among in
       let long : 0 < n = twice (length f.words) (done_long bs.identity f d) in let ends : end ≡ p + n = may.ends ∙ ap (λ (z : ℕ). z + n) at_it in
-      let counts : (h : Extent → ℕ) → h (record { start = p; bytes = n }) ≤ claimed_sum h qs = λ h. subst (λ (z : ℕ). h (record { start = z; bytes = n }) ≤ claimed_sum h qs) at_it (among_claimed bs ws qs q.ruled f among h) in
-      let edge : IsEdge bs qs (p + n) = edge_behind bs ws qs q.ruled p n long counts in
+      let counts : (h : Extent → ℕ) → h (record { start = p; bytes = n; cut = f.cut }) ≤ claimed_sum h qs = λ h. subst (λ (z : ℕ). h (record { start = z; bytes = n; cut = f.cut }) ≤ claimed_sum h qs) at_it (among_claimed bs ws qs q.ruled f among h) in
+      let edge : IsEdge bs qs (p + n) = edge_behind bs ws qs q.ruled p n f.cut long counts in
       let one : 1 ≤ committed_sum (begins_at p) qs = (let a = among (λ g. begins_at p (extent_of g)) in first p f.start n (committed_sum (begins_at p) qs) long at_it a) in
-      let passed : AreCommitted qs (p + n) = passed_behind bs ws qs q.ruled p n long counts pl.passed one in
+      let passed : AreCommitted qs (p + n) = passed_behind bs ws qs q.ruled p n f.cut long counts pl.passed one in
       let there : IsPlaced bs qs end = subst (IsPlaced bs qs) (sym ends) record {
         unit = (let a = pl.unit in let c = words_cover bs.identity f d in units p n (frame_length d.content) a c);
         from = (let a = pl.from in up bs.start p n a);

@@ -40,7 +40,7 @@ edge_low b ws ps r p edge = ⊎_elim (λ (e : p ≡ tail_of b ps). omega arith)
 
 -- ---- behind a committed frame
 
-module _ (b : Bounds) (ws : List ℕ) (ps : List Pass) (r : Ruled b ws ps) (p n : ℕ) (some : 0 < n) (here : (h : Extent → ℕ) → h (record { start = p; bytes = n }) ≤ claimed_sum h ps) where
+module _ (b : Bounds) (ws : List ℕ) (ps : List Pass) (r : Ruled b ws ps) (p n c : ℕ) (some : 0 < n) (here : (h : Extent → ℕ) → h (record { start = p; bytes = n; cut = c }) ≤ claimed_sum h ps) where
   -- the last byte of the frame is in no other
   others : Extent → ℕ
   others x = covers (p + n) x.start x.bytes - begins_at (p + n) x
@@ -62,7 +62,7 @@ module _ (b : Bounds) (ws : List ℕ) (ps : List Pass) (r : Ruled b ws ps) (p n 
       go : (a c : ℕ) → a ≤ (a - c) + c
       go a c = omega arith
 
-  mine_here : 1 ≤ mine (record { start = p; bytes = n })
+  mine_here : 1 ≤ mine (record { start = p; bytes = n; cut = c })
   unfolding mine
   mine_here = go p n some
     where
@@ -77,8 +77,8 @@ module _ (b : Bounds) (ws : List ℕ) (ps : List Pass) (r : Ruled b ws ps) (p n 
       let begun = sum_up (covering (p + n)) (λ x. others x + begins_at (p + n) x) ps or_begins in let both' = sum_both others (begins_at (p + n)) ps in
       let one = here mine in let m = mine_here in
       dite (dec_le t (p + n))
-      (λ over. inl (ends p n b.start t (claimed_sum mine ps) (claimed_sum (λ x. others x + mine x) ps) (claimed_sum others ps) (claimed_sum (covering (p + n - 1)) ps) (mine (record { start = p; bytes = n })) m one both two last some over))
-      (λ under. inr (begins p n b.start t (claimed_sum mine ps) (claimed_sum (λ x. others x + mine x) ps) (claimed_sum others ps) (claimed_sum (covering (p + n - 1)) ps) (mine (record { start = p; bytes = n })) (claimed_sum (covering (p + n)) ps) (claimed_sum (λ x. others x + begins_at (p + n) x) ps) (claimed_sum (begins_at (p + n)) ps) m one both two last next begun both' some (lt_of_not-le under)))
+      (λ over. inl (ends p n b.start t (claimed_sum mine ps) (claimed_sum (λ x. others x + mine x) ps) (claimed_sum others ps) (claimed_sum (covering (p + n - 1)) ps) (mine (record { start = p; bytes = n; cut = c })) m one both two last some over))
+      (λ under. inr (begins p n b.start t (claimed_sum mine ps) (claimed_sum (λ x. others x + mine x) ps) (claimed_sum others ps) (claimed_sum (covering (p + n - 1)) ps) (mine (record { start = p; bytes = n; cut = c })) (claimed_sum (covering (p + n)) ps) (claimed_sum (λ x. others x + begins_at (p + n) x) ps) (claimed_sum (begins_at (p + n)) ps) m one both two last next begun both' some (lt_of_not-le under)))
     where
       ends : (p n s t m om o c one : ℕ) → 1 ≤ one → one ≤ m → om ≡ o + m → om ≤ c → c ≡ min 1 (min (p + n - 1 + 1 - s) (t - (p + n - 1))) → 0 < n → t ≤ p + n → p + n ≡ t
       ends p n s t m om o c one a d e f g some over = omega arith

@@ -48,7 +48,7 @@ either_words (x ∷ xs) (y ∷ ys) = ⊎_elim
 
 pub either_frame : (f g : FrameWords) → (f ≡ g) ⊎ (f ≢ g)
 either_frame f g = ⊎_elim
-    (λ (h : f.start ≡ g.start). ⊎_elim (λ (t : f.words ≡ g.words). inl (λ i. frame (h i) (t i))) (λ (n : f.words ≢ g.words). inr (λ e. n (ap (λ (x : FrameWords). x.words) e))) (either_words f.words g.words))
+    (λ (h : f.start ≡ g.start). ⊎_elim (λ (t : f.words ≡ g.words). ⊎_elim (λ (c : f.cut ≡ g.cut). inl (λ i. frame (h i) (c i) (t i))) (λ (n : f.cut ≢ g.cut). inr (λ e. n (ap (λ (x : FrameWords). x.cut) e))) (either_nat f.cut g.cut)) (λ (n : f.words ≢ g.words). inr (λ e. n (ap (λ (x : FrameWords). x.words) e))) (either_words f.words g.words))
     (λ (n : f.start ≢ g.start). inr (λ e. n (ap (λ (x : FrameWords). x.start) e)))
     (either_nat f.start g.start)
 

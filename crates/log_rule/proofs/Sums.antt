@@ -14,7 +14,7 @@ use Rattle.log_rule.specs.Claims.Memory.{Memory, Stored, tail_of}
 use Rattle.log_rule.specs.Claims.Events.{committed_weight}
 use Rattle.log_rule.proofs.Claimed.Totals.{total_append, total_at, total_flat, total_le, total_map, total_same}
 use Rattle.log_rule.proofs.Claimed.Memories.{cover_passes, held_by}
-use Rattle.log_rule.specs.Edges.{claimed_sum, committed_sum, in_entry}
+use Rattle.log_rule.specs.Edges.{claimed_sum, committed_sum, in_entry, open_sum, open_weight}
 
 -- ---- any list
 
@@ -25,6 +25,9 @@ total_up f g (x ∷ xs) le = let a = le x in let r = total_up f g xs le in omega
 pub total_both : {A : Type 0} (f g : A → ℕ) (xs : List A) → total (λ x. f x + g x) xs ≡ total f xs + total g xs
 total_both f g [] = refl
 total_both f g (x ∷ xs) = let r = total_both f g xs in omega arith
+
+pub total_at_each : {A : Type 0} (f g : A → ℕ) (xs : List A) → ((i : ℕ) (v : A) → get_elem? xs i ≡ some v → f v ≡ g v) → total f xs ≡ total g xs
+total_at_each f g xs e = let a = total_le f g xs (λ i v at. let x = e i v at in omega arith) in let c = total_le g f xs (λ i v at. let x = e i v at in omega arith) in omega arith
 
 -- a sum that isn't 0 has a summand that isn't
 pub record HasSome {A : Type 0} (f : A → ℕ) (xs : List A) : Type 0 where
@@ -76,6 +79,12 @@ claimed_by b ws v k h =
 
 pub parted : (b : Bounds) (ws : List ℕ) (v : Pass) → Stored b ws v → (h : Extent → ℕ) → weight (in_entry h) v ≡ committed_weight (λ f. h (extent_of f)) v + total (λ f. h (extent_of f)) v.work.drafts
 parted b ws v k h = claimed_by b ws v k h ∙ total_append (λ f. h (extent_of f)) v.work.frames v.work.drafts
+
+-- of all passes
+pub all_parted : (b : Bounds) (ws : List ℕ) (ps : List Pass) → Memory b ws ps → (h : Extent → ℕ) → claimed_sum h ps ≡ committed_sum h ps + open_sum h ps
+all_parted b ws ps m h =
+    total_at_each (weight (in_entry h)) (λ v. committed_weight (λ f. h (extent_of f)) v + open_weight h v) ps (λ i v at. parted b ws v (m.each i v at) h)
+    ∙ total_both (committed_weight (λ f. h (extent_of f))) (open_weight h) ps
 
 -- what is committed was claimed
 pub sum_less : (b : Bounds) (ws : List ℕ) (ps : List Pass) → Memory b ws ps → (h : Extent → ℕ) → committed_sum h ps ≤ claimed_sum h ps

@@ -20,6 +20,13 @@ claimed_sum h passes = total (weight (in_entry h)) passes
 abbrev pub committed_sum : (Extent → ℕ) → List Pass → ℕ
 committed_sum h passes = total (committed_weight (λ f. h (extent_of f))) passes
 
+-- over those that are open
+abbrev pub open_weight : (Extent → ℕ) → Pass → ℕ
+open_weight h v = total (λ f. h (extent_of f)) v.work.drafts
+
+abbrev pub open_sum : (Extent → ℕ) → List Pass → ℕ
+open_sum h passes = total (open_weight h) passes
+
 -- 1 where a range that isn't empty begins at a position, or below it
 abbrev pub begins_at : ℕ → Extent → ℕ
 begins_at p r = min r.bytes (1 - ((r.start - p) + (p - r.start)))

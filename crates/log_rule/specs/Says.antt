@@ -11,7 +11,7 @@ use Rattle.theory.specs.Refusal.{limit_in}
 use Rattle.theory.specs.Tiling.{Tiles, all_shares, share_of}
 use Rattle.publication.specs.declared.pass.FrameWords.{FrameWords}
 use Rattle.publication.specs.declared.pass.Pass.{Pass}
-use Rattle.publication.specs.Steps.{shown_position}
+use Rattle.publication.specs.Steps.{Extent, shown_position}
 use Rattle.log_rule.specs.declared.claims.view.View.{View}
 use Rattle.log_rule.specs.declared.rule.Key.{Key}
 use Rattle.log_rule.specs.Claims.Memory.{IsCommittedFrame}
@@ -19,7 +19,7 @@ use Rattle.log_rule.specs.Claims.Packs.{consumer_place, limit_place, slot, tail_
 use Rattle.log_rule.specs.Claims.Plays.{pass_in}
 use Rattle.log_rule.specs.Claims.Rule.{armed_of, weight}
 use Rattle.log_rule.specs.Claims.Sums.{total}
-use Rattle.log_rule.specs.Edges.{AreCommitted}
+use Rattle.log_rule.specs.Edges.{AreCommitted, committed_sum, in_entry, open_sum}
 use Rattle.log_rule.specs.Shares.{owner_bytes}
 use Rattle.log_rule.specs.Table.{LogRuled}
 
@@ -44,6 +44,8 @@ pub record Says (key : Key) (words : List ℕ) (passes : List Pass) : Type 0 whe
   pub tiles : Tiles key.identity.geometry.term_length key.start (tail_shown key.identity.geometry words) log
   -- they are what the passes claimed
   pub claimed : (h : Entry → ℕ) → total (weight h) passes ≡ total h log
+  -- each frame, committed or open, is one of an entry, where that has it and as long as that has it, and those are all
+  pub framed : (h : Extent → ℕ) → total (in_entry h) log ≡ committed_sum h passes + open_sum h passes
   -- each owner's share is what was claimed under its number, and all shares are all that was claimed
   pub shares : (owner : ℕ) → share_of owner log ≡ total (weight (owner_bytes owner)) passes
   pub whole : key.start + all_shares log ≡ tail_shown key.identity.geometry words

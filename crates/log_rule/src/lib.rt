@@ -1,18 +1,18 @@
 //! The rule of a log that threads share without a lock: what holds of its words and its passes between any two word
 //! steps, in any schedule, and the kinds of step that keep it.
 //!
-//! Of publishers' claims (`Ruled`): the claims of all publishers tile the stream from the start to the tail, which is
-//! the greatest that the three raw tails show; there is room; the words of committed frames stand, the first word of
-//! an open one is zero, and so is all from the tail on. Each kind of word step keeps that, is one event of the stream
-//! or a look (`steps_are_events`), and tells its pass what `publication` says of it. Who has all parts is sure of the
-//! limit, the active count and the three raw tails: each of its steps answers the very word that its earlier ones
-//! left.
+//! Of publishers' claims (`Ruled`): each frame, committed or open, is one of a claim, there and as long as the claim has
+//! it; the claims of all publishers tile the stream from the start to the tail, which is the greatest that the three raw
+//! tails show; there is room; the words of committed frames stand, the first word of an open one is zero, and so is all
+//! from the tail on. Each kind of word step keeps that, is one event of the stream or a look (`steps_are_events`), and
+//! tells its pass what `publication` says of it. Who has all parts is sure of the limit, the active count and the three
+//! raw tails: each of its steps answers the very word that its earlier ones left.
 //!
 //! Of the whole log (`LogRuled`), beside that: each consumer stands in whole units at a frame's edge, with no open
 //! claim and nothing uncommitted below it; a frame that a reader knows is committed; the keeper alone moves the limit
 //! and cleans, it cleans a word only where every consumer stands a term or more above it, and what may be claimed is
 //! clean. Each kind of step keeps it, and so do passes that are dealt, told what others committed, gathered, and that
-//! meet. `first_words` and `Ring` give the words of a log that opens, and their places.
+//! meet. `opening_words` gives the words of a log that opens, of which it holds, and `Ring` their places.
 //!
 //! Two laws say this in the words of streams, for any words and passes that a log's table may have: what there is then
 //! (`rule_says`), and that the steps of consumers and of the keeper change nothing of it (`others_are_looks`).
@@ -21,6 +21,7 @@
 mod claims;
 mod law;
 mod meeting;
+mod opening;
 mod rule;
 
 pub use claims::law::steps_are_events;
@@ -33,6 +34,7 @@ pub use claims::ring::Ring;
 pub use claims::view::{Origin, View};
 pub use law::{others_are_looks, rule_says};
 pub use meeting::{Meet, Met, Part, Settle, Show};
+pub use opening::opening_words;
 pub use rule::{
     Add, Carried, Clean, Consume, DealKeeper, DealPublisher, DealReader, Gather, HandOver, Key,
     LogRule, LookHere, News, Raise, Reread, Sweep, Swept, Tell, Weigh, Word,

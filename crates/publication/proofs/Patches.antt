@@ -42,25 +42,25 @@ patch_all a b c d m xs h =
 -- ---- in the open frame of a pass
 
 pub puts_none : (v : Pass) (p k : ℕ) → Puts v p k [] v
-puts_none v p k front words behind parts room = ap (λ (ds : List FrameWords). with_work v.work.frames ds v) parts
+puts_none v p k front cut words behind parts room = ap (λ (ds : List FrameWords). with_work v.work.frames ds v) parts
 
 pub puts_more : (v w y : Pass) (p k q x : ℕ) (xs : List ℕ) → 1 ≤ k → Puts v p k xs w → q ≡ p + 8 * (k + length xs) → Stores w q x y → Puts v p k (xs ++ x ∷ []) y
-puts_more v w y p k q x xs one puts at told front words behind parts room =
+puts_more v w y p k q x xs one puts at told front cut words behind parts room =
     let long : length (xs ++ x ∷ []) ≡ length xs + 1 = length-append xs (x ∷ []) in
-    let e : w ≡ with_work v.work.frames (front ++ frame p (patch words k xs) ∷ behind) v = puts front words behind parts (omega (arith, long)) in
-    let f : y ≡ with_work w.work.frames (front ++ written (frame p (patch words k xs)) (k + length xs) x ∷ behind) w =
-    told front (frame p (patch words k xs)) behind (k + length xs) (ap (λ (u : Pass). u.work.drafts) e) (omega arith) (omega (arith, long, patch_length words k xs)) at in
+    let e : w ≡ with_work v.work.frames (front ++ frame p cut (patch words k xs) ∷ behind) v = puts front cut words behind parts (omega (arith, long)) in
+    let f : y ≡ with_work w.work.frames (front ++ written (frame p cut (patch words k xs)) (k + length xs) x ∷ behind) w =
+    told front (frame p cut (patch words k xs)) behind (k + length xs) (ap (λ (u : Pass). u.work.drafts) e) (omega arith) (omega (arith, long, patch_length words k xs)) at in
     f
-    ∙ ap (λ (u : Pass). with_work u.work.frames (front ++ frame p (set (patch words k xs) (k + length xs) x) ∷ behind) u) e
-    ∙ ap (λ (l : List ℕ). with_work v.work.frames (front ++ frame p l ∷ behind) v) (sym (patch_snoc words k xs x))
+    ∙ ap (λ (u : Pass). with_work u.work.frames (front ++ frame p cut (set (patch words k xs) (k + length xs) x) ∷ behind) u) e
+    ∙ ap (λ (l : List ℕ). with_work v.work.frames (front ++ frame p cut l ∷ behind) v) (sym (patch_snoc words k xs x))
 
 -- the next word has its place there
 pub has_word : (v w : Pass) (p k q count : ℕ) (xs : List ℕ) → 1 ≤ k → HasRoom v p count → Puts v p k xs w → k + length xs < count → q ≡ p + 8 * (k + length xs) → HasWord w 1 q
 has_word v w p k q count xs one room puts below at =
-    let e : w ≡ with_work v.work.frames (room.front ++ frame p (patch room.words k xs) ∷ room.behind) v = puts room.front room.words room.behind room.parts (omega (arith, room.room)) in
+    let e : w ≡ with_work v.work.frames (room.front ++ frame p room.cut (patch room.words k xs) ∷ room.behind) v = puts room.front room.cut room.words room.behind room.parts (omega (arith, room.room)) in
     record {
       front = room.front;
-      draft = frame p (patch room.words k xs);
+      draft = frame p room.cut (patch room.words k xs);
       behind = room.behind;
       parts = ap (λ (u : Pass). u.work.drafts) e;
       place = k + length xs;
@@ -71,9 +71,10 @@ has_word v w p k q count xs one room puts below at =
 
 pub room_after : (v w : Pass) (p k count : ℕ) (xs : List ℕ) → HasRoom v p count → Puts v p k xs w → k + length xs ≤ count → HasRoom w p count
 room_after v w p k count xs room puts fit =
-    let e : w ≡ with_work v.work.frames (room.front ++ frame p (patch room.words k xs) ∷ room.behind) v = puts room.front room.words room.behind room.parts (omega (arith, room.room)) in
+    let e : w ≡ with_work v.work.frames (room.front ++ frame p room.cut (patch room.words k xs) ∷ room.behind) v = puts room.front room.cut room.words room.behind room.parts (omega (arith, room.room)) in
     record {
       front = room.front;
+      cut = room.cut;
       words = patch room.words k xs;
       behind = room.behind;
       parts = ap (λ (u : Pass). u.work.drafts) e;
@@ -81,14 +82,14 @@ room_after v w p k count xs room puts fit =
     }
 
 pub begins_after : (v : Pass) (p count : ℕ) → 0 < count → HasRoom v p count → BeginsFrame v p
-begins_after v p count some room = record { front = room.front; draft = frame p room.words; behind = room.behind; parts = room.parts; inside = omega (arith, room.room); position = refl }
+begins_after v p count some room = record { front = room.front; draft = frame p room.cut room.words; behind = room.behind; parts = room.parts; inside = omega (arith, room.room); position = refl }
 
 pub blank_room : (v : Pass) (p cut count : ℕ) → count ≤ aligned cut / 8 → HasBlank v p cut → HasRoom v p count
-blank_room v p cut count fit b = record { front = b.front; words = replicate (aligned cut / 8) 0; behind = b.behind; parts = b.parts; room = omega (arith, length-replicate {A = ℕ} (aligned cut / 8) 0) }
+blank_room v p cut count fit b = record { front = b.front; cut = cut; words = replicate (aligned cut / 8) 0; behind = b.behind; parts = b.parts; room = omega (arith, length-replicate {A = ℕ} (aligned cut / 8) 0) }
 
 -- what the call notes stays
 pub puts_call : (v w : Pass) (p k count : ℕ) (xs : List ℕ) → HasRoom v p count → k + length xs ≤ count → Puts v p k xs w → w.call ≡ v.call
-puts_call v w p k count xs room fit puts = ap (λ (u : Pass). u.call) (puts room.front room.words room.behind room.parts (omega (arith, room.room)))
+puts_call v w p k count xs room fit puts = ap (λ (u : Pass). u.call) (puts room.front room.cut room.words room.behind room.parts (omega (arith, room.room)))
 
 -- a header, a payload and the first word make a frame
 pub filled : (v w x y : Pass) (p first m : ℕ) (f : Frame) (b c d : ℕ) (ps : List ℕ) → aligned (frame_length f) / 8 ≡ suc (suc (suc (suc m))) → length ps ≤ m → frame_words v.identity p f ≡ first ∷ b ∷ c ∷ d ∷ (ps ++ replicate (m - length ps) 0)
@@ -96,17 +97,17 @@ pub filled : (v w x y : Pass) (p first m : ℕ) (f : Frame) (b c d : ℕ) (ps : 
 filled v w x y p first m f b c d ps long short words one two told front behind parts =
     let zs : List ℕ = 0 ∷ 0 ∷ 0 ∷ 0 ∷ replicate m 0 in
     let size : length zs ≡ suc (suc (suc (suc m))) = ap (λ (n : ℕ). suc (suc (suc (suc n)))) (length-replicate m 0) in
-    let e0 : v.work.drafts ≡ front ++ frame p (0 ∷ 0 ∷ 0 ∷ 0 ∷ replicate m 0) ∷ behind = parts ∙ ap (λ (n : ℕ). front ++ frame p (replicate n 0) ∷ behind) long in
-    let e1 : w ≡ with_work v.work.frames (front ++ frame p (patch zs 1 (b ∷ c ∷ d ∷ [])) ∷ behind) v = one front zs behind e0 (omega (arith, size)) in
-    let e2 : x ≡ with_work w.work.frames (front ++ frame p (patch (patch zs 1 (b ∷ c ∷ d ∷ [])) 4 ps) ∷ behind) w =
-    two front (patch zs 1 (b ∷ c ∷ d ∷ [])) behind (ap (λ (u : Pass). u.work.drafts) e1) (omega (arith, size, patch_length zs 1 (b ∷ c ∷ d ∷ []))) in
-    let e3 : y ≡ with_work (x.work.frames ++ written (frame p (patch (patch zs 1 (b ∷ c ∷ d ∷ [])) 4 ps)) 0 first ∷ []) (front ++ behind) x =
-    told front (frame p (patch (patch zs 1 (b ∷ c ∷ d ∷ [])) 4 ps)) behind (ap (λ (u : Pass). u.work.drafts) e2) (omega (arith, size, patch_length zs 1 (b ∷ c ∷ d ∷ []), patch_length (patch zs 1 (b ∷ c ∷ d ∷ [])) 4 ps)) refl in
+    let e0 : v.work.drafts ≡ front ++ frame p (frame_length f) (0 ∷ 0 ∷ 0 ∷ 0 ∷ replicate m 0) ∷ behind = parts ∙ ap (λ (n : ℕ). front ++ frame p (frame_length f) (replicate n 0) ∷ behind) long in
+    let e1 : w ≡ with_work v.work.frames (front ++ frame p (frame_length f) (patch zs 1 (b ∷ c ∷ d ∷ [])) ∷ behind) v = one front (frame_length f) zs behind e0 (omega (arith, size)) in
+    let e2 : x ≡ with_work w.work.frames (front ++ frame p (frame_length f) (patch (patch zs 1 (b ∷ c ∷ d ∷ [])) 4 ps) ∷ behind) w =
+    two front (frame_length f) (patch zs 1 (b ∷ c ∷ d ∷ [])) behind (ap (λ (u : Pass). u.work.drafts) e1) (omega (arith, size, patch_length zs 1 (b ∷ c ∷ d ∷ []))) in
+    let e3 : y ≡ with_work (x.work.frames ++ written (frame p (frame_length f) (patch (patch zs 1 (b ∷ c ∷ d ∷ [])) 4 ps)) 0 first ∷ []) (front ++ behind) x =
+    told front (frame p (frame_length f) (patch (patch zs 1 (b ∷ c ∷ d ∷ [])) 4 ps)) behind (ap (λ (u : Pass). u.work.drafts) e2) (omega (arith, size, patch_length zs 1 (b ∷ c ∷ d ∷ []), patch_length (patch zs 1 (b ∷ c ∷ d ∷ [])) 4 ps)) refl in
     let all : set (patch (patch zs 1 (b ∷ c ∷ d ∷ [])) 4 ps) 0 first ≡ frame_words v.identity p f = patch_all first b c d m ps short ∙ sym words in
     e3
-    ∙ ap (λ (u : Pass). with_work (u.work.frames ++ frame p (set (patch (patch zs 1 (b ∷ c ∷ d ∷ [])) 4 ps) 0 first) ∷ []) (front ++ behind) u) e2
-    ∙ ap (λ (u : Pass). with_work (u.work.frames ++ frame p (set (patch (patch zs 1 (b ∷ c ∷ d ∷ [])) 4 ps) 0 first) ∷ []) (front ++ behind) u) e1
-    ∙ ap (λ (l : List ℕ). with_work (v.work.frames ++ frame p l ∷ []) (front ++ behind) v) all
+    ∙ ap (λ (u : Pass). with_work (u.work.frames ++ frame p (frame_length f) (set (patch (patch zs 1 (b ∷ c ∷ d ∷ [])) 4 ps) 0 first) ∷ []) (front ++ behind) u) e2
+    ∙ ap (λ (u : Pass). with_work (u.work.frames ++ frame p (frame_length f) (set (patch (patch zs 1 (b ∷ c ∷ d ∷ [])) 4 ps) 0 first) ∷ []) (front ++ behind) u) e1
+    ∙ ap (λ (l : List ℕ). with_work (v.work.frames ++ frame p (frame_length f) l ∷ []) (front ++ behind) v) all
 
 -- and before the first word is stored they lack nothing but it
 pub completed : (v w x : Pass) (p first m : ℕ) (f : Frame) (b c d : ℕ) (ps : List ℕ) → aligned (frame_length f) / 8 ≡ suc (suc (suc (suc m))) → length ps ≤ m → frame_words v.identity p f ≡ first ∷ b ∷ c ∷ d ∷ (ps ++ replicate (m - length ps) 0)
@@ -114,19 +115,20 @@ pub completed : (v w x : Pass) (p first m : ℕ) (f : Frame) (b c d : ℕ) (ps :
 completed v w x p first m f b c d ps long short words blank legal one two =
     let zs : List ℕ = 0 ∷ 0 ∷ 0 ∷ 0 ∷ replicate m 0 in
     let size : length zs ≡ suc (suc (suc (suc m))) = ap (λ (n : ℕ). suc (suc (suc (suc n)))) (length-replicate m 0) in
-    let e0 : v.work.drafts ≡ blank.front ++ frame p (0 ∷ 0 ∷ 0 ∷ 0 ∷ replicate m 0) ∷ blank.behind = blank.parts ∙ ap (λ (n : ℕ). blank.front ++ frame p (replicate n 0) ∷ blank.behind) long in
-    let e1 : w ≡ with_work v.work.frames (blank.front ++ frame p (patch zs 1 (b ∷ c ∷ d ∷ [])) ∷ blank.behind) v = one blank.front zs blank.behind e0 (omega (arith, size)) in
-    let e2 : x ≡ with_work w.work.frames (blank.front ++ frame p (patch (patch zs 1 (b ∷ c ∷ d ∷ [])) 4 ps) ∷ blank.behind) w =
-    two blank.front (patch zs 1 (b ∷ c ∷ d ∷ [])) blank.behind (ap (λ (u : Pass). u.work.drafts) e1) (omega (arith, size, patch_length zs 1 (b ∷ c ∷ d ∷ []))) in
+    let e0 : v.work.drafts ≡ blank.front ++ frame p (frame_length f) (0 ∷ 0 ∷ 0 ∷ 0 ∷ replicate m 0) ∷ blank.behind = blank.parts ∙ ap (λ (n : ℕ). blank.front ++ frame p (frame_length f) (replicate n 0) ∷ blank.behind) long in
+    let e1 : w ≡ with_work v.work.frames (blank.front ++ frame p (frame_length f) (patch zs 1 (b ∷ c ∷ d ∷ [])) ∷ blank.behind) v = one blank.front (frame_length f) zs blank.behind e0 (omega (arith, size)) in
+    let e2 : x ≡ with_work w.work.frames (blank.front ++ frame p (frame_length f) (patch (patch zs 1 (b ∷ c ∷ d ∷ [])) 4 ps) ∷ blank.behind) w =
+    two blank.front (frame_length f) (patch zs 1 (b ∷ c ∷ d ∷ [])) blank.behind (ap (λ (u : Pass). u.work.drafts) e1) (omega (arith, size, patch_length zs 1 (b ∷ c ∷ d ∷ []))) in
     let same : x.identity ≡ v.identity = ap (λ (u : Pass). u.identity) e2 ∙ ap (λ (u : Pass). u.identity) e1 in
     record {
       front = blank.front;
-      draft = frame p (patch (patch zs 1 (b ∷ c ∷ d ∷ [])) 4 ps);
+      draft = frame p (frame_length f) (patch (patch zs 1 (b ∷ c ∷ d ∷ [])) 4 ps);
       behind = blank.behind;
       parts = ap (λ (u : Pass). u.work.drafts) e2;
       inside = omega (arith, size, patch_length zs 1 (b ∷ c ∷ d ∷ []), patch_length (patch zs 1 (b ∷ c ∷ d ∷ [])) 4 ps);
       position = refl;
       content = f;
       legal = subst (λ (i : Identity). IsLegal i.geometry f) (sym same) legal;
+      whole = refl;
       spelt = patch_all first b c d m ps short ∙ sym words ∙ ap (λ (i : Identity). frame_words i p f) (sym same);
     }

@@ -29,7 +29,7 @@ abbrev pub payload_words : List ℕ → List ℕ
 payload_words payload = words_in ((length payload + 7) / 8) payload
 
 abbrev pub frame_at : Identity → ℕ → Frame → FrameWords
-frame_at i p f = frame p (frame_words i p f)
+frame_at i p f = frame p (frame_length f) (frame_words i p f)
 
 -- frames that follow each other
 abbrev pub frames_at : Identity → ℕ → List Frame → List FrameWords
@@ -56,7 +56,8 @@ abbrev pub IsLegal : Geometry → Frame → Type 0
 IsLegal g (Data flags payload) = IsDataFlags flags × (32 + length payload ≤ g.mtu) × AllByRecursion (λ b. b < 256) payload
 IsLegal g (Pad n) = (32 ≤ n) × (n ≤ g.term_length)
 
--- the open frame that begins at this position is a frame of the stream, once this is its first word
+-- the open frame that begins at this position is a frame of the stream, of the length that was claimed, once this is its
+-- first word
 pub record CompletesFrame (v : Pass) (p x : ℕ) : Type 0 where
   pub front : List FrameWords
   pub draft : FrameWords
@@ -66,4 +67,5 @@ pub record CompletesFrame (v : Pass) (p x : ℕ) : Type 0 where
   pub position : p ≡ draft.start
   pub content : Frame
   pub legal : IsLegal (geometry_of v) content
+  pub whole : draft.cut ≡ frame_length content
   pub spelt : slice_set draft.words 0 x ≡ frame_words v.identity p content

@@ -14,15 +14,16 @@ patch old k (x ∷ xs) = patch (slice_set old k x) (suc k) xs
 
 -- words are stored in the open frame that begins here, from the kth on
 abbrev pub Puts : Pass → ℕ → ℕ → List ℕ → Pass → Type 0
-Puts v p k xs w = (front : List FrameWords) (words : List ℕ) (behind : List FrameWords) → v.work.drafts ≡ front ++ frame p words ∷ behind → k + length xs ≤ length words
-    → w ≡ with_work v.work.frames (front ++ frame p (patch words k xs) ∷ behind) v
+Puts v p k xs w = (front : List FrameWords) (cut : ℕ) (words : List ℕ) (behind : List FrameWords) → v.work.drafts ≡ front ++ frame p cut words ∷ behind → k + length xs ≤ length words
+    → w ≡ with_work v.work.frames (front ++ frame p cut (patch words k xs) ∷ behind) v
 
 -- one of the open frames begins here, and has so many words at least
 pub record HasRoom (v : Pass) (p count : ℕ) : Type 0 where
   pub front : List FrameWords
+  pub cut : ℕ
   pub words : List ℕ
   pub behind : List FrameWords
-  pub parts : v.work.drafts ≡ front ++ frame p words ∷ behind
+  pub parts : v.work.drafts ≡ front ++ frame p cut words ∷ behind
   pub room : count ≤ length words
 
 -- open frames of these lengths follow each other from here, and nothing of them is stored

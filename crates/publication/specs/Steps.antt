@@ -23,29 +23,30 @@ geometry_of v = v.identity.geometry
 abbrev pub term_of : Pass → ℕ
 term_of v = v.identity.geometry.term_length
 
--- ---- ranges of the stream, in bytes
+-- ---- ranges of the stream, in bytes, and the lengths without alignment of the frames that they are for
 
 pub record Extent : Type 0 where
   pub start : ℕ
   pub bytes : ℕ
+  pub cut : ℕ
 
 -- those of frames with these lengths, each beginning where the one before ends
 abbrev pub extents : ℕ → List ℕ → List Extent
 extents p [] = []
-extents p (cut ∷ cuts) = record { start = p; bytes = aligned cut } ∷ extents (p + aligned cut) cuts
+extents p (cut ∷ cuts) = record { start = p; bytes = aligned cut; cut = cut } ∷ extents (p + aligned cut) cuts
 
 abbrev pub ranges_of : ClaimRange → List Extent
 ranges_of c = extents c.start c.cuts
 
-abbrev pub frame : ℕ → List ℕ → FrameWords
-frame p ws = record { start = p; words = ws }
+abbrev pub frame : ℕ → ℕ → List ℕ → FrameWords
+frame p cut ws = record { start = p; cut = cut; words = ws }
 
 abbrev pub extent_of : FrameWords → Extent
-extent_of f = record { start = f.start; bytes = 8 * length f.words }
+extent_of f = record { start = f.start; bytes = 8 * length f.words; cut = f.cut }
 
 -- a frame of this length in which nothing is stored
 abbrev pub blank : ℕ → ℕ → FrameWords
-blank p cut = frame p (replicate (aligned cut / 8) 0)
+blank p cut = frame p cut (replicate (aligned cut / 8) 0)
 
 abbrev pub blanks : ℕ → List ℕ → List FrameWords
 blanks p [] = []
@@ -53,7 +54,7 @@ blanks p (cut ∷ cuts) = blank p cut ∷ blanks (p + aligned cut) cuts
 
 -- a word of a frame is stored
 abbrev pub written : FrameWords → ℕ → ℕ → FrameWords
-written f i x = frame f.start (slice_set f.words i x)
+written f i x = frame f.start f.cut (slice_set f.words i x)
 
 abbrev pub frames_of : Pass → List FrameWords
 frames_of v = v.work.frames ++ v.work.drafts

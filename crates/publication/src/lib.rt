@@ -11,7 +11,9 @@
 //! and only there, each once. Where nobody else steps between, the answer is the one that the tail, the active count
 //! and the limit make it (a lemma). No call takes memory or waits.
 //!
-//! Nothing but these calls claims or commits (`InOrder`): a message's frames are committed from the first to the last.
+//! Nothing but these calls claims or commits (`InOrder`): a message's frames are committed from the first to the last, and
+//! each as long as it was claimed. What a frame's words say and what a raw tail shows is told too (`head_in`, `put_word`,
+//! `position_shown`).
 #![tactic(auto)]
 
 mod claiming;
@@ -20,6 +22,7 @@ mod looking;
 mod offers;
 mod order;
 mod pass;
+mod read_words;
 mod refusal;
 mod step;
 mod tail;
@@ -32,8 +35,9 @@ pub use looking::{Look, look_at};
 pub use offers::{abort, commit, offer, try_claim};
 pub use order::InOrder;
 pub use pass::{ClaimRange, Controls, FrameWords, Keeping, Pass, Reading, Right, Seen, Work};
+pub use read_words::{head_in, put_bytes, put_word};
 pub use refusal::Refusal;
 pub use step::WordStep;
-pub use tail::term_offset;
+pub use tail::{position_shown, taken, term_offset};
 pub use turn::rotate;
 pub use words::WordCalls;

@@ -21,6 +21,8 @@ pub struct ClaimRange {
 pub struct FrameWords {
     /// The position at which it begins, a multiple of 32.
     pub start: u64,
+    /// Its length in bytes, without alignment: that of the claim's frame that it is.
+    pub cut: u64,
     pub words: LinkedList<u64>,
 }
 

@@ -1,9 +1,9 @@
 //! What the word of a raw tail says.
 
-ghost use Rattle.std.specs.Prelude.{◌≡◌, ◌+◌, ◌*◌, ◌^◌, ◌<◌, ◌↔◌, IsTrue};
+ghost use Rattle.std.specs.Prelude.{◌≡◌, ◌+◌, ◌-◌, ◌*◌, ◌^◌, ◌<◌, ◌↔◌, IsTrue, min};
 ghost use Rattle.theory.specs.Position.{id_of};
 ghost use Rattle.theory.specs.Words.{id_before, id_in, offset_in};
-ghost use Rattle.publication.specs.Steps.{count_in};
+ghost use Rattle.publication.specs.Steps.{count_in, shown_position};
 
 use position::Geometry;
 
@@ -44,6 +44,28 @@ pub(crate) fn is_two_before(geometry: &Geometry, word: u64, count: u32) -> bool
     ensures { IsTrue result ↔ (id_in word ≡ id_before geometry.now count 2) }
 {
     term_id(word) == geometry.id_of(count).wrapping_sub(2)
+}
+
+/// The position that a raw tail shows, or 0 where its partition isn't used yet.
+pub fn position_shown(geometry: &Geometry, word: u64) -> u64
+    ensures { result ≡ shown_position geometry.now word }
+{
+    let count = term_count(geometry, word);
+    if count >= 1 << 31 {
+        return 0;
+    }
+    position_at(
+        geometry,
+        count,
+        term_offset(word).min(geometry.term_length()),
+    )
+}
+
+/// How many bytes an addition takes, by the tail that it found: all, or what is left of the term.
+pub fn taken(geometry: &Geometry, word: u64, covered: u32) -> u32
+    ensures { result ≡ min covered (geometry.now.term_length - offset_in word) }
+{
+    covered.min(geometry.term_length().saturating_sub(term_offset(word)))
 }
 
 /// The position of an offset in the term with this count.

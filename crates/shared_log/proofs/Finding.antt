@@ -28,7 +28,7 @@ use Rattle.shared_log.proofs.Looking.{has_on, known_is, known_missing, known_on,
 
 -- which frame its words say
 pub content_is : (i : Identity) (f : FrameWords) → IsGeometry i.geometry → (d : IsCommittedFrame i f) → frame_in f ≡ d.content
-content_is i f g d = ap (λ (ws : List ℕ). frame_in (frame f.start ws)) d.spelt ∙ legal_said i f.start d.content g d.legal
+content_is i f g d = ap (λ (ws : List ℕ). frame_in (frame f.start f.cut ws)) d.spelt ∙ legal_said i f.start d.content g d.legal
 
 pub head_is : (i : Identity) (f : FrameWords) → IsGeometry i.geometry → (d : IsCommittedFrame i f) → head_by f.start (to_le_bytes w64 (slice_index f.words 0)) ≡ head_of f.start (frame_in f)
 head_is i f g d = ap (λ (ws : List ℕ). head_by f.start (to_le_bytes w64 (slice_index ws 0))) d.spelt ∙ head_said i f.start d.content g d.legal ∙ ap (head_of f.start) (sym (content_is i f g d))

@@ -16,8 +16,8 @@ use log_rule::{
     Add, Arm, COUNT, Chosen, Commit, Count, DATA, ExchangeCount, Key, LogRule, Next, Ring, Rotate,
     See, Store, View, packed, place_of,
 };
-use position::{Geometry, Identity};
-use publication::term_offset;
+use position::Identity;
+use publication::taken;
 use std::alloc::Global;
 use std::marker::Model;
 
@@ -94,13 +94,6 @@ impl Publisher {
     {
         self.start
     }
-}
-
-/// How many bytes an addition takes, by the tail that it found: all, or what is left of the term.
-fn taken(geometry: &Geometry, word: u64, covered: u32) -> u32
-    ensures { result ≡ min covered (geometry.now.term_length - offset_in word) }
-{
-    covered.min(geometry.term_length().saturating_sub(term_offset(word)))
 }
 
 impl Log {

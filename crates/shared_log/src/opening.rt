@@ -1,47 +1,15 @@
 //! A log that opens.
 
-ghost use Rattle.std.specs.Prelude.{◌≡◌, ◌%◌, ◌<◌, ◌≤◌, ◌↔◌, [], ◌∷◌, IfOk, IsErrOf, length};
-ghost use Rattle.theory.specs.Position.{IsGeometry, max_position};
+ghost use Rattle.std.specs.Prelude.{◌↔◌, IfOk, IsErrOf};
 ghost use Rattle.position.specs.Openings.{IsConsumerCount, IsStart};
-ghost use Rattle.log_rule.specs.Opening.{Begun};
-ghost use Rattle.log_rule.specs.Table.{LogRuled, whole_seat};
 ghost use Rattle.shared_log.specs.Handles.{IsLogOf, IsWholeNew};
 
 use crate::fault::LogError;
 use crate::log::{Log, Publisher};
 use atomic_table::Table;
-use log_rule::{CONSUMERS, Key, LINE, Origin, first_words};
+use log_rule::{Key, opening_words};
 use position::{Geometry, Identity};
-use std::alloc::{AllocError, Global};
-
-/// The limit and this many consumers stand at a start.
-fn begin(words: &mut Vec<u64>, start: u64, consumers: u64)
-    requires few { consumers ≤ 8 }
-    requires wide { 208 ≤ length words.old.items }
-    ensures { Begun start words.old.items consumers words.new.items }
-{
-    words[0] = start;
-    for number in 0..consumers {
-        words[number as usize * LINE + CONSUMERS] = start;
-    }
-}
-
-/// The words of a log that opens.
-fn words_of(alloc: Global, key: &Key) -> Result<Vec<u64>, AllocError>
-    requires geometry { IsGeometry key.now.identity.geometry }
-    requires unit { key.now.start % 32 ≡ 0 }
-    requires below { key.now.start < max_position key.now.identity.geometry }
-    requires count { IsConsumerCount key.now.consumers }
-    ensures { IfOk result (λ words. LogRuled key.now (record { words = words.items; homes = []; views = whole_seat key.now ∷ [] })) }
-{
-    let carried = Origin {
-        identity: key.identity,
-        start: key.start,
-    };
-    let mut words = first_words(alloc, &carried)?;
-    begin(&mut words, key.start, key.consumers);
-    Ok(words)
-}
+use std::alloc::Global;
 
 impl Log {
     /// A log that opens at a position, unconnected, with its limit at the start and so many consumers there, and its one
@@ -75,7 +43,7 @@ impl Log {
             start,
             consumers,
         };
-        let words = words_of(alloc, &key)?;
+        let words = opening_words(alloc, &key)?;
         let (table, seat) = Table::of_words(alloc, &words, &key)?;
         let log = Log {
             table,

@@ -1,8 +1,6 @@
 //! A reader of a log, and its steps.
 
-ghost use Rattle.std.specs.Prelude.{◌≡◌, ◌+◌, ◌*◌, ◌^◌, ◌<◌, ◌≤◌, ◌++◌, IfNone, IfSome, drop, length, take};
-ghost use Rattle.std.specs.Int.{w64, to_le_bytes};
-ghost use Rattle.publication.specs.Contents.{head_by};
+ghost use Rattle.std.specs.Prelude.{◌≡◌, ◌+◌, ◌*◌, ◌^◌, ◌<◌, ◌≤◌, IfNone, IfSome, length};
 ghost use Rattle.log_rule.specs.Claims.Packs.{slot};
 ghost use Rattle.log_rule.specs.Readings.{Looks};
 ghost use Rattle.shared_log.specs.Readers.{Advances, Copies, Finds, FindsNone, IsReaderOf, LoadsWord, MayReread, ReadsFrame, ReadsNone, Rereads, Rests, SameSeat};
@@ -15,6 +13,7 @@ use atomic_table::Seat;
 use block::Block;
 use log_rule::{CONSUMERS, Chosen, Consume, LINE, LookHere, Reread, View, Word};
 use position::{FrameHead, FrameKind, Identity, align32};
+use publication::{head_in, put_bytes, put_word};
 use std::marker::{Brand, Model};
 
 /// A reader of a log's committed frames, one of its consumers.
@@ -71,43 +70,6 @@ impl LogReader {
     {
         self.start
     }
-}
-
-/// The head of the frame that begins at a position with this word.
-fn head_in(word: u64, start: u64) -> FrameHead
-    ensures { result ≡ head_by start (to_le_bytes w64 word) }
-{
-    let [a, b, c, d, _, flags, kind, _] = word.to_le_bytes();
-    FrameHead {
-        start,
-        kind: if kind == 0 {
-            FrameKind::Pad
-        } else {
-            FrameKind::Data
-        },
-        flags,
-        frame_length: u32::from_le_bytes([a, b, c, d]),
-    }
-}
-
-/// Stores a word among bytes.
-#[inline(always)]
-fn put_word(bytes: &mut [u8], at: usize, word: u64)
-    requires inside { at + 8 ≤ length bytes.old }
-    ensures stored { bytes.new ≡ take at bytes.old ++ (take 8 (to_le_bytes w64 word) ++ drop (at + 8) bytes.old) }
-    ensures same_length { length bytes.new ≡ length bytes.old }
-{
-    bytes[at..at + 8].copy_from_slice(&word.to_le_bytes());
-}
-
-/// Stores a word's first bytes among bytes.
-fn put_bytes(bytes: &mut [u8], at: usize, word: u64, count: usize)
-    requires few { count ≤ 8 }
-    requires inside { at + count ≤ length bytes.old }
-    ensures stored { bytes.new ≡ take at bytes.old ++ (take count (to_le_bytes w64 word) ++ drop (at + count) bytes.old) }
-    ensures same_length { length bytes.new ≡ length bytes.old }
-{
-    bytes[at..at + count].copy_from_slice(&word.to_le_bytes()[..count]);
 }
 
 /// Loads the first word where the reader stands.

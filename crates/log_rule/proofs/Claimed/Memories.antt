@@ -189,7 +189,7 @@ blanks_from c p (cut ∷ cuts) le = (le, blanks_from c (p + aligned cut) cuts (o
 
 blanks_extents : (p : ℕ) (cuts : List ℕ) → map extent_of (blanks p cuts) ≡ extents p cuts
 blanks_extents p [] = refl
-blanks_extents p (cut ∷ cuts) = λ i. record { start = p; bytes = bytes_is i } ∷ blanks_extents (p + aligned cut) cuts i
+blanks_extents p (cut ∷ cuts) = λ i. record { start = p; bytes = bytes_is i; cut = cut } ∷ blanks_extents (p + aligned cut) cuts i
   where
     bytes_is : 8 * length (replicate {A = ℕ} (aligned cut / 8) 0) ≡ aligned cut
     bytes_is = let l : length (replicate {A = ℕ} (aligned cut / 8) 0) ≡ aligned cut / 8 = length-replicate (aligned cut / 8) 0 in omega arith

@@ -56,7 +56,7 @@ pub record Rewrites (b : Bounds) (v : Pass) (pre : List FrameWords) (d : FrameWo
   pub kept : AllByRecursion (λ f. b.cleaned ≤ f.start) w.work.drafts
 
 same_extents : (pre : List FrameWords) (d : FrameWords) (post : List FrameWords) (k n : ℕ) → map extent_of (pre ++ d ∷ post) ≡ map extent_of (pre ++ written d k n ∷ post)
-same_extents [] d post k n = λ i. record { start = d.start; bytes = 8 * sym (length-set d.words k n) i } ∷ map extent_of post
+same_extents [] d post k n = λ i. record { start = d.start; bytes = 8 * sym (length-set d.words k n) i; cut = d.cut } ∷ map extent_of post
 same_extents (f ∷ pre) d post k n = ap (λ l. extent_of f ∷ l) (same_extents pre d post k n)
 
 covered_parts : (x : ℕ) (pre : List FrameWords) (d : FrameWords) (post : List FrameWords) → Covered x (pre ++ d ∷ post) ≡ Covered x pre + (covers x d.start (8 * length d.words) + Covered x post)

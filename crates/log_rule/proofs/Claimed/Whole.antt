@@ -199,7 +199,7 @@ sum_front h fs ps qs x =
 
 -- the frame that it leaves
 pub completed : (v : Pass) (p n : ℕ) (h : CompletesFrame v p n) → 0 < n → IsCommittedFrame v.identity (written h.draft 0 n)
-completed v p n h first = record { first = subst (λ (z : ℕ). 0 < z) (sym (first_set h.draft.words n h.inside)) first; content = h.content; legal = h.legal; spelt = h.spelt ∙ ap (λ (q : ℕ). frame_words v.identity q h.content) h.position }
+completed v p n h first = record { first = subst (λ (z : ℕ). 0 < z) (sym (first_set h.draft.words n h.inside)) first; content = h.content; legal = h.legal; whole = h.whole; spelt = h.spelt ∙ ap (λ (q : ℕ). frame_words v.identity q h.content) h.position }
 
 commit_at : (id : ℕ) (v : Pass) (p n : ℕ) → CompletesFrame v p n → 0 < n → (b : Bounds) → Admits (Ruled (read_off b v)) id v (slot (geometry_of v) p) (λ _. n) (λ _ w. Same v w × Commits v p n w)
 commit_at id v p n h first b' ws ps r at =

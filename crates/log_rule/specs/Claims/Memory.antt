@@ -7,7 +7,7 @@ use Rattle.std.specs.List.{AllByRecursion, flat_map}
 use mathlib.Core.Option.{some}
 use lib.ListN.{get_elem?}
 use Rattle.theory.specs.Entry.{length_of}
-use Rattle.theory.specs.Placed.{Frame}
+use Rattle.theory.specs.Placed.{Frame, frame_length}
 use Rattle.theory.specs.Bytes.{Identity}
 use Rattle.publication.specs.declared.pass.FrameWords.{FrameWords}
 use Rattle.publication.specs.declared.pass.Pass.{Pass}
@@ -25,11 +25,12 @@ tail_of b passes = b.start + total (weight length_of) passes
 abbrev pub StandsInTable : Bounds → List ℕ → FrameWords → Type 0
 StandsInTable b words f = (i : ℕ) → i < length f.words → b.cleaned ≤ f.start + 8 * i → slice_index words (slot (shape_of b) (f.start + 8 * i)) ≡ slice_index f.words i
 
--- it is a frame of the stream, whole
+-- it is a frame of the stream, whole, of the length that was claimed
 pub record IsCommittedFrame (i : Identity) (f : FrameWords) : Type 0 where
   pub first : 0 < slice_index f.words 0
   pub content : Frame
   pub legal : IsLegal i.geometry content
+  pub whole : f.cut ≡ frame_length content
   pub spelt : f.words ≡ frame_words i f.start content
 
 abbrev pub IsOpen : FrameWords → Type 0

@@ -2,37 +2,15 @@
 
 ghost use Rattle.std.specs.Prelude.{◌≡◌, ℕ, ◌+◌, ◌%◌, ◌^◌, ◌<◌, ◌≤◌, []};
 ghost use Rattle.log_rule.specs.Claims.Plays.{no_keeping};
-ghost use Rattle.publication.specs.Steps.{count_in, geometry_of, shown_position};
+ghost use Rattle.publication.specs.Steps.{geometry_of};
 ghost use Rattle.shared_log.specs.Books.{IsIdle};
 ghost use Rattle.shared_log.specs.Meets.{Meets, SeatStays, SeesTails, Shows};
 
 use crate::log::{Log, Publisher};
 use atomic_table::Seat;
 use log_rule::{Chosen, Meet, Met, Part, Settle, Show, View, place_of};
-use position::Geometry;
-use publication::term_offset;
+use publication::position_shown;
 use std::marker::Brand;
-
-/// The count of a raw tail's id.
-fn term_count(geometry: &Geometry, word: u64) -> u32
-    ensures { result ≡ count_in geometry.now word }
-{
-    let id = ((word >> 32) as u32).cast_signed();
-    let count = id.wrapping_sub(geometry.initial_term_id());
-    count.cast_unsigned()
-}
-
-/// The position that a raw tail shows, or 0 where its partition isn't used yet.
-fn position_of(geometry: &Geometry, word: u64) -> u64
-    ensures { result ≡ shown_position geometry.now word }
-{
-    let count = term_count(geometry, word);
-    if count >= 1 << 31 {
-        return 0;
-    }
-    let length = geometry.term_length();
-    u64::from(count) * u64::from(length) + u64::from(term_offset(word).min(length))
-}
 
 /// Loads the raw tail of a partition. The answer is the position that it shows.
 fn shown_as<N: Chosen>(log: &Log, seat: &mut Seat<(), View>, partition: u32) -> u64
@@ -46,7 +24,7 @@ fn shown_as<N: Chosen>(log: &Log, seat: &mut Seat<(), View>, partition: u32) -> 
 {
     let words = &log.table.shared;
     let word = words.load::<Show<N>>(seat, place_of(partition));
-    position_of(&log.identity().geometry(), word)
+    position_shown(&log.identity().geometry(), word)
 }
 
 /// Loads the three raw tails. The answer is the greatest position that they show.

@@ -1,7 +1,7 @@
 //! A reader of a log that threads share, as a source of frames.
 
-ghost use Rattle.std.specs.Prelude.{◌≡◌, ◌<◌, refl};
-ghost use Rattle.shared_log.specs.Readers.{IsReaderOf};
+ghost use Rattle.std.specs.Prelude.{◌≡◌, ◌<◌, refl, suc};
+ghost use Rattle.shared_log.specs.Readers.{IsReaderOf, misses_of};
 ghost use Rattle.shared_log.specs.Sourced.{Grows, StaysOn, frames_stay, grows_on, source_of, stays_on};
 
 use crate::log::Log;
@@ -27,6 +27,9 @@ impl<'a, L> FrameSource<L> for LogFrames<'a> {
     ghost has_read = { λ s l. s.reader.position < s.reader.read_to };
 
     ghost leaves = { λ s l t m. StaysOn s.log.now s.reader t.log.now t.reader × (m ≡ l) };
+
+    // The word where the reader stands was loaded once more, and found zero.
+    ghost looked = { λ s t. misses_of t.reader ≡ suc (misses_of s.reader) };
 
     fn next(&mut self, log: &mut L, block: &mut Block) -> Option<FrameHead> {
         crate::reader::next(self.log, &mut self.reader, block)

@@ -27,5 +27,5 @@ returns-clause-told g c =
       loaded = c.load-word.ensures.2.2;
       noted = c.load-word.ensures.2.1 ∙ ap (λ (p : ℕ). with_tail me.0.controls (p % 3) c.load-word.result) c.requires.chosen;
       told = subst (λ (x : ℕ × Pass). ShowsTail v (x.0 % 3) c.load-word.result x.1) (λ i. (c.requires.chosen i, told.same i)) told;
-      is = c.position_of.ensures ∙ ap (λ (y : Geometry). shown_position y c.load-word.result) (c.geometry.ensures.value ∙ ap (λ (i : Identity). i.geometry) c.identity.ensures ∙ sym c.requires.shape);
+      is = c.position_shown.ensures ∙ ap (λ (y : Geometry). shown_position y c.load-word.result) (c.geometry.ensures.value ∙ ap (λ (i : Identity). i.geometry) c.identity.ensures ∙ sym c.requires.shape);
     }

@@ -1,6 +1,6 @@
 use Rattle.log_rule.proofs.Beginning.{origin_of, opens}
 use Rattle.log_rule.proofs.Claimed.Begun.{sound_key}
-use Rattle.shared_log.proofs.opening.words_of.Goals as goal
+use Rattle.log_rule.proofs.opening.opening_words.Goals as goal
 
 pub first_words-requires : goal.first_words-requires
 first_words-requires c = sound_key (origin_of c.args.key.now) c.requires.geometry c.requires.unit c.requires.below
