@@ -4,7 +4,7 @@ use Rattle.std.proofs.Common.{refl, inl, inr, arith}
 use Rattle.theory.specs.Entry.{entry_end}
 use Rattle.theory.specs.Insert.{Stored}
 use Rattle.theory.specs.Consumer.{Consumer, consumer_at, moved, passed_by}
-use Rattle.theory.specs.Image.{Image, image_at, after_insert, Inserted, Poll}
+use Rattle.theory.specs.Image.{Image, image_at, after_insert, Inserted, Lose, Poll}
 use Rattle.model.specs.Log.{Log, entry_for, with_frame, aborted_at, Connect, Raise, Arm, Add, Commit, Abort, Join, Leave, Move, Pass}
 use Rattle.theory.specs.Resend.{answered}
 use Rattle.model.specs.Sender.{Sender, after_nak, after_status, in_cycle, SendSetup, HearStatus, Send, HearNak, Resend}
@@ -241,11 +241,14 @@ b10 = record b9 { consumers = c10 ∷ consumer_at 65088 ∷ [] }
 abbrev b11 : Image
 b11 = record b10 { consumers = c10 ∷ moved (consumer_at 65088) begin ∷ [] }
 
+abbrev b12 : Image
+b12 = record b11 { consumers = c10 ∷ passed_by (moved (consumer_at 65088) begin) end ∷ [] }
+
 abbrev last : World
-last = world log24 sender5 (both (Some a10) (Some b11))
+last = world log24 sender5 (both (Some a10) (Some b12))
 
 abbrev rest_42 : List Event
-rest_42 = AtImage 3 (Poll 0 tripped) ∷ AtImage 3 (Poll 0 abc) ∷ AtImage 3 (Poll 1 begin) ∷ []
+rest_42 = AtImage 3 (Poll 0 tripped) ∷ AtImage 3 (Poll 0 abc) ∷ AtImage 3 (Poll 1 begin) ∷ AtImage 3 (Lose 1 end) ∷ []
 
 from_42 : Run (world log24 sender5 (both (Some a10) (Some b8))) rest_42 last
 from_42 = (
@@ -257,7 +260,11 @@ from_42 = (
     (
       world log24 sender5 (both (Some a10) (Some b11)),
       (b10, b11, refl, (consumer_at 65088, refl, record { among = inr (inr (inr (inr (inl refl)))); here = refl }, refl, refl), refl),
-      refl,
+      (
+        world log24 sender5 (both (Some a10) (Some b12)),
+        (b11, b12, refl, (moved (consumer_at 65088) begin, refl, record { among = inr (inr (inr (inl refl))); here = refl }, refl), refl),
+        refl,
+      ),
     ),
   ),
 )
@@ -511,4 +518,4 @@ from_0 = (
 )
 
 pub it_runs : ItRuns
-it_runs = (is_opened, (last, from_0, record { one = a10; one_there = refl; one_polled = refl; other = b11; other_there = refl; other_window = refl; other_polled = refl; readers = refl; tail = refl; shares = (refl, refl) }))
+it_runs = (is_opened, (last, from_0, record { one = a10; one_there = refl; one_polled = refl; other = b12; other_there = refl; other_window = refl; other_polled = refl; readers = refl; tail = refl; shares = (refl, refl) }))

@@ -17,4 +17,5 @@ pub mod Opens
 pub mod Contents
 pub mod Spent
 pub mod StepsKept
+mod Shorts
 mod WorldRows

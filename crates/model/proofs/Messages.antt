@@ -18,7 +18,7 @@ use Rattle.model.proofs.Consumers.{heard}
 use Rattle.theory.proofs.Follow.{chain_from, chain_le}
 
 -- what is read from c on is not among the frames that start before c
-later_only : (front frames read : List Placed) (c q : ℕ) → AllByRecursion (λ s. s.at < c) front → Chain c q read → AllAmong (front ++ frames) read → AllAmong frames read
+pub later_only : (front frames read : List Placed) (c q : ℕ) → AllByRecursion (λ s. s.at < c) front → Chain c q read → AllAmong (front ++ frames) read → AllAmong frames read
 later_only front frames read c q before chain among =
     all_from (λ s. Among s frames) read
     (λ s a. ⊎_elim
@@ -79,7 +79,7 @@ eqb-suc a b =
     (cases_eq a b)
 
 -- what a piece leaves, by its flags
-last_begun : (first : Bool) (b : Option (List ℕ)) (given : List (List ℕ)) (payload : List ℕ) → (after (record { begun = b; given = given }) (Data (flags_of first []) payload)).begun ≡ None
+pub last_begun : (first : Bool) (b : Option (List ℕ)) (given : List (List ℕ)) (payload : List ℕ) → (after (record { begun = b; given = given }) (Data (flags_of first []) payload)).begun ≡ None
 last_begun true b given payload = refl
 last_begun false None given payload = refl
 last_begun false (Some y) given payload = refl
@@ -100,11 +100,11 @@ more_joined false None given cut cuts flags payload fs = refl
 more_joined false (Some y) given cut cuts flags payload fs = ap Some (append_assoc y payload (flat_map payload_of fs))
 
 -- what starts where a frame does is that frame
-head_read : (x : ℕ) (f : Frame) (rest : List Placed) (s : Placed) → Among s (record { at = x; frame = f } ∷ rest) → s.at ≡ x → InOrder (x + aligned (frame_length f)) rest → 0 < aligned (frame_length f) → s ≡ record { at = x; frame = f }
+pub head_read : (x : ℕ) (f : Frame) (rest : List Placed) (s : Placed) → Among s (record { at = x; frame = f } ∷ rest) → s.at ≡ x → InOrder (x + aligned (frame_length f)) rest → 0 < aligned (frame_length f) → s ≡ record { at = x; frame = f }
 head_read x f rest s (inl e) at order long = e
 head_read x f rest s (inr a) at order long = let later : x + aligned (frame_length f) ≤ s.at = in_order_from (x + aligned (frame_length f)) rest s order a in absurd (omega arith)
 
-rest_in_order : (x : ℕ) (cuts : List ℕ) (fs : List Frame) (es : List Entry) → AreCut cuts fs → InOrder (x + span cuts) (committed es) → InOrder x (place_all x fs ++ committed es)
+pub rest_in_order : (x : ℕ) (cuts : List ℕ) (fs : List Frame) (es : List Entry) → AreCut cuts fs → InOrder (x + span cuts) (committed es) → InOrder x (place_all x fs ++ committed es)
 rest_in_order x cuts fs es cut order = InOrder-append x (x + span cuts) (place_all x fs) (committed es) (placed_in_order x fs) (placed_below x cuts fs cut) (omega arith) order
 
 -- from the start of a piece
@@ -164,7 +164,7 @@ reads_on q es k makes first x (cut ∷ (cut' ∷ cuts)) (Data flags payload ∷ 
 
 -- ---- from within an entry
 
-long_rest : (first : Bool) (x : ℕ) (cuts : List ℕ) (fs : List Frame) (s : Placed) → ArePieces first cuts fs → AllByRecursion (λ cut. 0 < cut) cuts → Among s (place_all x fs) → 0 < span cuts
+pub long_rest : (first : Bool) (x : ℕ) (cuts : List ℕ) (fs : List Frame) (s : Placed) → ArePieces first cuts fs → AllByRecursion (λ cut. 0 < cut) cuts → Among s (place_all x fs) → 0 < span cuts
 long_rest first x cuts [] s h pos a = absurd a
 long_rest first x [] (f ∷ fs) s h pos a = absurd h
 long_rest first x (cut ∷ cuts) (f ∷ fs) s h pos a = omega (arith, pos.0)
@@ -196,11 +196,11 @@ skips q es k makes first x (cut ∷ cuts) (f ∷ fs) a c s ss b pos pieces order
 -- ---- a padding
 
 -- what is read of a padding is the padding, and no assembler hears it
-record ReadsPadding (x : ℕ) (cuts : List ℕ) (s : Placed) : Type 0 where
-  end : end_of s ≡ x + span cuts
-  unheard : (a : Assembly) → after a s.frame ≡ a
+pub record ReadsPadding (x : ℕ) (cuts : List ℕ) (s : Placed) : Type 0 where
+  pub end : end_of s ≡ x + span cuts
+  pub unheard : (a : Assembly) → after a s.frame ≡ a
 
-padding_read : (x : ℕ) (cuts : List ℕ) (fs : List Frame) (s : Placed) → ArePadding cuts fs → Among s (place_all x fs) → ReadsPadding x cuts s
+pub padding_read : (x : ℕ) (cuts : List ℕ) (fs : List Frame) (s : Placed) → ArePadding cuts fs → Among s (place_all x fs) → ReadsPadding x cuts s
 padding_read x cuts [] s h a = absurd a
 padding_read x [] (f ∷ fs) s h a = absurd h
 padding_read x (cut ∷ (more ∷ cuts)) (f ∷ fs) s h a = absurd h
@@ -224,7 +224,7 @@ between_at c q e p l =
 padding_between : (c q : ℕ) (e : Entry) → e.padding ≡ true → is_between c q e ≡ false
 padding_between c q e p = ap (λ b. not b && is_whole e && nat_le c e.start && nat_le (entry_end e) q) p
 
-entry_before : (e : Entry) → IsEntry e → AllByRecursion (λ y. y.at < entry_end e) (place_all e.start e.frames)
+pub entry_before : (e : Entry) → IsEntry e → AllByRecursion (λ y. y.at < entry_end e) (place_all e.start e.frames)
 entry_before e is = placed_before e.start e.cuts e.frames (are_cut e.padding e.cuts e.frames is.frames) is.cuts
 
 in_entry : (term p tail q : ℕ) (e : Entry) (es : List Entry) → Tiles term p tail (e ∷ es) → AllByRecursion IsEntry (e ∷ es) → Makes q es → (c : ℕ) (s : Placed) (ss : List Placed) (a : Assembly) → a.begun ≡ None → Chain c q (s ∷ ss) → AllAmong (committed (e ∷ es)) (s ∷ ss) → (padding : Bool) → e.padding ≡ padding → Among s (place_all e.start e.frames) → (heard a (s ∷ ss)).given ≡ a.given ++ messages c q (e ∷ es)

@@ -6,9 +6,11 @@ use Rattle.theory.specs.Bytes.{Byte}
 use Rattle.theory.specs.Consumer.{Consumer, consumer_at}
 use Rattle.theory.specs.GroupLimit.{StatusCame}
 use Rattle.theory.specs.Resend.{Action}
-use Rattle.model.specs.Headline.{HasLogBytes}
+use Rattle.model.specs.ExampleRun.{log_at_start, start, world_at_start}
+use Rattle.model.specs.Headline.{HasLogBytes, IsReadable}
 use Rattle.model.specs.Log.{Log, LogStep, Add, Arm, Clean, Close, Connect, Leave, Raise, Retire}
 use Rattle.model.specs.Sender.{Sender, SenderStep, HearNak, See, Send, in_cycle, sender_limit}
+use Rattle.model.specs.World.{World, opened_sender}
 use Rattle.theory.proofs.Rows.{abc, frame_of, the_geometry}
 use Rattle.model.proofs.LogRows.{log_at}
 
@@ -125,3 +127,24 @@ waits = (refl, tt, tt, refl)
 
 limits : (sender_limit 0 half_heard ∷ sender_limit 0 one_silent ∷ sender_limit 0 one_left ∷ []) ≡ (0 ∷ 64 ∷ 32768 ∷ [])
 limits = refl
+
+-- ---- what may still be read
+
+abbrev cleaned_to : ℕ → ℕ → ℕ → World
+cleaned_to cleaned at reader = record world_at_start {
+  log = record log_at_start { cleaned = cleaned; readers = Some (consumer_at reader) ∷ [] };
+  sender = record (opened_sender start None) { at = at };
+}
+
+-- cleaned up to a term behind the sender and the reader, and not one word further behind either
+just_cleaned : IsReadable (cleaned_to 65120 130656 130656)
+just_cleaned = record { sender = omega arith; readers = (omega arith, tt); unit = refl }
+
+no_cleaned_past_sender : IsReadable (cleaned_to 65128 130656 196192) → ⊥
+no_cleaned_past_sender h = absurd (omega (arith, h.sender))
+
+no_cleaned_past_reader : IsReadable (cleaned_to 65128 196192 130656) → ⊥
+no_cleaned_past_reader h = absurd (omega (arith, h.readers.0))
+
+no_limit_within_a_unit : IsReadable (record world_at_start { log = record log_at_start { limit = 65089 } }) → ⊥
+no_limit_within_a_unit h = absurd (omega (arith, h.unit))

@@ -1,11 +1,11 @@
--- A run that there is: a message in two frames, a claim that is aborted, a trip of the term's end, a message in the next term; two images, one of which loses a frame and gets the others out of order, and one with two consumers, of which one lags; a sender to a group of two, which begins once both were heard; readers of the log that pass a frame by, and that join in the middle of a message.
+-- A run that there is: a message in two frames, a claim that is aborted, a trip of the term's end, a message in the next term; two images, one of which loses a frame and gets the others out of order, and one with two consumers, of which one lags, and whose assembler loses a frame; a sender to a group of two, which begins once both were heard; readers of the log that pass a frame by, and that join in the middle of a message.
 use Rattle.std.specs.Prelude.{◌≡◌, ℕ, pos, true, false, List, [], ◌∷◌, ◌++◌, replicate, None, Some, slice_get, ◌<◌, ◌%◌}
 use Rattle.theory.specs.Position.{IsGeometry, max_position}
 use Rattle.theory.specs.Placed.{Data, Pad, Placed}
 use Rattle.theory.specs.Tiling.{share_of}
 use Rattle.theory.specs.Bytes.{Identity, IsIdentity}
 use Rattle.theory.specs.Consumer.{Consumer, consumer_at}
-use Rattle.theory.specs.Image.{Image, Inserted, Poll}
+use Rattle.theory.specs.Image.{Image, Inserted, Lose, Poll}
 use Rattle.model.specs.Log.{Abort, Add, Arm, Commit, Connect, Join, Leave, Log, Move, Pass, Raise}
 use Rattle.model.specs.Sender.{HearNak, HearStatus, Resend, Send, SendSetup}
 use Rattle.model.specs.World.{AtImage, AtLog, AtSender, Event, IsOpened, Open, Run, World, opened_sender}
@@ -66,7 +66,7 @@ events =
     ∷ AtSender (HearNak 5 (pos 65344) (pos 64)) ∷ AtSender (Resend 5 (record { at = 65344; length = 64; lingers = false; until = 0 }) (end ∷ []))
     ∷ AtImage 0 (Inserted 65344 end)
     ∷ AtImage 0 (Poll 0 end) ∷ AtImage 0 (Poll 0 aborted) ∷ AtImage 0 (Poll 0 tripped) ∷ AtImage 0 (Poll 0 abc)
-    ∷ AtImage 3 (Poll 0 begin) ∷ AtImage 3 (Poll 0 end) ∷ AtImage 3 (Poll 0 aborted) ∷ AtImage 3 (Poll 0 tripped) ∷ AtImage 3 (Poll 0 abc) ∷ AtImage 3 (Poll 1 begin) ∷ []
+    ∷ AtImage 3 (Poll 0 begin) ∷ AtImage 3 (Poll 0 end) ∷ AtImage 3 (Poll 0 aborted) ∷ AtImage 3 (Poll 0 tripped) ∷ AtImage 3 (Poll 0 abc) ∷ AtImage 3 (Poll 1 begin) ∷ AtImage 3 (Lose 1 end) ∷ []
 
 -- a consumer that polled both messages
 abbrev pub has_polled : Consumer
@@ -82,7 +82,7 @@ has_polled = record {
 abbrev pub has_begun : Consumer
 has_begun = record { join = start; at = 65344; lost = false; heard_to = 65344; assembly = record { begun = Some (replicate 224 1); given = [] } }
 
--- a reader of the log that passed the message's end by
+-- one that passed the message's end by: a reader of the log, and the image's consumer that lags
 abbrev pub has_passed : Consumer
 has_passed = record has_begun { at = 65408; lost = true }
 
@@ -98,7 +98,7 @@ pub record HasRun (w : World) : Type 0 where
   pub other : Image
   pub other_there : slice_get w.images 3 ≡ Some (Some other)
   pub other_window : other.window ≡ 16384
-  pub other_polled : other.consumers ≡ has_polled ∷ has_begun ∷ []
+  pub other_polled : other.consumers ≡ has_polled ∷ has_passed ∷ []
   pub readers : w.log.readers ≡ Some has_passed ∷ Some has_joined ∷ []
   pub tail : w.log.tail ≡ 65600
   pub shares : (share_of 0 w.log.entries ≡ 448) × (share_of 1 w.log.entries ≡ 64)

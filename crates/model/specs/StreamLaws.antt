@@ -1,11 +1,14 @@
--- Laws on a log's stream: shares, and what an assembler gives of a run of entries.
-use Rattle.std.specs.Prelude.{◌≡◌, ℕ, ◌+◌, ◌-◌, ◌==◌, if◌then◌else◌, true, Bool, List, map, Some, slice_get, slice_set}
+-- Laws on a log's stream: shares, what an assembler gives of a run of entries, and how long that is.
+use Rattle.std.specs.Prelude.{◌≡◌, ℕ, ◌+◌, ◌-◌, ◌≤◌, ◌==◌, if◌then◌else◌, true, Bool, List, length, map, Some, slice_get, slice_set}
 use Rattle.std.specs.List.{AllByRecursion}
+use Rattle.std.specs.Option.{option_to_list}
+use Rattle.theory.specs.Position.{max_message}
 use Rattle.theory.specs.Placed.{AllAmong, Chain, Placed}
 use Rattle.theory.specs.Entry.{Entry, IsEntry, committed}
 use Rattle.theory.specs.Tiling.{Tiles, share_of}
 use Rattle.theory.specs.Messages.{messages}
-use Rattle.theory.specs.Assembly.{after_all, nothing_heard}
+use Rattle.theory.specs.Assembly.{Assembly, after_all, nothing_heard}
+use Rattle.theory.specs.Numbered.{Each}
 use Rattle.model.specs.Log.{Add, Log, LogEvent, LogStep, Retire}
 use Rattle.model.specs.World.{World}
 
@@ -33,3 +36,18 @@ HaveNoShare w = (by : ℕ) → slice_get w.log.retired by ≡ Some true → shar
 -- frames of a tiled stream that follow each other, from any of them on, are assembled to the messages between their ends
 abbrev pub GivesMessages : Type 0
 GivesMessages = (term start tail j q : ℕ) (es : List Entry) (read : List Placed) → Tiles term start tail es → AllByRecursion IsEntry es → Chain j q read → AllAmong (committed es) read → (after_all nothing_heard (map (λ s. s.frame) read)).given ≡ messages j q es
+
+-- none of these is longer
+abbrev pub AreWithin : ℕ → List (List ℕ) → Type 0
+AreWithin most messages = AllByRecursion (λ m. length m ≤ most) messages
+
+-- neither is a message that it gave, nor what it has begun
+pub record IsWithin (most : ℕ) (a : Assembly) : Type 0 where
+  pub given : AreWithin most a.given
+  pub begun : AreWithin most (option_to_list a.begun)
+
+-- no assembler has begun or given more than the log's greatest message
+abbrev pub AreShort : World → Type 0
+AreShort w =
+    Each (λ r. IsWithin (max_message w.log.identity.geometry) r.assembly) w.log.readers
+    × Each (λ i. AllByRecursion (λ r. IsWithin (max_message w.log.identity.geometry) r.assembly) i.consumers) w.images

@@ -8,9 +8,10 @@
 //!
 //! Each function stands for a law; it does nothing, and its contract is the law. `a_run`: there are such runs.
 //! `shares_follow_owners`: shares follow their owners, and a retired number is retired for good. `messages_between`:
-//! frames that follow each other are assembled to the messages between their ends. `computes_end_and_gap`: the
-//! computed contiguous end and gap are the defined ones, and a unit has one content. `cycle_sends`: a cycle and a
-//! resend send what a sender may send, and a cycle all of it. `steps_keep`: a limit never falls, and no clock does.
+//! frames that follow each other are assembled to the messages between their ends, none of which is longer than the
+//! greatest. `computes_end_and_gap`: the computed contiguous end and gap are the defined ones, and a unit has one
+//! content. `cycle_sends`: a cycle and a resend send what a sender may send, and a cycle all of it. `steps_keep`: a
+//! limit never falls, and no clock does.
 //!
 //! No contract here says that anything happens, or that a message is what its publisher meant: `offer` and `commit`
 //! of `publication` say that.
@@ -21,7 +22,7 @@ ghost use Rattle.model.specs.ExampleRun.{ItRuns, AlwaysOpens};
 ghost use Rattle.model.specs.GapLaws.{ComputesContiguous, ComputesGap, HasOneContent};
 ghost use Rattle.model.specs.Headline.{Always, IsTiled, IsRebuiltRight, IsBounded, IsPrefixPolled, IsReadable, ArePublished, AreSpelled, AreGapsTold, HasItsRoom};
 ghost use Rattle.model.specs.StepLaws.{AreReached, ClockNeverFalls, FlowLimitNeverFalls, HavePassed, KeepsLimit, KeepsNaks};
-ghost use Rattle.model.specs.StreamLaws.{GivesMessages, HaveNoShare, RetiresForGood, SharesFollow};
+ghost use Rattle.model.specs.StreamLaws.{AreShort, GivesMessages, HaveNoShare, RetiresForGood, SharesFollow};
 
 /// Whose the bytes of the stream are: an addition's are its publisher's, a retired publisher's are the other's, for good.
 pub fn shares_follow_owners()
@@ -41,9 +42,11 @@ pub fn steps_keep()
     ensures passed { Always HavePassed }
 {}
 
-/// Frames that follow each other are assembled to the messages between their ends.
+/// Frames that follow each other are assembled to the messages between their ends; and whatever happened, no assembler
+/// has begun or given more than the log's greatest message.
 pub fn messages_between()
-    ensures { GivesMessages }
+    ensures given { GivesMessages }
+    ensures short { Always AreShort }
 {}
 
 /// The contiguous end and the gap that are computed are the ones that are defined; a unit has one content.

@@ -25,7 +25,7 @@ stands_one w k i c h = ap (λ xs. record i { consumers = xs }) (sym h.one)
 pub stands_after : (w : World) (k : ℕ) (i : Image) (c d : Consumer) → Stands w k i c → Stands (with_image w k (with_one i d)) k (with_one i d) d
 stands_after w k i c d h = record { image = image_there w k i (with_one i d) h.image; one = refl }
 
-polls_one : (w : World) (k : ℕ) (i : Image) (c : Consumer) (s : Placed) → Stands w k i c → MayMove i.stored s c → c.lost ≡ false → Step w (AtImage k (Poll 0 s)) (with_image w k (with_one i (moved c s)))
+pub polls_one : (w : World) (k : ℕ) (i : Image) (c : Consumer) (s : Placed) → Stands w k i c → MayMove i.stored s c → c.lost ≡ false → Step w (AtImage k (Poll 0 s)) (with_image w k (with_one i (moved c s)))
 polls_one w k i c s h may heard =
     let first : slice_get i.consumers 0 ≡ Some c = subst (λ xs. slice_get xs 0 ≡ Some c) (sym h.one) refl in
     let set : with_one i (moved c s) ≡ record i { consumers = slice_set i.consumers 0 (moved c s) } = ap (λ xs. record i { consumers = slice_set xs 0 (moved c s) }) (sym h.one) in

@@ -9,7 +9,7 @@ use Rattle.theory.specs.Bytes.{Identity}
 use Rattle.theory.specs.Consumer.{Consumer, consumer_at, least_of}
 use Rattle.model.specs.Headline.{HasPolled}
 use Rattle.theory.specs.Messages.{messages}
-use Rattle.theory.proofs.Lists.{each_get}
+use Rattle.theory.proofs.Lists.{all_front, each_get}
 use Rattle.script.specs.Meaning as commands
 use Rattle.script.specs.Meaning.{CommandContent}
 use Rattle.script_meaning.specs.Answers.{Answers}
@@ -17,7 +17,7 @@ use Rattle.script_meaning.specs.Output.{AlwaysPolled, AlwaysRuns, AnswersAll, id
 use Rattle.receiver.specs.Polling.{TellsOf}
 use Rattle.script_meaning.specs.LineContents.{LineContent, Positions, positions_line}
 use Rattle.receiver.specs.declared.positions.Positions as places
-use Rattle.script_meaning.specs.Published.{AllHonest, AllWhole, IsHonestLine, LastTold, Played, PolledNothing, PolledPrefix, PolledTo, ReadTo, covered_by, joins, polled, printed, published, read}
+use Rattle.script_meaning.specs.Published.{AllHonest, AllShort, AllWhole, IsHonestLine, IsWhole, LastTold, Played, PolledNothing, PolledPrefix, PolledTo, ReadTo, covered_by, joins, polled, printed, published, read}
 use Rattle.receiver.specs.Receiving.{Opened, Receiver}
 use Rattle.script_meaning.specs.ScriptState.{ScriptState, entries_of, image_of, listening_at, lone, numbers, opened_state, world_of}
 use Rattle.script_meaning.proofs.Numbers.{number_at}
@@ -32,7 +32,7 @@ use Rattle.script_meaning.specs.Standing.{Begins}
 use Rattle.script_meaning.proofs.Lone.{lone_closed, lone_there}
 use Rattle.script_meaning.proofs.Sound.{IsSound, Laws, and_line, law_of}
 use Rattle.script_meaning.proofs.SoundLines.{abort_line, claim_line, close_line, commit_line, connect_line, limit_line, offer_line, same_state}
-use Rattle.script_meaning.proofs.SoundReceivers.{deliver_line, image_line, poll_line, raw_line, tick_line}
+use Rattle.script_meaning.proofs.SoundReceivers.{deliver_line, image_line, line_short, poll_line, raw_line, tick_line}
 use Rattle.script_meaning.proofs.SoundSenders.{back_line, reply_line, send_line}
 
 line : Laws → (i : Identity) (group : Option ℕ) (start readers only : ℕ) (played : List Played) (command : CommandContent) (lines : List LineContent) (s t : ScriptState) → Begins i start → (only < 8 → IsHonestLine only s.packets command lines) → IsSound i group start readers only played s → Answers s command lines t → IsSound i group start readers only (and_line played command lines) t
@@ -53,7 +53,7 @@ line laws i group start readers only played (commands.Raw n now bytes) lines s t
 line laws i group start readers only played (commands.Tick n now) lines s t b honest h m = tick_line i group start readers only played n now lines s t h m
 line laws i group start readers only played (commands.Reply k now) lines s t b honest h m = reply_line laws i group start readers only played k now lines s t b h m
 line laws i group start readers only played (commands.RawBack now bytes) lines s t b honest h m = back_line laws i group start readers only played now bytes lines s t b h m
-line laws i group start readers only played (commands.Poll n) lines s t b honest h m = poll_line i group start readers only played n lines s t h m
+line laws i group start readers only played (commands.Poll n) lines s t b honest h m = poll_line laws i group start readers only played n lines s t b h m
 line laws i group start readers only played (commands.Image n) lines s t b honest h m = image_line i group start readers only played n lines s t h m
 
 goes_on : Laws → (i : Identity) (group : Option ℕ) (start readers only : ℕ) (done rest : List Played) (s last : ScriptState) → Begins i start → (only < 8 → AllHonest only (done ++ rest)) → s.packets ≡ printed done → IsSound i group start readers only done s → AnswersAll s rest last → IsSound i group start readers only (done ++ rest) last
@@ -89,7 +89,7 @@ begins i group start readers only b =
       honest = tt;
       matches = refl;
       eight = refl;
-      followed = λ low. (listening_at i only, listens i only low, record { consumers = refl; image = (refl, refl) });
+      followed = λ low. (listening_at i only, listens i only low, record { numbers = refl; image = (refl, refl) });
       seats = length-replicate readers (consumer_at start);
       reading = λ k low. (consumer_at start, reader_there start readers k low, record { join = refl; whole = refl; heard = refl; at = omega arith });
     }
@@ -171,11 +171,23 @@ sound laws i group start readers only played last b honest all = goes_on laws i 
 pub sound_log : Laws → (i : Identity) (group : Option ℕ) (start readers : ℕ) (played : List Played) (last : ScriptState) → Begins i start → AnswersAll (opened_state i group start readers) played last → IsSound i group start readers 8 played last
 sound_log laws i group start readers played last b all = sound laws i group start readers 8 played last b (λ low. absurd (omega (arith, low))) all
 
+-- no line says that a message was too long
+each_short : Laws → (i : Identity) (group : Option ℕ) (start readers only : ℕ) (done rest : List Played) (s last : ScriptState) → Begins i start → AllHonest only (done ++ rest) → AllWhole only (done ++ rest) → s.packets ≡ printed done → IsSound i group start readers only done s → AnswersAll s rest last → AllShort only rest
+each_short laws i group start readers only done [] s last b honest whole shown h m = tt
+each_short laws i group start readers only done (p ∷ ps) s last b honest whole shown h m =
+    let again : (done ++ p ∷ []) ++ ps ≡ done ++ p ∷ ps = append_assoc done (p ∷ []) ps in
+    let next = line laws i group start readers only done p.command p.lines s m.0 b (λ low. subst (λ xs. IsHonestLine only xs p.command p.lines) (sym shown) (honest done ps p refl)) h m.1 in (
+      line_short laws i group start readers only done p.command p.lines s m.0 b (all_front (λ x. IsWhole only x.command x.lines) done (p ∷ ps) whole) h m.1,
+      each_short laws i group start readers only (done ++ p ∷ []) ps m.0 last b (subst (AllHonest only) (sym again) honest) (subst (AllWhole only) (sym again) whole) (prints_more s m.0 done p shown m.1) next m.2,
+    )
+
 prefix : Laws → (i : Identity) (group : Option ℕ) (start readers : ℕ) (played : List Played) (last : ScriptState) → Begins i start → AnswersAll (opened_state i group start readers) played last → PolledPrefix i.geometry played
 prefix laws i group start readers played last b all k low whole honest =
     let h = sound laws i group start readers k played last b (λ l. honest) all in
-    let r = h.followed low in
-    of_image laws i group start readers k played last r.0 r.0.image b h all r.1 refl r.2.image whole
+    let r = h.followed low in (
+      of_image laws i group start readers k played last r.0 r.0.image b h all r.1 refl r.2.image whole,
+      each_short laws i group start readers k [] played (opened_state i group start readers) last b honest whole refl (begins i group start readers k b) all,
+    )
 
 pub always_polled : Laws → AlwaysPolled
 always_polled laws o group played last legal identity starts all done later parts =

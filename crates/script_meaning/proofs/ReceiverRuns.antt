@@ -4,7 +4,7 @@ use Rattle.std.specs.Prelude.{replicate, slice_get, slice_set, pos, ◌+ℤ◌, 
 use Rattle.std.specs.Option.{option_map}
 use Rattle.std.specs.List.{AllByRecursion}
 use Rattle.std.proofs.lemmas.List.{map-set}
-use Rattle.theory.specs.Position.{Geometry, IsGeometry, NamesPlace, count_of, id_of, max_position, place_of}
+use Rattle.theory.specs.Position.{Geometry, IsGeometry, NamesPlace, count_of, id_of, max_message, max_position, place_of}
 use Rattle.theory.specs.Wire.{Header, Wire, DATA, PAD, HEARTBEAT, NAK, SM, SETUP, Setup}
 use Rattle.theory.specs.Placed.{Among, Data, Pad, Frame, Placed}
 use Rattle.theory.specs.Bytes.{Identity, header_at, wire_at}
@@ -42,8 +42,12 @@ abbrev pub FollowsImage : Option Opened → Identity → List ℕ → List (List
 FollowsImage None i joins given Whole = (joins ≡ []) × (given ≡ [])
 FollowsImage (Some o) i joins given Whole = IsFollowed i o joins given Whole
 
+-- how many consumers its image has, and its greatest message
+abbrev pub numbers_of : Receiver → ℕ × ℕ
+numbers_of r = (r.consumers, r.greatest)
+
 pub record Follows (i : Identity) (r : Receiver) (joins : List ℕ) (given : List (List ℕ)) (Whole : Type 0) : Type 0 where
-  pub consumers : r.consumers ≡ 1
+  pub numbers : numbers_of r ≡ (1, max_message i.geometry)
   pub image : FollowsImage r.image i joins given Whole
 
 -- the receiver of this number has this image
@@ -98,15 +102,15 @@ pub record At (s : ScriptState) (k : ℕ) (r : Receiver) (joins : List ℕ) (giv
   pub there : HasImage s k r
   pub follows : Follows s.log.identity r joins given Whole
 
-pub no_more : (i : Identity) (r mid : Receiver) (joins more : List ℕ) (given : List (List ℕ)) (Whole : Type 0) → Follows i r joins given Whole → mid.consumers ≡ r.consumers → mid.image ≡ r.image → more ≡ [] → Follows i mid (joins ++ more) given Whole
+pub no_more : (i : Identity) (r mid : Receiver) (joins more : List ℕ) (given : List (List ℕ)) (Whole : Type 0) → Follows i r joins given Whole → numbers_of mid ≡ numbers_of r → mid.image ≡ r.image → more ≡ [] → Follows i mid (joins ++ more) given Whole
 no_more i r mid joins more given Whole h c same none =
     let all : joins ++ more ≡ joins = ap (λ xs. joins ++ xs) none ∙ append-nil joins in
     record {
-      consumers = c ∙ h.consumers;
+      numbers = c ∙ h.numbers;
       image = subst (λ xs. FollowsImage mid.image i xs given Whole) (sym all) (subst (λ o. FollowsImage o i joins given Whole) (sym same) h.image);
     }
 
-pub met_nothing : (s : ScriptState) (k : ℕ) (r mid : Receiver) (out : Outcome) (joins : List ℕ) (given : List (List ℕ)) (Whole : Type 0) → At s k r joins given Whole → mid.consumers ≡ r.consumers → mid.image ≡ r.image → joins_of out ≡ [] → Met s k mid out joins given Whole
+pub met_nothing : (s : ScriptState) (k : ℕ) (r mid : Receiver) (out : Outcome) (joins : List ℕ) (given : List (List ℕ)) (Whole : Type 0) → At s k r joins given Whole → numbers_of mid ≡ numbers_of r → mid.image ≡ r.image → joins_of out ≡ [] → Met s k mid out joins given Whole
 met_nothing s k r mid out joins given Whole h c same none = record {
   goes = unchanged s k r mid h.there (ap (option_map (λ o. o.image)) same);
   follows = no_more s.log.identity r mid joins (joins_of out) given Whole h.follows c same none;
@@ -121,16 +125,16 @@ met_image s k r mid out joins given Whole o q e h was is none step g c j =
     record {
       goes = changed s k r mid o.image q.image e h.there (ap (option_map (λ x. x.image)) was) (ap (λ x. image_of x) is) step;
       follows = record {
-        consumers = ap (λ x. x.consumers) is ∙ h.follows.consumers;
+        numbers = ap numbers_of is ∙ h.follows.numbers;
         image = subst (λ x. FollowsImage x s.log.identity (joins ++ joins_of out) given Whole) (sym (ap (λ x. x.image) is)) (subst (λ xs. IsFollowed s.log.identity q xs given Whole) (sym all) after);
       };
     }
 
 misses : (s : ScriptState) (k : ℕ) (r mid : Receiver) (h : Header) (out : Outcome) (joins : List ℕ) (given : List (List ℕ)) (Whole : Type 0) → At s k r joins given Whole → (out ≡ Asked) × (mid ≡ record r { unmet = Some h }) → Met s k mid out joins given Whole
-misses s k r mid h out joins given Whole a m = met_nothing s k r mid out joins given Whole a (ap (λ x. x.consumers) m.1) (ap (λ x. x.image) m.1) (ap joins_of m.0)
+misses s k r mid h out joins given Whole a m = met_nothing s k r mid out joins given Whole a (ap numbers_of m.1) (ap (λ x. x.image) m.1) (ap joins_of m.0)
 
 passes_by : (s : ScriptState) (k : ℕ) (r mid : Receiver) (out : Outcome) (joins : List ℕ) (given : List (List ℕ)) (Whole : Type 0) → At s k r joins given Whole → PassesBy r out mid → Met s k mid out joins given Whole
-passes_by s k r mid out joins given Whole a m = met_nothing s k r mid out joins given Whole a (ap (λ x. x.consumers) m.1) (ap (λ x. x.image) m.1) (ap joins_of m.0)
+passes_by s k r mid out joins given Whole a m = met_nothing s k r mid out joins given Whole a (ap numbers_of m.1) (ap (λ x. x.image) m.1) (ap joins_of m.0)
 
 -- a frame that was sent, at its place
 inserted : (g : Geometry) (sent : List Placed) (o : Opened) (t : Placed) → o.geometry ≡ g → Among t sent → IsLeast o.image (least_of o.image.consumers) → ImageStep g sent o.image (Inserted (least_of o.image.consumers) t) (given_at o (pos t.at) t.frame).image
@@ -185,14 +189,14 @@ opens law s k r mid f p out joins given Whole a was legal low among named m =
     let image = image_at q r.window r.consumers in
     let is : image_of mid ≡ Some image = ap (λ x. image_of x) m.4 in
     let closed : image_of r ≡ None = ap (option_map (λ o. o.image)) was in
-    let one : r.consumers ≡ 1 = a.follows.consumers in
+    let one : r.consumers ≡ 1 = ap (λ (n : ℕ × ℕ). n.0) a.follows.numbers in
     let window : IsWindow i.geometry.term_length i.geometry.mtu r.window = subst (λ x. IsWindow x.term_length x.mtu r.window) shape at.window in
     let nothing : (joins ≡ []) × (given ≡ []) = subst (λ x. FollowsImage x i joins given Whole) was a.follows.image in
     record {
       goes = subst (λ v. Goes w v) (ap (λ x. record w { images = slice_set w.images k x }) (sym is) ∙ sym (set_image s k mid))
           (goes_one w (record w { images = slice_set w.images k (Some image) }) (Open k q r.window r.consumers) (a.there ∙ ap Some closed, subst (λ x. Among x s.sender.setups) (sym here) among, omega (arith, one), omega (arith, one), window, refl));
       follows = record {
-        consumers = ap (λ x. x.consumers) m.4 ∙ one;
+        numbers = ap numbers_of m.4 ∙ a.follows.numbers;
         image = subst (λ x. FollowsImage x i (joins ++ joins_of out) given Whole) (sym (ap (λ x. x.image) m.4)) (record {
           consumer = consumer_at q;
           one = ap (λ n. replicate n (consumer_at q)) one;
@@ -236,8 +240,8 @@ setup_met : NamesPlace → (s : ScriptState) (k : ℕ) (r mid : Receiver) (image
 setup_met law s k r mid None f out joins given Whole x a was honest (inl m) =
     let n : WasNamed s.log.identity s.sender.setups f = subst (λ x. IfGiven x (WasNamed s.log.identity s.sender.setups f)) m.3 honest in
     opens law s k r mid f n.0 out joins given Whole a was x.legal (all_at (λ y. y ≤ max_position s.log.identity.geometry) n.0 s.sender.setups x.setups n.1) n.1 n.2 m
-setup_met law s k r mid None f out joins given Whole x a was honest (inr m) = met_nothing s k r mid out joins given Whole a (ap (λ x. x.consumers) m.3) (ap (λ x. x.image) m.3) (ap joins_of m.2)
-setup_met law s k r mid (Some o) f out joins given Whole x a was honest m = met_nothing s k r mid out joins given Whole a (ap (λ x. x.consumers) m.1) (ap (λ x. x.image) m.1) (ap joins_of m.0)
+setup_met law s k r mid None f out joins given Whole x a was honest (inr m) = met_nothing s k r mid out joins given Whole a (ap numbers_of m.3) (ap (λ x. x.image) m.3) (ap joins_of m.2)
+setup_met law s k r mid (Some o) f out joins given Whole x a was honest m = met_nothing s k r mid out joins given Whole a (ap numbers_of m.1) (ap (λ x. x.image) m.1) (ap joins_of m.0)
 
 -- a frame that meets an image is the sender's
 record IsFrameOf (s : ScriptState) (h : Header) (f : Frame) : Type 0 where

@@ -10,6 +10,7 @@ use Rattle.script_meaning.specs.LineContents.{LineContent}
 use Rattle.theory.specs.Bytes.{Identity}
 use Rattle.model.specs.Headline.{Always, IsTiled, IsBounded, IsPrefixPolled, IsReadable, ArePublished, AreSpelled, IsPublished}
 use Rattle.model.specs.StepLaws.{HavePassed}
+use Rattle.model.specs.StreamLaws.{AreShort}
 use Rattle.theory.specs.Laws.{HasOneReading}
 use Rattle.theory.specs.Placed.{Among, Frame, end_of}
 use Rattle.theory.specs.Assembly.{after_all, nothing_heard}
@@ -27,7 +28,7 @@ use Rattle.script_meaning.proofs.Honest.{AreHonest}
 use Rattle.script_meaning.proofs.Lone.{lone_there}
 use Rattle.script_meaning.proofs.OfferRuns.{LogHolds, tail_in_stream}
 use Rattle.script_meaning.proofs.Ranges.{Matches}
-use Rattle.script_meaning.proofs.ReceiverRuns.{At, Follows, FollowsImage, IsSending, Places}
+use Rattle.script_meaning.proofs.ReceiverRuns.{At, Follows, FollowsImage, IsSending, Places, numbers_of}
 use Rattle.script_meaning.proofs.Runs.{Goes}
 use Rattle.theory.proofs.Tables.{map_get}
 
@@ -40,6 +41,7 @@ pub record Laws : Type 0 where
   pub spelled : Always AreSpelled
   pub readable : Always IsReadable
   pub passed : Always HavePassed
+  pub short : Always AreShort
   pub places : Places
   pub reading : HasOneReading
 
@@ -171,7 +173,7 @@ whole_parts k (p ∷ ps) command lines h = let rest = whole_parts k ps command l
 
 pub follows_as : (i : Identity) (r : Receiver) (joins more : List ℕ) (given gives : List (List ℕ)) (Whole Still : Type 0) → joins ≡ more → given ≡ gives → (Still → Whole) → Follows i r joins given Whole → Follows i r more gives Still
 follows_as i r joins more given gives Whole Still j g weaker h = record {
-  consumers = h.consumers;
+  numbers = h.numbers;
   image = weaken r.image (subst (λ xs. FollowsImage r.image i more xs Whole) g (subst (λ xs. FollowsImage r.image i xs given Whole) j h.image));
 }
   where
@@ -206,8 +208,8 @@ readers_stay start n played command lines s t quiet same h k low =
     (r.0, ap (λ xs. slice_get xs k) same ∙ r.1, subst (ReadSo start r.0) (sym (read_more (suc k) played command lines ∙ ap (λ xs. read (suc k) played ++ xs) (quiet k) ∙ append-nil (read (suc k) played))) r.2)
 
 -- the receiver of a sound state, as the lemmas on its frames want it
-pub at_number : (i : Identity) (group : Option ℕ) (start readers only : ℕ) (played : List Played) (s : ScriptState) (r q : Receiver) → IsSound i group start readers only played s → only < 8 → slice_get s.receivers only ≡ Some r → q.image ≡ r.image → q.consumers ≡ r.consumers → At (lone only s) only q (joins only played) (polled only played) (AllWhole only played)
-at_number i group start readers only played s r q h low there image consumers =
+pub at_number : (i : Identity) (group : Option ℕ) (start readers only : ℕ) (played : List Played) (s : ScriptState) (r q : Receiver) → IsSound i group start readers only played s → only < 8 → slice_get s.receivers only ≡ Some r → q.image ≡ r.image → numbers_of q ≡ numbers_of r → At (lone only s) only q (joins only played) (polled only played) (AllWhole only played)
+at_number i group start readers only played s r q h low there image numbers =
     let known = h.followed low in
     let found : Some r ≡ Some known.0 = sym there ∙ known.1 in
     let same : known.0 ≡ r = cc in
@@ -215,7 +217,7 @@ at_number i group start readers only played s r q h low there image consumers =
     record {
       there = map_get image_of (lone only s).receivers only r (lone_there only s ∙ there) ∙ ap Some (ap (option_map (λ o. o.image)) (sym image));
       follows = subst (λ x. Follows x q (joins only played) (polled only played) (AllWhole only played)) (sym h.identity) (record {
-        consumers = consumers ∙ follows.consumers;
+        numbers = numbers ∙ follows.numbers;
         image = subst (λ o. FollowsImage o i (joins only played) (polled only played) (AllWhole only played)) (sym image) follows.image;
       });
     }

@@ -11,21 +11,21 @@ use Rattle.theory.proofs.Lists.{all_append, all_get}
 use Rattle.script.specs.Meaning as commands
 use Rattle.script.specs.Meaning.{CommandContent}
 use Rattle.receiver.specs.declared.receiver_core.Outcome.{Outcome}
-use Rattle.script_meaning.specs.Answers.{AreFrames, Delivered, IsMissing, PollsBy, GetsDatagram, TellsBy, Ticks, with_receiver}
+use Rattle.script_meaning.specs.Answers.{Answers, AreFrames, Delivered, IsMissing, PollsBy, GetsDatagram, TellsBy, Ticks, with_receiver}
 use Rattle.sender.specs.Cycling.{alone, datagrams}
 use Rattle.script_meaning.specs.LineContents.{LineContent, OfReceiver, poll_line as poll_content}
-use Rattle.script_meaning.specs.Published.{AllWhole, AreHonestFrames, IsHonestLine, Played, is_fault, joined_by, joins, joins_in, joins_of, messages_in, polled, polled_by, read_by}
+use Rattle.script_meaning.specs.Published.{AllWhole, AreHonestFrames, IsHonestLine, IsShort, Played, is_refusal, is_too_long, joined_by, joins, joins_in, joins_of, messages_in, polled, polled_by, read_by}
 use Rattle.frames.specs.FaultCounts.{counted_at, place_of}
 use Rattle.receiver.specs.Receiving.{TakesDatagram, MeetsAll, Receiver, at_moment, replies, ticked}
 use Rattle.script_meaning.specs.ScriptState.{ScriptState, entries_of, image_of, lone, opened_state, world_of}
 use Rattle.script_meaning.proofs.Honest.{AreEntering, AreHonest, IsHonest, all_entering, alone_given, frames_given_out, honest_given, printed_entering, replies_given}
 use Rattle.script_meaning.proofs.Lone.{lone_other, lone_put}
 use Rattle.script_meaning.specs.Standing.{Begins}
-use Rattle.script_meaning.proofs.PollFollows.{StillWhole, polls_met}
-use Rattle.script_meaning.proofs.ReceiverRuns.{At, Follows, IsSending, Met, meets, no_more, unchanged}
+use Rattle.script_meaning.proofs.PollFollows.{StaysShort, StillWhole, polls_met, polls_short}
+use Rattle.script_meaning.proofs.ReceiverRuns.{At, Follows, IsSending, Met, meets, no_more, numbers_of, unchanged}
 use Rattle.script_meaning.proofs.Runs.{Goes, goes_on}
 use Rattle.theory.proofs.Tables.{get_other, get_put}
-use Rattle.script_meaning.proofs.Sound.{HasFollowed, IsSound, Laws, and_line, at_number, followed_stays, follows_as, follows_quiet, joins_more, polled_more, readers_stay, sending, whole_parts, SaysNoRange}
+use Rattle.script_meaning.proofs.Sound.{HasFollowed, IsSound, Laws, and_line, at_number, followed_stays, follows_as, follows_quiet, joins_more, opened, polled_more, readers_stay, sending, whole_parts, SaysNoRange}
 use Rattle.script_meaning.proofs.SoundLines.{matches_stay, missing_line, same_state}
 
 -- what holds of the receiver that is looked at and of each other one holds of a receiver
@@ -76,8 +76,8 @@ pub number_low : (i : Identity) (group : Option ℕ) (start readers only : ℕ) 
 number_low i group start readers only played s n r h there = omega (arith, slice_get_within s.receivers n r there, h.eight)
 
 -- the receiver that is looked at
-own_at : (i : Identity) (group : Option ℕ) (start readers only : ℕ) (played : List Played) (s : ScriptState) (r q : Receiver) → IsSound i group start readers only played s → slice_get s.receivers only ≡ Some r → q.image ≡ r.image → q.consumers ≡ r.consumers → At (lone only s) only q (joins only played) (polled only played) (AllWhole only played)
-own_at i group start readers only played s r q h there image consumers = at_number i group start readers only played s r q h (number_low i group start readers only played s only r h there) there image consumers
+own_at : (i : Identity) (group : Option ℕ) (start readers only : ℕ) (played : List Played) (s : ScriptState) (r q : Receiver) → IsSound i group start readers only played s → slice_get s.receivers only ≡ Some r → q.image ≡ r.image → numbers_of q ≡ numbers_of r → At (lone only s) only q (joins only played) (polled only played) (AllWhole only played)
+own_at i group start readers only played s r q h there image numbers = at_number i group start readers only played s r q h (number_low i group start readers only played s only r h there) there image numbers
 
 -- ---- a tick
 
@@ -125,7 +125,7 @@ none_met s k r mid outs joins given Whole a none same = record {
 refused_met : (s : ScriptState) (k p : ℕ) (r mid : Receiver) (outs : List Outcome) (joins : List ℕ) (given : List (List ℕ)) (Whole : Type 0) → At s k r joins given Whole → flat_map joins_of outs ≡ [] → mid ≡ record r { faults = counted_at p r.faults } → MetAll s k mid outs joins given Whole
 refused_met s k p r mid outs joins given Whole a none same = record {
   goes = unchanged s k r mid a.there (ap image_of same);
-  follows = no_more s.log.identity r mid joins (flat_map joins_of outs) given Whole a.follows (ap (λ x. x.consumers) same) (ap (λ x. x.image) same) none;
+  follows = no_more s.log.identity r mid joins (flat_map joins_of outs) given Whole a.follows (ap numbers_of same) (ap (λ x. x.image) same) none;
 }
 
 -- the receiver behind one of its frames
@@ -247,20 +247,27 @@ own_polls n line lines e = cond-true (nat_eq n n) (flat_map messages_in lines) [
 still_whole : (n : ℕ) (played : List Played) (line : LineContent) (lines : List LineContent) → lines ≡ line ∷ [] → AllWhole n (and_line played (commands.Poll n) lines) → StillWhole (AllWhole n played) line
 still_whole n played line lines e x =
     let parts = whole_parts n played (commands.Poll n) lines x in
-    let all : AllByRecursion (λ l. is_fault l ≡ false) (line ∷ []) = subst (λ ls. AllByRecursion (λ l. is_fault l ≡ false) ls) e (parts.1 refl) in
+    let all : AllByRecursion (λ l. is_refusal l ≡ false) (line ∷ []) = subst (λ ls. AllByRecursion (λ l. is_refusal l ≡ false) ls) e (parts.1 refl) in
     (parts.0, all.0)
+
+-- wherever the world goes to, no assembler has more than the greatest message
+stay_short : Laws → (i : Identity) (group : Option ℕ) (start readers only : ℕ) (s : ScriptState) → Begins i start → Goes (world_of (opened_state i group start readers)) (world_of (lone only s)) → StaysShort (world_of (lone only s))
+stay_short laws i group start readers only s b runs w on =
+    let first = world_of (opened_state i group start readers) in
+    let all = goes_on first (world_of (lone only s)) w runs on in
+    laws.short first w all.0 (opened i group start readers b) all.1
 
 abbrev PollIsSound : (i : Identity) (group : Option ℕ) (start readers only : ℕ) (played : List Played) (lines : List LineContent) (s t : ScriptState) → ℕ → Type 0
 PollIsSound i group start readers only played lines s t n = PollsBy s n lines t → IsSound i group start readers only (and_line played (commands.Poll n) lines) t
 
-own_poll : (i : Identity) (group : Option ℕ) (start readers only : ℕ) (played : List Played) (lines : List LineContent) (s t : ScriptState) → IsSound i group start readers only played s → PollIsSound i group start readers only played lines s t only
-own_poll i group start readers only played lines s t h m =
+own_poll : Laws → (i : Identity) (group : Option ℕ) (start readers only : ℕ) (played : List Played) (lines : List LineContent) (s t : ScriptState) → Begins i start → IsSound i group start readers only played s → PollIsSound i group start readers only played lines s t only
+own_poll laws i group start readers only played lines s t b h m =
     let line = poll_content m.0 in
     let r = m.1 in
     let mid = m.2 in
     let command = commands.Poll only in
     let a = own_at i group start readers only played s r r h m.3 refl refl in
-    let met = polls_met (lone only s) only r mid m.0 (joins only played) (polled only played) (AllWhole only played) a m.4 in
+    let met = polls_met (lone only s) only r mid m.0 (joins only played) (polled only played) (AllWhole only played) a (stay_short laws i group start readers only s b h.runs) m.4 in
     let follows : Follows i mid (joins only played) (polled only played ++ messages_in line) (StillWhole (AllWhole only played) line) = subst (λ x. Follows x mid (joins only played) (polled only played ++ messages_in line) (StillWhole (AllWhole only played) line)) h.identity met.follows in
     let now_follows = follows_as i mid (joins only played) (joins only (and_line played command lines)) (polled only played ++ messages_in line) (polled only (and_line played command lines)) (StillWhole (AllWhole only played) line) (AllWhole only (and_line played command lines))
     (sym (joins_more only played command lines ∙ append-nil (joins only played)))
@@ -270,12 +277,24 @@ own_poll i group start readers only played lines s t h m =
     subst (λ x. IsSound i group start readers only (and_line played command lines) x) (sym m.6)
     (own_line i group start readers only played command lines s r mid s.packets m.3 met.goes h.honest (λ g ranges. refl) (λ k. refl) now_follows h)
 
-pub poll_line : (i : Identity) (group : Option ℕ) (start readers only : ℕ) (played : List Played) (n : ℕ) (lines : List LineContent) (s t : ScriptState) → IsSound i group start readers only played s → PollsBy s n lines t → IsSound i group start readers only (and_line played (commands.Poll n) lines) t
-poll_line i group start readers only played n lines s t h =
+pub poll_line : Laws → (i : Identity) (group : Option ℕ) (start readers only : ℕ) (played : List Played) (n : ℕ) (lines : List LineContent) (s t : ScriptState) → Begins i start → IsSound i group start readers only played s → PollsBy s n lines t → IsSound i group start readers only (and_line played (commands.Poll n) lines) t
+poll_line laws i group start readers only played n lines s t b h =
     by_number (PollIsSound i group start readers only played lines s t) n only
-    (own_poll i group start readers only played lines s t h)
+    (own_poll laws i group start readers only played lines s t b h)
     (λ other m. subst (λ x. IsSound i group start readers only (and_line played (commands.Poll n) lines) x) (sym m.6)
     (other_line i group start readers only played (commands.Poll n) lines s n m.2 s.packets other h.honest (refl, cond-false (nat_eq n only) (flat_map messages_in lines) [] (ne_eqb n only other)) (λ g ranges. refl) (λ k. refl) h))
+
+-- and no message is too long, as long as memory isn't refused
+own_short : Laws → (i : Identity) (group : Option ℕ) (start readers only : ℕ) (played : List Played) (lines : List LineContent) (s t : ScriptState) → Begins i start → AllWhole only played → IsSound i group start readers only played s → PollsBy s only lines t → AllByRecursion (λ line. is_too_long line ≡ false) lines
+own_short laws i group start readers only played lines s t b whole h m =
+    let r = m.1 in
+    let a = own_at i group start readers only played s r r h m.3 refl refl in
+    let here = polls_short (lone only s) only r m.2 m.0 (joins only played) (polled only played) (AllWhole only played) a (stay_short laws i group start readers only s b h.runs) whole m.4 in
+    subst (AllByRecursion (λ line. is_too_long line ≡ false)) (sym m.5) (here, tt)
+
+pub line_short : Laws → (i : Identity) (group : Option ℕ) (start readers only : ℕ) (played : List Played) (command : CommandContent) (lines : List LineContent) (s t : ScriptState) → Begins i start → AllWhole only played → IsSound i group start readers only played s → Answers s command lines t → IsShort only command lines
+line_short laws i group start readers only played (commands.Poll n) lines s t b whole h m = λ e. own_short laws i group start readers only played lines s t b whole h (subst (λ k. PollsBy s k lines t) e m)
+line_short laws i group start readers only played command lines s t b whole h m = tt
 
 pub image_line : (i : Identity) (group : Option ℕ) (start readers only : ℕ) (played : List Played) (n : ℕ) (lines : List LineContent) (s t : ScriptState) → IsSound i group start readers only played s → TellsBy s n lines t → IsSound i group start readers only (and_line played (commands.Image n) lines) t
 image_line i group start readers only played n lines s t h m = same_state i group start readers only played (commands.Image n) lines s t (record { joins = λ k. refl; polls = λ k. refl; reads = λ k. refl }) (λ g ranges. refl) m.5 h

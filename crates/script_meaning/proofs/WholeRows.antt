@@ -1,14 +1,24 @@
 -- Which lines end the promise on a receiver, and which are messages of it, at worked examples.
-use Rattle.std.specs.Prelude.{◌≡◌, true, false, List, [], ◌∷◌}
+use Rattle.std.specs.Prelude.{◌≡◌, true, false, [], ◌∷◌}
 use Rattle.std.proofs.Common.{arith, refl}
 use Rattle.assembler.specs.declared.fault.AssemblyError.TheVariants.{Memory, TooLong}
 use Rattle.script.specs.Meaning as commands
 use Rattle.script_meaning.specs.LineContents.{Bad, Message, NoMessage, Positions, Unassembled}
-use Rattle.script_meaning.specs.Published.{IsWhole, polled_by}
+use Rattle.script_meaning.specs.Published.{IsShort, IsWhole, polled_by}
 
--- a refusal of its own assembler does
-own_refusals : (IsWhole 1 (commands.Poll 1) (Unassembled Memory ∷ []) → ⊥) × (IsWhole 1 (commands.Poll 1) (Unassembled TooLong ∷ []) → ⊥)
-own_refusals = ((λ h. let e : true ≡ false = (h refl).0 in cc), (λ h. let e : true ≡ false = (h refl).0 in cc))
+-- that memory was refused to its own assembler does
+own_refusal : IsWhole 1 (commands.Poll 1) (Unassembled Memory ∷ []) → ⊥
+own_refusal h = let e : true ≡ false = (h refl).0 in cc
+
+-- that a message was too long doesn't: no such line is promised to come
+too_long : IsWhole 1 (commands.Poll 1) (Unassembled TooLong ∷ [])
+too_long e = (refl, tt)
+
+no_too_long : IsShort 1 (commands.Poll 1) (Unassembled TooLong ∷ []) → ⊥
+no_too_long h = let e : true ≡ false = (h refl).0 in cc
+
+others_too_long : IsShort 1 (commands.Poll 2) (Unassembled TooLong ∷ [])
+others_too_long e = absurd (omega (arith, e))
 
 -- another receiver's doesn't
 other_refusal : IsWhole 1 (commands.Poll 2) (Unassembled Memory ∷ [])

@@ -9,6 +9,7 @@ use Rattle.theory.specs.Position.{Geometry, aligned, framed_length}
 use Rattle.theory.specs.Placed.{Among, Data, Frame, Pad, frame_length}
 use Rattle.theory.specs.Assembly.{after_all, nothing_heard}
 use Rattle.theory.specs.Wire.{SpellsDatagram, Wire}
+use Rattle.assembler.specs.declared.fault.AssemblyError.TheVariants.{Memory, TooLong}
 use Rattle.script.specs.Meaning as commands
 use Rattle.script.specs.Meaning.{CommandContent}
 use Rattle.receiver.specs.declared.receiver_core.Outcome.{Outcome}
@@ -52,9 +53,15 @@ abbrev pub messages_in : LineContent → List (List ℕ)
 messages_in (content.Message bytes) = bytes ∷ []
 messages_in line = []
 
-abbrev pub is_fault : LineContent → Bool
-is_fault (content.Unassembled fault) = true
-is_fault line = false
+-- the assembler was refused memory
+abbrev pub is_refusal : LineContent → Bool
+is_refusal (content.Unassembled Memory) = true
+is_refusal line = false
+
+-- a message was longer than the greatest
+abbrev pub is_too_long : LineContent → Bool
+is_too_long (content.Unassembled TooLong) = true
+is_too_long line = false
 
 abbrev pub joins_of : Outcome → List ℕ
 joins_of (outcomes.Opened join) = join ∷ []
@@ -93,10 +100,15 @@ joined_by i (commands.Deliver k number now) lines = if nat_eq number i then flat
 joined_by i (commands.Raw number now bytes) lines = if nat_eq number i then flat_map joins_in lines else []
 joined_by i command lines = []
 
--- no poll of the receiver printed a fault of its assembler
+-- no poll of the receiver printed that memory was refused to its assembler
 abbrev pub IsWhole : ℕ → CommandContent → List LineContent → Type 0
-IsWhole i (commands.Poll number) lines = number ≡ i → AllByRecursion (λ line. is_fault line ≡ false) lines
+IsWhole i (commands.Poll number) lines = number ≡ i → AllByRecursion (λ line. is_refusal line ≡ false) lines
 IsWhole i command lines = ⊤
+
+-- nor that a message was too long
+abbrev pub IsShort : ℕ → CommandContent → List LineContent → Type 0
+IsShort i (commands.Poll number) lines = number ≡ i → AllByRecursion (λ line. is_too_long line ≡ false) lines
+IsShort i command lines = ⊤
 
 -- the bytes of the packets that a line of the sender or of a receiver printed
 abbrev pub packets_in : LineContent → List (List ℕ)
@@ -168,6 +180,9 @@ joins i played = flat_map (λ p. joined_by i p.command p.lines) played
 abbrev pub AllWhole : ℕ → List Played → Type 0
 AllWhole i played = AllByRecursion (λ p. IsWhole i p.command p.lines) played
 
+abbrev pub AllShort : ℕ → List Played → Type 0
+AllShort i played = AllByRecursion (λ p. IsShort i p.command p.lines) played
+
 -- the packets that lines printed
 abbrev pub printed : List Played → List (List ℕ)
 printed played = flat_map (λ p. packets_by p.command p.lines) played
@@ -194,9 +209,9 @@ abbrev pub PolledTo : Geometry → ℕ → List Played → Type 0
 PolledTo g i played =
     (j : ℕ) × (q : ℕ) × (joins i played ≡ j ∷ []) × (polled i played ≡ between j q (published g played)) × ((least : ℕ) → LastTold i least played → q ≡ least)
 
--- after each line of a script: of each receiver whose image was given the sender's frames alone, unless its assembler wanted memory
+-- after each line of a script: of each receiver whose image was given the sender's frames alone, unless memory was refused to its assembler. No message is too long for it
 abbrev pub PolledPrefix : Geometry → List Played → Type 0
-PolledPrefix g played = (i : ℕ) → i < 8 → AllWhole i played → AllHonest i played → PolledNothing i played ⊎ PolledTo g i played
+PolledPrefix g played = (i : ℕ) → i < 8 → AllWhole i played → AllHonest i played → (PolledNothing i played ⊎ PolledTo g i played) × AllShort i played
 
 -- what frames cover
 abbrev pub covered_by : List Frame → ℕ

@@ -3,19 +3,20 @@
 //! the law.
 //!
 //! Whatever lines answer a script in this way: after each line, what a receiver's polls printed is what was
-//! published, where its image was given no frame but those that had been printed in a packet, and what a reader's
-//! lines showed is what was published; with such a receiver's image the log and its sender are a world to which a run
-//! of the model leads (`polls_a_prefix`). Each image, whatever its receiver was handed, keeps its frames apart and
-//! its consumer within bounds (`images_stay_in_bounds`). The log's shares are those of all entries, and a book has
-//! one text (`shares_are_counted`). What the sender may be asked for again is still in the log, and what it reads
-//! again is what it sent (`sends_again_what_it_sent`).
+//! published, and no message was too long for it, where its image was given no frame but those that had been printed
+//! in a packet, and no memory was refused to its assembler; what a reader's lines showed is what was published; with
+//! such a receiver's image the log and its sender are a world to which a run of the model leads (`polls_a_prefix`).
+//! Each image, whatever its receiver was handed, keeps its frames apart and its consumer within bounds
+//! (`images_stay_in_bounds`). The log's shares are those of all entries, and a book has one text
+//! (`shares_are_counted`). What the sender may be asked for again is still in the log, and what it reads again is what
+//! it sent (`sends_again_what_it_sent`).
 #![tactic(auto)]
 
 ghost use Rattle.script_meaning.specs.Output.{AlwaysCounted, AlwaysInBounds, AlwaysPolled, AlwaysRuns, HasOneBook};
 ghost use Rattle.script_meaning.specs.Standing.{AlwaysAgain, AlwaysThere};
 
 use frames::one_reading;
-use model::{every_run, steps_keep};
+use model::{every_run, messages_between, steps_keep};
 use retransmit::near_starts_suffice;
 use theory::names_place;
 
@@ -26,14 +27,16 @@ pub fn shares_are_counted()
 {}
 
 /// Whatever is answered line by line: what the polls of a receiver printed is what was published between its join and its
-/// position, where its image was given no frame but the sender's; and what an assembler gives of the frames that a reader
-/// showed is what was published up to its position. The lines are events of the model's world.
+/// position, and no message was too long for it, where its image was given no frame but the sender's, and no memory was
+/// refused to its assembler; and what an assembler gives of the frames that a reader showed is what was published up to
+/// its position. The lines are events of the model's world.
 pub fn polls_a_prefix()
     ensures polled { AlwaysPolled }
     ensures runs { AlwaysRuns }
 {
     // Laws that the proof cites.
     every_run();
+    messages_between();
     steps_keep();
     names_place();
     one_reading();
@@ -52,6 +55,7 @@ pub fn sends_again_what_it_sent()
 {
     // Laws that the proof cites.
     every_run();
+    messages_between();
     steps_keep();
     names_place();
     one_reading();

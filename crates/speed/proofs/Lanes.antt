@@ -1,6 +1,6 @@
 -- Lanes of a log that opens, of one that threads publish to, and of one that closes.
 use Rattle.std.proofs.Common.{◌≡◌, ℕ, zero, suc, ◌+◌, ◌*◌, ◌<◌, nat_eq, List, [], ◌∷◌, ◌++◌, map, length, get_or, take, drop, subst, sym, refl, ap, ◌∙◌, arith}
-use Rattle.std.specs.Prelude.{if◌then◌else◌}
+use Rattle.std.specs.Prelude.{if◌then◌else◌, vec_capacity}
 use Rattle.std.proofs.lemmas.List.{take-append-drop}
 use Rattle.std.proofs.lemmas.List.Elements.{All-from_recursion}
 use Rattle.std.proofs.lemmas.Bool.Decides.{nat_tests}
@@ -13,13 +13,19 @@ use Rattle.log_rule.proofs.Claimed.Totals.{total_append, total_map}
 use Rattle.shared_log.specs.Handles.{AreNew, LogValue}
 use Rattle.shared_log.specs.Keepers.{KeeperValue}
 use Rattle.shared_log.specs.Books.{AreAll, IsDone}
+use Rattle.speed.specs.declared.rounds.claiming.Job.{Job}
 use Rattle.speed.specs.declared.rounds.lane.Lane.{Lane}
-use Rattle.speed.specs.Rounds.{IsKept, IsLane, IsSent, messages_of, parts_of, publisher_in}
+use Rattle.speed.specs.Rounds.{IsJob, IsKept, IsLane, IsSent, lane_in, messages_of, parts_of, publisher_in}
 
 -- eight elements, by their places
 pub eight : {A : Type 0} (xs : List A) (a b c d e f g h : A) → length xs ≡ 8 → a ≡ get_or xs 0 a → b ≡ get_or xs 1 b → c ≡ get_or xs 2 c → d ≡ get_or xs 3 d → e ≡ get_or xs 4 e → f ≡ get_or xs 5 f → g ≡ get_or xs 6 g → h ≡ get_or xs 7 h → a ∷ b ∷ c ∷ d ∷ e ∷ f ∷ g ∷ h ∷ [] ≡ xs
 eight (x0 ∷ x1 ∷ x2 ∷ x3 ∷ x4 ∷ x5 ∷ x6 ∷ x7 ∷ []) a b c d e f g h long e0 e1 e2 e3 e4 e5 e6 e7 = λ i. e0 i ∷ e1 i ∷ e2 i ∷ e3 i ∷ e4 i ∷ e5 i ∷ e6 i ∷ e7 i ∷ []
 eight xs a b c d e f g h long e0 e1 e2 e3 e4 e5 e6 e7 = absurd (omega arith)
+
+-- a sum over four
+pub sum_four : {A : Type 0} (f : A → ℕ) (xs : List A) (a b c d : A) → length xs ≡ 4 → a ≡ get_or xs 0 a → b ≡ get_or xs 1 b → c ≡ get_or xs 2 c → d ≡ get_or xs 3 d → f a + (f b + (f c + (f d + 0))) ≡ total f xs
+sum_four f (x0 ∷ x1 ∷ x2 ∷ x3 ∷ []) a b c d long e0 e1 e2 e3 = λ i. f (e0 i) + (f (e1 i) + (f (e2 i) + (f (e3 i) + 0)))
+sum_four f xs a b c d long e0 e1 e2 e3 = absurd (omega arith)
 
 -- ---- new ones
 
@@ -52,6 +58,11 @@ new_parts l (x ∷ xs) new =
     let e : parts_of x ≡ 176 = ap (λ (v : Pass). v.right.parts) new.0.pass in
     let r = later_parts l 0 xs new.1 in
     omega arith
+
+-- with blocks
+pub jobs_are : (l : LogValue) (jobs : List Job) → AllByRecursion (λ job. vec_capacity job.block ≡ l.identity.geometry.mtu) jobs → AllByRecursion (IsLane l) (map lane_in jobs) → AllByRecursion (λ lane. lane.accepted ≡ 0) (map lane_in jobs) → AllByRecursion (IsJob l) jobs
+jobs_are l [] room lanes none = tt
+jobs_are l (j ∷ js) room lanes none = (record { lane = lanes.0; none = none.0; room = omega (arith, room.0) }, jobs_are l js room.1 lanes.1 none.1)
 
 -- ---- filled ones
 

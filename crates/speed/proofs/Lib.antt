@@ -3,3 +3,4 @@ pub mod Lanes
 pub mod Books
 pub mod Followers
 pub mod Limits
+pub mod Laps

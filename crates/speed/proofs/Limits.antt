@@ -1,7 +1,7 @@
 -- The limit of a log that opens for a round.
-use Rattle.std.proofs.Common.{◌≡◌, ◌∙◌, ℕ, ◌+◌, ◌/◌, ◌%◌, ◌<◌, ◌≤◌, max, true, List, [], ◌∷◌, length, refl, sym, ap, subst, arith}
+use Rattle.std.proofs.Common.{◌≡◌, ◌∙◌, ℕ, ◌+◌, ◌/◌, ◌%◌, ◌<◌, ◌≤◌, max, true, List, [], ◌∷◌, length, ap, arith}
 use Rattle.std.specs.Prelude.{nat_eq, slice_index}
-use Rattle.theory.specs.Position.{IsGeometry, Geometry}
+use Rattle.theory.specs.Position.{IsGeometry}
 use Rattle.theory.specs.Refusal.{is_connected, limit_in}
 use Rattle.theory.proofs.Places.{power_half}
 use Rattle.log_rule.specs.Keepings.{least_of}

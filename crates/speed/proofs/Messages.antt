@@ -8,19 +8,23 @@ use Rattle.theory.specs.Words.{offset_in}
 use Rattle.theory.proofs.Cuts.{short_cuts}
 use Rattle.theory.proofs.Lists.{all_append}
 use Rattle.publication.specs.declared.pass.ClaimRange.{ClaimRange}
+use Rattle.publication.specs.declared.pass.FrameWords.{FrameWords}
 use Rattle.publication.specs.declared.pass.Pass.{Pass}
 use Rattle.publication.specs.declared.refusal.Refusal.{Refusal}
 use Rattle.publication.specs.declared.refusal.Refusal.TheVariants.{NotConnected, BackPressured, AdminAction, Closed, MaxPositionExceeded}
 use Rattle.publication.specs.declared.step.WordStep.{WordStep}
 use Rattle.publication.specs.declared.step.WordStep.TheVariants as steps
-use Rattle.publication.specs.Steps.{Keeps, count_in, geometry_of, message_at, padding_at, term_of}
+use Rattle.publication.specs.Steps.{Keeps, count_in, geometry_of, message_at, padding_at, term_of, with_work}
 use Rattle.publication.specs.Claims.{Justified, Leaves, LeavesPadding}
-use Rattle.publication.specs.Offers.{Offered}
+use Rattle.publication.specs.Offers.{Offered, Opened}
+use Rattle.theory.specs.Bytes.{Identity}
+use Rattle.log_rule.specs.Claims.Handles.{PublisherValue}
 use Rattle.log_rule.specs.Claims.Rule.{entry_of}
 use Rattle.log_rule.specs.Claims.Sums.{total}
 use Rattle.log_rule.proofs.Claimed.Memories.{maps_append}
 use Rattle.log_rule.proofs.Claimed.Totals.{total_append}
-use Rattle.speed.specs.Rounds.{IsSent, message_in, messages_of}
+use Rattle.shared_log.specs.Handles.{IsOf, LogValue}
+use Rattle.speed.specs.Rounds.{Claims, IsSender, IsSent, message_in, messages_of}
 
 -- it has claimed so many messages more, and nothing else but paddings
 pub record Kept (p : Pass) (more : ℕ) (q : Pass) : Type 0 where
@@ -58,6 +62,24 @@ offered p message end q one h =
 
 pub offered_idle : (p : Pass) (message : List ℕ) (end : ℕ) (q : Pass) → Offered p message end q → q.right.armed ≡ 0
 offered_idle p message end q h = ap (λ (v : Pass). v.right.armed) h.after ∙ h.claimed.idle
+
+-- one of 200 bytes that was claimed, and then committed
+pub claimed : (p q : Pass) (start : ℕ) (frames : List FrameWords) → cuts_of (geometry_of p) 200 ≡ 232 ∷ [] → p.work.drafts ≡ [] → Opened p 200 start q → Kept p 1 (with_work frames [] q)
+claimed p q start frames one ended h =
+    let after = h.claimed.after in
+    one_more p (with_work frames [] q) (message_at p h.claimed.word 200) (record { owner = refl; message = λ _. one; padding = λ (no : false ≡ true). cc }) (ap (λ (x : Pass). x.right.claims) after) (ap (λ (x : Pass). x.number) after) (ap (λ (x : Pass). x.right.parts) after) (sym ended)
+
+-- ---- of a publisher
+
+pub claims : (l l' : LogValue) (p q : PublisherValue) (more : ℕ) → IsSender l p → l' ≡ l → IsOf l' q → q.pass.right.armed ≡ 0 → Kept p.pass more q.pass → Claims l p more q
+claims l l' p q more s same of off k = record {
+  sender = record { done = record { idle = record { of = subst (λ (x : LogValue). IsOf x q) same of; unarmed = off }; ended = k.drafts ∙ s.done.ended }; sent = at q s.done.idle.of.identity (k.sent (at p (sym s.done.idle.of.identity) s.sent)) };
+  parts = k.parts;
+  messages = k.messages;
+}
+  where
+    at : (x : PublisherValue) {i j : Identity} → i ≡ j → AllByRecursion (IsSent i.geometry.term_length x.pass.number) x.pass.right.claims → AllByRecursion (IsSent j.geometry.term_length x.pass.number) x.pass.right.claims
+    at x e all = subst (λ (i : Identity). AllByRecursion (IsSent i.geometry.term_length x.pass.number) x.pass.right.claims) e all
 
 -- ---- refusals
 

@@ -1,2 +1,4 @@
 pub mod Figures
+pub mod Laps
 pub mod Rounds
+pub mod Rows

@@ -1,5 +1,5 @@
 -- What a round's threads claim and read, and what its book shows of it.
-use Rattle.std.specs.Prelude.{◌≡◌, ℕ, ◌+◌, ◌*◌, ◌/◌, ◌<◌, ◌≤◌, ◌==◌, false, true, cond, List, [], ◌∷◌, length, slice_index, sum}
+use Rattle.std.specs.Prelude.{◌≡◌, ℕ, ◌+◌, ◌*◌, ◌/◌, ◌<◌, ◌≤◌, ◌==◌, false, true, cond, List, [], ◌∷◌, length, slice_index, sum, vec_capacity, Option}
 use Rattle.std.specs.List.{AllByRecursion}
 use Rattle.theory.specs.Position.{Geometry, span}
 use Rattle.theory.specs.Entry.{Entry, entry_end, length_of}
@@ -18,6 +18,8 @@ use Rattle.shared_log.specs.Handles.{LogValue}
 use Rattle.shared_log.specs.Readers.{IsReaderOf, ReaderValue, known_of}
 use Rattle.shared_log.specs.Keepers.{KeeperValue}
 use Rattle.shared_log.specs.Books.{IsDone}
+use Rattle.speed.specs.Laps.{Span, span_of}
+use Rattle.speed.specs.declared.rounds.claiming.Job.{Job}
 use Rattle.speed.specs.declared.rounds.lane.Lane.{Lane}
 use Rattle.speed.specs.declared.rounds.opening.Ready.{Ready}
 use Rattle.speed.specs.declared.rounds.streaming.Follower.{Follower}
@@ -67,6 +69,9 @@ publisher_in lane = lane.publisher
 abbrev pub accepted_in : Lane → ℕ
 accepted_in lane = lane.accepted
 
+abbrev pub lane_span : Lane → Option Span
+lane_span lane = span_of lane.lap
+
 abbrev pub parts_of : Lane → ℕ
 parts_of lane = lane.publisher.pass.right.parts
 
@@ -74,6 +79,20 @@ parts_of lane = lane.publisher.pass.right.parts
 pub record IsLane (l : LogValue) (lane : Lane) : Type 0 where
   pub sender : IsSender l lane.publisher
   pub counted : messages_of lane.publisher.pass ≡ lane.accepted
+
+-- ---- lanes that claim
+
+abbrev pub lane_in : Job → Lane
+lane_in job = job.lane
+
+abbrev pub job_parts : Job → ℕ
+job_parts job = parts_of job.lane
+
+-- nothing was accepted of its lane yet, and its block has room for a datagram
+pub record IsJob (l : LogValue) (job : Job) : Type 0 where
+  pub lane : IsLane l job.lane
+  pub none : job.lane.accepted ≡ 0
+  pub room : l.identity.geometry.mtu ≤ vec_capacity job.block
 
 -- ---- the reader and the keeper
 

@@ -1,5 +1,6 @@
 //! Rounds.
 
+pub(crate) mod claiming;
 pub(crate) mod closing;
 pub(crate) mod gate;
 pub(crate) mod lane;

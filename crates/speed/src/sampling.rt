@@ -2,10 +2,12 @@
 
 ghost use Rattle.std.specs.Prelude.{◌≡◌, ◌*◌, ◌/◌, ◌-◌, ◌^◌, ◌<◌, ◌≤◌, max, min, IfOk, IfSome};
 ghost use Rattle.std.specs.Duration.{as_nanos};
+ghost use Rattle.theory.specs.Position.{cuts_of};
+ghost use Rattle.publication.specs.Frames.{stored_words};
 ghost use Rattle.speed.specs.Figures.{AreByTurns, AreFigures, ByTurns, IsMedian};
 
 use crate::fault::SpeedError;
-use crate::rounds::round::play_round;
+use crate::rounds::round::{play_claims, play_round};
 use crate::rounds::storing::stores;
 use crate::rounds::streaming::play_stream;
 use crate::samples::{All, Samples, no_samples};
@@ -17,6 +19,15 @@ use std::time::{Clock, Duration};
 
 /// The words that one accepted offer stores: four of the header and 25 of the payload.
 const STORES: usize = 29;
+
+/// How many words so many accepted offers store, of 2^32 at the most.
+fn words_of(geometry: &Geometry, offers: u64) -> usize
+    ensures { result ≡ min offers (2 ^ 32) * stored_words (cuts_of geometry.now 200) }
+{
+    // What always holds of it, for the proof.
+    let _ = geometry.max_position();
+    offers.min(1 << 32) as usize * STORES
+}
 
 /// The medians for so many threads, in picoseconds.
 #[derive(Clone, Copy, Debug, PartialEq, Eq)]
@@ -55,13 +66,14 @@ fn claim_figure<R: Threads + Clock + Sync>(
 fn store_figure<R: Threads + Clock + Sync>(
     rt: &R,
     alloc: Global,
+    geometry: &Geometry,
     threads: usize,
     accepted: u64,
 ) -> Result<u64, SpeedError>
     requires some { 0 < threads }
 {
     let shared = accepted / threads as u64;
-    let length = shared.min(1 << 32) as usize * STORES;
+    let length = words_of(geometry, shared);
     let taken = stores(rt, alloc, threads, length)?.ok_or(SpeedError::Clock)?;
     Ok(each(taken, shared.saturating_mul(threads as u64)))
 }
@@ -77,7 +89,7 @@ fn sample<R: Threads + Clock + Sync>(
 {
     let (claim, accepted) = claim_figure(rt, alloc, geometry, samples.threads)?;
     samples.claims.push(claim)?;
-    let stored = store_figure(rt, alloc, samples.threads, accepted)?;
+    let stored = store_figure(rt, alloc, &geometry, samples.threads, accepted)?;
     samples.stores.push(stored)?;
     Ok(())
 }
@@ -154,6 +166,41 @@ pub fn measure_stream<R: Threads + Clock + Sync>(
     let mut figures = Vec::new(alloc);
     for _ in 0..rounds {
         let figure = stream_figure(rt, alloc, geometry, publishers, messages)?;
+        figures.push(figure)?;
+    }
+    Ok(median_of(figures.as_mut_slice()))
+}
+
+/// What each claim of a round took that was written and committed.
+fn written_figure<R: Threads + Clock + Sync>(
+    rt: &R,
+    alloc: Global,
+    geometry: Geometry,
+    threads: usize,
+) -> Result<u64, SpeedError>
+    requires some { 0 < threads }
+    requires eight { threads ≤ 8 }
+{
+    let filled = play_claims(rt, alloc, geometry, threads)?;
+    let taken = filled.taken.ok_or(SpeedError::Clock)?;
+    Ok(each(taken, filled.accepted))
+}
+
+/// Measures claims by so many threads that are written and committed, in so many rounds. The answer is the median, in
+/// picoseconds for each of them.
+pub fn measure_claims<R: Threads + Clock + Sync>(
+    rt: &R,
+    alloc: Global,
+    geometry: Geometry,
+    threads: usize,
+    rounds: usize,
+) -> Result<Option<u64>, SpeedError>
+    requires some { 0 < threads }
+    requires eight { threads ≤ 8 }
+{
+    let mut figures = Vec::new(alloc);
+    for _ in 0..rounds {
+        let figure = written_figure(rt, alloc, geometry, threads)?;
         figures.push(figure)?;
     }
     Ok(median_of(figures.as_mut_slice()))

@@ -10,6 +10,7 @@ returns-clause-there c = always_there (record {
   spelled = c.every_run.ensures.spelled;
   readable = c.every_run.ensures.readable;
   passed = c.steps_keep.ensures.passed;
+  short = c.messages_between.ensures.short;
   places = record { place = c.names_place.ensures.place; header = c.names_place.ensures.header };
   reading = λ a b bytes. c.one_reading.ensures bytes a b;
 })
@@ -23,6 +24,7 @@ returns-clause-again c = always_again (record {
   spelled = c.every_run.ensures.spelled;
   readable = c.every_run.ensures.readable;
   passed = c.steps_keep.ensures.passed;
+  short = c.messages_between.ensures.short;
   places = record { place = c.names_place.ensures.place; header = c.names_place.ensures.header };
   reading = λ a b bytes. c.one_reading.ensures bytes a b;
 }) c.near_starts_suffice.ensures.range

@@ -1,4 +1,10 @@
-//! A common start of several threads, and the time from it to the last one's end.
+//! A common start of several threads, and the time from the first one's begin to the last one's end.
+
+ghost use Rattle.std.specs.Prelude.{◌≡◌, max, min};
+ghost use Rattle.std.specs.Duration.{as_nanos};
+ghost use Rattle.std.specs.Option.{option_map};
+ghost use Rattle.std.specs.Time.{instant_nanos};
+ghost use Rattle.speed.specs.Laps.{joined_span, nanos_in, span_of, span_read};
 
 use std::sync::atomic::{AtomicU64, Ordering};
 use std::time::{Duration, Instant};
@@ -51,22 +57,53 @@ impl Gate {
 /// When a thread began its work and when it ended it, if the clock could be read.
 pub(crate) type Lap = Option<(Instant, Instant)>;
 
-pub(crate) fn lap(began: io::Result<Instant>, ended: io::Result<Instant>) -> Lap {
+pub(crate) fn lap(began: io::Result<Instant>, ended: io::Result<Instant>) -> Lap
+    ensures { span_of result ≡ span_read began ended }
+{
     match (began, ended) {
         (Ok(began), Ok(ended)) => Some((began, ended)),
         _ => None,
     }
 }
 
+fn earlier(one: Instant, other: Instant) -> Instant
+    ensures { instant_nanos result ≡ min (instant_nanos one) (instant_nanos other) }
+{
+    if one.checked_duration_since(other).is_some() {
+        other
+    } else {
+        one
+    }
+}
+
+fn later(one: Instant, other: Instant) -> Instant
+    ensures { instant_nanos result ≡ max (instant_nanos one) (instant_nanos other) }
+{
+    if one.checked_duration_since(other).is_some() {
+        one
+    } else {
+        other
+    }
+}
+
 /// The lap from the earlier begin of two to the later end.
-pub(crate) fn joined(one: Lap, other: Lap) -> Lap {
-    let (began, ended) = one?;
-    let (first, last) = other?;
-    Some((began.min(first), ended.max(last)))
+pub(crate) fn joined(one: Lap, other: Lap) -> Lap
+    ensures { span_of result ≡ joined_span (span_of one) (span_of other) }
+{
+    match (one, other) {
+        (Some((began, ended)), Some((first, last))) => {
+            Some((earlier(began, first), later(ended, last)))
+        }
+        _ => None,
+    }
 }
 
 /// How long a lap took.
-pub(crate) fn duration(lap: Lap) -> Option<Duration> {
-    let (began, ended) = lap?;
-    Some(ended.duration_since(began))
+pub(crate) fn duration(lap: Lap) -> Option<Duration>
+    ensures { option_map as_nanos result ≡ option_map nanos_in (span_of lap) }
+{
+    match lap {
+        Some((began, ended)) => Some(ended.duration_since(began)),
+        None => None,
+    }
 }

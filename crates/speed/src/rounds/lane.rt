@@ -3,7 +3,8 @@
 ghost use Rattle.std.specs.Prelude.{◌≡◌, ◌^◌, ◌<◌, ◌≤◌, length, map};
 ghost use Rattle.std.specs.List.{AllByRecursion};
 ghost use Rattle.log_rule.specs.Claims.Sums.{total};
-ghost use Rattle.speed.specs.Rounds.{IsLane, accepted_in, parts_of, publisher_in};
+ghost use Rattle.speed.specs.Laps.{IsWhole, span_of};
+ghost use Rattle.speed.specs.Rounds.{IsLane, accepted_in, lane_span, parts_of, publisher_in};
 
 use crate::rounds::gate::{Gate, Lap, joined, lap};
 use crate::rounds::offering::{Aim, offer_all};
@@ -78,8 +79,13 @@ pub(crate) fn taken_apart(lanes: [Lane; 8]) -> ([Publisher; 8], u64)
 }
 
 /// From the first begin to the last end.
-pub(crate) fn lap_of(lanes: &[Lane]) -> Lap {
-    let mut whole = lanes.first()?.lap;
+pub(crate) fn lap_of(lanes: &[Lane]) -> Lap
+    ensures { IsWhole (map lane_span lanes.now) (span_of result) }
+{
+    let Some(first) = lanes.first() else {
+        return None;
+    };
+    let mut whole = first.lap;
     for lane in lanes {
         whole = joined(whole, lane.lap);
     }

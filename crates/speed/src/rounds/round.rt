@@ -3,6 +3,7 @@
 ghost use Rattle.std.specs.Prelude.{◌≡◌, ◌<◌, ◌≤◌, IfErr, IfOk};
 ghost use Rattle.speed.specs.Rounds.{IsFilled};
 
+use crate::rounds::claiming::{claim_eight, jobs_of};
 use crate::rounds::closing::close_all;
 use crate::rounds::gate::{Gate, duration};
 use crate::rounds::lane::{lap_of, run_first};
@@ -46,6 +47,37 @@ pub fn play_round<R: Threads + Clock + Sync>(
     } = open_ready(alloc, geometry)?;
     let gate = Gate::new(threads);
     let lanes = run_first(rt, &log, &gate, Aim::Fill, threads, lanes);
+    let taken = duration(lap_of(&lanes[..threads]));
+    let (book, accepted) = close_all(alloc, log, lanes, readers, keeper)?;
+    Ok(Round {
+        book,
+        accepted,
+        taken,
+    })
+}
+
+/// The same, but that each thread claims a range for each message, writes it there, and commits it. A claim's bytes are zeros
+/// before, so each is stored twice in the publisher's own block, and then once in the log.
+pub fn play_claims<R: Threads + Clock + Sync>(
+    rt: &R,
+    alloc: Global,
+    geometry: Geometry,
+    threads: usize,
+) -> Result<Round, LogError>
+    requires some { 0 < threads }
+    requires eight { threads ≤ 8 }
+    ensures filled { IfOk result (λ r. IsFilled geometry r.book r.accepted) }
+    ensures memory { IfErr result (λ e. e ≡ LogError.Memory) }
+{
+    let Ready {
+        log,
+        lanes,
+        readers,
+        keeper,
+    } = open_ready(alloc, geometry)?;
+    let jobs = jobs_of(alloc, &log, lanes, threads)?;
+    let gate = Gate::new(threads);
+    let lanes = claim_eight(rt, &log, &gate, jobs);
     let taken = duration(lap_of(&lanes[..threads]));
     let (book, accepted) = close_all(alloc, log, lanes, readers, keeper)?;
     Ok(Round {

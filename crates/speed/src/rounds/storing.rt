@@ -1,6 +1,8 @@
 //! Plain stores, to compare with.
 
-ghost use Rattle.std.specs.Prelude.{◌<◌};
+ghost use Rattle.std.specs.Prelude.{◌≡◌, ◌<◌, IfOk, map, replicate, vec_len};
+ghost use Rattle.speed.specs.Laps.{IsWhole, span_of};
+ghost use Rattle.speed.specs.Rows.{row_length, row_span};
 
 use crate::rounds::gate::{Gate, Lap, duration, joined, lap};
 use std::alloc::{AllocError, Global};
@@ -16,7 +18,9 @@ struct Row {
     lap: Lap,
 }
 
-fn zeros(alloc: Global, length: usize) -> Result<Row, AllocError> {
+fn zeros(alloc: Global, length: usize) -> Result<Row, AllocError>
+    ensures { IfOk result (λ row. row_length row ≡ length) }
+{
     let mut words = Vec::with_capacity(alloc, length)?;
     for _ in 0..length {
         words.push(AtomicU64::new(0))?;
@@ -24,7 +28,9 @@ fn zeros(alloc: Global, length: usize) -> Result<Row, AllocError> {
     Ok(Row { words, lap: None })
 }
 
-fn rows(alloc: Global, threads: usize, length: usize) -> Result<Vec<Row>, AllocError> {
+fn rows(alloc: Global, threads: usize, length: usize) -> Result<Vec<Row>, AllocError>
+    ensures { IfOk result (λ rows. map row_length rows.items ≡ replicate threads length) }
+{
     let mut rows = Vec::with_capacity(alloc, threads)?;
     for _ in 0..threads {
         rows.push(zeros(alloc, length)?)?;
@@ -43,8 +49,13 @@ fn store_all<R: Clock>(rt: &R, gate: &Gate, row: &mut Row) {
 }
 
 /// From the first one's begin to the last one's end.
-fn whole_lap(rows: &[Row]) -> Lap {
-    let mut whole = rows.first()?.lap;
+fn whole_lap(rows: &[Row]) -> Lap
+    ensures { IsWhole (map row_span rows.now) (span_of result) }
+{
+    let Some(first) = rows.first() else {
+        return None;
+    };
+    let mut whole = first.lap;
     for row in rows {
         whole = joined(whole, row.lap);
     }
