@@ -76,3 +76,10 @@ fault_keeps {R} {F} source after_status reached has_heard grown after_tick now t
     either : ((t ≡ c.middle) × (c.given ≡ [])) ⊎ TicksBehind (Ticks source grown after_tick reached) now c.heard c.lost c.answers c.given c.sent c.middle d t e → t.heard ≡ true
     either (inl same) = ap heard_of same.0 ∙ heard
     either (inr k) = ap heard_of k.ticked.state ∙ heard
+
+-- over datagrams one after the other, and over a moment
+pub all_keep : {R F : Type 0} (source : R → Source) (after_status : F → ℤ → ℤ → ℤ → ℕ → F) (reached : F → ℕ) (has_heard : F → Bool) (now : ℕ) (s : Sending R F) (ds : List (List ℕ)) (t : Sending R F) (given : List (List ℕ)) → HearsAll (Hears source after_status reached has_heard) now s ds t given → s.heard ≡ true → t.heard ≡ true
+all_keep source after_status reached has_heard now s ds t given h on = keeps s t _ (by_all source after_status reached has_heard now s ds t given h) on
+
+pub tick_keeps : {R F : Type 0} (source : R → Source) (grown : List Placed → List Placed → Type 0) (after_tick : F → ℕ → F) (reached : F → ℕ) (now : ℕ) (s t : Sending R F) (given : List (List ℕ)) → Ticks source grown after_tick reached s now t given → s.heard ≡ true → t.heard ≡ true
+tick_keeps source grown after_tick reached now s t given k on = ap heard_of k.state ∙ on

@@ -8,3 +8,4 @@ pub mod Conducting
 pub mod NewPasses
 pub mod LogSenders
 pub mod DutyLends
+pub mod Rounds

@@ -1,15 +1,16 @@
 //! A device with its room, and a party's cycle over it.
 
-ghost use Rattle.std.specs.Prelude.{◌≡◌, IfErr, IfOk};
+ghost use Rattle.std.specs.Prelude.{◌≡◌, ◌≤◌, IfErr, IfOk};
 ghost use Rattle.endpoint.specs.declared.device_error.DeviceError.TheVariants.{Memory};
 ghost use Rattle.endpoint.specs.Devices.{NeverFall};
 ghost use Rattle.std.specs.Borrow.{sem};
 ghost use Rattle.agents.specs.Cycles.{Cycle, FailuresAreCounted, Fault, Hearing, MemoryLosesOne, Ticking};
 ghost use Rattle.agents.specs.DutyLends.{lends_device};
+ghost use Rattle.agents.specs.Rounds.{HearsWays, WayFault, WaysCycle, WaysFault};
 
 use crate::party::Party;
 use crate::sending::send_all;
-use endpoint::{Datagrams, DeviceError, DeviceFailed, GREATEST_DATAGRAM};
+use endpoint::{Datagrams, DeviceError, DeviceFailed, GREATEST_DATAGRAM, Ways};
 use outbox::Outbox;
 use std::alloc::{AllocError, Global};
 use std::marker::Model;
@@ -166,5 +167,43 @@ impl<D: Datagrams> Duty<D> {
         let heard = self.hear_all(party, now)?;
         let sent = self.tick(party, now)?;
         Ok(heard > 0 || sent)
+    }
+}
+
+impl<D: Ways> Duty<D> {
+    /// Takes the datagrams that have come along each way, in order, 16 at the most along each. Whether there were any.
+    fn hear_ways<P: Party>(&mut self, party: &mut P, now: u64) -> Result<bool, DeviceError>
+        requires stands { P.stands party.old }
+        requires size { self.old.mtu ≡ P.mtu party.old }
+        ensures counts { (D.device self.old.device).failures ≤ (D.device self.new.device).failures }
+        ensures hears { IfOk result (λ any. HearsWays P.hears P.ticks now D.device D.tells D.turned (D.way_count self.old.device) any party.old self.old.device party.new self.new.device) }
+        ensures fault { IfErr result (λ fault. WayFault P.hears P.ticks now D.device D.tells D.turned (D.way_count self.old.device) fault party.old self.old.device party.new self.new.device) }
+        ensures stands { P.stands party.new }
+        ensures size { (self.new.mtu ≡ self.old.mtu) × (P.mtu party.new ≡ P.mtu party.old) }
+    {
+        let mut any = false;
+        for way in 0..self.device.ways() {
+            self.device.turn_to(way);
+            let count = self.hear_all(party, now)?;
+            any = any || count > 0;
+        }
+        Ok(any)
+    }
+
+    /// A cycle over a device of several ways, at a moment in nanoseconds: as `cycle` does, but at most 16 datagrams are taken
+    /// from each way, in the order of the ways, and then the party is told the moment, once. What it gives out goes along all
+    /// ways. Where a fault came while a way was heard, those behind it weren't.
+    pub fn cycle_ways<P: Party>(&mut self, party: &mut P, now: u64) -> Result<bool, DeviceError>
+        requires stands { P.stands party.old }
+        requires size { self.old.mtu ≡ P.mtu party.old }
+        ensures counts { (D.device self.old.device).failures ≤ (D.device self.new.device).failures }
+        ensures cycle { IfOk result (λ busy. WaysCycle P.hears P.ticks now D.device D.tells D.turned (D.way_count self.old.device) party.old self.old.device busy party.new self.new.device) }
+        ensures fault { IfErr result (λ fault. WaysFault P.hears P.ticks now D.device D.tells D.turned (D.way_count self.old.device) fault party.old self.old.device party.new self.new.device) }
+        ensures stands { P.stands party.new }
+        ensures size { (self.new.mtu ≡ self.old.mtu) × (P.mtu party.new ≡ P.mtu party.old) }
+    {
+        let heard = self.hear_ways(party, now)?;
+        let sent = self.tick(party, now)?;
+        Ok(heard || sent)
     }
 }

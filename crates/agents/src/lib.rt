@@ -18,8 +18,11 @@
 //! subscriber stands no lower than what was published last. A conductor's cycle does one command, by one
 //! store of the limit word, or finds the queue empty; then the keeper cleans and limits (`conduct`).
 //!
+//! Over a device of several ways a cycle hears each of them once, in order, as above, and then comes one tick, also at a
+//! fault, up to that (`Duty::cycle_ways`, `SenderAgent::cycle_ways`; `WaysCycle`, `WaysFault`).
+//!
 //! A log opens for the agents of one stream with one reader and all its passes (`open_log`, by `AreNewPasses`), and its
-//! sender's agent has sent nothing yet (`open_sender`, by `IsNewSender`). `IdleStrategy::after` counts the idle turns
+//! sender's agent has sent nothing yet (`open_sender`, by `IsNewSender`; to a group `open_stream_sender`, by `IsNewSenderBy`). `IdleStrategy::after` counts the idle turns
 //! in a row, up to 200; that a thread yields or sleeps no contract can say.
 #![tactic(auto)]
 
@@ -41,7 +44,7 @@ pub use conductor_agent::conduct;
 pub use duty::{CYCLE_DATAGRAMS, Denied, Duty, faults_are_explained};
 pub use idle_strategy::IdleStrategy;
 pub use log_passes::{LogPasses, open_log};
-pub use log_sender::{LogSender, open_sender};
+pub use log_sender::{LogSender, StreamSender, open_sender, open_stream_sender};
 pub use party::Party;
 pub use receiver_agent::ReceiverAgent;
 pub use receiver_agent::named::Named;

@@ -1,14 +1,14 @@
 //! A sender's core with its one command.
 
-ghost use Rattle.std.specs.Prelude.{◌≡◌, false};
+ghost use Rattle.std.specs.Prelude.{◌≡◌, ◌≤◌, false};
 ghost use Rattle.endpoint.specs.Devices.{NeverFall};
 ghost use Rattle.sender.specs.Sending.{SendsFrom};
 ghost use Rattle.agents.specs.Asking.{AsksOnce};
-ghost use Rattle.agents.specs.Duties.{AgentCycle, Hears, Ticks};
+ghost use Rattle.agents.specs.Duties.{AgentCycle, AgentWays, Hears, Ticks};
 
 use crate::duty::Duty;
 use conductor::{Client, Command, Conductor};
-use endpoint::{Datagrams, DeviceError};
+use endpoint::{Datagrams, DeviceError, Ways};
 use flow_control::FlowControl;
 use frame_source::FrameSource;
 use sender::SenderCore;
@@ -95,6 +95,29 @@ impl<R: FrameSource<()>, F: FlowControl + Drop> SenderAgent<R, F> {
         ensures client { (client.new.queue ≡ client.old.queue) × (client.new.number ≡ client.old.number) }
     {
         let busy = duty.cycle(&mut self.core, now)?;
+        self.ask_once(rt, conductor, client);
+        Ok(busy)
+    }
+
+    /// The same over a device of several ways, along each of which a receiver is heard.
+    pub fn cycle_ways<W: Wait, D: Ways>(
+        &mut self,
+        rt: &W,
+        conductor: &Conductor,
+        client: &mut Client,
+        duty: &mut Duty<D>,
+        now: u64,
+    ) -> Result<bool, DeviceError>
+        requires stands { R.stands self.old.core.reads tt × SendsFrom self.old.core (R.source self.old.core.reads tt) }
+        requires size { duty.old.mtu ≡ self.old.core.identity.geometry.mtu }
+        requires queue { client.old.queue ≡ conductor.now }
+        ensures cycle { AgentWays (Hears (λ r. R.source r tt) F.after_status F.reached F.has_heard) (Ticks (λ r. R.source r tt) R.grown F.after_tick F.reached) now D.device D.tells D.turned (D.way_count duty.old.device) self.old client.old duty.old.device result self.new client.new duty.new.device }
+        ensures stands { R.stands self.new.core.reads tt × SendsFrom self.new.core (R.source self.new.core.reads tt) }
+        ensures size { (duty.new.mtu ≡ duty.old.mtu) × (self.new.core.identity.geometry.mtu ≡ self.old.core.identity.geometry.mtu) }
+        ensures counts { (D.device duty.old.device).failures ≤ (D.device duty.new.device).failures }
+        ensures client { (client.new.queue ≡ client.old.queue) × (client.new.number ≡ client.old.number) }
+    {
+        let busy = duty.cycle_ways(&mut self.core, now)?;
         self.ask_once(rt, conductor, client);
         Ok(busy)
     }

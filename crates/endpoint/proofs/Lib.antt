@@ -1,1 +1,2 @@
 pub mod FailingLemmas
+pub mod FanLemmas

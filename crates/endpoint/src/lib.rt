@@ -11,16 +11,23 @@
 //! never fails (`MemoryDevice`). One that fails on purpose fails its nth call and no other; every other is the inner
 //! device's (`FailingDatagrams`). One over UDP tells nothing, so what the system does with a datagram is only tested
 //! (`UdpDevice`).
+//!
+//! One of several ways sends each datagram along all of them, in order, up to a fault, and takes what comes from the one that
+//! was chosen last (`Ways`, `Fan`).
 #![tactic(auto)]
 
 mod datagrams;
 mod device_error;
 mod failing;
+mod fan;
 mod memory;
 mod udp;
+mod ways;
 
 pub use datagrams::{Datagrams, DeviceFailed, GREATEST_DATAGRAM, counts_grow};
 pub use device_error::DeviceError;
 pub use failing::FailingDatagrams;
+pub use fan::Fan;
 pub use memory::MemoryDevice;
 pub use udp::UdpDevice;
+pub use ways::Ways;

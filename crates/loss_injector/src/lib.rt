@@ -9,7 +9,7 @@
 //! has carried away what the injector makes of the datagram by that word, in order, or the first of it up to a fault.
 //! Only a datagram that is to be held back asks for memory; where that is refused, it is lost. A receive is the inner device's and draws
 //! nothing (`Lossy::new`, `Lossy` as `Datagrams`). Of the datagrams that went out with frames, those of new ones and
-//! those of frames sent again are counted, exactly (`Metered`).
+//! those of frames sent again are counted, exactly (`Metered`); along how many ways each of them goes doesn't matter.
 #![tactic(auto)]
 
 mod injector;

@@ -7,7 +7,7 @@ ghost use Rattle.endpoint.specs.Devices.{NeverFall};
 ghost use Rattle.frames.specs.Frames.{header_of, wire};
 ghost use Rattle.loss_injector.specs.Metering.{Meters, after_begin, after_header, header_in, metering};
 
-use endpoint::{Datagrams, DeviceFailed};
+use endpoint::{Datagrams, DeviceFailed, Ways};
 use frames::{Frame, Header, read_frame};
 use position::Geometry;
 use std::marker::Model;
@@ -132,5 +132,19 @@ impl<D: Datagrams> Datagrams for Metered<D> {
 
     fn nones(&self) -> u64 {
         self.inner.nones()
+    }
+}
+
+impl<D: Ways> Ways for Metered<D> {
+    ghost way_count = { λ m. D.way_count m.inner };
+
+    ghost turned = { λ m way. record m { inner = D.turned m.inner way } };
+
+    fn ways(&self) -> usize {
+        self.inner.ways()
+    }
+
+    fn turn_to(&mut self, way: usize) {
+        self.inner.turn_to(way);
     }
 }

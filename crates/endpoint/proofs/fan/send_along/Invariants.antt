@@ -1,0 +1,5 @@
+use Rattle.endpoint.proofs.FanLemmas.{SentAlong}
+use Rattle.endpoint.proofs.fan.send_along.Given as goal
+
+abbrev pub invariant-loop-way : goal.invariant-loop-way
+invariant-loop-way g l = SentAlong g.D.Datagrams.device g.D.Datagrams.tells l.fn.ways l.datagram l.way-index l.ways
