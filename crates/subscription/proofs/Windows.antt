@@ -1,6 +1,5 @@
 -- A window that the socket's buffer holds is one that the rules allow.
-use Rattle.std.proofs.Common.{◌≡◌, ◌∙◌, ℕ, ◌+◌, ◌*◌, ◌/◌, ◌%◌, ◌≤◌, max, min, refl, ap, arith}
-use Rattle.std.proofs.Math.Nat.{div-add-mod', mul-le-mul_left}
+use Rattle.std.proofs.Common.{◌≡◌, ◌∙◌, ℕ, ◌*◌, ◌/◌, ◌%◌, max, min, refl, ap, arith}
 use Rattle.std.proofs.lemmas.Nat.{mul-mod}
 use Rattle.theory.specs.Image.{IsWindow}
 use Rattle.theory.specs.Position.{IsMtu, IsTermLength}
@@ -12,20 +11,12 @@ least_row : window_of 65536 1408 ≡ 32768
 least_row = refl
 
 -- as much as the buffer holds, at the terms and the MTU of a channel that names none
-default_row : window_of 1048576 1408 ≡ 56320
+default_row : window_of 1048576 1408 ≡ 84480
 default_row = refl
 
--- at the greatest terms with that MTU, with one of 8 KiB, and with the greatest
-great_rows : (window_of 16777216 1408 ≡ 56320) × (window_of 16777216 8192 ≡ 65536) × (window_of 16777216 65504 ≡ 65504)
-great_rows = (refl, refl, refl)
-
--- the smallest datagrams are the most that find room
-pub few_datagrams : (mtu : ℕ) → 212992 / (3 * mtu + 1024) ≤ 208
-few_datagrams mtu =
-    let q = 212992 / (3 * mtu + 1024) in
-    let parts : q * (3 * mtu + 1024) + 212992 % (3 * mtu + 1024) ≡ 212992 = div-add-mod' 212992 (3 * mtu + 1024) in
-    let least : q * 1024 ≤ q * (3 * mtu + 1024) = mul-le-mul_left q (omega arith) in
-    omega (arith, parts, least)
+-- at the greatest terms with the smallest datagrams, with some of 7,680 and 8,192 bytes, and with the greatest
+great_rows : (window_of 16777216 256 ≡ 27904) × (window_of 16777216 7680 ≡ 122880) × (window_of 16777216 8192 ≡ 65536) × (window_of 16777216 65504 ≡ 65504)
+great_rows = (refl, refl, refl, refl)
 
 whole_rows : (k mtu : ℕ) → mtu % 32 ≡ 0 → (k * mtu) % 32 ≡ 0
 whole_rows k mtu unit = mul-mod k mtu 32 ∙ ap (λ (n : ℕ). (k % 32 * n) % 32) unit ∙ omega arith

@@ -1,19 +1,35 @@
 //! How great a window a subscriber's image has.
 
 ghost use Rattle.std.specs.Prelude.{◌≡◌, ◌≤◌};
-ghost use Rattle.subscription.specs.Windows.{datagrams_of, window_of};
+ghost use Rattle.subscription.specs.Windows.{datagrams_of, room_of, window_of};
 ghost use Rattle.theory.specs.Image.{IsWindow};
 ghost use Rattle.theory.specs.Position.{IsMtu, IsTermLength};
 
-/// The bytes of a socket's receive buffer, where nobody has set them.
-const SOCKET_BUFFER: u64 = 212_992;
+/// The bytes of a socket's receive buffer that a window may take, where nobody has set its size: of the system's 212,992 three
+/// quarters are sure to be free, and an eighth of that stays for datagrams that aren't full.
+const SURE_ROOM: u64 = 139_776;
+
+/// What a datagram of at most so many bytes takes of the buffer.
+fn room_of(mtu: u32) -> u64
+    ensures value { result ≡ room_of mtu }
+    ensures least { 1280 ≤ result }
+{
+    match mtu {
+        0..=512 => 1_280,
+        513..=1_536 => 2_304,
+        1_537..=3_584 => 4_352,
+        3_585..=7_680 => 8_448,
+        7_681..=15_872 => 16_640,
+        _ => 2 * u64::from(mtu) + 1_280,
+    }
+}
 
 /// How many datagrams of at most so many bytes find room in it.
 fn datagrams_of(mtu: u32) -> u64
     ensures value { result ≡ datagrams_of mtu }
-    ensures few { result ≤ 208 }
+    ensures few { result ≤ 109 }
 {
-    SOCKET_BUFFER / (3 * u64::from(mtu) + 1024)
+    SURE_ROOM / room_of(mtu)
 }
 
 /// The window in bytes of an image of terms of so many bytes and of this MTU: half a term, or as much as its socket's buffer is
