@@ -2,6 +2,9 @@
 //! keeps the log, notes who has received what, and decides the end (`send_all`), over what they share (`PublisherState`).
 //! Nobody waits for the one that reads: it may stay at its input for ever.
 //!
+//! What its publisher's pass has claimed and committed is the messages that were read from its input, in their order, each
+//! once and whole, and paddings, up to one that is still being offered (`read_input`, by `PublishesInput`).
+//!
 //! Its sender stands where the plan starts and sends from there, cycles and offers keep what their crates ask for,
 //! and each message is offered at a length that the log takes. Its device takes what fails for lost, loses by the plan's
 //! rates and seed, and screens and notes the plan's stream from the plan's start (`publisher_parts`, by
@@ -10,8 +13,8 @@
 //! (`send_all`, by `Ends`; `Progress`). Reading stops only at a full stream or the input's fault, which is told before
 //! one of sending; the texts that are told are exact, and at its end so is how often the stream's end is told.
 //!
-//! `publish` itself says none of this and is proved safe alone. That anything is offered or sent isn't said:
-//! `tools/channels` shows it.
+//! `publish` itself says none of this and is proved safe alone, since its threads hide the pass. That anything is read or sent
+//! isn't said: `tools/channels` shows it.
 #![tactic(auto)]
 
 mod channel_publisher;

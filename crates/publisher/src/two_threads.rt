@@ -57,8 +57,8 @@ fn read_there<R: Clock + Copy, I: BufRead + Drop>(
     alloc: Global,
     plan: PublishPlan,
     state: Arc<PublisherState>,
-    input: I,
-    publisher: Publisher,
+    mut input: I,
+    mut publisher: Publisher,
 )
     requires { IsDone (arc_value state).log publisher }
 {
@@ -68,7 +68,7 @@ fn read_there<R: Clock + Copy, I: BufRead + Drop>(
         plan: &plan,
         state: &state,
     };
-    let reading = read_input(&context, input, publisher);
+    let reading = read_input(&context, &mut input, &mut publisher);
     state.end_input(reading);
 }
 
