@@ -34,6 +34,7 @@ same_on p x q a b = record {
   start = b.start ∙ a.start;
   number = b.number ∙ a.number;
   parts = b.parts ∙ a.parts;
+  numbers = b.numbers ∙ a.numbers;
   reading = b.reading ∙ a.reading;
   keeping = b.keeping ∙ a.keeping;
 }
@@ -43,12 +44,12 @@ alike : (p e q : Pass) → q ≡ e → Same p e → Same p q
 alike p e q is same = subst (Same p) (sym is) same
 
 pub still : (p q : Pass) → Keeps p q → IsStill p q
-still p q h = record { drafts = ap (λ (v : Pass). v.work.drafts) h; same = alike p (seeing p q) q h (record { identity = refl; start = refl; number = refl; parts = refl; reading = refl; keeping = refl }) }
+still p q h = record { drafts = ap (λ (v : Pass). v.work.drafts) h; same = alike p (seeing p q) q h (record { identity = refl; start = refl; number = refl; parts = refl; numbers = refl; reading = refl; keeping = refl }) }
 
 pub still_padding : (p : Pass) (word : ℕ) (q : Pass) → LeavesPadding p word q → IsStill p q
 still_padding p word q h =
     ⊎_elim
-    (λ (low : offset_in word < term_of p). let e = h.below low in let s : IsStill p q = record { drafts = ap (λ (v : Pass). v.work.drafts) e; same = alike p (seeing (padded p word) q) q e (record { identity = refl; start = refl; number = refl; parts = refl; reading = refl; keeping = refl }) } in s)
+    (λ (low : offset_in word < term_of p). let e = h.below low in let s : IsStill p q = record { drafts = ap (λ (v : Pass). v.work.drafts) e; same = alike p (seeing (padded p word) q) q e (record { identity = refl; start = refl; number = refl; parts = refl; numbers = refl; reading = refl; keeping = refl }) } in s)
     (λ (high : term_of p ≤ offset_in word). still p q (h.over high))
     (cases_lt (offset_in word) (term_of p))
 
@@ -77,17 +78,17 @@ refused_idle p size Closed q h off = h.armed ∙ off
 refused_idle p size MaxPositionExceeded q h off = h.idle off
 
 pub claimed_same : (p : Pass) (size start : ℕ) (q : Pass) → Claimed p size start q → Same p q
-claimed_same p size start q h = alike p (seeing (opened p (message_at p h.word size)) q) q h.after (record { identity = refl; start = refl; number = refl; parts = refl; reading = refl; keeping = refl })
+claimed_same p size start q h = alike p (seeing (opened p (message_at p h.word size)) q) q h.after (record { identity = refl; start = refl; number = refl; parts = refl; numbers = refl; reading = refl; keeping = refl })
 
 pub granted_same : (p : Pass) (count size start : ℕ) (q : Pass) → Granted p count size start q → Same p q
-granted_same p count size start q h = alike p (seeing (opened p (message_at p h.word size)) q) q h.after (record { identity = refl; start = refl; number = refl; parts = refl; reading = refl; keeping = refl })
+granted_same p count size start q h = alike p (seeing (opened p (message_at p h.word size)) q) q h.after (record { identity = refl; start = refl; number = refl; parts = refl; numbers = refl; reading = refl; keeping = refl })
 
 -- it committed nothing
 pub granted_nothing : (p : Pass) (count size start : ℕ) (q : Pass) → Granted p count size start q → padding_words p q ≡ 0
 granted_nothing p count size start q h = let e = ap (λ (v : Pass). length v.work.frames) h.after in omega (arith, e)
 
 pub offered_same : (p : Pass) (message : List ℕ) (end : ℕ) (q : Pass) → Offered p message end q → Same p q
-offered_same p message end q h = same_on p h.between q (claimed_same p (length message) h.start h.between h.claimed) (alike h.between (with_work (p.work.frames ++ message_frames p.identity true h.start message) p.work.drafts h.between) q h.after (record { identity = refl; start = refl; number = refl; parts = refl; reading = refl; keeping = refl }))
+offered_same p message end q h = same_on p h.between q (claimed_same p (length message) h.start h.between h.claimed) (alike h.between (with_work (p.work.frames ++ message_frames p.identity true h.start message) p.work.drafts h.between) q h.after (record { identity = refl; start = refl; number = refl; parts = refl; numbers = refl; reading = refl; keeping = refl }))
 
 -- ---- what the types keep
 

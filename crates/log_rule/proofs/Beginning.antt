@@ -26,6 +26,8 @@ use Rattle.log_rule.proofs.Claimed.Memories.{tail_is}
 use Rattle.log_rule.proofs.Claimed.Begun.{fresh_is, fresh_zeros, ruled_first}
 use Rattle.log_rule.specs.declared.rule.Key.{Key}
 use Rattle.log_rule.specs.Edges.{IsPlaced}
+use Rattle.log_rule.specs.Numbers.{Owns, numbers_as}
+use Rattle.log_rule.proofs.Owning.{down_once}
 use Rattle.log_rule.specs.Kept.{Attends, IsReader, Kept, reads_as}
 use Rattle.log_rule.specs.Table.{LogRuled, consumers_at, now_at, whole_pass, whole_seat}
 use Rattle.log_rule.specs.Opening.{Begun}
@@ -150,6 +152,7 @@ opens key ws0 ws so count f o =
       ruled = subst (λ (n : ℕ). Ruled (now_at key n key.start) ws (p ∷ [])) (sym o.limit) ruled;
       kept = subst (λ (n : ℕ). Kept (now_at key n key.start) key.consumers ws (p ∷ [])) (sym o.limit) kept;
       sure = record { each = one_view (IsSure ws) (whole_seat key) record { whole = λ _. refl; exact = λ _. ap (λ (x : Controls). record x { limit = key.start }) (fresh_is k0 ws0 f) ∙ sym (controls_as o) } };
+      numbered = record { single = λ n. plus (numbers_as n p) (down_once n 7 8); each = one_pass Owns p record { claims = λ less. absurd (omega (arith, less)); armed = λ less _. absurd (omega (arith, less)) } };
     }
   where
     whole : (s : ℕ) → s % 32 ≡ 0 → limit_in s ≡ s

@@ -36,6 +36,8 @@ use Rattle.log_rule.proofs.Claimed.Memories.{slot_apart, tail_is, tail_low, whol
 use Rattle.log_rule.proofs.Claimed.Sures.{data_leaves, sure_on}
 use Rattle.log_rule.specs.declared.rule.Key.{Key}
 use Rattle.log_rule.specs.Edges.{AreCommitted, IsAmong, IsPlaced, begins_below, claimed_sum, committed_sum, in_entry, open_sum, open_weight}
+use Rattle.log_rule.specs.Numbers.{AreNumbered}
+use Rattle.log_rule.proofs.Owning.{attends_goes, numbered_on}
 use Rattle.log_rule.specs.Kept.{Attends, IsKeeper, IsReader, Kept, keepers_of, readers_of}
 use Rattle.log_rule.specs.Table.{LogRuled, now_at}
 use Rattle.log_rule.specs.Keepings.{CleansWord, MayClean, keeping, least_of, with_keeping}
@@ -246,6 +248,7 @@ module _ (key : Key) (slots id : ℕ) (m : Mine) where
           ruled = subst (λ (y : ℕ × List Pass). Ruled (now_at key y.0 (q.cleaned + 8)) ws' y.1) (λ j. (sym limit j, sym is_set j)) ruled;
           kept = subst (λ (y : ℕ × List Pass). Kept (now_at key y.0 (q.cleaned + 8)) key.consumers ws' y.1) (λ j. (sym limit j, sym is_set j)) kept;
           sure = sure_on bs ws s.views q.ruled q.sure id v w at i (λ _. 0) (inr (data_leaves i 0 (omega arith))) record { whole = sure.whole; exact = λ one. sure.exact one ∙ sym (data_leaves i 0 (omega arith) ws) };
+          numbered = subst AreNumbered (sym is_set) (numbered_on qs id v.pass w.pass here (attends_goes v.pass v.pass.reading k) q.numbered);
         },
         (refl, refl, record { sure = refl; leads = λ one. refl }, refl),
       )

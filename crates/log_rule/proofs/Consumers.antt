@@ -35,6 +35,8 @@ use Rattle.log_rule.specs.Readings.{Consumed, Consumes, Has, IsConsumer, IsFrame
 use Rattle.log_rule.proofs.Sums.{covered, covering}
 use Rattle.log_rule.proofs.Edges.{among_claimed, edge_behind, passed_behind}
 use Rattle.log_rule.proofs.Growing.{Grows, Spared, attends_on, grows, placed_on, same_sum}
+use Rattle.log_rule.specs.Numbers.{AreNumbered}
+use Rattle.log_rule.proofs.Owning.{attends_goes, numbered_on}
 use Rattle.log_rule.proofs.Resting.{attending, rest_looks, rested, rested_here}
 use Rattle.log_rule.proofs.Known.{done_of, finds, is_among, one_frame, stands_of, whole_has, word_there}
 use Rattle.log_rule.proofs.InTerm.{done_long, frame_at, unit_of, words_cover}
@@ -99,6 +101,7 @@ loaded key s q id i v rs k at same right mine =
       ruled = subst (λ (x : List ℕ × List Pass). Ruled (now_at key (slice_index x.0 limit_place) q.cleaned) x.0 x.1) (λ j. (sym same_words j, sym is j)) (rested_here b ws ps q.ruled id v.pass rs k here);
       kept = subst (λ (x : List ℕ × List Pass). Kept (now_at key (slice_index x.0 limit_place) q.cleaned) key.consumers x.0 x.1) (λ j. (sym same_words j, sym is j)) (kept_rest b key.consumers ws ps q.ruled q.kept id v.pass rs k here (λ j lt. low (total (reads_as j) rs) (total (reads_as j) v.pass.reading) (same j)) (low k.right v.pass.keeping.right right) mine);
       sure = sure_on b ws s.views q.ruled q.sure id v w at i (λ n. n) (inr (load_leaves i)) record { whole = sure.whole; exact = λ one. sure.exact one ∙ ap controls_in (sym same_words) };
+      numbered = subst AreNumbered (sym is) (numbered_on ps id v.pass w.pass here (attends_goes v.pass rs k) q.numbered);
     }
   where
     low : (a c : ℕ) → a ≡ c → a ≤ c
@@ -349,6 +352,7 @@ module _ (key : Key) (slots id : ℕ) (m : Mine) (place : ℕ) (r : Reading) (is
           ruled = subst (λ (y : ℕ × List Pass). Ruled (now_at key y.0 q.cleaned) ws' y.1) (λ j. (sym limit j, sym is_set j)) ruled;
           kept = subst (λ (y : ℕ × List Pass). Kept (now_at key y.0 q.cleaned) key.consumers ws' y.1) (λ j. (sym limit j, sym is_set j)) kept;
           sure = sure_on bs ws s.views q.ruled q.sure id v w at i (λ _. end) (inr (data_leaves i end far)) record { whole = sure.whole; exact = λ one'. sure.exact one' ∙ sym (data_leaves i end far ws) };
+          numbered = subst AreNumbered (sym is_set) (numbered_on qs id v.pass w.pass (here s q at) (attends_goes v.pass rs v.pass.keeping) q.numbered);
         },
         (
           refl,

@@ -21,7 +21,7 @@ use Rattle.log_rule.specs.Claims.Rule.{Bounds, armed_on, weight}
 use Rattle.log_rule.specs.Claims.Memory.{Ruled}
 use Rattle.log_rule.specs.Claims.Events.{IsLook, committed_weight}
 use Rattle.log_rule.specs.Claims.Sure.{IsSure}
-use Rattle.log_rule.specs.Claims.Plays.{dealer, dealing_seat, dealt, dealt_seat, newcomer, no_keeping, pass_in}
+use Rattle.log_rule.specs.Claims.Plays.{dealer, dealing_seat, dealt, dealt_seat, first_number, newcomer, no_keeping, other_numbers, pass_in}
 use Rattle.log_rule.specs.Claims.Closing.{numbered_seat, spent_seat}
 use Rattle.log_rule.proofs.Claimed.Accounts.{none_armed}
 use Rattle.log_rule.proofs.Claimed.Begun.{plus_none, shared, split_ruled, split_total}
@@ -30,10 +30,12 @@ use Rattle.log_rule.proofs.Claimed.Sures.{sure_join, sure_split, unsure}
 use Rattle.log_rule.specs.declared.rule.Key.{Key}
 use Rattle.log_rule.specs.Edges.{IsAmong}
 use Rattle.log_rule.specs.Kept.{Attends, IsKeeper, IsReader, Kept, keepers_of, readers_of, reads_as}
+use Rattle.log_rule.specs.Numbers.{AreNumbered, is_number, numbers_as}
 use Rattle.log_rule.specs.Table.{LogRuled, all_known, first_reading, keeper_left, keeper_right, knows_all, news_left, news_of, news_right, now_at, other_readings, reader_left, reader_right, told_seat}
 use Rattle.log_rule.proofs.Growing.{Grows, attends_on, grows, placed_on}
 use Rattle.log_rule.proofs.Resting.{attending, rest_looks, rested_here}
 use Rattle.log_rule.proofs.Known.{is_among}
+use Rattle.log_rule.proofs.Owning.{attends_goes, numbered_join, numbered_split, owns_none}
 use Rattle.log_rule.proofs.Consumers.{kept_rest, spared_same}
 
 -- ---- a pass is cut in two
@@ -104,24 +106,33 @@ module _ (key : Key) (id : ℕ) (v : View) (s : State (Unit {0}) View) (r : LogR
   start_is = (r.ruled.claims.each id v.pass here).start
 
   -- the state with two seats in place of one
-  pub cut : (l q : View) → Ruled b s.words (set (map pass_in s.views) id l.pass ++ q.pass ∷ []) → Kept b key.consumers s.words (set (map pass_in s.views) id l.pass ++ q.pass ∷ []) → IsSure s.words l → q.sure ≡ 0
+  pub cut : (l q : View) → Ruled b s.words (set (map pass_in s.views) id l.pass ++ q.pass ∷ []) → Kept b key.consumers s.words (set (map pass_in s.views) id l.pass ++ q.pass ∷ []) → IsSure s.words l → q.sure ≡ 0 → AreNumbered (set (map pass_in s.views) id l.pass ++ q.pass ∷ [])
       → LogRuled key record { words = s.words; homes = s.homes; views = set s.views id l ++ q ∷ [] }
-  cut l q ruled kept sure none =
+  cut l q ruled kept sure none numbered =
       let is : map pass_in (set s.views id l ++ q ∷ []) ≡ set (map pass_in s.views) id l.pass ++ q.pass ∷ [] = map-append pass_in (set s.views id l) (q ∷ []) ∙ ap (λ (x : List Pass). x ++ q.pass ∷ []) (map-set pass_in s.views id l) in record {
         cleaned = r.cleaned;
         ruled = subst (Ruled b s.words) (sym is) ruled;
         kept = subst (Kept b key.consumers s.words) (sym is) kept;
         sure = sure_split s.words s.views r.sure id l q sure (unsure s.words q none);
+        numbered = subst AreNumbered (sym is) numbered;
       }
 
-pub deals : (key : Key) (id : ℕ) (v : View) → v.pass.right.armed ≡ 0 → 120 < v.pass.right.parts → Splits (LogRuled key) id v (dealing_seat v) (dealt_seat v)
-deals key id v off many s r at =
+pub deals : (key : Key) (id : ℕ) (v : View) → v.pass.right.armed ≡ 0 → v.pass.right.claims ≡ [] → 120 < v.pass.right.parts → Splits (LogRuled key) id v (dealing_seat v) (dealt_seat v)
+deals key id v off fresh many s r at =
     let ps : List Pass = map pass_in s.views in let bs : Bounds = now_at key (slice_index s.words limit_place) r.cleaned in let h = here key id v s r at in let a = attends key id v s r at in
     let ruled = shared bs s.words ps r.ruled id v.pass h off many in
     cut key id v s r at (dealing_seat v) (dealt_seat v) ruled
     (kept_split bs key.consumers s.words ps r.ruled r.kept id v.pass (dealer v.pass) (dealt v.pass) h ruled (λ f. plus_none (weight f v.pass)) (λ f. plus_none (committed_weight f v.pass)) (λ j lt. plus_none (readers_of j v.pass)) (plus_none (keepers_of v.pass))
     record { readings = a.readings; keeping = a.keeping } record { readings = tt; keeping = none_kept bs key.consumers s.words })
     (unsure s.words (dealing_seat v) refl) refl
+    (numbered_split ps id v.pass (dealer v.pass) (dealt v.pass) h (λ n. numbers_parted n v.pass.right.numbers) (owns_none (dealer v.pass) fresh off) (owns_none (dealt v.pass) refl refl) r.numbered)
+  where
+    numbers_parted : (n : ℕ) (ms : List ℕ) → total (is_number n) (other_numbers ms) + total (is_number n) (first_number ms) ≡ total (is_number n) ms
+    numbers_parted n [] = refl
+    numbers_parted n (m ∷ ms) = swapped (total (is_number n) ms) (is_number n m)
+      where
+        swapped : (a c : ℕ) → a + (c + 0) ≡ c + a
+        swapped a c = omega arith
 
 pub deals_reader : (key : Key) (id : ℕ) (v : View) → v.pass.right.armed ≡ 0 → Splits (LogRuled key) id v (reader_left v) (reader_right v)
 deals_reader key id v off s r at =
@@ -136,6 +147,7 @@ deals_reader key id v off s r at =
     (λ j lt. parts_sum (reads_as j) v.pass.reading) (plus_none (keepers_of v.pass))
     record { readings = rest_all (IsReader key.consumers s.words ps) v.pass.reading a.readings; keeping = a.keeping } record { readings = first_all (IsReader key.consumers s.words ps) v.pass.reading a.readings; keeping = none_kept bs key.consumers s.words })
     (unsure s.words (reader_left v) refl) refl
+    (numbered_split ps id v.pass (record v.pass { reading = other_readings v.pass.reading }) q h (λ n. plus_none (numbers_as n v.pass)) ((attends_goes v.pass (other_readings v.pass.reading) v.pass.keeping).owns (r.numbered.each id v.pass h)) (owns_none q refl refl) r.numbered)
   where
     parts_sum : (f : Reading → ℕ) (rs : List Reading) → total f (other_readings rs) + total f (first_reading rs) ≡ total f rs
     parts_sum f [] = refl
@@ -149,8 +161,8 @@ deals_reader key id v off s r at =
     first_all P [] a = tt
     first_all P (x ∷ xs) a = (a.0, tt)
 
-pub deals_keeper : (key : Key) (id : ℕ) (v : View) → v.pass.right.armed ≡ 0 → 8 < v.pass.right.parts → Splits (LogRuled key) id v (keeper_left v) (keeper_right v)
-deals_keeper key id v off many s r at =
+pub deals_keeper : (key : Key) (id : ℕ) (v : View) → v.pass.right.armed ≡ 0 → v.pass.right.claims ≡ [] → 8 < v.pass.right.parts → Splits (LogRuled key) id v (keeper_left v) (keeper_right v)
+deals_keeper key id v off fresh many s r at =
     let ps : List Pass = map pass_in s.views in let bs : Bounds = now_at key (slice_index s.words limit_place) r.cleaned in let h = here key id v s r at in let a = attends key id v s r at in
     let l : Pass = record v.pass { right = record v.pass.right { parts = v.pass.right.parts - 8 }; keeping = no_keeping } in let q : Pass = record (newcomer v.pass.identity v.pass.start 0 8) { keeping = v.pass.keeping } in
     let ruled : Ruled bs s.words (set ps id l ++ q ∷ []) = subst (λ (x : Identity × ℕ). Ruled bs s.words (set ps id l ++ attending (newcomer x.0 x.1 0 8) [] v.pass.keeping ∷ []))
@@ -160,6 +172,7 @@ deals_keeper key id v off many s r at =
     (kept_split bs key.consumers s.words ps r.ruled r.kept id v.pass l q h ruled (λ f. plus_none (weight f v.pass)) (λ f. plus_none (committed_weight f v.pass)) (λ j lt. plus_none (readers_of j v.pass)) (none_first (keepers_of v.pass))
     record { readings = a.readings; keeping = none_kept bs key.consumers s.words } record { readings = tt; keeping = a.keeping })
     (unsure s.words (keeper_left v) refl) refl
+    (numbered_split ps id v.pass l q h (λ n. plus_none (numbers_as n v.pass)) (owns_none l fresh off) (owns_none q refl refl) r.numbered)
   where
     back : (n : ℕ) → 8 < n → (n - 8) + 8 ≡ n
     back n lt = omega arith
@@ -172,8 +185,8 @@ deals_keeper key id v off many s r at =
 
 -- ---- a pass has another number
 
-pub numbers : (key : Key) (id : ℕ) (v : View) (n : ℕ) → n < 8 → Splits (LogRuled key) id v (numbered_seat n v) (spent_seat v.pass.identity v.pass.start)
-numbers key id v n low s r at =
+pub numbers : (key : Key) (id : ℕ) (v : View) (n : ℕ) → n < 8 → v.pass.right.parts ≡ 1024 → Splits (LogRuled key) id v (numbered_seat n v) (spent_seat v.pass.identity v.pass.start)
+numbers key id v n low all s r at =
     let ps : List Pass = map pass_in s.views in let bs : Bounds = now_at key (slice_index s.words limit_place) r.cleaned in let h = here key id v s r at in let a = attends key id v s r at in let mine = r.sure.each id v at in
     let l : Pass = record v.pass { number = n } in let q : Pass = newcomer v.pass.identity v.pass.start 0 0 in
     let ruled : Ruled bs s.words (set ps id l ++ q ∷ []) = subst (λ (x : Identity × ℕ). Ruled bs s.words (set ps id l ++ newcomer x.0 x.1 0 0 ∷ [])) (λ i. (sym (identity_is key id v s r at) i, sym (start_is key id v s r at) i)) (numbered bs s.words ps r.ruled id v.pass h n low) in
@@ -181,6 +194,7 @@ numbers key id v n low s r at =
     (kept_split bs key.consumers s.words ps r.ruled r.kept id v.pass l q h ruled (λ f. plus_none (weight f v.pass)) (λ f. plus_none (committed_weight f v.pass)) (λ j lt. plus_none (readers_of j v.pass)) (plus_none (keepers_of v.pass))
     record { readings = a.readings; keeping = a.keeping } record { readings = tt; keeping = none_kept bs key.consumers s.words })
     record { whole = mine.whole; exact = mine.exact } refl
+    (numbered_split ps id v.pass l q h (λ m. plus_none (numbers_as m v.pass)) record { claims = λ less. absurd (omega (arith, less, all)); armed = λ less _. absurd (omega (arith, less, all)) } (owns_none q refl refl) r.numbered)
 
 -- ---- what a pass committed is told
 
@@ -197,6 +211,7 @@ news key id v off s r at =
     (λ j lt. (let z : reads_as j (news_of v.pass) ≡ 0 = ap (λ (x : Bool). cond x 1 0) (ne_eqb 8 j (λ e. omega arith)) in none_more (readers_of j v.pass) (reads_as j (news_of v.pass)) z)) (plus_none (keepers_of v.pass))
     a record { readings = (record { position = λ lt. absurd (omega arith); known = all_from (IsAmong ps) v.pass.work.frames (λ f among. is_among ps id v.pass f h among) }, tt); keeping = none_kept bs key.consumers s.words })
     (r.sure.each id v at) refl
+    (numbered_split ps id v.pass v.pass q h (λ n. plus_none (numbers_as n v.pass)) (r.numbered.each id v.pass h) (owns_none q refl refl) r.numbered)
   where
     none_more : (a c : ℕ) → c ≡ 0 → a + (c + 0) ≡ a
     none_more a c e = omega arith
@@ -224,6 +239,7 @@ tells key id other v w new s r at ne at' =
       ruled = subst (Ruled bs s.words) (sym is) ruled2;
       kept = subst (Kept bs key.consumers s.words) (sym is) kept2;
       sure = sure_join s.words s.views r.sure id other l q record { whole = mine.whole; exact = mine.exact } (unsure s.words q refl);
+      numbered = subst AreNumbered (sym is) (numbered_join ps id other v.pass w.pass l.pass q.pass h at1 (λ n. ap (λ (m : ℕ). numbers_as n v.pass + m) (sym (ap (λ (p : Pass). numbers_as n p) new))) ((attends_goes v.pass rs v.pass.keeping).owns (r.numbered.each id v.pass h)) (owns_none q.pass refl refl) r.numbered);
     }
   where
     known_all : (ws : List ℕ) (qs : List Pass) (xs : List Reading) → AllByRecursion (IsReader key.consumers ws qs) xs → AllByRecursion (IsAmong qs) (all_known xs)

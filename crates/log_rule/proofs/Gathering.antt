@@ -4,8 +4,8 @@ use mathlib.Core.Option.{some}
 use lib.ListN.{get_elem?}
 use Rattle.std.specs.Prelude.{slice_index}
 use Rattle.std.proofs.lemmas.List.{map-set}
-use Rattle.atomic_table.specs.Table.{Allows, Joins, keeps}
-use Rattle.atomic_table.proofs.Lists.{at_map, at_set}
+use Rattle.atomic_table.specs.Table.{Allows, Joins, State, keeps}
+use Rattle.atomic_table.proofs.Lists.{at_map, at_set, set_else}
 use Rattle.theory.specs.Bytes.{Identity}
 use Rattle.theory.specs.Entry.{Entry, length_of}
 use Rattle.theory.specs.Position.{max_position}
@@ -18,6 +18,7 @@ use Rattle.log_rule.specs.Claims.Sums.{total}
 use Rattle.log_rule.specs.Claims.Rule.{Bounds, entries_of, entry_of, parts_of, shape_of, weight}
 use Rattle.log_rule.specs.Claims.Memory.{Ruled}
 use Rattle.log_rule.specs.Claims.Events.{IsLook, committed_weight}
+use Rattle.log_rule.specs.Claims.Sure.{AreSure}
 use Rattle.log_rule.specs.Claims.Plays.{Mine, pass_in}
 use Rattle.log_rule.specs.Claims.Closing.{both_seats, spent_seat}
 use Rattle.log_rule.proofs.Claimed.Gathering.{joined}
@@ -26,12 +27,14 @@ use Rattle.log_rule.proofs.Claimed.Sures.{sure_join, unsure}
 use Rattle.log_rule.proofs.Claimed.Totals.{total_append, total_at, total_map, total_one, total_set}
 use Rattle.log_rule.specs.declared.rule.Key.{Key}
 use Rattle.log_rule.specs.Kept.{Attends, Kept, keepers_of, readers_of}
+use Rattle.log_rule.specs.Numbers.{AreNumbered, is_number, numbers_as}
 use Rattle.log_rule.specs.Readings.{reading}
 use Rattle.log_rule.specs.Shares.{Weighs, claimed_bytes}
 use Rattle.log_rule.specs.Table.{LogRuled, now_at}
 use Rattle.log_rule.proofs.Growing.{Grows, attends_on, grows, placed_on}
 use Rattle.log_rule.proofs.Consumers.{loaded, spared_same}
 use Rattle.log_rule.proofs.Dealing.{none_kept}
+use Rattle.log_rule.proofs.Owning.{numbered_join, owns_both, owns_none, single_at}
 use Rattle.log_rule.proofs.Sums.{parted}
 use Rattle.log_rule.proofs.Edges.{tail_low}
 use Rattle.log_rule.proofs.Resting.{rest_looks, rested_here}
@@ -70,8 +73,19 @@ kept_join b n ws ps r k i j v w l q at at' r' claims frames reads keep left righ
     fewer : (now was old is : ℕ) → now + was ≡ old + is → is ≤ was → old ≤ 1 → now ≤ 1
     fewer now was old is e le one = omega arith
 
-pub gathers : (key : Key) (id other : ℕ) (v w : View) → v.pass.right.armed ≡ 0 → w.pass.right.armed ≡ 0 → 0 < v.pass.right.parts → Joins (LogRuled key) id v other w (both_seats v w) (spent_seat key.identity key.start)
-gathers key id other v w off off' able s r at ne at' =
+-- all of the rule but the numbers
+pub record Rest (key : Key) (s : State (Unit {0}) View) : Type 0 where
+  pub cleaned : ℕ
+  pub ruled : Ruled (now_at key (slice_index s.words limit_place) cleaned) s.words (map pass_in s.views)
+  pub kept : Kept (now_at key (slice_index s.words limit_place) cleaned) key.consumers s.words (map pass_in s.views)
+  pub sure : AreSure s.words s.views
+
+pub rest_of : (key : Key) (s : State (Unit {0}) View) → LogRuled key s → Rest key s
+rest_of key s r = record { cleaned = r.cleaned; ruled = r.ruled; kept = r.kept; sure = r.sure }
+
+pub gathered : (key : Key) (id other : ℕ) (v w : View) → v.pass.right.armed ≡ 0 → w.pass.right.armed ≡ 0 → 0 < v.pass.right.parts → (s : State (Unit {0}) View) → Rest key s → get_elem? s.views id ≡ some v → (other ≡ id → ⊥) → get_elem? (set s.views id (both_seats v w)) other ≡ some w
+    → AreNumbered (map pass_in (set (set s.views id (both_seats v w)) other (spent_seat key.identity key.start))) → LogRuled key record { words = s.words; homes = s.homes; views = set (set s.views id (both_seats v w)) other (spent_seat key.identity key.start) }
+gathered key id other v w off off' able s r at ne at' numbered =
     let ps : List Pass = map pass_in s.views in let b : Bounds = now_at key (slice_index s.words limit_place) r.cleaned in let l : View = both_seats v w in let q : View = spent_seat key.identity key.start in
     let is : map pass_in (set (set s.views id l) other q) ≡ set (set ps id l.pass) other q.pass = map-set pass_in (set s.views id l) other q ∙ ap (λ (x : List Pass). set x other q.pass) (map-set pass_in s.views id l) in
     let here = at_map pass_in s.views id v at in let there : get_elem? (set ps id l.pass) other ≡ some w.pass = subst (λ (x : List Pass). get_elem? x other ≡ some w.pass) (map-set pass_in s.views id l) (at_map pass_in (set s.views id l) other w at') in
@@ -85,6 +99,7 @@ gathers key id other v w off off' able s r at ne at' =
       ruled = subst (Ruled b s.words) (sym is) ruled;
       kept = subst (Kept b key.consumers s.words) (sym is) kept;
       sure = sure_join s.words s.views r.sure id other l q (unsure s.words l refl) (unsure s.words q refl);
+      numbered = numbered;
     }
   where
     plus_none : (n m : ℕ) → n ≡ m → n + 0 ≡ m
@@ -93,10 +108,22 @@ gathers key id other v w off off' able s r at ne at' =
     no_more : (n m : ℕ) → n + 0 ≤ n + m
     no_more n m = omega arith
 
+pub gathers : (key : Key) (id other : ℕ) (v w : View) → v.pass.right.armed ≡ 0 → w.pass.right.armed ≡ 0 → 0 < v.pass.right.parts → Joins (LogRuled key) id v other w (both_seats v w) (spent_seat key.identity key.start)
+gathers key id other v w off off' able s r at ne at' =
+    let ps : List Pass = map pass_in s.views in let l : View = both_seats v w in let q : View = spent_seat key.identity key.start in
+    let is : map pass_in (set (set s.views id l) other q) ≡ set (set ps id l.pass) other q.pass = map-set pass_in (set s.views id l) other q ∙ ap (λ (x : List Pass). set x other q.pass) (map-set pass_in s.views id l) in
+    let here = at_map pass_in s.views id v at in let there : get_elem? (set ps id l.pass) other ≡ some w.pass = subst (λ (x : List Pass). get_elem? x other ≡ some w.pass) (map-set pass_in s.views id l) (at_map pass_in (set s.views id l) other w at') in
+    let was : get_elem? ps other ≡ some w.pass = sym (set_else ps id other l.pass ne) ∙ there in
+    gathered key id other v w off off' able s (rest_of key s r) at ne at'
+    (subst AreNumbered (sym is) (numbered_join ps id other v.pass w.pass l.pass q.pass here there (λ n. more (numbers_as n l.pass) (numbers_as n v.pass) (numbers_as n w.pass) (total_append (is_number n) v.pass.right.numbers w.pass.right.numbers)) (owns_both v.pass w.pass off (r.numbered.each id v.pass here) (r.numbered.each other w.pass was)) (owns_none q.pass refl refl) r.numbered))
+  where
+    more : (l v w : ℕ) → l ≡ v + w → l + 0 ≡ v + w
+    more l v w e = omega arith
+
 -- ---- how much is claimed
 
-weighs : (b : Bounds) (ws : List ℕ) (ps : List Pass) → Ruled b ws ps → (id : ℕ) (v : Pass) → get_elem? ps id ≡ some v → Weighs v v
-weighs b ws ps r id v at =
+weighs : (b : Bounds) (ws : List ℕ) (ps : List Pass) → Ruled b ws ps → AreNumbered ps → (id : ℕ) (v : Pass) → get_elem? ps id ≡ some v → Weighs v v
+weighs b ws ps r a id v at =
     let k = r.claims.each id v at in let most = tail_low b ws ps r in let mine = total_at (weight length_of) ps id v at in
     let share : weight length_of v ≡ claimed_bytes v = total_map length_of entry_of v.right.claims in
     let all : v.right.parts ≡ 1024 → (h : Entry → ℕ) → total (weight h) ps ≡ weight h v = λ e h. total_one parts_of (weight h) ps id v at (r.claims.parted ∙ sym e) (λ j w e' none. ap (λ cs. total h (map entry_of cs)) ((r.claims.each j w e').right.idle none)) in record {
@@ -108,6 +135,7 @@ weighs b ws ps r id v at =
         fair = λ h. sym (all e h) ∙ r.claims.fair h;
       };
       parted = parted b ws v (r.memory.each id v at);
+      single = single_at ps id v at a;
       same = refl;
     }
   where
@@ -123,5 +151,5 @@ weigh key slots id i m s q homes at small =
       keeps,
       tt,
       loaded key s q id i v v.pass.reading v.pass.keeping at (λ j. refl) refl (attends_on bs key.consumers q.kept.few s.words s.words qs (set qs id v.pass) g (spared_same s.words) v.pass (q.kept.each id v.pass here)),
-      (refl, refl, record { sure = refl; leads = λ one. refl }, weighs bs s.words qs q.ruled id v.pass here),
+      (refl, refl, record { sure = refl; leads = λ one. refl }, weighs bs s.words qs q.ruled q.numbered id v.pass here),
     )

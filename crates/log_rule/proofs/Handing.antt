@@ -30,13 +30,15 @@ use Rattle.log_rule.specs.Claims.Plays.{newcomer, pass_in}
 use Rattle.log_rule.specs.Claims.Closing.{handing_seats, owned_by, renamed, spent_seat}
 use Rattle.log_rule.specs.Edges.{begins_at, begins_below, claimed_sum, in_entry}
 use Rattle.log_rule.specs.Kept.{Kept}
+use Rattle.log_rule.specs.Numbers.{AreNumbered, is_number, numbers_as}
 use Rattle.log_rule.specs.Table.{LogRuled, now_at}
 use Rattle.log_rule.proofs.Claimed.Accounts.{moved, same_over, same_room, unchanged}
 use Rattle.log_rule.proofs.Claimed.Memories.{cover_passes, held_by}
-use Rattle.log_rule.proofs.Claimed.Totals.{both_at, total_map, total_set}
+use Rattle.log_rule.proofs.Claimed.Totals.{both_at, total_append, total_map, total_set}
 use Rattle.log_rule.proofs.Claimed.Whole.{set_at}
 use Rattle.log_rule.proofs.Consumers.{spared_same}
-use Rattle.log_rule.proofs.Gathering.{gathers}
+use Rattle.log_rule.proofs.Gathering.{Rest, gathered}
+use Rattle.log_rule.proofs.Owning.{numbered_join, owns_handed, owns_none}
 use Rattle.log_rule.proofs.Growing.{Grows, kept_on, same_sum}
 use Rattle.log_rule.proofs.Known.{among_total}
 
@@ -186,13 +188,13 @@ sure_under ws vs j n w at a = record {
       (at_set vs j i (under n w) u e);
 }
 
-named : (key : Key) (s : State (Unit {0}) View) → LogRuled key s → (j n : ℕ) (w : View) → n < 8 → get_elem? s.views j ≡ some w → LogRuled key record { words = s.words; homes = s.homes; views = set s.views j (under n w) }
+named : (key : Key) (s : State (Unit {0}) View) → LogRuled key s → (j n : ℕ) (w : View) → n < 8 → get_elem? s.views j ≡ some w → Rest key record { words = s.words; homes = s.homes; views = set s.views j (under n w) }
 named key s q j n w low at =
     let ps : List Pass = map pass_in s.views in let b : Bounds = now_at key (slice_index s.words limit_place) q.cleaned in let here = at_map pass_in s.views j w at in
     let is : map pass_in (set s.views j (under n w)) ≡ set ps j (renamed n w.pass) = map-set pass_in s.views j (under n w) in record {
       cleaned = q.cleaned;
       ruled = subst (Ruled b s.words) (sym is) (renamed_ruled b s.words ps q.ruled j w.pass here n low);
-      kept = subst (Kept b key.consumers s.words) (sym is) (kept_on b key.consumers s.words s.words ps j w.pass (renamed n w.pass) here record { identity = refl; start = refl; number = refl; parts = refl; reading = refl; keeping = refl } (renamed_grows b s.words ps q.ruled j w.pass here n low) (spared_same s.words) q.kept);
+      kept = subst (Kept b key.consumers s.words) (sym is) (kept_on b key.consumers s.words s.words ps j w.pass (renamed n w.pass) here record { identity = refl; start = refl; number = refl; parts = refl; numbers = refl; reading = refl; keeping = refl } (renamed_grows b s.words ps q.ruled j w.pass here n low) (spared_same s.words) q.kept);
       sure = sure_under s.words s.views j n w at q.sure;
     }
 
@@ -210,10 +212,19 @@ set_over (z ∷ zs) zero (suc j) a x y ne = ap (λ (l : List _). x ∷ l) (set_a
 set_over (z ∷ zs) (suc i) zero a x y ne = refl
 set_over (z ∷ zs) (suc i) (suc j) a x y ne = ap (λ (l : List _). z ∷ l) (set_over zs i j a x y (λ e. ne (ap suc e)))
 
-pub hands_over : (key : Key) (id other : ℕ) (v w : View) → v.pass.number < 8 → v.pass.right.armed ≡ 0 → w.pass.right.armed ≡ 0 → 0 < v.pass.right.parts → Joins (LogRuled key) id v other w (handing_seats v w) (spent_seat key.identity key.start)
-hands_over key id other v w low off off' able s r at ne at' =
-    let l : View = handing_seats v w in let x : View = under v.pass.number w in let q : View = spent_seat key.identity key.start in
+pub hands_over : (key : Key) (id other : ℕ) (v w : View) → v.pass.number < 8 → (v.pass.right.parts < 1024 → Among v.pass.number v.pass.right.numbers) → v.pass.right.armed ≡ 0 → w.pass.right.armed ≡ 0 → 0 < v.pass.right.parts → Joins (LogRuled key) id v other w (handing_seats v w) (spent_seat key.identity key.start)
+hands_over key id other v w low mine off off' able s r at ne at' =
+    let l : View = handing_seats v w in let x : View = under v.pass.number w in let q : View = spent_seat key.identity key.start in let ps : List Pass = map pass_in s.views in
     let there : get_elem? s.views other ≡ some w = sym (set_else s.views id other l ne) ∙ at' in
-    let before : LogRuled key record { words = s.words; homes = s.homes; views = set s.views other x } = named key s r other v.pass.number w low there in
+    let before : Rest key record { words = s.words; homes = s.homes; views = set s.views other x } = named key s r other v.pass.number w low there in
+    let is : map pass_in (set (set s.views id l) other q) ≡ set (set ps id l.pass) other q.pass = map-set pass_in (set s.views id l) other q ∙ ap (λ (y : List Pass). set y other q.pass) (map-set pass_in s.views id l) in
+    let here = at_map pass_in s.views id v at in let was = at_map pass_in s.views other w there in
+    let numbered : AreNumbered (set (set ps id l.pass) other q.pass) = numbered_join ps id other v.pass w.pass l.pass q.pass here (set_else ps id other l.pass ne ∙ was)
+    (λ n. more (numbers_as n l.pass) (numbers_as n v.pass) (numbers_as n w.pass) (total_append (is_number n) v.pass.right.numbers w.pass.right.numbers))
+    (owns_handed v.pass w.pass off mine (r.numbered.each id v.pass here)) (owns_none q.pass refl refl) r.numbered in
     subst (λ (vs : List View). LogRuled key record { words = s.words; homes = s.homes; views = vs }) (set_over s.views id other x l q ne)
-    (gathers key id other v x off off' able record { words = s.words; homes = s.homes; views = set s.views other x } before (set_else s.views other id x (λ e. ne (sym e)) ∙ at) ne (set_else (set s.views other x) id other l ne ∙ set_at s.views other w x there))
+    (gathered key id other v x off off' able record { words = s.words; homes = s.homes; views = set s.views other x } before (set_else s.views other id x (λ e. ne (sym e)) ∙ at) ne (set_else (set s.views other x) id other l ne ∙ set_at s.views other w x there)
+    (subst (λ (vs : List View). AreNumbered (map pass_in vs)) (sym (set_over s.views id other x l q ne)) (subst AreNumbered (sym is) numbered)))
+  where
+    more : (l v w : ℕ) → l ≡ v + w → l + 0 ≡ v + w
+    more l v w e = omega arith

@@ -32,6 +32,8 @@ use Rattle.log_rule.proofs.Claimed.Tails.{elsewhere}
 use Rattle.log_rule.proofs.Claimed.Memories.{stayed}
 use Rattle.log_rule.specs.declared.rule.Key.{Key}
 use Rattle.log_rule.specs.Edges.{IsAmong, IsPlaced}
+use Rattle.log_rule.specs.Numbers.{AreNumbered}
+use Rattle.log_rule.proofs.Owning.{attends_goes, numbered_on}
 use Rattle.log_rule.specs.Kept.{Attends, IsKeeper, IsReader, Kept, keepers_of, readers_of}
 use Rattle.log_rule.specs.Table.{LogRuled, now_at}
 use Rattle.log_rule.specs.Keepings.{LearnsLimit, MayRaise, Raises, keeping, least_of, sweeping, with_keeping}
@@ -211,6 +213,7 @@ module _ (key : Key) (slots id : ℕ) (m : Mine) where
           ruled = subst (λ (y : ℕ × List Pass). Ruled (now_at key y.0 q.cleaned) ws' y.1) (λ j. (sym stored j, sym is_set j)) ruled;
           kept = subst (λ (y : ℕ × List Pass). Kept (now_at key y.0 q.cleaned) key.consumers ws' y.1) (λ j. (sym stored j, sym is_set j)) kept;
           sure = sure_on bs ws s.views q.ruled q.sure id v w at limit_place (λ _. word) (inl parts) record { whole = sure.whole; exact = λ _. refl };
+          numbered = subst AreNumbered (sym is_set) (numbered_on qs id v.pass w.pass here (attends_goes v.pass v.pass.reading k) q.numbered);
         },
         (
           refl,

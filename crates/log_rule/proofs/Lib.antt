@@ -15,6 +15,7 @@ pub mod Gathering
 pub mod Handing
 pub mod Meetings
 pub mod Showing
+pub mod Owning
 pub mod Saying
 pub mod Looked
 pub mod Claimed

@@ -20,7 +20,9 @@ use Rattle.log_rule.proofs.Claimed.Sures.{Leaves, Turns, sure_on}
 use Rattle.log_rule.specs.declared.rule.Key.{Key}
 use Rattle.log_rule.specs.Kept.{Kept}
 use Rattle.log_rule.specs.Table.{LogRuled, now_at}
+use Rattle.log_rule.specs.Numbers.{AreNumbered}
 use Rattle.log_rule.proofs.Growing.{Spared, grows, kept_on}
+use Rattle.log_rule.proofs.Owning.{Goes, numbered_on}
 
 -- a step that leaves the limit word and the consumers' positions
 abbrev pub Spares : ℕ → (ℕ → ℕ) → Type 0
@@ -42,9 +44,9 @@ other_spares i f ne far words = record {
 wide : (key : Key) (word cleaned : ℕ) (ws : List ℕ) (ps : List Pass) → Ruled (now_at key word cleaned) ws ps → 208 ≤ length ws
 wide key word cleaned ws ps r = let e = r.claims.wide in omega arith
 
-pub lifted : (key : Key) (slots id i : ℕ) (m : Mine) (f : ℕ → ℕ) (told : ℕ → Pass → Type 0) (noted : ℕ → List WordStep) → Turns i f noted → (0 < m.0.pass.right.parts) ⊎ Leaves i f → Spares i f → ((b : Bounds) → Eventful b id m.0.pass i f told)
+pub lifted : (key : Key) (slots id i : ℕ) (m : Mine) (f : ℕ → ℕ) (told : ℕ → Pass → Type 0) (noted : ℕ → List WordStep) → Turns i f noted → (0 < m.0.pass.right.parts) ⊎ Leaves i f → Spares i f → ((n : ℕ) (w : Pass) → told n w → Goes m.0.pass w) → ((b : Bounds) → Eventful b id m.0.pass i f told)
     → Allows (LogRuled key) slots id m i f (λ n m'. (m'.1 ≡ m.1) × (m'.0.steps ≡ suc m.0.steps) × Same m.0.pass m'.0.pass × LearnsControls (noted n) m.0 m'.0 × told n m'.0.pass)
-lifted key slots id i m f told noted turns may spares go s r homes at small =
+lifted key slots id i m f told noted turns may spares own go s r homes at small =
     let ws : List ℕ = s.words in let n : ℕ = slice_index ws i in let v : View = m.0 in let mine = r.sure.each id v at in let ps : List Pass = map pass_in s.views in
     let b : Bounds = now_at key (slice_index ws limit_place) r.cleaned in let ws' : List ℕ = set ws i (f n) in
     let here = at_map pass_in s.views id v at in
@@ -60,6 +62,7 @@ lifted key slots id i m f told noted turns may spares go s r homes at small =
         ruled = subst (λ (x : ℕ × List Pass). Ruled (now_at key x.0 r.cleaned) ws' x.1) (λ j. (sym spared.limit j, sym is j)) g.1;
         kept = subst (λ (x : ℕ × List Pass). Kept (now_at key x.0 r.cleaned) key.consumers ws' x.1) (λ j. (sym spared.limit j, sym is j)) kept;
         sure = sure_on b ws s.views r.ruled r.sure id v w at i f may record { whole = λ one. g.2.parts ∙ mine.whole one; exact = λ _. refl };
+        numbered = subst AreNumbered (sym is) (numbered_on ps id v.pass g.0 here (own n g.0 g.3) r.numbered);
       },
       (
         refl,
@@ -71,6 +74,6 @@ lifted key slots id i m f told noted turns may spares go s r homes at small =
     )
 
 -- the word may be named otherwise
-pub lifted_at : (key : Key) (slots id i : ℕ) (m : Mine) (f : ℕ → ℕ) (told : ℕ → Pass → Type 0) (noted : ℕ → List WordStep) (j : ℕ) → j ≡ i → Turns i f noted → (0 < m.0.pass.right.parts) ⊎ Leaves i f → Spares i f → ((b : Bounds) → Eventful b id m.0.pass i f told)
+pub lifted_at : (key : Key) (slots id i : ℕ) (m : Mine) (f : ℕ → ℕ) (told : ℕ → Pass → Type 0) (noted : ℕ → List WordStep) (j : ℕ) → j ≡ i → Turns i f noted → (0 < m.0.pass.right.parts) ⊎ Leaves i f → Spares i f → ((n : ℕ) (w : Pass) → told n w → Goes m.0.pass w) → ((b : Bounds) → Eventful b id m.0.pass i f told)
     → Allows (LogRuled key) slots id m j f (λ n m'. (m'.1 ≡ m.1) × (m'.0.steps ≡ suc m.0.steps) × Same m.0.pass m'.0.pass × LearnsControls (noted n) m.0 m'.0 × told n m'.0.pass)
-lifted_at key slots id i m f told noted j e turns may spares go = subst (λ (k : ℕ). Allows (LogRuled key) slots id m k f (λ n m'. (m'.1 ≡ m.1) × (m'.0.steps ≡ suc m.0.steps) × Same m.0.pass m'.0.pass × LearnsControls (noted n) m.0 m'.0 × told n m'.0.pass)) (sym e) (lifted key slots id i m f told noted turns may spares go)
+lifted_at key slots id i m f told noted j e turns may spares own go = subst (λ (k : ℕ). Allows (LogRuled key) slots id m k f (λ n m'. (m'.1 ≡ m.1) × (m'.0.steps ≡ suc m.0.steps) × Same m.0.pass m'.0.pass × LearnsControls (noted n) m.0 m'.0 × told n m'.0.pass)) (sym e) (lifted key slots id i m f told noted turns may spares own go)

@@ -34,7 +34,7 @@ looking : (key : Key) (id : ℕ) (v : View) (i : ℕ) (f : ℕ → ℕ) (then : 
 looking key id v i f then told go tells rests s r at low =
     let g = go (length s.homes) s r refl at low in let w : View = g.0 in let t = tells (slice_index s.words i) _ g.4 in let k = rests (slice_index s.words i) w.pass t in let q = g.3 in (
       w,
-      record { cleaned = q.cleaned; ruled = q.ruled; kept = q.kept; sure = q.sure },
+      record { cleaned = q.cleaned; ruled = q.ruled; kept = q.kept; sure = q.sure; numbered = q.numbered },
       t,
       subst (IsLook (map pass_in s.views)) (sym (map-set pass_in s.views id w)) (looked (map pass_in s.views) id v.pass w.pass (at_map pass_in s.views id v at) k.claims k.frames),
     )

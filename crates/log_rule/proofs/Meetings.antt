@@ -30,6 +30,7 @@ use Rattle.log_rule.proofs.Claimed.Sures.{sure_join, unsure}
 use Rattle.log_rule.proofs.Claimed.Totals.{total_append}
 use Rattle.log_rule.specs.declared.rule.Key.{Key}
 use Rattle.log_rule.specs.Kept.{Attends, IsReader, Kept, keepers_of, readers_of, reads_as}
+use Rattle.log_rule.specs.Numbers.{AreNumbered, is_number, numbers_as}
 use Rattle.log_rule.specs.Readings.{reading}
 use Rattle.log_rule.specs.Meetings.{Steadies, Steady, back_left, back_right, meeting, meeting_seats}
 use Rattle.log_rule.specs.Table.{LogRuled, now_at}
@@ -38,12 +39,13 @@ use Rattle.log_rule.proofs.Resting.{rest_looks, rested_here}
 use Rattle.log_rule.proofs.Consumers.{loaded, spared_same}
 use Rattle.log_rule.proofs.Dealing.{cut, kept_split, none_kept}
 use Rattle.log_rule.proofs.Gathering.{kept_join}
+use Rattle.log_rule.proofs.Owning.{numbered_join, numbered_split, owns_both, owns_none}
 use Rattle.log_rule.proofs.Claimed.Whole.{set_at}
 
 -- ---- what is true for good
 
-steady : (b : Bounds) (ws : List ℕ) (ps : List Pass) → Ruled b ws ps → (id : ℕ) (v : Pass) → get_elem? ps id ≡ some v → Steady v
-steady b ws ps r id v at =
+steady : (b : Bounds) (ws : List ℕ) (ps : List Pass) → Ruled b ws ps → AreNumbered ps → (id : ℕ) (v : Pass) → get_elem? ps id ≡ some v → Steady v
+steady b ws ps r a id v at =
     let k = r.claims.each id v at in
     let first : first_of b ≡ v.start / v.identity.geometry.term_length = (λ i. sym k.start i / (sym k.identity i).geometry.term_length) in record {
       number = k.number;
@@ -51,6 +53,7 @@ steady b ws ps r id v at =
       term = subst (λ (n : ℕ). n ≤ v.seen.term) first k.seen.term.0;
       full = λ j e. subst (λ (n : ℕ). n ≤ j) first (k.seen.full j e).0;
       placed = (r.memory.each id v at).placed;
+      owns = a.each id v at;
     }
 
 -- a load that tells a pass of itself keeps the rule
@@ -62,7 +65,7 @@ told_ruled key id i v s q at =
     loaded key s q id i v v.pass.reading v.pass.keeping at (λ j. refl) refl (attends_on bs key.consumers q.kept.few s.words s.words qs (set qs id v.pass) g (spared_same s.words) v.pass (q.kept.each id v.pass here))
 
 -- a step that tells a pass of itself
-pub told_here : (key : Key) (slots id i : ℕ) (m : Mine) (told : Pass → ℕ → Pass → Type 0) → ((b : Bounds) (ws : List ℕ) (ps : List Pass) → Ruled b ws ps → get_elem? ps id ≡ some m.0.pass → told m.0.pass (slice_index ws i) m.0.pass)
+pub told_here : (key : Key) (slots id i : ℕ) (m : Mine) (told : Pass → ℕ → Pass → Type 0) → ((b : Bounds) (ws : List ℕ) (ps : List Pass) → Ruled b ws ps → AreNumbered ps → get_elem? ps id ≡ some m.0.pass → told m.0.pass (slice_index ws i) m.0.pass)
     → Allows (LogRuled key) slots id m i (λ n. n) (λ n m'. reading told m n m')
 told_here key slots id i m told go s q homes at small =
     let v : View = m.0 in (
@@ -70,11 +73,11 @@ told_here key slots id i m told go s q homes at small =
       keeps,
       tt,
       told_ruled key id i v s q at,
-      (refl, refl, record { sure = refl; leads = λ one. refl }, go (now_at key (slice_index s.words limit_place) q.cleaned) s.words (map pass_in s.views) q.ruled (at_map pass_in s.views id v at)),
+      (refl, refl, record { sure = refl; leads = λ one. refl }, go (now_at key (slice_index s.words limit_place) q.cleaned) s.words (map pass_in s.views) q.ruled q.numbered (at_map pass_in s.views id v at)),
     )
 
 pub steadies : (key : Key) (slots id i : ℕ) (m : Mine) → Allows (LogRuled key) slots id m i (λ n. n) (λ n m'. reading (λ v k w. Steadies v w) m n m')
-steadies key slots id i m = told_here key slots id i m (λ v k w. Steadies v w) (λ b ws ps r at. record { steady = steady b ws ps r id m.0.pass at; same = refl })
+steadies key slots id i m = told_here key slots id i m (λ v k w. Steadies v w) (λ b ws ps r a at. record { steady = steady b ws ps r a id m.0.pass at; same = refl })
 
 -- ---- one seat becomes two again
 
@@ -197,6 +200,7 @@ parts_again key id v p q is sp sq off off' able more same from none s r at =
     record { readings = all_front (IsReader key.consumers s.words ps) p.reading q.reading a.readings; keeping = a.keeping }
     record { readings = all_behind (IsReader key.consumers s.words ps) p.reading q.reading a.readings; keeping = subst (Rattle.log_rule.specs.Kept.IsKeeper b key.consumers s.words) (sym none) (none_kept b key.consumers s.words) })
     (unsure s.words (back_left p v) refl) refl
+    (numbered_split ps id (meeting p q) p q h (λ n. sym (total_append (is_number n) p.right.numbers q.right.numbers)) sp.owns sq.owns r.numbered)
 
 -- ---- two seats become one
 
@@ -265,6 +269,9 @@ meets key id other v w off off' able s r at ne at' =
       ruled = subst (Ruled b s.words) (sym is) ruled;
       kept = subst (Kept b key.consumers s.words) (sym is) kept;
       sure = sure_join s.words s.views r.sure id other l q (unsure s.words l refl) (unsure s.words q refl);
+      numbered = subst AreNumbered (sym is) (numbered_join ps id other v.pass w.pass l.pass q.pass here (set_else ps id other l.pass ne ∙ there)
+          (λ n. plus_none (numbers_as n l.pass) (numbers_as n v.pass + numbers_as n w.pass) (total_append (is_number n) v.pass.right.numbers w.pass.right.numbers))
+          (let o = owns_both v.pass w.pass off (r.numbered.each id v.pass here) (r.numbered.each other w.pass there) in record { claims = o.claims; armed = o.armed }) (owns_none q.pass refl refl) r.numbered);
     }
   where
     plus_none : (n m : ℕ) → n ≡ m → n + 0 ≡ m

@@ -23,6 +23,7 @@ use Rattle.log_rule.proofs.Claimed.Memories.{tail_is}
 use Rattle.log_rule.proofs.Claimed.Shown.{greatest_is}
 use Rattle.log_rule.proofs.Claimed.Totals.{extent_of}
 use Rattle.log_rule.proofs.Edges.{edge_low}
+use Rattle.log_rule.proofs.Owning.{one_claims}
 use Rattle.log_rule.proofs.Sums.{all_parted}
 use Rattle.log_rule.specs.Edges.{in_entry}
 use Rattle.log_rule.proofs.Shares.{eight_shares, share_is}
@@ -75,6 +76,7 @@ rule_says key s q =
       framed = λ h. sym (c.fair (in_entry h)) ∙ all_parted b ws ps q.ruled.memory h;
       shares = share;
       whole = ap (λ (n : ℕ). key.start + n) all ∙ extent_of key.identity.geometry.term_length key.start (claimed_to (shape_of b) t) c.log c.tiles ∙ sym tail;
+      numbers = one_claims b ws ps c q.numbered;
       room = subst (λ (z : ℕ). z + b.greatest * total armed_of ps ≤ b.limit + b.greatest * 8) (sym tail) c.room;
       ahead = q.ruled.memory.held;
       zeros = λ x unit above below. q.ruled.memory.zeros x unit (subst (λ (z : ℕ). z ≤ x) (sym end) above) below;

@@ -37,6 +37,8 @@ use Rattle.log_rule.proofs.Claimed.Tails.{shows}
 use Rattle.log_rule.proofs.Claimed.Totals.{total_append, total_at, total_map}
 use Rattle.log_rule.specs.declared.rule.Key.{Key}
 use Rattle.log_rule.specs.Kept.{Kept}
+use Rattle.log_rule.specs.Numbers.{AreNumbered}
+use Rattle.log_rule.proofs.Owning.{single_at}
 use Rattle.log_rule.specs.Table.{LogRuled, now_at}
 use Rattle.log_rule.specs.Meetings.{AreApart, ShowsTail, claim_end, showing}
 use Rattle.log_rule.proofs.InTerm.{entry_ends}
@@ -227,9 +229,9 @@ module _ (b : Bounds) (ws : List ℕ) (ps : List Pass) (r : Ruled b ws ps) (id :
       twice : (c len d m f g all w t q z : ℕ) → 0 < len → 0 < m → d < c + len → c < d + m → covers (max c d) c len ≤ f → covers (max c d) d m ≤ g → all ≡ f + g → w ≡ all → w ≤ t → t ≡ min 1 (min q z) → ⊥
       twice c len d m f g all w t q z pos pos' lt gt a e sum mine up one = omega arith
 
-  shows_tail : (p : ℕ) → ShowsTail v (p % 3) (slice_index ws (tail_place p)) v
+  shows_tail : AreNumbered ps → (p : ℕ) → ShowsTail v (p % 3) (slice_index ws (tail_place p)) v
   unfolding n
-  shows_tail p =
+  shows_tail a p =
       let k = r.claims.each id v at in let word : ℕ = slice_index ws (tail_place p) in
       let shape : (P : Identity → ℕ → Type 0) → P b.identity b.start → P v.identity v.start = λ P x. subst (λ (y : Identity × ℕ). P y.0 y.1) (λ i. (sym k.identity i, sym k.start i)) x in record {
         claims = λ c among e. shape (λ i s. c.start / i.geometry.term_length % 3 ≡ p % 3 → claim_end c ≤ shown_position i.geometry word) (λ e'. claim_below p c among e') e;
@@ -239,6 +241,7 @@ module _ (b : Bounds) (ws : List ℕ) (ps : List Pass) (r : Ruled b ws ps) (id :
             (λ x le above same. reached p x above (up x v.seen.shown (claimed_to (shape_of b) r.claims.terms) le k.seen.shown) same);
         from = shape (λ i s. s / i.geometry.term_length % 3 ≡ p % 3 → s ≤ shown_position i.geometry word) (λ same. start_below p same);
         apart = apart;
+        single = single_at ps id v at a;
         same = refl;
       }
     where
@@ -258,6 +261,7 @@ renewed key ws s id v w same mine q =
       ruled = subst (Ruled (now_at key (slice_index ws limit_place) q.cleaned) ws) is q.ruled;
       kept = subst (Kept (now_at key (slice_index ws limit_place) q.cleaned) key.consumers ws) is q.kept;
       sure = record { each = λ j u e. ⊎_elim (λ (y : (j ≡ id) × (w ≡ u)). subst (IsSure ws) y.1 mine) (λ (y : (j ≢ id) × (get_elem? vs j ≡ some u)). q.sure.each j u (set_else vs id j v y.0 ∙ y.1)) (at_set vs id j w u e) };
+      numbered = subst AreNumbered is q.numbered;
     }
 
 -- who is sure of the control words knows it
@@ -280,5 +284,5 @@ shown key slots id p m s q homes at small =
       keeps,
       tt,
       renewed key (set ws (tail_place p) n) s id record { pass = v.pass; steps = suc v.steps; controls = v.controls; sure = v.sure } w refl record { whole = k.whole; exact = λ one. known one ∙ k.exact one ∙ ap controls_in (sym same) } (told_ruled key id (tail_place p) v s q at),
-      ((refl, refl, record { sure = refl; leads = known }, shows_tail bs ws (map pass_in s.views) q.ruled id v.pass (at_map pass_in s.views id v at) p), refl, small),
+      ((refl, refl, record { sure = refl; leads = known }, shows_tail bs ws (map pass_in s.views) q.ruled id v.pass (at_map pass_in s.views id v at) q.numbered p), refl, small),
     )

@@ -1,5 +1,6 @@
 pub mod Edges
 pub mod Kept
+pub mod Numbers
 pub mod Table
 pub mod Readings
 pub mod Keepings

@@ -12,6 +12,7 @@ use Rattle.log_rule.specs.declared.claims.view.View.{View}
 use Rattle.log_rule.specs.Claims.Sums.{total}
 use Rattle.log_rule.specs.Claims.Plays.{Mine}
 use Rattle.log_rule.specs.Claims.Closing.{both}
+use Rattle.log_rule.specs.Numbers.{Owns, numbers_as}
 use Rattle.log_rule.specs.Readings.{reading}
 use Rattle.log_rule.specs.Table.{dealing, new_seat}
 
@@ -22,6 +23,7 @@ pub record Steady (v : Pass) : Type 0 where
   pub term : v.start / term_of v ≤ v.seen.term
   pub full : (k : ℕ) → v.seen.full ≡ suc k → v.start / term_of v ≤ k
   pub placed : (h : Extent → ℕ) → total h (flat_map ranges_of v.right.claims) ≡ total h (map extent_of (frames_of v))
+  pub owns : Owns v
 
 pub record Steadies (v w : Pass) : Type 0 where
   pub steady : Steady v
@@ -68,6 +70,8 @@ pub record ShowsTail (v : Pass) (partition n : ℕ) (w : Pass) : Type 0 where
   pub shown : (p : ℕ) → p ≤ v.seen.shown → v.start < p → (p - 1) / term_of v % 3 ≡ partition → p ≤ shown_position (geometry_of v) n
   pub from : v.start / term_of v % 3 ≡ partition → v.start ≤ shown_position (geometry_of v) n
   pub apart : (front behind : List ClaimRange) → v.right.claims ≡ front ++ behind → (c d : ClaimRange) → Among c front → Among d behind → AreApart c d
+  -- none of its numbers is there twice
+  pub single : (n : ℕ) → numbers_as n v ≤ 1
   pub same : w ≡ v
 
 -- and the seat notes the word

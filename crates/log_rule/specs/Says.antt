@@ -20,6 +20,7 @@ use Rattle.log_rule.specs.Claims.Plays.{pass_in}
 use Rattle.log_rule.specs.Claims.Rule.{armed_of, weight}
 use Rattle.log_rule.specs.Claims.Sums.{total}
 use Rattle.log_rule.specs.Edges.{AreCommitted, committed_sum, in_entry, open_sum}
+use Rattle.log_rule.specs.Numbers.{ClaimsAs}
 use Rattle.log_rule.specs.Shares.{owner_bytes}
 use Rattle.log_rule.specs.Table.{LogRuled}
 
@@ -49,6 +50,8 @@ pub record Says (key : Key) (words : List ℕ) (passes : List Pass) : Type 0 whe
   -- each owner's share is what was claimed under its number, and all shares are all that was claimed
   pub shares : (owner : ℕ) → share_of owner log ≡ total (weight (owner_bytes owner)) passes
   pub whole : key.start + all_shares log ≡ tail_shown key.identity.geometry words
+  -- who has claimed under a number, or may add under it, is one pass
+  pub numbers : (n i j : ℕ) (v w : Pass) → get_elem? passes i ≡ some v → get_elem? passes j ≡ some w → ClaimsAs n v → ClaimsAs n w → i ≡ j
   -- there is room for what those who are armed may add, and for what eight may add up to the limit
   pub room : tail_shown key.identity.geometry words + greatest_claim key.identity.geometry * total armed_of passes ≤ limit_in (slice_index words limit_place) + greatest_claim key.identity.geometry * 8
   pub ahead : limit_in (slice_index words limit_place) + greatest_claim key.identity.geometry * 8 ≤ cleaned + 3 * key.identity.geometry.term_length

@@ -11,6 +11,7 @@ use Rattle.log_rule.specs.Claims.Sums.{total}
 use Rattle.log_rule.specs.Claims.Rule.{weight}
 use Rattle.log_rule.specs.Claims.Events.{committed_weight}
 use Rattle.log_rule.specs.Edges.{in_entry}
+use Rattle.log_rule.specs.Numbers.{numbers_as}
 
 abbrev pub range_bytes : ClaimRange → ℕ
 range_bytes c = span c.cuts
@@ -37,4 +38,6 @@ pub record Weighs (v w : Pass) : Type 0 where
   pub whole : v.right.parts ≡ 1024 → IsTiled v.identity v.start (v.start + claimed_bytes v) (λ h. weight h v)
   -- each frame of its claims is committed, or open
   pub parted : (h : Extent → ℕ) → weight (in_entry h) v ≡ committed_weight (λ f. h (extent_of f)) v + total (λ f. h (extent_of f)) v.work.drafts
+  -- none of its numbers is there twice
+  pub single : (n : ℕ) → numbers_as n v ≤ 1
   pub same : w ≡ v

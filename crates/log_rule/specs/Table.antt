@@ -14,6 +14,7 @@ use Rattle.log_rule.specs.Claims.Sure.{AreSure, fresh_controls, no_controls}
 use Rattle.log_rule.specs.Claims.Plays.{newcomer, no_keeping, pass_in}
 use Rattle.log_rule.specs.declared.rule.Key.{Key}
 use Rattle.log_rule.specs.Kept.{Kept}
+use Rattle.log_rule.specs.Numbers.{AreNumbered}
 
 -- what others may move: the limit word, and how far is cleaned
 abbrev pub now_at : Key → ℕ → ℕ → Bounds
@@ -27,12 +28,13 @@ now_at key word cleaned = record {
   cleaned = cleaned;
 }
 
--- the three parts: claims and memory; consumers and the keeper; who is sure of the control words
+-- the four parts: claims and memory; consumers and the keeper; who is sure of the control words; under which numbers passes claim
 pub record LogRuled (key : Key) (s : State (Unit {0}) View) : Type 0 where
   pub cleaned : ℕ
   pub ruled : Ruled (now_at key (slice_index s.words limit_place) cleaned) s.words (map pass_in s.views)
   pub kept : Kept (now_at key (slice_index s.words limit_place) cleaned) key.consumers s.words (map pass_in s.views)
   pub sure : AreSure s.words s.views
+  pub numbered : AreNumbered (map pass_in s.views)
 
 -- ---- the first seat
 

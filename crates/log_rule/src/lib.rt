@@ -11,7 +11,7 @@
 //! Of the whole log (`LogRuled`), beside that: each consumer stands in whole units at a frame's edge, with no open
 //! claim and nothing uncommitted below it; a frame that a reader knows is committed; the keeper alone moves the limit
 //! and cleans, it cleans a word only where every consumer stands a term or more above it, and what may be claimed is
-//! clean. Each kind of step keeps it, and so do passes that are dealt, told what others committed, gathered, and that
+//! clean; a number is one pass's, which alone claims under it. Each kind of step keeps it, and so do passes that are dealt, told what others committed, gathered, and that
 //! meet. `opening_words` gives the words of a log that opens, of which it holds, and `Ring` their places.
 //!
 //! Two laws say this in the words of streams, for any words and passes that a log's table may have: what there is then

@@ -54,7 +54,7 @@ fresh = record {
   start = 0;
   number = 0;
   call = [];
-  right = record { parts = 1; limit = 0; armed = 0; claims = [] };
+  right = record { parts = 1; limit = 0; armed = 0; claims = []; numbers = [] };
   work = record { frames = []; drafts = [] };
   seen = record { count = 0; term = 0; full = 0; begun = 0; shown = 0 };
   reading = [];

@@ -41,6 +41,8 @@ pub struct Right {
     /// 1 where it may add once to the tail of the term that it has seen, else 0.
     pub armed: u64,
     pub claims: LinkedList<ClaimRange>,
+    /// The numbers that are its own: it claims under these alone.
+    pub numbers: LinkedList<u64>,
 }
 
 /// What a pass has seen of the terms, by their counts.

@@ -1,11 +1,13 @@
 -- Passes are dealt one after the other.
-use Rattle.std.proofs.Common.{◌≡◌, ℕ, suc, ◌+◌, ◌-◌, ◌<◌, List, [], ◌∷◌, ◌++◌, length, ap, ◌∙◌, subst, arith}
+use Rattle.std.proofs.Common.{◌≡◌, inl, ℕ, zero, suc, ◌+◌, ◌-◌, ◌*◌, ◌/◌, ◌<◌, List, [], ◌∷◌, ◌++◌, length, sym, refl, ap, ◌∙◌, subst, arith}
+use Rattle.theory.specs.Bytes.{Identity}
+use Rattle.theory.specs.Placed.{Among}
 use Rattle.publication.specs.declared.pass.Pass.{Pass}
 use Rattle.publication.specs.declared.pass.Reading.{Reading}
 use Rattle.log_rule.specs.Claims.Handles.{PublisherValue}
-use Rattle.log_rule.specs.Claims.Plays.{newcomer}
+use Rattle.log_rule.specs.Claims.Plays.{dealer, down, newcomer, other_numbers}
 use Rattle.log_rule.specs.Table.{consumers_at, other_readings}
-use Rattle.shared_log.specs.Handles.{LogValue}
+use Rattle.shared_log.specs.Handles.{LogValue, OwnsClaims}
 use Rattle.shared_log.specs.Readers.{ReaderValue}
 use Rattle.shared_log.specs.Parts.{AreReaders, IsDealing, IsNewReader}
 
@@ -28,3 +30,35 @@ dealing_on l number p q d lt of pass steps sure =
 pub readers_on : (l : LogValue) (n : ℕ) (rs : List ReaderValue) (r : ReaderValue) → AreReaders l n rs → IsNewReader l (n + length rs) r → AreReaders l n (rs ++ r ∷ [])
 readers_on l n [] r a is = (subst (λ (k : ℕ). IsNewReader l k r) (let e : n + 0 ≡ n = omega arith in e) is, tt)
 readers_on l n (x ∷ xs) r a is = (a.0, readers_on l (suc n) xs r a.1 (subst (λ (k : ℕ). IsNewReader l k r) (let e : n + suc (length xs) ≡ suc n + length xs = omega arith in e) is))
+
+-- ---- the publishers
+
+-- who has dealt one has the numbers and the parts of those that are left
+pub dealer_is : (i : Identity) (s k : ℕ) → dealer (newcomer i s (suc k) (120 * suc k + 176)) ≡ newcomer i s k (120 * k + 176)
+dealer_is i s k = λ j. record (newcomer i s k 0) { number = number j; right = record { parts = parts j; limit = 0; armed = 0; claims = []; numbers = numbers j } }
+  where
+    number : suc k - 1 ≡ k
+    number = omega arith
+
+    parts : 120 * suc k + 176 - 120 ≡ 120 * k + 176
+    parts = omega arith
+
+    all : (120 * suc k + 176) / 120 ≡ suc (suc k)
+    all = omega arith
+
+    left : (120 * k + 176) / 120 ≡ suc k
+    left = omega arith
+
+    numbers : other_numbers (down (suc k) ((120 * suc k + 176) / 120)) ≡ down k ((120 * k + 176) / 120)
+    numbers = ap (λ (m : ℕ). other_numbers (down (suc k) m)) all ∙ ap (down k) (sym left)
+
+among_down : (k m : ℕ) → Among k (down k (suc m))
+among_down zero m = inl refl
+among_down (suc k) m = inl refl
+
+-- its own number is among them
+pub owns_dealer : (i : Identity) (s k : ℕ) → k < 8 → OwnsClaims (newcomer i s k (120 * k + 176))
+owns_dealer i s k low = record { number = low; mine = λ less. tt; among = λ less. subst (λ (m : ℕ). Among k (down k m)) (sym left) (among_down k k) }
+  where
+    left : (120 * k + 176) / 120 ≡ suc k
+    left = omega arith

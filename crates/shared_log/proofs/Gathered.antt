@@ -13,6 +13,7 @@ use Rattle.publication.specs.declared.pass.Pass.{Pass}
 use Rattle.log_rule.specs.Claims.Sums.{total}
 use Rattle.log_rule.specs.Claims.Rule.{entries_of, entry_of, weight}
 use Rattle.log_rule.specs.Edges.{in_entry}
+use Rattle.log_rule.specs.Numbers.{is_number, numbers_as}
 use Rattle.publication.specs.Steps.{Extent}
 use Rattle.log_rule.specs.Claims.Handles.{PublisherValue, parts_in}
 use Rattle.log_rule.proofs.Claimed.Memories.{maps_append}
@@ -20,7 +21,7 @@ use Rattle.log_rule.proofs.Claimed.Totals.{total_append}
 use Rattle.log_rule.specs.Shares.{IsTiled, Weighs, claimed_bytes, owner_bytes}
 use Rattle.shared_log.specs.Handles.{LogValue}
 use Rattle.shared_log.specs.Keepers.{KeeperValue}
-use Rattle.shared_log.specs.Books.{AreAll, Gathers, IsDone, IsIdle, IsCommitted, ShowsBook, committed_in, share_as, weight_in}
+use Rattle.shared_log.specs.Books.{AreAll, Gathers, IsDone, IsIdle, IsCommitted, ShowsBook, committed_in, numbers_in, share_as, weight_in}
 use Rattle.log_rule.proofs.Shares.{share_is}
 use Rattle.shared_log.proofs.Owned.{own_share}
 use Rattle.shared_log.proofs.Shares.{both_share}
@@ -35,6 +36,7 @@ pub record IsGathering (l : LogValue) (all left : List PublisherValue) (shares :
   pub counted : (n : ℕ) → n < 8 → slice_index shares n + total (share_as n) left ≡ total (share_as n) all
   pub owned : (n : ℕ) → n < 8 → slice_index shares n + total (weight_in (owner_bytes n)) left ≡ total (weight_in (owner_bytes n)) all
   pub committed : (h : Extent → ℕ) → total (weight_in (in_entry h)) all + total (committed_in h) left ≡ total (committed_in h) all + total (weight_in (in_entry h)) left
+  pub numbered : (n : ℕ) → total (numbers_in n) all ≤ total (numbers_in n) left + numbers_as n k.pass
   pub summed : sum shares ≡ claimed_bytes k.pass
   pub tail_is : tail ≡ l.start + claimed_bytes k.pass
   pub weighs : Weighs k.pass k.pass
@@ -49,12 +51,16 @@ begun l ps k q a w idle =
       eight = refl;
       counted = λ n lt. none_plus (slice_index (replicate {A = ℕ} 8 0) n) (total (share_as n) ps) (get_or-replicate 8 n 0 0 lt);
       owned = λ n lt. none_plus (slice_index (replicate {A = ℕ} 8 0) n) (total (weight_in (owner_bytes n)) ps) (get_or-replicate 8 n 0 0 lt);
+      numbered = λ n. at_most (total (numbers_in n) ps) (numbers_as n q.held.pass);
       committed = λ h. turned (total (weight_in (in_entry h)) ps) (total (committed_in h) ps);
       summed = sym (nothing q.held.pass none);
       tail_is = sym (plus_none l.start (claimed_bytes q.held.pass) (nothing q.held.pass none));
       weighs = subst (λ (v : Pass). Weighs v q.held.pass) (sym w.same) w;
     }
   where
+    at_most : (n m : ℕ) → n ≤ n + m
+    at_most n m = omega arith
+
     turned : (n m : ℕ) → n + m ≡ m + n
     turned n m = omega arith
 
@@ -98,6 +104,8 @@ gathered_on l all left rest shares tail number share p k q g e undone ended idle
           stays (slice_index (set shares number (slice_index shares number + share)) n) (slice_index shares n) (total (weight_in (owner_bytes n)) left) (total (weight_in (owner_bytes n)) rest) (weight_in (owner_bytes n) p) (total (weight_in (owner_bytes n)) all) put a none c)));
       committed = λ h. (let a = last (weight_in (in_entry h)) in let d = last (committed_in h) in let c = g.committed h in let same = ended h in
           levels (total (weight_in (in_entry h)) all) (total (committed_in h) all) (total (weight_in (in_entry h)) left) (total (weight_in (in_entry h)) rest) (weight_in (in_entry h) p) (total (committed_in h) left) (total (committed_in h) rest) (committed_in h p) a d same c);
+      numbered = λ n. (let a = last (numbers_in n) in let c = g.numbered n in let d = ap (numbers_as n) x.pass ∙ total_append (is_number n) k.pass.right.numbers p.pass.right.numbers in
+          at_least (total (numbers_in n) all) (total (numbers_in n) left) (total (numbers_in n) rest) (numbers_as n p.pass) (numbers_as n k.pass) (numbers_as n q.pass) a c d);
       summed = sum_set shares number share inside ∙ ap (λ (n : ℕ). n + share) g.summed ∙ sym more;
       tail_is = (let t = g.tail_is in tails tail l.start (claimed_bytes k.pass) share (claimed_bytes q.pass) t more);
       weighs = x.weighs;
@@ -105,6 +113,9 @@ gathered_on l all left rest shares tail number share p k q g e undone ended idle
   where
     three : (left rest p k q all : ℕ) → left ≡ rest + p → left + k ≡ all → q ≡ k + p → rest + q ≡ all
     three left rest p k q all a c d = omega arith
+
+    at_least : (all left rest p k q : ℕ) → left ≡ rest + p → all ≤ left + k → q ≡ k + p → all ≤ rest + q
+    at_least all left rest p k q a c d = omega arith
 
     levels : (all done left rest p dleft drest d : ℕ) → left ≡ rest + p → dleft ≡ drest + d → p ≡ d → all + dleft ≡ done + left → all + drest ≡ done + rest
     levels all done left rest p dleft drest d a e same c = omega arith
@@ -151,9 +162,13 @@ shows l all shares tail k g =
       whole = ap (λ (n : ℕ). l.start + n) g.summed ∙ sym g.tail_is;
       tiled = record { log = tiled.log; tiles = tiled.tiles; fair = λ h. all_of (weight h k.pass) (total (weight_in h) all) (g.weighed h) ∙ tiled.fair h };
       owned = λ n lt. none (slice_index shares n) (total (weight_in (owner_bytes n)) all) (g.owned n lt) ∙ all_of (weight (owner_bytes n) k.pass) (total (weight_in (owner_bytes n)) all) (g.weighed (owner_bytes n)) ∙ tiled.fair (owner_bytes n) ∙ share_is n tiled.log;
+      numbers = λ n. (let a = g.numbered n in let c = g.weighs.single n in low (total (numbers_in n) all) (numbers_as n k.pass) a c);
       committed = λ h. sym (all_of (weight (in_entry h) k.pass) (total (weight_in (in_entry h)) all) (g.weighed (in_entry h)) ∙ tiled.fair (in_entry h)) ∙ ends (total (weight_in (in_entry h)) all) (total (committed_in h) all) (g.committed h);
     }
   where
+    low : (a k : ℕ) → a ≤ 0 + k → k ≤ 1 → a ≤ 1
+    low a k le one = omega arith
+
     ends : (a c : ℕ) → a + 0 ≡ c + 0 → a ≡ c
     ends a c e = omega arith
 

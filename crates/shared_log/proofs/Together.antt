@@ -11,6 +11,8 @@ use Rattle.publication.specs.Controls.{with_tail}
 use Rattle.publication.specs.Steps.{term_of}
 use Rattle.log_rule.specs.Claims.Handles.{PublisherValue}
 use Rattle.log_rule.specs.Meetings.{Steady, claim_end, meeting, unnoted}
+use Rattle.log_rule.specs.Numbers.{is_number}
+use Rattle.log_rule.proofs.Claimed.Totals.{total_append}
 use Rattle.shared_log.specs.Meets.{IsBack, Meets, SeesTails, Shows}
 
 -- ---- the three together
@@ -47,6 +49,7 @@ sees_tails v none one two all x y z top a c d e = record {
       (λ low. (let from : v.start ≤ top = of_third (v.start / term_of v) v.start x y z top e (λ p. subst (λ (n : ℕ). v.start ≤ n) (sym a.is) (a.told.from p)) (λ p. subst (λ (n : ℕ). v.start ≤ n) (sym c.is) (c.told.from p)) (λ p. subst (λ (n : ℕ). v.start ≤ n) (sym d.is) (d.told.from p)) in under v.seen.shown v.start top low from))
       (λ no. (let above = lt_of_not-le no in let s : ℕ = v.seen.shown in
       of_third ((s - 1) / term_of v) s x y z top e (λ p. subst (λ (n : ℕ). s ≤ n) (sym a.is) (a.told.shown s (same s) above p)) (λ p. subst (λ (n : ℕ). s ≤ n) (sym c.is) (c.told.shown s (same s) above p)) (λ p. subst (λ (n : ℕ). s ≤ n) (sym d.is) (d.told.shown s (same s) above p))));
+  single = a.told.single;
   apart = a.told.apart;
 }
   where
@@ -71,6 +74,7 @@ meets one other one' other' v before after position is new back_noted told so st
       seat = seat;
       steps = steps;
       apart = λ c d here there. t.apart p.right.claims q.right.claims refl c d here there;
+      numbers = λ n. subst (λ (m : ℕ). m ≤ 1) (total_append (is_number n) p.right.numbers q.right.numbers) (t.single n);
       greatest = record { zeroth = t.greatest.zeroth; first = t.greatest.first; second = t.greatest.second; loaded = t.greatest.loaded; noted = t.greatest.noted; is = t.greatest.is };
       claims = λ c either. t.claims c (⊎_elim (λ (a : Among c p.right.claims). among_left c p.right.claims q.right.claims a) (λ (a : Among c q.right.claims). among_right c p.right.claims q.right.claims a) either);
       seen = (

@@ -1,5 +1,5 @@
 -- What becomes of passes that end, and what the book of a log says.
-use Rattle.std.specs.Prelude.{◌≡◌, ℕ, ◌+◌, ◌<◌, ◌==◌, cond, List, [], All, slice_index, sum}
+use Rattle.std.specs.Prelude.{◌≡◌, ℕ, ◌+◌, ◌<◌, ◌≤◌, ◌==◌, cond, List, [], All, slice_index, sum}
 use Rattle.theory.specs.Entry.{Entry}
 use Rattle.theory.specs.Tiling.{share_of}
 use Rattle.publication.specs.declared.pass.Pass.{Pass}
@@ -7,6 +7,7 @@ use Rattle.log_rule.specs.Claims.Sums.{total}
 use Rattle.log_rule.specs.Claims.Rule.{weight}
 use Rattle.log_rule.specs.Claims.Events.{committed_weight}
 use Rattle.log_rule.specs.Edges.{in_entry}
+use Rattle.log_rule.specs.Numbers.{numbers_as}
 use Rattle.publication.specs.Steps.{Extent, extent_of}
 use Rattle.log_rule.specs.Claims.Handles.{PublisherValue, parts_in}
 use Rattle.log_rule.specs.Claims.Closing.{both, handed_over}
@@ -49,6 +50,10 @@ weight_in h p = weight h p.pass
 abbrev pub committed_in : (Extent → ℕ) → PublisherValue → ℕ
 committed_in h p = committed_weight (λ f. h (extent_of f)) p.pass
 
+-- how often all of them have a number
+abbrev pub numbers_in : ℕ → PublisherValue → ℕ
+numbers_in n p = numbers_as n p.pass
+
 -- each frame of its claims is committed
 abbrev pub IsCommitted : PublisherValue → Type 0
 IsCommitted p = (h : Extent → ℕ) → weight_in (in_entry h) p ≡ committed_in h p
@@ -65,6 +70,8 @@ pub record ShowsBook (l : LogValue) (publishers : List PublisherValue) (book : B
   pub tiled : IsTiled l.identity l.start book.tail (λ h. total (weight_in h) publishers)
   -- and the shares are those of the entries' owners
   pub owned : (n : ℕ) → n < 8 → slice_index book.shares n ≡ share_of n tiled.log
+  -- and no number is one of two publishers
+  pub numbers : (n : ℕ) → total (numbers_in n) publishers ≤ 1
   -- each frame of each entry is committed
   pub committed : (h : Extent → ℕ) → total (in_entry h) tiled.log ≡ total (committed_in h) publishers
 

@@ -4,6 +4,7 @@ use Rattle.std.specs.List.{AllByRecursion}
 use Rattle.atomic_table.specs.Seated.{TableId}
 use Rattle.theory.specs.Position.{IsGeometry}
 use Rattle.theory.specs.Bytes.{Identity}
+use Rattle.theory.specs.Placed.{Among}
 use Rattle.log_rule.specs.Claims.Packs.{table_length}
 use Rattle.log_rule.specs.Claims.Handles.{PublisherValue}
 use Rattle.log_rule.specs.Claims.Sure.{fresh_controls}
@@ -37,14 +38,15 @@ pub record IsOf (l : LogValue) (p : PublisherValue) : Type 0 where
   pub identity : p.pass.identity ≡ l.identity
   pub start : p.pass.start ≡ l.start
 
--- these claims of a pass with this number and so many parts are its own, where it isn't the one that has all: that one
--- may act for any number
-pub record AreOwn (own parts : ℕ) (claims : List ClaimRange) : Type 0 where
+-- these claims of a pass with this number and so many parts are its own, and the number is one of its own, where it isn't
+-- the one that has all: that one may act for any number
+pub record AreOwn (own parts : ℕ) (numbers : List ℕ) (claims : List ClaimRange) : Type 0 where
   pub number : own < 8
   pub mine : parts < 1024 → AllByRecursion (λ c. c.owner ≡ own) claims
+  pub among : parts < 1024 → Among own numbers
 
 abbrev pub OwnsClaims : Pass → Type 0
-OwnsClaims v = AreOwn v.number v.right.parts v.right.claims
+OwnsClaims v = AreOwn v.number v.right.parts v.right.numbers v.right.claims
 
 -- the pass has a publisher's parts of the right, this number, and claims that cover so many bytes
 pub record IsPublishing (v : Pass) (number share : ℕ) : Type 0 where

@@ -10,6 +10,7 @@ use Rattle.publication.specs.Steps.{geometry_of, shown_position, term_of}
 use Rattle.log_rule.specs.Claims.Handles.{PublisherValue}
 use Rattle.log_rule.specs.Claims.Plays.{Mine}
 use Rattle.log_rule.specs.Meetings.{AreApart, ShowsTail, claim_end, unnoted}
+use Rattle.log_rule.specs.Numbers.{numbers_as}
 
 -- the same seat but for its steps
 pub record SeatStays (table : TableId) (id : ℕ) (me : Mine) (table' : TableId) (id' : ℕ) (me' : Mine) : Type 0 where
@@ -42,6 +43,7 @@ pub record SeesTails (v : Pass) (before after : Controls) (position : ℕ) : Typ
   pub claims : (c : ClaimRange) → Among c v.right.claims → claim_end c ≤ position
   pub terms : (k : ℕ) → v.start / term_of v ≤ k → k ≤ max v.seen.count v.seen.begun → k * term_of v ≤ position
   pub shown : v.seen.shown ≤ position
+  pub single : (n : ℕ) → numbers_as n v ≤ 1
   pub apart : (front behind : List ClaimRange) → v.right.claims ≡ front ++ behind → (c d : ClaimRange) → Among c front → Among d behind → AreApart c d
 
 -- a publisher that comes back is as it was, but for its steps
@@ -62,6 +64,8 @@ pub record Meets (one other one' other' : PublisherValue) (position : ℕ) : Typ
   pub steps : (one'.steps ≡ one.steps + 4) × (other'.steps ≡ 0)
   -- what they have claimed is apart
   pub apart : (c d : ClaimRange) → Among c one.pass.right.claims → Among d other.pass.right.claims → AreApart c d
+  -- no number is one of both
+  pub numbers : (n : ℕ) → numbers_as n one.pass + numbers_as n other.pass ≤ 1
   -- the seat comes back with the three raw tails noted, none of which was noted when they met
   pub greatest : IsGreatestShown one.pass unnoted one'.controls position
   -- nothing that either has claimed passes it

@@ -4,11 +4,12 @@
 //!
 //! A log opens unconnected, its limit and its consumers at the start, or for three causes of refusal in order
 //! (`open`, `Log::open_whole`, `LogError`). A publisher's word calls are those of `publication` (`OnLog`); it knows
-//! how many bytes its claims cover (`Publisher::share`). Two publishers that meet come back as they were, their
-//! claims apart, none above the answer: the greatest position that the three raw tails show, each loaded in that call,
-//! and none that a word had shown to either is above it (`meet`). One that retires leaves all that it claimed to
-//! another, whose it is then (`retire`). Closed with all its passes, a log's `Book` has each publisher's share, which is
-//! that of the entries' owners, and the entries of all tile the stream from the start to its tail (`close`).
+//! how many bytes its claims cover (`Publisher::share`). Two publishers that meet come back as they were, their numbers
+//! and their claims apart, none above the answer: the greatest position that the three raw tails show, each loaded in
+//! that call, and none that a word had shown to either is above it (`meet`). One that retires leaves its numbers and all
+//! that it claimed to another, whose it is then (`retire`). Closed with all its passes, a log's `Book` has each
+//! publisher's share, which is that of the entries' owners, no number is one of two, and the entries of all tile the
+//! stream from the start to its tail (`close`).
 //!
 //! A reader: `next` gives the committed frame where it stands, and none only where the word there, loaded once in that
 //! call, was zero, and no frame begins that the reader knows; `advance` goes to its end; `reread` gives a frame again

@@ -4,15 +4,14 @@ ghost use Rattle.std.specs.Prelude.{◌≡◌, IfOk};
 ghost use Rattle.std.specs.List.{AllByRecursion};
 ghost use Rattle.log_rule.specs.Claims.Handles.{parts_in};
 ghost use Rattle.log_rule.specs.Claims.Sums.{total};
-ghost use Rattle.shared_log.specs.Books.{IsDone};
 ghost use Rattle.shared_log.specs.Handles.{AreNew, IsOf};
 ghost use Rattle.stream_tests.specs.Crews.{IsCrew, IsFollower, IsPart};
 
 use crate::crew::{Crew, Follower};
 use block::Block;
-use claims::{Claimant, Parts, open};
+use claims::{Claimant, Parts, close, open};
 use position::Geometry;
-use shared_log::{Book, Log, Publisher, clean_and_limit, close, set_connected};
+use shared_log::{Book, Log, clean_and_limit, set_connected};
 use std::alloc::{AllocError, Global};
 use std::test::Fail;
 
@@ -57,44 +56,26 @@ pub(crate) fn open_crew(alloc: Global) -> Result<(Log, Claimant, Crew), Fail>
     Ok((log, stalled, crew))
 }
 
-/// A claimant's publisher, of which nothing is open.
-fn ended(log: &Log, claimant: Claimant) -> Publisher
-    requires { IsOf log.now claimant }
-    ensures done { IsDone log.now result }
-    ensures same { result ≡ claimant }
-{
-    let _ = log.start();
-    claimant.into_parts().0
-}
-
-/// The publishers of all, by their numbers.
-fn publishers_of(
+/// All claimants, by their numbers.
+fn claimants_of(
     log: &Log,
     stalled: Claimant,
     one: Claimant,
     two: Claimant,
     three: Claimant,
     others: [Claimant; 4],
-) -> [Publisher; 8]
+) -> [Claimant; 8]
     requires stalled { IsPart log.now 176 stalled }
     requires one { IsPart log.now 120 one }
     requires two { IsPart log.now 120 two }
     requires three { IsPart log.now 120 three }
     requires others { AllByRecursion (IsPart log.now 120) others }
-    ensures done { AllByRecursion (IsDone log.now) result }
+    ensures of { AllByRecursion (IsOf log.now) result }
     ensures parts { total parts_in result ≡ 1016 }
 {
+    let _ = log.start();
     let [four, five, six, seven] = others;
-    [
-        ended(log, stalled),
-        ended(log, one),
-        ended(log, two),
-        ended(log, three),
-        ended(log, four),
-        ended(log, five),
-        ended(log, six),
-        ended(log, seven),
-    ]
+    [stalled, one, two, three, four, five, six, seven]
 }
 
 /// Closes a log with all its passes.
@@ -114,7 +95,8 @@ pub(crate) fn close_crew(
         others,
         follower,
     } = crew;
-    let publishers = publishers_of(&log, stalled, one, two, three, others);
-    let publishers = Vec::from_array(alloc, publishers)?;
-    Ok(close(log, publishers, Vec::new(alloc), follower.keeper))
+    let claimants = claimants_of(&log, stalled, one, two, three, others);
+    let claimants = Vec::from_array(alloc, claimants)?;
+    let memory = Vec::with_capacity(alloc, 8)?;
+    Ok(close(log, claimants, Vec::new(alloc), follower.keeper, memory))
 }

@@ -115,13 +115,13 @@ committed b id v p x h pos ws ps r at = let g = whole.commit b id v p x h pos ws
 
 pub steps_are_events : StepsAreEvents
 steps_are_events = record {
-  load_limit = λ b id v. eventful b id v limit_place (λ n. n) (λ n w. Sees v n w) (whole.see b id v) (λ n w t. whole.stays v w (noted (steps.Limit n) (with_limit v n)) refl refl refl refl refl refl t);
-  load_count = λ b id v. eventful b id v count_place (λ n. n) (λ n w. Counts v n w) (whole.count b id v) (λ n w t. whole.stays v w (noted (steps.Count n) (with_count v n)) refl refl refl refl refl refl t.after);
+  load_limit = λ b id v. eventful b id v limit_place (λ n. n) (λ n w. Sees v n w) (whole.see b id v) (λ n w t. whole.stays v w (noted (steps.Limit n) (with_limit v n)) refl refl refl refl refl refl refl t);
+  load_count = λ b id v. eventful b id v count_place (λ n. n) (λ n w. Counts v n w) (whole.count b id v) (λ n w t. whole.stays v w (noted (steps.Count n) (with_count v n)) refl refl refl refl refl refl refl t.after);
   load_tail = λ b id v able. eventful b id v (tail_place v.seen.count) (λ n. n) (λ n w. Arms v n w) (whole.arm b id v able) (λ n w t. whole.arms_grows v n w t);
   add = λ b id v size able armed short. eventful b id v (tail_place v.seen.term) (λ y. (y + framed_length v.identity.geometry size) % 2 ^ 64) (λ y w. Adds v size y w) (whole.add b id v size able armed short) (λ n w t. whole.adds_grows v size n w t);
   load_next = λ b id v k full low. eventful b id v (tail_place (k + 1)) (λ n. n) (λ n w. Nexts v k n w) (whole.next b id v k full low) (λ n w t. whole.nexts_grows v k n w t);
   exchange_next = λ b id v k from full low named. eventful b id v (tail_place (k + 1)) (λ n. either (eqb n from) (tail_word (id_of v.identity.geometry (k + 1)) 0) n) (λ n w. Rotates v k from n w) (whole.rotate b id v k from (tail_word (id_of v.identity.geometry (k + 1)) 0) full low named refl) (λ n w t. whole.rotates_grows v k from n w t);
-  exchange_count = λ b id v k began. eventful b id v count_place (λ n. either (eqb n k) (k + 1) n) (λ n w. ExchangesCount v k n w) (whole.advance b id v k began) (λ n w t. whole.stays v w (noted (steps.CountExchange k n) v) refl refl refl refl refl refl t.after);
+  exchange_count = λ b id v k began. eventful b id v count_place (λ n. either (eqb n k) (k + 1) n) (λ n w. ExchangesCount v k n w) (whole.advance b id v k began) (λ n w t. whole.stays v w (noted (steps.CountExchange k n) v) refl refl refl refl refl refl refl t.after);
   store = stored;
   commit = committed;
 }

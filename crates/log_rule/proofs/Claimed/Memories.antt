@@ -119,6 +119,7 @@ pub record Holds (v w : Pass) : Type 0 where
 pub record Stays (v w : Pass) : Type 0 where
   pub number : w.number ≡ v.number
   pub parts : w.right.parts ≡ v.right.parts
+  pub numbers : w.right.numbers ≡ v.right.numbers
   pub claims : w.right.claims ≡ v.right.claims
   pub work : w.work ≡ v.work
   pub reading : w.reading ≡ v.reading
@@ -129,6 +130,7 @@ pub record Opens (v w : Pass) : Type 0 where
   pub claim : ClaimRange
   pub number : w.number ≡ v.number
   pub parts : w.right.parts ≡ v.right.parts
+  pub numbers : w.right.numbers ≡ v.right.numbers
   pub claims : w.right.claims ≡ v.right.claims ++ claim ∷ []
   pub frames : w.work.frames ≡ v.work.frames
   pub drafts : w.work.drafts ≡ v.work.drafts ++ blanks claim.start claim.cuts

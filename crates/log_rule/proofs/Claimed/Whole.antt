@@ -40,8 +40,8 @@ set_at (x ∷ xs) (suc i) v w e = set_at xs i v w e
 -- ---- steps on control words
 
 -- a pass that stays in the rule stays one of its log
-same : (b : Bounds) (ws ws' : List ℕ) (ps : List Pass) (id : ℕ) (v w : Pass) (r : ClaimsHold b ws ps) (r' : ClaimsHold b ws' (set ps id w)) → get_elem? ps id ≡ some v → w.number ≡ v.number → w.right.parts ≡ v.right.parts → w.reading ≡ v.reading → w.keeping ≡ v.keeping → Same v w
-same b ws ws' ps id v w r r' at number parts reading keeping = let k = r.each id v at in let k' = r'.each id w (set_at ps id v w at) in record { identity = k'.identity ∙ sym k.identity; start = k'.start ∙ sym k.start; number = number; parts = parts; reading = reading; keeping = keeping }
+same : (b : Bounds) (ws ws' : List ℕ) (ps : List Pass) (id : ℕ) (v w : Pass) (r : ClaimsHold b ws ps) (r' : ClaimsHold b ws' (set ps id w)) → get_elem? ps id ≡ some v → w.number ≡ v.number → w.right.parts ≡ v.right.parts → w.right.numbers ≡ v.right.numbers → w.reading ≡ v.reading → w.keeping ≡ v.keeping → Same v w
+same b ws ws' ps id v w r r' at number parts numbers reading keeping = let k = r.each id v at in let k' = r'.each id w (set_at ps id v w at) in record { identity = k'.identity ∙ sym k.identity; start = k'.start ∙ sym k.start; number = number; parts = parts; numbers = numbers; reading = reading; keeping = keeping }
 
 -- a step on a control word that keeps the claims keeps the words of the stream
 framing : (b : Bounds) (id : ℕ) (v : Pass) (i : ℕ) (f : ℕ → ℕ) (told : ℕ → Pass → Type 0) → i < 208 → Admits (ClaimsHold b) id v i f told → ((n : ℕ) (w : Pass) → told n w → Stays v w ⊎ Opens v w) → Admits (Ruled b) id v i f (λ n w. Same v w × told n w)
@@ -54,45 +54,45 @@ framing b id v i f told low go grows ws ps r at = let g = go ws ps r.claims at i
         (λ (o : Opens v g.0). opened b ws ps r.claims r.memory id i n v g.0 g.1 low at (set_at ps id v g.0 at) o)
         (grows (slice_index ws i) g.0 g.2);
   },
-  (same b ws (set ws i n) ps id v g.0 r.claims g.1 at (⊎_elim (λ (s : Stays v g.0). s.number) (λ (o : Opens v g.0). o.number) (grows (slice_index ws i) g.0 g.2)) (⊎_elim (λ (s : Stays v g.0). s.parts) (λ (o : Opens v g.0). o.parts) (grows (slice_index ws i) g.0 g.2)) (⊎_elim (λ (s : Stays v g.0). s.reading) (λ (o : Opens v g.0). o.reading) (grows (slice_index ws i) g.0 g.2)) (⊎_elim (λ (s : Stays v g.0). s.keeping) (λ (o : Opens v g.0). o.keeping) (grows (slice_index ws i) g.0 g.2)), g.2),
+  (same b ws (set ws i n) ps id v g.0 r.claims g.1 at (⊎_elim (λ (s : Stays v g.0). s.number) (λ (o : Opens v g.0). o.number) (grows (slice_index ws i) g.0 g.2)) (⊎_elim (λ (s : Stays v g.0). s.parts) (λ (o : Opens v g.0). o.parts) (grows (slice_index ws i) g.0 g.2)) (⊎_elim (λ (s : Stays v g.0). s.numbers) (λ (o : Opens v g.0). o.numbers) (grows (slice_index ws i) g.0 g.2)) (⊎_elim (λ (s : Stays v g.0). s.reading) (λ (o : Opens v g.0). o.reading) (grows (slice_index ws i) g.0 g.2)) (⊎_elim (λ (s : Stays v g.0). s.keeping) (λ (o : Opens v g.0). o.keeping) (grows (slice_index ws i) g.0 g.2)), g.2),
 )
 
-pub stays : (v w x : Pass) → x.number ≡ v.number → x.right.parts ≡ v.right.parts → x.right.claims ≡ v.right.claims → x.work ≡ v.work → x.reading ≡ v.reading → x.keeping ≡ v.keeping → w ≡ x → Stays v w ⊎ Opens v w
-stays v w x m d a c r k e = inl record { number = ap (λ y. y.number) e ∙ m; parts = ap (λ y. y.right.parts) e ∙ d; claims = ap (λ y. y.right.claims) e ∙ a; work = ap (λ y. y.work) e ∙ c; reading = ap (λ y. y.reading) e ∙ r; keeping = ap (λ y. y.keeping) e ∙ k }
+pub stays : (v w x : Pass) → x.number ≡ v.number → x.right.parts ≡ v.right.parts → x.right.numbers ≡ v.right.numbers → x.right.claims ≡ v.right.claims → x.work ≡ v.work → x.reading ≡ v.reading → x.keeping ≡ v.keeping → w ≡ x → Stays v w ⊎ Opens v w
+stays v w x m d u a c r k e = inl record { number = ap (λ y. y.number) e ∙ m; parts = ap (λ y. y.right.parts) e ∙ d; numbers = ap (λ y. y.right.numbers) e ∙ u; claims = ap (λ y. y.right.claims) e ∙ a; work = ap (λ y. y.work) e ∙ c; reading = ap (λ y. y.reading) e ∙ r; keeping = ap (λ y. y.keeping) e ∙ k }
 
 pub arms_grows : (v : Pass) (n : ℕ) (w : Pass) → Arms v n w → Stays v w ⊎ Opens v w
 arms_grows v n w t = dite (ℤ_discrete (id_in n) (id_of (geometry_of v) v.seen.count))
     (λ named. dite (dec_le (term_of v) (offset_in n))
-    (λ full. stays v w (noted (tail_step v n) (with_full v v.seen.count)) refl refl refl refl refl refl (t.used_up named full))
+    (λ full. stays v w (noted (tail_step v n) (with_full v v.seen.count)) refl refl refl refl refl refl refl (t.used_up named full))
     (λ no. let room = lt_of_not-le no in dite (dec_le (limit_in v.right.limit) (v.seen.count * term_of v + offset_in n))
-    (λ past. stays v w (noted (tail_step v n) v) refl refl refl refl refl refl (t.limited named room past))
-    (λ not. stays v w (noted (tail_step v n) (with_armed v)) refl refl refl refl refl refl (t.below named room (lt_of_not-le not)))))
-    (λ other. stays v w (noted (tail_step v n) v) refl refl refl refl refl refl (t.other other))
+    (λ past. stays v w (noted (tail_step v n) v) refl refl refl refl refl refl refl (t.limited named room past))
+    (λ not. stays v w (noted (tail_step v n) (with_armed v)) refl refl refl refl refl refl refl (t.below named room (lt_of_not-le not)))))
+    (λ other. stays v w (noted (tail_step v n) v) refl refl refl refl refl refl refl (t.other other))
 
 pub adds_grows : (v : Pass) (size n : ℕ) (w : Pass) → Adds v size n w → Stays v w ⊎ Opens v w
 adds_grows v size n w t = dite (dec_le (offset_in n + framed_length (geometry_of v) size) (term_of v))
-    (λ fits. let e = t.fits fits in inr record { claim = message_at v n size; number = ap (λ y. y.number) e; parts = ap (λ y. y.right.parts) e; claims = ap (λ y. y.right.claims) e; frames = ap (λ y. y.work.frames) e; drafts = ap (λ y. y.work.drafts) e; reading = ap (λ y. y.reading) e; keeping = ap (λ y. y.keeping) e })
+    (λ fits. let e = t.fits fits in inr record { claim = message_at v n size; number = ap (λ y. y.number) e; parts = ap (λ y. y.right.parts) e; numbers = ap (λ y. y.right.numbers) e; claims = ap (λ y. y.right.claims) e; frames = ap (λ y. y.work.frames) e; drafts = ap (λ y. y.work.drafts) e; reading = ap (λ y. y.reading) e; keeping = ap (λ y. y.keeping) e })
     (λ no. dite (dec_le (term_of v) (offset_in n))
-    (λ full. stays v w (noted (addition v size n) (with_full (disarmed v) (count_in (geometry_of v) n))) refl refl refl refl refl refl (t.over full))
-    (λ not. let e = t.trips (lt_of_not-le not) (lt_of_not-le no) in inr record { claim = padding_at v n; number = ap (λ y. y.number) e; parts = ap (λ y. y.right.parts) e; claims = ap (λ y. y.right.claims) e; frames = ap (λ y. y.work.frames) e; drafts = ap (λ y. y.work.drafts) e; reading = ap (λ y. y.reading) e; keeping = ap (λ y. y.keeping) e }))
+    (λ full. stays v w (noted (addition v size n) (with_full (disarmed v) (count_in (geometry_of v) n))) refl refl refl refl refl refl refl (t.over full))
+    (λ not. let e = t.trips (lt_of_not-le not) (lt_of_not-le no) in inr record { claim = padding_at v n; number = ap (λ y. y.number) e; parts = ap (λ y. y.right.parts) e; numbers = ap (λ y. y.right.numbers) e; claims = ap (λ y. y.right.claims) e; frames = ap (λ y. y.work.frames) e; drafts = ap (λ y. y.work.drafts) e; reading = ap (λ y. y.reading) e; keeping = ap (λ y. y.keeping) e }))
 
 pub nexts_grows : (v : Pass) (k n : ℕ) (w : Pass) → Nexts v k n w → Stays v w ⊎ Opens v w
 nexts_grows v k n w t = dite (ℤ_discrete (id_in n) (id_of (geometry_of v) (k + 1)))
-    (λ yes. stays v w (noted (steps.NextTail ((k + 1) % 3) n) (with_begun v (k + 1))) refl refl refl refl refl refl (t.begun yes))
-    (λ no. stays v w (noted (steps.NextTail ((k + 1) % 3) n) v) refl refl refl refl refl refl (t.other no))
+    (λ yes. stays v w (noted (steps.NextTail ((k + 1) % 3) n) (with_begun v (k + 1))) refl refl refl refl refl refl refl (t.begun yes))
+    (λ no. stays v w (noted (steps.NextTail ((k + 1) % 3) n) v) refl refl refl refl refl refl refl (t.other no))
 
 pub rotates_grows : (v : Pass) (k from n : ℕ) (w : Pass) → Rotates v k from n w → Stays v w ⊎ Opens v w
 rotates_grows v k from n w t = dite (ℕ_discrete n from)
-    (λ hit. stays v w (noted (tail_exchange v k from n) (with_begun v (k + 1))) refl refl refl refl refl refl (t.begun (inl hit)))
+    (λ hit. stays v w (noted (tail_exchange v k from n) (with_begun v (k + 1))) refl refl refl refl refl refl refl (t.begun (inl hit)))
     (λ miss. dite (ℤ_discrete (id_in n) (id_of (geometry_of v) (k + 1)))
-    (λ yes. stays v w (noted (tail_exchange v k from n) (with_begun v (k + 1))) refl refl refl refl refl refl (t.begun (inr yes)))
-    (λ no. stays v w (noted (tail_exchange v k from n) v) refl refl refl refl refl refl (t.other miss no)))
+    (λ yes. stays v w (noted (tail_exchange v k from n) (with_begun v (k + 1))) refl refl refl refl refl refl refl (t.begun (inr yes)))
+    (λ no. stays v w (noted (tail_exchange v k from n) v) refl refl refl refl refl refl refl (t.other miss no)))
 
 pub see : (b : Bounds) (id : ℕ) (v : Pass) → Admits (Ruled b) id v limit_place (λ n. n) (λ n w. Same v w × Sees v n w)
-see b id v = framing b id v limit_place (λ n. n) (λ n w. Sees v n w) (omega arith) (looks.see b id v) (λ n w t. stays v w (noted (steps.Limit n) (with_limit v n)) refl refl refl refl refl refl t)
+see b id v = framing b id v limit_place (λ n. n) (λ n w. Sees v n w) (omega arith) (looks.see b id v) (λ n w t. stays v w (noted (steps.Limit n) (with_limit v n)) refl refl refl refl refl refl refl t)
 
 pub count : (b : Bounds) (id : ℕ) (v : Pass) → Admits (Ruled b) id v count_place (λ n. n) (λ n w. Same v w × Counts v n w)
-count b id v = framing b id v count_place (λ n. n) (λ n w. Counts v n w) (omega arith) (looks.count b id v) (λ n w t. stays v w (noted (steps.Count n) (with_count v n)) refl refl refl refl refl refl t.after)
+count b id v = framing b id v count_place (λ n. n) (λ n w. Counts v n w) (omega arith) (looks.count b id v) (λ n w t. stays v w (noted (steps.Count n) (with_count v n)) refl refl refl refl refl refl refl t.after)
 
 pub arm : (b : Bounds) (id : ℕ) (v : Pass) → 120 ≤ v.right.parts → Admits (Ruled b) id v (tail_place v.seen.count) (λ n. n) (λ n w. Same v w × Arms v n w)
 arm b id v able = framing b id v (tail_place v.seen.count) (λ n. n) (λ n w. Arms v n w) (looks.tail_low v.seen.count) (looks.arm b id v able) (λ n w t. arms_grows v n w t)
@@ -109,7 +109,7 @@ pub rotate : (b : Bounds) (id : ℕ) (v : Pass) (k from to : ℕ) → v.seen.ful
 rotate b id v k from to full low named goes = framing b id v (tail_place (k + 1)) (λ n. either (eqb n from) to n) (λ n w. Rotates v k from n w) (looks.tail_low (k + 1)) (turning.rotate b id v k from to full low named goes) (λ n w t. rotates_grows v k from n w t)
 
 pub advance : (b : Bounds) (id : ℕ) (v : Pass) (old : ℕ) → v.seen.begun ≡ old + 1 → Admits (Ruled b) id v count_place (λ n. either (eqb n old) (old + 1) n) (λ n w. Same v w × ExchangesCount v old n w)
-advance b id v old began = framing b id v count_place (λ n. either (eqb n old) (old + 1) n) (λ n w. ExchangesCount v old n w) (omega arith) (turning.advance b id v old began) (λ n w t. stays v w (noted (steps.CountExchange old n) v) refl refl refl refl refl refl t.after)
+advance b id v old began = framing b id v count_place (λ n. either (eqb n old) (old + 1) n) (λ n w. ExchangesCount v old n w) (omega arith) (turning.advance b id v old began) (λ n w t. stays v w (noted (steps.CountExchange old n) v) refl refl refl refl refl refl refl t.after)
 
 -- ---- stores
 
@@ -171,7 +171,7 @@ store_at id v p n h b' ws ps r at =
         memory = subst (λ (z : ℕ). Memory b (set ws z n) (set ps id w)) spot memory;
       },
       (
-        record { identity = refl; start = refl; number = refl; parts = refl; reading = refl; keeping = refl },
+        record { identity = refl; start = refl; number = refl; parts = refl; numbers = refl; reading = refl; keeping = refl },
         λ front draft behind place parts above inside position. same_place p (λ a c e. (j : ℕ) → p ≡ c.start + 8 * j → w ≡ with_work v.work.frames (a ++ written c j n ∷ e) v) h.front d h.behind front draft behind (sym h.parts ∙ parts)
             (has p d.start k (length d.words) h.position h.inside) (has p draft.start place (length draft.words) position inside) (subst (λ l. Covered p l ≤ 1) h.parts (once b ws ps r id v at p))
             (λ j e. ap (λ (z : ℕ). with_work v.work.frames (h.front ++ written d z n ∷ h.behind) v) (one p d.start k j h.position e)) place position,
@@ -222,7 +222,7 @@ commit_at id v p n h first b' ws ps r at =
         memory = subst (λ (z : ℕ). Memory b (set ws z n) (set ps id w)) spot memory;
       },
       (
-        record { identity = refl; start = refl; number = refl; parts = refl; reading = refl; keeping = refl },
+        record { identity = refl; start = refl; number = refl; parts = refl; numbers = refl; reading = refl; keeping = refl },
         λ front draft behind parts inside position. same_place p (λ a c e. w ≡ with_work (fs ++ written c 0 n ∷ []) (a ++ e) v) h.front d h.behind front draft behind (sym h.parts ∙ parts)
             (has p d.start (length d.words) h.position h.inside) (has p draft.start (length draft.words) position inside) (subst (λ l. Covered p l ≤ 1) h.parts (once b ws ps r id v at p)) refl,
       ),

@@ -9,11 +9,12 @@ abbrev pub Admits : (List ℕ → List Pass → Type 0) → ℕ → Pass → ℕ
 Admits rule id v i f told = (words : List ℕ) (passes : List Pass) → rule words passes → get_elem? passes id ≡ some v
     → (w : Pass) × rule (slice_set words i (f (slice_index words i))) (slice_set passes id w) × told (slice_index words i) w
 
--- the pass stays one of its log, with its number and its parts, and knows the same as a consumer and as a keeper
+-- the pass stays one of its log, with its number, its numbers and its parts, and knows the same as a consumer and as a keeper
 pub record Same (v w : Pass) : Type 0 where
   pub identity : w.identity ≡ v.identity
   pub start : w.start ≡ v.start
   pub number : w.number ≡ v.number
   pub parts : w.right.parts ≡ v.right.parts
+  pub numbers : w.right.numbers ≡ v.right.numbers
   pub reading : w.reading ≡ v.reading
   pub keeping : w.keeping ≡ v.keeping

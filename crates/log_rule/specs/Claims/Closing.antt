@@ -8,10 +8,10 @@ use Rattle.log_rule.specs.declared.claims.view.View.{View}
 use Rattle.log_rule.specs.Claims.Sure.{no_controls}
 use Rattle.log_rule.specs.Claims.Plays.{newcomer}
 
--- one has the parts, the claims and the frames of both
+-- one has the parts, the numbers, the claims and the frames of both
 abbrev pub both : Pass → Pass → Pass
 both v w = record v {
-  right = record v.right { parts = v.right.parts + w.right.parts; claims = v.right.claims ++ w.right.claims };
+  right = record v.right { parts = v.right.parts + w.right.parts; claims = v.right.claims ++ w.right.claims; numbers = v.right.numbers ++ w.right.numbers };
   work = works (v.work.frames ++ w.work.frames) (v.work.drafts ++ w.work.drafts);
 }
 

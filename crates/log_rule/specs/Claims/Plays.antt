@@ -1,5 +1,5 @@
 -- The bounds of a log that opens, the first seat and how it is dealt, and what each step tells.
-use Rattle.std.specs.Prelude.{◌≡◌, ℕ, suc, ◌+◌, ◌-◌, ◌/◌, List, []}
+use Rattle.std.specs.Prelude.{◌≡◌, ℕ, zero, suc, ◌+◌, ◌-◌, ◌/◌, List, [], ◌∷◌}
 use Rattle.atomic_table.specs.Table.{Me, Step}
 use Rattle.theory.specs.Position.{greatest_claim}
 use Rattle.theory.specs.Bytes.{Identity}
@@ -31,7 +31,13 @@ bounds_of key = record {
 abbrev pub no_keeping : Keeping
 no_keeping = record { right = 0; limit = 0; cleaned = 0; positions = []; reads = [] }
 
--- a pass with this number and so many parts, which has seen the term in which the log begins, and claimed nothing
+-- so many numbers, from this one down
+abbrev pub down : ℕ → ℕ → List ℕ
+down n zero = []
+down zero (suc many) = 0 ∷ []
+down (suc n) (suc many) = suc n ∷ down n many
+
+-- a pass with this number and so many parts, with a number for each 120 of them, which has seen the term in which the log begins, and claimed nothing
 abbrev pub newcomer : Identity → ℕ → ℕ → ℕ → Pass
 newcomer identity start number parts =
     let first = start / identity.geometry.term_length in
@@ -40,7 +46,7 @@ newcomer identity start number parts =
       start = start;
       number = number;
       call = [];
-      right = record { parts = parts; limit = 0; armed = 0; claims = [] };
+      right = record { parts = parts; limit = 0; armed = 0; claims = []; numbers = down number (parts / 120) };
       work = works [] [];
       seen = record { count = first; term = first; full = 0; begun = first; shown = 0 };
       reading = [];
@@ -53,11 +59,19 @@ first_seat key = record { pass = newcomer key.identity key.start 7 1024; steps =
 
 -- ---- a publisher is dealt: it has the number of the one that deals, which has the number below it from then on
 
+abbrev pub first_number : List ℕ → List ℕ
+first_number [] = []
+first_number (n ∷ ns) = n ∷ []
+
+abbrev pub other_numbers : List ℕ → List ℕ
+other_numbers [] = []
+other_numbers (n ∷ ns) = ns
+
 abbrev pub dealer : Pass → Pass
-dealer v = record v { number = v.number - 1; right = record v.right { parts = v.right.parts - 120 } }
+dealer v = record v { number = v.number - 1; right = record v.right { parts = v.right.parts - 120; numbers = other_numbers v.right.numbers } }
 
 abbrev pub dealt : Pass → Pass
-dealt v = record v { call = []; right = record { parts = 120; limit = v.right.limit; armed = 0; claims = [] }; work = works [] []; reading = []; keeping = no_keeping }
+dealt v = record v { call = []; right = record { parts = 120; limit = v.right.limit; armed = 0; claims = []; numbers = first_number v.right.numbers }; work = works [] []; reading = []; keeping = no_keeping }
 
 abbrev pub dealing_seat : View → View
 dealing_seat v = record { pass = dealer v.pass; steps = v.steps; controls = v.controls; sure = 0 }

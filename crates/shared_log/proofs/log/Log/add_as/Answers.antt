@@ -15,6 +15,7 @@ use Rattle.log_rule.proofs.Lifting.{lifted_at, other_spares}
 use Rattle.log_rule.proofs.Shares.{adds_share, with_low_share}
 use Rattle.shared_log.proofs.Owned.{adds_owns}
 use Rattle.log_rule.proofs.Claimed.Eventful.{steps_are_events}
+use Rattle.log_rule.proofs.Owning.{adds_goes}
 use Rattle.shared_log.proofs.log.Log.add_as.Goals as goal
 
 pub fetch_add-word-requires : goal.fetch_add-word-requires
@@ -26,7 +27,7 @@ fetch_add-word-requires g c = let me : Mine = c.publisher.inside.seat.me in let 
       omega arith,
       subst (λ (k : ℕ). Allows (LogRuled c.self.inside.table.shared.key) c.self.inside.table.shared.table_id.slots c.publisher.inside.seat.id me c.place_of-place.result (λ n. (n + k) % 2 ^ 64) (λ n m'. (m'.1 ≡ me.1) × (m'.0.steps ≡ suc me.0.steps) × Same v m'.0.pass × LearnsControls (addition v size n ∷ []) me.0 m'.0 × (Adds v size n m'.0.pass × (claimed_bytes m'.0.pass < 2 ^ 63)))) (sym covered)
           (lifted_at _ _ _ (tail_place v.seen.term) me (λ n. (n + framed_length v.identity.geometry size) % 2 ^ 64) (λ n w. Adds v size n w × (claimed_bytes w < 2 ^ 63)) (λ n. addition v size n ∷ []) c.place_of-place.result (c.place_of-place.ensures.is ∙ ap tail_place (sym (ap (λ (p : Pass). p.seen.term) vi ∙ c.requires.count))) (add_turns v.seen.term (framed_length v.identity.geometry size)) (inl (let able = c.publisher.invariant.1 in let q : 0 < v.right.parts = omega arith in q))
-          (other_spares (tail_place v.seen.term) (λ n. (n + framed_length v.identity.geometry size) % 2 ^ 64) (λ e. omega arith) (λ j lt e. omega arith)) (λ b. with_low_share b _ v (tail_place v.seen.term) (λ n. (n + framed_length v.identity.geometry size) % 2 ^ 64) (λ n w. Adds v size n w) (steps_are_events.add b _ v size c.publisher.invariant.1 (ap (λ (p : Pass). p.right.armed) vi ∙ c.requires.armed) short))),
+          (other_spares (tail_place v.seen.term) (λ n. (n + framed_length v.identity.geometry size) % 2 ^ 64) (λ e. omega arith) (λ j lt e. omega arith)) (λ n w t. adds_goes v (ap (λ (p : Pass). p.right.armed) vi ∙ c.requires.armed) size n w t.0) (λ b. with_low_share b _ v (tail_place v.seen.term) (λ n. (n + framed_length v.identity.geometry size) % 2 ^ 64) (λ n w. Adds v size n w) (steps_are_events.add b _ v size c.publisher.invariant.1 (ap (λ (p : Pass). p.right.armed) vi ∙ c.requires.armed) short))),
     )
 
 pub overflow_add-publisher : goal.overflow_add-publisher

@@ -10,6 +10,7 @@ use Rattle.log_rule.proofs.Lifting.{lifted_at, other_spares}
 use Rattle.log_rule.proofs.Shares.{commits_share}
 use Rattle.shared_log.proofs.Owned.{commits_owns}
 use Rattle.log_rule.proofs.Claimed.Eventful.{steps_are_events}
+use Rattle.log_rule.proofs.Owning.{commits_goes}
 use Rattle.shared_log.proofs.log.Log.commit_as.Goals as goal
 
 pub store-requires : goal.store-requires
@@ -18,7 +19,7 @@ store-requires g c = let me : Mine = c.publisher.inside.seat.me in let v : Pass 
       search rules,
       search rules,
       lifted_at _ _ _ (slot v.identity.geometry p) me (λ _. c.args.word) (λ _ w. Commits v p c.args.word w) (λ _. []) c.slot_of-place.result (c.slot_of-place.ensures.is ∙ (λ j. slot (sym shape j) (sym is j))) (data_turns (slot v.identity.geometry p) c.args.word (omega arith)) (inr (data_leaves (slot v.identity.geometry p) c.args.word (omega arith)))
-          (other_spares (slot v.identity.geometry p) (λ _. c.args.word) (λ e. omega arith) (λ j lt e. omega arith)) (λ b. steps_are_events.commit b _ v p c.args.word (subst (λ (z : Pass × ℕ). CompletesFrame z.0 z.1 c.args.word) (λ j. (sym vi j, sym is j)) c.requires.completes) c.requires.word),
+          (other_spares (slot v.identity.geometry p) (λ _. c.args.word) (λ e. omega arith) (λ j lt e. omega arith)) (λ _ w. commits_goes v p c.args.word w (subst (λ (z : Pass × ℕ). CompletesFrame z.0 z.1 c.args.word) (λ j. (sym vi j, sym is j)) c.requires.completes)) (λ b. steps_are_events.commit b _ v p c.args.word (subst (λ (z : Pass × ℕ). CompletesFrame z.0 z.1 c.args.word) (λ j. (sym vi j, sym is j)) c.requires.completes) c.requires.word),
     )
 
 pub invariant_of-publisher : goal.invariant_of-publisher

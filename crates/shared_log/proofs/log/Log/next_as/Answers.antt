@@ -7,6 +7,7 @@ use Rattle.log_rule.specs.Claims.Plays.{Mine}
 use Rattle.log_rule.proofs.Claimed.Sures.{load_leaves, next_turns}
 use Rattle.log_rule.proofs.Lifting.{lifted_at, load_spares}
 use Rattle.log_rule.proofs.Claimed.Eventful.{steps_are_events}
+use Rattle.log_rule.proofs.Owning.{nexts_goes}
 use Rattle.shared_log.proofs.log.Log.next_as.Goals as goal
 
 pub load-requires : goal.load-requires
@@ -14,5 +15,5 @@ load-requires g c = let me : Mine = c.publisher.inside.seat.me in let v : Pass =
   search rules,
   omega arith,
   lifted_at _ _ _ (tail_place (k + 1)) me (λ n. n) (λ n w. Nexts v k n w) (λ n. steps.NextTail ((k + 1) % 3) n ∷ []) c.place_of.result (c.place_of.ensures.is ∙ ap (λ (z : ℕ). tail_place (z + 1)) (sym is)) (next_turns (k + 1)) (inr (load_leaves (tail_place (k + 1))))
-      (load_spares (tail_place (k + 1))) (λ b. steps_are_events.load_next b _ v k (ap (λ (p : Pass). p.seen.full) vi ∙ c.requires.full ∙ ap suc (sym is)) (omega arith)),
+      (load_spares (tail_place (k + 1))) (λ n w. nexts_goes v k n w) (λ b. steps_are_events.load_next b _ v k (ap (λ (p : Pass). p.seen.full) vi ∙ c.requires.full ∙ ap suc (sym is)) (omega arith)),
 )

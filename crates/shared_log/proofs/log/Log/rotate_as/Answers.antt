@@ -20,6 +20,7 @@ use Rattle.std.specs.Int.{w32, cast_signed, cast_unsigned}
 use Rattle.std.proofs.lemmas.Int.{to_z-of_z}
 use Rattle.publication.proofs.Packed.{id_fits}
 use Rattle.log_rule.proofs.Claimed.Eventful.{steps_are_events}
+use Rattle.log_rule.proofs.Owning.{rotates_goes}
 use Rattle.log_rule.specs.Shares.{range_bytes}
 use Rattle.log_rule.specs.Claims.Sums.{total}
 use Rattle.publication.specs.declared.pass.ClaimRange.{ClaimRange}
@@ -36,7 +37,7 @@ compare_exchange-requires g c = let me : Mine = c.publisher.inside.seat.me in le
       subst (λ (z : ℕ). Allows (LogRuled c.self.inside.table.shared.key) c.self.inside.table.shared.table_id.slots c.publisher.inside.seat.id me c.place_of.result (λ n. either (eqb n c.args.from) z n) (λ n m'. (m'.1 ≡ me.1) × (m'.0.steps ≡ suc me.0.steps) × Same v m'.0.pass × LearnsControls (tail_exchange v k c.args.from n ∷ []) me.0 m'.0 × Rotates v k c.args.from n m'.0.pass)) (sym to_is)
           (lifted_at _ _ _ (tail_place (k + 1)) me (λ n. either (eqb n c.args.from) (tail_word (id_of v.identity.geometry (k + 1)) 0) n) (λ n w. Rotates v k c.args.from n w) (λ n. tail_exchange v k c.args.from n ∷ []) c.place_of.result (c.place_of.ensures.is ∙ ap (λ (z : ℕ). tail_place (z + 1)) (sym is))
           (rotate_turns (k + 1) c.args.from (tail_word (id_of v.identity.geometry (k + 1)) 0)) (inl (let able = c.publisher.invariant.1 in let q : 0 < v.right.parts = omega arith in q))
-          (other_spares (tail_place (k + 1)) (λ n. either (eqb n c.args.from) (tail_word (id_of v.identity.geometry (k + 1)) 0) n) (λ e. omega arith) (λ j lt e. omega arith))
+          (other_spares (tail_place (k + 1)) (λ n. either (eqb n c.args.from) (tail_word (id_of v.identity.geometry (k + 1)) 0) n) (λ e. omega arith) (λ j lt e. omega arith)) (λ n w. rotates_goes v k c.args.from n w)
           (λ b. steps_are_events.exchange_next b _ v k c.args.from (ap (λ (p : Pass). p.seen.full) vi ∙ c.requires.full ∙ ap suc (sym is)) (omega arith)
           (c.requires.from ∙ (λ j. id_before (ap (λ (i : Identity). i.geometry) (sym c.requires.fits.identity ∙ ap (λ (p : Pass). p.identity) (sym vi)) j) (sym is j) 2)))),
     )
@@ -48,7 +49,7 @@ invariant_of-publisher g c = let v : Pass = c.publisher.inside.seat.me.0.pass in
       (let e = told.2.parts in let able = c.publisher.invariant.1 in omega arith),
       c.publisher.invariant.2 ∙ sym told.2.number,
       c.publisher.invariant.3 ∙ ap (λ (cs : List ClaimRange). total range_bytes cs) (sym claims),
-      owns_same v w told.2.number told.2.parts claims c.publisher.invariant.4,
+      owns_same v w told.2.number told.2.parts told.2.numbers claims c.publisher.invariant.4,
       c.publisher.invariant.5 ∙ sym told.2.identity,
       c.publisher.invariant.6 ∙ sym told.2.start,
     )

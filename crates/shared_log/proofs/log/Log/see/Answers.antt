@@ -6,7 +6,8 @@ use Rattle.log_rule.specs.Claims.Plays.{Mine}
 use Rattle.log_rule.proofs.Claimed.Sures.{limit_turns, load_leaves}
 use Rattle.log_rule.proofs.Lifting.{lifted, load_spares}
 use Rattle.log_rule.proofs.Claimed.Eventful.{steps_are_events}
+use Rattle.log_rule.proofs.Owning.{sees_goes}
 use Rattle.shared_log.proofs.log.Log.see.Goals as goal
 
 pub load-requires : goal.load-requires
-load-requires c = let me : Mine = c.publisher.inside.seat.me in let v : Pass = me.0.pass in let vi : v ≡ c.args.publisher.now.pass = ap (λ p. p.pass) c.publisher.view_is in let wide = c.self.invariant.words in (search rules, omega arith, lifted _ _ _ 0 me (λ n. n) (λ n w. Sees v n w) (λ n. steps.Limit n ∷ []) limit_turns (inr (load_leaves 0)) (load_spares 0) (λ b. steps_are_events.load_limit b _ v))
+load-requires c = let me : Mine = c.publisher.inside.seat.me in let v : Pass = me.0.pass in let vi : v ≡ c.args.publisher.now.pass = ap (λ p. p.pass) c.publisher.view_is in let wide = c.self.invariant.words in (search rules, omega arith, lifted _ _ _ 0 me (λ n. n) (λ n w. Sees v n w) (λ n. steps.Limit n ∷ []) limit_turns (inr (load_leaves 0)) (load_spares 0) (λ n w. sees_goes v n w) (λ b. steps_are_events.load_limit b _ v))

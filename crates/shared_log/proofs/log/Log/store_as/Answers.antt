@@ -9,6 +9,7 @@ use Rattle.log_rule.proofs.Lifting.{lifted_at, other_spares}
 use Rattle.log_rule.proofs.Shares.{stores_share}
 use Rattle.shared_log.proofs.Owned.{stores_owns}
 use Rattle.log_rule.proofs.Claimed.Eventful.{steps_are_events}
+use Rattle.log_rule.proofs.Owning.{stores_goes}
 use Rattle.shared_log.proofs.log.Log.store_as.Goals as goal
 
 pub store-requires : goal.store-requires
@@ -17,7 +18,7 @@ store-requires g c = let me : Mine = c.publisher.inside.seat.me in let v : Pass 
       search rules,
       search rules,
       lifted_at _ _ _ (slot v.identity.geometry p) me (λ _. c.args.word) (λ _ w. Stores v p c.args.word w) (λ _. []) c.slot_of-place.result (c.slot_of-place.ensures.is ∙ (λ j. slot (sym shape j) (sym is j))) (data_turns (slot v.identity.geometry p) c.args.word (omega arith)) (inr (data_leaves (slot v.identity.geometry p) c.args.word (omega arith)))
-          (other_spares (slot v.identity.geometry p) (λ _. c.args.word) (λ e. omega arith) (λ j lt e. omega arith)) (λ b. steps_are_events.store b _ v p c.args.word (subst (λ (z : Pass × ℕ). HasWord z.0 1 z.1) (λ j. (sym vi j, sym is j)) c.requires.inside)),
+          (other_spares (slot v.identity.geometry p) (λ _. c.args.word) (λ e. omega arith) (λ j lt e. omega arith)) (λ _ w. stores_goes v p c.args.word w (subst (λ (z : Pass × ℕ). HasWord z.0 1 z.1) (λ j. (sym vi j, sym is j)) c.requires.inside)) (λ b. steps_are_events.store b _ v p c.args.word (subst (λ (z : Pass × ℕ). HasWord z.0 1 z.1) (λ j. (sym vi j, sym is j)) c.requires.inside)),
     )
 
 pub invariant_of-publisher : goal.invariant_of-publisher

@@ -24,7 +24,7 @@ join_seat-requires g c =
       search rules,
       omega arith,
       subst (λ (x : Identity × ℕ). Joins (LogRuled key) c.publisher.inside.seat.id a c.other.inside.seat.id b (handing_seats a b) (spent_seat x.0 x.1)) (λ i. (who i, where_is i))
-          (hands_over key c.publisher.inside.seat.id c.other.inside.seat.id a b c.publisher.invariant.4.number (ap (λ (p : Pass). p.right.armed) av ∙ c.requires.publisher.unarmed) (ap (λ (p : Pass). p.right.armed) bv ∙ c.requires.other.unarmed) (omega arith)),
+          (hands_over key c.publisher.inside.seat.id c.other.inside.seat.id a b c.publisher.invariant.4.number c.publisher.invariant.4.among (ap (λ (p : Pass). p.right.armed) av ∙ c.requires.publisher.unarmed) (ap (λ (p : Pass). p.right.armed) bv ∙ c.requires.other.unarmed) (omega arith)),
     )
 
 pub load-requires : goal.load-requires
