@@ -14,6 +14,15 @@ pub struct Crew {
     pub follower: Follower,
 }
 
+/// The four that publish, of which the first is held.
+#[derive(Drop)]
+pub struct Four {
+    pub first: Claimant,
+    pub one: Claimant,
+    pub two: Claimant,
+    pub three: Claimant,
+}
+
 /// Who follows the publishers.
 #[derive(Drop)]
 pub struct Follower {

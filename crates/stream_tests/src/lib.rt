@@ -1,8 +1,11 @@
 //! Tests of a log that threads share, over many terms: publishers, readers and the keeper in threads of their own;
-//! and a publisher that stalls between two of its steps while terms turn.
+//! and a publisher that stalls between two of its steps while terms turn, or is held there while each other party goes
+//! on.
 #![tactic(auto)]
 
 mod crew;
+#[cfg(test)]
+mod holds;
 mod library;
 #[cfg(test)]
 mod opening;
@@ -16,6 +19,6 @@ mod stalls_among_threads;
 #[cfg(test)]
 mod streams;
 
-pub use crew::{Crew, Follower};
+pub use crew::{Crew, Follower, Four};
 pub use library::pass_on;
 pub use parties::Party;
