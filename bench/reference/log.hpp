@@ -136,8 +136,8 @@ struct alignas(8 * LINE) Log {
         write_frame(start, true, first | END, size + HEADER, message, size);
     }
 
-    // The position behind the message, or a refusal.
-    std::int64_t offer(const std::uint8_t *message, std::uint32_t size) {
+    // Where a range for a message begins, or a refusal.
+    std::int64_t claim(std::uint32_t size) {
         std::uint64_t limit = words[LIMIT].load();
         if (limit & CLOSED_FLAG) return CLOSED;
         auto count = static_cast<std::uint32_t>(words[COUNT].load());
@@ -152,12 +152,29 @@ struct alignas(8 * LINE) Log {
         std::uint32_t found = static_cast<std::uint32_t>(word >> 32) - static_cast<std::uint32_t>(geometry.initial_id);
         auto from = static_cast<std::uint32_t>(word);
         std::uint64_t start = std::uint64_t{found} * geometry.term_length + from;
-        if (from + covered <= geometry.term_length) {
-            write_message(start, message, size);
-            return static_cast<std::int64_t>(start + covered);
-        }
+        if (from + covered <= geometry.term_length) return static_cast<std::int64_t>(start);
         if (from < geometry.term_length) write_frame(start, false, UNFRAGMENTED, geometry.term_length - from, nullptr, 0);
         return turn_from(found);
+    }
+
+    // The position behind the message, or a refusal.
+    std::int64_t offer(const std::uint8_t *message, std::uint32_t size) {
+        std::int64_t start = claim(size);
+        if (start < 0) return start;
+        write_message(static_cast<std::uint64_t>(start), message, size);
+        return start + geometry.framed_length(size);
+    }
+
+    // A range for a message of one frame, whose bytes are zeros then in the publisher's block; or a refusal.
+    std::int64_t try_claim(std::uint8_t *block, std::uint32_t size) {
+        std::int64_t start = claim(size);
+        if (start >= 0) std::memset(block, 0, size);
+        return start;
+    }
+
+    // The message stands in the block.
+    void commit(std::uint64_t start, const std::uint8_t *block, std::uint32_t size) {
+        write_frame(start, true, UNFRAGMENTED, size + HEADER, block, size);
     }
 };
 

@@ -1,42 +1,11 @@
 // Claims by one addition: measures what `bench` measures, and prints the same table.
-#include "gate.hpp"
+#include "lanes.hpp"
 #include "log.hpp"
-#include <array>
-#include <chrono>
 #include <cstdio>
 #include <cstdlib>
-#include <functional>
-#include <thread>
-#include <vector>
-
-using Clock = std::chrono::steady_clock;
 
 constexpr std::uint32_t TERM = 16777216, MTU = 1408, SIZE = 200;
 constexpr std::size_t STORES = 29;
-constexpr std::array<int, 4> THREADS = {1, 2, 4, 8};
-
-struct Lane {
-    std::uint64_t accepted = 0;
-    Clock::time_point began, ended;
-};
-
-// All threads begin together. The nanoseconds from the first's begin to the last's end.
-double together(std::vector<Lane> &lanes, const std::function<void(std::size_t, Lane &)> &work) {
-    Gate gate(lanes.size());
-    std::vector<std::thread> threads;
-    for (std::size_t i = 0; i < lanes.size(); i++)
-        threads.emplace_back([&, i] {
-            gate.pass();
-            lanes[i].began = Clock::now();
-            work(i, lanes[i]);
-            lanes[i].ended = Clock::now();
-        });
-    for (auto &thread : threads) thread.join();
-    auto began = lanes[0].began, ended = lanes[0].ended;
-    for (auto &lane : lanes) began = std::min(began, lane.began), ended = std::max(ended, lane.ended);
-    return std::chrono::duration<double, std::nano>(ended - began).count();
-}
-
 // A fresh log, filled up to its limit: nanoseconds for each claim.
 double claims(int count) {
     Log log({TERM, MTU, 7}, 1, 1001, 0);
@@ -70,11 +39,6 @@ double stores(int count) {
         for (std::size_t k = 0; k < each; k++) own[k].store(1);
     });
     return taken / all;
-}
-
-double median(std::vector<double> xs) {
-    std::sort(xs.begin(), xs.end());
-    return xs[xs.size() / 2];
 }
 
 int main(int count, char **words) {

@@ -1,3 +1,4 @@
+use crate::image_speed::timing::{ImageFigures, measure_image};
 use crate::timing::{Subject, TimingOptions};
 use crate::timing_line::timing_options;
 use crate::timing_plan::timing_plan;
@@ -7,7 +8,7 @@ use driver_latency::time_driver;
 use latency::{HEADER, Row, time_log};
 use position::Geometry;
 use speed::{
-    Figures, ImageFigures, measure, measure_image, measure_stream, play_round, play_stream,
+    Figures, measure, measure_claims, measure_stream, play_claims, play_round, play_stream,
 };
 use std::alloc::{AllocGlobal, Global};
 use std::env::Env;
@@ -41,6 +42,8 @@ fn command<R: Threads + Wait + Clock + Net + Print + Sync>(
         [_, "header"] => Ok(rt.println(HEADER)?),
         [_, "log", ..] => timing(rt, alloc, Subject::Log, &words[1..]),
         [_, "driver", ..] => timing(rt, alloc, Subject::Driver, &words[1..]),
+        [_, "claims"] => claims(rt, alloc, "11"),
+        [_, "claims", rounds, ..] => claims(rt, alloc, *rounds),
         [_, "images"] => images(rt, alloc, "200000"),
         [_, "images", frames, ..] => images(rt, alloc, *frames),
         [_, "stream", rounds, messages, ..] => streams(rt, alloc, *rounds, *messages),
@@ -156,6 +159,11 @@ fn small<R: Threads + Wait + Clock + Net + Print + Sync>(
         let full = filled.accepted >= 128;
         println!(rt; "threads {threads}: closed, and full: {full}")?;
     }
+    for threads in THREADS {
+        let filled = play_claims(rt, alloc, geometry, threads)?;
+        let full = filled.accepted >= 128;
+        println!(rt; "claims by {threads}: closed, and full: {full}")?;
+    }
     for publishers in [1, 4] {
         let played = play_stream(rt, alloc, geometry, publishers, 1000)?;
         let (sent, read) = (played.sent, played.read);
@@ -170,6 +178,9 @@ fn small<R: Threads + Wait + Clock + Net + Print + Sync>(
     }
     latencies(rt, alloc)?;
     println!(rt; "bench ROUNDS measures so many rounds, bench images FRAMES so many frames")?;
+    println!(rt;
+        "bench claims ROUNDS measures so many rounds of claims that are written and committed"
+    )?;
     println!(rt;
         "bench stream ROUNDS MESSAGES measures so many rounds of so many messages in all"
     )?;
@@ -214,6 +225,32 @@ fn stream_line(
     println!(rt; "{term_length:>8}  {publishers:>10}  {whole:>8}.{part}")
 }
 
+/// The term length of logs that are filled.
+const LARGE: u32 = 16_777_216;
+
+/// Fills logs of the greatest term length by claims that are written and committed, and prints the medians.
+fn claims<R: Threads + Clock + Print + Sync>(
+    rt: &R,
+    alloc: Global,
+    word: &str,
+) -> Result<(), Error> {
+    let rounds: usize = word.parse()?;
+    let geometry = Geometry::new(LARGE, 1408, 7)?;
+    println!(rt; "threads  ns/claim")?;
+    for threads in THREADS {
+        if let Some(picoseconds) = measure_claims(rt, alloc, geometry, threads, rounds)? {
+            claim_line(rt, threads, picoseconds)?;
+        }
+    }
+    Ok(())
+}
+
+/// One line of the table, in nanoseconds.
+fn claim_line(rt: &impl Print, threads: usize, picoseconds: u64) -> io::Result<()> {
+    let (whole, part) = (picoseconds / 1000, picoseconds % 1000 / 100);
+    println!(rt; "{threads:>7}  {whole:>6}.{part}")
+}
+
 /// Fills logs of the greatest term length, and prints the medians.
 fn large<R: Threads + Clock + Print + Sync>(
     rt: &R,
@@ -221,7 +258,7 @@ fn large<R: Threads + Clock + Print + Sync>(
     word: &str,
 ) -> Result<(), Error> {
     let rounds: usize = word.parse()?;
-    let geometry = Geometry::new(16_777_216, 1408, 7)?;
+    let geometry = Geometry::new(LARGE, 1408, 7)?;
     let lines = measure(rt, alloc, geometry, rounds)?;
     println!(rt; "threads  ns/claim  ns/stores")?;
     for figures in lines.iter().flatten() {

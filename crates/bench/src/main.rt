@@ -1,11 +1,15 @@
-//! Measures what is to be fast: `bench ROUNDS` prints medians of so many rounds of the log that threads share,
-//! `bench stream ROUNDS MESSAGES` how long publishers and a reader take for a message, `bench images FRAMES` how long
-//! an image takes for a frame, `bench log OPTIONS` and `bench driver OPTIONS` a row on the time from a message's
-//! offer to its poll, of which `bench header` prints the head, and `bench` plays small rounds and prints no figures.
-//! It is proved safe alone.
+//! Measures what is to be fast: `bench ROUNDS` prints medians of so many rounds of the log that threads share, `bench
+//! claims ROUNDS` those of claims that are written and committed, `bench stream ROUNDS MESSAGES` how long publishers and
+//! a reader take for a message, `bench images FRAMES` how long an image takes for a frame, `bench log OPTIONS` and
+//! `bench driver OPTIONS` a row on the time from a message's offer to its poll, of which `bench header` prints the head,
+//! and `bench` plays small rounds and prints no figures.
+//!
+//! An image's figures name the term length and the share of late frames that were asked for (`measure_image`). The
+//! rest is proved safe alone.
 #![tactic(auto)]
 
 mod commands;
+mod image_speed;
 mod timing;
 mod timing_line;
 mod timing_plan;

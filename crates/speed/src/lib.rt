@@ -1,13 +1,12 @@
-//! What the log and an image take, measured: rounds of publishers in threads over a log that they share, streams that
-//! a reader follows meanwhile, and frames that an image is given and shows.
+//! What the log takes, measured: rounds of publishers in threads over a log that they share, and streams that a reader
+//! follows meanwhile.
 //!
 //! A round by one to eight threads, in whatever order they run, leaves a book whose entries tile the stream from 0 to
 //! its tail: as many messages as offers were accepted, of 256 bytes each, and paddings up to the ends of their terms;
 //! the shares are what each publisher's entries cover (`play_round`, and by claims `play_claims`). So does a stream
 //! that another thread reads meanwhile, which counts the frames of messages that its reader gets (`play_stream`). A
 //! median is the middle one of its figures, sorted (`median`); the figures are those of 1, 2, 4 and 8 threads, each the
-//! median of its samples (`measure`). Those of an image name the term length and the share of late frames that were
-//! asked for (`measure_image`).
+//! median of its samples (`measure`).
 //!
 //! Time is counted from the least of the threads' begins to the greatest of their ends (`Laps`), and there are as many
 //! plain stores to compare with as the accepted offers make. That a log was filled isn't said, nor how long anything
@@ -15,16 +14,12 @@
 #![tactic(auto)]
 
 mod fault;
-mod image_speed;
 mod rounds;
 mod samples;
 mod sampling;
 mod sorting;
 
 pub use fault::SpeedError;
-pub use image_speed::fault::ImageSpeedError;
-pub use image_speed::playing::{Played, play};
-pub use image_speed::timing::{ImageFigures, measure_image};
 pub use rounds::round::{play_claims, play_round};
 pub use rounds::streaming::play_stream;
 pub use sampling::{Figures, measure, measure_claims, measure_stream};
