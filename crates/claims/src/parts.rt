@@ -28,8 +28,8 @@ fn block(alloc: Global, mtu: usize) -> Result<Vec<u8>, AllocError>
     Ok(Vec::with_capacity(alloc, mtu)?)
 }
 
-/// Such memory for each publisher.
-fn blocks(alloc: Global, mtu: usize) -> Result<[Vec<u8>; 8], AllocError>
+/// Memory for the bytes of a claim of this MTU, for each of eight publishers. The error comes only where memory is refused.
+pub fn blocks(alloc: Global, mtu: usize) -> Result<[Vec<u8>; 8], AllocError>
     ensures { IfOk result (λ bs. AllByRecursion (λ b. vec_capacity b ≡ mtu) bs) }
 {
     Ok([

@@ -9,7 +9,7 @@ ghost use Rattle.speed.specs.Rounds.{Claims, IsJob, IsLane, IsSender, job_parts,
 use crate::rounds::gate::{Gate, lap};
 use crate::rounds::lane::Lane;
 use crate::rounds::offering::SIZE;
-use claims::{Claimant, Denied, try_claim};
+use claims::{Claimant, Denied, blocks, try_claim};
 use publication::Refusal;
 use shared_log::Log;
 use std::alloc::{AllocError, Global};
@@ -67,29 +67,6 @@ pub(crate) struct Job {
     pub(crate) lane: Lane,
     pub(crate) block: Vec<u8>,
     pub(crate) takes_part: bool,
-}
-
-/// Memory for the bytes of a claim.
-fn block(alloc: Global, mtu: usize) -> Result<Vec<u8>, AllocError>
-    ensures { IfOk result (λ b. vec_capacity b ≡ mtu) }
-{
-    Ok(Vec::with_capacity(alloc, mtu)?)
-}
-
-/// Such memory for each lane.
-fn blocks(alloc: Global, mtu: usize) -> Result<[Vec<u8>; 8], AllocError>
-    ensures { IfOk result (λ bs. AllByRecursion (λ b. vec_capacity b ≡ mtu) bs) }
-{
-    Ok([
-        block(alloc, mtu)?,
-        block(alloc, mtu)?,
-        block(alloc, mtu)?,
-        block(alloc, mtu)?,
-        block(alloc, mtu)?,
-        block(alloc, mtu)?,
-        block(alloc, mtu)?,
-        block(alloc, mtu)?,
-    ])
 }
 
 /// A lane with a block.
