@@ -2,3 +2,4 @@ pub mod Ran
 pub mod Taken
 pub mod WrittenLines
 pub mod LineStatuses
+mod BoundRows
