@@ -1,6 +1,5 @@
 -- What the tests keep of a sender.
 use Rattle.std.specs.Prelude.{◌≡◌, pos}
-use Rattle.flow_control.specs.Unicast.{Unicast}
 use Rattle.shared_log.specs.Handles.{LogValue}
 use Rattle.sender.specs.Sending.{Sending, SendsFrom}
 use Rattle.shared_log.specs.Readers.{IsReaderOf}
@@ -8,7 +7,7 @@ use Rattle.shared_log.specs.Sourced.{source_of}
 use Rattle.shared_log.specs.declared.reader.source.LogFrames.{LogFrames}
 
 -- it reads its log, and has sent what comes before its position
-pub record IsSender (s : Sending LogFrames Unicast) : Type 0 where
+pub record IsSender {F : Type 0} (s : Sending LogFrames F) : Type 0 where
   pub stands : IsReaderOf s.reads.log.now s.reads.reader
   pub from : SendsFrom s (source_of s.reads.log.now s.reads.reader)
   pub size : s.identity.geometry.mtu ≡ 1408

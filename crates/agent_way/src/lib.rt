@@ -5,6 +5,6 @@
 mod way;
 
 pub use way::{
-    Agent, Sender, carry, device_with, device_with_status, duty_over, listening, open_agent,
-    open_log, open_sender, publish, receive, send,
+    Agent, GroupSender, Sender, carry, device_with, device_with_status, duty_over, listening,
+    member, open_agent, open_group_sender, open_log, open_sender, publish, receive, send,
 };

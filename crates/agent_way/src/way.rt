@@ -10,7 +10,7 @@ ghost use Rattle.agent_way.specs.Senders.{IsFirstLog, IsSender};
 
 use agents::{Duty, LogPasses, LogSender, REPLY};
 use endpoint::{Datagrams, DeviceError, MemoryDevice};
-use flow_control::UnicastFlow;
+use flow_control::{StreamFlow, UnicastFlow};
 use frames::{Frame, Status, write_frame};
 use position::{Geometry, Identity};
 use publication::{Refusal, offer};
@@ -22,6 +22,9 @@ use std::test::Fail;
 
 /// The sender of these tests.
 pub type Sender<'a> = SenderCore<LogFrames<'a>, UnicastFlow>;
+
+/// Such a sender to a group.
+pub type GroupSender<'a> = SenderCore<LogFrames<'a>, StreamFlow>;
 
 /// The agent of these tests.
 pub type Agent<'a> = LogSender<'a>;
@@ -62,6 +65,27 @@ pub fn open_sender<'a>(alloc: Global, log: &'a Log, reader: LogReader) -> Result
     ensures { IfOk result (λ s. IsSender s) }
 {
     Ok(open_agent(alloc, log, reader)?.into_core())
+}
+
+/// A sender to a group of so many receivers that has sent nothing yet.
+pub fn open_group_sender<'a>(
+    alloc: Global,
+    log: &'a Log,
+    reader: LogReader,
+    receivers: usize,
+) -> Result<GroupSender<'a>, Fail>
+    requires reader { IsNewReader log.now 0 reader }
+    requires log { IsFirstLog log.now }
+    requires receivers { receivers ≤ 8 }
+    ensures { IfOk result (λ s. IsSender s) }
+{
+    Ok(agents::open_stream_sender(alloc, log, reader, Some(receivers))?.into_core())
+}
+
+/// A subscriber of a receiver with this id and this window that has no image yet.
+pub fn member(alloc: Global, id: i64, window: u32) -> Result<Subscriber, Fail> {
+    let core = ReceiverCore::new(alloc, 1, 1001, window, id, 1);
+    Ok(Subscriber::new(alloc, core, 8192)?)
 }
 
 /// A subscriber that has no image yet.

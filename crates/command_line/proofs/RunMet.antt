@@ -38,6 +38,7 @@ nothing_told : (o : RunOptions) → IsRunOf (rows_after running [] []) o → IsB
 unfolding clap_on_literals
 nothing_told o t = record {
   publishers = t.publishers.absent refl;
+  receivers = t.receivers.absent refl;
   messages = t.messages.absent refl;
   length = t.length.absent refl;
   loss = t.loss.absent refl;

@@ -19,6 +19,14 @@ too_many_publishers : faults (codes "--publishers" ∷ codes "9" ∷ []) ≡ Val
 unfolding clap_on_literals
 too_many_publishers = refl
 
+most_receivers : faults (codes "--receivers" ∷ codes "8" ∷ []) ≡ []
+unfolding clap_on_literals
+most_receivers = refl
+
+no_receiver : faults (codes "--receivers" ∷ codes "0" ∷ []) ≡ ValueValidation ∷ []
+unfolding clap_on_literals
+no_receiver = refl
+
 too_much_loss : faults (codes "--loss=1001" ∷ []) ≡ ValueValidation ∷ []
 unfolding clap_on_literals
 too_much_loss = refl

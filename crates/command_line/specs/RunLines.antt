@@ -5,7 +5,7 @@ use Rattle.command_line.specs.Flags.{plus_flag}
 use Rattle.command_line.specs.Numbers.{plus}
 
 abbrev pub with_load : App → App
-with_load a = plus (codes "length") 8 2097152 (plus (codes "messages") 1 1000000 (plus (codes "publishers") 1 8 a))
+with_load a = plus (codes "length") 8 2097152 (plus (codes "messages") 1 1000000 (plus (codes "receivers") 1 8 (plus (codes "publishers") 1 8 a)))
 
 abbrev pub with_network : App → App
 with_network a = plus (codes "seed") 0 18446744073709551615 (plus (codes "hold") 0 1000 (plus (codes "repeat") 0 1000 (plus (codes "loss") 0 1000 a)))

@@ -7,6 +7,7 @@ use Rattle.command_line.specs.Numbers.{IsNumber}
 
 pub record IsRunOf (rows : List Row) (o : RunOptions) : Type 0 where
   pub publishers : IsNumber rows (codes "publishers") 1 8 4 o.publishers
+  pub receivers : IsNumber rows (codes "receivers") 1 8 1 o.receivers
   pub messages : IsNumber rows (codes "messages") 1 1000000 1000 o.messages
   pub length : IsNumber rows (codes "length") 8 2097152 200 o.length
   pub loss : IsNumber rows (codes "loss") 0 1000 0 o.loss

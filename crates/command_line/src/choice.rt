@@ -14,7 +14,7 @@ pub enum Options<'a> {
     Sim,
     /// Print the frames of the datagram that this word spells.
     Decode(&'a str),
-    /// Run publishers, a sender and a receiver, as this tells.
+    /// Run publishers, a sender and receivers, as this tells.
     Run(RunOptions),
 }
 

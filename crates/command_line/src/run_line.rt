@@ -21,12 +21,20 @@ const PUBLISHERS: Number = Number {
     help: "How many publishers, 1 to 8 [default: 4]",
 };
 
+const RECEIVERS: Number = Number {
+    name: "receivers",
+    least: 1,
+    most: 8,
+    otherwise: 1,
+    help: "How many receivers, 1 to 8; from 2 on a group [default: 1]",
+};
+
 const MESSAGES_OF_EACH: Number = Number {
     name: "messages",
     least: 1,
     most: 1_000_000,
     otherwise: 1000,
-    help: "How many messages each of them sends, 1 to 1000000 [default: 1000]",
+    help: "How many messages each publisher sends, 1 to 1000000 [default: 1000]",
 };
 
 const LENGTH: Number = Number {
@@ -62,8 +70,9 @@ const MTU: Number = Number {
 };
 
 /// The options with a number, in the order in which the help shows them.
-const NUMBERS: [Number; 10] = [
+const NUMBERS: [Number; 11] = [
     PUBLISHERS,
+    RECEIVERS,
     MESSAGES_OF_EACH,
     LENGTH,
     LOSS,
@@ -88,7 +97,7 @@ fn without_options<'a>(alloc: Global) -> Command<'a>
     ensures shape { app_of result ≡ new_app (codes "run") }
     ensures globals { (out-Command result).has_globals ≡ false }
 {
-    Command::new(alloc, "run").about("Run publishers, a sender and a receiver")
+    Command::new(alloc, "run").about("Run publishers, a sender and receivers")
 }
 
 /// What the options that were found tell.
@@ -97,6 +106,7 @@ pub(crate) fn run_of(matches: &ArgMatches<'_>) -> RunOptions
 {
     RunOptions {
         publishers: number_of(matches, PUBLISHERS) as u32,
+        receivers: number_of(matches, RECEIVERS) as u32,
         messages: number_of(matches, MESSAGES_OF_EACH) as u32,
         length: number_of(matches, LENGTH) as u32,
         loss: number_of(matches, LOSS) as u32,

@@ -21,7 +21,15 @@ pub fn are_told(alloc: Global) -> bool {
     let greatest = tells(alloc, words, &wanted);
     wanted.seed = 1;
     wanted.publishers = 8;
+    wanted.receivers = 2;
     wanted.counters = true;
-    let words: &[&str] = &["mdriver", "run", "--publishers", "8", "--counters"];
+    let words: &[&str] = &[
+        "mdriver",
+        "run",
+        "--publishers",
+        "8",
+        "--receivers=2",
+        "--counters",
+    ];
     alone && greatest && tells(alloc, words, &wanted)
 }

@@ -1,5 +1,5 @@
 -- What a run's command writes.
-use Rattle.std.specs.Prelude.{◌≡◌, ℕ, List, [], ◌∷◌, ◌++◌, Option, codes, decimal, if◌then◌else◌}
+use Rattle.std.specs.Prelude.{◌≡◌, ℕ, List, [], ◌∷◌, ◌++◌, Option, codes, decimal, flat_map, if◌then◌else◌}
 use Rattle.std.specs.Io.KnownBytes.{Appends}
 use Rattle.simulation.specs.LineTexts.{shares_text}
 use Rattle.options.specs.Run.Plans.{IsPlanOf}
@@ -8,12 +8,18 @@ use Rattle.options.specs.declared.run.options.RunOptions.{RunOptions}
 use Rattle.run.specs.Outcomes.{IsOutcome, ending_of}
 use Rattle.run.specs.declared.outcome.Ending.{Ending}
 use Rattle.run.specs.declared.outcome.Outcome.{Outcome}
+use Rattle.run.specs.declared.outcome.Polled.{Polled}
 
--- the three lines
+-- the two lines of a receiver, of so many messages that were to be polled
+abbrev pub polled_text : ℕ → Polled → List ℕ
+polled_text wanted p =
+    (codes "polled " ++ decimal p.polled ++ codes " of " ++ decimal wanted ++ 10 ∷ [])
+    ++ (codes "order " ++ (if p.kept then codes "kept" else codes "broken") ++ 10 ∷ [])
+
+-- those of each receiver, in order, and the line of the book
 abbrev pub outcome_text : Outcome → List ℕ
 outcome_text o =
-    (codes "polled " ++ decimal o.polled ++ codes " of " ++ decimal o.wanted ++ 10 ∷ [])
-    ++ (codes "order " ++ (if o.kept then codes "kept" else codes "broken") ++ 10 ∷ [])
+    flat_map (polled_text o.wanted) o.tallies.items
     ++ (codes "book " ++ decimal o.book.start ++ codes " " ++ decimal o.book.tail ++ shares_text o.book.shares ++ 10 ∷ [])
 
 -- what a run of what was told left was written, and this is how it ended

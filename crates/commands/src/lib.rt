@@ -7,7 +7,7 @@
 //! fault but `Write` nothing was written. `Fault` has the texts, as `Display` writes them, and which fault a
 //! script's, a word's or a run's becomes.
 //!
-//! `run_driver` succeeds only with a plan of what it was told, and has then written the three lines of what a run of
+//! `run_driver` succeeds only with a plan of what it was told, and has then written the lines of what a run of
 //! that plan left; the answer is how it ended, and which status that has (`ran`): 0 or 3 only with the lines of a run
 //! that ended whole or short.
 //!

@@ -37,7 +37,7 @@ const SUBSCRIBE_HELP: [&str; 2] = ["subscribe", "--help"];
 
 /// Carries out a command line over a reader and two writers, and gives the status: 0 where all was done, 1 at a fault,
 /// 2 for a refused command line, and for an end's refused channel or rates, 3 for a run whose turns were used before all was
-/// polled, for a publisher that ended before one receiver had received all from the start on, and for a subscriber that was
+/// polled by each receiver's subscriber, for a publisher that ended before one receiver had received all from the start on, and for a subscriber that was
 /// to end with the stream and didn't. The first word is the program's name; `--version` or `-V` alone asks for the version,
 /// and `publish` and `subscribe` are carried out by `publish_command` and `subscribe_command`. The input is taken over, since
 /// the thread that reads it may outlive the command.

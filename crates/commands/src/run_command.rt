@@ -1,13 +1,13 @@
-//! A run, and the three lines that tell what it left.
+//! A run, and the lines that tell what it left.
 
-ghost use Rattle.std.specs.Prelude.{◌≡◌, IfErr, IfOk, OnOk};
+ghost use Rattle.std.specs.Prelude.{◌≡◌, IfErr, IfOk, OnOk, flat_map};
 ghost use Rattle.std.specs.Io.KnownBytes.{Appends};
 ghost use Rattle.run.specs.Outcomes.{ending_of};
-ghost use Rattle.commands.specs.Running.{IsLeftBy, outcome_text};
+ghost use Rattle.commands.specs.Running.{IsLeftBy, outcome_text, polled_text};
 
 use crate::fault::Fault;
 use options::{RunOptions, plan};
-use run::{Ending, Open, Outcome, run};
+use run::{Ending, Open, Outcome, Polled, run};
 use simulation::Line;
 use std::alloc::Global;
 use std::io::Write;
@@ -16,8 +16,8 @@ use std::sync::Wait;
 use std::thread::Threads;
 use std::time::Clock;
 
-/// Runs the driver as it is told, and writes what it left: how many messages were polled, whether each publisher's came in
-/// its order, and the log's book, a line each. Where counters are asked for, `errors` gets a line of them once a second. The
+/// Runs the driver as it is told, and writes what it left: for each receiver, in order, how many messages were polled and
+/// whether each publisher's came in its order, and then the log's book, a line each. Where counters are asked for, `errors` gets a line of them once a second. The
 /// answer is how it ended.
 ///
 /// The fault is that of the plan, `Device` where a socket, a thread or the clock failed, or `Memory`, and then nothing was
@@ -37,7 +37,7 @@ pub fn run_driver<R: Threads + Wait + Clock + Net + Sync, W: Write, E: Write + D
     Ok(outcome.ending())
 }
 
-/// Writes the three lines, and flushes.
+/// Writes the lines, and flushes.
 fn show_outcome<W: Write>(outcome: &Outcome, output: &mut W) -> Result<(), Fault>
     ensures done { OnOk result (Appends (W.contents output.old) (W.contents output.new) (outcome_text outcome.now)) }
     ensures fault { IfErr result (λ fault. fault ≡ Fault.Write) }
@@ -46,13 +46,32 @@ fn show_outcome<W: Write>(outcome: &Outcome, output: &mut W) -> Result<(), Fault
     output.flush().map_err(|_| Fault::Write)
 }
 
-/// Writes the three lines.
+/// Writes the lines.
 fn write_outcome<W: Write>(outcome: &Outcome, output: &mut W) -> Result<(), Fault>
     ensures done { OnOk result (Appends (W.contents output.old) (W.contents output.new) (outcome_text outcome.now)) }
     ensures fault { IfErr result (λ fault. fault ≡ Fault.Write) }
 {
-    let order = if outcome.kept { "kept" } else { "broken" };
-    writeln!(output, "polled {} of {}", outcome.polled, outcome.wanted).map_err(|_| Fault::Write)?;
-    writeln!(output, "order {order}").map_err(|_| Fault::Write)?;
+    write_all_polled(&outcome.tallies, outcome.wanted, output)?;
     writeln!(output, "{}", Line::Book(outcome.book)).map_err(|_| Fault::Write)
+}
+
+/// Writes the two lines of each receiver, in order.
+fn write_all_polled<W: Write>(tallies: &[Polled], wanted: u64, output: &mut W) -> Result<(), Fault>
+    ensures done { OnOk result (Appends (W.contents output.old) (W.contents output.new) (flat_map (polled_text wanted) tallies.now)) }
+    ensures fault { IfErr result (λ fault. fault ≡ Fault.Write) }
+{
+    for tally in tallies {
+        write_polled(tally, wanted, output)?;
+    }
+    Ok(())
+}
+
+/// Writes the two lines of a receiver.
+fn write_polled<W: Write>(tally: &Polled, wanted: u64, output: &mut W) -> Result<(), Fault>
+    ensures done { OnOk result (Appends (W.contents output.old) (W.contents output.new) (polled_text wanted tally.now)) }
+    ensures fault { IfErr result (λ fault. fault ≡ Fault.Write) }
+{
+    let order = if tally.kept { "kept" } else { "broken" };
+    writeln!(output, "polled {} of {wanted}", tally.polled).map_err(|_| Fault::Write)?;
+    writeln!(output, "order {order}").map_err(|_| Fault::Write)
 }

@@ -1,5 +1,5 @@
 -- What the driver's threads begin with.
-use Rattle.std.specs.Prelude.{◌≡◌}
+use Rattle.std.specs.Prelude.{◌≡◌, length}
 use Rattle.std.specs.List.{AllByRecursion}
 use Rattle.atomic_table.specs.Seated.{TableId}
 use Rattle.shared_log.specs.Books.{IsDone}
@@ -9,7 +9,7 @@ use Rattle.run_parties.specs.Passes.{IsKept}
 use Rattle.run_parties.specs.RunLogs.{IsRunLog}
 use Rattle.driver_latency.specs.declared.agent_threads.Passes.{Passes}
 
--- a log that was just opened, its publishers, its reader and its keeper, and a client and the taker of a queue
+-- a log that was just opened, its publishers, its reader and its keeper, a client and the taker of a queue, and one way
 pub record ArePasses (l : LogValue) (queue : TableId) (p : Passes) : Type 0 where
   pub log : IsRunLog l
   pub publishers : AllByRecursion (IsDone l) p.publishers.items
@@ -17,3 +17,4 @@ pub record ArePasses (l : LogValue) (queue : TableId) (p : Passes) : Type 0 wher
   pub keeper : IsKept l p.keeper
   pub client : p.client.queue ≡ queue
   pub taker : p.taker.queue ≡ queue
+  pub ways : length p.sends.ways ≡ 1

@@ -1,6 +1,7 @@
 //! The threads of the driver.
 
-ghost use Rattle.std.specs.Prelude.{◌≡◌, ◌≤◌};
+ghost use Rattle.std.specs.Prelude.{◌≡◌, ◌≤◌, length};
+ghost use Rattle.std.specs.Arc.{arc_value};
 ghost use Rattle.theory.specs.Position.{max_message};
 ghost use Rattle.shared_log.specs.Parts.{IsNewReader};
 ghost use Rattle.run_parties.specs.Passes.{IsKept};
@@ -9,7 +10,7 @@ ghost use Rattle.driver_latency.specs.Beginnings.{ArePasses};
 
 use agents::Named;
 use conductor::{Client, Taker};
-use endpoint::UdpDevice;
+use endpoint::{Fan, UdpDevice};
 use latency::{Course, LatencyError, Load, Offers, WhenFull, start_publishers};
 use loss_injector::Lossy;
 use run_parties::{Context, Open, RunState, SharedReceiver, receive, send, steer};
@@ -22,7 +23,7 @@ use std::time::Clock;
 /// How many turns each agent has. They aren't used up in minutes.
 const TURNS: u32 = u32::MAX;
 
-/// The device of a sender or of a receiver.
+/// The device of a receiver, and a sender's way to it.
 pub type Device = Lossy<UdpDevice>;
 
 /// The passes of the driver's threads, and the devices of its sender and its receiver.
@@ -33,7 +34,7 @@ pub struct Passes {
     pub keeper: Keeper,
     pub client: Client,
     pub taker: Taker,
-    pub sends: Device,
+    pub sends: Fan<Device>,
     pub replies: Device,
 }
 
@@ -58,10 +59,11 @@ fn see(course: &Course, is_started: bool) {
 fn start_sender<'s, S, R: Wait + Clock + Sync>(
     scope: &'s Scope<'s, S>,
     run: &MeasuredRun<'s, R>,
-    device: Device,
+    device: Fan<Device>,
     reader: LogReader,
     client: Client,
 )
+    requires ways { length device.ways ≤ 8 }
     requires reader { IsNewReader run.now.state.now.log 0 reader }
     requires log { IsRunLog run.now.state.now.log }
     requires queue { client.queue ≡ run.now.state.now.conductor }
@@ -88,12 +90,12 @@ fn start_receiver<'s, S, N: Named + Send, R: Wait + Clock + Sync>(
     receiver: &'s SharedReceiver<N>,
     device: Device,
 )
-    requires { receiver.now.counters ≡ N.counters }
+    requires { arc_value receiver.now.counters ≡ N.counters }
 {
     let (rt, alloc, state, course) = (run.rt, run.alloc, run.state, run.course);
     let started = scope.spawn(
         move || -> ()
-            requires { receiver.now.counters ≡ N.counters }
+            requires { arc_value receiver.now.counters ≡ N.counters }
         {
             let context = Context {
                 rt,
@@ -102,7 +104,7 @@ fn start_receiver<'s, S, N: Named + Send, R: Wait + Clock + Sync>(
                 gate: &Open,
                 turns: TURNS,
             };
-            let ended = receive(&context, receiver, device);
+            let ended = receive(&context, receiver, 0, device);
             course.end(ended);
         },
     );
@@ -144,7 +146,7 @@ pub fn start_agents<'s, S, N: Named + Send, R: Wait + Clock + Sync>(
 )
     requires passes { ArePasses run.now.state.now.log run.now.state.now.conductor passes }
     requires short { run.now.load.length ≤ max_message run.now.state.now.log.identity.geometry }
-    requires counters { receiver.now.counters ≡ N.counters }
+    requires counters { arc_value receiver.now.counters ≡ N.counters }
 {
     let Passes {
         publishers,

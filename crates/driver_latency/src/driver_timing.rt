@@ -7,8 +7,11 @@ use crate::agent_threads::{MeasuredRun, Passes};
 use crate::measured_run::measure_named;
 use agents::Began;
 use conductor::Conductor;
+use endpoint::Fan;
 use latency::{Course, LatencyError, Plan, Samples, Timed, timed_by};
-use run_parties::{RunLog, RunState, device_pair, open_run_log, receiver_parts};
+use run_parties::{
+    LossyDevices, RunLog, RunState, lossy_devices, open_run_log, receiver_id, receiver_parts,
+};
 use std::alloc::Global;
 use std::marker::Brand;
 use std::net::Net;
@@ -26,7 +29,7 @@ fn begin<R: Net>(
     ensures shape { IfOk result (λ r. r.0.log.identity.geometry ≡ plan.now.geometry) }
     ensures passes { IfOk result (λ r. ArePasses r.0.log r.0.conductor r.1) }
 {
-    let (sends, replies) = device_pair(rt, alloc, plan.rates, plan.seed)?;
+    let LossyDevices { ways, mut replies } = lossy_devices(rt, alloc, plan.rates, plan.seed, 1)?;
     let (conductor, client, taker) = Conductor::with_client(alloc)?;
     let publishers = plan.load.publishers as usize;
     let RunLog {
@@ -42,10 +45,10 @@ fn begin<R: Net>(
         keeper,
         client,
         taker,
-        sends,
-        replies,
+        sends: Fan::new(ways),
+        replies: replies.remove(0),
     };
-    Ok((RunState::new(log, conductor, began), passes))
+    Ok((RunState::new(log, conductor, began, 1), passes))
 }
 
 /// Times the driver: publishers offer messages, each in a thread of its own; they are sent as datagrams over UDP on this
@@ -66,7 +69,7 @@ pub fn time_driver<R: Threads + Wait + Clock + Net + Sync>(
     let samples = Samples::new(alloc, plan.load.wanted())?;
     let course = Course::new(rt)?;
     let (state, passes) = begin(rt, alloc, plan, course.origin)?;
-    let parts = receiver_parts(alloc, &plan.geometry)?;
+    let parts = receiver_parts(alloc, &plan.geometry, receiver_id(1, 0))?;
     let run = MeasuredRun {
         rt,
         alloc,

@@ -1,6 +1,7 @@
 //! All threads of the driver, timed.
 
-ghost use Rattle.std.specs.Prelude.{◌≡◌, ◌*◌, ◌≤◌, IfOk, OnOk, vec_len};
+ghost use Rattle.std.specs.Prelude.{◌≡◌, ◌*◌, ◌≤◌, IfOk, OnOk, pos, vec_len};
+ghost use Rattle.std.specs.Arc.{arc_value};
 ghost use Rattle.theory.specs.Position.{max_message};
 ghost use Rattle.run_parties.specs.Receivers.{AreReceiverParts};
 ghost use Rattle.driver_latency.specs.Beginnings.{ArePasses};
@@ -41,7 +42,7 @@ fn measure_in<'s, S, N: Named + Send, R: Wait + Clock + Sync>(
 ) -> Result<Samples, LatencyError>
     requires passes { ArePasses run.now.state.now.log run.now.state.now.conductor passes }
     requires short { run.now.load.length ≤ max_message run.now.state.now.log.identity.geometry }
-    requires counters { receiver.now.counters ≡ N.counters }
+    requires counters { arc_value receiver.now.counters ≡ N.counters }
     requires none { vec_len samples.taken ≡ 0 }
     ensures { IfOk result (λ s. vec_len s.taken ≤ wanted) }
 {
@@ -66,7 +67,7 @@ fn measure<N: Named + Send, R: Threads + Wait + Clock + Sync>(
 ) -> Result<Samples, LatencyError>
     requires passes { ArePasses run.now.state.now.log run.now.state.now.conductor passes }
     requires short { run.now.load.length ≤ max_message run.now.state.now.log.identity.geometry }
-    requires counters { receiver.now.counters ≡ N.counters }
+    requires counters { arc_value receiver.now.counters ≡ N.counters }
     requires none { vec_len samples.taken ≡ 0 }
     ensures { IfOk result (λ s. vec_len s.taken ≤ wanted) }
 {
@@ -81,7 +82,7 @@ fn measure<N: Named + Send, R: Threads + Wait + Clock + Sync>(
         thread::scope_env(),
         rt,
         move |scope| -> Result<Samples, LatencyError>
-            requires { ArePasses state.now.log state.now.conductor passes × (load.length ≤ max_message state.now.log.identity.geometry) × (receiver.now.counters ≡ N.counters) × (vec_len samples.taken ≡ 0) }
+            requires { ArePasses state.now.log state.now.conductor passes × (load.length ≤ max_message state.now.log.identity.geometry) × (arc_value receiver.now.counters ≡ N.counters) × (vec_len samples.taken ≡ 0) }
             ensures { IfOk result (λ s. vec_len s.taken ≤ wanted) }
         {
             let run = MeasuredRun {
@@ -105,8 +106,8 @@ pub fn measure_named<N: Named + Send, R: Threads + Wait + Clock + Sync>(
 ) -> Result<Samples, LatencyError>
     requires passes { ArePasses run.now.state.now.log run.now.state.now.conductor passes }
     requires short { run.now.load.length ≤ max_message run.now.state.now.log.identity.geometry }
-    requires parts { AreReceiverParts run.now.state.now.log.identity.geometry parts }
-    requires named { parts.counters ≡ N.counters }
+    requires parts { AreReceiverParts run.now.state.now.log.identity.geometry (pos 1) parts }
+    requires named { arc_value parts.counters ≡ N.counters }
     requires none { vec_len samples.taken ≡ 0 }
     ensures { IfOk result (λ s. vec_len s.taken ≤ run.now.load.publishers * run.now.load.messages) }
 {

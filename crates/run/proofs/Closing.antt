@@ -1,6 +1,6 @@
 -- The passes of a log that closes, and its book.
-use Rattle.std.proofs.Common.{◌≡◌, ◌≢◌, ℕ, suc, ◌+◌, ◌*◌, ◌<◌, ◌≤◌, ◌==◌, cond, Bool, true, false, List, [], ◌∷◌, ◌++◌, map, length, get_or, drop, subst, sym, refl, ap, ◌∙◌, arith}
-use Rattle.std.specs.Prelude.{◌&&◌, not, count_by, slice_index, sum_by}
+use Rattle.std.proofs.Common.{◌≡◌, ◌≢◌, ℕ, ◌+◌, ◌*◌, ◌<◌, ◌≤◌, ◌==◌, cond, Bool, true, false, List, [], ◌∷◌, ◌++◌, map, length, get_or, drop, subst, sym, refl, ap, ◌∙◌, arith}
+use Rattle.std.specs.Prelude.{◌&&◌, not, sum_by}
 use Rattle.std.proofs.lemmas.Bool.{ne_eqb}
 use Rattle.std.proofs.lemmas.List.Elements.{All-from_recursion}
 use Rattle.std.proofs.lemmas.List.Sums.{sum_by-cons}
@@ -24,9 +24,9 @@ use Rattle.run_parties.specs.Passes.{HasNone}
 use Rattle.run.specs.declared.passes.Returned.{Returned}
 use Rattle.run.specs.declared.passes.Size.{Size}
 use Rattle.run.specs.declared.planned_run.Beginning.{Beginning}
-use Rattle.run.specs.Threads.{AreReturned, HaveCome, IsBack, accepted_as}
+use Rattle.run.specs.Threads.{AreReturned, IsBack, accepted_as}
 use Rattle.run.specs.Beginnings.{CanClose, IsBeginning}
-use Rattle.run.specs.Outcomes.{IsBook, is_message_of, message_bytes, messages_of}
+use Rattle.run.specs.Outcomes.{IsBook, is_message_of}
 use Rattle.run.proofs.Counting.{no_more}
 
 -- the same parts one by one are the same in all
@@ -40,18 +40,18 @@ same_total (x ∷ xs) (y ∷ ys) e =
     omega arith
 
 -- what threads gave back of a log that a run began with
-pub can_close : {D : Type 0} → (g : Geometry) (size : Size) (b : Beginning D) (l : LogValue) (r : Returned) → IsBeginning g size.publishers b → AreReturned b.state.log size b.passes r → l ≡ b.state.log → CanClose l size r b.others.items
+pub can_close : {D : Type 0} → (g : Geometry) (size : Size) (b : Beginning D) (l : LogValue) (r : Returned) → IsBeginning g size b → AreReturned b.state.log size b.passes r → l ≡ b.state.log → CanClose l size r b.others.items
 can_close g size b l r is back e =
-    let rs = r.published.publishers.items in let ps = b.passes.publishers.items in
+    let rs = r.parties.published.publishers.items in let ps = b.passes.publishers.items in
     subst (λ (x : LogValue). CanClose x size r b.others.items) (sym e) (record {
       legal = subst IsGeometry (sym is.shape) is.legal;
       start = is.log_is.start;
-      many = no_more b.state.log size ps r.published back.published ∙ is.passes.many;
-      publishers = back.published.back;
-      counted = back.published.counted;
+      many = no_more b.state.log size ps r.parties.published back.parties.published ∙ is.passes.many;
+      publishers = back.parties.published.back;
+      counted = back.parties.published.counted;
       others_are = is.others;
       unclaimed = is.unclaimed;
-      whole = sums (total parts_in rs) (total parts_in ps) (total parts_in b.others.items) (same_total rs ps back.published.parts) is.whole;
+      whole = sums (total parts_in rs) (total parts_in ps) (total parts_in b.others.items) (same_total rs ps back.parties.published.parts) is.whole;
       keeper = back.keeper;
     })
   where
@@ -59,9 +59,9 @@ can_close g size b l r is back e =
     sums a b u e f = omega arith
 
 -- they are all
-pub all_there : (l : LogValue) (size : Size) (r : Returned) (others all : List PublisherValue) → CanClose l size r others → all ≡ r.published.publishers.items ++ others → AreAll l all r.keeper
+pub all_there : (l : LogValue) (size : Size) (r : Returned) (others all : List PublisherValue) → CanClose l size r others → all ≡ r.parties.published.publishers.items ++ others → AreAll l all r.keeper
 all_there l size r others all is e =
-    let rs = r.published.publishers.items in
+    let rs = r.parties.published.publishers.items in
     subst (λ (xs : List PublisherValue). AreAll l xs r.keeper) (sym e) (record {
       publishers_are = All-from_recursion (IsDone l) (rs ++ others) (all_append (IsDone l) rs others (all_weaker (IsBack l size) (IsDone l) (λ q b. b.done) rs is.publishers) is.others_are);
       keeper_is = is.keeper.done;
@@ -175,10 +175,10 @@ no_claims n (q ∷ qs) all = (λ j. cond (q.pass.number == n) (total range_bytes
 
 -- ---- the book
 
-pub shown : (l : LogValue) (size : Size) (r : Returned) (others all : List PublisherValue) (book : Book) → CanClose l size r others → all ≡ r.published.publishers.items ++ others → ShowsBook l all book
-    → IsBook l.identity.geometry size.task.length size.publishers r.published.accepted book
+pub shown : (l : LogValue) (size : Size) (r : Returned) (others all : List PublisherValue) (book : Book) → CanClose l size r others → all ≡ r.parties.published.publishers.items ++ others → ShowsBook l all book
+    → IsBook l.identity.geometry size.task.length size.publishers r.parties.published.accepted book
 shown l size r others all book is there shows =
-    let g = l.identity.geometry in let length = size.task.length in let qs = r.published.publishers.items in let zero = is.start in let log = shows.tiled.log in record {
+    let g = l.identity.geometry in let length = size.task.length in let qs = r.parties.published.publishers.items in let zero = is.start in let log = shows.tiled.log in record {
       start = shows.start ∙ zero;
       shares = (let a = shows.whole in let b = shows.start in omega arith);
       log = log;

@@ -22,7 +22,7 @@ use Rattle.run_parties.specs.declared.publisher_turns.Task.{Task}
 use Rattle.endpoint.specs.declared.device_error.DeviceError.{DeviceError}
 use Rattle.run.specs.Beginnings.{IsBeginning}
 use Rattle.run.specs.declared.planned_run.Beginning.{Beginning}
-use Rattle.run.specs.Threads.{AreCounted, HaveCome, IsBack, IsWaiting, accepted_as}
+use Rattle.run.specs.Threads.{AreCounted, AreWaitingFrom, HaveCome, IsBack, IsWaiting, accepted_as, counters_of, shown_of}
 use Rattle.run.specs.declared.passes.Publications.{Publications}
 use Rattle.run.specs.declared.passes.Size.{Size}
 
@@ -142,25 +142,32 @@ pub waiting : (l : LogValue) (count : ℕ) (ps : List PublisherValue) → AllByR
 waiting l count [] done none low = tt
 waiting l count (p ∷ ps) done none low = (record { done = done.0; none = none.0; low = low.0 }, waiting l count ps done.1 none.1 low.1)
 
-pub begins : {D : Type 0} → (g : Geometry) (count : ℕ) (r : RunLog) (b : Beginning D) → IsNewRunLog g count r → b.state.log ≡ r.log → b.passes.publishers.items ≡ r.publishers.items → b.others.items ≡ r.others.items → b.passes.reader ≡ r.reader → b.passes.keeper ≡ r.keeper
-    → b.passes.asking.queue ≡ b.state.conductor → b.passes.closing.queue ≡ b.state.conductor → b.passes.taker.queue ≡ b.state.conductor → IsBeginning g count b
-begins g count r b is log publishers others reads keeps asking closing taker = record {
-  legal = is.legal;
-  shape = ap (λ (x : LogValue). x.identity.geometry) log ∙ is.shape;
-  log_is = subst IsRunLog (sym log) is.log_is;
-  passes = record {
-    many = ap (λ (ps : List PublisherValue). length ps) publishers ∙ is.many;
-    publishers = subst (λ (x : LogValue). AllByRecursion (IsWaiting x count) b.passes.publishers.items) (sym log) (subst (AllByRecursion (IsWaiting r.log count)) (sym publishers) (waiting r.log count r.publishers.items is.publishers is.unclaimed is.low));
-    reader = subst (λ (x : LogValue). IsNewReader x 0 b.passes.reader) (sym log) (subst (IsNewReader r.log 0) (sym reads) is.reader);
-    keeper = subst (λ (x : LogValue). IsKept x b.passes.keeper) (sym log) (subst (IsKept r.log) (sym keeps) is.keeper);
-    asking = asking;
-    closing = closing;
-    taker = taker;
-  };
-  others = subst (λ (x : LogValue). AllByRecursion (IsDone x) b.others.items) (sym log) (subst (AllByRecursion (IsDone r.log)) (sym others) is.others);
-  unclaimed = subst (AllByRecursion HasNone) (sym others) is.others_unclaimed;
-  whole = (λ j. total parts_in (publishers j) + total parts_in (others j)) ∙ is.whole;
-}
+pub begins : {D : Type 0} → (g : Geometry) (size : Size) (r : RunLog) (b : Beginning D) → IsNewRunLog g size.publishers r → b.state.log ≡ r.log → b.passes.publishers.items ≡ r.publishers.items → b.others.items ≡ r.others.items → b.passes.reader ≡ r.reader → b.passes.keeper ≡ r.keeper
+    → b.passes.asking.queue ≡ b.state.conductor → b.passes.closing.queue ≡ b.state.conductor → b.passes.taker.queue ≡ b.state.conductor
+    → length b.passes.sends.ways ≡ size.receivers → length b.passes.receivers.items ≡ size.receivers → AreWaitingFrom g size.receivers 0 b.passes.receivers.items → map shown_of b.shown.items ≡ map counters_of b.passes.receivers.items → IsBeginning g size b
+begins g size r b is log publishers others reads keeps asking closing taker ways many receivers shown =
+    let count = size.publishers in
+    let shape : b.state.log.identity.geometry ≡ g = ap (λ (x : LogValue). x.identity.geometry) log ∙ is.shape in record {
+      legal = is.legal;
+      shape = shape;
+      log_is = subst IsRunLog (sym log) is.log_is;
+      passes = record {
+        many = ap (λ (ps : List PublisherValue). length ps) publishers ∙ is.many;
+        publishers = subst (λ (x : LogValue). AllByRecursion (IsWaiting x count) b.passes.publishers.items) (sym log) (subst (AllByRecursion (IsWaiting r.log count)) (sym publishers) (waiting r.log count r.publishers.items is.publishers is.unclaimed is.low));
+        reader = subst (λ (x : LogValue). IsNewReader x 0 b.passes.reader) (sym log) (subst (IsNewReader r.log 0) (sym reads) is.reader);
+        keeper = subst (λ (x : LogValue). IsKept x b.passes.keeper) (sym log) (subst (IsKept r.log) (sym keeps) is.keeper);
+        asking = asking;
+        closing = closing;
+        taker = taker;
+        ways = ways;
+        receivers_many = many;
+        receivers = subst (λ (x : Geometry). AreWaitingFrom x size.receivers 0 b.passes.receivers.items) (sym shape) receivers;
+      };
+      shown = shown;
+      others = subst (λ (x : LogValue). AllByRecursion (IsDone x) b.others.items) (sym log) (subst (AllByRecursion (IsDone r.log)) (sym others) is.others);
+      unclaimed = subst (AllByRecursion HasNone) (sym others) is.others_unclaimed;
+      whole = (λ j. total parts_in (publishers j) + total parts_in (others j)) ∙ is.whole;
+    }
 
 -- the sum for one more that comes back fits
 pub room_for : (l : LogValue) (size : Size) (waits ws : List PublisherValue) (w q : PublisherValue) (count : ℕ) (all : Publications) → waits ≡ ws ++ w ∷ [] → AllByRecursion (IsWaiting l size.publishers) waits → size.publishers ≤ 8 → length waits ≤ 8 → size.task.messages < 2 ^ 32 → HaveCome l size ws all

@@ -1,5 +1,5 @@
 -- What a run begins with, and when its log can be closed.
-use Rattle.std.specs.Prelude.{◌≡◌, ◌+◌, ◌<◌, ℕ, List, length}
+use Rattle.std.specs.Prelude.{◌≡◌, ◌+◌, List, length, map}
 use Rattle.std.specs.List.{AllByRecursion}
 use Rattle.theory.specs.Position.{Geometry, IsGeometry}
 use Rattle.log_rule.specs.Claims.Handles.{PublisherValue, parts_in}
@@ -8,17 +8,18 @@ use Rattle.log_rule.specs.Claims.Sums.{total}
 use Rattle.shared_log.specs.Books.{IsDone}
 use Rattle.run_parties.specs.Passes.{HasNone, IsKept}
 use Rattle.run_parties.specs.RunLogs.{IsRunLog}
-use Rattle.run.specs.Threads.{AreCounted, ArePasses, IsBack}
+use Rattle.run.specs.Threads.{AreCounted, ArePasses, IsBack, counters_of, shown_of}
 use Rattle.run.specs.declared.passes.Returned.{Returned}
 use Rattle.run.specs.declared.passes.Size.{Size}
 use Rattle.run.specs.declared.planned_run.Beginning.{Beginning}
 
--- a log of this shape with its passes: so many publishers, and others that take no part
-pub record IsBeginning {D : Type 0} (g : Geometry) (count : ℕ) (b : Beginning D) : Type 0 where
+-- a log of this shape with its passes: so many publishers, others that take no part, and so many receivers
+pub record IsBeginning {D : Type 0} (g : Geometry) (size : Size) (b : Beginning D) : Type 0 where
   pub legal : IsGeometry g
   pub shape : b.state.log.identity.geometry ≡ g
   pub log_is : IsRunLog b.state.log
-  pub passes : ArePasses b.state.log b.state.conductor count b.passes
+  pub passes : ArePasses b.state.log b.state.conductor size b.passes
+  pub shown : map shown_of b.shown.items ≡ map counters_of b.passes.receivers.items
   pub others : AllByRecursion (IsDone b.state.log) b.others.items
   pub unclaimed : AllByRecursion HasNone b.others.items
   pub whole : total parts_in b.passes.publishers.items + total parts_in b.others.items ≡ 1016
@@ -27,10 +28,10 @@ pub record IsBeginning {D : Type 0} (g : Geometry) (count : ℕ) (b : Beginning 
 pub record CanClose (l : LogValue) (size : Size) (r : Returned) (others : List PublisherValue) : Type 0 where
   pub legal : IsGeometry l.identity.geometry
   pub start : l.start ≡ 0
-  pub many : length r.published.publishers.items ≡ size.publishers
-  pub publishers : AllByRecursion (IsBack l size) r.published.publishers.items
-  pub counted : AreCounted r.published.accepted r.published.publishers.items
+  pub many : length r.parties.published.publishers.items ≡ size.publishers
+  pub publishers : AllByRecursion (IsBack l size) r.parties.published.publishers.items
+  pub counted : AreCounted r.parties.published.accepted r.parties.published.publishers.items
   pub others_are : AllByRecursion (IsDone l) others
   pub unclaimed : AllByRecursion HasNone others
-  pub whole : total parts_in r.published.publishers.items + total parts_in others ≡ 1016
+  pub whole : total parts_in r.parties.published.publishers.items + total parts_in others ≡ 1016
   pub keeper : IsKept l r.keeper

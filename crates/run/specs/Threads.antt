@@ -1,6 +1,7 @@
 -- What a run's threads have, and what they give back.
-use Rattle.std.specs.Prelude.{◌≡◌, ◌+◌, ◌*◌, ◌≤◌, ◌<◌, ◌^◌, ◌==◌, ℕ, Bool, cond, false, List, length, map, slice_index}
+use Rattle.std.specs.Prelude.{◌≡◌, ◌≤◌, ◌<◌, ◌^◌, ◌==◌, ℕ, suc, ⊤, cond, List, [], ◌∷◌, length, map, slice_index}
 use Rattle.std.specs.List.{AllByRecursion}
+use Rattle.std.specs.Arc.{arc_value}
 use Rattle.theory.specs.Position.{Geometry, max_message}
 use Rattle.atomic_table.specs.Seated.{TableId}
 use Rattle.log_rule.specs.Claims.Handles.{PublisherValue, parts_in}
@@ -8,14 +9,21 @@ use Rattle.log_rule.specs.Claims.Sums.{total}
 use Rattle.shared_log.specs.Handles.{LogValue}
 use Rattle.shared_log.specs.Books.{IsDone}
 use Rattle.shared_log.specs.Parts.{IsNewReader}
+use Rattle.counters.specs.Order.{zeros}
+use Rattle.receiver.specs.Subscribing.{RepresentsSubscriber}
+use Rattle.run_parties.specs.Groups.{id_of}
 use Rattle.run_parties.specs.Messages.{IsRunClaim, message_in}
 use Rattle.run_parties.specs.Passes.{HasNone, IsKept}
+use Rattle.run_parties.specs.Receivers.{new_receiver}
 use Rattle.run_parties.specs.RunLogs.{IsRunLog}
-use Rattle.run_parties.specs.Tallies.{IsTally}
+use Rattle.run_parties.specs.Tallies.{Counted, IsTally}
+use Rattle.run.specs.declared.passes.Parties.{Parties}
 use Rattle.run.specs.declared.passes.Passes.{Passes}
 use Rattle.run.specs.declared.passes.Publications.{Publications}
 use Rattle.run.specs.declared.passes.Returned.{Returned}
 use Rattle.run.specs.declared.passes.Size.{Size}
+use Rattle.run.specs.declared.passes.Waiting.{Waiting}
+use Rattle.run.specs.declared.watch.Shown.{Shown}
 
 -- a log that a run begins with, and no more to be done than it has room for
 pub record IsSet (l : LogValue) (size : Size) : Type 0 where
@@ -23,6 +31,7 @@ pub record IsSet (l : LogValue) (size : Size) : Type 0 where
   pub whole : 8 ≤ size.task.length
   pub short : size.task.length ≤ max_message l.identity.geometry
   pub publishers : size.publishers ≤ 8
+  pub receivers : size.receivers ≤ 8
   pub messages : size.task.messages < 2 ^ 32
   pub wanted : size.wanted < 2 ^ 63
 
@@ -56,21 +65,58 @@ pub record HaveCome (l : LogValue) (size : Size) (waiting : List PublisherValue)
   pub parts : map parts_in p.publishers.items ≡ map parts_in waiting
   pub counted : AreCounted p.accepted p.publishers.items
 
+-- ---- receivers
+
+-- one of so many, by its number: it has met nothing, has the id that goes with its number, and its counters are at zero
+pub record IsWaitingReceiver {D : Type 0} (g : Geometry) (count n : ℕ) (w : Waiting D) : Type 0 where
+  pub number : w.number ≡ n
+  pub subscriber : RepresentsSubscriber w.subscriber (new_receiver g (id_of count n))
+  pub writer : w.writer.counters ≡ arc_value w.counters
+  pub zero : w.writer.last ≡ zeros
+
+-- its device; and the name of its counters, also of those that are shown
+abbrev pub device_of : {D : Type 0} → Waiting D → D
+device_of w = w.device
+
+abbrev pub counters_of : {D : Type 0} → Waiting D → TableId
+counters_of w = arc_value w.counters
+
+abbrev pub shown_of : Shown → TableId
+shown_of s = arc_value s.counters
+
+-- some of so many receivers, by their numbers, which they have from this one on
+abbrev pub AreWaitingFrom : {D : Type 0} → Geometry → ℕ → ℕ → List (Waiting D) → Type 0
+AreWaitingFrom g count n [] = ⊤
+AreWaitingFrom g count n (w ∷ ws) = IsWaitingReceiver g count n w × AreWaitingFrom g count (suc n) ws
+
+-- a tally of some messages, no more than were wanted
+pub record IsTallied (size : Size) (t : Counted) : Type 0 where
+  pub most : t.polled ≤ size.wanted
+  pub tally : IsTally t
+
+-- publishers came back, and of so many receivers their tallies
+pub record HaveEnded (l : LogValue) (size : Size) (waiting : List PublisherValue) (receivers : ℕ) (p : Parties) : Type 0 where
+  pub published : HaveCome l size waiting p.published
+  pub many : length p.tallies.items ≡ receivers
+  pub tallied : AllByRecursion (IsTallied size) p.tallies.items
+
 -- ---- all threads
 
--- so many publishers, a reader and the keeper of a log, and clients and the taker of a queue
-pub record ArePasses {D : Type 0} (l : LogValue) (queue : TableId) (count : ℕ) (p : Passes D) : Type 0 where
-  pub many : length p.publishers.items ≡ count
-  pub publishers : AllByRecursion (IsWaiting l count) p.publishers.items
+-- so many publishers, a reader and the keeper of a log, clients and the taker of a queue, and so many receivers with as many
+-- ways to them
+pub record ArePasses {D : Type 0} (l : LogValue) (queue : TableId) (size : Size) (p : Passes D) : Type 0 where
+  pub many : length p.publishers.items ≡ size.publishers
+  pub publishers : AllByRecursion (IsWaiting l size.publishers) p.publishers.items
   pub reader : IsNewReader l 0 p.reader
   pub keeper : IsKept l p.keeper
   pub asking : p.asking.queue ≡ queue
   pub closing : p.closing.queue ≡ queue
   pub taker : p.taker.queue ≡ queue
+  pub ways : length p.sends.ways ≡ size.receivers
+  pub receivers_many : length p.receivers.items ≡ size.receivers
+  pub receivers : AreWaitingFrom l.identity.geometry size.receivers 0 p.receivers.items
 
--- what the publishers have published is counted, and so are the messages that were polled, no more than were wanted
+-- what the publishers have published is counted, and so are the messages that each subscriber polled
 pub record AreReturned {D : Type 0} (l : LogValue) (size : Size) (p : Passes D) (r : Returned) : Type 0 where
-  pub published : HaveCome l size p.publishers.items r.published
+  pub parties : HaveEnded l size p.publishers.items size.receivers r.parties
   pub keeper : IsKept l r.keeper
-  pub polled : r.tally.polled ≤ size.wanted
-  pub tally : IsTally r.tally

@@ -1,11 +1,24 @@
 //! What a run's threads own, what they are lent, and what they give back.
 
-use agents::Named;
 use conductor::{Client, Taker};
-use run_parties::{Context, PUBLISHERS, SharedReceiver, Tally, Task};
+use counters::{CounterWriter, Counters};
+use endpoint::Fan;
+use receiver::Subscriber;
+use run_parties::{Context, PUBLISHERS, Tally, Task};
 use shared_log::{Keeper, LogReader, Publisher};
+use std::sync::Arc;
 
-/// The passes of a run's threads, and the devices of its sender and its receiver.
+/// A receiver that waits for its threads: its number, its subscriber, its counters with their writer, and its device.
+#[derive(Drop)]
+pub struct Waiting<D> {
+    pub number: u64,
+    pub subscriber: Subscriber,
+    pub counters: Arc<Counters>,
+    pub writer: CounterWriter,
+    pub device: D,
+}
+
+/// The passes of a run's threads, the device of its sender, and its receivers.
 #[derive(Drop)]
 pub struct Passes<D> {
     pub publishers: Vec<Publisher>,
@@ -16,8 +29,9 @@ pub struct Passes<D> {
     /// The client that closes the stream.
     pub closing: Client,
     pub taker: Taker,
-    pub sends: D,
-    pub replies: D,
+    pub sends: Fan<D>,
+    /// By their numbers.
+    pub receivers: Vec<Waiting<D>>,
 }
 
 /// Publishers that came back, and how many messages were accepted of them, by their numbers.
@@ -27,12 +41,19 @@ pub struct Publications {
     pub accepted: [u64; PUBLISHERS],
 }
 
-/// What they give back.
+/// What publishers and receivers gave back.
+#[derive(Drop)]
+pub struct Parties {
+    pub published: Publications,
+    /// By the receivers' numbers.
+    pub tallies: Vec<Tally>,
+}
+
+/// What all gave back.
 #[derive(Drop)]
 pub struct Returned {
-    pub published: Publications,
+    pub parties: Parties,
     pub keeper: Keeper,
-    pub tally: Tally,
 }
 
 /// How much is to be done.
@@ -42,14 +63,15 @@ pub struct Size {
     pub task: Task,
     /// How many publishers.
     pub publishers: usize,
-    /// How many messages are to be polled.
+    /// How many receivers.
+    pub receivers: usize,
+    /// How many messages are to be polled by each subscriber.
     pub wanted: u64,
 }
 
 /// What all threads are lent, and how much they have to do.
 #[derive(Drop)]
-pub struct Agents<'a, N: Named, R, G> {
+pub struct Agents<'a, R, G> {
     pub context: &'a Context<'a, R, G>,
-    pub receiver: &'a SharedReceiver<N>,
     pub size: Size,
 }

@@ -1,33 +1,32 @@
 //! The run of a plan.
 
-ghost use Rattle.std.specs.Prelude.{◌≡◌, ◌*◌, ◌^◌, ◌<◌, ◌≤◌, IfOk};
+ghost use Rattle.std.specs.Prelude.{◌≡◌, ◌*◌, ◌^◌, ◌<◌, ◌≤◌, IfOk, length, map, vec_len};
+ghost use Rattle.std.specs.Arc.{arc_value};
+ghost use Rattle.std.specs.List.{AllByRecursion};
+ghost use Rattle.endpoint.specs.Fans.{fanned};
 ghost use Rattle.run_parties.specs.Devices.{AreLossy};
-ghost use Rattle.run_parties.specs.Receivers.{AreReceiverParts};
 ghost use Rattle.run_parties.specs.RunLogs.{IsRunLog};
-ghost use Rattle.run_parties.specs.Tallies.{IsTally};
 ghost use Rattle.run.specs.Beginnings.{CanClose, IsBeginning};
-ghost use Rattle.run.specs.Outcomes.{IsBook, IsLeft, IsOutcome, size_of};
-ghost use Rattle.run.specs.Threads.{ArePasses, AreReturned};
+ghost use Rattle.run.specs.Outcomes.{IsBook, IsLeft, IsOutcome, polled_of, size_of};
+ghost use Rattle.run.specs.Threads.{ArePasses, AreReturned, AreWaitingFrom, IsTallied, IsWaitingReceiver, counters_of, device_of, shown_of};
 
-use crate::outcome::Outcome;
-use crate::passes::{Agents, Passes, Returned, Size};
+use crate::outcome::{Outcome, Polled};
+use crate::passes::{Agents, Parties, Passes, Returned, Size, Waiting};
 use crate::thread_scope::run_agents;
-use crate::watch::Watch;
-use agents::{Began, Named};
+use crate::watch::{Shown, Watch};
+use agents::Began;
 use conductor::Conductor;
-use endpoint::{Datagrams, DeviceError, UdpDevice};
-use loss_injector::Lossy;
+use endpoint::{Datagrams, DeviceError, Fan};
 use options::Plan;
 use run_parties::{
-    Context, Gate, ReceiverParts, RunLog, RunState, SharedReceiver, Task, device_pair,
-    open_run_log, receiver_parts,
+    Context, Gate, LossyDevices, ReceiverParts, RunLog, RunState, Tally, Task, lossy_devices,
+    open_run_log, receiver_id, receiver_parts,
 };
 use shared_log::{Book, Log, Publisher, close};
 use std::alloc::{AllocError, Global};
 use std::io::Write;
-use std::marker::Brand;
 use std::net::Net;
-use std::sync::Wait;
+use std::sync::{Arc, Wait};
 use std::thread::Threads;
 use std::time::Clock;
 
@@ -51,27 +50,97 @@ fn size_of(plan: &Plan) -> Size
             turns: plan.turns,
         },
         publishers: plan.publishers,
+        receivers: plan.receivers,
         wanted: wanted_of(plan),
     }
 }
 
-/// What a run begins with, but for its receiver.
+/// The receivers of a run that wait for their threads, and the counters of each with a reader of them, by their numbers.
+#[derive(Drop)]
+struct Receivers<D> {
+    waiting: Vec<Waiting<D>>,
+    shown: Vec<Shown>,
+}
+
+/// What the receiver of this number begins with, over its device.
+fn receiver_of<D: Drop>(
+    alloc: Global,
+    plan: &Plan,
+    number: u64,
+    device: D,
+) -> Result<(Waiting<D>, Shown), AllocError>
+    requires { number < 8 }
+    ensures waits { IfOk result (λ r. IsWaitingReceiver plan.now.geometry plan.now.receivers number r.0) }
+    ensures device { IfOk result (λ r. r.0.device ≡ device) }
+    ensures shown { IfOk result (λ r. arc_value r.1.counters ≡ arc_value r.0.counters) }
+{
+    let id = receiver_id(plan.receivers, number);
+    let ReceiverParts {
+        subscriber,
+        counters,
+        writer,
+        reader,
+    } = receiver_parts(alloc, &plan.geometry, id)?;
+    let shown = Shown {
+        counters: Arc::try_clone(&counters)?,
+        reader,
+    };
+    let waiting = Waiting {
+        number,
+        subscriber,
+        counters,
+        writer,
+        device,
+    };
+    Ok((waiting, shown))
+}
+
+/// What all receivers begin with, over their devices.
+fn receivers_of<D: Drop>(
+    alloc: Global,
+    plan: &Plan,
+    mut replies: Vec<D>,
+) -> Result<Receivers<D>, AllocError>
+    requires { vec_len replies ≡ plan.now.receivers }
+    ensures many { IfOk result (λ r. length r.waiting.items ≡ plan.now.receivers) }
+    ensures waiting { IfOk result (λ r. AreWaitingFrom plan.now.geometry plan.now.receivers 0 r.waiting.items) }
+    ensures devices { IfOk result (λ r. map device_of r.waiting.items ≡ replies.items) }
+    ensures shown { IfOk result (λ r. map shown_of r.shown.items ≡ map counters_of r.waiting.items) }
+{
+    let mut waiting = Vec::new(alloc);
+    let mut shown = Vec::new(alloc);
+    for number in 0..plan.receivers as u64 {
+        let (receiver, counters) = receiver_of(alloc, plan, number, replies.remove(0))?;
+        waiting.push(receiver)?;
+        shown.push(counters)?;
+    }
+    Ok(Receivers { waiting, shown })
+}
+
+/// What a run begins with.
 #[derive(Drop)]
 struct Beginning<D> {
     state: RunState,
     passes: Passes<D>,
     /// The publishers that take no part.
     others: Vec<Publisher>,
+    /// The receivers' counters.
+    shown: Vec<Shown>,
 }
 
-/// What a run over these devices begins with: the sender's and the receiver's.
+/// What a run begins with over these devices: the sender's ways, and the receivers'.
 fn begin<R: Clock, D: Drop>(
     rt: &R,
     alloc: Global,
     plan: &Plan,
-    devices: (D, D),
+    ways: Vec<D>,
+    replies: Vec<D>,
 ) -> Result<Beginning<D>, DeviceError>
-    ensures { IfOk result (λ b. IsBeginning plan.now.geometry plan.now.publishers b) }
+    requires ways { vec_len ways ≡ plan.now.receivers }
+    requires replies { vec_len replies ≡ plan.now.receivers }
+    ensures begins { IfOk result (λ b. IsBeginning plan.now.geometry (size_of plan.now) b) }
+    ensures ways { IfOk result (λ b. b.passes.sends ≡ fanned ways.items) }
+    ensures devices { IfOk result (λ b. map device_of b.passes.receivers.items ≡ replies.items) }
 {
     let began = Began::now(rt)?;
     let (conductor, asking, closing, taker) = Conductor::with_two_clients(alloc)?;
@@ -82,7 +151,7 @@ fn begin<R: Clock, D: Drop>(
         reader,
         keeper,
     } = open_run_log(alloc, plan.geometry, plan.publishers)?;
-    let (sends, replies) = devices;
+    let Receivers { waiting, shown } = receivers_of(alloc, plan, replies)?;
     let passes = Passes {
         publishers,
         reader,
@@ -90,19 +159,19 @@ fn begin<R: Clock, D: Drop>(
         asking,
         closing,
         taker,
-        sends,
-        replies,
+        sends: Fan::new(ways),
+        receivers: waiting,
     };
     Ok(Beginning {
-        state: RunState::new(log, conductor, began),
+        state: RunState::new(log, conductor, began, plan.receivers),
         passes,
         others,
+        shown,
     })
 }
 
-/// Runs with the counters that have this name. A line of them goes to `errors` once a second, where the plan asks for it.
-fn run_named<
-    N: Named + Send,
+/// Runs all threads with these passes. A line of counters goes to the watch's errors once a second, where it shows them.
+fn run_with<
     R: Threads + Wait + Clock + Sync,
     D: Datagrams + Send + Drop,
     G: Gate + Sync,
@@ -110,32 +179,16 @@ fn run_named<
 >(
     context: &Context<'_, R, G>,
     plan: &Plan,
-    parts: ReceiverParts,
     passes: Passes<D>,
-    errors: E,
+    watch: Watch<E>,
 ) -> Result<Returned, DeviceError>
-    requires passes { ArePasses context.now.state.now.log context.now.state.now.conductor plan.now.publishers passes }
+    requires passes { ArePasses context.now.state.now.log context.now.state.now.conductor (size_of plan.now) passes }
     requires log { IsRunLog context.now.state.now.log × (context.now.state.now.log.identity.geometry ≡ plan.now.geometry) }
-    requires parts { AreReceiverParts plan.now.geometry parts }
-    requires named { parts.counters ≡ N.counters }
     ensures { IfOk result (λ r. AreReturned context.now.state.now.log (size_of plan.now) passes r) }
 {
-    let ReceiverParts {
-        subscriber,
-        counters,
-        writer,
-        reader,
-    } = parts;
-    let receiver = SharedReceiver::<N>::new(subscriber, writer, counters);
     let agents = Agents {
         context,
-        receiver: &receiver,
         size: size_of(plan),
-    };
-    let watch = Watch {
-        errors,
-        reader,
-        shows: plan.counters,
     };
     run_agents(&agents, passes, watch)
 }
@@ -149,11 +202,37 @@ fn closed(
     alloc: Global,
 ) -> Result<Book, AllocError>
     requires { CanClose log size.now returned others.items }
-    ensures { IfOk result (λ book. IsBook log.identity.geometry size.now.task.length size.now.publishers returned.published.accepted book) }
+    ensures { IfOk result (λ book. IsBook log.identity.geometry size.now.task.length size.now.publishers returned.parties.published.accepted book) }
 {
-    let mut publishers = returned.published.publishers;
+    let Returned { parties, keeper } = returned;
+    let Parties {
+        published,
+        tallies: _,
+    } = parties;
+    let mut publishers = published.publishers;
     publishers.append(&mut others)?;
-    Ok(close(log, publishers, Vec::new(alloc), returned.keeper))
+    Ok(close(log, publishers, Vec::new(alloc), keeper))
+}
+
+/// What is told of a tally.
+fn polled_of(tally: &Tally) -> Polled
+    ensures { result ≡ polled_of tally.now }
+{
+    Polled {
+        polled: tally.polled(),
+        kept: tally.is_in_order(),
+    }
+}
+
+/// What is told of tallies, in their order.
+fn told(alloc: Global, tallies: &[Tally]) -> Result<Vec<Polled>, AllocError>
+    ensures { IfOk result (λ ps. ps.items ≡ map polled_of tallies.now) }
+{
+    let mut told = Vec::new(alloc);
+    for tally in tallies {
+        told.push(polled_of(tally))?;
+    }
+    Ok(told)
 }
 
 /// What a run leaves whose threads gave this back.
@@ -165,26 +244,25 @@ fn left(
     others: Vec<Publisher>,
 ) -> Result<Outcome, AllocError>
     requires closes { CanClose log size.now returned others.items }
-    requires polled { returned.tally.polled ≤ size.now.wanted }
-    requires tally { IsTally returned.tally }
+    requires many { length returned.parties.tallies.items ≡ size.now.receivers }
+    requires tallied { AllByRecursion (IsTallied size.now) returned.parties.tallies.items }
     ensures { IfOk result (λ o. IsLeft log.identity.geometry size.now o) }
 {
-    let (polled, kept) = (returned.tally.polled(), returned.tally.is_in_order());
-    let publishers = returned.published.publishers.len();
-    let accepted = returned.published.accepted;
+    let tallies = told(alloc, &returned.parties.tallies)?;
+    let publishers = returned.parties.published.publishers.len();
+    let accepted = returned.parties.published.accepted;
     let book = closed(log, size, returned, others, alloc)?;
     Ok(Outcome {
         publishers,
         messages: size.task.messages,
         accepted,
-        polled,
         wanted: size.wanted,
-        kept,
+        tallies,
         book,
     })
 }
 
-/// Runs over two devices: the sender's and the receiver's.
+/// Runs over these devices: the sender's ways, and the receivers'.
 fn run_over<
     R: Threads + Wait + Clock + Sync,
     D: Datagrams + Send + Drop,
@@ -196,16 +274,19 @@ fn run_over<
     plan: &Plan,
     gate: &G,
     errors: E,
-    devices: (D, D),
+    devices: (Vec<D>, Vec<D>),
 ) -> Result<Outcome, DeviceError>
+    requires ways { vec_len devices.0 ≡ plan.now.receivers }
+    requires replies { vec_len devices.1 ≡ plan.now.receivers }
     ensures { IfOk result (λ o. IsOutcome plan.now o) }
 {
+    let (ways, replies) = devices;
     let Beginning {
         state,
         passes,
         others,
-    } = begin(rt, alloc, plan, devices)?;
-    let parts = receiver_parts(alloc, &plan.geometry)?;
+        shown,
+    } = begin(rt, alloc, plan, ways, replies)?;
     let context = Context {
         rt,
         alloc,
@@ -213,29 +294,36 @@ fn run_over<
         gate,
         turns: plan.turns,
     };
-    let returned = run_named::<Brand, R, D, G, E>(&context, plan, parts, passes, errors)?;
+    let watch = Watch {
+        errors,
+        shown,
+        shows: plan.counters,
+    };
+    let returned = run_with(&context, plan, passes, watch)?;
     Ok(left(alloc, &size_of(plan), state.into_log(), returned, others)?)
 }
 
-/// Runs over two devices that lose as the plan says.
+/// Runs over devices that lose as the plan says.
 fn run_lossy<R: Threads + Wait + Clock + Sync, G: Gate + Sync, E: Write + Drop>(
     rt: &R,
     alloc: Global,
     plan: &Plan,
     gate: &G,
     errors: E,
-    devices: (Lossy<UdpDevice>, Lossy<UdpDevice>),
+    devices: LossyDevices,
 ) -> Result<Outcome, DeviceError>
-    requires { AreLossy plan.now.rates plan.now.seed devices.0 devices.1 }
+    requires { AreLossy plan.now.rates plan.now.seed plan.now.receivers devices.ways.items devices.replies.items }
     ensures { IfOk result (λ o. IsOutcome plan.now o) }
 {
-    run_over(rt, alloc, plan, gate, errors, devices)
+    let LossyDevices { ways, replies } = devices;
+    run_over(rt, alloc, plan, gate, errors, (ways, replies))
 }
 
-/// Runs the driver as planned: each publisher's messages are offered, sent as datagrams over UDP on this machine, received,
-/// and polled by one subscriber, until all were polled, or a thread has used its turns. What goes from the sender and what
-/// goes from the receiver is lost, repeated and held back by words of two generators, of the plan's seed and the one behind
-/// it. Where the plan asks for counters, a line of them goes to `errors` once a second.
+/// Runs the driver as planned: each publisher's messages are offered, sent as datagrams over UDP on this machine along a way to
+/// each receiver, received, and polled by a subscriber of each, until all of these have polled all, or a thread has used its
+/// turns. Two receivers and more are a group. What goes along each way and what each receiver sends is lost, repeated and held
+/// back by words of a generator of its own: of the plan's seed along the first way, of the seed and 8 + I along way I, and of
+/// the seed and 1 + I from receiver I. Where the plan asks for counters, a line of them goes to `errors` once a second.
 ///
 /// The fault is `Device` where a socket can't be had or fails, a thread can't be started or the clock can't be read, and
 /// `Memory` where memory was refused.
@@ -248,6 +336,6 @@ pub fn run<R: Threads + Wait + Clock + Net + Sync, G: Gate + Sync, E: Write + Dr
 ) -> Result<Outcome, DeviceError>
     ensures { IfOk result (λ o. IsOutcome plan.now o) }
 {
-    let devices = device_pair(rt, alloc, plan.rates, plan.seed)?;
+    let devices = lossy_devices(rt, alloc, plan.rates, plan.seed, plan.receivers)?;
     run_lossy(rt, alloc, plan, gate, errors, devices)
 }

@@ -1,20 +1,19 @@
 //! The threads, joined.
 
-ghost use Rattle.std.specs.Prelude.{◌≡◌, ◌⊎◌, ◌≤◌, Err, IfErr, IfOk, IsOk, Ok, OnOk};
+ghost use Rattle.std.specs.Prelude.{◌≡◌, ◌⊎◌, ◌++◌, [], ◌∷◌, Err, IfErr, IfOk, IsOk, Ok, OnOk};
 ghost use Rattle.run_parties.specs.Passes.{IsKept};
-ghost use Rattle.run_parties.specs.Tallies.{IsTally};
+ghost use Rattle.run.specs.Threads.{IsTallied};
 
-use crate::passes::{Agents, Publications, Returned};
-use crate::thread_starts::{Agent, Steering, Subscribing};
-use agents::Named;
+use crate::passes::{Agents, Parties, Returned};
+use crate::thread_starts::{Agent, Receiving, Steering, Subscribing};
 use endpoint::DeviceError;
 use run_parties::Tally;
 use shared_log::Keeper;
 use std::thread::Threads;
 
 /// The keeper that comes back.
-fn keeper_of<N: Named, R: Threads, G>(
-    agents: &Agents<'_, N, R, G>,
+fn keeper_of<R: Threads, G>(
+    agents: &Agents<'_, R, G>,
     started: Result<Steering, DeviceError>,
 ) -> Result<Keeper, DeviceError>
     requires { IfOk started (λ h. h.promise.log.value ≡ agents.now.context.now.state.now.log) }
@@ -26,13 +25,13 @@ fn keeper_of<N: Named, R: Threads, G>(
     }
 }
 
-/// The tally of the subscriber.
-fn tally_of<N: Named, R: Threads, G>(
-    agents: &Agents<'_, N, R, G>,
+/// The tally of a subscriber.
+fn tally_of<R: Threads, G>(
+    agents: &Agents<'_, R, G>,
     started: Result<Subscribing, DeviceError>,
 ) -> Result<Tally, DeviceError>
     requires { IfOk started (λ h. h.promise.wanted ≡ agents.now.size.wanted) }
-    ensures { IfOk result (λ t. (t.polled ≤ agents.now.size.wanted) × IsTally t) }
+    ensures { IfOk result (IsTallied agents.now.size) }
 {
     match started {
         Ok(handle) => handle.join(agents.context.rt),
@@ -41,8 +40,8 @@ fn tally_of<N: Named, R: Threads, G>(
 }
 
 /// How a sender or a receiver ended.
-fn end_of<N: Named, R: Threads, G>(
-    agents: &Agents<'_, N, R, G>,
+fn end_of<R: Threads, G>(
+    agents: &Agents<'_, R, G>,
     started: Result<Agent, DeviceError>,
 ) -> Result<(), DeviceError> {
     match started {
@@ -51,47 +50,83 @@ fn end_of<N: Named, R: Threads, G>(
     }
 }
 
+/// A subscriber's tally, where its receiver ended without a fault, too.
+fn tallied(
+    tally: Result<Tally, DeviceError>,
+    received: Result<(), DeviceError>,
+) -> Result<Tally, DeviceError>
+    ensures tally { IfOk result (λ t. tally ≡ Ok t) }
+    ensures end { OnOk result (IsOk received) }
+    ensures fault { IfErr result (λ f. (tally ≡ Err f) ⊎ (received ≡ Err f)) }
+{
+    let tally = tally?;
+    received?;
+    Ok(tally)
+}
+
+/// Joins the threads of a receiver. The answer is its subscriber's tally.
+pub(crate) fn receiver_end<R: Threads, G>(
+    agents: &Agents<'_, R, G>,
+    started: Result<Receiving, DeviceError>,
+) -> Result<Tally, DeviceError>
+    requires { IfOk started (λ r. IfOk r.subscriber (λ h. h.promise.wanted ≡ agents.now.size.wanted)) }
+    ensures { IfOk result (IsTallied agents.now.size) }
+{
+    let Receiving { agent, subscriber } = started?;
+    let tally = tally_of(agents, subscriber);
+    let received = end_of(agents, agent);
+    tallied(tally, received)
+}
+
+/// What came back, and the tally of one receiver more; or the first fault.
+pub(crate) fn with_tally(
+    parties: Result<Parties, DeviceError>,
+    tally: Result<Tally, DeviceError>,
+) -> Result<Parties, DeviceError>
+    ensures published { IfOk parties (λ p. IfOk result (λ r. r.published ≡ p.published)) }
+    ensures tallies { IfOk parties (λ p. IfOk tally (λ t. IfOk result (λ r. r.tallies.items ≡ p.tallies.items ++ t ∷ []))) }
+    ensures both { OnOk result (IsOk parties × IsOk tally) }
+{
+    let Parties {
+        published,
+        mut tallies,
+    } = parties?;
+    if tallies.push(tally?).is_err() {
+        return Err(DeviceError::Memory);
+    }
+    Ok(Parties { published, tallies })
+}
+
 /// What all gave back, or the first fault.
 fn returned(
-    published: Result<Publications, DeviceError>,
+    parties: Result<Parties, DeviceError>,
     keeper: Result<Keeper, DeviceError>,
-    tally: Result<Tally, DeviceError>,
     sent: Result<(), DeviceError>,
-    received: Result<(), DeviceError>,
 ) -> Result<Returned, DeviceError>
-    ensures backs { IfOk result (λ p. (published ≡ Ok p.published) × (keeper ≡ Ok p.keeper) × (tally ≡ Ok p.tally)) }
-    ensures ends { OnOk result (IsOk sent × IsOk received) }
-    ensures fault { IfErr result (λ f. (published ≡ Err f) ⊎ (keeper ≡ Err f) ⊎ (tally ≡ Err f) ⊎ (sent ≡ Err f) ⊎ (received ≡ Err f)) }
+    ensures backs { IfOk result (λ p. (parties ≡ Ok p.parties) × (keeper ≡ Ok p.keeper)) }
+    ensures ends { OnOk result (IsOk sent) }
+    ensures fault { IfErr result (λ f. (parties ≡ Err f) ⊎ (keeper ≡ Err f) ⊎ (sent ≡ Err f)) }
 {
     let returned = Returned {
-        published: published?,
+        parties: parties?,
         keeper: keeper?,
-        tally: tally?,
     };
     sent?;
-    received?;
     Ok(returned)
 }
 
-/// Joins all threads but the publishers', of which this came back.
-pub(crate) fn gather<N: Named, R: Threads, G>(
-    agents: &Agents<'_, N, R, G>,
-    published: Result<Publications, DeviceError>,
+/// Joins the threads of the conductor and of the sender; of publishers and receivers this came back.
+pub(crate) fn gather<R: Threads, G>(
+    agents: &Agents<'_, R, G>,
+    parties: Result<Parties, DeviceError>,
     conductor: Result<Steering, DeviceError>,
-    subscriber: Result<Subscribing, DeviceError>,
     sender: Result<Agent, DeviceError>,
-    receiver: Result<Agent, DeviceError>,
 ) -> Result<Returned, DeviceError>
     requires keeper { IfOk conductor (λ h. h.promise.log.value ≡ agents.now.context.now.state.now.log) }
-    requires tally { IfOk subscriber (λ h. h.promise.wanted ≡ agents.now.size.wanted) }
-    ensures published { IfOk result (λ p. published ≡ Ok p.published) }
+    ensures parties { IfOk result (λ p. parties ≡ Ok p.parties) }
     ensures keeper { IfOk result (λ p. IsKept agents.now.context.now.state.now.log p.keeper) }
-    ensures polled { IfOk result (λ p. p.tally.polled ≤ agents.now.size.wanted) }
-    ensures tally { IfOk result (λ p. IsTally p.tally) }
 {
     let keeper = keeper_of(agents, conductor);
-    let tally = tally_of(agents, subscriber);
     let sent = end_of(agents, sender);
-    let received = end_of(agents, receiver);
-    returned(published, keeper, tally, sent, received)
+    returned(parties, keeper, sent)
 }

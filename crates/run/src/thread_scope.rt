@@ -1,16 +1,13 @@
 //! All threads, from their start to their end.
 
-ghost use Rattle.std.specs.Prelude.{◌≡◌, ◌≤◌, ◌<◌, ◌^◌, ◌+◌, [], ◌∷◌, ◌++◌, IfOk, slice_index, slice_set, vec_len};
+ghost use Rattle.std.specs.Prelude.{◌≡◌, ◌≤◌, ◌<◌, ◌^◌, ◌+◌, [], ◌∷◌, ◌++◌, ℕ, IfOk, length, slice_index, slice_set, vec_len};
 ghost use Rattle.std.specs.List.{AllByRecursion};
-ghost use Rattle.run.specs.Threads.{ArePasses, AreReturned, HaveCome, IsSet, IsWaiting};
+ghost use Rattle.run.specs.Threads.{ArePasses, AreReturned, AreWaitingFrom, HaveCome, HaveEnded, IsSet, IsWaiting};
 
-use crate::passes::{Agents, Passes, Publications, Returned};
-use crate::thread_joins::gather;
-use crate::thread_starts::{
-    start_conductor, start_publisher, start_receiver, start_sender, start_subscriber,
-};
+use crate::passes::{Agents, Parties, Passes, Publications, Returned, Waiting};
+use crate::thread_joins::{gather, receiver_end, with_tally};
+use crate::thread_starts::{start_conductor, start_publisher, start_receiver, start_sender};
 use crate::watch::Watch;
-use agents::Named;
 use conductor::Command;
 use endpoint::{Datagrams, DeviceError};
 use run_parties::{Gate, PUBLISHERS, Published};
@@ -41,28 +38,20 @@ fn with_published(mut all: Publications, published: Published) -> Result<Publica
 }
 
 /// Starts a thread for each publisher, the last one first, then waits until all is to stop, and then joins them.
-fn run_publishers<
-    's,
-    S,
-    N: Named + Send,
-    R: Threads + Wait + Clock + Sync,
-    G: Gate + Sync,
-    E: Write,
->(
+fn run_publishers<'s, S, R: Threads + Wait + Clock + Sync, G: Gate + Sync, E: Write>(
     scope: &'s Scope<'s, S>,
-    agents: &'s Agents<'s, N, R, G>,
+    agents: &'s Agents<'s, R, G>,
     mut waiting: Vec<Publisher>,
     watch: &mut Watch<E>,
 ) -> Result<Publications, DeviceError>
     requires waiting { AllByRecursion (IsWaiting agents.now.context.now.state.now.log agents.now.size.publishers) waiting.items }
     requires few { vec_len waiting ≤ 8 }
     requires set { IsSet agents.now.context.now.state.now.log agents.now.size }
-    requires counters { watch.old.reader.counters ≡ agents.now.receiver.now.counters }
     ensures { IfOk result (HaveCome agents.now.context.now.state.now.log agents.now.size waiting.items) }
 {
     let Some(publisher) = waiting.pop() else {
         let context = agents.context;
-        watch.until_stopped(context.rt, context.state, &agents.receiver.counters);
+        watch.until_stopped(context.rt, context.state);
         return Ok(Publications {
             publishers: Vec::new(context.alloc),
             accepted: [0; PUBLISHERS],
@@ -74,25 +63,55 @@ fn run_publishers<
     with_published(others?, published?)
 }
 
+/// Starts the threads of each receiver, the last one first, then those of the publishers, and joins all of them once all is to
+/// stop.
+fn run_receivers<
+    's,
+    S,
+    R: Threads + Wait + Clock + Sync,
+    D: Datagrams + Send + Drop + 's,
+    G: Gate + Sync,
+    E: Write,
+>(
+    scope: &'s Scope<'s, S>,
+    agents: &'s Agents<'s, R, G>,
+    mut waiting: Vec<Waiting<D>>,
+    publishers: Vec<Publisher>,
+    watch: &mut Watch<E>,
+) -> Result<Parties, DeviceError>
+    requires waiting { AreWaitingFrom agents.now.context.now.state.now.log.identity.geometry agents.now.size.receivers 0 waiting.items }
+    requires publishers { AllByRecursion (IsWaiting agents.now.context.now.state.now.log agents.now.size.publishers) publishers.items }
+    requires few { vec_len publishers ≤ 8 }
+    requires set { IsSet agents.now.context.now.state.now.log agents.now.size }
+    ensures { IfOk result (HaveEnded agents.now.context.now.state.now.log agents.now.size publishers.items (vec_len waiting)) }
+{
+    let Some(last) = waiting.pop() else {
+        let published = run_publishers(scope, agents, publishers, watch)?;
+        let tallies = Vec::new(agents.context.alloc);
+        return Ok(Parties { published, tallies });
+    };
+    let started = start_receiver(scope, agents, last);
+    let parties = run_receivers(scope, agents, waiting, publishers, watch);
+    let tally = receiver_end(agents, started);
+    with_tally(parties, tally)
+}
+
 /// Starts all threads, waits until all is to stop, and joins them.
 fn run_in<
     's,
     S,
-    N: Named + Send,
     R: Threads + Wait + Clock + Sync,
     D: Datagrams + Send + Drop + 's,
     G: Gate + Sync,
     E: Write + Drop,
 >(
     scope: &'s Scope<'s, S>,
-    agents: &'s Agents<'s, N, R, G>,
+    agents: &'s Agents<'s, R, G>,
     passes: Passes<D>,
     mut watch: Watch<E>,
 ) -> Result<Returned, DeviceError>
-    requires passes { ArePasses agents.now.context.now.state.now.log agents.now.context.now.state.now.conductor agents.now.size.publishers passes }
+    requires passes { ArePasses agents.now.context.now.state.now.log agents.now.context.now.state.now.conductor agents.now.size passes }
     requires set { IsSet agents.now.context.now.state.now.log agents.now.size }
-    requires named { agents.now.receiver.now.counters ≡ N.counters }
-    requires counters { watch.reader.counters ≡ agents.now.receiver.now.counters }
     ensures { IfOk result (λ r. AreReturned agents.now.context.now.state.now.log agents.now.size passes r) }
 {
     let Passes {
@@ -103,40 +122,35 @@ fn run_in<
         mut closing,
         taker,
         sends,
-        replies,
+        receivers,
     } = passes;
     let sender = start_sender(scope, agents, sends, reader, asking);
-    let receiver = start_receiver(scope, agents, replies);
-    let subscriber = start_subscriber(scope, agents);
     let conductor = start_conductor(scope, agents, keeper, taker);
-    let published = run_publishers(scope, agents, publishers, &mut watch);
+    let parties = run_receivers(scope, agents, receivers, publishers, &mut watch);
     let (rt, queue) = (agents.context.rt, &agents.context.state.conductor);
     let _ = queue.submit(rt, &mut closing, Command::Close);
-    gather(agents, published, conductor, subscriber, sender, receiver)
+    gather(agents, parties, conductor, sender)
 }
 
-/// Runs a thread for each publisher, one for the sender, the receiver, the subscriber and the conductor; the calling thread
-/// watches. It ends when all of them have stopped.
+/// Runs a thread for each publisher, two for each receiver, its agent's and its subscriber's, and one for the sender and the
+/// conductor; the calling thread watches. It ends when all of them have stopped.
 ///
 /// The fault is that of a thread, or `Device` where one can't be started; then the others have stopped, too.
 pub fn run_agents<
-    N: Named + Send,
     R: Threads + Wait + Clock + Sync,
     D: Datagrams + Send + Drop,
     G: Gate + Sync,
     E: Write + Drop,
->(agents: &Agents<'_, N, R, G>, passes: Passes<D>, watch: Watch<E>) -> Result<Returned, DeviceError>
-    requires passes { ArePasses agents.now.context.now.state.now.log agents.now.context.now.state.now.conductor agents.now.size.publishers passes }
+>(agents: &Agents<'_, R, G>, passes: Passes<D>, watch: Watch<E>) -> Result<Returned, DeviceError>
+    requires passes { ArePasses agents.now.context.now.state.now.log agents.now.context.now.state.now.conductor agents.now.size passes }
     requires set { IsSet agents.now.context.now.state.now.log agents.now.size }
-    requires named { agents.now.receiver.now.counters ≡ N.counters }
-    requires counters { watch.reader.counters ≡ agents.now.receiver.now.counters }
     ensures { IfOk result (λ r. AreReturned agents.now.context.now.state.now.log agents.now.size passes r) }
 {
     thread::scope(
         thread::scope_env(),
         agents.context.rt,
         move |scope| -> Result<Returned, DeviceError>
-            requires { ArePasses agents.now.context.now.state.now.log agents.now.context.now.state.now.conductor agents.now.size.publishers passes × IsSet agents.now.context.now.state.now.log agents.now.size × (agents.now.receiver.now.counters ≡ N.counters) × (watch.reader.counters ≡ agents.now.receiver.now.counters) }
+            requires { ArePasses agents.now.context.now.state.now.log agents.now.context.now.state.now.conductor agents.now.size passes × IsSet agents.now.context.now.state.now.log agents.now.size }
             ensures { IfOk result (λ r. AreReturned agents.entry.now.context.now.state.now.log agents.entry.now.size passes r) }
         { run_in(scope, agents, passes, watch) },
     )

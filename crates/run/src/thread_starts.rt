@@ -3,25 +3,29 @@
 //! What a thread promises is known of a closure that holds plain references, and not of one that holds a struct of them: so
 //! the context is taken apart before such a closure, and put together in it.
 
-ghost use Rattle.std.specs.Prelude.{◌≡◌, ◌≤◌, ◌<◌, ◌^◌, IfOk};
+ghost use Rattle.std.specs.Prelude.{◌≡◌, ◌≤◌, ◌<◌, ◌^◌, ℕ, IfOk, length};
+ghost use Rattle.std.specs.Arc.{arc_value};
 ghost use Rattle.endpoint.specs.declared.device_error.DeviceError.TheVariants.{Device};
 ghost use Rattle.shared_log.specs.Books.{IsDone};
 ghost use Rattle.shared_log.specs.Parts.{IsNewReader};
 ghost use Rattle.run_parties.specs.Messages.{HasPublished};
 ghost use Rattle.run_parties.specs.Passes.{IsKept};
 ghost use Rattle.run_parties.specs.Tallies.{IsTally};
-ghost use Rattle.run.specs.Threads.{IsSet};
+ghost use Rattle.theory.specs.Position.{Geometry};
+ghost use Rattle.run.specs.Threads.{IsSet, IsWaitingReceiver};
 
-use crate::passes::Agents;
+use crate::passes::{Agents, Waiting};
 use agents::Named;
 use conductor::{Client, Taker};
-use endpoint::{Datagrams, DeviceError};
+use endpoint::{Datagrams, DeviceError, Fan};
 use run_parties::{
-    Context, Gate, Published, RunState, Tally, Task, publish, receive, send, steer, subscribe,
+    Context, Gate, Published, RunState, SharedReceiver, Tally, Task, publish, receive, send, steer,
+    subscribe,
 };
 use shared_log::{Keeper, Log, LogReader, Publisher};
+use std::marker::Brand;
 use std::snapshot::Snapshot;
-use std::sync::Wait;
+use std::sync::{Arc, Wait};
 use std::thread::{JoinHandle, Promise, PromisedHandle, Scope, Threads};
 use std::time::Clock;
 
@@ -66,8 +70,15 @@ pub type Publishing = PromisedHandle<Result<Published, DeviceError>, PublisherBa
 /// The thread of the conductor.
 pub type Steering = PromisedHandle<Keeper, KeeperBack>;
 
-/// The thread of the subscriber.
+/// The thread of a subscriber.
 pub type Subscribing = PromisedHandle<Result<Tally, DeviceError>, TallyOf>;
+
+/// The threads of a receiver, of which one may not have been started.
+#[derive(Drop)]
+pub struct Receiving {
+    pub agent: Result<Agent, DeviceError>,
+    pub subscriber: Result<Subscribing, DeviceError>,
+}
 
 /// No thread could be started: that stops all.
 fn halted(state: &RunState) -> DeviceError
@@ -78,9 +89,9 @@ fn halted(state: &RunState) -> DeviceError
 }
 
 /// Starts the thread of a publisher.
-pub fn start_publisher<'s, S, N: Named + Send, R: Clock + Sync, G: Gate + Sync>(
+pub fn start_publisher<'s, S, R: Clock + Sync, G: Gate + Sync>(
     scope: &'s Scope<'s, S>,
-    agents: &'s Agents<'s, N, R, G>,
+    agents: &'s Agents<'s, R, G>,
     publisher: Publisher,
 ) -> Result<Publishing, DeviceError>
     requires done { IsDone agents.now.context.now.state.now.log publisher }
@@ -116,20 +127,14 @@ pub fn start_publisher<'s, S, N: Named + Send, R: Clock + Sync, G: Gate + Sync>(
 }
 
 /// Starts the thread of the sender.
-pub fn start_sender<
-    's,
-    S,
-    N: Named + Send,
-    R: Wait + Clock + Sync,
-    D: Datagrams + Send + Drop + 's,
-    G: Gate + Sync,
->(
+pub fn start_sender<'s, S, R: Wait + Clock + Sync, D: Datagrams + Send + Drop + 's, G: Gate + Sync>(
     scope: &'s Scope<'s, S>,
-    agents: &'s Agents<'s, N, R, G>,
-    device: D,
+    agents: &'s Agents<'s, R, G>,
+    device: Fan<D>,
     reader: LogReader,
     client: Client,
 ) -> Result<Agent, DeviceError>
+    requires ways { length device.ways ≤ 8 }
     requires reader { IsNewReader agents.now.context.now.state.now.log 0 reader }
     requires set { IsSet agents.now.context.now.state.now.log agents.now.size }
     requires queue { client.queue ≡ agents.now.context.now.state.now.conductor }
@@ -140,36 +145,43 @@ pub fn start_sender<
     Ok(handle)
 }
 
-/// Starts the thread of the receiver.
-pub fn start_receiver<
+/// Starts the thread of a receiver's agent.
+fn start_agent<
     's,
     S,
-    N: Named + Send,
+    N: Named + Send + 's,
     R: Wait + Clock + Sync,
     D: Datagrams + Send + Drop + 's,
     G: Gate + Sync,
->(scope: &'s Scope<'s, S>, agents: &'s Agents<'s, N, R, G>, device: D) -> Result<Agent, DeviceError>
-    requires { agents.now.receiver.now.counters ≡ N.counters }
+>(
+    scope: &'s Scope<'s, S>,
+    agents: &'s Agents<'s, R, G>,
+    receiver: Arc<SharedReceiver<N>>,
+    number: u64,
+    device: D,
+) -> Result<Agent, DeviceError>
+    requires { arc_value (arc_value receiver).counters ≡ N.counters }
 {
     let Ok(handle) = scope.spawn(
         move || -> Result<(), DeviceError>
-            requires { agents.now.receiver.now.counters ≡ N.counters }
-        { receive(agents.context, agents.receiver, device) },
+            requires { arc_value (arc_value receiver).counters ≡ N.counters }
+        { receive(agents.context, &receiver, number, device) },
     ) else {
         return Err(halted(agents.context.state));
     };
     Ok(handle)
 }
 
-/// Starts the thread of the subscriber.
-pub fn start_subscriber<'s, S, N: Named + Send, R: Wait + Clock + Sync, G: Gate + Sync>(
+/// Starts the thread of a subscriber.
+fn start_subscriber<'s, S, N: Named + Send + 's, R: Wait + Clock + Sync, G: Gate + Sync>(
     scope: &'s Scope<'s, S>,
-    agents: &'s Agents<'s, N, R, G>,
+    agents: &'s Agents<'s, R, G>,
+    receiver: Arc<SharedReceiver<N>>,
 ) -> Result<Subscribing, DeviceError>
     requires { IsSet agents.now.context.now.state.now.log agents.now.size }
     ensures { IfOk result (λ h. h.promise.wanted ≡ agents.now.size.wanted) }
 {
-    let (receiver, wanted) = (agents.receiver, agents.size.wanted);
+    let wanted = agents.size.wanted;
     let &Context {
         rt,
         alloc,
@@ -177,25 +189,102 @@ pub fn start_subscriber<'s, S, N: Named + Send, R: Wait + Clock + Sync, G: Gate 
         gate,
         turns,
     } = agents.context;
-    let Ok(handle) = scope.spawn_with(TallyOf { wanted }, move || {
-        let context = Context {
-            rt,
-            alloc,
-            state,
-            gate,
-            turns,
-        };
-        subscribe(&context, receiver, wanted)
-    }) else {
+    let Ok(handle) = scope.spawn_with(
+        TallyOf { wanted },
+        move || -> Result<Tally, DeviceError>
+            requires { wanted < 2 ^ 63 }
+            ensures { IfOk result (λ tally. (tally.polled ≤ wanted) × IsTally tally) }
+        {
+            let context = Context {
+                rt,
+                alloc,
+                state,
+                gate,
+                turns,
+            };
+            subscribe(&context, &receiver, wanted)
+        },
+    ) else {
         return Err(halted(state));
     };
     Ok(handle)
 }
 
-/// Starts the thread of the conductor.
-pub fn start_conductor<'s, S, N: Named + Send, R: Wait + Clock + Sync, G: Gate + Sync>(
+/// Two owners of what a receiver's threads share. Where memory is refused all stops.
+fn shared_twice<N: Named, R, G>(
+    agents: &Agents<'_, R, G>,
+    receiver: SharedReceiver<N>,
+) -> Result<(Arc<SharedReceiver<N>>, Arc<SharedReceiver<N>>), DeviceError>
+    ensures { IfOk result (λ p. arc_value p.0 ≡ receiver) }
+{
+    let state = agents.context.state;
+    let Ok(one) = Arc::new(agents.context.alloc, receiver) else {
+        state.stop();
+        return Err(DeviceError::Memory);
+    };
+    let Ok(other) = Arc::try_clone(&one) else {
+        state.stop();
+        return Err(DeviceError::Memory);
+    };
+    Ok((one, other))
+}
+
+/// Starts the two threads of a receiver whose counters have this name.
+fn start_named<
+    's,
+    S,
+    N: Named + Send + 's,
+    R: Wait + Clock + Sync,
+    D: Datagrams + Send + Drop + 's,
+    G: Gate + Sync,
+>(
     scope: &'s Scope<'s, S>,
-    agents: &'s Agents<'s, N, R, G>,
+    agents: &'s Agents<'s, R, G>,
+    waiting: Waiting<D>,
+) -> Result<Receiving, DeviceError>
+    requires waits { (g : Geometry) × (count : ℕ) × (n : ℕ) × IsWaitingReceiver g count n waiting }
+    requires named { arc_value waiting.counters ≡ N.counters }
+    requires set { IsSet agents.now.context.now.state.now.log agents.now.size }
+    ensures { IfOk result (λ r. IfOk r.subscriber (λ h. h.promise.wanted ≡ agents.now.size.wanted)) }
+{
+    let Waiting {
+        number,
+        subscriber,
+        counters,
+        writer,
+        device,
+    } = waiting;
+    let receiver = SharedReceiver::<N>::new(subscriber, writer, counters);
+    let (one, other) = shared_twice(agents, receiver)?;
+    Ok(Receiving {
+        agent: start_agent(scope, agents, one, number, device),
+        subscriber: start_subscriber(scope, agents, other),
+    })
+}
+
+/// Starts the two threads of a receiver, its agent's and its subscriber's.
+pub fn start_receiver<
+    's,
+    S,
+    R: Wait + Clock + Sync,
+    D: Datagrams + Send + Drop + 's,
+    G: Gate + Sync,
+>(
+    scope: &'s Scope<'s, S>,
+    agents: &'s Agents<'s, R, G>,
+    waiting: Waiting<D>,
+) -> Result<Receiving, DeviceError>
+    requires waits { (g : Geometry) × (count : ℕ) × (n : ℕ) × IsWaitingReceiver g count n waiting }
+    requires set { IsSet agents.now.context.now.state.now.log agents.now.size }
+    ensures { IfOk result (λ r. IfOk r.subscriber (λ h. h.promise.wanted ≡ agents.now.size.wanted)) }
+{
+    start_named::<S, Brand, R, D, G>(scope, agents, waiting)
+}
+
+/// Starts the thread of the conductor.
+pub fn start_conductor<'s, S, R: Wait + Clock + Sync, G: Gate + Sync>(
+    scope: &'s Scope<'s, S>,
+    agents: &'s Agents<'s, R, G>,
     keeper: Keeper,
     taker: Taker,
 ) -> Result<Steering, DeviceError>

@@ -1,12 +1,13 @@
 //! What the starting thread does while the others run.
 
 ghost use Rattle.std.specs.Prelude.{◌≡◌};
+ghost use Rattle.std.specs.Arc.{arc_value};
 ghost use Rattle.run.specs.Doings.{done_since};
 
-use counters::{CounterReader, Counters};
+use counters::{CounterReader, Counters, Readings};
 use run_parties::{Done, RunState};
 use std::io::Write;
-use std::sync::Wait;
+use std::sync::{Arc, Wait};
 use std::thread;
 use std::time::{Clock, Duration};
 
@@ -15,11 +16,27 @@ const LOOK: u64 = 1;
 
 const LOOKS: u32 = 1000;
 
-/// Where a line of counters goes once a second, if they are to be shown.
+/// A receiver's counters, and a reader of them.
+#[derive(Drop)]
+pub struct Shown {
+    pub counters: Arc<Counters>,
+    pub reader: CounterReader,
+    pub ghost same: { reader.counters ≡ arc_value counters },
+}
+
+impl Shown {
+    /// Reads them.
+    fn read<R: Wait>(&mut self, rt: &R) -> Readings {
+        self.counters.read(rt, &mut self.reader)
+    }
+}
+
+/// Where a line of all receivers' counters goes once a second, if they are to be shown.
 #[derive(Drop)]
 pub struct Watch<E> {
     pub errors: E,
-    pub reader: CounterReader,
+    /// By the receivers' numbers.
+    pub shown: Vec<Shown>,
     pub shows: bool,
 }
 
@@ -35,36 +52,28 @@ fn done_since(before: Done, done: Done) -> Done
 }
 
 impl<E: Write> Watch<E> {
-    /// A line: the three positions, and what was done since the line before.
-    fn tell<R: Wait>(&mut self, rt: &R, state: &RunState, counters: &Counters, before: Done) -> Done
-        requires { self.old.reader.counters ≡ counters.now }
-        ensures { self.new.reader.counters ≡ self.old.reader.counters }
-    {
+    /// A line: the three positions of each receiver, and what was done since the line before.
+    fn tell<R: Wait>(&mut self, rt: &R, state: &RunState, before: Done) -> Done {
         let done = state.done();
-        let readings = counters.read(rt, &mut self.reader);
+        for shown in self.shown.iter_mut() {
+            let readings = shown.read(rt);
+            let _ = write!(
+                self.errors,
+                "least {} rebuilt {} high-water {} ",
+                readings.least, readings.rebuilt, readings.high_water
+            );
+        }
         let since = done_since(before, done);
         let _ = writeln!(
             self.errors,
-            "least {} rebuilt {} high-water {} sent {} resent {} polled {}",
-            readings.least,
-            readings.rebuilt,
-            readings.high_water,
-            since.sent,
-            since.resent,
-            since.polled
+            "sent {} resent {} polled {}",
+            since.sent, since.resent, since.polled
         );
         done
     }
 
     /// Waits until all is to stop, and tells once a second what was done, if it is to be shown.
-    pub(crate) fn until_stopped<R: Wait + Clock>(
-        &mut self,
-        rt: &R,
-        state: &RunState,
-        counters: &Counters,
-    )
-        requires { self.old.reader.counters ≡ counters.now }
-    {
+    pub(crate) fn until_stopped<R: Wait + Clock>(&mut self, rt: &R, state: &RunState) {
         let mut done = state.done();
         let mut looks: u32 = 0;
         for _ in rt.forever() {
@@ -75,7 +84,7 @@ impl<E: Write> Watch<E> {
             looks = looks.wrapping_add(1);
             if looks >= LOOKS && self.shows {
                 looks = 0;
-                done = self.tell(rt, state, counters, done);
+                done = self.tell(rt, state, done);
             }
         }
     }

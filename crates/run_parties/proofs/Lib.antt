@@ -2,3 +2,4 @@ pub mod NewRunLogs
 pub mod Numbers
 pub mod Orders
 pub mod Publishing
+pub mod Seeds

@@ -1,4 +1,5 @@
 pub mod Devices
+pub mod Groups
 pub mod Messages
 pub mod Passes
 pub mod Receivers

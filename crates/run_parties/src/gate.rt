@@ -4,7 +4,8 @@
 #[derive(Clone, Copy, Debug, PartialEq, Eq)]
 pub enum Role {
     Sender,
-    Receiver,
+    /// The receiver with this number, 0 to 7.
+    Receiver(u64),
     Conductor,
     /// The publisher with this number, 0 to 7; each of its offers is a cycle.
     Publisher(u64),

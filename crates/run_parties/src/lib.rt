@@ -1,10 +1,10 @@
-//! What each thread of a run of the driver does, turn by turn: a publisher, the sender, the receiver, the subscriber
+//! What each thread of a run of the driver does, turn by turn: a publisher, the sender, a receiver, a subscriber
 //! and the conductor, over what they share (`RunState`) and are lent (`Context`); and a tally of what was polled.
 //!
 //! A run begins with a log of its session and stream that begins at 0, and all its passes (`open_run_log`, by
-//! `IsNewRunLog`), with a receiver that has met nothing, its window half a term, and counters at zero
-//! (`receiver_parts`, by `AreReceiverParts`), and with two devices that lose by words of two seeds (`device_pair`, by
-//! `AreLossy`). Each thread gives its pass of
+//! `IsNewRunLog`), with receivers that have met nothing, each with its window of half a term and counters at zero
+//! (`receiver_parts`, by `AreReceiverParts`), and with two devices for each, a way of the sender's and its own, that lose by
+//! words of two seeds (`lossy_devices`, by `AreLossy`). Each thread gives its pass of
 //! the log back with nothing open (`Ends`, `IsKept`); cycles, polls and counters keep what their crates ask for
 //! (`subscribe`, `steer`, `send`, `receive`). A message of a run is its publisher's number, its own count and zeros
 //! (`message_of`). What a publisher has claimed more is its messages 0, 1, 2 and so on, as many as it tells were accepted,
@@ -12,13 +12,15 @@
 //!
 //! A tally of messages tells how many they are, and whether each publisher's are its 0, 1, 2 and so on
 //! (`Tally::take`, `polled`, `is_in_order`; `IsTallyOf`, `AreInOrder`); the subscriber's is one, and counts no more than
-//! was wanted. What the threads tell one another by what they share isn't said, nor that one gets on.
+//! was wanted. A subscriber that has polled all lets the others go on, unless it is the last one (`ends_all`). What the
+//! threads tell one another by what they share isn't said, nor that one gets on.
 #![tactic(auto)]
 
 mod conductor_turns;
 mod context;
 mod devices;
 mod gate;
+mod group;
 mod publisher_turns;
 mod receiver_turns;
 mod run_log;
@@ -30,8 +32,9 @@ mod tally;
 
 pub use conductor_turns::steer;
 pub use context::Context;
-pub use devices::device_pair;
+pub use devices::{LossyDevices, lossy_devices};
 pub use gate::{Gate, Open, Role};
+pub use group::receiver_id;
 pub use publisher_turns::{Published, Task, publish};
 pub use receiver_turns::receive;
 pub use run_log::{RunLog, open_run_log};

@@ -1,6 +1,7 @@
 //! What the threads of a run share.
 
 ghost use Rattle.std.specs.Prelude.{◌≡◌};
+ghost use Rattle.run_parties.specs.Groups.{ends_all};
 
 use agents::Began;
 use conductor::Conductor;
@@ -14,6 +15,8 @@ pub struct RunState {
     pub conductor: Conductor,
     pub(crate) began: Began,
     stopped: AtomicBool,
+    /// How many subscribers haven't ended.
+    left: AtomicU64,
     sent: AtomicU64,
     resent: AtomicU64,
     polled: AtomicU64,
@@ -27,8 +30,16 @@ pub struct Done {
     pub polled: u64,
 }
 
+/// Whether all is to stop where a subscriber has ended that has polled all or not, of so many that were left.
+fn ends_all(is_complete: bool, left: u64) -> bool
+    ensures { result ≡ ends_all is_complete left }
+{
+    !is_complete || left <= 1
+}
+
 impl RunState {
-    pub fn new(log: Log, conductor: Conductor, began: Began) -> RunState
+    /// What the parties of a run share that has so many receivers.
+    pub fn new(log: Log, conductor: Conductor, began: Began, receivers: usize) -> RunState
         ensures log { result.log ≡ log }
         ensures conductor { result.conductor ≡ conductor }
     {
@@ -37,6 +48,7 @@ impl RunState {
             conductor,
             began,
             stopped: AtomicBool::new(false),
+            left: AtomicU64::new(receivers as u64),
             sent: AtomicU64::new(0),
             resent: AtomicU64::new(0),
             polled: AtomicU64::new(0),
@@ -65,9 +77,17 @@ impl RunState {
         self.resent.store(resent, Ordering::SeqCst);
     }
 
-    /// The subscriber tells how many messages it has polled so far.
-    pub fn tell_polled(&self, polled: u64) {
-        self.polled.store(polled, Ordering::SeqCst);
+    /// A subscriber tells how many messages more it has polled.
+    pub fn tell_polled(&self, more: u64) {
+        self.polled.fetch_add(more, Ordering::SeqCst);
+    }
+
+    /// A subscriber has ended, with all messages polled or not. All is to stop where it hasn't polled all, or was the last one.
+    pub fn leave(&self, is_complete: bool) {
+        let left = self.left.fetch_sub(1, Ordering::SeqCst);
+        if ends_all(is_complete, left) {
+            self.stop();
+        }
     }
 
     pub fn done(&self) -> Done {

@@ -1,24 +1,25 @@
 //! The sender's turns.
 
-ghost use Rattle.std.specs.Prelude.{◌≡◌};
+ghost use Rattle.std.specs.Prelude.{◌≡◌, ◌≤◌};
 ghost use Rattle.shared_log.specs.Parts.{IsNewReader};
 ghost use Rattle.agents.specs.LogSenders.{SendsLog};
 ghost use Rattle.run_parties.specs.RunLogs.{IsRunLog};
 
 use crate::context::Context;
 use crate::gate::{Gate, Role};
-use agents::{Duty, IdleStrategy, LogSender, open_sender};
+use crate::group::group_of;
+use agents::{Duty, IdleStrategy, StreamSender, open_stream_sender};
 use conductor::Client;
-use endpoint::{Datagrams, DeviceError};
+use endpoint::{DeviceError, Ways};
 use loss_injector::Metered;
 use shared_log::LogReader;
 use std::sync::Wait;
 use std::time::Clock;
 
 /// A cycle, and what it sent told to the others.
-fn send_once<R: Wait + Clock, D: Datagrams, G>(
+fn send_once<R: Wait + Clock, D: Ways, G>(
     context: &Context<'_, R, G>,
-    agent: &mut LogSender<'_>,
+    agent: &mut StreamSender<'_>,
     client: &mut Client,
     duty: &mut Duty<Metered<D>>,
 ) -> Result<bool, DeviceError>
@@ -31,15 +32,15 @@ fn send_once<R: Wait + Clock, D: Datagrams, G>(
 {
     let (rt, state) = (context.rt, context.state);
     let now = state.began.moment(rt)?;
-    let busy = agent.cycle(rt, &state.conductor, client, duty, now)?;
+    let busy = agent.cycle_ways(rt, &state.conductor, client, duty, now)?;
     state.tell_sent(duty.device().sent(), duty.device().resent());
     Ok(busy)
 }
 
 /// Sends until all is to stop, or its turns are used.
-fn send_on<R: Wait + Clock, D: Datagrams, G: Gate>(
+fn send_on<R: Wait + Clock, D: Ways, G: Gate>(
     context: &Context<'_, R, G>,
-    agent: &mut LogSender<'_>,
+    agent: &mut StreamSender<'_>,
     client: &mut Client,
     duty: &mut Duty<Metered<D>>,
 ) -> Result<(), DeviceError>
@@ -60,33 +61,37 @@ fn send_on<R: Wait + Clock, D: Datagrams, G: Gate>(
     Ok(())
 }
 
-/// Sends all that the log's reader finds, over a device.
-fn send_log<R: Wait + Clock, D: Datagrams + Drop, G: Gate>(
+/// Sends all that the log's reader finds, over a device, along each of its ways to a receiver.
+fn send_log<R: Wait + Clock, D: Ways + Drop, G: Gate>(
     context: &Context<'_, R, G>,
     device: D,
     reader: LogReader,
     client: &mut Client,
 ) -> Result<(), DeviceError>
+    requires ways { D.way_count device ≤ 8 }
     requires reader { IsNewReader context.now.state.now.log 0 reader }
     requires log { IsRunLog context.now.state.now.log }
     requires queue { client.old.queue ≡ context.now.state.now.conductor }
 {
     let (alloc, log) = (context.alloc, &context.state.log);
     let geometry = log.identity().geometry();
-    let mut agent = open_sender(alloc, log, reader)?;
+    let group = group_of(device.ways());
+    let mut agent = open_stream_sender(alloc, log, reader, group)?;
     let device = Metered::new(device, geometry);
     let mut duty = Duty::new(alloc, device, geometry.mtu())?;
     send_on(context, &mut agent, client, &mut duty)
 }
 
-/// Sends until all is to stop or its turns are used, and then stops all. The fault is `Device` where the device failed or the
+/// Sends along each way of a device, to a receiver each, until all is to stop or its turns are used, and then stops all. From
+/// two ways on the receivers are a group, by their ids. The fault is `Device` where the device failed or the
 /// clock can't be read, and `Memory` where memory was refused; it stops all, too.
-pub fn send<R: Wait + Clock, D: Datagrams + Drop, G: Gate>(
+pub fn send<R: Wait + Clock, D: Ways + Drop, G: Gate>(
     context: &Context<'_, R, G>,
     device: D,
     reader: LogReader,
     mut client: Client,
 ) -> Result<(), DeviceError>
+    requires ways { D.way_count device ≤ 8 }
     requires reader { IsNewReader context.now.state.now.log 0 reader }
     requires log { IsRunLog context.now.state.now.log }
     requires queue { client.queue ≡ context.now.state.now.conductor }

@@ -1,6 +1,7 @@
-//! The receiver of a run, its subscriber and its counters.
+//! A receiver of a run, its subscriber and its counters.
 
 ghost use Rattle.std.specs.Prelude.{◌≡◌, None, IfOk};
+ghost use Rattle.std.specs.Arc.{arc_value};
 ghost use Rattle.counters.specs.Order.{zeros};
 ghost use Rattle.receiver.specs.Receiving.{Receiver};
 ghost use Rattle.receiver.specs.Subscribing.{RepresentsSubscriber};
@@ -12,16 +13,13 @@ use counters::{CounterReader, CounterWriter, Counters};
 use position::Geometry;
 use receiver::{ReceiverCore, Subscriber};
 use std::alloc::{AllocError, Global};
-use std::sync::Mutex;
-
-/// The receiver's id.
-const RECEIVER: i64 = 1;
+use std::sync::{Arc, Mutex};
 
 /// A subscriber of a run's stream that has met nothing, and counters at zero with their writer and a reader of them.
 #[derive(Drop)]
 pub struct ReceiverParts {
     pub subscriber: Subscriber,
-    pub counters: Counters,
+    pub counters: Arc<Counters>,
     pub writer: CounterWriter,
     pub reader: CounterReader,
 }
@@ -30,7 +28,7 @@ pub struct ReceiverParts {
 #[derive(Drop)]
 pub struct SharedReceiver<N: Named> {
     pub agent: Mutex<ReceiverAgent<N>>,
-    pub counters: Counters,
+    pub counters: Arc<Counters>,
 }
 
 impl<N: Named> SharedReceiver<N> {
@@ -38,7 +36,7 @@ impl<N: Named> SharedReceiver<N> {
     pub fn new(
         subscriber: Subscriber,
         writer: CounterWriter,
-        counters: Counters,
+        counters: Arc<Counters>,
     ) -> SharedReceiver<N>
         requires image { (r : Receiver) × RepresentsSubscriber subscriber r × (r.image ≡ None) }
         requires nothing { writer.last ≡ zeros }
@@ -52,27 +50,31 @@ impl<N: Named> SharedReceiver<N> {
     }
 }
 
-/// A subscriber of a run's stream that has met nothing. Its window is half a term, and it takes messages as long as the
+/// A subscriber of a run's stream that has met nothing, of the receiver with this id. Its window is half a term, and it takes messages as long as the
 /// geometry lets one be.
-fn new_subscriber(alloc: Global, geometry: &Geometry) -> Result<Subscriber, AllocError>
-    ensures { IfOk result (λ s. RepresentsSubscriber s (new_receiver geometry.now)) }
+fn new_subscriber(alloc: Global, geometry: &Geometry, id: i64) -> Result<Subscriber, AllocError>
+    ensures { IfOk result (λ s. RepresentsSubscriber s (new_receiver geometry.now id)) }
 {
     let window = geometry.term_length() / 2;
-    let core = ReceiverCore::new(alloc, SESSION, STREAM, window, RECEIVER, 1);
+    let core = ReceiverCore::new(alloc, SESSION, STREAM, window, id, 1);
     let greatest = geometry.max_message() as usize;
     Ok(Subscriber::new(alloc, core, greatest)?)
 }
 
-/// What the receiver of a run over this geometry begins with. The error comes only where memory is refused.
-pub fn receiver_parts(alloc: Global, geometry: &Geometry) -> Result<ReceiverParts, AllocError>
-    ensures { IfOk result (AreReceiverParts geometry.now) }
+/// What the receiver of a run over this geometry begins with that has this id. The error comes only where memory is refused.
+pub fn receiver_parts(
+    alloc: Global,
+    geometry: &Geometry,
+    id: i64,
+) -> Result<ReceiverParts, AllocError>
+    ensures { IfOk result (AreReceiverParts geometry.now id) }
 {
     let (counters, mut writer) = Counters::new(alloc)?;
     let reader = counters.reader(&mut writer);
-    let subscriber = new_subscriber(alloc, geometry)?;
+    let subscriber = new_subscriber(alloc, geometry, id)?;
     Ok(ReceiverParts {
         subscriber,
-        counters,
+        counters: Arc::new(alloc, counters)?,
         writer,
         reader,
     })

@@ -1,6 +1,6 @@
-//! The subscriber's turns.
+//! A subscriber's turns.
 
-ghost use Rattle.std.specs.Prelude.{◌≡◌, ◌+◌, ◌≤◌, ◌<◌, ◌^◌, IfOk};
+ghost use Rattle.std.specs.Prelude.{◌≡◌, ◌+◌, ◌≤◌, ◌<◌, ◌^◌, ◌↔◌, IfOk, IsOkAnd, IsTrue};
 ghost use Rattle.run_parties.specs.Tallies.{IsTally};
 
 use crate::context::Context;
@@ -74,16 +74,30 @@ fn subscribe_on<N: Named, R: Wait + Clock, G>(
         if tally.polled() >= wanted || context.state.is_stopped() {
             break;
         }
-        let most = (wanted - tally.polled()).min(MESSAGES);
+        let before = tally.polled();
+        let most = (wanted - before).min(MESSAGES);
         let busy = poll_some(context.rt, &receiver.agent, most, &mut tally)?;
-        context.state.tell_polled(tally.polled());
+        context
+            .state
+            .tell_polled(tally.polled().saturating_sub(before));
         idle.after(context.rt, busy);
     }
     Ok(tally)
 }
 
-/// Polls, at most 16 messages in a turn, until so many were there, all is to stop or its turns are used, and then stops all.
-/// The answer is the tally of what was polled. The fault is `Memory`, where memory was refused; it stops all, too.
+/// Whether a subscriber that ended so has polled as many as were wanted.
+fn is_complete(ended: &Result<Tally, DeviceError>, wanted: u64) -> bool
+    ensures { IsTrue result ↔ IsOkAnd ended.now (λ tally. wanted ≤ tally.polled) }
+{
+    match ended {
+        Ok(tally) => tally.polled() >= wanted,
+        Err(_) => false,
+    }
+}
+
+/// Polls, at most 16 messages in a turn, until so many were there, all is to stop or its turns are used. Where so many weren't
+/// there it then stops all, and else only as the last subscriber to end. The answer is the tally of what was polled. The
+/// fault is `Memory`, where memory was refused; it stops all, too.
 pub fn subscribe<N: Named, R: Wait + Clock, G>(
     context: &Context<'_, R, G>,
     receiver: &SharedReceiver<N>,
@@ -93,7 +107,7 @@ pub fn subscribe<N: Named, R: Wait + Clock, G>(
     ensures most { IfOk result (λ tally. tally.polled ≤ wanted) }
     ensures tally { IfOk result IsTally }
 {
-    let tally = subscribe_on(context, receiver, wanted);
-    context.state.stop();
-    tally
+    let ended = subscribe_on(context, receiver, wanted);
+    context.state.leave(is_complete(&ended, wanted));
+    ended
 }

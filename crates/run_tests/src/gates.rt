@@ -2,7 +2,7 @@
 
 use endpoint::DeviceError;
 use options::{Plan, RunOptions, defaults, plan};
-use run::{Ending, Gate, Outcome, Role, run};
+use run::{Ending, Gate, Outcome, Polled, Role, run};
 use std::alloc::Global;
 use std::net::Net;
 use std::sync::Wait;
@@ -16,9 +16,10 @@ use std::time::Clock;
 const PATIENCE: u32 = 20_000_000;
 
 /// The parties that have cycles.
-const ROLES: [Role; 5] = [
+const ROLES: [Role; 6] = [
     Role::Sender,
-    Role::Receiver,
+    Role::Receiver(0),
+    Role::Receiver(1),
     Role::Conductor,
     Role::Publisher(0),
     Role::Publisher(1),
@@ -56,10 +57,11 @@ impl Gate for Hold {
     }
 }
 
-/// Two publishers of ten messages.
+/// Two publishers of ten messages, and two receivers.
 fn small() -> RunOptions {
     let mut options = defaults();
     options.publishers = 2;
+    options.receivers = 2;
     options.messages = 10;
     options.turns = 1_000_000_000;
     options
@@ -87,6 +89,12 @@ fn run_held<R: Threads + Wait + Clock + Net + Sync>(
     Ok(Some(outcome))
 }
 
+/// What a subscriber has polled in the end.
+const ALL: Polled = Polled {
+    polled: 20,
+    kept: true,
+};
+
 /// Whether such a run polled all, in order.
 fn is_whole<R: Threads + Wait + Clock + Net + Sync>(
     rt: &R,
@@ -98,7 +106,7 @@ fn is_whole<R: Threads + Wait + Clock + Net + Sync>(
     match run_held(rt, alloc, plan, held, awaited) {
         Ok(Some(outcome)) => {
             outcome.ending() == Ending::Whole
-                && outcome.polled == 20
+                && outcome.tallies.as_slice() == [ALL, ALL].as_slice()
                 && outcome.accepted == [10, 10, 0, 0, 0, 0, 0, 0]
                 && outcome.book.tail == 5120
                 && outcome.book.shares == [2560, 2560, 0, 0, 0, 0, 0, 0]
@@ -111,8 +119,8 @@ fn is_whole<R: Threads + Wait + Clock + Net + Sync>(
 #[test]
 fn each_goes_on(rt: HostRuntime) -> Result<(), Fail> {
     let plan = plan(&small())?;
-    for pair in 0..25usize {
-        let (held, awaited) = (ROLES[pair / 5], ROLES[pair % 5]);
+    for pair in 0..36usize {
+        let (held, awaited) = (ROLES[pair / 6], ROLES[pair % 6]);
         if held != awaited {
             assert!(rt;
                 is_whole(&rt, rt.alloc(), &plan, held, awaited),

@@ -4,6 +4,7 @@ use Rattle.options.specs.declared.run.options.RunOptions.{RunOptions}
 
 pub record IsByDefault (o : RunOptions) : Type 0 where
   pub publishers : o.publishers ≡ 4
+  pub receivers : o.receivers ≡ 1
   pub messages : o.messages ≡ 1000
   pub length : o.length ≡ 200
   pub loss : o.loss ≡ 0

@@ -18,6 +18,7 @@ pub record IsPlanWith (geometry : Geometry) (rates : loss.Rates) (o : RunOptions
   pub shape : p.geometry ≡ geometry
   pub chances : p.rates ≡ rates
   pub publishers : p.publishers ≡ o.publishers
+  pub receivers : p.receivers ≡ o.receivers
   pub messages : p.messages ≡ o.messages
   pub length : p.length ≡ o.length
   pub seed : p.seed ≡ o.seed

@@ -12,7 +12,9 @@ pub struct Plan {
     pub rates: Rates,
     /// How many publishers, 1 to 8.
     pub publishers: usize,
-    /// How many messages each of them sends, 1 to 1,000,000.
+    /// How many receivers, 1 to 8; two and more are a group.
+    pub receivers: usize,
+    /// How many messages each publisher sends, 1 to 1,000,000.
     pub messages: u32,
     /// The bytes of a message, 8 to the most that the geometry lets one have.
     pub length: usize,
@@ -22,5 +24,5 @@ pub struct Plan {
     pub turns: u32,
     /// Whether the counters are shown.
     pub counters: bool,
-    pub ghost runnable: { IsRunnable geometry publishers messages length turns },
+    pub ghost runnable: { IsRunnable geometry publishers receivers messages length turns },
 }

@@ -5,7 +5,9 @@ ghost use Rattle.options.specs.Run.Ranges.{IsInRange};
 pub struct RunOptions {
     /// How many publishers, 1 to 8.
     pub publishers: u32,
-    /// How many messages each of them sends, 1 to 1,000,000.
+    /// How many receivers, 1 to 8.
+    pub receivers: u32,
+    /// How many messages each publisher sends, 1 to 1,000,000.
     pub messages: u32,
     /// The bytes of a message, 8 to 2,097,152.
     pub length: u32,
@@ -25,5 +27,5 @@ pub struct RunOptions {
     pub mtu: u32,
     /// Whether the counters are shown.
     pub counters: bool,
-    pub ghost in_range: { IsInRange publishers messages length loss repeat hold turns },
+    pub ghost in_range: { IsInRange publishers receivers messages length loss repeat hold turns },
 }

@@ -13,13 +13,14 @@ use position::Geometry;
 /// The id of a run's first term.
 const FIRST_TERM: i32 = 7;
 
-/// What a run is told where nothing else is said: 4 publishers of 1,000 messages of 200 bytes each, no losses, the seed
-/// 1, at most 1,000,000 turns of each thread, terms of 65,536 bytes, an MTU of 1,408 bytes and no counters.
+/// What a run is told where nothing else is said: 4 publishers of 1,000 messages of 200 bytes each, one receiver, no losses,
+/// the seed 1, at most 1,000,000 turns of each thread, terms of 65,536 bytes, an MTU of 1,408 bytes and no counters.
 pub fn defaults() -> RunOptions
     ensures { IsByDefault result }
 {
     RunOptions {
         publishers: 4,
+        receivers: 1,
         messages: 1000,
         length: 200,
         loss: 0,
@@ -59,6 +60,7 @@ fn planned(options: &RunOptions, geometry: Geometry, rates: Rates) -> Plan
         geometry,
         rates,
         publishers: options.publishers as usize,
+        receivers: options.receivers as usize,
         messages: options.messages,
         length: options.length as usize,
         seed: options.seed,

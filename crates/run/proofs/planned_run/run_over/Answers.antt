@@ -9,4 +9,4 @@ pub left-requires-clause-closes : goal.left-requires-clause-closes
 left-requires-clause-closes g c =
     let plan = c.args.plan.now in
     subst (λ (s : Size). CanClose c.into_log.result s c.in_ok-returned.returned c.in_ok-state.field-0.others.items) (sym c.size_of.ensures.value)
-    (can_close plan.geometry (size_of plan) c.in_ok-state.field-0 _ _ c.in_ok-state.ensures c.in_ok-returned.ensures c.into_log.ensures)
+    (can_close plan.geometry (size_of plan) c.in_ok-state.field-0 _ _ c.in_ok-state.ensures.begins c.in_ok-returned.ensures c.into_log.ensures)

@@ -1,0 +1,5 @@
+use Rattle.agent_way.specs.Senders.{IsSender}
+use Rattle.cycle_tests.proofs.group.rounds.Given as goal
+
+abbrev pub invariant-loop-number : goal.invariant-loop-number
+invariant-loop-number l = IsSender l.sender
