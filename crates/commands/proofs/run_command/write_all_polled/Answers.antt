@@ -15,6 +15,7 @@ pub loop-tally-init : goal.loop-tally-init
 loop-tally-init g c = Appends-nil (g.W.Write.contents c.args.output.now)
 
 pub loop-tally-preserved : goal.loop-tally-preserved
+unfolding none
 loop-tally-preserved g c =
     let i = c.loop-tally.tally-index in
     let ps = c.args.tallies.now in
