@@ -183,7 +183,10 @@ fn hold_up<R: Abort>(
     }
     rounds(alloc, sender, ways, HEARD, LAST + 1)?;
     assert!(rt; sender.position() == u64::from(WINDOW));
-    assert!(rt; ways.iter().all(|way| way.polled == if way.drops { 0 } else { 2 }));
+    assert!(rt;
+        ways.iter()
+            .all(|way| way.polled == if way.drops { 0 } else { 2 })
+    );
     Ok(())
 }
 
@@ -199,7 +202,9 @@ fn go_on<R: Abort>(
     round(alloc, sender, ways, LAST * STEP + 1)?;
     assert!(rt; sender.position() == 2 * u64::from(WINDOW));
     rounds(alloc, sender, ways, LAST + 1, LAST + 40)?;
-    assert!(rt; ways.iter().all(|way| way.kept && way.polled == if way.drops { 0 } else { MESSAGES }));
+    assert!(rt;
+        ways.iter().all(|way| way.kept && way.polled == if way.drops { 0 } else { MESSAGES })
+    );
     Ok(())
 }
 
@@ -263,7 +268,11 @@ fn break_second<R: Abort>(rt: &R, alloc: Global, log: &Log, reader: LogReader) -
     let mut duty = duty_over(alloc, Fan::new(broken_second(alloc)?), 1408)?;
     let answer = duty.cycle_ways(&mut sender, 0);
     assert!(rt; answer == Err(DeviceError::Device));
-    let counts = duty.device().each().iter().map(|way| way.inner().sent().len());
+    let counts = duty
+        .device()
+        .each()
+        .iter()
+        .map(|way| way.inner().sent().len());
     assert!(rt; counts.eq([1, 0, 0]));
     Ok(())
 }
