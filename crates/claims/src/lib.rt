@@ -6,8 +6,8 @@
 //! What is said of a claim is said of the two together: at most seven word steps, and a refusal justified by the words
 //! that they loaded or added to. A refused call gives the claimant back too (`Denied`).
 //!
-//! `Armed` and `Claim` can't be dropped, so a claimant has nothing open: `close` asks for no more than all passes, and its
-//! book has each frame of each entry committed.
+//! `Armed` and `Claim` can't be dropped, so a claimant has nothing open: `close` wants all passes and a keeper that has
+//! claimed nothing, asks nothing else of a claimant, and its book has each frame of each entry committed.
 #![tactic(auto)]
 
 mod armed;
