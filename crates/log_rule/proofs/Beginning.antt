@@ -1,5 +1,5 @@
 -- The words of a log that opens obey the rule.
-use Rattle.std.proofs.Common.{◌≡◌, inl, ℕ, zero, suc, ◌+◌, ◌*◌, ◌/◌, ◌%◌, ◌<◌, ◌≤◌, eqb, cond, Bool, true, false, List, [], ◌∷◌, replicate, length, set, length-set, get_or-set_same, get_or-set_other, sym, refl, ap, ◌∙◌, subst, ne_eqb, arith}
+use Rattle.std.proofs.Common.{◌≡◌, inl, ℕ, zero, suc, ◌+◌, ◌-◌, ◌*◌, ◌/◌, ◌%◌, ◌<◌, ◌≤◌, eqb, cond, Bool, true, false, List, [], ◌∷◌, replicate, length, set, length-set, get_or-set_same, get_or-set_other, sym, refl, ap, ◌∙◌, subst, ne_eqb, ◌++◌, length-append, lt_of_not-le, arith}
 use mathlib.Core.Option.{some, some-injective, some-ne-none}
 use mathlib.Core.Logic.{dite}
 use native.Mathlib.Decide.{dec_le, ℕ_discrete}
@@ -28,8 +28,8 @@ use Rattle.log_rule.specs.declared.rule.Key.{Key}
 use Rattle.log_rule.specs.Edges.{IsPlaced}
 use Rattle.log_rule.specs.Numbers.{Owns, numbers_as}
 use Rattle.log_rule.proofs.Owning.{down_once}
-use Rattle.log_rule.specs.Kept.{Attends, IsReader, Kept, reads_as}
-use Rattle.log_rule.specs.Table.{LogRuled, consumers_at, now_at, whole_pass, whole_seat}
+use Rattle.log_rule.specs.Kept.{Attends, IsReader, IsSeen, IsThere, Kept, reads_as}
+use Rattle.log_rule.specs.Table.{LogRuled, consumers_at, first_there, now_at, whole_pass, whole_seat}
 use Rattle.log_rule.specs.Opening.{Begun}
 
 abbrev pub origin_of : Key → Origin
@@ -52,7 +52,7 @@ begun_next start n words now wide few b = let i : ℕ = n * 16 + 80 in let e = b
   consumers = λ j lt. dite (ℕ_discrete j n)
       (λ same. (λ k. slice_index (set now i start) (consumer_place (same k))) ∙ get_or-set_same now i start 0 (let low : i < length now = omega arith in low))
       (λ ne. get_or-set_other now i (consumer_place j) start 0 (λ e. ne (omega arith)) ∙ b.consumers j (omega arith));
-  others = λ j ne far. get_or-set_other now i j start 0 (far n few) ∙ b.others j ne far;
+  others = λ j ne far. get_or-set_other now i j start 0 (far n (omega arith)) ∙ b.others j ne (λ k lt. far k (omega arith));
 }
 
 -- ---- numbers of a log that opens
@@ -79,14 +79,47 @@ readers_once start j k (suc n) = dite (dec_le j k)
     small true = omega arith
     small false = omega arith
 
-readers_right : (consumers : ℕ) (ws : List ℕ) (ps : List Pass) (start k n : ℕ) → ((j : ℕ) → j < consumers → slice_index ws (consumer_place j) ≡ start) → AllByRecursion (IsReader consumers ws ps) (consumers_at start k n)
-readers_right consumers ws ps start k zero at = tt
-readers_right consumers ws ps start k (suc n) at = (record { position = λ low. at k low; known = tt }, readers_right consumers ws ps start (suc k) n at)
+readers_right : (ws : List ℕ) (ps : List Pass) (start k n : ℕ) → ((j : ℕ) → k ≤ j → j < k + n → slice_index ws (consumer_place j) ≡ start) → AllByRecursion (IsReader ws ps) (consumers_at start k n)
+readers_right ws ps start k zero at = tt
+readers_right ws ps start k (suc n) at = (record { position = λ low. at k (omega arith) (omega arith); known = tt }, readers_right ws ps start (suc k) n (λ j le lt. at j (omega arith) (omega arith)))
 
 filled : (n start j : ℕ) → j < n → slice_index (replicate {A = ℕ} n start) j ≡ start
 filled zero start j lt = absurd (omega arith)
 filled (suc n) start zero lt = refl
 filled (suc n) start (suc j) lt = filled n start j (omega arith)
+
+flag_front : (n m j : ℕ) → j < n → slice_index (replicate n 1 ++ replicate m 0) j ≡ 1
+flag_front zero m j lt = absurd (omega arith)
+flag_front (suc n) m zero lt = refl
+flag_front (suc n) m (suc j) lt = flag_front n m j (omega arith)
+
+zero_at : (m j : ℕ) → slice_index (replicate {A = ℕ} m 0) j ≡ 0
+zero_at zero j = refl
+zero_at (suc m) zero = refl
+zero_at (suc m) (suc j) = zero_at m j
+
+flag_behind : (n m j : ℕ) → n ≤ j → slice_index (replicate n 1 ++ replicate m 0) j ≡ 0
+flag_behind zero m j le = zero_at m j
+flag_behind (suc n) m zero le = absurd (omega arith)
+flag_behind (suc n) m (suc j) le = flag_behind n m j (omega arith)
+
+-- those who are there from the start on are the first
+pub first_flag : (n j : ℕ) → IsThere (first_there n) j → j < n
+first_flag n j here = dite (dec_le n j) (λ past. absurd (let none = flag_behind n (8 - n) j past in omega arith)) (λ low. lt_of_not-le low)
+
+pub first_is : (n j : ℕ) → j < n → IsThere (first_there n) j
+first_is n j lt = flag_front n (8 - n) j lt
+
+pub first_none : (n j : ℕ) → n ≤ j → slice_index (first_there n) j ≡ 0
+first_none n j le = flag_behind n (8 - n) j le
+
+pub first_eight : (n : ℕ) → n ≤ 8 → length (first_there n) ≡ 8
+first_eight n few = length-append (replicate {A = ℕ} n 1) (replicate (8 - n) 0) ∙ (λ i. length-replicate {A = ℕ} n 1 i + length-replicate {A = ℕ} (8 - n) 0 i) ∙ (let e : n + (8 - n) ≡ 8 = omega arith in e)
+
+-- as many numbers are there, and no others
+readers_past : (start j k n : ℕ) → k + n ≤ j → total (reads_as j) (consumers_at start k n) ≡ 0
+readers_past start j k zero le = refl
+readers_past start j k (suc n) le = let r = readers_past start j (suc k) n (omega arith) in let z : reads_as j (record { number = k; position = start; known = []; misses = 0 }) ≡ 0 = ap (λ (b : Bool). cond b 1 0) (ne_eqb k j (λ e. omega arith)) in omega arith
 
 -- ---- the rule
 
@@ -118,39 +151,47 @@ opens key ws0 ws so count f o =
       memory = record {
         cleaned = omega arith;
         held = (let h = held in less (limit_in key.start + greatest_claim g * 8) (key.start + 3 * g.term_length) h);
-        zeros = λ x u above low. o.others (slot g x) (λ e. omega arith) (λ i lt e. far_off i (x / 8 % ring_of g) lt e) ∙ fresh_zeros b0 ws0 f (slot g x) (omega arith);
+        zeros = λ x u above low. o.others (slot g x) (λ e. omega arith) (λ i lt e. far_off i (x / 8 % ring_of g) (let l = lt in let f = count.1 in omega arith) e) ∙ fresh_zeros b0 ws0 f (slot g x) (omega arith);
         each = one_pass (Stored b ws) p record { stands = tt; placed = λ h. refl; aligned = tt; done = tt; undone = tt; kept = tt };
       };
     } in
     let few = count.1 in
-    let kept : Kept b key.consumers ws (p ∷ []) = record {
-      few = count.1;
-      any = count.0;
+    let there : List ℕ = first_there key.consumers in
+    let kept : Kept b there ws (p ∷ []) = record {
+      eight = first_eight key.consumers few;
+      flags = λ j. dite (dec_le key.consumers j) (λ past. let none = first_none key.consumers j past in omega arith) (λ low. let one = first_is key.consumers j (lt_of_not-le low) in omega arith);
+      one = 0;
+      any = first_is key.consumers 0 count.0;
       unit = (let u = so.unit in by_eight key.start u);
       ahead = held;
-      placed = λ j lt. subst (IsPlaced b (p ∷ [])) (sym (o.consumers j lt)) record {
+      free = λ j low none. (let past : key.consumers ≤ j = not_there key.consumers j none in o.others (consumer_place j) (λ e. omega arith) (λ k lt e. omega arith) ∙ f.others (consumer_place j) record { limit = λ e. omega arith; count = λ e. omega arith; here = λ e. off_tails (first_of b0 % 3) j (low_three (first_of b0)) e; next = λ e. off_tails ((first_of b0 + 1) % 3) j (low_three (first_of b0 + 1)) e; last = λ e. off_tails ((first_of b0 + 2) % 3) j (low_three (first_of b0 + 2)) e });
+      placed = λ j lt. subst (IsPlaced b (p ∷ [])) (sym (o.consumers j (first_flag key.consumers j lt))) record {
         unit = so.unit;
         from = omega arith;
         readable = omega arith;
         edge = inl (sym (none key.start));
         passed = refl;
       };
-      single = λ j lt. (let a = readers_once key.start j 0 key.consumers in plus (total (reads_as j) (consumers_at key.start 0 key.consumers)) a);
+      single = λ j lt. dite (dec_le key.consumers j)
+          (λ past. let none = readers_past key.start j 0 key.consumers (omega arith) in none_plus (total (reads_as j) (consumers_at key.start 0 key.consumers)) (slice_index there j) none)
+          (λ low. let a = readers_once key.start j 0 key.consumers in let one = first_is key.consumers j (lt_of_not-le low) in some_plus (total (reads_as j) (consumers_at key.start 0 key.consumers)) (slice_index there j) a one);
       keepers = omega arith;
-      each = one_pass (Attends b key.consumers ws (p ∷ [])) p record {
-        readings = readers_right key.consumers ws (p ∷ []) key.start 0 key.consumers o.consumers;
+      each = one_pass (Attends b there ws (p ∷ [])) p record {
+        readings = readers_right ws (p ∷ []) key.start 0 key.consumers (λ j le lt. o.consumers j (omega arith));
         keeping = record {
           limit = λ _. refl;
           cleaned = λ _. refl;
-          all = λ _. length-replicate key.consumers key.start;
-          few = (let e = length-replicate {A = ℕ} key.consumers key.start in omega arith);
-          swept = λ j lt. (let e = length-replicate {A = ℕ} key.consumers key.start in let low : j < key.consumers = omega arith in let a = filled key.consumers key.start j low in let c' = o.consumers j low in same (slice_index (replicate {A = ℕ} key.consumers key.start) j) (slice_index ws (consumer_place j)) key.start a c');
+          there = λ _. refl;
+          all = λ _. length-replicate 8 key.start;
+          swept = λ _ j lt. (let low = first_flag key.consumers j lt in let a = filled 8 key.start j (omega arith) in let c' = o.consumers j low in same (slice_index (replicate {A = ℕ} 8 key.start) j) (slice_index ws (consumer_place j)) key.start a c');
+          seen = λ _ j lt. (let low = first_flag key.consumers j lt in subst (IsSeen b (p ∷ [])) (sym (filled 8 key.start j (omega arith))) record { unit = so.unit; from = omega arith; edge = inl (sym (none key.start)); passed = refl });
         };
       };
     } in record {
       cleaned = key.start;
+      there = there;
       ruled = subst (λ (n : ℕ). Ruled (now_at key n key.start) ws (p ∷ [])) (sym o.limit) ruled;
-      kept = subst (λ (n : ℕ). Kept (now_at key n key.start) key.consumers ws (p ∷ [])) (sym o.limit) kept;
+      kept = subst (λ (n : ℕ). Kept (now_at key n key.start) there ws (p ∷ [])) (sym o.limit) kept;
       sure = record { each = one_view (IsSure ws) (whole_seat key) record { whole = λ _. refl; exact = λ _. ap (λ (x : Controls). record x { limit = key.start }) (fresh_is k0 ws0 f) ∙ sym (controls_as o) } };
       numbered = record { single = λ n. plus (numbers_as n p) (down_once n 7 8); each = one_pass Owns p record { claims = λ less. absurd (omega (arith, less)); armed = λ less _. absurd (omega (arith, less)) } };
     }
@@ -178,6 +219,21 @@ opens key ws0 ws so count f o =
 
     plus : (n : ℕ) → n ≤ 1 → n + 0 ≤ 1
     plus n le = omega arith
+
+    none_plus : (n f : ℕ) → n ≡ 0 → n + 0 ≤ f
+    none_plus n f e = omega arith
+
+    some_plus : (n f : ℕ) → n ≤ 1 → f ≡ 1 → n + 0 ≤ f
+    some_plus n f le e = omega arith
+
+    not_there : (n j : ℕ) → slice_index (first_there n) j ≡ 0 → n ≤ j
+    not_there n j none = dite (dec_le n j) (λ le. le) (λ no. absurd (let one = first_is n j (lt_of_not-le no) in omega arith))
+
+    low_three : (n : ℕ) → n % 3 < 3
+    low_three n = omega arith
+
+    off_tails : (t j : ℕ) → t < 3 → j * 16 + 80 ≡ t * 16 + 32 → ⊥
+    off_tails t j lt e = omega arith
 
     same : (a c s : ℕ) → a ≡ s → c ≡ s → a ≤ c
     same a c s e f = omega arith

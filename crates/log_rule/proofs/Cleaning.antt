@@ -38,12 +38,12 @@ use Rattle.log_rule.specs.declared.rule.Key.{Key}
 use Rattle.log_rule.specs.Edges.{AreCommitted, IsAmong, IsPlaced, begins_below, claimed_sum, committed_sum, in_entry, open_sum, open_weight}
 use Rattle.log_rule.specs.Numbers.{AreNumbered}
 use Rattle.log_rule.proofs.Owning.{attends_goes, numbered_on}
-use Rattle.log_rule.specs.Kept.{Attends, IsKeeper, IsReader, Kept, keepers_of, readers_of}
+use Rattle.log_rule.specs.Kept.{Attends, IsReader, IsThere, Kept, keepers_of, readers_of}
 use Rattle.log_rule.specs.Table.{LogRuled, now_at}
-use Rattle.log_rule.specs.Keepings.{CleansWord, MayClean, keeping, least_of, with_keeping}
+use Rattle.log_rule.specs.Keepings.{CleansWord, MayClean, keeping, least_there, with_keeping}
 use Rattle.log_rule.proofs.Sums.{all_parted, claimed_by, covered, covering}
 use Rattle.log_rule.proofs.Edges.{edge_low}
-use Rattle.log_rule.proofs.Growing.{Grows, grows, placed_on, same_sum}
+use Rattle.log_rule.proofs.Growing.{Grows, grows, not_keeping, placed_on, same_sum, seen_on, there_low}
 use Rattle.log_rule.proofs.Resting.{rest_looks, rested_here}
 use Rattle.log_rule.proofs.Known.{among_total}
 use Rattle.log_rule.proofs.Keeping.{least_low, not_keeper}
@@ -207,35 +207,44 @@ module _ (key : Key) (slots id : ℕ) (m : Mine) where
       let w : View = record { pass = with_keeping v.pass k; steps = suc v.steps; controls = v.controls; sure = v.sure } in let qs' : List Pass = set qs id w.pass in
       let cleaned_is : v.pass.keeping.cleaned ≡ q.cleaned = a.keeping.cleaned may.keeper in
       let shape : term_of v.pass ≡ size_of bs = ap (λ (y : Identity). y.geometry.term_length) c.identity in
-      let all = a.keeping.all may.keeper in let any = q.kept.any in
+      let any = q.kept.any in
       -- what lies a term below the least consumer lies a term below each
-      let under : (j : ℕ) → j < key.consumers → q.cleaned + 8 ≤ max key.start (slice_index ws (consumer_place j) - size_of bs) = λ j lt. (let lt' : j < length v.pass.keeping.positions = omega arith in let l = least_low v.pass.keeping.positions j lt' in let sw = a.keeping.swept j lt' in let mb = may.below in
-      spread v.pass.keeping.cleaned q.cleaned v.pass.start key.start (least_of v.pass.keeping.positions) (slice_index v.pass.keeping.positions j) (slice_index ws (consumer_place j)) (term_of v.pass) (size_of bs) cleaned_is c.start l sw shape mb) in
-      let pl = q.kept.placed 0 any in
+      let there_is : v.pass.keeping.there ≡ q.there = a.keeping.there may.keeper in
+      let under : (j : ℕ) → IsThere q.there j → q.cleaned + 8 ≤ max key.start (slice_index ws (consumer_place j) - size_of bs) = λ j lt. (let l = least_low v.pass.keeping.there v.pass.keeping.positions j (subst (λ (y : List ℕ). 0 < slice_index y j) (sym there_is) (let one = lt in omega arith)) in let sw = a.keeping.swept may.keeper j lt in let mb = may.below in
+      spread v.pass.keeping.cleaned q.cleaned v.pass.start key.start (least_there v.pass.keeping.there v.pass.keeping.positions) (slice_index v.pass.keeping.positions j) (slice_index ws (consumer_place j)) (term_of v.pass) (size_of bs) cleaned_is c.start l sw shape mb) in
+      let pl = q.kept.placed q.kept.one any in
       let there : slot (shape_of bs) q.cleaned ≡ i = ap (slot key.identity.geometry) (sym cleaned_is) in
-      let ruled : Ruled (further bs) ws' qs' = subst (λ (z : ℕ). Ruled (further bs) (set ws z 0) qs') there (cleaned_rule_at bs ws qs q.ruled (slice_index ws (consumer_place 0)) pl q.kept.ahead q.kept.unit (under 0 any) id v.pass k here) in
+      let ruled : Ruled (further bs) ws' qs' = subst (λ (z : ℕ). Ruled (further bs) (set ws z 0) qs') there (cleaned_rule_at bs ws qs q.ruled (slice_index ws (consumer_place q.kept.one)) pl q.kept.ahead q.kept.unit (under q.kept.one any) id v.pass k here) in
       let g : Grows bs qs qs' = grows bs ws ws qs qs' q.ruled (rested_here bs ws qs q.ruled id v.pass v.pass.reading k here) (inl (rest_looks qs id v.pass v.pass.reading k here)) in
       let limit : slice_index ws' limit_place ≡ old = get_or-set_other ws i 0 0 0 (λ e. omega arith) in
       let others : (j : ℕ) → j < 8 → slice_index ws' (consumer_place j) ≡ slice_index ws (consumer_place j) = λ j lt. get_or-set_other ws i (consumer_place j) 0 0 (λ e. far_off j (v.pass.keeping.cleaned / 8 % ring_of key.identity.geometry) lt e) in
-      let few = q.kept.few in
-      let readers : (rs : List Reading) → AllByRecursion (IsReader key.consumers ws qs) rs → AllByRecursion (IsReader key.consumers ws' qs') rs = λ rs b. all_weaker (IsReader key.consumers ws qs) (IsReader key.consumers ws' qs') (λ x z. record { position = λ lt. others x.number (omega arith) ∙ z.position lt; known = all_weaker (IsAmong qs) (IsAmong qs') g.among x.known z.known }) rs b in
-      let sights : (y : Keeping) → IsKeeper bs key.consumers ws y → (j : ℕ) → j < length y.positions → slice_index y.positions j ≤ slice_index ws' (consumer_place j) = λ y z j lt. (let le = z.swept j lt in let e = others j (let f = z.few in omega arith) in stays (slice_index y.positions j) (slice_index ws (consumer_place j)) (slice_index ws' (consumer_place j)) le e) in
-      let kept : Kept (further bs) key.consumers ws' qs' = record {
-        few = few;
+      let readers : (rs : List Reading) → AllByRecursion (IsReader ws qs) rs → AllByRecursion (IsReader ws' qs') rs = λ rs b. all_weaker (IsReader ws qs) (IsReader ws' qs') (λ x z. record { position = λ lt. others x.number lt ∙ z.position lt; known = all_weaker (IsAmong qs) (IsAmong qs') g.among x.known z.known }) rs b in
+      let kept : Kept (further bs) q.there ws' qs' = record {
+        eight = q.kept.eight;
+        flags = q.kept.flags;
+        one = q.kept.one;
         any = any;
+        free = λ j low none. others j low ∙ q.kept.free j low none;
         unit = (let u = q.kept.unit in eight q.cleaned u);
         ahead = (let h = q.kept.ahead in more_room (bs.limit + bs.greatest * 8) q.cleaned (size_of bs) h);
-        placed = λ j lt. (let z = placed_on bs qs qs' g (slice_index ws (consumer_place j)) (q.kept.placed j lt) in let u = under j lt in subst (IsPlaced (further bs) qs') (sym (others j (let lt' : j < key.consumers = lt in omega arith))) record { unit = z.unit; from = z.from; readable = u; edge = z.edge; passed = z.passed });
-        single = λ j lt. subst (λ (t : ℕ). t ≤ 1) (sym (same_sum (readers_of j) qs id v.pass w.pass here refl)) (q.kept.single j lt);
+        placed = λ j lt. (let z = placed_on bs qs qs' g (slice_index ws (consumer_place j)) (q.kept.placed j lt) in let u = under j lt in subst (IsPlaced (further bs) qs') (sym (others j (there_low q.there j q.kept.eight lt))) record { unit = z.unit; from = z.from; readable = u; edge = z.edge; passed = z.passed });
+        single = λ j lt. subst (λ (t : ℕ). t ≤ slice_index q.there j) (sym (same_sum (readers_of j) qs id v.pass w.pass here refl)) (q.kept.single j lt);
         keepers = subst (λ (t : ℕ). t ≤ 1) (sym (same_sum keepers_of qs id v.pass w.pass here refl)) q.kept.keepers;
         each = λ j u e. ⊎_elim
-            (λ (y : (j ≡ id) × (w.pass ≡ u)). subst (Attends (further bs) key.consumers ws' qs') y.1 record {
+            (λ (y : (j ≡ id) × (w.pass ≡ u)). subst (Attends (further bs) q.there ws' qs') y.1 record {
               readings = readers v.pass.reading a.readings;
-              keeping = record { limit = λ one. a.keeping.limit one; cleaned = λ _. ap (λ (n : ℕ). n + 8) cleaned_is; all = λ one. a.keeping.all one; few = a.keeping.few; swept = sights v.pass.keeping a.keeping };
+              keeping = record {
+                limit = a.keeping.limit;
+                cleaned = λ _. ap (λ (n : ℕ). n + 8) cleaned_is;
+                there = a.keeping.there;
+                all = a.keeping.all;
+                swept = λ yes j h. (let le = a.keeping.swept yes j h in let e = others j (there_low q.there j q.kept.eight h) in stays (slice_index v.pass.keeping.positions j) (slice_index ws (consumer_place j)) (slice_index ws' (consumer_place j)) le e);
+                seen = λ yes j h. (let z = seen_on bs qs qs' g (slice_index v.pass.keeping.positions j) (a.keeping.seen yes j h) in record { unit = z.unit; from = z.from; edge = z.edge; passed = z.passed });
+              };
             })
             (λ (y : (j ≢ id) × (get_elem? qs j ≡ some u)). let o = q.kept.each j u y.1 in record {
               readings = readers u.reading o.readings;
-              keeping = record { limit = o.keeping.limit; cleaned = λ one. absurd (not_keeper qs id j v.pass u here y.0 y.1 may.keeper q.kept.keepers one); all = o.keeping.all; few = o.keeping.few; swept = sights u.keeping o.keeping };
+              keeping = not_keeping (further bs) q.there ws' qs' u.keeping (not_keeper qs id j v.pass u here y.0 y.1 may.keeper q.kept.keepers);
             })
             (at_set qs id j w.pass u e);
       } in
@@ -245,8 +254,9 @@ module _ (key : Key) (slots id : ℕ) (m : Mine) where
         tt,
         record {
           cleaned = q.cleaned + 8;
+          there = q.there;
           ruled = subst (λ (y : ℕ × List Pass). Ruled (now_at key y.0 (q.cleaned + 8)) ws' y.1) (λ j. (sym limit j, sym is_set j)) ruled;
-          kept = subst (λ (y : ℕ × List Pass). Kept (now_at key y.0 (q.cleaned + 8)) key.consumers ws' y.1) (λ j. (sym limit j, sym is_set j)) kept;
+          kept = subst (λ (y : ℕ × List Pass). Kept (now_at key y.0 (q.cleaned + 8)) q.there ws' y.1) (λ j. (sym limit j, sym is_set j)) kept;
           sure = sure_on bs ws s.views q.ruled q.sure id v w at i (λ _. 0) (inr (data_leaves i 0 (omega arith))) record { whole = sure.whole; exact = λ one. sure.exact one ∙ sym (data_leaves i 0 (omega arith) ws) };
           numbered = subst AreNumbered (sym is_set) (numbered_on qs id v.pass w.pass here (attends_goes v.pass v.pass.reading k) q.numbered);
         },

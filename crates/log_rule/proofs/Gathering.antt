@@ -47,20 +47,23 @@ two_total f ps i j v w l r at at' = let a = total_set f ps i v l at in let c = t
 same_two : (f : Pass → ℕ) (ps : List Pass) (i j : ℕ) (v w l r : Pass) → get_elem? ps i ≡ some v → get_elem? (set ps i l) j ≡ some w → f l + f r ≡ f v + f w → total f (set (set ps i l) j r) ≡ total f ps
 same_two f ps i j v w l r at at' e = let a = two_total f ps i j v w l r at at' in omega arith
 
-pub kept_join : (b : Bounds) (n : ℕ) (ws : List ℕ) (ps : List Pass) → Ruled b ws ps → Kept b n ws ps → (i j : ℕ) (v w l r : Pass) → get_elem? ps i ≡ some v → get_elem? (set ps i l) j ≡ some w → Ruled b ws (set (set ps i l) j r)
+pub kept_join : (b : Bounds) (n : List ℕ) (ws : List ℕ) (ps : List Pass) → Ruled b ws ps → Kept b n ws ps → (i j : ℕ) (v w l r : Pass) → get_elem? ps i ≡ some v → get_elem? (set ps i l) j ≡ some w → Ruled b ws (set (set ps i l) j r)
     → ((h : Entry → ℕ) → weight h l + weight h r ≡ weight h v + weight h w) → ((h : FrameWords → ℕ) → committed_weight h l + committed_weight h r ≡ committed_weight h v + committed_weight h w)
     → ((m : ℕ) → readers_of m l + readers_of m r ≤ readers_of m v + readers_of m w) → keepers_of l + keepers_of r ≤ keepers_of v + keepers_of w → Attends b n ws ps l → Attends b n ws ps r → Kept b n ws (set (set ps i l) j r)
 kept_join b n ws ps r k i j v w l q at at' r' claims frames reads keep left right =
     let ps' : List Pass = set (set ps i l) j q in
     let look : IsLook ps ps' = record { claimed = λ h. same_two (weight h) ps i j v w l q at at' (claims h); committed = λ h. same_two (committed_weight h) ps i j v w l q at at' (frames h) } in
-    let g : Grows b ps ps' = grows b ws ws ps ps' r r' (inl look) in let on = attends_on b n k.few ws ws ps ps' g (spared_same ws) in record {
-      few = k.few;
+    let g : Grows b ps ps' = grows b ws ws ps ps' r r' (inl look) in let on = attends_on b n k.eight ws ws ps ps' g (spared_same ws) in record {
+      eight = k.eight;
+      flags = k.flags;
+      one = k.one;
       any = k.any;
       unit = k.unit;
       ahead = k.ahead;
+      free = k.free;
       placed = λ m lt. placed_on b ps ps' g (slice_index ws (consumer_place m)) (k.placed m lt);
-      single = λ m lt. (let a = two_total (readers_of m) ps i j v w l q at at' in let c = reads m in let d = k.single m lt in fewer (total (readers_of m) ps') (readers_of m v + readers_of m w) (total (readers_of m) ps) (readers_of m l + readers_of m q) a c d);
-      keepers = (let a = two_total keepers_of ps i j v w l q at at' in let d = k.keepers in fewer (total keepers_of ps') (keepers_of v + keepers_of w) (total keepers_of ps) (keepers_of l + keepers_of q) a keep d);
+      single = λ m lt. (let a = two_total (readers_of m) ps i j v w l q at at' in let c = reads m in let d = k.single m lt in fewer (slice_index n m) (total (readers_of m) ps') (readers_of m v + readers_of m w) (total (readers_of m) ps) (readers_of m l + readers_of m q) a c d);
+      keepers = (let a = two_total keepers_of ps i j v w l q at at' in let d = k.keepers in fewer 1 (total keepers_of ps') (keepers_of v + keepers_of w) (total keepers_of ps) (keepers_of l + keepers_of q) a keep d);
       each = λ x u e. ⊎_elim
           (λ (y : (x ≡ j) × (q ≡ u)). subst (Attends b n ws ps') y.1 (on q right))
           (λ (y : (x ≢ j) × (get_elem? (set ps i l) x ≡ some u)). ⊎_elim
@@ -70,18 +73,19 @@ kept_join b n ws ps r k i j v w l q at at' r' claims frames reads keep left righ
           (at_set (set ps i l) j x q u e);
     }
   where
-    fewer : (now was old is : ℕ) → now + was ≡ old + is → is ≤ was → old ≤ 1 → now ≤ 1
-    fewer now was old is e le one = omega arith
+    fewer : (most now was old is : ℕ) → now + was ≡ old + is → is ≤ was → old ≤ most → now ≤ most
+    fewer most now was old is e le one = omega arith
 
 -- all of the rule but the numbers
 pub record Rest (key : Key) (s : State (Unit {0}) View) : Type 0 where
   pub cleaned : ℕ
+  pub there : List ℕ
   pub ruled : Ruled (now_at key (slice_index s.words limit_place) cleaned) s.words (map pass_in s.views)
-  pub kept : Kept (now_at key (slice_index s.words limit_place) cleaned) key.consumers s.words (map pass_in s.views)
+  pub kept : Kept (now_at key (slice_index s.words limit_place) cleaned) there s.words (map pass_in s.views)
   pub sure : AreSure s.words s.views
 
 pub rest_of : (key : Key) (s : State (Unit {0}) View) → LogRuled key s → Rest key s
-rest_of key s r = record { cleaned = r.cleaned; ruled = r.ruled; kept = r.kept; sure = r.sure }
+rest_of key s r = record { cleaned = r.cleaned; there = r.there; ruled = r.ruled; kept = r.kept; sure = r.sure }
 
 pub gathered : (key : Key) (id other : ℕ) (v w : View) → v.pass.right.armed ≡ 0 → w.pass.right.armed ≡ 0 → 0 < v.pass.right.parts → (s : State (Unit {0}) View) → Rest key s → get_elem? s.views id ≡ some v → (other ≡ id → ⊥) → get_elem? (set s.views id (both_seats v w)) other ≡ some w
     → AreNumbered (map pass_in (set (set s.views id (both_seats v w)) other (spent_seat key.identity key.start))) → LogRuled key record { words = s.words; homes = s.homes; views = set (set s.views id (both_seats v w)) other (spent_seat key.identity key.start) }
@@ -90,14 +94,15 @@ gathered key id other v w off off' able s r at ne at' numbered =
     let is : map pass_in (set (set s.views id l) other q) ≡ set (set ps id l.pass) other q.pass = map-set pass_in (set s.views id l) other q ∙ ap (λ (x : List Pass). set x other q.pass) (map-set pass_in s.views id l) in
     let here = at_map pass_in s.views id v at in let there : get_elem? (set ps id l.pass) other ≡ some w.pass = subst (λ (x : List Pass). get_elem? x other ≡ some w.pass) (map-set pass_in s.views id l) (at_map pass_in (set s.views id l) other w at') in
     let ruled = joined b s.words ps r.ruled id other v.pass w.pass here ne there off off' able in let a = r.kept.each id v.pass here in
-    let kept : Kept b key.consumers s.words (set (set ps id l.pass) other q.pass) = kept_join b key.consumers s.words ps r.ruled r.kept id other v.pass w.pass l.pass q.pass here there ruled
+    let kept : Kept b r.there s.words (set (set ps id l.pass) other q.pass) = kept_join b r.there s.words ps r.ruled r.kept id other v.pass w.pass l.pass q.pass here there ruled
     (λ h. plus_none (weight h l.pass) (weight h v.pass + weight h w.pass) (ap (total h) (maps_append entry_of v.pass.right.claims w.pass.right.claims) ∙ total_append h (entries_of v.pass) (entries_of w.pass)))
     (λ h. plus_none (committed_weight h l.pass) (committed_weight h v.pass + committed_weight h w.pass) (total_append h v.pass.work.frames w.pass.work.frames))
     (λ m. no_more (readers_of m v.pass) (readers_of m w.pass)) (no_more (keepers_of v.pass) (keepers_of w.pass))
-    record { readings = a.readings; keeping = a.keeping } record { readings = tt; keeping = none_kept b key.consumers s.words } in record {
+    record { readings = a.readings; keeping = a.keeping } record { readings = tt; keeping = none_kept b r.there s.words ps } in record {
       cleaned = r.cleaned;
+      there = r.there;
       ruled = subst (Ruled b s.words) (sym is) ruled;
-      kept = subst (Kept b key.consumers s.words) (sym is) kept;
+      kept = subst (Kept b r.there s.words) (sym is) kept;
       sure = sure_join s.words s.views r.sure id other l q (unsure s.words l refl) (unsure s.words q refl);
       numbered = numbered;
     }
@@ -150,6 +155,6 @@ weigh key slots id i m s q homes at small =
       record { pass = v.pass; steps = suc v.steps; controls = v.controls; sure = v.sure },
       keeps,
       tt,
-      loaded key s q id i v v.pass.reading v.pass.keeping at (λ j. refl) refl (attends_on bs key.consumers q.kept.few s.words s.words qs (set qs id v.pass) g (spared_same s.words) v.pass (q.kept.each id v.pass here)),
+      loaded key s q id i v v.pass.reading v.pass.keeping at (λ j. refl) refl (attends_on bs q.there q.kept.eight s.words s.words qs (set qs id v.pass) g (spared_same s.words) v.pass (q.kept.each id v.pass here)),
       (refl, refl, record { sure = refl; leads = λ one. refl }, weighs bs s.words qs q.ruled q.numbered id v.pass here),
     )

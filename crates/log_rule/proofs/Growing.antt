@@ -1,9 +1,12 @@
 -- An event of the stream leaves consumers where they may stand, and the frames that are known committed.
-use Rattle.std.proofs.Common.{◌≡◌, ◌≢◌, ℕ, ◌+◌, ◌-◌, ◌<◌, ◌≤◌, ◌⊎◌, inl, inr, min, List, [], ◌∷◌, set, sym, refl, ap, ◌∙◌, subst, ⊎_elim, arith}
+use Rattle.std.proofs.Common.{◌≡◌, ◌≢◌, ℕ, ◌+◌, ◌-◌, ◌<◌, ◌≤◌, ◌⊎◌, inl, inr, min, List, [], ◌∷◌, set, sym, refl, ap, ◌∙◌, subst, ⊎_elim, lt_of_not-le, length, arith}
 use mathlib.Core.Option.{some}
+use mathlib.Core.Logic.{dite}
+use native.Mathlib.Decide.{dec_le}
 use lib.ListN.{get_elem?}
 use Rattle.std.specs.Prelude.{slice_index}
 use Rattle.std.specs.List.{AllByRecursion}
+use Rattle.std.proofs.lemmas.List.{get_or_past}
 use Rattle.atomic_table.proofs.Lists.{at_set}
 use Rattle.theory.specs.Position.{aligned, span}
 use Rattle.theory.specs.Entry.{Entry, IsEntry, length_of}
@@ -21,7 +24,7 @@ use Rattle.log_rule.specs.Claims.Admits.{Same}
 use Rattle.log_rule.specs.Claims.Events.{IsClaimed, IsCommitted, IsEvent, IsLook, committed_weight}
 use Rattle.log_rule.proofs.Claimed.Totals.{total_set}
 use Rattle.log_rule.specs.Edges.{AreCommitted, IsAmong, IsEdge, IsPlaced, begins_at, begins_below, claimed_sum, committed_sum, in_entry}
-use Rattle.log_rule.specs.Kept.{Attends, IsKeeper, IsReader, Kept, keepers_of, readers_of}
+use Rattle.log_rule.specs.Kept.{Attends, IsKeeper, IsReader, IsSeen, IsThere, Kept, keepers_of, readers_of}
 use Rattle.log_rule.proofs.Sums.{sum_less}
 use Rattle.log_rule.proofs.Edges.{edge_low}
 
@@ -126,50 +129,66 @@ pub record Spared (words after : List ℕ) : Type 0 where
 pub placed_on : (b : Bounds) (ps ps' : List Pass) → Grows b ps ps' → (p : ℕ) → IsPlaced b ps p → IsPlaced b ps' p
 placed_on b ps ps' g p k = record { unit = k.unit; from = k.from; readable = k.readable; edge = g.edge p k.edge; passed = g.passed p k.edge k.passed }
 
-pub reader_on : (b : Bounds) (n : ℕ) → n ≤ 8 → (ws ws' : List ℕ) (ps ps' : List Pass) → Grows b ps ps' → Spared ws ws' → (x : Reading) → IsReader n ws ps x → IsReader n ws' ps' x
-reader_on b n few ws ws' ps ps' g s x k = record {
-  position = λ low. s.consumers x.number (omega arith) ∙ k.position low;
-  known = all_weaker (IsAmong ps) (IsAmong ps') g.among x.known k.known;
-}
+pub seen_on : (b : Bounds) (ps ps' : List Pass) → Grows b ps ps' → (p : ℕ) → IsSeen b ps p → IsSeen b ps' p
+seen_on b ps ps' g p k = record { unit = k.unit; from = k.from; edge = g.edge p k.edge; passed = g.passed p k.edge k.passed }
 
-pub keeper_on : (b : Bounds) (n : ℕ) → n ≤ 8 → (ws ws' : List ℕ) → Spared ws ws' → (x : Keeping) → IsKeeper b n ws x → IsKeeper b n ws' x
-keeper_on b n few ws ws' s x k = record {
+-- who isn't the keeper knows nothing as such
+pub not_keeping : (b : Bounds) (n ws : List ℕ) (ps : List Pass) (k : Keeping) → (k.right ≡ 1 → ⊥) → IsKeeper b n ws ps k
+not_keeping b n ws ps k isnt = record { limit = λ yes. absurd (isnt yes); cleaned = λ yes. absurd (isnt yes); there = λ yes. absurd (isnt yes); all = λ yes. absurd (isnt yes); swept = λ yes. absurd (isnt yes); seen = λ yes. absurd (isnt yes) }
+
+-- there are no more numbers than eight
+pub there_low : (there : List ℕ) (j : ℕ) → length there ≡ 8 → IsThere there j → j < 8
+there_low there j eight here = dite (dec_le 8 j) (λ past. absurd (let none : slice_index there j ≡ 0 = get_or_past there j 0 (omega arith) in omega arith)) (λ low. lt_of_not-le low)
+
+-- who stands where it stood knows what it knew
+pub reader_at : (b : Bounds) (ws ws' : List ℕ) (ps ps' : List Pass) → Grows b ps ps' → (x : Reading) → (x.number < 8 → slice_index ws' (consumer_place x.number) ≡ slice_index ws (consumer_place x.number)) → IsReader ws ps x → IsReader ws' ps' x
+reader_at b ws ws' ps ps' g x same k = record { position = λ low. same low ∙ k.position low; known = all_weaker (IsAmong ps) (IsAmong ps') g.among x.known k.known }
+
+pub reader_on : (b : Bounds) (ws ws' : List ℕ) (ps ps' : List Pass) → Grows b ps ps' → Spared ws ws' → (x : Reading) → IsReader ws ps x → IsReader ws' ps' x
+reader_on b ws ws' ps ps' g s x k = reader_at b ws ws' ps ps' g x (s.consumers x.number) k
+
+pub keeper_on : (b : Bounds) (n : List ℕ) → length n ≡ 8 → (ws ws' : List ℕ) (ps ps' : List Pass) → Grows b ps ps' → Spared ws ws' → (x : Keeping) → IsKeeper b n ws ps x → IsKeeper b n ws' ps' x
+keeper_on b n eight ws ws' ps ps' g s x k = record {
   limit = k.limit;
   cleaned = k.cleaned;
+  there = k.there;
   all = k.all;
-  few = k.few;
-  swept = λ j lt. (let e = s.consumers j (let low = k.few in omega arith) in let le = k.swept j lt in up (slice_index x.positions j) (slice_index ws (consumer_place j)) (slice_index ws' (consumer_place j)) le e);
+  swept = λ one j here. (let e = s.consumers j (there_low n j eight here) in let le = k.swept one j here in up (slice_index x.positions j) (slice_index ws (consumer_place j)) (slice_index ws' (consumer_place j)) le e);
+  seen = λ one j here. seen_on b ps ps' g (slice_index x.positions j) (k.seen one j here);
 }
   where
     up : (a c d : ℕ) → a ≤ c → d ≡ c → a ≤ d
     up a c d le e = omega arith
 
-pub attends_on : (b : Bounds) (n : ℕ) → n ≤ 8 → (ws ws' : List ℕ) (ps ps' : List Pass) → Grows b ps ps' → Spared ws ws' → (v : Pass) → Attends b n ws ps v → Attends b n ws' ps' v
-attends_on b n few ws ws' ps ps' g s v k = record {
-  readings = all_weaker (IsReader n ws ps) (IsReader n ws' ps') (reader_on b n few ws ws' ps ps' g s) v.reading k.readings;
-  keeping = keeper_on b n few ws ws' s v.keeping k.keeping;
+pub attends_on : (b : Bounds) (n : List ℕ) → length n ≡ 8 → (ws ws' : List ℕ) (ps ps' : List Pass) → Grows b ps ps' → Spared ws ws' → (v : Pass) → Attends b n ws ps v → Attends b n ws' ps' v
+attends_on b n eight ws ws' ps ps' g s v k = record {
+  readings = all_weaker (IsReader ws ps) (IsReader ws' ps') (reader_on b ws ws' ps ps' g s) v.reading k.readings;
+  keeping = keeper_on b n eight ws ws' ps ps' g s v.keeping k.keeping;
 }
 
 pub same_sum : (f : Pass → ℕ) (ps : List Pass) (id : ℕ) (v w : Pass) → get_elem? ps id ≡ some v → f w ≡ f v → total f (set ps id w) ≡ total f ps
 same_sum f ps id v w at e = let a = total_set f ps id v w at in omega arith
 
-pub kept_on : (b : Bounds) (n : ℕ) (ws ws' : List ℕ) (ps : List Pass) (id : ℕ) (v w : Pass) → get_elem? ps id ≡ some v → Same v w → Grows b ps (set ps id w) → Spared ws ws' → Kept b n ws ps → Kept b n ws' (set ps id w)
+pub kept_on : (b : Bounds) (n : List ℕ) (ws ws' : List ℕ) (ps : List Pass) (id : ℕ) (v w : Pass) → get_elem? ps id ≡ some v → Same v w → Grows b ps (set ps id w) → Spared ws ws' → Kept b n ws ps → Kept b n ws' (set ps id w)
 kept_on b n ws ws' ps id v w at same g s k = record {
-  few = k.few;
+  eight = k.eight;
+  flags = k.flags;
+  one = k.one;
   any = k.any;
   unit = k.unit;
   ahead = k.ahead;
-  placed = λ j lt. subst (IsPlaced b (set ps id w)) (sym (s.consumers j (let few = k.few in omega arith))) (placed_on b ps (set ps id w) g (slice_index ws (consumer_place j)) (k.placed j lt));
-  single = λ j lt. subst (λ (t : ℕ). t ≤ 1) (sym (same_sum (readers_of j) ps id v w at (ap (λ (l : List Reading). readers_of j (record v { reading = l })) same.reading))) (k.single j lt);
+  free = λ j low none. s.consumers j low ∙ k.free j low none;
+  placed = λ j lt. subst (IsPlaced b (set ps id w)) (sym (s.consumers j (there_low n j k.eight lt))) (placed_on b ps (set ps id w) g (slice_index ws (consumer_place j)) (k.placed j lt));
+  single = λ j lt. subst (λ (t : ℕ). t ≤ slice_index n j) (sym (same_sum (readers_of j) ps id v w at (ap (λ (l : List Reading). readers_of j (record v { reading = l })) same.reading))) (k.single j lt);
   keepers = subst (λ (t : ℕ). t ≤ 1) (sym (same_sum keepers_of ps id v w at (ap (λ (x : Keeping). x.right) same.keeping))) k.keepers;
   each = λ i u e. ⊎_elim
-      (λ (y : (i ≡ id) × (w ≡ u)). subst (Attends b n ws' (set ps id w)) y.1 (moved_to (attends_on b n k.few ws ws' ps (set ps id w) g s v (k.each id v at))))
-      (λ (y : (i ≢ id) × (get_elem? ps i ≡ some u)). attends_on b n k.few ws ws' ps (set ps id w) g s u (k.each i u y.1))
+      (λ (y : (i ≡ id) × (w ≡ u)). subst (Attends b n ws' (set ps id w)) y.1 (moved_to (attends_on b n k.eight ws ws' ps (set ps id w) g s v (k.each id v at))))
+      (λ (y : (i ≢ id) × (get_elem? ps i ≡ some u)). attends_on b n k.eight ws ws' ps (set ps id w) g s u (k.each i u y.1))
       (at_set ps id i w u e);
 }
   where
     moved_to : Attends b n ws' (set ps id w) v → Attends b n ws' (set ps id w) w
     moved_to a = record {
-      readings = subst (AllByRecursion (IsReader n ws' (set ps id w))) (sym same.reading) a.readings;
-      keeping = subst (IsKeeper b n ws') (sym same.keeping) a.keeping;
+      readings = subst (AllByRecursion (IsReader ws' (set ps id w))) (sym same.reading) a.readings;
+      keeping = subst (IsKeeper b n ws' (set ps id w)) (sym same.keeping) a.keeping;
     }

@@ -193,8 +193,9 @@ named key s q j n w low at =
     let ps : List Pass = map pass_in s.views in let b : Bounds = now_at key (slice_index s.words limit_place) q.cleaned in let here = at_map pass_in s.views j w at in
     let is : map pass_in (set s.views j (under n w)) ≡ set ps j (renamed n w.pass) = map-set pass_in s.views j (under n w) in record {
       cleaned = q.cleaned;
+      there = q.there;
       ruled = subst (Ruled b s.words) (sym is) (renamed_ruled b s.words ps q.ruled j w.pass here n low);
-      kept = subst (Kept b key.consumers s.words) (sym is) (kept_on b key.consumers s.words s.words ps j w.pass (renamed n w.pass) here record { identity = refl; start = refl; number = refl; parts = refl; numbers = refl; reading = refl; keeping = refl } (renamed_grows b s.words ps q.ruled j w.pass here n low) (spared_same s.words) q.kept);
+      kept = subst (Kept b q.there s.words) (sym is) (kept_on b q.there s.words s.words ps j w.pass (renamed n w.pass) here record { identity = refl; start = refl; number = refl; parts = refl; numbers = refl; reading = refl; keeping = refl } (renamed_grows b s.words ps q.ruled j w.pass here n low) (spared_same s.words) q.kept);
       sure = sure_under s.words s.views j n w at q.sure;
     }
 

@@ -1,5 +1,5 @@
 -- The steps of the keeper keep the whole rule.
-use Rattle.std.proofs.Common.{◌≡◌, ◌≢◌, inl, ℕ, zero, suc, ◌+◌, ◌-◌, ◌*◌, ◌%◌, ◌<◌, ◌≤◌, max, min, List, [], ◌∷◌, ◌++◌, map, length, set, length-set, get_or-set_same, get_or-set_other, sym, refl, ap, ◌∙◌, subst, ⊎_elim, lt_of_not-le, arith}
+use Rattle.std.proofs.Common.{◌≡◌, ◌≢◌, inl, inr, ℕ, zero, suc, ◌+◌, ◌-◌, ◌*◌, ◌%◌, ◌<◌, ◌≤◌, max, min, List, [], ◌∷◌, ◌++◌, map, length, set, length-set, get_or-set_same, get_or-set_other, sym, refl, ap, ◌∙◌, subst, ⊎_elim, lt_of_not-le, arith}
 use mathlib.Core.Option.{some}
 use mathlib.Core.Logic.{dite}
 use native.Mathlib.Decide.{dec_le, ℕ_discrete}
@@ -11,6 +11,7 @@ use Rattle.atomic_table.specs.Table.{Allows, keeps}
 use Rattle.atomic_table.proofs.Lists.{at_map, at_set}
 use Rattle.theory.specs.Position.{Geometry, greatest_claim, max_position}
 use Rattle.theory.specs.Bytes.{Identity}
+use Rattle.theory.specs.Placed.{Among}
 use Rattle.theory.specs.Refusal.{limit_in}
 use Rattle.theory.proofs.Lists.{all_at, all_weaker}
 use Rattle.publication.specs.declared.pass.Controls.{Controls}
@@ -34,10 +35,10 @@ use Rattle.log_rule.specs.declared.rule.Key.{Key}
 use Rattle.log_rule.specs.Edges.{IsAmong, IsPlaced}
 use Rattle.log_rule.specs.Numbers.{AreNumbered}
 use Rattle.log_rule.proofs.Owning.{attends_goes, numbered_on}
-use Rattle.log_rule.specs.Kept.{Attends, IsKeeper, IsReader, Kept, keepers_of, readers_of}
+use Rattle.log_rule.specs.Kept.{Attends, IsKeeper, IsReader, IsSeen, IsThere, Kept, keepers_of, readers_of}
 use Rattle.log_rule.specs.Table.{LogRuled, now_at}
-use Rattle.log_rule.specs.Keepings.{LearnsLimit, MayRaise, Raises, keeping, least_of, sweeping, with_keeping}
-use Rattle.log_rule.proofs.Growing.{Grows, attends_on, grows, placed_on, same_sum}
+use Rattle.log_rule.specs.Keepings.{LearnsLimit, MayRaise, Raises, keeping, least_there, numbered, sweeping, with_keeping}
+use Rattle.log_rule.proofs.Growing.{Grows, attends_on, grows, not_keeping, placed_on, same_sum, seen_on, there_low}
 use Rattle.log_rule.proofs.Resting.{rest_looks, rested_here}
 use Rattle.log_rule.proofs.Consumers.{loaded, spared_same}
 use Rattle.log_rule.proofs.Edges.{edge_low, tail_low}
@@ -48,15 +49,31 @@ lower : (a : ℕ) (ps : List ℕ) → fold min a ps ≤ a
 lower a [] = omega arith
 lower a (p ∷ ps) = let r = lower (min a p) ps in omega arith
 
-lower_at : (a : ℕ) (ps : List ℕ) (j : ℕ) → j < length ps → fold min a ps ≤ slice_index ps j
-lower_at a [] j lt = absurd (omega arith)
-lower_at a (p ∷ ps) zero lt = let r = lower (min a p) ps in omega arith
-lower_at a (p ∷ ps) (suc j) lt = lower_at (min a p) ps j (omega arith)
+lower_among : (a : ℕ) (ps : List ℕ) (p : ℕ) → Among p ps → fold min a ps ≤ p
+lower_among a [] p among = absurd among
+lower_among a (q ∷ ps) p (inl e) = let r = lower (min a q) ps in omega (arith, e)
+lower_among a (q ∷ ps) p (inr among) = lower_among (min a q) ps p among
 
-pub least_low : (ps : List ℕ) (j : ℕ) → j < length ps → least_of ps ≤ slice_index ps j
-least_low ps j lt = lower_at (slice_index ps 0) ps j lt
+among_numbered : (from : ℕ) (there : List ℕ) (j : ℕ) → 0 < slice_index there j → Among (from + j) (numbered from there)
+among_numbered from [] j some' = absurd (omega arith)
+among_numbered from (zero ∷ there) zero some' = absurd (omega arith)
+among_numbered from (suc n ∷ there) zero some' = inl (let e : from + 0 ≡ from = omega arith in e)
+among_numbered from (zero ∷ there) (suc j) some' = subst (λ (k : ℕ). Among k (numbered (suc from) there)) (let e : suc from + j ≡ from + suc j = omega arith in e) (among_numbered (suc from) there j some')
+among_numbered from (suc n ∷ there) (suc j) some' = inr (subst (λ (k : ℕ). Among k (numbered (suc from) there)) (let e : suc from + j ≡ from + suc j = omega arith in e) (among_numbered (suc from) there j some'))
+
+among_map : (f : ℕ → ℕ) (xs : List ℕ) (x : ℕ) → Among x xs → Among (f x) (map f xs)
+among_map f [] x among = absurd among
+among_map f (y ∷ ys) x (inl e) = inl (ap f e)
+among_map f (y ∷ ys) x (inr among) = inr (among_map f ys x among)
+
+-- none of those who are there was seen below it
+pub least_low : (there ps : List ℕ) (j : ℕ) → 0 < slice_index there j → least_there there ps ≤ slice_index ps j
+least_low there ps j here = lower_among (slice_index (map (slice_index ps) (numbered 0 there)) 0) (map (slice_index ps) (numbered 0 there)) (slice_index ps j) (among_map (slice_index ps) (numbered 0 there) j (subst (λ (k : ℕ). Among k (numbered 0 there)) (let e : 0 + j ≡ j = omega arith in e) (among_numbered 0 there j here)))
 
 -- ---- a consumer's position is loaded
+
+pub placed_seen : (b : Bounds) (ps : List Pass) (p : ℕ) → IsPlaced b ps p → IsSeen b ps p
+placed_seen b ps p k = record { unit = k.unit; from = k.from; edge = k.edge; passed = k.passed }
 
 placed_low : (b : Bounds) (ws : List ℕ) (ps : List Pass) → Ruled b ws ps → (n : ℕ) → IsPlaced b ps n → n ≤ max_position (shape_of b)
 placed_low b ws ps r n p = let e = edge_low b ws ps r n p.edge in let t = tail_low b ws ps r in up n (tail_of b ps) (max_position (shape_of b)) e t
@@ -65,18 +82,20 @@ placed_low b ws ps r n p = let e = edge_low b ws ps r n p.edge in let t = tail_l
     up a c d e t = omega arith
 
 module _ (key : Key) (slots id : ℕ) (m : Mine) where
-  pub sweep : (j : ℕ) → m.0.pass.keeping.right ≡ 1 → (0 < j → j < key.consumers) → Allows (LogRuled key) slots id m (consumer_place j) (λ n. n) (λ n m'. sweeping key.consumers j m n m')
-  sweep j one inside s q homes at small =
+  pub sweep : (j : ℕ) → m.0.pass.keeping.right ≡ 1 → IsThere m.0.pass.keeping.there j → Allows (LogRuled key) slots id m (consumer_place j) (λ n. n) (λ n m'. sweeping j m n m')
+  sweep j one is s q homes at small =
       let v : View = m.0 in let ws : List ℕ = s.words in let qs : List Pass = map pass_in s.views in let n : ℕ = slice_index ws (consumer_place j) in
-      let low : j < key.consumers = (let any = q.kept.any in dite (dec_le 1 j) (λ pos. inside pos) (λ none. let z = lt_of_not-le none in omega arith)) in
       let bs : Bounds = now_at key (slice_index ws limit_place) q.cleaned in let here = at_map pass_in s.views id v at in let a = q.kept.each id v.pass here in
+      let there : IsThere q.there j = subst (λ (l : List ℕ). IsThere l j) (a.keeping.there one) is in let low : j < 8 = there_low q.there j q.kept.eight there in
       let k : Keeping = record v.pass.keeping { positions = set v.pass.keeping.positions j n; reads = v.pass.keeping.reads ++ j ∷ [] } in
       let w : View = record { pass = with_keeping v.pass k; steps = suc v.steps; controls = v.controls; sure = v.sure } in
       let g : Grows bs qs (set qs id w.pass) = grows bs ws ws qs (set qs id w.pass) q.ruled (rested_here bs ws qs q.ruled id v.pass v.pass.reading k here) (inl (rest_looks qs id v.pass v.pass.reading k here)) in
-      let base = attends_on bs key.consumers q.kept.few ws ws qs (set qs id w.pass) g (spared_same ws) v.pass a in
+      let base = attends_on bs q.there q.kept.eight ws ws qs (set qs id w.pass) g (spared_same ws) v.pass a in
       let same_length : length (set v.pass.keeping.positions j n) ≡ length v.pass.keeping.positions = length-set v.pass.keeping.positions j n in
       let all = a.keeping.all one in let lt : j < length v.pass.keeping.positions = omega (arith, all, low) in
-      let c = q.ruled.claims.each id v.pass here in let pl = q.kept.placed j low in (
+      let c = q.ruled.claims.each id v.pass here in let pl = q.kept.placed j there in
+      let qs' : List Pass = set qs id w.pass in let put : slice_index (set v.pass.keeping.positions j n) j ≡ n = get_or-set_same v.pass.keeping.positions j n 0 lt in
+      let others : (i : ℕ) → i ≢ j → slice_index (set v.pass.keeping.positions j n) i ≡ slice_index v.pass.keeping.positions i = λ i ne. get_or-set_other v.pass.keeping.positions j i n 0 ne in (
         w,
         keeps,
         tt,
@@ -85,11 +104,14 @@ module _ (key : Key) (slots id : ℕ) (m : Mine) where
           keeping = record {
             limit = base.keeping.limit;
             cleaned = base.keeping.cleaned;
-            all = λ one. same_length ∙ base.keeping.all one;
-            few = (let f = base.keeping.few in omega arith);
-            swept = λ i below. dite (ℕ_discrete i j)
-                (λ e. let put : slice_index (set v.pass.keeping.positions j n) i ≡ n = ap (slice_index (set v.pass.keeping.positions j n)) e ∙ get_or-set_same v.pass.keeping.positions j n 0 lt in let there : slice_index ws (consumer_place i) ≡ n = ap (λ (z : ℕ). slice_index ws (consumer_place z)) e in exact (slice_index (set v.pass.keeping.positions j n) i) (slice_index ws (consumer_place i)) n put there)
-                (λ ne. let other : slice_index (set v.pass.keeping.positions j n) i ≡ slice_index v.pass.keeping.positions i = get_or-set_other v.pass.keeping.positions j i n 0 ne in let le = base.keeping.swept i (omega arith) in stays (slice_index (set v.pass.keeping.positions j n) i) (slice_index v.pass.keeping.positions i) (slice_index ws (consumer_place i)) other le);
+            there = base.keeping.there;
+            all = λ yes. same_length ∙ base.keeping.all yes;
+            swept = λ yes i h. dite (ℕ_discrete i j)
+                (λ e. exact (slice_index (set v.pass.keeping.positions j n) i) (slice_index ws (consumer_place i)) n (ap (slice_index (set v.pass.keeping.positions j n)) e ∙ put) (ap (λ (z : ℕ). slice_index ws (consumer_place z)) e))
+                (λ ne. let le = base.keeping.swept yes i h in stays (slice_index (set v.pass.keeping.positions j n) i) (slice_index v.pass.keeping.positions i) (slice_index ws (consumer_place i)) (others i ne) le);
+            seen = λ yes i h. dite (ℕ_discrete i j)
+                (λ e. subst (IsSeen bs qs') (sym (ap (slice_index (set v.pass.keeping.positions j n)) e ∙ put)) (seen_on bs qs qs' g n (placed_seen bs qs n pl)))
+                (λ ne. subst (IsSeen bs qs') (sym (others i ne)) (base.keeping.seen yes i h));
           };
         },
         (
@@ -100,14 +122,14 @@ module _ (key : Key) (slots id : ℕ) (m : Mine) where
             record {
               all = all;
               inside = low;
-              further = base.keeping.swept j lt;
+              further = base.keeping.swept one j there;
               stands = (let st = placed_low bs ws qs q.ruled n pl in record {
                 unit = pl.unit;
                 low = subst (λ (y : Identity). n ≤ max_position y.geometry) (sym c.identity) st;
                 readable = subst (λ (y : ℕ × ℕ × Identity). y.0 ≤ max y.1 (n - y.2.geometry.term_length)) (λ i. (sym (a.keeping.cleaned one) i, sym c.start i, sym c.identity i)) pl.readable;
               });
               words = (ap (λ (z : ℕ). z % 32) c.start ∙ q.ruled.claims.sound.unit, ap (λ (z : ℕ). z % 8) (a.keeping.cleaned one) ∙ q.kept.unit);
-              own = λ r among e. sym (ap (λ (z : ℕ). slice_index ws (consumer_place z)) e) ∙ (all_at (IsReader key.consumers ws qs) r v.pass.reading a.readings among).position (subst (λ (z : ℕ). z < key.consumers) (sym e) low);
+              own = λ r among e. sym (ap (λ (z : ℕ). slice_index ws (consumer_place z)) e) ∙ (all_at (IsReader ws qs) r v.pass.reading a.readings among).position (subst (λ (z : ℕ). z < 8) (sym e) low);
               after = refl;
             },
           ),
@@ -183,24 +205,33 @@ module _ (key : Key) (slots id : ℕ) (m : Mine) where
       let g : Grows bs qs qs' = grows bs ws ws qs qs' q.ruled (rested_here bs ws qs q.ruled id v.pass v.pass.reading k here) (inl (rest_looks qs id v.pass v.pass.reading k here)) in
       let others : (j : ℕ) → slice_index ws' (consumer_place j) ≡ slice_index ws (consumer_place j) = λ j. get_or-set_other ws 0 (consumer_place j) word 0 (λ e. omega arith) in
       let placed_more : (p : ℕ) → IsPlaced bs qs' p → IsPlaced (limited bs word) qs' p = λ p z. record { unit = z.unit; from = z.from; readable = z.readable; edge = z.edge; passed = z.passed } in
-      let readers : (rs : List Reading) → AllByRecursion (IsReader key.consumers ws qs) rs → AllByRecursion (IsReader key.consumers ws' qs') rs = λ rs b. all_weaker (IsReader key.consumers ws qs) (IsReader key.consumers ws' qs') (λ x z. record { position = λ lt. others x.number ∙ z.position lt; known = all_weaker (IsAmong qs) (IsAmong qs') g.among x.known z.known }) rs b in
-      let sights : (y : Keeping) → IsKeeper bs key.consumers ws y → (j : ℕ) → j < length y.positions → slice_index y.positions j ≤ slice_index ws' (consumer_place j) = λ y z j lt. (let le = z.swept j lt in let e = others j in stays (slice_index y.positions j) (slice_index ws (consumer_place j)) (slice_index ws' (consumer_place j)) le e) in
-      let kept : Kept (limited bs word) key.consumers ws' qs' = record {
-        few = q.kept.few;
+      let readers : (rs : List Reading) → AllByRecursion (IsReader ws qs) rs → AllByRecursion (IsReader ws' qs') rs = λ rs b. all_weaker (IsReader ws qs) (IsReader ws' qs') (λ x z. record { position = λ lt. others x.number ∙ z.position lt; known = all_weaker (IsAmong qs) (IsAmong qs') g.among x.known z.known }) rs b in
+      let kept : Kept (limited bs word) q.there ws' qs' = record {
+        eight = q.kept.eight;
+        flags = q.kept.flags;
+        one = q.kept.one;
         any = q.kept.any;
         unit = q.kept.unit;
         ahead = clean;
+        free = λ j low none. others j ∙ q.kept.free j low none;
         placed = λ j lt. subst (IsPlaced (limited bs word) qs') (sym (others j)) (placed_more (slice_index ws (consumer_place j)) (placed_on bs qs qs' g (slice_index ws (consumer_place j)) (q.kept.placed j lt)));
-        single = λ j lt. subst (λ (t : ℕ). t ≤ 1) (sym (same_sum (readers_of j) qs id v.pass w.pass here refl)) (q.kept.single j lt);
+        single = λ j lt. subst (λ (t : ℕ). t ≤ slice_index q.there j) (sym (same_sum (readers_of j) qs id v.pass w.pass here refl)) (q.kept.single j lt);
         keepers = subst (λ (t : ℕ). t ≤ 1) (sym (same_sum keepers_of qs id v.pass w.pass here refl)) q.kept.keepers;
         each = λ i u e. ⊎_elim
-            (λ (y : (i ≡ id) × (w.pass ≡ u)). subst (Attends (limited bs word) key.consumers ws' qs') y.1 record {
+            (λ (y : (i ≡ id) × (w.pass ≡ u)). subst (Attends (limited bs word) q.there ws' qs') y.1 record {
               readings = readers v.pass.reading a.readings;
-              keeping = record { limit = λ _. refl; cleaned = λ _. cleaned_is; all = λ one. a.keeping.all one; few = a.keeping.few; swept = sights v.pass.keeping a.keeping };
+              keeping = record {
+                limit = λ _. refl;
+                cleaned = λ _. cleaned_is;
+                there = a.keeping.there;
+                all = a.keeping.all;
+                swept = λ yes j h. (let le = a.keeping.swept yes j h in let e = others j in stays (slice_index v.pass.keeping.positions j) (slice_index ws (consumer_place j)) (slice_index ws' (consumer_place j)) le e);
+                seen = λ yes j h. (let z = seen_on bs qs qs' g (slice_index v.pass.keeping.positions j) (a.keeping.seen yes j h) in record { unit = z.unit; from = z.from; edge = z.edge; passed = z.passed });
+              };
             })
             (λ (y : (i ≢ id) × (get_elem? qs i ≡ some u)). let o = q.kept.each i u y.1 in record {
               readings = readers u.reading o.readings;
-              keeping = record { limit = λ one. absurd (not_keeper qs id i v.pass u here y.0 y.1 may.keeper q.kept.keepers one); cleaned = o.keeping.cleaned; all = o.keeping.all; few = o.keeping.few; swept = sights u.keeping o.keeping };
+              keeping = not_keeping (limited bs word) q.there ws' qs' u.keeping (not_keeper qs id i v.pass u here y.0 y.1 may.keeper q.kept.keepers);
             })
             (at_set qs id i w.pass u e);
       } in
@@ -210,8 +241,9 @@ module _ (key : Key) (slots id : ℕ) (m : Mine) where
         tt,
         record {
           cleaned = q.cleaned;
+          there = q.there;
           ruled = subst (λ (y : ℕ × List Pass). Ruled (now_at key y.0 q.cleaned) ws' y.1) (λ j. (sym stored j, sym is_set j)) ruled;
-          kept = subst (λ (y : ℕ × List Pass). Kept (now_at key y.0 q.cleaned) key.consumers ws' y.1) (λ j. (sym stored j, sym is_set j)) kept;
+          kept = subst (λ (y : ℕ × List Pass). Kept (now_at key y.0 q.cleaned) q.there ws' y.1) (λ j. (sym stored j, sym is_set j)) kept;
           sure = sure_on bs ws s.views q.ruled q.sure id v w at limit_place (λ _. word) (inl parts) record { whole = sure.whole; exact = λ _. refl };
           numbered = subst AreNumbered (sym is_set) (numbered_on qs id v.pass w.pass here (attends_goes v.pass v.pass.reading k) q.numbered);
         },

@@ -8,6 +8,7 @@ pub mod InTerm
 pub mod Consumers
 pub mod Keeping
 pub mod Cleaning
+pub mod Joining
 pub mod Beginning
 pub mod Dealing
 pub mod Shares

@@ -53,14 +53,15 @@ lifted key slots id i m f told noted turns may spares own go s r homes at small 
     let g = go b ws ps r.ruled here in let spared = spares ws in
     let after : Controls = controls_in ws' in let w : View = record { pass = g.0; steps = suc v.steps; controls = after; sure = v.sure } in
     let is : map pass_in (set s.views id w) ≡ set ps id g.0 = map-set pass_in s.views id w in
-    let kept : Kept b key.consumers ws' (set ps id g.0) = kept_on b key.consumers ws ws' ps id v.pass g.0 here g.2 (grows b ws ws' ps (set ps id g.0) r.ruled g.1 g.4) spared r.kept in (
+    let kept : Kept b r.there ws' (set ps id g.0) = kept_on b r.there ws ws' ps id v.pass g.0 here g.2 (grows b ws ws' ps (set ps id g.0) r.ruled g.1 g.4) spared r.kept in (
       w,
       keeps,
       tt,
       record {
         cleaned = r.cleaned;
+        there = r.there;
         ruled = subst (λ (x : ℕ × List Pass). Ruled (now_at key x.0 r.cleaned) ws' x.1) (λ j. (sym spared.limit j, sym is j)) g.1;
-        kept = subst (λ (x : ℕ × List Pass). Kept (now_at key x.0 r.cleaned) key.consumers ws' x.1) (λ j. (sym spared.limit j, sym is j)) kept;
+        kept = subst (λ (x : ℕ × List Pass). Kept (now_at key x.0 r.cleaned) r.there ws' x.1) (λ j. (sym spared.limit j, sym is j)) kept;
         sure = sure_on b ws s.views r.ruled r.sure id v w at i f may record { whole = λ one. g.2.parts ∙ mine.whole one; exact = λ _. refl };
         numbered = subst AreNumbered (sym is) (numbered_on ps id v.pass g.0 here (own n g.0 g.3) r.numbered);
       },

@@ -14,13 +14,14 @@ use Rattle.log_rule.specs.Claims.Events.{IsLook}
 use Rattle.log_rule.specs.Claims.Packs.{consumer_place, limit_place, slot}
 use Rattle.log_rule.specs.Claims.Plays.{Mine, pass_in}
 use Rattle.log_rule.specs.Claims.Sure.{LearnsControls}
-use Rattle.log_rule.specs.Keepings.{CleansWord, LearnsLimit, Raises, SeesConsumer, keeping, sweeping}
+use Rattle.log_rule.specs.Keepings.{CleansWord, Joins, LearnsLimit, Leaves, Raises, SeesConsumer, keeping, sweeping}
 use Rattle.log_rule.specs.Readings.{Consumes, IsConsumer, Looks, Rereads, reading}
 use Rattle.log_rule.specs.Lookings.{Looking, OthersAreLooks}
 use Rattle.log_rule.specs.Table.{LogRuled}
 use Rattle.log_rule.proofs.Claimed.Eventful.{look as looked}
 use Rattle.log_rule.proofs.Cleaning.{clean}
 use Rattle.log_rule.proofs.Consumers.{look, pass, word}
+use Rattle.log_rule.proofs.Joining.{join, leave}
 use Rattle.log_rule.proofs.Keeping.{raise, sweep}
 
 -- the pass has the same claims and the same committed frames
@@ -34,7 +35,7 @@ looking : (key : Key) (id : ℕ) (v : View) (i : ℕ) (f : ℕ → ℕ) (then : 
 looking key id v i f then told go tells rests s r at low =
     let g = go (length s.homes) s r refl at low in let w : View = g.0 in let t = tells (slice_index s.words i) _ g.4 in let k = rests (slice_index s.words i) w.pass t in let q = g.3 in (
       w,
-      record { cleaned = q.cleaned; ruled = q.ruled; kept = q.kept; sure = q.sure; numbered = q.numbered },
+      record { cleaned = q.cleaned; there = q.there; ruled = q.ruled; kept = q.kept; sure = q.sure; numbered = q.numbered },
       t,
       subst (IsLook (map pass_in s.views)) (sym (map-set pass_in s.views id w)) (looked (map pass_in s.views) id v.pass w.pass (at_map pass_in s.views id v at) k.claims k.frames),
     )
@@ -58,8 +59,12 @@ others_are_looks = record {
       (λ slots. word key slots id (v, []) place r is p i low) (λ n m t. t.3) (λ n w t. rests_by v.pass w v.pass t.after refl refl);
   move = λ key id v place r end is low may. looking key id v (consumer_place r.number) (λ _. end) (λ _ m'. reading (λ v k w. Consumes v place end w) (v, []) 0 m') (λ _ w. Consumes v.pass place end w)
       (λ slots. pass key slots id (v, []) place r is end may low) (λ n m t. t.3) (λ n w t. rests_by v.pass w _ (t r is).after refl refl);
-  load_consumer = λ key id v j one low. looking key id v (consumer_place j) (λ n. n) (λ n m'. sweeping key.consumers j (v, []) n m') (λ n w. SeesConsumer v.pass key.consumers j n w)
-      (λ slots. sweep key slots id (v, []) j one (λ _. low)) (λ n m t. t.0.3) (λ n w t. rests_by v.pass w _ t.after refl refl);
+  load_consumer = λ key id v j one there. looking key id v (consumer_place j) (λ n. n) (λ n m'. sweeping j (v, []) n m') (λ n w. SeesConsumer v.pass j n w)
+      (λ slots. sweep key slots id (v, []) j one there) (λ n m t. t.0.3) (λ n w t. rests_by v.pass w _ t.after refl refl);
+  join = λ key id v number place n may. looking key id v (consumer_place number) (λ _. n) (λ _ m'. keeping (λ v w. LearnsControls [] v w) (λ v w. Joins v number place n w) (v, []) m') (λ _ w. Joins v.pass number place n w)
+      (λ slots. join key slots id (v, []) number place n may) (λ n m t. t.3) (λ n w t. rests_by v.pass w _ t refl refl);
+  leave = λ key id v place number may. looking key id v (consumer_place number) (λ _. 0) (λ _ m'. keeping (λ v w. LearnsControls [] v w) (λ v w. Leaves v place number w) (v, []) m') (λ _ w. Leaves v.pass place number w)
+      (λ slots. leave key slots id (v, []) place number may) (λ n m t. t.3) (λ n w t. rests_by v.pass w _ t refl refl);
   clean = λ key id v may. looking key id v (slot key.identity.geometry v.pass.keeping.cleaned) (λ _. 0) (λ _ m'. keeping (λ v w. LearnsControls [] v w) CleansWord (v, []) m') (λ _ w. CleansWord v.pass w)
       (λ slots. clean key slots id (v, []) may) (λ n m t. t.3) (λ n w t. rests_by v.pass w _ t refl refl);
   limit = λ key id v word may some. looking key id v limit_place (λ _. word) (λ _ m'. keeping (LearnsLimit word) (λ v w. Raises v word w) (v, []) m') (λ _ w. Raises v.pass word w)

@@ -62,7 +62,7 @@ pub told_ruled : (key : Key) (id i : ℕ) (v : View) (s : State (Unit {0}) View)
 told_ruled key id i v s q at =
     let qs : List Pass = map pass_in s.views in let here = at_map pass_in s.views id v at in let bs : Bounds = now_at key (slice_index s.words limit_place) q.cleaned in
     let g : Grows bs qs (set qs id v.pass) = grows bs s.words s.words qs (set qs id v.pass) q.ruled (rested_here bs s.words qs q.ruled id v.pass v.pass.reading v.pass.keeping here) (inl (rest_looks qs id v.pass v.pass.reading v.pass.keeping here)) in
-    loaded key s q id i v v.pass.reading v.pass.keeping at (λ j. refl) refl (attends_on bs key.consumers q.kept.few s.words s.words qs (set qs id v.pass) g (spared_same s.words) v.pass (q.kept.each id v.pass here))
+    loaded key s q id i v v.pass.reading v.pass.keeping at (λ j. refl) refl (attends_on bs q.there q.kept.eight s.words s.words qs (set qs id v.pass) g (spared_same s.words) v.pass (q.kept.each id v.pass here))
 
 -- a step that tells a pass of itself
 pub told_here : (key : Key) (slots id i : ℕ) (m : Mine) (told : Pass → ℕ → Pass → Type 0) → ((b : Bounds) (ws : List ℕ) (ps : List Pass) → Ruled b ws ps → AreNumbered ps → get_elem? ps id ≡ some m.0.pass → told m.0.pass (slice_index ws i) m.0.pass)
@@ -195,10 +195,10 @@ parts_again key id v p q is sp sq off off' able more same from none s r at =
     let h : get_elem? ps id ≡ some (meeting p q) = at_map pass_in s.views id v at ∙ ap some is in let a = r.kept.each id (meeting p q) h in
     let ruled = parted p q b s.words ps r.ruled id h sp sq off off' able more same from in
     cut key id v s r at (back_left p v) (back_right q v) ruled
-    (kept_split b key.consumers s.words ps r.ruled r.kept id (meeting p q) p q h ruled (weighs p q) (λ f. sym (total_append f p.work.frames q.work.frames))
+    (kept_split b r.there s.words ps r.ruled r.kept id (meeting p q) p q h ruled (weighs p q) (λ f. sym (total_append f p.work.frames q.work.frames))
     (λ j lt. sym (total_append (reads_as j) p.reading q.reading)) (let z = ap (λ (x : Rattle.publication.specs.declared.pass.Keeping.Keeping). x.right) none in omega arith)
-    record { readings = all_front (IsReader key.consumers s.words ps) p.reading q.reading a.readings; keeping = a.keeping }
-    record { readings = all_behind (IsReader key.consumers s.words ps) p.reading q.reading a.readings; keeping = subst (Rattle.log_rule.specs.Kept.IsKeeper b key.consumers s.words) (sym none) (none_kept b key.consumers s.words) })
+    record { readings = all_front (IsReader s.words ps) p.reading q.reading a.readings; keeping = a.keeping }
+    record { readings = all_behind (IsReader s.words ps) p.reading q.reading a.readings; keeping = subst (Rattle.log_rule.specs.Kept.IsKeeper b r.there s.words ps) (sym none) (none_kept b r.there s.words ps) })
     (unsure s.words (back_left p v) refl) refl
     (numbered_split ps id (meeting p q) p q h (λ n. sym (total_append (is_number n) p.right.numbers q.right.numbers)) sp.owns sq.owns r.numbered)
 
@@ -260,14 +260,15 @@ meets key id other v w off off' able s r at ne at' =
     let is : map pass_in (set (set s.views id l) other q) ≡ set (set ps id l.pass) other q.pass = map-set pass_in (set s.views id l) other q ∙ ap (λ (x : List Pass). set x other q.pass) (map-set pass_in s.views id l) in
     let a = r.kept.each id v.pass here in let c = r.kept.each other w.pass there in
     let ruled : Ruled b s.words (set (set ps id l.pass) other q.pass) = met b s.words ps r.ruled id other v.pass w.pass here ne there off off' able in
-    let kept : Kept b key.consumers s.words (set (set ps id l.pass) other q.pass) = kept_join b key.consumers s.words ps r.ruled r.kept id other v.pass w.pass l.pass q.pass here (set_else ps id other l.pass ne ∙ there) ruled
+    let kept : Kept b r.there s.words (set (set ps id l.pass) other q.pass) = kept_join b r.there s.words ps r.ruled r.kept id other v.pass w.pass l.pass q.pass here (set_else ps id other l.pass ne ∙ there) ruled
     (λ h. plus_none (weight h l.pass) (weight h v.pass + weight h w.pass) (ap (total h) (maps_append entry_of v.pass.right.claims w.pass.right.claims) ∙ total_append h (entries_of v.pass) (entries_of w.pass)))
     (λ h. plus_none (committed_weight h l.pass) (committed_weight h v.pass + committed_weight h w.pass) (total_append h v.pass.work.frames w.pass.work.frames))
     (λ m. both_read (readers_of m l.pass) (readers_of m v.pass) (readers_of m w.pass) (total_append (reads_as m) v.pass.reading w.pass.reading)) (no_more (keepers_of v.pass) (keepers_of w.pass))
-    record { readings = all_append (IsReader key.consumers s.words ps) v.pass.reading w.pass.reading a.readings c.readings; keeping = a.keeping } record { readings = tt; keeping = none_kept b key.consumers s.words } in record {
+    record { readings = all_append (IsReader s.words ps) v.pass.reading w.pass.reading a.readings c.readings; keeping = a.keeping } record { readings = tt; keeping = none_kept b r.there s.words ps } in record {
       cleaned = r.cleaned;
+      there = r.there;
       ruled = subst (Ruled b s.words) (sym is) ruled;
-      kept = subst (Kept b key.consumers s.words) (sym is) kept;
+      kept = subst (Kept b r.there s.words) (sym is) kept;
       sure = sure_join s.words s.views r.sure id other l q (unsure s.words l refl) (unsure s.words q refl);
       numbered = subst AreNumbered (sym is) (numbered_join ps id other v.pass w.pass l.pass q.pass here (set_else ps id other l.pass ne ∙ there)
           (λ n. plus_none (numbers_as n l.pass) (numbers_as n v.pass + numbers_as n w.pass) (total_append (is_number n) v.pass.right.numbers w.pass.right.numbers))

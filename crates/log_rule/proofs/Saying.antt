@@ -1,23 +1,31 @@
 -- What the rule says of a table's state, by its parts.
-use Rattle.std.proofs.Common.{◌≡◌, ℕ, suc, ◌+◌, ◌*◌, ◌<◌, ◌≤◌, List, [], ◌∷◌, map, sym, refl, ap, ◌∙◌, subst, arith}
+use Rattle.std.proofs.Common.{◌≡◌, ℕ, suc, ◌+◌, ◌*◌, ◌<◌, ◌≤◌, Bool, cond, inl, inr, List, [], ◌∷◌, map, sym, refl, ap, ◌∙◌, subst, ⊎_elim, eq-eqb, arith}
 use mathlib.Core.Option.{some}
 use lib.ListN.{get_elem?}
 use Rattle.std.specs.Prelude.{slice_index}
 use Rattle.std.specs.List.{AllByRecursion}
+use Rattle.atomic_table.specs.Table.{State}
 use Rattle.theory.specs.Entry.{Entry, length_of}
 use Rattle.theory.specs.Tiling.{Tiles, all_shares, share_of}
-use Rattle.theory.proofs.Lists.{all_behind, all_front}
+use Rattle.theory.specs.Placed.{Among}
+use Rattle.theory.proofs.Lists.{all_at, all_behind, all_front}
 use Rattle.publication.specs.declared.pass.FrameWords.{FrameWords}
 use Rattle.publication.specs.declared.pass.Pass.{Pass}
+use Rattle.publication.specs.declared.pass.Reading.{Reading}
 use Rattle.log_rule.specs.Claims.Memory.{IsCommittedFrame, IsOpen, StandsInTable, tail_of}
 use Rattle.log_rule.specs.Claims.Packs.{consumer_place, limit_place, slot}
 use Rattle.log_rule.specs.Claims.Plays.{pass_in}
 use Rattle.log_rule.specs.Claims.Rule.{Bounds, IsClaimEntry, armed_of, entries_of, first_of, shape_of, weight}
 use Rattle.log_rule.specs.Claims.Sums.{total}
 use Rattle.log_rule.specs.Claims.Terms.{claimed_to}
-use Rattle.log_rule.specs.Says.{IsBegun, IsSpelt, RuleSays, tail_shown}
+use Rattle.log_rule.specs.Says.{IsBegun, IsSpelt, IsStanding, KnowsConsumer, RuleSays, tail_shown}
 use Rattle.log_rule.specs.Shares.{owner_bytes}
-use Rattle.log_rule.specs.Table.{now_at}
+use Rattle.log_rule.specs.Table.{LogRuled, now_at}
+use Rattle.log_rule.specs.declared.rule.Key.{Key}
+use Rattle.log_rule.specs.declared.claims.view.View.{View}
+use Rattle.log_rule.specs.Kept.{IsReader, readers_of, reads_as}
+use Rattle.log_rule.proofs.Claimed.Totals.{total_at}
+use Rattle.log_rule.proofs.Consumers.{is_there}
 use Rattle.log_rule.proofs.Claimed.Looks.{narrow}
 use Rattle.log_rule.proofs.Claimed.Memories.{tail_is}
 use Rattle.log_rule.proofs.Claimed.Shown.{greatest_is}
@@ -25,7 +33,7 @@ use Rattle.log_rule.proofs.Claimed.Totals.{extent_of}
 use Rattle.log_rule.proofs.Edges.{edge_low}
 use Rattle.log_rule.proofs.Owning.{one_claims}
 use Rattle.log_rule.proofs.Sums.{all_parted}
-use Rattle.log_rule.specs.Edges.{in_entry}
+use Rattle.log_rule.specs.Edges.{IsPlaced, begins_at, claimed_sum, in_entry}
 use Rattle.log_rule.proofs.Shares.{eight_shares, share_is}
 
 -- ---- the shares
@@ -60,6 +68,37 @@ begun b ws (f ∷ fs) o k a = (
   begun b ws fs o.1 k.1 a.1,
 )
 
+-- ---- consumers
+
+-- it has a place among the passes' consumers
+among_place : (r : Reading) (rs : List Reading) → Among r rs → (k : ℕ) × (get_elem? rs k ≡ some r)
+among_place r [] a = absurd a
+among_place r (x ∷ xs) (inl e) = (0, ap some (sym e))
+among_place r (x ∷ xs) (inr a) = let k = among_place r xs a in (suc k.0, k.1)
+
+standing : (key : Key) (s : State (Unit {0}) View) (q : LogRuled key s) (i : ℕ) (v : Pass) (r : Reading) → get_elem? (map pass_in s.views) i ≡ some v → Among r v.reading → r.number < 8 → IsStanding key q.cleaned s.words (map pass_in s.views) r
+standing key s q i v r at among low =
+    let ws : List ℕ = s.words in let ps : List Pass = map pass_in s.views in let b : Bounds = now_at key (slice_index ws limit_place) q.cleaned in let c = q.ruled.claims in let t = c.terms in
+    let tail : tail_shown key.identity.geometry ws ≡ claimed_to (shape_of b) t = greatest_is (shape_of b) (first_of b) t ws c.sound.geometry c.tailed (narrow b ws ps c) in
+    let end : tail_of b ps ≡ tail_shown key.identity.geometry ws = tail_is b ws ps c ∙ sym tail in
+    let k = among_place r v.reading among in let there = is_there b q.there ws ps q.kept i v k.0 r at k.1 low in
+    let word = (all_at (IsReader ws ps) r v.reading (q.kept.each i v at).readings among).position low in
+    let p : IsPlaced b ps r.position = subst (IsPlaced b ps) word (q.kept.placed r.number there) in
+    let one : reads_as r.number r ≡ 1 = ap (λ (x : Bool). cond x 1 0) (eq-eqb r.number r.number refl) in
+    let a = total_at (reads_as r.number) v.reading k.0 r k.1 in let d = total_at (readers_of r.number) ps i v at in let most = q.kept.single r.number low in record {
+      word = word;
+      unit = p.unit;
+      from = p.from;
+      below = subst (λ (z : ℕ). r.position ≤ z) end (edge_low b ws ps q.ruled r.position p.edge);
+      edge = ⊎_elim (λ (e : r.position ≡ tail_of b ps). inl (e ∙ end)) (λ (some' : 0 < claimed_sum (begins_at r.position) ps). inr some') p.edge;
+      passed = p.passed;
+      readable = p.readable;
+      single = exactly (reads_as r.number r) (readers_of r.number v) (total (readers_of r.number) ps) (slice_index q.there r.number) one a d most there;
+    }
+  where
+    exactly : (x y t f : ℕ) → x ≡ 1 → x ≤ y → y ≤ t → t ≤ f → f ≡ 1 → t ≡ 1
+    exactly x y t f one a d most there = omega arith
+
 -- ---- all of it
 
 pub rule_says : RuleSays
@@ -82,7 +121,7 @@ rule_says key s q =
       zeros = λ x unit above below. q.ruled.memory.zeros x unit (subst (λ (z : ℕ). z ≤ x) (sym end) above) below;
       frames = λ i v at. (let m = q.ruled.memory.each i v at in spelt b ws v.work.frames m.done (all_front (StandsInTable b ws) v.work.frames v.work.drafts m.stands));
       drafts = λ i v at. (let m = q.ruled.memory.each i v at in begun b ws v.work.drafts m.undone m.kept (all_behind (StandsInTable b ws) v.work.frames v.work.drafts m.stands));
-      consumers = λ j low. subst (λ (z : ℕ). slice_index ws (consumer_place j) ≤ z) end (edge_low b ws ps q.ruled (slice_index ws (consumer_place j)) (q.kept.placed j low).edge);
-      passed = λ j low. (q.kept.placed j low).passed;
-      readable = λ j low. (q.kept.placed j low).readable;
+      consumers = λ i v r at among low. standing key s q i v r at among low;
+      keeper = λ i v at one j low. (let same : v.keeping.there ≡ q.there = (q.kept.each i v at).keeping.there one in
+          subst (λ (t : List ℕ). KnowsConsumer t ws ps j) (sym same) record { most = q.kept.single j low; free = q.kept.free j low });
     }

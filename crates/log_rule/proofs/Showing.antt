@@ -258,8 +258,9 @@ renewed : (key : Key) (ws : List ℕ) (s : State (Unit {0}) View) (id : ℕ) (v 
 renewed key ws s id v w same mine q =
     let vs : List View = s.views in let is : map pass_in (set vs id v) ≡ map pass_in (set vs id w) = map-set pass_in vs id v ∙ ap (set (map pass_in vs) id) (sym same) ∙ sym (map-set pass_in vs id w) in record {
       cleaned = q.cleaned;
+      there = q.there;
       ruled = subst (Ruled (now_at key (slice_index ws limit_place) q.cleaned) ws) is q.ruled;
-      kept = subst (Kept (now_at key (slice_index ws limit_place) q.cleaned) key.consumers ws) is q.kept;
+      kept = subst (Kept (now_at key (slice_index ws limit_place) q.cleaned) q.there ws) is q.kept;
       sure = record { each = λ j u e. ⊎_elim (λ (y : (j ≡ id) × (w ≡ u)). subst (IsSure ws) y.1 mine) (λ (y : (j ≢ id) × (get_elem? vs j ≡ some u)). q.sure.each j u (set_else vs id j v y.0 ∙ y.1)) (at_set vs id j w u e) };
       numbered = subst AreNumbered is q.numbered;
     }

@@ -7,4 +7,4 @@ pub record Begun (start : ℕ) (words : List ℕ) (count : ℕ) (after : List �
   pub wide : length after ≡ length words
   pub limit : slice_index after limit_place ≡ start
   pub consumers : (j : ℕ) → j < count → slice_index after (consumer_place j) ≡ start
-  pub others : (i : ℕ) → i ≢ limit_place → ((j : ℕ) → j < 8 → i ≢ consumer_place j) → slice_index after i ≡ slice_index words i
+  pub others : (i : ℕ) → i ≢ limit_place → ((j : ℕ) → j < count → i ≢ consumer_place j) → slice_index after i ≡ slice_index words i

@@ -1,5 +1,5 @@
 -- What the rule says of a log's table, whatever its words and passes are, in the words of the stream.
-use Rattle.std.specs.Prelude.{◌≡◌, ℕ, ◌+◌, ◌-◌, ◌*◌, ◌%◌, ◌<◌, ◌≤◌, List, length, map, max, slice_index}
+use Rattle.std.specs.Prelude.{◌≡◌, ℕ, ◌+◌, ◌-◌, ◌*◌, ◌%◌, ◌<◌, ◌≤◌, ◌⊎◌, List, length, map, max, slice_index}
 use Rattle.std.specs.List.{AllByRecursion}
 use mathlib.Core.Option.{some}
 use lib.ListN.{get_elem?}
@@ -9,8 +9,10 @@ use Rattle.theory.specs.Entry.{Entry}
 use Rattle.theory.specs.Position.{Geometry, greatest_claim}
 use Rattle.theory.specs.Refusal.{limit_in}
 use Rattle.theory.specs.Tiling.{Tiles, all_shares, share_of}
+use Rattle.theory.specs.Placed.{Among}
 use Rattle.publication.specs.declared.pass.FrameWords.{FrameWords}
 use Rattle.publication.specs.declared.pass.Pass.{Pass}
+use Rattle.publication.specs.declared.pass.Reading.{Reading}
 use Rattle.publication.specs.Steps.{Extent, shown_position}
 use Rattle.log_rule.specs.declared.claims.view.View.{View}
 use Rattle.log_rule.specs.declared.rule.Key.{Key}
@@ -19,7 +21,8 @@ use Rattle.log_rule.specs.Claims.Packs.{consumer_place, limit_place, slot, tail_
 use Rattle.log_rule.specs.Claims.Plays.{pass_in}
 use Rattle.log_rule.specs.Claims.Rule.{armed_of, weight}
 use Rattle.log_rule.specs.Claims.Sums.{total}
-use Rattle.log_rule.specs.Edges.{AreCommitted, committed_sum, in_entry, open_sum}
+use Rattle.log_rule.specs.Edges.{AreCommitted, begins_at, claimed_sum, committed_sum, in_entry, open_sum}
+use Rattle.log_rule.specs.Kept.{readers_of}
 use Rattle.log_rule.specs.Numbers.{ClaimsAs}
 use Rattle.log_rule.specs.Shares.{owner_bytes}
 use Rattle.log_rule.specs.Table.{LogRuled}
@@ -37,6 +40,23 @@ pub record IsSpelt (i : Identity) (cleaned : ℕ) (words : List ℕ) (f : FrameW
 pub record IsBegun (i : Identity) (cleaned : ℕ) (words : List ℕ) (f : FrameWords) : Type 0 where
   pub kept : cleaned ≤ f.start
   pub first : 0 < length f.words → slice_index words (slot i.geometry f.start) ≡ 0
+
+-- a consumer's word is its position, which is a frame's edge in whole units of the stream, with all committed that begins below
+-- it; what lies a term below is readable; and nobody else has its number
+pub record IsStanding (key : Key) (cleaned : ℕ) (words : List ℕ) (passes : List Pass) (r : Reading) : Type 0 where
+  pub word : slice_index words (consumer_place r.number) ≡ r.position
+  pub unit : r.position % 32 ≡ 0
+  pub from : key.start ≤ r.position
+  pub below : r.position ≤ tail_shown key.identity.geometry words
+  pub edge : (r.position ≡ tail_shown key.identity.geometry words) ⊎ (0 < claimed_sum (begins_at r.position) passes)
+  pub passed : AreCommitted passes r.position
+  pub readable : cleaned ≤ max key.start (r.position - key.identity.geometry.term_length)
+  pub single : total (readers_of r.number) passes ≡ 1
+
+-- who has a number is there, and the word of one that isn't there is zero
+pub record KnowsConsumer (there words : List ℕ) (passes : List Pass) (number : ℕ) : Type 0 where
+  pub most : total (readers_of number) passes ≤ slice_index there number
+  pub free : slice_index there number ≡ 0 → slice_index words (consumer_place number) ≡ 0
 
 pub record Says (key : Key) (words : List ℕ) (passes : List Pass) : Type 0 where
   -- the entries in the order of the stream, of which no frame is told, and the position below which all may be cleaned
@@ -58,10 +78,9 @@ pub record Says (key : Key) (words : List ℕ) (passes : List Pass) : Type 0 whe
   pub zeros : (x : ℕ) → x % 8 ≡ 0 → tail_shown key.identity.geometry words ≤ x → x < cleaned + 3 * key.identity.geometry.term_length → slice_index words (slot key.identity.geometry x) ≡ 0
   pub frames : (i : ℕ) (v : Pass) → get_elem? passes i ≡ some v → AllByRecursion (IsSpelt key.identity cleaned words) v.work.frames
   pub drafts : (i : ℕ) (v : Pass) → get_elem? passes i ≡ some v → AllByRecursion (IsBegun key.identity cleaned words) v.work.drafts
-  -- each consumer stands within the stream, with all committed that begins below it, and what lies a term below is readable
-  pub consumers : (j : ℕ) → j < key.consumers → slice_index words (consumer_place j) ≤ tail_shown key.identity.geometry words
-  pub passed : (j : ℕ) → j < key.consumers → AreCommitted passes (slice_index words (consumer_place j))
-  pub readable : (j : ℕ) → j < key.consumers → cleaned ≤ max key.start (slice_index words (consumer_place j) - key.identity.geometry.term_length)
+  -- each consumer that is there has a number that no other has, and stands where it may; and the keeper knows who is there
+  pub consumers : (i : ℕ) (v : Pass) (r : Reading) → get_elem? passes i ≡ some v → Among r v.reading → r.number < 8 → IsStanding key cleaned words passes r
+  pub keeper : (i : ℕ) (v : Pass) → get_elem? passes i ≡ some v → v.keeping.right ≡ 1 → (j : ℕ) → j < 8 → KnowsConsumer v.keeping.there words passes j
 
 -- whatever state the rule holds of
 abbrev pub RuleSays : Type 0

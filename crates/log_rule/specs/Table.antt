@@ -1,6 +1,7 @@
 -- The rule over a table's state, the first seat, and what each step tells.
-use Rattle.std.specs.Prelude.{ℕ, zero, suc, ◌-◌, List, [], ◌∷◌, ◌++◌, map, replicate, slice_index}
+use Rattle.std.specs.Prelude.{◌≡◌, ℕ, zero, suc, ◌-◌, List, [], ◌∷◌, ◌++◌, map, replicate, slice_index}
 use Rattle.atomic_table.specs.Table.{State}
+use Rattle.theory.specs.Bytes.{Identity}
 use Rattle.theory.specs.Position.{greatest_claim}
 use Rattle.theory.specs.Refusal.{limit_in}
 use Rattle.publication.specs.declared.pass.FrameWords.{FrameWords}
@@ -31,8 +32,10 @@ now_at key word cleaned = record {
 -- the four parts: claims and memory; consumers and the keeper; who is sure of the control words; under which numbers passes claim
 pub record LogRuled (key : Key) (s : State (Unit {0}) View) : Type 0 where
   pub cleaned : ℕ
+  -- which consumers are there
+  pub there : List ℕ
   pub ruled : Ruled (now_at key (slice_index s.words limit_place) cleaned) s.words (map pass_in s.views)
-  pub kept : Kept (now_at key (slice_index s.words limit_place) cleaned) key.consumers s.words (map pass_in s.views)
+  pub kept : Kept (now_at key (slice_index s.words limit_place) cleaned) there s.words (map pass_in s.views)
   pub sure : AreSure s.words s.views
   pub numbered : AreNumbered (map pass_in s.views)
 
@@ -43,11 +46,15 @@ abbrev pub consumers_at : ℕ → ℕ → ℕ → List Reading
 consumers_at start number zero = []
 consumers_at start number (suc n) = record { number = number; position = start; known = []; misses = 0 } ∷ consumers_at start (suc number) n
 
+-- so many are there of eight, by the first numbers
+abbrev pub first_there : ℕ → List ℕ
+first_there n = replicate n 1 ++ replicate (8 - n) 0
+
 -- all publishers, all consumers and the keeper of a log that opens, unconnected, with its limit at the start
 abbrev pub whole_pass : Key → Pass
 whole_pass key = record (newcomer key.identity key.start 7 1024) {
   reading = consumers_at key.start 0 key.consumers;
-  keeping = record { right = 1; limit = key.start; cleaned = key.start; positions = replicate key.consumers key.start; reads = [] };
+  keeping = record { right = 1; limit = key.start; cleaned = key.start; there = first_there key.consumers; positions = replicate 8 key.start; reads = [] };
 }
 
 abbrev pub whole_seat : Key → View
@@ -106,3 +113,12 @@ knows_all fs r = record r { known = r.known ++ fs }
 
 abbrev pub told_seat : View → View → View
 told_seat v w = record v { pass = record v.pass { reading = map (knows_all (all_known w.pass.reading)) v.pass.reading } }
+
+-- ---- a consumer goes back to the keeper
+
+abbrev pub returned_seat : View → View → View
+returned_seat v w = record v { pass = record v.pass { reading = v.pass.reading ++ w.pass.reading } }
+
+-- a pass that has consumers alone
+abbrev pub OnlyHasReadings : Identity → ℕ → Pass → Type 0
+OnlyHasReadings identity start v = v ≡ record (newcomer identity start 0 0) { reading = v.reading }

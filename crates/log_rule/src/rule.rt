@@ -14,7 +14,7 @@ use position::Identity;
 use std::marker::{Brand, PhantomData};
 
 /// What a log's table is told when it is made: the stream that it carries, the position at which it begins, and how many
-/// consumers it has.
+/// consumers are there from the start on.
 #[derive(Clone, Copy)]
 pub struct Key {
     pub identity: Identity,
@@ -93,28 +93,54 @@ impl<N: Chosen> Play<(), View> for Consume<N> {
     ghost then = { λ _. reading (λ v n w. Consumes v N.number n w) };
 }
 
-/// A consumer that the keeper sees, which a call picks for its step: its number, and how many consumers there are.
-pub trait Swept {
-    ghost number: { ℕ };
-
-    ghost count: { ℕ };
-}
-
-impl Swept for Brand {
-    ghost number = { 0 };
-
-    ghost count = { 0 };
-}
-
-/// The keeper loads the position of a consumer.
+/// The keeper loads the position of the consumer with the chosen number.
 pub struct Sweep<N> {
     chosen: PhantomData<N>,
 }
 
-impl<N: Swept> Play<(), View> for Sweep<N> {
+impl<N: Chosen> Play<(), View> for Sweep<N> {
     ghost use Rattle.log_rule.specs.Keepings.{sweeping};
 
-    ghost then = { λ _. sweeping N.count N.number };
+    ghost then = { λ _. sweeping N.number };
+}
+
+/// A consumer of the keeper's own pass, which a call picks for its step: its number, and its place among those of the pass.
+pub trait Seated {
+    ghost number: { ℕ };
+
+    ghost place: { ℕ };
+}
+
+impl Seated for Brand {
+    ghost number = { 0 };
+
+    ghost place = { 0 };
+}
+
+/// The keeper stores where a consumer begins whose number nobody had: its own pass is that consumer then.
+pub struct Place<N> {
+    seated: PhantomData<N>,
+}
+
+impl<N: Seated> Play<(), View> for Place<N> {
+    ghost use Rattle.std.specs.Prelude.{[]};
+    ghost use Rattle.log_rule.specs.Claims.Sure.{LearnsControls};
+    ghost use Rattle.log_rule.specs.Keepings.{Joins, keeping};
+
+    ghost then = { λ _ m n m'. keeping (λ v w. LearnsControls [] v w) (λ v w. Joins v N.number N.place n w) m m' };
+}
+
+/// The keeper stores zero for a consumer of its own pass, whose number nobody has then.
+pub struct Vacate<N> {
+    seated: PhantomData<N>,
+}
+
+impl<N: Seated> Play<(), View> for Vacate<N> {
+    ghost use Rattle.std.specs.Prelude.{[]};
+    ghost use Rattle.log_rule.specs.Claims.Sure.{LearnsControls};
+    ghost use Rattle.log_rule.specs.Keepings.{Leaves, keeping};
+
+    ghost then = { λ _ m _ m'. keeping (λ v w. LearnsControls [] v w) (λ v w. Leaves v N.place N.number w) m m' };
 }
 
 /// The keeper stores zero in the next word that may be cleaned.
@@ -204,6 +230,20 @@ impl<N: Carried> Join<View> for Tell<N> {
     ghost use Rattle.log_rule.specs.Table.{told_seat};
 
     ghost both = { told_seat };
+
+    ghost spent = { spent_seat N.identity N.start };
+}
+
+/// A consumer goes back to the keeper's seat.
+pub struct Return<N> {
+    carried: PhantomData<N>,
+}
+
+impl<N: Carried> Join<View> for Return<N> {
+    ghost use Rattle.log_rule.specs.Claims.Closing.{spent_seat};
+    ghost use Rattle.log_rule.specs.Table.{returned_seat};
+
+    ghost both = { returned_seat };
 
     ghost spent = { spent_seat N.identity N.start };
 }

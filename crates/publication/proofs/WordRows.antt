@@ -58,7 +58,7 @@ fresh = record {
   work = record { frames = []; drafts = [] };
   seen = record { count = 0; term = 0; full = 0; begun = 0; shown = 0 };
   reading = [];
-  keeping = record { right = 0; limit = 0; cleaned = 0; positions = []; reads = [] };
+  keeping = record { right = 0; limit = 0; cleaned = 0; there = []; positions = []; reads = [] };
 }
 
 abbrev seen_limit : Pass

@@ -68,12 +68,16 @@ pub struct Reading {
     pub misses: u64,
 }
 
-/// What a keeper knows: 1 where the pass is one, the limit word with its flags, how far bytes are zero again, the
-/// positions of consumers that it has seen, and the numbers of the consumers that it read, in order.
+/// What a keeper knows: 1 where the pass is one, the limit word with its flags, how far bytes are zero again, which
+/// consumers are there, the positions of consumers that it has seen, and the numbers of the consumers that it read, in
+/// order.
 pub struct Keeping {
     pub right: u64,
     pub limit: u64,
     pub cleaned: u64,
+    /// For each of the eight numbers 1 where a consumer has it, else 0.
+    pub there: LinkedList<u64>,
+    /// By their numbers.
     pub positions: LinkedList<u64>,
     pub reads: LinkedList<u64>,
 }

@@ -29,7 +29,7 @@ bounds_of key = record {
 }
 
 abbrev pub no_keeping : Keeping
-no_keeping = record { right = 0; limit = 0; cleaned = 0; positions = []; reads = [] }
+no_keeping = record { right = 0; limit = 0; cleaned = 0; there = []; positions = []; reads = [] }
 
 -- so many numbers, from this one down
 abbrev pub down : ℕ → ℕ → List ℕ
