@@ -137,7 +137,7 @@ deals key id v off fresh many s r at =
 
 pub deals_reader : (key : Key) (id : ℕ) (v : View) → Splits (LogRuled key) id v (reader_left v) (reader_right v)
 deals_reader key id v s r at =
-    let ps : List Pass = map pass_in s.views in let bs : Bounds = now_at key (slice_index s.words limit_place) r.cleaned in let h = here key id v s r at in let a = attends key id v s r at in
+    let mine = r.sure.each id v at in let ps : List Pass = map pass_in s.views in let bs : Bounds = now_at key (slice_index s.words limit_place) r.cleaned in let h = here key id v s r at in let a = attends key id v s r at in
     let idle = (r.ruled.claims.each id v.pass h).right.idle in
     let q : Pass = record (newcomer v.pass.identity v.pass.start 0 0) { reading = first_reading v.pass.reading } in
     let ruled : Ruled bs s.words (set ps id (record v.pass { reading = other_readings v.pass.reading }) ++ q ∷ []) = subst (λ (x : Identity × ℕ). Ruled bs s.words (set ps id (record v.pass { reading = other_readings v.pass.reading }) ++ attending (newcomer x.0 x.1 0 0) (first_reading v.pass.reading) no_keeping ∷ []))
@@ -147,7 +147,7 @@ deals_reader key id v s r at =
     (kept_split bs r.there s.words ps r.ruled r.kept id v.pass (record v.pass { reading = other_readings v.pass.reading }) q h ruled (λ f. plus_none (weight f v.pass)) (λ f. plus_none (committed_weight f v.pass))
     (λ j lt. parts_sum (reads_as j) v.pass.reading) (plus_none (keepers_of v.pass))
     record { readings = rest_all (IsReader s.words ps) v.pass.reading a.readings; keeping = a.keeping } record { readings = first_all (IsReader s.words ps) v.pass.reading a.readings; keeping = none_kept bs r.there s.words ps })
-    (unsure s.words (reader_left v) refl) refl
+    record { whole = mine.whole; exact = mine.exact } refl
     (numbered_split ps id v.pass (record v.pass { reading = other_readings v.pass.reading }) q h (λ n. plus_none (numbers_as n v.pass)) ((attends_goes v.pass (other_readings v.pass.reading) v.pass.keeping).owns (r.numbered.each id v.pass h)) (owns_none q refl refl) r.numbered)
   where
     parts_sum : (f : Reading → ℕ) (rs : List Reading) → total f (other_readings rs) + total f (first_reading rs) ≡ total f rs

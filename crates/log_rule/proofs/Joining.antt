@@ -29,7 +29,7 @@ use Rattle.log_rule.specs.Edges.{IsPlaced}
 use Rattle.log_rule.specs.Keepings.{Joins, Leaves, MayJoin, MayLeave, keeping, newly}
 use Rattle.log_rule.specs.Kept.{Attends, IsReader, IsSeen, IsThere, Kept, keepers_of, readers_of, reads_as}
 use Rattle.log_rule.specs.Numbers.{AreNumbered, numbers_as}
-use Rattle.log_rule.specs.Table.{LogRuled, OnlyHasReadings, now_at, returned_seat}
+use Rattle.log_rule.specs.Table.{LogRuled, now_at, reader_alone, returned_seat}
 use Rattle.log_rule.proofs.Claimed.Sures.{data_leaves, sure_join, sure_on, unsure}
 use Rattle.log_rule.proofs.Claimed.Totals.{both_at, total_append, total_at, total_set}
 use Rattle.log_rule.proofs.Consumers.{all_place, all_places, is_there}
@@ -169,9 +169,9 @@ module _ (key : Key) (slots id : ℕ) (m : Mine) where
         single = λ j lt. (let t = total_set (readers_of j) qs id v.pass w here' in let more = total_more (reads_as j) place (newly number n) v.pass.reading in let most = q.kept.single j lt in
             dite (ℕ_discrete j number)
             (λ e. let one : reads_as j (newly number n) ≡ 1 = ap (λ (x : Bool). cond x 1 0) (eq-eqb number j (sym e)) in let f : slice_index there j ≡ 1 = ap (slice_index there) e ∙ flag in let z : slice_index q.there j ≡ 0 = ap (slice_index q.there) e ∙ none in
-                added (total (readers_of j) qs') (readers_of j v.pass) (total (readers_of j) qs) (readers_of j w) (reads_as j (newly number n)) (slice_index q.there j) (slice_index there j) t more most one f z)
+            added (total (readers_of j) qs') (readers_of j v.pass) (total (readers_of j) qs) (readers_of j w) (reads_as j (newly number n)) (slice_index q.there j) (slice_index there j) t more most one f z)
             (λ ne. let zero_is : reads_as j (newly number n) ≡ 0 = ap (λ (x : Bool). cond x 1 0) (ne_eqb number j (λ e. ne (sym e))) in let f = flags j ne in
-                same (total (readers_of j) qs') (readers_of j v.pass) (total (readers_of j) qs) (readers_of j w) (reads_as j (newly number n)) (slice_index q.there j) (slice_index there j) t more most zero_is f));
+            same (total (readers_of j) qs') (readers_of j v.pass) (total (readers_of j) qs) (readers_of j w) (reads_as j (newly number n)) (slice_index q.there j) (slice_index there j) t more most zero_is f));
         keepers = subst (λ (t : ℕ). t ≤ 1) (sym (same_sum keepers_of qs id v.pass w here' refl)) q.kept.keepers;
         each = λ i u e. ⊎_elim
             (λ (y : (i ≡ id) × (w ≡ u)). subst (Attends bs there ws' qs') y.1 record {
@@ -257,9 +257,9 @@ module _ (key : Key) (slots id : ℕ) (m : Mine) where
         single = λ j lt. (let t = total_set (readers_of j) qs id v.pass w here' in let l = less j in let top = q.kept.single j lt in
             dite (ℕ_discrete j number)
             (λ e. let yes : reads_as j r ≡ 1 = ap (λ (x : ℕ). reads_as x r) e ∙ one in let f = q.kept.flags j in
-                taken (total (readers_of j) qs') (readers_of j v.pass) (total (readers_of j) qs) (readers_of j w) (reads_as j r) (slice_index q.there j) (slice_index there j) t l top yes f)
+            taken (total (readers_of j) qs') (readers_of j v.pass) (total (readers_of j) qs) (readers_of j w) (reads_as j r) (slice_index q.there j) (slice_index there j) t l top yes f)
             (λ ne. let zero_is : reads_as j r ≡ 0 = ap (λ (x : Bool). cond x 1 0) (ne_eqb r.number j (λ e. ne (sym e ∙ may.number_is))) in let f = flags j ne in
-                same (total (readers_of j) qs') (readers_of j v.pass) (total (readers_of j) qs) (readers_of j w) (reads_as j r) (slice_index q.there j) (slice_index there j) t l top zero_is f));
+            same (total (readers_of j) qs') (readers_of j v.pass) (total (readers_of j) qs) (readers_of j w) (reads_as j r) (slice_index q.there j) (slice_index there j) t l top zero_is f));
         keepers = subst (λ (t : ℕ). t ≤ 1) (sym (same_sum keepers_of qs id v.pass w here' refl)) q.kept.keepers;
         each = λ i u e. ⊎_elim
             (λ (y : (i ≡ id) × (w ≡ u)). subst (Attends bs there ws' qs') y.1 record {
@@ -312,8 +312,8 @@ module _ (key : Key) (slots id : ℕ) (m : Mine) where
 
 -- ---- a seat goes back to the keeper
 
-pub returns : (key : Key) (id other : ℕ) (v w : View) → OnlyHasReadings key.identity key.start w.pass → SeatsJoin (LogRuled key) id v other w (returned_seat v w) (spent_seat key.identity key.start)
-returns key id other v w only s r at ne at' =
+pub returns : (key : Key) (id other : ℕ) (v w : View) → (c : Reading) → w.pass ≡ reader_alone key.identity key.start c → SeatsJoin (LogRuled key) id v other w (returned_seat v w) (spent_seat key.identity key.start)
+returns key id other v w c only s r at ne at' =
     let ps : List Pass = map pass_in s.views in let bs : Bounds = now_at key (slice_index s.words limit_place) r.cleaned in let l : View = returned_seat v w in let q : View = spent_seat key.identity key.start in
     let h = at_map pass_in s.views id v at in let was : get_elem? s.views other ≡ some w = sym (set_else s.views id other l ne) ∙ at' in let h' = at_map pass_in s.views other w was in
     let a = r.kept.each id v.pass h in let theirs = r.kept.each other w.pass h' in
@@ -325,9 +325,9 @@ returns key id other v w only s r at ne at' =
     let kept : Kept bs r.there s.words (set ps1 other q.pass) = kept_join bs r.there s.words ps r.ruled r.kept id other v.pass w.pass l.pass q.pass h at1 ruled2
     (λ f. (let z = only in ap (λ (p : Pass). weight f v.pass + weight f p) (sym z)))
     (λ f. (let z = only in ap (λ (p : Pass). committed_weight f v.pass + committed_weight f p) (sym z)))
-    (λ j. (let t = total_append (reads_as j) v.pass.reading w.pass.reading in no_more (readers_of j l.pass) (readers_of j v.pass + readers_of j w.pass) t))
+    (λ j. (let t = total_append (reads_as j) w.pass.reading v.pass.reading in no_more (readers_of j l.pass) (readers_of j v.pass) (readers_of j w.pass) t))
     (low_keepers (keepers_of v.pass) (keepers_of w.pass))
-    record { readings = all_append (IsReader s.words ps) v.pass.reading w.pass.reading a.readings theirs.readings; keeping = a.keeping } record { readings = tt; keeping = none_kept bs r.there s.words ps } in
+    record { readings = all_append (IsReader s.words ps) w.pass.reading v.pass.reading theirs.readings a.readings; keeping = a.keeping } record { readings = tt; keeping = none_kept bs r.there s.words ps } in
     let mine = r.sure.each id v at in record {
       cleaned = r.cleaned;
       there = r.there;
@@ -337,8 +337,8 @@ returns key id other v w only s r at ne at' =
       numbered = subst AreNumbered (sym is) (numbered_join ps id other v.pass w.pass l.pass q.pass h at1 (λ n. ap (λ (p : Pass). numbers_as n v.pass + numbers_as n p) (sym only)) ((attends_goes v.pass l.pass.reading v.pass.keeping).owns (r.numbered.each id v.pass h)) (owns_none q.pass refl refl) r.numbered);
     }
   where
-    no_more : (x y : ℕ) → x ≡ y → x + 0 ≤ y
-    no_more x y e = omega arith
+    no_more : (x y z : ℕ) → x ≡ z + y → x + 0 ≤ y + z
+    no_more x y z e = omega arith
 
     low_keepers : (x y : ℕ) → x + 0 ≤ x + y
     low_keepers x y = omega arith

@@ -54,7 +54,7 @@ lower_among a [] p among = absurd among
 lower_among a (q ∷ ps) p (inl e) = let r = lower (min a q) ps in omega (arith, e)
 lower_among a (q ∷ ps) p (inr among) = lower_among (min a q) ps p among
 
-among_numbered : (from : ℕ) (there : List ℕ) (j : ℕ) → 0 < slice_index there j → Among (from + j) (numbered from there)
+pub among_numbered : (from : ℕ) (there : List ℕ) (j : ℕ) → 0 < slice_index there j → Among (from + j) (numbered from there)
 among_numbered from [] j some' = absurd (omega arith)
 among_numbered from (zero ∷ there) zero some' = absurd (omega arith)
 among_numbered from (suc n ∷ there) zero some' = inl (let e : from + 0 ≡ from = omega arith in e)

@@ -80,7 +80,7 @@ other_readings (r ∷ rs) = rs
 
 -- the first consumer goes to a seat of its own
 abbrev pub reader_left : View → View
-reader_left v = dealing (record v.pass { reading = other_readings v.pass.reading }) v
+reader_left v = record v { pass = record v.pass { reading = other_readings v.pass.reading } }
 
 abbrev pub reader_right : View → View
 reader_right v = new_seat (record (newcomer v.pass.identity v.pass.start 0 0) { reading = first_reading v.pass.reading })
@@ -117,8 +117,8 @@ told_seat v w = record v { pass = record v.pass { reading = map (knows_all (all_
 -- ---- a consumer goes back to the keeper
 
 abbrev pub returned_seat : View → View → View
-returned_seat v w = record v { pass = record v.pass { reading = v.pass.reading ++ w.pass.reading } }
+returned_seat v w = record v { pass = record v.pass { reading = w.pass.reading ++ v.pass.reading } }
 
--- a pass that has consumers alone
-abbrev pub OnlyHasReadings : Identity → ℕ → Pass → Type 0
-OnlyHasReadings identity start v = v ≡ record (newcomer identity start 0 0) { reading = v.reading }
+-- a pass that is one consumer, and nothing else
+abbrev pub reader_alone : Identity → ℕ → Reading → Pass
+reader_alone identity start r = record (newcomer identity start 0 0) { reading = r ∷ [] }

@@ -6,6 +6,7 @@ pub mod Sourced
 pub mod Told
 mod Steps
 mod Sweeping
+pub mod Joined
 mod Limits
 mod Dealt
 mod Shares

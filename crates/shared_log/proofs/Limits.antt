@@ -14,13 +14,13 @@ use Rattle.log_rule.specs.Claims.Sure.{LearnsControls}
 use Rattle.log_rule.specs.declared.rule.Key.{Key}
 use Rattle.log_rule.specs.Table.{LogRuled}
 use Rattle.log_rule.proofs.Cleaning.{clean}
-use Rattle.log_rule.specs.Keepings.{CleansWord, MayClean, keeping, MayRaise, least_of, with_keeping}
-use Rattle.shared_log.specs.Keepers.{IsKeeping, KeepsAs, KeeperValue, KnowsLimit, MayCleanTo, MayRaiseFrom, seen_positions, with_cleaned}
+use Rattle.log_rule.specs.Keepings.{CleansWord, MayClean, keeping, MayRaise, least_there, with_keeping}
+use Rattle.shared_log.specs.Keepers.{IsKeeping, KeepsAs, KeeperValue, KnowsLimit, MayCleanTo, MayRaiseFrom, seen_positions, there_of, with_cleaned}
 use Rattle.shared_log.proofs.Steps.{keeping_is, keeps_then}
 
 may_clean : (k : KeeperValue) (end : ℕ) → k.held.pass.keeping.right ≡ 1 → k.held.pass.keeping.cleaned ≡ k.cleaned → MayCleanTo k end → k.cleaned < end → MayClean k.held.pass
 may_clean k end keeper e may lt =
-    let w = may.words in let le = may.below in record { keeper = keeper; below = eight k.held.pass.keeping.cleaned k.cleaned end (max k.held.pass.start (least_of (seen_positions k) - term_of k.held.pass)) e w.0 w.1 lt le }
+    let w = may.words in let le = may.below in record { keeper = keeper; below = eight k.held.pass.keeping.cleaned k.cleaned end (max k.held.pass.start (least_there (there_of k) (seen_positions k) - term_of k.held.pass)) e w.0 w.1 lt le }
   where
     eight : (v c end m : ℕ) → v ≡ c → c % 8 ≡ 0 → end % 8 ≡ 0 → c < end → end ≤ m → v + 8 ≤ m
     eight v c end m e a d lt le = omega arith
@@ -31,7 +31,7 @@ clean_on k q c end may x e lt =
     let w = may.words in let is = x.cleaned in record {
       further = next q.cleaned c k.cleaned end is e w.0 w.1 lt;
       words = (even q.cleaned c k.cleaned is e w.0, w.1);
-      below = subst (λ (v : Pass). end ≤ max v.start (least_of v.keeping.positions - term_of v)) (sym x.pass) may.below;
+      below = subst (λ (v : Pass). end ≤ max v.start (least_there v.keeping.there v.keeping.positions - term_of v)) (sym x.pass) may.below;
     }
   where
     next : (n c k end : ℕ) → n ≡ c → c ≡ k + 8 → k % 8 ≡ 0 → end % 8 ≡ 0 → k < end → n ≤ end

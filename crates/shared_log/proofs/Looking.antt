@@ -26,25 +26,25 @@ use Rattle.log_rule.proofs.Consumers.{look, pass, word}
 
 -- ---- the steps are allowed
 
-pub look_here : (key : Key) (slots id chosen : ℕ) (m : Mine) (i place number position read_to : ℕ) → IsReading m.0.pass place number position read_to → number < key.consumers → chosen ≡ place → i ≡ slot key.identity.geometry position
+pub look_here : (key : Key) (slots id chosen : ℕ) (m : Mine) (i place number position read_to : ℕ) → IsReading m.0.pass place number position read_to → number < 8 → chosen ≡ place → i ≡ slot key.identity.geometry position
     → Allows (LogRuled key) slots id m i (λ n. n) (λ n m'. reading (λ v k w. Looks v chosen k w) m n m')
 look_here key slots id chosen m i place number position read_to is low front at =
     let right : i ≡ slot key.identity.geometry is.consumer.position = at ∙ ap (slot key.identity.geometry) (sym is.position_is) in
     subst (λ (x : ℕ × ℕ). Allows (LogRuled key) slots id m x.0 (λ n. n) (λ n m'. reading (λ v k w. Looks v x.1 k w) m n m')) (λ j. (sym right j, sym front j))
-    (look key slots id m place is.consumer is.is (subst (λ (x : ℕ). x < key.consumers) (sym is.number_is) low))
+    (look key slots id m place is.consumer is.is (subst (λ (x : ℕ). x < 8) (sym is.number_is) low))
 
-pub word_here : (key : Key) (slots id chosen start index : ℕ) (m : Mine) (i place number position read_to : ℕ) → IsReading m.0.pass place number position read_to → number < key.consumers → chosen ≡ place → i ≡ slot key.identity.geometry (start + 8 * index)
+pub word_here : (key : Key) (slots id chosen start index : ℕ) (m : Mine) (i place number position read_to : ℕ) → IsReading m.0.pass place number position read_to → number < 8 → chosen ≡ place → i ≡ slot key.identity.geometry (start + 8 * index)
     → Allows (LogRuled key) slots id m i (λ n. n) (λ n m'. reading (λ v k w. Rereads v chosen start index k w) m n m')
 word_here key slots id chosen start index m i place number position read_to is low front at =
     subst (λ (x : ℕ × ℕ). Allows (LogRuled key) slots id m x.0 (λ n. n) (λ n m'. reading (λ v k w. Rereads v x.1 start index k w) m n m')) (λ j. (sym at j, sym front j))
-    (word key slots id m place is.consumer is.is start index (subst (λ (x : ℕ). x < key.consumers) (sym is.number_is) low))
+    (word key slots id m place is.consumer is.is start index (subst (λ (x : ℕ). x < 8) (sym is.number_is) low))
 
-pub pass_here : (key : Key) (slots id chosen end : ℕ) (m : Mine) (i place number position read_to : ℕ) → IsReading m.0.pass place number position read_to → number < key.consumers → chosen ≡ place → MayPass m.0.pass place end → i ≡ consumer_place number
+pub pass_here : (key : Key) (slots id chosen end : ℕ) (m : Mine) (i place number position read_to : ℕ) → IsReading m.0.pass place number position read_to → number < 8 → chosen ≡ place → MayPass m.0.pass place end → i ≡ consumer_place number
     → Allows (LogRuled key) slots id m i (λ _. end) (λ _ m'. reading (λ v k w. Consumes v chosen end w) m 0 m')
 pass_here key slots id chosen end m i place number position read_to is low front may at =
     let right : i ≡ consumer_place is.consumer.number = at ∙ ap consumer_place (sym is.number_is) in
     subst (λ (x : ℕ × ℕ). Allows (LogRuled key) slots id m x.0 (λ _. end) (λ _ m'. reading (λ v k w. Consumes v x.1 end w) m 0 m')) (λ j. (sym right j, sym front j))
-    (pass key slots id m place is.consumer is.is end may (subst (λ (x : ℕ). x < key.consumers) (sym is.number_is) low))
+    (pass key slots id m place is.consumer is.is end may (subst (λ (x : ℕ). x < 8) (sym is.number_is) low))
 
 -- ---- it stays the consumer that it is
 
@@ -213,12 +213,12 @@ put_equal h (y ∷ ys) (suc i) r x at e = ap (λ (ns : List ℕ). h y ∷ ns) (p
 pub reader_on : (l : LogValue) (r q : ReaderValue) → Rests r q → IsReaderOf l r → IsReaderOf l q
 reader_on l r q a is = record {
   of = record { table = a.seat.of ∙ is.of.table; identity = ap (λ (v : Pass). v.identity) a.pass ∙ is.of.identity; start = ap (λ (v : Pass). v.start) a.pass ∙ is.of.start };
-  number = subst (λ (x : ReaderValue). x.number < l.consumers) (sym a.same) is.number;
+  number = subst (λ (x : ReaderValue). x.number < 8) (sym a.same) is.number;
 }
 
 -- it stays one of the log's readers
 pub still_reader : (l : LogValue) (r q : ReaderValue) → IsReaderOf l r → SameSeat r.held q.held → OnlyReads r.held.pass q.held.pass → q.number ≡ r.number → IsReaderOf l q
 still_reader l r q is seat only same = record {
   of = record { table = seat.of ∙ is.of.table; identity = ap (λ (v : Pass). v.identity) only.rest ∙ is.of.identity; start = ap (λ (v : Pass). v.start) only.rest ∙ is.of.start };
-  number = subst (λ (n : ℕ). n < l.consumers) (sym same) is.number;
+  number = subst (λ (n : ℕ). n < 8) (sym same) is.number;
 }

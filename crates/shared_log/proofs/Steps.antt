@@ -11,18 +11,19 @@ use Rattle.log_rule.specs.Claims.Plays.{Mine}
 use Rattle.shared_log.specs.Handles.{IsOf, LogValue}
 use Rattle.log_rule.specs.declared.rule.Key.{Key}
 use Rattle.log_rule.specs.Table.{LogRuled}
+use Rattle.log_rule.specs.Kept.{IsThere}
 use Rattle.log_rule.specs.Keepings.{sweeping, with_keeping}
 use Rattle.log_rule.proofs.Keeping.{sweep}
 use Rattle.shared_log.specs.Keepers.{IsKeeping, KeepsAs, KeeperValue, KnowsLimit}
 
-pub see_here : (key : Key) (slots id : ℕ) (m : Mine) (i j count number consumers limit cleaned : ℕ) → IsKeeping m.0.pass limit cleaned → key.consumers ≡ consumers → (0 < number → number < consumers) → j ≡ number → count ≡ consumers → i ≡ 80 + 16 * number
-    → Allows (LogRuled key) slots id m i (λ n. n) (λ n m'. sweeping count j m n m')
-see_here key slots id m i j count number consumers limit cleaned is all inside front many at =
-    let there : consumer_place number ≡ i = omega (arith, at) in
-    subst (λ (x : ℕ × ℕ × ℕ). Allows (LogRuled key) slots id m x.0 (λ n. n) (λ n m'. sweeping x.1 x.2 m n m')) (λ q. (there q, (all ∙ sym many) q, sym front q)) (sweep key slots id m number is.keeper (λ pos. subst (λ (n : ℕ). number < n) (sym all) (inside pos)))
+pub see_here : (key : Key) (slots id : ℕ) (m : Mine) (i j number limit cleaned : ℕ) → IsKeeping m.0.pass limit cleaned → IsThere m.0.pass.keeping.there number → j ≡ number → i ≡ 80 + 16 * number
+    → Allows (LogRuled key) slots id m i (λ n. n) (λ n m'. sweeping j m n m')
+see_here key slots id m i j number limit cleaned is there front at =
+    let here : consumer_place number ≡ i = omega (arith, at) in
+    subst (λ (x : ℕ × ℕ). Allows (LogRuled key) slots id m x.0 (λ n. n) (λ n m'. sweeping x.1 m n m')) (λ q. (here q, sym front q)) (sweep key slots id m number is.keeper there)
 
-pub place_low : (n count wide ring : ℕ) → (0 < n → n < count) → count ≤ 8 → wide ≡ 208 + ring → 80 + 16 * n < wide
-place_low n count wide ring inside few e = dite (dec_le 1 n) (λ pos. let lt = inside pos in omega arith) (λ none. let z = lt_of_not-le none in omega arith)
+pub place_low : (n wide ring : ℕ) → n < 8 → wide ≡ 208 + ring → 80 + 16 * n < wide
+place_low n wide ring low e = omega arith
 
 -- ---- what is left
 

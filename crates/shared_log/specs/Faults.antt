@@ -1,9 +1,11 @@
 -- The codes that a user sees.
 use Rattle.std.specs.Prelude.{ℕ, List, codes}
 use Rattle.shared_log.specs.declared.fault.LogError.{LogError}
-use Rattle.shared_log.specs.declared.fault.LogError.TheVariants.{Start, Consumers, Memory}
+use Rattle.shared_log.specs.declared.fault.LogError.TheVariants.{Start, Consumers, Memory, Full, Last}
 
 abbrev pub code_of : LogError → List ℕ
 code_of Start = codes "L1"
 code_of Consumers = codes "L2"
 code_of Memory = codes "L3"
+code_of Full = codes "L4"
+code_of Last = codes "L5"

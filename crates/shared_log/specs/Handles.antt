@@ -31,6 +31,7 @@ pub record IsTable (table : TableId) (key : Key) (identity : Identity) (start co
   pub consumers_is : key.consumers ≡ consumers
   pub geometry : IsGeometry identity.geometry
   pub few : consumers ≤ 8
+  pub any : 0 < consumers
 
 -- the pass is one of this log
 pub record IsOf (l : LogValue) (p : PublisherValue) : Type 0 where

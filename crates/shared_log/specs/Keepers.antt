@@ -1,5 +1,5 @@
 -- What contracts see of the keeper of a log that threads share.
-use Rattle.std.specs.Prelude.{◌≡◌, ℕ, zero, suc, ◌+◌, ◌-◌, ◌*◌, ◌/◌, ◌%◌, ◌<◌, ◌≤◌, ◌&&◌, not, Bool, if◌then◌else◌, List, [], ◌∷◌, ◌++◌, length, max, nat_eq, slice_index}
+use Rattle.std.specs.Prelude.{◌≡◌, ℕ, zero, suc, ◌+◌, ◌-◌, ◌*◌, ◌/◌, ◌%◌, ◌<◌, ◌≤◌, ◌&&◌, not, Bool, if◌then◌else◌, List, [], ◌∷◌, ◌++◌, length, map, max, nat_eq, slice_index}
 use Rattle.theory.specs.Placed.{Among}
 use Rattle.theory.specs.Refusal.{is_closed, is_connected, limit_in}
 use Rattle.publication.specs.declared.pass.Keeping.{Keeping}
@@ -7,7 +7,8 @@ use Rattle.publication.specs.declared.pass.Pass.{Pass}
 use Rattle.publication.specs.declared.pass.Reading.{Reading}
 use Rattle.publication.specs.Steps.{term_of}
 use Rattle.log_rule.specs.Claims.Handles.{PublisherValue}
-use Rattle.log_rule.specs.Keepings.{MayStand, least_of, with_keeping}
+use Rattle.log_rule.specs.Kept.{IsThere}
+use Rattle.log_rule.specs.Keepings.{MayStand, least_there, numbered, with_keeping}
 use Rattle.shared_log.specs.Handles.{LogValue}
 
 -- its seat, the limit word, and the position below which nothing is readable any more
@@ -23,11 +24,32 @@ pub record IsKeeping (v : Pass) (limit cleaned : ℕ) : Type 0 where
   pub limit_is : v.keeping.limit ≡ limit
   pub cleaned_is : v.keeping.cleaned ≡ cleaned
 
+-- 1 where a consumer is there, else 0
+abbrev pub flag_of : Bool → ℕ
+flag_of there = if there then 1 else 0
+
+-- the pass knows that these consumers are there, and one is; and where eight were seen last
+pub record KnowsWho (v : Pass) (there : List Bool) : Type 0 where
+  pub many : length there ≡ 8
+  pub flags : v.keeping.there ≡ map flag_of there
+  pub eight : length v.keeping.positions ≡ 8
+  pub one : ℕ
+  pub low : one < 8
+  pub any : IsThere v.keeping.there one
+
 abbrev pub keeping_of : KeeperValue → Keeping
 keeping_of k = k.held.pass.keeping
 
 abbrev pub seen_positions : KeeperValue → List ℕ
 seen_positions k = k.held.pass.keeping.positions
+
+-- which consumers are there, by their numbers
+abbrev pub there_of : KeeperValue → List ℕ
+there_of k = k.held.pass.keeping.there
+
+-- the numbers of those, in order
+abbrev pub those_there : KeeperValue → List ℕ
+those_there k = numbered 0 (there_of k)
 
 -- the numbers of the consumers that it read, in order
 abbrev pub reads_of : KeeperValue → List ℕ
@@ -89,36 +111,36 @@ pub record ReadsConsumer (k : KeeperValue) (j n : ℕ) : Type 0 where
   pub stands : MayStand k.held.pass n
   pub own : (r : Reading) → Among r k.held.pass.reading → r.number ≡ j → n ≡ r.position
 
--- each consumer was read once, in the order of their numbers, and the least stood there
+-- each consumer that is there was read once, in the order of their numbers, and the least stood there
 pub record Sweeps (l : LogValue) (k : KeeperValue) (least : ℕ) (q : KeeperValue) : Type 0 where
   pub is : IsKeeping k.held.pass k.limit k.cleaned
-  pub once : reads_of q ≡ reads_of k ++ counted 0 l.consumers
-  pub all : length (seen_positions q) ≡ l.consumers
-  pub reads : (j : ℕ) → j < l.consumers → ReadsConsumer k j (slice_index (seen_positions q) j)
-  pub least_is : least ≡ least_of (seen_positions q)
+  pub once : reads_of q ≡ reads_of k ++ those_there k
+  pub all : length (seen_positions q) ≡ 8
+  pub reads : (j : ℕ) → IsThere (there_of k) j → ReadsConsumer k j (slice_index (seen_positions q) j)
+  pub least_is : least ≡ least_there (there_of k) (seen_positions q)
   pub stands : MayStand k.held.pass least
   pub words : (l.start % 32 ≡ 0) × (k.cleaned % 8 ≡ 0)
   pub keeps : KeepsAs k (with_reads (seen_positions q) (reads_of q) k) q
-  pub steps : TookSteps k l.consumers q
+  pub steps : TookSteps k (length (those_there k)) q
 
 -- words may be cleaned up to there: all lies a term or more below the least consumer that was seen
 pub record MayCleanTo (k : KeeperValue) (end : ℕ) : Type 0 where
   pub further : k.cleaned ≤ end
   pub words : (k.cleaned % 8 ≡ 0) × (end % 8 ≡ 0)
-  pub below : end ≤ max k.held.pass.start (least_of (seen_positions k) - term_of k.held.pass)
+  pub below : end ≤ max k.held.pass.start (least_there (there_of k) (seen_positions k) - term_of k.held.pass)
 
 -- the limit may be raised to half a term above there: what lies a term below is clean
 pub record MayRaiseFrom (k : KeeperValue) (least : ℕ) : Type 0 where
   pub stands : MayStand k.held.pass least
   pub clean : least ≤ k.cleaned + term_of k.held.pass
 
--- each consumer was read once in this call; what lies a term or more below the least is cleaned, and the limit raised by it
+-- each consumer that is there was read once in this call; what lies a term or more below the least is cleaned, and the limit raised by it
 pub record CleansAndLimits (l : LogValue) (k q : KeeperValue) : Type 0 where
-  pub once : reads_of q ≡ reads_of k ++ counted 0 l.consumers
-  pub all : length (seen_positions q) ≡ l.consumers
-  pub reads : (j : ℕ) → j < l.consumers → ReadsConsumer k j (slice_index (seen_positions q) j)
+  pub once : reads_of q ≡ reads_of k ++ those_there k
+  pub all : length (seen_positions q) ≡ 8
+  pub reads : (j : ℕ) → IsThere (there_of k) j → ReadsConsumer k j (slice_index (seen_positions q) j)
   pub not_back : k.cleaned ≤ q.cleaned
-  pub keeps : let least = least_of (seen_positions q) in let length_of = l.identity.geometry.term_length in
+  pub keeps : let least = least_there (there_of k) (seen_positions q) in let length_of = l.identity.geometry.term_length in
       KeepsAs k (record (keeping_of k) { limit = raised k.limit least length_of; cleaned = max l.start (least - length_of); positions = seen_positions q; reads = reads_of q }) q
-  -- one load for each consumer, one store for each word that was cleaned, and one of the limit word where that changed
-  pub steps : TookSteps k (l.consumers + (q.cleaned - k.cleaned) / 8 + stored_once k.limit q.limit) q
+  -- one load for each consumer that is there, one store for each word that was cleaned, and one of the limit word where that changed
+  pub steps : TookSteps k (length (those_there k) + (q.cleaned - k.cleaned) / 8 + stored_once k.limit q.limit) q

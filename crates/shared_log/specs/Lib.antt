@@ -1,5 +1,6 @@
 pub mod Handles
 pub mod Readers
+pub mod Joining
 pub mod Sourced
 pub mod Keepers
 pub mod Parts

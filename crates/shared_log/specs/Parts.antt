@@ -4,7 +4,7 @@ use Rattle.publication.specs.declared.pass.Keeping.{Keeping}
 use Rattle.publication.specs.declared.pass.Pass.{Pass}
 use Rattle.log_rule.specs.Claims.Handles.{PublisherValue}
 use Rattle.log_rule.specs.Claims.Plays.{newcomer}
-use Rattle.log_rule.specs.Table.{consumers_at}
+use Rattle.log_rule.specs.Table.{consumers_at, first_there}
 use Rattle.shared_log.specs.Handles.{AreNew, IsOf, LogValue}
 use Rattle.shared_log.specs.Readers.{ReaderValue}
 use Rattle.shared_log.specs.Keepers.{KeeperValue}
@@ -19,7 +19,7 @@ pub record IsFresh (l : LogValue) (pass : Pass) (p : PublisherValue) : Type 0 wh
 -- ---- the keeper and the readers
 
 abbrev pub first_keeping : LogValue → Keeping
-first_keeping l = record { right = 1; limit = l.start; cleaned = l.start; positions = replicate l.consumers l.start; reads = [] }
+first_keeping l = record { right = 1; limit = l.start; cleaned = l.start; there = first_there l.consumers; positions = replicate 8 l.start; reads = [] }
 
 pub record IsNewKeeper (l : LogValue) (k : KeeperValue) : Type 0 where
   pub held : IsFresh l (record (newcomer l.identity l.start 0 8) { keeping = first_keeping l }) k.held

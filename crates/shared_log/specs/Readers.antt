@@ -11,6 +11,7 @@ use Rattle.publication.specs.Steps.{term_of}
 use Rattle.publication.specs.Contents.{bytes_in, frame_in}
 use Rattle.log_rule.specs.Claims.Handles.{PublisherValue}
 use Rattle.log_rule.specs.Readings.{IsConsumer, IsFrameAt, MayPass, end_of, missed}
+use Rattle.log_rule.specs.Table.{reader_alone}
 use Rattle.shared_log.specs.Handles.{IsOf, LogValue}
 
 pub record ReaderValue : Type 0 where
@@ -36,7 +37,13 @@ pub record IsReading (v : Pass) (place number position read_to : ℕ) : Type 0 w
 -- the reader is one of this log
 pub record IsReaderOf (l : LogValue) (r : ReaderValue) : Type 0 where
   pub of : IsOf l r.held
-  pub number : r.number < l.consumers
+  pub number : r.number < 8
+
+-- its pass is that consumer, and nothing else
+pub record IsAlone (l : LogValue) (r : ReaderValue) : Type 0 where
+  pub consumer : Reading
+  pub pass : r.held.pass ≡ reader_alone l.identity l.start consumer
+  pub place : r.place ≡ 0
 
 -- the frames that the reader knows to be committed
 abbrev pub known_at : List Reading → ℕ → List FrameWords

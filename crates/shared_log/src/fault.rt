@@ -6,7 +6,7 @@ use std::alloc::{AllocError, AllocFailed};
 use std::fmt;
 use thiserror::Error;
 
-/// Why a log can't be opened. Nothing was made then.
+/// Why a log can't be opened, or why a consumer can't join or leave. Nothing was made or changed then.
 #[derive(Clone, Copy, Debug, PartialEq, Eq, Error)]
 pub enum LogError {
     /// The start isn't a multiple of 32, or not below the greatest position.
@@ -15,6 +15,10 @@ pub enum LogError {
     Consumers,
     /// Memory was refused.
     Memory,
+    /// Eight consumers are there: no other can join.
+    Full,
+    /// No other consumer is there: the last one can't leave.
+    Last,
 }
 
 impl fmt::Display for LogError {
@@ -34,6 +38,8 @@ impl LogError {
             LogError::Start => "L1",
             LogError::Consumers => "L2",
             LogError::Memory => "L3",
+            LogError::Full => "L4",
+            LogError::Last => "L5",
         }
     }
 }

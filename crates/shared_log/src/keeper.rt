@@ -1,15 +1,18 @@
 //! A keeper of a log, and its steps.
 
-ghost use Rattle.std.specs.Prelude.{◌≡◌, ◌+◌, ◌-◌, ◌*◌, ◌/◌, ◌%◌, ◌<◌, ◌≤◌, ◌&&◌, not};
+ghost use Rattle.std.specs.Prelude.{◌≡◌, ◌+◌, ◌-◌, ◌*◌, ◌/◌, ◌%◌, ◌<◌, ◌≤◌, ◌&&◌, not, slice_index};
 ghost use Rattle.theory.specs.Refusal.{is_closed, is_connected, limit_in};
 ghost use Rattle.log_rule.specs.Claims.Packs.{slot};
 ghost use Rattle.shared_log.specs.Handles.{IsOf};
+ghost use Rattle.log_rule.specs.Kept.{IsThere};
 ghost use Rattle.log_rule.specs.Keepings.{MayRaise, SeesConsumer};
-ghost use Rattle.shared_log.specs.Keepers.{CleansAndLimits, IsKeeping, KeepsAs, KnowsLimit, MayCleanTo, MayRaiseFrom, Sweeps, TookSteps, closed_word, connected_word, raised, reads_of, seen_positions, stored_once, with_cleaned, with_limit, with_reads};
+ghost use Rattle.shared_log.specs.Keepers.{CleansAndLimits, IsKeeping, KeepsAs, KnowsLimit, MayCleanTo, MayRaiseFrom, Sweeps, TookSteps, closed_word, connected_word, flag_of, raised, reads_of, seen_positions, stored_once, there_of, with_cleaned, with_limit, with_reads};
+
+pub(crate) mod joining;
 
 use crate::log::Log;
 use atomic_table::Seat;
-use log_rule::{CONSUMERS, Clean, LINE, Raise, Sweep, Swept, View};
+use log_rule::{CONSUMERS, Chosen, Clean, LINE, Raise, Sweep, View};
 use position::Identity;
 use std::marker::{Brand, Model};
 
@@ -21,6 +24,8 @@ pub struct Keeper {
     pub(crate) limit: u64,
     /// The position below which nothing is readable any more.
     pub(crate) cleaned: u64,
+    /// Which consumers are there, by their numbers.
+    pub(crate) there: [bool; 8],
     /// Which stream its log carries, and where that begins.
     pub(crate) identity: Identity,
     pub(crate) start: u64,
@@ -28,13 +33,13 @@ pub struct Keeper {
 
 impl Model for Keeper {
     ghost use Rattle.std.specs.Prelude.{◌≡◌, []};
-    ghost use Rattle.shared_log.specs.Keepers.{IsKeeping, KeeperValue};
+    ghost use Rattle.shared_log.specs.Keepers.{IsKeeping, KeeperValue, KnowsWho};
 
     ghost Value = { KeeperValue };
 
     ghost view = { λ k. record { held = record { of = k.seat.table_id; seat = k.seat.id; pass = k.seat.me.0.pass; steps = k.seat.me.0.steps; controls = k.seat.me.0.controls; sure = k.seat.me.0.sure }; limit = k.limit; cleaned = k.cleaned } };
 
-    ghost invariant = { λ k. (k.seat.me.1 ≡ []) × IsKeeping k.seat.me.0.pass k.limit k.cleaned × (k.identity ≡ k.seat.me.0.pass.identity) × (k.start ≡ k.seat.me.0.pass.start) };
+    ghost invariant = { λ k. (k.seat.me.1 ≡ []) × IsKeeping k.seat.me.0.pass k.limit k.cleaned × KnowsWho k.seat.me.0.pass k.there × (k.identity ≡ k.seat.me.0.pass.identity) × (k.start ≡ k.seat.me.0.pass.start) };
 }
 
 impl Keeper {
@@ -50,6 +55,14 @@ impl Keeper {
         ensures { result ≡ self.now.cleaned }
     {
         self.cleaned
+    }
+
+    /// Whether a consumer has this number, 0 to 7.
+    pub fn has_consumer(&self, number: u64) -> bool
+        requires { number < 8 }
+        ensures { slice_index (there_of self.now) number ≡ flag_of result }
+    {
+        self.there[number as usize]
     }
 
     /// Which stream its log carries.
@@ -68,12 +81,13 @@ impl Keeper {
 }
 
 /// Loads the position of a consumer.
-fn see_as<N: Swept>(log: &Log, keeper: &mut Keeper, number: u64) -> u64
+fn see_as<N: Chosen>(log: &Log, keeper: &mut Keeper, number: u64) -> u64
     requires fits { IsOf log.now keeper.old.held }
-    requires inside { 0 < number → number < log.now.consumers }
-    requires chosen { (N.number ≡ number) × (N.count ≡ log.now.consumers) }
+    requires low { number < 8 }
+    requires there { IsThere (there_of keeper.old) number }
+    requires chosen { N.number ≡ number }
     ensures is { IsKeeping keeper.old.held.pass keeper.old.limit keeper.old.cleaned }
-    ensures sees { SeesConsumer keeper.old.held.pass log.now.consumers number result keeper.new.held.pass }
+    ensures sees { SeesConsumer keeper.old.held.pass number result keeper.new.held.pass }
     ensures keeps { KeepsAs keeper.old (with_reads (seen_positions keeper.new) (reads_of keeper.new) keeper.old) keeper.new }
     ensures once { TookSteps keeper.old 1 keeper.new }
 {
@@ -81,14 +95,17 @@ fn see_as<N: Swept>(log: &Log, keeper: &mut Keeper, number: u64) -> u64
     words.load::<Sweep<N>>(&mut keeper.seat, CONSUMERS + LINE * number as usize)
 }
 
-/// The least position of the consumers, each loaded once.
-fn sweep(log: &Log, keeper: &mut Keeper) -> u64
+/// The least position of the consumers that are there, each loaded once.
+pub(crate) fn sweep(log: &Log, keeper: &mut Keeper) -> u64
     requires fits { IsOf log.now keeper.old.held }
     ensures { Sweeps log.now keeper.old result keeper.new }
 {
-    let mut least = see_as::<Brand>(log, keeper, 0);
-    for number in 1..log.consumers() {
-        least = least.min(see_as::<Brand>(log, keeper, number));
+    let _ = &keeper.seat;
+    let mut least = log.identity().geometry().max_position();
+    for number in 0..8 {
+        if keeper.has_consumer(number) {
+            least = least.min(see_as::<Brand>(log, keeper, number));
+        }
     }
     least
 }
@@ -152,7 +169,7 @@ fn raise(log: &Log, keeper: &mut Keeper, least: u64)
     }
 }
 
-/// Cleans all that is a term or more below the least consumer. Then, if the log is connected and not closed, raises the
+/// Cleans all that is a term or more below the least consumer that is there. Then, if the log is connected and not closed, raises the
 /// limit to half a term above that consumer. The answer is the limit.
 pub fn clean_and_limit(log: &Log, keeper: &mut Keeper) -> u64
     requires { IsOf log.now keeper.old.held }

@@ -43,6 +43,7 @@ mod roles;
 pub use book::{Book, PUBLISHERS};
 pub use closing::close;
 pub use fault::LogError;
+pub use keeper::joining::{begin_consumer, end_consumer};
 pub use keeper::{Keeper, clean_and_limit, set_closed, set_connected};
 pub use log::{Log, Publisher};
 pub use parts::{Parts, open};

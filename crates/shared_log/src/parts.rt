@@ -1,9 +1,11 @@
 //! A log that opens, with all its passes.
 
-ghost use Rattle.std.specs.Prelude.{◌≡◌, ℕ, ◌+◌, ◌<◌, ◌≤◌, ◌↔◌, [], IfOk, IsErrOf, length, vec_capacity, vec_len};
+ghost use Rattle.std.specs.Prelude.{◌≡◌, ℕ, ◌+◌, ◌<◌, ◌≤◌, ◌↔◌, [], IfOk, IsErrOf, length, map, vec_capacity, vec_len};
 ghost use Rattle.theory.specs.Position.{max_position};
 ghost use Rattle.position.specs.Openings.{IsConsumerCount, IsStart};
+ghost use Rattle.log_rule.specs.Table.{first_there as first_flags};
 ghost use Rattle.shared_log.specs.Handles.{AreNew, IsLogOf, IsWholeNew};
+ghost use Rattle.shared_log.specs.Keepers.{flag_of};
 ghost use Rattle.shared_log.specs.Parts.{AreDealt, AreReaders, IsDealing, IsDealer, IsNewKeeper, IsNewReader, IsNewPublisher};
 
 use crate::fault::LogError;
@@ -24,6 +26,19 @@ pub struct Parts {
     pub keeper: Keeper,
 }
 
+/// So many consumers are there, with the first numbers.
+fn first_there(consumers: u64) -> [bool; 8]
+    requires { consumers ≤ 8 }
+    ensures flags { map flag_of result ≡ first_flags consumers }
+    ensures many { length result ≡ 8 }
+{
+    let mut there = [false; 8];
+    for number in 0..consumers {
+        there[number as usize] = true;
+    }
+    there
+}
+
 /// The keeper goes to a seat of its own.
 fn deal_keeper(log: &Log, pass: &mut Publisher) -> Keeper
     requires { IsWholeNew log.now pass.old }
@@ -32,10 +47,12 @@ fn deal_keeper(log: &Log, pass: &mut Publisher) -> Keeper
 {
     let start = log.start();
     let words = &log.table.shared;
+    let there = first_there(log.consumers());
     Keeper {
         seat: words.split_seat::<DealKeeper>(&mut pass.seat),
         limit: start,
         cleaned: start,
+        there,
         identity: log.identity(),
         start,
     }

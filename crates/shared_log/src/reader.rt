@@ -3,7 +3,7 @@
 ghost use Rattle.std.specs.Prelude.{◌≡◌, ◌+◌, ◌*◌, ◌^◌, ◌<◌, ◌≤◌, IfNone, IfSome, length};
 ghost use Rattle.log_rule.specs.Claims.Packs.{slot};
 ghost use Rattle.log_rule.specs.Readings.{Looks};
-ghost use Rattle.shared_log.specs.Readers.{Advances, Copies, Finds, FindsNone, IsReaderOf, LoadsWord, MayReread, ReadsFrame, ReadsNone, Rereads, Rests, SameSeat};
+ghost use Rattle.shared_log.specs.Readers.{Advances, Copies, Finds, FindsNone, IsAlone, IsReaderOf, LoadsWord, MayReread, ReadsFrame, ReadsNone, Rereads, Rests, SameSeat};
 
 pub(crate) mod learning;
 pub(crate) mod source;
@@ -189,6 +189,7 @@ pub fn next(log: &Log, reader: &mut LogReader, block: &mut Block) -> Option<Fram
     ensures found { IfSome result (λ head. ReadsFrame log.now reader.old head block.old reader.new block.new) }
     ensures read { IfSome result (λ _. reader.new.position < reader.new.read_to) }
     ensures fits { IsReaderOf log.now reader.new }
+    ensures alone { IsAlone log.now reader.old → IsAlone log.now reader.new }
     ensures none { IfNone result (ReadsNone reader.old block.old reader.new block.new) }
     ensures same_length { length block.new ≡ length block.old }
 {
@@ -210,6 +211,7 @@ pub fn advance(log: &Log, reader: &mut LogReader) -> u64
     requires read { reader.old.position < reader.old.read_to }
     ensures advances { Advances reader.old reader.new }
     ensures fits { IsReaderOf log.now reader.new }
+    ensures alone { IsAlone log.now reader.old → IsAlone log.now reader.new }
     ensures answer { result ≡ reader.new.position }
 {
     consume_as::<Brand>(log, reader)
@@ -222,6 +224,7 @@ pub fn reread(log: &Log, reader: &mut LogReader, position: u64, block: &mut Bloc
     requires room { log.now.identity.geometry.mtu ≤ length block.old }
     requires may { MayReread log.now reader.old position }
     ensures again { Rereads log.now reader.old position result block.old reader.new block.new }
+    ensures alone { IsAlone log.now reader.old → IsAlone log.now reader.new }
     ensures same_length { length block.new ≡ length block.old }
 {
     let _ = &log.table;

@@ -3,7 +3,7 @@
 
 ghost use Rattle.std.specs.Prelude.{◌≡◌};
 ghost use Rattle.shared_log.specs.Handles.{IsPublishing};
-ghost use Rattle.shared_log.specs.Keepers.{IsKeeping};
+ghost use Rattle.shared_log.specs.Keepers.{IsKeeping, KnowsWho};
 ghost use Rattle.shared_log.specs.Readers.{IsReading};
 
 use crate::keeper::Keeper;
@@ -35,9 +35,10 @@ impl Publisher {
         }
     }
 
-    /// Its pass as the keeper, with the limit word that it knows and how far it has cleaned.
-    pub fn into_keeper(self, limit: u64, cleaned: u64) -> Keeper
-        requires { IsKeeping self.pass limit cleaned }
+    /// Its pass as the keeper, with the limit word that it knows, how far it has cleaned, and which consumers are there.
+    pub fn into_keeper(self, limit: u64, cleaned: u64, there: [bool; 8]) -> Keeper
+        requires keeps { IsKeeping self.pass limit cleaned }
+        requires knows { KnowsWho self.pass there }
         ensures { result ≡ record { held = self; limit = limit; cleaned = cleaned } }
     {
         let Publisher {
@@ -51,6 +52,7 @@ impl Publisher {
             seat,
             limit,
             cleaned,
+            there,
             identity,
             start,
         }
@@ -92,6 +94,7 @@ impl Keeper {
             seat,
             limit: _,
             cleaned: _,
+            there: _,
             identity,
             start,
         } = self;

@@ -2,7 +2,7 @@
 
 ghost use Rattle.std.specs.Prelude.{◌≡◌};
 ghost use Rattle.shared_log.specs.Handles.{IsOf};
-ghost use Rattle.shared_log.specs.Readers.{IsReaderOf, Learns, SameSeat};
+ghost use Rattle.shared_log.specs.Readers.{IsAlone, IsReaderOf, Learns, SameSeat};
 
 use crate::log::{Log, Publisher};
 use crate::reader::LogReader;
@@ -15,6 +15,7 @@ pub fn learn(log: &Log, reader: &mut LogReader, publisher: &mut Publisher)
     requires publisher { IsOf log.now publisher.old }
     requires unarmed { publisher.old.pass.right.armed ≡ 0 }
     ensures learns { Learns reader.old publisher.old.pass reader.new }
+    ensures alone { IsAlone log.now reader.old → IsAlone log.now reader.new }
     ensures same { publisher.new ≡ publisher.old }
 {
     learn_as::<Brand>(log, reader, publisher);
@@ -26,6 +27,7 @@ fn learn_as<N: Carried>(log: &Log, reader: &mut LogReader, publisher: &mut Publi
     requires unarmed { publisher.old.pass.right.armed ≡ 0 }
     requires carried { (N.identity ≡ log.now.identity) × (N.start ≡ log.now.start) }
     ensures learns { Learns reader.old publisher.old.pass reader.new }
+    ensures alone { IsAlone log.now reader.old → IsAlone log.now reader.new }
     ensures same { publisher.new ≡ publisher.old }
 {
     let words = &log.table.shared;

@@ -8,22 +8,19 @@ use Rattle.log_rule.specs.Readings.{Consumes}
 use Rattle.shared_log.proofs.Looking.{pass_here, passed_here, passed_same}
 use Rattle.shared_log.proofs.reader.consume_as.Goals as goal
 
-low : (l : LogValue) (r : ReaderValue) (n m : ℕ) → r.number < l.consumers → n ≡ r.number → m ≡ l.consumers → m ≤ 8 → n < 8
-low l r n m lt e f le = omega arith
-
 pub overflow_mul-place : goal.overflow_mul-place
-overflow_mul-place g c = let few : c.reader.inside.number < 8 = low c.args.log.now c.args.reader.now c.reader.inside.number c.log.inside.consumers c.requires.fits.number (ap (λ (r : ReaderValue). r.number) c.reader.view_is) (ap (λ (l : LogValue). l.consumers) c.log.view_is) c.log.invariant.few in omega arith
+overflow_mul-place g c = let few : c.reader.inside.number < 8 = subst (λ (r : ReaderValue). r.number < 8) (sym c.reader.view_is) c.requires.fits.number in omega arith
 
 pub overflow_add-place : goal.overflow_add-place
-overflow_add-place g c = let few : c.reader.inside.number < 8 = low c.args.log.now c.args.reader.now c.reader.inside.number c.log.inside.consumers c.requires.fits.number (ap (λ (r : ReaderValue). r.number) c.reader.view_is) (ap (λ (l : LogValue). l.consumers) c.log.view_is) c.log.invariant.few in omega arith
+overflow_add-place g c = let few : c.reader.inside.number < 8 = subst (λ (r : ReaderValue). r.number < 8) (sym c.reader.view_is) c.requires.fits.number in omega arith
 
 pub store-requires : goal.store-requires
 store-requires g c =
     let me : Mine = c.reader.inside.seat.me in
-    let number : c.reader.inside.number < c.log.inside.table.shared.key.consumers = subst (λ (x : ℕ × ℕ). x.0 < x.1) (λ j. (sym (ap (λ (r : ReaderValue). r.number) c.reader.view_is) j, (sym (ap (λ (l : LogValue). l.consumers) c.log.view_is) ∙ sym c.log.invariant.consumers_is) j)) c.requires.fits.number in
+    let number : c.reader.inside.number < 8 = subst (λ (r : ReaderValue). r.number < 8) (sym c.reader.view_is) c.requires.fits.number in
     let some : c.reader.inside.position < c.reader.inside.read_to = subst (λ (r : ReaderValue). r.position < r.read_to) (sym c.reader.view_is) c.requires.read in (
       search rules,
-      (let few : c.reader.inside.number < 8 = low c.args.log.now c.args.reader.now c.reader.inside.number c.log.inside.consumers c.requires.fits.number (ap (λ (r : ReaderValue). r.number) c.reader.view_is) (ap (λ (l : LogValue). l.consumers) c.log.view_is) c.log.invariant.few in let wide = c.log.invariant.words in omega arith),
+      (let few : c.reader.inside.number < 8 = subst (λ (r : ReaderValue). r.number < 8) (sym c.reader.view_is) c.requires.fits.number in let wide = c.log.invariant.words in omega arith),
       pass_here c.log.inside.table.shared.key _ _ g.N.Chosen.number c.reader.inside.read_to me _ c.reader.inside.place c.reader.inside.number c.reader.inside.position c.reader.inside.read_to c.reader.invariant.1 number (c.requires.chosen ∙ sym (ap (λ (r : ReaderValue). r.place) c.reader.view_is)) (c.reader.invariant.1.read some) (omega arith),
     )
 

@@ -12,7 +12,7 @@ use Rattle.shared_log.proofs.reader.look_as.Goals as goal
 pub load-requires : goal.load-requires
 load-requires g c =
     let me : Mine = c.reader.inside.seat.me in let shape : slot c.log.inside.table.shared.key.identity.geometry c.reader.inside.position ≡ slot c.log.inside.identity.geometry c.reader.inside.position = ap (λ (i : Identity). slot i.geometry c.reader.inside.position) c.log.invariant.identity_is in
-    let low : c.reader.inside.number < c.log.inside.table.shared.key.consumers = subst (λ (x : ℕ × ℕ). x.0 < x.1) (λ j. (sym (ap (λ (r : ReaderValue). r.number) c.reader.view_is) j, (sym (ap (λ (l : LogValue). l.consumers) c.log.view_is) ∙ sym c.log.invariant.consumers_is) j)) c.requires.fits.number in
+    let low : c.reader.inside.number < 8 = subst (λ (r : ReaderValue). r.number < 8) (sym c.reader.view_is) c.requires.fits.number in
     let same : c.log.inside.identity ≡ c.args.log.now.identity = ap (λ (l : LogValue). l.identity) c.log.view_is in
     let there : slot c.args.log.now.identity.geometry c.reader.inside.position ≡ slot c.log.inside.identity.geometry c.reader.inside.position = ap (λ (i : Identity). slot i.geometry c.reader.inside.position) (sym same) in (
       search rules,

@@ -3,6 +3,7 @@ use Rattle.theory.specs.Position.{IsGeometry}
 use Rattle.shared_log.specs.Handles.{LogValue}
 use Rattle.shared_log.proofs.Finding.{read_data, read_pad}
 use Rattle.shared_log.specs.Readers.{ReaderValue}
+use Rattle.shared_log.proofs.Joined.{still_alone}
 use Rattle.shared_log.proofs.Looking.{only_misses, still_reader}
 use Rattle.shared_log.proofs.Sourced.{has_read}
 use Rattle.shared_log.proofs.reader.next.Goals as goal
@@ -27,3 +28,12 @@ returns-in-Data-clause-fits c = let f = (returns-in-Data-clause-found c).finds.s
 
 pub returns-in-Pad-clause-fits : goal.returns-in-Pad-clause-fits
 returns-in-Pad-clause-fits c = let f = (returns-in-Pad-clause-found c).finds.stays in still_reader c.args.log.now c.args.reader.now c.look.new.reader c.requires.fits f.seat f.pass (ap (λ (x : ReaderValue). x.number) f.same)
+
+pub returns-in_err-head-clause-alone : goal.returns-in_err-head-clause-alone
+returns-in_err-head-clause-alone c alone = let a = c.in_err-head.ensures.none.rests in still_alone c.args.log.now c.args.reader.now c.look.new.reader alone (only_misses c.args.reader.now c.look.new.reader a) (ap (λ (x : ReaderValue). x.place) a.same)
+
+pub returns-in-Data-clause-alone : goal.returns-in-Data-clause-alone
+returns-in-Data-clause-alone c alone = let f = (returns-in-Data-clause-found c).finds.stays in still_alone c.args.log.now c.args.reader.now c.copy.new.reader alone f.pass (ap (λ (x : ReaderValue). x.place) f.same)
+
+pub returns-in-Pad-clause-alone : goal.returns-in-Pad-clause-alone
+returns-in-Pad-clause-alone c alone = let f = (returns-in-Pad-clause-found c).finds.stays in still_alone c.args.log.now c.args.reader.now c.look.new.reader alone f.pass (ap (λ (x : ReaderValue). x.place) f.same)

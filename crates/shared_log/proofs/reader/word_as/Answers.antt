@@ -12,7 +12,7 @@ pub load-requires : goal.load-requires
 load-requires g c =
     let me : Mine = c.reader.inside.seat.me in let at : ℕ → ℕ → ℕ = λ start index. start + 8 * index in
     let chosen : at g.N.Word.start g.N.Word.index ≡ at c.args.start c.args.index = λ j. at (c.requires.chosen.1 j) (c.requires.chosen.2 j) in
-    let low : c.reader.inside.number < c.log.inside.table.shared.key.consumers = subst (λ (x : ℕ × ℕ). x.0 < x.1) (λ j. (sym (ap (λ (r : ReaderValue). r.number) c.reader.view_is) j, (sym (ap (λ (l : LogValue). l.consumers) c.log.view_is) ∙ sym c.log.invariant.consumers_is) j)) c.requires.fits.number in
+    let low : c.reader.inside.number < 8 = subst (λ (r : ReaderValue). r.number < 8) (sym c.reader.view_is) c.requires.fits.number in
     let shape : c.log.inside.table.shared.key.identity ≡ c.args.log.now.identity = c.log.invariant.identity_is ∙ ap (λ (l : LogValue). l.identity) c.log.view_is in (
       search rules,
       search rules,

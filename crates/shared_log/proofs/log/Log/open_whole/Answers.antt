@@ -1,7 +1,9 @@
-use Rattle.std.proofs.Common.{rules, ◌≡◌, Result, Err, IsErrAnd, sym, ap, subst, is_ok, true≢false, arith}
+use Rattle.std.proofs.Common.{rules, ◌≡◌, ℕ, List, [], ◌∷◌, Result, Err, IsErrAnd, sym, ap, subst, is_ok, true≢false, arith}
 use Rattle.publication.specs.declared.pass.Pass.{Pass}
 use Rattle.log_rule.specs.Claims.Plays.{Mine}
 use Rattle.log_rule.specs.Shares.{claimed_bytes}
+use Rattle.log_rule.specs.Table.{LogRuled, whole_seat}
+use Rattle.log_rule.specs.declared.rule.Key.{Key}
 use Rattle.shared_log.proofs.Owned.{owns_all}
 use Rattle.shared_log.specs.declared.fault.LogError.{LogError}
 use Rattle.shared_log.specs.declared.fault.LogError.TheVariants as faults
@@ -26,3 +28,6 @@ pub invariant_of-pass : goal.invariant_of-pass
 invariant_of-pass c = let v : Pass = c.in_ok-table.seat.me.0.pass in let is = c.in_ok-table.ensures.4 in
     let parts : v.right.parts ≡ 1024 = ap (λ (m : Mine). m.0.pass.right.parts) is in let number : v.number ≡ 7 = ap (λ (m : Mine). m.0.pass.number) is in
     (ap (λ (m : Mine). m.1) is, omega (arith, parts), sym number, sym (ap (λ (m : Mine). claimed_bytes m.0.pass) is), owns_all v number parts, sym (ap (λ (m : Mine). m.0.pass.identity) is), sym (ap (λ (m : Mine). m.0.pass.start) is))
+
+pub of_words-requires : goal.of_words-requires
+of_words-requires c = let key : Key = record { identity = c.new-identity.result; start = c.args.start; consumers = c.args.consumers } in subst (λ (ws : List ℕ). LogRuled key (record { words = ws; homes = []; views = whole_seat key ∷ [] })) (sym c.deref.ensures.value) c.in_ok-words.ensures

@@ -15,7 +15,7 @@ use Rattle.shared_log.proofs.Told.{learns_by, told_reading}
 use Rattle.shared_log.proofs.reader.learning.learn_as.Goals as goal
 
 pub split_seat-news-requires : goal.split_seat-news-requires
-split_seat-news-requires g c = let wide = c.log.invariant.words in (search rules, omega arith, news _ _ _ (ap (λ (p : PublisherValue). p.pass.right.armed) c.publisher.view_is ∙ c.requires.unarmed))
+split_seat-news-requires g c = let wide = c.log.invariant.words in (search rules, omega arith, news _ _ _)
 
 -- a pass of nothing but what it knows
 newcomer_of : (v : View) (i : Identity) (start : ℕ) → v.pass.identity ≡ i → v.pass.start ≡ start → (w : View) → w ≡ news_right v → w.pass ≡ record (newcomer i start 0 0) { reading = w.pass.reading }
