@@ -1,12 +1,13 @@
 -- What another limit word makes of the stream in one hand.
-use Rattle.std.proofs.Common.{◌≡◌, ◌∙◌, ℕ, ◌+◌, ◌*◌, ◌/◌, ◌%◌, Bool, true, false, List, sym, ap, subst, arith}
+use Rattle.std.proofs.Common.{◌≡◌, ◌∙◌, ℕ, ◌+◌, ◌*◌, ◌/◌, ◌%◌, Bool, true, false, List, length, sym, ap, subst, arith}
 use Rattle.std.specs.Prelude.{Option, nat_eq}
 use Rattle.std.proofs.lemmas.Bool.{eq-eqb, ne_eqb}
 use Rattle.theory.specs.Refusal.{is_closed, is_connected, limit_in}
 use Rattle.publication.specs.declared.pass.Controls.{Controls}
 use Rattle.publication.specs.declared.pass.Pass.{Pass}
 use Rattle.log_rule.specs.Claims.Handles.{PublisherValue}
-use Rattle.log_rule.specs.Keepings.{with_keeping}
+use Rattle.log_rule.specs.Keepings.{numbered, with_keeping}
+use Rattle.one_hand.proofs.InHand.{knows_by}
 use Rattle.shared_log.specs.Keepers.{closed_word, connected_word}
 use Rattle.shared_log.specs.Readers.{numbers_of, positions_of}
 use Rattle.shared_log.specs.Handles.{LogValue}
@@ -21,8 +22,8 @@ abbrev with_word : Stream → ℕ → Stream
 with_word l word = record l { limit = limit_in word; connected = is_connected word; closed = is_closed word }
 
 module _ (l : LogValue) (p : PublisherValue) (held : List (Option Held)) (n : Numbers) (st : Stands l p held n) where
-  pub may_keep : MayKeep l p n.limit n.cleaned
-  may_keep = let parts = st.hand.all.parts in record { of = st.hand.free.of; is = record { some = omega arith; keeper = st.hand.all.keeper; limit_is = sym st.numbers.limit; cleaned_is = sym st.numbers.cleaned } }
+  pub may_keep : MayKeep l p n.limit n.cleaned n.there
+  may_keep = let parts = st.hand.all.parts in record { of = st.hand.free.of; is = record { some = omega arith; keeper = st.hand.all.keeper; limit_is = sym st.numbers.limit; cleaned_is = sym st.numbers.cleaned }; knows = st.numbers.knows }
 
   module _ (q : PublisherValue) (word answer : ℕ) (k : SetsLimit p word n.cleaned q answer) where
     abbrev v : Pass
@@ -79,6 +80,7 @@ module _ (l : LogValue) (p : PublisherValue) (held : List (Option Held)) (n : Nu
           all = record {
             parts = ap (λ (x : Pass). x.right.parts) is ∙ st.hand.all.parts;
             numbers = ap numbers_of is ∙ st.hand.all.numbers;
+            there = ap (λ (x : Pass). numbered 0 x.keeping.there) is ∙ st.hand.all.there;
             few = st.hand.all.few;
             any = st.hand.all.any;
             keeper = ap (λ (x : Pass). x.keeping.right) is ∙ st.hand.all.keeper;
@@ -90,6 +92,7 @@ module _ (l : LogValue) (p : PublisherValue) (held : List (Option Held)) (n : Nu
           positions = st.numbers.positions ∙ ap (λ (x : Pass). positions_of x) (sym is);
           limit = k.answer_is ∙ ap (λ (x : Pass). x.keeping.limit) (sym is);
           cleaned = st.numbers.cleaned ∙ ap (λ (x : Pass). x.keeping.cleaned) (sym is);
+          knows = knows_by p.pass q.pass n.there (ap (λ (x : Pass). x.keeping.there) is) (ap (λ (x : Pass). length x.keeping.positions) is ∙ st.numbers.knows.eight) st.numbers.knows;
           block = st.numbers.block;
         };
       },

@@ -40,7 +40,8 @@ use Rattle.one_hand.specs.Readers.{reader_of}
 use Rattle.one_hand.proofs.Forgetting.{kept_among}
 use Rattle.one_hand.proofs.Found.{placed_of}
 use Rattle.one_hand.proofs.Standing.{known_in, one_of, same_place}
-use Rattle.one_hand.proofs.InHand.{is_stream, stood_count}
+use Rattle.log_rule.specs.Keepings.{numbered}
+use Rattle.one_hand.proofs.InHand.{is_stream, knows_on, stood_count}
 
 -- ---- lists
 
@@ -133,6 +134,7 @@ module _ (l : LogValue) (p : PublisherValue) (held : List (Option Held)) (hand :
       all = record {
         parts = ap (λ (x : Pass). x.right.parts) only.rest ∙ a.parts;
         numbers = only.numbers ∙ a.numbers;
+        there = ap (λ (x : Pass). numbered 0 x.keeping.there) only.rest ∙ a.there;
         few = a.few;
         any = a.any;
         keeper = ap (λ (x : Pass). x.keeping.right) only.rest ∙ a.keeper;
@@ -283,6 +285,7 @@ module _ (l : LogValue) (p : PublisherValue) (held : List (Option Held)) (n : Nu
             positions = stood;
             limit = was.limit ∙ ap (λ (x : Pass). x.keeping.limit) (sym rest);
             cleaned = was.cleaned ∙ ap (λ (x : Pass). x.keeping.cleaned) (sym rest);
+            knows = knows_on p.pass h.reader.held.pass n.there (ap (λ (x : Pass). x.keeping) rest) was.knows;
             block = was.block;
           };
         },

@@ -13,7 +13,7 @@ use Rattle.shared_log.specs.Handles.{LogValue}
 use Rattle.one_hand.specs.Entries.{with_share}
 use Rattle.one_hand.specs.Legal.{IsStream}
 use Rattle.one_hand.specs.Stream.{Stream}
-use Rattle.one_hand.proofs.InHand.{is_stream}
+use Rattle.one_hand.proofs.InHand.{is_stream, knows_on}
 use Rattle.one_hand.specs.declared.log_hand.held.Held.{Held}
 use Rattle.one_hand.specs.Shown.{shares_of}
 use Rattle.one_hand.specs.Hands.{Claims, ClaimsNone, IsEnd, IsInHand, Shares, range, stream_in}
@@ -54,6 +54,7 @@ module _ (l : LogValue) (p q : PublisherValue) (held : List (Option Held)) (numb
       positions = was.positions ∙ ap (λ (rs : List Reading). map (λ x. x.position) rs) (sym r.rest.reading);
       limit = was.limit ∙ ap (λ (k : Keeping). k.limit) (sym r.rest.keeping);
       cleaned = was.cleaned ∙ ap (λ (k : Keeping). k.cleaned) (sym r.rest.keeping);
+      knows = knows_on p.pass q.pass n.there r.rest.keeping was.knows;
       block = was.block;
     };
   }
@@ -72,6 +73,7 @@ ends_on l p q held n ends was e = record {
     positions = was.positions ∙ ap (λ (rs : List Reading). map (λ x. x.position) rs) (sym e.rest.reading);
     limit = was.limit ∙ ap (λ (k : Keeping). k.limit) (sym e.rest.keeping);
     cleaned = was.cleaned ∙ ap (λ (k : Keeping). k.cleaned) (sym e.rest.keeping);
+    knows = knows_on p.pass q.pass n.there e.rest.keeping was.knows;
     block = was.block;
   };
 }

@@ -1,5 +1,5 @@
 -- What the calls of the pass that has all publishers come to in one hand.
-use Rattle.std.proofs.Common.{List, None, Some, [], ap, arith, get_or, length, map, max, refl, subst, suc, sym, zero, ℕ, ◌++◌, ◌+◌, ◌-◌, ◌<◌, ◌∙◌, ◌∷◌, ◌≡◌, ◌≤◌}
+use Rattle.std.proofs.Common.{Bool, List, None, Some, [], ap, arith, get_or, length, map, max, refl, subst, suc, sym, zero, ℕ, ◌++◌, ◌+◌, ◌-◌, ◌<◌, ◌∙◌, ◌∷◌, ◌≡◌, ◌≤◌}
 use Rattle.std.specs.Prelude.{IfErr, IfOk, Option, Result, Ok, Err, slice_get, slice_index_or, slice_set}
 use Rattle.std.specs.List.{AllByRecursion}
 use Rattle.theory.proofs.Lists.{all_weaker}
@@ -28,7 +28,9 @@ use Rattle.one_hand.specs.Legal.{IsStream}
 use Rattle.one_hand.specs.Stream.{Aborts, Commits, OpenClaim, Stream, after_claim, after_offer, with_claim, with_message}
 use Rattle.one_hand.specs.declared.log_hand.held.Held.{Held}
 use Rattle.one_hand.specs.Shown.{IsWhole, kept, shares_of, stream_of}
-use Rattle.shared_log.specs.Keepers.{counted}
+use Rattle.log_rule.specs.Kept.{IsThere}
+use Rattle.log_rule.specs.Keepings.{numbered}
+use Rattle.shared_log.specs.Keepers.{KnowsWho, counted}
 use Rattle.one_hand.specs.Hands.{HasAll, Shares, AbortsClaim, Claims, ClaimsNone, CommitsClaim, IsFree, IsInHand, MayEnd, Offers, range, stream_in}
 use Rattle.publication.proofs.Contents.{IsSmall}
 use Rattle.one_hand.proofs.Answered as answered
@@ -50,6 +52,13 @@ mapped f (x ∷ xs) = ap suc (mapped f xs)
 counted_length : (from n : ℕ) → length (counted from n) ≡ n
 counted_length from zero = refl
 counted_length from (suc n) = let h = counted_length (suc from) n in omega arith
+
+-- a pass that keeps the same knows the same of who is there
+pub knows_by : (v w : Pass) (there : List Bool) → w.keeping.there ≡ v.keeping.there → length w.keeping.positions ≡ 8 → KnowsWho v there → KnowsWho w there
+knows_by v w there same eight k = record { many = k.many; flags = same ∙ k.flags; eight = eight; one = k.one; low = k.low; any = subst (λ (l : List ℕ). IsThere l k.one) (sym same) k.any }
+
+pub knows_on : (v w : Pass) (there : List Bool) → w.keeping ≡ v.keeping → KnowsWho v there → KnowsWho w there
+knows_on v w there same k = knows_by v w there (ap (λ (x : Keeping). x.there) same) (ap (λ (x : Keeping). length x.positions) same ∙ k.eight) k
 
 pub count_is : (l : LogValue) (v : Pass) (c : Controls) → HasAll l v c → length v.reading ≡ l.consumers
 count_is l v c all = sym (mapped (λ (r : Reading). r.number) v.reading) ∙ ap length all.numbers ∙ counted_length 0 l.consumers
@@ -91,6 +100,7 @@ module _ (l : LogValue) (p q : PublisherValue) (number : ℕ) (low : number < 8)
     all = record {
       parts = r.parts ∙ all.parts;
       numbers = ap (λ (rs : List Reading). map (λ x. x.number) rs) r.reading ∙ all.numbers;
+      there = ap (λ (k : Keeping). numbered 0 k.there) r.keeping ∙ all.there;
       few = all.few;
       any = all.any;
       keeper = ap (λ (k : Keeping). k.right) r.keeping ∙ all.keeper;

@@ -1,12 +1,13 @@
 -- What a cleaning by the pass that has all makes of the stream in one hand.
-use Rattle.std.proofs.Common.{◌≡◌, ◌∙◌, ℕ, ◌+◌, ◌-◌, ◌%◌, ◌<◌, max, List, length, sym, ap, subst, arith}
-use Rattle.std.specs.Prelude.{Option}
+use Rattle.std.proofs.Common.{◌≡◌, ◌∙◌, ℕ, ◌+◌, ◌-◌, ◌%◌, ◌<◌, max, List, length, map, refl, sym, ap, subst, arith}
+use Rattle.std.specs.Prelude.{Option, slice_index}
 use Rattle.theory.specs.Refusal.{limit_in}
 use Rattle.theory.proofs.Places.{power_half}
 use Rattle.publication.specs.declared.pass.Controls.{Controls}
 use Rattle.publication.specs.declared.pass.Pass.{Pass}
 use Rattle.log_rule.specs.Claims.Handles.{PublisherValue}
-use Rattle.log_rule.specs.Keepings.{least_of, with_keeping}
+use Rattle.theory.specs.Placed.{Among}
+use Rattle.log_rule.specs.Keepings.{least_there, numbered, with_keeping}
 use Rattle.shared_log.specs.Keepers.{raised}
 use Rattle.shared_log.specs.Readers.{numbers_of, positions_of}
 use Rattle.shared_log.specs.Handles.{LogValue}
@@ -17,9 +18,9 @@ use Rattle.one_hand.specs.Shown.{IsWhole, kept, shares_of, stream_of}
 use Rattle.one_hand.specs.Hands.{stream_in}
 use Rattle.one_hand.specs.Parts.{Numbers, Stands}
 use Rattle.one_hand.specs.Keepings.{Cleans}
-use Rattle.one_hand.proofs.InHand.{stood_count}
+use Rattle.one_hand.proofs.InHand.{knows_by, stood_count}
 use Rattle.one_hand.proofs.Cleaned.{cleaned_is, kept_cleaned, least_has}
-use Rattle.one_hand.proofs.Swept.{raised_is, seen_all}
+use Rattle.one_hand.proofs.Swept.{among_number, raised_is, seen_all}
 
 module _ (l : LogValue) (p : PublisherValue) (held : List (Option Held)) (n : Numbers) (st : Stands l p held n) (q : PublisherValue) (word low answer : ℕ) (k : Cleans l p n.limit n.cleaned q word low answer) where
   abbrev f : Stream
@@ -28,8 +29,11 @@ module _ (l : LogValue) (p : PublisherValue) (held : List (Option Held)) (n : Nu
   abbrev seen : List ℕ
   seen = k.keeper.held.pass.keeping.positions
 
-  seen_is : k.keeper.held.pass.keeping.positions ≡ positions_of p.pass
-  seen_is = seen_all p.pass.reading 0 l.consumers st.hand.all.numbers seen k.cleans.all (λ j lt r a e. (k.cleans.reads j lt).own r a (e ∙ (let z : 0 + j ≡ j = omega arith in z)))
+  -- those who are there are the pass's own consumers
+  seen_is : map (slice_index seen) (numbered 0 p.pass.keeping.there) ≡ positions_of p.pass
+  seen_is =
+      let those : numbers_of p.pass ≡ numbered 0 p.pass.keeping.there = st.hand.all.numbers ∙ sym st.hand.all.there in
+      ap (map (slice_index seen)) (sym those) ∙ seen_all seen p.pass.reading (λ r a. (k.cleans.reads r.number (subst (Among r.number) those (among_number p.pass.reading r a))).own r a refl)
 
   some : 0 < length (positions_of p.pass)
   some = let e = stood_count l p.pass p.controls st.hand.all in let any = st.hand.all.any in omega arith
@@ -40,10 +44,10 @@ module _ (l : LogValue) (p : PublisherValue) (held : List (Option Held)) (n : Nu
   abbrev v : Pass
   v = with_keeping p.pass (record p.pass.keeping { limit = raised p.controls.limit (least (positions_of p.pass)) p.pass.identity.geometry.term_length; cleaned = clean_end (stream_of p.pass p.controls held); positions = k.keeper.held.pass.keeping.positions; reads = k.keeper.held.pass.keeping.reads })
 
-  word_then : raised n.limit (least_of seen) l.identity.geometry.term_length ≡ w
+  word_then : raised n.limit (least_there p.pass.keeping.there seen) l.identity.geometry.term_length ≡ w
   word_then = λ j. raised ((st.numbers.limit ∙ st.hand.all.limit) j) (least (seen_is j)) ((sym st.hand.free.of.identity j).geometry.term_length)
 
-  low_then : max l.start (least_of seen - l.identity.geometry.term_length) ≡ clean_end f
+  low_then : max l.start (least_there p.pass.keeping.there seen - l.identity.geometry.term_length) ≡ clean_end f
   low_then = λ j. max (sym st.hand.free.of.start j) (least (seen_is j) - (sym st.hand.free.of.identity j).geometry.term_length)
 
   pass_is : q.pass ≡ v
@@ -111,6 +115,7 @@ module _ (l : LogValue) (p : PublisherValue) (held : List (Option Held)) (n : Nu
       all = record {
         parts = ap (λ (x : Pass). x.right.parts) pass_is ∙ st.hand.all.parts;
         numbers = ap numbers_of pass_is ∙ st.hand.all.numbers;
+        there = ap (λ (x : Pass). numbered 0 x.keeping.there) pass_is ∙ st.hand.all.there;
         few = st.hand.all.few;
         any = st.hand.all.any;
         keeper = ap (λ (x : Pass). x.keeping.right) pass_is ∙ st.hand.all.keeper;
@@ -122,6 +127,7 @@ module _ (l : LogValue) (p : PublisherValue) (held : List (Option Held)) (n : Nu
       positions = st.numbers.positions ∙ ap positions_of (sym pass_is);
       limit = k.word_is ∙ k.cleans.keeps.limit ∙ word_then ∙ ap (λ (x : Pass). x.keeping.limit) (sym pass_is);
       cleaned = k.low_is ∙ k.cleans.keeps.cleaned ∙ low_then ∙ ap (λ (x : Pass). x.keeping.cleaned) (sym pass_is);
+      knows = knows_by p.pass q.pass n.there (ap (λ (x : Pass). x.keeping.there) pass_is) (ap (λ (x : Pass). length x.keeping.positions) pass_is ∙ k.cleans.all) st.numbers.knows;
       block = st.numbers.block;
     };
   }

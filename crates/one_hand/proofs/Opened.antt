@@ -1,12 +1,12 @@
 -- What a log that was just opened is in one hand.
-use Rattle.std.proofs.Common.{◌≡◌, ◌∙◌, ◌≢◌, ℕ, zero, suc, ◌+◌, ◌-◌, ◌*◌, ◌/◌, ◌%◌, ◌<◌, ◌≤◌, max, List, [], ◌∷◌, map, take, min, length, length-set, get_or-set_other, false, Some, None, refl, sym, ap, subst, arith, mod-lt}
+use Rattle.std.proofs.Common.{◌++◌, Bool, ◌≡◌, ◌∙◌, ◌≢◌, ℕ, zero, suc, ◌+◌, ◌-◌, ◌*◌, ◌/◌, ◌%◌, ◌<◌, ◌≤◌, max, List, [], ◌∷◌, map, take, min, length, length-set, get_or-set_other, false, Some, None, refl, sym, ap, subst, arith, mod-lt}
 use Rattle.std.proofs.Common.{to_z, of_z}
 use Rattle.std.specs.Prelude.{ℤ, FitsSigned, Option, replicate, slice_get, slice_set}
 use Rattle.std.specs.List.{AllByRecursion}
 use Rattle.std.proofs.lemmas.Bool.{ne_eqb}
 use Rattle.std.proofs.Math.Nat.{div-lt_iff_lt-mul}
 use Rattle.std.proofs.lemmas.Nat.{div-add-mod'}
-use Rattle.std.proofs.lemmas.List.{get_or-set_same}
+use Rattle.std.proofs.lemmas.List.{length-replicate, get_or-set_same}
 use Rattle.std.specs.Int.{w32}
 use Rattle.std.proofs.lemmas.Int.{to_z-of_z}
 use Rattle.theory.specs.Position.{Geometry, IsGeometry, id_of}
@@ -20,7 +20,7 @@ use Rattle.publication.proofs.Packed.{before_fits, id_of_word}
 use Rattle.log_rule.specs.Claims.Handles.{PublisherValue}
 use Rattle.publication.specs.declared.pass.Reading.{Reading}
 use Rattle.log_rule.specs.declared.rule.Key.{Key}
-use Rattle.log_rule.specs.Table.{consumers_at, whole_pass}
+use Rattle.log_rule.specs.Table.{consumers_at, first_there, whole_pass}
 use Rattle.shared_log.specs.Readers.{positions_of}
 use Rattle.shared_log.specs.Handles.{IsLogOf, IsWholeNew, LogValue}
 use Rattle.position.specs.Openings.{IsConsumerCount, IsStart}
@@ -30,7 +30,9 @@ use Rattle.one_hand.specs.Stream.{OpenClaim, opened}
 use Rattle.one_hand.specs.declared.log_hand.held.Held.{Held}
 use Rattle.one_hand.specs.Shown.{IsWhole, claim_in, kept, shares_of, stream_of}
 use Rattle.one_hand.specs.Parts.{Stands}
-use Rattle.shared_log.specs.Keepers.{counted}
+use Rattle.log_rule.specs.Keepings.{numbered as there_numbers}
+use Rattle.log_rule.proofs.Beginning.{first_is}
+use Rattle.shared_log.specs.Keepers.{KnowsWho, counted, flag_of}
 use Rattle.one_hand.specs.Hands.{HasAll, IsInHand, stream_in}
 
 abbrev none_held : List (Option Held)
@@ -53,6 +55,14 @@ stood start from (suc n) = ap (λ xs. start ∷ xs) (stood start (suc from) n)
 numbered : (start from n : ℕ) → map (λ (r : Reading). r.number) (consumers_at start from n) ≡ counted from n
 numbered start from zero = refl
 numbered start from (suc n) = ap (λ xs. from ∷ xs) (numbered start (suc from) n)
+
+none_numbered : (from n : ℕ) → there_numbers from (replicate n 0) ≡ []
+none_numbered from zero = refl
+none_numbered from (suc n) = none_numbered (suc from) n
+
+numbered_first : (from n m : ℕ) → there_numbers from (replicate n 1 ++ replicate m 0) ≡ counted from n
+numbered_first from zero m = none_numbered from m
+numbered_first from (suc n) m = ap (λ xs. from ∷ xs) (numbered_first (suc from) n m)
 
 all_there : (P : ℕ → Type 0) (start n : ℕ) → P start → AllByRecursion P (replicate n start)
 all_there P start zero h = tt
@@ -178,7 +188,7 @@ pub opens : (l : LogValue) (q : PublisherValue) → IsWholeNew l q → IsGeometr
 opens l q new legal ids at any =
     let key : Key = record { identity = l.identity; start = l.start; consumers = l.consumers } in
     let whole : IsWhole q.pass q.controls none_held = subst (λ (x : Pass × Controls). IsWhole x.0 x.1 none_held) (λ j. (sym new.pass j, sym new.controls j)) (whole_is l.identity l.start legal ids at l.consumers any) in
-    let all : HasAll l (whole_pass key) (record (fresh_controls l.identity l.start) { limit = l.start }) = record { parts = refl; numbers = numbered l.start 0 l.consumers; few = any.1; any = any.0; keeper = refl; limit = refl } in (
+    let all : HasAll l (whole_pass key) (record (fresh_controls l.identity l.start) { limit = l.start }) = record { parts = refl; numbers = numbered l.start 0 l.consumers; there = numbered_first 0 l.consumers (8 - l.consumers); few = any.1; any = any.0; keeper = refl; limit = refl } in (
       record { free = record { of = new.of; sure = new.sure; parts = ap (λ (x : Pass). x.right.parts) new.pass; idle = ap (λ (x : Pass). x.right.armed) new.pass }; whole = whole; all = subst (λ (x : Pass × Controls). HasAll l x.0 x.1) (λ j. (sym new.pass j, sym new.controls j)) all },
       (λ j. kept (stream_of (new.pass j) (new.controls j) none_held)) ∙ ap kept (shown_is l.identity l.start legal ids at l.consumers any),
     )
@@ -210,14 +220,15 @@ module _ (g : Geometry) (session stream : ℤ) (start consumers : ℕ) (l : LogV
   abbrev eight : List ℕ
   eight = start ∷ start ∷ start ∷ start ∷ start ∷ start ∷ start ∷ start ∷ []
 
-  pub opens_stands : (block : ℕ) → g.mtu ≤ block → Stands l q none_held (record { shares = replicate 8 0; positions = eight; limit = start; cleaned = start; block = block })
-  opens_stands block fits = record {
+  pub opens_stands : (there : List Bool) → map flag_of there ≡ first_there l.consumers → length there ≡ 8 → (block : ℕ) → g.mtu ≤ block → Stands l q none_held (record { shares = replicate 8 0; positions = eight; limit = start; cleaned = start; there = there; block = block })
+  opens_stands there flags many block fits = record {
     hand = opens_as.0;
     numbers = record {
       shares = sym (ap (λ (x : Pass). shares_of x.right.claims) new.pass);
       positions = (λ j. take (log.consumers_is j) eight) ∙ first_are consumers start range.1.1 ∙ sym (ap positions_of new.pass ∙ stood l.start 0 l.consumers ∙ (λ j. replicate (log.consumers_is j) (log.start_is j)));
       limit = sym (ap (λ (x : Pass). x.keeping.limit) new.pass ∙ log.start_is);
       cleaned = sym (ap (λ (x : Pass). x.keeping.cleaned) new.pass ∙ log.start_is);
+      knows = subst (λ (v : Pass). KnowsWho v there) (sym new.pass) record { many = many; flags = sym flags; eight = length-replicate 8 l.start; one = 0; low = omega arith; any = first_is l.consumers 0 (subst (λ (n : ℕ). 0 < n) (sym log.consumers_is) range.1.0) };
       block = subst (λ (i : Identity). i.geometry.mtu ≤ block) (sym log.identity_is) fits;
     };
   }

@@ -28,6 +28,7 @@ use Rattle.one_hand.specs.Hands.{IsInHand, stream_in}
 use Rattle.one_hand.specs.Readers.{Reads}
 use Rattle.one_hand.proofs.InHand.{stood_count}
 use Rattle.one_hand.proofs.Found.{from_frames, placed_of, to_stream}
+use Rattle.log_rule.specs.Keepings.{numbered}
 
 all_at : (P : ℕ → Type 0) (xs : List ℕ) (n : ℕ) → AllByRecursion P xs → n < length xs → P (slice_index xs n)
 all_at P [] n h lt = absurd (omega arith)
@@ -110,6 +111,7 @@ module _ (l : LogValue) (p : PublisherValue) (held : List (Option Held)) (hand :
           all = record {
             parts = ap (λ (v : Pass). v.right.parts) is ∙ hand.all.parts;
             numbers = only.numbers ∙ hand.all.numbers;
+            there = ap (λ (v : Pass). numbered 0 v.keeping.there) is ∙ hand.all.there;
             few = hand.all.few;
             any = hand.all.any;
             keeper = ap (λ (v : Pass). v.keeping.right) is ∙ hand.all.keeper;
@@ -128,7 +130,7 @@ module _ (l : LogValue) (p : PublisherValue) (held : List (Option Held)) (hand :
       let most : (p.controls.count + 1) * t ≤ 2147483648 * t = mul-le-mul_right t (omega arith) in let turned : 2147483648 * t ≡ t * 2147483648 = omega arith in
       let top = b.1 in let low : x ≤ t * 2147483648 = omega arith in record {
         of = hand.free.of;
-        known = lt;
+        known = (let few = hand.all.few in let lt' = lt in omega arith);
         is = record { consumer = r.reader; is = r.is; number_is = (let i = r.number in omega arith); position_is = r.position ∙ sym at; read = λ far. absurd (omega arith); low = low; low_end = low };
       }
 

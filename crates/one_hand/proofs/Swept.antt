@@ -1,24 +1,21 @@
 -- The positions that the keeper saw are those of the pass's own consumers, and the limit word that it stores.
-use Rattle.std.proofs.Common.{◌≡◌, ◌∙◌, ℕ, zero, suc, ◌+◌, ◌*◌, ◌/◌, ◌%◌, ◌<◌, inl, inr, max, Bool, true, false, cond, List, [], ◌∷◌, map, length, drop, refl, sym, ap, arith}
+use Rattle.std.proofs.Common.{◌≡◌, ◌∙◌, ℕ, ◌+◌, ◌*◌, ◌/◌, ◌%◌, inl, inr, max, Bool, true, false, cond, List, [], ◌∷◌, map, refl, sym, ap, arith}
 use Rattle.std.specs.Prelude.{◌&&◌, not, slice_index}
 use Rattle.std.proofs.lemmas.Bool.{eq-eqb, ne_eqb}
 use Rattle.theory.specs.Placed.{Among}
 use Rattle.theory.specs.Refusal.{is_closed, is_connected, limit_in}
 use Rattle.publication.specs.declared.pass.Reading.{Reading}
-use Rattle.shared_log.specs.Keepers.{counted, raised}
+use Rattle.shared_log.specs.Keepers.{raised}
 
--- a number for each consumer, in their order
-pub seen_all : (rs : List Reading) (from k : ℕ) → map (λ (r : Reading). r.number) rs ≡ counted from k → (ps : List ℕ) → length ps ≡ k → ((j : ℕ) → j < k → (r : Reading) → Among r rs → r.number ≡ from + j → slice_index ps j ≡ r.position) → ps ≡ map (λ (r : Reading). r.position) rs
-seen_all [] from zero e [] long own = refl
-seen_all [] from zero e (p ∷ ps) long own = absurd (omega arith)
-seen_all [] from (suc k) e ps long own = absurd (cc)
-seen_all (r ∷ rs) from zero e ps long own = absurd (cc)
-seen_all (r ∷ rs) from (suc k) e [] long own = absurd (omega arith)
-seen_all (r ∷ rs) from (suc k) e (p ∷ ps) long own =
-    let here : r.number ≡ from = ap (λ (xs : List ℕ). slice_index xs 0) e in
-    let first : p ≡ r.position = own 0 (omega arith) r (inl refl) (omega arith) in
-    let rest : ps ≡ map (λ (x : Reading). x.position) rs = seen_all rs (suc from) k (ap (λ (xs : List ℕ). drop 1 xs) e) ps (omega arith) (λ j lt x a n. own (suc j) (omega arith) x (inr a) (omega arith)) in
-    (λ j. first j ∷ rest j)
+pub among_number : (rs : List Reading) (r : Reading) → Among r rs → Among r.number (map (λ (x : Reading). x.number) rs)
+among_number [] r a = absurd a
+among_number (x ∷ rs) r (inl e) = inl (ap (λ (y : Reading). y.number) e)
+among_number (x ∷ rs) r (inr a) = inr (among_number rs r a)
+
+-- where each of them was seen it stands
+pub seen_all : (seen : List ℕ) (rs : List Reading) → ((r : Reading) → Among r rs → slice_index seen r.number ≡ r.position) → map (slice_index seen) (map (λ (r : Reading). r.number) rs) ≡ map (λ (r : Reading). r.position) rs
+seen_all seen [] own = refl
+seen_all seen (r ∷ rs) own = (λ j. own r (inl refl) j ∷ seen_all seen rs (λ x a. own x (inr a)) j)
 
 -- ---- the limit word
 

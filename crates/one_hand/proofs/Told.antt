@@ -19,6 +19,7 @@ use Rattle.one_hand.specs.Parts.{Numbers, Stands}
 use Rattle.one_hand.specs.Readers.{Found, FoundNone, Reads, Reread, reader_of}
 use Rattle.shared_log.proofs.Looking.{misses_stand, only_misses}
 use Rattle.one_hand.proofs.Standing.{known_in, may_read, one_of, reads, reads_again, reads_none, reads_on, same_place}
+use Rattle.one_hand.proofs.InHand.{knows_on}
 
 same_pass : (v w : Pass) → w ≡ v → OnlyReads v w
 same_pass v w e = record { rest = e ∙ ap (λ (rs : List Reading). record v { reading = rs }) (sym (ap (λ (x : Pass). x.reading) e)); numbers = ap numbers_of e }
@@ -36,6 +37,7 @@ module _ (l : LogValue) (p : PublisherValue) (held : List (Option Held)) (n : Nu
         positions = was.positions ∙ sym stood;
         limit = was.limit ∙ ap (λ (v : Pass). v.keeping.limit) (sym only.rest);
         cleaned = was.cleaned ∙ ap (λ (v : Pass). v.keeping.cleaned) (sym only.rest);
+        knows = knows_on p.pass q.pass n.there (ap (λ (v : Pass). v.keeping) only.rest) was.knows;
         block = was.block;
       };
     },

@@ -6,6 +6,7 @@ use Rattle.publication.specs.declared.pass.Controls.{Controls}
 use Rattle.publication.specs.declared.pass.Pass.{Pass}
 use Rattle.publication.specs.Claims.{HasBlank}
 use Rattle.log_rule.specs.Claims.Handles.{PublisherValue}
+use Rattle.log_rule.specs.Keepings.{numbered}
 use Rattle.shared_log.specs.Handles.{IsOf, LogValue}
 use Rattle.shared_log.specs.Keepers.{counted}
 use Rattle.shared_log.specs.Readers.{numbers_of}
@@ -29,6 +30,7 @@ pub record IsFree (l : LogValue) (p : PublisherValue) : Type 0 where
 pub record HasAll (l : LogValue) (v : Pass) (c : Controls) : Type 0 where
   pub parts : v.right.parts ≡ 1024
   pub numbers : numbers_of v ≡ counted 0 l.consumers
+  pub there : numbered 0 v.keeping.there ≡ counted 0 l.consumers
   pub few : l.consumers ≤ 8
   pub any : 0 < l.consumers
   pub keeper : v.keeping.right ≡ 1

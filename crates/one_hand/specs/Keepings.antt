@@ -1,15 +1,16 @@
 -- What the keeper's calls of the pass that has all come to.
-use Rattle.std.specs.Prelude.{◌≡◌, ℕ}
+use Rattle.std.specs.Prelude.{◌≡◌, ℕ, Bool, List}
 use Rattle.theory.specs.Refusal.{limit_in}
 use Rattle.log_rule.specs.Claims.Handles.{PublisherValue}
 use Rattle.shared_log.specs.Handles.{IsOf, LogValue}
 use Rattle.log_rule.specs.Keepings.{with_keeping}
-use Rattle.shared_log.specs.Keepers.{CleansAndLimits, IsKeeping, KeeperValue}
+use Rattle.shared_log.specs.Keepers.{CleansAndLimits, IsKeeping, KeeperValue, KnowsWho}
 
--- the pass is the keeper, which knows the limit word and how far is cleaned
-pub record MayKeep (l : LogValue) (p : PublisherValue) (limit cleaned : ℕ) : Type 0 where
+-- the pass is the keeper, which knows the limit word, how far is cleaned, and which consumers are there
+pub record MayKeep (l : LogValue) (p : PublisherValue) (limit cleaned : ℕ) (there : List Bool) : Type 0 where
   pub of : IsOf l p
   pub is : IsKeeping p.pass limit cleaned
+  pub knows : KnowsWho p.pass there
 
 -- the limit word is this one then
 pub record SetsLimit (p : PublisherValue) (word cleaned : ℕ) (q : PublisherValue) (answer : ℕ) : Type 0 where

@@ -1,9 +1,10 @@
 -- What a hand holds beside its log, and what it shows.
-use Rattle.std.specs.Prelude.{◌≡◌, ℕ, ◌≤◌, List, take, Option, None, Some}
+use Rattle.std.specs.Prelude.{◌≡◌, ℕ, ◌≤◌, Bool, List, take, Option, None, Some}
 use Rattle.log_rule.specs.Claims.Handles.{PublisherValue}
 use Rattle.log_rule.specs.Claims.Closing.{no_identity}
 use Rattle.log_rule.specs.Claims.Plays.{newcomer}
 use Rattle.log_rule.specs.Claims.Sure.{no_controls}
+use Rattle.shared_log.specs.Keepers.{KnowsWho}
 use Rattle.shared_log.specs.Readers.{positions_of}
 use Rattle.shared_log.specs.Handles.{LogValue}
 use Rattle.one_hand.specs.Stream.{Stream}
@@ -11,12 +12,13 @@ use Rattle.one_hand.specs.declared.log_hand.held.Held.{Held}
 use Rattle.one_hand.specs.Shown.{kept, shares_of, stream_of}
 use Rattle.one_hand.specs.Hands.{IsInHand, stream_in}
 
--- the shares, the readers' positions, the limit word, how far is cleaned, and the length of the block
+-- the shares, the readers' positions, the limit word, how far is cleaned, which consumers are there, and the length of the block
 pub record Numbers : Type 0 where
   pub shares : List ℕ
   pub positions : List ℕ
   pub limit : ℕ
   pub cleaned : ℕ
+  pub there : List Bool
   pub block : ℕ
 
 -- they are those of the pass that has all
@@ -25,6 +27,7 @@ pub record AreNumbers (l : LogValue) (p : PublisherValue) (n : Numbers) : Type 0
   pub positions : take l.consumers n.positions ≡ positions_of p.pass
   pub limit : n.limit ≡ p.pass.keeping.limit
   pub cleaned : n.cleaned ≡ p.pass.keeping.cleaned
+  pub knows : KnowsWho p.pass n.there
   pub block : l.identity.geometry.mtu ≤ n.block
 
 pub record Stands (l : LogValue) (p : PublisherValue) (held : List (Option Held)) (n : Numbers) : Type 0 where

@@ -12,7 +12,7 @@ reader_of p number position = record { held = p; place = number; number = number
 -- the pass has the consumer of this number, which stands there
 pub record Reads (l : LogValue) (p : PublisherValue) (number position : ℕ) : Type 0 where
   pub of : IsOf l p
-  pub known : number < l.consumers
+  pub known : number < 8
   pub is : IsReading p.pass number number position position
 
 pub record Found (l : LogValue) (p : PublisherValue) (number position : ℕ) (head : FrameHead) (before : List ℕ) (q : PublisherValue) (after : List ℕ) : Type 0 where

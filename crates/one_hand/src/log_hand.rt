@@ -20,7 +20,7 @@ use crate::one_hand::OneHandLog;
 use block::Block;
 use position::{FrameHead, Geometry};
 use publication::Refusal;
-use shared_log::{Book, Log, LogError, PUBLISHERS, Publisher};
+use shared_log::{Book, Log, LogError, PUBLISHERS, Publisher, first_there};
 use std::alloc::Global;
 use std::marker::Model;
 
@@ -38,6 +38,8 @@ pub struct LogHand {
     /// The limit word, and the position below which nothing is readable any more.
     limit: u64,
     cleaned: u64,
+    /// Which consumers are there, by their numbers.
+    there: [bool; 8],
     /// The frame that a reader goes past.
     block: Block,
 }
@@ -51,7 +53,7 @@ impl Model for LogHand {
 
     ghost view = { λ h. stream_at h.all h.held };
 
-    ghost invariant = { λ h. IsHand h.log h.all h.held (record { shares = h.shares; positions = h.positions; limit = h.limit; cleaned = h.cleaned; block = length h.block }) };
+    ghost invariant = { λ h. IsHand h.log h.all h.held (record { shares = h.shares; positions = h.positions; limit = h.limit; cleaned = h.cleaned; there = h.there; block = length h.block }) };
 }
 
 impl LogHand {
@@ -73,6 +75,7 @@ impl LogHand {
     {
         let (log, all) = Log::open_whole(alloc, geometry, session, stream, start, consumers)?;
         let block = Block::new(alloc, geometry.mtu() as usize)?;
+        let there = first_there(log.consumers());
         Ok(LogHand {
             log,
             all: Some(all),
@@ -81,6 +84,7 @@ impl LogHand {
             positions: [start; 8],
             limit: start,
             cleaned: start,
+            there,
             block,
         })
     }
@@ -192,7 +196,7 @@ impl OneHandLog for LogHand {
         let Some(all) = self.all.take() else {
             unreachable!();
         };
-        let (all, word, cleaned, limit) = clean_as(&self.log, all, self.limit, self.cleaned);
+        let (all, word, cleaned, limit) = clean_as(&self.log, all, self.limit, self.cleaned, self.there);
         self.limit = word;
         self.cleaned = cleaned;
         self.all = Some(all);
@@ -203,7 +207,8 @@ impl OneHandLog for LogHand {
         let Some(all) = self.all.take() else {
             unreachable!();
         };
-        let (all, limit) = set_connected_as(&self.log, all, self.limit, self.cleaned, connected);
+        let (limit, cleaned, there) = (self.limit, self.cleaned, self.there);
+        let (all, limit) = set_connected_as(&self.log, all, limit, cleaned, there, connected);
         self.limit = limit;
         self.all = Some(all);
     }
@@ -212,7 +217,7 @@ impl OneHandLog for LogHand {
         let Some(all) = self.all.take() else {
             unreachable!();
         };
-        let (all, limit) = set_closed_as(&self.log, all, self.limit, self.cleaned);
+        let (all, limit) = set_closed_as(&self.log, all, self.limit, self.cleaned, self.there);
         self.limit = limit;
         self.all = Some(all);
     }
@@ -226,6 +231,7 @@ impl OneHandLog for LogHand {
             positions: _,
             limit: _,
             cleaned: _,
+            there: _,
             block: _,
         } = self;
         let Some(all) = all else {

@@ -9,6 +9,7 @@ use Rattle.publication.specs.declared.pass.Keeping.{Keeping}
 use Rattle.publication.specs.declared.pass.Pass.{Pass}
 use Rattle.publication.specs.declared.pass.Reading.{Reading}
 use Rattle.theory.specs.Bytes.{Identity}
+use Rattle.theory.specs.Placed.{Among}
 use Rattle.theory.specs.Position.{max_position}
 use Rattle.publication.specs.Steps.{term_of}
 use Rattle.log_rule.specs.Claims.Packs.{consumer_place}
@@ -107,7 +108,7 @@ begins_by l k p q number place position s low free b control once =
     let kept : keeping_of p ≡ record (keeping_of k) { positions = seen_positions p; reads = reads_of p } = ap (λ (v : Pass). v.keeping) s.keeps.pass in
     let there : there_of p ≡ there_of k = ap (λ (x : Keeping). x.there) kept in
     let positions : seen_positions q ≡ set (seen_positions p) number position = ap (λ (v : Pass). v.keeping.positions) b.pass_is in let reads : reads_of q ≡ reads_of p = ap (λ (v : Pass). v.keeping.reads) b.pass_is in
-    let all = s.all in let ne : (j : ℕ) → IsThere (there_of k) j → j ≢ number = λ j h e. clash (slice_index (there_of k) j) (slice_index (there_of k) number) (ap (slice_index (there_of k)) e) h free in record {
+    let all = s.all in let ne : (j : ℕ) → Among j (those_there k) → j ≢ number = λ j a e. (let x = numbered_is 0 (there_of k) j a in let y = x.1 in let same : x.0 ≡ number = omega (arith, e) in clash (slice_index (there_of k) (x.0)) (slice_index (there_of k) number) (ap (slice_index (there_of k)) same) x.2 free) in record {
       once = reads ∙ s.once;
       all = ap length positions ∙ length-set (seen_positions p) number position ∙ s.all;
       reads = λ j h. subst (ReadsConsumer k j) (sym (ap (λ (ps : List ℕ). slice_index ps j) positions ∙ get_or-set_other (seen_positions p) number j position 0 (ne j h))) (s.reads j h);
@@ -125,8 +126,8 @@ begins_by l k p q number place position s low free b control once =
       steps = (let x = s.steps in more q.held.steps p.held.steps k.held.steps (length (those_there k)) x once);
     }
   where
-    clash : (x y : ℕ) → x ≡ y → x ≡ 1 → y ≡ 0 → ⊥
-    clash x y e one z = omega arith
+    clash : (x y : ℕ) → x ≡ y → 0 < x → y ≡ 0 → ⊥
+    clash x y e pos z = omega arith
 
     more : (q p k n : ℕ) → p ≡ k + n → q ≡ p + 1 → q ≡ k + (n + 1)
     more q p k n a c = omega arith

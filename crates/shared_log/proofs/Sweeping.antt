@@ -248,7 +248,7 @@ last l k q least one of is eight flags low there w =
       is = is;
       once = w.once ∙ ap (λ (xs : List ℕ). reads_of k ++ xs) those;
       all = w.all;
-      reads = reads;
+      reads = λ j a. (let x = numbered_is 0 (there_of k) j a in let pos = x.2 in let most = flags (x.0) in let e : j ≡ x.0 = (let z = x.1 in omega arith) in reads j (ap (slice_index (there_of k)) e ∙ (let z : slice_index (there_of k) (x.0) ≡ 1 = omega arith in z)));
       least_is = is_least;
       stands = subst (MayStand k.held.pass) (sym (is_least ∙ at.2)) (reads at.0 at.1).stands;
       words = w.words one low there;

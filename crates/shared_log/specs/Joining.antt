@@ -1,5 +1,6 @@
 -- What contracts see of consumers that join and leave.
 use Rattle.std.specs.Prelude.{◌≡◌, ℕ, ◌+◌, ◌<◌, List, ◌∷◌, ◌++◌, drop, length, slice_index, slice_set, take}
+use Rattle.theory.specs.Placed.{Among}
 use Rattle.publication.specs.declared.pass.Keeping.{Keeping}
 use Rattle.publication.specs.declared.pass.Pass.{Pass}
 use Rattle.publication.specs.declared.pass.Reading.{Reading}
@@ -64,7 +65,7 @@ KnowsControls k q = k.held.sure ≡ 1 → q.held.controls ≡ k.held.controls
 pub record Begins (l : LogValue) (k : KeeperValue) (number place position : ℕ) (q : KeeperValue) : Type 0 where
   pub once : reads_of q ≡ reads_of k ++ those_there k
   pub all : length (seen_positions q) ≡ 8
-  pub reads : (j : ℕ) → IsThere (there_of k) j → ReadsConsumer k j (slice_index (seen_positions q) j)
+  pub reads : (j : ℕ) → Among j (those_there k) → ReadsConsumer k j (slice_index (seen_positions q) j)
   pub least : position ≡ least_there (there_of k) (seen_positions q)
   pub here : slice_index (seen_positions q) number ≡ position
   pub becomes : Becomes k (begun k number place position (seen_positions q) (reads_of q)) q
@@ -99,7 +100,7 @@ pub record IsJoined (l : LogValue) (number position : ℕ) (r : ReaderValue) : T
 pub record Joins (l : LogValue) (k : KeeperValue) (r : ReaderValue) (q : KeeperValue) : Type 0 where
   pub once : reads_of q ≡ reads_of k ++ those_there k
   pub all : length (seen_positions q) ≡ 8
-  pub reads : (j : ℕ) → IsThere (there_of k) j → ReadsConsumer k j (slice_index (seen_positions q) j)
+  pub reads : (j : ℕ) → Among j (those_there k) → ReadsConsumer k j (slice_index (seen_positions q) j)
   pub least : r.position ≡ least_there (there_of k) (seen_positions q)
   pub here : slice_index (seen_positions q) r.number ≡ r.position
   pub number : IsFirstFree (there_of k) r.number

@@ -116,7 +116,7 @@ pub record Sweeps (l : LogValue) (k : KeeperValue) (least : ℕ) (q : KeeperValu
   pub is : IsKeeping k.held.pass k.limit k.cleaned
   pub once : reads_of q ≡ reads_of k ++ those_there k
   pub all : length (seen_positions q) ≡ 8
-  pub reads : (j : ℕ) → IsThere (there_of k) j → ReadsConsumer k j (slice_index (seen_positions q) j)
+  pub reads : (j : ℕ) → Among j (those_there k) → ReadsConsumer k j (slice_index (seen_positions q) j)
   pub least_is : least ≡ least_there (there_of k) (seen_positions q)
   pub stands : MayStand k.held.pass least
   pub words : (l.start % 32 ≡ 0) × (k.cleaned % 8 ≡ 0)
@@ -138,7 +138,7 @@ pub record MayRaiseFrom (k : KeeperValue) (least : ℕ) : Type 0 where
 pub record CleansAndLimits (l : LogValue) (k q : KeeperValue) : Type 0 where
   pub once : reads_of q ≡ reads_of k ++ those_there k
   pub all : length (seen_positions q) ≡ 8
-  pub reads : (j : ℕ) → IsThere (there_of k) j → ReadsConsumer k j (slice_index (seen_positions q) j)
+  pub reads : (j : ℕ) → Among j (those_there k) → ReadsConsumer k j (slice_index (seen_positions q) j)
   pub not_back : k.cleaned ≤ q.cleaned
   pub keeps : let least = least_there (there_of k) (seen_positions q) in let length_of = l.identity.geometry.term_length in
       KeepsAs k (record (keeping_of k) { limit = raised k.limit least length_of; cleaned = max l.start (least - length_of); positions = seen_positions q; reads = reads_of q }) q

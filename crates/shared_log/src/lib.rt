@@ -46,7 +46,7 @@ pub use fault::LogError;
 pub use keeper::joining::{begin_consumer, end_consumer};
 pub use keeper::{Keeper, clean_and_limit, set_closed, set_connected};
 pub use log::{Log, Publisher};
-pub use parts::{Parts, open};
+pub use parts::{Parts, first_there, open};
 pub use publisher::calls::OnLog;
 pub use publisher::meeting::meet;
 pub use publisher::retiring::retire;

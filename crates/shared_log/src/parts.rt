@@ -27,7 +27,7 @@ pub struct Parts {
 }
 
 /// So many consumers are there, with the first numbers.
-fn first_there(consumers: u64) -> [bool; 8]
+pub fn first_there(consumers: u64) -> [bool; 8]
     requires { consumers ≤ 8 }
     ensures flags { map flag_of result ≡ first_flags consumers }
     ensures many { length result ≡ 8 }

@@ -12,25 +12,32 @@ pub(crate) fn set_connected_as(
     all: Publisher,
     limit: u64,
     cleaned: u64,
+    there: [bool; 8],
     connected: bool,
 ) -> (Publisher, u64)
-    requires may { MayKeep log.now all limit cleaned }
+    requires may { MayKeep log.now all limit cleaned there }
     ensures { SetsLimit all (connected_word connected limit) cleaned result.0 result.1 }
 {
     let (number, share) = (all.number(), all.share());
-    let mut keeper = all.into_keeper(limit, cleaned);
+    let mut keeper = all.into_keeper(limit, cleaned, there);
     set_connected(log, &mut keeper, connected);
     let limit = keeper.limit_word();
     (keeper.into_publisher(number, share), limit)
 }
 
 /// Closes the log, for good. The answer has the limit word.
-pub(crate) fn set_closed_as(log: &Log, all: Publisher, limit: u64, cleaned: u64) -> (Publisher, u64)
-    requires may { MayKeep log.now all limit cleaned }
+pub(crate) fn set_closed_as(
+    log: &Log,
+    all: Publisher,
+    limit: u64,
+    cleaned: u64,
+    there: [bool; 8],
+) -> (Publisher, u64)
+    requires may { MayKeep log.now all limit cleaned there }
     ensures { SetsLimit all (closed_word limit) cleaned result.0 result.1 }
 {
     let (number, share) = (all.number(), all.share());
-    let mut keeper = all.into_keeper(limit, cleaned);
+    let mut keeper = all.into_keeper(limit, cleaned, there);
     set_closed(log, &mut keeper);
     let limit = keeper.limit_word();
     (keeper.into_publisher(number, share), limit)
@@ -43,12 +50,13 @@ pub(crate) fn clean_as(
     all: Publisher,
     limit: u64,
     cleaned: u64,
+    there: [bool; 8],
 ) -> (Publisher, u64, u64, u64)
-    requires may { MayKeep log.now all limit cleaned }
+    requires may { MayKeep log.now all limit cleaned there }
     ensures { Cleans log.now all limit cleaned result.0 result.1 result.2 result.3 }
 {
     let (number, share) = (all.number(), all.share());
-    let mut keeper = all.into_keeper(limit, cleaned);
+    let mut keeper = all.into_keeper(limit, cleaned, there);
     let answer = clean_and_limit(log, &mut keeper);
     let (word, low) = (keeper.limit_word(), keeper.cleaned());
     (keeper.into_publisher(number, share), word, low, answer)

@@ -5,10 +5,10 @@ use Rattle.one_hand.proofs.Handing.{share_fits, stands_on, there}
 use Rattle.one_hand.proofs.log_hand.LogHandClaims.offer.Goals as goal
 
 pub overflow_add-self : goal.overflow_add-self
-overflow_add-self c = let s = (there c.self.inside.log c.self.inside.all c.in-Some.all c.self.inside.held (record { shares = c.self.inside.shares; positions = c.self.inside.positions; limit = c.self.inside.limit; cleaned = c.self.inside.cleaned; block = length c.self.inside.block }) c.self.invariant (sym c.take.ensures.value ∙ c.in-Some.is)) in let e = c.offer_as-answer.ensures c.self.inside.held s.hand in let q = c.offer_as-answer.new.all in let a = c.share.ensures in let b = c.share-before.ensures in let f = c.share.type_inv in
+overflow_add-self c = let s = (there c.self.inside.log c.self.inside.all c.in-Some.all c.self.inside.held (record { shares = c.self.inside.shares; positions = c.self.inside.positions; limit = c.self.inside.limit; cleaned = c.self.inside.cleaned; there = c.self.inside.there; block = length c.self.inside.block }) c.self.invariant (sym c.take.ensures.value ∙ c.in-Some.is)) in let e = c.offer_as-answer.ensures c.self.inside.held s.hand in let q = c.offer_as-answer.new.all in let a = c.share.ensures in let b = c.share-before.ensures in let f = c.share.type_inv in
     let m = share_fits c.self.inside.log c.in-Some.all q c.self.inside.held c.args.publisher c.requires.publisher _ s.numbers e.shares e.hand in record { fits = omega arith }
 
 pub invariant_of-self : goal.invariant_of-self
-invariant_of-self c = let s = (there c.self.inside.log c.self.inside.all c.in-Some.all c.self.inside.held (record { shares = c.self.inside.shares; positions = c.self.inside.positions; limit = c.self.inside.limit; cleaned = c.self.inside.cleaned; block = length c.self.inside.block }) c.self.invariant (sym c.take.ensures.value ∙ c.in-Some.is)) in let e = c.offer_as-answer.ensures c.self.inside.held s.hand in
-    subst (λ (d : ℕ). Stands c.self.inside.log c.offer_as-answer.new.all c.self.inside.held (record (record { shares = c.self.inside.shares; positions = c.self.inside.positions; limit = c.self.inside.limit; cleaned = c.self.inside.cleaned; block = length c.self.inside.block }) { shares = slice_set c.self.inside.shares c.args.publisher (slice_index_or c.self.inside.shares c.args.publisher 0 + d) })) (λ j. sym c.share.ensures j - sym c.share-before.ensures j)
-    (stands_on c.self.inside.log c.in-Some.all c.offer_as-answer.new.all c.self.inside.held c.args.publisher c.requires.publisher (record { shares = c.self.inside.shares; positions = c.self.inside.positions; limit = c.self.inside.limit; cleaned = c.self.inside.cleaned; block = length c.self.inside.block }) s.numbers e.shares e.hand)
+invariant_of-self c = let s = (there c.self.inside.log c.self.inside.all c.in-Some.all c.self.inside.held (record { shares = c.self.inside.shares; positions = c.self.inside.positions; limit = c.self.inside.limit; cleaned = c.self.inside.cleaned; there = c.self.inside.there; block = length c.self.inside.block }) c.self.invariant (sym c.take.ensures.value ∙ c.in-Some.is)) in let e = c.offer_as-answer.ensures c.self.inside.held s.hand in
+    subst (λ (d : ℕ). Stands c.self.inside.log c.offer_as-answer.new.all c.self.inside.held (record (record { shares = c.self.inside.shares; positions = c.self.inside.positions; limit = c.self.inside.limit; cleaned = c.self.inside.cleaned; there = c.self.inside.there; block = length c.self.inside.block }) { shares = slice_set c.self.inside.shares c.args.publisher (slice_index_or c.self.inside.shares c.args.publisher 0 + d) })) (λ j. sym c.share.ensures j - sym c.share-before.ensures j)
+    (stands_on c.self.inside.log c.in-Some.all c.offer_as-answer.new.all c.self.inside.held c.args.publisher c.requires.publisher (record { shares = c.self.inside.shares; positions = c.self.inside.positions; limit = c.self.inside.limit; cleaned = c.self.inside.cleaned; there = c.self.inside.there; block = length c.self.inside.block }) s.numbers e.shares e.hand)

@@ -6,10 +6,10 @@ use Rattle.one_hand.proofs.Flags as flags
 use Rattle.one_hand.proofs.log_hand.LogHandOneHandLog.set_closed.Goals as goal
 
 pub set_closed_as-all-requires : goal.set_closed_as-all-requires
-set_closed_as-all-requires c = record { may = flags.may_keep c.self.inside.log c.in-Some.all c.self.inside.held (record { shares = c.self.inside.shares; positions = c.self.inside.positions; limit = c.self.inside.limit; cleaned = c.self.inside.cleaned; block = length c.self.inside.block }) (there c.self.inside.log c.self.inside.all c.in-Some.all c.self.inside.held (record { shares = c.self.inside.shares; positions = c.self.inside.positions; limit = c.self.inside.limit; cleaned = c.self.inside.cleaned; block = length c.self.inside.block }) c.self.invariant (sym c.take.ensures.value ∙ c.in-Some.is)) }
+set_closed_as-all-requires c = record { may = flags.may_keep c.self.inside.log c.in-Some.all c.self.inside.held (record { shares = c.self.inside.shares; positions = c.self.inside.positions; limit = c.self.inside.limit; cleaned = c.self.inside.cleaned; there = c.self.inside.there; block = length c.self.inside.block }) (there c.self.inside.log c.self.inside.all c.in-Some.all c.self.inside.held (record { shares = c.self.inside.shares; positions = c.self.inside.positions; limit = c.self.inside.limit; cleaned = c.self.inside.cleaned; there = c.self.inside.there; block = length c.self.inside.block }) c.self.invariant (sym c.take.ensures.value ∙ c.in-Some.is)) }
 
 pub invariant_of-self : goal.invariant_of-self
-invariant_of-self c = (flags.flagged c.self.inside.log c.in-Some.all c.self.inside.held (record { shares = c.self.inside.shares; positions = c.self.inside.positions; limit = c.self.inside.limit; cleaned = c.self.inside.cleaned; block = length c.self.inside.block }) (there c.self.inside.log c.self.inside.all c.in-Some.all c.self.inside.held (record { shares = c.self.inside.shares; positions = c.self.inside.positions; limit = c.self.inside.limit; cleaned = c.self.inside.cleaned; block = length c.self.inside.block }) c.self.invariant (sym c.take.ensures.value ∙ c.in-Some.is)) c.set_closed_as-all.result.0 (closed_word c.self.inside.limit) c.set_closed_as-all.result.1 c.set_closed_as-all.ensures).0
+invariant_of-self c = (flags.flagged c.self.inside.log c.in-Some.all c.self.inside.held (record { shares = c.self.inside.shares; positions = c.self.inside.positions; limit = c.self.inside.limit; cleaned = c.self.inside.cleaned; there = c.self.inside.there; block = length c.self.inside.block }) (there c.self.inside.log c.self.inside.all c.in-Some.all c.self.inside.held (record { shares = c.self.inside.shares; positions = c.self.inside.positions; limit = c.self.inside.limit; cleaned = c.self.inside.cleaned; there = c.self.inside.there; block = length c.self.inside.block }) c.self.invariant (sym c.take.ensures.value ∙ c.in-Some.is)) c.set_closed_as-all.result.0 (closed_word c.self.inside.limit) c.set_closed_as-all.result.1 c.set_closed_as-all.ensures).0
 
 pub returns : goal.returns
-returns c = flags.closed c.self.inside.log c.in-Some.all c.self.inside.held (record { shares = c.self.inside.shares; positions = c.self.inside.positions; limit = c.self.inside.limit; cleaned = c.self.inside.cleaned; block = length c.self.inside.block }) (there c.self.inside.log c.self.inside.all c.in-Some.all c.self.inside.held (record { shares = c.self.inside.shares; positions = c.self.inside.positions; limit = c.self.inside.limit; cleaned = c.self.inside.cleaned; block = length c.self.inside.block }) c.self.invariant (sym c.take.ensures.value ∙ c.in-Some.is)) c.set_closed_as-all.result.0 c.set_closed_as-all.result.1 c.set_closed_as-all.ensures ∙ ap (λ (x : Stream). record x { closed = true }) (shown c.self.inside.all c.in-Some.all c.self.inside.held c.args.self.now c.self.view_is (sym c.take.ensures.value ∙ c.in-Some.is))
+returns c = flags.closed c.self.inside.log c.in-Some.all c.self.inside.held (record { shares = c.self.inside.shares; positions = c.self.inside.positions; limit = c.self.inside.limit; cleaned = c.self.inside.cleaned; there = c.self.inside.there; block = length c.self.inside.block }) (there c.self.inside.log c.self.inside.all c.in-Some.all c.self.inside.held (record { shares = c.self.inside.shares; positions = c.self.inside.positions; limit = c.self.inside.limit; cleaned = c.self.inside.cleaned; there = c.self.inside.there; block = length c.self.inside.block }) c.self.invariant (sym c.take.ensures.value ∙ c.in-Some.is)) c.set_closed_as-all.result.0 c.set_closed_as-all.result.1 c.set_closed_as-all.ensures ∙ ap (λ (x : Stream). record x { closed = true }) (shown c.self.inside.all c.in-Some.all c.self.inside.held c.args.self.now c.self.view_is (sym c.take.ensures.value ∙ c.in-Some.is))
