@@ -1,8 +1,9 @@
 //! A log that opens, with publishers that claim.
 
-ghost use Rattle.std.specs.Prelude.{◌≡◌, ◌↔◌, IfOk, IsErrOf, vec_capacity};
+ghost use Rattle.std.specs.Prelude.{◌≡◌, ◌↔◌, IfErr, IfOk, IsErrOf, vec_capacity};
 ghost use Rattle.std.specs.List.{AllByRecursion};
 ghost use Rattle.position.specs.Openings.{IsConsumerCount, IsStart};
+ghost use Rattle.shared_log.specs.Faults.{OfOpening};
 ghost use Rattle.shared_log.specs.Handles.{AreNew, IsLogOf};
 ghost use Rattle.shared_log.specs.Parts.{AreDealt};
 
@@ -89,6 +90,7 @@ pub fn open(
     ensures consumers { IsErrOf result LogError.Consumers ↔ (IsStart geometry start × (¬ IsConsumerCount consumers)) }
     ensures in_range { IfOk result (λ _. IsStart geometry start × IsConsumerCount consumers) }
     ensures memory { IsErrOf result LogError.Memory → IsStart geometry start × IsConsumerCount consumers }
+    ensures opens { IfErr result OfOpening }
 {
     let (log, parts) = shared_log::open(alloc, geometry, session, stream, start, consumers)?;
     let shared_log::Parts {

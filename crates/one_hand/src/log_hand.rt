@@ -1,7 +1,8 @@
 //! One hand over a log.
 
-ghost use Rattle.std.specs.Prelude.{◌≡◌, IfOk, IsErrOf, ◌↔◌};
+ghost use Rattle.std.specs.Prelude.{◌≡◌, IfErr, IfOk, IsErrOf, ◌↔◌};
 ghost use Rattle.position.specs.Openings.{IsConsumerCount, IsStart};
+ghost use Rattle.shared_log.specs.Faults.{OfOpening};
 ghost use Rattle.one_hand.specs.Stream.{opened};
 
 pub(crate) mod acting;
@@ -72,6 +73,7 @@ impl LogHand {
         ensures consumers { IsErrOf result LogError.Consumers ↔ (IsStart geometry start × (¬ IsConsumerCount consumers)) }
         ensures in_range { IfOk result (λ _. IsStart geometry start × IsConsumerCount consumers) }
         ensures memory { IsErrOf result LogError.Memory → IsStart geometry start × IsConsumerCount consumers }
+        ensures opens { IfErr result OfOpening }
     {
         let (log, all) = Log::open_whole(alloc, geometry, session, stream, start, consumers)?;
         let block = Block::new(alloc, geometry.mtu() as usize)?;

@@ -4,6 +4,7 @@ ghost use Rattle.std.specs.Prelude.{◌≡◌, ◌<◌, ◌≤◌, ◌+◌, ◌*
 ghost use Rattle.theory.specs.Position.{max_message, max_payload};
 ghost use Rattle.position.specs.Openings.{IsStart};
 ghost use Rattle.one_hand.specs.Stream.{Fits, claim_by, case_of, ready, refusal_at_end, room as rest_of, term_of, turned, with_claim, with_message, with_padding};
+ghost use Rattle.shared_log.specs.Faults.{OfOpening};
 ghost use Rattle.plain_log.specs.Outcomes.{Admits, Refuses};
 
 use crate::addition::{Addition, Content, Held};
@@ -57,6 +58,7 @@ impl PlainLog {
         ensures opened { IfOk result (λ h. h ≡ ready (record { geometry = geometry; session = session; stream = stream }) start 0) }
         ensures start { IsErrOf result LogError.Start ↔ (¬ IsStart geometry start) }
         ensures memory { IsErrOf result LogError.Memory → IsStart geometry start }
+        ensures opens { IfErr result OfOpening }
     {
         if !start.is_multiple_of(32) || start >= geometry.max_position() {
             return Err(LogError::Start);

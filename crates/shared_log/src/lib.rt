@@ -17,9 +17,14 @@
 //! Whoever has every part of the log finds what its own pass committed, and nothing else. A reader is a source of
 //! frames for a sender (`LogFrames`).
 //!
-//! The keeper (`clean_and_limit`) reads each consumer's position once, cleans up to a term below the least, and
-//! raises the limit to half a term above that where the log is connected and not closed, never lower; the flags are
-//! set as asked, closing for good (`set_connected`, `set_closed`). All of it exactly, and in so many word steps.
+//! The keeper (`clean_and_limit`) reads the position of each consumer that is there once, cleans up to a term below the
+//! least, and raises the limit to half a term above that where the log is connected and not closed, never lower; the
+//! flags are set as asked, closing for good (`set_connected`, `set_closed`). All of it exactly, and in so many word
+//! steps.
+//!
+//! Consumers join and leave by the keeper (`Keeper::join`, `Keeper::leave`): one that joins has the least free number
+//! and begins at the least position of those that are there, each read once in that call; one that leaves spends its
+//! pass, and the next cleaning reads it no more. Who is there is known to the keeper alone.
 //!
 //! Counted are the steps on words that a pass makes: loads, stores, additions and exchanges. `Log::peek` is for tests,
 //! and no call can make it, since it wants the log for itself.

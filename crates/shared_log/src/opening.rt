@@ -1,7 +1,8 @@
 //! A log that opens.
 
-ghost use Rattle.std.specs.Prelude.{◌↔◌, IfOk, IsErrOf};
+ghost use Rattle.std.specs.Prelude.{◌↔◌, IfErr, IfOk, IsErrOf};
 ghost use Rattle.position.specs.Openings.{IsConsumerCount, IsStart};
+ghost use Rattle.shared_log.specs.Faults.{OfOpening};
 ghost use Rattle.shared_log.specs.Handles.{IsLogOf, IsWholeNew};
 
 use crate::fault::LogError;
@@ -29,6 +30,7 @@ impl Log {
         ensures consumers { IsErrOf result LogError.Consumers ↔ (IsStart geometry start × (¬ IsConsumerCount consumers)) }
         ensures in_range { IfOk result (λ _. IsStart geometry start × IsConsumerCount consumers) }
         ensures memory { IsErrOf result LogError.Memory → IsStart geometry start × IsConsumerCount consumers }
+        ensures opens { IfErr result OfOpening }
     {
         if !start.is_multiple_of(32) || start >= geometry.max_position() {
             return Err(LogError::Start);

@@ -1,9 +1,10 @@
 //! A log that opens, with all its passes.
 
-ghost use Rattle.std.specs.Prelude.{◌≡◌, ℕ, ◌+◌, ◌<◌, ◌≤◌, ◌↔◌, [], IfOk, IsErrOf, length, map, vec_capacity, vec_len};
+ghost use Rattle.std.specs.Prelude.{◌≡◌, ℕ, ◌+◌, ◌<◌, ◌≤◌, ◌↔◌, [], IfErr, IfOk, IsErrOf, length, map, vec_capacity, vec_len};
 ghost use Rattle.theory.specs.Position.{max_position};
 ghost use Rattle.position.specs.Openings.{IsConsumerCount, IsStart};
 ghost use Rattle.log_rule.specs.Table.{first_there as first_flags};
+ghost use Rattle.shared_log.specs.Faults.{OfOpening};
 ghost use Rattle.shared_log.specs.Handles.{AreNew, IsLogOf, IsWholeNew};
 ghost use Rattle.shared_log.specs.Keepers.{flag_of};
 ghost use Rattle.shared_log.specs.Parts.{AreDealt, AreReaders, IsDealing, IsDealer, IsNewKeeper, IsNewReader, IsNewPublisher};
@@ -147,6 +148,7 @@ pub fn open(
     ensures consumers { IsErrOf result LogError.Consumers ↔ (IsStart geometry start × (¬ IsConsumerCount consumers)) }
     ensures in_range { IfOk result (λ _. IsStart geometry start × IsConsumerCount consumers) }
     ensures memory { IsErrOf result LogError.Memory → IsStart geometry start × IsConsumerCount consumers }
+    ensures opens { IfErr result OfOpening }
 {
     let (log, mut pass) = Log::open_whole(alloc, geometry, session, stream, start, consumers)?;
     let readers = Vec::with_capacity(alloc, consumers)?;

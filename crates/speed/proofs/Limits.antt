@@ -1,23 +1,29 @@
 -- The limit of a log that opens for a round.
-use Rattle.std.proofs.Common.{◌≡◌, ◌∙◌, ℕ, ◌+◌, ◌/◌, ◌%◌, ◌<◌, ◌≤◌, max, true, List, [], ◌∷◌, length, ap, arith}
+use Rattle.std.proofs.Common.{◌≡◌, ◌∙◌, ℕ, ◌+◌, ◌/◌, ◌%◌, ◌≤◌, max, min, true, List, inl, refl, ap, subst, sym, arith}
 use Rattle.std.specs.Prelude.{nat_eq, slice_index}
 use Rattle.theory.specs.Position.{IsGeometry}
 use Rattle.theory.specs.Refusal.{is_connected, limit_in}
 use Rattle.theory.proofs.Places.{power_half}
-use Rattle.log_rule.specs.Keepings.{least_of}
+use Rattle.theory.specs.Placed.{Among}
+use Rattle.log_rule.specs.Keepings.{least_there, numbered}
+use Rattle.log_rule.specs.Table.{first_there}
 use Rattle.shared_log.specs.Handles.{LogValue}
-use Rattle.shared_log.specs.Keepers.{CleansAndLimits, KeeperValue, connected_word, raised, seen_positions}
+use Rattle.shared_log.specs.Keepers.{CleansAndLimits, KeeperValue, connected_word, raised, seen_positions, there_of}
 
 -- a limit word that is connected, with the limit there or further
 pub record Allows (from word : ℕ) : Type 0 where
   pub connected : is_connected word ≡ true
   pub limit : from ≤ limit_in word
 
--- of one position it is the least
-only : (positions : List ℕ) → length positions ≡ 1 → least_of positions ≡ slice_index positions 0
-only [] one = absurd (omega (arith, one))
-only (x ∷ []) one = grind arith
-only (x ∷ y ∷ ys) one = absurd (omega (arith, one))
+-- of one consumer its position is the least
+only : (there positions : List ℕ) → there ≡ first_there 1 → least_there there positions ≡ slice_index positions 0
+only there positions one = ap (λ (t : List ℕ). least_there t positions) one ∙ same (slice_index positions 0)
+  where
+    same : (n : ℕ) → min n n ≡ n
+    same n = grind arith
+
+among_one : (there : List ℕ) → there ≡ first_there 1 → Among 0 (numbered 0 there)
+among_one there one = subst (λ (t : List ℕ). Among 0 (numbered 0 t)) (sym one) (inl refl)
 
 above : (least half word : ℕ) → least % 32 ≡ 0 → half % 4 ≡ 0 → word ≡ max 0 (least + half) + 1 → Allows half word
 above least half word unit four is = record {
@@ -29,8 +35,8 @@ raised_first : (least length_of first word : ℕ) → first ≡ 1 → least % 32
 raised_first least length_of first word one unit half is = above least (length_of / 2) word unit (omega (arith, half)) (is ∙ ap (λ (n : ℕ). raised n least length_of) one)
 
 -- once it is connected and the keeper has seen the one reader, half a term may be claimed
-pub opens_half : (l : LogValue) (first k q : KeeperValue) → IsGeometry l.identity.geometry → l.consumers ≡ 1 → first.limit ≡ 0 → k.limit ≡ connected_word true first.limit → CleansAndLimits l k q → Allows (l.identity.geometry.term_length / 2) q.limit
+pub opens_half : (l : LogValue) (first k q : KeeperValue) → IsGeometry l.identity.geometry → there_of k ≡ first_there 1 → first.limit ≡ 0 → k.limit ≡ connected_word true first.limit → CleansAndLimits l k q → Allows (l.identity.geometry.term_length / 2) q.limit
 opens_half l first k q legal one zero_at connected cleans =
-    let there : 0 < l.consumers = omega (arith, one) in
-    let unit : least_of (seen_positions q) % 32 ≡ 0 = ap (λ (n : ℕ). n % 32) (only (seen_positions q) (cleans.all ∙ one)) ∙ (cleans.reads 0 there).stands.unit in
-    raised_first (least_of (seen_positions q)) l.identity.geometry.term_length k.limit q.limit (connected ∙ ap (connected_word true) zero_at) unit (power_half l.identity.geometry.term_length legal.term.power legal.term.least) cleans.keeps.limit
+    let least = least_there (there_of k) (seen_positions q) in
+    let unit : least % 32 ≡ 0 = ap (λ (n : ℕ). n % 32) (only (there_of k) (seen_positions q) one) ∙ (cleans.reads 0 (among_one (there_of k) one)).stands.unit in
+    raised_first least l.identity.geometry.term_length k.limit q.limit (connected ∙ ap (connected_word true) zero_at) unit (power_half l.identity.geometry.term_length legal.term.power legal.term.least) cleans.keeps.limit

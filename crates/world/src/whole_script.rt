@@ -76,8 +76,8 @@ fn log_lines(
             add_line(&mut lines, Line::BadLog(LogError::Start))?;
             Ok(lines)
         }
-        Err(LogError::Consumers) => unreachable!(),
         Err(LogError::Memory) => Err(AllocError),
+        Err(_) => unreachable!(),
     }
 }
 

@@ -1,7 +1,9 @@
-use Rattle.std.proofs.Common.{◌≡◌, ℕ, ◌+◌, sym, ap, ◌∙◌, subst, arith}
+use Rattle.std.proofs.Common.{◌≡◌, ℕ, ◌+◌, ◌≤◌, sym, ap, ◌∙◌, subst, arith}
 use Rattle.std.specs.Prelude.{length}
 use Rattle.theory.specs.Bytes.{Identity}
 use Rattle.theory.specs.Position.{Geometry, IsGeometry}
+use Rattle.publication.specs.declared.pass.Pass.{Pass}
+use Rattle.log_rule.specs.Table.{first_there}
 use Rattle.shared_log.specs.Handles.{AreNew}
 use Rattle.speed.proofs.Followers.{kept_on, new_kept, new_readers}
 use Rattle.speed.proofs.Limits.{opens_half}
@@ -15,7 +17,8 @@ returns-clause-ready c =
     let new : AreNew l 0 (Rattle.std.specs.Prelude.map Rattle.speed.specs.Rounds.publisher_in xs) = subst (AreNew l 0) (sym c.lanes_of.ensures.publishers) p.publishers_are in
     let shape_is : l.identity.geometry ≡ c.args.geometry = ap (λ (i : Identity). i.geometry) is.identity_is in
     let legal : IsGeometry l.identity.geometry = subst IsGeometry (sym shape_is) c.max_position.ensures.legal in
-    let allows = opens_half l c.in_ok-log.parts.keeper c.set_connected.new.keeper c.clean_and_limit.new.keeper legal is.consumers_is (p.keeper_is.limit ∙ is.start_is) c.set_connected.ensures.keeps.limit c.clean_and_limit.ensures.done in record {
+    let there = ap (λ (v : Pass). v.keeping.there) c.set_connected.ensures.keeps.pass ∙ ap (λ (v : Pass). v.keeping.there) p.keeper_is.held.pass_is ∙ ap first_there is.consumers_is in
+    let allows = opens_half l c.in_ok-log.parts.keeper c.set_connected.new.keeper c.clean_and_limit.new.keeper legal there (p.keeper_is.limit ∙ is.start_is) c.set_connected.ensures.keeps.limit c.clean_and_limit.ensures.done in record {
       shape = shape_is;
       start = is.start_is;
       lanes = new_lanes l 0 xs new c.lanes_of.ensures.none;
@@ -24,9 +27,9 @@ returns-clause-ready c =
       keeper = kept_on l _ _ _ c.clean_and_limit.ensures.done.keeps (kept_on l _ _ _ c.set_connected.ensures.keeps (new_kept l _ p.keeper_is));
       connected = allows.connected;
       limit = (let half = allows.limit in let same : l.identity.geometry.term_length ≡ c.args.geometry.term_length = ap (λ (g : Geometry). g.term_length) shape_is in omega (arith, half, same));
-      readers = new_readers l 0 rs p.readers_are (let all = p.all in from (length rs) l.consumers all);
+      readers = new_readers l 0 rs p.readers_are (few (length rs) one);
       one = one;
     }
   where
-    from : (n c : ℕ) → n ≡ c → 0 + n ≡ c
-    from n c e = omega arith
+    few : (n : ℕ) → n ≡ 1 → 0 + n ≤ 8
+    few n e = omega arith
