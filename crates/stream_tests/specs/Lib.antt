@@ -1,2 +1,3 @@
 pub mod Parties
 pub mod Crews
+pub mod Consumers

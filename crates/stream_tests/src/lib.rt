@@ -1,8 +1,12 @@
 //! Tests of a log that threads share, over many terms: publishers, readers and the keeper in threads of their own;
-//! and a publisher that stalls between two of its steps while terms turn, or is held there while each other party goes
-//! on.
+//! consumers that join and leave; and a publisher that stalls between two of its steps while terms turn, or is held
+//! there while each other party goes on.
 #![tactic(auto)]
 
+#[cfg(test)]
+mod consumers;
+#[cfg(test)]
+mod consumers_among_threads;
 mod crew;
 #[cfg(test)]
 mod holds;
@@ -19,6 +23,6 @@ mod stalls_among_threads;
 #[cfg(test)]
 mod streams;
 
-pub use crew::{Crew, Follower, Four};
+pub use crew::{Crew, Follower, Four, Passes};
 pub use library::pass_on;
 pub use parties::Party;

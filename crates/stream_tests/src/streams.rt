@@ -27,7 +27,7 @@ const MESSAGES: u32 = 3000;
 const TRIES: u32 = 100_000_000;
 
 /// The longest message.
-const LONGEST: usize = 900;
+pub(crate) const LONGEST: usize = 900;
 
 /// What a thread saw: how many messages of each publisher, or that something was wrong.
 #[derive(Clone, Copy, PartialEq, Eq)]
@@ -42,14 +42,14 @@ const NOTHING: Seen = Seen {
 };
 
 /// The length of a message.
-fn size_of(number: u32, count: u32) -> usize
+pub(crate) fn size_of(number: u32, count: u32) -> usize
     ensures { result ≤ 900 }
 {
     8 + (count.wrapping_mul(37).wrapping_add(number.wrapping_mul(11)) % 893) as usize
 }
 
 /// The bytes of a message: its publisher's number, its count, and then the same byte over and over.
-fn write(message: &mut [u8; LONGEST], number: u32, count: u32) {
+pub(crate) fn write(message: &mut [u8; LONGEST], number: u32, count: u32) {
     *message = [(number.wrapping_mul(64).wrapping_add(count) % 256) as u8; LONGEST];
     message[..4].copy_from_slice(&number.to_le_bytes());
     message[4..8].copy_from_slice(&count.to_le_bytes());

@@ -1,0 +1,5 @@
+use Rattle.shared_log.specs.Handles.{IsOf}
+use Rattle.stream_tests.proofs.consumers_among_threads.keep.Given as goal
+
+abbrev pub invariant-loop : goal.invariant-loop
+invariant-loop l = IsOf l.log l.keeper.held
