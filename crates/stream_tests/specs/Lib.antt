@@ -1,2 +1,2 @@
 pub mod Parties
-pub mod Crews
+pub mod Passes

@@ -3,12 +3,12 @@
 //! on.
 #![tactic(auto)]
 
-mod crew;
 #[cfg(test)]
 mod holds;
 mod library;
 #[cfg(test)]
 mod opening;
+mod other_passes;
 mod parties;
 #[cfg(test)]
 mod stalled;
@@ -19,6 +19,6 @@ mod stalls_among_threads;
 #[cfg(test)]
 mod streams;
 
-pub use crew::{Crew, Follower, Four};
 pub use library::pass_on;
+pub use other_passes::{Follower, Four, OtherPasses};
 pub use parties::Party;
