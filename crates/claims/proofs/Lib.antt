@@ -2,3 +2,4 @@ pub mod Rests
 pub mod Halves
 pub mod Eights
 pub mod Handed
+mod Newcomers

@@ -21,7 +21,7 @@ use Rattle.publication.specs.Looks.{Granted, LookedAt, Tripping}
 use Rattle.publication.specs.Offers.{Offered}
 use Rattle.log_rule.specs.Claims.Admits.{Same}
 use Rattle.log_rule.specs.Claims.Handles.{PublisherValue}
-use Rattle.claims.specs.Holdings.{HasOpen, IsClaimant, IsResting, MayAdd}
+use Rattle.claims.specs.Holdings.{HasOpen, IsClaimant, MayAdd}
 
 -- nothing was opened or ended
 pub record IsStill (p q : Pass) : Type 0 where

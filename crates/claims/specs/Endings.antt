@@ -1,5 +1,5 @@
 -- All passes of a log whose publishers claim.
-use Rattle.std.specs.Prelude.{◌≡◌, ℕ, ◌+◌, List, [], All}
+use Rattle.std.specs.Prelude.{◌≡◌, ◌+◌, List, [], All}
 use Rattle.log_rule.specs.Claims.Handles.{PublisherValue, parts_in}
 use Rattle.log_rule.specs.Claims.Sums.{total}
 use Rattle.shared_log.specs.Books.{IsDone}

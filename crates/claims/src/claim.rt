@@ -111,6 +111,7 @@ impl Claim {
             start,
             end,
         } = self;
+        // What always holds of it, for the proof.
         let _ = log.identity().geometry();
         let size = bytes.len() as u32;
         abort(&mut OnLog::new(log), &mut publisher, start, size);

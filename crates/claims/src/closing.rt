@@ -14,6 +14,7 @@ fn ended(log: &Log, claimant: Claimant) -> Publisher
     ensures done { IsDone log.now result }
     ensures same { result ≡ claimant }
 {
+    // What always holds of it, for the proof.
     let _ = log.start();
     claimant.into_parts().0
 }

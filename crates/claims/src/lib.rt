@@ -22,4 +22,4 @@ pub use claim::Claim;
 pub use claimant::{Claimant, offer};
 pub use closing::close;
 pub use denied::Denied;
-pub use parts::{Parts, blocks, open};
+pub use parts::{Parts, open, with_blocks};

@@ -4,8 +4,9 @@ ghost use Rattle.std.specs.Prelude.{◌≡◌, ◌↔◌, IfErr, IfOk, IsErrOf, 
 ghost use Rattle.std.specs.List.{AllByRecursion};
 ghost use Rattle.position.specs.Openings.{IsConsumerCount, IsStart};
 ghost use Rattle.shared_log.specs.Faults.{OfOpening};
-ghost use Rattle.shared_log.specs.Handles.{AreNew, IsLogOf};
+ghost use Rattle.shared_log.specs.Handles.{IsLogOf, IsOf};
 ghost use Rattle.shared_log.specs.Parts.{AreDealt};
+ghost use Rattle.claims.specs.Holdings.{IsResting};
 
 use crate::claimant::Claimant;
 use position::Geometry;
@@ -22,15 +23,15 @@ pub struct Parts {
     pub keeper: Keeper,
 }
 
-/// Memory for a claim's bytes.
+/// Memory for the bytes of a claim of this MTU.
 fn block(alloc: Global, mtu: usize) -> Result<Vec<u8>, AllocError>
     ensures { IfOk result (λ b. vec_capacity b ≡ mtu) }
 {
     Ok(Vec::with_capacity(alloc, mtu)?)
 }
 
-/// Memory for the bytes of a claim of this MTU, for each of eight publishers. The error comes only where memory is refused.
-pub fn blocks(alloc: Global, mtu: usize) -> Result<[Vec<u8>; 8], AllocError>
+/// The same for each of eight publishers.
+fn blocks(alloc: Global, mtu: usize) -> Result<[Vec<u8>; 8], AllocError>
     ensures { IfOk result (λ bs. AllByRecursion (λ b. vec_capacity b ≡ mtu) bs) }
 {
     Ok([
@@ -45,12 +46,17 @@ pub fn blocks(alloc: Global, mtu: usize) -> Result<[Vec<u8>; 8], AllocError>
     ])
 }
 
-/// All publishers, each with its block.
-fn with_blocks(log: &Log, publishers: [Publisher; 8], blocks: [Vec<u8>; 8]) -> [Claimant; 8]
-    requires publishers { AreNew log.now 0 publishers }
-    requires blocks { AllByRecursion (λ b. vec_capacity b ≡ log.now.identity.geometry.mtu) blocks }
-    ensures { result ≡ publishers }
+/// Publishers of a log, each with a block of its own. The error comes only where memory is refused.
+pub fn with_blocks(
+    alloc: Global,
+    log: &Log,
+    publishers: [Publisher; 8],
+) -> Result<[Claimant; 8], AllocError>
+    requires of { AllByRecursion (IsOf log.now) publishers }
+    requires rest { AllByRecursion IsResting publishers }
+    ensures { IfOk result (λ cs. cs ≡ publishers) }
 {
+    let blocks = blocks(alloc, log.identity().geometry().mtu() as usize)?;
     let [zero, one, two, three, four, five, six, seven] = publishers;
     let [
         for_zero,
@@ -62,7 +68,7 @@ fn with_blocks(log: &Log, publishers: [Publisher; 8], blocks: [Vec<u8>; 8]) -> [
         for_six,
         for_seven,
     ] = blocks;
-    [
+    Ok([
         Claimant::new(zero, for_zero),
         Claimant::new(one, for_one),
         Claimant::new(two, for_two),
@@ -71,7 +77,7 @@ fn with_blocks(log: &Log, publishers: [Publisher; 8], blocks: [Vec<u8>; 8]) -> [
         Claimant::new(five, for_five),
         Claimant::new(six, for_six),
         Claimant::new(seven, for_seven),
-    ]
+    ])
 }
 
 /// A log that opens at a position, unconnected, with its limit and so many consumers at the start, and all its passes; each
@@ -98,8 +104,7 @@ pub fn open(
         readers,
         keeper,
     } = parts;
-    let blocks = blocks(alloc, geometry.mtu() as usize)?;
-    let claimants = with_blocks(&log, publishers, blocks);
+    let claimants = with_blocks(alloc, &log, publishers)?;
     let parts = Parts {
         claimants,
         readers,

@@ -1,26 +1,22 @@
 -- Lanes of a log that opens, of one that threads publish to, and of one that closes.
 use Rattle.std.proofs.Common.{◌≡◌, ℕ, zero, suc, ◌+◌, ◌*◌, ◌<◌, nat_eq, List, [], ◌∷◌, ◌++◌, map, length, get_or, take, drop, subst, sym, refl, ap, ◌∙◌, arith}
-use Rattle.std.specs.Prelude.{if◌then◌else◌, vec_capacity}
+use Rattle.std.specs.Prelude.{if◌then◌else◌}
 use Rattle.std.proofs.lemmas.List.{take-append-drop}
 use Rattle.std.proofs.lemmas.List.Elements.{All-from_recursion}
 use Rattle.std.proofs.lemmas.Bool.Decides.{nat_tests}
 use Rattle.std.specs.List.{AllByRecursion}
 use Rattle.theory.proofs.Lists.{all_append, all_behind, all_front}
 use Rattle.publication.specs.declared.pass.Pass.{Pass}
-use Rattle.log_rule.specs.Claims.Handles.{parts_in}
+use Rattle.log_rule.specs.Claims.Handles.{PublisherValue, parts_in}
 use Rattle.log_rule.specs.Claims.Sums.{total}
 use Rattle.log_rule.proofs.Claimed.Totals.{total_append, total_map}
-use Rattle.shared_log.specs.Handles.{AreNew, LogValue}
+use Rattle.shared_log.specs.Handles.{AreNew, IsOf, LogValue}
 use Rattle.shared_log.specs.Keepers.{KeeperValue}
 use Rattle.shared_log.specs.Books.{AreAll, IsDone}
 use Rattle.speed.specs.declared.rounds.claiming.Job.{Job}
 use Rattle.speed.specs.declared.rounds.lane.Lane.{Lane}
-use Rattle.speed.specs.Rounds.{IsJob, IsKept, IsLane, IsSent, lane_in, messages_of, parts_of, publisher_in}
-
--- eight elements, by their places
-pub eight : {A : Type 0} (xs : List A) (a b c d e f g h : A) → length xs ≡ 8 → a ≡ get_or xs 0 a → b ≡ get_or xs 1 b → c ≡ get_or xs 2 c → d ≡ get_or xs 3 d → e ≡ get_or xs 4 e → f ≡ get_or xs 5 f → g ≡ get_or xs 6 g → h ≡ get_or xs 7 h → a ∷ b ∷ c ∷ d ∷ e ∷ f ∷ g ∷ h ∷ [] ≡ xs
-eight (x0 ∷ x1 ∷ x2 ∷ x3 ∷ x4 ∷ x5 ∷ x6 ∷ x7 ∷ []) a b c d e f g h long e0 e1 e2 e3 e4 e5 e6 e7 = λ i. e0 i ∷ e1 i ∷ e2 i ∷ e3 i ∷ e4 i ∷ e5 i ∷ e6 i ∷ e7 i ∷ []
-eight xs a b c d e f g h long e0 e1 e2 e3 e4 e5 e6 e7 = absurd (omega arith)
+use Rattle.claims.specs.Holdings.{IsResting}
+use Rattle.speed.specs.Rounds.{IsJob, IsKept, IsLane, IsSender, IsSent, claimant_in, job_parts, messages_of, parts_of, publisher_in}
 
 -- a sum over four
 pub sum_four : {A : Type 0} (f : A → ℕ) (xs : List A) (a b c d : A) → length xs ≡ 4 → a ≡ get_or xs 0 a → b ≡ get_or xs 1 b → c ≡ get_or xs 2 c → d ≡ get_or xs 3 d → f a + (f b + (f c + (f d + 0))) ≡ total f xs
@@ -59,10 +55,28 @@ new_parts l (x ∷ xs) new =
     let r = later_parts l 0 xs new.1 in
     omega arith
 
--- with blocks
-pub jobs_are : (l : LogValue) (jobs : List Job) → AllByRecursion (λ job. vec_capacity job.block ≡ l.identity.geometry.mtu) jobs → AllByRecursion (IsLane l) (map lane_in jobs) → AllByRecursion (λ lane. lane.accepted ≡ 0) (map lane_in jobs) → AllByRecursion (IsJob l) jobs
-jobs_are l [] room lanes none = tt
-jobs_are l (j ∷ js) room lanes none = (record { lane = lanes.0; none = none.0; room = omega (arith, room.0) }, jobs_are l js room.1 lanes.1 none.1)
+-- ---- those that claim
+
+pub of_lanes : (l : LogValue) (lanes : List Lane) → AllByRecursion (IsLane l) lanes → AllByRecursion (IsOf l) (map publisher_in lanes)
+of_lanes l [] all = tt
+of_lanes l (x ∷ xs) all = (all.0.sender.done.idle.of, of_lanes l xs all.1)
+
+pub resting_lanes : (l : LogValue) (lanes : List Lane) → AllByRecursion (IsLane l) lanes → AllByRecursion IsResting (map publisher_in lanes)
+resting_lanes l [] all = tt
+resting_lanes l (x ∷ xs) all = (record { unarmed = all.0.sender.done.idle.unarmed; ended = all.0.sender.done.ended }, resting_lanes l xs all.1)
+
+pub jobs_are : (l : LogValue) (jobs : List Job) (lanes : List Lane) → map claimant_in jobs ≡ map publisher_in lanes → AllByRecursion (IsLane l) lanes → AllByRecursion (λ lane. lane.accepted ≡ 0) lanes → AllByRecursion (IsJob l) jobs
+jobs_are l [] lanes same all none = tt
+jobs_are l (j ∷ js) [] same all none = absurd (let long = ap length same in omega (arith, long))
+jobs_are l (j ∷ js) (x ∷ xs) same all none =
+    let here : j.claimant ≡ x.publisher = ap (λ (ps : List PublisherValue). get_or ps 0 j.claimant) same in
+    let rest : map claimant_in js ≡ map publisher_in xs = ap (drop 1) same in (
+      record { sender = subst (IsSender l) (sym here) all.0.sender; none = ap (λ (p : PublisherValue). messages_of p.pass) here ∙ all.0.counted ∙ none.0 },
+      jobs_are l js xs rest all.1 none.1,
+    )
+
+pub job_parts_are : (jobs : List Job) (lanes : List Lane) → map claimant_in jobs ≡ map publisher_in lanes → total job_parts jobs ≡ total parts_of lanes
+job_parts_are jobs lanes same = sym (total_map parts_in claimant_in jobs) ∙ ap (total parts_in) same ∙ total_map parts_in publisher_in lanes
 
 -- ---- filled ones
 

@@ -1,5 +1,5 @@
 -- What a round's threads claim and read, and what its book shows of it.
-use Rattle.std.specs.Prelude.{◌≡◌, ℕ, ◌+◌, ◌*◌, ◌/◌, ◌<◌, ◌≤◌, ◌==◌, false, true, cond, List, [], ◌∷◌, length, slice_index, sum, vec_capacity, Option}
+use Rattle.std.specs.Prelude.{◌≡◌, ℕ, ◌+◌, ◌*◌, ◌/◌, ◌<◌, ◌≤◌, ◌==◌, false, true, cond, List, [], ◌∷◌, length, slice_index, sum, Option}
 use Rattle.std.specs.List.{AllByRecursion}
 use Rattle.theory.specs.Position.{Geometry, span}
 use Rattle.theory.specs.Entry.{Entry, entry_end, length_of}
@@ -82,17 +82,16 @@ pub record IsLane (l : LogValue) (lane : Lane) : Type 0 where
 
 -- ---- lanes that claim
 
-abbrev pub lane_in : Job → Lane
-lane_in job = job.lane
+abbrev pub claimant_in : Job → PublisherValue
+claimant_in job = job.claimant
 
 abbrev pub job_parts : Job → ℕ
-job_parts job = parts_of job.lane
+job_parts job = job.claimant.pass.right.parts
 
--- nothing was accepted of its lane yet, and its block has room for a datagram
+-- its publisher is one of this log, and has claimed no message yet
 pub record IsJob (l : LogValue) (job : Job) : Type 0 where
-  pub lane : IsLane l job.lane
-  pub none : job.lane.accepted ≡ 0
-  pub room : l.identity.geometry.mtu ≤ vec_capacity job.block
+  pub sender : IsSender l job.claimant
+  pub none : messages_of job.claimant.pass ≡ 0
 
 -- ---- the reader and the keeper
 

@@ -1,3 +1,3 @@
 pub mod Parties
-pub mod Crews
+pub mod Passes
 pub mod Consumers

@@ -6,9 +6,9 @@ ghost use Rattle.log_rule.specs.Claims.Handles.{parts_in};
 ghost use Rattle.log_rule.specs.Claims.Sums.{total};
 ghost use Rattle.shared_log.specs.Handles.{AreNew, IsOf};
 ghost use Rattle.stream_tests.specs.Consumers.{ArePasses, IsSingle};
-ghost use Rattle.stream_tests.specs.Crews.{IsKeeping, IsPart};
+ghost use Rattle.stream_tests.specs.Passes.{IsKeeping, IsPart};
 
-use crate::crew::Passes;
+use crate::other_passes::Passes;
 use assembler::Assembler;
 use block::Block;
 use claims::{Claimant, Parts, close, offer, open};

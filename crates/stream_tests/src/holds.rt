@@ -2,10 +2,10 @@
 
 ghost use Rattle.std.specs.Prelude.{◌≤◌, length};
 ghost use Rattle.shared_log.specs.Readers.{IsReaderOf};
-ghost use Rattle.stream_tests.specs.Crews.{AreFour, IsFollower, IsKeeping, IsPart};
+ghost use Rattle.stream_tests.specs.Passes.{AreFour, IsFollower, IsKeeping, IsPart};
 
-use crate::crew::{Crew, Follower, Four};
-use crate::stalled::{close_crew, open_crew};
+use crate::other_passes::{Follower, Four, OtherPasses};
+use crate::stalled::{close_passes, open_passes};
 use crate::stalls::{add_late, offer_one};
 use block::Block;
 use claims::{Claimant, arm};
@@ -371,14 +371,14 @@ struct Left {
 
 /// A publisher is held until a party has gone on twice, and then all end.
 fn hold_until<R: Threads + Sync>(rt: &R, alloc: Global, awaited: Role) -> Result<Left, Fail> {
-    let (log, first, crew) = open_crew(alloc)?;
-    let Crew {
+    let (log, first, others) = open_passes(alloc)?;
+    let OtherPasses {
         one,
         two,
         three,
-        others,
+        idle,
         follower,
-    } = crew;
+    } = others;
     let four = Four {
         first,
         one,
@@ -393,15 +393,15 @@ fn hold_until<R: Threads + Sync>(rt: &R, alloc: Global, awaited: Role) -> Result
         two,
         three,
     } = four;
-    let crew = Crew {
+    let others = OtherPasses {
         one,
         two,
         three,
-        others,
+        idle,
         follower,
     };
     Ok(Left {
-        book: close_crew(alloc, log, first, crew)?,
+        book: close_passes(alloc, log, first, others)?,
         answers,
         messages,
         went_on: hold.went_on.load(Ordering::SeqCst) > 0,

@@ -7,12 +7,12 @@
 mod consumers;
 #[cfg(test)]
 mod consumers_among_threads;
-mod crew;
 #[cfg(test)]
 mod holds;
 mod library;
 #[cfg(test)]
 mod opening;
+mod other_passes;
 mod parties;
 #[cfg(test)]
 mod stalled;
@@ -23,6 +23,6 @@ mod stalls_among_threads;
 #[cfg(test)]
 mod streams;
 
-pub use crew::{Crew, Follower, Four, Passes};
 pub use library::pass_on;
+pub use other_passes::{Follower, Four, OtherPasses, Passes};
 pub use parties::Party;

@@ -5,9 +5,9 @@ ghost use Rattle.std.specs.List.{AllByRecursion};
 ghost use Rattle.log_rule.specs.Claims.Handles.{parts_in};
 ghost use Rattle.log_rule.specs.Claims.Sums.{total};
 ghost use Rattle.shared_log.specs.Handles.{AreNew, IsOf};
-ghost use Rattle.stream_tests.specs.Crews.{IsCrew, IsFollower, IsPart};
+ghost use Rattle.stream_tests.specs.Passes.{AreOtherPasses, IsFollower, IsPart};
 
-use crate::crew::{Crew, Follower};
+use crate::other_passes::{Follower, OtherPasses};
 use block::Block;
 use claims::{Claimant, Parts, close, open};
 use position::Geometry;
@@ -16,26 +16,26 @@ use std::alloc::{AllocError, Global};
 use std::test::Fail;
 
 /// The first publisher, and those that go on.
-fn manned(claimants: [Claimant; 8], follower: Follower, log: &Log) -> (Claimant, Crew)
+fn set_apart(claimants: [Claimant; 8], follower: Follower, log: &Log) -> (Claimant, OtherPasses)
     requires claimants { AreNew log.now 0 claimants }
     requires follower { IsFollower log.now follower }
     ensures first { IsPart log.now 176 result.0 }
-    ensures crew { IsCrew log.now result.1 }
+    ensures others { AreOtherPasses log.now result.1 }
 {
     let [zero, one, two, three, four, five, six, seven] = claimants;
-    let crew = Crew {
+    let others = OtherPasses {
         one,
         two,
         three,
-        others: [four, five, six, seven],
+        idle: [four, five, six, seven],
         follower,
     };
-    (zero, crew)
+    (zero, others)
 }
 
 /// A log with short terms, connected, its first publisher, and all others with its reader and its keeper.
-pub(crate) fn open_crew(alloc: Global) -> Result<(Log, Claimant, Crew), Fail>
-    ensures { IfOk result (λ r. IsPart r.0 176 r.1 × IsCrew r.0 r.2) }
+pub(crate) fn open_passes(alloc: Global) -> Result<(Log, Claimant, OtherPasses), Fail>
+    ensures { IfOk result (λ r. IsPart r.0 176 r.1 × AreOtherPasses r.0 r.2) }
 {
     let geometry = Geometry::new(65_536, 1408, 7)?;
     let block = Block::new(alloc, geometry.mtu() as usize)?;
@@ -52,8 +52,8 @@ pub(crate) fn open_crew(alloc: Global) -> Result<(Log, Claimant, Crew), Fail>
         keeper,
         block,
     };
-    let (stalled, crew) = manned(claimants, follower, &log);
-    Ok((log, stalled, crew))
+    let (stalled, others) = set_apart(claimants, follower, &log);
+    Ok((log, stalled, others))
 }
 
 /// All claimants, by their numbers.
@@ -63,39 +63,40 @@ fn claimants_of(
     one: Claimant,
     two: Claimant,
     three: Claimant,
-    others: [Claimant; 4],
+    idle: [Claimant; 4],
 ) -> [Claimant; 8]
     requires stalled { IsPart log.now 176 stalled }
     requires one { IsPart log.now 120 one }
     requires two { IsPart log.now 120 two }
     requires three { IsPart log.now 120 three }
-    requires others { AllByRecursion (IsPart log.now 120) others }
+    requires idle { AllByRecursion (IsPart log.now 120) idle }
     ensures of { AllByRecursion (IsOf log.now) result }
     ensures parts { total parts_in result ≡ 1016 }
 {
+    // What always holds of it, for the proof.
     let _ = log.start();
-    let [four, five, six, seven] = others;
+    let [four, five, six, seven] = idle;
     [stalled, one, two, three, four, five, six, seven]
 }
 
 /// Closes a log with all its passes.
-pub(crate) fn close_crew(
+pub(crate) fn close_passes(
     alloc: Global,
     log: Log,
     stalled: Claimant,
-    crew: Crew,
+    others: OtherPasses,
 ) -> Result<Book, AllocError>
     requires stalled { IsPart log 176 stalled }
-    requires crew { IsCrew log crew }
+    requires others { AreOtherPasses log others }
 {
-    let Crew {
+    let OtherPasses {
         one,
         two,
         three,
-        others,
+        idle,
         follower,
-    } = crew;
-    let claimants = claimants_of(&log, stalled, one, two, three, others);
+    } = others;
+    let claimants = claimants_of(&log, stalled, one, two, three, idle);
     let claimants = Vec::from_array(alloc, claimants)?;
     let memory = Vec::with_capacity(alloc, 8)?;
     Ok(close(log, claimants, Vec::new(alloc), follower.keeper, memory))

@@ -1,10 +1,10 @@
 //! A publisher that stalls between the two halves of a claim, while terms turn.
 
 ghost use Rattle.std.specs.Prelude.{◌≡◌, IfOk};
-ghost use Rattle.stream_tests.specs.Crews.{IsCrew, IsFollower, IsPart};
+ghost use Rattle.stream_tests.specs.Passes.{AreOtherPasses, IsFollower, IsPart};
 
-use crate::crew::{Crew, Follower};
-use crate::stalled::{close_crew, open_crew};
+use crate::other_passes::{Follower, OtherPasses};
+use crate::stalled::{close_passes, open_passes};
 use claims::{Armed, Claimant, arm, offer};
 use publication::Refusal;
 use shared_log::{Book, Log, advance, clean_and_limit, next};
@@ -34,26 +34,26 @@ pub(crate) fn follow(log: &Log, follower: &mut Follower)
 }
 
 /// Fills a term, and turns to the next one.
-fn fill<R: Abort>(rt: &R, log: &Log, crew: &mut Crew, term: u64)
-    requires { IsCrew log.now crew.old }
-    ensures { IsCrew log.now crew.new }
+fn fill<R: Abort>(rt: &R, log: &Log, others: &mut OtherPasses, term: u64)
+    requires { AreOtherPasses log.now others.old }
+    ensures { AreOtherPasses log.now others.new }
 {
     for count in 1..=64_u64 {
-        let answer = offer_one(log, &mut crew.one);
-        follow(log, &mut crew.follower);
+        let answer = offer_one(log, &mut others.one);
+        follow(log, &mut others.follower);
         let end = term.wrapping_mul(65_536).wrapping_add(1024 * count);
         assert!(rt; answer == Ok(end));
     }
-    assert!(rt; offer_one(log, &mut crew.one) == Err(Refusal::AdminAction));
+    assert!(rt; offer_one(log, &mut others.one) == Err(Refusal::AdminAction));
 }
 
 /// Fills so many terms, and turns from each to the next.
-fn fill_all<R: Abort>(rt: &R, log: &Log, crew: &mut Crew, terms: u64)
-    requires { IsCrew log.now crew.old }
-    ensures { IsCrew log.now crew.new }
+fn fill_all<R: Abort>(rt: &R, log: &Log, others: &mut OtherPasses, terms: u64)
+    requires { AreOtherPasses log.now others.old }
+    ensures { AreOtherPasses log.now others.new }
 {
     for term in 0..terms {
-        fill(rt, log, crew, term);
+        fill(rt, log, others, term);
     }
 }
 
@@ -132,14 +132,14 @@ const ROWS: [Row; 2] = [
 
 /// Lets others fill terms between the halves of a claim.
 fn stall<R: Abort>(rt: &R, alloc: Global, row: &Row) -> Result<(), Fail> {
-    let (mut log, claimant, mut crew) = open_crew(alloc)?;
+    let (mut log, claimant, mut others) = open_passes(alloc)?;
     let armed = arm_early(&log, claimant)?;
-    fill_all(rt, &log, &mut crew, row.terms);
+    fill_all(rt, &log, &mut others, row.terms);
     let (claimant, answer) = add_late(&log, armed);
     assert!(rt; answer == row.answer);
     let words = count_and_tails(&mut log);
     assert!(rt; words == row.words);
-    let book = close_crew(alloc, log, claimant, crew)?;
+    let book = close_passes(alloc, log, claimant, others)?;
     assert!(rt; book == row.book);
     Ok(())
 }

@@ -1,9 +1,9 @@
 //! A publisher that stalls, while others publish in threads of their own.
 
-ghost use Rattle.stream_tests.specs.Crews.{IsCrew, IsFollower, IsPart};
+ghost use Rattle.stream_tests.specs.Passes.{AreOtherPasses, IsFollower, IsPart};
 
-use crate::crew::{Crew, Follower};
-use crate::stalled::{close_crew, open_crew};
+use crate::other_passes::{Follower, OtherPasses};
+use crate::stalled::{close_passes, open_passes};
 use crate::stalls::{add_late, arm_early, follow, offer_one};
 use claims::Claimant;
 use publication::Refusal;
@@ -104,21 +104,21 @@ fn publish_and_follow<R: Threads>(
     )
 }
 
-/// The crew, once three publishers have published, in threads of their own beside the one that follows; and how many
+/// The others, once three publishers have published, in threads of their own beside the one that follows; and how many
 /// messages of each were accepted.
-fn publish_all<R: Threads + Sync>(rt: &R, log: &Log, crew: Crew) -> (Crew, [u32; 3])
-    requires { IsCrew log.now crew }
-    ensures { IsCrew log.now result.0 }
+fn publish_all<R: Threads + Sync>(rt: &R, log: &Log, others: OtherPasses) -> (OtherPasses, [u32; 3])
+    requires { AreOtherPasses log.now others }
+    ensures { AreOtherPasses log.now result.0 }
 {
     let over = AtomicU64::new(0);
     let all = &over;
-    let Crew {
+    let OtherPasses {
         one,
         two,
         three,
-        others,
+        idle,
         follower,
-    } = crew;
+    } = others;
     let (both, more) = join(
         rt,
         || -> ((Claimant, u32), (Claimant, u32))
@@ -132,27 +132,27 @@ fn publish_all<R: Threads + Sync>(rt: &R, log: &Log, crew: Crew) -> (Crew, [u32;
     );
     let ((one, first), (two, second)) = both;
     let ((three, third), follower) = more;
-    let crew = Crew {
+    let others = OtherPasses {
         one,
         two,
         three,
-        others,
+        idle,
         follower,
     };
-    (crew, [first, second, third])
+    (others, [first, second, third])
 }
 
 /// Three terms are filled meanwhile, and its partition has a later one.
 #[test]
 fn stalled_among_threads(rt: HostRuntime) -> Result<(), Fail> {
-    let (log, claimant, crew) = open_crew(rt.alloc())?;
+    let (log, claimant, others) = open_passes(rt.alloc())?;
     let armed = arm_early(&log, claimant)?;
-    let (mut crew, accepted) = publish_all(&rt, &log, crew);
+    let (mut others, accepted) = publish_all(&rt, &log, others);
     assert!(rt; accepted == [MESSAGES; 3]);
-    assert!(rt; offer_one(&log, &mut crew.one) == Err(Refusal::AdminAction));
+    assert!(rt; offer_one(&log, &mut others.one) == Err(Refusal::AdminAction));
     let (claimant, answer) = add_late(&log, armed);
     assert!(rt; answer == Ok(196_768));
-    let book = close_crew(rt.alloc(), log, claimant, crew)?;
+    let book = close_passes(rt.alloc(), log, claimant, others)?;
     let whole = Book {
         start: 0,
         tail: 196_768,

@@ -1,15 +1,15 @@
 //! Claims of one thread, and of several together.
 
-ghost use Rattle.std.specs.Prelude.{◌≡◌, ◌≤◌, ◌∷◌, [], IfErr, IfOk, map, vec_capacity};
+ghost use Rattle.std.specs.Prelude.{◌≡◌, ◌≤◌, ◌∷◌, [], IfErr, IfOk, map};
 ghost use Rattle.std.specs.List.{AllByRecursion};
 ghost use Rattle.theory.specs.Position.{IsGeometry};
 ghost use Rattle.log_rule.specs.Claims.Sums.{total};
-ghost use Rattle.speed.specs.Rounds.{Claims, IsJob, IsLane, IsSender, job_parts, lane_in, parts_of};
+ghost use Rattle.speed.specs.Rounds.{Claims, IsJob, IsLane, IsSender, claimant_in, job_parts, parts_of};
 
 use crate::rounds::gate::{Gate, lap};
-use crate::rounds::lane::Lane;
+use crate::rounds::lane::{Lane, lane_of, taken_apart};
 use crate::rounds::offering::SIZE;
-use claims::{Claimant, Denied, blocks, try_claim};
+use claims::{Claimant, Denied, try_claim, with_blocks};
 use publication::Refusal;
 use shared_log::Log;
 use std::alloc::{AllocError, Global};
@@ -61,57 +61,40 @@ fn claim_all(log: &Log, claimant: Claimant) -> (Claimant, u32)
     (claimant, accepted)
 }
 
-/// A lane, a block for the bytes of its claims, and whether it takes part in the round.
+/// A publisher with a block for the bytes of its claims, and whether it takes part in the round.
 #[derive(Drop)]
 pub(crate) struct Job {
-    pub(crate) lane: Lane,
-    pub(crate) block: Vec<u8>,
+    pub(crate) claimant: Claimant,
     pub(crate) takes_part: bool,
 }
 
-/// A lane with a block.
-fn job_of(lane: Lane, block: Vec<u8>, takes_part: bool) -> Job
-    ensures lane { result.lane ≡ lane }
-    ensures block { result.block ≡ block }
+fn job_of(claimant: Claimant, takes_part: bool) -> Job
+    ensures { result.claimant ≡ claimant }
 {
     Job {
-        lane,
-        block,
+        claimant,
         takes_part,
     }
 }
 
-/// All lanes with their blocks; the first take part, so many.
-fn with_blocks(log: &Log, lanes: [Lane; 8], blocks: [Vec<u8>; 8], threads: usize) -> [Job; 8]
-    requires room { AllByRecursion (λ b. vec_capacity b ≡ log.now.identity.geometry.mtu) blocks }
-    ensures lanes { map lane_in result ≡ lanes }
-    ensures room { AllByRecursion (λ job. vec_capacity job.block ≡ log.now.identity.geometry.mtu) result }
+/// All of them; the first take part, so many.
+fn with_parts(claimants: [Claimant; 8], threads: usize) -> [Job; 8]
+    ensures { map claimant_in result ≡ claimants }
 {
-    let _ = log;
-    let [zero, one, two, three, four, five, six, seven] = lanes;
-    let [
-        for_zero,
-        for_one,
-        for_two,
-        for_three,
-        for_four,
-        for_five,
-        for_six,
-        for_seven,
-    ] = blocks;
+    let [zero, one, two, three, four, five, six, seven] = claimants;
     [
-        job_of(zero, for_zero, 0 < threads),
-        job_of(one, for_one, 1 < threads),
-        job_of(two, for_two, 2 < threads),
-        job_of(three, for_three, 3 < threads),
-        job_of(four, for_four, 4 < threads),
-        job_of(five, for_five, 5 < threads),
-        job_of(six, for_six, 6 < threads),
-        job_of(seven, for_seven, 7 < threads),
+        job_of(zero, 0 < threads),
+        job_of(one, 1 < threads),
+        job_of(two, 2 < threads),
+        job_of(three, 3 < threads),
+        job_of(four, 4 < threads),
+        job_of(five, 5 < threads),
+        job_of(six, 6 < threads),
+        job_of(seven, 7 < threads),
     ]
 }
 
-/// All lanes, of which the first take part, so many, each with a block for a datagram of its log.
+/// The publishers of all lanes, each with a block for a datagram of its log; the first take part, so many.
 pub(crate) fn jobs_of(
     alloc: Global,
     log: &Log,
@@ -123,25 +106,24 @@ pub(crate) fn jobs_of(
     ensures jobs { IfOk result (λ jobs. AllByRecursion (IsJob log.now) jobs) }
     ensures parts { IfOk result (λ jobs. total job_parts jobs ≡ total parts_of lanes) }
 {
-    let blocks = blocks(alloc, log.identity().geometry().mtu() as usize)?;
-    Ok(with_blocks(log, lanes, blocks, threads))
+    let (publishers, _) = taken_apart(lanes);
+    let claimants = with_blocks(alloc, log, publishers)?;
+    Ok(with_parts(claimants, threads))
 }
 
-/// Claims from one lane, from the common start on, if it takes part.
+/// Claims in one lane, from the common start on, if it takes part.
 fn claim_from<R: Clock>(rt: &R, log: &Log, gate: &Gate, job: Job) -> Lane
     requires { IsJob log.now job }
     ensures lane { IsLane log.now result }
     ensures parts { parts_of result ≡ job_parts job }
 {
     let Job {
-        lane,
-        block,
+        claimant,
         takes_part,
     } = job;
     if !takes_part {
-        return lane;
+        return lane_of(claimant.into_parts().0);
     }
-    let claimant = Claimant::new(lane.publisher, block);
     gate.pass();
     let began = Instant::now(rt);
     let (claimant, accepted) = claim_all(log, claimant);

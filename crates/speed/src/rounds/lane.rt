@@ -21,7 +21,8 @@ pub(crate) struct Lane {
     pub(crate) lap: Lap,
 }
 
-fn lane_of(publisher: Publisher) -> Lane
+/// A lane of a publisher, of which no offer was accepted yet.
+pub(crate) fn lane_of(publisher: Publisher) -> Lane
     ensures publisher { result.publisher ≡ publisher }
     ensures none { result.accepted ≡ 0 }
 {

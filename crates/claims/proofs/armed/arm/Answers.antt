@@ -1,4 +1,4 @@
-use Rattle.std.proofs.Common.{◌≡◌, subst, sym, ◌∙◌}
+use Rattle.std.proofs.Common.{subst, sym, ◌∙◌}
 use Rattle.publication.specs.declared.refusal.Refusal.{Refusal}
 use Rattle.log_rule.specs.Claims.Handles.{PublisherValue}
 use Rattle.shared_log.specs.Handles.{IsOf, LogValue}

@@ -1,6 +1,6 @@
 use Rattle.std.specs.List.{AllByRecursion}
 use Rattle.stream_tests.specs.Consumers.{IsSingle}
-use Rattle.stream_tests.specs.Crews.{IsKeeping}
+use Rattle.stream_tests.specs.Passes.{IsKeeping}
 use Rattle.stream_tests.proofs.consumers.join_all.Given as goal
 
 abbrev pub invariant-loop-number : goal.invariant-loop-number

@@ -1,4 +1,4 @@
-use Rattle.stream_tests.specs.Crews.{IsFollower}
+use Rattle.stream_tests.specs.Passes.{IsFollower}
 use Rattle.stream_tests.proofs.stalls_among_threads.follow_all.Given as goal
 
 abbrev pub invariant-loop : goal.invariant-loop

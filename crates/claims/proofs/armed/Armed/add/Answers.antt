@@ -1,8 +1,8 @@
-use Rattle.std.proofs.Common.{◌≡◌, subst, sym, refl, ap, ◌∙◌}
+use Rattle.std.proofs.Common.{subst, sym, ◌∙◌}
 use Rattle.publication.specs.declared.refusal.Refusal.{Refusal}
 use Rattle.log_rule.specs.Claims.Handles.{PublisherValue}
-use Rattle.claims.specs.Holdings.{ArmedValue, ClaimValue, MayAdd}
-use Rattle.claims.specs.Claimings.{AddsRange, ArmsFor, DeniesMessage, OpensClaim, TripsTerm}
+use Rattle.claims.specs.Holdings.{ArmedValue, ClaimValue}
+use Rattle.claims.specs.Claimings.{AddsRange, ArmsFor, OpensClaim, TripsTerm}
 use Rattle.claims.proofs.Halves.{adds, denies, opens, trips}
 use Rattle.claims.proofs.armed.Armed.add.Goals as goal
 

@@ -2,10 +2,9 @@ use Rattle.std.proofs.Common.{◌≡◌, ℕ, ◌+◌, subst, sym, ap, ◌∙◌
 use Rattle.std.specs.Prelude.{length, vec_len}
 use Rattle.theory.specs.Bytes.{Identity}
 use Rattle.theory.specs.Placed.{Pad}
-use Rattle.theory.specs.Position.{IsGeometry, max_payload}
+use Rattle.theory.specs.Position.{IsGeometry}
 use Rattle.publication.specs.Claims.{HasBlank}
 use Rattle.publication.specs.Steps.{geometry_of}
-use Rattle.log_rule.specs.Claims.Handles.{PublisherValue}
 use Rattle.shared_log.specs.Handles.{IsOf, LogValue}
 use Rattle.claims.specs.Holdings.{ClaimValue}
 use Rattle.claims.specs.Claimings.{EndsClaim}

@@ -1,9 +1,7 @@
-use Rattle.std.proofs.Common.{◌≡◌, ℕ, ◌+◌, ◌/◌, List, length, subst, sym, ap, ◌∙◌}
+use Rattle.std.proofs.Common.{ℕ, ◌+◌, ◌/◌, List, length, subst, sym, ap, ◌∙◌}
 use Rattle.std.specs.Prelude.{vec_len}
 use Rattle.theory.specs.Placed.{Data}
-use Rattle.publication.specs.declared.pass.Pass.{Pass}
-use Rattle.publication.specs.Claims.{Fills, HasBlank}
-use Rattle.log_rule.specs.Claims.Handles.{PublisherValue}
+use Rattle.publication.specs.Claims.{HasBlank}
 use Rattle.shared_log.specs.Handles.{IsOf, LogValue}
 use Rattle.claims.specs.Holdings.{ClaimValue}
 use Rattle.claims.specs.Claimings.{EndsClaim}

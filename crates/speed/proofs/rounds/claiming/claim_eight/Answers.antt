@@ -1,7 +1,8 @@
 use Rattle.std.proofs.Common.{rules, ◌≡◌, length, ap, arith}
 use Rattle.log_rule.specs.Claims.Sums.{total}
 use Rattle.speed.specs.Rounds.{job_parts, parts_of}
-use Rattle.speed.proofs.Lanes.{eight, sum_four}
+use Rattle.claims.proofs.Eights.{eight}
+use Rattle.speed.proofs.Lanes.{sum_four}
 use Rattle.speed.proofs.rounds.claiming.claim_eight.Goals as goal
 
 pub returns-clause-parts : goal.returns-clause-parts

@@ -1,15 +1,18 @@
-use Rattle.std.proofs.Common.{◌≡◌, subst, sym, ap, ◌∙◌}
+use Rattle.std.proofs.Common.{subst, sym, ◌∙◌}
 use Rattle.std.specs.List.{AllByRecursion}
-use Rattle.log_rule.specs.Claims.Sums.{total}
-use Rattle.log_rule.proofs.Claimed.Totals.{total_map}
-use Rattle.speed.specs.Rounds.{IsLane, lane_in, parts_of}
-use Rattle.speed.proofs.Lanes.{jobs_are}
+use Rattle.shared_log.specs.Handles.{IsOf}
+use Rattle.claims.specs.Holdings.{IsResting}
+use Rattle.speed.proofs.Lanes.{job_parts_are, jobs_are, of_lanes, resting_lanes}
 use Rattle.speed.proofs.rounds.claiming.jobs_of.Goals as goal
 
+pub with_blocks-requires-clause-of : goal.with_blocks-requires-clause-of
+with_blocks-requires-clause-of c = subst (AllByRecursion (IsOf c.args.log.now)) (sym c.taken_apart-publishers.ensures.publishers) (of_lanes c.args.log.now c.args.lanes c.requires.lanes)
+
+pub with_blocks-requires-clause-rest : goal.with_blocks-requires-clause-rest
+with_blocks-requires-clause-rest c = subst (AllByRecursion IsResting) (sym c.taken_apart-publishers.ensures.publishers) (resting_lanes c.args.log.now c.args.lanes c.requires.lanes)
+
 pub returns-clause-jobs : goal.returns-clause-jobs
-returns-clause-jobs c =
-    let l = c.args.log.now in let same = sym c.with_blocks.ensures.lanes in
-    jobs_are l c.with_blocks.result c.with_blocks.ensures.room (subst (AllByRecursion (IsLane l)) same c.requires.lanes) (subst (AllByRecursion (λ lane. lane.accepted ≡ 0)) same c.requires.none)
+returns-clause-jobs c = jobs_are c.args.log.now c.with_parts.result c.args.lanes (c.with_parts.ensures ∙ c.in_ok-claimants.ensures ∙ c.taken_apart-publishers.ensures.publishers) c.requires.lanes c.requires.none
 
 pub returns-clause-parts : goal.returns-clause-parts
-returns-clause-parts c = sym (total_map parts_of lane_in c.with_blocks.result) ∙ ap (total parts_of) c.with_blocks.ensures.lanes
+returns-clause-parts c = job_parts_are c.with_parts.result c.args.lanes (c.with_parts.ensures ∙ c.in_ok-claimants.ensures ∙ c.taken_apart-publishers.ensures.publishers)

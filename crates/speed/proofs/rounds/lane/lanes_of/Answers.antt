@@ -1,5 +1,5 @@
 use Rattle.std.proofs.Common.{rules, ◌≡◌, [], ◌∷◌, length, ◌∙◌}
-use Rattle.speed.proofs.Lanes.{eight}
+use Rattle.claims.proofs.Eights.{eight}
 use Rattle.speed.proofs.rounds.lane.lanes_of.Goals as goal
 
 pub returns-clause-publishers : goal.returns-clause-publishers

@@ -1,6 +1,6 @@
 use Rattle.std.proofs.Common.{rules, ◌≡◌, length, map, ap}
 use Rattle.speed.specs.Rounds.{publisher_in}
-use Rattle.speed.proofs.Lanes.{eight}
+use Rattle.claims.proofs.Eights.{eight}
 use Rattle.speed.proofs.rounds.lane.taken_apart.Goals as goal
 
 pub returns-clause-publishers : goal.returns-clause-publishers

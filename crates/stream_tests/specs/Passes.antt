@@ -6,9 +6,9 @@ use Rattle.shared_log.specs.Books.{IsDone}
 use Rattle.shared_log.specs.Handles.{IsOf, LogValue}
 use Rattle.shared_log.specs.Keepers.{KeeperValue}
 use Rattle.shared_log.specs.Readers.{IsReaderOf}
-use Rattle.stream_tests.specs.declared.crew.Crew.{Crew}
-use Rattle.stream_tests.specs.declared.crew.Follower.{Follower}
-use Rattle.stream_tests.specs.declared.crew.Four.{Four}
+use Rattle.stream_tests.specs.declared.other_passes.OtherPasses.{OtherPasses}
+use Rattle.stream_tests.specs.declared.other_passes.Follower.{Follower}
+use Rattle.stream_tests.specs.declared.other_passes.Four.{Four}
 
 -- a publisher of this log, with so many parts of the right to close it
 pub record IsPart (l : LogValue) (parts : ℕ) (p : PublisherValue) : Type 0 where
@@ -37,9 +37,9 @@ pub record AreFour (l : LogValue) (f : Four) : Type 0 where
   pub three : IsPart l 120 f.three
 
 -- all that goes on is of this log
-pub record IsCrew (l : LogValue) (c : Crew) : Type 0 where
+pub record AreOtherPasses (l : LogValue) (c : OtherPasses) : Type 0 where
   pub one : IsPart l 120 c.one
   pub two : IsPart l 120 c.two
   pub three : IsPart l 120 c.three
-  pub others : AllByRecursion (IsPart l 120) c.others
+  pub idle : AllByRecursion (IsPart l 120) c.idle
   pub follower : IsFollower l c.follower

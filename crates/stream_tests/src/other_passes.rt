@@ -6,11 +6,11 @@ use shared_log::{Keeper, LogReader};
 
 /// What a log needs that goes on: publishers, of which the first three publish, its reader and its keeper.
 #[derive(Drop)]
-pub struct Crew {
+pub struct OtherPasses {
     pub one: Claimant,
     pub two: Claimant,
     pub three: Claimant,
-    pub others: [Claimant; 4],
+    pub idle: [Claimant; 4],
     pub follower: Follower,
 }
 
