@@ -111,7 +111,7 @@ impl Log {
         self.start
     }
 
-    /// The number of its consumers.
+    /// How many consumers it was opened with.
     pub fn consumers(&self) -> u64
         ensures { result ≡ self.now.consumers }
     {

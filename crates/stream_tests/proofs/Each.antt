@@ -1,7 +1,6 @@
 -- The readers of a log that was just opened are its own; and who has published isn't armed.
 use Rattle.std.proofs.Common.{◌≡◌, ℕ, suc, ◌+◌, ◌<◌, ◌≤◌, List, [], ◌∷◌, length, ap, ◌∙◌, arith}
 use Rattle.std.specs.List.{AllByRecursion}
-use Rattle.shared_log.specs.Joining.{Joins}
 use Rattle.shared_log.specs.Readers.{IsReaderOf, ReaderValue}
 use Rattle.shared_log.specs.Keepers.{KeeperValue}
 use Rattle.shared_log.specs.Parts.{AreDealt, AreReaders, IsNewReader}
@@ -44,9 +43,3 @@ new_single l n r new low = record {
   where
     below : (m n : ℕ) → m ≡ n → n < 8 → m < 8
     below m n e low = omega arith
-
-pub joined_single : (l : LogValue) (k q : KeeperValue) (r : ReaderValue) → Joins l k r q → IsSingle l r
-joined_single l k q r j = record {
-  of = record { of = j.reader.held.of; number = j.number.low };
-  alone = record { consumer = newly r.number r.position; pass = j.reader.held.pass_is; place = j.reader.place };
-}

@@ -128,7 +128,6 @@ fn payload(block: &Block, head: FrameHead) -> &[u8] {
 }
 
 /// A consumer joins, with this number, at this position.
-#[tactic(auto, using(crate::proofs::Each::joined_single))]
 fn join_as<R: Abort>(
     rt: &R,
     log: &Log,

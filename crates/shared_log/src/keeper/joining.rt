@@ -46,8 +46,8 @@ fn vacate_as<N: Seated>(log: &Log, keeper: &mut Keeper, number: u64, place: u64)
     keeper.there[number as usize] = false;
 }
 
-/// A consumer with a number that nobody has begins in the keeper's own pass, at a place among those that it is, where the
-/// least of those that are there stands. The answer is its position.
+/// A consumer with a number that nobody has begins in the keeper's own pass, at this place of those that it is or behind
+/// the last of them, where the least of those that are there stands. The answer is its position.
 pub fn begin_consumer(log: &Log, keeper: &mut Keeper, number: u64, place: u64) -> u64
     requires fits { IsOf log.now keeper.old.held }
     requires low { number < 8 }
@@ -152,6 +152,8 @@ impl Keeper {
     pub fn join(&mut self, log: &Log) -> Result<LogReader, LogError>
         requires { IsOf log.now self.old.held }
         ensures joins { IfOk result (λ reader. Joins log.now self.old reader self.new) }
+        ensures reads { IfOk result (λ reader. IsReaderOf log.now reader) }
+        ensures alone { IfOk result (λ reader. IsAlone log.now reader) }
         ensures full { IsErr result ↔ AreEight (there_of self.old) }
         ensures error { IfErr result (λ error. error ≡ LogError.Full) }
         ensures refused { OnErr result (self.new ≡ self.old) }
