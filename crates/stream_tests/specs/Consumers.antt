@@ -3,7 +3,7 @@ use Rattle.std.specs.List.{AllByRecursion}
 use Rattle.shared_log.specs.Handles.{LogValue}
 use Rattle.shared_log.specs.Readers.{IsAlone, IsReaderOf, ReaderValue}
 use Rattle.stream_tests.specs.Passes.{IsKeeping, IsPart}
-use Rattle.stream_tests.specs.declared.other_passes.Passes.{Passes}
+use Rattle.stream_tests.specs.declared.passes.Passes.{Passes}
 
 -- a reader of this log that is one consumer, and nothing else
 pub record IsSingle (l : LogValue) (r : ReaderValue) : Type 0 where

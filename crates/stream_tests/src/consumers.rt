@@ -8,7 +8,7 @@ ghost use Rattle.shared_log.specs.Handles.{AreNew, IsOf};
 ghost use Rattle.stream_tests.specs.Consumers.{ArePasses, IsSingle};
 ghost use Rattle.stream_tests.specs.Passes.{IsKeeping, IsPart};
 
-use crate::other_passes::Passes;
+use crate::passes::Passes;
 use assembler::Assembler;
 use block::Block;
 use claims::{Claimant, Parts, close, offer, open};

@@ -30,12 +30,3 @@ pub struct Follower {
     pub keeper: Keeper,
     pub block: Block,
 }
-
-/// All passes of a log with one consumer.
-#[derive(Drop)]
-pub struct Passes {
-    pub publisher: Claimant,
-    pub others: [Claimant; 7],
-    pub reader: LogReader,
-    pub keeper: Keeper,
-}

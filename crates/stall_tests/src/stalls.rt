@@ -1,7 +1,8 @@
 //! A publisher that stalls between the two halves of a claim, while terms turn.
 
 ghost use Rattle.std.specs.Prelude.{◌≡◌, IfOk};
-ghost use Rattle.stream_tests.specs.Passes.{AreOtherPasses, IsFollower, IsPart};
+ghost use Rattle.stream_tests.specs.Passes.{IsPart};
+ghost use Rattle.stall_tests.specs.OtherPasses.{AreOtherPasses, IsFollower};
 
 use crate::other_passes::{Follower, OtherPasses};
 use crate::stalled::{close_passes, open_passes};
