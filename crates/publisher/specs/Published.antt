@@ -73,3 +73,9 @@ pub record PublishesInput (form : Form) (greatest : ℕ) (old new : Option (List
   pub reads : Reads form greatest old messages between
   pub publishes : Publishes p messages q
   pub stops : Stops form greatest (length messages) between new fault
+
+-- and then nothing more is read
+pub record EndsInput (form : Form) (greatest : ℕ) (old : Option (List ℕ)) (p : Pass) (fault : Option PublishFault) : Type 0 where
+  pub new : Option (List ℕ)
+  pub pass : Pass
+  pub publishes : PublishesInput form greatest old new p pass fault

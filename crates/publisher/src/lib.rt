@@ -3,7 +3,9 @@
 //! Nobody waits for the one that reads: it may stay at its input for ever.
 //!
 //! What its publisher's pass has claimed and committed is the messages that were read from its input, in their order, each
-//! once and whole, and paddings, up to one that is still being offered (`read_input`, by `PublishesInput`).
+//! once and whole, and paddings, up to one that is still being offered (`read_input`, by `PublishesInput`). How that ended,
+//! with the fault of the input if it had one, is what its thread leaves in the state, unless an end stood there before
+//! (`read_there`, by `EndsInput`).
 //!
 //! Its sender stands where the plan starts and sends from there, cycles and offers keep what their crates ask for,
 //! and each message is offered at a length that the log takes. Its device takes what fails for lost, loses by the plan's

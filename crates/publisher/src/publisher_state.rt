@@ -1,14 +1,14 @@
 //! What the two threads of a publisher share.
 
-ghost use Rattle.std.specs.Prelude.{◌≡◌};
+ghost use Rattle.std.specs.Prelude.{◌≡◌, IfErr, IfOk};
 
 use crate::fault::PublishFault;
 use crate::reading::Reading;
 use agents::Began;
 use conductor::Conductor;
 use shared_log::Log;
-use std::sync::OnceLock;
 use std::sync::atomic::{AtomicBool, AtomicU64, Ordering};
+use std::sync::{OnceLock, OnceToken};
 
 /// The log, the command queue, the moment of the begin, how many messages were accepted and where they end, how the reading
 /// ended, once it has, and whether it is to stop.
@@ -57,9 +57,12 @@ impl PublisherState {
             .store(messages.wrapping_add(1), Ordering::SeqCst);
     }
 
-    /// No message comes any more, since the reading ended like this.
-    pub(crate) fn end_input(&self, reading: Reading) {
-        let _ = self.reading.try_set(reading);
+    /// No message comes any more, since the reading ended like this. It is handed back where an end was told before.
+    pub(crate) fn end_input(&self, reading: Reading) -> Result<OnceToken<'_, Reading>, Reading>
+        ensures told { IfOk result (λ token. (token.of ≡ self.now.reading.id) × (token.value ≡ reading)) }
+        ensures kept { IfErr result (λ back. back ≡ reading) }
+    {
+        self.reading.try_set(reading)
     }
 
     /// Where the accepted messages end.

@@ -1,13 +1,14 @@
 //! The two threads of a publisher: one reads messages and offers them, the other sends, keeps the log and decides the end.
 
-ghost use Rattle.std.specs.Prelude.{◌≡◌, ◌+◌, ◌%◌, ◌^◌, ◌≤◌};
+ghost use Rattle.std.specs.Prelude.{◌≡◌, ◌+◌, ◌%◌, ◌^◌, ◌≤◌, IfErr, IfOk};
 ghost use Rattle.std.specs.Arc.{arc_value};
-ghost use Rattle.theory.specs.Position.{max_position};
+ghost use Rattle.theory.specs.Position.{max_message, max_position};
 ghost use Rattle.shared_log.specs.Books.{IsDone};
 ghost use Rattle.agents.specs.LogSenders.{SendsLog};
 ghost use Rattle.peer.specs.Watching.{plus_one};
 ghost use Rattle.publisher.specs.Judging.{ended_by, fault_in};
 ghost use Rattle.publisher.specs.Openings.{ArePasses};
+ghost use Rattle.publisher.specs.Published.{EndsInput};
 
 use crate::fault::PublishFault;
 use crate::judging::fault_in;
@@ -26,7 +27,7 @@ use peer::{Ending, farewell_bytes};
 use shared_log::Publisher;
 use std::alloc::Global;
 use std::io::{BufRead, Write};
-use std::sync::{Arc, Wait};
+use std::sync::{Arc, OnceToken, Wait};
 use std::thread;
 use std::thread::Threads;
 use std::time::{Clock, Duration};
@@ -51,25 +52,28 @@ fn ended(
     }
 }
 
-/// What the thread that reads does: it reads, and leaves in the state how that ended.
+/// What the thread that reads does: it reads, and tells in the state how that ended. The answer shows that it stands there;
+/// it is handed back where an end was told before.
 fn read_there<R: Clock + Copy, I: BufRead + Drop>(
     rt: R,
     alloc: Global,
     plan: PublishPlan,
-    state: Arc<PublisherState>,
+    state: &PublisherState,
     mut input: I,
     mut publisher: Publisher,
-)
-    requires { IsDone (arc_value state).log publisher }
+) -> Result<OnceToken<'_, Reading>, Reading>
+    requires { IsDone state.now.log publisher }
+    ensures told { IfOk result (λ token. (token.of ≡ state.now.reading.id) × EndsInput plan.end.form (max_message state.now.log.identity.geometry) (I.remaining input) publisher.pass token.value.fault) }
+    ensures kept { IfErr result (λ back. EndsInput plan.end.form (max_message state.now.log.identity.geometry) (I.remaining input) publisher.pass back.fault) }
 {
     let context = PublisherContext {
         rt: &rt,
         alloc,
         plan: &plan,
-        state: &state,
+        state,
     };
     let reading = read_input(&context, &mut input, &mut publisher);
-    state.end_input(reading);
+    state.end_input(reading)
 }
 
 /// Starts the thread that reads. Nobody joins it: how the reading ended stands in the state, once it has.
@@ -91,7 +95,9 @@ pub(crate) fn start_reader<
         rt,
         move ||
             requires { IsDone (arc_value state).log publisher }
-        { read_there(there, alloc, plan, state, input, publisher) },
+        {
+            let _ = read_there(there, alloc, plan, &state, input, publisher);
+        },
     ) {
         Ok(_) => Ok(()),
         Err(_) => Err(PublishFault::Failed(DeviceError::Device)),

@@ -32,8 +32,8 @@ HasAll None at = ⊥
 HasAll (Some end) at = end ≤ at
 
 -- as many messages are written as were wanted; or it was to end with the stream, and has all of it
-abbrev pub IsDone : SubscribePlan → ℕ → Option ℕ → ℕ → Type 0
-IsDone plan written end at = (plan.messages ≤ written) ⊎ (IsTrue plan.once × HasAll end at)
+abbrev pub HasEnough : SubscribePlan → ℕ → Option ℕ → ℕ → Type 0
+HasEnough plan written end at = (plan.messages ≤ written) ⊎ (IsTrue plan.once × HasAll end at)
 
 -- how one ends that is quiet: short where it was to end with the stream
 abbrev pub IsQuietEnding : SubscribePlan → Ending → Type 0
@@ -42,15 +42,15 @@ IsQuietEnding plan Short = IsTrue plan.once
 
 -- it isn't done yet, but quiet
 pub record IsGivenUp (plan : SubscribePlan) (written : ℕ) (s : Seen) (end : Option ℕ) (at : ℕ) (how : Ending) : Type 0 where
-  pub undone : ¬ IsDone plan written end at
+  pub undone : ¬ HasEnough plan written end at
   pub quiet : IsQuiet plan s
   pub ending : IsQuietEnding plan how
 
 -- how it ends behind so many messages, at the watch's moment, where its consumer stands here
 abbrev pub IsEnding : SubscribePlan → ℕ → Seen → Option ℕ → ℕ → Option Ending → Type 0
-IsEnding plan written s end at (Some Whole) = IsDone plan written end at ⊎ IsGivenUp plan written s end at Whole
+IsEnding plan written s end at (Some Whole) = HasEnough plan written end at ⊎ IsGivenUp plan written s end at Whole
 IsEnding plan written s end at (Some Short) = IsGivenUp plan written s end at Short
-IsEnding plan written s end at None = (¬ IsDone plan written end at) × (¬ IsQuiet plan s)
+IsEnding plan written s end at None = (¬ HasEnough plan written end at) × (¬ IsQuiet plan s)
 
 -- why there is no listener at this port
 abbrev pub of_bind : ℕ → BindError → SubscribeFault

@@ -36,7 +36,7 @@ abbrev pub next : ℕ → ℕ
 next number = (number + 1) % 2 ^ 64
 
 -- the image is kept, and its peer; that another sender was told may be new
-pub record IsKept (old new : Joined) : Type 0 where
+pub record KeepsImage (old new : Joined) : Type 0 where
   pub is : new ≡ record old { warned = new.warned }
 
 -- the image is kept, and this is its peer
@@ -55,7 +55,7 @@ pub record IsRenewed (plan : SubscribePlan) (moment : ℕ) (m : Meeting) (old ne
 -- the session isn't silent: nothing is made of it
 pub record Passes (s : Seen) (old new : Joined) (t : Seen) : Type 0 where
   pub not_silent : ¬ IsSilent s
-  pub kept : IsKept old new
+  pub kept : KeepsImage old new
   pub seen : t ≡ s
 
 -- it is silent, and the SETUP is its own, where its image is rebuilt up to here
@@ -86,11 +86,11 @@ pub record IsMeeting (plan : SubscribePlan) (from : SocketAddr) (f : Setup) (m :
 -- what is made of any SETUP
 abbrev pub Considers : SubscribePlan → Seen → SocketAddr → Setup → Joined → Joined → Seen → Type 0
 Considers plan s from f old new t =
-    (OpensNothing plan (setup_of f) × IsKept old new × (t ≡ s)) ⊎ ((m : Meeting) × IsMeeting plan from f m × Turns plan s m old new t)
+    (OpensNothing plan (setup_of f) × KeepsImage old new × (t ≡ s)) ⊎ ((m : Meeting) × IsMeeting plan from f m × Turns plan s m old new t)
 
 -- and of the one that came in a cycle, if one did
 abbrev pub ConsidersOffer : SubscribePlan → Seen → Offer → Joined → Joined → Seen → Type 0
-ConsidersOffer plan s None old new t = IsKept old new × (t ≡ s)
+ConsidersOffer plan s None old new t = KeepsImage old new × (t ≡ s)
 ConsidersOffer plan s (Some offer) old new t = Considers plan s offer.0 offer.1 old new t
 
 abbrev pub Attends : SubscribePlan → Seen → Joined → Joined → Seen → Type 0

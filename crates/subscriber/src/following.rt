@@ -2,7 +2,7 @@
 
 ghost use Rattle.std.specs.Prelude.{◌≡◌, ◌≢◌, ◌≤◌, ◌↔◌, ◌+◌, ◌-◌, ◌^◌, min, ℕ, IfErr, IfOk, IsTrue, OnOk, Some};
 ghost use Rattle.endpoint.specs.declared.device_error.DeviceError.TheVariants.{Device};
-ghost use Rattle.subscriber.specs.Leavings.{HasAll, IsDone, IsEnding, IsQuietEnding, NotesHeard, NotesWork, StandsHere};
+ghost use Rattle.subscriber.specs.Leavings.{HasAll, HasEnough, IsEnding, IsQuietEnding, NotesHeard, NotesWork, StandsHere};
 ghost use Rattle.subscriber.specs.Watches.{IsBroken, IsSilent};
 ghost use Rattle.subscriber.specs.declared.fault.SubscribeFault.TheVariants.{Failed};
 ghost use Rattle.subscriber.specs.Writings.{Writes};
@@ -95,7 +95,7 @@ fn has_all(end: Option<u64>, place: u64) -> bool
 
 /// Whether a subscriber has done what was wanted of it.
 fn is_done(plan: &SubscribePlan, written: u64, end: Option<u64>, place: u64) -> bool
-    ensures { IsTrue result ↔ IsDone plan.now written end place }
+    ensures { IsTrue result ↔ HasEnough plan.now written end place }
 {
     written >= plan.messages || (plan.once && has_all(end, place))
 }

@@ -4,7 +4,7 @@ ghost use Rattle.std.specs.Prelude.{◌≡◌, ◌↔◌, IsTrue, OnOk};
 ghost use Rattle.frames.specs.Frames.{setup_of};
 ghost use Rattle.subscription.specs.Hearings.{turned_to};
 ghost use Rattle.subscriber.specs.Offers.{tied_anew};
-ghost use Rattle.subscriber.specs.Turning.{Attends, Considers, GoesOn, IsKept, IsRenewed, IsTiedTo, Turns};
+ghost use Rattle.subscriber.specs.Turning.{Attends, Considers, GoesOn, IsRenewed, IsTiedTo, KeepsImage, Turns};
 
 use crate::fault::SubscribeFault;
 use crate::joined::{Joined, SubscriberDevice, offered, tie, tied_of};
@@ -30,7 +30,7 @@ fn goes_on(was: &Opening, rebuilt: u64, opening: &Opening) -> bool
 
 /// Tells, once for an image, that a SETUP of its session came from another than its peer.
 fn warn<E: Write>(joined: &mut Joined, meeting: &Meeting, errors: &mut E)
-    ensures { IsKept joined.old joined.new }
+    ensures { KeepsImage joined.old joined.new }
 {
     let session = meeting.opening.session;
     let peer = tied_of(joined.duty.device()).peer();
