@@ -8,7 +8,7 @@ pub(crate) mod polling;
 
 use crate::delivery::fault::DeliveryFault;
 use crate::delivery::polling::write_polled;
-use agents::Duty;
+use agents::{Duty, REPLY};
 use endpoint::Datagrams;
 use messages::Form;
 use receiver::Subscriber;
@@ -34,7 +34,7 @@ pub fn cycle<W: Write, D: Datagrams>(
     duty: &mut Duty<D>,
     now: u64,
 ) -> Result<Delivered, DeliveryFault>
-    requires size { duty.old.mtu ≡ 40 }
+    requires size { duty.old.mtu ≡ REPLY }
     ensures done { IfOk result (λ d. WritesFirst form most now (D.tells duty.old.device) subscriber.old (W.contents output.old) (D.device duty.old.device) d subscriber.new (W.contents output.new) (D.device duty.new.device)) }
     ensures fault { IfErr result (λ f. Ends form most now (D.tells duty.old.device) (duty.new ≡ duty.old) f subscriber.old (W.contents output.old) (D.device duty.old.device) subscriber.new (W.contents output.new) (D.device duty.new.device)) }
     ensures size { duty.new.mtu ≡ duty.old.mtu }

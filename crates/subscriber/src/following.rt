@@ -15,7 +15,7 @@ use crate::joined::{Joined, tied_of};
 use crate::telling::{Counts, tell_again, tell_counters, tell_silent};
 use crate::turning::attend;
 use crate::watch::Watch;
-use agents::IdleStrategy;
+use agents::{IdleStrategy, REPLY};
 use options::SubscribePlan;
 use receiver::STATUS_INTERVAL;
 use std::alloc::Global;
@@ -45,9 +45,9 @@ fn cycle_once<W: Write>(
     watch: &mut Watch,
     written: u64,
 ) -> Result<(u64, bool), SubscribeFault>
-    requires size { joined.old.duty.mtu ≡ 40 }
+    requires size { joined.old.duty.mtu ≡ REPLY }
     requires few { written ≤ plan.now.messages }
-    ensures size { joined.new.duty.mtu ≡ 40 }
+    ensures size { joined.new.duty.mtu ≡ REPLY }
     // No fault of the socket ends it.
     ensures patient { IfErr result (λ fault. fault ≢ Failed Device) }
     ensures heard { OnOk result (NotesHeard joined.old.duty.device.notes.frames joined.new.duty.device.notes.frames watch.old watch.new) }
@@ -194,8 +194,8 @@ pub(crate) fn follow<R: Wait + Clock, W: Write, E: Write>(
     errors: &mut E,
     watch: &mut Watch,
 ) -> Result<(u64, Ending), SubscribeFault>
-    requires size { joined.old.duty.mtu ≡ 40 }
-    ensures size { joined.new.duty.mtu ≡ 40 }
+    requires size { joined.old.duty.mtu ≡ REPLY }
+    ensures size { joined.new.duty.mtu ≡ REPLY }
     ensures few { IfOk result (λ r. r.0 ≤ plan.now.messages) }
     ensures ended { IfOk result (λ r. (place : ℕ) × StandsHere joined.new.subscriber place × IsEnding plan.now r.0 watch.new joined.new.duty.device.notes.end place (Some r.1)) }
     ensures writes { IfOk result (λ r. Writes plan.now.end.form 0 (W.contents output.old) r.0 (W.contents output.new)) }
@@ -227,7 +227,7 @@ fn bid_farewell<R: Wait + Clock>(
     joined: &mut Joined,
     watch: &mut Watch,
 ) -> Result<(), SubscribeFault>
-    requires { joined.old.duty.mtu ≡ 40 }
+    requires { joined.old.duty.mtu ≡ REPLY }
 {
     watch.see(rt)?;
     let ended = watch.moment();
@@ -247,7 +247,7 @@ fn bid_farewell<R: Wait + Clock>(
 /// Leaves an image. Where the publisher hasn't told an end at which the subscriber has all, it is told for a second where that
 /// stands.
 pub(crate) fn leave<R: Wait + Clock>(rt: &R, joined: &mut Joined, watch: &mut Watch)
-    requires { joined.old.duty.mtu ≡ 40 }
+    requires { joined.old.duty.mtu ≡ REPLY }
 {
     let end = joined.duty.device().notes().end;
     if !has_all(end, joined.place()) {

@@ -95,8 +95,8 @@ fn ask(
     outbox: &mut Outbox,
     now: u64,
 ) -> Result<(), AllocError>
-    requires { outbox.old.mtu ≡ 40 }
-    ensures { outbox.new.mtu ≡ 40 }
+    requires { outbox.old.mtu ≡ REPLY }
+    ensures { outbox.new.mtu ≡ REPLY }
 {
     let Some((from, datagram)) = listener.last() else {
         return Ok(());
@@ -119,8 +119,8 @@ fn heed(
     outbox: &mut Outbox,
     watch: &mut Watch,
 ) -> Result<Option<Meeting>, SubscribeFault>
-    requires size { outbox.old.mtu ≡ 40 }
-    ensures size { outbox.new.mtu ≡ 40 }
+    requires size { outbox.old.mtu ≡ REPLY }
+    ensures size { outbox.new.mtu ≡ REPLY }
     ensures heeds { IfOk result (λ found. Heeds plan.now listener.now watch.old found watch.new) }
     ensures opens { IfOk result (λ found. IfSome found (λ m. Opens plan.now (setup_of m.setup) m.opening)) }
     ensures moment { watch.new.moment ≡ watch.old.moment }

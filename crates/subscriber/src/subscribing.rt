@@ -13,6 +13,7 @@ use crate::joined::Joined;
 use crate::listening::listen;
 use crate::telling::{tell_joined, tell_refused};
 use crate::watch::Watch;
+use agents::REPLY;
 use endpoint::DeviceError;
 use frames::FaultCounts;
 use options::SubscribePlan;
@@ -53,7 +54,7 @@ fn follow_all<R: Wait + Clock, W: Write, E: Write>(
     errors: &mut E,
     watch: &mut Watch,
 ) -> Result<Subscribed, SubscribeFault>
-    requires size { joined.old.duty.mtu ≡ 40 }
+    requires size { joined.old.duty.mtu ≡ REPLY }
     ensures few { IfOk result (λ s. s.messages ≤ plan.now.messages) }
     ensures short { IfOk result (λ s. s.ending ≡ Short → IsTrue plan.now.once) }
     ensures writes { IfOk result (λ s. Writes plan.now.end.form 0 (W.contents output.old) s.messages (W.contents output.new)) }
