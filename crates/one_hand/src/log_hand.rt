@@ -198,7 +198,13 @@ impl OneHandLog for LogHand {
         let Some(all) = self.all.take() else {
             unreachable!();
         };
-        let (all, word, cleaned, limit) = clean_as(&self.log, all, self.limit, self.cleaned, self.there);
+        let (all, word, cleaned, limit) = clean_as(
+            &self.log,
+            all,
+            self.limit,
+            self.cleaned,
+            self.there,
+        );
         self.limit = word;
         self.cleaned = cleaned;
         self.all = Some(all);
