@@ -1,6 +1,18 @@
-//! Tests of publishers' commands on two logs in one hand, the plain one and the one that threads share: both answer
-//! alike.
+//! Tests of publishers' commands: on two logs in one hand, the plain one and the one that threads share, which answer
+//! alike; and of a publisher that stalls between two of its steps while terms turn, or is held there while each other
+//! party goes on.
 #![tactic(auto)]
 
 #[cfg(test)]
 mod both;
+#[cfg(test)]
+mod holds;
+mod other_passes;
+#[cfg(test)]
+mod stalled;
+#[cfg(test)]
+mod stalls;
+#[cfg(test)]
+mod stalls_among_threads;
+
+pub use other_passes::{Follower, Four, OtherPasses};

@@ -1,5 +1,5 @@
 use Rattle.stream_tests.specs.Passes.{IsPart}
-use Rattle.stall_tests.proofs.stalls_among_threads.publish.Given as goal
+use Rattle.claims_tests.proofs.stalls_among_threads.publish.Given as goal
 
 abbrev pub invariant-loop : goal.invariant-loop
 invariant-loop l = IsPart l.log 120 l.claimant

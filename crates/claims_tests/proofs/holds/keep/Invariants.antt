@@ -1,5 +1,5 @@
 use Rattle.stream_tests.specs.Passes.{IsKeeping}
-use Rattle.stall_tests.proofs.holds.keep.Given as goal
+use Rattle.claims_tests.proofs.holds.keep.Given as goal
 
 abbrev pub invariant-loop : goal.invariant-loop
 invariant-loop l = IsKeeping l.log l.keeper

@@ -5,9 +5,9 @@ use Rattle.shared_log.specs.Books.{IsDone}
 use Rattle.shared_log.specs.Handles.{LogValue}
 use Rattle.shared_log.specs.Readers.{IsReaderOf}
 use Rattle.stream_tests.specs.Passes.{IsPart}
-use Rattle.stall_tests.specs.declared.other_passes.OtherPasses.{OtherPasses}
-use Rattle.stall_tests.specs.declared.other_passes.Follower.{Follower}
-use Rattle.stall_tests.specs.declared.other_passes.Four.{Four}
+use Rattle.claims_tests.specs.declared.other_passes.OtherPasses.{OtherPasses}
+use Rattle.claims_tests.specs.declared.other_passes.Follower.{Follower}
+use Rattle.claims_tests.specs.declared.other_passes.Four.{Four}
 
 -- all that follows is of this log, and has claimed nothing
 pub record IsFollower (l : LogValue) (f : Follower) : Type 0 where

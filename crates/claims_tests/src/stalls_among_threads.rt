@@ -1,7 +1,7 @@
 //! A publisher that stalls, while others publish in threads of their own.
 
 ghost use Rattle.stream_tests.specs.Passes.{IsPart};
-ghost use Rattle.stall_tests.specs.OtherPasses.{AreOtherPasses, IsFollower};
+ghost use Rattle.claims_tests.specs.OtherPasses.{AreOtherPasses, IsFollower};
 
 use crate::other_passes::{Follower, OtherPasses};
 use crate::stalled::{close_passes, open_passes};

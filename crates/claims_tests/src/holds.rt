@@ -3,7 +3,7 @@
 ghost use Rattle.std.specs.Prelude.{◌≤◌, length};
 ghost use Rattle.shared_log.specs.Readers.{IsReaderOf};
 ghost use Rattle.stream_tests.specs.Passes.{IsKeeping, IsPart};
-ghost use Rattle.stall_tests.specs.OtherPasses.{AreFour, IsFollower};
+ghost use Rattle.claims_tests.specs.OtherPasses.{AreFour, IsFollower};
 
 use crate::other_passes::{Follower, Four, OtherPasses};
 use crate::stalled::{close_passes, open_passes};

@@ -2,7 +2,7 @@
 
 ghost use Rattle.std.specs.Prelude.{◌≡◌, IfOk};
 ghost use Rattle.stream_tests.specs.Passes.{IsPart};
-ghost use Rattle.stall_tests.specs.OtherPasses.{AreOtherPasses, IsFollower};
+ghost use Rattle.claims_tests.specs.OtherPasses.{AreOtherPasses, IsFollower};
 
 use crate::other_passes::{Follower, OtherPasses};
 use crate::stalled::{close_passes, open_passes};

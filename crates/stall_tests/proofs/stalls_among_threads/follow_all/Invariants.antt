@@ -1,5 +1,0 @@
-use Rattle.stall_tests.specs.OtherPasses.{IsFollower}
-use Rattle.stall_tests.proofs.stalls_among_threads.follow_all.Given as goal
-
-abbrev pub invariant-loop : goal.invariant-loop
-invariant-loop l = IsFollower l.log l.follower
