@@ -4,7 +4,7 @@ use Rattle.std.specs.List.{AllByRecursion}
 use Rattle.shared_log.specs.Books.{IsDone}
 use Rattle.shared_log.specs.Handles.{LogValue}
 use Rattle.shared_log.specs.Readers.{IsReaderOf}
-use Rattle.stream_tests.specs.Passes.{IsPart}
+use Rattle.claims_tests.specs.Passes.{IsPart}
 use Rattle.claims_tests.specs.declared.other_passes.OtherPasses.{OtherPasses}
 use Rattle.claims_tests.specs.declared.other_passes.Follower.{Follower}
 use Rattle.claims_tests.specs.declared.other_passes.Four.{Four}

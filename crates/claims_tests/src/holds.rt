@@ -2,7 +2,7 @@
 
 ghost use Rattle.std.specs.Prelude.{◌≤◌, length};
 ghost use Rattle.shared_log.specs.Readers.{IsReaderOf};
-ghost use Rattle.stream_tests.specs.Passes.{IsKeeping, IsPart};
+ghost use Rattle.claims_tests.specs.Passes.{IsKeeping, IsPart};
 ghost use Rattle.claims_tests.specs.OtherPasses.{AreFour, IsFollower};
 
 use crate::other_passes::{Follower, Four, OtherPasses};

@@ -1,13 +1,16 @@
 //! Tests of publishers' commands: on two logs in one hand, the plain one and the one that threads share, which answer
-//! alike; and of a publisher that stalls between two of its steps while terms turn, or is held there while each other
-//! party goes on.
+//! alike; of a publisher that stalls between two of its steps while terms turn, or is held there while each other party
+//! goes on; and of consumers that join and leave, on one thread.
 #![tactic(auto)]
 
 #[cfg(test)]
 mod both;
 #[cfg(test)]
+mod consumers;
+#[cfg(test)]
 mod holds;
 mod other_passes;
+mod passes;
 #[cfg(test)]
 mod stalled;
 #[cfg(test)]
@@ -16,3 +19,4 @@ mod stalls;
 mod stalls_among_threads;
 
 pub use other_passes::{Follower, Four, OtherPasses};
+pub use passes::Passes;

@@ -5,7 +5,7 @@ ghost use Rattle.std.specs.List.{AllByRecursion};
 ghost use Rattle.log_rule.specs.Claims.Handles.{parts_in};
 ghost use Rattle.log_rule.specs.Claims.Sums.{total};
 ghost use Rattle.shared_log.specs.Handles.{AreNew, IsOf};
-ghost use Rattle.stream_tests.specs.Passes.{IsPart};
+ghost use Rattle.claims_tests.specs.Passes.{IsPart};
 ghost use Rattle.claims_tests.specs.OtherPasses.{AreOtherPasses, IsFollower};
 
 use crate::other_passes::{Follower, OtherPasses};

@@ -1,6 +1,6 @@
 //! A publisher that stalls, while others publish in threads of their own.
 
-ghost use Rattle.stream_tests.specs.Passes.{IsPart};
+ghost use Rattle.claims_tests.specs.Passes.{IsPart};
 ghost use Rattle.claims_tests.specs.OtherPasses.{AreOtherPasses, IsFollower};
 
 use crate::other_passes::{Follower, OtherPasses};

@@ -3,13 +3,11 @@ use Rattle.std.proofs.Common.{◌≡◌, ℕ, suc, ◌+◌, ◌<◌, ◌≤◌, 
 use Rattle.std.specs.List.{AllByRecursion}
 use Rattle.shared_log.specs.Readers.{IsReaderOf, ReaderValue}
 use Rattle.shared_log.specs.Keepers.{KeeperValue}
-use Rattle.shared_log.specs.Parts.{AreDealt, AreReaders, IsNewReader}
+use Rattle.shared_log.specs.Parts.{AreDealt, AreReaders}
 use Rattle.shared_log.specs.Handles.{LogValue}
 use Rattle.log_rule.specs.Claims.Handles.{PublisherValue}
-use Rattle.log_rule.specs.Keepings.{newly}
 use Rattle.publication.specs.declared.pass.Pass.{Pass}
 use Rattle.publication.specs.Offers.{Offered}
-use Rattle.stream_tests.specs.Consumers.{IsSingle}
 
 readers_from : (l : LogValue) (n : ℕ) (rs : List ReaderValue) → AreReaders l n rs → n + length rs ≤ 8 → AllByRecursion (IsReaderOf l) rs
 readers_from l n [] are few = tt
@@ -32,14 +30,3 @@ readers_of l ps rs k are few = readers_from l 0 rs are.readers_are (let e = are.
 
 pub offered_idle : (p q : Pass) (message : List ℕ) (end : ℕ) → Offered p message end q → q.right.armed ≡ 0
 offered_idle p q message end o = ap (λ (v : Pass). v.right.armed) o.after ∙ o.claimed.idle
-
--- ---- who is one consumer, and nothing else
-
-pub new_single : (l : LogValue) (n : ℕ) (r : ReaderValue) → IsNewReader l n r → n < 8 → IsSingle l r
-new_single l n r new low = record {
-  of = record { of = new.held.of; number = (let e = new.number_is in below r.number n e low) };
-  alone = record { consumer = newly n l.start; pass = new.held.pass_is; place = new.place };
-}
-  where
-    below : (m n : ℕ) → m ≡ n → n < 8 → m < 8
-    below m n e low = omega arith

@@ -1,3 +1,2 @@
 pub mod Parties
-pub mod Passes
 pub mod Consumers

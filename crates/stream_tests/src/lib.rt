@@ -3,17 +3,13 @@
 #![tactic(auto)]
 
 #[cfg(test)]
-mod consumers;
-#[cfg(test)]
 mod consumers_among_threads;
 mod library;
 #[cfg(test)]
 mod opening;
 mod parties;
-mod passes;
 #[cfg(test)]
 mod streams;
 
 pub use library::pass_on;
 pub use parties::Party;
-pub use passes::Passes;

@@ -1,4 +1,4 @@
-use Rattle.stream_tests.specs.Passes.{IsKeeping}
+use Rattle.claims_tests.specs.Passes.{IsKeeping}
 use Rattle.claims_tests.proofs.holds.keep.Given as goal
 
 abbrev pub invariant-loop : goal.invariant-loop

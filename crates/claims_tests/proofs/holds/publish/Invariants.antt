@@ -1,4 +1,4 @@
-use Rattle.stream_tests.specs.Passes.{IsPart}
+use Rattle.claims_tests.specs.Passes.{IsPart}
 use Rattle.claims_tests.proofs.holds.publish.Given as goal
 
 abbrev pub invariant-loop : goal.invariant-loop

@@ -5,8 +5,8 @@ ghost use Rattle.std.specs.List.{AllByRecursion};
 ghost use Rattle.log_rule.specs.Claims.Handles.{parts_in};
 ghost use Rattle.log_rule.specs.Claims.Sums.{total};
 ghost use Rattle.shared_log.specs.Handles.{AreNew, IsOf};
-ghost use Rattle.stream_tests.specs.Consumers.{ArePasses, IsSingle};
-ghost use Rattle.stream_tests.specs.Passes.{IsKeeping, IsPart};
+ghost use Rattle.stream_tests.specs.Consumers.{IsSingle};
+ghost use Rattle.claims_tests.specs.Passes.{IsKeeping, IsPart};
 
 use crate::passes::Passes;
 use assembler::Assembler;
@@ -42,7 +42,7 @@ fn passes_of(log: &Log, claimants: [Claimant; 8], reader: LogReader, keeper: Kee
 }
 
 /// A log with short terms and short frames, connected, with one consumer, and all its passes.
-#[tactic(auto, using(crate::proofs::Each::new_single))]
+#[tactic(auto, using(crate::proofs::Singles::new_single))]
 fn open_passes(alloc: Global) -> Result<(Log, Passes), Fail>
     ensures { IfOk result (λ r. ArePasses r.0 r.1) }
 {

@@ -1,0 +1,16 @@
+-- A reader of a log that was just opened is one consumer, and nothing else.
+use Rattle.std.proofs.Common.{◌≡◌, ℕ, ◌<◌, arith}
+use Rattle.shared_log.specs.Handles.{LogValue}
+use Rattle.shared_log.specs.Parts.{IsNewReader}
+use Rattle.shared_log.specs.Readers.{ReaderValue}
+use Rattle.log_rule.specs.Keepings.{newly}
+use Rattle.stream_tests.specs.Consumers.{IsSingle}
+
+pub new_single : (l : LogValue) (n : ℕ) (r : ReaderValue) → IsNewReader l n r → n < 8 → IsSingle l r
+new_single l n r new low = record {
+  of = record { of = new.held.of; number = (let e = new.number_is in below r.number n e low) };
+  alone = record { consumer = newly n l.start; pass = new.held.pass_is; place = new.place };
+}
+  where
+    below : (m n : ℕ) → m ≡ n → n < 8 → m < 8
+    below m n e low = omega arith
