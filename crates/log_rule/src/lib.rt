@@ -8,11 +8,13 @@
 //! tells its pass what `publication` says of it. Who has all parts is sure of the limit, the active count and the three
 //! raw tails: each of its steps answers the very word that its earlier ones left.
 //!
-//! Of the whole log (`LogRuled`), beside that: each consumer stands in whole units at a frame's edge, with no open
-//! claim and nothing uncommitted below it; a frame that a reader knows is committed; the keeper alone moves the limit
-//! and cleans, it cleans a word only where every consumer stands a term or more above it, and what may be claimed is
-//! clean; a number is one pass's, which alone claims under it. Each kind of step keeps it, and so do passes that are dealt, told what others committed, gathered, and that
-//! meet. `opening_words` gives the words of a log that opens, of which it holds, and `Ring` their places.
+//! Of the whole log (`LogRuled`), beside that: each of eight numbers is one consumer's at the most, and the keeper alone
+//! knows whose is one; a consumer that is there stands in whole units at a frame's edge, with no open claim and nothing
+//! uncommitted below it, and the word of a number that nobody has is zero; a frame that a reader knows is committed; the
+//! keeper alone moves the limit and cleans, it cleans a word only where every consumer that is there stands a term or
+//! more above it, and what may be claimed is clean; a publisher's number is one pass's, which alone claims under it. Each
+//! kind of step keeps it, and so do passes that are dealt, told what others committed, gathered, and that meet.
+//! `opening_words` gives the words of a log that opens, of which it holds, and `Ring` their places.
 //!
 //! Two laws say this in the words of streams, for any words and passes that a log's table may have: what there is then
 //! (`rule_says`), and that the steps of consumers and of the keeper change nothing of it (`others_are_looks`).

@@ -169,8 +169,8 @@ fn raise(log: &Log, keeper: &mut Keeper, least: u64)
     }
 }
 
-/// Cleans all that is a term or more below the least consumer that is there. Then, if the log is connected and not closed, raises the
-/// limit to half a term above that consumer. The answer is the limit.
+/// Cleans all that is a term or more below the least consumer that is there. Then, if the log is connected and not
+/// closed, raises the limit to half a term above that consumer. The answer is the limit.
 pub fn clean_and_limit(log: &Log, keeper: &mut Keeper) -> u64
     requires { IsOf log.now keeper.old.held }
     ensures done { CleansAndLimits log.now keeper.old keeper.new }
