@@ -12,7 +12,7 @@ use std::time::Clock;
 use std::{fs, io};
 
 /// The examples by their names: each is a file `NAME.script`, and what it prints a file `NAME.expected`.
-const NAMES: [&str; 19] = [
+const NAMES: [&str; 23] = [
     "first",
     "loss",
     "joins",
@@ -32,6 +32,10 @@ const NAMES: [&str; 19] = [
     "forged",
     "forgeries",
     "group",
+    "consumers",
+    "middle_join",
+    "last_behind",
+    "seven_readers",
 ];
 
 /// The files of rows by their names: each is a file `NAME.expected`.

@@ -15,10 +15,9 @@ use Rattle.publication.specs.declared.pass.Pass.{Pass}
 use Rattle.publication.specs.Steps.{Keeps, blank, opened, with_work, works}
 use Rattle.publication.specs.Frames.{frame_at, message_frames}
 use Rattle.publication.specs.Alone.{Ends, FindsClosed, FindsEnd, PadsEnd, Reaches, RefusedAlone, TakesAt, message_from, padded_from}
-use Rattle.shared_log.specs.Readers.{positions_of}
 use Rattle.one_hand.specs.Stream.{Fits, IsClosed, IsLimited, IsUsedUp, OfferCase, Stream, Trips, after, after_claim, after_offer, answer, answer_of, case_of, refusal_at_end, room, turned, with_claim, with_message, with_padding}
 use Rattle.one_hand.specs.declared.log_hand.held.Held.{Held}
-use Rattle.one_hand.specs.Shown.{WholeBy, IsWhole, stream_by, stream_of}
+use Rattle.one_hand.specs.Shown.{WholeBy, IsWhole, consumers_of, stream_by, stream_of}
 use Rattle.publication.proofs.Contents.{IsSmall}
 use Rattle.one_hand.proofs.Keeps.{padding_keeps, turn_keeps}
 use Rattle.one_hand.proofs.Cases.{case_closed, case_fits, case_limited, case_trips, case_used_up}
@@ -34,23 +33,23 @@ err why = Err why
 abbrev Shows : Pass → Controls → List (Option Held) → Stream → Type 0
 Shows q d held m = (stream_of q d held ≡ m) × IsWhole q d held
 
-record Parts (i : Identity) (start : ℕ) (ps : List ℕ) (z : ℕ) (cs : List ClaimRange) (fs ds : List FrameWords) (q : Pass) : Type 0 where
+record Parts (i : Identity) (start : ℕ) (ps : List (Option ℕ)) (z : ℕ) (cs : List ClaimRange) (fs ds : List FrameWords) (q : Pass) : Type 0 where
   identity : q.identity ≡ i
   begin : q.start ≡ start
-  stand : positions_of q ≡ ps
+  stand : consumers_of q ≡ ps
   cleaned : q.keeping.cleaned ≡ z
   claims : q.right.claims ≡ cs
   frames : q.work.frames ≡ fs
   drafts : q.work.drafts ≡ ds
 
-shows : (i : Identity) (start : ℕ) (ps : List ℕ) (z : ℕ) (cs : List ClaimRange) (fs ds : List FrameWords) (q : Pass) (d : Controls) (held : List (Option Held)) (m : Stream) → Parts i start ps z cs fs ds q → (stream_by i start ps z cs fs d held ≡ m) × WholeBy i start ps z cs fs ds d held → Shows q d held m
+shows : (i : Identity) (start : ℕ) (ps : List (Option ℕ)) (z : ℕ) (cs : List ClaimRange) (fs ds : List FrameWords) (q : Pass) (d : Controls) (held : List (Option Held)) (m : Stream) → Parts i start ps z cs fs ds q → (stream_by i start ps z cs fs d held ≡ m) × WholeBy i start ps z cs fs ds d held → Shows q d held m
 shows i start ps z cs fs ds q d held m p h = (
   (λ j. stream_by (p.identity j) (p.begin j) (p.stand j) (p.cleaned j) (p.claims j) (p.frames j) d held) ∙ h.0,
-  subst (λ (x : Identity × ℕ × List ℕ × ℕ × List ClaimRange × List FrameWords × List FrameWords). WholeBy x.0 x.1 x.2 x.3 x.4 x.5 x.6 d held) (λ j. (sym p.identity j, sym p.begin j, sym p.stand j, sym p.cleaned j, sym p.claims j, sym p.frames j, sym p.drafts j)) h.1,
+  subst (λ (x : Identity × ℕ × List (Option ℕ) × ℕ × List ClaimRange × List FrameWords × List FrameWords). WholeBy x.0 x.1 x.2 x.3 x.4 x.5 x.6 d held) (λ j. (sym p.identity j, sym p.begin j, sym p.stand j, sym p.cleaned j, sym p.claims j, sym p.frames j, sym p.drafts j)) h.1,
 )
 
-keeps_parts : (v q : Pass) → Keeps v q → Parts v.identity v.start (positions_of v) v.keeping.cleaned v.right.claims v.work.frames v.work.drafts q
-keeps_parts v q k = record { identity = ap (λ (x : Pass). x.identity) k; begin = ap (λ (x : Pass). x.start) k; stand = ap positions_of k; cleaned = ap (λ (x : Pass). x.keeping.cleaned) k; claims = ap (λ (x : Pass). x.right.claims) k; frames = ap (λ (x : Pass). x.work.frames) k; drafts = ap (λ (x : Pass). x.work.drafts) k }
+keeps_parts : (v q : Pass) → Keeps v q → Parts v.identity v.start (consumers_of v) v.keeping.cleaned v.right.claims v.work.frames v.work.drafts q
+keeps_parts v q k = record { identity = ap (λ (x : Pass). x.identity) k; begin = ap (λ (x : Pass). x.start) k; stand = ap consumers_of k; cleaned = ap (λ (x : Pass). x.keeping.cleaned) k; claims = ap (λ (x : Pass). x.right.claims) k; frames = ap (λ (x : Pass). x.work.frames) k; drafts = ap (λ (x : Pass). x.work.drafts) k }
 
 module _ (v : Pass) (c : Controls) (held : List (Option Held)) (w : IsWhole v c held) (low : v.number < 8) where
   abbrev s : Stream
@@ -70,17 +69,17 @@ module _ (v : Pass) (c : Controls) (held : List (Option Held)) (w : IsWhole v c 
   offered message start end between q d small short t keeps is end_is =
       let n : ℕ = length message in
       let fits : case_of s n ≡ Fits = case_fits s n t.may.unclosed t.may.room t.may.below t.inside in
-      let parts : Parts v.identity v.start (positions_of v) v.keeping.cleaned (v.right.claims ++ message_from v tail n ∷ []) (v.work.frames ++ message_frames v.identity true tail message) v.work.drafts q = record {
+      let parts : Parts v.identity v.start (consumers_of v) v.keeping.cleaned (v.right.claims ++ message_from v tail n ∷ []) (v.work.frames ++ message_frames v.identity true tail message) v.work.drafts q = record {
         identity = ap (λ (x : Pass). x.identity) is ∙ ap (λ (x : Pass). x.identity) keeps;
         begin = ap (λ (x : Pass). x.start) is ∙ ap (λ (x : Pass). x.start) keeps;
-        stand = ap positions_of is ∙ ap positions_of keeps;
+        stand = ap consumers_of is ∙ ap consumers_of keeps;
         cleaned = ap (λ (x : Pass). x.keeping.cleaned) is ∙ ap (λ (x : Pass). x.keeping.cleaned) keeps;
         claims = ap (λ (x : Pass). x.right.claims) is ∙ ap (λ (x : Pass). x.right.claims) keeps;
         frames = ap (λ (x : Pass). x.work.frames) is ∙ ap (λ (k : ℕ). v.work.frames ++ message_frames v.identity true k message) t.start_is;
         drafts = ap (λ (x : Pass). x.work.drafts) is;
       } in
-      let all = shows v.identity v.start (positions_of v) v.keeping.cleaned (v.right.claims ++ message_from v tail n ∷ []) (v.work.frames ++ message_frames v.identity true tail message) v.work.drafts q d held (with_message s v.number message) parts
-      (message_grown v.identity v.start (positions_of v) v.keeping.cleaned v.right.claims v.work.frames v.work.drafts c held w d v.number n low t.may.room t.inside t.settled t.limit message refl small short) in
+      let all = shows v.identity v.start (consumers_of v) v.keeping.cleaned (v.right.claims ++ message_from v tail n ∷ []) (v.work.frames ++ message_frames v.identity true tail message) v.work.drafts q d held (with_message s v.number message) parts
+      (message_grown v.identity v.start (consumers_of v) v.keeping.cleaned v.right.claims v.work.frames v.work.drafts c held w d v.number n low t.may.room t.inside t.settled t.limit message refl small short) in
       (ap (λ (k : ℕ). ok k) (end_is ∙ ap (λ (k : ℕ). k + framed_length g n) t.start_is) ∙ ap (answer s n) (sym fits), (all.0 ∙ ap (λ (x : OfferCase). after s v.number x (with_message s v.number message)) (sym fits), all.1))
 
   -- ---- a claim
@@ -90,17 +89,17 @@ module _ (v : Pass) (c : Controls) (held : List (Option Held)) (w : IsWhole v c 
   opens size start h q d short t one at same =
       let fits : case_of s size ≡ Fits = case_fits s size t.may.unclosed t.may.room t.may.below t.inside in
       let later : List (Option Held) = slice_set held v.number (Some h) in
-      let parts : Parts v.identity v.start (positions_of v) v.keeping.cleaned (v.right.claims ++ message_from v tail size ∷ []) (v.work.frames ++ []) (v.work.drafts ++ blank tail (32 + size) ∷ []) q = record {
+      let parts : Parts v.identity v.start (consumers_of v) v.keeping.cleaned (v.right.claims ++ message_from v tail size ∷ []) (v.work.frames ++ []) (v.work.drafts ++ blank tail (32 + size) ∷ []) q = record {
         identity = ap (λ (x : Pass). x.identity) t.after;
         begin = ap (λ (x : Pass). x.start) t.after;
-        stand = ap positions_of t.after;
+        stand = ap consumers_of t.after;
         cleaned = ap (λ (x : Pass). x.keeping.cleaned) t.after;
         claims = ap (λ (x : Pass). x.right.claims) t.after;
         frames = ap (λ x. x.frames) one ∙ sym (append-nil v.work.frames);
         drafts = ap (λ x. x.drafts) one ∙ ap (λ (k : ℕ). v.work.drafts ++ blank k (32 + size) ∷ []) t.start_is;
       } in
-      let all = shows v.identity v.start (positions_of v) v.keeping.cleaned (v.right.claims ++ message_from v tail size ∷ []) (v.work.frames ++ []) (v.work.drafts ++ blank tail (32 + size) ∷ []) q d later (with_claim s v.number size) parts
-      (claim_grown v.identity v.start (positions_of v) v.keeping.cleaned v.right.claims v.work.frames v.work.drafts c held w d v.number size low t.may.room t.inside t.settled t.limit h (at ∙ t.start_is) same short) in
+      let all = shows v.identity v.start (consumers_of v) v.keeping.cleaned (v.right.claims ++ message_from v tail size ∷ []) (v.work.frames ++ []) (v.work.drafts ++ blank tail (32 + size) ∷ []) q d later (with_claim s v.number size) parts
+      (claim_grown v.identity v.start (consumers_of v) v.keeping.cleaned v.right.claims v.work.frames v.work.drafts c held w d v.number size low t.may.room t.inside t.settled t.limit h (at ∙ t.start_is) same short) in
       (ap (λ (k : ℕ). ok (k + framed_length g size)) t.start_is ∙ ap (answer s size) (sym fits), t.start_is, (all.0 ∙ ap (λ (x : OfferCase). after s v.number x (with_claim s v.number size)) (sym fits), all.1))
 
   -- ---- a refusal
@@ -112,14 +111,14 @@ module _ (v : Pass) (c : Controls) (held : List (Option Held)) (w : IsWhole v c 
     by_case : (x : OfferCase) (why : Refusal) (m : Stream) → case_of s n ≡ x → Err why ≡ answer s n x → m ≡ after s v.number x fitting → Shows q d held m → Comes why
     by_case x why m e said_is after_is h = (said_is ∙ ap (answer s n) (sym e), (h.0 ∙ after_is ∙ ap (λ (y : OfferCase). after s v.number y fitting) (sym e), h.1))
 
-    same_parts : Keeps v q → (stream_by v.identity v.start (positions_of v) v.keeping.cleaned v.right.claims v.work.frames d held ≡ s) × WholeBy v.identity v.start (positions_of v) v.keeping.cleaned v.right.claims v.work.frames v.work.drafts d held → Shows q d held s
-    same_parts k h = shows v.identity v.start (positions_of v) v.keeping.cleaned v.right.claims v.work.frames v.work.drafts q d held s (keeps_parts v q k) h
+    same_parts : Keeps v q → (stream_by v.identity v.start (consumers_of v) v.keeping.cleaned v.right.claims v.work.frames d held ≡ s) × WholeBy v.identity v.start (consumers_of v) v.keeping.cleaned v.right.claims v.work.frames v.work.drafts d held → Shows q d held s
+    same_parts k h = shows v.identity v.start (consumers_of v) v.keeping.cleaned v.right.claims v.work.frames v.work.drafts q d held s (keeps_parts v q k) h
 
     at_limit : (b : Bool) (why : Refusal) → (b ≡ s.connected → Err why ≡ answer s n IsLimited) → Reaches v tail c.count b c d q → Comes why
-    at_limit b why says r = by_case IsLimited why s (case_limited s n r.unclosed r.room r.limited) (says (sym r.flag)) refl (same_parts r.after (still v.identity v.start (positions_of v) v.keeping.cleaned v.right.claims v.work.frames v.work.drafts c held w d r.same))
+    at_limit b why says r = by_case IsLimited why s (case_limited s n r.unclosed r.room r.limited) (says (sym r.flag)) refl (same_parts r.after (still v.identity v.start (consumers_of v) v.keeping.cleaned v.right.claims v.work.frames v.work.drafts c held w d r.same))
 
     found_closed : FindsClosed v c d q → Comes Closed
-    found_closed h = by_case IsClosed Closed s (case_closed s n h.closed) refl refl (same_parts h.after (still v.identity v.start (positions_of v) v.keeping.cleaned v.right.claims v.work.frames v.work.drafts c held w d h.same))
+    found_closed h = by_case IsClosed Closed s (case_closed s n h.closed) refl refl (same_parts h.after (still v.identity v.start (consumers_of v) v.keeping.cleaned v.right.claims v.work.frames v.work.drafts c held w d h.same))
 
     abbrev turned_on : Stream → Stream
     turned_on m = record m { active = c.count + 1 }
@@ -142,8 +141,8 @@ module _ (v : Pass) (c : Controls) (held : List (Option Held)) (w : IsWhole v c 
     refusal_ends : IsLast c.count → MaxPositionExceeded ≡ refusal_at_end c.count
     refusal_ends h = sym (cond-true (nat_eq c.count 2147483647) MaxPositionExceeded AdminAction (the_last h))
 
-    pad_parts : PadsEnd v n tail c.count c q → Parts v.identity v.start (positions_of v) v.keeping.cleaned (v.right.claims ++ record { start = tail; owner = v.number; cuts = ((c.count + 1) * g.term_length - tail) ∷ []; padding = true } ∷ []) (v.work.frames ++ frame_at v.identity tail (Pad ((c.count + 1) * g.term_length - tail)) ∷ []) v.work.drafts q
-    pad_parts p = record { identity = ap (λ (x : Pass). x.identity) p.after; begin = ap (λ (x : Pass). x.start) p.after; stand = ap positions_of p.after; cleaned = ap (λ (x : Pass). x.keeping.cleaned) p.after; claims = ap (λ (x : Pass). x.right.claims) p.after; frames = ap (λ (x : Pass). x.work.frames) p.after; drafts = ap (λ (x : Pass). x.work.drafts) p.after }
+    pad_parts : PadsEnd v n tail c.count c q → Parts v.identity v.start (consumers_of v) v.keeping.cleaned (v.right.claims ++ record { start = tail; owner = v.number; cuts = ((c.count + 1) * g.term_length - tail) ∷ []; padding = true } ∷ []) (v.work.frames ++ frame_at v.identity tail (Pad ((c.count + 1) * g.term_length - tail)) ∷ []) v.work.drafts q
+    pad_parts p = record { identity = ap (λ (x : Pass). x.identity) p.after; begin = ap (λ (x : Pass). x.start) p.after; stand = ap consumers_of p.after; cleaned = ap (λ (x : Pass). x.keeping.cleaned) p.after; claims = ap (λ (x : Pass). x.right.claims) p.after; frames = ap (λ (x : Pass). x.work.frames) p.after; drafts = ap (λ (x : Pass). x.work.drafts) p.after }
 
     abbrev padded_stream : Stream
     padded_stream = with_padding s v.number (room s)
@@ -151,15 +150,15 @@ module _ (v : Pass) (c : Controls) (held : List (Option Held)) (w : IsWhole v c 
     ends_going : IsNotLast c.count → Ends v n tail c.count (c.count + 1) c d q → Comes AdminAction
     ends_going go h = ⊎_elim
         (λ (f : FindsEnd v tail c.count c q). by_case IsUsedUp AdminAction (turned_on s) (case_used_up s n f.unclosed f.end) (ap (λ (x : Refusal). err x) (refusal_goes go)) (goes_on s refl go)
-        (shows v.identity v.start (positions_of v) v.keeping.cleaned v.right.claims v.work.frames v.work.drafts q d held (turned_on s) (keeps_parts v q f.after) (used_up v.identity v.start (positions_of v) v.keeping.cleaned v.right.claims v.work.frames v.work.drafts c held w d f.end (omega (arith, go)) h.settled h.limit)))
+        (shows v.identity v.start (consumers_of v) v.keeping.cleaned v.right.claims v.work.frames v.work.drafts q d held (turned_on s) (keeps_parts v q f.after) (used_up v.identity v.start (consumers_of v) v.keeping.cleaned v.right.claims v.work.frames v.work.drafts c held w d f.end (omega (arith, go)) h.settled h.limit)))
         (λ (p : PadsEnd v n tail c.count c q). let kept = padding_keeps s v.number w.stream low p.may.room (unit_of p) in
         by_case Trips AdminAction (turned_on padded_stream) (case_trips s n p.may.unclosed p.may.room p.may.below p.over) (ap (λ (x : Refusal). err x) (refusal_goes go)) (goes_on padded_stream refl go)
-        (shows v.identity v.start (positions_of v) v.keeping.cleaned (v.right.claims ++ record { start = tail; owner = v.number; cuts = ((c.count + 1) * g.term_length - tail) ∷ []; padding = true } ∷ []) (v.work.frames ++ frame_at v.identity tail (Pad ((c.count + 1) * g.term_length - tail)) ∷ []) v.work.drafts q d held (turned_on padded_stream) (pad_parts p)
-        (pad_grown v.identity v.start (positions_of v) v.keeping.cleaned v.right.claims v.work.frames v.work.drafts c held w d v.number low p.may.room (c.count + 1) h.settled h.limit (turn_keeps padded_stream kept (end_of_pad p) (omega (arith, go))))))
+        (shows v.identity v.start (consumers_of v) v.keeping.cleaned (v.right.claims ++ record { start = tail; owner = v.number; cuts = ((c.count + 1) * g.term_length - tail) ∷ []; padding = true } ∷ []) (v.work.frames ++ frame_at v.identity tail (Pad ((c.count + 1) * g.term_length - tail)) ∷ []) v.work.drafts q d held (turned_on padded_stream) (pad_parts p)
+        (pad_grown v.identity v.start (consumers_of v) v.keeping.cleaned v.right.claims v.work.frames v.work.drafts c held w d v.number low p.may.room (c.count + 1) h.settled h.limit (turn_keeps padded_stream kept (end_of_pad p) (omega (arith, go))))))
         h.how
       where
         unit_of : PadsEnd v n tail c.count c q → aligned ((c.count + 1) * g.term_length - tail) ≡ (c.count + 1) * g.term_length - tail
-        unit_of p = rest_unit v.identity v.start (positions_of v) v.keeping.cleaned v.right.claims v.work.frames v.work.drafts c held w d v.number low p.may.room
+        unit_of p = rest_unit v.identity v.start (consumers_of v) v.keeping.cleaned v.right.claims v.work.frames v.work.drafts c held w d v.number low p.may.room
 
         end_of_pad : (p : PadsEnd v n tail c.count c q) → padded_stream.tail ≡ (c.count + 1) * g.term_length
         end_of_pad p = let u = unit_of p in let r = p.may.room in omega (arith, u, r)
@@ -167,11 +166,11 @@ module _ (v : Pass) (c : Controls) (held : List (Option Held)) (w : IsWhole v c 
     ends_last : IsLast c.count → Ends v n tail c.count c.count c d q → Comes MaxPositionExceeded
     ends_last last h = ⊎_elim
         (λ (f : FindsEnd v tail c.count c q). by_case IsUsedUp MaxPositionExceeded s (case_used_up s n f.unclosed f.end) (ap (λ (x : Refusal). err x) (refusal_ends last)) (stays_on s refl last)
-        (shows v.identity v.start (positions_of v) v.keeping.cleaned v.right.claims v.work.frames v.work.drafts q d held s (keeps_parts v q f.after) (used_last v.identity v.start (positions_of v) v.keeping.cleaned v.right.claims v.work.frames v.work.drafts c held w d f.end h.settled h.limit)))
-        (λ (p : PadsEnd v n tail c.count c q). let kept = padding_keeps s v.number w.stream low p.may.room (rest_unit v.identity v.start (positions_of v) v.keeping.cleaned v.right.claims v.work.frames v.work.drafts c held w d v.number low p.may.room) in
+        (shows v.identity v.start (consumers_of v) v.keeping.cleaned v.right.claims v.work.frames v.work.drafts q d held s (keeps_parts v q f.after) (used_last v.identity v.start (consumers_of v) v.keeping.cleaned v.right.claims v.work.frames v.work.drafts c held w d f.end h.settled h.limit)))
+        (λ (p : PadsEnd v n tail c.count c q). let kept = padding_keeps s v.number w.stream low p.may.room (rest_unit v.identity v.start (consumers_of v) v.keeping.cleaned v.right.claims v.work.frames v.work.drafts c held w d v.number low p.may.room) in
         by_case Trips MaxPositionExceeded padded_stream (case_trips s n p.may.unclosed p.may.room p.may.below p.over) (ap (λ (x : Refusal). err x) (refusal_ends last)) (stays_on padded_stream refl last)
-        (shows v.identity v.start (positions_of v) v.keeping.cleaned (v.right.claims ++ record { start = tail; owner = v.number; cuts = ((c.count + 1) * g.term_length - tail) ∷ []; padding = true } ∷ []) (v.work.frames ++ frame_at v.identity tail (Pad ((c.count + 1) * g.term_length - tail)) ∷ []) v.work.drafts q d held padded_stream (pad_parts p)
-        (pad_grown v.identity v.start (positions_of v) v.keeping.cleaned v.right.claims v.work.frames v.work.drafts c held w d v.number low p.may.room c.count h.settled h.limit kept)))
+        (shows v.identity v.start (consumers_of v) v.keeping.cleaned (v.right.claims ++ record { start = tail; owner = v.number; cuts = ((c.count + 1) * g.term_length - tail) ∷ []; padding = true } ∷ []) (v.work.frames ++ frame_at v.identity tail (Pad ((c.count + 1) * g.term_length - tail)) ∷ []) v.work.drafts q d held padded_stream (pad_parts p)
+        (pad_grown v.identity v.start (consumers_of v) v.keeping.cleaned v.right.claims v.work.frames v.work.drafts c held w d v.number low p.may.room c.count h.settled h.limit kept)))
         h.how
 
     pub refused : (why : Refusal) → RefusedAlone v n tail c.count c d why q → Comes why

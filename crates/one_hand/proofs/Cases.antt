@@ -2,7 +2,7 @@
 use Rattle.std.proofs.Common.{◌≡◌, ◌∙◌, ℕ, ◌+◌, ◌-◌, ◌*◌, ◌<◌, ◌≤◌, Bool, true, false, cond, ⊎_elim, refl, arith}
 use Rattle.std.specs.Prelude.{nat_eq, nat_le}
 use Rattle.std.proofs.lemmas.Bool.{cases_lt, cond-false, cond-true, eq-eqb, eqb-false, le-leb, leb-false, leb-true, lt-leb, ne_eqb}
-use Rattle.one_hand.specs.Stream.{OfferCase, IsClosed, IsUsedUp, IsLimited, Fits, Trips, Stream, case_of, covered, room, term_of}
+use Rattle.one_hand.specs.Stream.{IsClosed, IsUsedUp, IsLimited, Fits, Trips, Stream, case_of, covered, room, term_of}
 
 module _ (s : Stream) (n : ℕ) where
   pub case_closed : s.closed ≡ true → case_of s n ≡ IsClosed

@@ -9,7 +9,7 @@ use Rattle.theory.specs.Entry.{Entry}
 use Rattle.theory.proofs.Lists.{all_weaker}
 use Rattle.theory.proofs.Places.{power_unit}
 use Rattle.one_hand.specs.Legal.{IsStream}
-use Rattle.one_hand.specs.Stream.{Stream, clean_end, kept_from, least, term_of}
+use Rattle.one_hand.specs.Stream.{Stream, clean_end, kept_from, least, lowest, standing, term_of}
 use Rattle.one_hand.specs.Shown.{kept}
 
 -- ---- entries
@@ -49,12 +49,12 @@ least_low (x ∷ xs) = fold_under x (x ∷ xs)
 -- ---- streams
 
 -- nothing is forgotten that was kept for a consumer
-pub not_back : (l : Stream) → IsStream l → 0 < length l.consumers → l.cleaned ≤ clean_end l
-not_back l is some = least_has (λ p. l.cleaned ≤ max l.start (p - term_of l)) l.consumers some is.readable
+pub not_back : (l : Stream) → IsStream l → 0 < length (standing l.consumers) → l.cleaned ≤ clean_end l
+not_back l is some = least_has (λ p. l.cleaned ≤ max l.start (p - term_of l)) (standing l.consumers) some is.readable
 
-pub cleaned_is : (l : Stream) → IsStream l → 0 < length l.consumers → IsStream (record l { cleaned = clean_end l })
+pub cleaned_is : (l : Stream) → IsStream l → 0 < length (standing l.consumers) → IsStream (record l { cleaned = clean_end l })
 cleaned_is l is some =
-    let u = least_has (λ p. p % 32 ≡ 0) l.consumers some is.consumer_units in let t = power_unit (term_of l) is.geometry.term.power is.geometry.term.least in let s = is.unit in record {
+    let u = least_has (λ p. p % 32 ≡ 0) (standing l.consumers) some is.consumer_units in let t = power_unit (term_of l) is.geometry.term.power is.geometry.term.least in let s = is.unit in record {
       geometry = is.geometry;
       identity = is.identity;
       unit = is.unit;
@@ -69,9 +69,9 @@ cleaned_is l is some =
       shares = is.shares;
       numbers = is.numbers;
       claims = λ by o e. (let x = is.claims by o e in record { entry = x.entry; short = x.short });
-      word = whole l.start (least l.consumers) (term_of l) s u t;
+      word = whole l.start (lowest l) (term_of l) s u t;
       consumer_units = is.consumer_units;
-      readable = all_weaker (λ p. least l.consumers ≤ p) (λ p. clean_end l ≤ max l.start (p - term_of l)) (λ p h. lower l.start (least l.consumers) p (term_of l) h) l.consumers (least_low l.consumers);
+      readable = all_weaker (λ p. lowest l ≤ p) (λ p. clean_end l ≤ max l.start (p - term_of l)) (λ p h. lower l.start (lowest l) p (term_of l) h) (standing l.consumers) (least_low (standing l.consumers));
     }
   where
     whole : (s p t : ℕ) → s % 32 ≡ 0 → p % 32 ≡ 0 → t % 32 ≡ 0 → max s (p - t) % 8 ≡ 0
@@ -81,5 +81,5 @@ cleaned_is l is some =
     lower s a b t le = omega arith
 
 -- the entries are those that a cleaning keeps
-pub kept_cleaned : (l : Stream) → IsStream l → 0 < length l.consumers → kept (record l { cleaned = clean_end l }) ≡ record (kept l) { cleaned = clean_end l; entries = kept_from (clean_end l) (kept l).entries }
+pub kept_cleaned : (l : Stream) → IsStream l → 0 < length (standing l.consumers) → kept (record l { cleaned = clean_end l }) ≡ record (kept l) { cleaned = clean_end l; entries = kept_from (clean_end l) (kept l).entries }
 kept_cleaned l is some = λ j. record (kept l) { cleaned = clean_end l; entries = sym (kept_twice l.cleaned (clean_end l) (not_back l is some) l.entries) j }

@@ -17,11 +17,10 @@ use Rattle.publication.specs.declared.pass.Pass.{Pass}
 use Rattle.publication.specs.Steps.{blank, with_work}
 use Rattle.publication.specs.Frames.{frame_at}
 use Rattle.publication.specs.Claims.{Fills, HasBlank}
-use Rattle.shared_log.specs.Readers.{positions_of}
 use Rattle.one_hand.specs.Legal.{IsOpenClaim, IsStream}
 use Rattle.one_hand.specs.Stream.{Aborts, Commits, OpenClaim, Stream, aborted_at, claim_by, claim_end, with_frame, without_claim}
 use Rattle.one_hand.specs.declared.log_hand.held.Held.{Held}
-use Rattle.one_hand.specs.Shown.{WholeBy, IsWhole, claim_in, entry_in, open_claim, stream_by, stream_of}
+use Rattle.one_hand.specs.Shown.{WholeBy, IsWhole, claim_in, consumers_of, entry_in, open_claim, stream_by, stream_of}
 use Rattle.publication.proofs.Contents.{IsSmall, data_said, pad_said}
 use Rattle.one_hand.proofs.Answered.{Rests}
 use Rattle.one_hand.proofs.Entries.{chained_first, data_more, from_among, pad_more}
@@ -131,7 +130,7 @@ module _ (v : Pass) (c : Controls) (held : List (Option Held)) (w : IsWhole v c 
     filled : q ≡ with_work (v.work.frames ++ frame_at v.identity h.start f ∷ []) (has_blank.front ++ has_blank.behind) v
     filled = fills has_blank.front has_blank.behind (has_blank.parts ∙ ap (λ (k : ℕ). has_blank.front ++ blank h.start k ∷ has_blank.behind) (sym size))
 
-    ended_stream : stream_by v.identity v.start (positions_of v) v.keeping.cleaned v.right.claims (v.work.frames ++ frame_at v.identity h.start f ∷ []) c later ≡ without_claim s v.number (map ch s.entries)
+    ended_stream : stream_by v.identity v.start (consumers_of v) v.keeping.cleaned v.right.claims (v.work.frames ++ frame_at v.identity h.start f ∷ []) c later ≡ without_claim s v.number (map ch s.entries)
     ended_stream = (λ j. record s { entries = entries_are j; claims = map-set claim_in held v.number None j })
 
     start_low : h.start < s.tail
@@ -146,7 +145,7 @@ module _ (v : Pass) (c : Controls) (held : List (Option Held)) (w : IsWhole v c 
         (λ same. got.1 (ap (λ (y : Entry). y.owner) (one_entry g.term_length w.stream.first s.tail s.entries (claim_of g x.start b false x.size) e w.stream.tiles w.stream.entries there.entry open_is.entry (ap (λ (y : FrameWords). y.start) same))))
         (subst (Among (blank x.start (32 + x.size))) has_blank.parts (w.begun b x got.0))
 
-    ended_whole : WholeBy v.identity v.start (positions_of v) v.keeping.cleaned v.right.claims (v.work.frames ++ frame_at v.identity h.start f ∷ []) (has_blank.front ++ has_blank.behind) c later
+    ended_whole : WholeBy v.identity v.start (consumers_of v) v.keeping.cleaned v.right.claims (v.work.frames ++ frame_at v.identity h.start f ∷ []) (has_blank.front ++ has_blank.behind) c later
     ended_whole = record {
       settled = w.settled;
       eight = length-set held v.number None ∙ w.eight;

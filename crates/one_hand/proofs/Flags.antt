@@ -1,6 +1,6 @@
 -- What another limit word makes of the stream in one hand.
-use Rattle.std.proofs.Common.{◌≡◌, ◌∙◌, ℕ, ◌+◌, ◌*◌, ◌/◌, ◌%◌, Bool, true, false, List, length, sym, ap, subst, arith}
-use Rattle.std.specs.Prelude.{Option, nat_eq}
+use Rattle.std.proofs.Common.{◌≡◌, ◌∙◌, ℕ, ◌+◌, ◌*◌, ◌/◌, ◌%◌, ◌<◌, Bool, true, false, List, length, None, Some, sym, ap, subst, arith}
+use Rattle.std.specs.Prelude.{Option, nat_eq, slice_index_or}
 use Rattle.std.proofs.lemmas.Bool.{eq-eqb, ne_eqb}
 use Rattle.theory.specs.Refusal.{is_closed, is_connected, limit_in}
 use Rattle.publication.specs.declared.pass.Controls.{Controls}
@@ -9,11 +9,11 @@ use Rattle.log_rule.specs.Claims.Handles.{PublisherValue}
 use Rattle.log_rule.specs.Keepings.{numbered, with_keeping}
 use Rattle.one_hand.proofs.InHand.{knows_by}
 use Rattle.shared_log.specs.Keepers.{closed_word, connected_word}
-use Rattle.shared_log.specs.Readers.{numbers_of, positions_of}
+use Rattle.shared_log.specs.Readers.{numbers_of}
 use Rattle.shared_log.specs.Handles.{LogValue}
 use Rattle.one_hand.specs.Stream.{Stream}
 use Rattle.one_hand.specs.declared.log_hand.held.Held.{Held}
-use Rattle.one_hand.specs.Shown.{IsWhole, kept, shares_of, stream_of}
+use Rattle.one_hand.specs.Shown.{IsWhole, consumers_of, kept, shares_of, stream_of}
 use Rattle.one_hand.specs.Hands.{stream_in}
 use Rattle.one_hand.specs.Parts.{Numbers, Stands}
 use Rattle.one_hand.specs.Keepings.{MayKeep, SetsLimit}
@@ -79,17 +79,17 @@ module _ (l : LogValue) (p : PublisherValue) (held : List (Option Held)) (n : Nu
           whole = subst (λ (x : Pass × Controls). IsWhole x.0 x.1 held) (λ j. (sym is j, sym same j)) whole;
           all = record {
             parts = ap (λ (x : Pass). x.right.parts) is ∙ st.hand.all.parts;
-            numbers = ap numbers_of is ∙ st.hand.all.numbers;
-            there = ap (λ (x : Pass). numbered 0 x.keeping.there) is ∙ st.hand.all.there;
-            few = st.hand.all.few;
-            any = st.hand.all.any;
+            numbers = subst (λ (x : Pass). numbers_of x ≡ numbered 0 x.keeping.there) (sym is) st.hand.all.numbers;
+            eight = ap (λ (x : Pass). length x.keeping.there) is ∙ st.hand.all.eight;
+            some = subst (λ (x : Pass). 0 < length x.reading) (sym is) st.hand.all.some;
             keeper = ap (λ (x : Pass). x.keeping.right) is ∙ st.hand.all.keeper;
             limit = ap (λ (x : Pass). x.keeping.limit) is ∙ ap (λ (x : Controls). x.limit) (sym same);
           };
         };
         numbers = record {
           shares = st.numbers.shares ∙ ap (λ (x : Pass). shares_of x.right.claims) (sym is);
-          positions = st.numbers.positions ∙ ap (λ (x : Pass). positions_of x) (sym is);
+          places = st.numbers.places;
+          positions = λ k at e. st.numbers.positions k at (subst (λ (x : Pass). slice_index_or (consumers_of x) k None ≡ Some at) is e);
           limit = k.answer_is ∙ ap (λ (x : Pass). x.keeping.limit) (sym is);
           cleaned = st.numbers.cleaned ∙ ap (λ (x : Pass). x.keeping.cleaned) (sym is);
           knows = knows_by p.pass q.pass n.there (ap (λ (x : Pass). x.keeping.there) is) (ap (λ (x : Pass). length x.keeping.positions) is ∙ st.numbers.knows.eight) st.numbers.knows;

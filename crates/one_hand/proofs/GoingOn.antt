@@ -1,22 +1,19 @@
 -- What a reader's step past a frame comes to in one hand.
-use Rattle.std.proofs.Common.{◌≡◌, ◌∙◌, ℕ, take, zero, suc, ◌+◌, ◌-◌, ◌%◌, ◌<◌, ◌≤◌, inl, inr, ⊎_elim, max, List, [], ◌∷◌, map, length, Some, refl, sym, ap, subst, arith}
-use Rattle.std.specs.Prelude.{false, Option, slice_get, slice_index, slice_set}
+use Rattle.std.proofs.Common.{◌≡◌, ◌∙◌, ℕ, zero, suc, ◌+◌, ◌%◌, ◌<◌, ◌≤◌, inl, inr, ⊎_elim, List, [], ◌∷◌, map, length-set, None, Some, refl, sym, ap, subst, arith}
+use Rattle.std.specs.Prelude.{false, Option, slice_get, slice_index, slice_index_or, slice_set}
 use Rattle.std.specs.List.{AllByRecursion}
 use Rattle.std.proofs.lemmas.Bool.{cases_lt}
-use Rattle.std.proofs.lemmas.List.{get_or-set_same}
-use Rattle.std.proofs.Math.Seq.{take-set-lt}
 use Rattle.theory.specs.Position.{IsGeometry, aligned}
 use Rattle.theory.specs.Placed.{Among, Frame, Placed, frame_length, place_all}
 use Rattle.theory.specs.Placed as frames
 use Rattle.theory.specs.Entry.{Entry, IsEntry, committed, entry_end}
 use Rattle.theory.proofs.Frames.{are_cut, committed_below, in_order_from, placed_below, placed_in_order}
 use Rattle.theory.specs.Tiling.{Tiles}
-use Rattle.theory.proofs.Lists.{all_at, among_cases, all_set}
+use Rattle.theory.proofs.Lists.{all_at, among_cases}
 use Rattle.theory.proofs.Single.{one_at}
 use Rattle.position.specs.declared.head.FrameHead.{FrameHead}
 use Rattle.theory.specs.Bytes.{Identity}
 use Rattle.frame_source.specs.Sources.{HasFrame}
-use Rattle.publication.specs.declared.pass.Controls.{Controls}
 use Rattle.publication.specs.declared.pass.FrameWords.{FrameWords}
 use Rattle.publication.specs.declared.pass.Pass.{Pass}
 use Rattle.log_rule.specs.Claims.Handles.{PublisherValue}
@@ -27,28 +24,26 @@ use Rattle.shared_log.specs.Readers as reading
 use Rattle.shared_log.specs.Readers.{OnlyReads, ReaderValue, SameSeat, positions_of}
 use Rattle.shared_log.proofs.Finding.{content_is}
 use Rattle.one_hand.specs.Entries.{claim_of}
-use Rattle.one_hand.specs.Legal.{IsStream}
 use Rattle.one_hand.specs.Reads.{Advances, source_of}
-use Rattle.one_hand.specs.Stream.{Stream, kept_from, position_of, with_consumer}
+use Rattle.one_hand.specs.Stream.{HasConsumer, Stream, consumer_at, kept_from, position_in, position_of, with_consumer}
 use Rattle.one_hand.proofs.Keeps.{one_entry}
 use Rattle.one_hand.specs.declared.log_hand.held.Held.{Held}
 use Rattle.one_hand.specs.Hands.{IsInHand, stream_in}
-use Rattle.one_hand.specs.Shown.{WholeBy, shares_of, claim_in, entry_in, kept, open_claim, spans, stream_of}
+use Rattle.one_hand.specs.Shown.{claim_in, consumers_of, entry_in, open_claim, seated, shares_of, spans}
 use Rattle.one_hand.specs.Parts.{Numbers, Stands}
 use Rattle.one_hand.specs.Passings.{HasHere, Passed}
-use Rattle.one_hand.specs.Readers.{reader_of}
+use Rattle.one_hand.specs.Readers.{below, reader_of}
+use Rattle.one_hand.specs.declared.log_hand.consumer.Consumer.{Consumer}
+use Rattle.shared_log.specs.Keepers.{flag_of}
 use Rattle.one_hand.proofs.Forgetting.{kept_among}
 use Rattle.one_hand.proofs.Found.{placed_of}
-use Rattle.one_hand.proofs.Standing.{known_in, one_of, same_place}
-use Rattle.log_rule.specs.Keepings.{numbered}
-use Rattle.one_hand.proofs.InHand.{is_stream, knows_on, stood_count}
+use Rattle.one_hand.proofs.Standing.{one_of}
+use Rattle.one_hand.proofs.Moved as moved
+use Rattle.one_hand.proofs.Moved.{Reseats, reading_only, stand_at, stands_with}
+use Rattle.one_hand.proofs.Seats.{seat_low, seat_moved, seat_places, seat_set, seats_many}
+use Rattle.one_hand.proofs.InHand.{is_stream, knows_on}
 
 -- ---- lists
-
-at_index : (P : ℕ → Type 0) (xs : List ℕ) (i : ℕ) → AllByRecursion P xs → i < length xs → P (slice_index xs i)
-at_index P [] i h lt = absurd (omega (arith, lt))
-at_index P (x ∷ xs) zero h lt = h.0
-at_index P (x ∷ xs) (suc i) h lt = at_index P xs i h.1 (omega (arith, lt))
 
 held_claim : (held : List (Option Held)) (by : ℕ) (h : Held) → slice_get held by ≡ Some (Some h) → slice_get (map claim_in held) by ≡ Some (Some (open_claim h))
 held_claim [] by h e = absurd (cc)
@@ -96,55 +91,6 @@ module _ (l : LogValue) (p : PublisherValue) (held : List (Option Held)) (hand :
   abbrev all : List Entry
   all = map (entry_in p.pass.work.frames) p.pass.right.claims
 
-  -- where the readers may stand
-  abbrev IsStand : ℕ → Type 0
-  IsStand x = (x % 32 ≡ 0) × (p.pass.keeping.cleaned ≤ max p.pass.start (x - t)) × (p.pass.start ≤ x) × (x ≤ tail) × ((by : ℕ) (h : Held) → slice_get held by ≡ Some (Some h) → x ≤ h.start)
-
-  stands_at : (k : ℕ) → k < l.consumers → IsStand (slice_index (positions_of p.pass) k)
-  stands_at k lt =
-      let w = hand.whole in let n = stood_count l p.pass p.controls hand.all in let low : k < length (positions_of p.pass) = omega (arith, lt, n) in
-      let r = at_index (λ x. (p.pass.start ≤ x) × (x ≤ tail)) (positions_of p.pass) k w.reached low in
-      (at_index (λ x. x % 32 ≡ 0) (positions_of p.pass) k w.stream.consumer_units low, at_index (λ x. p.pass.keeping.cleaned ≤ max p.pass.start (x - t)) (positions_of p.pass) k w.stream.readable low, r.0, r.1, λ by h at. at_index (λ x. x ≤ h.start) (positions_of p.pass) k (w.above by h at) low)
-
-  -- its consumers stand there
-  module _ (q : PublisherValue) (seat : SameSeat p q) (only : OnlyReads p.pass q.pass) (ps : List ℕ) (stand : positions_of q.pass ≡ ps) (units : AllByRecursion (λ x. x % 32 ≡ 0) ps) (readable : AllByRecursion (λ x. p.pass.keeping.cleaned ≤ max p.pass.start (x - t)) ps)
-      (reached : AllByRecursion (λ x. (p.pass.start ≤ x) × (x ≤ tail)) ps) (above : (by : ℕ) (h : Held) → slice_get held by ≡ Some (Some h) → AllByRecursion (λ x. x ≤ h.start) ps) where
-    controls_same : q.controls ≡ p.controls
-    controls_same = seat.controls hand.free.sure
-
-    abbrev moved : Stream
-    moved = record (stream_of p.pass p.controls held) { consumers = ps }
-
-    shown_moved : stream_of q.pass q.controls held ≡ moved
-    shown_moved = (λ j. record (stream_of (only.rest j) (controls_same j) held) { consumers = stand j })
-
-    moved_is : IsStream moved
-    moved_is = let is = hand.whole.stream in record { geometry = is.geometry; identity = is.identity; unit = is.unit; below = is.below; from = is.from; to = is.to; last = is.last; first = is.first; tiles = is.tiles; entries = is.entries; eight = is.eight; shares = is.shares; numbers = is.numbers; claims = λ by c h. (let o = is.claims by c h in record { entry = o.entry; short = o.short }); word = is.word; consumer_units = units; readable = readable }
-
-    abbrev Whole : Pass → Controls → List ℕ → Type 0
-    Whole x c xs = WholeBy x.identity x.start xs x.keeping.cleaned x.right.claims x.work.frames x.work.drafts c held
-
-    whole_moved : Whole p.pass p.controls ps
-    whole_moved = let w = hand.whole in record { settled = w.settled; eight = w.eight; follow = w.follow; past = w.past; chained = w.chained; begun = w.begun; above = above; reached = reached; stream = moved_is }
-
-    back : IsInHand l q held
-    back = let of = hand.free.of in let a = hand.all in record {
-      free = record { of = record { table = seat.of ∙ of.table; identity = ap (λ (x : Pass). x.identity) only.rest ∙ of.identity; start = ap (λ (x : Pass). x.start) only.rest ∙ of.start }; sure = seat.sure ∙ hand.free.sure; parts = ap (λ (x : Pass). x.right.parts) only.rest ∙ hand.all.parts; idle = ap (λ (x : Pass). x.right.armed) only.rest ∙ hand.free.idle };
-      whole = subst (λ (z : Pass × Controls × List ℕ). Whole z.0 z.1 z.2) (λ j. (sym only.rest j, sym controls_same j, sym stand j)) whole_moved;
-      all = record {
-        parts = ap (λ (x : Pass). x.right.parts) only.rest ∙ a.parts;
-        numbers = only.numbers ∙ a.numbers;
-        there = ap (λ (x : Pass). numbered 0 x.keeping.there) only.rest ∙ a.there;
-        few = a.few;
-        any = a.any;
-        keeper = ap (λ (x : Pass). x.keeping.right) only.rest ∙ a.keeper;
-        limit = ap (λ (x : Pass). x.keeping.limit) only.rest ∙ a.limit ∙ ap (λ (c : Controls). c.limit) (sym controls_same);
-      };
-    }
-
-    shows : stream_in q held ≡ kept moved
-    shows = ap kept shown_moved
-
   abbrev shown : List Placed
   shown = committed (kept_from p.pass.keeping.cleaned all)
 
@@ -154,26 +100,23 @@ module _ (l : LogValue) (p : PublisherValue) (held : List (Option Held)) (hand :
   shape : l.identity ≡ p.pass.identity
   shape = sym hand.free.of.identity
 
-  module _ (k : ℕ) (low : k < l.consumers) where
-    abbrev position : ℕ
-    position = slice_index (positions_of p.pass) k
-
+  module _ (k : ℕ) (there : HasConsumer (stream_in p held) k) (c : Consumer) (place_is : c.place ≡ below p.pass.keeping.there k) (position_is : c.position ≡ position_of (stream_in p held) k) where
     abbrev r : ReaderValue
-    r = reader_of p k position
+    r = reader_of p c
 
     -- past the frame that was read
-    module _ (r1 r2 : ReaderValue) (head : FrameHead) (before after : List ℕ) (has : HasFrame (source_of (stream_in p held) k) (position_of (stream_in p held) k)) (h : reading.ReadsFrame l (reader_of p k position) head before r1 after) (a : reading.Advances r1 r2) where
+    module _ (r1 r2 : ReaderValue) (head : FrameHead) (before after : List ℕ) (has : HasFrame (source_of (stream_in p held) k) (position_of (stream_in p held) k)) (h : reading.ReadsFrame l (reader_of p c) head before r1 after) (a : reading.Advances r1 r2) where
       abbrev stays : reading.Stays r r1
       stays = h.finds.stays
 
       abbrev stood : Placed
-      stood = record { at = r.position; frame = has.frame }
+      stood = record { at = position_of (stream_in p held) k; frame = has.frame }
 
       abbrev one : (f : FrameWords) × Among f p.pass.work.frames × (stood ≡ placed_of f)
       one = one_of l p held hand stood has.among
 
       begins : one.0.start ≡ r.position
-      begins = sym (ap (λ (x : Placed). x.at) one.2)
+      begins = sym (ap (λ (x : Placed). x.at) one.2) ∙ sym position_is
 
       at1 : r1.position ≡ r.position
       at1 = ap (λ (z : ReaderValue). z.position) stays.same
@@ -201,24 +144,24 @@ module _ (l : LogValue) (p : PublisherValue) (held : List (Option Held)) (hand :
           let w = hand.whole in let c = w.stream.claims by (open_claim x) (held_claim held by x holds) in let e : Entry = claim_of p.pass.identity.geometry x.start by false x.size in
           let d = of_entry (kept_from p.pass.keeping.cleaned all) stood has.among in
           let d_among : Among d.entry all = kept_among p.pass.keeping.cleaned all d.entry d.among in
-          let from : d.entry.start ≤ r.position = in_order_from d.entry.start (place_all d.entry.start d.entry.frames) stood (placed_in_order d.entry.start d.entry.frames) d.placed_there in
+          let from : d.entry.start ≤ position_of (stream_in p held) k = in_order_from d.entry.start (place_all d.entry.start d.entry.frames) stood (placed_in_order d.entry.start d.entry.frames) d.placed_there in
           let entry = all_at IsEntry d.entry all w.stream.entries d_among in
           let inside : frames.end_of stood ≤ entry_end d.entry = all_at (λ (s : Placed). frames.end_of s ≤ entry_end d.entry) stood (place_all d.entry.start d.entry.frames) (placed_below d.entry.start d.entry.cuts d.entry.frames (are_cut d.entry.padding d.entry.cuts d.entry.frames entry.frames)) d.placed_there in
-          let le : r.position ≤ x.start = (stands_at k low).4 by x holds in
+          let le : position_of (stream_in p held) k ≤ x.start = (stand_at l p held hand k (position_of (stream_in p held) k) there).claims by x holds in
           ⊎_elim
           (λ (lt : d.entry.start < e.start). let b = behind_entry t w.stream.first tail all d.entry e w.stream.tiles w.stream.entries d_among c.entry lt in omega (arith, end_is, inside, b))
           (λ (ge : e.start ≤ d.entry.start). absurd (subst (λ (y : Entry). Among stood (place_all y.start y.frames)) (one_entry t w.stream.first tail all d.entry e w.stream.tiles w.stream.entries d_among c.entry (omega (arith, from, le, ge))) d.placed_there))
           (cases_lt d.entry.start e.start)
 
-      further : IsStand r2.position
+      further : moved.IsStand l p held hand r2.position
       further =
-          let s = stands_at k low in let s0 = s.0 in let s1 = s.1 in let s2 = s.2 in let e : r2.position ≡ r.position + aligned (frame_length has.frame) = end_is in
-          (unit r2.position r.position (frame_length has.frame) e s0, omega (arith, e, s1), omega (arith, e, s2), below_tail, below_open)
+          let s = stand_at l p held hand k (position_of (stream_in p held) k) there in let s0 = s.unit in let s1 = s.readable in let s2 = s.from in let e : r2.position ≡ position_of (stream_in p held) k + aligned (frame_length has.frame) = end_is in
+          record { unit = unit r2.position (position_of (stream_in p held) k) (frame_length has.frame) e s0; readable = omega (arith, e, s1); from = omega (arith, e, s2); to = below_tail; claims = below_open }
         where
           unit : (e x n : ℕ) → e ≡ x + aligned n → x % 32 ≡ 0 → e % 32 ≡ 0
           unit e x n same even = omega (arith, same, even)
 
-      goes : SameSeat p r2.held × OnlyReads p.pass r2.held.pass × (positions_of r2.held.pass ≡ slice_set (positions_of p.pass) k r2.position)
+      goes : SameSeat p r2.held × OnlyReads p.pass r2.held.pass × (positions_of r2.held.pass ≡ slice_set (positions_of p.pass) c.place r2.position)
       goes =
           let s = stays.seat in let b = a.seat in let sure1 : r1.held.sure ≡ 1 = s.sure ∙ hand.free.sure in (
             record { of = b.of ∙ s.of; seat = b.seat ∙ s.seat; sure = b.sure ∙ s.sure; controls = λ sure. b.controls sure1 ∙ s.controls sure },
@@ -226,63 +169,67 @@ module _ (l : LogValue) (p : PublisherValue) (held : List (Option Held)) (hand :
             a.positions ∙ (λ j. slice_set (stays.positions j) ((stays.same j).place) ((sym (ap (λ (z : ReaderValue). z.position) a.same)) j)),
           )
 
-      abbrev ps : List ℕ
-      ps = slice_set (positions_of p.pass) k r2.position
+      abbrev cs : List (Option ℕ)
+      cs = slice_set (consumers_of p.pass) k (Some r2.position)
 
-      each : (P : ℕ → Type 0) → P r2.position → AllByRecursion P (positions_of p.pass) → AllByRecursion P ps
-      each P h all' = all_set P (positions_of p.pass) k r2.position h all'
+      seats : seated p.pass.keeping.there (positions_of r2.held.pass) ≡ cs
+      seats =
+          ap (seated p.pass.keeping.there) (goes.2 ∙ ap (λ (i : ℕ). slice_set (positions_of p.pass) i r2.position) place_is)
+          ∙ seat_moved p.pass.keeping.there p.pass.reading 0 k (position_of (stream_in p held) k) r2.position hand.all.numbers there
+
+      others : Reseats p r2.held cs
+      others = reading_only p r2.held goes.0 goes.1 hand.free.sure hand.all cs seats
 
       goes_on : Advances (stream_in p held) k r2.position (stream_in r2.held held) × IsInHand l r2.held held
       goes_on =
-          let w = hand.whole in let f = further in
-          let units = each (λ x. x % 32 ≡ 0) f.0 w.stream.consumer_units in
-          let readable = each (λ x. p.pass.keeping.cleaned ≤ max p.pass.start (x - t)) f.1 w.stream.readable in
-          let reached = each (λ x. (p.pass.start ≤ x) × (x ≤ tail)) (f.2, f.3) w.reached in
-          let above : (by : ℕ) (x : Held) → slice_get held by ≡ Some (Some x) → AllByRecursion (λ y. y ≤ x.start) ps = λ by x holds. each (λ y. y ≤ x.start) (f.4 by x holds) (w.above by x holds) in
-          let after : stream_in r2.held held ≡ with_consumer (stream_in p held) k r2.position = shows r2.held goes.0 goes.1 ps goes.2 units readable reached above in
-          let n = stood_count l p.pass p.controls hand.all in (
+          let s = stands_with l p held hand k r2.position further in
+          let after : stream_in r2.held held ≡ with_consumer (stream_in p held) k r2.position = moved.shows l p held hand r2.held cs others s in
+          let here : consumer_at (with_consumer (stream_in p held) k r2.position) k ≡ Some r2.position = seat_set (consumers_of p.pass) k (Some r2.position) (let e = seats_many p.pass.keeping.there (positions_of p.pass) in let low = seat_low p.pass.keeping.there (positions_of p.pass) k (position_of (stream_in p held) k) there in omega (arith, e, low)) in (
             record {
               passes = record {
                 behind = λ s among at. end_is ∙ ap frames.end_of (one_shown stood s has.among among (sym at));
-                moved = ap (λ (x : Stream). source_of x k) after ∙ ap (λ (x : ℕ). record (source_of (stream_in p held) k) { position = x }) (get_or-set_same (positions_of p.pass) k r2.position 0 (omega (arith, low, n)));
+                moved = ap (λ (x : Stream). source_of x k) after ∙ ap (λ (x : Option ℕ). record (source_of (stream_in p held) k) { position = position_in x }) here;
               };
               after = after;
             },
-            back r2.held goes.0 goes.1 ps goes.2 units readable reached above,
+            moved.back l p held hand r2.held cs others s,
           )
 
 -- ---- what a hand has
 
-module _ (l : LogValue) (p : PublisherValue) (held : List (Option Held)) (n : Numbers) (st : Stands l p held n) (number position : ℕ) (now : Stream) (e : stream_in p held ≡ now) (lt : number < length now.consumers) (stands : slice_index n.positions number ≡ position) where
-  known : number < l.consumers
-  known = known_in l p held st.hand now number e lt
+module _ (l : LogValue) (p : PublisherValue) (held : List (Option Held)) (n : Numbers) (st : Stands l p held n) (c : Consumer) (now : Stream) (e : stream_in p held ≡ now) (number : ℕ) (there : HasConsumer now number) (place_is : c.place ≡ below (map flag_of n.there) number) (position_is : c.position ≡ slice_index n.positions number) where
+  has : HasConsumer (stream_in p held) number
+  has = subst (λ (x : Stream). HasConsumer x number) (sym e) there
 
-  at_place : slice_index (positions_of p.pass) number ≡ position
-  at_place = sym (same_place l p held st.hand n.positions number st.numbers.positions known) ∙ stands
+  stands_here : c.position ≡ position_of (stream_in p held) number
+  stands_here = position_is ∙ st.numbers.positions number (position_of (stream_in p held) number) has
+
+  place : c.place ≡ below p.pass.keeping.there number
+  place = place_is ∙ ap (λ (flags : List ℕ). below flags number) (sym st.numbers.knows.flags)
 
   has_frame : HasFrame (source_of now number) (position_of now number) → HasFrame (source_of (stream_in p held) number) (position_of (stream_in p held) number)
-  has_frame has = subst (λ (x : Stream). HasFrame (source_of x number) (position_of x number)) (sym e) has
+  has_frame f = subst (λ (x : Stream). HasFrame (source_of x number) (position_of x number)) (sym e) f
 
   -- a frame of the pass begins where the reader stands
-  pub has_here : HasFrame (source_of now number) (position_of now number) → HasHere p position
-  has_here has =
-      let h = has_frame has in let f = one_of l p held st.hand (record { at = slice_index (positions_of p.pass) number; frame = h.frame }) h.among in
-      record { frame = f.0; among = f.1; here = sym (ap (λ (x : Placed). x.at) f.2) ∙ at_place }
+  pub has_here : HasFrame (source_of now number) (position_of now number) → HasHere p c.position
+  has_here f =
+      let h = has_frame f in let g = one_of l p held st.hand (record { at = position_of (stream_in p held) number; frame = h.frame }) h.among in
+      record { frame = g.0; among = g.1; here = sym (ap (λ (x : Placed). x.at) g.2) ∙ sym stands_here }
 
-  pub passes : (before : List ℕ) (q : PublisherValue) (end : ℕ) → HasFrame (source_of now number) (position_of now number) → Passed l p number position before q end → Advances now number end (stream_in q held) × Stands l q held (record n { positions = slice_set n.positions number end })
-  passes before q end has h =
-      let reads : reading.ReadsFrame l (reader_of p number (slice_index (positions_of p.pass) number)) h.head before h.between h.after = subst (λ (x : ℕ). reading.ReadsFrame l (reader_of p number x) h.head before h.between h.after) (sym at_place) h.reads in
-      let g = goes_on l p held st.hand number known h.between h.reader h.head before h.after (has_frame has) reads h.advances in
-      let moves = goes l p held st.hand number known h.between h.reader h.head before h.after (has_frame has) reads h.advances in
+  pub passes : (before : List ℕ) (q : PublisherValue) (end : ℕ) → HasFrame (source_of now number) (position_of now number) → Passed l p c before q end → Advances now number end (stream_in q held) × Stands l q held (record n { positions = slice_set n.positions number end })
+  passes before q end f h =
+      let g = goes_on l p held st.hand number has c place stands_here h.between h.reader h.head before h.after (has_frame f) h.reads h.advances in
+      let moves = goes l p held st.hand number has c place stands_here h.between h.reader h.head before h.after (has_frame f) h.reads h.advances in
+      let seats_are = seats l p held st.hand number has c place stands_here h.between h.reader h.head before h.after (has_frame f) h.reads h.advances in
       let was = st.numbers in let rest = moves.1.rest in
-      let stood : take l.consumers (slice_set n.positions number h.reader.position) ≡ positions_of h.reader.held.pass = take-set-lt l.consumers n.positions number h.reader.position known ∙ ap (λ (xs : List ℕ). slice_set xs number h.reader.position) was.positions ∙ sym moves.2 in
       let all' : Advances now number h.reader.position (stream_in h.reader.held held) × Stands l h.reader.held held (record n { positions = slice_set n.positions number h.reader.position }) = (
         subst (λ (x : Stream). Advances x number h.reader.position (stream_in h.reader.held held)) e g.0,
         record {
           hand = g.1;
           numbers = record {
             shares = was.shares ∙ ap (λ (x : Pass). shares_of x.right.claims) (sym rest);
-            positions = stood;
+            places = length-set n.positions number h.reader.position ∙ was.places;
+            positions = λ j at x. seat_places (consumers_of p.pass) n.positions number h.reader.position (let a = seats_many p.pass.keeping.there (positions_of p.pass) in let b = st.hand.all.eight in let d = was.places in omega (arith, a, b, d)) was.positions j at (subst (λ (cs : List (Option ℕ)). slice_index_or cs j None ≡ Some at) ((λ i. seated ((ap (λ (v : Pass). v.keeping.there) rest) i) (positions_of h.reader.held.pass)) ∙ seats_are) x);
             limit = was.limit ∙ ap (λ (x : Pass). x.keeping.limit) (sym rest);
             cleaned = was.cleaned ∙ ap (λ (x : Pass). x.keeping.cleaned) (sym rest);
             knows = knows_on p.pass h.reader.held.pass n.there (ap (λ (x : Pass). x.keeping) rest) was.knows;

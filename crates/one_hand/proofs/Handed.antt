@@ -21,7 +21,7 @@ use Rattle.publication.specs.Steps.{blank}
 use Rattle.publication.specs.Frames.{frame_at, message_frames}
 use Rattle.publication.specs.Alone.{Settled}
 use Rattle.one_hand.specs.Legal.{IsStream}
-use Rattle.one_hand.specs.Stream.{OpenClaim, Stream, covered, with_claim, with_entry, with_message, with_padding}
+use Rattle.one_hand.specs.Stream.{OpenClaim, Stream, covered, standing, with_claim, with_entry, with_message, with_padding}
 use Rattle.one_hand.specs.declared.log_hand.held.Held.{Held}
 use Rattle.publication.specs.Contents.{frame_in}
 use Rattle.one_hand.specs.Shown.{Chained, WholeBy, claim_in, end_of, entry_in, open_claim, shares_of, spans, stream_by}
@@ -32,7 +32,7 @@ use Rattle.one_hand.proofs.Keeps.{claim_keeps, message_keeps, payload_sum, set_g
 
 -- ---- claims more
 
-module _ (i : Identity) (start : ℕ) (ps : List ℕ) (z : ℕ) (cs : List ClaimRange) (fs ds : List FrameWords) (c : Controls) (held : List (Option Held)) (w : WholeBy i start ps z cs fs ds c held) where
+module _ (i : Identity) (start : ℕ) (ps : List (Option ℕ)) (z : ℕ) (cs : List ClaimRange) (fs ds : List FrameWords) (c : Controls) (held : List (Option Held)) (w : WholeBy i start ps z cs fs ds c held) where
   abbrev g : Geometry
   g = i.geometry
 
@@ -83,7 +83,7 @@ module _ (i : Identity) (start : ℕ) (ps : List ℕ) (z : ℕ) (cs : List Claim
   -- what else holds then
   whole_grown : (d : Controls) (cl : ClaimRange) (new drafts : List FrameWords) (later : List (Option Held)) (bytes count : ℕ) → cl.start ≡ tail → span cl.cuts ≡ bytes → 0 < span cl.cuts → AllByRecursion (λ f. (cl.start ≤ f.start) × (f.start < end_of cl)) new → Chained cl.start new
       → Settled g (tail + bytes) count d → d.count ≡ count → length later ≡ 8 → ((by : ℕ) (h : Held) → slice_get later by ≡ Some (Some h) → Among (blank h.start (32 + h.size)) drafts)
-      → ((by : ℕ) (h : Held) → slice_get later by ≡ Some (Some h) → AllByRecursion (λ p. p ≤ h.start) ps) → IsStream (stream_by i start ps z (cs ++ cl ∷ []) (fs ++ new) d later) → WholeBy i start ps z (cs ++ cl ∷ []) (fs ++ new) drafts d later
+      → ((by : ℕ) (h : Held) → slice_get later by ≡ Some (Some h) → AllByRecursion (λ p. p ≤ h.start) (standing ps)) → IsStream (stream_by i start ps z (cs ++ cl ∷ []) (fs ++ new) d later) → WholeBy i start ps z (cs ++ cl ∷ []) (fs ++ new) drafts d later
   whole_grown d cl new drafts later bytes count at size long inside mine settled counts eight open' higher stream =
       let sum : start + spans (cs ++ cl ∷ []) ≡ tail + bytes = (let e = sum_more cs cl in omega (arith, e, size)) in
       record {
@@ -96,7 +96,7 @@ module _ (i : Identity) (start : ℕ) (ps : List ℕ) (z : ℕ) (cs : List Claim
         chained = chained_more start fs new cs cl w.follow at before inside mine w.chained;
         begun = open';
         above = higher;
-        reached = subst (λ (n : ℕ). AllByRecursion (λ p. (start ≤ p) × (p ≤ n)) ps) (sym sum) (all_weaker (λ p. (start ≤ p) × (p ≤ tail)) (λ p. (start ≤ p) × (p ≤ tail + bytes)) (λ p h. let u = h.1 in (h.0, omega (arith, u))) ps w.reached);
+        reached = subst (λ (n : ℕ). AllByRecursion (λ p. (start ≤ p) × (p ≤ n)) (standing ps)) (sym sum) (all_weaker (λ p. (start ≤ p) × (p ≤ tail)) (λ p. (start ≤ p) × (p ≤ tail + bytes)) (λ p h. let u = h.1 in (h.0, omega (arith, u))) (standing ps) w.reached);
         stream = stream;
       }
 
@@ -136,7 +136,7 @@ module _ (i : Identity) (start : ℕ) (ps : List ℕ) (z : ℕ) (cs : List Claim
               (λ (q : slice_get held b ≡ Some (Some x)). among_left (blank x.start (32 + x.size)) ds (blank tail (32 + n) ∷ []) (w.begun b x q))
               (set_get held by b (Some h) (Some x) e))
               (λ b x e. ⊎_elim
-              (λ (q : (b ≡ by) × (Some h ≡ Some x)). let one : h ≡ x = (let o = q.1 in cc) in subst (λ (n : ℕ). AllByRecursion (λ p. p ≤ n) ps) (sym at ∙ ap (λ (y : Held). y.start) one) (all_weaker (λ p. (start ≤ p) × (p ≤ tail)) (λ p. p ≤ tail) (λ p r. r.1) ps w.reached))
+              (λ (q : (b ≡ by) × (Some h ≡ Some x)). let one : h ≡ x = (let o = q.1 in cc) in subst (λ (n : ℕ). AllByRecursion (λ p. p ≤ n) (standing ps)) (sym at ∙ ap (λ (y : Held). y.start) one) (all_weaker (λ p. (start ≤ p) × (p ≤ tail)) (λ p. p ≤ tail) (λ p r. r.1) (standing ps) w.reached))
               (λ (q : slice_get held b ≡ Some (Some x)). w.above b x q)
               (set_get held by b (Some h) (Some x) e))
               (subst IsStream (sym all) keeps),

@@ -1,6 +1,6 @@
 -- What a hand holds beside its log is right behind each call.
 use Rattle.std.proofs.Common.{◌≡◌, ◌∙◌, ℕ, zero, suc, ◌+◌, ◌-◌, ◌<◌, ◌≤◌, List, [], ◌∷◌, map, Some, None, sym, ap, subst, arith}
-use Rattle.std.specs.Prelude.{Err, IfErr, IfOk, Ok, Option, Result, slice_index, slice_set, sum}
+use Rattle.std.specs.Prelude.{Err, IfErr, IfOk, Ok, Option, Result, slice_index, slice_index_or, slice_set, sum}
 use Rattle.std.proofs.lemmas.List.{get_or-set_same}
 use Rattle.std.proofs.lemmas.List.Sums.{sum_by-cons}
 use Rattle.publication.specs.declared.pass.ClaimRange.{ClaimRange}
@@ -15,8 +15,8 @@ use Rattle.one_hand.specs.Legal.{IsStream}
 use Rattle.one_hand.specs.Stream.{Stream}
 use Rattle.one_hand.proofs.InHand.{is_stream, knows_on}
 use Rattle.one_hand.specs.declared.log_hand.held.Held.{Held}
-use Rattle.one_hand.specs.Shown.{shares_of}
-use Rattle.one_hand.specs.Hands.{Claims, ClaimsNone, IsEnd, IsInHand, Shares, range, stream_in}
+use Rattle.one_hand.specs.Shown.{consumers_of, seated, shares_of}
+use Rattle.one_hand.specs.Hands.{Claims, ClaimsNone, IsEnd, IsInHand, SameRest, Shares, range, stream_in}
 use Rattle.one_hand.specs.Parts.{AreNumbers, IsHand, Numbers, Stands, stream_at}
 
 -- the pass that was taken out is the one that was there
@@ -37,6 +37,10 @@ at_most [] k = omega arith
 at_most (x ∷ xs) zero = let e = sum_by-cons (λ (y : ℕ). y) x xs in omega arith
 at_most (x ∷ xs) (suc k) = let e = sum_by-cons (λ (y : ℕ). y) x xs in let h = at_most xs k in omega arith
 
+-- its consumers stand where they stood
+still : {l : LogValue} (p q : PublisherValue) (n : Numbers) → AreNumbers l p n → SameRest p q → (k at : ℕ) → slice_index_or (consumers_of q.pass) k None ≡ Some at → slice_index n.positions k ≡ at
+still p q n was rest k at e = was.positions k at (subst (λ (cs : List (Option ℕ)). slice_index_or cs k None ≡ Some at) (λ j. seated ((rest.keeping j).there) (map (λ (x : Reading). x.position) (rest.reading j))) e)
+
 module _ (l : LogValue) (p q : PublisherValue) (held : List (Option Held)) (number : ℕ) (low : number < 8) (n : Numbers) (was : AreNumbers l p n) (r : Shares p number q) (hand : IsInHand l q held) where
   pub share_fits : slice_index n.shares number + (claimed_bytes q.pass - claimed_bytes p.pass) ≤ claimed_bytes q.pass
   share_fits =
@@ -51,7 +55,8 @@ module _ (l : LogValue) (p q : PublisherValue) (held : List (Option Held)) (numb
     hand = hand;
     numbers = record {
       shares = ap (λ (xs : List ℕ). with_share xs number (claimed_bytes q.pass - claimed_bytes p.pass)) was.shares ∙ sym r.shares;
-      positions = was.positions ∙ ap (λ (rs : List Reading). map (λ x. x.position) rs) (sym r.rest.reading);
+      places = was.places;
+      positions = still p q n was r.rest;
       limit = was.limit ∙ ap (λ (k : Keeping). k.limit) (sym r.rest.keeping);
       cleaned = was.cleaned ∙ ap (λ (k : Keeping). k.cleaned) (sym r.rest.keeping);
       knows = knows_on p.pass q.pass n.there r.rest.keeping was.knows;
@@ -70,7 +75,8 @@ ends_on l p q held n ends was e = record {
   hand = e.hand;
   numbers = record {
     shares = was.shares ∙ ap (λ (cs : List ClaimRange). shares_of cs) (sym e.same);
-    positions = was.positions ∙ ap (λ (rs : List Reading). map (λ x. x.position) rs) (sym e.rest.reading);
+    places = was.places;
+    positions = still p q n was e.rest;
     limit = was.limit ∙ ap (λ (k : Keeping). k.limit) (sym e.rest.keeping);
     cleaned = was.cleaned ∙ ap (λ (k : Keeping). k.cleaned) (sym e.rest.keeping);
     knows = knows_on p.pass q.pass n.there e.rest.keeping was.knows;

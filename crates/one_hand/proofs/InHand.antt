@@ -25,12 +25,12 @@ use Rattle.log_rule.specs.Shares.{claimed_bytes}
 use Rattle.shared_log.specs.Readers.{positions_of}
 use Rattle.one_hand.specs.Entries.{with_share}
 use Rattle.one_hand.specs.Legal.{IsStream}
-use Rattle.one_hand.specs.Stream.{Aborts, Commits, OpenClaim, Stream, after_claim, after_offer, with_claim, with_message}
+use Rattle.one_hand.specs.Stream.{Aborts, Commits, OpenClaim, Stream, after_claim, after_offer, standing, with_claim, with_message}
 use Rattle.one_hand.specs.declared.log_hand.held.Held.{Held}
-use Rattle.one_hand.specs.Shown.{IsWhole, kept, shares_of, stream_of}
+use Rattle.one_hand.specs.Shown.{IsWhole, consumers_of, kept, shares_of, stream_of}
 use Rattle.log_rule.specs.Kept.{IsThere}
 use Rattle.log_rule.specs.Keepings.{numbered}
-use Rattle.shared_log.specs.Keepers.{KnowsWho, counted}
+use Rattle.shared_log.specs.Keepers.{KnowsWho}
 use Rattle.one_hand.specs.Hands.{HasAll, Shares, AbortsClaim, Claims, ClaimsNone, CommitsClaim, IsFree, IsInHand, MayEnd, Offers, range, stream_in}
 use Rattle.publication.proofs.Contents.{IsSmall}
 use Rattle.one_hand.proofs.Answered as answered
@@ -38,6 +38,7 @@ use Rattle.one_hand.proofs.Answered.{Rests}
 use Rattle.one_hand.proofs.Entries.{from_among}
 use Rattle.one_hand.proofs.Forgetting.{Grew, claim_grew, kept_aborts, kept_claim, kept_commits, kept_is, kept_offer, offer_grew}
 use Rattle.one_hand.proofs.Ended as ended
+use Rattle.one_hand.proofs.Seats.{standing_seated}
 
 -- ---- what is cleaned lies below
 
@@ -45,13 +46,9 @@ below : (start z t x : ℕ) (ps : List ℕ) → AllByRecursion (λ p. z ≤ max 
 below start z t x [] a b some le = absurd (omega arith)
 below start z t x (p ∷ ps) a b some le = let u = a.0 in let v = b.0 in omega arith
 
-mapped : {X : Type 0} (f : X → ℕ) (xs : List X) → length (map f xs) ≡ length xs
+pub mapped : {X : Type 0} (f : X → ℕ) (xs : List X) → length (map f xs) ≡ length xs
 mapped f [] = refl
 mapped f (x ∷ xs) = ap suc (mapped f xs)
-
-counted_length : (from n : ℕ) → length (counted from n) ≡ n
-counted_length from zero = refl
-counted_length from (suc n) = let h = counted_length (suc from) n in omega arith
 
 -- a pass that keeps the same knows the same of who is there
 pub knows_by : (v w : Pass) (there : List Bool) → w.keeping.there ≡ v.keeping.there → length w.keeping.positions ≡ 8 → KnowsWho v there → KnowsWho w there
@@ -60,26 +57,27 @@ knows_by v w there same eight k = record { many = k.many; flags = same ∙ k.fla
 pub knows_on : (v w : Pass) (there : List Bool) → w.keeping ≡ v.keeping → KnowsWho v there → KnowsWho w there
 knows_on v w there same k = knows_by v w there (ap (λ (x : Keeping). x.there) same) (ap (λ (x : Keeping). length x.positions) same ∙ k.eight) k
 
-pub count_is : (l : LogValue) (v : Pass) (c : Controls) → HasAll l v c → length v.reading ≡ l.consumers
-count_is l v c all = sym (mapped (λ (r : Reading). r.number) v.reading) ∙ ap length all.numbers ∙ counted_length 0 l.consumers
+-- who is there stands where the pass's consumers do, and somebody is
+pub stand : (v : Pass) (c : Controls) → HasAll v c → standing (consumers_of v) ≡ positions_of v
+stand v c all = standing_seated v.keeping.there v.reading 0 all.numbers
 
-pub stood_count : (l : LogValue) (v : Pass) (c : Controls) → HasAll l v c → length (positions_of v) ≡ l.consumers
-stood_count l v c all = mapped (λ (r : Reading). r.position) v.reading ∙ count_is l v c all
+pub somebody : (v : Pass) (c : Controls) → HasAll v c → 0 < length (standing (consumers_of v))
+somebody v c all = let e = ap length (stand v c all) ∙ mapped (λ (r : Reading). r.position) v.reading in let any = all.some in omega (arith, e, any)
 
 module _ (l : LogValue) (p : PublisherValue) (held : List (Option Held)) (hand : IsInHand l p held) where
   full : Stream
   full = stream_of p.pass p.controls held
 
-  some : 0 < length (positions_of p.pass)
-  some = let e = stood_count l p.pass p.controls hand.all in let any = hand.all.any in omega arith
+  some : 0 < length (standing (consumers_of p.pass))
+  some = somebody p.pass p.controls hand.all
 
   pub tail_above : p.pass.keeping.cleaned ≤ p.pass.start + claimed_bytes p.pass
-  tail_above = below p.pass.start p.pass.keeping.cleaned p.pass.identity.geometry.term_length (p.pass.start + claimed_bytes p.pass) (positions_of p.pass) hand.whole.stream.readable
-      (all_weaker (λ x. (p.pass.start ≤ x) × (x ≤ p.pass.start + claimed_bytes p.pass)) (λ x. x ≤ p.pass.start + claimed_bytes p.pass) (λ x h. h.1) (positions_of p.pass) hand.whole.reached) some (omega arith)
+  tail_above = below p.pass.start p.pass.keeping.cleaned p.pass.identity.geometry.term_length (p.pass.start + claimed_bytes p.pass) (standing (consumers_of p.pass)) hand.whole.stream.readable
+      (all_weaker (λ x. (p.pass.start ≤ x) × (x ≤ p.pass.start + claimed_bytes p.pass)) (λ x. x ≤ p.pass.start + claimed_bytes p.pass) (λ x h. h.1) (standing (consumers_of p.pass)) hand.whole.reached) some (omega arith)
 
   pub is_stream : IsStream (stream_in p held)
   is_stream = kept_is (stream_of p.pass p.controls held) hand.whole.stream (λ by c e. let h = ended.get_back held by c e in
-      subst (λ (o : OpenClaim). p.pass.keeping.cleaned ≤ o.start) h.2 (below p.pass.start p.pass.keeping.cleaned p.pass.identity.geometry.term_length h.0.start (positions_of p.pass) hand.whole.stream.readable (hand.whole.above by h.0 h.1) some
+      subst (λ (o : OpenClaim). p.pass.keeping.cleaned ≤ o.start) h.2 (below p.pass.start p.pass.keeping.cleaned p.pass.identity.geometry.term_length h.0.start (standing (consumers_of p.pass)) hand.whole.stream.readable (hand.whole.above by h.0 h.1) some
       (let from = from_among p.pass.work.frames p.pass.start p.pass.right.claims _ hand.whole.follow (hand.whole.stream.claims by c e).entry in subst (λ (o : OpenClaim). p.pass.start ≤ o.start) (sym h.2) from)))
 
 idle_after : (p q : Pass) (size : ℕ) (why : Refusal) → Justified p size why q → p.right.armed ≡ 0 → q.right.armed ≡ 0
@@ -93,16 +91,15 @@ module _ (l : LogValue) (p q : PublisherValue) (number : ℕ) (low : number < 8)
   abbrev acting : Pass
   acting = record p.pass { number = number }
 
-  in_hand : (held : List (Option Held)) → q.pass.right.armed ≡ 0 → IsWhole q.pass q.controls held → HasAll l p.pass p.controls → Rests acting p.controls q.pass q.controls → IsInHand l q held
+  in_hand : (held : List (Option Held)) → q.pass.right.armed ≡ 0 → IsWhole q.pass q.controls held → HasAll p.pass p.controls → Rests acting p.controls q.pass q.controls → IsInHand l q held
   in_hand held idle whole all r = record {
     free = record { of = of; sure = sure; parts = r.parts ∙ all.parts; idle = idle };
     whole = whole;
     all = record {
       parts = r.parts ∙ all.parts;
-      numbers = ap (λ (rs : List Reading). map (λ x. x.number) rs) r.reading ∙ all.numbers;
-      there = ap (λ (k : Keeping). numbered 0 k.there) r.keeping ∙ all.there;
-      few = all.few;
-      any = all.any;
+      numbers = ap (λ (rs : List Reading). map (λ x. x.number) rs) r.reading ∙ all.numbers ∙ ap (λ (k : Keeping). numbered 0 k.there) (sym r.keeping);
+      eight = ap (λ (k : Keeping). length k.there) r.keeping ∙ all.eight;
+      some = subst (λ (rs : List Reading). 0 < length rs) (sym r.reading) all.some;
       keeper = ap (λ (k : Keeping). k.right) r.keeping ∙ all.keeper;
       limit = ap (λ (k : Keeping). k.limit) r.keeping ∙ all.limit ∙ sym r.limit;
     };

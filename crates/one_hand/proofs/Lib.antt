@@ -2,6 +2,7 @@ pub mod Cases
 pub mod Keeps
 pub mod Entries
 pub mod Pieced
+pub mod Seats
 pub mod Forgetting
 pub mod Handed
 pub mod Answered
@@ -16,4 +17,6 @@ pub mod Flags
 pub mod Cleaned
 pub mod Swept
 pub mod Limited
+pub mod Moved
 pub mod GoingOn
+pub mod Joined

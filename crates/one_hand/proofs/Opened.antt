@@ -1,7 +1,7 @@
 -- What a log that was just opened is in one hand.
-use Rattle.std.proofs.Common.{◌++◌, Bool, ◌≡◌, ◌∙◌, ◌≢◌, ℕ, zero, suc, ◌+◌, ◌-◌, ◌*◌, ◌/◌, ◌%◌, ◌<◌, ◌≤◌, max, List, [], ◌∷◌, map, take, min, length, length-set, get_or-set_other, false, Some, None, refl, sym, ap, subst, arith, mod-lt}
+use Rattle.std.proofs.Common.{◌++◌, Bool, ◌≡◌, ◌∙◌, ◌≢◌, ℕ, zero, suc, ◌+◌, ◌-◌, ◌*◌, ◌/◌, ◌%◌, ◌<◌, ◌≤◌, max, List, [], ◌∷◌, map, min, length, length-set, get_or-set_other, false, Some, None, refl, sym, ap, subst, arith, mod-lt}
 use Rattle.std.proofs.Common.{to_z, of_z}
-use Rattle.std.specs.Prelude.{ℤ, FitsSigned, Option, replicate, slice_get, slice_set}
+use Rattle.std.specs.Prelude.{ℤ, FitsSigned, Option, replicate, slice_get, slice_index, slice_index_or, slice_set}
 use Rattle.std.specs.List.{AllByRecursion}
 use Rattle.std.proofs.lemmas.Bool.{ne_eqb}
 use Rattle.std.proofs.Math.Nat.{div-lt_iff_lt-mul}
@@ -21,14 +21,13 @@ use Rattle.log_rule.specs.Claims.Handles.{PublisherValue}
 use Rattle.publication.specs.declared.pass.Reading.{Reading}
 use Rattle.log_rule.specs.declared.rule.Key.{Key}
 use Rattle.log_rule.specs.Table.{consumers_at, first_there, whole_pass}
-use Rattle.shared_log.specs.Readers.{positions_of}
 use Rattle.shared_log.specs.Handles.{IsLogOf, IsWholeNew, LogValue}
 use Rattle.position.specs.Openings.{IsConsumerCount, IsStart}
 use Rattle.log_rule.specs.Claims.Sure.{fresh_controls}
 use Rattle.one_hand.specs.Legal.{IsStream}
-use Rattle.one_hand.specs.Stream.{OpenClaim, opened}
+use Rattle.one_hand.specs.Stream.{OpenClaim, first_consumers, opened, standing}
 use Rattle.one_hand.specs.declared.log_hand.held.Held.{Held}
-use Rattle.one_hand.specs.Shown.{IsWhole, claim_in, kept, shares_of, stream_of}
+use Rattle.one_hand.specs.Shown.{IsWhole, claim_in, consumers_of, kept, seated, shares_of, stream_of}
 use Rattle.one_hand.specs.Parts.{Stands}
 use Rattle.log_rule.specs.Keepings.{numbered as there_numbers}
 use Rattle.log_rule.proofs.Beginning.{first_is}
@@ -63,6 +62,33 @@ none_numbered from (suc n) = none_numbered (suc from) n
 numbered_first : (from n m : ℕ) → there_numbers from (replicate n 1 ++ replicate m 0) ≡ counted from n
 numbered_first from zero m = none_numbered from m
 numbered_first from (suc n) m = ap (λ xs. from ∷ xs) (numbered_first (suc from) n m)
+
+none_seated : (n : ℕ) (ps : List ℕ) → seated (replicate n 0) ps ≡ replicate n None
+none_seated zero ps = refl
+none_seated (suc n) ps = ap (λ (cs : List (Option ℕ)). None ∷ cs) (none_seated n ps)
+
+seated_first : (start n m : ℕ) → seated (replicate n 1 ++ replicate m 0) (replicate n start) ≡ replicate n (Some start) ++ replicate m None
+seated_first start zero m = none_seated m []
+seated_first start (suc n) m = ap (λ (cs : List (Option ℕ)). Some start ∷ cs) (seated_first start n m)
+
+standing_none : (n : ℕ) → standing (replicate n None) ≡ []
+standing_none zero = refl
+standing_none (suc n) = standing_none n
+
+standing_first : (start n m : ℕ) → standing (replicate n (Some start) ++ replicate m None) ≡ replicate n start
+standing_first start zero m = standing_none m
+standing_first start (suc n) m = ap (λ (ps : List ℕ). start ∷ ps) (standing_first start n m)
+
+first_at : (start n m k at : ℕ) → slice_index_or (replicate n (Some start) ++ replicate m None) k None ≡ Some at → at ≡ start × (k < n)
+first_at start zero zero k at e = absurd (cc)
+first_at start zero (suc m) zero at e = absurd (cc)
+first_at start zero (suc m) (suc k) at e = let low = (first_at start zero m k at e).1 in absurd (omega (arith, low))
+first_at start (suc n) m zero at e = (let i : Some start ≡ Some at = e in cc, omega arith)
+first_at start (suc n) m (suc k) at e = let r = first_at start n m k at e in (r.0, let low = r.1 in omega (arith, low))
+
+both_long : {A : Type 0} (a b : A) (n m : ℕ) → length (replicate n a ++ replicate m b) ≡ n + m
+both_long a b zero m = length-replicate m b ∙ (let e : m ≡ 0 + m = omega arith in e)
+both_long a b (suc n) m = ap suc (both_long a b n m) ∙ (let e : suc (n + m) ≡ suc n + m = omega arith in e)
 
 all_there : (P : ℕ → Type 0) (start n : ℕ) → P start → AllByRecursion P (replicate n start)
 all_there P start zero h = tt
@@ -145,8 +171,8 @@ module _ (i : Identity) (start : ℕ) (legal : IsGeometry i.geometry) (ids : IsI
   abbrev p : Pass
   p = whole_pass record { identity = i; start = start; consumers = count }
 
-  stand : positions_of p ≡ replicate count start
-  stand = stood start 0 count
+  stand : consumers_of p ≡ first_consumers count start
+  stand = ap (seated (first_there count)) (stood start 0 count) ∙ seated_first start count (8 - count)
 
   shown_is : stream_of p c none_held ≡ opened i start count
   shown_is = (λ j. record (opened i start count) { tail = same start j; limit = limit_is.0 j; connected = limit_is.1 j; closed = limit_is.2 j; consumers = stand j })
@@ -154,8 +180,8 @@ module _ (i : Identity) (start : ℕ) (legal : IsGeometry i.geometry) (ids : IsI
       same : (s : ℕ) → s + 0 ≡ s
       same s = omega arith
 
-  each : (P : ℕ → Type 0) → P start → AllByRecursion P (positions_of p)
-  each P h = subst (AllByRecursion P) (sym stand) (all_there P start count h)
+  each : (P : ℕ → Type 0) → P start → AllByRecursion P (standing (consumers_of p))
+  each P h = subst (AllByRecursion P) (sym (ap standing stand ∙ standing_first start count (8 - count))) (all_there P start count h)
 
   stream_is : IsStream (stream_of p c none_held)
   stream_is = let w = ends start (n * t) ((n + 1) * t) (start % t) t parts rest_low (let e : (n + 1) * t ≡ n * t + t = omega arith in e) in let u = at.0 in record {
@@ -184,26 +210,36 @@ module _ (i : Identity) (start : ℕ) (legal : IsGeometry i.geometry) (ids : IsI
   whole_is : IsWhole p c none_held
   whole_is = record { settled = settled; eight = refl; follow = tt; past = tt; chained = tt; begun = λ by h e. absurd (nobody_holds 8 by h e); above = λ by h e. absurd (nobody_holds 8 by h e); reached = each (λ x. (start ≤ x) × (x ≤ start + 0)) (omega arith, omega arith); stream = stream_is }
 
+many : (start from n : ℕ) → 0 < n → 0 < length (consumers_at start from n)
+many start from zero some = absurd (omega (arith, some))
+many start from (suc n) some = omega arith
+
 pub opens : (l : LogValue) (q : PublisherValue) → IsWholeNew l q → IsGeometry l.identity.geometry → IsIdentity l.identity → IsStart l.identity.geometry l.start → IsConsumerCount l.consumers → IsInHand l q none_held × (stream_in q none_held ≡ opened l.identity l.start l.consumers)
 opens l q new legal ids at any =
     let key : Key = record { identity = l.identity; start = l.start; consumers = l.consumers } in
     let whole : IsWhole q.pass q.controls none_held = subst (λ (x : Pass × Controls). IsWhole x.0 x.1 none_held) (λ j. (sym new.pass j, sym new.controls j)) (whole_is l.identity l.start legal ids at l.consumers any) in
-    let all : HasAll l (whole_pass key) (record (fresh_controls l.identity l.start) { limit = l.start }) = record { parts = refl; numbers = numbered l.start 0 l.consumers; there = numbered_first 0 l.consumers (8 - l.consumers); few = any.1; any = any.0; keeper = refl; limit = refl } in (
-      record { free = record { of = new.of; sure = new.sure; parts = ap (λ (x : Pass). x.right.parts) new.pass; idle = ap (λ (x : Pass). x.right.armed) new.pass }; whole = whole; all = subst (λ (x : Pass × Controls). HasAll l x.0 x.1) (λ j. (sym new.pass j, sym new.controls j)) all },
+    let all : HasAll (whole_pass key) (record (fresh_controls l.identity l.start) { limit = l.start }) = record {
+      parts = refl;
+      numbers = numbered l.start 0 l.consumers ∙ sym (numbered_first 0 l.consumers (8 - l.consumers));
+      eight = both_long 1 0 l.consumers (8 - l.consumers) ∙ (let few = any.1 in let e : l.consumers + (8 - l.consumers) ≡ 8 = omega (arith, few) in e);
+      some = many l.start 0 l.consumers any.0;
+      keeper = refl;
+      limit = refl;
+    } in (
+      record { free = record { of = new.of; sure = new.sure; parts = ap (λ (x : Pass). x.right.parts) new.pass; idle = ap (λ (x : Pass). x.right.armed) new.pass }; whole = whole; all = subst (λ (x : Pass × Controls). HasAll x.0 x.1) (λ j. (sym new.pass j, sym new.controls j)) all },
       (λ j. kept (stream_of (new.pass j) (new.controls j) none_held)) ∙ ap kept (shown_is l.identity l.start legal ids at l.consumers any),
     )
 
-first_are : (n s : ℕ) → n ≤ 8 → take n (s ∷ s ∷ s ∷ s ∷ s ∷ s ∷ s ∷ s ∷ []) ≡ replicate n s
-first_are zero s le = refl
-first_are (suc zero) s le = refl
-first_are (suc (suc zero)) s le = refl
-first_are (suc (suc (suc zero))) s le = refl
-first_are (suc (suc (suc (suc zero)))) s le = refl
-first_are (suc (suc (suc (suc (suc zero))))) s le = refl
-first_are (suc (suc (suc (suc (suc (suc zero)))))) s le = refl
-first_are (suc (suc (suc (suc (suc (suc (suc zero))))))) s le = refl
-first_are (suc (suc (suc (suc (suc (suc (suc (suc zero)))))))) s le = refl
-first_are (suc (suc (suc (suc (suc (suc (suc (suc (suc n))))))))) s le = absurd (omega arith)
+all_eight : (s k : ℕ) → k < 8 → slice_index (s ∷ s ∷ s ∷ s ∷ s ∷ s ∷ s ∷ s ∷ []) k ≡ s
+all_eight s zero low = refl
+all_eight s (suc zero) low = refl
+all_eight s (suc (suc zero)) low = refl
+all_eight s (suc (suc (suc zero))) low = refl
+all_eight s (suc (suc (suc (suc zero)))) low = refl
+all_eight s (suc (suc (suc (suc (suc zero))))) low = refl
+all_eight s (suc (suc (suc (suc (suc (suc zero)))))) low = refl
+all_eight s (suc (suc (suc (suc (suc (suc (suc zero))))))) low = refl
+all_eight s (suc (suc (suc (suc (suc (suc (suc (suc k)))))))) low = absurd (omega (arith, low))
 
 -- what a log's opening ensures
 module _ (g : Geometry) (session stream : ℤ) (start consumers : ℕ) (l : LogValue) (q : PublisherValue) (log : IsLogOf (record { geometry = g; session = to_z w32 (of_z w32 session); stream = to_z w32 (of_z w32 stream) }) start consumers l) (new : IsWholeNew l q)
@@ -225,7 +261,10 @@ module _ (g : Geometry) (session stream : ℤ) (start consumers : ℕ) (l : LogV
     hand = opens_as.0;
     numbers = record {
       shares = sym (ap (λ (x : Pass). shares_of x.right.claims) new.pass);
-      positions = (λ j. take (log.consumers_is j) eight) ∙ first_are consumers start range.1.1 ∙ sym (ap positions_of new.pass ∙ stood l.start 0 l.consumers ∙ (λ j. replicate (log.consumers_is j) (log.start_is j)));
+      places = refl;
+      positions = λ k at e. (let few = range.1.1 in
+          let is : consumers_of q.pass ≡ first_consumers consumers start = ap consumers_of new.pass ∙ (λ j. seated (first_there (log.consumers_is j)) (stood (log.start_is j) 0 (log.consumers_is j) j)) ∙ seated_first start consumers (8 - consumers) in
+          let r = first_at start consumers (8 - consumers) k at (subst (λ (cs : List (Option ℕ)). slice_index_or cs k None ≡ Some at) is e) in let low = r.1 in all_eight start k (omega (arith, low, few)) ∙ sym r.0);
       limit = sym (ap (λ (x : Pass). x.keeping.limit) new.pass ∙ log.start_is);
       cleaned = sym (ap (λ (x : Pass). x.keeping.cleaned) new.pass ∙ log.start_is);
       knows = subst (λ (v : Pass). KnowsWho v there) (sym new.pass) record { many = many; flags = sym flags; eight = length-replicate 8 l.start; one = 0; low = omega arith; any = first_is l.consumers 0 (subst (λ (n : ℕ). 0 < n) (sym log.consumers_is) range.1.0) };

@@ -1,19 +1,26 @@
 -- The positions that the keeper saw are those of the pass's own consumers, and the limit word that it stores.
-use Rattle.std.proofs.Common.{◌≡◌, ◌∙◌, ℕ, ◌+◌, ◌*◌, ◌/◌, ◌%◌, inl, inr, max, Bool, true, false, cond, List, [], ◌∷◌, map, refl, sym, ap, arith}
+use Rattle.std.proofs.Common.{◌≡◌, ◌∙◌, ℕ, ◌+◌, ◌*◌, ◌/◌, ◌%◌, inl, inr, max, Bool, true, false, cond, List, [], ◌∷◌, map, refl, sym, ap, subst, arith}
 use Rattle.std.specs.Prelude.{◌&&◌, not, slice_index}
 use Rattle.std.proofs.lemmas.Bool.{eq-eqb, ne_eqb}
 use Rattle.theory.specs.Placed.{Among}
 use Rattle.theory.specs.Refusal.{is_closed, is_connected, limit_in}
 use Rattle.publication.specs.declared.pass.Reading.{Reading}
-use Rattle.shared_log.specs.Keepers.{raised}
+use Rattle.log_rule.specs.Claims.Handles.{PublisherValue}
+use Rattle.log_rule.specs.Keepings.{numbered}
+use Rattle.shared_log.specs.Keepers.{ReadsConsumer, raised}
+use Rattle.one_hand.specs.Hands.{HasAll}
+use Rattle.one_hand.specs.Keepings.{keeper_of}
+use Rattle.one_hand.specs.Shown.{consumers_of}
+use Rattle.one_hand.specs.Stream.{standing}
+use Rattle.one_hand.proofs.InHand.{stand}
 
-pub among_number : (rs : List Reading) (r : Reading) → Among r rs → Among r.number (map (λ (x : Reading). x.number) rs)
+among_number : (rs : List Reading) (r : Reading) → Among r rs → Among r.number (map (λ (x : Reading). x.number) rs)
 among_number [] r a = absurd a
 among_number (x ∷ rs) r (inl e) = inl (ap (λ (y : Reading). y.number) e)
 among_number (x ∷ rs) r (inr a) = inr (among_number rs r a)
 
 -- where each of them was seen it stands
-pub seen_all : (seen : List ℕ) (rs : List Reading) → ((r : Reading) → Among r rs → slice_index seen r.number ≡ r.position) → map (slice_index seen) (map (λ (r : Reading). r.number) rs) ≡ map (λ (r : Reading). r.position) rs
+seen_all : (seen : List ℕ) (rs : List Reading) → ((r : Reading) → Among r rs → slice_index seen r.number ≡ r.position) → map (slice_index seen) (map (λ (r : Reading). r.number) rs) ≡ map (λ (r : Reading). r.position) rs
 seen_all seen [] own = refl
 seen_all seen (r ∷ rs) own = (λ j. own r (inl refl) j ∷ seen_all seen rs (λ x a. own x (inr a)) j)
 
@@ -36,3 +43,10 @@ raised_by w least t true false ea eb u v =
 
 pub raised_is : (w least t : ℕ) → least % 32 ≡ 0 → t % 64 ≡ 0 → Word w least t (raised w least t)
 raised_is w least t u v = raised_by w least t (is_connected w) (is_closed w) refl refl u v
+
+-- those who are there stand where they were seen
+pub seen_stand : (p : PublisherValue) (limit cleaned : ℕ) (seen : List ℕ) → HasAll p.pass p.controls → ((j : ℕ) → Among j (numbered 0 p.pass.keeping.there) → ReadsConsumer (keeper_of p limit cleaned) j (slice_index seen j))
+    → map (slice_index seen) (numbered 0 p.pass.keeping.there) ≡ standing (consumers_of p.pass)
+seen_stand p limit cleaned seen all reads =
+    ap (map (slice_index seen)) (sym all.numbers) ∙ seen_all seen p.pass.reading (λ r a. (reads r.number (subst (Among r.number) all.numbers (among_number p.pass.reading r a))).own r a refl)
+    ∙ sym (stand p.pass p.controls all)

@@ -1,9 +1,9 @@
 -- What a reader's calls leave of a log in one hand.
 use Rattle.std.proofs.Common.{◌∙◌, sym, ap, subst, refl}
 use Rattle.std.proofs.lemmas.List.{set-get_or, set-set}
-use Rattle.std.specs.Prelude.{◌≡◌, ℕ, List}
+use Rattle.std.specs.Prelude.{◌≡◌, ℕ, List, None, Option, Some, slice_set}
 use Rattle.theory.specs.Placed.{Among, Placed}
-use Rattle.one_hand.specs.Stream.{Stream, position_of, with_consumer}
+use Rattle.one_hand.specs.Stream.{HasConsumer, Stream, position_of, with_consumer}
 
 -- the reader of this number stands elsewhere, and nothing else has changed
 pub record MovesReader (number : ℕ) (old : Stream) (after : ℕ) (new : Stream) : Type 0 where
@@ -22,10 +22,10 @@ frames_on a b c h k = k ∙ h
 pub frames_keep : (a b : List Placed) → AreSame a b → (frame : Placed) → Among frame a → Among frame b
 frames_keep a b h frame among = subst (λ xs. Among frame xs) (sym h) among
 
-pub reader_stays : (number : ℕ) (l : Stream) → MovesReader number l number l
-reader_stays number l = record {
+pub reader_stays : (number : ℕ) (l : Stream) → HasConsumer l number → MovesReader number l number l
+reader_stays number l h = record {
   number_is = refl;
-  moved = ap (λ (ps : List ℕ). record l { consumers = ps }) (sym (set-get_or l.consumers number 0));
+  moved = ap (λ (cs : List (Option ℕ)). record l { consumers = cs }) (sym (set-get_or l.consumers number None) ∙ ap (slice_set l.consumers number) h);
 }
 
 pub reader_goes_on : (a : ℕ) (l : Stream) (b : ℕ) (m : Stream) (c : ℕ) (n : Stream) → MovesReader a l b m → MovesReader b m c n → MovesReader a l c n
@@ -35,5 +35,5 @@ reader_goes_on a l b m c n h k = record {
       k.moved
       ∙ ap (λ (i : ℕ). with_consumer m i (position_of n i)) h.number_is
       ∙ ap (λ (x : Stream). with_consumer x a (position_of n a)) h.moved
-      ∙ ap (λ (ps : List ℕ). record l { consumers = ps }) (set-set l.consumers a (position_of m a) (position_of n a));
+      ∙ ap (λ (cs : List (Option ℕ)). record l { consumers = cs }) (set-set l.consumers a (Some (position_of m a)) (Some (position_of n a)));
 }

@@ -8,7 +8,6 @@ use Rattle.publication.specs.Claims.{HasBlank}
 use Rattle.log_rule.specs.Claims.Handles.{PublisherValue}
 use Rattle.log_rule.specs.Keepings.{numbered}
 use Rattle.shared_log.specs.Handles.{IsOf, LogValue}
-use Rattle.shared_log.specs.Keepers.{counted}
 use Rattle.shared_log.specs.Readers.{numbers_of}
 use Rattle.log_rule.specs.Shares.{claimed_bytes}
 use Rattle.one_hand.specs.Entries.{with_share}
@@ -26,20 +25,19 @@ pub record IsFree (l : LogValue) (p : PublisherValue) : Type 0 where
   pub parts : p.pass.right.parts ≡ 1024
   pub idle : p.pass.right.armed ≡ 0
 
--- the pass has all parts, each consumer by its number, and the keeper, which knows the limit word
-pub record HasAll (l : LogValue) (v : Pass) (c : Controls) : Type 0 where
+-- the pass has all parts, each consumer that is there, in the order of their numbers, and the keeper, which knows the limit word
+pub record HasAll (v : Pass) (c : Controls) : Type 0 where
   pub parts : v.right.parts ≡ 1024
-  pub numbers : numbers_of v ≡ counted 0 l.consumers
-  pub there : numbered 0 v.keeping.there ≡ counted 0 l.consumers
-  pub few : l.consumers ≤ 8
-  pub any : 0 < l.consumers
+  pub numbers : numbers_of v ≡ numbered 0 v.keeping.there
+  pub eight : length v.keeping.there ≡ 8
+  pub some : 0 < length v.reading
   pub keeper : v.keeping.right ≡ 1
   pub limit : v.keeping.limit ≡ c.limit
 
 pub record IsInHand (l : LogValue) (p : PublisherValue) (held : List (Option Held)) : Type 0 where
   pub free : IsFree l p
   pub whole : IsWhole p.pass p.controls held
-  pub all : HasAll l p.pass p.controls
+  pub all : HasAll p.pass p.controls
 
 -- its consumers and its keeper are as they were
 pub record SameRest (p q : PublisherValue) : Type 0 where

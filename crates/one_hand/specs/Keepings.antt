@@ -4,6 +4,7 @@ use Rattle.theory.specs.Refusal.{limit_in}
 use Rattle.log_rule.specs.Claims.Handles.{PublisherValue}
 use Rattle.shared_log.specs.Handles.{IsOf, LogValue}
 use Rattle.log_rule.specs.Keepings.{with_keeping}
+use Rattle.shared_log.specs.Joining.{Begins, Ends}
 use Rattle.shared_log.specs.Keepers.{CleansAndLimits, IsKeeping, KeeperValue, KnowsWho}
 
 -- the pass is the keeper, which knows the limit word, how far is cleaned, and which consumers are there
@@ -31,3 +32,15 @@ pub record Cleans (l : LogValue) (p : PublisherValue) (limit cleaned : ℕ) (q :
   pub word_is : word ≡ keeper.limit
   pub low_is : low ≡ keeper.cleaned
   pub answer_is : answer ≡ limit_in keeper.limit
+
+-- a consumer with this number began, at this place among those of the pass
+pub record BeginsAt (l : LogValue) (p : PublisherValue) (limit cleaned number place : ℕ) (q : PublisherValue) (position : ℕ) : Type 0 where
+  pub keeper : KeeperValue
+  pub begins : Begins l (keeper_of p limit cleaned) number place position keeper
+  pub seat : keeper.held ≡ q
+
+-- the one at this place is none any more
+pub record EndsAt (p : PublisherValue) (limit cleaned number place : ℕ) (q : PublisherValue) : Type 0 where
+  pub keeper : KeeperValue
+  pub ends : Ends (keeper_of p limit cleaned) place number keeper
+  pub seat : keeper.held ≡ q

@@ -7,7 +7,7 @@ use Rattle.theory.specs.Entry.{IsEntry}
 use Rattle.theory.specs.Tiling.{Tiles}
 use Rattle.theory.specs.Bytes.{IsIdentity}
 use Rattle.one_hand.specs.Entries.{claim_of}
-use Rattle.one_hand.specs.Stream.{OpenClaim, Stream, term_of}
+use Rattle.one_hand.specs.Stream.{OpenClaim, Stream, standing, term_of}
 
 -- a publisher's open claim: its entry is there, and nothing of it is committed
 pub record IsOpenClaim (l : Stream) (by : ℕ) (c : OpenClaim) : Type 0 where
@@ -32,6 +32,6 @@ pub record IsStream (l : Stream) : Type 0 where
   pub numbers : length l.claims ≡ 8
   pub claims : (by : ℕ) (c : OpenClaim) → slice_get l.claims by ≡ Some (Some c) → IsOpenClaim l by c
   pub word : l.cleaned % 8 ≡ 0
-  pub consumer_units : AllByRecursion (λ p. p % 32 ≡ 0) l.consumers
+  pub consumer_units : AllByRecursion (λ p. p % 32 ≡ 0) (standing l.consumers)
   -- nothing is cleaned that a consumer may read
-  pub readable : AllByRecursion (λ p. l.cleaned ≤ max l.start (p - term_of l)) l.consumers
+  pub readable : AllByRecursion (λ p. l.cleaned ≤ max l.start (p - term_of l)) (standing l.consumers)

@@ -1,15 +1,14 @@
 -- What a hand holds beside its log, and what it shows.
-use Rattle.std.specs.Prelude.{◌≡◌, ℕ, ◌≤◌, Bool, List, take, Option, None, Some}
+use Rattle.std.specs.Prelude.{◌≡◌, ℕ, ◌≤◌, Bool, List, Option, None, Some, length, slice_index, slice_index_or}
 use Rattle.log_rule.specs.Claims.Handles.{PublisherValue}
 use Rattle.log_rule.specs.Claims.Closing.{no_identity}
 use Rattle.log_rule.specs.Claims.Plays.{newcomer}
 use Rattle.log_rule.specs.Claims.Sure.{no_controls}
 use Rattle.shared_log.specs.Keepers.{KnowsWho}
-use Rattle.shared_log.specs.Readers.{positions_of}
 use Rattle.shared_log.specs.Handles.{LogValue}
 use Rattle.one_hand.specs.Stream.{Stream}
 use Rattle.one_hand.specs.declared.log_hand.held.Held.{Held}
-use Rattle.one_hand.specs.Shown.{kept, shares_of, stream_of}
+use Rattle.one_hand.specs.Shown.{consumers_of, kept, shares_of, stream_of}
 use Rattle.one_hand.specs.Hands.{IsInHand, stream_in}
 
 -- the shares, the readers' positions, the limit word, how far is cleaned, which consumers are there, and the length of the block
@@ -24,7 +23,8 @@ pub record Numbers : Type 0 where
 -- they are those of the pass that has all
 pub record AreNumbers (l : LogValue) (p : PublisherValue) (n : Numbers) : Type 0 where
   pub shares : n.shares ≡ shares_of p.pass.right.claims
-  pub positions : take l.consumers n.positions ≡ positions_of p.pass
+  pub places : length n.positions ≡ 8
+  pub positions : (k at : ℕ) → slice_index_or (consumers_of p.pass) k None ≡ Some at → slice_index n.positions k ≡ at
   pub limit : n.limit ≡ p.pass.keeping.limit
   pub cleaned : n.cleaned ≡ p.pass.keeping.cleaned
   pub knows : KnowsWho p.pass n.there

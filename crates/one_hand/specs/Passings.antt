@@ -7,6 +7,7 @@ use Rattle.log_rule.specs.Claims.Handles.{PublisherValue}
 use Rattle.shared_log.specs.Handles.{LogValue}
 use Rattle.shared_log.specs.Readers.{Advances, ReaderValue, ReadsFrame}
 use Rattle.one_hand.specs.Readers.{reader_of}
+use Rattle.one_hand.specs.declared.log_hand.consumer.Consumer.{Consumer}
 
 -- a frame of the pass begins there
 pub record HasHere (p : PublisherValue) (position : ℕ) : Type 0 where
@@ -15,12 +16,12 @@ pub record HasHere (p : PublisherValue) (position : ℕ) : Type 0 where
   pub here : frame.start ≡ position
 
 -- the frame there was read, and then the reader went past it
-pub record Passed (l : LogValue) (p : PublisherValue) (number position : ℕ) (before : List ℕ) (q : PublisherValue) (end : ℕ) : Type 0 where
+pub record Passed (l : LogValue) (p : PublisherValue) (c : Consumer) (before : List ℕ) (q : PublisherValue) (end : ℕ) : Type 0 where
   pub between : ReaderValue
   pub reader : ReaderValue
   pub head : FrameHead
   pub after : List ℕ
-  pub reads : ReadsFrame l (reader_of p number position) head before between after
+  pub reads : ReadsFrame l (reader_of p c) head before between after
   pub advances : Advances between reader
   pub end_is : end ≡ reader.position
   pub seat : reader.held ≡ q

@@ -1,7 +1,7 @@
 -- The stream that a log in one hand shows, by the pass that has all.
 -- Its entries are the pass's claims in order, each with the committed frames whose words begin in its range, read off
 -- those words; those that begin below what is cleaned are forgotten.
-use Rattle.std.specs.Prelude.{◌≡◌, ℕ, ◌+◌, ◌<◌, ◌≤◌, ◌&&◌, ⊤, Bool, List, [], ◌∷◌, map, nat_eq, nat_le, length, Option, None, Some, slice_get}
+use Rattle.std.specs.Prelude.{◌≡◌, ℕ, zero, suc, ◌+◌, ◌<◌, ◌≤◌, ◌&&◌, ⊤, Bool, List, [], ◌∷◌, map, nat_eq, nat_le, length, Option, None, Some, slice_get}
 use Rattle.std.specs.List.{AllByRecursion, filter, list_any}
 use Rattle.theory.specs.Position.{aligned, span}
 use Rattle.theory.specs.Placed.{Among, Frame, frame_length, is_padding}
@@ -18,7 +18,7 @@ use Rattle.publication.specs.Alone.{Settled}
 use Rattle.log_rule.specs.Claims.Sums.{total}
 use Rattle.log_rule.specs.Shares.{range_bytes}
 use Rattle.shared_log.specs.Readers.{positions_of}
-use Rattle.one_hand.specs.Stream.{OpenClaim, Stream, kept_from}
+use Rattle.one_hand.specs.Stream.{OpenClaim, Stream, kept_from, standing}
 use Rattle.one_hand.specs.Legal.{IsStream}
 use Rattle.one_hand.specs.declared.log_hand.held.Held.{Held}
 
@@ -56,8 +56,18 @@ abbrev pub claim_in : Option Held → Option OpenClaim
 claim_in None = None
 claim_in (Some h) = Some (open_claim h)
 
+-- the consumers by their numbers: those with a flag are there, at these positions in order
+abbrev pub seated : List ℕ → List ℕ → List (Option ℕ)
+seated [] positions = []
+seated (zero ∷ flags) positions = None ∷ seated flags positions
+seated (suc f ∷ flags) [] = None ∷ seated flags []
+seated (suc f ∷ flags) (at ∷ positions) = Some at ∷ seated flags positions
+
+abbrev pub consumers_of : Pass → List (Option ℕ)
+consumers_of v = seated v.keeping.there (positions_of v)
+
 -- by the claims in the order of the stream and the committed frames, with the entries that are forgotten too
-abbrev pub stream_by : Identity → ℕ → List ℕ → ℕ → List ClaimRange → List FrameWords → Controls → List (Option Held) → Stream
+abbrev pub stream_by : Identity → ℕ → List (Option ℕ) → ℕ → List ClaimRange → List FrameWords → Controls → List (Option Held) → Stream
 stream_by identity start consumers cleaned claims frames c held = record {
   identity = identity;
   start = start;
@@ -74,7 +84,7 @@ stream_by identity start consumers cleaned claims frames c held = record {
 }
 
 abbrev pub stream_of : Pass → Controls → List (Option Held) → Stream
-stream_of v c held = stream_by v.identity v.start (positions_of v) v.keeping.cleaned v.right.claims v.work.frames c held
+stream_of v c held = stream_by v.identity v.start (consumers_of v) v.keeping.cleaned v.right.claims v.work.frames c held
 
 -- without them
 abbrev pub kept : Stream → Stream
@@ -91,7 +101,7 @@ Chained p [] = ⊤
 Chained p (f ∷ fs) = (f.start ≡ p) × Chained (p + aligned (frame_length (frame_in f))) fs
 
 -- what holds between two calls of the hand
-pub record WholeBy (identity : Identity) (start : ℕ) (consumers : List ℕ) (cleaned : ℕ) (claims : List ClaimRange) (frames drafts : List FrameWords) (c : Controls) (held : List (Option Held)) : Type 0 where
+pub record WholeBy (identity : Identity) (start : ℕ) (consumers : List (Option ℕ)) (cleaned : ℕ) (claims : List ClaimRange) (frames drafts : List FrameWords) (c : Controls) (held : List (Option Held)) : Type 0 where
   pub settled : Settled identity.geometry (start + spans claims) c.count c
   pub eight : length held ≡ 8
   pub follow : Follow start claims
@@ -100,9 +110,9 @@ pub record WholeBy (identity : Identity) (start : ℕ) (consumers : List ℕ) (c
   pub chained : AllByRecursion (λ c. Chained c.start (filter (lies_in c) frames)) claims
   pub begun : (by : ℕ) (h : Held) → slice_get held by ≡ Some (Some h) → Among (blank h.start (32 + h.size)) drafts
   -- no consumer stands above an open claim, or the tail
-  pub above : (by : ℕ) (h : Held) → slice_get held by ≡ Some (Some h) → AllByRecursion (λ p. p ≤ h.start) consumers
-  pub reached : AllByRecursion (λ p. (start ≤ p) × (p ≤ start + spans claims)) consumers
+  pub above : (by : ℕ) (h : Held) → slice_get held by ≡ Some (Some h) → AllByRecursion (λ p. p ≤ h.start) (standing consumers)
+  pub reached : AllByRecursion (λ p. (start ≤ p) × (p ≤ start + spans claims)) (standing consumers)
   pub stream : IsStream (stream_by identity start consumers cleaned claims frames c held)
 
 abbrev pub IsWhole : Pass → Controls → List (Option Held) → Type 0
-IsWhole v c held = WholeBy v.identity v.start (positions_of v) v.keeping.cleaned v.right.claims v.work.frames v.work.drafts c held
+IsWhole v c held = WholeBy v.identity v.start (consumers_of v) v.keeping.cleaned v.right.claims v.work.frames v.work.drafts c held

@@ -3,7 +3,7 @@
 -- exactly where the tail stands at its end. Where a message doesn't fit its term, the next term is the active one
 -- behind the padding, if there is a next. Cleaning forgets the entries that begin more than a term below the least
 -- consumer.
-use Rattle.std.specs.Prelude.{◌≡◌, ℕ, ◌+◌, ◌-◌, ◌*◌, ◌/◌, ◌^◌, ◌&&◌, Bool, true, false, not, List, [], ◌∷◌, ◌++◌, length, map, fold, max, min, replicate, nat_eq, nat_le, if◌then◌else◌, Option, None, Some, Result, Ok, Err, slice_index, slice_index_or, slice_set}
+use Rattle.std.specs.Prelude.{◌≡◌, ℕ, ◌+◌, ◌-◌, ◌*◌, ◌/◌, ◌^◌, ◌&&◌, Bool, true, false, not, List, [], ◌∷◌, ◌++◌, length, map, fold, max, min, replicate, nat_eq, nat_le, if◌then◌else◌, Option, None, Some, Result, Ok, Err, slice_get, slice_index, slice_index_or, slice_set}
 use Rattle.std.specs.List.{filter}
 use Rattle.theory.specs.Position.{aligned, framed_length}
 use Rattle.theory.specs.Placed.{Data, Frame, Pad}
@@ -25,8 +25,8 @@ pub record Stream : Type 0 where
   pub limit : ℕ
   pub connected : Bool
   pub closed : Bool
-  -- the positions of the consumers, by their numbers
-  pub consumers : List ℕ
+  -- where each consumer stands, by its number; none where nobody has it
+  pub consumers : List (Option ℕ)
   -- the count of the term to which the next claim adds
   pub active : ℕ
   -- how many bytes each publisher has claimed, in forgotten entries too
@@ -41,6 +41,10 @@ pub record Stream : Type 0 where
 abbrev pub term_of : Stream → ℕ
 term_of l = l.identity.geometry.term_length
 
+-- so many consumers, with the first of eight numbers, which stand there
+abbrev pub first_consumers : ℕ → ℕ → List (Option ℕ)
+first_consumers count at = replicate count (Some at) ++ replicate (8 - count) None
+
 -- a log that was just opened
 abbrev pub opened : Identity → ℕ → ℕ → Stream
 opened identity start consumers = record {
@@ -50,7 +54,7 @@ opened identity start consumers = record {
   limit = start;
   connected = false;
   closed = false;
-  consumers = replicate consumers start;
+  consumers = first_consumers consumers start;
   active = start / identity.geometry.term_length;
   shares = replicate 8 0;
   cleaned = start;
@@ -188,9 +192,19 @@ pub record Aborts (old : Stream) (by : ℕ) (end : ℕ) (new : Stream) : Type 0 
 abbrev pub least : List ℕ → ℕ
 least positions = fold min (slice_index positions 0) positions
 
+-- the positions of the consumers that are there, in the order of their numbers
+abbrev pub standing : List (Option ℕ) → List ℕ
+standing [] = []
+standing (None ∷ consumers) = standing consumers
+standing (Some at ∷ consumers) = at ∷ standing consumers
+
+-- the least of them
+abbrev pub lowest : Stream → ℕ
+lowest l = least (standing l.consumers)
+
 -- how far the log may be cleaned
 abbrev pub clean_end : Stream → ℕ
-clean_end l = max l.start (least l.consumers - term_of l)
+clean_end l = max l.start (lowest l - term_of l)
 
 -- what a cleaning up to here keeps, and what it forgets
 abbrev pub kept_from : ℕ → List Entry → List Entry
@@ -201,15 +215,40 @@ forgotten_below to entries = filter (λ e. not (nat_le to e.start)) entries
 
 -- half a term above the least consumer, unless the limit is further or nobody may publish
 abbrev pub raised : Stream → ℕ
-raised l = if l.connected && not l.closed then max l.limit (least l.consumers + term_of l / 2) else l.limit
+raised l = if l.connected && not l.closed then max l.limit (lowest l + term_of l / 2) else l.limit
 
 abbrev pub cleaned_and_limited : Stream → Stream
 cleaned_and_limited l = record l { cleaned = clean_end l; entries = kept_from (clean_end l) l.entries; limit = raised l }
 
 -- ---- consumers
 
+-- where the consumer of a number stands, if somebody has it
+abbrev pub consumer_at : Stream → ℕ → Option ℕ
+consumer_at l reader = slice_index_or l.consumers reader None
+
+abbrev pub position_in : Option ℕ → ℕ
+position_in None = 0
+position_in (Some at) = at
+
 abbrev pub position_of : Stream → ℕ → ℕ
-position_of l reader = slice_index l.consumers reader
+position_of l reader = position_in (consumer_at l reader)
+
+abbrev pub HasConsumer : Stream → ℕ → Type 0
+HasConsumer l reader = consumer_at l reader ≡ Some (position_of l reader)
+
+-- nobody has this one of the eight numbers
+abbrev pub IsVacant : Stream → ℕ → Type 0
+IsVacant l reader = slice_get l.consumers reader ≡ Some None
+
+-- a consumer with another number is there
+pub record HasOther (l : Stream) (reader : ℕ) : Type 0 where
+  pub other : ℕ
+  pub another : other ≡ reader → ⊥
+  pub there : HasConsumer l other
 
 abbrev pub with_consumer : Stream → ℕ → ℕ → Stream
-with_consumer l reader at = record l { consumers = slice_set l.consumers reader at }
+with_consumer l reader at = record l { consumers = slice_set l.consumers reader (Some at) }
+
+-- nobody has the number
+abbrev pub without_consumer : Stream → ℕ → Stream
+without_consumer l reader = record l { consumers = slice_set l.consumers reader None }

@@ -1,8 +1,9 @@
 //! A reader of a log in one hand, as a source of frames.
 
-ghost use Rattle.std.specs.Prelude.{◌≡◌, ◌<◌, ⊤, length, refl};
+ghost use Rattle.std.specs.Prelude.{◌≡◌, ⊤, length, refl};
 ghost use Rattle.one_hand.specs.HandReads.{AreSame, MovesReader, frames_keep, frames_on, reader_goes_on, reader_stays};
 ghost use Rattle.one_hand.specs.Reads.{source_of};
+ghost use Rattle.one_hand.specs.Stream.{HasConsumer};
 
 use crate::one_hand::OneHandLog;
 use block::Block;
@@ -20,7 +21,7 @@ impl<L: OneHandLog> FrameSource<L> for HandReader {
 
     ghost grown = { AreSame };
 
-    ghost stands = { λ r l. r.number < length (L.stream l).consumers };
+    ghost stands = { λ r l. HasConsumer (L.stream l) r.number };
 
     ghost has_read = { λ r l. ⊤ };
 
@@ -44,7 +45,7 @@ impl<L: OneHandLog> FrameSource<L> for HandReader {
 
     ghost grown_keeps = { frames_keep };
 
-    ghost leaves_same = { λ r l h. reader_stays r.number (L.stream l) };
+    ghost leaves_same = { λ r l h. reader_stays r.number (L.stream l) h };
 
     ghost leaves_on = { λ r l q m p n h k. reader_goes_on r.number (L.stream l) q.number (L.stream m) p.number (L.stream n) h k };
 }

@@ -4,8 +4,9 @@
 //! Exactly: an offer and a claim are answered by the stream alone (closed, used up, at the limit, fitting or not) and
 //! add one entry, one padding or nothing; a commit and an abort end the publisher's claim; a read finds the one
 //! committed frame at the reader's position, and none only where there is none; an advance goes to that frame's end;
-//! a cleaning forgets what begins more than a term below the least consumer, and raises the limit by it; the book has
-//! the shares. Nothing else changes in any call. `IsStream` says what holds of each such stream (`is_whole`).
+//! a cleaning forgets what begins more than a term below the least consumer that is there, and raises the limit by it;
+//! a join stands at the least, and after a leave nobody has the number; the book has the shares. Nothing else changes
+//! in any call. `IsStream` says what holds of each such stream (`is_whole`).
 //!
 //! `LogHand` is the log that threads share, in one hand, and meets all of that: every answer, and the stream after
 //! every call, read off the very words (`LogHand::open`). `HandReader` is a reader by its number, as a source of

@@ -6,14 +6,18 @@ ghost use Rattle.shared_log.specs.Faults.{OfOpening};
 ghost use Rattle.one_hand.specs.Stream.{opened};
 
 pub(crate) mod acting;
+pub(crate) mod consumer;
 pub(crate) mod held;
+pub(crate) mod joining;
 pub(crate) mod keeping;
 pub(crate) mod passing;
 pub(crate) mod reading;
 
 use crate::claims::Claims;
 use crate::log_hand::acting::{abort_as, claim_as, commit_as, offer_as};
+use crate::log_hand::consumer::{consumer_of, place_of};
 use crate::log_hand::held::Held;
+use crate::log_hand::joining::{begin_as, end_as};
 use crate::log_hand::keeping::{clean_as, set_closed_as, set_connected_as};
 use crate::log_hand::passing::advance_as;
 use crate::log_hand::reading::{next_as, reread_as};
@@ -34,7 +38,7 @@ pub struct LogHand {
     /// By the publishers' numbers.
     held: [Option<Held>; PUBLISHERS],
     shares: [u64; PUBLISHERS],
-    /// The readers' positions, by their numbers.
+    /// The consumers' positions, by their numbers.
     positions: [u64; 8],
     /// The limit word, and the position below which nothing is readable any more.
     limit: u64,
@@ -163,12 +167,40 @@ impl Claims for LogHand {
 }
 
 impl OneHandLog for LogHand {
+    fn has_consumer(&self, reader: usize) -> bool {
+        self.there[reader]
+    }
+
+    fn join(&mut self, reader: usize) -> u64 {
+        let Some(all) = self.all.take() else {
+            unreachable!();
+        };
+        let (limit, cleaned, there) = (self.limit, self.cleaned, self.there);
+        let seat = (reader as u64, place_of(&there, reader));
+        let (all, position) = begin_as(&self.log, all, limit, cleaned, there, seat);
+        self.there[reader] = true;
+        self.positions[reader] = position;
+        self.all = Some(all);
+        position
+    }
+
+    fn leave(&mut self, reader: usize) {
+        let Some(all) = self.all.take() else {
+            unreachable!();
+        };
+        let (limit, cleaned, there) = (self.limit, self.cleaned, self.there);
+        let seat = (reader as u64, place_of(&there, reader));
+        let all = end_as(&self.log, all, limit, cleaned, there, seat);
+        self.there[reader] = false;
+        self.all = Some(all);
+    }
+
     fn next(&mut self, reader: usize, block: &mut Block) -> Option<FrameHead> {
         let Some(all) = self.all.take() else {
             unreachable!();
         };
-        let position = self.positions[reader];
-        let (all, head) = next_as(&self.log, all, reader as u64, position, block);
+        let consumer = consumer_of(&self.there, &self.positions, reader);
+        let (all, head) = next_as(&self.log, all, consumer, block);
         self.all = Some(all);
         head
     }
@@ -177,8 +209,8 @@ impl OneHandLog for LogHand {
         let Some(all) = self.all.take() else {
             unreachable!();
         };
-        let position = self.positions[reader];
-        let (all, end) = advance_as(&self.log, all, reader as u64, position, &mut self.block);
+        let consumer = consumer_of(&self.there, &self.positions, reader);
+        let (all, end) = advance_as(&self.log, all, consumer, &mut self.block);
         self.positions[reader] = end;
         self.all = Some(all);
         end
@@ -188,8 +220,8 @@ impl OneHandLog for LogHand {
         let Some(all) = self.all.take() else {
             unreachable!();
         };
-        let stands = self.positions[reader];
-        let (all, head) = reread_as(&self.log, all, reader as u64, stands, position, block);
+        let consumer = consumer_of(&self.there, &self.positions, reader);
+        let (all, head) = reread_as(&self.log, all, consumer, position, block);
         self.all = Some(all);
         head
     }

@@ -1,7 +1,7 @@
 -- What a plain log shows of its stream, and what holds of its parts between two calls.
 -- The parts are what each addition took, and the bytes of the messages, in the order in which they were committed. No
 -- entry is forgotten, so the tail is at most a term above the start.
-use Rattle.std.specs.Prelude.{◌≡◌, ℕ, ◌+◌, ◌/◌, ◌≤◌, ⊤, true, false, List, [], ◌∷◌, length, map, take, drop, Option, Some, slice_get}
+use Rattle.std.specs.Prelude.{◌≡◌, ℕ, ◌+◌, ◌/◌, ◌≤◌, ⊤, true, false, List, [], ◌∷◌, length, map, replicate, take, drop, Option, None, Some, slice_get}
 use Rattle.std.specs.List.{AllByRecursion}
 use Rattle.std.specs.Option.{option_map}
 use Rattle.theory.specs.Position.{Geometry}
@@ -49,7 +49,7 @@ stream_of p = record {
   limit = p.start + p.identity.geometry.term_length / 2;
   connected = true;
   closed = false;
-  consumers = [];
+  consumers = replicate 8 None;
   active = p.active;
   shares = p.shares;
   cleaned = p.start;

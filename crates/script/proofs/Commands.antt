@@ -1,13 +1,13 @@
 -- The commands of lines: reading one, and being said, are the same.
-use Rattle.std.proofs.Common.{◌≡◌, ℕ, Bool, true, false, cond, ◌&&◌, List, [], ◌∷◌, Option, Some, None, inl, inr, refl, sym, ap, subst, ◌∙◌}
+use Rattle.std.proofs.Common.{◌≡◌, ℕ, Bool, true, false, cond, List, [], ◌∷◌, Option, Some, None, inl, inr, refl, sym, ap, subst, ◌∙◌}
 use Rattle.std.specs.Prelude.{bytes_eq, codes, nat_lt}
 use Rattle.std.proofs.lemmas.Bool.{cond-false, cond-true, ltb-true, lt-ltb}
-use Rattle.script.specs.Meaning.{CommandContent, is_group, Group, Connect, Disconnect, Close, Limit, Offer, OfferSize, Claim, Commit, Abort, Read, Send, Deliver, Raw, Tick, Reply, RawBack, Poll, Image}
+use Rattle.script.specs.Meaning.{CommandContent, is_group, Group, Connect, Disconnect, Close, Limit, Offer, OfferSize, Claim, Commit, Abort, Read, Join, Leave, Send, Deliver, Raw, Tick, Reply, RawBack, Poll, Image}
 use Rattle.script.specs.Pieces.{words}
 use Rattle.text.specs.Decimals.{◌>>=◌}
 use Rattle.script.specs.Values.{hex_of}
-use Rattle.script.specs.Reading.{word_at, number_at, most_wide, end_of, whole, last_number, last_bytes, named_of, raw_of, raw_back_of, offer_hex_of, offer_size_of, form_of, offer_of, send_of, deliver_of, reply_of, bare_of, party_alone_of, party_and_number_of, left_of, of_party, numbered_of, plain_of, command_of, command_at, group_of, group_size_of, placed}
-use Rattle.script.specs.Language.{IsPartyNumber, IsUpTo, IsWide, IsHex, MayStand, SayCommand, Says}
+use Rattle.script.specs.Reading.{word_at, number_at, most_wide, end_of, whole, last_number, last_bytes, named_of, raw_of, raw_back_of, offer_hex_of, offer_size_of, form_of, offer_of, send_of, deliver_of, reply_of, bare_of, party_alone_of, party_and_number_of, reader_of, left_of, of_party, numbered_of, plain_of, command_of, command_at, group_of, group_size_of, placed}
+use Rattle.script.specs.Language.{IsPartyNumber, IsReader, IsUpTo, IsWide, IsHex, MayStand, SayCommand, Says}
 use Rattle.script.proofs.Options.{bind_some, some_bind, chosen, guarded_step}
 use Rattle.script.proofs.Words.{hex_found, hex_only}
 use Rattle.script.proofs.Fields.{same_name, word_found, number_at_found, number_at_only, whole_found, whole_only}
@@ -175,9 +175,17 @@ bare_found name o e = elim (chosen (bytes_eq name (codes "connect")) _ _ _ e) [
   ]
 ]
 
-both : (a b : Bool) → (a && b) ≡ true → (a ≡ true) × (b ≡ true)
-both true b e = (refl, e)
-both false b e = absurd (cc)
+reader_found : (name a : List ℕ) (r : ℕ) (o : CommandContent) → IsReader a r → reader_of name r ≡ Some o → SayCommand (name ∷ a ∷ []) o
+unfolding reader_of
+reader_found name a r o is e = elim (chosen (bytes_eq name (codes "read")) _ _ _ e) [
+  | inl h ↦ named_says name (codes "read") (a ∷ []) o h.0 (given (codes "read" ∷ a ∷ []) (Read r) o h.1 (a, refl, is))
+  | inr f1 ↦ elim (chosen (bytes_eq name (codes "join")) _ _ _ f1.1) [
+    | inl h ↦ named_says name (codes "join") (a ∷ []) o h.0 (given (codes "join" ∷ a ∷ []) (Join r) o h.1 (a, refl, is))
+    | inr f2 ↦
+        let h = guarded_step (bytes_eq name (codes "leave")) (Some (Leave r)) o f2.1 in
+        named_says name (codes "leave") (a ∷ []) o h.0 (given (codes "leave" ∷ a ∷ []) (Leave r) o h.1 (a, refl, is))
+  ]
+]
 
 party_alone_found : (name a : List ℕ) (p : ℕ) (o : CommandContent) → IsPartyNumber a p → party_alone_of name p ≡ Some o → SayCommand (name ∷ a ∷ []) o
 unfolding party_alone_of
@@ -190,9 +198,8 @@ party_alone_found name a p o is e = elim (chosen (bytes_eq name (codes "commit")
       | inr f3 ↦ elim (chosen (bytes_eq name (codes "image")) _ _ _ f3.1) [
         | inl h ↦ named_says name (codes "image") (a ∷ []) o h.0 (given (codes "image" ∷ a ∷ []) (Image p) o h.1 (a, refl, is))
         | inr f4 ↦
-            let h = guarded_step (bytes_eq name (codes "read") && nat_lt 0 p) (Some (Read p)) o f4.1 in
-            let t = both (bytes_eq name (codes "read")) (nat_lt 0 p) h.0 in
-            named_says name (codes "read") (a ∷ []) o t.0 (given (codes "read" ∷ a ∷ []) (Read p) o h.1 (a, refl, (is, ltb-true 0 p t.1)))
+            let h = guarded_step (nat_lt 0 p) (reader_of name p) o f4.1 in
+            reader_found name a p o (is, ltb-true 0 p h.0) h.1
       ]
     ]
   ]
@@ -269,7 +276,7 @@ read_words : List (List ℕ) → Option CommandContent
 read_words ws = word_at ws >>= λ name. named_of name.0 name.1
 
 words_only : (ws : List (List ℕ)) (command : CommandContent) → SayCommand ws command → read_words ws ≡ Some command
-unfolding read_words word_at end_of named_of plain_of bare_of numbered_of of_party party_alone_of party_and_number_of offer_of form_of raw_of raw_back_of offer_hex_of offer_size_of send_of deliver_of reply_of group_of
+unfolding read_words word_at end_of named_of plain_of bare_of numbered_of of_party party_alone_of reader_of party_and_number_of offer_of form_of raw_of raw_back_of offer_hex_of offer_size_of send_of deliver_of reply_of group_of
 words_only ws (Group n) (a, is, is_a, above) =
     ap read_words is ∙ some_bind (group_size_of (a ∷ [])) _ n (group_size_only a n is_a)
     ∙ cond-true (nat_lt 0 n) (Some (Group n)) None (lt-ltb 0 n above)
@@ -294,6 +301,12 @@ words_only ws (Abort p) (a, is, is_a) = ap read_words is ∙ some_bind (number_a
 words_only ws (Read r) (a, is, (is_a, above)) =
     ap read_words is ∙ some_bind (number_at 7 (a ∷ [])) _ (r, []) (number_at_only 7 a [] r is_a)
     ∙ cond-true (nat_lt 0 r) (Some (Read r)) None (lt-ltb 0 r above)
+words_only ws (Join r) (a, is, (is_a, above)) =
+    ap read_words is ∙ some_bind (number_at 7 (a ∷ [])) _ (r, []) (number_at_only 7 a [] r is_a)
+    ∙ cond-true (nat_lt 0 r) (Some (Join r)) None (lt-ltb 0 r above)
+words_only ws (Leave r) (a, is, (is_a, above)) =
+    ap read_words is ∙ some_bind (number_at 7 (a ∷ [])) _ (r, []) (number_at_only 7 a [] r is_a)
+    ∙ cond-true (nat_lt 0 r) (Some (Leave r)) None (lt-ltb 0 r above)
 words_only ws (Send now) (a, is, is_a) = ap read_words is ∙ some_bind (last_number (a ∷ [])) _ now (last_number_only a now is_a)
 words_only ws (Deliver k r now) (a, b, c, is, is_a, is_b, is_c) =
     ap read_words is

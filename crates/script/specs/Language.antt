@@ -4,7 +4,7 @@ use Rattle.std.specs.List.{AllPass, Any, filter}
 use Rattle.std.specs.Char.{is_ascii_digit}
 use Rattle.std.specs.Str.Parse.{digits_value}
 use Rattle.hex.specs.Hex.{decode_of}
-use Rattle.script.specs.Meaning.{Opening, CommandContent, ScriptContent, is_group, Group, Connect, Disconnect, Close, Limit, Offer, OfferSize, Claim, Commit, Abort, Read, Send, Deliver, Raw, Tick, Reply, RawBack, Poll, Image}
+use Rattle.script.specs.Meaning.{Opening, CommandContent, ScriptContent, is_group, Group, Connect, Disconnect, Close, Limit, Offer, OfferSize, Claim, Commit, Abort, Read, Join, Leave, Send, Deliver, Raw, Tick, Reply, RawBack, Poll, Image}
 use Rattle.script.specs.Pieces.{lines, words}
 
 -- the word is a number, in decimal digits, with any leading zeros
@@ -54,6 +54,8 @@ SayCommand ws (Claim publisher size) = (a : List ℕ) × (b : List ℕ) × (ws �
 SayCommand ws (Commit publisher) = (a : List ℕ) × (ws ≡ codes "commit" ∷ a ∷ []) × IsPartyNumber a publisher
 SayCommand ws (Abort publisher) = (a : List ℕ) × (ws ≡ codes "abort" ∷ a ∷ []) × IsPartyNumber a publisher
 SayCommand ws (Read reader) = (a : List ℕ) × (ws ≡ codes "read" ∷ a ∷ []) × IsReader a reader
+SayCommand ws (Join reader) = (a : List ℕ) × (ws ≡ codes "join" ∷ a ∷ []) × IsReader a reader
+SayCommand ws (Leave reader) = (a : List ℕ) × (ws ≡ codes "leave" ∷ a ∷ []) × IsReader a reader
 SayCommand ws (Send now) = (a : List ℕ) × (ws ≡ codes "send" ∷ a ∷ []) × IsWide a now
 SayCommand ws (Deliver packet receiver now) = (a : List ℕ) × (b : List ℕ) × (c : List ℕ) × (ws ≡ codes "deliver" ∷ a ∷ b ∷ c ∷ []) × IsWide a packet × IsPartyNumber b receiver × IsWide c now
 SayCommand ws (Raw receiver now bytes) = (a : List ℕ) × (b : List ℕ) × (c : List ℕ) × (ws ≡ codes "raw" ∷ a ∷ b ∷ c ∷ []) × IsPartyNumber a receiver × IsWide b now × IsHex c bytes

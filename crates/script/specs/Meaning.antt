@@ -28,6 +28,8 @@ pub data CommandContent : Type 0 where
   Commit : ℕ → CommandContent
   Abort : ℕ → CommandContent
   Read : ℕ → CommandContent
+  Join : ℕ → CommandContent
+  Leave : ℕ → CommandContent
   Send : ℕ → CommandContent
   Deliver : ℕ → ℕ → ℕ → CommandContent
   Raw : ℕ → ℕ → List ℕ → CommandContent
@@ -71,6 +73,8 @@ content_of (commands.Claim publisher size) = Claim publisher.number size
 content_of (commands.Commit publisher) = Commit publisher.number
 content_of (commands.Abort publisher) = Abort publisher.number
 content_of (commands.Read reader) = Read reader.number
+content_of (commands.Join reader) = Join reader.number
+content_of (commands.Leave reader) = Leave reader.number
 content_of (commands.Send now) = Send now
 content_of (commands.Deliver packet receiver now) = Deliver packet receiver.number now
 content_of (commands.Raw receiver now bytes) = Raw receiver.number now bytes.items

@@ -3,7 +3,7 @@ use Rattle.std.specs.Prelude.{◌≡◌, ℕ, ◌+◌, ◌-◌, ◌^◌, ℤ, Bo
 use Rattle.std.specs.List.{list_any}
 use Rattle.script.specs.declared.fault.ScriptFault.{ScriptFault}
 use Rattle.script.specs.declared.fault.ScriptFault.TheVariants as faults
-use Rattle.script.specs.Meaning.{Opening, CommandContent, ScriptContent, is_group, Group, Connect, Disconnect, Close, Limit, Offer, OfferSize, Claim, Commit, Abort, Read, Send, Deliver, Raw, Tick, Reply, RawBack, Poll, Image}
+use Rattle.script.specs.Meaning.{Opening, CommandContent, ScriptContent, is_group, Group, Connect, Disconnect, Close, Limit, Offer, OfferSize, Claim, Commit, Abort, Read, Join, Leave, Send, Deliver, Raw, Tick, Reply, RawBack, Poll, Image}
 use Rattle.script.specs.Pieces.{lines, words}
 use Rattle.text.specs.Decimals.{◌>>=◌, number_of, signed_of}
 use Rattle.script.specs.Values.{hex_of}
@@ -100,6 +100,13 @@ bare_of name =
     else (if bytes_eq name (codes "close") then Some Close
     else (if bytes_eq name (codes "limit") then Some Limit else None)))
 
+-- of a name behind which a reader stands alone
+unfoldable pub reader_of : List ℕ → ℕ → Option CommandContent
+reader_of name reader =
+    if bytes_eq name (codes "read") then Some (Read reader)
+    else (if bytes_eq name (codes "join") then Some (Join reader)
+    else (if bytes_eq name (codes "leave") then Some (Leave reader) else None))
+
 -- of a name behind which a party stands alone; reader 0 is the sender, which no line names
 unfoldable pub party_alone_of : List ℕ → ℕ → Option CommandContent
 party_alone_of name party =
@@ -107,7 +114,7 @@ party_alone_of name party =
     else (if bytes_eq name (codes "abort") then Some (Abort party)
     else (if bytes_eq name (codes "poll") then Some (Poll party)
     else (if bytes_eq name (codes "image") then Some (Image party)
-    else (if bytes_eq name (codes "read") && nat_lt 0 party then Some (Read party) else None))))
+    else (if nat_lt 0 party then reader_of name party else None))))
 
 -- of a name behind which a party and a number stand
 unfoldable pub party_and_number_of : List ℕ → ℕ → ℕ → Option CommandContent

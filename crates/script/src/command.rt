@@ -74,6 +74,14 @@ pub enum Command {
     Read {
         reader: PartyNumber,
     },
+    /// A reader beside the sender joins.
+    Join {
+        reader: PartyNumber,
+    },
+    /// A reader beside the sender leaves.
+    Leave {
+        reader: PartyNumber,
+    },
     /// The sender does one cycle.
     Send {
         now: u64,

@@ -1,6 +1,6 @@
 ghost use Rattle.std.specs.Prelude.{◌≡◌, ◌^◌, ◌≤◌, IfSome};
 ghost use Rattle.script.specs.Meaning.{opening, content_of, is_group};
-ghost use Rattle.script.specs.Reading.{ReturnsRead, GivesAt, number_at, signed_at, last_number, last_bytes, offer_hex_of, offer_size_of, form_of, offer_of, raw_of, raw_back_of, named_of, send_of, deliver_of, reply_of, bare_of, party_alone_of, party_and_number_of, of_party, numbered_of, plain_of, command_of, command_at, group_of, group_size_of, shape_at, opening_of, log_of, is_log};
+ghost use Rattle.script.specs.Reading.{ReturnsRead, GivesAt, number_at, signed_at, last_number, last_bytes, offer_hex_of, offer_size_of, form_of, offer_of, raw_of, raw_back_of, named_of, send_of, deliver_of, reply_of, bare_of, party_alone_of, party_and_number_of, reader_of, of_party, numbered_of, plain_of, command_of, command_at, group_of, group_size_of, shape_at, opening_of, log_of, is_log};
 ghost use Rattle.script.specs.Rests.{shaped, words_left};
 
 use crate::command::{Command, GroupSize, LogLine, PartyNumber};
@@ -221,6 +221,22 @@ fn bare(name: &[u8]) -> Option<Command>
     }
 }
 
+/// The command of this name, behind which a reader stands alone.
+#[tactic(auto, unfolding(crate::specs::Reading::reader_of))]
+fn reader_alone(name: &[u8], reader: PartyNumber) -> Option<Command>
+    ensures { ReturnsRead content_of result (reader_of name.now reader.number) }
+{
+    if name == b"read".as_slice() {
+        Some(Command::Read { reader })
+    } else if name == b"join".as_slice() {
+        Some(Command::Join { reader })
+    } else if name == b"leave".as_slice() {
+        Some(Command::Leave { reader })
+    } else {
+        None
+    }
+}
+
 /// The command of this name, behind which a party stands alone.
 #[tactic(auto, unfolding(crate::specs::Reading::party_alone_of))]
 fn party_alone(name: &[u8], party: PartyNumber) -> Option<Command>
@@ -234,8 +250,8 @@ fn party_alone(name: &[u8], party: PartyNumber) -> Option<Command>
         Some(Command::Poll { receiver: party })
     } else if name == b"image".as_slice() {
         Some(Command::Image { receiver: party })
-    } else if name == b"read".as_slice() && party.number > 0 {
-        Some(Command::Read { reader: party })
+    } else if party.number > 0 {
+        reader_alone(name, party)
     } else {
         None
     }

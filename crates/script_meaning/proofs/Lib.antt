@@ -1,6 +1,7 @@
 pub mod Counted
 pub mod Honest
 mod HonestRows
+mod ReaderRows
 mod WholeRows
 pub mod InBounds
 pub mod Lone
@@ -15,6 +16,7 @@ pub mod ReaderRuns
 pub mod ReceiverRuns
 pub mod Resends
 pub mod Runs
+pub mod Seen
 pub mod SenderRuns
 pub mod Sound
 pub mod SoundLines

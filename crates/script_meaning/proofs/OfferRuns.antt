@@ -1,5 +1,5 @@
 -- An offer or a claim as events of the log: a publisher is armed and adds one entry, and a message's frames are committed one by one.
-use Rattle.std.proofs.Common.{◌≡◌, ℕ, zero, suc, ◌+◌, ◌-◌, ◌*◌, ◌%◌, ◌^◌, ◌<◌, ◌≤◌, inl, List, [], ◌∷◌, ◌++◌, map, length, Bool, true, false, cond, not, refl, sym, ap, ◌∙◌, subst, arith, append-nil, append_assoc}
+use Rattle.std.proofs.Common.{◌≡◌, ℕ, zero, suc, ◌+◌, ◌-◌, ◌*◌, ◌%◌, ◌^◌, ◌<◌, ◌≤◌, inl, List, [], ◌∷◌, ◌++◌, map, length, Bool, true, false, cond, Option, not, refl, sym, ap, ◌∙◌, subst, arith, append-nil, append_assoc}
 use Rattle.std.specs.Prelude.{Some, nat_eq, nat_le, replicate, slice_get, slice_set}
 use Rattle.std.specs.List.{AllByRecursion}
 use Rattle.std.proofs.lemmas.Bool.{cond-true, cond-false, eq-eqb, leb-false, ne_eqb, not_from_true}
@@ -64,7 +64,7 @@ taken l size fits e =
 -- ---- the entry
 
 -- the room of the model's log is what the active term has left
-room_is : (past : List Entry) (readers : List Consumer) (l : Stream) → IsStream l → 0 < room l → model.room (model_log past readers l) ≡ room l
+room_is : (past : List Entry) (readers : List (Option Consumer)) (l : Stream) → IsStream l → 0 < room l → model.room (model_log past readers l) ≡ room l
 room_is past readers l h some =
     let t = term_of l in
     let used = l.tail - l.active * t in
@@ -111,7 +111,7 @@ abbrev pub open_entry : ℕ → ℕ → Bool → List ℕ → List Frame → Ent
 open_entry start by padding cuts frames = record { start = start; owner = by; padding = padding; cuts = cuts; frames = frames }
 
 -- what an offer or a claim adds
-pub record TakesOne (past : List Entry) (readers : List Consumer) (l : Stream) (by size : ℕ) (padding : Bool) (cuts : List ℕ) : Type 0 where
+pub record TakesOne (past : List Entry) (readers : List (Option Consumer)) (l : Stream) (by size : ℕ) (padding : Bool) (cuts : List ℕ) : Type 0 where
   pub publisher : by < 8
   pub short : size ≤ max_message l.identity.geometry
   pub within : l.tail < max_position l.identity.geometry
@@ -121,11 +121,11 @@ pub record TakesOne (past : List Entry) (readers : List Consumer) (l : Stream) (
 same_entry : (start by : ℕ) (a b : Bool) (xs ys : List ℕ) → a ≡ b → xs ≡ ys → open_entry start by a xs [] ≡ open_entry start by b ys []
 same_entry start by a b xs ys e f = ap (λ p. open_entry start by p xs []) e ∙ ap (λ zs. open_entry start by b zs []) f
 
-tested : (past : List Entry) (readers : List Consumer) (l : Stream) (size : ℕ) (fits : Bool) → IsStream l → IsTaken l size fits → nat_le (span (cuts_of l.identity.geometry size)) (model.room (model_log past readers l)) ≡ fits
+tested : (past : List Entry) (readers : List (Option Consumer)) (l : Stream) (size : ℕ) (fits : Bool) → IsStream l → IsTaken l size fits → nat_le (span (cuts_of l.identity.geometry size)) (model.room (model_log past readers l)) ≡ fits
 tested past readers l size fits h k =
     ap (λ n. nat_le n (model.room (model_log past readers l))) (covers_framed l.identity.geometry size h.geometry) ∙ ap (λ n. nat_le (covered l size) n) (room_is past readers l h k.some) ∙ k.fitting
 
-pub fits_one : (past : List Entry) (readers : List Consumer) (l : Stream) (by size : ℕ) → IsStream l → by < 8 → size ≤ max_message l.identity.geometry → case_of l size ≡ Fits → TakesOne past readers l by size false (cuts_of l.identity.geometry size)
+pub fits_one : (past : List Entry) (readers : List (Option Consumer)) (l : Stream) (by size : ℕ) → IsStream l → by < 8 → size ≤ max_message l.identity.geometry → case_of l size ≡ Fits → TakesOne past readers l by size false (cuts_of l.identity.geometry size)
 fits_one past readers l by size h who short e =
     let k = taken l size true e in
     let t = tested past readers l size true h k in
@@ -141,7 +141,7 @@ fits_one past readers l by size h who short e =
           (cond-true (nat_le (span cuts) left) cuts (left ∷ []) t);
     }
 
-pub trips_one : (past : List Entry) (readers : List Consumer) (l : Stream) (by size : ℕ) → IsStream l → by < 8 → size ≤ max_message l.identity.geometry → case_of l size ≡ Trips → TakesOne past readers l by size true (room l ∷ [])
+pub trips_one : (past : List Entry) (readers : List (Option Consumer)) (l : Stream) (by size : ℕ) → IsStream l → by < 8 → size ≤ max_message l.identity.geometry → case_of l size ≡ Trips → TakesOne past readers l by size true (room l ∷ [])
 trips_one past readers l by size h who short e =
     let k = taken l size false e in
     let t = tested past readers l size false h k in
@@ -177,11 +177,11 @@ still_rest by low = set_same 8 by
 disarms : (by : ℕ) → by < 8 → slice_set (armed_by by) by false ≡ at_rest
 disarms by low = set-set at_rest by true false ∙ still_rest by low
 
-abbrev armed_stream : List Entry → List Consumer → Stream → ℕ → model.Log
+abbrev armed_stream : List Entry → List (Option Consumer) → Stream → ℕ → model.Log
 armed_stream past readers l by = record (model_log past readers l) { armed = armed_by by }
 
 -- the log with one entry more
-abbrev pub added_stream : List Entry → List Consumer → Stream → Entry → ℕ → model.Log
+abbrev pub added_stream : List Entry → List (Option Consumer) → Stream → Entry → ℕ → model.Log
 added_stream past readers l e to = record (model_log past readers l) { entries = past ++ (l.entries ++ e ∷ []); tail = to }
 
 same_added : (l : model.Log) (a b : List Bool) (xs ys : List Entry) (p q : ℕ) → a ≡ b → xs ≡ ys → p ≡ q → record l { armed = a; entries = xs; tail = p } ≡ record l { armed = b; entries = ys; tail = q }
@@ -202,10 +202,10 @@ all_false (suc n) (suc k) l = all_false n k (omega arith)
 living : (by : ℕ) → by < 8 → (by < 8) × (slice_get (replicate 8 false) by ≡ Some false)
 living by low = (low, all_false 8 by low)
 
-arms : (past : List Entry) (readers : List Consumer) (l : Stream) (by size : ℕ) (padding : Bool) (cuts : List ℕ) → TakesOne past readers l by size padding cuts → (others : List ℕ) → LogStep others (model_log past readers l) (Arm by l.limit) (armed_stream past readers l by)
+arms : (past : List Entry) (readers : List (Option Consumer)) (l : Stream) (by size : ℕ) (padding : Bool) (cuts : List ℕ) → TakesOne past readers l by size padding cuts → (others : List ℕ) → LogStep others (model_log past readers l) (Arm by l.limit) (armed_stream past readers l by)
 arms past readers l by size padding cuts h others = (living by h.publisher, omega arith, h.below, refl)
 
-adds : (past : List Entry) (readers : List Consumer) (l : Stream) (by size : ℕ) (padding : Bool) (cuts : List ℕ) (to : ℕ) → TakesOne past readers l by size padding cuts → to ≡ l.tail + span cuts → (others : List ℕ) → LogStep others (armed_stream past readers l by) (Add by size) (added_stream past readers l (open_entry l.tail by padding cuts []) to)
+adds : (past : List Entry) (readers : List (Option Consumer)) (l : Stream) (by size : ℕ) (padding : Bool) (cuts : List ℕ) (to : ℕ) → TakesOne past readers l by size padding cuts → to ≡ l.tail + span cuts → (others : List ℕ) → LogStep others (armed_stream past readers l by) (Add by size) (added_stream past readers l (open_entry l.tail by padding cuts []) to)
 adds past readers l by size padding cuts to h is others =
     let armed = armed_stream past readers l by in
     let claim = open_entry l.tail by padding cuts [] in

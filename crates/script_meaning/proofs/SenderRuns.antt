@@ -27,10 +27,10 @@ use Rattle.model.proofs.Datagrams.{cycle_sends}
 use Rattle.retransmit.specs.Handler.{answered_first}
 use Rattle.theory.proofs.Places.{power_unit}
 use Rattle.one_hand.specs.Legal.{IsStream}
-use Rattle.one_hand.specs.Stream.{Stream, clean_end, cleaned_and_limited, forgotten_below, kept_from, least, raised}
+use Rattle.one_hand.specs.Stream.{Stream, clean_end, cleaned_and_limited, forgotten_below, kept_from, least, lowest, raised, standing}
 use Rattle.script_meaning.specs.Answers.{IsCycle, after_cycle, again_for, behind_new, clock_at, cycle_limit, end_from, heard, missed, named, place_in, resent_on, sent_on, with_log, woken}
 use Rattle.sender.specs.Cycling.{Cycle, GivesNew}
-use Rattle.script_meaning.specs.ScriptState.{ScriptState, model_log, world_of}
+use Rattle.script_meaning.specs.ScriptState.{ScriptState, model_log, seat_of, world_of}
 use Rattle.script_meaning.proofs.Runs.{Goes, goes_one, goes_on, stays}
 
 -- the world with another sender
@@ -157,18 +157,32 @@ cleaned_to w to = record w { log = record w.log { cleaned = to } }
 abbrev Lowest : World → ℕ → Type 0
 Lowest w m = IsLowest (w.sender.at ∷ []) w.log m
 
-each_above : (m : ℕ) (rs : List Consumer) → AllByRecursion (λ p. m ≤ p) (map (λ r. r.at) rs) → Each (λ r. m ≤ r.at) (map Some rs)
-each_above m [] h = tt
-each_above m (r ∷ rs) h = (h.0, each_above m rs h.1)
+-- what holds where each that is there stands, of the readers and of their positions
+pub each_standing : (P : ℕ → Type 0) (rs : List (Option Consumer)) → AllByRecursion P (standing (map seat_of rs)) → Each (λ r. P r.at) rs
+each_standing P [] h = tt
+each_standing P (None ∷ rs) h = (tt, each_standing P rs h)
+each_standing P (Some r ∷ rs) h = (h.0, each_standing P rs h.1)
+
+pub standing_each : (P : ℕ → Type 0) (rs : List (Option Consumer)) → Each (λ r. P r.at) rs → AllByRecursion P (standing (map seat_of rs))
+standing_each P [] h = tt
+standing_each P (None ∷ rs) h = standing_each P rs h.1
+standing_each P (Some r ∷ rs) h = (h.0, standing_each P rs h.1)
+
+-- the sender and the readers are the log's consumers
+abbrev pub AreConsumers : ScriptState → Type 0
+AreConsumers s = s.log.consumers ≡ Some s.sender.at ∷ map seat_of s.readers
+
+all_stand : (s : ScriptState) → AreConsumers s → standing s.log.consumers ≡ s.sender.at ∷ standing (map seat_of s.readers)
+all_stand s are = ap standing are
 
 -- no consumer is below the least position
-all_above : (s : ScriptState) → s.log.consumers ≡ s.sender.at ∷ map (λ c. c.at) s.readers → Lowest (world_of s) (least s.log.consumers)
+pub all_above : (s : ScriptState) → AreConsumers s → Lowest (world_of s) (lowest s.log)
 all_above s are =
-    let ps = s.sender.at ∷ map (λ c. c.at) s.readers in
+    let ps = s.sender.at ∷ standing (map seat_of s.readers) in
     let low = fold_each s.sender.at ps in
-    let same : least s.log.consumers ≡ fold min s.sender.at ps = ap least are in
-    let all : AllByRecursion (λ p. least s.log.consumers ≤ p) ps = subst (λ m. AllByRecursion (λ p. m ≤ p) ps) (sym same) low in
-    record { others_above = (all.0, tt); readers_above = each_above (least s.log.consumers) s.readers all.1 }
+    let same : lowest s.log ≡ fold min s.sender.at ps = ap least (all_stand s are) in
+    let all : AllByRecursion (λ p. lowest s.log ≤ p) ps = subst (λ m. AllByRecursion (λ p. m ≤ p) ps) (sym same) low in
+    record { others_above = (all.0, tt); readers_above = each_standing (λ p. lowest s.log ≤ p) s.readers all.1 }
 
 -- word by word
 cleans_on : (n : ℕ) (w : World) (m to : ℕ) → Lowest w m → to ≡ w.log.cleaned + 8 * n → to ≤ max w.log.start (m - w.log.identity.geometry.term_length) → Goes w (cleaned_to w to)
@@ -235,14 +249,15 @@ limit_entries past l h =
     ∙ ap (λ (es : List Entry). past ++ es) (parted l.identity.geometry.term_length h.first (clean_end l) l.tail l.entries h.tiles)
 
 -- what holds of each consumer holds of the least
-least_holds : (P : ℕ → Type 0) (at : ℕ) (ps qs : List ℕ) → ps ≡ at ∷ qs → AllByRecursion P ps → P (least ps)
-least_holds P at ps qs are all =
-    let each : AllByRecursion P (at ∷ qs) = subst (AllByRecursion P) are all in
-    subst (λ xs. P (least xs)) (sym are) (fold_keeps P at (at ∷ qs) each.0 each)
+pub least_holds : (P : ℕ → Type 0) (s : ScriptState) → AreConsumers s → AllByRecursion P (standing s.log.consumers) → P (lowest s.log)
+least_holds P s are all =
+    let ps = s.sender.at ∷ standing (map seat_of s.readers) in
+    let each : AllByRecursion P ps = subst (AllByRecursion P) (all_stand s are) all in
+    subst (λ xs. P (least xs)) (sym (all_stand s are)) (fold_keeps P s.sender.at ps each.0 each)
 
 -- it cleans no less than before
-clean_grows : (s : ScriptState) → IsStream s.log → s.log.consumers ≡ s.sender.at ∷ map (λ c. c.at) s.readers → s.log.cleaned ≤ clean_end s.log
-clean_grows s legal are = least_holds (λ p. s.log.cleaned ≤ max s.log.start (p - s.log.identity.geometry.term_length)) s.sender.at s.log.consumers (map (λ (c : Consumer). c.at) s.readers) are legal.readable
+pub clean_grows : (s : ScriptState) → IsStream s.log → AreConsumers s → s.log.cleaned ≤ clean_end s.log
+clean_grows s legal are = least_holds (λ p. s.log.cleaned ≤ max s.log.start (p - s.log.identity.geometry.term_length)) s are legal.readable
 
 all_below : (to : ℕ) (es : List Entry) → AllByRecursion (λ e. e.start < to) (forgotten_below to es)
 all_below to [] = tt
@@ -253,22 +268,21 @@ all_below to (e ∷ es) =
     (cases_lt e.start to)
 
 -- what is forgotten begins below what is cleaned
-pub limit_forgotten : (s : ScriptState) → IsStream s.log → s.log.consumers ≡ s.sender.at ∷ map (λ c. c.at) s.readers → AllByRecursion (λ e. e.start < s.log.cleaned) s.past → AllByRecursion (λ e. e.start < clean_end s.log) (s.past ++ forgotten_below (clean_end s.log) s.log.entries)
+pub limit_forgotten : (s : ScriptState) → IsStream s.log → AreConsumers s → AllByRecursion (λ e. e.start < s.log.cleaned) s.past → AllByRecursion (λ e. e.start < clean_end s.log) (s.past ++ forgotten_below (clean_end s.log) s.log.entries)
 limit_forgotten s legal are before =
     let to = clean_end s.log in
     let grows : s.log.cleaned ≤ to = clean_grows s legal are in
     all_append (λ e. e.start < to) s.past (forgotten_below to s.log.entries) (all_weaker (λ e. e.start < s.log.cleaned) (λ e. e.start < to) (λ e low. omega (arith, low, grows)) s.past before) (all_below to s.log.entries)
 
 -- a log of which the sender and the readers are the consumers, after its keeper's call
-pub limits : (s : ScriptState) → IsStream s.log → s.log.consumers ≡ s.sender.at ∷ map (λ c. c.at) s.readers → Goes (world_of s) (record (world_of s) { log = model_log (s.past ++ forgotten_below (clean_end s.log) s.log.entries) s.readers (cleaned_and_limited s.log) })
+pub limits : (s : ScriptState) → IsStream s.log → AreConsumers s → Goes (world_of s) (record (world_of s) { log = model_log (s.past ++ forgotten_below (clean_end s.log) s.log.entries) s.readers (cleaned_and_limited s.log) })
 limits s legal are =
     let w = world_of s in
     let t = s.log.identity.geometry.term_length in
-    let m = least s.log.consumers in
+    let m = lowest s.log in
     let to = clean_end s.log in
     let past = s.past ++ forgotten_below to s.log.entries in
-    let positions = map (λ (c : Consumer). c.at) s.readers in
-    let unit : m % 32 ≡ 0 = least_holds (λ p. p % 32 ≡ 0) s.sender.at s.log.consumers positions are legal.consumer_units in
+    let unit : m % 32 ≡ 0 = least_holds (λ p. p % 32 ≡ 0) s are legal.consumer_units in
     let readable : s.log.cleaned ≤ to = clean_grows s legal are in
     let lowest : Lowest w m = all_above s are in
     let term : t % 32 ≡ 0 = power_unit t legal.geometry.term.power legal.geometry.term.least in

@@ -1,6 +1,6 @@
 -- What holds of the state after each line of a script.
-use Rattle.std.proofs.Common.{◌≡◌, ℕ, zero, suc, ◌+◌, ◌<◌, ◌≤◌, false, List, [], ◌∷◌, ◌++◌, map, length, Option, None, Some, refl, sym, ap, ◌∙◌, subst, arith, append-nil}
-use Rattle.std.specs.Prelude.{replicate, slice_get}
+use Rattle.std.proofs.Common.{◌≡◌, ℕ, zero, suc, ◌+◌, ◌-◌, ◌<◌, ◌≤◌, false, List, [], ◌∷◌, ◌++◌, map, length, Option, None, Some, refl, sym, ap, ◌∙◌, subst, arith, append-nil}
+use Rattle.std.specs.Prelude.{⊤, replicate, slice_get, slice_index_or}
 use Rattle.std.specs.List.{AllByRecursion}
 use Rattle.std.proofs.lemmas.Grind.{flat_map-append}
 use Rattle.theory.specs.Position.{Geometry, IsGeometry, max_position}
@@ -9,7 +9,7 @@ use Rattle.std.specs.Option.{option_map}
 use Rattle.script_meaning.specs.LineContents.{LineContent}
 use Rattle.theory.specs.Bytes.{Identity}
 use Rattle.model.specs.Headline.{Always, IsTiled, IsBounded, IsPrefixPolled, IsReadable, ArePublished, AreSpelled, IsPublished}
-use Rattle.model.specs.StepLaws.{HavePassed}
+use Rattle.model.specs.StepLaws.{AreReached, HavePassed}
 use Rattle.model.specs.StreamLaws.{AreShort}
 use Rattle.theory.specs.Laws.{HasOneReading}
 use Rattle.theory.specs.Placed.{Among, Frame, end_of}
@@ -20,11 +20,13 @@ use Rattle.model.specs.World.{IsOpened, World}
 use Rattle.theory.proofs.Lists.{all_at, all_weaker}
 use Rattle.theory.proofs.Frames.{committed_below}
 use Rattle.script.specs.Meaning.{CommandContent}
-use Rattle.script_meaning.specs.Published.{AllWhole, IsWhole, Played, Range, covered_by, joined_by, joins, polled, polled_by, published, ranges_after, ranges_behind, read, read_by}
+use Rattle.script_meaning.specs.Published.{AllWhole, IsWhole, Played, Range, covered_by, joined_by, joins, polled, polled_by, published, ranges_after, ranges_behind, read_by, turned_by}
 use Rattle.receiver.specs.Receiving.{Opened, Receiver}
-use Rattle.script_meaning.specs.ScriptState.{ScriptState, entries_of, image_of, lone, opened_state, world_of}
+use Rattle.script_meaning.specs.ScriptState.{ScriptState, entries_of, image_of, lone, opened_state, seat_of, world_of}
 use Rattle.script_meaning.specs.Standing.{Begins}
+use Rattle.script_meaning.specs.Answers.{reader_at}
 use Rattle.script_meaning.proofs.Honest.{AreHonest}
+use Rattle.script_meaning.proofs.Seen.{Seen, and_line, seen, seen_quiet}
 use Rattle.script_meaning.proofs.Lone.{lone_there}
 use Rattle.script_meaning.proofs.OfferRuns.{LogHolds, tail_in_stream}
 use Rattle.script_meaning.proofs.Ranges.{Matches}
@@ -41,6 +43,7 @@ pub record Laws : Type 0 where
   pub spelled : Always AreSpelled
   pub readable : Always IsReadable
   pub passed : Always HavePassed
+  pub reached : Always AreReached
   pub short : Always AreShort
   pub places : Places
   pub reading : HasOneReading
@@ -49,34 +52,41 @@ pub record Laws : Type 0 where
 abbrev pub HasFollowed : Identity → List Played → ScriptState → ℕ → Type 0
 HasFollowed i played s k = (r : Receiver) × (slice_get s.receivers k ≡ Some r) × Follows i r (joins k played) (polled k played) (AllWhole k played)
 
--- a reader that has heard each frame from the start on, which its lines showed
-pub record ReadSo (start : ℕ) (c : Consumer) (frames : List Frame) : Type 0 where
-  pub join : c.join ≡ start
+-- a reader that has heard each frame from its join on, which its lines showed
+pub record ReadSo (c : Consumer) (w : Seen) : Type 0 where
+  pub join : c.join ≡ w.join
   pub whole : c.lost ≡ false
-  pub heard : c.assembly ≡ after_all nothing_heard frames
-  pub at : c.at ≡ start + covered_by frames
+  pub heard : c.assembly ≡ after_all nothing_heard w.frames
+  pub at : c.at ≡ w.join + covered_by w.frames
 
-abbrev pub HasRead : ℕ → List Played → ScriptState → ℕ → Type 0
-HasRead start played s k = (c : Consumer) × (slice_get s.readers k ≡ Some c) × ReadSo start c (read (suc k) played)
+-- who is there is who its lines say is there
+abbrev pub HasRead : Option Consumer → Option Seen → Type 0
+HasRead None None = ⊤
+HasRead (Some c) (Some w) = ReadSo c w
+HasRead None (Some w) = ⊥
+HasRead (Some c) None = ⊥
 
 -- what holds behind these lines, where the images are looked at through that of one receiver alone
 pub record IsSound (i : Identity) (group : Option ℕ) (start readers only : ℕ) (played : List Played) (s : ScriptState) : Type 0 where
   pub runs : Goes (world_of (opened_state i group start readers)) (world_of (lone only s))
   pub identity : s.log.identity ≡ i
   pub start_is : s.log.start ≡ start
-  pub consumers : s.log.consumers ≡ s.sender.at ∷ map (λ c. c.at) s.readers
+  pub consumers : s.log.consumers ≡ Some s.sender.at ∷ map seat_of s.readers
   pub named : AllByRecursion (λ p. p ≤ max_position i.geometry) s.sender.setups
   pub forgotten : AllByRecursion (λ e. e.start < s.log.cleaned) s.past
   pub honest : AreHonest i s.sender s.packets
   pub matches : Matches (entries_of s) (published i.geometry played)
   pub eight : length s.receivers ≡ 8
   pub followed : only < 8 → HasFollowed i played s only
-  pub seats : length s.readers ≡ readers
-  pub reading : (k : ℕ) → k < readers → HasRead start played s k
+  pub reading : (r : ℕ) → HasRead (reader_at s r) (seen start readers r played)
 
-all_there : (start n : ℕ) → Each (λ r. r ≡ consumer_at start) (map Some (replicate n (consumer_at start)))
-all_there start zero = tt
-all_there start (suc n) = (refl, all_there start n)
+none_there : (P : Consumer → Type 0) (n : ℕ) → Each P (replicate n None)
+none_there P zero = tt
+none_there P (suc n) = (tt, none_there P n)
+
+all_there : (start n m : ℕ) → Each (λ r. r ≡ consumer_at start) (replicate n (Some (consumer_at start)) ++ replicate m None)
+all_there start zero m = none_there (λ r. r ≡ consumer_at start) m
+all_there start (suc n) m = (refl, all_there start n m)
 
 pub opened : (i : Identity) (group : Option ℕ) (start readers : ℕ) → Begins i start → IsOpened (world_of (opened_state i group start readers))
 opened i group start readers b = record {
@@ -92,7 +102,7 @@ opened i group start readers b = record {
   connected = refl;
   closed = refl;
   cleaned = refl;
-  readers = all_there start readers;
+  readers = all_there start readers (7 - readers);
   sender = refl;
   images = refl;
 }
@@ -144,9 +154,6 @@ sending laws i group start readers only played s b h =
 
 -- ---- one line more
 
-abbrev pub and_line : List Played → CommandContent → List LineContent → List Played
-and_line played command lines = played ++ record { command = command; lines = lines } ∷ []
-
 behind_more : (g : Geometry) (ranges : List Range) (played : List Played) (command : CommandContent) (lines : List LineContent) → ranges_behind g ranges (and_line played command lines) ≡ ranges_after g (ranges_behind g ranges played) command lines
 behind_more g ranges [] command lines = refl
 behind_more g ranges (p ∷ ps) command lines = behind_more g (ranges_after g ranges p.command p.lines) ps command lines
@@ -163,9 +170,6 @@ joins_more k played command lines = flat_map-append (λ p. joined_by k p.command
 
 pub polled_more : (k : ℕ) (played : List Played) (command : CommandContent) (lines : List LineContent) → polled k (and_line played command lines) ≡ polled k played ++ polled_by k command lines
 polled_more k played command lines = flat_map-append (λ p. polled_by k p.command p.lines) played (record { command = command; lines = lines } ∷ []) ∙ ap (λ xs. polled k played ++ xs) (append-nil (polled_by k command lines))
-
-pub read_more : (r : ℕ) (played : List Played) (command : CommandContent) (lines : List LineContent) → read r (and_line played command lines) ≡ read r played ++ read_by r command lines
-read_more r played command lines = flat_map-append (λ p. read_by r p.command p.lines) played (record { command = command; lines = lines } ∷ []) ∙ ap (λ xs. read r played ++ xs) (append-nil (read_by r command lines))
 
 pub whole_parts : (k : ℕ) (played : List Played) (command : CommandContent) (lines : List LineContent) → AllWhole k (and_line played command lines) → AllWhole k played × IsWhole k command lines
 whole_parts k [] command lines h = (tt, h.0)
@@ -190,9 +194,13 @@ follows_quiet i k r played command lines j g h =
     (λ x. (whole_parts k played command lines x).0)
     h
 
+-- the line says nothing of any reader
+abbrev pub SaysNoRead : CommandContent → List LineContent → Type 0
+SaysNoRead command lines = (r : ℕ) → (read_by r command lines ≡ []) × (turned_by r command lines ≡ [])
+
 -- the line says nothing of any receiver or reader, and they stay
 pub record IsQuiet (command : CommandContent) (lines : List LineContent) : Type 0 where
-  pub reads : (k : ℕ) → read_by (suc k) command lines ≡ []
+  pub reads : SaysNoRead command lines
   pub joins : (k : ℕ) → joined_by k command lines ≡ []
   pub polls : (k : ℕ) → polled_by k command lines ≡ []
 
@@ -202,10 +210,14 @@ followed_stays i played command lines s t only quiet same h low =
     let r = h low in
     (r.0, same ∙ r.1, follows_quiet i only r.0 played command lines quiet.0 quiet.1 r.2)
 
-pub readers_stay : (start n : ℕ) (played : List Played) (command : CommandContent) (lines : List LineContent) (s t : ScriptState) → ((k : ℕ) → read_by (suc k) command lines ≡ []) → t.readers ≡ s.readers → ((k : ℕ) → k < n → HasRead start played s k) → (k : ℕ) → k < n → HasRead start (and_line played command lines) t k
-readers_stay start n played command lines s t quiet same h k low =
-    let r = h k low in
-    (r.0, ap (λ xs. slice_get xs k) same ∙ r.1, subst (ReadSo start r.0) (sym (read_more (suc k) played command lines ∙ ap (λ xs. read (suc k) played ++ xs) (quiet k) ∙ append-nil (read (suc k) played))) r.2)
+pub readers_stay : (start readers : ℕ) (played : List Played) (command : CommandContent) (lines : List LineContent) (s t : ScriptState) → SaysNoRead command lines → t.readers ≡ s.readers
+    → ((r : ℕ) → HasRead (reader_at s r) (seen start readers r played)) → (r : ℕ) → HasRead (reader_at t r) (seen start readers r (and_line played command lines))
+readers_stay start readers played command lines s t quiet same h r =
+    subst (λ (x : Option Consumer × Option Seen). HasRead x.0 x.1) (λ j. (sym (reader_same s t r same) j, sym (seen_quiet start readers r played command lines (quiet r).0 (quiet r).1) j)) (h r)
+  where
+    reader_same : (s t : ScriptState) (r : ℕ) → t.readers ≡ s.readers → reader_at t r ≡ reader_at s r
+    reader_same s t zero e = refl
+    reader_same s t (suc k) e = ap (λ xs. slice_index_or xs k None) e
 
 -- the receiver of a sound state, as the lemmas on its frames want it
 pub at_number : (i : Identity) (group : Option ℕ) (start readers only : ℕ) (played : List Played) (s : ScriptState) (r q : Receiver) → IsSound i group start readers only played s → only < 8 → slice_get s.receivers only ≡ Some r → q.image ≡ r.image → numbers_of q ≡ numbers_of r → At (lone only s) only q (joins only played) (polled only played) (AllWhole only played)

@@ -33,7 +33,8 @@ use Rattle.script_meaning.proofs.OfferRuns.{LogHolds, at_log, claims, fits_one, 
 use Rattle.script_meaning.proofs.Ranges.{Matches, SameRange, abort_only, claimed_at, frame_only, matches_abort, matches_commit, matches_more, matches_padding, one_cut, same_claimed, same_offered}
 use Rattle.script_meaning.proofs.Runs.{Goes, goes_on, stays}
 use Rattle.script_meaning.proofs.SenderRuns.{closes, connects, limit_entries, limit_forgotten, limits}
-use Rattle.script_meaning.proofs.Sound.{IsQuiet, IsSound, Laws, SaysNoRange, and_line, followed_stays, holds, published_more, readers_stay}
+use Rattle.script_meaning.proofs.Seen.{and_line}
+use Rattle.script_meaning.proofs.Sound.{IsQuiet, IsSound, Laws, SaysNoRange, followed_stays, holds, published_more, readers_stay}
 
 -- ---- lines after which only the log or the sender is another
 
@@ -55,7 +56,6 @@ same_state i group start readers only played command lines s t quiet none same h
       matches = matches_stay i.geometry played command lines (entries_of s) none h.matches;
       eight = h.eight;
       followed = followed_stays i played command lines s s only (quiet.joins only, quiet.polls only) refl h.followed;
-      seats = h.seats;
       reading = readers_stay start readers played command lines s s quiet.reads refl h.reading;
     })
 
@@ -84,7 +84,6 @@ log_line i group start readers only played command lines s past l quiet n all h 
       matches = all;
       eight = h.eight;
       followed = followed_stays i played command lines s t only (quiet.joins only, quiet.polls only) refl h.followed;
-      seats = h.seats;
       reading = readers_stay start readers played command lines s t quiet.reads refl h.reading;
     }
 
@@ -94,7 +93,7 @@ connect_line i group start readers only played command lines s on quiet none h =
 
 pub close_line : (i : Identity) (group : Option ℕ) (start readers only : ℕ) (played : List Played) (lines : List LineContent) (s : ScriptState) → IsSound i group start readers only played s → IsSound i group start readers only (and_line played commands.Close lines) (with_log s (record s.log { closed = true }))
 close_line i group start readers only played lines s h =
-    log_line i group start readers only played commands.Close lines s s.past (record s.log { closed = true }) (record { joins = λ k. refl; polls = λ k. refl; reads = λ k. refl }) (record { goes = closes (lone only s); identity = refl; start = refl; consumers = refl; forgotten = h.forgotten }) (matches_stay i.geometry played commands.Close lines (entries_of s) (λ g ranges. refl) h.matches) h
+    log_line i group start readers only played commands.Close lines s s.past (record s.log { closed = true }) (record { joins = λ k. refl; polls = λ k. refl; reads = λ k. (refl, refl) }) (record { goes = closes (lone only s); identity = refl; start = refl; consumers = refl; forgotten = h.forgotten }) (matches_stay i.geometry played commands.Close lines (entries_of s) (λ g ranges. refl) h.matches) h
 
 pub limit_line : (i : Identity) (group : Option ℕ) (start readers only : ℕ) (played : List Played) (lines : List LineContent) (s t : ScriptState) → IsSound i group start readers only played s → Limits s lines t → IsSound i group start readers only (and_line played commands.Limit lines) t
 limit_line i group start readers only played lines s t h m =
@@ -102,7 +101,7 @@ limit_line i group start readers only played lines s t h m =
     let l = cleaned_and_limited s.log in
     let entries : past ++ l.entries ≡ entries_of s = limit_entries s.past s.log m.legal in
     subst (λ x. IsSound i group start readers only (and_line played commands.Limit lines) x) (sym m.new_is)
-    (log_line i group start readers only played commands.Limit lines s past l (record { joins = λ k. refl; polls = λ k. refl; reads = λ k. refl }) (record { goes = limits (lone only s) m.legal h.consumers; identity = refl; start = refl; consumers = refl; forgotten = limit_forgotten s m.legal h.consumers h.forgotten })
+    (log_line i group start readers only played commands.Limit lines s past l (record { joins = λ k. refl; polls = λ k. refl; reads = λ k. (refl, refl) }) (record { goes = limits (lone only s) m.legal h.consumers; identity = refl; start = refl; consumers = refl; forgotten = limit_forgotten s m.legal h.consumers h.forgotten })
     (matches_stay i.geometry played commands.Limit lines (past ++ l.entries) (λ g ranges. refl) (subst (λ es. Matches es (visible.published i.geometry played)) (sym entries) h.matches)) h)
 
 -- ---- an offer or a claim
@@ -260,14 +259,14 @@ claim_says i group start readers only played s t by size lines Trips h may e o =
 
 pub claim_line : Laws → (i : Identity) (group : Option ℕ) (start readers only : ℕ) (played : List Played) (s t : ScriptState) (by most size : ℕ) (lines : List LineContent) → Begins i start → IsSound i group start readers only played s → MayNotTake s by most size lines t ⊎ ClaimsRange s by size lines t → IsSound i group start readers only (and_line played (commands.Claim by size) lines) t
 claim_line laws i group start readers only played s t by most size lines b h (inl bad) =
-    same_state i group start readers only played (commands.Claim by size) lines s t (record { joins = λ k. refl; polls = λ k. refl; reads = λ k. refl }) (claims_none by size Bad lines refl bad.1.0) bad.1.1 h
+    same_state i group start readers only played (commands.Claim by size) lines s t (record { joins = λ k. refl; polls = λ k. refl; reads = λ k. (refl, refl) }) (claims_none by size Bad lines refl bad.1.0) bad.1.1 h
 claim_line laws i group start readers only played s t by most size lines b h (inr o) =
     let c = case_of s.log size in
     let command = commands.Claim by size in
     let says = claim_says i group start readers only played s t by size lines c h o.0 refl o.2 in
     let short : size ≤ max_message s.log.identity.geometry = message_short s.log.identity.geometry size o.0.legal.geometry o.0.short in
     subst (λ x. IsSound i group start readers only (and_line played command lines) x) (sym says.after)
-    (taken_line laws i group start readers only played s by size (claimed_log s.log by size) command lines c b (record { joins = λ k. refl; polls = λ k. refl; reads = λ k. refl }) h (record { legal = o.0.legal; publisher = o.0.publisher; short = short }) refl says.said)
+    (taken_line laws i group start readers only played s by size (claimed_log s.log by size) command lines c b (record { joins = λ k. refl; polls = λ k. refl; reads = λ k. (refl, refl) }) h (record { legal = o.0.legal; publisher = o.0.publisher; short = short }) refl says.said)
 
 -- ---- a claim's commit or abort
 
@@ -354,7 +353,7 @@ bad_commit by lines e g ranges = ap (λ ls. fold filled_by ranges ls) e
 
 pub commit_line : Laws → (i : Identity) (group : Option ℕ) (start readers only : ℕ) (played : List Played) (s t : ScriptState) (by : ℕ) (lines : List LineContent) → Begins i start → IsSound i group start readers only played s → HasNoClaim s by lines t ⊎ CommitsClaim s by lines t → IsSound i group start readers only (and_line played (commands.Commit by) lines) t
 commit_line laws i group start readers only played s t by lines b h (inl bad) =
-    same_state i group start readers only played (commands.Commit by) lines s t (record { joins = λ k. refl; polls = λ k. refl; reads = λ k. refl }) (bad_commit by lines bad.1.0) bad.1.1 h
+    same_state i group start readers only played (commands.Commit by) lines s t (record { joins = λ k. refl; polls = λ k. refl; reads = λ k. (refl, refl) }) (bad_commit by lines bad.1.0) bad.1.1 h
 commit_line laws i group start readers only played s t by lines b h (inr m) =
     let c = m.0 in
     let command = commands.Commit by in
@@ -368,11 +367,11 @@ commit_line laws i group start readers only played s t by lines b h (inr m) =
     (subst (Matches (map (with_frame c.start (filling c)) (entries_of s))) (sym line)
     (matches_commit s.log.identity.geometry.term_length s.log.start s.log.tail (entries_of s) ranges c.start by c.size all.tiles all.entries k.among h.matches)) in
     subst (λ x. IsSound i group start readers only (and_line played command lines) x) (sym m.3)
-    (log_line i group start readers only played command lines s s.past l (record { joins = λ k. refl; polls = λ k. refl; reads = λ k. refl }) (record { goes = commits_claim (lone only s) by c all (record { kept = k.kept; among = k.among }); identity = refl; start = refl; consumers = refl; forgotten = h.forgotten }) matches h)
+    (log_line i group start readers only played command lines s s.past l (record { joins = λ k. refl; polls = λ k. refl; reads = λ k. (refl, refl) }) (record { goes = commits_claim (lone only s) by c all (record { kept = k.kept; among = k.among }); identity = refl; start = refl; consumers = refl; forgotten = h.forgotten }) matches h)
 
 pub abort_line : Laws → (i : Identity) (group : Option ℕ) (start readers only : ℕ) (played : List Played) (s t : ScriptState) (by : ℕ) (lines : List LineContent) → Begins i start → IsSound i group start readers only played s → HasNoClaim s by lines t ⊎ AbortsClaim s by lines t → IsSound i group start readers only (and_line played (commands.Abort by) lines) t
 abort_line laws i group start readers only played s t by lines b h (inl bad) =
-    same_state i group start readers only played (commands.Abort by) lines s t (record { joins = λ k. refl; polls = λ k. refl; reads = λ k. refl }) (λ g ranges. refl) bad.1.1 h
+    same_state i group start readers only played (commands.Abort by) lines s t (record { joins = λ k. refl; polls = λ k. refl; reads = λ k. (refl, refl) }) (λ g ranges. refl) bad.1.1 h
 abort_line laws i group start readers only played s t by lines b h (inr m) =
     let c = m.0 in
     let command = commands.Abort by in
@@ -384,7 +383,7 @@ abort_line laws i group start readers only played s t by lines b h (inr m) =
     subst (λ es. Matches es ranges) (sym (aborted_entries s by c all k))
     (matches_abort s.log.identity.geometry.term_length s.log.start s.log.tail (entries_of s) ranges c.start by c.size all.tiles all.entries k.among h.matches) in
     subst (λ x. IsSound i group start readers only (and_line played command lines) x) (sym m.3)
-    (log_line i group start readers only played command lines s s.past l (record { joins = λ k. refl; polls = λ k. refl; reads = λ k. refl }) (record { goes = aborts_claim (lone only s) by c all (record { kept = k.kept; among = k.among }); identity = refl; start = refl; consumers = refl; forgotten = h.forgotten }) (matches_stay i.geometry played command lines (s.past ++ l.entries) (λ g rs. refl) matches) h)
+    (log_line i group start readers only played command lines s s.past l (record { joins = λ k. refl; polls = λ k. refl; reads = λ k. (refl, refl) }) (record { goes = aborts_claim (lone only s) by c all (record { kept = k.kept; among = k.among }); identity = refl; start = refl; consumers = refl; forgotten = h.forgotten }) (matches_stay i.geometry played command lines (s.past ++ l.entries) (λ g rs. refl) matches) h)
 
 pub missing_line : (i : Identity) (group : Option ℕ) (start readers only : ℕ) (played : List Played) (command : CommandContent) (k : ℕ) (lines : List LineContent) (s t : ScriptState) → IsQuiet command lines → SaysNoRange command lines → IsSound i group start readers only played s → IsMissing s k lines t → IsSound i group start readers only (and_line played command lines) t
 missing_line i group start readers only played command k lines s t quiet none h m = same_state i group start readers only played command lines s t quiet none m.2 h

@@ -25,7 +25,8 @@ use Rattle.script_meaning.proofs.PollFollows.{StaysShort, StillWhole, polls_met,
 use Rattle.script_meaning.proofs.ReceiverRuns.{At, Follows, IsSending, Met, meets, no_more, numbers_of, unchanged}
 use Rattle.script_meaning.proofs.Runs.{Goes, goes_on}
 use Rattle.theory.proofs.Tables.{get_other, get_put}
-use Rattle.script_meaning.proofs.Sound.{HasFollowed, IsSound, Laws, and_line, at_number, followed_stays, follows_as, follows_quiet, joins_more, opened, polled_more, readers_stay, sending, whole_parts, SaysNoRange}
+use Rattle.script_meaning.proofs.Seen.{and_line}
+use Rattle.script_meaning.proofs.Sound.{HasFollowed, IsSound, Laws, SaysNoRead, at_number, followed_stays, follows_as, follows_quiet, joins_more, opened, polled_more, readers_stay, sending, whole_parts, SaysNoRange}
 use Rattle.script_meaning.proofs.SoundLines.{matches_stay, missing_line, same_state}
 
 -- what holds of the receiver that is looked at and of each other one holds of a receiver
@@ -36,7 +37,7 @@ by_number P n only own other = ⊎_elim (λ (e : n ≡ only). subst P (sym e) ow
 abbrev moved_scene : ScriptState → ℕ → Receiver → List (List ℕ) → ScriptState
 moved_scene s n mid packets = record (with_receiver s n mid) { packets = packets }
 
-receiver_line : (i : Identity) (group : Option ℕ) (start readers only : ℕ) (played : List Played) (command : CommandContent) (lines : List LineContent) (s : ScriptState) (n : ℕ) (mid : Receiver) (packets : List (List ℕ)) → Goes (world_of (opened_state i group start readers)) (world_of (lone only (with_receiver s n mid))) → AreHonest i s.sender packets → SaysNoRange command lines → ((k : ℕ) → read_by (suc k) command lines ≡ []) → (only < 8 → HasFollowed i (and_line played command lines) (with_receiver s n mid) only) → IsSound i group start readers only played s → IsSound i group start readers only (and_line played command lines) (moved_scene s n mid packets)
+receiver_line : (i : Identity) (group : Option ℕ) (start readers only : ℕ) (played : List Played) (command : CommandContent) (lines : List LineContent) (s : ScriptState) (n : ℕ) (mid : Receiver) (packets : List (List ℕ)) → Goes (world_of (opened_state i group start readers)) (world_of (lone only (with_receiver s n mid))) → AreHonest i s.sender packets → SaysNoRange command lines → SaysNoRead command lines → (only < 8 → HasFollowed i (and_line played command lines) (with_receiver s n mid) only) → IsSound i group start readers only played s → IsSound i group start readers only (and_line played command lines) (moved_scene s n mid packets)
 receiver_line i group start readers only played command lines s n mid packets runs honest none quiet followed h = record {
   runs = runs;
   identity = h.identity;
@@ -48,12 +49,11 @@ receiver_line i group start readers only played command lines s n mid packets ru
   matches = matches_stay i.geometry played command lines (entries_of s) none h.matches;
   eight = length-set s.receivers n mid ∙ h.eight;
   followed = followed;
-  seats = h.seats;
   reading = readers_stay start readers played command lines s (moved_scene s n mid packets) quiet refl h.reading;
 }
 
 -- it isn't the one that is looked at, of which the line says nothing
-other_line : (i : Identity) (group : Option ℕ) (start readers only : ℕ) (played : List Played) (command : CommandContent) (lines : List LineContent) (s : ScriptState) (n : ℕ) (mid : Receiver) (packets : List (List ℕ)) → (n ≡ only → ⊥) → AreHonest i s.sender packets → (joined_by only command lines ≡ []) × (polled_by only command lines ≡ []) → SaysNoRange command lines → ((k : ℕ) → read_by (suc k) command lines ≡ []) → IsSound i group start readers only played s → IsSound i group start readers only (and_line played command lines) (moved_scene s n mid packets)
+other_line : (i : Identity) (group : Option ℕ) (start readers only : ℕ) (played : List Played) (command : CommandContent) (lines : List LineContent) (s : ScriptState) (n : ℕ) (mid : Receiver) (packets : List (List ℕ)) → (n ≡ only → ⊥) → AreHonest i s.sender packets → (joined_by only command lines ≡ []) × (polled_by only command lines ≡ []) → SaysNoRange command lines → SaysNoRead command lines → IsSound i group start readers only played s → IsSound i group start readers only (and_line played command lines) (moved_scene s n mid packets)
 other_line i group start readers only played command lines s n mid packets other honest silent none quiet h =
     receiver_line i group start readers only played command lines s n mid packets
     (subst (λ w. Goes (world_of (opened_state i group start readers)) w) (sym (lone_other only n s mid other)) h.runs)
@@ -62,7 +62,7 @@ other_line i group start readers only played command lines s n mid packets other
     h
 
 -- it is the one that is looked at
-own_line : (i : Identity) (group : Option ℕ) (start readers only : ℕ) (played : List Played) (command : CommandContent) (lines : List LineContent) (s : ScriptState) (r mid : Receiver) (packets : List (List ℕ)) → slice_get s.receivers only ≡ Some r → Goes (world_of (lone only s)) (world_of (with_receiver (lone only s) only mid)) → AreHonest i s.sender packets → SaysNoRange command lines → ((k : ℕ) → read_by (suc k) command lines ≡ []) → Follows i mid (joins only (and_line played command lines)) (polled only (and_line played command lines)) (AllWhole only (and_line played command lines)) → IsSound i group start readers only played s → IsSound i group start readers only (and_line played command lines) (moved_scene s only mid packets)
+own_line : (i : Identity) (group : Option ℕ) (start readers only : ℕ) (played : List Played) (command : CommandContent) (lines : List LineContent) (s : ScriptState) (r mid : Receiver) (packets : List (List ℕ)) → slice_get s.receivers only ≡ Some r → Goes (world_of (lone only s)) (world_of (with_receiver (lone only s) only mid)) → AreHonest i s.sender packets → SaysNoRange command lines → SaysNoRead command lines → Follows i mid (joins only (and_line played command lines)) (polled only (and_line played command lines)) (AllWhole only (and_line played command lines)) → IsSound i group start readers only played s → IsSound i group start readers only (and_line played command lines) (moved_scene s only mid packets)
 own_line i group start readers only played command lines s r mid packets there goes honest none quiet now h =
     let t = with_receiver s only mid in
     let on : Goes (world_of (lone only s)) (world_of (lone only t)) = subst (λ z. Goes (world_of (lone only s)) (world_of z)) (sym (lone_put only s mid)) goes in
@@ -99,14 +99,14 @@ own_tick i group start readers only played now lines s t h m =
     let a = own_at i group start readers only played s r mid h m.1 refl refl in
     let follows : Follows i mid (joins only played) (polled only played) (AllWhole only played) = subst (λ x. Follows x mid (joins only played) (polled only played) (AllWhole only played)) h.identity a.follows in
     subst (λ x. IsSound i group start readers only (and_line played command lines) x) (sym m.4)
-    (own_line i group start readers only played command lines s r mid (s.packets ++ datagrams (alone (replies r now))) m.1 (unchanged z only r mid (own_at i group start readers only played s r r h m.1 refl refl).there refl) (tick_honest i group start readers only played s r now h m.2) (λ g ranges. refl) (λ k. refl) (follows_quiet i only mid played command lines refl refl follows) h)
+    (own_line i group start readers only played command lines s r mid (s.packets ++ datagrams (alone (replies r now))) m.1 (unchanged z only r mid (own_at i group start readers only played s r r h m.1 refl refl).there refl) (tick_honest i group start readers only played s r now h m.2) (λ g ranges. refl) (λ k. (refl, refl)) (follows_quiet i only mid played command lines refl refl follows) h)
 
 pub tick_line : (i : Identity) (group : Option ℕ) (start readers only : ℕ) (played : List Played) (n now : ℕ) (lines : List LineContent) (s t : ScriptState) → IsSound i group start readers only played s → Ticks s n now lines t → IsSound i group start readers only (and_line played (commands.Tick n now) lines) t
 tick_line i group start readers only played n now lines s t h =
     by_number (TickIsSound i group start readers only played now lines s t) n only
     (own_tick i group start readers only played now lines s t h)
     (λ other m. subst (λ x. IsSound i group start readers only (and_line played (commands.Tick n now) lines) x) (sym m.4)
-    (other_line i group start readers only played (commands.Tick n now) lines s n (ticked m.0 now) (s.packets ++ datagrams (alone (replies m.0 now))) other (tick_honest i group start readers only played s m.0 now h m.2) (refl, refl) (λ g ranges. refl) (λ k. refl) h))
+    (other_line i group start readers only played (commands.Tick n now) lines s n (ticked m.0 now) (s.packets ++ datagrams (alone (replies m.0 now))) other (tick_honest i group start readers only played s m.0 now h m.2) (refl, refl) (λ g ranges. refl) (λ k. (refl, refl)) h))
 
 -- ---- a datagram
 
@@ -170,7 +170,7 @@ record TellsOf (command : CommandContent) (n : ℕ) (lines : List LineContent) :
   joins : joined_by n command lines ≡ flat_map joins_in lines
   polls : polled_by n command lines ≡ []
   ranges : SaysNoRange command lines
-  reads : (k : ℕ) → read_by (suc k) command lines ≡ []
+  reads : SaysNoRead command lines
 
 own_joins : (n : ℕ) (command : CommandContent) (outs : List Outcome) (lines : List LineContent) → TellsOf command n lines → lines ≡ map OfReceiver outs → joined_by n command lines ≡ flat_map joins_of outs
 own_joins n command outs lines tells e = tells.joins ∙ ap (flat_map joins_in) e ∙ all_joins outs
@@ -197,11 +197,11 @@ DeliveryIsSound i group start readers only played k now bytes lines s t n = Gets
 own_delivery : Laws → (i : Identity) (group : Option ℕ) (start readers only : ℕ) (played : List Played) (k now : ℕ) (bytes : List ℕ) (lines : List LineContent) (s t : ScriptState) → Begins i start → IsSound i group start readers only played s → IsHonest i s.sender bytes → DeliveryIsSound i group start readers only played k now bytes lines s t only
 own_delivery laws i group start readers only played k now bytes lines s t b h honest m =
     own_taking laws i group start readers only played (commands.Deliver k only now) now bytes lines s t b
-    (record { joins = cond-true (nat_eq only only) (flat_map joins_in lines) [] (eq-eqb only only refl); polls = refl; ranges = λ g ranges. refl; reads = λ k. refl })
+    (record { joins = cond-true (nat_eq only only) (flat_map joins_in lines) [] (eq-eqb only only refl); polls = refl; ranges = λ g ranges. refl; reads = λ k. (refl, refl) })
     h m (λ frames spelled. all_entering i s.sender frames m.0 (frames_given_out laws.reading i s.sender bytes frames honest spelled))
 
 -- what another receiver is handed
-handed_other : (i : Identity) (group : Option ℕ) (start readers only : ℕ) (played : List Played) (command : CommandContent) (n now : ℕ) (bytes : List ℕ) (lines : List LineContent) (s t : ScriptState) → (n ≡ only → ⊥) → (joined_by only command lines ≡ []) × (polled_by only command lines ≡ []) → SaysNoRange command lines → ((k : ℕ) → read_by (suc k) command lines ≡ []) → IsSound i group start readers only played s → GetsDatagram s n now bytes lines t → IsSound i group start readers only (and_line played command lines) t
+handed_other : (i : Identity) (group : Option ℕ) (start readers only : ℕ) (played : List Played) (command : CommandContent) (n now : ℕ) (bytes : List ℕ) (lines : List LineContent) (s t : ScriptState) → (n ≡ only → ⊥) → (joined_by only command lines ≡ []) × (polled_by only command lines ≡ []) → SaysNoRange command lines → SaysNoRead command lines → IsSound i group start readers only played s → GetsDatagram s n now bytes lines t → IsSound i group start readers only (and_line played command lines) t
 handed_other i group start readers only played command n now bytes lines s t other silent none quiet h m =
     subst (λ x. IsSound i group start readers only (and_line played command lines) x) (sym m.6) (other_line i group start readers only played command lines s n m.2 s.packets other h.honest silent none quiet h)
 
@@ -213,11 +213,11 @@ missing_joins k n now j s t lines m = ap (λ ls. cond (nat_eq n j) (flat_map joi
     both false = refl
 
 pub deliver_line : Laws → (i : Identity) (group : Option ℕ) (start readers only : ℕ) (played : List Played) (k n now : ℕ) (lines : List LineContent) (s t : ScriptState) → Begins i start → IsSound i group start readers only played s → IsMissing s k lines t ⊎ Delivered s k n now lines t → IsSound i group start readers only (and_line played (commands.Deliver k n now) lines) t
-deliver_line laws i group start readers only played k n now lines s t b h (inl m) = missing_line i group start readers only played (commands.Deliver k n now) k lines s t (record { joins = λ j. missing_joins k n now j s t lines m; polls = λ j. refl; reads = λ j. refl }) (λ g ranges. refl) h m
+deliver_line laws i group start readers only played k n now lines s t b h (inl m) = missing_line i group start readers only played (commands.Deliver k n now) k lines s t (record { joins = λ j. missing_joins k n now j s t lines m; polls = λ j. refl; reads = λ j. (refl, refl) }) (λ g ranges. refl) h m
 deliver_line laws i group start readers only played k n now lines s t b h (inr m) =
     by_number (DeliveryIsSound i group start readers only played k now m.0 lines s t) n only
     (own_delivery laws i group start readers only played k now m.0 lines s t b h (all_get (IsHonest i s.sender) s.packets k m.0 m.1 h.honest))
-    (λ other. handed_other i group start readers only played (commands.Deliver k n now) n now m.0 lines s t other (cond-false (nat_eq n only) (flat_map joins_in lines) [] (ne_eqb n only other), refl) (λ g ranges. refl) (λ k. refl) h)
+    (λ other. handed_other i group start readers only played (commands.Deliver k n now) n now m.0 lines s t other (cond-false (nat_eq n only) (flat_map joins_in lines) [] (ne_eqb n only other), refl) (λ g ranges. refl) (λ k. (refl, refl)) h)
     m.2
 
 -- bytes of the script's own
@@ -229,14 +229,14 @@ own_raw : Laws → (i : Identity) (group : Option ℕ) (start readers only : ℕ
 own_raw laws i group start readers only played now bytes lines s t b h honest m =
     let low : only < 8 = number_low i group start readers only played s only m.1 h m.3 in
     own_taking laws i group start readers only played (commands.Raw only now bytes) now bytes lines s t b
-    (record { joins = cond-true (nat_eq only only) (flat_map joins_in lines) [] (eq-eqb only only refl); polls = refl; ranges = λ g ranges. refl; reads = λ k. refl })
+    (record { joins = cond-true (nat_eq only only) (flat_map joins_in lines) [] (eq-eqb only only refl); polls = refl; ranges = λ g ranges. refl; reads = λ k. (refl, refl) })
     h m (λ frames spelled. printed_entering laws.reading i s.sender s.packets frames m.0 h.honest (subst (AreHonestFrames s.packets frames) m.5 (honest low refl frames spelled)))
 
 pub raw_line : Laws → (i : Identity) (group : Option ℕ) (start readers only : ℕ) (played : List Played) (n now : ℕ) (bytes : List ℕ) (lines : List LineContent) (s t : ScriptState) → Begins i start → (only < 8 → IsHonestLine only s.packets (commands.Raw n now bytes) lines) → IsSound i group start readers only played s → GetsDatagram s n now bytes lines t → IsSound i group start readers only (and_line played (commands.Raw n now bytes) lines) t
 raw_line laws i group start readers only played n now bytes lines s t b honest h m =
     by_number (RawIsSound i group start readers only played now bytes lines s t) n only
     (own_raw laws i group start readers only played now bytes lines s t b h)
-    (λ other spared k. handed_other i group start readers only played (commands.Raw n now bytes) n now bytes lines s t other (cond-false (nat_eq n only) (flat_map joins_in lines) [] (ne_eqb n only other), refl) (λ g ranges. refl) (λ k. refl) h k)
+    (λ other spared k. handed_other i group start readers only played (commands.Raw n now bytes) n now bytes lines s t other (cond-false (nat_eq n only) (flat_map joins_in lines) [] (ne_eqb n only other), refl) (λ g ranges. refl) (λ k. (refl, refl)) h k)
     honest m
 
 -- ---- a poll
@@ -275,14 +275,14 @@ own_poll laws i group start readers only played lines s t b h m =
     (still_whole only played line lines m.5)
     follows in
     subst (λ x. IsSound i group start readers only (and_line played command lines) x) (sym m.6)
-    (own_line i group start readers only played command lines s r mid s.packets m.3 met.goes h.honest (λ g ranges. refl) (λ k. refl) now_follows h)
+    (own_line i group start readers only played command lines s r mid s.packets m.3 met.goes h.honest (λ g ranges. refl) (λ k. (refl, refl)) now_follows h)
 
 pub poll_line : Laws → (i : Identity) (group : Option ℕ) (start readers only : ℕ) (played : List Played) (n : ℕ) (lines : List LineContent) (s t : ScriptState) → Begins i start → IsSound i group start readers only played s → PollsBy s n lines t → IsSound i group start readers only (and_line played (commands.Poll n) lines) t
 poll_line laws i group start readers only played n lines s t b h =
     by_number (PollIsSound i group start readers only played lines s t) n only
     (own_poll laws i group start readers only played lines s t b h)
     (λ other m. subst (λ x. IsSound i group start readers only (and_line played (commands.Poll n) lines) x) (sym m.6)
-    (other_line i group start readers only played (commands.Poll n) lines s n m.2 s.packets other h.honest (refl, cond-false (nat_eq n only) (flat_map messages_in lines) [] (ne_eqb n only other)) (λ g ranges. refl) (λ k. refl) h))
+    (other_line i group start readers only played (commands.Poll n) lines s n m.2 s.packets other h.honest (refl, cond-false (nat_eq n only) (flat_map messages_in lines) [] (ne_eqb n only other)) (λ g ranges. refl) (λ k. (refl, refl)) h))
 
 -- and no message is too long, as long as memory isn't refused
 own_short : Laws → (i : Identity) (group : Option ℕ) (start readers only : ℕ) (played : List Played) (lines : List LineContent) (s t : ScriptState) → Begins i start → AllWhole only played → IsSound i group start readers only played s → PollsBy s only lines t → AllByRecursion (λ line. is_too_long line ≡ false) lines
@@ -297,4 +297,4 @@ line_short laws i group start readers only played (commands.Poll n) lines s t b 
 line_short laws i group start readers only played command lines s t b whole h m = tt
 
 pub image_line : (i : Identity) (group : Option ℕ) (start readers only : ℕ) (played : List Played) (n : ℕ) (lines : List LineContent) (s t : ScriptState) → IsSound i group start readers only played s → TellsBy s n lines t → IsSound i group start readers only (and_line played (commands.Image n) lines) t
-image_line i group start readers only played n lines s t h m = same_state i group start readers only played (commands.Image n) lines s t (record { joins = λ k. refl; polls = λ k. refl; reads = λ k. refl }) (λ g ranges. refl) m.5 h
+image_line i group start readers only played n lines s t h m = same_state i group start readers only played (commands.Image n) lines s t (record { joins = λ k. refl; polls = λ k. refl; reads = λ k. (refl, refl) }) (λ g ranges. refl) m.5 h

@@ -28,12 +28,13 @@ use Rattle.script.specs.Meaning.{CommandContent}
 use Rattle.script_meaning.specs.Answers.{Hears, IsCycle, IsMissing, Replied, SenderHears, Sends, after_cycle, again_for, behind_new, clock_at, cycled, cycle_limit, given_out, have_all_come, heard, missed, named, wires_of, with_sender, woken}
 use Rattle.script_meaning.specs.LineContents.{LineContent}
 use Rattle.script_meaning.specs.Published.{Played}
-use Rattle.script_meaning.specs.ScriptState.{ScriptState, entries_of, lone, opened_state, world_of}
+use Rattle.script_meaning.specs.ScriptState.{ScriptState, entries_of, lone, opened_state, world_of, seat_of}
 use Rattle.script_meaning.specs.Standing.{Begins}
 use Rattle.script_meaning.proofs.Honest.{AreGiven, IsGiven, IsHonest, alone_given, honest_given, honest_more, placed_datagrams}
 use Rattle.script_meaning.proofs.Runs.{Goes, goes_on}
 use Rattle.script_meaning.proofs.SenderRuns.{asked, cycles, hears, misses, sees}
-use Rattle.script_meaning.proofs.Sound.{IsQuiet, IsSound, Laws, SaysNoRange, and_line, followed_stays, law_of, legal, readers_stay, sender_below, tail_low}
+use Rattle.script_meaning.proofs.Seen.{and_line}
+use Rattle.script_meaning.proofs.Sound.{IsQuiet, IsSound, Laws, SaysNoRange, followed_stays, law_of, legal, readers_stay, sender_below, tail_low}
 use Rattle.script_meaning.proofs.SoundLines.{matches_stay, missing_line}
 
 -- ---- another sender
@@ -48,7 +49,7 @@ record IsSenderNext (i : Identity) (only : ℕ) (s t : ScriptState) (x : Sender)
 
 -- the state with another sender, more packets, and what the sender remembers of its SETUPs and of its last frames
 abbrev sender_scene : ScriptState → Sender → Naming → Option ℕ → List (List Wire) → ScriptState
-sender_scene s x naming last sent = record (given_out s sent) { log = record s.log { consumers = x.at ∷ map (λ c. c.at) s.readers }; sender = x; naming = naming; last = last }
+sender_scene s x naming last sent = record (given_out s sent) { log = record s.log { consumers = Some x.at ∷ map seat_of s.readers }; sender = x; naming = naming; last = last }
 
 sender_line : (i : Identity) (group : Option ℕ) (start readers only : ℕ) (played : List Played) (command : CommandContent) (lines : List LineContent) (s : ScriptState) (x : Sender) (naming : Naming) (last : Option ℕ) (sent : List (List Wire)) → IsQuiet command lines → SaysNoRange command lines → IsSenderNext i only s (sender_scene s x naming last sent) x sent → IsSound i group start readers only played s → IsSound i group start readers only (and_line played command lines) (sender_scene s x naming last sent)
 sender_line i group start readers only played command lines s x naming last sent quiet none n h =
@@ -64,7 +65,6 @@ sender_line i group start readers only played command lines s x naming last sent
       matches = matches_stay i.geometry played command lines (entries_of s) none h.matches;
       eight = h.eight;
       followed = followed_stays i played command lines s t only (quiet.joins only, quiet.polls only) refl h.followed;
-      seats = h.seats;
       reading = readers_stay start readers played command lines s t quiet.reads refl h.reading;
     }
 
@@ -192,7 +192,7 @@ pub send_line : Laws → (i : Identity) (group : Option ℕ) (start readers only
 send_line laws i group start readers only played s t now lines b h m =
     let y = m.0 in
     subst (λ x. IsSound i group start readers only (and_line played (commands.Send now) lines) x) (sym m.3)
-    (sender_line i group start readers only played (commands.Send now) lines s (cycled s now y) (after_due s.naming (clock_at s now)) (after_cycle s now y).last (wires_of s now y) (record { joins = λ k. refl; polls = λ k. refl; reads = λ k. refl }) (λ g ranges. refl) (cycle_next laws i group start readers only played s now y b h m.1) h)
+    (sender_line i group start readers only played (commands.Send now) lines s (cycled s now y) (after_due s.naming (clock_at s now)) (after_cycle s now y).last (wires_of s now y) (record { joins = λ k. refl; polls = λ k. refl; reads = λ k. (refl, refl) }) (λ g ranges. refl) (cycle_next laws i group start readers only played s now y b h m.1) h)
 
 -- ---- what the sender is told
 
@@ -209,19 +209,18 @@ told_line i group start readers only played command lines s x naming quiet none 
       runs = goes_on (world_of (opened_state i group start readers)) (world_of (lone only s)) (world_of (lone only t)) h.runs goes;
       identity = h.identity;
       start_is = h.start_is;
-      consumers = h.consumers ∙ ap (λ p. p ∷ map (λ c. c.at) s.readers) (sym same.at);
+      consumers = h.consumers ∙ ap (λ p. Some p ∷ map seat_of s.readers) (sym same.at);
       named = subst (λ xs. AllByRecursion (λ p. p ≤ max_position i.geometry) xs) (sym same.setups) h.named;
       forgotten = h.forgotten;
       honest = honest_more i s.sender x s.packets (λ p a. subst (λ xs. Among p xs) (sym same.sent) a) (λ p a. subst (λ xs. Among p xs) (sym same.setups) a) h.honest;
       matches = matches_stay i.geometry played command lines (entries_of s) none h.matches;
       eight = h.eight;
       followed = followed_stays i played command lines s t only (quiet.joins only, quiet.polls only) refl h.followed;
-      seats = h.seats;
       reading = readers_stay start readers played command lines s t quiet.reads refl h.reading;
     }
 
 -- the sender stands where it stood
-told_scene : (s : ScriptState) (x : Sender) (sent : List (List Wire)) → s.log.consumers ≡ x.at ∷ map (λ c. c.at) s.readers → sender_scene s x s.naming s.last sent ≡ record (given_out s sent) { sender = x }
+told_scene : (s : ScriptState) (x : Sender) (sent : List (List Wire)) → s.log.consumers ≡ Some x.at ∷ map seat_of s.readers → sender_scene s x s.naming s.last sent ≡ record (given_out s sent) { sender = x }
 told_scene s x sent one = ap (λ xs. record (given_out s sent) { log = record s.log { consumers = xs }; sender = x }) (sym one)
 
 asked_line : Laws → (i : Identity) (group : Option ℕ) (start readers only : ℕ) (played : List Played) (command : CommandContent) (now : ℕ) (lines : List LineContent) (s : ScriptState) → Begins i start → IsQuiet command lines → SaysNoRange command lines → IsSound i group start readers only played s → IsSound i group start readers only (and_line played command lines) (with_sender (given_out s (alone (setup_at s.log.identity s.sender.at ∷ []))) (named (woken s now) true))
@@ -251,8 +250,8 @@ hears_line laws i group start readers only played command now lines s t (Unreada
     subst (λ x. IsSound i group start readers only (and_line played command lines) x) (sym m.1) (told_line i group start readers only played command lines s (woken s now) s.naming quiet none (record { at = refl; sent = refl; setups = refl }) (sees (world_of (lone only s)) now) h)
 
 pub back_line : Laws → (i : Identity) (group : Option ℕ) (start readers only : ℕ) (played : List Played) (now : ℕ) (bytes : List ℕ) (lines : List LineContent) (s t : ScriptState) → Begins i start → IsSound i group start readers only played s → Hears s now bytes lines t → IsSound i group start readers only (and_line played (commands.RawBack now bytes) lines) t
-back_line laws i group start readers only played now bytes lines s t b h m = hears_line laws i group start readers only played (commands.RawBack now bytes) now lines s t m.0 b (record { joins = λ n. refl; polls = λ n. refl; reads = λ n. refl }) (λ g ranges. refl) h m.2
+back_line laws i group start readers only played now bytes lines s t b h m = hears_line laws i group start readers only played (commands.RawBack now bytes) now lines s t m.0 b (record { joins = λ n. refl; polls = λ n. refl; reads = λ n. (refl, refl) }) (λ g ranges. refl) h m.2
 
 pub reply_line : Laws → (i : Identity) (group : Option ℕ) (start readers only : ℕ) (played : List Played) (k now : ℕ) (lines : List LineContent) (s t : ScriptState) → Begins i start → IsSound i group start readers only played s → IsMissing s k lines t ⊎ Replied s k now lines t → IsSound i group start readers only (and_line played (commands.Reply k now) lines) t
-reply_line laws i group start readers only played k now lines s t b h (inl m) = missing_line i group start readers only played (commands.Reply k now) k lines s t (record { joins = λ n. refl; polls = λ n. refl; reads = λ n. refl }) (λ g ranges. refl) h m
-reply_line laws i group start readers only played k now lines s t b h (inr m) = hears_line laws i group start readers only played (commands.Reply k now) now lines s t m.2.0 b (record { joins = λ n. refl; polls = λ n. refl; reads = λ n. refl }) (λ g ranges. refl) h m.2.2
+reply_line laws i group start readers only played k now lines s t b h (inl m) = missing_line i group start readers only played (commands.Reply k now) k lines s t (record { joins = λ n. refl; polls = λ n. refl; reads = λ n. (refl, refl) }) (λ g ranges. refl) h m
+reply_line laws i group start readers only played k now lines s t b h (inr m) = hears_line laws i group start readers only played (commands.Reply k now) now lines s t m.2.0 b (record { joins = λ n. refl; polls = λ n. refl; reads = λ n. (refl, refl) }) (λ g ranges. refl) h m.2.2

@@ -2,13 +2,13 @@
 -- An answer fixes the whole state behind it: what isn't named stays as it was. A line that prints `bad` hands nothing
 -- to anybody. The sender and each receiver keep the greatest moment that they were handed, and the moment of a
 -- datagram counts, of a refused one too.
-use Rattle.std.specs.Prelude.{◌≡◌, ◌⊎◌, ◌<◌, ◌≤◌, ◌-◌, ℕ, ℤ, zero, suc, pos, Bool, true, ◌&&◌, false, List, [], ◌∷◌, ◌++◌, map, length, replicate, Option, None, Some, Result, Ok, Err, slice_get, slice_set, if◌then◌else◌}
+use Rattle.std.specs.Prelude.{◌≡◌, ◌⊎◌, ◌<◌, ◌≤◌, ◌-◌, ℕ, ℤ, zero, suc, pos, Bool, true, ◌&&◌, false, List, [], ◌∷◌, ◌++◌, map, length, replicate, Option, None, Some, Result, Ok, Err, slice_get, slice_index_or, slice_set, if◌then◌else◌}
 use Rattle.std.specs.List.{AllByRecursion, filter, list_any}
 use Rattle.std.specs.Option.{option_to_list}
 use Rattle.theory.specs.Position.{Geometry, max_message, max_payload, position_of}
 use Rattle.theory.specs.Wire.{IsFrame, Nak, Status, Wire}
 use Rattle.theory.specs.Placed.{Among, Data, Frame, Pad, Placed, end_of}
-use Rattle.theory.specs.Consumer.{Consumer, moved}
+use Rattle.theory.specs.Consumer.{Consumer, consumer_at, moved}
 use Rattle.theory.specs.Entry.{committed}
 use Rattle.theory.specs.Control.{setup_at}
 use Rattle.theory.specs.Datagrams.{frames_of, resend_datagrams}
@@ -18,7 +18,7 @@ use Rattle.theory.specs.Timing.{is_heartbeat_due, seen}
 use Rattle.model.specs.Sender.{Sender, after_nak, after_status, in_cycle, sender_limit}
 use Rattle.flow_control.specs.Laws.{is_status}
 use Rattle.one_hand.specs.Legal.{IsStream}
-use Rattle.one_hand.specs.Stream.{OpenClaim, Stream, after_claim, after_offer, answer_of, claim_by, claim_end, clean_end, cleaned_and_limited, forgotten_below, raised, with_abort, with_commit, with_consumer}
+use Rattle.one_hand.specs.Stream.{OpenClaim, Stream, after_claim, after_offer, answer_of, claim_by, claim_end, clean_end, cleaned_and_limited, forgotten_below, lowest, raised, with_abort, with_commit, with_consumer, without_consumer}
 use Rattle.publication.specs.declared.refusal.Refusal.{Refusal}
 use Rattle.setup.specs.Naming.{after_due, is_due}
 use Rattle.script.specs.Meaning as commands
@@ -33,9 +33,9 @@ use Rattle.sender.specs.Sending.{named_once}
 use Rattle.receiver.specs.Polling.{Answer, Polls, TellsPositions}
 use Rattle.receiver.specs.declared.positions.Positions.{Positions}
 use Rattle.script_meaning.specs.LineContents as content
-use Rattle.script_meaning.specs.LineContents.{LineContent, Done, Limit, Position, FrameData, FramePad, Refused, Packet, Nothing, NoMessage, OfReceiver, OfSender, Bad, poll_line, positions_line}
+use Rattle.script_meaning.specs.LineContents.{LineContent, Done, Limit, Position, FrameData, FramePad, Joined, Left, Refused, Packet, Nothing, NoMessage, OfReceiver, OfSender, Bad, poll_line, positions_line}
 use Rattle.receiver.specs.Receiving.{TakesDatagram, Receiver, replies, ticked}
-use Rattle.script_meaning.specs.ScriptState.{ScriptState}
+use Rattle.script_meaning.specs.ScriptState.{ScriptState, seat_of}
 
 abbrev pub with_log : ScriptState → Stream → ScriptState
 with_log s l = record s { log = l }
@@ -132,7 +132,7 @@ AbortsClaim old by lines new = (c : OpenClaim) × HasClaim old by c × (lines �
 -- the reader of a number, 1 or above
 abbrev pub reader_at : ScriptState → ℕ → Option Consumer
 reader_at s zero = None
-reader_at s (suc k) = slice_get s.readers k
+reader_at s (suc k) = slice_index_or s.readers k None
 
 abbrev pub HasNoReader : ScriptState → ℕ → List LineContent → ScriptState → Type 0
 HasNoReader old r lines new = (reader_at old r ≡ None) × IsBad old lines new
@@ -143,7 +143,7 @@ frame_line at (Pad n) = FramePad at n
 
 -- the reader past a frame
 abbrev pub with_reader : ScriptState → ℕ → Consumer → ScriptState
-with_reader s r c = record s { log = with_consumer s.log r c.at; readers = slice_set s.readers (r - 1) c }
+with_reader s r c = record s { log = with_consumer s.log r c.at; readers = slice_set s.readers (r - 1) (Some c) }
 
 -- no frame is committed where it stands
 abbrev pub ReaderFindsNone : ScriptState → ℕ → List LineContent → ScriptState → Type 0
@@ -154,6 +154,26 @@ ReaderFindsNone old r lines new =
 abbrev pub ReaderReads : ScriptState → ℕ → List LineContent → ScriptState → Type 0
 ReaderReads old r lines new =
     (c : Consumer) × (s : Placed) × (reader_at old r ≡ Some c) × Among s (committed old.log.entries) × (s.at ≡ c.at) × (lines ≡ frame_line s.at s.frame ∷ []) × (new ≡ with_reader old r (moved c s))
+
+-- a number beside the sender's that nobody has
+abbrev pub IsVacant : ScriptState → ℕ → Type 0
+IsVacant s zero = ⊥
+IsVacant s (suc k) = slice_get s.readers k ≡ Some None
+
+abbrev pub MayNotJoin : ScriptState → ℕ → List LineContent → ScriptState → Type 0
+MayNotJoin old r lines new = (IsVacant old r → ⊥) × IsBad old lines new
+
+-- a reader begins where the least consumer stands
+pub record ReaderJoins (old : ScriptState) (r : ℕ) (lines : List LineContent) (new : ScriptState) : Type 0 where
+  pub legal : IsStream old.log
+  pub vacant : IsVacant old r
+  pub shown : lines ≡ Joined (lowest old.log) ∷ []
+  pub new_is : new ≡ with_reader old r (consumer_at (lowest old.log))
+
+-- and nobody has its number
+abbrev pub ReaderLeaves : ScriptState → ℕ → List LineContent → ScriptState → Type 0
+ReaderLeaves old r lines new =
+    (c : Consumer) × (reader_at old r ≡ Some c) × (lines ≡ Left ∷ []) × (new ≡ record old { log = without_consumer old.log r; readers = slice_set old.readers (r - 1) None })
 
 -- ---- the keeper
 
@@ -237,7 +257,7 @@ wires_of old now y = sent_wires old.log.identity old.sender.at (cycled old now y
 -- the log's first consumer is the sender
 abbrev pub after_cycle : ScriptState → ℕ → Cycle → ScriptState
 after_cycle old now y = record (given_out old (wires_of old now y)) {
-  log = record old.log { consumers = (cycled old now y).at ∷ map (λ c. c.at) old.readers };
+  log = record old.log { consumers = Some (cycled old now y).at ∷ map seat_of old.readers };
   sender = cycled old now y;
   naming = after_due old.naming (clock_at old now);
   last = if is_heard y then Some (clock_at old now) else old.last;
@@ -315,6 +335,8 @@ Answers old (commands.Claim by size) lines new = MayNotTake old by (max_payload 
 Answers old (commands.Commit by) lines new = HasNoClaim old by lines new ⊎ CommitsClaim old by lines new
 Answers old (commands.Abort by) lines new = HasNoClaim old by lines new ⊎ AbortsClaim old by lines new
 Answers old (commands.Read r) lines new = HasNoReader old r lines new ⊎ (ReaderFindsNone old r lines new ⊎ ReaderReads old r lines new)
+Answers old (commands.Join r) lines new = MayNotJoin old r lines new ⊎ ReaderJoins old r lines new
+Answers old (commands.Leave r) lines new = HasNoReader old r lines new ⊎ ReaderLeaves old r lines new
 Answers old (commands.Send now) lines new = Sends old now lines new
 Answers old (commands.Deliver k i now) lines new = IsMissing old k lines new ⊎ Delivered old k i now lines new
 Answers old (commands.Raw i now bytes) lines new = GetsDatagram old i now bytes lines new

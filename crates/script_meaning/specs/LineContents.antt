@@ -20,6 +20,8 @@ pub data LineContent : Type 0 where
   Claimed : (start end : ℕ) → LineContent
   FrameData : (start flags : ℕ) (bytes : List ℕ) → LineContent
   FramePad : (start frame_length : ℕ) → LineContent
+  Joined : (position : ℕ) → LineContent
+  Left : LineContent
   Refused : (refusal : Refusal) → LineContent
   Packet : (number : ℕ) (bytes : List ℕ) → LineContent
   Nothing : LineContent

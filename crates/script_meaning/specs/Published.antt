@@ -2,7 +2,7 @@
 -- It speaks of the commands and the lines that they printed alone. Whether bytes of the script's own (`raw`) are
 -- honest is judged by the line itself, which tells what became of each frame. Packets that a script delivers are
 -- honest always.
-use Rattle.std.specs.Prelude.{◌≡◌, ◌⊎◌, ◌<◌, ◌+◌, ◌-◌, ℕ, suc, Bool, ⊤, true, false, ◌&&◌, List, [], ◌∷◌, ◌++◌, map, fold, length, replicate, Option, None, Some, nat_eq, nat_le, if◌then◌else◌}
+use Rattle.std.specs.Prelude.{◌≡◌, ◌⊎◌, ◌<◌, ◌≤◌, ◌+◌, ◌-◌, ℕ, Bool, ⊤, true, false, ◌&&◌, List, [], ◌∷◌, ◌++◌, map, fold, length, replicate, Option, None, Some, nat_eq, nat_le, if◌then◌else◌}
 use Rattle.std.specs.Option.{option_to_list}
 use Rattle.std.specs.List.{filter, flat_map, sum_by, AllByRecursion}
 use Rattle.theory.specs.Position.{Geometry, aligned, framed_length}
@@ -90,6 +90,17 @@ abbrev pub read_by : ℕ → CommandContent → List LineContent → List Frame
 read_by r (commands.Read number) lines = if nat_eq number r then flat_map frames_in lines else []
 read_by r command lines = []
 
+-- where a line says that a reader joined, or that it left
+abbrev pub turns_in : LineContent → List (Option ℕ)
+turns_in (content.Joined at) = Some at ∷ []
+turns_in content.Left = None ∷ []
+turns_in line = []
+
+abbrev pub turned_by : ℕ → CommandContent → List LineContent → List (Option ℕ)
+turned_by r (commands.Join number) lines = if nat_eq number r then flat_map turns_in lines else []
+turned_by r (commands.Leave number) lines = if nat_eq number r then flat_map turns_in lines else []
+turned_by r command lines = []
+
 -- what is said of a receiver where the line is one of its own
 abbrev pub polled_by : ℕ → CommandContent → List LineContent → List (List ℕ)
 polled_by i (commands.Poll number) lines = if nat_eq number i then flat_map messages_in lines else []
@@ -169,6 +180,10 @@ published g played = ranges_behind g [] played
 abbrev pub read : ℕ → List Played → List Frame
 read r played = flat_map (λ p. read_by r p.command p.lines) played
 
+-- where reader r joined and when it left, in order
+abbrev pub turns : ℕ → List Played → List (Option ℕ)
+turns r played = flat_map (λ p. turned_by r p.command p.lines) played
+
 -- the messages that the polls of receiver i printed
 abbrev pub polled : ℕ → List Played → List (List ℕ)
 polled i played = flat_map (λ p. polled_by i p.command p.lines) played
@@ -217,10 +232,21 @@ PolledPrefix g played = (i : ℕ) → i < 8 → AllWhole i played → AllHonest 
 abbrev pub covered_by : List Frame → ℕ
 covered_by frames = sum_by (λ f. aligned (frame_length f)) frames
 
--- what an assembler gives of the frames that reader r showed is what was published from the start to their end, in order and whole
-abbrev pub ReadTo : Geometry → ℕ → ℕ → List Played → Type 0
-ReadTo g start r played = (after_all nothing_heard (read r played)).given ≡ between start (start + covered_by (read r played)) (published g played)
+-- these lines came since reader r began at j: with the log, of whose readers it is one, or by the line before them
+abbrev pub HasBegun : ℕ → ℕ → ℕ → ℕ → List Played → List Played → Type 0
+HasBegun start readers r j since played =
+    ((0 < r) × (r ≤ readers) × (j ≡ start) × (since ≡ played))
+    ⊎ ((before : List Played) × (p : Played) × (turned_by r p.command p.lines ≡ Some j ∷ []) × (played ≡ before ++ p ∷ since))
 
--- of each of so many readers
+-- and it is still there: none of them says that it joined or left
+pub record IsThere (start readers r j : ℕ) (since played : List Played) : Type 0 where
+  pub begun : HasBegun start readers r j since played
+  pub stays : turns r since ≡ []
+
+-- what an assembler gives of the frames that these lines of reader r showed is what was published from there to their end, in order and whole
+abbrev pub ReadTo : Geometry → ℕ → ℕ → List Played → List Played → Type 0
+ReadTo g j r since played = (after_all nothing_heard (read r since)).given ≡ between j (j + covered_by (read r since)) (published g played)
+
+-- of each reader that is there, from its join on
 abbrev pub ReadPrefix : Geometry → ℕ → ℕ → List Played → Type 0
-ReadPrefix g start readers played = (r : ℕ) → r < readers → ReadTo g start (suc r) played
+ReadPrefix g start readers played = (r j : ℕ) (since : List Played) → IsThere start readers r j since played → ReadTo g j r since played

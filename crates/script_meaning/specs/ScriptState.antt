@@ -2,7 +2,7 @@
 -- A state remembers all that was ever added, sent and stored; the code keeps less, since an image forgets what every
 -- consumer has passed, and a log its cleaned entries. What the code does is promised of each state that it
 -- represents.
-use Rattle.std.specs.Prelude.{ℕ, zero, suc, ◌/◌, pos, false, List, [], ◌∷◌, ◌++◌, map, replicate, Option, None, Some}
+use Rattle.std.specs.Prelude.{ℕ, zero, suc, ◌-◌, ◌/◌, pos, false, List, [], ◌∷◌, ◌++◌, map, replicate, Option, None, Some}
 use Rattle.std.specs.Option.{option_map}
 use Rattle.theory.specs.Bytes.{Identity}
 use Rattle.theory.specs.Position.{max_message}
@@ -21,8 +21,8 @@ pub record ScriptState : Type 0 where
   pub log : Stream
   -- the entries that the log has forgotten
   pub past : List Entry
-  -- the readers beside the sender, from number 1 on; an assembler hears each frame that one passes
-  pub readers : List Consumer
+  -- the readers beside the sender, from number 1 on; none where nobody has a number; an assembler hears each frame that one passes
+  pub readers : List (Option Consumer)
   pub sender : Sender
   -- when the sender last sent a SETUP, and whether each receiver was heard for which these go out
   pub naming : Naming
@@ -36,7 +36,7 @@ abbrev pub entries_of : ScriptState → List Entry
 entries_of s = s.past ++ s.log.entries
 
 -- the model's log, with all entries ever added; these were forgotten, and these are its readers beside the sender
-abbrev pub model_log : List Entry → List Consumer → Stream → model.Log
+abbrev pub model_log : List Entry → List (Option Consumer) → Stream → model.Log
 model_log past readers l = record {
   identity = l.identity;
   start = l.start;
@@ -48,8 +48,13 @@ model_log past readers l = record {
   connected = l.connected;
   closed = l.closed;
   cleaned = l.cleaned;
-  readers = map Some readers;
+  readers = readers;
 }
+
+-- where a reader stands
+abbrev pub seat_of : Option Consumer → Option ℕ
+seat_of None = None
+seat_of (Some c) = Some c.at
 
 abbrev pub image_of : Receiver → Option Image
 image_of r = option_map (λ o. o.image) r.image
@@ -82,12 +87,16 @@ listening_at i number = listening i.session i.stream (i.geometry.term_length / 2
 abbrev pub numbers : List ℕ
 numbers = 0 ∷ 1 ∷ 2 ∷ 3 ∷ 4 ∷ 5 ∷ 6 ∷ 7 ∷ []
 
+-- so many readers, with the first of seven numbers, which stand there
+abbrev pub first_readers : ℕ → ℕ → List (Option Consumer)
+first_readers count at = replicate count (Some (consumer_at at)) ++ replicate (7 - count) None
+
 -- a log that was just opened at this start, with so many readers beside the sender, which serves a group of a size, or one receiver
 abbrev pub opened_state : Identity → Option ℕ → ℕ → ℕ → ScriptState
 opened_state i group start readers = record {
   log = opened i start (suc readers);
   past = [];
-  readers = replicate readers (consumer_at start);
+  readers = first_readers readers start;
   sender = opened_sender start group;
   naming = record { clock = 0; last = None; heard = false };
   last = None;

@@ -1,7 +1,7 @@
 -- What a datagram told the sender is a step of the states that the simulation shows.
-use Rattle.std.proofs.Common.{◌≡◌, arith, map, ℕ, ◌≤◌, List, [], ◌∷◌, ◌++◌, length, true, Some, inr, refl, sym, ap, ◌∙◌, subst, append-nil, append_assoc}
+use Rattle.std.proofs.Common.{◌≡◌, arith, map, ℕ, ◌≤◌, List, [], ◌∷◌, ◌++◌, length, true, Option, None, Some, inr, refl, sym, ap, ◌∙◌, subst, append-nil, append_assoc}
 use Rattle.std.proofs.lemmas.List.{set-get_or}
-use Rattle.std.specs.Prelude.{IfSome, slice_get, pos}
+use Rattle.std.specs.Prelude.{IfSome, slice_get, slice_set, pos}
 use Rattle.theory.specs.Bytes.{Identity}
 use Rattle.theory.specs.Control.{setup_at}
 use Rattle.flow_control.specs.Laws.{GroupKeepsEnough, OneKeepsEnough}
@@ -14,7 +14,7 @@ use Rattle.model.specs.Sender.{Sender}
 use Rattle.frame_source.specs.Sources.{Source}
 use Rattle.one_hand.specs.HandReads.{MovesReader}
 use Rattle.one_hand.specs.Reads.{source_of}
-use Rattle.one_hand.specs.Stream.{Stream, position_of, with_consumer}
+use Rattle.one_hand.specs.Stream.{HasConsumer, Stream, position_of, with_consumer}
 use Rattle.one_hand.specs.declared.hand_reader.HandReader.{HandReader}
 use Rattle.retransmit.specs.Answers.{nak_result}
 use Rattle.retransmit.specs.Handler.{Handler, after_nak, nak_answer_of}
@@ -27,7 +27,7 @@ use Rattle.simulation.specs.declared.line.Line.{Line}
 use Rattle.simulation.specs.declared.line.Line.TheVariants as lines
 use Rattle.script_meaning.specs.Answers.{Answers, Hears, clock_at, given_out, has_come, have_all_come, heard, limit_of, lines_of, missed, named, nak_answered, packet_lines, place_in, SenderHears, with_sender, woken}
 use Rattle.script_meaning.specs.LineContents.{LineContent, OfSender}
-use Rattle.script_meaning.specs.ScriptState.{ScriptState}
+use Rattle.script_meaning.specs.ScriptState.{ScriptState, seat_of}
 use Rattle.sender.specs.declared.sender_core.SenderAnswer.{SenderAnswer}
 use Rattle.sender.specs.declared.sender_core.SenderAnswer.TheVariants as answers
 use Rattle.sender.specs.Cycling.{AsksSetup, IsNews, Misses, NewsContent, Says, TellsNothing, Unreadable, alone, datagrams, setups}
@@ -42,8 +42,7 @@ heard_shown : (old : Simulated) (s : ScriptState) (x : Sender) (naming : Naming)
 heard_shown old s x naming t packets out sent h given at flow small name came handler last clock is = record {
   log = h.log;
   sender = record { flow = flow; small = small; naming = name; heard = came; handler = handler; last = last; clock = clock };
-  consumers = h.consumers ∙ ap (λ p. p ∷ map (λ c. c.at) s.readers) (sym at);
-  readers = h.readers;
+  consumers = h.consumers ∙ ap (λ p. Some p ∷ map seat_of s.readers) (sym at);
   receivers = h.receivers;
   packets = ap (λ ps. ps ++ datagrams out) h.packets ∙ ap (λ ws. old.packets ++ ws) (sym is) ∙ sym given;
 }
@@ -173,21 +172,21 @@ hears_news law one group old s command now bytes (Unreadable fault) answer t pac
     nothing_heard old s command now bytes (Unreadable fault) (answers.Refused fault) answer t packets sent before after means h is (refl, refl) hears.0 hears.1 hears.2 given told
 
 -- what stands where it stood, did not move
-unmoved : (l m : Stream) (r q : ℕ) → MovesReader r l q m → position_of m q ≡ position_of l r → m ≡ l
-unmoved l m r q h at = h.moved ∙ ap (with_consumer l r) (ap (position_of m) (sym h.number_is) ∙ at) ∙ ap (λ (ps : List ℕ). record l { consumers = ps }) (set-get_or l.consumers r 0)
+unmoved : (l m : Stream) (r q : ℕ) → HasConsumer l r → MovesReader r l q m → position_of m q ≡ position_of l r → m ≡ l
+unmoved l m r q there h at = h.moved ∙ ap (with_consumer l r) (ap (position_of m) (sym h.number_is) ∙ at) ∙ ap (λ (cs : List (Option ℕ)). record l { consumers = cs }) (ap (slice_set l.consumers r) (sym there) ∙ set-get_or l.consumers r None)
 
 -- whichever line hands it the bytes
-heard_answered : NearAreEnough → OneKeepsEnough → GroupKeepsEnough → (old : Simulated) (command : CommandContent) (now : ℕ) (bytes : List ℕ) (answer : SenderAnswer) (t : Sending HandReader StreamFlow) (packets sent : List (List ℕ)) (m : Stream) (before after : List Line) → ((s : ScriptState) → RepresentsState old s → Means s now bytes command) → IsSenderOf old.sender (source_of old.log old.sender.reads.number) → MovesReader old.sender.reads.number old.log t.reads.number m → (source_of m t.reads.number ≡ source_of old.log old.sender.reads.number) × HearsDatagram status_after reached_of has_heard_of (at_moment old.sender now) bytes answer t sent → packets ≡ old.packets ++ sent → line_contents after ≡ line_contents before ++ (OfSender answer ∷ packet_lines (length old.packets) sent) → IsAnswered old command before after (record old { log = m; sender = t; packets = packets })
-heard_answered law one group old command now bytes answer t packets sent m before after means from moves c given told = λ s h standing.
+heard_answered : NearAreEnough → OneKeepsEnough → GroupKeepsEnough → (old : Simulated) (command : CommandContent) (now : ℕ) (bytes : List ℕ) (answer : SenderAnswer) (t : Sending HandReader StreamFlow) (packets sent : List (List ℕ)) (m : Stream) (before after : List Line) → ((s : ScriptState) → RepresentsState old s → Means s now bytes command) → IsSenderOf old.sender (source_of old.log old.sender.reads.number) → HasConsumer old.log old.sender.reads.number → MovesReader old.sender.reads.number old.log t.reads.number m → (source_of m t.reads.number ≡ source_of old.log old.sender.reads.number) × HearsDatagram status_after reached_of has_heard_of (at_moment old.sender now) bytes answer t sent → packets ≡ old.packets ++ sent → line_contents after ≡ line_contents before ++ (OfSender answer ∷ packet_lines (length old.packets) sent) → IsAnswered old command before after (record old { log = m; sender = t; packets = packets })
+heard_answered law one group old command now bytes answer t packets sent m before after means from there moves c given told = λ s h standing.
     subst (λ (l : Stream). Answered s command (line_contents before) (line_contents after) (record old { log = l; sender = t; packets = packets }))
-    (sym (unmoved old.log m old.sender.reads.number t.reads.number moves (ap (λ (x : Source). x.position) c.0)))
+    (sym (unmoved old.log m old.sender.reads.number t.reads.number there moves (ap (λ (x : Source). x.position) c.0)))
     (hears_news law one group old s command now bytes c.1.news answer t packets sent before after (means s h) h from.identity c.1.is c.1.hears given told)
 
-pub reply_answered : NearAreEnough → OneKeepsEnough → GroupKeepsEnough → (old : Simulated) (k now : ℕ) (bytes : List ℕ) (answer : SenderAnswer) (t : Sending HandReader StreamFlow) (packets sent : List (List ℕ)) (m : Stream) (before after : List Line) → slice_get old.packets k ≡ Some bytes → IsSenderOf old.sender (source_of old.log old.sender.reads.number) → MovesReader old.sender.reads.number old.log t.reads.number m → (source_of m t.reads.number ≡ source_of old.log old.sender.reads.number) × HearsDatagram status_after reached_of has_heard_of (at_moment old.sender now) bytes answer t sent → packets ≡ old.packets ++ sent → line_contents after ≡ line_contents before ++ (OfSender answer ∷ packet_lines (length old.packets) sent) → IsAnswered old (commands.Reply k now) before after (record old { log = m; sender = t; packets = packets })
+pub reply_answered : NearAreEnough → OneKeepsEnough → GroupKeepsEnough → (old : Simulated) (k now : ℕ) (bytes : List ℕ) (answer : SenderAnswer) (t : Sending HandReader StreamFlow) (packets sent : List (List ℕ)) (m : Stream) (before after : List Line) → slice_get old.packets k ≡ Some bytes → IsSenderOf old.sender (source_of old.log old.sender.reads.number) → HasConsumer old.log old.sender.reads.number → MovesReader old.sender.reads.number old.log t.reads.number m → (source_of m t.reads.number ≡ source_of old.log old.sender.reads.number) × HearsDatagram status_after reached_of has_heard_of (at_moment old.sender now) bytes answer t sent → packets ≡ old.packets ++ sent → line_contents after ≡ line_contents before ++ (OfSender answer ∷ packet_lines (length old.packets) sent) → IsAnswered old (commands.Reply k now) before after (record old { log = m; sender = t; packets = packets })
 reply_answered law one group old k now bytes answer t packets sent m before after packet =
     heard_answered law one group old (commands.Reply k now) now bytes answer t packets sent m before after (λ s h lines u hears. inr (bytes, ap (λ ps. slice_get ps k) h.packets ∙ packet, hears))
 
-pub raw_back_answered : NearAreEnough → OneKeepsEnough → GroupKeepsEnough → (old : Simulated) (now : ℕ) (bytes : List ℕ) (answer : SenderAnswer) (t : Sending HandReader StreamFlow) (packets sent : List (List ℕ)) (m : Stream) (before after : List Line) → IsSenderOf old.sender (source_of old.log old.sender.reads.number) → MovesReader old.sender.reads.number old.log t.reads.number m → (source_of m t.reads.number ≡ source_of old.log old.sender.reads.number) × HearsDatagram status_after reached_of has_heard_of (at_moment old.sender now) bytes answer t sent → packets ≡ old.packets ++ sent → line_contents after ≡ line_contents before ++ (OfSender answer ∷ packet_lines (length old.packets) sent) → IsAnswered old (commands.RawBack now bytes) before after (record old { log = m; sender = t; packets = packets })
+pub raw_back_answered : NearAreEnough → OneKeepsEnough → GroupKeepsEnough → (old : Simulated) (now : ℕ) (bytes : List ℕ) (answer : SenderAnswer) (t : Sending HandReader StreamFlow) (packets sent : List (List ℕ)) (m : Stream) (before after : List Line) → IsSenderOf old.sender (source_of old.log old.sender.reads.number) → HasConsumer old.log old.sender.reads.number → MovesReader old.sender.reads.number old.log t.reads.number m → (source_of m t.reads.number ≡ source_of old.log old.sender.reads.number) × HearsDatagram status_after reached_of has_heard_of (at_moment old.sender now) bytes answer t sent → packets ≡ old.packets ++ sent → line_contents after ≡ line_contents before ++ (OfSender answer ∷ packet_lines (length old.packets) sent) → IsAnswered old (commands.RawBack now bytes) before after (record old { log = m; sender = t; packets = packets })
 raw_back_answered law one group old now bytes answer t packets sent m before after = heard_answered law one group old (commands.RawBack now bytes) now bytes answer t packets sent m before after (λ s h lines u hears. hears)
 
 pub replied_lines : (before between after : List Line) (answer : SenderAnswer) (k : ℕ) (sent : List (List ℕ)) → between ≡ before ++ lines.Sender answer ∷ [] → line_contents after ≡ line_contents between ++ packet_lines k sent → line_contents after ≡ line_contents before ++ (OfSender answer ∷ packet_lines k sent)

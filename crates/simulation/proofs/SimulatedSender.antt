@@ -1,5 +1,5 @@
 -- What a sender's cycle left is a step of the states that the simulation shows.
-use Rattle.std.proofs.Common.{◌≡◌, map, ℕ, ◌≤◌, List, ◌∷◌, ◌++◌, length, Bool, true, false, Some, refl, sym, ap, ◌∙◌, subst, arith}
+use Rattle.std.proofs.Common.{◌≡◌, map, ℕ, ◌≤◌, List, ◌∷◌, ◌++◌, length, Bool, true, false, Option, Some, refl, sym, ap, ◌∙◌, subst, arith}
 use Rattle.std.specs.Prelude.{IfSome, slice_set, ◌&&◌, if◌then◌else◌}
 use Rattle.std.specs.Option.{option_to_list}
 use Rattle.theory.specs.Bytes.{Identity}
@@ -17,6 +17,7 @@ use Rattle.frame_source.specs.Sources.{Source}
 use Rattle.one_hand.specs.HandReads.{MovesReader}
 use Rattle.one_hand.specs.Reads.{source_of}
 use Rattle.one_hand.specs.Stream.{Stream, position_of, with_consumer}
+use Rattle.script_meaning.specs.ScriptState.{seat_of}
 use Rattle.one_hand.specs.declared.hand_reader.HandReader.{HandReader}
 use Rattle.retransmit.specs.Handler.{Handler, after_due, due_range}
 use Rattle.retransmit.specs.Laws.{NearStayNear}
@@ -49,13 +50,13 @@ named_handler g start k x true = refl
 named_handler g start k x false = refl
 
 -- the log's first consumer is where the sender is
-behind_log : (others : List ℕ) (l m : Stream) (r q at end : ℕ) → l.consumers ≡ at ∷ others → r ≡ 0 → MovesReader r l q m → position_of m q ≡ end → m ≡ record l { consumers = end ∷ others }
+behind_log : (others : List (Option ℕ)) (l m : Stream) (r q at end : ℕ) → l.consumers ≡ Some at ∷ others → r ≡ 0 → MovesReader r l q m → position_of m q ≡ end → m ≡ record l { consumers = Some end ∷ others }
 behind_log others l m r q at end one zeroth h moved =
     let first : position_of m r ≡ end = ap (position_of m) (sym h.number_is) ∙ moved in
     h.moved
     ∙ ap (with_consumer l r) first
     ∙ ap (λ (n : ℕ). with_consumer l n end) zeroth
-    ∙ ap (λ (cs : List ℕ). record l { consumers = slice_set cs 0 end }) one
+    ∙ ap (λ (cs : List (Option ℕ)). record l { consumers = slice_set cs 0 (Some end) }) one
 
 -- what is known of a cycle: where the sender is, and what it sends is what the state's sender sends
 pub send_answered : NearStayNear → AlwaysAgain → OneKeepsEnough → GroupKeepsEnough → (old : Simulated) (now : ℕ) (m : Stream) (t : Sending HandReader StreamFlow) (packets sent : List (List ℕ)) (before after : List Line) → old.sender.reads.number ≡ 0 → IsSenderOf old.sender (source_of old.log old.sender.reads.number) → Cycles (λ fs gs. gs ≡ fs) tick_after reached_of (at_moment old.sender now) (source_of old.log old.sender.reads.number) (source_of m t.reads.number) t sent → MovesReader old.sender.reads.number old.log t.reads.number m → packets ≡ old.packets ++ sent → line_contents after ≡ line_contents before ++ or_nothing (packet_lines (length old.packets) sent) → IsAnswered old (commands.Send now) before after (record old { log = m; sender = t; packets = packets })
@@ -104,8 +105,8 @@ send_answered near always one group old now m t packets sent before after zeroth
     ∙ ap (λ p. datagrams (sent_wires s.log.identity p t.handler.at y)) at
     ∙ ap (λ p. datagrams (sent_wires s.log.identity s.sender.at p y)) end in
     let moved : position_of m t.reads.number ≡ n.at = ap (λ (x : Source). x.position) c.reads.moved ∙ end in
-    let others = map (λ c. c.at) s.readers in
-    let log : m ≡ record old.log { consumers = n.at ∷ others } = behind_log others old.log m v.reads.number t.reads.number s.sender.at n.at h.consumers zeroth moves moved in
+    let others = map seat_of s.readers in
+    let log : m ≡ record old.log { consumers = Some n.at ∷ others } = behind_log others old.log m v.reads.number t.reads.number s.sender.at n.at h.consumers zeroth moves moved in
     let due : y.setup ≡ is_due s.naming (clock_at s now) = c.is.setup ∙ ap (λ n. is_due n (seen v.clock now)) h.sender.naming ∙ ap (is_due s.naming) clock in
     let beat : y.beat ≡ (is_silent y && is_heartbeat_due (option_to_list s.last) (has_come s.sender.heard) (clock_at s now)) =
     c.is.beat
@@ -123,7 +124,7 @@ send_answered near always one group old now m t packets sent before after zeroth
       answers = (y, record { setup = due; new = new; again = again; beat = beat }, refl, refl);
       printed = told ∙ ap (λ ws. line_contents before ++ or_nothing (packet_lines (length old.packets) ws)) wires ∙ ap (λ ps. line_contents before ++ or_nothing (packet_lines (length ps) (datagrams (wires_of s now y)))) (sym h.packets);
       shows = record {
-        log = ap (λ (l : Stream). record l { consumers = n.at ∷ others }) h.log ∙ sym log;
+        log = ap (λ (l : Stream). record l { consumers = Some n.at ∷ others }) h.log ∙ sym log;
         sender = record {
           flow = ap (λ (u : Sending HandReader StreamFlow). u.flow) c.state ∙ flow ∙ (λ j. flow_after (same_group j) start (Ticked (clock_at s now) ∷ same_heard j));
           small = subst (λ o. IfSome o (λ size. size ≤ 8)) same_group h.sender.small;
@@ -134,7 +135,6 @@ send_answered near always one group old now m t packets sent before after zeroth
           clock = ap (λ (u : Sending HandReader StreamFlow). u.clock) c.state ∙ clock ∙ sym n_clock;
         };
         consumers = ap (λ (l : Stream). l.consumers) log;
-        readers = h.readers;
         receivers = h.receivers;
         packets = ap (λ ps. ps ++ datagrams (wires_of s now y)) h.packets ∙ ap (λ ws. old.packets ++ ws) (sym wires) ∙ sym given;
       };

@@ -1,10 +1,9 @@
 -- What the calls of a line's handler left is a step of the states that the simulation shows.
 use Rattle.std.proofs.Common.{◌≡◌, ◌⊎◌, ℕ, zero, suc, ◌-◌, ◌<◌, ◌≤◌, List, [], ◌∷◌, ◌++◌, map, length, Option, None, Some, inl, inr, refl, sym, ap, ◌∙◌, subst, arith, append-nil}
-use Rattle.std.specs.Prelude.{slice_get, slice_set, slice_index, replicate, Result, Ok, Err, OnOk}
+use Rattle.std.specs.Prelude.{slice_get, slice_index_or, slice_set, replicate, Result, Ok, Err, OnOk}
 use Rattle.std.proofs.lemmas.List.{length-set, map-append, map-set}
-use Rattle.std.proofs.lemmas.Option.{slice_get_past}
 use Rattle.theory.specs.Bytes.{Identity}
-use Rattle.theory.specs.Consumer.{Consumer, moved}
+use Rattle.theory.specs.Consumer.{Consumer, consumer_at, moved}
 use Rattle.theory.specs.Entry.{Entry, committed}
 use Rattle.theory.specs.Placed.{Among, Placed, end_of}
 use Rattle.theory.specs.Position.{max_message}
@@ -12,7 +11,7 @@ use Rattle.theory.specs.Wire.{Wire, spelling}
 use Rattle.flow_control.specs.Stream.{flow_after}
 use Rattle.flow_control.specs.declared.stream.StreamFlow.{StreamFlow}
 use Rattle.one_hand.specs.Legal.{IsStream}
-use Rattle.one_hand.specs.Stream.{Stream, clean_end, cleaned_and_limited, forgotten_below, position_of, raised, with_consumer}
+use Rattle.one_hand.specs.Stream.{HasConsumer, IsVacant, Stream, clean_end, cleaned_and_limited, forgotten_below, lowest, position_of, raised, with_consumer, without_consumer}
 use Rattle.receiver.specs.Polling.{Answer, Polls, TellsPositions}
 use Rattle.receiver.specs.Receiving.{TakesDatagram, Receiver, replies, ticked}
 use Rattle.receiver.specs.Subscribing.{SubscriberBecomes, RepresentsSubscriber, Subscribing}
@@ -24,13 +23,14 @@ use Rattle.simulation.specs.Lines.{line_content, line_contents}
 use Rattle.simulation.specs.Packed.{bytes_of}
 use Rattle.simulation.specs.declared.line.Line.{Line}
 use Rattle.simulation.proofs.PacketNumbers.{none_past}
+use Rattle.script_meaning.specs.Answers as states
 use Rattle.script_meaning.specs.Answers.{Answers, AreFrames, MayNotTake, OffersMessage, GetsDatagram, given_out, lines_of, or_nothing, packet_lines, reader_at, with_log, with_reader, with_receiver}
-use Rattle.script_meaning.specs.LineContents.{Bad, Done, Limit, LineContent, OfReceiver, poll_line, positions_line}
-use Rattle.script_meaning.specs.ScriptState.{ScriptState}
+use Rattle.script_meaning.specs.LineContents.{Bad, Done, Joined, Limit, LineContent, OfReceiver, poll_line, positions_line}
+use Rattle.script_meaning.specs.ScriptState.{ScriptState, seat_of}
 use Rattle.one_hand.specs.declared.hand_reader.HandReader.{HandReader}
 use Rattle.sender.specs.Cycling.{alone, datagrams}
 use Rattle.sender.specs.Sending.{Sending}
-use Rattle.simulation.specs.Reading.{LeadsTo, ReadsLine, StandsStill}
+use Rattle.simulation.specs.Reading.{JoinsLine, LeadsTo, LeavesLine, ReadsLine, StandsStill}
 use Rattle.simulation.specs.Reading.{MayBeOffered}
 use Rattle.simulation.specs.Simulated.{AllShow, IsAnswered, IsOffered, RepresentsSender, RepresentsState, Simulated}
 use Rattle.script_meaning.specs.Standing.{handler_of}
@@ -110,7 +110,6 @@ log_shown old s m past h k = record {
   log = refl;
   sender = log_changed old.sender s m past h.sender (ap (λ (l : Stream). l.identity) h.log ∙ sym k.identity) (ap (λ (l : Stream). l.start) h.log ∙ sym k.start);
   consumers = k.consumers ∙ h.consumers;
-  readers = h.readers;
   receivers = h.receivers;
   packets = h.packets;
 }
@@ -150,7 +149,6 @@ subscriber_shown old s k v r h shown = record {
   log = h.log;
   sender = record { flow = h.sender.flow; small = h.sender.small; naming = h.sender.naming; heard = h.sender.heard; handler = h.sender.handler; last = h.sender.last; clock = h.sender.clock };
   consumers = h.consumers;
-  readers = h.readers;
   receivers = shows_set old.subscribers s.receivers k v r h.receivers shown;
   packets = h.packets;
 }
@@ -230,7 +228,6 @@ tick_answered old n now v w wires packets before after there out next frames giv
         log = base.log;
         sender = record { flow = h.sender.flow; small = h.sender.small; naming = h.sender.naming; heard = h.sender.heard; handler = h.sender.handler; last = h.sender.last; clock = h.sender.clock };
         consumers = base.consumers;
-        readers = base.readers;
         receivers = base.receivers;
         packets = ap (λ ps. ps ++ datagrams (alone (replies r now))) h.packets ∙ ap (λ ws. old.packets ++ datagrams (alone ws)) (sym sent) ∙ sym given;
       };
@@ -242,59 +239,119 @@ on_both (Err e) P Q R h k f = tt
 
 -- ---- a reader
 
-consumer_there : (cs : List Consumer) (j : ℕ) → j < length cs → (c : Consumer) × (slice_get cs j ≡ Some c) × (slice_index (map (λ (x : Consumer). x.at) cs) j ≡ c.at)
-consumer_there [] j low = absurd (omega (arith, low))
-consumer_there (c ∷ cs) zero low = (c, refl, refl)
-consumer_there (c ∷ cs) (suc j) low = consumer_there cs j (omega (arith, low))
+reader_there : (rs : List (Option Consumer)) (j x : ℕ) → slice_index_or (map seat_of rs) j None ≡ Some x → (c : Consumer) × (slice_index_or rs j None ≡ Some c) × (x ≡ c.at)
+reader_there [] j x e = absurd (cc)
+reader_there (None ∷ rs) zero x e = absurd (cc)
+reader_there (Some c ∷ rs) zero x e = (c, refl, let i : Some c.at ≡ Some x = e in cc)
+reader_there (r ∷ rs) (suc j) x e = reader_there rs j x e
 
-no_reader_at : (s : ScriptState) (k : ℕ) → (k ≡ 0) ⊎ (length s.readers < k) → reader_at s k ≡ None
-no_reader_at s zero e = refl
-no_reader_at s (suc j) (inl e) = absurd (omega (arith, e))
-no_reader_at s (suc j) (inr e) = slice_get_past s.readers j (omega (arith, e))
+vacant_seat : (rs : List (Option Consumer)) (j : ℕ) → slice_get (map seat_of rs) j ≡ Some None → slice_get rs j ≡ Some None
+vacant_seat [] j e = absurd (cc)
+vacant_seat (None ∷ rs) zero e = refl
+vacant_seat (Some c ∷ rs) zero e = absurd (let i : Some (Some c.at) ≡ Some None = e in let k : Some c.at ≡ None = cc in cc)
+vacant_seat (r ∷ rs) (suc j) e = vacant_seat rs j e
 
-pub no_reader : (old : Simulated) (k : ℕ) (line : Line) (before after : List Line) → (k ≡ 0) ⊎ (old.readers < k) → line_content line ≡ Bad → after ≡ before ++ line ∷ [] → IsAnswered old (commands.Read k) before after old
+none_seated : (rs : List (Option Consumer)) (j : ℕ) → slice_get rs j ≡ Some None → slice_index_or rs j None ≡ None
+none_seated [] j e = absurd (cc)
+none_seated (r ∷ rs) zero e = let i : Some r ≡ Some None = e in cc
+none_seated (r ∷ rs) (suc j) e = none_seated rs j e
+
+taken_seat : (rs : List (Option Consumer)) (j : ℕ) (c : Consumer) → slice_index_or rs j None ≡ Some c → slice_get rs j ≡ Some None → ⊥
+taken_seat rs j c e f = let i : None ≡ Some c = sym (none_seated rs j f) ∙ e in absurd (cc)
+
+-- the reader of a number in the state
+reader_in : (old : Simulated) (s : ScriptState) (j : ℕ) → RepresentsState old s → HasConsumer old.log (suc j) → (c : Consumer) × (reader_at s (suc j) ≡ Some c) × (position_of old.log (suc j) ≡ c.at)
+reader_in old s j h there = reader_there s.readers j (position_of old.log (suc j)) (ap (λ cs. slice_index_or cs (suc j) None) (sym h.consumers) ∙ there)
+
+vacant_in : (old : Simulated) (s : ScriptState) (j : ℕ) → RepresentsState old s → IsVacant old.log (suc j) → slice_get s.readers j ≡ Some None
+vacant_in old s j h none = vacant_seat s.readers j (ap (λ cs. slice_get cs (suc j)) (sym h.consumers) ∙ none)
+
+no_reader_at : (old : Simulated) (s : ScriptState) (k : ℕ) → RepresentsState old s → (k ≡ 0) ⊎ IsVacant old.log k → reader_at s k ≡ None
+no_reader_at old s zero h e = refl
+no_reader_at old s (suc j) h (inl e) = absurd (omega (arith, e))
+no_reader_at old s (suc j) h (inr e) = none_seated s.readers j (vacant_in old s j h e)
+
+pub no_reader : (old : Simulated) (k : ℕ) (line : Line) (before after : List Line) → (k ≡ 0) ⊎ IsVacant old.log k → line_content line ≡ Bad → after ≡ before ++ line ∷ [] → IsAnswered old (commands.Read k) before after old
 no_reader old k line before after none bad told =
-    bad_answered old (commands.Read k) line before after bad (λ s h. inl (no_reader_at s k (subst (λ n. (k ≡ 0) ⊎ (n < k)) h.readers none), (refl, refl))) told
+    bad_answered old (commands.Read k) line before after bad (λ s h. inl (no_reader_at old s k h none, (refl, refl))) told
 
--- the reader's consumer in the state, behind a frame
-passed_by_reader : (old : Simulated) (s : ScriptState) (j : ℕ) (c : Consumer) (p : Placed) (m : Stream) → RepresentsState old s → m ≡ with_consumer old.log (suc j) (end_of p) → RepresentsState (record old { log = m }) (with_reader s (suc j) (moved c p))
-passed_by_reader old s j c p m h is =
-    let places : map (λ (x : Consumer). x.at) (slice_set s.readers j (moved c p)) ≡ slice_set (map (λ (x : Consumer). x.at) s.readers) j (end_of p) = map-set (λ (x : Consumer). x.at) s.readers j (moved c p) in
+-- the state with another reader of this number, or none
+reseated : (old : Simulated) (s : ScriptState) (j : ℕ) (o : Option Consumer) (m : Stream) → RepresentsState old s → m ≡ record old.log { consumers = slice_set old.log.consumers (suc j) (seat_of o) }
+    → RepresentsState (record old { log = m }) (record s { log = record s.log { consumers = slice_set s.log.consumers (suc j) (seat_of o) }; readers = slice_set s.readers (suc j - 1) o })
+reseated old s j o m h is =
     let index : suc j - 1 ≡ j = omega arith in
     record {
-      log = ap (λ (l : Stream). with_consumer l (suc j) (end_of p)) h.log ∙ sym is;
+      log = ap (λ (l : Stream). record l { consumers = slice_set l.consumers (suc j) (seat_of o) }) h.log ∙ sym is;
       sender = record { flow = h.sender.flow; small = h.sender.small; naming = h.sender.naming; heard = h.sender.heard; handler = h.sender.handler; last = h.sender.last; clock = h.sender.clock };
-      consumers = ap (λ (l : Stream). l.consumers) is ∙ ap (λ cs. slice_set cs (suc j) (end_of p)) h.consumers ∙ ap (λ xs. s.sender.at ∷ xs) (sym places ∙ ap (λ n. map (λ (x : Consumer). x.at) (slice_set s.readers n (moved c p))) (sym index));
-      readers = h.readers ∙ sym (length-set s.readers (suc j - 1) (moved c p));
+      consumers = ap (λ (l : Stream). l.consumers) is ∙ ap (λ cs. slice_set cs (suc j) (seat_of o)) h.consumers ∙ ap (λ cs. Some s.sender.at ∷ cs) (sym (map-set seat_of s.readers j o) ∙ ap (λ n. map seat_of (slice_set s.readers n o)) (sym index));
       receivers = h.receivers;
       packets = h.packets;
     }
 
-read_so : (old : Simulated) (j : ℕ) (m : Stream) (line : Line) (before after : List Line) → j < old.readers → ReadsLine old.log (suc j) (line_content line) m → after ≡ before ++ line ∷ [] → IsAnswered old (commands.Read (suc j)) before after (record old { log = m })
-read_so old j m line before after low (inl n) told = λ s h standing.
-    let c = consumer_there s.readers j (subst (λ k. j < k) h.readers low) in
-    let at : position_of old.log (suc j) ≡ c.0.at = ap (λ cs. slice_index cs (suc j)) h.consumers ∙ c.2 in
+read_so : (old : Simulated) (j : ℕ) (m : Stream) (line : Line) (before after : List Line) → HasConsumer old.log (suc j) → ReadsLine old.log (suc j) (line_content line) m → after ≡ before ++ line ∷ [] → IsAnswered old (commands.Read (suc j)) before after (record old { log = m })
+read_so old j m line before after there (inl n) told = λ s h standing.
+    let c = reader_in old s j h there in
     record {
       lines = line_content line ∷ [];
       state = s;
-      answers = inr (inl (c.0, c.1, (λ p a e. n.0 p (subst (λ l. Among p (committed l.entries)) h.log a) (e ∙ sym at)), ap (λ x. x ∷ []) n.1, refl));
+      answers = inr (inl (c.0, c.1, (λ p a e. n.0 p (subst (λ l. Among p (committed l.entries)) h.log a) (e ∙ sym c.2)), ap (λ x. x ∷ []) n.1, refl));
       printed = one_line before after line told;
       shows = subst (λ l. RepresentsState (record old { log = l }) s) (sym n.2) h;
     }
-read_so old j m line before after low (inr f) told = λ s h standing.
-    let c = consumer_there s.readers j (subst (λ k. j < k) h.readers low) in
-    let at : position_of old.log (suc j) ≡ c.0.at = ap (λ cs. slice_index cs (suc j)) h.consumers ∙ c.2 in
+read_so old j m line before after there (inr f) told = λ s h standing.
+    let c = reader_in old s j h there in
     record {
       lines = line_content line ∷ [];
       state = with_reader s (suc j) (moved c.0 f.0);
-      answers = inr (inr (c.0, f.0, c.1, subst (λ l. Among f.0 (committed l.entries)) (sym h.log) f.1, f.2 ∙ at, ap (λ x. x ∷ []) f.3, refl));
+      answers = inr (inr (c.0, f.0, c.1, subst (λ l. Among f.0 (committed l.entries)) (sym h.log) f.1, f.2 ∙ c.2, ap (λ x. x ∷ []) f.3, refl));
       printed = one_line before after line told;
-      shows = passed_by_reader old s j c.0 f.0 m h f.4;
+      shows = reseated old s j (Some (moved c.0 f.0)) m h f.4;
     }
 
-pub read_answered : (old : Simulated) (k j : ℕ) (m : Stream) (line : Line) (before after : List Line) → k ≡ suc j → j < old.readers → ReadsLine old.log k (line_content line) m → after ≡ before ++ line ∷ [] → IsAnswered old (commands.Read k) before after (record old { log = m })
-read_answered old k j m line before after is low reads told =
-    subst (λ n. IsAnswered old (commands.Read n) before after (record old { log = m })) (sym is) (read_so old j m line before after low (subst (λ n. ReadsLine old.log n (line_content line) m) is reads) told)
+pub read_answered : (old : Simulated) (k j : ℕ) (m : Stream) (line : Line) (before after : List Line) → k ≡ suc j → HasConsumer old.log k → ReadsLine old.log k (line_content line) m → after ≡ before ++ line ∷ [] → IsAnswered old (commands.Read k) before after (record old { log = m })
+read_answered old k j m line before after is there reads told =
+    subst (λ n. IsAnswered old (commands.Read n) before after (record old { log = m })) (sym is)
+    (read_so old j m line before after (subst (λ n. HasConsumer old.log n) is there) (subst (λ n. ReadsLine old.log n (line_content line) m) is reads) told)
+
+-- ---- a reader that joins, and one that leaves
+
+-- who has a number may not join with it
+not_vacant : (old : Simulated) (s : ScriptState) (k : ℕ) → RepresentsState old s → HasConsumer old.log k → states.IsVacant s k → ⊥
+not_vacant old s zero h there vacant = vacant
+not_vacant old s (suc j) h there vacant = let c = reader_in old s j h there in taken_seat s.readers j c.0 c.1 vacant
+
+pub join_answered : (old : Simulated) (k : ℕ) (m : Stream) (line : Line) (before after : List Line) → JoinsLine old.log k (line_content line) m → after ≡ before ++ line ∷ [] → IsAnswered old (commands.Join k) before after (record old { log = m })
+join_answered old k m line before after (inl n) told =
+    subst (λ l. IsAnswered old (commands.Join k) before after (record old { log = l })) (sym n.2)
+    (bad_answered old (commands.Join k) line before after n.1 (λ s h. inl (not_vacant old s k h n.0, (refl, refl))) told)
+join_answered old zero m line before after (inr n) told = λ s h standing. absurd (sender_there old s h n.vacant)
+  where
+    sender_there : (old : Simulated) (s : ScriptState) → RepresentsState old s → IsVacant old.log 0 → ⊥
+    sender_there old s h none = let e : Some (Some s.sender.at) ≡ Some None = ap (λ cs. slice_get cs 0) (sym h.consumers) ∙ none in let f : Some s.sender.at ≡ None = cc in absurd (cc)
+join_answered old (suc j) m line before after (inr n) told = λ s h standing.
+    let same : lowest old.log ≡ lowest s.log = ap lowest (sym h.log) in
+    record {
+      lines = line_content line ∷ [];
+      state = with_reader s (suc j) (consumer_at (lowest s.log));
+      answers = inr record { legal = subst IsStream (sym h.log) n.legal; vacant = vacant_in old s j h n.vacant; shown = ap (λ x. x ∷ []) (n.shown ∙ ap Joined same); new_is = refl };
+      printed = one_line before after line told;
+      shows = reseated old s j (Some (consumer_at (lowest s.log))) m h (n.after ∙ ap (with_consumer old.log (suc j)) same);
+    }
+
+pub leave_answered : (old : Simulated) (k : ℕ) (m : Stream) (line : Line) (before after : List Line) → LeavesLine old.log k (line_content line) m → after ≡ before ++ line ∷ [] → IsAnswered old (commands.Leave k) before after (record old { log = m })
+leave_answered old k m line before after (inl n) told =
+    subst (λ l. IsAnswered old (commands.Leave k) before after (record old { log = l })) (sym n.2)
+    (bad_answered old (commands.Leave k) line before after n.1 (λ s h. inl (no_reader_at old s k h n.0, (refl, refl))) told)
+leave_answered old zero m line before after (inr n) told = absurd (let some = n.0 in omega (arith, some))
+leave_answered old (suc j) m line before after (inr n) told = λ s h standing.
+    let c = reader_in old s j h n.1 in
+    record {
+      lines = line_content line ∷ [];
+      state = record s { log = without_consumer s.log (suc j); readers = slice_set s.readers (suc j - 1) None };
+      answers = inr (c.0, c.1, ap (λ x. x ∷ []) n.2, refl);
+      printed = one_line before after line told;
+      shows = reseated old s j None m h n.3;
+    }
 
 -- ---- what a publisher has, and its offer
 

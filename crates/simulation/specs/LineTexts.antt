@@ -9,7 +9,7 @@ use Rattle.assembler.specs.Codes as assemblers
 use Rattle.publication.specs.Refusals.{number_of}
 use Rattle.receiver.specs.Texts.{outcome_text}
 use Rattle.sender.specs.Texts.{answer_text}
-use Rattle.script_meaning.specs.LineContents.{LineContent, Open, BadGeometry, BadLog, Done, Limit, Position, Claimed, FrameData, FramePad, Refused, Packet, Nothing, OfReceiver, OfSender, Message, NoMessage, Unassembled, Positions, Bad, Shares}
+use Rattle.script_meaning.specs.LineContents.{LineContent, Open, BadGeometry, BadLog, Done, Limit, Position, Claimed, FrameData, FramePad, Joined, Left, Refused, Packet, Nothing, OfReceiver, OfSender, Message, NoMessage, Unassembled, Positions, Bad, Shares}
 
 abbrev pub shares_text : List ℕ → List ℕ
 shares_text shares = flat_map (λ share. 32 ∷ decimal share) shares
@@ -24,6 +24,8 @@ line_text (Position end) = codes "position " ++ decimal end
 line_text (Claimed start end) = codes "claimed " ++ decimal start ++ codes " " ++ decimal end
 line_text (FrameData start flags bytes) = codes "data " ++ decimal start ++ codes " " ++ two_digits flags ++ codes " " ++ hexadecimal bytes
 line_text (FramePad start frame_length) = codes "pad " ++ decimal start ++ codes " " ++ decimal frame_length
+line_text (Joined position) = codes "joined " ++ decimal position
+line_text Left = codes "left"
 line_text (Refused refusal) = codes "refused " ++ signed_decimal (number_of refusal)
 line_text (Packet number bytes) = codes "packet " ++ decimal number ++ codes " " ++ hexadecimal bytes
 line_text Nothing = codes "nothing"

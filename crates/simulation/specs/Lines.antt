@@ -1,6 +1,6 @@
 -- What a line of output says, without where its bytes lie in memory.
 use Rattle.std.specs.Prelude.{List, map}
-use Rattle.script_meaning.specs.LineContents.{LineContent, Open, BadGeometry, BadLog, Done, Limit, Position, Claimed, FrameData, FramePad, Refused, Packet, Nothing, OfReceiver, OfSender, Message, NoMessage, Unassembled, Positions, Bad, Shares}
+use Rattle.script_meaning.specs.LineContents.{LineContent, Open, BadGeometry, BadLog, Done, Limit, Position, Claimed, FrameData, FramePad, Joined, Left, Refused, Packet, Nothing, OfReceiver, OfSender, Message, NoMessage, Unassembled, Positions, Bad, Shares}
 use Rattle.simulation.specs.declared.line.Line.{Line}
 use Rattle.simulation.specs.declared.line.Line.TheVariants as lines
 
@@ -14,6 +14,8 @@ line_content (lines.Position end) = Position end
 line_content (lines.Claimed start end) = Claimed start end
 line_content (lines.FrameData start flags bytes) = FrameData start flags bytes.items
 line_content (lines.FramePad start frame_length) = FramePad start frame_length
+line_content (lines.Joined position) = Joined position
+line_content lines.Left = Left
 line_content (lines.Refused refusal) = Refused refusal
 line_content (lines.Packet number bytes) = Packet number bytes.items
 line_content lines.Nothing = Nothing

@@ -1,12 +1,13 @@
 -- What a line does to a log, and what is printed of it.
-use Rattle.std.specs.Prelude.{◌≡◌, ◌⊎◌, ℕ, List, [], ◌∷◌, Some}
+use Rattle.std.specs.Prelude.{◌≡◌, ◌⊎◌, ◌<◌, ℕ, List, [], ◌∷◌, Some}
 use Rattle.theory.specs.Placed.{Among, Frame, Placed, end_of}
 use Rattle.theory.specs.Entry.{committed}
 use Rattle.frame_source.specs.Sources.{HasNone}
+use Rattle.one_hand.specs.Legal.{IsStream}
 use Rattle.one_hand.specs.Reads.{source_of}
-use Rattle.one_hand.specs.Stream.{OpenClaim, Stream, claim_by, position_of, with_consumer}
+use Rattle.one_hand.specs.Stream.{HasConsumer, IsVacant, OpenClaim, Stream, claim_by, lowest, position_of, with_consumer, without_consumer}
 use Rattle.script_meaning.specs.Answers.{IsBad, OffersMessage, frame_line, with_log}
-use Rattle.script_meaning.specs.LineContents.{LineContent, NoMessage}
+use Rattle.script_meaning.specs.LineContents.{Bad, Joined, Left, LineContent, NoMessage}
 use Rattle.script_meaning.specs.ScriptState.{ScriptState}
 
 -- ---- a line that only changes the log
@@ -37,6 +38,22 @@ LinePassesFrame l r line m = (s : Placed) × Among s (committed l.entries) × (s
 
 abbrev pub ReadsLine : Stream → ℕ → LineContent → Stream → Type 0
 ReadsLine l r line m = LineFindsNone l r line m ⊎ LinePassesFrame l r line m
+
+-- ---- a reader that joins or leaves
+
+-- it begins where the least consumer stands, where nobody had its number
+pub record LineJoins (l : Stream) (r : ℕ) (line : LineContent) (m : Stream) : Type 0 where
+  pub legal : IsStream l
+  pub vacant : IsVacant l r
+  pub shown : line ≡ Joined (lowest l)
+  pub after : m ≡ with_consumer l r (lowest l)
+
+abbrev pub JoinsLine : Stream → ℕ → LineContent → Stream → Type 0
+JoinsLine l r line m = (HasConsumer l r × (line ≡ Bad) × (m ≡ l)) ⊎ LineJoins l r line m
+
+-- nobody has its number then
+abbrev pub LeavesLine : Stream → ℕ → LineContent → Stream → Type 0
+LeavesLine l r line m = (((r ≡ 0) ⊎ IsVacant l r) × (line ≡ Bad) × (m ≡ l)) ⊎ ((0 < r) × HasConsumer l r × (line ≡ Left) × (m ≡ without_consumer l r))
 
 -- ---- an offer
 

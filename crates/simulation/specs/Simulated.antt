@@ -1,9 +1,9 @@
 -- What contracts see of a simulation, which states it represents, and what a line makes of them.
-use Rattle.std.specs.Prelude.{◌≡◌, ◌≤◌, ◌+◌, ℕ, ⊤, IfSome, List, [], ◌∷◌, ◌++◌, length, map}
+use Rattle.std.specs.Prelude.{◌≡◌, ◌≤◌, ℕ, ⊤, IfSome, Some, List, [], ◌∷◌, ◌++◌, length, map}
 use Rattle.theory.specs.Position.{Geometry}
 use Rattle.script.specs.Meaning.{CommandContent}
 use Rattle.one_hand.specs.Reads.{source_of}
-use Rattle.one_hand.specs.Stream.{Stream}
+use Rattle.one_hand.specs.Stream.{HasConsumer, Stream}
 use Rattle.one_hand.specs.declared.hand_reader.HandReader.{HandReader}
 use Rattle.receiver.specs.Receiving.{Receiver}
 use Rattle.receiver.specs.Subscribing.{RepresentsSubscriber, Subscribing}
@@ -15,7 +15,7 @@ use Rattle.retransmit.specs.Handler.{Handler}
 use Rattle.sender.specs.Sending.{Sending}
 use Rattle.script_meaning.specs.Answers.{Answers, has_come}
 use Rattle.script_meaning.specs.LineContents.{LineContent}
-use Rattle.script_meaning.specs.ScriptState.{ScriptState}
+use Rattle.script_meaning.specs.ScriptState.{ScriptState, seat_of}
 use Rattle.script_meaning.specs.Standing.{IsPlayed, handler_of}
 use Rattle.simulation.specs.Lines.{line_contents}
 use Rattle.simulation.specs.declared.line.Line.{Line}
@@ -24,8 +24,6 @@ use Rattle.simulation.specs.Reading.{MayBeOffered}
 -- a log with its sender and its other readers, eight subscribers, and the packets that were given out
 pub record Simulated : Type 0 where
   pub log : Stream
-  -- how many readers there are beside the sender
-  pub readers : ℕ
   pub sender : Sending HandReader StreamFlow
   pub subscribers : List Subscribing
   pub packets : List (List ℕ)
@@ -41,7 +39,7 @@ pub record IsStage (v : Simulated) (block outbox : ℕ) : Type 0 where
   pub size : outbox ≡ v.log.identity.geometry.mtu
   pub first : v.sender.reads.number ≡ 0
   pub from : IsSenderOf v.sender (source_of v.log v.sender.reads.number)
-  pub consumers : length v.log.consumers ≡ v.readers + 1
+  pub there : HasConsumer v.log v.sender.reads.number
   pub eight : length v.subscribers ≡ 8
 
 -- each subscriber represents the receiver of its number
@@ -68,8 +66,7 @@ pub record RepresentsSender (v : Sending HandReader StreamFlow) (s : ScriptState
 pub record RepresentsState (v : Simulated) (s : ScriptState) : Type 0 where
   pub log : s.log ≡ v.log
   pub sender : RepresentsSender v.sender s
-  pub consumers : v.log.consumers ≡ s.sender.at ∷ map (λ c. c.at) s.readers
-  pub readers : v.readers ≡ length s.readers
+  pub consumers : v.log.consumers ≡ Some s.sender.at ∷ map seat_of s.readers
   pub receivers : AllShow v.subscribers s.receivers
   pub packets : s.packets ≡ v.packets
 

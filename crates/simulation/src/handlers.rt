@@ -10,7 +10,9 @@ ghost use Rattle.simulation.specs.Simulated.{IsAnswered, IsOffered, StandsSomewh
 ghost use Rattle.script.specs.Meaning as commands;
 
 use crate::line::{Line, add_line};
-use crate::log_lines::{abort_line, claim_line, commit_line, letters, offer_line, read_line};
+use crate::log_lines::{
+    abort_line, claim_line, commit_line, join_line, leave_line, letters, offer_line, read_line,
+};
 use crate::simulation::Simulation;
 use assembler::Message;
 use flow_control::keeps_enough;
@@ -76,6 +78,8 @@ impl<L: OneHandLog> Simulation<L> {
             Command::Commit { publisher } => self.commit(*publisher, lines),
             Command::Abort { publisher } => self.abort(*publisher, lines),
             Command::Read { reader } => self.read(*reader, lines),
+            Command::Join { reader } => self.join(*reader, lines),
+            Command::Leave { reader } => self.leave(*reader, lines),
             Command::Send { now } => self.send(*now, lines),
             Command::Deliver {
                 packet,
@@ -220,11 +224,25 @@ impl<L: OneHandLog> Simulation<L> {
     fn read(&mut self, reader: PartyNumber, lines: &mut Vec<Line>) -> Result<(), AllocError>
         ensures { OnOk result (IsAnswered self.old (commands.Read reader.number) lines.old.items lines.new.items self.new) }
     {
-        if reader.number == 0 || reader.number > self.readers {
+        if reader.number == 0 || !self.log.has_consumer(reader.number) {
             return add_line(lines, Line::Bad);
         }
         let alloc = *lines.allocator();
         let line = read_line(alloc, &mut self.log, reader.number, &mut self.block)?;
+        add_line(lines, line)
+    }
+
+    fn join(&mut self, reader: PartyNumber, lines: &mut Vec<Line>) -> Result<(), AllocError>
+        ensures { OnOk result (IsAnswered self.old (commands.Join reader.number) lines.old.items lines.new.items self.new) }
+    {
+        let line = join_line(&mut self.log, reader.number);
+        add_line(lines, line)
+    }
+
+    fn leave(&mut self, reader: PartyNumber, lines: &mut Vec<Line>) -> Result<(), AllocError>
+        ensures { OnOk result (IsAnswered self.old (commands.Leave reader.number) lines.old.items lines.new.items self.new) }
+    {
+        let line = leave_line(&mut self.log, reader.number);
         add_line(lines, line)
     }
 

@@ -38,6 +38,10 @@ pub enum Line {
         start: u64,
         frame_length: u32,
     },
+    /// A reader joined at this position.
+    Joined(u64),
+    /// A reader left.
+    Left,
     Refused(Refusal),
     Packet {
         number: u64,

@@ -72,6 +72,8 @@ impl fmt::Display for Line {
                 start,
                 frame_length,
             } => { write!(f, "pad {start} {frame_length}") }
+            Line::Joined(position) => write!(f, "joined {position}"),
+            Line::Left => f.write_str("left"),
             Line::Refused(refusal) => write!(f, "refused {refusal}"),
             Line::Packet { number, bytes } => {
                 let text = Hexadecimal(bytes);

@@ -4,10 +4,11 @@ ghost use Rattle.std.specs.Prelude.{◌≡◌, ◌≤◌, ◌<◌, length, IfOk,
 ghost use Rattle.theory.specs.Position.{max_message, max_payload};
 ghost use Rattle.position.specs.Heads.{frame_in};
 ghost use Rattle.one_hand.specs.HandReads.{MovesReader};
+ghost use Rattle.one_hand.specs.Stream.{HasConsumer};
 ghost use Rattle.script.specs.Meaning as commands;
 ghost use Rattle.script_meaning.specs.Answers.{Answers};
 ghost use Rattle.simulation.specs.Lines.{line_content};
-ghost use Rattle.simulation.specs.Reading.{LeadsTo, ReadsLine, StandsStill, shown_frame};
+ghost use Rattle.simulation.specs.Reading.{JoinsLine, LeadsTo, LeavesLine, ReadsLine, StandsStill, shown_frame};
 ghost use Rattle.simulation.specs.Reading.{MayBeOffered};
 
 use crate::line::Line;
@@ -117,7 +118,7 @@ pub fn read_line<L: OneHandLog>(
     reader: usize,
     block: &mut Block,
 ) -> Result<Line, AllocError>
-    requires reader { reader < length (L.stream log.old).consumers }
+    requires reader { HasConsumer (L.stream log.old) reader }
     requires room { (L.stream log.old).identity.geometry.mtu ≤ length block.old }
     ensures same_length { length block.new ≡ length block.old }
     ensures reads { IfOk result (λ line. ReadsLine (L.stream log.old) reader (line_content line) (L.stream log.new)) }
@@ -130,4 +131,30 @@ pub fn read_line<L: OneHandLog>(
     let line = frame_line(alloc, &head, block)?;
     let _ = log.advance(reader);
     Ok(line)
+}
+
+/// A reader joins, unless somebody has its number.
+pub fn join_line<L: OneHandLog>(log: &mut L, reader: usize) -> Line
+    requires { reader < 8 }
+    ensures { JoinsLine (L.stream log.old) reader (line_content result) (L.stream log.new) }
+{
+    // What always holds of it, for the proof.
+    log.is_whole();
+    if log.has_consumer(reader) {
+        return Line::Bad;
+    }
+    Line::Joined(log.join(reader))
+}
+
+/// A reader leaves, unless nobody has its number, or the sender has it.
+pub fn leave_line<L: OneHandLog>(log: &mut L, reader: usize) -> Line
+    requires low { reader < 8 }
+    requires sender { HasConsumer (L.stream log.old) 0 }
+    ensures { LeavesLine (L.stream log.old) reader (line_content result) (L.stream log.new) }
+{
+    if reader == 0 || !log.has_consumer(reader) {
+        return Line::Bad;
+    }
+    log.leave(reader);
+    Line::Left
 }

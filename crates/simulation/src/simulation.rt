@@ -17,8 +17,6 @@ pub const RECEIVERS: usize = 8;
 /// What a script plays on.
 pub struct Simulation<L: OneHandLog> {
     pub log: L,
-    /// How many readers there are beside the sender's. They have the numbers from 1 on.
-    pub readers: usize,
     /// A reader's frame.
     pub block: Block,
     pub sender: SenderCore<HandReader, StreamFlow>,
@@ -33,9 +31,9 @@ impl<L: OneHandLog> Model for Simulation<L> {
 
     ghost Value = { Simulated };
 
-    ghost view = { λ s. record { log = L.stream s.log; readers = s.readers; sender = s.sender; subscribers = s.subscribers.items; packets = s.packets } };
+    ghost view = { λ s. record { log = L.stream s.log; sender = s.sender; subscribers = s.subscribers.items; packets = s.packets } };
 
-    ghost invariant = { λ s. IsStage (record { log = L.stream s.log; readers = s.readers; sender = s.sender; subscribers = s.subscribers.items; packets = s.packets }) (length s.block) s.outbox.mtu };
+    ghost invariant = { λ s. IsStage (record { log = L.stream s.log; sender = s.sender; subscribers = s.subscribers.items; packets = s.packets }) (length s.block) s.outbox.mtu };
 }
 
 impl<L: OneHandLog> Simulation<L> {
@@ -45,7 +43,6 @@ impl<L: OneHandLog> Simulation<L> {
     {
         let Simulation {
             log,
-            readers: _,
             block: _,
             sender,
             outbox: _,

@@ -1,12 +1,11 @@
 -- Lines of a script, one after the other.
 use Rattle.std.proofs.Common.{Option, ◌≡◌, ◌∙◌, ℕ, ◌<◌, ◌≤◌, get_or, inl, inr, ◌+◌, List, [], ◌∷◌, ◌++◌, sym, ap, subst, refl, append_assoc, append-nil, length, arith, take}
-use Rattle.std.proofs.lemmas.List.{length-replicate, map-append, take_all}
+use Rattle.std.proofs.lemmas.List.{map-append, take_all}
 use Rattle.std.proofs.lemmas.Grind.{flat_map-append}
 use Rattle.std.specs.List.{flat_map}
 use Rattle.std.specs.Prelude.{◌%◌, slice_index, suc, sum}
 use Rattle.std.proofs.Math.Seq.{take-suc}
 use Rattle.theory.specs.Bytes.{Identity, IsIdentity}
-use Rattle.theory.specs.Consumer.{consumer_at}
 use Rattle.theory.specs.Position.{Geometry, IsGeometry, max_position}
 use Rattle.theory.specs.Tiling.{share_of}
 use Rattle.shared_log.specs.declared.fault.LogError.TheVariants.{Start}
@@ -125,14 +124,12 @@ all_played old mid cs k before there past h = subst (λ (xs : List Command). Con
 
 -- ---- the whole script
 
-runs_from : (v : Simulated) (i : Identity) (group : Option ℕ) (start readers : ℕ) (os : List CommandContent) (before after : List LineContent) → RepresentsState v (opened_state i group start readers) → RunsTo v.log.identity v.log.start v.readers os before after → RunsTo i start readers os before after
+runs_from : (v : Simulated) (i : Identity) (group : Option ℕ) (start readers : ℕ) (os : List CommandContent) (before after : List LineContent) → RepresentsState v (opened_state i group start readers) → RunsTo v.log.identity v.log.start readers os before after → RunsTo i start readers os before after
 runs_from v i group start readers os before after h k =
     let same : i ≡ v.log.identity = ap (λ l. l.identity) h.log in
     let there : start ≡ v.log.start = ap (λ l. l.start) h.log in
-    let many : readers ≡ v.readers = sym (length-replicate readers (consumer_at start)) ∙ sym h.readers in
     subst (λ (j : Identity). RunsTo j start readers os before after) (sym same)
-    (subst (λ (n : ℕ). RunsTo v.log.identity n readers os before after) (sym there)
-    (subst (λ (n : ℕ). RunsTo v.log.identity v.log.start n os before after) (sym many) k))
+    (subst (λ (n : ℕ). RunsTo v.log.identity n readers os before after) (sym there) k)
 
 plays_on : (script : ScriptContent) (after : List LineContent) → IsGeometry (geometry_of script.log) → IsStart (geometry_of script.log) script.log.start → IsIdentity (identity_of script.log) → AlwaysPolled → AlwaysRuns → AlwaysInBounds → RunsTo (identity_of script.log) script.log.start script.log.readers script.commands [] after → IsOutputOfRun script after
 plays_on script after legal starts identity always runs within h = record {
@@ -151,7 +148,7 @@ plays_on script after legal starts identity always runs within h = record {
   order = (within script.log (group_in script.commands) h.played h.last h.answered).1;
 }
 
-pub stage_plays : (script : ScriptContent) (v : Simulated) (j : Identity) (start readers : ℕ) (after : List LineContent) → j ≡ identity_of script.log → start ≡ script.log.start → readers ≡ script.log.readers → IsGeometry (geometry_of script.log) → IsStart (geometry_of script.log) script.log.start → IsIdentity (identity_of script.log) → AlwaysPolled → AlwaysRuns → AlwaysInBounds → RepresentsState v (opened_state j (group_in script.commands) start readers) → RunsTo v.log.identity v.log.start v.readers script.commands [] after → IsOutputOf script after
+pub stage_plays : (script : ScriptContent) (v : Simulated) (j : Identity) (start readers : ℕ) (after : List LineContent) → j ≡ identity_of script.log → start ≡ script.log.start → readers ≡ script.log.readers → IsGeometry (geometry_of script.log) → IsStart (geometry_of script.log) script.log.start → IsIdentity (identity_of script.log) → AlwaysPolled → AlwaysRuns → AlwaysInBounds → RepresentsState v (opened_state j (group_in script.commands) start readers) → RunsTo v.log.identity v.log.start script.log.readers script.commands [] after → IsOutputOf script after
 stage_plays script v j start readers after same there many legal starts identity always goes within shows runs =
     let group = group_in script.commands in
     let here : RepresentsState v (opened_state (identity_of script.log) group script.log.start script.log.readers) =

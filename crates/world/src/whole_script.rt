@@ -103,7 +103,7 @@ fn opened_lines<L: OneHandLog>(
     images_stay_in_bounds();
     let group = group_of(&script.commands);
     let simulation = simulation(alloc, log, &script.log, geometry, group, parts)?;
-    ended_lines(simulation, &script.commands, lines)
+    ended_lines(simulation, script, lines)
 }
 
 /// How many receivers the group has, if the script names one.
@@ -189,7 +189,6 @@ fn simulation<L: OneHandLog>(
     ) {
         Ok(sender) => Ok(Simulation {
             log,
-            readers: line.readers as usize,
             block: parts.block,
             sender,
             outbox: parts.outbox,
@@ -231,19 +230,19 @@ fn answer_all<L: OneHandLog>(
     Ok(())
 }
 
-/// Plays the commands from the opened log on, and ends it.
+/// Plays a script's commands from the opened log on, and ends it.
 fn ended_lines<L: OneHandLog>(
     mut simulation: Simulation<L>,
-    commands: &[Command],
+    script: &Script,
     mut lines: Vec<Line>,
 ) -> Result<Vec<Line>, AllocError>
-    requires opened { RepresentsState simulation (opened_state simulation.log.identity (meaning.group_in (meaning.contents_of commands.now)) simulation.log.start simulation.readers) }
+    requires opened { RepresentsState simulation (opened_state simulation.log.identity (meaning.group_in (meaning.script_content script.now).commands) simulation.log.start script.now.log.readers) }
     requires begins { Begins simulation.log.identity simulation.log.start }
-    ensures { IfOk result (λ after. RunsTo simulation.log.identity simulation.log.start simulation.readers (meaning.contents_of commands.now) (line_contents lines.items) (line_contents after.items)) }
+    ensures { IfOk result (λ after. RunsTo simulation.log.identity simulation.log.start script.now.log.readers (meaning.script_content script.now).commands (line_contents lines.items) (line_contents after.items)) }
 {
     // A law that the proof cites.
     shares_are_counted();
-    let played = answer_opened(&mut simulation, commands, &mut lines);
+    let played = answer_opened(&mut simulation, &script.commands, &mut lines);
     let book = simulation.end();
     played?;
     add_line(&mut lines, Line::Book(book))?;

@@ -4,26 +4,26 @@ ghost use Rattle.std.specs.Prelude.{◌≡◌, ◌≤◌, length};
 ghost use Rattle.one_hand.specs.Passings.{HasHere, Passed};
 ghost use Rattle.one_hand.specs.Readers.{Reads};
 
+use crate::log_hand::consumer::Consumer;
 use block::Block;
 use shared_log::{Log, Publisher, advance, next};
 
-/// Moves the reader of a number past the frame where it stands, which is read to the block's front. The answer is its new
+/// Moves a reader past the frame where it stands, which is read to the block's front. The answer is its new
 /// position.
 pub(crate) fn advance_as(
     log: &Log,
     all: Publisher,
-    number: u64,
-    position: u64,
+    consumer: Consumer,
     block: &mut Block,
 ) -> (Publisher, u64)
-    requires may { Reads log.now all number position }
+    requires may { Reads log.now all consumer }
     requires room { log.now.identity.geometry.mtu ≤ length block.old }
-    requires has { HasHere all position }
-    ensures passed { Passed log.now all number position block.old result.0 result.1 }
+    requires has { HasHere all consumer.position }
+    ensures passed { Passed log.now all consumer block.old result.0 result.1 }
     ensures same_length { length block.new ≡ length block.old }
 {
     let (owner, share) = (all.number(), all.share());
-    let mut reader = all.into_reader(number, number, position);
+    let mut reader = all.into_reader(consumer.place, consumer.number, consumer.position);
     let Some(_) = next(log, &mut reader, block) else {
         unreachable!();
     };

@@ -10,6 +10,7 @@ returns-clause-polled c = always_polled (record {
   spelled = c.every_run.ensures.spelled;
   readable = c.every_run.ensures.readable;
   passed = c.steps_keep.ensures.passed;
+  reached = c.steps_keep.ensures.reached;
   short = c.messages_between.ensures.short;
   places = record { place = c.names_place.ensures.place; header = c.names_place.ensures.header };
   reading = λ a b bytes. c.one_reading.ensures bytes a b;
@@ -24,6 +25,7 @@ returns-clause-runs c = always_runs (record {
   spelled = c.every_run.ensures.spelled;
   readable = c.every_run.ensures.readable;
   passed = c.steps_keep.ensures.passed;
+  reached = c.steps_keep.ensures.reached;
   short = c.messages_between.ensures.short;
   places = record { place = c.names_place.ensures.place; header = c.names_place.ensures.header };
   reading = λ a b bytes. c.one_reading.ensures bytes a b;

@@ -36,6 +36,5 @@ returns g c =
     c.polls_a_prefix.ensures.runs
     c.images_stay_in_bounds.ensures
     (subst (λ (o : Option ℕ). RepresentsState simulation (opened_state i o log.start log.readers)) group c.in_ok-simulation.ensures)
-    (subst (λ (cs : List Command). RunsTo simulation.log.identity simulation.log.start simulation.readers (contents_of cs) [] (line_contents after.items)) c.deref-2.ensures.value
-    (subst (λ (ls : List Line). RunsTo simulation.log.identity simulation.log.start simulation.readers (contents_of c.deref-2.result.now) (line_contents ls) (line_contents after.items)) c.requires.empty runs)))
+    (subst (λ (ls : List Line). RunsTo simulation.log.identity simulation.log.start log.readers script.commands (line_contents ls) (line_contents after.items)) c.requires.empty runs))
     c.ended_lines.ensures

@@ -19,7 +19,6 @@ returns-in-Ok g c =
     opened_shown i c.args.group line.start line.readers _ c.requires.small
     (record {
       log = c.requires.opened;
-      readers_are = refl;
       sender = c.in-Ok.ensures.made ∙ ap (λ (j : Identity). begun j line.start first c.new-flow.result) (sym same) ∙ ap (λ (f : StreamFlow). begun i line.start first f) c.new-flow.ensures.made;
       packets = c.new-in-Ok.ensures;
     })
