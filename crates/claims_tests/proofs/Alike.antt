@@ -7,7 +7,7 @@ use Rattle.plain_log.specs.Commands.{IsSameBut}
 pub begin_alike : (i : Identity) (start : ℕ) (plain shared : Stream) → plain ≡ ready i start 0 → shared ≡ cleaned_and_limited (record (opened i start 1) { connected = true }) → IsSameBut plain shared
 begin_alike i start plain shared a b =
     ap (λ (s : Stream). record s { consumers = [] }) a
-    ∙ (λ j. record (ready i start 0) { limit = sym (raised_is start i.geometry.term_length) j; cleaned = sym (kept_is start i.geometry.term_length) j })
+    ∙ (λ j. record (ready i start 0) { consumers = []; limit = sym (raised_is start i.geometry.term_length) j; cleaned = sym (kept_is start i.geometry.term_length) j })
     ∙ sym (ap (λ (s : Stream). record s { consumers = [] }) b)
   where
     raised_is : (s t : ℕ) → max s (min s s + t / 2) ≡ s + t / 2
