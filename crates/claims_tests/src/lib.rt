@@ -1,10 +1,7 @@
-//! Tests of publishers' commands: on two logs in one hand, the plain one and the one that threads share, which answer
-//! alike; of a publisher that stalls between two of its steps while terms turn, or is held there while each other party
+//! Tests of a publisher that stalls between two of its steps while terms turn, or is held there while each other party
 //! goes on; and of consumers that join and leave, on one thread.
 #![tactic(auto)]
 
-#[cfg(test)]
-mod both;
 #[cfg(test)]
 mod consumers;
 #[cfg(test)]
