@@ -35,7 +35,6 @@ fn claim_once(log: &Log, claimant: Claimant) -> Result<Claimant, Denied>
 
 /// Claims, writes and commits messages until a claim is refused, but for an administrative action, or 2^32 - 1 were tried. It
 /// counts those that are accepted.
-#[inline(never)]
 fn claim_all(log: &Log, claimant: Claimant) -> (Claimant, u32)
     requires { IsSender log.now claimant }
     ensures { Claims log.now claimant result.1 result.0 }

@@ -35,7 +35,6 @@ fn offer_once(words: &mut OnLog, publisher: &mut Publisher, message: &[u8]) -> R
 
 /// Offers messages until one is refused, but for an administrative action, or 2^32 - 1 were offered. It counts those that are
 /// accepted.
-#[inline(never)]
 fn fill(log: &Log, publisher: &mut Publisher) -> u32
     requires { IsSender log.now publisher.old }
     ensures { Claims log.now publisher.old result publisher.new }
@@ -57,7 +56,6 @@ fn fill(log: &Log, publisher: &mut Publisher) -> u32
 
 /// Offers so many messages, each until it is accepted, and counts them. It ends early where nobody receives the stream, the
 /// log is closed or the stream is at its last position, and after 2^32 - 1 offers.
-#[inline(never)]
 fn send(log: &Log, publisher: &mut Publisher, messages: u32) -> u32
     requires { IsSender log.now publisher.old }
     ensures { Claims log.now publisher.old result publisher.new }
