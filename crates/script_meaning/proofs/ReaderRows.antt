@@ -1,5 +1,5 @@
 -- Since when a reader is there, and which frames it showed since, at a worked example: reader 2 joins at 256, shows one frame, leaves, joins at 512, and shows another.
-use Rattle.std.specs.Prelude.{◌≡◌, ◌+◌, ℕ, List, [], ◌∷◌, Some, None}
+use Rattle.std.specs.Prelude.{◌≡◌, ◌+◌, List, [], ◌∷◌, Some, None}
 use Rattle.std.proofs.Common.{arith, inl, inr, refl}
 use Rattle.theory.specs.Placed.{Pad}
 use Rattle.script.specs.Meaning as commands

@@ -1,13 +1,12 @@
 -- What the lines of a script say of a reader: since when it is there, and which frames it showed since.
-use Rattle.std.proofs.Common.{◌≡◌, ◌⊎◌, ◌∙◌, ℕ, zero, suc, ◌+◌, ◌<◌, ◌≤◌, Bool, true, false, cond, List, [], ◌∷◌, ◌++◌, Option, None, Some, inl, inr, refl, sym, ap, subst, arith, append-nil, append_assoc}
-use Rattle.std.specs.Prelude.{nat_eq, nat_lt}
-use Rattle.std.specs.List.{flat_map}
-use Rattle.std.proofs.lemmas.Bool.{cond-false, cond-true, lt-ltb}
+use Rattle.std.proofs.Common.{◌≡◌, ◌∙◌, ℕ, zero, suc, ◌<◌, ◌≤◌, cond, List, [], ◌∷◌, ◌++◌, Option, None, Some, inl, inr, refl, sym, ap, arith, append-nil, append_assoc}
+use Rattle.std.specs.Prelude.{nat_lt}
+use Rattle.std.proofs.lemmas.Bool.{cond-true, lt-ltb}
 use Rattle.theory.specs.Placed.{Frame}
 use Rattle.script.specs.Meaning as commands
 use Rattle.script.specs.Meaning.{CommandContent}
 use Rattle.script_meaning.specs.LineContents.{LineContent}
-use Rattle.script_meaning.specs.Published.{HasBegun, IsThere, Played, read, read_by, turned_by, turns, turns_in}
+use Rattle.script_meaning.specs.Published.{HasBegun, IsThere, Played, read, read_by, turned_by, turns}
 
 abbrev pub and_line : List Played → CommandContent → List LineContent → List Played
 and_line played command lines = played ++ record { command = command; lines = lines } ∷ []

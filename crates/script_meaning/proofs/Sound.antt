@@ -12,7 +12,7 @@ use Rattle.model.specs.Headline.{Always, IsTiled, IsBounded, IsPrefixPolled, IsR
 use Rattle.model.specs.StepLaws.{AreReached, HavePassed}
 use Rattle.model.specs.StreamLaws.{AreShort}
 use Rattle.theory.specs.Laws.{HasOneReading}
-use Rattle.theory.specs.Placed.{Among, Frame, end_of}
+use Rattle.theory.specs.Placed.{Among, end_of}
 use Rattle.theory.specs.Assembly.{after_all, nothing_heard}
 use Rattle.theory.specs.Consumer.{Consumer, consumer_at}
 use Rattle.theory.specs.Numbered.{Each}

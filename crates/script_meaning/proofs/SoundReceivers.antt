@@ -1,5 +1,5 @@
 -- Each line of a receiver leaves a sound state.
-use Rattle.std.proofs.Common.{Option, ◌≡◌, ◌⊎◌, ℕ, suc, ◌<◌, List, [], ◌∷◌, ◌++◌, map, Bool, true, false, cond, Some, inl, inr, ⊎_elim, refl, sym, ap, ◌∙◌, subst, arith, append-nil, append_assoc}
+use Rattle.std.proofs.Common.{Option, ◌≡◌, ◌⊎◌, ℕ, ◌<◌, List, [], ◌∷◌, ◌++◌, map, Bool, true, false, cond, Some, inl, inr, ⊎_elim, refl, sym, ap, ◌∙◌, subst, arith, append-nil, append_assoc}
 use Rattle.std.specs.Prelude.{nat_eq, slice_get}
 use Rattle.std.specs.List.{AllByRecursion, flat_map}
 use Rattle.std.proofs.lemmas.Bool.{cases_eq, cond-true, cond-false, eq-eqb, ne_eqb}
@@ -14,7 +14,7 @@ use Rattle.receiver.specs.declared.receiver_core.Outcome.{Outcome}
 use Rattle.script_meaning.specs.Answers.{Answers, AreFrames, Delivered, IsMissing, PollsBy, GetsDatagram, TellsBy, Ticks, with_receiver}
 use Rattle.sender.specs.Cycling.{alone, datagrams}
 use Rattle.script_meaning.specs.LineContents.{LineContent, OfReceiver, poll_line as poll_content}
-use Rattle.script_meaning.specs.Published.{AllWhole, AreHonestFrames, IsHonestLine, IsShort, Played, is_refusal, is_too_long, joined_by, joins, joins_in, joins_of, messages_in, polled, polled_by, read_by}
+use Rattle.script_meaning.specs.Published.{AllWhole, AreHonestFrames, IsHonestLine, IsShort, Played, is_refusal, is_too_long, joined_by, joins, joins_in, joins_of, messages_in, polled, polled_by}
 use Rattle.frames.specs.FaultCounts.{counted_at, place_of}
 use Rattle.receiver.specs.Receiving.{TakesDatagram, MeetsAll, Receiver, at_moment, replies, ticked}
 use Rattle.script_meaning.specs.ScriptState.{ScriptState, entries_of, image_of, lone, opened_state, world_of}

@@ -1,11 +1,11 @@
 -- What the calls of a line's handler left is a step of the states that the simulation shows.
 use Rattle.std.proofs.Common.{◌≡◌, ◌⊎◌, ℕ, zero, suc, ◌-◌, ◌<◌, ◌≤◌, List, [], ◌∷◌, ◌++◌, map, length, Option, None, Some, inl, inr, refl, sym, ap, ◌∙◌, subst, arith, append-nil}
 use Rattle.std.specs.Prelude.{slice_get, slice_index_or, slice_set, replicate, Result, Ok, Err, OnOk}
-use Rattle.std.proofs.lemmas.List.{length-set, map-append, map-set}
+use Rattle.std.proofs.lemmas.List.{map-append, map-set}
 use Rattle.theory.specs.Bytes.{Identity}
 use Rattle.theory.specs.Consumer.{Consumer, consumer_at, moved}
 use Rattle.theory.specs.Entry.{Entry, committed}
-use Rattle.theory.specs.Placed.{Among, Placed, end_of}
+use Rattle.theory.specs.Placed.{Among}
 use Rattle.theory.specs.Position.{max_message}
 use Rattle.theory.specs.Wire.{Wire, spelling}
 use Rattle.flow_control.specs.Stream.{flow_after}

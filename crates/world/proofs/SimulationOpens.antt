@@ -1,5 +1,5 @@
 -- The simulation of a log that was just opened.
-use Rattle.std.proofs.Common.{arith, ◌≡◌, ◌∙◌, ℕ, ◌-◌, ◌≤◌, suc, Option, Some, List, [], ◌∷◌, refl, sym, ap, subst}
+use Rattle.std.proofs.Common.{arith, ◌≡◌, ◌∙◌, ℕ, ◌≤◌, suc, Option, List, [], refl, sym, ap, subst}
 use Rattle.std.specs.Prelude.{IfSome}
 use Rattle.theory.specs.Bytes.{Identity}
 use Rattle.flow_control.specs.Stream.{flow_after}

@@ -1,4 +1,4 @@
-use Rattle.std.proofs.Common.{◌≡◌, ◌<◌, suc}
+use Rattle.std.proofs.Common.{◌≡◌, suc}
 use Rattle.shared_log.specs.Handles.{IsOf}
 use Rattle.log_tests.proofs.turns.turn.Given as goal
 

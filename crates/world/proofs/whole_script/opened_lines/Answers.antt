@@ -1,4 +1,4 @@
-use Rattle.std.proofs.Common.{◌≡◌, ◌∙◌, ℕ, List, [], Option, rules, ap, subst, refl, FitsSigned, w32}
+use Rattle.std.proofs.Common.{◌≡◌, ◌∙◌, ℕ, List, Option, rules, ap, subst, refl, FitsSigned, w32}
 use Rattle.std.proofs.lemmas.Result.{IfOk-weaker}
 use Rattle.theory.specs.Bytes.{Identity}
 use Rattle.theory.specs.Position.{Geometry, IsGeometry}
