@@ -19,8 +19,7 @@ pub struct Start {
     pub term_offset: u32,
 }
 
-/// A channel on this machine. What isn't set is the caller's to choose: an MTU of 1,408 bytes and terms of 65,536 bytes
-/// are usual, a session and a first term's id are drawn. Which lengths go together isn't judged here.
+/// A channel on this machine. What isn't set is the caller's to choose. Which lengths go together isn't judged here.
 #[derive(Clone, Copy, Debug, PartialEq, Eq)]
 pub struct Channel {
     /// 1 to 65,535.

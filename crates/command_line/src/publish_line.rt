@@ -35,7 +35,7 @@ const MORE: &str = "Example:
 Parameters of the channel, parted by |:
   endpoint=HOST:PORT  127.0.0.1 or localhost, and a port from 1 to 65535
   term-length=BYTES   a power of two from 64k to 16m [default: 1m]
-  mtu=BYTES           a multiple of 32 from 256 to an eighth of the term, at most 65504 [default: 1408]
+  mtu=BYTES           a multiple of 32 from 256 to an eighth of the term, at most 65504 [default: 7680]
   session-id=ID       the stream's session [default: drawn]
   init-term-id=ID     with term-id=ID and term-offset=BYTES: where the stream starts [default: at 0, the id drawn]
 

@@ -43,7 +43,7 @@ abbrev pub term_of : Channel → ℕ
 term_of c = unwrap_or c.term_length 1048576
 
 abbrev pub mtu_of : Channel → ℕ
-mtu_of c = unwrap_or c.mtu 1408
+mtu_of c = unwrap_or c.mtu 7680
 
 abbrev pub geometry_of : Channel → Drawn → Geometry
 geometry_of c d = record { term_length = term_of c; mtu = mtu_of c; initial_term_id = first_term c.start d }
