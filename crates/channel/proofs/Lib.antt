@@ -1,5 +1,6 @@
+mod Rows
+mod Meanings
+mod Exact
+pub mod Addresses
 pub mod Cuts
 pub mod Endings
-pub mod Meanings
-pub mod Exact
-mod Rows

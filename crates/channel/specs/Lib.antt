@@ -1,5 +1,6 @@
+pub mod Bytes
+pub mod Hosts
 pub mod Values
 pub mod Settings
 pub mod Channels
-pub mod Endpoints
 pub mod Texts

@@ -2,13 +2,16 @@
 use Rattle.std.specs.Prelude.{ℕ, List, ◌++◌, codes}
 use Rattle.channel.specs.Settings.{name_of}
 use Rattle.channel.specs.declared.parameter.Parameter.{Parameter}
-use Rattle.channel.specs.declared.parameter.Parameter.TheVariants.{Endpoint, Mtu, TermLength, SessionId, InitialTermId, TermId, TermOffset}
+use Rattle.channel.specs.declared.parameter.Parameter.TheVariants.{Endpoint, Interface, Ttl, Mtu, TermLength, SessionId, InitialTermId, TermId, TermOffset}
 use Rattle.channel.specs.declared.fault.ChannelFault.{ChannelFault}
-use Rattle.channel.specs.declared.fault.ChannelFault.TheVariants.{Prefix, Part, Unknown, Repeated, Value, Host, NoEndpoint, Apart}
+use Rattle.channel.specs.declared.fault.ChannelFault.TheVariants as faults
+use Rattle.channel.specs.declared.fault.ChannelFault.TheVariants.{Prefix, Part, Unknown, Repeated, Value, NoEndpoint, Families, Apart}
 
 -- which values a parameter takes
 abbrev pub range_of : Parameter → List ℕ
-range_of Endpoint = codes "127.0.0.1 or localhost, a colon and a port from 1 to 65535"
+range_of Endpoint = codes "an IPv4 address, an IPv6 address in brackets or a name, a colon and a port from 1 to 65535"
+range_of Interface = codes "an IPv4 address or an IPv6 address in brackets"
+range_of Ttl = codes "a whole number from 1 to 255"
 range_of Mtu = codes "a multiple of 32 from 256 to an eighth of the term, at most 65504"
 range_of TermLength = codes "a power of two from 65536 to 16777216, as 64k or 16m"
 range_of SessionId = codes "a whole number of 32 bits"
@@ -22,6 +25,7 @@ text_of (Part part) = codes "channel: no name=value: " ++ part.now
 text_of (Unknown name) = codes "channel: " ++ name.now ++ codes " isn't taken"
 text_of (Repeated parameter) = codes "channel: " ++ name_of parameter ++ codes " stands twice"
 text_of (Value parameter value) = codes "channel: " ++ name_of parameter ++ codes "=" ++ value.now ++ codes ": " ++ range_of parameter
-text_of (Host value) = codes "channel: endpoint=" ++ value.now ++ codes ": " ++ range_of Endpoint
 text_of NoEndpoint = codes "channel: no endpoint=HOST:PORT"
+text_of Families = codes "channel: endpoint and interface aren't both IPv4 or both IPv6"
+text_of faults.Ttl = codes "channel: ttl is for IPv4 alone"
 text_of Apart = codes "channel: init-term-id, term-id and term-offset stand together"

@@ -1,5 +1,5 @@
--- Which text spells which size.
-use Rattle.std.specs.Prelude.{◌==◌, ℕ, ◌-◌, ◌*◌, ◌^◌, ◌||◌, nat_lt, List, length, take, slice_index, Option, Some, None, if◌then◌else◌}
+-- Which text spells which size, or number from 1 on.
+use Rattle.std.specs.Prelude.{◌≡◌, ◌<◌, ◌==◌, ℕ, ◌-◌, ◌*◌, ◌^◌, ◌||◌, nat_lt, List, length, take, slice_index, Option, Some, None, if◌then◌else◌}
 use Rattle.text.specs.Decimals.{◌>>=◌, number_of}
 
 -- what a last letter stands for: k and K, m and M, g and G; any other is none of the unit
@@ -18,3 +18,8 @@ digits_in text = if unit_in text == 1 then text else take (length text - 1) text
 -- a whole number of units, of 32 bits
 unfoldable pub size_of : List ℕ → Option ℕ
 size_of text = number_of (2 ^ 32 - 1) (digits_in text) >>= λ n. (if nat_lt (n * unit_in text) (2 ^ 32) then Some (n * unit_in text) else None)
+
+-- a number from 1 to `most`
+pub record IsPositive (most : ℕ) (digits : List ℕ) (n : ℕ) : Type 0 where
+  pub number : number_of most digits ≡ Some n
+  pub some : 0 < n

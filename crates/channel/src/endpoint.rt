@@ -1,64 +1,55 @@
 //! Where the datagrams go, and what a part sets.
 
-ghost use Rattle.std.specs.Prelude.{◌≡◌, ◌<◌, ◌↔◌, ℕ, IsTrue, IfOk, IfErr, IfSome, IfNone, Some, false};
+ghost use Rattle.std.specs.Prelude.{◌≡◌, IfOk, IfErr, IfSome, IfNone, Some, false};
+ghost use Rattle.channel.specs.declared.endpoint.Endpoint.{Endpoint as AnyEndpoint};
 ghost use Rattle.channel.specs.Channels.{IsPartFault};
-ghost use Rattle.channel.specs.Endpoints.{IsValueFault};
-ghost use Rattle.text.specs.Decimals.{number_of};
-ghost use Rattle.channel.specs.Settings.{IsHost, IsValueOf, Says, is_set, parameter_of};
+ghost use Rattle.channel.specs.Settings.{Cuts, HasNoValue, IsEndpoint, IsNotCut, IsValueOf, Says, is_set, parameter_of};
 
 use crate::fault::ChannelFault;
+use crate::host::{Host, address_in, host_in};
 use crate::parameter::{Parameter, Setting};
 use crate::settings::Settings;
-use text::number;
+use crate::values::positive;
 
-/// Whether the host is this machine.
-fn is_here(host: &str) -> bool
-    ensures { IsTrue result ↔ IsHost host.now }
-{
-    host == "127.0.0.1" || host == "localhost"
+/// A host and a port.
+#[derive(Clone, Copy, Debug)]
+pub struct Endpoint {
+    pub host: Host,
+    /// 1 to 65,535.
+    pub port: u16,
 }
 
-/// The port that the digits spell, 1 to 65,535.
-fn port(digits: &[u8]) -> Option<u16>
-    ensures found { IfSome result (λ p. (number_of 65535 digits.now ≡ Some p) × (0 < p)) }
-    ensures none { IfNone result ((p : ℕ) → number_of 65535 digits.now ≡ Some p → 0 < p → ⊥) }
+/// What stands before the last colon, and behind it.
+fn cut(value: &str) -> Option<(&str, &str)>
+    ensures cut { IfSome result (λ c. Cuts value.now c.0.now c.1.now) }
+    ensures none { IfNone result (IsNotCut value.now) }
 {
-    let port = number(digits, 65_535)?;
-    if port == 0 {
-        return None;
-    }
-    Some(port as u16)
+    value.rsplit_once(':')
 }
 
-/// The port of an endpoint on this machine: `HOST:PORT`, where the host is `127.0.0.1` or `localhost`, and the port a
-/// number from 1 to 65,535.
-fn endpoint(value: &str) -> Result<Setting, ChannelFault<'_>>
-    ensures set { IfOk result (λ s. (parameter_of s ≡ Parameter.Endpoint) × IsValueOf value.now s) }
-    ensures fault { IfErr result (λ f. IsValueFault Parameter.Endpoint value.now f) }
+/// The endpoint that a text is: a host, a colon, and a number from 1 to 65,535.
+fn endpoint_in(value: &str) -> Option<Endpoint>
+    ensures found { IfSome result (IsEndpoint value.now) }
+    ensures none { IfNone result ((e : AnyEndpoint) → IsEndpoint value.now e → ⊥) }
 {
-    let Some((host, digits)) = value.split_once(':') else {
-        return Err(ChannelFault::Value(Parameter::Endpoint, value));
-    };
-    if !is_here(host) {
-        return Err(ChannelFault::Host(value));
-    }
-    match port(digits.as_bytes()) {
-        None => Err(ChannelFault::Value(Parameter::Endpoint, value)),
-        Some(port) => Ok(Setting::Endpoint(port)),
-    }
+    let (host, digits) = cut(value)?;
+    let host = host_in(host)?;
+    let port = positive(digits.as_bytes(), 65_535)? as u16;
+    Some(Endpoint { host, port })
 }
 
 /// What the parameter's value sets.
-fn setting(parameter: Parameter, value: &str) -> Result<Setting, ChannelFault<'_>>
-    ensures set { IfOk result (λ s. (parameter_of s ≡ parameter) × IsValueOf value.now s) }
-    ensures fault { IfErr result (λ f. IsValueFault parameter value.now f) }
+fn setting_in(parameter: Parameter, value: &str) -> Option<Setting>
+    ensures set { IfSome result (λ s. (parameter_of s ≡ parameter) × IsValueOf value.now s) }
+    ensures none { IfNone result (HasNoValue parameter value.now) }
 {
-    if parameter == Parameter::Endpoint {
-        return endpoint(value);
-    }
-    match parameter.number_setting(value.as_bytes()) {
-        Some(setting) => Ok(setting),
-        None => Err(ChannelFault::Value(parameter, value)),
+    match parameter {
+        Parameter::Endpoint => match endpoint_in(value) {
+            Some(endpoint) => Some(Setting::Endpoint(endpoint)),
+            None => None,
+        },
+        Parameter::Interface => Some(Setting::Interface(address_in(value)?)),
+        _ => parameter.number_setting(value.as_bytes()),
     }
 }
 
@@ -76,5 +67,8 @@ pub fn part_setting<'a>(part: &'a str, settings: &Settings) -> Result<Setting, C
     if settings.has(parameter) {
         return Err(ChannelFault::Repeated(parameter));
     }
-    setting(parameter, value)
+    match setting_in(parameter, value) {
+        Some(setting) => Ok(setting),
+        None => Err(ChannelFault::Value(parameter, value)),
+    }
 }

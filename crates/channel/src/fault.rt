@@ -18,10 +18,12 @@ pub enum ChannelFault<'a> {
     Repeated(Parameter),
     /// This value isn't of the parameter's form, or out of its range.
     Value(Parameter, &'a str),
-    /// The host of this endpoint isn't `127.0.0.1` or `localhost`, the names of this machine that are taken.
-    Host(&'a str),
     /// No part is an endpoint.
     NoEndpoint,
+    /// The endpoint's address and the interface are one of IPv4 and one of IPv6.
+    Families,
+    /// A time to live stands with an address of IPv6.
+    Ttl,
     /// Of `init-term-id`, `term-id` and `term-offset` one or two stand.
     Apart,
 }
@@ -42,11 +44,12 @@ impl fmt::Display for ChannelFault<'_> {
                 let (name, range) = (parameter.name(), parameter.range());
                 write!(f, "channel: {name}={value}: {range}")
             }
-            ChannelFault::Host(value) => {
-                let range = Parameter::Endpoint.range();
-                write!(f, "channel: endpoint={value}: {range}")
-            }
             ChannelFault::NoEndpoint => write!(f, "channel: no endpoint=HOST:PORT"),
+            ChannelFault::Families => write!(
+                f,
+                "channel: endpoint and interface aren't both IPv4 or both IPv6"
+            ),
+            ChannelFault::Ttl => write!(f, "channel: ttl is for IPv4 alone"),
             ChannelFault::Apart => write!(
                 f,
                 "channel: init-term-id, term-id and term-offset stand together"

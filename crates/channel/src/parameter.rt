@@ -2,11 +2,13 @@
 
 ghost use Rattle.std.specs.Prelude.{◌≡◌, ◌≢◌, IfSome, IfNone};
 ghost use Rattle.channel.specs.declared.parameter.Parameter.{Parameter};
-ghost use Rattle.channel.specs.declared.parameter.Parameter.TheVariants.{Endpoint};
+ghost use Rattle.channel.specs.declared.parameter.Parameter.TheVariants.{Endpoint, Interface};
 ghost use Rattle.channel.specs.Texts.{range_of};
 ghost use Rattle.channel.specs.Settings.{name_of, parameter_of, IsValueOf, HasNoValue};
 
-use crate::values::size;
+use crate::endpoint;
+use crate::values::{positive, size};
+use std::net::IpAddr;
 use text::{number, signed};
 
 /// A parameter that is taken.
@@ -14,6 +16,10 @@ use text::{number, signed};
 pub enum Parameter {
     /// `endpoint`: where the datagrams go.
     Endpoint,
+    /// `interface`: where an end's own socket is bound.
+    Interface,
+    /// `ttl`: the time to live of datagrams.
+    Ttl,
     /// `mtu`: the most bytes of a datagram.
     Mtu,
     /// `term-length`: the bytes of a term.
@@ -31,8 +37,10 @@ pub enum Parameter {
 /// What a part of a channel sets.
 #[derive(Clone, Copy)]
 pub enum Setting {
-    /// The port on this machine, 1 to 65,535.
-    Endpoint(u16),
+    Endpoint(endpoint::Endpoint),
+    Interface(IpAddr),
+    /// 1 to 255.
+    Ttl(u8),
     /// In bytes.
     Mtu(u32),
     /// In bytes.
@@ -51,6 +59,8 @@ impl Parameter {
     {
         match self {
             Parameter::Endpoint => "endpoint",
+            Parameter::Interface => "interface",
+            Parameter::Ttl => "ttl",
             Parameter::Mtu => "mtu",
             Parameter::TermLength => "term-length",
             Parameter::SessionId => "session-id",
@@ -65,7 +75,11 @@ impl Parameter {
         ensures { result.now ≡ range_of self }
     {
         match self {
-            Parameter::Endpoint => { "127.0.0.1 or localhost, a colon and a port from 1 to 65535" }
+            Parameter::Endpoint => {
+                "an IPv4 address, an IPv6 address in brackets or a name, a colon and a port from 1 to 65535"
+            }
+            Parameter::Interface => "an IPv4 address or an IPv6 address in brackets",
+            Parameter::Ttl => "a whole number from 1 to 255",
             Parameter::Mtu => {
                 "a multiple of 32 from 256 to an eighth of the term, at most 65504"
             }
@@ -84,6 +98,10 @@ impl Parameter {
     {
         if name == "endpoint" {
             Some(Parameter::Endpoint)
+        } else if name == "interface" {
+            Some(Parameter::Interface)
+        } else if name == "ttl" {
+            Some(Parameter::Ttl)
         } else if name == "mtu" {
             Some(Parameter::Mtu)
         } else if name == "term-length" {
@@ -101,14 +119,16 @@ impl Parameter {
         }
     }
 
-    /// What the parameter's value sets, of any parameter but the endpoint.
+    /// What the parameter's value sets, of any parameter whose value is a number.
     pub(crate) fn number_setting(self, value: &[u8]) -> Option<Setting>
-        requires { self ≢ Endpoint }
+        requires no_endpoint { self ≢ Endpoint }
+        requires no_interface { self ≢ Interface }
         ensures set { IfSome result (λ s. (parameter_of s ≡ self) × IsValueOf value.now s) }
         ensures none { IfNone result (HasNoValue self value.now) }
     {
         match self {
-            Parameter::Endpoint => None,
+            Parameter::Endpoint | Parameter::Interface => None,
+            Parameter::Ttl => Some(Setting::Ttl(positive(value, 255)? as u8)),
             Parameter::Mtu => Some(Setting::Mtu(size(value)?)),
             Parameter::TermLength => Some(Setting::TermLength(size(value)?)),
             Parameter::SessionId => Some(Setting::SessionId(signed(value)?)),

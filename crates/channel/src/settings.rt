@@ -2,12 +2,16 @@
 
 ghost use Rattle.std.specs.Prelude.{◌≡◌};
 
+use crate::endpoint::Endpoint;
 use crate::parameter::{Parameter, Setting};
+use std::net::IpAddr;
 
 /// What the parts of a channel have set, each parameter once at the most.
 #[derive(Clone, Copy)]
 pub struct Settings {
-    pub port: Option<u16>,
+    pub endpoint: Option<Endpoint>,
+    pub interface: Option<IpAddr>,
+    pub ttl: Option<u8>,
     pub mtu: Option<u32>,
     pub term_length: Option<u32>,
     pub session_id: Option<i32>,
@@ -24,7 +28,9 @@ impl Settings {
         ensures { result ≡ nothing }
     {
         Settings {
-            port: None,
+            endpoint: None,
+            interface: None,
+            ttl: None,
             mtu: None,
             term_length: None,
             session_id: None,
@@ -39,7 +45,9 @@ impl Settings {
         ensures { result ≡ is_set self.now parameter }
     {
         match parameter {
-            Parameter::Endpoint => self.port.is_some(),
+            Parameter::Endpoint => self.endpoint.is_some(),
+            Parameter::Interface => self.interface.is_some(),
+            Parameter::Ttl => self.ttl.is_some(),
             Parameter::Mtu => self.mtu.is_some(),
             Parameter::TermLength => self.term_length.is_some(),
             Parameter::SessionId => self.session_id.is_some(),
@@ -54,7 +62,9 @@ impl Settings {
         ensures { result ≡ with_setting self setting }
     {
         match setting {
-            Setting::Endpoint(port) => self.port = Some(port),
+            Setting::Endpoint(endpoint) => self.endpoint = Some(endpoint),
+            Setting::Interface(address) => self.interface = Some(address),
+            Setting::Ttl(hops) => self.ttl = Some(hops),
             Setting::Mtu(bytes) => self.mtu = Some(bytes),
             Setting::TermLength(bytes) => self.term_length = Some(bytes),
             Setting::SessionId(id) => self.session_id = Some(id),

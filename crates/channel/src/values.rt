@@ -1,7 +1,7 @@
-//! Sizes.
+//! Sizes, and numbers that aren't 0.
 
-ghost use Rattle.std.specs.Prelude.{◌≡◌, ◌≤◌};
-ghost use Rattle.channel.specs.Values.{digits_in, size_of, unit_in, unit_of};
+ghost use Rattle.std.specs.Prelude.{◌≡◌, ◌≤◌, ℕ, IfSome, IfNone};
+ghost use Rattle.channel.specs.Values.{IsPositive, digits_in, size_of, unit_in, unit_of};
 
 use text::number;
 
@@ -50,4 +50,17 @@ pub fn size(text: &[u8]) -> Option<u32>
     } else {
         None
     }
+}
+
+/// The number that the digits spell, if it is one from 1 to `most`.
+pub fn positive(digits: &[u8], most: u64) -> Option<u64>
+    ensures found { IfSome result (IsPositive most digits.now) }
+    ensures none { IfNone result ((n : ℕ) → IsPositive most digits.now n → ⊥) }
+    ensures bound { IfSome result (λ n. n ≤ most) }
+{
+    let number = number(digits, most)?;
+    if number == 0 {
+        return None;
+    }
+    Some(number)
 }

@@ -33,9 +33,11 @@ const MORE: &str = "Example:
   mdriver publish 'aeron:udp?endpoint=127.0.0.1:40123' < lines
 
 Parameters of the channel, parted by |:
-  endpoint=HOST:PORT  127.0.0.1 or localhost, and a port from 1 to 65535
+  endpoint=HOST:PORT  an IPv4 address, an IPv6 address in brackets or a name, and a port from 1 to 65535
+  interface=ADDRESS   the address that is sent from [default: any]
+  ttl=HOPS            the time to live of datagrams, 1 to 255, for IPv4 alone [default: the system's]
   term-length=BYTES   a power of two from 64k to 16m [default: 1m]
-  mtu=BYTES           a multiple of 32 from 256 to an eighth of the term, at most 65504 [default: 7680]
+  mtu=BYTES           a multiple of 32 from 256 to an eighth of the term, at most 65504 [default: 7680 to this machine, 1408 to another]
   session-id=ID       the stream's session [default: drawn]
   init-term-id=ID     with term-id=ID and term-offset=BYTES: where the stream starts [default: at 0, the id drawn]
 

@@ -34,7 +34,9 @@ const MORE: &str = "Example:
   mdriver subscribe 'aeron:udp?endpoint=127.0.0.1:40123' > lines
 
 Parameters of the channel, parted by |:
-  endpoint=HOST:PORT  127.0.0.1 or localhost, and a port from 1 to 65535
+  endpoint=HOST:PORT  an IPv4 address, an IPv6 address in brackets or a name, and a port from 1 to 65535
+  interface=ADDRESS   the address that is listened at [default: the endpoint's; any is 0.0.0.0 or [::]]
+  ttl=HOPS            the time to live of datagrams, 1 to 255, for IPv4 alone [default: the system's]
   term-length=BYTES   the longest term that is taken, a power of two from 64k to 16m [default: 16m]
   session-id=ID       the one session that is taken [default: any]
 The others of a publisher's channel are taken, and say nothing here.

@@ -2,3 +2,4 @@ pub mod Running
 pub mod Statuses
 pub mod Faults
 pub mod Scripting
+pub mod Routes

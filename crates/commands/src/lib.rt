@@ -11,6 +11,10 @@
 //! that plan left; the answer is how it ended, and which status that has (`ran`): 0 or 3 only with the lines of a run
 //! that ended whole or short.
 //!
+//! An end's socket is bound at its channel's interface, or else a publisher's at any address and a subscriber's at its
+//! endpoint's own; a name is looked up once, and the first address is taken that goes with the interface and the time to live
+//! (`IsPeer`, `IsRouteOf`, `IsBindingOf`).
+//!
 //! A command line whose words the parser refuses ends with 2, one that asks for help or the version with 0; or either
 //! with 1, for want of memory or where the help can't be written. 2 comes only of such words, and of an end's channel
 //! and rates that make no plan; 3 only of words that the parser takes, and no status is greater (`command`, by
@@ -22,6 +26,7 @@ mod drawn_ids;
 mod fault;
 mod line;
 mod publish_command;
+mod route;
 mod run_command;
 mod script_command;
 mod status;

@@ -7,9 +7,10 @@ ghost use Rattle.commands.specs.Statuses.{HasPublishPlan, IsStatusOf, NoPublishP
 
 use crate::drawn_ids::drawn_ids;
 use crate::fault::Fault;
+use crate::route::{peer_of, route_of};
 use crate::status::{failed, line_status, unplanned};
 use command_line::publish_options;
-use options::{PublishOptions, publish_plan};
+use options::{PublishOptions, PublishPlan, publish_plan};
 use publisher::{Ending, PublishFault, publish};
 use std::alloc::Global;
 use std::io::{Read, Write};
@@ -18,6 +19,26 @@ use std::random::RandomSource;
 use std::sync::Wait;
 use std::thread::Threads;
 use std::time::Clock;
+
+/// Publishes as planned, and gives the status; an address that isn't found is told.
+fn publish_planned<
+    C: Threads + Wait + Clock + Net + Sync + Send + Copy + 'static,
+    R: Read + Send + Drop + 'static,
+    E: Write,
+>(rt: &C, alloc: Global, plan: &PublishPlan, input: R, errors: &mut E) -> u8
+    ensures most { result ≤ 3 }
+    ensures accepted { result ≢ 2 }
+{
+    let transport = &plan.end.transport;
+    match peer_of(rt, transport) {
+        Ok(peer) => {
+            let route = route_of(transport, peer);
+            let ended = publish(rt, alloc, plan, &route, input, errors);
+            published(&ended, errors)
+        }
+        Err(unknown) => failed(&unknown, errors),
+    }
+}
 
 /// Publishes as it is told, and gives the status: 2 where the channel or the rates make no plan.
 fn publish_told<
@@ -33,10 +54,7 @@ fn publish_told<
     let (drawn, given) = drawn_ids(rt);
     match publish_plan(options, drawn) {
         Ok(_) if !given => failed(&Fault::Device, errors),
-        Ok(plan) => {
-            let ended = publish(rt, alloc, &plan, input, errors);
-            published(&ended, errors)
-        }
+        Ok(plan) => publish_planned(rt, alloc, &plan, input, errors),
         Err(fault) => unplanned(&fault, errors),
     }
 }

@@ -7,9 +7,10 @@ ghost use Rattle.commands.specs.Statuses.{HasSubscribePlan, IsStatusOf, NoSubscr
 
 use crate::drawn_ids::drawn_ids;
 use crate::fault::Fault;
+use crate::route::{binding_of, peer_of};
 use crate::status::{failed, line_status, unplanned};
 use command_line::subscribe_options;
-use options::{SubscribeOptions, subscribe_plan};
+use options::{SubscribeOptions, SubscribePlan, subscribe_plan};
 use std::alloc::Global;
 use std::io::Write;
 use std::net::Net;
@@ -17,6 +18,30 @@ use std::random::RandomSource;
 use std::sync::Wait;
 use std::time::Clock;
 use subscriber::{Ending, SubscribeFault, Subscribed, subscribe};
+
+/// Subscribes as planned, and gives the status; an address that isn't found is told. Only one that was to end with the stream
+/// ends with 3.
+fn subscribe_planned<C: Wait + Clock + Net, W: Write, E: Write>(
+    rt: &C,
+    alloc: Global,
+    plan: &SubscribePlan,
+    output: &mut W,
+    errors: &mut E,
+) -> u8
+    ensures most { result ≤ 3 }
+    ensures accepted { result ≢ 2 }
+    ensures short { result ≡ 3 → IsTrue plan.now.once }
+{
+    let transport = &plan.end.transport;
+    match peer_of(rt, transport) {
+        Ok(endpoint) => {
+            let binding = binding_of(transport, endpoint);
+            let ended = subscribe(rt, alloc, plan, &binding, output, errors);
+            subscribed(&ended, errors)
+        }
+        Err(unknown) => failed(&unknown, errors),
+    }
+}
 
 /// Subscribes as it is told, and gives the status: 2 where the channel or the rates make no plan.
 fn subscribe_told<C: Wait + Clock + Net + RandomSource, W: Write, E: Write>(
@@ -35,10 +60,7 @@ fn subscribe_told<C: Wait + Clock + Net + RandomSource, W: Write, E: Write>(
     let (drawn, given) = drawn_ids(rt);
     match subscribe_plan(options, drawn) {
         Ok(_) if !given => failed(&Fault::Device, errors),
-        Ok(plan) => {
-            let ended = subscribe(rt, alloc, &plan, output, errors);
-            subscribed(&ended, errors)
-        }
+        Ok(plan) => subscribe_planned(rt, alloc, &plan, output, errors),
         Err(fault) => unplanned(&fault, errors),
     }
 }

@@ -1,4 +1,4 @@
-//! A device over UDP on this machine.
+//! A device over UDP.
 
 ghost use Rattle.std.specs.Prelude.{◌≡◌, ◌⊎◌, ◌↔◌, Some, IsTrue, IfOk, OnErr, OnOk};
 ghost use Rattle.std.specs.IoError.{error_kind};
@@ -9,12 +9,39 @@ use crate::device_error::DeviceError;
 use std::alloc::Global;
 use std::io::ErrorKind;
 use std::marker::Model;
-use std::net::{Ipv4Addr, Net, UdpSocket};
+use std::net::{Ipv4Addr, Net, SocketAddr, SocketAddrV4, UdpSocket};
 use std::{fmt, io};
 use thiserror::Error;
 
-/// A device over UDP on this machine, at 127.0.0.1. A call that finds the system not ready, or its peer's port closed,
-/// hasn't failed: what was to be sent is lost, and nothing has come.
+/// Where a socket is bound, and the time to live of what it sends.
+#[derive(Clone, Copy, Debug, PartialEq, Eq)]
+pub struct Binding {
+    pub address: SocketAddr,
+    /// 1 to 255, for IPv4 alone; the system's own where it is none.
+    pub ttl: Option<u8>,
+}
+
+/// Where a socket is bound, and its one peer.
+#[derive(Clone, Copy, Debug, PartialEq, Eq)]
+pub struct Route {
+    pub binding: Binding,
+    pub peer: SocketAddr,
+}
+
+impl Binding {
+    /// A socket there, on which no call waits. The error is the system's, where it refuses the address or the time to live.
+    pub fn open<R: Net>(&self, rt: &R) -> io::Result<UdpSocket> {
+        let socket = UdpSocket::bind(rt, self.address)?;
+        socket.set_nonblocking(true)?;
+        if let Some(ttl) = self.ttl {
+            socket.set_ttl(u32::from(ttl))?;
+        }
+        Ok(socket)
+    }
+}
+
+/// A device over UDP. A call that finds the system not ready, or its peer's port closed, hasn't failed: what was to be sent
+/// is lost, and nothing has come.
 #[derive(Drop)]
 pub struct UdpDevice {
     socket: UdpSocket,
@@ -34,10 +61,14 @@ impl Model for UdpDevice {
     ghost view = { λ u. record { device = record { sent = []; received = []; failures = u.failures; nones = u.nones }; port = u.port } };
 }
 
-/// A socket at a port that the system chose, on which no call waits.
-fn open<R: Net>(rt: &R) -> io::Result<(UdpSocket, u16)> {
-    let socket = UdpSocket::bind(rt, (Ipv4Addr::LOCALHOST, 0))?;
-    socket.set_nonblocking(true)?;
+/// This port of 127.0.0.1.
+fn here(port: u16) -> SocketAddr {
+    SocketAddr::V4(SocketAddrV4::new(Ipv4Addr::LOCALHOST, port))
+}
+
+/// A socket that is bound so, and its port.
+fn open<R: Net>(rt: &R, binding: &Binding) -> io::Result<(UdpSocket, u16)> {
+    let socket = binding.open(rt)?;
     let port = socket.local_addr()?.port();
     Ok((socket, port))
 }
@@ -51,12 +82,27 @@ fn is_loss(error: &io::Error) -> bool
 }
 
 impl UdpDevice {
-    /// A device at a port that the system chooses, with no peer yet.
+    /// A device at a port of 127.0.0.1 that the system chooses, with no peer yet.
     pub fn bind<R: Net>(rt: &R, alloc: Global) -> Result<UdpDevice, DeviceError>
         ensures { IfOk result (λ u. u.device ≡ fresh) }
     {
+        let binding = Binding {
+            address: here(0),
+            ttl: None,
+        };
+        UdpDevice::bind_at(rt, alloc, &binding)
+    }
+
+    /// A device that is bound so, with no peer yet.
+    pub fn bind_at<R: Net>(
+        rt: &R,
+        alloc: Global,
+        binding: &Binding,
+    ) -> Result<UdpDevice, DeviceError>
+        ensures { IfOk result (λ u. u.device ≡ fresh) }
+    {
         let arrived = vec![in alloc; 0; GREATEST_DATAGRAM].map_err(|_| DeviceError::Memory)?;
-        let (socket, port) = open(rt).map_err(|_| DeviceError::Device)?;
+        let (socket, port) = open(rt, binding).map_err(|_| DeviceError::Device)?;
         Ok(UdpDevice {
             socket,
             port,
@@ -66,7 +112,7 @@ impl UdpDevice {
         })
     }
 
-    /// A device at a port that the system chooses, whose one peer is the device at this port.
+    /// A device at a port of 127.0.0.1 that the system chooses, whose one peer is the device at this port of it.
     pub fn bind_to<R: Net>(rt: &R, alloc: Global, peer: u16) -> Result<UdpDevice, DeviceError>
         ensures { IfOk result (λ u. u.device ≡ fresh) }
     {
@@ -75,7 +121,20 @@ impl UdpDevice {
         Ok(device)
     }
 
-    /// Two devices at ports that the system chooses, each the other's peer.
+    /// A device along a route.
+    pub fn bind_along<R: Net>(
+        rt: &R,
+        alloc: Global,
+        route: &Route,
+    ) -> Result<UdpDevice, DeviceError>
+        ensures { IfOk result (λ u. u.device ≡ fresh) }
+    {
+        let mut device = UdpDevice::bind_at(rt, alloc, &route.binding)?;
+        device.connect_to(route.peer)?;
+        Ok(device)
+    }
+
+    /// Two devices at ports of 127.0.0.1 that the system chooses, each the other's peer.
     pub fn pair<R: Net>(rt: &R, alloc: Global) -> Result<(UdpDevice, UdpDevice), DeviceError>
         ensures { IfOk result (λ pair. (pair.0.device ≡ fresh) × (pair.1.device ≡ fresh)) }
     {
@@ -92,12 +151,20 @@ impl UdpDevice {
         self.port
     }
 
-    /// Makes the device at this port its one peer. The error comes where the system refuses it, and is counted.
+    /// Makes the device at this port of 127.0.0.1 its one peer. The error comes where the system refuses it, and is counted.
     pub fn connect(&mut self, port: u16) -> Result<(), DeviceFailed>
         ensures connected { OnOk result (self.new ≡ self.old) }
         ensures failed { OnErr result (self.new ≡ record self.old { device = with_failure self.old.device }) }
     {
-        if self.socket.connect((Ipv4Addr::LOCALHOST, port)).is_err() {
+        self.connect_to(here(port))
+    }
+
+    /// Makes this its one peer. The error comes where the system refuses it, and is counted.
+    pub fn connect_to(&mut self, peer: SocketAddr) -> Result<(), DeviceFailed>
+        ensures connected { OnOk result (self.new ≡ self.old) }
+        ensures failed { OnErr result (self.new ≡ record self.old { device = with_failure self.old.device }) }
+    {
+        if self.socket.connect(peer).is_err() {
             return Err(self.fail());
         }
         Ok(())

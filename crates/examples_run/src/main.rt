@@ -39,7 +39,7 @@ const NAMES: [&str; 23] = [
 ];
 
 /// The files of rows by their names: each is a file `NAME.expected`.
-const ROWS: [&str; 10] = [
+const ROWS: [&str; 11] = [
     "log_rows",
     "claim_rows",
     "long_rows",
@@ -49,6 +49,7 @@ const ROWS: [&str; 10] = [
     "decode_rows",
     "command_rows",
     "option_rows",
+    "channel_rows",
     "run_rows",
 ];
 

@@ -26,10 +26,9 @@ use Rattle.log_rule.specs.Claims.Sums.{covers, total}
 use Rattle.log_rule.specs.Claims.Terms.{claimed_to}
 use Rattle.log_rule.specs.Claims.Rule.{Bounds, ClaimsHold, IsClaimEntry, entries_of, first_of, shape_of, size_of, weight}
 use Rattle.log_rule.specs.Claims.Memory.{IsAligned, Ruled, StandsInTable, Stored, tail_of}
-use Rattle.log_rule.specs.Claims.Events.{committed_weight}
 use Rattle.log_rule.specs.Claims.Sure.{LearnsControls}
 use Rattle.log_rule.specs.Claims.Plays.{Mine, pass_in}
-use Rattle.log_rule.proofs.Claimed.Totals.{total_at, total_le}
+use Rattle.log_rule.proofs.Claimed.Totals.{total_at}
 use Rattle.log_rule.proofs.Claimed.Accounts.{moved, same_over, same_room, unchanged}
 use Rattle.log_rule.proofs.Claimed.Tails.{elsewhere}
 use Rattle.log_rule.proofs.Claimed.Memories.{slot_apart, tail_is, tail_low, whole_words}

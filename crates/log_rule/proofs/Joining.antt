@@ -1,5 +1,5 @@
 -- The keeper's stores by which a consumer joins and leaves keep the whole rule, and so does a seat that goes back to it.
-use Rattle.std.proofs.Common.{◌≡◌, ◌≢◌, inl, inr, ℕ, zero, suc, ◌+◌, ◌-◌, ◌*◌, ◌<◌, ◌≤◌, eqb, cond, Bool, max, List, [], ◌∷◌, ◌++◌, drop, take, map, length, set, length-set, get_or-set_same, get_or-set_other, sym, refl, ap, ◌∙◌, subst, ⊎_elim, eq-eqb, ne_eqb, arith}
+use Rattle.std.proofs.Common.{◌≡◌, ◌≢◌, inl, inr, ℕ, zero, suc, ◌+◌, ◌-◌, ◌*◌, ◌<◌, ◌≤◌, cond, Bool, max, List, [], ◌∷◌, ◌++◌, drop, take, map, length, set, length-set, get_or-set_same, get_or-set_other, sym, refl, ap, ◌∙◌, subst, ⊎_elim, eq-eqb, ne_eqb, arith}
 use mathlib.Core.Option.{some, some-injective, some-ne-none}
 use mathlib.Core.Logic.{dite}
 use native.Mathlib.Decide.{ℕ_discrete}
@@ -14,7 +14,6 @@ use Rattle.theory.proofs.Lists.{all_append, all_behind, all_front}
 use Rattle.publication.specs.declared.pass.Keeping.{Keeping}
 use Rattle.publication.specs.declared.pass.Pass.{Pass}
 use Rattle.publication.specs.declared.pass.Reading.{Reading}
-use Rattle.publication.specs.Steps.{term_of}
 use Rattle.log_rule.specs.declared.claims.view.View.{View}
 use Rattle.log_rule.specs.declared.rule.Key.{Key}
 use Rattle.log_rule.specs.Claims.Closing.{spent_seat}
@@ -35,7 +34,7 @@ use Rattle.log_rule.proofs.Claimed.Totals.{both_at, total_append, total_at, tota
 use Rattle.log_rule.proofs.Consumers.{all_place, all_places, is_there}
 use Rattle.log_rule.proofs.Dealing.{none_kept}
 use Rattle.log_rule.proofs.Gathering.{kept_join}
-use Rattle.log_rule.proofs.Growing.{Grows, grows, not_keeping, placed_on, reader_at, same_sum, seen_on, there_low}
+use Rattle.log_rule.proofs.Growing.{Grows, grows, not_keeping, placed_on, reader_at, same_sum, seen_on}
 use Rattle.log_rule.proofs.Keeping.{not_keeper}
 use Rattle.log_rule.proofs.Owning.{attends_goes, numbered_join, numbered_on, owns_none}
 use Rattle.log_rule.proofs.Resting.{attending, rest_looks, rested, rested_here}

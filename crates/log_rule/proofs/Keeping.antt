@@ -35,7 +35,7 @@ use Rattle.log_rule.specs.declared.rule.Key.{Key}
 use Rattle.log_rule.specs.Edges.{IsAmong, IsPlaced}
 use Rattle.log_rule.specs.Numbers.{AreNumbered}
 use Rattle.log_rule.proofs.Owning.{attends_goes, numbered_on}
-use Rattle.log_rule.specs.Kept.{Attends, IsKeeper, IsReader, IsSeen, IsThere, Kept, keepers_of, readers_of}
+use Rattle.log_rule.specs.Kept.{Attends, IsReader, IsSeen, IsThere, Kept, keepers_of, readers_of}
 use Rattle.log_rule.specs.Table.{LogRuled, now_at}
 use Rattle.log_rule.specs.Keepings.{LearnsLimit, MayRaise, Raises, keeping, least_there, numbered, sweeping, with_keeping}
 use Rattle.log_rule.proofs.Growing.{Grows, attends_on, grows, not_keeping, placed_on, same_sum, seen_on, there_low}

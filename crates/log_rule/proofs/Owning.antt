@@ -20,13 +20,13 @@ use Rattle.publication.specs.declared.pass.Reading.{Reading}
 use Rattle.publication.specs.declared.step.WordStep.TheVariants as steps
 use Rattle.publication.specs.Frames.{CompletesFrame}
 use Rattle.publication.specs.Steps.{Adds, Arms, Commits, Counts, ExchangesCount, HasWord, Nexts, Rotates, Sees, Stores, addition, count_in, disarmed, geometry_of, message_at, noted, opened, padding_at, tail_exchange, tail_step, term_of, with_armed, with_begun, with_count, with_full, with_limit}
-use Rattle.log_rule.specs.Claims.Closing.{both, handed_over, owned_by, renamed}
+use Rattle.log_rule.specs.Claims.Closing.{both, handed_over, owned_by}
 use Rattle.log_rule.specs.Claims.Plays.{down}
 use Rattle.log_rule.specs.Claims.Sums.{total}
 use Rattle.log_rule.specs.Claims.Rule.{Bounds, ClaimsHold, Entitled, parts_of}
 use Rattle.log_rule.specs.Numbers.{AreNumbered, ClaimsAs, Owns, is_number, numbers_as}
 use Rattle.log_rule.proofs.Claimed.Begun.{split_total}
-use Rattle.log_rule.proofs.Claimed.Totals.{both_at, total_append, total_at, total_set}
+use Rattle.log_rule.proofs.Claimed.Totals.{both_at, total_at, total_set}
 
 -- ---- over a step
 

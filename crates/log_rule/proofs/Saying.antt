@@ -13,7 +13,7 @@ use Rattle.publication.specs.declared.pass.FrameWords.{FrameWords}
 use Rattle.publication.specs.declared.pass.Pass.{Pass}
 use Rattle.publication.specs.declared.pass.Reading.{Reading}
 use Rattle.log_rule.specs.Claims.Memory.{IsCommittedFrame, IsOpen, StandsInTable, tail_of}
-use Rattle.log_rule.specs.Claims.Packs.{consumer_place, limit_place, slot}
+use Rattle.log_rule.specs.Claims.Packs.{limit_place, slot}
 use Rattle.log_rule.specs.Claims.Plays.{pass_in}
 use Rattle.log_rule.specs.Claims.Rule.{Bounds, IsClaimEntry, armed_of, entries_of, first_of, shape_of, weight}
 use Rattle.log_rule.specs.Claims.Sums.{total}

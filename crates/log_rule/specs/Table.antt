@@ -1,5 +1,5 @@
 -- The rule over a table's state, the first seat, and what each step tells.
-use Rattle.std.specs.Prelude.{◌≡◌, ℕ, zero, suc, ◌-◌, List, [], ◌∷◌, ◌++◌, map, replicate, slice_index}
+use Rattle.std.specs.Prelude.{ℕ, zero, suc, ◌-◌, List, [], ◌∷◌, ◌++◌, map, replicate, slice_index}
 use Rattle.atomic_table.specs.Table.{State}
 use Rattle.theory.specs.Bytes.{Identity}
 use Rattle.theory.specs.Position.{greatest_claim}

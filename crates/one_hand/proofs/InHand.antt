@@ -32,7 +32,7 @@ use Rattle.log_rule.specs.Kept.{IsThere}
 use Rattle.log_rule.specs.Keepings.{numbered}
 use Rattle.shared_log.specs.Keepers.{KnowsWho}
 use Rattle.one_hand.specs.Hands.{HasAll, Shares, AbortsClaim, Claims, ClaimsNone, CommitsClaim, IsFree, IsInHand, MayEnd, Offers, range, stream_in}
-use Rattle.publication.proofs.Contents.{IsSmall}
+use Rattle.frame_words.proofs.Contents.{IsSmall}
 use Rattle.one_hand.proofs.Answered as answered
 use Rattle.one_hand.proofs.Answered.{Rests}
 use Rattle.one_hand.proofs.Entries.{from_among}

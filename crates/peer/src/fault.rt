@@ -12,6 +12,8 @@ use thiserror::Error;
 pub enum BindError {
     /// Another socket of this machine has the port.
     Taken,
+    /// This machine doesn't have the address.
+    NotHere,
     /// The system refused the socket, or memory was refused.
     Failed(DeviceError),
 }
@@ -31,6 +33,7 @@ impl BindError {
     {
         match self {
             BindError::Taken => "the port is in use",
+            BindError::NotHere => "this machine doesn't have the address",
             BindError::Failed(error) => error.text(),
         }
     }

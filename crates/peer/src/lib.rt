@@ -1,4 +1,4 @@
-//! The two ends of a channel, over UDP on this machine: a subscriber's device, which hears anybody until it is tied
+//! The two ends of a channel, over UDP: a subscriber's device, which hears anybody until it is tied
 //! to one peer, and a publisher's, which screens what comes, notes which receivers it hears and when it ends by that.
 //!
 //! A tied device meets the trait of devices: it fails only where it counts that; what it hands over came from its

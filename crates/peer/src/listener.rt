@@ -4,12 +4,12 @@ ghost use Rattle.std.specs.Prelude.{◌≡◌, ◌≢◌, None, IfOk, OnErr, opt
 ghost use Rattle.std.specs.IoError.{error_kind};
 
 use crate::fault::{BindError, is_loss};
-use endpoint::{DeviceError, DeviceFailed, GREATEST_DATAGRAM};
+use endpoint::{Binding, DeviceError, DeviceFailed, GREATEST_DATAGRAM};
 use std::alloc::Global;
 use std::io;
 use std::io::ErrorKind;
 use std::marker::Model;
-use std::net::{Ipv4Addr, Net, SocketAddr, UdpSocket};
+use std::net::{Net, SocketAddr, UdpSocket};
 
 /// Who sent a datagram, and how many bytes it has.
 #[derive(Clone, Copy)]
@@ -18,8 +18,8 @@ struct Arrival {
     length: usize,
 }
 
-/// A socket at a port of 127.0.0.1 that hears anybody. It is bound once and never connected, so that the port is this
-/// process's until it ends. No call waits. It keeps the datagram that came last.
+/// A socket that hears anybody. It is bound once and never connected, so that the port is this process's until it ends. No
+/// call waits. It keeps the datagram that came last.
 #[derive(Drop)]
 pub struct Listener {
     socket: UdpSocket,
@@ -39,33 +39,28 @@ impl Model for Listener {
     ghost invariant = { λ l. ForSome l.last (λ a. a.length ≤ vec_len l.arrived) };
 }
 
-/// A socket at this port on which no call waits.
-fn open<R: Net>(rt: &R, port: u16) -> io::Result<UdpSocket> {
-    let socket = UdpSocket::bind(rt, (Ipv4Addr::LOCALHOST, port))?;
-    socket.set_nonblocking(true)?;
-    Ok(socket)
-}
-
 /// Why it can't be had.
 fn fault_of(error: &io::Error) -> BindError
     ensures taken { error_kind error.now ≡ ErrorKind.AddrInUse → result ≡ BindError.Taken }
-    ensures others { error_kind error.now ≢ ErrorKind.AddrInUse → result ≡ BindError.Failed DeviceError.Device }
+    ensures not_here { error_kind error.now ≡ ErrorKind.AddrNotAvailable → result ≡ BindError.NotHere }
+    ensures others { error_kind error.now ≢ ErrorKind.AddrInUse → error_kind error.now ≢ ErrorKind.AddrNotAvailable → result ≡ BindError.Failed DeviceError.Device }
 {
-    if error.kind() == ErrorKind::AddrInUse {
-        return BindError::Taken;
+    match error.kind() {
+        ErrorKind::AddrInUse => BindError::Taken,
+        ErrorKind::AddrNotAvailable => BindError::NotHere,
+        _ => BindError::Failed(DeviceError::Device),
     }
-    BindError::Failed(DeviceError::Device)
 }
 
 impl Listener {
-    /// A socket at this port, to which nothing has come yet.
-    pub fn bind<R: Net>(rt: &R, alloc: Global, port: u16) -> Result<Listener, BindError>
+    /// A socket that is bound so, to which nothing has come yet.
+    pub fn bind<R: Net>(rt: &R, alloc: Global, binding: &Binding) -> Result<Listener, BindError>
         ensures { IfOk result (λ l. l ≡ None) }
     {
         let arrived = vec![in alloc; 0; GREATEST_DATAGRAM].map_err(|_| BindError::Failed(
             DeviceError::Memory,
         ))?;
-        let socket = open(rt, port).map_err(|error| fault_of(&error))?;
+        let socket = binding.open(rt).map_err(|error| fault_of(&error))?;
         Ok(Listener {
             socket,
             arrived,

@@ -8,11 +8,12 @@ use Rattle.theory.specs.Placed.{Data, Pad}
 use Rattle.theory.specs.Wire.{front}
 use Rattle.publication.specs.declared.pass.Pass.{Pass}
 use Rattle.publication.specs.Steps.{BeginsFrame, Commits, HasWord, Stores, geometry_of}
-use Rattle.publication.specs.Frames.{CompletesFrame, IsLegal, header_words, payload_words}
+use Rattle.frame_words.specs.Words.{IsLegal, header_words, payload_words}
+use Rattle.publication.specs.Frames.{CompletesFrame}
 use Rattle.publication.specs.Claims.{Fills, HasBlank}
 use Rattle.publication.specs.Offers.{HasRoom, Puts}
 use Rattle.publication.proofs.Patches.{completed, filled, has_word, puts_more, puts_none}
-use Rattle.publication.proofs.Wordings.{data_words, pad_words, words_length}
+use Rattle.frame_words.proofs.Wordings.{data_words, pad_words, words_length}
 
 -- bytes, by their places
 pub all_bytes : (xs : List ℕ) → ((i : ℕ) → get_or xs i 0 < 256) → AllByRecursion (λ b. b < 256) xs

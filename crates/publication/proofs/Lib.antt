@@ -1,6 +1,5 @@
 pub mod Steppings
 pub mod Patches
-pub mod Wordings
 pub mod Messages
 pub mod Justifying
 pub mod Refusing
@@ -12,4 +11,3 @@ pub mod Offering
 pub mod WordRows
 pub mod Packed
 pub mod Alone
-pub mod Contents

@@ -7,7 +7,8 @@ use Rattle.theory.specs.Placed.{Frame, frame_length}
 use Rattle.publication.specs.declared.pass.FrameWords.{FrameWords}
 use Rattle.publication.specs.declared.pass.Pass.{Pass}
 use Rattle.publication.specs.Steps.{BeginsFrame, Commits, HasWord, Stores, frame, geometry_of, with_work, written}
-use Rattle.publication.specs.Frames.{CompletesFrame, IsLegal, frame_words}
+use Rattle.frame_words.specs.Words.{IsLegal, frame_words}
+use Rattle.publication.specs.Frames.{CompletesFrame}
 use Rattle.publication.specs.Claims.{Fills, HasBlank}
 use Rattle.publication.specs.Offers.{HasRoom, Puts, patch}
 

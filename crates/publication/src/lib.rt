@@ -12,17 +12,14 @@
 //! and the limit make it (a lemma). No call takes memory or waits.
 //!
 //! Nothing but these calls claims or commits (`InOrder`): a message's frames are committed from the first to the last, and
-//! each as long as it was claimed. What a frame's words say and what a raw tail shows is told too (`head_in`, `put_word`,
-//! `position_shown`).
+//! each as long as it was claimed. What a raw tail shows is told too (`position_shown`).
 #![tactic(auto)]
 
 mod claiming;
-mod frame_words;
 mod looking;
 mod offers;
 mod order;
 mod pass;
-mod read_words;
 mod refusal;
 mod step;
 mod tail;
@@ -35,7 +32,6 @@ pub use looking::{Look, look_at};
 pub use offers::{abort, commit, offer, try_claim};
 pub use order::InOrder;
 pub use pass::{ClaimRange, Controls, FrameWords, Keeping, Pass, Reading, Right, Seen, Work};
-pub use read_words::{head_in, put_bytes, put_word};
 pub use refusal::Refusal;
 pub use step::WordStep;
 pub use tail::{position_shown, taken, term_offset};

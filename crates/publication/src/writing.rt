@@ -4,13 +4,14 @@ ghost use Rattle.std.specs.Prelude.{◌≡◌, ◌+◌, ◌-◌, ◌*◌, ◌/�
 ghost use Rattle.theory.specs.Position.{aligned, cuts_of, framed_length, max_message, max_position};
 ghost use Rattle.theory.specs.Placed.{Data, Pad};
 ghost use Rattle.theory.specs.Wire.{IsDataFlags};
-ghost use Rattle.publication.specs.Frames.{frame_flags, header_words, payload_words, stored_words};
+ghost use Rattle.frame_words.specs.Words.{header_words, payload_words};
+ghost use Rattle.publication.specs.Frames.{frame_flags, stored_words};
 ghost use Rattle.publication.specs.Claims.{Fills, HasBlank, PartOfCall, exactly, message_words};
 ghost use Rattle.publication.specs.Offers.{FillsAll, HasBlanks, HasRoom, Puts};
 
-use crate::frame_words::{first_word, last_word, pair_word, whole_word};
 use crate::order::InOrder;
 use crate::words::WordCalls;
+use frame_words::{first_word, last_word, pair_word, whole_word};
 use position::{BEGIN, END, Identity, UNFRAGMENTED};
 
 /// Stores the words of a frame's header behind the first one.

@@ -4,7 +4,7 @@ use Rattle.theory.specs.Position.{Geometry, max_message}
 use Rattle.messages.specs.declared.fault.InputFault.{InputFault}
 use Rattle.messages.specs.declared.fault.InputFault.TheVariants as inputs
 use Rattle.publisher.specs.declared.fault.PublishFault.{PublishFault}
-use Rattle.publisher.specs.declared.fault.PublishFault.TheVariants.{Input, Full, Failed}
+use Rattle.publisher.specs.declared.fault.PublishFault.TheVariants.{Input, Full, NoSocket, Failed}
 
 -- messages are counted from 1, and the greatest is that of the stream
 abbrev pub IsOfMessage : Geometry → InputFault → Type 0
@@ -17,6 +17,7 @@ IsOfMessage g inputs.Memory = ⊤
 abbrev pub StopsReading : Geometry → PublishFault → Type 0
 StopsReading g (Input fault) = IsOfMessage g fault
 StopsReading g Full = ⊤
+StopsReading g (NoSocket route) = ⊥
 StopsReading g (Failed error) = ⊥
 
 -- for some shape of a stream

@@ -12,7 +12,7 @@ use Rattle.publication.specs.Frames.{frame_at, message_frames}
 use Rattle.messages.specs.Inputs.{Explains, Gives}
 use Rattle.messages.specs.declared.form.Form.{Form}
 use Rattle.publisher.specs.declared.fault.PublishFault.{PublishFault}
-use Rattle.publisher.specs.declared.fault.PublishFault.TheVariants.{Input, Full, Failed}
+use Rattle.publisher.specs.declared.fault.PublishFault.TheVariants.{Input, Full, NoSocket, Failed}
 
 -- ---- what a pass published
 
@@ -62,6 +62,7 @@ abbrev pub Stops : Form → ℕ → ℕ → Option (List ℕ) → Option (List �
 Stops form greatest count old new None = (Consumes old new [] × IsAtEnd new) ⊎ ReadsOne form greatest old new ⊎ ((count ≡ 2 ^ 64 - 2) × (new ≡ old))
 Stops form greatest count old new (Some (Input fault)) = (held : List ℕ) × Explains form (suc count) greatest old new held fault
 Stops form greatest count old new (Some Full) = ReadsOne form greatest old new
+Stops form greatest count old new (Some (NoSocket route)) = ⊥
 Stops form greatest count old new (Some (Failed error)) = ⊥
 
 -- ---- both

@@ -1,6 +1,7 @@
 -- What a user reads of a fault, and what a publisher tells on its error output.
 use Rattle.std.specs.Prelude.{ℕ, List, [], ◌∷◌, ◌++◌, Option, None, Some, codes, decimal, nat_eq, nat_lt, if◌then◌else◌}
 use Rattle.std.specs.Fmt.{signed_decimal}
+use Rattle.std.specs.Net.Text.{socket_text}
 use Rattle.peer.specs.declared.attendance.Attendance.{Attendance}
 use Rattle.peer.specs.declared.attendance.Heard.{Heard}
 use Rattle.peer.specs.declared.ending.Ending.{Ending}
@@ -11,11 +12,12 @@ use Rattle.frames.specs.declared.fault_counts.FaultCounts.{FaultCounts}
 use Rattle.messages.specs.Texts as inputs
 use Rattle.publisher.specs.declared.telling.Counts.{Counts}
 use Rattle.publisher.specs.declared.fault.PublishFault.{PublishFault}
-use Rattle.publisher.specs.declared.fault.PublishFault.TheVariants.{Input, Full, Failed}
+use Rattle.publisher.specs.declared.fault.PublishFault.TheVariants.{Input, Full, NoSocket, Failed}
 
 abbrev pub text_of : PublishFault → List ℕ
 text_of (Input fault) = inputs.text_of fault
 text_of Full = codes "the stream is at its last position"
+text_of (NoSocket route) = codes "the system gives no socket from " ++ socket_text route.binding.address ++ codes " to " ++ socket_text route.peer
 text_of (Failed error) = devices.text_of error
 
 -- ---- lines
@@ -57,7 +59,7 @@ ending_text Whole start told tail = if nat_eq tail start then empty_line else []
 ending_text Short start told tail = short_text told tail
 
 abbrev pub alone_line : List ℕ
-alone_line = codes "nobody was heard for 5 s: no subscriber is at this port, or it takes another stream or session, or only shorter terms" ++ 10 ∷ []
+alone_line = codes "nobody was heard for 5 s: no subscriber is there, or it takes another stream or session, or only shorter terms" ++ 10 ∷ []
 
 abbrev pub fault_line : PublishFault → List ℕ
 fault_line fault = text_of fault ++ (codes "; what came before it is delivered first" ++ 10 ∷ [])

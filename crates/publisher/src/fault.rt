@@ -3,7 +3,7 @@ ghost use Rattle.publisher.specs.Texts.{text_of};
 ghost use Rattle.endpoint.specs.declared.device_error.DeviceError.TheVariants.{Device, Memory};
 ghost use Rattle.publisher.specs.declared.fault.PublishFault.TheVariants.{Failed, Input};
 
-use endpoint::{DeviceError, DeviceFailed};
+use endpoint::{DeviceError, DeviceFailed, Route};
 use messages::InputFault;
 use std::alloc::AllocError;
 use std::error::Error;
@@ -16,6 +16,8 @@ pub enum PublishFault {
     Input(InputFault),
     /// The stream has come to its last position.
     Full,
+    /// The system refuses a socket along this route: this machine doesn't have the address, or no way leads to the peer.
+    NoSocket(Route),
     /// The socket, a thread or the clock failed, or memory was refused.
     Failed(DeviceError),
 }
@@ -27,6 +29,10 @@ impl fmt::Display for PublishFault {
         match *self {
             PublishFault::Input(fault) => write!(f, "{fault}"),
             PublishFault::Full => write!(f, "the stream is at its last position"),
+            PublishFault::NoSocket(route) => {
+                let (from, to) = (route.binding.address, route.peer);
+                write!(f, "the system gives no socket from {from} to {to}")
+            }
             PublishFault::Failed(error) => write!(f, "{error}"),
         }
     }

@@ -147,7 +147,7 @@ pub(crate) fn tell_alone<E: Write>(errors: &mut E) -> io::Result<()>
 {
     writeln!(
         errors,
-        "nobody was heard for 5 s: no subscriber is at this port, or it takes another stream or session, or only shorter terms"
+        "nobody was heard for 5 s: no subscriber is there, or it takes another stream or session, or only shorter terms"
     )
 }
 

@@ -25,6 +25,7 @@ use Rattle.script_meaning.specs.Published.{IfGiven, joins_of}
 use Rattle.receiver.specs.Receiving.{Meets, MeetsFrame, MeetsHeartbeat, MeetsSetup, Opened, OpensImage, PassesBy, Receiver, answer_at, given_at}
 use Rattle.script_meaning.specs.ScriptState.{ScriptState, image_of, world_of}
 use Rattle.script_meaning.proofs.Honest.{IsGivenOut, WasNamed, WasSent}
+use Rattle.receiver_meaning.proofs.Meeting.{data_is, pad_is, same_geometry}
 use Rattle.script_meaning.proofs.Runs.{Goes, goes_one, stays}
 
 -- ---- what is known of a receiver
@@ -161,14 +162,6 @@ beat_met s k r mid (Some o) h out joins given Whole a was m =
 
 -- ---- a SETUP that the sender sent
 
-same_geometry : (f : Setup) (g h : Geometry) → NamesGeometry f g → f.term_length ≡ pos h.term_length → f.mtu ≡ pos h.mtu → f.initial_term_id ≡ h.initial_term_id → g ≡ h
-same_geometry f g h n t m i =
-    let terms : pos g.term_length ≡ pos h.term_length = sym n.term_length ∙ t in
-    let mtus : pos g.mtu ≡ pos h.mtu = sym n.mtu ∙ m in
-    let term : g.term_length ≡ h.term_length = cc in
-    let mtu : g.mtu ≡ h.mtu = cc in
-    ap (λ x. record g { term_length = x }) term ∙ ap (λ x. record g { term_length = h.term_length; mtu = x }) mtu ∙ ap (λ x. record h { initial_term_id = x }) (sym n.initial ∙ i)
-
 same_position : NamesPlace → (i : Identity) (p q : ℕ) → IsGeometry i.geometry → p ≤ max_position i.geometry → NamesPosition (setup_fields i p) i.geometry q → q ≡ p
 same_position law i p q legal low n =
     let place = law i.geometry p legal low in
@@ -220,21 +213,6 @@ pub record IsSending (s : ScriptState) : Type 0 where
 pub record Places : Type 0 where
   pub place : NamesPlace
   pub header : HeaderNamesPlace
-
-data_is : (i : Identity) (p : ℕ) (f : Frame) (h : Header) (flags : ℕ) (payload : List ℕ) → DATA h flags payload ≡ wire_at i p f → (h ≡ header_at i p) × (Data flags payload ≡ f)
-data_is i p (Data g bytes) h flags payload e =
-    let a : h ≡ header_at i p = cc in
-    let b : flags ≡ g = cc in
-    let c : payload ≡ bytes = cc in
-    (a, ap (λ x. Data x payload) b ∙ ap (λ x. Data g x) c)
-data_is i p (Pad n) h flags payload e = absurd (cc)
-
-pad_is : (i : Identity) (p : ℕ) (f : Frame) (h : Header) (n : ℕ) → PAD h n ≡ wire_at i p f → (h ≡ header_at i p) × (Pad n ≡ f)
-pad_is i p (Data g bytes) h n e = absurd (cc)
-pad_is i p (Pad m) h n e =
-    let a : h ≡ header_at i p = cc in
-    let b : n ≡ m = cc in
-    (a, ap Pad b)
 
 setup_met : NamesPlace → (s : ScriptState) (k : ℕ) (r mid : Receiver) (image : Option Opened) (f : Setup) (out : Outcome) (joins : List ℕ) (given : List (List ℕ)) (Whole : Type 0) → IsSending s → At s k r joins given Whole → r.image ≡ image → IfGiven out (WasNamed s.log.identity s.sender.setups f) → MeetsSetup image r f out mid → Met s k mid out joins given Whole
 setup_met law s k r mid None f out joins given Whole x a was honest (inl m) =

@@ -1,5 +1,6 @@
 -- Passes are dealt one after the other.
-use Rattle.std.proofs.Common.{◌≡◌, inl, ℕ, zero, suc, ◌+◌, ◌-◌, ◌*◌, ◌/◌, ◌<◌, List, [], ◌∷◌, ◌++◌, length, sym, refl, ap, ◌∙◌, subst, arith}
+use Rattle.std.proofs.Common.{◌≡◌, inl, ℕ, zero, suc, ◌+◌, ◌-◌, ◌*◌, ◌/◌, ◌<◌, ◌≤◌, List, [], ◌∷◌, ◌++◌, length, sym, refl, ap, ◌∙◌, subst, arith}
+use Rattle.std.specs.List.{AllByRecursion}
 use Rattle.theory.specs.Bytes.{Identity}
 use Rattle.theory.specs.Placed.{Among}
 use Rattle.publication.specs.declared.pass.Pass.{Pass}
@@ -8,7 +9,7 @@ use Rattle.log_rule.specs.Claims.Handles.{PublisherValue}
 use Rattle.log_rule.specs.Claims.Plays.{dealer, down, newcomer, other_numbers}
 use Rattle.log_rule.specs.Table.{consumers_at, other_readings}
 use Rattle.shared_log.specs.Handles.{LogValue, OwnsClaims}
-use Rattle.shared_log.specs.Readers.{ReaderValue}
+use Rattle.shared_log.specs.Readers.{IsAlone, IsReaderOf, ReaderValue}
 use Rattle.shared_log.specs.Parts.{AreReaders, IsDealing, IsNewReader}
 
 -- of the consumers that are left, the first is this one
@@ -30,6 +31,27 @@ dealing_on l number p q d lt of pass steps sure =
 pub readers_on : (l : LogValue) (n : ℕ) (rs : List ReaderValue) (r : ReaderValue) → AreReaders l n rs → IsNewReader l (n + length rs) r → AreReaders l n (rs ++ r ∷ [])
 readers_on l n [] r a is = (subst (λ (k : ℕ). IsNewReader l k r) (let e : n + 0 ≡ n = omega arith in e) is, tt)
 readers_on l n (x ∷ xs) r a is = (a.0, readers_on l (suc n) xs r a.1 (subst (λ (k : ℕ). IsNewReader l k r) (let e : n + suc (length xs) ≡ suc n + length xs = omega arith in e) is))
+
+-- each is one of this log, and alone in its pass
+pub readers_of : (l : LogValue) (n : ℕ) (rs : List ReaderValue) → AreReaders l n rs → n + length rs ≤ 8 → AllByRecursion (IsReaderOf l) rs
+readers_of l n [] are few = tt
+readers_of l n (r ∷ rs) are few = (
+  record { of = are.0.held.of; number = (let e = are.0.number_is in low r.number n (length rs) e few) },
+  readers_of l (suc n) rs are.1 (next n (length rs) few),
+)
+  where
+    low : (m n k : ℕ) → m ≡ n → n + suc k ≤ 8 → m < 8
+    low m n k e few = omega arith
+
+    next : (n k : ℕ) → n + suc k ≤ 8 → suc n + k ≤ 8
+    next n k few = omega arith
+
+pub readers_alone : (l : LogValue) (n : ℕ) (rs : List ReaderValue) → AreReaders l n rs → AllByRecursion (IsAlone l) rs
+readers_alone l n [] are = tt
+readers_alone l n (r ∷ rs) are = (
+  record { consumer = record { number = n; position = l.start; known = []; misses = 0 }; pass = are.0.held.pass_is; place = are.0.place },
+  readers_alone l (suc n) rs are.1,
+)
 
 -- ---- the publishers
 

@@ -14,8 +14,9 @@ use Rattle.publication.specs.declared.pass.FrameWords.{FrameWords}
 use Rattle.publication.specs.declared.pass.Pass.{Pass}
 use Rattle.publication.specs.declared.pass.Reading.{Reading}
 use Rattle.publication.specs.Steps.{frame, term_of}
-use Rattle.publication.specs.Contents.{bytes_in, frame_in, head_by}
-use Rattle.publication.proofs.Contents.{head_said, legal_said}
+use Rattle.frame_words.specs.Contents.{bytes_in, head_by}
+use Rattle.publication.specs.Contents.{frame_in}
+use Rattle.frame_words.proofs.Contents.{head_said, legal_said}
 use Rattle.log_rule.specs.Claims.Memory.{IsCommittedFrame}
 use Rattle.shared_log.specs.Handles.{LogValue}
 use Rattle.log_rule.specs.Claims.Handles.{PublisherValue}

@@ -1,7 +1,5 @@
 -- A consumer joins or leaves by the keeper's stores.
-use Rattle.std.proofs.Common.{◌≡◌, ◌≢◌, inl, inr, ℕ, zero, suc, ◌+◌, ◌*◌, ◌<◌, ◌≤◌, Bool, true, false, max, ◌-◌, get_or, List, [], ◌∷◌, ◌++◌, drop, take, length, map, set, length-set, get_or-set_same, get_or-set_other, sym, refl, ap, ◌∙◌, subst, arith}
-use mathlib.Core.Logic.{dite}
-use native.Mathlib.Decide.{ℕ_discrete}
+use Rattle.std.proofs.Common.{◌≡◌, ◌≢◌, ℕ, zero, suc, ◌+◌, ◌*◌, ◌<◌, ◌≤◌, Bool, true, false, max, ◌-◌, get_or, List, [], ◌∷◌, ◌++◌, length, map, set, length-set, get_or-set_same, get_or-set_other, sym, refl, ap, ◌∙◌, subst, arith}
 use Rattle.std.specs.Prelude.{slice_index}
 use Rattle.std.proofs.lemmas.List.{length-map, map-set}
 use Rattle.atomic_table.specs.Table.{Allows}
@@ -21,9 +19,9 @@ use Rattle.log_rule.specs.Keepings.{Joins, Leaves, MayJoin, MayLeave, joined, ke
 use Rattle.log_rule.specs.Table.{LogRuled, other_readings, reader_alone}
 use Rattle.log_rule.proofs.Growing.{there_low}
 use Rattle.log_rule.proofs.Joining.{join, leave}
-use Rattle.shared_log.specs.Handles.{IsOf, LogValue}
+use Rattle.shared_log.specs.Handles.{LogValue}
 use Rattle.shared_log.specs.Joining.{Becomes, Begins, Ends, HasConsumer, HasOther, IsFirstFree, IsJoined, Joins as ReaderJoins, KnowsControls, Leaves as ReaderLeaves, begun, with_newcomer}
-use Rattle.shared_log.specs.Keepers.{IsKeeping, KeeperValue, KeepsAs, KnowsWho, ReadsConsumer, Sweeps, TookSteps, flag_of, keeping_of, reads_of, seen_positions, there_of, those_there}
+use Rattle.shared_log.specs.Keepers.{IsKeeping, KeeperValue, KnowsWho, ReadsConsumer, Sweeps, TookSteps, flag_of, keeping_of, reads_of, seen_positions, there_of, those_there}
 use Rattle.shared_log.specs.Readers.{IsAlone, IsReading, OnlyReads, ReaderValue, numbers_of}
 use Rattle.shared_log.proofs.Sweeping.{least_is, map_same, numbered_is}
 

@@ -1,8 +1,8 @@
 mod Behind
 pub mod Looking
-pub mod Copying
 pub mod Finding
 pub mod Sourced
+mod Whole
 pub mod Told
 mod Steps
 mod Sweeping

@@ -1,12 +1,13 @@
 -- The passes of a log that was just opened.
 use Rattle.std.specs.Prelude.{◌≡◌, ℕ, suc, ◌-◌, ◌≤◌, ◌*◌, ◌+◌, List, [], ◌∷◌, length, replicate}
+use Rattle.std.specs.List.{AllByRecursion}
 use Rattle.publication.specs.declared.pass.Keeping.{Keeping}
 use Rattle.publication.specs.declared.pass.Pass.{Pass}
 use Rattle.log_rule.specs.Claims.Handles.{PublisherValue}
 use Rattle.log_rule.specs.Claims.Plays.{newcomer}
 use Rattle.log_rule.specs.Table.{consumers_at, first_there}
 use Rattle.shared_log.specs.Handles.{AreNew, IsOf, LogValue}
-use Rattle.shared_log.specs.Readers.{ReaderValue}
+use Rattle.shared_log.specs.Readers.{IsAlone, IsReaderOf, ReaderValue}
 use Rattle.shared_log.specs.Keepers.{KeeperValue}
 
 -- of this log, with this pass: it has made no step, and isn't sure of the control words
@@ -42,6 +43,8 @@ AreReaders l number (r ∷ rs) = IsNewReader l number r × AreReaders l (suc num
 pub record AreDealt (l : LogValue) (publishers : List PublisherValue) (readers : List ReaderValue) (keeper : KeeperValue) : Type 0 where
   pub publishers_are : AreNew l 0 publishers
   pub readers_are : AreReaders l 0 readers
+  pub of_log : AllByRecursion (IsReaderOf l) readers
+  pub alone : AllByRecursion (IsAlone l) readers
   pub all : length readers ≡ l.consumers
   pub keeper_is : IsNewKeeper l keeper
 

@@ -8,7 +8,8 @@ use Rattle.publication.specs.declared.pass.FrameWords.{FrameWords}
 use Rattle.publication.specs.declared.pass.Pass.{Pass}
 use Rattle.publication.specs.declared.pass.Reading.{Reading}
 use Rattle.publication.specs.Steps.{term_of}
-use Rattle.publication.specs.Contents.{bytes_in, frame_in}
+use Rattle.frame_words.specs.Contents.{bytes_in}
+use Rattle.publication.specs.Contents.{frame_in}
 use Rattle.log_rule.specs.Claims.Handles.{PublisherValue}
 use Rattle.log_rule.specs.Readings.{IsConsumer, IsFrameAt, MayPass, end_of, missed}
 use Rattle.log_rule.specs.Table.{reader_alone}

@@ -14,6 +14,7 @@
 //! A reader: `next` gives the committed frame where it stands, and none only where the word there, loaded once in that
 //! call, was zero, and no frame begins that the reader knows; `advance` goes to its end; `reread` gives a frame again
 //! that it knows, up to three quarters of a term below; after `learn` it knows all that a publisher has committed.
+//! `next_whole` gives what `next` gives, straight into bytes of any length; a part that is longer stays unread.
 //! Whoever has every part of the log finds what its own pass committed, and nothing else. A reader is a source of
 //! frames for a sender (`LogFrames`).
 //!
@@ -57,4 +58,5 @@ pub use publisher::meeting::meet;
 pub use publisher::retiring::retire;
 pub use reader::learning::learn;
 pub use reader::source::LogFrames;
+pub use reader::whole::{Unread, next_whole};
 pub use reader::{LogReader, advance, next, reread};

@@ -7,13 +7,14 @@ ghost use Rattle.shared_log.specs.Readers.{Advances, Copies, Finds, FindsNone, I
 
 pub(crate) mod learning;
 pub(crate) mod source;
+pub(crate) mod whole;
 
 use crate::log::Log;
 use atomic_table::Seat;
 use block::Block;
+use frame_words::{head_in, put_bytes, put_word};
 use log_rule::{CONSUMERS, Chosen, Consume, LINE, LookHere, Reread, View, Word};
 use position::{FrameHead, FrameKind, Identity, align32};
-use publication::{head_in, put_bytes, put_word};
 use std::marker::{Brand, Model};
 
 /// A reader of a log's committed frames, one of its consumers.

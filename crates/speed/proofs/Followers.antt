@@ -38,19 +38,6 @@ kept_on l k kept q keeps is = record {
   parts = ap (λ (v : Pass). v.right.parts) keeps.pass ∙ is.parts;
 }
 
-pub new_readers : (l : LogValue) (n : ℕ) (rs : List ReaderValue) → AreReaders l n rs → n + length rs ≤ 8 → AllByRecursion (IsReaderOf l) rs
-new_readers l n [] are few = tt
-new_readers l n (r ∷ rs) are few = (
-  record { of = are.0.held.of; number = (let e = are.0.number_is in low r.number n (length rs) e few) },
-  new_readers l (suc n) rs are.1 (next n (length rs) few),
-)
-  where
-    low : (m n k : ℕ) → m ≡ n → n + suc k ≤ 8 → m < 8
-    low m n k e few = omega arith
-
-    next : (n k : ℕ) → n + suc k ≤ 8 → suc n + k ≤ 8
-    next n k few = omega arith
-
 -- ---- reading
 
 -- a frame that is found is counted by its kind

@@ -8,7 +8,8 @@ use Rattle.receiver.specs.Subscribing.{RepresentsSubscriber, Subscribing}
 use Rattle.subscriber.specs.Places.{StandsAt}
 use Rattle.subscriber.specs.Watches.{IsQuiet, Seen, hearing, working}
 use Rattle.subscriber.specs.declared.fault.SubscribeFault.{SubscribeFault}
-use Rattle.subscriber.specs.declared.fault.SubscribeFault.TheVariants.{Taken, Failed}
+use Rattle.subscriber.specs.declared.fault.SubscribeFault.TheVariants.{Taken, NotHere, Failed}
+use Rattle.std.specs.declared.net.SocketAddr.{SocketAddr}
 use Rattle.subscriber.specs.declared.ended.Ending.{Ending}
 use Rattle.subscriber.specs.declared.ended.Ending.TheVariants.{Whole, Short}
 
@@ -52,7 +53,8 @@ IsEnding plan written s end at (Some Whole) = HasEnough plan written end at ⊎ 
 IsEnding plan written s end at (Some Short) = IsGivenUp plan written s end at Short
 IsEnding plan written s end at None = (¬ HasEnough plan written end at) × (¬ IsQuiet plan s)
 
--- why there is no listener at this port
-abbrev pub of_bind : ℕ → BindError → SubscribeFault
-of_bind port binds.Taken = Taken port
-of_bind port (binds.Failed error) = Failed error
+-- why there is no listener at this address
+abbrev pub of_bind : SocketAddr → BindError → SubscribeFault
+of_bind address binds.Taken = Taken address
+of_bind address binds.NotHere = NotHere address
+of_bind address (binds.Failed error) = Failed error

@@ -8,3 +8,4 @@ pub mod Turning
 pub mod Calls
 pub mod Leavings
 pub mod Writings
+pub mod Living

@@ -1,13 +1,15 @@
 -- What a user reads of a fault.
-use Rattle.std.specs.Prelude.{ℕ, List, ◌++◌, codes, decimal}
+use Rattle.std.specs.Prelude.{ℕ, List, ◌++◌, codes}
+use Rattle.std.specs.Net.Text.{socket_text}
 use Rattle.endpoint.specs.Texts as devices
 use Rattle.subscriber.specs.declared.delivery.fault.DeliveryFault.{DeliveryFault}
 use Rattle.subscriber.specs.declared.delivery.fault.DeliveryFault.TheVariants as deliveries
 use Rattle.subscriber.specs.declared.fault.SubscribeFault.{SubscribeFault}
-use Rattle.subscriber.specs.declared.fault.SubscribeFault.TheVariants.{Taken, Output, Message, Failed}
+use Rattle.subscriber.specs.declared.fault.SubscribeFault.TheVariants.{Taken, NotHere, Output, Message, Failed}
 
 abbrev pub text_of : SubscribeFault → List ℕ
-text_of (Taken port) = codes "port " ++ decimal port ++ codes " is in use"
+text_of (Taken address) = socket_text address ++ codes " is in use"
+text_of (NotHere address) = socket_text address ++ codes " isn't an address of this machine"
 text_of Output = codes "output"
 text_of Message = codes "message"
 text_of (Failed error) = devices.text_of error

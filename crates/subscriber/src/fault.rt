@@ -8,12 +8,15 @@ use endpoint::{DeviceError, DeviceFailed};
 use std::alloc::AllocError;
 use std::error::Error;
 use std::fmt;
+use std::net::SocketAddr;
 
 /// Why a subscriber did nothing more.
 #[derive(Clone, Copy, Debug, PartialEq, Eq)]
 pub enum SubscribeFault {
-    /// Another socket of this machine has the port.
-    Taken(u16),
+    /// Another socket of this machine has the address and its port.
+    Taken(SocketAddr),
+    /// This machine doesn't have the address.
+    NotHere(SocketAddr),
     /// The output failed. What was polled last may be lost; no status message went out for it.
     Output,
     /// A message was refused, and is lost.
@@ -27,7 +30,10 @@ impl fmt::Display for SubscribeFault {
 
     fn fmt<W: fmt::Write>(&self, f: &mut fmt::Formatter<W>) -> fmt::Result {
         match *self {
-            SubscribeFault::Taken(port) => write!(f, "port {port} is in use"),
+            SubscribeFault::Taken(address) => write!(f, "{address} is in use"),
+            SubscribeFault::NotHere(address) => {
+                write!(f, "{address} isn't an address of this machine")
+            }
             SubscribeFault::Output => write!(f, "output"),
             SubscribeFault::Message => write!(f, "message"),
             SubscribeFault::Failed(error) => write!(f, "{error}"),

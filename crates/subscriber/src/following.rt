@@ -5,6 +5,7 @@ ghost use Rattle.endpoint.specs.declared.device_error.DeviceError.TheVariants.{D
 ghost use Rattle.subscriber.specs.Leavings.{HasAll, HasEnough, IsEnding, IsQuietEnding, NotesHeard, NotesWork, StandsHere};
 ghost use Rattle.subscriber.specs.Watches.{IsBroken, IsSilent};
 ghost use Rattle.subscriber.specs.declared.fault.SubscribeFault.TheVariants.{Failed};
+ghost use Rattle.subscriber.specs.Living.{WritesActs, WritesLife};
 ghost use Rattle.subscriber.specs.Writings.{Writes};
 
 use crate::delivery::cycle;
@@ -52,6 +53,8 @@ fn cycle_once<W: Write>(
     ensures patient { IfErr result (λ fault. fault ≢ Failed Device) }
     ensures heard { OnOk result (NotesHeard joined.old.duty.device.notes.frames joined.new.duty.device.notes.frames watch.old watch.new) }
     ensures writes { IfOk result (λ r. (r.0 ≤ plan.now.messages) × Writes plan.now.end.form written (W.contents output.old) r.0 (W.contents output.new)) }
+    ensures lives { IfOk result (λ r. WritesActs plan.now.end.form written joined.old.subscriber (W.contents output.old) r.0 joined.new.subscriber (W.contents output.new)) }
+    ensures number { joined.new.number ≡ joined.old.number }
 {
     let before = joined.duty.device().notes().frames;
     let stood = joined.subscriber.positions();
@@ -195,10 +198,13 @@ pub(crate) fn follow<R: Wait + Clock, W: Write, E: Write>(
     watch: &mut Watch,
 ) -> Result<(u64, Ending), SubscribeFault>
     requires size { joined.old.duty.mtu ≡ REPLY }
+    requires begun { WritesLife plan.now (W.contents output.old) 0 joined.old.number joined.old.subscriber (W.contents output.old) }
     ensures size { joined.new.duty.mtu ≡ REPLY }
     ensures few { IfOk result (λ r. r.0 ≤ plan.now.messages) }
     ensures ended { IfOk result (λ r. (place : ℕ) × StandsHere joined.new.subscriber place × IsEnding plan.now r.0 watch.new joined.new.duty.device.notes.end place (Some r.1)) }
     ensures writes { IfOk result (λ r. Writes plan.now.end.form 0 (W.contents output.old) r.0 (W.contents output.new)) }
+    // What its images gave, each in its turn.
+    ensures lives { IfOk result (λ r. WritesLife plan.now (W.contents output.old) r.0 joined.new.number joined.new.subscriber (W.contents output.new)) }
 {
     let mut written: u64 = 0;
     let mut idle = IdleStrategy::new();

@@ -3,6 +3,7 @@
 ghost use Rattle.std.specs.Prelude.{◌≡◌, ◌≤◌, IfErr, IfOk, IsTrue};
 ghost use Rattle.peer.specs.declared.fault.BindError.{BindError};
 ghost use Rattle.subscriber.specs.Leavings.{of_bind};
+ghost use Rattle.subscriber.specs.Living.{WritesLife, WritesLives};
 ghost use Rattle.subscriber.specs.Writings.{Writes};
 ghost use Rattle.subscriber.specs.declared.ended.Ending.TheVariants.{Short};
 
@@ -14,33 +15,34 @@ use crate::listening::listen;
 use crate::telling::{tell_joined, tell_refused};
 use crate::watch::Watch;
 use agents::REPLY;
-use endpoint::DeviceError;
+use endpoint::{Binding, DeviceError};
 use frames::FaultCounts;
 use options::SubscribePlan;
 use peer::{BindError, Listener};
 use std::alloc::Global;
 use std::io::Write;
-use std::net::Net;
+use std::net::{Net, SocketAddr};
 use std::sync::Wait;
 use std::time::{Clock, Instant};
 
-/// Why there is no listener at this port.
-fn fault_of(port: u16, error: BindError) -> SubscribeFault
-    ensures { result ≡ of_bind port error }
+/// Why there is no listener at this address.
+fn fault_of(address: SocketAddr, error: BindError) -> SubscribeFault
+    ensures { result ≡ of_bind address error }
 {
     match error {
-        BindError::Taken => SubscribeFault::Taken(port),
+        BindError::Taken => SubscribeFault::Taken(address),
+        BindError::NotHere => SubscribeFault::NotHere(address),
         BindError::Failed(error) => SubscribeFault::Failed(error),
     }
 }
 
-/// A listener at the channel's port.
-fn bind<R: Net>(rt: &R, alloc: Global, port: u16) -> Result<Listener, SubscribeFault>
-    ensures { IfErr result (λ fault. (error : BindError) × (fault ≡ of_bind port error)) }
+/// A listener that is bound so.
+fn bind<R: Net>(rt: &R, alloc: Global, binding: &Binding) -> Result<Listener, SubscribeFault>
+    ensures { IfErr result (λ fault. (error : BindError) × (fault ≡ of_bind binding.now.address error)) }
 {
-    match Listener::bind(rt, alloc, port) {
+    match Listener::bind(rt, alloc, binding) {
         Ok(listener) => Ok(listener),
-        Err(error) => Err(fault_of(port, error)),
+        Err(error) => Err(fault_of(binding.address, error)),
     }
 }
 
@@ -55,9 +57,11 @@ fn follow_all<R: Wait + Clock, W: Write, E: Write>(
     watch: &mut Watch,
 ) -> Result<Subscribed, SubscribeFault>
     requires size { joined.old.duty.mtu ≡ REPLY }
+    requires begun { WritesLife plan.now (W.contents output.old) 0 joined.old.number joined.old.subscriber (W.contents output.old) }
     ensures few { IfOk result (λ s. s.messages ≤ plan.now.messages) }
     ensures short { IfOk result (λ s. s.ending ≡ Short → IsTrue plan.now.once) }
     ensures writes { IfOk result (λ s. Writes plan.now.end.form 0 (W.contents output.old) s.messages (W.contents output.new)) }
+    ensures lives { IfOk result (λ s. WritesLives plan.now (W.contents output.old) s.messages (W.contents output.new)) }
 {
     tell_joined(errors, joined.opening.session, joined.place());
     let followed = follow(rt, alloc, plan, joined, output, errors, watch);
@@ -71,8 +75,8 @@ fn follow_all<R: Wait + Clock, W: Write, E: Write>(
     Ok(Subscribed { messages, ending })
 }
 
-/// Subscribes as planned, and writes each message to the output as the plan's form says. The answer is how many were written,
-/// and how it ended.
+/// Subscribes as planned, over a socket that is bound so, and writes each message to the output as the plan's form says. The
+/// answer is how many were written, and how it ended.
 ///
 /// It ends whole behind as many messages as are wanted. One that is to end with the stream ends whole where the publisher told
 /// the stream's end and all before that is written and flushed, and short where it was quiet before: no DATA frame, padding or
@@ -84,18 +88,22 @@ fn follow_all<R: Wait + Clock, W: Write, E: Write>(
 /// joined, silent, heard again and closed, another sender of a session that isn't silent, and the counters are lines of
 /// `errors`, and at the end what was refused, where anything was.
 ///
-/// The fault is `Taken` where another socket has the port, `Output` where the output failed, `Message` where a message was
-/// refused, and `Failed`: `Device` where the socket can't be bound, all its calls failed for 5 seconds, or the clock can't be
-/// read, and `Memory` where memory was refused. Behind a fault the output may end within a message.
+/// The fault is `Taken` where another socket has the address, `NotHere` where this machine doesn't, `Output` where the output
+/// failed, `Message` where a message was refused, and `Failed`: `Device` where the socket can't be bound, all its calls failed
+/// for 5 seconds, or the clock can't be read, and `Memory` where memory was refused. Behind a fault the output may end within a
+/// message.
 pub fn subscribe<R: Wait + Clock + Net, W: Write, E: Write>(
     rt: &R,
     alloc: Global,
     plan: &SubscribePlan,
+    binding: &Binding,
     output: &mut W,
     errors: &mut E,
 ) -> Result<Subscribed, SubscribeFault>
     // What was written is whole messages, one after the other.
     ensures writes { IfOk result (λ s. Writes plan.now.end.form 0 (W.contents output.old) s.messages (W.contents output.new)) }
+    // They are what the polls of its images gave, each image lived through as a receiver does.
+    ensures lives { IfOk result (λ s. WritesLives plan.now (W.contents output.old) s.messages (W.contents output.new)) }
     ensures few { IfOk result (λ s. s.messages ≤ plan.now.messages) }
     // Only one that was to end with the stream ends short.
     ensures short { IfOk result (λ s. s.ending ≡ Short → IsTrue plan.now.once) }
@@ -104,7 +112,7 @@ pub fn subscribe<R: Wait + Clock + Net, W: Write, E: Write>(
         return Err(SubscribeFault::Failed(DeviceError::Device));
     };
     let mut watch = Watch::new(began);
-    let listener = bind(rt, alloc, plan.end.port)?;
+    let listener = bind(rt, alloc, binding)?;
     match listen(rt, alloc, plan, listener, errors, &mut watch)? {
         None => {
             tell_refused(errors, FaultCounts::new(), watch.strangers());

@@ -5,6 +5,7 @@ use Rattle.theory.specs.Position.{Geometry, IsGeometry, IsMtu, IsTermLength, cou
 use Rattle.messages.specs.declared.form.Form.{Form}
 use Rattle.messages.specs.declared.form.Form.TheVariants.{Blocks, Lines}
 use Rattle.channel.specs.Channels.{IsChannel, IsFirstFault}
+use Rattle.channel.specs.Hosts.{is_here}
 use Rattle.channel.specs.declared.channel.Channel.{Channel}
 use Rattle.channel.specs.declared.channel.Start.{Start}
 use Rattle.options.specs.declared.ends.ids.Drawn.{Drawn}
@@ -23,9 +24,9 @@ rates_of o = record { drop = o.loss; repeat = o.repeat; hold = o.hold }
 abbrev pub form_of : Bool → Form
 form_of blocks = if blocks then Blocks else Lines
 
--- this port, and all else as it was told
+-- where the channel says, and all else as it was told
 pub record IsEndPlan (o : EndOptions) (c : Channel) (p : EndPlan) : Type 0 where
-  pub port : p.port ≡ c.port
+  pub transport : p.transport ≡ c.transport
   pub stream : p.stream ≡ pos o.stream
   pub chances : p.rates ≡ rates_of o
   pub seed : p.seed ≡ o.seed
@@ -42,8 +43,12 @@ first_term (Some s) d = s.initial_term_id
 abbrev pub term_of : Channel → ℕ
 term_of c = unwrap_or c.term_length 1048576
 
+-- to this machine 7,680 bytes, and to another one 1,408
+abbrev pub usual_mtu : Channel → ℕ
+usual_mtu c = if is_here c.transport.endpoint.host then 7680 else 1408
+
 abbrev pub mtu_of : Channel → ℕ
-mtu_of c = unwrap_or c.mtu 7680
+mtu_of c = unwrap_or c.mtu (usual_mtu c)
 
 abbrev pub geometry_of : Channel → Drawn → Geometry
 geometry_of c d = record { term_length = term_of c; mtu = mtu_of c; initial_term_id = first_term c.start d }

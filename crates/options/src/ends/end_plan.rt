@@ -31,7 +31,7 @@ pub(crate) fn end_plan<'a>(
         Form::Lines
     };
     Ok(EndPlan {
-        port: channel.port,
+        transport: channel.transport,
         stream: options.stream as i32,
         rates,
         seed: options.seed,

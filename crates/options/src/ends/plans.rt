@@ -1,5 +1,6 @@
 ghost use Rattle.position.specs.Openings.{IsStart};
 
+use channel::Transport;
 use loss_injector::Rates;
 use messages::Form;
 use position::Geometry;
@@ -7,8 +8,8 @@ use position::Geometry;
 /// What both ends are made of.
 #[derive(Clone, Copy, Debug)]
 pub struct EndPlan {
-    /// The port on this machine.
-    pub port: u16,
+    /// Where the datagrams go, and how.
+    pub transport: Transport,
     /// The stream's id.
     pub stream: i32,
     /// What becomes of the datagrams that it sends.

@@ -16,8 +16,11 @@ use position::{Geometry, GeometryError};
 /// The bytes of a term where none are named.
 const TERM: u32 = 1_048_576;
 
-/// The most bytes of a datagram where none are named.
-const MTU: u32 = 7_680;
+/// The most bytes of a datagram to this machine where none are named.
+const MTU_HERE: u32 = 7_680;
+
+/// The most bytes of one to another machine.
+const MTU_AWAY: u32 = 1_408;
 
 /// The id of the first term: the one that is named, or a drawn one.
 fn first_term(start: Option<Start>, drawn: Drawn) -> i32
@@ -36,14 +39,19 @@ fn term_in(channel: &Channel) -> u32
     channel.term_length.unwrap_or(TERM)
 }
 
-/// The most bytes of a datagram, 7,680 where none are named.
+/// The most bytes of a datagram: where none are named 7,680 to this machine, and 1,408 to another one.
 fn mtu_in(channel: &Channel) -> u32
     ensures { result ≡ mtu_of channel.now }
 {
-    channel.mtu.unwrap_or(MTU)
+    let usual = if channel.transport.endpoint.host.is_here() {
+        MTU_HERE
+    } else {
+        MTU_AWAY
+    };
+    channel.mtu.unwrap_or(usual)
 }
 
-/// The shape of the channel's stream: terms of 1 MiB and an MTU of 7,680 bytes where none are named.
+/// The shape of the channel's stream, with the usual lengths where none are named.
 fn shape(channel: &Channel, drawn: Drawn) -> Result<Geometry, GeometryError>
     ensures made { IfOk result (λ g. (g ≡ geometry_of channel.now drawn) × IsGeometry g) }
     ensures term_length { IsErrOf result GeometryError.TermLength → ¬ IsTermLength (term_of channel.now) }

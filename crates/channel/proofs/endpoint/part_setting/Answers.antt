@@ -1,8 +1,7 @@
 use Rattle.std.proofs.Common.{◌∙◌, ℕ, List, ◌∷◌, ◌++◌, lit<, refl, ap, sym, Some, None}
-use Rattle.std.proofs.lemmas.Result.{IfErr-weaker, IfOk-weaker}
 use Rattle.channel.specs.Settings.{is_set}
 use Rattle.std.proofs.lemmas.Str.Pattern.{split_parts}
-use Rattle.channel.proofs.Endings.{says_it, value_wrong}
+use Rattle.channel.proofs.Endings.{says_it}
 use Rattle.channel.proofs.endpoint.part_setting.Goals as goal
 
 pub returns-in_default-clause-fault : goal.returns-in_default-clause-fault
@@ -18,12 +17,8 @@ returns-then-has-clause-fault c =
     let cut = split_parts 61 c.args.part.now (Some (c.in-Some.name, c.in-Some.value)) c.in-Some.ensures.cases (lit< tt) in
     (c.in-Some.value.now, cut.0 ∙ ap (λ (n : List ℕ). n ++ 61 ∷ c.in-Some.value.now) c.in-Some-named.ensures.found, sym c.if-has.ensures)
 
-pub returns-clause-set : goal.returns-clause-set
-returns-clause-set c =
+pub returns-in-Some-setting_in-clause-set : goal.returns-in-Some-setting_in-clause-set
+returns-in-Some-setting_in-clause-set c =
     let cut = split_parts 61 c.args.part.now (Some (c.in-Some.name, c.in-Some.value)) c.in-Some.ensures.cases (lit< tt) in
-    IfOk-weaker c.setting.result _ _ (λ s is. (says_it c.in-Some-named.parameter _ _ _ s cut.0 c.in-Some-named.ensures.found is.0 is.1, ap (is_set c.args.settings.now) is.0 ∙ sym c.if-has.ensures)) c.setting.ensures.set
-
-pub returns-clause-fault : goal.returns-clause-fault
-returns-clause-fault c =
-    let cut = split_parts 61 c.args.part.now (Some (c.in-Some.name, c.in-Some.value)) c.in-Some.ensures.cases (lit< tt) in
-    IfErr-weaker c.setting.result _ _ (λ f w. value_wrong c.args.settings.now c.in-Some-named.parameter _ c.in-Some.value.now f (cut.0 ∙ ap (λ (n : List ℕ). n ++ 61 ∷ c.in-Some.value.now) c.in-Some-named.ensures.found) (sym c.if-has.ensures) w) c.setting.ensures.fault
+    let is = c.in-Some-setting_in.ensures.set in
+    (says_it c.in-Some-named.parameter _ _ _ c.in-Some-setting_in.setting cut.0 c.in-Some-named.ensures.found is.0 is.1, ap (is_set c.args.settings.now) is.0 ∙ sym c.if-has.ensures)

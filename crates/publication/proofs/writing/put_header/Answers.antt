@@ -3,7 +3,7 @@ use Rattle.std.specs.Int.{w32, w64, cast_unsigned, from_le_bytes, to_le_bytes}
 use Rattle.std.specs.Prelude.{FitsSigned}
 use Rattle.std.proofs.lemmas.Int.{to_z-of_z}
 use Rattle.theory.specs.Position.{Geometry, id_of, place_of}
-use Rattle.publication.specs.Frames.{header_words}
+use Rattle.frame_words.specs.Words.{header_words}
 use Rattle.publication.specs.Claims.{exactly}
 use Rattle.publication.specs.Offers.{Puts}
 use Rattle.publication.proofs.Steppings.{goes_further, goes_storing}

@@ -2,12 +2,12 @@ use Rattle.std.proofs.Common.{◌≡◌, ℕ, suc, ◌+◌, ◌*◌, ◌/◌, �
 use Rattle.std.specs.Int.{w64, from_le_bytes}
 use Rattle.publication.specs.declared.pass.Pass.{Pass}
 use Rattle.publication.specs.Steps.{HasWord, Stores}
-use Rattle.publication.specs.Frames.{words_in}
+use Rattle.frame_words.specs.Words.{words_in}
 use Rattle.publication.specs.Claims.{TookMore, exactly}
 use Rattle.publication.specs.Offers.{HasRoom, Puts}
 use Rattle.publication.proofs.Steppings.{goes_further, goes_storing, moves, took_more, took_store}
 use Rattle.publication.proofs.Patches.{has_word, puts_more}
-use Rattle.publication.proofs.Wordings.{words_length, words_more}
+use Rattle.frame_words.proofs.Wordings.{words_length, words_more}
 use Rattle.publication.proofs.Filling.{stores_call}
 use Rattle.publication.proofs.writing.put_payload.Goals as goal
 

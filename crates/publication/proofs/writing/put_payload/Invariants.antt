@@ -1,5 +1,5 @@
 use Rattle.publication.specs.Steps.{Moved}
-use Rattle.publication.specs.Frames.{words_in}
+use Rattle.frame_words.specs.Words.{words_in}
 use Rattle.publication.specs.Claims.{TookMore}
 use Rattle.publication.specs.Offers.{Puts}
 use Rattle.publication.proofs.writing.put_payload.Given as goal

@@ -1,12 +1,13 @@
 use Rattle.std.proofs.Common.{◌≡◌, ◌+◌, ◌/◌, ◌≤◌, [], ◌∷◌, arith, refl, sym, subst, length}
 use Rattle.theory.specs.Bytes.{Identity}
 use Rattle.theory.specs.Position.{max_position}
-use Rattle.publication.specs.Frames.{header_words, payload_words, stored_words}
+use Rattle.frame_words.specs.Words.{header_words, payload_words}
+use Rattle.publication.specs.Frames.{stored_words}
 use Rattle.publication.specs.Claims.{exactly}
 use Rattle.publication.specs.Offers.{Puts}
 use Rattle.publication.proofs.Steppings.{goes_further, goes_storing}
 use Rattle.publication.proofs.Patches.{begins_after, blank_room, room_after}
-use Rattle.publication.proofs.Wordings.{words_length}
+use Rattle.frame_words.proofs.Wordings.{words_length}
 use Rattle.publication.proofs.Filling.{all_bytes, commits_call, data_completed, data_filled, data_first}
 use Rattle.publication.proofs.writing.write_data.Goals as goal
 

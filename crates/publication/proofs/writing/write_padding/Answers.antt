@@ -1,7 +1,7 @@
 use Rattle.std.proofs.Common.{◌≤◌, arith, refl, sym, subst}
 use Rattle.theory.specs.Bytes.{Identity}
 use Rattle.theory.specs.Position.{max_position}
-use Rattle.publication.specs.Frames.{header_words}
+use Rattle.frame_words.specs.Words.{header_words}
 use Rattle.publication.specs.Claims.{exactly}
 use Rattle.publication.specs.Offers.{Puts}
 use Rattle.publication.proofs.Steppings.{goes_further, goes_storing}

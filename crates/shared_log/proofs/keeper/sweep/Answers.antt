@@ -1,7 +1,7 @@
 use Rattle.std.proofs.Common.{◌≡◌, ℕ, ◌+◌, ◌<◌, ◌∙◌, List, length, ap, sym, subst, arith}
 use Rattle.std.specs.Prelude.{slice_index}
 use Rattle.theory.specs.Bytes.{Identity}
-use Rattle.theory.specs.Position.{Geometry, max_position}
+use Rattle.theory.specs.Position.{max_position}
 use Rattle.shared_log.specs.Keepers.{IsKeeping, KeeperValue, KnowsWho, flag_of, there_of}
 use Rattle.shared_log.proofs.Joined.{flags_eight, flags_low}
 use Rattle.shared_log.proofs.Sweeping.{SweepsSome, last, next, none, passes, there_on}

@@ -1,5 +1,4 @@
-use Rattle.std.proofs.Common.{◌≡◌, ◌∙◌, ℕ, zero, suc, ◌+◌, ◌-◌, ◌++◌, ◌∷◌, [], Bool, true, false, List, length, map, replicate, set, length-append, sym, refl, ap, subst, arith}
-use Rattle.std.proofs.lemmas.List.{length-replicate}
+use Rattle.std.proofs.Common.{◌≡◌, ◌∙◌, ℕ, zero, suc, ◌+◌, ◌-◌, ◌++◌, ◌∷◌, Bool, true, false, List, map, replicate, set, refl, ap, arith}
 use Rattle.log_rule.specs.Table.{first_there as first_flags}
 use Rattle.shared_log.specs.Keepers.{flag_of}
 use Rattle.shared_log.proofs.parts.first_there.Goals as goal

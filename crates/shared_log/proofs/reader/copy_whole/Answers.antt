@@ -5,7 +5,7 @@ use Rattle.publication.specs.Steps.{term_of}
 use Rattle.log_rule.specs.Claims.Packs.{slot}
 use Rattle.shared_log.specs.Readers.{ReaderValue, Rests}
 use Rattle.shared_log.proofs.Looking.{has_on, reader_on, rests_on}
-use Rattle.shared_log.proofs.Copying.{copied_to}
+use Rattle.frame_words.proofs.Copying.{copied_to}
 use Rattle.shared_log.proofs.reader.copy_whole.Goals as goal
 
 inside : (k w d : ℕ) → 32 + 8 * (k + 1) ≤ 8 * w → d ≡ w - 4 → k < d

@@ -1,5 +1,6 @@
-use Rattle.std.proofs.Common.{refl}
+use Rattle.std.proofs.Common.{◌+◌, refl}
 use Rattle.std.proofs.lemmas.Result.{err_from_is_err_and}
+use Rattle.subscriber.proofs.Lived.{cycle_lives}
 use Rattle.subscriber.proofs.Patience.{patient}
 use Rattle.subscriber.proofs.following.cycle_once.Goals as goal
 
@@ -7,3 +8,9 @@ pub returns-in_err-done-clause-patient : goal.returns-in_err-done-clause-patient
 returns-in_err-done-clause-patient g c =
     let p = err_from_is_err_and c.from_residual.result c.from_residual.ensures.1 in
     rw (p.1, p.2) (patient _ _ _ _ _ _ _ _ _ _ _ _ refl refl c.in_err-done.ensures.fault)
+
+pub returns-then-done-gt0-clause-lives : goal.returns-then-done-gt0-clause-lives
+returns-then-done-gt0-clause-lives g c = cycle_lives c.args.plan.now.end.form _ _ c.args.written (c.args.written + c.in_ok-done.done.messages) _ _ _ _ c.in_ok-done.done _ _ _ refl c.in_ok-done.ensures.done
+
+pub returns-else-done-gt0-clause-lives : goal.returns-else-done-gt0-clause-lives
+returns-else-done-gt0-clause-lives g c = cycle_lives c.args.plan.now.end.form _ _ c.args.written (c.args.written + c.in_ok-done.done.messages) _ _ _ _ c.in_ok-done.done _ _ _ refl c.in_ok-done.ensures.done

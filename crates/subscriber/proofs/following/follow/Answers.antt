@@ -1,4 +1,7 @@
-use Rattle.std.proofs.Common.{◌∙◌, ap}
+use Rattle.std.proofs.Common.{◌∙◌, ap, subst, ℕ, Option, Some}
+use Rattle.subscriber.specs.Leavings.{IsEnding}
+use Rattle.subscription.specs.declared.followed.Notes.{Notes}
+use Rattle.subscriber.proofs.Lived.{attended_life, silent_life}
 use Rattle.subscriber.proofs.Written.{writes_more}
 use Rattle.subscriber.specs.declared.joined.Joined.{Joined}
 use Rattle.subscriber.proofs.following.follow.Goals as goal
@@ -7,7 +10,17 @@ pub loop-preserved : goal.loop-preserved
 loop-preserved g c =
     let wrote = c.in_ok-all.ensures.writes in
     let size = c.attend.ensures.size ∙ ap (λ (j : Joined). j.duty.mtu) c.tell_silence.ensures.same ∙ c.cycle_once.ensures.size in
-    (size, wrote.0, writes_more _ _ _ _ _ _ _ c.loop.invariant.2 wrote.1)
+    let lived = silent_life _ _ _ _ _ _ c.loop.joined c.cycle_once.new.joined c.tell_silence.new.joined c.cycle_once.ensures.number c.tell_silence.ensures.same c.loop.invariant.3 c.in_ok-all.ensures.lives in
+    (size, wrote.0, writes_more _ _ _ _ _ _ _ c.loop.invariant.2 wrote.1, attended_life _ _ _ _ _ _ _ _ c.in_ok-attend.ensures.attends lived)
 
 pub returns-in-Some-ending_of-clause-writes : goal.returns-in-Some-ending_of-clause-writes
 returns-in-Some-ending_of-clause-writes g c = writes_more _ _ _ _ _ _ _ c.loop.invariant.2 c.in_ok-all.ensures.writes.1
+
+pub returns-in-Some-ending_of-clause-ended : goal.returns-in-Some-ending_of-clause-ended
+returns-in-Some-ending_of-clause-ended g c =
+    let end = ap (λ (n : Notes). n.end) (c.notes-end.ensures ∙ ap (λ d. d.notes) c.device-in-loop.ensures) in
+    let ended = subst (λ (e : Option ℕ). IsEnding c.args.plan.now c.in_ok-all.all c.tell.new.watch e c.place.result (Some c.in-Some-ending_of.ending)) end c.in-Some-ending_of.ensures in
+    (c.place.result, c.place.ensures, ended)
+
+pub returns-in-Some-ending_of-clause-lives : goal.returns-in-Some-ending_of-clause-lives
+returns-in-Some-ending_of-clause-lives g c = silent_life _ _ _ _ _ _ c.loop.joined c.cycle_once.new.joined c.tell_silence.new.joined c.cycle_once.ensures.number c.tell_silence.ensures.same c.loop.invariant.3 c.in_ok-all.ensures.lives

@@ -1,4 +1,4 @@
-use Rattle.std.proofs.Common.{◌<◌, ap, subst, arith}
+use Rattle.std.proofs.Common.{◌<◌, subst, arith}
 use Rattle.shared_log.specs.Keepers.{KeeperValue, KnowsWho}
 use Rattle.shared_log.proofs.Joined.{there_below}
 use Rattle.shared_log.proofs.keeper.Keeper.has_other.Goals as goal

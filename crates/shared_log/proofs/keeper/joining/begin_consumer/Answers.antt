@@ -1,4 +1,4 @@
-use Rattle.std.proofs.Common.{ap, subst, sym, ◌≤◌, ◌∙◌}
+use Rattle.std.proofs.Common.{subst, ◌≤◌}
 use Rattle.theory.specs.Bytes.{Identity}
 use Rattle.theory.specs.Position.{max_position}
 use Rattle.shared_log.specs.Keepers.{KeeperValue, KnowsWho}

@@ -1,15 +1,10 @@
-use Rattle.std.proofs.Common.{rules, ◌≡◌, ◌+◌, ◌<◌, ◌≤◌, ◌∷◌, [], ap, refl, subst, sym, ◌∙◌, arith}
-use Rattle.theory.specs.Bytes.{Identity}
-use Rattle.theory.specs.Position.{max_position}
+use Rattle.std.proofs.Common.{rules, ◌≡◌, ap, sym, ◌∙◌, arith}
 use Rattle.publication.specs.declared.pass.Pass.{Pass}
-use Rattle.log_rule.specs.declared.claims.view.View.{View}
 use Rattle.log_rule.specs.Claims.Plays.{Mine, newcomer}
 use Rattle.log_rule.specs.Keepings.{newly}
-use Rattle.log_rule.specs.Table.{first_reading, other_readings, reader_alone, reader_left, reader_right}
+use Rattle.log_rule.specs.Table.{first_reading, other_readings, reader_alone}
 use Rattle.log_rule.proofs.Dealing.{deals_reader}
-use Rattle.shared_log.specs.Handles.{LogValue}
-use Rattle.shared_log.specs.Keepers.{IsKeeping, KeeperValue, KnowsWho}
-use Rattle.shared_log.specs.Readers.{IsReading}
+use Rattle.shared_log.specs.Keepers.{KeeperValue}
 use Rattle.shared_log.proofs.Joined.{alone_reading}
 use Rattle.shared_log.proofs.keeper.joining.deal_consumer.Goals as goal
 

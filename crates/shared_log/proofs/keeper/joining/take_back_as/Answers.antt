@@ -1,7 +1,6 @@
-use Rattle.std.proofs.Common.{rules, ℕ, ◌≡◌, ◌+◌, ◌<◌, ◌++◌, ap, refl, subst, sym, ◌∙◌, arith}
+use Rattle.std.proofs.Common.{rules, ℕ, ◌≡◌, ◌++◌, ap, subst, sym, ◌∙◌, arith}
 use Rattle.theory.specs.Bytes.{Identity}
 use Rattle.atomic_table.specs.Table.{Joins}
-use Rattle.publication.specs.declared.pass.Pass.{Pass}
 use Rattle.log_rule.specs.Claims.Closing.{spent_seat}
 use Rattle.log_rule.specs.Claims.Plays.{Mine}
 use Rattle.log_rule.specs.Table.{LogRuled, reader_alone, returned_seat}

@@ -1,11 +1,10 @@
 use Rattle.std.proofs.Common.{rules, ◌≡◌, set, ap, refl, subst, sym, ◌∙◌, arith}
-use Rattle.std.specs.Prelude.{true, false}
+use Rattle.std.specs.Prelude.{false}
 use Rattle.publication.specs.declared.pass.Pass.{Pass}
-use Rattle.log_rule.specs.Keepings.{MayJoin, joined, left}
+use Rattle.log_rule.specs.Keepings.{left}
 use Rattle.log_rule.specs.Kept.{IsThere}
-use Rattle.shared_log.specs.Joining.{Becomes, HasConsumer}
 use Rattle.shared_log.specs.Keepers.{IsKeeping, KeeperValue, KnowsWho, there_of}
-use Rattle.shared_log.proofs.Joined.{flags_eight, join_here, knows_joined, knows_left, leave_here, there_below}
+use Rattle.shared_log.proofs.Joined.{knows_left, leave_here, there_below}
 use Rattle.log_rule.specs.Keepings.{MayLeave}
 use Rattle.shared_log.proofs.Joined.{may_leave}
 use Rattle.shared_log.proofs.keeper.joining.vacate_as.Goals as goal

@@ -5,7 +5,7 @@ use Rattle.theory.specs.Position.{Geometry, IsGeometry}
 use Rattle.publication.specs.declared.pass.Pass.{Pass}
 use Rattle.log_rule.specs.Table.{first_there}
 use Rattle.shared_log.specs.Handles.{AreNew}
-use Rattle.speed.proofs.Followers.{kept_on, new_kept, new_readers}
+use Rattle.speed.proofs.Followers.{kept_on, new_kept}
 use Rattle.speed.proofs.Limits.{opens_half}
 use Rattle.speed.proofs.Lanes.{new_lanes, new_parts}
 use Rattle.speed.proofs.rounds.opening.open_ready.Goals as goal
@@ -27,9 +27,6 @@ returns-clause-ready c =
       keeper = kept_on l _ _ _ c.clean_and_limit.ensures.done.keeps (kept_on l _ _ _ c.set_connected.ensures.keeps (new_kept l _ p.keeper_is));
       connected = allows.connected;
       limit = (let half = allows.limit in let same : l.identity.geometry.term_length ≡ c.args.geometry.term_length = ap (λ (g : Geometry). g.term_length) shape_is in omega (arith, half, same));
-      readers = new_readers l 0 rs p.readers_are (few (length rs) one);
+      readers = p.of_log;
       one = one;
     }
-  where
-    few : (n : ℕ) → n ≡ 1 → 0 + n ≤ 8
-    few n e = omega arith

@@ -1,0 +1,140 @@
+/* Each code, from a call that has it; and that nothing changes then. */
+#include "pechvang.h"
+#include <stdio.h>
+#include <string.h>
+
+static int wrong;
+
+static void is(int line, long long found, long long wanted) {
+    if (found != wanted) {
+        fprintf(stderr, "line %d: %lld in place of %lld\n", line, found, wanted);
+        wrong = 1;
+    }
+}
+
+#define IS(found, wanted) is(__LINE__, (long long)(found), (long long)(wanted))
+
+static const pv_config good = {.term_length = 1 << 16, .mtu = 1408, .initial_term_id = -1, .session = 1, .stream = 2, .consumers = 1, .start = 64};
+
+static void opening(void) {
+    pv_log log = PV_EMPTY;
+    pv_config config = good;
+    config.term_length = 65535;
+    IS(pv_open(&config, &log), PV_BAD_TERM_LENGTH);
+    config = good, config.mtu = 1000;
+    IS(pv_open(&config, &log), PV_BAD_MTU);
+    config = good, config.start = 33;
+    IS(pv_open(&config, &log), PV_BAD_START);
+    config = good, config.consumers = 9;
+    IS(pv_open(&config, &log), PV_BAD_CONSUMERS);
+    config.consumers = 0;
+    IS(pv_open(&config, &log), PV_BAD_CONSUMERS);
+    IS(log.handle.is_open, false);
+    pv_publisher publisher = PV_EMPTY;
+    IS(pv_take_publisher(&log, &publisher), PV_EMPTY_HANDLE);
+    IS(pv_open(&good, &log), PV_DONE);
+    IS(pv_open(&good, &log), PV_DONE);
+    pv_publisher publishers[8];
+    for (int k = 0; k < 8; k++) {
+        pv_publisher next = PV_EMPTY;
+        publishers[k] = next;
+        IS(pv_take_publisher(&log, &publishers[k]), PV_DONE);
+    }
+    IS(pv_take_publisher(&log, &publisher), PV_NONE_LEFT);
+    pv_free_log(&log);
+    for (int k = 0; k < 8; k++) pv_free_publisher(&publishers[k]);
+    pv_free_publisher(&publisher);
+    pv_free_log(&log);
+}
+
+static void calls(void) {
+    pv_log log = PV_EMPTY;
+    pv_publisher publisher = PV_EMPTY, other = PV_EMPTY;
+    pv_reader reader = PV_EMPTY, second = PV_EMPTY;
+    pv_keeper keeper = PV_EMPTY;
+    static uint8_t bytes[1 << 16], room[2048];
+    pv_frame frame = {1, 2, 3, false};
+    uint64_t position = 99;
+    IS(pv_offer(&publisher, bytes, 1, &position), PV_EMPTY_HANDLE);
+    IS(pv_open(&good, &log), PV_DONE);
+    IS(pv_take_publisher(&log, &publisher), PV_DONE);
+    IS(pv_take_publisher(&log, &other), PV_DONE);
+    IS(pv_take_reader(&log, &reader), PV_DONE);
+    IS(pv_take_reader(&log, &second), PV_NONE_LEFT);
+    IS(pv_take_keeper(&log, &keeper), PV_DONE);
+    IS(pv_take_keeper(&log, (pv_keeper *)&second), PV_NONE_LEFT);
+    IS(pv_offer((pv_publisher *)&reader, bytes, 1, &position), PV_WRONG_HANDLE);
+    IS(pv_advance((pv_reader *)&keeper), PV_WRONG_HANDLE);
+    IS(pv_offer(&publisher, bytes, 1, &position), PV_NOT_CONNECTED);
+    IS(pv_offer(&publisher, bytes, 8193, &position), PV_TOO_LONG);
+    IS(position, 99);
+    IS(pv_set_connected(&keeper, true), PV_DONE);
+    IS(pv_offer(&publisher, bytes, 1, &position), PV_BACK_PRESSURED);
+    IS(pv_clean_and_limit(&keeper, &position), PV_DONE);
+    IS(position, 64 + 32768);
+    IS(pv_offer(&publisher, bytes, 5, &position), PV_DONE);
+    IS(position, 128);
+
+    IS(pv_commit(&publisher, &position), PV_NO_CLAIM);
+    IS(pv_abort(&publisher, &position), PV_NO_CLAIM);
+    IS(pv_claim_write(&publisher, 0, bytes, 1), PV_NO_CLAIM);
+    IS(pv_claim(&publisher, 1377, &position), PV_TOO_LONG);
+    IS(pv_claim(&publisher, 100, &position), PV_DONE);
+    IS(position, 128);
+    IS(pv_claim(&publisher, 1, &position), PV_CLAIM_OPEN);
+    IS(pv_offer(&publisher, bytes, 1, &position), PV_CLAIM_OPEN);
+    IS(pv_share(&publisher, &position), PV_CLAIM_OPEN);
+    IS(pv_claim_write(&publisher, 98, (const uint8_t *)"abc", 3), PV_OUTSIDE_CLAIM);
+    IS(pv_claim_write(&publisher, SIZE_MAX, (const uint8_t *)"abc", 3), PV_OUTSIDE_CLAIM);
+    IS(pv_claim_write(&publisher, 97, (const uint8_t *)"abc", 3), PV_DONE);
+
+    IS(pv_next(&reader, room, 4, &frame), PV_ROOM_TOO_SMALL);
+    IS(frame.position, 64);
+    IS(frame.length, 5);
+    IS(pv_advance(&reader), PV_DONE);
+    IS(pv_next(&reader, room, 5, &frame), PV_FRAME);
+    IS(frame.flags, 192);
+    IS(pv_advance(&reader), PV_FRAME);
+    IS(pv_next(&reader, room, sizeof room, &frame), PV_DONE);
+    IS(frame.length, 5);
+    IS(pv_commit(&publisher, &position), PV_DONE);
+    IS(position, 288);
+    IS(pv_share(&publisher, &position), PV_DONE);
+    IS(position, 224);
+    IS(pv_next(&reader, room, sizeof room, &frame), PV_FRAME);
+    IS(frame.position, 128);
+    IS(frame.length, 100);
+    IS(memcmp(room + 96, "\0abc", 4), 0);
+    IS(pv_advance(&reader), PV_FRAME);
+
+    /* a handle that is freed with its claim open leaves a padding */
+    IS(pv_claim(&other, 10, &position), PV_DONE);
+    pv_free_publisher(&other);
+    IS(pv_commit(&other, &position), PV_EMPTY_HANDLE);
+    IS(pv_next(&reader, room, 0, &frame), PV_FRAME);
+    IS(frame.is_data, false);
+    IS(frame.length, 0);
+    IS(pv_advance(&reader), PV_FRAME);
+
+    for (int k = 0; k < 7; k++) {
+        pv_reader joined = PV_EMPTY;
+        IS(pv_join(&keeper, &joined), PV_DONE);
+        pv_free_reader(&joined);
+    }
+    IS(pv_join(&keeper, &second), PV_FULL);
+    IS(pv_set_closed(&keeper), PV_DONE);
+    IS(pv_offer(&publisher, bytes, 1, &position), PV_CLOSED);
+    pv_free_log(&log);
+    pv_free_publisher(&publisher);
+    pv_free_publisher(&publisher);
+    pv_free_reader(&reader);
+    pv_free_keeper(&keeper);
+    IS(pv_clean_and_limit(&keeper, &position), PV_EMPTY_HANDLE);
+}
+
+int main(void) {
+    opening();
+    calls();
+    if (!wrong) puts("codes as told");
+    return wrong;
+}

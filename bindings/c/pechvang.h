@@ -1,0 +1,172 @@
+/* A log that threads share without a lock: publishers offer messages or claim room for them, readers read frames, a keeper
+   cleans behind the readers and raises the limit. docs/LIBRARY.md tells how to link it and what is proved of it.
+
+   Handles. A handle begins as PV_EMPTY and is the library's from then on: its fields are neither read nor written. It is moved,
+   never copied: after `b = a` only `b` is used. A call that puts something into a handle lets go what that held before. A handle
+   that holds nothing, or something that the call isn't for, is answered by a code, and nothing changes. pv_free_.. may be called
+   at any time, in any order, and again: the log lives until its last handle is freed, and an open claim is aborted then.
+
+   Threads. A handle is used by one call at a time. Different handles of one log are used from any threads at once, with no
+   lock. A handle goes to another thread by that thread's start or join, by a lock, or by a sequentially consistent atomic. No
+   call blocks, and none but pv_open, pv_take_.., pv_join and pv_free_.. takes or gives back memory.
+
+   Pointers are not null, valid for the call, and no two arguments of a call overlap. No call is made from a signal handler, nor in
+   the child of a process with threads after fork. malloc, realloc and free are one allocator, aligned to 16 bytes. */
+#ifndef PECHVANG_H
+#define PECHVANG_H
+
+#include <stdbool.h>
+#include <stddef.h>
+#include <stdint.h>
+
+#ifdef __cplusplus
+extern "C" {
+#endif
+
+#define PV_VERSION_MAJOR 0
+#define PV_VERSION_MINOR 1
+
+/* ---- handles: a type for each kind, so that the compiler tells them apart */
+
+typedef struct pv_handle {
+    void *at;
+    bool is_open;
+} pv_handle;
+
+typedef struct pv_log { pv_handle handle; } pv_log;
+typedef struct pv_publisher { pv_handle handle; } pv_publisher;
+typedef struct pv_reader { pv_handle handle; } pv_reader;
+typedef struct pv_keeper { pv_handle handle; } pv_keeper;
+
+#define PV_EMPTY {{0, false}}
+
+/* ---- codes */
+
+typedef enum pv_code {
+    PV_DONE = 0,                /* done; pv_next: no frame yet; pv_advance: none was read */
+    PV_FRAME = 1,               /* pv_next: a frame was read; pv_advance: it was passed */
+    PV_NOT_CONNECTED = -1,      /* nobody is connected, and the tail is at the limit */
+    PV_BACK_PRESSURED = -2,     /* the tail is at the limit */
+    PV_ADMIN_ACTION = -3,       /* a term came to its end: offer again */
+    PV_CLOSED = -4,             /* the log is closed, for good */
+    PV_MAX_POSITION = -5,       /* the last term is used up, for good */
+    PV_TOO_LONG = -6,           /* an offer above an eighth of a term, a claim above the MTU less 32 */
+    PV_ROOM_TOO_SMALL = -7,     /* the frame's payload is longer than the room; it stays unread, and is told */
+    PV_CLAIM_OPEN = -8,         /* a claim is open: commit or abort it first */
+    PV_NO_CLAIM = -9,           /* no claim is open */
+    PV_OUTSIDE_CLAIM = -10,     /* these bytes aren't all inside the claim */
+    PV_EMPTY_HANDLE = -16,      /* the handle holds nothing */
+    PV_WRONG_HANDLE = -17,      /* the handle holds something else */
+    PV_NONE_LEFT = -18,         /* all of this kind are taken */
+    PV_NO_MEMORY = -19,         /* memory was refused */
+    PV_BAD_TERM_LENGTH = -20,   /* not a power of two from 65,536 to 16,777,216 */
+    PV_BAD_MTU = -21,           /* not a multiple of 32 from 256 to 65,504, or more than an eighth of a term */
+    PV_BAD_START = -22,         /* not a multiple of 32, or not below the greatest position */
+    PV_BAD_CONSUMERS = -23,     /* not from 1 to 8 */
+    PV_FULL = -24               /* eight readers are there */
+} pv_code;
+
+static inline const char *pv_code_text(int32_t code) {
+    switch (code) {
+    case PV_DONE: return "done";
+    case PV_FRAME: return "a frame";
+    case PV_NOT_CONNECTED: return "nobody is connected";
+    case PV_BACK_PRESSURED: return "the tail is at the limit";
+    case PV_ADMIN_ACTION: return "a term came to its end";
+    case PV_CLOSED: return "the log is closed";
+    case PV_MAX_POSITION: return "the last term is used up";
+    case PV_TOO_LONG: return "the message is too long";
+    case PV_ROOM_TOO_SMALL: return "the room is too small";
+    case PV_CLAIM_OPEN: return "a claim is open";
+    case PV_NO_CLAIM: return "no claim is open";
+    case PV_OUTSIDE_CLAIM: return "bytes outside the claim";
+    case PV_EMPTY_HANDLE: return "the handle holds nothing";
+    case PV_WRONG_HANDLE: return "the handle holds something else";
+    case PV_NONE_LEFT: return "all of this kind are taken";
+    case PV_NO_MEMORY: return "memory was refused";
+    case PV_BAD_TERM_LENGTH: return "the term length is out of range";
+    case PV_BAD_MTU: return "the MTU is out of range";
+    case PV_BAD_START: return "the start is out of range";
+    case PV_BAD_CONSUMERS: return "there are from 1 to 8 consumers";
+    case PV_FULL: return "eight readers are there";
+    default: return "no code of this library";
+    }
+}
+
+/* ---- a log */
+
+typedef struct pv_config {
+    uint32_t term_length;       /* bytes: a power of two from 65,536 to 16,777,216 */
+    uint32_t mtu;               /* the most bytes of one frame: a multiple of 32 from 256 to an eighth of a term, 65,504 at most */
+    int32_t initial_term_id;
+    int32_t session;
+    int32_t stream;
+    uint32_t consumers;         /* readers at the start: from 1 to 8 */
+    uint64_t start;             /* the position at which the stream begins, a multiple of 32 */
+} pv_config;
+
+/* Opens a log with eight publishers, its readers and its keeper. It is unconnected: offers are refused until the keeper says
+   otherwise and raises the limit. */
+int32_t pv_open(const pv_config *config, pv_log *log);
+
+/* Each takes the first that nobody took yet. */
+int32_t pv_take_publisher(pv_log *log, pv_publisher *publisher);
+int32_t pv_take_reader(pv_log *log, pv_reader *reader);
+int32_t pv_take_keeper(pv_log *log, pv_keeper *keeper);
+
+/* ---- a publisher: an offer, or a claim that is written and then committed or aborted */
+
+/* PV_DONE, and the position behind the message's frames; or a refusal. */
+int32_t pv_offer(pv_publisher *publisher, const uint8_t *message, size_t length, uint64_t *position);
+
+/* PV_DONE, and the position at which the claim begins: it has `length` zeros. Readers wait before it until it ends. */
+int32_t pv_claim(pv_publisher *publisher, size_t length, uint64_t *start);
+
+int32_t pv_claim_write(pv_publisher *publisher, size_t offset, const uint8_t *bytes, size_t length);
+
+/* PV_DONE, and the position behind the claim: with its message, or as a padding that readers pass. */
+int32_t pv_commit(pv_publisher *publisher, uint64_t *position);
+int32_t pv_abort(pv_publisher *publisher, uint64_t *position);
+
+/* How many bytes of the stream all claims and offers of the publisher cover. */
+int32_t pv_share(pv_publisher *publisher, uint64_t *share);
+
+/* ---- a reader */
+
+typedef struct pv_frame {
+    uint64_t position;          /* where it starts */
+    size_t length;              /* of its payload; 0 of a padding */
+    uint8_t flags;              /* 128 where a message begins, 64 where it ends, 192 of a whole one */
+    bool is_data;               /* else it is a padding, to be passed */
+} pv_frame;
+
+/* PV_FRAME: the frame where the reader stands, its payload at the front of the room; the reader stays. PV_DONE: none yet. */
+int32_t pv_next(pv_reader *reader, uint8_t *room, size_t size, pv_frame *frame);
+
+/* PV_FRAME: the reader stands behind the frame that it read. PV_DONE: it had read none. */
+int32_t pv_advance(pv_reader *reader);
+
+/* ---- the keeper */
+
+/* Cleans what all readers have left behind by a term or more, and raises the limit to half a term above the least of them. */
+int32_t pv_clean_and_limit(pv_keeper *keeper, uint64_t *limit);
+
+int32_t pv_set_connected(pv_keeper *keeper, bool connected);
+int32_t pv_set_closed(pv_keeper *keeper);
+
+/* Opens a reader at the position of the least one. */
+int32_t pv_join(pv_keeper *keeper, pv_reader *reader);
+
+/* ---- freeing */
+
+void pv_free(pv_handle *handle);
+
+static inline void pv_free_log(pv_log *log) { pv_free(&log->handle); }
+static inline void pv_free_publisher(pv_publisher *publisher) { pv_free(&publisher->handle); }
+static inline void pv_free_reader(pv_reader *reader) { pv_free(&reader->handle); }
+static inline void pv_free_keeper(pv_keeper *keeper) { pv_free(&keeper->handle); }
+
+#ifdef __cplusplus
+}
+#endif
+#endif

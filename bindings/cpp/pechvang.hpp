@@ -1,0 +1,142 @@
+// A log that threads share without a lock, for C++: handles that are moved and freed by themselves, and codes that are thrown
+// where they are faults. pechvang.h tells the rules of threads and pointers.
+#ifndef PECHVANG_HPP
+#define PECHVANG_HPP
+
+#include "pechvang.h"
+
+#include <cstdint>
+#include <optional>
+#include <span>
+#include <stdexcept>
+#include <utility>
+
+namespace pechvang {
+
+class Fault : public std::runtime_error {
+public:
+    explicit Fault(std::int32_t code) : std::runtime_error(pv_code_text(code)), code_(code) {}
+    std::int32_t code() const { return code_; }
+
+private:
+    std::int32_t code_;
+};
+
+inline void must(std::int32_t code) {
+    if (code < 0) throw Fault(code);
+}
+
+// Each handle on a cache line of its own, since each call writes it.
+template <class H>
+class alignas(64) Handle {
+public:
+    Handle() = default;
+    Handle(Handle &&other) noexcept : handle_(std::exchange(other.handle_, H PV_EMPTY)) {}
+    Handle &operator=(Handle &&other) noexcept {
+        if (this != &other) {
+            pv_free(&handle_.handle);
+            handle_ = std::exchange(other.handle_, H PV_EMPTY);
+        }
+        return *this;
+    }
+    ~Handle() { pv_free(&handle_.handle); }
+    Handle(const Handle &) = delete;
+    Handle &operator=(const Handle &) = delete;
+
+    H *get() { return &handle_; }
+
+private:
+    H handle_ = PV_EMPTY;
+};
+
+class Publisher : public Handle<pv_publisher> {
+public:
+    // The position behind the message, or nothing where it may be accepted later.
+    std::optional<std::uint64_t> offer(std::span<const std::uint8_t> message) {
+        std::uint64_t position = 0;
+        return answer(pv_offer(get(), message.data(), message.size(), &position), position);
+    }
+    std::optional<std::uint64_t> claim(std::size_t length) {
+        std::uint64_t start = 0;
+        return answer(pv_claim(get(), length, &start), start);
+    }
+    void write(std::size_t offset, std::span<const std::uint8_t> bytes) { must(pv_claim_write(get(), offset, bytes.data(), bytes.size())); }
+    std::uint64_t commit() {
+        std::uint64_t position = 0;
+        must(pv_commit(get(), &position));
+        return position;
+    }
+    std::uint64_t abort() {
+        std::uint64_t position = 0;
+        must(pv_abort(get(), &position));
+        return position;
+    }
+    std::uint64_t share() {
+        std::uint64_t bytes = 0;
+        must(pv_share(get(), &bytes));
+        return bytes;
+    }
+
+private:
+    static std::optional<std::uint64_t> answer(std::int32_t code, std::uint64_t position) {
+        if (code == PV_NOT_CONNECTED || code == PV_BACK_PRESSURED || code == PV_ADMIN_ACTION) return std::nullopt;
+        must(code);
+        return position;
+    }
+};
+
+class Reader : public Handle<pv_reader> {
+public:
+    // The frame where the reader stands, its payload at the front of the room.
+    std::optional<pv_frame> next(std::span<std::uint8_t> room) {
+        pv_frame frame{};
+        std::int32_t code = pv_next(get(), room.data(), room.size(), &frame);
+        must(code);
+        return code == PV_FRAME ? std::optional(frame) : std::nullopt;
+    }
+    bool advance() {
+        std::int32_t code = pv_advance(get());
+        must(code);
+        return code == PV_FRAME;
+    }
+};
+
+class Keeper : public Handle<pv_keeper> {
+public:
+    std::uint64_t clean_and_limit() {
+        std::uint64_t limit = 0;
+        must(pv_clean_and_limit(get(), &limit));
+        return limit;
+    }
+    void connect(bool connected) { must(pv_set_connected(get(), connected)); }
+    void close() { must(pv_set_closed(get())); }
+    Reader join() {
+        Reader reader;
+        must(pv_join(get(), reader.get()));
+        return reader;
+    }
+};
+
+class Log : public Handle<pv_log> {
+public:
+    explicit Log(const pv_config &config) { must(pv_open(&config, get())); }
+    Publisher publisher() {
+        Publisher taken;
+        must(pv_take_publisher(get(), taken.get()));
+        return taken;
+    }
+    Reader reader() {
+        Reader taken;
+        must(pv_take_reader(get(), taken.get()));
+        return taken;
+    }
+    Keeper keeper() {
+        Keeper taken;
+        must(pv_take_keeper(get(), taken.get()));
+        return taken;
+    }
+};
+
+} // namespace pechvang
+
+#endif

@@ -1,0 +1,190 @@
+"""A log that threads share without a lock, for Python, over a shared library made of the archive.
+
+    log = Log(library); publisher, reader, keeper = log.publisher(), log.reader(), log.keeper()
+    keeper.set_connected(True); keeper.clean_and_limit()
+    publisher.offer(b"hello")
+    for message in reader.messages(): ...
+
+ctypes lets go of Python's own lock during a call: each handle is for one thread at a time, as in C. Run as a program, it takes
+the path of the shared library, and shows a thread that publishes and a generator of its messages.
+"""
+import ctypes
+import sys
+import threading
+import time
+
+DONE, FRAME = 0, 1
+MAY_PASS = (-1, -2, -3)
+
+
+class Fault(Exception):
+    """A code below zero, as pechvang.h names it."""
+
+    def __init__(self, code):
+        super().__init__(f"code {code}")
+        self.code = code
+
+
+class Config(ctypes.Structure):
+    _fields_ = [("term_length", ctypes.c_uint32), ("mtu", ctypes.c_uint32), ("initial_term_id", ctypes.c_int32), ("session", ctypes.c_int32),
+                ("stream", ctypes.c_int32), ("consumers", ctypes.c_uint32), ("start", ctypes.c_uint64)]
+
+
+class Frame(ctypes.Structure):
+    _fields_ = [("position", ctypes.c_uint64), ("length", ctypes.c_size_t), ("flags", ctypes.c_uint8), ("is_data", ctypes.c_bool)]
+
+
+class _Handle(ctypes.Structure):
+    _fields_ = [("at", ctypes.c_void_p), ("is_open", ctypes.c_bool)]
+
+
+class Pass:
+    """What a handle holds; freed when it is collected, or by `free`."""
+
+    def __init__(self, library):
+        self.library = library
+        self.handle = _Handle()
+
+    def call(self, name, *words):
+        code = getattr(self.library, name)(ctypes.byref(self.handle), *words)
+        if code < 0:
+            raise Fault(code)
+        return code
+
+    def number(self, name, *words):
+        found = ctypes.c_uint64()
+        self.call(name, *words, ctypes.byref(found))
+        return found.value
+
+    def free(self):
+        self.library.pv_free(ctypes.byref(self.handle))
+
+    def __del__(self):
+        self.free()
+
+
+class Publisher(Pass):
+    def offer(self, message):
+        """The position behind the message, or None where it may be accepted later."""
+        try:
+            return self.number("pv_offer", message, ctypes.c_size_t(len(message)))
+        except Fault as fault:
+            if fault.code in MAY_PASS:
+                return None
+            raise
+
+    def claim(self, length):
+        return self.number("pv_claim", ctypes.c_size_t(length))
+
+    def write(self, offset, part):
+        self.call("pv_claim_write", ctypes.c_size_t(offset), part, ctypes.c_size_t(len(part)))
+
+    def commit(self):
+        return self.number("pv_commit")
+
+    def abort(self):
+        return self.number("pv_abort")
+
+    def share(self):
+        return self.number("pv_share")
+
+
+class Reader(Pass):
+    def messages(self, room=65504, wait=lambda: time.sleep(0)):
+        """Whole messages, for good; `wait` is called where there is none yet, and ends it by an answer that is true."""
+        bytes_, frame, parts = ctypes.create_string_buffer(room), Frame(), []
+        while True:
+            if self.call("pv_next", bytes_, ctypes.c_size_t(room), ctypes.byref(frame)) == DONE:
+                if wait():
+                    return
+                continue
+            if frame.is_data:
+                if frame.flags & 128:
+                    parts = []
+                parts.append(bytes_.raw[:frame.length])
+            self.call("pv_advance")
+            if frame.is_data and frame.flags & 64:
+                yield b"".join(parts)
+
+
+class Keeper(Pass):
+    def clean_and_limit(self):
+        return self.number("pv_clean_and_limit")
+
+    def set_connected(self, connected):
+        self.call("pv_set_connected", ctypes.c_bool(connected))
+
+    def set_closed(self):
+        self.call("pv_set_closed")
+
+    def join(self):
+        reader = Reader(self.library)
+        self.call("pv_join", ctypes.byref(reader.handle))
+        return reader
+
+
+class Log(Pass):
+    def __init__(self, path, config=Config(1 << 16, 1408, 7, 1, 1001, 1, 0)):
+        super().__init__(ctypes.CDLL(path))
+        code = self.library.pv_open(ctypes.byref(config), ctypes.byref(self.handle))
+        if code < 0:
+            raise Fault(code)
+
+    def take(self, name, taken):
+        self.call(name, ctypes.byref(taken.handle))
+        return taken
+
+    def publisher(self):
+        return self.take("pv_take_publisher", Publisher(self.library))
+
+    def reader(self):
+        return self.take("pv_take_reader", Reader(self.library))
+
+    def keeper(self):
+        return self.take("pv_take_keeper", Keeper(self.library))
+
+
+def main():
+    log = Log(sys.argv[1])
+    publisher, reader, keeper = log.publisher(), log.reader(), log.keeper()
+    log.free()
+    keeper.set_connected(True)
+    keeper.clean_and_limit()
+    wanted = [bytes([k % 251]) * (k % 5000) for k in range(2000)]
+
+    def publish():
+        for k, message in enumerate(wanted):
+            if k % 4 == 0 and len(message) <= 1376:
+                while True:
+                    try:
+                        publisher.claim(len(message))
+                        break
+                    except Fault as fault:
+                        if fault.code not in MAY_PASS:
+                            raise
+                        time.sleep(0)
+                publisher.write(0, message)
+                publisher.commit()
+            else:
+                while publisher.offer(message) is None:
+                    time.sleep(0)
+
+    thread = threading.Thread(target=publish)
+    thread.start()
+    found = []
+    for message in reader.messages(wait=lambda: keeper.clean_and_limit() < 0):
+        found.append(message)
+        if len(found) == len(wanted):
+            break
+    thread.join()
+    assert found == wanted, "the messages are others"
+    try:
+        publisher.commit()
+        raise AssertionError("a commit without a claim")
+    except Fault as fault:
+        assert fault.code == -9
+    print(f"{len(found)} messages, {publisher.share()} bytes")
+
+
+if __name__ == "__main__":
+    main()

@@ -1,0 +1,275 @@
+//! A log that threads share without a lock, for Rust: handles that are freed by `Drop` and go to other threads. The rules of
+//! `pechvang.h` are kept by the types: a handle is used by one call at a time, and moved, never copied.
+//!
+//! `main` shows it: four publishers in threads of their own, and a reader that keeps the log.
+
+use std::ffi::c_void;
+use std::fmt;
+use std::ptr::null_mut;
+use std::thread;
+
+#[repr(C)]
+struct Handle {
+    at: *mut c_void,
+    is_open: bool,
+}
+
+impl Handle {
+    const EMPTY: Handle = Handle {
+        at: null_mut(),
+        is_open: false,
+    };
+}
+
+// SAFETY: it is proved of the library that a handle may go to another thread.
+unsafe impl Send for Handle {}
+
+impl Drop for Handle {
+    fn drop(&mut self) {
+        // SAFETY: the handle is one of the library's, and no call uses it.
+        unsafe { pv_free(self) }
+    }
+}
+
+#[repr(C)]
+#[derive(Clone, Copy, Debug)]
+pub struct Config {
+    pub term_length: u32,
+    pub mtu: u32,
+    pub initial_term_id: i32,
+    pub session: i32,
+    pub stream: i32,
+    pub consumers: u32,
+    pub start: u64,
+}
+
+#[repr(C)]
+#[derive(Clone, Copy, Debug, Default)]
+pub struct Frame {
+    pub position: u64,
+    pub length: usize,
+    pub flags: u8,
+    pub is_data: bool,
+}
+
+extern "C" {
+    fn pv_open(config: &Config, log: &mut Handle) -> i32;
+    fn pv_take_publisher(log: &mut Handle, publisher: &mut Handle) -> i32;
+    fn pv_take_reader(log: &mut Handle, reader: &mut Handle) -> i32;
+    fn pv_take_keeper(log: &mut Handle, keeper: &mut Handle) -> i32;
+    fn pv_offer(publisher: &mut Handle, message: *const u8, length: usize, position: &mut u64) -> i32;
+    fn pv_claim(publisher: &mut Handle, length: usize, start: &mut u64) -> i32;
+    fn pv_claim_write(publisher: &mut Handle, offset: usize, bytes: *const u8, length: usize) -> i32;
+    fn pv_commit(publisher: &mut Handle, position: &mut u64) -> i32;
+    fn pv_abort(publisher: &mut Handle, position: &mut u64) -> i32;
+    fn pv_share(publisher: &mut Handle, share: &mut u64) -> i32;
+    fn pv_next(reader: &mut Handle, room: *mut u8, size: usize, frame: &mut Frame) -> i32;
+    fn pv_advance(reader: &mut Handle) -> i32;
+    fn pv_clean_and_limit(keeper: &mut Handle, limit: &mut u64) -> i32;
+    fn pv_set_connected(keeper: &mut Handle, connected: bool) -> i32;
+    fn pv_set_closed(keeper: &mut Handle) -> i32;
+    fn pv_join(keeper: &mut Handle, reader: &mut Handle) -> i32;
+    fn pv_free(handle: &mut Handle);
+}
+
+/// Why a call fails: the code that `pechvang.h` names.
+#[derive(Clone, Copy, Debug, PartialEq, Eq)]
+pub struct Fault(pub i32);
+
+impl Fault {
+    /// Whether the same call may be accepted later.
+    pub fn may_pass(self) -> bool {
+        (-3..=-1).contains(&self.0)
+    }
+}
+
+impl fmt::Display for Fault {
+    fn fmt(&self, f: &mut fmt::Formatter<'_>) -> fmt::Result {
+        write!(f, "code {}", self.0)
+    }
+}
+
+impl std::error::Error for Fault {}
+
+fn answer<T>(code: i32, value: T) -> Result<T, Fault> {
+    if code < 0 { Err(Fault(code)) } else { Ok(value) }
+}
+
+// SAFETY of all calls below: references are valid and don't overlap, and a slice's pointer has its length.
+
+pub struct Log(Handle);
+pub struct Publisher(Handle);
+pub struct Reader(Handle);
+pub struct Keeper(Handle);
+
+impl Log {
+    pub fn open(config: &Config) -> Result<Log, Fault> {
+        let mut log = Handle::EMPTY;
+        answer(unsafe { pv_open(config, &mut log) }, ())?;
+        Ok(Log(log))
+    }
+
+    pub fn publisher(&mut self) -> Result<Publisher, Fault> {
+        let mut taken = Handle::EMPTY;
+        answer(unsafe { pv_take_publisher(&mut self.0, &mut taken) }, ())?;
+        Ok(Publisher(taken))
+    }
+
+    pub fn reader(&mut self) -> Result<Reader, Fault> {
+        let mut taken = Handle::EMPTY;
+        answer(unsafe { pv_take_reader(&mut self.0, &mut taken) }, ())?;
+        Ok(Reader(taken))
+    }
+
+    pub fn keeper(&mut self) -> Result<Keeper, Fault> {
+        let mut taken = Handle::EMPTY;
+        answer(unsafe { pv_take_keeper(&mut self.0, &mut taken) }, ())?;
+        Ok(Keeper(taken))
+    }
+}
+
+impl Publisher {
+    /// The position behind the message.
+    pub fn offer(&mut self, message: &[u8]) -> Result<u64, Fault> {
+        let mut position = 0;
+        let code = unsafe { pv_offer(&mut self.0, message.as_ptr(), message.len(), &mut position) };
+        answer(code, position)
+    }
+
+    /// An open claim, which is aborted if it is dropped.
+    pub fn claim(&mut self, length: usize) -> Result<Claim<'_>, Fault> {
+        let mut start = 0;
+        answer(unsafe { pv_claim(&mut self.0, length, &mut start) }, ())?;
+        Ok(Claim(self))
+    }
+
+    /// How many bytes of the stream are its own.
+    pub fn share(&mut self) -> Result<u64, Fault> {
+        let mut share = 0;
+        let code = unsafe { pv_share(&mut self.0, &mut share) };
+        answer(code, share)
+    }
+}
+
+pub struct Claim<'a>(&'a mut Publisher);
+
+impl Claim<'_> {
+    pub fn write(&mut self, offset: usize, bytes: &[u8]) -> Result<(), Fault> {
+        let code = unsafe { pv_claim_write(&mut self.0.0, offset, bytes.as_ptr(), bytes.len()) };
+        answer(code, ())
+    }
+
+    /// The position behind it.
+    pub fn commit(self) -> Result<u64, Fault> {
+        let mut position = 0;
+        let code = unsafe { pv_commit(&mut self.0.0, &mut position) };
+        answer(code, position)
+    }
+}
+
+impl Drop for Claim<'_> {
+    fn drop(&mut self) {
+        // Where it was committed, this is a code and changes nothing.
+        let mut position = 0;
+        unsafe { pv_abort(&mut self.0.0, &mut position) };
+    }
+}
+
+impl Reader {
+    /// The frame where the reader stands, its payload at the front of the room.
+    pub fn next(&mut self, room: &mut [u8]) -> Result<Option<Frame>, Fault> {
+        let mut frame = Frame::default();
+        let code = unsafe { pv_next(&mut self.0, room.as_mut_ptr(), room.len(), &mut frame) };
+        answer(code, (code == 1).then_some(frame))
+    }
+
+    /// Goes behind the frame that was read. Whether one was.
+    pub fn advance(&mut self) -> Result<bool, Fault> {
+        let code = unsafe { pv_advance(&mut self.0) };
+        answer(code, code == 1)
+    }
+}
+
+impl Keeper {
+    pub fn clean_and_limit(&mut self) -> Result<u64, Fault> {
+        let mut limit = 0;
+        let code = unsafe { pv_clean_and_limit(&mut self.0, &mut limit) };
+        answer(code, limit)
+    }
+
+    pub fn set_connected(&mut self, connected: bool) -> Result<(), Fault> {
+        answer(unsafe { pv_set_connected(&mut self.0, connected) }, ())
+    }
+
+    pub fn set_closed(&mut self) -> Result<(), Fault> {
+        answer(unsafe { pv_set_closed(&mut self.0) }, ())
+    }
+
+    pub fn join(&mut self) -> Result<Reader, Fault> {
+        let mut joined = Handle::EMPTY;
+        answer(unsafe { pv_join(&mut self.0, &mut joined) }, ())?;
+        Ok(Reader(joined))
+    }
+}
+
+fn publish(mut publisher: Publisher, number: u32, count: u32) -> Result<u64, Fault> {
+    for k in 0..count {
+        let mut message = [0; 8];
+        message[..4].copy_from_slice(&number.to_le_bytes());
+        message[4..].copy_from_slice(&k.to_le_bytes());
+        loop {
+            let sent = if number == 0 {
+                publisher.claim(8).and_then(|mut claim| {
+                    claim.write(0, &message)?;
+                    claim.commit()
+                })
+            } else {
+                publisher.offer(&message)
+            };
+            match sent {
+                Ok(_) => break,
+                Err(fault) if fault.may_pass() => thread::yield_now(),
+                Err(fault) => return Err(fault),
+            }
+        }
+    }
+    publisher.share()
+}
+
+fn main() -> Result<(), Fault> {
+    const EACH: u32 = 25_000;
+    let config = Config { term_length: 1 << 16, mtu: 1408, initial_term_id: 7, session: 1, stream: 1001, consumers: 1, start: 0 };
+    let mut log = Log::open(&config)?;
+    let (mut reader, mut keeper) = (log.reader()?, log.keeper()?);
+    let mut joined = keeper.join()?;
+    keeper.set_connected(true)?;
+    keeper.clean_and_limit()?;
+    let mut threads = Vec::new();
+    for number in 0..4 {
+        let publisher = log.publisher()?;
+        threads.push(thread::spawn(move || publish(publisher, number, EACH)));
+    }
+    let (mut room, mut other, mut next) = ([0; 1408], [0; 1408], [0; 4]);
+    while next.iter().sum::<u32>() < 4 * EACH {
+        let Some(frame) = reader.next(&mut room)? else {
+            keeper.clean_and_limit()?;
+            thread::yield_now();
+            continue;
+        };
+        let same = joined.next(&mut other)?.expect("the same frame");
+        assert_eq!((same.position, &other[..same.length]), (frame.position, &room[..frame.length]));
+        if frame.is_data {
+            let number = u32::from_le_bytes(room[..4].try_into().expect("four bytes")) as usize;
+            assert_eq!(u32::from_le_bytes(room[4..8].try_into().expect("four bytes")), next[number]);
+            next[number] += 1;
+        }
+        assert!(reader.advance()? && joined.advance()?);
+    }
+    keeper.set_closed()?;
+    let mut shares = 0;
+    for thread in threads {
+        shares += thread.join().expect("a publisher")?;
+    }
+    println!("{} messages, {shares} bytes", next.iter().sum::<u32>());
+    Ok(())
+}

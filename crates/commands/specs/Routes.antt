@@ -1,0 +1,53 @@
+-- Where an end's socket is bound, and to whom it sends.
+use Rattle.std.specs.Prelude.{◌≡◌, ℕ, Option, None, Some}
+use Rattle.std.specs.Net.Addr.{IsUnspecifiedV4, IsUnspecifiedV6, IsV4And, IsV6And, MatchIp}
+use Rattle.std.specs.Net.Socket.{IsPlainSocket, socket_ip, socket_port}
+use Rattle.std.specs.declared.net.IpAddr.{IpAddr}
+use Rattle.std.specs.declared.net.SocketAddr.{SocketAddr}
+use Rattle.channel.specs.Channels.{IsFit, to_address}
+use Rattle.channel.specs.declared.channel.Transport.{Transport}
+use Rattle.channel.specs.declared.host.Host.{Host}
+use Rattle.channel.specs.declared.host.Host.TheVariants.{Address, Name}
+use Rattle.endpoint.specs.declared.udp.Binding.{Binding}
+use Rattle.endpoint.specs.declared.udp.Route.{Route}
+
+-- this address and port, and nothing else
+pub record IsAt (a : IpAddr) (port : ℕ) (s : SocketAddr) : Type 0 where
+  pub address : socket_ip s ≡ a
+  pub plain : IsPlainSocket s port
+
+-- at the endpoint's port an address that goes with what else the channel names
+pub record IsFound (t : Transport) (s : SocketAddr) : Type 0 where
+  pub port : socket_port s ≡ t.endpoint.port
+  pub fit : IsFit (to_address t (socket_ip s))
+
+-- the endpoint's own address, or one that was found for its name
+abbrev pub IsPeer : Transport → Host → SocketAddr → Type 0
+IsPeer t (Address a) s = IsAt a t.endpoint.port s
+IsPeer t (Name n) s = IsFound t s
+
+-- 0.0.0.0 or ::, by the other's family
+abbrev pub IsAnyAddress : IpAddr → IpAddr → Type 0
+IsAnyAddress peer a = MatchIp peer (λ _. IsV4And a IsUnspecifiedV4) (λ _. IsV6And a IsUnspecifiedV6)
+
+-- the interface, or any address
+abbrev pub IsSource : Option IpAddr → IpAddr → IpAddr → Type 0
+IsSource (Some interface) peer a = a ≡ interface
+IsSource None peer a = IsAnyAddress peer a
+
+-- a publisher's: a port that the system chooses, and the channel's time to live
+pub record IsRouteOf (t : Transport) (peer : SocketAddr) (r : Route) : Type 0 where
+  pub peer_is : r.peer ≡ peer
+  pub ttl : r.binding.ttl ≡ t.ttl
+  pub source : IsSource t.interface (socket_ip peer) (socket_ip r.binding.address)
+  pub any_port : IsPlainSocket r.binding.address 0
+
+-- at the interface and the endpoint's port, or at the endpoint's own address
+abbrev pub IsHearing : Option IpAddr → SocketAddr → SocketAddr → Type 0
+IsHearing (Some interface) endpoint s = IsAt interface (socket_port endpoint) s
+IsHearing None endpoint s = s ≡ endpoint
+
+-- a subscriber's
+pub record IsBindingOf (t : Transport) (endpoint : SocketAddr) (b : Binding) : Type 0 where
+  pub address : IsHearing t.interface endpoint b.address
+  pub ttl : b.ttl ≡ t.ttl

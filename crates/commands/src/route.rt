@@ -1,0 +1,103 @@
+//! Where an end's socket is bound, and to whom it sends.
+
+ghost use Rattle.std.specs.Prelude.{◌≡◌, Some, IfErr, IfOk, IfSome, codes, ◌++◌};
+ghost use Rattle.channel.specs.declared.host.Host.TheVariants.{Name as Named};
+ghost use Rattle.channel.specs.declared.host.Name.{Name as AnyName};
+ghost use Rattle.commands.specs.Routes.{IsAnyAddress, IsBindingOf, IsFound, IsPeer, IsRouteOf};
+
+use channel::{Host, Name, Transport};
+use endpoint::{Binding, Route};
+use std::error::Error;
+use std::fmt;
+use std::net::{IpAddr, Ipv4Addr, Ipv6Addr, Net, SocketAddr, ToSocketAddrs};
+
+/// No address of a host of this name is known to the system that goes with what else the channel names.
+#[derive(Clone, Copy, Debug)]
+pub struct NoAddress<'a>(pub &'a str);
+
+impl fmt::Display for NoAddress<'_> {
+    ghost output = { λ fault. Some (codes "no address of " ++ fault.0.now ++ codes " was found") };
+
+    fn fmt<W: fmt::Write>(&self, f: &mut fmt::Formatter<W>) -> fmt::Result {
+        let name = self.0;
+        write!(f, "no address of {name} was found")
+    }
+}
+
+impl Error for NoAddress<'_> {}
+
+/// The first address that the system gives for a name and that goes with what else the channel names.
+fn looked_up<R: Net>(rt: &R, transport: &Transport, name: &Name) -> Option<SocketAddr>
+    ensures { IfSome result (IsFound transport.now) }
+{
+    let port = transport.endpoint.port;
+    let Ok(addresses) = (name.text(), port).to_socket_addrs(rt) else {
+        return None;
+    };
+    for address in addresses {
+        if transport.to_address(address.ip()).is_some() {
+            let mut found = address;
+            found.set_port(port);
+            return Some(found);
+        }
+    }
+    None
+}
+
+/// The address of the channel's endpoint. A name is looked up, once.
+pub(crate) fn peer_of<'a, R: Net>(
+    rt: &R,
+    transport: &'a Transport,
+) -> Result<SocketAddr, NoAddress<'a>>
+    ensures found { IfOk result (IsPeer transport.now transport.now.endpoint.host) }
+    ensures unknown { IfErr result (λ _. (n : AnyName) × (transport.now.endpoint.host ≡ Named n)) }
+{
+    match &transport.endpoint.host {
+        Host::Address(address) => Ok(SocketAddr::new(*address, transport.endpoint.port)),
+        Host::Name(name) => match looked_up(rt, transport, name) {
+            Some(peer) => Ok(peer),
+            None => Err(NoAddress(name.text())),
+        },
+    }
+}
+
+/// The address that stands for all of this machine's, of the family of another.
+fn any_address(peer: IpAddr) -> IpAddr
+    ensures { IsAnyAddress peer result }
+{
+    match peer {
+        IpAddr::V4(_) => IpAddr::V4(Ipv4Addr::UNSPECIFIED),
+        IpAddr::V6(_) => IpAddr::V6(Ipv6Addr::UNSPECIFIED),
+    }
+}
+
+/// The route of a publisher: from the interface, or any address, at a port that the system chooses.
+pub(crate) fn route_of(transport: &Transport, peer: SocketAddr) -> Route
+    ensures { IsRouteOf transport.now peer result }
+{
+    let address = match transport.interface {
+        Some(address) => address,
+        None => any_address(peer.ip()),
+    };
+    Route {
+        binding: Binding {
+            address: SocketAddr::new(address, 0),
+            ttl: transport.ttl,
+        },
+        peer,
+    }
+}
+
+/// Where a subscriber is bound: at the interface, or the endpoint's own address, and the endpoint's port.
+pub(crate) fn binding_of(transport: &Transport, endpoint: SocketAddr) -> Binding
+    ensures { IsBindingOf transport.now endpoint result }
+{
+    let address = match transport.interface {
+        Some(address) => SocketAddr::new(address, endpoint.port()),
+        None => endpoint,
+    };
+    Binding {
+        address,
+        ttl: transport.ttl,
+    }
+}

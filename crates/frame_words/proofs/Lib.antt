@@ -1,0 +1,4 @@
+pub mod Wordings
+pub mod Contents
+pub mod Copying
+mod WordRows

@@ -1,0 +1,22 @@
+//! The words of a header's fields.
+
+ghost use Rattle.std.specs.Prelude.{◌≡◌, ◌<◌, ◌++◌, if◌then◌else◌};
+ghost use Rattle.std.specs.Int.{w32, w64, from_le_bytes, to_le_bytes};
+ghost use Rattle.theory.specs.Wire.{front};
+
+/// The first word of a DATA frame or a padding: its length, version 0, the flags and the type.
+pub fn first_word(padding: bool, flags: u8, frame_length: u32) -> u64
+    requires { 0 < frame_length }
+    ensures value { result ≡ from_le_bytes w64 (front frame_length flags (if padding then 0 else 1)) }
+    ensures nonzero { 0 < result }
+{
+    let kind = if padding { 0 } else { 1 };
+    u64::from(frame_length) + u64::from(flags) * 0x100_0000_0000 + kind * 0x1_0000_0000_0000
+}
+
+/// The word of two fields of four bytes.
+pub fn pair_word(low: u32, high: u32) -> u64
+    ensures { result ≡ from_le_bytes w64 (to_le_bytes w32 low ++ to_le_bytes w32 high) }
+{
+    u64::from(low) + u64::from(high) * 0x1_0000_0000
+}

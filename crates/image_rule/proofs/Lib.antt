@@ -1,0 +1,15 @@
+pub mod Spelt
+pub mod Standing
+pub mod Staying
+pub mod Readers
+pub mod Inserting
+pub mod Stores
+pub mod Runs
+pub mod Starts
+pub mod Storing
+pub mod Clearing
+pub mod Opening
+pub mod Dealing
+pub mod Found
+pub mod Units
+pub mod Events

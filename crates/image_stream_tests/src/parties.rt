@@ -1,0 +1,11 @@
+//! What the threads of these tests have.
+
+use block::Block;
+use shared_image::{ImageReader, Inserter};
+
+/// Who has a thread.
+#[derive(Drop)]
+pub enum Party {
+    Inserting(Inserter),
+    Reading { reader: ImageReader, block: Block },
+}

@@ -1,0 +1,32 @@
+-- The passes of a log that was just opened are its own.
+use Rattle.std.proofs.Common.{◌≡◌, ℕ, zero, suc, ◌+◌, ◌<◌, ◌≤◌, List, [], ◌∷◌, All, length, sym, ap, subst, arith}
+use Rattle.std.specs.declared.option.Option.{Option}
+use Rattle.std.specs.declared.option.Option.TheVariants.{None, Some}
+use Rattle.log_rule.specs.Claims.Handles.{PublisherValue}
+use Rattle.shared_log.specs.Handles.{AreNew, IsOf, LogValue}
+use Rattle.shared_log.specs.Keepers.{KeeperValue}
+use Rattle.shared_log.specs.Parts.{AreReaders, IsNewKeeper}
+use Rattle.shared_log.specs.Readers.{IsReaderOf, ReaderValue}
+
+below : (k n : ℕ) → suc k < suc n → k < n
+below k n lt = omega arith
+
+none_below : {X : Type 0} (k : ℕ) → k < 0 → X
+none_below k lt = absurd (let e : ⊥ = omega arith in e)
+
+pub publishers_fit : (l : LogValue) (n : ℕ) (ps : List PublisherValue) → AreNew l n ps → All (IsOf l) ps
+publishers_fit l n [] new k d lt = none_below k lt
+publishers_fit l n (p ∷ ps) new zero d lt = new.0.of
+publishers_fit l n (p ∷ ps) new (suc k) d lt = publishers_fit l (suc n) ps new.1 k d (below k (length ps) lt)
+
+pub readers_fit : (l : LogValue) (n : ℕ) (rs : List ReaderValue) → AreReaders l n rs → n + length rs ≤ 8 → All (IsReaderOf l) rs
+readers_fit l n [] new few k d lt = none_below k lt
+readers_fit l n (r ∷ rs) new few zero d lt = record { of = new.0.held.of; number = subst (λ (m : ℕ). m < 8) (sym new.0.number_is) (omega (arith, few)) }
+readers_fit l n (r ∷ rs) new few (suc k) d lt = readers_fit l (suc n) rs new.1 (omega (arith, few)) k d (below k (length rs) lt)
+
+abbrev held_in : Option KeeperValue → KeeperValue → KeeperValue
+held_in None k = k
+held_in (Some x) k = x
+
+pub keeper_fits : (l : LogValue) (x : KeeperValue) → IsNewKeeper l x → (k : KeeperValue) → Some x ≡ Some k → IsOf l k.held
+keeper_fits l x new k e = subst (λ (y : KeeperValue). IsOf l y.held) (ap (λ (o : Option KeeperValue). held_in o x) e) new.held.of

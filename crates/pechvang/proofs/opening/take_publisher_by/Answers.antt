@@ -1,0 +1,20 @@
+use Rattle.std.proofs.Common.{inl, inr, refl, sym, subst, pos}
+use Rattle.std.specs.Prelude.{negsuc}
+use mir.Syntax.{w32}
+use mir.Val.{of_z, to_z}
+use Rattle.pechvang.proofs.Coded.{coded}
+use Rattle.std.specs.declared.option.Option.TheVariants.{Some}
+use Rattle.log_passes.specs.declared.Pass.{Pass}
+use Rattle.log_passes.specs.declared.Pass.TheVariants.{Opened}
+use Rattle.log_passes.specs.declared.fault.Fault.TheVariants.{Memory}
+use Rattle.pechvang.specs.Opening.{PublisherTaken}
+use Rattle.pechvang.proofs.opening.take_publisher_by.Goals as goal
+
+pub returns-in_default : goal.returns-in_default
+returns-in_default c = subst (λ (x : Pass). PublisherTaken (Some x) c.args.publisher.now.held (negsuc 18) (Some (Opened c.in-Opened.opened)) c.args.publisher.now.held) (sym (c.in-Opened.is)) (inr (record { fault = Memory; after = c.in-Opened.opened; held = refl; code_is = refl; why = refl }, refl))
+
+pub returns-in-Ok-take_publisher : goal.returns-in-Ok-take_publisher
+returns-in-Ok-take_publisher c = subst (λ (x : Pass). PublisherTaken (Some x) c.args.publisher.now.held (pos 0) (Some (Opened c.take_publisher.new.self)) c.put_new.new.handle.held) (sym (c.in-Opened.is)) (inl record { after = c.take_publisher.new.self; given = c.in-Ok-take_publisher.taken; held = refl; out_is = c.put_new.ensures; code_is = refl; did = c.in-Ok-take_publisher.ensures.taken })
+
+pub returns-in-Err : goal.returns-in-Err
+returns-in-Err c = subst (λ (x : Pass). PublisherTaken (Some x) c.args.publisher.now.held (to_z w32 (of_z w32 c.code.result)) (Some (Opened c.take_publisher.new.self)) c.args.publisher.now.held) (sym (c.in-Opened.is)) (inr (record { fault = c.in-Err.fault; after = c.take_publisher.new.self; held = refl; code_is = coded c.in-Err.fault c.code.result c.code.ensures; why = c.in-Err.ensures.declined }, refl))

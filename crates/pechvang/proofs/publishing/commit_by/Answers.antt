@@ -1,0 +1,9 @@
+use Rattle.std.proofs.Common.{refl, sym, ◌∙◌, subst, pos}
+use Rattle.std.specs.declared.option.Option.TheVariants.{Some}
+use Rattle.log_passes.specs.declared.Pass.{Pass}
+use Rattle.log_passes.specs.declared.Pass.TheVariants.{Publisher}
+use Rattle.pechvang.specs.Publishing.{Commits}
+use Rattle.pechvang.proofs.publishing.commit_by.Goals as goal
+
+pub returns-in-Claim : goal.returns-in-Claim
+returns-in-Claim c = subst (λ (x : Pass). Commits (Some x) c.args.position.now (pos 0) c.commit-publisher.result.1 (Some (Publisher c.commit-publisher.result.0))) (sym (sym c.replace.ensures.value ∙ c.in-Claim.is)) (record { after = c.commit-publisher.result.0; held = refl; code_is = refl; did = (c.commit-publisher.ensures.committed, c.commit-publisher.ensures.end) })

@@ -1,0 +1,9 @@
+use Rattle.std.proofs.Common.{refl, sym, subst, pos}
+use Rattle.std.specs.declared.option.Option.TheVariants.{Some}
+use Rattle.log_passes.specs.declared.Pass.{Pass}
+use Rattle.log_passes.specs.declared.Pass.TheVariants.{Publisher}
+use Rattle.pechvang.specs.Publishing.{Shares}
+use Rattle.pechvang.proofs.publishing.share_by.Goals as goal
+
+pub returns-in-Publisher : goal.returns-in-Publisher
+returns-in-Publisher c = subst (λ (x : Pass). Shares (Some x) c.args.share.now (pos 0) c.share.result (Some (Publisher c.in-Publisher.publisher))) (sym (c.in-Publisher.is)) (record { after = c.in-Publisher.publisher; held = refl; code_is = refl; did = (refl, c.share.ensures) })

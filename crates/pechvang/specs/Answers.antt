@@ -1,0 +1,46 @@
+-- What a call answers by its code, and what the handle holds then.
+use Rattle.std.specs.Prelude.{◌≡◌, ℤ, pos, negsuc}
+use Rattle.std.specs.declared.option.Option.TheVariants.{None, Some}
+use Rattle.log_passes.specs.Codes.{code_of}
+use Rattle.log_passes.specs.declared.Pass.{Pass}
+use Rattle.log_passes.specs.declared.fault.Fault.{Fault}
+use Rattle.pechvang.specs.Owned.{Held}
+
+-- the handle holds nothing, or a pass of a kind that the call isn't for
+abbrev pub why_not : Held → ℤ
+why_not None = negsuc 15
+why_not (Some p) = negsuc 16
+
+-- the call isn't served, and changes nothing of the handle
+pub record Unserved (h : Held) (code : ℤ) (k : Held) : Type 0 where
+  pub code_is : code ≡ why_not h
+  pub same : k ≡ h
+
+-- it is refused by this code, and changes nothing of the handle
+pub record RefusedBy (wanted : ℤ) (h : Held) (code : ℤ) (k : Held) : Type 0 where
+  pub code_is : code ≡ wanted
+  pub same : k ≡ h
+
+-- it answers this code, and what it did to the pass was this
+pub record Does {Q : Type 0} (pass_of : Q → Pass) (wanted : ℤ) (Did : Q → Type 0) (code : ℤ) (k : Held) : Type 0 where
+  pub after : Q
+  pub held : k ≡ Some (pass_of after)
+  pub code_is : code ≡ wanted
+  pub did : Did after
+
+-- it fails, by a fault that the code names
+pub record Fails {Q : Type 0} (pass_of : Q → Pass) (Why : Fault → Q → Type 0) (code : ℤ) (k : Held) : Type 0 where
+  pub fault : Fault
+  pub after : Q
+  pub held : k ≡ Some (pass_of after)
+  pub code_is : code ≡ code_of fault
+  pub why : Why fault after
+
+-- it is done, and another handle holds what it gave
+pub record Gives {Q R : Type 0} (pass_of : Q → Pass) (given_of : R → Pass) (Did : R → Q → Type 0) (code : ℤ) (k out : Held) : Type 0 where
+  pub after : Q
+  pub given : R
+  pub held : k ≡ Some (pass_of after)
+  pub out_is : out ≡ Some (given_of given)
+  pub code_is : code ≡ pos 0
+  pub did : Did given after

@@ -1,0 +1,6 @@
+pub mod Owned
+pub mod Answers
+pub mod Opening
+pub mod Publishing
+pub mod Reading
+pub mod Keeping

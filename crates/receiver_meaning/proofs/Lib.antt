@@ -1,0 +1,5 @@
+pub mod Moved
+mod Following
+pub mod Meeting
+mod Polled
+mod Whole

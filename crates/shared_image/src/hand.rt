@@ -1,0 +1,72 @@
+//! The inserter's seat, and its steps.
+
+ghost use Rattle.std.specs.Prelude.{◌≡◌, [], ◌+◌, ◌*◌, ◌/◌, ◌%◌, ◌^◌, ◌<◌, ◌≤◌};
+ghost use Rattle.image_rule.specs.Frames.{image_length, ring};
+ghost use Rattle.image_rule.specs.Steps.{Changes, Fetches, May, Sweeps};
+
+use crate::words::{IMAGE, Words};
+use atomic_table::Seat;
+use image_rule::{Change, Changing, Chosen, Fetch, Sweep, View};
+
+/// Who stores what an image holds.
+#[derive(Drop)]
+pub(crate) struct Hand {
+    pub(crate) seat: Seat<(), View>,
+    /// The unit below which nothing is held any more.
+    pub(crate) floor: u64,
+    ghost free: { seat.me.1 ≡ [] },
+    ghost inserts: { seat.me.0.inserting ≡ 1 },
+    ghost floor_is: { floor ≡ seat.me.0.held.floor },
+    ghost low: { 32 * floor < 2 ^ 64 },
+}
+
+/// Loads the position of a consumer.
+#[inline(always)]
+pub(crate) fn see_as<N: Chosen>(image: &Words, hand: &mut Hand, number: u64) -> u64
+    requires fits { hand.old.seat.table_id ≡ image.now.table.shared.table_id }
+    requires inside { number < image.now.key.consumers }
+    requires chosen { N.number ≡ number }
+    ensures fits { hand.new.seat.table_id ≡ hand.old.seat.table_id }
+    ensures told { Sweeps number hand.old.seat.me.0 result hand.new.seat.me.0 }
+{
+    let _ = &image.table;
+    let words = &image.table.shared;
+    words.load::<Sweep<N>>(&mut hand.seat, 16 * number as usize)
+}
+
+/// Loads a word of the image.
+#[inline(always)]
+pub(crate) fn fetch_as<N: Chosen>(image: &Words, hand: &mut Hand, place: usize) -> u64
+    requires fits { hand.old.seat.table_id ≡ image.now.table.shared.table_id }
+    requires inside { place < image_length (ring image.now.key) }
+    requires chosen { N.number ≡ place }
+    ensures fits { hand.new.seat.table_id ≡ hand.old.seat.table_id }
+    ensures told { Fetches place hand.old.seat.me.0 result hand.new.seat.me.0 }
+{
+    let _ = &image.table;
+    let words = &image.table.shared;
+    words.load::<Fetch<N>>(&mut hand.seat, IMAGE + place)
+}
+
+/// Stores a word of the image. The floor is this one then.
+#[inline(always)]
+pub(crate) fn change_as<N: Changing>(
+    image: &Words,
+    hand: &mut Hand,
+    place: usize,
+    word: u64,
+    floor: u64,
+)
+    requires fits { hand.old.seat.table_id ≡ image.now.table.shared.table_id }
+    requires inside { place < image_length (ring image.now.key) }
+    requires chosen { (N.place ≡ place) × (N.floor ≡ floor) }
+    requires low { 32 * floor < 2 ^ 64 }
+    requires may { May image.now.key hand.old.seat.me.0 place word N.floor N.got }
+    ensures fits { hand.new.seat.table_id ≡ hand.old.seat.table_id }
+    ensures told { Changes place word N.floor N.got hand.old.seat.me.0 hand.new.seat.me.0 }
+{
+    let _ = &image.table;
+    let words = &image.table.shared;
+    words.store::<Change<N>>(&mut hand.seat, IMAGE + place, word);
+    hand.floor = floor;
+}

@@ -1,0 +1,132 @@
+//! A reader reads the frame where it stands, and moves on.
+
+ghost use Rattle.std.specs.Prelude.{◌≡◌, ℕ, [], suc, ◌+◌, ◌-◌, ◌*◌, ◌/◌, ◌%◌, ◌^◌, ◌<◌, ◌≤◌, ◌++◌, drop, take, length, slice_index, IfNone, IfSome};
+ghost use Rattle.frame_words.specs.Contents.{bytes_in};
+ghost use Rattle.image_rule.specs.Frames.{end_of};
+ghost use Rattle.image_rule.specs.Reads.{IsFound, first_of};
+ghost use Rattle.image_rule.specs.Steps.{FindsFrame, moved_to, with_miss};
+ghost use Rattle.shared_image.specs.Handles.{IsReaderOf};
+ghost use Rattle.shared_image.specs.Reading.{Advances, Copied, Finds, FindsNone, MayAdvance, ReadsFrame, ReadsNone};
+
+use crate::image::{Image, ImageReader};
+use crate::standing::{Standing, look, move_as, word_as};
+use crate::words::Words;
+use block::Block;
+use frame_words::{head_in, put_bytes, put_word};
+use position::{FrameHead, FrameKind, align32};
+use std::marker::Brand;
+
+/// Finds the frame that was stored where the reader stands.
+fn find(image: &Words, reader: &mut Standing) -> Option<FrameHead>
+    requires fits { reader.old.seat.table_id ≡ image.now.table.shared.table_id }
+    ensures fits { reader.new.seat.table_id ≡ reader.old.seat.table_id }
+    ensures same { (reader.new.unit ≡ reader.old.unit) × (reader.new.number ≡ reader.old.number) }
+    ensures none { IfNone result (FindsNone reader.old.seat.me.0 reader.new.seat.me.0) }
+    ensures rests { IfNone result (reader.new.read_to ≡ reader.old.unit) }
+    ensures found { IfSome result (λ head. Finds reader.old.seat.me.0 head reader.new.seat.me.0) }
+    ensures ends { IfSome result (λ _. reader.new.read_to ≡ end_of (first_of reader.new.seat.me.0.reading.known)) }
+    ensures known { IfSome result (λ _. IsFound reader.new.seat.me.0) }
+{
+    let word = look(image, reader);
+    if (word >> (reader.unit % 64)) & 1 == 0 {
+        return None;
+    }
+    let first = word_as::<Brand>(image, reader, reader.unit, 0);
+    let head = head_in(first, 32 * reader.unit);
+    reader.read_to = reader.unit + u64::from(align32(head.frame_length)) / 32;
+    Some(head)
+}
+
+/// Copies so many words behind the header of the frame that was found to the front of bytes.
+fn copy_whole(image: &Words, reader: &mut Standing, words: usize, bytes: &mut [u8])
+    requires fits { reader.old.seat.table_id ≡ image.now.table.shared.table_id }
+    requires found { IsFound reader.old.seat.me.0 }
+    requires few { 4 + words ≤ length (first_of reader.old.seat.me.0.reading.known).words }
+    requires low { words < 2 ^ 29 }
+    requires inside { 8 * words ≤ length bytes.old }
+    ensures fits { reader.new.seat.table_id ≡ reader.old.seat.table_id }
+    ensures same { (reader.new.seat.me.0 ≡ reader.old.seat.me.0) × (reader.new.unit ≡ reader.old.unit) × (reader.new.number ≡ reader.old.number) × (reader.new.read_to ≡ reader.old.read_to) }
+    ensures copied { Copied (first_of reader.old.seat.me.0.reading.known) (8 * words) bytes.old bytes.new }
+    ensures same_length { length bytes.new ≡ length bytes.old }
+{
+    let _ = &image.table;
+    let start = reader.unit;
+    for index in 0..words {
+        let word = word_as::<Brand>(image, reader, start, 4 + index as u64);
+        put_word(bytes, 8 * index, word);
+    }
+}
+
+/// Copies the first bytes behind the header of the frame that was found to the front of others.
+fn copy_words(image: &Words, reader: &mut Standing, count: usize, bytes: &mut [u8])
+    requires fits { reader.old.seat.table_id ≡ image.now.table.shared.table_id }
+    requires found { IsFound reader.old.seat.me.0 }
+    requires few { 4 + (count + 7) / 8 ≤ length (first_of reader.old.seat.me.0.reading.known).words }
+    requires low { count < 2 ^ 31 }
+    requires inside { count ≤ length bytes.old }
+    ensures fits { reader.new.seat.table_id ≡ reader.old.seat.table_id }
+    ensures same { (reader.new.seat.me.0 ≡ reader.old.seat.me.0) × (reader.new.unit ≡ reader.old.unit) × (reader.new.number ≡ reader.old.number) × (reader.new.read_to ≡ reader.old.read_to) }
+    ensures copied { Copied (first_of reader.old.seat.me.0.reading.known) count bytes.old bytes.new }
+    ensures same_length { length bytes.new ≡ length bytes.old }
+{
+    let _ = &image.table;
+    let words = count / 8;
+    copy_whole(image, reader, words, bytes);
+    if count % 8 > 0 {
+        let start = reader.unit;
+        let word = word_as::<Brand>(image, reader, start, 4 + words as u64);
+        put_bytes(bytes, 8 * words, word, count % 8);
+    }
+}
+
+/// Copies the first bytes behind the header of the frame that was found to a block's front.
+fn copy(image: &Words, reader: &mut Standing, count: usize, block: &mut Block)
+    requires fits { reader.old.seat.table_id ≡ image.now.table.shared.table_id }
+    requires found { IsFound reader.old.seat.me.0 }
+    requires few { 4 + (count + 7) / 8 ≤ length (first_of reader.old.seat.me.0.reading.known).words }
+    requires low { count < 2 ^ 31 }
+    requires inside { count ≤ length block.old }
+    ensures fits { reader.new.seat.table_id ≡ reader.old.seat.table_id }
+    ensures same { (reader.new.seat.me.0 ≡ reader.old.seat.me.0) × (reader.new.unit ≡ reader.old.unit) × (reader.new.number ≡ reader.old.number) × (reader.new.read_to ≡ reader.old.read_to) }
+    ensures copied { Copied (first_of reader.old.seat.me.0.reading.known) count block.old block.new }
+    ensures same_length { length block.new ≡ length block.old }
+{
+    copy_words(image, reader, count, block.bytes_mut());
+}
+
+/// Reads the frame that was stored where the reader stands: a message's part is copied to the block's front, and the reader
+/// stays. There is none only where its held bit, loaded in this call, was zero; the block is then as it was.
+pub fn read(image: &Image, reader: &mut ImageReader, block: &mut Block) -> Option<FrameHead>
+    requires fits { IsReaderOf image.now reader.old }
+    requires room { 65472 ≤ length block.old }
+    ensures fits { IsReaderOf image.now reader.new }
+    ensures found { IfSome result (λ head. ReadsFrame reader.old head block.old reader.new block.new) }
+    ensures none { IfNone result (ReadsNone reader.old block.old reader.new block.new) }
+    ensures may { IfSome result (λ _. MayAdvance reader.new) }
+    ensures same_length { length block.new ≡ length block.old }
+{
+    let _ = &image.words;
+    let head = find(&image.words, &mut reader.standing)?;
+    match head.kind {
+        FrameKind::Data => {
+            let count = head.frame_length as usize - 32;
+            copy(&image.words, &mut reader.standing, count, block);
+        }
+        FrameKind::Pad => {}
+    }
+    Some(head)
+}
+
+/// Moves the reader behind the frame that it has read. The answer is its new position, in bytes.
+pub fn advance(image: &Image, reader: &mut ImageReader) -> u64
+    requires fits { IsReaderOf image.now reader.old }
+    requires read { MayAdvance reader.old }
+    ensures fits { IsReaderOf image.now reader.new }
+    ensures advances { Advances reader.old reader.new }
+    ensures answer { result ≡ 32 * reader.new.view.reading.unit }
+{
+    let _ = &image.words;
+    let end = reader.standing.read_to;
+    move_as::<Brand>(&image.words, &mut reader.standing, end);
+    32 * end
+}

@@ -1,0 +1,66 @@
+-- What a subscriber lived through with its images, and what it wrote of it.
+use Rattle.std.specs.Prelude.{◌≡◌, ◌+◌, ⊤, ℕ, List, [], ◌∷◌, ◌++◌, length, Option}
+use Rattle.std.specs.Io.KnownBytes.{Appends}
+use Rattle.theory.specs.Wire.{Setup}
+use Rattle.messages.specs.Forms.{spelling}
+use Rattle.messages.specs.declared.form.Form.{Form}
+use Rattle.options.specs.declared.ends.plans.SubscribePlan.{SubscribePlan}
+use Rattle.receiver.specs.Subscribing.{Subscribing}
+use Rattle.receiver_meaning.specs.Lives.{Act, Lives, given_in}
+use Rattle.subscription.specs.Meetings.{HasMet, Opens}
+use Rattle.subscription.specs.declared.opening.Opening.{Opening}
+use Rattle.subscriber.specs.Turning.{next}
+
+-- it lived on, and wrote what its polls gave, and counted that
+pub record WritesActs (form : Form) (count : ℕ) (s : Subscribing) (before : Option (List ℕ)) (more : ℕ) (t : Subscribing) (after : Option (List ℕ)) : Type 0 where
+  pub acts : List Act
+  pub lived : Lives s acts t
+  pub counted : more ≡ count + length (given_in acts)
+  pub written : Appends before after (spelling form (given_in acts))
+
+-- an image: the SETUP that opened it at a moment, its number, and what its subscriber lived through since
+pub record Life : Type 0 where
+  pub setup : Setup
+  pub opening : Opening
+  pub number : ℕ
+  pub moment : ℕ
+  pub acts : List Act
+
+pub record IsLife (plan : SubscribePlan) (l : Life) (t : Subscribing) : Type 0 where
+  pub opens : Opens plan l.setup l.opening
+  pub first : Subscribing
+  pub met : HasMet plan l.number l.setup l.moment first
+  pub lived : Lives first l.acts t
+
+-- the first image has the number 0, and each the one behind that of the image before it
+abbrev pub IsNumbered : Life → List Life → Type 0
+IsNumbered l [] = l.number ≡ 0
+IsNumbered l (m ∷ older) = l.number ≡ next m.number
+
+-- images one after the other, the newest first
+abbrev pub AreLives : SubscribePlan → List Life → Type 0
+AreLives plan [] = ⊤
+AreLives plan (l ∷ older) = (t : Subscribing) × IsLife plan l t × IsNumbered l older × AreLives plan older
+
+-- the messages that the polls of all of them gave, in the order in which they were given
+abbrev pub given_through : List Life → List (List ℕ)
+given_through [] = []
+given_through (l ∷ older) = given_through older ++ given_in l.acts
+
+-- it has an image, and has written all that was polled since its begin
+pub record WritesLife (plan : SubscribePlan) (before : Option (List ℕ)) (count number : ℕ) (t : Subscribing) (after : Option (List ℕ)) : Type 0 where
+  pub newest : Life
+  pub older : List Life
+  pub is : IsLife plan newest t
+  pub number_is : newest.number ≡ number
+  pub numbered : IsNumbered newest older
+  pub lives : AreLives plan older
+  pub counted : count ≡ length (given_through (newest ∷ older))
+  pub written : Appends before after (spelling plan.end.form (given_through (newest ∷ older)))
+
+-- what it wrote in all is what the polls of its images gave
+pub record WritesLives (plan : SubscribePlan) (before : Option (List ℕ)) (count : ℕ) (after : Option (List ℕ)) : Type 0 where
+  pub images : List Life
+  pub lives : AreLives plan images
+  pub counted : count ≡ length (given_through images)
+  pub written : Appends before after (spelling plan.end.form (given_through images))
