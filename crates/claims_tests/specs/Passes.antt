@@ -1,12 +1,9 @@
 -- Passes that close a log together.
 use Rattle.std.specs.Prelude.{◌≡◌, ℕ, []}
-use Rattle.std.specs.List.{AllByRecursion}
 use Rattle.log_rule.specs.Claims.Handles.{PublisherValue}
 use Rattle.shared_log.specs.Books.{IsDone}
 use Rattle.shared_log.specs.Handles.{IsOf, LogValue}
 use Rattle.shared_log.specs.Keepers.{KeeperValue}
-use Rattle.stream_tests.specs.Consumers.{IsSingle}
-use Rattle.claims_tests.specs.declared.passes.Passes.{Passes}
 
 -- a publisher of this log, with so many parts of the right to close it
 pub record IsPart (l : LogValue) (parts : ℕ) (p : PublisherValue) : Type 0 where
@@ -18,10 +15,3 @@ pub record IsKeeping (l : LogValue) (k : KeeperValue) : Type 0 where
   pub done : IsDone l k.held
   pub unclaimed : k.held.pass.right.claims ≡ []
   pub parts : k.held.pass.right.parts ≡ 8
-
--- all passes are of this log, and have claimed nothing
-pub record ArePasses (l : LogValue) (p : Passes) : Type 0 where
-  pub publisher : IsPart l 176 p.publisher
-  pub others : AllByRecursion (IsPart l 120) p.others
-  pub reader : IsSingle l p.reader
-  pub keeper : IsKeeping l p.keeper

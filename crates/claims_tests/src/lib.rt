@@ -1,13 +1,10 @@
 //! Tests of a publisher that stalls between two of its steps while terms turn, or is held there while each other party
-//! goes on; and of consumers that join and leave, on one thread.
+//! goes on.
 #![tactic(auto)]
 
 #[cfg(test)]
-mod consumers;
-#[cfg(test)]
 mod holds;
 mod other_passes;
-mod passes;
 #[cfg(test)]
 mod stalled;
 #[cfg(test)]
@@ -16,4 +13,3 @@ mod stalls;
 mod stalls_among_threads;
 
 pub use other_passes::{Follower, Four, OtherPasses};
-pub use passes::Passes;

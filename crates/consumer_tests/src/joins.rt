@@ -6,7 +6,8 @@ ghost use Rattle.log_rule.specs.Claims.Handles.{parts_in};
 ghost use Rattle.log_rule.specs.Claims.Sums.{total};
 ghost use Rattle.shared_log.specs.Handles.{AreNew, IsOf};
 ghost use Rattle.stream_tests.specs.Consumers.{IsSingle};
-ghost use Rattle.claims_tests.specs.Passes.{ArePasses, IsKeeping, IsPart};
+ghost use Rattle.claims_tests.specs.Passes.{IsKeeping, IsPart};
+ghost use Rattle.consumer_tests.specs.Passes.{ArePasses};
 
 use crate::passes::Passes;
 use assembler::Assembler;
