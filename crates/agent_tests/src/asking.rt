@@ -2,9 +2,9 @@
 
 ghost use Rattle.std.specs.Prelude.{◌≡◌};
 ghost use Rattle.shared_log.specs.Parts.{IsNewReader};
-ghost use Rattle.agent_way.specs.Senders.{IsFirstLog, IsSender};
+ghost use Rattle.agent_tests.specs.Senders.{IsFirstLog, IsSender};
 
-use agent_way::{Agent, device_with_status, duty_over, open_agent, open_log};
+use crate::{Agent, device_with_status, duty_over, open_agent, open_log};
 use conductor::{CAPACITY, Client, Command, Conductor, Taker};
 use shared_log::{Log, LogReader};
 use std::alloc::Global;

@@ -3,9 +3,9 @@
 ghost use Rattle.std.specs.Prelude.{◌≡◌, IfOk};
 ghost use Rattle.shared_log.specs.Handles.{IsOf};
 ghost use Rattle.shared_log.specs.Parts.{IsNewReader};
-ghost use Rattle.agent_way.specs.Senders.{IsFirstLog, IsSender};
+ghost use Rattle.agent_tests.specs.Senders.{IsFirstLog, IsSender};
 
-use agent_way::{Agent, carry, device_with, duty_over, listening, open_agent, open_log, publish};
+use crate::{Agent, carry, device_with, duty_over, listening, open_agent, open_log, publish};
 use agents::{CYCLE_DATAGRAMS, Duty, REPLY};
 use conductor::{Client, Conductor};
 use endpoint::{Datagrams, DeviceError, FailingDatagrams, MemoryDevice};

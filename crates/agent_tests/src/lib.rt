@@ -1,8 +1,21 @@
-//! Tests of agents: both ends where a call of a device fails, and a sender's agent with the queue that it asks for
-//! Connect.
+//! Tests of devices (over UDP, failing on purpose, losing by chance), and of duty cycles over them: both agents where a
+//! device fails, and what a sender's asks of the queue. What tests of cycles share: a log with its publisher and its sender,
+//! a subscriber, and devices in memory between them.
 #![tactic(auto)]
 
 #[cfg(test)]
 mod asking;
 #[cfg(test)]
+mod failing;
+#[cfg(test)]
 mod hundred;
+#[cfg(test)]
+mod losses;
+#[cfg(test)]
+mod udp;
+mod way;
+
+pub use way::{
+    Agent, GroupSender, Sender, carry, device_with, device_with_status, duty_over, listening,
+    member, open_agent, open_group_sender, open_log, open_sender, publish, receive, send,
+};

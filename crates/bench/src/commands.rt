@@ -4,7 +4,7 @@ use crate::timing_line::timing_options;
 use crate::timing_plan::timing_plan;
 use anyhow::{Error, bail};
 use command_line::{LineFault, process_words};
-use driver_latency::time_driver;
+use latency::time_driver;
 use latency::{HEADER, Row, time_log};
 use position::Geometry;
 use speed::{

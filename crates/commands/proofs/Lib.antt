@@ -3,3 +3,4 @@ pub mod Taken
 pub mod WrittenLines
 pub mod LineStatuses
 mod BoundRows
+pub mod PrintedLines

@@ -3,3 +3,5 @@ pub mod Statuses
 pub mod Faults
 pub mod Scripting
 pub mod Routes
+pub mod Decoding
+pub mod FrameLines

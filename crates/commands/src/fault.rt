@@ -4,7 +4,7 @@ ghost use Rattle.std.specs.Prelude.{◌≡◌, Some};
 ghost use Rattle.commands.specs.Faults.{of_device, of_decoding, of_script, shown_fault};
 ghost use Rattle.commands.specs.declared.fault.Fault.TheVariants.{Memory, Plan};
 
-use decode::DecodeError;
+use crate::DecodeError;
 use endpoint::DeviceError;
 use frames::FrameError;
 use options::PlanFault;

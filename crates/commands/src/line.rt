@@ -15,7 +15,7 @@ use crate::script_command::sim;
 use crate::status::{done, failed, line_status, shown};
 use crate::subscribe_command::subscribe_command;
 use command_line::{Options, Reader, line_reader, line_words, options};
-use decode::decode;
+use crate::decode;
 use options::RunOptions;
 use run::Ending;
 use std::alloc::Global;

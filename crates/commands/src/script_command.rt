@@ -10,7 +10,7 @@ use crate::fault::Fault;
 use script::read_script;
 use std::alloc::Global;
 use std::io::{ErrorKind, Read, Write};
-use world::{Line, play};
+use simulation::{Line, play};
 
 /// The most bytes of a script: 1 MiB.
 const GREATEST_INPUT: usize = 1_048_576;

@@ -1,7 +1,7 @@
 ghost use Rattle.shared_log.specs.Parts.{IsNewReader};
-ghost use Rattle.agent_way.specs.Senders.{IsFirstLog, IsSender};
+ghost use Rattle.agent_tests.specs.Senders.{IsFirstLog, IsSender};
 
-use agent_way::{
+use agent_tests::{
     Sender, carry, device_with, device_with_status, listening, open_log, open_sender, publish,
     receive, send,
 };

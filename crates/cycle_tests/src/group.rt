@@ -2,9 +2,9 @@
 
 ghost use Rattle.shared_log.specs.Handles.{IsOf};
 ghost use Rattle.shared_log.specs.Parts.{IsNewReader};
-ghost use Rattle.agent_way.specs.Senders.{IsFirstLog, IsSender};
+ghost use Rattle.agent_tests.specs.Senders.{IsFirstLog, IsSender};
 
-use agent_way::{
+use agent_tests::{
     GroupSender, carry, device_with, duty_over, member, open_group_sender, open_log, publish,
     receive,
 };

@@ -2,10 +2,10 @@
 
 ghost use Rattle.std.specs.Prelude.{◌≡◌};
 ghost use Rattle.shared_log.specs.Parts.{IsNewReader};
-ghost use Rattle.agent_way.specs.Senders.{IsFirstLog, IsSender};
+ghost use Rattle.agent_tests.specs.Senders.{IsFirstLog, IsSender};
 ghost use Rattle.counters.specs.Order.{zeros};
 
-use agent_way::{
+use agent_tests::{
     Sender, carry, device_with, device_with_status, duty_over, listening, open_log, open_sender,
     publish, send,
 };

@@ -1,10 +1,10 @@
 //! The same commands on the plain state of a log and on the log that threads share.
 
 ghost use Rattle.std.specs.Prelude.{◌≡◌, IfOk};
-ghost use Rattle.plain_log.specs.Commands.{IsSameBut};
+ghost use Rattle.one_hand.specs.Commands.{IsSameBut};
 
 use one_hand::{LogHand, OneHandLog};
-use plain_log::{ClaimAnswer, ClaimCommand, PlainLog, run_on_both, runs_agree};
+use one_hand::{ClaimAnswer, ClaimCommand, PlainLog, run_on_both, runs_agree};
 use position::Geometry;
 use rand_core::utils::NextWord;
 use rand_pcg::Pcg32;

@@ -20,3 +20,4 @@ pub mod Limited
 pub mod Moved
 pub mod GoingOn
 pub mod Joined
+pub mod Plain

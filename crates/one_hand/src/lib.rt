@@ -11,15 +11,28 @@
 //! `LogHand` is the log that threads share, in one hand, and meets all of that: every answer, and the stream after
 //! every call, read off the very words (`LogHand::open`). `HandReader` is a reader by its number, as a source of
 //! frames for a sender.
+//!
+//! `PlainLog` is such a log as a plain list of what was added, with a row of bytes: connected, its limit half a term
+//! above the start, nobody reads it, and nothing of it is cleaned. It opens at each start, but where memory is refused,
+//! and answers each offer, claim, commit and abort for good without asking for memory. What each command of a list
+//! answers and makes of the stream is a fold, on whatever meets `Claims` (`run_claims`). Two logs whose streams differ in
+//! their consumers alone give the same answers and have the same entries afterwards (`run_on_both`, and the law
+//! `runs_agree`); where memory is refused neither has changed.
 #![tactic(auto)]
 
 mod claims;
 mod hand_reader;
 mod log_hand;
 mod one_hand;
+mod plain_log;
 
 pub use claims::Claims;
 pub use hand_reader::HandReader;
 pub use log_hand::LogHand;
 pub use log_hand::held::Held;
 pub use one_hand::OneHandLog;
+pub use plain_log::PlainLog;
+pub use plain_log::addition::{Addition, Content, PlacedClaim};
+pub use plain_log::claim_command::{ClaimAnswer, ClaimCommand};
+pub use plain_log::law::runs_agree;
+pub use plain_log::running::{run_claims, run_on_both};

@@ -5,3 +5,7 @@ pub mod SimulatedSender
 pub mod Simulations
 pub mod PacketNumbers
 pub mod Offers
+pub mod Identities
+pub mod Listened
+pub mod ScriptRuns
+pub mod SimulationOpens

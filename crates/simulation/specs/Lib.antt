@@ -4,3 +4,4 @@ pub mod LineTexts
 pub mod Lines
 pub mod Packed
 pub mod Reading
+pub mod Runs

@@ -1,5 +1,5 @@
 use Rattle.std.proofs.Common.{◌≡◌}
-use Rattle.agent_way.specs.Senders.{IsSender}
+use Rattle.agent_tests.specs.Senders.{IsSender}
 use Rattle.agent_tests.proofs.asking.four_turns.Given as goal
 
 abbrev pub invariant-loop-asks : goal.invariant-loop-asks

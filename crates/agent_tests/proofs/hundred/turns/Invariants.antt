@@ -1,5 +1,5 @@
 use Rattle.std.proofs.Common.{◌≡◌}
-use Rattle.agent_way.specs.Senders.{IsSender}
+use Rattle.agent_tests.specs.Senders.{IsSender}
 use Rattle.agent_tests.proofs.hundred.turns.Given as goal
 
 abbrev pub invariant-loop-round : goal.invariant-loop-round

@@ -1,0 +1,83 @@
+//! The driver, timed.
+
+ghost use Rattle.std.specs.Prelude.{◌≡◌, ◌*◌, ◌≤◌, IfOk};
+ghost use Rattle.latency.specs.Beginnings.{ArePasses};
+
+use crate::agent_threads::{MeasuredRun, Passes};
+use crate::measured_run::measure_named;
+use agents::Began;
+use conductor::Conductor;
+use endpoint::Fan;
+use crate::{Course, LatencyError, Plan, Samples, Timed, timed_by};
+use run_parties::{
+    LossyDevices, RunLog, RunState, lossy_devices, open_run_log, receiver_id, receiver_parts,
+};
+use std::alloc::Global;
+use std::marker::Brand;
+use std::net::Net;
+use std::sync::Wait;
+use std::thread::Threads;
+use std::time::Clock;
+
+/// What the driver's threads share and have, but for its receiver.
+fn begin<R: Net>(
+    rt: &R,
+    alloc: Global,
+    plan: &Plan,
+    began: Began,
+) -> Result<(RunState, Passes), LatencyError>
+    ensures shape { IfOk result (λ r. r.0.log.identity.geometry ≡ plan.now.geometry) }
+    ensures passes { IfOk result (λ r. ArePasses r.0.log r.0.conductor r.1) }
+{
+    let LossyDevices { ways, mut replies } = lossy_devices(rt, alloc, plan.rates, plan.seed, 1)?;
+    let (conductor, client, taker) = Conductor::with_client(alloc)?;
+    let publishers = plan.load.publishers as usize;
+    let RunLog {
+        log,
+        publishers,
+        others: _,
+        reader,
+        keeper,
+    } = open_run_log(alloc, plan.geometry, publishers)?;
+    let passes = Passes {
+        publishers,
+        reader,
+        keeper,
+        client,
+        taker,
+        sends: Fan::new(ways),
+        replies: replies.remove(0),
+    };
+    Ok((RunState::new(log, conductor, began, 1), passes))
+}
+
+/// Times the driver: publishers offer messages, each in a thread of its own; they are sent as datagrams over UDP on this
+/// machine, received, and polled by this thread. A message is timed from its stamp to the moment at which it was polled; at
+/// full load the stamp is the moment before its first offer, and else the moment at which it is due. The begin is the moment
+/// at which the receiver has met the stream and all publishers have come. What goes from the sender and what goes from the
+/// receiver is lost by words of two generators, of the plan's seed and the one behind it.
+///
+/// Where no message comes for a minute fewer are timed than were asked for. It fails where none came, memory is refused, a
+/// thread can't be started, a socket can't be had or fails, the clock can't be read or the log is used up.
+pub fn time_driver<R: Threads + Wait + Clock + Net + Sync>(
+    rt: &R,
+    alloc: Global,
+    plan: &Plan,
+) -> Result<Timed, LatencyError>
+    ensures { IfOk result (λ t. t.messages ≤ plan.now.load.publishers * plan.now.load.messages) }
+{
+    let samples = Samples::new(alloc, plan.load.wanted())?;
+    let course = Course::new(rt)?;
+    let (state, passes) = begin(rt, alloc, plan, course.origin)?;
+    let parts = receiver_parts(alloc, &plan.geometry, receiver_id(1, 0))?;
+    let run = MeasuredRun {
+        rt,
+        alloc,
+        state: &state,
+        course: &course,
+        load: plan.load,
+    };
+    let samples = measure_named::<Brand, R>(&run, parts, passes, samples)?;
+    course.outcome()?;
+    timed_by(samples)
+}

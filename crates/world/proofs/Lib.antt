@@ -1,4 +1,0 @@
-pub mod Identities
-pub mod Listened
-pub mod ScriptRuns
-pub mod SimulationOpens
