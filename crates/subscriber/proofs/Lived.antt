@@ -75,7 +75,7 @@ cycle_lives form most now count more tells s a d done t b e sum w =
     let rest : List Act = map (Hears now) w.cycle.heard ++ Ticks now ∷ [] in
     let later : Lives w.middle rest t = lives_on w.middle w.cycle.middle t (map (Hears now) w.cycle.heard) (Ticks now ∷ []) hears (t, w.cycle.ticked.becomes, refl) in
     let given : given_in (polls.0 ++ rest) ≡ w.delivers.messages =
-        given_on polls.0 rest ∙ ap (λ xs. given_in polls.0 ++ xs) (given_on (map (Hears now) w.cycle.heard) (Ticks now ∷ []) ∙ append-nil (given_in (map (Hears now) w.cycle.heard)) ∙ heard_given now w.cycle.heard) ∙ append-nil (given_in polls.0) ∙ polls.2 in
+    given_on polls.0 rest ∙ ap (λ xs. given_in polls.0 ++ xs) (given_on (map (Hears now) w.cycle.heard) (Ticks now ∷ []) ∙ append-nil (given_in (map (Hears now) w.cycle.heard)) ∙ heard_given now w.cycle.heard) ∙ append-nil (given_in polls.0) ∙ polls.2 in
     record {
       acts = polls.0 ++ rest;
       lived = lives_on s w.middle t polls.0 rest polls.1 later;
@@ -106,7 +106,7 @@ pub life_on : (plan : SubscribePlan) (a b c : Option (List ℕ)) (count more num
 life_on plan a b c count more number s t h w =
     let l : Life = record h.newest { acts = h.newest.acts ++ w.acts } in
     let given : given_through (l ∷ h.older) ≡ given_through (h.newest ∷ h.older) ++ given_in w.acts =
-        ap (λ xs. given_through h.older ++ xs) (given_on h.newest.acts w.acts) ∙ sym (append_assoc (given_through h.older) (given_in h.newest.acts) (given_in w.acts)) in
+    ap (λ xs. given_through h.older ++ xs) (given_on h.newest.acts w.acts) ∙ sym (append_assoc (given_through h.older) (given_in h.newest.acts) (given_in w.acts)) in
     record {
       newest = l;
       older = h.older;
