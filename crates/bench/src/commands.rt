@@ -4,8 +4,7 @@ use crate::timing_line::timing_options;
 use crate::timing_plan::timing_plan;
 use anyhow::{Error, bail};
 use command_line::{LineFault, process_words};
-use latency::time_driver;
-use latency::{HEADER, Row, time_log};
+use latency::{HEADER, Row, time_driver, time_log};
 use position::Geometry;
 use speed::{
     Figures, measure, measure_claims, measure_stream, play_claims, play_round, play_stream,

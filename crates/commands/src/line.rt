@@ -8,6 +8,7 @@ ghost use Rattle.command_line.specs.Refusals.{HoldRefusal};
 ghost use Rattle.commands.specs.Running.{IsLeftBy};
 ghost use Rattle.commands.specs.Statuses.{IsStatusOf, RefusesLine, ran_status};
 
+use crate::decode;
 use crate::fault::Fault;
 use crate::publish_command::publish_command;
 use crate::run_command::run_driver;
@@ -15,7 +16,6 @@ use crate::script_command::sim;
 use crate::status::{done, failed, line_status, shown};
 use crate::subscribe_command::subscribe_command;
 use command_line::{Options, Reader, line_reader, line_words, options};
-use crate::decode;
 use options::RunOptions;
 use run::Ending;
 use std::alloc::Global;

@@ -8,9 +8,9 @@ ghost use Rattle.commands.specs.Scripting.{ExplainsInput, ExplainsScript, PlaysI
 
 use crate::fault::Fault;
 use script::read_script;
+use simulation::{Line, play};
 use std::alloc::Global;
 use std::io::{ErrorKind, Read, Write};
-use simulation::{Line, play};
 
 /// The most bytes of a script: 1 MiB.
 const GREATEST_INPUT: usize = 1_048_576;

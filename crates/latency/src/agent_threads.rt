@@ -8,10 +8,10 @@ ghost use Rattle.run_parties.specs.Passes.{IsKept};
 ghost use Rattle.run_parties.specs.RunLogs.{IsRunLog};
 ghost use Rattle.latency.specs.Beginnings.{ArePasses};
 
+use crate::{Course, LatencyError, Load, Offers, WhenFull, start_publishers};
 use agents::Named;
 use conductor::{Client, Taker};
 use endpoint::{Fan, UdpDevice};
-use crate::{Course, LatencyError, Load, Offers, WhenFull, start_publishers};
 use loss_injector::Lossy;
 use run_parties::{Context, Open, RunState, SharedReceiver, receive, send, steer};
 use shared_log::{Keeper, LogReader, Publisher};

@@ -5,10 +5,10 @@ ghost use Rattle.latency.specs.Beginnings.{ArePasses};
 
 use crate::agent_threads::{MeasuredRun, Passes};
 use crate::measured_run::measure_named;
+use crate::{Course, LatencyError, Plan, Samples, Timed, timed_by};
 use agents::Began;
 use conductor::Conductor;
 use endpoint::Fan;
-use crate::{Course, LatencyError, Plan, Samples, Timed, timed_by};
 use run_parties::{
     LossyDevices, RunLog, RunState, lossy_devices, open_run_log, receiver_id, receiver_parts,
 };

@@ -8,8 +8,8 @@ ghost use Rattle.latency.specs.Beginnings.{ArePasses};
 
 use crate::agent_threads::{MeasuredRun, Passes, start_agents};
 use crate::sampling::{await_stream, poll_all};
-use agents::Named;
 use crate::{LatencyError, Samples};
+use agents::Named;
 use run_parties::{ReceiverParts, SharedReceiver};
 use std::sync::Wait;
 use std::thread;

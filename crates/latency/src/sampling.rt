@@ -3,9 +3,9 @@
 ghost use Rattle.std.specs.Prelude.{◌≡◌, ◌≤◌, ◌+◌, IfOk, OnOk, vec_len};
 
 use crate::agent_threads::MeasuredRun;
+use crate::{LatencyError, Samples, stamp_in};
 use agents::{IdleStrategy, Named};
 use assembler::{AssemblyError, Message};
-use crate::{LatencyError, Samples, stamp_in};
 use receiver::PollError;
 use run_parties::SharedReceiver;
 use std::alloc::Global;

@@ -3,8 +3,7 @@
 ghost use Rattle.std.specs.Prelude.{◌≡◌, IfOk};
 ghost use Rattle.one_hand.specs.Commands.{IsSameBut};
 
-use one_hand::{LogHand, OneHandLog};
-use one_hand::{ClaimAnswer, ClaimCommand, PlainLog, run_on_both, runs_agree};
+use one_hand::{ClaimAnswer, ClaimCommand, LogHand, OneHandLog, PlainLog, run_on_both, runs_agree};
 use position::Geometry;
 use rand_core::utils::NextWord;
 use rand_pcg::Pcg32;

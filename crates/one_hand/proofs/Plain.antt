@@ -1,8 +1,8 @@
-mod Rows
-mod Growing
-mod Ending
-mod Parts
-mod Opening
+pub mod Rows
+pub mod Growing
+pub mod Ending
+pub mod Parts
+pub mod Opening
 pub mod Agreements
 pub mod Steps
-mod ClaimRows
+pub mod ClaimRows

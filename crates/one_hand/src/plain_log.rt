@@ -12,8 +12,8 @@ pub(crate) mod claim_command;
 pub(crate) mod law;
 pub(crate) mod running;
 
-use crate::plain_log::addition::{Addition, Content, PlacedClaim};
 use crate::Claims;
+use crate::plain_log::addition::{Addition, Content, PlacedClaim};
 use position::{Geometry, align32};
 use publication::Refusal;
 use shared_log::{LogError, PUBLISHERS};

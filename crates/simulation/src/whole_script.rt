@@ -13,6 +13,7 @@ ghost use Rattle.simulation.specs.Simulated.{RepresentsState, StandsSomewhere};
 ghost use Rattle.simulation.specs.Runs.{AreListening, AreReady, Continues, ContinuesOpen, RunsTo};
 ghost use Rattle.script.specs.Meaning as meaning;
 
+use crate::{Line, Packets, RECEIVERS, Simulation, add_line};
 use block::Block;
 use flow_control::StreamFlow;
 use one_hand::{HandReader, LogHand, OneHandLog};
@@ -22,7 +23,6 @@ use script::{Command, LogLine, Script};
 use script_meaning::{images_stay_in_bounds, polls_a_prefix, shares_are_counted};
 use sender::{Denied, Outbox, SenderCore};
 use shared_log::LogError;
-use crate::{Line, Packets, RECEIVERS, Simulation, add_line};
 use std::alloc::{AllocError, Global};
 
 /// What a script is played with beside its log.

@@ -5,9 +5,9 @@ ghost use Rattle.std.specs.Option.{option_map};
 ghost use Rattle.one_hand.specs.Stream.{OpenClaim, claim_by};
 ghost use Rattle.one_hand.specs.Commands.{IsSameBut, aborted, after_all, after_command, answer_to, answers_of, claim_after, claim_answer, claim_for, claim_of, committed, ended, offer_after, offer_answer};
 
+use crate::Claims;
 use crate::plain_log::claim_command::{ClaimAnswer, ClaimCommand};
 use crate::plain_log::law::runs_agree;
-use crate::Claims;
 use shared_log::PUBLISHERS;
 use std::alloc::{AllocError, Global};
 
