@@ -1,8 +1,19 @@
-//! Plays each script of `examples/` and carries out each row there, and says whether it prints and tells what is
-//! expected; then whether the other command lines of `command_tests` do.
+//! Plays each script of `examples/` and carries out each row there by the program's own commands, and says whether it prints
+//! and tells what is expected; then whether command lines do over streams of memory, over such as fail, and of the greatest
+//! lengths.
 #![tactic(auto)]
 
-use command_tests::{Found, are_told, faults_are_told, lengths_are_bounded, play_rows, prints};
+mod broken;
+mod bytes;
+mod lines;
+mod rows;
+mod run_options;
+mod streams;
+mod table;
+
+use lines::prints;
+use rows::{Found, play_rows};
+use run_options::are_told;
 use std::net::Net;
 use std::process::ExitCode;
 use std::random::RandomSource;
@@ -10,6 +21,7 @@ use std::sync::Wait;
 use std::thread::Threads;
 use std::time::Clock;
 use std::{fs, io};
+use streams::{faults_are_told, lengths_are_bounded};
 
 /// The examples by their names: each is a file `NAME.script`, and what it prints a file `NAME.expected`.
 const NAMES: [&str; 23] = [
