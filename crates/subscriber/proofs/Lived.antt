@@ -15,15 +15,15 @@ use Rattle.agents.specs.Parties.{ReceiverHears, ReceiverTicks}
 use Rattle.receiver.specs.Subscribing.{Subscribing}
 use Rattle.receiver_meaning.specs.Lives.{Act, Gives, GivesNone, Hears, Lives, Ticks, given_in, heard_in}
 use Rattle.subscription.specs.Meetings.{HasMet}
-use Rattle.subscriber.specs.Calls.{IsJoined}
+use Rattle.subscription.specs.Calls.{IsJoined, IsMeeting}
 use Rattle.subscriber.specs.Deliveries.{Delivers, PollsAll, PollsNone, WritesFirst}
 use Rattle.subscriber.specs.Living.{AreLives, IsLife, IsNumbered, Life, WritesActs, WritesLife, WritesLives, given_through}
-use Rattle.subscriber.specs.Turning.{Attends, Considers, ConsidersOffer, IsMeeting, IsRenewed, KeepsImage, Passes, Renews, Resumes, Turns, next, with_device}
-use Rattle.subscriber.specs.Offers.{Offer, setup_taken}
-use Rattle.subscriber.specs.Watches.{Seen}
+use Rattle.subscriber.specs.Turning.{Attends, Considers, ConsidersOffer, IsRenewed, KeepsImage, Passes, Renews, Resumes, Turns, next, with_device}
+use Rattle.subscription.specs.Offers.{Offer, setup_taken}
+use Rattle.subscription.specs.Watches.{Seen}
 use Rattle.subscriber.specs.declared.delivery.Delivered.{Delivered}
-use Rattle.subscriber.specs.declared.joined.Joined.{Joined}
-use Rattle.subscriber.specs.declared.meeting.Meeting.{Meeting}
+use Rattle.subscription.specs.declared.joined.Joined.{Joined}
+use Rattle.subscription.specs.declared.meeting.Meeting.{Meeting}
 
 -- ---- lives one behind the other
 

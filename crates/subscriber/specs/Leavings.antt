@@ -5,8 +5,8 @@ use Rattle.peer.specs.declared.fault.BindError.TheVariants as binds
 use Rattle.options.specs.declared.ends.plans.SubscribePlan.{SubscribePlan}
 use Rattle.receiver.specs.Receiving.{Receiver}
 use Rattle.receiver.specs.Subscribing.{RepresentsSubscriber, Subscribing}
-use Rattle.subscriber.specs.Places.{StandsAt}
-use Rattle.subscriber.specs.Watches.{IsQuiet, Seen, hearing, working}
+use Rattle.subscription.specs.Places.{StandsAt}
+use Rattle.subscription.specs.Watches.{IsQuiet, Seen, hearing, working}
 use Rattle.subscriber.specs.declared.fault.SubscribeFault.{SubscribeFault}
 use Rattle.subscriber.specs.declared.fault.SubscribeFault.TheVariants.{Taken, NotHere, Failed}
 use Rattle.std.specs.declared.net.SocketAddr.{SocketAddr}

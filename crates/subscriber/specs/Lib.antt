@@ -1,11 +1,7 @@
 pub mod Deliveries
 pub mod DeliveryTexts
 pub mod Texts
-pub mod Watches
-pub mod Places
-pub mod Offers
 pub mod Turning
-pub mod Calls
 pub mod Leavings
 pub mod Writings
 pub mod Living

@@ -10,13 +10,14 @@ use Rattle.options.specs.declared.ends.plans.SubscribePlan.{SubscribePlan}
 use Rattle.receiver.specs.Receiving.{Receiver}
 use Rattle.receiver.specs.Subscribing.{RepresentsSubscriber, Subscribing}
 use Rattle.subscription.specs.Hearings.{turned_to}
-use Rattle.subscriber.specs.Places.{IsRebuiltTo}
-use Rattle.subscription.specs.Meetings.{HasMet, Opens, OpensNothing}
-use Rattle.subscriber.specs.Offers.{IsOffered, Offer, SubscriberDevice, setup_taken, tied_anew}
-use Rattle.subscriber.specs.Watches.{IsSilent, Seen, hearing}
-use Rattle.subscriber.specs.declared.joined.Joined.{Joined}
+use Rattle.subscription.specs.Places.{IsRebuiltTo}
+use Rattle.subscription.specs.Meetings.{HasMet, OpensNothing}
+use Rattle.subscription.specs.Calls.{IsMeeting}
+use Rattle.subscription.specs.Offers.{IsOffered, Offer, SubscriberDevice, setup_taken, tied_anew}
+use Rattle.subscription.specs.Watches.{IsSilent, Seen, hearing}
+use Rattle.subscription.specs.declared.joined.Joined.{Joined}
 use Rattle.subscription.specs.declared.opening.Opening.{Opening}
-use Rattle.subscriber.specs.declared.meeting.Meeting.{Meeting}
+use Rattle.subscription.specs.declared.meeting.Meeting.{Meeting}
 
 -- the subscriber's image is rebuilt up to here
 abbrev pub RebuiltTo : Subscribing → ℕ → Type 0
@@ -76,12 +77,6 @@ pub record Renews (plan : SubscribePlan) (s : Seen) (m : Meeting) (rebuilt : ℕ
 abbrev pub Turns : SubscribePlan → Seen → Meeting → Joined → Joined → Seen → Type 0
 Turns plan s m old new t =
     (rebuilt : ℕ) × RebuiltTo old.subscriber rebuilt × (Passes s old new t ⊎ Resumes s m rebuilt old new t ⊎ Renews plan s m rebuilt old new t)
-
--- the image that a SETUP would open, and who sent it
-pub record IsMeeting (plan : SubscribePlan) (from : SocketAddr) (f : Setup) (m : Meeting) : Type 0 where
-  pub sender : m.from ≡ from
-  pub told : m.setup ≡ f
-  pub opens : Opens plan (setup_of m.setup) m.opening
 
 -- what is made of any SETUP
 abbrev pub Considers : SubscribePlan → Seen → SocketAddr → Setup → Joined → Joined → Seen → Type 0

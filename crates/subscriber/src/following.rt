@@ -3,7 +3,7 @@
 ghost use Rattle.std.specs.Prelude.{◌≡◌, ◌≢◌, ◌≤◌, ◌↔◌, ◌+◌, ◌-◌, ◌^◌, min, ℕ, IfErr, IfOk, IsTrue, OnOk, Some};
 ghost use Rattle.endpoint.specs.declared.device_error.DeviceError.TheVariants.{Device};
 ghost use Rattle.subscriber.specs.Leavings.{HasAll, HasEnough, IsEnding, IsQuietEnding, NotesHeard, NotesWork, StandsHere};
-ghost use Rattle.subscriber.specs.Watches.{IsBroken, IsSilent};
+ghost use Rattle.subscription.specs.Watches.{IsBroken, IsSilent};
 ghost use Rattle.subscriber.specs.declared.fault.SubscribeFault.TheVariants.{Failed};
 ghost use Rattle.subscriber.specs.Living.{WritesActs, WritesLife};
 ghost use Rattle.subscriber.specs.Writings.{Writes};
@@ -12,10 +12,7 @@ use crate::delivery::cycle;
 use crate::delivery::polling::CYCLE_MESSAGES;
 use crate::ended::Ending;
 use crate::fault::SubscribeFault;
-use crate::joined::{Joined, tied_of};
-use crate::telling::{Counts, tell_again, tell_counters, tell_silent};
 use crate::turning::attend;
-use crate::watch::Watch;
 use agents::{IdleStrategy, REPLY};
 use options::SubscribePlan;
 use receiver::STATUS_INTERVAL;
@@ -23,6 +20,7 @@ use std::alloc::Global;
 use std::io::Write;
 use std::sync::Wait;
 use std::time::Clock;
+use subscription::{Counts, Joined, Watch, tell_again, tell_counters, tell_silent, tied_of};
 
 /// How long a subscriber that has ended still tells where it stands, in nanoseconds.
 const FAREWELL: u64 = 1_000_000_000;

@@ -1,9 +1,6 @@
 //! A subscriber's end of a channel, in one thread: it listens until a SETUP opens an image, writes each message as
 //! soon as it is polled, and only then hears and answers, so that a status message never tells of a message that
-//! isn't written.
-//!
-//! What a datagram is to it without an image is exact (`call_of`); which SETUP opens which image, and what is heard of
-//! one, `subscription` says. When it is silent, quiet or broken is exact (`Watch`).
+//! isn't written. What opens an image, what is heard, and the time that passes are `subscription`'s.
 //!
 //! While the session isn't silent no SETUP changes anything; of a silent one a SETUP of its own ties the device to
 //! who sent it and changes nothing else, and another one that would open an image opens it, with the next number, in
@@ -28,13 +25,8 @@ mod delivery;
 mod ended;
 mod fault;
 mod following;
-mod joined;
-mod listening;
-mod meeting;
 mod subscribing;
-mod telling;
 mod turning;
-mod watch;
 
 pub use delivery::Delivered;
 pub use ended::{Ending, Subscribed};

@@ -10,10 +10,6 @@ ghost use Rattle.subscriber.specs.declared.ended.Ending.TheVariants.{Short};
 use crate::ended::Subscribed;
 use crate::fault::SubscribeFault;
 use crate::following::{follow, leave, quiet_ending, strangers};
-use crate::joined::Joined;
-use crate::listening::listen;
-use crate::telling::{tell_joined, tell_refused};
-use crate::watch::Watch;
 use agents::REPLY;
 use endpoint::{Binding, DeviceError};
 use frames::FaultCounts;
@@ -24,6 +20,7 @@ use std::io::Write;
 use std::net::{Net, SocketAddr};
 use std::sync::Wait;
 use std::time::{Clock, Instant};
+use subscription::{Joined, Watch, listen, tell_joined, tell_refused};
 
 /// Why there is no listener at this address.
 fn fault_of(address: SocketAddr, error: BindError) -> SubscribeFault

@@ -3,21 +3,20 @@
 ghost use Rattle.std.specs.Prelude.{◌≡◌, ◌↔◌, IsTrue, OnOk};
 ghost use Rattle.frames.specs.Frames.{setup_of};
 ghost use Rattle.subscription.specs.Hearings.{turned_to};
-ghost use Rattle.subscriber.specs.Offers.{tied_anew};
+ghost use Rattle.subscription.specs.Offers.{tied_anew};
 ghost use Rattle.subscriber.specs.Turning.{Attends, Considers, GoesOn, IsRenewed, IsTiedTo, KeepsImage, Turns};
 
 use crate::fault::SubscribeFault;
-use crate::joined::{Joined, SubscriberDevice, offered, tie, tied_of};
-use crate::meeting::{Meeting, meeting_of};
-use crate::telling::{tell_another, tell_closed, tell_joined};
-use crate::watch::Watch;
 use agents::Duty;
 use frames::Setup;
 use options::SubscribePlan;
 use std::alloc::Global;
 use std::io::Write;
 use std::net::SocketAddr;
-use subscription::{Opening, opened};
+use subscription::{
+    Joined, Meeting, Opening, SubscriberDevice, Watch, meeting_of, offered, opened, tell_another,
+    tell_closed, tell_joined, tie, tied_of,
+};
 
 /// Whether a SETUP is the session's own, so that an image goes on that is rebuilt up to here.
 fn goes_on(was: &Opening, rebuilt: u64, opening: &Opening) -> bool

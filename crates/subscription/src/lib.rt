@@ -1,4 +1,5 @@
-//! Which images a channel's subscription takes, and what is heard of an image's session.
+//! Which images a channel's subscription takes, how it listens until one opens, what is heard of an image's session, and the
+//! time that passes.
 //!
 //! What a datagram tells is exact (`setup_in`, `ids_in`), and so is which SETUP opens an image for a plan, and which
 //! (`opening_of`): one of the plan's stream, and of its session if it names one, whose terms are no longer than it takes, and
@@ -8,16 +9,33 @@
 //!
 //! A device that follows a session counts the datagrams that begin with a frame of it, and keeps the last SETUP and the
 //! greatest end that was told, exactly (`Followed`).
+//!
+//! Without an image a datagram is a SETUP that opens one, a frame whose sender is asked for a SETUP, or a stranger's, exactly,
+//! and until a SETUP opens the first image nothing else happens (`listen`). When a subscriber is silent, quiet or broken is
+//! exact (`Watch`).
 #![tactic(auto)]
 
 mod followed;
 mod invitation;
+mod joined;
+mod listening;
+mod meeting;
 mod opening;
+mod telling;
+mod watch;
 mod window;
 
 pub use followed::{Followed, Notes};
 pub use invitation::{
     GREATEST_MESSAGE, id_of, ids_in, opened, opening_of, setup_in, takes_session,
 };
+pub use joined::{Joined, SubscriberDevice, offered, tie, tied_of};
+pub use listening::listen;
+pub use meeting::{Meeting, meeting_of};
 pub use opening::Opening;
+pub use telling::{
+    Counts, tell_again, tell_another, tell_closed, tell_counters, tell_joined, tell_refused,
+    tell_silent,
+};
+pub use watch::Watch;
 pub use window::window_of;

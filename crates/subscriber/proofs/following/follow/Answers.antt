@@ -3,7 +3,7 @@ use Rattle.subscriber.specs.Leavings.{IsEnding}
 use Rattle.subscription.specs.declared.followed.Notes.{Notes}
 use Rattle.subscriber.proofs.Lived.{attended_life, silent_life}
 use Rattle.subscriber.proofs.Written.{writes_more}
-use Rattle.subscriber.specs.declared.joined.Joined.{Joined}
+use Rattle.subscription.specs.declared.joined.Joined.{Joined}
 use Rattle.subscriber.proofs.following.follow.Goals as goal
 
 pub loop-preserved : goal.loop-preserved

@@ -1,6 +1,6 @@
 use Rattle.std.proofs.Common.{subst}
 use Rattle.std.specs.Prelude.{IfSome}
-use Rattle.subscriber.specs.Calls.{IsJoined}
+use Rattle.subscription.specs.Calls.{IsJoined}
 use Rattle.subscriber.proofs.Lived.{joined_life}
 use Rattle.subscriber.proofs.subscribing.subscribe.Goals as goal
 

@@ -3,23 +3,24 @@
 ghost use Rattle.std.specs.Prelude.{IfNone, IfSome};
 ghost use Rattle.frames.specs.Frames.{setup_of};
 ghost use Rattle.subscription.specs.Meetings.{OpensNothing};
-ghost use Rattle.subscriber.specs.Turning.{IsMeeting};
+ghost use Rattle.subscription.specs.Calls.{IsMeeting};
 
+use crate::invitation::opening_of;
+use crate::opening::Opening;
 use frames::Setup;
 use options::SubscribePlan;
 use std::net::SocketAddr;
-use subscription::{Opening, opening_of};
 
 /// A SETUP, who sent it, and the image that it would open.
 #[derive(Clone, Copy)]
-pub(crate) struct Meeting {
+pub struct Meeting {
     pub from: SocketAddr,
     pub setup: Setup,
     pub opening: Opening,
 }
 
 /// What would open by a SETUP that came from somebody.
-pub(crate) fn meeting_of(plan: &SubscribePlan, from: SocketAddr, setup: &Setup) -> Option<Meeting>
+pub fn meeting_of(plan: &SubscribePlan, from: SocketAddr, setup: &Setup) -> Option<Meeting>
     ensures found { IfSome result (IsMeeting plan.now from setup.now) }
     ensures none { IfNone result (OpensNothing plan.now (setup_of setup.now)) }
 {

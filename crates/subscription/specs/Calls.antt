@@ -9,12 +9,17 @@ use Rattle.peer.specs.Patience.{patient}
 use Rattle.peer.specs.Ties.{Came, tied_to}
 use Rattle.subscription.specs.Hearings.{following}
 use Rattle.subscription.specs.Meetings.{HasMet, Opens, OpensNothing, TakesSession, TellsIds, TellsSetup}
-use Rattle.subscriber.specs.Turning.{IsMeeting}
-use Rattle.subscriber.specs.Watches.{Seen, hearing, with_stranger}
-use Rattle.subscriber.specs.declared.joined.Joined.{Joined}
-use Rattle.subscriber.specs.declared.listening.Call.{Call}
-use Rattle.subscriber.specs.declared.listening.Call.TheVariants.{Opens as Opening, Asks, Stranger}
-use Rattle.subscriber.specs.declared.meeting.Meeting.{Meeting}
+use Rattle.subscription.specs.Watches.{Seen, hearing, with_stranger}
+use Rattle.subscription.specs.declared.joined.Joined.{Joined}
+use Rattle.subscription.specs.declared.listening.Call.{Call}
+use Rattle.subscription.specs.declared.listening.Call.TheVariants.{Opens as Opening, Asks, Stranger}
+use Rattle.subscription.specs.declared.meeting.Meeting.{Meeting}
+
+-- the image that a SETUP would open, and who sent it
+pub record IsMeeting (plan : SubscribePlan) (from : SocketAddr) (f : Setup) (m : Meeting) : Type 0 where
+  pub sender : m.from ≡ from
+  pub told : m.setup ≡ f
+  pub opens : Opens plan (setup_of m.setup) m.opening
 
 -- the plan's stream, and a session that it takes
 pub record AreTaken (plan : SubscribePlan) (ids : ℤ × ℤ) : Type 0 where

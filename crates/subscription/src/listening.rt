@@ -2,11 +2,12 @@
 
 ghost use Rattle.std.specs.Prelude.{◌≡◌, None, IfNone, IfOk, IfSome};
 ghost use Rattle.frames.specs.Frames.{setup_of};
-ghost use Rattle.subscriber.specs.Calls.{Heeds, IsCall, IsCallWith, IsJoined, IsJoinedBy};
+ghost use Rattle.subscription.specs.Calls.{Heeds, IsCall, IsCallWith, IsJoined, IsJoinedBy};
 ghost use Rattle.subscription.specs.Meetings.{Opens};
-ghost use Rattle.subscriber.specs.Watches.{IsQuiet, after_call};
+ghost use Rattle.subscription.specs.Watches.{IsQuiet, after_call};
 
-use crate::fault::SubscribeFault;
+use crate::followed::Followed;
+use crate::invitation::{GREATEST_MESSAGE, id_of, ids_in, opened, setup_in, takes_session};
 use crate::joined::Joined;
 use crate::meeting::{Meeting, meeting_of};
 use crate::telling::{Counts, tell_waiting};
@@ -24,7 +25,6 @@ use std::io::Write;
 use std::net::SocketAddr;
 use std::sync::Wait;
 use std::time::Clock;
-use subscription::{Followed, GREATEST_MESSAGE, id_of, ids_in, opened, setup_in, takes_session};
 
 /// What a datagram is to a subscriber without an image.
 #[derive(Clone, Copy)]
@@ -118,7 +118,7 @@ fn heed(
     listener: &Listener,
     outbox: &mut Outbox,
     watch: &mut Watch,
-) -> Result<Option<Meeting>, SubscribeFault>
+) -> Result<Option<Meeting>, DeviceError>
     requires size { outbox.old.mtu ≡ REPLY }
     ensures size { outbox.new.mtu ≡ REPLY }
     ensures heeds { IfOk result (λ found. Heeds plan.now listener.now watch.old found watch.new) }
@@ -152,7 +152,7 @@ fn join(
     listener: Listener,
     meeting: &Meeting,
     now: u64,
-) -> Result<Joined, SubscribeFault>
+) -> Result<Joined, DeviceError>
     ensures { IfOk result (IsJoinedBy plan.now now meeting.now listener) }
 {
     let subscriber = opened(alloc, plan, 0, &meeting.setup, now)?;
@@ -160,7 +160,7 @@ fn join(
     let lossy = Lossy::new(alloc, tied, plan.end.rates, plan.end.seed);
     let device = Followed::new(lossy, meeting.opening.session, plan.end.stream);
     let Ok(duty) = Duty::new(alloc, device, REPLY) else {
-        return Err(SubscribeFault::Failed(DeviceError::Memory));
+        return Err(DeviceError::Memory);
     };
     Ok(Joined {
         opening: meeting.opening,
@@ -192,14 +192,14 @@ fn tell<E: Write>(plan: &SubscribePlan, errors: &mut E, watch: &mut Watch)
 
 /// Listens until a SETUP opens an image for the plan. There is none where no datagram came that the plan takes for as long as
 /// it says. The fault is that memory was refused, the clock can't be read, or every call of the socket failed for 5 seconds.
-pub(crate) fn listen<R: Wait + Clock, E: Write>(
+pub fn listen<R: Wait + Clock, E: Write>(
     rt: &R,
     alloc: Global,
     plan: &SubscribePlan,
     mut listener: Listener,
     errors: &mut E,
     watch: &mut Watch,
-) -> Result<Option<Joined>, SubscribeFault>
+) -> Result<Option<Joined>, DeviceError>
     ensures joined { IfOk result (λ found. IfSome found (IsJoined plan.now watch.new)) }
     ensures quiet { IfOk result (λ found. IfNone found (IsQuiet plan.now watch.new)) }
 {

@@ -4,10 +4,10 @@ use Rattle.std.specs.declared.net.SocketAddr.{SocketAddr}
 use Rattle.frames.specs.Frames.{setup_of}
 use Rattle.frames.specs.declared.frame.Setup.{Setup}
 use Rattle.options.specs.declared.ends.plans.SubscribePlan.{SubscribePlan}
-use Rattle.subscriber.specs.Calls.{IsCall, IsCallWith, IsFrameCall}
+use Rattle.subscription.specs.Calls.{IsCall, IsCallWith, IsFrameCall}
 use Rattle.subscription.specs.Meetings.{Opens}
-use Rattle.subscriber.specs.declared.listening.Call.TheVariants as calls
-use Rattle.subscriber.specs.declared.meeting.Meeting.{Meeting}
+use Rattle.subscription.specs.declared.listening.Call.TheVariants as calls
+use Rattle.subscription.specs.declared.meeting.Meeting.{Meeting}
 
 no_frame : (plan : SubscribePlan) (ids : Option (ℤ × ℤ)) (m : Meeting) → IsFrameCall plan ids (calls.Opens m) → ⊥
 no_frame plan None m is = absurd (cc)

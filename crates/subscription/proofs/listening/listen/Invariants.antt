@@ -1,5 +1,5 @@
 use Rattle.std.proofs.Common.{◌≡◌}
-use Rattle.subscriber.proofs.listening.listen.Given as goal
+use Rattle.subscription.proofs.listening.listen.Given as goal
 
 abbrev pub invariant-loop : goal.invariant-loop
 invariant-loop g l = l.outbox.mtu ≡ 40

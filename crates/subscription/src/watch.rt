@@ -2,10 +2,8 @@
 
 ghost use Rattle.std.specs.Prelude.{◌≡◌, ◌-◌, ◌↔◌, is_some, IfErr, IfSome, IsSome, IsTrue, OnOk};
 ghost use Rattle.endpoint.specs.declared.device_error.DeviceError.TheVariants.{Device};
-ghost use Rattle.subscriber.specs.Watches.{IsBroken, IsDue, IsQuiet, IsSilent, begun, heard_at, hearing, looking, losing, told_if, with_stranger, working};
-ghost use Rattle.subscriber.specs.declared.fault.SubscribeFault.TheVariants.{Failed};
+ghost use Rattle.subscription.specs.Watches.{IsBroken, IsDue, IsQuiet, IsSilent, begun, heard_at, hearing, looking, losing, told_if, with_stranger, working};
 
-use crate::fault::SubscribeFault;
 use endpoint::DeviceError;
 use options::SubscribePlan;
 use std::marker::Model;
@@ -37,7 +35,7 @@ pub struct Watch {
 }
 
 impl Model for Watch {
-    ghost use Rattle.subscriber.specs.Watches.{Seen};
+    ghost use Rattle.subscription.specs.Watches.{Seen};
 
     ghost Value = { Seen };
 
@@ -61,12 +59,12 @@ impl Watch {
     }
 
     /// Notes the moment. A clock that can't be read is a device that failed.
-    pub fn see<R: Clock>(&mut self, rt: &R) -> Result<(), SubscribeFault>
+    pub fn see<R: Clock>(&mut self, rt: &R) -> Result<(), DeviceError>
         ensures seen { OnOk result (self.new ≡ looking self.old self.new.moment) }
-        ensures failed { IfErr result (λ fault. (fault ≡ Failed Device) × (self.new ≡ self.old)) }
+        ensures failed { IfErr result (λ fault. (fault ≡ Device) × (self.new ≡ self.old)) }
     {
         let Ok(time) = self.began.elapsed(rt) else {
-            return Err(SubscribeFault::Failed(DeviceError::Device));
+            return Err(DeviceError::Device);
         };
         let now = u64::try_from(time.as_nanos()).unwrap_or(u64::MAX);
         self.heard = self.heard_at(now);
@@ -149,12 +147,12 @@ impl Watch {
     }
 
     /// The fault where every call of the socket has failed for 5 seconds.
-    pub fn check_works(&self) -> Result<(), SubscribeFault>
+    pub fn check_works(&self) -> Result<(), DeviceError>
         ensures works { OnOk result (¬ IsBroken self.now) }
-        ensures broken { IfErr result (λ fault. (fault ≡ Failed Device) × IsBroken self.now) }
+        ensures broken { IfErr result (λ fault. (fault ≡ Device) × IsBroken self.now) }
     {
         if self.moment.saturating_sub(self.worked) >= PATIENCE {
-            return Err(SubscribeFault::Failed(DeviceError::Device));
+            return Err(DeviceError::Device);
         }
         Ok(())
     }

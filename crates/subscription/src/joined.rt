@@ -4,16 +4,18 @@ ghost use Rattle.std.specs.Prelude.{◌≡◌, ◌↔◌, IsTrue, None, option_m
 ghost use Rattle.frames.specs.Frames.{setup_of};
 ghost use Rattle.receiver.specs.Receiving.{Receiver};
 ghost use Rattle.receiver.specs.Subscribing.{RepresentsSubscriber};
-ghost use Rattle.subscriber.specs.Places.{IsRebuiltTo, StandsAt};
-ghost use Rattle.subscriber.specs.Offers.{IsIn, IsOffered, setup_taken, tied_anew};
+ghost use Rattle.subscription.specs.Places.{IsRebuiltTo, StandsAt};
+ghost use Rattle.subscription.specs.Offers.{IsIn, IsOffered, setup_taken, tied_anew};
 
+use crate::followed::Followed;
+use crate::invitation::setup_in;
+use crate::opening::Opening;
 use agents::Duty;
 use frames::Setup;
 use loss_injector::Lossy;
 use peer::{PatientDevice, TiedDevice};
 use receiver::Subscriber;
 use std::net::SocketAddr;
-use subscription::{Followed, Opening, setup_in};
 
 /// The device of a subscriber with an image.
 pub type SubscriberDevice = Followed<Lossy<PatientDevice<TiedDevice>>>;
@@ -56,14 +58,14 @@ impl Joined {
 }
 
 /// The device that is tied to the peer.
-pub(crate) fn tied_of(device: &SubscriberDevice) -> &TiedDevice
+pub fn tied_of(device: &SubscriberDevice) -> &TiedDevice
     ensures { result.now ≡ device.now.inner.inner.inner }
 {
     device.inner().inner().inner()
 }
 
 /// Makes this the peer.
-pub(crate) fn tie(device: &mut SubscriberDevice, peer: SocketAddr)
+pub fn tie(device: &mut SubscriberDevice, peer: SocketAddr)
     ensures { device.new ≡ tied_anew device.old peer }
 {
     let lossy = device.inner_mut();
@@ -86,7 +88,7 @@ fn setup_that_came(tied: &TiedDevice) -> Option<(SocketAddr, Setup)>
 }
 
 /// Takes the SETUP that came in the last cycle, with who sent it: the peer's, if one did, else the one that came last.
-pub(crate) fn offered(device: &mut SubscriberDevice) -> Option<(SocketAddr, Setup)>
+pub fn offered(device: &mut SubscriberDevice) -> Option<(SocketAddr, Setup)>
     ensures offered { IsOffered device.old.notes.setup device.old.inner.inner.inner result }
     ensures taken { device.new ≡ setup_taken device.old }
 {
