@@ -14,6 +14,7 @@ use crate::ended::Ending;
 use crate::fault::SubscribeFault;
 use crate::turning::attend;
 use agents::{IdleStrategy, REPLY};
+use endpoint::DeviceError;
 use options::SubscribePlan;
 use receiver::STATUS_INTERVAL;
 use std::alloc::Global;
@@ -73,10 +74,10 @@ fn cycle_once<W: Write>(
 
 /// Notes whether a call of the socket worked in a cycle, before which so many had. The fault comes where none has for 5
 /// seconds.
-fn check_works(joined: &Joined, watch: &mut Watch, before: u64) -> Result<(), SubscribeFault>
+fn check_works(joined: &Joined, watch: &mut Watch, before: u64) -> Result<(), DeviceError>
     ensures noted { NotesWork before joined.now.duty.device.inner.inner.worked watch.old watch.new }
     ensures works { OnOk result (¬ IsBroken watch.new) }
-    ensures broken { IfErr result (λ fault. (fault ≡ Failed Device) × IsBroken watch.new) }
+    ensures broken { IfErr result (λ fault. (fault ≡ Device) × IsBroken watch.new) }
 {
     if joined.duty.device().inner().inner().worked() != before {
         watch.work();
