@@ -1,11 +1,21 @@
 //! The media driver's program: `mdriver sim` plays a script from offer to poll, `mdriver run` runs the driver in
 //! threads over UDP, `mdriver decode` prints the frames of a datagram, and `mdriver publish` and `mdriver subscribe`
 //! carry messages from one process to another. `main` is proved safe.
+//!
+//! The error output may block, as a pipe that nobody reads: a thread of its own writes the lines, behind a queue that is
+//! bounded, so whoever tells a line never waits for it. A line that is the one told last is counted and not shown again;
+//! one that finds no room in the queue is lost and counted. The next line that is shown stands behind what both counts
+//! tell; what is shown for it is exact (`Ledger::text`, by `shown_text`), and so is what each call leaves of the counts.
+//! That a line is written isn't said.
 #![tactic(auto)]
+
+mod ledger;
+mod lines;
+mod shared;
 
 use command_line::process_words;
 use commands::{Fault, command};
-use error_lines::ErrorLines;
+use lines::ErrorLines;
 use std::alloc::AllocGlobal;
 use std::env::Env;
 use std::io::{self, BufWriter, Read, Write};

@@ -1,7 +1,7 @@
 //! Which lines are shown, and what is counted in place of the others.
 
 ghost use Rattle.std.specs.Prelude.{◌≡◌, ◌↔◌, IfOk, IsTrue, Some};
-ghost use Rattle.error_lines.specs.Ledgers.{IsRepeat, nothing_told, notices_text, shown_text, with_lost, with_repeat, with_shown};
+ghost use Rattle.mdriver.specs.Ledgers.{IsRepeat, nothing_told, notices_text, shown_text, with_lost, with_repeat, with_shown};
 
 use std::alloc::{AllocError, Global};
 use std::fmt;
@@ -17,7 +17,7 @@ pub struct Ledger {
 
 impl Model for Ledger {
     ghost use Rattle.std.specs.Prelude.{option_map};
-    ghost use Rattle.error_lines.specs.Ledgers.{Told};
+    ghost use Rattle.mdriver.specs.Ledgers.{Told};
 
     ghost Value = { Told };
 
