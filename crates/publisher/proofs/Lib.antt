@@ -1,4 +1,6 @@
+pub mod Beginnings
 pub mod Ends
-pub mod Inputs
+pub mod Faults
 pub mod Lines
-pub mod Published
+pub mod AllPublished
+pub mod Whole

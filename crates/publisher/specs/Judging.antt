@@ -1,18 +1,40 @@
 -- What stops a publisher, and where its stream ends.
-use Rattle.std.specs.Prelude.{ℕ, Bool, nat_eq, if◌then◌else◌, Option, None, Some, Result, Ok, Err}
+use Rattle.std.specs.Prelude.{◌≡◌, ℕ, Bool, true, false, ◌&&◌, nat_eq, if◌then◌else◌, Option, None, Some, Result, Ok, Err}
 use Rattle.endpoint.specs.declared.device_error.DeviceError.TheVariants.{Device}
+use Rattle.peer.specs.declared.ending.Ending.{Ending}
+use Rattle.peer.specs.declared.ending.Ending.TheVariants.{Whole, Short}
+use Rattle.offering.specs.Inputs as inputs
+use Rattle.offering.specs.declared.fault.ReadingFault.{ReadingFault}
+use Rattle.offering.specs.declared.reading.Offered.{Offered}
+use Rattle.offering.specs.declared.reading.Reading.{Reading}
+use Rattle.offering.specs.declared.reading.ReadingEnd.{ReadingEnd}
+use Rattle.offering.specs.declared.reading.ReadingEnd.TheVariants.{All, Stopped}
+use Rattle.publisher.specs.Faults.{publish_fault}
 use Rattle.publisher.specs.declared.fault.PublishFault.{PublishFault}
 use Rattle.publisher.specs.declared.fault.PublishFault.TheVariants.{Failed}
-use Rattle.publisher.specs.declared.reading.Reading.{Reading}
+use Rattle.publisher.specs.declared.judged.Judged.{Judged}
+
+abbrev pub fault_by : Result ReadingEnd ReadingFault → Option PublishFault
+fault_by (Ok end) = None
+fault_by (Err fault) = Some (publish_fault fault)
 
 abbrev pub fault_in : Option Reading → Option PublishFault
 fault_in None = None
-fault_in (Some reading) = reading.fault
+fault_in (Some reading) = fault_by reading.ended
 
--- where the accepted messages do, once none comes any more
-abbrev pub end_in : Option Reading → ℕ → Option ℕ
-end_in None tail = None
-end_in (Some reading) tail = Some tail
+-- one of the reading, for some shape of a stream
+abbrev pub IsStop : PublishFault → Type 0
+IsStop fault = (f : ReadingFault) × (fault ≡ publish_fault f) × inputs.IsStop f
+
+-- where the accepted messages do, once none comes any more; where the reading was stopped, more may come of the input
+abbrev pub end_by : Result ReadingEnd ReadingFault → ℕ → Option ℕ
+end_by (Ok All) tail = Some tail
+end_by (Ok Stopped) tail = None
+end_by (Err fault) tail = Some tail
+
+abbrev pub end_in : Option Reading → Option ℕ
+end_in None = None
+end_in (Some reading) = end_by reading.ended reading.offered.tail
 
 abbrev pub device_fault : Bool → Result (Unit {0}) PublishFault
 device_fault broken = if broken then Err (Failed Device) else Ok tt
@@ -21,7 +43,35 @@ device_fault broken = if broken then Err (Failed Device) else Ok tt
 abbrev pub input_fault : PublishFault → ℕ → Result (Unit {0}) PublishFault
 input_fault fault messages = if nat_eq messages 0 then Err fault else Ok tt
 
+-- ---- how it ended in all
+
+abbrev pub is_all : Result ReadingEnd ReadingFault → Bool
+is_all (Ok All) = true
+is_all (Ok Stopped) = false
+is_all (Err fault) = false
+
+abbrev pub are_same : Offered → Offered → Bool
+are_same a b = nat_eq a.messages b.messages && nat_eq a.tail b.tail
+
+-- all of the input was read, and what was accepted of it is what the end was judged by
+abbrev pub is_read : Option Reading → Option Reading → Bool
+is_read None judged = false
+is_read (Some reading) None = false
+is_read (Some reading) (Some judged) = is_all reading.ended && are_same reading.offered judged.offered
+
+-- whole only then
+abbrev pub ending_by : Bool → Ending → Ending
+ending_by true ending = ending
+ending_by false ending = Short
+
+abbrev pub ending_of : Option Reading → Result Judged PublishFault → Result Ending PublishFault
+ending_of reading (Ok judged) = Ok (ending_by (is_read reading judged.reading) judged.ending)
+ending_of reading (Err fault) = Err fault
+
+abbrev pub faulted_or : Option PublishFault → Result Ending PublishFault → Result Ending PublishFault
+faulted_or None sent = sent
+faulted_or (Some fault) sent = Err fault
+
 -- what stopped the reading goes before how the sending ended
-abbrev pub ended_by : {T : Type 0} → Option PublishFault → Result T PublishFault → Result T PublishFault
-ended_by None sent = sent
-ended_by (Some fault) sent = Err fault
+abbrev pub ended_by : Option Reading → Result Judged PublishFault → Result Ending PublishFault
+ended_by reading sent = faulted_or (fault_in reading) (ending_of reading sent)

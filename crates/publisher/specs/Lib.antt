@@ -1,8 +1,8 @@
-pub mod Inputs
+pub mod Faults
 pub mod Judging
 pub mod Looking
 pub mod Openings
 pub mod Progress
-pub mod Published
+pub mod Ended
 pub mod Texts
 pub mod Beginnings

@@ -1,10 +1,10 @@
 -- The log of a publisher, and the passes of its threads.
 use Rattle.std.specs.Prelude.{◌≡◌}
+use Rattle.atomic_table.specs.Seated.{TableId}
 use Rattle.theory.specs.Bytes.{Identity}
 use Rattle.shared_log.specs.Handles.{IsOf, LogValue}
 use Rattle.options.specs.declared.ends.plans.PublishPlan.{PublishPlan}
 use Rattle.publisher.specs.declared.sender_thread.SenderPasses.{SenderPasses}
-use Rattle.publisher.specs.declared.publisher_state.PublisherState.{PublisherState}
 
 abbrev pub identity_of : PublishPlan → Identity
 identity_of p = record { geometry = p.geometry; session = p.session; stream = p.end.stream }
@@ -16,8 +16,8 @@ pub record IsPlanned (p : PublishPlan) (l : LogValue) : Type 0 where
   pub consumers : l.consumers ≡ 1
 
 -- the duty has the log's MTU, the passes are those of the log and the queue
-pub record ArePasses {D : Type 0} (s : PublisherState) (p : SenderPasses D) : Type 0 where
-  pub size : p.duty.mtu ≡ s.log.identity.geometry.mtu
-  pub client : p.client.queue ≡ s.conductor
-  pub taker : p.taker.queue ≡ s.conductor
-  pub keeper : IsOf s.log p.keeper.held
+pub record ArePasses {D : Type 0} (l : LogValue) (queue : TableId) (p : SenderPasses D) : Type 0 where
+  pub size : p.duty.mtu ≡ l.identity.geometry.mtu
+  pub client : p.client.queue ≡ queue
+  pub taker : p.taker.queue ≡ queue
+  pub keeper : IsOf l p.keeper.held

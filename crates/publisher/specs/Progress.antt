@@ -5,6 +5,9 @@ use Rattle.peer.specs.declared.attendance.Heard.{Heard}
 use Rattle.peer.specs.declared.ending.Ending.{Ending}
 use Rattle.peer.specs.Endings.{ending_of}
 use Rattle.peer.specs.Silences.{judged, never, seen_at}
+use Rattle.offering.specs.declared.reading.Reading.{Reading}
+use Rattle.publisher.specs.Judging.{end_in}
+use Rattle.publisher.specs.declared.judged.Judged.{Judged}
 use Rattle.publisher.specs.declared.looking.Seen.{Seen}
 use Rattle.publisher.specs.declared.progress.Progress.{Progress}
 
@@ -55,13 +58,16 @@ is_alone p a now = not p.alone && (is_nobody a.present && nat_le 5000000000 now)
 abbrev pub ending_seen : Progress → Seen → Option ℕ → ℕ → ℕ → ℕ → Option Ending
 ending_seen p s end linger wait now = ending_of s.attendance end (judged p.statuses s.at_rest now) linger wait
 
--- wherever its stream ends, if it has ended, this is how the publisher ends, if it does
-pub record Judges (p : Progress) (s : Seen) (linger wait now : ℕ) (answer : Option Ending) : Type 0 where
-  pub end : Option ℕ
-  pub is : answer ≡ ending_seen p s end linger wait now
+abbrev pub judged_by : Option Reading → Option Ending → Option Judged
+judged_by reading None = None
+judged_by reading (Some ending) = Some (record { ending = ending; reading = reading })
 
--- receivers that were heard end a publisher this way
-pub record Ends (a : Attendance) (linger wait : ℕ) (ending : Ending) : Type 0 where
-  pub end : Option ℕ
+-- by how the reading has ended, if it has, this is how the publisher ends, if it does
+pub record Judges (p : Progress) (s : Seen) (linger wait now : ℕ) (answer : Option Judged) : Type 0 where
+  pub reading : Option Reading
+  pub is : answer ≡ judged_by reading (ending_seen p s (end_in reading) linger wait now)
+
+-- receivers that were heard end a publisher this way, by how the reading had ended
+pub record Ends (a : Attendance) (linger wait : ℕ) (judged : Judged) : Type 0 where
   pub silence : Option ℕ
-  pub is : ending_of a end silence linger wait ≡ Some ending
+  pub is : ending_of a (end_in judged.reading) silence linger wait ≡ Some judged.ending

@@ -1,15 +1,19 @@
 //! A publisher from its begin to its end.
 
-ghost use Rattle.std.specs.Prelude.{◌≡◌, ◌⊎◌, IfErr};
+ghost use Rattle.std.specs.Prelude.{◌≡◌, ◌⊎◌, IfErr, IfOk, IfSome, Ok};
+ghost use Rattle.peer.specs.declared.ending.Ending.TheVariants.{Whole};
+ghost use Rattle.offering.specs.Ended.{EndsInput};
 ghost use Rattle.publisher.specs.Beginnings.{ArePublisherParts};
+ghost use Rattle.publisher.specs.Ended.{AllArrived, PublishesAll, reading_left};
 
+use crate::beginning::{PublisherParts, publisher_parts};
 use crate::fault::PublishFault;
 use crate::publisher_context::PublisherContext;
-use crate::publisher_parts::{PublisherParts, publisher_parts};
 use crate::sender_thread::ChannelSender;
-use crate::two_threads::{run, start_reader};
+use crate::two_threads::{Published, run};
 use agents::{Began, open_sender};
-use endpoint::{DeviceError, Route, UdpDevice};
+use endpoint::{Datagrams, DeviceError, Route, UdpDevice};
+use offering::start_reader;
 use options::PublishPlan;
 use peer::Ending;
 use std::alloc::Global;
@@ -19,23 +23,28 @@ use std::sync::{Arc, Wait};
 use std::thread::Threads;
 use std::time::Clock;
 
-/// Runs with all that a publisher begins with.
-fn publish_over<
+/// Runs with all that a publisher begins with, over any device.
+pub fn publish_over<
     R: Threads + Wait + Clock + Send + Copy + 'static,
     I: BufRead + Send + Drop + 'static,
+    D: Datagrams + Drop,
     E: Write,
 >(
     rt: &R,
     alloc: Global,
     plan: &PublishPlan,
-    parts: PublisherParts,
+    parts: PublisherParts<D>,
     input: I,
     errors: &mut E,
-) -> Result<Ending, PublishFault>
+) -> Result<Published<I>, PublishFault>
     requires { ArePublisherParts plan.now parts }
+    ensures input { IfOk result (λ e. IfSome e.input (λ left. EndsInput plan.now.end.form parts.state.log (I.remaining input) (I.remaining left.input) parts.publisher.pass left.publisher left.reading)) }
+    ensures whole { IfOk result (λ e. e.ending ≡ Ok Whole → AllArrived (reading_left e.input) e.attendance) }
 {
     let PublisherParts {
+        began,
         state,
+        conductor,
         publisher,
         reader,
         passes,
@@ -45,15 +54,18 @@ fn publish_over<
     };
     let theirs = Arc::try_clone(&state)?;
     let agent = open_sender(alloc, &state.log, reader)?;
-    start_reader(rt, alloc, *plan, theirs, input, publisher)?;
-    let sender = ChannelSender { agent, passes };
+    let Some(reading) = start_reader(rt, alloc, plan.end.form, theirs, input, publisher) else {
+        return Err(PublishFault::Failed(DeviceError::Device));
+    };
+    let mut sender = ChannelSender { agent, passes };
     let context = PublisherContext {
         rt,
-        alloc,
         plan,
         state: &state,
+        conductor: &conductor,
+        began,
     };
-    run(&context, sender, errors)
+    Ok(run(&context, &mut sender, reading, errors))
 }
 
 /// The device along a route.
@@ -71,7 +83,7 @@ fn connected<R: Net>(rt: &R, alloc: Global, route: &Route) -> Result<UdpDevice, 
 /// fault of the input, an end before all was received, an empty input and the counters are lines of `errors`.
 ///
 /// It waits for nobody but receivers: where it ends the input may still be read, by a thread of its own that ends with the
-/// process, or at its next message.
+/// process, or at its next message. It ends whole only where all of the input was read.
 ///
 /// The fault is `Input` where a message couldn't be read, and what came before it was delivered or given up on, `Full` at
 /// the stream's last position, `NoSocket` where the system refused one along the route, `Device` where a thread or the clock
@@ -87,12 +99,14 @@ pub fn publish<
     route: &Route,
     input: I,
     errors: &mut E,
-) -> Result<Ending, PublishFault> {
+) -> Result<Ending, PublishFault>
+    ensures { result ≡ Ok Whole → PublishesAll plan.now (I.remaining input) }
+{
     let began = Began::now(rt)?;
     let device = connected(rt, alloc, route)?;
     let parts = publisher_parts(alloc, plan, began, device)?;
     let Ok(input) = BufReader::new(alloc, input) else {
         return Err(PublishFault::Failed(DeviceError::Memory));
     };
-    publish_over(rt, alloc, plan, parts, input, errors)
+    publish_over(rt, alloc, plan, parts, input, errors)?.ending
 }

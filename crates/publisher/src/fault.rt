@@ -1,10 +1,12 @@
 ghost use Rattle.std.specs.Prelude.{◌≡◌, Some};
+ghost use Rattle.publisher.specs.Faults.{publish_fault};
 ghost use Rattle.publisher.specs.Texts.{text_of};
 ghost use Rattle.endpoint.specs.declared.device_error.DeviceError.TheVariants.{Device, Memory};
-ghost use Rattle.publisher.specs.declared.fault.PublishFault.TheVariants.{Failed, Input};
+ghost use Rattle.publisher.specs.declared.fault.PublishFault.TheVariants.{Failed};
 
 use endpoint::{DeviceError, DeviceFailed, Route};
 use messages::InputFault;
+use offering::ReadingFault;
 use std::alloc::AllocError;
 use std::error::Error;
 use std::fmt;
@@ -40,11 +42,14 @@ impl fmt::Display for PublishFault {
 
 impl Error for PublishFault {}
 
-impl From<InputFault> for PublishFault {
-    ghost from_gives = { λ from fault. fault ≡ Input from };
+impl From<ReadingFault> for PublishFault {
+    ghost from_gives = { λ from fault. fault ≡ publish_fault from };
 
-    fn from(fault: InputFault) -> PublishFault {
-        PublishFault::Input(fault)
+    fn from(fault: ReadingFault) -> PublishFault {
+        match fault {
+            ReadingFault::Input(fault) => PublishFault::Input(fault),
+            ReadingFault::Full => PublishFault::Full,
+        }
     }
 }
 

@@ -4,18 +4,17 @@ ghost use Rattle.std.specs.Prelude.{◌≡◌, ◌||◌, true, ℕ, if◌then◌
 ghost use Rattle.endpoint.specs.declared.device_error.DeviceError.TheVariants.{Device};
 ghost use Rattle.peer.specs.Silences.{seen_at};
 ghost use Rattle.publisher.specs.declared.fault.PublishFault.TheVariants.{Failed};
-ghost use Rattle.publisher.specs.Inputs.{IsStop};
-ghost use Rattle.publisher.specs.Judging.{device_fault, end_in, fault_in, input_fault};
+ghost use Rattle.publisher.specs.Judging.{IsStop, device_fault, end_in, fault_in, input_fault};
 ghost use Rattle.publisher.specs.Progress.{Judges, is_alone, is_broken, seen, shown_at, with_work};
 
 use crate::fault::PublishFault;
+use crate::judged::Judged;
 use crate::looking::Seen;
 use crate::progress::{Progress, told_in};
 use crate::publisher_context::PublisherContext;
-use crate::reading::Reading;
 use crate::telling::{Counts, tell_alone, tell_change, tell_counters, tell_ending, tell_fault};
 use endpoint::DeviceError;
-use peer::Ending;
+use offering::{Reading, ReadingEnd};
 use std::io::Write;
 
 /// Why the reading stopped, if that wasn't the input's end.
@@ -25,17 +24,23 @@ pub(crate) fn fault_in(reading: &Option<Reading>) -> Option<PublishFault>
 {
     match *reading {
         None => None,
-        Some(ref reading) => reading.fault,
+        Some(ref reading) => match reading.ended {
+            Ok(_) => None,
+            Err(fault) => Some(PublishFault::from(fault)),
+        },
     }
 }
 
-/// Where the stream ends, if the reading has: where the accepted messages do.
-fn end_in(reading: &Option<Reading>, tail: u64) -> Option<u64>
-    ensures { result ≡ end_in reading.now tail }
+/// Where the stream ends, if the reading has, and wasn't stopped: where the accepted messages do.
+fn end_in(reading: &Option<Reading>) -> Option<u64>
+    ensures { result ≡ end_in reading.now }
 {
     match *reading {
         None => None,
-        Some(_) => Some(tail),
+        Some(ref reading) => match reading.ended {
+            Ok(ReadingEnd::Stopped) => None,
+            Ok(ReadingEnd::All) | Err(_) => Some(reading.offered.tail),
+        },
     }
 }
 
@@ -116,7 +121,8 @@ fn tell_counts<R, E: Write>(
     }
 }
 
-/// Tells what has changed and what is due. The answer is how the publisher ends, if it does.
+/// Tells what has changed and what is due. The answer is how the publisher ends, if it does, and how the reading had ended
+/// then.
 ///
 /// The fault is `Device` where each call of the device failed for the plan's linger, and the input's where no message was
 /// accepted before it.
@@ -126,8 +132,8 @@ pub(crate) fn judge<R, E: Write>(
     cycle: &Seen,
     errors: &mut E,
     now: u64,
-) -> Result<Option<Ending>, PublishFault>
-    ensures judges { IfOk result (λ ending. Judges progress.new cycle.now context.now.plan.now.linger context.now.plan.now.wait now ending) }
+) -> Result<Option<Judged>, PublishFault>
+    ensures judges { IfOk result (λ judged. Judges progress.new cycle.now context.now.plan.now.linger context.now.plan.now.wait now judged) }
     ensures seen { IfOk result (λ _. progress.new.statuses ≡ seen_at progress.old.statuses cycle.now.tally.statuses now) }
     ensures broken { IsTrue (is_broken progress.old cycle.now.worked context.now.plan.now.linger now) → result ≡ Err (Failed Device) }
 {
@@ -140,10 +146,11 @@ pub(crate) fn judge<R, E: Write>(
     }
     tell_receivers(progress, cycle, errors, now);
     tell_counts(context, progress, cycle, errors, now);
-    let ending = progress.ending(cycle, end_in(&reading, tail), plan.linger, plan.wait, now);
-    if let Some(ending) = ending {
-        let (start, told) = (cycle.attendance.start, told_in(&cycle.attendance));
-        let _ = tell_ending(errors, ending, start, told, tail);
-    }
-    Ok(ending)
+    let end = end_in(&reading);
+    let Some(ending) = progress.ending(cycle, end, plan.linger, plan.wait, now) else {
+        return Ok(None);
+    };
+    let (start, told) = (cycle.attendance.start, told_in(&cycle.attendance));
+    let _ = tell_ending(errors, ending, start, told, tail);
+    Ok(Some(Judged { ending, reading }))
 }

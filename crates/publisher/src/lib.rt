@@ -19,20 +19,20 @@
 //! isn't said: `tools/channels` shows it.
 #![tactic(auto)]
 
+mod beginning;
 mod channel_publisher;
 mod fault;
+mod judged;
 mod judging;
 mod looking;
 mod progress;
 mod publisher_context;
-mod publisher_parts;
-mod publisher_state;
-mod reader_thread;
-mod reading;
 mod sender_thread;
 mod telling;
 mod two_threads;
 
-pub use channel_publisher::publish;
+pub use beginning::{PublisherParts, publisher_parts};
+pub use channel_publisher::{publish, publish_over};
 pub use fault::PublishFault;
 pub use peer::Ending;
+pub use two_threads::Published;

@@ -1,14 +1,17 @@
-//! What both threads of a publisher are lent.
+//! What the thread that sends is lent.
 
-use crate::publisher_state::PublisherState;
+use agents::Began;
+use conductor::Conductor;
+use offering::OfferingState;
 use options::PublishPlan;
-use std::alloc::Global;
 
-/// What both threads of a publisher are lent: its plan, and what they share.
+/// What the thread that sends is lent: its plan, what it shares with the one that reads, the command queue, and the moment of
+/// the begin.
 #[derive(Drop)]
 pub struct PublisherContext<'a, R> {
     pub rt: &'a R,
-    pub alloc: Global,
     pub plan: &'a PublishPlan,
-    pub state: &'a PublisherState,
+    pub state: &'a OfferingState,
+    pub conductor: &'a Conductor,
+    pub began: Began,
 }

@@ -8,6 +8,7 @@ ghost use Rattle.publisher.specs.Openings.{ArePasses};
 ghost use Rattle.publisher.specs.Progress.{Ends};
 
 use crate::fault::PublishFault;
+use crate::judged::Judged;
 use crate::judging::judge;
 use crate::looking::{ChannelDevice, Seen, calls_of, look};
 use crate::progress::Progress;
@@ -15,7 +16,7 @@ use crate::publisher_context::PublisherContext;
 use agents::{Duty, IdleStrategy, LogSender, conduct};
 use conductor::{Client, Taker};
 use endpoint::Datagrams;
-use peer::{Attended, Ending};
+use peer::Attended;
 use shared_log::Keeper;
 use std::io::Write;
 use std::sync::Wait;
@@ -69,24 +70,24 @@ fn run_cycle<R: Wait + Clock, D: Datagrams>(
     now: u64,
 ) -> Result<bool, PublishFault>
     requires agent { SendsLog context.now.state.now.log sender.old.agent }
-    requires passes { ArePasses context.now.state.now sender.old.passes }
+    requires passes { ArePasses context.now.state.now.log context.now.conductor.now sender.old.passes }
     ensures agent { SendsLog context.now.state.now.log sender.new.agent }
-    ensures passes { ArePasses context.now.state.now sender.new.passes }
+    ensures passes { ArePasses context.now.state.now.log context.now.conductor.now sender.new.passes }
 {
-    let (rt, state) = (context.rt, context.state);
+    let (rt, conductor) = (context.rt, context.conductor);
     let before = work_of(sender);
     sender.agent.cycle(
         rt,
-        &state.conductor,
+        conductor,
         &mut sender.passes.client,
         &mut sender.passes.duty,
         now,
     )?;
     let kept = conduct(
         rt,
-        &state.log,
+        &context.state.log,
         &mut sender.passes.keeper,
-        &state.conductor,
+        conductor,
         &mut sender.passes.taker,
     );
     Ok(kept || work_of(sender) != before)
@@ -99,9 +100,9 @@ fn cycle<R: Wait + Clock, D: Datagrams>(
     now: u64,
 ) -> Result<(bool, Seen), PublishFault>
     requires agent { SendsLog context.now.state.now.log sender.old.agent }
-    requires passes { ArePasses context.now.state.now sender.old.passes }
+    requires passes { ArePasses context.now.state.now.log context.now.conductor.now sender.old.passes }
     ensures agent { SendsLog context.now.state.now.log sender.new.agent }
-    ensures passes { ArePasses context.now.state.now sender.new.passes }
+    ensures passes { ArePasses context.now.state.now.log context.now.conductor.now sender.new.passes }
     ensures seen { IfOk result (λ r. r.1 ≡ seen_of (calls_of sender.old.passes.duty.device) sender.new.passes.duty.device) }
 {
     let before = calls_of(sender.passes.duty.device());
@@ -111,24 +112,25 @@ fn cycle<R: Wait + Clock, D: Datagrams>(
     Ok((busy, cycle))
 }
 
-/// Sends and keeps until the publisher ends. The answer is how, by the receivers that its device has heard.
+/// Sends and keeps until the publisher ends. The answer is how, by the receivers that its device has heard, and by how the
+/// reading had ended then.
 #[tactic(auto, using(crate::proofs::Ends::ends))]
 pub fn send_all<R: Wait + Clock, D: Datagrams, E: Write>(
     context: &PublisherContext<'_, R>,
     sender: &mut ChannelSender<'_, D>,
     errors: &mut E,
-) -> Result<Ending, PublishFault>
+) -> Result<Judged, PublishFault>
     requires agent { SendsLog context.now.state.now.log sender.old.agent }
-    requires passes { ArePasses context.now.state.now sender.old.passes }
-    ensures { IfOk result (λ ending. Ends sender.new.passes.duty.device.watch.attendance context.now.plan.now.linger context.now.plan.now.wait ending) }
+    requires passes { ArePasses context.now.state.now.log context.now.conductor.now sender.old.passes }
+    ensures { IfOk result (λ judged. Ends sender.new.passes.duty.device.watch.attendance context.now.plan.now.linger context.now.plan.now.wait judged) }
 {
     let mut progress = Progress::new();
     let mut idle = IdleStrategy::new();
     for _ in context.rt.forever() {
-        let now = context.state.began.moment(context.rt)?;
+        let now = context.began.moment(context.rt)?;
         let (busy, seen) = cycle(context, sender, now)?;
-        if let Some(ending) = judge(context, &mut progress, &seen, errors, now)? {
-            return Ok(ending);
+        if let Some(judged) = judge(context, &mut progress, &seen, errors, now)? {
+            return Ok(judged);
         }
         idle.after(context.rt, busy);
     }

@@ -1,33 +1,29 @@
 //! The two threads of a publisher: one reads messages and offers them, the other sends, keeps the log and decides the end.
 
-ghost use Rattle.std.specs.Prelude.{◌≡◌, ◌+◌, ◌%◌, ◌^◌, ◌≤◌, IfErr, IfOk};
-ghost use Rattle.std.specs.Arc.{arc_value};
-ghost use Rattle.theory.specs.Position.{max_message, max_position};
-ghost use Rattle.shared_log.specs.Books.{IsDone};
+ghost use Rattle.std.specs.Prelude.{◌≡◌, ◌+◌, ◌%◌, ◌^◌, ◌≤◌, IfSome, Ok};
+ghost use Rattle.theory.specs.Position.{max_position};
 ghost use Rattle.agents.specs.LogSenders.{SendsLog};
 ghost use Rattle.peer.specs.Watching.{plus_one};
-ghost use Rattle.publisher.specs.Judging.{ended_by, fault_in};
+ghost use Rattle.peer.specs.declared.ending.Ending.TheVariants.{Whole};
+ghost use Rattle.offering.specs.Ended.{EndsInput};
+ghost use Rattle.publisher.specs.Ended.{AllArrived, reading_left};
+ghost use Rattle.publisher.specs.Judging.{ended_by, is_read};
 ghost use Rattle.publisher.specs.Openings.{ArePasses};
-ghost use Rattle.publisher.specs.Published.{EndsInput};
 
+use crate::beginning::sent_by;
 use crate::fault::PublishFault;
+use crate::judged::Judged;
 use crate::judging::fault_in;
 use crate::looking::ChannelDevice;
 use crate::publisher_context::PublisherContext;
-use crate::publisher_parts::sent_by;
-use crate::publisher_state::PublisherState;
-use crate::reader_thread::read_input;
-use crate::reading::Reading;
 use crate::sender_thread::{ChannelSender, send_all};
 use crate::telling::tell_refused;
 use agents::Duty;
-use endpoint::{Datagrams, DeviceError};
-use options::PublishPlan;
-use peer::{Ending, farewell_bytes};
-use shared_log::Publisher;
-use std::alloc::Global;
+use endpoint::Datagrams;
+use offering::{InputEnd, Reader, Reading, ReadingEnd};
+use peer::{Attendance, Ending, farewell_bytes};
 use std::io::{BufRead, Write};
-use std::sync::{Arc, OnceToken, Wait};
+use std::sync::Wait;
 use std::thread;
 use std::thread::Threads;
 use std::time::{Clock, Duration};
@@ -38,70 +34,62 @@ const FAREWELLS: u32 = 5;
 /// Milliseconds from one time to the next.
 const FAREWELL_PAUSE: u64 = 20;
 
-/// How a publisher ended, by how the reading ended, if it has, and by what was sent. The reading goes first: a message that
+/// How a publisher ended: whom it had heard then, and where its reading had ended too, what is left of that.
+#[derive(Drop)]
+pub struct Published<I> {
+    pub ending: Result<Ending, PublishFault>,
+    pub attendance: Attendance,
+    pub input: Option<InputEnd<I>>,
+}
+
+/// Whether all of the input was read, and what was accepted of it is what the end was judged by.
+fn is_read(reading: &Option<Reading>, judged: &Option<Reading>) -> bool
+    ensures { result ≡ is_read reading.now judged.now }
+{
+    match (reading, judged) {
+        (Some(reading), Some(judged)) => {
+            matches!(reading.ended, Ok(ReadingEnd::All))
+                && reading.offered.messages == judged.offered.messages
+                && reading.offered.tail == judged.offered.tail
+        }
+        _ => false,
+    }
+}
+
+/// How a publisher ended, by how its reading did, if it has, and by what was sent. The reading goes first: a message that
 /// couldn't be read is a fault however the sending went.
 fn ended(
     reading: &Option<Reading>,
-    sent: Result<Ending, PublishFault>,
+    sent: Result<Judged, PublishFault>,
 ) -> Result<Ending, PublishFault>
-    ensures { result ≡ ended_by (fault_in reading.now) sent }
+    ensures { result ≡ ended_by reading.now sent }
 {
-    match fault_in(reading) {
-        Some(fault) => Err(fault),
-        None => sent,
+    if let Some(fault) = fault_in(reading) {
+        return Err(fault);
+    }
+    match sent {
+        Ok(judged) => {
+            if is_read(reading, &judged.reading) {
+                return Ok(judged.ending);
+            }
+            Ok(Ending::Short)
+        }
+        Err(fault) => Err(fault),
     }
 }
 
-/// What the thread that reads does: it reads, and tells in the state how that ended. The answer shows that it stands there;
-/// it is handed back where an end was told before.
-fn read_there<R: Clock + Copy, I: BufRead + Drop>(
-    rt: R,
-    alloc: Global,
-    plan: PublishPlan,
-    state: &PublisherState,
-    mut input: I,
-    mut publisher: Publisher,
-) -> Result<OnceToken<'_, Reading>, Reading>
-    requires { IsDone state.now.log publisher }
-    ensures told { IfOk result (λ token. (token.of ≡ state.now.reading.id) × EndsInput plan.end.form (max_message state.now.log.identity.geometry) (I.remaining input) publisher.pass token.value.fault) }
-    ensures kept { IfErr result (λ back. EndsInput plan.end.form (max_message state.now.log.identity.geometry) (I.remaining input) publisher.pass back.fault) }
-{
-    let context = PublisherContext {
-        rt: &rt,
-        alloc,
-        plan: &plan,
-        state,
-    };
-    let reading = read_input(&context, &mut input, &mut publisher);
-    state.end_input(reading)
-}
-
-/// Starts the thread that reads. Nobody joins it: how the reading ended stands in the state, once it has.
-pub(crate) fn start_reader<
-    R: Threads + Clock + Send + Copy + 'static,
-    I: BufRead + Send + Drop + 'static,
->(
+/// What is left of the input, where its reading has ended. Its thread has nothing more to do then, and is joined.
+fn input_end<R: Threads, I: BufRead + Drop, C>(
     rt: &R,
-    alloc: Global,
-    plan: PublishPlan,
-    state: Arc<PublisherState>,
-    input: I,
-    publisher: Publisher,
-) -> Result<(), PublishFault>
-    requires { IsDone (arc_value state).log publisher }
+    context: &PublisherContext<'_, C>,
+    reader: Reader<I>,
+) -> Option<InputEnd<I>>
+    ensures { IfSome result (λ e. EndsInput reader.handle.promise.form reader.handle.promise.log.value (I.remaining reader.handle.promise.input.value) (I.remaining e.input) reader.handle.promise.publisher.value.pass e.publisher e.reading) }
 {
-    let there = *rt;
-    match thread::spawn(
-        rt,
-        move ||
-            requires { IsDone (arc_value state).log publisher }
-        {
-            let _ = read_there(there, alloc, plan, &state, input, publisher);
-        },
-    ) {
-        Ok(_) => Ok(()),
-        Err(_) => Err(PublishFault::Failed(DeviceError::Device)),
+    if context.state.reading().is_none() {
+        return None;
     }
+    Some(reader.join(rt))
 }
 
 /// Gives the device a datagram.
@@ -128,21 +116,44 @@ fn tell_end<R: Clock, D: Datagrams>(
     }
 }
 
-/// Sends until the publisher ends, and tells the stream's end unless that is by a fault.
-pub(crate) fn run<R: Wait + Clock, D: Datagrams + Drop, E: Write>(
-    context: &PublisherContext<'_, R>,
-    mut sender: ChannelSender<'_, D>,
-    errors: &mut E,
-) -> Result<Ending, PublishFault>
-    requires agent { SendsLog context.now.state.now.log sender.agent }
-    requires passes { ArePasses context.now.state.now sender.passes }
+/// How the reading ended that is left.
+fn reading_left<I>(input: &Option<InputEnd<I>>) -> Option<Reading>
+    ensures { result ≡ reading_left input.now }
 {
-    let sent = send_all(context, &mut sender, errors);
+    match *input {
+        None => None,
+        Some(ref left) => Some(left.reading),
+    }
+}
+
+/// Sends until the publisher ends, and tells the stream's end unless that is by a fault. Where the reading has ended by then,
+/// its thread is joined.
+#[tactic(auto, using(crate::proofs::Whole::arrived))]
+pub(crate) fn run<R: Threads + Wait + Clock, I: BufRead + Drop, D: Datagrams, E: Write>(
+    context: &PublisherContext<'_, R>,
+    sender: &mut ChannelSender<'_, D>,
+    reader: Reader<I>,
+    errors: &mut E,
+) -> Published<I>
+    requires agent { SendsLog context.now.state.now.log sender.old.agent }
+    requires passes { ArePasses context.now.state.now.log context.now.conductor.now sender.old.passes }
+    ensures input { IfSome result.input (λ e. EndsInput reader.handle.promise.form reader.handle.promise.log.value (I.remaining reader.handle.promise.input.value) (I.remaining e.input) reader.handle.promise.publisher.value.pass e.publisher e.reading) }
+    ensures whole { result.ending ≡ Ok Whole → AllArrived (reading_left result.input) result.attendance }
+{
+    let sent = send_all(context, sender, errors);
     context.state.stop();
     let _ = tell_refused(errors, sender.passes.duty.device().tally().refused);
-    let ending = ended(&context.state.reading(), sent)?;
-    let greatest = context.plan.geometry.max_position();
-    let tail = context.state.tail().min(greatest);
-    tell_end(context, &mut sender.passes.duty, tail);
-    Ok(ending)
+    let attendance = sender.passes.duty.device().attendance();
+    let input = input_end(context.rt, context, reader);
+    let ending = ended(&reading_left(&input), sent);
+    if ending.is_ok() {
+        let greatest = context.plan.geometry.max_position();
+        let tail = context.state.tail().min(greatest);
+        tell_end(context, &mut sender.passes.duty, tail);
+    }
+    Published {
+        ending,
+        attendance,
+        input,
+    }
 }

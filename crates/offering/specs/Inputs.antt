@@ -1,10 +1,10 @@
--- Why a publisher reads and offers nothing more.
+-- Why messages are read and offered no more.
 use Rattle.std.specs.Prelude.{◌≡◌, ◌≤◌, ⊤}
 use Rattle.theory.specs.Position.{Geometry, max_message}
 use Rattle.messages.specs.declared.fault.InputFault.{InputFault}
 use Rattle.messages.specs.declared.fault.InputFault.TheVariants as inputs
-use Rattle.publisher.specs.declared.fault.PublishFault.{PublishFault}
-use Rattle.publisher.specs.declared.fault.PublishFault.TheVariants.{Input, Full, NoSocket, Failed}
+use Rattle.offering.specs.declared.fault.ReadingFault.{ReadingFault}
+use Rattle.offering.specs.declared.fault.ReadingFault.TheVariants.{Input, Full}
 
 -- messages are counted from 1, and the greatest is that of the stream
 abbrev pub IsOfMessage : Geometry → InputFault → Type 0
@@ -14,12 +14,10 @@ IsOfMessage g (inputs.Cut number) = 1 ≤ number
 IsOfMessage g inputs.Memory = ⊤
 
 -- a message couldn't be read, or the stream is at its last position
-abbrev pub StopsReading : Geometry → PublishFault → Type 0
+abbrev pub StopsReading : Geometry → ReadingFault → Type 0
 StopsReading g (Input fault) = IsOfMessage g fault
 StopsReading g Full = ⊤
-StopsReading g (NoSocket route) = ⊥
-StopsReading g (Failed error) = ⊥
 
 -- for some shape of a stream
-abbrev pub IsStop : PublishFault → Type 0
+abbrev pub IsStop : ReadingFault → Type 0
 IsStop fault = (g : Geometry) × StopsReading g fault

@@ -5,12 +5,12 @@ ghost use Rattle.publisher.specs.Beginnings.{ArePublisherParts, device_of, sent_
 ghost use Rattle.publisher.specs.Openings.{identity_of};
 
 use crate::fault::PublishFault;
-use crate::publisher_state::PublisherState;
 use crate::sender_thread::SenderPasses;
 use agents::{Began, Duty, LogPasses, open_log};
 use conductor::Conductor;
-use endpoint::{DeviceError, UdpDevice};
+use endpoint::{Datagrams, DeviceError};
 use loss_injector::Lossy;
+use offering::OfferingState;
 use options::PublishPlan;
 use peer::{Attended, PatientDevice, Sent};
 use position::Identity;
@@ -19,11 +19,13 @@ use std::alloc::Global;
 
 /// What a publisher begins with, but for its sender's agent.
 #[derive(Drop)]
-pub struct PublisherParts {
-    pub state: PublisherState,
+pub struct PublisherParts<D> {
+    pub began: Began,
+    pub state: OfferingState,
+    pub conductor: Conductor,
     pub publisher: Publisher,
     pub reader: LogReader,
-    pub passes: SenderPasses<UdpDevice>,
+    pub passes: SenderPasses<D>,
 }
 
 /// Which stream a plan sends, and its shape.
@@ -38,11 +40,11 @@ pub(crate) fn sent_by(plan: &PublishPlan) -> Sent
 }
 
 /// The device with its room: what fails is lost, losses are made on purpose, and what comes is screened and noted.
-fn duty_of(
+fn duty_of<D: Datagrams + Drop>(
     alloc: Global,
     plan: &PublishPlan,
-    device: UdpDevice,
-) -> Result<Duty<Attended<Lossy<PatientDevice<UdpDevice>>>>, DeviceError>
+    device: D,
+) -> Result<Duty<Attended<Lossy<PatientDevice<D>>>>, DeviceError>
     ensures made { IfOk result (λ d. d ≡ record { device = device_of plan.now device; mtu = plan.now.geometry.mtu }) }
     ensures refused { IfErr result (λ error. error ≡ DeviceError.Memory) }
 {
@@ -60,12 +62,12 @@ fn planned_stream(plan: &PublishPlan) -> Identity
 }
 
 /// All that a publisher begins with, over a device. It fails only where memory is refused.
-pub fn publisher_parts(
+pub fn publisher_parts<D: Datagrams + Drop>(
     alloc: Global,
     plan: &PublishPlan,
     began: Began,
-    device: UdpDevice,
-) -> Result<PublisherParts, PublishFault>
+    device: D,
+) -> Result<PublisherParts<D>, PublishFault>
     ensures parts { IfOk result (λ p. ArePublisherParts plan.now p) }
     ensures device { IfOk result (λ p. p.passes.duty.device ≡ device_of plan.now device) }
     ensures refused { IfErr result (λ fault. fault ≡ PublishFault.Failed DeviceError.Memory) }
@@ -81,7 +83,9 @@ pub fn publisher_parts(
     } = open_log(alloc, identity, plan.start)?;
     let publisher = publishers.remove(0);
     Ok(PublisherParts {
-        state: PublisherState::new(log, conductor, began),
+        began,
+        state: OfferingState::new(log),
+        conductor,
         publisher,
         reader,
         passes: SenderPasses {

@@ -1,38 +1,30 @@
-//! What the two threads of a publisher share.
+//! What the thread that reads shares with the one that sends.
 
 ghost use Rattle.std.specs.Prelude.{◌≡◌, IfErr, IfOk};
 
-use crate::fault::PublishFault;
-use crate::reading::Reading;
-use agents::Began;
-use conductor::Conductor;
+use crate::reading::{Offered, Reading};
 use shared_log::Log;
 use std::sync::atomic::{AtomicBool, AtomicU64, Ordering};
 use std::sync::{OnceLock, OnceToken};
 
-/// The log, the command queue, the moment of the begin, how many messages were accepted and where they end, how the reading
-/// ended, once it has, and whether it is to stop.
+/// The log, how many messages were accepted and where they end, how the reading ended, once it has, and whether it is to stop.
 #[derive(Drop)]
-pub struct PublisherState {
+pub struct OfferingState {
     pub log: Log,
-    pub conductor: Conductor,
-    pub(crate) began: Began,
     stopped: AtomicBool,
     reading: OnceLock<Reading>,
     tail: AtomicU64,
     messages: AtomicU64,
 }
 
-impl PublisherState {
-    pub fn new(log: Log, conductor: Conductor, began: Began) -> PublisherState
-        ensures log { result.log ≡ log }
-        ensures conductor { result.conductor ≡ conductor }
+impl OfferingState {
+    /// Over this log; nothing was accepted yet.
+    pub fn new(log: Log) -> OfferingState
+        ensures { result.log ≡ log }
     {
         let start = log.start();
-        PublisherState {
+        OfferingState {
             log,
-            conductor,
-            began,
             stopped: AtomicBool::new(false),
             reading: OnceLock::new(),
             tail: AtomicU64::new(start),
@@ -49,12 +41,10 @@ impl PublisherState {
         self.stopped.load(Ordering::SeqCst)
     }
 
-    /// A message was accepted, and ends here.
-    pub(crate) fn accept(&self, tail: u64) {
-        self.tail.store(tail, Ordering::SeqCst);
-        let messages = self.messages.load(Ordering::SeqCst);
-        self.messages
-            .store(messages.wrapping_add(1), Ordering::SeqCst);
+    /// So many messages were accepted.
+    pub(crate) fn accept(&self, offered: Offered) {
+        self.tail.store(offered.tail, Ordering::SeqCst);
+        self.messages.store(offered.messages, Ordering::SeqCst);
     }
 
     /// No message comes any more, since the reading ended like this. It is handed back where an end was told before.
@@ -65,26 +55,26 @@ impl PublisherState {
         self.reading.try_set(reading)
     }
 
+    /// How the reading ended, for whoever shows that it has.
+    pub(crate) fn told<'a>(&'a self, token: &OnceToken<'a, Reading>) -> Reading
+        requires { token.now.of ≡ self.now.reading.id }
+        ensures { result ≡ token.now.value }
+    {
+        *self.reading.value(token)
+    }
+
     /// Where the accepted messages end.
-    pub(crate) fn tail(&self) -> u64 {
+    pub fn tail(&self) -> u64 {
         self.tail.load(Ordering::SeqCst)
     }
 
-    /// Where they end, if no message comes any more.
-    pub(crate) fn end(&self) -> Option<u64> {
-        match self.reading.get() {
-            Some(_) => Some(self.tail()),
-            None => None,
-        }
-    }
-
     /// How many messages were accepted.
-    pub(crate) fn messages(&self) -> u64 {
+    pub fn messages(&self) -> u64 {
         self.messages.load(Ordering::SeqCst)
     }
 
     /// How the reading ended, if it has.
-    pub(crate) fn reading(&self) -> Option<Reading> {
+    pub fn reading(&self) -> Option<Reading> {
         self.reading.get().copied()
     }
 }

@@ -1,7 +1,0 @@
-use Rattle.std.proofs.Common.{[]}
-use Rattle.shared_log.specs.Books.{IsDone}
-use Rattle.publisher.specs.Published.{Publishes}
-use Rattle.publisher.proofs.reader_thread.offer_until_accepted.Given as goal
-
-abbrev pub invariant-loop-turn : goal.invariant-loop-turn
-invariant-loop-turn g l = IsDone l.context.state.now.log l.publisher × Publishes l.fn.publisher.pass [] l.publisher.pass

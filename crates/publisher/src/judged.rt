@@ -1,0 +1,11 @@
+//! How the end was judged.
+
+use offering::Reading;
+use peer::Ending;
+
+/// How a publisher ends by whom it has heard, and how the reading had ended then, if it had.
+#[derive(Clone, Copy)]
+pub struct Judged {
+    pub ending: Ending,
+    pub reading: Option<Reading>,
+}
