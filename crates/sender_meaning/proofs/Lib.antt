@@ -1,0 +1,5 @@
+mod Spelled
+mod Honest
+mod Standing
+pub mod Living
+mod Both

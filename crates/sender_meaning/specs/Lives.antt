@@ -1,0 +1,100 @@
+-- The life of a log's sender: what it meets, one thing after the other, and the datagrams that it gives out.
+use Rattle.std.specs.Prelude.{◌≡◌, ◌≤◌, ◌%◌, ◌+ℤ◌, max, true, ℕ, ℤ, Bool, List, [], ◌∷◌, ◌++◌}
+use Rattle.std.specs.List.{AllByRecursion}
+use Rattle.theory.specs.Bytes.{IsIdentity, wire_at}
+use Rattle.theory.specs.Entry.{committed}
+use Rattle.theory.specs.FlowLimit.{clipped}
+use Rattle.theory.specs.Placed.{AllAmong, Among}
+use Rattle.theory.specs.Position.{max_position}
+use Rattle.theory.specs.Wire.{IsFrame}
+use Rattle.flow_control.specs.Unicast.{Unicast}
+use Rattle.frame_source.specs.Sources.{Source}
+use Rattle.shared_log.specs.Sourced.{Grows, source_of}
+use Rattle.shared_log.specs.declared.reader.source.LogFrames.{LogFrames}
+use Rattle.sender.specs.Sending.{Sending}
+use Rattle.agents.specs.Duties as duties
+use Rattle.receiver.specs.Receiving.{Receiver, TakesDatagram, listening}
+use Rattle.receiver.specs.Subscribing.{RepresentsSubscriber, Subscribing}
+use Rattle.receiver.specs.declared.receiver_core.Outcome.{Outcome}
+use Rattle.receiver_meaning.specs.Lives as meant
+use Rattle.receiver_meaning.specs.Lives.{IsHonest, IsStream, Stream}
+
+-- ---- a life
+
+-- the core of a log's sender, to one receiver
+abbrev pub LogCore : Type 0
+LogCore = Sending LogFrames Unicast
+
+abbrev pub source_in : LogFrames → Source
+source_in r = source_of r.log.now r.reader
+
+-- its flow control after a status message, which a moment leaves as it is
+abbrev pub told_status : Unicast → ℤ → ℤ → ℤ → ℕ → Unicast
+told_status f position window receiver now = record { limit = max (clipped (position +ℤ window)) f.limit; heard = true }
+
+abbrev pub limit_in : Unicast → ℕ
+limit_in f = f.limit
+
+abbrev pub was_heard : Unicast → Bool
+was_heard f = f.heard
+
+abbrev pub after_moment : Unicast → ℕ → Unicast
+after_moment f now = f
+
+abbrev pub HearsSo : LogCore → ℕ → List ℕ → LogCore → List (List ℕ) → Type 0
+HearsSo s now bytes t given = duties.Hears source_in told_status limit_in was_heard s now bytes t given
+
+abbrev pub TicksSo : LogCore → ℕ → LogCore → List (List ℕ) → Type 0
+TicksSo s now t given = duties.Ticks source_in Grows after_moment limit_in s now t given
+
+-- it hears a datagram at a moment, or is told one, and gives these datagrams out
+pub data Act : Type 0 where
+  Hears : (now : ℕ) (bytes : List ℕ) (given : List (List ℕ)) → Act
+  Ticks : (now : ℕ) (given : List (List ℕ)) → Act
+
+abbrev pub ActsSo : LogCore → Act → LogCore → Type 0
+ActsSo s (Hears now bytes given) t = HearsSo s now bytes t given
+ActsSo s (Ticks now given) t = TicksSo s now t given
+
+abbrev pub Lives : LogCore → List Act → LogCore → Type 0
+Lives s [] t = t ≡ s
+Lives s (act ∷ acts) t = (u : LogCore) × ActsSo s act u × Lives u acts t
+
+-- all that it gave out, in order
+abbrev pub given_in : List Act → List (List ℕ)
+given_in [] = []
+given_in (Hears now bytes given ∷ acts) = given ++ given_in acts
+given_in (Ticks now given ∷ acts) = given ++ given_in acts
+
+-- ---- the law
+
+-- it sends this stream, from a position of it
+pub record SendsStream (x : Stream) (s : LogCore) : Type 0 where
+  pub identity : s.identity ≡ x.identity
+  pub unit : s.handler.at % 32 ≡ 0
+  pub low : s.handler.at ≤ max_position x.identity.geometry
+
+-- its ids and its committed frames can be spelled
+pub record IsSpelled (x : Stream) : Type 0 where
+  pub ids : IsIdentity x.identity
+  pub frames : AllByRecursion (λ s. IsFrame (wire_at x.identity s.at s.frame)) (committed x.entries)
+
+-- what a sender gives out of a stream whose committed frames are all that it knows of its log is honest for the stream
+abbrev pub GivesHonest : Type 0
+GivesHonest =
+    (x : Stream) → IsStream x → IsSpelled x
+    → (s t : LogCore) (acts : List Act) → SendsStream x s → Lives s acts t → AllAmong (committed x.entries) (source_in t.reads).frames
+    → AllByRecursion (IsHonest x) (given_in acts) × SendsStream x t
+
+-- ---- both ends
+
+-- a subscriber that was handed no datagram but such that this sender gave out, in any order and each any number of times, polls
+-- a run of the stream
+abbrev pub PollsWhatIsSent : Type 0
+PollsWhatIsSent =
+    (x : Stream) → IsStream x → IsSpelled x
+    → (s t : LogCore) (sent : List Act) → SendsStream x s → Lives s sent t → AllAmong (committed x.entries) (source_in t.reads).frames
+    → (window greatest moment : ℕ) (id : ℤ) (first : List ℕ) (outcomes : List Outcome) (r : Receiver)
+    → TakesDatagram (listening x.identity.session x.identity.stream window id 1 greatest) moment first outcomes r → Among first (given_in sent)
+    → (u v : Subscribing) (acts : List meant.Act) → RepresentsSubscriber u r → meant.Lives u acts v → AllByRecursion (λ bytes. Among bytes (given_in sent)) (meant.heard_in acts)
+    → (q : Receiver) × RepresentsSubscriber v q × meant.IsRunOf x q.image (meant.given_in acts)
