@@ -5,7 +5,7 @@ use Rattle.position.specs.declared.head.FrameHead.{FrameHead}
 use Rattle.shared_log.specs.declared.reader.whole.Unread.{Unread}
 use Rattle.shared_log.specs.Readers.{Advances, ReadsFrame}
 use Rattle.shared_log.specs.Whole.{LeavesUnread}
-use Rattle.log_passes.specs.declared.reading.ReaderPass.{ReaderPass}
+use Rattle.claims.specs.declared.passes.reading.ReaderPass.{ReaderPass}
 
 -- the frame was read: its payload stands in the room's front
 pub record Reads (p : ReaderPass) (head : FrameHead) (before : List ℕ) (q : ReaderPass) (after : List ℕ) : Type 0 where

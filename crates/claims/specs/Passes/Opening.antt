@@ -6,14 +6,14 @@ use Rattle.position.specs.Openings.{IsConsumerCount, IsStart}
 use Rattle.shared_log.specs.Handles.{IsLogOf}
 use Rattle.shared_log.specs.Keepers.{KeeperValue}
 use Rattle.shared_log.specs.Parts.{AreDealt}
-use Rattle.log_passes.specs.declared.fault.Fault.{Fault}
-use Rattle.log_passes.specs.declared.fault.Fault.TheVariants.{Consumers, Memory, Mtu, NoneLeft, Start, TermLength}
-use Rattle.log_passes.specs.declared.opening.Config.{Config}
-use Rattle.log_passes.specs.declared.opening.Opened.{Opened}
-use Rattle.log_passes.specs.declared.keeping.KeeperPass.{KeeperPass}
-use Rattle.log_passes.specs.declared.publishing.PublisherPass.{PublisherPass}
-use Rattle.log_passes.specs.declared.reading.ReaderPass.{ReaderPass}
-use Rattle.log_passes.specs.Shapes.{DeclinesShape, IsShape, identity_of, shape_of}
+use Rattle.claims.specs.declared.passes.fault.Fault.{Fault}
+use Rattle.claims.specs.declared.passes.fault.Fault.TheVariants.{Consumers, Memory, Mtu, NoneLeft, Start, TermLength}
+use Rattle.claims.specs.declared.passes.opening.Config.{Config}
+use Rattle.claims.specs.declared.passes.opening.Opened.{Opened}
+use Rattle.claims.specs.declared.passes.keeping.KeeperPass.{KeeperPass}
+use Rattle.claims.specs.declared.passes.publishing.PublisherPass.{PublisherPass}
+use Rattle.claims.specs.declared.passes.reading.ReaderPass.{ReaderPass}
+use Rattle.claims.specs.Passes.Shapes.{DeclinesShape, IsShape, identity_of, shape_of}
 
 -- a log of this shape may open there, with so many consumers
 abbrev pub IsInRange : Config → Type 0

@@ -6,11 +6,12 @@ ghost use Rattle.theory.specs.Placed.{Data, Pad};
 ghost use Rattle.publication.specs.Frames.{stored_words};
 ghost use Rattle.shared_log.specs.Handles.{IsOf};
 ghost use Rattle.claims.specs.Holdings.{end_of, size_of};
-ghost use Rattle.log_passes.specs.Parts.{with_part};
+ghost use Rattle.claims.specs.Passes.Parts.{with_part};
 
-use crate::fault::Fault;
-use crate::publishing::PublisherPass;
-use claims::{Claim, try_claim};
+use crate::armed::try_claim;
+use crate::claim::Claim;
+use crate::passes::fault::Fault;
+use crate::passes::publishing::PublisherPass;
 use shared_log::Log;
 use std::alloc::Global;
 use std::sync::Arc;
@@ -24,7 +25,7 @@ pub struct ClaimPass {
 }
 
 impl PublisherPass {
-    ghost use Rattle.log_passes.specs.Claiming.{DeclinesClaim, Opens, Writes};
+    ghost use Rattle.claims.specs.Passes.Claiming.{DeclinesClaim, Opens, Writes};
 
     /// Claims a range for a message of `size` bytes, zeros at first. Where it is denied, the publisher comes back.
     pub fn claim(self, size: usize) -> Result<ClaimPass, (Fault, PublisherPass)>
@@ -57,7 +58,7 @@ fn write_at(bytes: &mut [u8], offset: usize, part: &[u8])
 }
 
 impl ClaimPass {
-    ghost use Rattle.log_passes.specs.Claiming.{DeclinesPart, Ends, Writes};
+    ghost use Rattle.claims.specs.Passes.Claiming.{DeclinesPart, Ends, Writes};
 
     /// Writes bytes into the message, from an offset on. They must be inside it.
     pub fn write(&mut self, offset: usize, part: &[u8]) -> Result<(), Fault>

@@ -4,9 +4,9 @@ use Rattle.std.specs.Arc.{arc_value}
 use Rattle.theory.specs.Position.{max_message}
 use Rattle.publication.specs.declared.refusal.Refusal.{Refusal}
 use Rattle.claims.specs.Claimings.{AcceptsMessage, DeniesMessage}
-use Rattle.log_passes.specs.declared.fault.Fault.{Fault}
-use Rattle.log_passes.specs.declared.fault.Fault.TheVariants.{Refused, Long}
-use Rattle.log_passes.specs.declared.publishing.PublisherPass.{PublisherPass}
+use Rattle.claims.specs.declared.passes.fault.Fault.{Fault}
+use Rattle.claims.specs.declared.passes.fault.Fault.TheVariants.{Refused, Long}
+use Rattle.claims.specs.declared.passes.publishing.PublisherPass.{PublisherPass}
 
 -- the message is accepted, and the position is behind it
 pub record Accepts (p : PublisherPass) (message : List ℕ) (end : ℕ) (q : PublisherPass) : Type 0 where

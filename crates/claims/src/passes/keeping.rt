@@ -8,8 +8,8 @@ ghost use Rattle.shared_log.specs.Joining.{AreEight, Joins};
 ghost use Rattle.shared_log.specs.Keepers.{CleansAndLimits, KeepsAs, TookSteps, closed_word, connected_word, there_of, with_limit};
 ghost use Rattle.shared_log.specs.Readers.{IsReaderOf};
 
-use crate::fault::Fault;
-use crate::reading::ReaderPass;
+use crate::passes::fault::Fault;
+use crate::passes::reading::ReaderPass;
 use shared_log::{Keeper, Log, LogError, LogReader, clean_and_limit, set_closed, set_connected};
 use std::alloc::Global;
 use std::sync::Arc;
@@ -61,7 +61,7 @@ fn join_on(log: &Log, keeper: &mut Keeper) -> Result<LogReader, LogError>
 }
 
 impl KeeperPass {
-    ghost use Rattle.log_passes.specs.Keeping.{Cleans, DeclinesReader, OpensReader, StoresLimit};
+    ghost use Rattle.claims.specs.Passes.Keeping.{Cleans, DeclinesReader, OpensReader, StoresLimit};
 
     pub fn new(log: Arc<Log, Global>, keeper: Keeper) -> KeeperPass
         requires { IsOf (arc_value log) keeper.held }

@@ -1,8 +1,8 @@
 -- The numbers that a user sees.
 use Rattle.std.specs.Prelude.{ℤ, negsuc}
 use Rattle.publication.specs.Refusals.{number_of}
-use Rattle.log_passes.specs.declared.fault.Fault.{Fault}
-use Rattle.log_passes.specs.declared.fault.Fault.TheVariants.{Refused, Long, Outside, NoneLeft, Memory, TermLength, Mtu, Start, Consumers, Full}
+use Rattle.claims.specs.declared.passes.fault.Fault.{Fault}
+use Rattle.claims.specs.declared.passes.fault.Fault.TheVariants.{Refused, Long, Outside, NoneLeft, Memory, TermLength, Mtu, Start, Consumers, Full}
 
 abbrev pub code_of : Fault → ℤ
 code_of (Refused why) = number_of why

@@ -4,8 +4,8 @@ use Rattle.log_rule.specs.Claims.Handles.{PublisherValue}
 use Rattle.shared_log.specs.Handles.{IsOf, LogValue}
 use Rattle.shared_log.specs.Keepers.{KeeperValue}
 use Rattle.shared_log.specs.Readers.{IsReaderOf}
-use Rattle.log_passes.proofs.Openers.{keeper_fits, publishers_fit, readers_fit}
-use Rattle.log_passes.proofs.opening.Opened.open.Goals as goal
+use Rattle.claims.proofs.Openers.{keeper_fits, publishers_fit, readers_fit}
+use Rattle.claims.proofs.passes.opening.Opened.open.Goals as goal
 
 pub invariant_of-result : goal.invariant_of-result
 invariant_of-result c =

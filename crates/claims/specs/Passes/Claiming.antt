@@ -5,12 +5,12 @@ use Rattle.theory.specs.Position.{max_payload}
 use Rattle.theory.specs.Placed.{Frame}
 use Rattle.publication.specs.declared.refusal.Refusal.{Refusal}
 use Rattle.claims.specs.Claimings.{DeniesMessage, EndsClaim, OpensClaim}
-use Rattle.log_passes.specs.declared.fault.Fault.{Fault}
-use Rattle.log_passes.specs.declared.fault.Fault.TheVariants.{Refused, Long, Outside}
-use Rattle.log_passes.specs.declared.publishing.PublisherPass.{PublisherPass}
-use Rattle.log_passes.specs.declared.claiming.ClaimPass.{ClaimPass}
-use Rattle.log_passes.specs.Parts.{with_part}
-use Rattle.log_passes.specs.Publishing.{TooLong}
+use Rattle.claims.specs.declared.passes.fault.Fault.{Fault}
+use Rattle.claims.specs.declared.passes.fault.Fault.TheVariants.{Refused, Long, Outside}
+use Rattle.claims.specs.declared.passes.publishing.PublisherPass.{PublisherPass}
+use Rattle.claims.specs.declared.passes.claiming.ClaimPass.{ClaimPass}
+use Rattle.claims.specs.Passes.Parts.{with_part}
+use Rattle.claims.specs.Passes.Publishing.{TooLong}
 
 -- one claim more, for a message of so many bytes, which is open
 pub record Opens (p : PublisherPass) (size : ℕ) (c : ClaimPass) : Type 0 where

@@ -7,13 +7,14 @@ ghost use Rattle.std.specs.declared.option.Option.TheVariants.{None, Some};
 ghost use Rattle.shared_log.specs.Handles.{IsOf};
 ghost use Rattle.shared_log.specs.Keepers.{KeeperValue};
 ghost use Rattle.shared_log.specs.Readers.{IsReaderOf};
-ghost use Rattle.log_passes.specs.Shapes.{DeclinesShape, IsShape, as_fault, shape_of};
+ghost use Rattle.claims.specs.Passes.Shapes.{DeclinesShape, IsShape, as_fault, shape_of};
 
-use crate::fault::Fault;
-use crate::keeping::KeeperPass;
-use crate::publishing::PublisherPass;
-use crate::reading::ReaderPass;
-use claims::{Claimant, Parts};
+use crate::claimant::Claimant;
+use crate::parts::Parts;
+use crate::passes::fault::Fault;
+use crate::passes::keeping::KeeperPass;
+use crate::passes::publishing::PublisherPass;
+use crate::passes::reading::ReaderPass;
 use position::{Geometry, GeometryError};
 use shared_log::{Keeper, Log, LogError, LogReader};
 use std::alloc::Global;
@@ -117,7 +118,7 @@ fn the_keeper(log: &Log, keeper: &mut Option<Keeper>) -> Option<Keeper>
 }
 
 impl Opened {
-    ghost use Rattle.log_passes.specs.Opening.{DeclinesKeeper, DeclinesLog, DeclinesPublisher, DeclinesReader, OpensLog, TakesKeeper, TakesPublisher, TakesReader};
+    ghost use Rattle.claims.specs.Passes.Opening.{DeclinesKeeper, DeclinesLog, DeclinesPublisher, DeclinesReader, OpensLog, TakesKeeper, TakesPublisher, TakesReader};
 
     /// Opens a log, unconnected, with its limit and its consumers at the start, and all its passes. The term length is judged
     /// first, then the MTU, the start and the number of consumers; then memory is asked for.
@@ -126,7 +127,7 @@ impl Opened {
         ensures declined { IfErr result (λ fault. DeclinesLog config.now fault) }
     {
         let geometry = geometry_of(config)?;
-        let opened = claims::open(
+        let opened = crate::parts::open(
             alloc,
             geometry,
             config.session,

@@ -4,10 +4,10 @@ use Rattle.std.specs.Arc.{arc_value}
 use Rattle.theory.specs.Refusal.{limit_in}
 use Rattle.shared_log.specs.Joining.{AreEight, Joins}
 use Rattle.shared_log.specs.Keepers.{CleansAndLimits, KeepsAs, TookSteps, there_of, with_limit}
-use Rattle.log_passes.specs.declared.fault.Fault.{Fault}
-use Rattle.log_passes.specs.declared.fault.Fault.TheVariants.{Full, Memory}
-use Rattle.log_passes.specs.declared.keeping.KeeperPass.{KeeperPass}
-use Rattle.log_passes.specs.declared.reading.ReaderPass.{ReaderPass}
+use Rattle.claims.specs.declared.passes.fault.Fault.{Fault}
+use Rattle.claims.specs.declared.passes.fault.Fault.TheVariants.{Full, Memory}
+use Rattle.claims.specs.declared.passes.keeping.KeeperPass.{KeeperPass}
+use Rattle.claims.specs.declared.passes.reading.ReaderPass.{ReaderPass}
 
 -- it cleaned and raised the limit, which is this one then
 pub record Cleans (p : KeeperPass) (limit : ℕ) (q : KeeperPass) : Type 0 where

@@ -7,8 +7,8 @@ ghost use Rattle.log_rule.specs.Shares.{claimed_bytes};
 ghost use Rattle.shared_log.specs.Handles.{IsOf};
 ghost use Rattle.claims.specs.Claimings.{AcceptsMessage, DeniesMessage};
 
-use crate::fault::Fault;
-use claims::{Claimant, offer};
+use crate::claimant::{Claimant, offer};
+use crate::passes::fault::Fault;
 use publication::Refusal;
 use shared_log::Log;
 use std::alloc::Global;
@@ -33,7 +33,7 @@ fn offer_on(log: &Log, claimant: &mut Claimant, message: &[u8]) -> Result<u64, R
 }
 
 impl PublisherPass {
-    ghost use Rattle.log_passes.specs.Publishing.{Accepts, Declines};
+    ghost use Rattle.claims.specs.Passes.Publishing.{Accepts, Declines};
 
     pub fn new(log: Arc<Log, Global>, claimant: Claimant) -> PublisherPass
         requires { IsOf (arc_value log) claimant }

@@ -3,9 +3,9 @@ use Rattle.theory.specs.Bytes.{Identity}
 use Rattle.theory.specs.Position.{Geometry, IsMtu, IsTermLength}
 use Rattle.shared_log.specs.declared.fault.LogError.{LogError}
 use Rattle.shared_log.specs.declared.fault.LogError.TheVariants as errors
-use Rattle.log_passes.specs.declared.fault.Fault.{Fault}
-use Rattle.log_passes.specs.declared.fault.Fault.TheVariants.{Consumers, Full, Memory, Mtu, Start, TermLength}
-use Rattle.log_passes.specs.declared.opening.Config.{Config}
+use Rattle.claims.specs.declared.passes.fault.Fault.{Fault}
+use Rattle.claims.specs.declared.passes.fault.Fault.TheVariants.{Consumers, Full, Memory, Mtu, Start, TermLength}
+use Rattle.claims.specs.declared.passes.opening.Config.{Config}
 
 abbrev pub shape_of : Config → Geometry
 shape_of c = record { term_length = c.term_length; mtu = c.mtu; initial_term_id = c.initial_term_id }

@@ -18,7 +18,7 @@ pub struct ReaderPass {
 }
 
 impl ReaderPass {
-    ghost use Rattle.log_passes.specs.Reading.{GoesOn, Reads, Unreads};
+    ghost use Rattle.claims.specs.Passes.Reading.{GoesOn, Reads, Unreads};
 
     pub fn new(log: Arc<Log, Global>, reader: LogReader) -> ReaderPass
         requires { IsReaderOf (arc_value log) reader }

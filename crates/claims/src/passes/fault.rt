@@ -1,7 +1,7 @@
 //! Why a call fails.
 
 ghost use Rattle.std.specs.Prelude.{◌≡◌};
-ghost use Rattle.log_passes.specs.Codes.{code_of};
+ghost use Rattle.claims.specs.Passes.Codes.{code_of};
 
 use publication::Refusal;
 
