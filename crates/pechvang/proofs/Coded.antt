@@ -3,9 +3,9 @@ use Rattle.std.proofs.Common.{◌≡◌, ℤ, refl, ap, ◌∙◌}
 use mir.Syntax.{w32}
 use mir.Val.{of_z, to_z}
 use Rattle.publication.specs.declared.refusal.Refusal.TheVariants.{AdminAction, BackPressured, Closed, MaxPositionExceeded, NotConnected}
-use Rattle.log_passes.specs.Codes.{code_of}
-use Rattle.log_passes.specs.declared.fault.Fault.{Fault}
-use Rattle.log_passes.specs.declared.fault.Fault.TheVariants.{Consumers, Full, Long, Memory, Mtu, NoneLeft, Outside, Refused, Start, TermLength}
+use Rattle.claims.specs.Passes.Codes.{code_of}
+use Rattle.claims.specs.declared.passes.fault.Fault.{Fault}
+use Rattle.claims.specs.declared.passes.fault.Fault.TheVariants.{Consumers, Full, Long, Memory, Mtu, NoneLeft, Outside, Refused, Start, TermLength}
 
 small : (f : Fault) → to_z w32 (of_z w32 (code_of f)) ≡ code_of f
 small (Refused NotConnected) = refl

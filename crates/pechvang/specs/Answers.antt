@@ -1,9 +1,9 @@
 -- What a call answers by its code, and what the handle holds then.
 use Rattle.std.specs.Prelude.{◌≡◌, ℤ, pos, negsuc}
 use Rattle.std.specs.declared.option.Option.TheVariants.{None, Some}
-use Rattle.log_passes.specs.Codes.{code_of}
-use Rattle.log_passes.specs.declared.Pass.{Pass}
-use Rattle.log_passes.specs.declared.fault.Fault.{Fault}
+use Rattle.claims.specs.Passes.Codes.{code_of}
+use Rattle.pechvang.specs.declared.held.Pass.{Pass}
+use Rattle.claims.specs.declared.passes.fault.Fault.{Fault}
 use Rattle.pechvang.specs.Owned.{Held}
 
 -- the handle holds nothing, or a pass of a kind that the call isn't for

@@ -5,7 +5,7 @@ ghost use Rattle.pechvang.specs.Keeping.{CleansTo, Closes, Connects, Joins};
 
 use crate::codes::{DONE, EMPTY_HANDLE, NO_MEMORY, WRONG_HANDLE};
 use crate::handle::{Handle, put, put_new, take};
-use log_passes::Pass;
+use crate::held::Pass;
 use std::alloc::Global;
 
 fn clean_by(pass: &mut Pass, limit: &mut u64) -> i32

@@ -5,7 +5,8 @@ ghost use Rattle.pechvang.specs.Opening.{KeeperTaken, Opens, PublisherTaken, Rea
 
 use crate::codes::{DONE, EMPTY_HANDLE, NO_MEMORY, WRONG_HANDLE};
 use crate::handle::{Handle, put, put_new, take};
-use log_passes::{Config, Opened, Pass};
+use crate::held::Pass;
+use claims::{Config, Opened};
 use std::alloc::Global;
 
 /// Opens a log, unconnected, with its limit and its readers at the start. Where the answer is 0, the handle holds it.

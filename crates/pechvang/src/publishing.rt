@@ -5,7 +5,7 @@ ghost use Rattle.pechvang.specs.Publishing.{Aborts, Claims, Commits, Offers, Sha
 
 use crate::codes::{CLAIM_OPEN, DONE, EMPTY_HANDLE, NO_CLAIM, WRONG_HANDLE};
 use crate::handle::{Handle, put, take};
-use log_passes::Pass;
+use crate::held::Pass;
 use std::alloc::Global;
 use std::mem::replace;
 

@@ -6,7 +6,7 @@ ghost use Rattle.pechvang.specs.Reading.{Advances, ReadsNext, frame_of};
 
 use crate::codes::{DONE, EMPTY_HANDLE, FRAME, ROOM_TOO_SMALL, WRONG_HANDLE};
 use crate::handle::{Handle, put, take};
-use log_passes::Pass;
+use crate::held::Pass;
 use position::{FrameHead, FrameKind};
 use shared_log::Unread;
 use std::alloc::Global;
