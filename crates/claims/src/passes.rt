@@ -13,3 +13,4 @@ pub(crate) mod keeping;
 pub(crate) mod opening;
 pub(crate) mod publishing;
 pub(crate) mod reading;
+pub(crate) mod source;
