@@ -1,5 +1,5 @@
 -- What the calls of a sender make of its pass.
-use Rattle.std.specs.Prelude.{◌≡◌, ℕ, ◌<◌, ◌≤◌, List, []}
+use Rattle.std.specs.Prelude.{◌≡◌, ℕ, ℤ, ◌<◌, ◌≤◌, List, []}
 use Rattle.std.specs.Arc.{arc_value}
 use Rattle.position.specs.Openings.{IsStart}
 use Rattle.flow_control.specs.Stream.{flow_after, has_heard_of, reached_of, status_after, tick_after}
@@ -8,7 +8,7 @@ use Rattle.sender.specs.declared.sender_core.SenderAnswer.{SenderAnswer}
 use Rattle.sender.specs.declared.sender_core.SenderEvent.{SenderEvent}
 use Rattle.shared_log.specs.Sourced.{Grows, StaysOn}
 use Rattle.claims.specs.declared.passes.reading.ReaderPass.{ReaderPass}
-use Rattle.cores.specs.Numbers.{group_of}
+use Rattle.cores.specs.Numbers.{group_of, of_answer}
 use Rattle.cores.specs.Senders.{SenderValue, source_in}
 use Rattle.cores.specs.declared.fault.Fault.{Fault}
 use Rattle.cores.specs.declared.fault.Fault.TheVariants.{Group, Memory, Start, Unsent}
@@ -50,9 +50,11 @@ pub record Ticks (p : SenderValue) (now : ℕ) (q : SenderValue) : Type 0 where
   pub cycles : Cycles Grows tick_after reached_of (at_moment p.core now) (source_in p.core) (source_in q.core) q.core q.left
   pub log : StaysOnLog p q
 
--- a datagram was taken
-pub record Hears (p : SenderValue) (now : ℕ) (bytes : List ℕ) (answer : SenderAnswer) (q : SenderValue) : Type 0 where
+-- a datagram was taken, and this is the number of what became of it
+pub record Hears (p : SenderValue) (now : ℕ) (bytes : List ℕ) (number : ℤ) (q : SenderValue) : Type 0 where
   pub none : p.left ≡ []
+  pub answer : SenderAnswer
+  pub number_is : number ≡ of_answer answer
   pub hears : HearsDatagram status_after reached_of has_heard_of (at_moment p.core now) bytes answer q.core q.left
   pub source : source_in q.core ≡ source_in p.core
   pub log : StaysOnLog p q

@@ -14,6 +14,5 @@ mod sending;
 mod subscribing;
 
 pub use fault::Fault;
-pub use numbers::{answer_number, outcome_number};
 pub use sending::SenderPass;
 pub use subscribing::{SubscriberPass, Subscription};

@@ -61,7 +61,7 @@ fn nak_number(answer: NakResult) -> i32
 }
 
 /// The number of what became of a frame that a subscriber took.
-pub fn outcome_number(outcome: Outcome) -> i32
+pub(crate) fn outcome_number(outcome: Outcome) -> i32
     ensures { result ≡ number.of_outcome outcome }
 {
     match outcome {
@@ -77,7 +77,7 @@ pub fn outcome_number(outcome: Outcome) -> i32
 }
 
 /// The number of what a sender says of a datagram.
-pub fn answer_number(answer: SenderAnswer) -> i32
+pub(crate) fn answer_number(answer: SenderAnswer) -> i32
     ensures { result ≡ number.of_answer answer }
 {
     match answer {

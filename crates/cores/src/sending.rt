@@ -4,6 +4,7 @@ ghost use Rattle.std.specs.Prelude.{◌≡◌, ◌↔◌, [], IfErr, IfNone, IfO
 ghost use Rattle.cores.specs.Numbers.{group_of};
 
 use crate::fault::Fault;
+use crate::numbers::answer_number;
 use crate::rooms::put_front;
 use claims::ReaderPass;
 use flow_control::StreamFlow;
@@ -82,6 +83,29 @@ impl SenderPass {
         }
     }
 
+    /// The same in a box.
+    pub fn open_boxed(
+        alloc: Global,
+        reader: ReaderPass,
+        group: u32,
+    ) -> Result<Box<SenderPass, Global>, (Fault, ReaderPass)>
+        ensures opened { IfOk result (λ b. Sends reader group b.value) }
+        ensures declined { IfErr result (λ d. DeclinesSender reader group d.0 d.1) }
+    {
+        let opened = SenderPass::open(alloc, reader, group)?;
+        match Box::new(alloc, opened) {
+            Ok(boxed) => Ok(boxed),
+            Err(failed) => Err((Fault::Memory, failed.value.into_reader())),
+        }
+    }
+
+    /// Gives the reader back.
+    fn into_reader(self) -> ReaderPass
+        ensures { result ≡ self.core.reads }
+    {
+        self.core.into_reads()
+    }
+
     fn step(&mut self, event: SenderEvent<'_>, now: u64) -> SenderAnswer
         ensures { StepsOn self.old now event.entry result self.new }
     {
@@ -113,16 +137,16 @@ impl SenderPass {
         Ok(())
     }
 
-    /// Takes a datagram at a moment in nanoseconds. The answer says what became of it; what goes out is given by
+    /// Takes a datagram at a moment in nanoseconds. The answer is the number of what became of it; what goes out is given by
     /// `next_datagram`. While some of the last step's is left, there is no other step.
-    pub fn on_datagram(&mut self, bytes: &[u8], now: u64) -> Result<SenderAnswer, Fault>
-        ensures heard { IfOk result (λ answer. Hears self.old now bytes.now answer self.new) }
+    pub fn on_datagram(&mut self, bytes: &[u8], now: u64) -> Result<i32, Fault>
+        ensures heard { IfOk result (λ number. Hears self.old now bytes.now number self.new) }
         ensures refused { IfErr result (λ fault. IsUnsent self.old fault self.new) }
     {
         if !self.is_sent() {
             return Err(Fault::Unsent);
         }
-        Ok(self.step(SenderEvent::Datagram(bytes), now))
+        Ok(answer_number(self.step(SenderEvent::Datagram(bytes), now)))
     }
 
     /// Writes the next datagram that is to go out to the room's front. The answer is its length, or nothing where none is

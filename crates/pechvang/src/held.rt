@@ -1,6 +1,8 @@
 //! What a handle may hold.
 
 use claims::{ClaimPass, KeeperPass, Opened, PublisherPass, ReaderPass};
+use cores::{SenderPass, SubscriberPass};
+use std::alloc::Global;
 
 /// A pass, of whatever kind.
 #[derive(Drop)]
@@ -12,4 +14,6 @@ pub enum Pass {
     Claim(ClaimPass),
     Reader(ReaderPass),
     Keeper(KeeperPass),
+    Subscriber(Box<SubscriberPass, Global>),
+    Sender(Box<SenderPass, Global>),
 }

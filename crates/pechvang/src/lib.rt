@@ -8,6 +8,7 @@
 #![tactic(auto)]
 
 mod codes;
+mod ends;
 mod handle;
 mod held;
 mod keeping;
@@ -15,10 +16,15 @@ mod loose;
 mod opening;
 mod publishing;
 mod reading;
+mod receiving;
+mod sending;
 
+pub use ends::{pv_next_datagram, pv_tick};
 pub use handle::{Handle, pv_free};
 pub use held::Pass;
 pub use keeping::{pv_clean_and_limit, pv_join, pv_set_closed, pv_set_connected};
 pub use opening::{pv_open, pv_take_keeper, pv_take_publisher, pv_take_reader};
 pub use publishing::{pv_abort, pv_claim, pv_claim_write, pv_commit, pv_offer, pv_share};
 pub use reading::{Frame, pv_advance, pv_next};
+pub use receiving::{pv_on_datagram, pv_poll, pv_subscribe};
+pub use sending::{pv_on_status, pv_send};

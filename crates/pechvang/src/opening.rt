@@ -42,8 +42,13 @@ fn take_publisher_by(alloc: Global, pass: &mut Pass, publisher: &mut Handle) -> 
                 Err(fault) => fault.code(),
             }
         }
-        Pass::Nothing | Pass::Publisher(_) | Pass::Claim(_) | Pass::Reader(_) | Pass::Keeper(_) =>
-            WRONG_HANDLE,
+        Pass::Nothing
+        | Pass::Publisher(_)
+        | Pass::Claim(_)
+        | Pass::Reader(_)
+        | Pass::Keeper(_)
+        | Pass::Subscriber(_)
+        | Pass::Sender(_) => WRONG_HANDLE,
     }
 }
 
@@ -76,8 +81,13 @@ fn take_reader_by(alloc: Global, pass: &mut Pass, reader: &mut Handle) -> i32
                 Err(fault) => fault.code(),
             }
         }
-        Pass::Nothing | Pass::Publisher(_) | Pass::Claim(_) | Pass::Reader(_) | Pass::Keeper(_) =>
-            WRONG_HANDLE,
+        Pass::Nothing
+        | Pass::Publisher(_)
+        | Pass::Claim(_)
+        | Pass::Reader(_)
+        | Pass::Keeper(_)
+        | Pass::Subscriber(_)
+        | Pass::Sender(_) => WRONG_HANDLE,
     }
 }
 
@@ -110,8 +120,13 @@ fn take_keeper_by(alloc: Global, pass: &mut Pass, keeper: &mut Handle) -> i32
                 Err(fault) => fault.code(),
             }
         }
-        Pass::Nothing | Pass::Publisher(_) | Pass::Claim(_) | Pass::Reader(_) | Pass::Keeper(_) =>
-            WRONG_HANDLE,
+        Pass::Nothing
+        | Pass::Publisher(_)
+        | Pass::Claim(_)
+        | Pass::Reader(_)
+        | Pass::Keeper(_)
+        | Pass::Subscriber(_)
+        | Pass::Sender(_) => WRONG_HANDLE,
     }
 }
 

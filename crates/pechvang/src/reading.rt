@@ -59,8 +59,13 @@ fn next_by(pass: &mut Pass, room: &mut [u8], frame: &mut Frame) -> i32
                 ROOM_TOO_SMALL
             }
         },
-        Pass::Nothing | Pass::Opened(_) | Pass::Publisher(_) | Pass::Claim(_) | Pass::Keeper(_) =>
-            WRONG_HANDLE,
+        Pass::Nothing
+        | Pass::Opened(_)
+        | Pass::Publisher(_)
+        | Pass::Claim(_)
+        | Pass::Keeper(_)
+        | Pass::Subscriber(_)
+        | Pass::Sender(_) => WRONG_HANDLE,
     }
 }
 
@@ -88,8 +93,13 @@ fn advance_by(pass: &mut Pass) -> i32
 {
     match pass {
         Pass::Reader(reader) => { if reader.advance() { FRAME } else { DONE } }
-        Pass::Nothing | Pass::Opened(_) | Pass::Publisher(_) | Pass::Claim(_) | Pass::Keeper(_) =>
-            WRONG_HANDLE,
+        Pass::Nothing
+        | Pass::Opened(_)
+        | Pass::Publisher(_)
+        | Pass::Claim(_)
+        | Pass::Keeper(_)
+        | Pass::Subscriber(_)
+        | Pass::Sender(_) => WRONG_HANDLE,
     }
 }
 
