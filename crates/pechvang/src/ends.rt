@@ -46,23 +46,29 @@ pub extern "C" fn pv_tick(alloc: Global, core: &mut Handle, now: u64) -> i32
 fn next_by(pass: &mut Pass, room: &mut [u8], length: &mut usize) -> i32
     ensures { GivesDatagram (Some pass.old) room.old length.old result room.new length.new (Some pass.new) }
 {
-    let next = match pass {
-        Pass::Subscriber(subscriber) => subscriber.next_datagram(room),
-        Pass::Sender(sender) => sender.next_datagram(room),
+    match pass {
+        Pass::Subscriber(subscriber) => match subscriber.next_datagram(room) {
+            Ok(Some(size)) => {
+                *length = size;
+                FRAME
+            }
+            Ok(None) => DONE,
+            Err(fault) => fault.code(),
+        },
+        Pass::Sender(sender) => match sender.next_datagram(room) {
+            Ok(Some(size)) => {
+                *length = size;
+                FRAME
+            }
+            Ok(None) => DONE,
+            Err(fault) => fault.code(),
+        },
         Pass::Nothing
         | Pass::Opened(_)
         | Pass::Publisher(_)
         | Pass::Claim(_)
         | Pass::Reader(_)
-        | Pass::Keeper(_) => return WRONG_HANDLE,
-    };
-    match next {
-        Ok(Some(size)) => {
-            *length = size;
-            FRAME
-        }
-        Ok(None) => DONE,
-        Err(fault) => fault.code(),
+        | Pass::Keeper(_) => WRONG_HANDLE,
     }
 }
 
