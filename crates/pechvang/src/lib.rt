@@ -26,5 +26,5 @@ pub use keeping::{pv_clean_and_limit, pv_join, pv_set_closed, pv_set_connected};
 pub use opening::{pv_open, pv_take_keeper, pv_take_publisher, pv_take_reader};
 pub use publishing::{pv_abort, pv_claim, pv_claim_write, pv_commit, pv_offer, pv_share};
 pub use reading::{Frame, pv_advance, pv_next};
-pub use receiving::{pv_on_datagram, pv_poll, pv_subscribe};
-pub use sending::{pv_on_status, pv_send};
+pub use receiving::{pv_open_subscriber, pv_poll, pv_receive};
+pub use sending::{pv_hear, pv_open_sender};

@@ -11,7 +11,11 @@ use std::alloc::Global;
 
 /// Opens a subscriber of a stream, which has met nothing yet. Where the answer is 0, the handle holds it.
 #[unsafe(no_mangle)]
-pub extern "C" fn pv_subscribe(alloc: Global, config: &Subscription, subscriber: &mut Handle) -> i32
+pub extern "C" fn pv_open_subscriber(
+    alloc: Global,
+    config: &Subscription,
+    subscriber: &mut Handle,
+) -> i32
     ensures { SubscriberOpens config.now subscriber.old.held result subscriber.new.held }
 {
     let Ok(opened) = SubscriberPass::open(alloc, config) else {
@@ -57,7 +61,7 @@ fn take_by(
 /// Takes a datagram at a moment in nanoseconds. Where the answer is 0, the count of its frames is written, and what became of
 /// each of them, as far as there is room. Where memory is refused nothing has changed: it may be handed in again.
 #[unsafe(no_mangle)]
-pub extern "C" fn pv_on_datagram(
+pub extern "C" fn pv_receive(
     alloc: Global,
     subscriber: &mut Handle,
     datagram: &[u8],

@@ -12,7 +12,7 @@ use std::alloc::Global;
 /// Opens a sender of what a reader reads, from where that stands on: to one receiver (0), whatever its id, or to a group of so
 /// many, 1 to 8, with the ids from 0 on. Where the answer is 0, the second handle holds it, and the reader's holds nothing.
 #[unsafe(no_mangle)]
-pub extern "C" fn pv_send(
+pub extern "C" fn pv_open_sender(
     alloc: Global,
     reader: &mut Handle,
     group: u32,
@@ -65,7 +65,7 @@ fn hear_by(pass: &mut Pass, datagram: &[u8], now: u64, outcome: &mut i32) -> i32
 /// Takes a datagram at a moment in nanoseconds. Where the answer is 0, what became of it is written. What goes out for it is
 /// given by `pv_next_datagram`: while some of it is left, no other is taken.
 #[unsafe(no_mangle)]
-pub extern "C" fn pv_on_status(
+pub extern "C" fn pv_hear(
     alloc: Global,
     sender: &mut Handle,
     datagram: &[u8],

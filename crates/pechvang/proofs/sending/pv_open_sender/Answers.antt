@@ -5,7 +5,7 @@ use Rattle.std.specs.declared.option.Option.TheVariants.{Some}
 use Rattle.pechvang.specs.Owned.{Held}
 use Rattle.pechvang.specs.Ends.{SenderOpens}
 use Rattle.pechvang.proofs.Coded.{coded_core}
-use Rattle.pechvang.proofs.sending.pv_send.Goals as goal
+use Rattle.pechvang.proofs.sending.pv_open_sender.Goals as goal
 
 pub returns-in-Ok : goal.returns-in-Ok
 returns-in-Ok c =
