@@ -132,9 +132,102 @@ static void calls(void) {
     IS(pv_clean_and_limit(&keeper, &position), PV_EMPTY_HANDLE);
 }
 
+static void cores(void) {
+    pv_log log = PV_EMPTY;
+    pv_publisher publisher = PV_EMPTY;
+    pv_reader reader = PV_EMPTY;
+    pv_keeper keeper = PV_EMPTY;
+    pv_sender sender = PV_EMPTY, other = PV_EMPTY;
+    pv_subscriber subscriber = PV_EMPTY;
+    pv_subscription asked = {.receiver = 5, .greatest = 100, .session = 1, .stream = 2, .window = 32768};
+    static uint8_t message[300], datagram[1408], reply[40], room[100];
+    size_t length = 7, frames = 7;
+    uint64_t position;
+    int32_t outcome = 99, outcomes[2] = {99, 99};
+    IS(pv_open(&good, &log), PV_DONE);
+    IS(pv_take_publisher(&log, &publisher), PV_DONE);
+    IS(pv_take_reader(&log, &reader), PV_DONE);
+    IS(pv_take_keeper(&log, &keeper), PV_DONE);
+    IS(pv_set_connected(&keeper, true), PV_DONE);
+    IS(pv_clean_and_limit(&keeper, &position), PV_DONE);
+
+    IS(pv_sender_tick(&sender, 0), PV_EMPTY_HANDLE);
+    IS(pv_tick(&keeper.handle, 0), PV_WRONG_HANDLE);
+    IS(pv_next_datagram(&reader.handle, datagram, sizeof datagram, &length), PV_WRONG_HANDLE);
+    IS(pv_open_sender((pv_reader *)&keeper, 0, &sender), PV_WRONG_HANDLE);
+    IS(pv_open_sender(&reader, 9, &sender), PV_BAD_GROUP);
+    IS(pv_advance(&reader), PV_DONE);
+    IS(pv_open_sender(&reader, 0, &sender), PV_DONE);
+    IS(pv_open_sender(&reader, 0, &other), PV_EMPTY_HANDLE);
+    IS(pv_poll((pv_subscriber *)&sender, room, sizeof room, &length), PV_WRONG_HANDLE);
+    IS(pv_open_subscriber(&asked, &subscriber), PV_DONE);
+    IS(pv_hear((pv_sender *)&subscriber, datagram, 1, 0, &outcome), PV_WRONG_HANDLE);
+    IS(pv_poll(&subscriber, room, sizeof room, &length), PV_NO_IMAGE);
+    IS(pv_poll(&subscriber, room, 99, &length), PV_ROOM_TOO_SMALL);
+    IS(pv_receive(&subscriber, datagram, 3, 0, outcomes, 2, &frames), PV_DONE);
+    IS(frames, 1);
+    IS(outcomes[0], PV_F1_SHORT);
+    IS(outcomes[1], 99);
+    IS(pv_hear(&sender, datagram, 3, 0, &outcome), PV_DONE);
+    IS(outcome, PV_F1_SHORT);
+
+    /* a SETUP opens the image; a status message comes of it, and has to be taken before the next moment */
+    IS(pv_sender_tick(&sender, 1), PV_DONE);
+    IS(pv_sender_tick(&sender, 2), PV_UNSENT);
+    IS(pv_hear(&sender, reply, 40, 2, &outcome), PV_UNSENT);
+    IS(pv_sender_next(&sender, datagram, 39, &length), PV_ROOM_TOO_SMALL);
+    IS(length, 7);
+    IS(pv_sender_next(&sender, datagram, sizeof datagram, &length), PV_FRAME);
+    IS(length, 40);
+    IS(pv_sender_next(&sender, room, sizeof room, &frames), PV_DONE);
+    IS(pv_receive(&subscriber, datagram, length, 1, outcomes, 0, &frames), PV_DONE);
+    IS(outcomes[0], PV_F1_SHORT);
+    IS(pv_receive(&subscriber, datagram, length, 1, outcomes, 2, &frames), PV_DONE);
+    IS(outcomes[0], PV_KEPT);
+    IS(pv_poll(&subscriber, room, sizeof room, &frames), PV_DONE);
+    IS(pv_subscriber_tick(&subscriber, 1), PV_DONE);
+    IS(pv_subscriber_tick(&subscriber, 1), PV_UNSENT);
+    IS(pv_subscriber_next(&subscriber, reply, 35, &length), PV_ROOM_TOO_SMALL);
+    IS(pv_subscriber_next(&subscriber, reply, sizeof reply, &length), PV_FRAME);
+    IS(length, 36);
+    IS(pv_subscriber_next(&subscriber, reply, sizeof reply, &frames), PV_DONE);
+    IS(pv_hear(&sender, reply, length, 2, &outcome), PV_DONE);
+    IS(outcome, PV_STATUS);
+
+    /* two messages in one datagram, the second of which is longer than the greatest */
+    memset(message, 'm', sizeof message);
+    IS(pv_offer(&publisher, message, 100, &position), PV_DONE);
+    IS(pv_offer(&publisher, message, 101, &position), PV_DONE);
+    IS(pv_sender_tick(&sender, 3), PV_DONE);
+    IS(pv_sender_next(&sender, datagram, sizeof datagram, &length), PV_FRAME);
+    IS(pv_receive(&subscriber, datagram, length, 3, outcomes, 2, &frames), PV_DONE);
+    IS(frames, 2);
+    IS(outcomes[0], PV_STORED);
+    IS(outcomes[1], PV_STORED);
+    IS(pv_receive(&subscriber, datagram, length, 3, outcomes, 1, &frames), PV_DONE);
+    IS(frames, 2);
+    IS(outcomes[0], PV_DUPLICATE);
+    IS(outcomes[1], PV_STORED);
+    IS(pv_poll(&subscriber, room, 99, &length), PV_ROOM_TOO_SMALL);
+    IS(pv_poll(&subscriber, room, sizeof room, &length), PV_FRAME);
+    IS(length, 100);
+    IS(memcmp(room, message, 100), 0);
+    IS(pv_poll(&subscriber, room, sizeof room, &length), PV_MESSAGE_TOO_LONG);
+    IS(pv_poll(&subscriber, room, sizeof room, &length), PV_DONE);
+    pv_free_subscriber(&subscriber);
+    pv_free_sender(&sender);
+    pv_free_sender(&sender);
+    pv_free_sender(&other);
+    pv_free_log(&log);
+    pv_free_publisher(&publisher);
+    pv_free_reader(&reader);
+    pv_free_keeper(&keeper);
+}
+
 int main(void) {
     opening();
     calls();
+    cores();
     if (!wrong) puts("codes as told");
     return wrong;
 }

@@ -1,5 +1,6 @@
 /* A log that threads share without a lock: publishers offer messages or claim room for them, readers read frames, a keeper
-   cleans behind the readers and raises the limit. docs/LIBRARY.md tells how to link it and what is proved of it.
+   cleans behind the readers and raises the limit. A sender and a subscriber carry its stream over a network: the caller brings
+   sockets and a clock. docs/LIBRARY.md tells how to link it and what is proved of it.
 
    Handles. A handle begins as PV_EMPTY and is the library's from then on: its fields are neither read nor written. It is moved,
    never copied: after `b = a` only `b` is used. A call that puts something into a handle lets go what that held before. A handle
@@ -8,7 +9,7 @@
 
    Threads. A handle is used by one call at a time. Different handles of one log are used from any threads at once, with no
    lock. A handle goes to another thread by that thread's start or join, by a lock, or by a sequentially consistent atomic. No
-   call blocks, and none but pv_open, pv_take_.., pv_join and pv_free_.. takes or gives back memory.
+   call blocks, and of the log's none but pv_open, pv_take_.., pv_join and pv_free_.. takes or gives back memory.
 
    Pointers are not null, valid for the call, and no two arguments of a call overlap. No call is made from a signal handler, nor in
    the child of a process with threads after fork. malloc, realloc and free are one allocator, aligned to 16 bytes. */
@@ -24,7 +25,7 @@ extern "C" {
 #endif
 
 #define PV_VERSION_MAJOR 0
-#define PV_VERSION_MINOR 1
+#define PV_VERSION_MINOR 2
 
 /* ---- handles: a type for each kind, so that the compiler tells them apart */
 
@@ -37,24 +38,29 @@ typedef struct pv_log { pv_handle handle; } pv_log;
 typedef struct pv_publisher { pv_handle handle; } pv_publisher;
 typedef struct pv_reader { pv_handle handle; } pv_reader;
 typedef struct pv_keeper { pv_handle handle; } pv_keeper;
+typedef struct pv_subscriber { pv_handle handle; } pv_subscriber;
+typedef struct pv_sender { pv_handle handle; } pv_sender;
 
 #define PV_EMPTY {{0, false}}
 
 /* ---- codes */
 
 typedef enum pv_code {
-    PV_DONE = 0,                /* done; pv_next: no frame yet; pv_advance: none was read */
-    PV_FRAME = 1,               /* pv_next: a frame was read; pv_advance: it was passed */
+    PV_DONE = 0,                /* done; pv_next, pv_poll, pv_.._next: none there yet; pv_advance: none was read */
+    PV_FRAME = 1,               /* a frame was read or passed; pv_poll: a message; pv_.._next: a datagram to send */
     PV_NOT_CONNECTED = -1,      /* nobody is connected, and the tail is at the limit */
     PV_BACK_PRESSURED = -2,     /* the tail is at the limit */
     PV_ADMIN_ACTION = -3,       /* a term came to its end: offer again */
     PV_CLOSED = -4,             /* the log is closed, for good */
     PV_MAX_POSITION = -5,       /* the last term is used up, for good */
     PV_TOO_LONG = -6,           /* an offer above an eighth of a term, a claim above the MTU less 32 */
-    PV_ROOM_TOO_SMALL = -7,     /* the frame's payload is longer than the room; it stays unread, and is told */
+    PV_ROOM_TOO_SMALL = -7,     /* what is to be written may be longer than the room; it stays, and nothing is lost */
     PV_CLAIM_OPEN = -8,         /* a claim is open: commit or abort it first */
     PV_NO_CLAIM = -9,           /* no claim is open */
     PV_OUTSIDE_CLAIM = -10,     /* these bytes aren't all inside the claim */
+    PV_UNSENT = -11,            /* datagrams are left that weren't taken: pv_.._next first */
+    PV_NO_IMAGE = -12,          /* no SETUP has opened an image yet */
+    PV_MESSAGE_TOO_LONG = -13,  /* a message is longer than the greatest: it was passed */
     PV_EMPTY_HANDLE = -16,      /* the handle holds nothing */
     PV_WRONG_HANDLE = -17,      /* the handle holds something else */
     PV_NONE_LEFT = -18,         /* all of this kind are taken */
@@ -63,7 +69,8 @@ typedef enum pv_code {
     PV_BAD_MTU = -21,           /* not a multiple of 32 from 256 to 65,504, or more than an eighth of a term */
     PV_BAD_START = -22,         /* not a multiple of 32, or not below the greatest position */
     PV_BAD_CONSUMERS = -23,     /* not from 1 to 8 */
-    PV_FULL = -24               /* eight readers are there */
+    PV_FULL = -24,              /* eight readers are there */
+    PV_BAD_GROUP = -25          /* more than 8 receivers */
 } pv_code;
 
 static inline const char *pv_code_text(int32_t code) {
@@ -80,6 +87,9 @@ static inline const char *pv_code_text(int32_t code) {
     case PV_CLAIM_OPEN: return "a claim is open";
     case PV_NO_CLAIM: return "no claim is open";
     case PV_OUTSIDE_CLAIM: return "bytes outside the claim";
+    case PV_UNSENT: return "datagrams are left";
+    case PV_NO_IMAGE: return "no image is open";
+    case PV_MESSAGE_TOO_LONG: return "a message was too long";
     case PV_EMPTY_HANDLE: return "the handle holds nothing";
     case PV_WRONG_HANDLE: return "the handle holds something else";
     case PV_NONE_LEFT: return "all of this kind are taken";
@@ -89,6 +99,7 @@ static inline const char *pv_code_text(int32_t code) {
     case PV_BAD_START: return "the start is out of range";
     case PV_BAD_CONSUMERS: return "there are from 1 to 8 consumers";
     case PV_FULL: return "eight readers are there";
+    case PV_BAD_GROUP: return "a group has at most 8 receivers";
     default: return "no code of this library";
     }
 }
@@ -157,6 +168,83 @@ int32_t pv_set_closed(pv_keeper *keeper);
 /* Opens a reader at the position of the least one. */
 int32_t pv_join(pv_keeper *keeper, pv_reader *reader);
 
+/* ---- a subscriber and a sender: datagrams and moments in, datagrams out one by one. Moments are nanoseconds of any clock that
+   doesn't go back. Both are used again only once pv_.._next has answered PV_DONE: until then PV_UNSENT, and nothing changes. */
+
+/* What became of a frame, or of a datagram. */
+typedef enum pv_outcome {
+    PV_STORED = 1,              /* I1: the frame is held from now on */
+    PV_DUPLICATE = 2,           /* I2: it was held already */
+    PV_BELOW = 3,               /* I3: it starts below the subscriber */
+    PV_OVER_WINDOW = 4,         /* I4: it ends above the window */
+    PV_OVERLAP = 5,             /* I5: it would overlap a held one */
+    PV_CROSSES_TERM = 6,        /* I6: it would pass the end of its term */
+    PV_HEARTBEAT = 10,          /* a heartbeat met the image */
+    PV_OPENED = 11,             /* a SETUP opened the image */
+    PV_KEPT = 12,               /* a SETUP met the image */
+    PV_ASKED = 13,              /* there is no image: a SETUP will be asked for; of a sender: one was asked for */
+    PV_OTHER = 14,              /* another session, stream or kind */
+    PV_STATUS = 15,             /* a sender took a status message */
+    PV_NAK_TAKEN = 21,          /* N1: what was asked for will be sent again */
+    PV_NAK_LINGERS = 22,        /* N2: the same was asked for just now */
+    PV_NAK_FULL = 23,           /* N3: 16 are kept already */
+    PV_NAK_OUT_OF_RANGE = 24,   /* N4 */
+    PV_NAK_NO_FRAME = 25,       /* N5: no frame starts there */
+    PV_SETUP_GEOMETRY = -1,     /* S1: a SETUP's term length or MTU is out of range */
+    PV_SETUP_POSITION = -2,     /* S2: its position is none of the stream */
+    PV_SETUP_WINDOW = -3,       /* S3: the window is none of that geometry */
+    PV_F1_SHORT = -11,          /* F1 to F8: the datagram can't be read */
+    PV_F2_VERSION = -12,
+    PV_F3_TYPE = -13,
+    PV_F4_LENGTH = -14,
+    PV_F5_FLAGS = -15,
+    PV_F6_ALIGNMENT = -16,
+    PV_F7_RANGE = -17,
+    PV_F8_DATAGRAM = -18
+} pv_outcome;
+
+typedef struct pv_subscription {
+    int64_t receiver;           /* the receiver's id: any of a single one, from 0 on in a group */
+    size_t greatest;            /* the most bytes of a message: an eighth of a term, or less */
+    int32_t session;
+    int32_t stream;
+    uint32_t window;            /* bytes: a multiple of 32 from the MTU to half a term, or each SETUP is refused */
+} pv_subscription;
+
+int32_t pv_open_subscriber(const pv_subscription *config, pv_subscriber *subscriber);
+
+/* PV_DONE, and of how many frames the datagram is; what became of them is written as far as there is room. After PV_NO_MEMORY
+   it may be handed in again. */
+int32_t pv_receive(pv_subscriber *subscriber, const uint8_t *datagram, size_t length, uint64_t now, int32_t *outcomes, size_t size, size_t *frames);
+
+/* PV_FRAME: a whole message stands at the front of the room, which has to hold the greatest. PV_DONE: none is whole yet. */
+int32_t pv_poll(pv_subscriber *subscriber, uint8_t *room, size_t size, size_t *length);
+
+/* The reader becomes a sender of its log, from where it stands on, and its handle is empty then: to one receiver (0), or to a
+   group of 1 to 8. Where it is declined the reader stays. */
+int32_t pv_open_sender(pv_reader *reader, uint32_t group, pv_sender *sender);
+
+/* PV_DONE, and what became of the datagram. */
+int32_t pv_hear(pv_sender *sender, const uint8_t *datagram, size_t length, uint64_t now, int32_t *outcome);
+
+/* Takes a moment: often, every millisecond or so. */
+int32_t pv_tick(pv_handle *core, uint64_t now);
+
+/* PV_FRAME: a datagram stands at the front of the room, to be sent: to the subscriber's publisher, or the sender's receivers. It
+   has at most the MTU's bytes, and a subscriber's 40. PV_DONE: none is left. */
+int32_t pv_next_datagram(pv_handle *core, uint8_t *room, size_t size, size_t *length);
+
+static inline int32_t pv_subscriber_tick(pv_subscriber *subscriber, uint64_t now) { return pv_tick(&subscriber->handle, now); }
+static inline int32_t pv_sender_tick(pv_sender *sender, uint64_t now) { return pv_tick(&sender->handle, now); }
+
+static inline int32_t pv_subscriber_next(pv_subscriber *subscriber, uint8_t *room, size_t size, size_t *length) {
+    return pv_next_datagram(&subscriber->handle, room, size, length);
+}
+
+static inline int32_t pv_sender_next(pv_sender *sender, uint8_t *room, size_t size, size_t *length) {
+    return pv_next_datagram(&sender->handle, room, size, length);
+}
+
 /* ---- freeing */
 
 void pv_free(pv_handle *handle);
@@ -165,6 +253,8 @@ static inline void pv_free_log(pv_log *log) { pv_free(&log->handle); }
 static inline void pv_free_publisher(pv_publisher *publisher) { pv_free(&publisher->handle); }
 static inline void pv_free_reader(pv_reader *reader) { pv_free(&reader->handle); }
 static inline void pv_free_keeper(pv_keeper *keeper) { pv_free(&keeper->handle); }
+static inline void pv_free_subscriber(pv_subscriber *subscriber) { pv_free(&subscriber->handle); }
+static inline void pv_free_sender(pv_sender *sender) { pv_free(&sender->handle); }
 
 #ifdef __cplusplus
 }

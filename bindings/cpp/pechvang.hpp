@@ -1,4 +1,4 @@
-// A log that threads share without a lock, for C++: handles that are moved and freed by themselves, and codes that are thrown
+// A log that threads share without a lock, and its sender and subscriber, for C++: handles that are moved and freed by themselves, and codes that are thrown
 // where they are faults. pechvang.h tells the rules of threads and pointers.
 #ifndef PECHVANG_HPP
 #define PECHVANG_HPP
@@ -114,6 +114,50 @@ public:
         Reader reader;
         must(pv_join(get(), reader.get()));
         return reader;
+    }
+};
+
+// What both cores have: moments in, nanoseconds of a clock that doesn't go back, and datagrams out. All of these have to be taken
+// before the next moment.
+template <class H>
+class Core : public Handle<H> {
+public:
+    void tick(std::uint64_t now) { must(pv_tick(&this->get()->handle, now)); }
+    // The next datagram to send stands at the front of the room.
+    std::optional<std::size_t> next_datagram(std::span<std::uint8_t> room) {
+        std::size_t length = 0;
+        std::int32_t code = pv_next_datagram(&this->get()->handle, room.data(), room.size(), &length);
+        must(code);
+        return code == PV_FRAME ? std::optional(length) : std::nullopt;
+    }
+};
+
+class Subscriber : public Core<pv_subscriber> {
+public:
+    explicit Subscriber(const pv_subscription &config) { must(pv_open_subscriber(&config, get())); }
+    // How many frames the datagram has; what became of them is written as far as there is room.
+    std::size_t receive(std::span<const std::uint8_t> datagram, std::uint64_t now, std::span<std::int32_t> outcomes) {
+        std::size_t frames = 0;
+        must(pv_receive(get(), datagram.data(), datagram.size(), now, outcomes.data(), outcomes.size(), &frames));
+        return frames;
+    }
+    // The message at the front of the room, or nothing where none is whole yet or no image is open.
+    std::optional<std::size_t> poll(std::span<std::uint8_t> room) {
+        std::size_t length = 0;
+        std::int32_t code = pv_poll(get(), room.data(), room.size(), &length);
+        if (code != PV_NO_IMAGE) must(code);
+        return code == PV_FRAME ? std::optional(length) : std::nullopt;
+    }
+};
+
+class Sender : public Core<pv_sender> {
+public:
+    // To one receiver (0), or to a group. Where it is declined, the reader stays as it was.
+    explicit Sender(Reader &&reader, std::uint32_t group = 0) { must(pv_open_sender(reader.get(), group, get())); }
+    pv_outcome hear(std::span<const std::uint8_t> datagram, std::uint64_t now) {
+        std::int32_t outcome = 0;
+        must(pv_hear(get(), datagram.data(), datagram.size(), now, &outcome));
+        return static_cast<pv_outcome>(outcome);
     }
 };
 

@@ -62,6 +62,38 @@ bool run() {
     return well;
 }
 
+// A sender and a subscriber, with no network between them.
+bool carry() {
+    pechvang::Log log({.term_length = 1 << 16, .mtu = 1408, .initial_term_id = 7, .session = 1, .stream = 1001, .consumers = 1, .start = 0});
+    pechvang::Publisher publisher = log.publisher();
+    pechvang::Keeper keeper = log.keeper();
+    pechvang::Sender sender(log.reader());
+    pechvang::Subscriber subscriber({.receiver = 3, .greatest = 8192, .session = 1, .stream = 1001, .window = 32768});
+    keeper.connect(true);
+    std::array<std::uint8_t, 1408> datagram;
+    std::array<std::int32_t, 44> outcomes;
+    std::vector<std::uint8_t> room(8192), message(5000);
+    std::uint32_t offered = 0, polled = 0;
+    for (std::uint64_t now = 0; polled < 2000 && now < 10'000'000'000; now += 1'000'000) {
+        keeper.clean_and_limit();
+        message[0] = static_cast<std::uint8_t>(offered);
+        if (offered < 2000 && publisher.offer(message)) offered++;
+        sender.tick(now);
+        while (auto length = sender.next_datagram(datagram)) subscriber.receive(std::span(datagram).first(*length), now, outcomes);
+        while (auto length = subscriber.poll(room)) {
+            if (*length != message.size() || room[0] != static_cast<std::uint8_t>(polled++)) return false;
+        }
+        subscriber.tick(now);
+        while (auto length = subscriber.next_datagram(datagram)) {
+            sender.hear(std::span(datagram).first(*length), now);
+            std::array<std::uint8_t, 1408> answer;
+            while (auto size = sender.next_datagram(answer)) subscriber.receive(std::span(answer).first(*size), now, outcomes);
+        }
+    }
+    std::printf("%u carried\n", static_cast<unsigned>(polled));
+    return polled == 2000;
+}
+
 } // namespace
 
-int main() { return run() ? 0 : 1; }
+int main() { return run() && carry() ? 0 : 1; }

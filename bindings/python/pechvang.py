@@ -1,4 +1,4 @@
-"""A log that threads share without a lock, for Python, over a shared library made of the archive.
+"""A log that threads share without a lock, and its sender and subscriber, for Python, over a shared library made of the archive.
 
     log = Log(library); publisher, reader, keeper = log.publisher(), log.reader(), log.keeper()
     keeper.set_connected(True); keeper.clean_and_limit()
@@ -28,6 +28,11 @@ class Fault(Exception):
 class Config(ctypes.Structure):
     _fields_ = [("term_length", ctypes.c_uint32), ("mtu", ctypes.c_uint32), ("initial_term_id", ctypes.c_int32), ("session", ctypes.c_int32),
                 ("stream", ctypes.c_int32), ("consumers", ctypes.c_uint32), ("start", ctypes.c_uint64)]
+
+
+class Subscription(ctypes.Structure):
+    _fields_ = [("receiver", ctypes.c_int64), ("greatest", ctypes.c_size_t), ("session", ctypes.c_int32), ("stream", ctypes.c_int32),
+                ("window", ctypes.c_uint32)]
 
 
 class Frame(ctypes.Structure):
@@ -123,6 +128,51 @@ class Keeper(Pass):
         return reader
 
 
+class Core(Pass):
+    """Moments in, nanoseconds of a clock that doesn't go back, and datagrams out: all have to be taken before the next moment."""
+
+    def tick(self, now):
+        self.call("pv_tick", ctypes.c_uint64(now))
+
+    def datagrams(self, room=65504):
+        bytes_, length = ctypes.create_string_buffer(room), ctypes.c_size_t()
+        while self.call("pv_next_datagram", bytes_, ctypes.c_size_t(room), ctypes.byref(length)) == FRAME:
+            yield bytes_.raw[:length.value]
+
+
+class Subscriber(Core):
+    def __init__(self, library, config):
+        super().__init__(library)
+        self.room = ctypes.create_string_buffer(max(config.greatest, 1))
+        code = library.pv_open_subscriber(ctypes.byref(config), ctypes.byref(self.handle))
+        if code < 0:
+            raise Fault(code)
+
+    def receive(self, datagram, now):
+        """What became of each frame, as pechvang.h names it."""
+        outcomes, frames = (ctypes.c_int32 * 2048)(), ctypes.c_size_t()
+        self.call("pv_receive", datagram, ctypes.c_size_t(len(datagram)), ctypes.c_uint64(now), outcomes, ctypes.c_size_t(2048), ctypes.byref(frames))
+        return outcomes[:frames.value]
+
+    def poll(self):
+        """The next message, or None where none is whole yet."""
+        length = ctypes.c_size_t()
+        if self.call("pv_poll", self.room, ctypes.c_size_t(len(self.room)), ctypes.byref(length)) == DONE:
+            return None
+        return self.room.raw[:length.value]
+
+
+class Sender(Core):
+    def __init__(self, reader, group=0):
+        super().__init__(reader.library)
+        reader.call("pv_open_sender", ctypes.c_uint32(group), ctypes.byref(self.handle))
+
+    def hear(self, datagram, now):
+        outcome = ctypes.c_int32()
+        self.call("pv_hear", datagram, ctypes.c_size_t(len(datagram)), ctypes.c_uint64(now), ctypes.byref(outcome))
+        return outcome.value
+
+
 class Log(Pass):
     def __init__(self, path, config=Config(1 << 16, 1408, 7, 1, 1001, 1, 0)):
         super().__init__(ctypes.CDLL(path))
@@ -144,7 +194,41 @@ class Log(Pass):
         return self.take("pv_take_keeper", Keeper(self.library))
 
 
+def carry(path):
+    """A sender and a subscriber, with a network between them that loses each seventh datagram."""
+    log = Log(path)
+    publisher, keeper, sender = log.publisher(), log.keeper(), Sender(log.reader())
+    subscriber = Subscriber(log.library, Subscription(3, 8192, 1, 1001, 32768))
+    keeper.set_connected(True)
+    wanted = [bytes([k % 251]) * (k % 5000) for k in range(300)]
+    found, offered, sent = [], 0, 0
+    for now in range(0, 60_000_000_000, 1_000_000):
+        keeper.clean_and_limit()
+        if offered < len(wanted) and publisher.offer(wanted[offered]) is not None:
+            offered += 1
+        sender.tick(now)
+        for datagram in sender.datagrams():
+            sent += 1
+            if sent % 7:
+                subscriber.receive(datagram, now)
+        try:
+            while (message := subscriber.poll()) is not None:
+                found.append(message)
+        except Fault as fault:
+            assert fault.code == -12
+        subscriber.tick(now)
+        for reply in subscriber.datagrams():
+            sender.hear(reply, now)
+            for datagram in sender.datagrams():
+                subscriber.receive(datagram, now)
+        if len(found) == len(wanted):
+            break
+    assert found == wanted, "other messages are carried"
+    print(f"{len(found)} carried by {sent} datagrams")
+
+
 def main():
+    carry(sys.argv[1])
     log = Log(sys.argv[1])
     publisher, reader, keeper = log.publisher(), log.reader(), log.keeper()
     log.free()

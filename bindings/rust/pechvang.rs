@@ -1,4 +1,4 @@
-//! A log that threads share without a lock, for Rust: handles that are freed by `Drop` and go to other threads. The rules of
+//! A log that threads share without a lock, and its sender and subscriber, for Rust: handles that are freed by `Drop` and go to other threads. The rules of
 //! `pechvang.h` are kept by the types: a handle is used by one call at a time, and moved, never copied.
 //!
 //! `main` shows it: four publishers in threads of their own, and a reader that keeps the log.
@@ -52,6 +52,16 @@ pub struct Frame {
     pub is_data: bool,
 }
 
+#[repr(C)]
+#[derive(Clone, Copy, Debug)]
+pub struct Subscription {
+    pub receiver: i64,
+    pub greatest: usize,
+    pub session: i32,
+    pub stream: i32,
+    pub window: u32,
+}
+
 extern "C" {
     fn pv_open(config: &Config, log: &mut Handle) -> i32;
     fn pv_take_publisher(log: &mut Handle, publisher: &mut Handle) -> i32;
@@ -69,6 +79,13 @@ extern "C" {
     fn pv_set_connected(keeper: &mut Handle, connected: bool) -> i32;
     fn pv_set_closed(keeper: &mut Handle) -> i32;
     fn pv_join(keeper: &mut Handle, reader: &mut Handle) -> i32;
+    fn pv_open_subscriber(config: &Subscription, subscriber: &mut Handle) -> i32;
+    fn pv_receive(subscriber: &mut Handle, datagram: *const u8, length: usize, now: u64, outcomes: *mut i32, size: usize, frames: &mut usize) -> i32;
+    fn pv_poll(subscriber: &mut Handle, room: *mut u8, size: usize, length: &mut usize) -> i32;
+    fn pv_open_sender(reader: &mut Handle, group: u32, sender: &mut Handle) -> i32;
+    fn pv_hear(sender: &mut Handle, datagram: *const u8, length: usize, now: u64, outcome: &mut i32) -> i32;
+    fn pv_tick(core: &mut Handle, now: u64) -> i32;
+    fn pv_next_datagram(core: &mut Handle, room: *mut u8, size: usize, length: &mut usize) -> i32;
     fn pv_free(handle: &mut Handle);
 }
 
@@ -212,6 +229,114 @@ impl Keeper {
     }
 }
 
+/// The next datagram that a core has to send stands at the front of the room. All have to be taken before the next moment.
+fn next_datagram(core: &mut Handle, room: &mut [u8]) -> Result<Option<usize>, Fault> {
+    let mut length = 0;
+    let code = unsafe { pv_next_datagram(core, room.as_mut_ptr(), room.len(), &mut length) };
+    answer(code, (code == 1).then_some(length))
+}
+
+pub struct Subscriber(Handle);
+
+impl Subscriber {
+    pub fn open(config: &Subscription) -> Result<Subscriber, Fault> {
+        let mut opened = Handle::EMPTY;
+        answer(unsafe { pv_open_subscriber(config, &mut opened) }, ())?;
+        Ok(Subscriber(opened))
+    }
+
+    /// How many frames the datagram has; what became of them is written as far as there is room.
+    pub fn receive(&mut self, datagram: &[u8], now: u64, outcomes: &mut [i32]) -> Result<usize, Fault> {
+        let mut frames = 0;
+        let code = unsafe { pv_receive(&mut self.0, datagram.as_ptr(), datagram.len(), now, outcomes.as_mut_ptr(), outcomes.len(), &mut frames) };
+        answer(code, frames)
+    }
+
+    /// The message at the front of the room, which has to hold the greatest.
+    pub fn poll(&mut self, room: &mut [u8]) -> Result<Option<usize>, Fault> {
+        let mut length = 0;
+        let code = unsafe { pv_poll(&mut self.0, room.as_mut_ptr(), room.len(), &mut length) };
+        answer(code, (code == 1).then_some(length))
+    }
+
+    pub fn tick(&mut self, now: u64) -> Result<(), Fault> {
+        answer(unsafe { pv_tick(&mut self.0, now) }, ())
+    }
+
+    pub fn next_datagram(&mut self, room: &mut [u8]) -> Result<Option<usize>, Fault> {
+        next_datagram(&mut self.0, room)
+    }
+}
+
+pub struct Sender(Handle);
+
+impl Sender {
+    /// To one receiver (0), or to a group. Where it is declined, the reader comes back.
+    pub fn open(mut reader: Reader, group: u32) -> Result<Sender, (Fault, Reader)> {
+        let mut opened = Handle::EMPTY;
+        match answer(unsafe { pv_open_sender(&mut reader.0, group, &mut opened) }, ()) {
+            Ok(()) => Ok(Sender(opened)),
+            Err(fault) => Err((fault, reader)),
+        }
+    }
+
+    /// What became of the datagram, as `pechvang.h` names it.
+    pub fn hear(&mut self, datagram: &[u8], now: u64) -> Result<i32, Fault> {
+        let mut outcome = 0;
+        let code = unsafe { pv_hear(&mut self.0, datagram.as_ptr(), datagram.len(), now, &mut outcome) };
+        answer(code, outcome)
+    }
+
+    pub fn tick(&mut self, now: u64) -> Result<(), Fault> {
+        answer(unsafe { pv_tick(&mut self.0, now) }, ())
+    }
+
+    pub fn next_datagram(&mut self, room: &mut [u8]) -> Result<Option<usize>, Fault> {
+        next_datagram(&mut self.0, room)
+    }
+}
+
+/// A sender and a subscriber, with no network between them.
+fn carry() -> Result<u32, Fault> {
+    const COUNT: u32 = 2_000;
+    let config = Config { term_length: 1 << 16, mtu: 1408, initial_term_id: 7, session: 1, stream: 1001, consumers: 1, start: 0 };
+    let mut log = Log::open(&config)?;
+    let (mut publisher, mut keeper) = (log.publisher()?, log.keeper()?);
+    let (fault, reader) = Sender::open(log.reader()?, 9).err().expect("nine receivers");
+    assert_eq!(fault, Fault(-25));
+    let mut sender = Sender::open(reader, 0).map_err(|(fault, _)| fault)?;
+    let mut subscriber = Subscriber::open(&Subscription { receiver: 3, greatest: 8192, session: 1, stream: 1001, window: 32768 })?;
+    keeper.set_connected(true)?;
+    let (mut datagram, mut answer, mut outcomes, mut room) = ([0; 1408], [0; 1408], [0; 44], [0; 8192]);
+    let (mut offered, mut polled) = (0u32, 0u32);
+    for now in (0..10_000_000_000).step_by(1_000_000) {
+        keeper.clean_and_limit()?;
+        if offered < COUNT && publisher.offer(&offered.to_le_bytes().repeat(500)).is_ok() {
+            offered += 1;
+        }
+        sender.tick(now)?;
+        while let Some(length) = sender.next_datagram(&mut datagram)? {
+            subscriber.receive(&datagram[..length], now, &mut outcomes)?;
+        }
+        while let Ok(Some(length)) = subscriber.poll(&mut room) {
+            assert_eq!(room[..length], polled.to_le_bytes().repeat(500));
+            polled += 1;
+        }
+        subscriber.tick(now)?;
+        while let Some(length) = subscriber.next_datagram(&mut datagram)? {
+            sender.hear(&datagram[..length], now)?;
+            while let Some(length) = sender.next_datagram(&mut answer)? {
+                subscriber.receive(&answer[..length], now, &mut outcomes)?;
+            }
+        }
+        if polled == COUNT {
+            break;
+        }
+    }
+    assert_eq!(polled, COUNT);
+    Ok(polled)
+}
+
 fn publish(mut publisher: Publisher, number: u32, count: u32) -> Result<u64, Fault> {
     for k in 0..count {
         let mut message = [0; 8];
@@ -270,6 +395,6 @@ fn main() -> Result<(), Fault> {
     for thread in threads {
         shares += thread.join().expect("a publisher")?;
     }
-    println!("{} messages, {shares} bytes", next.iter().sum::<u32>());
+    println!("{} messages, {shares} bytes, {} carried", next.iter().sum::<u32>(), carry()?);
     Ok(())
 }

@@ -1,4 +1,4 @@
-ghost use Rattle.std.specs.Prelude.{◌≡◌, ◌<◌, ◌≤◌, ◌↔◌, None, Some, true, length, IsOk, IfOk, IfErr, IsErrOf, MatchOption, ◌++◌};
+ghost use Rattle.std.specs.Prelude.{◌≡◌, ◌<◌, ◌≤◌, ◌↔◌, None, Some, true, length, IsOk, IfOk, IfErr, IfSome, IsErrOf, MatchOption, ◌++◌};
 ghost use Rattle.theory.specs.Assembly.{on_frame};
 ghost use Rattle.assembler.specs.Assembling.{held_with, is_dropped};
 
@@ -44,13 +44,14 @@ impl<A: Allocator + Copy> Assembler<A> {
 
     /// Takes a DATA frame's flags and payload, and gives the message that it completes. A whole frame or a begin drops
     /// what was begun; a middle or an end with nothing begun is dropped. That wants no memory, nor does an empty payload.
-    /// After an error nothing is begun.
+    /// After an error nothing is begun. A message has no more bytes than the greatest.
     pub fn on_frame(
         &mut self,
         flags: u8,
         payload: &[u8],
     ) -> Result<Option<Message<A>>, AssemblyError>
         ensures message { IfOk result (λ m. MatchOption m ((on_frame self.old.begun flags payload.now).message ≡ None) (λ m. (on_frame self.old.begun flags payload.now).message ≡ Some m.bytes.items)) }
+        ensures short { IfOk result (λ m. IfSome m (λ m. length m.bytes.items ≤ self.old.greatest)) }
         ensures state { IfOk result (λ _. self.new ≡ record self.old { begun = (on_frame self.old.begun flags payload.now).begun }) }
         ensures refused { IfErr result (λ _. self.new ≡ record self.old { begun = None }) }
         ensures dropped { is_dropped self.old.begun flags ≡ true → IsOk result }
@@ -73,6 +74,7 @@ impl<A: Allocator + Copy> Assembler<A> {
     /// The payload behind the front, if both fit in a message.
     fn joined(&self, mut front: Vec<u8, A>, payload: &[u8]) -> Result<Vec<u8, A>, AssemblyError>
         ensures bytes { IfOk result (λ v. v.items ≡ front.items ++ payload.now) }
+        ensures short { IfOk result (λ v. length v.items ≤ self.now.greatest) }
         ensures asked { IsErrOf result AssemblyError.Memory → 0 < length payload.now }
         ensures too_long { IsErrOf result AssemblyError.TooLong ↔ (self.now.greatest < length (front.items ++ payload.now)) }
     {

@@ -2,3 +2,4 @@ pub mod Holdings
 pub mod Claimings
 pub mod Endings
 pub mod Lending
+pub mod Passes

@@ -8,6 +8,9 @@
 //!
 //! `Armed` and `Claim` can't be dropped, so a claimant has nothing open: `close` wants all passes and a keeper that has
 //! claimed nothing, asks nothing else of a claimant, and its book has each frame of each entry committed.
+//!
+//! A publisher, a reader and the keeper also go each with a share of the log, so that it can be kept as long as it is wanted
+//! with nothing beside it (`Opened` and the passes that are taken from it).
 #![tactic(auto)]
 
 mod armed;
@@ -16,6 +19,7 @@ mod claimant;
 mod closing;
 mod denied;
 mod parts;
+mod passes;
 
 pub use armed::{Armed, arm, try_claim};
 pub use claim::Claim;
@@ -23,3 +27,9 @@ pub use claimant::{Claimant, offer};
 pub use closing::close;
 pub use denied::Denied;
 pub use parts::{Parts, open, with_blocks};
+pub use passes::claiming::ClaimPass;
+pub use passes::fault::Fault;
+pub use passes::keeping::KeeperPass;
+pub use passes::opening::{Config, Opened};
+pub use passes::publishing::PublisherPass;
+pub use passes::reading::ReaderPass;

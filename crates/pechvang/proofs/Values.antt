@@ -23,7 +23,7 @@ use Rattle.std.specs.declared.alloc.Global.{Global}
 use Rattle.std.specs.declared.option.Option.TheVariants.{None, Some}
 use Rattle.std.specs.contracts.impls.GlobalAllocator.TheImpl.{ghosts}
 use Rattle.std.specs.Box.Ownership.{box_owns}
-use Rattle.log_passes.specs.contracts.Pass as pass
+use Rattle.pechvang.specs.contracts.held.Pass as pass
 use Rattle.pechvang.specs.Owned.{Held, handle_owns}
 use Rattle.pechvang.specs.contracts.handle.Handle as handle
 use Rattle.pechvang.specs.contracts.loose.Loose as loose

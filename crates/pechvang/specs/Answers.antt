@@ -1,9 +1,11 @@
 -- What a call answers by its code, and what the handle holds then.
 use Rattle.std.specs.Prelude.{◌≡◌, ℤ, pos, negsuc}
 use Rattle.std.specs.declared.option.Option.TheVariants.{None, Some}
-use Rattle.log_passes.specs.Codes.{code_of}
-use Rattle.log_passes.specs.declared.Pass.{Pass}
-use Rattle.log_passes.specs.declared.fault.Fault.{Fault}
+use Rattle.claims.specs.Passes.Codes.{code_of}
+use Rattle.cores.specs.Numbers as core_numbers
+use Rattle.cores.specs.declared.fault.Fault as core_faults
+use Rattle.pechvang.specs.declared.held.Pass.{Pass}
+use Rattle.claims.specs.declared.passes.fault.Fault.{Fault}
 use Rattle.pechvang.specs.Owned.{Held}
 
 -- the handle holds nothing, or a pass of a kind that the call isn't for
@@ -29,12 +31,20 @@ pub record Does {Q : Type 0} (pass_of : Q → Pass) (wanted : ℤ) (Did : Q → 
   pub did : Did after
 
 -- it fails, by a fault that the code names
-pub record Fails {Q : Type 0} (pass_of : Q → Pass) (Why : Fault → Q → Type 0) (code : ℤ) (k : Held) : Type 0 where
-  pub fault : Fault
+pub record FailsAs {F Q : Type 0} (number : F → ℤ) (pass_of : Q → Pass) (Why : F → Q → Type 0) (code : ℤ) (k : Held) : Type 0 where
+  pub fault : F
   pub after : Q
   pub held : k ≡ Some (pass_of after)
-  pub code_is : code ≡ code_of fault
+  pub code_is : code ≡ number fault
   pub why : Why fault after
+
+-- of a log
+abbrev pub Fails : {Q : Type 0} → (Q → Pass) → (Fault → Q → Type 0) → ℤ → Held → Type 0
+Fails = FailsAs code_of
+
+-- of a core
+abbrev pub FailsCore : {Q : Type 0} → (Q → Pass) → (core_faults.Fault → Q → Type 0) → ℤ → Held → Type 0
+FailsCore = FailsAs core_numbers.code_of
 
 -- it is done, and another handle holds what it gave
 pub record Gives {Q R : Type 0} (pass_of : Q → Pass) (given_of : R → Pass) (Did : R → Q → Type 0) (code : ℤ) (k out : Held) : Type 0 where

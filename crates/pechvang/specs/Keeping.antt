@@ -2,8 +2,8 @@
 use Rattle.std.specs.Prelude.{◌≡◌, ℕ, ◌⊎◌, ℤ, pos, Bool}
 use Rattle.std.specs.declared.option.Option.TheVariants.{Some}
 use Rattle.shared_log.specs.Keepers.{closed_word, connected_word}
-use Rattle.log_passes.specs.Keeping.{Cleans, DeclinesReader, OpensReader, StoresLimit}
-use Rattle.log_passes.specs.declared.Pass.TheVariants.{Keeper, Reader}
+use Rattle.claims.specs.Passes.Keeping.{Cleans, DeclinesReader, OpensReader, StoresLimit}
+use Rattle.pechvang.specs.declared.held.Pass.TheVariants.{Keeper, Reader}
 use Rattle.pechvang.specs.Answers.{Does, Fails, Gives, Unserved}
 use Rattle.pechvang.specs.Owned.{Held}
 

@@ -4,3 +4,4 @@ pub mod Opening
 pub mod Publishing
 pub mod Reading
 pub mod Keeping
+pub mod Ends

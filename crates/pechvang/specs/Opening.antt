@@ -1,13 +1,13 @@
 -- What opens a log, and what takes its passes, by what the handles hold.
 use Rattle.std.specs.Prelude.{◌≡◌, ◌⊎◌, ℤ, pos}
 use Rattle.std.specs.declared.option.Option.TheVariants.{Some}
-use Rattle.log_passes.specs.Codes.{code_of}
-use Rattle.log_passes.specs.Opening.{DeclinesKeeper, DeclinesLog, DeclinesPublisher, DeclinesReader, OpensLog, TakesKeeper, TakesPublisher, TakesReader}
-use Rattle.log_passes.specs.declared.Pass.{Pass}
-use Rattle.log_passes.specs.declared.Pass.TheVariants.{Keeper, Opened, Publisher, Reader}
-use Rattle.log_passes.specs.declared.fault.Fault.{Fault}
-use Rattle.log_passes.specs.declared.opening.Config.{Config}
-use Rattle.log_passes.specs.declared.opening.Opened as opened
+use Rattle.claims.specs.Passes.Codes.{code_of}
+use Rattle.claims.specs.Passes.Opening.{DeclinesKeeper, DeclinesLog, DeclinesPublisher, DeclinesReader, OpensLog, TakesKeeper, TakesPublisher, TakesReader}
+use Rattle.pechvang.specs.declared.held.Pass.{Pass}
+use Rattle.pechvang.specs.declared.held.Pass.TheVariants.{Keeper, Opened, Publisher, Reader}
+use Rattle.claims.specs.declared.passes.fault.Fault.{Fault}
+use Rattle.claims.specs.declared.passes.opening.Config.{Config}
+use Rattle.claims.specs.declared.passes.opening.Opened as opened
 use Rattle.pechvang.specs.Answers.{Does, Fails, Gives, Unserved}
 use Rattle.pechvang.specs.Owned.{Held}
 

@@ -8,7 +8,7 @@ use Rattle.std.specs.declared.option.Option.{Option}
 use Rattle.std.specs.declared.option.Option.TheVariants.{None, Some}
 use Rattle.std.specs.contracts.impls.GlobalAllocator.TheImpl.{ghosts}
 use Rattle.std.specs.Box.Ownership.{box_owns}
-use Rattle.log_passes.specs.contracts.Pass.{the_row}
+use Rattle.pechvang.specs.contracts.held.Pass.{the_row}
 
 abbrev pub Held : Type 0
 Held = Option (the_row).Denot

@@ -5,10 +5,10 @@ use Rattle.theory.specs.Placed.{Data, Frame, Pad}
 use Rattle.publication.specs.Frames.{stored_words}
 use Rattle.log_rule.specs.Shares.{claimed_bytes}
 use Rattle.claims.specs.Holdings.{end_of, size_of}
-use Rattle.log_passes.specs.Claiming.{DeclinesClaim, DeclinesPart, Ends, Opens, Writes}
-use Rattle.log_passes.specs.Publishing.{Accepts, Declines}
-use Rattle.log_passes.specs.declared.Pass.TheVariants.{Claim, Publisher}
-use Rattle.log_passes.specs.declared.claiming.ClaimPass.{ClaimPass}
+use Rattle.claims.specs.Passes.Claiming.{DeclinesClaim, DeclinesPart, Ends, Opens, Writes}
+use Rattle.claims.specs.Passes.Publishing.{Accepts, Declines}
+use Rattle.pechvang.specs.declared.held.Pass.TheVariants.{Claim, Publisher}
+use Rattle.claims.specs.declared.passes.claiming.ClaimPass.{ClaimPass}
 use Rattle.pechvang.specs.Answers.{Does, Fails, RefusedBy, Unserved}
 use Rattle.pechvang.specs.Owned.{Held}
 

@@ -7,9 +7,9 @@ use Rattle.position.specs.declared.head.FrameKind.{FrameKind}
 use Rattle.position.specs.declared.head.FrameKind.TheVariants as kinds
 use Rattle.publication.specs.Contents.{frame_in}
 use Rattle.shared_log.specs.declared.reader.whole.Unread.TheVariants as unread
-use Rattle.log_passes.specs.Reading.{GoesBehind, HasNotRead, Reads, Unreads}
-use Rattle.log_passes.specs.declared.Pass.TheVariants.{Reader}
-use Rattle.log_passes.specs.declared.reading.ReaderPass.{ReaderPass}
+use Rattle.claims.specs.Passes.Reading.{GoesBehind, HasNotRead, Reads, Unreads}
+use Rattle.pechvang.specs.declared.held.Pass.TheVariants.{Reader}
+use Rattle.claims.specs.declared.passes.reading.ReaderPass.{ReaderPass}
 use Rattle.pechvang.specs.declared.reading.Frame.{Frame}
 use Rattle.pechvang.specs.Answers.{Does, Unserved}
 use Rattle.pechvang.specs.Owned.{Held}

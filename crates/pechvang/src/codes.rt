@@ -1,9 +1,10 @@
 //! The codes that C sees, beside those of refusals and faults.
 
-/// Done; of a read, that no frame is committed yet; of an advance, that none was read.
+/// Done; of a read, that no frame is committed yet; of an advance, that none was read; of a poll, that no message is whole
+/// yet; of a datagram to send, that none is left.
 pub(crate) const DONE: i32 = 0;
 
-/// A frame was read, or passed.
+/// A frame was read, or passed; a message was polled; a datagram is to be sent.
 pub(crate) const FRAME: i32 = 1;
 
 /// The room is shorter than the frame's payload.

@@ -5,10 +5,10 @@ ghost use Rattle.std.specs.Coded.{coded_option};
 ghost use Rattle.std.specs.Option.{MatchOption};
 ghost use Rattle.std.specs.declared.option.Option.TheVariants.{None, Some};
 ghost use Rattle.pechvang.specs.Owned.{Held};
-ghost use Rattle.log_passes.specs.contracts.Pass as pass;
+ghost use Rattle.pechvang.specs.contracts.held.Pass as pass;
 
+use crate::held::Pass;
 use crate::loose::Loose;
-use log_passes::Pass;
 use std::alloc::Global;
 use std::marker::{Model, Send};
 use std::mem::{drop, replace};

@@ -5,7 +5,7 @@ ghost use Rattle.pechvang.specs.Keeping.{CleansTo, Closes, Connects, Joins};
 
 use crate::codes::{DONE, EMPTY_HANDLE, NO_MEMORY, WRONG_HANDLE};
 use crate::handle::{Handle, put, put_new, take};
-use log_passes::Pass;
+use crate::held::Pass;
 use std::alloc::Global;
 
 fn clean_by(pass: &mut Pass, limit: &mut u64) -> i32
@@ -16,8 +16,13 @@ fn clean_by(pass: &mut Pass, limit: &mut u64) -> i32
             *limit = keeper.clean_and_limit();
             DONE
         }
-        Pass::Nothing | Pass::Opened(_) | Pass::Publisher(_) | Pass::Claim(_) | Pass::Reader(_) =>
-            WRONG_HANDLE,
+        Pass::Nothing
+        | Pass::Opened(_)
+        | Pass::Publisher(_)
+        | Pass::Claim(_)
+        | Pass::Reader(_)
+        | Pass::Subscriber(_)
+        | Pass::Sender(_) => WRONG_HANDLE,
     }
 }
 
@@ -42,8 +47,13 @@ fn connect_by(pass: &mut Pass, connected: bool) -> i32
             keeper.set_connected(connected);
             DONE
         }
-        Pass::Nothing | Pass::Opened(_) | Pass::Publisher(_) | Pass::Claim(_) | Pass::Reader(_) =>
-            WRONG_HANDLE,
+        Pass::Nothing
+        | Pass::Opened(_)
+        | Pass::Publisher(_)
+        | Pass::Claim(_)
+        | Pass::Reader(_)
+        | Pass::Subscriber(_)
+        | Pass::Sender(_) => WRONG_HANDLE,
     }
 }
 
@@ -68,8 +78,13 @@ fn close_by(pass: &mut Pass) -> i32
             keeper.set_closed();
             DONE
         }
-        Pass::Nothing | Pass::Opened(_) | Pass::Publisher(_) | Pass::Claim(_) | Pass::Reader(_) =>
-            WRONG_HANDLE,
+        Pass::Nothing
+        | Pass::Opened(_)
+        | Pass::Publisher(_)
+        | Pass::Claim(_)
+        | Pass::Reader(_)
+        | Pass::Subscriber(_)
+        | Pass::Sender(_) => WRONG_HANDLE,
     }
 }
 
@@ -102,8 +117,13 @@ fn join_by(alloc: Global, pass: &mut Pass, reader: &mut Handle) -> i32
                 Err(fault) => fault.code(),
             }
         }
-        Pass::Nothing | Pass::Opened(_) | Pass::Publisher(_) | Pass::Claim(_) | Pass::Reader(_) =>
-            WRONG_HANDLE,
+        Pass::Nothing
+        | Pass::Opened(_)
+        | Pass::Publisher(_)
+        | Pass::Claim(_)
+        | Pass::Reader(_)
+        | Pass::Subscriber(_)
+        | Pass::Sender(_) => WRONG_HANDLE,
     }
 }
 

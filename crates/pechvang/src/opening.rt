@@ -5,7 +5,8 @@ ghost use Rattle.pechvang.specs.Opening.{KeeperTaken, Opens, PublisherTaken, Rea
 
 use crate::codes::{DONE, EMPTY_HANDLE, NO_MEMORY, WRONG_HANDLE};
 use crate::handle::{Handle, put, put_new, take};
-use log_passes::{Config, Opened, Pass};
+use crate::held::Pass;
+use claims::{Config, Opened};
 use std::alloc::Global;
 
 /// Opens a log, unconnected, with its limit and its readers at the start. Where the answer is 0, the handle holds it.
@@ -41,8 +42,13 @@ fn take_publisher_by(alloc: Global, pass: &mut Pass, publisher: &mut Handle) -> 
                 Err(fault) => fault.code(),
             }
         }
-        Pass::Nothing | Pass::Publisher(_) | Pass::Claim(_) | Pass::Reader(_) | Pass::Keeper(_) =>
-            WRONG_HANDLE,
+        Pass::Nothing
+        | Pass::Publisher(_)
+        | Pass::Claim(_)
+        | Pass::Reader(_)
+        | Pass::Keeper(_)
+        | Pass::Subscriber(_)
+        | Pass::Sender(_) => WRONG_HANDLE,
     }
 }
 
@@ -75,8 +81,13 @@ fn take_reader_by(alloc: Global, pass: &mut Pass, reader: &mut Handle) -> i32
                 Err(fault) => fault.code(),
             }
         }
-        Pass::Nothing | Pass::Publisher(_) | Pass::Claim(_) | Pass::Reader(_) | Pass::Keeper(_) =>
-            WRONG_HANDLE,
+        Pass::Nothing
+        | Pass::Publisher(_)
+        | Pass::Claim(_)
+        | Pass::Reader(_)
+        | Pass::Keeper(_)
+        | Pass::Subscriber(_)
+        | Pass::Sender(_) => WRONG_HANDLE,
     }
 }
 
@@ -109,8 +120,13 @@ fn take_keeper_by(alloc: Global, pass: &mut Pass, keeper: &mut Handle) -> i32
                 Err(fault) => fault.code(),
             }
         }
-        Pass::Nothing | Pass::Publisher(_) | Pass::Claim(_) | Pass::Reader(_) | Pass::Keeper(_) =>
-            WRONG_HANDLE,
+        Pass::Nothing
+        | Pass::Publisher(_)
+        | Pass::Claim(_)
+        | Pass::Reader(_)
+        | Pass::Keeper(_)
+        | Pass::Subscriber(_)
+        | Pass::Sender(_) => WRONG_HANDLE,
     }
 }
 

@@ -5,7 +5,7 @@ ghost use Rattle.pechvang.specs.Publishing.{Aborts, Claims, Commits, Offers, Sha
 
 use crate::codes::{CLAIM_OPEN, DONE, EMPTY_HANDLE, NO_CLAIM, WRONG_HANDLE};
 use crate::handle::{Handle, put, take};
-use log_passes::Pass;
+use crate::held::Pass;
 use std::alloc::Global;
 use std::mem::replace;
 
@@ -21,7 +21,12 @@ fn offer_by(pass: &mut Pass, message: &[u8], position: &mut u64) -> i32
             Err(fault) => fault.code(),
         },
         Pass::Claim(_) => CLAIM_OPEN,
-        Pass::Nothing | Pass::Opened(_) | Pass::Reader(_) | Pass::Keeper(_) => WRONG_HANDLE,
+        Pass::Nothing
+        | Pass::Opened(_)
+        | Pass::Reader(_)
+        | Pass::Keeper(_)
+        | Pass::Subscriber(_)
+        | Pass::Sender(_) => WRONG_HANDLE,
     }
 }
 
@@ -97,7 +102,12 @@ fn write_by(pass: &mut Pass, offset: usize, part: &[u8]) -> i32
             Err(fault) => fault.code(),
         },
         Pass::Publisher(_) => NO_CLAIM,
-        Pass::Nothing | Pass::Opened(_) | Pass::Reader(_) | Pass::Keeper(_) => WRONG_HANDLE,
+        Pass::Nothing
+        | Pass::Opened(_)
+        | Pass::Reader(_)
+        | Pass::Keeper(_)
+        | Pass::Subscriber(_)
+        | Pass::Sender(_) => WRONG_HANDLE,
     }
 }
 
@@ -196,7 +206,12 @@ fn share_by(pass: &mut Pass, share: &mut u64) -> i32
             DONE
         }
         Pass::Claim(_) => CLAIM_OPEN,
-        Pass::Nothing | Pass::Opened(_) | Pass::Reader(_) | Pass::Keeper(_) => WRONG_HANDLE,
+        Pass::Nothing
+        | Pass::Opened(_)
+        | Pass::Reader(_)
+        | Pass::Keeper(_)
+        | Pass::Subscriber(_)
+        | Pass::Sender(_) => WRONG_HANDLE,
     }
 }
 

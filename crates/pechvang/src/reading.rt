@@ -6,7 +6,7 @@ ghost use Rattle.pechvang.specs.Reading.{Advances, ReadsNext, frame_of};
 
 use crate::codes::{DONE, EMPTY_HANDLE, FRAME, ROOM_TOO_SMALL, WRONG_HANDLE};
 use crate::handle::{Handle, put, take};
-use log_passes::Pass;
+use crate::held::Pass;
 use position::{FrameHead, FrameKind};
 use shared_log::Unread;
 use std::alloc::Global;
@@ -59,8 +59,13 @@ fn next_by(pass: &mut Pass, room: &mut [u8], frame: &mut Frame) -> i32
                 ROOM_TOO_SMALL
             }
         },
-        Pass::Nothing | Pass::Opened(_) | Pass::Publisher(_) | Pass::Claim(_) | Pass::Keeper(_) =>
-            WRONG_HANDLE,
+        Pass::Nothing
+        | Pass::Opened(_)
+        | Pass::Publisher(_)
+        | Pass::Claim(_)
+        | Pass::Keeper(_)
+        | Pass::Subscriber(_)
+        | Pass::Sender(_) => WRONG_HANDLE,
     }
 }
 
@@ -88,8 +93,13 @@ fn advance_by(pass: &mut Pass) -> i32
 {
     match pass {
         Pass::Reader(reader) => { if reader.advance() { FRAME } else { DONE } }
-        Pass::Nothing | Pass::Opened(_) | Pass::Publisher(_) | Pass::Claim(_) | Pass::Keeper(_) =>
-            WRONG_HANDLE,
+        Pass::Nothing
+        | Pass::Opened(_)
+        | Pass::Publisher(_)
+        | Pass::Claim(_)
+        | Pass::Keeper(_)
+        | Pass::Subscriber(_)
+        | Pass::Sender(_) => WRONG_HANDLE,
     }
 }
 

@@ -56,6 +56,7 @@ fn assemble(
         → assembler.new ≡ record assembler.old { begun = (heard_of assembler.old.begun s.frame).begun }) }
     ensures message { IfOk result (λ m. (s : Placed) (before : List ℕ) → head.now ≡ head_at s.at s.frame → block.now ≡ with_front before (payload_of s.frame)
         → option_map (λ x. x.bytes.items) m ≡ (heard_of assembler.old.begun s.frame).message) }
+    ensures small { IfOk result (λ m. IfSome m (λ m. length m.bytes.items ≤ assembler.old.greatest)) }
     ensures short { IfOk result (λ _. (s : Placed) (before : List ℕ) → head.now ≡ head_at s.at s.frame → block.now ≡ with_front before (payload_of s.frame)
         → IsTooLong assembler.old.greatest assembler.old.begun s.frame → ⊥) }
     ensures refused { IfErr result (λ _. (s : Placed) → head.now ≡ head_at s.at s.frame → is_padding s.frame ≡ false) }
@@ -124,9 +125,10 @@ impl Subscriber {
     }
 
     /// Reads on until a message is complete, the assembler refuses a frame, or no frame is left: none then. The fault is
-    /// `A2` exactly where the message would be longer than the greatest.
+    /// `A2` exactly where the message would be longer than the greatest. A message that is given has no more bytes.
     pub fn poll(&mut self) -> Result<Option<Message<Global>>, PollError>
         ensures polled { SubscriberBecomes self.old self.new (λ r s. Polls r (answer_of result) s) }
+        ensures small { IfOk result (λ m. IfSome m (λ m. length m.bytes.items ≤ self.old.assembler.greatest)) }
         ensures greatest { self.new.assembler.greatest ≡ self.old.assembler.greatest }
     {
         if self.core.image().is_none() {
@@ -147,6 +149,7 @@ impl Subscriber {
         ensures none { IfNone result (self.new ≡ self.old) }
         ensures end { IfNone result ((r : Receiver) → Represents self.old.core r → HasNoFrame r.image 0) }
         ensures heard { IfSome result (λ step. IfOk step (λ m. (r : Receiver) → Represents self.old.core r → HearsFrame r.image r self.old.assembler (option_map (λ x. x.bytes.items) m) self.new)) }
+        ensures small { IfSome result (λ step. IfOk step (λ m. IfSome m (λ m. length m.bytes.items ≤ self.old.assembler.greatest))) }
         ensures refused { IfSome result (λ step. IfErr step (λ fault. (r : Receiver) → Represents self.old.core r → RefusesFrame r.image r self.old.assembler fault self.new)) }
         ensures greatest { self.new.assembler.greatest ≡ self.old.assembler.greatest }
         ensures forward { OnSome result (GoesForward (place_in self.old.core.image 0) (place_in self.new.core.image 0)) }

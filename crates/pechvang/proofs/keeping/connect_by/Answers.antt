@@ -1,7 +1,7 @@
 use Rattle.std.proofs.Common.{refl, sym, subst, pos}
 use Rattle.std.specs.declared.option.Option.TheVariants.{Some}
-use Rattle.log_passes.specs.declared.Pass.{Pass}
-use Rattle.log_passes.specs.declared.Pass.TheVariants.{Keeper}
+use Rattle.pechvang.specs.declared.held.Pass.{Pass}
+use Rattle.pechvang.specs.declared.held.Pass.TheVariants.{Keeper}
 use Rattle.pechvang.specs.Keeping.{Connects}
 use Rattle.pechvang.proofs.keeping.connect_by.Goals as goal
 

@@ -4,9 +4,9 @@ use mir.Syntax.{w32}
 use mir.Val.{of_z, to_z}
 use Rattle.pechvang.proofs.Coded.{coded}
 use Rattle.std.specs.declared.option.Option.TheVariants.{Some}
-use Rattle.log_passes.specs.declared.Pass.{Pass}
-use Rattle.log_passes.specs.declared.Pass.TheVariants.{Keeper}
-use Rattle.log_passes.specs.declared.fault.Fault.TheVariants.{Memory}
+use Rattle.pechvang.specs.declared.held.Pass.{Pass}
+use Rattle.pechvang.specs.declared.held.Pass.TheVariants.{Keeper}
+use Rattle.claims.specs.declared.passes.fault.Fault.TheVariants.{Memory}
 use Rattle.pechvang.specs.Keeping.{Joins}
 use Rattle.pechvang.proofs.keeping.join_by.Goals as goal
 

@@ -1,6 +1,6 @@
 use Rattle.std.proofs.Common.{inl, inr, refl, ap, ◌∙◌}
 use Rattle.std.specs.declared.option.Option.TheVariants.{Some}
-use Rattle.log_passes.specs.declared.fault.Fault.TheVariants.{Memory}
+use Rattle.claims.specs.declared.passes.fault.Fault.TheVariants.{Memory}
 use Rattle.pechvang.proofs.opening.pv_open.Goals as goal
 
 pub returns-in-Ok-new : goal.returns-in-Ok-new

@@ -3,8 +3,8 @@ use mir.Syntax.{w32}
 use mir.Val.{of_z, to_z}
 use Rattle.pechvang.proofs.Coded.{coded}
 use Rattle.std.specs.declared.option.Option.TheVariants.{Some}
-use Rattle.log_passes.specs.declared.Pass.{Pass}
-use Rattle.log_passes.specs.declared.Pass.TheVariants.{Publisher}
+use Rattle.pechvang.specs.declared.held.Pass.{Pass}
+use Rattle.pechvang.specs.declared.held.Pass.TheVariants.{Publisher}
 use Rattle.pechvang.specs.Publishing.{Offers}
 use Rattle.pechvang.proofs.publishing.offer_by.Goals as goal
 

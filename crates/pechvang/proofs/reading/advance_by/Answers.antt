@@ -1,7 +1,7 @@
 use Rattle.std.proofs.Common.{inl, inr, refl, sym, subst, pos}
 use Rattle.std.specs.declared.option.Option.TheVariants.{Some}
-use Rattle.log_passes.specs.declared.Pass.{Pass}
-use Rattle.log_passes.specs.declared.Pass.TheVariants.{Reader}
+use Rattle.pechvang.specs.declared.held.Pass.{Pass}
+use Rattle.pechvang.specs.declared.held.Pass.TheVariants.{Reader}
 use Rattle.pechvang.specs.Reading.{Advances}
 use Rattle.pechvang.proofs.reading.advance_by.Goals as goal
 

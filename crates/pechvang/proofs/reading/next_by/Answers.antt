@@ -1,13 +1,13 @@
 use Rattle.std.proofs.Common.{inl, inr, refl, sym, ap, ◌∙◌, subst, pos}
 use Rattle.std.specs.Prelude.{negsuc}
 use Rattle.std.specs.declared.option.Option.TheVariants.{Some}
-use Rattle.log_passes.specs.declared.Pass.{Pass}
-use Rattle.log_passes.specs.declared.Pass.TheVariants.{Reader}
+use Rattle.pechvang.specs.declared.held.Pass.{Pass}
+use Rattle.pechvang.specs.declared.held.Pass.TheVariants.{Reader}
 use Rattle.pechvang.specs.Reading.{ReadsNext}
 use Rattle.publication.specs.Contents.{frame_in}
 use Rattle.pechvang.specs.declared.reading.Frame.{Frame}
 use Rattle.shared_log.specs.declared.reader.whole.Unread.{Unread}
-use Rattle.log_passes.specs.Reading.{Unreads}
+use Rattle.claims.specs.Passes.Reading.{Unreads}
 use Rattle.pechvang.proofs.Told.{told_long}
 use Rattle.pechvang.proofs.reading.next_by.Goals as goal
 

@@ -12,8 +12,8 @@ use Rattle.std.proofs.alloc.Global.TheSendSync as heap
 use Rattle.std.specs.contracts.alloc.Global as global
 use Rattle.std.specs.declared.alloc.Global.{Global}
 use Rattle.std.specs.declared.option.Option.TheVariants.{None, Some}
-use Rattle.log_passes.specs.contracts.Pass as pass
-use Rattle.log_passes.proofs.Pass.TheSendSync as sent
+use Rattle.pechvang.specs.contracts.held.Pass as pass
+use Rattle.pechvang.proofs.held.Pass.TheSendSync as sent
 use Rattle.pechvang.specs.Owned.{Held, handle_owns}
 use Rattle.pechvang.specs.contracts.handle.Handle.{the_row, the_type}
 

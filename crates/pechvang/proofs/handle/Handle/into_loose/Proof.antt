@@ -26,7 +26,7 @@ use Rattle.std.specs.contracts.alloc.Global as heap
 use Rattle.std.proofs.alloc.Global.TheLaws as heap_laws
 use Rattle.std.specs.contracts.impls.GlobalAllocator.TheImpl.{ghosts}
 use Rattle.std.specs.declared.option.Option.TheVariants.{None, Some}
-use Rattle.log_passes.specs.contracts.Pass as pass
+use Rattle.pechvang.specs.contracts.held.Pass as pass
 use Rattle.pechvang.specs.contracts.handle.Handle as handle
 use Rattle.pechvang.specs.contracts.handle.Handle.into_loose as f
 use Rattle.pechvang.proofs.Values.{at_good, either_held, pair, pair_good, pair_in, word, word_good, word_out}
