@@ -1,0 +1,6 @@
+//! The inserter of an image that threads share: what a receiver rebuilds of a stream, and what it misses.
+#![tactic(auto)]
+
+mod inserter;
+
+pub use inserter::{Inserter, least, open};
