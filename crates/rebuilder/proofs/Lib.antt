@@ -1,3 +1,4 @@
 pub mod Lists
 pub mod Swept
 pub mod Opening
+pub mod Judged

@@ -7,11 +7,12 @@ ghost use Rattle.theory.specs.Image.{IsWindow};
 ghost use Rattle.theory.specs.Insert.{AreApart, head_of};
 ghost use Rattle.theory.specs.Units.{IsContiguous};
 ghost use Rattle.image.specs.Seen.{IsCount, IsFit, IsJoin, least};
+ghost use Rattle.shared_image.specs.Handles.{IsReaderOf, position_of};
 ghost use Rattle.rebuilder.specs.Seen.{IsInserterOf, Looked, geometry_of, join_of};
 
 use image::ImageError;
 use position::Identity;
-use shared_image::{Image, prune};
+use shared_image::{Image, ImageReader, prune};
 use std::alloc::Global;
 use std::marker::Model;
 
@@ -75,6 +76,19 @@ pub fn open(
         high_water: join,
     };
     Ok((image, inserter))
+}
+
+/// The last reader that the inserter has, with this number. It stands at the join.
+pub fn deal(image: &Image, inserter: &mut Inserter, number: u64) -> ImageReader
+    requires fits { IsInserterOf image.now inserter.old }
+    requires few { number < 8 }
+    requires some { inserter.old.undealt ≡ suc number }
+    ensures fits { IsReaderOf image.now result }
+    ensures left { inserter.new ≡ record inserter.old { undealt = number } }
+    ensures number { result.view.reading.number ≡ number }
+    ensures position { position_of result ≡ join_of inserter.old }
+{
+    shared_image::deal(image, &mut inserter.words, number)
 }
 
 /// Looks where the consumers stand, and lets go of what all of them have passed. The answer is the least position that it

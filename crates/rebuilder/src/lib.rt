@@ -2,5 +2,6 @@
 #![tactic(auto)]
 
 mod inserter;
+mod judging;
 
-pub use inserter::{Inserter, least, open};
+pub use inserter::{Inserter, deal, least, open};
