@@ -32,7 +32,7 @@ is_last false false false false meets a b c d = refl
 
 -- ---- whether a frame is like another
 
-full_at : (ss : List Placed) (s : Placed) → AreLaid ss → Among s ss → 0 < covered s
+pub full_at : (ss : List Placed) (s : Placed) → AreLaid ss → Among s ss → 0 < covered s
 full_at ss s laid a = all_at (λ (x : Placed). 0 < covered x) s ss laid.full a
 
 pub unit_at : (ss : List Placed) (s : Placed) → AreLaid ss → Among s ss → s.at % 32 ≡ 0

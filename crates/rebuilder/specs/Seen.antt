@@ -1,5 +1,5 @@
 -- What contracts see of an inserter that rebuilds a stream, and what holds of each.
-use Rattle.std.specs.Prelude.{◌≡◌, ℕ, suc, ◌+◌, ◌*◌, ◌%◌, ◌<◌, ◌≤◌, List, map, length, slice_index}
+use Rattle.std.specs.Prelude.{◌≡◌, ℕ, suc, ◌+◌, ◌*◌, ◌%◌, ◌<◌, ◌≤◌, max, List, ◌∷◌, map, length, slice_index}
 use Rattle.std.specs.List.{AllByRecursion}
 use Rattle.atomic_table.specs.Seated.{TableId}
 use Rattle.theory.specs.Image.{IsWindow}
@@ -75,12 +75,20 @@ pub record IsRebuilding (i : Inserting) (rebuilt : ℕ) : Type 0 where
   pub some : 0 < i.key.consumers
   pub behind : AllByRecursion (λ p. (join_of i ≤ p) × (p ≤ rebuilt)) i.seen
 
--- a frame that may be stored
-pub record MayStore (i : Inserting) (s : Placed) : Type 0 where
+-- a frame that may be stored above others, from a floor on
+pub record FitsIn (g : Geometry) (floor : ℕ) (stored : List Placed) (s : Placed) : Type 0 where
   pub unit : s.at % 32 ≡ 0
   pub long : 32 ≤ frame_length s.frame
-  pub in_term : s.at % (geometry_of i).term_length + covered s ≤ (geometry_of i).term_length
-  pub from : i.floor ≤ s.at
-  pub low : end_of s ≤ max_position (geometry_of i)
-  pub near : end_of s ≤ i.floor + 2 * (geometry_of i).term_length
-  pub free : (p : ℕ) → s.at ≤ p → p < end_of s → HasUnit i.stored p → ⊥
+  pub in_term : s.at % g.term_length + covered s ≤ g.term_length
+  pub from : floor ≤ s.at
+  pub low : end_of s ≤ max_position g
+  pub near : end_of s ≤ floor + 2 * g.term_length
+  pub free : (p : ℕ) → s.at ≤ p → p < end_of s → HasUnit stored p → ⊥
+
+-- one frame more was stored
+abbrev pub with_frame : Inserting → Placed → Inserting
+with_frame i s = record i { stored = s ∷ i.stored; high = max i.high (end_of s) }
+
+-- it looked once at each consumer, and stored one frame more
+abbrev pub Inserts : Inserting → Placed → Inserting → Type 0
+Inserts i s j = Looked i (s ∷ i.stored) (max i.high (end_of s)) j

@@ -2,6 +2,9 @@
 #![tactic(auto)]
 
 mod inserter;
+mod inserting;
 mod judging;
+mod putting;
 
 pub use inserter::{Inserter, deal, least, open};
+pub use inserting::{heartbeat, insert};
