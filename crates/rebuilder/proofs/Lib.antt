@@ -5,3 +5,4 @@ pub mod Judged
 pub mod Runs
 pub mod Puts
 pub mod Kept
+pub mod Meetings

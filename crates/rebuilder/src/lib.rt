@@ -5,8 +5,10 @@ mod gap;
 mod inserter;
 mod inserting;
 mod judging;
+mod meeting;
 mod putting;
 
 pub use gap::{first_gap, held_word};
 pub use inserter::{Inserter, deal, least, open};
 pub use inserting::{heartbeat, insert};
+pub use meeting::meet;
