@@ -1,9 +1,9 @@
 -- What becomes of a frame.
-use Rattle.std.proofs.Common.{◌≡◌, ℕ, ◌+◌, ◌-◌, ◌*◌, ◌/◌, ◌%◌, ◌<◌, ◌≤◌, min, max, ⊎_elim, List, map, Bool, true, false, cond, refl, sym, ap, ◌∙◌, subst, arith}
-use Rattle.std.specs.Prelude.{nat_lt, IsTrue, ◌&&◌, ◌↔◌}
-use Rattle.std.specs.List.{AllByRecursion, list_any}
+use Rattle.std.proofs.Common.{◌≡◌, ℕ, ◌+◌, ◌-◌, ◌/◌, ◌%◌, ◌<◌, ◌≤◌, min, max, ⊎_elim, List, map, Bool, true, false, cond, refl, sym, ap, ◌∙◌, subst, arith}
+use Rattle.std.specs.Prelude.{nat_lt, IsTrue, ◌↔◌}
+use Rattle.std.specs.List.{list_any}
 use Rattle.std.proofs.lemmas.Bool.{and_from, and_left, and_right, both_ways, cases_Bool, cases_lt, le-ltb, lt-ltb}
-use Rattle.theory.specs.Insert.{AreApart, Below, CrossesTerm, Duplicate, Head, Insert, OverWindow, Overlap, Stored, head_end, head_of, insert_answer, is_duplicate, overlaps, window_end}
+use Rattle.theory.specs.Insert.{Below, CrossesTerm, Duplicate, Head, Insert, OverWindow, Overlap, Stored, head_end, head_of, insert_answer, is_duplicate, overlaps, window_end}
 use Rattle.theory.specs.Placed.{Among, Data, Frame, Pad, Placed, covered, end_of}
 use Rattle.theory.specs.Units.{HasUnit}
 use Rattle.theory.proofs.Lists.{all_at, any_here}

@@ -1,13 +1,13 @@
 -- What always holds of an inserter holds again when it has stored a frame, or heard a heartbeat.
-use Rattle.std.proofs.Common.{◌≡◌, ℕ, ◌+◌, ◌-◌, ◌*◌, ◌/◌, ◌%◌, ◌^◌, ◌<◌, ◌≤◌, max, min, List, ◌∷◌, map, Bool, true, false, cond, refl, sym, ap, ◌∙◌, subst, arith, ℤ, pos, negsuc}
+use Rattle.std.proofs.Common.{◌≡◌, ℕ, ◌+◌, ◌-◌, ◌*◌, ◌/◌, ◌%◌, ◌^◌, ◌<◌, ◌≤◌, max, min, List, ◌∷◌, map, Bool, true, false, cond, sym, ap, ◌∙◌, subst, arith, ℤ, pos, negsuc}
 use Rattle.std.specs.Prelude.{nat_lt}
-use Rattle.std.specs.List.{AllByRecursion, list_any}
+use Rattle.std.specs.List.{AllByRecursion}
 use lib.IntN.{nat_abs}
 use Rattle.std.proofs.lemmas.Bool.{ltb-false}
 use Rattle.std.proofs.lemmas.Nat.{div-add-mod'}
 use Rattle.theory.specs.Image.{IsWindow}
-use Rattle.theory.specs.Insert.{AreApart, Head, Stored, head_of, insert_answer, insert_answer_at, overlaps, window_end}
-use Rattle.theory.specs.Placed.{Among, Frame, Placed, covered, end_of, frame_length, is_padding}
+use Rattle.theory.specs.Insert.{AreApart, Head, Stored, head_of, insert_answer, insert_answer_at, window_end}
+use Rattle.theory.specs.Placed.{Frame, Placed, covered, end_of, frame_length, is_padding}
 use Rattle.theory.specs.Position.{Geometry, IsGeometry, aligned, max_position}
 use Rattle.theory.specs.Units.{IsContiguous}
 use Rattle.theory.proofs.Held.{not_stored, stored_only}
@@ -15,14 +15,12 @@ use Rattle.theory.proofs.Lists.{all_weaker}
 use Rattle.theory.proofs.Places.{term_ends}
 use Rattle.image.specs.Seen.{IsFit}
 use Rattle.image.specs.Stored.{IsUnit}
-use Rattle.image_rule.specs.declared.view.Frame as units
 use Rattle.image_rule.specs.declared.view.Key.{Key}
-use Rattle.image_rule.specs.declared.view.View.{View}
 use Rattle.image_rule.specs.Frames.{placed_all}
 use Rattle.shared_image.specs.Handles.{InserterSeat, floor_of, seen_by, stored_by}
 use Rattle.shared_image.specs.Inserting.{Stores}
 use Rattle.rebuilder.specs.Runs.{AreBelow, IsRun}
-use Rattle.rebuilder.specs.Seen.{AreLaid, FitsIn, Inserting, Inserts, IsRebuilding, Looked, geometry_of, inserting, join_of, with_frame}
+use Rattle.rebuilder.specs.Seen.{AreLaid, FitsIn, Inserting, IsRebuilding, geometry_of, inserting, join_of, with_frame}
 use Rattle.rebuilder.proofs.Judged.{none_overlaps, overlaps_none}
 use Rattle.rebuilder.proofs.Runs.{run_more}
 
@@ -106,8 +104,8 @@ module _ (n m : InserterSeat) (window high rebuilt : ℕ) (s : Placed) (k : IsRe
 
   fit : AllByRecursion (IsFit n.key.identity.geometry.term_length top) (s ∷ stored_by n)
   fit = (
-      record { unit = fits.unit; long = fits.long; in_term = fits.in_term; marked = omega arith },
-      all_weaker (IsFit n.key.identity.geometry.term_length high) (IsFit n.key.identity.geometry.term_length top) (λ t f. let e : end_of t ≤ high = f.marked in record { unit = f.unit; long = f.long; in_term = f.in_term; marked = omega arith }) (stored_by n) k.fit,
+    record { unit = fits.unit; long = fits.long; in_term = fits.in_term; marked = omega arith },
+    all_weaker (IsFit n.key.identity.geometry.term_length high) (IsFit n.key.identity.geometry.term_length top) (λ t f. let e : end_of t ≤ high = f.marked in record { unit = f.unit; long = f.long; in_term = f.in_term; marked = omega arith }) (stored_by n) k.fit,
   )
 
   full : 0 < covered s
@@ -172,15 +170,3 @@ module _ (n m : InserterSeat) (window high rebuilt : ℕ) (s : Placed) (k : IsRe
         some = k.some;
         behind = all_weaker (λ p. (join_of old ≤ p) × (p ≤ rebuilt)) (λ p. (join_of old ≤ p) × (p ≤ now)) (λ p b. (b.0, (let c = b.1 in omega arith))) old.seen k.behind;
       }
-
--- ---- what a call has done
-
-pub inserted : (i m j : Inserting) (s : Placed) → Looked i i.stored i.high m → j ≡ with_frame m s → Inserts i s j
-inserted i m j s l is =
-    let same : with_frame m s ≡ record i { stored = s ∷ i.stored; high = max i.high (end_of s); floor = m.floor; seen = m.seen; looks = m.looks } = ap (λ (x : Inserting). with_frame x s) l.after in
-    subst (Inserts i s) (sym is) record { after = same; floor = l.floor; looked = l.looked; all = l.all; forward = l.forward }
-
-pub marked : (i m j : Inserting) (p : ℕ) → Looked i i.stored i.high m → j ≡ record m { high = p } → Looked i i.stored p j
-marked i m j p l is =
-    let same : record m { high = p } ≡ record i { high = p; floor = m.floor; seen = m.seen; looks = m.looks } = ap (λ (x : Inserting). record x { high = p }) l.after in
-    subst (Looked i i.stored p) (sym is) record { after = same; floor = l.floor; looked = l.looked; all = l.all; forward = l.forward }

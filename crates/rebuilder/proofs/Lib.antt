@@ -6,3 +6,4 @@ pub mod Runs
 pub mod Puts
 pub mod Kept
 pub mod Meetings
+pub mod OneHand

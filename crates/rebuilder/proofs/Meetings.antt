@@ -1,25 +1,23 @@
 -- An inserter and a reader that have met.
-use Rattle.std.proofs.Common.{◌≡◌, ℕ, zero, suc, ◌+◌, ◌*◌, ◌<◌, ◌≤◌, ⊎_elim, List, [], ◌∷◌, length, length-set, refl, sym, ap, ◌∙◌, subst, arith}
-use Rattle.std.specs.Prelude.{◌↔◌, slice_index, slice_set}
+use Rattle.std.proofs.Common.{◌≡◌, ℕ, zero, suc, ◌*◌, ◌<◌, ◌≤◌, ⊎_elim, List, [], ◌∷◌, length, length-set, refl, sym, ap, ◌∙◌, subst, arith}
+use Rattle.std.specs.Prelude.{slice_index, slice_set}
 use Rattle.std.specs.List.{AllByRecursion}
 use Rattle.std.proofs.lemmas.Bool.{cases_lt}
 use Rattle.theory.specs.Placed.{Among, Placed, covered, end_of}
-use Rattle.theory.specs.Units.{IsContiguous}
 use Rattle.theory.proofs.Lists.{all_set}
 use Rattle.theory.proofs.Tables.{all_index}
 use Rattle.theory.proofs.Follow.{one_end}
 use Rattle.image_rule.specs.declared.view.Frame.{Frame}
-use Rattle.image_rule.specs.declared.view.Key.{Key}
 use Rattle.image_rule.specs.declared.view.View.{View}
 use Rattle.image_rule.specs.Frames as units
 use Rattle.image_rule.specs.Frames.{Has, placed_all, placed_of}
 use Rattle.image_rule.specs.Reads as rule
 use Rattle.image_rule.proofs.Dealing.{among_left, among_right}
 use Rattle.image_rule.proofs.Units.{among_placed, placed_among, sound_covered}
-use Rattle.shared_image.specs.Handles.{InserterSeat, IsInserting, ReaderSeat, floor_of, known_by, position_of, seen_by, stored_by}
+use Rattle.shared_image.specs.Handles.{InserterSeat, IsInserting, ReaderSeat, known_by, position_of, stored_by}
 use Rattle.rebuilder.specs.Meeting.{Meets, number_of}
 use Rattle.rebuilder.specs.Seen.{Inserting, IsRebuilding, inserting, join_of}
-use Rattle.rebuilder.proofs.Lists.{bytes_of, index_bytes, length_bytes, set_bytes}
+use Rattle.rebuilder.proofs.Lists.{bytes_of, index_bytes, set_bytes}
 use Rattle.rebuilder.proofs.Swept.{not_above}
 
 set_past : (xs : List ℕ) (k x : ℕ) → length xs ≤ k → slice_set xs k x ≡ xs

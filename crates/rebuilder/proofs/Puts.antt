@@ -1,8 +1,8 @@
 -- A frame that may be stored, as its words come.
-use Rattle.std.proofs.Common.{◌≡◌, ℕ, ◌+◌, ◌-◌, ◌*◌, ◌<◌, ◌≤◌, inl, inr, ⊎_elim, List, [], ◌∷◌, length, take, refl, sym, ap, ◌∙◌, subst, arith}
+use Rattle.std.proofs.Common.{◌≡◌, ℕ, ◌+◌, ◌-◌, ◌*◌, ◌<◌, ◌≤◌, ⊎_elim, List, [], ◌∷◌, length, refl, ap, subst, arith}
 use Rattle.std.proofs.lemmas.List.{take_all}
-use Rattle.theory.specs.Placed.{Among, Data, Pad, Placed, covered, end_of}
-use Rattle.theory.specs.Position.{aligned, max_position}
+use Rattle.theory.specs.Placed.{Data, Pad, Placed, covered, end_of}
+use Rattle.theory.specs.Position.{aligned}
 use Rattle.theory.specs.Units.{HasUnit}
 use Rattle.theory.specs.Wire.{IsDataFlags}
 use Rattle.position.specs.declared.head.FrameHead.{FrameHead}

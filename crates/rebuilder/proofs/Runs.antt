@@ -1,5 +1,5 @@
 -- Where units that follow each other end.
-use Rattle.std.proofs.Common.{◌≡◌, ℕ, ◌+◌, ◌-◌, ◌*◌, ◌/◌, ◌%◌, ◌<◌, ◌≤◌, inl, inr, ⊎_elim, List, ◌∷◌, refl, sym, ap, ◌∙◌, subst, arith}
+use Rattle.std.proofs.Common.{◌≡◌, ℕ, ◌+◌, ◌-◌, ◌*◌, ◌/◌, ◌%◌, ◌<◌, ◌≤◌, inl, inr, ⊎_elim, List, ◌∷◌, ap, ◌∙◌, subst, arith}
 use Rattle.std.specs.List.{AllByRecursion}
 use Rattle.std.proofs.lemmas.Bool.{cases_lt}
 use Rattle.theory.specs.Placed.{Among, Placed, covered, end_of, frame_length}
@@ -13,7 +13,7 @@ use Rattle.shared_image.specs.Looking.{IsHeadOf}
 use Rattle.shared_image.proofs.Finds.{head_length}
 use Rattle.rebuilder.specs.Runs.{AreBelow, IsRun}
 use Rattle.rebuilder.specs.Seen.{AreLaid}
-use Rattle.rebuilder.proofs.Judged.{full_at, unit_at}
+use Rattle.rebuilder.proofs.Judged.{full_at}
 
 -- it goes on by the frame that starts there
 pub run_past : (ss : List Placed) (j q : ℕ) (s : Placed) → AreLaid ss → IsRun ss j q → Among s ss → s.at ≡ q → IsRun ss j (end_of s)

@@ -1,5 +1,5 @@
 -- An inserter and a reader that meet, and one that is in one hand with the one reader.
-use Rattle.std.specs.Prelude.{◌≡◌, ◌↔◌, ℕ, ◌*◌, ◌<◌, ◌≤◌, [], ◌∷◌, List, slice_index, slice_set}
+use Rattle.std.specs.Prelude.{◌≡◌, ◌↔◌, ℕ, ◌*◌, ◌<◌, ◌≤◌, max, [], ◌∷◌, List, slice_index, slice_set}
 use Rattle.theory.specs.Placed.{Among, Placed, covered, end_of}
 use Rattle.theory.specs.Units.{IsContiguous}
 use Rattle.image_rule.specs.declared.view.Frame.{Frame}
@@ -38,3 +38,7 @@ pub record StayAlone (image : ImageWords) (i : Inserting) (r : ReaderSeat) (stor
   pub alone : AreAlone image j q
   pub stays : position_of q ≡ position_of r
   pub inserter : j ≡ record i { stored = stored; high = high; floor = j.floor; looks = j.looks }
+
+-- one frame more was stored
+abbrev pub InsertsAlone : ImageWords → Inserting → ReaderSeat → Placed → Inserting → ReaderSeat → Type 0
+InsertsAlone image i r s j q = StayAlone image i r (s ∷ i.stored) (max i.high (end_of s)) j q

@@ -4,7 +4,7 @@ use Rattle.std.specs.List.{AllByRecursion}
 use Rattle.atomic_table.specs.Seated.{TableId}
 use Rattle.theory.specs.Image.{IsWindow}
 use Rattle.theory.specs.Insert.{AreApart, head_of}
-use Rattle.theory.specs.Placed.{Among, Placed, covered, end_of, frame_length}
+use Rattle.theory.specs.Placed.{Placed, covered, end_of, frame_length}
 use Rattle.theory.specs.Position.{Geometry, IsGeometry, max_position}
 use Rattle.theory.specs.Units.{HasUnit, IsContiguous}
 use Rattle.image.specs.Seen.{IsFit, IsJoin, least}

@@ -17,12 +17,7 @@ use shared_image::{Image, held_bits};
 /// A word of the bits that say which units were stored, 64 in a word: bit `p % 2048 / 32` of word `p % (3 * T) / 2048` is
 /// set exactly where the unit at p was stored, for each p from the floor on, below three terms T more. Each call is a look
 /// that `steps` counts.
-pub fn held_word(
-    image: &Image,
-    inserter: &mut Inserter,
-    index: usize,
-    steps: &mut Steps,
-) -> u64
+pub fn held_word(image: &Image, inserter: &mut Inserter, index: usize, steps: &mut Steps) -> u64
     requires fits { IsInserterOf image.now inserter.old }
     requires index { index < 3 * (geometry_of inserter.old).term_length / 2048 }
     requires few { steps.old < 2 ^ 63 }

@@ -67,16 +67,12 @@ fn store(image: &Image, inserter: &mut Inserter, start: u64, frame: &Frame<'_>)
 /// Takes a DATA frame or a padding at a position, which is below every image where it is negative. The consumers are looked
 /// at once. The answer is the first that applies, where m is the least position that was read, and the frame is stored only
 /// where it is [`Insert::Stored`].
-pub fn insert(
-    image: &Image,
-    inserter: &mut Inserter,
-    position: i64,
-    frame: &Frame<'_>,
-) -> Insert
+pub fn insert(image: &Image, inserter: &mut Inserter, position: i64, frame: &Frame<'_>) -> Insert
     requires fits { IsInserterOf image.now inserter.old }
     requires unit { IsUnit position }
     requires frame { IsFrame (wire frame.now) }
     requires of_stream { IsOfStream frame.now }
+    ensures fits { IsInserterOf image.now inserter.new }
     ensures answer { meant result ≡ insert_answer_at (geometry_of inserter.old) (map head_of inserter.old.stored) (least inserter.new.seen) inserter.old.window position (is_padding (stream_frame frame.now)) (frame_length (stream_frame frame.now)) }
     ensures stored { result ≡ Insert.Stored → (p : ℕ) → position ≡ pos p → Inserts inserter.old (record { at = p; frame = stream_frame frame.now }) inserter.new }
     ensures others { (result ≡ Insert.Stored → ⊥) → Looked inserter.old inserter.old.stored inserter.old.high inserter.new }
@@ -98,6 +94,7 @@ pub fn insert(
 pub fn heartbeat(image: &Image, inserter: &mut Inserter, position: i64) -> bool
     requires fits { IsInserterOf image.now inserter.old }
     requires unit { IsUnit position }
+    ensures fits { IsInserterOf image.now inserter.new }
     ensures answer { result ≡ accepts (geometry_of inserter.old) inserter.old.high (least inserter.new.seen) position }
     ensures raised { result ≡ true → (p : ℕ) → position ≡ pos p → Looked inserter.old inserter.old.stored p inserter.new }
     ensures refused { result ≡ false → Looked inserter.old inserter.old.stored inserter.old.high inserter.new }

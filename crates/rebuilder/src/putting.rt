@@ -16,12 +16,7 @@ use position::{FrameHead, FrameKind, UNFRAGMENTED, align32};
 use shared_image::{Image, head_at, starts_at, store_frame};
 
 /// Stores a frame that fits.
-pub(crate) fn put(
-    image: &Image,
-    words: &mut shared_image::Inserter,
-    start: u64,
-    frame: &Frame<'_>,
-)
+pub(crate) fn put(image: &Image, words: &mut shared_image::Inserter, start: u64, frame: &Frame<'_>)
     requires fits { seats.IsInserterOf image.now words.old }
     requires frame { IsFrame (wire frame.now) }
     requires of_stream { IsOfStream frame.now }

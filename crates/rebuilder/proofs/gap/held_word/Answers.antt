@@ -1,4 +1,4 @@
-use Rattle.std.proofs.Common.{◌≡◌, sym, subst}
+use Rattle.std.proofs.Common.{sym, subst}
 use Rattle.image.specs.Ring.{TellsUnits}
 use Rattle.shared_image.specs.Handles.{InserterSeat}
 use Rattle.rebuilder.specs.Seen.{Inserting, IsRebuilding, geometry_of, inserting}

@@ -1,7 +1,5 @@
-use Rattle.std.proofs.Common.{◌≡◌, ◌≤◌, sym, subst}
-use Rattle.theory.specs.Position.{max_position}
-use Rattle.shared_image.specs.Handles.{InserterSeat}
-use Rattle.rebuilder.specs.Seen.{Inserting, Looked, geometry_of, inserting}
+use Rattle.std.proofs.Common.{subst}
+use Rattle.rebuilder.specs.Seen.{Inserting, Looked, inserting}
 use Rattle.rebuilder.proofs.Swept.{kept, looked, read_is, read_low}
 use Rattle.rebuilder.proofs.inserter.least.Goals as goal
 

@@ -1,4 +1,4 @@
-use Rattle.std.proofs.Common.{rules, ◌≡◌, ◌%◌, ◌≤◌, ◌∙◌, sym, ap, subst, arith}
+use Rattle.std.proofs.Common.{rules}
 use Rattle.theory.specs.Image.{IsWindow}
 use Rattle.image.specs.Seen.{IsCount, IsJoin}
 use Rattle.rebuilder.proofs.Opening.{is_first, opens}

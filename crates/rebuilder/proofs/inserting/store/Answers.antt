@@ -1,8 +1,7 @@
-use Rattle.std.proofs.Common.{◌≡◌, ◌+◌, ◌*◌, ◌≤◌, ℕ, max, sym, ap, ◌∙◌, subst, arith}
-use Rattle.theory.specs.Placed.{Placed, covered, end_of}
-use Rattle.theory.specs.Units.{IsContiguous}
+use Rattle.std.proofs.Common.{◌≡◌, ◌+◌, ℕ, max, sym, ap, ◌∙◌, subst, arith}
+use Rattle.theory.specs.Placed.{Placed, covered}
 use Rattle.image.specs.Stored.{stream_frame}
-use Rattle.shared_image.specs.Handles.{InserterSeat, floor_of, stored_by}
+use Rattle.shared_image.specs.Handles.{InserterSeat, stored_by}
 use Rattle.rebuilder.specs.Runs.{AreBelow}
 use Rattle.rebuilder.specs.Seen.{FitsIn, Inserting, IsRebuilding, geometry_of, inserting}
 use Rattle.rebuilder.proofs.Kept.{below_now, kept_now, laid_now, run_now}

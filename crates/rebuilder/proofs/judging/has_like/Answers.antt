@@ -1,4 +1,4 @@
-use Rattle.std.proofs.Common.{◌≡◌, ℕ, false, true, refl, sym, subst, ◌∙◌}
+use Rattle.std.proofs.Common.{◌≡◌, ℕ, false, true, refl, subst, ◌∙◌}
 use Rattle.theory.specs.Placed.{Among, Placed}
 use Rattle.position.specs.declared.head.FrameHead.{FrameHead}
 use Rattle.image.specs.Kinds.{head_at, is_pad}

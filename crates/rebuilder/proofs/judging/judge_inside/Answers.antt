@@ -1,7 +1,7 @@
-use Rattle.std.proofs.Common.{◌≡◌, ◌+◌, ◌%◌, ◌<◌, ◌≤◌, cond, false, true, min, map, sym, ap, ◌∙◌, subst, arith}
+use Rattle.std.proofs.Common.{◌≡◌, ◌+◌, ◌≤◌, cond, false, true, min, map, sym, ap, ◌∙◌, subst, arith}
 use Rattle.theory.specs.Bytes.{Identity}
 use Rattle.theory.specs.Insert.{Head, Overlap, Stored, head_end, head_of, insert_answer, window_end}
-use Rattle.theory.specs.Position.{Geometry, aligned, max_position}
+use Rattle.theory.specs.Position.{Geometry, max_position}
 use Rattle.image.specs.Kinds.{is_pad}
 use Rattle.image_rule.specs.declared.view.Key.{Key}
 use Rattle.shared_image.specs.Handles.{InserterSeat, floor_of, stored_by}

@@ -1,4 +1,4 @@
-use Rattle.std.proofs.Common.{◌≡◌, sym, subst}
+use Rattle.std.proofs.Common.{subst}
 use Rattle.rebuilder.specs.Meeting.{Meets}
 use Rattle.rebuilder.specs.Seen.{Inserting, inserting}
 use Rattle.rebuilder.proofs.Meetings.{kept_met, meets_now}

@@ -1,11 +1,11 @@
-use Rattle.std.proofs.Common.{◌≡◌, ◌+◌, ◌*◌, ◌≤◌, ◌<◌, refl, sym, ap, ◌∙◌, subst, arith}
+use Rattle.std.proofs.Common.{◌≡◌, ◌+◌, ◌*◌, ◌≤◌, refl, ap, ◌∙◌, subst, arith}
 use Rattle.theory.specs.Placed.{Placed, covered, end_of}
 use Rattle.theory.specs.Position.{aligned}
 use Rattle.theory.proofs.Lists.{all_at}
 use Rattle.shared_image.specs.Handles.{stored_by}
 use Rattle.rebuilder.specs.Runs.{IsRun}
 use Rattle.rebuilder.proofs.Judged.{full_at}
-use Rattle.rebuilder.proofs.Runs.{IsFound, found, run_past, run_stops, run_tops}
+use Rattle.rebuilder.proofs.Runs.{IsFound, found, run_past, run_tops}
 use Rattle.rebuilder.proofs.putting.run_end.Goals as goal
 use Rattle.rebuilder.proofs.putting.run_end.Goals.{After-head_at-head}
 
