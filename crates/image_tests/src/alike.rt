@@ -2,9 +2,11 @@ ghost use Rattle.std.specs.Prelude.{◌<◌};
 
 use crate::images::{DATA, PAD, filled};
 use crate::map_image::{Kept, MapImage, TERM};
+use crate::shared::Shared;
+use crate::subject::Subject;
 use block::Block;
-use image::{Image, Steps, first_gap};
-use position::Geometry;
+use image::Image;
+use position::{Geometry, Identity};
 use rand_core::utils::NextWord;
 use rand_pcg::Pcg32;
 use std::alloc::Global;
@@ -62,10 +64,10 @@ fn draw_frame(draws: &mut Pcg32, position: i64) -> Kept {
 }
 
 /// Gives both a frame. Whether they answer alike.
-fn give(
+fn give<S: Subject>(
     alloc: Global,
     draws: &mut Pcg32,
-    image: &mut Image,
+    image: &mut S,
     map: &mut MapImage,
 ) -> Result<bool, Fail> {
     let position = draw_position(draws, map);
@@ -75,20 +77,19 @@ fn give(
 }
 
 /// Gives both a heartbeat. Whether they answer alike.
-fn beat(draws: &mut Pcg32, image: &mut Image, map: &mut MapImage) -> bool {
+fn beat<S: Subject>(draws: &mut Pcg32, image: &mut S, map: &mut MapImage) -> bool {
     let position = draw_position(draws, map);
     position.rem_euclid(32) == 0 && image.heartbeat(position) == map.heartbeat(position)
 }
 
 /// Reads the frame at a consumer's position from both, and moves past it. Whether they answer alike.
-fn pass(image: &mut Image, map: &mut MapImage, consumer: usize, block: &mut Block) -> bool {
-    if consumer >= image.consumers() || block.len() < 65_472 {
-        return false;
-    }
-    let head = image.read(consumer, block);
-    if head.is_some() {
-        let _ = image.advance(consumer);
-    }
+fn pass<S: Subject>(
+    image: &mut S,
+    map: &mut MapImage,
+    consumer: usize,
+    block: &mut Block,
+) -> bool {
+    let head = image.pass(consumer, block);
     match map.pass(consumer) {
         None => head.is_none(),
         Some((start, kept)) => {
@@ -104,25 +105,26 @@ fn pass(image: &mut Image, map: &mut MapImage, consumer: usize, block: &mut Bloc
 }
 
 /// Whether both stand alike, with the same first gap.
-fn stand(image: &Image, map: &MapImage) -> bool {
-    image.least() == map.least().cast_unsigned()
-        && image.rebuilt() == map.rebuilt().cast_unsigned()
-        && image.high_water() == map.high().cast_unsigned()
-        && first_gap(image, &mut Steps::new()) == map.first_gap()
+fn stand<S: Subject>(image: &mut S, map: &MapImage) -> bool {
+    let standing = image.stand();
+    standing.least == map.least().cast_unsigned()
+        && standing.rebuilt == map.rebuilt().cast_unsigned()
+        && standing.high_water == map.high().cast_unsigned()
+        && standing.gap == map.first_gap()
 }
 
 /// One step of a list: a frame, a heartbeat or a read. Whether both answer alike, and stand alike then.
-fn step(
+fn step<S: Subject>(
     alloc: Global,
     draws: &mut Pcg32,
-    image: &mut Image,
+    image: &mut S,
     map: &mut MapImage,
     block: &mut Block,
 ) -> Result<bool, Fail> {
     let alike = match below(draws, 8) {
         0 => beat(draws, image, map),
         1..=3 => {
-            let consumer = below(draws, image.consumers() as u32) as usize;
+            let consumer = below(draws, 3) as usize % image.consumers().max(1);
             pass(image, map, consumer, block)
         }
         _ => give(alloc, draws, image, map)?,
@@ -131,10 +133,10 @@ fn step(
 }
 
 /// Gives both all lists. Whether they always answer alike.
-fn stay_alike(
+fn stay_alike<S: Subject>(
     alloc: Global,
     draws: &mut Pcg32,
-    image: &mut Image,
+    image: &mut S,
     map: &mut MapImage,
     block: &mut Block,
 ) -> Result<bool, Fail> {
@@ -145,14 +147,44 @@ fn stay_alike(
     Ok(alike)
 }
 
+/// What an image is opened with.
+#[derive(Clone, Copy)]
+struct Opening {
+    join: u32,
+    window: u32,
+    consumers: usize,
+}
+
+fn draw_opening(draws: &mut Pcg32) -> Opening {
+    Opening {
+        join: below(draws, 8192),
+        window: 1408 + 32 * below(draws, 981),
+        consumers: 1 + below(draws, 3) as usize,
+    }
+}
+
 /// Opens both by these draws, and gives them all lists. Whether they always answer alike.
-fn are_alike(alloc: Global, draws: &mut Pcg32, block: &mut Block) -> Result<bool, Fail> {
+fn are_alike(
+    alloc: Global,
+    draws: &mut Pcg32,
+    shared: bool,
+    block: &mut Block,
+) -> Result<bool, Fail> {
     let geometry = Geometry::new(65_536, 1408, 7)?;
-    let join = 32 * below(draws, 8192);
-    let window = 1408 + 32 * below(draws, 981);
-    let consumers = 1 + below(draws, 3) as usize;
-    let mut image = Image::open(alloc, geometry, u64::from(join), window, consumers)?;
-    let mut map = MapImage::open(alloc, i64::from(join), i64::from(window), consumers)?;
+    let opening = draw_opening(draws);
+    let join = 32 * u64::from(opening.join);
+    let mut map = MapImage::open(
+        alloc,
+        join.cast_signed(),
+        i64::from(opening.window),
+        opening.consumers,
+    )?;
+    if shared {
+        let identity = Identity::new(geometry, 1, 1001);
+        let mut image = Shared::open(alloc, identity, join, opening.window, opening.consumers)?;
+        return stay_alike(alloc, draws, &mut image, &mut map, block);
+    }
+    let mut image = Image::open(alloc, geometry, join, opening.window, opening.consumers)?;
     stay_alike(alloc, draws, &mut image, &mut map, block)
 }
 
@@ -163,7 +195,20 @@ fn alike(rt: HostRuntime) -> Result<(), Fail> {
     let mut block = Block::new(rt.alloc(), 65_472)?;
     for number in 0..IMAGES {
         assert!(rt;
-            are_alike(rt.alloc(), &mut Pcg32::new(number, 0), &mut block)?,
+            are_alike(rt.alloc(), &mut Pcg32::new(number, 0), false, &mut block)?,
+            "image {number}"
+        );
+    }
+    Ok(())
+}
+
+/// So do an image that threads share and one by a map.
+#[test]
+fn shared_alike(rt: HostRuntime) -> Result<(), Fail> {
+    let mut block = Block::new(rt.alloc(), 65_472)?;
+    for number in 0..IMAGES {
+        assert!(rt;
+            are_alike(rt.alloc(), &mut Pcg32::new(number, 0), true, &mut block)?,
             "image {number}"
         );
     }
