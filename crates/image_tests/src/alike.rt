@@ -2,7 +2,7 @@ ghost use Rattle.std.specs.Prelude.{◌<◌};
 
 use crate::images::{DATA, PAD, filled};
 use crate::map_image::{Kept, MapImage, TERM};
-use crate::shared::Shared;
+use crate::shared::{OneHand, Shared};
 use crate::subject::Subject;
 use block::Block;
 use image::Image;
@@ -147,6 +147,16 @@ fn stay_alike<S: Subject>(
     Ok(alike)
 }
 
+/// Which image is tried.
+#[derive(Clone, Copy)]
+enum Tried {
+    Plain,
+    /// The one that threads share.
+    Shared,
+    /// The same, with one consumer that meets the inserter in each call.
+    OneHand,
+}
+
 /// What an image is opened with.
 #[derive(Clone, Copy)]
 struct Opening {
@@ -155,11 +165,15 @@ struct Opening {
     consumers: usize,
 }
 
-fn draw_opening(draws: &mut Pcg32) -> Opening {
+fn draw_opening(draws: &mut Pcg32, tried: Tried) -> Opening {
+    let most = match tried {
+        Tried::OneHand => 1,
+        Tried::Plain | Tried::Shared => 3,
+    };
     Opening {
         join: below(draws, 8192),
         window: 1408 + 32 * below(draws, 981),
-        consumers: 1 + below(draws, 3) as usize,
+        consumers: 1 + below(draws, most) as usize,
     }
 }
 
@@ -167,11 +181,11 @@ fn draw_opening(draws: &mut Pcg32) -> Opening {
 fn are_alike(
     alloc: Global,
     draws: &mut Pcg32,
-    shared: bool,
+    tried: Tried,
     block: &mut Block,
 ) -> Result<bool, Fail> {
     let geometry = Geometry::new(65_536, 1408, 7)?;
-    let opening = draw_opening(draws);
+    let opening = draw_opening(draws, tried);
     let join = 32 * u64::from(opening.join);
     let mut map = MapImage::open(
         alloc,
@@ -179,38 +193,53 @@ fn are_alike(
         i64::from(opening.window),
         opening.consumers,
     )?;
-    if shared {
-        let identity = Identity::new(geometry, 1, 1001);
-        let mut image = Shared::open(alloc, identity, join, opening.window, opening.consumers)?;
-        return stay_alike(alloc, draws, &mut image, &mut map, block);
+    let identity = Identity::new(geometry, 1, 1001);
+    match tried {
+        Tried::Plain => {
+            let mut image =
+                Image::open(alloc, geometry, join, opening.window, opening.consumers)?;
+            stay_alike(alloc, draws, &mut image, &mut map, block)
+        }
+        Tried::Shared => {
+            let mut image =
+                Shared::open(alloc, identity, join, opening.window, opening.consumers)?;
+            stay_alike(alloc, draws, &mut image, &mut map, block)
+        }
+        Tried::OneHand => {
+            let mut image = OneHand::open(alloc, identity, join, opening.window)?;
+            stay_alike(alloc, draws, &mut image, &mut map, block)
+        }
     }
-    let mut image = Image::open(alloc, geometry, join, opening.window, opening.consumers)?;
-    stay_alike(alloc, draws, &mut image, &mut map, block)
+}
+
+/// Whether they answer alike for each of the images.
+fn all_alike(alloc: Global, tried: Tried) -> Result<bool, Fail> {
+    let mut block = Block::new(alloc, 65_472)?;
+    let mut alike = true;
+    for number in 0..IMAGES {
+        alike &= are_alike(alloc, &mut Pcg32::new(number, 0), tried, &mut block)?;
+    }
+    Ok(alike)
 }
 
 /// An image in three terms and one by a map give the same answers to ten thousand lists, from any join on, also round the
 /// three terms.
 #[test]
 fn alike(rt: HostRuntime) -> Result<(), Fail> {
-    let mut block = Block::new(rt.alloc(), 65_472)?;
-    for number in 0..IMAGES {
-        assert!(rt;
-            are_alike(rt.alloc(), &mut Pcg32::new(number, 0), false, &mut block)?,
-            "image {number}"
-        );
-    }
+    assert!(rt; all_alike(rt.alloc(), Tried::Plain)?);
     Ok(())
 }
 
 /// So do an image that threads share and one by a map.
 #[test]
 fn shared_alike(rt: HostRuntime) -> Result<(), Fail> {
-    let mut block = Block::new(rt.alloc(), 65_472)?;
-    for number in 0..IMAGES {
-        assert!(rt;
-            are_alike(rt.alloc(), &mut Pcg32::new(number, 0), true, &mut block)?,
-            "image {number}"
-        );
-    }
+    assert!(rt; all_alike(rt.alloc(), Tried::Shared)?);
+    Ok(())
+}
+
+/// And the same in one hand.
+#[test]
+fn alike_in_one_hand(rt: HostRuntime) -> Result<(), Fail> {
+    assert!(rt; all_alike(rt.alloc(), Tried::OneHand)?);
     Ok(())
 }

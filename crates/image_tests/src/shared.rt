@@ -3,6 +3,7 @@
 ghost use Rattle.std.specs.Prelude.{◌≡◌, ◌≤◌, length};
 ghost use Rattle.std.specs.Option.{ForSome};
 ghost use Rattle.shared_image.specs.Handles.{IsReaderOf};
+ghost use Rattle.rebuilder.specs.Meeting.{AreAlone};
 ghost use Rattle.rebuilder.specs.Seen.{IsInserterOf};
 
 use crate::subject::{Standing, Subject};
@@ -10,7 +11,10 @@ use block::Block;
 use frames::Frame;
 use image::{ImageError, Insert, Steps};
 use position::{FrameHead, Identity};
-use rebuilder::{Inserter, deal, first_gap, heartbeat, insert, least, open};
+use rebuilder::{
+    Inserter, advance_alone, deal, first_gap, heartbeat, heartbeat_alone, insert, insert_alone,
+    least, open, read_alone,
+};
 use shared_image::{Image, ImageReader, advance, read};
 use std::alloc::Global;
 
@@ -123,6 +127,71 @@ impl Subject for Shared {
         let gap = first_gap(&self.image, &mut self.inserter, &mut Steps::new());
         Standing {
             least: lowest,
+            rebuilt: self.inserter.rebuilt(),
+            high_water: self.inserter.high_water(),
+            gap,
+        }
+    }
+}
+
+/// An image with its inserter and its one reader, which meet in each call.
+#[derive(Drop)]
+pub(crate) struct OneHand {
+    image: Image,
+    inserter: Inserter,
+    reader: ImageReader,
+    ghost alone: { AreAlone image inserter reader },
+}
+
+impl OneHand {
+    pub(crate) fn open(
+        alloc: Global,
+        identity: Identity,
+        join: u64,
+        window: u32,
+    ) -> Result<OneHand, ImageError> {
+        let (image, mut inserter) = open(alloc, identity, join, window, 1)?;
+        let reader = deal(&image, &mut inserter, 0);
+        Ok(OneHand {
+            image,
+            inserter,
+            reader,
+        })
+    }
+}
+
+impl Subject for OneHand {
+    fn insert(&mut self, position: i64, frame: &Frame<'_>) -> Insert {
+        insert_alone(
+            &self.image,
+            &mut self.inserter,
+            &mut self.reader,
+            position,
+            frame,
+        )
+    }
+
+    fn heartbeat(&mut self, position: i64) -> bool {
+        heartbeat_alone(&self.image, &mut self.inserter, &mut self.reader, position)
+    }
+
+    fn consumers(&self) -> usize {
+        1
+    }
+
+    fn pass(&mut self, _consumer: usize, block: &mut Block) -> Option<FrameHead> {
+        if block.len() < 65_472 {
+            return None;
+        }
+        let head = read_alone(&self.image, &mut self.inserter, &mut self.reader, block)?;
+        let _ = advance_alone(&self.image, &mut self.inserter, &mut self.reader);
+        Some(head)
+    }
+
+    fn stand(&mut self) -> Standing {
+        let gap = first_gap(&self.image, &mut self.inserter, &mut Steps::new());
+        Standing {
+            least: self.reader.position(),
             rebuilt: self.inserter.rebuilt(),
             high_water: self.inserter.high_water(),
             gap,
