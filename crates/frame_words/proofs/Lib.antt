@@ -1,4 +1,5 @@
 pub mod Wordings
 pub mod Contents
 pub mod Copying
+pub mod Fields
 mod WordRows

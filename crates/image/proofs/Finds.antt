@@ -87,8 +87,9 @@ same_start ss s t laid a b e =
     let full_t : 0 < covered t = all_at (λ (x : Placed). 0 < covered x) t ss laid.full b in
     ⊎_elim (λ (d : s ≡ t). d) (λ (o : (end_of s ≤ t.at) ⊎ (end_of t ≤ s.at)). ⊎_elim (λ (h : end_of s ≤ t.at). absurd (omega arith)) (λ (h : end_of t ≤ s.at). absurd (omega arith)) o) (apart 0 ss s t laid.order a b)
 
-pub like_found : (start : ℕ) (padding : Bool) (n : ℕ) (ss : List Placed) (s : Placed) → AreLaid ss → Among s ss → s.at ≡ start → (same_kind padding (is_padding s.frame) && nat_eq n (frame_length s.frame)) ≡ list_any (is_duplicate (record { at = start; padding = padding; length = n })) (map head_of ss)
-like_found start padding n ss s laid a e =
+-- the one frame that starts there
+pub like_only : (start : ℕ) (padding : Bool) (n : ℕ) (ss : List Placed) (s : Placed) → ((t : Placed) → Among t ss → start ≡ t.at → s ≡ t) → Among s ss → s.at ≡ start → (same_kind padding (is_padding s.frame) && nat_eq n (frame_length s.frame)) ≡ list_any (is_duplicate (record { at = start; padding = padding; length = n })) (map head_of ss)
+like_only start padding n ss s one a e =
     ⊎_elim
     (λ (y : (same_kind padding (is_padding s.frame) && nat_eq n (frame_length s.frame)) ≡ true).
     let parts = and_parts (same_kind padding (is_padding s.frame)) (nat_eq n (frame_length s.frame)) y in
@@ -103,9 +104,12 @@ like_found start padding n ss s laid a e =
     unlike : (t : Placed) → Among t ss → (same_kind padding (is_padding s.frame) && nat_eq n (frame_length s.frame)) ≡ false → is_duplicate (record { at = start; padding = padding; length = n }) (head_of t) ≡ false
     unlike t b differs =
         ⊎_elim
-        (λ (d : start ≡ t.at). let same : s ≡ t = same_start ss s t laid a b (e ∙ d) in splits (nat_eq start t.at) (same_kind padding (is_padding t.frame)) (nat_eq n (frame_length t.frame)) (subst (λ (x : Placed). (same_kind padding (is_padding x.frame) && nat_eq n (frame_length x.frame)) ≡ false) same differs))
+        (λ (d : start ≡ t.at). let same : s ≡ t = one t b d in splits (nat_eq start t.at) (same_kind padding (is_padding t.frame)) (nat_eq n (frame_length t.frame)) (subst (λ (x : Placed). (same_kind padding (is_padding x.frame) && nat_eq n (frame_length x.frame)) ≡ false) same differs))
         (λ (d : start ≡ t.at → ⊥). and_left (nat_eq start t.at && same_kind padding (is_padding t.frame)) (nat_eq n (frame_length t.frame)) (and_left (nat_eq start t.at) (same_kind padding (is_padding t.frame)) (ne_eqb start t.at d)))
         (cases_eq start t.at)
+
+pub like_found : (start : ℕ) (padding : Bool) (n : ℕ) (ss : List Placed) (s : Placed) → AreLaid ss → Among s ss → s.at ≡ start → (same_kind padding (is_padding s.frame) && nat_eq n (frame_length s.frame)) ≡ list_any (is_duplicate (record { at = start; padding = padding; length = n })) (map head_of ss)
+like_found start padding n ss s laid a e = like_only start padding n ss s (λ t b d. same_start ss s t laid a b (e ∙ d)) a e
 
 -- ---- whether a frame meets a range
 

@@ -15,7 +15,7 @@ use frames::{Frame, front_of};
 use position::{FrameHead, FrameKind, align32};
 
 /// The kind and the length of a frame of a stream.
-pub(crate) fn measure(frame: &Frame<'_>) -> (FrameKind, u32)
+pub fn measure(frame: &Frame<'_>) -> (FrameKind, u32)
     requires frame { IsFrame (wire frame.now) }
     requires stored { IsOfStream frame.now }
     ensures kind { is_pad result.0 ≡ is_padding (stream_frame frame.now) }
@@ -31,7 +31,7 @@ pub(crate) fn measure(frame: &Frame<'_>) -> (FrameKind, u32)
 }
 
 /// The bytes of the stream that it covers.
-pub(crate) fn covered(frame: &Frame<'_>) -> u32
+pub fn covered(frame: &Frame<'_>) -> u32
     requires frame { IsFrame (wire frame.now) }
     requires stored { IsOfStream frame.now }
     ensures value { result ≡ aligned (frame_length (stream_frame frame.now)) }
@@ -70,7 +70,7 @@ pub(crate) fn read_head(start: u64, bytes: &[u8]) -> FrameHead
 }
 
 /// Whether it is of this kind and length.
-pub(crate) fn is_like(head: &FrameHead, kind: FrameKind, length: u32) -> bool
+pub fn is_like(head: &FrameHead, kind: FrameKind, length: u32) -> bool
     ensures { result ≡ (same_kind (is_pad kind) (is_pad head.now.kind) && nat_eq length head.now.frame_length) }
 {
     kind == head.kind && length == head.frame_length

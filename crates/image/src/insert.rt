@@ -12,22 +12,22 @@ use crate::answer::Insert;
 use crate::held::{covered, measure};
 use crate::image::Image;
 use frames::Frame;
-use position::{FrameKind, align32, split_by};
+use position::{FrameKind, Geometry, align32, split_by};
+
+/// Whether so many bytes from a position on would pass the end of their term, whose offsets are counted from 0 up.
+pub fn crosses_term(geometry: &Geometry, position: i64, covered: u32) -> bool
+    requires { covered ≤ 2 ^ 24 }
+    ensures { result ≡ crosses geometry.now.term_length position covered }
+{
+    let length = geometry.term_length();
+    if position < 0 {
+        return position.rem_euclid(i64::from(length)) + i64::from(covered) > i64::from(length);
+    }
+    let (_, offset) = split_by(position as u64, length);
+    offset + covered > length
+}
 
 impl Image {
-    /// Whether the frame would pass the end of its term, whose offsets are counted from 0 up.
-    fn crosses_term(&self, position: i64, covered: u32) -> bool
-        requires { covered ≤ 2 ^ 24 }
-        ensures { result ≡ crosses self.now.geometry.term_length position covered }
-    {
-        let length = self.geometry.term_length();
-        if position < 0 {
-            return position.rem_euclid(i64::from(length)) + i64::from(covered) > i64::from(length);
-        }
-        let (_, offset) = split_by(position as u64, length);
-        offset + covered > length
-    }
-
     /// What becomes of a frame at a position from 0 on that doesn't pass the end of its term.
     fn judge_inside(&self, start: u64, kind: FrameKind, frame_length: u32) -> Insert
         requires start { start < 2 ^ 63 }
@@ -65,7 +65,7 @@ impl Image {
         requires length { frame_length ≤ 2 ^ 24 }
         ensures { meant result ≡ insert_answer_at self.now.geometry (map head_of self.now.held) (least self.now.consumers) self.now.window position (is_pad kind) frame_length }
     {
-        if self.crosses_term(position, align32(frame_length)) {
+        if crosses_term(&self.geometry, position, align32(frame_length)) {
             return Insert::CrossesTerm;
         }
         if position < 0 {

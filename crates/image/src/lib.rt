@@ -35,6 +35,8 @@ pub use answer::Insert;
 pub use detector::LossDetector;
 pub use fault::ImageError;
 pub use gap::first_gap;
+pub use held::{covered, is_like, measure};
 pub use image::{CONSUMERS, Image};
+pub use insert::crosses_term;
 pub use laws::units_grow;
 pub use steps::Steps;

@@ -25,7 +25,7 @@ impl Steps {
     }
 
     /// One more.
-    pub(crate) fn add_one(&mut self)
+    pub fn add_one(&mut self)
         requires { self.old < 2 ^ 63 }
         ensures { self.new ≡ self.old + 1 }
     {

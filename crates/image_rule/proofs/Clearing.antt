@@ -24,6 +24,7 @@ use Rattle.image_rule.proofs.Starts.{past_held, start_from, start_low, started_c
 pub first_seen : (key : Key) (v : View) (n : ℕ) (w : View) → 0 < length v.seen → length v.looks ≡ length v.seen → steps.Sweeps 0 v n w → Sweeps key v 1 (n / 32) w
 first_seen key v n w some long s =
     let is : n / 32 ≡ s.unit = (let e = s.is in omega arith) in
+    let here : (j : ℕ) → j ≡ 0 → slice_index (set v.seen 0 s.unit) j ≡ s.unit = λ j z. ap (slice_index (set v.seen 0 s.unit)) z ∙ get_or-set_same v.seen 0 s.unit 0 some in
     subst (λ (x : ℕ × View). Sweeps key v 1 x.0 x.1) (λ j. (sym is j, sym s.after j)) record {
       after = refl;
       all = length-set v.seen 0 s.unit;
@@ -35,6 +36,8 @@ first_seen key v n w some long s =
           (λ ne. let e : slice_index (set v.seen 0 s.unit) j ≡ slice_index v.seen j = get_or-set_other v.seen 0 j s.unit 0 ne in omega arith);
       lowest = λ j lt. (let z : j ≡ 0 = omega arith in let e : slice_index (set v.seen 0 s.unit) j ≡ s.unit = ap (slice_index (set v.seen 0 s.unit)) z ∙ get_or-set_same v.seen 0 s.unit 0 some in omega arith);
       one = (0, omega arith, get_or-set_same v.seen 0 s.unit 0 some);
+      each = λ j u lt lo hi. (let e = here j (omega arith) in s.reached u lo (omega arith));
+      uncut = λ j f lt among below. (let e = here j (omega arith) in let b = s.edge f among (omega arith) in omega arith);
       from = s.from;
       reached = s.reached;
       edge = s.edge;
@@ -69,6 +72,12 @@ next_seen key v w y i least n lt long a s =
       one = dite (dec_le least s.unit)
           (λ le. let o = a.one in (o.0, omega (arith, o.1), (let q = there o.0 (λ e. omega (arith, e, o.1)) in omega (arith, q, o.2))))
           (λ gt. (i, omega arith, omega arith));
+      each = λ j u less lo hi. dite (ℕ_discrete j i)
+          (λ e. let q : slice_index seen j ≡ s.unit = ap (slice_index seen) e ∙ here in reached u lo (omega arith))
+          (λ ne. let q = there j ne in a.each j u (omega arith) lo (omega arith));
+      uncut = λ j f less among below. dite (ℕ_discrete j i)
+          (λ e. let q : slice_index seen j ≡ s.unit = ap (slice_index seen) e ∙ here in let b = edge f among (omega arith) in omega arith)
+          (λ ne. let q = there j ne in let b = a.uncut j f (omega arith) among (omega arith) in omega arith);
       from = (let b = a.from in omega arith);
       reached = λ u lo hi. a.reached u lo (omega arith);
       edge = λ f among less. dite (dec_le least s.unit)

@@ -1,5 +1,5 @@
 -- Seats that are dealt, and told what others know.
-use Rattle.std.proofs.Common.{◌≡◌, ◌≢◌, ℕ, zero, suc, ◌+◌, ◌-◌, ◌*◌, ◌<◌, ◌≤◌, ◌⊎◌, inl, inr, ⊎_elim, suc-ne-zero, max, cond, ◌==◌, eq-eqb, ne_eqb, List, [], ◌∷◌, ◌++◌, set, length, sym, refl, ap, ◌∙◌, subst, arith}
+use Rattle.std.proofs.Common.{◌≡◌, ◌≢◌, ℕ, zero, suc, ◌+◌, ◌-◌, ◌*◌, ◌<◌, ◌≤◌, ◌⊎◌, inl, inr, ⊎_elim, suc-ne-zero, max, cond, ◌==◌, eq-eqb, ne_eqb, List, [], ◌∷◌, ◌++◌, set, length, sym, refl, ap, ◌∙◌, subst, arith, get_or-set_same}
 use Rattle.std.specs.Prelude.{slice_index}
 use mathlib.Core.Option.{some, some-injective, some-ne-none}
 use mathlib.Core.Logic.{dite}
@@ -11,10 +11,11 @@ use Rattle.image_rule.specs.declared.view.Frame.{Frame}
 use Rattle.image_rule.specs.declared.view.Held.{Held}
 use Rattle.image_rule.specs.declared.view.Key.{Key}
 use Rattle.image_rule.specs.declared.view.View.{View}
-use Rattle.image_rule.specs.Frames.{Among}
+use Rattle.image_rule.specs.Frames.{Among, Has, end_of}
 use Rattle.image_rule.specs.Rule.{ImageRuled, Knows, Owners, attending_seat, consumer_place, dealing_seat, findings_seat, greater_each, news_seat, only_at, reader_seat, told_seat}
 use Rattle.image_rule.specs.Steps.{Confirms, Mine, Settles, told}
 use Rattle.image_rule.specs.Reads.{Meets}
+use Rattle.image_rule.proofs.Standing.{stands_there}
 use Rattle.image_rule.proofs.Staying.{loaded}
 
 -- an element of a longer list, with its place
@@ -252,8 +253,15 @@ settle key slots id i m one s r homes at fits =
       keeps,
       tt,
       loaded key s r id i v k,
-      (refl, record { further = dite (dec_le (length v.seen) v.reading.number) (λ le. let z = past v.seen v.reading.number le in omega arith) (λ gt. let b = k.swept v.reading.number (omega arith) in let p = a.position in omega arith); after = refl }),
+      (refl, record { further = dite (dec_le (length v.seen) v.reading.number) (λ le. let z = past v.seen v.reading.number le in omega arith) (λ gt. let b = k.swept v.reading.number (omega arith) in let p = a.position in omega arith); edge = λ f known below. (stands_there key s r v.reading.number v.reading.unit a.inside a.position).edge f (k.known f known) below; after = refl }),
     )
+
+-- all up to where a consumer was seen was stored
+up_to : (key : Key) (s : State (Unit {0}) View) (r : ImageRuled key s) (id : ℕ) (v : View) → Knows key r.held r.owners s.words id v → v.held ≡ r.held → (j u : ℕ) → j < length v.seen → v.held.floor ≤ u → u < slice_index v.seen j → Has v.held.got u
+up_to key s r id v k mine j u lt from below =
+    let w = k.swept j lt in let few = k.few in let a = r.stands j (omega arith) in let at = a.is in let joined = r.sound.joined in
+    let over : r.held.floor ≤ u = subst (λ (h : Held). h.floor ≤ u) mine from in
+    subst (λ (h : Held). Has h.got u) (sym mine) (a.stands.reached u (omega arith) (omega arith))
 
 -- the inserter finds that what it knows was stored by it
 pub confirm : (key : Key) (slots id i : ℕ) (m : Mine) → m.0.inserting ≡ 1 → Allows (ImageRuled key) slots id m i (λ n. n) (told (λ v _ w. Confirms v w) m)
@@ -263,7 +271,7 @@ confirm key slots id i m one s r homes at fits =
       keeps,
       tt,
       loaded key s r id i v k,
-      (refl, record { stored = λ f a. subst (λ (h : Held). Among f h.got) (sym (k.inserts one).held) (k.known f a); after = refl }),
+      (refl, record { stored = λ f a. subst (λ (h : Held). Among f h.got) (sym (k.inserts one).held) (k.known f a); reached = up_to key s r id v k (k.inserts one).held; after = refl }),
     )
 
 -- ---- the six steps by which an inserter and a reader meet
@@ -274,13 +282,19 @@ meets v r r1 r2 r3 v2 v3 e1 settled same e3 confirmed =
     let e2 : r2 ≡ told = settled.after ∙ e1 in
     let e4 : v3 ≡ attending_seat v (findings_seat told) = confirmed.after ∙ e3 ∙ ap (λ (x : View). attending_seat v (findings_seat x)) e2 in
     let e5 : r3 ≡ told = same ∙ e2 in
-    let further : slice_index v.seen r.reading.number ≤ r.reading.unit = subst (λ (x : View). slice_index x.seen x.reading.number ≤ x.reading.unit) e1 settled.further in record {
+    let further : slice_index v.seen r.reading.number ≤ r.reading.unit = subst (λ (x : View). slice_index x.seen x.reading.number ≤ x.reading.unit) e1 settled.further in
+    let seen_is = greater_only v.seen r.reading.number r.reading.unit further in record {
       inserter = subst (λ (x : View). x ≡ record v { seen = x.seen; reading = record v.reading { known = x.reading.known } }) (sym e4) refl;
       stood = further;
-      seen = ap (λ (x : View). x.seen) e4 ∙ greater_only v.seen r.reading.number r.reading.unit further;
+      seen = ap (λ (x : View). x.seen) e4 ∙ seen_is;
       reader = subst (λ (x : View). x ≡ record r { seen = x.seen; reading = record r.reading { known = x.reading.known } }) (sym e5) refl;
       known = ap (λ (x : View). x.reading.known) e5;
       stored = λ f a. subst (λ (x : View). Among f x.held.got) e3 (confirmed.stored f (subst (λ (x : View). Among f x.reading.known) (sym e3) (among_right f v.reading.known r2.reading.known (subst (λ (x : View). Among f x.reading.known) same a))));
+      edge = λ f a. subst (λ (x : View). (g : Frame) → Among g x.reading.known → g.unit < x.reading.unit → end_of g ≤ x.reading.unit) e1 settled.edge f (among_right f r.reading.known v.held.got a);
+      reached = λ lt u from below.
+          (let here : slice_index (greater_each v.seen (only_at r.reading.number r.reading.unit)) r.reading.number ≡ r.reading.unit = ap (λ (xs : List ℕ). slice_index xs r.reading.number) seen_is ∙ get_or-set_same v.seen r.reading.number r.reading.unit 0 lt in
+          let long = greater_length v.seen (only_at r.reading.number r.reading.unit) in
+          subst (λ (x : View). (j u : ℕ) → j < length x.seen → x.held.floor ≤ u → u < slice_index x.seen j → Has x.held.got u) (e3 ∙ ap (λ (x : View). attending_seat v (findings_seat x)) e2) confirmed.reached r.reading.number u (omega arith) from (omega arith));
     }
 
 pub among_left : (f : Frame) (a b : List Frame) → Among f a → Among f (a ++ b)

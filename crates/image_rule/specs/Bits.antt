@@ -112,6 +112,9 @@ pub record Sweeps (key : Key) (v : View) (count least : ℕ) (w : View) : Type 0
   pub grown : (j : ℕ) → slice_index v.seen j ≤ slice_index w.seen j
   pub lowest : (j : ℕ) → j < count → least ≤ slice_index w.seen j
   pub one : (j : ℕ) × (j < count) × (slice_index w.seen j ≡ least)
+  -- none of them stands within a frame, and all before each was stored
+  pub each : (j u : ℕ) → j < count → v.held.floor ≤ u → u < slice_index w.seen j → Has v.held.got u
+  pub uncut : (j : ℕ) (f : Frame) → j < count → Among f v.held.got → f.unit < slice_index w.seen j → end_of f ≤ slice_index w.seen j
   pub from : v.held.floor ≤ least
   pub reached : (u : ℕ) → v.held.floor ≤ u → u < least → Has v.held.got u
   pub edge : (f : Frame) → Among f v.held.got → f.unit < least → end_of f ≤ least

@@ -75,14 +75,16 @@ pub record Sweeps (j : ℕ) (v : View) (n : ℕ) (w : View) : Type 0 where
 abbrev pub Fetches : ℕ → View → ℕ → View → Type 0
 Fetches k v n w = (n ≡ slice_index v.held.words k) × (w ≡ v)
 
--- a reader stands where it was seen, or further on
+-- a reader stands where it was seen, or further on, and within no frame that it knows
 pub record Settles (v w : View) : Type 0 where
   pub further : slice_index v.seen v.reading.number ≤ v.reading.unit
+  pub edge : (f : Frame) → Among f v.reading.known → f.unit < v.reading.unit → end_of f ≤ v.reading.unit
   pub after : w ≡ v
 
--- what it knows was stored by it
+-- what it knows was stored by it, and so was all up to where consumers were seen
 pub record Confirms (v w : View) : Type 0 where
   pub stored : (f : Frame) → Among f v.reading.known → Among f v.held.got
+  pub reached : (j u : ℕ) → j < length v.seen → v.held.floor ≤ u → u < slice_index v.seen j → Has v.held.got u
   pub after : w ≡ v
 
 -- the inserter's image after a store

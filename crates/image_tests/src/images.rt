@@ -1,7 +1,8 @@
+use crate::subject::Subject;
 use block::Block;
 use frames::{Frame, read_frame};
-use image::{Image, ImageError, Insert, Steps, first_gap};
-use position::{FrameHead, FrameKind, Geometry};
+use image::{Image, ImageError, Insert};
+use position::{FrameHead, FrameKind, Geometry, GeometryError, Identity};
 use std::alloc::{AllocError, Global};
 use std::process::Abort;
 use std::test::*;
@@ -33,9 +34,9 @@ fn spelled(alloc: Global, kind: FrameKind, length: u32, byte: u8) -> Result<Vec<
 }
 
 /// What becomes of such a frame, whose payload bytes are all the same. There is none where it can't be had.
-pub(crate) fn filled(
+pub(crate) fn filled<S: Subject>(
     alloc: Global,
-    image: &mut Image,
+    image: &mut S,
     kind: FrameKind,
     position: i64,
     length: u32,
@@ -56,16 +57,6 @@ fn answers(alloc: Global, image: &mut Image, frame: (FrameKind, i64, u32), answe
     filled(alloc, image, frame.0, frame.1, frame.2, 0x61) == Some(answer)
 }
 
-/// Reads the frame at a consumer's position, and moves past it.
-fn pass(image: &mut Image, consumer: usize, block: &mut Block) -> Option<FrameHead> {
-    if consumer >= image.consumers() || block.len() < 65_472 {
-        return None;
-    }
-    let head = image.read(consumer, block)?;
-    let _ = image.advance(consumer);
-    Some(head)
-}
-
 /// Whether a whole message or a padding starts where a consumer stands, which then is moved past it.
 fn passes(
     image: &mut Image,
@@ -73,7 +64,7 @@ fn passes(
     block: &mut Block,
     frame: (FrameKind, u64, u32),
 ) -> bool {
-    pass(image, consumer, block)
+    image.pass(consumer, block)
         == Some(FrameHead {
             start: frame.1,
             kind: frame.0,
@@ -83,16 +74,29 @@ fn passes(
 }
 
 /// Whether all up to the high-water mark is rebuilt, and the least consumer stands there.
-fn stands(image: &Image, rebuilt: u64, least: u64) -> bool {
-    image.rebuilt() == rebuilt
-        && image.high_water() == rebuilt
-        && image.least() == least
-        && first_gap(image, &mut Steps::new()).is_none()
+fn stands(image: &mut Image, rebuilt: u64, least: u64) -> bool {
+    let standing = image.stand();
+    standing.rebuilt == rebuilt
+        && standing.high_water == rebuilt
+        && standing.least == least
+        && standing.gap.is_none()
+}
+
+/// Why an image that threads share isn't opened.
+fn not_shared(
+    alloc: Global,
+    join: u64,
+    window: u32,
+    consumers: usize,
+) -> Result<Option<ImageError>, GeometryError> {
+    let geometry = Geometry::new(65_536, 1408, 7)?;
+    let identity = Identity::new(geometry, 1, 1001);
+    Ok(rebuilder::open(alloc, identity, join, window, consumers).err())
 }
 
 /// Joins, windows and numbers of consumers, and what is wrong with them.
 #[test]
-fn openings(rt: HostRuntime) {
+fn openings(rt: HostRuntime) -> Result<(), Fail> {
     for (join, window, consumers, fault) in [
         (0, 32_768, 1, None),
         (32, 1408, 8, None),
@@ -106,7 +110,9 @@ fn openings(rt: HostRuntime) {
         (0, 32_768, 9, Some(ImageError::Consumers)),
     ] {
         assert!(rt; opened(rt.alloc(), join, window, consumers).err() == fault);
+        assert!(rt; not_shared(rt.alloc(), join, window, consumers)? == fault);
     }
+    Ok(())
 }
 
 /// A step of a test, and how it ends.
@@ -131,7 +137,7 @@ fn is_met(alloc: Global, image: &mut Image, block: &mut Block, step: &Step) -> b
         Step::Passes(consumer, kind, start, length) => {
             passes(image, *consumer, block, (*kind, *start, *length))
         }
-        Step::Waits(consumer) => pass(image, *consumer, block).is_none(),
+        Step::Waits(consumer) => image.pass(*consumer, block).is_none(),
         Step::Stands(rebuilt, least) => stands(image, *rebuilt, *least),
     }
 }
@@ -195,7 +201,7 @@ fn whole_mtu(rt: HostRuntime) -> Result<(), Fail> {
     take_steps(&rt, rt.alloc(), &mut image, &mut block, &WHOLE);
     assert!(rt; passes_whole(&mut image, &mut block, 0));
     assert!(rt; passes_whole(&mut image, &mut block, 65_504));
-    assert!(rt; pass(&mut image, 0, &mut block).is_none());
+    assert!(rt; image.pass(0, &mut block).is_none());
     Ok(())
 }
 

@@ -1,4 +1,6 @@
-//! A test of a receiver's image: it and one by a map of whole frames answer drawn frames, heartbeats and reads alike.
+//! Tests of a receiver's images, the plain one and the one that threads share: each and one by a map of whole frames answer
+//! drawn frames, heartbeats and reads alike; and one inserter and two readers, in threads of their own, go round the ring
+//! many times.
 #![tactic(auto)]
 
 #[cfg(test)]
@@ -7,3 +9,14 @@ mod alike;
 mod images;
 #[cfg(test)]
 mod map_image;
+mod parties;
+#[cfg(test)]
+mod shared;
+mod stream_frames;
+#[cfg(test)]
+mod streams;
+#[cfg(test)]
+mod subject;
+
+pub use parties::Party;
+pub use stream_frames::{LONGEST, frame_at, frame_of};

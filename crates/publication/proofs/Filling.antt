@@ -1,9 +1,7 @@
 -- Open frames that are written whole.
-use Rattle.std.proofs.Common.{◌≡◌, ℕ, suc, ◌+◌, ◌-◌, ◌/◌, ◌<◌, ◌≤◌, get_or, List, [], ◌∷◌, ◌++◌, length, replicate, sym, ap, ◌∙◌, arith}
-use Rattle.std.specs.Int.{w32, w64, cast_unsigned, from_le_bytes, to_le_bytes}
-use Rattle.std.specs.List.{AllByRecursion}
-use Rattle.theory.specs.Position.{aligned, id_of, place_of}
-use Rattle.theory.specs.Bytes.{Identity}
+use Rattle.std.proofs.Common.{◌≡◌, ℕ, suc, ◌+◌, ◌-◌, ◌/◌, ◌≤◌, List, [], ◌∷◌, ◌++◌, length, replicate, sym, ap, ◌∙◌, arith}
+use Rattle.std.specs.Int.{w64, from_le_bytes}
+use Rattle.theory.specs.Position.{aligned}
 use Rattle.theory.specs.Placed.{Data, Pad}
 use Rattle.theory.specs.Wire.{front}
 use Rattle.publication.specs.declared.pass.Pass.{Pass}
@@ -14,11 +12,6 @@ use Rattle.publication.specs.Claims.{Fills, HasBlank}
 use Rattle.publication.specs.Offers.{HasRoom, Puts}
 use Rattle.publication.proofs.Patches.{completed, filled, has_word, puts_more, puts_none}
 use Rattle.frame_words.proofs.Wordings.{data_words, pad_words, words_length}
-
--- bytes, by their places
-pub all_bytes : (xs : List ℕ) → ((i : ℕ) → get_or xs i 0 < 256) → AllByRecursion (λ b. b < 256) xs
-all_bytes [] small = tt
-all_bytes (x ∷ xs) small = (small 0, all_bytes xs (λ i. small (suc i)))
 
 -- a store is noted in no call
 pub stores_call : (v w : Pass) (p x : ℕ) → HasWord v 1 p → Stores v p x w → w.call ≡ v.call
@@ -88,13 +81,3 @@ module _ (v w1 w2 w3 : Pass) (p a b z : ℕ) (room : HasRoom v p 4) where
 
       pub header_put : Stores w2 (p + 24) z w3 → Puts v p 1 (a ∷ b ∷ z ∷ []) w3
       header_put three = puts_more v w2 w3 p 1 (p + 24) z (a ∷ b ∷ []) (omega arith) puts_two (omega arith) three
-
--- what they are
-pub header_is : (i : Identity) (p offset session stream id : ℕ) → offset ≡ (place_of i.geometry p).offset → session ≡ cast_unsigned w32 i.session → stream ≡ cast_unsigned w32 i.stream → id ≡ cast_unsigned w32 (id_of i.geometry (place_of i.geometry p).count)
-    → header_words i p ≡ from_le_bytes w64 (to_le_bytes w32 offset ++ to_le_bytes w32 session) ∷ from_le_bytes w64 (to_le_bytes w32 stream ++ to_le_bytes w32 id) ∷ 0 ∷ []
-header_is i p offset session stream id o s t d =
-    let there : ℕ = cast_unsigned w32 (id_of i.geometry (place_of i.geometry p).count) in
-    ap (λ (n : ℕ). from_le_bytes w64 (to_le_bytes w32 n ++ to_le_bytes w32 (cast_unsigned w32 i.session)) ∷ from_le_bytes w64 (to_le_bytes w32 (cast_unsigned w32 i.stream) ++ to_le_bytes w32 there) ∷ 0 ∷ []) (sym o)
-    ∙ ap (λ (n : ℕ). from_le_bytes w64 (to_le_bytes w32 offset ++ to_le_bytes w32 n) ∷ from_le_bytes w64 (to_le_bytes w32 (cast_unsigned w32 i.stream) ++ to_le_bytes w32 there) ∷ 0 ∷ []) (sym s)
-    ∙ ap (λ (n : ℕ). from_le_bytes w64 (to_le_bytes w32 offset ++ to_le_bytes w32 session) ∷ from_le_bytes w64 (to_le_bytes w32 n ++ to_le_bytes w32 there) ∷ 0 ∷ []) (sym t)
-    ∙ ap (λ (n : ℕ). from_le_bytes w64 (to_le_bytes w32 offset ++ to_le_bytes w32 session) ∷ from_le_bytes w64 (to_le_bytes w32 stream ++ to_le_bytes w32 n) ∷ 0 ∷ []) (sym d)

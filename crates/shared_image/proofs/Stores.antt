@@ -1,8 +1,7 @@
 -- A frame that is stored, by its head and its payload.
-use Rattle.std.proofs.Common.{◌≡◌, ℕ, ◌+◌, ◌-◌, ◌*◌, ◌/◌, ◌%◌, ◌<◌, ◌≤◌, inl, List, [], ◌∷◌, ◌++◌, length, get_or, suc, subst, sym, refl, ap, ◌∙◌, arith}
+use Rattle.std.proofs.Common.{◌≡◌, ℕ, ◌+◌, ◌-◌, ◌*◌, ◌/◌, ◌%◌, ◌<◌, ◌≤◌, inl, List, [], ◌∷◌, ◌++◌, length, get_or, subst, sym, refl, ap, ◌∙◌, arith}
 use Rattle.std.specs.Int.{w64, from_le_bytes}
 use Rattle.std.proofs.lemmas.List.{take_all}
-use Rattle.std.specs.List.{AllByRecursion}
 use Rattle.theory.specs.Bytes.{Identity}
 use Rattle.theory.specs.Placed as placed
 use Rattle.theory.specs.Placed.{Data, Pad, Placed, frame_length, payload_of}
@@ -14,6 +13,7 @@ use Rattle.position.specs.declared.head.FrameKind.{FrameKind}
 use Rattle.position.specs.declared.head.FrameKind.TheVariants as kinds
 use Rattle.position.specs.Heads.{frame_in}
 use Rattle.frame_words.specs.Words.{header_words, payload_words}
+use Rattle.frame_words.proofs.Fields.{all_bytes}
 use Rattle.image_rule.specs.declared.view.Frame.{Frame}
 use Rattle.image_rule.specs.declared.view.View.{View}
 use Rattle.image_rule.specs.Frames.{Covers, IsContent}
@@ -23,11 +23,6 @@ use Rattle.image_rule.proofs.Units.{AreCovered, has_unit, sound_covered}
 use Rattle.shared_image.specs.Handles.{InserterSeat, IsInserting}
 use Rattle.shared_image.specs.Inserting.{MayCome, MayStore, Stores, kind_number, placed_by}
 use Rattle.shared_image.specs.Spelled.{spelt_frame}
-
--- bytes, by their places
-all_bytes : (xs : List ℕ) → ((i : ℕ) → get_or xs i 0 < 256) → AllByRecursion (λ b. b < 256) xs
-all_bytes [] small = tt
-all_bytes (x ∷ xs) small = (small 0, all_bytes xs (λ i. small (suc i)))
 
 -- ---- which frame the words are
 

@@ -1,10 +1,9 @@
 -- The words of a frame, one by one.
 use Rattle.std.proofs.Common.{◌≡◌, ℕ, zero, suc, ◌+◌, ◌*◌, ◌/◌, ◌<◌, List, [], ◌∷◌, ◌++◌, length, drop, sym, refl, ap, ◌∙◌, subst, arith}
 use Rattle.std.specs.Prelude.{slice_index}
-use Rattle.std.specs.Int.{w32, w64, cast_unsigned, from_le_bytes, to_le_bytes}
+use Rattle.std.specs.Int.{w64, from_le_bytes}
 use Rattle.std.proofs.lemmas.List.{drop-drop}
 use Rattle.theory.specs.Bytes.{Identity}
-use Rattle.theory.specs.Position.{id_of, place_of}
 use Rattle.frame_words.specs.Words.{header_words, payload_words, words_in}
 use Rattle.frame_words.proofs.Wordings.{words_length}
 use Rattle.image_rule.specs.declared.view.Frame.{Frame}
@@ -16,17 +15,6 @@ use Rattle.image_rule.specs.Rule.{IsKey}
 use Rattle.image_rule.specs.Steps.{Changes, May}
 use Rattle.image_rule.proofs.Storing.{inserts_on, may_on, may_write_part, wrote_none, wrote_on}
 use Rattle.shared_image.specs.Spelled.{spelt_frame}
-
--- ---- a header's words by its fields
-
-pub header_is : (i : Identity) (p offset session stream id : ℕ) → offset ≡ (place_of i.geometry p).offset → session ≡ cast_unsigned w32 i.session → stream ≡ cast_unsigned w32 i.stream → id ≡ cast_unsigned w32 (id_of i.geometry (place_of i.geometry p).count)
-    → header_words i p ≡ from_le_bytes w64 (to_le_bytes w32 offset ++ to_le_bytes w32 session) ∷ from_le_bytes w64 (to_le_bytes w32 stream ++ to_le_bytes w32 id) ∷ 0 ∷ []
-header_is i p offset session stream id o s t d =
-    let there : ℕ = cast_unsigned w32 (id_of i.geometry (place_of i.geometry p).count) in
-    ap (λ (n : ℕ). from_le_bytes w64 (to_le_bytes w32 n ++ to_le_bytes w32 (cast_unsigned w32 i.session)) ∷ from_le_bytes w64 (to_le_bytes w32 (cast_unsigned w32 i.stream) ++ to_le_bytes w32 there) ∷ 0 ∷ []) (sym o)
-    ∙ ap (λ (n : ℕ). from_le_bytes w64 (to_le_bytes w32 offset ++ to_le_bytes w32 n) ∷ from_le_bytes w64 (to_le_bytes w32 (cast_unsigned w32 i.stream) ++ to_le_bytes w32 there) ∷ 0 ∷ []) (sym s)
-    ∙ ap (λ (n : ℕ). from_le_bytes w64 (to_le_bytes w32 offset ++ to_le_bytes w32 session) ∷ from_le_bytes w64 (to_le_bytes w32 n ++ to_le_bytes w32 there) ∷ 0 ∷ []) (sym t)
-    ∙ ap (λ (n : ℕ). from_le_bytes w64 (to_le_bytes w32 offset ++ to_le_bytes w32 session) ∷ from_le_bytes w64 (to_le_bytes w32 stream ++ to_le_bytes w32 n) ∷ 0 ∷ []) (sym d)
 
 words_at : (n j : ℕ) (xs : List ℕ) → j < n → slice_index (words_in n xs) j ≡ from_le_bytes w64 (drop (8 * j) xs)
 words_at zero j xs lt = absurd (omega arith)

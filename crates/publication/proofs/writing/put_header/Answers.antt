@@ -7,7 +7,8 @@ use Rattle.frame_words.specs.Words.{header_words}
 use Rattle.publication.specs.Claims.{exactly}
 use Rattle.publication.specs.Offers.{Puts}
 use Rattle.publication.proofs.Steppings.{goes_further, goes_storing}
-use Rattle.publication.proofs.Filling.{header_first, header_is, header_put, header_second, header_third, stores_call}
+use Rattle.frame_words.proofs.Fields.{header_is}
+use Rattle.publication.proofs.Filling.{header_first, header_put, header_second, header_third, stores_call}
 use Rattle.publication.proofs.writing.put_header.Goals as goal
 
 pub store_word-requires-clause-inside : goal.store_word-requires-clause-inside

@@ -8,7 +8,8 @@ use Rattle.publication.specs.Offers.{Puts}
 use Rattle.publication.proofs.Steppings.{goes_further, goes_storing}
 use Rattle.publication.proofs.Patches.{begins_after, blank_room, room_after}
 use Rattle.frame_words.proofs.Wordings.{words_length}
-use Rattle.publication.proofs.Filling.{all_bytes, commits_call, data_completed, data_filled, data_first}
+use Rattle.frame_words.proofs.Fields.{all_bytes}
+use Rattle.publication.proofs.Filling.{commits_call, data_completed, data_filled, data_first}
 use Rattle.publication.proofs.writing.write_data.Goals as goal
 
 pub put_header-requires-clause-in_stream : goal.put_header-requires-clause-in_stream

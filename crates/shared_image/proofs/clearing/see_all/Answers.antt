@@ -22,3 +22,8 @@ loop-number-preserved c =
           (next_seen key v w c.see_as.new.hand.seat.me.0 i c.loop-number.least c.see_as.result (omega arith) (c.requires.looks ∙ sym c.requires.seen) c.loop-number.invariant.2 c.see_as.ensures.told),
       lower c.loop-number.least c.see_as.result c.min-least.result c.loop-number.invariant.3 c.min-least.ensures,
     )
+
+pub returns-clause-sweeps : goal.returns-clause-sweeps
+returns-clause-sweeps c =
+    let end : c.loop-number.number ≡ c.args.image.now.key.consumers = (let t = c.loop-number-test.false in let s = c.requires.some in omega arith) in
+    subst (λ (x : ℕ). Sweeps c.args.image.now.key c.args.hand.now.seat.me.0 x c.loop-number.least c.loop-number.hand.seat.me.0) end c.loop-number.invariant.2

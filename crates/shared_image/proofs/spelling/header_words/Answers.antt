@@ -3,7 +3,7 @@ use Rattle.std.specs.Int.{w32, w64, cast_unsigned, from_le_bytes, to_le_bytes}
 use Rattle.std.specs.Prelude.{FitsSigned}
 use Rattle.std.proofs.lemmas.Int.{to_z-of_z}
 use Rattle.theory.specs.Position.{Geometry, id_of, place_of}
-use Rattle.shared_image.proofs.Worded.{header_is}
+use Rattle.frame_words.proofs.Fields.{header_is}
 use Rattle.shared_image.proofs.spelling.header_words.Goals as goal
 
 pub returns : goal.returns

@@ -1,2 +1,0 @@
-pub mod Parties
-pub mod Alone

@@ -1,0 +1,5 @@
+use Rattle.rebuilder.specs.Seen.{IsInserterOf}
+use Rattle.image_tests.proofs.streams.offer_until.Given as goal
+
+abbrev pub invariant-loop : goal.invariant-loop
+invariant-loop l = IsInserterOf l.image l.inserter

@@ -1,0 +1,3 @@
+pub mod Seen
+pub mod Runs
+pub mod Meeting

@@ -1,0 +1,44 @@
+-- An inserter and a reader that meet, and one that is in one hand with the one reader.
+use Rattle.std.specs.Prelude.{◌≡◌, ◌↔◌, ℕ, ◌*◌, ◌<◌, ◌≤◌, max, [], ◌∷◌, List, slice_index, slice_set}
+use Rattle.theory.specs.Placed.{Among, Placed, covered, end_of}
+use Rattle.theory.specs.Units.{IsContiguous}
+use Rattle.image_rule.specs.declared.view.Frame.{Frame}
+use Rattle.image_rule.specs.Frames as units
+use Rattle.image_rule.specs.Frames.{placed_of}
+use Rattle.shared_image.specs.Handles.{ImageWords, IsReaderOf, ReaderSeat, known_by, position_of}
+use Rattle.rebuilder.specs.Seen.{Inserting, IsInserterOf, join_of}
+
+abbrev pub number_of : ReaderSeat → ℕ
+number_of r = r.view.reading.number
+
+-- the inserter has seen the reader where it stands, which is where it saw it before or further on, within no frame that was
+-- stored and not above the contiguous end; and the reader knows the frames that were stored, and no others
+pub record Meets (i : Inserting) (r : ReaderSeat) (j : Inserting) (q : ReaderSeat) : Type 0 where
+  pub inserter : j ≡ record i { seen = slice_set i.seen (number_of r) (position_of r) }
+  pub stood : slice_index i.seen (number_of r) ≤ position_of r
+  pub edge : (s : Placed) → Among s i.stored → s.at < position_of r → end_of s ≤ position_of r
+  pub behind : number_of r < i.key.consumers → (end : ℕ) → IsContiguous i.stored (join_of i) end → position_of r ≤ end
+  pub reader : q ≡ record r { view = q.view }
+  pub number : number_of q ≡ number_of r
+  pub stands : q.view.reading.unit ≡ r.view.reading.unit
+  pub keeps : (s : Placed) → Among s (known_by r) → Among s (known_by q)
+  pub knows : (s : Placed) → Among s (known_by q) ↔ Among s i.stored
+  pub covers : (f : Frame) → units.Among f r.view.reading.known → 32 * f.units ≡ covered (placed_of f)
+
+-- the inserter of an image and its one reader, which the inserter saw where it stands
+pub record AreAlone (image : ImageWords) (i : Inserting) (r : ReaderSeat) : Type 0 where
+  pub inserter : IsInserterOf image i
+  pub reader : IsReaderOf image r
+  pub one : i.key.consumers ≡ 1
+  pub number : number_of r ≡ 0
+  pub met : i.seen ≡ position_of r ∷ []
+
+-- they have looked at each other: these frames were stored, and this is the mark; the reader stays where it stands
+pub record StayAlone (image : ImageWords) (i : Inserting) (r : ReaderSeat) (stored : List Placed) (high : ℕ) (j : Inserting) (q : ReaderSeat) : Type 0 where
+  pub alone : AreAlone image j q
+  pub stays : position_of q ≡ position_of r
+  pub inserter : j ≡ record i { stored = stored; high = high; floor = j.floor; looks = j.looks }
+
+-- one frame more was stored
+abbrev pub InsertsAlone : ImageWords → Inserting → ReaderSeat → Placed → Inserting → ReaderSeat → Type 0
+InsertsAlone image i r s j q = StayAlone image i r (s ∷ i.stored) (max i.high (end_of s)) j q
