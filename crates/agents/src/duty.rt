@@ -11,7 +11,7 @@ ghost use Rattle.agents.specs.Rounds.{HearsWays, WayFault, WaysCycle, WaysFault}
 use crate::party::Party;
 use crate::sending::send_all;
 use endpoint::{Datagrams, DeviceError, DeviceFailed, GREATEST_DATAGRAM, Ways};
-use outbox::Outbox;
+use frames::Outbox;
 use std::alloc::{AllocError, Global};
 use std::marker::Model;
 

@@ -2,7 +2,7 @@
 
 ghost use Rattle.std.specs.Prelude.{◌≡◌, ℕ, List, [], OnErr, OnOk};
 
-use outbox::Outbox;
+use frames::Outbox;
 use std::alloc::AllocError;
 
 /// What hears datagrams and is told moments, and gives datagrams out: a sender's core, or a receiver with its subscriber.

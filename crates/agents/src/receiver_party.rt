@@ -6,8 +6,7 @@ ghost use Rattle.theory.specs.Wire.{IsFrame, spelling};
 ghost use Rattle.receiver.specs.Receiving.{replied};
 
 use crate::party::Party;
-use frames::Frame;
-use outbox::Outbox;
+use frames::{Frame, Outbox};
 use receiver::{Replies, Subscriber};
 use std::alloc::AllocError;
 

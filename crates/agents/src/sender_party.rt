@@ -5,7 +5,7 @@ ghost use Rattle.std.specs.Prelude.{◌≡◌};
 use crate::party::Party;
 use flow_control::FlowControl;
 use frame_source::FrameSource;
-use outbox::Outbox;
+use frames::Outbox;
 use sender::{SenderCore, SenderEvent};
 use std::alloc::AllocError;
 

@@ -5,7 +5,7 @@ ghost use Rattle.endpoint.specs.Devices.{NeverFall};
 ghost use Rattle.agents.specs.Traffic.{SendsOut};
 
 use endpoint::{Datagrams, DeviceFailed};
-use outbox::Outbox;
+use frames::Outbox;
 
 /// Sends what the outbox holds, in order, up to a fault.
 pub(crate) fn send_all<D: Datagrams>(device: &mut D, outbox: &Outbox) -> Result<(), DeviceFailed>

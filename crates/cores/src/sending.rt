@@ -8,7 +8,7 @@ use crate::numbers::answer_number;
 use crate::rooms::put_front;
 use claims::ReaderPass;
 use flow_control::StreamFlow;
-use outbox::Outbox;
+use frames::Outbox;
 use sender::{SenderAnswer, SenderCore, SenderEvent};
 use std::alloc::Global;
 use std::marker::Model;

@@ -11,3 +11,4 @@ pub mod Faults
 pub mod Together
 pub mod OneFault
 pub mod FrameSteps
+pub mod OutgoingLemmas

@@ -6,3 +6,5 @@ pub mod Fronts
 pub mod Order
 pub mod Reading
 pub mod Datagrams
+pub mod OutboxSlots
+pub mod Outgoing

@@ -1,5 +1,5 @@
-//! The frames of the wire: what a frame is, and its bytes. All numbers are little-endian. No call takes memory, and
-//! no payload is copied but by `write_frame`.
+//! The frames of the wire: what a frame is, and its bytes; and the datagrams of them that go out. All numbers are
+//! little-endian. No call takes memory but the one that makes an outbox, and no payload is copied but by `write_frame`.
 //!
 //! `read_frame` succeeds exactly where the input begins with a frame's spelling, and gives that frame and how many
 //! bytes it takes; its fault is the first in the fixed order. `check_datagram` says the same of a datagram.
@@ -10,6 +10,10 @@
 //! flags and its length, and `payload_of` its payload, with no test; of bytes that begin with any frame,
 //! `known_frame` gives it and its size, a DATA frame without a test. A spelling is of one frame, and a datagram of
 //! one list of frames (`one_spelling`, `one_reading`).
+//!
+//! An outbox holds up to 32 datagrams of at most its MTU, each of one frame or of several, in the order in which they go out;
+//! each is the spellings of the frames that were put into it (`Outbox`). It takes its memory when it is made, and no later
+//! call takes any.
 #![tactic(auto)]
 
 mod datagram;
@@ -18,6 +22,7 @@ mod fault_counts;
 mod fields;
 mod frame;
 mod front;
+mod outbox;
 mod reading;
 mod writing;
 
@@ -26,5 +31,6 @@ pub use fault::FrameError;
 pub use fault_counts::FaultCounts;
 pub use frame::{Frame, Header, Nak, Setup, Status};
 pub use front::{Front, front_of, known_frame, payload_of};
+pub use outbox::Outbox;
 pub use reading::read_frame;
 pub use writing::write_frame;

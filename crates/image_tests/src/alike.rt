@@ -83,12 +83,7 @@ fn beat<S: Subject>(draws: &mut Pcg32, image: &mut S, map: &mut MapImage) -> boo
 }
 
 /// Reads the frame at a consumer's position from both, and moves past it. Whether they answer alike.
-fn pass<S: Subject>(
-    image: &mut S,
-    map: &mut MapImage,
-    consumer: usize,
-    block: &mut Block,
-) -> bool {
+fn pass<S: Subject>(image: &mut S, map: &mut MapImage, consumer: usize, block: &mut Block) -> bool {
     let head = image.pass(consumer, block);
     match map.pass(consumer) {
         None => head.is_none(),
@@ -196,13 +191,11 @@ fn are_alike(
     let identity = Identity::new(geometry, 1, 1001);
     match tried {
         Tried::Plain => {
-            let mut image =
-                Image::open(alloc, geometry, join, opening.window, opening.consumers)?;
+            let mut image = Image::open(alloc, geometry, join, opening.window, opening.consumers)?;
             stay_alike(alloc, draws, &mut image, &mut map, block)
         }
         Tried::Shared => {
-            let mut image =
-                Shared::open(alloc, identity, join, opening.window, opening.consumers)?;
+            let mut image = Shared::open(alloc, identity, join, opening.window, opening.consumers)?;
             stay_alike(alloc, draws, &mut image, &mut map, block)
         }
         Tried::OneHand => {

@@ -81,10 +81,7 @@ fn of_one_unit(image: &Image, inserter: &mut Inserter, start: u64) -> Insert
 
 /// Whether a frame met one that was stored, or one that all consumers have passed.
 fn is_there(answer: Insert) -> bool {
-    matches!(
-        answer,
-        Insert::Duplicate | Insert::Overlap | Insert::Below
-    )
+    matches!(answer, Insert::Duplicate | Insert::Overlap | Insert::Below)
 }
 
 /// Inserts the frame at a position and the one behind it, in turned order, the first one again, and others that nobody sent:

@@ -3,3 +3,4 @@ pub mod Receiving
 pub mod Representing
 pub mod Subscribing
 pub mod Texts
+pub mod Lives

@@ -15,14 +15,22 @@
 //! From its assembler's first refusal on, which message a poll gives, and where, isn't said. `Subscriber::positions`
 //! gives the least consumer, the contiguous end and the high-water mark of its image, none less than the one before,
 //! if there is an image.
+//!
+//! A subscriber lives by what it meets: datagrams and moments that it is handed, and polls (`Lives`). Where each datagram
+//! is honest for a stream (each DATA frame and padding of its session is a committed frame of it, in its place, and each
+//! SETUP names its shape), whatever was lost, repeated or reordered, the messages of all polls are those of the stream
+//! from the image's join to where the consumer stands, in order, each once and whole (`polls_a_run`). It holds as long as
+//! no poll is refused: a life has none that is.
 #![tactic(auto)]
 
+mod lives;
 mod opened;
 mod poll_error;
 mod positions;
 mod receiver_core;
 mod subscriber;
 
+pub use lives::polls_a_run;
 pub use poll_error::PollError;
 pub use positions::Positions;
 pub use receiver_core::{Outcome, ReceiverCore, Replies, STATUS_INTERVAL};

@@ -14,7 +14,7 @@ use Rattle.position.specs.declared.head.FrameHead.{FrameHead}
 use Rattle.frame_source.specs.Sources.{MayReread, ReadsAt, Rereads, Source}
 use Rattle.sender.specs.Cycling.{AreRead}
 use Rattle.sender.specs.Giving.{CanBeReread, SendsAgain}
-use Rattle.outbox.specs.Outgoing.{Outgoing}
+use Rattle.frames.specs.Outgoing.{Outgoing}
 use Rattle.sender.specs.Packed.{HasPacked, Packs, Puts, placed_in}
 use Rattle.sender.specs.Sending.{LeadsOn}
 use Rattle.sender.specs.declared.packing.Packing.{Packing}

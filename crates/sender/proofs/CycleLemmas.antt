@@ -17,7 +17,7 @@ use Rattle.retransmit.specs.Handler.{Handler, after_due, after_note, due_range}
 use Rattle.setup.specs.Naming.{after_due as named_after, is_due}
 use Rattle.sender.specs.Cycling.{Cycle, GivesAgain, GivesNew, alone, datagrams, heartbeats, is_heard, is_silent, sent_wires, setups}
 use Rattle.sender.specs.Giving.{SendsAgain, SendsNew, with_all}
-use Rattle.outbox.specs.Outgoing.{Outgoing, with_datagram}
+use Rattle.frames.specs.Outgoing.{Outgoing, with_datagram}
 use Rattle.sender.specs.Sending.{Cycles, ReadsTo, Sending, SendsFrom, cycled, all_noted}
 
 -- ---- what is told

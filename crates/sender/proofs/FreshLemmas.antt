@@ -15,7 +15,7 @@ use Rattle.frame_source.specs.Sources.{HasNone, ReadsAt, Source}
 use Rattle.retransmit.specs.Handler.{Handler, after_note}
 use Rattle.sender.specs.Cycling.{AreRead, GivesNew, datagrams}
 use Rattle.sender.specs.Giving.{FrameGoes, FrameStays, IsBarred, SendsNew, with_all}
-use Rattle.outbox.specs.Outgoing.{Outgoing}
+use Rattle.frames.specs.Outgoing.{Outgoing}
 use Rattle.sender.specs.Packed.{HasPacked, Packs, Puts, placed_in}
 use Rattle.sender.specs.Sending.{AreThere, ReadsTo, all_noted}
 use Rattle.sender.specs.declared.packing.Packing.{Packing}

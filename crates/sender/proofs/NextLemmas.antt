@@ -10,7 +10,7 @@ use Rattle.position.proofs.Heads.{start_in}
 use Rattle.frame_source.specs.Sources.{FindsNone, HasFrame, Passes, ReadsNext, Source}
 use Rattle.retransmit.specs.Handler.{Handler, after_note}
 use Rattle.sender.specs.Giving.{FrameGoes, FrameStays}
-use Rattle.outbox.specs.Outgoing.{Outgoing}
+use Rattle.frames.specs.Outgoing.{Outgoing}
 use Rattle.sender.specs.Packed.{Puts, placed_in}
 use Rattle.sender.specs.declared.packing.Packing.{Packing}
 use Rattle.sender.proofs.FreshLemmas.{end_shown, shown_is}

@@ -17,7 +17,7 @@ use Rattle.position.specs.declared.head.FrameKind.{FrameKind}
 use Rattle.position.specs.declared.head.FrameKind.TheVariants as kinds
 use Rattle.position.specs.Heads.{IsStreamFrame, frame_in}
 use Rattle.sender.specs.Cycling.{datagrams}
-use Rattle.outbox.specs.Outgoing.{FitsLast, Outgoing, extended, with_datagram, with_extended}
+use Rattle.frames.specs.Outgoing.{FitsLast, Outgoing, extended, with_datagram, with_extended}
 use Rattle.sender.specs.Packed.{HasPacked, KnowsLast, MayJoin, Packs, Puts, placed_in, size_in}
 use Rattle.sender.specs.declared.packing.Packing.{Packing}
 

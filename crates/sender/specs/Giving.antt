@@ -9,7 +9,7 @@ use Rattle.theory.specs.Datagrams.{MayBeSent, frames_of, sent_end, wires}
 use Rattle.frame_source.specs.Sources.{HasNone, Source}
 use Rattle.retransmit.specs.Handler.{Handler, after_note}
 use Rattle.sender.specs.Cycling.{GivesAgain, GivesNew, datagrams}
-use Rattle.outbox.specs.Outgoing.{Outgoing}
+use Rattle.frames.specs.Outgoing.{Outgoing}
 use Rattle.sender.specs.Packed.{HasPacked, Puts}
 use Rattle.sender.specs.Sending.{AreThere, LeadsOn, ReadsTo, all_noted}
 use Rattle.sender.specs.declared.packing.Packing.{Packing}

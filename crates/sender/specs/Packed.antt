@@ -10,7 +10,7 @@ use Rattle.position.specs.declared.head.FrameKind.{FrameKind}
 use Rattle.position.specs.declared.head.FrameKind.TheVariants as kinds
 use Rattle.position.specs.Heads.{frame_in}
 use Rattle.sender.specs.Cycling.{datagrams}
-use Rattle.outbox.specs.Outgoing.{Outgoing}
+use Rattle.frames.specs.Outgoing.{Outgoing}
 use Rattle.sender.specs.declared.packing.Packing.{Packing}
 
 -- ---- the frame that was read

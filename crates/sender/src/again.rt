@@ -7,7 +7,7 @@ use crate::packing::Packing;
 use crate::stream_frame::frame_end;
 use block::Block;
 use frame_source::FrameSource;
-use outbox::Outbox;
+use frames::Outbox;
 use position::{Gap, Identity};
 
 /// How many datagrams go out again in a cycle at the most.

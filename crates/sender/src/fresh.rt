@@ -7,7 +7,7 @@ use crate::packing::Packing;
 use crate::stream_frame::sent_to;
 use block::Block;
 use frame_source::FrameSource;
-use outbox::Outbox;
+use frames::Outbox;
 use position::Identity;
 use retransmit::Retransmit;
 

@@ -19,5 +19,5 @@ mod packing;
 mod sender_core;
 mod stream_frame;
 
-pub use outbox::Outbox;
+pub use frames::Outbox;
 pub use sender_core::{Denied, SenderAnswer, SenderCore, SenderEvent};

@@ -6,7 +6,7 @@ ghost use Rattle.sender.specs.Packed.{HasPacked, MayJoin, Puts, placed_in};
 
 use crate::stream_frame::{frame_of, is_data, wire_size};
 use block::Block;
-use outbox::Outbox;
+use frames::Outbox;
 use position::{FrameHead, Identity};
 
 /// Puts frames into datagrams, up to a number of them.

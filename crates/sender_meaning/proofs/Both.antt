@@ -3,8 +3,8 @@ use Rattle.std.proofs.Common.{ℕ, List}
 use Rattle.std.specs.List.{AllByRecursion}
 use Rattle.theory.specs.Placed.{Among}
 use Rattle.theory.proofs.Lists.{all_at, all_weaker}
-use Rattle.receiver_meaning.specs.Lives as meant
-use Rattle.receiver_meaning.specs.Lives.{IsHonest, PollsARun}
+use Rattle.receiver.specs.Lives as meant
+use Rattle.receiver.specs.Lives.{IsHonest, PollsARun}
 use Rattle.sender_meaning.specs.Lives.{GivesHonest, PollsWhatIsSent, given_in}
 
 pub polls_what_is_sent : GivesHonest → PollsARun → PollsWhatIsSent

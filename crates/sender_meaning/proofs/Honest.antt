@@ -15,7 +15,7 @@ use Rattle.theory.proofs.Readings.{stands_alone}
 use Rattle.model.proofs.Datagrams.{grouped_stand}
 use Rattle.model.proofs.Sizes.{all_take}
 use Rattle.sender.specs.Cycling.{AreRead, GivesAgain, GivesNew, GivesRange, TakesAll, alone, datagrams, heartbeats, setups}
-use Rattle.receiver_meaning.specs.Lives.{IsHonest, IsHonestFrame, IsStream, Stream}
+use Rattle.receiver.specs.Lives.{IsHonest, IsHonestFrame, IsStream, Stream}
 use Rattle.sender_meaning.specs.Lives.{IsSpelled}
 use Rattle.sender_meaning.proofs.Spelled.{header_framed, setup_framed}
 

@@ -15,7 +15,7 @@ use Rattle.retransmit.specs.Handler.{due_range}
 use Rattle.sender.specs.Cycling.{AsksSetup, GivesAgain, GivesNew, Misses, NewsContent, Says, TellsNothing, Unreadable, alone, datagrams, heartbeats, sent_wires, setups}
 use Rattle.sender.specs.Sending.{HearsNews, after_fresh, all_noted, at_moment}
 use Rattle.sender.specs.declared.sender_core.SenderAnswer.{SenderAnswer}
-use Rattle.receiver_meaning.specs.Lives.{IsHonest, IsStream, Stream}
+use Rattle.receiver.specs.Lives.{IsHonest, IsStream, Stream}
 use Rattle.sender_meaning.specs.Lives.{Act, ActsSo, GivesHonest, Hears, HearsSo, IsSpelled, Lives, LogCore, SendsStream, Ticks, TicksSo, given_in, limit_in, source_in, told_status, was_heard}
 use Rattle.sender_meaning.proofs.Honest.{IsGiven, again_given, beat_given, fresh_given, honest_given, setup_given}
 use Rattle.sender_meaning.proofs.Standing.{stands_on}

@@ -11,7 +11,7 @@ use Rattle.theory.proofs.Lists.{all_at, all_from}
 use Rattle.retransmit.specs.Handler.{Handler, after_note}
 use Rattle.sender.specs.Cycling.{GivesNew, TakesAll}
 use Rattle.sender.specs.Sending.{all_noted}
-use Rattle.receiver_meaning.specs.Lives.{IsStream, Stream}
+use Rattle.receiver.specs.Lives.{IsStream, Stream}
 use Rattle.sender_meaning.proofs.Honest.{sent_among}
 
 chain_front : (j q : ℕ) (xs : List Placed) (s : Placed) → Chain j q (xs ++ s ∷ []) → Chain j s.at xs

@@ -16,8 +16,8 @@ use Rattle.agents.specs.Duties as duties
 use Rattle.receiver.specs.Receiving.{Receiver, TakesDatagram, listening}
 use Rattle.receiver.specs.Subscribing.{RepresentsSubscriber, Subscribing}
 use Rattle.receiver.specs.declared.receiver_core.Outcome.{Outcome}
-use Rattle.receiver_meaning.specs.Lives as meant
-use Rattle.receiver_meaning.specs.Lives.{IsHonest, IsStream, Stream}
+use Rattle.receiver.specs.Lives as meant
+use Rattle.receiver.specs.Lives.{IsHonest, IsStream, Stream}
 
 -- ---- a life
 

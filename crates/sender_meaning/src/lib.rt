@@ -3,14 +3,14 @@
 //!
 //! A sender lives by what it meets: datagrams and moments that it is handed, at each of which it gives datagrams out
 //! (`Lives`). Where all frames that it knows of its log are committed frames of a stream, whatever it heard, each datagram
-//! that it gave out is honest for that stream, as `receiver_meaning` has it (`gives_honest`): each DATA frame and padding is
+//! that it gave out is honest for that stream, as `receiver` has it (`gives_honest`): each DATA frame and padding is
 //! a committed frame of it, in its place, and each SETUP names its shape. So a subscriber that was handed nothing but such
 //! datagrams, in any order and each any number of times, polls a run of the stream (`polls_what_is_sent`).
 #![tactic(auto)]
 
 ghost use Rattle.sender_meaning.specs.Lives.{GivesHonest, PollsWhatIsSent};
 
-use receiver_meaning::polls_a_run;
+use receiver::polls_a_run;
 use theory::one_spelling;
 
 /// A law: what a sender gives out is honest for its stream.

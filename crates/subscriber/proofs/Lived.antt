@@ -13,7 +13,7 @@ use Rattle.options.specs.declared.ends.plans.SubscribePlan.{SubscribePlan}
 use Rattle.agents.specs.Cycles.{HearsAll}
 use Rattle.agents.specs.Parties.{ReceiverHears, ReceiverTicks}
 use Rattle.receiver.specs.Subscribing.{Subscribing}
-use Rattle.receiver_meaning.specs.Lives.{Act, Gives, GivesNone, Hears, Lives, Ticks, given_in, heard_in}
+use Rattle.receiver.specs.Lives.{Act, Gives, GivesNone, Hears, Lives, Ticks, given_in, heard_in}
 use Rattle.subscription.specs.Meetings.{HasMet}
 use Rattle.subscription.specs.Calls.{IsJoined, IsMeeting}
 use Rattle.subscriber.specs.Deliveries.{Delivers, PollsAll, PollsNone, WritesFirst}

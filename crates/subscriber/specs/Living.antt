@@ -6,7 +6,7 @@ use Rattle.messages.specs.Forms.{spelling}
 use Rattle.messages.specs.declared.form.Form.{Form}
 use Rattle.options.specs.declared.ends.plans.SubscribePlan.{SubscribePlan}
 use Rattle.receiver.specs.Subscribing.{Subscribing}
-use Rattle.receiver_meaning.specs.Lives.{Act, Lives, given_in}
+use Rattle.receiver.specs.Lives.{Act, Lives, given_in}
 use Rattle.subscription.specs.Meetings.{HasMet, Opens}
 use Rattle.subscription.specs.declared.opening.Opening.{Opening}
 use Rattle.subscriber.specs.Turning.{next}

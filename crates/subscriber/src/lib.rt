@@ -17,7 +17,7 @@
 //! Where `subscribe` ends without a fault, a writer that tells what it holds has grown by whole messages, one behind
 //! the other, at most as many as were wanted, and it has counted them (`Writes`): those that the polls of its images
 //! gave, image by image, each of which a SETUP opened and which lived through datagrams, moments and polls since
-//! (`WritesLives`); of honest datagrams that is a run of the stream (`receiver_meaning`). Which datagrams came isn't
+//! (`WritesLives`); of honest datagrams that is a run of the stream (`receiver`). Which datagrams came isn't
 //! said, since its device tells nothing; nor that anything comes: `tools/channels` shows it.
 #![tactic(auto)]
 

@@ -5,7 +5,7 @@ use Rattle.theory.specs.Assembly.{after_all, nothing_heard}
 use Rattle.theory.specs.Consumer.{Consumer}
 use Rattle.theory.specs.Entry.{committed}
 use Rattle.receiver.specs.Receiving.{Opened, Receiver}
-use Rattle.receiver_meaning.specs.Lives.{Stream}
+use Rattle.receiver.specs.Lives.{Stream}
 
 -- its image has frames of the stream alone, and its one consumer heard each that it passed, in order
 pub record IsFollowed (x : Stream) (o : Opened) (given : List (List ℕ)) : Type 0 where

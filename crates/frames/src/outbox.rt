@@ -4,9 +4,9 @@ ghost use Rattle.std.specs.Prelude.{◌≡◌, ◌≤◌, ◌<◌, ◌+◌, ◌+
 ghost use Rattle.std.specs.Option.{option_copied};
 ghost use Rattle.theory.specs.Wire.{IsFrame, spelling};
 ghost use Rattle.frames.specs.Frames.{wire};
-ghost use Rattle.outbox.specs.Outgoing.{FitsLast, emptied, with_datagram, with_extended};
+ghost use Rattle.frames.specs.Outgoing.{FitsLast, emptied, with_datagram, with_extended};
 
-use frames::{Frame, write_frame};
+use crate::{Frame, write_frame};
 use std::alloc::{AllocError, Global};
 use std::marker::Model;
 
@@ -22,7 +22,7 @@ struct Slot {
 }
 
 impl Slot {
-    ghost use Rattle.outbox.specs.OutboxSlots.{bytes_in};
+    ghost use Rattle.frames.specs.OutboxSlots.{bytes_in};
 
     /// Holds this frame from now on.
     fn fill(&mut self, frame: &Frame<'_>)
@@ -60,11 +60,11 @@ pub struct Outbox {
 }
 
 impl Model for Outbox {
-    ghost use Rattle.outbox.specs.Outgoing.{Outgoing};
+    ghost use Rattle.frames.specs.Outgoing.{Outgoing};
 
     ghost Value = { Outgoing };
 
-    ghost use Rattle.outbox.specs.OutboxSlots.{AreSlots, shown};
+    ghost use Rattle.frames.specs.OutboxSlots.{AreSlots, shown};
 
     ghost view = { λ o. record { mtu = o.mtu; datagrams = shown o.count o.slots.items } };
 

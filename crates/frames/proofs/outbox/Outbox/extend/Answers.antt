@@ -1,9 +1,9 @@
 use Rattle.std.proofs.Common.{◌∙◌, ℕ, List, ap, arith}
 use Rattle.theory.specs.Wire.{spelling}
 use Rattle.frames.specs.Frames.{wire}
-use Rattle.outbox.specs.Outgoing.{Outgoing, with_extended}
-use Rattle.outbox.proofs.OutgoingLemmas.{last_goes_on, some_slot}
-use Rattle.outbox.proofs.outbox.Outbox.extend.Goals as goal
+use Rattle.frames.specs.Outgoing.{Outgoing, with_extended}
+use Rattle.frames.proofs.OutgoingLemmas.{last_goes_on, some_slot}
+use Rattle.frames.proofs.outbox.Outbox.extend.Goals as goal
 
 pub returns : goal.returns
 returns c =

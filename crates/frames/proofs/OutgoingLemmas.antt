@@ -1,9 +1,9 @@
 -- The slots of an outbox.
 use Rattle.std.proofs.Common.{◌≡◌, ◌∙◌, ℕ, zero, suc, ◌-◌, ◌<◌, ◌≤◌, List, [], ◌∷◌, ◌++◌, get_or, length, set, take, vec_len, ap, length-append, length-take, arith}
 use Rattle.std.proofs.lemmas.List.{length-map}
-use Rattle.outbox.specs.declared.outbox.Slot.{Slot}
-use Rattle.outbox.specs.OutboxSlots.{AreOfSize, bytes_in, shown}
-use Rattle.outbox.specs.Outgoing.{extended}
+use Rattle.frames.specs.declared.outbox.Slot.{Slot}
+use Rattle.frames.specs.OutboxSlots.{AreOfSize, bytes_in, shown}
+use Rattle.frames.specs.Outgoing.{extended}
 
 pub one_more : (mtu : ℕ) (slots : List Slot) (s : Slot) → AreOfSize mtu slots → vec_len s.bytes ≡ mtu → AreOfSize mtu (slots ++ s ∷ [])
 one_more mtu [] s all size = (size, tt)

@@ -1,7 +1,7 @@
 -- An outbox's slots, and the datagrams in the first of them.
 use Rattle.std.specs.Prelude.{◌≡◌, ◌≤◌, ℕ, List, length, map, take, vec_len}
 use Rattle.std.specs.List.{AllByRecursion}
-use Rattle.outbox.specs.declared.outbox.Slot.{Slot}
+use Rattle.frames.specs.declared.outbox.Slot.{Slot}
 
 abbrev pub bytes_in : Slot → List ℕ
 bytes_in s = take s.length s.bytes.items

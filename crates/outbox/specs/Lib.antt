@@ -1,2 +1,0 @@
-pub mod OutboxSlots
-pub mod Outgoing

@@ -1,0 +1,5 @@
+pub mod Moved
+pub mod Following
+pub mod Meeting
+pub mod Polled
+pub mod Whole

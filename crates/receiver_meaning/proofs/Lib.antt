@@ -1,5 +1,0 @@
-pub mod Moved
-mod Following
-pub mod Meeting
-mod Polled
-mod Whole
