@@ -10,4 +10,4 @@ pub mod ShownSteps
 pub mod Units
 mod TickRows
 pub mod Together
-pub mod Lives
+pub mod Lived

@@ -25,7 +25,7 @@ use Rattle.script_meaning.specs.Published.{is_refusal, is_too_long, messages_in}
 use Rattle.receiver.specs.Receiving.{Opened, Receiver}
 use Rattle.script_meaning.specs.ScriptState.{ScriptState, image_of, world_of}
 use Rattle.receiver.proofs.PollFrames.{moved_at}
-use Rattle.receiver.proofs.Lives.Moved.{moved_past}
+use Rattle.receiver.proofs.Lived.Moved.{moved_past}
 use Rattle.script_meaning.proofs.PollRuns.{Stands, loses_one, moves, passed_join, passes, polls_one, stands_after, with_one}
 use Rattle.script_meaning.proofs.ReceiverRuns.{At, Follows, FollowsImage, IsFollowed, numbers_of, set_image, unchanged}
 use Rattle.script_meaning.proofs.Runs.{Goes, goes_on, goes_one, image_again, image_there, with_image}

@@ -25,7 +25,7 @@ use Rattle.script_meaning.specs.Published.{IfGiven, joins_of}
 use Rattle.receiver.specs.Receiving.{Meets, MeetsFrame, MeetsHeartbeat, MeetsSetup, Opened, OpensImage, PassesBy, Receiver, answer_at, given_at}
 use Rattle.script_meaning.specs.ScriptState.{ScriptState, image_of, world_of}
 use Rattle.script_meaning.proofs.Honest.{IsGivenOut, WasNamed, WasSent}
-use Rattle.receiver.proofs.Lives.Meeting.{data_is, pad_is, same_geometry}
+use Rattle.receiver.proofs.Lived.Meeting.{data_is, pad_is, same_geometry}
 use Rattle.script_meaning.proofs.Runs.{Goes, goes_one, stays}
 
 -- ---- what is known of a receiver

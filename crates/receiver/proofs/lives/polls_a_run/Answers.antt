@@ -1,4 +1,4 @@
-use Rattle.receiver.proofs.Lives.Whole.{polls_a_run}
+use Rattle.receiver.proofs.Lived.Whole.{polls_a_run}
 use Rattle.receiver.proofs.lives.polls_a_run.Goals as goal
 
 pub returns : goal.returns

@@ -12,8 +12,8 @@ use Rattle.receiver.specs.Receiving.{Opened, Receiver}
 use Rattle.receiver.specs.declared.poll_error.PollError.{PollError}
 use Rattle.receiver.specs.declared.poll_error.PollError.TheVariants.{NoImage}
 use Rattle.receiver.specs.Lives.{Stream}
-use Rattle.receiver.proofs.Lives.Following.{Follows, FollowsImage, IsFollowed, follows_with}
-use Rattle.receiver.proofs.Lives.Moved.{heard_on, moved_past}
+use Rattle.receiver.proofs.Lived.Following.{Follows, FollowsImage, IsFollowed, follows_with}
+use Rattle.receiver.proofs.Lived.Moved.{heard_on, moved_past}
 
 -- the messages of an answer
 abbrev pub given_by : Answer → List (List ℕ)

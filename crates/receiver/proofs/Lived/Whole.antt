@@ -5,9 +5,9 @@ use Rattle.model.specs.StreamLaws.{GivesMessages}
 use Rattle.receiver.specs.Receiving.{Opened, Receiver, listening, ticked}
 use Rattle.receiver.specs.Subscribing.{RepresentsSubscriber, Subscribing}
 use Rattle.receiver.specs.Lives.{Act, ActsSo, GivesNone, Gives, Hears, IsHonest, IsRunOf, IsStream, Lives, PollsARun, Stream, Ticks, given_in, heard_in}
-use Rattle.receiver.proofs.Lives.Following.{Follows, FollowsImage, follows_as}
-use Rattle.receiver.proofs.Lives.Meeting.{Places, takes}
-use Rattle.receiver.proofs.Lives.Polled.{polled_none, polled_nowhere, polled_one}
+use Rattle.receiver.proofs.Lived.Following.{Follows, FollowsImage, follows_as}
+use Rattle.receiver.proofs.Lived.Meeting.{Places, takes}
+use Rattle.receiver.proofs.Lived.Polled.{polled_none, polled_nowhere, polled_one}
 
 -- a receiver that the subscriber may be, which is followed
 abbrev IsFollowing : Stream → Subscribing → List (List ℕ) → Type 0

@@ -19,7 +19,7 @@ use Rattle.theory.proofs.Stays.{beat_stays, insert_stays}
 use Rattle.receiver.specs.Receiving.{Meets, MeetsAll, MeetsFrame, MeetsHeartbeat, MeetsSetup, Opened, OpensImage, Receiver, TakesDatagram, answer_at, at_moment, given_at}
 use Rattle.receiver.specs.declared.receiver_core.Outcome.{Outcome}
 use Rattle.receiver.specs.Lives.{IsHonest, IsHonestFrame, IsIts, IsStream, NamesIt, Stream, WasCommitted}
-use Rattle.receiver.proofs.Lives.Following.{Follows, FollowsImage, IsFollowed, follows_as, follows_with, stays_followed}
+use Rattle.receiver.proofs.Lived.Following.{Follows, FollowsImage, IsFollowed, follows_as, follows_with, stays_followed}
 
 -- laws on positions
 pub record Places : Type 0 where
