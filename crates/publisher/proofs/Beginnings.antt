@@ -8,7 +8,7 @@ use Rattle.log_rule.specs.Claims.Handles.{PublisherValue}
 use Rattle.shared_log.specs.Handles.{AreNew, IsNew, LogValue}
 
 pub first_new : (l : LogValue) (ps : List PublisherValue) (p : PublisherValue) → AreNew l 0 ps → p ≡ slice_index_or ps 0 p → IsNew l 0 p
-first_new l [] p new is = let e : 0 ≡ 8 = new in absurd (omega arith)
+first_new l [] p new is = let e : 0 ≡ 8 = new in let none : ⊥ = omega (arith, e) in absurd none
 first_new l (x ∷ ps) p new is = subst (IsNew l 0) (sym is) new.0
 
 none_before : (o : Option (List ℕ)) → prepend_known [] o ≡ o

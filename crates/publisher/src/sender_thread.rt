@@ -3,6 +3,7 @@
 ghost use Rattle.std.specs.Prelude.{◌≡◌, IfErr, IfOk, Option, ℕ};
 ghost use Rattle.agents.specs.LogSenders.{SendsLog};
 ghost use Rattle.peer.specs.Watching.{told};
+ghost use Rattle.sender_meaning.specs.Lives.{Lived};
 ghost use Rattle.publisher.specs.Looking.{calls_of, seen_of};
 ghost use Rattle.publisher.specs.Openings.{ArePasses};
 ghost use Rattle.publisher.specs.Progress.{Ends};
@@ -72,6 +73,7 @@ fn run_cycle<R: Wait + Clock, D: Datagrams>(
     requires agent { SendsLog context.now.state.now.log sender.old.agent }
     requires passes { ArePasses context.now.state.now.log context.now.conductor.now sender.old.passes }
     ensures agent { SendsLog context.now.state.now.log sender.new.agent }
+    ensures lives { Lived sender.old.agent.core sender.new.agent.core }
     ensures passes { ArePasses context.now.state.now.log context.now.conductor.now sender.new.passes }
 {
     let (rt, conductor) = (context.rt, context.conductor);
@@ -102,6 +104,7 @@ fn cycle<R: Wait + Clock, D: Datagrams>(
     requires agent { SendsLog context.now.state.now.log sender.old.agent }
     requires passes { ArePasses context.now.state.now.log context.now.conductor.now sender.old.passes }
     ensures agent { SendsLog context.now.state.now.log sender.new.agent }
+    ensures lives { Lived sender.old.agent.core sender.new.agent.core }
     ensures passes { ArePasses context.now.state.now.log context.now.conductor.now sender.new.passes }
     ensures seen { IfOk result (λ r. r.1 ≡ seen_of (calls_of sender.old.passes.duty.device) sender.new.passes.duty.device) }
 {
@@ -114,7 +117,7 @@ fn cycle<R: Wait + Clock, D: Datagrams>(
 
 /// Sends and keeps until the publisher ends. The answer is how, by the receivers that its device has heard, and by how the
 /// reading had ended then.
-#[tactic(auto, using(crate::proofs::Ends::ends))]
+#[tactic(auto, using(crate::proofs::Ends::ends, sender_meaning::proofs::Cycles::lived_on))]
 pub fn send_all<R: Wait + Clock, D: Datagrams, E: Write>(
     context: &PublisherContext<'_, R>,
     sender: &mut ChannelSender<'_, D>,
@@ -122,7 +125,8 @@ pub fn send_all<R: Wait + Clock, D: Datagrams, E: Write>(
 ) -> Result<Judged, PublishFault>
     requires agent { SendsLog context.now.state.now.log sender.old.agent }
     requires passes { ArePasses context.now.state.now.log context.now.conductor.now sender.old.passes }
-    ensures { IfOk result (λ judged. Ends sender.new.passes.duty.device.watch.attendance context.now.plan.now.linger context.now.plan.now.wait judged) }
+    ensures lives { Lived sender.old.agent.core sender.new.agent.core }
+    ensures ends { IfOk result (λ judged. Ends sender.new.passes.duty.device.watch.attendance context.now.plan.now.linger context.now.plan.now.wait judged) }
 {
     let mut progress = Progress::new();
     let mut idle = IdleStrategy::new();

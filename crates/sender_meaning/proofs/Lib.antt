@@ -3,3 +3,4 @@ mod Honest
 mod Standing
 pub mod Living
 mod Both
+pub mod Cycles

@@ -60,6 +60,11 @@ abbrev pub Lives : LogCore → List Act → LogCore → Type 0
 Lives s [] t = t ≡ s
 Lives s (act ∷ acts) t = (u : LogCore) × ActsSo s act u × Lives u acts t
 
+-- it lived on
+pub record Lived (s t : LogCore) : Type 0 where
+  pub acts : List Act
+  pub lives : Lives s acts t
+
 -- all that it gave out, in order
 abbrev pub given_in : List Act → List (List ℕ)
 given_in [] = []

@@ -1,0 +1,11 @@
+use Rattle.sender_meaning.proofs.Cycles.{agent_lived}
+use Rattle.publisher.proofs.sender_thread.run_cycle.Goals as goal
+
+pub returns-in_err-cycle-clause-lives : goal.returns-in_err-cycle-clause-lives
+returns-in_err-cycle-clause-lives g c = agent_lived _ _ _ _ _ _ _ _ _ c.cycle.ensures.cycle
+
+pub returns-then-kept-clause-lives : goal.returns-then-kept-clause-lives
+returns-then-kept-clause-lives g c = agent_lived _ _ _ _ _ _ _ _ _ c.cycle.ensures.cycle
+
+pub returns-else-kept-clause-lives : goal.returns-else-kept-clause-lives
+returns-else-kept-clause-lives g c = agent_lived _ _ _ _ _ _ _ _ _ c.cycle.ensures.cycle

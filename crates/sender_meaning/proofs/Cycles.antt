@@ -1,0 +1,41 @@
+-- A cycle of a sender's agent is a part of its core's life.
+use Rattle.std.proofs.Common.{◌≡◌, ◌⊎◌, ℕ, List, [], ◌∷◌, ◌++◌, Bool, Result, Ok, Err, inl, inr, refl, sym, subst}
+use Rattle.conductor.specs.Parties.{ClientSeen}
+use Rattle.endpoint.specs.Devices.{Device}
+use Rattle.endpoint.specs.declared.device_error.DeviceError.{DeviceError}
+use Rattle.flow_control.specs.Unicast.{Unicast}
+use Rattle.shared_log.specs.declared.reader.source.LogFrames.{LogFrames}
+use Rattle.agents.specs.Cycles.{Cycle, Fault, HearsAll, TicksBehind}
+use Rattle.agents.specs.Duties.{Agent, AgentCycle}
+use Rattle.sender_meaning.specs.Lives.{Act, Hears, HearsSo, Lived, Lives, LogCore, Ticks, TicksSo}
+
+lives_on : (s m t : LogCore) (xs ys : List Act) → Lives s xs m → Lives m ys t → Lives s (xs ++ ys) t
+lives_on s m t [] ys first then = subst (λ (z : LogCore). Lives z ys t) first then
+lives_on s m t (x ∷ xs) ys first then = (first.0, first.1, lives_on first.0 m t xs ys first.2 then)
+
+pub lived_same : (s : LogCore) → Lived s s
+lived_same s = record { acts = []; lives = refl }
+
+pub lived_on : (s m t : LogCore) → Lived s m → Lived m t → Lived s t
+lived_on s m t a b = record { acts = a.acts ++ b.acts; lives = lives_on s m t a.acts b.acts a.lives b.lives }
+
+all_heard : (now : ℕ) (s t : LogCore) (datagrams given : List (List ℕ)) → HearsAll HearsSo now s datagrams t given → Lived s t
+all_heard now s t [] given all = record { acts = []; lives = all.0 }
+all_heard now s t (d ∷ ds) given all = let rest = all_heard now all.0 t ds all.2 all.4 in record { acts = Hears now d all.1 ∷ rest.acts; lives = (all.0, all.3, rest.lives) }
+
+ticked : (now : ℕ) (s t : LogCore) (given : List (List ℕ)) → TicksSo s now t given → Lived s t
+ticked now s t given h = record { acts = Ticks now given ∷ []; lives = (t, h, refl) }
+
+cycle_lived : (now : ℕ) (tells : Type 0) (s t : LogCore) (d e : Device) (busy : Bool) → Cycle HearsSo TicksSo now tells s d busy t e → Lived s t
+cycle_lived now tells s t d e busy c = lived_on s c.middle t (all_heard now s c.middle c.heard c.answers c.all_heard) (ticked now c.middle t c.given c.ticked)
+
+fault_lived : (now : ℕ) (tells : Type 0) (why : DeviceError) (s t : LogCore) (d e : Device) → Fault HearsSo TicksSo now tells why s d t e → Lived s t
+fault_lived now tells why s t d e f = lived_on s f.middle t (all_heard now s f.middle f.heard f.answers f.all_heard) (behind f.ticked)
+  where
+    behind : (((t ≡ f.middle) × (f.given ≡ [])) ⊎ TicksBehind TicksSo now f.heard f.lost f.answers f.given f.sent f.middle d t e) → Lived f.middle t
+    behind (inl none) = record { acts = []; lives = none.0 }
+    behind (inr then) = ticked now f.middle t f.given then.ticked
+
+pub agent_lived : (now : ℕ) (tells : Type 0) (a b : Agent LogFrames Unicast) (c after : ClientSeen) (d e : Device) (result : Result Bool DeviceError) → AgentCycle HearsSo TicksSo now tells a c d result b after e → Lived a.core b.core
+agent_lived now tells a b c after d e (Ok busy) h = cycle_lived now tells a.core b.core d e busy h.cycle
+agent_lived now tells a b c after d e (Err why) h = fault_lived now tells why a.core b.core d e h.fault
