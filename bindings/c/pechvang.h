@@ -217,7 +217,8 @@ int32_t pv_open_subscriber(const pv_subscription *config, pv_subscriber *subscri
    it may be handed in again. */
 int32_t pv_receive(pv_subscriber *subscriber, const uint8_t *datagram, size_t length, uint64_t now, int32_t *outcomes, size_t size, size_t *frames);
 
-/* PV_FRAME: a whole message stands at the front of the room, which has to hold the greatest. PV_DONE: none is whole yet. */
+/* PV_FRAME: a whole message stands at the front of the room, which has to hold the greatest, else nothing is read. PV_DONE: none
+   is whole yet. After PV_MESSAGE_TOO_LONG and PV_NO_MEMORY that message is passed. */
 int32_t pv_poll(pv_subscriber *subscriber, uint8_t *room, size_t size, size_t *length);
 
 /* The reader becomes a sender of its log, from where it stands on, and its handle is empty then: to one receiver (0), or to a

@@ -2,7 +2,7 @@
 
      udp_publisher ADDRESS PORT SESSION
 
-   It ends once all is sent, and no subscriber was heard for a second. */
+   It ends with status 0 once a subscriber has told that it has read all, and with 3 where it was silent for five seconds before. */
 #include "pechvang.h"
 #include <arpa/inet.h>
 #include <fcntl.h>
@@ -52,18 +52,25 @@ static void send_all(pv_sender *sender, int to) {
     must(code, PV_DONE, "pv_sender_next");
 }
 
-/* Hears what the socket has. Whether a status message came. */
-static bool hear_all(pv_sender *sender, int from) {
+/* The four bytes of a frame at a place, the lowest first. */
+static uint64_t word(const uint8_t *frame, int place) {
+    return frame[place] | (uint64_t)frame[place + 1] << 8 | (uint64_t)frame[place + 2] << 16 | (uint64_t)frame[place + 3] << 24;
+}
+
+/* Hears what the socket has. The moment of the last status message, and the greatest position that one has told. */
+static void hear_all(pv_sender *sender, int from, uint64_t *heard, uint64_t *read) {
     uint8_t datagram[65536];
     ssize_t length;
-    bool heard = false;
     while ((length = recv(from, datagram, sizeof datagram, 0)) >= 0) {
         int32_t outcome;
         must(pv_hear(sender, datagram, (size_t)length, now(), &outcome), PV_DONE, "pv_hear");
-        heard = heard || outcome == PV_STATUS;
+        if (outcome == PV_STATUS) {
+            uint64_t position = word(datagram, 16) * TERM + word(datagram, 20);
+            *heard = now();
+            if (position > *read) *read = position;
+        }
         send_all(sender, from);
     }
-    return heard;
 }
 
 /* The next line without its end, or false at the input's end. One that is too long is a fault. */
@@ -98,25 +105,27 @@ int main(int count, char **words) {
     static uint8_t line[GREATEST];
     size_t length;
     bool more = read_line(line, &length);
-    uint64_t heard = 0;
-    while (more || heard == 0 || now() < heard + SECOND) {
+    uint64_t heard = 0, read = 0, end = 0;
+    while ((more || read < end) && (heard == 0 || now() < heard + 5ull * SECOND)) {
         uint64_t position;
         int32_t code = PV_DONE;
         must(pv_clean_and_limit(&keeper, &position), PV_DONE, "pv_clean_and_limit");
         for (int lines = 0; more && lines < 64 && code == PV_DONE; lines++) {
             code = pv_offer(&publisher, line, length, &position);
-            if (code == PV_DONE) more = read_line(line, &length);
-            else if (code < PV_ADMIN_ACTION) must(code, PV_DONE, "pv_offer");
+            if (code == PV_DONE) {
+                end = position;
+                more = read_line(line, &length);
+            } else if (code < PV_ADMIN_ACTION) must(code, PV_DONE, "pv_offer");
         }
         must(pv_sender_tick(&sender, now()), PV_DONE, "pv_sender_tick");
         send_all(&sender, to);
         struct pollfd waits = {.fd = to, .events = POLLIN};
-        if (poll(&waits, 1, more && code != PV_BACK_PRESSURED ? 0 : 1) > 0 && hear_all(&sender, to)) heard = now();
+        if (poll(&waits, 1, more && code != PV_BACK_PRESSURED ? 0 : 1) > 0) hear_all(&sender, to, &heard, &read);
     }
     pv_free_sender(&sender);
     pv_free_publisher(&publisher);
     pv_free_keeper(&keeper);
     pv_free_log(&log);
     close(to);
-    return 0;
+    return more || read < end ? 3 : 0;
 }
