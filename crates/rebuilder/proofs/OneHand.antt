@@ -18,6 +18,7 @@ use Rattle.image.specs.Stored.{meant}
 use Rattle.image.specs.declared.answer.Insert.{Insert}
 use Rattle.image.specs.declared.answer.Insert.TheVariants as answers
 use Rattle.image_rule.specs.declared.view.Frame.{Frame}
+use Rattle.image_rule.specs.declared.view.Key.{Key}
 use Rattle.image_rule.specs.declared.view.View.{View}
 use Rattle.image_rule.specs.Frames as units
 use Rattle.image_rule.specs.Frames.{IsContent, placed_of}
@@ -25,7 +26,7 @@ use Rattle.image_rule.proofs.Units.{among_placed, placed_among}
 use Rattle.shared_image.specs.Handles.{ImageWords, IsReaderOf, ReaderSeat, position_of}
 use Rattle.shared_image.specs.Reading.{Advances, FindsNone, ReadsFrame}
 use Rattle.rebuilder.specs.Meeting.{AreAlone, Meets, StayAlone, number_of}
-use Rattle.rebuilder.specs.Seen.{Inserting, Inserts, Looked, join_of}
+use Rattle.rebuilder.specs.Seen.{Inserting, Inserts, IsInserterOf, Looked, join_of}
 use Rattle.rebuilder.proofs.Judged.{head_shown}
 
 one_of : (xs : List ℕ) (p : ℕ) → length xs ≡ 1 → slice_index xs 0 ≡ p → xs ≡ p ∷ []
@@ -93,6 +94,18 @@ module _ (image : ImageWords) (i : Inserting) (r : ReaderSeat) (alone : AreAlone
         };
         stays = stands;
         inserter = after;
+      }
+
+  pub alone_after : (m j : Inserting) (q : ReaderSeat) → GoesOn i m → IsInserterOf image m → Meets m r j q → IsReaderOf image q → AreAlone image j q
+  alone_after m j q l fits met of =
+      let key : j.key ≡ i.key = ap (λ (x : Inserting). x.key) met.inserter ∙ fits.key ∙ sym alone.inserter.key in
+      let stands : position_of q ≡ p = ap (λ (u : ℕ). 32 * u) met.stands in
+      record {
+        inserter = record { of = ap (λ (x : Inserting). x.of) met.inserter ∙ fits.of; key = ap (λ (x : Inserting). x.key) met.inserter ∙ fits.key };
+        reader = of;
+        one = ap (λ (k : Key). k.consumers) key ∙ alone.one;
+        number = met.number ∙ alone.number;
+        met = ap (λ (x : Inserting). x.seen) met.inserter ∙ set_there m.seen (seen_there m j q l met) ∙ ap (λ (u : ℕ). u ∷ []) (sym stands);
       }
 
   -- ---- a meeting alone

@@ -35,6 +35,7 @@ pub fn insert_alone(
     requires unit { IsUnit position }
     requires frame { IsFrame (wire frame.now) }
     requires of_stream { IsOfStream frame.now }
+    ensures alone { AreAlone image.now inserter.new reader.new }
     ensures answer { meant result ≡ insert_answer_at (geometry_of inserter.old) (map head_of inserter.old.stored) (position_of reader.old) inserter.old.window position (is_padding (stream_frame frame.now)) (frame_length (stream_frame frame.now)) }
     ensures stored { result ≡ Insert.Stored → (p : ℕ) → position ≡ pos p → InsertsAlone image.now inserter.old reader.old (record { at = p; frame = stream_frame frame.now }) inserter.new reader.new }
     ensures others { (result ≡ Insert.Stored → ⊥) → StayAlone image.now inserter.old reader.old inserter.old.stored inserter.old.high inserter.new reader.new }
@@ -53,6 +54,7 @@ pub fn heartbeat_alone(
 ) -> bool
     requires alone { AreAlone image.now inserter.old reader.old }
     requires unit { IsUnit position }
+    ensures alone { AreAlone image.now inserter.new reader.new }
     ensures answer { result ≡ accepts (geometry_of inserter.old) inserter.old.high (position_of reader.old) position }
     ensures raised { result ≡ true → (p : ℕ) → position ≡ pos p → StayAlone image.now inserter.old reader.old inserter.old.stored p inserter.new reader.new }
     ensures refused { result ≡ false → StayAlone image.now inserter.old reader.old inserter.old.stored inserter.old.high inserter.new reader.new }
