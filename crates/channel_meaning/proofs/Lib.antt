@@ -1,1 +1,2 @@
 mod Streams
+mod Both

@@ -1,14 +1,20 @@
--- The stream that a publisher's pass has published.
-use Rattle.std.specs.Prelude.{◌≡◌, ℕ, true, false, List, [], ◌∷◌, length, map}
+-- The stream that a publisher's pass has published, and what goes through it.
+use Rattle.std.specs.Prelude.{◌≡◌, ◌⊎◌, ℕ, true, false, List, [], ◌∷◌, length, map, Option}
+use Rattle.std.specs.List.{AllByRecursion}
 use Rattle.theory.specs.Bytes.{Identity}
-use Rattle.theory.specs.Entry.{Entry, pieces_of}
+use Rattle.theory.specs.Entry.{Entry, committed, pieces_of}
 use Rattle.theory.specs.Messages.{messages}
-use Rattle.theory.specs.Placed.{Pad}
+use Rattle.theory.specs.Placed.{AllAmong, Among, Pad}
 use Rattle.theory.specs.Position.{cuts_of}
+use Rattle.theory.specs.Wire.{SETUP, spelling}
 use Rattle.publication.specs.declared.pass.Pass.{Pass}
 use Rattle.offering.specs.Published.{Publishes, Taken}
 use Rattle.offering.specs.Published.Taken.{Message, Padding}
+use Rattle.options.specs.declared.ends.plans.SubscribePlan.{SubscribePlan}
+use Rattle.receiver_meaning.specs.Lives as meant
 use Rattle.receiver_meaning.specs.Lives.{IsStream, Stream}
+use Rattle.sender_meaning.specs.Lives.{Act, IsSpelled, Lives, LogCore, SendsStream, given_in, source_in}
+use Rattle.subscriber.specs.Living.{Life, WritesLives}
 
 -- a claim with all its frames, as an entry of its log
 abbrev pub entry_of : Identity → ℕ → Taken → Entry
@@ -26,3 +32,31 @@ abbrev pub PublishesItsStream : Type 0
 PublishesItsStream =
     (p q : Pass) (tail to : ℕ) (read : List (List ℕ)) (h : Publishes p tail read q to) (x : Stream)
     → IsStream x → IsItsStream p h.taken x → messages x.start x.tail x.entries ≡ read
+
+-- ---- both ends
+
+-- this image's SETUP and all that its subscriber was handed are among these datagrams, in any order, and each any number of times
+pub record IsFromIt (x : Stream) (sent : List (List ℕ)) (l : Life) : Type 0 where
+  pub session : l.setup.session ≡ x.identity.session
+  pub stream : l.setup.stream ≡ x.identity.stream
+  pub setup : Among (spelling (SETUP l.setup)) sent
+  pub heard : AllByRecursion (λ bytes. Among bytes sent) (meant.heard_in l.acts)
+
+-- none, or those of the stream from a position to another
+abbrev pub IsRun : Stream → List (List ℕ) → Type 0
+IsRun x given = (given ≡ []) ⊎ ((join at : ℕ) × (given ≡ messages join at x.entries))
+
+-- the messages of the stream are those that were read, and what each image of a subscriber gave is a run of the stream
+pub record GoesThrough (x : Stream) (read : List (List ℕ)) (images : List Life) : Type 0 where
+  pub published : messages x.start x.tail x.entries ≡ read
+  pub runs : AllByRecursion (λ l. IsRun x (meant.given_in l.acts)) images
+
+-- where a pass has published what was read, a sender of that stream lives, and each image of a subscriber was handed nothing but
+-- what that sender gave out, what is written is what these images gave, one after the other: runs of what was read
+abbrev pub WritesWhatIsRead : Type 0
+WritesWhatIsRead =
+    (x : Stream) → IsStream x → IsSpelled x
+    → (p q : Pass) (tail to : ℕ) (read : List (List ℕ)) (h : Publishes p tail read q to) → IsItsStream p h.taken x
+    → (s t : LogCore) (sent : List Act) → SendsStream x s → Lives s sent t → AllAmong (committed x.entries) (source_in t.reads).frames
+    → (plan : SubscribePlan) (before after : Option (List ℕ)) (count : ℕ) (w : WritesLives plan before count after) → AllByRecursion (IsFromIt x (given_in sent)) w.images
+    → GoesThrough x read w.images
