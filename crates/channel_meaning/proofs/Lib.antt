@@ -1,2 +1,3 @@
-mod Streams
+pub mod Streams
+mod Runs
 mod Both

@@ -1,26 +1,23 @@
 -- The messages of a stream that one pass has published.
-use Rattle.std.proofs.Common.{◌≡◌, ◌∙◌, ℕ, ◌+◌, ◌≤◌, ◌&&◌, not, nat_eq, nat_le, Bool, true, false, List, [], ◌∷◌, ◌++◌, length, map, refl, sym, ap, subst, cond, arith}
-use Rattle.std.specs.List.{AllByRecursion, filter, flat_map}
+use Rattle.std.proofs.Common.{◌≡◌, ◌∙◌, ℕ, ◌≤◌, ◌&&◌, not, nat_eq, nat_le, true, false, List, [], ◌∷◌, length, map, refl, ap, subst, arith}
+use Rattle.std.specs.List.{filter, flat_map}
 use Rattle.std.proofs.lemmas.Bool.{cond-false, cond-true, eq-eqb, le-leb}
 use Rattle.theory.specs.Bytes.{Identity}
-use Rattle.theory.specs.Entry.{Entry, entry_end, pieces_of}
-use Rattle.theory.specs.Messages.{is_between, is_whole, message_of, messages}
-use Rattle.theory.specs.Placed.{Data, Frame, Pad, payload_of}
+use Rattle.theory.specs.Entry.{Entry, entry_end}
+use Rattle.theory.specs.Messages.{is_between, message_of, messages}
 use Rattle.theory.specs.Position.{IsGeometry, cuts_of}
 use Rattle.theory.specs.Tiling.{Tiles}
 use Rattle.theory.proofs.Frames.{tiles_le}
 use Rattle.theory.proofs.Pieces.{pieces_join}
 use Rattle.model.proofs.Commits.{payload_cuts, pieces_length}
-use Rattle.publication.specs.declared.pass.Pass.{Pass}
-use Rattle.offering.specs.Published.{Publishes, Taken, messages_in}
+use Rattle.offering.specs.Published.{Taken, messages_in}
 use Rattle.offering.specs.Published.Taken.{Message, Padding}
-use Rattle.receiver_meaning.specs.Lives.{IsStream, Stream}
 use Rattle.channel_meaning.specs.Streams.{PublishesItsStream, entry_of}
 
-messages_skip : (c q : ℕ) (e : Entry) (es : List Entry) → is_between c q e ≡ false → messages c q (e ∷ es) ≡ messages c q es
+pub messages_skip : (c q : ℕ) (e : Entry) (es : List Entry) → is_between c q e ≡ false → messages c q (e ∷ es) ≡ messages c q es
 messages_skip c q e es f = ap (map message_of) (cond-false (is_between c q e) (e ∷ filter (is_between c q) es) (filter (is_between c q) es) f)
 
-messages_take : (c q : ℕ) (e : Entry) (es : List Entry) → is_between c q e ≡ true → messages c q (e ∷ es) ≡ message_of e ∷ messages c q es
+pub messages_take : (c q : ℕ) (e : Entry) (es : List Entry) → is_between c q e ≡ true → messages c q (e ∷ es) ≡ message_of e ∷ messages c q es
 messages_take c q e es t = ap (map message_of) (cond-true (is_between c q e) (e ∷ filter (is_between c q) es) (filter (is_between c q) es) t)
 
 -- an entry that is whole, and stands between two positions
@@ -60,5 +57,5 @@ publishes_its_stream p q tail to read h x is its =
     let i = p.identity in
     let legal : IsGeometry i.geometry = subst (λ (j : Identity). IsGeometry j.geometry) its.identity is.geometry in
     let tiles : Tiles i.geometry.term_length x.start x.tail (map (entry_of i p.number) h.taken) =
-        subst (λ (es : List Entry). Tiles i.geometry.term_length x.start x.tail es) its.entries (subst (λ (j : Identity). Tiles j.geometry.term_length x.start x.tail x.entries) its.identity is.tiles) in
+    subst (λ (es : List Entry). Tiles i.geometry.term_length x.start x.tail es) its.entries (subst (λ (j : Identity). Tiles j.geometry.term_length x.start x.tail x.entries) its.identity is.tiles) in
     ap (λ (es : List Entry). messages x.start x.tail es) its.entries ∙ all_messages i p.number x.start x.start x.tail h.taken legal tiles (omega arith) ∙ h.are

@@ -1,5 +1,5 @@
 -- The stream that a publisher's pass has published, and what goes through it.
-use Rattle.std.specs.Prelude.{◌≡◌, ◌⊎◌, ℕ, true, false, List, [], ◌∷◌, length, map, Option}
+use Rattle.std.specs.Prelude.{◌≡◌, ◌≤◌, ℕ, true, false, List, [], ◌∷◌, ◌++◌, length, map, Option, None, Some}
 use Rattle.std.specs.List.{AllByRecursion}
 use Rattle.theory.specs.Bytes.{Identity}
 use Rattle.theory.specs.Entry.{Entry, committed, pieces_of}
@@ -11,10 +11,12 @@ use Rattle.publication.specs.declared.pass.Pass.{Pass}
 use Rattle.offering.specs.Published.{Publishes, Taken}
 use Rattle.offering.specs.Published.Taken.{Message, Padding}
 use Rattle.options.specs.declared.ends.plans.SubscribePlan.{SubscribePlan}
+use Rattle.receiver.specs.Receiving.{Opened, Receiver}
+use Rattle.receiver.specs.Subscribing.{RepresentsSubscriber, Subscribing}
 use Rattle.receiver_meaning.specs.Lives as meant
 use Rattle.receiver_meaning.specs.Lives.{IsStream, Stream}
 use Rattle.sender_meaning.specs.Lives.{Act, IsSpelled, Lives, LogCore, SendsStream, given_in, source_in}
-use Rattle.subscriber.specs.Living.{Life, WritesLives}
+use Rattle.subscriber.specs.Living.{IsLife, Life, WritesLives}
 
 -- a claim with all its frames, as an entry of its log
 abbrev pub entry_of : Identity → ℕ → Taken → Entry
@@ -42,14 +44,32 @@ pub record IsFromIt (x : Stream) (sent : List (List ℕ)) (l : Life) : Type 0 wh
   pub setup : Among (spelling (SETUP l.setup)) sent
   pub heard : AllByRecursion (λ bytes. Among bytes sent) (meant.heard_in l.acts)
 
--- none, or those of the stream from a position to another
-abbrev pub IsRun : Stream → List (List ℕ) → Type 0
-IsRun x given = (given ≡ []) ⊎ ((join at : ℕ) × (given ≡ messages join at x.entries))
+-- these stand among all of them in one piece, with others before and behind; at the start nothing stands before them
+pub record StandsIn (all given : List (List ℕ)) (AtStart : Type 0) : Type 0 where
+  pub before : List (List ℕ)
+  pub behind : List (List ℕ)
+  pub parts : all ≡ before ++ (given ++ behind)
+  pub first : AtStart → before ≡ []
 
--- the messages of the stream are those that were read, and what each image of a subscriber gave is a run of the stream
-pub record GoesThrough (x : Stream) (read : List (List ℕ)) (images : List Life) : Type 0 where
+-- by where the image joined
+abbrev pub StandsFrom : Stream → List (List ℕ) → Option Opened → List (List ℕ) → Type 0
+StandsFrom x read None given = given ≡ []
+StandsFrom x read (Some o) given = StandsIn read given (o.image.join ≤ x.start)
+
+-- what an image gave are the stream's messages from its join to where its consumer stands, and a run of what was read, and its
+-- beginning where it joined at the stream's start
+pub record GivesRun (x : Stream) (read : List (List ℕ)) (plan : SubscribePlan) (l : Life) : Type 0 where
+  pub end : Subscribing
+  pub life : IsLife plan l end
+  pub receiver : Receiver
+  pub shown : RepresentsSubscriber end receiver
+  pub run : meant.IsRunOf x receiver.image (meant.given_in l.acts)
+  pub stands : StandsFrom x read receiver.image (meant.given_in l.acts)
+
+-- the messages of the stream are those that were read, and what each image of a subscriber gave is a run of them
+pub record GoesThrough (x : Stream) (read : List (List ℕ)) (plan : SubscribePlan) (images : List Life) : Type 0 where
   pub published : messages x.start x.tail x.entries ≡ read
-  pub runs : AllByRecursion (λ l. IsRun x (meant.given_in l.acts)) images
+  pub runs : AllByRecursion (GivesRun x read plan) images
 
 -- where a pass has published what was read, a sender of that stream lives, and each image of a subscriber was handed nothing but
 -- what that sender gave out, what is written is what these images gave, one after the other: runs of what was read
@@ -59,4 +79,4 @@ WritesWhatIsRead =
     → (p q : Pass) (tail to : ℕ) (read : List (List ℕ)) (h : Publishes p tail read q to) → IsItsStream p h.taken x
     → (s t : LogCore) (sent : List Act) → SendsStream x s → Lives s sent t → AllAmong (committed x.entries) (source_in t.reads).frames
     → (plan : SubscribePlan) (before after : Option (List ℕ)) (count : ℕ) (w : WritesLives plan before count after) → AllByRecursion (IsFromIt x (given_in sent)) w.images
-    → GoesThrough x read w.images
+    → GoesThrough x read plan w.images

@@ -3,8 +3,8 @@
 //! Where the claims of a publisher's pass, each committed whole, are the entries of a stream, in their order, the messages of
 //! that stream are those that were read from its input, in their order (`publishes_its_stream`). Where besides a sender of
 //! that stream lives, and each image of a subscriber was handed nothing but datagrams that this sender gave out, in any order
-//! and each any number of times, what `subscribe` writes is what these images gave, each a run of the stream's messages
-//! (`writes_what_is_read`).
+//! and each any number of times, what `subscribe` writes is what these images gave, each a run of what was read, and its
+//! beginning where the image joined at the start (`writes_what_is_read`).
 //!
 //! That the claims tile a stream is a premise, and that the sender's reader knows no frames but its own: both are what the log's
 //! rule says of a log with one publisher, and no contract of a pass alone. That a device carries what it was given is another.
