@@ -11,6 +11,7 @@ ghost use Rattle.peer.specs.declared.ending.Ending.TheVariants.{Whole};
 ghost use Rattle.offering.specs.Ended.{EndsInput};
 ghost use Rattle.publisher.specs.Beginnings.{ArePublisherParts};
 ghost use Rattle.publisher.specs.Ended.{AllArrived, PublishesAll, reading_left};
+ghost use Rattle.publisher.specs.Openings.{ArePasses};
 
 use crate::beginning::{PublisherParts, publisher_parts};
 use crate::fault::PublishFault;
@@ -60,22 +61,60 @@ fn opened<'a, D: Drop>(
     Ok(ChannelSender { agent, passes })
 }
 
+/// What the thread that reads is given: what it shares, and its publisher and input.
+#[derive(Drop)]
+struct Offering<I> {
+    state: Arc<OfferingState>,
+    publisher: Publisher,
+    input: I,
+}
+
 /// The thread that reads.
 fn started<R: Threads + Clock + Send + Copy + 'static, I: BufRead + Send + Drop + 'static>(
     rt: &R,
     alloc: Global,
     plan: &PublishPlan,
-    state: Arc<OfferingState>,
-    input: I,
-    publisher: Publisher,
+    offering: Offering<I>,
 ) -> Result<Reader<I>, PublishFault>
-    requires { IsDone (arc_value state).log publisher }
-    ensures { IfOk result (λ r. (r.handle.promise.form ≡ plan.now.end.form) × (r.handle.promise.log.value ≡ (arc_value state).log) × (r.handle.promise.input.value ≡ input) × (r.handle.promise.publisher.value ≡ publisher)) }
+    requires { IsDone (arc_value offering.state).log offering.publisher }
+    ensures { IfOk result (λ r. (r.handle.promise.form ≡ plan.now.end.form) × (r.handle.promise.log.value ≡ (arc_value offering.state).log) × (r.handle.promise.input.value ≡ offering.input) × (r.handle.promise.publisher.value ≡ offering.publisher)) }
 {
+    let Offering {
+        state,
+        publisher,
+        input,
+    } = offering;
     match start_reader(rt, alloc, plan.end.form, state, input, publisher) {
         Some(reader) => Ok(reader),
         None => Err(PublishFault::Failed(DeviceError::Device)),
     }
+}
+
+/// Runs over what the threads share: the sender is opened before the other thread is started.
+fn publish_shared<
+    R: Threads + Wait + Clock + Send + Copy + 'static,
+    I: BufRead + Send + Drop + 'static,
+    D: Datagrams + Drop,
+    E: Write,
+>(
+    alloc: Global,
+    context: &PublisherContext<'_, R>,
+    reader: LogReader,
+    passes: SenderPasses<D>,
+    offering: Offering<I>,
+    errors: &mut E,
+) -> Result<Published<I>, PublishFault>
+    requires reader { IsNewReader context.now.state.now.log 0 reader }
+    requires start { IsStart context.now.state.now.log.identity.geometry context.now.state.now.log.start }
+    requires consumers { 0 < context.now.state.now.log.consumers }
+    requires passes { ArePasses context.now.state.now.log context.now.conductor.now passes }
+    requires offering { ((arc_value offering.state).log ≡ context.now.state.now.log) × IsDone context.now.state.now.log offering.publisher }
+    ensures input { IfOk result (λ e. IfSome e.input (λ left. EndsInput context.now.plan.now.end.form context.now.state.now.log (I.remaining offering.input) (I.remaining left.input) offering.publisher.pass left.publisher left.reading)) }
+    ensures whole { IfOk result (λ e. e.ending ≡ Ok Whole → AllArrived (reading_left e.input) e.attendance) }
+{
+    let mut sender = opened(alloc, context.state, reader, passes)?;
+    let reading = started(context.rt, alloc, context.plan, offering)?;
+    Ok(run(context, &mut sender, reading, errors))
 }
 
 /// Runs with all that a publisher begins with, over any device.
@@ -105,8 +144,6 @@ pub fn publish_over<
         passes,
     } = parts;
     let (ours, theirs) = shared(alloc, state)?;
-    let mut sender = opened(alloc, &ours, reader, passes)?;
-    let reading = started(rt, alloc, plan, theirs, input, publisher)?;
     let context = PublisherContext {
         rt,
         plan,
@@ -114,7 +151,12 @@ pub fn publish_over<
         conductor: &conductor,
         began,
     };
-    Ok(run(&context, &mut sender, reading, errors))
+    let offering = Offering {
+        state: theirs,
+        publisher,
+        input,
+    };
+    publish_shared(alloc, &context, reader, passes, offering, errors)
 }
 
 /// The device along a route.
