@@ -1,27 +1,121 @@
 //! A publisher from its begin to its end.
 
-ghost use Rattle.std.specs.Prelude.{◌≡◌, ◌⊎◌, IfErr, IfOk, IfSome, Ok};
+ghost use Rattle.std.specs.Prelude.{◌≡◌, ◌⊎◌, ◌<◌, IfErr, IfOk, IfSome, Ok};
+ghost use Rattle.std.specs.Arc.{arc_value};
+ghost use Rattle.std.specs.Io.Buffered.{reader_remaining};
+ghost use Rattle.position.specs.Openings.{IsStart};
+ghost use Rattle.shared_log.specs.Books.{IsDone};
+ghost use Rattle.shared_log.specs.Parts.{IsNewReader};
+ghost use Rattle.agents.specs.LogSenders.{SendsLog};
 ghost use Rattle.peer.specs.declared.ending.Ending.TheVariants.{Whole};
 ghost use Rattle.offering.specs.Ended.{EndsInput};
 ghost use Rattle.publisher.specs.Beginnings.{ArePublisherParts};
 ghost use Rattle.publisher.specs.Ended.{AllArrived, PublishesAll, reading_left};
+ghost use Rattle.publisher.specs.Openings.{ArePasses};
 
 use crate::beginning::{PublisherParts, publisher_parts};
 use crate::fault::PublishFault;
 use crate::publisher_context::PublisherContext;
-use crate::sender_thread::ChannelSender;
+use crate::sender_thread::{ChannelSender, SenderPasses};
 use crate::two_threads::{Published, run};
 use agents::{Began, open_sender};
 use endpoint::{Datagrams, DeviceError, Route, UdpDevice};
-use offering::start_reader;
+use offering::{OfferingState, Reader, start_reader};
 use options::PublishPlan;
 use peer::Ending;
+use shared_log::{LogReader, Publisher};
 use std::alloc::Global;
 use std::io::{BufRead, BufReader, Read, Write};
 use std::net::Net;
 use std::sync::{Arc, Wait};
 use std::thread::Threads;
 use std::time::Clock;
+
+/// What the threads share, once for each.
+fn shared(
+    alloc: Global,
+    state: OfferingState,
+) -> Result<(Arc<OfferingState>, Arc<OfferingState>), PublishFault>
+    ensures { IfOk result (λ s. (arc_value s.0 ≡ state) × (arc_value s.1 ≡ state)) }
+{
+    let Ok(ours) = Arc::new(alloc, state) else {
+        return Err(PublishFault::Failed(DeviceError::Memory));
+    };
+    let theirs = Arc::try_clone(&ours)?;
+    Ok((ours, theirs))
+}
+
+/// What sends and keeps, from the log's start.
+fn opened<'a, D: Drop>(
+    alloc: Global,
+    state: &'a OfferingState,
+    reader: LogReader,
+    passes: SenderPasses<D>,
+) -> Result<ChannelSender<'a, D>, PublishFault>
+    requires reader { IsNewReader state.now.log 0 reader }
+    requires start { IsStart state.now.log.identity.geometry state.now.log.start }
+    requires consumers { 0 < state.now.log.consumers }
+    ensures { IfOk result (λ s. SendsLog state.now.log s.agent × (s.passes ≡ passes)) }
+{
+    let agent = open_sender(alloc, &state.log, reader)?;
+    Ok(ChannelSender { agent, passes })
+}
+
+/// What the thread that reads is given: what it shares, and its publisher and input.
+#[derive(Drop)]
+struct Offering<I> {
+    state: Arc<OfferingState>,
+    publisher: Publisher,
+    input: I,
+}
+
+/// The thread that reads.
+fn started<R: Threads + Clock + Send + Copy + 'static, I: BufRead + Send + Drop + 'static>(
+    rt: &R,
+    alloc: Global,
+    plan: &PublishPlan,
+    offering: Offering<I>,
+) -> Result<Reader<I>, PublishFault>
+    requires { IsDone (arc_value offering.state).log offering.publisher }
+    ensures { IfOk result (λ r. (r.handle.promise.form ≡ plan.now.end.form) × (r.handle.promise.log.value ≡ (arc_value offering.state).log) × (r.handle.promise.input.value ≡ offering.input) × (r.handle.promise.publisher.value ≡ offering.publisher)) }
+{
+    let Offering {
+        state,
+        publisher,
+        input,
+    } = offering;
+    match start_reader(rt, alloc, plan.end.form, state, input, publisher) {
+        Some(reader) => Ok(reader),
+        None => Err(PublishFault::Failed(DeviceError::Device)),
+    }
+}
+
+/// Runs over what the threads share: the sender is opened before the other thread is started.
+fn publish_shared<
+    R: Threads + Wait + Clock + Send + Copy + 'static,
+    I: BufRead + Send + Drop + 'static,
+    D: Datagrams + Drop,
+    E: Write,
+>(
+    alloc: Global,
+    context: &PublisherContext<'_, R>,
+    reader: LogReader,
+    passes: SenderPasses<D>,
+    offering: Offering<I>,
+    errors: &mut E,
+) -> Result<Published<I>, PublishFault>
+    requires reader { IsNewReader context.now.state.now.log 0 reader }
+    requires start { IsStart context.now.state.now.log.identity.geometry context.now.state.now.log.start }
+    requires consumers { 0 < context.now.state.now.log.consumers }
+    requires passes { ArePasses context.now.state.now.log context.now.conductor.now passes }
+    requires offering { ((arc_value offering.state).log ≡ context.now.state.now.log) × IsDone context.now.state.now.log offering.publisher }
+    ensures input { IfOk result (λ e. IfSome e.input (λ left. EndsInput context.now.plan.now.end.form context.now.state.now.log (I.remaining offering.input) (I.remaining left.input) offering.publisher.pass left.publisher left.reading)) }
+    ensures whole { IfOk result (λ e. e.ending ≡ Ok Whole → AllArrived (reading_left e.input) e.attendance) }
+{
+    let mut sender = opened(alloc, context.state, reader, passes)?;
+    let reading = started(context.rt, alloc, context.plan, offering)?;
+    Ok(run(context, &mut sender, reading, errors))
+}
 
 /// Runs with all that a publisher begins with, over any device.
 pub fn publish_over<
@@ -49,23 +143,20 @@ pub fn publish_over<
         reader,
         passes,
     } = parts;
-    let Ok(state) = Arc::new(alloc, state) else {
-        return Err(PublishFault::Failed(DeviceError::Memory));
-    };
-    let theirs = Arc::try_clone(&state)?;
-    let agent = open_sender(alloc, &state.log, reader)?;
-    let Some(reading) = start_reader(rt, alloc, plan.end.form, theirs, input, publisher) else {
-        return Err(PublishFault::Failed(DeviceError::Device));
-    };
-    let mut sender = ChannelSender { agent, passes };
+    let (ours, theirs) = shared(alloc, state)?;
     let context = PublisherContext {
         rt,
         plan,
-        state: &state,
+        state: &ours,
         conductor: &conductor,
         began,
     };
-    Ok(run(&context, &mut sender, reading, errors))
+    let offering = Offering {
+        state: theirs,
+        publisher,
+        input,
+    };
+    publish_shared(alloc, &context, reader, passes, offering, errors)
 }
 
 /// The device along a route.
@@ -76,6 +167,31 @@ fn connected<R: Net>(rt: &R, alloc: Global, route: &Route) -> Result<UdpDevice, 
         Ok(device) => Ok(device),
         Err(DeviceError::Device) => Err(PublishFault::NoSocket(*route)),
         Err(DeviceError::Memory) => Err(PublishFault::Failed(DeviceError::Memory)),
+    }
+}
+
+/// All that a publisher begins with, over a device along a route.
+fn prepared<R: Net + Clock>(
+    rt: &R,
+    alloc: Global,
+    plan: &PublishPlan,
+    route: &Route,
+) -> Result<PublisherParts<UdpDevice>, PublishFault>
+    ensures { IfOk result (λ p. ArePublisherParts plan.now p) }
+{
+    let began = Began::now(rt)?;
+    let device = connected(rt, alloc, route)?;
+    publisher_parts(alloc, plan, began, device)
+}
+
+/// The input with a buffer.
+#[tactic(auto, using(crate::proofs::Beginnings::unbuffered))]
+fn buffered<I: Read + Drop>(alloc: Global, input: I) -> Result<BufReader<I>, PublishFault>
+    ensures { IfOk result (λ r. reader_remaining I.remaining r ≡ I.remaining input) }
+{
+    match BufReader::new(alloc, input) {
+        Ok(input) => Ok(input),
+        Err(_) => Err(PublishFault::Failed(DeviceError::Memory)),
     }
 }
 
@@ -102,11 +218,7 @@ pub fn publish<
 ) -> Result<Ending, PublishFault>
     ensures { result ≡ Ok Whole → PublishesAll plan.now (I.remaining input) }
 {
-    let began = Began::now(rt)?;
-    let device = connected(rt, alloc, route)?;
-    let parts = publisher_parts(alloc, plan, began, device)?;
-    let Ok(input) = BufReader::new(alloc, input) else {
-        return Err(PublishFault::Failed(DeviceError::Memory));
-    };
+    let parts = prepared(rt, alloc, plan, route)?;
+    let input = buffered(alloc, input)?;
     publish_over(rt, alloc, plan, parts, input, errors)?.ending
 }

@@ -1,22 +1,24 @@
-//! A publisher's end of a channel: one thread reads messages and offers them (`read_input`), another sends them,
-//! keeps the log, notes who has received what, and decides the end (`send_all`), over what they share (`PublisherState`).
-//! Nobody waits for the one that reads: it may stay at its input for ever.
+//! A publisher's end of a channel: one thread reads messages and offers them (`offering`), another sends them, keeps the
+//! log, notes who has received what, and decides the end (`send_all`). Nobody waits for the one that reads: it may stay at
+//! its input for ever. Where its reading has ended it is joined (`input_end`).
 //!
-//! What its publisher's pass has claimed and committed is the messages that were read from its input, in their order, each
-//! once and whole, and paddings, up to one that is still being offered (`read_input`, by `PublishesInput`). How that ended,
-//! with the fault of the input if it had one, is what its thread leaves in the state, unless an end stood there before
-//! (`read_there`, by `EndsInput`).
+//! What is left then is its publisher's pass, which has claimed and committed the messages that were read from the input, in
+//! their order, each once and whole, and paddings, up to one that was still being offered (`publish_over`, by `EndsInput`,
+//! over any reader and any device). Where a publisher ends whole, the reading has ended at the input's end, and where its
+//! messages end is what the end was judged by: nothing was to be delivered, or one receiver was heard from the start to there,
+//! and no other (`publish_over`, by `AllArrived`; `publish`, by `PublishesAll`).
 //!
-//! Its sender stands where the plan starts and sends from there, cycles and offers keep what their crates ask for,
-//! and each message is offered at a length that the log takes. Its device takes what fails for lost, loses by the plan's
+//! Its sender stands where the plan starts and sends from there, its core lives by datagrams and moments as a sender does
+//! (`send_all`, by `Lived`; what that gives out is honest for the stream: `sender_meaning`), cycles and offers keep what their
+//! crates ask for, and each message is offered at a length that the log takes. Its device takes what fails for lost, loses by the plan's
 //! rates and seed, and screens and notes the plan's stream from the plan's start (`publisher_parts`, by
 //! `ArePublisherParts` and `device_of`); in each cycle it is told up to where the sender has sent. It ends by its
-//! device's attendance, the plan's linger and wait, and a silence that is judged only where the socket was empty
-//! (`send_all`, by `Ends`; `Progress`). Reading stops only at a full stream or the input's fault, which is told before
-//! one of sending; the texts that are told are exact, and at its end so is how often the stream's end is told.
+//! device's attendance, by how the reading had ended, the plan's linger and wait, and a silence that is judged only where the
+//! socket was empty (`send_all`, by `Ends`; `Progress`). Reading stops only at a full stream or the input's fault, which is
+//! told before one of sending; the texts that are told are exact, and at its end so is how often the stream's end is told.
 //!
-//! `publish` itself says none of this and is proved safe alone, since its threads hide the pass. That anything is read or sent
-//! isn't said: `tools/channels` shows it.
+//! While the reading goes on its thread hides the pass, so of a publisher that ends before it no more is said; nor which
+//! datagrams went out, since its device tells nothing; nor that anything is read or sent: `tools/channels` shows it.
 #![tactic(auto)]
 
 mod beginning;

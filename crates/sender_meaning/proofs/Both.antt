@@ -1,6 +1,4 @@
 -- A subscriber of what a sender gave out.
-use Rattle.std.proofs.Common.{ℕ, List}
-use Rattle.std.specs.List.{AllByRecursion}
 use Rattle.theory.specs.Placed.{Among}
 use Rattle.theory.proofs.Lists.{all_at, all_weaker}
 use Rattle.receiver.specs.Lives as meant

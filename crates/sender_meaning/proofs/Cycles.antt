@@ -1,5 +1,5 @@
 -- A cycle of a sender's agent is a part of its core's life.
-use Rattle.std.proofs.Common.{◌≡◌, ◌⊎◌, ℕ, List, [], ◌∷◌, ◌++◌, Bool, Result, Ok, Err, inl, inr, refl, sym, subst}
+use Rattle.std.proofs.Common.{◌≡◌, ◌⊎◌, ℕ, List, [], ◌∷◌, ◌++◌, Bool, Result, Ok, Err, inl, inr, refl, subst}
 use Rattle.conductor.specs.Parties.{ClientSeen}
 use Rattle.endpoint.specs.Devices.{Device}
 use Rattle.endpoint.specs.declared.device_error.DeviceError.{DeviceError}

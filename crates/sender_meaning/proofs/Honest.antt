@@ -1,5 +1,5 @@
 -- Datagrams of a stream's committed frames, its SETUPs and its heartbeats are honest for it.
-use Rattle.std.proofs.Common.{◌≡◌, ◌∙◌, ℕ, ◌%◌, ◌≤◌, List, [], ◌∷◌, ◌++◌, map, Bool, true, false, Option, None, Some, inl, inr, ◌⊎◌, ⊎_elim, refl, sym, subst}
+use Rattle.std.proofs.Common.{◌≡◌, ℕ, ◌%◌, ◌≤◌, List, [], ◌∷◌, ◌++◌, map, Bool, true, false, Option, None, Some, ⊎_elim, refl, sym, subst}
 use Rattle.std.specs.List.{AllByRecursion, flat_map}
 use Rattle.theory.specs.Bytes.{wire_at}
 use Rattle.theory.specs.Control.{heartbeat_at, setup_at}
@@ -8,13 +8,13 @@ use Rattle.theory.specs.Entry.{committed}
 use Rattle.theory.specs.Gap.{Gap}
 use Rattle.theory.specs.Laws.{HasOneReading}
 use Rattle.theory.specs.Placed.{AllAmong, Among, Data, Frame, Pad, Placed}
-use Rattle.theory.specs.Position.{Geometry, max_position}
+use Rattle.theory.specs.Position.{max_position}
 use Rattle.theory.specs.Wire.{IsFrame, StandTogether, SpellsDatagram, Wire, spelling}
 use Rattle.theory.proofs.Lists.{all_at, all_behind, all_from, all_front}
 use Rattle.theory.proofs.Readings.{stands_alone}
 use Rattle.model.proofs.Datagrams.{grouped_stand}
 use Rattle.model.proofs.Sizes.{all_take}
-use Rattle.sender.specs.Cycling.{AreRead, GivesAgain, GivesNew, GivesRange, TakesAll, alone, datagrams, heartbeats, setups}
+use Rattle.sender.specs.Cycling.{AreRead, GivesAgain, GivesNew, TakesAll, alone, datagrams, heartbeats, setups}
 use Rattle.receiver.specs.Lives.{IsHonest, IsHonestFrame, IsStream, Stream}
 use Rattle.sender_meaning.specs.Lives.{IsSpelled}
 use Rattle.sender_meaning.proofs.Spelled.{header_framed, setup_framed}

@@ -5,7 +5,7 @@ use Rattle.theory.specs.Bytes.{Identity}
 use Rattle.theory.specs.Datagrams.{frames_of, wires}
 use Rattle.theory.specs.Entry.{committed}
 use Rattle.theory.specs.Laws.{HasOneReading}
-use Rattle.theory.specs.Placed.{AllAmong, Among, Placed}
+use Rattle.theory.specs.Placed.{AllAmong, Among}
 use Rattle.theory.specs.Position.{max_position}
 use Rattle.theory.proofs.Lists.{all_append, all_at, all_from}
 use Rattle.flow_control.specs.Unicast.{Unicast}
@@ -16,7 +16,7 @@ use Rattle.sender.specs.Cycling.{AsksSetup, GivesAgain, GivesNew, Misses, NewsCo
 use Rattle.sender.specs.Sending.{HearsNews, after_fresh, all_noted, at_moment}
 use Rattle.sender.specs.declared.sender_core.SenderAnswer.{SenderAnswer}
 use Rattle.receiver.specs.Lives.{IsHonest, IsStream, Stream}
-use Rattle.sender_meaning.specs.Lives.{Act, ActsSo, GivesHonest, Hears, HearsSo, IsSpelled, Lives, LogCore, SendsStream, Ticks, TicksSo, given_in, limit_in, source_in, told_status, was_heard}
+use Rattle.sender_meaning.specs.Lives.{Act, GivesHonest, Hears, HearsSo, IsSpelled, Lives, LogCore, SendsStream, Ticks, TicksSo, given_in, limit_in, source_in, told_status, was_heard}
 use Rattle.sender_meaning.proofs.Honest.{IsGiven, again_given, beat_given, fresh_given, honest_given, setup_given}
 use Rattle.sender_meaning.proofs.Standing.{stands_on}
 

@@ -1,11 +1,9 @@
 use Rattle.std.specs.Io.Buffered.{reader_remaining}
-use Rattle.publisher.proofs.Beginnings.{unbuffered}
 use Rattle.publisher.proofs.AllPublished.{all_published}
 use Rattle.publisher.proofs.channel_publisher.publish.Goals as goal
 
 pub returns : goal.returns
 returns g c = λ whole.
-    let parts = c.in_ok-parts.parts in let is = c.in_ok-parts.ensures.parts in let left = c.in_ok-publish_over.field-0 in
-    let e = c.in-Ok.ensures in
+    let parts = c.in_ok-parts.parts in let is = c.in_ok-parts.ensures in let left = c.in_ok-publish_over.field-0 in
     all_published (reader_remaining (g.I.Read.remaining)) c.args.plan.now parts.state.log parts.publisher _ _ left.input left.attendance is.log_is is.new c.in_ok-publish_over.ensures.input (c.in_ok-publish_over.ensures.whole whole)
-    (unbuffered (g.I.Read.remaining) c.in-Ok.input c.args.input e.inner e.empty e.capacity)
+    c.in_ok-input.ensures

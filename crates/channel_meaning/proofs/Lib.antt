@@ -1,0 +1,3 @@
+pub mod Streams
+mod Runs
+mod Both

@@ -1,0 +1,5 @@
+use Rattle.channel_meaning.proofs.Both.{writes_what_is_read}
+use Rattle.channel_meaning.proofs.writes_what_is_read.Goals as goal
+
+pub returns : goal.returns
+returns c = writes_what_is_read c.publishes_its_stream.ensures c.polls_what_is_sent.ensures

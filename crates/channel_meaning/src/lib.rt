@@ -1,0 +1,29 @@
+//! What goes from a publisher's input to a subscriber's output: laws over the contracts of both ends; no code.
+//!
+//! Where the claims of a publisher's pass, each committed whole, are the entries of a stream, in their order, the messages of
+//! that stream are those that were read from its input, in their order (`publishes_its_stream`). Where besides a sender of
+//! that stream lives, and each image of a subscriber was handed nothing but datagrams that this sender gave out, in any order
+//! and each any number of times, what `subscribe` writes is what these images gave, each a run of what was read, and its
+//! beginning where the image joined at the start (`writes_what_is_read`).
+//!
+//! That the claims tile a stream is a premise, and that the sender's reader knows no frames but its own: both are what the log's
+//! rule says of a log with one publisher, and no contract of a pass alone. That a device carries what it was given is another.
+#![tactic(auto)]
+
+ghost use Rattle.channel_meaning.specs.Streams.{PublishesItsStream, WritesWhatIsRead};
+
+use sender_meaning::polls_what_is_sent;
+
+/// A law: the messages of the stream that a pass published are those that were read.
+pub fn publishes_its_stream()
+    ensures { PublishesItsStream }
+{}
+
+/// A law: a subscriber of what a publisher's sender gave out writes runs of what the publisher read.
+pub fn writes_what_is_read()
+    ensures { WritesWhatIsRead }
+{
+    // Laws that the proof cites.
+    publishes_its_stream();
+    polls_what_is_sent();
+}
