@@ -2,7 +2,7 @@
 
      udp_subscriber ADDRESS PORT SESSION [LOST]
 
-   Of 1,000 datagrams that come so many are thrown away. It ends once no message has come for two seconds since the last. */
+   Of 1,000 datagrams that come so many are thrown away. It ends once no message has come for four seconds since the last. */
 #include "pechvang.h"
 #include <arpa/inet.h>
 #include <fcntl.h>
@@ -98,7 +98,7 @@ int main(int count, char **words) {
 
     struct sockaddr_in publisher = {0};
     uint64_t last = 0;
-    while (last == 0 || now() < last + 2ull * SECOND) {
+    while (last == 0 || now() < last + 4ull * SECOND) {
         struct pollfd waits = {.fd = at, .events = POLLIN};
         if (poll(&waits, 1, 1) > 0) receive(&subscriber, at, lost, &publisher);
         if (write_all(&subscriber)) last = now();

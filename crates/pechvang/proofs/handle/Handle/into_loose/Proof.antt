@@ -55,9 +55,9 @@ into_loose_spec 𝓤 𝓛 𝓜 𝓡 wired =
     word_out ! d y.0.4.0 (λ h of fits. either_held ! d.is_open d.held d.at d.heap
     (λ none is. regoal ! Enters (of ∙ (λ j. word (ptr_val d.at) h (is j) ∷ [])) refl $
     enter ! _ _ _ _ _ $ alloc_all ! (λ l. pass_all ! refl (word_good d.at h false fits, tt) $
-    sets ! (of_opd ! (get_in ! (fld ! refl (stop !)) (sub ! 0 {d = 0} refl (whole !)))) refl (at_good d.at) $
-    sets ! (of_opd ! (get_in ! (fld ! refl (stop !)) (sub ! 1 {d = 8} refl (whole !)))) refl fits $
-    sets ! (of_opd ! (get_in ! (fld ! refl (stop !)) (sub ! 2 {d = 8} refl (whole !)))) refl (tt, tt) $
+    sets ! (of_opd ! (get_in ! (fld ! {d = 0} refl (stop !)) (sub ! 0 {d = 0} refl (whole !)))) refl (at_good d.at) $
+    sets ! (of_opd ! (get_in ! (fld ! {d = 8} refl (stop !)) (sub ! 1 {d = 8} refl (whole !)))) refl fits $
+    sets ! (of_opd ! (get_in ! (fld ! {d = 8} refl (stop !)) (sub ! 2 {d = 8} refl (whole !)))) refl (tt, tt) $
     sets ! (of_opd ! (get ! refl)) refl (tt, tt) $
     first ! $ branches ! (get ! refl) (λ wrong. absurd wrong) (λ _.
     sets_last ! (agg ! (and_then ! (lit ! tt) (no_more !))) refl (tt, (record { fits = lit< tt }, tt)) $
@@ -71,9 +71,9 @@ into_loose_spec 𝓤 𝓛 𝓜 𝓡 wired =
     regoal ! Enters (of ∙ (λ j. word (ptr_val d.at) h (is j) ∷ [])) refl $
     pair_in pass.the_row heap.the_row heap_laws.the_row_laws ghosts ! d.at d.heap x h $ use1 𝓛 (‵ (Out.own_val (Some made) (got ∷ []))) (Some-of 𝓛 Loose made (pair pass.the_row heap.the_row heap_laws.the_row_laws ghosts d.at h)) $
     enter ! _ _ _ _ _ $ alloc_all ! (λ l. pass_all ! refl (word_good d.at h true fits, tt) $
-    sets ! (of_opd ! (get_in ! (fld ! refl (stop !)) (sub ! 0 {d = 0} refl (whole !)))) refl (at_good d.at) $
-    sets ! (of_opd ! (get_in ! (fld ! refl (stop !)) (sub ! 1 {d = 8} refl (whole !)))) refl fits $
-    sets ! (of_opd ! (get_in ! (fld ! refl (stop !)) (sub ! 2 {d = 8} refl (whole !)))) refl (tt, tt) $
+    sets ! (of_opd ! (get_in ! (fld ! {d = 0} refl (stop !)) (sub ! 0 {d = 0} refl (whole !)))) refl (at_good d.at) $
+    sets ! (of_opd ! (get_in ! (fld ! {d = 8} refl (stop !)) (sub ! 1 {d = 8} refl (whole !)))) refl fits $
+    sets ! (of_opd ! (get_in ! (fld ! {d = 8} refl (stop !)) (sub ! 2 {d = 8} refl (whole !)))) refl (tt, tt) $
     sets ! (of_opd ! (get ! refl)) refl (tt, tt) $
     first ! $ branches ! (get ! refl) (λ _.
     sets ! (of_opd ! (get ! refl)) refl (at_good d.at) $ sets ! (agg ! (and_then ! (get ! refl) (and_then ! (get ! refl) (no_more !)))) refl typed $

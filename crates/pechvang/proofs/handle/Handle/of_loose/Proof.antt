@@ -46,8 +46,8 @@ of_loose_spec 𝓤 𝓛 𝓜 𝓡 wired =
     regoal ! (λ (us : List Val). prop (WpFn 𝓤 𝓛.H 𝓣.C 𝓣.Λ code.function (us ++ []) (W.post y))) of refl $
     feq_i ! _ true true refl $ fjoin ! $ word_in ! d.at d.heap true (Some d.value) h $
     enter ! _ _ _ _ _ $ alloc_all ! (λ l. pass_all ! refl (pair_good pass.the_row heap.the_row heap_laws.the_row_laws ghosts d.at h fits, tt) $
-    sets ! (of_opd ! (get_in ! (fld ! refl (stop !)) (sub ! 0 {d = 0} refl (whole !)))) refl (at_good d.at) $
-    sets ! (of_opd ! (get_in ! (fld ! refl (stop !)) (sub ! 1 {d = 8} refl (whole !)))) refl fits $
+    sets ! (of_opd ! (get_in ! (fld ! {d = 0} refl (stop !)) (sub ! 0 {d = 0} refl (whole !)))) refl (at_good d.at) $
+    sets ! (of_opd ! (get_in ! (fld ! {d = 8} refl (stop !)) (sub ! 1 {d = 8} refl (whole !)))) refl fits $
     sets ! (of_opd ! (get ! refl)) refl (at_good d.at) $
     sets ! (agg ! (and_then ! (get ! refl) (and_then ! (get ! refl) (and_then ! (true_lit !) (no_more !))))) refl (word_good d.at h true fits) $
     returns ! (look_at ! 0 refl) $ free_all ! refl $ keep ! (0 ∷ 2 ∷ []) $
