@@ -205,7 +205,7 @@ fn small<R: Threads + Wait + Clock + Net + Print + Sync>(
     latencies(rt, alloc)?;
     println!(rt; "bench ROUNDS measures so many rounds, bench images FRAMES so many frames")?;
     println!(rt;
-        "bench shared_images FRAMES does with the plain image and the one that threads share"
+        "bench shared_images FRAMES measures the plain image and the one that threads share"
     )?;
     println!(rt;
         "bench claims ROUNDS measures so many rounds of claims that are written and committed"

@@ -93,12 +93,7 @@ fn pass<P: Passing>(
 }
 
 /// Gives an image that begins at 0, with terms of 65,536 bytes, so many data frames with this payload, and reads each at once.
-pub fn pass_all<P: Passing>(
-    image: &mut P,
-    block: &mut Block,
-    payload: &[u8],
-    frames: u32,
-) -> Played
+pub fn pass_all<P: Passing>(image: &mut P, block: &mut Block, payload: &[u8], frames: u32) -> Played
     requires payload { length payload.now ≤ 65472 }
     requires room { 65472 ≤ length block.old }
 {
@@ -113,7 +108,7 @@ pub fn pass_all<P: Passing>(
     let mut position: u64 = 0;
     for _ in 0..frames {
         let rest = term - position % term;
-        if rest < covered {
+        if (32..covered).contains(&rest) {
             let padding = Frame::Pad {
                 header: header(),
                 frame_length: rest as u32,
