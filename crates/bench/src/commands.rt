@@ -1,4 +1,4 @@
-use crate::image_speed::timing::{ImageFigures, measure_image};
+use crate::image_speed::timing::{ImageFigures, PassedFigures, measure_image, measure_passed};
 use crate::timing::{Subject, TimingOptions};
 use crate::timing_line::timing_options;
 use crate::timing_plan::timing_plan;
@@ -45,6 +45,8 @@ fn command<R: Threads + Wait + Clock + Net + Print + Sync>(
         [_, "claims", rounds, ..] => claims(rt, alloc, *rounds),
         [_, "images"] => images(rt, alloc, "200000"),
         [_, "images", frames, ..] => images(rt, alloc, *frames),
+        [_, "shared_images"] => shared_images(rt, alloc, "200000"),
+        [_, "shared_images", frames, ..] => shared_images(rt, alloc, *frames),
         [_, "stream", rounds, messages, ..] => streams(rt, alloc, *rounds, *messages),
         [_, "stream", ..] => streams(rt, alloc, "11", "400000"),
         [_, rounds, ..] => large(rt, alloc, *rounds),
@@ -147,6 +149,25 @@ fn image_line(rt: &impl Print, figures: &ImageFigures) -> io::Result<()> {
     println!(rt; "image {term_length} {missing} {tenths} {sum} {stored}")
 }
 
+/// Gives so many frames of 1,408 and of 200 bytes to the plain image and to the one that threads share, reads each at once, and
+/// prints what each took.
+fn shared_images<R: Clock + Print>(rt: &R, alloc: Global, word: &str) -> Result<(), Error> {
+    let frames: u32 = word.parse()?;
+    for shared in [false, true] {
+        passed_line(rt, &measure_passed(rt, alloc, shared, &[97; 1376], frames)?)?;
+        passed_line(rt, &measure_passed(rt, alloc, shared, &[97; 168], frames)?)?;
+    }
+    Ok(())
+}
+
+/// One line of it: the frame's length, tenths of nanoseconds for each, and two numbers by which to see that the work was done.
+fn passed_line(rt: &impl Print, figures: &PassedFigures) -> io::Result<()> {
+    let kind = if figures.shared { "shared" } else { "plain" };
+    let length = figures.size.wrapping_add(32);
+    let (tenths, sum, stored) = (figures.tenths, figures.played.sum, figures.played.stored);
+    println!(rt; "{kind} image {length} {tenths} {sum} {stored}")
+}
+
 /// Plays small rounds.
 fn small<R: Threads + Wait + Clock + Net + Print + Sync>(
     rt: &R,
@@ -175,8 +196,16 @@ fn small<R: Threads + Wait + Clock + Net + Print + Sync>(
             played.stored
         )?;
     }
+    for shared in [false, true] {
+        let passed = measure_passed(rt, alloc, shared, &[97; 168], 1000)?;
+        let kind = if shared { "shared" } else { "plain" };
+        println!(rt; "{kind} image: {} stored", passed.played.stored)?;
+    }
     latencies(rt, alloc)?;
     println!(rt; "bench ROUNDS measures so many rounds, bench images FRAMES so many frames")?;
+    println!(rt;
+        "bench shared_images FRAMES measures the plain image and the one that threads share"
+    )?;
     println!(rt;
         "bench claims ROUNDS measures so many rounds of claims that are written and committed"
     )?;

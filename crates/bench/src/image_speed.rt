@@ -1,5 +1,6 @@
 //! Image speed.
 
 pub(crate) mod fault;
+pub(crate) mod passing;
 pub(crate) mod playing;
 pub(crate) mod timing;

@@ -31,6 +31,6 @@ pub use fault::FrameError;
 pub use fault_counts::FaultCounts;
 pub use frame::{Frame, Header, Nak, Setup, Status};
 pub use front::{Front, front_of, known_frame, payload_of};
-pub use frames::Outbox;
+pub use outbox::Outbox;
 pub use reading::read_frame;
 pub use writing::write_frame;

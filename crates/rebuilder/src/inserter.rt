@@ -10,14 +10,11 @@ ghost use Rattle.image.specs.Seen.{IsCount, IsFit, IsJoin, least};
 ghost use Rattle.shared_image.specs.Handles.{IsReaderOf, position_of};
 ghost use Rattle.rebuilder.specs.Seen.{IsInserterOf, Looked, geometry_of, join_of};
 
-use image::ImageError;
+use image::{CONSUMERS, ImageError};
 use position::Identity;
 use shared_image::{Image, ImageReader, prune};
 use std::alloc::Global;
 use std::marker::Model;
-
-/// How many consumers an image has at the most.
-const CONSUMERS: usize = 8;
 
 /// Who rebuilds a stream in an image that threads share. There is one for each image.
 #[derive(Drop)]

@@ -26,7 +26,7 @@ pub struct Played {
 }
 
 /// The fields of each header. An image doesn't look at them.
-fn header() -> Header
+pub fn header() -> Header
     ensures { result.term_offset ≡ 0 }
 {
     Header {
