@@ -7,3 +7,4 @@ pub mod Puts
 pub mod Kept
 pub mod Meetings
 pub mod OneHand
+pub mod Events

@@ -15,6 +15,9 @@
 //! between two meetings, and `insert_alone`, `heartbeat_alone`, `read_alone` and `advance_alone` are exact: m is where the
 //! reader stands, and there is a frame to read exactly where the reader doesn't stand at the contiguous end.
 //!
+//! What `insert` and `heartbeat` say is an event of the definitions' image, whose consumers stand where the call saw them or
+//! further on (`calls_are_events`).
+//!
 //! No call waits, and none but `open` takes memory.
 #![tactic(auto)]
 
@@ -23,6 +26,7 @@ mod gap;
 mod inserter;
 mod inserting;
 mod judging;
+mod law;
 mod meeting;
 mod putting;
 
@@ -30,4 +34,5 @@ pub use alone::{advance_alone, heartbeat_alone, insert_alone, read_alone};
 pub use gap::{first_gap, held_word};
 pub use inserter::{Inserter, deal, least, open};
 pub use inserting::{heartbeat, insert};
+pub use law::calls_are_events;
 pub use meeting::meet;
