@@ -3,8 +3,8 @@ use Rattle.std.specs.Prelude.{◌≡◌, ◌≢◌, ◌≤◌, ◌%◌, ℕ, Lis
 use Rattle.theory.specs.Wire.{Wire, SpellsDatagram}
 use Rattle.frames.specs.Datagrams.{IsDatagramFault}
 use Rattle.hex.specs.Hex.{decode_of}
-use Rattle.commands.specs.declared.decode.fault.DecodeError.{DecodeError}
-use Rattle.commands.specs.declared.decode.fault.DecodeError.TheVariants.{Frame, Hex, Memory, Write}
+use Rattle.commands.specs.declared.decoding.fault.DecodeError.{DecodeError}
+use Rattle.commands.specs.declared.decoding.fault.DecodeError.TheVariants.{Frame, Hex, Memory, Write}
 
 -- the word is of at most 131,072 digits, and two of them spell each byte
 abbrev pub SpellsWord : List ℕ → List ℕ → Type 0

@@ -1,8 +1,8 @@
 -- The fault texts.
 use Rattle.std.specs.Prelude.{ℕ, List, ◌++◌, codes, decimal}
 use Rattle.frames.specs.Fault.{text_of}
-use Rattle.commands.specs.declared.decode.fault.DecodeError.{DecodeError}
-use Rattle.commands.specs.declared.decode.fault.DecodeError.TheVariants as decoding
+use Rattle.commands.specs.declared.decoding.fault.DecodeError.{DecodeError}
+use Rattle.commands.specs.declared.decoding.fault.DecodeError.TheVariants as decoding
 use Rattle.script.specs.declared.fault.ScriptFault.{ScriptFault}
 use Rattle.script.specs.declared.fault.ScriptFault.TheVariants as script
 use Rattle.endpoint.specs.declared.device_error.DeviceError.{DeviceError}

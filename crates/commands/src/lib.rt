@@ -27,7 +27,7 @@
 //! `ran_status`, `published_status`).
 #![tactic(auto)]
 
-mod decode;
+mod decoding;
 mod drawn_ids;
 mod fault;
 mod line;
@@ -38,7 +38,7 @@ mod script_command;
 mod status;
 mod subscribe_command;
 
-pub use decode::{DecodeError, FrameLine, decode};
+pub use decoding::{DecodeError, FrameLine, decode};
 pub use fault::Fault;
 pub use line::command;
 pub use run_command::run_driver;

@@ -6,8 +6,8 @@ ghost use Rattle.theory.specs.Wire.{SpellsDatagram, Wire};
 ghost use Rattle.commands.specs.Decoding.{Explains, SaysFrames, SpellsWord};
 ghost use Rattle.commands.specs.FrameLines.{frame_lines};
 
-use crate::decode::fault::DecodeError;
-use crate::decode::frame_line::FrameLine;
+use crate::decoding::fault::DecodeError;
+use crate::decoding::frame_line::FrameLine;
 use frames::{check_datagram, read_frame};
 use hex::FromHexError;
 use std::alloc::Global;

@@ -3,7 +3,7 @@ use Rattle.std.specs.List.{flat_map}
 use Rattle.std.specs.Io.KnownBytes.{Appends}
 use Rattle.theory.specs.Wire.{Wire, SpellsDatagram, spelling}
 use Rattle.commands.specs.FrameLines.{frame_lines}
-use Rattle.commands.proofs.decode.datagram.print_frames.Given as goal
+use Rattle.commands.proofs.decoding.datagram.print_frames.Given as goal
 
 -- the frames so far are printed, and the others are left
 abbrev pub invariant-loop-turn : goal.invariant-loop-turn

@@ -1,4 +1,4 @@
-use Rattle.commands.proofs.decode.frame_line.FrameLineDisplay.fmt.Goals as goal
+use Rattle.commands.proofs.decoding.frame_line.FrameLineDisplay.fmt.Goals as goal
 
 pub returns-in-Data-clause-writes : goal.returns-in-Data-clause-writes
 returns-in-Data-clause-writes g c = rw (c.in-Data.is, ← c.frame_length-length.ensures) c.write.ensures.writes

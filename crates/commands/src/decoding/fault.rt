@@ -1,7 +1,7 @@
 //! Why a word isn't decoded.
 
 ghost use Rattle.std.specs.Prelude.{◌≡◌};
-ghost use Rattle.commands.specs.declared.decode.fault.DecodeError.TheVariants.{Frame};
+ghost use Rattle.commands.specs.declared.decoding.fault.DecodeError.TheVariants.{Frame};
 
 use frames::FrameError;
 

@@ -7,7 +7,7 @@ use Rattle.std.specs.List.{flat_map}
 use Rattle.commands.specs.FrameLines.{frame_line, frame_lines}
 use Rattle.commands.proofs.PrintedLines.{all_lines, lines_more}
 use Rattle.frames.proofs.FrameSteps.{frame_at, frame_first, front_spells, next_first, slice_to_end}
-use Rattle.commands.proofs.decode.datagram.print_frames.Goals as goal
+use Rattle.commands.proofs.decoding.datagram.print_frames.Goals as goal
 
 pub loop-turn-init : goal.loop-turn-init
 loop-turn-init g c = λ frames spells counted. (spells.2, Appends-nil (g.W.Write.contents c.args.output.now))
