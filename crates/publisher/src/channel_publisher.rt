@@ -17,7 +17,7 @@ use crate::beginning::{PublisherParts, publisher_parts};
 use crate::fault::PublishFault;
 use crate::publisher_context::PublisherContext;
 use crate::sender_thread::{ChannelSender, SenderPasses};
-use crate::two_threads::{Published, run};
+use crate::two_threads::{Published, run_once};
 use agents::{Began, open_sender};
 use endpoint::{Datagrams, DeviceError, Route, UdpDevice};
 use offering::{OfferingState, Reader, start_reader};
@@ -112,9 +112,9 @@ fn publish_shared<
     ensures input { IfOk result (λ e. IfSome e.input (λ left. EndsInput context.now.plan.now.end.form context.now.state.now.log (I.remaining offering.input) (I.remaining left.input) offering.publisher.pass left.publisher left.reading)) }
     ensures whole { IfOk result (λ e. e.ending ≡ Ok Whole → AllArrived (reading_left e.input) e.attendance) }
 {
-    let mut sender = opened(alloc, context.state, reader, passes)?;
+    let sender = opened(alloc, context.state, reader, passes)?;
     let reading = started(context.rt, alloc, context.plan, offering)?;
-    Ok(run(context, &mut sender, reading, errors))
+    Ok(run_once(context, sender, reading, errors))
 }
 
 /// Runs with all that a publisher begins with, over any device.
@@ -195,6 +195,13 @@ fn buffered<I: Read + Drop>(alloc: Global, input: I) -> Result<BufReader<I>, Pub
     }
 }
 
+/// How it ended; what is left is let go.
+fn ending_of<I: Drop>(published: Published<I>) -> Result<Ending, PublishFault>
+    ensures { result ≡ published.ending }
+{
+    published.ending
+}
+
 /// Publishes the messages of the input as planned, along a route, and answers how it ended. Another receiver that comes, that nobody does, a
 /// fault of the input, an end before all was received, an empty input and the counters are lines of `errors`.
 ///
@@ -218,7 +225,8 @@ pub fn publish<
 ) -> Result<Ending, PublishFault>
     ensures { result ≡ Ok Whole → PublishesAll plan.now (I.remaining input) }
 {
-    let parts = prepared(rt, alloc, plan, route)?;
     let input = buffered(alloc, input)?;
-    publish_over(rt, alloc, plan, parts, input, errors)?.ending
+    let parts = prepared(rt, alloc, plan, route)?;
+    let published = publish_over(rt, alloc, plan, parts, input, errors)?;
+    ending_of(published)
 }
