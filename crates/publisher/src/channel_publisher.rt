@@ -17,7 +17,7 @@ use crate::beginning::{PublisherParts, publisher_parts};
 use crate::fault::PublishFault;
 use crate::publisher_context::PublisherContext;
 use crate::sender_thread::{ChannelSender, SenderPasses};
-use crate::two_threads::{Published, run_once};
+use crate::two_threads::{Published, run};
 use agents::{Began, open_sender};
 use endpoint::{Datagrams, DeviceError, Route, UdpDevice};
 use offering::{OfferingState, Reader, start_reader};
@@ -112,9 +112,9 @@ fn publish_shared<
     ensures input { IfOk result (λ e. IfSome e.input (λ left. EndsInput context.now.plan.now.end.form context.now.state.now.log (I.remaining offering.input) (I.remaining left.input) offering.publisher.pass left.publisher left.reading)) }
     ensures whole { IfOk result (λ e. e.ending ≡ Ok Whole → AllArrived (reading_left e.input) e.attendance) }
 {
-    let sender = opened(alloc, context.state, reader, passes)?;
+    let mut sender = opened(alloc, context.state, reader, passes)?;
     let reading = started(context.rt, alloc, context.plan, offering)?;
-    Ok(run_once(context, sender, reading, errors))
+    Ok(run(context, &mut sender, reading, errors))
 }
 
 /// Runs with all that a publisher begins with, over any device.

@@ -130,7 +130,7 @@ fn reading_left<I>(input: &Option<InputEnd<I>>) -> Option<Reading>
 /// Sends until the publisher ends, and tells the stream's end unless that is by a fault. Where the reading has ended by then,
 /// its thread is joined.
 #[tactic(auto, using(crate::proofs::Whole::arrived))]
-fn run<R: Threads + Wait + Clock, I: BufRead + Drop, D: Datagrams, E: Write>(
+pub(crate) fn run<R: Threads + Wait + Clock, I: BufRead + Drop, D: Datagrams, E: Write>(
     context: &PublisherContext<'_, R>,
     sender: &mut ChannelSender<'_, D>,
     reader: Reader<I>,
@@ -158,20 +158,4 @@ fn run<R: Threads + Wait + Clock, I: BufRead + Drop, D: Datagrams, E: Write>(
         attendance,
         input,
     }
-}
-
-/// The same with a sender that isn't needed any more.
-pub(crate) fn run_once<R: Threads + Wait + Clock, I: BufRead + Drop, D: Datagrams + Drop, E: Write>(
-    context: &PublisherContext<'_, R>,
-    sender: ChannelSender<'_, D>,
-    reader: Reader<I>,
-    errors: &mut E,
-) -> Published<I>
-    requires agent { SendsLog context.now.state.now.log sender.agent }
-    requires passes { ArePasses context.now.state.now.log context.now.conductor.now sender.passes }
-    ensures input { IfSome result.input (λ e. EndsInput reader.handle.promise.form reader.handle.promise.log.value (I.remaining reader.handle.promise.input.value) (I.remaining e.input) reader.handle.promise.publisher.value.pass e.publisher e.reading) }
-    ensures whole { result.ending ≡ Ok Whole → AllArrived (reading_left result.input) result.attendance }
-{
-    let mut sender = sender;
-    run(context, &mut sender, reader, errors)
 }
