@@ -26,14 +26,20 @@ const TURNS: u32 = u32::MAX;
 /// The device of a receiver, and a sender's way to it.
 pub type Device = Lossy<UdpDevice>;
 
-/// The passes of the driver's threads, and the devices of its sender and its receiver.
+/// The passes of the driver's threads.
 #[derive(Drop)]
-pub struct Passes {
+pub struct ThreadPasses {
     pub publishers: Vec<Publisher>,
     pub reader: LogReader,
     pub keeper: Keeper,
     pub client: Client,
     pub taker: Taker,
+}
+
+/// These, and the devices of its sender and its receiver.
+#[derive(Drop)]
+pub struct Passes {
+    pub threads: ThreadPasses,
     pub sends: Fan<Device>,
     pub replies: Device,
 }
@@ -149,14 +155,17 @@ pub fn start_agents<'s, S, N: Named + Send, R: Wait + Clock + Sync>(
     requires counters { arc_value receiver.now.counters ≡ N.counters }
 {
     let Passes {
+        threads,
+        sends,
+        replies,
+    } = passes;
+    let ThreadPasses {
         publishers,
         reader,
         keeper,
         client,
         taker,
-        sends,
-        replies,
-    } = passes;
+    } = threads;
     start_sender(scope, run, sends, reader, client);
     start_receiver(scope, run, receiver, replies);
     start_conductor(scope, run, keeper, taker);

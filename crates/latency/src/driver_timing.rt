@@ -1,9 +1,9 @@
 //! The driver, timed.
 
 ghost use Rattle.std.specs.Prelude.{◌≡◌, ◌*◌, ◌≤◌, IfOk};
-ghost use Rattle.latency.specs.Beginnings.{ArePasses};
+ghost use Rattle.latency.specs.Beginnings.{ArePasses, AreThreadPasses};
 
-use crate::agent_threads::{MeasuredRun, Passes};
+use crate::agent_threads::{MeasuredRun, Passes, ThreadPasses};
 use crate::measured_run::measure_named;
 use crate::{Course, LatencyError, Plan, Samples, Timed, timed_by};
 use agents::Began;
@@ -19,7 +19,35 @@ use std::sync::Wait;
 use std::thread::Threads;
 use std::time::Clock;
 
-/// What the driver's threads share and have, but for its receiver.
+/// What the driver's threads share, and their passes.
+fn shared(
+    alloc: Global,
+    plan: &Plan,
+    began: Began,
+) -> Result<(RunState, ThreadPasses), LatencyError>
+    ensures shape { IfOk result (λ r. r.0.log.identity.geometry ≡ plan.now.geometry) }
+    ensures passes { IfOk result (λ r. AreThreadPasses r.0.log r.0.conductor r.1) }
+{
+    let (conductor, client, taker) = Conductor::with_client(alloc)?;
+    let publishers = plan.load.publishers as usize;
+    let RunLog {
+        log,
+        publishers,
+        others: _,
+        reader,
+        keeper,
+    } = open_run_log(alloc, plan.geometry, publishers)?;
+    let passes = ThreadPasses {
+        publishers,
+        reader,
+        keeper,
+        client,
+        taker,
+    };
+    Ok((RunState::new(log, conductor, began, 1), passes))
+}
+
+/// The same with their devices, but for the receiver.
 fn begin<R: Net>(
     rt: &R,
     alloc: Global,
@@ -30,25 +58,13 @@ fn begin<R: Net>(
     ensures passes { IfOk result (λ r. ArePasses r.0.log r.0.conductor r.1) }
 {
     let LossyDevices { ways, mut replies } = lossy_devices(rt, alloc, plan.rates, plan.seed, 1)?;
-    let (conductor, client, taker) = Conductor::with_client(alloc)?;
-    let publishers = plan.load.publishers as usize;
-    let RunLog {
-        log,
-        publishers,
-        others: _,
-        reader,
-        keeper,
-    } = open_run_log(alloc, plan.geometry, publishers)?;
+    let (state, threads) = shared(alloc, plan, began)?;
     let passes = Passes {
-        publishers,
-        reader,
-        keeper,
-        client,
-        taker,
+        threads,
         sends: Fan::new(ways),
         replies: replies.remove(0),
     };
-    Ok((RunState::new(log, conductor, began, 1), passes))
+    Ok((state, passes))
 }
 
 /// Times the driver: publishers offer messages, each in a thread of its own; they are sent as datagrams over UDP on this
