@@ -1,18 +1,11 @@
-//! Tests of devices (over UDP, failing on purpose, losing by chance), and of duty cycles over them: both agents where a
-//! device fails, and what a sender's asks of the queue. What tests of cycles share: a log with its publisher and its sender,
-//! a subscriber, and devices in memory between them.
+//! Tests of duty cycles: both agents where a device fails, and what a sender's asks of the queue. What tests of cycles share: a
+//! log with its publisher and its sender, a subscriber, and devices in memory between them.
 #![tactic(auto)]
 
 #[cfg(test)]
 mod asking;
 #[cfg(test)]
-mod failing;
-#[cfg(test)]
 mod hundred;
-#[cfg(test)]
-mod losses;
-#[cfg(test)]
-mod udp;
 mod way;
 
 pub use way::{
