@@ -5,10 +5,10 @@ use Rattle.frames.specs.declared.fault.FrameError.{FrameError}
 use Rattle.frames.specs.declared.fault.FrameError.TheVariants as frame
 use Rattle.image.specs.declared.answer.Insert.{Insert}
 use Rattle.image.specs.declared.answer.Insert.TheVariants as insert
-use Rattle.setup.specs.declared.fault.SetupError.{SetupError}
-use Rattle.setup.specs.declared.fault.SetupError.TheVariants as setup
-use Rattle.retransmit.specs.declared.answer.NakResult.{NakResult}
-use Rattle.retransmit.specs.declared.answer.NakResult.TheVariants as nak
+use Rattle.receiver.specs.declared.setup.fault.SetupError.{SetupError}
+use Rattle.receiver.specs.declared.setup.fault.SetupError.TheVariants as setup
+use Rattle.sender.specs.declared.retransmit.answer.NakResult.{NakResult}
+use Rattle.sender.specs.declared.retransmit.answer.NakResult.TheVariants as nak
 use Rattle.receiver.specs.declared.poll_error.PollError.{PollError}
 use Rattle.receiver.specs.declared.poll_error.PollError.TheVariants as polls
 use Rattle.receiver.specs.declared.receiver_core.Outcome.{Outcome}

@@ -5,10 +5,8 @@ ghost use Rattle.cores.specs.Numbers as number;
 
 use frames::FrameError;
 use image::Insert;
-use receiver::Outcome;
-use retransmit::NakResult;
-use sender::SenderAnswer;
-use setup::SetupError;
+use receiver::{Outcome, SetupError};
+use sender::{NakResult, SenderAnswer};
 
 fn insert_number(answer: Insert) -> i32
     ensures { result ≡ number.of_insert answer }

@@ -1,5 +1,6 @@
 pub mod Polling
 pub mod Receiving
+pub mod SetupFaults
 pub mod Representing
 pub mod Subscribing
 pub mod Texts

@@ -20,8 +20,8 @@ use Rattle.frames.specs.FaultCounts.{counted_at, none_refused, place_of}
 use Rattle.frames.specs.Frames.{nak_of, status_of}
 use Rattle.image.specs.Stored.{meant}
 use Rattle.image.specs.declared.answer.Insert.{Insert}
-use Rattle.setup.specs.Faults.{fault_of}
-use Rattle.setup.specs.declared.fault.SetupError.{SetupError}
+use Rattle.receiver.specs.SetupFaults.{fault_of}
+use Rattle.receiver.specs.declared.setup.fault.SetupError.{SetupError}
 use Rattle.frames.specs.declared.fault.FrameError.{FrameError}
 use Rattle.receiver.specs.declared.receiver_core.Outcome.{Outcome}
 use Rattle.receiver.specs.declared.receiver_core.Outcome.TheVariants as outcomes

@@ -2,7 +2,7 @@
 use Rattle.std.specs.Prelude.{ℕ, List, ◌++◌, codes, decimal}
 use Rattle.frames.specs.Fault as frame_faults
 use Rattle.image.specs.Codes.{answer_code}
-use Rattle.setup.specs.Faults as setup_faults
+use Rattle.receiver.specs.SetupFaults as setup_faults
 use Rattle.receiver.specs.declared.receiver_core.Outcome.{Outcome}
 use Rattle.receiver.specs.declared.receiver_core.Outcome.TheVariants.{Inserted, Heartbeat, Opened, Kept, Asked, SetupRefused, Other, Refused}
 

@@ -16,6 +16,8 @@
 //! gives the least consumer, the contiguous end and the high-water mark of its image, none less than the one before,
 //! if there is an image.
 //!
+//! Which SETUP opens an image, of what geometry and where, or the first thing that is wrong with one that doesn't, `judge` says.
+//!
 //! A subscriber lives by what it meets: datagrams and moments that it is handed, and polls (`Lives`). Where each datagram
 //! is honest for a stream (each DATA frame and padding of its session is a committed frame of it, in its place, and each
 //! SETUP names its shape), whatever was lost, repeated or reordered, the messages of all polls are those of the stream
@@ -28,10 +30,13 @@ mod opened;
 mod poll_error;
 mod positions;
 mod receiver_core;
+mod setup;
 mod subscriber;
 
 pub use lives::polls_a_run;
 pub use poll_error::PollError;
 pub use positions::Positions;
 pub use receiver_core::{Outcome, ReceiverCore, Replies, STATUS_INTERVAL};
+pub use setup::fault::SetupError;
+pub use setup::judgement::judge;
 pub use subscriber::Subscriber;

@@ -18,13 +18,14 @@ ghost use Rattle.receiver.specs.Representing.{last_status_of};
 ghost use Rattle.receiver.specs.Texts.{outcome_text};
 
 use crate::opened::{find_gap, hear, insert, open, read_past};
+use crate::setup::fault::SetupError;
+use crate::setup::judgement::judge;
 use block::Block;
 use frames::{
     FaultCounts, Frame, FrameError, Header, Nak, Setup, Status, check_datagram, known_frame,
 };
 use image::{Image, Insert, LossDetector};
 use position::{FrameHead, Gap, Geometry};
-use setup::{SetupError, judge};
 use std::alloc::{AllocError, Global};
 use std::fmt;
 use std::marker::Model;

@@ -11,8 +11,8 @@ use Rattle.theory.specs.Resend.{Action, first_resent, is_in_range, is_resent, ra
 use Rattle.theory.proofs.Lists.{all_weaker}
 use Rattle.model.specs.Sender.{Sender}
 use Rattle.theory.proofs.Grouping.{grouped_is}
-use Rattle.retransmit.specs.Handler.{is_near}
-use Rattle.retransmit.specs.Laws.{NearGiveRange}
+use Rattle.sender.specs.Resending.Handler.{is_near}
+use Rattle.sender.specs.Resending.Laws.{NearGiveRange}
 use Rattle.sender.specs.Cycling.{GivesAgain, GivesRange, TakesAll}
 use Rattle.script_meaning.specs.Answers.{again_for}
 

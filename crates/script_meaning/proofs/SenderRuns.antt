@@ -24,7 +24,7 @@ use Rattle.model.specs.World.{AtLog, AtSender}
 use Rattle.theory.proofs.Leasts.{fold_each, fold_keeps}
 use Rattle.theory.proofs.Lists.{all_append, all_weaker, among_right}
 use Rattle.model.proofs.Datagrams.{cycle_sends}
-use Rattle.retransmit.specs.Handler.{answered_first}
+use Rattle.sender.specs.Resending.Handler.{answered_first}
 use Rattle.theory.proofs.Places.{power_unit}
 use Rattle.one_hand.specs.Legal.{IsStream}
 use Rattle.one_hand.specs.Stream.{Stream, clean_end, cleaned_and_limited, forgotten_below, kept_from, least, lowest, raised, standing}

@@ -20,7 +20,7 @@ use Rattle.theory.proofs.Places.{mod_unit, power_unit}
 use Rattle.model.specs.Sender.{Sender}
 use Rattle.model.proofs.Datagrams.{grouped_stand}
 use Rattle.model.proofs.Sizes.{all_take}
-use Rattle.setup.specs.Naming.{Naming, after_due}
+use Rattle.sender.specs.Naming.{Naming, after_due}
 use Rattle.sender.specs.Sending.{named_once}
 use Rattle.sender.specs.Cycling.{AsksSetup, Cycle, GivesNew, Misses, NewsContent, Says, TellsNothing, Unreadable, alone, datagrams, heartbeats, setups}
 use Rattle.script.specs.Meaning as commands

@@ -17,8 +17,8 @@ use Rattle.theory.proofs.Lists.{all_append, all_at, all_from, all_front, among_c
 use Rattle.model.specs.Headline.{AreMessageCuts, IsPublished}
 use Rattle.model.specs.Sender.{Sender}
 use Rattle.model.proofs.LogSteps.{entry_from}
-use Rattle.retransmit.specs.Handler.{is_near}
-use Rattle.retransmit.specs.Laws.{NearGiveRange}
+use Rattle.sender.specs.Resending.Handler.{is_near}
+use Rattle.sender.specs.Resending.Laws.{NearGiveRange}
 use Rattle.sender.specs.Cycling.{Cycle, GivesNew}
 use Rattle.script_meaning.specs.Answers.{behind_new, cycle_limit, end_from, named}
 use Rattle.script_meaning.specs.ScriptState.{ScriptState, entries_of}

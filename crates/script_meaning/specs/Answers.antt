@@ -20,14 +20,14 @@ use Rattle.flow_control.specs.Laws.{is_status}
 use Rattle.one_hand.specs.Legal.{IsStream}
 use Rattle.one_hand.specs.Stream.{OpenClaim, Stream, after_claim, after_offer, answer_of, claim_by, claim_end, clean_end, cleaned_and_limited, forgotten_below, lowest, raised, with_abort, with_commit, with_consumer, without_consumer}
 use Rattle.publication.specs.declared.refusal.Refusal.{Refusal}
-use Rattle.setup.specs.Naming.{after_due, is_due}
+use Rattle.sender.specs.Naming.{after_due, is_due}
 use Rattle.script.specs.Meaning as commands
 use Rattle.script.specs.Meaning.{CommandContent}
 use Rattle.receiver.specs.declared.receiver_core.Outcome.{Outcome}
 use Rattle.sender.specs.declared.sender_core.SenderAnswer.TheVariants as answers
-use Rattle.retransmit.specs.Answers.{nak_result}
-use Rattle.retransmit.specs.Handler.{answered_first}
-use Rattle.retransmit.specs.declared.answer.NakResult.{NakResult}
+use Rattle.sender.specs.Resending.Answers.{nak_result}
+use Rattle.sender.specs.Resending.Handler.{answered_first}
+use Rattle.sender.specs.declared.retransmit.answer.NakResult.{NakResult}
 use Rattle.sender.specs.Cycling.{Cycle, GivesNew, IsNews, NewsContent, Says, AsksSetup, Misses, TellsNothing, Unreadable, alone, datagrams, is_heard, is_silent, sent_wires}
 use Rattle.sender.specs.Sending.{named_once}
 use Rattle.receiver.specs.Polling.{Answer, Polls, TellsPositions}

@@ -13,7 +13,7 @@ use Rattle.model.specs.Log as model
 use Rattle.model.specs.Sender.{Sender}
 use Rattle.model.specs.World.{World, opened_sender}
 use Rattle.one_hand.specs.Stream.{Stream, opened}
-use Rattle.setup.specs.Naming.{Naming}
+use Rattle.sender.specs.Naming.{Naming}
 use Rattle.receiver.specs.Receiving.{Receiver, listening}
 
 -- a log and its sender, eight receivers by their numbers, and the bytes of each packet that these gave out, in order

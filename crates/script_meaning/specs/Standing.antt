@@ -5,7 +5,7 @@ use Rattle.theory.specs.Bytes.{Identity, IsIdentity}
 use Rattle.theory.specs.Entry.{committed}
 use Rattle.theory.specs.Position.{Geometry, IsGeometry, max_position}
 use Rattle.model.specs.Sender.{Sender}
-use Rattle.retransmit.specs.Handler.{Handler, due_range, is_near}
+use Rattle.sender.specs.Resending.Handler.{Handler, due_range, is_near}
 use Rattle.sender.specs.Cycling.{Cycle, GivesAgain, GivesNew}
 use Rattle.sender.specs.Sending.{AreThere}
 use Rattle.script_meaning.specs.Answers.{again_of, behind_new, cycle_limit}

@@ -17,7 +17,7 @@ ghost use Rattle.script_meaning.specs.Standing.{AlwaysAgain, AlwaysThere};
 
 use frames::one_reading;
 use model::{every_run, messages_between, steps_keep};
-use retransmit::near_starts_suffice;
+use sender::near_starts_suffice;
 use theory::names_place;
 
 /// Whatever is answered, the shares are those of all entries; and a state's book has one text.

@@ -13,8 +13,8 @@ use Rattle.theory.specs.Control.{setup_at}
 use Rattle.theory.specs.Datagrams.{wires}
 use Rattle.theory.specs.Timing.{is_heartbeat_due}
 use Rattle.frame_source.specs.Sources.{Source}
-use Rattle.retransmit.specs.Handler.{Handler, after_due, after_note, due_range}
-use Rattle.setup.specs.Naming.{after_due as named_after, is_due}
+use Rattle.sender.specs.Resending.Handler.{Handler, after_due, after_note, due_range}
+use Rattle.sender.specs.Naming.{after_due as named_after, is_due}
 use Rattle.sender.specs.Cycling.{Cycle, GivesAgain, GivesNew, alone, datagrams, heartbeats, is_heard, is_silent, sent_wires, setups}
 use Rattle.sender.specs.Giving.{SendsAgain, SendsNew, with_all}
 use Rattle.frames.specs.Outgoing.{Outgoing, with_datagram}

@@ -5,7 +5,7 @@ use Rattle.theory.specs.Placed.{Placed}
 use Rattle.theory.specs.Bytes.{wire_at}
 use Rattle.theory.specs.Control.{heartbeat_at, setup_at}
 use Rattle.theory.proofs.Rows.{frame_of, identity, pad_of, the_geometry}
-use Rattle.retransmit.specs.Handler.{fresh}
+use Rattle.sender.specs.Resending.Handler.{fresh}
 use Rattle.sender.specs.Cycling.{Cycle, is_heard, sent_wires}
 use Rattle.sender.specs.Sending.{Sending, is_beat_due, all_noted}
 

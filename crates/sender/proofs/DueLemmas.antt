@@ -10,7 +10,7 @@ use Rattle.theory.specs.Bytes.{Identity}
 use Rattle.theory.specs.Gap.{Gap}
 use Rattle.theory.specs.Resend.{Action, first_due, first_resent, is_in_range, range_end, resend_range}
 use Rattle.frame_source.specs.Sources.{Source}
-use Rattle.retransmit.specs.Handler.{Handler, due_range}
+use Rattle.sender.specs.Resending.Handler.{Handler, due_range}
 use Rattle.sender.specs.Giving.{CanBeReread}
 use Rattle.sender.specs.Sending.{AreThere, LeadsOn}
 

@@ -12,7 +12,7 @@ use Rattle.position.specs.declared.head.FrameHead.{FrameHead}
 use Rattle.position.specs.Heads.{frame_in, head_of}
 use Rattle.position.proofs.Heads.{frame_again, length_in, start_in}
 use Rattle.frame_source.specs.Sources.{HasNone, ReadsAt, Source}
-use Rattle.retransmit.specs.Handler.{Handler, after_note}
+use Rattle.sender.specs.Resending.Handler.{Handler, after_note}
 use Rattle.sender.specs.Cycling.{AreRead, GivesNew, datagrams}
 use Rattle.sender.specs.Giving.{FrameGoes, FrameStays, IsBarred, SendsNew, with_all}
 use Rattle.frames.specs.Outgoing.{Outgoing}

@@ -7,3 +7,4 @@ pub mod AgainLemmas
 pub mod DueLemmas
 pub mod CycleLemmas
 mod CycleRows
+pub mod Resending

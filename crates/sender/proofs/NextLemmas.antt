@@ -8,7 +8,7 @@ use Rattle.position.specs.declared.head.FrameHead.{FrameHead}
 use Rattle.position.specs.Heads.{IsStreamFrame, head_of}
 use Rattle.position.proofs.Heads.{start_in}
 use Rattle.frame_source.specs.Sources.{FindsNone, HasFrame, Passes, ReadsNext, Source}
-use Rattle.retransmit.specs.Handler.{Handler, after_note}
+use Rattle.sender.specs.Resending.Handler.{Handler, after_note}
 use Rattle.sender.specs.Giving.{FrameGoes, FrameStays}
 use Rattle.frames.specs.Outgoing.{Outgoing}
 use Rattle.sender.specs.Packed.{Puts, placed_in}

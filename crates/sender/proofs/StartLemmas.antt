@@ -5,7 +5,7 @@ use Rattle.std.proofs.lemmas.Bool.{cases_Bool, both_ways, cond-true, cond-false,
 use Rattle.theory.specs.Position.{Geometry}
 use Rattle.theory.specs.Placed.{Among, Placed, end_of}
 use Rattle.theory.proofs.Lists.{among_cases, among_left, among_right}
-use Rattle.retransmit.specs.Handler.{Handler, after_note, is_near}
+use Rattle.sender.specs.Resending.Handler.{Handler, after_note, is_near}
 use Rattle.sender.specs.Sending.{AreThere}
 
 among_kept : (test : ℕ → Bool) (p : ℕ) (xs : List ℕ) → Among p xs → test p ≡ true → Among p (filter test xs)

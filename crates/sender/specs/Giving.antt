@@ -7,7 +7,7 @@ use Rattle.theory.specs.Bytes.{Identity}
 use Rattle.theory.specs.Gap.{Gap}
 use Rattle.theory.specs.Datagrams.{MayBeSent, frames_of, sent_end, wires}
 use Rattle.frame_source.specs.Sources.{HasNone, Source}
-use Rattle.retransmit.specs.Handler.{Handler, after_note}
+use Rattle.sender.specs.Resending.Handler.{Handler, after_note}
 use Rattle.sender.specs.Cycling.{GivesAgain, GivesNew, datagrams}
 use Rattle.frames.specs.Outgoing.{Outgoing}
 use Rattle.sender.specs.Packed.{HasPacked, Puts}

@@ -8,10 +8,10 @@ use Rattle.theory.specs.Bytes.{Identity}
 use Rattle.theory.specs.Datagrams.{frames_of}
 use Rattle.theory.specs.Timing.{is_heartbeat_due, seen}
 use Rattle.frame_source.specs.Sources.{Source}
-use Rattle.retransmit.specs.Answers.{nak_result}
-use Rattle.retransmit.specs.Handler.{Handler, after_due, after_nak, after_note, due_range, fresh, nak_answer_of}
-use Rattle.retransmit.specs.declared.answer.NakResult.{NakResult}
-use Rattle.setup.specs.Naming.{Naming, after_due as named_after, is_due}
+use Rattle.sender.specs.Resending.Answers.{nak_result}
+use Rattle.sender.specs.Resending.Handler.{Handler, after_due, after_nak, after_note, due_range, fresh, nak_answer_of}
+use Rattle.sender.specs.declared.retransmit.answer.NakResult.{NakResult}
+use Rattle.sender.specs.Naming.{Naming, after_due as named_after, is_due}
 use Rattle.sender.specs.Cycling.{Cycle, GivesAgain, GivesNew, IsNews, NewsContent, Says, AsksSetup, Misses, TellsNothing, Unreadable, alone, datagrams, is_heard, is_silent, sent_wires, setups}
 use Rattle.sender.specs.declared.sender_core.SenderAnswer.{SenderAnswer}
 use Rattle.sender.specs.declared.sender_core.SenderAnswer.TheVariants as answers

@@ -2,7 +2,7 @@
 use Rattle.std.specs.Prelude.{ℕ, List, ◌++◌, codes}
 use Rattle.std.specs.Fmt.{signed_decimal}
 use Rattle.frames.specs.Fault.{code_of}
-use Rattle.retransmit.specs.Answers as naks
+use Rattle.sender.specs.Resending.Answers as naks
 use Rattle.sender.specs.declared.sender_core.SenderAnswer.{SenderAnswer}
 use Rattle.sender.specs.declared.sender_core.SenderAnswer.TheVariants.{Ticked, Status, Asked, Missed, Other, Refused}
 

@@ -4,12 +4,12 @@ ghost use Rattle.std.specs.Prelude.{◌≡◌, length};
 ghost use Rattle.sender.specs.Giving.{CanSend, CanSendNext, SendsNew, SendsNext};
 
 use crate::packing::Packing;
+use crate::retransmit::Retransmit;
 use crate::stream_frame::sent_to;
 use block::Block;
 use frame_source::FrameSource;
 use frames::Outbox;
 use position::Identity;
-use retransmit::Retransmit;
 
 /// How many datagrams of new frames go out in a cycle at the most.
 const NEW_DATAGRAMS: usize = 16;

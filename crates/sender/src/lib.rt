@@ -9,15 +9,24 @@
 //! is there to be reread. Of the log nothing changes but what the reads leave. It takes the stream's start, a
 //! multiple of 32, and a flow control whose limit begins there; where memory is refused when it is made, the reads
 //! and the flow control come back as they were (`SenderCore::new`, `into_reads`).
+//!
+//! Its two parts stand alone too: when a SETUP is due, for all moments (`SenderSetup`), and which NAKs are taken and which
+//! range is due to go out again (`Retransmit`).
 #![tactic(auto)]
 
 mod again;
 mod fresh;
 mod identity;
+mod naming;
 mod news;
 mod packing;
+mod retransmit;
 mod sender_core;
 mod stream_frame;
 
 pub use frames::Outbox;
+pub use naming::SenderSetup;
+pub use retransmit::answer::NakResult;
+pub use retransmit::handler::Retransmit;
+pub use retransmit::{near_starts_suffice, range_begins_first};
 pub use sender_core::{Denied, SenderAnswer, SenderCore, SenderEvent};

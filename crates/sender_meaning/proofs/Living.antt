@@ -11,7 +11,7 @@ use Rattle.theory.proofs.Lists.{all_append, all_at, all_from}
 use Rattle.flow_control.specs.Unicast.{Unicast}
 use Rattle.frame_source.specs.Sources.{Source}
 use Rattle.shared_log.specs.Sourced.{Grows}
-use Rattle.retransmit.specs.Handler.{due_range}
+use Rattle.sender.specs.Resending.Handler.{due_range}
 use Rattle.sender.specs.Cycling.{AsksSetup, GivesAgain, GivesNew, Misses, NewsContent, Says, TellsNothing, Unreadable, alone, datagrams, heartbeats, sent_wires, setups}
 use Rattle.sender.specs.Sending.{HearsNews, after_fresh, all_noted, at_moment}
 use Rattle.sender.specs.declared.sender_core.SenderAnswer.{SenderAnswer}

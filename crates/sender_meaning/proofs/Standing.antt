@@ -8,7 +8,7 @@ use Rattle.theory.specs.Position.{max_position}
 use Rattle.theory.proofs.Follow.{chain_span}
 use Rattle.theory.proofs.Frames.{committed_below}
 use Rattle.theory.proofs.Lists.{all_at, all_from}
-use Rattle.retransmit.specs.Handler.{Handler, after_note}
+use Rattle.sender.specs.Resending.Handler.{Handler, after_note}
 use Rattle.sender.specs.Cycling.{GivesNew, TakesAll}
 use Rattle.sender.specs.Sending.{all_noted}
 use Rattle.receiver.specs.Lives.{IsStream, Stream}

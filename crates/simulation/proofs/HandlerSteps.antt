@@ -11,8 +11,8 @@ use Rattle.theory.specs.Resend.{NakAnswer, added, first_due, kept, nak_answer, n
 use Rattle.theory.specs.Timing.{seen}
 use Rattle.model.specs.Sender.{Sender}
 use Rattle.model.specs.Sender as model
-use Rattle.retransmit.specs.Handler.{Handler, after_due, after_nak, answered_first, is_near, nak_answer_of, starts_at}
-use Rattle.retransmit.specs.Laws.{NearAreEnough, NearStayNear}
+use Rattle.sender.specs.Resending.Handler.{Handler, after_due, after_nak, answered_first, is_near, nak_answer_of, starts_at}
+use Rattle.sender.specs.Resending.Laws.{NearAreEnough, NearStayNear}
 use Rattle.script_meaning.specs.Answers.{resent_on, sent_on}
 use Rattle.sender.specs.Cycling.{TakesAll}
 use Rattle.sender.specs.Sending.{all_noted}

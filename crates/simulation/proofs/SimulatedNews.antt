@@ -16,12 +16,12 @@ use Rattle.one_hand.specs.HandReads.{MovesReader}
 use Rattle.one_hand.specs.Reads.{source_of}
 use Rattle.one_hand.specs.Stream.{HasConsumer, Stream, position_of, with_consumer}
 use Rattle.one_hand.specs.declared.hand_reader.HandReader.{HandReader}
-use Rattle.retransmit.specs.Answers.{nak_result}
-use Rattle.retransmit.specs.Handler.{Handler, after_nak, nak_answer_of}
-use Rattle.retransmit.specs.Laws.{NearAreEnough}
+use Rattle.sender.specs.Resending.Answers.{nak_result}
+use Rattle.sender.specs.Resending.Handler.{Handler, after_nak, nak_answer_of}
+use Rattle.sender.specs.Resending.Laws.{NearAreEnough}
 use Rattle.script.specs.Meaning as commands
 use Rattle.script.specs.Meaning.{CommandContent}
-use Rattle.setup.specs.Naming.{Naming}
+use Rattle.sender.specs.Naming.{Naming}
 use Rattle.simulation.specs.Lines.{line_contents}
 use Rattle.simulation.specs.declared.line.Line.{Line}
 use Rattle.simulation.specs.declared.line.Line.TheVariants as lines

@@ -19,10 +19,10 @@ use Rattle.one_hand.specs.Reads.{source_of}
 use Rattle.one_hand.specs.Stream.{Stream, position_of, with_consumer}
 use Rattle.script_meaning.specs.ScriptState.{seat_of}
 use Rattle.one_hand.specs.declared.hand_reader.HandReader.{HandReader}
-use Rattle.retransmit.specs.Handler.{Handler, after_due, due_range}
-use Rattle.retransmit.specs.Laws.{NearStayNear}
+use Rattle.sender.specs.Resending.Handler.{Handler, after_due, due_range}
+use Rattle.sender.specs.Resending.Laws.{NearStayNear}
 use Rattle.script.specs.Meaning as commands
-use Rattle.setup.specs.Naming.{after_due as after_naming, is_due}
+use Rattle.sender.specs.Naming.{after_due as after_naming, is_due}
 use Rattle.simulation.specs.Lines.{line_contents}
 use Rattle.simulation.specs.declared.line.Line.{Line}
 use Rattle.script_meaning.specs.Answers.{after_cycle, again_of, behind_new, clock_at, cycle_limit, cycled, has_come, lines_of, named, or_nothing, packet_lines, wires_of}

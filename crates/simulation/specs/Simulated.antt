@@ -11,7 +11,7 @@ use Rattle.flow_control.specs.Stream.{flow_after}
 use Rattle.flow_control.specs.declared.stream.StreamFlow.{StreamFlow}
 use Rattle.frame_source.specs.Sources.{Source}
 use Rattle.model.specs.Sender.{Sender}
-use Rattle.retransmit.specs.Handler.{Handler}
+use Rattle.sender.specs.Resending.Handler.{Handler}
 use Rattle.sender.specs.Sending.{Sending}
 use Rattle.script_meaning.specs.Answers.{Answers, has_come}
 use Rattle.script_meaning.specs.LineContents.{LineContent}

@@ -18,10 +18,9 @@ use assembler::Message;
 use flow_control::keeps_enough;
 use one_hand::{Claims, OneHandLog};
 use receiver::{Outcome, PollError, Positions};
-use retransmit::near_starts_suffice;
 use script::{Command, PartyNumber};
 use script_meaning::sends_again_what_it_sent;
-use sender::SenderEvent;
+use sender::{SenderEvent, near_starts_suffice};
 use std::alloc::{AllocError, Global};
 
 /// Adds the lines of what became of a datagram's frames.

@@ -4,9 +4,9 @@ use Rattle.theory.specs.Image.{IsWindow}
 use Rattle.theory.specs.Position.{Geometry}
 use Rattle.theory.specs.Setup.{HasSetupFault, NamesGeometry, NamesPosition, OpensAt}
 use Rattle.theory.specs.Wire.{Setup}
-use Rattle.setup.specs.Faults.{fault_of}
-use Rattle.setup.specs.declared.fault.SetupError.{SetupError}
-use Rattle.setup.specs.declared.fault.SetupError.TheVariants as errors
+use Rattle.receiver.specs.SetupFaults.{fault_of}
+use Rattle.receiver.specs.declared.setup.fault.SetupError.{SetupError}
+use Rattle.receiver.specs.declared.setup.fault.SetupError.TheVariants as errors
 use Rattle.options.specs.declared.ends.plans.SubscribePlan.{SubscribePlan}
 use Rattle.subscription.specs.Meetings.{OpensNothing, window_in}
 

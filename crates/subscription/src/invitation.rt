@@ -11,8 +11,7 @@ use crate::window::window_of;
 use frames::{Frame, Setup, read_frame, write_frame};
 use options::SubscribePlan;
 use peer::end_told;
-use receiver::{ReceiverCore, Subscriber};
-use setup::judge;
+use receiver::{ReceiverCore, Subscriber, judge};
 use std::alloc::{AllocError, Global};
 
 /// The greatest message that any stream has, in bytes.

@@ -1,6 +1,6 @@
 use Rattle.std.proofs.Common.{ℕ, subst}
 use Rattle.frames.specs.Frames.{setup_of}
-use Rattle.setup.specs.Faults.{fault_of}
+use Rattle.receiver.specs.SetupFaults.{fault_of}
 use Rattle.theory.specs.Setup.{HasSetupFault}
 use Rattle.subscription.proofs.Openings.{refused}
 use Rattle.subscription.proofs.invitation.opening_of.Goals as goal

@@ -1,8 +1,8 @@
 use Rattle.std.proofs.Common.{◌≡◌, ◌∙◌, ap, refl, rules}
 use Rattle.std.specs.Prelude.{ℤ}
 use Rattle.theory.specs.Position.{position_of}
-use Rattle.retransmit.specs.Answers.{nak_result}
-use Rattle.retransmit.specs.Handler.{nak_answer_of}
+use Rattle.sender.specs.Resending.Answers.{nak_result}
+use Rattle.sender.specs.Resending.Handler.{nak_answer_of}
 use Rattle.sender.specs.Sending.{Sending}
 use Rattle.sender.proofs.sender_core.SenderCore.on_nak.Goals as goal
 

@@ -1,6 +1,6 @@
 use Rattle.std.proofs.Common.{◌∙◌, ap, refl, subst, sym, arith}
 use Rattle.theory.specs.Datagrams.{frames_of}
-use Rattle.retransmit.specs.Handler.{Handler}
+use Rattle.sender.specs.Resending.Handler.{Handler}
 use Rattle.sender.specs.Sending.{Sending, SendsFrom}
 use Rattle.sender.proofs.CycleLemmas.{noted_geometry, still_from}
 use Rattle.sender.proofs.sender_core.SenderCore.send.Goals as goal

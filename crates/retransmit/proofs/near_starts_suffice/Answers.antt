@@ -1,6 +1,0 @@
-use Rattle.retransmit.proofs.Near.{near_are_enough, near_stay_near}
-use Rattle.retransmit.proofs.Ranges.{near_give_range}
-use Rattle.retransmit.proofs.near_starts_suffice.Goals as goal
-
-pub returns : goal.returns
-returns c = record { answers = near_are_enough; later = near_stay_near; range = near_give_range }
