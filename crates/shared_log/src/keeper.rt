@@ -110,21 +110,6 @@ pub(crate) fn sweep(log: &Log, keeper: &mut Keeper) -> u64
     least
 }
 
-/// Stores zero in the next word, which lies below an end, at its place.
-fn clean_next(log: &Log, place: usize, keeper: &mut Keeper, end: u64)
-    requires fits { IsOf log.now keeper.old.held }
-    requires there { place ≡ slot log.now.identity.geometry keeper.old.cleaned }
-    requires may { MayCleanTo keeper.old end }
-    requires below { keeper.old.cleaned < end }
-    requires knows { KnowsLimit keeper.old }
-    ensures cleans { KeepsAs keeper.old (with_cleaned (keeper.old.cleaned + 8) keeper.old) keeper.new }
-    ensures once { TookSteps keeper.old 1 keeper.new }
-{
-    let words = &log.table.shared;
-    words.store::<Clean>(&mut keeper.seat, place, 0);
-    keeper.cleaned += 8;
-}
-
 /// Cleans word after word up to a position.
 fn clean_to(log: &Log, keeper: &mut Keeper, end: u64)
     requires fits { IsOf log.now keeper.old.held }
@@ -133,13 +118,16 @@ fn clean_to(log: &Log, keeper: &mut Keeper, end: u64)
     ensures keeps { KeepsAs keeper.old (with_cleaned end keeper.old) keeper.new }
     ensures steps { TookSteps keeper.old ((end - keeper.old.cleaned) / 8) keeper.new }
 {
-    let _ = &keeper.seat;
+    let words = &log.table.shared;
     let mut ring = log.ring();
-    let mut place = log.slot_of(&mut ring, keeper.cleaned);
-    while keeper.cleaned < end {
-        clean_next(log, place, keeper, end);
+    let mut at = keeper.cleaned;
+    let mut place = log.slot_of(&mut ring, at);
+    while at < end {
+        words.store::<Clean>(&mut keeper.seat, place, 0);
+        at += 8;
         place = log.slot_behind(&ring, place);
     }
+    keeper.cleaned = at;
 }
 
 /// Stores the limit word.
