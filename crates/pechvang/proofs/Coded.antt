@@ -1,5 +1,6 @@
 -- A fault's code is a number of 32 bits.
-use Rattle.std.proofs.Common.{◌≡◌, ℤ, refl, ap, ◌∙◌}
+use Rattle.std.proofs.Common.{◌≡◌, ℕ, ℤ, pos, refl, ap, sym, subst, ◌∙◌}
+use Rattle.std.specs.Prelude.{Option, None, Some, Result, Ok, Err}
 use mir.Syntax.{w32}
 use mir.Val.{of_z, to_z}
 use Rattle.publication.specs.declared.refusal.Refusal.TheVariants.{AdminAction, BackPressured, Closed, MaxPositionExceeded, NotConnected}
@@ -7,6 +8,7 @@ use Rattle.cores.specs.Numbers as core_numbers
 use Rattle.cores.specs.declared.fault.Fault as core_faults
 use Rattle.cores.specs.declared.fault.Fault.TheVariants as cores
 use Rattle.claims.specs.Passes.Codes.{code_of}
+use Rattle.pechvang.specs.Answers.{Tells}
 use Rattle.claims.specs.declared.passes.fault.Fault.{Fault}
 use Rattle.claims.specs.declared.passes.fault.Fault.TheVariants.{Consumers, Full, Long, Memory, Mtu, NoneLeft, Outside, Refused, Start, TermLength}
 
@@ -40,3 +42,11 @@ small_of_core cores.Group = refl
 
 pub coded_core : (f : core_faults.Fault) (code : ℤ) → code ≡ core_numbers.code_of f → to_z w32 (of_z w32 code) ≡ core_numbers.code_of f
 coded_core f code e = ap (λ (z : ℤ). to_z w32 (of_z w32 z)) e ∙ small_of_core f
+
+-- what holds with each length and code that a write may be told by, holds with those that it is told by
+pub by_what_is_told : (w : Result (Option ℕ) core_faults.Fault) (before : ℕ) (code : ℤ) (after : ℕ) (Goes : ℕ → ℤ → Type 0) → Tells w before code after
+    → ((n : ℕ) → w ≡ Ok (Some n) → Goes n (to_z w32 (of_z w32 (pos 1)))) → (w ≡ Ok None → Goes before (to_z w32 (of_z w32 (pos 0)))) → ((f : core_faults.Fault) → w ≡ Err f → Goes before (to_z w32 (of_z w32 (core_numbers.code_of f))))
+    → Goes after (to_z w32 (of_z w32 code))
+by_what_is_told (Ok (Some n)) before code after Goes (e, l) given none failed = subst (λ (x : ℕ × ℤ). Goes x.0 (to_z w32 (of_z w32 x.1))) (λ i. (sym l i, sym e i)) (given n refl)
+by_what_is_told (Ok None) before code after Goes (e, l) given none failed = subst (λ (x : ℕ × ℤ). Goes x.0 (to_z w32 (of_z w32 x.1))) (λ i. (sym l i, sym e i)) (none refl)
+by_what_is_told (Err f) before code after Goes (e, l) given none failed = subst (λ (x : ℕ × ℤ). Goes x.0 (to_z w32 (of_z w32 x.1))) (λ i. (sym l i, sym e i)) (failed f refl)

@@ -1,5 +1,5 @@
 -- What a call answers by its code, and what the handle holds then.
-use Rattle.std.specs.Prelude.{◌≡◌, ℤ, pos, negsuc}
+use Rattle.std.specs.Prelude.{◌≡◌, ℕ, ℤ, pos, negsuc, Option, Result, Ok, Err}
 use Rattle.std.specs.declared.option.Option.TheVariants.{None, Some}
 use Rattle.claims.specs.Passes.Codes.{code_of}
 use Rattle.cores.specs.Numbers as core_numbers
@@ -45,6 +45,12 @@ Fails = FailsAs code_of
 -- of a core
 abbrev pub FailsCore : {Q : Type 0} → (Q → Pass) → (core_faults.Fault → Q → Type 0) → ℤ → Held → Type 0
 FailsCore = FailsAs core_numbers.code_of
+
+-- what is told of a write to a room's front: that so many bytes were written, or none, or why it failed
+abbrev pub Tells : Result (Option ℕ) core_faults.Fault → ℕ → ℤ → ℕ → Type 0
+Tells (Ok (Some n)) before code after = (code ≡ pos 1) × (after ≡ n)
+Tells (Ok None) before code after = (code ≡ pos 0) × (after ≡ before)
+Tells (Err fault) before code after = (code ≡ core_numbers.code_of fault) × (after ≡ before)
 
 -- it is done, and another handle holds what it gave
 pub record Gives {Q R : Type 0} (pass_of : Q → Pass) (given_of : R → Pass) (Did : R → Q → Type 0) (code : ℤ) (k out : Held) : Type 0 where

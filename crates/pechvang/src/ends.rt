@@ -3,9 +3,10 @@
 ghost use Rattle.std.specs.declared.option.Option.TheVariants.{Some};
 ghost use Rattle.pechvang.specs.Ends.{GivesDatagram, TicksAt};
 
-use crate::codes::{DONE, EMPTY_HANDLE, FRAME, WRONG_HANDLE};
+use crate::codes::{DONE, EMPTY_HANDLE, WRONG_HANDLE};
 use crate::handle::{Handle, put, take};
 use crate::held::Pass;
+use crate::written::told;
 use std::alloc::Global;
 
 fn tick_by(pass: &mut Pass, now: u64) -> i32
@@ -47,22 +48,8 @@ fn next_by(pass: &mut Pass, room: &mut [u8], length: &mut usize) -> i32
     ensures { GivesDatagram (Some pass.old) room.old length.old result room.new length.new (Some pass.new) }
 {
     match pass {
-        Pass::Subscriber(subscriber) => match subscriber.next_datagram(room) {
-            Ok(Some(size)) => {
-                *length = size;
-                FRAME
-            }
-            Ok(None) => DONE,
-            Err(fault) => fault.code(),
-        },
-        Pass::Sender(sender) => match sender.next_datagram(room) {
-            Ok(Some(size)) => {
-                *length = size;
-                FRAME
-            }
-            Ok(None) => DONE,
-            Err(fault) => fault.code(),
-        },
+        Pass::Subscriber(subscriber) => told(subscriber.next_datagram(room), length),
+        Pass::Sender(sender) => told(sender.next_datagram(room), length),
         Pass::Nothing
         | Pass::Opened(_)
         | Pass::Publisher(_)

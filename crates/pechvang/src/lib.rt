@@ -18,6 +18,7 @@ mod publishing;
 mod reading;
 mod receiving;
 mod sending;
+mod written;
 
 pub use ends::{pv_next_datagram, pv_tick};
 pub use handle::{Handle, pv_free};

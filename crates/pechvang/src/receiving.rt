@@ -3,9 +3,10 @@
 ghost use Rattle.std.specs.declared.option.Option.TheVariants.{Some};
 ghost use Rattle.pechvang.specs.Ends.{PollsInto, SubscriberOpens, TakesIn};
 
-use crate::codes::{DONE, EMPTY_HANDLE, FRAME, NO_MEMORY, WRONG_HANDLE};
+use crate::codes::{DONE, EMPTY_HANDLE, NO_MEMORY, WRONG_HANDLE};
 use crate::handle::{Handle, put, take};
 use crate::held::Pass;
+use crate::written::told;
 use cores::{SubscriberPass, Subscription};
 use std::alloc::Global;
 
@@ -83,14 +84,7 @@ fn poll_by(pass: &mut Pass, room: &mut [u8], length: &mut usize) -> i32
     ensures { PollsInto (Some pass.old) room.old length.old result room.new length.new (Some pass.new) }
 {
     match pass {
-        Pass::Subscriber(subscriber) => match subscriber.poll(room) {
-            Ok(Some(size)) => {
-                *length = size;
-                FRAME
-            }
-            Ok(None) => DONE,
-            Err(fault) => fault.code(),
-        },
+        Pass::Subscriber(subscriber) => told(subscriber.poll(room), length),
         Pass::Nothing
         | Pass::Opened(_)
         | Pass::Publisher(_)

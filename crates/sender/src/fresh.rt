@@ -4,7 +4,7 @@ ghost use Rattle.std.specs.Prelude.{◌≡◌, length};
 ghost use Rattle.sender.specs.Giving.{CanSend, CanSendNext, SendsNew, SendsNext};
 
 use crate::packing::Packing;
-use crate::retransmit::Retransmit;
+use crate::retransmit::handler::Retransmit;
 use crate::stream_frame::sent_to;
 use block::Block;
 use frame_source::FrameSource;
