@@ -20,9 +20,31 @@ returns-in-Sender c =
     let goes = λ (n : ℕ) (z : ℤ). GivesDatagram (options.Some (Sender b)) c.args.room.now c.args.length.now z room n (options.Some (Sender q)) in
     subst (λ (x : Pass). GivesDatagram (options.Some x) c.args.room.now c.args.length.now (to_z w32 (of_z w32 code)) room length (options.Some (Sender q))) (sym c.in-Sender.is)
     (by_what_is_told w c.args.length.now code length goes c.told-in-Sender.ensures
-      (λ n e. inl record { after = q; held = refl; code_is = refl; did = subst (λ (v : SenderValue). Departs v.left c.args.room.now n room t.left × (t.core ≡ v.core)) value
-        (subst (λ (r : Result (Option ℕ) Fault). IfOk r (λ got. IfSome got (λ k. Departs was.left c.args.room.now k room t.left))) e d.given, d.core) })
-      (λ e. inr (inl record { after = q; held = refl; code_is = refl; did = subst (λ (v : SenderValue). NoneDeparts v.left c.args.room.now room t.left × (t.core ≡ v.core)) value
-        (subst (λ (r : Result (Option ℕ) Fault). IfOk r (λ got. IfNone got (NoneDeparts was.left c.args.room.now room t.left))) e d.none, d.core) }, refl))
-      (λ fault e. inr (inr record { fault = fault; after = q; held = refl; code_is = coded_core fault _ refl; why = subst (λ (v : SenderValue). WontDepart v.left c.args.room.now fault room t.left × (t.core ≡ v.core)) value
-        (subst (λ (r : Result (Option ℕ) Fault). IfErr r (λ f. WontDepart was.left c.args.room.now f room t.left)) e d.longer, d.core) }, refl)))
+    (λ n e. inl record {
+      after = q;
+      held = refl;
+      code_is = refl;
+      did = subst (λ (v : SenderValue). Departs v.left c.args.room.now n room t.left × (t.core ≡ v.core)) value
+          (subst (λ (r : Result (Option ℕ) Fault). IfOk r (λ got. IfSome got (λ k. Departs was.left c.args.room.now k room t.left))) e d.given, d.core);
+    })
+    (λ e. inr (
+      inl record {
+        after = q;
+        held = refl;
+        code_is = refl;
+        did = subst (λ (v : SenderValue). NoneDeparts v.left c.args.room.now room t.left × (t.core ≡ v.core)) value
+            (subst (λ (r : Result (Option ℕ) Fault). IfOk r (λ got. IfNone got (NoneDeparts was.left c.args.room.now room t.left))) e d.none, d.core);
+      },
+      refl,
+    ))
+    (λ fault e. inr (
+      inr record {
+        fault = fault;
+        after = q;
+        held = refl;
+        code_is = coded_core fault _ refl;
+        why = subst (λ (v : SenderValue). WontDepart v.left c.args.room.now fault room t.left × (t.core ≡ v.core)) value
+            (subst (λ (r : Result (Option ℕ) Fault). IfErr r (λ f. WontDepart was.left c.args.room.now f room t.left)) e d.longer, d.core);
+      },
+      refl,
+    )))
