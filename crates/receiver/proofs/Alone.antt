@@ -3,15 +3,15 @@
 use Rattle.std.proofs.Common.{◌≡◌, ℕ, suc, ◌*◌, ◌≤◌, inl, inr, List, [], ◌∷◌, length, Option, None, Some, refl, sym, ap, ◌∙◌, subst, arith}
 use Rattle.std.specs.Prelude.{⊤, slice_index, slice_set}
 use Rattle.std.specs.List.{AllByRecursion}
-use Rattle.theory.specs.Wire.{SpellsDatagram, Wire}
+use Rattle.theory.specs.Wire.{Wire}
 use Rattle.shared_image.specs.Handles.{IsReaderOf, ReaderSeat, position_of}
 use Rattle.rebuilder.specs.Meeting.{AreAlone, Meets, number_of}
 use Rattle.rebuilder.specs.Seen.{Inserting, geometry_of, join_of}
 use Rattle.receiver.specs.declared.receiver_core.Outcome.{Outcome}
-use Rattle.receiver.specs.Receiving.{MeetsAll, Opened, Receiver, RefusesDatagram, TakesDatagram, at_moment}
-use Rattle.receiver.specs.Representing.{Becomes, BecomesSeen, Core, HearsDatagram, ImageSeesOn, MeetsEach, Represents, RepresentsImage, RepresentsOpened, SeesOn, core_seen_as, image_seen_as, words_of}
+use Rattle.receiver.specs.Receiving.{MeetsAll, Opened, Receiver, TakesDatagram, at_moment}
+use Rattle.receiver.specs.Representing.{Becomes, Core, HearsDatagram, ImageSeesOn, MeetsEach, Represents, RepresentsImage, RepresentsOpened, core_seen_as, image_seen_as, words_of}
 use Rattle.receiver.specs.Seating.{AreSeated, MaySit, Sits, SitsAt, place_of}
-use Rattle.receiver.proofs.Meeting.{sees_same, seen_at, shown_none}
+use Rattle.receiver.proofs.Meeting.{sees_same, seen_at}
 
 -- ---- what was seen goes on
 
@@ -132,7 +132,7 @@ heard r p v m now bytes outs seated most (inr refuses) = λ x h.
 -- where, and that it was seen no further before
 place : (r : Option ReaderSeat) (o w : Option Inserting) → Sits o r w → (p : ℕ) × AtMost r p o
 place r None w sits = (0, tt)
-place r (Some i) w sits = (place_of i r, sits.2.one, sits.2.stood, refl)
+place r (Some i) w sits = (place_of i r, (sits.2.one, sits.2.stood, refl))
 
 seated_image : (i j : Inserting) (p : ℕ) (o : Opened) → i.seen ≡ p ∷ [] → SitsAt i p j → RepresentsImage i o → RepresentsImage j o
 seated_image i j p o at sits h = record {

@@ -1,7 +1,9 @@
 -- What becomes of a receiver's core, told of the receivers that it shows.
-use Rattle.std.proofs.Common.{◌≡◌, ℕ, ◌<◌, inl, inr, List, [], ◌∷◌, ◌++◌, length, map, arith, ◌%◌, Option, Some, None, refl, sym, ap, ap₂, ◌∙◌, subst}
+use Rattle.std.proofs.Common.{◌≡◌, ℕ, inl, inr, List, [], ◌∷◌, ◌++◌, length, map, arith, ◌%◌, Option, Some, None, refl, sym, ap, ap₂, ◌∙◌, subst, FitsSigned, to_z, of_z, w32}
+use Rattle.std.proofs.lemmas.Int.{to_z-of_z}
 use Rattle.std.specs.Prelude.{◌↔◌, IsTrue, ℤ, Result, Ok, Err, IfOk, Bool, true, false, max, option_map}
-use Rattle.std.specs.Option.{option_to_list}
+use Rattle.std.specs.Option.{ForSome, option_to_list}
+use Rattle.std.proofs.lemmas.List.{length-replicate}
 use Rattle.std.proofs.lemmas.Bool.{both_ways, cond-true, cond-false}
 use Rattle.theory.specs.Bytes.{Identity}
 use Rattle.theory.specs.Position.{Geometry}
@@ -12,9 +14,9 @@ use Rattle.theory.specs.Timing.{LastStatus, is_status_due}
 use Rattle.frames.specs.Frames.{nak_of, status_of}
 use Rattle.theory.specs.Image.{image_at}
 use Rattle.theory.specs.Setup.{HasSetupFault, OpensAt}
-use Rattle.theory.specs.Wire.{Header, NAK, SM, Setup, SpellsDatagram, Wire}
+use Rattle.theory.specs.Wire.{Header, IsHeader, NAK, SM, Setup, SpellsDatagram, Wire}
 use Rattle.position.specs.declared.head.FrameHead.{FrameHead}
-use Rattle.image.specs.Seen.{least}
+use Rattle.image.specs.Seen.{IsCount, least}
 use Rattle.image.specs.declared.answer.Insert.{Insert}
 use Rattle.receiver.specs.declared.receiver_core.Outcome.{Outcome}
 use Rattle.receiver.specs.declared.receiver_core.Outcome.TheVariants as outcomes
@@ -82,12 +84,16 @@ pub ours : (v : Core) (x y : ℤ) → (x ≡ v.session) × (y ≡ v.stream) → 
 ours v x y same r s = (same.0 ∙ sym (ap (λ (z : Receiver). z.session) s.numbers), same.1 ∙ sym (ap (λ (z : Receiver). z.stream) s.numbers))
 
 pub not_mine : (v : Core) (x y : ℤ) (b : Bool) (Then : Receiver → Receiver → Type 0) → (IsTrue b ↔ ((x ≡ v.session) × (y ≡ v.stream))) → b ≡ false → BecomesSeen v v (λ r s. IfOurs r x y (Then r s) outcomes.Other s)
-not_mine v x y b Then said no =
-    let not : (x ≡ v.session) × (y ≡ v.stream) → ⊥ = λ is. both_ways b no (said.1 is) in
-    nothing_seen v (λ r s. IfOurs r x y (Then r s) outcomes.Other s) (λ r s. inr ((λ is. not (is.0 ∙ ap (λ (z : Receiver). z.session) s.numbers, is.1 ∙ ap (λ (z : Receiver). z.stream) s.numbers)), refl, refl))
+not_mine v x y b Then said fails =
+    let not : (x ≡ v.session) × (y ≡ v.stream) → ⊥ = λ is. both_ways b fails (said.1 is) in
+    nothing_seen v (λ r s. IfOurs r x y (Then r s) outcomes.Other s) (λ r s. inr ((λ is. not (is.0 ∙ ap (λ (z : Receiver). z.session) s.numbers, is.1 ∙ ap (λ (z : Receiver). z.stream) s.numbers)), (refl, refl)))
 
 pub of_ours : (v w : Core) (x y : ℤ) (Then : Receiver → Receiver → Type 0) (out : Outcome) → (x ≡ v.session) × (y ≡ v.stream) → BecomesSeen v w Then → BecomesSeen v w (λ r s. IfOurs r x y (Then r s) out s)
 of_ours v w x y Then out same f = (f.0, λ r s. (let a = f.1 r s in (a.0, inl (ours (core_seen_as v w) x y same r s, a.1), a.2)))
+
+-- ids as the code has them
+pub as_ids : (v : Core) (b : Bool) (s t : ℤ) → FitsSigned w32 s → FitsSigned w32 t → (IsTrue b ↔ ((to_z w32 (of_z w32 s) ≡ v.session) × (to_z w32 (of_z w32 t) ≡ v.stream))) → IsTrue b ↔ ((s ≡ v.session) × (t ≡ v.stream))
+as_ids v b s t session stream said = subst (λ (z : ℤ × ℤ). IsTrue b ↔ ((z.0 ≡ v.session) × (z.1 ≡ v.stream))) (λ j. (to_z-of_z w32 s session j, to_z-of_z w32 t stream j)) said
 
 -- the image that it shows, with its consumers as seen
 seen_shown : (v w : Core) (i j : Inserting) (r : Receiver) → v.image ≡ Some i → w.image ≡ Some j → Represents (core_seen_as v w) r → HasShown (record i { seen = j.seen }) r.image
@@ -303,14 +309,37 @@ sees_image v w i j some then sees = subst (λ (x : Option Inserting × Option In
 
 -- ---- what always holds of a core
 
-pub core_on : (v : Core) (i j : Inserting) → IsCore v → v.image ≡ Some i → SeesOn i j → IsCore (imaged v j)
-core_on v i j is some sees = record {
-  count = is.count;
-  width = λ k e. (let same : k ≡ j = cc in ap (λ (x : Inserting). x.window) same ∙ sees.window ∙ is.width i some);
-  seats = λ k e. (let same : k ≡ j = cc in let s = is.seats i some in (ap (λ (x : Inserting). x.key.consumers) same ∙ (λ n. (sees.key n).consumers) ∙ s.0, ap (λ (x : Inserting). length x.seen) same ∙ sees.all ∙ s.1));
-  unmet = is.unmet;
-  faults = is.faults;
+record HasShape (v w : Core) (j : Inserting) : Type 0 where
+  image : w.image ≡ Some j
+  width : j.window ≡ v.window
+  seats : (j.key.consumers ≡ v.consumers) × (length j.seen ≡ v.consumers)
+
+core_of : (v w : Core) (j : Inserting) → IsCore v → HasShape v w j → w.window ≡ v.window → w.consumers ≡ v.consumers → ForSome w.unmet IsHeader → w.faults ≡ v.faults → IsCore w
+core_of v w j is h window consumers unmet faults = record {
+  count = subst IsCount (sym consumers) is.count;
+  width = λ k e. (let same_some : Some k ≡ Some j = sym e ∙ h.image in let same : k ≡ j = cc in ap (λ (x : Inserting). x.window) same ∙ h.width ∙ sym window);
+  seats = λ k e. (let same_some : Some k ≡ Some j = sym e ∙ h.image in let same : k ≡ j = cc in (ap (λ (x : Inserting). x.key.consumers) same ∙ h.seats.0 ∙ sym consumers, ap (λ (x : Inserting). length x.seen) same ∙ h.seats.1 ∙ sym consumers));
+  unmet = unmet;
+  faults = ap length faults ∙ is.faults;
 }
+
+-- with a later state of the image
+pub core_on : (v w : Core) (i j : Inserting) → IsCore v → v.image ≡ Some i → SeesOn i j → w.image ≡ Some j → w.window ≡ v.window → w.consumers ≡ v.consumers → w.unmet ≡ v.unmet → w.faults ≡ v.faults → IsCore w
+core_on v w i j is some sees then window consumers unmet faults =
+    let s = is.seats i some in
+    core_of v w j is
+    (record { image = then; width = sees.window ∙ is.width i some; seats = ((λ n. (sees.key n).consumers) ∙ s.0, sees.all ∙ s.1) })
+    window consumers (subst (λ (x : Option Header). ForSome x IsHeader) (sym unmet) is.unmet) faults
+
+-- with one that was just opened
+pub core_opened : (v w : Core) (d : Identity) (p : ℕ) (j : Inserting) → IsCore v → j ≡ fresh j d p v.window v.consumers → w.image ≡ Some j → w.unmet ≡ None → w.window ≡ v.window → w.consumers ≡ v.consumers → w.faults ≡ v.faults → IsCore w
+core_opened v w d p j is e then unmet window consumers faults =
+    core_of v w j is
+    (record { image = then; width = ap (λ (x : Inserting). x.window) e; seats = (ap (λ (x : Inserting). x.key.consumers) e, ap (λ (x : Inserting). length x.seen) e ∙ length-replicate v.consumers p) })
+    window consumers (λ h f. (let no_header : None ≡ Some h = sym unmet ∙ f in absurd (cc))) faults
+
+pub same_sees : (i j : Inserting) → j ≡ i → SeesOn i j
+same_sees i j e = subst (SeesOn i) (sym e) (record { of = refl; key = refl; window = refl; undealt = refl; all = refl; forward = λ n. omega arith })
 
 -- ---- a datagram
 

@@ -1,5 +1,5 @@
 -- Frames that a poll reads, one after the other.
-use Rattle.std.proofs.Common.{◌≡◌, ◌↔◌, ◌≤◌, ℕ, inl, inr, ⊎_elim, List, [], ◌∷◌, ◌++◌, arith, true, false, Option, Some, None, Ok, Err, refl, sym, ap, ap₂, ◌∙◌, subst, append-nil}
+use Rattle.std.proofs.Common.{◌≡◌, ◌↔◌, ◌≤◌, ℕ, inl, inr, ⊎_elim, List, [], ◌∷◌, ◌++◌, true, false, Option, Some, None, Ok, Err, refl, sym, ap, ap₂, ◌∙◌, subst, append-nil}
 use Rattle.std.specs.Prelude.{is_some, map}
 use Rattle.std.specs.Option.{option_to_list}
 use Rattle.std.specs.List.{AllByRecursion}
@@ -12,11 +12,9 @@ use Rattle.theory.specs.Consumer.{Consumer, moved, passed_by}
 use Rattle.theory.specs.Image.{Image}
 use Rattle.theory.proofs.Lists.{all_append}
 use Rattle.theory.proofs.Follow.{Chain-push}
-use Rattle.theory.proofs.Leasts.{fold_first}
 use Rattle.assembler.specs.Assembling.{Assembling}
 use Rattle.receiver.specs.Polling.{AsksMemory, Answer, IsTooLong, PollsOf, PollsWhole, ReadsFrames, StaysShort, StopsAt, TellsOf, TellsPositions, gives, moved_all, passed_all, with_only_consumer}
 use Rattle.receiver.specs.declared.poll_error.PollError.TheVariants.{NoImage, Unassembled}
-use Rattle.receiver.specs.declared.positions.Positions.{Positions}
 use Rattle.assembler.specs.declared.fault.AssemblyError.{AssemblyError}
 use Rattle.assembler.specs.declared.fault.AssemblyError.TheVariants.{Memory, TooLong}
 use Rattle.receiver.specs.Receiving.{Opened, Receiver}
@@ -26,7 +24,7 @@ use Rattle.receiver.proofs.PollFrames.{moved_at, passed_lost}
 use Rattle.theory.proofs.Stays.{after_last}
 use Rattle.receiver.proofs.Shown.{least_shown}
 use Rattle.image.specs.Seen.{least}
-use Rattle.shared_image.specs.Handles.{ReaderSeat}
+use Rattle.shared_image.specs.Handles.{ReaderSeat, position_of}
 use Rattle.rebuilder.specs.Seen.{Inserting, join_of}
 use Rattle.receiver.specs.Seating.{AreSeated}
 use Rattle.std.proofs.lemmas.Option.{same_Some}
@@ -293,6 +291,12 @@ tells v i at q high r some is end mark h =
     let lowest = ap least (sym is) ∙ least_shown i w.opened w.shown in
     subst (λ x. TellsOf x (Some (record { least = at; rebuilt = q; high_water = high }))) (sym w.is)
     (q, subst (λ (x : List Placed × ℕ). IsContiguous x.0 x.1 q) (λ j. (w.shown.stored j, w.shown.join j)) end, (λ j. Some (record { least = lowest j; rebuilt = q; high_water = (mark ∙ w.shown.high) j })))
+
+-- where the reader stands that the inserter has seen, nothing is missing below
+pub stands_below : (o : Option Inserting) (r : Option ReaderSeat) (i : Inserting) (q : ReaderSeat) (rebuilt : ℕ) → AreSeated o r → o ≡ Some i → r ≡ Some q → AllByRecursion (λ p. (join_of i ≤ p) × (p ≤ rebuilt)) i.seen → (i.seen ≡ position_of q ∷ []) × (position_of q ≤ rebuilt)
+stands_below o r i q rebuilt seated some there behind =
+    let a : AreSeated (Some i) (Some q) = subst (λ (x : Option Inserting × Option ReaderSeat). AreSeated x.0 x.1) (λ j. (some j, there j)) seated in
+    (a.met, (subst (AllByRecursion (λ p. (join_of i ≤ p) × (p ≤ rebuilt))) a.met behind).0.1)
 
 -- a core without an image
 pub subscribes : (v : Subscribing) (r : Receiver) → v.core.image ≡ None → v.core.consumers ≡ 1 → v.assembler.begun ≡ None → v.assembler.greatest ≡ r.greatest → Represents v.core r → RepresentsSubscriber v r

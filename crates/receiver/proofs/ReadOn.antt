@@ -1,5 +1,5 @@
 -- What an image's one reader reads, told of the images of the definitions that it shows.
-use Rattle.std.proofs.Common.{◌≡◌, ℕ, ◌+◌, ◌^◌, ◌<◌, ◌≤◌, List, [], ◌∷◌, map, length, Some, refl, sym, ap, ◌∙◌, subst, arith}
+use Rattle.std.proofs.Common.{◌≡◌, ℕ, ◌≤◌, List, [], ◌∷◌, map, length, refl, sym, ap, ◌∙◌, subst, arith}
 use Rattle.std.specs.Prelude.{slice_get, slice_index, slice_set}
 use Rattle.std.specs.List.{AllByRecursion}
 use Rattle.theory.specs.Position.{IsGeometry, max_position}
@@ -12,7 +12,7 @@ use Rattle.theory.proofs.Parted.{one_frame}
 use Rattle.position.specs.declared.head.FrameHead.{FrameHead}
 use Rattle.image.specs.Kinds.{head_at}
 use Rattle.image.specs.Seen.{IsFit, IsShown}
-use Rattle.shared_image.specs.Handles.{ImageWords, ReaderSeat, position_of}
+use Rattle.shared_image.specs.Handles.{ImageWords, ReaderSeat}
 use Rattle.rebuilder.specs.Meeting.{AreAlone}
 use Rattle.rebuilder.specs.Seen.{Inserting, IsInserterOf, geometry_of, join_of}
 use Rattle.receiver.specs.Receiving.{Opened}

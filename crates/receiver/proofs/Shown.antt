@@ -1,12 +1,12 @@
 -- What the calls of an inserter promise, told of the images of the definitions that it shows.
-use Rattle.std.proofs.Common.{◌≡◌, ℕ, ◌+◌, ◌-◌, ◌*◌, ◌/◌, ◌%◌, ◌^◌, ◌<◌, ◌≤◌, ⊎_elim, List, [], ◌∷◌, map, length, min, max, Bool, true, false, Option, None, Some, refl, sym, ap, ◌∙◌, subst, arith}
+use Rattle.std.proofs.Common.{◌≡◌, ℕ, ◌+◌, ◌*◌, ◌/◌, ◌%◌, ◌^◌, ◌<◌, ◌≤◌, ⊎_elim, List, [], ◌∷◌, map, min, max, Bool, true, false, Option, None, Some, refl, sym, ap, ◌∙◌, subst, arith}
 use Rattle.std.specs.Prelude.{replicate, ℤ, pos, negsuc, IfSome}
 use Rattle.std.specs.List.{fold}
 use Rattle.std.proofs.lemmas.Bool.{cases_Bool, cond-true, cond-false}
 use Rattle.theory.specs.Bytes.{Identity}
-use Rattle.theory.specs.Position.{Geometry, IsGeometry, aligned, max_position}
+use Rattle.theory.specs.Position.{Geometry, IsGeometry, max_position}
 use Rattle.theory.specs.Placed.{Frame, Placed, end_of, frame_length, is_padding}
-use Rattle.theory.specs.Units.{IsContiguous, contiguous}
+use Rattle.theory.specs.Units.{contiguous}
 use Rattle.theory.specs.Consumer.{Consumer, consumer_at, least_from, least_of}
 use Rattle.theory.specs.Control.{named_by}
 use Rattle.theory.specs.Gap.{IsAnswer, IsGap, gap_of}
@@ -18,7 +18,7 @@ use Rattle.theory.proofs.Lists.{all_replicate}
 use Rattle.theory.proofs.Tables.{map_replicate}
 use Rattle.position.specs.Gaps as code
 use Rattle.position.specs.declared.gap.Gap as declared
-use Rattle.image.specs.Seen.{IsJoin, accepts, least}
+use Rattle.image.specs.Seen.{accepts, least}
 use Rattle.image.specs.Stored.{meant}
 use Rattle.image.specs.declared.answer.Insert as given
 use Rattle.image.specs.declared.answer.Insert.TheVariants as answers

@@ -3,7 +3,7 @@
 -- the receivers of its numbers whose image stored these frames, and whose consumers stand where it saw them. Consumers may go
 -- forward between two of its calls. What a call makes of a receiver is therefore promised for those whose consumers stand
 -- where this very call saw them (`BecomesSeen`).
-use Rattle.std.specs.Prelude.{◌≡◌, ℕ, ◌+◌, ◌^◌, ◌<◌, ◌≤◌, ℤ, ⊤, List, [], ◌∷◌, map, max, length, slice_get, slice_index, slice_set, Option, None, Some, ◌⊎◌}
+use Rattle.std.specs.Prelude.{◌≡◌, ℕ, ◌+◌, ◌^◌, ◌≤◌, ℤ, ⊤, List, [], ◌∷◌, map, max, length, slice_get, slice_index, slice_set, Option, None, Some, ◌⊎◌}
 use Rattle.std.specs.List.{AllByRecursion}
 use Rattle.std.specs.Option.{ForSome}
 use Rattle.block.specs.Bytes.{with_front}

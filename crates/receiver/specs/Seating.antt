@@ -1,5 +1,5 @@
 -- A core and the one reader of its image, in one hand.
-use Rattle.std.specs.Prelude.{◌≡◌, ℕ, ◌≤◌, ⊤, List, [], ◌∷◌, length, slice_index, Option, None, Some}
+use Rattle.std.specs.Prelude.{◌≡◌, ℕ, ◌≤◌, ⊤, [], ◌∷◌, length, slice_index, Option, None, Some}
 use Rattle.shared_image.specs.Handles.{IsReaderOf, ReaderSeat, position_of}
 use Rattle.rebuilder.specs.Meeting.{AreAlone, number_of}
 use Rattle.rebuilder.specs.Seen.{Inserting, join_of}

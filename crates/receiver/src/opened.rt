@@ -1,6 +1,6 @@
 //! The image that a SETUP opened: what frames, heartbeats and a consumer's reading make of it.
 
-ghost use Rattle.std.specs.Prelude.{◌≡◌, ◌≤◌, ◌<◌, ◌+◌, ◌/◌, ◌^◌, ◌%◌, [], length, map, replicate, slice_index, IfNone, IfOk, IfSome, OnSome};
+ghost use Rattle.std.specs.Prelude.{◌≡◌, ◌≤◌, ◌<◌, ◌+◌, ◌/◌, ◌^◌, ◌%◌, [], Some, length, map, replicate, slice_index, IfNone, IfOk, IfSome, OnSome};
 ghost use Rattle.std.specs.List.{AllByRecursion};
 ghost use Rattle.position.specs.declared.head.FrameKind.TheVariants.{Data};
 ghost use Rattle.position.specs.Gaps.{gap_of};
@@ -18,6 +18,7 @@ ghost use Rattle.rebuilder.specs.Meeting.{AreAlone, Meets, number_of};
 ghost use Rattle.rebuilder.specs.Seen.{geometry_of, join_of};
 ghost use Rattle.receiver.specs.Receiving.{Opened, gap_in};
 ghost use Rattle.receiver.specs.Representing.{GoesForward, HearsBeat, Inserts, IsAtEnd, ReadsPast, RepresentsImage, SeesOn, words_of};
+ghost use Rattle.receiver.specs.Seating.{AreSeated, MaySit, SitsAt, place_of};
 
 use block::Block;
 use frames::{Frame, Header};
@@ -181,6 +182,23 @@ impl OpenImage {
         ensures met { Meets self.old reader.old self.new reader.new }
     {
         meet(&self.image, reader, &mut self.inserter);
+    }
+
+    /// Sees its one reader where that stands, and tells it what was stored so far. The reader is taken from the image if there
+    /// is none.
+    pub(crate) fn sit(&mut self, reader: &mut Option<ImageReader>)
+        requires one { (self.old.key.consumers ≡ 1) × (length self.old.seen ≡ 1) }
+        requires may { MaySit (Some self.old) reader.old }
+        ensures seated { AreSeated (Some self.new) reader.new }
+        ensures sits { SitsAt self.old (place_of self.old reader.old) self.new }
+    {
+        if let Some(reader) = reader {
+            self.meet(reader);
+            return;
+        }
+        let mut first = self.deal();
+        self.meet(&mut first);
+        *reader = Some(first);
     }
 
     /// Reads the frame where its one reader stands to the block's front, and moves the reader past it. There is none where it

@@ -197,14 +197,7 @@ impl ReceiverCore {
         let Some(image) = &mut self.image else {
             return;
         };
-        match reader {
-            Some(reader) => image.meet(reader),
-            None => {
-                let mut first = image.deal();
-                image.meet(&mut first);
-                *reader = Some(first);
-            }
-        }
+        image.sit(reader);
     }
 
     /// Notes a moment.

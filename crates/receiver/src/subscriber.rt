@@ -177,13 +177,16 @@ impl Subscriber {
         ensures told { (r : Receiver) → RepresentsSubscriber self.now r → TellsPositions r result }
         ensures order { IfSome result (λ p. (p.least ≤ p.rebuilt) × (p.rebuilt ≤ p.high_water)) }
     {
-        match (self.core.image(), &self.reader) {
-            (Some(image), Some(reader)) => Some(Positions {
-                least: reader.position(),
-                rebuilt: image.rebuilt(),
-                high_water: image.high_water(),
-            }),
-            _ => None,
-        }
+        let Some(image) = self.core.image() else {
+            return None;
+        };
+        let Some(reader) = &self.reader else {
+            return None;
+        };
+        Some(Positions {
+            least: reader.position(),
+            rebuilt: image.rebuilt(),
+            high_water: image.high_water(),
+        })
     }
 }

@@ -1,4 +1,4 @@
-use Rattle.std.proofs.Common.{◌≡◌, ◌≤◌, ◌∷◌, [], ◌∙◌, refl, sym, ap, subst}
+use Rattle.std.proofs.Common.{◌≡◌, ◌≤◌, ◌∷◌, [], ◌∙◌, sym, ap, subst}
 use Rattle.theory.specs.Position.{IsGeometry, max_position}
 use Rattle.shared_image.specs.Handles.{position_of}
 use Rattle.rebuilder.specs.Meeting.{AreAlone}

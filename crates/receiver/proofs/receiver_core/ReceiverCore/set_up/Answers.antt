@@ -1,13 +1,12 @@
-use Rattle.std.proofs.Common.{◌≡◌, ◌∙◌, false, true, Option, None, Some, refl, sym, ap, subst}
+use Rattle.std.proofs.Common.{◌≡◌, ◌∙◌, false, true, Option, None, Some, refl, sym, subst}
 use Rattle.std.specs.Option.{is_some}
 use Rattle.theory.specs.Bytes.{Identity}
-use Rattle.theory.specs.Position.{Geometry}
-use Rattle.theory.specs.Image.{IsWindow}
 use Rattle.theory.specs.Setup.{OpensAt}
 use Rattle.image.specs.Seen.{IsJoin}
 use Rattle.frames.specs.Frames.{setup_of}
+use Rattle.receiver.specs.contracts.receiver_core.ReceiverCore.{the_view}
 use Rattle.receiver.proofs.Joins.{opens_join}
-use Rattle.receiver.proofs.Meeting.{setup_kept, setup_met, setup_refused}
+use Rattle.receiver.proofs.Meeting.{core_opened, setup_kept, setup_met, setup_refused}
 use Rattle.receiver.proofs.receiver_core.ReceiverCore.set_up.Goals as goal
 
 pub open-requires-clause-join : goal.open-requires-clause-join
@@ -37,3 +36,6 @@ pub returns-in-Err-clause-met : goal.returns-in-Err-clause-met
 returns-in-Err-clause-met c =
     let none : c.self.inside.image ≡ None = is_none c.self.inside.image (sym c.is_some.ensures ∙ c.if-is_some.false) in
     rw (← c.self.view_is) (setup_refused _ (setup_of c.args.setup.now) c.in-Err.error none c.in-Err.ensures.fault)
+
+pub invariant_of-self : goal.invariant_of-self
+invariant_of-self c = core_opened (the_view c.self.inside) _ c.new-identity.result c.in-Ok.named.1 c.in_ok-image-in-Ok.image c.self.invariant c.in_ok-image-in-Ok.ensures refl refl refl refl refl

@@ -1,4 +1,4 @@
-use Rattle.std.proofs.Common.{◌≡◌, rules, sym, subst, ap, ◌∙◌, refl, FitsSigned, w32, w64}
+use Rattle.std.proofs.Common.{rules, sym, subst, ap, ◌∙◌, refl, FitsSigned, w32, w64}
 use Rattle.std.specs.Option.{option_map, option_to_list}
 use Rattle.std.proofs.lemmas.Int.{to_z-of_z}
 use Rattle.theory.specs.Timing.{is_status_due}
@@ -7,7 +7,7 @@ use Rattle.receiver.specs.Representing.{Represents, last_status_of}
 use Rattle.receiver.specs.contracts.receiver_core.ReceiverCore.{the_view}
 use Rattle.theory.specs.Wire.{SM}
 use Rattle.frames.specs.Frames.{status_of}
-use Rattle.receiver.proofs.Meeting.{core_on, imaged, looked_at, not_told, sees_image, sees_same, status_same, told_at, told_now}
+use Rattle.receiver.proofs.Meeting.{imaged, looked_at, not_told, sees_image, status_same, told_at, told_now}
 use Rattle.receiver.proofs.receiver_core.ReceiverCore.tell.Goals as goal
 
 pub returns-then-not-is_due-clause-told : goal.returns-then-not-is_due-clause-told
