@@ -12,6 +12,8 @@ use Rattle.theory.specs.Position.{Geometry, aligned}
 use Rattle.theory.specs.Units.{HasUnit, IsContiguous}
 use Rattle.theory.proofs.Held.{not_stored}
 use Rattle.position.specs.declared.head.FrameHead.{FrameHead}
+use Rattle.position.specs.declared.head.FrameKind.TheVariants as kinds
+use Rattle.position.specs.Heads.{head_of}
 use Rattle.image.specs.Kinds.{head_at}
 use Rattle.image.specs.Seen.{IsShown, least}
 use Rattle.image.specs.Stored.{meant}
@@ -25,7 +27,7 @@ use Rattle.image_rule.specs.Frames.{IsContent, placed_of}
 use Rattle.image_rule.proofs.Units.{among_placed, placed_among}
 use Rattle.shared_image.specs.Handles.{ImageWords, IsReaderOf, ReaderSeat, position_of}
 use Rattle.shared_image.specs.Reading.{Advances, FindsNone, ReadsFrame}
-use Rattle.rebuilder.specs.Meeting.{AreAlone, Meets, StayAlone, number_of}
+use Rattle.rebuilder.specs.Meeting.{AreAlone, IsShort, Meets, StayAlone, number_of}
 use Rattle.rebuilder.specs.Seen.{Inserting, Inserts, IsInserterOf, Looked, join_of}
 use Rattle.rebuilder.proofs.Judged.{head_shown}
 
@@ -149,6 +151,14 @@ module _ (image : ImageWords) (i : Inserting) (r : ReaderSeat) (alone : AreAlone
 payload_short : (c : placed.Frame) → IsContent c → length (payload_of c) ≤ 65472
 payload_short (Data flags payload) is = let a = is.1 in omega arith
 payload_short (Pad n) is = omega arith
+
+-- a DATA frame that was stored is short
+short : (p : ℕ) (c : placed.Frame) (head : FrameHead) → head ≡ head_of p c → IsContent c → IsShort head
+short p (Data flags payload) head e is kind = let n : head.frame_length ≡ 32 + length payload = ap (λ (h : FrameHead). h.frame_length) e in let b = is.1 in (omega arith, omega arith)
+short p (Pad n) head e is kind = let k : kinds.Pad ≡ kinds.Data = sym (ap (λ (h : FrameHead). h.kind) e) ∙ kind in absurd (cc)
+
+pub read_short : (q : ReaderSeat) (head : FrameHead) (before : List ℕ) (x : ReaderSeat) (after : List ℕ) → ReadsFrame q head before x after → IsShort head
+read_short q head before x after reads = short _ _ head reads.finds.shown reads.finds.content
 
 -- bytes in front of others, as many in all
 pub in_front : (before front after : List ℕ) → length front ≤ length before → after ≡ front ++ drop (length front) before → after ≡ with_front before front

@@ -1,5 +1,7 @@
 -- An inserter and a reader that meet, and one that is in one hand with the one reader.
 use Rattle.std.specs.Prelude.{◌≡◌, ◌↔◌, ℕ, ◌*◌, ◌<◌, ◌≤◌, max, [], ◌∷◌, List, slice_index, slice_set}
+use Rattle.position.specs.declared.head.FrameHead.{FrameHead}
+use Rattle.position.specs.declared.head.FrameKind.TheVariants.{Data}
 use Rattle.theory.specs.Placed.{Among, Placed, covered, end_of}
 use Rattle.theory.specs.Units.{IsContiguous}
 use Rattle.image_rule.specs.declared.view.Frame.{Frame}
@@ -38,6 +40,10 @@ pub record StayAlone (image : ImageWords) (i : Inserting) (r : ReaderSeat) (stor
   pub alone : AreAlone image j q
   pub stays : position_of q ≡ position_of r
   pub inserter : j ≡ record i { stored = stored; high = high; floor = j.floor; looks = j.looks }
+
+-- of a DATA frame, whose payload has at most 65,472 bytes
+abbrev pub IsShort : FrameHead → Type 0
+IsShort head = head.kind ≡ Data → (32 ≤ head.frame_length) × (head.frame_length ≤ 65504)
 
 -- one frame more was stored
 abbrev pub InsertsAlone : ImageWords → Inserting → ReaderSeat → Placed → Inserting → ReaderSeat → Type 0

@@ -11,7 +11,7 @@ ghost use Rattle.image.specs.Seen.{IsShown, accepts};
 ghost use Rattle.image.specs.Stored.{IsOfStream, IsUnit, meant, stream_frame};
 ghost use Rattle.shared_image.specs.Handles.{position_of};
 ghost use Rattle.shared_image.specs.Reading.{MayAdvance};
-ghost use Rattle.rebuilder.specs.Meeting.{AreAlone, InsertsAlone, StayAlone};
+ghost use Rattle.rebuilder.specs.Meeting.{AreAlone, InsertsAlone, IsShort, StayAlone};
 ghost use Rattle.rebuilder.specs.Seen.{geometry_of, join_of};
 
 use crate::inserter::Inserter;
@@ -75,7 +75,7 @@ pub fn read_alone(
     requires alone { AreAlone image.now inserter.old reader.old }
     requires room { 65472 ≤ length block.old }
     ensures none { IfNone result (IsContiguous inserter.old.stored (join_of inserter.old) (position_of reader.old) × (block.new ≡ block.old)) }
-    ensures found { IfSome result (λ head. IsShown inserter.old.stored (position_of reader.old) block.old head block.new) }
+    ensures found { IfSome result (λ head. IsShown inserter.old.stored (position_of reader.old) block.old head block.new × IsShort head) }
     ensures may { IfSome result (λ _. MayAdvance reader.new) }
     ensures alone { AreAlone image.now inserter.new reader.new }
     ensures same { (inserter.new ≡ inserter.old) × (position_of reader.new ≡ position_of reader.old) }

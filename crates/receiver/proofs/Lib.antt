@@ -1,12 +1,11 @@
+pub mod Alone
 pub mod Joins
 pub mod Meeting
-pub mod Missing
-pub mod OpenedSteps
 pub mod PollFrames
 pub mod Polled
+pub mod ReadOn
 pub mod Seated
-pub mod ShownImages
-pub mod ShownSteps
+pub mod Shown
 pub mod Units
 mod TickRows
 pub mod Together

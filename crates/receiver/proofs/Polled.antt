@@ -1,22 +1,20 @@
 -- Frames that a poll reads, one after the other.
-use Rattle.std.proofs.Common.{◌≡◌, ◌↔◌, ◌≤◌, ℕ, inl, inr, ⊎_elim, List, [], ◌∷◌, ◌++◌, arith, true, false, Option, Some, None, Ok, Err, refl, sym, ap, ap₂, ◌∙◌, subst, append-nil}
+use Rattle.std.proofs.Common.{◌≡◌, ◌↔◌, ◌≤◌, ℕ, inl, inr, ⊎_elim, List, [], ◌∷◌, ◌++◌, true, false, Option, Some, None, Ok, Err, refl, sym, ap, ap₂, ◌∙◌, subst, append-nil}
 use Rattle.std.specs.Prelude.{is_some, map}
 use Rattle.std.specs.Option.{option_to_list}
 use Rattle.std.specs.List.{AllByRecursion}
 use Rattle.std.proofs.lemmas.Bool.{cases_Bool, both_ways}
 use Rattle.std.proofs.lemmas.List.{map-append}
-use Rattle.theory.specs.Placed.{Among, Chain, Data, Frame, IsReached, Pad, Placed, end_of, is_padding}
+use Rattle.theory.specs.Placed.{Among, Chain, Data, Frame, Pad, Placed, end_of, is_padding}
 use Rattle.theory.specs.Units.{IsContiguous}
 use Rattle.theory.specs.Assembly.{Assembly, after, after_all}
 use Rattle.theory.specs.Consumer.{Consumer, moved, passed_by}
 use Rattle.theory.specs.Image.{Image}
 use Rattle.theory.proofs.Lists.{all_append}
 use Rattle.theory.proofs.Follow.{Chain-push}
-use Rattle.theory.proofs.Leasts.{fold_first}
 use Rattle.assembler.specs.Assembling.{Assembling}
 use Rattle.receiver.specs.Polling.{AsksMemory, Answer, IsTooLong, PollsOf, PollsWhole, ReadsFrames, StaysShort, StopsAt, TellsOf, TellsPositions, gives, moved_all, passed_all, with_only_consumer}
 use Rattle.receiver.specs.declared.poll_error.PollError.TheVariants.{NoImage, Unassembled}
-use Rattle.receiver.specs.declared.positions.Positions.{Positions}
 use Rattle.assembler.specs.declared.fault.AssemblyError.{AssemblyError}
 use Rattle.assembler.specs.declared.fault.AssemblyError.TheVariants.{Memory, TooLong}
 use Rattle.receiver.specs.Receiving.{Opened, Receiver}
@@ -24,8 +22,11 @@ use Rattle.receiver.specs.Representing.{Core, HasNoFrame, Represents, Represents
 use Rattle.receiver.proofs.Meeting.{shown_none, shown_some}
 use Rattle.receiver.proofs.PollFrames.{moved_at, passed_lost}
 use Rattle.theory.proofs.Stays.{after_last}
-use Rattle.receiver.proofs.ShownSteps.{end_shown, least_shown}
-use Rattle.image.specs.Seen as seen
+use Rattle.receiver.proofs.Shown.{least_shown}
+use Rattle.image.specs.Seen.{least}
+use Rattle.shared_image.specs.Handles.{ReaderSeat, position_of}
+use Rattle.rebuilder.specs.Seen.{Inserting, join_of}
+use Rattle.receiver.specs.Seating.{AreSeated}
 use Rattle.std.proofs.lemmas.Option.{same_Some}
 use Rattle.receiver.specs.Subscribing.{AssemblesFor, HasReadOn, HearsFrame, IsPolling, PassesOn, RefusesFrame, RepresentsSubscriber, Subscribing, heard_of}
 
@@ -84,21 +85,17 @@ short_with g c frames s a most begun h k = short_more g c frames s h (λ t. k (s
 -- ---- the start of a poll
 
 -- another consumer at the same place is shown as well
-seat_shown : (v : seen.Image) (o : Opened) (c d : Consumer) → o.image.consumers ≡ c ∷ [] → d.at ≡ c.at → RepresentsImage v o → RepresentsImage v (with_only_consumer o d)
+seat_shown : (v : Inserting) (o : Opened) (c d : Consumer) → o.image.consumers ≡ c ∷ [] → d.at ≡ c.at → RepresentsImage v o → RepresentsImage v (with_only_consumer o d)
 seat_shown v o c d one at h = record {
   geometry = h.geometry;
   join = h.join;
   window = h.window;
   high = h.high;
   consumers = h.consumers ∙ ap (λ rs. map (λ (x : Consumer). x.at) rs) one ∙ ap (λ p. p ∷ []) (sym at);
-  some = omega arith;
-  frames = h.frames;
-  met = h.met;
-  from = h.from;
-  reached = (subst (IsReached o.image.stored o.image.join) (sym at) (subst (λ rs. AllByRecursion (λ (x : Consumer). IsReached o.image.stored o.image.join x.at) rs) one h.reached).0, tt);
+  stored = h.stored;
 }
 
-opened_shown : (i : Option seen.Image) (o : Opened) (c d : Consumer) → o.image.consumers ≡ c ∷ [] → d.at ≡ c.at → RepresentsOpened i (Some o) → RepresentsOpened i (Some (with_only_consumer o d))
+opened_shown : (i : Option Inserting) (o : Opened) (c d : Consumer) → o.image.consumers ≡ c ∷ [] → d.at ≡ c.at → RepresentsOpened i (Some o) → RepresentsOpened i (Some (with_only_consumer o d))
 opened_shown None o c d one at h = h
 opened_shown (Some v) o c d one at h = seat_shown v o c d one at h
 
@@ -120,7 +117,7 @@ poll_starts v (Some o) r is some h = reading (subst (AssemblesFor v.assembler.be
       greatest = h.greatest;
     }
 
-pub some_shows : (i : Option seen.Image) (o : Option Opened) → is_some i ≡ true → RepresentsOpened i o → o ≡ None → ⊥
+pub some_shows : (i : Option Inserting) (o : Option Opened) → is_some i ≡ true → RepresentsOpened i o → o ≡ None → ⊥
 some_shows None o e h n = absurd (cc)
 some_shows (Some v) None e h n = h
 some_shows (Some v) (Some o) e h n = absurd (cc)
@@ -282,18 +279,24 @@ ends_fault (Some o) r v w fault h seats refused = polls_fault o r v w fault h se
 
 -- ---- what the image tells
 
--- the least of positions none of which is above here
-pub least_within : (join q : ℕ) (ps : List ℕ) → AllByRecursion (λ p. (join ≤ p) × (p ≤ q)) ps → seen.least ps ≤ q
-least_within join q [] all = omega arith
-least_within join q (p ∷ ps) all = omega (arith, fold_first p ps, all.0.1)
+-- without a reader there is no image
+pub unseated : (o : Option Inserting) (r : Option ReaderSeat) → AreSeated o r → r ≡ None → o ≡ None
+unseated None r seated none = refl
+unseated (Some i) None seated none = absurd seated
+unseated (Some i) (Some r) seated none = absurd (cc)
 
-abbrev positions_at : ℕ → ℕ → ℕ → Positions
-positions_at least q high = record { least = least; rebuilt = q; high_water = high }
-
-pub tells : (v : Subscribing) (i : seen.Image) (least q high : ℕ) (r : Receiver) → v.core.image ≡ Some i → least ≡ seen.least i.consumers → IsContiguous i.held (seen.least i.consumers) q → high ≡ i.high → RepresentsSubscriber v r → TellsPositions r (Some (record { least = least; rebuilt = q; high_water = high }))
-tells v i least q high r some is end mark h =
+pub tells : (v : Subscribing) (i : Inserting) (at q high : ℕ) (r : Receiver) → v.core.image ≡ Some i → i.seen ≡ at ∷ [] → IsContiguous i.stored (join_of i) q → high ≡ i.high → RepresentsSubscriber v r → TellsPositions r (Some (record { least = at; rebuilt = q; high_water = high }))
+tells v i at q high r some is end mark h =
     let w = shown_some i v.core.image r.image some h.core.image in
-    subst (λ x. TellsOf x (Some (record { least = least; rebuilt = q; high_water = high }))) (sym w.is) (q, end_shown i w.opened q w.shown end, ap₂ (λ l m. Some (positions_at l q m)) (is ∙ least_shown i w.opened w.shown) (mark ∙ w.shown.high))
+    let lowest = ap least (sym is) ∙ least_shown i w.opened w.shown in
+    subst (λ x. TellsOf x (Some (record { least = at; rebuilt = q; high_water = high }))) (sym w.is)
+    (q, subst (λ (x : List Placed × ℕ). IsContiguous x.0 x.1 q) (λ j. (w.shown.stored j, w.shown.join j)) end, (λ j. Some (record { least = lowest j; rebuilt = q; high_water = (mark ∙ w.shown.high) j })))
+
+-- where the reader stands that the inserter has seen, nothing is missing below
+pub stands_below : (o : Option Inserting) (r : Option ReaderSeat) (i : Inserting) (q : ReaderSeat) (rebuilt : ℕ) → AreSeated o r → o ≡ Some i → r ≡ Some q → AllByRecursion (λ p. (join_of i ≤ p) × (p ≤ rebuilt)) i.seen → (i.seen ≡ position_of q ∷ []) × (position_of q ≤ rebuilt)
+stands_below o r i q rebuilt seated some there behind =
+    let a : AreSeated (Some i) (Some q) = subst (λ (x : Option Inserting × Option ReaderSeat). AreSeated x.0 x.1) (λ j. (some j, there j)) seated in
+    (a.met, (subst (AllByRecursion (λ p. (join_of i ≤ p) × (p ≤ rebuilt))) a.met behind).0.1)
 
 -- a core without an image
 pub subscribes : (v : Subscribing) (r : Receiver) → v.core.image ≡ None → v.core.consumers ≡ 1 → v.assembler.begun ≡ None → v.assembler.greatest ≡ r.greatest → Represents v.core r → RepresentsSubscriber v r

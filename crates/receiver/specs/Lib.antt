@@ -2,6 +2,7 @@ pub mod Polling
 pub mod Receiving
 pub mod SetupFaults
 pub mod Representing
+pub mod Seating
 pub mod Subscribing
 pub mod Texts
 pub mod Lives

@@ -2,7 +2,7 @@
 -- A receiver's image opens at the position of a SETUP, and a later SETUP changes nothing. The last frame that met no
 -- image is remembered until the next tick, which asks for a SETUP. Frames of another session or stream, NAKs and
 -- status messages pass it by. Of what an image answers only `Stored` changes it.
-use Rattle.std.specs.Prelude.{⊤, ◌≡◌, ◌⊎◌, ℕ, ◌+◌, ℤ, pos, negsuc, Bool, List, [], ◌∷◌, ◌++◌, map, Option, None, Some, if◌then◌else◌}
+use Rattle.std.specs.Prelude.{⊤, ◌≡◌, ◌⊎◌, ℕ, ℤ, pos, negsuc, Bool, List, [], ◌∷◌, ◌++◌, map, Option, None, Some, if◌then◌else◌}
 use Rattle.std.specs.Option.{option_to_list}
 use Rattle.theory.specs.Position.{Geometry}
 use Rattle.theory.specs.Wire.{Wire, Header, Setup, DATA, PAD, HEARTBEAT, NAK, SM, SETUP, SpellsDatagram}

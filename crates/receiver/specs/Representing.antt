@@ -1,25 +1,29 @@
--- Which receivers the code of a receiver shows: those of its numbers whose image holds what is held from the least consumer on.
--- A receiver of the definitions has all that its image ever stored; the code's image holds what lies from the least
--- consumer on. One state of the code shows many receivers, and what a call makes of it is promised for each of them.
-use Rattle.std.specs.Prelude.{◌≡◌, ◌↔◌, ℕ, ◌+◌, ◌^◌, ◌<◌, ◌≤◌, ℤ, ⊤, List, map, length, slice_get, slice_index, slice_set, Option, None, Some}
+-- Which receivers the code of a receiver shows, and what a call makes of each.
+-- A core's image is told by its inserter: all frames that were ever stored, and where it saw the consumers last. A core shows
+-- the receivers of its numbers whose image stored these frames, and whose consumers stand where it saw them. Consumers may go
+-- forward between two of its calls. What a call makes of a receiver is therefore promised for those whose consumers stand
+-- where this very call saw them (`BecomesSeen`).
+use Rattle.std.specs.Prelude.{◌≡◌, ℕ, ◌+◌, ◌^◌, ◌≤◌, ℤ, ⊤, List, [], ◌∷◌, map, max, length, slice_get, slice_index, slice_set, Option, None, Some, ◌⊎◌}
 use Rattle.std.specs.List.{AllByRecursion}
 use Rattle.std.specs.Option.{ForSome}
 use Rattle.block.specs.Bytes.{with_front}
 use Rattle.position.specs.declared.head.FrameHead.{FrameHead}
-use Rattle.theory.specs.Placed.{Among, Frame, IsReached, Placed, end_of, payload_of}
+use Rattle.theory.specs.Placed.{Among, Frame, Placed, end_of, payload_of}
 use Rattle.theory.specs.Units.{IsContiguous}
 use Rattle.theory.specs.Consumer.{Consumer, least_of}
 use Rattle.theory.specs.Image.{after_heartbeat}
-use Rattle.theory.specs.ImageLaws.{held}
 use Rattle.theory.specs.Control.{named_by}
 use Rattle.theory.specs.Timing.{LastStatus, Watch}
-use Rattle.theory.specs.Wire.{Header, IsHeader}
+use Rattle.theory.specs.Wire.{Header, IsHeader, SpellsDatagram, Wire}
 use Rattle.image.specs.Kinds.{head_at}
-use Rattle.image.specs.Seen as seen
+use Rattle.image.specs.Seen.{IsCount}
 use Rattle.image.specs.Stored.{meant}
 use Rattle.image.specs.declared.answer.Insert.{Insert}
+use Rattle.shared_image.specs.Handles.{ImageWords}
+use Rattle.rebuilder.specs.Seen.{Inserting, geometry_of, join_of}
 use Rattle.receiver.specs.declared.receiver_core.LastSent.{LastSent}
-use Rattle.receiver.specs.Receiving.{Opened, Receiver, answer_at, given_at}
+use Rattle.receiver.specs.declared.receiver_core.Outcome.{Outcome}
+use Rattle.receiver.specs.Receiving.{Meets, Opened, Receiver, RefusesDatagram, answer_at, at_moment, given_at}
 
 -- what a contract sees of a receiver's core
 pub record Core : Type 0 where
@@ -28,7 +32,7 @@ pub record Core : Type 0 where
   pub window : ℕ
   pub id : ℤ
   pub consumers : ℕ
-  pub image : Option seen.Image
+  pub image : Option Inserting
   pub unmet : Option Header
   pub told : Option LastStatus
   pub watch : Watch
@@ -40,9 +44,9 @@ last_status_of t = record { now = t.moment; position = t.position }
 
 -- the number of its consumers is legal, its image is of its window and has so many, and the header that it keeps can be one
 pub record IsCore (v : Core) : Type 0 where
-  pub count : seen.IsCount v.consumers
-  pub width : ForSome v.image (λ (i : seen.Image). i.window ≡ v.window)
-  pub seats : ForSome v.image (λ (i : seen.Image). length i.consumers ≡ v.consumers)
+  pub count : IsCount v.consumers
+  pub width : ForSome v.image (λ (i : Inserting). i.window ≡ v.window)
+  pub seats : ForSome v.image (λ (i : Inserting). (i.key.consumers ≡ v.consumers) × (length i.seen ≡ v.consumers))
   pub unmet : ForSome v.unmet IsHeader
   pub faults : length v.faults ≡ 8
 
@@ -63,25 +67,16 @@ with_image v greatest image = record {
   faults = v.faults;
 }
 
--- frames that have a byte in common are one
-abbrev pub AreOneWhereMet : List Placed → Type 0
-AreOneWhereMet frames = (s t : Placed) → Among s frames → Among t frames → s.at < end_of t → t.at < end_of s → s ≡ t
-
--- an image of the code shows one that never forgets
-pub record RepresentsImage (v : seen.Image) (o : Opened) : Type 0 where
-  pub geometry : v.geometry ≡ o.geometry
-  pub join : v.join ≡ o.image.join
+-- an image of the definitions that the inserter shows
+pub record RepresentsImage (v : Inserting) (o : Opened) : Type 0 where
+  pub geometry : geometry_of v ≡ o.geometry
+  pub join : join_of v ≡ o.image.join
   pub window : v.window ≡ o.image.window
   pub high : v.high ≡ o.image.high
-  pub consumers : v.consumers ≡ map (λ c. c.at) o.image.consumers
-  pub some : 0 < length o.image.consumers
-  -- from the least consumer on nothing is forgotten
-  pub frames : (s : Placed) → Among s v.held ↔ Among s (held (seen.least v.consumers) o.image.stored)
-  pub met : AreOneWhereMet o.image.stored
-  pub from : AllByRecursion (λ s. o.image.join ≤ s.at) o.image.stored
-  pub reached : AllByRecursion (λ c. IsReached o.image.stored o.image.join c.at) o.image.consumers
+  pub stored : v.stored ≡ o.image.stored
+  pub consumers : v.seen ≡ map (λ c. c.at) o.image.consumers
 
-abbrev pub RepresentsOpened : Option seen.Image → Option Opened → Type 0
+abbrev pub RepresentsOpened : Option Inserting → Option Opened → Type 0
 RepresentsOpened None None = ⊤
 RepresentsOpened None (Some o) = ⊥
 RepresentsOpened (Some v) None = ⊥
@@ -95,17 +90,69 @@ pub record Represents (v : Core) (r : Receiver) : Type 0 where
 abbrev pub Becomes : Core → Core → (Receiver → Receiver → Type 0) → Type 0
 Becomes old new Step = (r : Receiver) → Represents old r → (s : Receiver) × Step r s × Represents new s
 
+-- ---- consumers that go forward
+
+-- a later state of an inserter, which may have seen the consumers further on
+pub record SeesOn (i j : Inserting) : Type 0 where
+  pub of : j.of ≡ i.of
+  pub key : j.key ≡ i.key
+  pub window : j.window ≡ i.window
+  pub undealt : j.undealt ≡ i.undealt
+  pub all : length j.seen ≡ length i.seen
+  pub forward : (n : ℕ) → slice_index i.seen n ≤ slice_index j.seen n
+
+-- an image that has opened since: it has its readers yet, and no consumer was seen below the join
+pub record IsOpen (j : Inserting) : Type 0 where
+  pub undealt : j.undealt ≡ j.key.consumers
+  pub from : AllByRecursion (λ p. join_of j ≤ p) j.seen
+
+abbrev pub ImageSeesOn : Option Inserting → Option Inserting → Type 0
+ImageSeesOn None None = ⊤
+ImageSeesOn None (Some j) = IsOpen j
+ImageSeesOn (Some i) None = ⊥
+ImageSeesOn (Some i) (Some j) = SeesOn i j
+
+-- an image whose consumers stand where a later state of it saw them
+abbrev pub image_seen_as : Option Inserting → Option Inserting → Option Inserting
+image_seen_as None w = None
+image_seen_as (Some i) None = Some i
+image_seen_as (Some i) (Some j) = Some (record i { seen = j.seen })
+
+abbrev pub core_seen_as : Core → Core → Core
+core_seen_as v w = record v { image = image_seen_as v.image w.image }
+
+-- a call that looks at the consumers once: each was seen where it was before, or further on; and whatever receiver the old state
+-- shows, with its consumers where this call saw them, becomes one by this step that the new state shows
+abbrev pub BecomesSeen : Core → Core → (Receiver → Receiver → Type 0) → Type 0
+BecomesSeen old new Step = ImageSeesOn old.image new.image × Becomes (core_seen_as old new) new Step
+
+-- the frames of a datagram one after the other; before each the consumers may have gone forward
+abbrev pub MeetsEach : Core → List Wire → List Outcome → Core → Type 0
+MeetsEach old [] outs new = (outs ≡ []) × (new ≡ old)
+MeetsEach old (w ∷ ws) outs new =
+    (out : Outcome) × (mid : Core) × (rest : List Outcome) × BecomesSeen old mid (λ r s. Meets r w out s) × (outs ≡ out ∷ rest) × MeetsEach mid ws rest new
+
+-- a datagram at a moment: each of its frames, or its first fault
+abbrev pub HearsDatagram : Core → ℕ → List ℕ → List Outcome → Core → Type 0
+HearsDatagram old now bytes outs new =
+    ((frames : List Wire) × SpellsDatagram frames bytes × MeetsEach (record old { clock = max old.clock now }) frames outs new)
+    ⊎ BecomesSeen old new (λ r s. RefusesDatagram (at_moment r now) bytes outs s)
+
 -- ---- of an image alone
 
--- the answer to a frame with this header, and what it has then
-abbrev pub Inserts : seen.Image → Header → Frame → Insert → seen.Image → Type 0
-Inserts old h f a new = (o : Opened) → RepresentsImage old o → (meant a ≡ answer_at o (named_by o.geometry h) f) × RepresentsImage new (given_at o (named_by o.geometry h) f)
+-- which image it is
+abbrev pub words_of : Inserting → ImageWords
+words_of i = record { of = i.of; key = i.key }
+
+-- the answer to a frame with this header, and what it has then, where the consumers stand as the call saw them
+abbrev pub Inserts : Inserting → Header → Frame → Insert → Inserting → Type 0
+Inserts old h f a new = (o : Opened) → RepresentsImage (record old { seen = new.seen }) o → (meant a ≡ answer_at o (named_by o.geometry h) f) × RepresentsImage new (given_at o (named_by o.geometry h) f)
 
 abbrev pub beaten_at : Opened → Header → Opened
 beaten_at o h = record o { image = after_heartbeat o.geometry o.image (least_of o.image.consumers) (named_by o.geometry h) }
 
-abbrev pub HearsBeat : seen.Image → Header → seen.Image → Type 0
-HearsBeat old h new = (o : Opened) → RepresentsImage old o → RepresentsImage new (beaten_at o h)
+abbrev pub HearsBeat : Inserting → Header → Inserting → Type 0
+HearsBeat old h new = (o : Opened) → RepresentsImage (record old { seen = new.seen }) o → RepresentsImage new (beaten_at o h)
 
 -- ---- a consumer reads the frame at its position, and moves past it
 
@@ -145,6 +192,6 @@ pub record GoesForward (before after : ℕ) : Type 0 where
   pub low : after ≤ 2 ^ 55
 
 -- where the consumer with this number stands
-abbrev pub place_in : Option seen.Image → ℕ → ℕ
+abbrev pub place_in : Option Inserting → ℕ → ℕ
 place_in None k = 0
-place_in (Some i) k = slice_index i.consumers k
+place_in (Some i) k = slice_index i.seen k

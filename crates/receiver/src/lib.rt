@@ -2,12 +2,19 @@
 //! messages out. No thread, socket or clock is here.
 //!
 //! The core judges each frame of a datagram, keeps the image that a SETUP opens, asks for a SETUP where it has none,
-//! and says where its consumers stand. Whatever receiver its state represents (all frames that its image ever stored,
-//! its consumers and what their assemblers were given), each datagram and each tick make of it what the definitions
-//! say, and the state then represents that (`ReceiverCore::on_datagram`, `tick`, `read_past`). Memory is asked for
-//! twice, for the list of outcomes and for an image that a SETUP opens; where it was refused, nothing changed, not
-//! even the moment that was seen. A datagram that can't be read is counted by its fault (`ReceiverCore::faults`), and
-//! whatever came, held frames are apart. What a tick sends are frames that can be written.
+//! and says where its consumers stand. The image is one that threads share without a lock (`OpenImage`), so its consumers may go
+//! forward between two steps of the core. Its state represents the receivers whose image ever stored the same frames, and whose
+//! consumers stand where they were seen last. What a call looks at it sees where it was seen before, or further on; and whatever
+//! receiver the old state represents, with its consumers where this call saw them, each frame of a datagram (`MeetsEach`), a
+//! datagram that can't be read and each tick make of it what the definitions say, and the state then represents that
+//! (`ReceiverCore::on_datagram`, `tick`). Memory is asked for twice, for the list of outcomes and for an image that a SETUP
+//! opens; where it was refused, nothing changed, not even the moment that was seen. A datagram that can't be read is counted by
+//! its fault (`ReceiverCore::faults`), and whatever came, stored frames are apart. What a tick sends are frames that can be
+//! written.
+//!
+//! A subscriber has a core and the one reader of its image in one hand. They meet at the end of each call that looked at the
+//! consumers, so no consumer moves between two calls, and each datagram, tick and poll makes of the subscriber exactly what the
+//! definitions say (`Subscriber::on_datagram`, `tick`, `poll`).
 //!
 //! A poll reads the frames at the subscriber's position, in order, up to the first message, to a frame that its
 //! assembler refuses, or to the contiguous end (`Subscriber::poll`). A refusal is `A2` exactly where the message
@@ -34,6 +41,7 @@ mod setup;
 mod subscriber;
 
 pub use lives::polls_a_run;
+pub use opened::OpenImage;
 pub use poll_error::PollError;
 pub use positions::Positions;
 pub use receiver_core::{Outcome, ReceiverCore, Replies, STATUS_INTERVAL};

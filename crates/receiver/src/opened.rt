@@ -1,23 +1,50 @@
-//! What frames, heartbeats and a consumer's reading make of a receiver's image.
+//! The image that a SETUP opened: what frames, heartbeats and a consumer's reading make of it.
 
-ghost use Rattle.std.specs.Prelude.{◌≡◌, ◌≤◌, ◌<◌, ◌+◌, ◌^◌, ◌%◌, [], length, replicate, slice_index, IfNone, IfOk, IfSome, OnSome};
+ghost use Rattle.std.specs.Prelude.{◌≡◌, ◌≤◌, ◌<◌, ◌+◌, ◌/◌, ◌^◌, ◌%◌, [], Some, length, map, replicate, slice_index, IfNone, IfOk, IfSome, OnSome};
+ghost use Rattle.std.specs.List.{AllByRecursion};
 ghost use Rattle.position.specs.declared.head.FrameKind.TheVariants.{Data};
 ghost use Rattle.position.specs.Gaps.{gap_of};
-ghost use Rattle.image.specs.Seen.{IsCount, IsJoin};
+ghost use Rattle.image.specs.Seen.{IsCount, IsJoin, least};
 ghost use Rattle.image.specs.Stored.{IsOfStream, IsUnit, stream_frame};
 ghost use Rattle.theory.specs.Control.{named_by};
 ghost use Rattle.theory.specs.Image.{IsWindow};
+ghost use Rattle.theory.specs.Insert.{AreApart, head_of};
 ghost use Rattle.theory.specs.Position.{IsGeometry, max_position};
+ghost use Rattle.theory.specs.Units.{IsContiguous};
 ghost use Rattle.theory.specs.Wire.{IsFrame, IsHeader};
 ghost use Rattle.frames.specs.Frames.{header_of, wire};
+ghost use Rattle.shared_image.specs.Handles.{IsReaderOf, position_of};
+ghost use Rattle.rebuilder.specs.Meeting.{AreAlone, Meets, number_of};
+ghost use Rattle.rebuilder.specs.Seen.{geometry_of, join_of};
 ghost use Rattle.receiver.specs.Receiving.{Opened, gap_in};
-ghost use Rattle.receiver.specs.Representing.{GoesForward, HearsBeat, Inserts, IsAtEnd, ReadsPast, RepresentsImage};
+ghost use Rattle.receiver.specs.Representing.{GoesForward, HearsBeat, Inserts, IsAtEnd, ReadsPast, RepresentsImage, SeesOn, words_of};
+ghost use Rattle.receiver.specs.Seating.{AreSeated, MaySit, SitsAt, place_of};
 
 use block::Block;
 use frames::{Frame, Header};
-use image::{Image, ImageError, Insert, Steps, first_gap};
-use position::{FrameHead, Gap, Geometry};
+use image::{ImageError, Insert, Steps};
+use position::{FrameHead, Gap, Geometry, Identity};
+use rebuilder::{Inserter, advance_alone, first_gap, heartbeat, insert, least, meet, read_alone};
+use shared_image::{Image, ImageReader};
 use std::alloc::{AllocError, Global};
+use std::marker::Model;
+
+/// An image that threads share without a lock, and who rebuilds the stream in it.
+#[derive(Drop)]
+pub struct OpenImage {
+    image: Image,
+    inserter: Inserter,
+}
+
+impl Model for OpenImage {
+    ghost use Rattle.rebuilder.specs.Seen.{Inserting, IsInserterOf};
+
+    ghost Value = { Inserting };
+
+    ghost view = { λ o. o.inserter };
+
+    ghost invariant = { λ o. IsInserterOf o.image o.inserter };
+}
 
 /// The position that a header names.
 fn position_in(geometry: &Geometry, header: &Header) -> i64
@@ -29,84 +56,176 @@ fn position_in(geometry: &Geometry, header: &Header) -> i64
     geometry.position(header.term_id, header.term_offset.cast_signed())
 }
 
-/// An image that holds nothing. The error comes only where memory was refused.
-pub fn open(
+/// An image that holds nothing, which has all its readers yet. The error comes only where memory was refused.
+pub(crate) fn open(
     alloc: Global,
-    geometry: Geometry,
+    identity: Identity,
     join: u64,
     window: u32,
     consumers: usize,
-) -> Result<Image, AllocError>
-    requires join { IsJoin geometry join }
-    requires window { IsWindow geometry.term_length geometry.mtu window }
+) -> Result<OpenImage, AllocError>
+    requires join { IsJoin identity.geometry join }
+    requires window { IsWindow identity.geometry.term_length identity.geometry.mtu window }
     requires consumers { IsCount consumers }
-    ensures { IfOk result (λ i. i ≡ record { geometry = geometry; join = join; window = window; held = []; high = join; consumers = replicate consumers join }) }
+    ensures { IfOk result (λ i. i ≡ record { of = i.of; key = record { identity = identity; join = join / 32; consumers = consumers }; window = window; stored = []; high = join; floor = join; seen = replicate consumers join; looks = replicate consumers 0; undealt = consumers }) }
 {
-    match Image::open(alloc, geometry, join, window, consumers) {
-        Ok(image) => Ok(image),
+    match rebuilder::open(alloc, identity, join, window, consumers) {
+        Ok((image, inserter)) => Ok(OpenImage { image, inserter }),
         Err(ImageError::Memory) => Err(AllocError),
         Err(_) => unreachable!(),
     }
 }
 
-/// Hands a DATA frame or a padding with this header to an image.
-pub fn insert(image: &mut Image, header: &Header, frame: &Frame<'_>) -> Insert
-    requires header { IsHeader (header_of header.now) }
-    requires frame { IsFrame (wire frame.now) }
-    requires of_stream { IsOfStream frame.now }
-    ensures inserted { Inserts image.old (header_of header.now) (stream_frame frame.now) result image.new }
-    ensures window { image.new.window ≡ image.old.window }
-    ensures consumers { image.new.consumers ≡ image.old.consumers }
-{
-    let position = position_in(&image.geometry(), header);
-    image.insert(position, frame)
-}
+impl OpenImage {
+    /// The shape of the stream.
+    pub fn geometry(&self) -> Geometry
+        ensures value { result ≡ geometry_of self.now }
+        ensures legal { IsGeometry result }
+    {
+        // What always holds of it, for the proof.
+        let _ = &self.inserter;
+        self.image.identity().geometry()
+    }
 
-/// Hands a heartbeat with this header to an image.
-pub fn hear(image: &mut Image, header: &Header)
-    requires header { IsHeader (header_of header.now) }
-    ensures heard { HearsBeat image.old (header_of header.now) image.new }
-    ensures window { image.new.window ≡ image.old.window }
-    ensures consumers { image.new.consumers ≡ image.old.consumers }
-{
-    let position = position_in(&image.geometry(), header);
-    let _ = image.heartbeat(position);
-}
+    /// The bytes above the least consumer that it takes.
+    pub fn window(&self) -> u32
+        ensures value { result ≡ self.now.window }
+        ensures legal { IsWindow (geometry_of self.now).term_length (geometry_of self.now).mtu result }
+    {
+        self.inserter.window()
+    }
 
-/// The first gap of an image. It begins at a position of the stream, and is no longer than a term.
-pub fn find_gap(image: &Image) -> Option<Gap>
-    ensures first { (o : Opened) → RepresentsImage image.now o → gap_of result ≡ gap_in o }
-    ensures low { IfSome result (λ gap. (gap.start ≤ max_position image.now.geometry) × (gap.length < 2 ^ 31)) }
-{
-    // What always holds of it, for the proof.
-    image.held_apart();
-    let _ = image.geometry();
-    let _ = image.rebuilt();
-    let _ = image.high_water();
-    first_gap(image, &mut Steps::new())
-}
+    /// The end of what was stored without a gap from the join on. No consumer was seen above it.
+    pub fn rebuilt(&self) -> u64
+        ensures value { IsContiguous self.now.stored (join_of self.now) result }
+        ensures marked { result ≤ self.now.high }
+        ensures behind { AllByRecursion (λ p. (join_of self.now ≤ p) × (p ≤ result)) self.now.seen }
+    {
+        self.inserter.rebuilt()
+    }
 
-/// Reads the frame at a consumer's position to the block's front, and moves the consumer past it. There is none where it
-/// stands at the contiguous end.
-pub fn read_past(image: &mut Image, consumer: usize, block: &mut Block) -> Option<FrameHead>
-    requires consumer { consumer < length image.old.consumers }
-    requires room { 65472 ≤ length block.old }
-    ensures none { IfNone result ((image.new ≡ image.old) × (block.new ≡ block.old) × ((o : Opened) → RepresentsImage image.old o → IsAtEnd o consumer)) }
-    ensures read { IfSome result (λ head. (o : Opened) → RepresentsImage image.old o → ReadsPast o consumer block.old head block.new (RepresentsImage image.new)) }
-    ensures length { length block.new ≡ length block.old }
-    ensures shape { (image.new.window ≡ image.old.window) × (length image.new.consumers ≡ length image.old.consumers) }
-    ensures forward { OnSome result (GoesForward (slice_index image.old.consumers consumer) (slice_index image.new.consumers consumer)) }
-    ensures payload { IfSome result (λ head. head.kind ≡ Data → (32 ≤ head.frame_length) × (head.frame_length ≤ 65504)) }
-{
-    // What always holds of it, for the proof.
-    image.held_apart();
-    let _ = image.high_water();
-    let _ = image.geometry();
-    match image.read(consumer, block) {
-        None => None,
-        Some(head) => {
-            let _ = image.advance(consumer);
-            Some(head)
+    /// The greatest end of a stored frame or position of an accepted heartbeat, or the join.
+    pub fn high_water(&self) -> u64
+        ensures value { result ≡ self.now.high }
+        ensures low { result ≤ max_position (geometry_of self.now) }
+    {
+        self.inserter.high_water()
+    }
+
+    /// Does nothing, and says what holds of it, whatever it was handed.
+    pub(crate) fn stored_apart(&self)
+        ensures { AreApart (map head_of self.now.stored) }
+    {
+        self.inserter.stored_apart();
+    }
+
+    /// Takes a DATA frame or a padding with this header. The consumers are looked at once.
+    pub(crate) fn insert(&mut self, header: &Header, frame: &Frame<'_>) -> Insert
+        requires header { IsHeader (header_of header.now) }
+        requires frame { IsFrame (wire frame.now) }
+        requires of_stream { IsOfStream frame.now }
+        ensures inserted { Inserts self.old (header_of header.now) (stream_frame frame.now) result self.new }
+        ensures sees { SeesOn self.old self.new }
+    {
+        let position = position_in(&self.geometry(), header);
+        insert(&self.image, &mut self.inserter, position, frame)
+    }
+
+    /// Takes a heartbeat with this header. The consumers are looked at once.
+    pub(crate) fn hear(&mut self, header: &Header)
+        requires header { IsHeader (header_of header.now) }
+        ensures heard { HearsBeat self.old (header_of header.now) self.new }
+        ensures sees { SeesOn self.old self.new }
+    {
+        let position = position_in(&self.geometry(), header);
+        let _ = heartbeat(&self.image, &mut self.inserter, position);
+    }
+
+    /// Its first gap. It begins at a position of the stream, and is no longer than a term.
+    pub(crate) fn find_gap(&mut self) -> Option<Gap>
+        ensures first { (o : Opened) → RepresentsImage self.old o → gap_of result ≡ gap_in o }
+        ensures low { IfSome result (λ gap. (gap.start ≤ max_position (geometry_of self.old)) × (gap.length < 2 ^ 31)) }
+        ensures same { self.new ≡ self.old }
+    {
+        // What always holds of it, for the proof.
+        let _ = self.geometry();
+        let _ = self.inserter.rebuilt();
+        let _ = self.inserter.high_water();
+        first_gap(&self.image, &mut self.inserter, &mut Steps::new())
+    }
+
+    /// Looks where the consumers stand. The answer is the least position that it read.
+    pub(crate) fn least(&mut self) -> u64
+        ensures value { result ≡ least self.new.seen }
+        ensures low { result ≤ max_position (geometry_of self.new) }
+        ensures shown { (o : Opened) → RepresentsImage (record self.old { seen = self.new.seen }) o → RepresentsImage self.new o }
+        ensures sees { SeesOn self.old self.new }
+    {
+        least(&self.image, &mut self.inserter)
+    }
+
+    /// Its last reader, which stands at the join.
+    pub(crate) fn deal(&mut self) -> ImageReader
+        requires { self.old.undealt ≡ 1 }
+        ensures fits { IsReaderOf (words_of self.new) result }
+        ensures left { self.new ≡ record self.old { undealt = 0 } }
+        ensures number { number_of result ≡ 0 }
+        ensures position { position_of result ≡ join_of self.old }
+    {
+        rebuilder::deal(&self.image, &mut self.inserter, 0)
+    }
+
+    /// Tells a reader each frame that was stored so far, and sees it where it stands.
+    pub(crate) fn meet(&mut self, reader: &mut ImageReader)
+        requires { IsReaderOf (words_of self.old) reader.old }
+        ensures fits { IsReaderOf (words_of self.new) reader.new }
+        ensures met { Meets self.old reader.old self.new reader.new }
+    {
+        meet(&self.image, reader, &mut self.inserter);
+    }
+
+    /// Sees its one reader where that stands, and tells it what was stored so far. The reader is taken from the image if there
+    /// is none.
+    pub(crate) fn sit(&mut self, reader: &mut Option<ImageReader>)
+        requires one { (self.old.key.consumers ≡ 1) × (length self.old.seen ≡ 1) }
+        requires may { MaySit (Some self.old) reader.old }
+        ensures seated { AreSeated (Some self.new) reader.new }
+        ensures sits { SitsAt self.old (place_of self.old reader.old) self.new }
+    {
+        if let Some(reader) = reader {
+            self.meet(reader);
+            return;
         }
+        let mut first = self.deal();
+        self.meet(&mut first);
+        *reader = Some(first);
+    }
+
+    /// Reads the frame where its one reader stands to the block's front, and moves the reader past it. There is none where it
+    /// stands at the contiguous end.
+    pub(crate) fn read_past(
+        &mut self,
+        reader: &mut ImageReader,
+        block: &mut Block,
+    ) -> Option<FrameHead>
+        requires alone { AreAlone (words_of self.old) self.old reader.old }
+        requires room { 65472 ≤ length block.old }
+        ensures none { IfNone result ((self.new ≡ self.old) × (block.new ≡ block.old) × ((o : Opened) → RepresentsImage self.old o → IsAtEnd o 0)) }
+        ensures read { IfSome result (λ head. (o : Opened) → RepresentsImage self.old o → ReadsPast o 0 block.old head block.new (RepresentsImage self.new)) }
+        ensures alone { AreAlone (words_of self.new) self.new reader.new }
+        ensures length { length block.new ≡ length block.old }
+        ensures shape { self.new ≡ record self.old { seen = self.new.seen } }
+        ensures forward { OnSome result (GoesForward (slice_index self.old.seen 0) (slice_index self.new.seen 0)) }
+        ensures payload { IfSome result (λ head. head.kind ≡ Data → (32 ≤ head.frame_length) × (head.frame_length ≤ 65504)) }
+    {
+        // What always holds of it, for the proof.
+        self.inserter.stored_apart();
+        let _ = self.inserter.high_water();
+        let _ = self.geometry();
+        let Some(head) = read_alone(&self.image, &mut self.inserter, reader, block) else {
+            return None;
+        };
+        let _ = advance_alone(&self.image, &mut self.inserter, reader);
+        Some(head)
     }
 }

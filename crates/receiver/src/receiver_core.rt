@@ -5,6 +5,7 @@ ghost use Rattle.std.specs.List.{AllByRecursion};
 ghost use Rattle.std.specs.Option.{ForSome, option_copied, option_map, option_to_list};
 ghost use Rattle.theory.specs.Insert.{AreApart, head_of};
 ghost use Rattle.position.specs.declared.head.FrameKind.TheVariants.{Data};
+ghost use Rattle.rebuilder.specs.Seen.{geometry_of};
 ghost use Rattle.theory.specs.Control as control;
 ghost use Rattle.theory.specs.Control.{asking_at};
 ghost use Rattle.theory.specs.Position.{max_position};
@@ -15,17 +16,19 @@ ghost use Rattle.frames.specs.Frames.{header_of, nak_of, setup_of, status_of, wi
 ghost use Rattle.image.specs.Seen.{IsCount};
 ghost use Rattle.image.specs.Stored.{IsOfStream, stream_frame};
 ghost use Rattle.receiver.specs.Representing.{last_status_of};
+ghost use Rattle.receiver.specs.Seating.{AreSeated, MaySit, Sits};
 ghost use Rattle.receiver.specs.Texts.{outcome_text};
 
-use crate::opened::{find_gap, hear, insert, open, read_past};
+use crate::opened::{OpenImage, open};
 use crate::setup::fault::SetupError;
 use crate::setup::judgement::judge;
 use block::Block;
 use frames::{
     FaultCounts, Frame, FrameError, Header, Nak, Setup, Status, check_datagram, known_frame,
 };
-use image::{Image, Insert, LossDetector};
-use position::{FrameHead, Gap, Geometry};
+use image::{Insert, LossDetector};
+use position::{FrameHead, Gap, Geometry, Identity};
+use shared_image::ImageReader;
 use std::alloc::{AllocError, Global};
 use std::fmt;
 use std::marker::Model;
@@ -96,7 +99,7 @@ pub struct ReceiverCore {
     window: u32,
     receiver: i64,
     consumers: usize,
-    image: Option<Image>,
+    image: Option<OpenImage>,
     /// The header of the last frame that met no image since the last tick.
     unmet: Option<Header>,
     told: Option<LastSent>,
@@ -120,8 +123,8 @@ impl Model for ReceiverCore {
 }
 
 impl ReceiverCore {
-    ghost use Rattle.receiver.specs.Receiving.{TakesDatagram, IfOurs, IsOurs, IsSetupWire, WouldOpen, Meets, MeetsAll, MeetsFrame, MeetsHeartbeat, MeetsSetup, Receiver, listening, missing, replied, replies, scanned_at, telling, ticked, told_after};
-    ghost use Rattle.receiver.specs.Representing.{Becomes, GoesForward, HasNoFrame, PassesFrame, Represents, place_in};
+    ghost use Rattle.receiver.specs.Receiving.{IfOurs, IsOurs, IsSetupWire, WouldOpen, Meets, MeetsFrame, MeetsHeartbeat, MeetsSetup, Receiver, listening, missing, replied, replies, scanned_at, telling, ticked, told_after};
+    ghost use Rattle.receiver.specs.Representing.{BecomesSeen, GoesForward, HasNoFrame, HearsDatagram, ImageSeesOn, MeetsEach, PassesFrame, Represents, core_seen_as, place_in};
 
     /// A receiver without an image, for one to eight consumers. Its window is in bytes.
     pub fn new(
@@ -154,28 +157,48 @@ impl ReceiverCore {
     }
 
     /// The image, once a SETUP has opened it.
-    pub fn image(&self) -> Option<&Image>
+    pub fn image(&self) -> Option<&OpenImage>
         ensures { option_copied result ≡ self.now.image }
     {
         self.image.as_ref()
     }
 
-    /// Reads the frame at a consumer's position to the block's front, and moves the consumer past it. There is none where
-    /// there is no image, or the consumer stands at the contiguous end; nothing has changed then.
-    pub fn read_past(&mut self, consumer: usize, block: &mut Block) -> Option<FrameHead>
-        requires consumer { consumer < self.old.consumers }
+    /// Reads the frame where its image's one reader stands to the block's front, and moves the reader past it. There is none
+    /// where it stands at the contiguous end; nothing has changed then.
+    pub(crate) fn read_past(
+        &mut self,
+        reader: &mut ImageReader,
+        block: &mut Block,
+    ) -> Option<FrameHead>
+        requires seated { AreSeated self.old.image (Some reader.old) }
         requires room { 65472 ≤ length block.old }
-        ensures none { IfNone result ((self.new ≡ self.old) × (block.new ≡ block.old) × ((r : Receiver) → Represents self.old r → HasNoFrame r.image consumer)) }
-        ensures read { IfSome result (λ head. (r : Receiver) → Represents self.old r → PassesFrame r.image r consumer block.old head block.new self.new) }
+        ensures none { IfNone result ((self.new ≡ self.old) × (block.new ≡ block.old) × ((r : Receiver) → Represents self.old r → HasNoFrame r.image 0)) }
+        ensures read { IfSome result (λ head. (r : Receiver) → Represents self.old r → PassesFrame r.image r 0 block.old head block.new self.new) }
+        ensures seated { AreSeated self.new.image (Some reader.new) }
         ensures length { length block.new ≡ length block.old }
-        ensures forward { OnSome result (GoesForward (place_in self.old.image consumer) (place_in self.new.image consumer)) }
+        ensures forward { OnSome result (GoesForward (place_in self.old.image 0) (place_in self.new.image 0)) }
         ensures payload { IfSome result (λ head. head.kind ≡ Data → (32 ≤ head.frame_length) × (head.frame_length ≤ 65504)) }
         ensures consumers { self.new.consumers ≡ self.old.consumers }
     {
         let Some(image) = &mut self.image else {
             return None;
         };
-        read_past(image, consumer, block)
+        image.read_past(reader, block)
+    }
+
+    /// Sees its image's one reader where that stands, and tells it what was stored so far. The first reader is taken from the
+    /// image, once there is one.
+    pub(crate) fn sit(&mut self, reader: &mut Option<ImageReader>)
+        requires one { self.old.consumers ≡ 1 }
+        requires may { MaySit self.old.image reader.old }
+        ensures seated { AreSeated self.new.image reader.new }
+        ensures stays { self.new ≡ record self.old { image = self.new.image } }
+        ensures sits { Sits self.old.image reader.old self.new.image }
+    {
+        let Some(image) = &mut self.image else {
+            return;
+        };
+        image.sit(reader);
     }
 
     /// Notes a moment.
@@ -189,29 +212,29 @@ impl ReceiverCore {
     /// Memory is asked for twice: for the outcomes, and at a SETUP that opens an image. Where it is refused, nothing has
     /// changed, the moment isn't seen either, and the datagram may be handed in again.
     pub fn on_datagram(&mut self, bytes: &[u8], now: u64) -> Result<Vec<Outcome>, AllocError>
-        ensures heard { IfOk result (λ outs. Becomes self.old self.new (λ r s. TakesDatagram r now bytes.now outs.items s)) }
+        ensures heard { IfOk result (λ outs. HearsDatagram self.old now bytes.now outs.items self.new) }
         ensures refused { OnErr result (self.new ≡ self.old) }
         ensures consumers { self.new.consumers ≡ self.old.consumers }
-        // Whatever bytes came, frames that the image holds have no byte in common.
-        ensures apart { ForSome self.new.image (λ i. AreApart (map head_of i.held)) }
+        // Whatever bytes came, frames that the image stored have no byte in common.
+        ensures apart { ForSome self.new.image (λ i. AreApart (map head_of i.stored)) }
     {
         let taken = self.take(bytes, now);
-        self.held_apart();
+        self.stored_apart();
         taken
     }
 
     /// Does nothing, and says what holds of its image, whatever it was handed.
-    fn held_apart(&self)
-        ensures { ForSome self.now.image (λ i. AreApart (map head_of i.held)) }
+    fn stored_apart(&self)
+        ensures { ForSome self.now.image (λ i. AreApart (map head_of i.stored)) }
     {
         if let Some(image) = &self.image {
-            image.held_apart();
+            image.stored_apart();
         }
     }
 
     /// Takes a datagram.
     fn take(&mut self, bytes: &[u8], now: u64) -> Result<Vec<Outcome>, AllocError>
-        ensures heard { IfOk result (λ outs. Becomes self.old self.new (λ r s. TakesDatagram r now bytes.now outs.items s)) }
+        ensures heard { IfOk result (λ outs. HearsDatagram self.old now bytes.now outs.items self.new) }
         ensures refused { OnErr result (self.new ≡ self.old) }
         ensures consumers { self.new.consumers ≡ self.old.consumers }
     {
@@ -261,7 +284,7 @@ impl ReceiverCore {
         requires frames { (frames : List Wire) × SpellsDatagram frames datagram.now × (length frames ≡ count) }
         requires empty { outcomes.items ≡ [] }
         requires room { count ≤ vec_capacity outcomes }
-        ensures heard { IfOk result (λ outs. Becomes self.old self.new (λ r s. TakesDatagram r now datagram.now outs.items s)) }
+        ensures heard { IfOk result (λ outs. HearsDatagram self.old now datagram.now outs.items self.new) }
         ensures refused { OnErr result (self.new ≡ self.old) }
         ensures consumers { self.new.consumers ≡ self.old.consumers }
     {
@@ -286,7 +309,7 @@ impl ReceiverCore {
         requires empty { outcomes.items ≡ [] }
         requires room { count ≤ vec_capacity outcomes }
         ensures met { (frames : List Wire) → SpellsDatagram frames datagram.now → length frames ≡ count
-            → IfOk result (λ outs. Becomes self.old self.new (λ r s. MeetsAll r frames outs.items s)) }
+            → IfOk result (λ outs. MeetsEach self.old frames outs.items self.new) }
         ensures refused { OnErr result (self.new ≡ self.old) }
         ensures consumers { self.new.consumers ≡ self.old.consumers }
     {
@@ -302,7 +325,7 @@ impl ReceiverCore {
 
     fn on_frame(&mut self, frame: &Frame<'_>) -> Result<Outcome, AllocError>
         requires { IsFrame (wire frame.now) }
-        ensures met { IfOk result (λ out. Becomes self.old self.new (λ r s. Meets r (wire frame.now) out s)) }
+        ensures met { IfOk result (λ out. BecomesSeen self.old self.new (λ r s. Meets r (wire frame.now) out s)) }
         ensures refused { OnErr result (self.new ≡ self.old) }
         ensures wanted { OnErr result (IsSetupWire (wire frame.now)) }
         ensures consumers { self.new.consumers ≡ self.old.consumers }
@@ -327,7 +350,7 @@ impl ReceiverCore {
         requires header { IsHeader (header_of header.now) }
         requires frame { IsFrame (wire frame.now) }
         requires stored { IsOfStream frame.now }
-        ensures met { Becomes self.old self.new (λ r s. IfOurs r header.now.session header.now.stream (MeetsFrame r.image r (header_of header.now) (stream_frame frame.now) result s) result s) }
+        ensures met { BecomesSeen self.old self.new (λ r s. IfOurs r header.now.session header.now.stream (MeetsFrame r.image r (header_of header.now) (stream_frame frame.now) result s) result s) }
         ensures consumers { self.new.consumers ≡ self.old.consumers }
     {
         if self.is_mine(header.session, header.stream) {
@@ -342,7 +365,7 @@ impl ReceiverCore {
         requires header { IsHeader (header_of header.now) }
         requires frame { IsFrame (wire frame.now) }
         requires stored { IsOfStream frame.now }
-        ensures met { Becomes self.old self.new (λ r s. MeetsFrame r.image r (header_of header.now) (stream_frame frame.now) result s) }
+        ensures met { BecomesSeen self.old self.new (λ r s. MeetsFrame r.image r (header_of header.now) (stream_frame frame.now) result s) }
         ensures consumers { self.new.consumers ≡ self.old.consumers }
     {
         match &mut self.image {
@@ -350,13 +373,13 @@ impl ReceiverCore {
                 self.unmet = Some(*header);
                 Outcome::Asked
             }
-            Some(image) => Outcome::Inserted(insert(image, header, frame)),
+            Some(image) => Outcome::Inserted(image.insert(header, frame)),
         }
     }
 
     fn on_heartbeat(&mut self, header: &Header) -> Outcome
         requires { IsHeader (header_of header.now) }
-        ensures met { Becomes self.old self.new (λ r s. IfOurs r header.now.session header.now.stream (MeetsHeartbeat r.image r (header_of header.now) result s) result s) }
+        ensures met { BecomesSeen self.old self.new (λ r s. IfOurs r header.now.session header.now.stream (MeetsHeartbeat r.image r (header_of header.now) result s) result s) }
         ensures consumers { self.new.consumers ≡ self.old.consumers }
     {
         if self.is_mine(header.session, header.stream) {
@@ -368,7 +391,7 @@ impl ReceiverCore {
 
     fn hear(&mut self, header: &Header) -> Outcome
         requires { IsHeader (header_of header.now) }
-        ensures met { Becomes self.old self.new (λ r s. MeetsHeartbeat r.image r (header_of header.now) result s) }
+        ensures met { BecomesSeen self.old self.new (λ r s. MeetsHeartbeat r.image r (header_of header.now) result s) }
         ensures consumers { self.new.consumers ≡ self.old.consumers }
     {
         match &mut self.image {
@@ -377,14 +400,14 @@ impl ReceiverCore {
                 Outcome::Asked
             }
             Some(image) => {
-                hear(image, header);
+                image.hear(header);
                 Outcome::Heartbeat
             }
         }
     }
 
     fn on_setup(&mut self, setup: &Setup) -> Result<Outcome, AllocError>
-        ensures met { IfOk result (λ out. Becomes self.old self.new (λ r s.
+        ensures met { IfOk result (λ out. BecomesSeen self.old self.new (λ r s.
             IfOurs r setup.now.session setup.now.stream (MeetsSetup r.image r (setup_of setup.now) out s) out s)) }
         ensures refused { OnErr result (self.new ≡ self.old) }
         ensures wanted { OnErr result ((r : Receiver) → Represents self.old r → IsOurs r setup.now.session setup.now.stream × WouldOpen r.image r (setup_of setup.now)) }
@@ -398,7 +421,7 @@ impl ReceiverCore {
     }
 
     fn set_up(&mut self, setup: &Setup) -> Result<Outcome, AllocError>
-        ensures met { IfOk result (λ out. Becomes self.old self.new (λ r s. MeetsSetup r.image r (setup_of setup.now) out s)) }
+        ensures met { IfOk result (λ out. BecomesSeen self.old self.new (λ r s. MeetsSetup r.image r (setup_of setup.now) out s)) }
         ensures refused { OnErr result (self.new ≡ self.old) }
         ensures wanted { OnErr result ((r : Receiver) → Represents self.old r → WouldOpen r.image r (setup_of setup.now)) }
         ensures consumers { self.new.consumers ≡ self.old.consumers }
@@ -409,7 +432,8 @@ impl ReceiverCore {
         match judge(setup, self.window) {
             Err(error) => Ok(Outcome::SetupRefused(error)),
             Ok(named) => {
-                let image = open(self.alloc, named.0, named.1, self.window, self.consumers)?;
+                let identity = Identity::new(named.0, self.session, self.stream);
+                let image = open(self.alloc, identity, named.1, self.window, self.consumers)?;
                 self.image = Some(image);
                 self.unmet = None;
                 Ok(Outcome::Opened(named.1))
@@ -419,15 +443,16 @@ impl ReceiverCore {
 
     /// Takes a moment, and gives what goes out then.
     pub fn tick(&mut self, now: u64) -> Replies
-        ensures replies { (r : Receiver) → Represents self.old r → replied result ≡ replies r now }
-        ensures state { (r : Receiver) → Represents self.old r → Represents self.new (ticked r now) }
+        ensures replies { (r : Receiver) → Represents (core_seen_as self.old self.new) r → replied result ≡ replies r now }
+        ensures state { (r : Receiver) → Represents (core_seen_as self.old self.new) r → Represents self.new (ticked r now) }
+        ensures sees { ImageSeesOn self.old.image self.new.image }
         ensures written { AllByRecursion IsFrame (replied result) }
         ensures consumers { self.new.consumers ≡ self.old.consumers }
     {
         self.see(now);
         let asking = self.ask();
-        let nak = self.miss();
         let status = self.tell();
+        let nak = self.miss();
         Replies {
             asking,
             nak,
@@ -450,12 +475,13 @@ impl ReceiverCore {
     fn miss(&mut self) -> Option<Nak>
         ensures missed { (r : Receiver) → Represents self.old r → map (λ f. NAK (nak_of f)) (option_to_list result) ≡ missing r.image r }
         ensures state { (r : Receiver) → Represents self.old r → Represents self.new (record r { watch = (scanned_at r.image r).watch }) }
+        ensures image { self.new.image ≡ self.old.image }
         ensures consumers { self.new.consumers ≡ self.old.consumers }
     {
-        match &self.image {
+        match &mut self.image {
             None => None,
             Some(image) => {
-                let gap = find_gap(image);
+                let gap = image.find_gap();
                 let told = self.detector.scan(self.clock, gap);
                 let Some(missed) = told else {
                     return None;
@@ -467,11 +493,12 @@ impl ReceiverCore {
 
     /// The message that says where the consumers stand, if it is due.
     fn tell(&mut self) -> Option<Status>
-        ensures told { (r : Receiver) → Represents self.old r → map (λ f. SM 0 (status_of f)) (option_to_list result) ≡ telling r.image r }
-        ensures state { (r : Receiver) → Represents self.old r → Represents self.new (record r { told = told_after r.image r }) }
+        ensures told { (r : Receiver) → Represents (core_seen_as self.old self.new) r → map (λ f. SM 0 (status_of f)) (option_to_list result) ≡ telling r.image r }
+        ensures state { (r : Receiver) → Represents (core_seen_as self.old self.new) r → Represents self.new (record r { told = told_after r.image r }) }
+        ensures sees { ImageSeesOn self.old.image self.new.image }
         ensures consumers { self.new.consumers ≡ self.old.consumers }
     {
-        match &self.image {
+        match &mut self.image {
             None => None,
             Some(image) => {
                 let position = image.least();

@@ -17,6 +17,7 @@ use assembler::{Assembler, AssemblyError, Message};
 use block::Block;
 use frames::FaultCounts;
 use position::{FrameHead, FrameKind};
+use shared_image::ImageReader;
 use std::alloc::{AllocError, Global};
 use std::marker::Model;
 
@@ -27,19 +28,22 @@ const GREATEST_PAYLOAD: usize = 65_472;
 #[derive(Drop)]
 pub struct Subscriber {
     core: ReceiverCore,
+    /// The image's one reader, once there is an image.
+    reader: Option<ImageReader>,
     assembler: Assembler<Global>,
     block: Block,
 }
 
 impl Model for Subscriber {
     ghost use Rattle.std.specs.Prelude.{◌≡◌, ◌≤◌, length};
+    ghost use Rattle.receiver.specs.Seating.{AreSeated};
     ghost use Rattle.receiver.specs.Subscribing.{Subscribing};
 
     ghost Value = { Subscribing };
 
     ghost view = { λ s. record { core = s.core; assembler = s.assembler } };
 
-    ghost invariant = { λ s. (s.core.consumers ≡ 1) × (65472 ≤ length s.block) };
+    ghost invariant = { λ s. (s.core.consumers ≡ 1) × (65472 ≤ length s.block) × AreSeated s.core.image s.reader };
 }
 
 /// Hands a frame to the assembler: its head, and the block that has its payload in front. A padding is passed over. It is
@@ -92,6 +96,7 @@ impl Subscriber {
     {
         Ok(Subscriber {
             core,
+            reader: None,
             assembler: Assembler::new(alloc, greatest),
             block: Block::new(alloc, GREATEST_PAYLOAD)?,
         })
@@ -104,7 +109,9 @@ impl Subscriber {
         ensures refused { OnErr result (self.new ≡ self.old) }
         ensures assembler { self.new.assembler ≡ self.old.assembler }
     {
-        self.core.on_datagram(bytes, now)
+        let outcomes = self.core.on_datagram(bytes, now)?;
+        self.core.sit(&mut self.reader);
+        Ok(outcomes)
     }
 
     /// How many datagrams it has refused, by their faults.
@@ -121,7 +128,9 @@ impl Subscriber {
         ensures written { AllByRecursion IsFrame (replied result) }
         ensures assembler { self.new.assembler ≡ self.old.assembler }
     {
-        self.core.tick(now)
+        let replies = self.core.tick(now);
+        self.core.sit(&mut self.reader);
+        replies
     }
 
     /// Reads on until a message is complete, the assembler refuses a frame, or no frame is left: none then. The fault is
@@ -154,7 +163,10 @@ impl Subscriber {
         ensures greatest { self.new.assembler.greatest ≡ self.old.assembler.greatest }
         ensures forward { OnSome result (GoesForward (place_in self.old.core.image 0) (place_in self.new.core.image 0)) }
     {
-        match self.core.read_past(0, &mut self.block) {
+        let Some(reader) = &mut self.reader else {
+            return None;
+        };
+        match self.core.read_past(reader, &mut self.block) {
             None => None,
             Some(head) => Some(assemble(&mut self.assembler, &head, &self.block)),
         }
@@ -165,13 +177,16 @@ impl Subscriber {
         ensures told { (r : Receiver) → RepresentsSubscriber self.now r → TellsPositions r result }
         ensures order { IfSome result (λ p. (p.least ≤ p.rebuilt) × (p.rebuilt ≤ p.high_water)) }
     {
-        match self.core.image() {
-            None => None,
-            Some(image) => Some(Positions {
-                least: image.least(),
-                rebuilt: image.rebuilt(),
-                high_water: image.high_water(),
-            }),
-        }
+        let Some(image) = self.core.image() else {
+            return None;
+        };
+        let Some(reader) = &self.reader else {
+            return None;
+        };
+        Some(Positions {
+            least: reader.position(),
+            rebuilt: image.rebuilt(),
+            high_water: image.high_water(),
+        })
     }
 }

@@ -1,4 +1,4 @@
-use Rattle.rebuilder.proofs.OneHand.{at_end, met_same, shown}
+use Rattle.rebuilder.proofs.OneHand.{at_end, met_same, read_short, shown}
 use Rattle.rebuilder.proofs.alone.read_alone.Goals as goal
 
 pub returns-in_default-clause-none : goal.returns-in_default-clause-none
@@ -9,5 +9,7 @@ returns-in_default-clause-none c =
     )
 
 pub returns-clause-found : goal.returns-clause-found
-returns-clause-found c =
-    shown c.args.inserter.now c.meet.new.inserter c.meet-2.new.inserter c.args.reader.now c.meet.new.reader c.read.new.reader c.meet-2.new.reader c.in-Some.head c.args.block.now c.read.new.block c.meet.ensures.met (met_same c.args.image.now c.args.inserter.now c.args.reader.now c.requires.alone c.meet.new.inserter c.meet.new.reader c.meet.ensures.met) c.in-Some.ensures.found c.meet-2.ensures.met c.requires.room
+returns-clause-found c = (
+  shown c.args.inserter.now c.meet.new.inserter c.meet-2.new.inserter c.args.reader.now c.meet.new.reader c.read.new.reader c.meet-2.new.reader c.in-Some.head c.args.block.now c.read.new.block c.meet.ensures.met (met_same c.args.image.now c.args.inserter.now c.args.reader.now c.requires.alone c.meet.new.inserter c.meet.new.reader c.meet.ensures.met) c.in-Some.ensures.found c.meet-2.ensures.met c.requires.room,
+  read_short c.meet.new.reader c.in-Some.head c.args.block.now c.read.new.reader c.read.new.block c.in-Some.ensures.found,
+)

@@ -6,4 +6,4 @@ pub returns-in-None-clause-met : goal.returns-in-None-clause-met
 returns-in-None-clause-met c = rw (← c.self.view_is) (beat_missed _ (header_of c.args.header.now) c.in-None.is)
 
 pub returns-in-Some-clause-met : goal.returns-in-Some-clause-met
-returns-in-Some-clause-met c = rw (← c.self.view_is) (beat_met _ _ c.hear.new.image (header_of c.args.header.now) c.in-Some.is c.hear.ensures.heard)
+returns-in-Some-clause-met c = rw (← c.self.view_is) (beat_met _ _ c.hear.new.self (header_of c.args.header.now) c.in-Some.is c.hear.ensures.sees c.hear.ensures.heard)

@@ -5,10 +5,9 @@ use Rattle.std.proofs.lemmas.List.{append_assoc, length-take-le, take-append-dro
 use Rattle.frames.specs.Fronts.{FrontSpells}
 use Rattle.theory.specs.Wire.{IsFrame, StandTogether, Wire, spelling}
 use Rattle.frames.specs.Frames.{wire}
-use Rattle.receiver.specs.Receiving.{MeetsAll}
-use Rattle.receiver.specs.Representing.{Becomes}
+use Rattle.receiver.specs.Representing.{MeetsEach}
 use Rattle.frames.proofs.FrameSteps.{frame_at, frame_first, front_spells, next_first, slice_to_end}
-use Rattle.receiver.proofs.Meeting.{becomes_more}
+use Rattle.receiver.proofs.Meeting.{meets_more}
 use Rattle.receiver.proofs.Together.{setup_alone}
 use Rattle.receiver.proofs.receiver_core.ReceiverCore.on_frames.Goals as goal
 
@@ -46,9 +45,9 @@ loop-turn-preserved c = record {
       let below : i < length frames = omega (arith, counted, c.loop-turn-test.true) in
       let next = next_is frames i c.loop-turn.rest.now (wire c.known_frame-size.result.0) c.known_frame-size.result.1 spells.1 below before.0 c.known_frame-size.ensures.only in (
         slice_to_end c.loop-turn.rest.now c.known_frame-size.result.1 ∙ next.dropped,
-        subst (λ ws. Becomes c.args.self.now c.on_frame.new.self (λ r s. MeetsAll r ws c.push_reserved.new.self.items s)) next.taken
-            (subst (λ outs. Becomes c.args.self.now c.on_frame.new.self (λ r s. MeetsAll r (take i frames ++ wire c.known_frame-size.result.0 ∷ []) outs s)) (sym c.push_reserved.ensures.items)
-            (becomes_more c.args.self.now c.loop-turn.self c.on_frame.new.self (take i frames) c.loop-turn.outcomes.items (wire c.known_frame-size.result.0) c.in_ok-outcome.outcome before.1 c.in_ok-outcome.ensures.met)),
+        subst (λ ws. MeetsEach c.args.self.now ws c.push_reserved.new.self.items c.on_frame.new.self) next.taken
+            (subst (λ outs. MeetsEach c.args.self.now (take i frames ++ wire c.known_frame-size.result.0 ∷ []) outs c.on_frame.new.self) (sym c.push_reserved.ensures.items)
+            (meets_more c.args.self.now c.loop-turn.self c.on_frame.new.self (take i frames) c.loop-turn.outcomes.items (wire c.known_frame-size.result.0) c.in_ok-outcome.outcome before.1 c.in_ok-outcome.ensures.met)),
       );
   room = omega (arith, c.loop-turn.invariant.room, c.push_reserved.ensures.len, c.push_reserved.ensures.capacity, c.loop-turn-test.true);
   fresh = λ e. absurd (omega arith);
@@ -78,4 +77,4 @@ returns-in_err-outcome-clause-refused c =
 pub returns-clause-met : goal.returns-clause-met
 returns-clause-met c = λ frames spells counted.
     let done : length frames ≤ c.loop-turn._turn = omega (arith, counted, c.loop-turn-test.false) in
-    subst (λ ws. Becomes c.args.self.now c.loop-turn.self (λ r s. MeetsAll r ws c.loop-turn.outcomes.items s)) (take_all c.loop-turn._turn frames done) (c.loop-turn.invariant.taken frames spells counted).1
+    subst (λ ws. MeetsEach c.args.self.now ws c.loop-turn.outcomes.items c.loop-turn.self) (take_all c.loop-turn._turn frames done) (c.loop-turn.invariant.taken frames spells counted).1

@@ -1,16 +1,25 @@
-use Rattle.std.proofs.Common.{◌≡◌, ℕ, refl, Result, Ok, Err, List}
-use Rattle.std.specs.Prelude.{IfOk}
-use Rattle.receiver.specs.declared.receiver_core.Outcome.{Outcome}
+use Rattle.std.proofs.Common.{refl}
 use Rattle.receiver.specs.Receiving.{TakesDatagram}
-use Rattle.receiver.specs.Representing as core
-use Rattle.receiver.specs.Subscribing.{SubscriberBecomes, Subscribing}
+use Rattle.receiver.proofs.Alone.{SitsAgain, hears_sees, may_sit, takes_alone}
 use Rattle.receiver.proofs.Seated.{core_step, hears_keeps}
 use Rattle.receiver.proofs.subscriber.Subscriber.on_datagram.Goals as goal
 
-heard : {V E : Type 0} (items : V → List Outcome) (v w : Subscribing) (now : ℕ) (bytes : List ℕ) (out : Result V E) → w.assembler ≡ v.assembler
-    → IfOk out (λ outs. core.Becomes v.core w.core (λ r s. TakesDatagram r now bytes (items outs) s)) → IfOk out (λ outs. SubscriberBecomes v w (λ r s. TakesDatagram r now bytes (items outs) s))
-heard items v w now bytes (Ok outs) same f = core_step v w (λ r s. TakesDatagram r now bytes (items outs) s) (λ r s h k. hears_keeps v.assembler r now bytes (items outs) s h k) same f
-heard items v w now bytes (Err e) same f = tt
+pub sit-requires-clause-may : goal.sit-requires-clause-may
+sit-requires-clause-may c =
+    let v = c.self.inside.core in let m = c.on_datagram.new.self in
+    may_sit v.image m.image c.self.inside.reader c.self.invariant.2 (hears_sees v m c.args.now c.args.bytes.now c.in_ok-outcomes.outcomes.items c.in_ok-outcomes.ensures.heard)
+
+again : (c : goal.After-sit) → SitsAgain c.self.inside.core c.on_datagram.new.self c.sit.new.self c.self.inside.reader
+again c = record {
+  seated = c.self.invariant.2;
+  sees = hears_sees c.self.inside.core c.on_datagram.new.self c.args.now c.args.bytes.now c.in_ok-outcomes.outcomes.items c.in_ok-outcomes.ensures.heard;
+  stays = c.sit.ensures.stays;
+  sits = c.sit.ensures.sits;
+}
 
 pub returns-clause-heard : goal.returns-clause-heard
-returns-clause-heard c = rw (← c.self.view_is) (heard (λ outs. outs.items) _ _ c.args.now c.args.bytes.now c.on_datagram.result refl c.on_datagram.ensures.heard)
+returns-clause-heard c =
+    let outs = c.in_ok-outcomes.outcomes.items in
+    rw (← c.self.view_is)
+    (core_step _ _ (λ r s. TakesDatagram r c.args.now c.args.bytes.now outs s) (λ r s h k. hears_keeps c.self.inside.assembler r c.args.now c.args.bytes.now outs s h k) refl
+    (takes_alone c.self.inside.core c.on_datagram.new.self c.sit.new.self c.self.inside.reader c.args.now c.args.bytes.now outs (again c) c.in_ok-outcomes.ensures.heard))
