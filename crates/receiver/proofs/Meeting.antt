@@ -23,8 +23,8 @@ use Rattle.receiver.specs.declared.receiver_core.Outcome.TheVariants as outcomes
 use Rattle.frames.specs.Datagrams.{IsDatagramFault}
 use Rattle.frames.specs.declared.fault.FrameError.{FrameError}
 use Rattle.frames.specs.FaultCounts.{counted_at, place_of}
-use Rattle.setup.specs.Faults.{fault_of}
-use Rattle.setup.specs.declared.fault.SetupError.{SetupError}
+use Rattle.receiver.specs.SetupFaults.{fault_of}
+use Rattle.receiver.specs.declared.setup.fault.SetupError.{SetupError}
 use Rattle.rebuilder.specs.Seen.{Inserting, geometry_of}
 use Rattle.receiver.specs.Receiving.{IfOurs, IsOurs, PassesBy, RefusesDatagram, WouldOpen, Meets, MeetsFrame, MeetsHeartbeat, MeetsSetup, Opened, Receiver, asking, at_moment, given_at, is_due, missing, replied, replies, scanned_at, telling, ticked, told_after}
 use Rattle.receiver.specs.declared.receiver_core.Replies.{Replies}
