@@ -4,6 +4,7 @@ pub mod Meeting
 pub mod PollFrames
 pub mod Polled
 pub mod ReadOn
+pub mod Rooms
 pub mod Seated
 pub mod Shown
 pub mod Units

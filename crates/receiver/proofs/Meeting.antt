@@ -331,6 +331,14 @@ core_on v w i j is some sees then window consumers unmet faults =
     (record { image = then; width = sees.window ∙ is.width i some; seats = ((λ n. (sees.key n).consumers) ∙ s.0, sees.all ∙ s.1) })
     window consumers (subst (λ (x : Option Header). ForSome x IsHeader) (sym unmet) is.unmet) faults
 
+-- whose readers were given away
+pub core_left : (v w : Core) (i j : Inserting) → IsCore v → v.image ≡ Some i → j ≡ record i { undealt = j.undealt } → w.image ≡ Some j → w.window ≡ v.window → w.consumers ≡ v.consumers → w.unmet ≡ v.unmet → w.faults ≡ v.faults → IsCore w
+core_left v w i j is some left then window consumers unmet faults =
+    let s = is.seats i some in
+    core_of v w j is
+    (record { image = then; width = ap (λ (x : Inserting). x.window) left ∙ is.width i some; seats = (ap (λ (x : Inserting). x.key.consumers) left ∙ s.0, ap (λ (x : Inserting). length x.seen) left ∙ s.1) })
+    window consumers (subst (λ (x : Option Header). ForSome x IsHeader) (sym unmet) is.unmet) faults
+
 -- with one that was just opened
 pub core_opened : (v w : Core) (d : Identity) (p : ℕ) (j : Inserting) → IsCore v → j ≡ fresh j d p v.window v.consumers → w.image ≡ Some j → w.unmet ≡ None → w.window ≡ v.window → w.consumers ≡ v.consumers → w.faults ≡ v.faults → IsCore w
 core_opened v w d p j is e then unmet window consumers faults =

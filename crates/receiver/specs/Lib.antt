@@ -1,3 +1,4 @@
+pub mod Dealt
 pub mod Polling
 pub mod Receiving
 pub mod SetupFaults

@@ -32,10 +32,12 @@
 //! no poll is refused: a life has none that is.
 #![tactic(auto)]
 
+mod dealing;
 mod lives;
 mod opened;
 mod poll_error;
 mod positions;
+mod readers;
 mod receiver_core;
 mod setup;
 mod subscriber;
@@ -44,6 +46,7 @@ pub use lives::polls_a_run;
 pub use opened::OpenImage;
 pub use poll_error::PollError;
 pub use positions::Positions;
+pub use readers::Readers;
 pub use receiver_core::{Outcome, ReceiverCore, Replies, STATUS_INTERVAL};
 pub use setup::fault::SetupError;
 pub use setup::judgement::judge;

@@ -18,8 +18,11 @@ ghost use Rattle.rebuilder.specs.Meeting.{AreAlone, Meets, number_of};
 ghost use Rattle.rebuilder.specs.Seen.{geometry_of, join_of};
 ghost use Rattle.receiver.specs.Receiving.{Opened, gap_in};
 ghost use Rattle.receiver.specs.Representing.{GoesForward, HearsBeat, Inserts, IsAtEnd, ReadsPast, RepresentsImage, SeesOn, words_of};
+ghost use Rattle.receiver.specs.Dealt.{TakesReaders};
 ghost use Rattle.receiver.specs.Seating.{AreSeated, MaySit, SitsAt, place_of};
 
+use crate::dealing::{deal_all, only_reader, room_for};
+use crate::readers::Readers;
 use block::Block;
 use frames::{Frame, Header};
 use image::{ImageError, Insert, Steps};
@@ -28,22 +31,27 @@ use rebuilder::{Inserter, advance_alone, first_gap, heartbeat, insert, least, me
 use shared_image::{Image, ImageReader};
 use std::alloc::{AllocError, Global};
 use std::marker::Model;
+use std::sync::Arc;
 
 /// An image that threads share without a lock, and who rebuilds the stream in it.
 #[derive(Drop)]
 pub struct OpenImage {
-    image: Image,
+    image: Arc<Image, Global>,
     inserter: Inserter,
+    /// Room for its readers, as long as they aren't given away.
+    room: Option<Readers>,
 }
 
 impl Model for OpenImage {
-    ghost use Rattle.rebuilder.specs.Seen.{Inserting, IsInserterOf};
+    ghost use Rattle.std.specs.Arc.{arc_value};
+    ghost use Rattle.rebuilder.specs.Seen.{Inserting};
+    ghost use Rattle.receiver.specs.Dealt.{IsOpenImage};
 
     ghost Value = { Inserting };
 
     ghost view = { λ o. o.inserter };
 
-    ghost invariant = { λ o. IsInserterOf o.image o.inserter };
+    ghost invariant = { λ o. IsOpenImage (arc_value o.image) o.inserter o.room };
 }
 
 /// The position that a header names.
@@ -70,7 +78,15 @@ pub(crate) fn open(
     ensures { IfOk result (λ i. i ≡ record { of = i.of; key = record { identity = identity; join = join / 32; consumers = consumers }; window = window; stored = []; high = join; floor = join; seen = replicate consumers join; looks = replicate consumers 0; undealt = consumers }) }
 {
     match rebuilder::open(alloc, identity, join, window, consumers) {
-        Ok((image, inserter)) => Ok(OpenImage { image, inserter }),
+        Ok((image, inserter)) => {
+            let image = Arc::new(alloc, image)?;
+            let room = room_for(alloc, &image, consumers)?;
+            Ok(OpenImage {
+                image,
+                inserter,
+                room: Some(room),
+            })
+        }
         Err(ImageError::Memory) => Err(AllocError),
         Err(_) => unreachable!(),
     }
@@ -82,9 +98,9 @@ impl OpenImage {
         ensures value { result ≡ geometry_of self.now }
         ensures legal { IsGeometry result }
     {
-        // What always holds of it, for the proof.
         let _ = &self.inserter;
-        self.image.identity().geometry()
+        let image = &*self.image;
+        image.identity().geometry()
     }
 
     /// The bytes above the least consumer that it takes.
@@ -128,7 +144,8 @@ impl OpenImage {
         ensures sees { SeesOn self.old self.new }
     {
         let position = position_in(&self.geometry(), header);
-        insert(&self.image, &mut self.inserter, position, frame)
+        let image = &*self.image;
+        insert(image, &mut self.inserter, position, frame)
     }
 
     /// Takes a heartbeat with this header. The consumers are looked at once.
@@ -138,7 +155,8 @@ impl OpenImage {
         ensures sees { SeesOn self.old self.new }
     {
         let position = position_in(&self.geometry(), header);
-        let _ = heartbeat(&self.image, &mut self.inserter, position);
+        let image = &*self.image;
+        let _ = heartbeat(image, &mut self.inserter, position);
     }
 
     /// Its first gap. It begins at a position of the stream, and is no longer than a term.
@@ -151,7 +169,8 @@ impl OpenImage {
         let _ = self.geometry();
         let _ = self.inserter.rebuilt();
         let _ = self.inserter.high_water();
-        first_gap(&self.image, &mut self.inserter, &mut Steps::new())
+        let image = &*self.image;
+        first_gap(image, &mut self.inserter, &mut Steps::new())
     }
 
     /// Looks where the consumers stand. The answer is the least position that it read.
@@ -161,18 +180,23 @@ impl OpenImage {
         ensures shown { (o : Opened) → RepresentsImage (record self.old { seen = self.new.seen }) o → RepresentsImage self.new o }
         ensures sees { SeesOn self.old self.new }
     {
-        least(&self.image, &mut self.inserter)
+        let image = &*self.image;
+        least(image, &mut self.inserter)
     }
 
-    /// Its last reader, which stands at the join.
-    pub(crate) fn deal(&mut self) -> ImageReader
-        requires { self.old.undealt ≡ 1 }
-        ensures fits { IsReaderOf (words_of self.new) result }
-        ensures left { self.new ≡ record self.old { undealt = 0 } }
-        ensures number { number_of result ≡ 0 }
-        ensures position { position_of result ≡ join_of self.old }
+    /// Its readers, once.
+    pub(crate) fn take_readers(&mut self) -> Option<Readers>
+        ensures none { IfNone result ((self.new ≡ self.old) × (self.old.undealt ≡ 0)) }
+        ensures taken { IfSome result (λ r. TakesReaders self.old r self.new) }
+        ensures stays { self.new ≡ record self.old { undealt = self.new.undealt } }
     {
-        rebuilder::deal(&self.image, &mut self.inserter, 0)
+        let Some(mut taken) = self.room.take() else {
+            return None;
+        };
+        let image = &*self.image;
+        let count = image.consumers();
+        deal_all(image, &mut self.inserter, &mut taken.readers, count);
+        Some(taken)
     }
 
     /// Tells a reader each frame that was stored so far, and sees it where it stands.
@@ -181,7 +205,8 @@ impl OpenImage {
         ensures fits { IsReaderOf (words_of self.new) reader.new }
         ensures met { Meets self.old reader.old self.new reader.new }
     {
-        meet(&self.image, reader, &mut self.inserter);
+        let image = &*self.image;
+        meet(image, reader, &mut self.inserter);
     }
 
     /// Sees its one reader where that stands, and tells it what was stored so far. The reader is taken from the image if there
@@ -196,7 +221,10 @@ impl OpenImage {
             self.meet(reader);
             return;
         }
-        let mut first = self.deal();
+        let Some(taken) = self.take_readers() else {
+            unreachable!()
+        };
+        let mut first = only_reader(taken);
         self.meet(&mut first);
         *reader = Some(first);
     }
@@ -222,10 +250,11 @@ impl OpenImage {
         self.inserter.stored_apart();
         let _ = self.inserter.high_water();
         let _ = self.geometry();
-        let Some(head) = read_alone(&self.image, &mut self.inserter, reader, block) else {
+        let image = &*self.image;
+        let Some(head) = read_alone(image, &mut self.inserter, reader, block) else {
             return None;
         };
-        let _ = advance_alone(&self.image, &mut self.inserter, reader);
+        let _ = advance_alone(image, &mut self.inserter, reader);
         Some(head)
     }
 }

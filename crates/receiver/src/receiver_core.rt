@@ -16,10 +16,12 @@ ghost use Rattle.frames.specs.Frames.{header_of, nak_of, setup_of, status_of, wi
 ghost use Rattle.image.specs.Seen.{IsCount};
 ghost use Rattle.image.specs.Stored.{IsOfStream, stream_frame};
 ghost use Rattle.receiver.specs.Representing.{last_status_of};
+ghost use Rattle.receiver.specs.Dealt.{HasNoReaders, ImageTakes, Learns, MayLearn};
 ghost use Rattle.receiver.specs.Seating.{AreSeated, MaySit, Sits};
 ghost use Rattle.receiver.specs.Texts.{outcome_text};
 
 use crate::opened::{OpenImage, open};
+use crate::readers::Readers;
 use crate::setup::fault::SetupError;
 use crate::setup::judgement::judge;
 use block::Block;
@@ -161,6 +163,31 @@ impl ReceiverCore {
         ensures { option_copied result ≡ self.now.image }
     {
         self.image.as_ref()
+    }
+
+    /// The readers of its image, once after a SETUP has opened it: none before, and none again. It asks for no memory.
+    pub fn take_readers(&mut self) -> Option<Readers>
+        ensures none { IfNone result ((self.new ≡ self.old) × HasNoReaders self.old.image) }
+        ensures taken { IfSome result (λ r. ImageTakes self.old.image r self.new.image) }
+        ensures stays { self.new ≡ record self.old { image = self.new.image } }
+    {
+        let Some(image) = &mut self.image else {
+            return None;
+        };
+        image.take_readers()
+    }
+
+    /// Tells one of its image's readers each frame that was stored so far, which it then finds, and sees it where it stands.
+    pub fn learn(&mut self, reader: &mut ImageReader)
+        requires may { MayLearn self.old.image reader.old }
+        ensures may { MayLearn self.new.image reader.new }
+        ensures learnt { Learns self.old.image reader.old self.new.image reader.new }
+        ensures stays { self.new ≡ record self.old { image = self.new.image } }
+    {
+        let Some(image) = &mut self.image else {
+            return;
+        };
+        image.meet(reader);
     }
 
     /// Reads the frame where its image's one reader stands to the block's front, and moves the reader past it. There is none

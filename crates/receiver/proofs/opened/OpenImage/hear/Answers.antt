@@ -1,9 +1,11 @@
 use Rattle.std.proofs.Common.{ap, sym, ◌∙◌, rules, FitsSigned, to_z, of_z, w64}
+use Rattle.std.specs.Arc.{arc_value}
 use Rattle.std.proofs.lemmas.Int.{to_z-of_z}
 use Rattle.theory.specs.Control.{named_by}
 use Rattle.frames.specs.Frames.{header_of}
 use Rattle.rebuilder.specs.Seen.{geometry_of}
 use Rattle.receiver.proofs.Shown.{Accepts, beat_heard, beat_sees}
+use Rattle.receiver.proofs.Rooms.{open_as}
 use Rattle.receiver.proofs.opened.OpenImage.hear.Goals as goal
 
 accepts : (c : goal.After-heartbeat) → Accepts c.self.inside.inserter c.heartbeat.new.inserter (to_z w64 (of_z w64 c.position_in-position.result)) c.heartbeat.result
@@ -18,3 +20,8 @@ returns-clause-heard c =
 
 pub returns-clause-sees : goal.returns-clause-sees
 returns-clause-sees c = rw (← c.self.view_is) (beat_sees c.self.inside.inserter c.heartbeat.new.inserter (to_z w64 (of_z w64 c.position_in-position.result)) c.heartbeat.result (accepts c))
+
+pub invariant_of-self : goal.invariant_of-self
+invariant_of-self c =
+    let s = beat_sees c.self.inside.inserter c.heartbeat.new.inserter (to_z w64 (of_z w64 c.position_in-position.result)) c.heartbeat.result (accepts c) in
+    open_as (arc_value c.self.inside.image) c.self.inside.inserter c.heartbeat.new.inserter c.self.inside.room c.self.invariant s.of s.key s.undealt

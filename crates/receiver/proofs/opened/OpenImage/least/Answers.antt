@@ -1,4 +1,6 @@
 use Rattle.receiver.proofs.Shown.{sees_on, still_shown}
+use Rattle.std.specs.Arc.{arc_value}
+use Rattle.receiver.proofs.Rooms.{open_as}
 use Rattle.receiver.proofs.opened.OpenImage.least.Goals as goal
 
 pub returns-clause-shown : goal.returns-clause-shown
@@ -6,3 +8,8 @@ returns-clause-shown c = rw (← c.self.view_is) (λ o h. still_shown c.self.ins
 
 pub returns-clause-sees : goal.returns-clause-sees
 returns-clause-sees c = rw (← c.self.view_is) (sees_on c.self.inside.inserter c.least.new.inserter _ _ c.least.ensures.looked)
+
+pub invariant_of-self : goal.invariant_of-self
+invariant_of-self c =
+    let s = sees_on c.self.inside.inserter c.least.new.inserter _ _ c.least.ensures.looked in
+    open_as (arc_value c.self.inside.image) c.self.inside.inserter c.least.new.inserter c.self.inside.room c.self.invariant s.of s.key s.undealt

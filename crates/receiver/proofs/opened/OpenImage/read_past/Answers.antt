@@ -1,14 +1,16 @@
 use Rattle.std.proofs.Common.{◌≡◌, ◌≤◌, ◌∷◌, [], ◌∙◌, sym, ap, subst}
 use Rattle.theory.specs.Position.{IsGeometry, max_position}
-use Rattle.shared_image.specs.Handles.{position_of}
+use Rattle.std.specs.Arc.{arc_value}
+use Rattle.shared_image.specs.Handles.{ImageWords, position_of}
 use Rattle.rebuilder.specs.Meeting.{AreAlone}
 use Rattle.rebuilder.specs.Seen.{Inserting, geometry_of}
 use Rattle.receiver.proofs.ReadOn.{Passes, alone_of, alone_to, at_end, forward, moved_only, passed_same, reads_past}
+use Rattle.receiver.proofs.Rooms.{open_as, open_same}
 use Rattle.receiver.proofs.opened.OpenImage.read_past.Goals as goal
 use Rattle.receiver.proofs.opened.OpenImage.read_past.Goals.{After-advance_alone}
 
-alone : (c : After-advance_alone) → AreAlone c.self.inside.image c.self.inside.inserter c.args.reader.now
-alone c = alone_of c.self.inside.image c.self.inside.inserter c.args.self.now c.args.reader.now c.self.invariant c.self.view_is c.requires.alone
+alone : (c : After-advance_alone) → AreAlone (arc_value c.self.inside.image) c.self.inside.inserter c.args.reader.now
+alone c = alone_of (arc_value c.self.inside.image) c.self.inside.inserter c.args.self.now c.args.reader.now c.self.invariant.fits c.self.view_is c.requires.alone
 
 passes : (c : After-advance_alone) → Passes c.self.inside.inserter (position_of c.args.reader.now) c.advance_alone.result
 passes c = passed_same c.self.inside.inserter c.read_alone.new.inserter _ _ c.advance_alone.result c.read_alone.ensures.same.0 c.read_alone.ensures.same.1 c.advance_alone.ensures.past
@@ -17,11 +19,12 @@ moved : (c : After-advance_alone) → c.advance_alone.new.inserter ≡ record c.
 moved c = c.advance_alone.ensures.moved ∙ ap (λ (x : Inserting). record x { seen = c.advance_alone.result ∷ [] }) c.read_alone.ensures.same.0
 
 pub read_alone-requires-clause-alone : goal.read_alone-requires-clause-alone
-read_alone-requires-clause-alone c = alone_of c.self.inside.image c.self.inside.inserter c.args.self.now c.args.reader.now c.self.invariant c.self.view_is c.requires.alone
+read_alone-requires-clause-alone c =
+    subst (λ (x : ImageWords). AreAlone x c.self.inside.inserter c.args.reader.now) (sym c.deref-image.ensures) (alone_of (arc_value c.self.inside.image) c.self.inside.inserter c.args.self.now c.args.reader.now c.self.invariant.fits c.self.view_is c.requires.alone)
 
 pub returns-in_default-clause-none : goal.returns-in_default-clause-none
 returns-in_default-clause-none c =
-    let a = alone_of c.self.inside.image c.self.inside.inserter c.args.self.now c.args.reader.now c.self.invariant c.self.view_is c.requires.alone in
+    let a = alone_of (arc_value c.self.inside.image) c.self.inside.inserter c.args.self.now c.args.reader.now c.self.invariant.fits c.self.view_is c.requires.alone in
     let n = c.in_default.ensures.none in
     rw (← c.self.view_is) (c.read_alone.ensures.same.0, n.1, at_end c.self.inside.inserter (position_of c.args.reader.now) a.met n.0)
 
@@ -41,7 +44,15 @@ pub returns-clause-shape : goal.returns-clause-shape
 returns-clause-shape c = rw (← c.self.view_is) (moved_only c.self.inside.inserter c.advance_alone.new.inserter c.advance_alone.result (moved c))
 
 pub returns-clause-alone : goal.returns-clause-alone
-returns-clause-alone c = alone_to c.self.inside.image c.advance_alone.new.inserter c.advance_alone.new.reader c.advance_alone.ensures.alone
+returns-clause-alone c = alone_to _ c.advance_alone.new.inserter c.advance_alone.new.reader c.advance_alone.ensures.alone
 
 pub returns-in_default-clause-alone : goal.returns-in_default-clause-alone
-returns-in_default-clause-alone c = alone_to c.self.inside.image c.read_alone.new.inserter c.read_alone.new.reader c.read_alone.ensures.alone
+returns-in_default-clause-alone c = alone_to _ c.read_alone.new.inserter c.read_alone.new.reader c.read_alone.ensures.alone
+
+pub invariant_of-self : goal.invariant_of-self
+invariant_of-self c = open_same (arc_value c.self.inside.image) c.self.inside.inserter c.read_alone.new.inserter c.self.inside.room c.self.invariant c.read_alone.ensures.same.0
+
+pub invariant_of-self-2 : goal.invariant_of-self-2
+invariant_of-self-2 c =
+    let e = moved c in
+    open_as (arc_value c.self.inside.image) c.self.inside.inserter c.advance_alone.new.inserter c.self.inside.room c.self.invariant (ap (λ (x : Inserting). x.of) e) (ap (λ (x : Inserting). x.key) e) (ap (λ (x : Inserting). x.undealt) e)
