@@ -1,16 +1,22 @@
--- The receivers of a run, and their tallies.
-use Rattle.std.proofs.Common.{◌≡◌, ◌∙◌, ℕ, suc, ◌+◌, ◌<◌, Result, Ok, Err, List, [], ◌∷◌, ◌++◌, append_assoc, length, length-append, map, ap, subst, sym, refl, arith}
+-- The receivers of a run, and what they have left.
+use Rattle.std.proofs.Common.{◌≡◌, ◌∙◌, ℕ, suc, ◌+◌, ◌<◌, ◌≤◌, Result, Ok, Err, List, [], ◌∷◌, ◌++◌, append_assoc, length, length-append, map, ap, subst, sym, refl, arith}
 use Rattle.std.specs.Prelude.{IfOk, IsOk, OnOk, remove, slice_index_or}
 use Rattle.std.proofs.lemmas.List.{map-append}
 use Rattle.std.specs.List.{AllByRecursion}
 use Rattle.theory.specs.Position.{Geometry}
-use Rattle.theory.proofs.Lists.{all_pushed}
+use Rattle.atomic_table.specs.Seated.{TableId}
 use Rattle.log_rule.specs.Claims.Handles.{PublisherValue}
 use Rattle.shared_log.specs.Handles.{LogValue}
+use Rattle.endpoint.specs.Devices.{Device}
 use Rattle.endpoint.specs.declared.device_error.DeviceError.{DeviceError}
-use Rattle.run_parties.specs.Tallies.{Counted}
-use Rattle.run.specs.Outcomes.{IsPolled, polled_of}
-use Rattle.run.specs.Threads.{AreWaitingFrom, HaveCome, HaveEnded, IsTallied, IsWaitingReceiver, counters_of, device_of, shown_of}
+use Rattle.receiver.specs.Receiving.{Receiver}
+use Rattle.run_parties.specs.Groups.{id_of}
+use Rattle.run_parties.specs.Receivers.{new_receiver}
+use Rattle.run_parties.specs.Receptions.{EndsLife}
+use Rattle.run_parties.specs.declared.reception.Received.{Received}
+use Rattle.run_parties.proofs.Living.{life_of, life_tallies}
+use Rattle.run.specs.Outcomes.{IsPolled, told_of}
+use Rattle.run.specs.Threads.{AreWaitingFrom, HasReceived, HaveCome, HaveEnded, HaveReceivedFrom, IsWaitingReceiver, Names, counters_of, device_of, shown_of}
 use Rattle.run.specs.declared.passes.Parties.{Parties}
 use Rattle.run.specs.declared.passes.Size.{Size}
 use Rattle.run.specs.declared.passes.Waiting.{Waiting}
@@ -27,42 +33,76 @@ pub waiting_front : {D : Type 0} (g : Geometry) (count n : ℕ) (ws : List (Wait
 waiting_front g count n [] w all = tt
 waiting_front g count n (x ∷ ws) w all = (all.0, waiting_front g count (suc n) ws w all.1)
 
-pub waiting_last : {D : Type 0} (g : Geometry) (count n : ℕ) (ws : List (Waiting D)) (w : Waiting D) → AreWaitingFrom g count n (ws ++ w ∷ []) → (k : ℕ) × IsWaitingReceiver g count k w
-waiting_last g count n [] w all = (n, all.0)
-waiting_last g count n (x ∷ ws) w all = waiting_last g count (suc n) ws w all.1
+pub waiting_last : {D : Type 0} (g : Geometry) (count n : ℕ) (ws : List (Waiting D)) (w : Waiting D) → AreWaitingFrom g count n (ws ++ w ∷ []) → IsWaitingReceiver g count (n + length ws) w
+waiting_last g count n [] w all = subst (λ k. IsWaitingReceiver g count k w) (omega arith) all.0
+waiting_last g count n (x ∷ ws) w all = subst (λ k. IsWaitingReceiver g count k w) (omega arith) (waiting_last g count (suc n) ws w all.1)
 
--- ---- tallies
+-- ---- receivers that have ended
 
--- one more
-pub ended_more : (l : LogValue) (size : Size) (ps : List PublisherValue) (n : ℕ) (all r : Parties) (t : Counted) → HaveEnded l size ps n all → IsTallied size t → r.published ≡ all.published → r.tallies.items ≡ all.tallies.items ++ t ∷ [] → HaveEnded l size ps (n + 1) r
-ended_more l size ps n all r t have one same more = record {
-  published = subst (HaveCome l size ps) (sym same) have.published;
-  many = ap (λ (ts : List Counted). length ts) more ∙ length-append all.tallies.items (t ∷ []) ∙ (let m = have.many in omega (arith, m));
-  tallied = subst (AllByRecursion (IsTallied size)) (sym more) (all_pushed (IsTallied size) all.tallies.items t have.tallied one);
-}
+module _ {D : Type 0} (device : D → Device) (tells : D → Type 0) (g : Geometry) (size : Size) where
+  -- one more
+  received_more : (n k : ℕ) (ds : List D) (rs : List (Received D)) (d : D) (r : Received D) → HaveReceivedFrom device tells g size n ds rs → n + length ds ≡ k → HasReceived device tells g size k d r → HaveReceivedFrom device tells g size n (ds ++ d ∷ []) (rs ++ r ∷ [])
+  received_more n k [] [] d r all at one = let same : k ≡ n = omega (arith, at) in (subst (λ (m : ℕ). HasReceived device tells g size m d r) same one, tt)
+  received_more n k [] (y ∷ rs) d r all at one = absurd all
+  received_more n k (x ∷ ds) [] d r all at one = absurd all
+  received_more n k (x ∷ ds) (y ∷ rs) d r all at one = (all.0, received_more (suc n) k ds rs d r all.1 (omega (arith, at)) one)
 
-no_parties : (e : DeviceError) → IsOk {T = Parties} {E = DeviceError} (Err e) → ⊥
-no_parties e h = absurd cc
+  -- they are as many as had a device, and the tally of each is one
+  pub received_many : (n : ℕ) (ds : List D) (rs : List (Received D)) → HaveReceivedFrom device tells g size n ds rs → length rs ≡ length ds
+  received_many n [] [] all = refl
+  received_many n [] (r ∷ rs) all = absurd all
+  received_many n (d ∷ ds) [] all = absurd all
+  received_many n (d ∷ ds) (r ∷ rs) all = ap suc (received_many (suc n) ds rs all.1)
 
-no_tally : (e : DeviceError) → IsOk {T = Counted} {E = DeviceError} (Err e) → ⊥
-no_tally e h = absurd cc
+  pub told_polled : (n : ℕ) (ds : List D) (rs : List (Received D)) → HaveReceivedFrom device tells g size n ds rs → AllByRecursion (IsPolled size.wanted) (map told_of rs)
+  told_polled n [] [] all = tt
+  told_polled n [] (r ∷ rs) all = absurd all
+  told_polled n (d ∷ ds) [] all = absurd all
+  told_polled n (d ∷ ds) (r ∷ rs) all = (record { most = all.0.most; counts = r.tally.counts; tally = life_tallies _ _ _ _ r.tally all.0.lived }, told_polled (suc n) ds rs all.1)
 
--- of all threads that were joined
-pub ended : (l : LogValue) (size : Size) (ps : List PublisherValue) (n m : ℕ) (result parties : Result Parties DeviceError) (tally : Result Counted DeviceError) → m ≡ n + 1 → IfOk parties (HaveEnded l size ps n) → IfOk tally (IsTallied size)
-    → IfOk parties (λ p. IfOk result (λ r. r.published ≡ p.published)) → IfOk parties (λ p. IfOk tally (λ t. IfOk result (λ r. r.tallies.items ≡ p.tallies.items ++ t ∷ []))) → OnOk result (IsOk parties × IsOk tally) → IfOk result (HaveEnded l size ps m)
-ended l size ps n m (Err f) parties tally next have one same more both = tt
-ended l size ps n m (Ok r) (Ok p) (Ok t) next have one same more both = subst (λ (k : ℕ). HaveEnded l size ps k r) (sym next) (ended_more l size ps n p r t have one same more)
-ended l size ps n m (Ok r) (Ok p) (Err f) next have one same more both = absurd (no_tally f both.1)
-ended l size ps n m (Ok r) (Err f) tally next have one same more both = absurd (no_parties f both.0)
+  -- one that was named so, behind as many
+  has_received : (n : ℕ) (w : Waiting D) (counters : TableId) (receiver : Receiver) (before : Device) (told : Type 0) (wanted : ℕ) (r : Received D) → w.number ≡ n → Names device tells g size w counters receiver before told wanted
+      → EndsLife receiver told before (device r.device) r.tally → r.tally.polled ≤ wanted → HasReceived device tells g size n w.device r
+  has_received n w counters receiver before told wanted r at names lived most = record {
+    most = let e = names.wanted_are in omega arith;
+    lived = life_of receiver (new_receiver g (id_of size.receivers n)) told (tells w.device) before (device w.device) (device r.device) r.tally (names.receiver_is ∙ ap (λ (k : ℕ). new_receiver g (id_of size.receivers k)) at) names.device_is names.told_it lived;
+  }
 
--- what a run tells of them
-pub told_polled : (size : Size) (ts : List Counted) → AllByRecursion (IsTallied size) ts → AllByRecursion (IsPolled size.wanted) (map polled_of ts)
-told_polled size [] all = tt
-told_polled size (t ∷ ts) all = (record { most = all.0.most; counts = t.counts; tally = all.0.tally }, told_polled size ts all.1)
+  no_parties : (e : DeviceError) → IsOk {T = Parties D} {E = DeviceError} (Err e) → ⊥
+  no_parties e h = absurd cc
 
-pub told_many : (ts : List Counted) → length (map polled_of ts) ≡ length ts
+  none_received : (e : DeviceError) → IsOk {T = Received D} {E = DeviceError} (Err e) → ⊥
+  none_received e h = absurd cc
+
+  -- of all threads that were joined
+  pub ended : (l : LogValue) (ps : List PublisherValue) (ws : List (Waiting D)) (w : Waiting D) (counters : TableId) (receiver : Receiver) (before : Device) (told : Type 0) (wanted : ℕ) (result parties : Result (Parties D) DeviceError) (one : Result (Received D) DeviceError)
+      → l.identity.geometry ≡ g → AreWaitingFrom g size.receivers 0 (ws ++ w ∷ []) → Names device tells g size w counters receiver before told wanted
+      → IfOk parties (HaveEnded device tells l size ps (map device_of ws)) → IfOk one (λ r. EndsLife receiver told before (device r.device) r.tally) → IfOk one (λ r. r.tally.polled ≤ wanted)
+      → IfOk parties (λ p. IfOk result (λ r. r.published ≡ p.published)) → IfOk parties (λ p. IfOk one (λ t. IfOk result (λ r. r.received.items ≡ p.received.items ++ t ∷ []))) → OnOk result (IsOk parties × IsOk one)
+      → IfOk result (HaveEnded device tells l size ps (map device_of (ws ++ w ∷ [])))
+  ended l ps ws w counters receiver before told wanted (Err f) parties one shape waits names have lived most same more both = tt
+  ended l ps ws w counters receiver before told wanted (Ok r) (Ok p) (Ok t) shape waits names have lived most same more both =
+      let last = waiting_last g size.receivers 0 ws w waits in
+      let received : HaveReceivedFrom device tells g size 0 (map device_of ws) p.received.items = subst (λ (x : Geometry). HaveReceivedFrom device tells x size 0 (map device_of ws) p.received.items) shape have.received in
+      let longer : HaveReceivedFrom device tells g size 0 (map device_of ws ++ w.device ∷ []) (p.received.items ++ t ∷ []) =
+      received_more 0 (length ws) (map device_of ws) p.received.items w.device t received (length_map ws) (has_received (length ws) w counters receiver before told wanted t last.number names lived most) in
+      record {
+        published = subst (HaveCome l size ps) (sym same) have.published;
+        received =
+            subst (λ (x : Geometry). HaveReceivedFrom device tells x size 0 (map device_of (ws ++ w ∷ [])) r.received.items) (sym shape)
+            (subst (HaveReceivedFrom device tells g size 0 (map device_of (ws ++ w ∷ []))) (sym more)
+            (subst (λ ds. HaveReceivedFrom device tells g size 0 ds (p.received.items ++ t ∷ [])) (sym (map-append device_of ws (w ∷ []))) longer));
+      }
+    where
+      length_map : (xs : List (Waiting D)) → length (map device_of xs) ≡ length xs
+      length_map [] = refl
+      length_map (x ∷ xs) = ap suc (length_map xs)
+  ended l ps ws w counters receiver before told wanted (Ok r) (Ok p) (Err f) shape waits names have lived most same more both = absurd (none_received f both.1)
+  ended l ps ws w counters receiver before told wanted (Ok r) (Err f) one shape waits names have lived most same more both = absurd (no_parties f both.0)
+
+pub told_many : {D : Type 0} (rs : List (Received D)) → length (map told_of rs) ≡ length rs
 told_many [] = refl
-told_many (t ∷ ts) = ap suc (told_many ts)
+told_many (r ∷ rs) = ap suc (told_many rs)
 
 -- ---- receivers that are made
 

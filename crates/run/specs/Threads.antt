@@ -12,11 +12,14 @@ use Rattle.shared_log.specs.Parts.{IsNewReader}
 use Rattle.counters.specs.Order.{zeros}
 use Rattle.receiver.specs.Subscribing.{RepresentsSubscriber}
 use Rattle.run_parties.specs.Groups.{id_of}
-use Rattle.run_parties.specs.Messages.{IsRunClaim, message_in}
+use Rattle.endpoint.specs.Devices.{Device}
+use Rattle.receiver.specs.Receiving.{Receiver}
+use Rattle.run_parties.specs.Messages.{HasPublished, IsRunClaim, message_in}
 use Rattle.run_parties.specs.Passes.{HasNone, IsKept}
 use Rattle.run_parties.specs.Receivers.{new_receiver}
+use Rattle.run_parties.specs.Receptions.{EndsLife}
 use Rattle.run_parties.specs.RunLogs.{IsRunLog}
-use Rattle.run_parties.specs.Tallies.{Counted, IsTally}
+use Rattle.run_parties.specs.declared.reception.Received.{Received}
 use Rattle.run.specs.declared.passes.Parties.{Parties}
 use Rattle.run.specs.declared.passes.Passes.{Passes}
 use Rattle.run.specs.declared.passes.Publications.{Publications}
@@ -59,8 +62,16 @@ pub record AreCounted (accepted : List ℕ) (publishers : List PublisherValue) :
   pub long : length accepted ≡ 8
   pub each : (n : ℕ) → n < 8 → slice_index accepted n ≡ total (accepted_as n) publishers
 
+-- publishers that waited, and those that came back: each has claimed its messages 0, 1, 2 and so on, each committed whole, and paddings
+abbrev pub HavePublished : LogValue → ℕ → List PublisherValue → List PublisherValue → Type 0
+HavePublished l length [] [] = ⊤
+HavePublished l length [] (q ∷ qs) = ⊥
+HavePublished l length (p ∷ ps) [] = ⊥
+HavePublished l length (p ∷ ps) (q ∷ qs) = HasPublished l length (total message_in q.pass.right.claims) p q × HavePublished l length ps qs
+
 -- these publishers came back with the parts that they had, and what was accepted of them was counted
 pub record HaveCome (l : LogValue) (size : Size) (waiting : List PublisherValue) (p : Publications) : Type 0 where
+  pub published : HavePublished l size.task.length waiting p.publishers.items
   pub back : AllByRecursion (IsBack l size) p.publishers.items
   pub parts : map parts_in p.publishers.items ≡ map parts_in waiting
   pub counted : AreCounted p.accepted p.publishers.items
@@ -89,16 +100,32 @@ abbrev pub AreWaitingFrom : {D : Type 0} → Geometry → ℕ → ℕ → List (
 AreWaitingFrom g count n [] = ⊤
 AreWaitingFrom g count n (w ∷ ws) = IsWaitingReceiver g count n w × AreWaitingFrom g count (suc n) ws
 
--- a tally of some messages, no more than were wanted
-pub record IsTallied (size : Size) (t : Counted) : Type 0 where
-  pub most : t.polled ≤ size.wanted
-  pub tally : IsTally t
+-- this receiver, with its device and as many messages as are wanted, is the one that waits, of so many by its number
+pub record Names {D : Type 0} (device : D → Device) (tells : D → Type 0) (g : Geometry) (size : Size) (w : Waiting D) (counters : TableId) (receiver : Receiver) (before : Device) (told : Type 0) (wanted : ℕ) : Type 0 where
+  pub counters_are : arc_value w.counters ≡ counters
+  pub receiver_is : receiver ≡ new_receiver g (id_of size.receivers w.number)
+  pub device_is : before ≡ device w.device
+  pub tells_it : told → tells w.device
+  pub told_it : tells w.device → told
+  pub wanted_are : wanted ≡ size.wanted
 
--- publishers came back, and of so many receivers their tallies
-pub record HaveEnded (l : LogValue) (size : Size) (waiting : List PublisherValue) (receivers : ℕ) (p : Parties) : Type 0 where
+-- one of so many, by its number, has lived over its device up to the one that came back, and has tallied what its polls gave: no
+-- more messages than were wanted
+pub record HasReceived {D : Type 0} (device : D → Device) (tells : D → Type 0) (g : Geometry) (size : Size) (n : ℕ) (before : D) (r : Received D) : Type 0 where
+  pub most : r.tally.polled ≤ size.wanted
+  pub lived : EndsLife (new_receiver g (id_of size.receivers n)) (tells before) (device before) (device r.device) r.tally
+
+-- some of them, by their numbers, which they have from this one on
+abbrev pub HaveReceivedFrom : {D : Type 0} → (D → Device) → (D → Type 0) → Geometry → Size → ℕ → List D → List (Received D) → Type 0
+HaveReceivedFrom device tells g size n [] [] = ⊤
+HaveReceivedFrom device tells g size n [] (r ∷ rs) = ⊥
+HaveReceivedFrom device tells g size n (d ∷ ds) [] = ⊥
+HaveReceivedFrom device tells g size n (d ∷ ds) (r ∷ rs) = HasReceived device tells g size n d r × HaveReceivedFrom device tells g size (suc n) ds rs
+
+-- publishers came back, and receivers, which had these devices
+pub record HaveEnded {D : Type 0} (device : D → Device) (tells : D → Type 0) (l : LogValue) (size : Size) (waiting : List PublisherValue) (before : List D) (p : Parties D) : Type 0 where
   pub published : HaveCome l size waiting p.published
-  pub many : length p.tallies.items ≡ receivers
-  pub tallied : AllByRecursion (IsTallied size) p.tallies.items
+  pub received : HaveReceivedFrom device tells l.identity.geometry size 0 before p.received.items
 
 -- ---- all threads
 
@@ -116,7 +143,7 @@ pub record ArePasses {D : Type 0} (l : LogValue) (queue : TableId) (size : Size)
   pub receivers_many : length p.receivers.items ≡ size.receivers
   pub receivers : AreWaitingFrom l.identity.geometry size.receivers 0 p.receivers.items
 
--- what the publishers have published is counted, and so are the messages that each subscriber polled
-pub record AreReturned {D : Type 0} (l : LogValue) (size : Size) (p : Passes D) (r : Returned) : Type 0 where
-  pub parties : HaveEnded l size p.publishers.items size.receivers r.parties
+-- what the publishers have published is counted; and each receiver has lived over its device, and tallied what its polls gave
+pub record AreReturned {D : Type 0} (device : D → Device) (tells : D → Type 0) (l : LogValue) (size : Size) (p : Passes D) (r : Returned D) : Type 0 where
+  pub parties : HaveEnded device tells l size p.publishers.items (map device_of p.receivers.items) r.parties
   pub keeper : IsKept l r.keeper

@@ -4,7 +4,7 @@ use conductor::{Client, Taker};
 use counters::{CounterWriter, Counters};
 use endpoint::Fan;
 use receiver::Subscriber;
-use run_parties::{Context, PUBLISHERS, Tally, Task};
+use run_parties::{Context, PUBLISHERS, Received, Task};
 use shared_log::{Keeper, LogReader, Publisher};
 use std::sync::Arc;
 
@@ -43,16 +43,16 @@ pub struct Publications {
 
 /// What publishers and receivers gave back.
 #[derive(Drop)]
-pub struct Parties {
+pub struct Parties<D> {
     pub published: Publications,
     /// By the receivers' numbers.
-    pub tallies: Vec<Tally>,
+    pub received: Vec<Received<D>>,
 }
 
 /// What all gave back.
 #[derive(Drop)]
-pub struct Returned {
-    pub parties: Parties,
+pub struct Returned<D> {
+    pub parties: Parties<D>,
     pub keeper: Keeper,
 }
 

@@ -1,18 +1,20 @@
 //! All threads, from their start to their end.
 
-ghost use Rattle.std.specs.Prelude.{◌≡◌, ◌≤◌, ◌<◌, ◌^◌, ◌+◌, [], ◌∷◌, ◌++◌, ℕ, IfOk, length, slice_index, slice_set, vec_len};
+ghost use Rattle.std.specs.Prelude.{◌≡◌, ◌≤◌, ◌<◌, ◌^◌, ◌+◌, [], ◌∷◌, ◌++◌, IfOk, map, slice_index, slice_set, vec_len};
 ghost use Rattle.std.specs.List.{AllByRecursion};
-ghost use Rattle.run.specs.Threads.{ArePasses, AreReturned, AreWaitingFrom, HaveCome, HaveEnded, IsSet, IsWaiting};
+ghost use Rattle.run.specs.Threads.{ArePasses, AreReturned, AreWaitingFrom, HaveCome, HaveEnded, IsSet, IsWaiting, Names, device_of};
 
 use crate::passes::{Agents, Parties, Passes, Publications, Returned, Waiting};
-use crate::thread_joins::{gather, receiver_end, with_tally};
+use crate::thread_joins::{gather, receiver_end, with_received};
 use crate::thread_starts::{start_conductor, start_publisher, start_receiver, start_sender};
 use crate::watch::Watch;
+use agents::Named;
 use conductor::Command;
 use endpoint::{Datagrams, DeviceError};
-use run_parties::{Gate, PUBLISHERS, Published};
+use run_parties::{Begins, Gate, PUBLISHERS, Published};
 use shared_log::Publisher;
 use std::io::Write;
+use std::marker::Brand;
 use std::sync::Wait;
 use std::thread;
 use std::thread::{Scope, Threads};
@@ -63,8 +65,40 @@ fn run_publishers<'s, S, R: Threads + Wait + Clock + Sync, G: Gate + Sync, E: Wr
     with_published(others?, published?)
 }
 
+/// Starts the threads of a receiver, then those of the receivers that wait before it, the last one first, and those of the
+/// publishers, and joins all of them once all is to stop.
+#[cycle(receivers)]
+fn run_receiver<
+    's,
+    S,
+    N: Named + Begins + Send + 's,
+    R: Threads + Wait + Clock + Sync,
+    D: Datagrams + Send + Drop + 's,
+    G: Gate + Sync,
+    E: Write,
+>(
+    scope: &'s Scope<'s, S>,
+    agents: &'s Agents<'s, R, G>,
+    last: Waiting<D>,
+    waiting: Vec<Waiting<D>>,
+    publishers: Vec<Publisher>,
+    watch: &mut Watch<E>,
+) -> Result<Parties<D>, DeviceError>
+    requires names { Names D.device D.tells agents.now.context.now.state.now.log.identity.geometry agents.now.size last N.counters N.receiver N.device N.tells N.wanted }
+    requires waiting { AreWaitingFrom agents.now.context.now.state.now.log.identity.geometry agents.now.size.receivers 0 (waiting.items ++ last ∷ []) }
+    requires publishers { AllByRecursion (IsWaiting agents.now.context.now.state.now.log agents.now.size.publishers) publishers.items × (vec_len publishers ≤ 8) }
+    requires set { IsSet agents.now.context.now.state.now.log agents.now.size }
+    ensures { IfOk result (HaveEnded D.device D.tells agents.now.context.now.state.now.log agents.now.size publishers.items (map device_of (waiting.items ++ last ∷ []))) }
+{
+    let started = start_receiver::<S, N, R, D, G>(scope, agents, last);
+    let parties = run_receivers(scope, agents, waiting, publishers, watch);
+    let received = receiver_end(agents, started);
+    with_received(parties, received)
+}
+
 /// Starts the threads of each receiver, the last one first, then those of the publishers, and joins all of them once all is to
 /// stop.
+#[cycle(receivers)]
 fn run_receivers<
     's,
     S,
@@ -78,22 +112,21 @@ fn run_receivers<
     mut waiting: Vec<Waiting<D>>,
     publishers: Vec<Publisher>,
     watch: &mut Watch<E>,
-) -> Result<Parties, DeviceError>
+) -> Result<Parties<D>, DeviceError>
     requires waiting { AreWaitingFrom agents.now.context.now.state.now.log.identity.geometry agents.now.size.receivers 0 waiting.items }
-    requires publishers { AllByRecursion (IsWaiting agents.now.context.now.state.now.log agents.now.size.publishers) publishers.items }
-    requires few { vec_len publishers ≤ 8 }
+    requires publishers { AllByRecursion (IsWaiting agents.now.context.now.state.now.log agents.now.size.publishers) publishers.items × (vec_len publishers ≤ 8) }
     requires set { IsSet agents.now.context.now.state.now.log agents.now.size }
-    ensures { IfOk result (HaveEnded agents.now.context.now.state.now.log agents.now.size publishers.items (vec_len waiting)) }
+    ensures { IfOk result (HaveEnded D.device D.tells agents.now.context.now.state.now.log agents.now.size publishers.items (map device_of waiting.items)) }
 {
     let Some(last) = waiting.pop() else {
         let published = run_publishers(scope, agents, publishers, watch)?;
-        let tallies = Vec::new(agents.context.alloc);
-        return Ok(Parties { published, tallies });
+        let received = Vec::new(agents.context.alloc);
+        return Ok(Parties {
+            published,
+            received,
+        });
     };
-    let started = start_receiver(scope, agents, last);
-    let parties = run_receivers(scope, agents, waiting, publishers, watch);
-    let tally = receiver_end(agents, started);
-    with_tally(parties, tally)
+    run_receiver::<S, Brand, R, D, G, E>(scope, agents, last, waiting, publishers, watch)
 }
 
 /// Starts all threads, waits until all is to stop, and joins them.
@@ -109,10 +142,10 @@ fn run_in<
     agents: &'s Agents<'s, R, G>,
     passes: Passes<D>,
     mut watch: Watch<E>,
-) -> Result<Returned, DeviceError>
+) -> Result<Returned<D>, DeviceError>
     requires passes { ArePasses agents.now.context.now.state.now.log agents.now.context.now.state.now.conductor agents.now.size passes }
     requires set { IsSet agents.now.context.now.state.now.log agents.now.size }
-    ensures { IfOk result (λ r. AreReturned agents.now.context.now.state.now.log agents.now.size passes r) }
+    ensures { IfOk result (λ r. AreReturned D.device D.tells agents.now.context.now.state.now.log agents.now.size passes r) }
 {
     let Passes {
         publishers,
@@ -141,17 +174,17 @@ pub fn run_agents<
     D: Datagrams + Send + Drop,
     G: Gate + Sync,
     E: Write + Drop,
->(agents: &Agents<'_, R, G>, passes: Passes<D>, watch: Watch<E>) -> Result<Returned, DeviceError>
+>(agents: &Agents<'_, R, G>, passes: Passes<D>, watch: Watch<E>) -> Result<Returned<D>, DeviceError>
     requires passes { ArePasses agents.now.context.now.state.now.log agents.now.context.now.state.now.conductor agents.now.size passes }
     requires set { IsSet agents.now.context.now.state.now.log agents.now.size }
-    ensures { IfOk result (λ r. AreReturned agents.now.context.now.state.now.log agents.now.size passes r) }
+    ensures { IfOk result (λ r. AreReturned D.device D.tells agents.now.context.now.state.now.log agents.now.size passes r) }
 {
     thread::scope(
         thread::scope_env(),
         agents.context.rt,
-        move |scope| -> Result<Returned, DeviceError>
+        move |scope| -> Result<Returned<D>, DeviceError>
             requires { ArePasses agents.now.context.now.state.now.log agents.now.context.now.state.now.conductor agents.now.size passes × IsSet agents.now.context.now.state.now.log agents.now.size }
-            ensures { IfOk result (λ r. AreReturned agents.entry.now.context.now.state.now.log agents.entry.now.size passes r) }
+            ensures { IfOk result (λ r. AreReturned D.device D.tells agents.entry.now.context.now.state.now.log agents.entry.now.size passes r) }
         { run_in(scope, agents, passes, watch) },
     )
 }

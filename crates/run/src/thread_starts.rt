@@ -3,7 +3,7 @@
 //! What a thread promises is known of a closure that holds plain references, and not of one that holds a struct of them: so
 //! the context is taken apart before such a closure, and put together in it.
 
-ghost use Rattle.std.specs.Prelude.{◌≡◌, ◌≤◌, ◌<◌, ◌^◌, ℕ, IfOk, length};
+ghost use Rattle.std.specs.Prelude.{◌≡◌, ◌≤◌, ◌<◌, ◌^◌, IfOk, length};
 ghost use Rattle.std.specs.Arc.{arc_value};
 ghost use Rattle.endpoint.specs.declared.device_error.DeviceError.TheVariants.{Device};
 ghost use Rattle.shared_log.specs.Books.{IsDone};
@@ -11,19 +11,17 @@ ghost use Rattle.shared_log.specs.Parts.{IsNewReader};
 ghost use Rattle.run_parties.specs.Messages.{HasPublished};
 ghost use Rattle.run_parties.specs.Passes.{IsKept};
 ghost use Rattle.run_parties.specs.Tallies.{IsTally};
-ghost use Rattle.theory.specs.Position.{Geometry};
-ghost use Rattle.run.specs.Threads.{IsSet, IsWaitingReceiver};
+ghost use Rattle.run.specs.Threads.{IsSet, IsWaitingReceiver, Names};
 
 use crate::passes::{Agents, Waiting};
-use agents::Named;
+use agents::{Duty, Named, REPLY};
 use conductor::{Client, Taker};
 use endpoint::{Datagrams, DeviceError, Fan};
 use run_parties::{
-    Context, Gate, Published, RunState, SharedReceiver, Tally, Task, publish, receive, send, steer,
-    subscribe,
+    Begins, Context, Gate, Published, RunState, SharedReceiver, Tally, Task, publish, receive,
+    send, steer, subscribe,
 };
 use shared_log::{Keeper, Log, LogReader, Publisher};
-use std::marker::Brand;
 use std::snapshot::Snapshot;
 use std::sync::{Arc, Wait};
 use std::thread::{JoinHandle, Promise, PromisedHandle, Scope, Threads};
@@ -73,11 +71,15 @@ pub type Steering = PromisedHandle<Keeper, KeeperBack>;
 /// The thread of a subscriber.
 pub type Subscribing = PromisedHandle<Result<Tally, DeviceError>, TallyOf>;
 
-/// The threads of a receiver, of which one may not have been started.
+/// What the threads of a receiver share.
+pub type Shared<N, D> = Arc<SharedReceiver<N, D>>;
+
+/// The threads of a receiver, of which one may not have been started, and what they share.
 #[derive(Drop)]
-pub struct Receiving {
+pub struct Receiving<N: Named + Begins, D: Datagrams> {
     pub agent: Result<Agent, DeviceError>,
     pub subscriber: Result<Subscribing, DeviceError>,
+    pub shared: Shared<N, D>,
 }
 
 /// No thread could be started: that stops all.
@@ -149,23 +151,22 @@ pub fn start_sender<'s, S, R: Wait + Clock + Sync, D: Datagrams + Send + Drop + 
 fn start_agent<
     's,
     S,
-    N: Named + Send + 's,
+    N: Named + Begins + Send + 's,
     R: Wait + Clock + Sync,
     D: Datagrams + Send + Drop + 's,
     G: Gate + Sync,
 >(
     scope: &'s Scope<'s, S>,
     agents: &'s Agents<'s, R, G>,
-    receiver: Arc<SharedReceiver<N>>,
+    receiver: Shared<N, D>,
     number: u64,
-    device: D,
 ) -> Result<Agent, DeviceError>
     requires { arc_value (arc_value receiver).counters ≡ N.counters }
 {
     let Ok(handle) = scope.spawn(
         move || -> Result<(), DeviceError>
             requires { arc_value (arc_value receiver).counters ≡ N.counters }
-        { receive(agents.context, &receiver, number, device) },
+        { receive(agents.context, &receiver, number) },
     ) else {
         return Err(halted(agents.context.state));
     };
@@ -173,12 +174,20 @@ fn start_agent<
 }
 
 /// Starts the thread of a subscriber.
-fn start_subscriber<'s, S, N: Named + Send + 's, R: Wait + Clock + Sync, G: Gate + Sync>(
+fn start_subscriber<
+    's,
+    S,
+    N: Named + Begins + Send + 's,
+    R: Wait + Clock + Sync,
+    D: Datagrams + Send + Drop + 's,
+    G: Gate + Sync,
+>(
     scope: &'s Scope<'s, S>,
     agents: &'s Agents<'s, R, G>,
-    receiver: Arc<SharedReceiver<N>>,
+    receiver: Shared<N, D>,
 ) -> Result<Subscribing, DeviceError>
-    requires { IsSet agents.now.context.now.state.now.log agents.now.size }
+    requires wanted { N.wanted ≡ agents.now.size.wanted }
+    requires set { IsSet agents.now.context.now.state.now.log agents.now.size }
     ensures { IfOk result (λ h. h.promise.wanted ≡ agents.now.size.wanted) }
 {
     let wanted = agents.size.wanted;
@@ -192,7 +201,7 @@ fn start_subscriber<'s, S, N: Named + Send + 's, R: Wait + Clock + Sync, G: Gate
     let Ok(handle) = scope.spawn_with(
         TallyOf { wanted },
         move || -> Result<Tally, DeviceError>
-            requires { wanted < 2 ^ 63 }
+            requires { (wanted ≡ N.wanted) × (wanted < 2 ^ 63) }
             ensures { IfOk result (λ tally. (tally.polled ≤ wanted) × IsTally tally) }
         {
             let context = Context {
@@ -210,11 +219,11 @@ fn start_subscriber<'s, S, N: Named + Send + 's, R: Wait + Clock + Sync, G: Gate
     Ok(handle)
 }
 
-/// Two owners of what a receiver's threads share. Where memory is refused all stops.
-fn shared_twice<N: Named, R, G>(
+/// Three owners of what a receiver's threads share. Where memory is refused all stops.
+fn shared_thrice<N: Named + Begins, R, D: Datagrams + Drop, G>(
     agents: &Agents<'_, R, G>,
-    receiver: SharedReceiver<N>,
-) -> Result<(Arc<SharedReceiver<N>>, Arc<SharedReceiver<N>>), DeviceError>
+    receiver: SharedReceiver<N, D>,
+) -> Result<(Shared<N, D>, Shared<N, D>, Shared<N, D>), DeviceError>
     ensures { IfOk result (λ p. arc_value p.0 ≡ receiver) }
 {
     let state = agents.context.state;
@@ -222,50 +231,41 @@ fn shared_twice<N: Named, R, G>(
         state.stop();
         return Err(DeviceError::Memory);
     };
-    let Ok(other) = Arc::try_clone(&one) else {
+    let (Ok(two), Ok(three)) = (Arc::try_clone(&one), Arc::try_clone(&one)) else {
         state.stop();
         return Err(DeviceError::Memory);
     };
-    Ok((one, other))
+    Ok((one, two, three))
 }
 
-/// Starts the two threads of a receiver whose counters have this name.
-fn start_named<
-    's,
-    S,
-    N: Named + Send + 's,
-    R: Wait + Clock + Sync,
-    D: Datagrams + Send + Drop + 's,
-    G: Gate + Sync,
->(
-    scope: &'s Scope<'s, S>,
-    agents: &'s Agents<'s, R, G>,
+/// What the threads of a receiver that waits are to share. Where memory is refused all stops.
+fn shared_of<N: Named + Begins, R, D: Datagrams + Drop, G>(
+    agents: &Agents<'_, R, G>,
     waiting: Waiting<D>,
-) -> Result<Receiving, DeviceError>
-    requires waits { (g : Geometry) × (count : ℕ) × (n : ℕ) × IsWaitingReceiver g count n waiting }
-    requires named { arc_value waiting.counters ≡ N.counters }
-    requires set { IsSet agents.now.context.now.state.now.log agents.now.size }
-    ensures { IfOk result (λ r. IfOk r.subscriber (λ h. h.promise.wanted ≡ agents.now.size.wanted)) }
+) -> Result<SharedReceiver<N, D>, DeviceError>
+    requires waits { IsWaitingReceiver agents.now.context.now.state.now.log.identity.geometry agents.now.size.receivers waiting.number waiting }
+    requires names { Names D.device D.tells agents.now.context.now.state.now.log.identity.geometry agents.now.size waiting N.counters N.receiver N.device N.tells N.wanted }
+    ensures { IfOk result (λ r. r.counters ≡ waiting.counters) }
 {
     let Waiting {
-        number,
+        number: _,
         subscriber,
         counters,
         writer,
         device,
     } = waiting;
-    let receiver = SharedReceiver::<N>::new(subscriber, writer, counters);
-    let (one, other) = shared_twice(agents, receiver)?;
-    Ok(Receiving {
-        agent: start_agent(scope, agents, one, number, device),
-        subscriber: start_subscriber(scope, agents, other),
-    })
+    let Ok(duty) = Duty::new(agents.context.alloc, device, REPLY) else {
+        agents.context.state.stop();
+        return Err(DeviceError::Memory);
+    };
+    Ok(SharedReceiver::new(subscriber, writer, counters, duty))
 }
 
 /// Starts the two threads of a receiver, its agent's and its subscriber's.
-pub fn start_receiver<
+pub(crate) fn start_receiver<
     's,
     S,
+    N: Named + Begins + Send + 's,
     R: Wait + Clock + Sync,
     D: Datagrams + Send + Drop + 's,
     G: Gate + Sync,
@@ -273,12 +273,20 @@ pub fn start_receiver<
     scope: &'s Scope<'s, S>,
     agents: &'s Agents<'s, R, G>,
     waiting: Waiting<D>,
-) -> Result<Receiving, DeviceError>
-    requires waits { (g : Geometry) × (count : ℕ) × (n : ℕ) × IsWaitingReceiver g count n waiting }
+) -> Result<Receiving<N, D>, DeviceError>
+    requires waits { IsWaitingReceiver agents.now.context.now.state.now.log.identity.geometry agents.now.size.receivers waiting.number waiting }
+    requires names { Names D.device D.tells agents.now.context.now.state.now.log.identity.geometry agents.now.size waiting N.counters N.receiver N.device N.tells N.wanted }
     requires set { IsSet agents.now.context.now.state.now.log agents.now.size }
     ensures { IfOk result (λ r. IfOk r.subscriber (λ h. h.promise.wanted ≡ agents.now.size.wanted)) }
 {
-    start_named::<S, Brand, R, D, G>(scope, agents, waiting)
+    let number = waiting.number;
+    let receiver = shared_of(agents, waiting)?;
+    let (one, two, shared) = shared_thrice(agents, receiver)?;
+    Ok(Receiving {
+        agent: start_agent(scope, agents, one, number),
+        subscriber: start_subscriber(scope, agents, two),
+        shared,
+    })
 }
 
 /// Starts the thread of the conductor.
