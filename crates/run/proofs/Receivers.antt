@@ -4,22 +4,18 @@ use Rattle.std.specs.Prelude.{IfOk, IsOk, OnOk, remove, slice_index_or}
 use Rattle.std.proofs.lemmas.List.{map-append}
 use Rattle.std.specs.List.{AllByRecursion}
 use Rattle.theory.specs.Position.{Geometry}
-use Rattle.atomic_table.specs.Seated.{TableId}
 use Rattle.log_rule.specs.Claims.Handles.{PublisherValue}
 use Rattle.shared_log.specs.Handles.{LogValue}
 use Rattle.endpoint.specs.Devices.{Device}
 use Rattle.endpoint.specs.declared.device_error.DeviceError.{DeviceError}
-use Rattle.receiver.specs.Receiving.{Receiver}
-use Rattle.run_parties.specs.Groups.{id_of}
-use Rattle.run_parties.specs.Receivers.{new_receiver}
-use Rattle.run_parties.specs.Receptions.{EndsLife}
+use Rattle.run_parties.specs.Receivers.{HasReceived, IsWaitingReceiver}
 use Rattle.run_parties.specs.declared.reception.Received.{Received}
-use Rattle.run_parties.proofs.Living.{life_of, life_tallies}
+use Rattle.run_parties.proofs.Living.{life_tallies}
 use Rattle.run.specs.Outcomes.{IsPolled, told_of}
-use Rattle.run.specs.Threads.{AreWaitingFrom, HasReceived, HaveCome, HaveEnded, HaveReceivedFrom, IsWaitingReceiver, Names, counters_of, device_of, shown_of}
+use Rattle.run.specs.Threads.{AreWaitingFrom, HaveCome, HaveEnded, HaveReceivedFrom, counters_of, device_of, shown_of}
 use Rattle.run.specs.declared.passes.Parties.{Parties}
 use Rattle.run.specs.declared.passes.Size.{Size}
-use Rattle.run.specs.declared.passes.Waiting.{Waiting}
+use Rattle.run_parties.specs.declared.receiver_threads.Waiting.{Waiting}
 use Rattle.run.specs.declared.watch.Shown.{Shown}
 
 -- ---- receivers that wait
@@ -37,12 +33,15 @@ pub waiting_last : {D : Type 0} (g : Geometry) (count n : ℕ) (ws : List (Waiti
 waiting_last g count n [] w all = subst (λ k. IsWaitingReceiver g count k w) (omega arith) all.0
 waiting_last g count n (x ∷ ws) w all = subst (λ k. IsWaitingReceiver g count k w) (omega arith) (waiting_last g count (suc n) ws w all.1)
 
+pub waiting_own : {D : Type 0} (g : Geometry) (count n : ℕ) (w : Waiting D) → IsWaitingReceiver g count n w → IsWaitingReceiver g count w.number w
+waiting_own g count n w h = subst (λ (k : ℕ). IsWaitingReceiver g count k w) (sym h.number) h
+
 -- ---- receivers that have ended
 
 module _ {D : Type 0} (device : D → Device) (tells : D → Type 0) (g : Geometry) (size : Size) where
   -- one more
-  received_more : (n k : ℕ) (ds : List D) (rs : List (Received D)) (d : D) (r : Received D) → HaveReceivedFrom device tells g size n ds rs → n + length ds ≡ k → HasReceived device tells g size k d r → HaveReceivedFrom device tells g size n (ds ++ d ∷ []) (rs ++ r ∷ [])
-  received_more n k [] [] d r all at one = let same : k ≡ n = omega (arith, at) in (subst (λ (m : ℕ). HasReceived device tells g size m d r) same one, tt)
+  received_more : (n k : ℕ) (ds : List D) (rs : List (Received D)) (d : D) (r : Received D) → HaveReceivedFrom device tells g size n ds rs → n + length ds ≡ k → HasReceived device tells g size.receivers size.wanted k d r → HaveReceivedFrom device tells g size n (ds ++ d ∷ []) (rs ++ r ∷ [])
+  received_more n k [] [] d r all at one = let same : k ≡ n = omega (arith, at) in (subst (λ (m : ℕ). HasReceived device tells g size.receivers size.wanted m d r) same one, tt)
   received_more n k [] (y ∷ rs) d r all at one = absurd all
   received_more n k (x ∷ ds) [] d r all at one = absurd all
   received_more n k (x ∷ ds) (y ∷ rs) d r all at one = (all.0, received_more (suc n) k ds rs d r all.1 (omega (arith, at)) one)
@@ -60,32 +59,40 @@ module _ {D : Type 0} (device : D → Device) (tells : D → Type 0) (g : Geomet
   told_polled n (d ∷ ds) [] all = absurd all
   told_polled n (d ∷ ds) (r ∷ rs) all = (record { most = all.0.most; counts = r.tally.counts; tally = life_tallies _ _ _ _ r.tally all.0.lived }, told_polled (suc n) ds rs all.1)
 
-  -- one that was named so, behind as many
-  has_received : (n : ℕ) (w : Waiting D) (counters : TableId) (receiver : Receiver) (before : Device) (told : Type 0) (wanted : ℕ) (r : Received D) → w.number ≡ n → Names device tells g size w counters receiver before told wanted
-      → EndsLife receiver told before (device r.device) r.tally → r.tally.polled ≤ wanted → HasReceived device tells g size n w.device r
-  has_received n w counters receiver before told wanted r at names lived most = record {
-    most = let e = names.wanted_are in omega arith;
-    lived = life_of receiver (new_receiver g (id_of size.receivers n)) told (tells w.device) before (device w.device) (device r.device) r.tally (names.receiver_is ∙ ap (λ (k : ℕ). new_receiver g (id_of size.receivers k)) at) names.device_is names.told_it lived;
-  }
-
   no_parties : (e : DeviceError) → IsOk {T = Parties D} {E = DeviceError} (Err e) → ⊥
   no_parties e h = absurd cc
 
   none_received : (e : DeviceError) → IsOk {T = Received D} {E = DeviceError} (Err e) → ⊥
   none_received e h = absurd cc
 
+  -- what its thread promised
+  pub promised : (at l : LogValue) (of : Size) (number n : ℕ) (was d : D) (one : Result (Received D) DeviceError) → at ≡ l → l.identity.geometry ≡ g → of ≡ size → number ≡ n → was ≡ d
+      → IfOk one (HasReceived device tells at.identity.geometry of.receivers of.wanted number was) → IfOk one (HasReceived device tells g size.receivers size.wanted n d)
+  promised at l of number n was d one a shape b c e h = subst (λ (u : Geometry × (Size × (ℕ × D))). IfOk one (HasReceived device tells u.0 u.1.0.receivers u.1.0.wanted u.1.1.0 u.1.1.1)) (λ j. ((ap (λ (x : LogValue). x.identity.geometry) a ∙ shape) j, (b j, (c j, e j)))) h
+
+  none_started : {X : Type 0} (e : DeviceError) → IsOk {T = X} {E = DeviceError} (Err e) → ⊥
+  none_started e h = absurd cc
+
+  -- and gave, where it was started
+  pub joined : {X : Type 0} (started : Result X DeviceError) (log : X → LogValue) (of : X → Size) (number : X → ℕ) (was : X → D) (l : LogValue) (n : ℕ) (w : Waiting D) (one : Result (Received D) DeviceError) → l.identity.geometry ≡ g → w.number ≡ n
+      → IfOk started (λ s. (log s ≡ l) × (of s ≡ size)) → IfOk started (λ s. (number s ≡ w.number) × (was s ≡ w.device))
+      → IfOk started (λ s. IfOk one (HasReceived device tells (log s).identity.geometry (of s).receivers (of s).wanted (number s) (was s))) → OnOk one (IsOk started)
+      → IfOk one (HasReceived device tells g size.receivers size.wanted n w.device)
+  joined (Ok s) log of number was l n w one shape at a b h is = promised (log s) l (of s) (number s) n (was s) w.device one a.0 shape a.1 (b.0 ∙ at) b.1 h
+  joined (Err e) log of number was l n w (Ok r) shape at a b h is = absurd (none_started e is)
+  joined (Err e) log of number was l n w (Err f) shape at a b h is = tt
+
   -- of all threads that were joined
-  pub ended : (l : LogValue) (ps : List PublisherValue) (ws : List (Waiting D)) (w : Waiting D) (counters : TableId) (receiver : Receiver) (before : Device) (told : Type 0) (wanted : ℕ) (result parties : Result (Parties D) DeviceError) (one : Result (Received D) DeviceError)
-      → l.identity.geometry ≡ g → AreWaitingFrom g size.receivers 0 (ws ++ w ∷ []) → Names device tells g size w counters receiver before told wanted
-      → IfOk parties (HaveEnded device tells l size ps (map device_of ws)) → IfOk one (λ r. EndsLife receiver told before (device r.device) r.tally) → IfOk one (λ r. r.tally.polled ≤ wanted)
+  pub ended : (l : LogValue) (ps : List PublisherValue) (ws : List (Waiting D)) (w : Waiting D) (result parties : Result (Parties D) DeviceError) (one : Result (Received D) DeviceError)
+      → l.identity.geometry ≡ g → IfOk one (HasReceived device tells g size.receivers size.wanted (length ws) w.device)
+      → IfOk parties (HaveEnded device tells l size ps (map device_of ws))
       → IfOk parties (λ p. IfOk result (λ r. r.published ≡ p.published)) → IfOk parties (λ p. IfOk one (λ t. IfOk result (λ r. r.received.items ≡ p.received.items ++ t ∷ []))) → OnOk result (IsOk parties × IsOk one)
       → IfOk result (HaveEnded device tells l size ps (map device_of (ws ++ w ∷ [])))
-  ended l ps ws w counters receiver before told wanted (Err f) parties one shape waits names have lived most same more both = tt
-  ended l ps ws w counters receiver before told wanted (Ok r) (Ok p) (Ok t) shape waits names have lived most same more both =
-      let last = waiting_last g size.receivers 0 ws w waits in
+  ended l ps ws w (Err f) parties one shape lived have same more both = tt
+  ended l ps ws w (Ok r) (Ok p) (Ok t) shape lived have same more both =
       let received : HaveReceivedFrom device tells g size 0 (map device_of ws) p.received.items = subst (λ (x : Geometry). HaveReceivedFrom device tells x size 0 (map device_of ws) p.received.items) shape have.received in
       let longer : HaveReceivedFrom device tells g size 0 (map device_of ws ++ w.device ∷ []) (p.received.items ++ t ∷ []) =
-      received_more 0 (length ws) (map device_of ws) p.received.items w.device t received (length_map ws) (has_received (length ws) w counters receiver before told wanted t last.number names lived most) in
+      received_more 0 (length ws) (map device_of ws) p.received.items w.device t received (length_map ws) lived in
       record {
         published = subst (HaveCome l size ps) (sym same) have.published;
         received =
@@ -97,8 +104,8 @@ module _ {D : Type 0} (device : D → Device) (tells : D → Type 0) (g : Geomet
       length_map : (xs : List (Waiting D)) → length (map device_of xs) ≡ length xs
       length_map [] = refl
       length_map (x ∷ xs) = ap suc (length_map xs)
-  ended l ps ws w counters receiver before told wanted (Ok r) (Ok p) (Err f) shape waits names have lived most same more both = absurd (none_received f both.1)
-  ended l ps ws w counters receiver before told wanted (Ok r) (Err f) one shape waits names have lived most same more both = absurd (no_parties f both.0)
+  ended l ps ws w (Ok r) (Ok p) (Err f) shape lived have same more both = absurd (none_received f both.1)
+  ended l ps ws w (Ok r) (Err f) one shape lived have same more both = absurd (no_parties f both.0)
 
 pub told_many : {D : Type 0} (rs : List (Received D)) → length (map told_of rs) ≡ length rs
 told_many [] = refl

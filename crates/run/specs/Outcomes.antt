@@ -1,5 +1,5 @@
 -- What a run leaves.
-use Rattle.std.specs.Prelude.{◌≡◌, ◌*◌, ◌<◌, ◌≤◌, ◌==◌, ◌&&◌, ◌++◌, ℕ, ⊥, Bool, not, cond, List, count_by, length, map, slice_index, sum, sum_by, take, nat_le, if◌then◌else◌}
+use Rattle.std.specs.Prelude.{◌≡◌, ◌*◌, ◌<◌, ◌≤◌, ◌==◌, ◌&&◌, ◌++◌, ℕ, Bool, not, cond, List, count_by, length, map, slice_index, sum, sum_by, take, nat_le, if◌then◌else◌}
 use Rattle.std.specs.List.{AllByRecursion, list_all}
 use Rattle.theory.specs.Position.{Geometry, framed_length}
 use Rattle.theory.specs.Entry.{Entry, length_of}

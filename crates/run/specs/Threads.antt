@@ -9,15 +9,10 @@ use Rattle.log_rule.specs.Claims.Sums.{total}
 use Rattle.shared_log.specs.Handles.{LogValue}
 use Rattle.shared_log.specs.Books.{IsDone}
 use Rattle.shared_log.specs.Parts.{IsNewReader}
-use Rattle.counters.specs.Order.{zeros}
-use Rattle.receiver.specs.Subscribing.{RepresentsSubscriber}
-use Rattle.run_parties.specs.Groups.{id_of}
 use Rattle.endpoint.specs.Devices.{Device}
-use Rattle.receiver.specs.Receiving.{Receiver}
 use Rattle.run_parties.specs.Messages.{HasPublished, IsRunClaim, message_in}
 use Rattle.run_parties.specs.Passes.{HasNone, IsKept}
-use Rattle.run_parties.specs.Receivers.{new_receiver}
-use Rattle.run_parties.specs.Receptions.{EndsLife}
+use Rattle.run_parties.specs.Receivers.{HasReceived, IsWaitingReceiver}
 use Rattle.run_parties.specs.RunLogs.{IsRunLog}
 use Rattle.run_parties.specs.declared.reception.Received.{Received}
 use Rattle.run.specs.declared.passes.Parties.{Parties}
@@ -25,7 +20,7 @@ use Rattle.run.specs.declared.passes.Passes.{Passes}
 use Rattle.run.specs.declared.passes.Publications.{Publications}
 use Rattle.run.specs.declared.passes.Returned.{Returned}
 use Rattle.run.specs.declared.passes.Size.{Size}
-use Rattle.run.specs.declared.passes.Waiting.{Waiting}
+use Rattle.run_parties.specs.declared.receiver_threads.Waiting.{Waiting}
 use Rattle.run.specs.declared.watch.Shown.{Shown}
 
 -- a log that a run begins with, and no more to be done than it has room for
@@ -78,13 +73,6 @@ pub record HaveCome (l : LogValue) (size : Size) (waiting : List PublisherValue)
 
 -- ---- receivers
 
--- one of so many, by its number: it has met nothing, has the id that goes with its number, and its counters are at zero
-pub record IsWaitingReceiver {D : Type 0} (g : Geometry) (count n : ℕ) (w : Waiting D) : Type 0 where
-  pub number : w.number ≡ n
-  pub subscriber : RepresentsSubscriber w.subscriber (new_receiver g (id_of count n))
-  pub writer : w.writer.counters ≡ arc_value w.counters
-  pub zero : w.writer.last ≡ zeros
-
 -- its device; and the name of its counters, also of those that are shown
 abbrev pub device_of : {D : Type 0} → Waiting D → D
 device_of w = w.device
@@ -100,27 +88,12 @@ abbrev pub AreWaitingFrom : {D : Type 0} → Geometry → ℕ → ℕ → List (
 AreWaitingFrom g count n [] = ⊤
 AreWaitingFrom g count n (w ∷ ws) = IsWaitingReceiver g count n w × AreWaitingFrom g count (suc n) ws
 
--- this receiver, with its device and as many messages as are wanted, is the one that waits, of so many by its number
-pub record Names {D : Type 0} (device : D → Device) (tells : D → Type 0) (g : Geometry) (size : Size) (w : Waiting D) (counters : TableId) (receiver : Receiver) (before : Device) (told : Type 0) (wanted : ℕ) : Type 0 where
-  pub counters_are : arc_value w.counters ≡ counters
-  pub receiver_is : receiver ≡ new_receiver g (id_of size.receivers w.number)
-  pub device_is : before ≡ device w.device
-  pub tells_it : told → tells w.device
-  pub told_it : tells w.device → told
-  pub wanted_are : wanted ≡ size.wanted
-
--- one of so many, by its number, has lived over its device up to the one that came back, and has tallied what its polls gave: no
--- more messages than were wanted
-pub record HasReceived {D : Type 0} (device : D → Device) (tells : D → Type 0) (g : Geometry) (size : Size) (n : ℕ) (before : D) (r : Received D) : Type 0 where
-  pub most : r.tally.polled ≤ size.wanted
-  pub lived : EndsLife (new_receiver g (id_of size.receivers n)) (tells before) (device before) (device r.device) r.tally
-
--- some of them, by their numbers, which they have from this one on
+-- receivers that had these devices have lived, by their numbers, which they have from this one on
 abbrev pub HaveReceivedFrom : {D : Type 0} → (D → Device) → (D → Type 0) → Geometry → Size → ℕ → List D → List (Received D) → Type 0
 HaveReceivedFrom device tells g size n [] [] = ⊤
 HaveReceivedFrom device tells g size n [] (r ∷ rs) = ⊥
 HaveReceivedFrom device tells g size n (d ∷ ds) [] = ⊥
-HaveReceivedFrom device tells g size n (d ∷ ds) (r ∷ rs) = HasReceived device tells g size n d r × HaveReceivedFrom device tells g size (suc n) ds rs
+HaveReceivedFrom device tells g size n (d ∷ ds) (r ∷ rs) = HasReceived device tells g size.receivers size.wanted n d r × HaveReceivedFrom device tells g size (suc n) ds rs
 
 -- publishers came back, and receivers, which had these devices
 pub record HaveEnded {D : Type 0} (device : D → Device) (tells : D → Type 0) (l : LogValue) (size : Size) (waiting : List PublisherValue) (before : List D) (p : Parties D) : Type 0 where

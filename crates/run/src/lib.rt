@@ -28,4 +28,4 @@ mod watch;
 pub use outcome::{Ending, Outcome, Polled};
 pub use planned_run::{RunEnd, run, run_over};
 pub use run_parties::{Gate, Open, Role};
-pub use thread_starts::{KeeperBack, PublisherBack, Publishing, TallyOf};
+pub use thread_starts::{KeeperBack, PublisherBack, Publishing, ReceiverBack};

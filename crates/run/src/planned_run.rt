@@ -5,14 +5,15 @@ ghost use Rattle.std.specs.Arc.{arc_value};
 ghost use Rattle.std.specs.List.{AllByRecursion};
 ghost use Rattle.endpoint.specs.Fans.{fanned};
 ghost use Rattle.run_parties.specs.Devices.{AreLossy};
+ghost use Rattle.run_parties.specs.Receivers.{IsWaitingReceiver};
 ghost use Rattle.run_parties.specs.RunLogs.{IsRunLog};
 ghost use Rattle.shared_log.specs.Books.{ShowsBook};
 ghost use Rattle.run.specs.Beginnings.{CanClose, IsBeginning, Leaves};
 ghost use Rattle.run.specs.Outcomes.{IsBook, IsOutcome, IsPolled, PublishersPublish, ReceiversLive, ReceiversLiveLossily, device_in, polled_of, size_of, told_of};
-ghost use Rattle.run.specs.Threads.{ArePasses, AreReturned, AreWaitingFrom, IsWaitingReceiver, counters_of, device_of, shown_of};
+ghost use Rattle.run.specs.Threads.{ArePasses, AreReturned, AreWaitingFrom, counters_of, device_of, shown_of};
 
 use crate::outcome::{Outcome, Polled};
-use crate::passes::{Agents, Parties, Passes, Publications, Returned, Size, Waiting};
+use crate::passes::{Agents, Parties, Passes, Publications, Returned, Size};
 use crate::thread_scope::run_agents;
 use crate::watch::{Shown, Watch};
 use agents::Began;
@@ -20,7 +21,7 @@ use conductor::Conductor;
 use endpoint::{Datagrams, DeviceError, Fan};
 use options::Plan;
 use run_parties::{
-    Context, Gate, LossyDevices, Received, ReceiverParts, RunLog, RunState, Tally, Task,
+    Context, Gate, LossyDevices, Received, ReceiverParts, RunLog, RunState, Tally, Task, Waiting,
     lossy_devices, open_run_log, receiver_id, receiver_parts,
 };
 use shared_log::{Book, Keeper, Log, Publisher, close};
@@ -88,6 +89,7 @@ fn receiver_of<D: Drop>(
     };
     let waiting = Waiting {
         number,
+        id,
         subscriber,
         counters,
         writer,

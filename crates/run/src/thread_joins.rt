@@ -2,15 +2,13 @@
 
 ghost use Rattle.std.specs.Prelude.{◌≡◌, ◌⊎◌, ◌++◌, [], ◌∷◌, Err, IfErr, IfOk, IsOk, Ok, OnOk};
 ghost use Rattle.run_parties.specs.Passes.{IsKept};
-ghost use Rattle.run_parties.specs.Receptions.{EndsLife};
+ghost use Rattle.run_parties.specs.Receivers.{HasReceived};
 
 use crate::passes::{Agents, Parties, Returned};
-use crate::thread_starts::{Agent, Receiving, Shared, Steering, Subscribing};
-use agents::Named;
+use crate::thread_starts::{Agent, Receiving, Steering};
 use endpoint::{Datagrams, DeviceError};
-use run_parties::{Begins, Received, Tally};
+use run_parties::Received;
 use shared_log::Keeper;
-use std::sync::Arc;
 use std::thread::Threads;
 
 /// The keeper that comes back.
@@ -27,18 +25,21 @@ fn keeper_of<R: Threads, G>(
     }
 }
 
-/// The tally of a subscriber.
-fn tally_of<R: Threads, G>(
+/// What a receiver has left.
+pub(crate) fn received_of<R: Threads, D: Datagrams + Drop, G>(
     agents: &Agents<'_, R, G>,
-    started: Result<Subscribing, DeviceError>,
-) -> Result<Tally, DeviceError> {
+    started: Result<Receiving<D>, DeviceError>,
+) -> Result<Received<D>, DeviceError>
+    ensures lived { IfOk started (λ s. IfOk result (HasReceived D.device D.tells s.handle.promise.log.value.identity.geometry s.handle.promise.size.receivers s.handle.promise.size.wanted s.handle.promise.number s.handle.promise.device.value)) }
+    ensures started { OnOk result (IsOk started) }
+{
     match started {
-        Ok(handle) => handle.join(agents.context.rt),
+        Ok(receiving) => receiving.handle.join(agents.context.rt),
         Err(fault) => Err(fault),
     }
 }
 
-/// How a sender or a receiver ended.
+/// How the sender ended.
 fn end_of<R: Threads, G>(
     agents: &Agents<'_, R, G>,
     started: Result<Agent, DeviceError>,
@@ -47,39 +48,6 @@ fn end_of<R: Threads, G>(
         Ok(handle) => handle.join(agents.context.rt),
         Err(fault) => Err(fault),
     }
-}
-
-/// What both threads of a receiver have left, once they have ended; else it's `Device`.
-fn opened<N: Named + Begins, D: Datagrams + Drop>(
-    shared: Shared<N, D>,
-) -> Result<Received<D>, DeviceError>
-    ensures lived { IfOk result (λ r. EndsLife N.receiver N.tells N.device (D.device r.device) r.tally) }
-    ensures most { IfOk result (λ r. r.tally.polled ≤ N.wanted) }
-{
-    match Arc::into_inner(shared) {
-        Some(receiver) => receiver.open(),
-        None => Err(DeviceError::Device),
-    }
-}
-
-/// Joins the threads of a receiver. The answer is what they have left, or the first fault.
-pub(crate) fn receiver_end<N: Named + Begins, R: Threads, D: Datagrams + Drop, G>(
-    agents: &Agents<'_, R, G>,
-    started: Result<Receiving<N, D>, DeviceError>,
-) -> Result<Received<D>, DeviceError>
-    ensures lived { IfOk result (λ r. EndsLife N.receiver N.tells N.device (D.device r.device) r.tally) }
-    ensures most { IfOk result (λ r. r.tally.polled ≤ N.wanted) }
-{
-    let Receiving {
-        agent,
-        subscriber,
-        shared,
-    } = started?;
-    let tally = tally_of(agents, subscriber);
-    let received = end_of(agents, agent);
-    tally?;
-    received?;
-    opened(shared)
 }
 
 /// What came back, and one receiver more; or the first fault.

@@ -2,19 +2,17 @@
 
 ghost use Rattle.std.specs.Prelude.{◌≡◌, ◌≤◌, ◌<◌, ◌^◌, ◌+◌, [], ◌∷◌, ◌++◌, IfOk, map, slice_index, slice_set, vec_len};
 ghost use Rattle.std.specs.List.{AllByRecursion};
-ghost use Rattle.run.specs.Threads.{ArePasses, AreReturned, AreWaitingFrom, HaveCome, HaveEnded, IsSet, IsWaiting, Names, device_of};
+ghost use Rattle.run.specs.Threads.{ArePasses, AreReturned, AreWaitingFrom, HaveCome, HaveEnded, IsSet, IsWaiting, device_of};
 
-use crate::passes::{Agents, Parties, Passes, Publications, Returned, Waiting};
-use crate::thread_joins::{gather, receiver_end, with_received};
+use crate::passes::{Agents, Parties, Passes, Publications, Returned};
+use crate::thread_joins::{gather, received_of, with_received};
 use crate::thread_starts::{start_conductor, start_publisher, start_receiver, start_sender};
 use crate::watch::Watch;
-use agents::Named;
 use conductor::Command;
 use endpoint::{Datagrams, DeviceError};
-use run_parties::{Begins, Gate, PUBLISHERS, Published};
+use run_parties::{Gate, PUBLISHERS, Published, Waiting};
 use shared_log::Publisher;
 use std::io::Write;
-use std::marker::Brand;
 use std::sync::Wait;
 use std::thread;
 use std::thread::{Scope, Threads};
@@ -65,40 +63,8 @@ fn run_publishers<'s, S, R: Threads + Wait + Clock + Sync, G: Gate + Sync, E: Wr
     with_published(others?, published?)
 }
 
-/// Starts the threads of a receiver, then those of the receivers that wait before it, the last one first, and those of the
-/// publishers, and joins all of them once all is to stop.
-#[cycle(receivers)]
-fn run_receiver<
-    's,
-    S,
-    N: Named + Begins + Send + 's,
-    R: Threads + Wait + Clock + Sync,
-    D: Datagrams + Send + Drop + 's,
-    G: Gate + Sync,
-    E: Write,
->(
-    scope: &'s Scope<'s, S>,
-    agents: &'s Agents<'s, R, G>,
-    last: Waiting<D>,
-    waiting: Vec<Waiting<D>>,
-    publishers: Vec<Publisher>,
-    watch: &mut Watch<E>,
-) -> Result<Parties<D>, DeviceError>
-    requires names { Names D.device D.tells agents.now.context.now.state.now.log.identity.geometry agents.now.size last N.counters N.receiver N.device N.tells N.wanted }
-    requires waiting { AreWaitingFrom agents.now.context.now.state.now.log.identity.geometry agents.now.size.receivers 0 (waiting.items ++ last ∷ []) }
-    requires publishers { AllByRecursion (IsWaiting agents.now.context.now.state.now.log agents.now.size.publishers) publishers.items × (vec_len publishers ≤ 8) }
-    requires set { IsSet agents.now.context.now.state.now.log agents.now.size }
-    ensures { IfOk result (HaveEnded D.device D.tells agents.now.context.now.state.now.log agents.now.size publishers.items (map device_of (waiting.items ++ last ∷ []))) }
-{
-    let started = start_receiver::<S, N, R, D, G>(scope, agents, last);
-    let parties = run_receivers(scope, agents, waiting, publishers, watch);
-    let received = receiver_end(agents, started);
-    with_received(parties, received)
-}
-
-/// Starts the threads of each receiver, the last one first, then those of the publishers, and joins all of them once all is to
+/// Starts the thread of each receiver, the last one first, then those of the publishers, and joins all of them once all is to
 /// stop.
-#[cycle(receivers)]
 fn run_receivers<
     's,
     S,
@@ -126,7 +92,10 @@ fn run_receivers<
             received,
         });
     };
-    run_receiver::<S, Brand, R, D, G, E>(scope, agents, last, waiting, publishers, watch)
+    let started = start_receiver(scope, agents, last);
+    let parties = run_receivers(scope, agents, waiting, publishers, watch);
+    let received = received_of(agents, started);
+    with_received(parties, received)
 }
 
 /// Starts all threads, waits until all is to stop, and joins them.

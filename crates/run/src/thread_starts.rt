@@ -4,26 +4,22 @@
 //! the context is taken apart before such a closure, and put together in it.
 
 ghost use Rattle.std.specs.Prelude.{◌≡◌, ◌≤◌, ◌<◌, ◌^◌, IfOk, length};
-ghost use Rattle.std.specs.Arc.{arc_value};
-ghost use Rattle.endpoint.specs.declared.device_error.DeviceError.TheVariants.{Device};
 ghost use Rattle.shared_log.specs.Books.{IsDone};
 ghost use Rattle.shared_log.specs.Parts.{IsNewReader};
 ghost use Rattle.run_parties.specs.Messages.{HasPublished};
 ghost use Rattle.run_parties.specs.Passes.{IsKept};
-ghost use Rattle.run_parties.specs.Tallies.{IsTally};
-ghost use Rattle.run.specs.Threads.{IsSet, IsWaitingReceiver, Names};
+ghost use Rattle.run_parties.specs.Receivers.{HasReceived, IsWaitingReceiver};
+ghost use Rattle.run.specs.Threads.{IsSet};
 
-use crate::passes::{Agents, Waiting};
-use agents::{Duty, Named, REPLY};
+use crate::passes::{Agents, Size};
 use conductor::{Client, Taker};
 use endpoint::{Datagrams, DeviceError, Fan};
 use run_parties::{
-    Begins, Context, Gate, Published, RunState, SharedReceiver, Tally, Task, publish, receive,
-    send, steer, subscribe,
+    Context, Gate, Published, Received, Task, Waiting, publish, run_receiver, send, steer,
 };
 use shared_log::{Keeper, Log, LogReader, Publisher};
 use std::snapshot::Snapshot;
-use std::sync::{Arc, Wait};
+use std::sync::Wait;
 use std::thread::{JoinHandle, Promise, PromisedHandle, Scope, Threads};
 use std::time::Clock;
 
@@ -49,17 +45,20 @@ impl Promise<Keeper> for KeeperBack {
     ghost kept_by = { λ p k. IsKept p.log.value k };
 }
 
-/// A thread gives the tally of what was polled, of at most so many messages.
+/// A thread gives what its receiver has left: one of so many, by its number.
 #[derive(Drop)]
-pub struct TallyOf {
-    pub wanted: u64,
+pub struct ReceiverBack<D> {
+    pub log: Snapshot<Log>,
+    pub size: Size,
+    pub number: u64,
+    pub device: Snapshot<D>,
 }
 
-impl Promise<Result<Tally, DeviceError>> for TallyOf {
-    ghost kept_by = { λ p r. IfOk r (λ tally. (tally.polled ≤ p.wanted) × IsTally tally) };
+impl<D: Datagrams> Promise<Result<Received<D>, DeviceError>> for ReceiverBack<D> {
+    ghost kept_by = { λ p r. IfOk r (HasReceived D.device D.tells p.log.value.identity.geometry p.size.receivers p.size.wanted p.number p.device.value) };
 }
 
-/// The thread of a sender, or of a receiver.
+/// The thread of the sender.
 pub type Agent = JoinHandle<Result<(), DeviceError>>;
 
 /// The thread of a publisher.
@@ -68,26 +67,10 @@ pub type Publishing = PromisedHandle<Result<Published, DeviceError>, PublisherBa
 /// The thread of the conductor.
 pub type Steering = PromisedHandle<Keeper, KeeperBack>;
 
-/// The thread of a subscriber.
-pub type Subscribing = PromisedHandle<Result<Tally, DeviceError>, TallyOf>;
-
-/// What the threads of a receiver share.
-pub type Shared<N, D> = Arc<SharedReceiver<N, D>>;
-
-/// The threads of a receiver, of which one may not have been started, and what they share.
+/// The thread of a receiver.
 #[derive(Drop)]
-pub struct Receiving<N: Named + Begins, D: Datagrams> {
-    pub agent: Result<Agent, DeviceError>,
-    pub subscriber: Result<Subscribing, DeviceError>,
-    pub shared: Shared<N, D>,
-}
-
-/// No thread could be started: that stops all.
-fn halted(state: &RunState) -> DeviceError
-    ensures { result ≡ Device }
-{
-    state.stop();
-    DeviceError::Device
+pub struct Receiving<D: Datagrams> {
+    pub handle: PromisedHandle<Result<Received<D>, DeviceError>, ReceiverBack<D>>,
 }
 
 /// Starts the thread of a publisher.
@@ -123,7 +106,7 @@ pub fn start_publisher<'s, S, R: Clock + Sync, G: Gate + Sync>(
         };
         publish(&context, task, publisher)
     }) else {
-        return Err(halted(state));
+        return Err(state.halt());
     };
     Ok(handle)
 }
@@ -142,55 +125,30 @@ pub fn start_sender<'s, S, R: Wait + Clock + Sync, D: Datagrams + Send + Drop + 
     requires queue { client.queue ≡ agents.now.context.now.state.now.conductor }
 {
     let Ok(handle) = scope.spawn(move || send(agents.context, device, reader, client)) else {
-        return Err(halted(agents.context.state));
+        return Err(agents.context.state.halt());
     };
     Ok(handle)
 }
 
-/// Starts the thread of a receiver's agent.
-fn start_agent<
+/// Starts the thread of a receiver, which starts its subscriber's.
+pub fn start_receiver<
     's,
     S,
-    N: Named + Begins + Send + 's,
-    R: Wait + Clock + Sync,
+    R: Threads + Wait + Clock + Sync,
     D: Datagrams + Send + Drop + 's,
     G: Gate + Sync,
 >(
     scope: &'s Scope<'s, S>,
     agents: &'s Agents<'s, R, G>,
-    receiver: Shared<N, D>,
-    number: u64,
-) -> Result<Agent, DeviceError>
-    requires { arc_value (arc_value receiver).counters ≡ N.counters }
-{
-    let Ok(handle) = scope.spawn(
-        move || -> Result<(), DeviceError>
-            requires { arc_value (arc_value receiver).counters ≡ N.counters }
-        { receive(agents.context, &receiver, number) },
-    ) else {
-        return Err(halted(agents.context.state));
-    };
-    Ok(handle)
-}
-
-/// Starts the thread of a subscriber.
-fn start_subscriber<
-    's,
-    S,
-    N: Named + Begins + Send + 's,
-    R: Wait + Clock + Sync,
-    D: Datagrams + Send + Drop + 's,
-    G: Gate + Sync,
->(
-    scope: &'s Scope<'s, S>,
-    agents: &'s Agents<'s, R, G>,
-    receiver: Shared<N, D>,
-) -> Result<Subscribing, DeviceError>
-    requires wanted { N.wanted ≡ agents.now.size.wanted }
+    waiting: Waiting<D>,
+) -> Result<Receiving<D>, DeviceError>
+    requires waits { IsWaitingReceiver agents.now.context.now.state.now.log.identity.geometry agents.now.size.receivers waiting.number waiting }
     requires set { IsSet agents.now.context.now.state.now.log agents.now.size }
-    ensures { IfOk result (λ h. h.promise.wanted ≡ agents.now.size.wanted) }
+    ensures log { IfOk result (λ r. (r.handle.promise.log.value ≡ agents.now.context.now.state.now.log) × (r.handle.promise.size ≡ agents.now.size)) }
+    ensures who { IfOk result (λ r. (r.handle.promise.number ≡ waiting.number) × (r.handle.promise.device.value ≡ waiting.device)) }
 {
-    let wanted = agents.size.wanted;
+    let size = agents.size;
+    let number = waiting.number;
     let &Context {
         rt,
         alloc,
@@ -198,11 +156,17 @@ fn start_subscriber<
         gate,
         turns,
     } = agents.context;
+    let promise = ReceiverBack {
+        log: Snapshot::of(&state.log),
+        size,
+        number,
+        device: Snapshot::of(&waiting.device),
+    };
     let Ok(handle) = scope.spawn_with(
-        TallyOf { wanted },
-        move || -> Result<Tally, DeviceError>
-            requires { (wanted ≡ N.wanted) × (wanted < 2 ^ 63) }
-            ensures { IfOk result (λ tally. (tally.polled ≤ wanted) × IsTally tally) }
+        promise,
+        move || -> Result<Received<D>, DeviceError>
+            requires { IsWaitingReceiver state.now.log.identity.geometry size.receivers waiting.number waiting × (size.wanted < 2 ^ 63) }
+            ensures { IfOk result (HasReceived D.device D.tells state.entry.now.log.identity.geometry size.receivers size.wanted waiting.entry.number waiting.entry.device) }
         {
             let context = Context {
                 rt,
@@ -211,82 +175,12 @@ fn start_subscriber<
                 gate,
                 turns,
             };
-            subscribe(&context, &receiver, wanted)
+            run_receiver(scope, &context, size.receivers, size.wanted, waiting)
         },
     ) else {
-        return Err(halted(state));
+        return Err(state.halt());
     };
-    Ok(handle)
-}
-
-/// Three owners of what a receiver's threads share. Where memory is refused all stops.
-fn shared_thrice<N: Named + Begins, R, D: Datagrams + Drop, G>(
-    agents: &Agents<'_, R, G>,
-    receiver: SharedReceiver<N, D>,
-) -> Result<(Shared<N, D>, Shared<N, D>, Shared<N, D>), DeviceError>
-    ensures { IfOk result (λ p. arc_value p.0 ≡ receiver) }
-{
-    let state = agents.context.state;
-    let Ok(one) = Arc::new(agents.context.alloc, receiver) else {
-        state.stop();
-        return Err(DeviceError::Memory);
-    };
-    let (Ok(two), Ok(three)) = (Arc::try_clone(&one), Arc::try_clone(&one)) else {
-        state.stop();
-        return Err(DeviceError::Memory);
-    };
-    Ok((one, two, three))
-}
-
-/// What the threads of a receiver that waits are to share. Where memory is refused all stops.
-fn shared_of<N: Named + Begins, R, D: Datagrams + Drop, G>(
-    agents: &Agents<'_, R, G>,
-    waiting: Waiting<D>,
-) -> Result<SharedReceiver<N, D>, DeviceError>
-    requires waits { IsWaitingReceiver agents.now.context.now.state.now.log.identity.geometry agents.now.size.receivers waiting.number waiting }
-    requires names { Names D.device D.tells agents.now.context.now.state.now.log.identity.geometry agents.now.size waiting N.counters N.receiver N.device N.tells N.wanted }
-    ensures { IfOk result (λ r. r.counters ≡ waiting.counters) }
-{
-    let Waiting {
-        number: _,
-        subscriber,
-        counters,
-        writer,
-        device,
-    } = waiting;
-    let Ok(duty) = Duty::new(agents.context.alloc, device, REPLY) else {
-        agents.context.state.stop();
-        return Err(DeviceError::Memory);
-    };
-    Ok(SharedReceiver::new(subscriber, writer, counters, duty))
-}
-
-/// Starts the two threads of a receiver, its agent's and its subscriber's.
-pub(crate) fn start_receiver<
-    's,
-    S,
-    N: Named + Begins + Send + 's,
-    R: Wait + Clock + Sync,
-    D: Datagrams + Send + Drop + 's,
-    G: Gate + Sync,
->(
-    scope: &'s Scope<'s, S>,
-    agents: &'s Agents<'s, R, G>,
-    waiting: Waiting<D>,
-) -> Result<Receiving<N, D>, DeviceError>
-    requires waits { IsWaitingReceiver agents.now.context.now.state.now.log.identity.geometry agents.now.size.receivers waiting.number waiting }
-    requires names { Names D.device D.tells agents.now.context.now.state.now.log.identity.geometry agents.now.size waiting N.counters N.receiver N.device N.tells N.wanted }
-    requires set { IsSet agents.now.context.now.state.now.log agents.now.size }
-    ensures { IfOk result (λ r. IfOk r.subscriber (λ h. h.promise.wanted ≡ agents.now.size.wanted)) }
-{
-    let number = waiting.number;
-    let receiver = shared_of(agents, waiting)?;
-    let (one, two, shared) = shared_thrice(agents, receiver)?;
-    Ok(Receiving {
-        agent: start_agent(scope, agents, one, number),
-        subscriber: start_subscriber(scope, agents, two),
-        shared,
-    })
+    Ok(Receiving { handle })
 }
 
 /// Starts the thread of the conductor.
@@ -320,7 +214,7 @@ pub fn start_conductor<'s, S, R: Wait + Clock + Sync, G: Gate + Sync>(
         };
         steer(&context, keeper, taker)
     }) else {
-        return Err(halted(state));
+        return Err(state.halt());
     };
     Ok(handle)
 }

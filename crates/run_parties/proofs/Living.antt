@@ -1,6 +1,12 @@
 -- What a receiver and its subscriber live through goes on.
-use Rattle.std.proofs.Common.{◌≡◌, ℕ, ◌<◌, ◌^◌, Bool, List, [], ◌∷◌, ◌++◌, length, Option, None, Some, refl, sym, ap, ◌∙◌, subst, arith, append_assoc, append-nil}
-use Rattle.std.specs.Prelude.{IfNone}
+use Rattle.std.proofs.Common.{◌≡◌, ℕ, ◌<◌, ◌^◌, Bool, List, [], ◌∷◌, ◌++◌, length, Option, None, Some, Result, Ok, Err, ◌≤◌, refl, sym, ap, ◌∙◌, subst, arith, append_assoc, append-nil}
+use Rattle.std.specs.Prelude.{IfNone, IfOk}
+use Rattle.theory.specs.Position.{Geometry}
+use Rattle.endpoint.specs.declared.device_error.DeviceError.{DeviceError}
+use Rattle.run_parties.specs.Groups.{id_of}
+use Rattle.run_parties.specs.Receivers.{HasReceived, IsWaitingReceiver, new_receiver}
+use Rattle.run_parties.specs.declared.receiver_threads.Waiting.{Waiting}
+use Rattle.run_parties.specs.declared.reception.Received.{Received}
 use Rattle.endpoint.specs.Devices.{Device}
 use Rattle.agents.specs.Cycles.{Cycle, HearsAll}
 use Rattle.agents.specs.Parties.{ReceiverHears, ReceiverTicks}
@@ -121,3 +127,12 @@ life_of begin was told tells d before after t e f on h = (
 -- the tally is one of some messages
 pub life_tallies : (begin : Receiver) (told : Type 0) (before after : Device) (t : Counted) → EndsLife begin told before after t → IsTally t
 life_tallies begin told before after t h = record { messages = given_by h.1.deeds; tally = h.1.tally }
+
+-- what both threads of a receiver that waits have left
+pub has_received : {D : Type 0} (device : D → Device) (tells : D → Type 0) (g : Geometry) (count wanted : ℕ) (w : Waiting D) (result : Result (Received D) DeviceError) → IsWaitingReceiver g count w.number w
+    → IfOk result (λ r. EndsLife (new_receiver g w.id) (tells w.device) (device w.device) (device r.device) r.tally) → IfOk result (λ r. r.tally.polled ≤ wanted) → IfOk result (HasReceived device tells g count wanted w.number w.device)
+has_received device tells g count wanted w (Err e) is lived most = tt
+has_received device tells g count wanted w (Ok r) is lived most = record {
+  most = most;
+  lived = life_of (new_receiver g w.id) (new_receiver g (id_of count w.number)) (tells w.device) (tells w.device) (device w.device) (device w.device) (device r.device) r.tally (ap (new_receiver g) is.id) refl (λ x. x) lived;
+}

@@ -1,5 +1,8 @@
 -- What a receiver of a run and its subscriber live through, one thing after the other under their lock, and what is tallied of it.
-use Rattle.std.specs.Prelude.{◌≡◌, ◌≤◌, ℕ, suc, List, [], ◌∷◌, ◌++◌, Option, IfNone, Err}
+use Rattle.std.specs.Prelude.{◌≡◌, ◌≤◌, ℕ, suc, List, [], ◌∷◌, ◌++◌, Option, None, IfNone, Err}
+use Rattle.std.specs.Arc.{arc_value}
+use Rattle.atomic_table.specs.Seated.{TableId}
+use Rattle.counters.specs.Order.{zeros}
 use Rattle.endpoint.specs.Devices.{Device}
 use Rattle.endpoint.specs.declared.device_error.DeviceError.{DeviceError}
 use Rattle.assembler.specs.declared.fault.AssemblyError.TheVariants.{TooLong}
@@ -11,6 +14,7 @@ use Rattle.receiver.specs.Receiving.{Receiver}
 use Rattle.receiver.specs.Subscribing.{RepresentsSubscriber, Subscribing, SubscriberBecomes}
 use Rattle.receiver.specs.declared.poll_error.PollError.TheVariants.{Unassembled}
 use Rattle.run_parties.specs.Tallies.{Counted, IsTally, IsTallyOf}
+use Rattle.run_parties.specs.declared.receiver_threads.Waiting.{Waiting}
 
 -- an act of a subscriber's life; or a poll that is refused since the message would be too long: then it gives none, and goes on
 pub data Deed : Type 0 where
@@ -57,6 +61,18 @@ pub record HasLived (begin : Receiver) (tells : Type 0) (before after : Device) 
 -- whatever the subscriber is then
 abbrev pub EndsLife : Receiver → Type 0 → Device → Device → Counted → Type 0
 EndsLife begin tells before after t = (s : Subscribing) × HasLived begin tells before after s t
+
+-- this receiver, with the counters of this name, a device in this state and as many messages as are wanted, is the one that waits
+pub record Names {D : Type 0} (device : D → Device) (tells : D → Type 0) (w : Waiting D) (wanted : ℕ) (counters : TableId) (receiver : Receiver) (before : Device) (told : Type 0) (number : ℕ) : Type 0 where
+  pub subscriber : RepresentsSubscriber w.subscriber receiver
+  pub new : receiver.image ≡ None
+  pub writer : w.writer.counters ≡ counters
+  pub zero : w.writer.last ≡ zeros
+  pub counters_are : arc_value w.counters ≡ counters
+  pub device_is : device w.device ≡ before
+  pub tells_it : told → tells w.device
+  pub told_it : tells w.device → told
+  pub wanted_are : wanted ≡ number
 
 -- ---- under the lock
 

@@ -77,6 +77,14 @@ impl RunState {
         self.stopped.store(true, Ordering::SeqCst);
     }
 
+    /// No thread could be started: that stops all.
+    pub fn halt(&self) -> DeviceError
+        ensures { result ≡ Device }
+    {
+        self.stop();
+        DeviceError::Device
+    }
+
     pub fn is_stopped(&self) -> bool {
         self.stopped.load(Ordering::SeqCst)
     }

@@ -12,6 +12,6 @@ invariant_of-self g c =
       tally = i.tally;
       still_tells = λ x. stays.still_tells (i.still_tells x);
       lived = none_still c.self.inside.fault _ _
-      (lived_cycle g.N.Begins.receiver g.N.Begins.tells (g.D.Datagrams.tells c.self.inside.duty.device) g.N.Begins.device (device c.self.inside.duty.device) (device c.cycle.new.duty.device) c.self.inside.agent.subscriber c.cycle.new.self.subscriber c.self.inside.tally c.args.now c.in-Ok.busy i.still_tells c.in-Ok.ensures.cycle)
-      i.lived;
+          (lived_cycle g.N.Begins.receiver g.N.Begins.tells (g.D.Datagrams.tells c.self.inside.duty.device) g.N.Begins.device (device c.self.inside.duty.device) (device c.cycle.new.duty.device) c.self.inside.agent.subscriber c.cycle.new.self.subscriber c.self.inside.tally c.args.now c.in-Ok.busy i.still_tells c.in-Ok.ensures.cycle)
+          i.lived;
     }

@@ -22,8 +22,8 @@ invariant_of-self g c =
       tally = tally_more c.self.inside.tally c.take.new.self message room c.take.ensures.tally i.tally;
       still_tells = i.still_tells;
       lived = none_still c.self.inside.fault _ _
-      (lived_message g.N.Begins.receiver g.N.Begins.tells g.N.Begins.device (g.D.Datagrams.device c.self.inside.duty.device) s t c.self.inside.tally c.take.new.self message room c.take.ensures.tally gave)
-      i.lived;
+          (lived_message g.N.Begins.receiver g.N.Begins.tells g.N.Begins.device (g.D.Datagrams.device c.self.inside.duty.device) s t c.self.inside.tally c.take.new.self message room c.take.ensures.tally gave)
+          i.lived;
     }
 
 pub invariant_of-self-in-Ok-None : goal.invariant_of-self-in-Ok-None
@@ -35,8 +35,8 @@ invariant_of-self-in-Ok-None g c =
       tally = i.tally;
       still_tells = i.still_tells;
       lived = none_still c.self.inside.fault _ _
-      (lived_poll g.N.Begins.receiver g.N.Begins.tells g.N.Begins.device (g.D.Datagrams.device c.self.inside.duty.device) c.self.inside.agent.subscriber c.poll.new.self.subscriber c.self.inside.tally (Does GivesNone) refl refl (inl (subst (λ o. SubscriberBecomes c.self.inside.agent.subscriber c.poll.new.self.subscriber (λ r q. Polls r (answer_of (Ok o)) q)) c.in-Ok-None.field-0-is c.in-Ok-None.ensures.polled)))
-      i.lived;
+          (lived_poll g.N.Begins.receiver g.N.Begins.tells g.N.Begins.device (g.D.Datagrams.device c.self.inside.duty.device) c.self.inside.agent.subscriber c.poll.new.self.subscriber c.self.inside.tally (Does GivesNone) refl refl (inl (subst (λ o. SubscriberBecomes c.self.inside.agent.subscriber c.poll.new.self.subscriber (λ r q. Polls r (answer_of (Ok o)) q)) c.in-Ok-None.field-0-is c.in-Ok-None.ensures.polled)))
+          i.lived;
     }
 
 pub invariant_of-self-in-Err-NoImage : goal.invariant_of-self-in-Err-NoImage
@@ -48,8 +48,8 @@ invariant_of-self-in-Err-NoImage g c =
       tally = i.tally;
       still_tells = i.still_tells;
       lived = none_still c.self.inside.fault _ _
-      (lived_poll g.N.Begins.receiver g.N.Begins.tells g.N.Begins.device (g.D.Datagrams.device c.self.inside.duty.device) c.self.inside.agent.subscriber c.poll.new.self.subscriber c.self.inside.tally (Does GivesNone) refl refl (inr (subst (λ e. SubscriberBecomes c.self.inside.agent.subscriber c.poll.new.self.subscriber (λ r q. Polls r (Err e) q)) c.in-Err-NoImage.field-0-is c.in-Err-NoImage.ensures.polled)))
-      i.lived;
+          (lived_poll g.N.Begins.receiver g.N.Begins.tells g.N.Begins.device (g.D.Datagrams.device c.self.inside.duty.device) c.self.inside.agent.subscriber c.poll.new.self.subscriber c.self.inside.tally (Does GivesNone) refl refl (inr (subst (λ e. SubscriberBecomes c.self.inside.agent.subscriber c.poll.new.self.subscriber (λ r q. Polls r (Err e) q)) c.in-Err-NoImage.field-0-is c.in-Err-NoImage.ensures.polled)))
+          i.lived;
     }
 
 pub invariant_of-self-in-Err-Unassembled-TooLong : goal.invariant_of-self-in-Err-Unassembled-TooLong
@@ -61,6 +61,6 @@ invariant_of-self-in-Err-Unassembled-TooLong g c =
       tally = i.tally;
       still_tells = i.still_tells;
       lived = none_still c.self.inside.fault _ _
-      (lived_poll g.N.Begins.receiver g.N.Begins.tells g.N.Begins.device (g.D.Datagrams.device c.self.inside.duty.device) c.self.inside.agent.subscriber c.poll.new.self.subscriber c.self.inside.tally Refuses refl refl (subst (λ e. SubscriberBecomes c.self.inside.agent.subscriber c.poll.new.self.subscriber (λ r q. Polls r (Err (Unassembled e)) q)) c.in-Err-Unassembled-TooLong.field-0-0-is (subst (λ e. SubscriberBecomes c.self.inside.agent.subscriber c.poll.new.self.subscriber (λ r q. Polls r (Err e) q)) c.in-Err-Unassembled-TooLong.field-0-is c.in-Err-Unassembled-TooLong.ensures.polled)))
-      i.lived;
+          (lived_poll g.N.Begins.receiver g.N.Begins.tells g.N.Begins.device (g.D.Datagrams.device c.self.inside.duty.device) c.self.inside.agent.subscriber c.poll.new.self.subscriber c.self.inside.tally Refuses refl refl (subst (λ e. SubscriberBecomes c.self.inside.agent.subscriber c.poll.new.self.subscriber (λ r q. Polls r (Err (Unassembled e)) q)) c.in-Err-Unassembled-TooLong.field-0-0-is (subst (λ e. SubscriberBecomes c.self.inside.agent.subscriber c.poll.new.self.subscriber (λ r q. Polls r (Err e) q)) c.in-Err-Unassembled-TooLong.field-0-is c.in-Err-Unassembled-TooLong.ensures.polled)))
+          i.lived;
     }
