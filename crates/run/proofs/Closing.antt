@@ -205,34 +205,34 @@ shown l size p k others all book is there shows =
 
 -- ---- what a run has left
 
--- each receiver over its device, and each publisher
-module _ {D : Type 0} (device : D → Device) (tells : D → Type 0) (plan : Plan) (b : Beginning D) (l : LogValue) (r : Returned D) (e : RunEnd D) (is : IsBeginning plan.geometry (size_of plan) b) (back : AreReturned device tells b.state.log (size_of plan) b.passes r) (same : l ≡ b.state.log) (leaves : Leaves l r b.others.items e) where
-  shape : b.state.log.identity.geometry ≡ plan.geometry
-  shape = is.shape
+pub all_received : {D : Type 0} (device : D → Device) (tells : D → Type 0) (plan : Plan) (b : Beginning D) (r : Returned D) → IsBeginning plan.geometry (size_of plan) b → AreReturned device tells b.state.log (size_of plan) b.passes r
+    → HaveReceivedFrom device tells plan.geometry (size_of plan) 0 (map device_of b.passes.receivers.items) r.parties.received.items
+all_received device tells plan b r is back = subst (λ (g : Geometry). HaveReceivedFrom device tells g (size_of plan) 0 (map device_of b.passes.receivers.items) r.parties.received.items) is.shape back.parties.received
 
-  pub all_received : HaveReceivedFrom device tells plan.geometry (size_of plan) 0 (map device_of b.passes.receivers.items) r.parties.received.items
-  all_received = subst (λ (g : Geometry). HaveReceivedFrom device tells g (size_of plan) 0 (map device_of b.passes.receivers.items) r.parties.received.items) shape back.parties.received
+-- each receiver over its device
+pub all_live : {D : Type 0} (device : D → Device) (tells : D → Type 0) (plan : Plan) (b : Beginning D) (l : LogValue) (r : Returned D) (e : RunEnd D) (before : List D) → IsBeginning plan.geometry (size_of plan) b → AreReturned device tells b.state.log (size_of plan) b.passes r
+    → Leaves l r b.others.items e → map device_of b.passes.receivers.items ≡ before → ReceiversLive device tells plan before e.replies.items e.outcome.tallies.items
+all_live device tells plan b l r e before is back leaves were = record {
+  received = r.parties.received.items;
+  devices = leaves.replies;
+  tallies = leaves.tallies;
+  lived = subst (λ ds. HaveReceivedFrom device tells plan.geometry (size_of plan) 0 ds r.parties.received.items) were (all_received device tells plan b r is back);
+}
 
-  pub all_live : (before : List D) → map device_of b.passes.receivers.items ≡ before → ReceiversLive device tells plan before e.replies.items e.outcome.tallies.items
-  all_live before were = record {
-    received = r.parties.received.items;
-    devices = leaves.replies;
-    tallies = leaves.tallies;
-    lived = subst (λ ds. HaveReceivedFrom device tells plan.geometry (size_of plan) 0 ds r.parties.received.items) were all_received;
-  }
-
-  pub all_publish : PublishersPublish plan e.outcome
-  all_publish = record {
-    log = b.state.log;
-    log_is = is.log_is;
-    shape = shape;
-    waiting = b.passes.publishers.items;
-    back = r.parties.published.publishers.items;
-    others = b.others.items;
-    many = is.passes.many;
-    new = is.passes.publishers;
-    published = back.parties.published.published;
-    counted = subst (λ ns. AreCounted ns r.parties.published.publishers.items) (sym leaves.accepted) back.parties.published.counted;
-    unclaimed = is.unclaimed;
-    book = subst (λ (x : LogValue). ShowsBook x (r.parties.published.publishers.items ++ b.others.items) e.outcome.book) same leaves.book;
-  }
+-- and each publisher
+pub all_publish : {D : Type 0} (device : D → Device) (tells : D → Type 0) (plan : Plan) (b : Beginning D) (l : LogValue) (r : Returned D) (e : RunEnd D) → IsBeginning plan.geometry (size_of plan) b → AreReturned device tells b.state.log (size_of plan) b.passes r
+    → l ≡ b.state.log → Leaves l r b.others.items e → PublishersPublish plan e.outcome
+all_publish device tells plan b l r e is back same leaves = record {
+  log = b.state.log;
+  log_is = is.log_is;
+  shape = is.shape;
+  waiting = b.passes.publishers.items;
+  back = r.parties.published.publishers.items;
+  others = b.others.items;
+  many = is.passes.many;
+  new = is.passes.publishers;
+  published = back.parties.published.published;
+  counted = subst (λ ns. AreCounted ns r.parties.published.publishers.items) (sym leaves.accepted) back.parties.published.counted;
+  unclaimed = is.unclaimed;
+  book = subst (λ (x : LogValue). ShowsBook x (r.parties.published.publishers.items ++ b.others.items) e.outcome.book) same leaves.book;
+}

@@ -70,17 +70,17 @@ module _ {D : Type 0} (device : D → Device) (tells : D → Type 0) (g : Geomet
       → IfOk one (HasReceived device tells at.identity.geometry of.receivers of.wanted number was) → IfOk one (HasReceived device tells g size.receivers size.wanted n d)
   promised at l of number n was d one a shape b c e h = subst (λ (u : Geometry × (Size × (ℕ × D))). IfOk one (HasReceived device tells u.0 u.1.0.receivers u.1.0.wanted u.1.1.0 u.1.1.1)) (λ j. ((ap (λ (x : LogValue). x.identity.geometry) a ∙ shape) j, (b j, (c j, e j)))) h
 
-  none_started : {X : Type 0} (e : DeviceError) → IsOk {T = X} {E = DeviceError} (Err e) → ⊥
-  none_started e h = absurd cc
+  none_started : (X : Type 0) (e : DeviceError) → IsOk {T = X} {E = DeviceError} (Err e) → ⊥
+  none_started X e h = absurd cc
 
   -- and gave, where it was started
-  pub joined : {X : Type 0} (started : Result X DeviceError) (log : X → LogValue) (of : X → Size) (number : X → ℕ) (was : X → D) (l : LogValue) (n : ℕ) (w : Waiting D) (one : Result (Received D) DeviceError) → l.identity.geometry ≡ g → w.number ≡ n
+  pub joined : (X : Type 0) (started : Result X DeviceError) (log : X → LogValue) (of : X → Size) (number : X → ℕ) (was : X → D) (l : LogValue) (n : ℕ) (w : Waiting D) (one : Result (Received D) DeviceError) → l.identity.geometry ≡ g → w.number ≡ n
       → IfOk started (λ s. (log s ≡ l) × (of s ≡ size)) → IfOk started (λ s. (number s ≡ w.number) × (was s ≡ w.device))
       → IfOk started (λ s. IfOk one (HasReceived device tells (log s).identity.geometry (of s).receivers (of s).wanted (number s) (was s))) → OnOk one (IsOk started)
       → IfOk one (HasReceived device tells g size.receivers size.wanted n w.device)
-  joined (Ok s) log of number was l n w one shape at a b h is = promised (log s) l (of s) (number s) n (was s) w.device one a.0 shape a.1 (b.0 ∙ at) b.1 h
-  joined (Err e) log of number was l n w (Ok r) shape at a b h is = absurd (none_started e is)
-  joined (Err e) log of number was l n w (Err f) shape at a b h is = tt
+  joined X (Ok s) log of number was l n w one shape at a b h is = promised (log s) l (of s) (number s) n (was s) w.device one a.0 shape a.1 (b.0 ∙ at) b.1 h
+  joined X (Err e) log of number was l n w (Ok r) shape at a b h is = absurd (none_started X e is)
+  joined X (Err e) log of number was l n w (Err f) shape at a b h is = tt
 
   -- of all threads that were joined
   pub ended : (l : LogValue) (ps : List PublisherValue) (ws : List (Waiting D)) (w : Waiting D) (result parties : Result (Parties D) DeviceError) (one : Result (Received D) DeviceError)
@@ -92,7 +92,7 @@ module _ {D : Type 0} (device : D → Device) (tells : D → Type 0) (g : Geomet
   ended l ps ws w (Ok r) (Ok p) (Ok t) shape lived have same more both =
       let received : HaveReceivedFrom device tells g size 0 (map device_of ws) p.received.items = subst (λ (x : Geometry). HaveReceivedFrom device tells x size 0 (map device_of ws) p.received.items) shape have.received in
       let longer : HaveReceivedFrom device tells g size 0 (map device_of ws ++ w.device ∷ []) (p.received.items ++ t ∷ []) =
-      received_more 0 (length ws) (map device_of ws) p.received.items w.device t received (length_map ws) lived in
+      received_more 0 (length ws) (map device_of ws) p.received.items w.device t received (let many = length_map ws in omega arith) lived in
       record {
         published = subst (HaveCome l size ps) (sym same) have.published;
         received =

@@ -166,7 +166,7 @@ pub fn start_receiver<
         promise,
         move || -> Result<Received<D>, DeviceError>
             requires { IsWaitingReceiver state.now.log.identity.geometry size.receivers waiting.number waiting × (size.wanted < 2 ^ 63) }
-            ensures { IfOk result (HasReceived D.device D.tells state.entry.now.log.identity.geometry size.receivers size.wanted waiting.entry.number waiting.entry.device) }
+            ensures { IfOk result (HasReceived D.device D.tells state.entry.now.log.identity.geometry size.receivers size.wanted waiting.number waiting.device) }
         {
             let context = Context {
                 rt,

@@ -1,5 +1,6 @@
 use Rattle.std.proofs.Common.{◌∙◌, ap, length, map, subst, sym, arith}
 use Rattle.std.specs.List.{AllByRecursion}
+use Rattle.theory.specs.Position.{Geometry}
 use Rattle.run.specs.Outcomes.{IsBook, IsPolled, size_of, told_of}
 use Rattle.run.specs.Beginnings.{CanClose}
 use Rattle.run.specs.declared.passes.Size.{Size}
@@ -21,5 +22,5 @@ returns-clause-outcome g c =
       wanted = ap (λ (s : Size). s.wanted) size;
       receivers = ap length told ∙ told_many rs ∙ c.requires.many;
       tallies = subst (AllByRecursion (IsPolled _)) (sym told) (subst (λ (s : Size). AllByRecursion (IsPolled s.wanted) (map told_of rs)) (sym size) c.requires.polled);
-      book = _;
+      book = subst (λ (u : Geometry × Size). IsBook u.0 u.1.task.length u.1.publishers c.args.returned.parties.published.accepted c.in_ok-book.book) (λ j. (c.requires.shape j, size j)) c.in_ok-book.ensures.is;
     }
