@@ -80,6 +80,13 @@ impl<D> Duty<D> {
         &self.device
     }
 
+    /// Gives the device back.
+    pub fn into_device(self) -> D
+        ensures { result ≡ self.device }
+    {
+        self.device
+    }
+
     /// The device, to be told something.
     pub fn device_mut(&mut self) -> &mut D
         ensures* writes_back { sem 𝓛 (lends_device D.row self.entry result) }

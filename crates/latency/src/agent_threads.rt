@@ -8,12 +8,13 @@ ghost use Rattle.run_parties.specs.Passes.{IsKept};
 ghost use Rattle.run_parties.specs.RunLogs.{IsRunLog};
 ghost use Rattle.latency.specs.Beginnings.{ArePasses};
 
+use crate::shared_receiver::{SharedReceiver, receive};
 use crate::{Course, LatencyError, Load, Offers, WhenFull, start_publishers};
 use agents::Named;
 use conductor::{Client, Taker};
 use endpoint::{Fan, UdpDevice};
 use loss_injector::Lossy;
-use run_parties::{Context, Open, RunState, SharedReceiver, receive, send, steer};
+use run_parties::{Context, Open, RunState, send, steer};
 use shared_log::{Keeper, LogReader, Publisher};
 use std::alloc::Global;
 use std::sync::Wait;
@@ -103,14 +104,8 @@ fn start_receiver<'s, S, N: Named + Send, R: Wait + Clock + Sync>(
         move || -> ()
             requires { arc_value receiver.now.counters ≡ N.counters }
         {
-            let context = Context {
-                rt,
-                alloc,
-                state,
-                gate: &Open,
-                turns: TURNS,
-            };
-            let ended = receive(&context, receiver, 0, device);
+            let ended = receive(rt, alloc, state, receiver, TURNS, device);
+            state.stop();
             course.end(ended);
         },
     );

@@ -24,6 +24,7 @@ mod publisher_threads;
 mod row;
 mod samples;
 mod sampling;
+mod shared_receiver;
 mod stamps;
 
 pub use course::Course;

@@ -8,9 +8,10 @@ ghost use Rattle.latency.specs.Beginnings.{ArePasses};
 
 use crate::agent_threads::{MeasuredRun, Passes, start_agents};
 use crate::sampling::{await_stream, poll_all};
+use crate::shared_receiver::SharedReceiver;
 use crate::{LatencyError, Samples};
 use agents::Named;
-use run_parties::{ReceiverParts, SharedReceiver};
+use run_parties::ReceiverParts;
 use std::sync::Wait;
 use std::thread;
 use std::thread::{Scope, Threads};

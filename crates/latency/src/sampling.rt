@@ -3,11 +3,11 @@
 ghost use Rattle.std.specs.Prelude.{◌≡◌, ◌≤◌, ◌+◌, IfOk, OnOk, vec_len};
 
 use crate::agent_threads::MeasuredRun;
+use crate::shared_receiver::SharedReceiver;
 use crate::{LatencyError, Samples, stamp_in};
 use agents::{IdleStrategy, Named};
 use assembler::{AssemblyError, Message};
 use receiver::PollError;
-use run_parties::SharedReceiver;
 use std::alloc::Global;
 use std::sync::Wait;
 use std::time::Clock;

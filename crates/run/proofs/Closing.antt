@@ -17,16 +17,21 @@ use Rattle.log_rule.specs.Claims.Sums.{total}
 use Rattle.log_rule.specs.Shares.{claimed_bytes, range_bytes}
 use Rattle.log_rule.proofs.Claimed.Totals.{total_append, total_map}
 use Rattle.shared_log.specs.Handles.{LogValue}
+use Rattle.shared_log.specs.Keepers.{KeeperValue}
+use Rattle.endpoint.specs.Devices.{Device}
 use Rattle.shared_log.specs.Books.{AreAll, IsDone, ShowsBook, share_as, weight_in}
 use Rattle.shared_log.specs.declared.book.Book.{Book}
 use Rattle.run_parties.specs.Messages.{IsRunClaim, message_in}
 use Rattle.run_parties.specs.Passes.{HasNone}
+use Rattle.run.specs.declared.passes.Publications.{Publications}
 use Rattle.run.specs.declared.passes.Returned.{Returned}
 use Rattle.run.specs.declared.passes.Size.{Size}
+use Rattle.options.specs.declared.run.made.Plan.{Plan}
 use Rattle.run.specs.declared.planned_run.Beginning.{Beginning}
-use Rattle.run.specs.Threads.{AreReturned, IsBack, accepted_as}
-use Rattle.run.specs.Beginnings.{CanClose, IsBeginning}
-use Rattle.run.specs.Outcomes.{IsBook, is_message_of}
+use Rattle.run.specs.declared.planned_run.RunEnd.{RunEnd}
+use Rattle.run.specs.Threads.{AreCounted, AreReturned, HaveReceivedFrom, IsBack, accepted_as, device_of}
+use Rattle.run.specs.Beginnings.{CanClose, IsBeginning, Leaves}
+use Rattle.run.specs.Outcomes.{IsBook, PublishersPublish, ReceiversLive, is_message_of, size_of}
 use Rattle.run.proofs.Counting.{no_more}
 
 -- the same parts one by one are the same in all
@@ -40,10 +45,10 @@ same_total (x ∷ xs) (y ∷ ys) e =
     omega arith
 
 -- what threads gave back of a log that a run began with
-pub can_close : {D : Type 0} → (g : Geometry) (size : Size) (b : Beginning D) (l : LogValue) (r : Returned) → IsBeginning g size b → AreReturned b.state.log size b.passes r → l ≡ b.state.log → CanClose l size r b.others.items
-can_close g size b l r is back e =
+pub can_close : {D : Type 0} → (device : D → Device) (tells : D → Type 0) (g : Geometry) (size : Size) (b : Beginning D) (l : LogValue) (r : Returned D) → IsBeginning g size b → AreReturned device tells b.state.log size b.passes r → l ≡ b.state.log → CanClose l size r.parties.published r.keeper b.others.items
+can_close device tells g size b l r is back e =
     let rs = r.parties.published.publishers.items in let ps = b.passes.publishers.items in
-    subst (λ (x : LogValue). CanClose x size r b.others.items) (sym e) (record {
+    subst (λ (x : LogValue). CanClose x size r.parties.published r.keeper b.others.items) (sym e) (record {
       legal = subst IsGeometry (sym is.shape) is.legal;
       start = is.log_is.start;
       many = no_more b.state.log size ps r.parties.published back.parties.published ∙ is.passes.many;
@@ -59,14 +64,14 @@ can_close g size b l r is back e =
     sums a b u e f = omega arith
 
 -- they are all
-pub all_there : (l : LogValue) (size : Size) (r : Returned) (others all : List PublisherValue) → CanClose l size r others → all ≡ r.parties.published.publishers.items ++ others → AreAll l all r.keeper
-all_there l size r others all is e =
-    let rs = r.parties.published.publishers.items in
-    subst (λ (xs : List PublisherValue). AreAll l xs r.keeper) (sym e) (record {
+pub all_there : (l : LogValue) (size : Size) (p : Publications) (k : KeeperValue) (others all : List PublisherValue) → CanClose l size p k others → all ≡ p.publishers.items ++ others → AreAll l all k
+all_there l size p k others all is e =
+    let rs = p.publishers.items in
+    subst (λ (xs : List PublisherValue). AreAll l xs k) (sym e) (record {
       publishers_are = All-from_recursion (IsDone l) (rs ++ others) (all_append (IsDone l) rs others (all_weaker (IsBack l size) (IsDone l) (λ q b. b.done) rs is.publishers) is.others_are);
       keeper_is = is.keeper.done;
       unclaimed = is.keeper.unclaimed;
-      whole = sums (total parts_in (rs ++ others)) (total parts_in rs) (total parts_in others) r.keeper.held.pass.right.parts (total_append parts_in rs others) is.whole is.keeper.parts;
+      whole = sums (total parts_in (rs ++ others)) (total parts_in rs) (total parts_in others) k.held.pass.right.parts (total_append parts_in rs others) is.whole is.keeper.parts;
     })
   where
     sums : (a b c k : ℕ) → a ≡ b + c → b + c ≡ 1016 → k ≡ 8 → a + k ≡ 1024
@@ -175,10 +180,10 @@ no_claims n (q ∷ qs) all = (λ j. cond (q.pass.number == n) (total range_bytes
 
 -- ---- the book
 
-pub shown : (l : LogValue) (size : Size) (r : Returned) (others all : List PublisherValue) (book : Book) → CanClose l size r others → all ≡ r.parties.published.publishers.items ++ others → ShowsBook l all book
-    → IsBook l.identity.geometry size.task.length size.publishers r.parties.published.accepted book
-shown l size r others all book is there shows =
-    let g = l.identity.geometry in let length = size.task.length in let qs = r.parties.published.publishers.items in let zero = is.start in let log = shows.tiled.log in record {
+pub shown : (l : LogValue) (size : Size) (p : Publications) (k : KeeperValue) (others all : List PublisherValue) (book : Book) → CanClose l size p k others → all ≡ p.publishers.items ++ others → ShowsBook l all book
+    → IsBook l.identity.geometry size.task.length size.publishers p.accepted book
+shown l size p k others all book is there shows =
+    let g = l.identity.geometry in let length = size.task.length in let qs = p.publishers.items in let zero = is.start in let log = shows.tiled.log in record {
       start = shows.start ∙ zero;
       shares = (let a = shows.whole in let b = shows.start in omega arith);
       log = log;
@@ -197,3 +202,37 @@ shown l size r others all book is there shows =
           shows.shares n low ∙ ap (total (share_as n)) there ∙ total_append (share_as n) qs others
           ∙ (λ j. no_share l size n qs high is.publishers j + no_claims n others is.unclaimed j);
     }
+
+-- ---- what a run has left
+
+pub all_received : {D : Type 0} (device : D → Device) (tells : D → Type 0) (plan : Plan) (b : Beginning D) (r : Returned D) → IsBeginning plan.geometry (size_of plan) b → AreReturned device tells b.state.log (size_of plan) b.passes r
+    → HaveReceivedFrom device tells plan.geometry (size_of plan) 0 (map device_of b.passes.receivers.items) r.parties.received.items
+all_received device tells plan b r is back = subst (λ (g : Geometry). HaveReceivedFrom device tells g (size_of plan) 0 (map device_of b.passes.receivers.items) r.parties.received.items) is.shape back.parties.received
+
+-- each receiver over its device
+pub all_live : {D : Type 0} (device : D → Device) (tells : D → Type 0) (plan : Plan) (b : Beginning D) (l : LogValue) (r : Returned D) (e : RunEnd D) (before : List D) → IsBeginning plan.geometry (size_of plan) b → AreReturned device tells b.state.log (size_of plan) b.passes r
+    → Leaves l r b.others.items e → map device_of b.passes.receivers.items ≡ before → ReceiversLive device tells plan before e.replies.items e.outcome.tallies.items
+all_live device tells plan b l r e before is back leaves were = record {
+  received = r.parties.received.items;
+  devices = leaves.replies;
+  tallies = leaves.tallies;
+  lived = subst (λ ds. HaveReceivedFrom device tells plan.geometry (size_of plan) 0 ds r.parties.received.items) were (all_received device tells plan b r is back);
+}
+
+-- and each publisher
+pub all_publish : {D : Type 0} (device : D → Device) (tells : D → Type 0) (plan : Plan) (b : Beginning D) (l : LogValue) (r : Returned D) (e : RunEnd D) → IsBeginning plan.geometry (size_of plan) b → AreReturned device tells b.state.log (size_of plan) b.passes r
+    → l ≡ b.state.log → Leaves l r b.others.items e → PublishersPublish plan e.outcome
+all_publish device tells plan b l r e is back same leaves = record {
+  log = b.state.log;
+  log_is = is.log_is;
+  shape = is.shape;
+  waiting = b.passes.publishers.items;
+  back = r.parties.published.publishers.items;
+  others = b.others.items;
+  many = is.passes.many;
+  new = is.passes.publishers;
+  published = back.parties.published.published;
+  counted = subst (λ ns. AreCounted ns r.parties.published.publishers.items) (sym leaves.accepted) back.parties.published.counted;
+  unclaimed = is.unclaimed;
+  book = subst (λ (x : LogValue). ShowsBook x (r.parties.published.publishers.items ++ b.others.items) e.outcome.book) same leaves.book;
+}

@@ -22,7 +22,7 @@ use Rattle.run_parties.specs.declared.publisher_turns.Task.{Task}
 use Rattle.endpoint.specs.declared.device_error.DeviceError.{DeviceError}
 use Rattle.run.specs.Beginnings.{IsBeginning}
 use Rattle.run.specs.declared.planned_run.Beginning.{Beginning}
-use Rattle.run.specs.Threads.{AreCounted, AreWaitingFrom, HaveCome, IsBack, IsWaiting, accepted_as, counters_of, shown_of}
+use Rattle.run.specs.Threads.{AreCounted, AreWaitingFrom, HaveCome, HavePublished, IsBack, IsWaiting, accepted_as, counters_of, shown_of}
 use Rattle.run.specs.declared.passes.Publications.{Publications}
 use Rattle.run.specs.declared.passes.Size.{Size}
 
@@ -95,12 +95,19 @@ few_counted l size n (q ∷ qs) small all =
 
 -- ---- all of them
 
+published_more : (l : LogValue) (length : ℕ) (ps qs : List PublisherValue) (p q : PublisherValue) → HavePublished l length ps qs → HasPublished l length (total message_in q.pass.right.claims) p q → HavePublished l length (ps ++ p ∷ []) (qs ++ q ∷ [])
+published_more l length [] [] p q all one = (one, tt)
+published_more l length [] (y ∷ qs) p q all one = absurd all
+published_more l length (x ∷ ps) [] p q all one = absurd all
+published_more l length (x ∷ ps) (y ∷ qs) p q all one = (all.0, published_more l length ps qs p q all.1 one)
+
 pub come_more : (l : LogValue) (size : Size) (ws : List PublisherValue) (w q : PublisherValue) (count : ℕ) (all r : Publications) → HaveCome l size ws all → IsWaiting l size.publishers w
     → HasPublished l size.task.length count w q → count ≤ size.task.messages → q.pass.number < 8
     → r.publishers.items ≡ all.publishers.items ++ q ∷ [] → r.accepted ≡ set all.accepted q.pass.number (slice_index all.accepted q.pass.number + count) → HaveCome l size (ws ++ w ∷ []) r
 come_more l size ws w q count all r have waits h few low items counts =
     let qs = all.publishers.items in
     record {
+      published = subst (HavePublished l size.task.length (ws ++ w ∷ [])) (sym items) (published_more l size.task.length ws qs w q have.published (subst (λ (n : ℕ). HasPublished l size.task.length n w q) (sym (accepted_is l size.task.length count w q waits.none h)) h));
       back = subst (AllByRecursion (IsBack l size)) (sym items) (all_pushed (IsBack l size) qs q have.back (is_back l size count w q waits h few));
       parts = ap (map parts_in) items ∙ maps_append parts_in qs (q ∷ []) ∙ (λ j. have.parts j ++ h.ends.parts j ∷ []) ∙ sym (maps_append parts_in ws (w ∷ []));
       counted = subst (AreCounted r.accepted) (sym items) (subst (λ (ns : List ℕ). AreCounted ns (qs ++ q ∷ [])) (sym counts)

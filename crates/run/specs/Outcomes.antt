@@ -1,12 +1,23 @@
 -- What a run leaves.
-use Rattle.std.specs.Prelude.{◌≡◌, ◌*◌, ◌<◌, ◌≤◌, ◌==◌, ◌&&◌, ℕ, Bool, not, cond, List, count_by, length, slice_index, sum, sum_by, take, nat_le, if◌then◌else◌}
+use Rattle.std.specs.Prelude.{◌≡◌, ◌*◌, ◌<◌, ◌≤◌, ◌==◌, ◌&&◌, ◌++◌, ℕ, Bool, not, cond, List, count_by, length, map, slice_index, sum, sum_by, take, nat_le, if◌then◌else◌}
 use Rattle.std.specs.List.{AllByRecursion, list_all}
 use Rattle.theory.specs.Position.{Geometry, framed_length}
 use Rattle.theory.specs.Entry.{Entry, length_of}
 use Rattle.theory.specs.Tiling.{Tiles, share_of}
+use Rattle.log_rule.specs.Claims.Handles.{PublisherValue}
+use Rattle.shared_log.specs.Books.{ShowsBook}
+use Rattle.shared_log.specs.Handles.{LogValue}
 use Rattle.shared_log.specs.declared.book.Book.{Book}
 use Rattle.options.specs.declared.run.made.Plan.{Plan}
+use Rattle.endpoint.specs.Devices.{Device}
+use Rattle.endpoint.specs.Udp.{Udp}
+use Rattle.loss_injector.specs.Losing.{Losing}
+use Rattle.run_parties.specs.Devices.{AreLossy}
+use Rattle.run_parties.specs.Passes.{HasNone}
+use Rattle.run_parties.specs.RunLogs.{IsRunLog}
 use Rattle.run_parties.specs.Tallies.{Counted, IsTally}
+use Rattle.run_parties.specs.declared.reception.Received.{Received}
+use Rattle.run.specs.Threads.{AreCounted, HavePublished, HaveReceivedFrom, IsWaiting}
 use Rattle.run.specs.declared.passes.Size.{Size}
 use Rattle.run.specs.declared.outcome.Outcome.{Outcome}
 use Rattle.run.specs.declared.outcome.Polled.{Polled}
@@ -85,3 +96,49 @@ size_of plan = record {
 -- a run of this plan left this
 abbrev pub IsOutcome : Plan → Outcome → Type 0
 IsOutcome plan o = IsLeft plan.geometry (size_of plan) o
+
+-- ---- what receivers lived through
+
+abbrev pub device_in : {D : Type 0} → Received D → D
+device_in r = r.device
+
+abbrev pub told_of : {D : Type 0} → Received D → Polled
+told_of r = polled_of r.tally
+
+-- each receiver of a run of this plan has lived over its device, from these on up to those; and what is told of it is the tally of
+-- the messages that its polls gave
+pub record ReceiversLive {D : Type 0} (device : D → Device) (tells : D → Type 0) (plan : Plan) (before after : List D) (told : List Polled) : Type 0 where
+  pub received : List (Received D)
+  pub devices : after ≡ map device_in received
+  pub tallies : told ≡ map told_of received
+  pub lived : HaveReceivedFrom device tells plan.geometry (size_of plan) 0 before received
+
+-- publishers of a run's log, which had claimed nothing, have each claimed their messages 0, 1, 2 and so on, of the plan's length,
+-- each committed whole, and paddings, so many as are told were accepted; others have claimed nothing, and the book is of them all
+pub record PublishersPublish (plan : Plan) (o : Outcome) : Type 0 where
+  pub log : LogValue
+  pub log_is : IsRunLog log
+  pub shape : log.identity.geometry ≡ plan.geometry
+  pub waiting : List PublisherValue
+  pub back : List PublisherValue
+  pub others : List PublisherValue
+  pub many : length waiting ≡ plan.publishers
+  pub new : AllByRecursion (IsWaiting log plan.publishers) waiting
+  pub published : HavePublished log plan.length waiting back
+  pub counted : AreCounted o.accepted back
+  pub unclaimed : AllByRecursion HasNone others
+  pub book : ShowsBook log (back ++ others) o.book
+
+-- so over devices that lose as the plan says; one over UDP doesn't tell what it handed over
+abbrev pub udp_device : Losing Udp → Device
+udp_device l = l.inner.device
+
+abbrev pub udp_tells : Losing Udp → Type 0
+udp_tells l = ⊥
+
+pub record ReceiversLiveLossily (plan : Plan) (told : List Polled) : Type 0 where
+  pub ways : List (Losing Udp)
+  pub before : List (Losing Udp)
+  pub after : List (Losing Udp)
+  pub lossy : AreLossy plan.rates plan.seed plan.receivers ways before
+  pub lived : ReceiversLive udp_device udp_tells plan before after told

@@ -9,20 +9,18 @@ use Rattle.log_rule.specs.Claims.Sums.{total}
 use Rattle.shared_log.specs.Handles.{LogValue}
 use Rattle.shared_log.specs.Books.{IsDone}
 use Rattle.shared_log.specs.Parts.{IsNewReader}
-use Rattle.counters.specs.Order.{zeros}
-use Rattle.receiver.specs.Subscribing.{RepresentsSubscriber}
-use Rattle.run_parties.specs.Groups.{id_of}
-use Rattle.run_parties.specs.Messages.{IsRunClaim, message_in}
+use Rattle.endpoint.specs.Devices.{Device}
+use Rattle.run_parties.specs.Messages.{HasPublished, IsRunClaim, message_in}
 use Rattle.run_parties.specs.Passes.{HasNone, IsKept}
-use Rattle.run_parties.specs.Receivers.{new_receiver}
+use Rattle.run_parties.specs.Receivers.{HasReceived, IsWaitingReceiver}
 use Rattle.run_parties.specs.RunLogs.{IsRunLog}
-use Rattle.run_parties.specs.Tallies.{Counted, IsTally}
+use Rattle.run_parties.specs.declared.reception.Received.{Received}
 use Rattle.run.specs.declared.passes.Parties.{Parties}
 use Rattle.run.specs.declared.passes.Passes.{Passes}
 use Rattle.run.specs.declared.passes.Publications.{Publications}
 use Rattle.run.specs.declared.passes.Returned.{Returned}
 use Rattle.run.specs.declared.passes.Size.{Size}
-use Rattle.run.specs.declared.passes.Waiting.{Waiting}
+use Rattle.run_parties.specs.declared.receiver_threads.Waiting.{Waiting}
 use Rattle.run.specs.declared.watch.Shown.{Shown}
 
 -- a log that a run begins with, and no more to be done than it has room for
@@ -59,20 +57,21 @@ pub record AreCounted (accepted : List ℕ) (publishers : List PublisherValue) :
   pub long : length accepted ≡ 8
   pub each : (n : ℕ) → n < 8 → slice_index accepted n ≡ total (accepted_as n) publishers
 
+-- publishers that waited, and those that came back: each has claimed its messages 0, 1, 2 and so on, each committed whole, and paddings
+abbrev pub HavePublished : LogValue → ℕ → List PublisherValue → List PublisherValue → Type 0
+HavePublished l length [] [] = ⊤
+HavePublished l length [] (q ∷ qs) = ⊥
+HavePublished l length (p ∷ ps) [] = ⊥
+HavePublished l length (p ∷ ps) (q ∷ qs) = HasPublished l length (total message_in q.pass.right.claims) p q × HavePublished l length ps qs
+
 -- these publishers came back with the parts that they had, and what was accepted of them was counted
 pub record HaveCome (l : LogValue) (size : Size) (waiting : List PublisherValue) (p : Publications) : Type 0 where
+  pub published : HavePublished l size.task.length waiting p.publishers.items
   pub back : AllByRecursion (IsBack l size) p.publishers.items
   pub parts : map parts_in p.publishers.items ≡ map parts_in waiting
   pub counted : AreCounted p.accepted p.publishers.items
 
 -- ---- receivers
-
--- one of so many, by its number: it has met nothing, has the id that goes with its number, and its counters are at zero
-pub record IsWaitingReceiver {D : Type 0} (g : Geometry) (count n : ℕ) (w : Waiting D) : Type 0 where
-  pub number : w.number ≡ n
-  pub subscriber : RepresentsSubscriber w.subscriber (new_receiver g (id_of count n))
-  pub writer : w.writer.counters ≡ arc_value w.counters
-  pub zero : w.writer.last ≡ zeros
 
 -- its device; and the name of its counters, also of those that are shown
 abbrev pub device_of : {D : Type 0} → Waiting D → D
@@ -89,16 +88,17 @@ abbrev pub AreWaitingFrom : {D : Type 0} → Geometry → ℕ → ℕ → List (
 AreWaitingFrom g count n [] = ⊤
 AreWaitingFrom g count n (w ∷ ws) = IsWaitingReceiver g count n w × AreWaitingFrom g count (suc n) ws
 
--- a tally of some messages, no more than were wanted
-pub record IsTallied (size : Size) (t : Counted) : Type 0 where
-  pub most : t.polled ≤ size.wanted
-  pub tally : IsTally t
+-- receivers that had these devices have lived, by their numbers, which they have from this one on
+abbrev pub HaveReceivedFrom : {D : Type 0} → (D → Device) → (D → Type 0) → Geometry → Size → ℕ → List D → List (Received D) → Type 0
+HaveReceivedFrom device tells g size n [] [] = ⊤
+HaveReceivedFrom device tells g size n [] (r ∷ rs) = ⊥
+HaveReceivedFrom device tells g size n (d ∷ ds) [] = ⊥
+HaveReceivedFrom device tells g size n (d ∷ ds) (r ∷ rs) = HasReceived device tells g size.receivers size.wanted n d r × HaveReceivedFrom device tells g size (suc n) ds rs
 
--- publishers came back, and of so many receivers their tallies
-pub record HaveEnded (l : LogValue) (size : Size) (waiting : List PublisherValue) (receivers : ℕ) (p : Parties) : Type 0 where
+-- publishers came back, and receivers, which had these devices
+pub record HaveEnded {D : Type 0} (device : D → Device) (tells : D → Type 0) (l : LogValue) (size : Size) (waiting : List PublisherValue) (before : List D) (p : Parties D) : Type 0 where
   pub published : HaveCome l size waiting p.published
-  pub many : length p.tallies.items ≡ receivers
-  pub tallied : AllByRecursion (IsTallied size) p.tallies.items
+  pub received : HaveReceivedFrom device tells l.identity.geometry size 0 before p.received.items
 
 -- ---- all threads
 
@@ -116,7 +116,7 @@ pub record ArePasses {D : Type 0} (l : LogValue) (queue : TableId) (size : Size)
   pub receivers_many : length p.receivers.items ≡ size.receivers
   pub receivers : AreWaitingFrom l.identity.geometry size.receivers 0 p.receivers.items
 
--- what the publishers have published is counted, and so are the messages that each subscriber polled
-pub record AreReturned {D : Type 0} (l : LogValue) (size : Size) (p : Passes D) (r : Returned) : Type 0 where
-  pub parties : HaveEnded l size p.publishers.items size.receivers r.parties
+-- what the publishers have published is counted; and each receiver has lived over its device, and tallied what its polls gave
+pub record AreReturned {D : Type 0} (device : D → Device) (tells : D → Type 0) (l : LogValue) (size : Size) (p : Passes D) (r : Returned D) : Type 0 where
+  pub parties : HaveEnded device tells l size p.publishers.items (map device_of p.receivers.items) r.parties
   pub keeper : IsKept l r.keeper

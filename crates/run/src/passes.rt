@@ -1,22 +1,9 @@
 //! What a run's threads own, what they are lent, and what they give back.
 
 use conductor::{Client, Taker};
-use counters::{CounterWriter, Counters};
 use endpoint::Fan;
-use receiver::Subscriber;
-use run_parties::{Context, PUBLISHERS, Tally, Task};
+use run_parties::{Context, PUBLISHERS, Received, Task, Waiting};
 use shared_log::{Keeper, LogReader, Publisher};
-use std::sync::Arc;
-
-/// A receiver that waits for its threads: its number, its subscriber, its counters with their writer, and its device.
-#[derive(Drop)]
-pub struct Waiting<D> {
-    pub number: u64,
-    pub subscriber: Subscriber,
-    pub counters: Arc<Counters>,
-    pub writer: CounterWriter,
-    pub device: D,
-}
 
 /// The passes of a run's threads, the device of its sender, and its receivers.
 #[derive(Drop)]
@@ -43,16 +30,16 @@ pub struct Publications {
 
 /// What publishers and receivers gave back.
 #[derive(Drop)]
-pub struct Parties {
+pub struct Parties<D> {
     pub published: Publications,
     /// By the receivers' numbers.
-    pub tallies: Vec<Tally>,
+    pub received: Vec<Received<D>>,
 }
 
 /// What all gave back.
 #[derive(Drop)]
-pub struct Returned {
-    pub parties: Parties,
+pub struct Returned<D> {
+    pub parties: Parties<D>,
     pub keeper: Keeper,
 }
 

@@ -1,17 +1,19 @@
 //! The run of a plan.
 
-ghost use Rattle.std.specs.Prelude.{◌≡◌, ◌*◌, ◌^◌, ◌<◌, ◌≤◌, IfOk, length, map, vec_len};
+ghost use Rattle.std.specs.Prelude.{◌≡◌, ◌*◌, ◌^◌, ◌<◌, ◌≤◌, ◌++◌, IfOk, length, map, vec_len};
 ghost use Rattle.std.specs.Arc.{arc_value};
 ghost use Rattle.std.specs.List.{AllByRecursion};
 ghost use Rattle.endpoint.specs.Fans.{fanned};
 ghost use Rattle.run_parties.specs.Devices.{AreLossy};
+ghost use Rattle.run_parties.specs.Receivers.{IsWaitingReceiver};
 ghost use Rattle.run_parties.specs.RunLogs.{IsRunLog};
-ghost use Rattle.run.specs.Beginnings.{CanClose, IsBeginning};
-ghost use Rattle.run.specs.Outcomes.{IsBook, IsLeft, IsOutcome, polled_of, size_of};
-ghost use Rattle.run.specs.Threads.{ArePasses, AreReturned, AreWaitingFrom, IsTallied, IsWaitingReceiver, counters_of, device_of, shown_of};
+ghost use Rattle.shared_log.specs.Books.{ShowsBook};
+ghost use Rattle.run.specs.Beginnings.{CanClose, IsBeginning, Leaves};
+ghost use Rattle.run.specs.Outcomes.{IsBook, IsOutcome, IsPolled, PublishersPublish, ReceiversLive, ReceiversLiveLossily, device_in, polled_of, size_of, told_of};
+ghost use Rattle.run.specs.Threads.{ArePasses, AreReturned, AreWaitingFrom, counters_of, device_of, shown_of};
 
 use crate::outcome::{Outcome, Polled};
-use crate::passes::{Agents, Parties, Passes, Returned, Size, Waiting};
+use crate::passes::{Agents, Parties, Passes, Publications, Returned, Size};
 use crate::thread_scope::run_agents;
 use crate::watch::{Shown, Watch};
 use agents::Began;
@@ -19,10 +21,10 @@ use conductor::Conductor;
 use endpoint::{Datagrams, DeviceError, Fan};
 use options::Plan;
 use run_parties::{
-    Context, Gate, LossyDevices, ReceiverParts, RunLog, RunState, Tally, Task, lossy_devices,
-    open_run_log, receiver_id, receiver_parts,
+    Context, Gate, LossyDevices, Received, ReceiverParts, RunLog, RunState, Tally, Task, Waiting,
+    lossy_devices, open_run_log, receiver_id, receiver_parts,
 };
-use shared_log::{Book, Log, Publisher, close};
+use shared_log::{Book, Keeper, Log, Publisher, close};
 use std::alloc::{AllocError, Global};
 use std::io::Write;
 use std::net::Net;
@@ -87,6 +89,7 @@ fn receiver_of<D: Drop>(
     };
     let waiting = Waiting {
         number,
+        id,
         subscriber,
         counters,
         writer,
@@ -181,10 +184,10 @@ fn run_with<
     plan: &Plan,
     passes: Passes<D>,
     watch: Watch<E>,
-) -> Result<Returned, DeviceError>
+) -> Result<Returned<D>, DeviceError>
     requires passes { ArePasses context.now.state.now.log context.now.state.now.conductor (size_of plan.now) passes }
     requires log { IsRunLog context.now.state.now.log × (context.now.state.now.log.identity.geometry ≡ plan.now.geometry) }
-    ensures { IfOk result (λ r. AreReturned context.now.state.now.log (size_of plan.now) passes r) }
+    ensures { IfOk result (λ r. AreReturned D.device D.tells context.now.state.now.log (size_of plan.now) passes r) }
 {
     let agents = Agents {
         context,
@@ -197,18 +200,15 @@ fn run_with<
 fn closed(
     log: Log,
     size: &Size,
-    returned: Returned,
+    published: Publications,
+    keeper: Keeper,
     mut others: Vec<Publisher>,
     alloc: Global,
 ) -> Result<Book, AllocError>
-    requires { CanClose log size.now returned others.items }
-    ensures { IfOk result (λ book. IsBook log.identity.geometry size.now.task.length size.now.publishers returned.parties.published.accepted book) }
+    requires { CanClose log size.now published keeper others.items }
+    ensures is { IfOk result (λ book. IsBook log.identity.geometry size.now.task.length size.now.publishers published.accepted book) }
+    ensures shows { IfOk result (λ book. ShowsBook log (published.publishers.items ++ others.items) book) }
 {
-    let Returned { parties, keeper } = returned;
-    let Parties {
-        published,
-        tallies: _,
-    } = parties;
     let mut publishers = published.publishers;
     publishers.append(&mut others)?;
     Ok(close(log, publishers, Vec::new(alloc), keeper))
@@ -224,46 +224,79 @@ fn polled_of(tally: &Tally) -> Polled
     }
 }
 
-/// What is told of tallies, in their order.
-fn told(alloc: Global, tallies: &[Tally]) -> Result<Vec<Polled>, AllocError>
-    ensures { IfOk result (λ ps. ps.items ≡ map polled_of tallies.now) }
+/// What is told of receivers that have ended, in their order.
+fn told<D>(alloc: Global, received: &[Received<D>]) -> Result<Vec<Polled>, AllocError>
+    ensures { IfOk result (λ ps. ps.items ≡ map told_of received.now) }
 {
     let mut told = Vec::new(alloc);
-    for tally in tallies {
-        told.push(polled_of(tally))?;
+    for one in received {
+        told.push(polled_of(&one.tally))?;
     }
     Ok(told)
 }
 
-/// What a run leaves whose threads gave this back.
-fn left(
-    alloc: Global,
-    size: &Size,
-    log: Log,
-    returned: Returned,
-    others: Vec<Publisher>,
-) -> Result<Outcome, AllocError>
-    requires closes { CanClose log size.now returned others.items }
-    requires many { length returned.parties.tallies.items ≡ size.now.receivers }
-    requires tallied { AllByRecursion (IsTallied size.now) returned.parties.tallies.items }
-    ensures { IfOk result (λ o. IsLeft log.identity.geometry size.now o) }
+/// Their devices, in their order.
+fn devices_of<D: Drop>(alloc: Global, received: Vec<Received<D>>) -> Result<Vec<D>, AllocError>
+    ensures { IfOk result (λ ds. ds.items ≡ map device_in received.items) }
 {
-    let tallies = told(alloc, &returned.parties.tallies)?;
-    let publishers = returned.parties.published.publishers.len();
-    let accepted = returned.parties.published.accepted;
-    let book = closed(log, size, returned, others, alloc)?;
-    Ok(Outcome {
+    let mut devices = Vec::new(alloc);
+    for one in received {
+        devices.push(one.device)?;
+    }
+    Ok(devices)
+}
+
+/// What a run has left, and the receivers' devices, by their numbers.
+#[derive(Drop)]
+pub struct RunEnd<D> {
+    pub outcome: Outcome,
+    pub replies: Vec<D>,
+}
+
+/// What a run leaves whose threads gave this back.
+fn left<D: Drop>(
+    alloc: Global,
+    plan: &Plan,
+    log: Log,
+    returned: Returned<D>,
+    others: Vec<Publisher>,
+) -> Result<RunEnd<D>, AllocError>
+    requires shape { log.identity.geometry ≡ plan.now.geometry }
+    requires closes { CanClose log (size_of plan.now) returned.parties.published returned.keeper others.items }
+    requires many { length returned.parties.received.items ≡ plan.now.receivers }
+    requires polled { AllByRecursion (IsPolled (size_of plan.now).wanted) (map told_of returned.parties.received.items) }
+    ensures outcome { IfOk result (λ e. IsOutcome plan.now e.outcome) }
+    ensures leaves { IfOk result (λ e. Leaves log returned others.items e) }
+{
+    let size = size_of(plan);
+    let Returned { parties, keeper } = returned;
+    let Parties {
+        published,
+        received,
+    } = parties;
+    let tallies = told(alloc, &received)?;
+    let replies = devices_of(alloc, received)?;
+    let publishers = published.publishers.len();
+    let accepted = published.accepted;
+    let book = closed(log, &size, published, keeper, others, alloc)?;
+    let outcome = Outcome {
         publishers,
         messages: size.task.messages,
         accepted,
         wanted: size.wanted,
         tallies,
         book,
-    })
+    };
+    Ok(RunEnd { outcome, replies })
 }
 
-/// Runs over these devices: the sender's ways, and the receivers'.
-fn run_over<
+/// Runs the driver as planned over these devices, one for each receiver: the sender's ways, and the receivers'. It ends as
+/// `run` says, and gives the receivers' devices back.
+///
+/// Each receiver has met nothing when it begins. Its cycles over its device and its subscriber's polls are one life, in the order in
+/// which they took its lock: the datagrams that it heard are those that its device has handed over, where that tells them, and what
+/// is told of its tally is the tally of the messages that the polls gave. A message that is refused as too long isn't one of them.
+pub fn run_over<
     R: Threads + Wait + Clock + Sync,
     D: Datagrams + Send + Drop,
     G: Gate + Sync,
@@ -275,10 +308,12 @@ fn run_over<
     gate: &G,
     errors: E,
     devices: (Vec<D>, Vec<D>),
-) -> Result<Outcome, DeviceError>
+) -> Result<RunEnd<D>, DeviceError>
     requires ways { vec_len devices.0 ≡ plan.now.receivers }
     requires replies { vec_len devices.1 ≡ plan.now.receivers }
-    ensures { IfOk result (λ o. IsOutcome plan.now o) }
+    ensures outcome { IfOk result (λ e. IsOutcome plan.now e.outcome) }
+    ensures lives { IfOk result (λ e. ReceiversLive D.device D.tells plan.now devices.1.items e.replies.items e.outcome.tallies.items) }
+    ensures published { IfOk result (λ e. PublishersPublish plan.now e.outcome) }
 {
     let (ways, replies) = devices;
     let Beginning {
@@ -300,7 +335,7 @@ fn run_over<
         shows: plan.counters,
     };
     let returned = run_with(&context, plan, passes, watch)?;
-    Ok(left(alloc, &size_of(plan), state.into_log(), returned, others)?)
+    Ok(left(alloc, plan, state.into_log(), returned, others)?)
 }
 
 /// Runs over devices that lose as the plan says.
@@ -313,17 +348,21 @@ fn run_lossy<R: Threads + Wait + Clock + Sync, G: Gate + Sync, E: Write + Drop>(
     devices: LossyDevices,
 ) -> Result<Outcome, DeviceError>
     requires { AreLossy plan.now.rates plan.now.seed plan.now.receivers devices.ways.items devices.replies.items }
-    ensures { IfOk result (λ o. IsOutcome plan.now o) }
+    ensures outcome { IfOk result (λ o. IsOutcome plan.now o) }
+    ensures lives { IfOk result (λ o. ReceiversLiveLossily plan.now o.tallies.items) }
+    ensures published { IfOk result (λ o. PublishersPublish plan.now o) }
 {
     let LossyDevices { ways, replies } = devices;
-    run_over(rt, alloc, plan, gate, errors, (ways, replies))
+    let ended = run_over(rt, alloc, plan, gate, errors, (ways, replies))?;
+    Ok(ended.outcome)
 }
 
 /// Runs the driver as planned: each publisher's messages are offered, sent as datagrams over UDP on this machine along a way to
 /// each receiver, received, and polled by a subscriber of each, until all of these have polled all, or a thread has used its
 /// turns. Two receivers and more are a group. What goes along each way and what each receiver sends is lost, repeated and held
 /// back by words of a generator of its own: of the plan's seed along the first way, of the seed and 8 + I along way I, and of
-/// the seed and 1 + I from receiver I. Where the plan asks for counters, a line of them goes to `errors` once a second.
+/// the seed and 1 + I from receiver I. Where the plan asks for counters, a line of them goes to `errors` once a second. Each
+/// receiver lives as `run_over` says; its device tells nothing.
 ///
 /// The fault is `Device` where a socket can't be had or fails, a thread can't be started or the clock can't be read, and
 /// `Memory` where memory was refused.
@@ -334,7 +373,9 @@ pub fn run<R: Threads + Wait + Clock + Net + Sync, G: Gate + Sync, E: Write + Dr
     gate: &G,
     errors: E,
 ) -> Result<Outcome, DeviceError>
-    ensures { IfOk result (λ o. IsOutcome plan.now o) }
+    ensures outcome { IfOk result (λ o. IsOutcome plan.now o) }
+    ensures lives { IfOk result (λ o. ReceiversLiveLossily plan.now o.tallies.items) }
+    ensures published { IfOk result (λ o. PublishersPublish plan.now o) }
 {
     let devices = lossy_devices(rt, alloc, plan.rates, plan.seed, plan.receivers)?;
     run_lossy(rt, alloc, plan, gate, errors, devices)

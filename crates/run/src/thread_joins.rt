@@ -2,12 +2,12 @@
 
 ghost use Rattle.std.specs.Prelude.{◌≡◌, ◌⊎◌, ◌++◌, [], ◌∷◌, Err, IfErr, IfOk, IsOk, Ok, OnOk};
 ghost use Rattle.run_parties.specs.Passes.{IsKept};
-ghost use Rattle.run.specs.Threads.{IsTallied};
+ghost use Rattle.run_parties.specs.Receivers.{HasReceived};
 
 use crate::passes::{Agents, Parties, Returned};
-use crate::thread_starts::{Agent, Receiving, Steering, Subscribing};
-use endpoint::DeviceError;
-use run_parties::Tally;
+use crate::thread_starts::{Agent, Receiving, Steering};
+use endpoint::{Datagrams, DeviceError};
+use run_parties::Received;
 use shared_log::Keeper;
 use std::thread::Threads;
 
@@ -25,21 +25,21 @@ fn keeper_of<R: Threads, G>(
     }
 }
 
-/// The tally of a subscriber.
-fn tally_of<R: Threads, G>(
+/// What a receiver has left.
+pub(crate) fn received_of<R: Threads, D: Datagrams + Drop, G>(
     agents: &Agents<'_, R, G>,
-    started: Result<Subscribing, DeviceError>,
-) -> Result<Tally, DeviceError>
-    requires { IfOk started (λ h. h.promise.wanted ≡ agents.now.size.wanted) }
-    ensures { IfOk result (IsTallied agents.now.size) }
+    started: Result<Receiving<D>, DeviceError>,
+) -> Result<Received<D>, DeviceError>
+    ensures lived { IfOk started (λ s. IfOk result (HasReceived D.device D.tells s.handle.promise.log.value.identity.geometry s.handle.promise.size.receivers s.handle.promise.size.wanted s.handle.promise.number s.handle.promise.device.value)) }
+    ensures started { OnOk result (IsOk started) }
 {
     match started {
-        Ok(handle) => handle.join(agents.context.rt),
+        Ok(receiving) => receiving.handle.join(agents.context.rt),
         Err(fault) => Err(fault),
     }
 }
 
-/// How a sender or a receiver ended.
+/// How the sender ended.
 fn end_of<R: Threads, G>(
     agents: &Agents<'_, R, G>,
     started: Result<Agent, DeviceError>,
@@ -50,59 +50,34 @@ fn end_of<R: Threads, G>(
     }
 }
 
-/// A subscriber's tally, where its receiver ended without a fault, too.
-fn tallied(
-    tally: Result<Tally, DeviceError>,
-    received: Result<(), DeviceError>,
-) -> Result<Tally, DeviceError>
-    ensures tally { IfOk result (λ t. tally ≡ Ok t) }
-    ensures end { OnOk result (IsOk received) }
-    ensures fault { IfErr result (λ f. (tally ≡ Err f) ⊎ (received ≡ Err f)) }
-{
-    let tally = tally?;
-    received?;
-    Ok(tally)
-}
-
-/// Joins the threads of a receiver. The answer is its subscriber's tally.
-pub(crate) fn receiver_end<R: Threads, G>(
-    agents: &Agents<'_, R, G>,
-    started: Result<Receiving, DeviceError>,
-) -> Result<Tally, DeviceError>
-    requires { IfOk started (λ r. IfOk r.subscriber (λ h. h.promise.wanted ≡ agents.now.size.wanted)) }
-    ensures { IfOk result (IsTallied agents.now.size) }
-{
-    let Receiving { agent, subscriber } = started?;
-    let tally = tally_of(agents, subscriber);
-    let received = end_of(agents, agent);
-    tallied(tally, received)
-}
-
-/// What came back, and the tally of one receiver more; or the first fault.
-pub(crate) fn with_tally(
-    parties: Result<Parties, DeviceError>,
-    tally: Result<Tally, DeviceError>,
-) -> Result<Parties, DeviceError>
+/// What came back, and one receiver more; or the first fault.
+pub(crate) fn with_received<D: Drop>(
+    parties: Result<Parties<D>, DeviceError>,
+    one: Result<Received<D>, DeviceError>,
+) -> Result<Parties<D>, DeviceError>
     ensures published { IfOk parties (λ p. IfOk result (λ r. r.published ≡ p.published)) }
-    ensures tallies { IfOk parties (λ p. IfOk tally (λ t. IfOk result (λ r. r.tallies.items ≡ p.tallies.items ++ t ∷ []))) }
-    ensures both { OnOk result (IsOk parties × IsOk tally) }
+    ensures received { IfOk parties (λ p. IfOk one (λ t. IfOk result (λ r. r.received.items ≡ p.received.items ++ t ∷ []))) }
+    ensures both { OnOk result (IsOk parties × IsOk one) }
 {
     let Parties {
         published,
-        mut tallies,
+        mut received,
     } = parties?;
-    if tallies.push(tally?).is_err() {
+    if received.push(one?).is_err() {
         return Err(DeviceError::Memory);
     }
-    Ok(Parties { published, tallies })
+    Ok(Parties {
+        published,
+        received,
+    })
 }
 
 /// What all gave back, or the first fault.
-fn returned(
-    parties: Result<Parties, DeviceError>,
+fn returned<D: Drop>(
+    parties: Result<Parties<D>, DeviceError>,
     keeper: Result<Keeper, DeviceError>,
     sent: Result<(), DeviceError>,
-) -> Result<Returned, DeviceError>
+) -> Result<Returned<D>, DeviceError>
     ensures backs { IfOk result (λ p. (parties ≡ Ok p.parties) × (keeper ≡ Ok p.keeper)) }
     ensures ends { OnOk result (IsOk sent) }
     ensures fault { IfErr result (λ f. (parties ≡ Err f) ⊎ (keeper ≡ Err f) ⊎ (sent ≡ Err f)) }
@@ -116,12 +91,12 @@ fn returned(
 }
 
 /// Joins the threads of the conductor and of the sender; of publishers and receivers this came back.
-pub(crate) fn gather<R: Threads, G>(
+pub(crate) fn gather<R: Threads, D: Drop, G>(
     agents: &Agents<'_, R, G>,
-    parties: Result<Parties, DeviceError>,
+    parties: Result<Parties<D>, DeviceError>,
     conductor: Result<Steering, DeviceError>,
     sender: Result<Agent, DeviceError>,
-) -> Result<Returned, DeviceError>
+) -> Result<Returned<D>, DeviceError>
     requires keeper { IfOk conductor (λ h. h.promise.log.value ≡ agents.now.context.now.state.now.log) }
     ensures parties { IfOk result (λ p. parties ≡ Ok p.parties) }
     ensures keeper { IfOk result (λ p. IsKept agents.now.context.now.state.now.log p.keeper) }

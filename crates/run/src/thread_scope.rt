@@ -1,16 +1,16 @@
 //! All threads, from their start to their end.
 
-ghost use Rattle.std.specs.Prelude.{◌≡◌, ◌≤◌, ◌<◌, ◌^◌, ◌+◌, [], ◌∷◌, ◌++◌, ℕ, IfOk, length, slice_index, slice_set, vec_len};
+ghost use Rattle.std.specs.Prelude.{◌≡◌, ◌≤◌, ◌<◌, ◌^◌, ◌+◌, [], ◌∷◌, ◌++◌, IfOk, map, slice_index, slice_set, vec_len};
 ghost use Rattle.std.specs.List.{AllByRecursion};
-ghost use Rattle.run.specs.Threads.{ArePasses, AreReturned, AreWaitingFrom, HaveCome, HaveEnded, IsSet, IsWaiting};
+ghost use Rattle.run.specs.Threads.{ArePasses, AreReturned, AreWaitingFrom, HaveCome, HaveEnded, IsSet, IsWaiting, device_of};
 
-use crate::passes::{Agents, Parties, Passes, Publications, Returned, Waiting};
-use crate::thread_joins::{gather, receiver_end, with_tally};
+use crate::passes::{Agents, Parties, Passes, Publications, Returned};
+use crate::thread_joins::{gather, received_of, with_received};
 use crate::thread_starts::{start_conductor, start_publisher, start_receiver, start_sender};
 use crate::watch::Watch;
 use conductor::Command;
 use endpoint::{Datagrams, DeviceError};
-use run_parties::{Gate, PUBLISHERS, Published};
+use run_parties::{Gate, PUBLISHERS, Published, Waiting};
 use shared_log::Publisher;
 use std::io::Write;
 use std::sync::Wait;
@@ -63,7 +63,7 @@ fn run_publishers<'s, S, R: Threads + Wait + Clock + Sync, G: Gate + Sync, E: Wr
     with_published(others?, published?)
 }
 
-/// Starts the threads of each receiver, the last one first, then those of the publishers, and joins all of them once all is to
+/// Starts the thread of each receiver, the last one first, then those of the publishers, and joins all of them once all is to
 /// stop.
 fn run_receivers<
     's,
@@ -78,22 +78,24 @@ fn run_receivers<
     mut waiting: Vec<Waiting<D>>,
     publishers: Vec<Publisher>,
     watch: &mut Watch<E>,
-) -> Result<Parties, DeviceError>
+) -> Result<Parties<D>, DeviceError>
     requires waiting { AreWaitingFrom agents.now.context.now.state.now.log.identity.geometry agents.now.size.receivers 0 waiting.items }
-    requires publishers { AllByRecursion (IsWaiting agents.now.context.now.state.now.log agents.now.size.publishers) publishers.items }
-    requires few { vec_len publishers ≤ 8 }
+    requires publishers { AllByRecursion (IsWaiting agents.now.context.now.state.now.log agents.now.size.publishers) publishers.items × (vec_len publishers ≤ 8) }
     requires set { IsSet agents.now.context.now.state.now.log agents.now.size }
-    ensures { IfOk result (HaveEnded agents.now.context.now.state.now.log agents.now.size publishers.items (vec_len waiting)) }
+    ensures { IfOk result (HaveEnded D.device D.tells agents.now.context.now.state.now.log agents.now.size publishers.items (map device_of waiting.items)) }
 {
     let Some(last) = waiting.pop() else {
         let published = run_publishers(scope, agents, publishers, watch)?;
-        let tallies = Vec::new(agents.context.alloc);
-        return Ok(Parties { published, tallies });
+        let received = Vec::new(agents.context.alloc);
+        return Ok(Parties {
+            published,
+            received,
+        });
     };
     let started = start_receiver(scope, agents, last);
     let parties = run_receivers(scope, agents, waiting, publishers, watch);
-    let tally = receiver_end(agents, started);
-    with_tally(parties, tally)
+    let received = received_of(agents, started);
+    with_received(parties, received)
 }
 
 /// Starts all threads, waits until all is to stop, and joins them.
@@ -109,10 +111,10 @@ fn run_in<
     agents: &'s Agents<'s, R, G>,
     passes: Passes<D>,
     mut watch: Watch<E>,
-) -> Result<Returned, DeviceError>
+) -> Result<Returned<D>, DeviceError>
     requires passes { ArePasses agents.now.context.now.state.now.log agents.now.context.now.state.now.conductor agents.now.size passes }
     requires set { IsSet agents.now.context.now.state.now.log agents.now.size }
-    ensures { IfOk result (λ r. AreReturned agents.now.context.now.state.now.log agents.now.size passes r) }
+    ensures { IfOk result (λ r. AreReturned D.device D.tells agents.now.context.now.state.now.log agents.now.size passes r) }
 {
     let Passes {
         publishers,
@@ -141,17 +143,17 @@ pub fn run_agents<
     D: Datagrams + Send + Drop,
     G: Gate + Sync,
     E: Write + Drop,
->(agents: &Agents<'_, R, G>, passes: Passes<D>, watch: Watch<E>) -> Result<Returned, DeviceError>
+>(agents: &Agents<'_, R, G>, passes: Passes<D>, watch: Watch<E>) -> Result<Returned<D>, DeviceError>
     requires passes { ArePasses agents.now.context.now.state.now.log agents.now.context.now.state.now.conductor agents.now.size passes }
     requires set { IsSet agents.now.context.now.state.now.log agents.now.size }
-    ensures { IfOk result (λ r. AreReturned agents.now.context.now.state.now.log agents.now.size passes r) }
+    ensures { IfOk result (λ r. AreReturned D.device D.tells agents.now.context.now.state.now.log agents.now.size passes r) }
 {
     thread::scope(
         thread::scope_env(),
         agents.context.rt,
-        move |scope| -> Result<Returned, DeviceError>
+        move |scope| -> Result<Returned<D>, DeviceError>
             requires { ArePasses agents.now.context.now.state.now.log agents.now.context.now.state.now.conductor agents.now.size passes × IsSet agents.now.context.now.state.now.log agents.now.size }
-            ensures { IfOk result (λ r. AreReturned agents.entry.now.context.now.state.now.log agents.entry.now.size passes r) }
+            ensures { IfOk result (λ r. AreReturned D.device D.tells agents.entry.now.context.now.state.now.log agents.entry.now.size passes r) }
         { run_in(scope, agents, passes, watch) },
     )
 }

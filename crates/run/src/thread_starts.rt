@@ -3,29 +3,23 @@
 //! What a thread promises is known of a closure that holds plain references, and not of one that holds a struct of them: so
 //! the context is taken apart before such a closure, and put together in it.
 
-ghost use Rattle.std.specs.Prelude.{◌≡◌, ◌≤◌, ◌<◌, ◌^◌, ℕ, IfOk, length};
-ghost use Rattle.std.specs.Arc.{arc_value};
-ghost use Rattle.endpoint.specs.declared.device_error.DeviceError.TheVariants.{Device};
+ghost use Rattle.std.specs.Prelude.{◌≡◌, ◌≤◌, ◌<◌, ◌^◌, IfOk, length};
 ghost use Rattle.shared_log.specs.Books.{IsDone};
 ghost use Rattle.shared_log.specs.Parts.{IsNewReader};
 ghost use Rattle.run_parties.specs.Messages.{HasPublished};
 ghost use Rattle.run_parties.specs.Passes.{IsKept};
-ghost use Rattle.run_parties.specs.Tallies.{IsTally};
-ghost use Rattle.theory.specs.Position.{Geometry};
-ghost use Rattle.run.specs.Threads.{IsSet, IsWaitingReceiver};
+ghost use Rattle.run_parties.specs.Receivers.{HasReceived, IsWaitingReceiver};
+ghost use Rattle.run.specs.Threads.{IsSet};
 
-use crate::passes::{Agents, Waiting};
-use agents::Named;
+use crate::passes::{Agents, Size};
 use conductor::{Client, Taker};
 use endpoint::{Datagrams, DeviceError, Fan};
 use run_parties::{
-    Context, Gate, Published, RunState, SharedReceiver, Tally, Task, publish, receive, send, steer,
-    subscribe,
+    Context, Gate, Published, Received, Task, Waiting, publish, run_receiver, send, steer,
 };
 use shared_log::{Keeper, Log, LogReader, Publisher};
-use std::marker::Brand;
 use std::snapshot::Snapshot;
-use std::sync::{Arc, Wait};
+use std::sync::Wait;
 use std::thread::{JoinHandle, Promise, PromisedHandle, Scope, Threads};
 use std::time::Clock;
 
@@ -51,17 +45,20 @@ impl Promise<Keeper> for KeeperBack {
     ghost kept_by = { λ p k. IsKept p.log.value k };
 }
 
-/// A thread gives the tally of what was polled, of at most so many messages.
+/// A thread gives what its receiver has left: one of so many, by its number.
 #[derive(Drop)]
-pub struct TallyOf {
-    pub wanted: u64,
+pub struct ReceiverBack<D> {
+    pub log: Snapshot<Log>,
+    pub size: Size,
+    pub number: u64,
+    pub device: Snapshot<D>,
 }
 
-impl Promise<Result<Tally, DeviceError>> for TallyOf {
-    ghost kept_by = { λ p r. IfOk r (λ tally. (tally.polled ≤ p.wanted) × IsTally tally) };
+impl<D: Datagrams> Promise<Result<Received<D>, DeviceError>> for ReceiverBack<D> {
+    ghost kept_by = { λ p r. IfOk r (HasReceived D.device D.tells p.log.value.identity.geometry p.size.receivers p.size.wanted p.number p.device.value) };
 }
 
-/// The thread of a sender, or of a receiver.
+/// The thread of the sender.
 pub type Agent = JoinHandle<Result<(), DeviceError>>;
 
 /// The thread of a publisher.
@@ -70,22 +67,10 @@ pub type Publishing = PromisedHandle<Result<Published, DeviceError>, PublisherBa
 /// The thread of the conductor.
 pub type Steering = PromisedHandle<Keeper, KeeperBack>;
 
-/// The thread of a subscriber.
-pub type Subscribing = PromisedHandle<Result<Tally, DeviceError>, TallyOf>;
-
-/// The threads of a receiver, of which one may not have been started.
+/// The thread of a receiver.
 #[derive(Drop)]
-pub struct Receiving {
-    pub agent: Result<Agent, DeviceError>,
-    pub subscriber: Result<Subscribing, DeviceError>,
-}
-
-/// No thread could be started: that stops all.
-fn halted(state: &RunState) -> DeviceError
-    ensures { result ≡ Device }
-{
-    state.stop();
-    DeviceError::Device
+pub struct Receiving<D: Datagrams> {
+    pub handle: PromisedHandle<Result<Received<D>, DeviceError>, ReceiverBack<D>>,
 }
 
 /// Starts the thread of a publisher.
@@ -121,7 +106,7 @@ pub fn start_publisher<'s, S, R: Clock + Sync, G: Gate + Sync>(
         };
         publish(&context, task, publisher)
     }) else {
-        return Err(halted(state));
+        return Err(state.halt());
     };
     Ok(handle)
 }
@@ -140,48 +125,30 @@ pub fn start_sender<'s, S, R: Wait + Clock + Sync, D: Datagrams + Send + Drop + 
     requires queue { client.queue ≡ agents.now.context.now.state.now.conductor }
 {
     let Ok(handle) = scope.spawn(move || send(agents.context, device, reader, client)) else {
-        return Err(halted(agents.context.state));
+        return Err(agents.context.state.halt());
     };
     Ok(handle)
 }
 
-/// Starts the thread of a receiver's agent.
-fn start_agent<
+/// Starts the thread of a receiver, which starts its subscriber's.
+pub fn start_receiver<
     's,
     S,
-    N: Named + Send + 's,
-    R: Wait + Clock + Sync,
+    R: Threads + Wait + Clock + Sync,
     D: Datagrams + Send + Drop + 's,
     G: Gate + Sync,
 >(
     scope: &'s Scope<'s, S>,
     agents: &'s Agents<'s, R, G>,
-    receiver: Arc<SharedReceiver<N>>,
-    number: u64,
-    device: D,
-) -> Result<Agent, DeviceError>
-    requires { arc_value (arc_value receiver).counters ≡ N.counters }
+    waiting: Waiting<D>,
+) -> Result<Receiving<D>, DeviceError>
+    requires waits { IsWaitingReceiver agents.now.context.now.state.now.log.identity.geometry agents.now.size.receivers waiting.number waiting }
+    requires set { IsSet agents.now.context.now.state.now.log agents.now.size }
+    ensures log { IfOk result (λ r. (r.handle.promise.log.value ≡ agents.now.context.now.state.now.log) × (r.handle.promise.size ≡ agents.now.size)) }
+    ensures who { IfOk result (λ r. (r.handle.promise.number ≡ waiting.number) × (r.handle.promise.device.value ≡ waiting.device)) }
 {
-    let Ok(handle) = scope.spawn(
-        move || -> Result<(), DeviceError>
-            requires { arc_value (arc_value receiver).counters ≡ N.counters }
-        { receive(agents.context, &receiver, number, device) },
-    ) else {
-        return Err(halted(agents.context.state));
-    };
-    Ok(handle)
-}
-
-/// Starts the thread of a subscriber.
-fn start_subscriber<'s, S, N: Named + Send + 's, R: Wait + Clock + Sync, G: Gate + Sync>(
-    scope: &'s Scope<'s, S>,
-    agents: &'s Agents<'s, R, G>,
-    receiver: Arc<SharedReceiver<N>>,
-) -> Result<Subscribing, DeviceError>
-    requires { IsSet agents.now.context.now.state.now.log agents.now.size }
-    ensures { IfOk result (λ h. h.promise.wanted ≡ agents.now.size.wanted) }
-{
-    let wanted = agents.size.wanted;
+    let size = agents.size;
+    let number = waiting.number;
     let &Context {
         rt,
         alloc,
@@ -189,11 +156,17 @@ fn start_subscriber<'s, S, N: Named + Send + 's, R: Wait + Clock + Sync, G: Gate
         gate,
         turns,
     } = agents.context;
+    let promise = ReceiverBack {
+        log: Snapshot::of(&state.log),
+        size,
+        number,
+        device: Snapshot::of(&waiting.device),
+    };
     let Ok(handle) = scope.spawn_with(
-        TallyOf { wanted },
-        move || -> Result<Tally, DeviceError>
-            requires { wanted < 2 ^ 63 }
-            ensures { IfOk result (λ tally. (tally.polled ≤ wanted) × IsTally tally) }
+        promise,
+        move || -> Result<Received<D>, DeviceError>
+            requires { IsWaitingReceiver state.now.log.identity.geometry size.receivers waiting.number waiting × (size.wanted < 2 ^ 63) }
+            ensures { IfOk result (HasReceived D.device D.tells state.entry.now.log.identity.geometry size.receivers size.wanted waiting.number waiting.device) }
         {
             let context = Context {
                 rt,
@@ -202,83 +175,12 @@ fn start_subscriber<'s, S, N: Named + Send + 's, R: Wait + Clock + Sync, G: Gate
                 gate,
                 turns,
             };
-            subscribe(&context, &receiver, wanted)
+            run_receiver(scope, &context, size.receivers, size.wanted, waiting)
         },
     ) else {
-        return Err(halted(state));
+        return Err(state.halt());
     };
-    Ok(handle)
-}
-
-/// Two owners of what a receiver's threads share. Where memory is refused all stops.
-fn shared_twice<N: Named, R, G>(
-    agents: &Agents<'_, R, G>,
-    receiver: SharedReceiver<N>,
-) -> Result<(Arc<SharedReceiver<N>>, Arc<SharedReceiver<N>>), DeviceError>
-    ensures { IfOk result (λ p. arc_value p.0 ≡ receiver) }
-{
-    let state = agents.context.state;
-    let Ok(one) = Arc::new(agents.context.alloc, receiver) else {
-        state.stop();
-        return Err(DeviceError::Memory);
-    };
-    let Ok(other) = Arc::try_clone(&one) else {
-        state.stop();
-        return Err(DeviceError::Memory);
-    };
-    Ok((one, other))
-}
-
-/// Starts the two threads of a receiver whose counters have this name.
-fn start_named<
-    's,
-    S,
-    N: Named + Send + 's,
-    R: Wait + Clock + Sync,
-    D: Datagrams + Send + Drop + 's,
-    G: Gate + Sync,
->(
-    scope: &'s Scope<'s, S>,
-    agents: &'s Agents<'s, R, G>,
-    waiting: Waiting<D>,
-) -> Result<Receiving, DeviceError>
-    requires waits { (g : Geometry) × (count : ℕ) × (n : ℕ) × IsWaitingReceiver g count n waiting }
-    requires named { arc_value waiting.counters ≡ N.counters }
-    requires set { IsSet agents.now.context.now.state.now.log agents.now.size }
-    ensures { IfOk result (λ r. IfOk r.subscriber (λ h. h.promise.wanted ≡ agents.now.size.wanted)) }
-{
-    let Waiting {
-        number,
-        subscriber,
-        counters,
-        writer,
-        device,
-    } = waiting;
-    let receiver = SharedReceiver::<N>::new(subscriber, writer, counters);
-    let (one, other) = shared_twice(agents, receiver)?;
-    Ok(Receiving {
-        agent: start_agent(scope, agents, one, number, device),
-        subscriber: start_subscriber(scope, agents, other),
-    })
-}
-
-/// Starts the two threads of a receiver, its agent's and its subscriber's.
-pub fn start_receiver<
-    's,
-    S,
-    R: Wait + Clock + Sync,
-    D: Datagrams + Send + Drop + 's,
-    G: Gate + Sync,
->(
-    scope: &'s Scope<'s, S>,
-    agents: &'s Agents<'s, R, G>,
-    waiting: Waiting<D>,
-) -> Result<Receiving, DeviceError>
-    requires waits { (g : Geometry) × (count : ℕ) × (n : ℕ) × IsWaitingReceiver g count n waiting }
-    requires set { IsSet agents.now.context.now.state.now.log agents.now.size }
-    ensures { IfOk result (λ r. IfOk r.subscriber (λ h. h.promise.wanted ≡ agents.now.size.wanted)) }
-{
-    start_named::<S, Brand, R, D, G>(scope, agents, waiting)
+    Ok(Receiving { handle })
 }
 
 /// Starts the thread of the conductor.
@@ -312,7 +214,7 @@ pub fn start_conductor<'s, S, R: Wait + Clock + Sync, G: Gate + Sync>(
         };
         steer(&context, keeper, taker)
     }) else {
-        return Err(halted(state));
+        return Err(state.halt());
     };
     Ok(handle)
 }

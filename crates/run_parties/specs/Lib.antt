@@ -3,5 +3,7 @@ pub mod Groups
 pub mod Messages
 pub mod Passes
 pub mod Receivers
+pub mod Receptions
 pub mod RunLogs
+pub mod Runs
 pub mod Tallies

@@ -10,10 +10,15 @@
 //! (`message_of`). What a publisher has claimed more is its messages 0, 1, 2 and so on, as many as it tells were accepted,
 //! each committed whole, and paddings (`publish`, by `HasPublished`).
 //!
-//! A tally of messages tells how many they are, and whether each publisher's are its 0, 1, 2 and so on
-//! (`Tally::take`, `polled`, `is_in_order`; `IsTallyOf`, `AreInOrder`); the subscriber's is one, and counts no more than
-//! was wanted. A subscriber that has polled all lets the others go on, unless it is the last one (`ends_all`). What the
-//! threads tell one another by what they share isn't said, nor that one gets on.
+//! A receiver's cycles over its device and its subscriber's polls are one life, in the order in which they took its lock: it
+//! began as a receiver that has met nothing, the datagrams that it heard are those that its device has handed over, where that
+//! tells them, and the tally is that of the messages that the polls gave (`SharedReceiver::open`, by `EndsLife`, `HasLived`).
+//! A message that is refused as too long isn't one of them, and the polls go on behind it (`Deed`). Where none was, and each
+//! datagram is honest for a stream of the run's ids, those messages are a run of the stream's, from the join on
+//! (`gives_a_run`). A tally of messages tells how many they are, and whether each publisher's are its 0, 1, 2 and so on
+//! (`Tally::take`, `polled`, `is_in_order`; `IsTallyOf`, `AreInOrder`); the subscriber's counts no more than was
+//! wanted. A subscriber that has polled all lets the others go on, unless it is the last one (`ends_all`). What the
+//! threads tell one another by what else they share isn't said, nor that one gets on.
 #![tactic(auto)]
 
 mod conductor_turns;
@@ -22,9 +27,12 @@ mod devices;
 mod gate;
 mod group;
 mod publisher_turns;
+mod receiver_threads;
 mod receiver_turns;
+mod reception;
 mod run_log;
 mod run_state;
+mod runs;
 mod sender_turns;
 mod shared_receiver;
 mod subscriber_turns;
@@ -36,9 +44,12 @@ pub use devices::{LossyDevices, lossy_devices};
 pub use gate::{Gate, Open, Role};
 pub use group::receiver_id;
 pub use publisher_turns::{Published, Task, publish};
+pub use receiver_threads::{Waiting, run_receiver};
 pub use receiver_turns::receive;
+pub use reception::{Begins, Received};
 pub use run_log::{RunLog, open_run_log};
 pub use run_state::{Done, RunState};
+pub use runs::gives_a_run;
 pub use sender_turns::send;
 pub use shared_receiver::{ReceiverParts, SharedReceiver, receiver_parts};
 pub use subscriber_turns::subscribe;

@@ -5,40 +5,34 @@ ghost use Rattle.std.specs.Arc.{arc_value};
 
 use crate::context::Context;
 use crate::gate::{Gate, Role};
+use crate::reception::Begins;
 use crate::shared_receiver::SharedReceiver;
-use agents::{Duty, IdleStrategy, Named, REPLY};
+use agents::{IdleStrategy, Named};
 use endpoint::{Datagrams, DeviceError};
 use std::sync::Wait;
 use std::time::Clock;
 
 /// A cycle, under the lock.
-fn receive_once<N: Named, R: Wait + Clock, D: Datagrams, G>(
+fn receive_once<N: Named + Begins, R: Wait + Clock, D: Datagrams, G>(
     context: &Context<'_, R, G>,
-    receiver: &SharedReceiver<N>,
-    duty: &mut Duty<D>,
+    receiver: &SharedReceiver<N, D>,
 ) -> Result<bool, DeviceError>
-    requires counters { arc_value receiver.now.counters ≡ N.counters }
-    requires size { duty.old.mtu ≡ 40 }
-    ensures { duty.new.mtu ≡ duty.old.mtu }
+    requires { arc_value receiver.now.counters ≡ N.counters }
 {
     let rt = context.rt;
-    let now = context.state.began.moment(rt)?;
-    receiver
-        .agent
-        .lock(rt)
-        .cycle(rt, &receiver.counters, duty, now)
+    let now = context.state.moment(rt)?;
+    let mut reception = receiver.reception.lock(rt);
+    reception.cycle(rt, &receiver.counters, now)
 }
 
 /// Receives until all is to stop, or its turns are used.
-fn receive_on<N: Named, R: Wait + Clock, D: Datagrams + Drop, G: Gate>(
+fn receive_on<N: Named + Begins, R: Wait + Clock, D: Datagrams, G: Gate>(
     context: &Context<'_, R, G>,
-    receiver: &SharedReceiver<N>,
+    receiver: &SharedReceiver<N, D>,
     number: u64,
-    device: D,
 ) -> Result<(), DeviceError>
     requires { arc_value receiver.now.counters ≡ N.counters }
 {
-    let mut duty = Duty::new(context.alloc, device, REPLY)?;
     let role = Role::Receiver(number);
     let mut idle = IdleStrategy::new();
     for turn in 0..context.turns {
@@ -46,7 +40,7 @@ fn receive_on<N: Named, R: Wait + Clock, D: Datagrams + Drop, G: Gate>(
             break;
         }
         context.gate.enter(role, turn);
-        let ended = receive_once(context, receiver, &mut duty);
+        let ended = receive_once(context, receiver);
         context.gate.leave(role, turn);
         idle.after(context.rt, ended?);
     }
@@ -55,15 +49,14 @@ fn receive_on<N: Named, R: Wait + Clock, D: Datagrams + Drop, G: Gate>(
 
 /// The receiver of this number receives until all is to stop or its turns are used, and then stops all. The fault is `Device` where the device failed or
 /// the clock can't be read, and `Memory` where memory was refused; it stops all, too.
-pub fn receive<N: Named, R: Wait + Clock, D: Datagrams + Drop, G: Gate>(
+pub fn receive<N: Named + Begins, R: Wait + Clock, D: Datagrams, G: Gate>(
     context: &Context<'_, R, G>,
-    receiver: &SharedReceiver<N>,
+    receiver: &SharedReceiver<N, D>,
     number: u64,
-    device: D,
 ) -> Result<(), DeviceError>
     requires { arc_value receiver.now.counters ≡ N.counters }
 {
-    let ended = receive_on(context, receiver, number, device);
+    let ended = receive_on(context, receiver, number);
     context.state.stop();
     ended
 }

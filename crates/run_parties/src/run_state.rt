@@ -1,19 +1,22 @@
 //! What the threads of a run share.
 
-ghost use Rattle.std.specs.Prelude.{◌≡◌};
+ghost use Rattle.std.specs.Prelude.{◌≡◌, IfErr};
+ghost use Rattle.endpoint.specs.declared.device_error.DeviceError.TheVariants.{Device};
 ghost use Rattle.run_parties.specs.Groups.{ends_all};
 
 use agents::Began;
 use conductor::Conductor;
+use endpoint::DeviceError;
 use shared_log::Log;
 use std::sync::atomic::{AtomicBool, AtomicU64, Ordering};
+use std::time::Clock;
 
 /// The log, the command queue, the moment of the begin, whether all is to stop, and what was done so far.
 #[derive(Drop)]
 pub struct RunState {
     pub log: Log,
     pub conductor: Conductor,
-    pub(crate) began: Began,
+    began: Began,
     stopped: AtomicBool,
     /// How many subscribers haven't ended.
     left: AtomicU64,
@@ -62,9 +65,24 @@ impl RunState {
         self.log
     }
 
+    /// How many nanoseconds have passed since the begin. The fault is `Device` where the clock can't be read.
+    pub fn moment<R: Clock>(&self, rt: &R) -> Result<u64, DeviceError>
+        ensures { IfErr result (λ error. error ≡ Device) }
+    {
+        self.began.moment(rt)
+    }
+
     /// Lets all threads end after their turns.
     pub fn stop(&self) {
         self.stopped.store(true, Ordering::SeqCst);
+    }
+
+    /// No thread could be started: that stops all.
+    pub fn halt(&self) -> DeviceError
+        ensures { result ≡ Device }
+    {
+        self.stop();
+        DeviceError::Device
     }
 
     pub fn is_stopped(&self) -> bool {

@@ -31,7 +31,7 @@ fn send_once<R: Wait + Clock, D: Ways, G>(
     ensures queue { client.new.queue ≡ client.old.queue }
 {
     let (rt, state) = (context.rt, context.state);
-    let now = state.began.moment(rt)?;
+    let now = state.moment(rt)?;
     let busy = agent.cycle_ways(rt, &state.conductor, client, duty, now)?;
     state.tell_sent(duty.device().sent(), duty.device().resent());
     Ok(busy)

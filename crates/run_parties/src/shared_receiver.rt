@@ -1,15 +1,16 @@
 //! A receiver of a run, its subscriber and its counters.
 
-ghost use Rattle.std.specs.Prelude.{◌≡◌, None, IfOk};
-ghost use Rattle.std.specs.Arc.{arc_value};
+ghost use Rattle.std.specs.Prelude.{◌≡◌, ◌≤◌, None, IfOk};
 ghost use Rattle.counters.specs.Order.{zeros};
-ghost use Rattle.receiver.specs.Receiving.{Receiver};
 ghost use Rattle.receiver.specs.Subscribing.{RepresentsSubscriber};
 ghost use Rattle.run_parties.specs.Receivers.{AreReceiverParts, new_receiver};
+ghost use Rattle.run_parties.specs.Receptions.{EndsLife};
 
+use crate::reception::{Begins, Received, Reception};
 use crate::run_log::{SESSION, STREAM};
-use agents::{Named, ReceiverAgent};
+use agents::{Duty, Named};
 use counters::{CounterReader, CounterWriter, Counters};
+use endpoint::{Datagrams, DeviceError};
 use position::Geometry;
 use receiver::{ReceiverCore, Subscriber};
 use std::alloc::{AllocError, Global};
@@ -24,29 +25,44 @@ pub struct ReceiverParts {
     pub reader: CounterReader,
 }
 
-/// The agent of a receiver with its subscriber, and the counters that it writes: what their two threads share.
+/// A receiver with its device and its subscriber's tally under a lock, and the counters that it writes: what its two threads
+/// share.
 #[derive(Drop)]
-pub struct SharedReceiver<N: Named> {
-    pub agent: Mutex<ReceiverAgent<N>>,
+pub struct SharedReceiver<N: Named + Begins, D: Datagrams> {
+    pub(crate) reception: Mutex<Reception<N, D>>,
     pub counters: Arc<Counters>,
 }
 
-impl<N: Named> SharedReceiver<N> {
-    /// Puts a subscriber that has no image and counters at zero together.
+impl<N: Named + Begins, D: Datagrams> SharedReceiver<N, D> {
+    /// Puts a subscriber that has no image, counters at zero and a device together.
     pub fn new(
         subscriber: Subscriber,
         writer: CounterWriter,
         counters: Arc<Counters>,
-    ) -> SharedReceiver<N>
-        requires image { (r : Receiver) × RepresentsSubscriber subscriber r × (r.image ≡ None) }
+        duty: Duty<D>,
+    ) -> SharedReceiver<N, D>
+        requires receiver { RepresentsSubscriber subscriber N.receiver × (N.receiver.image ≡ None) }
         requires nothing { writer.last ≡ zeros }
         requires writer { writer.counters ≡ N.counters }
+        requires size { duty.mtu ≡ 40 }
+        requires device { (D.device duty.device ≡ N.device) × (N.tells → D.tells duty.device) }
         ensures { result.counters ≡ counters }
     {
         SharedReceiver {
-            agent: Mutex::new(ReceiverAgent::new(subscriber, writer)),
+            reception: Mutex::new(Reception::new(subscriber, writer, duty)),
             counters,
         }
+    }
+
+    /// What its threads have left, where both have ended: its subscriber has lived through all that its device handed over, and
+    /// its tally is of the messages that its polls gave. The fault is the last one that a thread had.
+    pub fn open(self) -> Result<Received<D>, DeviceError>
+    where
+        D: Drop,
+        ensures lived { IfOk result (λ r. EndsLife N.receiver N.tells N.device (D.device r.device) r.tally) }
+        ensures most { IfOk result (λ r. r.tally.polled ≤ N.wanted) }
+    {
+        self.reception.into_inner().end()
     }
 }
 

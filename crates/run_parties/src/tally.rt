@@ -71,6 +71,17 @@ impl Tally {
         self.polled = self.polled.wrapping_add(1);
     }
 
+    /// The same once more.
+    pub(crate) fn again(&self) -> Tally
+        ensures { result ≡ self.now }
+    {
+        Tally {
+            polled: self.polled,
+            kept: self.kept,
+            counts: self.counts,
+        }
+    }
+
     /// How many messages were taken.
     pub fn polled(&self) -> u64
         ensures { result ≡ self.now.polled }

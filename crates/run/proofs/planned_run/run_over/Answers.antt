@@ -1,12 +1,23 @@
-use Rattle.std.proofs.Common.{subst, sym}
-use Rattle.run.specs.Beginnings.{CanClose}
+use Rattle.std.proofs.Common.{◌∙◌, ap, length, subst, sym, arith}
 use Rattle.run.specs.Outcomes.{size_of}
-use Rattle.run.specs.declared.passes.Size.{Size}
-use Rattle.run.proofs.Closing.{can_close}
+use Rattle.run.proofs.Closing.{all_received, can_close}
+use Rattle.run.proofs.Receivers.{received_many, told_polled}
 use Rattle.run.proofs.planned_run.run_over.Goals as goal
 
 pub left-requires-clause-closes : goal.left-requires-clause-closes
 left-requires-clause-closes g c =
     let plan = c.args.plan.now in
-    subst (λ (s : Size). CanClose c.into_log.result s c.in_ok-returned.returned c.in_ok-state.field-0.others.items) (sym c.size_of.ensures.value)
-    (can_close plan.geometry (size_of plan) c.in_ok-state.field-0 _ _ c.in_ok-state.ensures.begins c.in_ok-returned.ensures c.into_log.ensures)
+    can_close g.D.Datagrams.device g.D.Datagrams.tells plan.geometry (size_of plan) c.in_ok-state.field-0 _ _ c.in_ok-state.ensures.begins c.in_ok-returned.ensures c.into_log.ensures
+
+pub left-requires-clause-many : goal.left-requires-clause-many
+left-requires-clause-many g c =
+    let plan = c.args.plan.now in
+    let all = all_received g.D.Datagrams.device g.D.Datagrams.tells plan c.in_ok-state.field-0 c.in_ok-returned.returned c.in_ok-state.ensures.begins c.in_ok-returned.ensures in
+    let many = received_many g.D.Datagrams.device g.D.Datagrams.tells plan.geometry (size_of plan) 0 _ _ all in
+    let were = ap length c.in_ok-state.ensures.devices in
+    omega (arith, many, were, c.args.devices.1.ok.0, c.requires.replies)
+
+pub left-requires-clause-polled : goal.left-requires-clause-polled
+left-requires-clause-polled g c =
+    let plan = c.args.plan.now in
+    told_polled g.D.Datagrams.device g.D.Datagrams.tells plan.geometry (size_of plan) 0 _ _ (all_received g.D.Datagrams.device g.D.Datagrams.tells plan c.in_ok-state.field-0 c.in_ok-returned.returned c.in_ok-state.ensures.begins c.in_ok-returned.ensures)
