@@ -1,3 +1,4 @@
 pub mod Streams
 mod Runs
 mod Both
+mod Tallies

@@ -6,12 +6,17 @@
 //! and each any number of times, what `subscribe` writes is what these images gave, each a run of what was read, and its
 //! beginning where the image joined at the start (`writes_what_is_read`).
 //!
+//! In a driver's run a subscriber that was handed datagrams alone that are honest for a stream, refused no message, and has
+//! tallied as many as the stream has, has tallied all of its messages, in their order (`tallies_all`).
+//!
 //! That the claims tile a stream is a premise, and that the sender's reader knows no frames but its own: both are what the log's
 //! rule says of a log with one publisher, and no contract of a pass alone. That a device carries what it was given is another.
 #![tactic(auto)]
 
 ghost use Rattle.channel_meaning.specs.Streams.{PublishesItsStream, WritesWhatIsRead};
+ghost use Rattle.channel_meaning.specs.Tallies.{TalliesAll};
 
+use run_parties::gives_a_run;
 use sender_meaning::polls_what_is_sent;
 
 /// A law: the messages of the stream that a pass published are those that were read.
@@ -26,4 +31,13 @@ pub fn writes_what_is_read()
     // Laws that the proof cites.
     publishes_its_stream();
     polls_what_is_sent();
+}
+
+/// A law: a run's subscriber that was handed honest datagrams alone, and has tallied as many messages as the stream has, has tallied
+/// all of them, in their order.
+pub fn tallies_all()
+    ensures { TalliesAll }
+{
+    // A law that the proof cites.
+    gives_a_run();
 }

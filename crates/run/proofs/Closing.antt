@@ -28,10 +28,9 @@ use Rattle.run.specs.declared.passes.Returned.{Returned}
 use Rattle.run.specs.declared.passes.Size.{Size}
 use Rattle.options.specs.declared.run.made.Plan.{Plan}
 use Rattle.run.specs.declared.planned_run.Beginning.{Beginning}
-use Rattle.run.specs.declared.planned_run.RunEnd.{RunEnd}
-use Rattle.run.specs.Threads.{AreCounted, AreReturned, HaveReceivedFrom, IsBack, accepted_as, device_of}
-use Rattle.run.specs.Beginnings.{CanClose, IsBeginning, Leaves}
-use Rattle.run.specs.Outcomes.{IsBook, PublishersPublish, ReceiversLive, is_message_of, size_of}
+use Rattle.run.specs.Threads.{AreReturned, HaveReceivedFrom, IsBack, accepted_as, device_of}
+use Rattle.run.specs.Beginnings.{CanClose, IsBeginning}
+use Rattle.run.specs.Outcomes.{IsBook, is_message_of, size_of}
 use Rattle.run.proofs.Counting.{no_more}
 
 -- the same parts one by one are the same in all
@@ -208,31 +207,3 @@ shown l size p k others all book is there shows =
 pub all_received : {D : Type 0} (device : D → Device) (tells : D → Type 0) (plan : Plan) (b : Beginning D) (r : Returned D) → IsBeginning plan.geometry (size_of plan) b → AreReturned device tells b.state.log (size_of plan) b.passes r
     → HaveReceivedFrom device tells plan.geometry (size_of plan) 0 (map device_of b.passes.receivers.items) r.parties.received.items
 all_received device tells plan b r is back = subst (λ (g : Geometry). HaveReceivedFrom device tells g (size_of plan) 0 (map device_of b.passes.receivers.items) r.parties.received.items) is.shape back.parties.received
-
--- each receiver over its device
-pub all_live : {D : Type 0} (device : D → Device) (tells : D → Type 0) (plan : Plan) (b : Beginning D) (l : LogValue) (r : Returned D) (e : RunEnd D) (before : List D) → IsBeginning plan.geometry (size_of plan) b → AreReturned device tells b.state.log (size_of plan) b.passes r
-    → Leaves l r b.others.items e → map device_of b.passes.receivers.items ≡ before → ReceiversLive device tells plan before e.replies.items e.outcome.tallies.items
-all_live device tells plan b l r e before is back leaves were = record {
-  received = r.parties.received.items;
-  devices = leaves.replies;
-  tallies = leaves.tallies;
-  lived = subst (λ ds. HaveReceivedFrom device tells plan.geometry (size_of plan) 0 ds r.parties.received.items) were (all_received device tells plan b r is back);
-}
-
--- and each publisher
-pub all_publish : {D : Type 0} (device : D → Device) (tells : D → Type 0) (plan : Plan) (b : Beginning D) (l : LogValue) (r : Returned D) (e : RunEnd D) → IsBeginning plan.geometry (size_of plan) b → AreReturned device tells b.state.log (size_of plan) b.passes r
-    → l ≡ b.state.log → Leaves l r b.others.items e → PublishersPublish plan e.outcome
-all_publish device tells plan b l r e is back same leaves = record {
-  log = b.state.log;
-  log_is = is.log_is;
-  shape = is.shape;
-  waiting = b.passes.publishers.items;
-  back = r.parties.published.publishers.items;
-  others = b.others.items;
-  many = is.passes.many;
-  new = is.passes.publishers;
-  published = back.parties.published.published;
-  counted = subst (λ ns. AreCounted ns r.parties.published.publishers.items) (sym leaves.accepted) back.parties.published.counted;
-  unclaimed = is.unclaimed;
-  book = subst (λ (x : LogValue). ShowsBook x (r.parties.published.publishers.items ++ b.others.items) e.outcome.book) same leaves.book;
-}

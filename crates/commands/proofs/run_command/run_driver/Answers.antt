@@ -5,7 +5,7 @@ returns g c = record {
   plan = c.in_ok-plan.plan;
   planned = c.in_ok-plan.ensures.made;
   outcome = c.in_ok-outcome.outcome;
-  left = c.in_ok-outcome.ensures;
+  left = c.in_ok-outcome.ensures.outcome;
   ended = c.ending.ensures;
   written = c.in_ok-show_outcome.ensures.done;
 }
