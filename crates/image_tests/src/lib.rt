@@ -6,6 +6,8 @@
 #[cfg(test)]
 mod alike;
 #[cfg(test)]
+mod given_away;
+#[cfg(test)]
 mod images;
 #[cfg(test)]
 mod map_image;
