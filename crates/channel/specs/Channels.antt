@@ -81,6 +81,15 @@ pub record IsToAddress (old : Transport) (a : IpAddr) (new : Transport) : Type 0
   pub is : new ≡ to_address old a
   pub fit : IsFit new
 
+-- the same to this endpoint
+abbrev pub to_endpoint : Transport → Endpoint → Transport
+to_endpoint t e = record t { endpoint = e }
+
+-- the same to this endpoint, which goes with what else is named
+pub record IsToEndpoint (old : Transport) (e : Endpoint) (new : Transport) : Type 0 where
+  pub is : new ≡ to_endpoint old e
+  pub fit : IsFit new
+
 -- ---- a channel
 
 -- to this endpoint, and else as it was set

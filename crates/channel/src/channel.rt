@@ -3,7 +3,7 @@
 ghost use Rattle.std.specs.Prelude.{◌≡◌, IfOk, IfErr, IfSome, IfNone, IsOkAnd};
 ghost use Rattle.channel.specs.Settings.{Sets, nothing};
 ghost use Rattle.channel.specs.declared.channel.Channel.{Channel};
-ghost use Rattle.channel.specs.Channels.{IsChannel, IsEndFault, IsFaultAmong, IsFirstFault, IsFit, IsMadeOf, IsToAddress, has_lost_ttl, is_mixed, names_ipv4, names_ipv6, parts, start_of, to_address};
+ghost use Rattle.channel.specs.Channels.{IsChannel, IsEndFault, IsFaultAmong, IsFirstFault, IsFit, IsMadeOf, IsToAddress, IsToEndpoint, has_lost_ttl, is_mixed, names_ipv4, names_ipv6, parts, start_of, to_address, to_endpoint};
 
 use crate::endpoint::{Endpoint, part_setting};
 use crate::fault::ChannelFault;
@@ -42,6 +42,22 @@ impl Transport {
                 host: Host::Address(address),
                 port: self.endpoint.port,
             },
+            interface: self.interface,
+            ttl: self.ttl,
+        };
+        if transport.is_mixed() || transport.has_lost_ttl() {
+            return None;
+        }
+        Some(transport)
+    }
+
+    /// The same to this endpoint, if its family goes with what else is named.
+    pub fn to_endpoint(&self, endpoint: &Endpoint) -> Option<Transport>
+        ensures found { IfSome result (IsToEndpoint self.now endpoint.now) }
+        ensures none { IfNone result (¬ IsFit (to_endpoint self.now endpoint.now)) }
+    {
+        let transport = Transport {
+            endpoint: *endpoint,
             interface: self.interface,
             ttl: self.ttl,
         };

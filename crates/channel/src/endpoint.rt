@@ -1,6 +1,6 @@
 //! Where the datagrams go, and what a part sets.
 
-ghost use Rattle.std.specs.Prelude.{◌≡◌, IfOk, IfErr, IfSome, IfNone, Some, false};
+ghost use Rattle.std.specs.Prelude.{◌≡◌, ◌↔◌, IfOk, IfErr, IfSome, IfNone, IsTrue, Some, false};
 ghost use Rattle.channel.specs.declared.endpoint.Endpoint.{Endpoint as AnyEndpoint};
 ghost use Rattle.channel.specs.Channels.{IsPartFault};
 ghost use Rattle.channel.specs.Settings.{Cuts, HasNoValue, IsEndpoint, IsNotCut, IsValueOf, Says, is_set, parameter_of};
@@ -19,6 +19,15 @@ pub struct Endpoint {
     pub port: u16,
 }
 
+impl Endpoint {
+    /// Whether the other is the same: the same port at the same address, or at a host of the same name, as both were spelled.
+    pub fn is(&self, other: &Endpoint) -> bool
+        ensures { IsTrue result ↔ (self.now ≡ other.now) }
+    {
+        self.port == other.port && self.host.is(&other.host)
+    }
+}
+
 /// What stands before the last colon, and behind it.
 fn cut(value: &str) -> Option<(&str, &str)>
     ensures cut { IfSome result (λ c. Cuts value.now c.0.now c.1.now) }
@@ -28,7 +37,7 @@ fn cut(value: &str) -> Option<(&str, &str)>
 }
 
 /// The endpoint that a text is: a host, a colon, and a number from 1 to 65,535.
-fn endpoint_in(value: &str) -> Option<Endpoint>
+pub fn endpoint_in(value: &str) -> Option<Endpoint>
     ensures found { IfSome result (IsEndpoint value.now) }
     ensures none { IfNone result ((e : AnyEndpoint) → IsEndpoint value.now e → ⊥) }
 {

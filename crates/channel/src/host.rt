@@ -51,6 +51,13 @@ impl Name {
         self.length == 9 && self.bytes.starts_with(b"localhost")
     }
 
+    /// Whether the other is spelled so, too.
+    fn is(&self, other: &Name) -> bool
+        ensures { IsTrue result ↔ (self.now ≡ other.now) }
+    {
+        self.length == other.length && self.bytes == other.bytes
+    }
+
     /// As it was spelled.
     pub fn text(&self) -> &str
         ensures { (text : List ℕ) → IsNamed text self.now → IsName text → result.now ≡ text }
@@ -87,6 +94,17 @@ fn is_here_at(address: IpAddr) -> bool
 }
 
 impl Host {
+    /// Whether the other is the same address, or the same name.
+    pub(crate) fn is(&self, other: &Host) -> bool
+        ensures { IsTrue result ↔ (self.now ≡ other.now) }
+    {
+        match (self, other) {
+            (Host::Address(address), Host::Address(other)) => address == other,
+            (Host::Name(name), Host::Name(other)) => name.is(other),
+            _ => false,
+        }
+    }
+
     /// Whether it is this machine by what is spelled: an address of 127.0.0.0/8, `::1`, or the name `localhost`.
     pub fn is_here(&self) -> bool
         ensures { result ≡ is_here self.now }

@@ -24,7 +24,7 @@ mod settings;
 mod values;
 
 pub use crate::channel::{Channel, Start, Transport, read_channel};
-pub use endpoint::Endpoint;
+pub use endpoint::{Endpoint, endpoint_in};
 pub use fault::ChannelFault;
 pub use host::{Host, Name};
 pub use parameter::Parameter;

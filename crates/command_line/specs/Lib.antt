@@ -2,6 +2,7 @@ pub mod CommandLines
 pub mod RunLines
 pub mod RunTold
 pub mod Flags
+pub mod Lists
 pub mod Numbers
 pub mod Lines
 pub mod Refusals

@@ -2,6 +2,7 @@
 use Rattle.std.specs.Prelude.{◌≡◌, List, codes, true, Some}
 use Rattle.clap.specs.Words.{App, Row, Text, first_of, new_app, new_rule, with_rule}
 use Rattle.command_line.specs.Flags.{IsFlag, plus_flag}
+use Rattle.command_line.specs.Lists.{AreTold, plus_list}
 use Rattle.command_line.specs.Numbers.{IsNumber, plus}
 use Rattle.command_line.specs.RunLines.{with_network}
 use Rattle.options.specs.declared.ends.options.EndOptions.{EndOptions}
@@ -21,6 +22,7 @@ pub record IsSharedOf (rows : List Row) (o : EndOptions) : Type 0 where
 
 pub record IsPublishOf (rows : List Row) (o : PublishOptions) : Type 0 where
   pub shared : IsSharedOf rows o.end
+  pub to : AreTold rows (codes "to") o.to.items
   pub linger : IsNumber rows (codes "linger") 1 1000000 5 o.linger
   pub wait : IsNumber rows (codes "wait") 1 4294967295 4294967295 o.wait
 
@@ -41,7 +43,7 @@ with_shared a =
     (with_network (plus (codes "stream") 0 2147483647 a)))
 
 abbrev pub publish_app : App
-publish_app = plus (codes "wait") 1 4294967295 (plus (codes "linger") 1 1000000 (with_shared (with_channel (new_app (codes "publish")))))
+publish_app = plus (codes "wait") 1 4294967295 (plus (codes "linger") 1 1000000 (plus_list (codes "to") (with_shared (with_channel (new_app (codes "publish"))))))
 
 abbrev pub subscribe_app : App
 subscribe_app = plus_flag (codes "once") (plus (codes "quiet") 1 4294967295 (plus (codes "messages") 1 18446744073709551615 (with_shared (with_channel (new_app (codes "subscribe"))))))

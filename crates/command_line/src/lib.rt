@@ -16,7 +16,7 @@
 //!
 //! A command has the options of a row more, each with its range, or a flag more; the number that is found is the one
 //! that was spelled, in its range, or the option's default (`with_numbers`, `with_flag`, `number_of`, `flag_of`, by
-//! `IsNumber` and `IsFlag`).
+//! `IsNumber` and `IsFlag`). One that may stand several times has its texts in their order (`with_list`, `list_of`).
 #![tactic(auto)]
 
 mod choice;
@@ -24,6 +24,7 @@ mod driver_line;
 mod end_line;
 mod fault;
 mod flag;
+mod list;
 mod network;
 mod number;
 mod parse;

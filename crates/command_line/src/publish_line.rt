@@ -7,6 +7,7 @@ ghost use Rattle.command_line.specs.Refusals.{IsFaultOf};
 
 use crate::end_line::{command_of, shared_of};
 use crate::fault::LineFault;
+use crate::list::{list_of, with_list};
 use crate::number::{Number, number_of, with_numbers};
 use crate::parse::parsed;
 use clap::{ArgMatches, Command};
@@ -29,24 +30,30 @@ const WAIT: Number = Number {
     help: "Give up after so many seconds in which no subscriber was ever heard, from 1 on [default: none]",
 };
 
-const MORE: &str = "Example:
+/// The option that names endpoints besides the channel's.
+const TO: &str = "to";
+
+const TO_HELP: &str = "Send to this HOST:PORT too, each message to each; up to seven times";
+
+const MORE: &str = "Examples:
   mdriver publish 'aeron:udp?endpoint=127.0.0.1:40123' < lines
+  mdriver publish 'aeron:udp?endpoint=127.0.0.1:40123' --to 127.0.0.1:40124 < lines
 
 Parameters of the channel, parted by |:
   endpoint=HOST:PORT  an IPv4 address, an IPv6 address in brackets or a name, and a port from 1 to 65535
   interface=ADDRESS   the address that is sent from [default: any]
   ttl=HOPS            the time to live of datagrams, 1 to 255, for IPv4 alone [default: the system's]
   term-length=BYTES   a power of two from 64k to 16m [default: 1m]
-  mtu=BYTES           a multiple of 32 from 256 to an eighth of the term, at most 65504 [default: 7680 to this machine, 1408 to another]
+  mtu=BYTES           a multiple of 32 from 256 to an eighth of the term, at most 65504 [default: 7680 to this machine with no --to, else 1408]
   session-id=ID       the stream's session [default: drawn]
   init-term-id=ID     with term-id=ID and term-offset=BYTES: where the stream starts [default: at 0, the id drawn]
 
 A message has at most an eighth of the term.
 
 Exit status:
-  0  one subscriber has written all, from the first message to the last
+  0  one subscriber has written all, from the first message to the last; at each endpoint one
   1  a fault, told in one line
-  2  the command line, the channel or the rates are refused
+  2  the command line, the channel, an endpoint or the rates are refused
   3  it gave up, or all was written but not by one subscriber";
 
 /// The command.
@@ -60,19 +67,28 @@ fn command<'a>(alloc: Global) -> Result<Command<'a>, AllocError>
         "Publish each line of standard input as a message",
         MORE,
     )?;
+    let command = with_list(alloc, command, TO, TO_HELP)?;
     with_numbers(alloc, command, &[LINGER, WAIT])
 }
 
-/// What the options that were found tell.
-fn publish_of<'a>(matches: &ArgMatches<'a>) -> PublishOptions<'a>
-    ensures told { IsPublishOf (rows_of (found_of matches.now)) result }
-    ensures stream { result.end.stream < 2 ^ 31 }
+/// What the options that were found tell. The fault is that memory was refused.
+fn publish_of<'a>(
+    alloc: Global,
+    matches: &ArgMatches<'a>,
+) -> Result<PublishOptions<'a>, LineFault>
+    ensures told { IfOk result (IsPublishOf (rows_of (found_of matches.now))) }
+    ensures stream { IfOk result (λ o. o.end.stream < 2 ^ 31) }
+    ensures fault { IfErr result (λ fault. fault ≡ LineFault.Memory) }
 {
-    PublishOptions {
+    let Ok(to) = list_of(alloc, matches, TO) else {
+        return Err(LineFault::Memory);
+    };
+    Ok(PublishOptions {
         end: shared_of(matches),
+        to,
         linger: number_of(matches, LINGER) as u32,
         wait: number_of(matches, WAIT) as u32,
-    }
+    })
 }
 
 /// What the words of a line of `publish` tell; the first of them is `publish`.
@@ -86,7 +102,7 @@ pub fn publish_options<'a>(
     ensures fault { IfErr result (IsFaultOf (clap_faults publish_app (map (λ s. s.now) words.entry.now))) }
 {
     match parsed(command(alloc), words) {
-        Ok(matches) => Ok(publish_of(&matches)),
+        Ok(matches) => publish_of(alloc, &matches),
         Err(fault) => Err(fault),
     }
 }

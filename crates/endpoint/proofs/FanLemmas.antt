@@ -1,10 +1,10 @@
 -- A datagram that goes along several ways, one after the other.
-use Rattle.std.proofs.Common.{◌≡◌, ◌∙◌, ◌⊎◌, inl, inr, ℕ, ◌<◌, ◌≤◌, List, [], ◌∷◌, ◌++◌, append-nil, append_assoc, get_or, set, ◌+◌, length, length-append, Option, Result, Ok, Err, refl, sym, ap, subst, arith}
+use Rattle.std.proofs.Common.{◌≡◌, ◌∙◌, ◌⊎◌, inl, inr, ℕ, ◌<◌, ◌≤◌, List, [], ◌∷◌, ◌++◌, append-nil, append_assoc, get_or, set, take, drop, ◌+◌, length, length-append, Option, Result, Ok, Err, refl, sym, ap, subst, arith}
 use Rattle.std.proofs.lemmas.Bool.{cases_lt}
 use Rattle.std.specs.Prelude.{IfOk, IfSome, IsErr}
 use Rattle.endpoint.specs.Calls.{CountsFailure, CountsNone, Fills, Receives}
 use Rattle.endpoint.specs.Devices.{Device}
-use Rattle.endpoint.specs.Fans.{AllSend, ReceivesAlong, ReceivesOne, SendsAlong, SendsOne, StopsAlong}
+use Rattle.endpoint.specs.Fans.{AllSend, Fanned, with_ways, ReceivesAlong, ReceivesOne, SendsAlong, SendsOne, StopsAlong}
 use Rattle.endpoint.specs.declared.datagrams.DeviceFailed.{DeviceFailed}
 
 -- the one behind the first so many
@@ -122,3 +122,10 @@ received_along device tells old new turn before after result f g along failures 
     either : (turn < length old) ⊎ (length old ≤ turn) → IfOk result (λ found. IfSome found (λ n. Fills n before after))
     either (inl low) = (along.0 low).receives.filled
     either (inr high) = subst (λ (r : Result (Option ℕ) DeviceFailed). IfOk r (λ found. IfSome found (λ n. Fills n before after))) (sym (along.1 high).none) tt
+
+-- ---- the ways, changed
+
+pub refilled : {D : Type 0} (ways : List D) (turn failures nones count : ℕ) (w : List D) → count ≡ length ways → ◌≡◌ {A = Fanned D} (record { ways = take count (w ++ drop (length w) ways); turn = turn; failures = failures; nones = nones }) (with_ways (record { ways = ways; turn = turn; failures = failures; nones = nones }) w)
+refilled {D} ways turn failures nones count w e =
+    let made : ℕ → Fanned D = λ n. record { ways = take n (w ++ drop (length w) ways); turn = turn; failures = failures; nones = nones } in
+    ap made e

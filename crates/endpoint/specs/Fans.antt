@@ -1,5 +1,5 @@
 -- What a contract sees of a device that sends along several others, and what its calls do.
-use Rattle.std.specs.Prelude.{◌≡◌, ⊤, ℕ, List, [], ◌∷◌, ◌++◌, ◌<◌, ◌≤◌, length, Option, None, Some, Result, Ok, Err, slice_index_or, slice_set}
+use Rattle.std.specs.Prelude.{◌≡◌, ⊤, ℕ, List, [], ◌∷◌, ◌++◌, ◌<◌, ◌≤◌, length, take, drop, Option, None, Some, Result, Ok, Err, slice_index_or, slice_set}
 use Rattle.endpoint.specs.Calls.{Receives, Sends}
 use Rattle.endpoint.specs.Devices.{Device, counted}
 use Rattle.endpoint.specs.declared.datagrams.DeviceFailed.{DeviceFailed}
@@ -16,6 +16,10 @@ pub record Fanned (D : Type 0) : Type 0 where
 -- it has carried nothing yet
 abbrev pub fanned : {D : Type 0} → List D → Fanned D
 fanned ways = record { ways = ways; turn = 0; failures = 0; nones = 0 }
+
+-- these stand for its first ways
+abbrev pub with_ways : {D : Type 0} → Fanned D → List D → Fanned D
+with_ways f ways = record f { ways = take (length f.ways) (ways ++ drop (length ways) f.ways) }
 
 -- its counts; what was carried is told by its ways
 abbrev pub fan_device : {D : Type 0} → Fanned D → Device

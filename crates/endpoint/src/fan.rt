@@ -3,7 +3,9 @@
 ghost use Rattle.std.specs.Prelude.{◌≡◌, Err, OnErr, OnOk};
 ghost use Rattle.endpoint.specs.Calls.{CountsFailure, CountsNone, Receives, Sends};
 ghost use Rattle.endpoint.specs.Devices.{NeverFall, counted};
-ghost use Rattle.endpoint.specs.Fans.{ReceivesAlong, SendsAlong, fan_device, fanned, with_outcome};
+ghost use Rattle.endpoint.specs.contracts.fan.Fan.{the_row};
+ghost use Rattle.std.specs.Borrow.{Array, Lends, sem};
+ghost use Rattle.endpoint.specs.Fans.{ReceivesAlong, SendsAlong, fan_device, fanned, with_outcome, with_ways};
 
 use crate::datagrams::{Datagrams, DeviceFailed};
 use crate::ways::Ways;
@@ -49,6 +51,14 @@ impl<D> Fan<D> {
         ensures { result.now ≡ self.now.ways }
     {
         &self.ways
+    }
+
+    /// The ways, in order, to be changed.
+    pub fn each_mut(&mut self) -> &mut [D]
+        ensures value { result.now ≡ self.old.ways }
+        ensures* writes_back { sem 𝓛 (Lends (the_row D.row) (Array D.row 0) self.entry result (with_ways self.old)) }
+    {
+        self.ways.as_mut_slice()
     }
 
     /// Counts what became of a receive.

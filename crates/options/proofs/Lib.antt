@@ -1,2 +1,3 @@
 mod Rows
 pub mod Starts
+pub mod Leading

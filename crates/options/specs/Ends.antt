@@ -1,3 +1,4 @@
 pub mod Plans
 pub mod Texts
 pub mod Ids
+pub mod Ways

@@ -7,3 +7,5 @@ pub(crate) mod options;
 pub(crate) mod plans;
 pub(crate) mod publish_plan;
 pub(crate) mod subscribe_plan;
+pub(crate) mod way_fault;
+pub(crate) mod ways;

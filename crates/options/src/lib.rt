@@ -9,6 +9,9 @@
 //! channel, the term length, the MTU, the start, the rates (`publish_plan`, by `IsPublishPlanOf` and
 //! `ExplainsNoPublishPlan`; `subscribe_plan`, by `IsSubscribePlanOf` and `ExplainsNoSubscribePlan`). The ids that random
 //! bytes spell are exact (`draw`).
+//!
+//! A publisher's ways are the channel's own and one to each further endpoint that it is told, up to eight, no two of them to
+//! the same one; else the fault is the first (`ways_of`, by `AreWays` and `ExplainsNoWays`).
 #![tactic(auto)]
 
 mod ends;
@@ -20,6 +23,8 @@ pub use ends::options::{EndOptions, PublishOptions, SubscribeOptions};
 pub use ends::plans::{EndPlan, PublishPlan, SubscribePlan};
 pub use ends::publish_plan::publish_plan;
 pub use ends::subscribe_plan::subscribe_plan;
+pub use ends::way_fault::WayFault;
+pub use ends::ways::ways_of;
 pub use run::fault::PlanFault;
 pub use run::made::Plan;
 pub use run::options::RunOptions;

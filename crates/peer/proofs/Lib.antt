@@ -3,3 +3,4 @@ pub mod Alone
 mod Rows
 pub mod Farewells
 pub mod Refused
+pub mod Numbered

@@ -7,3 +7,4 @@ pub mod Patience
 pub mod Farewells
 pub mod Screening
 pub mod Silences
+pub mod Numbering

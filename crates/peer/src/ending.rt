@@ -39,7 +39,9 @@ impl Attendance {
         None
     }
 
-    fn is_whole(&self, end: Option<u64>) -> bool
+    /// Whether its stream ends at `end`, and there was nothing to deliver, or one receiver was heard from the start to there,
+    /// and no other.
+    pub fn is_whole(&self, end: Option<u64>) -> bool
         ensures { result ≡ is_whole self.now end }
     {
         match end {

@@ -18,6 +18,8 @@
 //! exact (`Attendance::hear`, `Attendance::ending`). It ends whole exactly where its input has ended, and nothing was to
 //! be delivered or all messages were of one receiver, the first tells the start and one tells the tail
 //! (`one_from_the_start`). That anybody is heard isn't said.
+//!
+//! Where receivers are known by numbers, a status message gets its receiver's for the id (`number_status`).
 #![tactic(auto)]
 
 mod attendance;
@@ -26,6 +28,7 @@ mod ending;
 mod farewell;
 mod fault;
 mod listener;
+mod numbering;
 mod patient;
 mod screen;
 mod silence;
@@ -38,6 +41,7 @@ pub use ending::{Ending, one_from_the_start};
 pub use farewell::{end_told, farewell_bytes, farewell_of, farewells_tell_ends};
 pub use fault::BindError;
 pub use listener::Listener;
+pub use numbering::number_status;
 pub use patient::PatientDevice;
 pub use screen::{Bounds, Verdict, judge};
 pub use silence::Silence;

@@ -5,6 +5,7 @@ ghost use Rattle.publisher.specs.Beginnings.{ArePublisherParts, device_of, sent_
 ghost use Rattle.publisher.specs.Openings.{identity_of};
 
 use crate::fault::PublishFault;
+use crate::looking::ChannelDevice;
 use crate::sender_thread::SenderPasses;
 use agents::{Began, Duty, LogPasses, open_log};
 use conductor::Conductor;
@@ -17,7 +18,7 @@ use position::Identity;
 use shared_log::{LogReader, Publisher};
 use std::alloc::Global;
 
-/// What a publisher begins with, but for its sender's agent.
+/// What a publisher begins with over a device, but for its sender's agent.
 #[derive(Drop)]
 pub struct PublisherParts<D> {
     pub began: Began,
@@ -29,7 +30,7 @@ pub struct PublisherParts<D> {
 }
 
 /// Which stream a plan sends, and its shape.
-pub(crate) fn sent_by(plan: &PublishPlan) -> Sent
+pub fn sent_by(plan: &PublishPlan) -> Sent
     ensures { result ≡ sent_by plan.now }
 {
     Sent {
@@ -39,18 +40,25 @@ pub(crate) fn sent_by(plan: &PublishPlan) -> Sent
     }
 }
 
-/// The device with its room: what fails is lost, losses are made on purpose, and what comes is screened and noted.
-fn duty_of<D: Datagrams + Drop>(
+/// What a publisher sends with over a device: what fails is lost, losses are made on purpose, and what comes is screened and
+/// noted.
+pub fn channel_device<D: Datagrams>(
     alloc: Global,
     plan: &PublishPlan,
     device: D,
-) -> Result<Duty<Attended<Lossy<PatientDevice<D>>>>, DeviceError>
-    ensures made { IfOk result (λ d. d ≡ record { device = device_of plan.now device; mtu = plan.now.geometry.mtu }) }
-    ensures refused { IfErr result (λ error. error ≡ DeviceError.Memory) }
+) -> ChannelDevice<D>
+    ensures { result ≡ device_of plan.now device }
 {
     let patient = PatientDevice::new(device);
     let lossy = Lossy::new(alloc, patient, plan.end.rates, plan.end.seed);
-    let device = Attended::new(lossy, sent_by(plan), plan.start);
+    Attended::new(lossy, sent_by(plan), plan.start)
+}
+
+/// The device with its room.
+fn duty_over<D: Drop>(alloc: Global, plan: &PublishPlan, device: D) -> Result<Duty<D>, DeviceError>
+    ensures made { IfOk result (λ d. d ≡ record { device = device; mtu = plan.now.geometry.mtu }) }
+    ensures refused { IfErr result (λ error. error ≡ DeviceError.Memory) }
+{
     Ok(Duty::new(alloc, device, plan.geometry.mtu())?)
 }
 
@@ -61,18 +69,18 @@ fn planned_stream(plan: &PublishPlan) -> Identity
     Identity::new(plan.geometry, plan.session, plan.end.stream)
 }
 
-/// All that a publisher begins with, over a device. It fails only where memory is refused.
-pub fn publisher_parts<D: Datagrams + Drop>(
+/// All that a publisher begins with, over what it sends with. It fails only where memory is refused.
+pub fn parts_over<D: Drop>(
     alloc: Global,
     plan: &PublishPlan,
     began: Began,
     device: D,
 ) -> Result<PublisherParts<D>, PublishFault>
     ensures parts { IfOk result (λ p. ArePublisherParts plan.now p) }
-    ensures device { IfOk result (λ p. p.passes.duty.device ≡ device_of plan.now device) }
+    ensures device { IfOk result (λ p. p.passes.duty.device ≡ device) }
     ensures refused { IfErr result (λ fault. fault ≡ PublishFault.Failed DeviceError.Memory) }
 {
-    let duty = duty_of(alloc, plan, device)?;
+    let duty = duty_over(alloc, plan, device)?;
     let (conductor, client, taker) = Conductor::with_client(alloc)?;
     let identity = planned_stream(plan);
     let LogPasses {
@@ -95,4 +103,18 @@ pub fn publisher_parts<D: Datagrams + Drop>(
             taker,
         },
     })
+}
+
+/// All that a publisher begins with, over a device. It fails only where memory is refused.
+pub fn publisher_parts<D: Datagrams + Drop>(
+    alloc: Global,
+    plan: &PublishPlan,
+    began: Began,
+    device: D,
+) -> Result<PublisherParts<ChannelDevice<D>>, PublishFault>
+    ensures parts { IfOk result (λ p. ArePublisherParts plan.now p) }
+    ensures device { IfOk result (λ p. p.passes.duty.device ≡ device_of plan.now device) }
+    ensures refused { IfErr result (λ fault. fault ≡ PublishFault.Failed DeviceError.Memory) }
+{
+    parts_over(alloc, plan, began, channel_device(alloc, plan, device))
 }

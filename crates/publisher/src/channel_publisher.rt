@@ -15,6 +15,7 @@ ghost use Rattle.publisher.specs.Openings.{ArePasses};
 
 use crate::beginning::{PublisherParts, publisher_parts};
 use crate::fault::PublishFault;
+use crate::looking::ChannelDevice;
 use crate::publisher_context::PublisherContext;
 use crate::sender_thread::{ChannelSender, SenderPasses};
 use crate::two_threads::{Published, run};
@@ -32,7 +33,7 @@ use std::thread::Threads;
 use std::time::Clock;
 
 /// What the threads share, once for each.
-fn shared(
+pub fn shared(
     alloc: Global,
     state: OfferingState,
 ) -> Result<(Arc<OfferingState>, Arc<OfferingState>), PublishFault>
@@ -50,7 +51,7 @@ fn opened<'a, D: Drop>(
     alloc: Global,
     state: &'a OfferingState,
     reader: LogReader,
-    passes: SenderPasses<D>,
+    passes: SenderPasses<ChannelDevice<D>>,
 ) -> Result<ChannelSender<'a, D>, PublishFault>
     requires reader { IsNewReader state.now.log 0 reader }
     requires start { IsStart state.now.log.identity.geometry state.now.log.start }
@@ -63,14 +64,14 @@ fn opened<'a, D: Drop>(
 
 /// What the thread that reads is given: what it shares, and its publisher and input.
 #[derive(Drop)]
-struct Offering<I> {
-    state: Arc<OfferingState>,
-    publisher: Publisher,
-    input: I,
+pub struct Offering<I> {
+    pub state: Arc<OfferingState>,
+    pub publisher: Publisher,
+    pub input: I,
 }
 
-/// The thread that reads.
-fn started<R: Threads + Clock + Send + Copy + 'static, I: BufRead + Send + Drop + 'static>(
+/// Starts the thread that reads.
+pub fn started<R: Threads + Clock + Send + Copy + 'static, I: BufRead + Send + Drop + 'static>(
     rt: &R,
     alloc: Global,
     plan: &PublishPlan,
@@ -100,7 +101,7 @@ fn publish_shared<
     alloc: Global,
     context: &PublisherContext<'_, R>,
     reader: LogReader,
-    passes: SenderPasses<D>,
+    passes: SenderPasses<ChannelDevice<D>>,
     offering: Offering<I>,
     errors: &mut E,
 ) -> Result<Published<I>, PublishFault>
@@ -127,7 +128,7 @@ pub fn publish_over<
     rt: &R,
     alloc: Global,
     plan: &PublishPlan,
-    parts: PublisherParts<D>,
+    parts: PublisherParts<ChannelDevice<D>>,
     input: I,
     errors: &mut E,
 ) -> Result<Published<I>, PublishFault>
@@ -160,7 +161,7 @@ pub fn publish_over<
 }
 
 /// The device along a route.
-fn connected<R: Net>(rt: &R, alloc: Global, route: &Route) -> Result<UdpDevice, PublishFault>
+pub fn connected<R: Net>(rt: &R, alloc: Global, route: &Route) -> Result<UdpDevice, PublishFault>
     ensures { IfErr result (λ fault. (fault ≡ PublishFault.NoSocket route.now) ⊎ (fault ≡ PublishFault.Failed DeviceError.Memory)) }
 {
     match UdpDevice::bind_along(rt, alloc, route) {
@@ -176,7 +177,7 @@ fn prepared<R: Net + Clock>(
     alloc: Global,
     plan: &PublishPlan,
     route: &Route,
-) -> Result<PublisherParts<UdpDevice>, PublishFault>
+) -> Result<PublisherParts<ChannelDevice<UdpDevice>>, PublishFault>
     ensures { IfOk result (λ p. ArePublisherParts plan.now p) }
 {
     let began = Began::now(rt)?;
@@ -186,7 +187,7 @@ fn prepared<R: Net + Clock>(
 
 /// The input with a buffer.
 #[tactic(auto, using(crate::proofs::Beginnings::unbuffered))]
-fn buffered<I: Read + Drop>(alloc: Global, input: I) -> Result<BufReader<I>, PublishFault>
+pub fn buffered<I: Read + Drop>(alloc: Global, input: I) -> Result<BufReader<I>, PublishFault>
     ensures { IfOk result (λ r. reader_remaining I.remaining r ≡ I.remaining input) }
 {
     match BufReader::new(alloc, input) {

@@ -18,7 +18,7 @@ use offering::{Reading, ReadingEnd};
 use std::io::Write;
 
 /// Why the reading stopped, if that wasn't the input's end.
-pub(crate) fn fault_in(reading: &Option<Reading>) -> Option<PublishFault>
+pub fn fault_in(reading: &Option<Reading>) -> Option<PublishFault>
     ensures fault { result ≡ fault_in reading.now }
     ensures stops { IfSome result (λ fault. ∥ IsStop fault ∥₁) }
 {
@@ -32,7 +32,7 @@ pub(crate) fn fault_in(reading: &Option<Reading>) -> Option<PublishFault>
 }
 
 /// Where the stream ends, if the reading has, and wasn't stopped: where the accepted messages do.
-fn end_in(reading: &Option<Reading>) -> Option<u64>
+pub fn end_in(reading: &Option<Reading>) -> Option<u64>
     ensures { result ≡ end_in reading.now }
 {
     match *reading {
@@ -61,7 +61,7 @@ fn check_device(
 }
 
 /// Tells once why no message comes any more, where messages came before. Where none did, that is the publisher's fault.
-fn check_input<E: Write>(
+pub fn check_input<E: Write>(
     progress: &mut Progress,
     fault: PublishFault,
     messages: u64,

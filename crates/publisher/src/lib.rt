@@ -33,8 +33,17 @@ mod sender_thread;
 mod telling;
 mod two_threads;
 
-pub use beginning::{PublisherParts, publisher_parts};
-pub use channel_publisher::{publish, publish_over};
+pub use beginning::{PublisherParts, channel_device, parts_over, publisher_parts, sent_by};
+pub use channel_publisher::{
+    Offering, buffered, connected, publish, publish_over, shared, started,
+};
 pub use fault::PublishFault;
+pub use judged::Judged;
+pub use judging::{check_input, end_in, fault_in};
+pub use looking::{Calls, ChannelDevice, Seen, calls_of, look};
 pub use peer::Ending;
-pub use two_threads::Published;
+pub use progress::{Progress, told_in};
+pub use publisher_context::PublisherContext;
+pub use sender_thread::SenderPasses;
+pub use telling::{Counts, tell_alone, tell_change, tell_counters, tell_ending, tell_refused};
+pub use two_threads::{Published, ended, input_end, reading_left};

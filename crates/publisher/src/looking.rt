@@ -30,7 +30,8 @@ pub struct Seen {
     pub at_rest: bool,
 }
 
-pub(crate) fn calls_of<D: Datagrams>(device: &ChannelDevice<D>) -> Calls
+/// How many receives found nothing at the socket, and how many calls failed.
+pub fn calls_of<D: Datagrams>(device: &ChannelDevice<D>) -> Calls
     ensures { result ≡ calls_of device.now }
 {
     let patient = device.inner().inner();
@@ -48,7 +49,7 @@ fn is_at_rest(before: Calls, after: Calls) -> bool
 }
 
 /// What the device shows after a cycle that began with these calls.
-pub(crate) fn look<D: Datagrams>(before: Calls, device: &ChannelDevice<D>) -> Seen
+pub fn look<D: Datagrams>(before: Calls, device: &ChannelDevice<D>) -> Seen
     ensures { result ≡ seen_of before device.now }
 {
     let patient = device.inner().inner();

@@ -16,18 +16,18 @@ const ALONE: u64 = 5_000_000_000;
 /// were told last and how many messages there were then, and whether it was told that nobody was heard, and why the input
 /// stopped.
 #[derive(Clone, Copy)]
-pub(crate) struct Progress {
+pub struct Progress {
     changes: u64,
-    pub(crate) statuses: Silence,
+    pub statuses: Silence,
     worked: Silence,
     shown: u64,
     messages: u64,
     alone: bool,
-    pub(crate) faulted: bool,
+    pub faulted: bool,
 }
 
 /// What the receiver that was heard last has told; before anybody was heard it is the start.
-pub(crate) fn told_in(attendance: &Attendance) -> u64
+pub fn told_in(attendance: &Attendance) -> u64
     ensures { result ≡ told_of attendance.now }
 {
     match attendance.present {
@@ -43,7 +43,8 @@ fn is_nobody(attendance: &Attendance) -> bool
 }
 
 impl Progress {
-    pub(crate) fn new() -> Progress
+    /// Nothing was seen or told yet.
+    pub fn new() -> Progress
         ensures { result ≡ nothing_seen }
     {
         Progress {
@@ -58,7 +59,7 @@ impl Progress {
     }
 
     /// Sees what was heard up to a moment. Whether receivers have changed.
-    pub(crate) fn see(&mut self, cycle: &Seen, now: u64) -> bool
+    pub fn see(&mut self, cycle: &Seen, now: u64) -> bool
         ensures changed { result ≡ not (nat_eq cycle.now.attendance.changes self.old.changes) }
         ensures seen { self.new ≡ seen self.old cycle.now now }
     {
@@ -69,7 +70,7 @@ impl Progress {
     }
 
     /// Sees how many calls of the device have worked. Whether none did for so long, in nanoseconds.
-    pub(crate) fn is_broken(&mut self, worked: u64, linger: u64, now: u64) -> bool
+    pub fn is_broken(&mut self, worked: u64, linger: u64, now: u64) -> bool
         ensures broken { result ≡ is_broken self.old worked linger now }
         ensures seen { self.new ≡ with_work self.old worked now }
     {
@@ -79,7 +80,7 @@ impl Progress {
 
     /// How many messages were accepted since counters were told, if they are to be told at this moment; then the next second
     /// begins.
-    pub(crate) fn shows(&mut self, messages: u64, now: u64) -> Option<u64>
+    pub fn shows(&mut self, messages: u64, now: u64) -> Option<u64>
         ensures due { result ≡ shown_messages self.old messages now }
         ensures shown { self.new ≡ shown_at self.old messages now }
     {
@@ -93,7 +94,7 @@ impl Progress {
     }
 
     /// Whether it is to be told at this moment that nobody was heard. Once it was, it isn't again.
-    pub(crate) fn is_alone(&mut self, attendance: &Attendance, now: u64) -> bool
+    pub fn is_alone(&mut self, attendance: &Attendance, now: u64) -> bool
         ensures due { result ≡ is_alone self.old attendance.now now }
         ensures told { self.new ≡ record self.old { alone = self.old.alone || result } }
     {
@@ -103,7 +104,7 @@ impl Progress {
     }
 
     /// How the publisher ends by what was seen, if it does: its stream ends at `end`, if its input has ended.
-    pub(crate) fn ending(
+    pub fn ending(
         &self,
         cycle: &Seen,
         end: Option<u64>,

@@ -27,7 +27,7 @@ use std::time::Clock;
 #[derive(Drop)]
 pub struct SenderPasses<D> {
     pub client: Client,
-    pub duty: Duty<ChannelDevice<D>>,
+    pub duty: Duty<D>,
     pub keeper: Keeper,
     pub taker: Taker,
 }
@@ -36,7 +36,7 @@ pub struct SenderPasses<D> {
 #[derive(Drop)]
 pub struct ChannelSender<'a, D> {
     pub agent: LogSender<'a>,
-    pub passes: SenderPasses<D>,
+    pub passes: SenderPasses<ChannelDevice<D>>,
 }
 
 /// Tells a device up to where the stream was sent, as a cycle begins.

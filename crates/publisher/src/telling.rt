@@ -40,14 +40,14 @@ impl fmt::Display for Joined {
 /// The session, how many messages were accepted in all and since this was told, where they end, what was told, and what the
 /// device has counted.
 #[derive(Clone, Copy)]
-pub(crate) struct Counts {
-    pub(crate) session: i32,
-    pub(crate) messages: u64,
-    pub(crate) recent: u64,
-    pub(crate) tail: u64,
-    pub(crate) told: u64,
-    pub(crate) tally: Tally,
-    pub(crate) lost: u64,
+pub struct Counts {
+    pub session: i32,
+    pub messages: u64,
+    pub recent: u64,
+    pub tail: u64,
+    pub told: u64,
+    pub tally: Tally,
+    pub lost: u64,
 }
 
 /// How far the stream is.
@@ -93,7 +93,7 @@ impl fmt::Display for Traffic {
 
 /// Another receiver is heard than before, if one is.
 #[tactic(auto, using(crate::proofs::Lines::on_change))]
-pub(crate) fn tell_change<E: Write>(errors: &mut E, attendance: &Attendance) -> io::Result<()>
+pub fn tell_change<E: Write>(errors: &mut E, attendance: &Attendance) -> io::Result<()>
     ensures { OnOk result (Appends (E.contents errors.old) (E.contents errors.new) (change_text attendance.now)) }
 {
     let (Some(left), Some(present)) = (attendance.left, attendance.present) else {
@@ -121,7 +121,7 @@ fn tell_empty<E: Write>(errors: &mut E) -> io::Result<()>
 }
 
 /// How it ends, where that isn't that all was received: of a stream from `start` to `tail` this was told.
-pub(crate) fn tell_ending<E: Write>(
+pub fn tell_ending<E: Write>(
     errors: &mut E,
     ending: Ending,
     start: u64,
@@ -142,7 +142,7 @@ pub(crate) fn tell_ending<E: Write>(
 }
 
 /// Nobody was heard for five seconds.
-pub(crate) fn tell_alone<E: Write>(errors: &mut E) -> io::Result<()>
+pub fn tell_alone<E: Write>(errors: &mut E) -> io::Result<()>
     ensures { OnOk result (Appends (E.contents errors.old) (E.contents errors.new) alone_line) }
 {
     writeln!(
@@ -152,14 +152,14 @@ pub(crate) fn tell_alone<E: Write>(errors: &mut E) -> io::Result<()>
 }
 
 /// Why no message comes any more.
-pub(crate) fn tell_fault<E: Write>(errors: &mut E, fault: PublishFault) -> io::Result<()>
+pub fn tell_fault<E: Write>(errors: &mut E, fault: PublishFault) -> io::Result<()>
     ensures { OnOk result (Appends (E.contents errors.old) (E.contents errors.new) (fault_line fault)) }
 {
     writeln!(errors, "{fault}; what came before it is delivered first")
 }
 
 /// The counters.
-pub(crate) fn tell_counters<E: Write>(errors: &mut E, counts: Counts) -> io::Result<()>
+pub fn tell_counters<E: Write>(errors: &mut E, counts: Counts) -> io::Result<()>
     ensures { OnOk result (Appends (E.contents errors.old) (E.contents errors.new) (counters_line counts)) }
 {
     let (stream, traffic) = (Stream(counts), Traffic(counts));
@@ -167,7 +167,7 @@ pub(crate) fn tell_counters<E: Write>(errors: &mut E, counts: Counts) -> io::Res
 }
 
 /// How many datagrams were refused, by their faults, where any was.
-pub(crate) fn tell_refused<E: Write>(errors: &mut E, refused: FaultCounts) -> io::Result<()>
+pub fn tell_refused<E: Write>(errors: &mut E, refused: FaultCounts) -> io::Result<()>
     ensures told { refused ≢ uncounted → OnOk result (Appends (E.contents errors.old) (E.contents errors.new) (refused_line refused)) }
     ensures quiet { refused ≡ uncounted → OnOk result (E.contents errors.new ≡ E.contents errors.old) }
 {

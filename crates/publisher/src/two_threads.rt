@@ -59,7 +59,7 @@ fn is_read(reading: &Option<Reading>, judged: &Option<Reading>) -> bool
 
 /// How a publisher ended, by how its reading did, if it has, and by what was sent. The reading goes first: a message that
 /// couldn't be read is a fault however the sending went.
-fn ended(
+pub fn ended(
     reading: &Option<Reading>,
     sent: Result<Judged, PublishFault>,
 ) -> Result<Ending, PublishFault>
@@ -80,7 +80,7 @@ fn ended(
 }
 
 /// What is left of the input, where its reading has ended. Its thread has nothing more to do then, and is joined.
-fn input_end<R: Threads, I: BufRead + Drop, C>(
+pub fn input_end<R: Threads, I: BufRead + Drop, C>(
     rt: &R,
     context: &PublisherContext<'_, C>,
     reader: Reader<I>,
@@ -118,7 +118,7 @@ fn tell_end<R: Clock, D: Datagrams>(
 }
 
 /// How the reading ended that is left.
-fn reading_left<I>(input: &Option<InputEnd<I>>) -> Option<Reading>
+pub fn reading_left<I>(input: &Option<InputEnd<I>>) -> Option<Reading>
     ensures { result ≡ reading_left input.now }
 {
     match *input {

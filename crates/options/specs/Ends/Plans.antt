@@ -1,5 +1,5 @@
 -- What the plans are made of, and why what an end is told makes none.
-use Rattle.std.specs.Prelude.{nat_eq, ◌&&◌, ◌≡◌, ◌+◌, ◌*◌, ◌%◌, ◌<◌, ◌⊎◌, ℕ, ℤ, Bool, List, pos, Option, None, Some, unwrap_or, if◌then◌else◌}
+use Rattle.std.specs.Prelude.{nat_eq, not, length, ◌&&◌, ◌≡◌, ◌+◌, ◌*◌, ◌%◌, ◌<◌, ◌⊎◌, ℕ, ℤ, Bool, List, pos, Option, None, Some, unwrap_or, if◌then◌else◌}
 use Rattle.theory.specs.Loss as loss
 use Rattle.theory.specs.Position.{Geometry, IsGeometry, IsMtu, IsTermLength, count_of}
 use Rattle.messages.specs.declared.form.Form.{Form}
@@ -43,15 +43,19 @@ first_term (Some s) d = s.initial_term_id
 abbrev pub term_of : Channel → ℕ
 term_of c = unwrap_or c.term_length 1048576
 
--- to this machine 7,680 bytes, and to another one 1,408
-abbrev pub usual_mtu : Channel → ℕ
-usual_mtu c = if is_here c.transport.endpoint.host then 7680 else 1408
+-- there are endpoints besides the channel's
+abbrev pub are_several : PublishOptions → Bool
+are_several o = not (nat_eq (length o.to.items) 0)
 
-abbrev pub mtu_of : Channel → ℕ
-mtu_of c = unwrap_or c.mtu (usual_mtu c)
+-- to this machine alone 7,680 bytes, and to another one or to several endpoints 1,408
+abbrev pub usual_mtu : Channel → Bool → ℕ
+usual_mtu c several = if is_here c.transport.endpoint.host && not several then 7680 else 1408
 
-abbrev pub geometry_of : Channel → Drawn → Geometry
-geometry_of c d = record { term_length = term_of c; mtu = mtu_of c; initial_term_id = first_term c.start d }
+abbrev pub mtu_of : Channel → Bool → ℕ
+mtu_of c several = unwrap_or c.mtu (usual_mtu c several)
+
+abbrev pub geometry_of : Channel → Bool → Drawn → Geometry
+geometry_of c several d = record { term_length = term_of c; mtu = mtu_of c several; initial_term_id = first_term c.start d }
 
 -- a term that isn't before the first one, and whole units below that term's end
 pub record IsPlace (s : Start) (g : Geometry) (start : ℕ) : Type 0 where
@@ -68,9 +72,9 @@ StartsAt (Some s) g start = IsPlace s g start
 
 pub record IsPublishPlanWith (o : PublishOptions) (d : Drawn) (c : Channel) (p : PublishPlan) : Type 0 where
   pub end : IsEndPlan o.end c p.end
-  pub shape : p.geometry ≡ geometry_of c d
+  pub shape : p.geometry ≡ geometry_of c (are_several o) d
   pub session : p.session ≡ unwrap_or c.session_id d.session
-  pub starts : StartsAt c.start (geometry_of c d) p.start
+  pub starts : StartsAt c.start (geometry_of c (are_several o) d) p.start
   pub linger : p.linger ≡ o.linger * 1000000000
   pub wait : p.wait ≡ o.wait * 1000000000
 
@@ -79,12 +83,12 @@ abbrev pub IsPublishPlanOf : PublishOptions → Drawn → PublishPlan → Type 0
 IsPublishPlanOf o d p = (c : Channel) × IsChannel o.end.channel.now c × IsPublishPlanWith o d c p
 
 -- what is wrong with a channel that was read; the first fault is judged first
-abbrev pub IsPublishFault : EndOptions → Channel → Drawn → EndFault → Type 0
+abbrev pub IsPublishFault : PublishOptions → Channel → Drawn → EndFault → Type 0
 IsPublishFault o c d (faults.Channel fault) = ⊥
 IsPublishFault o c d (faults.TermLength bytes) = (bytes ≡ term_of c) × (¬ IsTermLength bytes)
-IsPublishFault o c d (faults.Mtu bytes) = (bytes ≡ mtu_of c) × IsTermLength (term_of c) × (¬ IsMtu (term_of c) bytes)
-IsPublishFault o c d faults.Start = IsGeometry (geometry_of c d) × ((start : ℕ) → StartsAt c.start (geometry_of c d) start → ⊥)
-IsPublishFault o c d faults.Rates = IsGeometry (geometry_of c d) × ((start : ℕ) × StartsAt c.start (geometry_of c d) start) × (1000 < o.loss + o.repeat + o.hold)
+IsPublishFault o c d (faults.Mtu bytes) = (bytes ≡ mtu_of c (are_several o)) × IsTermLength (term_of c) × (¬ IsMtu (term_of c) bytes)
+IsPublishFault o c d faults.Start = IsGeometry (geometry_of c (are_several o) d) × ((start : ℕ) → StartsAt c.start (geometry_of c (are_several o) d) start → ⊥)
+IsPublishFault o c d faults.Rates = IsGeometry (geometry_of c (are_several o) d) × ((start : ℕ) × StartsAt c.start (geometry_of c (are_several o) d) start) × (1000 < o.end.loss + o.end.repeat + o.end.hold)
 
 -- the text is no channel
 abbrev pub IsNoChannel : List ℕ → EndFault → Type 0
@@ -96,7 +100,7 @@ IsNoChannel text faults.Rates = ⊥
 
 -- the text is no channel, or one with this fault
 abbrev pub ExplainsNoPublishPlan : PublishOptions → Drawn → EndFault → Type 0
-ExplainsNoPublishPlan o d f = IsNoChannel o.end.channel.now f ⊎ ((c : Channel) × IsChannel o.end.channel.now c × IsPublishFault o.end c d f)
+ExplainsNoPublishPlan o d f = IsNoChannel o.end.channel.now f ⊎ ((c : Channel) × IsChannel o.end.channel.now c × IsPublishFault o c d f)
 
 -- ---- a subscriber
 

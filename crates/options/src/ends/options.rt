@@ -20,9 +20,11 @@ pub struct EndOptions<'a> {
 }
 
 /// What a publisher is told.
-#[derive(Clone, Copy, Debug)]
+#[derive(Debug, Drop)]
 pub struct PublishOptions<'a> {
     pub end: EndOptions<'a>,
+    /// To which endpoints it sends besides the channel's.
+    pub to: Vec<&'a str>,
     /// After how many seconds without a status message of a receiver that was heard it gives up.
     pub linger: u32,
     /// After how many seconds in which nobody was ever heard it gives up.

@@ -1,9 +1,9 @@
 //! A publisher's plan.
 
-ghost use Rattle.std.specs.Prelude.{◌≡◌, ◌<◌, ◌^◌, ℕ, pos, IfErr, IfOk, IfSome, IfNone, IsErrOf};
+ghost use Rattle.std.specs.Prelude.{◌≡◌, ◌<◌, ◌^◌, ◌*◌, ℕ, pos, IfErr, IfOk, IfSome, IfNone, IsErrOf};
 ghost use Rattle.theory.specs.Position.{IsGeometry, IsMtu, IsTermLength, count_of};
 ghost use Rattle.position.specs.Openings.{IsStart};
-ghost use Rattle.options.specs.Ends.Plans.{ExplainsNoPublishPlan, IsPlace, IsPublishFault, IsPublishPlanOf, IsPublishPlanWith, StartsAt, first_term, geometry_of, mtu_of, term_of};
+ghost use Rattle.options.specs.Ends.Plans.{ExplainsNoPublishPlan, IsPlace, IsPublishFault, IsPublishPlanOf, IsPublishPlanWith, StartsAt, are_several, first_term, geometry_of, mtu_of, term_of};
 
 use crate::ends::end_plan::{NANOSECONDS_PER_SECOND, end_plan};
 use crate::ends::fault::EndFault;
@@ -39,11 +39,12 @@ fn term_in(channel: &Channel) -> u32
     channel.term_length.unwrap_or(TERM)
 }
 
-/// The most bytes of a datagram: where none are named 7,680 to this machine, and 1,408 to another one.
-fn mtu_in(channel: &Channel) -> u32
-    ensures { result ≡ mtu_of channel.now }
+/// The most bytes of a datagram: where none are named 7,680 to this machine alone, and 1,408 to another one or to several
+/// endpoints.
+fn mtu_in(channel: &Channel, several: bool) -> u32
+    ensures { result ≡ mtu_of channel.now several }
 {
-    let usual = if channel.transport.endpoint.host.is_here() {
+    let usual = if channel.transport.endpoint.host.is_here() && !several {
         MTU_HERE
     } else {
         MTU_AWAY
@@ -52,14 +53,14 @@ fn mtu_in(channel: &Channel) -> u32
 }
 
 /// The shape of the channel's stream, with the usual lengths where none are named.
-fn shape(channel: &Channel, drawn: Drawn) -> Result<Geometry, GeometryError>
-    ensures made { IfOk result (λ g. (g ≡ geometry_of channel.now drawn) × IsGeometry g) }
+fn shape(channel: &Channel, several: bool, drawn: Drawn) -> Result<Geometry, GeometryError>
+    ensures made { IfOk result (λ g. (g ≡ geometry_of channel.now several drawn) × IsGeometry g) }
     ensures term_length { IsErrOf result GeometryError.TermLength → ¬ IsTermLength (term_of channel.now) }
-    ensures mtu { IsErrOf result GeometryError.Mtu → IsTermLength (term_of channel.now) × (¬ IsMtu (term_of channel.now) (mtu_of channel.now)) }
+    ensures mtu { IsErrOf result GeometryError.Mtu → IsTermLength (term_of channel.now) × (¬ IsMtu (term_of channel.now) (mtu_of channel.now several)) }
 {
     Geometry::new(
         term_in(channel),
-        mtu_in(channel),
+        mtu_in(channel, several),
         first_term(channel.start, drawn),
     )
 }
@@ -107,6 +108,20 @@ fn named_start(geometry: &Geometry, start: Start) -> Option<u64>
     Some(u64::from(count) * u64::from(length) + u64::from(start.term_offset))
 }
 
+/// So many seconds.
+fn nanoseconds(seconds: u32) -> u64
+    ensures { result ≡ seconds * 1000000000 }
+{
+    u64::from(seconds) * NANOSECONDS_PER_SECOND
+}
+
+/// Whether there are further endpoints.
+fn are_several(options: &PublishOptions<'_>) -> bool
+    ensures { result ≡ are_several options.now }
+{
+    !options.to.as_slice().is_empty()
+}
+
 /// The plan of a channel that was read.
 fn plan_of<'a>(
     options: &PublishOptions<'a>,
@@ -115,12 +130,13 @@ fn plan_of<'a>(
 ) -> Result<PublishPlan, EndFault<'a>>
     requires { options.now.end.stream < 2 ^ 31 }
     ensures made { IfOk result (λ p. IsPublishPlanWith options.now drawn channel.now p) }
-    ensures fault { IfErr result (λ f. IsPublishFault options.now.end channel.now drawn f) }
+    ensures fault { IfErr result (λ f. IsPublishFault options.now channel.now drawn f) }
 {
-    let geometry = match shape(channel, drawn) {
+    let several = are_several(options);
+    let geometry = match shape(channel, several, drawn) {
         Ok(geometry) => geometry,
         Err(GeometryError::TermLength) => return Err(EndFault::TermLength(term_in(channel))),
-        Err(GeometryError::Mtu) => return Err(EndFault::Mtu(mtu_in(channel))),
+        Err(GeometryError::Mtu) => return Err(EndFault::Mtu(mtu_in(channel, several))),
     };
     let Some(start) = start_in(&geometry, channel.start) else {
         return Err(EndFault::Start);
@@ -133,8 +149,8 @@ fn plan_of<'a>(
         geometry,
         session: channel.session_id.unwrap_or(drawn.session),
         start,
-        linger: u64::from(options.linger) * NANOSECONDS_PER_SECOND,
-        wait: u64::from(options.wait) * NANOSECONDS_PER_SECOND,
+        linger: nanoseconds(options.linger),
+        wait: nanoseconds(options.wait),
     })
 }
 

@@ -8,7 +8,7 @@ use Rattle.agents.specs.NewPasses.{AreNewPasses}
 use Rattle.agents.proofs.NewPublishers.{first_done}
 use Rattle.publisher.proofs.Beginnings.{first_new}
 use Rattle.publisher.specs.Openings.{IsPlanned, identity_of}
-use Rattle.publisher.proofs.beginning.publisher_parts.Goals as goal
+use Rattle.publisher.proofs.beginning.parts_over.Goals as goal
 
 pub returns-clause-parts : goal.returns-clause-parts
 returns-clause-parts g c =

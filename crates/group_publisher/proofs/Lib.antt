@@ -1,0 +1,7 @@
+pub mod Written
+pub mod Lines
+pub mod Whole
+pub mod AllPublished
+pub mod One
+pub mod Along
+pub mod Ends

@@ -1,0 +1,54 @@
+-- What a cycle shows along a way.
+use Rattle.std.specs.Prelude.{ℕ, Bool, not, ◌&&◌, ◌||◌, nat_eq, nat_lt, is_some, Option, None, Some}
+use Rattle.loss_injector.specs.Losing.{Losing}
+use Rattle.peer.specs.Patience.{Patient}
+use Rattle.peer.specs.Silences.{judged}
+use Rattle.peer.specs.Watching.{Watching, told}
+use Rattle.peer.specs.declared.attendance.Attendance.{Attendance}
+use Rattle.publisher.specs.Looking.{calls_of, seen_of}
+use Rattle.publisher.specs.Progress.{is_alone, is_broken, seen, with_work}
+use Rattle.publisher.specs.declared.looking.Seen.{Seen}
+use Rattle.publisher.specs.declared.progress.Progress.{Progress}
+use Rattle.group_publisher.specs.declared.seeing.News.{News}
+use Rattle.group_publisher.specs.declared.way.Way.{Way}
+
+-- a way over a publisher's device
+abbrev pub ChannelWay : Type 0 → Type 0
+ChannelWay D = Way (Watching (Losing (Patient D)))
+
+-- a cycle begins, with the stream sent up to here
+abbrev pub begun : {D : Type 0} → ℕ → ChannelWay D → ChannelWay D
+begun at w = record w { before = calls_of w.device; device = record w.device { watch = told w.device.watch at } }
+
+-- one that was heard is silent for five seconds and more; as before where that isn't judged
+abbrev pub is_quiet : Attendance → Option ℕ → Bool → Bool
+is_quiet a None before = before
+is_quiet a (Some silence) before = is_some a.present && nat_lt 5000000000 silence
+
+-- what the cycle has shown
+abbrev pub shown : {D : Type 0} → ChannelWay D → Seen
+shown w = seen_of w.before w.device
+
+abbrev pub after_work : {D : Type 0} → ℕ → ChannelWay D → Progress
+after_work now w = seen (with_work w.progress (shown w).worked now) (shown w) now
+
+abbrev pub progress_after : {D : Type 0} → ℕ → ChannelWay D → Progress
+progress_after now w = record (after_work now w) { alone = (after_work now w).alone || is_alone (after_work now w) (shown w).attendance now }
+
+abbrev pub silence_after : {D : Type 0} → ℕ → ChannelWay D → Option ℕ
+silence_after now w = judged (progress_after now w).statuses (shown w).at_rest now
+
+abbrev pub quiet_after : {D : Type 0} → ℕ → ChannelWay D → Bool
+quiet_after now w = is_quiet (shown w).attendance (silence_after now w) w.quiet
+
+-- what was seen up to this moment
+abbrev pub seen_along : {D : Type 0} → ℕ → ℕ → ChannelWay D → ChannelWay D
+seen_along linger now w = record w { progress = progress_after now w; silence = silence_after now w; quiet = quiet_after now w; broken = is_broken w.progress (shown w).worked linger now }
+
+-- what is to be told of that
+abbrev pub news_along : {D : Type 0} → ℕ → ℕ → ChannelWay D → News
+news_along linger now w = record {
+  changed = not (nat_eq (shown w).attendance.changes w.progress.changes);
+  alone = is_alone (after_work now w) (shown w).attendance now;
+  quiet = quiet_after now w && not w.quiet;
+}

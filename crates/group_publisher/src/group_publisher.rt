@@ -1,0 +1,238 @@
+//! A publisher to several subscribers from its begin to its end.
+
+ghost use Rattle.std.specs.Prelude.{◌≡◌, ◌≤◌, ◌<◌, IfOk, IfSome, Ok, length};
+ghost use Rattle.std.specs.Arc.{arc_value};
+ghost use Rattle.position.specs.Openings.{IsStart};
+ghost use Rattle.shared_log.specs.Books.{IsDone};
+ghost use Rattle.shared_log.specs.Parts.{IsNewReader};
+ghost use Rattle.agents.specs.LogSenders.{SendsLog};
+ghost use Rattle.peer.specs.declared.ending.Ending.TheVariants.{Whole};
+ghost use Rattle.offering.specs.Ended.{EndsInput};
+ghost use Rattle.publisher.specs.Beginnings.{ArePublisherParts, device_of};
+ghost use Rattle.publisher.specs.Ended.{reading_left};
+ghost use Rattle.publisher.specs.Openings.{ArePasses};
+ghost use Rattle.group_publisher.specs.Beginnings.{AreWaysAlong, IsWayOf};
+ghost use Rattle.group_publisher.specs.Ended.{AllHaveArrived, PublishesAllAlong};
+
+use crate::sender_thread::{GroupDevice, GroupSender};
+use crate::two_threads::{GroupPublished, run};
+use crate::way::Way;
+use agents::{Began, open_stream_sender};
+use endpoint::{Datagrams, DeviceError, Fan, Route, UdpDevice};
+use offering::OfferingState;
+use options::PublishPlan;
+use publisher::{
+    Calls, ChannelDevice, Ending, Offering, Progress, PublishFault, PublisherContext,
+    PublisherParts, SenderPasses, buffered, channel_device, connected, parts_over, shared, started,
+};
+use shared_log::LogReader;
+use std::alloc::Global;
+use std::io::{BufRead, Read, Write};
+use std::net::{Net, SocketAddr};
+use std::sync::Wait;
+use std::thread::Threads;
+use std::time::Clock;
+
+/// A way with this number over a device, along which nothing has gone yet.
+fn way_over<D: Datagrams>(
+    alloc: Global,
+    plan: &PublishPlan,
+    number: usize,
+    peer: SocketAddr,
+    device: D,
+) -> Way<ChannelDevice<D>>
+    requires { number < 8 }
+    ensures { IsWayOf plan.now number peer device result }
+{
+    let device = channel_device(alloc, plan, device);
+    Way {
+        device,
+        number: number as i64,
+        peer,
+        before: Calls { nones: 0, lost: 0 },
+        progress: Progress::new(),
+        silence: None,
+        quiet: false,
+        broken: false,
+    }
+}
+
+/// A way along each route, in order.
+fn ways_along<R: Net>(
+    rt: &R,
+    alloc: Global,
+    plan: &PublishPlan,
+    routes: &[Route],
+) -> Result<Vec<Way<ChannelDevice<UdpDevice>>>, PublishFault>
+    requires { length routes.now ≤ 8 }
+    ensures { IfOk result (λ ways. AreWaysAlong plan.now routes.now ways.items) }
+{
+    let mut ways = Vec::new(alloc);
+    for route in routes {
+        let number = ways.as_slice().len();
+        let device = connected(rt, alloc, route)?;
+        let way = way_over(alloc, plan, number, route.peer, device);
+        if ways.push(way).is_err() {
+            return Err(PublishFault::Failed(DeviceError::Memory));
+        }
+    }
+    Ok(ways)
+}
+
+/// What sends and keeps, from the log's start: to a group of so many receivers, with the numbers of their ways for ids.
+fn opened<'a, D: Datagrams + Drop>(
+    alloc: Global,
+    state: &'a OfferingState,
+    reader: LogReader,
+    passes: SenderPasses<GroupDevice<D>>,
+    ways: usize,
+) -> Result<GroupSender<'a, D>, PublishFault>
+    requires reader { IsNewReader state.now.log 0 reader }
+    requires start { IsStart state.now.log.identity.geometry state.now.log.start }
+    requires consumers { 0 < state.now.log.consumers }
+    requires few { ways ≤ 8 }
+    ensures { IfOk result (λ s. SendsLog state.now.log s.agent × (s.passes ≡ passes)) }
+{
+    let agent = open_stream_sender(alloc, &state.log, reader, Some(ways))?;
+    Ok(GroupSender { agent, passes })
+}
+
+/// What is left of a publisher's parts as its thread starts to send.
+struct Sending<D> {
+    reader: LogReader,
+    passes: SenderPasses<GroupDevice<D>>,
+    ways: usize,
+}
+
+/// Runs over what the threads share: the sender is opened before the other thread is started.
+fn publish_shared<
+    R: Threads + Wait + Clock + Send + Copy + 'static,
+    I: BufRead + Send + Drop + 'static,
+    D: Datagrams + Drop,
+    E: Write,
+>(
+    alloc: Global,
+    context: &PublisherContext<'_, R>,
+    sending: Sending<D>,
+    offering: Offering<I>,
+    errors: &mut E,
+) -> Result<GroupPublished<I>, PublishFault>
+    requires reader { IsNewReader context.now.state.now.log 0 sending.reader }
+    requires start { IsStart context.now.state.now.log.identity.geometry context.now.state.now.log.start }
+    requires consumers { 0 < context.now.state.now.log.consumers }
+    requires few { sending.ways ≤ 8 }
+    requires passes { ArePasses context.now.state.now.log context.now.conductor.now sending.passes }
+    requires offering { ((arc_value offering.state).log ≡ context.now.state.now.log) × IsDone context.now.state.now.log offering.publisher }
+    ensures input { IfOk result (λ e. IfSome e.input (λ left. EndsInput context.now.plan.now.end.form context.now.state.now.log (I.remaining offering.input) (I.remaining left.input) offering.publisher.pass left.publisher left.reading)) }
+    ensures whole { IfOk result (λ e. e.ending ≡ Ok Whole → AllHaveArrived (reading_left e.input) sending.ways e.attendances.items) }
+{
+    let Sending {
+        reader,
+        passes,
+        ways,
+    } = sending;
+    let mut sender = opened(alloc, context.state, reader, passes, ways)?;
+    let reading = started(context.rt, alloc, context.plan, offering)?;
+    run(alloc, context, &mut sender, ways, reading, errors)
+}
+
+/// Runs with all that a publisher to so many subscribers, 1 to 8, begins with, over a way to each, over any devices.
+pub fn publish_group_over<
+    R: Threads + Wait + Clock + Send + Copy + 'static,
+    I: BufRead + Send + Drop + 'static,
+    D: Datagrams + Drop,
+    E: Write,
+>(
+    rt: &R,
+    alloc: Global,
+    plan: &PublishPlan,
+    parts: PublisherParts<GroupDevice<D>>,
+    input: I,
+    errors: &mut E,
+) -> Result<GroupPublished<I>, PublishFault>
+    requires parts { ArePublisherParts plan.now parts }
+    requires few { length parts.passes.duty.device.ways ≤ 8 }
+    ensures input { IfOk result (λ e. IfSome e.input (λ left. EndsInput plan.now.end.form parts.state.log (I.remaining input) (I.remaining left.input) parts.publisher.pass left.publisher left.reading)) }
+    ensures whole { IfOk result (λ e. e.ending ≡ Ok Whole → AllHaveArrived (reading_left e.input) (length parts.passes.duty.device.ways) e.attendances.items) }
+{
+    let PublisherParts {
+        began,
+        state,
+        conductor,
+        publisher,
+        reader,
+        passes,
+    } = parts;
+    let ways = passes.duty.device().each().len();
+    let (ours, theirs) = shared(alloc, state)?;
+    let context = PublisherContext {
+        rt,
+        plan,
+        state: &ours,
+        conductor: &conductor,
+        began,
+    };
+    let offering = Offering {
+        state: theirs,
+        publisher,
+        input,
+    };
+    let sending = Sending {
+        reader,
+        passes,
+        ways,
+    };
+    publish_shared(alloc, &context, sending, offering, errors)
+}
+
+/// All that a publisher begins with, over a way along each route.
+fn prepared<R: Net + Clock>(
+    rt: &R,
+    alloc: Global,
+    plan: &PublishPlan,
+    routes: &[Route],
+) -> Result<PublisherParts<GroupDevice<UdpDevice>>, PublishFault>
+    requires { length routes.now ≤ 8 }
+    ensures parts { IfOk result (λ p. ArePublisherParts plan.now p) }
+    ensures ways { IfOk result (λ p. AreWaysAlong plan.now routes.now p.passes.duty.device.ways) }
+{
+    let began = Began::now(rt)?;
+    let ways = ways_along(rt, alloc, plan, routes)?;
+    parts_over(alloc, plan, began, Fan::new(ways))
+}
+
+/// How it ended; what is left is let go.
+fn ending_of<I: Drop>(published: GroupPublished<I>) -> Result<Ending, PublishFault>
+    ensures { result ≡ published.ending }
+{
+    published.ending
+}
+
+/// Publishes the messages of the input as planned, along each of 1 to 8 routes to a subscriber, and answers how it ended: whole where each
+/// of them has written all. Every datagram goes along each route, and no further than the receivers that are heard let it go, once
+/// each was heard; one that is silent for five seconds holds the others up no longer. What changes along a route, and along which
+/// one not all was written, are lines of `errors`, with the route's peer.
+///
+/// As with one subscriber it waits for nobody but receivers, and the faults are the same: `NoSocket` where the system refused
+/// one along a route, `Device` where each call of each socket failed for the plan's linger.
+pub fn publish_group<
+    R: Threads + Wait + Clock + Net + Sync + Send + Copy + 'static,
+    I: Read + Send + Drop + 'static,
+    E: Write,
+>(
+    rt: &R,
+    alloc: Global,
+    plan: &PublishPlan,
+    routes: &[Route],
+    input: I,
+    errors: &mut E,
+) -> Result<Ending, PublishFault>
+    requires some { 0 < length routes.now }
+    requires few { length routes.now ≤ 8 }
+    ensures { result ≡ Ok Whole → PublishesAllAlong plan.now (length routes.now) (I.remaining input) }
+{
+    let input = buffered(alloc, input)?;
+    let parts = prepared(rt, alloc, plan, routes)?;
+    let published = publish_group_over(rt, alloc, plan, parts, input, errors)?;
+    ending_of(published)
+}

@@ -1,0 +1,30 @@
+//! A publisher's end of a channel with several subscribers, each along a way of its own: every datagram goes along all ways
+//! (`endpoint::Fan`), as far as the least limit of a group lets it go, whose receivers are known by the numbers of their ways
+//! (`Way`), and what comes along a way is screened and noted for itself, as `publisher` does that with one. So a receiver that
+//! comes back along its way under another id goes on where its flow stood, while who has received what goes by the ids.
+//!
+//! What a cycle has shown along each way is exact (`seen_along`), and so is when a publisher ends by that, and how
+//! (`group_ending`): whole exactly where along each way one receiver was heard from the start to the tail, and no other. It
+//! gives up where along one way nobody was ever heard for too long, or nothing more is waited for along any. Along one way that
+//! is how a publisher to one ends (`ends_as_one`).
+//!
+//! Its log, its reading and what is left of its input are as with one subscriber (`publish_group_over`, by `EndsInput`, over
+//! any reader and any devices). Where it ends whole, the reading has ended at the input's end, and what was accepted of it has
+//! arrived along as many ways as it began with (`AllHaveArrived`; `publish_group`, by `PublishesAllAlong`). The lines that name
+//! a way are exact. That ways keep their numbers while datagrams go along them isn't said, nor what a group's sender gives out.
+#![tactic(auto)]
+
+mod ending;
+mod group_publisher;
+mod seeing;
+mod sender_thread;
+mod telling;
+mod two_threads;
+mod way;
+
+pub use crate::group_publisher::{publish_group, publish_group_over};
+pub use ending::{ends_as_one, group_ending};
+pub use seeing::News;
+pub use sender_thread::GroupDevice;
+pub use two_threads::GroupPublished;
+pub use way::Way;

@@ -1,0 +1,127 @@
+//! The two threads of a publisher to several subscribers: one reads messages and offers them, the other sends, keeps the log and
+//! decides the end.
+
+ghost use Rattle.std.specs.Prelude.{◌≡◌, ◌≤◌, IfOk, IfSome, Ok, length, map};
+ghost use Rattle.theory.specs.Position.{max_position};
+ghost use Rattle.agents.specs.LogSenders.{SendsLog};
+ghost use Rattle.peer.specs.declared.ending.Ending.TheVariants.{Whole};
+ghost use Rattle.offering.specs.Ended.{EndsInput};
+ghost use Rattle.publisher.specs.Ended.{reading_left};
+ghost use Rattle.publisher.specs.Openings.{ArePasses};
+ghost use Rattle.group_publisher.specs.Ended.{AllHaveArrived, ending_with};
+ghost use Rattle.group_publisher.specs.Endings.{heard_along};
+
+use crate::sender_thread::{GroupDevice, GroupSender, send_all};
+use crate::telling::tell_refused_ways;
+use crate::way::Way;
+use agents::Duty;
+use endpoint::{Datagrams, DeviceError};
+use offering::{InputEnd, Reader};
+use peer::{Attendance, farewell_bytes};
+use publisher::{
+    ChannelDevice, Ending, PublishFault, PublisherContext, ended, input_end, reading_left, sent_by,
+};
+use std::alloc::{AllocError, Global};
+use std::io::{BufRead, Write};
+use std::sync::Wait;
+use std::thread;
+use std::thread::Threads;
+use std::time::{Clock, Duration};
+
+/// How many times the stream's end is told.
+const FAREWELLS: u32 = 5;
+
+/// Milliseconds from one time to the next.
+const FAREWELL_PAUSE: u64 = 20;
+
+/// How a publisher to several subscribers ended: whom it had heard then along each way, and where its reading had ended too,
+/// what is left of that.
+#[derive(Drop)]
+pub struct GroupPublished<I> {
+    pub ending: Result<Ending, PublishFault>,
+    pub attendances: Vec<Attendance>,
+    pub input: Option<InputEnd<I>>,
+}
+
+/// Whom each way has heard.
+fn attendances_of<D: Datagrams>(
+    alloc: Global,
+    ways: &[Way<ChannelDevice<D>>],
+) -> Result<Vec<Attendance>, AllocError>
+    ensures { IfOk result (λ all. all.items ≡ map heard_along ways.now) }
+{
+    let mut all = Vec::new(alloc);
+    for way in ways {
+        all.push(way.device.attendance())?;
+    }
+    Ok(all)
+}
+
+/// Tells the receivers along all ways where the stream ends: five times, 20 ms apart.
+fn tell_end<R: Clock, D: Datagrams>(
+    context: &PublisherContext<'_, R>,
+    duty: &mut Duty<GroupDevice<D>>,
+    tail: u64,
+)
+    requires { tail ≤ max_position context.now.plan.now.geometry }
+{
+    let farewell = farewell_bytes(&sent_by(context.plan), tail);
+    for count in 0..FAREWELLS {
+        if count > 0 {
+            let _ = thread::sleep(context.rt, Duration::from_millis(FAREWELL_PAUSE));
+        }
+        let _ = duty.device_mut().send(&farewell);
+    }
+}
+
+/// How it ended where so many of its ways are known: whole only where all are.
+fn ending_with(
+    ending: Result<Ending, PublishFault>,
+    known: usize,
+    ways: usize,
+) -> Result<Ending, PublishFault>
+    ensures { result ≡ ending_with ending known ways }
+{
+    match ending {
+        Ok(ending) if known == ways => Ok(ending),
+        Ok(_) => Ok(Ending::Short),
+        Err(fault) => Err(fault),
+    }
+}
+
+/// Sends along so many ways until the publisher ends, and tells the stream's end unless that is by a fault. Where the reading
+/// has ended by then, its thread is joined.
+pub(crate) fn run<R: Threads + Wait + Clock, I: BufRead + Drop, D: Datagrams, E: Write>(
+    alloc: Global,
+    context: &PublisherContext<'_, R>,
+    sender: &mut GroupSender<'_, D>,
+    ways: usize,
+    reader: Reader<I>,
+    errors: &mut E,
+) -> Result<GroupPublished<I>, PublishFault>
+    requires agent { SendsLog context.now.state.now.log sender.old.agent }
+    requires passes { ArePasses context.now.state.now.log context.now.conductor.now sender.old.passes }
+    ensures input { IfOk result (λ p. IfSome p.input (λ e. EndsInput reader.handle.promise.form reader.handle.promise.log.value (I.remaining reader.handle.promise.input.value) (I.remaining e.input) reader.handle.promise.publisher.value.pass e.publisher e.reading)) }
+    ensures whole { IfOk result (λ p. p.ending ≡ Ok Whole → AllHaveArrived (reading_left p.input) ways p.attendances.items) }
+{
+    let sent = send_all(context, sender, errors);
+    context.state.stop();
+    tell_refused_ways(errors, sender.passes.duty.device().each());
+    let heard = attendances_of(alloc, sender.passes.duty.device().each());
+    let input = input_end(context.rt, context, reader);
+    let ending = ended(&reading_left(&input), sent);
+    if ending.is_ok() {
+        let greatest = context.plan.geometry.max_position();
+        let tail = context.state.tail().min(greatest);
+        tell_end(context, &mut sender.passes.duty, tail);
+    }
+    let Ok(attendances) = heard else {
+        return Err(PublishFault::Failed(DeviceError::Memory));
+    };
+    let ending = ending_with(ending, attendances.as_slice().len(), ways);
+    Ok(GroupPublished {
+        ending,
+        attendances,
+        input,
+    })
+}
