@@ -72,10 +72,7 @@ fn command<'a>(alloc: Global) -> Result<Command<'a>, AllocError>
 }
 
 /// What the options that were found tell. The fault is that memory was refused.
-fn publish_of<'a>(
-    alloc: Global,
-    matches: &ArgMatches<'a>,
-) -> Result<PublishOptions<'a>, LineFault>
+fn publish_of<'a>(alloc: Global, matches: &ArgMatches<'a>) -> Result<PublishOptions<'a>, LineFault>
     ensures told { IfOk result (IsPublishOf (rows_of (found_of matches.now))) }
     ensures stream { IfOk result (λ o. o.end.stream < 2 ^ 31) }
     ensures fault { IfErr result (λ fault. fault ≡ LineFault.Memory) }
