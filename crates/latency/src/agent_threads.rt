@@ -104,9 +104,8 @@ fn start_receiver<'s, S, N: Named + Send, R: Wait + Clock + Sync>(
         move || -> ()
             requires { arc_value receiver.now.counters ≡ N.counters }
         {
-            let ended = receive(rt, alloc, state, receiver, TURNS, device);
+            course.end(receive(rt, alloc, state, receiver, TURNS, device));
             state.stop();
-            course.end(ended);
         },
     );
     see(course, started.is_ok());

@@ -10,9 +10,9 @@ use crate::agent_threads::{MeasuredRun, Passes, start_agents};
 use crate::sampling::{await_stream, poll_all};
 use crate::shared_receiver::SharedReceiver;
 use crate::{LatencyError, Samples};
-use agents::Named;
+use agents::{Named, ReceiverAgent};
 use run_parties::ReceiverParts;
-use std::sync::Wait;
+use std::sync::{Mutex, Wait};
 use std::thread;
 use std::thread::{Scope, Threads};
 use std::time::Clock;
@@ -118,7 +118,10 @@ pub fn measure_named<N: Named + Send, R: Threads + Wait + Clock + Sync>(
         writer,
         reader: _,
     } = parts;
-    let receiver = SharedReceiver::<N>::new(subscriber, writer, counters);
+    let receiver = SharedReceiver::<N> {
+        agent: Mutex::new(ReceiverAgent::new(subscriber, writer)),
+        counters,
+    };
     let load = run.load;
     measure(run, &receiver, load.wanted(), passes, samples)
 }
