@@ -59,6 +59,7 @@ fn next_reader(taken: &mut Readers) -> Option<ImageReader>
 /// How long a frame is that the next reader reads, and where it stands then.
 fn passed(taken: &mut Readers, block: &mut Block) -> Option<(u32, u64)>
     requires { 65472 ≤ length block.old }
+    ensures { length block.new ≡ length block.old }
 {
     let mut reader = next_reader(taken)?;
     let image = &*taken.image;
