@@ -1,5 +1,5 @@
 -- The receivers of a run, and what they have left.
-use Rattle.std.proofs.Common.{◌≡◌, ◌∙◌, ℕ, suc, ◌+◌, ◌<◌, ◌≤◌, Result, Ok, Err, List, [], ◌∷◌, ◌++◌, append_assoc, length, length-append, map, ap, subst, sym, refl, arith}
+use Rattle.std.proofs.Common.{◌≡◌, ◌∙◌, ℕ, suc, ◌+◌, ◌<◌, Result, Ok, Err, List, [], ◌∷◌, ◌++◌, append_assoc, length, length-append, map, ap, subst, sym, refl, arith}
 use Rattle.std.specs.Prelude.{IfOk, IsOk, OnOk, remove, slice_index_or}
 use Rattle.std.proofs.lemmas.List.{map-append}
 use Rattle.std.specs.List.{AllByRecursion}

@@ -8,13 +8,15 @@
 //! is a fault, and the sender's and the receivers' faults are told.
 //!
 //! A run of a plan has its numbers of publishers and receivers and its devices' seeds, wants the messages of all its publishers,
-//! and polls no more than these at each receiver (`run`, by `IsOutcome`). What is told of a receiver is the tally of the messages
-//! that its polls gave in a life that began with nothing met and heard what its device handed over (`run_over`, by
-//! `ReceiversLive`); a device over UDP doesn't tell what that was. Its book starts at 0, and entries tile the stream from there to its tail: each publisher's share is that of
-//! the entries that it owns, and as many of these are messages, of the plan's length, as it was told were accepted; numbers
-//! that take no part have none (`IsBook`). How it ended is a broken order first, then messages that weren't accepted or
-//! polled: it is whole only where of each publisher all were accepted, and as many polled in order at each receiver
-//! (`Outcome::ending`, by `ending_of`). That a run offers or polls anything isn't said: tests show it.
+//! and polls no more than these at each receiver (`run`, by `IsOutcome`). What is told of a receiver is the tally of the
+//! messages that its polls gave, in a life that began with nothing met and heard what its device handed over (`run_over`, by
+//! `ReceiversLive`); a device over UDP doesn't tell what that was. A message that was refused as too long is in no tally. What a
+//! publisher claimed, whole, is its messages 0, 1, 2 and so on (`PublishersPublish`). The book starts at 0, and entries tile the
+//! stream from there to its tail: each publisher's share is that of the entries that it owns, and as many of these are messages, of
+//! the plan's length, as it was told were accepted; numbers that take no part have none (`IsBook`). How it ended is a broken
+//! order first, then messages that weren't accepted or polled: it is whole only where of each publisher all were accepted, and
+//! as many polled in order at each receiver (`Outcome::ending`, by `ending_of`). That a run offers or polls anything isn't
+//! said, nor that what is heard is what was sent: tests show it.
 #![tactic(auto)]
 
 mod outcome;

@@ -10,7 +10,7 @@ use Rattle.run_parties.specs.declared.reception.Received.{Received}
 use Rattle.endpoint.specs.Devices.{Device}
 use Rattle.agents.specs.Cycles.{Cycle, HearsAll}
 use Rattle.agents.specs.Parties.{ReceiverHears, ReceiverTicks}
-use Rattle.receiver.specs.Lives.{Act, ActsSo, Gives, GivesNone, Hears, Ticks}
+use Rattle.receiver.specs.Lives.{ActsSo, Gives, GivesNone, Hears, Ticks}
 use Rattle.receiver.specs.Receiving.{Receiver}
 use Rattle.receiver.specs.Subscribing.{RepresentsSubscriber, Subscribing}
 use Rattle.run_parties.specs.Receptions.{Deed, Does, DoesAll, DoesSo, EndsLife, HasLived, Refuses, given_by, heard_by}

@@ -1,9 +1,9 @@
 -- A subscriber's deeds of which none is a refusal are a life.
-use Rattle.std.proofs.Common.{◌≡◌, ℕ, ℤ, List, [], ◌∷◌, ◌++◌, inl, refl, rules, sym, subst, arith}
+use Rattle.std.proofs.Common.{◌≡◌, ℕ, List, [], ◌∷◌, ◌++◌, inl, refl, rules, sym, subst, arith}
 use Rattle.std.specs.Int.{w32}
 use Rattle.std.specs.Prelude.{◌/◌, FitsSigned, pos}
 use Rattle.std.specs.List.{AllByRecursion}
-use Rattle.theory.specs.Position.{Geometry, max_message}
+use Rattle.theory.specs.Position.{max_message}
 use Rattle.theory.specs.Wire.{NAK, SpellsDatagram, Wire, spelling}
 use Rattle.theory.proofs.Readings.{same_frames}
 use Rattle.receiver.specs.Lives.{IsHonest, IsHonestFrame, Lives, PollsARun, Stream}

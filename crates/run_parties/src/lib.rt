@@ -12,8 +12,8 @@
 //!
 //! A receiver's cycles over its device and its subscriber's polls are one life, in the order in which they took its lock: it
 //! began as a receiver that has met nothing, the datagrams that it heard are those that its device has handed over, where that
-//! tells them, and the tally is that of the messages that the polls gave (`SharedReceiver::open`, by `EndsLife`, `HasLived`).
-//! A message that is refused as too long isn't one of them, and the polls go on behind it (`Deed`). Where none was, and each
+//! tells them, and the tally is that of the messages that the polls gave (`run_receiver`, by `HasReceived` and `HasLived`; it is
+//! kept under the lock, and known of what is there once both threads have ended, `SharedReceiver::open`). A message that is refused as too long isn't one of them, and the polls go on behind it (`Deed`). Where none was, and each
 //! datagram is honest for a stream of the run's ids, those messages are a run of the stream's, from the join on
 //! (`gives_a_run`). A tally of messages tells how many they are, and whether each publisher's are its 0, 1, 2 and so on
 //! (`Tally::take`, `polled`, `is_in_order`; `IsTallyOf`, `AreInOrder`); the subscriber's counts no more than was

@@ -1,7 +1,7 @@
 use Rattle.std.proofs.Common.{◌∙◌, ap, length, map, subst, sym, arith}
 use Rattle.std.specs.List.{AllByRecursion}
 use Rattle.theory.specs.Position.{Geometry}
-use Rattle.run.specs.Outcomes.{IsBook, IsPolled, size_of, told_of}
+use Rattle.run.specs.Outcomes.{IsBook, IsPolled, told_of}
 use Rattle.run.specs.Beginnings.{CanClose}
 use Rattle.run.specs.declared.passes.Size.{Size}
 use Rattle.run.proofs.Receivers.{told_many}

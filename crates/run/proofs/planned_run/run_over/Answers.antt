@@ -1,4 +1,4 @@
-use Rattle.std.proofs.Common.{◌∙◌, ap, length, subst, sym, arith}
+use Rattle.std.proofs.Common.{ap, length, arith}
 use Rattle.run.specs.Outcomes.{size_of}
 use Rattle.run.proofs.Closing.{all_received, can_close}
 use Rattle.run.proofs.Receivers.{received_many, told_polled}
