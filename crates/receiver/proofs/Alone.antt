@@ -42,7 +42,7 @@ sees_further (Some i) (Some j) (Some k) f g = record {
 
 each_sees : (u m : Core) (ws : List Wire) (outs : List Outcome) → MeetsEach u ws outs m → ImageSeesOn u.image m.image
 each_sees u m [] outs (none, same) = subst (λ (x : Core). ImageSeesOn u.image x.image) (sym same) (sees_same u.image)
-each_sees u m (w ∷ ws) outs (out, mid, rest, first, is, more) = sees_further u.image mid.image m.image first.0 (each_sees mid m ws rest more)
+each_sees u m (w ∷ ws) outs (out, mid, rest, first, looks, is, more) = sees_further u.image mid.image m.image first.0 (each_sees mid m ws rest more)
 
 pub hears_sees : (v m : Core) (now : ℕ) (bytes : List ℕ) (outs : List Outcome) → HearsDatagram v now bytes outs m → ImageSeesOn v.image m.image
 hears_sees v m now bytes outs (inl (frames, spells, each)) = each_sees _ m frames outs each
@@ -109,7 +109,7 @@ core_where p u m f g = ap (λ (x : Option Inserting). record u { image = x }) (s
 
 squeezed : (r : Option ReaderSeat) (p : ℕ) (a : Option Inserting) (u m : Core) (ws : List Wire) (outs : List Outcome) → AreSeated a r → ImageSeesOn a u.image → AtMost r p m.image → MeetsEach u ws outs m → Becomes u m (λ x s. MeetsAll x ws outs s)
 squeezed r p a u m [] outs seated sees most (none, same) = λ x h. (x, (none, refl), subst (λ (c : Core). Represents c x) (sym same) h)
-squeezed r p a u m (w ∷ ws) outs seated sees most (out, mid, rest, first, is, more) =
+squeezed r p a u m (w ∷ ws) outs seated sees most (out, mid, rest, first, looks, is, more) =
     let then : AtMost r p mid.image = before r p mid.image m.image (each_sees mid m ws rest more) most in
     let to : ImageSeesOn a mid.image = sees_further a u.image mid.image sees first.0 in
     let same : core_seen_as u mid ≡ u = core_where p u mid (pinned r p a u.image seated sees (before r p u.image mid.image first.0 then)) (pinned r p a mid.image seated to then) in

@@ -28,7 +28,7 @@ use Rattle.receiver.specs.declared.setup.fault.SetupError.{SetupError}
 use Rattle.rebuilder.specs.Seen.{Inserting, geometry_of}
 use Rattle.receiver.specs.Receiving.{IfOurs, IsOurs, PassesBy, RefusesDatagram, WouldOpen, Meets, MeetsFrame, MeetsHeartbeat, MeetsSetup, Opened, Receiver, asking, at_moment, given_at, is_due, missing, replied, replies, scanned_at, telling, ticked, told_after}
 use Rattle.receiver.specs.declared.receiver_core.Replies.{Replies}
-use Rattle.receiver.specs.Representing.{Becomes, BecomesSeen, Core, HasNoFrame, HearsBeat, HearsDatagram, ImageSeesOn, Inserts, IsAtEnd, IsCore, MeetsEach, PassesFrame, ReadsPast, Represents, RepresentsImage, RepresentsOpened, SeesOn, beaten_at, core_seen_as, image_seen_as, with_reader}
+use Rattle.receiver.specs.Representing.{Becomes, BecomesSeen, Core, HasNoFrame, HearsBeat, HearsDatagram, ImageLooks, ImageSeesOn, Inserts, IsAtEnd, IsCore, IsForImage, LooksOnce, MeetsEach, PassesFrame, ReadsPast, Represents, RepresentsImage, RepresentsOpened, SeesOn, beaten_at, core_seen_as, image_seen_as, with_reader}
 use Rattle.receiver.proofs.Shown.{fresh, least_shown, opened_open, opened_shown}
 
 -- ---- whether there is an image
@@ -187,9 +187,17 @@ frame_read v i j k before head after some reads r s =
 pub meets_none : (v : Core) → MeetsEach v [] [] v
 meets_none v = (refl, refl)
 
-pub meets_more : (u v w : Core) (ws : List Wire) (outs : List Outcome) (x : Wire) (out : Outcome) → MeetsEach u ws outs v → BecomesSeen v w (λ r s. Meets r x out s) → MeetsEach u (ws ++ x ∷ []) (outs ++ out ∷ []) w
-meets_more u v w [] outs x out (none, here) m = (out, w, [], subst (λ (y : Core). BecomesSeen y w (λ r s. Meets r x out s)) here m, ap (λ (xs : List Outcome). xs ++ out ∷ []) none, (refl, refl))
-meets_more u v w (y ∷ ws) outs x out (o, mid, rest, first, is, all) m = (o, mid, rest ++ out ∷ [], first, ap (λ (xs : List Outcome). xs ++ out ∷ []) is, meets_more mid v w ws rest x out all m)
+pub meets_more : (u v w : Core) (ws : List Wire) (outs : List Outcome) (x : Wire) (out : Outcome) → MeetsEach u ws outs v → BecomesSeen v w (λ r s. Meets r x out s) → (IsForImage v x → ImageLooks v.image w.image) → MeetsEach u (ws ++ x ∷ []) (outs ++ out ∷ []) w
+meets_more u v w [] outs x out (none, here) m looks = (
+  out,
+  w,
+  [],
+  subst (λ (y : Core). BecomesSeen y w (λ r s. Meets r x out s)) here m,
+  subst (λ (y : Core). IsForImage y x → ImageLooks y.image w.image) here looks,
+  ap (λ (xs : List Outcome). xs ++ out ∷ []) none,
+  (refl, refl),
+)
+meets_more u v w (y ∷ ws) outs x out (o, mid, rest, first, looked, is, all) m looks = (o, mid, rest ++ out ∷ [], first, looked, ap (λ (xs : List Outcome). xs ++ out ∷ []) is, meets_more mid v w ws rest x out all m looks)
 
 -- ---- a moment
 
@@ -306,6 +314,15 @@ looked_at v i j some shown r s =
 
 pub sees_image : (v w : Core) (i j : Inserting) → v.image ≡ Some i → w.image ≡ Some j → SeesOn i j → ImageSeesOn v.image w.image
 sees_image v w i j some then sees = subst (λ (x : Option Inserting × Option Inserting). ImageSeesOn x.0 x.1) (λ k. (sym some k, sym then k)) sees
+
+pub looks_image : (v w : Core) (i j : Inserting) → v.image ≡ Some i → w.image ≡ Some j → LooksOnce i j → ImageLooks v.image w.image
+looks_image v w i j some then looks = subst (λ (x : Option Inserting × Option Inserting). ImageLooks x.0 x.1) (λ k. (sym some k, sym then k)) looks
+
+pub looks_nowhere : (v w : Core) → v.image ≡ None → ImageLooks v.image w.image
+looks_nowhere v w none = subst (λ (x : Option Inserting). ImageLooks x w.image) (sym none) tt
+
+pub not_for_image : (v w : Core) (s t : ℤ) (b : Bool) → FitsSigned w32 s → FitsSigned w32 t → (IsTrue b ↔ ((to_z w32 (of_z w32 s) ≡ v.session) × (to_z w32 (of_z w32 t) ≡ v.stream))) → b ≡ false → (s ≡ v.session) × (t ≡ v.stream) → ImageLooks v.image w.image
+not_for_image v w s t b session stream said fails is = absurd (both_ways b fails ((as_ids v b s t session stream said).1 is))
 
 -- ---- what always holds of a core
 

@@ -25,7 +25,7 @@ use Rattle.image.specs.declared.answer.Insert.TheVariants as answers
 use Rattle.rebuilder.specs.Seen as rebuilt
 use Rattle.rebuilder.specs.Seen.{Inserting, Looked, geometry_of, join_of}
 use Rattle.receiver.specs.Receiving.{Opened, answer_at, gap_in, given_at}
-use Rattle.receiver.specs.Representing.{HearsBeat, Inserts, IsOpen, RepresentsImage, SeesOn}
+use Rattle.receiver.specs.Representing.{HearsBeat, Inserts, IsOpen, LooksOnce, RepresentsImage, SeesOn}
 
 -- ---- the least consumer
 
@@ -75,17 +75,29 @@ pub record Answers (v w : Inserting) (z : ℤ) (f : Frame) (a : given.Insert) : 
   pub stored : a ≡ answers.Stored → (p : ℕ) → z ≡ pos p → rebuilt.Inserts v (record { at = p; frame = f }) w
   pub others : (a ≡ answers.Stored → ⊥) → Looked v v.stored v.high w
 
-pub frame_sees : (v w : Inserting) (z : ℤ) (f : Frame) (a : given.Insert) → Answers v w z f a → SeesOn v w
-frame_sees v w z f answers.Duplicate h = sees_on v w _ _ (h.others (λ e. cc))
-frame_sees v w z f answers.Below h = sees_on v w _ _ (h.others (λ e. cc))
-frame_sees v w z f answers.OverWindow h = sees_on v w _ _ (h.others (λ e. cc))
-frame_sees v w z f answers.Overlap h = sees_on v w _ _ (h.others (λ e. cc))
-frame_sees v w z f answers.CrossesTerm h = sees_on v w _ _ (h.others (λ e. cc))
-frame_sees v w (pos p) f answers.Stored h = sees_on v w _ _ (h.stored refl p refl)
-frame_sees v w (negsuc k) f answers.Stored h = absurd (negative (sym h.answer))
+-- it has looked, whatever it answers
+record HasLooked (v w : Inserting) : Type 0 where
+  stored : List Placed
+  high : ℕ
+  looked : Looked v stored high w
+
+frame_looked : (v w : Inserting) (z : ℤ) (f : Frame) (a : given.Insert) → Answers v w z f a → HasLooked v w
+frame_looked v w z f answers.Duplicate h = record { stored = v.stored; high = v.high; looked = h.others (λ e. cc) }
+frame_looked v w z f answers.Below h = record { stored = v.stored; high = v.high; looked = h.others (λ e. cc) }
+frame_looked v w z f answers.OverWindow h = record { stored = v.stored; high = v.high; looked = h.others (λ e. cc) }
+frame_looked v w z f answers.Overlap h = record { stored = v.stored; high = v.high; looked = h.others (λ e. cc) }
+frame_looked v w z f answers.CrossesTerm h = record { stored = v.stored; high = v.high; looked = h.others (λ e. cc) }
+frame_looked v w (pos p) f answers.Stored h = record { stored = record { at = p; frame = f } ∷ v.stored; high = max v.high (end_of (record { at = p; frame = f })); looked = h.stored refl p refl }
+frame_looked v w (negsuc k) f answers.Stored h = absurd (negative (sym h.answer))
   where
     negative : insert_answer_at (geometry_of v) (map head_of v.stored) (least w.seen) v.window (negsuc k) (is_padding f) (frame_length f) ≡ Stored → ⊥
     negative e = not_stored _ e
+
+pub frame_sees : (v w : Inserting) (z : ℤ) (f : Frame) (a : given.Insert) → Answers v w z f a → SeesOn v w
+frame_sees v w z f a h = let l = frame_looked v w z f a h in sees_on v w l.stored l.high l.looked
+
+pub frame_looks : (v w : Inserting) (z : ℤ) (f : Frame) (a : given.Insert) → Answers v w z f a → LooksOnce v w
+frame_looks v w z f a h = (frame_looked v w z f a h).looked.looked
 
 -- the image has one frame more
 more_shown : (v w : Inserting) (o : Opened) (s : Placed) → rebuilt.Inserts v s w → RepresentsImage (record v { seen = w.seen }) o → RepresentsImage w (record o { image = record o.image { stored = s ∷ o.image.stored; high = max o.image.high (end_of s) } })
@@ -128,10 +140,16 @@ pub record Accepts (v w : Inserting) (z : ℤ) (b : Bool) : Type 0 where
   pub raised : b ≡ true → (p : ℕ) → z ≡ pos p → Looked v v.stored p w
   pub refused : b ≡ false → Looked v v.stored v.high w
 
+beat_looked : (v w : Inserting) (z : ℤ) (b : Bool) → Accepts v w z b → HasLooked v w
+beat_looked v w z false h = record { stored = v.stored; high = v.high; looked = h.refused refl }
+beat_looked v w (pos p) true h = record { stored = v.stored; high = p; looked = h.raised refl p refl }
+beat_looked v w (negsuc k) true h = let e = h.answer in absurd (cc)
+
 pub beat_sees : (v w : Inserting) (z : ℤ) (b : Bool) → Accepts v w z b → SeesOn v w
-beat_sees v w z false h = sees_on v w _ _ (h.refused refl)
-beat_sees v w (pos p) true h = sees_on v w _ _ (h.raised refl p refl)
-beat_sees v w (negsuc k) true h = let e = h.answer in absurd (cc)
+beat_sees v w z b h = let l = beat_looked v w z b h in sees_on v w l.stored l.high l.looked
+
+pub beat_looks : (v w : Inserting) (z : ℤ) (b : Bool) → Accepts v w z b → LooksOnce v w
+beat_looks v w z b h = (beat_looked v w z b h).looked.looked
 
 beaten_shown : (v w : Inserting) (o : Opened) (z : ℤ) (b : Bool) → RepresentsImage (record v { seen = w.seen }) o → Accepts v w z b → RepresentsImage w (record o { image = after_heartbeat o.geometry o.image (least_of o.image.consumers) z })
 beaten_shown v w o (negsuc n) b h is = still_shown v w o (is.refused is.answer) h

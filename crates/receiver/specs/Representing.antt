@@ -3,7 +3,7 @@
 -- the receivers of its numbers whose image stored these frames, and whose consumers stand where it saw them. Consumers may go
 -- forward between two of its calls. What a call makes of a receiver is therefore promised for those whose consumers stand
 -- where this very call saw them (`BecomesSeen`).
-use Rattle.std.specs.Prelude.{◌≡◌, ℕ, ◌+◌, ◌^◌, ◌≤◌, ℤ, ⊤, List, [], ◌∷◌, map, max, length, slice_get, slice_index, slice_set, Option, None, Some, ◌⊎◌}
+use Rattle.std.specs.Prelude.{◌≡◌, ℕ, suc, ◌+◌, ◌<◌, ◌^◌, ◌≤◌, ℤ, ⊤, List, [], ◌∷◌, map, max, length, slice_get, slice_index, slice_set, Option, None, Some, ◌⊎◌}
 use Rattle.std.specs.List.{AllByRecursion}
 use Rattle.std.specs.Option.{ForSome}
 use Rattle.block.specs.Bytes.{with_front}
@@ -14,7 +14,7 @@ use Rattle.theory.specs.Consumer.{Consumer, least_of}
 use Rattle.theory.specs.Image.{after_heartbeat}
 use Rattle.theory.specs.Control.{named_by}
 use Rattle.theory.specs.Timing.{LastStatus, Watch}
-use Rattle.theory.specs.Wire.{Header, IsHeader, SpellsDatagram, Wire}
+use Rattle.theory.specs.Wire.{DATA, HEARTBEAT, Header, IsHeader, NAK, PAD, SETUP, SM, SpellsDatagram, Wire}
 use Rattle.image.specs.Kinds.{head_at}
 use Rattle.image.specs.Seen.{IsCount}
 use Rattle.image.specs.Stored.{meant}
@@ -112,6 +112,25 @@ ImageSeesOn None (Some j) = IsOpen j
 ImageSeesOn (Some i) None = ⊥
 ImageSeesOn (Some i) (Some j) = SeesOn i j
 
+-- it has looked once at each consumer
+abbrev pub LooksOnce : Inserting → Inserting → Type 0
+LooksOnce i j = (n : ℕ) → n < i.key.consumers → slice_index j.looks n ≡ suc (slice_index i.looks n)
+
+-- the same, if there was an image
+abbrev pub ImageLooks : Option Inserting → Option Inserting → Type 0
+ImageLooks None w = ⊤
+ImageLooks (Some i) None = ⊥
+ImageLooks (Some i) (Some j) = LooksOnce i j
+
+-- the frames of its stream whose answer rests on where the consumers stand
+abbrev pub IsForImage : Core → Wire → Type 0
+IsForImage v (DATA h flags payload) = (h.session ≡ v.session) × (h.stream ≡ v.stream)
+IsForImage v (PAD h n) = (h.session ≡ v.session) × (h.stream ≡ v.stream)
+IsForImage v (HEARTBEAT h) = (h.session ≡ v.session) × (h.stream ≡ v.stream)
+IsForImage v (NAK f) = ⊥
+IsForImage v (SM asks f) = ⊥
+IsForImage v (SETUP f) = ⊥
+
 -- an image whose consumers stand where a later state of it saw them
 abbrev pub image_seen_as : Option Inserting → Option Inserting → Option Inserting
 image_seen_as None w = None
@@ -126,11 +145,12 @@ core_seen_as v w = record v { image = image_seen_as v.image w.image }
 abbrev pub BecomesSeen : Core → Core → (Receiver → Receiver → Type 0) → Type 0
 BecomesSeen old new Step = ImageSeesOn old.image new.image × Becomes (core_seen_as old new) new Step
 
--- the frames of a datagram one after the other; before each the consumers may have gone forward
+-- the frames of a datagram one after the other; before each the consumers may have gone forward, and for each whose answer
+-- rests on where they stand it looks at them anew
 abbrev pub MeetsEach : Core → List Wire → List Outcome → Core → Type 0
 MeetsEach old [] outs new = (outs ≡ []) × (new ≡ old)
 MeetsEach old (w ∷ ws) outs new =
-    (out : Outcome) × (mid : Core) × (rest : List Outcome) × BecomesSeen old mid (λ r s. Meets r w out s) × (outs ≡ out ∷ rest) × MeetsEach mid ws rest new
+    (out : Outcome) × (mid : Core) × (rest : List Outcome) × BecomesSeen old mid (λ r s. Meets r w out s) × (IsForImage old w → ImageLooks old.image mid.image) × (outs ≡ out ∷ rest) × MeetsEach mid ws rest new
 
 -- a datagram at a moment: each of its frames, or its first fault
 abbrev pub HearsDatagram : Core → ℕ → List ℕ → List Outcome → Core → Type 0

@@ -17,7 +17,7 @@ ghost use Rattle.shared_image.specs.Handles.{IsReaderOf, position_of};
 ghost use Rattle.rebuilder.specs.Meeting.{AreAlone, Meets, number_of};
 ghost use Rattle.rebuilder.specs.Seen.{geometry_of, join_of};
 ghost use Rattle.receiver.specs.Receiving.{Opened, gap_in};
-ghost use Rattle.receiver.specs.Representing.{GoesForward, HearsBeat, Inserts, IsAtEnd, ReadsPast, RepresentsImage, SeesOn, words_of};
+ghost use Rattle.receiver.specs.Representing.{GoesForward, HearsBeat, Inserts, IsAtEnd, LooksOnce, ReadsPast, RepresentsImage, SeesOn, words_of};
 ghost use Rattle.receiver.specs.Dealt.{TakesReaders};
 ghost use Rattle.receiver.specs.Seating.{AreSeated, MaySit, SitsAt, place_of};
 
@@ -142,6 +142,7 @@ impl OpenImage {
         requires of_stream { IsOfStream frame.now }
         ensures inserted { Inserts self.old (header_of header.now) (stream_frame frame.now) result self.new }
         ensures sees { SeesOn self.old self.new }
+        ensures looks { LooksOnce self.old self.new }
     {
         let position = position_in(&self.geometry(), header);
         let image = &*self.image;
@@ -153,6 +154,7 @@ impl OpenImage {
         requires header { IsHeader (header_of header.now) }
         ensures heard { HearsBeat self.old (header_of header.now) self.new }
         ensures sees { SeesOn self.old self.new }
+        ensures looks { LooksOnce self.old self.new }
     {
         let position = position_in(&self.geometry(), header);
         let image = &*self.image;
@@ -179,6 +181,7 @@ impl OpenImage {
         ensures low { result ≤ max_position (geometry_of self.new) }
         ensures shown { (o : Opened) → RepresentsImage (record self.old { seen = self.new.seen }) o → RepresentsImage self.new o }
         ensures sees { SeesOn self.old self.new }
+        ensures looks { LooksOnce self.old self.new }
     {
         let image = &*self.image;
         least(image, &mut self.inserter)

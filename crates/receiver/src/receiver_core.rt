@@ -126,7 +126,7 @@ impl Model for ReceiverCore {
 
 impl ReceiverCore {
     ghost use Rattle.receiver.specs.Receiving.{IfOurs, IsOurs, IsSetupWire, WouldOpen, Meets, MeetsFrame, MeetsHeartbeat, MeetsSetup, Receiver, listening, missing, replied, replies, scanned_at, telling, ticked, told_after};
-    ghost use Rattle.receiver.specs.Representing.{BecomesSeen, GoesForward, HasNoFrame, HearsDatagram, ImageSeesOn, MeetsEach, PassesFrame, Represents, core_seen_as, place_in};
+    ghost use Rattle.receiver.specs.Representing.{BecomesSeen, GoesForward, HasNoFrame, HearsDatagram, ImageLooks, ImageSeesOn, IsForImage, MeetsEach, PassesFrame, Represents, core_seen_as, place_in};
 
     /// A receiver without an image, for one to eight consumers. Its window is in bytes.
     pub fn new(
@@ -354,6 +354,7 @@ impl ReceiverCore {
     fn on_frame(&mut self, frame: &Frame<'_>) -> Result<Outcome, AllocError>
         requires { IsFrame (wire frame.now) }
         ensures met { IfOk result (λ out. BecomesSeen self.old self.new (λ r s. Meets r (wire frame.now) out s)) }
+        ensures looks { IfOk result (λ _. IsForImage self.old (wire frame.now) → ImageLooks self.old.image self.new.image) }
         ensures refused { OnErr result (self.new ≡ self.old) }
         ensures wanted { OnErr result (IsSetupWire (wire frame.now)) }
         ensures consumers { self.new.consumers ≡ self.old.consumers }
@@ -379,6 +380,7 @@ impl ReceiverCore {
         requires frame { IsFrame (wire frame.now) }
         requires stored { IsOfStream frame.now }
         ensures met { BecomesSeen self.old self.new (λ r s. IfOurs r header.now.session header.now.stream (MeetsFrame r.image r (header_of header.now) (stream_frame frame.now) result s) result s) }
+        ensures looks { (header.now.session ≡ self.old.session) × (header.now.stream ≡ self.old.stream) → ImageLooks self.old.image self.new.image }
         ensures consumers { self.new.consumers ≡ self.old.consumers }
     {
         if self.is_mine(header.session, header.stream) {
@@ -394,6 +396,7 @@ impl ReceiverCore {
         requires frame { IsFrame (wire frame.now) }
         requires stored { IsOfStream frame.now }
         ensures met { BecomesSeen self.old self.new (λ r s. MeetsFrame r.image r (header_of header.now) (stream_frame frame.now) result s) }
+        ensures looks { ImageLooks self.old.image self.new.image }
         ensures consumers { self.new.consumers ≡ self.old.consumers }
     {
         match &mut self.image {
@@ -408,6 +411,7 @@ impl ReceiverCore {
     fn on_heartbeat(&mut self, header: &Header) -> Outcome
         requires { IsHeader (header_of header.now) }
         ensures met { BecomesSeen self.old self.new (λ r s. IfOurs r header.now.session header.now.stream (MeetsHeartbeat r.image r (header_of header.now) result s) result s) }
+        ensures looks { (header.now.session ≡ self.old.session) × (header.now.stream ≡ self.old.stream) → ImageLooks self.old.image self.new.image }
         ensures consumers { self.new.consumers ≡ self.old.consumers }
     {
         if self.is_mine(header.session, header.stream) {
@@ -420,6 +424,7 @@ impl ReceiverCore {
     fn hear(&mut self, header: &Header) -> Outcome
         requires { IsHeader (header_of header.now) }
         ensures met { BecomesSeen self.old self.new (λ r s. MeetsHeartbeat r.image r (header_of header.now) result s) }
+        ensures looks { ImageLooks self.old.image self.new.image }
         ensures consumers { self.new.consumers ≡ self.old.consumers }
     {
         match &mut self.image {
@@ -474,6 +479,7 @@ impl ReceiverCore {
         ensures replies { (r : Receiver) → Represents (core_seen_as self.old self.new) r → replied result ≡ replies r now }
         ensures state { (r : Receiver) → Represents (core_seen_as self.old self.new) r → Represents self.new (ticked r now) }
         ensures sees { ImageSeesOn self.old.image self.new.image }
+        ensures looks { ImageLooks self.old.image self.new.image }
         ensures written { AllByRecursion IsFrame (replied result) }
         ensures consumers { self.new.consumers ≡ self.old.consumers }
     {
@@ -524,6 +530,7 @@ impl ReceiverCore {
         ensures told { (r : Receiver) → Represents (core_seen_as self.old self.new) r → map (λ f. SM 0 (status_of f)) (option_to_list result) ≡ telling r.image r }
         ensures state { (r : Receiver) → Represents (core_seen_as self.old self.new) r → Represents self.new (record r { told = told_after r.image r }) }
         ensures sees { ImageSeesOn self.old.image self.new.image }
+        ensures looks { ImageLooks self.old.image self.new.image }
         ensures consumers { self.new.consumers ≡ self.old.consumers }
     {
         match &mut self.image {

@@ -4,7 +4,7 @@ use Rattle.std.proofs.lemmas.Int.{to_z-of_z}
 use Rattle.theory.specs.Control.{named_by}
 use Rattle.frames.specs.Frames.{header_of}
 use Rattle.rebuilder.specs.Seen.{geometry_of}
-use Rattle.receiver.proofs.Shown.{Accepts, beat_heard, beat_sees}
+use Rattle.receiver.proofs.Shown.{Accepts, beat_heard, beat_looks, beat_sees}
 use Rattle.receiver.proofs.Rooms.{open_as}
 use Rattle.receiver.proofs.opened.OpenImage.hear.Goals as goal
 
@@ -25,3 +25,6 @@ pub invariant_of-self : goal.invariant_of-self
 invariant_of-self c =
     let s = beat_sees c.self.inside.inserter c.heartbeat.new.inserter (to_z w64 (of_z w64 c.position_in-position.result)) c.heartbeat.result (accepts c) in
     open_as (arc_value c.self.inside.image) c.self.inside.inserter c.heartbeat.new.inserter c.self.inside.room c.self.invariant s.of s.key s.undealt
+
+pub returns-clause-looks : goal.returns-clause-looks
+returns-clause-looks c = rw (← c.self.view_is) (beat_looks c.self.inside.inserter c.heartbeat.new.inserter (to_z w64 (of_z w64 c.position_in-position.result)) c.heartbeat.result (accepts c))

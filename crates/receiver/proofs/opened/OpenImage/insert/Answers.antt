@@ -5,7 +5,7 @@ use Rattle.theory.specs.Control.{named_by}
 use Rattle.frames.specs.Frames.{header_of}
 use Rattle.image.specs.Stored.{stream_frame}
 use Rattle.rebuilder.specs.Seen.{geometry_of}
-use Rattle.receiver.proofs.Shown.{Answers, frame_inserted, frame_sees}
+use Rattle.receiver.proofs.Shown.{Answers, frame_inserted, frame_looks, frame_sees}
 use Rattle.receiver.proofs.Rooms.{open_as}
 use Rattle.receiver.proofs.opened.OpenImage.insert.Goals as goal
 
@@ -26,3 +26,6 @@ pub invariant_of-self : goal.invariant_of-self
 invariant_of-self c =
     let s = frame_sees c.self.inside.inserter c.insert.new.inserter (to_z w64 (of_z w64 c.position_in-position.result)) (stream_frame c.args.frame.now) c.insert.result (answers c) in
     open_as (arc_value c.self.inside.image) c.self.inside.inserter c.insert.new.inserter c.self.inside.room c.self.invariant s.of s.key s.undealt
+
+pub returns-clause-looks : goal.returns-clause-looks
+returns-clause-looks c = rw (← c.self.view_is) (frame_looks c.self.inside.inserter c.insert.new.inserter (to_z w64 (of_z w64 c.position_in-position.result)) (stream_frame c.args.frame.now) c.insert.result (answers c))

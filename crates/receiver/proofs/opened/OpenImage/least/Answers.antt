@@ -13,3 +13,6 @@ pub invariant_of-self : goal.invariant_of-self
 invariant_of-self c =
     let s = sees_on c.self.inside.inserter c.least.new.inserter _ _ c.least.ensures.looked in
     open_as (arc_value c.self.inside.image) c.self.inside.inserter c.least.new.inserter c.self.inside.room c.self.invariant s.of s.key s.undealt
+
+pub returns-clause-looks : goal.returns-clause-looks
+returns-clause-looks c = rw (← c.self.view_is) c.least.ensures.looked.looked

@@ -47,7 +47,7 @@ loop-turn-preserved c = record {
         slice_to_end c.loop-turn.rest.now c.known_frame-size.result.1 ∙ next.dropped,
         subst (λ ws. MeetsEach c.args.self.now ws c.push_reserved.new.self.items c.on_frame.new.self) next.taken
             (subst (λ outs. MeetsEach c.args.self.now (take i frames ++ wire c.known_frame-size.result.0 ∷ []) outs c.on_frame.new.self) (sym c.push_reserved.ensures.items)
-            (meets_more c.args.self.now c.loop-turn.self c.on_frame.new.self (take i frames) c.loop-turn.outcomes.items (wire c.known_frame-size.result.0) c.in_ok-outcome.outcome before.1 c.in_ok-outcome.ensures.met)),
+            (meets_more c.args.self.now c.loop-turn.self c.on_frame.new.self (take i frames) c.loop-turn.outcomes.items (wire c.known_frame-size.result.0) c.in_ok-outcome.outcome before.1 c.in_ok-outcome.ensures.met c.in_ok-outcome.ensures.looks)),
       );
   room = omega (arith, c.loop-turn.invariant.room, c.push_reserved.ensures.len, c.push_reserved.ensures.capacity, c.loop-turn-test.true);
   fresh = λ e. absurd (omega arith);

@@ -3,7 +3,7 @@ use Rattle.frames.specs.Frames.{header_of}
 use Rattle.image.specs.Stored.{stream_frame}
 use Rattle.receiver.specs.Receiving.{MeetsFrame}
 use Rattle.receiver.specs.declared.receiver_core.Outcome.TheVariants as outcomes
-use Rattle.receiver.proofs.Meeting.{as_ids, not_mine, of_ours}
+use Rattle.receiver.proofs.Meeting.{as_ids, not_mine, of_ours, not_for_image}
 use Rattle.receiver.proofs.receiver_core.ReceiverCore.on_stored.Goals as goal
 
 pub returns-then-is_mine-clause-met : goal.returns-then-is_mine-clause-met
@@ -17,3 +17,9 @@ returns-else-is_mine-clause-met c =
     let session : FitsSigned w32 c.args.header.now.session = search rules in
     let stream : FitsSigned w32 c.args.header.now.stream = search rules in
     not_mine c.args.self.now c.args.header.now.session c.args.header.now.stream c.is_mine.result (λ r s. MeetsFrame r.image r (header_of c.args.header.now) (stream_frame c.args.frame.now) outcomes.Other s) (as_ids c.args.self.now c.is_mine.result _ _ session stream c.is_mine.ensures) c.if-is_mine.false
+
+pub returns-else-is_mine-clause-looks : goal.returns-else-is_mine-clause-looks
+returns-else-is_mine-clause-looks c =
+    let session : FitsSigned w32 c.args.header.now.session = search rules in
+    let stream : FitsSigned w32 c.args.header.now.stream = search rules in
+    not_for_image c.args.self.now c.args.self.now c.args.header.now.session c.args.header.now.stream c.is_mine.result session stream c.is_mine.ensures c.if-is_mine.false

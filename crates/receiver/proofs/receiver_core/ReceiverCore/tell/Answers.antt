@@ -7,7 +7,7 @@ use Rattle.receiver.specs.Representing.{Represents, last_status_of}
 use Rattle.receiver.specs.contracts.receiver_core.ReceiverCore.{the_view}
 use Rattle.theory.specs.Wire.{SM}
 use Rattle.frames.specs.Frames.{status_of}
-use Rattle.receiver.proofs.Meeting.{imaged, looked_at, not_told, sees_image, status_same, told_at, told_now}
+use Rattle.receiver.proofs.Meeting.{imaged, looked_at, not_told, sees_image, status_same, told_at, told_now, looks_image}
 use Rattle.receiver.proofs.receiver_core.ReceiverCore.tell.Goals as goal
 
 pub returns-then-not-is_due-clause-told : goal.returns-then-not-is_due-clause-told
@@ -49,3 +49,9 @@ returns-else-not-is_due-clause-state c =
     let message = c.status_at-status.ensures ∙ status_same c.geometry.ensures.value (to_z-of_z w32 c.self.inside.session session) (to_z-of_z w32 c.self.inside.stream stream) c.least-position.ensures.value c.window.ensures.value (to_z-of_z w64 c.self.inside.receiver receiver) in
     let width = c.least-position.ensures.sees.window ∙ c.self.invariant.width _ c.in-Some.is in
     rw (← c.self.view_is) (λ r s. subst (λ p. Represents (told_at (imaged (the_view c.self.inside) j) p) (record r { told = told_after r.image r })) (sym c.least-position.ensures.value) (told_now (imaged (the_view c.self.inside) j) j c.is_due.result (SM 0 (status_of c.status_at-status.result)) refl width due c.if-not-is_due.false message r (looked_at (the_view c.self.inside) _ j c.in-Some.is c.least-position.ensures.shown r s)).1)
+
+pub returns-then-not-is_due-clause-looks : goal.returns-then-not-is_due-clause-looks
+returns-then-not-is_due-clause-looks c = rw (← c.self.view_is) (looks_image (the_view c.self.inside) (imaged (the_view c.self.inside) c.least-position.new.self) _ c.least-position.new.self c.in-Some.is refl c.least-position.ensures.looks)
+
+pub returns-else-not-is_due-clause-looks : goal.returns-else-not-is_due-clause-looks
+returns-else-not-is_due-clause-looks c = rw (← c.self.view_is) (looks_image (the_view c.self.inside) (imaged (the_view c.self.inside) c.least-position.new.self) _ c.least-position.new.self c.in-Some.is refl c.least-position.ensures.looks)

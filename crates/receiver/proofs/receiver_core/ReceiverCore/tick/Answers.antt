@@ -4,7 +4,7 @@ use Rattle.std.specs.Option.{option_to_list}
 use Rattle.frames.specs.Frames.{nak_of, status_of}
 use Rattle.theory.specs.Control.{asking_at}
 use Rattle.theory.specs.Wire.{NAK, SM}
-use Rattle.receiver.specs.Representing.{Core, ImageSeesOn, Represents, core_seen_as}
+use Rattle.receiver.specs.Representing.{Core, ImageLooks, ImageSeesOn, Represents, core_seen_as}
 use Rattle.receiver.proofs.Meeting.{TicksBy, at_tick, tick_replies, tick_state}
 use Rattle.receiver.proofs.receiver_core.ReceiverCore.tick.Goals as goal
 
@@ -31,3 +31,6 @@ returns-clause-state c = tick_state c.args.self.now c.tell-status.new.self c.mis
 
 pub returns-clause-sees : goal.returns-clause-sees
 returns-clause-sees c = subst (ImageSeesOn c.args.self.now.image) (sym c.miss-nak.ensures.image) (subst (λ (v : Core). ImageSeesOn v.image c.tell-status.new.self.image) (ticked_is c) c.tell-status.ensures.sees)
+
+pub returns-clause-looks : goal.returns-clause-looks
+returns-clause-looks c = subst (ImageLooks c.args.self.now.image) (sym c.miss-nak.ensures.image) (subst (λ (v : Core). ImageLooks v.image c.tell-status.new.self.image) (ticked_is c) c.tell-status.ensures.looks)
