@@ -4,3 +4,4 @@ pub mod WrittenLines
 pub mod LineStatuses
 mod BoundRows
 pub mod PrintedLines
+pub mod Routes

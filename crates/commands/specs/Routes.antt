@@ -1,5 +1,5 @@
 -- Where an end's socket is bound, and to whom it sends.
-use Rattle.std.specs.Prelude.{◌≡◌, ℕ, Option, None, Some}
+use Rattle.std.specs.Prelude.{◌≡◌, ◌++◌, ⊤, ℕ, List, [], ◌∷◌, codes, Option, None, Some}
 use Rattle.std.specs.Net.Addr.{IsUnspecifiedV4, IsUnspecifiedV6, IsV4And, IsV6And, MatchIp}
 use Rattle.std.specs.Net.Socket.{IsPlainSocket, socket_ip, socket_port}
 use Rattle.std.specs.declared.net.IpAddr.{IpAddr}
@@ -10,6 +10,8 @@ use Rattle.channel.specs.declared.host.Host.{Host}
 use Rattle.channel.specs.declared.host.Host.TheVariants.{Address, Name}
 use Rattle.endpoint.specs.declared.udp.Binding.{Binding}
 use Rattle.endpoint.specs.declared.udp.Route.{Route}
+use Rattle.commands.specs.declared.route.RouteFault.{RouteFault}
+use Rattle.commands.specs.declared.route.RouteFault.TheVariants.{Unknown, Memory}
 
 -- this address and port, and nothing else
 pub record IsAt (a : IpAddr) (port : ℕ) (s : SocketAddr) : Type 0 where
@@ -41,6 +43,24 @@ pub record IsRouteOf (t : Transport) (peer : SocketAddr) (r : Route) : Type 0 wh
   pub ttl : r.binding.ttl ≡ t.ttl
   pub source : IsSource t.interface (socket_ip peer) (socket_ip r.binding.address)
   pub any_port : IsPlainSocket r.binding.address 0
+
+-- to its endpoint's own address, or one that was found for its name
+pub record IsRouteAlong (t : Transport) (r : Route) : Type 0 where
+  pub peer : SocketAddr
+  pub found : IsPeer t t.endpoint.host peer
+  pub is : IsRouteOf t peer r
+
+-- along each way one, in order
+abbrev pub AreRoutesAlong : List Transport → List Route → Type 0
+AreRoutesAlong [] [] = ⊤
+AreRoutesAlong [] (r ∷ rs) = ⊥
+AreRoutesAlong (t ∷ ts) [] = ⊥
+AreRoutesAlong (t ∷ ts) (r ∷ rs) = IsRouteAlong t r × AreRoutesAlong ts rs
+
+-- what a user reads where there are none
+abbrev pub route_text : RouteFault → List ℕ
+route_text (Unknown unknown) = codes "no address of " ++ unknown.0.now ++ codes " was found"
+route_text Memory = codes "memory"
 
 -- at the interface and the endpoint's port, or at the endpoint's own address
 abbrev pub IsHearing : Option IpAddr → SocketAddr → SocketAddr → Type 0

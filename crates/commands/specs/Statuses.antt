@@ -1,5 +1,5 @@
 -- The statuses that a command line ends with.
-use Rattle.std.specs.Prelude.{◌≡◌, ◌≤◌, ◌↔◌, ◌⊎◌, ℕ, List, [], codes, drop, Result, Ok, Err}
+use Rattle.std.specs.Prelude.{◌≡◌, ◌≢◌, ◌≤◌, ◌↔◌, ◌⊎◌, ℕ, List, [], codes, drop, Result, Ok, Err}
 use Rattle.clap.specs.Words.{Kinds, Text, fault_of, matches_of}
 use Rattle.peer.specs.declared.ending.Ending.{Ending as Published}
 use Rattle.peer.specs.declared.ending.Ending.TheVariants as published
@@ -8,6 +8,10 @@ use Rattle.subscriber.specs.declared.ended.Ending.TheVariants as subscribed
 use Rattle.subscriber.specs.declared.ended.Subscribed.{Subscribed}
 use Rattle.run.specs.declared.outcome.Ending.{Ending as Ran}
 use Rattle.run.specs.declared.outcome.Ending.TheVariants as ran
+use Rattle.std.specs.Borrow.{Bor}
+use Rattle.options.specs.Ends.Ways.{ExplainsNoWays}
+use Rattle.options.specs.declared.ends.way_fault.WayFault.{WayFault}
+use Rattle.options.specs.declared.ends.way_fault.WayFault.TheVariants as ways
 use Rattle.options.specs.Ends.Plans.{ExplainsNoPublishPlan, ExplainsNoSubscribePlan, IsPublishPlanOf, IsSubscribePlanOf}
 use Rattle.options.specs.declared.ends.ids.Drawn.{Drawn}
 use Rattle.options.specs.declared.ends.fault.EndFault.{EndFault}
@@ -67,9 +71,15 @@ pub record IsStatusOf (faults : Kinds) (status : ℕ) : Type 0 where
 
 -- ---- why a line ends with 2
 
--- what an end is told makes no plan, for its channel or its rates
+-- there are no ways to the endpoints of a plan's channel and these
+abbrev pub NoWays : PublishPlan → List (Bor (List ℕ)) → Type 0
+NoWays p to = (f : WayFault) × ExplainsNoWays p.end.transport to f × (f ≢ ways.Memory)
+
+-- what an end is told makes no plan, for its channel or its rates, or there are no ways to its endpoints
 abbrev pub NoPublishPlan : PublishOptions → Type 0
-NoPublishPlan o = (d : Drawn) × (f : EndFault) × ExplainsNoPublishPlan o d f
+NoPublishPlan o =
+    ((d : Drawn) × (f : EndFault) × ExplainsNoPublishPlan o d f)
+    ⊎ ((d : Drawn) × (p : PublishPlan) × IsPublishPlanOf o d p × NoWays p o.to.items)
 
 abbrev pub NoSubscribePlan : SubscribeOptions → Type 0
 NoSubscribePlan o = (f : EndFault) × ExplainsNoSubscribePlan o f

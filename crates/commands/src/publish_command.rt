@@ -1,16 +1,18 @@
 //! The command `publish`.
 
-ghost use Rattle.std.specs.Prelude.{◌≡◌, ◌≢◌, ◌≤◌, ◌<◌, ◌^◌, map};
+ghost use Rattle.std.specs.Prelude.{◌≡◌, ◌≢◌, ◌≤◌, ◌<◌, ◌^◌, length, map};
 ghost use Rattle.clap.specs.Words.{fault_of};
 ghost use Rattle.command_line.specs.Lines.{publish_app};
-ghost use Rattle.commands.specs.Statuses.{HasPublishPlan, IsStatusOf, NoPublishPlan, RefusesPublish, published_status};
+ghost use Rattle.commands.specs.Statuses.{HasPublishPlan, IsStatusOf, NoPublishPlan, NoWays, RefusesPublish, published_status};
 
 use crate::drawn_ids::drawn_ids;
 use crate::fault::Fault;
-use crate::route::{peer_of, route_of};
+use crate::route::{peer_of, route_of, routes_of};
 use crate::status::{failed, line_status, unplanned};
+use channel::Transport;
 use command_line::publish_options;
-use options::{PublishOptions, PublishPlan, publish_plan};
+use group_publisher::publish_group;
+use options::{PublishOptions, PublishPlan, WayFault, publish_plan, ways_of};
 use publisher::{Ending, PublishFault, publish};
 use std::alloc::Global;
 use std::io::{Read, Write};
@@ -40,7 +42,47 @@ fn publish_planned<
     }
 }
 
-/// Publishes as it is told, and gives the status: 2 where the channel or the rates make no plan.
+/// Publishes as planned along several ways, and gives the status; an address that isn't found is told.
+fn publish_along<
+    C: Threads + Wait + Clock + Net + Sync + Send + Copy + 'static,
+    R: Read + Send + Drop + 'static,
+    E: Write,
+>(rt: &C, alloc: Global, plan: &PublishPlan, ways: &[Transport], input: R, errors: &mut E) -> u8
+    requires some { 0 < length ways.now }
+    requires few { length ways.now ≤ 8 }
+    ensures most { result ≤ 3 }
+    ensures accepted { result ≢ 2 }
+{
+    match routes_of(rt, alloc, ways) {
+        Ok(routes) => {
+            let ended = publish_group(rt, alloc, plan, &routes, input, errors);
+            published(&ended, errors)
+        }
+        Err(fault) => failed(&fault, errors),
+    }
+}
+
+/// Publishes as planned to the channel's endpoint and these, and gives the status: 2 where there are no ways to them.
+fn publish_to<
+    C: Threads + Wait + Clock + Net + Sync + Send + Copy + 'static,
+    R: Read + Send + Drop + 'static,
+    E: Write,
+>(rt: &C, alloc: Global, plan: &PublishPlan, to: &[&str], input: R, errors: &mut E) -> u8
+    ensures most { result ≤ 3 }
+    ensures refused { result ≡ 2 → NoWays plan.now to.now }
+{
+    if to.is_empty() {
+        return publish_planned(rt, alloc, plan, input, errors);
+    }
+    match ways_of(alloc, &plan.end.transport, to) {
+        Ok(ways) => publish_along(rt, alloc, plan, &ways, input, errors),
+        Err(WayFault::Memory) => failed(&WayFault::Memory, errors),
+        Err(fault) => unplanned(&fault, errors),
+    }
+}
+
+/// Publishes as it is told, and gives the status: 2 where the channel or the rates make no plan, or there is no way to an
+/// endpoint.
 fn publish_told<
     C: Threads + Wait + Clock + Net + RandomSource + Sync + Send + Copy + 'static,
     R: Read + Send + Drop + 'static,
@@ -54,7 +96,7 @@ fn publish_told<
     let (drawn, given) = drawn_ids(rt);
     match publish_plan(options, drawn) {
         Ok(_) if !given => failed(&Fault::Device, errors),
-        Ok(plan) => publish_planned(rt, alloc, &plan, input, errors),
+        Ok(plan) => publish_to(rt, alloc, &plan, &options.to, input, errors),
         Err(fault) => unplanned(&fault, errors),
     }
 }

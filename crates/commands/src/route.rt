@@ -1,12 +1,13 @@
 //! Where an end's socket is bound, and to whom it sends.
 
-ghost use Rattle.std.specs.Prelude.{◌≡◌, Some, IfErr, IfOk, IfSome, codes, ◌++◌};
+ghost use Rattle.std.specs.Prelude.{◌≡◌, Some, IfErr, IfOk, IfSome, codes, length, ◌++◌};
 ghost use Rattle.channel.specs.declared.host.Host.TheVariants.{Name as Named};
 ghost use Rattle.channel.specs.declared.host.Name.{Name as AnyName};
-ghost use Rattle.commands.specs.Routes.{IsAnyAddress, IsBindingOf, IsFound, IsPeer, IsRouteOf};
+ghost use Rattle.commands.specs.Routes.{AreRoutesAlong, IsAnyAddress, IsBindingOf, IsFound, IsPeer, IsRouteAlong, IsRouteOf, route_text};
 
 use channel::{Host, Name, Transport};
 use endpoint::{Binding, Route};
+use std::alloc::Global;
 use std::error::Error;
 use std::fmt;
 use std::net::{IpAddr, Ipv4Addr, Ipv6Addr, Net, SocketAddr, ToSocketAddrs};
@@ -86,6 +87,57 @@ pub(crate) fn route_of(transport: &Transport, peer: SocketAddr) -> Route
         },
         peer,
     }
+}
+
+/// Why there are no routes.
+#[derive(Clone, Copy, Debug)]
+pub enum RouteFault<'a> {
+    /// No address of a host of this name was found.
+    Unknown(NoAddress<'a>),
+    /// Memory was refused.
+    Memory,
+}
+
+impl fmt::Display for RouteFault<'_> {
+    ghost output = { λ fault. Some (route_text fault) };
+
+    fn fmt<W: fmt::Write>(&self, f: &mut fmt::Formatter<W>) -> fmt::Result {
+        match *self {
+            RouteFault::Unknown(unknown) => write!(f, "{unknown}"),
+            RouteFault::Memory => write!(f, "memory"),
+        }
+    }
+}
+
+impl Error for RouteFault<'_> {}
+
+/// The route of a publisher along one of its ways.
+fn route_along<'a, R: Net>(rt: &R, way: &'a Transport) -> Result<Route, RouteFault<'a>>
+    ensures { IfOk result (IsRouteAlong way.now) }
+{
+    match peer_of(rt, way) {
+        Ok(peer) => Ok(route_of(way, peer)),
+        Err(unknown) => Err(RouteFault::Unknown(unknown)),
+    }
+}
+
+/// The routes of a publisher along its ways, in order.
+pub(crate) fn routes_of<'a, R: Net>(
+    rt: &R,
+    alloc: Global,
+    ways: &'a [Transport],
+) -> Result<Vec<Route>, RouteFault<'a>>
+    ensures routes { IfOk result (λ routes. AreRoutesAlong ways.now routes.items) }
+    ensures many { IfOk result (λ routes. length routes.items ≡ length ways.now) }
+{
+    let mut routes = Vec::new(alloc);
+    for way in ways {
+        let route = route_along(rt, way)?;
+        if routes.push(route).is_err() {
+            return Err(RouteFault::Memory);
+        }
+    }
+    Ok(routes)
 }
 
 /// Where a subscriber is bound: at the interface, or the endpoint's own address, and the endpoint's port.
