@@ -129,7 +129,7 @@ pub record PublishersPublish (plan : Plan) (o : Outcome) : Type 0 where
   pub unclaimed : AllByRecursion HasNone others
   pub book : ShowsBook log (back ++ others) o.book
 
--- so over devices that lose as the plan says; one over UDP doesn't tell what it handed over
+-- receivers live so over devices that lose as the plan says; one over UDP doesn't tell what it handed over
 abbrev pub udp_device : Losing Udp → Device
 udp_device l = l.inner.device
 

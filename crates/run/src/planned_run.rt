@@ -296,6 +296,8 @@ fn left<D: Drop>(
 /// Each receiver has met nothing when it begins. Its cycles over its device and its subscriber's polls are one life, in the order in
 /// which they took its lock: the datagrams that it heard are those that its device has handed over, where that tells them, and what
 /// is told of its tally is the tally of the messages that the polls gave. A message that is refused as too long isn't one of them.
+/// What each publisher has claimed, all of it committed, is its messages 0, 1, 2 and so on, as many as are told were accepted,
+/// each whole, and paddings.
 pub fn run_over<
     R: Threads + Wait + Clock + Sync,
     D: Datagrams + Send + Drop,
