@@ -12,6 +12,9 @@
 //! its fault (`ReceiverCore::faults`), and whatever came, stored frames are apart. What a tick sends are frames that can be
 //! written.
 //!
+//! An image's readers are given away once, with the image (`ReceiverCore::take_readers`, `Readers`), and a core tells a reader
+//! each frame that it stored so far (`ReceiverCore::learn`). Neither asks for memory.
+//!
 //! A subscriber has a core and the one reader of its image in one hand. They meet at the end of each call that looked at the
 //! consumers, so no consumer moves between two calls, and each datagram, tick and poll makes of the subscriber exactly what the
 //! definitions say (`Subscriber::on_datagram`, `tick`, `poll`).
