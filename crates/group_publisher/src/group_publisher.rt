@@ -1,11 +1,12 @@
 //! A publisher to several subscribers from its begin to its end.
 
-ghost use Rattle.std.specs.Prelude.{◌≡◌, ◌≤◌, ◌<◌, IfOk, IfSome, Ok, length};
+ghost use Rattle.std.specs.Prelude.{◌≡◌, [], Some, ◌≤◌, ◌<◌, IfOk, IfSome, Ok, length};
 ghost use Rattle.std.specs.Arc.{arc_value};
 ghost use Rattle.position.specs.Openings.{IsStart};
 ghost use Rattle.shared_log.specs.Books.{IsDone};
 ghost use Rattle.shared_log.specs.Parts.{IsNewReader};
-ghost use Rattle.agents.specs.LogSenders.{SendsLog};
+ghost use Rattle.flow_control.specs.Stream.{flow_after};
+ghost use Rattle.agents.specs.LogSenders.{IsNewSenderBy, SendsLog};
 ghost use Rattle.peer.specs.declared.ending.Ending.TheVariants.{Whole};
 ghost use Rattle.offering.specs.Ended.{EndsInput};
 ghost use Rattle.publisher.specs.Beginnings.{ArePublisherParts, device_of};
@@ -91,7 +92,8 @@ fn opened<'a, D: Datagrams + Drop>(
     requires start { IsStart state.now.log.identity.geometry state.now.log.start }
     requires consumers { 0 < state.now.log.consumers }
     requires few { ways ≤ 8 }
-    ensures { IfOk result (λ s. SendsLog state.now.log s.agent × (s.passes ≡ passes)) }
+    ensures new { IfOk result (λ s. IsNewSenderBy (flow_after (Some ways) state.now.log.start []) state.now.log reader s.agent) }
+    ensures sends { IfOk result (λ s. SendsLog state.now.log s.agent × (s.passes ≡ passes)) }
 {
     let agent = open_stream_sender(alloc, &state.log, reader, Some(ways))?;
     Ok(GroupSender { agent, passes })
