@@ -10,11 +10,11 @@ use crate::ending::{are_broken, group_ending};
 use crate::seeing::begin_all;
 use crate::telling::{tell_counts, tell_news, tell_unwritten_ways};
 use crate::way::Way;
-use agents::{Duty, IdleStrategy, StreamSender, conduct};
+use agents::{Duty, IdleStrategy, StreamSender};
 use endpoint::{Datagrams, DeviceError, Fan};
 use publisher::{
     ChannelDevice, Ending, Judged, Progress, PublishFault, PublisherContext, SenderPasses,
-    check_input, end_in, fault_in, tell_ending,
+    check_input, end_in, fault_in, keep, tell_ending,
 };
 use std::io::Write;
 use std::sync::Wait;
@@ -85,22 +85,13 @@ fn run_cycle<R: Wait + Clock, D: Datagrams>(
     ensures agent { SendsLog context.now.state.now.log sender.new.agent }
     ensures passes { ArePasses context.now.state.now.log context.now.conductor.now sender.new.passes }
 {
-    let (rt, conductor) = (context.rt, context.conductor);
     let before = work_of(sender);
-    sender.agent.cycle_ways(
-        rt,
-        conductor,
-        &mut sender.passes.client,
-        &mut sender.passes.duty,
-        now,
-    )?;
-    let kept = conduct(
-        rt,
-        &context.state.log,
-        &mut sender.passes.keeper,
-        conductor,
-        &mut sender.passes.taker,
-    );
+    let passes = &mut sender.passes;
+    let (client, duty) = (&mut passes.client, &mut passes.duty);
+    sender
+        .agent
+        .cycle_ways(context.rt, context.conductor, client, duty, now)?;
+    let kept = keep(context, &mut sender.passes);
     Ok(kept || work_of(sender) != before)
 }
 

@@ -44,6 +44,6 @@ pub use looking::{Calls, ChannelDevice, Seen, calls_of, look};
 pub use peer::Ending;
 pub use progress::{Progress, told_in};
 pub use publisher_context::PublisherContext;
-pub use sender_thread::SenderPasses;
+pub use sender_thread::{SenderPasses, keep};
 pub use telling::{Counts, tell_alone, tell_change, tell_counters, tell_ending, tell_refused};
 pub use two_threads::{Published, ended, input_end, reading_left};

@@ -64,6 +64,21 @@ fn work_of<D>(sender: &ChannelSender<'_, D>) -> (u64, u64) {
     (sender.agent.position(), tally.resends)
 }
 
+/// A cycle of the conductor, with what a sender keeps the log by. Whether there was work.
+pub fn keep<R: Wait, D>(context: &PublisherContext<'_, R>, passes: &mut SenderPasses<D>) -> bool
+    requires { ArePasses context.now.state.now.log context.now.conductor.now passes.old }
+    ensures passes { ArePasses context.now.state.now.log context.now.conductor.now passes.new }
+    ensures duty { passes.new.duty ≡ passes.old.duty }
+{
+    conduct(
+        context.rt,
+        &context.state.log,
+        &mut passes.keeper,
+        context.conductor,
+        &mut passes.taker,
+    )
+}
+
 /// A cycle of the sender, and one of the conductor. Whether there was work.
 fn run_cycle<R: Wait + Clock, D: Datagrams>(
     context: &PublisherContext<'_, R>,
@@ -76,22 +91,13 @@ fn run_cycle<R: Wait + Clock, D: Datagrams>(
     ensures lives { Lived sender.old.agent.core sender.new.agent.core }
     ensures passes { ArePasses context.now.state.now.log context.now.conductor.now sender.new.passes }
 {
-    let (rt, conductor) = (context.rt, context.conductor);
     let before = work_of(sender);
-    sender.agent.cycle(
-        rt,
-        conductor,
-        &mut sender.passes.client,
-        &mut sender.passes.duty,
-        now,
-    )?;
-    let kept = conduct(
-        rt,
-        &context.state.log,
-        &mut sender.passes.keeper,
-        conductor,
-        &mut sender.passes.taker,
-    );
+    let passes = &mut sender.passes;
+    let (client, duty) = (&mut passes.client, &mut passes.duty);
+    sender
+        .agent
+        .cycle(context.rt, context.conductor, client, duty, now)?;
+    let kept = keep(context, &mut sender.passes);
     Ok(kept || work_of(sender) != before)
 }
 
