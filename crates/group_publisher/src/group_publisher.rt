@@ -174,11 +174,7 @@ pub fn publish_group_over<
         conductor: &conductor,
         began,
     };
-    let offering = Offering {
-        state: theirs,
-        publisher,
-        input,
-    };
+    let offering = Offering::new(theirs, publisher, input);
     let sending = Sending {
         reader,
         passes,

@@ -70,6 +70,19 @@ pub struct Offering<I> {
     pub input: I,
 }
 
+impl<I> Offering<I> {
+    /// Puts these together.
+    pub fn new(state: Arc<OfferingState>, publisher: Publisher, input: I) -> Offering<I>
+        ensures { result ≡ record { state = state; publisher = publisher; input = input } }
+    {
+        Offering {
+            state,
+            publisher,
+            input,
+        }
+    }
+}
+
 /// Starts the thread that reads.
 pub fn started<R: Threads + Clock + Send + Copy + 'static, I: BufRead + Send + Drop + 'static>(
     rt: &R,
@@ -152,11 +165,7 @@ pub fn publish_over<
         conductor: &conductor,
         began,
     };
-    let offering = Offering {
-        state: theirs,
-        publisher,
-        input,
-    };
+    let offering = Offering::new(theirs, publisher, input);
     publish_shared(alloc, &context, reader, passes, offering, errors)
 }
 
