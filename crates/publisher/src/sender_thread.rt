@@ -1,6 +1,7 @@
 //! The thread that sends, keeps the log, and decides the end.
 
 ghost use Rattle.std.specs.Prelude.{◌≡◌, IfErr, IfOk, Option, ℕ};
+ghost use Rattle.agents.specs.Conducting.{Conducts};
 ghost use Rattle.agents.specs.LogSenders.{SendsLog};
 ghost use Rattle.peer.specs.Watching.{told};
 ghost use Rattle.sender_meaning.specs.Lives.{Lived};
@@ -68,7 +69,8 @@ fn work_of<D>(sender: &ChannelSender<'_, D>) -> (u64, u64) {
 pub fn keep<R: Wait, D>(context: &PublisherContext<'_, R>, passes: &mut SenderPasses<D>) -> bool
     requires { ArePasses context.now.state.now.log context.now.conductor.now passes.old }
     ensures passes { ArePasses context.now.state.now.log context.now.conductor.now passes.new }
-    ensures duty { passes.new.duty ≡ passes.old.duty }
+    ensures conducts { Conducts context.now.state.now.log passes.old.keeper passes.old.taker result passes.new.keeper passes.new.taker }
+    ensures others { passes.new ≡ record passes.old { keeper = passes.new.keeper; taker = passes.new.taker } }
 {
     conduct(
         context.rt,
