@@ -7,4 +7,5 @@ pub mod Puts
 pub mod Kept
 pub mod Meetings
 pub mod OneHand
+pub mod Here
 pub mod Events

@@ -148,7 +148,7 @@ module _ (image : ImageWords) (i : Inserting) (r : ReaderSeat) (alone : AreAlone
           none.none f known.among (omega arith))
           (cases_lt t.at p)
 
-payload_short : (c : placed.Frame) → IsContent c → length (payload_of c) ≤ 65472
+pub payload_short : (c : placed.Frame) → IsContent c → length (payload_of c) ≤ 65472
 payload_short (Data flags payload) is = let a = is.1 in omega arith
 payload_short (Pad n) is = omega arith
 

@@ -1,4 +1,5 @@
 pub mod Seen
 pub mod Runs
 pub mod Meeting
+pub mod Reading
 pub mod Law

@@ -29,6 +29,7 @@ mod judging;
 mod law;
 mod meeting;
 mod putting;
+mod reading;
 
 pub use alone::{advance_alone, heartbeat_alone, insert_alone, read_alone};
 pub use gap::{first_gap, held_word};
@@ -36,3 +37,4 @@ pub use inserter::{Inserter, deal, least, open};
 pub use inserting::{heartbeat, insert};
 pub use law::calls_are_events;
 pub use meeting::meet;
+pub use reading::{pass, read_here};

@@ -3,7 +3,7 @@ use Rattle.std.proofs.Common.{◌≡◌, ℕ, zero, suc, ◌+◌, ◌-◌, ◌*�
 use Rattle.std.specs.Prelude.{Bool, true, false, nat_eq, if◌then◌else◌, slice_index}
 use Rattle.std.specs.Int.{w32, w64, from_le_bytes, to_le_bytes}
 use Rattle.theory.specs.Placed as placed
-use Rattle.theory.specs.Placed.{Data, Pad, frame_length, payload_of}
+use Rattle.theory.specs.Placed.{Data, Pad, covered, frame_length, payload_of}
 use Rattle.theory.specs.Position.{aligned}
 use Rattle.position.specs.declared.head.FrameHead.{FrameHead}
 use Rattle.position.specs.declared.head.FrameKind.{FrameKind}
@@ -12,7 +12,7 @@ use Rattle.position.specs.Heads.{head_of}
 use Rattle.frame_words.specs.Contents.{bytes_in, frame_of, head_by}
 use Rattle.image_rule.specs.declared.view.Frame.{Frame}
 use Rattle.image_rule.specs.declared.view.View.{View}
-use Rattle.image_rule.specs.Frames.{IsContent, Says, end_of, stored_count}
+use Rattle.image_rule.specs.Frames.{IsContent, Says, end_of, placed_of, stored_count}
 use Rattle.image_rule.specs.Reads.{IsFound, first_of}
 use Rattle.atomic_table.specs.Seated.{TableId}
 use Rattle.shared_image.specs.Handles.{ReaderSeat}
@@ -139,6 +139,7 @@ module _ (r : ReaderSeat) (head : FrameHead) (w w' : View) (of : TableId) (read_
     finds = record { frame = finds.frame; here = finds.here; content = finds.content; shown = finds.shown; only = finds.only; after = same ∙ finds.after };
     copied = copied ∙ ap (λ (f : Frame). payload_of (frame_of f.words) ++ drop (length (payload_of (frame_of f.words))) before) first_is;
     read_to = ends ∙ ap end_of first_is;
+    covers = subst (λ (f : Frame). 32 * f.units ≡ covered (placed_of f)) first_is found.says.covered;
     same = (λ j. record { of = table j; view = w'; read_to = read_to });
   }
 

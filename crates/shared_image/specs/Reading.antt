@@ -1,12 +1,12 @@
 -- What a reader's calls say.
 use Rattle.std.specs.Prelude.{◌≡◌, ℕ, ◌*◌, ◌<◌, List, ◌++◌, drop, length, take}
-use Rattle.theory.specs.Placed.{payload_of}
+use Rattle.theory.specs.Placed.{covered, payload_of}
 use Rattle.position.specs.declared.head.FrameHead.{FrameHead}
 use Rattle.position.specs.Heads.{head_of}
 use Rattle.frame_words.specs.Contents.{bytes_in, frame_of}
 use Rattle.image_rule.specs.declared.view.Frame.{Frame}
 use Rattle.image_rule.specs.declared.view.View.{View}
-use Rattle.image_rule.specs.Frames.{Among, IsContent, end_of}
+use Rattle.image_rule.specs.Frames.{Among, IsContent, end_of, placed_of}
 use Rattle.image_rule.specs.Steps.{moved_to, with_known, with_miss}
 use Rattle.shared_image.specs.Handles.{ReaderSeat}
 
@@ -38,6 +38,7 @@ pub record ReadsFrame (r : ReaderSeat) (head : FrameHead) (before : List ℕ) (q
   pub finds : Finds r.view head q.view
   pub copied : after ≡ payload_of (frame_of finds.frame.words) ++ drop (length (payload_of (frame_of finds.frame.words))) before
   pub read_to : q.read_to ≡ end_of finds.frame
+  pub covers : 32 * finds.frame.units ≡ covered (placed_of finds.frame)
   pub same : q ≡ record r { view = q.view; read_to = q.read_to }
 
 -- its held bit, which was loaded once, was zero: it knows no frame there

@@ -124,6 +124,7 @@ pub fn advance(image: &Image, reader: &mut ImageReader) -> u64
     ensures fits { IsReaderOf image.now reader.new }
     ensures advances { Advances reader.old reader.new }
     ensures answer { result ≡ 32 * reader.new.view.reading.unit }
+    ensures low { result ≤ 2 ^ 61 }
 {
     let _ = &image.words;
     let end = reader.standing.read_to;
