@@ -1,27 +1,12 @@
 // The log of `shared_log` in plain C++: claims by one addition over words that threads share, readers that walk committed
-// frames, and a keeper that cleans behind them and moves the limit. Every step on a word is sequentially consistent, but
-// with WEAK_STORES the stores aren't: those of words that a later store publishes are relaxed, and that one releases them.
+// frames, and a keeper that cleans behind them and moves the limit.
 #pragma once
 #include "geometry.hpp"
-#include <atomic>
+#include "words.hpp"
 #include <cstring>
-#include <memory>
-#include <new>
 #include <optional>
 
-using Word = std::atomic<std::uint64_t>;
-static_assert(sizeof(Word) == 8 && Word::is_always_lock_free);
-
-#ifdef WEAK_STORES
-constexpr bool HAS_WEAK_STORES = true;
-constexpr auto FILLS = std::memory_order_relaxed, PUBLISHES = std::memory_order_release;
-#else
-constexpr bool HAS_WEAK_STORES = false;
-constexpr auto FILLS = std::memory_order_seq_cst, PUBLISHES = std::memory_order_seq_cst;
-#endif
-
 // Places of the control words, two cache lines apart, and of the stream's first word.
-constexpr std::size_t LINE = 16;
 constexpr std::size_t LIMIT = 0;
 constexpr std::size_t COUNT = LINE;
 constexpr std::size_t TAILS = 2 * LINE;
@@ -49,17 +34,6 @@ struct Head {
 
     std::uint32_t covered() const { return align32(length); }
     std::uint32_t on_wire() const { return is_data ? covered() : HEADER; }
-};
-
-class Words {
-    struct Free {
-        void operator()(Word *words) const { ::operator delete[](words, std::align_val_t{8 * LINE}); }
-    };
-    std::unique_ptr<Word[], Free> words;
-
-  public:
-    explicit Words(std::size_t count) : words(new (std::align_val_t{8 * LINE}) Word[count]()) {}
-    Word &operator[](std::size_t place) { return words[place]; }
 };
 
 // It has cache lines of its own, as have its readers and its keeper: what one thread changes lies on no line that others read.
