@@ -1,15 +1,14 @@
 // The whole driver over UDP at 127.0.0.1: publishers, a sender, a conductor, a receiver and a subscriber, each in a thread
-// of its own.
+// of its own. The receiver starts the subscriber's once it has an image, which both then share without a lock.
 #include "idle.hpp"
 #include "log.hpp"
 #include "measure.hpp"
 #include "receiver_core.hpp"
 #include "sender_core.hpp"
-#include <mutex>
+#include "subscriber.hpp"
 
 constexpr std::int32_t SESSION = 1, STREAM = 1001, INITIAL_ID = 7;
 constexpr int DATAGRAMS = 16; // that a cycle receives
-constexpr int MESSAGES = 16;  // that are polled under one lock
 constexpr std::size_t GREATEST_DATAGRAM = 65'536;
 constexpr std::size_t CACHE_LINE = 64;
 
@@ -22,12 +21,10 @@ struct Stage {
     alignas(CACHE_LINE) Udp replies;
     alignas(CACHE_LINE) std::atomic<bool> is_heard = false;
     std::atomic<bool> is_stopped = false;
-    alignas(CACHE_LINE) std::mutex lock; // of the receiver
-    ReceiverCore receiver;
 
     Stage(const Options &options, const Geometry &geometry)
-        : options(options), start(options.publishers + 4), log(geometry, SESSION, STREAM, 0), sends(options.loss, options.seed),
-          replies(options.loss, options.seed + 1), receiver(SESSION, STREAM, geometry.term_length / 2, 1, geometry.max_message()) {
+        : options(options), start(options.publishers + 3), log(geometry, SESSION, STREAM, 0), sends(options.loss, options.seed),
+          replies(options.loss, options.seed + 1) {
         Udp::join(sends, replies);
     }
 
@@ -42,10 +39,11 @@ struct Stage {
         });
     }
 
-    // Takes a party's turns until all is to stop. A turn answers whether something was done.
-    template <typename Turn> void go_on(Turn turn) {
-        start.meet();
+    // Takes a party's turns until all is to stop. A turn answers whether something was done. The answer is when all began.
+    template <typename Turn> std::uint64_t go_on(Turn turn) {
+        std::uint64_t began = start.meet();
         for (Idle idle; !is_stopped;) idle.after(turn());
+        return began;
     }
 
     // Hands over what has come, as much as a cycle takes. Whether anything has.
@@ -81,30 +79,27 @@ struct Stage {
         });
     }
 
-    void receive_all() {
-        std::vector<std::uint8_t> room(GREATEST_DATAGRAM);
-        go_on([&] {
-            std::uint64_t moment = now();
-            std::lock_guard guard(lock);
-            bool heard = receive(replies, room, [&](Bytes datagram) { receiver.on_datagram(datagram); });
-            return receiver.tick(moment, replies) || heard;
-        });
-    }
-
-    // Polls under one lock until there is no message. Whether there was one.
-    bool poll_some(Tally &tally) {
-        std::lock_guard guard(lock);
-        for (int count = 0; count < MESSAGES && !tally.is_complete(); count++) {
-            bool has_come = receiver.poll([&](Bytes message) { tally.take(message.data(), message.size()); });
-            if (!has_come) return count > 0;
-        }
-        return true;
-    }
-
-    std::uint64_t subscribe(Tally &tally) {
-        std::uint64_t began = start.meet();
-        for (Idle idle; !tally.is_complete();) idle.after(poll_some(tally));
+    // Polls until the tally is complete, and then stops all.
+    void subscribe(SharedImage &image, Tally &tally) {
+        Subscriber subscriber(image, 0);
+        auto take = [&](Bytes message) { tally.take(message.data(), message.size()); };
+        for (Idle idle; !tally.is_complete();) idle.after(subscriber.poll(take));
         is_stopped = true;
+    }
+
+    std::uint64_t receive_all(Tally &tally) {
+        ReceiverCore receiver(SESSION, STREAM, log.geometry.term_length / 2, 1);
+        std::vector<std::uint8_t> room(GREATEST_DATAGRAM);
+        std::thread subscriber;
+        std::uint64_t began = go_on([&] {
+            std::uint64_t moment = now();
+            bool heard = receive(replies, room, [&](Bytes datagram) { receiver.on_datagram(datagram); });
+            bool sent = receiver.tick(moment, replies);
+            SharedImage *image = receiver.opened();
+            if (image && !subscriber.joinable()) subscriber = std::thread([&, image] { subscribe(*image, tally); });
+            return heard || sent;
+        });
+        subscriber.join();
         return began;
     }
 };
@@ -125,8 +120,7 @@ int main(int count, char **words) {
         threads.emplace_back([&, number] { stage.publish_all(number); });
     threads.emplace_back([&] { stage.send_all(); });
     threads.emplace_back([&] { stage.keep_all(); });
-    threads.emplace_back([&] { stage.receive_all(); });
-    std::uint64_t began = stage.subscribe(tally);
+    std::uint64_t began = stage.receive_all(tally);
     for (auto &thread : threads) thread.join();
     tally.print("cpp-driver", began);
 }

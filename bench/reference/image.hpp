@@ -2,17 +2,15 @@
 // and for each that a frame covers.
 #pragma once
 #include "frames.hpp"
+#include "insert.hpp"
 #include "occupancy.hpp"
 #include <memory>
-#include <optional>
 #include <vector>
-
-enum class Insert { Stored, Duplicate, Below, OverWindow, Overlap, CrossesTerm };
 
 class Image {
     Geometry geometry;
     std::uint32_t window;
-    std::uint64_t least, rebuilt, high_water;
+    std::uint64_t least, rebuilt;
     std::vector<std::uint64_t> consumers;
     std::unique_ptr<std::uint8_t[]> bytes;
     Occupancy starts, units;
@@ -48,42 +46,21 @@ class Image {
 
   public:
     Image(const Geometry &geometry, std::uint64_t join, std::uint32_t window, std::size_t count)
-        : geometry(geometry), window(window), least(join), rebuilt(join), high_water(join), consumers(count, join),
+        : geometry(geometry), window(window), least(join), rebuilt(join), consumers(count, join),
           bytes(std::make_unique_for_overwrite<std::uint8_t[]>(3 * std::size_t{geometry.term_length})),
           starts(3 * geometry.term_length / UNIT), units(3 * geometry.term_length / UNIT) {}
-
-    const Geometry &shape() const { return geometry; }
-    std::uint64_t least_consumer() const { return least; }
 
     // Takes a DATA frame or a padding as it stands in a datagram.
     Insert insert(std::int64_t position, const std::uint8_t *frame) {
         auto front = fields_at<Front>(frame);
         Insert answer = judge(position, front);
         if (answer != Insert::Stored) return answer;
-        std::uint32_t covered = align32(front.length);
         std::size_t first = unit(position);
         std::memcpy(&bytes[first * UNIT], frame, size_on_wire(front));
         starts.set(first);
-        units.set(first, first + covered / UNIT);
-        high_water = std::max(high_water, position + std::uint64_t{covered});
+        units.set(first, first + align32(front.length) / UNIT);
         while (starts.holds(unit(rebuilt))) rebuilt += align32(front_at(rebuilt).length);
         return answer;
-    }
-
-    // Takes a sender's position, up to three quarters of a term ahead of the consumers.
-    void heartbeat(std::int64_t position) {
-        std::uint64_t greatest = std::min(least + geometry.term_length / 4 * 3, geometry.max_position());
-        if (position >= 0 && static_cast<std::uint64_t>(position) <= greatest)
-            high_water = std::max(high_water, static_cast<std::uint64_t>(position));
-    }
-
-    // From the rebuilt position to what is held next, the mark or the term's end.
-    std::optional<Gap> first_gap() const {
-        if (rebuilt == high_water) return std::nullopt;
-        std::uint64_t bound = std::min(high_water, geometry.term_end(rebuilt));
-        std::size_t from = unit(rebuilt);
-        std::size_t next = units.first_set(from, from + (bound - rebuilt) / UNIT);
-        return Gap{rebuilt, static_cast<std::uint32_t>(next - from) * UNIT};
     }
 
     // The frame at a consumer's position; null where it stands at the rebuilt one.

@@ -1,9 +1,8 @@
-// The receiver of one stream: datagrams and moments in, replies out, and whole messages for the one subscriber.
+// The receiver of one stream: datagrams and moments in, replies out, and an image for the one subscriber.
 #pragma once
-#include "assembler.hpp"
 #include "frames.hpp"
-#include "image.hpp"
 #include "loss_detector.hpp"
+#include "shared_image.hpp"
 #include "udp.hpp"
 
 class ReceiverCore {
@@ -16,8 +15,8 @@ class ReceiverCore {
     std::int32_t session, stream;
     std::uint32_t window;
     std::int64_t id;
-    Assembler assembler;
-    std::optional<Image> image;
+    std::optional<SharedImage> image;
+    std::optional<SharedImage::Inserter> inserter; // of the image
     std::optional<DataHeader> unmet; // the last frame that met no image
     std::optional<Told> told;
     LossDetector detector;
@@ -39,8 +38,8 @@ class ReceiverCore {
             return;
         }
         std::int64_t position = image->shape().position(header.term_id, header.term_offset);
-        if (header.is_heartbeat()) image->heartbeat(position);
-        else image->insert(position, frame);
+        if (header.is_heartbeat()) inserter->heartbeat(position);
+        else inserter->insert(position, frame);
     }
 
     void on_setup(const Setup &setup) {
@@ -52,7 +51,8 @@ class ReceiverCore {
         bool is_inside = setup.term_offset >= 0 && static_cast<std::uint32_t>(setup.term_offset) < geometry.term_length;
         bool is_last = join == static_cast<std::int64_t>(geometry.max_position());
         if (join < 0 || join % UNIT != 0 || !(is_inside || is_last)) return;
-        image.emplace(geometry, join, window, 1);
+        image.emplace(geometry, join, 1);
+        inserter.emplace(*image, window);
         unmet.reset();
     }
 
@@ -70,7 +70,7 @@ class ReceiverCore {
     }
 
     bool send_nak(std::uint64_t now, Udp &out) {
-        auto gap = detector.scan(now, image->first_gap());
+        auto gap = detector.scan(now, inserter->first_gap());
         if (!gap) return false;
         Place place = image->shape().place_of(gap->start);
         Nak nak{{sizeof(Nak), 0, 0, Kind::Nak}, session, stream, place.term_id, static_cast<std::int32_t>(place.offset),
@@ -80,7 +80,7 @@ class ReceiverCore {
     }
 
     bool tell(std::uint64_t now, Udp &out) {
-        std::uint64_t position = image->least_consumer();
+        std::uint64_t position = inserter->prune();
         if (told && now < told->moment + STATUS_INTERVAL && position - told->position < window / 4) return false;
         send_status(0, image->shape().place_of(position), window, out);
         told = {position, now};
@@ -88,8 +88,11 @@ class ReceiverCore {
     }
 
   public:
-    ReceiverCore(std::int32_t session, std::int32_t stream, std::uint32_t window, std::int64_t id, std::uint32_t greatest)
-        : session(session), stream(stream), window(window), id(id), assembler(greatest) {}
+    ReceiverCore(std::int32_t session, std::int32_t stream, std::uint32_t window, std::int64_t id)
+        : session(session), stream(stream), window(window), id(id) {}
+
+    // The image, for its subscriber; null before a SETUP has opened it.
+    SharedImage *opened() { return image ? &*image : nullptr; }
 
     void on_datagram(Bytes bytes) {
         if (!is_datagram(bytes)) return;
@@ -103,19 +106,5 @@ class ReceiverCore {
         if (!image) return ask(out);
         bool sends = send_nak(now, out);
         return tell(now, out) || sends;
-    }
-
-    // Reads on until a message is whole, which is handed over, or no frame is left. Whether there was a message.
-    template <typename Handle> bool poll(Handle handle) {
-        if (!image) return false;
-        while (const std::uint8_t *frame = image->frame_of(0)) {
-            auto front = fields_at<Front>(frame);
-            std::optional<Bytes> message;
-            if (front.kind == Kind::Data) message = assembler.on_frame(front.flags, {frame + HEADER, front.length - HEADER});
-            if (message) handle(*message);
-            image->advance(0);
-            if (message) return true;
-        }
-        return false;
     }
 };

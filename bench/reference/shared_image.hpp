@@ -1,43 +1,50 @@
-// An image that threads share without a lock: one inserter and its consumers, in the words of a table. Each step on a word is
-// sequentially consistent. The words: a consumer's position on a line of its own, then a bit for each unit that a frame covers,
-// one for each at which a frame starts, and four words for each unit's bytes.
+// An image that threads share without a lock: one inserter and its consumers, in the words of a table. The words: a consumer's
+// position on a line of its own, then a bit for each unit that a frame covers, one for each at which a frame starts, and four
+// words for each unit's bytes. Each store of held bits publishes, since a reader that finds its bit may find others with it.
 #pragma once
-#include "image.hpp"
-#include <array>
-#include <atomic>
-#include <bit>
+#include "frames.hpp"
+#include "insert.hpp"
+#include "occupancy.hpp"
+#include "words.hpp"
+#include <optional>
 
-class SharedImage {
-    static constexpr std::size_t CONSUMERS = 8, LINE = 16, BEHIND = CONSUMERS * LINE;
+// It has cache lines of its own, since its consumers read it: its inserter may stand beside it.
+class alignas(8 * LINE) SharedImage {
+    static constexpr std::size_t BEHIND = 8 * LINE; // eight consumers
 
     Geometry geometry;
-    std::uint64_t units, join;
-    std::size_t count;
-    std::unique_ptr<std::atomic<std::uint64_t>[]> words;
+    std::uint64_t join;
+    std::size_t consumers, bits; // words of bits of each kind
+    Words words;
 
-    std::atomic<std::uint64_t> &held(std::uint64_t unit) const { return words[BEHIND + unit % units / 64]; }
-    std::atomic<std::uint64_t> &start(std::uint64_t unit) const { return words[BEHIND + units / 64 + unit % units / 64]; }
-    std::atomic<std::uint64_t> &data(std::uint64_t word) const { return words[BEHIND + units / 64 * 2 + word % (4 * units)]; }
+    std::size_t unit(std::uint64_t position) const { return geometry.ring_place(position) / UNIT; }
 
-    static std::uint64_t mask(std::uint64_t low, std::uint64_t count) { return ~std::uint64_t{0} >> (64 - count) << low; }
+    // By the number of a word of bits.
+    Word &held(std::size_t number) { return words[BEHIND + number]; }
+    Word &starts(std::size_t number) { return words[BEHIND + bits + number]; }
 
-    // Shows each word of a run with the run's mask in it.
-    template <typename Each> static void each_word(std::uint64_t from, std::uint64_t to, Each each) {
-        while (from < to) {
-            std::uint64_t low = from % 64, part = std::min(64 - low, to - from);
-            each(from, mask(low, part));
-            from += part;
-        }
+    // The words of the stream from a position on. They go on up to the end of its term.
+    Word *at(std::uint64_t position) { return &words[BEHIND + 2 * bits + geometry.ring_place(position) / 8]; }
+
+    // Looks once where each consumer stands.
+    std::uint64_t least_consumer() {
+        std::uint64_t least = words[0];
+        for (std::size_t number = 1; number < consumers; number++) least = std::min(least, words[LINE * number].load());
+        return least;
     }
 
-    static Front front_of(std::uint64_t word) { return std::bit_cast<Front>(word); }
+    static bool holds(const Word &word, std::size_t unit) { return word >> unit % 64 & 1; }
+
+    static Front front_of(const Word *frame) { return std::bit_cast<Front>(frame->load()); }
 
   public:
-    SharedImage(const Geometry &geometry, std::uint64_t join, std::size_t count)
-        : geometry(geometry), units(3 * std::uint64_t{geometry.term_length} / UNIT), join(join), count(count),
-          words(std::make_unique<std::atomic<std::uint64_t>[]>(BEHIND + units / 64 * 2 + 4 * units)) {
-        for (std::size_t consumer = 0; consumer < count; consumer++) words[LINE * consumer] = join;
+    SharedImage(const Geometry &geometry, std::uint64_t join, std::size_t consumers)
+        : geometry(geometry), join(join), consumers(consumers), bits(3 * std::size_t{geometry.term_length} / UNIT / 64),
+          words(BEHIND + 2 * bits + 3 * std::size_t{geometry.term_length} / 8) {
+        for (std::size_t number = 0; number < consumers; number++) words[LINE * number] = join;
     }
+
+    const Geometry &shape() const { return geometry; }
 
     // Who stores what the image holds.
     class Inserter {
@@ -45,22 +52,28 @@ class SharedImage {
         std::uint32_t window;
         std::uint64_t floor, rebuilt, high_water;
 
-        // Looks where the consumers stand, and clears what all of them have passed.
-        void prune() {
-            std::uint64_t least = image.words[0];
-            for (std::size_t consumer = 1; consumer < image.count; consumer++)
-                least = std::min(least, image.words[LINE * consumer].load());
-            each_word(floor / UNIT, least / UNIT, [&](std::uint64_t at, std::uint64_t ones) {
-                auto &starts = image.start(at), &units = image.held(at);
-                starts = starts & ~ones;
-                units = units & ~ones;
+        // Clears the bits of the units from the floor to a position in its term.
+        void clear_to(std::uint64_t end) {
+            std::size_t from = image.unit(floor);
+            each_word(from, from + (end - floor) / UNIT, [&](std::size_t number, std::uint64_t ones) {
+                Word &starts = image.starts(number), &held = image.held(number);
+                starts.store(starts & ~ones, FILLS);
+                held.store(held & ~ones, PUBLISHES);
             });
-            floor = least;
+            floor = end;
         }
 
-        bool starts_at(std::uint64_t position) const { return image.start(position / UNIT) >> position / UNIT % 64 & 1; }
+        bool starts_at(std::uint64_t position) const {
+            std::size_t unit = image.unit(position);
+            return holds(image.starts(unit / 64), unit);
+        }
 
-        Front front_at(std::uint64_t position) const { return front_of(image.data(4 * (position / UNIT))); }
+        Front front_at(std::uint64_t position) const { return front_of(image.at(position)); }
+
+        // The first unit of a run that is held, or the run's end.
+        std::size_t first_held(std::size_t from, std::size_t to) const {
+            return first_set(from, to, [&](std::size_t number) { return image.held(number).load(); });
+        }
 
         Insert judge(std::int64_t position, const Front &frame) const {
             std::uint32_t covered = align32(frame.length);
@@ -72,34 +85,40 @@ class SharedImage {
                 Front stored = front_at(start);
                 if (stored.kind == frame.kind && stored.length == frame.length) return Insert::Duplicate;
             }
-            bool is_free = true;
-            each_word(start / UNIT, (start + covered) / UNIT, [&](std::uint64_t at, std::uint64_t ones) {
-                if (image.held(at) & ones) is_free = false;
-            });
-            return is_free ? Insert::Stored : Insert::Overlap;
+            std::size_t first = image.unit(start), last = first + covered / UNIT;
+            return first_held(first, last) < last ? Insert::Overlap : Insert::Stored;
         }
 
-        void store(std::uint64_t start, const Front &front, const std::uint8_t *frame) {
-            std::uint64_t unit = start / UNIT, covered = align32(front.length), end = unit + covered / UNIT;
-            std::size_t size = front.kind == Kind::Data ? front.length : HEADER;
-            for (std::size_t word = 0; word < size / 8; word++)
-                image.data(4 * unit + word) = fields_at<std::uint64_t>(frame + 8 * word);
-            if (size % 8 > 0) {
-                std::uint64_t last = 0;
-                std::memcpy(&last, frame + size / 8 * 8, size % 8);
-                image.data(4 * unit + size / 8) = last;
-            }
-            auto &starts = image.start(unit);
-            starts = starts | std::uint64_t{1} << unit % 64;
-            std::uint64_t next = (unit / 64 + 1) * 64;
-            each_word(next, std::max(next, end), [&](std::uint64_t at, std::uint64_t ones) { image.held(at) = image.held(at) | ones; });
-            auto &first = image.held(unit);
-            first = first | mask(unit % 64, std::min(end, next) - unit);
+        // Sets a frame's start bit and then its held bits, those of the first word last.
+        void mark(std::size_t first, std::size_t end) {
+            auto hold = [&](std::size_t number, std::uint64_t ones) {
+                Word &held = image.held(number);
+                held.store(held | ones, PUBLISHES);
+            };
+            Word &starts = image.starts(first / 64);
+            starts.store(starts | mask(first % 64, 1), FILLS);
+            std::size_t next = std::min(end, (first / 64 + 1) * 64);
+            each_word(next, end, hold);
+            hold(first / 64, mask(first % 64, next - first));
+        }
+
+        void store(std::uint64_t position, const Front &front, const std::uint8_t *frame) {
+            std::size_t size = front.kind == Kind::Data ? front.length : HEADER, first = image.unit(position);
+            Word *into = image.at(position);
+            for (std::size_t at = 0; at < size; at += 8) (into++)->store(fields_at<std::uint64_t>(frame + at), FILLS);
+            mark(first, first + align32(front.length) / UNIT);
         }
 
       public:
         Inserter(SharedImage &image, std::uint32_t window)
             : image(image), window(window), floor(image.join), rebuilt(image.join), high_water(image.join) {}
+
+        // Looks once where each consumer stands, and clears what all of them have passed. The answer is the least position.
+        std::uint64_t prune() {
+            std::uint64_t least = image.least_consumer();
+            while (floor < least) clear_to(std::min(least, image.geometry.term_end(floor)));
+            return least;
+        }
 
         // Takes a DATA frame or a padding as it stands in a datagram.
         Insert insert(std::int64_t position, const std::uint8_t *frame) {
@@ -112,31 +131,44 @@ class SharedImage {
             while (rebuilt < high_water && starts_at(rebuilt)) rebuilt += align32(front_at(rebuilt).length);
             return answer;
         }
+
+        // Takes a sender's position, up to three quarters of a term ahead of the consumers.
+        void heartbeat(std::int64_t position) {
+            std::uint64_t greatest = std::min(prune() + image.geometry.term_length / 4 * 3, image.geometry.max_position());
+            if (position >= 0 && static_cast<std::uint64_t>(position) <= greatest)
+                high_water = std::max(high_water, static_cast<std::uint64_t>(position));
+        }
+
+        // From the rebuilt position to what is held next, the mark or the term's end.
+        std::optional<Gap> first_gap() const {
+            if (rebuilt == high_water) return std::nullopt;
+            std::uint64_t bound = std::min(high_water, image.geometry.term_end(rebuilt));
+            std::size_t from = image.unit(rebuilt), next = first_held(from, from + (bound - rebuilt) / UNIT);
+            return Gap{rebuilt, static_cast<std::uint32_t>(next - from) * UNIT};
+        }
     };
 
     // One of the consumers.
     class Reader {
         SharedImage &image;
-        std::size_t number;
+        Word &told;
         std::uint64_t position;
 
       public:
-        Reader(SharedImage &image, std::size_t number) : image(image), number(number), position(image.join) {}
+        Reader(SharedImage &image, std::size_t number)
+            : image(image), told(image.words[LINE * number]), position(image.join) {}
 
-        // Copies the payload of the frame where the consumer stands; none where its bit is zero.
+        // Copies the payload of the frame where the consumer stands, in whole words; none where its bit is zero.
         std::optional<Front> read(std::uint8_t *block) {
-            std::uint64_t unit = position / UNIT;
-            if (!(image.held(unit) >> unit % 64 & 1)) return std::nullopt;
-            Front front = front_of(image.data(4 * unit));
-            if (front.kind != Kind::Data) return front;
-            std::size_t size = front.length - HEADER;
-            for (std::size_t word = 0; word < size / 8; word++) {
-                std::uint64_t bytes = image.data(4 * unit + 4 + word);
-                std::memcpy(block + 8 * word, &bytes, 8);
-            }
-            if (size % 8 > 0) {
-                std::uint64_t bytes = image.data(4 * unit + 4 + size / 8);
-                std::memcpy(block + size / 8 * 8, &bytes, size % 8);
+            std::size_t unit = image.unit(position);
+            if (!holds(image.held(unit / 64), unit)) return std::nullopt;
+            const Word *word = image.at(position);
+            Front front = front_of(word);
+            std::int32_t end = front.kind == Kind::Data ? front.length : 0;
+            word += HEADER / 8;
+            for (std::int32_t at = HEADER; at < end; at += 8, block += 8) {
+                std::uint64_t bytes = *word++;
+                std::memcpy(block, &bytes, 8);
             }
             return front;
         }
@@ -144,7 +176,7 @@ class SharedImage {
         // Moves the consumer past a frame that it has read.
         void advance(const Front &front) {
             position += align32(front.length);
-            image.words[LINE * number] = position;
+            told.store(position, PUBLISHES);
         }
     };
 };

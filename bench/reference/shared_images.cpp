@@ -1,6 +1,8 @@
 // Inserts frames into an image and reads each at once, the plain image and the one that threads share, and prints the time for
 // each frame.
+#include "image.hpp"
 #include "shared_image.hpp"
+#include <array>
 #include <chrono>
 #include <cstdio>
 #include <cstdlib>
