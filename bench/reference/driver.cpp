@@ -1,5 +1,6 @@
 // The whole driver over UDP at 127.0.0.1: publishers, a sender, a conductor, a receiver and a subscriber, each in a thread
 // of its own. The receiver starts the subscriber's once it has an image, which both then share without a lock.
+#include "counters.hpp"
 #include "idle.hpp"
 #include "log.hpp"
 #include "measure.hpp"
@@ -21,6 +22,7 @@ struct Stage {
     alignas(CACHE_LINE) Udp replies;
     alignas(CACHE_LINE) std::atomic<bool> is_heard = false;
     std::atomic<bool> is_stopped = false;
+    alignas(CACHE_LINE) Counters counters; // of the receiver
 
     Stage(const Options &options, const Geometry &geometry)
         : options(options), start(options.publishers + 3), log(geometry, SESSION, STREAM, 0), sends(options.loss, options.seed),
@@ -95,8 +97,10 @@ struct Stage {
             std::uint64_t moment = now();
             bool heard = receive(replies, room, [&](Bytes datagram) { receiver.on_datagram(datagram); });
             bool sent = receiver.tick(moment, replies);
-            SharedImage *image = receiver.opened();
-            if (image && !subscriber.joinable()) subscriber = std::thread([&, image] { subscribe(*image, tally); });
+            if (SharedImage *image = receiver.opened()) {
+                if (!subscriber.joinable()) subscriber = std::thread([&, image] { subscribe(*image, tally); });
+                counters.publish(receiver.positions());
+            }
             return heard || sent;
         });
         subscriber.join();
@@ -122,5 +126,6 @@ int main(int count, char **words) {
     threads.emplace_back([&] { stage.keep_all(); });
     std::uint64_t began = stage.receive_all(tally);
     for (auto &thread : threads) thread.join();
+    if (!stage.counters.read().is_whole()) fail("counters broken");
     tally.print("cpp-driver", began);
 }

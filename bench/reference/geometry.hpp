@@ -24,6 +24,13 @@ struct Gap {
     std::uint32_t length;
 };
 
+// Of a stream at its receiver: the least consumer's, the end of what has no gap, and the end of what is known.
+struct Positions {
+    std::uint64_t least, rebuilt, high_water;
+
+    bool is_whole() const { return least <= rebuilt && rebuilt == high_water; }
+};
+
 struct Geometry {
     std::uint32_t term_length, mtu;
     std::int32_t initial_id;

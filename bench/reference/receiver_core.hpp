@@ -94,6 +94,9 @@ class ReceiverCore {
     // The image, for its subscriber; null before a SETUP has opened it.
     SharedImage *opened() { return image ? &*image : nullptr; }
 
+    // Of an image that is open.
+    Positions positions() const { return inserter->positions(); }
+
     void on_datagram(Bytes bytes) {
         if (!is_datagram(bytes)) return;
         Kind kind = fields_at<Front>(bytes.data()).kind;

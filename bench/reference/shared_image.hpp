@@ -113,6 +113,9 @@ class alignas(8 * LINE) SharedImage {
         Inserter(SharedImage &image, std::uint32_t window)
             : image(image), window(window), floor(image.join), rebuilt(image.join), high_water(image.join) {}
 
+        // As the consumers were seen last.
+        Positions positions() const { return {floor, rebuilt, high_water}; }
+
         // Looks once where each consumer stands, and clears what all of them have passed. The answer is the least position.
         std::uint64_t prune() {
             std::uint64_t least = image.least_consumer();
