@@ -8,13 +8,14 @@
 #include "words.hpp"
 #include <optional>
 
-// It has cache lines of its own, since its consumers read it: its inserter may stand beside it.
+// It has cache lines of its own: what its inserter counts beside it lies on none that consumers read.
 class alignas(8 * LINE) SharedImage {
     static constexpr std::size_t BEHIND = 8 * LINE; // eight consumers
 
     Geometry geometry;
     std::uint64_t join;
-    std::size_t consumers, bits; // words of bits of each kind
+    std::size_t consumers;
+    std::size_t bits; // how many words of each of the two kinds
     Words words;
 
     std::size_t unit(std::uint64_t position) const { return geometry.ring_place(position) / UNIT; }
@@ -123,7 +124,7 @@ class alignas(8 * LINE) SharedImage {
             return least;
         }
 
-        // Takes a DATA frame or a padding as it stands in a datagram.
+        // Takes a DATA frame or a padding as it stands in a datagram. The consumers are looked at once.
         Insert insert(std::int64_t position, const std::uint8_t *frame) {
             auto front = fields_at<Front>(frame);
             prune();
@@ -135,7 +136,7 @@ class alignas(8 * LINE) SharedImage {
             return answer;
         }
 
-        // Takes a sender's position, up to three quarters of a term ahead of the consumers.
+        // Takes a sender's position, up to three quarters of a term ahead of the consumers, which are looked at once.
         void heartbeat(std::int64_t position) {
             std::uint64_t greatest = std::min(prune() + image.geometry.term_length / 4 * 3, image.geometry.max_position());
             if (position >= 0 && static_cast<std::uint64_t>(position) <= greatest)
