@@ -81,6 +81,7 @@ module _ (n m : InserterSeat) (window high rebuilt least_read : ℕ) (is : IsIns
   looked = record {
     after = (λ j. record { of = same_of j; key = same_key j; window = window; stored = placed_all (same_got j); high = high; floor = now.floor; seen = now.seen; looks = now.looks; undealt = same_undealt j });
     floor = floor_now ∙ sym least_now;
+    rises = floor_up;
     looked = λ j lt. ap (λ (xs : List ℕ). slice_index xs j) same_looks ∙ p.swept.sweeps.looked j lt;
     all = length_bytes m.view.seen ∙ ap length same_seen ∙ p.swept.sweeps.all ∙ sym (length_bytes n.view.seen);
     forward = λ j. (let a = seen_now j in let b = index_bytes n.view.seen j in let c = p.swept.sweeps.grown j in omega arith);

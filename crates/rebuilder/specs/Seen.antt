@@ -42,11 +42,12 @@ pub record IsInserterOf (image : ImageWords) (i : Inserting) : Type 0 where
   pub of : i.of ≡ image.of
   pub key : i.key ≡ image.key
 
--- it looked once at each consumer, and holds nothing more below the least position that it read; these frames were stored
--- then, and this is the mark
+-- it looked once at each consumer, and holds nothing more below the least position that it read, which isn't below the floor
+-- before; these frames were stored then, and this is the mark
 pub record Looked (i : Inserting) (stored : List Placed) (high : ℕ) (j : Inserting) : Type 0 where
   pub after : j ≡ record i { stored = stored; high = high; floor = j.floor; seen = j.seen; looks = j.looks }
   pub floor : j.floor ≡ least j.seen
+  pub rises : i.floor ≤ j.floor
   pub looked : (n : ℕ) → n < i.key.consumers → slice_index j.looks n ≡ suc (slice_index i.looks n)
   pub all : length j.seen ≡ length i.seen
   pub forward : (n : ℕ) → slice_index i.seen n ≤ slice_index j.seen n

@@ -114,6 +114,13 @@ impl Inserter {
         self.rebuilt
     }
 
+    /// The least position at which a consumer stood when it looked last, or the join.
+    pub fn floor(&self) -> u64
+        ensures { result ≡ self.now.floor }
+    {
+        self.words.floor()
+    }
+
     /// The greatest end of a stored frame or position of an accepted heartbeat, or the join.
     pub fn high_water(&self) -> u64
         ensures value { result ≡ self.now.high }

@@ -36,6 +36,7 @@ sees_further (Some i) (Some j) (Some k) f g = record {
   key = g.key ∙ f.key;
   window = g.window ∙ f.window;
   undealt = g.undealt ∙ f.undealt;
+  floor = (let p = f.floor in let q = g.floor in omega arith);
   all = g.all ∙ f.all;
   forward = λ n. (let p = f.forward n in let q = g.forward n in omega arith);
 }

@@ -56,7 +56,7 @@ shown_some i (Some j) o e h = some_shown i j o (cc) h
 
 pub sees_same : (o : Option Inserting) → ImageSeesOn o o
 sees_same None = tt
-sees_same (Some i) = record { of = refl; key = refl; window = refl; undealt = refl; all = refl; forward = λ n. omega arith }
+sees_same (Some i) = record { of = refl; key = refl; window = refl; undealt = refl; floor = omega arith; all = refl; forward = λ n. omega arith }
 
 seen_same : (o : Option Inserting) → image_seen_as o o ≡ o
 seen_same None = refl
@@ -364,7 +364,7 @@ core_opened v w d p j is e then unmet window consumers faults =
     window consumers (λ h f. (let no_header : None ≡ Some h = sym unmet ∙ f in absurd (cc))) faults
 
 pub same_sees : (i j : Inserting) → j ≡ i → SeesOn i j
-same_sees i j e = subst (SeesOn i) (sym e) (record { of = refl; key = refl; window = refl; undealt = refl; all = refl; forward = λ n. omega arith })
+same_sees i j e = subst (SeesOn i) (sym e) (record { of = refl; key = refl; window = refl; undealt = refl; floor = omega arith; all = refl; forward = λ n. omega arith })
 
 -- ---- a datagram
 

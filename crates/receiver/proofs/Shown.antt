@@ -46,12 +46,16 @@ least_shown v o h = ap least h.consumers ∙ least_is o.image.consumers
 
 -- ---- a look at the consumers
 
+pub looks_once : (i j : Inserting) (stored : List Placed) (high : ℕ) → Looked i stored high j → LooksOnce i j
+looks_once i j stored high l = record { looked = l.looked; floor = l.floor }
+
 pub sees_on : (i j : Inserting) (stored : List Placed) (high : ℕ) → Looked i stored high j → SeesOn i j
 sees_on i j stored high l = record {
   of = ap (λ (x : Inserting). x.of) l.after;
   key = ap (λ (x : Inserting). x.key) l.after;
   window = ap (λ (x : Inserting). x.window) l.after;
   undealt = ap (λ (x : Inserting). x.undealt) l.after;
+  floor = l.rises;
   all = l.all;
   forward = l.forward;
 }
@@ -97,7 +101,7 @@ pub frame_sees : (v w : Inserting) (z : ℤ) (f : Frame) (a : given.Insert) → 
 frame_sees v w z f a h = let l = frame_looked v w z f a h in sees_on v w l.stored l.high l.looked
 
 pub frame_looks : (v w : Inserting) (z : ℤ) (f : Frame) (a : given.Insert) → Answers v w z f a → LooksOnce v w
-frame_looks v w z f a h = (frame_looked v w z f a h).looked.looked
+frame_looks v w z f a h = let l = frame_looked v w z f a h in looks_once v w l.stored l.high l.looked
 
 -- the image has one frame more
 more_shown : (v w : Inserting) (o : Opened) (s : Placed) → rebuilt.Inserts v s w → RepresentsImage (record v { seen = w.seen }) o → RepresentsImage w (record o { image = record o.image { stored = s ∷ o.image.stored; high = max o.image.high (end_of s) } })
@@ -149,7 +153,7 @@ pub beat_sees : (v w : Inserting) (z : ℤ) (b : Bool) → Accepts v w z b → S
 beat_sees v w z b h = let l = beat_looked v w z b h in sees_on v w l.stored l.high l.looked
 
 pub beat_looks : (v w : Inserting) (z : ℤ) (b : Bool) → Accepts v w z b → LooksOnce v w
-beat_looks v w z b h = (beat_looked v w z b h).looked.looked
+beat_looks v w z b h = let l = beat_looked v w z b h in looks_once v w l.stored l.high l.looked
 
 beaten_shown : (v w : Inserting) (o : Opened) (z : ℤ) (b : Bool) → RepresentsImage (record v { seen = w.seen }) o → Accepts v w z b → RepresentsImage w (record o { image = after_heartbeat o.geometry o.image (least_of o.image.consumers) z })
 beaten_shown v w o (negsuc n) b h is = still_shown v w o (is.refused is.answer) h

@@ -12,6 +12,7 @@ use Rattle.theory.specs.Image.{Image}
 use Rattle.assembler.specs.Assembling.{held_with, is_dropped}
 use Rattle.assembler.specs.declared.fault.AssemblyError.{AssemblyError}
 use Rattle.assembler.specs.declared.fault.AssemblyError.TheVariants.{Memory, TooLong}
+use Rattle.rebuilder.specs.Seen.{Inserting, join_of}
 use Rattle.receiver.specs.declared.poll_error.PollError.{PollError}
 use Rattle.receiver.specs.declared.poll_error.PollError.TheVariants.{NoImage, Unassembled}
 use Rattle.receiver.specs.declared.positions.Positions.{Positions}
@@ -134,3 +135,8 @@ TellsOf (Some o) told = (q : ℕ) × IsContiguous o.image.stored o.image.join q 
 
 abbrev pub TellsPositions : Receiver → Option Positions → Type 0
 TellsPositions r told = TellsOf r.image told
+
+-- those that its inserter tells: the least is the least position at which it saw a consumer when it looked last
+abbrev pub TellsImage : Option Inserting → Option Positions → Type 0
+TellsImage None told = told ≡ None
+TellsImage (Some i) told = (q : ℕ) × IsContiguous i.stored (join_of i) q × (told ≡ Some (record { least = i.floor; rebuilt = q; high_water = i.high }))

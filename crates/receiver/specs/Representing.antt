@@ -16,7 +16,7 @@ use Rattle.theory.specs.Control.{named_by}
 use Rattle.theory.specs.Timing.{LastStatus, Watch}
 use Rattle.theory.specs.Wire.{DATA, HEARTBEAT, Header, IsHeader, NAK, PAD, SETUP, SM, SpellsDatagram, Wire}
 use Rattle.image.specs.Kinds.{head_at}
-use Rattle.image.specs.Seen.{IsCount}
+use Rattle.image.specs.Seen.{IsCount, least}
 use Rattle.image.specs.Stored.{meant}
 use Rattle.image.specs.declared.answer.Insert.{Insert}
 use Rattle.shared_image.specs.Handles.{ImageWords}
@@ -98,6 +98,7 @@ pub record SeesOn (i j : Inserting) : Type 0 where
   pub key : j.key ≡ i.key
   pub window : j.window ≡ i.window
   pub undealt : j.undealt ≡ i.undealt
+  pub floor : i.floor ≤ j.floor
   pub all : length j.seen ≡ length i.seen
   pub forward : (n : ℕ) → slice_index i.seen n ≤ slice_index j.seen n
 
@@ -112,9 +113,10 @@ ImageSeesOn None (Some j) = IsOpen j
 ImageSeesOn (Some i) None = ⊥
 ImageSeesOn (Some i) (Some j) = SeesOn i j
 
--- it has looked once at each consumer
-abbrev pub LooksOnce : Inserting → Inserting → Type 0
-LooksOnce i j = (n : ℕ) → n < i.key.consumers → slice_index j.looks n ≡ suc (slice_index i.looks n)
+-- it has looked once at each consumer, and its floor is the least position at which it saw one
+pub record LooksOnce (i j : Inserting) : Type 0 where
+  pub looked : (n : ℕ) → n < i.key.consumers → slice_index j.looks n ≡ suc (slice_index i.looks n)
+  pub floor : j.floor ≡ least j.seen
 
 -- the same, if there was an image
 abbrev pub ImageLooks : Option Inserting → Option Inserting → Type 0

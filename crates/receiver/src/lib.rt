@@ -13,7 +13,9 @@
 //! written.
 //!
 //! An image's readers are given away once, with the image (`ReceiverCore::take_readers`, `Readers`), and a core tells a reader
-//! each frame that it stored so far (`ReceiverCore::learn`). Neither asks for memory.
+//! each frame that it stored so far (`ReceiverCore::learn`). Neither asks for memory. `ReceiverCore::positions` tells, without a
+//! look at the consumers, the least position at which one was seen when a call looked last, the contiguous end and the high-water
+//! mark.
 //!
 //! A subscriber has a core and the one reader of its image in one hand. They meet at the end of each call that looked at the
 //! consumers, so no consumer moves between two calls, and each datagram, tick and poll makes of the subscriber exactly what the

@@ -16,12 +16,14 @@ ghost use Rattle.frames.specs.Frames.{header_of, wire};
 ghost use Rattle.shared_image.specs.Handles.{IsReaderOf, position_of};
 ghost use Rattle.rebuilder.specs.Meeting.{AreAlone, Meets, number_of};
 ghost use Rattle.rebuilder.specs.Seen.{geometry_of, join_of};
+ghost use Rattle.receiver.specs.Polling.{TellsImage};
 ghost use Rattle.receiver.specs.Receiving.{Opened, gap_in};
 ghost use Rattle.receiver.specs.Representing.{GoesForward, HearsBeat, Inserts, IsAtEnd, LooksOnce, ReadsPast, RepresentsImage, SeesOn, words_of};
 ghost use Rattle.receiver.specs.Dealt.{TakesReaders};
 ghost use Rattle.receiver.specs.Seating.{AreSeated, MaySit, SitsAt, place_of};
 
 use crate::dealing::{deal_all, only_reader, room_for};
+use crate::positions::Positions;
 use crate::readers::Readers;
 use block::Block;
 use frames::{Frame, Header};
@@ -126,6 +128,18 @@ impl OpenImage {
         ensures low { result ≤ max_position (geometry_of self.now) }
     {
         self.inserter.high_water()
+    }
+
+    /// Where it stands, and the least position at which a consumer stood when it looked last.
+    pub(crate) fn positions(&self) -> Positions
+        ensures told { TellsImage (Some self.now) (Some result) }
+        ensures order { (result.least ≤ result.rebuilt) × (result.rebuilt ≤ result.high_water) }
+    {
+        Positions {
+            least: self.inserter.floor(),
+            rebuilt: self.inserter.rebuilt(),
+            high_water: self.inserter.high_water(),
+        }
     }
 
     /// Does nothing, and says what holds of it, whatever it was handed.

@@ -16,11 +16,13 @@ ghost use Rattle.frames.specs.Frames.{header_of, nak_of, setup_of, status_of, wi
 ghost use Rattle.image.specs.Seen.{IsCount};
 ghost use Rattle.image.specs.Stored.{IsOfStream, stream_frame};
 ghost use Rattle.receiver.specs.Representing.{last_status_of};
+ghost use Rattle.receiver.specs.Polling.{TellsImage};
 ghost use Rattle.receiver.specs.Dealt.{HasNoReaders, ImageTakes, Learns, MayLearn};
 ghost use Rattle.receiver.specs.Seating.{AreSeated, MaySit, Sits};
 ghost use Rattle.receiver.specs.Texts.{outcome_text};
 
 use crate::opened::{OpenImage, open};
+use crate::positions::Positions;
 use crate::readers::Readers;
 use crate::setup::fault::SetupError;
 use crate::setup::judgement::judge;
@@ -163,6 +165,18 @@ impl ReceiverCore {
         ensures { option_copied result ≡ self.now.image }
     {
         self.image.as_ref()
+    }
+
+    /// How far its image is rebuilt, and the least position at which a consumer stood when a datagram or a tick looked last.
+    /// There is nothing to tell without an image.
+    pub fn positions(&self) -> Option<Positions>
+        ensures told { TellsImage self.now.image result }
+        ensures order { IfSome result (λ p. (p.least ≤ p.rebuilt) × (p.rebuilt ≤ p.high_water)) }
+    {
+        match &self.image {
+            None => None,
+            Some(image) => Some(image.positions()),
+        }
     }
 
     /// The readers of its image, once after a SETUP has opened it: none before, and none again. It asks for no memory.

@@ -1,4 +1,4 @@
-use Rattle.receiver.proofs.Shown.{sees_on, still_shown}
+use Rattle.receiver.proofs.Shown.{looks_once, sees_on, still_shown}
 use Rattle.std.specs.Arc.{arc_value}
 use Rattle.receiver.proofs.Rooms.{open_as}
 use Rattle.receiver.proofs.opened.OpenImage.least.Goals as goal
@@ -15,4 +15,4 @@ invariant_of-self c =
     open_as (arc_value c.self.inside.image) c.self.inside.inserter c.least.new.inserter c.self.inside.room c.self.invariant s.of s.key s.undealt
 
 pub returns-clause-looks : goal.returns-clause-looks
-returns-clause-looks c = rw (← c.self.view_is) c.least.ensures.looked.looked
+returns-clause-looks c = rw (← c.self.view_is) (looks_once c.self.inside.inserter c.least.new.inserter _ _ c.least.ensures.looked)
