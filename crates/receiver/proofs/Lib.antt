@@ -3,6 +3,7 @@ pub mod Joins
 pub mod Meeting
 pub mod PollFrames
 pub mod Polled
+pub mod Heard
 pub mod ReadOn
 pub mod Rooms
 pub mod Seated

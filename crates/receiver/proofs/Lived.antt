@@ -3,3 +3,4 @@ pub mod Following
 pub mod Meeting
 pub mod Polled
 pub mod Whole
+pub mod OfCore

@@ -44,11 +44,11 @@ passed_at : (c : Consumer) (frames : List Placed) (q : ℕ) → Chain c.at q fra
 passed_at c [] q e = sym e
 passed_at c (s ∷ ss) q (at, more) = passed_at (passed_by c s) ss q more
 
-after_begun : (a : Assembly) (f : Frame) → (after a f).begun ≡ (heard_of a.begun f).begun
+pub after_begun : (a : Assembly) (f : Frame) → (after a f).begun ≡ (heard_of a.begun f).begun
 after_begun a (Data flags payload) = refl
 after_begun a (Pad n) = refl
 
-after_given : (a : Assembly) (f : Frame) → (after a f).given ≡ a.given ++ option_to_list (heard_of a.begun f).message
+pub after_given : (a : Assembly) (f : Frame) → (after a f).given ≡ a.given ++ option_to_list (heard_of a.begun f).message
 after_given a (Data flags payload) = refl
 after_given a (Pad n) = sym (append-nil a.given)
 

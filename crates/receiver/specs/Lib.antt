@@ -7,3 +7,5 @@ pub mod Seating
 pub mod Subscribing
 pub mod Texts
 pub mod Lives
+pub mod CoreLives
+pub mod Reading

@@ -37,8 +37,10 @@
 //! no poll is refused: a life has none that is.
 #![tactic(auto)]
 
+mod assembling;
 mod dealing;
 mod lives;
+mod message_reader;
 mod opened;
 mod poll_error;
 mod positions;
@@ -47,7 +49,8 @@ mod receiver_core;
 mod setup;
 mod subscriber;
 
-pub use lives::polls_a_run;
+pub use lives::{polls_a_run, reads_a_run};
+pub use message_reader::MessageReader;
 pub use opened::OpenImage;
 pub use poll_error::PollError;
 pub use positions::Positions;

@@ -1,5 +1,6 @@
-//! What a subscriber's polls give of a stream.
+//! What is polled and read of a stream.
 
+ghost use Rattle.receiver.specs.CoreLives.{ReadsARun};
 ghost use Rattle.receiver.specs.Lives.{PollsARun};
 
 use model::messages_between;
@@ -8,6 +9,15 @@ use theory::names_place;
 /// A law: what an honest life polls is a run of its stream, from the join on.
 pub fn polls_a_run()
     ensures { PollsARun }
+{
+    // Laws that the proof cites.
+    messages_between();
+    names_place();
+}
+
+/// A law: what is read of the image of an honest life is a run of its stream, from the join on.
+pub fn reads_a_run()
+    ensures { ReadsARun }
 {
     // Laws that the proof cites.
     messages_between();

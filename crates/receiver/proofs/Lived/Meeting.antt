@@ -7,7 +7,7 @@ use Rattle.theory.specs.Wire.{Header, Setup, Wire, DATA, PAD, HEARTBEAT, NAK, SM
 use Rattle.theory.specs.Bytes.{Identity, header_at, wire_at}
 use Rattle.theory.specs.Placed.{AllAmong, Among, Data, Frame, Pad, Placed, end_of}
 use Rattle.theory.specs.Entry.{committed}
-use Rattle.theory.specs.Consumer.{consumer_at, least_of}
+use Rattle.theory.specs.Consumer.{Consumer, consumer_at, least_of}
 use Rattle.theory.specs.Control.{named_by}
 use Rattle.theory.specs.Image.{Image, after_heartbeat, after_insert, image_at, is_accepted}
 use Rattle.theory.specs.Insert.{Insert, Below, CrossesTerm, Duplicate, OverWindow, Overlap, Stored}
@@ -16,7 +16,7 @@ use Rattle.theory.specs.Setup.{NamesGeometry}
 use Rattle.theory.proofs.Frames.{committed_below}
 use Rattle.theory.proofs.Lists.{all_at}
 use Rattle.theory.proofs.Stays.{beat_stays, insert_stays}
-use Rattle.receiver.specs.Receiving.{Meets, MeetsAll, MeetsFrame, MeetsHeartbeat, MeetsSetup, Opened, OpensImage, Receiver, TakesDatagram, answer_at, at_moment, given_at}
+use Rattle.receiver.specs.Receiving.{Meets, MeetsAll, MeetsFrame, MeetsHeartbeat, MeetsSetup, Opened, OpensImage, Receiver, RefusesDatagram, TakesDatagram, answer_at, at_moment, given_at}
 use Rattle.receiver.specs.declared.receiver_core.Outcome.{Outcome}
 use Rattle.receiver.specs.Lives.{IsHonest, IsHonestFrame, IsIts, IsStream, NamesIt, Stream, WasCommitted}
 use Rattle.receiver.proofs.Lived.Following.{Follows, FollowsImage, IsFollowed, follows_as, follows_with, stays_followed}
@@ -85,27 +85,6 @@ pad_of laws x h n is was =
     let parts = pad_is x.identity was.0.at was.0.frame h n was.2 in
     record { placed = was.0; among = was.1; named = ap (named_by x.identity.geometry) parts.0 ∙ laws.header x.identity was.0.at is.geometry (place_low x was.0 is was.1); same = parts.1 }
 
-frame_met : (x : Stream) (r q : Receiver) (image : Option Opened) (h : Header) (f : Frame) (out : Outcome) (given : List (List ℕ)) → Follows x r given → r.image ≡ image → IsFrameOf x h f → MeetsFrame image r h f out q → Follows x q given
-frame_met x r q None h f out given k was t m = follows_as x r q given k (ap (λ z. z.session) m.1) (ap (λ z. z.stream) m.1) (ap (λ z. z.consumers) m.1) (ap (λ z. z.image) m.1)
-frame_met x r q (Some o) h f out given k was t m =
-    let before : IsFollowed x o given = subst (λ z. FollowsImage z x given) was k.image in
-    let at : named_by o.geometry h ≡ pos t.placed.at = ap (λ g. named_by g h) before.geometry ∙ t.named in
-    let is : q ≡ record r { image = Some (given_at o (pos t.placed.at) t.placed.frame) } = m.3 ∙ ap (λ z. record r { image = Some (given_at o z f) }) at ∙ ap (λ y. record r { image = Some (given_at o (pos t.placed.at) y) }) t.same in
-    let answer = answer_at o (pos t.placed.at) t.placed.frame in
-    let keeps = insert_stays o.image t.placed answer in
-    let after = stays_followed x o (given_at o (pos t.placed.at) t.placed.frame) given before refl (stored_on (committed x.entries) o.image t.placed answer t.among before.stored) keeps.0 keeps.1 in
-    follows_with x r q given given k (ap (λ z. z.session) is) (ap (λ z. z.stream) is) (ap (λ z. z.consumers) is) (subst (λ z. FollowsImage z x given) (sym (ap (λ z. z.image) is)) after)
-
-beat_met : (x : Stream) (r q : Receiver) (image : Option Opened) (h : Header) (out : Outcome) (given : List (List ℕ)) → Follows x r given → r.image ≡ image → MeetsHeartbeat image r h out q → Follows x q given
-beat_met x r q None h out given k was m = follows_as x r q given k (ap (λ z. z.session) m.1) (ap (λ z. z.stream) m.1) (ap (λ z. z.consumers) m.1) (ap (λ z. z.image) m.1)
-beat_met x r q (Some o) h out given k was m =
-    let before : IsFollowed x o given = subst (λ z. FollowsImage z x given) was k.image in
-    let least = least_of o.image.consumers in
-    let z = named_by o.geometry h in
-    let keeps = beat_stays o.geometry o.image least z in
-    let after = stays_followed x o (record o { image = after_heartbeat o.geometry o.image least z }) given before refl (subst (AllAmong (committed x.entries)) (sym (beat_stored o.geometry o.image least z)) before.stored) keeps.0 keeps.1 in
-    follows_with x r q given given k (ap (λ y. y.session) m.1) (ap (λ y. y.stream) m.1) (ap (λ y. y.consumers) m.1) (subst (λ y. FollowsImage y x given) (sym (ap (λ y. y.image) m.1)) after)
-
 -- ---- a SETUP
 
 pub same_geometry : (f : Setup) (g h : Geometry) → NamesGeometry f g → f.term_length ≡ pos h.term_length → f.mtu ≡ pos h.mtu → f.initial_term_id ≡ h.initial_term_id → g ≡ h
@@ -116,56 +95,83 @@ same_geometry f g h n t m i =
     let mtu : g.mtu ≡ h.mtu = cc in
     ap (λ x. record g { term_length = x }) term ∙ ap (λ x. record g { term_length = h.term_length; mtu = x }) mtu ∙ ap (λ x. record h { initial_term_id = x }) (sym n.initial ∙ i)
 
-opens : (x : Stream) (r q : Receiver) (f : Setup) (out : Outcome) (given : List (List ℕ)) → Follows x r given → r.image ≡ None → NamesIt x f → OpensImage r f out q → Follows x q given
-opens x r q f out given k was named m =
-    let i = x.identity in
-    let shape : m.0 ≡ i.geometry = same_geometry f m.0 i.geometry m.2.geometry (ap (λ z. z.term_length) named.2) (ap (λ z. z.mtu) named.2) (ap (λ z. z.initial_term_id) named.2) in
-    let nothing : given ≡ [] = subst (λ z. FollowsImage z x given) was k.image in
-    let after : IsFollowed x (record { geometry = m.0; image = image_at m.1 r.window r.consumers }) given = record {
-      geometry = shape;
-      stored = tt;
-      consumer = consumer_at m.1;
-      one = ap (λ n. replicate n (consumer_at m.1)) k.one;
-      join = refl;
-      whole = refl;
-      read = [];
-      chain = refl;
-      among = tt;
-      heard = refl;
-      given_is = sym nothing;
-    } in
-    follows_with x r q given given k (ap (λ y. y.session) m.4) (ap (λ y. y.stream) m.4) (ap (λ y. y.consumers) m.4) (subst (λ y. FollowsImage y x given) (sym (ap (λ y. y.image) m.4)) after)
+-- ---- what a datagram keeps, where it holds of consumers that begin
 
-setup_met : (x : Stream) (r q : Receiver) (image : Option Opened) (f : Setup) (out : Outcome) (given : List (List ℕ)) → Follows x r given → r.image ≡ image → NamesIt x f → MeetsSetup image r f out q → Follows x q given
-setup_met x r q None f out given k was named (inl m) = opens x r q f out given k was named m
-setup_met x r q None f out given k was named (inr m) = follows_as x r q given k (ap (λ y. y.session) m.3) (ap (λ y. y.stream) m.3) (ap (λ y. y.consumers) m.3) (ap (λ y. y.image) m.3)
-setup_met x r q (Some o) f out given k was named m = follows_as x r q given k (ap (λ y. y.session) m.1) (ap (λ y. y.stream) m.1) (ap (λ y. y.consumers) m.1) (ap (λ y. y.image) m.1)
+module _ (x : Stream) (is : IsStream x) (P : List Consumer → ℕ → Type 0) (Q : Type 0) (n : ℕ) (begins : Q → (j : ℕ) → P (replicate n (consumer_at j)) j) where
+  abbrev pub Kept : Receiver → Type 0
+  Kept = Follows x P Q n
 
--- ---- any frame, and the frames of a datagram
+  -- ---- a frame of the stream
 
--- it is left as it was
-stays : (x : Stream) (r q : Receiver) (given : List (List ℕ)) → Follows x r given → q ≡ r → Follows x q given
-stays x r q given k e = subst (λ z. Follows x z given) (sym e) k
+  frame_met : (r q : Receiver) (image : Option Opened) (h : Header) (f : Frame) (out : Outcome) → Kept r → r.image ≡ image → IsFrameOf x h f → MeetsFrame image r h f out q → Kept q
+  frame_met r q None h f out k was t m = follows_as x P Q n r q k (ap (λ z. z.session) m.1) (ap (λ z. z.stream) m.1) (ap (λ z. z.consumers) m.1) (ap (λ z. z.image) m.1)
+  frame_met r q (Some o) h f out k was t m =
+      let before : IsFollowed x P o = subst (λ z. FollowsImage z x P Q) was k.image in
+      let at : named_by o.geometry h ≡ pos t.placed.at = ap (λ g. named_by g h) before.geometry ∙ t.named in
+      let same : q ≡ record r { image = Some (given_at o (pos t.placed.at) t.placed.frame) } = m.3 ∙ ap (λ z. record r { image = Some (given_at o z f) }) at ∙ ap (λ y. record r { image = Some (given_at o (pos t.placed.at) y) }) t.same in
+      let answer = answer_at o (pos t.placed.at) t.placed.frame in
+      let keeps = insert_stays o.image t.placed answer in
+      let after = stays_followed x P o (given_at o (pos t.placed.at) t.placed.frame) before refl (stored_on (committed x.entries) o.image t.placed answer t.among before.stored) keeps.0 keeps.1 in
+      follows_with x P P Q Q n r q k (ap (λ z. z.session) same) (ap (λ z. z.stream) same) (ap (λ z. z.consumers) same) (subst (λ z. FollowsImage z x P Q) (sym (ap (λ z. z.image) same)) after)
 
-its : (x : Stream) (r : Receiver) (given : List (List ℕ)) (session stream : ℤ) → Follows x r given → (session ≡ r.session) × (stream ≡ r.stream) → IsIts x session stream
-its x r given session stream k ours = (ours.0 ∙ k.session, ours.1 ∙ k.stream)
+  beat_met : (r q : Receiver) (image : Option Opened) (h : Header) (out : Outcome) → Kept r → r.image ≡ image → MeetsHeartbeat image r h out q → Kept q
+  beat_met r q None h out k was m = follows_as x P Q n r q k (ap (λ z. z.session) m.1) (ap (λ z. z.stream) m.1) (ap (λ z. z.consumers) m.1) (ap (λ z. z.image) m.1)
+  beat_met r q (Some o) h out k was m =
+      let before : IsFollowed x P o = subst (λ z. FollowsImage z x P Q) was k.image in
+      let least = least_of o.image.consumers in
+      let z = named_by o.geometry h in
+      let keeps = beat_stays o.geometry o.image least z in
+      let after = stays_followed x P o (record o { image = after_heartbeat o.geometry o.image least z }) before refl (subst (AllAmong (committed x.entries)) (sym (beat_stored o.geometry o.image least z)) before.stored) keeps.0 keeps.1 in
+      follows_with x P P Q Q n r q k (ap (λ y. y.session) m.1) (ap (λ y. y.stream) m.1) (ap (λ y. y.consumers) m.1) (subst (λ y. FollowsImage y x P Q) (sym (ap (λ y. y.image) m.1)) after)
 
-meets : Places → (x : Stream) (r q : Receiver) (w : Wire) (out : Outcome) (given : List (List ℕ)) → IsStream x → Follows x r given → IsHonestFrame x w → Meets r w out q → Follows x q given
-meets laws x r q (DATA h flags payload) out given is k honest (inl m) = frame_met x r q r.image h (Data flags payload) out given k refl (data_of laws x h flags payload is (honest (its x r given h.session h.stream k m.0))) m.1
-meets laws x r q (DATA h flags payload) out given is k honest (inr m) = stays x r q given k m.1.1
-meets laws x r q (PAD h n) out given is k honest (inl m) = frame_met x r q r.image h (Pad n) out given k refl (pad_of laws x h n is (honest (its x r given h.session h.stream k m.0))) m.1
-meets laws x r q (PAD h n) out given is k honest (inr m) = stays x r q given k m.1.1
-meets laws x r q (HEARTBEAT h) out given is k honest (inl m) = beat_met x r q r.image h out given k refl m.1
-meets laws x r q (HEARTBEAT h) out given is k honest (inr m) = stays x r q given k m.1.1
-meets laws x r q (NAK f) out given is k honest m = stays x r q given k m.1
-meets laws x r q (SM asks f) out given is k honest m = stays x r q given k m.1
-meets laws x r q (SETUP f) out given is k honest (inl m) = setup_met x r q r.image f out given k refl (honest (its x r given f.session f.stream k m.0)) m.1
-meets laws x r q (SETUP f) out given is k honest (inr m) = stays x r q given k m.1.1
+  -- ---- a SETUP
 
-meets_all : Places → (x : Stream) (r q : Receiver) (ws : List Wire) (outs : List Outcome) (given : List (List ℕ)) → IsStream x → Follows x r given → AllByRecursion (IsHonestFrame x) ws → MeetsAll r ws outs q → Follows x q given
-meets_all laws x r q [] outs given is k honest m = stays x r q given k m.1
-meets_all laws x r q (w ∷ ws) outs given is k honest m = meets_all laws x m.1 q ws m.2 given is (meets laws x r m.1 w m.0 given is k honest.0 m.3) honest.1 m.5
+  opens : (r q : Receiver) (f : Setup) (out : Outcome) → Kept r → r.image ≡ None → NamesIt x f → OpensImage r f out q → Kept q
+  opens r q f out k was named m =
+      let i = x.identity in
+      let shape : m.0 ≡ i.geometry = same_geometry f m.0 i.geometry m.2.geometry (ap (λ z. z.term_length) named.2) (ap (λ z. z.mtu) named.2) (ap (λ z. z.initial_term_id) named.2) in
+      let nothing : Q = subst (λ z. FollowsImage z x P Q) was k.image in
+      let after : IsFollowed x P (record { geometry = m.0; image = image_at m.1 r.window r.consumers }) = record {
+        geometry = shape;
+        stored = tt;
+        reading = subst (λ c. P (replicate c (consumer_at m.1)) m.1) (sym k.count) (begins nothing m.1);
+      } in
+      follows_with x P P Q Q n r q k (ap (λ y. y.session) m.4) (ap (λ y. y.stream) m.4) (ap (λ y. y.consumers) m.4) (subst (λ y. FollowsImage y x P Q) (sym (ap (λ y. y.image) m.4)) after)
 
-pub takes : Places → (x : Stream) (r q : Receiver) (now : ℕ) (bytes : List ℕ) (outs : List Outcome) (given : List (List ℕ)) → IsStream x → Follows x r given → IsHonest x bytes → TakesDatagram r now bytes outs q → Follows x q given
-takes laws x r q now bytes outs given is k honest (inl m) = meets_all laws x (at_moment r now) q m.0 outs given is (record { session = k.session; stream = k.stream; one = k.one; image = k.image }) (honest m.0 m.1) m.2
-takes laws x r q now bytes outs given is k honest (inr m) = follows_as x r q given k (ap (λ z. z.session) m.3) (ap (λ z. z.stream) m.3) (ap (λ z. z.consumers) m.3) (ap (λ z. z.image) m.3)
+  setup_met : (r q : Receiver) (image : Option Opened) (f : Setup) (out : Outcome) → Kept r → r.image ≡ image → NamesIt x f → MeetsSetup image r f out q → Kept q
+  setup_met r q None f out k was named (inl m) = opens r q f out k was named m
+  setup_met r q None f out k was named (inr m) = follows_as x P Q n r q k (ap (λ y. y.session) m.3) (ap (λ y. y.stream) m.3) (ap (λ y. y.consumers) m.3) (ap (λ y. y.image) m.3)
+  setup_met r q (Some o) f out k was named m = follows_as x P Q n r q k (ap (λ y. y.session) m.1) (ap (λ y. y.stream) m.1) (ap (λ y. y.consumers) m.1) (ap (λ y. y.image) m.1)
+
+  -- ---- any frame, and the frames of a datagram
+
+  -- it is left as it was
+  stays : (r q : Receiver) → Kept r → q ≡ r → Kept q
+  stays r q k e = subst Kept (sym e) k
+
+  its : (r : Receiver) (session stream : ℤ) → Kept r → (session ≡ r.session) × (stream ≡ r.stream) → IsIts x session stream
+  its r session stream k ours = (ours.0 ∙ k.session, ours.1 ∙ k.stream)
+
+  pub meets : Places → (r q : Receiver) (w : Wire) (out : Outcome) → Kept r → IsHonestFrame x w → Meets r w out q → Kept q
+  meets laws r q (DATA h flags payload) out k honest (inl m) = frame_met r q r.image h (Data flags payload) out k refl (data_of laws x h flags payload is (honest (its r h.session h.stream k m.0))) m.1
+  meets laws r q (DATA h flags payload) out k honest (inr m) = stays r q k m.1.1
+  meets laws r q (PAD h n) out k honest (inl m) = frame_met r q r.image h (Pad n) out k refl (pad_of laws x h n is (honest (its r h.session h.stream k m.0))) m.1
+  meets laws r q (PAD h n) out k honest (inr m) = stays r q k m.1.1
+  meets laws r q (HEARTBEAT h) out k honest (inl m) = beat_met r q r.image h out k refl m.1
+  meets laws r q (HEARTBEAT h) out k honest (inr m) = stays r q k m.1.1
+  meets laws r q (NAK f) out k honest m = stays r q k m.1
+  meets laws r q (SM asks f) out k honest m = stays r q k m.1
+  meets laws r q (SETUP f) out k honest (inl m) = setup_met r q r.image f out k refl (honest (its r f.session f.stream k m.0)) m.1
+  meets laws r q (SETUP f) out k honest (inr m) = stays r q k m.1.1
+
+  meets_all : Places → (r q : Receiver) (ws : List Wire) (outs : List Outcome) → Kept r → AllByRecursion (IsHonestFrame x) ws → MeetsAll r ws outs q → Kept q
+  meets_all laws r q [] outs k honest m = stays r q k m.1
+  meets_all laws r q (w ∷ ws) outs k honest m = meets_all laws m.1 q ws m.2 (meets laws r m.1 w m.0 k honest.0 m.3) honest.1 m.5
+
+  -- a datagram that can't be read
+  pub refuses : (r q : Receiver) (bytes : List ℕ) (outs : List Outcome) → Kept r → RefusesDatagram r bytes outs q → Kept q
+  refuses r q bytes outs k m = follows_as x P Q n r q k (ap (λ z. z.session) m.3) (ap (λ z. z.stream) m.3) (ap (λ z. z.consumers) m.3) (ap (λ z. z.image) m.3)
+
+  pub takes : Places → (r q : Receiver) (now : ℕ) (bytes : List ℕ) (outs : List Outcome) → Kept r → IsHonest x bytes → TakesDatagram r now bytes outs q → Kept q
+  takes laws r q now bytes outs k honest (inl m) = meets_all laws (at_moment r now) q m.0 outs (record { session = k.session; stream = k.stream; count = k.count; image = k.image }) (honest m.0 m.1) m.2
+  takes laws r q now bytes outs k honest (inr m) = refuses (at_moment r now) q bytes outs (record { session = k.session; stream = k.stream; count = k.count; image = k.image }) m

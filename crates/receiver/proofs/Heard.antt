@@ -1,0 +1,220 @@
+-- Frames that a reader hears by itself.
+use Rattle.std.proofs.Common.{◌≡◌, ◌↔◌, ℕ, ◌≤◌, ◌⊎◌, inl, inr, List, [], ◌∷◌, ◌++◌, map, false, true, Bool, Option, None, Some, Ok, Err, refl, sym, ap, ◌∙◌, subst, arith}
+use Rattle.std.specs.Prelude.{◌-◌, ◌<◌, ◌^◌, IfErr, IfOk, Result, option_map}
+use Rattle.assembler.specs.declared.assembler.Message.{Message}
+use Rattle.std.specs.Option.{option_to_list}
+use Rattle.std.proofs.lemmas.List.{map-append}
+use Rattle.block.specs.Bytes.{with_front}
+use Rattle.theory.specs.Placed.{Among, Chain, Frame, Placed, is_padding, payload_of}
+use Rattle.theory.specs.Assembly.{Assembly, after, after_all}
+use Rattle.theory.proofs.Follow.{Chain-push}
+use Rattle.theory.proofs.Lists.{all_pushed, all_weaker}
+use Rattle.theory.proofs.Stays.{after_last}
+use Rattle.assembler.specs.Assembling.{Assembling}
+use Rattle.assembler.specs.declared.fault.AssemblyError.{AssemblyError}
+use Rattle.assembler.specs.declared.fault.AssemblyError.TheVariants.{Memory, TooLong}
+use Rattle.receiver.specs.Polling.{AsksMemory, IsTooLong}
+use Rattle.image.specs.Kinds.{head_at}
+use Rattle.position.specs.declared.head.FrameHead.{FrameHead}
+use Rattle.rebuilder.specs.Reading.{FindsHere, FindsNothing, PassesOn, read_end}
+use Rattle.shared_image.specs.Handles.{ImageWords, ReaderSeat, known_by, position_of}
+use Rattle.receiver.specs.Subscribing.{heard_of}
+use Rattle.receiver.specs.Reading.{FindsFrame, FindsNone, GivesMessage, GivesNothing, Hears, HearsOne, Passes, Reading, ReadsOn, RefusesFrame, RefusesOne, WaitsSo, assembled, heard_to_of}
+use Rattle.receiver.proofs.Polled.{after_begun, after_given}
+
+-- ---- one frame more
+
+pushed : (m k n : Reading) (frames : List Placed) (s : Placed) → ReadsOn m frames k → FindsFrame k s n → n.assembler.greatest ≡ k.assembler.greatest → ReadsOn m (frames ++ s ∷ []) n
+pushed m k n frames s r f greatest = record {
+  image = f.image ∙ r.image;
+  chain = subst (λ q. Chain m.heard_to q (frames ++ s ∷ [])) (sym f.ends) (Chain-push m.heard_to k.heard_to frames s r.chain f.here);
+  known = all_pushed (λ t. Among t (known_by n.seat)) frames s (all_weaker (λ t. Among t (known_by k.seat)) (λ t. Among t (known_by n.seat)) f.keeps frames r.known) f.known;
+  keeps = λ t a. f.keeps t (r.keeps t a);
+  greatest = greatest ∙ r.greatest;
+}
+
+assembled_more : (begun : Option (List ℕ)) (frames : List Placed) (s : Placed) → assembled begun (frames ++ s ∷ []) ≡ after (assembled begun frames) s.frame
+assembled_more begun frames s = ap (after_all (record { begun = begun; given = [] })) (map-append (λ (x : Placed). x.frame) frames (s ∷ [])) ∙ after_last (record { begun = begun; given = [] }) (map (λ (x : Placed). x.frame) frames) s.frame
+
+-- what a frame makes of what was heard so far, and gave nothing
+heard_more : (begun now : Option (List ℕ)) (frames : List Placed) (s : Placed) → assembled begun frames ≡ record { begun = now; given = [] } → assembled begun (frames ++ s ∷ []) ≡ record { begun = (heard_of now s.frame).begun; given = option_to_list (heard_of now s.frame).message }
+heard_more begun now frames s e = assembled_more begun frames s ∙ ap (λ a. after a s.frame) e ∙ whole s.frame
+  where
+    whole : (f : Frame) → after (record { begun = now; given = [] }) f ≡ record { begun = (heard_of now f).begun; given = option_to_list (heard_of now f).message }
+    whole f = (λ j. record { begun = after_begun (record { begun = now; given = [] }) f j; given = after_given (record { begun = now; given = [] }) f j })
+
+-- ---- in the course of a poll
+
+-- some frames were heard that gave no message, and its reader stands behind them
+pub record HasHeardOn (m k : Reading) : Type 0 where
+  pub frames : List Placed
+  pub hears : Hears m frames [] k
+  pub stands : position_of k.seat ≡ k.heard_to
+
+pub starts : (m k : Reading) → Passes m k → HasHeardOn m k
+starts m k p =
+    let assembler : k.assembler ≡ m.assembler = ap (λ (x : Reading). x.assembler) p.same in
+    let to : k.heard_to ≡ m.heard_to = ap (λ (x : Reading). x.heard_to) p.same in
+    record {
+      frames = [];
+      hears = record {
+        reads = record { image = ap (λ (x : Reading). x.image) p.same; chain = to; known = tt; keeps = p.keeps; greatest = ap (λ (a : Assembling). a.greatest) assembler };
+        heard = ap (λ (a : Assembling). record { begun = a.begun; given = [] }) (sym assembler);
+      };
+      stands = p.stands ∙ sym to;
+    }
+
+-- a reading whose reader has passed what was heard
+passed_reads : (m n q : Reading) (frames : List Placed) → ReadsOn m frames n → Passes n q → ReadsOn m frames q
+passed_reads m n q frames r p = record {
+  image = ap (λ (x : Reading). x.image) p.same ∙ r.image;
+  chain = subst (λ t. Chain m.heard_to t frames) (ap (λ (x : Reading). x.heard_to) (sym p.same)) r.chain;
+  known = all_weaker (λ t. Among t (known_by n.seat)) (λ t. Among t (known_by q.seat)) p.keeps frames r.known;
+  keeps = λ t a. p.keeps t (r.keeps t a);
+  greatest = ap (λ (x : Reading). x.assembler.greatest) p.same ∙ r.greatest;
+}
+
+hears_one : (m k n : Reading) (frames : List Placed) (message : Option (List ℕ)) (h : Hears m frames [] k) (o : HearsOne k message n) → Hears m (frames ++ o.frame ∷ []) (option_to_list message) n
+hears_one m k n frames message h o = record {
+  reads = pushed m k n frames o.frame h.reads o.finds (ap (λ (a : Assembling). a.greatest) o.assembler);
+  heard =
+      heard_more m.assembler.begun k.assembler.begun frames o.frame h.heard
+      ∙ (λ j. record { begun = ap (λ (a : Assembling). a.begun) (sym o.assembler) j; given = ap option_to_list (sym o.message_is) j });
+}
+
+-- a frame that completes no message, and is passed
+pub goes_on : (m k n q : Reading) → HasHeardOn m k → HearsOne k None n → Passes n q → HasHeardOn m q
+goes_on m k n q h o p =
+    let frames = h.frames ++ o.frame ∷ [] in
+    let one : Hears m frames [] n = hears_one m k n h.frames None h.hears o in
+    record {
+      frames = frames;
+      hears = record { reads = passed_reads m n q frames one.reads p; heard = one.heard ∙ ap (λ (x : Reading). record { begun = x.assembler.begun; given = [] }) (sym p.same) };
+      stands = p.stands ∙ ap (λ (x : Reading). x.heard_to) (sym p.same);
+    }
+
+pub gives : (m k n : Reading) (message : List ℕ) → HasHeardOn m k → HearsOne k (Some message) n → GivesMessage m message n
+gives m k n message h o = record {
+  earlier = h.frames;
+  last = o.frame;
+  nothing = ap (λ (a : Assembly). a.given) h.hears.heard;
+  hears = hears_one m k n h.frames (Some message) h.hears o;
+  stands = o.finds.stands;
+}
+
+pub gives_none : (m k n : Reading) → HasHeardOn m k → FindsNone k n → GivesNothing m n
+gives_none m k n h f =
+    let assembler : n.assembler ≡ k.assembler = ap (λ (x : Reading). x.assembler) f.same in
+    let to : n.heard_to ≡ k.heard_to = ap (λ (x : Reading). x.heard_to) f.same in
+    record {
+      frames = h.frames;
+      hears = record {
+        reads = record {
+          image = ap (λ (x : Reading). x.image) f.same ∙ h.hears.reads.image;
+          chain = subst (λ t. Chain m.heard_to t h.frames) (sym to) h.hears.reads.chain;
+          known = all_weaker (λ t. Among t (known_by k.seat)) (λ t. Among t (known_by n.seat)) f.keeps h.frames h.hears.reads.known;
+          keeps = λ t a. f.keeps t (h.hears.reads.keeps t a);
+          greatest = ap (λ (a : Assembling). a.greatest) assembler ∙ h.hears.reads.greatest;
+        };
+        heard = h.hears.heard ∙ ap (λ (a : Assembling). record { begun = a.begun; given = [] }) (sym assembler);
+      };
+      none = λ s a at. f.none s a (at ∙ to);
+      stands = f.stands ∙ sym to;
+    }
+
+pub refuses : (m k n q : Reading) (fault : AssemblyError) → HasHeardOn m k → RefusesOne k fault n → Passes n q → RefusesFrame m fault q
+refuses m k n q fault h o p =
+    let begun : (assembled m.assembler.begun h.frames).begun ≡ k.assembler.begun = ap (λ (a : Assembly). a.begun) h.hears.heard in
+    let greatest : k.assembler.greatest ≡ m.assembler.greatest = h.hears.reads.greatest in
+    record {
+      earlier = h.frames;
+      last = o.frame;
+      reads = passed_reads m n q (h.frames ++ o.frame ∷ []) (pushed m k n h.frames o.frame h.hears.reads o.finds (ap (λ (a : Assembling). a.greatest) o.assembler)) p;
+      nothing = ap (λ (a : Assembly). a.given) h.hears.heard;
+      not_padding = o.not_padding;
+      named = subst (λ (g : ℕ). (fault ≡ TooLong) ↔ IsTooLong g (assembled m.assembler.begun h.frames).begun o.frame.frame) greatest (subst (λ (b : Option (List ℕ)). (fault ≡ TooLong) ↔ IsTooLong k.assembler.greatest b o.frame.frame) (sym begun) o.named);
+      asked = λ e. subst (λ (b : Option (List ℕ)). AsksMemory b o.frame.frame) (sym begun) (o.asked e);
+      dropped = ap (λ (x : Reading). x.assembler.begun) p.same ∙ ap (λ (a : Assembling). a.begun) o.assembler;
+      stands = p.stands ∙ ap (λ (x : Reading). x.heard_to) (sym p.same);
+    }
+
+-- its reader goes on with each frame, and no position is above 2^61
+pub further : (m k n q : Reading) (message : Option (List ℕ)) → HasHeardOn m k → HearsOne k message n → Passes n q → (q.seat ≡ n.seat) ⊎ (position_of q.seat ≤ 2 ^ 61) → 2 ^ 62 - position_of q.seat < 2 ^ 62 - position_of k.seat
+further m k n q message h o p (inl same) =
+    let stays : position_of q.seat ≡ position_of n.seat = ap position_of same in
+    let a = h.stands in let b = o.finds.here in let c = o.finds.ends in let d = o.finds.stands in let e = p.stands in let l = o.finds.long in
+    absurd (omega (arith, stays))
+further m k n q message h o p (inr low) =
+    let a = h.stands in let b = o.finds.here in let c = o.finds.ends in let d = o.finds.stands in let e = p.stands in let l = o.finds.long in
+    omega arith
+
+-- ---- one frame
+
+-- what is shown of a reading whose reader has found a frame
+abbrev pub found_by : ImageWords → ReaderSeat → Assembling → Reading
+found_by image r a = record { image = image; seat = r; assembler = a; heard_to = read_end r }
+
+found : (m : Reading) (r : ReaderSeat) (a : Assembling) (before after : List ℕ) (head : FrameHead) → position_of m.seat ≡ m.heard_to → (f : FindsHere m.seat before head r after) → FindsFrame m f.frame (found_by m.image r a)
+found m r a before after head at f = record {
+  image = refl;
+  here = f.here ∙ at;
+  known = f.known;
+  keeps = f.stays.keeps;
+  long = f.long;
+  ends = f.ends;
+  stands = f.stays.stands ∙ sym f.here;
+}
+
+-- what an assembler says that was handed the frame
+abbrev pub TakesSo : Assembling → FrameHead → List ℕ → Option (List ℕ) → Assembling → Type 0
+TakesSo a head block message b = (s : Placed) (before : List ℕ) → head ≡ head_at s.at s.frame → block ≡ with_front before (payload_of s.frame) → (b ≡ record a { begun = (heard_of a.begun s.frame).begun }) × (message ≡ (heard_of a.begun s.frame).message)
+
+pub hears_found : (m : Reading) (r : ReaderSeat) (a : Assembling) (before after : List ℕ) (head : FrameHead) (message : Option (List ℕ)) → position_of m.seat ≡ m.heard_to → FindsHere m.seat before head r after → TakesSo m.assembler head after message a → HearsOne m message (found_by m.image r a)
+hears_found m r a before after head message at f takes =
+    let t = takes f.frame before f.head_is f.payload in record { frame = f.frame; finds = found m r a before after head at f; assembler = t.0; message_is = t.1 }
+
+abbrev pub RefusesSo : Assembling → FrameHead → List ℕ → AssemblyError → Assembling → Type 0
+RefusesSo a head block fault b =
+    (s : Placed) (before : List ℕ) → head ≡ head_at s.at s.frame → block ≡ with_front before (payload_of s.frame)
+    → (b ≡ record a { begun = None }) × (is_padding s.frame ≡ false) × ((fault ≡ TooLong) ↔ IsTooLong a.greatest a.begun s.frame) × (fault ≡ Memory → AsksMemory a.begun s.frame)
+
+pub refuses_found : (m : Reading) (r : ReaderSeat) (a : Assembling) (before after : List ℕ) (head : FrameHead) (fault : AssemblyError) → position_of m.seat ≡ m.heard_to → FindsHere m.seat before head r after → RefusesSo m.assembler head after fault a → RefusesOne m fault (found_by m.image r a)
+refuses_found m r a before after head fault at f takes =
+    let t = takes f.frame before f.head_is f.payload in
+    record { frame = f.frame; finds = found m r a before after head at f; assembler = t.0; not_padding = t.1; named = t.2; asked = t.3 }
+
+-- ---- a frame is passed
+
+pub passed : (image : ImageWords) (r q : ReaderSeat) (a : Assembling) → PassesOn r q → Passes (found_by image r a) (record { image = image; seat = q; assembler = a; heard_to = position_of q })
+passed image r q a p = record {
+  same = ap (λ (x : ℕ). record { image = image; seat = q; assembler = a; heard_to = x }) p.stands;
+  stands = p.stands;
+  keeps = p.keeps;
+}
+
+-- ---- whatever the assembler answers
+
+pub hears_if : {A : Type 0} (m : Reading) (r : ReaderSeat) (a : Assembling) (before after : List ℕ) (head : FrameHead) (result : Result (Option (Message A)) AssemblyError) → position_of m.seat ≡ m.heard_to → FindsHere m.seat before head r after
+    → IfOk result (λ x. (s : Placed) (b : List ℕ) → head ≡ head_at s.at s.frame → after ≡ with_front b (payload_of s.frame) → a ≡ record m.assembler { begun = (heard_of m.assembler.begun s.frame).begun })
+    → IfOk result (λ x. (s : Placed) (b : List ℕ) → head ≡ head_at s.at s.frame → after ≡ with_front b (payload_of s.frame) → option_map (λ y. y.bytes.items) x ≡ (heard_of m.assembler.begun s.frame).message)
+    → IfOk result (λ x. HearsOne m (option_map (λ y. y.bytes.items) x) (found_by m.image r a))
+hears_if m r a before after head (Ok x) at f state message = hears_found m r a before after head (option_map (λ y. y.bytes.items) x) at f (λ s b e g. (state s b e g, message s b e g))
+hears_if m r a before after head (Err e) at f state message = state
+
+pub refuses_if : {A : Type 0} (m : Reading) (r : ReaderSeat) (a : Assembling) (before after : List ℕ) (head : FrameHead) (result : Result (Option (Message A)) AssemblyError) → position_of m.seat ≡ m.heard_to → FindsHere m.seat before head r after
+    → IfErr result (λ x. a ≡ record m.assembler { begun = None }) → IfErr result (λ x. (s : Placed) → head ≡ head_at s.at s.frame → is_padding s.frame ≡ false)
+    → IfErr result (λ x. (s : Placed) (b : List ℕ) → head ≡ head_at s.at s.frame → after ≡ with_front b (payload_of s.frame) → ((x ≡ TooLong) ↔ IsTooLong m.assembler.greatest m.assembler.begun s.frame))
+    → IfErr result (λ x. (s : Placed) (b : List ℕ) → head ≡ head_at s.at s.frame → after ≡ with_front b (payload_of s.frame) → x ≡ Memory → AsksMemory m.assembler.begun s.frame)
+    → IfErr result (λ x. RefusesOne m x (found_by m.image r a))
+refuses_if m r a before after head (Ok x) at f dropped padding named asked = dropped
+refuses_if m r a before after head (Err x) at f dropped padding named asked = refuses_found m r a before after head x at f (λ s b e g. (dropped, padding s e, named s b e g, asked s b e g))
+
+-- a reader that stands where its assembler has heard to, and finds none
+pub missed : (image : ImageWords) (waits : Bool) (r q : ReaderSeat) (a : Assembling) (before after : List ℕ) → position_of r ≡ heard_to_of waits r → WaitsSo waits r → FindsNothing r before q after → FindsNone (record { image = image; seat = r; assembler = a; heard_to = heard_to_of waits r }) (record { image = image; seat = q; assembler = a; heard_to = heard_to_of waits q })
+missed image true r q a before after at waits f = absurd (let l = waits refl in omega (arith, at, l))
+missed image false r q a before after at waits f = record {
+  none = f.none;
+  keeps = f.stays.keeps;
+  same = ap (λ (x : ℕ). record { image = image; seat = q; assembler = a; heard_to = x }) f.stays.stands;
+  stands = f.stays.stands;
+}
