@@ -1,14 +1,14 @@
 -- Frames that a reader hears by itself.
-use Rattle.std.proofs.Common.{◌≡◌, ◌↔◌, ℕ, ◌≤◌, ◌⊎◌, inl, inr, List, [], ◌∷◌, ◌++◌, map, false, true, Bool, Option, None, Some, Ok, Err, refl, sym, ap, ◌∙◌, subst, arith}
+use Rattle.std.proofs.Common.{append-nil, ◌≡◌, ◌↔◌, ℕ, ◌≤◌, ◌⊎◌, inl, inr, List, [], ◌∷◌, ◌++◌, map, false, true, Bool, Option, None, Some, Ok, Err, refl, sym, ap, ◌∙◌, subst, arith}
 use Rattle.std.specs.Prelude.{◌-◌, ◌<◌, ◌^◌, IfErr, IfOk, Result, option_map}
 use Rattle.assembler.specs.declared.assembler.Message.{Message}
 use Rattle.std.specs.Option.{option_to_list}
 use Rattle.std.proofs.lemmas.List.{map-append}
 use Rattle.block.specs.Bytes.{with_front}
-use Rattle.theory.specs.Placed.{Among, Chain, Frame, Placed, is_padding, payload_of}
-use Rattle.theory.specs.Assembly.{Assembly, after, after_all}
-use Rattle.theory.proofs.Follow.{Chain-push}
-use Rattle.theory.proofs.Lists.{all_pushed, all_weaker}
+use Rattle.theory.specs.Placed.{Among, Chain, Data, Frame, Pad, Placed, is_padding, payload_of}
+use Rattle.theory.specs.Assembly.{Assembly, after, after_all, on_frame}
+use Rattle.theory.proofs.Follow.{Chain-append, Chain-push}
+use Rattle.theory.proofs.Lists.{all_append, all_pushed, all_weaker}
 use Rattle.theory.proofs.Stays.{after_last}
 use Rattle.assembler.specs.Assembling.{Assembling}
 use Rattle.assembler.specs.declared.fault.AssemblyError.{AssemblyError}
@@ -19,7 +19,8 @@ use Rattle.position.specs.declared.head.FrameHead.{FrameHead}
 use Rattle.rebuilder.specs.Reading.{FindsHere, FindsNothing, PassesOn, read_end}
 use Rattle.shared_image.specs.Handles.{ImageWords, ReaderSeat, known_by, position_of}
 use Rattle.receiver.specs.Subscribing.{heard_of}
-use Rattle.receiver.specs.Reading.{FindsFrame, FindsNone, GivesMessage, GivesNothing, Hears, HearsOne, Passes, Reading, ReadsOn, RefusesFrame, RefusesOne, WaitsSo, assembled, heard_to_of}
+use Rattle.receiver.specs.Reading.{FindsFrame, FindsNone, GivesMessage, GivesNothing, Hears, HearsFurther, HearsOne, Passes, PassesRead, Reading, ReadsFurther, ReadsOn, RefusesFrame, RefusesOne, WaitsSo, assembled, heard_to_of}
+use Rattle.receiver.proofs.Lived.Moved.{given_more, heard_on}
 use Rattle.receiver.proofs.Polled.{after_begun, after_given}
 
 -- ---- one frame more
@@ -218,3 +219,40 @@ missed image false r q a before after at waits f = record {
   same = ap (λ (x : ℕ). record { image = image; seat = q; assembler = a; heard_to = x }) f.stays.stands;
   stands = f.stays.stands;
 }
+
+-- ---- one after the other
+
+pub reads_further : ReadsFurther
+reads_further m n o frames more a b = record {
+  image = b.image ∙ a.image;
+  chain = Chain-append m.heard_to n.heard_to o.heard_to frames more a.chain b.chain;
+  known = all_append (λ t. Among t (known_by o.seat)) frames more (all_weaker (λ t. Among t (known_by n.seat)) (λ t. Among t (known_by o.seat)) b.keeps frames a.known) b.known;
+  keeps = λ t x. b.keeps t (a.keeps t x);
+  greatest = b.greatest ∙ a.greatest;
+}
+
+-- an assembler that had given these messages
+given_behind : (begun : Option (List ℕ)) (given : List (List ℕ)) (frames : List Placed) → after_all (record { begun = begun; given = given }) (map (λ s. s.frame) frames) ≡ record { begun = (assembled begun frames).begun; given = given ++ (assembled begun frames).given }
+given_behind begun given frames =
+    ap (λ (zs : List (List ℕ)). after_all (record { begun = begun; given = zs }) fs) (sym (append-nil given)) ∙ (λ j. record { begun = begun_same begun (given ++ []) [] fs j; given = given_more begun given [] fs j })
+  where
+    fs : List Frame
+    fs = map (λ s. s.frame) frames
+
+    begun_same : (b : Option (List ℕ)) (xs ys : List (List ℕ)) (gs : List Frame) → (after_all (record { begun = b; given = xs }) gs).begun ≡ (after_all (record { begun = b; given = ys }) gs).begun
+    begun_same b xs ys [] = refl
+    begun_same b xs ys (Pad n ∷ gs) = begun_same b xs ys gs
+    begun_same b xs ys (Data flags payload ∷ gs) = let h = on_frame b flags payload in begun_same h.begun (xs ++ option_to_list h.message) (ys ++ option_to_list h.message) gs
+
+pub hears_further : HearsFurther
+hears_further m n o frames more given others a b = record {
+  reads = reads_further m n o frames more a.reads b.reads;
+  heard =
+      heard_on (record { begun = m.assembler.begun; given = [] }) frames more
+      ∙ ap (λ (z : Assembly). after_all z (map (λ (x : Placed). x.frame) more)) a.heard
+      ∙ given_behind n.assembler.begun given more
+      ∙ ap (λ (z : Assembly). record { begun = z.begun; given = given ++ z.given }) b.heard;
+}
+
+pub passes_read : PassesRead
+passes_read m n o frames given h p = record { reads = passed_reads m n o frames h.reads p; heard = h.heard ∙ ap (λ (x : Reading). record { begun = x.assembler.begun; given = given }) (sym p.same) }

@@ -121,3 +121,17 @@ pub record RefusesOne (m : Reading) (fault : AssemblyError) (n : Reading) : Type
   pub not_padding : is_padding frame.frame ≡ false
   pub named : (fault ≡ TooLong) ↔ IsTooLong m.assembler.greatest m.assembler.begun frame.frame
   pub asked : fault ≡ Memory → AsksMemory m.assembler.begun frame.frame
+
+-- ---- one after the other
+
+-- frames that are read behind others
+abbrev pub ReadsFurther : Type 0
+ReadsFurther = (m n o : Reading) (frames more : List Placed) → ReadsOn m frames n → ReadsOn n more o → ReadsOn m (frames ++ more) o
+
+-- and the messages that they give
+abbrev pub HearsFurther : Type 0
+HearsFurther = (m n o : Reading) (frames more : List Placed) (given others : List (List ℕ)) → Hears m frames given n → Hears n more others o → Hears m (frames ++ more) (given ++ others) o
+
+-- its reader passes what was heard
+abbrev pub PassesRead : Type 0
+PassesRead = (m n o : Reading) (frames : List Placed) (given : List (List ℕ)) → Hears m frames given n → Passes n o → Hears m frames given o

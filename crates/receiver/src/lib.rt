@@ -49,7 +49,7 @@ mod receiver_core;
 mod setup;
 mod subscriber;
 
-pub use lives::{polls_a_run, reads_a_run};
+pub use lives::{polls_a_run, reads_a_run, reads_further};
 pub use message_reader::MessageReader;
 pub use opened::OpenImage;
 pub use poll_error::PollError;

@@ -2,6 +2,7 @@
 
 ghost use Rattle.receiver.specs.CoreLives.{ReadsARun};
 ghost use Rattle.receiver.specs.Lives.{PollsARun};
+ghost use Rattle.receiver.specs.Reading.{HearsFurther, PassesRead, ReadsFurther};
 
 use model::messages_between;
 use theory::names_place;
@@ -23,3 +24,10 @@ pub fn reads_a_run()
     messages_between();
     names_place();
 }
+
+/// Laws: frames that are read one after the other, and the messages that they give.
+pub fn reads_further()
+    ensures reads { ReadsFurther }
+    ensures hears { HearsFurther }
+    ensures passes { PassesRead }
+{}

@@ -6,7 +6,7 @@ use Rattle.theory.specs.Assembly.{Assembly, after, after_all, on_frame}
 use Rattle.theory.specs.Consumer.{Consumer, moved}
 use Rattle.receiver.specs.Polling.{moved_all, gives}
 
-given_more : (b : Option (List ℕ)) (xs ys : List (List ℕ)) (fs : List Frame) → (after_all (record { begun = b; given = xs ++ ys }) fs).given ≡ xs ++ (after_all (record { begun = b; given = ys }) fs).given
+pub given_more : (b : Option (List ℕ)) (xs ys : List (List ℕ)) (fs : List Frame) → (after_all (record { begun = b; given = xs ++ ys }) fs).given ≡ xs ++ (after_all (record { begun = b; given = ys }) fs).given
 given_more b xs ys [] = refl
 given_more b xs ys (Pad n ∷ fs) = given_more b xs ys fs
 given_more b xs ys (Data flags payload ∷ fs) =
