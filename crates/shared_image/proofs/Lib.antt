@@ -1,3 +1,4 @@
+pub mod Places
 pub mod Steps
 pub mod Masks
 pub mod Worded

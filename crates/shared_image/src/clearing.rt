@@ -72,10 +72,10 @@ fn clear_part(image: &Words, hand: &mut Hand, count: u64)
     let _ = &image.table;
     let _ = &hand.seat;
     let at = hand.floor;
-    let place = image.start_word(at);
-    drop_bits_as::<Brand>(image, hand, place, at, count, at);
-    let place = image.held_word(at);
-    drop_bits_as::<Brand>(image, hand, place, at, count, at + count);
+    let start = image.start_word(at);
+    let held = image.held_word(at);
+    drop_bits_as::<Brand>(image, hand, start, at, count, at);
+    drop_bits_as::<Brand>(image, hand, held, at, count, at + count);
 }
 
 /// Clears the bits of the units from the floor on, below a unit that all consumers have reached. It is the floor then.

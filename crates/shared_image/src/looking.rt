@@ -96,7 +96,7 @@ pub fn first_word_at(image: &Image, inserter: &mut Inserter, position: u64) -> u
 {
     let _ = &image.words;
     let _ = &inserter.hand;
-    let place = image.words.data_word(4 * (position / 32));
+    let place = image.words.first_word(position / 32);
     fetch_as::<Brand>(&image.words, &mut inserter.hand, place)
 }
 

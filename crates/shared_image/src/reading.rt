@@ -2,7 +2,7 @@
 
 ghost use Rattle.std.specs.Prelude.{◌≡◌, ℕ, [], suc, ◌+◌, ◌-◌, ◌*◌, ◌/◌, ◌%◌, ◌^◌, ◌<◌, ◌≤◌, ◌++◌, drop, take, length, slice_index, IfNone, IfSome};
 ghost use Rattle.frame_words.specs.Contents.{bytes_in};
-ghost use Rattle.image_rule.specs.Frames.{end_of};
+ghost use Rattle.image_rule.specs.Frames.{data_place, end_of, ring};
 ghost use Rattle.image_rule.specs.Reads.{IsFound, first_of};
 ghost use Rattle.image_rule.specs.Steps.{FindsFrame, moved_to, with_miss};
 ghost use Rattle.shared_image.specs.Handles.{IsReaderOf};
@@ -16,9 +16,10 @@ use frame_words::{head_in, put_bytes, put_word};
 use position::{FrameHead, FrameKind, align32};
 use std::marker::Brand;
 
-/// Finds the frame that was stored where the reader stands.
-fn find(image: &Words, reader: &mut Standing) -> Option<FrameHead>
+/// Finds the frame that was stored where the reader stands, whose first word has this place.
+fn find(image: &Words, reader: &mut Standing, place: usize) -> Option<FrameHead>
     requires fits { reader.old.seat.table_id ≡ image.now.table.shared.table_id }
+    requires there { place ≡ data_place (ring image.now.key) (4 * reader.old.unit) }
     ensures fits { reader.new.seat.table_id ≡ reader.old.seat.table_id }
     ensures same { (reader.new.unit ≡ reader.old.unit) × (reader.new.number ≡ reader.old.number) }
     ensures none { IfNone result (FindsNone reader.old.seat.me.0 reader.new.seat.me.0) }
@@ -31,15 +32,23 @@ fn find(image: &Words, reader: &mut Standing) -> Option<FrameHead>
     if (word >> (reader.unit % 64)) & 1 == 0 {
         return None;
     }
-    let first = word_as::<Brand>(image, reader, reader.unit, 0);
+    let first = word_as::<Brand>(image, reader, place, reader.unit, 0);
     let head = head_in(first, 32 * reader.unit);
     reader.read_to = reader.unit + u64::from(align32(head.frame_length)) / 32;
     Some(head)
 }
 
-/// Copies so many words behind the header of the frame that was found to the front of bytes.
-fn copy_whole(image: &Words, reader: &mut Standing, words: usize, bytes: &mut [u8])
+/// Copies so many words behind the header of the frame that was found to the front of bytes. The answer is the place of the
+/// word behind these.
+fn copy_whole(
+    image: &Words,
+    reader: &mut Standing,
+    place: usize,
+    words: usize,
+    bytes: &mut [u8],
+) -> usize
     requires fits { reader.old.seat.table_id ≡ image.now.table.shared.table_id }
+    requires there { place ≡ data_place (ring image.now.key) (4 * reader.old.unit) }
     requires found { IsFound reader.old.seat.me.0 }
     requires few { 4 + words ≤ length (first_of reader.old.seat.me.0.reading.known).words }
     requires low { words < 2 ^ 29 }
@@ -48,18 +57,25 @@ fn copy_whole(image: &Words, reader: &mut Standing, words: usize, bytes: &mut [u
     ensures same { (reader.new.seat.me.0 ≡ reader.old.seat.me.0) × (reader.new.unit ≡ reader.old.unit) × (reader.new.number ≡ reader.old.number) × (reader.new.read_to ≡ reader.old.read_to) }
     ensures copied { Copied (first_of reader.old.seat.me.0.reading.known) (8 * words) bytes.old bytes.new }
     ensures same_length { length bytes.new ≡ length bytes.old }
+    ensures behind { result ≡ data_place (ring image.now.key) (4 * reader.old.unit + (4 + words)) }
 {
     let _ = &image.table;
     let start = reader.unit;
+    let bounds = image.ring();
+    let mut next = image.word_behind(bounds, place, 4 * start, 4);
     for index in 0..words {
-        let word = word_as::<Brand>(image, reader, start, 4 + index as u64);
+        let behind = 4 + index as u64;
+        let word = word_as::<Brand>(image, reader, next, start, behind);
         put_word(bytes, 8 * index, word);
+        next = image.word_behind(bounds, next, 4 * start + behind, 1);
     }
+    next
 }
 
 /// Copies the first bytes behind the header of the frame that was found to the front of others.
-fn copy_words(image: &Words, reader: &mut Standing, count: usize, bytes: &mut [u8])
+fn copy_words(image: &Words, reader: &mut Standing, place: usize, count: usize, bytes: &mut [u8])
     requires fits { reader.old.seat.table_id ≡ image.now.table.shared.table_id }
+    requires there { place ≡ data_place (ring image.now.key) (4 * reader.old.unit) }
     requires found { IsFound reader.old.seat.me.0 }
     requires few { 4 + (count + 7) / 8 ≤ length (first_of reader.old.seat.me.0.reading.known).words }
     requires low { count < 2 ^ 31 }
@@ -71,17 +87,18 @@ fn copy_words(image: &Words, reader: &mut Standing, count: usize, bytes: &mut [u
 {
     let _ = &image.table;
     let words = count / 8;
-    copy_whole(image, reader, words, bytes);
+    let last = copy_whole(image, reader, place, words, bytes);
     if count % 8 > 0 {
         let start = reader.unit;
-        let word = word_as::<Brand>(image, reader, start, 4 + words as u64);
+        let word = word_as::<Brand>(image, reader, last, start, 4 + words as u64);
         put_bytes(bytes, 8 * words, word, count % 8);
     }
 }
 
 /// Copies the first bytes behind the header of the frame that was found to a block's front.
-fn copy(image: &Words, reader: &mut Standing, count: usize, block: &mut Block)
+fn copy(image: &Words, reader: &mut Standing, place: usize, count: usize, block: &mut Block)
     requires fits { reader.old.seat.table_id ≡ image.now.table.shared.table_id }
+    requires there { place ≡ data_place (ring image.now.key) (4 * reader.old.unit) }
     requires found { IsFound reader.old.seat.me.0 }
     requires few { 4 + (count + 7) / 8 ≤ length (first_of reader.old.seat.me.0.reading.known).words }
     requires low { count < 2 ^ 31 }
@@ -91,7 +108,7 @@ fn copy(image: &Words, reader: &mut Standing, count: usize, block: &mut Block)
     ensures copied { Copied (first_of reader.old.seat.me.0.reading.known) count block.old block.new }
     ensures same_length { length block.new ≡ length block.old }
 {
-    copy_words(image, reader, count, block.bytes_mut());
+    copy_words(image, reader, place, count, block.bytes_mut());
 }
 
 /// Reads the frame that was stored where the reader stands: a message's part is copied to the block's front, and the reader
@@ -106,11 +123,12 @@ pub fn read(image: &Image, reader: &mut ImageReader, block: &mut Block) -> Optio
     ensures same_length { length block.new ≡ length block.old }
 {
     let _ = &image.words;
-    let head = find(&image.words, &mut reader.standing)?;
+    let place = image.words.first_word(reader.standing.unit);
+    let head = find(&image.words, &mut reader.standing, place)?;
     match head.kind {
         FrameKind::Data => {
             let count = head.frame_length as usize - 32;
-            copy(&image.words, &mut reader.standing, count, block);
+            copy(&image.words, &mut reader.standing, place, count, block);
         }
         FrameKind::Pad => {}
     }

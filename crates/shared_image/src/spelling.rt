@@ -27,24 +27,34 @@ fn header_words(identity: &Identity, start: u64) -> (u64, u64)
     (second, third)
 }
 
-/// Stores a word of a frame that may be inserted.
+/// Stores a word of a frame that may be inserted, at its place.
 #[inline(always)]
-fn write_word(image: &Words, hand: &mut Hand, unit: u64, index: u64, word: u64)
+fn write_word(image: &Words, hand: &mut Hand, place: usize, unit: u64, index: u64, word: u64)
     requires fits { hand.old.seat.table_id ≡ image.now.table.shared.table_id }
-    requires low { unit ≤ 2 ^ 56 }
-    requires few { index < 2 ^ 60 }
+    requires there { place ≡ data_place (ring image.now.key) (4 * unit + index) }
     requires may { May image.now.key hand.old.seat.me.0 (data_place (ring image.now.key) (4 * unit + index)) word hand.old.seat.me.0.held.floor hand.old.seat.me.0.held.got }
     ensures fits { hand.new.seat.table_id ≡ hand.old.seat.table_id }
     ensures told { Changes (data_place (ring image.now.key) (4 * unit + index)) word hand.old.seat.me.0.held.floor hand.old.seat.me.0.held.got hand.old.seat.me.0 hand.new.seat.me.0 }
 {
-    let place = image.data_word(4 * unit + index);
+    let _ = &image.table;
+    let _ = unit;
+    let _ = index;
     let floor = hand.floor;
     change_as::<Brand>(image, hand, place, word, floor);
 }
 
-/// Stores the words of the header of a frame that may be inserted.
-fn write_header(image: &Words, hand: &mut Hand, unit: u64, units: u64, first: u64, payload: &[u8])
+/// Stores the words of the header of a frame that may be inserted. They lie in one unit, so the ring doesn't end among them.
+fn write_header(
+    image: &Words,
+    hand: &mut Hand,
+    place: usize,
+    unit: u64,
+    units: u64,
+    first: u64,
+    payload: &[u8],
+)
     requires fits { hand.old.seat.table_id ≡ image.now.table.shared.table_id }
+    requires there { place ≡ data_place (ring image.now.key) (4 * unit) }
     requires in_stream { 32 * unit ≤ max_position image.now.key.identity.geometry }
     requires exact { IsExact image.now.key hand.old.seat.me.0.held }
     requires may { MayInsert image.now.key hand.old.seat.me.0.held (spelt_frame image.now.key.identity unit units first payload.now) }
@@ -54,22 +64,24 @@ fn write_header(image: &Words, hand: &mut Hand, unit: u64, units: u64, first: u6
     let _ = &image.table;
     let _ = &hand.seat;
     let (second, third) = header_words(&image.key.identity, 32 * unit);
-    write_word(image, hand, unit, 0, first);
-    write_word(image, hand, unit, 1, second);
-    write_word(image, hand, unit, 2, third);
-    write_word(image, hand, unit, 3, 0);
+    write_word(image, hand, place, unit, 0, first);
+    write_word(image, hand, place + 1, unit, 1, second);
+    write_word(image, hand, place + 2, unit, 2, third);
+    write_word(image, hand, place + 3, unit, 3, 0);
 }
 
-/// Stores the words of a frame that may be inserted.
+/// Stores the words of a frame that may be inserted, whose first word has this place.
 pub(crate) fn write_words(
     image: &Words,
     hand: &mut Hand,
+    place: usize,
     unit: u64,
     units: u64,
     first: u64,
     payload: &[u8],
 )
     requires fits { hand.old.seat.table_id ≡ image.now.table.shared.table_id }
+    requires there { place ≡ data_place (ring image.now.key) (4 * unit) }
     requires in_stream { 32 * unit ≤ max_position image.now.key.identity.geometry }
     requires exact { IsExact image.now.key hand.old.seat.me.0.held }
     requires short { length payload.now < 2 ^ 32 }
@@ -79,15 +91,19 @@ pub(crate) fn write_words(
 {
     let _ = &image.table;
     let _ = &hand.seat;
-    write_header(image, hand, unit, units, first, payload);
+    let bounds = image.ring();
+    write_header(image, hand, place, unit, units, first, payload);
+    let mut next = image.word_behind(bounds, place, 4 * unit, 4);
     let whole = payload.len() / 8;
     for index in 0..whole {
+        let behind = 4 + index as u64;
         let word = whole_word(payload, 8 * index);
-        write_word(image, hand, unit, 4 + index as u64, word);
+        write_word(image, hand, next, unit, behind, word);
+        next = image.word_behind(bounds, next, 4 * unit + behind, 1);
     }
     if payload.len() % 8 == 0 {
         return;
     }
     let word = last_word(payload, 8 * whole);
-    write_word(image, hand, unit, 4 + whole as u64, word);
+    write_word(image, hand, next, unit, 4 + whole as u64, word);
 }

@@ -1,7 +1,7 @@
 //! A reader's seat, and its steps.
 
 ghost use Rattle.std.specs.Prelude.{◌≡◌, [], ◌+◌, ◌*◌, ◌/◌, ◌%◌, ◌^◌, ◌<◌, ◌≤◌};
-ghost use Rattle.image_rule.specs.Frames.{end_of};
+ghost use Rattle.image_rule.specs.Frames.{data_place, end_of, ring};
 ghost use Rattle.image_rule.specs.Reads.{IsRead};
 ghost use Rattle.image_rule.specs.Steps.{Looks, MayMove, MayReread, Moves, Rereads};
 
@@ -42,26 +42,27 @@ pub(crate) fn look(image: &Words, reader: &mut Standing) -> u64
     words.load::<Look>(&mut reader.seat, place)
 }
 
-/// Loads a word of a frame that the reader knows.
+/// Loads a word of a frame that the reader knows, from its place.
 #[inline(always)]
 pub(crate) fn word_as<N: Rereading>(
     image: &Words,
     reader: &mut Standing,
+    place: usize,
     unit: u64,
     index: u64,
 ) -> u64
     requires fits { reader.old.seat.table_id ≡ image.now.table.shared.table_id }
-    requires low { unit ≤ 2 ^ 56 }
-    requires few { index < 2 ^ 40 }
+    requires there { place ≡ data_place (ring image.now.key) (4 * unit + index) }
     requires chosen { (N.frame.unit ≡ unit) × (N.index ≡ index) }
     requires may { MayReread N.frame index reader.old.seat.me.0 }
     ensures fits { reader.new.seat.table_id ≡ reader.old.seat.table_id }
     ensures same { (reader.new.unit ≡ reader.old.unit) × (reader.new.number ≡ reader.old.number) × (reader.new.read_to ≡ reader.old.read_to) }
     ensures told { Rereads N.frame index reader.old.seat.me.0 result reader.new.seat.me.0 }
 {
-    let place = IMAGE + image.data_word(4 * unit + index);
+    let _ = unit;
+    let _ = index;
     let words = &image.table.shared;
-    words.load::<Reread<N>>(&mut reader.seat, place)
+    words.load::<Reread<N>>(&mut reader.seat, IMAGE + place)
 }
 
 /// Stores the end of a frame that the reader knows where it stands.

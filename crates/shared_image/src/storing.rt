@@ -7,7 +7,7 @@ ghost use Rattle.theory.specs.Placed.{payload_of};
 ghost use Rattle.theory.specs.Position.{max_position};
 ghost use Rattle.theory.specs.Wire.{front};
 ghost use Rattle.position.specs.declared.head.FrameKind.TheVariants as kinds;
-ghost use Rattle.image_rule.specs.Frames.{Shows, held_place, image_length, ring};
+ghost use Rattle.image_rule.specs.Frames.{Shows, held_place, image_length, ring, start_place};
 ghost use Rattle.image_rule.specs.Bits.{IsExact, Marked, MayInsert, MaySet, SetsBits, Stored, next_word, rest_end};
 ghost use Rattle.shared_image.specs.Handles.{IsInserterOf};
 ghost use Rattle.shared_image.specs.Spelled.{spelt_frame};
@@ -42,9 +42,19 @@ fn set_bits_as<N: Changing>(image: &Words, hand: &mut Hand, place: usize, at: u6
     change_as::<N>(image, hand, place, word, floor);
 }
 
-/// Sets a frame's start bit.
-fn set_start(image: &Words, hand: &mut Hand, unit: u64, units: u64, first: u64, payload: &[u8])
+/// Sets a frame's start bit, in the word at this place.
+fn set_start(
+    image: &Words,
+    hand: &mut Hand,
+    place: usize,
+    unit: u64,
+    units: u64,
+    first: u64,
+    payload: &[u8],
+)
     requires fits { hand.old.seat.table_id ≡ image.now.table.shared.table_id }
+    requires there { place ≡ start_place (ring image.now.key) unit }
+    requires inside { place < image_length (ring image.now.key) }
     requires may { MayInsert image.now.key hand.old.seat.me.0.held (spelt_frame image.now.key.identity unit units first payload.now) }
     requires exact { IsExact image.now.key hand.old.seat.me.0.held }
     requires shows { Shows (ring image.now.key) hand.old.seat.me.0.held.words (spelt_frame image.now.key.identity unit units first payload.now) }
@@ -56,7 +66,6 @@ fn set_start(image: &Words, hand: &mut Hand, unit: u64, units: u64, first: u64, 
     let _ = units;
     let _ = first;
     let _ = payload;
-    let place = image.start_word(unit);
     set_bits_as::<Brand>(image, hand, place, unit, 1);
 }
 
@@ -82,16 +91,19 @@ fn mark_rest(image: &Words, hand: &mut Hand, unit: u64, units: u64, first: u64, 
     }
 }
 
-/// Sets the bits of a frame's units that lie in its first unit's word: from then on it is stored.
+/// Sets the bits of a frame's units that lie in its first unit's word, which has this place: from then on it is stored.
 fn set_first_as<N: Changing>(
     image: &Words,
     hand: &mut Hand,
+    place: usize,
     unit: u64,
     units: u64,
     first: u64,
     payload: &[u8],
 )
     requires fits { hand.old.seat.table_id ≡ image.now.table.shared.table_id }
+    requires there { place ≡ held_place (ring image.now.key) unit }
+    requires inside { place < image_length (ring image.now.key) }
     requires may { MayInsert image.now.key hand.old.seat.me.0.held (spelt_frame image.now.key.identity unit units first payload.now) }
     requires marked { Marked image.now.key hand.old.seat.me.0 (spelt_frame image.now.key.identity unit units first payload.now) (next_word (spelt_frame image.now.key.identity unit units first payload.now)) (rest_end (spelt_frame image.now.key.identity unit units first payload.now)) hand.old.seat.me.0 }
     requires chosen { (N.place ≡ held_place (ring image.now.key) unit) × (N.floor ≡ hand.old.seat.me.0.held.floor) × (N.got ≡ spelt_frame image.now.key.identity unit units first payload.now ∷ hand.old.seat.me.0.held.got) }
@@ -103,19 +115,28 @@ fn set_first_as<N: Changing>(
     let _ = first;
     let _ = payload;
     let count = units.min(64 - unit % 64);
-    let place = image.held_word(unit);
     set_bits_as::<N>(image, hand, place, unit, count);
 }
 
-/// Sets the bits of a frame's units that lie in its first unit's word: from then on it is stored.
-fn set_first(image: &Words, hand: &mut Hand, unit: u64, units: u64, first: u64, payload: &[u8])
+/// Sets the bits of a frame's units that lie in its first unit's word, which has this place: from then on it is stored.
+fn set_first(
+    image: &Words,
+    hand: &mut Hand,
+    place: usize,
+    unit: u64,
+    units: u64,
+    first: u64,
+    payload: &[u8],
+)
     requires fits { hand.old.seat.table_id ≡ image.now.table.shared.table_id }
+    requires there { place ≡ held_place (ring image.now.key) unit }
+    requires inside { place < image_length (ring image.now.key) }
     requires may { MayInsert image.now.key hand.old.seat.me.0.held (spelt_frame image.now.key.identity unit units first payload.now) }
     requires marked { Marked image.now.key hand.old.seat.me.0 (spelt_frame image.now.key.identity unit units first payload.now) (next_word (spelt_frame image.now.key.identity unit units first payload.now)) (rest_end (spelt_frame image.now.key.identity unit units first payload.now)) hand.old.seat.me.0 }
     ensures fits { hand.new.seat.table_id ≡ hand.old.seat.table_id }
     ensures stored { Stored image.now.key hand.old.seat.me.0 (spelt_frame image.now.key.identity unit units first payload.now) hand.new.seat.me.0 }
 {
-    set_first_as::<Brand>(image, hand, unit, units, first, payload);
+    set_first_as::<Brand>(image, hand, place, unit, units, first, payload);
 }
 
 /// Stores a frame that may be inserted.
@@ -129,10 +150,13 @@ fn store(image: &Words, hand: &mut Hand, unit: u64, units: u64, first: u64, payl
     ensures stored { Stored image.now.key hand.old.seat.me.0 (spelt_frame image.now.key.identity unit units first payload.now) hand.new.seat.me.0 }
 {
     let _ = &image.table;
-    write_words(image, hand, unit, units, first, payload);
-    set_start(image, hand, unit, units, first, payload);
+    let place = image.first_word(unit);
+    let start = image.start_word(unit);
+    let held = image.held_word(unit);
+    write_words(image, hand, place, unit, units, first, payload);
+    set_start(image, hand, start, unit, units, first, payload);
     mark_rest(image, hand, unit, units, first, payload);
-    set_first(image, hand, unit, units, first, payload);
+    set_first(image, hand, held, unit, units, first, payload);
 }
 
 /// The first word of the frame that a head says.

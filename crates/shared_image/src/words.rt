@@ -6,6 +6,7 @@ ghost use Rattle.image_rule.specs.Rule.{IsKey, image_place};
 
 use atomic_table::Table;
 use image_rule::{ImageRule, Key, View};
+use position::split_by;
 use std::alloc::Global;
 
 /// Where the image's words begin, behind the consumers' positions.
@@ -25,7 +26,25 @@ pub(crate) struct Words {
     ghost wide: { table.shared.table_id.words ≡ image_place + image_length units },
 }
 
+/// How many words of the stream an image has, and where they end in it.
+#[derive(Clone, Copy)]
+pub(crate) struct Ring {
+    pub(crate) length: usize,
+    pub(crate) end: usize,
+}
+
 impl Words {
+    /// Where a unit lies in the ring. It takes no division but by three.
+    #[inline(always)]
+    fn ring_unit(&self, unit: u64) -> u64
+        ensures is { result ≡ unit % ring self.now.key }
+        ensures low { result < ring self.now.key }
+    {
+        let _ = &self.table;
+        let (terms, _) = split_by(unit, self.key.identity.geometry().term_length() / 32);
+        unit - terms / 3 * self.units
+    }
+
     /// The word of the image with a unit's held bit.
     #[inline(always)]
     pub(crate) fn held_word(&self, unit: u64) -> usize
@@ -34,7 +53,7 @@ impl Words {
         ensures inside { result < image_length (ring self.now.key) }
     {
         let _ = &self.table;
-        (unit % self.units / 64) as usize
+        (self.ring_unit(unit) / 64) as usize
     }
 
     /// The word of the image with a unit's start bit.
@@ -44,17 +63,49 @@ impl Words {
         ensures inside { result < image_length (ring self.now.key) }
     {
         let _ = &self.table;
-        (self.units / 64 + unit % self.units / 64) as usize
+        (self.units / 64 + self.ring_unit(unit) / 64) as usize
     }
 
-    /// The word of the image at which a word of the stream stands.
+    /// The word of the image at which a unit's first word stands.
     #[inline(always)]
-    pub(crate) fn data_word(&self, number: u64) -> usize
-        ensures is { result ≡ data_place (ring self.now.key) number }
+    pub(crate) fn first_word(&self, unit: u64) -> usize
+        ensures is { result ≡ data_place (ring self.now.key) (4 * unit) }
         ensures inside { result < image_length (ring self.now.key) }
     {
         let _ = &self.table;
-        let units = self.units;
-        (units / 64 * 2 + number % (4 * units)) as usize
+        (self.units / 64 * 2 + 4 * self.ring_unit(unit)) as usize
+    }
+
+    /// The ring of the stream's words.
+    #[inline(always)]
+    pub(crate) fn ring(&self) -> Ring
+        ensures length { result.length ≡ 4 * ring self.now.key }
+        ensures end { result.end ≡ image_length (ring self.now.key) }
+    {
+        let _ = &self.table;
+        let length = 4 * self.units;
+        Ring {
+            length: length as usize,
+            end: (self.units / 64 * 2 + length) as usize,
+        }
+    }
+
+    /// The word of the image at which a word of the stream stands, so many behind one that stands at a place.
+    #[inline(always)]
+    pub(crate) fn word_behind(&self, bounds: Ring, place: usize, number: u64, count: usize) -> usize
+        requires length { bounds.length ≡ 4 * ring self.now.key }
+        requires end { bounds.end ≡ image_length (ring self.now.key) }
+        requires there { place ≡ data_place (ring self.now.key) number }
+        requires few { count ≤ bounds.length }
+        ensures is { result ≡ data_place (ring self.now.key) (number + count) }
+    {
+        let _ = &self.table;
+        let _ = number;
+        let next = place + count;
+        if next < bounds.end {
+            next
+        } else {
+            next - bounds.length
+        }
     }
 }

@@ -38,16 +38,16 @@ module _ (key : Key) (is : IsKey key) (v : View) (one : v.inserting ≡ 1) (exac
     both place p y d = cleared_both key v w y (at + count) e (cleared_part key is w inserts e.marked at count e.started e.sound here_on some short near_on passed_on y (subst (λ (x : ℕ). DropsBits w x at count (at + count) w.held.got y) p d))
 
 pub drop_bits_as-requires-clause-may : goal.drop_bits_as-requires-clause-may
-drop_bits_as-requires-clause-may c = let i = c.args.image.now in let h = c.args.hand.now in first i.key i.is_key h.seat.me.0 h.inserts c.requires.exact h.floor c.args.count h.floor_is c.requires.some c.requires.short c.requires.near c.requires.passed _ c.start_word-place.ensures.is
+drop_bits_as-requires-clause-may c = let i = c.args.image.now in let h = c.args.hand.now in first i.key i.is_key h.seat.me.0 h.inserts c.requires.exact h.floor c.args.count h.floor_is c.requires.some c.requires.short c.requires.near c.requires.passed _ c.start_word-start.ensures.is
 
 pub drop_bits_as-requires-2-clause-may : goal.drop_bits_as-requires-2-clause-may
 drop_bits_as-requires-2-clause-may c =
     let i = c.args.image.now in let h = c.args.hand.now in let w : View = c.drop_bits_as.new.hand.seat.me.0 in
-    let e = emptied i.key i.is_key h.seat.me.0 h.inserts c.requires.exact h.floor c.args.count h.floor_is c.requires.some c.requires.short c.requires.near c.requires.passed _ c.start_word-place.ensures.is w c.drop_bits_as.ensures.drops in
-    second i.key i.is_key h.seat.me.0 h.inserts c.requires.exact h.floor c.args.count h.floor_is c.requires.some c.requires.short c.requires.near c.requires.passed w e _ c.held_word-place.ensures.is
+    let e = emptied i.key i.is_key h.seat.me.0 h.inserts c.requires.exact h.floor c.args.count h.floor_is c.requires.some c.requires.short c.requires.near c.requires.passed _ c.start_word-start.ensures.is w c.drop_bits_as.ensures.drops in
+    second i.key i.is_key h.seat.me.0 h.inserts c.requires.exact h.floor c.args.count h.floor_is c.requires.some c.requires.short c.requires.near c.requires.passed w e _ c.held_word-held.ensures.is
 
 pub returns-clause-cleared : goal.returns-clause-cleared
 returns-clause-cleared c =
     let i = c.args.image.now in let h = c.args.hand.now in let w : View = c.drop_bits_as.new.hand.seat.me.0 in
-    let e = emptied i.key i.is_key h.seat.me.0 h.inserts c.requires.exact h.floor c.args.count h.floor_is c.requires.some c.requires.short c.requires.near c.requires.passed _ c.start_word-place.ensures.is w c.drop_bits_as.ensures.drops in
-    both i.key i.is_key h.seat.me.0 h.inserts c.requires.exact h.floor c.args.count h.floor_is c.requires.some c.requires.short c.requires.near c.requires.passed w e _ c.held_word-place.ensures.is _ c.drop_bits_as-2.ensures.drops
+    let e = emptied i.key i.is_key h.seat.me.0 h.inserts c.requires.exact h.floor c.args.count h.floor_is c.requires.some c.requires.short c.requires.near c.requires.passed _ c.start_word-start.ensures.is w c.drop_bits_as.ensures.drops in
+    both i.key i.is_key h.seat.me.0 h.inserts c.requires.exact h.floor c.args.count h.floor_is c.requires.some c.requires.short c.requires.near c.requires.passed w e _ c.held_word-held.ensures.is _ c.drop_bits_as-2.ensures.drops

@@ -19,6 +19,6 @@ all n = omega arith
 pub returns-then-count-gt0-clause-copied : goal.returns-then-count-gt0-clause-copied
 returns-then-count-gt0-clause-copied c =
     let n : ℕ = c.args.count in let f : Frame = first_of c.args.reader.now.seat.me.0.reading.known in let told = c.word_as-word.ensures.told in
-    let now : c.word_as-word.result ≡ slice_index f.words (4 + n / 8) = told.0 ∙ ap (λ (v : View). slice_index (first_of v.reading.known).words (4 + n / 8)) c.copy_whole.ensures.same.0 in
+    let now : c.word_as-word.result ≡ slice_index f.words (4 + n / 8) = told.0 ∙ ap (λ (v : View). slice_index (first_of v.reading.known).words (4 + n / 8)) c.copy_whole-last.ensures.same.0 in
     let at_word : c.word_as-word.result ≡ slice_index (drop 4 f.words) (n / 8) = now ∙ sym (get_or-drop 4 f.words (n / 8) 0) in
-    copied_to (drop 4 f.words) (n / 8) (n % 8) n c.args.bytes.now c.copy_whole.new.bytes c.put_bytes.new.bytes c.word_as-word.result (inside n (length f.words) (length (drop 4 f.words)) c.requires.few c.if-count-gt0.true (length-drop 4 f.words)) (few n) (all n) at_word c.copy_whole.ensures.copied c.put_bytes.ensures.stored
+    copied_to (drop 4 f.words) (n / 8) (n % 8) n c.args.bytes.now c.copy_whole-last.new.bytes c.put_bytes.new.bytes c.word_as-word.result (inside n (length f.words) (length (drop 4 f.words)) c.requires.few c.if-count-gt0.true (length-drop 4 f.words)) (few n) (all n) at_word c.copy_whole-last.ensures.copied c.put_bytes.ensures.stored

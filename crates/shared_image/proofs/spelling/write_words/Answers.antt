@@ -1,7 +1,8 @@
-use Rattle.std.proofs.Common.{◌≡◌, ◌+◌, ◌/◌, ◌%◌, ◌<◌, ℕ, length, sym, ◌∙◌, subst, arith}
+use Rattle.std.proofs.Common.{◌≡◌, ◌+◌, ◌*◌, ◌/◌, ◌%◌, ◌<◌, ℕ, length, ap, sym, ◌∙◌, subst, arith}
 use Rattle.image_rule.specs.declared.view.Frame.{Frame}
 use Rattle.image_rule.specs.declared.view.View.{View}
 use Rattle.image_rule.specs.Bits.{Wrote}
+use Rattle.image_rule.specs.Frames.{data_place, ring}
 use Rattle.shared_image.specs.Spelled.{spelt_frame}
 use Rattle.shared_image.proofs.Worded.{may_word, spelt_length, spelt_payload, word_written}
 use Rattle.shared_image.proofs.spelling.write_words.Goals as goal
@@ -14,6 +15,9 @@ within j n m lt e = omega arith
 
 last_low : (j n : ℕ) → j ≡ n / 8 → (n % 8 ≡ 0 → ⊥) → j < (n + 7) / 8
 last_low j n e some = omega arith
+
+one_on : (u j : ℕ) → 4 * u + (4 + j) + 1 ≡ 4 * u + (4 + (j + 1))
+one_on u j = omega arith
 
 stop_is : (j n : ℕ) → (j < n / 8 → ⊥) → j < n / 8 + 1 → j ≡ n / 8
 stop_is j n a b = omega arith
@@ -33,6 +37,7 @@ loop-index-preserved c =
       c.write_word.ensures.fits ∙ c.loop-index.invariant.0,
       word_written i.key i.is_key v f h.inserts c.requires.may c.requires.exact c.loop-index.hand.seat.me.0 c.write_word.new.hand.seat.me.0 (4 + j) (4 + (j + 1)) c.whole_word-word.result c.loop-index.invariant.1 (within j (length c.args.payload.now) _ lt n)
           (c.whole_word-word.ensures ∙ sym (spelt_payload i.key.identity c.args.unit c.args.units c.args.first j c.args.payload.now lt)) (omega arith) c.write_word.ensures.told,
+      c.word_behind-next-in-loop-index.ensures.is ∙ ap (data_place (ring i.key)) (one_on c.args.unit j),
     )
 
 pub returns-then-payload-eq0-clause-wrote : goal.returns-then-payload-eq0-clause-wrote
@@ -56,3 +61,14 @@ returns-clause-wrote c =
     let stop = c.loop-index-test.false in let some = c.if-payload-eq0.false in let j : ℕ = length c.args.payload.now / 8 in let same : c.loop-index.index ≡ j = omega arith in let lt : j < (length c.args.payload.now + 7) / 8 = omega arith in
     word_written i.key i.is_key v f h.inserts c.requires.may c.requires.exact c.loop-index.hand.seat.me.0 c.write_word-2.new.hand.seat.me.0 (4 + j) (length f.words) c.last_word-word.result (subst (λ (x : ℕ). Wrote i.key v f (4 + x) c.loop-index.hand.seat.me.0) same c.loop-index.invariant.1) (within j (length c.args.payload.now) _ lt n)
     (c.last_word-word.ensures ∙ sym (spelt_payload i.key.identity c.args.unit c.args.units c.args.first j c.args.payload.now lt)) (omega arith) c.write_word-2.ensures.told
+
+pub write_word-requires-clause-there : goal.write_word-requires-clause-there
+write_word-requires-clause-there c = c.loop-index.invariant.2
+
+pub word_behind-next-requires-in-loop-index-clause-there : goal.word_behind-next-requires-in-loop-index-clause-there
+word_behind-next-requires-in-loop-index-clause-there c = c.loop-index.invariant.2
+
+pub write_word-requires-2-clause-there : goal.write_word-requires-2-clause-there
+write_word-requires-2-clause-there c =
+    let stop = c.loop-index-test.false in let same : c.loop-index.index ≡ length c.args.payload.now / 8 = omega arith in
+    subst (λ (x : ℕ). c.loop-index.next ≡ data_place (ring c.args.image.now.key) (4 * c.args.unit + (4 + x))) same c.loop-index.invariant.2
