@@ -48,6 +48,22 @@ pub(crate) fn fetch_as<N: Chosen>(image: &Words, hand: &mut Hand, place: usize) 
     words.load::<Fetch<N>>(&mut hand.seat, IMAGE + place)
 }
 
+/// Stores a word of the image. The floor stays, and isn't written down again: a plain store between two of the sequentially
+/// consistent ones would make the second wait.
+#[inline(always)]
+pub(crate) fn store_as<N: Changing>(image: &Words, hand: &mut Hand, place: usize, word: u64)
+    requires fits { hand.old.seat.table_id ≡ image.now.table.shared.table_id }
+    requires inside { place < image_length (ring image.now.key) }
+    requires chosen { (N.place ≡ place) × (N.floor ≡ hand.old.floor) }
+    requires may { May image.now.key hand.old.seat.me.0 place word N.floor N.got }
+    ensures fits { hand.new.seat.table_id ≡ hand.old.seat.table_id }
+    ensures told { Changes place word N.floor N.got hand.old.seat.me.0 hand.new.seat.me.0 }
+{
+    let _ = &image.table;
+    let words = &image.table.shared;
+    words.store::<Change<N>>(&mut hand.seat, IMAGE + place, word);
+}
+
 /// Stores a word of the image. The floor is this one then.
 #[inline(always)]
 pub(crate) fn change_as<N: Changing>(

@@ -8,7 +8,7 @@ ghost use Rattle.image_rule.specs.Bits.{IsExact, MayInsert, Wrote};
 ghost use Rattle.image_rule.specs.Steps.{Changes, May};
 ghost use Rattle.shared_image.specs.Spelled.{spelt_frame};
 
-use crate::hand::{Hand, change_as};
+use crate::hand::{Hand, store_as};
 use crate::words::Words;
 use frame_words::{last_word, pair_word, whole_word};
 use position::Identity;
@@ -39,8 +39,8 @@ fn write_word(image: &Words, hand: &mut Hand, place: usize, unit: u64, index: u6
     let _ = &image.table;
     let _ = unit;
     let _ = index;
-    let floor = hand.floor;
-    change_as::<Brand>(image, hand, place, word, floor);
+    let _ = &hand.seat;
+    store_as::<Brand>(image, hand, place, word);
 }
 
 /// Stores the words of the header of a frame that may be inserted. They lie in one unit, so the ring doesn't end among them.

@@ -13,7 +13,7 @@ ghost use Rattle.shared_image.specs.Handles.{IsInserterOf};
 ghost use Rattle.shared_image.specs.Spelled.{spelt_frame};
 ghost use Rattle.shared_image.specs.Inserting.{MayStore, Stores, kind_number, placed_by};
 
-use crate::hand::{Hand, change_as, fetch_as};
+use crate::hand::{Hand, fetch_as, store_as};
 use crate::image::{Image, Inserter};
 use crate::mask::mask;
 use crate::spelling::write_words;
@@ -37,9 +37,8 @@ fn set_bits_as<N: Changing>(image: &Words, hand: &mut Hand, place: usize, at: u6
 {
     let old = fetch_as::<Brand>(image, hand, place);
     let low = at % 64;
-    let floor = hand.floor;
     let word = old | mask(low, low + count);
-    change_as::<N>(image, hand, place, word, floor);
+    store_as::<N>(image, hand, place, word);
 }
 
 /// Sets a frame's start bit, in the word at this place.
