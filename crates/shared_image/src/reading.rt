@@ -1,8 +1,8 @@
 //! A reader reads the frame where it stands, and moves on.
 
-ghost use Rattle.std.specs.Prelude.{◌≡◌, ℕ, [], suc, ◌+◌, ◌-◌, ◌*◌, ◌/◌, ◌%◌, ◌^◌, ◌<◌, ◌≤◌, ◌++◌, drop, take, length, slice_index, IfNone, IfSome};
+ghost use Rattle.std.specs.Prelude.{◌≡◌, ℕ, List, [], suc, ◌+◌, ◌-◌, ◌*◌, ◌/◌, ◌%◌, ◌^◌, ◌<◌, ◌≤◌, ◌++◌, drop, take, length, slice_index, IfNone, IfSome};
 ghost use Rattle.frame_words.specs.Contents.{bytes_in};
-ghost use Rattle.image_rule.specs.Frames.{data_place, end_of, ring};
+ghost use Rattle.image_rule.specs.Frames.{data_place, end_of, image_length, ring};
 ghost use Rattle.image_rule.specs.Reads.{IsFound, first_of};
 ghost use Rattle.image_rule.specs.Steps.{FindsFrame, moved_to, with_miss};
 ghost use Rattle.shared_image.specs.Handles.{IsReaderOf};
@@ -38,8 +38,40 @@ fn find(image: &Words, reader: &mut Standing, place: usize) -> Option<FrameHead>
     Some(head)
 }
 
-/// Copies so many words behind the header of the frame that was found to the front of bytes. The answer is the place of the
-/// word behind these.
+/// Copies words behind the header of the frame that was found, from one on, which stands at a place, among bytes. The ring
+/// doesn't end among them.
+fn copy_stretch(
+    image: &Words,
+    reader: &mut Standing,
+    place: usize,
+    from: usize,
+    to: usize,
+    bytes: &mut [u8],
+)
+    requires fits { reader.old.seat.table_id ≡ image.now.table.shared.table_id }
+    requires there { place ≡ data_place (ring image.now.key) (4 * reader.old.unit + (4 + from)) }
+    requires near { place + (to - from) ≤ image_length (ring image.now.key) }
+    requires some { from ≤ to }
+    requires found { IsFound reader.old.seat.me.0 }
+    requires few { 4 + to ≤ length (first_of reader.old.seat.me.0.reading.known).words }
+    requires low { to ≤ 2 ^ 13 }
+    requires inside { 8 * to ≤ length bytes.old }
+    ensures fits { reader.new.seat.table_id ≡ reader.old.seat.table_id }
+    ensures same { (reader.new.seat.me.0 ≡ reader.old.seat.me.0) × (reader.new.unit ≡ reader.old.unit) × (reader.new.number ≡ reader.old.number) × (reader.new.read_to ≡ reader.old.read_to) }
+    ensures copied { (before : List ℕ) → Copied (first_of reader.old.seat.me.0.reading.known) (8 * from) before bytes.old → Copied (first_of reader.old.seat.me.0.reading.known) (8 * to) before bytes.new }
+    ensures same_length { length bytes.new ≡ length bytes.old }
+{
+    let _ = &image.table;
+    let start = reader.unit;
+    for index in from..to {
+        let here = place + (index - from);
+        let word = word_as::<Brand>(image, reader, here, start, 4 + index as u64);
+        put_word(bytes, 8 * index, word);
+    }
+}
+
+/// Copies so many words behind the header of the frame that was found to the front of bytes: those before the ring's end, and
+/// the others from its begin. The answer is the place of the word behind these.
 fn copy_whole(
     image: &Words,
     reader: &mut Standing,
@@ -51,7 +83,7 @@ fn copy_whole(
     requires there { place ≡ data_place (ring image.now.key) (4 * reader.old.unit) }
     requires found { IsFound reader.old.seat.me.0 }
     requires few { 4 + words ≤ length (first_of reader.old.seat.me.0.reading.known).words }
-    requires low { words < 2 ^ 29 }
+    requires low { words ≤ 2 ^ 13 }
     requires inside { 8 * words ≤ length bytes.old }
     ensures fits { reader.new.seat.table_id ≡ reader.old.seat.table_id }
     ensures same { (reader.new.seat.me.0 ≡ reader.old.seat.me.0) × (reader.new.unit ≡ reader.old.unit) × (reader.new.number ≡ reader.old.number) × (reader.new.read_to ≡ reader.old.read_to) }
@@ -62,14 +94,14 @@ fn copy_whole(
     let _ = &image.table;
     let start = reader.unit;
     let bounds = image.ring();
-    let mut next = image.word_behind(bounds, place, 4 * start, 4);
-    for index in 0..words {
-        let behind = 4 + index as u64;
-        let word = word_as::<Brand>(image, reader, next, start, behind);
-        put_word(bytes, 8 * index, word);
-        next = image.word_behind(bounds, next, 4 * start + behind, 1);
+    let first = image.word_behind(bounds, place, 4 * start, 4);
+    let near = words.min(bounds.end - first);
+    copy_stretch(image, reader, first, 0, near, bytes);
+    if near < words {
+        let begin = bounds.end - bounds.length;
+        copy_stretch(image, reader, begin, near, words, bytes);
     }
-    next
+    image.word_behind(bounds, first, 4 * start + 4, words)
 }
 
 /// Copies the first bytes behind the header of the frame that was found to the front of others.
@@ -78,7 +110,7 @@ fn copy_words(image: &Words, reader: &mut Standing, place: usize, count: usize, 
     requires there { place ≡ data_place (ring image.now.key) (4 * reader.old.unit) }
     requires found { IsFound reader.old.seat.me.0 }
     requires few { 4 + (count + 7) / 8 ≤ length (first_of reader.old.seat.me.0.reading.known).words }
-    requires low { count < 2 ^ 31 }
+    requires low { count ≤ 2 ^ 16 }
     requires inside { count ≤ length bytes.old }
     ensures fits { reader.new.seat.table_id ≡ reader.old.seat.table_id }
     ensures same { (reader.new.seat.me.0 ≡ reader.old.seat.me.0) × (reader.new.unit ≡ reader.old.unit) × (reader.new.number ≡ reader.old.number) × (reader.new.read_to ≡ reader.old.read_to) }
@@ -101,7 +133,7 @@ fn copy(image: &Words, reader: &mut Standing, place: usize, count: usize, block:
     requires there { place ≡ data_place (ring image.now.key) (4 * reader.old.unit) }
     requires found { IsFound reader.old.seat.me.0 }
     requires few { 4 + (count + 7) / 8 ≤ length (first_of reader.old.seat.me.0.reading.known).words }
-    requires low { count < 2 ^ 31 }
+    requires low { count ≤ 2 ^ 16 }
     requires inside { count ≤ length block.old }
     ensures fits { reader.new.seat.table_id ≡ reader.old.seat.table_id }
     ensures same { (reader.new.seat.me.0 ≡ reader.old.seat.me.0) × (reader.new.unit ≡ reader.old.unit) × (reader.new.number ≡ reader.old.number) × (reader.new.read_to ≡ reader.old.read_to) }

@@ -81,8 +81,11 @@ impl Words {
     pub(crate) fn ring(&self) -> Ring
         ensures length { result.length ≡ 4 * ring self.now.key }
         ensures end { result.end ≡ image_length (ring self.now.key) }
+        ensures large { 24576 ≤ result.length }
     {
+        // What always holds of it, for the proof.
         let _ = &self.table;
+        let _ = self.key.identity.geometry().term_length();
         let length = 4 * self.units;
         Ring {
             length: length as usize,
@@ -98,6 +101,7 @@ impl Words {
         requires there { place ≡ data_place (ring self.now.key) number }
         requires few { count ≤ bounds.length }
         ensures is { result ≡ data_place (ring self.now.key) (number + count) }
+        ensures inside { result < bounds.end }
     {
         let _ = &self.table;
         let _ = number;

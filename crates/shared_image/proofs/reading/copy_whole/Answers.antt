@@ -1,41 +1,16 @@
-use Rattle.std.proofs.Common.{rules, ◌≡◌, ◌+◌, ◌-◌, ◌*◌, ◌<◌, ◌≤◌, ℕ, length, drop, sym, ap, subst, ◌∙◌, get_or-drop, length-drop, arith}
-use Rattle.std.specs.Prelude.{slice_index}
-use Rattle.frame_words.proofs.Copying.{copied_to}
-use Rattle.image_rule.specs.declared.view.Frame.{Frame}
-use Rattle.image_rule.specs.declared.view.View.{View}
-use Rattle.image_rule.specs.Frames.{data_place, ring}
-use Rattle.image_rule.specs.Reads.{first_of}
+use Rattle.std.proofs.Common.{◌≡◌, ◌+◌, ◌-◌, ◌*◌, ◌/◌, ◌<◌, ◌≤◌, ℕ, min, ap, sym, subst, ◌∙◌, arith}
+use Rattle.image_rule.specs.Frames.{data_place, image_length, ring}
+use Rattle.shared_image.proofs.Places.{behind_end}
 use Rattle.shared_image.proofs.reading.copy_whole.Goals as goal
 
-inside : (k n w d : ℕ) → 4 + n ≤ w → k < n → d ≡ w - 4 → k < d
-inside k n w d le lt e = omega arith
+-- the words from the ring's end on begin where the ring does
+begins : (n u first near words end length : ℕ) → 0 < n → first ≡ data_place n (4 * u + 4) → end ≡ image_length n → length ≡ 4 * n → first < end → near ≡ min words (end - first) → near < words → end - length ≡ data_place n (4 * u + (4 + near))
+begins n u first near words end length some is last long inside least lt =
+    let at : first + near ≡ end = omega arith in
+    (let e : end - length ≡ first + near - 4 * n = omega arith in e) ∙ behind_end n (4 * u + 4) near first some is (omega arith) (omega arith) ∙ ap (data_place n) (let e : 4 * u + 4 + near ≡ 4 * u + (4 + near) = omega arith in e)
 
-one : (k : ℕ) → 8 * k + 8 ≡ 8 * (k + 1)
-one k = omega arith
-
-one_on : (u j : ℕ) → 4 * u + (4 + j) + 1 ≡ 4 * u + (4 + (j + 1))
-one_on u j = omega arith
-
-pub loop-index-preserved : goal.loop-index-preserved
-loop-index-preserved c =
-    let i : ℕ = c.loop-index.index in let a = c.loop-index.invariant in let f : Frame = first_of c.args.reader.now.seat.me.0.reading.known in let told = c.word_as-word.ensures.told in
-    let now : c.word_as-word.result ≡ slice_index f.words (4 + i) = told.0 ∙ ap (λ (v : View). slice_index (first_of v.reading.known).words (4 + i)) a.1 in
-    let at_word : c.word_as-word.result ≡ slice_index (drop 4 f.words) i = now ∙ sym (get_or-drop 4 f.words i 0) in (
-      c.word_as-word.ensures.fits ∙ a.0,
-      told.1 ∙ a.1,
-      (c.word_as-word.ensures.same.0 ∙ a.2.0, c.word_as-word.ensures.same.1 ∙ a.2.1, c.word_as-word.ensures.same.2 ∙ a.2.2),
-      search rules,
-      copied_to (drop 4 f.words) i 8 (8 * (i + 1)) c.args.bytes.now c.loop-index.bytes c.put_word.new.bytes c.word_as-word.result (inside i c.args.words (length f.words) (length (drop 4 f.words)) c.requires.few c.loop-index-test.true (length-drop 4 f.words)) (omega arith) (one i) at_word a.4 c.put_word.ensures.stored,
-      c.word_behind-next-in-loop-index.ensures.is ∙ ap (data_place (ring c.args.image.now.key)) (one_on c.args.reader.now.unit i),
-    )
-
-pub word_as-word-requires-clause-there : goal.word_as-word-requires-clause-there
-word_as-word-requires-clause-there c = c.loop-index.invariant.5
-
-pub word_behind-next-requires-in-loop-index-clause-there : goal.word_behind-next-requires-in-loop-index-clause-there
-word_behind-next-requires-in-loop-index-clause-there c = c.loop-index.invariant.5
-
-pub returns-clause-behind : goal.returns-clause-behind
-returns-clause-behind c =
-    let stop = c.loop-index-test.false in let same : c.loop-index.index ≡ c.args.words = omega arith in
-    subst (λ (x : ℕ). c.loop-index.next ≡ data_place (ring c.args.image.now.key) (4 * c.args.reader.now.unit + (4 + x))) same c.loop-index.invariant.5
+pub copy_stretch-requires-then-near-words-clause-there : goal.copy_stretch-requires-then-near-words-clause-there
+copy_stretch-requires-then-near-words-clause-there c =
+    let i = c.args.image.now in
+    subst (λ (u : ℕ). c.ring-bounds.result.end - c.ring-bounds.result.length ≡ data_place (ring i.key) (4 * u + (4 + c.min-near.result))) (sym c.copy_stretch.ensures.same.1)
+    (begins (ring i.key) c.args.reader.now.unit c.word_behind-first.result c.min-near.result c.args.words c.ring-bounds.result.end c.ring-bounds.result.length i.is_key.some c.word_behind-first.ensures.is c.ring-bounds.ensures.end c.ring-bounds.ensures.length c.word_behind-first.ensures.inside c.min-near.ensures c.if-near-words.true)

@@ -1,14 +1,13 @@
-use Rattle.std.proofs.Common.{◌≡◌, ◌+◌, ◌*◌, length}
+use Rattle.std.proofs.Common.{◌≡◌, ◌*◌, ℕ, List, length}
 use Rattle.shared_image.specs.Reading.{Copied}
-use Rattle.image_rule.specs.Frames.{data_place, ring}
 use Rattle.image_rule.specs.Reads.{first_of}
-use Rattle.shared_image.proofs.reading.copy_whole.Given as goal
+use Rattle.shared_image.proofs.reading.copy_stretch.Given as goal
 
 abbrev pub ghosts-word_as : goal.ghosts-word_as
 ghosts-word_as a = record { frame = first_of a.reader.now.seat.me.0.reading.known; index = a.index }
 
--- the words so far are copied, and the next has its place
+-- what was copied before, and the words so far
 abbrev pub invariant-loop-index : goal.invariant-loop-index
 invariant-loop-index l =
     (l.reader.seat.table_id ≡ l.fn.reader.seat.table_id) × (l.reader.seat.me.0 ≡ l.fn.reader.seat.me.0) × ((l.reader.unit ≡ l.fn.reader.unit) × (l.reader.number ≡ l.fn.reader.number) × (l.reader.read_to ≡ l.fn.reader.read_to)) × (length l.bytes ≡ length l.fn.bytes)
-    × Copied (first_of l.fn.reader.seat.me.0.reading.known) (8 * l.index) l.fn.bytes l.bytes × (l.next ≡ data_place (ring l.image.key) (4 * l.fn.reader.unit + (4 + l.index)))
+    × ((before : List ℕ) → Copied (first_of l.fn.reader.seat.me.0.reading.known) (8 * l.from) before l.fn.bytes → Copied (first_of l.fn.reader.seat.me.0.reading.known) (8 * l.index) before l.bytes)
