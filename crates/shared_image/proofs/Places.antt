@@ -1,5 +1,5 @@
 -- Places of units and of their words in the ring.
-use Rattle.std.proofs.Common.{◌≡◌, ℕ, ◌+◌, ◌-◌, ◌*◌, ◌/◌, ◌%◌, ◌^◌, ◌<◌, ◌≤◌, ap, sym, ◌∙◌, inl, inr, arith, mod-lt, mod-eq_of_lt, div-add-mod', mul-add, mul-div_cancel}
+use Rattle.std.proofs.Common.{◌≡◌, ℕ, ◌+◌, ◌-◌, ◌*◌, ◌/◌, ◌%◌, ◌^◌, ◌<◌, ◌≤◌, ap, sym, ◌∙◌, inl, inr, min, arith, mod-lt, mod-eq_of_lt, div-add-mod', mul-add, mul-div_cancel}
 use Rattle.std.proofs.Math.Nat.{add-mod_left, div-div-eq-div-mul, mod-add-mod, mul_left_comm}
 use Rattle.std.proofs.Math.Pow.{pow-lt}
 use Rattle.std.proofs.lemmas.Bool.{cases_lt}
@@ -67,3 +67,14 @@ behind_end n x count place some is few past =
     let m : ℕ = 4 * n in let lt : x % m < m = mod-lt x (omega arith) in let r : ℕ = x % m + count - m in
     let sum : x % m + count ≡ m + r = omega arith in
     let next : (x + count) % m ≡ r = sym (mod-add-mod x m count) ∙ ap (λ (y : ℕ). y % m) sum ∙ add-mod_left m r ∙ mod-eq_of_lt (omega arith) in omega arith
+
+-- a word of a stretch, from its first one's place
+pub stretch_place : (n u from to index place : ℕ) → 0 < n → place ≡ data_place n (4 * u + (4 + from)) → place + (to - from) ≤ image_length n → from ≤ index → index < to → place + (index - from) ≡ data_place n (4 * u + (4 + index))
+stretch_place n u from to index place some is near le lt =
+    behind_near n (4 * u + (4 + from)) (index - from) place some is (omega arith) ∙ ap (data_place n) (let e : 4 * u + (4 + from) + (index - from) ≡ 4 * u + (4 + index) = omega arith in e)
+
+-- the words from the ring's end on begin where the ring does
+pub stretch_begins : (n u first near words end length : ℕ) → 0 < n → first ≡ data_place n (4 * u + 4) → end ≡ image_length n → length ≡ 4 * n → first < end → near ≡ min words (end - first) → near < words → end - length ≡ data_place n (4 * u + (4 + near))
+stretch_begins n u first near words end length some is last long inside least lt =
+    let at : first + near ≡ end = omega arith in
+    (let e : end - length ≡ first + near - 4 * n = omega arith in e) ∙ behind_end n (4 * u + 4) near first some is (omega arith) (omega arith) ∙ ap (data_place n) (let e : 4 * u + 4 + near ≡ 4 * u + (4 + near) = omega arith in e)

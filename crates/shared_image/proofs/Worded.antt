@@ -45,3 +45,20 @@ module _ (key : Key) (is : IsKey key) (v : View) (f : Frame) (one : v.inserting 
 
   pub word_written : (w y : View) (i j x : ℕ) → Wrote key v f i w → i < length f.words → x ≡ slice_index f.words i → i + 1 ≡ j → Changes (data_place (ring key) (4 * f.unit + i)) x w.held.floor w.held.got w y → Wrote key v f j y
   word_written w y i j x a lt word e told = subst (λ (n : ℕ). Wrote key v f n y) e (wrote_on key v w y f i x is one may exact.marked.long a lt word told)
+
+-- ---- the words that are stored in two steps
+
+pub wrote_self : (key : Key) (v w : View) (f : Frame) (i : ℕ) → Wrote key v f i w → Wrote key w f i w
+wrote_self key v w f i a = record { after = refl; floor = refl; got = refl; long = refl; bits = λ u. refl; starts = λ u. refl; shows = a.shows; sound = a.sound }
+
+pub wrote_after : (key : Key) (v w y : View) (f : Frame) (i j : ℕ) → Wrote key v f i w → Wrote key w f j y → Wrote key v f j y
+wrote_after key v w y f i j a b = record {
+  after = b.after ∙ (λ k. record (a.after k) { held = y.held });
+  floor = b.floor ∙ a.floor;
+  got = b.got ∙ a.got;
+  long = b.long ∙ a.long;
+  bits = λ u. b.bits u ∙ a.bits u;
+  starts = λ u. b.starts u ∙ a.starts u;
+  shows = b.shows;
+  sound = b.sound;
+}

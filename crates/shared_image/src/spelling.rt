@@ -1,9 +1,9 @@
 //! The words of a frame are stored.
 
-ghost use Rattle.std.specs.Prelude.{◌≡◌, [], ◌∷◌, ◌+◌, ◌*◌, ◌^◌, ◌<◌, ◌≤◌, length};
+ghost use Rattle.std.specs.Prelude.{◌≡◌, [], ◌∷◌, ◌+◌, ◌-◌, ◌*◌, ◌/◌, ◌^◌, ◌<◌, ◌≤◌, length};
 ghost use Rattle.theory.specs.Position.{max_position};
 ghost use Rattle.frame_words.specs.Words as said;
-ghost use Rattle.image_rule.specs.Frames.{data_place, ring};
+ghost use Rattle.image_rule.specs.Frames.{data_place, image_length, ring};
 ghost use Rattle.image_rule.specs.Bits.{IsExact, MayInsert, Wrote};
 ghost use Rattle.image_rule.specs.Steps.{Changes, May};
 ghost use Rattle.shared_image.specs.Spelled.{spelt_frame};
@@ -70,6 +70,80 @@ fn write_header(
     write_word(image, hand, place + 3, unit, 3, 0);
 }
 
+/// Stores words of the payload of a frame that may be inserted, from one on, which has this place, where all before it are
+/// stored. The ring doesn't end among them.
+fn write_stretch(
+    image: &Words,
+    hand: &mut Hand,
+    place: usize,
+    from: usize,
+    to: usize,
+    unit: u64,
+    units: u64,
+    first: u64,
+    payload: &[u8],
+)
+    requires fits { hand.old.seat.table_id ≡ image.now.table.shared.table_id }
+    requires there { place ≡ data_place (ring image.now.key) (4 * unit + (4 + from)) }
+    requires near { place + (to - from) ≤ image_length (ring image.now.key) }
+    requires some { from ≤ to }
+    requires inside { 8 * to ≤ length payload.now }
+    requires exact { IsExact image.now.key hand.old.seat.me.0.held }
+    requires may { MayInsert image.now.key hand.old.seat.me.0.held (spelt_frame image.now.key.identity unit units first payload.now) }
+    requires wrote { Wrote image.now.key hand.old.seat.me.0 (spelt_frame image.now.key.identity unit units first payload.now) (4 + from) hand.old.seat.me.0 }
+    ensures fits { hand.new.seat.table_id ≡ hand.old.seat.table_id }
+    ensures wrote { Wrote image.now.key hand.old.seat.me.0 (spelt_frame image.now.key.identity unit units first payload.now) (4 + to) hand.new.seat.me.0 }
+{
+    let _ = &image.table;
+    let _ = &hand.seat;
+    let _ = units;
+    let _ = first;
+    for index in from..to {
+        let word = whole_word(payload, 8 * index);
+        let here = place + (index - from);
+        write_word(image, hand, here, unit, 4 + index as u64, word);
+    }
+}
+
+/// Stores the whole words of the payload of a frame that may be inserted, whose header is stored: those before the ring's end,
+/// and the others from its begin. The answer is the place of the word behind these.
+fn write_whole(
+    image: &Words,
+    hand: &mut Hand,
+    place: usize,
+    unit: u64,
+    units: u64,
+    first: u64,
+    payload: &[u8],
+) -> usize
+    requires fits { hand.old.seat.table_id ≡ image.now.table.shared.table_id }
+    requires there { place ≡ data_place (ring image.now.key) (4 * unit) }
+    requires low { unit ≤ 2 ^ 56 }
+    requires short { length payload.now < 2 ^ 32 }
+    requires few { 4 + length payload.now / 8 ≤ 4 * ring image.now.key }
+    requires exact { IsExact image.now.key hand.old.seat.me.0.held }
+    requires may { MayInsert image.now.key hand.old.seat.me.0.held (spelt_frame image.now.key.identity unit units first payload.now) }
+    requires wrote { Wrote image.now.key hand.old.seat.me.0 (spelt_frame image.now.key.identity unit units first payload.now) 4 hand.old.seat.me.0 }
+    ensures fits { hand.new.seat.table_id ≡ hand.old.seat.table_id }
+    ensures wrote { Wrote image.now.key hand.old.seat.me.0 (spelt_frame image.now.key.identity unit units first payload.now) (4 + length payload.now / 8) hand.new.seat.me.0 }
+    ensures behind { result ≡ data_place (ring image.now.key) (4 * unit + (4 + length payload.now / 8)) }
+{
+    let _ = &image.table;
+    let _ = &hand.seat;
+    let whole = payload.len() / 8;
+    let bounds = image.ring();
+    let next = image.word_behind(bounds, place, 4 * unit, 4);
+    let behind = image.word_behind(bounds, next, 4 * unit + 4, whole);
+    let near = whole.min(bounds.end - next);
+    write_stretch(image, hand, next, 0, near, unit, units, first, payload);
+    if near == whole {
+        return behind;
+    }
+    let begin = bounds.end - bounds.length;
+    write_stretch(image, hand, begin, near, whole, unit, units, first, payload);
+    behind
+}
+
 /// Stores the words of a frame that may be inserted, whose first word has this place.
 pub(crate) fn write_words(
     image: &Words,
@@ -91,19 +165,12 @@ pub(crate) fn write_words(
 {
     let _ = &image.table;
     let _ = &hand.seat;
-    let bounds = image.ring();
     write_header(image, hand, place, unit, units, first, payload);
-    let mut next = image.word_behind(bounds, place, 4 * unit, 4);
-    let whole = payload.len() / 8;
-    for index in 0..whole {
-        let behind = 4 + index as u64;
-        let word = whole_word(payload, 8 * index);
-        write_word(image, hand, next, unit, behind, word);
-        next = image.word_behind(bounds, next, 4 * unit + behind, 1);
-    }
+    let next = write_whole(image, hand, place, unit, units, first, payload);
     if payload.len() % 8 == 0 {
         return;
     }
+    let whole = payload.len() / 8;
     let word = last_word(payload, 8 * whole);
     write_word(image, hand, next, unit, 4 + whole as u64, word);
 }

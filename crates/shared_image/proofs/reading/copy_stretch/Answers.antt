@@ -1,11 +1,11 @@
-use Rattle.std.proofs.Common.{rules, ◌≡◌, ◌+◌, ◌-◌, ◌*◌, ◌<◌, ◌≤◌, ℕ, List, length, drop, sym, ap, subst, ◌∙◌, get_or-drop, length-drop, arith}
+use Rattle.std.proofs.Common.{rules, ◌≡◌, ◌+◌, ◌-◌, ◌*◌, ◌<◌, ◌≤◌, ℕ, length, drop, sym, ap, ◌∙◌, get_or-drop, length-drop, arith}
 use Rattle.std.specs.Prelude.{slice_index}
 use Rattle.frame_words.proofs.Copying.{copied_to}
 use Rattle.image_rule.specs.declared.view.Frame.{Frame}
 use Rattle.image_rule.specs.declared.view.View.{View}
-use Rattle.image_rule.specs.Frames.{data_place, image_length, ring}
+use Rattle.image_rule.specs.Frames.{ring}
 use Rattle.image_rule.specs.Reads.{first_of}
-use Rattle.shared_image.proofs.Places.{behind_near}
+use Rattle.shared_image.proofs.Places.{stretch_place}
 use Rattle.shared_image.proofs.reading.copy_stretch.Goals as goal
 
 inside : (k n w d : ℕ) → 4 + n ≤ w → k < n → d ≡ w - 4 → k < d
@@ -14,13 +14,9 @@ inside k n w d le lt e = omega arith
 one : (k : ℕ) → 8 * k + 8 ≡ 8 * (k + 1)
 one k = omega arith
 
-here : (n u from to index place : ℕ) → 0 < n → place ≡ data_place n (4 * u + (4 + from)) → place + (to - from) ≤ image_length n → from ≤ index → index < to → place + (index - from) ≡ data_place n (4 * u + (4 + index))
-here n u from to index place some is near le lt =
-    behind_near n (4 * u + (4 + from)) (index - from) place some is (omega arith) ∙ ap (data_place n) (let e : 4 * u + (4 + from) + (index - from) ≡ 4 * u + (4 + index) = omega arith in e)
-
 pub word_as-word-requires-clause-there : goal.word_as-word-requires-clause-there
 word_as-word-requires-clause-there c =
-    let i = c.args.image.now in here (ring i.key) c.args.reader.now.unit c.args.from c.args.to c.loop-index.index c.args.place i.is_key.some c.requires.there c.requires.near (omega arith) c.loop-index-test.true
+    let i = c.args.image.now in stretch_place (ring i.key) c.args.reader.now.unit c.args.from c.args.to c.loop-index.index c.args.place i.is_key.some c.requires.there c.requires.near (omega arith) c.loop-index-test.true
 
 pub loop-index-preserved : goal.loop-index-preserved
 loop-index-preserved c =

@@ -1,4 +1,4 @@
-use Rattle.std.proofs.Common.{◌+◌, ◌*◌, ◌/◌, ℕ, sym, ◌∙◌}
+use Rattle.std.proofs.Common.{◌+◌, ◌*◌, ◌/◌, sym, ◌∙◌}
 use Rattle.image_rule.specs.Frames.{ring}
 use Rattle.shared_image.proofs.Places.{first_place}
 use Rattle.shared_image.proofs.words.Words.first_word.Goals as goal

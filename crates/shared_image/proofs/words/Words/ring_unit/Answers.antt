@@ -1,4 +1,4 @@
-use Rattle.std.proofs.Common.{rules, ◌≡◌, ◌/◌, ◌%◌, ◌*◌, ◌-◌, ◌<◌, ◌≤◌, ℕ, ap, sym, ◌∙◌, subst, arith, mod-lt}
+use Rattle.std.proofs.Common.{rules, ◌≡◌, ◌/◌, ◌%◌, ◌*◌, ◌-◌, ◌<◌, ◌≤◌, ℕ, ap, sym, ◌∙◌, subst, mod-lt}
 use Rattle.std.specs.Int.{IsPowerOfTwo}
 use Rattle.theory.specs.Position.{Geometry}
 use Rattle.image_rule.specs.declared.view.Key.{Key}

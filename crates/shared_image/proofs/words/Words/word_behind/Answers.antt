@@ -1,4 +1,4 @@
-use Rattle.std.proofs.Common.{◌≡◌, ◌+◌, ◌-◌, ◌*◌, ◌<◌, ◌≤◌, ℕ, ap, sym, subst, ◌∙◌}
+use Rattle.std.proofs.Common.{◌+◌, ◌-◌, ◌<◌, ◌≤◌, ℕ, ap, sym, subst, ◌∙◌}
 use Rattle.image_rule.specs.Frames.{ring}
 use Rattle.shared_image.proofs.Places.{behind_end, behind_near, data_inside}
 use Rattle.shared_image.proofs.words.Words.word_behind.Goals as goal
