@@ -56,6 +56,11 @@ in_unit n u i place some few is =
     let next : (4 * u + i) % m ≡ (4 * u) % m + i = sym (mod-add-mod (4 * u) m i) ∙ mod-eq_of_lt (omega arith) in
     omega arith
 
+-- those of a unit behind the header's
+pub in_unit_behind : (n u k i place : ℕ) → 0 < n → i < 4 → place ≡ data_place n (4 * u + (4 + 4 * k)) → place + i ≡ data_place n (4 * u + (4 + (4 * k + i)))
+in_unit_behind n u k i place some few is =
+    in_unit n (u + 1 + k) i place some few (is ∙ ap (data_place n) (let e : 4 * u + (4 + 4 * k) ≡ 4 * (u + 1 + k) = omega arith in e)) ∙ ap (data_place n) (let e : 4 * (u + 1 + k) + i ≡ 4 * u + (4 + (4 * k + i)) = omega arith in e)
+
 -- so many behind one, before the ring's end and past it
 pub behind_near : (n x count place : ℕ) → 0 < n → place ≡ data_place n x → place + count < image_length n → place + count ≡ data_place n (x + count)
 behind_near n x count place some is near =

@@ -105,8 +105,78 @@ fn write_stretch(
     }
 }
 
-/// Stores the whole words of the payload of a frame that may be inserted, whose header is stored: those before the ring's end,
-/// and the others from its begin. The answer is the place of the word behind these.
+/// Stores four words of the payload of a frame that may be inserted, those of one unit, which has this place, where all before
+/// them are stored. The ring doesn't end among them.
+fn write_unit(
+    image: &Words,
+    hand: &mut Hand,
+    place: usize,
+    index: usize,
+    unit: u64,
+    units: u64,
+    first: u64,
+    payload: &[u8],
+)
+    requires fits { hand.old.seat.table_id ≡ image.now.table.shared.table_id }
+    requires there { place ≡ data_place (ring image.now.key) (4 * unit + (4 + 4 * index)) }
+    requires inside { 32 * index + 32 ≤ length payload.now }
+    requires exact { IsExact image.now.key hand.old.seat.me.0.held }
+    requires may { MayInsert image.now.key hand.old.seat.me.0.held (spelt_frame image.now.key.identity unit units first payload.now) }
+    requires wrote { Wrote image.now.key hand.old.seat.me.0 (spelt_frame image.now.key.identity unit units first payload.now) (4 + 4 * index) hand.old.seat.me.0 }
+    ensures fits { hand.new.seat.table_id ≡ hand.old.seat.table_id }
+    ensures wrote { Wrote image.now.key hand.old.seat.me.0 (spelt_frame image.now.key.identity unit units first payload.now) (4 + 4 * (index + 1)) hand.new.seat.me.0 }
+{
+    let _ = &image.table;
+    let _ = &hand.seat;
+    let _ = units;
+    let _ = first;
+    let at = 4 * index;
+    let word = whole_word(payload, 8 * at);
+    write_word(image, hand, place, unit, 4 + at as u64, word);
+    let second = whole_word(payload, 8 * (at + 1));
+    write_word(image, hand, place + 1, unit, 4 + (at + 1) as u64, second);
+    let third = whole_word(payload, 8 * (at + 2));
+    write_word(image, hand, place + 2, unit, 4 + (at + 2) as u64, third);
+    let fourth = whole_word(payload, 8 * (at + 3));
+    write_word(image, hand, place + 3, unit, 4 + (at + 3) as u64, fourth);
+}
+
+/// Stores the payload of a frame that may be inserted as far as it fills units, where the header is stored, which has this
+/// place. The answer is the place of the unit behind these.
+fn write_units(
+    image: &Words,
+    hand: &mut Hand,
+    place: usize,
+    unit: u64,
+    units: u64,
+    first: u64,
+    payload: &[u8],
+) -> usize
+    requires fits { hand.old.seat.table_id ≡ image.now.table.shared.table_id }
+    requires there { place ≡ data_place (ring image.now.key) (4 * unit) }
+    requires low { unit ≤ 2 ^ 56 }
+    requires short { length payload.now < 2 ^ 32 }
+    requires exact { IsExact image.now.key hand.old.seat.me.0.held }
+    requires may { MayInsert image.now.key hand.old.seat.me.0.held (spelt_frame image.now.key.identity unit units first payload.now) }
+    requires wrote { Wrote image.now.key hand.old.seat.me.0 (spelt_frame image.now.key.identity unit units first payload.now) 4 hand.old.seat.me.0 }
+    ensures fits { hand.new.seat.table_id ≡ hand.old.seat.table_id }
+    ensures wrote { Wrote image.now.key hand.old.seat.me.0 (spelt_frame image.now.key.identity unit units first payload.now) (4 + 4 * (length payload.now / 32)) hand.new.seat.me.0 }
+    ensures behind { result ≡ data_place (ring image.now.key) (4 * unit + (4 + 4 * (length payload.now / 32))) }
+{
+    let _ = &image.table;
+    let _ = &hand.seat;
+    let bounds = image.ring();
+    let mut next = image.word_behind(bounds, place, 4 * unit, 4);
+    for index in 0..payload.len() / 32 {
+        write_unit(image, hand, next, index, unit, units, first, payload);
+        let number = 4 * unit + (4 + 4 * index as u64);
+        next = image.word_behind(bounds, next, number, 4);
+    }
+    next
+}
+
+/// Stores the whole words of the payload of a frame that may be inserted, where the header is stored, which has this place. The
+/// answer is the place of the word behind these, which lies in a unit with those behind the last whole unit.
 fn write_whole(
     image: &Words,
     hand: &mut Hand,
@@ -120,7 +190,6 @@ fn write_whole(
     requires there { place ≡ data_place (ring image.now.key) (4 * unit) }
     requires low { unit ≤ 2 ^ 56 }
     requires short { length payload.now < 2 ^ 32 }
-    requires few { 4 + length payload.now / 8 ≤ 4 * ring image.now.key }
     requires exact { IsExact image.now.key hand.old.seat.me.0.held }
     requires may { MayInsert image.now.key hand.old.seat.me.0.held (spelt_frame image.now.key.identity unit units first payload.now) }
     requires wrote { Wrote image.now.key hand.old.seat.me.0 (spelt_frame image.now.key.identity unit units first payload.now) 4 hand.old.seat.me.0 }
@@ -130,18 +199,11 @@ fn write_whole(
 {
     let _ = &image.table;
     let _ = &hand.seat;
+    let next = write_units(image, hand, place, unit, units, first, payload);
+    let done = 4 * (payload.len() / 32);
     let whole = payload.len() / 8;
-    let bounds = image.ring();
-    let next = image.word_behind(bounds, place, 4 * unit, 4);
-    let behind = image.word_behind(bounds, next, 4 * unit + 4, whole);
-    let near = whole.min(bounds.end - next);
-    write_stretch(image, hand, next, 0, near, unit, units, first, payload);
-    if near == whole {
-        return behind;
-    }
-    let begin = bounds.end - bounds.length;
-    write_stretch(image, hand, begin, near, whole, unit, units, first, payload);
-    behind
+    write_stretch(image, hand, next, done, whole, unit, units, first, payload);
+    next + (whole - done)
 }
 
 /// Stores the words of a frame that may be inserted, whose first word has this place.

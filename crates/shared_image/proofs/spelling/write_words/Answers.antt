@@ -10,11 +10,6 @@ use Rattle.shared_image.proofs.spelling.write_words.Goals as goal
 within : (j n m : ℕ) → j < (n + 7) / 8 → m ≡ 4 + (n + 7) / 8 → 4 + j < m
 within j n m lt e = omega arith
 
-pub write_whole-next-requires-clause-few : goal.write_whole-next-requires-clause-few
-write_whole-next-requires-clause-few c =
-    let i = c.args.image.now in let m = c.requires.may in let from = m.from in let near = m.near in let fits = m.fits in
-    let n = spelt_length i.key.identity c.args.unit c.args.units c.args.first c.args.payload.now in omega arith
-
 pub write_whole-next-requires-clause-exact : goal.write_whole-next-requires-clause-exact
 write_whole-next-requires-clause-exact c =
     let i = c.args.image.now in let h = c.args.hand.now in let f : Frame = spelt_frame i.key.identity c.args.unit c.args.units c.args.first c.args.payload.now in let v : View = h.seat.me.0 in
