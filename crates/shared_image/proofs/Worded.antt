@@ -34,6 +34,10 @@ spelt_payload i unit units first j payload lt =
 pub spelt_header : (i : Identity) (unit units first second third j : ℕ) (payload : List ℕ) → header_words i (32 * unit) ≡ second ∷ third ∷ 0 ∷ [] → slice_index (spelt_frame i unit units first payload).words j ≡ slice_index (first ∷ second ∷ third ∷ 0 ∷ payload_words payload) j
 spelt_header i unit units first second third j payload e = ap (λ (hw : List ℕ). slice_index (first ∷ (hw ++ payload_words payload)) j) e
 
+-- a payload's word is one of its frame's
+pub word_inside : (j n m : ℕ) → j < (n + 7) / 8 → m ≡ 4 + (n + 7) / 8 → 4 + j < m
+word_inside j n m lt e = omega arith
+
 -- ---- a word more of a frame that may be inserted
 
 module _ (key : Key) (is : IsKey key) (v : View) (f : Frame) (one : v.inserting ≡ 1) (may : MayInsert key v.held f) (exact : IsExact key v.held) where

@@ -1,17 +1,14 @@
-use Rattle.std.proofs.Common.{◌≡◌, ◌+◌, ◌*◌, ◌/◌, ◌<◌, ◌≤◌, ℕ, length, sym, ◌∙◌, arith}
+use Rattle.std.proofs.Common.{◌+◌, ◌*◌, ◌/◌, ◌<◌, ◌≤◌, ℕ, length, sym, ◌∙◌, arith}
 use Rattle.image_rule.specs.declared.view.Frame.{Frame}
 use Rattle.image_rule.specs.declared.view.View.{View}
 use Rattle.image_rule.specs.Frames.{ring}
 use Rattle.shared_image.specs.Spelled.{spelt_frame}
 use Rattle.shared_image.proofs.Places.{stretch_place}
-use Rattle.shared_image.proofs.Worded.{may_word, spelt_length, spelt_payload, word_written}
+use Rattle.shared_image.proofs.Worded.{may_word, spelt_length, spelt_payload, word_inside, word_written}
 use Rattle.shared_image.proofs.spelling.write_stretch.Goals as goal
 
 below : (j to n : ℕ) → j < to → 8 * to ≤ n → j < (n + 7) / 8
 below j to n lt le = omega arith
-
-within : (j n m : ℕ) → j < (n + 7) / 8 → m ≡ 4 + (n + 7) / 8 → 4 + j < m
-within j n m lt e = omega arith
 
 pub write_word-requires-clause-there : goal.write_word-requires-clause-there
 write_word-requires-clause-there c =
@@ -22,7 +19,7 @@ write_word-requires-clause-may c =
     let i = c.args.image.now in let h = c.args.hand.now in let f : Frame = spelt_frame i.key.identity c.args.unit c.args.units c.args.first c.args.payload.now in
     let n = spelt_length i.key.identity c.args.unit c.args.units c.args.first c.args.payload.now in let v : View = h.seat.me.0 in
     let j : ℕ = c.loop-index.index in let lt = below j c.args.to (length c.args.payload.now) c.loop-index-test.true c.requires.inside in
-    may_word i.key i.is_key v f h.inserts c.requires.may c.requires.exact c.loop-index.hand.seat.me.0 (4 + j) c.whole_word-word.result c.loop-index.invariant.1 (within j (length c.args.payload.now) _ lt n)
+    may_word i.key i.is_key v f h.inserts c.requires.may c.requires.exact c.loop-index.hand.seat.me.0 (4 + j) c.whole_word-word.result c.loop-index.invariant.1 (word_inside j (length c.args.payload.now) _ lt n)
 
 pub loop-index-preserved : goal.loop-index-preserved
 loop-index-preserved c =
@@ -30,6 +27,6 @@ loop-index-preserved c =
     let n = spelt_length i.key.identity c.args.unit c.args.units c.args.first c.args.payload.now in let v : View = h.seat.me.0 in
     let j : ℕ = c.loop-index.index in let lt = below j c.args.to (length c.args.payload.now) c.loop-index-test.true c.requires.inside in (
       c.write_word.ensures.fits ∙ c.loop-index.invariant.0,
-      word_written i.key i.is_key v f h.inserts c.requires.may c.requires.exact c.loop-index.hand.seat.me.0 c.write_word.new.hand.seat.me.0 (4 + j) (4 + (j + 1)) c.whole_word-word.result c.loop-index.invariant.1 (within j (length c.args.payload.now) _ lt n)
+      word_written i.key i.is_key v f h.inserts c.requires.may c.requires.exact c.loop-index.hand.seat.me.0 c.write_word.new.hand.seat.me.0 (4 + j) (4 + (j + 1)) c.whole_word-word.result c.loop-index.invariant.1 (word_inside j (length c.args.payload.now) _ lt n)
           (c.whole_word-word.ensures ∙ sym (spelt_payload i.key.identity c.args.unit c.args.units c.args.first j c.args.payload.now lt)) (omega arith) c.write_word.ensures.told,
     )
