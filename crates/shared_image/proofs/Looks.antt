@@ -1,7 +1,6 @@
 -- What the inserter's words say of the units that it stored.
-use Rattle.std.proofs.Common.{◌≡◌, ℕ, ◌+◌, ◌-◌, ◌*◌, ◌/◌, ◌%◌, ◌^◌, ◌<◌, ◌≤◌, inl, inr, ⊎_elim, length, min, sym, ap, ◌∙◌, subst, arith, mod-lt, div-add-mod'}
-use Rattle.std.proofs.Math.Nat.{mul_left_comm}
-use Rattle.std.proofs.lemmas.Nat.{mod-mul-add, and_le_l}
+use Rattle.std.proofs.Common.{◌≡◌, ℕ, ◌+◌, ◌-◌, ◌*◌, ◌/◌, ◌%◌, ◌^◌, ◌<◌, ◌≤◌, inl, inr, ⊎_elim, length, min, sym, ap, ◌∙◌, subst, arith, mod-lt}
+use Rattle.std.proofs.lemmas.Nat.{and_le_l}
 use Rattle.std.proofs.lemmas.Bool.{cases_lt, eq-eqb, eqb-true}
 use Rattle.std.specs.Prelude.{◌↔◌, Bool, IsTrue, bit_and, nat_eq, slice_index}
 use Rattle.std.specs.Int.{bit_at, w64, to_le_bytes, trailing_zeros}
@@ -23,6 +22,7 @@ use Rattle.image_rule.proofs.Runs.{same_word}
 use Rattle.image_rule.proofs.Spelt.{says}
 use Rattle.image_rule.proofs.Units.{AreCovered, has_at, has_unit, placed_among, placed_starts, sound_covered, starts_placed, unit_at}
 use Rattle.shared_image.specs.Handles.{InserterSeat, IsInserting, stored_by}
+use Rattle.shared_image.proofs.Places.{times_place}
 use Rattle.shared_image.specs.Looking.{AreFree, IsFirstWord, IsHeadOf, TellsUnits}
 
 -- ---- a word and a mask have a bit together: a unit of the run was stored
@@ -49,14 +49,6 @@ module _ (key : Key) (is : IsKey key) (h : Held) (e : IsExact key h) where
 
 -- ---- by positions
 
-byte_place : (u r : ℕ) → 0 < r → (32 * u) % (32 * r) ≡ 32 * (u % r)
-byte_place u r pos =
-    let k : ℕ = u / r in let c : ℕ = k * r in let d : ℕ = u % r in let e : c + d ≡ u = div-add-mod' u r in let lt : d < r = mod-lt u pos in
-    ap (λ (x : ℕ). (32 * x) % (32 * r)) (sym e)
-    ∙ ap (λ (x : ℕ). x % (32 * r)) (let s : 32 * (c + d) ≡ 32 * c + 32 * d = omega arith in s)
-    ∙ ap (λ (x : ℕ). (x + 32 * d) % (32 * r)) (mul_left_comm 32 k r)
-    ∙ mod-mul-add k (32 * r) (32 * d) (omega arith)
-
 module _ (n : InserterSeat) (is : IsInserting n.key n.view) where
   abbrev h : Held
   h = n.view.held
@@ -75,7 +67,7 @@ module _ (n : InserterSeat) (is : IsInserting n.key n.view) where
   place p unit =
       let u : ℕ = p / 32 in let r : ℕ = ring n.key in let q : ℕ = u % r in
       let e : 32 * u ≡ p = omega arith in
-      let m : p % (3 * n.key.identity.geometry.term_length) ≡ 32 * q = (λ j. (sym e) j % (sym is.is_key.bytes) j) ∙ byte_place u r is.is_key.some in
+      let m : p % (3 * n.key.identity.geometry.term_length) ≡ 32 * q = (λ j. (sym e) j % (sym is.is_key.bytes) j) ∙ times_place 32 u r is.is_key.some (let lt : q < r = mod-lt u is.is_key.some in omega arith) in
       sym (ap (λ (x : ℕ). x / 2048) m ∙ (let f : 32 * q / 2048 ≡ q / 64 = omega arith in f))
 
   pub tells_units : (index word : ℕ) → word ≡ slice_index n.view.held.words index → TellsUnits n index word
