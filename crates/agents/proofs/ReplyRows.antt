@@ -1,5 +1,5 @@
 -- What goes out besides frames of the log, as bytes, at worked examples: term length 65536, MTU 1408, first term 7, session 1, stream 1001.
-use Rattle.std.specs.Prelude.{◌≡◌, ℕ, pos, List, [], ◌∷◌}
+use Rattle.std.specs.Prelude.{◌≡◌, pos, [], ◌∷◌}
 use Rattle.std.proofs.Common.{refl}
 use Rattle.theory.specs.Control.{asking_at, heartbeat_at, status_at}
 use Rattle.theory.specs.Wire.{Header, spelling}

@@ -5,6 +5,7 @@ use Rattle.frame_source.specs.Sources.{Source}
 use Rattle.sender.specs.Sending.{HearsDatagram, Sending}
 use Rattle.sender.specs.declared.sender_core.SenderAnswer.{SenderAnswer}
 use Rattle.receiver.specs.Receiving.{Receiver, TakesDatagram, replies, ticked}
+use Rattle.receiver.specs.Representing.{Core, HearsDatagram as Takes, ImageLooks, ImageSeesOn, Represents, core_seen_as}
 use Rattle.receiver.specs.Subscribing.{RepresentsSubscriber, Subscribing, SubscriberBecomes}
 use Rattle.receiver.specs.declared.receiver_core.Outcome.{Outcome}
 
@@ -24,3 +25,21 @@ pub record ReceiverHears (s : Subscribing) (now : ℕ) (bytes : List ℕ) (t : S
 pub record ReceiverTicks (s : Subscribing) (now : ℕ) (t : Subscribing) (given : List (List ℕ)) : Type 0 where
   pub becomes : (r : Receiver) → RepresentsSubscriber s r → RepresentsSubscriber t (ticked r now)
   pub replies_are : (r : Receiver) → RepresentsSubscriber s r → given ≡ map spelling (replies r now)
+
+-- ---- a receiver's core, whose consumers may go forward all the time
+
+-- it takes a datagram, and gives nothing out
+pub record CoreHears (s : Core) (now : ℕ) (bytes : List ℕ) (t : Core) (given : List (List ℕ)) : Type 0 where
+  pub outcomes : List Outcome
+  pub hears : Takes s now bytes outcomes t
+  pub consumers : t.consumers ≡ s.consumers
+  pub silent : given ≡ []
+
+-- at a moment it looks once at the consumers, and gives out the replies of a receiver whose consumers stand where it saw them,
+-- each in a datagram of its own
+pub record CoreTicks (s : Core) (now : ℕ) (t : Core) (given : List (List ℕ)) : Type 0 where
+  pub sees : ImageSeesOn s.image t.image
+  pub looks : ImageLooks s.image t.image
+  pub becomes : (r : Receiver) → Represents (core_seen_as s t) r → Represents t (ticked r now)
+  pub replies_are : (r : Receiver) → Represents (core_seen_as s t) r → given ≡ map spelling (replies r now)
+  pub consumers : t.consumers ≡ s.consumers

@@ -7,16 +7,20 @@
 //! gave out, in order. At a fault it's a beginning of that, with a tick only where all was heard and answered, and
 //! either the device has counted a failure or memory was refused to one datagram, which is lost
 //! (`faults_are_explained`). The answer is true
-//! exactly where a datagram came or went at the tick. A sender's core and a receiver with its subscriber are such
-//! parties (`Party`).
+//! exactly where a datagram came or went at the tick. A sender's core, a receiver's core, and a receiver with its subscriber are
+//! such parties (`Party`).
 //!
 //! A sender asks for Connect exactly where a status message that doesn't ask for a SETUP has been heard and the queue
 //! hasn't taken the command yet; at a fault nothing is asked, and over any run of cycles a fresh client has submitted
-//! nothing or Connect alone (`SenderAgent::cycle`; the lemmas `asks_at_most_once`, `runs_ask_once`, `by_cycle`). A
-//! receiver's cycle without a fault publishes the subscriber's positions, all three together and once, if there is an
-//! image; a poll publishes nothing (`ReceiverAgent`). Whoever has that agent, out of a lock too, knows that the
-//! subscriber stands no lower than what was published last. A conductor's cycle does one command, by one
-//! store of the limit word, or finds the queue empty; then the keeper cleans and limits (`conduct`).
+//! nothing or Connect alone (`SenderAgent::cycle`; the lemmas `asks_at_most_once`, `runs_ask_once`, `by_cycle`). A conductor's
+//! cycle does one command, by one store of the limit word, or finds the queue empty; then the keeper cleans and limits
+//! (`conduct`).
+//!
+//! A receiver's agent has the core and the writer of the counters, and shares nothing under a lock (`ReceiverAgent`). The image's
+//! readers are taken from it once, for the threads that poll, and it tells a reader what was stored; consumers may go forward all
+//! the time, also during a cycle. A cycle without a fault publishes what its image's inserter tells then: the contiguous end, the
+//! high-water mark, and the least position at which the tick saw a consumer, all three together and once, if there is an image.
+//! Nothing else publishes. What was published last is never more than what the agent tells.
 //!
 //! Over a device of several ways a cycle hears each of them once, in order, as above, and then comes one tick, also at a
 //! fault, up to that (`Duty::cycle_ways`, `SenderAgent::cycle_ways`; `WaysCycle`, `WaysFault`).

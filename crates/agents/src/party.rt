@@ -5,7 +5,7 @@ ghost use Rattle.std.specs.Prelude.{◌≡◌, ℕ, List, [], OnErr, OnOk};
 use frames::Outbox;
 use std::alloc::AllocError;
 
-/// What hears datagrams and is told moments, and gives datagrams out: a sender's core, or a receiver with its subscriber.
+/// What hears datagrams and is told moments, and gives datagrams out: a sender's core, a receiver's core, or one with its subscriber.
 pub trait Party {
     /// It is as its calls want it.
     ghost stands: { Self → Type 0 };

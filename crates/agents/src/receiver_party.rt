@@ -1,4 +1,4 @@
-//! A receiver with its subscriber has duties.
+//! A receiver with its subscriber has duties, and a receiver's core alone.
 
 ghost use Rattle.std.specs.Prelude.{◌≡◌, ◌≤◌, ◌++◌, ⊤, [], map};
 ghost use Rattle.std.specs.List.{AllByRecursion};
@@ -7,7 +7,7 @@ ghost use Rattle.receiver.specs.Receiving.{replied};
 
 use crate::party::Party;
 use frames::{Frame, Outbox};
-use receiver::{Replies, Subscriber};
+use receiver::{ReceiverCore, Replies, Subscriber};
 use std::alloc::AllocError;
 
 /// How many bytes a receiver's datagram has at the most.
@@ -54,6 +54,30 @@ impl Party for Subscriber {
     fn tick(&mut self, now: u64, outbox: &mut Outbox) {
         outbox.clear();
         let replies = Subscriber::tick(self, now);
+        put_replies(&replies, outbox);
+    }
+}
+
+impl Party for ReceiverCore {
+    ghost use Rattle.agents.specs.Parties.{CoreHears, CoreTicks};
+
+    ghost stands = { λ s. ⊤ };
+
+    ghost mtu = { λ s. 40 };
+
+    ghost hears = { CoreHears };
+
+    ghost ticks = { CoreTicks };
+
+    fn hear(&mut self, datagram: &[u8], now: u64, outbox: &mut Outbox) -> Result<(), AllocError> {
+        outbox.clear();
+        self.on_datagram(datagram, now)?;
+        Ok(())
+    }
+
+    fn tick(&mut self, now: u64, outbox: &mut Outbox) {
+        outbox.clear();
+        let replies = ReceiverCore::tick(self, now);
         put_replies(&replies, outbox);
     }
 }

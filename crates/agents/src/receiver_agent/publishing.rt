@@ -1,13 +1,11 @@
-//! What a subscriber tells is published.
+//! What a receiver tells is published.
 
-ghost use Rattle.std.specs.Prelude.{◌≡◌};
+ghost use Rattle.std.specs.Prelude.{◌≡◌, ◌≤◌, IfSome};
 ghost use Rattle.counters.specs.Order.{IsAtMost};
-ghost use Rattle.receiver.specs.Receiving.{Receiver};
-ghost use Rattle.receiver.specs.Subscribing.{RepresentsSubscriber};
-ghost use Rattle.agents.specs.Publishing.{HasReached, Publishes, shown};
+ghost use Rattle.agents.specs.Publishing.{IsUpTo, having_published, shown};
 
 use counters::{CounterWriter, Counters, Readings};
-use receiver::{Positions, Subscriber};
+use receiver::Positions;
 use std::sync::Wait;
 
 /// The positions, as they are published.
@@ -21,21 +19,20 @@ fn readings_of(positions: Positions) -> Readings
     }
 }
 
-/// Publishes where the subscriber stands. There is nothing to publish without an image.
+/// Publishes these positions, if there are any.
 pub(crate) fn publish<R: Wait>(
     rt: &R,
     counters: &Counters,
-    subscriber: &Subscriber,
+    told: Option<Positions>,
     writer: &mut CounterWriter,
 )
     requires counters { writer.old.counters ≡ counters.now }
-    requires reached { HasReached subscriber.now writer.old.last }
-    ensures published { (r : Receiver) → RepresentsSubscriber subscriber.now r → Publishes r writer.old writer.new }
+    requires order { IfSome told (λ p. (p.least ≤ p.rebuilt) × (p.rebuilt ≤ p.high_water)) }
+    requires not_back { IsUpTo writer.old.last told }
+    ensures published { writer.new ≡ having_published writer.old told }
     ensures not_back { IsAtMost writer.old.last writer.new.last }
-    ensures reached { HasReached subscriber.now writer.new.last }
-    ensures counters { writer.new.counters ≡ writer.old.counters }
 {
-    if let Some(positions) = subscriber.positions() {
+    if let Some(positions) = told {
         counters.publish(rt, writer, readings_of(positions));
     }
 }

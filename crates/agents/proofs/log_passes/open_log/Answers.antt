@@ -1,4 +1,4 @@
-use Rattle.std.proofs.Common.{rules, ◌≡◌, ℕ, slice_index_or, length, List, [], ◌∷◌, subst, sym, ◌∙◌, arith}
+use Rattle.std.proofs.Common.{rules, ◌≡◌, slice_index_or, length, List, [], ◌∷◌, subst, sym, ◌∙◌, arith}
 use Rattle.shared_log.specs.Handles.{LogValue}
 use Rattle.shared_log.specs.Parts.{AreReaders, IsNewReader}
 use Rattle.shared_log.specs.Readers.{ReaderValue}

@@ -1,4 +1,5 @@
 use Rattle.std.proofs.Common.{◌∙◌, sym}
+use Rattle.agents.proofs.Images.{published_on, up_to}
 use Rattle.agents.proofs.Reaching.{cycle_reached, fault_reached}
 use Rattle.agents.proofs.receiver_agent.ReceiverAgent.cycle.Goals as goal
 
@@ -10,8 +11,11 @@ invariant_of-self g c =
 pub publish-requires-clause-counters : goal.publish-requires-clause-counters
 publish-requires-clause-counters g c = c.self.invariant.named ∙ sym c.requires.counters
 
-pub publish-requires-clause-reached : goal.publish-requires-clause-reached
-publish-requires-clause-reached g c = cycle_reached _ c.args.now _ _ _ _ _ _ c.in_ok-busy.ensures.cycle c.self.invariant.reached
+pub publish-requires-clause-not_back : goal.publish-requires-clause-not_back
+publish-requires-clause-not_back g c = up_to _ _ _ c.positions.ensures.told (cycle_reached _ c.args.now _ _ _ _ _ _ c.in_ok-busy.ensures.cycle c.self.invariant.reached)
+
+pub returns-clause-published : goal.returns-clause-published
+returns-clause-published g c = rw (← c.self.view_is) (c.positions.result, c.positions.ensures.told, c.publish.ensures.published)
 
 pub invariant_of-self-2 : goal.invariant_of-self-2
-invariant_of-self-2 g c = record { named = c.publish.ensures.counters ∙ c.self.invariant.named; reached = c.publish.ensures.reached }
+invariant_of-self-2 g c = published_on _ _ _ _ _ c.positions.ensures.told c.self.invariant.named (cycle_reached _ c.args.now _ _ _ _ _ _ c.in_ok-busy.ensures.cycle c.self.invariant.reached) c.publish.ensures.published

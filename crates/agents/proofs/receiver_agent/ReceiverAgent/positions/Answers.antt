@@ -1,12 +1,5 @@
 use Rattle.agents.proofs.Images.{up_to}
 use Rattle.agents.proofs.receiver_agent.ReceiverAgent.positions.Goals as goal
 
-pub returns : goal.returns
-returns g c =
-    let h = c.self.invariant.reached in
-    rw (← c.self.view_is) (record {
-      shown = (h.receiver, h.represented);
-      told = c.positions.ensures.told;
-      last = up_to h.receiver.image _ _ (c.positions.ensures.told h.receiver h.represented) h.behind;
-      counters = c.self.invariant.named;
-    })
+pub returns-clause-last : goal.returns-clause-last
+returns-clause-last g c = rw (← c.self.view_is) (up_to c.self.inside.core.image _ _ c.positions.ensures.told c.self.invariant.reached)
