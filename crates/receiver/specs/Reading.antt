@@ -9,7 +9,9 @@ use Rattle.assembler.specs.declared.assembler.Message.{Message}
 use Rattle.shared_image.specs.Handles.{ImageWords, ReaderSeat, known_by, position_of}
 use Rattle.shared_image.specs.Reading.{MayAdvance}
 use Rattle.rebuilder.specs.Reading.{read_end}
+use Rattle.rebuilder.specs.Seen.{Inserting}
 use Rattle.receiver.specs.Polling.{AsksMemory, IsTooLong}
+use Rattle.receiver.specs.Representing.{words_of}
 use Rattle.receiver.specs.Subscribing.{heard_of}
 
 pub record Reading : Type 0 where
@@ -28,6 +30,11 @@ heard_to_of false r = position_of r
 -- a frame that was heard, and not passed yet, was read where the reader stands
 abbrev pub WaitsSo : Bool → ReaderSeat → Type 0
 WaitsSo waits r = waits ≡ true → MayAdvance r
+
+-- it is this image
+abbrev pub IsImage : Option Inserting → ImageWords → Type 0
+IsImage None w = ⊥
+IsImage (Some i) w = words_of i ≡ w
 
 -- ---- frames that are read
 

@@ -3,7 +3,7 @@
 ghost use Rattle.std.specs.Prelude.{◌≡◌, ◌⊎◌, ◌≤◌, ◌^◌, ◌∷◌, [], length, option_map, IfErr, IfNone, IfOk, IfSome, None};
 ghost use Rattle.std.specs.Arc.{arc_value};
 ghost use Rattle.shared_image.specs.Handles.{position_of};
-ghost use Rattle.receiver.specs.Dealt.{Learns, MayLearn};
+ghost use Rattle.receiver.specs.Dealt.{Learns};
 
 use crate::assembling::{GREATEST_PAYLOAD, assemble};
 use crate::dealing::only_reader;
@@ -43,7 +43,7 @@ impl Model for MessageReader {
 }
 
 impl MessageReader {
-    ghost use Rattle.receiver.specs.Reading.{Answers, FindsNone, HearsOne, Passes, RefusesOne};
+    ghost use Rattle.receiver.specs.Reading.{Answers, FindsNone, HearsOne, IsImage, Passes, RefusesOne};
 
     /// Who reads an image that has one reader, which are these. Messages are of at most `greatest` bytes. The error comes only
     /// where memory was refused.
@@ -123,7 +123,7 @@ impl MessageReader {
 
     /// Its reader and the image's core meet: the core sees it where it stands, and it knows just the frames that were stored.
     pub fn meet(&mut self, core: &mut ReceiverCore)
-        requires { MayLearn core.old.image self.old.seat }
+        requires { IsImage core.old.image self.old.image }
         ensures learns { Learns core.old.image self.old.seat core.new.image self.new.seat }
         ensures core { core.new ≡ record core.old { image = core.new.image } }
         ensures stays { self.new ≡ record self.old { seat = self.new.seat } }

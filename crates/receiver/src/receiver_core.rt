@@ -183,6 +183,7 @@ impl ReceiverCore {
     pub fn take_readers(&mut self) -> Option<Readers>
         ensures none { IfNone result ((self.new ≡ self.old) × HasNoReaders self.old.image) }
         ensures taken { IfSome result (λ r. ImageTakes self.old.image r self.new.image) }
+        ensures count { IfSome result (λ r. length r.readers.items ≡ self.old.consumers) }
         ensures stays { self.new ≡ record self.old { image = self.new.image } }
     {
         let Some(image) = &mut self.image else {
