@@ -75,7 +75,8 @@ impl<N: Named> ReceiverAgent<N> {
         ensures stays { StaysDuty D.device D.tells duty.old duty.new }
     {
         let busy = duty.cycle(&mut self.core, now)?;
-        publish(rt, counters, self.core.positions(), &mut self.writer);
+        let told = self.core.positions();
+        publish(rt, counters, told, &mut self.writer);
         Ok(busy)
     }
 
