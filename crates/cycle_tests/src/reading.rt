@@ -6,11 +6,11 @@ ghost use Rattle.agent_tests.specs.Senders.{IsFirstLog, IsSender};
 ghost use Rattle.counters.specs.Order.{zeros};
 
 use agent_tests::{
-    Sender, carry, device_with, device_with_status, duty_over, listening, open_log, open_sender,
-    publish, send,
+    Sender, carry, device_with, device_with_status, duty_over, open_log, open_sender, publish, send,
 };
 use agents::{Named, REPLY, ReceiverAgent};
 use counters::{CounterReader, CounterWriter, Counters};
+use receiver::{MessageReader, ReceiverCore};
 use shared_log::{Log, LogReader};
 use std::alloc::Global;
 use std::marker::Brand;
@@ -76,7 +76,21 @@ fn read_after<N: Named, R: Abort + Wait>(
     Ok(())
 }
 
-/// Cycles before there is an image, with the image, and after a poll.
+/// Who reads the messages of the agent's image, which has one reader.
+fn open_reader<N: Named>(
+    alloc: Global,
+    agent: &mut ReceiverAgent<N>,
+) -> Result<MessageReader, Fail> {
+    let Some(taken) = agent.take_readers() else {
+        return Err("no image".into());
+    };
+    if taken.readers.len() != 1 {
+        return Err("not one reader".into());
+    }
+    Ok(MessageReader::new(alloc, taken, 8192)?)
+}
+
+/// Cycles before there is an image, with the image, while the first message is read, and when it was passed.
 fn read_cycles<N: Named + Send + Sync, R: Abort + Wait>(
     rt: &R,
     alloc: Global,
@@ -90,12 +104,18 @@ fn read_cycles<N: Named + Send + Sync, R: Abort + Wait>(
 {
     may_move(agent);
     read_after(rt, alloc, counters, agent, reader, &[], [0, 0, 0])?;
+    assert!(rt; agent.take_readers().is_none());
     read_after(rt, alloc, counters, agent, reader, came, [0, 2816, 2816])?;
-    assert!(rt; matches!(agent.poll(), Ok(Some(_))));
+    let mut messages = open_reader(alloc, agent)?;
+    may_move(&messages);
+    assert!(rt; agent.take_readers().is_none());
+    assert!(rt; matches!(messages.next(), Ok(Some(_))));
+    read_after(rt, alloc, counters, agent, reader, &[], [0, 2816, 2816])?;
+    messages.pass();
     read_after(rt, alloc, counters, agent, reader, &[], [1408, 2816, 2816])
 }
 
-/// An agent may go to another thread.
+/// An agent may go to another thread, and so may who reads its image's messages.
 fn may_move<T: Send>(_value: &T) {}
 
 /// Puts a receiver's agent together, and reads its counters.
@@ -110,7 +130,8 @@ fn read_all<N: Named + Send + Sync, R: Abort + Wait>(
     requires nothing { writer.last ≡ zeros }
 {
     let mut reader = counters.reader(&mut writer);
-    let mut agent = ReceiverAgent::<N>::new(listening(alloc)?, writer);
+    let core = ReceiverCore::new(alloc, 1, 1001, 32_768, 3, 1);
+    let mut agent = ReceiverAgent::<N>::new(core, writer);
     read_cycles(rt, alloc, counters, &mut reader, &mut agent, came)
 }
 
