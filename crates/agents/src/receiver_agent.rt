@@ -1,6 +1,6 @@
 //! What the thread of a receiver's cycles has.
 
-ghost use Rattle.std.specs.Prelude.{◌≡◌, None, IfErr, IfNone, IfOk, IfSome, OnErr, OnOk};
+ghost use Rattle.std.specs.Prelude.{◌≡◌, None, length, IfErr, IfNone, IfOk, IfSome, OnErr, OnOk};
 ghost use Rattle.counters.specs.Order.{IsAtMost, zeros};
 ghost use Rattle.agents.specs.Cycles.{Cycle, Fault};
 ghost use Rattle.agents.specs.Parties.{CoreHears, CoreTicks};
@@ -84,6 +84,7 @@ impl<N: Named> ReceiverAgent<N> {
     pub fn take_readers(&mut self) -> Option<Readers>
         ensures none { IfNone result ((self.new ≡ self.old) × HasNoReaders self.old.core.image) }
         ensures taken { IfSome result (λ r. ImageTakes self.old.core.image r self.new.core.image) }
+        ensures count { IfSome result (λ r. length r.readers.items ≡ self.old.core.consumers) }
         ensures stays { self.new ≡ record self.old { core = record self.old.core { image = self.new.core.image } } }
     {
         self.core.take_readers()

@@ -5,8 +5,10 @@ use Rattle.std.specs.List.{AllByRecursion}
 use Rattle.theory.specs.Placed.{AllAmong, Chain, Placed}
 use Rattle.theory.specs.Assembly.{after_all, nothing_heard}
 use Rattle.theory.specs.Messages.{messages}
+use Rattle.shared_image.specs.Handles.{ImageWords}
 use Rattle.rebuilder.specs.Seen.{Inserting, join_of}
 use Rattle.receiver.specs.Lives.{IsHonest, IsStream, Stream}
+use Rattle.receiver.specs.Reading.{IsImage}
 use Rattle.receiver.specs.Receiving.{Receiver, ticked}
 use Rattle.receiver.specs.Representing.{Core, HearsDatagram, ImageLooks, ImageSeesOn, Represents, core_seen_as}
 use Rattle.receiver.specs.declared.receiver_core.Outcome.{Outcome}
@@ -46,7 +48,11 @@ heard_in (Hears now bytes ∷ acts) = bytes ∷ heard_in acts
 heard_in (Ticks now ∷ acts) = heard_in acts
 heard_in (Deals ∷ acts) = heard_in acts
 
--- ---- the law
+-- ---- laws
+
+-- it keeps the image that it has
+abbrev pub KeepsImage : Type 0
+KeepsImage = (v w : Core) (acts : List CoreAct) → CoreLives v acts w → (words : ImageWords) → IsImage v.image words → IsImage w.image words
 
 -- what an assembler gives of frames
 abbrev pub messages_of : List Placed → List (List ℕ)

@@ -1,6 +1,6 @@
 //! What is polled and read of a stream.
 
-ghost use Rattle.receiver.specs.CoreLives.{ReadsARun};
+ghost use Rattle.receiver.specs.CoreLives.{KeepsImage, ReadsARun};
 ghost use Rattle.receiver.specs.Lives.{PollsARun};
 ghost use Rattle.receiver.specs.Reading.{HearsFurther, PassesRead, ReadsFurther};
 
@@ -16,9 +16,11 @@ pub fn polls_a_run()
     names_place();
 }
 
-/// A law: what is read of the image of an honest life is a run of its stream, from the join on.
+/// Laws: a life keeps the image that it has, and what is read of the image of an honest life is a run of its stream, from the join
+/// on.
 pub fn reads_a_run()
-    ensures { ReadsARun }
+    ensures image { KeepsImage }
+    ensures run { ReadsARun }
 {
     // Laws that the proof cites.
     messages_between();

@@ -5,3 +5,4 @@ pub mod Orders
 pub mod Publishing
 pub mod OfARun
 pub mod Seeds
+pub mod Polling

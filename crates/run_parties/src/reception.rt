@@ -1,27 +1,24 @@
-//! A receiver of a run with its device, its subscriber and the tally of what that polled.
+//! A receiver of a run with its device, as its thread has it.
 
-ghost use Rattle.std.specs.Prelude.{◌≡◌, ◌≤◌, ◌<◌, ◌+◌, ◌^◌, None, Some, IfErr, IfOk};
+ghost use Rattle.std.specs.Prelude.{◌≡◌, None, Some, IfErr, IfNone, IfOk, IfSome, OnOk};
+ghost use Rattle.std.specs.Arc.{arc_value};
 ghost use Rattle.counters.specs.Order.{zeros};
-ghost use Rattle.receiver.specs.Subscribing.{RepresentsSubscriber};
-ghost use Rattle.run_parties.specs.Receptions.{EndsLife};
-ghost use Rattle.run_parties.specs.Tallies.{IsTally};
+ghost use Rattle.receiver.specs.Representing.{Represents};
+ghost use Rattle.run_parties.specs.Receptions.{EndsLife, IsBegun};
 
+use crate::poller::Poller;
 use crate::tally::Tally;
 use agents::{Duty, Named, ReceiverAgent};
-use assembler::AssemblyError;
 use counters::{CounterWriter, Counters};
 use endpoint::{Datagrams, DeviceError};
-use receiver::{PollError, Subscriber};
+use receiver::{MessageReader, ReceiverCore, reads_a_run};
+use shared_image::Image;
+use std::alloc::Global;
 use std::marker::{Brand, Model};
-use std::sync::Wait;
+use std::sync::{Arc, Wait};
 
-/// How many messages are polled under one lock, at the most.
-const MESSAGES: u64 = 16;
-
-/// What a receiver of a run begins with, and how many messages its subscriber wants, for the proofs alone. Each caller picks
-/// it, by `Brand`.
+/// What a receiver of a run begins with, for the proofs alone. Each caller picks it, by `Brand`.
 pub trait Begins {
-    ghost use Rattle.std.specs.Prelude.{ℕ};
     ghost use Rattle.endpoint.specs.Devices.{Device};
     ghost use Rattle.receiver.specs.Receiving.{Receiver};
 
@@ -33,8 +30,6 @@ pub trait Begins {
 
     /// Whether its device tells that.
     ghost tells: { Type 0 };
-
-    ghost wanted: { ℕ };
 }
 
 impl Begins for Brand {
@@ -47,51 +42,54 @@ impl Begins for Brand {
     ghost device = { fresh };
 
     ghost tells = { ⊥ };
-
-    ghost wanted = { 0 };
 }
 
-/// A receiver with its subscriber, its device, the tally of what was polled, and the fault that came last.
+/// A receiver with its counters' writer, its device, the image whose reader was given away, and the fault that came last.
 #[derive(Drop)]
 pub struct Reception<N: Named + Begins, D: Datagrams> {
     agent: ReceiverAgent<N>,
     duty: Duty<D>,
-    tally: Tally,
+    image: Option<Arc<Image, Global>>,
     fault: Option<DeviceError>,
 }
 
 impl<N: Named + Begins, D: Datagrams> Model for Reception<N, D> {
+    ghost use Rattle.std.specs.Option.{option_map};
+    ghost use Rattle.std.specs.Arc.{arc_value};
     ghost use Rattle.run_parties.specs.Receptions.{IsReception, ReceptionState};
 
     ghost Value = { ReceptionState D };
 
-    ghost view = { λ r. record { agent = r.agent; duty = r.duty; tally = r.tally; fault = r.fault } };
+    ghost view = { λ r. record { core = r.agent.core; duty = r.duty; image = option_map arc_value r.image; fault = r.fault } };
 
-    ghost invariant = { λ r. IsReception D.device D.tells N.receiver N.device N.tells N.wanted (record { agent = r.agent; duty = r.duty; tally = r.tally; fault = r.fault }) };
+    ghost invariant = { λ r. IsReception D.device D.tells N.receiver N.device N.tells (record { core = r.agent.core; duty = r.duty; image = option_map arc_value r.image; fault = r.fault }) };
 }
 
-/// What is left of a receiver whose threads have ended: the tally of what its subscriber polled, and its device.
+/// What is left of a receiver whose threads have ended: the tally of what its subscriber polled, how many messages were refused
+/// as too long, and its device.
 #[derive(Drop)]
 pub struct Received<D> {
     pub tally: Tally,
+    pub refused: u64,
     pub device: D,
 }
 
 impl<N: Named + Begins, D: Datagrams> Reception<N, D> {
     /// A receiver that has met nothing, over a device.
-    pub fn new(subscriber: Subscriber, writer: CounterWriter, duty: Duty<D>) -> Reception<N, D>
-        requires receiver { RepresentsSubscriber subscriber N.receiver }
-        requires image { N.receiver.image ≡ None }
+    pub fn new(core: ReceiverCore, writer: CounterWriter, duty: Duty<D>) -> Reception<N, D>
+        requires receiver { Represents core N.receiver }
+        requires image { (N.receiver.image ≡ None) × (N.receiver.consumers ≡ 1) }
         requires nothing { writer.last ≡ zeros }
         requires counters { writer.counters ≡ N.counters }
         requires size { duty.mtu ≡ 40 }
-        requires device { D.device duty.device ≡ N.device }
-        requires tells { N.tells → D.tells duty.device }
+        requires device { (D.device duty.device ≡ N.device) × (N.tells → D.tells duty.device) }
+        ensures image { result.image ≡ None }
+        ensures fault { result.fault ≡ None }
     {
         Reception {
-            agent: ReceiverAgent::new(subscriber, writer),
+            agent: ReceiverAgent::new(core, writer),
             duty,
-            tally: Tally::new(),
+            image: None,
             fault: None,
         }
     }
@@ -105,7 +103,11 @@ impl<N: Named + Begins, D: Datagrams> Reception<N, D> {
     ) -> Result<bool, DeviceError>
         requires { counters.now ≡ N.counters }
         ensures kept { IfErr result (λ fault. self.new.fault ≡ Some fault) }
+        ensures still { OnOk result (self.new.fault ≡ self.old.fault) }
+        ensures image { self.new.image ≡ self.old.image }
     {
+        // A law that the proof cites.
+        reads_a_run();
         match self.agent.cycle(rt, counters, &mut self.duty, now) {
             Ok(busy) => Ok(busy),
             Err(fault) => {
@@ -115,69 +117,48 @@ impl<N: Named + Begins, D: Datagrams> Reception<N, D> {
         }
     }
 
-    /// Polls once, and tallies the message that this gives. The answer is whether there was a message; one that is refused as
-    /// too long is one here, and not in the tally. A fault is kept.
-    fn poll(&mut self) -> Result<bool, DeviceError>
-        requires wanted { self.old.tally.polled < N.wanted }
-        requires room { N.wanted < 2 ^ 63 }
-        ensures most { self.new.tally.polled ≤ self.old.tally.polled + 1 }
-        ensures kept { IfErr result (λ fault. self.new.fault ≡ Some fault) }
+    /// Who reads its image, once after a SETUP has opened that: messages of at most so many bytes. The fault is `Memory`, where
+    /// memory was refused.
+    pub fn take_reader(
+        &mut self,
+        alloc: Global,
+        greatest: usize,
+    ) -> Result<Option<MessageReader>, DeviceError>
+        requires { self.old.fault ≡ None }
+        ensures some { IfOk result (λ o. IfSome o (λ m. IsBegun m × (self.new.image ≡ Some m.image))) }
+        ensures none { IfOk result (λ o. IfNone o (self.new.image ≡ self.old.image)) }
+        ensures still { self.new.fault ≡ self.old.fault }
     {
-        match self.agent.poll() {
-            Ok(Some(message)) => {
-                self.tally.take(&message.bytes);
-                Ok(true)
-            }
-            Ok(None) => Ok(false),
-            Err(PollError::NoImage) => Ok(false),
-            Err(PollError::Unassembled(AssemblyError::TooLong)) => Ok(true),
-            Err(PollError::Unassembled(AssemblyError::Memory)) => {
-                self.fault = Some(DeviceError::Memory);
-                Err(DeviceError::Memory)
-            }
-        }
+        let Some(taken) = self.agent.take_readers() else {
+            return Ok(None);
+        };
+        let image = Arc::try_clone(&taken.image)?;
+        self.image = Some(image);
+        Ok(Some(MessageReader::new(alloc, taken, greatest)?))
     }
 
-    /// Polls until there is no message, 16 were there, or as many are tallied as are wanted. The answer is whether there was
-    /// one. A fault is kept.
-    pub fn poll_some(&mut self, wanted: u64) -> Result<bool, DeviceError>
-        requires wanted { wanted ≡ N.wanted }
-        requires room { wanted < 2 ^ 63 }
-        ensures kept { IfErr result (λ fault. self.new.fault ≡ Some fault) }
-    {
-        let most = (wanted - self.tally.polled()).min(MESSAGES);
-        for count in 0..most {
-            if !self.poll()? {
-                return Ok(count > 0);
-            }
-        }
-        Ok(true)
-    }
-
-    /// The tally of what was polled so far.
-    pub fn tally(&self) -> Tally
-        ensures tally { result ≡ self.now.tally }
-        ensures most { result.polled ≤ N.wanted }
-        ensures some { IsTally result }
-    {
-        self.tally.again()
-    }
-
-    /// What is left at the end; or the fault that came last.
-    pub fn end(self) -> Result<Received<D>, DeviceError>
+    /// What is left at the end, where its subscriber has left this; or the fault that came last.
+    pub fn end(self, poller: Option<Poller>) -> Result<Received<D>, DeviceError>
     where
         D: Drop,
-        ensures lived { IfOk result (λ r. EndsLife N.receiver N.tells N.device (D.device r.device) r.tally) }
-        ensures most { IfOk result (λ r. r.tally.polled ≤ N.wanted) }
-        ensures tally { IfOk result (λ r. r.tally ≡ self.tally) }
+        requires { IfSome poller (λ p. self.image ≡ Some p.reader.image) }
+        ensures lived { IfOk result (λ r. EndsLife N.receiver N.tells N.device (D.device r.device) r.tally r.refused) }
+        ensures polled { IfOk result (λ r. IfSome poller (λ p. r.tally.polled ≡ p.tally.polled)) }
+        ensures none { IfOk result (λ r. IfNone poller (r.tally.polled ≡ 0)) }
         ensures fault { IfErr result (λ fault. self.fault ≡ Some fault) }
     {
-        match self.fault {
-            None => Ok(Received {
-                tally: self.tally,
-                device: self.duty.into_device(),
-            }),
-            Some(fault) => Err(fault),
+        if let Some(fault) = self.fault {
+            return Err(fault);
         }
+        let mut core = self.agent.into_core();
+        let (tally, refused) = match poller {
+            None => (Tally::new(), 0),
+            Some(poller) => poller.end(&mut core),
+        };
+        Ok(Received {
+            tally,
+            refused,
+            device: self.duty.into_device(),
+        })
     }
 }

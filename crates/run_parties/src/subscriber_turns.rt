@@ -1,86 +1,63 @@
 //! A subscriber's turns.
 
 ghost use Rattle.std.specs.Prelude.{◌≡◌, ◌≤◌, ◌<◌, ◌^◌, ◌↔◌, IfOk, IsOkAnd, IsTrue};
-ghost use Rattle.run_parties.specs.Tallies.{IsTally};
+ghost use Rattle.run_parties.specs.Receptions.{HasPolledOn};
 
 use crate::context::Context;
-use crate::reception::Begins;
-use crate::shared_receiver::SharedReceiver;
-use crate::tally::Tally;
-use agents::{IdleStrategy, Named};
-use endpoint::{Datagrams, DeviceError};
+use crate::poller::Poller;
+use agents::IdleStrategy;
+use endpoint::DeviceError;
 use std::sync::Wait;
 use std::time::Clock;
 
-/// Polls under one lock. The answer is whether there was a message, and the tally of all that was polled so far.
-fn poll_once<N: Named + Begins, D: Datagrams, R: Wait>(
-    rt: &R,
-    receiver: &SharedReceiver<N, D>,
-    wanted: u64,
-) -> Result<(bool, Tally), DeviceError>
-    requires wanted { wanted ≡ N.wanted }
-    requires room { wanted < 2 ^ 63 }
-    ensures most { IfOk result (λ r. r.1.polled ≤ wanted) }
-    ensures tally { IfOk result (λ r. IsTally r.1) }
-{
-    let mut guard = receiver.reception.lock(rt);
-    let reception = &mut *guard;
-    let busy = reception.poll_some(wanted)?;
-    Ok((busy, reception.tally()))
-}
-
 /// Polls until so many were there, all is to stop, or its turns are used.
-fn subscribe_on<N: Named + Begins, D: Datagrams, R: Wait + Clock, G>(
+fn subscribe_on<R: Wait + Clock, G>(
     context: &Context<'_, R, G>,
-    receiver: &SharedReceiver<N, D>,
+    mut poller: Poller,
     wanted: u64,
-) -> Result<Tally, DeviceError>
-    requires wanted { wanted ≡ N.wanted }
+) -> Result<Poller, DeviceError>
+    requires few { poller.tally.polled ≤ wanted }
     requires room { wanted < 2 ^ 63 }
-    ensures most { IfOk result (λ tally. tally.polled ≤ wanted) }
-    ensures tally { IfOk result IsTally }
+    ensures { IfOk result (HasPolledOn wanted poller) }
 {
-    let mut tally = Tally::new();
     let mut idle = IdleStrategy::new();
     for _ in 0..context.turns {
-        if tally.polled() >= wanted || context.state.is_stopped() {
+        if poller.polled() >= wanted || context.state.is_stopped() {
             break;
         }
-        let before = tally.polled();
-        let (busy, now) = poll_once(context.rt, receiver, wanted)?;
-        tally = now;
+        let before = poller.polled();
+        let busy = poller.poll_some(wanted)?;
         context
             .state
-            .tell_polled(tally.polled().saturating_sub(before));
+            .tell_polled(poller.polled().saturating_sub(before));
         idle.after(context.rt, busy);
     }
-    Ok(tally)
+    Ok(poller)
 }
 
 /// Whether a subscriber that ended so has polled as many as were wanted.
-fn is_complete(ended: &Result<Tally, DeviceError>, wanted: u64) -> bool
-    ensures { IsTrue result ↔ IsOkAnd ended.now (λ tally. wanted ≤ tally.polled) }
+fn is_complete(ended: &Result<Poller, DeviceError>, wanted: u64) -> bool
+    ensures { IsTrue result ↔ IsOkAnd ended.now (λ p. wanted ≤ p.tally.polled) }
 {
     match ended {
-        Ok(tally) => tally.polled() >= wanted,
+        Ok(poller) => poller.polled() >= wanted,
         Err(_) => false,
     }
 }
 
 /// Polls, at most 16 messages in a turn, until so many were there, all is to stop or its turns are used. Where so many weren't
-/// there it then stops all, and else only as the last subscriber to end. The answer is the tally of what was polled. The
-/// fault is `Memory`, where memory was refused; it stops all, too.
-pub fn subscribe<N: Named + Begins, D: Datagrams, R: Wait + Clock, G>(
+/// there it then stops all, and else only as the last subscriber to end. The answer is who polled. The fault is `Memory`, where
+/// memory was refused; it stops all, too.
+pub fn subscribe<R: Wait + Clock, G>(
     context: &Context<'_, R, G>,
-    receiver: &SharedReceiver<N, D>,
+    poller: Poller,
     wanted: u64,
-) -> Result<Tally, DeviceError>
-    requires wanted { wanted ≡ N.wanted }
+) -> Result<Poller, DeviceError>
+    requires few { poller.tally.polled ≤ wanted }
     requires room { wanted < 2 ^ 63 }
-    ensures most { IfOk result (λ tally. tally.polled ≤ wanted) }
-    ensures tally { IfOk result IsTally }
+    ensures { IfOk result (HasPolledOn wanted poller) }
 {
-    let ended = subscribe_on(context, receiver, wanted);
+    let ended = subscribe_on(context, poller, wanted);
     context.state.leave(is_complete(&ended, wanted));
     ended
 }

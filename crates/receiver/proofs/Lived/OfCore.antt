@@ -10,11 +10,14 @@ use Rattle.theory.specs.Placed.{AllAmong, Among}
 use Rattle.theory.proofs.Lists.{all_at, all_weaker}
 use Rattle.model.specs.StreamLaws.{GivesMessages}
 use Rattle.rebuilder.specs.Seen.{Inserting, join_of}
-use Rattle.receiver.specs.CoreLives.{CoreAct, CoreActsSo, CoreLives, Deals, HasDealt, Hears, ReadsARun, Ticks, heard_in}
+use Rattle.receiver.specs.CoreLives.{CoreAct, CoreActsSo, CoreLives, Deals, HasDealt, Hears, KeepsImage, ReadsARun, Ticks, heard_in}
 use Rattle.receiver.specs.Lives.{IsHonest, IsHonestFrame, IsStream, Stream}
+use Rattle.shared_image.specs.Handles.{ImageWords}
+use Rattle.receiver.specs.Reading.{IsImage}
 use Rattle.receiver.specs.Receiving.{Opened, Receiver, at_moment, ticked}
-use Rattle.receiver.specs.Representing.{Core, HearsDatagram, ImageSeesOn, MeetsEach, Represents, RepresentsImage, RepresentsOpened, core_seen_as, image_seen_as, with_image}
+use Rattle.receiver.specs.Representing.{Core, HearsDatagram, ImageSeesOn, MeetsEach, Represents, RepresentsImage, RepresentsOpened, core_seen_as, image_seen_as, with_image, words_of}
 use Rattle.receiver.specs.declared.receiver_core.Outcome.{Outcome}
+use Rattle.receiver.proofs.Alone.{hears_sees}
 use Rattle.receiver.proofs.Lived.Following.{Follows, FollowsImage, follows_as}
 use Rattle.receiver.proofs.Lived.Meeting.{Places, meets, refuses}
 
@@ -166,3 +169,21 @@ reads_a_run laws law x is v w acts session stream none lives honest i image fram
     let stored : AllAmong F i.stored = all_committed x i w.image end.opened image end.shown end.followed in
     law x.identity.geometry.term_length x.start x.tail (join_of i) at x.entries frames is.tiles is.entries chain
     (all_weaker (λ s. Among s i.stored) (λ s. Among s F) (λ s a. all_at (λ t. Among t F) s i.stored stored a) frames among)
+
+-- ---- the image stays the same
+
+sees_image : (x y : Option Inserting) (w : ImageWords) → ImageSeesOn x y → IsImage x w → IsImage y w
+sees_image None y w sees h = absurd h
+sees_image (Some i) None w sees h = absurd sees
+sees_image (Some i) (Some j) w sees h = (λ k. record { of = sees.of k; key = sees.key k }) ∙ h
+
+deals_image : (x y : Option Inserting) (w : ImageWords) → HasDealt x y → IsImage x w → IsImage y w
+deals_image None y w dealt h = absurd h
+deals_image (Some i) None w dealt h = absurd dealt
+deals_image (Some i) (Some j) w dealt h = ap words_of dealt ∙ h
+
+pub keeps_image : KeepsImage
+keeps_image v w [] lives words h = subst (λ (x : Core). IsImage x.image words) (sym lives) h
+keeps_image v w (Hears now bytes ∷ acts) lives words h = keeps_image lives.0 w acts lives.2 words (sees_image v.image lives.0.image words (hears_sees v lives.0 now bytes lives.1.0 lives.1.1) h)
+keeps_image v w (Ticks now ∷ acts) lives words h = keeps_image lives.0 w acts lives.2 words (sees_image v.image lives.0.image words lives.1.sees h)
+keeps_image v w (Deals ∷ acts) lives words h = keeps_image lives.0 w acts lives.2 words (deals_image v.image lives.0.image words lives.1.1 h)

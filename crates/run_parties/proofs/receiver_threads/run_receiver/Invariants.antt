@@ -10,5 +10,4 @@ ghosts-run_named-N-Begins g a = record {
   receiver = new_receiver a.context.now.state.now.log.identity.geometry a.waiting.id;
   device = g.D.Datagrams.device a.waiting.device;
   tells = g.D.Datagrams.tells a.waiting.device;
-  wanted = a.wanted;
 }

@@ -1,17 +1,18 @@
-use Rattle.std.proofs.Common.{◌∙◌}
-use Rattle.run_parties.proofs.Living.{lived_cycle, none_still}
+use Rattle.std.proofs.Common.{◌∙◌, refl}
+use Rattle.std.specs.Arc.{arc_value}
+use Rattle.std.specs.Option.{option_map}
+use Rattle.run_parties.specs.Receptions.{ReceptionState}
+use Rattle.run_parties.proofs.Living.{none_still, received_cycle}
 use Rattle.run_parties.proofs.reception.Reception.cycle.Goals as goal
 
 pub invariant_of-self : goal.invariant_of-self
 invariant_of-self g c =
-    let i = c.self.invariant in let stays = c.in-Ok.ensures.stays in
-    let device = g.D.Datagrams.device in
+    let i = c.self.invariant in let stays = c.in-Ok.ensures.stays in let m = c.self.inside in
+    let r : ReceptionState g.row.D.Denot = record { core = m.agent.core; duty = m.duty; image = option_map arc_value m.image; fault = m.fault } in
     record {
       size = stays.mtu ∙ i.size;
-      few = i.few;
-      tally = i.tally;
       still_tells = λ x. stays.still_tells (i.still_tells x);
-      lived = none_still c.self.inside.fault _ _
-          (lived_cycle g.N.Begins.receiver g.N.Begins.tells (g.D.Datagrams.tells c.self.inside.duty.device) g.N.Begins.device (device c.self.inside.duty.device) (device c.cycle.new.duty.device) c.self.inside.agent.subscriber c.cycle.new.self.subscriber c.self.inside.tally c.args.now c.in-Ok.busy i.still_tells c.in-Ok.ensures.cycle)
-          i.lived;
+      received = none_still m.fault _ _
+          (received_cycle c.reads_a_run.ensures.image g.D.Datagrams.device g.N.Begins.receiver g.N.Begins.device g.N.Begins.tells (g.D.Datagrams.tells m.duty.device) r (record r { core = c.cycle.new.self.core; duty = c.cycle.new.duty }) c.args.now c.in-Ok.busy i.still_tells refl c.in-Ok.ensures.cycle)
+          i.received;
     }

@@ -1,0 +1,5 @@
+use Rattle.std.proofs.Common.{◌≡◌, ◌≤◌, ◌+◌}
+use Rattle.run_parties.proofs.poller.Poller.poll_some.Given as goal
+
+abbrev pub invariant-loop-count : goal.invariant-loop-count
+invariant-loop-count l = (l.self.tally.polled ≤ l.initial.self.tally.polled + l.count) × (l.self.reader.image ≡ l.initial.self.reader.image)
