@@ -57,7 +57,7 @@ module _ {D : Type 0} (device : D → Device) (tells : D → Type 0) (g : Geomet
   told_polled n [] [] all = tt
   told_polled n [] (r ∷ rs) all = absurd all
   told_polled n (d ∷ ds) [] all = absurd all
-  told_polled n (d ∷ ds) (r ∷ rs) all = (record { most = all.0.most; counts = r.tally.counts; tally = life_tallies _ _ _ _ r.tally all.0.lived }, told_polled (suc n) ds rs all.1)
+  told_polled n (d ∷ ds) (r ∷ rs) all = (record { most = all.0.most; counts = r.tally.counts; tally = life_tallies all.0.lived.core.image r.tally r.refused all.0.lived.polled }, told_polled (suc n) ds rs all.1)
 
   no_parties : (e : DeviceError) → IsOk {T = Parties D} {E = DeviceError} (Err e) → ⊥
   no_parties e h = absurd cc

@@ -106,7 +106,7 @@ abbrev pub told_of : {D : Type 0} → Received D → Polled
 told_of r = polled_of r.tally
 
 -- each receiver of a run of this plan has lived over its device, from these on up to those; and what is told of it is the tally of
--- the messages that its polls gave
+-- the messages of frames that its subscriber read
 pub record ReceiversLive {D : Type 0} (device : D → Device) (tells : D → Type 0) (plan : Plan) (before after : List D) (told : List Polled) : Type 0 where
   pub received : List (Received D)
   pub devices : after ≡ map device_in received

@@ -116,7 +116,8 @@ pub record ArePasses {D : Type 0} (l : LogValue) (queue : TableId) (size : Size)
   pub receivers_many : length p.receivers.items ≡ size.receivers
   pub receivers : AreWaitingFrom l.identity.geometry size.receivers 0 p.receivers.items
 
--- what the publishers have published is counted; and each receiver has lived over its device, and tallied what its polls gave
+-- what the publishers have published is counted; and each receiver has lived over its device, and its subscriber has tallied what it
+-- read
 pub record AreReturned {D : Type 0} (device : D → Device) (tells : D → Type 0) (l : LogValue) (size : Size) (p : Passes D) (r : Returned D) : Type 0 where
   pub parties : HaveEnded device tells l size p.publishers.items (map device_of p.receivers.items) r.parties
   pub keeper : IsKept l r.keeper

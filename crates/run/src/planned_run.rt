@@ -78,7 +78,8 @@ fn receiver_of<D: Drop>(
 {
     let id = receiver_id(plan.receivers, number);
     let ReceiverParts {
-        subscriber,
+        core,
+        greatest,
         counters,
         writer,
         reader,
@@ -90,7 +91,8 @@ fn receiver_of<D: Drop>(
     let waiting = Waiting {
         number,
         id,
-        subscriber,
+        core,
+        greatest,
         counters,
         writer,
         device,
@@ -293,9 +295,10 @@ fn left<D: Drop>(
 /// Runs the driver as planned over these devices, one for each receiver: the sender's ways, and the receivers'. It ends as
 /// `run` says, and gives the receivers' devices back.
 ///
-/// Each receiver has met nothing when it begins. Its cycles over its device and its subscriber's polls are one life, in the order in
-/// which they took its lock: the datagrams that it heard are those that its device has handed over, where that tells them, and what
-/// is told of its tally is the tally of the messages that the polls gave. A message that is refused as too long isn't one of them.
+/// Each receiver has met nothing when it begins. Its cycles over its device are its life: the datagrams that it heard are those that
+/// its device has handed over, where that tells them. Its subscriber has read frames that its image stored, one after the other from
+/// the join on, in another thread and with no lock between; and what is told of its tally is the tally of the messages that these
+/// frames give, where none was refused as too long.
 /// What each publisher has claimed, all of it committed, is its messages 0, 1, 2 and so on, as many as are told were accepted,
 /// each whole, and paddings.
 pub fn run_over<

@@ -11,7 +11,7 @@ use Rattle.rebuilder.specs.Seen.{Inserting, join_of}
 use Rattle.receiver.specs.Dealt.{ImageTakes}
 use Rattle.receiver.specs.Reading.{IsImage}
 use Rattle.receiver.specs.declared.readers.Readers.{Readers}
-use Rattle.run_parties.specs.Tallies.{Counted, IsTallyOf}
+use Rattle.run_parties.specs.Tallies.{Counted, IsTally, IsTallyOf}
 use Rattle.shared_image.specs.Handles.{ImageWords}
 use Rattle.receiver.specs.CoreLives.{CoreAct, CoreActsSo, CoreLives, Deals, HasDealt, Hears, KeepsImage, Ticks, heard_in}
 use Rattle.receiver.specs.Receiving.{Receiver}
@@ -177,3 +177,8 @@ ends_polled device begin before told r w t refused none received stays dealt pol
 -- the image of who polls is the one that was given away
 pub may_meet : {D : Type 0} (device : D → Device) (begin : Receiver) (before : Device) (told : Type 0) (r : ReceptionState D) (x : ImageWords) → ((e : DeviceError) → r.fault ≡ Some e → ⊥) → IfNone r.fault (HasReceivedOn device begin before told r) → r.image ≡ Some x → IsImage r.core.image x
 may_meet device begin before told r x none received image = subst (HasDealtOf r.core.image) image (when_none r.fault (HasReceivedOn device begin before told r) none received).dealt
+
+-- the tally is one of some messages
+pub life_tallies : (v : Option Inserting) (t : Counted) (refused : ℕ) → PolledOf v t refused → IsTally t
+life_tallies None t refused h = record { messages = []; tally = h }
+life_tallies (Some i) t refused h = record { messages = h.messages; tally = h.tally }

@@ -10,11 +10,13 @@
 //! (`message_of`). What a publisher has claimed more is its messages 0, 1, 2 and so on, as many as it tells were accepted,
 //! each committed whole, and paddings (`publish`, by `HasPublished`).
 //!
-//! A receiver's cycles over its device and its subscriber's polls are one life, in the order in which they took its lock: it
-//! began as a receiver that has met nothing, the datagrams that it heard are those that its device has handed over, where that
-//! tells them, and the tally is that of the messages that the polls gave (`run_receiver`, by `HasReceived` and `HasLived`; it is
-//! kept under the lock, and known of what is there once both threads have ended, `SharedReceiver::open`). A message that is refused as too long isn't one of them, and the polls go on behind it (`Deed`). Where none was, and each
-//! datagram is honest for a stream of the run's ids, those messages are a run of the stream's, from the join on
+//! A receiver's thread has the receiver's core and its device, and no lock: it began as a receiver that has met nothing, and the
+//! datagrams that it heard are those that its device has handed over, where that tells them. Once a SETUP has opened the image it
+//! starts the thread of its subscriber, whose reader finds the frames that were stored so far with no lock either (`receive`,
+//! `subscribe`, `Poller`). The tally is that of the messages of the frames that were read one after the other, from the join on;
+//! once both threads have ended, reader and core meet, and those are frames that the image has stored (`run_receiver`, by
+//! `HasReceived` and `EndsLife`). A message that is refused as too long isn't one of them, and the polls go on behind it. Where none
+//! was, and each datagram is honest for a stream of the run's ids, those messages are a run of the stream's, from the join on
 //! (`gives_a_run`). A tally of messages tells how many they are, and whether each publisher's are its 0, 1, 2 and so on
 //! (`Tally::take`, `polled`, `is_in_order`; `IsTallyOf`, `AreInOrder`); the subscriber's counts no more than was
 //! wanted. A subscriber that has polled all lets the others go on, unless it is the last one (`ends_all`). What the
