@@ -1,10 +1,10 @@
 -- A run's subscriber that has tallied as many messages as its stream has.
-use Rattle.std.proofs.Common.{◌≡◌, ◌∙◌, ℕ, ◌≤◌, List, [], ◌∷◌, ◌++◌, Option, None, Some, length, length-append, append-nil, refl, sym, ap, subst, arith}
+use Rattle.std.proofs.Common.{◌≡◌, ◌∙◌, ℕ, ◌≤◌, List, [], ◌∷◌, ◌++◌, Option, None, Some, length, length-append, append-nil, refl, sym, subst, arith}
 use Rattle.theory.specs.Messages.{messages}
-use Rattle.receiver.specs.Lives.{IsRunOf, IsStream, Stream}
-use Rattle.receiver.specs.Receiving.{Opened}
-use Rattle.run_parties.specs.Receptions.{given_by}
-use Rattle.run_parties.specs.Runs.{GivesARun}
+use Rattle.rebuilder.specs.Seen.{Inserting, join_of}
+use Rattle.receiver.specs.Lives.{IsStream, Stream}
+use Rattle.run_parties.specs.Runs.{GivesARun, TalliesARun}
+use Rattle.run_parties.specs.Tallies.{Counted, IsTallyOf}
 use Rattle.channel_meaning.specs.Tallies.{TalliesAll}
 use Rattle.channel_meaning.proofs.Runs.{run_in}
 
@@ -17,15 +17,13 @@ no_message : (ms : List (List ℕ)) → length ms ≤ 0 → [] ≡ ms
 no_message [] few = refl
 no_message (m ∷ ms) few = absurd (omega arith)
 
-all_of : (x : Stream) → IsStream x → (image : Option Opened) (given : List (List ℕ)) → IsRunOf x image given → length (messages x.start x.tail x.entries) ≤ length given → given ≡ messages x.start x.tail x.entries
-all_of x is None given run few = run ∙ no_message (messages x.start x.tail x.entries) (subst (λ ms. length (messages x.start x.tail x.entries) ≤ length ms) run few)
-all_of x is (Some o) given run few =
-    let c = run.0 in
-    let in_all = run_in x.identity.geometry.term_length x.start x.tail x.start c.join c.at x.entries is.tiles is.entries (omega arith) in
-    let parts : messages x.start x.tail x.entries ≡ in_all.before ++ (given ++ in_all.behind) = in_all.parts ∙ ap (λ ms. in_all.before ++ (ms ++ in_all.behind)) (sym run.3) in
-    sym (parts ∙ no_more in_all.before given in_all.behind (subst (λ ms. length ms ≤ length given) parts few))
+all_of : (x : Stream) → IsStream x → (image : Option Inserting) (t : Counted) → TalliesARun x image t → length (messages x.start x.tail x.entries) ≤ t.polled → IsTallyOf (messages x.start x.tail x.entries) t
+all_of x is None t run few = subst (λ ms. IsTallyOf ms t) (no_message (messages x.start x.tail x.entries) (let m = run.many in omega arith)) run
+all_of x is (Some i) t run few =
+    let j = join_of i in let given = messages j run.0 x.entries in
+    let in_all = run_in x.identity.geometry.term_length x.start x.tail x.start j run.0 x.entries is.tiles is.entries (omega arith) in
+    let parts : messages x.start x.tail x.entries ≡ in_all.before ++ (given ++ in_all.behind) = in_all.parts in
+    subst (λ ms. IsTallyOf ms t) (sym (parts ∙ no_more in_all.before given in_all.behind (subst (λ ms. length ms ≤ length given) parts (let m = run.1.many in omega arith)))) run.1
 
 pub tallies_all : GivesARun → TalliesAll
-tallies_all law x is session stream g id first s deeds new does none honest t tally few =
-    let run = law x is session stream g id first s deeds new does none honest in
-    all_of x is run.0.image (given_by deeds) run.2 (let m = tally.many in omega arith)
+tallies_all law x is session stream g id first core acts new lives honest t polled few = all_of x is core.image t (law x is session stream g id first core acts new lives honest t polled) few

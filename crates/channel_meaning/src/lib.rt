@@ -6,8 +6,8 @@
 //! and each any number of times, what `subscribe` writes is what these images gave, each a run of what was read, and its
 //! beginning where the image joined at the start (`writes_what_is_read`).
 //!
-//! In a driver's run a subscriber that was handed datagrams alone that are honest for a stream, refused no message, and has
-//! tallied as many as the stream has, has tallied all of its messages, in their order (`tallies_all`).
+//! In a driver's run a subscriber whose receiver was handed datagrams alone that are honest for a stream, that refused no message,
+//! and has tallied as many as the stream has, has tallied all of its messages, in their order (`tallies_all`).
 //!
 //! That the claims tile a stream is a premise, and that the sender's reader knows no frames but its own: both are what the log's
 //! rule says of a log with one publisher, and no contract of a pass alone. That a device carries what it was given is another.
@@ -33,8 +33,8 @@ pub fn writes_what_is_read()
     polls_what_is_sent();
 }
 
-/// A law: a run's subscriber that was handed honest datagrams alone, and has tallied as many messages as the stream has, has tallied
-/// all of them, in their order.
+/// A law: where a run's receiver was handed honest datagrams alone, its subscriber, if it has tallied as many messages as the stream
+/// has, has tallied all of them, in their order.
 pub fn tallies_all()
     ensures { TalliesAll }
 {
