@@ -1,6 +1,6 @@
 -- Which frame a datagram is, and a status message with another receiver.
-use Rattle.std.proofs.Common.{◌≡◌, ◌∙◌, ◌≤◌, ℕ, ℤ, List, [], ◌++◌, length, take, drop, append-nil, Option, Some, None, Result, Ok, Err, ap, refl, sym, subst, arith}
-use Rattle.std.specs.Prelude.{⊤, IfSome, IsOkAnd, IsSomeAnd}
+use Rattle.std.proofs.Common.{◌≡◌, ◌∙◌, ℕ, ℤ, List, ◌++◌, length, drop, append-nil, Option, Some, None, Result, Ok, Err, ap, refl, sym, subst, arith}
+use Rattle.std.specs.Prelude.{IsOkAnd, IsSomeAnd}
 use Rattle.std.proofs.Math.Seq.{drop-length, take-length}
 use Rattle.theory.specs.Wire.{Wire, DATA, PAD, HEARTBEAT, NAK, SM, SETUP, Spells, Status, spelling}
 use Rattle.frames.specs.Fronts.{FrontSpells}

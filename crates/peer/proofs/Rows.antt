@@ -1,5 +1,5 @@
 -- Messages that aren't of one receiver from the start to the tail.
-use Rattle.std.proofs.Common.{◌≡◌, ◌⊎◌, ℕ, ℤ, pos, ◌≤◌, List, [], ◌∷◌, refl, inl, inr, sym, ◌∙◌, ⊎_elim, arith}
+use Rattle.std.proofs.Common.{◌≡◌, ◌⊎◌, pos, ◌≤◌, [], ◌∷◌, refl, inl, inr, sym, ◌∙◌, ⊎_elim, arith}
 use Rattle.peer.specs.Endings.{IsOneFromStart}
 
 -- one that told 0 and then 64

@@ -2,9 +2,13 @@
 
 ghost use Rattle.std.specs.Prelude.{◌≡◌, ◌≢◌, None, IfOk, OnErr, option_map};
 ghost use Rattle.std.specs.IoError.{error_kind};
+ghost use Rattle.theory.specs.Wire.{SM, spelling};
+ghost use Rattle.frames.specs.Frames.{status_of};
+ghost use Rattle.peer.specs.Ties.{asking, hearing_anybody, with_came};
 
 use crate::fault::{BindError, is_loss};
 use endpoint::{Binding, DeviceError, DeviceFailed, GREATEST_DATAGRAM};
+use frames::{Frame, Status, write_frame};
 use std::alloc::Global;
 use std::io;
 use std::io::ErrorKind;
@@ -18,23 +22,37 @@ struct Arrival {
     length: usize,
 }
 
-/// A socket that hears anybody. It is bound once and never connected, so that the port is this process's until it ends. No
-/// call waits. It keeps the datagram that came last.
+/// A message that asks for a SETUP, and who is asked.
+#[derive(Clone, Copy)]
+struct Asked {
+    to: SocketAddr,
+    status: Status,
+}
+
+/// The bytes of a status message.
+const STATUS_BYTES: usize = 36;
+
+/// A socket that hears anybody, and asks for SETUPs. It is bound once and never connected, so that the port is this process's
+/// until it ends. No call waits. It keeps the datagram that came last, and the last message that it was given to ask with.
 #[derive(Drop)]
 pub struct Listener {
     socket: UdpSocket,
     arrived: Vec<u8>,
     last: Option<Arrival>,
+    asks: u64,
+    asked: Option<Asked>,
 }
 
 impl Model for Listener {
-    ghost use Rattle.std.specs.Prelude.{◌≤◌, take, vec_len, Option, option_map};
+    ghost use Rattle.std.specs.Prelude.{◌≤◌, take, vec_len, option_map};
     ghost use Rattle.std.specs.Option.{ForSome};
-    ghost use Rattle.peer.specs.Ties.{Came};
+    ghost use Rattle.theory.specs.Wire.{SM};
+    ghost use Rattle.frames.specs.Frames.{status_of};
+    ghost use Rattle.peer.specs.Ties.{Listening};
 
-    ghost Value = { Option Came };
+    ghost Value = { Listening };
 
-    ghost view = { λ l. option_map (λ a. record { from = a.from; bytes = take a.length l.arrived.items }) l.last };
+    ghost view = { λ l. record { came = option_map (λ a. record { from = a.from; bytes = take a.length l.arrived.items }) l.last; asks = l.asks; asked = option_map (λ a. record { to = a.to; frame = SM 128 (status_of a.status) }) l.asked } };
 
     ghost invariant = { λ l. ForSome l.last (λ a. a.length ≤ vec_len l.arrived) };
 }
@@ -52,10 +70,19 @@ fn fault_of(error: &io::Error) -> BindError
     }
 }
 
+/// The datagram that asks for a SETUP with a status message.
+fn asking_bytes(status: Status) -> [u8; STATUS_BYTES]
+    ensures { result ≡ spelling (SM 128 (status_of status)) }
+{
+    let mut bytes = [0; STATUS_BYTES];
+    write_frame(&Frame::Status { asks: true, status }, &mut bytes);
+    bytes
+}
+
 impl Listener {
-    /// A socket that is bound so, to which nothing has come yet.
+    /// A socket that is bound so, to which nothing has come yet, and with which nobody was asked.
     pub fn bind<R: Net>(rt: &R, alloc: Global, binding: &Binding) -> Result<Listener, BindError>
-        ensures { IfOk result (λ l. l ≡ None) }
+        ensures { IfOk result (λ l. l ≡ hearing_anybody) }
     {
         let arrived = vec![in alloc; 0; GREATEST_DATAGRAM].map_err(|_| BindError::Failed(
             DeviceError::Memory,
@@ -65,12 +92,15 @@ impl Listener {
             socket,
             arrived,
             last: None,
+            asks: 0,
+            asked: None,
         })
     }
 
     /// Takes a datagram, if one has come. The error comes where the system refuses the call; then none has.
     pub fn hear(&mut self) -> Result<(), DeviceFailed>
-        ensures { OnErr result (self.new ≡ None) }
+        ensures none { OnErr result (self.new.came ≡ None) }
+        ensures same { self.new ≡ with_came self.old self.new.came }
     {
         self.last = None;
         match self.socket.recv_from(self.arrived.as_mut_slice()) {
@@ -85,15 +115,25 @@ impl Listener {
 
     /// The datagram that came when it was last asked for one, and who sent it.
     pub fn last(&self) -> Option<(SocketAddr, &[u8])>
-        ensures { option_map (λ r. record { from = r.0; bytes = r.1.now }) result ≡ self.now }
+        ensures { option_map (λ r. record { from = r.0; bytes = r.1.now }) result ≡ self.now.came }
     {
         let arrival = self.last?;
         Some((arrival.from, &self.arrived[..arrival.length]))
     }
 
-    /// Sends a datagram to somebody. Whether it gets there nobody says. A system that isn't ready loses it; the error comes
-    /// where it refuses the call.
-    pub fn send(&self, to: SocketAddr, datagram: &[u8]) -> Result<(), DeviceFailed> {
+    /// Asks somebody for a SETUP, with this status message. Whether it gets there nobody says. The count of these stays at the
+    /// greatest `u64`.
+    pub fn ask(&mut self, to: SocketAddr, status: Status)
+        ensures { self.new ≡ asking self.old to (SM 128 (status_of status)) }
+    {
+        let bytes = asking_bytes(status);
+        let _ = self.send(to, &bytes);
+        self.asks = self.asks.saturating_add(1);
+        self.asked = Some(Asked { to, status });
+    }
+
+    /// Hands a datagram for somebody to the system. One that isn't ready loses it; the error comes where it refuses the call.
+    pub(crate) fn send(&self, to: SocketAddr, datagram: &[u8]) -> Result<(), DeviceFailed> {
         match self.socket.send_to(datagram, to) {
             Err(error) if !is_loss(&error) => Err(DeviceFailed),
             _ => Ok(()),

@@ -49,7 +49,7 @@ impl Model for TiedDevice {
 
     ghost Value = { Tied };
 
-    ghost view = { λ t. record { device = record { sent = []; received = []; failures = t.failures; nones = t.nones }; peer = t.tie.peer; heard = t.tie.heard; strangers = t.tie.strangers; last = t.listener } };
+    ghost view = { λ t. record { device = record { sent = []; received = []; failures = t.failures; nones = t.nones }; peer = t.tie.peer; heard = t.tie.heard; strangers = t.tie.strangers; socket = t.listener } };
 }
 
 impl TiedDevice {
@@ -85,7 +85,7 @@ impl TiedDevice {
 
     /// The datagram that came at the last receive, and who sent it, the peer or another.
     pub fn last(&self) -> Option<(SocketAddr, &[u8])>
-        ensures { option_map (λ r. record { from = r.0; bytes = r.1.now }) result ≡ self.now.last }
+        ensures { option_map (λ r. record { from = r.0; bytes = r.1.now }) result ≡ self.now.socket.came }
     {
         self.listener.last()
     }

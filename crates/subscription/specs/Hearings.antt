@@ -1,11 +1,11 @@
 -- What a device notes of what it hears of a session, and of what it is given to send.
 use Rattle.std.specs.Prelude.{◌≡◌, ◌+◌, ◌%◌, ◌^◌, ℕ, ℤ, Bool, false, ◌&&◌, nat_eq, List, length, take, max, Option, None, Some, option_map, if◌then◌else◌}
 use Rattle.std.specs.Ordering.{int_eq}
-use Rattle.theory.specs.Wire.{Setup}
+use Rattle.theory.specs.Wire.{Header, Setup}
 use Rattle.frames.specs.Frames.{setup_of}
 use Rattle.peer.specs.Farewells.{EndsAt}
 use Rattle.endpoint.specs.Devices.{counted}
-use Rattle.subscription.specs.Meetings.{TellsIds, TellsSetup}
+use Rattle.subscription.specs.Meetings.{TellsHeader, TellsSetup}
 use Rattle.subscription.specs.declared.followed.Notes.{Notes}
 
 pub record Following (D : Type 0) : Type 0 where
@@ -29,10 +29,10 @@ following inner session stream = record { inner = inner; session = session; stre
 abbrev pub turned_to : {D : Type 0} → Following D → ℤ → Following D
 turned_to f session = record f { session = session; notes = record (f.notes) { end = None; setup = None } }
 
--- these ids are the session's and the stream's
-abbrev pub are_own : ℤ → ℤ → Option (ℤ × ℤ) → Bool
-are_own session stream None = false
-are_own session stream (Some ids) = int_eq ids.0 session && int_eq ids.1 stream
+-- a header of the session's stream
+abbrev pub is_own : ℤ → ℤ → Option Header → Bool
+is_own session stream None = false
+is_own session stream (Some h) = int_eq h.session session && int_eq h.stream stream
 
 -- how many frames were heard, with one more or not; modulo 2 ^ 64
 abbrev pub frames_after : Bool → ℕ → ℕ
@@ -59,12 +59,12 @@ NotesEndIn session stream (Some f) old new = NotesEnd session stream f old new
 
 -- what a datagram tells of the session's stream
 pub record NotesDatagram (session stream : ℤ) (bytes : List ℕ) (old new : Notes) : Type 0 where
-  pub ids : Option (ℤ × ℤ)
-  pub tells_ids : TellsIds bytes ids
+  pub header : Option Header
+  pub tells_header : TellsHeader bytes header
   pub found : Option Setup
   pub tells_setup : TellsSetup bytes found
   -- a frame of the stream in front counts
-  pub frames : new.frames ≡ frames_after (are_own session stream ids) old.frames
+  pub frames : new.frames ≡ frames_after (is_own session stream header) old.frames
   pub end : NotesEndIn session stream found old.end new.end
   pub setup : option_map setup_of new.setup ≡ latest (option_map setup_of old.setup) found
 

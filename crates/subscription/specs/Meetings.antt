@@ -3,7 +3,7 @@ use Rattle.std.specs.Prelude.{◌≡◌, ◌≤◌, ⊤, ℕ, ℤ, pos, negsuc, 
 use Rattle.std.specs.Int.{w64, cast_signed, cast_unsigned}
 use Rattle.std.specs.Prelude.{◌+◌, ◌%◌, ◌^◌}
 use Rattle.theory.specs.Setup.{OpensAt}
-use Rattle.theory.specs.Wire.{Wire, DATA, PAD, HEARTBEAT, NAK, SM, SETUP, Setup, spelling}
+use Rattle.theory.specs.Wire.{Wire, Header, DATA, PAD, HEARTBEAT, NAK, SM, SETUP, Setup, spelling}
 use Rattle.frames.specs.Fronts.{FrontSpells}
 use Rattle.peer.specs.Farewells.{TellsEnd}
 use Rattle.receiver.specs.Receiving.{Receiver, TakesDatagram, listening}
@@ -24,23 +24,23 @@ setup_told (NAK f) = None
 setup_told (SM asks f) = None
 setup_told (SETUP f) = Some f
 
--- the session and the stream that a DATA frame, a padding or a heartbeat is of
-abbrev pub ids_told : Wire → Option (ℤ × ℤ)
-ids_told (DATA h flags payload) = Some (h.session, h.stream)
-ids_told (PAD h n) = Some (h.session, h.stream)
-ids_told (HEARTBEAT h) = Some (h.session, h.stream)
-ids_told (NAK f) = None
-ids_told (SM asks f) = None
-ids_told (SETUP f) = None
+-- the header of a DATA frame, a padding or a heartbeat
+abbrev pub header_told : Wire → Option Header
+header_told (DATA h flags payload) = Some h
+header_told (PAD h n) = Some h
+header_told (HEARTBEAT h) = Some h
+header_told (NAK f) = None
+header_told (SM asks f) = None
+header_told (SETUP f) = None
 
 -- the SETUP that a datagram of one frame is; other bytes are none
 pub record TellsSetup (bytes : List ℕ) (found : Option Setup) : Type 0 where
   pub frame : (w : Wire) → FrontSpells bytes w (length bytes) → found ≡ setup_told w
   pub others : ((w : Wire) → FrontSpells bytes w (length bytes) → ⊥) → found ≡ None
 
--- whose stream the frame at a datagram's front is of
-pub record TellsIds (bytes : List ℕ) (found : Option (ℤ × ℤ)) : Type 0 where
-  pub frame : (w : Wire) (n : ℕ) → FrontSpells bytes w n → found ≡ ids_told w
+-- the header of the frame at a datagram's front
+pub record TellsHeader (bytes : List ℕ) (found : Option Header) : Type 0 where
+  pub frame : (w : Wire) (n : ℕ) → FrontSpells bytes w n → found ≡ header_told w
   pub others : ((w : Wire) (n : ℕ) → FrontSpells bytes w n → ⊥) → found ≡ None
 
 -- ---- what a plan takes

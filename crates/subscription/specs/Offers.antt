@@ -29,7 +29,7 @@ IsIn (Some c) o = (found : Option Setup) × TellsSetup c.bytes (option_map setup
 -- the one that the peer sent, or else the one that came last
 abbrev pub IsOffered : Option Setup → Tied → Offer → Type 0
 IsOffered (Some f) t o = o ≡ Some (t.peer, f)
-IsOffered None t o = IsIn t.last o
+IsOffered None t o = IsIn t.socket.came o
 
 -- the peer's SETUP was taken
 abbrev pub setup_taken : SubscriberDevice → SubscriberDevice

@@ -18,12 +18,14 @@ pub record Seen : Type 0 where
   pub written : ℕ
   -- how many datagrams of strangers there were before an image
   pub strangers : ℕ
+  -- how many datagrams before an image called for a SETUP
+  pub calls : ℕ
   -- how many calls of its socket failed before an image
   pub lost : ℕ
 
 -- it has seen its begin
 abbrev pub begun : Seen
-begun = record { moment = 0; heard = 0; worked = 0; told = 0; written = 0; strangers = 0; lost = 0 }
+begun = record { moment = 0; heard = 0; worked = 0; told = 0; written = 0; strangers = 0; calls = 0; lost = 0 }
 
 -- a second or more in which it didn't look at the clock is no silence of others: it heard nobody then, and couldn't have
 abbrev pub heard_at : Seen → ℕ → ℕ
@@ -36,6 +38,10 @@ looking s now = record s { moment = now; heard = heard_at s now }
 -- what it waits for came at the moment
 abbrev pub hearing : Seen → Seen
 hearing s = record s { heard = s.moment }
+
+-- what came at the moment calls for a SETUP
+abbrev pub called : Seen → Seen
+called s = record (hearing s) { calls = counted s.calls }
 
 -- a call of its socket worked at the moment
 abbrev pub working : Seen → Seen

@@ -3,14 +3,14 @@
 ghost use Rattle.std.specs.Prelude.{◌≡◌, IfOk, None, OnErr, Some, option_map};
 ghost use Rattle.endpoint.specs.Calls.{Receives, Sends};
 ghost use Rattle.endpoint.specs.Devices.{NeverFall};
-ghost use Rattle.frames.specs.Frames.{setup_of};
+ghost use Rattle.frames.specs.Frames.{header_of, setup_of};
 ghost use Rattle.std.specs.Borrow.{Lends, sem};
-ghost use Rattle.subscription.specs.Hearings.{HearsFound, NotesDatagram, NotesEnd, after_sending, are_own, following, frames_after, turned_to, with_end};
+ghost use Rattle.subscription.specs.Hearings.{HearsFound, NotesDatagram, NotesEnd, after_sending, following, frames_after, is_own, turned_to, with_end};
 ghost use Rattle.subscription.specs.contracts.followed.Followed.{the_row};
 
-use crate::invitation::{ids_in, setup_in};
+use crate::invitation::{header_in, setup_in};
 use endpoint::{Datagrams, DeviceFailed};
-use frames::{Frame, Setup};
+use frames::{Frame, Header, Setup};
 use peer::end_told;
 use std::marker::Model;
 
@@ -46,13 +46,13 @@ impl<D> Model for Followed<D> {
     ghost view = { λ f. record { inner = f.inner; session = f.session; stream = f.stream; notes = f.notes; naks = f.naks } };
 }
 
-/// Whether these ids are the session's and the stream's.
-fn are_own(session: i32, stream: i32, ids: Option<(i32, i32)>) -> bool
-    ensures { result ≡ are_own session stream ids }
+/// Whether a header is of the session's stream.
+fn is_own(session: i32, stream: i32, header: Option<Header>) -> bool
+    ensures { result ≡ is_own session stream (option_map header_of header) }
 {
-    match ids {
+    match header {
         None => false,
-        Some((of_session, of_stream)) => of_session == session && of_stream == stream,
+        Some(header) => header.session == session && header.stream == stream,
     }
 }
 
@@ -78,10 +78,10 @@ fn after_setup(session: i32, stream: i32, setup: &Setup, before: Option<u64>) ->
 
 impl Notes {
     /// Notes whose stream the frame at a datagram's front is of.
-    fn note_ids(&mut self, session: i32, stream: i32, ids: Option<(i32, i32)>)
-        ensures { self.new ≡ record self.old { frames = frames_after (are_own session stream ids) self.old.frames } }
+    fn note_header(&mut self, session: i32, stream: i32, header: Option<Header>)
+        ensures { self.new ≡ record self.old { frames = frames_after (is_own session stream (option_map header_of header)) self.old.frames } }
     {
-        if are_own(session, stream, ids) {
+        if is_own(session, stream, header) {
             self.frames = self.frames.wrapping_add(1);
         }
     }
@@ -99,7 +99,7 @@ impl Notes {
     fn note(&mut self, session: i32, stream: i32, datagram: &[u8])
         ensures { NotesDatagram session stream datagram.now self.old self.new }
     {
-        self.note_ids(session, stream, ids_in(datagram));
+        self.note_header(session, stream, header_in(datagram));
         if let Some(setup) = setup_in(datagram) {
             self.note_setup(session, stream, &setup);
         }

@@ -1,14 +1,14 @@
 //! What a datagram is to a subscriber, and the image that a SETUP opens.
 
 ghost use Rattle.std.specs.Prelude.{◌≡◌, ◌↔◌, None, option_map, IfNone, IfOk, IfSome, IsTrue};
-ghost use Rattle.frames.specs.Frames.{setup_of, wire};
-ghost use Rattle.theory.specs.Wire.{SETUP, spelling};
+ghost use Rattle.frames.specs.Frames.{header_of, setup_of, wire};
+ghost use Rattle.theory.specs.Wire.{IsFrame, IsHeader, SETUP, spelling};
 ghost use Rattle.receiver.specs.Representing.{Represents};
-ghost use Rattle.subscription.specs.Meetings.{Admits, HasMet, IsOngoing, Opens, OpensNothing, TakesSession, TellsIds, TellsSetup, bytes_of, id_of, ids_told, invited, setup_told, window_in};
+ghost use Rattle.subscription.specs.Meetings.{Admits, HasMet, IsOngoing, Opens, OpensNothing, TakesSession, TellsHeader, TellsSetup, bytes_of, header_told, id_of, invited, setup_told, window_in};
 
 use crate::opening::Opening;
 use crate::window::window_of;
-use frames::{Frame, Setup, read_frame, write_frame};
+use frames::{Frame, Header, Setup, read_frame, write_frame};
 use options::SubscribePlan;
 use peer::end_told;
 use receiver::{ReceiverCore, Subscriber, judge};
@@ -46,24 +46,26 @@ pub fn setup_in(datagram: &[u8]) -> Option<Setup>
     }
 }
 
-/// The session and the stream that a DATA frame, a padding or a heartbeat is of.
-pub fn ids_told(frame: &Frame<'_>) -> Option<(i32, i32)>
-    ensures { result ≡ ids_told (wire frame.now) }
+/// The header of a DATA frame, a padding or a heartbeat.
+fn header_told(frame: &Frame<'_>) -> Option<Header>
+    ensures told { option_map header_of result ≡ header_told (wire frame.now) }
+    ensures legal { IsFrame (wire frame.now) → IfSome result (λ h. IsHeader (header_of h)) }
 {
     match *frame {
         Frame::Data { header, .. } | Frame::Pad { header, .. } | Frame::Heartbeat { header } => {
-            Some((header.session, header.stream))
+            Some(header)
         }
         _ => None,
     }
 }
 
-/// The session and the stream that the frame at a datagram's front is of.
-pub fn ids_in(datagram: &[u8]) -> Option<(i32, i32)>
-    ensures { TellsIds datagram.now result }
+/// The header of the frame at a datagram's front, where that is a DATA frame, a padding or a heartbeat.
+pub fn header_in(datagram: &[u8]) -> Option<Header>
+    ensures told { TellsHeader datagram.now (option_map header_of result) }
+    ensures legal { IfSome result (λ h. IsHeader (header_of h)) }
 {
     match read_frame(datagram) {
-        Ok((frame, _)) => ids_told(&frame),
+        Ok((frame, _)) => header_told(&frame),
         Err(_) => None,
     }
 }

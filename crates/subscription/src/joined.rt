@@ -76,7 +76,7 @@ pub fn tie(device: &mut SubscriberDevice, peer: SocketAddr)
 
 /// The SETUP in what came last, and who sent it.
 fn setup_that_came(tied: &TiedDevice) -> Option<(SocketAddr, Setup)>
-    ensures { IsIn tied.now.last result }
+    ensures { IsIn tied.now.socket.came result }
 {
     match tied.last() {
         None => None,

@@ -1,7 +1,7 @@
 //! Which images a channel's subscription takes, how it listens until one opens, what is heard of an image's session, and the
 //! time that passes.
 //!
-//! What a datagram tells is exact (`setup_in`, `ids_in`), and so is which SETUP opens an image for a plan, and which
+//! What a datagram tells is exact (`setup_in`, `header_in`), and so is which SETUP opens an image for a plan, and which
 //! (`opening_of`): one of the plan's stream, and of its session if it names one, whose terms are no longer than it takes, and
 //! which tells no end of its stream (`Opens`). The image with a number, from 0, has the plan's receiver id and that number for
 //! its id (`id_of`), and the subscriber that is opened has met that SETUP (`opened`). Its window is one that the rules allow,
@@ -10,8 +10,9 @@
 //! A device that follows a session counts the datagrams that begin with a frame of it, and keeps the last SETUP and the
 //! greatest end that was told, exactly (`Followed`).
 //!
-//! Without an image a datagram is a SETUP that opens one, a frame whose sender is asked for a SETUP, or a stranger's, exactly,
-//! and until a SETUP opens the first image nothing else happens (`listen`). When a subscriber is silent, quiet or broken is
+//! Without an image a datagram is a SETUP that opens one, a frame whose sender is asked for a SETUP, or a stranger's, exactly;
+//! for each such frame its sender is asked once, with the frame's place, and nobody else is. Until a SETUP opens the first image
+//! nothing else happens (`listen`). When a subscriber is silent, quiet or broken is
 //! exact (`Watch`).
 #![tactic(auto)]
 
@@ -27,7 +28,7 @@ mod window;
 
 pub use followed::{Followed, Notes};
 pub use invitation::{
-    GREATEST_MESSAGE, id_of, ids_in, opened, opening_of, setup_in, takes_session,
+    GREATEST_MESSAGE, header_in, id_of, opened, opening_of, setup_in, takes_session,
 };
 pub use joined::{Joined, SubscriberDevice, offered, tie, tied_of};
 pub use listening::listen;

@@ -1,25 +1,26 @@
 //! A subscriber without an image.
 
 ghost use Rattle.std.specs.Prelude.{◌≡◌, None, IfNone, IfOk, IfSome};
-ghost use Rattle.frames.specs.Frames.{setup_of};
+ghost use Rattle.theory.specs.Control.{asking_at};
+ghost use Rattle.theory.specs.Wire.{IsHeader, SM};
+ghost use Rattle.frames.specs.Frames.{header_of, setup_of, status_of};
 ghost use Rattle.subscription.specs.Calls.{Heeds, IsCall, IsCallWith, IsJoined, IsJoinedBy};
-ghost use Rattle.subscription.specs.Meetings.{Opens};
+ghost use Rattle.subscription.specs.Meetings.{Opens, id_of};
 ghost use Rattle.subscription.specs.Watches.{IsQuiet, after_call};
 
 use crate::followed::Followed;
-use crate::invitation::{GREATEST_MESSAGE, id_of, ids_in, opened, setup_in, takes_session};
+use crate::invitation::{header_in, id_of, opened, setup_in, takes_session};
 use crate::joined::Joined;
 use crate::meeting::{Meeting, meeting_of};
 use crate::telling::{Counts, tell_waiting};
 use crate::watch::Watch;
-use agents::{Duty, IdleStrategy, Party, REPLY};
+use agents::{Duty, IdleStrategy, REPLY};
 use endpoint::{DeviceError, DeviceFailed};
-use frames::{FaultCounts, Outbox};
+use frames::{FaultCounts, Header, Status};
 use loss_injector::Lossy;
 use options::SubscribePlan;
 use peer::{Listener, PatientDevice, TiedDevice};
-use receiver::{ReceiverCore, Subscriber};
-use std::alloc::{AllocError, Global};
+use std::alloc::Global;
 use std::io::Write;
 use std::net::SocketAddr;
 use std::sync::Wait;
@@ -30,19 +31,19 @@ use std::time::Clock;
 pub(crate) enum Call {
     /// A SETUP that opens an image.
     Opens(Meeting),
-    /// A frame of this session's stream, which the plan takes: a SETUP is asked for.
-    Asks(i32),
+    /// A frame of a stream that the plan takes, by its header: a SETUP is asked for.
+    Asks(Header),
     /// Anything else.
     Stranger,
 }
 
-/// What a frame of a stream is, by its session and its stream.
+/// What a frame of a stream is, by its header.
 fn frame_call(plan: &SubscribePlan, from: SocketAddr, datagram: &[u8]) -> Call
     ensures { IsCallWith plan.now from datagram.now None result }
 {
-    match ids_in(datagram) {
-        Some((session, stream)) if stream == plan.end.stream && takes_session(plan, session) => {
-            Call::Asks(session)
+    match header_in(datagram) {
+        Some(header) if header.stream == plan.end.stream && takes_session(plan, header.session) => {
+            Call::Asks(header)
         }
         _ => Call::Stranger,
     }
@@ -71,75 +72,41 @@ fn note_call(answer: Result<(), DeviceFailed>, watch: &mut Watch)
     }
 }
 
-/// A receiver without an image that has met a datagram of a session's stream, and will ask for a SETUP.
-fn asking(
-    alloc: Global,
-    plan: &SubscribePlan,
-    session: i32,
-    datagram: &[u8],
-    now: u64,
-) -> Result<Subscriber, AllocError> {
-    let core = ReceiverCore::new(alloc, session, plan.end.stream, 0, id_of(plan, 0), 1);
-    let mut subscriber = Subscriber::new(alloc, core, GREATEST_MESSAGE)?;
-    subscriber.on_datagram(datagram, now)?;
-    Ok(subscriber)
-}
-
-/// Asks the one who sent what came for a SETUP of a session.
-fn ask(
-    alloc: Global,
-    plan: &SubscribePlan,
-    listener: &Listener,
-    session: i32,
-    outbox: &mut Outbox,
-    now: u64,
-) -> Result<(), AllocError>
-    requires { outbox.old.mtu ≡ REPLY }
-    ensures { outbox.new.mtu ≡ REPLY }
+/// The message that asks for a SETUP, with the place of a frame: that of the first image's receiver.
+fn asking(plan: &SubscribePlan, header: &Header) -> Status
+    requires { IsHeader (header_of header.now) }
+    ensures { SM 128 (status_of result) ≡ asking_at (header_of header.now) (id_of plan.now 0) }
 {
-    let Some((from, datagram)) = listener.last() else {
-        return Ok(());
-    };
-    let mut asking = asking(alloc, plan, session, datagram, now)?;
-    Party::tick(&mut asking, now, outbox);
-    for index in 0..outbox.len() {
-        if let Some(datagram) = outbox.datagram(index) {
-            let _ = listener.send(from, datagram);
-        }
+    Status {
+        session: header.session,
+        stream: header.stream,
+        term_id: header.term_id,
+        term_offset: header.term_offset.cast_signed(),
+        window: 0,
+        receiver: id_of(plan, 0),
     }
-    Ok(())
 }
 
-/// Heeds what came. The answer is the SETUP that opens an image, if it was one.
-fn heed(
-    alloc: Global,
-    plan: &SubscribePlan,
-    listener: &Listener,
-    outbox: &mut Outbox,
-    watch: &mut Watch,
-) -> Result<Option<Meeting>, DeviceError>
-    requires size { outbox.old.mtu ≡ REPLY }
-    ensures size { outbox.new.mtu ≡ REPLY }
-    ensures heeds { IfOk result (λ found. Heeds plan.now listener.now watch.old found watch.new) }
-    ensures opens { IfOk result (λ found. IfSome found (λ m. Opens plan.now (setup_of m.setup) m.opening)) }
+/// Heeds what came. The answer is the SETUP that opens an image, if it was one. The sender of a frame is asked for a SETUP.
+fn heed(plan: &SubscribePlan, listener: &mut Listener, watch: &mut Watch) -> Option<Meeting>
+    ensures heeds { Heeds plan.now listener.old.came (record { socket = listener.old; seen = watch.old }) result (record { socket = listener.new; seen = watch.new }) }
+    ensures opens { IfSome result (λ m. Opens plan.now (setup_of m.setup) m.opening) }
     ensures moment { watch.new.moment ≡ watch.old.moment }
 {
-    let Some((from, datagram)) = listener.last() else {
-        return Ok(None);
-    };
+    let (from, datagram) = listener.last()?;
     match call_of(plan, from, datagram) {
         Call::Opens(meeting) => {
             watch.hear();
-            Ok(Some(meeting))
+            Some(meeting)
         }
-        Call::Asks(session) => {
-            watch.hear();
-            ask(alloc, plan, listener, session, outbox, watch.moment())?;
-            Ok(None)
+        Call::Asks(header) => {
+            watch.call();
+            listener.ask(from, asking(plan, &header));
+            None
         }
         Call::Stranger => {
             watch.count_stranger();
-            Ok(None)
+            None
         }
     }
 }
@@ -201,14 +168,15 @@ pub fn listen<R: Wait + Clock, E: Write>(
 ) -> Result<Option<Joined>, DeviceError>
     ensures joined { IfOk result (λ found. IfSome found (IsJoined plan.now watch.new)) }
     ensures quiet { IfOk result (λ found. IfNone found (IsQuiet plan.now watch.new)) }
+    // For each datagram that calls for a SETUP its sender was asked.
+    ensures asks { listener.asks ≡ watch.old.calls → IfOk result (λ found. IfSome found (λ j. j.duty.device.inner.inner.inner.socket.asks ≡ watch.new.calls)) }
 {
-    let mut outbox = Outbox::new(alloc, REPLY)?;
     let mut idle = IdleStrategy::new();
     for _ in rt.forever() {
         watch.see(rt)?;
         note_call(listener.hear(), watch);
         let came = listener.last().is_some();
-        if let Some(meeting) = heed(alloc, plan, &listener, &mut outbox, watch)? {
+        if let Some(meeting) = heed(plan, &mut listener, watch) {
             return Ok(Some(join(alloc, plan, listener, &meeting, watch.moment())?));
         }
         tell(plan, errors, watch);

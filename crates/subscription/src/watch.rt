@@ -2,7 +2,7 @@
 
 ghost use Rattle.std.specs.Prelude.{◌≡◌, ◌-◌, ◌↔◌, is_some, IfErr, IfSome, IsSome, IsTrue, OnOk};
 ghost use Rattle.endpoint.specs.declared.device_error.DeviceError.TheVariants.{Device};
-ghost use Rattle.subscription.specs.Watches.{IsBroken, IsDue, IsQuiet, IsSilent, begun, heard_at, hearing, looking, losing, told_if, with_stranger, working};
+ghost use Rattle.subscription.specs.Watches.{IsBroken, IsDue, IsQuiet, IsSilent, begun, called, heard_at, hearing, looking, losing, told_if, with_stranger, working};
 
 use endpoint::DeviceError;
 use options::SubscribePlan;
@@ -31,6 +31,7 @@ pub struct Watch {
     told: u64,
     written: u64,
     strangers: u64,
+    calls: u64,
     lost: u64,
 }
 
@@ -39,7 +40,7 @@ impl Model for Watch {
 
     ghost Value = { Seen };
 
-    ghost view = { λ w. record { moment = w.moment; heard = w.heard; worked = w.worked; told = w.told; written = w.written; strangers = w.strangers; lost = w.lost } };
+    ghost view = { λ w. record { moment = w.moment; heard = w.heard; worked = w.worked; told = w.told; written = w.written; strangers = w.strangers; calls = w.calls; lost = w.lost } };
 }
 
 impl Watch {
@@ -54,6 +55,7 @@ impl Watch {
             told: 0,
             written: 0,
             strangers: 0,
+            calls: 0,
             lost: 0,
         }
     }
@@ -109,6 +111,14 @@ impl Watch {
         ensures { self.new ≡ hearing self.old }
     {
         self.heard = self.moment;
+    }
+
+    /// A datagram that came at the moment, before an image, calls for a SETUP.
+    pub(crate) fn call(&mut self)
+        ensures { self.new ≡ called self.old }
+    {
+        self.heard = self.moment;
+        self.calls = self.calls.saturating_add(1);
     }
 
     /// A call of the socket worked at the moment.

@@ -1,5 +1,4 @@
-use Rattle.std.proofs.Common.{◌≡◌, length, ap, sym, ◌∙◌}
-use Rattle.frames.specs.Frames.{wire}
+use Rattle.std.proofs.Common.{length}
 use Rattle.peer.proofs.Numbered.{at_front, by_ok, no_ok}
 use Rattle.peer.proofs.numbering.frame_in.Goals as goal
 

@@ -1,4 +1,4 @@
-use Rattle.std.proofs.Common.{◌≡◌, ◌∙◌, ℤ, ap, refl, w64}
+use Rattle.std.proofs.Common.{◌∙◌, ℤ, ap, refl, w64}
 use Rattle.std.proofs.lemmas.Int.{to_z-of_z}
 use Rattle.frames.specs.Frames.{asks_of, status_of}
 use Rattle.peer.specs.Numbering.{numbered}

@@ -1,4 +1,3 @@
-use Rattle.std.proofs.Common.{◌≡◌}
 use Rattle.theory.specs.Wire.{SM}
 use Rattle.peer.proofs.Numbered.{by_some, no_some}
 use Rattle.peer.proofs.numbering.status_in.Goals as goal

@@ -1,4 +1,4 @@
-use Rattle.std.proofs.Common.{◌≡◌, sym}
+use Rattle.std.proofs.Common.{sym}
 use Rattle.theory.specs.Wire.{SM, spelling}
 use Rattle.frames.specs.Frames.{asks_of, status_of}
 use Rattle.peer.proofs.Numbered.{full}
