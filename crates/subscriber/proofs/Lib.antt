@@ -2,3 +2,4 @@ pub mod Writing
 pub mod Written
 pub mod Patience
 pub mod Lived
+pub mod Leaving

@@ -11,14 +11,13 @@ use Rattle.messages.specs.Forms.{spelled, spelling}
 use Rattle.messages.specs.declared.form.Form.{Form}
 use Rattle.options.specs.declared.ends.plans.SubscribePlan.{SubscribePlan}
 use Rattle.agents.specs.Cycles.{HearsAll}
-use Rattle.agents.specs.Parties.{ReceiverHears, ReceiverTicks}
+use Rattle.agents.specs.Parties.{ReceiverHears}
 use Rattle.receiver.specs.Subscribing.{Subscribing}
-use Rattle.receiver.specs.Lives.{Act, Gives, GivesNone, Hears, Lives, Ticks, given_in, heard_in}
-use Rattle.subscription.specs.Meetings.{HasMet}
+use Rattle.receiver.specs.Lives.{Act, Gives, GivesNone, Hears, Lives, Ticks, given_in}
 use Rattle.subscription.specs.Calls.{IsJoined, IsMeeting}
 use Rattle.subscriber.specs.Deliveries.{Delivers, PollsAll, PollsNone, WritesFirst}
-use Rattle.subscriber.specs.Living.{AreLives, IsLife, IsNumbered, Life, WritesActs, WritesLife, WritesLives, given_through}
-use Rattle.subscriber.specs.Turning.{Attends, Considers, ConsidersOffer, IsRenewed, KeepsImage, Passes, Renews, Resumes, Turns, next, with_device}
+use Rattle.subscriber.specs.Living.{IsNumbered, Life, WritesActs, WritesLife, WritesLives, given_through}
+use Rattle.subscriber.specs.Turning.{Attends, Considers, ConsidersOffer, IsRenewed, KeepsImage, Passes, Renews, Resumes, next, with_device}
 use Rattle.subscription.specs.Offers.{Offer, setup_taken}
 use Rattle.subscription.specs.Watches.{Seen}
 use Rattle.subscriber.specs.declared.delivery.Delivered.{Delivered}
@@ -27,7 +26,7 @@ use Rattle.subscription.specs.declared.meeting.Meeting.{Meeting}
 
 -- ---- lives one behind the other
 
-lives_on : (s m t : Subscribing) (xs ys : List Act) → Lives s xs m → Lives m ys t → Lives s (xs ++ ys) t
+pub lives_on : (s m t : Subscribing) (xs ys : List Act) → Lives s xs m → Lives m ys t → Lives s (xs ++ ys) t
 lives_on s m t [] ys first then = subst (λ z. Lives z ys t) first then
 lives_on s m t (x ∷ xs) ys first then = (first.0, first.1, lives_on first.0 m t xs ys first.2 then)
 
@@ -46,7 +45,7 @@ polled_given : (messages : List (List ℕ)) → given_in (map Gives messages) �
 polled_given [] = refl
 polled_given (m ∷ ms) = ap (λ xs. m ∷ xs) (polled_given ms)
 
-all_heard : (now : ℕ) (s t : Subscribing) (datagrams given : List (List ℕ)) → HearsAll ReceiverHears now s datagrams t given → Lives s (map (Hears now) datagrams) t
+pub all_heard : (now : ℕ) (s t : Subscribing) (datagrams given : List (List ℕ)) → HearsAll ReceiverHears now s datagrams t given → Lives s (map (Hears now) datagrams) t
 all_heard now s t [] given all = all.0
 all_heard now s t (d ∷ ds) given all = (all.0, (all.3.outcomes, all.3.becomes), all_heard now all.0 t ds all.2 all.4)
 

@@ -1,9 +1,10 @@
--- When a subscriber has heard its session, why it ends, and why it can't begin.
-use Rattle.std.specs.Prelude.{◌≡◌, ◌⊎◌, ◌≤◌, ℕ, false, IsTrue, Option, None, Some}
+-- When a subscriber has heard its session, why it ends, what it lives through then, and why it can't begin.
+use Rattle.std.specs.Prelude.{◌≡◌, ◌⊎◌, ◌≤◌, ⊤, ℕ, List, [], ◌∷◌, false, IsTrue, Option, None, Some}
 use Rattle.peer.specs.declared.fault.BindError.{BindError}
 use Rattle.peer.specs.declared.fault.BindError.TheVariants as binds
 use Rattle.options.specs.declared.ends.plans.SubscribePlan.{SubscribePlan}
-use Rattle.receiver.specs.Receiving.{Receiver}
+use Rattle.receiver.specs.Lives.{Act, Gives, GivesNone, Hears, Lives, Ticks}
+use Rattle.receiver.specs.Receiving.{Opened, Receiver}
 use Rattle.receiver.specs.Subscribing.{RepresentsSubscriber, Subscribing}
 use Rattle.subscription.specs.Places.{StandsAt}
 use Rattle.subscription.specs.Watches.{IsQuiet, Seen, hearing, working}
@@ -52,6 +53,30 @@ abbrev pub IsEnding : SubscribePlan → ℕ → Seen → Option ℕ → ℕ → 
 IsEnding plan written s end at (Some Whole) = HasEnough plan written end at ⊎ IsGivenUp plan written s end at Whole
 IsEnding plan written s end at (Some Short) = IsGivenUp plan written s end at Short
 IsEnding plan written s end at None = (¬ HasEnough plan written end at) × (¬ IsQuiet plan s)
+
+-- datagrams that it hears and moments that it is told, and no poll
+abbrev pub AreUnpolled : List Act → Type 0
+AreUnpolled [] = ⊤
+AreUnpolled (Hears now bytes ∷ acts) = AreUnpolled acts
+AreUnpolled (Ticks now ∷ acts) = AreUnpolled acts
+AreUnpolled (Gives message ∷ acts) = ⊥
+AreUnpolled (GivesNone ∷ acts) = ⊥
+
+-- it lived on by these alone
+pub record LivesUnpolled (s t : Subscribing) : Type 0 where
+  pub acts : List Act
+  pub unpolled : AreUnpolled acts
+  pub lived : Lives s acts t
+
+-- an image has the consumers that it had
+abbrev pub KeepsConsumers : Option Opened → Option Opened → Type 0
+KeepsConsumers None after = ⊤
+KeepsConsumers (Some o) None = ⊥
+KeepsConsumers (Some o) (Some p) = p.image.consumers ≡ o.image.consumers
+
+-- the consumer of its image stands where it stood
+abbrev pub StandsStill : Subscribing → Subscribing → Type 0
+StandsStill s t = (r : Receiver) → RepresentsSubscriber s r → (q : Receiver) × RepresentsSubscriber t q × KeepsConsumers r.image q.image
 
 -- why there is no listener at this address
 abbrev pub of_bind : SocketAddr → BindError → SubscribeFault

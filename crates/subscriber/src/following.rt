@@ -2,7 +2,7 @@
 
 ghost use Rattle.std.specs.Prelude.{◌≡◌, ◌≢◌, ◌≤◌, ◌↔◌, ◌+◌, ◌-◌, ◌^◌, min, ℕ, IfErr, IfOk, IsTrue, OnOk, Some};
 ghost use Rattle.endpoint.specs.declared.device_error.DeviceError.TheVariants.{Device};
-ghost use Rattle.subscriber.specs.Leavings.{HasAll, HasEnough, IsEnding, IsQuietEnding, NotesHeard, NotesWork, StandsHere};
+ghost use Rattle.subscriber.specs.Leavings.{HasAll, HasEnough, IsEnding, IsQuietEnding, LivesUnpolled, NotesHeard, NotesWork, StandsHere, StandsStill};
 ghost use Rattle.subscription.specs.Watches.{IsBroken, IsSilent};
 ghost use Rattle.subscriber.specs.declared.fault.SubscribeFault.TheVariants.{Failed};
 ghost use Rattle.subscriber.specs.Living.{WritesActs, WritesLife};
@@ -233,6 +233,9 @@ fn bid_farewell<R: Wait + Clock>(
     watch: &mut Watch,
 ) -> Result<(), SubscribeFault>
     requires { joined.old.duty.mtu ≡ REPLY }
+    ensures unpolled { LivesUnpolled joined.old.subscriber joined.new.subscriber }
+    ensures still { StandsStill joined.old.subscriber joined.new.subscriber }
+    ensures number { joined.new.number ≡ joined.old.number }
 {
     watch.see(rt)?;
     let ended = watch.moment();
@@ -253,6 +256,9 @@ fn bid_farewell<R: Wait + Clock>(
 /// stands.
 pub(crate) fn leave<R: Wait + Clock>(rt: &R, joined: &mut Joined, watch: &mut Watch)
     requires { joined.old.duty.mtu ≡ REPLY }
+    ensures unpolled { LivesUnpolled joined.old.subscriber joined.new.subscriber }
+    ensures still { StandsStill joined.old.subscriber joined.new.subscriber }
+    ensures number { joined.new.number ≡ joined.old.number }
 {
     let end = joined.duty.device().notes().end;
     if !has_all(end, joined.place()) {

@@ -43,7 +43,7 @@ fn bind<R: Net>(rt: &R, alloc: Global, binding: &Binding) -> Result<Listener, Su
     }
 }
 
-/// Follows the image to the end, and leaves it.
+/// Follows the image to the end, and leaves it. What is heard then belongs to the image's life.
 fn follow_all<R: Wait + Clock, W: Write, E: Write>(
     rt: &R,
     alloc: Global,
@@ -58,7 +58,7 @@ fn follow_all<R: Wait + Clock, W: Write, E: Write>(
     ensures few { IfOk result (λ s. s.messages ≤ plan.now.messages) }
     ensures short { IfOk result (λ s. s.ending ≡ Short → IsTrue plan.now.once) }
     ensures writes { IfOk result (λ s. Writes plan.now.end.form 0 (W.contents output.old) s.messages (W.contents output.new)) }
-    ensures lives { IfOk result (λ s. WritesLives plan.now (W.contents output.old) s.messages (W.contents output.new)) }
+    ensures lives { IfOk result (λ s. WritesLife plan.now (W.contents output.old) s.messages joined.new.number joined.new.subscriber (W.contents output.new)) }
 {
     tell_joined(errors, joined.opening.session, joined.place());
     let followed = follow(rt, alloc, plan, joined, output, errors, watch);

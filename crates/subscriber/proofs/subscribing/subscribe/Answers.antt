@@ -2,7 +2,11 @@ use Rattle.std.proofs.Common.{subst}
 use Rattle.std.specs.Prelude.{IfSome}
 use Rattle.subscription.specs.Calls.{IsJoined}
 use Rattle.subscriber.proofs.Lived.{joined_life}
+use Rattle.subscriber.proofs.Leaving.{all_written}
 use Rattle.subscriber.proofs.subscribing.subscribe.Goals as goal
 
 pub follow_all-requires-clause-begun : goal.follow_all-requires-clause-begun
 follow_all-requires-clause-begun g c = joined_life c.args.plan.now c.listen.new.watch c.in-Some.joined (g.W.Write.contents c.args.output.now) (subst (λ found. IfSome found (IsJoined c.args.plan.now c.listen.new.watch)) c.in-Some.is c.in_ok-listen.ensures.joined)
+
+pub returns-in-Some-clause-lives : goal.returns-in-Some-clause-lives
+returns-in-Some-clause-lives g c = all_written _ _ _ _ _ c.follow_all.result c.follow_all.ensures.lives

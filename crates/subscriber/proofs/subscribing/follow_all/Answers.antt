@@ -1,0 +1,9 @@
+use Rattle.std.proofs.Common.{ℕ, subst, sym}
+use Rattle.subscriber.proofs.Leaving.{left_life}
+use Rattle.subscriber.specs.Living.{WritesLife}
+use Rattle.subscriber.proofs.subscribing.follow_all.Goals as goal
+
+pub returns-clause-lives : goal.returns-clause-lives
+returns-clause-lives g c =
+    subst (λ (n : ℕ). WritesLife c.args.plan.now (g.W.Write.contents c.args.output.now) c.in_ok-messages.messages n c.leave.new.joined.subscriber (g.W.Write.contents c.follow-followed.new.output)) (sym c.leave.ensures.number)
+    (left_life _ _ _ _ _ _ _ c.in_ok-messages.ensures.lives c.leave.ensures.unpolled)
