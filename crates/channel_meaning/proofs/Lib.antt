@@ -2,3 +2,4 @@ pub mod Streams
 mod Runs
 mod Both
 mod Tallies
+mod Books

@@ -34,7 +34,7 @@ joined : (i : Identity) (number start : ℕ) (m : List ℕ) → IsGeometry i.geo
 joined i number start m legal = let held = payload_cuts i.geometry (length m) legal in pieces_join true (cuts_of i.geometry (length m)) m (omega (arith, held))
 
 -- behind a position that none of them begins below, up to where they end
-all_messages : (i : Identity) (number j at tail : ℕ) (ts : List Taken) → IsGeometry i.geometry → Tiles i.geometry.term_length at tail (map (entry_of i number) ts) → j ≤ at → messages j tail (map (entry_of i number) ts) ≡ flat_map messages_in ts
+pub all_messages : (i : Identity) (number j at tail : ℕ) (ts : List Taken) → IsGeometry i.geometry → Tiles i.geometry.term_length at tail (map (entry_of i number) ts) → j ≤ at → messages j tail (map (entry_of i number) ts) ≡ flat_map messages_in ts
 all_messages i number j at tail [] legal tiles low = refl
 all_messages i number j at tail (Message start m ∷ ts) legal tiles low =
     let e = entry_of i number (Message start m) in

@@ -9,10 +9,14 @@
 //! In a driver's run a subscriber whose receiver was handed datagrams alone that are honest for a stream, that refused no message,
 //! and has tallied as many as the stream has, has tallied all of its messages, in their order (`tallies_all`).
 //!
-//! That the claims tile a stream is a premise, and that the sender's reader knows no frames but its own: both are what the log's
-//! rule says of a log with one publisher, and no contract of a pass alone. That a device carries what it was given is another.
+//! The log of a publisher that has ended whole is closed: where its claims are in the order of the stream they tile that from the
+//! log's start to its tail, and the messages of that are those that were read (`publishes_all_of_it`).
+//!
+//! That a publisher claims in the order of the stream is a premise, and that the sender's reader knows no frames but its own: both
+//! are what the log's rule says, and no contract of a pass alone. That a device carries what it was given is another.
 #![tactic(auto)]
 
+ghost use Rattle.channel_meaning.specs.Books.{PublishesAllOfIt};
 ghost use Rattle.channel_meaning.specs.Streams.{PublishesItsStream, WritesWhatIsRead};
 ghost use Rattle.channel_meaning.specs.Tallies.{TalliesAll};
 
@@ -22,6 +26,12 @@ use sender_meaning::polls_what_is_sent;
 /// A law: the messages of the stream that a pass published are those that were read.
 pub fn publishes_its_stream()
     ensures { PublishesItsStream }
+{}
+
+/// A law: what a publisher that has ended whole has claimed, where that is in the order of the stream, is all of its log's
+/// stream, and the messages of that are those that were read.
+pub fn publishes_all_of_it()
+    ensures { PublishesAllOfIt }
 {}
 
 /// A law: a subscriber of what a publisher's sender gave out writes runs of what the publisher read.

@@ -1,6 +1,6 @@
 -- A publisher to several subscribers that ends whole has read all of its input, and it has arrived at each.
 use Rattle.std.proofs.Common.{◌≡◌, ◌∙◌, ℕ, Bool, true, false, ◌&&◌, ◌||◌, nat_eq, List, [], ◌∷◌, map, length, Option, None, Some, IfOk, Result, Ok, Err, if◌then◌else◌, refl, sym, ap, subst}
-use Rattle.std.specs.List.{AllByRecursion, list_all, list_any}
+use Rattle.std.specs.List.{AllByRecursion, list_all}
 use Rattle.std.specs.Prelude.{⊤}
 use Rattle.std.proofs.lemmas.Bool.{eqb-true}
 use Rattle.peer.specs.declared.attendance.Attendance.{Attendance}
@@ -11,11 +11,10 @@ use Rattle.offering.specs.declared.reading.Reading.{Reading}
 use Rattle.publisher.specs.declared.fault.PublishFault.{PublishFault}
 use Rattle.publisher.specs.declared.judged.Judged.{Judged}
 use Rattle.publisher.specs.Ended.{AllArrived}
-use Rattle.publisher.specs.Judging.{end_in, ended_by, ending_by, ending_of, fault_in, faulted_or, is_read}
-use Rattle.publisher.specs.Progress as one
+use Rattle.publisher.specs.Judging.{end_in, ended_by, ending_by, fault_in, faulted_or, is_read}
 use Rattle.publisher.proofs.Whole.{arrived}
 use Rattle.group_publisher.specs.Ended.{AllHaveArrived, ending_with}
-use Rattle.group_publisher.specs.Endings.{group_ending, heard_along, is_missed_along, is_over_along, is_whole_along}
+use Rattle.group_publisher.specs.Endings.{heard_along, is_whole_along}
 use Rattle.group_publisher.specs.Judging.{Ends}
 use Rattle.group_publisher.specs.Seeing.{ChannelWay}
 

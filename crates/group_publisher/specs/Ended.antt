@@ -1,5 +1,5 @@
 -- What a publisher to several subscribers that has ended whole has read and published, and what was heard of that.
-use Rattle.std.specs.Prelude.{◌≡◌, ℕ, nat_eq, List, length, Option, None, Some, Result, Ok, Err, if◌then◌else◌}
+use Rattle.std.specs.Prelude.{◌≡◌, ℕ, nat_eq, List, length, Option, Some, Result, Ok, Err, if◌then◌else◌}
 use Rattle.std.specs.List.{AllByRecursion}
 use Rattle.log_rule.specs.Claims.Handles.{PublisherValue}
 use Rattle.shared_log.specs.Handles.{IsNew, LogValue}
@@ -9,7 +9,7 @@ use Rattle.peer.specs.declared.ending.Ending.{Ending}
 use Rattle.peer.specs.declared.ending.Ending.TheVariants.{Short}
 use Rattle.offering.specs.Ended.{EndsInput}
 use Rattle.offering.specs.declared.reading.Reading.{Reading}
-use Rattle.publisher.specs.Ended.{AllArrived, HasArrived}
+use Rattle.publisher.specs.Ended.{AllArrived}
 use Rattle.publisher.specs.Openings.{IsPlanned}
 use Rattle.publisher.specs.declared.fault.PublishFault.{PublishFault}
 

@@ -162,6 +162,7 @@ pub fn publish_group_over<
         state,
         conductor,
         publisher,
+        others: _,
         reader,
         passes,
     } = parts;

@@ -38,6 +38,7 @@ nothing p q k tail = record {
   taken = [];
   identity = ap (λ (v : Pass). v.identity) k;
   number = ap (λ (v : Pass). v.number) k;
+  parts = ap (λ (v : Pass). v.right.parts) k;
   claims = ap (λ (v : Pass). v.right.claims) k ∙ sym (append-nil p.right.claims);
   frames = ap (λ (v : Pass). v.work.frames) k ∙ sym (append-nil p.work.frames);
   drafts = ap (λ (v : Pass). v.work.drafts) k;
@@ -61,6 +62,7 @@ together p v q tail middle to ms ns a b =
       taken = a.taken ++ b.taken;
       identity = b.identity ∙ a.identity;
       number = b.number ∙ a.number;
+      parts = b.parts ∙ a.parts;
       claims =
           b.claims
           ∙ (λ j. a.claims j ++ map (claim_of (a.identity j) (a.number j)) b.taken)
@@ -90,6 +92,7 @@ accepted p q message end h tail = record {
   taken = Message h.start message ∷ [];
   identity = ap (λ (v : Pass). v.identity) h.after ∙ ap (λ (v : Pass). v.identity) h.claimed.after;
   number = ap (λ (v : Pass). v.number) h.after ∙ ap (λ (v : Pass). v.number) h.claimed.after;
+  parts = ap (λ (v : Pass). v.right.parts) h.after ∙ ap (λ (v : Pass). v.right.parts) h.claimed.after;
   claims =
       ap (λ (v : Pass). v.right.claims) h.after
       ∙ ap (λ (v : Pass). v.right.claims) h.claimed.after
@@ -107,6 +110,7 @@ padded p word q h tail =
       taken = Padding (start_in (geometry_of p) word) (term_of p - offset_in word) ∷ [];
       identity = ap (λ (v : Pass). v.identity) e;
       number = ap (λ (v : Pass). v.number) e;
+      parts = ap (λ (v : Pass). v.right.parts) e;
       claims = ap (λ (v : Pass). v.right.claims) e;
       frames = ap (λ (v : Pass). v.work.frames) e;
       drafts = ap (λ (v : Pass). v.work.drafts) e;

@@ -50,6 +50,7 @@ pub record Publishes (p : Pass) (tail : ℕ) (messages : List (List ℕ)) (q : P
   pub taken : List Taken
   pub identity : q.identity ≡ p.identity
   pub number : q.number ≡ p.number
+  pub parts : q.right.parts ≡ p.right.parts
   pub claims : q.right.claims ≡ p.right.claims ++ map (claim_of p.identity p.number) taken
   pub frames : q.work.frames ≡ p.work.frames ++ flat_map (frames_in p.identity) taken
   pub drafts : q.work.drafts ≡ p.work.drafts

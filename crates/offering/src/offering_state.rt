@@ -32,6 +32,13 @@ impl OfferingState {
         }
     }
 
+    /// The log, where no thread needs the rest any more.
+    pub fn into_log(self) -> Log
+        ensures { result ≡ self.log }
+    {
+        self.log
+    }
+
     /// Lets the thread that reads end at its next turn, if it isn't waiting for input.
     pub fn stop(&self) {
         self.stopped.store(true, Ordering::SeqCst);

@@ -14,7 +14,7 @@ use Rattle.offering.specs.declared.reading.ReadingEnd.TheVariants.{All, Stopped}
 use Rattle.publisher.specs.declared.fault.PublishFault.{PublishFault}
 use Rattle.publisher.specs.declared.judged.Judged.{Judged}
 use Rattle.publisher.specs.Ended.{AllArrived, HasArrived}
-use Rattle.publisher.specs.Judging.{are_same, end_by, end_in, ended_by, ending_by, ending_of, fault_by, fault_in, faulted_or, is_all, is_read}
+use Rattle.publisher.specs.Judging.{are_same, end_by, end_in, ended_by, ending_by, ending_of, fault_by, faulted_or, is_all, is_read}
 use Rattle.publisher.specs.Progress.{Ends}
 
 -- ---- what can't be

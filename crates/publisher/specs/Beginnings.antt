@@ -7,7 +7,7 @@ use Rattle.shared_log.specs.Books.{IsDone}
 use Rattle.shared_log.specs.Handles.{IsNew}
 use Rattle.shared_log.specs.Parts.{IsNewReader}
 use Rattle.options.specs.declared.ends.plans.PublishPlan.{PublishPlan}
-use Rattle.publisher.specs.Openings.{ArePasses, IsPlanned}
+use Rattle.publisher.specs.Openings.{AreOthers, ArePasses, IsPlanned}
 use Rattle.publisher.specs.declared.beginning.PublisherParts.{PublisherParts}
 
 -- the stream of the plan
@@ -23,5 +23,6 @@ pub record ArePublisherParts {D : Type 0} (p : PublishPlan) (b : PublisherParts 
   pub log_is : IsPlanned p b.state.log
   pub publisher : IsDone b.state.log b.publisher
   pub new : IsNew b.state.log 0 b.publisher
+  pub others : AreOthers b.state.log b.others.items
   pub reader : IsNewReader b.state.log 0 b.reader
   pub passes : ArePasses b.state.log b.conductor b.passes

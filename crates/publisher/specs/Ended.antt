@@ -1,7 +1,9 @@
 -- What a publisher that has ended whole has read and published, and what was heard of that.
-use Rattle.std.specs.Prelude.{◌≡◌, ℕ, true, List, Option, None, Some, Ok}
+use Rattle.std.specs.Prelude.{◌≡◌, ℕ, true, List, [], ◌∷◌, ◌++◌, Option, None, Some, Ok, IfSome}
 use Rattle.log_rule.specs.Claims.Handles.{PublisherValue}
+use Rattle.shared_log.specs.Books.{IsDone, ShowsBook}
 use Rattle.shared_log.specs.Handles.{IsNew, LogValue}
+use Rattle.shared_log.specs.declared.book.Book.{Book}
 use Rattle.options.specs.declared.ends.plans.PublishPlan.{PublishPlan}
 use Rattle.peer.specs.declared.attendance.Attendance.{Attendance}
 use Rattle.peer.specs.Endings.{is_whole}
@@ -9,7 +11,8 @@ use Rattle.offering.specs.Ended.{EndsInput}
 use Rattle.offering.specs.declared.reader.InputEnd.{InputEnd}
 use Rattle.offering.specs.declared.reading.Reading.{Reading}
 use Rattle.offering.specs.declared.reading.ReadingEnd.TheVariants.{All}
-use Rattle.publisher.specs.Openings.{IsPlanned}
+use Rattle.publisher.specs.Openings.{AreOthers, IsKept, IsPlanned}
+use Rattle.publisher.specs.declared.log_end.LogEnd.{LogEnd}
 
 -- nothing of the input is left; what was accepted of it was nothing, or one receiver was heard from the start to where that
 -- ends, and no other
@@ -25,8 +28,33 @@ abbrev pub AllArrived : Option Reading → Attendance → Type 0
 AllArrived None a = ⊥
 AllArrived (Some r) a = HasArrived r a
 
+-- ---- the end of the log
+
+-- of this log the others and the keeper came back, and the log, unless a thread still has it
+pub record LeavesLog (l : LogValue) (e : LogEnd) : Type 0 where
+  pub log : IfSome e.log (λ m. m ≡ l)
+  pub others : AreOthers l e.others.items
+  pub keeper : IsKept l e.keeper
+
+-- the first publisher came back too, where the reading has ended
+pub record CanClose {I : Type 0} (left : Option (InputEnd I)) (e : LogEnd) : Type 0 where
+  pub log : LogValue
+  pub leaves : LeavesLog log e
+  pub first : IfSome left (λ l. IsDone log l.publisher × (l.publisher.pass.right.parts ≡ 176))
+
+-- it was closed, with this book
+abbrev pub ShowsAll : Option LogValue → List PublisherValue → PublisherValue → Book → Type 0
+ShowsAll None others p book = ⊥
+ShowsAll (Some l) others p book = ShowsBook l (others ++ p ∷ []) book
+
+abbrev pub IsClosed : {I : Type 0} → Option (InputEnd I) → LogEnd → Type 0
+IsClosed None e = ⊥
+IsClosed (Some left) e = (book : Book) × ShowsAll e.log e.others.items left.publisher book
+
 -- for the plan all that the input had was read, and it was published, each message once and whole, in their order, by the first
--- publisher of a log of the plan, which had just been opened; and that has arrived
+-- publisher of a log of the plan, which had just been opened; and that has arrived. The log was closed: the others have claimed
+-- nothing, so what the first has claimed, in the order of the stream, tiles it from its start to its tail, and each frame of that
+-- is committed
 pub record PublishesAll (p : PublishPlan) (old : Option (List ℕ)) : Type 0 where
   pub log : LogValue
   pub log_is : IsPlanned p log
@@ -38,3 +66,7 @@ pub record PublishesAll (p : PublishPlan) (old : Option (List ℕ)) : Type 0 whe
   pub ends : EndsInput p.end.form log old new first.pass last reading
   pub attendance : Attendance
   pub arrived : HasArrived reading attendance
+  pub others : List PublisherValue
+  pub others_are : AreOthers log others
+  pub book : Book
+  pub shows : ShowsBook log (others ++ last ∷ []) book

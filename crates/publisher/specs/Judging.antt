@@ -2,7 +2,7 @@
 use Rattle.std.specs.Prelude.{◌≡◌, ℕ, Bool, true, false, ◌&&◌, nat_eq, if◌then◌else◌, Option, None, Some, Result, Ok, Err}
 use Rattle.endpoint.specs.declared.device_error.DeviceError.TheVariants.{Device}
 use Rattle.peer.specs.declared.ending.Ending.{Ending}
-use Rattle.peer.specs.declared.ending.Ending.TheVariants.{Whole, Short}
+use Rattle.peer.specs.declared.ending.Ending.TheVariants.{Short}
 use Rattle.offering.specs.Inputs as inputs
 use Rattle.offering.specs.declared.fault.ReadingFault.{ReadingFault}
 use Rattle.offering.specs.declared.reading.Offered.{Offered}

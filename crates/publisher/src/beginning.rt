@@ -25,6 +25,8 @@ pub struct PublisherParts<D> {
     pub state: OfferingState,
     pub conductor: Conductor,
     pub publisher: Publisher,
+    /// The log's other publishers, which publish nothing.
+    pub others: Vec<Publisher>,
     pub reader: LogReader,
     pub passes: SenderPasses<D>,
 }
@@ -95,6 +97,7 @@ pub fn parts_over<D: Drop>(
         state: OfferingState::new(log),
         conductor,
         publisher,
+        others: publishers,
         reader,
         passes: SenderPasses {
             client,

@@ -10,11 +10,12 @@ ghost use Rattle.agents.specs.LogSenders.{SendsLog};
 ghost use Rattle.peer.specs.declared.ending.Ending.TheVariants.{Whole};
 ghost use Rattle.offering.specs.Ended.{EndsInput};
 ghost use Rattle.publisher.specs.Beginnings.{ArePublisherParts};
-ghost use Rattle.publisher.specs.Ended.{AllArrived, PublishesAll, reading_left};
-ghost use Rattle.publisher.specs.Openings.{ArePasses};
+ghost use Rattle.publisher.specs.Ended.{AllArrived, LeavesLog, PublishesAll, reading_left};
+ghost use Rattle.publisher.specs.Openings.{ArePasses, IsKept};
 
 use crate::beginning::{PublisherParts, publisher_parts};
 use crate::fault::PublishFault;
+use crate::log_end::{LogEnd, ending_of, log_of};
 use crate::looking::ChannelDevice;
 use crate::publisher_context::PublisherContext;
 use crate::sender_thread::{ChannelSender, SenderPasses};
@@ -24,7 +25,7 @@ use endpoint::{Datagrams, DeviceError, Route, UdpDevice};
 use offering::{OfferingState, Reader, start_reader};
 use options::PublishPlan;
 use peer::Ending;
-use shared_log::{LogReader, Publisher};
+use shared_log::{Keeper, LogReader, Publisher};
 use std::alloc::Global;
 use std::io::{BufRead, BufReader, Read, Write};
 use std::net::Net;
@@ -104,7 +105,7 @@ pub fn started<R: Threads + Clock + Send + Copy + 'static, I: BufRead + Send + D
     }
 }
 
-/// Runs over what the threads share: the sender is opened before the other thread is started.
+/// Runs over what the threads share: the sender is opened before the other thread is started. The keeper comes back.
 fn publish_shared<
     R: Threads + Wait + Clock + Send + Copy + 'static,
     I: BufRead + Send + Drop + 'static,
@@ -117,21 +118,24 @@ fn publish_shared<
     passes: SenderPasses<ChannelDevice<D>>,
     offering: Offering<I>,
     errors: &mut E,
-) -> Result<Published<I>, PublishFault>
+) -> Result<(Published<I>, Keeper), PublishFault>
     requires reader { IsNewReader context.now.state.now.log 0 reader }
     requires start { IsStart context.now.state.now.log.identity.geometry context.now.state.now.log.start }
     requires consumers { 0 < context.now.state.now.log.consumers }
     requires passes { ArePasses context.now.state.now.log context.now.conductor.now passes }
     requires offering { ((arc_value offering.state).log ≡ context.now.state.now.log) × IsDone context.now.state.now.log offering.publisher }
-    ensures input { IfOk result (λ e. IfSome e.input (λ left. EndsInput context.now.plan.now.end.form context.now.state.now.log (I.remaining offering.input) (I.remaining left.input) offering.publisher.pass left.publisher left.reading)) }
-    ensures whole { IfOk result (λ e. e.ending ≡ Ok Whole → AllArrived (reading_left e.input) e.attendance) }
+    ensures keeper { IfOk result (λ e. IsKept context.now.state.now.log e.1) }
+    ensures input { IfOk result (λ e. IfSome e.0.input (λ left. EndsInput context.now.plan.now.end.form context.now.state.now.log (I.remaining offering.input) (I.remaining left.input) offering.publisher.pass left.publisher left.reading)) }
+    ensures whole { IfOk result (λ e. e.0.ending ≡ Ok Whole → AllArrived (reading_left e.0.input) e.0.attendance) }
 {
     let mut sender = opened(alloc, context.state, reader, passes)?;
     let reading = started(context.rt, alloc, context.plan, offering)?;
-    Ok(run(context, &mut sender, reading, errors))
+    let published = run(context, &mut sender, reading, errors);
+    let ChannelSender { agent: _, passes } = sender;
+    Ok((published, passes.keeper))
 }
 
-/// Runs with all that a publisher begins with, over any device.
+/// Runs with all that a publisher begins with, over any device. What is left of its log comes back.
 pub fn publish_over<
     R: Threads + Wait + Clock + Send + Copy + 'static,
     I: BufRead + Send + Drop + 'static,
@@ -144,16 +148,18 @@ pub fn publish_over<
     parts: PublisherParts<ChannelDevice<D>>,
     input: I,
     errors: &mut E,
-) -> Result<Published<I>, PublishFault>
+) -> Result<(Published<I>, LogEnd), PublishFault>
     requires { ArePublisherParts plan.now parts }
-    ensures input { IfOk result (λ e. IfSome e.input (λ left. EndsInput plan.now.end.form parts.state.log (I.remaining input) (I.remaining left.input) parts.publisher.pass left.publisher left.reading)) }
-    ensures whole { IfOk result (λ e. e.ending ≡ Ok Whole → AllArrived (reading_left e.input) e.attendance) }
+    ensures leaves { IfOk result (λ e. LeavesLog parts.state.log e.1) }
+    ensures input { IfOk result (λ e. IfSome e.0.input (λ left. EndsInput plan.now.end.form parts.state.log (I.remaining input) (I.remaining left.input) parts.publisher.pass left.publisher left.reading)) }
+    ensures whole { IfOk result (λ e. e.0.ending ≡ Ok Whole → AllArrived (reading_left e.0.input) e.0.attendance) }
 {
     let PublisherParts {
         began,
         state,
         conductor,
         publisher,
+        others,
         reader,
         passes,
     } = parts;
@@ -166,7 +172,14 @@ pub fn publish_over<
         began,
     };
     let offering = Offering::new(theirs, publisher, input);
-    publish_shared(alloc, &context, reader, passes, offering, errors)
+    let (published, keeper) = publish_shared(alloc, &context, reader, passes, offering, errors)?;
+    let log = log_of(ours);
+    let end = LogEnd {
+        log,
+        others,
+        keeper,
+    };
+    Ok((published, end))
 }
 
 /// The device along a route.
@@ -205,18 +218,11 @@ pub fn buffered<I: Read + Drop>(alloc: Global, input: I) -> Result<BufReader<I>,
     }
 }
 
-/// How it ended; what is left is let go.
-fn ending_of<I: Drop>(published: Published<I>) -> Result<Ending, PublishFault>
-    ensures { result ≡ published.ending }
-{
-    published.ending
-}
-
 /// Publishes the messages of the input as planned, along a route, and answers how it ended. Another receiver that comes, that nobody does, a
 /// fault of the input, an end before all was received, an empty input and the counters are lines of `errors`.
 ///
 /// It waits for nobody but receivers: where it ends the input may still be read, by a thread of its own that ends with the
-/// process, or at its next message. It ends whole only where all of the input was read.
+/// process, or at its next message. It ends whole only where all of the input was read, and its log is closed then.
 ///
 /// The fault is `Input` where a message couldn't be read, and what came before it was delivered or given up on, `Full` at
 /// the stream's last position, `NoSocket` where the system refused one along the route, `Device` where a thread or the clock
@@ -237,6 +243,6 @@ pub fn publish<
 {
     let input = buffered(alloc, input)?;
     let parts = prepared(rt, alloc, plan, route)?;
-    let published = publish_over(rt, alloc, plan, parts, input, errors)?;
-    ending_of(published)
+    let (published, end) = publish_over(rt, alloc, plan, parts, input, errors)?;
+    ending_of(alloc, published, end)
 }

@@ -6,7 +6,9 @@
 //! their order, each once and whole, and paddings, up to one that was still being offered (`publish_over`, by `EndsInput`,
 //! over any reader and any device). Where a publisher ends whole, the reading has ended at the input's end, and where its
 //! messages end is what the end was judged by: nothing was to be delivered, or one receiver was heard from the start to there,
-//! and no other (`publish_over`, by `AllArrived`; `publish`, by `PublishesAll`).
+//! and no other (`publish_over`, by `AllArrived`; `publish`, by `PublishesAll`). Its log is closed then, with all its passes: what
+//! its one publisher has claimed, in the order of the stream, tiles that from the log's start to its tail, and nobody else has
+//! claimed anything.
 //!
 //! Its sender stands where the plan starts and sends from there, its core lives by datagrams and moments as a sender does
 //! (`send_all`, by `Lived`; what that gives out is honest for the stream: `sender_meaning`), cycles and offers keep what their
@@ -26,6 +28,7 @@ mod channel_publisher;
 mod fault;
 mod judged;
 mod judging;
+mod log_end;
 mod looking;
 mod progress;
 mod publisher_context;
@@ -40,6 +43,7 @@ pub use channel_publisher::{
 pub use fault::PublishFault;
 pub use judged::Judged;
 pub use judging::{check_input, end_in, fault_in};
+pub use log_end::LogEnd;
 pub use looking::{Calls, ChannelDevice, Seen, calls_of, look};
 pub use peer::Ending;
 pub use progress::{Progress, told_in};

@@ -6,7 +6,7 @@ ghost use Rattle.agents.specs.LogSenders.{SendsLog};
 ghost use Rattle.peer.specs.Watching.{told};
 ghost use Rattle.sender_meaning.specs.Lives.{Lived};
 ghost use Rattle.publisher.specs.Looking.{calls_of, seen_of};
-ghost use Rattle.publisher.specs.Openings.{ArePasses};
+ghost use Rattle.publisher.specs.Openings.{ArePasses, IsKept};
 ghost use Rattle.publisher.specs.Progress.{Ends};
 
 use crate::fault::PublishFault;
@@ -134,6 +134,7 @@ pub fn send_all<R: Wait + Clock, D: Datagrams, E: Write>(
     requires agent { SendsLog context.now.state.now.log sender.old.agent }
     requires passes { ArePasses context.now.state.now.log context.now.conductor.now sender.old.passes }
     ensures lives { Lived sender.old.agent.core sender.new.agent.core }
+    ensures keeper { IsKept context.now.state.now.log sender.new.passes.keeper }
     ensures ends { IfOk result (λ judged. Ends sender.new.passes.duty.device.watch.attendance context.now.plan.now.linger context.now.plan.now.wait judged) }
 {
     let mut progress = Progress::new();

@@ -9,7 +9,7 @@ ghost use Rattle.sender_meaning.specs.Lives.{Lived};
 ghost use Rattle.offering.specs.Ended.{EndsInput};
 ghost use Rattle.publisher.specs.Ended.{AllArrived, reading_left};
 ghost use Rattle.publisher.specs.Judging.{ended_by, is_read};
-ghost use Rattle.publisher.specs.Openings.{ArePasses};
+ghost use Rattle.publisher.specs.Openings.{ArePasses, IsKept};
 
 use crate::beginning::sent_by;
 use crate::fault::PublishFault;
@@ -139,6 +139,7 @@ pub(crate) fn run<R: Threads + Wait + Clock, I: BufRead + Drop, D: Datagrams, E:
     requires agent { SendsLog context.now.state.now.log sender.old.agent }
     requires passes { ArePasses context.now.state.now.log context.now.conductor.now sender.old.passes }
     ensures lives { Lived sender.old.agent.core sender.new.agent.core }
+    ensures keeper { IsKept context.now.state.now.log sender.new.passes.keeper }
     ensures input { IfSome result.input (λ e. EndsInput reader.handle.promise.form reader.handle.promise.log.value (I.remaining reader.handle.promise.input.value) (I.remaining e.input) reader.handle.promise.publisher.value.pass e.publisher e.reading) }
     ensures whole { result.ending ≡ Ok Whole → AllArrived (reading_left result.input) result.attendance }
 {

@@ -1,4 +1,4 @@
-use Rattle.std.proofs.Common.{◌≡◌, ◌∙◌, ◌<◌, length, ap, arith}
+use Rattle.std.proofs.Common.{◌<◌, length, arith}
 use Rattle.group_publisher.specs.Seeing.{seen_along}
 use Rattle.group_publisher.proofs.Written.{written, written_rest}
 use Rattle.group_publisher.proofs.sender_thread.see_all.Goals as goal

@@ -5,4 +5,4 @@ use Rattle.publisher.proofs.channel_publisher.publish_shared.Goals as goal
 pub returns-clause-input : goal.returns-clause-input
 returns-clause-input g c =
     let r = c.in_ok-reading.ensures in
-    as_given (g.I.Read.remaining) c.run.result.input _ _ _ _ _ _ _ _ r.0 (r.1 ∙ c.requires.offering.0) r.2 r.3 c.run.ensures.input
+    as_given (g.I.Read.remaining) c.run-published.result.input _ _ _ _ _ _ _ _ r.0 (r.1 ∙ c.requires.offering.0) r.2 r.3 c.run-published.ensures.input

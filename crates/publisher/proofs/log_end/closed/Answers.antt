@@ -1,0 +1,7 @@
+use Rattle.publisher.proofs.AllPublished.{closes}
+use Rattle.publisher.proofs.log_end.closed.Goals as goal
+
+pub close-requires : goal.close-requires
+close-requires c =
+    let items = rw c.in-Ok.is at c.push.ensures.items in
+    closes c.in-Some.log c.requires.0 c.args.end c.args.publisher c.push.new.self.items c.in-Some.is c.requires.1 c.requires.2 c.requires.3 items
