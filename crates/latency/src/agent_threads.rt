@@ -1,20 +1,19 @@
 //! The threads of the driver.
 
-ghost use Rattle.std.specs.Prelude.{◌≡◌, ◌≤◌, length};
-ghost use Rattle.std.specs.Arc.{arc_value};
+ghost use Rattle.std.specs.Prelude.{◌≡◌, ◌≤◌, length, pos};
 ghost use Rattle.theory.specs.Position.{max_message};
 ghost use Rattle.shared_log.specs.Parts.{IsNewReader};
 ghost use Rattle.run_parties.specs.Passes.{IsKept};
+ghost use Rattle.run_parties.specs.Receivers.{AreReceiverParts};
 ghost use Rattle.run_parties.specs.RunLogs.{IsRunLog};
 ghost use Rattle.latency.specs.Beginnings.{ArePasses};
 
-use crate::shared_receiver::{SharedReceiver, receive};
+use crate::receiving::{Handover, receive};
 use crate::{Course, LatencyError, Load, Offers, WhenFull, start_publishers};
-use agents::Named;
 use conductor::{Client, Taker};
 use endpoint::{Fan, UdpDevice};
 use loss_injector::Lossy;
-use run_parties::{Context, Open, RunState, send, steer};
+use run_parties::{Context, Open, ReceiverParts, RunState, send, steer};
 use shared_log::{Keeper, LogReader, Publisher};
 use std::alloc::Global;
 use std::sync::Wait;
@@ -91,23 +90,27 @@ fn start_sender<'s, S, R: Wait + Clock + Sync>(
 }
 
 /// Starts the thread of the receiver. Where it can't be started, or ends, all end.
-fn start_receiver<'s, S, N: Named + Send, R: Wait + Clock + Sync>(
+fn start_receiver<'s, S, R: Wait + Clock + Sync>(
     scope: &'s Scope<'s, S>,
     run: &MeasuredRun<'s, R>,
-    receiver: &'s SharedReceiver<N>,
+    handover: &'s Handover,
+    parts: ReceiverParts,
     device: Device,
 )
-    requires { arc_value receiver.now.counters ≡ N.counters }
+    requires { AreReceiverParts run.now.state.now.log.identity.geometry (pos 1) parts }
 {
     let (rt, alloc, state, course) = (run.rt, run.alloc, run.state, run.course);
-    let started = scope.spawn(
-        move || -> ()
-            requires { arc_value receiver.now.counters ≡ N.counters }
-        {
-            course.end(receive(rt, alloc, state, receiver, TURNS, device));
-            state.stop();
-        },
-    );
+    let started = scope.spawn(move || {
+        let context = Context {
+            rt,
+            alloc,
+            state,
+            gate: &Open,
+            turns: TURNS,
+        };
+        course.end(receive(&context, handover, parts, device));
+        state.stop();
+    });
     see(course, started.is_ok());
 }
 
@@ -138,15 +141,16 @@ fn start_conductor<'s, S, R: Wait + Clock + Sync>(
 
 /// Starts a thread for the sender, one for the receiver, one for the conductor and one for each publisher. Where one can't be
 /// started, or one of the first three ends, all end.
-pub fn start_agents<'s, S, N: Named + Send, R: Wait + Clock + Sync>(
+pub fn start_agents<'s, S, R: Wait + Clock + Sync>(
     scope: &'s Scope<'s, S>,
     run: &MeasuredRun<'s, R>,
-    receiver: &'s SharedReceiver<N>,
+    handover: &'s Handover,
+    parts: ReceiverParts,
     passes: Passes,
 )
     requires passes { ArePasses run.now.state.now.log run.now.state.now.conductor passes }
     requires short { run.now.load.length ≤ max_message run.now.state.now.log.identity.geometry }
-    requires counters { arc_value receiver.now.counters ≡ N.counters }
+    requires parts { AreReceiverParts run.now.state.now.log.identity.geometry (pos 1) parts }
 {
     let Passes {
         threads,
@@ -161,7 +165,7 @@ pub fn start_agents<'s, S, N: Named + Send, R: Wait + Clock + Sync>(
         taker,
     } = threads;
     start_sender(scope, run, sends, reader, client);
-    start_receiver(scope, run, receiver, replies);
+    start_receiver(scope, run, handover, parts, replies);
     start_conductor(scope, run, keeper, taker);
     let offers = Offers {
         rt: run.rt,

@@ -4,7 +4,7 @@ ghost use Rattle.std.specs.Prelude.{◌≡◌, ◌*◌, ◌≤◌, IfOk};
 ghost use Rattle.latency.specs.Beginnings.{ArePasses, AreThreadPasses};
 
 use crate::agent_threads::{MeasuredRun, Passes, ThreadPasses};
-use crate::measured_run::measure_named;
+use crate::measured_run::measure;
 use crate::{Course, LatencyError, Plan, Samples, Timed, timed_by};
 use agents::Began;
 use conductor::Conductor;
@@ -13,7 +13,6 @@ use run_parties::{
     LossyDevices, RunLog, RunState, lossy_devices, open_run_log, receiver_id, receiver_parts,
 };
 use std::alloc::Global;
-use std::marker::Brand;
 use std::net::Net;
 use std::sync::Wait;
 use std::thread::Threads;
@@ -93,7 +92,7 @@ pub fn time_driver<R: Threads + Wait + Clock + Net + Sync>(
         course: &course,
         load: plan.load,
     };
-    let samples = measure_named::<Brand, R>(&run, parts, passes, samples)?;
+    let samples = measure(&run, parts, passes, samples)?;
     course.outcome()?;
     timed_by(samples)
 }

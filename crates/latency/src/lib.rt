@@ -21,10 +21,10 @@ mod measured_run;
 mod percentiles;
 mod plan;
 mod publisher_threads;
+mod receiving;
 mod row;
 mod samples;
 mod sampling;
-mod shared_receiver;
 mod stamps;
 
 pub use course::Course;

@@ -3,20 +3,17 @@
 ghost use Rattle.std.specs.Prelude.{◌≡◌, ◌≤◌, ◌+◌, IfOk, OnOk, vec_len};
 
 use crate::agent_threads::MeasuredRun;
-use crate::shared_receiver::SharedReceiver;
+use crate::receiving::Handover;
 use crate::{LatencyError, Samples, stamp_in};
-use agents::{IdleStrategy, Named};
+use agents::IdleStrategy;
 use assembler::{AssemblyError, Message};
-use receiver::PollError;
+use receiver::MessageReader;
 use std::alloc::Global;
 use std::sync::Wait;
 use std::time::Clock;
 
 /// After how many nanoseconds without a message the subscriber gives up.
 const PATIENCE: u64 = 60_000_000_000;
-
-/// How many messages are polled under one lock, at the most.
-const BATCH: u64 = 16;
 
 /// Whether nothing is to be waited for any more: all ends, or there was no message for too long.
 fn is_over<R: Clock>(run: &MeasuredRun<'_, R>, since: u64) -> Result<bool, LatencyError> {
@@ -27,59 +24,57 @@ fn is_over<R: Clock>(run: &MeasuredRun<'_, R>, since: u64) -> Result<bool, Laten
     Ok(now.saturating_sub(since) > PATIENCE)
 }
 
-/// Waits until the stream has come, or nothing is to be waited for any more.
-pub fn await_stream<N: Named, R: Wait + Clock>(
+/// Waits until the stream has come, and who reads its image was handed over; or until nothing is to be waited for any more.
+pub fn await_stream<R: Wait + Clock>(
     run: &MeasuredRun<'_, R>,
-    receiver: &SharedReceiver<N>,
-) -> Result<(), LatencyError> {
+    handover: &Handover,
+) -> Result<Option<MessageReader>, LatencyError> {
     let mut idle = IdleStrategy::new();
     for _ in run.rt.forever() {
-        let positions = receiver.agent.lock(run.rt).positions();
-        if positions.is_some() || is_over(run, 0)? {
-            return Ok(());
+        let reader = handover.lock(run.rt).take();
+        if reader.is_some() || is_over(run, 0)? {
+            return Ok(reader);
         }
         idle.rest(run.rt);
     }
     unreachable!()
 }
 
-/// Polls under one lock until there is no message, and takes a sample of each; of so many at the most. The answer is how many
-/// there were.
-fn poll_some<N: Named, R: Wait + Clock>(
+/// Polls until there is no message, and takes a sample of each; of so many at the most. The answer is how many there were.
+fn poll_some<R: Wait + Clock>(
     run: &MeasuredRun<'_, R>,
-    receiver: &SharedReceiver<N>,
+    reader: &mut MessageReader,
     most: u64,
     samples: &mut Samples,
 ) -> Result<u64, LatencyError>
     ensures { IfOk result (λ count. (count ≤ most) × (vec_len samples.new.taken ≤ vec_len samples.old.taken + count)) }
 {
-    let mut agent = receiver.agent.lock(run.rt);
     for count in 0..most {
-        let Some(stamp) = stamp_of(agent.poll())? else {
+        let Some(stamp) = stamp_of(reader.next())? else {
             return Ok(count);
         };
         let now = run.course.moment(run.rt)?;
         samples.take(stamp, now)?;
+        reader.pass();
     }
     Ok(most)
 }
 
 /// The stamp of a message that was polled, if there was one.
 fn stamp_of(
-    polled: Result<Option<Message<Global>>, PollError>,
+    polled: Result<Option<Message<Global>>, AssemblyError>,
 ) -> Result<Option<u64>, LatencyError> {
     match polled {
         Ok(Some(message)) => Ok(stamp_in(&message.bytes)),
-        Ok(None) | Err(PollError::NoImage) => Ok(None),
-        Err(PollError::Unassembled(AssemblyError::TooLong)) => Ok(None),
-        Err(PollError::Unassembled(AssemblyError::Memory)) => Err(LatencyError::Memory),
+        Ok(None) | Err(AssemblyError::TooLong) => Ok(None),
+        Err(AssemblyError::Memory) => Err(LatencyError::Memory),
     }
 }
 
 /// Polls so many messages, and takes a sample of each; fewer where nothing is to be waited for any more.
-pub fn poll_all<N: Named, R: Wait + Clock>(
+pub fn poll_all<R: Wait + Clock>(
     run: &MeasuredRun<'_, R>,
-    receiver: &SharedReceiver<N>,
+    reader: &mut MessageReader,
     wanted: u64,
     samples: &mut Samples,
 ) -> Result<(), LatencyError>
@@ -89,7 +84,7 @@ pub fn poll_all<N: Named, R: Wait + Clock>(
     let mut left = wanted;
     let mut idle = IdleStrategy::new();
     for _ in run.rt.forever() {
-        let count = poll_some(run, receiver, left.min(BATCH), samples)?;
+        let count = poll_some(run, reader, left, samples)?;
         left -= count;
         if left == 0 || count == 0 && is_over(run, samples.last)? {
             return Ok(());
