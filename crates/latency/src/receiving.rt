@@ -42,7 +42,7 @@ fn receive_on<N: Named + Begins, R: Wait + Clock, D: Datagrams, G>(
     Ok(())
 }
 
-/// The same from the begin on, which has this name.
+/// The same from its begin on, over a device.
 fn receive_named<N: Named + Begins, R: Wait + Clock, D: Datagrams + Drop, G>(
     context: &Context<'_, R, G>,
     handover: &Handover,
