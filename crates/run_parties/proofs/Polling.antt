@@ -25,6 +25,7 @@ polled_none m t begun tally = record {
   messages = [];
   tally = tally;
   whole = λ z. record { reads = record { image = refl; chain = refl; known = tt; keeps = λ s a. a; greatest = refl }; heard = refl };
+  stands = begun.stands;
 }
 
 -- a message more, which is tallied
@@ -40,6 +41,7 @@ polled_message reads further passes m n o c k refused message room takes gives p
       messages = h.messages ++ message ∷ [];
       tally = takes h.messages (let l = h.tally.many in omega arith) h.tally;
       whole = λ z. further h.first m o h.frames (gives.earlier ++ gives.last ∷ []) h.messages (message ∷ []) (h.whole z) one;
+      stands = past.stands ∙ sym (ap (λ (x : Reading). x.heard_to) past.same);
     }
 
 -- none: the tally stays
@@ -52,6 +54,7 @@ polled_nothing reads further m n c refused gives h = record {
   messages = h.messages;
   tally = h.tally;
   whole = λ z. subst (λ (ms : List (List ℕ)). Hears h.first (h.frames ++ gives.frames) ms n) (append-nil h.messages) (further h.first m n h.frames gives.frames h.messages [] (h.whole z) gives.hears);
+  stands = gives.stands;
 }
 
 -- a message was refused
@@ -64,6 +67,7 @@ polled_refused reads m n c refused more error e refuses h = record {
   messages = h.messages;
   tally = h.tally;
   whole = λ z. absurd (omega (arith, e, z));
+  stands = refuses.stands;
 }
 
 -- ---- it meets the core

@@ -6,7 +6,7 @@ use Rattle.counters.specs.Order.{zeros}
 use Rattle.endpoint.specs.Devices.{Device}
 use Rattle.endpoint.specs.declared.device_error.DeviceError.{DeviceError}
 use Rattle.theory.specs.Placed.{AllAmong, Chain, Placed}
-use Rattle.shared_image.specs.Handles.{ImageWords}
+use Rattle.shared_image.specs.Handles.{ImageWords, position_of}
 use Rattle.rebuilder.specs.Seen.{Inserting, join_of}
 use Rattle.agents.specs.Cycles.{DutyState}
 use Rattle.receiver.specs.CoreLives.{CoreAct, CoreLives, heard_in, messages_of}
@@ -30,6 +30,7 @@ pub record HasLived (begin : Receiver) (tells : Type 0) (before after : Device) 
 
 -- who reads stands at the image's join, and has begun nothing
 pub record IsBegun (m : Reading) : Type 0 where
+  pub stands : position_of m.seat ≡ m.heard_to
   pub at : m.heard_to ≡ 32 * m.image.key.join
   pub nothing : m.assembler.begun ≡ None
 
@@ -49,6 +50,8 @@ pub record HasPolled (p : PollerState) : Type 0 where
   pub messages : List (List ℕ)
   pub tally : IsTallyOf messages p.tally
   pub whole : p.refused ≡ 0 → Hears first frames messages p.reader
+  -- its reader has passed all that was heard
+  pub stands : position_of p.reader.seat ≡ p.reader.heard_to
 
 -- of the same image it has polled on, and tallied no more messages than were wanted
 pub record HasPolledOn (wanted : ℕ) (old new : PollerState) : Type 0 where

@@ -3,6 +3,9 @@
 ghost use Rattle.std.specs.Prelude.{◌≡◌, None, Some, IfErr, IfNone, IfOk, IfSome, OnOk};
 ghost use Rattle.std.specs.Arc.{arc_value};
 ghost use Rattle.counters.specs.Order.{zeros};
+ghost use Rattle.agents.specs.Cycles.{Cycle};
+ghost use Rattle.agents.specs.Parties.{CoreHears, CoreTicks};
+ghost use Rattle.receiver.specs.Dealt.{HasNoReaders};
 ghost use Rattle.receiver.specs.Representing.{Represents};
 ghost use Rattle.run_parties.specs.Receptions.{EndsLife, IsBegun};
 
@@ -102,6 +105,7 @@ impl<N: Named + Begins, D: Datagrams> Reception<N, D> {
         now: u64,
     ) -> Result<bool, DeviceError>
         requires { counters.now ≡ N.counters }
+        ensures cycle { IfOk result (λ busy. Cycle CoreHears CoreTicks now (D.tells self.old.duty.device) self.old.core (D.device self.old.duty.device) busy self.new.core (D.device self.new.duty.device)) }
         ensures kept { IfErr result (λ fault. self.new.fault ≡ Some fault) }
         ensures still { OnOk result (self.new.fault ≡ self.old.fault) }
         ensures image { self.new.image ≡ self.old.image }
@@ -126,7 +130,7 @@ impl<N: Named + Begins, D: Datagrams> Reception<N, D> {
     ) -> Result<Option<MessageReader>, DeviceError>
         requires { self.old.fault ≡ None }
         ensures some { IfOk result (λ o. IfSome o (λ m. IsBegun m × (self.new.image ≡ Some m.image))) }
-        ensures none { IfOk result (λ o. IfNone o (self.new.image ≡ self.old.image)) }
+        ensures none { IfOk result (λ o. IfNone o ((self.new.image ≡ self.old.image) × HasNoReaders self.old.core.image)) }
         ensures still { self.new.fault ≡ self.old.fault }
     {
         let Some(taken) = self.agent.take_readers() else {
