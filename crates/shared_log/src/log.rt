@@ -137,16 +137,13 @@ impl Log {
         ring.place_of(position / 8) as usize + DATA
     }
 
-    /// The place of the word 8 bytes behind the one that stands at a place.
+    /// The place behind the last word of the three terms.
     #[inline(always)]
-    pub fn slot_behind(&self, ring: &Ring, place: usize) -> usize
-        requires ring { ring.now ≡ ring_of self.now.identity.geometry }
-        requires least { data_place ≤ place }
-        requires inside { place < table_length self.now.identity.geometry }
-        ensures is { (position : ℕ) → place ≡ slot self.now.identity.geometry position → result ≡ slot self.now.identity.geometry (position + 8) }
+    pub(crate) fn word_end(&self) -> usize
+        ensures { result ≡ table_length self.now.identity.geometry }
     {
         let _ = &self.table;
-        ring.behind((place - DATA) as u32) as usize + DATA
+        3 * (self.identity.geometry().term_length() as usize / 8) + DATA
     }
 
     /// Loads the limit.

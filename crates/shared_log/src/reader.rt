@@ -1,7 +1,7 @@
 //! A reader of a log, and its steps.
 
-ghost use Rattle.std.specs.Prelude.{◌≡◌, ◌+◌, ◌*◌, ◌^◌, ◌<◌, ◌≤◌, IfNone, IfSome, length};
-ghost use Rattle.log_rule.specs.Claims.Packs.{slot};
+ghost use Rattle.std.specs.Prelude.{◌≡◌, ◌+◌, ◌-◌, ◌*◌, ◌^◌, ◌<◌, ◌≤◌, IfNone, IfSome, List, ℕ, length};
+ghost use Rattle.log_rule.specs.Claims.Packs.{slot, table_length};
 ghost use Rattle.log_rule.specs.Readings.{Looks};
 ghost use Rattle.shared_log.specs.Readers.{Advances, Copies, Finds, FindsNone, IsAlone, IsReaderOf, LoadsWord, MayReread, ReadsFrame, ReadsNone, Rereads, Rests, SameSeat};
 
@@ -98,7 +98,37 @@ fn word_as<N: Word>(log: &Log, reader: &mut LogReader, place: usize, start: u64,
     words.load::<Reread<N>>(&mut reader.seat, place)
 }
 
-/// Copies so many words behind the header of the frame that begins at a position to the front of bytes.
+/// Copies words behind the header of the frame that begins at a position, from one on, which has this place, to their places
+/// in bytes. The ring doesn't end among them.
+fn copy_stretch(
+    log: &Log,
+    reader: &mut LogReader,
+    place: usize,
+    start: u64,
+    from: usize,
+    to: usize,
+    bytes: &mut [u8],
+)
+    requires fits { IsReaderOf log.now reader.old }
+    requires there { place ≡ slot log.now.identity.geometry (start + 8 * (4 + from)) }
+    requires near { place + (to - from) ≤ table_length log.now.identity.geometry }
+    requires low { start < 2 ^ 56 }
+    requires some { from ≤ to }
+    requires few { to < 2 ^ 29 }
+    requires inside { 8 * to ≤ length bytes.old }
+    ensures rests { Rests reader.old reader.new }
+    ensures copies { (before : List ℕ) → Copies reader.old start (8 * from) before bytes.old → Copies reader.old start (8 * to) before bytes.new }
+    ensures same_length { length bytes.new ≡ length bytes.old }
+{
+    for index in from..to {
+        let here = place + (index - from);
+        let word = word_as::<Brand>(log, reader, here, start, 4 + index as u64);
+        put_word(bytes, 8 * index, word);
+    }
+}
+
+/// Copies so many words behind the header of the frame that begins at a position to the front of bytes, in stretches between
+/// which the ring ends.
 fn copy_whole(log: &Log, reader: &mut LogReader, start: u64, words: usize, bytes: &mut [u8])
     requires fits { IsReaderOf log.now reader.old }
     requires low { start < 2 ^ 56 }
@@ -109,11 +139,12 @@ fn copy_whole(log: &Log, reader: &mut LogReader, start: u64, words: usize, bytes
     ensures same_length { length bytes.new ≡ length bytes.old }
 {
     let mut ring = log.ring();
-    let mut place = log.slot_of(&mut ring, start + 32);
-    for index in 0..words {
-        let word = word_as::<Brand>(log, reader, place, start, 4 + index as u64);
-        put_word(bytes, 8 * index, word);
-        place = log.slot_behind(&ring, place);
+    let mut done = 0;
+    while done < words {
+        let place = log.slot_of(&mut ring, start + 32 + 8 * done as u64);
+        let near = words.min(done + (log.word_end() - place));
+        copy_stretch(log, reader, place, start, done, near, bytes);
+        done = near;
     }
 }
 

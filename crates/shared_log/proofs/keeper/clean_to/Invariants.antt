@@ -1,10 +1,10 @@
-use Rattle.std.proofs.Common.{◌-◌, ◌≡◌}
-use Rattle.log_rule.specs.Claims.Packs.{slot}
-use Rattle.shared_log.proofs.Limits.{IsCleaning}
+use Rattle.std.proofs.Common.{◌-◌, ◌+◌, ◌*◌, ◌≡◌}
+use Rattle.log_rule.specs.Claims.Packs.{ring_of}
+use Rattle.shared_log.specs.Keepers.{KeepsAs, MayCleanTo, with_cleaned}
 use Rattle.shared_log.proofs.keeper.clean_to.Given as goal
 
-abbrev pub invariant-loop-at : goal.invariant-loop-at
-invariant-loop-at l = (l.place ≡ slot l.log.identity.geometry l.at) × IsCleaning l.fn.keeper l.end l.keeper-inside l.at
+abbrev pub invariant-loop-keeper : goal.invariant-loop-keeper
+invariant-loop-keeper l = record { ring : l.ring ≡ ring_of l.log.identity.geometry; may : MayCleanTo l.keeper l.end; keeps : KeepsAs l.fn.keeper (with_cleaned l.keeper.cleaned l.fn.keeper) l.keeper; steps : 8 * l.keeper.held.steps + l.fn.keeper.cleaned ≡ 8 * l.fn.keeper.held.steps + l.keeper.cleaned }
 
-abbrev pub decreases-loop-at : goal.decreases-loop-at
-decreases-loop-at l = l.end - l.at
+abbrev pub decreases-loop-keeper : goal.decreases-loop-keeper
+decreases-loop-keeper l = l.end - l.keeper.cleaned
