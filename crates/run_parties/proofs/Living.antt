@@ -1,5 +1,5 @@
 -- What a receiver and its subscriber live through goes on.
-use Rattle.std.proofs.Common.{◌≡◌, ℕ, Bool, List, [], ◌∷◌, ◌++◌, Option, None, Some, Result, Ok, Err, ◌≤◌, refl, sym, ap, ◌∙◌, subst, append_assoc, append-nil}
+use Rattle.std.proofs.Common.{◌≡◌, ℕ, Bool, List, [], ◌∷◌, ◌++◌, Option, None, Some, Result, Ok, Err, inl, inr, ◌≤◌, refl, sym, ap, ◌∙◌, subst, append_assoc, append-nil}
 use Rattle.std.specs.Prelude.{IfNone, IfOk}
 use Rattle.theory.specs.Position.{Geometry}
 use Rattle.endpoint.specs.declared.device_error.DeviceError.{DeviceError}
@@ -7,7 +7,7 @@ use Rattle.endpoint.specs.Devices.{Device}
 use Rattle.agents.specs.Cycles.{Cycle, HearsAll}
 use Rattle.agents.specs.Parties.{CoreHears, CoreTicks}
 use Rattle.std.specs.Arc.{arc_value}
-use Rattle.rebuilder.specs.Seen.{Inserting, join_of}
+use Rattle.rebuilder.specs.Seen.{Inserting}
 use Rattle.receiver.specs.Dealt.{ImageTakes}
 use Rattle.receiver.specs.Reading.{IsImage}
 use Rattle.receiver.specs.declared.readers.Readers.{Readers}
@@ -18,7 +18,7 @@ use Rattle.receiver.specs.Receiving.{Receiver}
 use Rattle.receiver.specs.Representing.{Core, Represents, words_of}
 use Rattle.run_parties.specs.Groups.{id_of}
 use Rattle.run_parties.specs.Receivers.{HasReceived, IsWaitingReceiver, new_receiver}
-use Rattle.run_parties.specs.Receptions.{EndsLife, HasDealtOf, HasLived, HasReceivedOn, PolledOf, ReceptionState}
+use Rattle.run_parties.specs.Receptions.{EndsLife, HasDealtOf, HasLived, HasReceivedOn, PolledOf, ReceptionState, given_by}
 use Rattle.run_parties.specs.declared.receiver_threads.Waiting.{Waiting}
 use Rattle.run_parties.specs.declared.reception.Received.{Received}
 
@@ -159,8 +159,8 @@ when_none None P none h = h
 when_none (Some x) P none h = absurd (none x refl)
 
 polled_nowhere : (v : Option Inserting) (t : Counted) → IsTallyOf [] t → PolledOf v t 0
-polled_nowhere None t tally = tally
-polled_nowhere (Some i) t tally = record { frames = []; at = join_of i; chain = refl; stored = tt; messages = []; tally = tally; whole = λ z. refl }
+polled_nowhere None t tally = (tally, refl)
+polled_nowhere (Some i) t tally = inl (tally, refl)
 
 pub ends_none : {D : Type 0} (device : D → Device) (begin : Receiver) (before : Device) (told : Type 0) (r : ReceptionState D) (t : Counted) → ((x : DeviceError) → r.fault ≡ Some x → ⊥) → IfNone r.fault (HasReceivedOn device begin before told r) → IsTallyOf [] t
     → EndsLife begin told before (device r.duty.device) t 0
@@ -180,5 +180,6 @@ may_meet device begin before told r x none received image = subst (HasDealtOf r.
 
 -- the tally is one of some messages
 pub life_tallies : (v : Option Inserting) (t : Counted) (refused : ℕ) → PolledOf v t refused → IsTally t
-life_tallies None t refused h = record { messages = []; tally = h }
-life_tallies (Some i) t refused h = record { messages = h.messages; tally = h.tally }
+life_tallies None t refused h = record { messages = []; tally = h.0 }
+life_tallies (Some i) t refused (inl h) = record { messages = []; tally = h.0 }
+life_tallies (Some i) t refused (inr h) = record { messages = given_by h.answers; tally = h.tally }

@@ -1,16 +1,17 @@
 -- What a receiver of a run lives through, what its subscriber reads of its image meanwhile, and what is tallied of that.
-use Rattle.std.specs.Prelude.{◌≡◌, ◌*◌, ◌≤◌, ⊤, ℕ, List, [], ◌++◌, Option, None, Some, IfNone}
+use Rattle.std.specs.Prelude.{◌≡◌, ◌⊎◌, ◌*◌, ◌≤◌, ⊤, ℕ, suc, min, List, [], ◌∷◌, ◌++◌, Option, None, Some, Result, Ok, Err, IfNone}
 use Rattle.std.specs.Arc.{arc_value}
 use Rattle.atomic_table.specs.Seated.{TableId}
 use Rattle.counters.specs.Order.{zeros}
 use Rattle.endpoint.specs.Devices.{Device}
 use Rattle.endpoint.specs.declared.device_error.DeviceError.{DeviceError}
-use Rattle.theory.specs.Placed.{AllAmong, Chain, Placed}
-use Rattle.shared_image.specs.Handles.{ImageWords, position_of}
+use Rattle.theory.specs.Placed.{Among, Placed}
+use Rattle.assembler.specs.declared.fault.AssemblyError.{AssemblyError}
+use Rattle.shared_image.specs.Handles.{ImageWords, known_by, position_of}
 use Rattle.rebuilder.specs.Seen.{Inserting, join_of}
 use Rattle.agents.specs.Cycles.{DutyState}
-use Rattle.receiver.specs.CoreLives.{CoreAct, CoreLives, heard_in, messages_of}
-use Rattle.receiver.specs.Reading.{Hears, IsImage, Reading, ReadsOn}
+use Rattle.receiver.specs.CoreLives.{CoreAct, CoreLives, heard_in}
+use Rattle.receiver.specs.Reading.{GivesMessage, GivesNothing, IsImage, Passes, Reading, RefusesFrame}
 use Rattle.receiver.specs.Receiving.{Receiver}
 use Rattle.receiver.specs.Representing.{Core, Represents}
 use Rattle.run_parties.specs.Tallies.{Counted, IsTallyOf}
@@ -40,16 +41,45 @@ pub record PollerState : Type 0 where
   pub tally : Counted
   pub refused : ℕ
 
--- it has read frames one after the other from the join on; and the tally is that of the messages that these gave, where none was
--- refused
+-- what a poll answers: a message, none, or why a frame was refused
+abbrev pub Answer : Type 0
+Answer = Result (Option (List ℕ)) AssemblyError
+
+abbrev pub AnswersSo : Reading → Answer → Reading → Type 0
+AnswersSo m (Ok (Some message)) n = GivesMessage m message n
+AnswersSo m (Ok None) n = GivesNothing m n
+AnswersSo m (Err fault) n = RefusesFrame m fault n
+
+-- polls that answer these, one after the other; behind each its reader has passed what was heard
+abbrev pub PollsAll : Reading → List Answer → Reading → Type 0
+PollsAll m [] n = n ≡ m
+PollsAll m (a ∷ more) n = (k : Reading) × (l : Reading) × AnswersSo m a k × Passes k l × PollsAll l more n
+
+-- the messages that they gave
+abbrev pub given_by : List Answer → List (List ℕ)
+given_by [] = []
+given_by (Ok (Some message) ∷ more) = message ∷ given_by more
+given_by (Ok None ∷ more) = given_by more
+given_by (Err fault ∷ more) = given_by more
+
+-- how many of them were refused
+abbrev pub refused_by : List Answer → ℕ
+refused_by [] = 0
+refused_by (Ok found ∷ more) = refused_by more
+refused_by (Err fault ∷ more) = suc (refused_by more)
+
+-- a count that stays at its greatest
+abbrev pub counted : ℕ → ℕ
+counted n = min n 18446744073709551615
+
+-- it has polled from the join on, and the tally is that of the messages that its polls gave
 pub record HasPolled (p : PollerState) : Type 0 where
   pub first : Reading
   pub begun : IsBegun first
-  pub frames : List Placed
-  pub reads : ReadsOn first frames p.reader
-  pub messages : List (List ℕ)
-  pub tally : IsTallyOf messages p.tally
-  pub whole : p.refused ≡ 0 → Hears first frames messages p.reader
+  pub answers : List Answer
+  pub polled : PollsAll first answers p.reader
+  pub tally : IsTallyOf (given_by answers) p.tally
+  pub refused : p.refused ≡ counted (refused_by answers)
   -- its reader has passed all that was heard
   pub stands : position_of p.reader.seat ≡ p.reader.heard_to
 
@@ -60,21 +90,27 @@ pub record HasPolledOn (wanted : ℕ) (old new : PollerState) : Type 0 where
 
 -- ---- both at the end
 
--- frames that the image stored, from the join on; where no message was refused, it is their messages that are tallied
+-- polls from the join on, all of frames that the image has stored; the tally is that of the messages that they gave
 pub record PolledFrom (i : Inserting) (t : Counted) (refused : ℕ) : Type 0 where
-  pub frames : List Placed
-  pub at : ℕ
-  pub chain : Chain (join_of i) at frames
-  pub stored : AllAmong i.stored frames
-  pub messages : List (List ℕ)
-  pub tally : IsTallyOf messages t
-  pub whole : refused ≡ 0 → messages ≡ messages_of frames
+  pub first : Reading
+  pub last : Reading
+  pub join : first.heard_to ≡ join_of i
+  pub nothing : first.assembler.begun ≡ None
+  pub answers : List Answer
+  pub polled : PollsAll first answers last
+  pub stored : (s : Placed) → Among s (known_by last.seat) → Among s i.stored
+  pub tally : IsTallyOf (given_by answers) t
+  pub refused_are : refused ≡ counted (refused_by answers)
+
+-- nobody has read
+abbrev pub NobodyPolled : Counted → ℕ → Type 0
+NobodyPolled t refused = IsTallyOf [] t × (refused ≡ 0)
 
 abbrev pub PolledOf : Option Inserting → Counted → ℕ → Type 0
-PolledOf None t refused = IsTallyOf [] t
-PolledOf (Some i) t refused = PolledFrom i t refused
+PolledOf None t refused = NobodyPolled t refused
+PolledOf (Some i) t refused = NobodyPolled t refused ⊎ PolledFrom i t refused
 
--- a core that began as this receiver has lived so; and of frames that its image has stored, from its join on, the messages are tallied
+-- a core that began as this receiver has lived so; and what polls of frames gave that its image has stored, from its join on, is tallied
 pub record EndsLife (begin : Receiver) (tells : Type 0) (before after : Device) (t : Counted) (refused : ℕ) : Type 0 where
   pub core : Core
   pub lived : HasLived begin tells before after core

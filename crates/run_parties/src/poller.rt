@@ -8,7 +8,7 @@ ghost use Rattle.run_parties.specs.Receptions.{IsBegun, PolledOf};
 use crate::tally::Tally;
 use assembler::AssemblyError;
 use endpoint::DeviceError;
-use receiver::{MessageReader, ReceiverCore, reads_further};
+use receiver::{MessageReader, ReceiverCore};
 use std::marker::Model;
 
 /// How many messages are polled in one turn, at the most.
@@ -61,8 +61,6 @@ impl Poller {
         ensures most { self.new.tally.polled ≤ self.old.tally.polled + 1 }
         ensures image { self.new.reader.image ≡ self.old.reader.image }
     {
-        // Laws that the proof cites.
-        reads_further();
         match self.reader.next() {
             Ok(Some(message)) => {
                 self.tally.take(&message.bytes);
