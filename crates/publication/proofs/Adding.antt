@@ -2,9 +2,11 @@
 use Rattle.std.proofs.Common.{◌≡◌, ℕ, suc, ◌+◌, ◌-◌, ◌*◌, ◌%◌, ◌<◌, ◌≤◌, ⊎_elim, List, [], ◌∷◌, ◌++◌, append-nil, sym, refl, ap, ◌∙◌, subst, arith}
 use Rattle.std.proofs.lemmas.Bool.{cases_lt}
 use Rattle.std.proofs.Math.Nat.{mul-le-mul_right}
-use Rattle.theory.specs.Position.{Geometry, framed_length, max_position}
+use Rattle.theory.specs.Position.{Geometry, IsGeometry, framed_length, max_position}
 use Rattle.theory.specs.Placed.{Pad}
 use Rattle.theory.specs.Words.{offset_in}
+use Rattle.theory.proofs.Claims.{span_is}
+use Rattle.theory.proofs.Cuts.{long_cuts}
 use Rattle.publication.specs.declared.pass.FrameWords.{FrameWords}
 use Rattle.publication.specs.declared.pass.Pass.{Pass}
 use Rattle.publication.specs.declared.refusal.Refusal.{Refusal}
@@ -12,6 +14,7 @@ use Rattle.publication.specs.declared.step.WordStep.{WordStep}
 use Rattle.publication.specs.declared.step.WordStep.TheVariants as steps
 use Rattle.publication.specs.Steps.{Adds, Keeps, addition, count_in, disarmed, geometry_of, message_at, noted, opened, padding_at, seeing, start_in, term_of, with_full, with_work}
 use Rattle.publication.specs.Frames.{frame_at}
+use Rattle.publication.specs.Orders.{EndBelow}
 use Rattle.publication.specs.Claims.{HasBlank, Takes, TurnsFrom, padded}
 use Rattle.publication.specs.Looks.{EndsTerm, Granted, Pads, ToPad, Tripping}
 use Rattle.publication.proofs.Refusing.{keeps}
@@ -28,11 +31,18 @@ in_stream count term offset covered small inside =
     let turned : 2147483648 * term ≡ term * 2147483648 = omega arith in
     omega (arith, most, one, turned, inside)
 
+-- a message covers some bytes, so where it fits its term it begins below the end
+some_bytes : (g : Geometry) (size : ℕ) → IsGeometry g → 0 < framed_length g size
+some_bytes g size is = subst (λ (n : ℕ). 0 < n) (span_is g is.mtu.unit is.mtu.least size) (long_cuts g size (let least = is.mtu.least in omega arith))
+
+before_end : (offset covered term : ℕ) → 0 < covered → offset + covered ≤ term → offset < term
+before_end offset covered term some inside = omega (arith, some, inside)
+
 module _ (p w : Pass) (size word : ℕ) (told : Adds p size word w) where
   -- ---- it fitted its term
 
-  pub granted : (count start : ℕ) → p.seen.term ≡ count → offset_in word + framed_length (geometry_of p) size ≤ term_of p → start ≡ start_in (geometry_of p) word → Granted p count size start w
-  granted count start at inside from =
+  pub granted : (count start : ℕ) → IsGeometry (geometry_of p) → p.seen.term ≡ count → offset_in word + framed_length (geometry_of p) size ≤ term_of p → start ≡ start_in (geometry_of p) word → Granted p count size start w
+  granted count start legal at inside from =
       let e : w ≡ noted (addition p size word) (opened p (message_at p word size)) = told.fits inside in
       record {
         word = word;
@@ -41,6 +51,7 @@ module _ (p w : Pass) (size word : ℕ) (told : Adds p size word w) where
         inside = inside;
         from = from;
         in_stream = subst (λ (n : ℕ). n + framed_length (geometry_of p) size ≤ max_position (geometry_of p)) (sym from) (in_stream (count_in (geometry_of p) word) (term_of p) (offset_in word) (framed_length (geometry_of p) size) told.term.small inside);
+        behind = subst (λ (n : ℕ). EndBelow n p.right.claims) (sym from) (told.behind (before_end (offset_in word) (framed_length (geometry_of p) size) (term_of p) (some_bytes (geometry_of p) size legal) inside));
         after = keeps_by (opened p (message_at p word size)) (noted (addition p size word) (opened p (message_at p word size))) w e refl;
         idle = ap (λ (u : Pass). u.right.armed) e;
       }
@@ -130,6 +141,7 @@ module _ (p w : Pass) (size word : ℕ) (told : Adds p size word w) where
         leaves = record {
           below = λ l. keeps (padded p word) x q (padded_is l).0 turns.after;
           over = λ l. keeps p x q (over_is l).0 turns.after;
+          behind = told.behind;
         };
         turns = subst (λ (g : Geometry). TurnsFrom g (count_in (geometry_of p) word) turns.taken) shape_then turns.such;
         idle = turns.armed ∙ armed_then;

@@ -92,7 +92,7 @@ module _ (p : Pass) (size : ℕ) where
     rest = steps.Addition (h.count % 3) (framed_length (geometry_of p) size) t.word ∷ t.more;
     saw = t.call ∙ ap (λ (c : List WordStep). (c ++ steps.Addition (h.count % 3) (framed_length (geometry_of p) size) t.word ∷ []) ++ t.more) h.saw;
     cause = cause;
-    leaves = record { below = t.leaves.below; over = t.leaves.over };
+    leaves = record { below = t.leaves.below; over = t.leaves.over; behind = t.leaves.behind };
     idle = λ e. t.idle;
   }
 
@@ -125,6 +125,7 @@ module _ (p : Pass) (size : ℕ) where
     inside = t.inside;
     from = t.from;
     in_stream = t.in_stream;
+    behind = t.behind;
     after = t.after;
     idle = t.idle;
   }

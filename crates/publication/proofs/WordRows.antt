@@ -1,13 +1,15 @@
 -- Computed rows: how many words are stored, what tails say, and a whole claim.
-use Rattle.std.proofs.Common.{◌≡◌, [], ◌∷◌, refl, lit<, lit≤, arith}
-use Rattle.std.specs.Prelude.{pos}
+use Rattle.std.proofs.Common.{◌≡◌, ℕ, [], ◌∷◌, refl, lit<, lit≤, arith}
+use Rattle.std.specs.Prelude.{false, pos}
 use Rattle.theory.specs.Bytes.{Identity}
 use Rattle.theory.specs.Position.{Geometry}
+use Rattle.publication.specs.declared.pass.ClaimRange.{ClaimRange}
 use Rattle.publication.specs.declared.pass.Pass.{Pass}
 use Rattle.publication.specs.declared.step.WordStep.TheVariants as steps
 use Rattle.publication.specs.Steps.{Adds, Arms, Counts, Sees, addition, count_in, message_at, noted, opened, start_in, tail_step, with_armed, with_count, with_limit}
 use Rattle.publication.specs.Frames.{stored_words}
 use Rattle.publication.specs.Claims.{Claimed}
+use Rattle.publication.specs.Orders.{AreInOrder}
 
 abbrev shape : Geometry
 shape = record { term_length = 65536; mtu = 1408; initial_term_id = pos 7 }
@@ -84,6 +86,7 @@ adds = record {
   fits = λ inside. refl;
   trips = λ below over. absurd (omega (arith, over));
   over = λ over. absurd (omega (arith, over));
+  behind = λ below. tt;
 }
 
 is_claimed : Claimed fresh 3 0 claimed
@@ -101,6 +104,32 @@ is_claimed = record {
   inside = lit≤ tt;
   from = refl;
   in_stream = lit≤ tt;
+  behind = tt;
   after = refl;
   idle = refl;
 }
+
+-- ---- the order of claims: of 0 to 64, of 64 to 96, of 32 to 96, and of 160 to 192
+
+abbrev at : ℕ → ℕ → ClaimRange
+at start cut = record { start = start; owner = 0; cuts = cut ∷ []; padding = false }
+
+in_order : AreInOrder (at 0 35 ∷ at 64 32 ∷ at 160 32 ∷ [])
+in_order = ((lit≤ tt, (lit≤ tt, tt)), ((lit≤ tt, tt), (tt, tt)))
+
+turned_round : AreInOrder (at 64 32 ∷ at 0 35 ∷ []) → ⊥
+turned_round order = let ends = order.0.0 in omega (arith, ends)
+
+begins_inside : AreInOrder (at 0 35 ∷ at 32 35 ∷ []) → ⊥
+begins_inside order = let ends = order.0.0 in omega (arith, ends)
+
+below_the_first : AreInOrder (at 64 32 ∷ at 160 32 ∷ at 0 35 ∷ []) → ⊥
+below_the_first order = let ends = order.0.1.0 in omega (arith, ends)
+
+-- no addition finds a word that stands below the end of what its pass has claimed
+abbrev with_claim : Pass
+with_claim = record armed { right = record armed.right { claims = at 0 35 ∷ [] } }
+
+never_below : (w : Pass) → Adds with_claim 3 0x0000000700000020 w → ⊥
+never_below w adds = let ends = (adds.behind (lit< tt)).0 in omega (arith, ends)
+

@@ -12,6 +12,7 @@ use Rattle.publication.specs.declared.refusal.Refusal.{Refusal}
 use Rattle.publication.specs.declared.refusal.Refusal.TheVariants.{NotConnected, BackPressured, AdminAction, Closed, MaxPositionExceeded}
 use Rattle.publication.specs.Steps.{IsTerm, Keeps, Moved, Names, begun_word, blank, count_in, geometry_of, message_at, opened, padding_at, start_in, term_of, with_work}
 use Rattle.publication.specs.Frames.{frame_at, stored_words}
+use Rattle.publication.specs.Orders.{EndBelow}
 
 -- ---- the steps that it took
 
@@ -133,6 +134,8 @@ pub record Claimed (p : Pass) (size start : ℕ) (q : Pass) : Type 0 where
   pub inside : offset_in word + framed_length (geometry_of p) size ≤ term_of p
   pub from : start ≡ start_in (geometry_of p) word
   pub in_stream : start + framed_length (geometry_of p) size ≤ max_position (geometry_of p)
+  -- what it had claimed ends there, or below
+  pub behind : EndBelow start p.right.claims
   pub after : Keeps (opened p (message_at p word size)) q
   pub idle : q.right.armed ≡ 0
 
@@ -182,6 +185,8 @@ padded p word = record p {
 pub record LeavesPadding (p : Pass) (word : ℕ) (q : Pass) : Type 0 where
   pub below : offset_in word < term_of p → Keeps (padded p word) q
   pub over : term_of p ≤ offset_in word → Keeps p q
+  -- what the pass had claimed ends where the padding begins, or below
+  pub behind : offset_in word < term_of p → EndBelow (start_in (geometry_of p) word) p.right.claims
 
 -- what the call notes behind its load of the tail says whether there was an addition
 abbrev pub Leaves : Pass → List WordStep → Pass → Type 0

@@ -1,3 +1,4 @@
+pub mod Orders
 pub mod Steps
 pub mod Frames
 pub mod Refusals

@@ -12,6 +12,7 @@ use Rattle.publication.specs.declared.refusal.Refusal.TheVariants.{NotConnected,
 use Rattle.publication.specs.declared.looking.Look.{Look}
 use Rattle.publication.specs.declared.looking.Look.TheVariants as looks
 use Rattle.publication.specs.Steps.{IsTerm, Keeps, Names, count_in, geometry_of, message_at, opened, start_in, tail_exchange, term_of}
+use Rattle.publication.specs.Orders.{EndBelow}
 use Rattle.publication.specs.Claims.{AtLimit, Fills, HasBlank, LeavesPadding, Saw, Shut, Stale, TurnsFrom, addition_to, position_in}
 
 abbrev pub LookCause : Pass → ℕ → ℕ → ℕ → Look → Pass → Type 0
@@ -50,6 +51,7 @@ pub record Granted (p : Pass) (count size start : ℕ) (q : Pass) : Type 0 where
   pub inside : offset_in word + framed_length (geometry_of p) size ≤ term_of p
   pub from : start ≡ start_in (geometry_of p) word
   pub in_stream : start + framed_length (geometry_of p) size ≤ max_position (geometry_of p)
+  pub behind : EndBelow start p.right.claims
   pub after : Keeps (opened p (message_at p word size)) q
   pub idle : q.right.armed ≡ 0
 

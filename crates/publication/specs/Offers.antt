@@ -1,11 +1,14 @@
 -- What an accepted offer leaves of its pass, and what ends a claim.
 use Rattle.std.specs.Prelude.{◌≡◌, ℕ, ◌+◌, ◌≤◌, Bool, true, List, [], ◌∷◌, ◌++◌, length, slice_set, suc}
+use Rattle.theory.specs.Placed.{Frame, frame_length}
 use Rattle.theory.specs.Position.{cuts_of, framed_length}
 use Rattle.publication.specs.declared.pass.FrameWords.{FrameWords}
 use Rattle.publication.specs.declared.pass.Pass.{Pass}
+use Rattle.publication.specs.declared.refusal.Refusal.{Refusal}
+use Rattle.publication.specs.Orders.{AreInOrder}
 use Rattle.publication.specs.Steps.{blank, blanks, frame, geometry_of, with_work, works}
 use Rattle.publication.specs.Frames.{message_frames}
-use Rattle.publication.specs.Claims.{Claimed}
+use Rattle.publication.specs.Claims.{Claimed, Fills, HasBlank, Justified}
 
 -- words with these over them, from the kth on
 abbrev pub patch : List ℕ → ℕ → List ℕ → List ℕ
@@ -49,3 +52,12 @@ pub record Offered (p : Pass) (message : List ℕ) (end : ℕ) (q : Pass) : Type
 pub record Opened (p : Pass) (size start : ℕ) (q : Pass) : Type 0 where
   pub claimed : Claimed p size start q
   pub one : q.work ≡ works p.work.frames (p.work.drafts ++ blank start (32 + size) ∷ [])
+
+-- ---- the order of what is claimed
+
+-- claims that are in the order of the stream stay so, whatever an offer or a claim is answered, and where a claim ends
+pub record StayInOrder : Type 0 where
+  pub offered : (p q : Pass) (message : List ℕ) (end : ℕ) → Offered p message end q → AreInOrder p.right.claims → AreInOrder q.right.claims
+  pub opened : (p q : Pass) (size start : ℕ) → Opened p size start q → AreInOrder p.right.claims → AreInOrder q.right.claims
+  pub refused : (p q : Pass) (size : ℕ) (why : Refusal) → Justified p size why q → AreInOrder p.right.claims → AreInOrder q.right.claims
+  pub ended : (p q : Pass) (start : ℕ) (f : Frame) → HasBlank p start (frame_length f) → Fills p start f q → AreInOrder p.right.claims → AreInOrder q.right.claims

@@ -16,6 +16,7 @@ use Rattle.publication.specs.declared.pass.Pass.{Pass}
 use Rattle.publication.specs.declared.pass.Work.{Work}
 use Rattle.publication.specs.declared.step.WordStep.{WordStep}
 use Rattle.publication.specs.declared.step.WordStep.TheVariants as steps
+use Rattle.publication.specs.Orders.{EndBelow}
 
 abbrev pub geometry_of : Pass → Geometry
 geometry_of v = v.identity.geometry
@@ -183,6 +184,8 @@ pub record Adds (v : Pass) (size n : ℕ) (w : Pass) : Type 0 where
   pub fits : offset_in n + framed_length (geometry_of v) size ≤ term_of v → w ≡ noted (addition v size n) (opened v (message_at v n size))
   pub trips : offset_in n < term_of v → term_of v < offset_in n + framed_length (geometry_of v) size → w ≡ noted (addition v size n) (with_full (opened v (padding_at v n)) (count_in (geometry_of v) n))
   pub over : term_of v ≤ offset_in n → w ≡ noted (addition v size n) (with_full (disarmed v) (count_in (geometry_of v) n))
+  -- what it takes lies behind all that the pass has claimed
+  pub behind : offset_in n < term_of v → EndBelow (start_in (geometry_of v) n) v.right.claims
 
 -- of the partition behind that of the count k, which is used up
 pub record Nexts (v : Pass) (k n : ℕ) (w : Pass) : Type 0 where

@@ -13,6 +13,9 @@
 //!
 //! Nothing but these calls claims or commits (`InOrder`): a message's frames are committed from the first to the last, and
 //! each as long as it was claimed. What a raw tail shows is told too (`position_shown`).
+//!
+//! What an addition takes lies behind all that its pass has claimed before. So the claims of a pass that began with none
+//! are in the order of the stream (`claims_in_order`).
 #![tactic(auto)]
 
 mod claiming;
@@ -30,7 +33,7 @@ mod writing;
 pub use claiming::add_range;
 pub use looking::{Look, look_at};
 pub use offers::{abort, commit, offer, try_claim};
-pub use order::InOrder;
+pub use order::{InOrder, claims_in_order};
 pub use pass::{ClaimRange, Controls, FrameWords, Keeping, Pass, Reading, Right, Seen, Work};
 pub use refusal::Refusal;
 pub use step::WordStep;

@@ -1,6 +1,6 @@
 use Rattle.std.proofs.Common.{◌≡◌, ℕ, suc, ◌+◌, ◌*◌, ◌<◌, ◌≤◌, arith, sym, ap, ◌∙◌, subst, length, List}
 use Rattle.theory.specs.Bytes.{Identity}
-use Rattle.theory.specs.Position.{Geometry, framed_length}
+use Rattle.theory.specs.Position.{Geometry, IsGeometry, framed_length}
 use Rattle.theory.specs.Words.{offset_in}
 use Rattle.publication.specs.declared.pass.FrameWords.{FrameWords}
 use Rattle.publication.specs.declared.pass.Pass.{Pass}
@@ -35,7 +35,7 @@ returns-then-offset-covered-clause-accepted g c =
     let inside : offset_in c.add-word.result + framed_length (geometry_of (g.W.WordCalls.pass_of c.args.words.now c.args.pass.now)) c.args.size ≤ (geometry_of (g.W.WordCalls.pass_of c.args.words.now c.args.pass.now)).term_length = omega (arith, covered, offset, term, c.if-offset-covered.true) in
     let from : c.position_at.result ≡ start_in (geometry_of (g.W.WordCalls.pass_of c.args.words.now c.args.pass.now)) c.add-word.result =
     c.position_at.ensures ∙ ap (λ (h : Geometry). c.term_count-found.result * h.term_length + c.term_offset-offset.result) geometry ∙ ap (λ (n : ℕ). n * (geometry_of (g.W.WordCalls.pass_of c.args.words.now c.args.pass.now)).term_length + c.term_offset-offset.result) found ∙ ap (λ (n : ℕ). count_in (geometry_of (g.W.WordCalls.pass_of c.args.words.now c.args.pass.now)) c.add-word.result * (geometry_of (g.W.WordCalls.pass_of c.args.words.now c.args.pass.now)).term_length + n) offset in
-    granted (g.W.WordCalls.pass_of c.args.words.now c.args.pass.now) (g.W.WordCalls.pass_of c.add-word.new.self c.add-word.new.pass) c.args.size c.add-word.result c.add-word.ensures.told c.args.count c.position_at.result c.requires.count inside from
+    granted (g.W.WordCalls.pass_of c.args.words.now c.args.pass.now) (g.W.WordCalls.pass_of c.add-word.new.self c.add-word.new.pass) c.args.size c.add-word.result c.add-word.ensures.told c.args.count c.position_at.result (subst IsGeometry geometry c.geometry-geometry.ensures.legal) c.requires.count inside from
 
 pub turn_from-requires-clause-full : goal.turn_from-requires-clause-full
 turn_from-requires-clause-full g c =
