@@ -134,6 +134,7 @@ weighs b ws ps r a id v at =
     let all : v.right.parts ≡ 1024 → (h : Entry → ℕ) → total (weight h) ps ≡ weight h v = λ e h. total_one parts_of (weight h) ps id v at (r.claims.parted ∙ sym e) (λ j w e' none. ap (λ cs. total h (map entry_of cs)) ((r.claims.each j w e').right.idle none)) in record {
       number = k.number;
       low = subst (λ (x : ℕ × Identity). x.0 + claimed_bytes v ≤ max_position x.1.geometry) (λ i. (sym k.start i, sym k.identity i)) (below b.start (claimed_bytes v) (weight length_of v) (total (weight length_of) ps) (max_position (shape_of b)) share mine most);
+      entries = k.entries;
       whole = λ e. record {
         log = r.claims.log;
         tiles = subst (λ (x : Identity × ℕ × ℕ). Tiles x.0.geometry.term_length x.1 x.2 r.claims.log) (λ i. (sym k.identity i, sym k.start i, (sym (tail_is b ws ps r.claims) ∙ ap (λ (n : ℕ). b.start + n) (all e length_of ∙ share) ∙ ap (λ (n : ℕ). n + claimed_bytes v) (sym k.start)) i)) r.claims.tiles;

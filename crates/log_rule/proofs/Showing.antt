@@ -40,7 +40,8 @@ use Rattle.log_rule.specs.Kept.{Kept}
 use Rattle.log_rule.specs.Numbers.{AreNumbered}
 use Rattle.log_rule.proofs.Owning.{single_at}
 use Rattle.log_rule.specs.Table.{LogRuled, now_at}
-use Rattle.log_rule.specs.Meetings.{AreApart, ShowsTail, claim_end, showing}
+use Rattle.publication.specs.Orders.{claim_end}
+use Rattle.log_rule.specs.Meetings.{AreApart, ShowsTail, showing}
 use Rattle.log_rule.proofs.InTerm.{entry_ends}
 use Rattle.log_rule.proofs.Known.{among_total}
 use Rattle.log_rule.proofs.Meetings.{told_ruled}

@@ -2,11 +2,11 @@
 use Rattle.std.specs.Prelude.{◌≡◌, ℕ, suc, ◌+◌, ◌-◌, ◌*◌, ◌/◌, ◌%◌, ◌^◌, ◌<◌, ◌≤◌, ◌⊎◌, List, [], ◌∷◌, ◌++◌, map, max}
 use Rattle.std.specs.List.{flat_map}
 use Rattle.theory.specs.Placed.{Among}
-use Rattle.theory.specs.Position.{span}
 use Rattle.publication.specs.declared.pass.ClaimRange.{ClaimRange}
 use Rattle.publication.specs.declared.pass.Controls.{Controls}
 use Rattle.publication.specs.declared.pass.Pass.{Pass}
 use Rattle.publication.specs.Controls.{with_tail}
+use Rattle.publication.specs.Orders.{claim_end}
 use Rattle.publication.specs.Steps.{Extent, extent_of, frames_of, geometry_of, ranges_of, shown_position, term_of}
 use Rattle.log_rule.specs.declared.claims.view.View.{View}
 use Rattle.log_rule.specs.Claims.Sums.{total}
@@ -54,9 +54,6 @@ abbrev pub back_right : Pass → View → View
 back_right other v = new_seat other
 
 -- ---- what the raw tails show
-
-abbrev pub claim_end : ClaimRange → ℕ
-claim_end c = c.start + span c.cuts
 
 -- the one ends where the other begins, or below
 abbrev pub AreApart : ClaimRange → ClaimRange → Type 0

@@ -1,5 +1,6 @@
 -- What a pass has claimed.
 use Rattle.std.specs.Prelude.{◌≡◌, ℕ, ◌+◌, ◌<◌, ◌≤◌, ◌==◌, if◌then◌else◌, List}
+use Rattle.std.specs.List.{AllByRecursion}
 use Rattle.theory.specs.Position.{max_position, span}
 use Rattle.theory.specs.Bytes.{Identity}
 use Rattle.theory.specs.Entry.{Entry, length_of}
@@ -8,7 +9,7 @@ use Rattle.publication.specs.declared.pass.ClaimRange.{ClaimRange}
 use Rattle.publication.specs.declared.pass.Pass.{Pass}
 use Rattle.publication.specs.Steps.{Extent, extent_of, geometry_of}
 use Rattle.log_rule.specs.Claims.Sums.{total}
-use Rattle.log_rule.specs.Claims.Rule.{weight}
+use Rattle.log_rule.specs.Claims.Rule.{IsClaimEntry, entries_of, weight}
 use Rattle.log_rule.specs.Claims.Events.{committed_weight}
 use Rattle.log_rule.specs.Edges.{in_entry}
 use Rattle.log_rule.specs.Numbers.{numbers_as}
@@ -35,6 +36,8 @@ pub record IsTiled (i : Identity) (start tail : ℕ) (weighs : (Entry → ℕ) �
 pub record Weighs (v w : Pass) : Type 0 where
   pub number : v.number < 8
   pub low : v.start + claimed_bytes v ≤ max_position (geometry_of v)
+  -- each of its claims is an entry of a stream
+  pub entries : AllByRecursion IsClaimEntry (entries_of v)
   pub whole : v.right.parts ≡ 1024 → IsTiled v.identity v.start (v.start + claimed_bytes v) (λ h. weight h v)
   -- each frame of its claims is committed, or open
   pub parted : (h : Extent → ℕ) → weight (in_entry h) v ≡ committed_weight (λ f. h (extent_of f)) v + total (λ f. h (extent_of f)) v.work.drafts

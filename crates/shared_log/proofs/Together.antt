@@ -10,7 +10,8 @@ use Rattle.publication.specs.declared.pass.Pass.{Pass}
 use Rattle.publication.specs.Controls.{with_tail}
 use Rattle.publication.specs.Steps.{term_of}
 use Rattle.log_rule.specs.Claims.Handles.{PublisherValue}
-use Rattle.log_rule.specs.Meetings.{Steady, claim_end, meeting, unnoted}
+use Rattle.publication.specs.Orders.{claim_end}
+use Rattle.log_rule.specs.Meetings.{Steady, meeting, unnoted}
 use Rattle.log_rule.specs.Numbers.{is_number}
 use Rattle.log_rule.proofs.Claimed.Totals.{total_append}
 use Rattle.shared_log.specs.Meets.{IsBack, Meets, SeesTails, Shows}

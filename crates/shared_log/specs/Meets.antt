@@ -9,7 +9,8 @@ use Rattle.publication.specs.Controls.{with_tail}
 use Rattle.publication.specs.Steps.{geometry_of, shown_position, term_of}
 use Rattle.log_rule.specs.Claims.Handles.{PublisherValue}
 use Rattle.log_rule.specs.Claims.Plays.{Mine}
-use Rattle.log_rule.specs.Meetings.{AreApart, ShowsTail, claim_end, unnoted}
+use Rattle.publication.specs.Orders.{claim_end}
+use Rattle.log_rule.specs.Meetings.{AreApart, ShowsTail, unnoted}
 use Rattle.log_rule.specs.Numbers.{numbers_as}
 
 -- the same seat but for its steps

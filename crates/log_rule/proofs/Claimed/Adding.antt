@@ -8,7 +8,7 @@ use Rattle.std.specs.Prelude.{slice_index}
 use Rattle.std.specs.List.{AllByRecursion}
 use Rattle.std.proofs.lemmas.Nat.{div-mul-add}
 use Rattle.theory.specs.Position.{Geometry, IsGeometry, cuts_of, framed_length, max_message, span}
-use Rattle.theory.specs.Entry.{Entry, length_of}
+use Rattle.theory.specs.Entry.{Entry, entry_end, length_of}
 use Rattle.theory.specs.Tiling.{InOneTerm, Tiles}
 use Rattle.theory.specs.Refusal.{limit_in}
 use Rattle.theory.specs.Words.{offset_in}
@@ -17,7 +17,9 @@ use Rattle.theory.proofs.Cuts.{cut_units, long_cuts, span_unit}
 use Rattle.theory.proofs.Lists.{all_append, all_weaker}
 use Rattle.theory.proofs.Places.{power_unit}
 use Rattle.theory.proofs.Tiling.{Tiles-push}
+use Rattle.publication.specs.declared.pass.ClaimRange.{ClaimRange}
 use Rattle.publication.specs.declared.pass.Pass.{Pass}
+use Rattle.publication.specs.Orders.{EndBelow, claim_end}
 use Rattle.publication.specs.Steps.{Adds, IsTerm, addition, count_in, disarmed, message_at, noted, opened, padding_at, shown_position, start_in, with_full}
 use Rattle.log_rule.specs.Claims.Packs.{tail_place}
 use Rattle.log_rule.specs.Claims.Sums.{total}
@@ -25,7 +27,7 @@ use Rattle.log_rule.specs.Claims.Terms.{Full, Terms, claimed_to}
 use Rattle.log_rule.specs.Claims.Rule.{Bounds, ClaimsHold, IsClaimEntry, Knows, armed_of, armed_on, entries_of, entry_of, first_of, shape_of, size_of, weight}
 use Rattle.log_rule.specs.Claims.Admits.{Admits}
 use Rattle.log_rule.proofs.Claimed.Packs.{at_put, put, put_else, put_here}
-use Rattle.log_rule.proofs.Claimed.Totals.{total_append}
+use Rattle.log_rule.proofs.Claimed.Totals.{none_behind, total_append, total_at}
 use Rattle.log_rule.proofs.Claimed.Tails.{Shows, added, raised, shows}
 use Rattle.log_rule.proofs.Claimed.Accounts.{Later, disarms, moved, read_off, saw_on}
 use Rattle.log_rule.proofs.Claimed.Shown.{count_is, tail_shows}
@@ -172,6 +174,27 @@ knows_added b t u later v w k identity start number limit off parts able count t
   };
 }
 
+-- ---- what the pass has claimed
+
+all_behind_none : (q : ℕ) (cs : List ClaimRange) → total (λ e. entry_end e - q) (map entry_of cs) ≡ 0 → EndBelow q cs
+all_behind_none q [] none = tt
+all_behind_none q (c ∷ cs) none = let parts = no_parts (claim_end c - q) (total (λ e. entry_end e - q) (map entry_of cs)) none in (within (claim_end c) q parts.0, all_behind_none q cs parts.1)
+  where
+    no_parts : (a d : ℕ) → a + d ≡ 0 → (a ≡ 0) × (d ≡ 0)
+    no_parts a d e = (omega arith, omega arith)
+
+    within : (a d : ℕ) → a - d ≡ 0 → a ≤ d
+    within a d e = omega arith
+
+-- it ends at the tail of the stream, or below
+claims_end : (b : Bounds) (ws : List ℕ) (ps : List Pass) (r : ClaimsHold b ws ps) (id : ℕ) (v : Pass) → get_elem? ps id ≡ some v → EndBelow (claimed_to (shape_of b) r.terms) v.right.claims
+claims_end b ws ps r id v at =
+    let q : ℕ = claimed_to (shape_of b) r.terms in let past : Entry → ℕ = λ e. entry_end e - q in
+    all_behind_none q v.right.claims (least (weight past v) (total (weight past) ps) (total_at (weight past) ps id v at) (r.fair past ∙ none_behind (size_of b) b.start q r.log r.tiles))
+  where
+    least : (a n : ℕ) → a ≤ n → n ≡ 0 → a ≡ 0
+    least a n le e = omega arith
+
 -- ---- where it stands
 
 unit_times : (k size : ℕ) → size % 32 ≡ 0 → (k * size) % 32 ≡ 0
@@ -254,9 +277,10 @@ add_at id v size able armed short b' ws ps r at =
       w,
       ad.build w [] (knows_added b t u later v w kn refl refl refl refl refl refl some_parts refl refl refl (λ j e. full_after b t k n f.from f.low (let q : long ≤ o + n = omega arith in q) (count_in g y) j f.count e) shown kn.entries) refl refl (sym (append_none (entries_of v)))
           (grows_none b t u n r.log r.tiles (ends_full g t k n full)),
-      record { term = term; unit = unit_y; narrow = thin; fits = λ q. absurd (let z : offset_in y + n ≤ long = q in omega arith); trips = λ q _. absurd (omega arith); over = λ _. refl },
+      record { term = term; unit = unit_y; narrow = thin; fits = λ q. absurd (let z : offset_in y + n ≤ long = q in omega arith); trips = λ q _. absurd (omega arith); over = λ _. refl; behind = λ q. absurd (let z : offset_in y < long = q in omega arith) },
     ))
     (λ not_full. let lt : o < long = lt_of_not-le not_full in let top = newest_of g (first_of b) t r.tailed.turns k f.from f.low lt in
+    let behind : offset_in y < long → EndBelow (start_in g y) v.right.claims = λ _. subst (λ (z : ℕ). EndBelow z v.right.claims) (ends_at g t k o top refl lt ∙ sym f.start) (claims_end b ws ps r id v at) in
     dite (dec_le (o + n) long)
     (λ (le' : o + n ≤ long). let c = message_at v y size in let e = entry_of c in let w = noted x (opened v c) in (
       w,
@@ -264,7 +288,7 @@ add_at id v size able armed short b' ws ps r at =
           (subst (AllByRecursion IsClaimEntry) (sym (maps_append entry_of v.right.claims (c ∷ []))) (all_append IsClaimEntry (entries_of v) (e ∷ []) kn.entries (message_claim v y size is kn.number f.start_unit, tt)))) refl refl (maps_append entry_of v.right.claims (c ∷ []))
           (grows_one b t u n k o r.log e r.tiles (ends_at g t k o top refl lt) lt f.start (subst (λ (z : ℕ). o + z ≤ long) (sym taken) le') (let q : span (cuts_of g size) ≤ n = omega arith in q)
           (ends_more g t k n n top lt (let q : min (o + n) long ≡ o + n = omega arith in q) ∙ ap (λ (z : ℕ). claimed_to g t + z) (sym taken))),
-      record { term = term; unit = unit_y; narrow = thin; fits = λ _. refl; trips = λ _ q. absurd (omega arith); over = λ q. absurd (omega arith) },
+      record { term = term; unit = unit_y; narrow = thin; fits = λ _. refl; trips = λ _ q. absurd (omega arith); over = λ q. absurd (omega arith); behind = behind },
     ))
     (λ not_fits. let past : long < o + n = lt_of_not-le not_fits in let c = padding_at v y in let e = entry_of c in let w = noted x (with_full (opened v c) (count_in g y)) in
     let rest : ℕ = long - o in let room : offset_in y < long = subst (λ (z : ℕ). z < long) (sym off_is) lt in
@@ -274,7 +298,7 @@ add_at id v size able armed short b' ws ps r at =
           (subst (AllByRecursion IsClaimEntry) (sym (maps_append entry_of v.right.claims (c ∷ []))) (all_append IsClaimEntry (entries_of v) (e ∷ []) kn.entries (padding_claim v y kn.number f.start_unit room, tt)))) refl refl (maps_append entry_of v.right.claims (c ∷ []))
           (grows_one b t u n k o r.log e r.tiles (ends_at g t k o top refl lt) lt f.start (subst (λ (z : ℕ). o + z ≤ long) (sym padded) (let q : o + rest ≤ long = omega arith in q)) (subst (λ (z : ℕ). z ≤ n) (sym padded) (let q : rest ≤ n = omega arith in q))
           (ends_more g t k n rest top lt (let q : min (o + n) long ≡ o + rest = omega arith in q) ∙ ap (λ (z : ℕ). claimed_to g t + z) (sym padded))),
-      record { term = term; unit = unit_y; narrow = thin; fits = λ q. absurd (omega arith); trips = λ _ _. refl; over = λ q. absurd (omega arith) },
+      record { term = term; unit = unit_y; narrow = thin; fits = λ q. absurd (omega arith); trips = λ _ _. refl; over = λ q. absurd (omega arith); behind = behind },
     )))
   where
     most : (a c d e : ℕ) → a ≤ d → c ≤ d → d ≤ e → max a c ≤ e

@@ -54,6 +54,11 @@ pub extent_of : (n p q : ℕ) (es : List Entry) → Tiles n p q es → p + total
 extent_of n p q [] t = let e : q ≡ p = t in omega arith
 extent_of n p q (e ∷ es) t = let s : e.start ≡ p = t.0 in let r = extent_of n (entry_end e) q es t.2 in omega arith
 
+-- none of its entries ends behind the end
+pub none_behind : (n p q : ℕ) (es : List Entry) → Tiles n p q es → total (λ e. entry_end e - q) es ≡ 0
+none_behind n p q [] t = refl
+none_behind n p q (e ∷ es) t = let a = tiles_up n (entry_end e) q es t.2 in let r = none_behind n (entry_end e) q es t.2 in omega arith
+
 -- a position lies in one entry of a tiling, or outside its ends
 pub cover_of : (n p q : ℕ) (es : List Entry) → Tiles n p q es → (x : ℕ) → total (λ e. covers x e.start (length_of e)) es ≡ min 1 (min (x + 1 - p) (q - x))
 cover_of n p q [] t x = let e : q ≡ p = t in omega arith
