@@ -1,12 +1,14 @@
 -- Publishers are gathered one after the other, and their shares are counted.
-use Rattle.std.proofs.Common.{◌≡◌, ℕ, ◌+◌, ◌^◌, ◌<◌, ◌≤◌, cond, Bool, List, [], ◌∷◌, ◌++◌, length, set, map, replicate, All, get_or-set_same, get_or-set_other, length-set, eq-eqb, ne_eqb, sym, refl, ap, ◌∙◌, subst, arith}
+use Rattle.std.proofs.Common.{◌≡◌, ℕ, ◌+◌, ◌^◌, ◌<◌, ◌≤◌, cond, Bool, List, [], ◌∷◌, ◌++◌, length, set, map, replicate, All, append-nil, append_assoc, get_or-set_same, get_or-set_other, length-set, eq-eqb, ne_eqb, sym, refl, ap, ◌∙◌, subst, arith}
 use Rattle.std.proofs.lemmas.List.{get_or-replicate}
 use Rattle.std.proofs.lemmas.List.Sums.{sum_by-set}
 use mathlib.Core.Logic.{dite}
 use native.Mathlib.Decide.{ℕ_discrete}
 use Rattle.std.specs.Prelude.{slice_index, slice_set, sum}
 use Rattle.theory.specs.Bytes.{Identity}
+use Rattle.std.specs.List.{AllByRecursion}
 use Rattle.theory.specs.Entry.{Entry}
+use Rattle.theory.specs.Position.{IsGeometry, max_position}
 use Rattle.theory.proofs.Tables.{sum_set}
 use Rattle.publication.specs.declared.pass.ClaimRange.{ClaimRange}
 use Rattle.publication.specs.declared.pass.Pass.{Pass}
@@ -21,7 +23,7 @@ use Rattle.log_rule.proofs.Claimed.Totals.{total_append}
 use Rattle.log_rule.specs.Shares.{IsTiled, Weighs, claimed_bytes, owner_bytes}
 use Rattle.shared_log.specs.Handles.{LogValue}
 use Rattle.shared_log.specs.Keepers.{KeeperValue}
-use Rattle.shared_log.specs.Books.{AreAll, Gathers, IsDone, IsIdle, IsCommitted, ShowsBook, committed_in, numbers_in, share_as, weight_in}
+use Rattle.shared_log.specs.Books.{AreAll, Gathers, HasEntries, IsDone, IsIdle, IsCommitted, ShowsBook, committed_in, numbers_in, share_as, weight_in}
 use Rattle.log_rule.proofs.Shares.{share_is}
 use Rattle.shared_log.proofs.Owned.{own_share}
 use Rattle.shared_log.proofs.Shares.{both_share}
@@ -30,6 +32,10 @@ use Rattle.shared_log.proofs.Shares.{both_share}
 pub record IsGathering (l : LogValue) (all left : List PublisherValue) (shares : List ℕ) (tail : ℕ) (k : PublisherValue) : Type 0 where
   pub idle : IsIdle l k
   pub undone : All (IsDone l) left
+  -- those that were gathered
+  pub gone : List PublisherValue
+  pub these : all ≡ left ++ gone
+  pub entries : AllByRecursion HasEntries gone
   pub parts : total parts_in left + k.pass.right.parts ≡ 1024
   pub weighed : (h : Entry → ℕ) → total (weight_in h) left + weight h k.pass ≡ total (weight_in h) all
   pub eight : length shares ≡ 8
@@ -46,6 +52,9 @@ begun l ps k q a w idle =
     let none : q.held.pass.right.claims ≡ [] = ap (λ (v : Pass). v.right.claims) w.same ∙ a.unclaimed in let some = a.whole in let same = ap (λ (v : Pass). v.right.parts) w.same in record {
       idle = idle;
       undone = a.publishers_are;
+      gone = [];
+      these = sym (append-nil ps);
+      entries = tt;
       parts = ap (λ (n : ℕ). total parts_in ps + n) same ∙ a.whole;
       weighed = λ h. plus_none (total (weight_in h) ps) (weight h q.held.pass) (ap (λ (cs : List ClaimRange). total h (map entry_of cs)) none);
       eight = refl;
@@ -74,9 +83,9 @@ begun l ps k q a w idle =
     nothing v e = ap (total Rattle.log_rule.specs.Shares.range_bytes) e
 
 -- one publisher more
-pub gathered_on : (l : LogValue) (all left rest : List PublisherValue) (shares : List ℕ) (tail number share : ℕ) (p k q : PublisherValue) → IsGathering l all left shares tail k → left ≡ rest ++ p ∷ [] → All (IsDone l) rest → IsCommitted p → IsIdle l q → Gathers k.pass p q.pass (number, share)
+pub gathered_on : (l : LogValue) (all left rest : List PublisherValue) (shares : List ℕ) (tail number share : ℕ) (p k q : PublisherValue) → IsGathering l all left shares tail k → left ≡ rest ++ p ∷ [] → All (IsDone l) rest → HasEntries p → IsCommitted p → IsIdle l q → Gathers k.pass p q.pass (number, share)
     → IsGathering l all rest (slice_set shares number (slice_index shares number + share)) (tail + share) q
-gathered_on l all left rest shares tail number share p k q g e undone ended idle x =
+gathered_on l all left rest shares tail number share p k q g e undone entries ended idle x =
     let last : (f : PublisherValue → ℕ) → total f left ≡ total f rest + f p = λ f. ap (total f) e ∙ total_append f rest (p ∷ []) ∙ (let z : total f rest + (f p + 0) ≡ total f rest + f p = omega arith in z) in
     let eight = g.eight in let low = x.number.1 in let at = x.number.0 in let inside : number < length shares = omega (arith, eight, low, at) in
     let less : p.pass.right.parts < 1024 = few (total parts_in left) (total parts_in rest) p.pass.right.parts k.pass.right.parts (last parts_in) g.parts x.some in
@@ -84,6 +93,9 @@ gathered_on l all left rest shares tail number share p k q g e undone ended idle
     let more : claimed_bytes q.pass ≡ claimed_bytes k.pass + share = ap claimed_bytes x.pass ∙ both_share k.pass p.pass ∙ ap (λ (n : ℕ). claimed_bytes k.pass + n) (sym x.share) in record {
       idle = idle;
       undone = undone;
+      gone = p ∷ g.gone;
+      these = g.these ∙ ap (λ (ps : List PublisherValue). ps ++ g.gone) e ∙ append_assoc rest (p ∷ []) g.gone;
+      entries = (entries, g.entries);
       parts = (let a = last parts_in in let c = g.parts in let d = ap (λ (v : Pass). v.right.parts) x.pass in three (total parts_in left) (total parts_in rest) p.pass.right.parts k.pass.right.parts q.pass.right.parts 1024 a c d);
       weighed = λ h. (let a = last (weight_in h) in let c = g.weighed h in let d = ap (weight h) x.pass ∙ ap (total h) (maps_append entry_of k.pass.right.claims p.pass.right.claims) ∙ total_append h (entries_of k.pass) (entries_of p.pass) in
           three (total (weight_in h) left) (total (weight_in h) rest) (weight h p.pass) (weight h k.pass) (weight h q.pass) (total (weight_in h) all) a c d);
@@ -153,11 +165,14 @@ sums_low l all left shares tail number share q g low most =
     by_share n x all m p e le f low = omega arith
 
 -- all of them
-pub shows : (l : LogValue) (all : List PublisherValue) (shares : List ℕ) (tail : ℕ) (k : PublisherValue) → IsGathering l all [] shares tail k → ShowsBook l all (record { start = l.start; tail = tail; shares = shares })
-shows l all shares tail k g =
+pub shows : (l : LogValue) (all : List PublisherValue) (shares : List ℕ) (tail : ℕ) (k : PublisherValue) → IsGeometry l.identity.geometry → IsGathering l all [] shares tail k → ShowsBook l all (record { start = l.start; tail = tail; shares = shares })
+shows l all shares tail k legal g =
     let p = g.parts in let whole : k.pass.right.parts ≡ 1024 = omega arith in let t = g.weighs.whole whole in
     let tiled : IsTiled l.identity l.start tail (λ h. weight h k.pass) = subst (λ (x : Identity × ℕ × ℕ). IsTiled x.0 x.1 x.2 (λ h. weight h k.pass)) (λ i. (g.idle.of.identity i, g.idle.of.start i, (ap (λ (n : ℕ). n + claimed_bytes k.pass) g.idle.of.start ∙ sym g.tail_is) i)) t in record {
+      geometry = legal;
       start = refl;
+      low = subst (λ (x : ℕ × Identity). x.0 ≤ max_position x.1.geometry) (λ i. ((ap (λ (n : ℕ). n + claimed_bytes k.pass) g.idle.of.start ∙ sym g.tail_is) i, g.idle.of.identity i)) g.weighs.low;
+      entries = subst (AllByRecursion HasEntries) (sym g.these) g.entries;
       shares = λ n lt. (let c = g.counted n lt in none (slice_index shares n) (total (share_as n) all) c);
       whole = ap (λ (n : ℕ). l.start + n) g.summed ∙ sym g.tail_is;
       tiled = record { log = tiled.log; tiles = tiled.tiles; fair = λ h. all_of (weight h k.pass) (total (weight_in h) all) (g.weighed h) ∙ tiled.fair h };

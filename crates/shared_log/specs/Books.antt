@@ -1,10 +1,12 @@
 -- What becomes of passes that end, and what the book of a log says.
 use Rattle.std.specs.Prelude.{◌≡◌, ℕ, ◌+◌, ◌<◌, ◌≤◌, ◌==◌, cond, List, [], All, slice_index, sum}
+use Rattle.std.specs.List.{AllByRecursion}
 use Rattle.theory.specs.Entry.{Entry}
+use Rattle.theory.specs.Position.{IsGeometry, max_position}
 use Rattle.theory.specs.Tiling.{share_of}
 use Rattle.publication.specs.declared.pass.Pass.{Pass}
 use Rattle.log_rule.specs.Claims.Sums.{total}
-use Rattle.log_rule.specs.Claims.Rule.{weight}
+use Rattle.log_rule.specs.Claims.Rule.{IsClaimEntry, entries_of, weight}
 use Rattle.log_rule.specs.Claims.Events.{committed_weight}
 use Rattle.log_rule.specs.Edges.{in_entry}
 use Rattle.log_rule.specs.Numbers.{numbers_as}
@@ -50,6 +52,10 @@ weight_in h p = weight h p.pass
 abbrev pub committed_in : (Extent → ℕ) → PublisherValue → ℕ
 committed_in h p = committed_weight (λ f. h (extent_of f)) p.pass
 
+-- each of its claims is an entry of a stream
+abbrev pub HasEntries : PublisherValue → Type 0
+HasEntries p = AllByRecursion IsClaimEntry (entries_of p.pass)
+
 -- how often all of them have a number
 abbrev pub numbers_in : ℕ → PublisherValue → ℕ
 numbers_in n p = numbers_as n p.pass
@@ -64,9 +70,12 @@ share_as number p = cond (p.pass.number == number) (claimed_bytes p.pass) 0
 
 -- what each publisher has claimed; and together that tiles the stream from the start to the tail
 pub record ShowsBook (l : LogValue) (publishers : List PublisherValue) (book : Book) : Type 0 where
+  pub geometry : IsGeometry l.identity.geometry
   pub start : book.start ≡ l.start
+  pub low : book.tail ≤ max_position l.identity.geometry
   pub shares : (n : ℕ) → n < 8 → slice_index book.shares n ≡ total (share_as n) publishers
   pub whole : book.start + sum book.shares ≡ book.tail
+  pub entries : AllByRecursion HasEntries publishers
   pub tiled : IsTiled l.identity l.start book.tail (λ h. total (weight_in h) publishers)
   -- and the shares are those of the entries' owners
   pub owned : (n : ℕ) → n < 8 → slice_index book.shares n ≡ share_of n tiled.log

@@ -2,7 +2,8 @@
 
 ghost use Rattle.std.specs.Prelude.{◌≡◌, ◌+◌, ◌^◌, ◌≤◌, []};
 ghost use Rattle.log_rule.specs.Shares.{Weighs, claimed_bytes};
-ghost use Rattle.shared_log.specs.Books.{AreAll, Gathers, IsCommitted, IsIdle, ShowsBook};
+ghost use Rattle.theory.specs.Position.{IsGeometry};
+ghost use Rattle.shared_log.specs.Books.{AreAll, Gathers, HasEntries, IsCommitted, IsIdle, ShowsBook};
 
 use crate::book::Book;
 use crate::keeper::Keeper;
@@ -14,6 +15,7 @@ use std::marker::Brand;
 /// The keeper is told how much it has claimed.
 fn weigh(log: &Log, keeper: &mut Keeper)
     requires { IsIdle log.now keeper.old.held }
+    ensures geometry { IsGeometry log.now.identity.geometry }
     ensures weighs { Weighs keeper.old.held.pass keeper.new.held.pass }
     ensures idle { IsIdle log.now keeper.new.held }
 {
@@ -28,6 +30,7 @@ fn gather_as<N: Carried>(log: &Log, keeper: &mut Keeper, publisher: Publisher) -
     requires carried { (N.identity ≡ log.now.identity) × (N.start ≡ log.now.start) }
     ensures idle { IsIdle log.now keeper.new.held }
     ensures gathers { Gathers keeper.old.held.pass publisher keeper.new.held.pass result }
+    ensures entries { HasEntries publisher }
     ensures committed { publisher.pass.work.drafts ≡ [] → IsCommitted publisher }
     ensures low { keeper.new.held.pass.start + claimed_bytes keeper.new.held.pass ≤ 2 ^ 55 }
 {

@@ -1,4 +1,5 @@
 use Rattle.std.proofs.Common.{rules, ◌≡◌, ◌+◌, ◌^◌, ◌≤◌, ℕ, [], sym, ap, ◌∙◌, subst, arith}
+use Rattle.std.specs.List.{AllByRecursion}
 use Rattle.theory.specs.Bytes.{Identity}
 use Rattle.atomic_table.specs.Table.{Joins}
 use Rattle.publication.specs.declared.pass.Pass.{Pass}
@@ -6,7 +7,7 @@ use Rattle.log_rule.specs.Claims.Closing.{both_seats, spent_seat}
 use Rattle.publication.specs.Steps.{Extent, extent_of}
 use Rattle.log_rule.specs.Claims.Events.{committed_weight}
 use Rattle.log_rule.specs.Claims.Plays.{Mine}
-use Rattle.log_rule.specs.Claims.Rule.{weight}
+use Rattle.log_rule.specs.Claims.Rule.{IsClaimEntry, entries_of, weight}
 use Rattle.log_rule.specs.Claims.Sums.{total}
 use Rattle.log_rule.specs.Edges.{in_entry}
 use Rattle.log_rule.specs.Shares.{claimed_bytes}
@@ -46,3 +47,6 @@ returns-clause-committed g c =
     let v : Pass = c.publisher.inside.seat.me.0.pass in
     subst (λ (x : Pass). x.work.drafts ≡ [] → (h : Extent → ℕ) → weight (in_entry h) x ≡ committed_weight (λ f. h (extent_of f)) x) (ap (λ p. p.pass) c.publisher.view_is)
     (λ none h. let e = c.load.ensures.2.3.parted h in let z : total (λ f. h (extent_of f)) v.work.drafts ≡ 0 = ap (total (λ f. h (extent_of f))) none in omega arith)
+
+pub returns-clause-entries : goal.returns-clause-entries
+returns-clause-entries g c = subst (λ (x : Pass). AllByRecursion IsClaimEntry (entries_of x)) (ap (λ p. p.pass) c.publisher.view_is) c.load.ensures.2.3.entries
